@@ -1,0 +1,21 @@
+-- The owner of a thing, and the order of things.
+use Rattle.std.specs.Prelude.{ℕ, Option, Some, None}
+use Rattle.std.specs.Ordering.{nat_cmp, on, then_cmp}
+use Rattle.std.specs.declared.cmp.Ordering.{Ordering}
+use Rattle.std.specs.Option.{option_cmp}
+use Rattle.orca_names.specs.declared.names.Thing.{Thing}
+use Rattle.orca_names.specs.declared.names.Thing.TheVariants.{Actor, Obj}
+
+-- the actor on whose heap a thing stands
+abbrev pub owner_of : Thing → ℕ
+owner_of (Actor a) = a
+owner_of (Obj n) = n.owner
+
+-- the serial of an object, nothing for an actor
+abbrev pub serial_of : Thing → Option ℕ
+serial_of (Actor a) = None
+serial_of (Obj n) = Some n.serial
+
+-- by owner; the actor itself comes before its objects, these by serial
+abbrev pub thing_cmp : Thing → Thing → Ordering
+thing_cmp = then_cmp (on owner_of nat_cmp) (on serial_of (option_cmp nat_cmp))

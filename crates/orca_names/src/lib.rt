@@ -1,0 +1,24 @@
+//! Names of actors and objects, values and rows of values, and the limits of a run.
+//!
+//! No call here takes memory.
+#![tactic(auto)]
+
+mod limits;
+mod memory;
+mod names;
+mod row;
+mod rows;
+mod tally;
+
+pub use limits::{
+    ACTORS_LIMIT, BEHAVIOURS_LIMIT, BODY_LIMIT, BOOK_LIMIT, FIELDS_LIMIT, KINDS_LIMIT, LINE_LIMIT,
+    NAME_LIMIT, REGISTERS, TEXT_LIMIT, VALUES_LIMIT, WORKERS_LIMIT,
+};
+pub use memory::NoMemory;
+pub use names::{ActorName, ObjName, Thing, Value};
+pub use row::{Args, Fields, Row};
+pub use rows::Rows;
+pub use tally::{Sums, Tally};
+
+#[cfg(test)]
+mod tests;

@@ -1,0 +1,99 @@
+// Names of actors and objects, and what a program computes with.
+
+ghost use Rattle.std.specs.Prelude.{◌≡◌};
+ghost use Rattle.std.proofs.Common.{rules};
+ghost use Rattle.std.specs.Cmp.{partial_order_from_own_ties};
+ghost use Rattle.std.specs.Cmp.Rules.{comparing};
+ghost use Rattle.std.specs.Ordering.{as_partial_cmp};
+ghost use Rattle.orca_names.specs.Names.{owner_of, serial_of, thing_cmp};
+
+use std::cmp::Ordering;
+use std::marker::Model;
+
+/// An actor, named by the number of actors that were made before it. A name is never used again.
+#[derive(Clone, Copy, Debug, PartialEq, Eq, PartialOrd, Ord)]
+pub struct ActorName(pub u32);
+
+impl Model for ActorName {
+    ghost use Rattle.std.specs.Prelude.{ℕ};
+
+    ghost Value = { ℕ };
+
+    ghost view = { λ a. a.0 };
+
+    ghost inverse = { λ n. record { 0 = n } };
+}
+
+/// An object, named by its owner, which is the actor that made it, and by the number of objects
+/// that this owner made before it. A name is never used again.
+#[derive(Clone, Copy, Debug, PartialEq, Eq, PartialOrd, Ord)]
+pub struct ObjName {
+    pub owner: ActorName,
+    pub serial: u64,
+}
+
+/// What is counted and collected: an actor or an object.
+#[derive(Clone, Copy, Debug, PartialEq, Eq)]
+pub enum Thing {
+    Actor(ActorName),
+    Obj(ObjName),
+}
+
+impl Thing {
+    /// The actor on whose heap the thing stands; an actor is its own owner.
+    pub fn owner(&self) -> ActorName
+        ensures { result ≡ owner_of self.now }
+    {
+        match self {
+            Thing::Actor(a) => *a,
+            Thing::Obj(n) => n.owner,
+        }
+    }
+
+    /// The serial of an object, `None` for an actor.
+    fn serial(&self) -> Option<u64>
+        ensures { result ≡ serial_of self.now }
+    {
+        match self {
+            Thing::Actor(_) => None,
+            Thing::Obj(n) => Some(n.serial),
+        }
+    }
+}
+
+/// By owner; the actor itself comes before its objects, these by serial.
+impl Ord for Thing {
+    ghost cmp = { thing_cmp };
+
+    ghost total = { Prim.search (comparing, rules) };
+
+    ghost matches_partial_cmp = { Prim.search (comparing, rules) };
+
+    ghost matches_eq = { Prim.search (comparing, rules) };
+
+    fn cmp(&self, other: &Thing) -> Ordering {
+        self.owner()
+            .cmp(&other.owner())
+            .then(self.serial().cmp(&other.serial()))
+    }
+}
+
+impl PartialOrd for Thing {
+    ghost partial_cmp = { as_partial_cmp thing_cmp };
+
+    ghost laws = { partial_order_from_own_ties (Prim.search (comparing, rules)) (Prim.search (comparing, rules)) };
+
+    fn partial_cmp(&self, other: &Thing) -> Option<Ordering> {
+        Some(self.cmp(other))
+    }
+}
+
+/// What a register, a field, an argument or a place of a row holds.
+#[derive(Clone, Copy, Debug, PartialEq, Eq)]
+pub enum Value {
+    Null,
+    /// A whole number of 64 bits.
+    Num(u64),
+    Actor(ActorName),
+    Obj(ObjName),
+}
