@@ -1,0 +1,20 @@
+//! The outside as the collector's program sees it: where its bytes come from, where they go, and
+//! the gate that a worker passes before each evaluated segment.
+#![tactic(auto)]
+
+mod device;
+mod gate;
+mod mem_sink;
+mod mem_source;
+mod streams;
+mod sure;
+
+pub use device::{Failed, Sink, Source};
+pub use gate::{Gate, OpenGate};
+pub use mem_sink::MemSink;
+pub use mem_source::MemSource;
+pub use streams::{StdSink, StdSource};
+pub use sure::{SureSink, SureSource};
+
+#[cfg(test)]
+mod tests;

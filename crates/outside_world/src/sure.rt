@@ -1,0 +1,73 @@
+// Devices that never fail.
+
+ghost use Rattle.std.specs.Prelude.{◌≡◌, ◌<◌, ◌≤◌, drop, min, length, Some, None, IsOkAnd};
+ghost use Rattle.std.specs.Io.{ReadsAtMost};
+ghost use Rattle.std.specs.Io.KnownBytes.{ReadConsumes};
+ghost use Rattle.outside_world.specs.Device.{CountsFaults, TakesSome, WritesFront};
+
+use crate::device::{Failed, Sink, Source};
+use crate::mem_source::copy_front;
+use std::marker::Model;
+
+/// A source over bytes in memory that never fails, seen by contracts as the bytes that are left.
+#[derive(Debug, Drop)]
+pub struct SureSource {
+    bytes: Vec<u8>,
+    at: usize,
+}
+
+impl Model for SureSource {
+    ghost use Rattle.std.specs.Prelude.{ℕ, ◌≤◌, List, drop, length};
+
+    ghost Value = { List ℕ };
+
+    ghost view = { λ s. drop s.at s.bytes.items };
+
+    ghost invariant = { λ s. s.at ≤ length s.bytes.items };
+}
+
+impl SureSource {
+    /// A source of these bytes.
+    pub fn new(bytes: Vec<u8>) -> SureSource
+        ensures { result ≡ bytes.items }
+    {
+        SureSource { bytes, at: 0 }
+    }
+}
+
+impl Source for SureSource {
+    ghost left = { λ s. Some s };
+
+    ghost faults = { λ _. 0 };
+
+    fn read(&mut self, buf: &mut [u8]) -> Result<usize, Failed>
+        ensures within { ReadsAtMost result buf.new }
+        ensures bytes { ReadConsumes (Some self.old) (Some self.new) result buf.new }
+        ensures cause { CountsFaults 0 0 result }
+        ensures count { IsOkAnd result (λ n. n ≡ min (length buf.old) (length self.old)) }
+    {
+        let count = copy_front(&self.bytes, self.at, usize::MAX, buf);
+        self.at += count;
+        Ok(count)
+    }
+}
+
+/// A sink that takes all, never fails, and keeps nothing.
+#[derive(Clone, Copy, Debug)]
+pub struct SureSink;
+
+impl Sink for SureSink {
+    ghost written = { λ _. None };
+
+    ghost faults = { λ _. 0 };
+
+    fn write(&mut self, piece: &[u8]) -> Result<usize, Failed>
+        requires { 0 < length piece.now }
+        ensures some { TakesSome result piece.now }
+        ensures bytes { WritesFront None None result piece.now }
+        ensures cause { CountsFaults 0 0 result }
+        ensures all { IsOkAnd result (λ n. n ≡ length piece.now) }
+    {
+        Ok(piece.len())
+    }
+}
