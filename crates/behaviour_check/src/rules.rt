@@ -1,0 +1,158 @@
+// Whether a rule fails at one place.
+
+ghost use Rattle.std.specs.Prelude.{◌≡◌, ◌<◌, ◌≤◌, not};
+ghost use Rattle.std.specs.List.{list_any};
+ghost use Rattle.behaviour_check.specs.Rules.{is_start, has_start, is_kind, is_behaviour, is_label, repeats_label, makes_unknown, jumps_nowhere, is_past, has_register_past, has_field_past, instr_rule};
+
+use behaviour_code::{Behaviour, Instr, Kind, Name, Names};
+
+fn is_start(names: &Names, behaviour: &Behaviour) -> bool
+    ensures { result ≡ is_start names.now behaviour.now }
+{
+    behaviour.parameters == 0 && names.text_or_empty(behaviour.name) == "start"
+}
+
+fn starts(names: &Names, behaviours: &[Behaviour]) -> bool
+    ensures { result ≡ list_any (is_start names.now) behaviours.now }
+{
+    behaviours
+        .iter()
+        .any(|behaviour| is_start(names, behaviour))
+}
+
+/// Whether the first kind has a behaviour `start` without parameters.
+pub(crate) fn has_start(names: &Names, kinds: &[Kind]) -> bool
+    ensures { result ≡ has_start names.now kinds.now }
+{
+    match kinds {
+        [] => false,
+        [first, ..] => starts(names, first.behaviours.as_slice()),
+    }
+}
+
+/// Whether a kind has the name.
+pub(crate) fn has_kind(kinds: &[Kind], name: Name) -> bool
+    ensures { result ≡ list_any (is_kind name) kinds.now }
+{
+    kinds.iter().any(|kind| kind.name == name)
+}
+
+/// Whether a behaviour has the name.
+pub(crate) fn has_behaviour(behaviours: &[Behaviour], name: Name) -> bool
+    ensures { result ≡ list_any (is_behaviour name) behaviours.now }
+{
+    behaviours.iter().any(|behaviour| behaviour.name == name)
+}
+
+fn is_label(name: Name, instr: &Instr) -> bool
+    ensures { result ≡ is_label name instr.now }
+{
+    match instr {
+        Instr::Label(label) => *label == name,
+        _ => false,
+    }
+}
+
+fn has_label(instrs: &[Instr], name: Name) -> bool
+    ensures { result ≡ list_any (is_label name) instrs.now }
+{
+    instrs.iter().any(|instr| is_label(name, instr))
+}
+
+fn repeats_label(before: &[Instr], instr: &Instr) -> bool
+    ensures { result ≡ repeats_label before.now instr.now }
+{
+    match instr {
+        Instr::Label(label) => has_label(before, *label),
+        _ => false,
+    }
+}
+
+fn makes_unknown(kinds: &[Kind], instr: &Instr) -> bool
+    ensures { result ≡ makes_unknown kinds.now instr.now }
+{
+    match instr {
+        Instr::New(_, name) => !has_kind(kinds, *name),
+        _ => false,
+    }
+}
+
+fn jumps_nowhere(after: &[Instr], instr: &Instr) -> bool
+    ensures { result ≡ jumps_nowhere after.now instr.now }
+{
+    match instr {
+        Instr::Jump(label) | Instr::JumpZero(_, label) => !has_label(after, *label),
+        _ => false,
+    }
+}
+
+fn is_past(register: u64) -> bool
+    ensures { result ≡ is_past register }
+{
+    15 < register
+}
+
+fn some_past(registers: &[u64]) -> bool
+    ensures { result ≡ list_any is_past registers.now }
+{
+    registers.iter().any(|register| is_past(*register))
+}
+
+fn has_register_past(instr: &Instr) -> bool
+    ensures { result ≡ has_register_past instr.now }
+{
+    match instr {
+        Instr::Drop(d)
+        | Instr::Int(d, _)
+        | Instr::Own(d)
+        | Instr::Load(d, _)
+        | Instr::Store(_, d)
+        | Instr::JumpZero(d, _)
+        | Instr::New(d, _)
+        | Instr::Print(d) => is_past(*d),
+        Instr::Copy(d, s) | Instr::Get(d, s, _) => is_past(*d) || is_past(*s),
+        Instr::Add(d, a, b)
+        | Instr::Sub(d, a, b)
+        | Instr::Mul(d, a, b)
+        | Instr::Less(d, a, b)
+        | Instr::Same(d, a, b) => is_past(*d) || is_past(*a) || is_past(*b),
+        Instr::Row(d, values) => is_past(*d) || some_past(values.as_slice()),
+        Instr::Send(d, _, values) => is_past(*d) || some_past(values.as_slice()),
+        Instr::Jump(_) | Instr::Label(_) | Instr::Pin | Instr::Unpin => false,
+    }
+}
+
+fn has_field_past(fields: u8, instr: &Instr) -> bool
+    ensures { result ≡ has_field_past fields instr.now }
+{
+    match instr {
+        Instr::Load(_, field) | Instr::Store(field, _) => u64::from(fields) <= *field,
+        _ => false,
+    }
+}
+
+/// The lowest rule that fails at an instruction between those before and those after it.
+#[tactic(auto, unfolding(crate::specs::Rules::instr_rule))]
+pub(crate) fn instr_rule(
+    kinds: &[Kind],
+    fields: u8,
+    before: &[Instr],
+    instr: &Instr,
+    after: &[Instr],
+) -> Option<u8>
+    ensures { result ≡ instr_rule kinds.now fields before.now instr.now after.now }
+{
+    if repeats_label(before, instr) {
+        Some(2)
+    } else if makes_unknown(kinds, instr) {
+        Some(3)
+    } else if jumps_nowhere(after, instr) {
+        Some(4)
+    } else if has_register_past(instr) {
+        Some(5)
+    } else if has_field_past(fields, instr) {
+        Some(6)
+    } else {
+        None
+    }
+}

@@ -1,0 +1,23 @@
+-- Where things stand in a program.
+use Rattle.std.specs.Prelude.{ℕ, List, [], ◌&&◌, ◌==◌, Bool, Option, slice_get}
+use Rattle.std.specs.Option.{option_map_or}
+use Rattle.behaviour_code.specs.declared.code.Behaviour.{Behaviour}
+use Rattle.behaviour_code.specs.declared.code.Kind.{Kind}
+use Rattle.behaviour_code.specs.declared.code.Program.{Program}
+use Rattle.behaviour_code.specs.declared.instr.Instr.{Instr}
+
+-- the number of fields of a kind, 0 where there is no such kind
+abbrev pub field_count : Program → ℕ → ℕ
+field_count program kind = option_map_or (λ k. k.fields) (slice_get program.kinds kind) 0
+
+-- the behaviours of a kind, none where there is no such kind
+abbrev pub behaviours_of : Program → ℕ → List Behaviour
+behaviours_of program kind = option_map_or (λ k. k.behaviours) (slice_get program.kinds kind) []
+
+-- the instructions of a behaviour, none where there is no such behaviour
+abbrev pub body_of : Program → ℕ → ℕ → List Instr
+body_of program kind behaviour = option_map_or (λ b. b.body) (slice_get (behaviours_of program kind) behaviour) []
+
+-- a behaviour of the name that takes so many arguments
+abbrev pub takes_call : ℕ → ℕ → Behaviour → Bool
+takes_call name arguments b = (b.name == name) && (b.parameters == arguments)

@@ -1,0 +1,129 @@
+// Instructions.
+
+ghost use Rattle.std.specs.Prelude.{◌≡◌, ◌≤◌, length};
+
+use crate::names::Name;
+use plain_list::Listed;
+use std::marker::Model;
+
+/// The registers of a letter's arguments: 0 to 8 numbers, seen as a list.
+#[derive(Debug, Drop)]
+pub struct Registers {
+    numbers: Listed<u64>,
+}
+
+impl Model for Registers {
+    ghost use Rattle.std.specs.Prelude.{◌≤◌, List, ℕ, length};
+
+    ghost Value = { List ℕ };
+
+    ghost view = { λ r. r.numbers };
+
+    ghost invariant = { λ r. length r.numbers ≤ 8 };
+}
+
+impl Registers {
+    /// The registers of these numbers. It takes no memory.
+    pub fn of(numbers: Vec<u64>) -> Registers
+        requires { length numbers.items ≤ 8 }
+        ensures { result ≡ numbers.items }
+    {
+        Registers {
+            numbers: Listed::of(numbers),
+        }
+    }
+
+    /// The numbers, in their order.
+    pub fn as_slice(&self) -> &[u64]
+        ensures value { result.now ≡ self.now }
+        ensures room { length result.now ≤ 8 }
+    {
+        let numbers = &self.numbers;
+        numbers.as_slice()
+    }
+}
+
+/// The registers of a row's values: 1 to 8 numbers, seen as a list.
+#[derive(Debug, Drop)]
+pub struct RowRegisters {
+    numbers: Registers,
+}
+
+impl Model for RowRegisters {
+    ghost use Rattle.std.specs.Prelude.{◌≤◌, List, ℕ, length};
+
+    ghost Value = { List ℕ };
+
+    ghost view = { λ r. r.numbers };
+
+    ghost invariant = { λ r. (1 ≤ length r.numbers) × (length r.numbers ≤ 8) };
+}
+
+impl RowRegisters {
+    /// The registers of these numbers. It takes no memory.
+    pub fn of(numbers: Vec<u64>) -> RowRegisters
+        requires { (1 ≤ length numbers.items) × (length numbers.items ≤ 8) }
+        ensures { result ≡ numbers.items }
+    {
+        RowRegisters {
+            numbers: Registers::of(numbers),
+        }
+    }
+
+    /// The numbers, in their order.
+    pub fn as_slice(&self) -> &[u64]
+        ensures value { result.now ≡ self.now }
+        ensures room { (1 ≤ length result.now) × (length result.now ≤ 8) }
+    {
+        let numbers = &self.numbers;
+        numbers.as_slice()
+    }
+}
+
+/// One instruction, with its operands in the order of its line: registers, fields and numbers by
+/// their numbers, labels, kinds and behaviours by their names.
+#[derive(Debug, Drop)]
+pub enum Instr {
+    /// `drop rD`: rD becomes null.
+    Drop(u64),
+    /// `int rD N`: rD becomes the number.
+    Int(u64, u64),
+    /// `self rD`: rD becomes this actor.
+    Own(u64),
+    /// `copy rD rS`: rD becomes what rS holds.
+    Copy(u64, u64),
+    /// `add rD rA rB`: rD becomes the sum modulo 2^64. A value that is no number counts as 0.
+    Add(u64, u64, u64),
+    /// `sub rD rA rB`: rD becomes the difference modulo 2^64.
+    Sub(u64, u64, u64),
+    /// `mul rD rA rB`: rD becomes the product modulo 2^64.
+    Mul(u64, u64, u64),
+    /// `less rD rA rB`: rD becomes 1 where rA's number is less than rB's, else 0.
+    Less(u64, u64, u64),
+    /// `same rD rA rB`: rD becomes 1 where the two values are equal, else 0.
+    Same(u64, u64, u64),
+    /// `row rD rA ..`: makes an object of these values, and rD becomes it.
+    Row(u64, RowRegisters),
+    /// `get rD rS N`: rD becomes the value at place N of rS's row, null where there is none.
+    Get(u64, u64, u64),
+    /// `load rD fI`: rD becomes what the field holds.
+    Load(u64, u64),
+    /// `store fI rS`: the field becomes what rS holds.
+    Store(u64, u64),
+    /// `jump L`: goes on behind the label.
+    Jump(Name),
+    /// `jzero rA L`: goes on behind the label where rA's number is 0.
+    JumpZero(u64, Name),
+    /// `label L`: does nothing.
+    Label(Name),
+    /// `pin`: this actor is pinned from now on.
+    Pin,
+    /// `unpin`: this actor is pinned no longer.
+    Unpin,
+    /// `new rD NAME`: makes an actor of the kind, and rD becomes it.
+    New(u64, Name),
+    /// `send rT NAME rA ..`: sends rT, where it is an actor, a letter with these arguments.
+    Send(u64, Name, Registers),
+    /// `print rA`: prints what rA holds.
+    Print(u64),
+}
