@@ -5,7 +5,8 @@ use Rattle.std.specs.Option.{option_or}
 use Rattle.behaviour_code.specs.declared.instr.Instr.{Instr}
 use Rattle.behaviour_code.specs.declared.code.Kind.{Kind}
 use Rattle.behaviour_code.specs.declared.code.Behaviour.{Behaviour}
-use Rattle.behaviour_check.specs.Rules.{body_from, behaviours_from, kinds_from, is_behaviour, is_kind, broken, instr_rule}
+use Rattle.behaviour_code.specs.Find.{is_kind}
+use Rattle.behaviour_check.specs.Rules.{body_from, behaviours_from, kinds_from, is_behaviour, broken, instr_rule}
 use Rattle.behaviour_check.specs.Steps.{body_at, behaviours_at, kinds_at}
 use Rattle.behaviour_check.specs.declared.faults.Spot.{Spot}
 use Rattle.behaviour_check.proofs.Cut.{cut_at}

@@ -2,6 +2,7 @@
 use Rattle.std.specs.Prelude.{ℕ, ◌≡◌, ◌+◌, Bool, false, List, [], ◌∷◌, ◌++◌, ◌||◌, ◌&&◌, ◌==◌, Option, Some, None, nat_lt, nat_le, not, if◌then◌else◌, codes, bytes_eq, option_map}
 use Rattle.std.specs.Option.{option_or}
 use Rattle.std.specs.List.{list_any}
+use Rattle.behaviour_code.specs.Find.{is_kind, is_label}
 use Rattle.behaviour_code.specs.Good.{ProgramIsGood}
 use Rattle.behaviour_code.specs.Names.{text_of}
 use Rattle.behaviour_code.specs.declared.instr.Instr.{Instr}
@@ -23,15 +24,8 @@ abbrev pub has_start : List (List ℕ) → List Kind → Bool
 has_start texts [] = false
 has_start texts (kind ∷ kinds) = list_any (is_start texts) kind.behaviours
 
-abbrev pub is_kind : ℕ → Kind → Bool
-is_kind name kind = kind.name == name
-
 abbrev pub is_behaviour : ℕ → Behaviour → Bool
 is_behaviour name behaviour = behaviour.name == name
-
-abbrev pub is_label : ℕ → Instr → Bool
-is_label name (I.Label l) = l == name
-is_label name _ = false
 
 -- rule 2 at a label: it was given before in the behaviour
 abbrev pub repeats_label : List Instr → Instr → Bool

@@ -2,7 +2,8 @@
 
 ghost use Rattle.std.specs.Prelude.{◌≡◌, ◌<◌, ◌≤◌, not};
 ghost use Rattle.std.specs.List.{list_any};
-ghost use Rattle.behaviour_check.specs.Rules.{is_start, has_start, is_kind, is_behaviour, is_label, repeats_label, makes_unknown, jumps_nowhere, is_past, has_register_past, has_field_past, instr_rule};
+ghost use Rattle.behaviour_code.specs.Find.{is_kind, is_label};
+ghost use Rattle.behaviour_check.specs.Rules.{is_start, has_start, is_behaviour, repeats_label, makes_unknown, jumps_nowhere, is_past, has_register_past, has_field_past, instr_rule};
 
 use behaviour_code::{Behaviour, Instr, Kind, Name, Names};
 

@@ -1,7 +1,8 @@
 use Rattle.std.proofs.Common.{sym, ◌∙◌, ap, ap₂, ◌+◌, if◌then◌else◌, None, Some, [], Option, Bool}
 use Rattle.std.specs.List.{list_any}
 use Rattle.std.specs.Option.{option_or}
-use Rattle.behaviour_check.specs.Rules.{broken, is_kind, behaviours_from}
+use Rattle.behaviour_code.specs.Find.{is_kind}
+use Rattle.behaviour_check.specs.Rules.{broken, behaviours_from}
 use Rattle.behaviour_check.specs.Steps.{kinds_at}
 use Rattle.behaviour_check.specs.declared.checked.CheckFault.{CheckFault}
 use Rattle.behaviour_check.proofs.StepLemmas.{kinds_at-next}

@@ -1,0 +1,48 @@
+// Acts, effects and frames.
+
+use crate::registers::RegisterFile;
+use behaviour_code::Name;
+use orca_names::{ActorName, Args, Value};
+
+/// What a turn does to others, and where it stops.
+#[derive(Clone, Copy, Debug)]
+pub enum Act {
+    /// Sends the actor a letter for a behaviour, with these arguments.
+    Post {
+        to: ActorName,
+        behaviour: Name,
+        args: Args,
+    },
+    /// Makes an actor of a kind, which the register becomes.
+    New {
+        kind: u32,
+        into: u64,
+    },
+    /// Prints a value.
+    Print {
+        value: Value,
+    },
+    /// Ends the behaviour.
+    End,
+}
+
+/// Where one instruction leads.
+#[derive(Clone, Copy, Debug)]
+pub enum Effect {
+    /// To the next instruction.
+    Next,
+    /// Behind the next label of this name.
+    Leap(Name),
+    /// Out of the turn, by an act.
+    Acts(Act),
+}
+
+/// A behaviour that runs: its kind and its place among the kind's behaviours, the place of its next
+/// instruction, and its registers.
+#[derive(Clone, Copy, Debug)]
+pub struct Frame {
+    pub kind: u32,
+    pub behaviour: u8,
+    pub place: u32,
+    pub registers: RegisterFile,
+}

@@ -1,0 +1,128 @@
+// A turn, up to its next act.
+
+ghost use Rattle.std.specs.Prelude.{◌≡◌, ◌+◌, ◌<◌, ◌≤◌, ◌^◌, length, drop, max, None, [], IfOk, OnErr};
+ghost use Rattle.behaviour_code.specs.Find.{body_of, is_label};
+ghost use Rattle.turn_rules.specs.Segment.{Setting, Stop, run_from, segment_of};
+ghost use Rattle.turn_step.specs.Scratch.{turn_of, place_after};
+
+use crate::step::{Scratch, step};
+use behaviour_check::Checked;
+use behaviour_code::{Instr, Name, Program};
+use orca_names::{ActorName, Fields, NoMemory, Row, Rows};
+use turn_rules::{Act, Effect, Frame};
+
+fn is_label(instr: &Instr, name: Name) -> bool
+    ensures { result ≡ is_label name instr.now }
+{
+    match instr {
+        Instr::Label(label) => *label == name,
+        _ => false,
+    }
+}
+
+/// The place behind the next label of this name, or behind the body.
+fn after_label(body: &[Instr], from: usize, name: Name) -> usize
+    requires { from ≤ length body.now }
+    ensures place { result ≡ place_after name (drop from body.now) from }
+    ensures above { from ≤ result }
+    ensures within { result ≤ length body.now }
+{
+    let mut at = from;
+    while at < body.len() {
+        at += 1;
+        if is_label(&body[at - 1], name) {
+            return at;
+        }
+    }
+    at
+}
+
+/// Runs a body from a place up to its next act, and answers it and the place behind it.
+fn run<R: Rows>(
+    program: &Program,
+    me: ActorName,
+    base: u64,
+    rows: &R,
+    body: &[Instr],
+    place: usize,
+    turn: &mut Scratch,
+    made: &mut Vec<Row>,
+) -> Result<(Act, usize), NoMemory>
+    requires kinds { length program.now.kinds ≤ 256 }
+    requires room { base + length made.old.items + length body.now < 2 ^ 64 }
+    ensures ok { IfOk result (λ r. run_from (record { program = program.now; me = me; base = base; rows = R.rows rows.now }) (drop place body.now) None place (turn_of turn.old made.old.items) ≡ record { act = r.0; place = r.1; turn = turn_of turn.new made.new.items }) }
+    ensures within { IfOk result (λ r. r.1 ≤ max place (length body.now)) }
+    ensures few { length made.new.items ≤ length made.old.items + length body.now }
+{
+    let mut at = place;
+    while at < body.len() {
+        let effect = step(program, me, base, rows, &body[at], turn, made)?;
+        at += 1;
+        match effect {
+            Effect::Next => {}
+            Effect::Leap(label) => at = after_label(body, at, label),
+            Effect::Acts(act) => return Ok((act, at)),
+        }
+    }
+    Ok((Act::End, at))
+}
+
+/// Runs the frame of an actor up to and with its next act. The rows that it makes are named from
+/// serial `base` on; they stand in `made`.
+///
+/// # Errors
+/// Where memory is refused, nothing changes.
+pub fn segment<R: Rows>(
+    code: &Checked,
+    me: ActorName,
+    frame: &mut Frame,
+    fields: &mut Fields,
+    rows: &R,
+    base: u64,
+    made: &mut Vec<Row>,
+) -> Result<Act, NoMemory>
+    requires room { base + 1024 < 2 ^ 64 }
+    requires fresh { made.old.items ≡ [] }
+    ensures ok { IfOk result (λ act. segment_of (record { program = code.now; me = me; base = base; rows = R.rows rows.now }) frame.old fields.old
+        ≡ record { act = act; place = frame.new.place; turn = record { registers = frame.new.registers; fields = fields.new; made = made.new.items } }) }
+    ensures kind { frame.new.kind ≡ frame.old.kind }
+    ensures behaviour { frame.new.behaviour ≡ frame.old.behaviour }
+    ensures few { length made.new.items ≤ 1024 }
+    ensures frame { OnErr result (frame.new ≡ frame.old) }
+    ensures fields { OnErr result (fields.new ≡ fields.old) }
+    ensures made { OnErr result (made.new.items ≡ made.old.items) }
+{
+    let program = code.program();
+    let Frame {
+        kind,
+        behaviour,
+        place,
+        registers,
+    } = *frame;
+    let body = program.body(kind, behaviour);
+    let mut turn = Scratch {
+        registers,
+        fields: *fields,
+    };
+    match run(
+        program,
+        me,
+        base,
+        rows,
+        body,
+        place as usize,
+        &mut turn,
+        made,
+    ) {
+        Ok((act, stop)) => {
+            frame.place = stop as u32;
+            frame.registers = turn.registers;
+            *fields = turn.fields;
+            Ok(act)
+        }
+        Err(e) => {
+            made.clear();
+            Err(e)
+        }
+    }
+}
