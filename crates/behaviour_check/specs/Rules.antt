@@ -1,10 +1,9 @@
 -- The rules that a program keeps, and the first place where one fails.
-use Rattle.std.specs.Prelude.{ℕ, ◌≡◌, ◌+◌, Bool, false, List, [], ◌∷◌, ◌++◌, ◌||◌, ◌&&◌, ◌==◌, Option, Some, None, nat_lt, nat_le, not, if◌then◌else◌, codes, bytes_eq, option_map}
+use Rattle.std.specs.Prelude.{ℕ, ◌≡◌, ◌+◌, Bool, false, List, [], ◌∷◌, ◌++◌, ◌||◌, ◌&&◌, ◌==◌, Option, Some, None, nat_lt, nat_le, not, if◌then◌else◌, is_some, option_map}
 use Rattle.std.specs.Option.{option_or}
 use Rattle.std.specs.List.{list_any}
-use Rattle.behaviour_code.specs.Find.{is_kind, is_label}
+use Rattle.behaviour_code.specs.Find.{is_kind, is_label, start_name}
 use Rattle.behaviour_code.specs.Good.{ProgramIsGood}
-use Rattle.behaviour_code.specs.Names.{text_of}
 use Rattle.behaviour_code.specs.declared.instr.Instr.{Instr}
 use Rattle.behaviour_code.specs.declared.instr.Instr.TheVariants as I
 use Rattle.behaviour_code.specs.declared.code.Behaviour.{Behaviour}
@@ -15,14 +14,6 @@ use Rattle.behaviour_check.specs.declared.checked.CheckFault.{CheckFault}
 -- the rule fails at this place
 abbrev pub broken : ℕ → ℕ → ℕ → ℕ → CheckFault
 broken kind behaviour step rule = record { kind = kind; behaviour = behaviour; step = step; rule = rule }
-
-abbrev pub is_start : List (List ℕ) → Behaviour → Bool
-is_start texts b = bytes_eq (text_of texts b.name) (codes "start") && (b.parameters == 0)
-
--- rule 1: the first kind has a behaviour `start` without parameters
-abbrev pub has_start : List (List ℕ) → List Kind → Bool
-has_start texts [] = false
-has_start texts (kind ∷ kinds) = list_any (is_start texts) kind.behaviours
 
 abbrev pub is_behaviour : ℕ → Behaviour → Bool
 is_behaviour name behaviour = behaviour.name == name
@@ -106,9 +97,10 @@ kinds_from kinds n before (k ∷ after) =
     option_or (option_or (if list_any (is_kind k.name) before then Some (broken n 0 0 2) else None) (behaviours_from kinds k.fields n 1 [] k.behaviours))
     (kinds_from kinds (n + 1) (before ++ k ∷ []) after)
 
--- the first place where a rule fails, with the lowest rule there
+-- the first place where a rule fails, with the lowest rule there;
+-- rule 1: the first kind has a behaviour `start` without parameters
 unfoldable pub first_broken : Program → Option CheckFault
-first_broken p = if has_start p.names p.kinds then kinds_from p.kinds 1 [] p.kinds else Some (broken 0 0 0 1)
+first_broken p = if is_some (start_name p) then kinds_from p.kinds 1 [] p.kinds else Some (broken 0 0 0 1)
 
 -- a program that some text gives, and that keeps the rules
 pub record IsChecked (p : Program) : Type 0 where

@@ -7,7 +7,7 @@ ghost use Rattle.behaviour_check.specs.Rules.{broken, first_broken};
 ghost use Rattle.behaviour_check.specs.Steps.{body_at, behaviours_at, kinds_at};
 
 use crate::checked::{CheckFault, Checked};
-use crate::rules::{has_behaviour, has_kind, has_start, instr_rule};
+use crate::rules::{has_behaviour, has_kind, instr_rule};
 use behaviour_code::{Behaviour, Instr, Kind, Program};
 
 /// Where a body stands: its kind's number and fields, and its behaviour's number.
@@ -148,9 +148,8 @@ fn kinds_fault(kinds: &[Kind]) -> Option<CheckFault>
 fn first_fault(program: &Program) -> Option<CheckFault>
     ensures { result ≡ first_broken program.now }
 {
-    let kinds = program.kinds.as_slice();
-    if has_start(&program.names, kinds) {
-        kinds_fault(kinds)
+    if program.start_name().is_some() {
+        kinds_fault(program.kinds.as_slice())
     } else {
         Some(CheckFault {
             kind: 0,

@@ -3,33 +3,9 @@
 ghost use Rattle.std.specs.Prelude.{◌≡◌, ◌<◌, ◌≤◌, not};
 ghost use Rattle.std.specs.List.{list_any};
 ghost use Rattle.behaviour_code.specs.Find.{is_kind, is_label};
-ghost use Rattle.behaviour_check.specs.Rules.{is_start, has_start, is_behaviour, repeats_label, makes_unknown, jumps_nowhere, is_past, has_register_past, has_field_past, instr_rule};
+ghost use Rattle.behaviour_check.specs.Rules.{is_behaviour, repeats_label, makes_unknown, jumps_nowhere, is_past, has_register_past, has_field_past, instr_rule};
 
-use behaviour_code::{Behaviour, Instr, Kind, Name, Names};
-
-fn is_start(names: &Names, behaviour: &Behaviour) -> bool
-    ensures { result ≡ is_start names.now behaviour.now }
-{
-    behaviour.parameters == 0 && names.text_or_empty(behaviour.name) == "start"
-}
-
-fn starts(names: &Names, behaviours: &[Behaviour]) -> bool
-    ensures { result ≡ list_any (is_start names.now) behaviours.now }
-{
-    behaviours
-        .iter()
-        .any(|behaviour| is_start(names, behaviour))
-}
-
-/// Whether the first kind has a behaviour `start` without parameters.
-pub(crate) fn has_start(names: &Names, kinds: &[Kind]) -> bool
-    ensures { result ≡ has_start names.now kinds.now }
-{
-    match kinds {
-        [] => false,
-        [first, ..] => starts(names, first.behaviours.as_slice()),
-    }
-}
+use behaviour_code::{Behaviour, Instr, Kind, Name};
 
 /// Whether a kind has the name.
 pub(crate) fn has_kind(kinds: &[Kind], name: Name) -> bool

@@ -1,6 +1,7 @@
 -- Where things stand in a program.
-use Rattle.std.specs.Prelude.{ℕ, List, [], ◌&&◌, ◌==◌, Bool, false, Option, position, slice_get}
+use Rattle.std.specs.Prelude.{ℕ, List, [], ◌&&◌, ◌==◌, Bool, false, Option, bytes_eq, codes, find, option_map, position, slice_get}
 use Rattle.std.specs.Option.{option_map_or}
+use Rattle.behaviour_code.specs.Names.{text_of}
 use Rattle.behaviour_code.specs.declared.code.Behaviour.{Behaviour}
 use Rattle.behaviour_code.specs.declared.code.Kind.{Kind}
 use Rattle.behaviour_code.specs.declared.code.Program.{Program}
@@ -26,6 +27,14 @@ is_kind name kind = kind.name == name
 -- the place of the first kind of the name
 abbrev pub kind_named : Program → ℕ → Option ℕ
 kind_named program name = position (is_kind name) program.kinds
+
+-- a behaviour `start` without parameters
+abbrev pub is_start : List (List ℕ) → Behaviour → Bool
+is_start texts b = bytes_eq (text_of texts b.name) (codes "start") && (b.parameters == 0)
+
+-- the name of the first kind's behaviour `start` without parameters, with which a run begins
+abbrev pub start_name : Program → Option ℕ
+start_name program = option_map (λ b. b.name) (find (is_start program.names) (behaviours_of program 0))
 
 -- a label of the name
 abbrev pub is_label : ℕ → Instr → Bool

@@ -1,7 +1,7 @@
 // Programs.
 
 ghost use Rattle.std.specs.Prelude.{◌≡◌, ◌<◌, length, slice_get, Some};
-ghost use Rattle.behaviour_code.specs.Find.{body_of, behaviours_of, field_count};
+ghost use Rattle.behaviour_code.specs.Find.{body_of, behaviours_of, field_count, is_start, start_name};
 
 use crate::instr::Instr;
 use crate::names::{Name, Names};
@@ -28,6 +28,12 @@ pub struct Kind {
 pub struct Program {
     pub kinds: Listed<Kind>,
     pub names: Names,
+}
+
+fn is_start(names: &Names, behaviour: &Behaviour) -> bool
+    ensures { result ≡ is_start names.now behaviour.now }
+{
+    behaviour.parameters == 0 && names.text_or_empty(behaviour.name) == "start"
 }
 
 impl Program {
@@ -59,6 +65,19 @@ impl Program {
             Some(found) => found.body.as_slice(),
             None => &[],
         }
+    }
+
+    /// The name of the first kind's behaviour `start` without parameters, if it has one. A run
+    /// begins with its letter.
+    pub fn start_name(&self) -> Option<Name>
+        ensures { result ≡ start_name self.now }
+    {
+        for behaviour in self.behaviours(0) {
+            if is_start(&self.names, behaviour) {
+                return Some(behaviour.name);
+            }
+        }
+        None
     }
 
     /// The text of a name.

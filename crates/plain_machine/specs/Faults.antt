@@ -1,0 +1,11 @@
+-- When each fault comes.
+use Rattle.std.specs.Prelude.{ℕ, ◌≡◌}
+use Rattle.machine_rules.specs.Plain.{Outcome, NotEnabled, IsFull}
+use Rattle.plain_machine.specs.declared.machine.PlainFault.{PlainFault}
+use Rattle.plain_machine.specs.declared.machine.PlainFault.TheVariants.{NotReady, ActorsFull, NoMemory}
+
+-- the fault says what the event of this actor leads to; want of memory says nothing
+abbrev pub Faulted : Outcome → ℕ → PlainFault → Type 0
+Faulted outcome a NotReady = outcome ≡ NotEnabled
+Faulted outcome a (ActorsFull b) = (outcome ≡ IsFull) × (b ≡ a)
+Faulted outcome a NoMemory = Unit {0}

@@ -1,0 +1,88 @@
+// One actor.
+
+ghost use Rattle.std.specs.Prelude.{◌≡◌, ◌<◌, ◌≤◌, ◌∷◌, ◌++◌, [], length, replicate, Some, None, OnOk, OnErr, IfOk, IfSome, position};
+ghost use Rattle.std.specs.Bool.{OnTrue, OnFalse};
+ghost use Rattle.behaviour_code.specs.Good.{ProgramIsGood};
+ghost use Rattle.behaviour_code.specs.Find.{behaviours_of, takes_call};
+ghost use Rattle.machine_rules.specs.Plain.{taken, frame_of, fresh_actor, first_actor as the_first};
+
+use behaviour_code::{Behaviour, Program};
+use machine_rules::{PlainActor, PlainLetter};
+use orca_names::{Args, Fields, NoMemory};
+use plain_list::{Listed, Queue};
+use std::alloc::Global;
+use turn_rules::{Frame, RegisterFile};
+
+/// An actor of a kind that is just made. It takes no memory.
+pub(crate) fn fresh_actor(alloc: Global, program: &Program, kind: u32) -> PlainActor
+    requires { ProgramIsGood program.now }
+    ensures { result ≡ fresh_actor program.now kind }
+{
+    PlainActor {
+        kind,
+        fields: Fields {
+            values: Args::nulls(program.field_count(kind) as usize),
+            pinned: false,
+        },
+        frame: None,
+        letters: Queue::new(alloc),
+        rows: Listed::new(alloc),
+    }
+}
+
+/// The first actor, with the letter `start`.
+pub(crate) fn first_actor(alloc: Global, program: &Program) -> Result<PlainActor, NoMemory>
+    requires { ProgramIsGood program.now }
+    ensures { IfOk result (λ x. x ≡ the_first program.now) }
+{
+    let mut actor = fresh_actor(alloc, program, 0);
+    if let Some(behaviour) = program.start_name() {
+        actor.letters.push(PlainLetter {
+            behaviour,
+            args: Args::new(),
+        })?;
+    }
+    Ok(actor)
+}
+
+fn behaviour_place(behaviours: &[Behaviour], letter: &PlainLetter) -> Option<usize>
+    ensures value { result ≡ position (takes_call letter.now.behaviour (length letter.now.args)) behaviours.now }
+    ensures within { IfSome result (λ i. i < length behaviours.now) }
+{
+    behaviours.iter().position(|b| b.name == letter.behaviour
+        && u64::from(b.parameters) == letter.args.len())
+}
+
+/// The frame that a letter starts, if the kind has its behaviour with as many parameters.
+fn start_frame(program: &Program, kind: u32, letter: &PlainLetter) -> Option<Frame>
+    requires { length (behaviours_of program.now kind) ≤ 64 }
+    ensures { result ≡ frame_of program.now kind letter.now }
+{
+    match behaviour_place(program.behaviours(kind), letter) {
+        Some(place) => Some(Frame {
+            kind,
+            behaviour: place as u8,
+            place: 0,
+            registers: RegisterFile::of(&letter.args),
+        }),
+        None => None,
+    }
+}
+
+/// Takes the first letter, where there is one and no frame.
+pub(crate) fn take_letter(program: &Program, actor: &mut PlainActor) -> bool
+    requires { length (behaviours_of program.now actor.old.kind) ≤ 64 }
+    ensures done { OnTrue result (taken program.now actor.old ≡ Some actor.new) }
+    ensures not_ready { OnFalse result ((taken program.now actor.old ≡ None) × (actor.new ≡ actor.old)) }
+{
+    if actor.frame.is_some() {
+        return false;
+    }
+    match actor.letters.pop() {
+        Some(letter) => {
+            actor.frame = start_frame(program, actor.kind, &letter);
+            true
+        }
+        None => false,
+    }
+}

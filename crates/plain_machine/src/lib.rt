@@ -1,0 +1,13 @@
+//! The machine that frees nothing: the slow machine against which the collector is measured.
+#![tactic(auto)]
+
+mod actor;
+mod acts;
+mod events;
+mod machine;
+mod table;
+
+pub use machine::{Plain, PlainFault};
+
+#[cfg(test)]
+mod tests;

@@ -1,0 +1,129 @@
+// The machine that frees nothing.
+
+ghost use Rattle.std.specs.Prelude.{◌≡◌, ◌+◌, ◌<◌, length, IfOk, IfErr, OnOk, OnErr};
+ghost use Rattle.machine_rules.specs.Plain.{Goes, NotEnabled, plain_take, plain_go, start_of};
+ghost use Rattle.plain_machine.specs.Faults.{Faulted};
+
+use crate::actor::first_actor;
+use crate::events::{go_in, take_in};
+use behaviour_check::Checked;
+use machine_rules::PlainActor;
+use orca_names::{ActorName, NoMemory, Value};
+use std::alloc::Global;
+use std::marker::Model;
+use thiserror::Error;
+
+/// Why the plain machine refused an event.
+#[derive(Clone, Copy, Debug, PartialEq, Eq, Error)]
+pub enum PlainFault {
+    /// The event is not enabled.
+    #[error("the event is not enabled")]
+    NotReady,
+    /// The actor would make one more, and as many as there may be are made.
+    #[error("all actors are made")]
+    ActorsFull { actor: ActorName },
+    /// Memory was refused.
+    #[error("out of memory")]
+    NoMemory,
+}
+
+/// The machine that frees nothing, seen by contracts as its state: all actors ever made, with their
+/// rows, and what was printed.
+#[derive(Drop)]
+pub struct Plain<'a> {
+    code: &'a Checked,
+    actors: Vec<PlainActor>,
+    prints: Vec<Value>,
+    steps: u64,
+}
+
+impl<'a> Model for Plain<'a> {
+    ghost use Rattle.machine_rules.specs.Plain as plain;
+    ghost use Rattle.behaviour_check.specs.Rules.{IsChecked};
+
+    ghost Value = { plain.PlainState };
+
+    ghost view = { λ m. record { program = m.code.now; actors = m.actors.items; prints = m.prints.items; steps = m.steps } };
+
+    ghost invariant = { λ m. IsChecked m.code.now };
+}
+
+impl<'a> Plain<'a> {
+    /// The machine before its first event: one actor of the first kind, with the letter `start`.
+    ///
+    /// # Errors
+    /// `NoMemory` where memory was refused.
+    pub fn start(alloc: Global, code: &'a Checked) -> Result<Plain<'a>, NoMemory>
+        ensures { IfOk result (λ m. m ≡ start_of code.now) }
+    {
+        let mut actors = Vec::new(alloc);
+        actors.push(first_actor(alloc, code.program())?)?;
+        Ok(Plain {
+            code,
+            actors,
+            prints: Vec::new(alloc),
+            steps: 0,
+        })
+    }
+
+    /// The actor takes its first letter.
+    ///
+    /// # Errors
+    /// `NotReady` exactly where the actor was not made, has a frame or has no letter; nothing
+    /// changes then. It takes no memory.
+    pub fn take(&mut self, a: ActorName) -> Result<(), PlainFault>
+        requires { self.old.steps < 100000000 }
+        ensures ok { OnOk result (plain_take self.old a ≡ Goes self.new) }
+        ensures fault { IfErr result (λ e. (e ≡ PlainFault.NotReady) × (plain_take self.old a ≡ NotEnabled)) }
+        ensures same { OnErr result (self.new ≡ self.old) }
+    {
+        if take_in(self.code.program(), &mut self.actors, a) {
+            self.steps += 1;
+            Ok(())
+        } else {
+            Err(PlainFault::NotReady)
+        }
+    }
+
+    /// The actor's frame runs up to and with its next act.
+    ///
+    /// # Errors
+    /// `NotReady` exactly where the actor was not made or has no frame; `ActorsFull` exactly where
+    /// its act would make an actor and 65,536 are made; `NoMemory` where memory was refused. Nothing
+    /// changes then.
+    pub fn go(&mut self, alloc: Global, a: ActorName) -> Result<(), PlainFault>
+        requires { self.old.steps < 100000000 }
+        ensures ok { OnOk result (plain_go self.old a ≡ Goes self.new) }
+        ensures fault { IfErr result (Faulted (plain_go self.old a) a) }
+        ensures same { OnErr result (self.new ≡ self.old) }
+    {
+        match go_in(alloc, self.code, &mut self.actors, &mut self.prints, a) {
+            Ok(()) => {
+                self.steps += 1;
+                Ok(())
+            }
+            Err(fault) => Err(fault),
+        }
+    }
+
+    /// What was printed, in its order.
+    pub fn prints(&self) -> &[Value]
+        ensures { result.now ≡ self.now.prints }
+    {
+        self.prints.as_slice()
+    }
+
+    /// How many actors were made.
+    pub fn made(&self) -> u64
+        ensures { result ≡ length self.now.actors }
+    {
+        self.actors.len() as u64
+    }
+
+    /// How many events were done.
+    pub fn steps(&self) -> u64
+        ensures { result ≡ self.now.steps }
+    {
+        self.steps
+    }
+}
