@@ -1,0 +1,10 @@
+use Rattle.std.proofs.Common.{◌-◌, length}
+use Rattle.reach_walk.proofs.Covers.{cover_of}
+use Rattle.reach_walk.proofs.Walking.{Walks}
+use Rattle.reach_walk.proofs.reach.walk.Given as goal
+
+abbrev pub invariant-loop-at : goal.invariant-loop-at
+invariant-loop-at g l = Walks (g.E.Edges.edges l.graph) l.roots l.seen l.at
+
+abbrev pub decreases-loop-at : goal.decreases-loop-at
+decreases-loop-at g l = length (cover_of (g.E.Edges.edges l.graph) (g.E.Edges.all l.graph) l.roots) - l.at

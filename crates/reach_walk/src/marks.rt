@@ -1,0 +1,51 @@
+// Marks: what values reach through rows.
+
+ghost use Rattle.std.specs.Prelude.{◌≡◌, ◌↔◌, ◌++◌, Contains, IfOk, OnOk, map};
+ghost use Rattle.std.specs.List.Sorted.{IsStrictlySortedBy};
+ghost use Rattle.orca_names.specs.Names.{thing_cmp};
+ghost use Rattle.orca_names.specs.declared.names.Thing.{Thing as thing};
+ghost use Rattle.orca_names.specs.declared.names.Thing.TheVariants.{Obj as object};
+ghost use Rattle.reach_walk.specs.Reach.{named_by, row_edges, Reaches};
+ghost use Rattle.reach_walk.specs.Rows.{row_edges-within};
+
+use crate::edges::Edges;
+use crate::reach::{push_named, walk};
+use orca_names::{NoMemory, Rows, Thing, Value};
+use std::alloc::Global;
+
+// Rows as edges: an object leads to the values of its row.
+#[derive(Drop)]
+struct RowEdges<'a, R> {
+    rows: &'a R,
+}
+
+impl<R: Rows> Edges for RowEdges<'_, R> {
+    ghost edges = { λ s. row_edges (R.rows s.rows.now) };
+
+    ghost all = { λ s. map object (R.all s.rows.now) };
+
+    fn push_edges(&self, thing: Thing, found: &mut Vec<Value>) -> Result<(), NoMemory> {
+        if let Thing::Obj(n) = thing {
+            if let Some(row) = self.rows.row_of(n) {
+                found.extend_from_slice(row.as_slice())?;
+            }
+        }
+        Ok(())
+    }
+
+    ghost within = { λ s t leads. row_edges-within (R.rows s.rows.now) (R.all s.rows.now) (R.within s.rows.now) t leads };
+}
+
+/// All that the values reach through the rows of objects, with the owners of the objects, in the
+/// order of things, each once.
+///
+/// # Errors
+/// `NoMemory` where memory was refused.
+pub fn mark<R: Rows>(alloc: Global, roots: &[Value], rows: &R) -> Result<Vec<Thing>, NoMemory>
+    ensures exact { IfOk result (λ found. (x : thing) → Contains found.items x ↔ Reaches (row_edges (R.rows rows.now)) (named_by roots.now) x) }
+    ensures rising { IfOk result (λ found. IsStrictlySortedBy thing_cmp found.items) }
+{
+    let mut things = Vec::new(alloc);
+    push_named(&mut things, roots)?;
+    walk(alloc, things.as_slice(), &RowEdges { rows })
+}
