@@ -1,0 +1,52 @@
+-- The order of events and their text.
+use Rattle.std.specs.Prelude.{ℕ, List, ◌++◌, codes}
+use Rattle.std.specs.Ordering.{nat_cmp, on, then_cmp}
+use Rattle.std.specs.declared.cmp.Ordering.{Ordering}
+use Rattle.std.specs.Fmt.{decimal}
+use Rattle.event_rule.specs.declared.event.Event.{Event}
+use Rattle.event_rule.specs.declared.event.Event.TheVariants.{Take, Go, Collect, Block, Hear, Scan, Reap}
+
+-- the round of the one-worker order that has the event: acts and letters, then collections and
+-- reports, then the detector's
+abbrev pub round_of : Event → ℕ
+round_of (Go a) = 0
+round_of (Take a) = 0
+round_of (Collect a) = 1
+round_of (Block a) = 1
+round_of Hear = 2
+round_of Scan = 3
+round_of (Reap token) = 4
+
+-- the number of its actor or token, 0 where it has none
+abbrev pub number_of : Event → ℕ
+number_of (Go a) = a
+number_of (Take a) = a
+number_of (Collect a) = a
+number_of (Block a) = a
+number_of Hear = 0
+number_of Scan = 0
+number_of (Reap token) = token
+
+-- in a round an actor goes before it takes, and collects before it blocks
+abbrev pub turn_of : Event → ℕ
+turn_of (Go a) = 0
+turn_of (Take a) = 1
+turn_of (Collect a) = 0
+turn_of (Block a) = 1
+turn_of Hear = 0
+turn_of Scan = 0
+turn_of (Reap token) = 0
+
+-- the one-worker order: by round, then by number, then by turn
+abbrev pub event_cmp : Event → Event → Ordering
+event_cmp = then_cmp (then_cmp (on round_of nat_cmp) (on number_of nat_cmp)) (on turn_of nat_cmp)
+
+-- as the run book writes it, without the line feed
+abbrev pub event_text : Event → List ℕ
+event_text (Take a) = codes "take " ++ decimal a
+event_text (Go a) = codes "go " ++ decimal a
+event_text (Collect a) = codes "collect " ++ decimal a
+event_text (Block a) = codes "block " ++ decimal a
+event_text Hear = codes "hear"
+event_text Scan = codes "scan"
+event_text (Reap token) = codes "reap " ++ decimal token
