@@ -1,1 +1,4 @@
 pub mod Plain
+pub mod PlainLimits
+pub mod PlainReach
+pub mod PlainRun

@@ -1,5 +1,5 @@
 -- The plain machine: it frees nothing. What an actor takes and does, and what it prints.
-use Rattle.std.specs.Prelude.{ℕ, ◌+◌, ◌-◌, Bool, false, nat_lt, List, [], ◌∷◌, ◌++◌, length, position, replicate, slice_get, slice_set, Option, Some, None, option_and_then, option_map, if◌then◌else◌}
+use Rattle.std.specs.Prelude.{ℕ, ◌+◌, ◌-◌, false, nat_lt, List, [], ◌∷◌, ◌++◌, length, position, replicate, slice_get, slice_set, sum_by, Option, Some, None, option_and_then, option_map, if◌then◌else◌}
 use Rattle.std.specs.Option.{option_map_or}
 use Rattle.orca_names.specs.declared.names.ObjName.{ObjName}
 use Rattle.orca_names.specs.declared.names.Value.{Value}
@@ -32,6 +32,10 @@ pub data Outcome : Type 0 where
 -- the row of an object that was made
 abbrev pub plain_row : List PlainActor → ObjName → Option (List Value)
 plain_row actors n = option_and_then (λ x. slice_get x.rows n.serial) (slice_get actors n.owner)
+
+-- how many objects were made
+abbrev pub objects_made : List PlainActor → ℕ
+objects_made actors = sum_by (λ x. length x.rows) actors
 
 -- the actors, one of which is changed
 abbrev pub with_changed : List PlainActor → ℕ → (PlainActor → PlainActor) → List PlainActor

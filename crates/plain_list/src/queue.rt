@@ -1,7 +1,6 @@
 // A `VecDeque`, seen as the list of its elements.
 
-ghost use Rattle.std.specs.Prelude.{◌≡◌, ◌↔◌, ◌++◌, ◌∷◌, [], length, slice_get, IsTrue, IfSome, IfNone, OnOk, OnErr};
-ghost use Rattle.std.specs.Option.{option_copied};
+ghost use Rattle.std.specs.Prelude.{◌≡◌, ◌<◌, ◌↔◌, ◌++◌, ◌∷◌, [], length, slice_get, IsTrue, Some, IfSome, IfNone, OnOk, OnErr};
 
 use std::alloc::{AllocError, Global};
 use std::collections::VecDeque;
@@ -41,11 +40,12 @@ impl<T> Queue<T> {
         self.items.len()
     }
 
-    /// The element at a place, counted from 0 at the front, or `None` past the last.
-    pub fn get(&self, i: usize) -> Option<&T>
-        ensures { option_copied result ≡ slice_get self.now i }
+    /// The element at a place, counted from 0 at the front.
+    pub fn at(&self, i: usize) -> &T
+        requires { i < length self.now }
+        ensures { slice_get self.now i ≡ Some result.now }
     {
-        self.items.get(i)
+        &self.items[i]
     }
 
     /// Whether there is no element.

@@ -1,2 +1,4 @@
+pub mod Arguments
+pub mod Firsts
 pub mod Going
 pub mod Undoing

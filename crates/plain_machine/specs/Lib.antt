@@ -1,4 +1,6 @@
 pub mod Faults
+pub mod First
 pub mod Objects
-pub mod Undo
 pub mod State
+pub mod Things
+pub mod Undo

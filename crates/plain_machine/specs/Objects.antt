@@ -21,7 +21,7 @@ abbrev pub all_objects : ℕ → List PlainActor → List ObjName
 all_objects a [] = []
 all_objects a (x ∷ xs) = own_objects a 0 x.rows ++ all_objects (a + 1) xs
 
-in_tail : {A : Type 0} (x : A) (xs : List A) (y : A) → Contains xs y → Contains (x ∷ xs) y
+pub in_tail : {A : Type 0} (x : A) (xs : List A) (y : A) → Contains xs y → Contains (x ∷ xs) y
 in_tail x xs y c = (suc c.0, omega (arith, c.1), c.2)
 
 own_is_listed : (a n k : ℕ) (rows : List (List Value)) → k < length rows → Contains (own_objects a n rows) (object a (n + k))

@@ -21,12 +21,11 @@ use std::alloc::Global;
 use turn_step::{Act, Frame, segment};
 
 /// The actor takes its first letter, where it has one and no frame.
-pub(crate) fn take_in(program: &Program, actors: &mut Vec<PlainActor>, a: ActorName) -> bool
-    requires { ProgramIsGood program.now }
+pub(crate) fn take_in(code: &Checked, actors: &mut Vec<PlainActor>, a: ActorName) -> bool
     ensures done { OnTrue result ((prints : List names.Value) (steps : ℕ) →
-        plain_take (state_of program.now actors.old.items prints steps) a ≡ Goes (state_of program.now actors.new.items prints (steps + 1))) }
+        plain_take (state_of code.now actors.old.items prints steps) a ≡ Goes (state_of code.now actors.new.items prints (steps + 1))) }
     ensures not_ready { OnFalse result ((prints : List names.Value) (steps : ℕ) →
-        plain_take (state_of program.now actors.old.items prints steps) a ≡ NotEnabled) }
+        plain_take (state_of code.now actors.old.items prints steps) a ≡ NotEnabled) }
     ensures same { OnFalse result (actors.new.items ≡ actors.old.items) }
 {
     let place = a.0 as usize;
@@ -34,7 +33,7 @@ pub(crate) fn take_in(program: &Program, actors: &mut Vec<PlainActor>, a: ActorN
         return false;
     }
     let actor = &mut actors[place];
-    take_letter(program, actor)
+    take_letter(code.program(), actor)
 }
 
 /// The turn of an actor, which changes nothing yet.

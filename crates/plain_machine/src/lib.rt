@@ -4,7 +4,9 @@
 mod actor;
 mod acts;
 mod events;
+mod first;
 mod machine;
+mod reach;
 mod table;
 
 pub use machine::{Plain, PlainFault};

@@ -1,14 +1,23 @@
 // The machine that frees nothing.
 
-ghost use Rattle.std.specs.Prelude.{◌≡◌, ◌+◌, ◌<◌, length, IfOk, IfErr, OnOk, OnErr};
-ghost use Rattle.machine_rules.specs.Plain.{Goes, NotEnabled, plain_take, plain_go, start_of};
+ghost use Rattle.std.specs.Prelude.{◌≡◌, ◌↔◌, ◌<◌, length, Contains, IfOk, IfErr, MatchOption, OnOk, OnErr};
+ghost use Rattle.std.specs.List.Sorted.{IsStrictlySortedBy};
+ghost use Rattle.orca_names.specs.Names.{thing_cmp};
+ghost use Rattle.orca_names.specs.declared.names.Thing.{Thing as thing};
+ghost use Rattle.machine_rules.specs.Plain.{Goes, NotEnabled, objects_made, plain_take, plain_go, start_of};
+ghost use Rattle.machine_rules.specs.PlainReach.{IsReachable};
+ghost use Rattle.machine_rules.specs.PlainRun.{IsPlainFirst, IsPlainQuiet};
 ghost use Rattle.plain_machine.specs.Faults.{Faulted};
 
 use crate::actor::first_actor;
 use crate::events::{go_in, take_in};
+use crate::first::first_event;
+use crate::reach::reached;
+use crate::table::count_objects;
 use behaviour_check::Checked;
+use event_rule::Event;
 use machine_rules::PlainActor;
-use orca_names::{ActorName, NoMemory, Value};
+use orca_names::{ActorName, NoMemory, Thing, Value};
 use std::alloc::Global;
 use std::marker::Model;
 use thiserror::Error;
@@ -39,13 +48,13 @@ pub struct Plain<'a> {
 
 impl<'a> Model for Plain<'a> {
     ghost use Rattle.machine_rules.specs.Plain as plain;
-    ghost use Rattle.behaviour_check.specs.Rules.{IsChecked};
+    ghost use Rattle.plain_machine.specs.State.{state_of, IsSound};
 
     ghost Value = { plain.PlainState };
 
-    ghost view = { λ m. record { program = m.code.now; actors = m.actors.items; prints = m.prints.items; steps = m.steps } };
+    ghost view = { λ m. state_of m.code.now m.actors.items m.prints.items m.steps };
 
-    ghost invariant = { λ m. IsChecked m.code.now };
+    ghost invariant = { λ m. IsSound (state_of m.code.now m.actors.items m.prints.items m.steps) };
 }
 
 impl<'a> Plain<'a> {
@@ -77,7 +86,7 @@ impl<'a> Plain<'a> {
         ensures fault { IfErr result (λ e. (e ≡ PlainFault.NotReady) × (plain_take self.old a ≡ NotEnabled)) }
         ensures same { OnErr result (self.new ≡ self.old) }
     {
-        if take_in(self.code.program(), &mut self.actors, a) {
+        if take_in(self.code, &mut self.actors, a) {
             self.steps += 1;
             Ok(())
         } else {
@@ -118,6 +127,33 @@ impl<'a> Plain<'a> {
         ensures { result ≡ length self.now.actors }
     {
         self.actors.len() as u64
+    }
+
+    /// How many objects were made.
+    pub fn objects_made(&self) -> u64
+        ensures { result ≡ objects_made self.now.actors }
+    {
+        count_objects(&self.actors)
+    }
+
+    /// The first of the enabled events, in the order in which one worker does them; `None` exactly
+    /// where none is enabled. It takes no memory.
+    pub fn first_enabled(&self) -> Option<Event>
+        ensures { MatchOption result (IsPlainQuiet self.now) (IsPlainFirst self.now) }
+    {
+        first_event(&self.actors)
+    }
+
+    /// All that is reachable, in the order of things: what a path leads to from an actor that is
+    /// pinned, has a frame or has a letter.
+    ///
+    /// # Errors
+    /// `NoMemory` where memory was refused.
+    pub fn reach(&self, alloc: Global) -> Result<Vec<Thing>, NoMemory>
+        ensures exact { IfOk result (λ found. (x : thing) → Contains found.items x ↔ IsReachable self.now x) }
+        ensures rising { IfOk result (λ found. IsStrictlySortedBy thing_cmp found.items) }
+    {
+        reached(alloc, &self.actors)
     }
 
     /// How many events were done.

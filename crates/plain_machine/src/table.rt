@@ -2,7 +2,7 @@
 
 ghost use Rattle.std.specs.Prelude.{◌≡◌, ◌+◌, ◌<◌, ◌^◌, [], ◌∷◌, ◌++◌, length, slice_get, Some, OnOk, OnErr};
 ghost use Rattle.std.specs.Option.{option_copied};
-ghost use Rattle.machine_rules.specs.Plain.{plain_row, with_turn, with_letter};
+ghost use Rattle.machine_rules.specs.Plain.{objects_made, plain_row, with_turn, with_letter};
 ghost use Rattle.plain_machine.specs.Undo.{with_undone};
 
 use machine_rules::{PlainActor, PlainLetter};
@@ -34,9 +34,17 @@ impl Rows for AllRows<'_> {
     }
 }
 
+/// How many objects these actors made.
+pub(crate) fn count_objects(actors: &[PlainActor]) -> u64
+    requires { objects_made actors.now < 2 ^ 64 }
+    ensures { result ≡ objects_made actors.now }
+{
+    actors.iter().map(|x| x.rows.len() as u64).sum()
+}
+
 /// The actor of a name, if it was made.
-pub(crate) fn actor_at(actors: &Vec<PlainActor>, a: ActorName) -> Option<&PlainActor>
-    ensures { option_copied result ≡ slice_get actors.now.items a }
+pub(crate) fn actor_at(actors: &[PlainActor], a: ActorName) -> Option<&PlainActor>
+    ensures { option_copied result ≡ slice_get actors.now a }
 {
     actors.get(a.0 as usize)
 }

@@ -1,4 +1,4 @@
-use Rattle.std.proofs.Common.{◌≡◌, ap, sym, ◌∙◌}
+use Rattle.std.proofs.Common.{◌≡◌, ap, slice_get, sym, ◌∙◌}
 use Rattle.machine_rules.specs.Plain.{PlainState, after_act, turn_of_actor}
 use Rattle.plain_machine.specs.State.{state_of}
 use Rattle.plain_machine.proofs.Going.{plain_go-turn}
@@ -13,7 +13,7 @@ commit-requires-clause-gone c = λ steps.
     let frame = c.evaluate.new.frame in
     let fields = c.evaluate.new.fields in
     plain_go-turn s c.args.a x c.in-Some-frame.start frame fields c.evaluate.new.made.items c.in-Ok.act
-    (sym c.in-Some.ensures) c.in-Some-frame.is
+    (ap (λ xs. slice_get xs c.args.a) (sym c.deref.ensures.value) ∙ sym c.in-Some.ensures) c.in-Some-frame.is
     (ap (λ p. turn_of_actor (state_of p c.args.actors.now.items prints steps) c.args.a x c.in-Some-frame.start) c.program.ensures.value
     ∙ ap (λ xs. turn_of_actor (state_of c.args.code.now xs prints steps) c.args.a x c.in-Some-frame.start) (sym c.as_slice.ensures.value)
     ∙ c.in-Ok.ensures.ok prints steps)

@@ -1,7 +1,20 @@
-use Rattle.std.proofs.Common.{subst}
+use Rattle.std.proofs.Common.{ap, arith, subst}
 use Rattle.machine_rules.specs.Plain.{PlainState, plain_go}
+use Rattle.machine_rules.specs.PlainLimits.{IsWithinLimits, OnGoes}
+use Rattle.machine_rules.proofs.PlainGrowth.{plain_go_is_within}
 use Rattle.plain_machine.specs.Faults.{Faulted}
+use Rattle.plain_machine.specs.State.{state_of}
 use Rattle.plain_machine.proofs.machine.Plain.go.Goals as goal
+
+pub invariant_of-self : goal.invariant_of-self
+invariant_of-self c =
+    let m = c.self.inside in
+    let s = state_of m.code.now m.actors.items m.prints.items m.steps in
+    record {
+      checked = c.self.invariant.checked;
+      early = omega (arith, c.requires, ap (λ s. s.steps) c.self.view_is);
+      within = subst (OnGoes IsWithinLimits) (c.in-Ok.ensures.ok m.steps) (plain_go_is_within s c.args.a c.self.invariant.checked.good c.self.invariant.within);
+    }
 
 pub returns-in-Err-clause-fault : goal.returns-in-Err-clause-fault
 returns-in-Err-clause-fault c =
