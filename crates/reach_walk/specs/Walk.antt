@@ -11,13 +11,13 @@ use Rattle.reach_walk.specs.Reach.{named_by}
 abbrev pub next_of : (Thing → List Value) → Thing → List Thing
 next_of edges t = Actor (owner_of t) ∷ named_by (edges t)
 
--- those of xs that were not there come behind
+-- old goes on into new, which has the things of old and of xs, and no others
 pub record Adds (xs old new : List Thing) : Type 0 where
   pub behind : (more : List Thing) × (new ≡ old ++ more)
   pub added : (x : Thing) → Contains xs x → Contains new x
   pub only : (x : Thing) → Contains new x → Contains old x ⊎ Contains xs x
 
--- the set has these things, and each of them stands in the list once
+-- the set, which is in order, has the things of the list, and each of them stands there once
 pub record IsSetOf (set things : List Thing) : Type 0 where
   pub rising : IsStrictlySortedBy thing_cmp set
   pub has : (x : Thing) → Contains things x → Contains set x

@@ -1,4 +1,4 @@
-// The things that a walk has seen.
+// What a walk has seen.
 
 ghost use Rattle.std.specs.Prelude.{◌≡◌, ◌≤◌, ◌<◌, ◌↔◌, ◌∷◌, [], List, Some, Contains, length, slice_get, IfOk, OnOk};
 ghost use Rattle.std.specs.List.Sorted.{IsStrictlySortedBy};
@@ -11,8 +11,8 @@ use std::alloc::Global;
 use std::collections::BTreeSet;
 use std::marker::Model;
 
-/// The things that were seen, each once, seen by contracts as the list of them in the order in
-/// which they came. A look takes the time of a look into a set.
+/// The things that a walk has met, each once; contracts see them as a list, in the order in which
+/// they came. Whether a thing is among them is looked up in a set.
 #[derive(Drop)]
 pub(crate) struct Seen {
     things: Vec<Thing>,
@@ -81,7 +81,7 @@ impl Seen {
         Ok(())
     }
 
-    /// All of them, in the order of things.
+    /// All of them, in the order of things. The list's memory serves again.
     pub(crate) fn into_sorted(self) -> Result<Vec<Thing>, NoMemory>
         ensures same { IfOk result (λ sorted. (x : thing) → Contains sorted.items x ↔ Contains self x) }
         ensures rising { IfOk result (λ sorted. IsStrictlySortedBy thing_cmp sorted.items) }

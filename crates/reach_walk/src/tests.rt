@@ -1,0 +1,125 @@
+// A small graph by hand: rows that are shared, absent or lead back, owners, roots named twice.
+
+ghost use Rattle.std.specs.Prelude.{◌≡◌, ◌<◌, ◌==◌, if◌then◌else◌, true, false, None, Some, Contains, ℕ, [], length, map, slice_get};
+ghost use Rattle.std.specs.List.{range_with_len};
+ghost use Rattle.std.proofs.Common.{refl, sym, subst, ◌∙◌, zero-add};
+ghost use Rattle.std.proofs.lemmas.Bool.{eqb-true};
+ghost use Rattle.std.proofs.lemmas.List.{length-map};
+ghost use Rattle.std.proofs.lemmas.List.FromFn.{length-range_with_len, get_or-map-range_with_len};
+ghost use Rattle.std.proofs.lemmas.Option.{none-some, slice_get_within};
+ghost use Rattle.orca_names.specs.declared.names.ObjName.{ObjName as object_name};
+
+use crate::{Edges, mark, walk};
+use orca_names::{ActorName, NoMemory, ObjName, Row, Rows, Thing, Value};
+use std::test::Fail;
+
+const fn object(owner: u32, serial: u64) -> ObjName {
+    ObjName {
+        owner: ActorName(owner),
+        serial,
+    }
+}
+
+// The rows of the objects of actor 0, in the order of their serials.
+#[derive(Drop)]
+struct Shelf {
+    rows: Vec<Row>,
+}
+
+impl Rows for Shelf {
+    ghost rows = { λ s n. if n.owner == 0 then slice_get s.rows.items n.serial else None };
+
+    ghost all = { λ s. map (λ k. record { owner = 0; serial = k }) (range_with_len 0 (length s.rows.items)) };
+
+    fn row_of(&self, n: ObjName) -> Option<&Row> {
+        if n.owner == ActorName(0) {
+            self.rows.get(n.serial as usize)
+        } else {
+            None
+        }
+    }
+
+    ghost within = { λ s n row.
+        let name : ℕ → object_name = λ serial. record { owner = 0; serial = serial } in
+        let count = length s.rows.items in
+        elim (n.owner == 0) as (λ b. (n.owner == 0) ≡ b → (if b then slice_get s.rows.items n.serial else None) ≡ Some row → Contains (map name (range_with_len 0 count)) n) [
+          | true ↦ λ own found.
+              let inside = slice_get_within s.rows.items n.serial row found in
+              let as_many = length-map (range_with_len 0 count) name ∙ length-range_with_len 0 count in
+              let at = get_or-map-range_with_len name 0 count n.serial n.serial n inside (zero-add n.serial) in
+              (n.serial, subst (λ m. n.serial < m) (sym as_many) inside, at ∙ (λ i. record { owner = sym (eqb-true n.owner 0 own) i; serial = n.serial }))
+          | false ↦ λ _ found. absurd (none-some row found)
+        ] refl };
+}
+
+// A graph in which nothing leads on.
+#[derive(Drop)]
+struct Nowhere;
+
+impl Edges for Nowhere {
+    ghost edges = { λ _ _. [] };
+
+    ghost all = { λ _. [] };
+
+    fn push_edges(&self, _: Thing, _: &mut Vec<Value>) -> Result<(), NoMemory> {
+        Ok(())
+    }
+
+    ghost within = { λ _ _ leads. absurd (leads refl) };
+}
+
+#[test]
+fn marks_are_what_rows_reach(rt: HostRuntime) -> Result<(), Fail> {
+    let alloc = rt.alloc();
+    let rows = [
+        Row::of(&[Value::Obj(object(0, 1)), Value::Num(5)]),
+        Row::of(&[Value::Obj(object(0, 3)), Value::Actor(ActorName(7))]),
+        Row::of(&[Value::Obj(object(0, 3))]),
+        Row::of(&[Value::Null, Value::Obj(object(4, 9))]),
+        Row::of(&[Value::Obj(object(0, 4))]),
+    ];
+    let shelf = Shelf {
+        rows: rows.to_vec(alloc)?,
+    };
+    let roots = [
+        Value::Obj(object(0, 2)),
+        Value::Null,
+        Value::Obj(object(0, 0)),
+        Value::Obj(object(0, 2)),
+    ];
+    let reached = [
+        Thing::Actor(ActorName(0)),
+        Thing::Obj(object(0, 0)),
+        Thing::Obj(object(0, 1)),
+        Thing::Obj(object(0, 2)),
+        Thing::Obj(object(0, 3)),
+        Thing::Actor(ActorName(4)),
+        Thing::Obj(object(4, 9)),
+        Thing::Actor(ActorName(7)),
+    ];
+    assert_eq!(rt; mark(alloc, &roots, &shelf)?.as_slice(), reached.as_slice());
+    let ring = [Thing::Actor(ActorName(0)), Thing::Obj(object(0, 4))];
+    let root = [Value::Obj(object(0, 4))];
+    assert_eq!(rt; mark(alloc, &root, &shelf)?.as_slice(), ring.as_slice());
+    assert_eq!(rt; mark(alloc, &[Value::Num(3)], &shelf)?.len(), 0);
+    Ok(())
+}
+
+#[test]
+fn walks_begin_at_their_roots(rt: HostRuntime) -> Result<(), Fail> {
+    let roots = [
+        Thing::Obj(object(6, 1)),
+        Thing::Actor(ActorName(2)),
+        Thing::Obj(object(6, 1)),
+    ];
+    let reached = [
+        Thing::Actor(ActorName(2)),
+        Thing::Actor(ActorName(6)),
+        Thing::Obj(object(6, 1)),
+    ];
+    assert_eq!(rt;
+        walk(rt.alloc(), &roots, &Nowhere)?.as_slice(),
+        reached.as_slice()
+    );
+    Ok(())
+}
