@@ -1,0 +1,39 @@
+-- The report of a run.
+use Rattle.std.specs.Prelude.{ℕ, List, [], ◌++◌, codes}
+use Rattle.std.specs.declared.option.Option.{Option}
+use Rattle.std.specs.Option.{option_map_or}
+use Rattle.std.specs.List.{flat_map}
+use Rattle.orca_names.specs.declared.names.Value.{Value}
+use Rattle.orca_names.specs.declared.tally.Sums.{Sums}
+use Rattle.event_rule.specs.declared.event.Event.{Event}
+use Rattle.run_book.specs.Books.{book_text}
+use Rattle.report_text.specs.declared.status.Status.{Status}
+use Rattle.report_text.specs.declared.numbers.Numbers.{Numbers}
+use Rattle.report_text.specs.Ends.{end_word}
+use Rattle.report_text.specs.Parts.{amount_text, thing_text, value_text}
+
+-- the line of a print
+abbrev pub print_line : Value → List ℕ
+print_line v = value_text v ++ codes "\n"
+
+-- the line of what was made and is left
+abbrev pub number_line : List ℕ → Numbers → List ℕ
+number_line what n = what ++ amount_text (codes "made") n.made ++ amount_text (codes "left") n.left ++ codes "\n"
+
+-- the line of a thing that is left, with its count and the four sums of the balance
+abbrev pub count_line : Sums → List ℕ
+count_line s =
+    thing_text s.thing ++ amount_text (codes "count") s.count ++ amount_text (codes "inc") s.inc ++ amount_text (codes "dec") s.dec
+    ++ amount_text (codes "held") s.held ++ amount_text (codes "letters") s.letters ++ codes "\n"
+
+-- the prints, how the run ended, what was made and is left, and where they are asked for, the
+-- counts and the book
+abbrev pub report_of : Status → List Value → Numbers → Numbers → Option (List Sums) → Option (List Event) → List ℕ
+report_of status prints actors objects counts book =
+    flat_map print_line prints
+    ++ codes "--\n"
+    ++ codes "end " ++ end_word status ++ codes "\n"
+    ++ number_line (codes "actors") actors
+    ++ number_line (codes "objects") objects
+    ++ option_map_or (flat_map count_line) counts []
+    ++ option_map_or book_text book []

@@ -1,0 +1,61 @@
+// How a call ends.
+
+ghost use Rattle.std.specs.Prelude.{◌≡◌};
+ghost use Rattle.report_text.specs.Ends.{code_of};
+
+use orca_names::ActorName;
+
+/// How a call ends.
+#[derive(Clone, Copy, Debug, PartialEq, Eq)]
+pub enum Status {
+    /// The run ended where no event is enabled.
+    Quiet,
+    /// The words have no reading.
+    BadWords,
+    /// The bytes are no program: the first line with a fault, counted from 1, and the fault's kind.
+    BadText {
+        line: u32,
+        kind: u8,
+    },
+    /// A rule of the checker fails: the first place, counted from 1, and the rule.
+    BadProgram {
+        kind: u64,
+        behaviour: u64,
+        step: u64,
+        rule: u8,
+    },
+    /// The run book is as long as the budget, and an event is enabled.
+    Budget,
+    /// This actor would make one more than may be made.
+    ActorsFull {
+        actor: ActorName,
+    },
+    /// The source failed.
+    ReadFault,
+    /// The sink failed while the report was written.
+    WriteFault,
+    /// Memory was refused.
+    NoMemory,
+    /// The source gave more bytes than a text may have.
+    TooLong,
+}
+
+impl Status {
+    /// The exit code.
+    pub fn code(&self) -> u8
+        ensures { result ≡ code_of self.now }
+    {
+        match self {
+            Status::Quiet => 0,
+            Status::BadWords => 2,
+            Status::BadText { .. } => 3,
+            Status::BadProgram { .. } => 4,
+            Status::Budget => 5,
+            Status::ActorsFull { .. } => 6,
+            Status::ReadFault => 7,
+            Status::WriteFault => 8,
+            Status::NoMemory => 9,
+            Status::TooLong => 10,
+        }
+    }
+}

@@ -1,0 +1,167 @@
+// Reports and refusal lines as literal bytes.
+
+use crate::{Numbers, Status, refusal_line, report};
+use event_rule::Event;
+use orca_names::{ActorName, ObjName, Sums, Tally, Thing, Value};
+use plain_list::Listed;
+use run_book::Book;
+use std::alloc::Global;
+use std::test::Fail;
+
+const NONE: Numbers = Numbers { made: 0, left: 0 };
+
+const MAIN: ActorName = ActorName(0);
+
+const ROW: ObjName = ObjName {
+    owner: MAIN,
+    serial: 0,
+};
+
+const fn sums(thing: Thing, count: u64, held: u64, letters: u64) -> Sums {
+    Sums {
+        thing,
+        count,
+        inc: 0,
+        dec: 0,
+        held,
+        letters,
+    }
+}
+
+fn book_of(alloc: Global, entries: &[Event]) -> Result<Book, Fail> {
+    let mut book = Book::new(alloc);
+    for entry in entries {
+        book.reserve(1)?;
+        book.push(*entry);
+    }
+    Ok(book)
+}
+
+#[test]
+fn a_program_that_prints_seven(rt: HostRuntime) -> Result<(), Fail> {
+    let alloc = rt.alloc();
+    let actors = Numbers { made: 1, left: 0 };
+    let quiet = report(
+        alloc,
+        &Status::Quiet,
+        &[Value::Num(7)],
+        actors,
+        NONE,
+        None,
+        None,
+    )?;
+    let lines = b"7\n--\nend quiet\nactors made 1 left 0\nobjects made 0 left 0\n";
+    assert_eq!(rt; quiet.as_slice(), lines.as_slice());
+    let entries = [
+        Event::Take(MAIN),
+        Event::Go(MAIN),
+        Event::Go(MAIN),
+        Event::Collect(MAIN),
+        Event::Block(MAIN),
+        Event::Hear,
+        Event::Scan,
+        Event::Take(MAIN),
+        Event::Hear,
+        Event::Reap(1),
+    ];
+    let book = book_of(alloc, &entries)?;
+    let whole = report(
+        alloc,
+        &Status::Quiet,
+        &[Value::Num(7)],
+        actors,
+        NONE,
+        None,
+        Some(&book),
+    )?;
+    let events =
+        b"book 1\ntake 0\ngo 0\ngo 0\ncollect 0\nblock 0\nhear\nscan\ntake 0\nhear\nreap 1\n";
+    assert_eq!(rt; whole.len(), 129);
+    assert_eq!(rt; &whole[..58], lines.as_slice());
+    assert_eq!(rt; &whole[58..], events.as_slice());
+    Ok(())
+}
+
+#[test]
+fn counts_of_what_is_left(rt: HostRuntime) -> Result<(), Fail> {
+    let alloc = rt.alloc();
+    let second = ObjName {
+        owner: MAIN,
+        serial: 1,
+    };
+    let lines = [
+        sums(Thing::Actor(MAIN), 1, 0, 1),
+        sums(Thing::Obj(ROW), 1, 0, 1),
+        sums(Thing::Obj(second), 1, 0, 1),
+        sums(Thing::Actor(ActorName(1)), 256, 256, 0),
+    ];
+    let tally = Tally {
+        sums: Listed::of(lines.to_vec(alloc)?),
+    };
+    let two = Numbers { made: 2, left: 2 };
+    let bytes = report(alloc, &Status::Budget, &[], two, two, Some(&tally), None)?;
+    assert_eq!(rt;
+        bytes.as_slice(),
+        b"--\nend budget\nactors made 2 left 2\nobjects made 2 left 2\nactor 0 count 1 inc 0 dec 0 held 0 letters 1\nobject 0.0 count 1 inc 0 dec 0 held 0 letters 1\nobject 0.1 count 1 inc 0 dec 0 held 0 letters 1\nactor 1 count 256 inc 0 dec 0 held 256 letters 0\n".as_slice()
+    );
+    Ok(())
+}
+
+#[test]
+fn prints_of_each_kind(rt: HostRuntime) -> Result<(), Fail> {
+    let prints = [
+        Value::Actor(MAIN),
+        Value::Obj(ROW),
+        Value::Null,
+        Value::Num(u64::MAX),
+    ];
+    let all = Numbers {
+        made: 65536,
+        left: 65536,
+    };
+    let full = Status::ActorsFull { actor: MAIN };
+    let bytes = report(rt.alloc(), &full, &prints, all, NONE, None, None)?;
+    assert_eq!(rt;
+        bytes.as_slice(),
+        b"actor 0\nobject 0.0\nnull\n18446744073709551615\n--\nend actors\nactors made 65536 left 65536\nobjects made 0 left 0\n".as_slice()
+    );
+    Ok(())
+}
+
+#[test]
+fn refusals_and_codes(rt: HostRuntime) -> Result<(), Fail> {
+    let alloc = rt.alloc();
+    assert_eq!(rt;
+        refusal_line(alloc, &Status::BadWords)?.as_slice(),
+        b"refused words\n".as_slice()
+    );
+    assert_eq!(rt;
+        refusal_line(alloc, &Status::ReadFault)?.as_slice(),
+        b"refused read\n".as_slice()
+    );
+    assert_eq!(rt;
+        refusal_line(alloc, &Status::TooLong)?.as_slice(),
+        b"refused length\n".as_slice()
+    );
+    let text = Status::BadText {
+        line: 1027,
+        kind: 9,
+    };
+    assert_eq!(rt;
+        refusal_line(alloc, &text)?.as_slice(),
+        b"refused text line 1027 kind 9\n".as_slice()
+    );
+    let program = Status::BadProgram {
+        kind: 1,
+        behaviour: 2,
+        step: 3,
+        rule: 5,
+    };
+    let line = b"refused program kind 1 behaviour 2 step 3 rule 5\n";
+    assert_eq!(rt; refusal_line(alloc, &program)?.as_slice(), line.as_slice());
+    let ends = [Status::WriteFault, Status::NoMemory, program, Status::Quiet];
+    for (status, code) in ends.into_iter().zip([8, 9, 4, 0]) {
+        assert_eq!(rt; status.code(), code);
+    }
+    Ok(())
+}

@@ -1,0 +1,12 @@
+//! The order that the words after the program's name give.
+#![tactic(auto)]
+
+mod command;
+mod order;
+mod reading;
+
+pub use order::{Job, Order, WordErr};
+pub use reading::read_words;
+
+#[cfg(test)]
+mod tests;
