@@ -1,4 +1,5 @@
 -- The canonical text of a program is a text of it.
+use Rattle.behaviour_text.proofs.Choices.{both, and_true, either, neither, or_right, or_false, each_append}
 use Rattle.std.proofs.Common.{◌≡◌, ℕ, ◌+◌, ◌*◌, ◌<◌, ◌≤◌, ◌^◌, ◌||◌, ◌&&◌, ◌==◌, Bool, true, false, cond, not, List, [], ◌∷◌, ◌++◌, length, map, flat_map, filter, refl, ap, ap₂, sym, ◌∙◌, subst, arith, Option, Some, None, if◌then◌else◌, nat_le, leb-true, le-leb, le-ltb, eqb-true, ne_eqb, append-nil, append_assoc, length-append, decimal, zero, suc, All, inl, inr}
 use Rattle.std.proofs.Common.{Ok}
 use Rattle.behaviour_text.proofs.Again.{again}
@@ -9,8 +10,7 @@ use Rattle.text_lines.specs.Lines.{lines_of, without_empty_last, line_fault, is_
 use Rattle.text_lines.specs.declared.LineKind.{LineKind}
 use Rattle.text_lines.specs.declared.LineKind.TheVariants.{NotAscii, LongLine}
 use Rattle.text_lines.proofs.Splitting.{more_pieces}
-use Rattle.behaviour_text.proofs.Numerals.{own, both}
-use Rattle.behaviour_text.proofs.Shapes.{either}
+use Rattle.behaviour_text.proofs.Numerals.{own}
 use Rattle.behaviour_code.specs.Good.{Each, Fits64, NameFits, InstrIsGood, BehaviourIsGood, KindIsGood, ProgramIsGood}
 use Rattle.behaviour_code.specs.Names.{is_name_byte, is_name, text_of}
 use Rattle.behaviour_code.specs.declared.code.Behaviour.{Behaviour}
@@ -31,18 +31,6 @@ record IsVisible (b : ℕ) : Type 0 where
 
 seen : (b : ℕ) → is_visible b ≡ true → IsVisible b
 seen b h = let p = both (nat_le 33 b) (nat_le b 126) h in record { low = leb-true 33 b p.0; high = leb-true b 126 p.1 }
-
-and_true : (a b : Bool) → a ≡ true → b ≡ true → (a && b) ≡ true
-and_true true b h k = k
-and_true false b h k = cc
-
-or_false : (a b : Bool) → a ≡ false → b ≡ false → (a || b) ≡ false
-or_false true b h k = cc
-or_false false b h k = k
-
-or_right : (a b : Bool) → b ≡ true → (a || b) ≡ true
-or_right true b h = refl
-or_right false b h = h
 
 no_space : (b : ℕ) → IsVisible b → is_space b ≡ false
 no_space b v =
@@ -102,10 +90,6 @@ words_plain (w ∷ ws) h = words_back w ws h.0 h.1
 any_append : (p : ℕ → Bool) (xs ys : List ℕ) → list_any p xs ≡ false → list_any p ys ≡ false → list_any p (xs ++ ys) ≡ false
 any_append p [] ys h k = k
 any_append p (x ∷ xs) ys h k = let n = neither (p x) (list_any p xs) h in or_false (p x) (list_any p (xs ++ ys)) n.0 (any_append p xs ys n.1 k)
-  where
-    neither : (a b : Bool) → (a || b) ≡ false → (a ≡ false) × (b ≡ false)
-    neither true b h = cc
-    neither false b h = (refl, h)
 
 none_in : (p : ℕ → Bool) (w : List ℕ) → ((b : ℕ) → is_visible b ≡ true → p b ≡ false) → list_all is_visible w ≡ true → list_any p w ≡ false
 none_in p [] f h = refl
@@ -122,15 +106,7 @@ none_in_line p (w ∷ ws) s f h = any_append p w (rest_plain ws) (none_in p w f 
 any_none : (xs : List ℕ) → list_any (λ b. b == 10) xs ≡ false → All (λ x. (x == 10) ≡ false) xs
 any_none [] h i d k = absurd (omega arith)
 any_none (x ∷ xs) h zero d k = (neither (x == 10) (list_any (λ b. b == 10) xs) h).0
-  where
-    neither : (a b : Bool) → (a || b) ≡ false → (a ≡ false) × (b ≡ false)
-    neither true b h = cc
-    neither false b h = (refl, h)
 any_none (x ∷ xs) h (suc i) d k = any_none xs (neither (x == 10) (list_any (λ b. b == 10) xs) h).1 i d (omega arith)
-  where
-    neither : (a b : Bool) → (a || b) ≡ false → (a ≡ false) × (b ≡ false)
-    neither true b h = cc
-    neither false b h = (refl, h)
 
 -- the length of a line
 abbrev room : List (List ℕ) → ℕ
@@ -274,10 +250,6 @@ instr_line all (I.Print a) g = let s_a = decimal_short a g.fits in record { word
 
 end_line : Line behaviour_end
 end_line = record { words = (record { some = omega arith; seen = refl }, tt); short = omega arith; speaks = refl }
-
-each_append : (P : List (List ℕ) → Type 0) (xs ys : List (List (List ℕ))) → Each P xs → Each P ys → Each P (xs ++ ys)
-each_append P [] ys h k = k
-each_append P (x ∷ xs) ys h k = (h.0, each_append P xs ys h.1 k)
 
 body_lines : (all : List (List ℕ)) (is : List Instr) → Each (InstrIsGood all) is → Each Line (map (instr_words (text_of all)) is)
 body_lines all [] h = tt

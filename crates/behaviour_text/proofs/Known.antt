@@ -8,19 +8,11 @@ use Rattle.behaviour_code.specs.Names.{text_of, with_text, interned}
 use Rattle.behaviour_code.specs.declared.code.Behaviour.{Behaviour}
 use Rattle.behaviour_code.specs.declared.code.Kind.{Kind}
 use Rattle.behaviour_code.specs.declared.instr.Instr.{Instr}
-use Rattle.behaviour_text.specs.Text.{instr_words, behaviour_begin, kind_begin, behaviour_lines, kind_lines}
+use Rattle.behaviour_text.specs.Text.{instr_words, behaviour_begin, behaviour_end, kind_begin, behaviour_lines, kind_lines}
 use Rattle.behaviour_text.specs.declared.place.Stage.{Stage}
 use Rattle.behaviour_text.specs.declared.place.Stage.TheVariants.{Start, InKind, InBehaviour}
 use Rattle.behaviour_text.specs.declared.reader.Reader.{Reader}
 use Rattle.behaviour_code.specs.declared.instr.Instr.TheVariants as I
-
-pub each_push : {X : Type 0} (P : X → Type 0) (xs : List X) (x : X) → Each P xs → P x → Each P (xs ++ x ∷ [])
-each_push P [] x h k = (k, tt)
-each_push P (y ∷ ys) x h k = (h.0, each_push P ys x h.1 k)
-
-pub each_weaker : {X : Type 0} (P Q : X → Type 0) (xs : List X) → ((x : X) → P x → Q x) → Each P xs → Each Q xs
-each_weaker P Q [] f h = tt
-each_weaker P Q (x ∷ xs) f h = (f x h.0, each_weaker P Q xs f h.1)
 
 map_same : {X Y : Type 0} (P : X → Type 0) (f g : X → Y) (xs : List X) → ((x : X) → P x → f x ≡ g x) → Each P xs → map f xs ≡ map g xs
 map_same P f g [] h e = refl

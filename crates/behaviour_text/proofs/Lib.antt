@@ -1,5 +1,6 @@
 pub mod Again
 pub mod Canonical
+pub mod Choices
 pub mod Goodness
 pub mod Known
 pub mod Limits

@@ -1,23 +1,22 @@
 -- What is read keeps the limits.
+use Rattle.behaviour_text.proofs.Steps.{end_read, line_read}
+use Rattle.behaviour_text.proofs.Choices.{both, neither, option_or_none, no_fault, each_push}
 use Rattle.std.proofs.Common.{option_map, ◌≡◌, ℕ, ◌+◌, ◌<◌, ◌≤◌, ◌^◌, ◌&&◌, Bool, true, false, List, [], ◌∷◌, ◌++◌, length, drop, map, refl, sym, subst, arith, Option, Some, None, if◌then◌else◌, nat_lt, ltb-true, ltb-false, length-append, length-drop, zero, suc, All}
 use Rattle.std.proofs.Common.{Result, Ok, Err}
 use Rattle.text_lines.specs.Lines.{line_fault, lines_of}
-use Rattle.behaviour_text.proofs.Shapes.{option_or_none}
 use Rattle.std.specs.Str.Parse.{digits_value}
 use Rattle.std.proofs.lemmas.List.{length-map}
-use Rattle.behaviour_text.proofs.Numerals.{both}
 use Rattle.behaviour_text.proofs.Shapes.{fits, enough}
-use Rattle.behaviour_text.proofs.Known.{each_push}
-use Rattle.behaviour_text.proofs.Said.{on_place, inside_place, no_fault, neither}
-use Rattle.std.specs.Option.{option_or, unwrap_or}
+use Rattle.behaviour_text.proofs.Said.{on_place, inside_place}
+use Rattle.std.specs.Option.{unwrap_or}
 use Rattle.behaviour_code.specs.Good.{Each, Fits64, InstrFits}
 use Rattle.behaviour_code.specs.declared.code.Behaviour.{Behaviour}
 use Rattle.behaviour_code.specs.declared.code.Kind.{Kind}
 use Rattle.behaviour_code.specs.declared.code.Program.{Program}
 use Rattle.behaviour_code.specs.declared.instr.Instr.{Instr}
-use Rattle.behaviour_text.specs.Faults.{kind_fault, on_fault, inside_fault, body_fault, place_fault, word_fault, words_fault, kind_number, lowest_fault}
+use Rattle.behaviour_text.specs.Faults.{kind_fault, on_fault, inside_fault, body_fault, place_fault, word_fault, words_fault}
 use Rattle.behaviour_text.specs.Items.{register_of, instr_of, name_place}
-use Rattle.behaviour_text.specs.Reading.{start, kinds_begun, place_of, closed_at, closed, with_kind, with_on, with_end, with_instr, named, with_item, with_word, with_words, read_end, unless_fault, read_from, finished, finish, read_text}
+use Rattle.behaviour_text.specs.Reading.{start, kinds_begun, place_of, closed_at, closed, with_kind, with_on, with_end, with_instr, named, with_item, with_word, with_words, read_from, finished, finish, read_text}
 use Rattle.behaviour_text.specs.Table.{line_word, starts_with, fits_count, shape_fault}
 use Rattle.behaviour_text.specs.Words.{words_of, has_numeral_form, word_at, number_of, number_at}
 use Rattle.behaviour_text.specs.declared.place.Stage.{Stage}
@@ -176,22 +175,11 @@ unfolding words_fault with_words
 words_small r [] fault h = h
 words_small r (w ∷ ws) fault h = spoken_small r (starts_with 35 w) (line_word w) ws fault h
 
-no_line_fault : (n : ℕ) (o : Option ℕ) (rest : Result Reader (ℕ × ℕ)) (s : Reader) → unless_fault n o rest ≡ Ok s → (o ≡ None) × (rest ≡ Ok s)
-no_line_fault n None rest s h = (refl, h)
-no_line_fault n (Some k) rest s h = cc
-
-ended_at : (n : ℕ) (r s : Reader) (stage : Stage) → read_end n r stage ≡ Ok s → r ≡ s
-ended_at n r s InBehaviour h = cc
-ended_at n r s Start h = cc
-ended_at n r s InKind h = cc
-
 pub read_small : (n : ℕ) (r s : Reader) (lines : List (List ℕ)) → SmallAt r r.stage → read_from n r lines ≡ Ok s → SmallAt s s.stage
-unfolding read_from lowest_fault
-read_small n r s [] h e = subst (λ (x : Reader). SmallAt x x.stage) (ended_at n r s r.stage e) h
+read_small n r s [] h e = subst (λ (x : Reader). SmallAt x x.stage) (end_read n r s e).1 h
 read_small n r s (line ∷ lines) h e =
-    let parts = no_line_fault (n + 1) (option_or (option_map kind_number (line_fault line)) (words_fault (place_of r) (words_of line))) (read_from (n + 1) (with_words r (words_of line)) lines) s e in
-    let faults = option_or_none (option_map kind_number (line_fault line)) (words_fault (place_of r) (words_of line)) parts.0 in
-    read_small (n + 1) (with_words r (words_of line)) s lines (words_small r (words_of line) faults.1 h) parts.1
+    let read = line_read n r s line lines e in
+    read_small (n + 1) (with_words r (words_of line)) s lines (words_small r (words_of line) read.words h) read.rest
 
 pub closed_count : (r : Reader) (stage : Stage) → SmallAt r stage → length (closed_at stage r).kinds ≤ 256
 closed_count r Start h = let room = h.1 in omega arith

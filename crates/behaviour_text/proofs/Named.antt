@@ -1,27 +1,24 @@
 -- What is read has its names in order, each once.
+use Rattle.behaviour_text.proofs.Steps.{kept, end_read, line_read}
+use Rattle.behaviour_text.proofs.Choices.{or_right, option_or_none, filter_first, each_push}
 use Rattle.std.proofs.Common.{◌≡◌, ℕ, ◌+◌, ◌<◌, ◌||◌, Bool, true, false, cond, not, List, [], ◌∷◌, ◌++◌, length, map, flat_map, filter, refl, ap, sym, ◌∙◌, subst, arith, Option, Some, None, IfSome, Result, Ok, if◌then◌else◌, bytes_eq, slice_index_or, length-append, zero, suc, option_map, inl, inr}
 use Rattle.std.specs.List.{list_any}
 use Rattle.std.proofs.lemmas.Bool.{cases_lt}
 use Rattle.std.proofs.lemmas.Slice.Eq.{bytes_eq-Decides}
 use Rattle.text_lines.specs.Lines.{line_fault}
-use Rattle.behaviour_text.proofs.Shapes.{option_or_none, names_are}
-use Rattle.behaviour_text.proofs.Steps.{kept}
-use Rattle.behaviour_text.proofs.Known.{each_push}
+use Rattle.behaviour_text.proofs.Shapes.{names_are}
 use Rattle.behaviour_text.proofs.Reread.{opcode_for, operands_for, words_for, spelled_word}
-use Rattle.std.specs.Option.{option_or}
 use Rattle.behaviour_code.specs.Good.{Each, name_in, AreApart, instr_names, body_names, behaviours_names, kinds_names}
 use Rattle.behaviour_code.specs.Names.{is_name, with_text}
 use Rattle.behaviour_code.specs.declared.code.Behaviour.{Behaviour}
 use Rattle.behaviour_code.specs.declared.code.Kind.{Kind}
 use Rattle.behaviour_code.specs.declared.instr.Instr.{Instr}
-use Rattle.behaviour_text.specs.Faults.{place_fault, word_fault, words_fault, kind_number, lowest_fault}
+use Rattle.behaviour_text.specs.Faults.{place_fault, word_fault, words_fault}
 use Rattle.behaviour_text.specs.Items.{name_place}
-use Rattle.behaviour_text.specs.Reading.{place_of, named, with_named, with_word, with_words, read_end, unless_fault, read_from}
+use Rattle.behaviour_text.specs.Reading.{place_of, named, with_named, with_word, with_words, read_from}
 use Rattle.behaviour_text.specs.Table.{line_word, starts_with, shape_fault}
 use Rattle.behaviour_text.specs.Text.{instr_words, behaviour_lines, kind_lines, speaks, said_lines}
 use Rattle.behaviour_text.specs.Words.{words_of, word_at}
-use Rattle.behaviour_text.specs.declared.place.Stage.{Stage}
-use Rattle.behaviour_text.specs.declared.place.Stage.TheVariants.{Start, InKind, InBehaviour}
 use Rattle.behaviour_text.specs.declared.reader.Reader.{Reader}
 use Rattle.behaviour_text.specs.declared.table.LineWord.{LineWord}
 use Rattle.behaviour_text.specs.declared.table.LineWord.TheVariants as W
@@ -30,11 +27,7 @@ use Rattle.behaviour_code.specs.declared.instr.Instr.TheVariants as I
 any_at : (text : List ℕ) (names : List (List ℕ)) (i : ℕ) → i < length names → slice_index_or names i [] ≡ text → list_any (bytes_eq text) names ≡ true
 any_at text [] i h e = absurd (omega arith)
 any_at text (n ∷ ns) zero h e = ap (λ (b : Bool). b || list_any (bytes_eq text) ns) ((bytes_eq-Decides text n).1 (sym e))
-any_at text (n ∷ ns) (suc i) h e = or_true (bytes_eq text n) (list_any (bytes_eq text) ns) (any_at text ns i (omega arith) e)
-  where
-    or_true : (a b : Bool) → b ≡ true → (a || b) ≡ true
-    or_true true b h = refl
-    or_true false b h = h
+any_at text (n ∷ ns) (suc i) h e = or_right (bytes_eq text n) (list_any (bytes_eq text) ns) (any_at text ns i (omega arith) e)
 
 last_is : (names : List (List ℕ)) (text : List ℕ) (i : ℕ) → i ≡ length names → slice_index_or (names ++ text ∷ []) i [] ≡ text
 last_is [] text zero e = refl
@@ -129,34 +122,16 @@ unfolding words_fault with_words
 words_adds r [] fault = record { order = refl; ok = λ h. h }
 words_adds r (w ∷ ws) fault = spoken_adds r (starts_with 35 w) w ws fault
 
-split : (p : List (List ℕ) → Bool) (ws : List (List ℕ)) (rest : List (List (List ℕ))) → filter p (ws ∷ []) ++ filter p rest ≡ filter p (ws ∷ rest)
-split p ws rest = by_test (p ws)
-  where
-    by_test : (b : Bool) → cond b (ws ∷ []) [] ++ filter p rest ≡ cond b (ws ∷ filter p rest) (filter p rest)
-    by_test true = refl
-    by_test false = refl
-
-no_line_fault : (n : ℕ) (o : Option ℕ) (rest : Result Reader (ℕ × ℕ)) (s : Reader) → unless_fault n o rest ≡ Ok s → (o ≡ None) × (rest ≡ Ok s)
-no_line_fault n None rest s h = (refl, h)
-no_line_fault n (Some k) rest s h = cc
-
-ended_at : (n : ℕ) (r s : Reader) (stage : Stage) → read_end n r stage ≡ Ok s → r ≡ s
-ended_at n r s InBehaviour h = cc
-ended_at n r s Start h = cc
-ended_at n r s InKind h = cc
-
 pub read_adds : (n : ℕ) (r s : Reader) (lines : List (List ℕ)) → read_from n r lines ≡ Ok s → Adds r.names s.names (said_lines lines)
-unfolding read_from lowest_fault
-read_adds n r s [] e = subst (λ (x : Reader). Adds r.names x.names []) (ended_at n r s r.stage e) (record { order = refl; ok = λ h. h })
+read_adds n r s [] e = subst (λ (x : Reader). Adds r.names x.names []) (end_read n r s e).1 (record { order = refl; ok = λ h. h })
 read_adds n r s (line ∷ lines) e =
-    let parts = no_line_fault (n + 1) (option_or (option_map kind_number (line_fault line)) (words_fault (place_of r) (words_of line))) (read_from (n + 1) (with_words r (words_of line)) lines) s e in
-    let faults = option_or_none (option_map kind_number (line_fault line)) (words_fault (place_of r) (words_of line)) parts.0 in
-    let first = words_adds r (words_of line) faults.1 in
-    let rest = read_adds (n + 1) (with_words r (words_of line)) s lines parts.1 in
+    let read = line_read n r s line lines e in
+    let first = words_adds r (words_of line) read.words in
+    let rest = read_adds (n + 1) (with_words r (words_of line)) s lines read.rest in
     record {
       order = rest.order ∙ ap (λ (ns : List (List ℕ)). lines_names ns (said_lines lines)) first.order
           ∙ sym (names_append r.names (filter speaks (words_of line ∷ [])) (said_lines lines))
-          ∙ ap (lines_names r.names) (split speaks (words_of line) (map words_of lines));
+          ∙ ap (lines_names r.names) (filter_first speaks (words_of line) (map words_of lines));
       ok = λ h. rest.ok (first.ok h);
     }
 

@@ -1,4 +1,5 @@
 -- Numerals as std reads them.
+use Rattle.behaviour_text.proofs.Choices.{both, and_true}
 use Rattle.std.proofs.Common.{◌≡◌, ℕ, ◌<◌, ◌≤◌, ◌^◌, ◌&&◌, Bool, true, false, cond, List, [], ◌∷◌, length, refl, ap, sym, ◌∙◌, arith, nat_lt, Some, None, Result, Ok, Err, IsAscii, if◌then◌else◌, lt-ltb, leb-true, zero, suc, nat_le, le-ltb, map, filter}
 use denote.Ref.{Bor}
 use Rattle.std.specs.List.{list_all}
@@ -17,10 +18,6 @@ digits_test = search rules
 pub own : IsNumeralModel AreDigits (digits_value 10)
 own = numerals_by_value AreDigits digits_test
 
-pub both : (a b : Bool) → (a && b) ≡ true → (a ≡ true) × (b ≡ true)
-both true b h = (refl, h)
-both false b h = cc
-
 pub digits_form : (bs : List ℕ) → has_numeral_form bs ≡ true → AreDigits bs × (0 < length bs)
 digits_form [] h = cc
 digits_form (d ∷ []) h = (ap (λ (b : Bool). b && true) h, omega arith)
@@ -33,10 +30,6 @@ pub ascii_digits : (bs : List ℕ) → AreDigits bs → IsAscii bs
 ascii_digits [] h i = omega arith
 ascii_digits (d ∷ ds) h zero = small_digit d (both _ _ h).0
 ascii_digits (d ∷ ds) h (suc i) = ascii_digits ds (both _ _ h).1 i
-
-and_true : (b c : Bool) → b ≡ true → c ≡ true → (b && c) ≡ true
-and_true true c e h = h
-and_true false c e h = cc
 
 and_false : (b c : Bool) → c ≡ false → (b && c) ≡ false
 and_false true c h = h

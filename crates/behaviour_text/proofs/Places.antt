@@ -1,7 +1,7 @@
 -- The place of the next line follows from the words of each line.
+use Rattle.behaviour_text.proofs.Choices.{option_or_none}
 use Rattle.std.proofs.Common.{min, ◌≡◌, ℕ, ◌+◌, Bool, true, false, List, [], ◌∷◌, length, refl, ap, ap₂, sym, ◌∙◌, Option, Some, None, Result, Ok, Err, if◌then◌else◌, length-append, option_map}
 use Rattle.text_lines.specs.Lines.{lines_of, line_fault}
-use Rattle.behaviour_text.proofs.Shapes.{option_or_none}
 use Rattle.behaviour_text.proofs.Said.{on_place, inside_place}
 use Rattle.std.specs.Option.{option_or, option_map_or}
 use Rattle.behaviour_text.specs.Faults.{place_fault, word_fault, words_fault, kind_number, lowest_fault, behind_word, place_after, end_fault, first_from, first_fault}

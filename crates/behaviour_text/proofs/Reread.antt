@@ -1,11 +1,12 @@
 -- What an instruction is spelled as is read as that instruction.
+use Rattle.behaviour_text.proofs.Choices.{both, and_true}
 use Rattle.std.proofs.Common.{◌≡◌, ℕ, ◌+◌, ◌<◌, ◌≤◌, ◌^◌, Bool, true, false, List, [], ◌∷◌, ◌==◌, ◌&&◌, length, map, refl, ap, ap₂, sym, ◌∙◌, subst, arith, Option, Some, None, IfSome, if◌then◌else◌, is_some, nat_lt, decimal, get_or, not, All, le-leb, lt-ltb, ne_eqb, ◌⊎◌, inl, inr, zero, suc}
 use Rattle.std.specs.List.{list_all}
 use Rattle.std.specs.Str.Parse.{digits_value}
 use Rattle.std.proofs.lemmas.Fmt.{digits_decimal, digits_value-decimal, decimal_nonempty, first_decimal, decimal_digit}
 use Rattle.std.proofs.lemmas.Bool.{cases_lt}
 use Rattle.std.proofs.lemmas.List.{length-map}
-use Rattle.behaviour_text.proofs.Numerals.{own, both}
+use Rattle.behaviour_text.proofs.Numerals.{own}
 use Rattle.std.specs.Option.{unwrap_or}
 use Rattle.behaviour_code.specs.Good.{Fits64, InstrFits, name_in}
 use Rattle.behaviour_code.specs.Names.{is_name}
@@ -26,11 +27,7 @@ form_of : (ds : List ℕ) → list_all is_digit ds ≡ true → 0 < length ds �
 form_of [] h some k = absurd (omega arith)
 form_of (d ∷ []) h some k = (both (is_digit d) true h).0
 form_of (d ∷ e ∷ ds) h some (inl one) = absurd (omega arith)
-form_of (d ∷ e ∷ ds) h some (inr first) = both_true (not (d == 48)) (list_all is_digit (d ∷ e ∷ ds)) (ap not (ne_eqb d 48 (λ same. omega arith))) h
-  where
-    both_true : (a b : Bool) → a ≡ true → b ≡ true → (a && b) ≡ true
-    both_true true b h k = k
-    both_true false b h k = cc
+form_of (d ∷ e ∷ ds) h some (inr first) = and_true (not (d == 48)) (list_all is_digit (d ∷ e ∷ ds)) (ap not (ne_eqb d 48 (λ same. omega arith))) h
 
 one_or_more : (n : ℕ) → n < 2 ^ 64 → (length (decimal n) ≡ 1) ⊎ (48 < get_or (decimal n) 0 0)
 one_or_more n h =
@@ -154,10 +151,6 @@ operands_for text (I.New d k) = register d ∷ text k ∷ []
 operands_for text (I.Send to b values) = register to ∷ text b ∷ map register values
 operands_for text (I.Print a) = register a ∷ []
 
-abbrev pub name_or : ℕ → Option ℕ → ℕ
-name_or name None = name
-name_or name (Some other) = other
-
 pub words_for : (text : ℕ → List ℕ) (i : Instr) → instr_words text i ≡ spelling (W.Instr (opcode_for i)) ∷ operands_for text i
 words_for text (I.Drop d) = refl
 words_for text (I.Int d n) = refl
@@ -219,7 +212,7 @@ shape_read text (I.Send to b values) h named =
 shape_read text (I.Print a) h named = (nones _ _ (register_fits a h) refl)
 
 -- an instruction is read again
-pub instr_read : (text : ℕ → List ℕ) (i : Instr) (name : ℕ) → InstrFits i → instr_of (opcode_for i) (name_or name (name_in i)) (operands_for text i) ≡ i
+pub instr_read : (text : ℕ → List ℕ) (i : Instr) (name : ℕ) → InstrFits i → instr_of (opcode_for i) (unwrap_or (name_in i) name) (operands_for text i) ≡ i
 unfolding instr_of
 instr_read text (I.Drop d) name h = ap (λ (x_d : ℕ). I.Drop x_d) (number_read d h)
 instr_read text (I.Int d n) name h = ap₂ (λ (x_d x_n : ℕ). I.Int x_d x_n) (number_read d h.0) (number_read n h.1)

@@ -1,4 +1,5 @@
 -- What was read so far says what was in the lines.
+use Rattle.behaviour_text.proofs.Choices.{neither, no_fault}
 use Rattle.std.proofs.Common.{◌≡◌, ℕ, Bool, true, false, List, [], ◌∷◌, ◌++◌, ◌||◌, length, map, flat_map, refl, ap, sym, ◌∙◌, Option, Some, None, IfSome, if◌then◌else◌, nat_lt, append_assoc, append-nil, min}
 use Rattle.std.proofs.lemmas.List.{map-append}
 use Rattle.std.proofs.lemmas.List.Concat.{flat_map-append}
@@ -38,14 +39,6 @@ so_far_at text r stage = flat_map (kind_lines text) r.kinds ++ open_lines text r
 
 abbrev pub so_far : (ℕ → List ℕ) → Reader → Lines
 so_far text r = so_far_at text r r.stage
-
-pub no_fault : (b : Bool) (kind : ℕ) → if◌then◌else◌ {A = Option ℕ} b (Some kind) None ≡ None → b ≡ false
-no_fault true kind h = cc
-no_fault false kind h = refl
-
-pub neither : (a b : Bool) → (a || b) ≡ false → (a ≡ false) × (b ≡ false)
-neither true b h = cc
-neither false b h = (refl, h)
 
 one_line : (text : ℕ → List ℕ) (ks : List Kind) (k : Kind) → flat_map (kind_lines text) (ks ++ k ∷ []) ≡ flat_map (kind_lines text) ks ++ kind_lines text k
 one_line text ks k = flat_map-append (kind_lines text) ks (k ∷ []) ∙ ap (λ (t : Lines). flat_map (kind_lines text) ks ++ t) (append-nil (kind_lines text k))

@@ -1,14 +1,14 @@
 -- What a line without a fault in its operands is like.
+use Rattle.behaviour_text.proofs.Choices.{both, either, option_or_none, chosen_none}
 use Rattle.std.proofs.Common.{◌≡◌, ℕ, ◌+◌, ◌<◌, ◌≤◌, Bool, true, false, List, [], ◌∷◌, length, refl, arith, Option, Some, None, IfSome, if◌then◌else◌, ◌&&◌, leb-true, IsUtf8, nat_le, ◌||◌, ◌==◌, ◌⊎◌, inl, inr, eqb-true, IsAscii, zero, suc, map, subst}
 use Rattle.std.specs.List.{list_all}
 use Rattle.std.proofs.lemmas.Str.{IsUtf8-from_ascii}
 use Rattle.std.proofs.lemmas.List.{length-map}
 use denote.Ref.{Bor}
-use Rattle.behaviour_text.proofs.Numerals.{both}
-use Rattle.std.specs.Option.{option_or}
 use Rattle.behaviour_code.specs.Names.{is_name_byte, is_name}
 use Rattle.behaviour_text.specs.Faults.{place_fault, word_fault}
 use Rattle.behaviour_text.specs.Items.{name_place}
+use Rattle.behaviour_text.specs.Reading.{named}
 use Rattle.behaviour_text.specs.Table.{operands_of, most_further, operand_fault, operands_fault, lowest, fits_count, shape_fault}
 use Rattle.behaviour_text.specs.Words.{word_at}
 use Rattle.behaviour_text.specs.declared.place.Place.{Place}
@@ -17,10 +17,6 @@ use Rattle.behaviour_text.specs.declared.table.Operand.{Operand}
 use Rattle.behaviour_text.specs.declared.table.LineWord.TheVariants as W
 use Rattle.behaviour_text.specs.declared.table.Opcode.TheVariants as C
 use Rattle.behaviour_text.specs.declared.table.Operand.TheVariants as P
-
-chosen_none : (b : Bool) (x : Option ℕ) (kind : ℕ) → (if b then x else Some kind) ≡ None → (b ≡ true) × (x ≡ None)
-chosen_none true x kind h = (refl, h)
-chosen_none false x kind h = cc
 
 pub lowest_none : (a b : Option ℕ) → lowest a b ≡ None → (a ≡ None) × (b ≡ None)
 lowest_none None b h = (refl, h)
@@ -63,10 +59,6 @@ names_are (W.Instr C.New) ws h = let f = fits (W.Instr C.New) ws h in second_nam
 names_are (W.Instr C.Send) ws h = let f = fits (W.Instr C.Send) ws h in second_name _ _ ws (omega (arith, (enough (W.Instr C.Send) (length ws) f.0).0)) f.1
 names_are _ ws h = tt
 
-pub either : (a b : Bool) → (a || b) ≡ true → (a ≡ true) ⊎ (b ≡ true)
-either true b h = inl refl
-either false b h = inr h
-
 small_name_byte : (b : ℕ) → is_name_byte b ≡ true → b < 128
 small_name_byte b h =
     elim (either (((nat_le 48 b && nat_le b 57) || (nat_le 65 b && nat_le b 90)) || (b == 95)) (nat_le 97 b && nat_le b 122) h) [
@@ -87,10 +79,6 @@ ascii_name (b ∷ bs) h (suc i) = ascii_name bs (both _ _ h).1 i
 
 pub name_utf8 : (w : List ℕ) → is_name w ≡ true → IsUtf8 w
 name_utf8 w h = IsUtf8-from_ascii w (ascii_name w (both (nat_le 1 (length w) && nat_le (length w) 32) (list_all is_name_byte w) h).1)
-
-pub option_or_none : (a b : Option ℕ) → option_or a b ≡ None → (a ≡ None) × (b ≡ None)
-option_or_none None b h = (refl, h)
-option_or_none (Some a) b h = cc
 
 -- the operands are as many as the table's
 pub count_fits : (place : Place) (word : Option LineWord) (step : LineWord) (ws : List (Bor (List ℕ))) → word ≡ Some step →

@@ -1,4 +1,6 @@
 -- What is read without a fault is what the lines say.
+use Rattle.behaviour_text.proofs.Steps.{kept, end_read, line_read}
+use Rattle.behaviour_text.proofs.Choices.{option_or_none, filter_first, grown_by, each_push, each_weaker}
 use Rattle.std.proofs.Common.{option_map, ◌≡◌, ℕ, ◌+◌, ◌<◌, ◌≤◌, Bool, true, false, cond, not, List, [], ◌∷◌, ◌++◌, length, map, filter, refl, ap, sym, ◌∙◌, subst, arith, Option, Some, None, IfSome, Result, Ok, Err, if◌then◌else◌, bytes_eq, slice_index_or, append_assoc, append-nil, length-append}
 use Rattle.std.specs.List.{list_any}
 use Rattle.text_lines.specs.Lines.{line_fault}
@@ -7,20 +9,17 @@ use Rattle.std.proofs.Common.{zero, suc}
 use Rattle.behaviour_text.proofs.Said.{closed_said}
 use Rattle.text_lines.specs.declared.LineKind.{LineKind}
 use Rattle.text_lines.specs.declared.LineKind.TheVariants.{NotAscii, LongLine}
-use Rattle.behaviour_text.proofs.Shapes.{option_or_none}
-use Rattle.behaviour_text.proofs.Steps.{kept}
 use Rattle.behaviour_text.proofs.Said.{Lines, so_far, so_far_at, item_said, on_place, inside_place}
-use Rattle.behaviour_text.proofs.Known.{each_push, each_weaker, InstrKnown, BehaviourKnown, KindKnown, InKindKnown, InBehaviourKnown, OpenKnown, KnownAt, said_same, texts_kept, finds}
-use Rattle.std.specs.Option.{option_or}
+use Rattle.behaviour_text.proofs.Known.{InstrKnown, BehaviourKnown, KindKnown, InKindKnown, InBehaviourKnown, OpenKnown, KnownAt, said_same, texts_kept, finds}
 use Rattle.behaviour_code.specs.Good.{Each}
 use Rattle.behaviour_code.specs.Names.{text_of}
 use Rattle.behaviour_code.specs.declared.code.Behaviour.{Behaviour}
 use Rattle.behaviour_code.specs.declared.code.Kind.{Kind}
 use Rattle.behaviour_code.specs.declared.code.Program.{Program}
 use Rattle.behaviour_code.specs.declared.instr.Instr.{Instr}
-use Rattle.behaviour_text.specs.Faults.{body_fault, place_fault, word_fault, words_fault, kind_number, lowest_fault}
+use Rattle.behaviour_text.specs.Faults.{body_fault, place_fault, word_fault, words_fault}
 use Rattle.behaviour_text.specs.Items.{instr_of, name_place}
-use Rattle.behaviour_text.specs.Reading.{start, place_of, closed_at, closed, with_kind, with_on, with_end, with_instr, named, with_item, with_named, with_word, with_words, read_end, unless_fault, read_from, finished, finish, read_text}
+use Rattle.behaviour_text.specs.Reading.{start, place_of, closed_at, closed, with_kind, with_on, with_end, with_instr, named, with_item, with_named, with_word, with_words, read_from, finished, finish, read_text}
 use Rattle.behaviour_text.specs.Table.{line_word, starts_with, shape_fault}
 use Rattle.behaviour_text.specs.Text.{speaks, said_lines, AreClean, IsText}
 use Rattle.behaviour_text.specs.Words.{words_of, word_at, number_at}
@@ -107,10 +106,6 @@ record Numbers (names : List (List ℕ)) (place : Option ℕ) (ws : List (List �
   there : IfSome place (λ p. slice_index_or found.1 found.0 [] ≡ word_at ws p)
   within : IfSome place (λ p. found.0 < length found.1)
 
-grown_by : (b : Bool) (names : List (List ℕ)) (text : List ℕ) → length names ≤ length (if b then names else names ++ text ∷ [])
-grown_by true names text = omega arith
-grown_by false names text = omega (arith, length-append names (text ∷ []))
-
 numbers : (names : List (List ℕ)) (place : Option ℕ) (ws : List (List ℕ)) → Numbers names place ws (named names place ws)
 numbers names None ws = record { same = λ n h. refl; grown = omega arith; there = tt; within = tt }
 numbers names (Some p) ws =
@@ -174,56 +169,33 @@ unfolding words_fault with_words
 words_sound r [] fault h = silent r h
 words_sound r (w ∷ ws) fault h = spoken r (starts_with 35 w) w ws fault h
 
-split : (p : List (List ℕ) → Bool) (ws : List (List ℕ)) (rest : Lines) → filter p (ws ∷ []) ++ filter p rest ≡ filter p (ws ∷ rest)
-split p ws rest = by_test (p ws)
-  where
-    by_test : (b : Bool) → cond b (ws ∷ []) [] ++ filter p rest ≡ cond b (ws ∷ filter p rest) (filter p rest)
-    by_test true = refl
-    by_test false = refl
-
 -- what is left at the end
 pub record Reads (r s : Reader) (lines : List (List ℕ)) : Type 0 where
   pub says : Says r s (said_lines lines)
   pub clean : Each (λ line. line_fault line ≡ None) lines
   pub ended : s.stage ≡ InBehaviour → ⊥
 
-span_clean : (o : Option LineKind) → option_map kind_number o ≡ None → o ≡ None
-span_clean None h = refl
-span_clean (Some NotAscii) h = cc
-span_clean (Some LongLine) h = cc
-
-ended_at : (n : ℕ) (r s : Reader) (stage : Stage) → r.stage ≡ stage → read_end n r stage ≡ Ok s → (stage ≡ InBehaviour → ⊥) × (r ≡ s)
-ended_at n r s InBehaviour e h = cc
-ended_at n r s Start e h = (λ k. cc, cc)
-ended_at n r s InKind e h = (λ k. cc, cc)
-
-no_line_fault : (n : ℕ) (o : Option ℕ) (rest : Result Reader (ℕ × ℕ)) (s : Reader) → unless_fault n o rest ≡ Ok s → (o ≡ None) × (rest ≡ Ok s)
-no_line_fault n None rest s h = (refl, h)
-no_line_fault n (Some k) rest s h = cc
-
 pub read_sound : (n : ℕ) (r s : Reader) (lines : List (List ℕ)) → KnownAt (length r.names) r r.stage → read_from n r lines ≡ Ok s → Reads r s lines
-unfolding read_from lowest_fault
 read_sound n r s [] h e =
-    let end = ended_at n r s r.stage refl e in
+    let end = end_read n r s e in
     record {
       says = subst (λ (x : Reader). Says r x []) end.1 (silent r h);
       clean = tt;
       ended = subst (λ (x : Reader). x.stage ≡ InBehaviour → ⊥) end.1 end.0;
     }
 read_sound n r s (line ∷ lines) h e =
-    let parts = no_line_fault (n + 1) (option_or (option_map kind_number (line_fault line)) (words_fault (place_of r) (words_of line))) (read_from (n + 1) (with_words r (words_of line)) lines) s e in
-    let faults = option_or_none (option_map kind_number (line_fault line)) (words_fault (place_of r) (words_of line)) parts.0 in
-    let first = words_sound r (words_of line) faults.1 h in
-    let rest = read_sound (n + 1) (with_words r (words_of line)) s lines first.known parts.1 in
+    let read = line_read n r s line lines e in
+    let first = words_sound r (words_of line) read.words h in
+    let rest = read_sound (n + 1) (with_words r (words_of line)) s lines first.known read.rest in
     record {
       says = record {
         known = rest.says.known;
         said = rest.says.said
             ∙ ap (λ (t : Lines). t ++ said_lines lines) first.said
             ∙ append_assoc (so_far (text_of r.names) r) (filter speaks (words_of line ∷ [])) (said_lines lines)
-            ∙ ap (λ (t : Lines). so_far (text_of r.names) r ++ t) (split speaks (words_of line) (map words_of lines));
+            ∙ ap (λ (t : Lines). so_far (text_of r.names) r ++ t) (filter_first speaks (words_of line) (map words_of lines));
       };
-      clean = (span_clean (line_fault line) faults.0, rest.clean);
+      clean = (read.clean, rest.clean);
       ended = rest.ended;
     }
 

@@ -1,9 +1,10 @@
 -- A line without a fault is spelled as its item is.
+use Rattle.behaviour_text.proofs.Choices.{both, chosen_none}
 use Rattle.std.proofs.Common.{◌≡◌, ℕ, ◌+◌, ◌≤◌, ◌^◌, Bool, true, false, cond, List, [], ◌∷◌, ◌==◌, ◌&&◌, length, drop, map, find, refl, ap, ap₂, sym, ◌∙◌, subst, arith, Option, Some, None, IfSome, if◌then◌else◌, is_some, nat_lt, eqb-true, ltb-true, bytes_eq, decimal, codes, get_or, not, eq-eqb, min, ltb-false}
 use Rattle.std.proofs.lemmas.Slice.Eq.{bytes_eq-Decides}
 use Rattle.std.specs.Str.Parse.{digits_value}
 use Rattle.std.proofs.lemmas.Fmt.{decimal-digits_value}
-use Rattle.behaviour_text.proofs.Numerals.{own, digits_form, both}
+use Rattle.behaviour_text.proofs.Numerals.{own, digits_form}
 use Rattle.behaviour_text.proofs.Shapes.{lowest_none, fits, enough}
 use Rattle.std.specs.Option.{unwrap_or}
 use Rattle.behaviour_text.specs.Items.{register_of, register_at, instr_of, name_place}
@@ -45,10 +46,6 @@ number_there w (Some n) e h = numeral_again w n e
 pub number_again : (w : List ℕ) → is_some (numeral w) ≡ true → decimal (number_of w) ≡ w
 number_again w h = number_there w (numeral w) refl h
 
-no_kind : (b : Bool) (kind : ℕ) → if◌then◌else◌ {A = Option ℕ} b None (Some kind) ≡ None → b ≡ true
-no_kind true kind h = refl
-no_kind false kind h = cc
-
 no_kinds : (a b : Bool) (k m : ℕ) → if◌then◌else◌ {A = Option ℕ} a (if b then None else Some k) (Some m) ≡ None → (a ≡ true) × (b ≡ true)
 no_kinds true true k m h = (refl, refl)
 no_kinds true false k m h = cc
@@ -75,7 +72,7 @@ respelled (want ∷ wants) (w ∷ ws) = respell want w ∷ respelled wants ws
 operand_again : (want : Operand) (w : List ℕ) → operand_fault want w ≡ None → respell want w ≡ w
 operand_again P.Register w h = numbered_again 114 w h
 operand_again P.Field w h = numbered_again 102 w h
-operand_again P.Number w h = number_again w (no_kind (is_some (numeral w)) 5 h)
+operand_again P.Number w h = number_again w (chosen_none (is_some (numeral w)) None 5 h).0
 operand_again P.Name w h = refl
 
 operands_again : (wants : List Operand) (ws : List (List ℕ)) → operands_fault wants ws ≡ None → respelled wants ws ≡ ws

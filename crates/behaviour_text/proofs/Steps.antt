@@ -1,4 +1,5 @@
 -- One line more.
+use Rattle.behaviour_text.proofs.Choices.{option_or_none}
 use Rattle.std.proofs.Common.{option_map, ◌≡◌, ℕ, ◌+◌, ◌<◌, ◌≤◌, Bool, true, false, List, [], ◌∷◌, ◌++◌, length, drop, get_or, map, refl, ap, sym, ◌∙◌, subst, arith, Option, Some, None, Result, Ok, Err, if◌then◌else◌, bytes_eq, slice_range, zero, suc, length-append, add-one}
 use Rattle.std.specs.List.{list_any}
 use Rattle.std.proofs.Common.{drop_of_length-le}
@@ -138,3 +139,36 @@ closed_program r s e = cc (kept_at r.stage r)
 pub parsed : (bytes : List ℕ) (r s : Reader) → read_from 0 start (lines_of bytes) ≡ Ok r → s ≡ closed r → read_text bytes ≡ Ok (record { kinds = s.kinds; names = s.names })
 unfolding read_text
 parsed bytes r s told e = ap finish told ∙ ap (λ (p : Program). Ok p) (closed_program r s e)
+
+end_at : (n : ℕ) (r s : Reader) (stage : Stage) → read_end n r stage ≡ Ok s → (stage ≡ InBehaviour → ⊥) × (r ≡ s)
+end_at n r s InBehaviour h = cc
+end_at n r s Start h = (λ k. cc, cc)
+end_at n r s InKind h = (λ k. cc, cc)
+
+-- the last line is read
+pub end_read : (n : ℕ) (r s : Reader) → read_from n r [] ≡ Ok s → (r.stage ≡ InBehaviour → ⊥) × (r ≡ s)
+unfolding read_from
+end_read n r s h = end_at n r s r.stage h
+
+-- a line is read without a fault
+pub record LineRead (n : ℕ) (r s : Reader) (line : List ℕ) (lines : List (List ℕ)) : Type 0 where
+  pub clean : line_fault line ≡ None
+  pub words : words_fault (place_of r) (words_of line) ≡ None
+  pub rest : read_from (n + 1) (with_words r (words_of line)) lines ≡ Ok s
+
+without_fault : (n : ℕ) (fault : Option ℕ) (rest : Result Reader (ℕ × ℕ)) (s : Reader) → unless_fault n fault rest ≡ Ok s → (fault ≡ None) × (rest ≡ Ok s)
+without_fault n None rest s h = (refl, h)
+without_fault n (Some kind) rest s h = cc
+
+clean_line : (fault : Option LineKind) → option_map kind_number fault ≡ None → fault ≡ None
+clean_line None h = refl
+clean_line (Some kind) h = cc
+
+pub line_read : (n : ℕ) (r s : Reader) (line : List ℕ) (lines : List (List ℕ)) → read_from n r (line ∷ lines) ≡ Ok s → LineRead n r s line lines
+unfolding read_from lowest_fault
+line_read n r s line lines h =
+    let own = option_map kind_number (line_fault line) in
+    let words = words_fault (place_of r) (words_of line) in
+    let parts = without_fault (n + 1) (option_or own words) (read_from (n + 1) (with_words r (words_of line)) lines) s h in
+    let faults = option_or_none own words parts.0 in
+    record { clean = clean_line (line_fault line) faults.0; words = faults.1; rest = parts.1 }

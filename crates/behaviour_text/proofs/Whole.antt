@@ -1,9 +1,10 @@
 -- The lines of a program are read as that program.
+use Rattle.behaviour_text.proofs.Choices.{grown_by}
 use Rattle.std.proofs.Common.{◌≡◌, ℕ, ◌<◌, ◌≤◌, Bool, true, false, List, [], ◌∷◌, ◌++◌, length, refl, ap, ap₂, sym, ◌∙◌, subst, arith, Option, Some, None, IfSome, if◌then◌else◌, le-ltb, bytes_eq, length-append}
 use Rattle.std.specs.List.{list_any}
 use Rattle.behaviour_text.proofs.Known.{finds, texts_kept}
-use Rattle.behaviour_text.proofs.Reread.{opcode_for, operands_for, name_or, words_for, shape_read, instr_read, spelled_word}
-use Rattle.std.specs.Option.{option_or}
+use Rattle.behaviour_text.proofs.Reread.{opcode_for, operands_for, words_for, shape_read, instr_read, spelled_word}
+use Rattle.std.specs.Option.{option_or, unwrap_or}
 use Rattle.behaviour_code.specs.Good.{InstrFits, name_in, AreApart, NameFits, instr_names}
 use Rattle.behaviour_code.specs.Names.{is_name, text_of, with_text, interned}
 use Rattle.behaviour_code.specs.declared.instr.Instr.{Instr}
@@ -23,10 +24,6 @@ use Rattle.behaviour_code.specs.declared.instr.Instr.TheVariants as I
 pub record IsFront (names all : List (List ℕ)) : Type 0 where
   pub same : (n : ℕ) → n < length names → text_of names n ≡ text_of all n
   pub short : length names ≤ length all
-
-grown_by : (b : Bool) (names : List (List ℕ)) (text : List ℕ) → length names ≤ length (if b then names else names ++ text ∷ [])
-grown_by true names text = omega arith
-grown_by false names text = omega (arith, length-append names (text ∷ []))
 
 pub front_before : (names all : List (List ℕ)) (text : List ℕ) → IsFront (with_text names text) all → IsFront names all
 front_before names all text h =
@@ -105,7 +102,7 @@ few_enough : (n : ℕ) → n < 1024 → body_fault n ≡ None
 few_enough n h = ap (λ (b : Bool). if◌then◌else◌ {A = Option ℕ} b (Some 9) None) (le-ltb 1023 n (omega arith))
 
 name_found : (names all : List (List ℕ)) (o : Option ℕ) → AreApart all → IfSome o (NameFits all) → IsFront (instr_names (text_of all) names o) all →
-    (named_by names (text_of all) o).0 ≡ name_or 0 o
+    (named_by names (text_of all) o).0 ≡ unwrap_or o 0
 name_found names all None apart fits front = refl
 name_found names all (Some l) apart fits front = number_found names all l apart fits.within front
 
