@@ -1,0 +1,16 @@
+pub mod Again
+pub mod Canonical
+pub mod Choices
+pub mod Goodness
+pub mod Known
+pub mod Limits
+pub mod Named
+pub mod Numerals
+pub mod Places
+pub mod Reread
+pub mod Said
+pub mod Shapes
+pub mod Sound
+pub mod Spelling
+pub mod Steps
+pub mod Whole

@@ -1,0 +1,64 @@
+-- Numerals as std reads them.
+use Rattle.behaviour_text.proofs.Choices.{both, and_true}
+use Rattle.std.proofs.Common.{◌≡◌, ℕ, ◌<◌, ◌≤◌, ◌^◌, ◌&&◌, Bool, true, false, cond, List, [], ◌∷◌, length, refl, ap, sym, ◌∙◌, arith, nat_lt, Some, None, Result, Ok, Err, IsAscii, if◌then◌else◌, lt-ltb, leb-true, zero, suc, nat_le, le-ltb, map, filter}
+use denote.Ref.{Bor}
+use Rattle.std.specs.List.{list_all}
+use Rattle.std.specs.Result.{OkIff, result_ok}
+use Rattle.std.specs.Str.Parse.{ParsesUnsigned, digits_value}
+use Rattle.std.proofs.lemmas.Str.Parse.{IsDigitsTest, IsNumeralModel, numerals_by_value, parse_digits}
+use borrow.Author.Rules.{rules}
+use Rattle.behaviour_text.specs.Words.{has_numeral_form, numeral, is_digit, is_word}
+
+abbrev AreDigits : List ℕ → Type 0
+AreDigits ds = list_all is_digit ds ≡ true
+
+digits_test : IsDigitsTest AreDigits
+digits_test = search rules
+
+pub own : IsNumeralModel AreDigits (digits_value 10)
+own = numerals_by_value AreDigits digits_test
+
+pub digits_form : (bs : List ℕ) → has_numeral_form bs ≡ true → AreDigits bs × (0 < length bs)
+digits_form [] h = cc
+digits_form (d ∷ []) h = (ap (λ (b : Bool). b && true) h, omega arith)
+digits_form (d ∷ e ∷ ds) h = ((both _ _ h).1, omega arith)
+
+small_digit : (d : ℕ) → is_digit d ≡ true → d < 128
+small_digit d h = let small : d ≤ 57 = leb-true d 57 (both (nat_le 48 d) (nat_le d 57) h).1 in omega arith
+
+pub ascii_digits : (bs : List ℕ) → AreDigits bs → IsAscii bs
+ascii_digits [] h i = omega arith
+ascii_digits (d ∷ ds) h zero = small_digit d (both _ _ h).0
+ascii_digits (d ∷ ds) h (suc i) = ascii_digits ds (both _ _ h).1 i
+
+and_false : (b c : Bool) → c ≡ false → (b && c) ≡ false
+and_false true c h = h
+and_false false c h = refl
+
+bounded : (b : Bool) (n : ℕ) → b ≡ true → n < 2 ^ 64 → Some n ≡ (if b && nat_lt n (2 ^ 64) then Some n else None)
+bounded b n e h = ap (λ (x : Bool). if x then Some n else None) (sym (and_true b (nat_lt n (2 ^ 64)) e (lt-ltb n (2 ^ 64) h)))
+
+unbounded : (b : Bool) (n : ℕ) → (n < 2 ^ 64 → ⊥) → None ≡ (if b && nat_lt n (2 ^ 64) then Some n else None)
+unbounded b n h = ap (λ (x : Bool). if x then Some n else None) (sym (and_false b (nat_lt n (2 ^ 64)) (le-ltb n (2 ^ 64) (omega arith))))
+
+read : {E : Type 0} (bs : List ℕ) (r : Result ℕ E) → OkIff r ((0 < length bs) × (digits_value 10 bs < 2 ^ 64)) (digits_value 10 bs) →
+    0 < length bs → has_numeral_form bs ≡ true → result_ok r ≡ numeral bs
+read bs (Ok n) iff some form = ap Some iff.1 ∙ bounded (has_numeral_form bs) (digits_value 10 bs) form iff.0.1
+read bs (Err e) iff some form = unbounded (has_numeral_form bs) (digits_value 10 bs) (λ h. iff (some, h))
+
+pub numeral_is : {E : Type 0} (bs : List ℕ) (r : Result ℕ E) → ParsesUnsigned 64 10 bs r → has_numeral_form bs ≡ true → result_ok r ≡ numeral bs
+numeral_is bs r h form =
+    read bs r (parse_digits own 64 bs r h (digits_form bs form).0) (digits_form bs form).1 form
+
+onto : (b : Bool) (w : Bor (List ℕ)) (ws : List (Bor (List ℕ))) →
+    map (λ (x : Bor (List ℕ)). x.now) (cond b (w ∷ ws) ws) ≡ cond b (w.now ∷ map (λ (x : Bor (List ℕ)). x.now) ws) (map (λ (x : Bor (List ℕ)). x.now) ws)
+onto true w ws = refl
+onto false w ws = refl
+
+-- which words are kept depends on what they point to
+pub words_now : (ws : List (Bor (List ℕ))) →
+    map (λ (x : Bor (List ℕ)). x.now) (filter (λ (x : Bor (List ℕ)). is_word x.now) ws) ≡ filter is_word (map (λ (x : Bor (List ℕ)). x.now) ws)
+words_now [] = refl
+words_now (w ∷ ws) =
+    onto (is_word w.now) w (filter (λ (x : Bor (List ℕ)). is_word x.now) ws)
+    ∙ ap (λ (t : List (List ℕ)). cond (is_word w.now) (w.now ∷ t) t) (words_now ws)

@@ -1,0 +1,95 @@
+-- What a line without a fault in its operands is like.
+use Rattle.behaviour_text.proofs.Choices.{both, either, option_or_none, chosen_none}
+use Rattle.std.proofs.Common.{◌≡◌, ℕ, ◌+◌, ◌<◌, ◌≤◌, Bool, true, false, List, [], ◌∷◌, length, refl, arith, Option, Some, None, IfSome, if◌then◌else◌, ◌&&◌, leb-true, IsUtf8, nat_le, ◌||◌, ◌==◌, ◌⊎◌, inl, inr, eqb-true, IsAscii, zero, suc, map, subst}
+use Rattle.std.specs.List.{list_all}
+use Rattle.std.proofs.lemmas.Str.{IsUtf8-from_ascii}
+use Rattle.std.proofs.lemmas.List.{length-map}
+use denote.Ref.{Bor}
+use Rattle.behaviour_code.specs.Names.{is_name_byte, is_name}
+use Rattle.behaviour_text.specs.Faults.{place_fault, word_fault}
+use Rattle.behaviour_text.specs.Items.{name_place}
+use Rattle.behaviour_text.specs.Reading.{named}
+use Rattle.behaviour_text.specs.Table.{operands_of, most_further, operand_fault, operands_fault, lowest, fits_count, shape_fault}
+use Rattle.behaviour_text.specs.Words.{word_at}
+use Rattle.behaviour_text.specs.declared.place.Place.{Place}
+use Rattle.behaviour_text.specs.declared.table.LineWord.{LineWord}
+use Rattle.behaviour_text.specs.declared.table.Operand.{Operand}
+use Rattle.behaviour_text.specs.declared.table.LineWord.TheVariants as W
+use Rattle.behaviour_text.specs.declared.table.Opcode.TheVariants as C
+use Rattle.behaviour_text.specs.declared.table.Operand.TheVariants as P
+
+pub lowest_none : (a b : Option ℕ) → lowest a b ≡ None → (a ≡ None) × (b ≡ None)
+lowest_none None b h = (refl, h)
+lowest_none (Some a) None h = cc
+lowest_none (Some a) (Some b) h = cc
+
+pub fits : (word : LineWord) (ws : List (List ℕ)) → shape_fault word ws ≡ None → (fits_count word (length ws) ≡ true) × (operands_fault (operands_of word) ws ≡ None)
+unfolding shape_fault
+fits word ws h = chosen_none (fits_count word (length ws)) (operands_fault (operands_of word) ws) 4 h
+
+pub enough : (word : LineWord) (n : ℕ) → fits_count word n ≡ true → (length (operands_of word) ≤ n) × (n ≤ length (operands_of word) + most_further word)
+enough word n h =
+    let parts = both (nat_le (length (operands_of word)) n) (nat_le n (length (operands_of word) + most_further word)) h in
+    (leb-true _ _ parts.0, leb-true _ _ parts.1)
+
+pub name_fits : (w : List ℕ) → operand_fault P.Name w ≡ None → is_name w ≡ true
+name_fits w h = named (is_name w) h
+  where
+    named : (b : Bool) → if◌then◌else◌ {A = Option ℕ} b None (Some 6) ≡ None → b ≡ true
+    named true h = refl
+    named false h = cc
+
+first_name : (wants : List Operand) (ws : List (List ℕ)) → 1 ≤ length ws → operands_fault (P.Name ∷ wants) ws ≡ None → is_name (word_at ws 0) ≡ true
+first_name wants [] some h = absurd (omega arith)
+first_name wants (w ∷ ws) some h = name_fits w (lowest_none (operand_fault P.Name w) (operands_fault wants ws) h).0
+
+second_name : (want : Operand) (wants : List Operand) (ws : List (List ℕ)) → 2 ≤ length ws → operands_fault (want ∷ P.Name ∷ wants) ws ≡ None → is_name (word_at ws 1) ≡ true
+second_name want wants [] some h = absurd (omega arith)
+second_name want wants (w ∷ ws) some h =
+    first_name wants ws (omega arith) (lowest_none (operand_fault want w) (operands_fault (P.Name ∷ wants) ws) h).1
+
+-- a line's name is one
+pub names_are : (word : LineWord) (ws : List (List ℕ)) → shape_fault word ws ≡ None → IfSome (name_place word) (λ place. is_name (word_at ws place) ≡ true)
+names_are W.Kind ws h = let f = fits W.Kind ws h in first_name _ ws (omega (arith, (enough W.Kind (length ws) f.0).0)) f.1
+names_are W.On ws h = let f = fits W.On ws h in first_name _ ws (omega (arith, (enough W.On (length ws) f.0).0)) f.1
+names_are (W.Instr C.Jump) ws h = let f = fits (W.Instr C.Jump) ws h in first_name _ ws (omega (arith, (enough (W.Instr C.Jump) (length ws) f.0).0)) f.1
+names_are (W.Instr C.Label) ws h = let f = fits (W.Instr C.Label) ws h in first_name _ ws (omega (arith, (enough (W.Instr C.Label) (length ws) f.0).0)) f.1
+names_are (W.Instr C.JumpZero) ws h = let f = fits (W.Instr C.JumpZero) ws h in second_name _ _ ws (omega (arith, (enough (W.Instr C.JumpZero) (length ws) f.0).0)) f.1
+names_are (W.Instr C.New) ws h = let f = fits (W.Instr C.New) ws h in second_name _ _ ws (omega (arith, (enough (W.Instr C.New) (length ws) f.0).0)) f.1
+names_are (W.Instr C.Send) ws h = let f = fits (W.Instr C.Send) ws h in second_name _ _ ws (omega (arith, (enough (W.Instr C.Send) (length ws) f.0).0)) f.1
+names_are _ ws h = tt
+
+small_name_byte : (b : ℕ) → is_name_byte b ≡ true → b < 128
+small_name_byte b h =
+    elim (either (((nat_le 48 b && nat_le b 57) || (nat_le 65 b && nat_le b 90)) || (b == 95)) (nat_le 97 b && nat_le b 122) h) [
+      | inl front ↦ elim (either ((nat_le 48 b && nat_le b 57) || (nat_le 65 b && nat_le b 90)) (b == 95) front) [
+        | inl letters ↦ elim (either (nat_le 48 b && nat_le b 57) (nat_le 65 b && nat_le b 90) letters) [
+          | inl digit ↦ let small : b ≤ 57 = leb-true b 57 (both (nat_le 48 b) (nat_le b 57) digit).1 in omega arith
+          | inr capital ↦ let small : b ≤ 90 = leb-true b 90 (both (nat_le 65 b) (nat_le b 90) capital).1 in omega arith
+        ]
+        | inr under ↦ let same : b ≡ 95 = eqb-true b 95 under in omega arith
+      ]
+      | inr letter ↦ let small : b ≤ 122 = leb-true b 122 (both (nat_le 97 b) (nat_le b 122) letter).1 in omega arith
+    ]
+
+ascii_name : (bs : List ℕ) → list_all is_name_byte bs ≡ true → IsAscii bs
+ascii_name [] h i = omega arith
+ascii_name (b ∷ bs) h zero = small_name_byte b (both _ _ h).0
+ascii_name (b ∷ bs) h (suc i) = ascii_name bs (both _ _ h).1 i
+
+pub name_utf8 : (w : List ℕ) → is_name w ≡ true → IsUtf8 w
+name_utf8 w h = IsUtf8-from_ascii w (ascii_name w (both (nat_le 1 (length w) && nat_le (length w) 32) (list_all is_name_byte w) h).1)
+
+-- the operands are as many as the table's
+pub count_fits : (place : Place) (word : Option LineWord) (step : LineWord) (ws : List (Bor (List ℕ))) → word ≡ Some step →
+    word_fault place word (map (λ (w : Bor (List ℕ)). w.now) ws) ≡ None → fits_count step (length ws) ≡ true
+count_fits place word step ws e h =
+    let at : word_fault place (Some step) (map (λ (w : Bor (List ℕ)). w.now) ws) ≡ None =
+    subst (λ (o : Option LineWord). word_fault place o (map (λ (w : Bor (List ℕ)). w.now) ws) ≡ None) e h in
+    let count = (fits step (map (λ (w : Bor (List ℕ)). w.now) ws)
+    (option_or_none (shape_fault step (map (λ (w : Bor (List ℕ)). w.now) ws)) (place_fault place step (map (λ (w : Bor (List ℕ)). w.now) ws)) at).0).0 in
+    subst (λ (n : ℕ). fits_count step n ≡ true) (length-map ws (λ (w : Bor (List ℕ)). w.now)) count
+
+pub name_at : (word : LineWord) (place : ℕ) (ws : List (List ℕ)) → name_place word ≡ Some place → shape_fault word ws ≡ None → is_name (word_at ws place) ≡ true
+name_at word place ws e h =
+    subst (λ (o : Option ℕ). IfSome o (λ (p : ℕ). is_name (word_at ws p) ≡ true)) e (names_are word ws h)

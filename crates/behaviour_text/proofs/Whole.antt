@@ -1,0 +1,143 @@
+-- The lines of a program are read as that program.
+use Rattle.behaviour_text.proofs.Choices.{grown_by}
+use Rattle.std.proofs.Common.{◌≡◌, ℕ, ◌<◌, ◌≤◌, Bool, true, false, List, [], ◌∷◌, ◌++◌, length, refl, ap, ap₂, sym, ◌∙◌, subst, arith, Option, Some, None, IfSome, if◌then◌else◌, le-ltb, bytes_eq, length-append}
+use Rattle.std.specs.List.{list_any}
+use Rattle.behaviour_text.proofs.Known.{finds, texts_kept}
+use Rattle.behaviour_text.proofs.Reread.{opcode_for, operands_for, words_for, shape_read, instr_read, spelled_word}
+use Rattle.std.specs.Option.{option_or, unwrap_or}
+use Rattle.behaviour_code.specs.Good.{InstrFits, name_in, AreApart, NameFits, instr_names}
+use Rattle.behaviour_code.specs.Names.{is_name, text_of, with_text, interned}
+use Rattle.behaviour_code.specs.declared.instr.Instr.{Instr}
+use Rattle.behaviour_text.specs.Faults.{inside_fault, body_fault, place_fault, word_fault, words_fault}
+use Rattle.behaviour_text.specs.Items.{instr_of, name_place}
+use Rattle.behaviour_text.specs.Reading.{place_of, with_instr, named, with_named, with_word, with_words}
+use Rattle.behaviour_text.specs.Table.{spelling, starts_with, shape_fault}
+use Rattle.behaviour_text.specs.Text.{instr_words}
+use Rattle.behaviour_text.specs.declared.place.Stage.TheVariants.{InBehaviour}
+use Rattle.behaviour_text.specs.declared.reader.Reader.{Reader}
+use Rattle.behaviour_text.specs.declared.table.LineWord.{LineWord}
+use Rattle.behaviour_text.specs.declared.table.LineWord.TheVariants as W
+use Rattle.behaviour_text.specs.declared.table.Opcode.TheVariants as C
+use Rattle.behaviour_code.specs.declared.instr.Instr.TheVariants as I
+
+-- names is the front of all
+pub record IsFront (names all : List (List ℕ)) : Type 0 where
+  pub same : (n : ℕ) → n < length names → text_of names n ≡ text_of all n
+  pub short : length names ≤ length all
+
+pub front_before : (names all : List (List ℕ)) (text : List ℕ) → IsFront (with_text names text) all → IsFront names all
+front_before names all text h =
+    let grown = grown_by (list_any (bytes_eq text) names) names text in
+    let short = h.short in
+    record { same = λ n k. texts_kept names text n k ∙ h.same n (omega arith); short = omega arith }
+
+-- a name's text is given its number
+pub number_found : (names all : List (List ℕ)) (n : ℕ) → AreApart all → n < length all → IsFront (with_text names (text_of all n)) all → (interned names (text_of all n)).0 ≡ n
+number_found names all n apart within front =
+    let f = finds names (text_of all n) in
+    let p : ℕ = (interned names (text_of all n)).0 in
+    let short = front.short in
+    let inside = f.within in
+    apart.apart p n (omega arith) within (sym (front.same p inside) ∙ f.said)
+
+-- the name in an instruction, 0 where it has none, and the texts after it
+abbrev named_by : List (List ℕ) → (ℕ → List ℕ) → Option ℕ → ℕ × List (List ℕ)
+named_by names text None = (0, names)
+named_by names text (Some name) = interned names (text name)
+
+names_by : (names : List (List ℕ)) (text : ℕ → List ℕ) (o : Option ℕ) → (named_by names text o).1 ≡ instr_names text names o
+names_by names text None = refl
+names_by names text (Some name) = refl
+
+named_for : (names : List (List ℕ)) (text : ℕ → List ℕ) (i : Instr) → named names (name_place (W.Instr (opcode_for i))) (operands_for text i) ≡ named_by names text (name_in i)
+named_for names text (I.Drop d) = refl
+named_for names text (I.Int d n) = refl
+named_for names text (I.Own d) = refl
+named_for names text (I.Copy d s) = refl
+named_for names text (I.Add d a b) = refl
+named_for names text (I.Sub d a b) = refl
+named_for names text (I.Mul d a b) = refl
+named_for names text (I.Less d a b) = refl
+named_for names text (I.Same d a b) = refl
+named_for names text (I.Row d values) = refl
+named_for names text (I.Get d s n) = refl
+named_for names text (I.Load d f) = refl
+named_for names text (I.Store f s) = refl
+named_for names text (I.Jump l) = refl
+named_for names text (I.JumpZero a l) = refl
+named_for names text (I.Label l) = refl
+named_for names text I.Pin = refl
+named_for names text I.Unpin = refl
+named_for names text (I.New d k) = refl
+named_for names text (I.Send to b values) = refl
+named_for names text (I.Print a) = refl
+
+no_hash : (word : LineWord) → starts_with 35 (spelling word) ≡ false
+no_hash W.Kind = refl
+no_hash W.On = refl
+no_hash W.End = refl
+no_hash (W.Instr C.Drop) = refl
+no_hash (W.Instr C.Int) = refl
+no_hash (W.Instr C.Own) = refl
+no_hash (W.Instr C.Copy) = refl
+no_hash (W.Instr C.Add) = refl
+no_hash (W.Instr C.Sub) = refl
+no_hash (W.Instr C.Mul) = refl
+no_hash (W.Instr C.Less) = refl
+no_hash (W.Instr C.Same) = refl
+no_hash (W.Instr C.Row) = refl
+no_hash (W.Instr C.Get) = refl
+no_hash (W.Instr C.Load) = refl
+no_hash (W.Instr C.Store) = refl
+no_hash (W.Instr C.Jump) = refl
+no_hash (W.Instr C.JumpZero) = refl
+no_hash (W.Instr C.Label) = refl
+no_hash (W.Instr C.Pin) = refl
+no_hash (W.Instr C.Unpin) = refl
+no_hash (W.Instr C.New) = refl
+no_hash (W.Instr C.Send) = refl
+no_hash (W.Instr C.Print) = refl
+
+few_enough : (n : ℕ) → n < 1024 → body_fault n ≡ None
+few_enough n h = ap (λ (b : Bool). if◌then◌else◌ {A = Option ℕ} b (Some 9) None) (le-ltb 1023 n (omega arith))
+
+name_found : (names all : List (List ℕ)) (o : Option ℕ) → AreApart all → IfSome o (NameFits all) → IsFront (instr_names (text_of all) names o) all →
+    (named_by names (text_of all) o).0 ≡ unwrap_or o 0
+name_found names all None apart fits front = refl
+name_found names all (Some l) apart fits front = number_found names all l apart fits.within front
+
+name_good : (all : List (List ℕ)) (o : Option ℕ) → IfSome o (NameFits all) → IfSome o (λ name. is_name (text_of all name) ≡ true)
+name_good all None h = tt
+name_good all (Some l) h = h.form
+
+-- a line without a fault, and what it leaves
+pub record Takes (r s : Reader) (ws : List (List ℕ)) : Type 0 where
+  pub clean : words_fault (place_of r) ws ≡ None
+  pub next : with_words r ws ≡ s
+
+-- what an operation with its operands leaves
+pub takes_word : (r s : Reader) (word : LineWord) (ws : List (List ℕ)) → shape_fault word ws ≡ None → place_fault (place_of r) word ws ≡ None → with_named r word (named r.names (name_place word) ws) ws ≡ s → Takes r s (spelling word ∷ ws)
+unfolding words_fault with_words
+takes_word r s word ws shape place next = record {
+  clean = ap₂ (λ (b : Bool) (o : Option LineWord). if◌then◌else◌ {A = Option ℕ} b None (word_fault (place_of r) o ws)) (no_hash word) (spelled_word word) ∙ ap₂ option_or shape place;
+  next = ap₂ (λ (b : Bool) (o : Option LineWord). if◌then◌else◌ {A = Reader} b r (with_word r o ws)) (no_hash word) (spelled_word word) ∙ next;
+}
+
+pub instr_takes : (all : List (List ℕ)) (r : Reader) (i : Instr) → AreApart all → r.stage ≡ InBehaviour → length r.body < 1024 → InstrFits i → IfSome (name_in i) (NameFits all) →
+    IsFront (instr_names (text_of all) r.names (name_in i)) all →
+    Takes r (record r { names = instr_names (text_of all) r.names (name_in i); body = r.body ++ i ∷ [] }) (instr_words (text_of all) i)
+unfolding with_instr
+instr_takes all r i apart stage few fits name front =
+    let text = text_of all in
+    let word = W.Instr (opcode_for i) in
+    let ws = operands_for text i in
+    let found = named_by r.names text (name_in i) in
+    let renamed : Reader = record r { names = found.1 } in
+    let place : place_fault (place_of r) word ws ≡ None = ap₂ inside_fault stage (few_enough (length r.body) few) in
+    let read : instr_of (opcode_for i) found.0 ws ≡ i =
+    ap (λ (n : ℕ). instr_of (opcode_for i) n ws) (name_found r.names all (name_in i) apart name front) ∙ instr_read text i 0 fits in
+    let next : with_named r word (named r.names (name_place word) ws) ws ≡ with_instr renamed i =
+    ap (λ (f : ℕ × List (List ℕ)). with_named r word f ws) (named_for r.names text i) ∙ ap (with_instr renamed) read in
+    let takes : Takes r (with_instr renamed i) (instr_words text i) =
+    subst (Takes r (with_instr renamed i)) (sym (words_for text i)) (takes_word r (with_instr renamed i) word ws (shape_read text i fits (name_good all (name_in i) name)) place next) in
+    subst (λ (names : List (List ℕ)). Takes r (record r { names = names; body = r.body ++ i ∷ [] }) (instr_words text i)) (names_by r.names text (name_in i)) takes

@@ -1,0 +1,6 @@
+pub mod Faults
+pub mod Items
+pub mod Reading
+pub mod Table
+pub mod Text
+pub mod Words

@@ -1,0 +1,133 @@
+// Reading a whole text.
+
+ghost use Rattle.std.specs.Prelude.{◌≡◌, ◌<◌, ◌≤◌, ◌^◌, OnOk, IfOk, IfErr, None, Ok, map, option_map, length, All};
+ghost use Rattle.std.specs.Option.{option_or};
+ghost use Rattle.text_lines.specs.Lines.{lines_of, line_at, tested};
+ghost use Rattle.behaviour_code.specs.Good.{ProgramIsGood};
+ghost use Rattle.behaviour_code.specs.declared.code.Program.{Program};
+ghost use Rattle.behaviour_text.specs.Faults.{kind_number, words_fault, first_fault, IsFault, Tells};
+ghost use Rattle.behaviour_text.specs.Reading.{start, place_of, read_from, read_text, read_end, fault_of, LineTaken};
+ghost use Rattle.behaviour_text.specs.Text.{IsText};
+ghost use Rattle.behaviour_text.specs.Words.{words_of};
+
+use crate::errors::TextErr;
+use crate::place::{Stage, words_fault};
+use crate::reader::Reader;
+use crate::words::words_of;
+use behaviour_code::Program;
+use std::alloc::Global;
+use text_lines::{LineKind, LineSpan, lines};
+
+fn kind_number(fault: LineKind) -> u8
+    ensures { result ≡ kind_number fault }
+{
+    match fault {
+        LineKind::NotAscii => 1,
+        LineKind::LongLine => 2,
+    }
+}
+
+/// The lowest fault of a line, of which the fault by itself is known.
+fn line_fault(reader: &Reader, fault: Option<LineKind>, words: &[&[u8]]) -> Option<u8>
+    ensures { result ≡ option_or (option_map kind_number fault) (words_fault (place_of reader.now) (map (λ w. w.now) words.now)) }
+{
+    match fault {
+        Some(fault) => Some(kind_number(fault)),
+        None => words_fault(reader.place(), words),
+    }
+}
+
+/// Takes the line of a number.
+fn take_line(
+    reader: &mut Reader,
+    alloc: Global,
+    number: u32,
+    line: &[u8],
+    fault: Option<LineKind>,
+) -> Result<(), TextErr>
+    requires { length reader.old.names < 2 ^ 32 }
+    ensures ok { OnOk result (LineTaken reader.old reader.new line.now fault) }
+    ensures fault { IfErr result (Tells (option_map (λ kind. (number, kind)) (option_or (option_map kind_number fault) (words_fault (place_of reader.old) (words_of line.now))))) }
+{
+    let words = words_of(alloc, line)?;
+    match line_fault(reader, fault, &words) {
+        Some(kind) => Err(TextErr::Fault { line: number, kind }),
+        None => {
+            reader.take_words(alloc, &words)?;
+            Ok(())
+        }
+    }
+}
+
+/// Whether the text may end here: within a behaviour an `end` is missing.
+fn read_end(reader: &Reader, line: u32) -> Result<(), TextErr>
+    ensures ok { OnOk result (read_end line reader.now reader.now.stage ≡ Ok reader.now) }
+    ensures fault { IfErr result (Tells (fault_of (read_end line reader.now reader.now.stage))) }
+{
+    match reader.stage {
+        Stage::InBehaviour => Err(TextErr::Fault { line, kind: 8 }),
+        _ => Ok(()),
+    }
+}
+
+/// Reads the lines at these spans.
+fn read_lines(
+    reader: &mut Reader,
+    alloc: Global,
+    bytes: &[u8],
+    spans: &[LineSpan],
+) -> Result<(), TextErr>
+    requires begun { reader.old ≡ start }
+    requires lines { map (line_at bytes.now) spans.now ≡ map tested (lines_of bytes.now) }
+    requires within { All (λ s. (s.from ≤ s.to) × (s.to ≤ length bytes.now)) spans.now }
+    requires few { length spans.now < 2 ^ 32 }
+    ensures ok { OnOk result (read_from 0 start (lines_of bytes.now) ≡ Ok reader.new) }
+    ensures fault { IfErr result (Tells (fault_of (read_from 0 start (lines_of bytes.now)))) }
+{
+    let mut line = 0;
+    for span in spans {
+        line += 1;
+        let taken = take_line(reader, alloc, line, &bytes[span.from..span.to], span.fault);
+        if let Err(e) = taken {
+            return Err(e);
+        }
+    }
+    read_end(reader, line)
+}
+
+/// The program that a text gives, or its first fault.
+#[tactic(auto, unfolding(crate::specs::Reading::read_text))]
+fn read(alloc: Global, bytes: &[u8]) -> Result<Program, TextErr>
+    requires { length bytes.now < 2 ^ 32 }
+    ensures ok { IfOk result (λ p. read_text bytes.now ≡ Ok p) }
+    ensures fault { IfErr result (Tells (fault_of (read_text bytes.now))) }
+{
+    let spans = lines(alloc, bytes)?;
+    let mut reader = Reader::new(alloc);
+    read_lines(&mut reader, alloc, bytes, &spans)?;
+    reader.close_kind(alloc)?;
+    Ok(Program {
+        kinds: reader.kinds,
+        names: reader.names,
+    })
+}
+
+/// The program that a text says. Names stand in the order in which they come first.
+///
+/// # Errors
+/// The first fault, exactly where there is one, unless memory is refused.
+pub fn parse(alloc: Global, bytes: &[u8]) -> Result<Program, TextErr>
+    requires { length bytes.now < 2 ^ 32 }
+
+    // The text says this program, which keeps the limits; of such programs it says no other.
+    ensures text { IfOk result (IsText bytes.now) }
+    ensures good { IfOk result ProgramIsGood }
+    ensures only { (p : Program) → IsText bytes.now p → ProgramIsGood p → IfOk result (λ found. found ≡ p) }
+
+    // It is refused exactly where it says no such program, for its first fault.
+    ensures none { IfErr result (λ e. IsFault e → (p : Program) → IsText bytes.now p → ProgramIsGood p → ⊥) }
+    ensures sound { OnOk result (first_fault bytes.now ≡ None) }
+    ensures fault { IfErr result (Tells (first_fault bytes.now)) }
+{
+    read(alloc, bytes)
+}

@@ -1,0 +1,257 @@
+// The table of lines: their first words, and the operands behind these.
+
+ghost use Rattle.std.specs.Prelude.{◌≡◌, map, length, bytes_eq};
+ghost use Rattle.behaviour_text.specs.Table.{spelling, line_word, operands_of, most_further, starts_with, lettered_fault, operand_fault, operands_fault, lowest, fits_count, shape_fault};
+
+use crate::words::{is_name, numeral};
+
+/// The first word of an instruction.
+#[derive(Clone, Copy, Debug, PartialEq, Eq)]
+pub(crate) enum Opcode {
+    Drop,
+    Int,
+    Own,
+    Copy,
+    Add,
+    Sub,
+    Mul,
+    Less,
+    Same,
+    Row,
+    Get,
+    Load,
+    Store,
+    Jump,
+    JumpZero,
+    Label,
+    Pin,
+    Unpin,
+    New,
+    Send,
+    Print,
+}
+
+/// The first word of a line.
+#[derive(Clone, Copy, Debug, PartialEq, Eq)]
+pub(crate) enum LineWord {
+    Kind,
+    On,
+    End,
+    Instr(Opcode),
+}
+
+const ALL_WORDS: [LineWord; 24] = [
+    LineWord::Kind,
+    LineWord::On,
+    LineWord::End,
+    LineWord::Instr(Opcode::Drop),
+    LineWord::Instr(Opcode::Int),
+    LineWord::Instr(Opcode::Own),
+    LineWord::Instr(Opcode::Copy),
+    LineWord::Instr(Opcode::Add),
+    LineWord::Instr(Opcode::Sub),
+    LineWord::Instr(Opcode::Mul),
+    LineWord::Instr(Opcode::Less),
+    LineWord::Instr(Opcode::Same),
+    LineWord::Instr(Opcode::Row),
+    LineWord::Instr(Opcode::Get),
+    LineWord::Instr(Opcode::Load),
+    LineWord::Instr(Opcode::Store),
+    LineWord::Instr(Opcode::Jump),
+    LineWord::Instr(Opcode::JumpZero),
+    LineWord::Instr(Opcode::Label),
+    LineWord::Instr(Opcode::Pin),
+    LineWord::Instr(Opcode::Unpin),
+    LineWord::Instr(Opcode::New),
+    LineWord::Instr(Opcode::Send),
+    LineWord::Instr(Opcode::Print),
+];
+
+/// What an operand has to be.
+#[derive(Clone, Copy, Debug, PartialEq, Eq)]
+pub(crate) enum Operand {
+    Register,
+    Field,
+    Number,
+    Name,
+}
+
+fn opcode_spelling(opcode: Opcode) -> &'static [u8]
+    ensures { result.now ≡ spelling (LineWord.Instr opcode) }
+{
+    match opcode {
+        Opcode::Drop => b"drop",
+        Opcode::Int => b"int",
+        Opcode::Own => b"self",
+        Opcode::Copy => b"copy",
+        Opcode::Add => b"add",
+        Opcode::Sub => b"sub",
+        Opcode::Mul => b"mul",
+        Opcode::Less => b"less",
+        Opcode::Same => b"same",
+        Opcode::Row => b"row",
+        Opcode::Get => b"get",
+        Opcode::Load => b"load",
+        Opcode::Store => b"store",
+        Opcode::Jump => b"jump",
+        Opcode::JumpZero => b"jzero",
+        Opcode::Label => b"label",
+        Opcode::Pin => b"pin",
+        Opcode::Unpin => b"unpin",
+        Opcode::New => b"new",
+        Opcode::Send => b"send",
+        Opcode::Print => b"print",
+    }
+}
+
+fn spelling(word: LineWord) -> &'static [u8]
+    ensures { result.now ≡ spelling word }
+{
+    match word {
+        LineWord::Kind => b"kind",
+        LineWord::On => b"on",
+        LineWord::End => b"end",
+        LineWord::Instr(opcode) => opcode_spelling(opcode),
+    }
+}
+
+fn is_spelled(word: LineWord, text: &[u8]) -> bool
+    ensures { result ≡ bytes_eq (spelling word) text.now }
+{
+    spelling(word) == text
+}
+
+/// What a first word says, `None` where no line begins with it.
+#[tactic(auto, unfolding(crate::specs::Table::line_word))]
+pub(crate) fn line_word(text: &[u8]) -> Option<LineWord>
+    ensures { result ≡ line_word text.now }
+{
+    ALL_WORDS
+        .iter()
+        .copied()
+        .find(|word| is_spelled(*word, text))
+}
+
+fn opcode_operands(opcode: Opcode) -> &'static [Operand]
+    ensures { result.now ≡ operands_of (LineWord.Instr opcode) }
+{
+    match opcode {
+        Opcode::Pin | Opcode::Unpin => &[],
+        Opcode::Drop | Opcode::Own | Opcode::Print => &[Operand::Register],
+        Opcode::Int => &[Operand::Register, Operand::Number],
+        Opcode::Copy | Opcode::Row => &[Operand::Register, Operand::Register],
+        Opcode::Add | Opcode::Sub | Opcode::Mul | Opcode::Less | Opcode::Same => {
+            &[Operand::Register, Operand::Register, Operand::Register]
+        }
+        Opcode::Get => &[Operand::Register, Operand::Register, Operand::Number],
+        Opcode::Load => &[Operand::Register, Operand::Field],
+        Opcode::Store => &[Operand::Field, Operand::Register],
+        Opcode::Jump | Opcode::Label => &[Operand::Name],
+        Opcode::JumpZero | Opcode::New | Opcode::Send => &[Operand::Register, Operand::Name],
+    }
+}
+
+fn operands_of(word: LineWord) -> &'static [Operand]
+    ensures { result.now ≡ operands_of word }
+{
+    match word {
+        LineWord::Kind | LineWord::On => &[Operand::Name, Operand::Number],
+        LineWord::End => &[],
+        LineWord::Instr(opcode) => opcode_operands(opcode),
+    }
+}
+
+/// How many registers may follow the operands of the table.
+fn most_further(word: LineWord) -> usize
+    ensures { result ≡ most_further word }
+{
+    match word {
+        LineWord::Instr(Opcode::Row) => 7,
+        LineWord::Instr(Opcode::Send) => 8,
+        _ => 0,
+    }
+}
+
+pub(crate) fn starts_with(letter: u8, word: &[u8]) -> bool
+    ensures { result ≡ starts_with letter word.now }
+{
+    match word {
+        [first, ..] => *first == letter,
+        [] => false,
+    }
+}
+
+fn lettered_fault(letter: u8, word: &[u8]) -> Option<u8>
+    ensures { result ≡ lettered_fault letter word.now }
+{
+    if !starts_with(letter, word) {
+        Some(4)
+    } else if numeral(&word[1..]).is_some() {
+        None
+    } else {
+        Some(5)
+    }
+}
+
+fn operand_fault(operand: Operand, word: &[u8]) -> Option<u8>
+    ensures { result ≡ operand_fault operand word.now }
+{
+    match operand {
+        Operand::Register => lettered_fault(b'r', word),
+        Operand::Field => lettered_fault(b'f', word),
+        Operand::Number => if numeral(word).is_some() {
+            None
+        } else {
+            Some(5)
+        },
+        Operand::Name => if is_name(word) { None } else { Some(6) },
+    }
+}
+
+fn lowest(a: Option<u8>, b: Option<u8>) -> Option<u8>
+    ensures { result ≡ lowest a b }
+{
+    match (a, b) {
+        (None, b) => b,
+        (Some(a), None) => Some(a),
+        (Some(a), Some(b)) => Some(a.min(b)),
+    }
+}
+
+fn fits_count(word: LineWord, count: usize) -> bool
+    ensures { result ≡ fits_count word count }
+{
+    let least = operands_of(word).len();
+    least <= count && count - least <= most_further(word)
+}
+
+// A line has at most as many operands as `fits_count` lets pass, so this is called at most ten
+// times deep.
+fn operands_fault(operands: &[Operand], words: &[&[u8]]) -> Option<u8>
+    ensures { result ≡ operands_fault operands.now (map (λ w. w.now) words.now) }
+{
+    match words {
+        [] => None,
+        [word, words @ ..] => match operands {
+            [] => lowest(lettered_fault(b'r', word), operands_fault(operands, words)),
+            [operand, operands @ ..] => {
+                lowest(
+                    operand_fault(*operand, word),
+                    operands_fault(operands, words),
+                )
+            }
+        },
+    }
+}
+
+/// The lowest fault of the operands of a line.
+#[tactic(auto, unfolding(crate::specs::Table::shape_fault))]
+pub(crate) fn shape_fault(word: LineWord, words: &[&[u8]]) -> Option<u8>
+    ensures { result ≡ shape_fault word (map (λ w. w.now) words.now) }
+{
+    if fits_count(word, words.len()) {
+        operands_fault(operands_of(word), words)
+    } else {
+        Some(4)
+    }
+}

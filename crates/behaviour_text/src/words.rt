@@ -1,0 +1,105 @@
+// Words, numerals and names.
+
+ghost use Rattle.std.specs.Prelude.{◌≡◌, map, IfOk};
+ghost use Rattle.std.specs.List.{list_all, slice_split};
+ghost use Rattle.text_lines.specs.Lines.{is_space};
+ghost use Rattle.behaviour_code.specs.Names.{is_name, is_name_byte};
+ghost use Rattle.behaviour_text.specs.Words.{words_of, has_numeral_form, numeral, is_digit, word_at, number_of, number_at};
+
+use orca_names::NAME_LIMIT;
+use std::alloc::{AllocError, Global};
+use std::str;
+use text_lines::is_space;
+
+/// The pieces of a line between its spaces, empty ones too.
+fn pieces_of(alloc: Global, line: &[u8]) -> Result<Vec<&[u8]>, AllocError>
+    ensures { IfOk result (λ pieces. map (λ w. w.now) pieces.items ≡ slice_split is_space line.now) }
+{
+    line.split(|byte| is_space(*byte)).collect(alloc)
+}
+
+/// The words of a line.
+pub(crate) fn words_of(alloc: Global, line: &[u8]) -> Result<Vec<&[u8]>, AllocError>
+    ensures { IfOk result (λ words. map (λ w. w.now) words.items ≡ words_of line.now) }
+{
+    let mut words = pieces_of(alloc, line)?;
+    words.retain(|piece| piece.len() != 0);
+    Ok(words)
+}
+
+fn is_digit(byte: u8) -> bool
+    ensures { result ≡ is_digit byte }
+{
+    b'0' <= byte && byte <= b'9'
+}
+
+fn are_digits(word: &[u8]) -> bool
+    ensures { result ≡ list_all is_digit word.now }
+{
+    word.iter().all(|byte| is_digit(*byte))
+}
+
+fn has_numeral_form(word: &[u8]) -> bool
+    ensures { result ≡ has_numeral_form word.now }
+{
+    match word {
+        [] => false,
+        [digit] => is_digit(*digit),
+        [first, ..] => *first != b'0' && are_digits(word),
+    }
+}
+
+/// The number of a numeral of at most 64 bits.
+pub(crate) fn numeral(word: &[u8]) -> Option<u64>
+    ensures { result ≡ numeral word.now }
+{
+    if !has_numeral_form(word) {
+        return None;
+    }
+    match str::from_utf8(word) {
+        Ok(text) => text.parse::<u64>().ok(),
+        Err(_) => None,
+    }
+}
+
+fn is_name_byte(byte: u8) -> bool
+    ensures { result ≡ is_name_byte byte }
+{
+    (b'0' <= byte && byte <= b'9')
+        || (b'A' <= byte && byte <= b'Z')
+        || byte == b'_'
+        || (b'a' <= byte && byte <= b'z')
+}
+
+fn are_name_bytes(word: &[u8]) -> bool
+    ensures { result ≡ list_all is_name_byte word.now }
+{
+    word.iter().all(|byte| is_name_byte(*byte))
+}
+
+/// Whether a word has a name's form: 1 to 32 letters, digits or `_`.
+pub(crate) fn is_name(word: &[u8]) -> bool
+    ensures { result ≡ is_name word.now }
+{
+    1 <= word.len() && word.len() <= NAME_LIMIT && are_name_bytes(word)
+}
+
+/// The word at a place, empty where there is none.
+pub(crate) fn word_at<'a>(words: &[&'a [u8]], i: usize) -> &'a [u8]
+    ensures { result.now ≡ word_at (map (λ w. w.now) words.now) i }
+{
+    if i < words.len() { words[i] } else { &[] }
+}
+
+/// The number of a word, 0 where it is no numeral.
+pub(crate) fn number_of(word: &[u8]) -> u64
+    ensures { result ≡ number_of word.now }
+{
+    numeral(word).unwrap_or(0)
+}
+
+pub(crate) fn number_at(words: &[&[u8]], i: usize) -> u64
+    ensures { result ≡ number_at (map (λ w. w.now) words.now) i }
+{
+    number_of(word_at(words, i))
+}
