@@ -1,0 +1,74 @@
+-- How a run of the plain machine ends, and what is left.
+use Rattle.std.specs.Prelude.{◌≡◌, ◌↔◌, ℕ, ◌<◌, ◌≤◌, Bool, true, false, not, List, None, Contains, count_by, length}
+use Rattle.std.specs.List.Sorted.{IsStrictlySortedBy}
+use Rattle.orca_names.specs.Names.{thing_cmp}
+use Rattle.orca_names.specs.declared.names.Thing.{Thing}
+use Rattle.orca_names.specs.declared.names.Thing.TheVariants.{Actor, Obj}
+use Rattle.event_rule.specs.declared.event.Event.{Event}
+use Rattle.event_rule.specs.declared.event.Event.TheVariants.{Go}
+use Rattle.report_text.specs.Reports.{report_of}
+use Rattle.report_text.specs.declared.numbers.Numbers.{Numbers}
+use Rattle.report_text.specs.declared.status.Status.{Status}
+use Rattle.report_text.specs.declared.status.Status.TheVariants as status
+use Rattle.behaviour_code.specs.declared.code.Program.{Program}
+use Rattle.machine_rules.specs.Plain.{IsFull, PlainState, objects_made, plain_go, start_of}
+use Rattle.machine_rules.specs.PlainReach.{IsReachable}
+use Rattle.machine_rules.specs.PlainRun.{IsPlainFirst, IsPlainQuiet, IsPlainRun}
+
+-- the book is a run of the program in the one-worker order, within the budget, and leads to t
+pub record RunsTo (program : Program) (budget : ℕ) (book : List Event) (t : PlainState) : Type 0 where
+  pub run : IsPlainRun (start_of program) book t
+  pub within : length book ≤ budget
+
+-- the run ends by the budget: the book is as long, and an event is enabled
+pub record IsSpent (t : PlainState) (book : List Event) (budget : ℕ) : Type 0 where
+  pub spent : length book ≡ budget
+  pub next : Event
+  pub enabled : IsPlainFirst t next
+
+-- the run ends at an actor that would make one more than may be made
+pub record IsFullAt (actor : ℕ) (t : PlainState) (book : List Event) (budget : ℕ) : Type 0 where
+  pub room : length book < budget
+  pub next : IsPlainFirst t (Go actor)
+  pub full : plain_go t actor ≡ IsFull
+
+-- how a run ends: no event is enabled, or else by the budget, or else at a full machine
+abbrev pub EndsAs : Status → PlainState → List Event → ℕ → Type 0
+EndsAs status.Quiet t book budget = IsPlainQuiet t
+EndsAs status.Budget t book budget = IsSpent t book budget
+EndsAs (status.ActorsFull actor) t book budget = IsFullAt actor t book budget
+EndsAs other t book budget = ⊥
+
+abbrev pub is_actor : Thing → Bool
+is_actor (Actor a) = true
+is_actor (Obj n) = false
+
+-- exactly the reachable things, in their order
+pub record IsReach (t : PlainState) (things : List Thing) : Type 0 where
+  pub exact : (x : Thing) → Contains things x ↔ IsReachable t x
+  pub rising : IsStrictlySortedBy thing_cmp things
+
+-- so many actors and objects are reachable
+pub record IsReachCount (t : PlainState) (actors objects : ℕ) : Type 0 where
+  pub things : List Thing
+  pub reach : IsReach t things
+  pub actors : actors ≡ count_by is_actor things
+  pub objects : objects ≡ count_by (λ x. not (is_actor x)) things
+
+-- left is what is reachable where the run ends quiet, and all that was made at any other end
+abbrev pub AreLeft : Status → PlainState → ℕ → ℕ → Type 0
+AreLeft status.Quiet t actors objects = IsReachCount t actors objects
+AreLeft other t actors objects = (actors ≡ length t.actors) × (objects ≡ objects_made t.actors)
+
+-- how many were made and are left
+pub record AreNumbers (end : Status) (t : PlainState) (actors objects : Numbers) : Type 0 where
+  pub actors_made : actors.made ≡ length t.actors
+  pub objects_made : objects.made ≡ objects_made t.actors
+  pub left : AreLeft end t actors.left objects.left
+
+-- the text is the report of a run that ended so
+pub record IsReport (end : Status) (t : PlainState) (text : List ℕ) : Type 0 where
+  pub actors : Numbers
+  pub objects : Numbers
+  pub numbers : AreNumbers end t actors objects
+  pub text : text ≡ report_of end t.prints actors objects None None

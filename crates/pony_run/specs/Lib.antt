@@ -1,0 +1,4 @@
+pub mod Ends
+pub mod Headline
+pub mod Steps
+pub mod Streams

@@ -1,0 +1,13 @@
+-- Why the first enabled event is not done.
+use Rattle.std.specs.Prelude.{◌≡◌}
+use Rattle.event_rule.specs.declared.event.Event.{Event}
+use Rattle.event_rule.specs.declared.event.Event.TheVariants.{Go}
+use Rattle.machine_rules.specs.Plain.{IsFull, PlainState, plain_go}
+use Rattle.plain_machine.specs.declared.machine.PlainFault.{PlainFault}
+use Rattle.plain_machine.specs.declared.machine.PlainFault.TheVariants.{NotReady, ActorsFull, NoMemory}
+
+-- it is the go of an actor that would make one more than may be made, or memory was refused
+abbrev pub Stops : PlainState → Event → PlainFault → Type 0
+Stops s event NotReady = ⊥
+Stops s event (ActorsFull a) = (event ≡ Go a) × (plain_go s a ≡ IsFull)
+Stops s event NoMemory = Unit {0}

@@ -1,0 +1,51 @@
+-- What a call takes from its source and gives to its sink.
+use Rattle.std.specs.Prelude.{◌≡◌, ◌⊎◌, ℕ, ◌<◌, ◌≤◌, List, ◌++◌, length, take}
+use Rattle.std.specs.declared.option.Option.{Option}
+use Rattle.std.specs.Io.KnownBytes.{Appends, Consumes, IsAtEnd}
+use Rattle.outside_world.specs.Device.{Rose}
+
+-- one byte more than a text may have
+abbrev pub most_bytes : ℕ
+most_bytes = 1048577
+
+-- a device before and after a call: the bytes that it tells, and its count of faults
+pub record Sides : Type 0 where
+  pub before : Option (List ℕ)
+  pub after : Option (List ℕ)
+  pub faults_before : ℕ
+  pub faults_after : ℕ
+
+abbrev pub sides : {D : Type 0} → (D → Option (List ℕ)) → (D → ℕ) → D → D → Sides
+sides told faults old new = record { before = told old; after = told new; faults_before = faults old; faults_after = faults new }
+
+-- the device failed in this call
+abbrev pub HasFailed : Sides → Type 0
+HasFailed device = Rose device.faults_before device.faults_after
+
+-- the source was not touched
+abbrev pub IsUntouched : Sides → Type 0
+IsUntouched source = source.after ≡ source.before
+
+-- the bytes are all that was left, or the first of them where there are more than a text may have
+pub record TakesAll (before after : Option (List ℕ)) (bytes : List ℕ) : Type 0 where
+  pub front : Consumes before after bytes
+  pub bounded : length bytes ≤ most_bytes
+  pub whole : length bytes < most_bytes → IsAtEnd after
+
+-- some front of what was left was taken
+pub record TakesPart (before after : Option (List ℕ)) : Type 0 where
+  pub bytes : List ℕ
+  pub front : Consumes before after bytes
+
+-- one turn of reading adds so many bytes
+pub record TakesMore (before after : Option (List ℕ)) (old new : List ℕ) (count : ℕ) : Type 0 where
+  pub bytes : List ℕ
+  pub front : Consumes before after bytes
+  pub added : new ≡ old ++ bytes
+  pub size : length bytes ≡ count
+
+-- a front of the bytes was written
+pub record GivesPart (before after : Option (List ℕ)) (bytes : List ℕ) : Type 0 where
+  pub count : ℕ
+  pub within : count ≤ length bytes
+  pub front : Appends before after (take count bytes)

@@ -1,0 +1,12 @@
+//! The top call: it reads the words and the source, runs the program, and writes its report.
+#![tactic(auto)]
+
+mod call;
+mod ending;
+mod reading;
+mod reporting;
+mod writing;
+
+pub use call::{Outcome, run_single};
+pub use report_text::Status;
+pub use word_line::{Job, Order};

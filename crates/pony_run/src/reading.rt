@@ -1,0 +1,78 @@
+// Reading all that a source has left.
+
+ghost use Rattle.std.specs.Prelude.{◌≡◌, ◌<◌, ◌≤◌, ◌+◌, ◌-◌, IfOk, OnErr, IsErrOf, min, length, vec_len};
+ghost use Rattle.std.specs.Io.KnownBytes.{IsAtEnd};
+ghost use Rattle.outside_world.specs.Device.{Rose};
+ghost use Rattle.pony_run.specs.Streams.{TakesAll, TakesMore, TakesPart, most_bytes};
+ghost use Rattle.pony_run.specs.declared.reading.ReadErr.TheVariants as err;
+
+use orca_names::TEXT_LIMIT;
+use outside_world::{Failed, Source};
+use std::alloc::{AllocError, Global};
+use thiserror::Error;
+
+/// One byte more than a text may have: where so many were given, the input is too long.
+pub(crate) const MOST_BYTES: usize = TEXT_LIMIT + 1;
+
+/// The most bytes that one read asks for.
+const PIECE: usize = 4096;
+
+/// Why a source was not read to its end.
+#[derive(Clone, Copy, Debug, PartialEq, Eq, Error)]
+pub(crate) enum ReadErr {
+    #[error("the source failed")]
+    Failed,
+    #[error("out of memory")]
+    NoMemory,
+}
+
+impl From<Failed> for ReadErr {
+    ghost from_gives = { λ _ e. e ≡ err.Failed };
+
+    fn from(_: Failed) -> ReadErr {
+        ReadErr::Failed
+    }
+}
+
+impl From<AllocError> for ReadErr {
+    ghost from_gives = { λ _ e. e ≡ err.NoMemory };
+
+    fn from(_: AllocError) -> ReadErr {
+        ReadErr::NoMemory
+    }
+}
+
+/// One turn: asks for 4,096 bytes, or for what is missing to the most, and answers how many came; 0
+/// is the end.
+fn read_more<S: Source>(source: &mut S, bytes: &mut Vec<u8>) -> Result<usize, ReadErr>
+    requires { vec_len bytes.old < most_bytes }
+    ensures more { IfOk result (λ count. TakesMore (S.left source.old) (S.left source.new) bytes.old.items bytes.new.items count) }
+    ensures room { IfOk result (λ count. vec_len bytes.old + count ≤ most_bytes) }
+    ensures end { IfOk result (λ count. count ≡ 0 → IsAtEnd (S.left source.new)) }
+    ensures part { OnErr result (TakesPart (S.left source.old) (S.left source.new)) }
+    ensures stays { S.faults source.old ≤ S.faults source.new }
+    ensures failed { IsErrOf result ReadErr.Failed → Rose (S.faults source.old) (S.faults source.new) }
+{
+    let mut piece = [0u8; PIECE];
+    let room = (MOST_BYTES - bytes.len()).min(PIECE);
+    let count = source.read(&mut piece[..room])?;
+    bytes.extend_from_slice(&piece[..count])?;
+    Ok(count)
+}
+
+/// Reads until the source answers that nothing is left, or has given the most bytes.
+#[tactic(auto, using(crate::proofs::Parts::takes_after))]
+pub(crate) fn read_all<S: Source>(alloc: Global, source: &mut S) -> Result<Vec<u8>, ReadErr>
+    ensures all { IfOk result (λ bytes. TakesAll (S.left source.old) (S.left source.new) bytes.items) }
+    ensures part { OnErr result (TakesPart (S.left source.old) (S.left source.new)) }
+    ensures stays { S.faults source.old ≤ S.faults source.new }
+    ensures failed { IsErrOf result ReadErr.Failed → Rose (S.faults source.old) (S.faults source.new) }
+{
+    let mut bytes = Vec::new(alloc);
+    while bytes.len() < MOST_BYTES {
+        if read_more(source, &mut bytes)? == 0 {
+            break;
+        }
+    }
+    Ok(bytes)
+}
