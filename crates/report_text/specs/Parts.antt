@@ -15,10 +15,12 @@ actor_text a = codes "actor " ++ decimal a
 abbrev pub object_text : ObjName → List ℕ
 object_text n = codes "object " ++ decimal n.owner ++ codes "." ++ decimal n.serial
 
+-- a thing by its name
 abbrev pub thing_text : Thing → List ℕ
 thing_text (thing.Actor a) = actor_text a
 thing_text (thing.Obj n) = object_text n
 
+-- a value, as it is printed
 abbrev pub value_text : Value → List ℕ
 value_text value.Null = codes "null"
 value_text (value.Num n) = decimal n

@@ -1,10 +1,10 @@
--- What is written where no run began.
+-- What is written of a refusal.
 use Rattle.std.specs.Prelude.{ℕ, List, [], ◌++◌, codes, ⊤}
 use Rattle.std.specs.Fmt.{decimal}
 use Rattle.report_text.specs.declared.status.Status.{Status}
 use Rattle.report_text.specs.declared.status.Status.TheVariants.{BadWords, BadText, BadProgram, ReadFault, TooLong}
 
--- no run began, for a cause that is told
+-- the words, the source or its bytes were refused: there is a refusal line
 abbrev pub HasRefusal : Status → Type 0
 HasRefusal BadWords = ⊤
 HasRefusal ReadFault = ⊤

@@ -5,19 +5,8 @@ ghost use Rattle.report_text.specs.Parts.{amount_text, thing_text, value_text};
 ghost use Rattle.report_text.specs.Reports.{count_line, number_line, print_line};
 
 use crate::numbers::Numbers;
-use orca_names::{ObjName, Sums, Thing, Value};
+use orca_names::{Sums, Thing, Value};
 use std::alloc::AllocError;
-
-fn push_value(out: &mut String, value: &Value) -> Result<(), AllocError>
-    ensures { OnOk result (string_bytes out.new ≡ string_bytes out.old ++ value_text value.now) }
-{
-    match value {
-        Value::Null => write!(out, "null"),
-        Value::Num(n) => write!(out, "{n}"),
-        Value::Actor(a) => write!(out, "actor {}", a.0),
-        Value::Obj(n) => write!(out, "object {}.{}", n.owner.0, n.serial),
-    }
-}
 
 fn push_thing(out: &mut String, thing: &Thing) -> Result<(), AllocError>
     ensures { OnOk result (string_bytes out.new ≡ string_bytes out.old ++ thing_text thing.now) }
@@ -25,6 +14,17 @@ fn push_thing(out: &mut String, thing: &Thing) -> Result<(), AllocError>
     match thing {
         Thing::Actor(a) => write!(out, "actor {}", a.0),
         Thing::Obj(n) => write!(out, "object {}.{}", n.owner.0, n.serial),
+    }
+}
+
+fn push_value(out: &mut String, value: &Value) -> Result<(), AllocError>
+    ensures { OnOk result (string_bytes out.new ≡ string_bytes out.old ++ value_text value.now) }
+{
+    match value {
+        Value::Null => write!(out, "null"),
+        Value::Num(n) => write!(out, "{n}"),
+        Value::Actor(a) => push_thing(out, &Thing::Actor(*a)),
+        Value::Obj(n) => push_thing(out, &Thing::Obj(*n)),
     }
 }
 

@@ -53,7 +53,8 @@ fn report_text(
     book: Option<&Book>,
 ) -> Result<String, AllocError>
     requires { IsEnd status.now }
-    ensures { IfOk result (λ text. string_bytes text ≡ report_of status.now prints.now actors objects (option_map (λ t. t.now.sums) counts.entry) (option_map (λ b. b.now.entries) book.entry)) }
+    ensures { IfOk result (λ text. string_bytes text ≡ report_of status.now prints.now actors objects
+        (option_map (λ t. t.now.sums) counts.entry) (option_map (λ b. b.now.entries) book.entry)) }
 {
     let mut out = String::new(alloc);
     push_prints(&mut out, prints)?;
@@ -85,7 +86,8 @@ pub fn report(
     book: Option<&Book>,
 ) -> Result<Vec<u8>, NoMemory>
     requires { IsEnd status.now }
-    ensures { IfOk result (λ bytes. bytes.items ≡ report_of status.now prints.now actors objects (option_map (λ t. t.now.sums) counts.entry) (option_map (λ b. b.now.entries) book.entry)) }
+    ensures { IfOk result (λ bytes. bytes.items ≡ report_of status.now prints.now actors objects
+        (option_map (λ t. t.now.sums) counts.entry) (option_map (λ b. b.now.entries) book.entry)) }
 {
     let text = report_text(alloc, status, prints, actors, objects, counts, book)?;
     Ok(text.into_bytes())

@@ -30,6 +30,7 @@ abbrev pub order_in : Option (Text × List Row) → Option Order
 order_in None = None
 order_in (Some found) = if bytes_eq found.0 (codes "run") then order_with found.1 else None
 
+-- what no words ask for
 abbrev pub default_order : Order
 default_order = record { job = Run; workers = 2; budget = 1000000 }
 
@@ -39,6 +40,6 @@ order_of words = if is_empty words then Some default_order
     else (if is_empty (fault_of command_line words) then order_in (subcommand_of command_line words) else None)
 
 -- the values of an order are in their ranges
-pub record IsWithin (order : Order) : Type 0 where
+pub record IsInRange (order : Order) : Type 0 where
   pub workers : (1 ≤ order.workers) × (order.workers ≤ 16)
   pub budget : (1 ≤ order.budget) × (order.budget ≤ 100000000)

@@ -2,7 +2,7 @@
 
 ghost use Rattle.std.specs.Prelude.{◌≡◌, ◌≤◌, IfOk, IfErr, IfSome, Some, None, map, option_map};
 ghost use Rattle.clap.specs.Words.{first_of, found_of, rows_of, subcommand_rows_of};
-ghost use Rattle.word_line.specs.Orders.{IsWithin, number_in, option_in, order_in, order_of, order_with};
+ghost use Rattle.word_line.specs.Orders.{IsInRange, number_in, option_in, order_in, order_of, order_with};
 ghost use Rattle.word_line.specs.declared.order.WordErr.TheVariants.{BadWords};
 
 use crate::command::command;
@@ -57,7 +57,7 @@ fn option_in(matches: &ArgMatches<'_>, name: &str, most: u64, default: u64) -> O
 /// The order that the options of `run` give.
 fn order_with(matches: &ArgMatches<'_>) -> Option<Order>
     ensures order { result ≡ order_with (rows_of (found_of matches.now)) }
-    ensures range { IfSome result IsWithin }
+    ensures range { IfSome result IsInRange }
 {
     let most = u64::from(WORKERS_LIMIT);
     let workers = option_in(matches, "workers", most, u64::from(DEFAULT.workers))?;
@@ -72,7 +72,7 @@ fn order_with(matches: &ArgMatches<'_>) -> Option<Order>
 /// The order that the subcommand gives.
 fn order_in(matches: &ArgMatches<'_>) -> Option<Order>
     ensures order { result ≡ order_in (subcommand_rows_of matches.now) }
-    ensures range { IfSome result IsWithin }
+    ensures range { IfSome result IsInRange }
 {
     match matches.subcommand() {
         Some(("run", inner)) => order_with(inner),
@@ -85,7 +85,7 @@ fn order_in(matches: &ArgMatches<'_>) -> Option<Order>
 fn read_list<'a>(alloc: Global, words: &'a [&'a str]) -> Result<Order, WordErr>
     ensures order { IfOk result (λ order. order_of (map (λ word. word.now) words.entry.now) ≡ Some order) }
     ensures bad { IfErr result (λ e. e ≡ BadWords → order_of (map (λ word. word.now) words.entry.now) ≡ None) }
-    ensures range { IfOk result IsWithin }
+    ensures range { IfOk result IsInRange }
 {
     if words.is_empty() {
         return Ok(DEFAULT);
@@ -110,7 +110,7 @@ fn read_list<'a>(alloc: Global, words: &'a [&'a str]) -> Result<Order, WordErr>
 pub fn read_words(alloc: Global, words: &[&str]) -> Result<Order, WordErr>
     ensures order { IfOk result (λ order. order_of (map (λ word. word.now) words.entry.now) ≡ Some order) }
     ensures bad { IfErr result (λ e. e ≡ BadWords → order_of (map (λ word. word.now) words.entry.now) ≡ None) }
-    ensures range { IfOk result IsWithin }
+    ensures range { IfOk result IsInRange }
 {
     read_list(alloc, words)
 }
