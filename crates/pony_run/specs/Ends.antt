@@ -52,8 +52,8 @@ pub record IsReach (t : PlainState) (things : List Thing) : Type 0 where
 pub record IsReachCount (t : PlainState) (actors objects : ℕ) : Type 0 where
   pub things : List Thing
   pub reach : IsReach t things
-  pub actors : actors ≡ count_by is_actor things
-  pub objects : objects ≡ count_by (λ x. not (is_actor x)) things
+  pub actor_count : actors ≡ count_by is_actor things
+  pub object_count : objects ≡ count_by (λ x. not (is_actor x)) things
 
 -- left is what is reachable where the run ends quiet, and all that was made at any other end
 abbrev pub AreLeft : Status → PlainState → ℕ → ℕ → Type 0
@@ -71,4 +71,4 @@ pub record IsReport (end : Status) (t : PlainState) (text : List ℕ) : Type 0 w
   pub actors : Numbers
   pub objects : Numbers
   pub numbers : AreNumbers end t actors objects
-  pub text : text ≡ report_of end t.prints actors objects None None
+  pub said : text ≡ report_of end t.prints actors objects None None

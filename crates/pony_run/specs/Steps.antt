@@ -3,6 +3,8 @@ use Rattle.std.specs.Prelude.{◌≡◌}
 use Rattle.event_rule.specs.declared.event.Event.{Event}
 use Rattle.event_rule.specs.declared.event.Event.TheVariants.{Go}
 use Rattle.machine_rules.specs.Plain.{IsFull, PlainState, plain_go}
+use Rattle.report_text.specs.declared.status.Status.{Status}
+use Rattle.report_text.specs.declared.status.Status.TheVariants as status
 use Rattle.plain_machine.specs.declared.machine.PlainFault.{PlainFault}
 use Rattle.plain_machine.specs.declared.machine.PlainFault.TheVariants.{NotReady, ActorsFull, NoMemory}
 
@@ -11,3 +13,8 @@ abbrev pub Stops : PlainState → Event → PlainFault → Type 0
 Stops s event NotReady = ⊥
 Stops s event (ActorsFull a) = (event ≡ Go a) × (plain_go s a ≡ IsFull)
 Stops s event NoMemory = Unit {0}
+
+-- the end that this fault makes
+abbrev pub IsEndOf : PlainFault → Status → Type 0
+IsEndOf (ActorsFull a) end = end ≡ status.ActorsFull a
+IsEndOf other end = ⊥

@@ -3,7 +3,7 @@
 ghost use Rattle.std.specs.Prelude.{◌≡◌, ◌<◌, ◌≤◌, [], length, map};
 ghost use Rattle.report_text.specs.Ends.{IsEnd};
 ghost use Rattle.report_text.specs.Refusals.{HasRefusal};
-ghost use Rattle.word_line.specs.Orders.{IsWithin};
+ghost use Rattle.word_line.specs.Orders.{IsInRange};
 ghost use Rattle.behaviour_code.specs.Good.{ProgramIsGood};
 ghost use Rattle.pony_run.specs.Headline.{Answers, IsRefusedAs, MeansInput, MeansProgram, MeansRun, MeansText, RunsOrder, Writes, WritesReport};
 ghost use Rattle.pony_run.specs.Streams.{most_bytes, sides};
@@ -15,7 +15,8 @@ use crate::writing::write_all;
 use behaviour_check::{Checked, check};
 use behaviour_code::Program;
 use behaviour_text::{TextErr, parse};
-use outside_world::{Gate, Sink, Source};
+use orca_names::NoMemory;
+use outside_world::{Sink, Source};
 use plain_machine::Plain;
 use report_text::{Status, refusal_line};
 use run_book::Book;
@@ -72,23 +73,28 @@ fn write_report<K: Sink>(alloc: Global, machine: &Plain<'_>, end: Status, sink: 
 
 /// Runs a checked program, and writes its report.
 fn run_checked<K: Sink>(alloc: Global, order: &Order, code: &Checked, sink: &mut K) -> Outcome
-    requires { IsWithin order.now }
+    requires { IsInRange order.now }
     ensures { Writes (sides K.written K.faults sink.old sink.new) result.book.entries (λ w. MeansRun result.status w order.now code.now) }
 {
     let Ok(mut machine) = Plain::start(alloc, code) else {
         return idle(alloc, Status::NoMemory);
     };
     let mut book = Book::new(alloc);
-    let status = match finish(alloc, &mut machine, &mut book, order.budget) {
-        Ok(end) => write_report(alloc, &machine, end, sink),
-        Err(_) => Status::NoMemory,
-    };
-    Outcome { status, book }
+    match finish(alloc, &mut machine, &mut book, order.budget) {
+        Ok(end) => Outcome {
+            status: write_report(alloc, &machine, end, sink),
+            book,
+        },
+        Err(NoMemory) => Outcome {
+            status: Status::NoMemory,
+            book,
+        },
+    }
 }
 
 /// Runs the program of a text, if it keeps the rules.
 fn run_program<K: Sink>(alloc: Global, order: &Order, program: Program, sink: &mut K) -> Outcome
-    requires order { IsWithin order.now }
+    requires order { IsInRange order.now }
     requires good { ProgramIsGood program }
     ensures { Writes (sides K.written K.faults sink.old sink.new) result.book.entries (λ w. MeansProgram result.status w order.now program) }
 {
@@ -109,7 +115,7 @@ fn run_program<K: Sink>(alloc: Global, order: &Order, program: Program, sink: &m
 
 /// Runs a text, if it is a program's.
 fn run_text<K: Sink>(alloc: Global, order: &Order, text: &[u8], sink: &mut K) -> Outcome
-    requires order { IsWithin order.now }
+    requires order { IsInRange order.now }
     requires short { length text.now < most_bytes }
     ensures { Writes (sides K.written K.faults sink.old sink.new) result.book.entries (λ w. MeansText result.status w order.now text.now) }
 {
@@ -122,7 +128,7 @@ fn run_text<K: Sink>(alloc: Global, order: &Order, text: &[u8], sink: &mut K) ->
 
 /// Runs an input, if it is not too long.
 fn run_input<K: Sink>(alloc: Global, order: &Order, input: &[u8], sink: &mut K) -> Outcome
-    requires order { IsWithin order.now }
+    requires order { IsInRange order.now }
     requires bounded { length input.now ≤ most_bytes }
     ensures { Writes (sides K.written K.faults sink.old sink.new) result.book.entries (λ w. MeansInput result.status w order.now input.now) }
 {
@@ -141,7 +147,7 @@ pub fn run_single<S: Source, K: Sink>(
     source: &mut S,
     sink: &mut K,
 ) -> Outcome
-    requires { IsWithin order.now }
+    requires { IsInRange order.now }
     ensures { RunsOrder order.now (sides S.left S.faults source.old source.new) (sides K.written K.faults sink.old sink.new) result.status result.book.entries }
 {
     match order.job {

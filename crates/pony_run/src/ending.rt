@@ -5,7 +5,7 @@ ghost use Rattle.event_rule.specs.declared.event.Event.TheVariants.{Go};
 ghost use Rattle.machine_rules.specs.Plain.{Goes, IsFull, plain_go};
 ghost use Rattle.machine_rules.specs.PlainRun.{IsPlainFirst, IsPlainRun, outcome_of};
 ghost use Rattle.pony_run.specs.Ends.{EndsAs};
-ghost use Rattle.pony_run.specs.Steps.{Stops};
+ghost use Rattle.pony_run.specs.Steps.{IsEndOf, Stops};
 
 use event_rule::Event;
 use orca_names::NoMemory;
@@ -41,6 +41,16 @@ fn step(
     Ok(())
 }
 
+/// How a run ends whose first enabled event is not done.
+fn end_of(fault: PlainFault) -> Result<Status, NoMemory>
+    ensures { IfOk result (IsEndOf fault) }
+{
+    match fault {
+        PlainFault::ActorsFull { actor } => Ok(Status::ActorsFull { actor }),
+        _ => Err(NoMemory),
+    }
+}
+
 /// Runs the machine in the one-worker order up to its end: where no event is enabled, else where the
 /// book is as long as the budget, else where an actor would make one more than may be made.
 ///
@@ -68,8 +78,7 @@ pub(crate) fn finish(
         }
         match step(alloc, machine, book, event) {
             Ok(()) => {}
-            Err(PlainFault::ActorsFull { actor }) => return Ok(Status::ActorsFull { actor }),
-            Err(_) => return Err(NoMemory),
+            Err(fault) => return end_of(fault),
         }
     }
 }
