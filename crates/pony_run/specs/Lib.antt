@@ -1,3 +1,4 @@
+pub mod Causes
 pub mod Ends
 pub mod Headline
 pub mod Steps

@@ -5,6 +5,7 @@ ghost use Rattle.report_text.specs.Ends.{IsEnd};
 ghost use Rattle.report_text.specs.Refusals.{HasRefusal};
 ghost use Rattle.word_line.specs.Orders.{IsInRange};
 ghost use Rattle.behaviour_code.specs.Good.{ProgramIsGood};
+ghost use Rattle.pony_run.specs.Causes.{Causes};
 ghost use Rattle.pony_run.specs.Headline.{Answers, IsRefusedAs, MeansInput, MeansProgram, MeansRun, MeansText, RunsOrder, Writes, WritesReport};
 ghost use Rattle.pony_run.specs.Streams.{most_bytes, sides};
 
@@ -16,7 +17,7 @@ use behaviour_check::{Checked, check};
 use behaviour_code::Program;
 use behaviour_text::{TextErr, parse};
 use orca_names::NoMemory;
-use outside_world::{Sink, Source};
+use outside_world::{Gate, Sink, Source};
 use plain_machine::Plain;
 use report_text::{Status, refusal_line};
 use run_book::Book;
@@ -173,4 +174,23 @@ fn run_all<R: AllocGlobal, S: Source, K: Sink>(
         Err(WordErr::BadWords) => refuse(rt.alloc(), Status::BadWords, sink),
         Err(WordErr::NoMemory) => idle(rt.alloc(), Status::NoMemory),
     }
+}
+
+/// The program's whole work: reads the words after its name and the source, runs what they give, and
+/// writes to the sink. The gate is not entered by one worker.
+///
+/// The first clause says what the call did for the status that it answers, the second one when each
+/// status comes. `NoMemory` alone is free: it comes where memory was refused, and nothing is written
+/// then.
+pub fn run_words<R: AllocGlobal, S: Source, K: Sink, G: Gate>(
+    rt: &R,
+    words: &[&str],
+    source: &mut S,
+    sink: &mut K,
+    _gate: &G,
+) -> Outcome
+    ensures answers { Answers (map (λ word. word.now) words.entry.now) (sides S.left S.faults source.old source.new) (sides K.written K.faults sink.old sink.new) result.status result.book.entries }
+    ensures causes { Causes (map (λ word. word.now) words.entry.now) (sides S.left S.faults source.old source.new) (sides K.written K.faults sink.old sink.new) result.status result.book.entries }
+{
+    run_all(rt, words, source, sink)
 }

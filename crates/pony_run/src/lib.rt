@@ -7,6 +7,6 @@ mod reading;
 mod reporting;
 mod writing;
 
-pub use call::{Outcome, run_single};
+pub use call::{Outcome, run_single, run_words};
 pub use report_text::Status;
 pub use word_line::{Job, Order};
