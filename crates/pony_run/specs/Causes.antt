@@ -1,6 +1,6 @@
 -- When each answer comes: only where its cause is there, and wherever it is there and no cause before
 -- it. Want of memory alone is free.
-use Rattle.std.specs.Prelude.{◌≡◌, ◌⊎◌, ◌<◌, ℕ, List, length, take, Some, None}
+use Rattle.std.specs.Prelude.{◌≡◌, ◌≢◌, ◌⊎◌, ◌<◌, ℕ, List, length, take, Some, None}
 use Rattle.event_rule.specs.declared.event.Event.{Event}
 use Rattle.word_line.specs.Orders.{order_of}
 use Rattle.word_line.specs.declared.order.Order.{Order}
@@ -20,9 +20,8 @@ use Rattle.pony_run.specs.Streams.{HasFailed, Sides, most_bytes}
 abbrev pub IsUnlessMemory : Status → Status → Type 0
 IsUnlessMemory answer wanted = (answer ≡ wanted) ⊎ (answer ≡ status.NoMemory)
 
--- the words give this order, and the source tells that this input is to be taken
-pub record IsGiven (words : List (List ℕ)) (source : Sides) (order : Order) (input : List ℕ) : Type 0 where
-  pub reading : order_of words ≡ Some order
+-- the source tells that this input is to be taken
+pub record IsGiven (source : Sides) (input : List ℕ) : Type 0 where
   pub all : List ℕ
   pub told : source.before ≡ Some all
   pub taken : input ≡ take most_bytes all
@@ -33,32 +32,35 @@ pub record IsProgramOf (input : List ℕ) (program : Program) : Type 0 where
   pub text : IsText input program
   pub good : ProgramIsGood program
 
--- each answer comes only where its cause is there
-pub record ComesOnly (words : List (List ℕ)) (source sink : Sides) (answer : Status) (book : List Event) : Type 0 where
-  pub bad_words : answer ≡ status.BadWords → order_of words ≡ None
+-- each answer to an order comes only where its cause is there
+pub record ComesOnly (order : Order) (source sink : Sides) (answer : Status) (book : List Event) : Type 0 where
+  pub bad_words : answer ≢ status.BadWords
   pub read_fault : answer ≡ status.ReadFault → HasFailed source
-  pub too_long : (order : Order) (input : List ℕ) → IsGiven words source order input → answer ≡ status.TooLong → length input ≡ most_bytes
-  pub bad_text : (order : Order) (input : List ℕ) (line kind : ℕ) → IsGiven words source order input → answer ≡ status.BadText line kind →
-      first_fault input ≡ Some (line, kind)
-  pub bad_program : (order : Order) (input : List ℕ) (program : Program) (kind behaviour step rule : ℕ) → IsGiven words source order input → IsProgramOf input program →
+  pub too_long : (input : List ℕ) → IsGiven source input → answer ≡ status.TooLong → length input ≡ most_bytes
+  pub bad_text : (input : List ℕ) (line kind : ℕ) → IsGiven source input → answer ≡ status.BadText line kind → first_fault input ≡ Some (line, kind)
+  pub bad_program : (input : List ℕ) (program : Program) (kind behaviour step rule : ℕ) → IsGiven source input → IsProgramOf input program →
       answer ≡ status.BadProgram kind behaviour step rule → first_broken program ≡ Some (broken kind behaviour step rule)
-  pub end : (order : Order) (input : List ℕ) (program : Program) → IsGiven words source order input → IsProgramOf input program → IsEnd answer →
+  pub end : (input : List ℕ) (program : Program) → IsGiven source input → IsProgramOf input program → IsEnd answer →
       (state : PlainState) × RunsTo program order.budget book state × EndsAs answer state book order.budget
   pub write_fault : answer ≡ status.WriteFault → HasFailed sink
 
 -- where a cause is there and none before it, its answer comes, unless memory was refused
-pub record ComesWherever (words : List (List ℕ)) (source sink : Sides) (answer : Status) : Type 0 where
-  pub bad_words : order_of words ≡ None → IsUnlessMemory answer status.BadWords
-  pub too_long : (order : Order) (input : List ℕ) → IsGiven words source order input → (HasFailed source → ⊥) → length input ≡ most_bytes →
-      IsUnlessMemory answer status.TooLong
-  pub bad_text : (order : Order) (input : List ℕ) (line kind : ℕ) → IsGiven words source order input → (HasFailed source → ⊥) → length input < most_bytes →
+pub record ComesWherever (source sink : Sides) (answer : Status) : Type 0 where
+  pub too_long : (input : List ℕ) → IsGiven source input → (HasFailed source → ⊥) → length input ≡ most_bytes → IsUnlessMemory answer status.TooLong
+  pub bad_text : (input : List ℕ) (line kind : ℕ) → IsGiven source input → (HasFailed source → ⊥) → length input < most_bytes →
       first_fault input ≡ Some (line, kind) → IsUnlessMemory answer (status.BadText line kind)
-  pub bad_program : (order : Order) (input : List ℕ) (program : Program) (kind behaviour step rule : ℕ) → IsGiven words source order input → (HasFailed source → ⊥) →
-      IsProgramOf input program → first_broken program ≡ Some (broken kind behaviour step rule) → IsUnlessMemory answer (status.BadProgram kind behaviour step rule)
-  pub end : (order : Order) (input : List ℕ) (program : Program) → IsGiven words source order input → (HasFailed source → ⊥) → (HasFailed sink → ⊥) →
-      IsProgramOf input program → first_broken program ≡ None → IsEnd answer ⊎ (answer ≡ status.NoMemory)
+  pub bad_program : (input : List ℕ) (program : Program) (kind behaviour step rule : ℕ) → IsGiven source input → (HasFailed source → ⊥) → IsProgramOf input program →
+      first_broken program ≡ Some (broken kind behaviour step rule) → IsUnlessMemory answer (status.BadProgram kind behaviour step rule)
+  pub end : (input : List ℕ) (program : Program) → IsGiven source input → (HasFailed source → ⊥) → (HasFailed sink → ⊥) → IsProgramOf input program →
+      first_broken program ≡ None → IsEnd answer ⊎ (answer ≡ status.NoMemory)
 
--- both
+-- when each answer to an order comes
+pub record OrderCauses (order : Order) (source sink : Sides) (answer : Status) (book : List Event) : Type 0 where
+  pub only : ComesOnly order source sink answer book
+  pub wherever : ComesWherever source sink answer
+
+-- when each answer to words comes
 pub record Causes (words : List (List ℕ)) (source sink : Sides) (answer : Status) (book : List Event) : Type 0 where
-  pub only : ComesOnly words source sink answer book
-  pub wherever : ComesWherever words source sink answer
+  pub bad_words : order_of words ≡ None → IsUnlessMemory answer status.BadWords
+  pub bad_words_only : answer ≡ status.BadWords → order_of words ≡ None
+  pub ordered : (order : Order) → order_of words ≡ Some order → OrderCauses order source sink answer book

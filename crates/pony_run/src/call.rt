@@ -5,7 +5,7 @@ ghost use Rattle.report_text.specs.Ends.{IsEnd};
 ghost use Rattle.report_text.specs.Refusals.{HasRefusal};
 ghost use Rattle.word_line.specs.Orders.{IsInRange};
 ghost use Rattle.behaviour_code.specs.Good.{ProgramIsGood};
-ghost use Rattle.pony_run.specs.Causes.{Causes};
+ghost use Rattle.pony_run.specs.Causes.{Causes, OrderCauses};
 ghost use Rattle.pony_run.specs.Headline.{Answers, IsRefusedAs, MeansInput, MeansProgram, MeansRun, MeansText, RunsOrder, Writes, WritesReport};
 ghost use Rattle.pony_run.specs.Streams.{most_bytes, sides};
 
@@ -149,6 +149,20 @@ pub fn run_single<S: Source, K: Sink>(
     sink: &mut K,
 ) -> Outcome
     requires { IsInRange order.now }
+    ensures runs { RunsOrder order.now (sides S.left S.faults source.old source.new) (sides K.written K.faults sink.old sink.new) result.status result.book.entries }
+    ensures causes { OrderCauses order.now (sides S.left S.faults source.old source.new) (sides K.written K.faults sink.old sink.new) result.status result.book.entries }
+{
+    run_job(alloc, order, source, sink)
+}
+
+/// The job of an order, by what it took, wrote and answers.
+fn run_job<S: Source, K: Sink>(
+    alloc: Global,
+    order: &Order,
+    source: &mut S,
+    sink: &mut K,
+) -> Outcome
+    requires { IsInRange order.now }
     ensures { RunsOrder order.now (sides S.left S.faults source.old source.new) (sides K.written K.faults sink.old sink.new) result.status result.book.entries }
 {
     match order.job {
@@ -170,7 +184,7 @@ fn run_all<R: AllocGlobal, S: Source, K: Sink>(
     ensures { Answers (map (λ word. word.now) words.entry.now) (sides S.left S.faults source.old source.new) (sides K.written K.faults sink.old sink.new) result.status result.book.entries }
 {
     match read_words(rt.alloc(), words) {
-        Ok(order) => run_single(rt.alloc(), &order, source, sink),
+        Ok(order) => run_job(rt.alloc(), &order, source, sink),
         Err(WordErr::BadWords) => refuse(rt.alloc(), Status::BadWords, sink),
         Err(WordErr::NoMemory) => idle(rt.alloc(), Status::NoMemory),
     }

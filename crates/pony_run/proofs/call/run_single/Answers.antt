@@ -1,0 +1,5 @@
+use Rattle.pony_run.proofs.Caused.{single_caused}
+use Rattle.pony_run.proofs.call.run_single.Goals as goal
+
+pub returns-clause-causes : goal.returns-clause-causes
+returns-clause-causes g c = single_caused _ _ _ _ _ c.run_job.ensures
