@@ -1,5 +1,5 @@
 -- Facts of tests, choices and lists that speak of no text.
-use Rattle.std.proofs.Common.{◌≡◌, ℕ, ◌+◌, ◌≤◌, Bool, true, false, cond, List, [], ◌∷◌, ◌++◌, ◌&&◌, ◌||◌, filter, length, length-append, refl, Option, Some, None, if◌then◌else◌, ◌⊎◌, inl, inr, arith}
+use Rattle.std.proofs.Common.{◌≡◌, ℕ, ◌≤◌, Bool, true, false, cond, List, [], ◌∷◌, ◌++◌, ◌&&◌, ◌||◌, filter, length, length-append, refl, Option, Some, None, if◌then◌else◌, ◌⊎◌, inl, inr, arith}
 use Rattle.std.specs.Option.{option_or}
 use Rattle.behaviour_code.specs.Good.{Each}
 

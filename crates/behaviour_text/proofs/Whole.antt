@@ -1,6 +1,6 @@
 -- The lines of a program are read as that program.
 use Rattle.behaviour_text.proofs.Choices.{push_grows}
-use Rattle.std.proofs.Common.{◌≡◌, ℕ, ◌<◌, ◌≤◌, Bool, true, false, List, [], ◌∷◌, ◌++◌, length, refl, ap, ap₂, sym, ◌∙◌, subst, arith, Option, Some, None, IfSome, if◌then◌else◌, le-ltb, bytes_eq, length-append}
+use Rattle.std.proofs.Common.{◌≡◌, ℕ, ◌<◌, ◌≤◌, Bool, true, false, List, [], ◌∷◌, ◌++◌, length, refl, ap, ap₂, sym, ◌∙◌, subst, arith, Option, Some, None, IfSome, if◌then◌else◌, le-ltb, bytes_eq}
 use Rattle.std.specs.List.{list_any}
 use Rattle.behaviour_text.proofs.Known.{finds, texts_kept}
 use Rattle.behaviour_text.proofs.Reread.{opcode_for, operands_for, words_for, shape_read, instr_read, spelled_word}
