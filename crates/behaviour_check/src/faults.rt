@@ -145,7 +145,7 @@ fn kinds_fault(kinds: &[Kind]) -> Option<CheckFault>
 
 /// What fails first in a program.
 #[tactic(auto, unfolding(crate::specs::Rules::first_broken))]
-fn first_fault(program: &Program) -> Option<CheckFault>
+pub(crate) fn first_fault(program: &Program) -> Option<CheckFault>
     ensures { result ≡ first_broken program.now }
 {
     if program.start_name().is_some() {

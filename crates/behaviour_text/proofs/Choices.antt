@@ -1,5 +1,5 @@
 -- Facts of tests, choices and lists that speak of no text.
-use Rattle.std.proofs.Common.{◌≡◌, ℕ, ◌+◌, ◌≤◌, Bool, true, false, cond, List, [], ◌∷◌, ◌++◌, ◌&&◌, ◌||◌, filter, length, length-append, refl, Option, Some, None, if◌then◌else◌, ◌⊎◌, inl, inr, arith}
+use Rattle.std.proofs.Common.{◌≡◌, ℕ, ◌≤◌, Bool, true, false, cond, List, [], ◌∷◌, ◌++◌, ◌&&◌, ◌||◌, filter, length, length-append, refl, Option, Some, None, if◌then◌else◌, ◌⊎◌, inl, inr, arith}
 use Rattle.std.specs.Option.{option_or}
 use Rattle.behaviour_code.specs.Good.{Each}
 
@@ -49,9 +49,9 @@ filter_first p x xs = by_test (p x)
     by_test false = refl
 
 -- a list to which one may be added does not shrink
-pub grown_by : {X : Type 0} (b : Bool) (xs : List X) (x : X) → length xs ≤ length (if b then xs else xs ++ x ∷ [])
-grown_by true xs x = omega arith
-grown_by false xs x = omega (arith, length-append xs (x ∷ []))
+pub push_grows : {X : Type 0} (b : Bool) (xs : List X) (x : X) → length xs ≤ length (if b then xs else xs ++ x ∷ [])
+push_grows true xs x = omega arith
+push_grows false xs x = omega (arith, length-append xs (x ∷ []))
 
 pub each_push : {X : Type 0} (P : X → Type 0) (xs : List X) (x : X) → Each P xs → P x → Each P (xs ++ x ∷ [])
 each_push P [] x h k = (k, tt)

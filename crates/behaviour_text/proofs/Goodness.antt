@@ -12,7 +12,7 @@ use Rattle.behaviour_code.specs.declared.code.Behaviour.{Behaviour}
 use Rattle.behaviour_code.specs.declared.code.Kind.{Kind}
 use Rattle.behaviour_code.specs.declared.code.Program.{Program}
 use Rattle.behaviour_code.specs.declared.instr.Instr.{Instr}
-use Rattle.behaviour_text.specs.Reading.{start, closed_at, closed, named, read_from, finished, finish, read_text}
+use Rattle.behaviour_text.specs.Reading.{start, closed_at, closed, read_from, finished, finish, read_text}
 use Rattle.behaviour_text.specs.Text.{kind_lines, said_lines}
 use Rattle.behaviour_text.specs.declared.errors.TextErr.{TextErr}
 use Rattle.behaviour_text.specs.declared.reader.Reader.{Reader}

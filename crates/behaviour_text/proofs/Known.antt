@@ -8,7 +8,7 @@ use Rattle.behaviour_code.specs.Names.{text_of, with_text, interned}
 use Rattle.behaviour_code.specs.declared.code.Behaviour.{Behaviour}
 use Rattle.behaviour_code.specs.declared.code.Kind.{Kind}
 use Rattle.behaviour_code.specs.declared.instr.Instr.{Instr}
-use Rattle.behaviour_text.specs.Text.{instr_words, behaviour_begin, behaviour_end, kind_begin, behaviour_lines, kind_lines}
+use Rattle.behaviour_text.specs.Text.{instr_words, behaviour_begin, kind_begin, behaviour_lines, kind_lines}
 use Rattle.behaviour_text.specs.declared.place.Stage.{Stage}
 use Rattle.behaviour_text.specs.declared.place.Stage.TheVariants.{Start, InKind, InBehaviour}
 use Rattle.behaviour_text.specs.declared.reader.Reader.{Reader}

@@ -1,11 +1,10 @@
 -- What is read has its names in order, each once.
 use Rattle.behaviour_text.proofs.Steps.{kept, end_read, line_read}
 use Rattle.behaviour_text.proofs.Choices.{or_right, option_or_none, filter_first, each_push}
-use Rattle.std.proofs.Common.{◌≡◌, ℕ, ◌+◌, ◌<◌, ◌||◌, Bool, true, false, cond, not, List, [], ◌∷◌, ◌++◌, length, map, flat_map, filter, refl, ap, sym, ◌∙◌, subst, arith, Option, Some, None, IfSome, Result, Ok, if◌then◌else◌, bytes_eq, slice_index_or, length-append, zero, suc, option_map, inl, inr}
+use Rattle.std.proofs.Common.{◌≡◌, ℕ, ◌+◌, ◌<◌, ◌||◌, Bool, true, false, cond, not, List, [], ◌∷◌, ◌++◌, length, map, flat_map, filter, refl, ap, sym, ◌∙◌, subst, arith, Option, Some, None, IfSome, Ok, if◌then◌else◌, bytes_eq, slice_index_or, length-append, zero, suc, option_map, inl, inr}
 use Rattle.std.specs.List.{list_any}
 use Rattle.std.proofs.lemmas.Bool.{cases_lt}
 use Rattle.std.proofs.lemmas.Slice.Eq.{bytes_eq-Decides}
-use Rattle.text_lines.specs.Lines.{line_fault}
 use Rattle.behaviour_text.proofs.Shapes.{names_are}
 use Rattle.behaviour_text.proofs.Reread.{opcode_for, operands_for, words_for, spelled_word}
 use Rattle.behaviour_code.specs.Good.{Each, name_in, AreApart, instr_names, body_names, behaviours_names, kinds_names}

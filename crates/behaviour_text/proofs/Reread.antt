@@ -1,6 +1,6 @@
 -- What an instruction is spelled as is read as that instruction.
 use Rattle.behaviour_text.proofs.Choices.{both, and_true}
-use Rattle.std.proofs.Common.{◌≡◌, ℕ, ◌+◌, ◌<◌, ◌≤◌, ◌^◌, Bool, true, false, List, [], ◌∷◌, ◌==◌, ◌&&◌, length, map, refl, ap, ap₂, sym, ◌∙◌, subst, arith, Option, Some, None, IfSome, if◌then◌else◌, is_some, nat_lt, decimal, get_or, not, All, le-leb, lt-ltb, ne_eqb, ◌⊎◌, inl, inr, zero, suc}
+use Rattle.std.proofs.Common.{◌≡◌, ℕ, ◌+◌, ◌<◌, ◌≤◌, ◌^◌, Bool, true, List, [], ◌∷◌, ◌==◌, ◌&&◌, length, map, refl, ap, ap₂, sym, ◌∙◌, subst, arith, Option, Some, None, IfSome, if◌then◌else◌, is_some, nat_lt, decimal, get_or, not, All, le-leb, lt-ltb, ne_eqb, ◌⊎◌, inl, inr, zero, suc}
 use Rattle.std.specs.List.{list_all}
 use Rattle.std.specs.Str.Parse.{digits_value}
 use Rattle.std.proofs.lemmas.Fmt.{digits_decimal, digits_value-decimal, decimal_nonempty, first_decimal, decimal_digit}

@@ -1,6 +1,6 @@
 -- What was read so far says what was in the lines.
 use Rattle.behaviour_text.proofs.Choices.{neither, no_fault}
-use Rattle.std.proofs.Common.{◌≡◌, ℕ, Bool, true, false, List, [], ◌∷◌, ◌++◌, ◌||◌, length, map, flat_map, refl, ap, sym, ◌∙◌, Option, Some, None, IfSome, if◌then◌else◌, nat_lt, append_assoc, append-nil, min}
+use Rattle.std.proofs.Common.{◌≡◌, ℕ, false, List, [], ◌∷◌, ◌++◌, length, map, flat_map, refl, ap, sym, ◌∙◌, Option, Some, None, IfSome, nat_lt, append_assoc, append-nil, min}
 use Rattle.std.proofs.lemmas.List.{map-append}
 use Rattle.std.proofs.lemmas.List.Concat.{flat_map-append}
 use Rattle.behaviour_text.proofs.Spelling.{instr_again, begin_again, end_again}

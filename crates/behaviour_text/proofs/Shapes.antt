@@ -1,6 +1,6 @@
 -- What a line without a fault in its operands is like.
 use Rattle.behaviour_text.proofs.Choices.{both, either, option_or_none, chosen_none}
-use Rattle.std.proofs.Common.{◌≡◌, ℕ, ◌+◌, ◌<◌, ◌≤◌, Bool, true, false, List, [], ◌∷◌, length, refl, arith, Option, Some, None, IfSome, if◌then◌else◌, ◌&&◌, leb-true, IsUtf8, nat_le, ◌||◌, ◌==◌, ◌⊎◌, inl, inr, eqb-true, IsAscii, zero, suc, map, subst}
+use Rattle.std.proofs.Common.{◌≡◌, ℕ, ◌+◌, ◌<◌, ◌≤◌, Bool, true, false, List, [], ◌∷◌, length, refl, arith, Option, Some, None, IfSome, if◌then◌else◌, ◌&&◌, leb-true, IsUtf8, nat_le, ◌||◌, ◌==◌, inl, inr, eqb-true, IsAscii, zero, suc, map, subst}
 use Rattle.std.specs.List.{list_all}
 use Rattle.std.proofs.lemmas.Str.{IsUtf8-from_ascii}
 use Rattle.std.proofs.lemmas.List.{length-map}
@@ -8,7 +8,6 @@ use denote.Ref.{Bor}
 use Rattle.behaviour_code.specs.Names.{is_name_byte, is_name}
 use Rattle.behaviour_text.specs.Faults.{place_fault, word_fault}
 use Rattle.behaviour_text.specs.Items.{name_place}
-use Rattle.behaviour_text.specs.Reading.{named}
 use Rattle.behaviour_text.specs.Table.{operands_of, most_further, operand_fault, operands_fault, lowest, fits_count, shape_fault}
 use Rattle.behaviour_text.specs.Words.{word_at}
 use Rattle.behaviour_text.specs.declared.place.Place.{Place}

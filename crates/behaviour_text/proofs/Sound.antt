@@ -1,14 +1,12 @@
 -- What is read without a fault is what the lines say.
 use Rattle.behaviour_text.proofs.Steps.{kept, end_read, line_read}
-use Rattle.behaviour_text.proofs.Choices.{option_or_none, filter_first, grown_by, each_push, each_weaker}
-use Rattle.std.proofs.Common.{option_map, ◌≡◌, ℕ, ◌+◌, ◌<◌, ◌≤◌, Bool, true, false, cond, not, List, [], ◌∷◌, ◌++◌, length, map, filter, refl, ap, sym, ◌∙◌, subst, arith, Option, Some, None, IfSome, Result, Ok, Err, if◌then◌else◌, bytes_eq, slice_index_or, append_assoc, append-nil, length-append}
+use Rattle.behaviour_text.proofs.Choices.{option_or_none, filter_first, push_grows, each_push, each_weaker}
+use Rattle.std.proofs.Common.{◌≡◌, ℕ, ◌+◌, ◌<◌, ◌≤◌, Bool, true, false, cond, not, List, [], ◌∷◌, ◌++◌, length, map, filter, refl, ap, sym, ◌∙◌, subst, arith, Option, Some, None, IfSome, Result, Ok, Err, if◌then◌else◌, bytes_eq, slice_index_or, append_assoc, append-nil}
 use Rattle.std.specs.List.{list_any}
 use Rattle.text_lines.specs.Lines.{line_fault}
 use Rattle.text_lines.specs.Lines.{lines_of}
 use Rattle.std.proofs.Common.{zero, suc}
 use Rattle.behaviour_text.proofs.Said.{closed_said}
-use Rattle.text_lines.specs.declared.LineKind.{LineKind}
-use Rattle.text_lines.specs.declared.LineKind.TheVariants.{NotAscii, LongLine}
 use Rattle.behaviour_text.proofs.Said.{Lines, so_far, so_far_at, item_said, on_place, inside_place}
 use Rattle.behaviour_text.proofs.Known.{InstrKnown, BehaviourKnown, KindKnown, InKindKnown, InBehaviourKnown, OpenKnown, KnownAt, said_same, texts_kept, finds}
 use Rattle.behaviour_code.specs.Good.{Each}
@@ -112,7 +110,7 @@ numbers names (Some p) ws =
     let f = finds names (word_at ws p) in
     record {
       same = texts_kept names (word_at ws p);
-      grown = grown_by (list_any (bytes_eq (word_at ws p)) names) names (word_at ws p);
+      grown = push_grows (list_any (bytes_eq (word_at ws p)) names) names (word_at ws p);
       there = f.said;
       within = f.within;
     }

@@ -1,6 +1,6 @@
 -- The lines of a program are read as that program.
-use Rattle.behaviour_text.proofs.Choices.{grown_by}
-use Rattle.std.proofs.Common.{◌≡◌, ℕ, ◌<◌, ◌≤◌, Bool, true, false, List, [], ◌∷◌, ◌++◌, length, refl, ap, ap₂, sym, ◌∙◌, subst, arith, Option, Some, None, IfSome, if◌then◌else◌, le-ltb, bytes_eq, length-append}
+use Rattle.behaviour_text.proofs.Choices.{push_grows}
+use Rattle.std.proofs.Common.{◌≡◌, ℕ, ◌<◌, ◌≤◌, Bool, true, false, List, [], ◌∷◌, ◌++◌, length, refl, ap, ap₂, sym, ◌∙◌, subst, arith, Option, Some, None, IfSome, if◌then◌else◌, le-ltb, bytes_eq}
 use Rattle.std.specs.List.{list_any}
 use Rattle.behaviour_text.proofs.Known.{finds, texts_kept}
 use Rattle.behaviour_text.proofs.Reread.{opcode_for, operands_for, words_for, shape_read, instr_read, spelled_word}
@@ -27,7 +27,7 @@ pub record IsFront (names all : List (List ℕ)) : Type 0 where
 
 pub front_before : (names all : List (List ℕ)) (text : List ℕ) → IsFront (with_text names text) all → IsFront names all
 front_before names all text h =
-    let grown = grown_by (list_any (bytes_eq text) names) names text in
+    let grown = push_grows (list_any (bytes_eq text) names) names text in
     let short = h.short in
     record { same = λ n k. texts_kept names text n k ∙ h.same n (omega arith); short = omega arith }
 
@@ -41,15 +41,15 @@ number_found names all n apart within front =
     apart.apart p n (omega arith) within (sym (front.same p inside) ∙ f.said)
 
 -- the name in an instruction, 0 where it has none, and the texts after it
-abbrev named_by : List (List ℕ) → (ℕ → List ℕ) → Option ℕ → ℕ × List (List ℕ)
-named_by names text None = (0, names)
-named_by names text (Some name) = interned names (text name)
+abbrev instr_named : List (List ℕ) → (ℕ → List ℕ) → Option ℕ → ℕ × List (List ℕ)
+instr_named names text None = (0, names)
+instr_named names text (Some name) = interned names (text name)
 
-names_by : (names : List (List ℕ)) (text : ℕ → List ℕ) (o : Option ℕ) → (named_by names text o).1 ≡ instr_names text names o
-names_by names text None = refl
-names_by names text (Some name) = refl
+instr_named-texts : (names : List (List ℕ)) (text : ℕ → List ℕ) (o : Option ℕ) → (instr_named names text o).1 ≡ instr_names text names o
+instr_named-texts names text None = refl
+instr_named-texts names text (Some name) = refl
 
-named_for : (names : List (List ℕ)) (text : ℕ → List ℕ) (i : Instr) → named names (name_place (W.Instr (opcode_for i))) (operands_for text i) ≡ named_by names text (name_in i)
+named_for : (names : List (List ℕ)) (text : ℕ → List ℕ) (i : Instr) → named names (name_place (W.Instr (opcode_for i))) (operands_for text i) ≡ instr_named names text (name_in i)
 named_for names text (I.Drop d) = refl
 named_for names text (I.Int d n) = refl
 named_for names text (I.Own d) = refl
@@ -102,7 +102,7 @@ few_enough : (n : ℕ) → n < 1024 → body_fault n ≡ None
 few_enough n h = ap (λ (b : Bool). if◌then◌else◌ {A = Option ℕ} b (Some 9) None) (le-ltb 1023 n (omega arith))
 
 name_found : (names all : List (List ℕ)) (o : Option ℕ) → AreApart all → IfSome o (NameFits all) → IsFront (instr_names (text_of all) names o) all →
-    (named_by names (text_of all) o).0 ≡ unwrap_or o 0
+    (instr_named names (text_of all) o).0 ≡ unwrap_or o 0
 name_found names all None apart fits front = refl
 name_found names all (Some l) apart fits front = number_found names all l apart fits.within front
 
@@ -131,7 +131,7 @@ instr_takes all r i apart stage few fits name front =
     let text = text_of all in
     let word = W.Instr (opcode_for i) in
     let ws = operands_for text i in
-    let found = named_by r.names text (name_in i) in
+    let found = instr_named r.names text (name_in i) in
     let renamed : Reader = record r { names = found.1 } in
     let place : place_fault (place_of r) word ws ≡ None = ap₂ inside_fault stage (few_enough (length r.body) few) in
     let read : instr_of (opcode_for i) found.0 ws ≡ i =
@@ -140,4 +140,4 @@ instr_takes all r i apart stage few fits name front =
     ap (λ (f : ℕ × List (List ℕ)). with_named r word f ws) (named_for r.names text i) ∙ ap (with_instr renamed) read in
     let takes : Takes r (with_instr renamed i) (instr_words text i) =
     subst (Takes r (with_instr renamed i)) (sym (words_for text i)) (takes_word r (with_instr renamed i) word ws (shape_read text i fits (name_good all (name_in i) name)) place next) in
-    subst (λ (names : List (List ℕ)). Takes r (record r { names = names; body = r.body ++ i ∷ [] }) (instr_words text i)) (names_by r.names text (name_in i)) takes
+    subst (λ (names : List (List ℕ)). Takes r (record r { names = names; body = r.body ++ i ∷ [] }) (instr_words text i)) (instr_named-texts r.names text (name_in i)) takes

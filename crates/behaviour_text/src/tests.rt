@@ -166,6 +166,49 @@ const TEXTS: &[(&[u8], u32, u8)] = &[
     (b"hello\nkind A 9\n\xC8", 1, 3),
 ];
 
+// Texts that repeat a piece, and once more behind a middle: how often, and their first fault.
+const LIMITS: &[(&[u8], &[u8], usize, &[u8], usize, (u32, u8))] = &[
+    (b"", b"kind A 0\n", 256, b"", 0, (0, 0)),
+    (b"", b"kind A 0\n", 257, b"", 0, (257, 9)),
+    (
+        b"kind A 0\n",
+        b"on b 0\nend\n",
+        64,
+        b"kind B 0\n",
+        64,
+        (0, 0),
+    ),
+    (b"kind A 0\n", b"on b 0\nend\n", 65, b"", 0, (130, 9)),
+    (
+        b"kind A 0\n",
+        b"on b 0\nend\n",
+        64,
+        b"kind B 0\n",
+        65,
+        (259, 9),
+    ),
+    (
+        b"kind A 0\non b 0\n",
+        b"pin\n",
+        1024,
+        b"end\non c 0\n",
+        1024,
+        (2052, 8),
+    ),
+    (b"kind A 0\non b 0\n", b"pin\n", 1025, b"end", 0, (1027, 9)),
+    (
+        b"kind A 0\non b 0\n",
+        b"pin\n",
+        1024,
+        b"end\non c 0\n",
+        1025,
+        (2053, 9),
+    ),
+    (b"", b"#", 256, b"\nkind Main 0", 0, (0, 0)),
+    (b"", b"#", 257, b"\nkind Main 0", 0, (1, 2)),
+    (b"", b"\n", TEXT_LIMIT, b"", 0, (0, 0)),
+];
+
 /// The line and the kind of the first fault of a text, zeros where it has none.
 fn fault(alloc: Global, text: &[u8]) -> Result<(u32, u8), Fail> {
     if text.len() > TEXT_LIMIT {
@@ -178,19 +221,23 @@ fn fault(alloc: Global, text: &[u8]) -> Result<(u32, u8), Fail> {
     }
 }
 
-/// A text with a piece that stands in it several times.
+/// A text with a piece that stands in it several times, and again behind a middle.
 fn repeated(
     alloc: Global,
     head: &[u8],
     piece: &[u8],
     times: usize,
-    tail: &[u8],
+    middle: &[u8],
+    more: usize,
 ) -> Result<Vec<u8>, Fail> {
     let mut text = head.to_vec(alloc)?;
     for _ in 0..times {
         text.extend_from_slice(piece)?;
     }
-    text.extend_from_slice(tail)?;
+    text.extend_from_slice(middle)?;
+    for _ in 0..more {
+        text.extend_from_slice(piece)?;
+    }
     Ok(text)
 }
 
@@ -206,7 +253,7 @@ fn cut_texts_are_refused_where_they_end(rt: HostRuntime) -> Result<(), Fail> {
 fn lines_have_their_lowest_fault(rt: HostRuntime) -> Result<(), Fail> {
     let alloc = rt.alloc();
     for (i, (line, kind)) in LINES.iter().enumerate() {
-        let text = repeated(alloc, b"kind A 0\non b 0\n", line, 1, b"\nend\n")?;
+        let text = repeated(alloc, b"kind A 0\non b 0\n", line, 1, b"\nend\n", 0)?;
         let want = if *kind == 0 { (0, 0) } else { (3, *kind) };
         assert_eq!(rt; fault(alloc, &text)?, want, "at {i}");
     }
@@ -224,26 +271,9 @@ fn texts_have_their_first_fault(rt: HostRuntime) -> Result<(), Fail> {
 #[test]
 fn limits_hold_to_the_last_one(rt: HostRuntime) -> Result<(), Fail> {
     let alloc = rt.alloc();
-    let seven = PRINTS_SEVEN.as_slice();
-    let behaviour = b"on b 0\nend\n";
-    let two_kinds = repeated(alloc, b"kind A 0\n", behaviour, 64, b"kind B 0\n")?;
-    let begun = b"kind A 0\non b 0\n";
-    let two_bodies = repeated(alloc, begun, b"pin\n", 1024, b"end\non c 0\n")?;
-    for (text, want) in [
-        (repeated(alloc, b"", b"kind A 0\n", 256, b"")?, (0, 0)),
-        (repeated(alloc, b"", b"kind A 0\n", 257, b"")?, (257, 9)),
-        (repeated(alloc, &two_kinds, behaviour, 64, b"")?, (0, 0)),
-        (repeated(alloc, &two_kinds, behaviour, 65, b"")?, (259, 9)),
-        (
-            repeated(alloc, &two_bodies, b"pin\n", 1024, b"end")?,
-            (0, 0),
-        ),
-        (repeated(alloc, begun, b"pin\n", 1025, b"end")?, (1027, 9)),
-        (repeated(alloc, b"#", b"#", 255, b"\n")?, (0, 0)),
-        (repeated(alloc, b"#", b"#", 256, b"\n")?, (1, 2)),
-        (repeated(alloc, seven, b"\n", TEXT_LIMIT - 45, b"")?, (0, 0)),
-    ] {
-        assert_eq!(rt; fault(alloc, &text)?, want);
+    for (i, (head, piece, times, middle, more, want)) in LIMITS.iter().enumerate() {
+        let text = repeated(alloc, head, piece, *times, middle, *more)?;
+        assert_eq!(rt; fault(alloc, &text)?, *want, "at {i}");
     }
     Ok(())
 }
@@ -255,23 +285,42 @@ fn program_of(alloc: Global, text: &[u8]) -> Result<Program, Fail> {
     Ok(parse(alloc, text)?)
 }
 
+/// An instruction in numbers: which one it is, and its operands.
+fn numbers(instr: &Instr) -> [u64; 4] {
+    match instr {
+        Instr::Sub(d, a, b) => [1, *d, *a, *b],
+        Instr::Get(d, s, n) => [2, *d, *s, *n],
+        Instr::Load(d, f) => [3, *d, *f, 0],
+        Instr::Store(f, s) => [4, *f, *s, 0],
+        Instr::JumpZero(a, label) => [5, *a, u64::from(label.0), 0],
+        Instr::Send(to, name, values) => [
+            6,
+            *to,
+            u64::from(name.0),
+            values.as_slice().len() as u64,
+        ],
+        _ => [0; 4],
+    }
+}
+
 #[test]
 fn operands_stand_in_their_order(rt: HostRuntime) -> Result<(), Fail> {
     let text =
-        b"kind A 2\non b 3\nget r1 r2 9\nstore f4 r5\nload r6 f7\nsend r8 A r1 r2\njzero r3 b\nrow r4 r5\nsub r1 r2 r3\nend";
+        b"kind A 2\non b 3\nsub r1 r2 r3\nget r1 r2 9\nload r6 f7\nstore f4 r5\njzero r3 b\nsend r8 c r1 r2\nend";
+    let want = [
+        [1, 1, 2, 3],
+        [2, 1, 2, 9],
+        [3, 6, 7, 0],
+        [4, 4, 5, 0],
+        [5, 3, 1, 0],
+        [6, 8, 2, 2],
+    ];
     let program = program_of(rt.alloc(), text)?;
     let body = program.body(0, 0);
-    assert_eq!(rt; body.len(), 7);
-    assert_eq!(rt; program.field_count(0), 2);
-    assert!(rt; matches!(&body[0], Instr::Get(1, 2, 9)));
-    assert!(rt; matches!(&body[1], Instr::Store(4, 5)));
-    assert!(rt; matches!(&body[2], Instr::Load(6, 7)));
-    assert!(rt;
-        matches!(&body[3], Instr::Send(8, kind, values) if kind.0 == 0 && values.as_slice() == [1, 2].as_slice())
-    );
-    assert!(rt; matches!(&body[4], Instr::JumpZero(3, label) if label.0 == 1));
-    assert!(rt; matches!(&body[5], Instr::Row(4, values) if values.as_slice() == [5].as_slice()));
-    assert!(rt; matches!(&body[6], Instr::Sub(1, 2, 3)));
+    assert_eq!(rt; body.len(), 6);
+    for i in 0..6 {
+        assert_eq!(rt; numbers(&body[i]), want[i], "at {i}");
+    }
     Ok(())
 }
 
