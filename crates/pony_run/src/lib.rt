@@ -10,3 +10,6 @@ mod writing;
 pub use call::{Outcome, run_single, run_words};
 pub use report_text::Status;
 pub use word_line::{Job, Order};
+
+#[cfg(test)]
+mod tests;
