@@ -1,6 +1,6 @@
 // Examples from outside of the contracts: each instruction, the edges of what it reads, and the acts.
 
-ghost use Rattle.std.specs.Prelude.{◌≡◌, ◌∷◌, ◌&&◌, ◌==◌, ◌<◌, ◌≤◌, ◌+◌, ◌^◌, [], true, false, None, Some, Contains, if◌then◌else◌, length, IfOk, IfSome};
+ghost use Rattle.std.specs.Prelude.{◌≡◌, ◌∷◌, ◌&&◌, ◌==◌, ◌<◌, ◌≤◌, [], true, false, None, Some, Contains, if◌then◌else◌, length, IfOk, IfSome};
 ghost use Rattle.std.proofs.Common.{refl, sym, arith};
 ghost use Rattle.std.proofs.lemmas.Bool.{and_parts, eqb-true};
 ghost use Rattle.std.proofs.lemmas.Option.{none-some};
