@@ -1,5 +1,5 @@
 -- How many rows a turn makes.
-use Rattle.std.proofs.Common.{ℕ, zero, suc, ◌+◌, ◌≤◌, cond, List, [], ◌∷◌, length, map, drop, Option, None, Some, arith, length-append}
+use Rattle.std.proofs.Common.{ℕ, ◌+◌, ◌≤◌, cond, List, [], ◌∷◌, length, map, drop, Option, None, Some, arith, length-append}
 use Rattle.std.proofs.lemmas.List.{length-drop}
 use Rattle.orca_names.specs.declared.row.Fields.{Fields}
 use Rattle.behaviour_code.specs.declared.instr.Instr.{Instr}

@@ -1,1 +1,4 @@
 pub mod Bounds
+pub mod Known
+pub mod Local
+pub mod Names

@@ -2,10 +2,13 @@
 //! act, and the data that it speaks of.
 //!
 //! The definitions stand in `specs/Segment.antt`; the code that meets them is the crate `turn_step`.
+//! What holds of every segment stands in `specs/Laws.antt`, and is proved of the functions of `laws`.
 #![tactic(auto)]
 
 mod act;
+mod laws;
 mod registers;
 
 pub use act::{Act, Effect, Frame};
+pub use laws::{segment_is_local, segment_names_only_known};
 pub use registers::RegisterFile;

@@ -1,11 +1,12 @@
 -- A turn goes on by one instruction, or to a label.
-use Rattle.std.proofs.Common.{◌≡◌, ℕ, ◌+◌, ◌<◌, cond, true, false, List, [], ◌∷◌, length, drop, get_or, None, Some, sym, ap, ◌∙◌}
+use Rattle.std.proofs.Common.{◌≡◌, ℕ, ◌+◌, ◌<◌, cond, true, false, List, [], ◌∷◌, length, drop, get_or, None, Some, refl, sym, ap, ◌∙◌}
 use Rattle.std.proofs.lemmas.List.{at_drop_more, drop-drop}
 use Rattle.behaviour_code.specs.declared.instr.Instr.{Instr}
 use Rattle.behaviour_code.specs.Find.{is_label}
-use Rattle.turn_rules.specs.Segment.{Setting, Turn, run_from, on_effect, step_of}
+use Rattle.turn_rules.specs.declared.act.Effect.{Effect}
+use Rattle.turn_rules.specs.declared.act.Effect.TheVariants.{Leap}
+use Rattle.turn_rules.specs.Segment.{Setting, Turn, Stop, run_from, on_effect, step_of}
 use Rattle.turn_step.specs.Scratch.{place_after}
-use Rattle.std.proofs.Common.{refl}
 
 -- one instruction more
 pub run_from-next : (p : Setting) (body : List Instr) (i : ℕ) (d : Instr) (t : Turn) → i < length body → run_from p (drop i body) None i t ≡ on_effect (run_from p (drop (i + 1) body)) i (step_of p (get_or body i d) t)
@@ -26,3 +27,14 @@ from_part p body name (x ∷ xs) i t e =
 
 pub run_from-label : (p : Setting) (body : List Instr) (name : ℕ) (i : ℕ) (t : Turn) → run_from p (drop i body) (Some name) i t ≡ run_from p (drop (place_after name (drop i body) i) body) None (place_after name (drop i body) i) t
 run_from-label p body name i t = from_part p body name (drop i body) i t refl
+
+-- a leap goes on behind the label
+pub run_from-leap : (p : Setting) (body : List Instr) (i place label : ℕ) (d : Instr) (effect : Effect) (t u : Turn) (stop : Stop) → i < length body → d ≡ get_or body i d → step_of p d t ≡ (effect, u) → effect ≡ Leap label
+    → place ≡ place_after label (drop (i + 1) body) (i + 1) → run_from p (drop i body) None i t ≡ stop → run_from p (drop place body) None place u ≡ stop
+run_from-leap p body i place label d effect t u stop inside at stepped leaps found before =
+    let go_on : Effect × Turn → Stop = on_effect (run_from p (drop (i + 1) body)) i in
+    let sought : Stop = run_from p (drop (i + 1) body) (Some label) (i + 1) u in
+    let at_label : run_from p (drop place body) None place u ≡ sought = ap (λ (n : ℕ). run_from p (drop n body) None n u) found ∙ sym (run_from-label p body label (i + 1) u) in
+    let at_step : go_on (step_of p d t) ≡ sought = ap go_on (stepped ∙ ap (λ (e : Effect). (e, u)) leaps) in
+    let at_instr : run_from p (drop i body) None i t ≡ go_on (step_of p d t) = run_from-next p body i d t inside ∙ ap (λ (x : Instr). go_on (step_of p x t)) (sym at) in
+    at_label ∙ sym at_step ∙ sym at_instr ∙ before

@@ -1,0 +1,342 @@
+// Examples from outside of the contracts: each instruction, the edges of what it reads, and the acts.
+
+ghost use Rattle.std.specs.Prelude.{◌≡◌, ◌∷◌, ◌&&◌, ◌==◌, ◌<◌, ◌≤◌, [], true, false, None, Some, Contains, if◌then◌else◌, length, IfOk, IfSome};
+ghost use Rattle.std.proofs.Common.{refl, sym, arith};
+ghost use Rattle.std.proofs.lemmas.Bool.{and_parts, eqb-true};
+ghost use Rattle.std.proofs.lemmas.Option.{none-some};
+ghost use Rattle.behaviour_code.specs.Good.{Each, InstrFits, ProgramIsGood, name_in};
+
+use crate::{Act, Frame, RegisterFile, segment};
+use behaviour_check::{CheckFault, check};
+use behaviour_code::{Behaviour, Instr, Kind, Name, Names, Program, Registers, RowRegisters};
+use orca_names::{ActorName, Args, Fields, ObjName, Row, Rows, Value};
+use plain_list::Listed;
+use std::alloc::{AllocError, Global};
+use std::test::Fail;
+
+// The two names of the program serve as labels, kinds and behaviours.
+const MAIN: Name = Name(0);
+
+const START: Name = Name(1);
+
+const ME: ActorName = ActorName(4);
+
+const OTHER: ActorName = ActorName(9);
+
+const fn object(owner: ActorName, serial: u64) -> Value {
+    Value::Obj(ObjName { owner, serial })
+}
+
+// The one row of before.
+#[derive(Drop)]
+struct OneRow {
+    name: ObjName,
+    row: Row,
+}
+
+impl Rows for OneRow {
+    ghost rows = { λ s n. if (n.owner == s.name.owner) && (n.serial == s.name.serial) then Some s.row else None };
+
+    ghost all = { λ s. s.name ∷ [] };
+
+    fn row_of(&self, n: ObjName) -> Option<&Row> {
+        if n.owner == self.name.owner && n.serial == self.name.serial {
+            Some(&self.row)
+        } else {
+            None
+        }
+    }
+
+    ghost within = { λ s n row.
+        let is_it = (n.owner == s.name.owner) && (n.serial == s.name.serial) in
+        elim is_it as (λ b. is_it ≡ b → (if b then Some s.row else None) ≡ Some row → Contains (s.name ∷ []) n) [
+          | true ↦ λ same _.
+              let parts = and_parts (n.owner == s.name.owner) (n.serial == s.name.serial) same in
+              let owner = sym (eqb-true n.owner s.name.owner parts.0) in
+              let serial = sym (eqb-true n.serial s.name.serial parts.1) in
+              (0, omega arith, λ i. record { owner = owner i; serial = serial i })
+          | false ↦ λ _ found. absurd (none-some row found)
+        ] refl };
+}
+
+// The program whose first kind has two fields and the behaviour `start` of this body, and whose
+// second kind has nothing.
+fn program(alloc: Global, body: Vec<Instr>) -> Result<Program, AllocError>
+    requires short { length body.items ≤ 1024 }
+    requires good { Each (λ i. InstrFits i × IfSome (name_in i) (λ n. n < 2)) body.items }
+    ensures { IfOk result ProgramIsGood }
+{
+    let mut names = Names::new(alloc);
+    let main = names.intern("Main")?;
+    let start = names.intern("start")?;
+    let behaviour = Behaviour {
+        name: start,
+        parameters: 0,
+        body: Listed::of(body),
+    };
+    let first = Kind {
+        name: main,
+        fields: 2,
+        behaviours: Listed::of(vec![in alloc; behaviour]?),
+    };
+    let second = Kind {
+        name: start,
+        fields: 0,
+        behaviours: Listed::new(alloc),
+    };
+    Ok(Program {
+        kinds: Listed::of(vec![in alloc; first, second]?),
+        names,
+    })
+}
+
+// What a turn leaves, and what it made.
+#[derive(Drop)]
+struct Left {
+    act: Act,
+    frame: Frame,
+    fields: Fields,
+    made: Vec<Row>,
+}
+
+// A turn of actor 4 from a place of the body on, over the row of its object 2; its next object is 3.
+fn turn(alloc: Global, body: Vec<Instr>, place: u32) -> Result<Left, Fail>
+    requires short { length body.items ≤ 1024 }
+    requires good { Each (λ i. InstrFits i × IfSome (name_in i) (λ n. n < 2)) body.items }
+{
+    let code = check(program(alloc, body)?)?;
+    let values = [
+        Value::Num(7),
+        Value::Num(18_446_744_073_709_551_615),
+        Value::Null,
+        Value::Actor(OTHER),
+        object(ME, 2),
+        object(OTHER, 0),
+        Value::Num(0),
+        object(ME, 2),
+    ];
+    let mut frame = Frame {
+        kind: 0,
+        behaviour: 0,
+        place,
+        registers: RegisterFile::of(&Args::of(&values)),
+    };
+    let mut fields = Fields {
+        values: Args::of(&[Value::Num(3), Value::Null]),
+        pinned: false,
+    };
+    let rows = OneRow {
+        name: ObjName {
+            owner: ME,
+            serial: 2,
+        },
+        row: Row::of(&[Value::Num(5), Value::Actor(OTHER)]),
+    };
+    let mut made = Vec::new(alloc);
+    let act = segment(&code, ME, &mut frame, &mut fields, &rows, 3, &mut made)?;
+    Ok(Left {
+        act,
+        frame,
+        fields,
+        made,
+    })
+}
+
+#[test]
+fn numbers_and_values(rt: HostRuntime) -> Result<(), Fail> {
+    let alloc = rt.alloc();
+    let numbers = vec![in alloc;
+        Instr::Int(8, 5),
+        Instr::Add(9, 0, 1),
+        Instr::Sub(10, 2, 0),
+        Instr::Mul(11, 1, 1),
+        Instr::Less(12, 3, 0),
+        Instr::Less(13, 0, 0),
+        Instr::Add(14, 4, 5),
+        Instr::Copy(15, 3),
+        Instr::Drop(0),
+    ]?;
+    let left = turn(alloc, numbers, 0)?;
+    let want = [
+        Value::Null,
+        Value::Num(18_446_744_073_709_551_615),
+        Value::Null,
+        Value::Actor(OTHER),
+        object(ME, 2),
+        object(OTHER, 0),
+        Value::Num(0),
+        object(ME, 2),
+        Value::Num(5),
+        Value::Num(6),
+        Value::Num(18_446_744_073_709_551_609),
+        Value::Num(1),
+        Value::Num(1),
+        Value::Num(0),
+        Value::Num(0),
+        Value::Actor(OTHER),
+    ];
+    assert_eq!(rt; left.frame.registers.as_slice(), want.as_slice());
+    let values = vec![in alloc;
+        Instr::Own(8),
+        Instr::Same(9, 4, 7),
+        Instr::Same(10, 4, 5),
+        Instr::Same(11, 2, 6),
+        Instr::Same(12, 2, 15),
+        Instr::Less(13, 0, 1),
+    ]?;
+    let left = turn(alloc, values, 0)?;
+    let want = [
+        Value::Actor(ME),
+        Value::Num(1),
+        Value::Num(0),
+        Value::Num(0),
+        Value::Num(1),
+        Value::Num(1),
+        Value::Null,
+        Value::Null,
+    ];
+    assert_eq!(rt; &left.frame.registers.as_slice()[8..], want.as_slice());
+    Ok(())
+}
+
+#[test]
+fn rows_and_fields(rt: HostRuntime) -> Result<(), Fail> {
+    let alloc = rt.alloc();
+    let body = vec![in alloc;
+        Instr::Get(0, 4, 2),
+        Instr::Get(1, 5, 0),
+        Instr::Get(6, 3, 0),
+        Instr::Get(8, 4, 1),
+        Instr::Row(9, RowRegisters::of(vec![in alloc; 8, 2]?)),
+        Instr::Row(10, RowRegisters::of(vec![in alloc; 9]?)),
+        Instr::Get(11, 10, 0),
+        Instr::Get(12, 11, 0),
+        Instr::Load(13, 0),
+        Instr::Store(1, 10),
+        Instr::Load(14, 1),
+        Instr::Pin,
+    ]?;
+    let left = turn(alloc, body, 0)?;
+    let want = [
+        Value::Null,
+        Value::Null,
+        Value::Null,
+        Value::Actor(OTHER),
+        object(ME, 2),
+        object(OTHER, 0),
+        Value::Null,
+        object(ME, 2),
+        Value::Actor(OTHER),
+        object(ME, 3),
+        object(ME, 4),
+        object(ME, 3),
+        Value::Actor(OTHER),
+        Value::Num(3),
+        object(ME, 4),
+        Value::Null,
+    ];
+    assert_eq!(rt; left.frame.registers.as_slice(), want.as_slice());
+    assert_eq!(rt;
+        left.fields.values.as_slice(),
+        [Value::Num(3), object(ME, 4)].as_slice()
+    );
+    assert!(rt; left.fields.pinned);
+    assert_eq!(rt; left.made.len(), 2);
+    assert_eq!(rt;
+        left.made[0].as_slice(),
+        [Value::Actor(OTHER), Value::Null].as_slice()
+    );
+    assert_eq!(rt; left.made[1].as_slice(), [object(ME, 3)].as_slice());
+    let unpinned = turn(alloc, vec![in alloc; Instr::Pin, Instr::Unpin]?, 0)?;
+    assert!(rt; !unpinned.fields.pinned);
+    Ok(())
+}
+
+#[test]
+fn jumps_and_acts(rt: HostRuntime) -> Result<(), Fail> {
+    let alloc = rt.alloc();
+    let jumps = vec![in alloc;
+        Instr::JumpZero(0, MAIN),
+        Instr::Int(8, 1),
+        Instr::JumpZero(3, START),
+        Instr::Int(9, 1),
+        Instr::Label(MAIN),
+        Instr::Int(10, 1),
+        Instr::Label(START),
+        Instr::Int(11, 1),
+    ]?;
+    let left = turn(alloc, jumps, 0)?;
+    let want = [Value::Num(1), Value::Null, Value::Null, Value::Num(1)];
+    assert_eq!(rt; &left.frame.registers.as_slice()[8..12], want.as_slice());
+    assert!(rt; matches!(left.act, Act::End));
+    assert_eq!(rt; left.frame.place, 8);
+
+    let prints = vec![in alloc;
+        Instr::Jump(START),
+        Instr::Print(1),
+        Instr::Label(START),
+        Instr::Send(2, MAIN, Registers::of(vec![in alloc; 0]?)),
+        Instr::Print(0),
+        Instr::Print(1),
+    ]?;
+    let left = turn(alloc, prints, 0)?;
+    let act = left.act;
+    match act {
+        Act::Print { value } => assert_eq!(rt; value, Value::Num(7)),
+        _ => assert!(rt; false, "no print"),
+    }
+    assert_eq!(rt; left.frame.place, 5);
+
+    let makes = vec![in alloc; Instr::Print(0), Instr::New(8, START), Instr::Int(8, 1)]?;
+    let left = turn(alloc, makes, 1)?;
+    let act = left.act;
+    match act {
+        Act::New { kind, into } => assert_eq!(rt; (kind, into), (1, 8)),
+        _ => assert!(rt; false, "no new actor"),
+    }
+    assert_eq!(rt; left.frame.place, 2);
+
+    let sends = vec![in alloc;
+        Instr::Int(8, 1),
+        Instr::Send(3, MAIN, Registers::of(vec![in alloc; 8, 4]?)),
+        Instr::Int(8, 2),
+    ]?;
+    let left = turn(alloc, sends, 0)?;
+    let act = left.act;
+    match act {
+        Act::Post {
+            to,
+            behaviour,
+            args,
+        } => {
+            assert_eq!(rt; (to, behaviour), (OTHER, MAIN));
+            assert_eq!(rt; args.as_slice(), [Value::Num(1), object(ME, 2)].as_slice());
+        }
+        _ => assert!(rt; false, "no post"),
+    }
+    assert_eq!(rt; left.frame.place, 2);
+    Ok(())
+}
+
+// A register or a field past the last stands in no program that was checked.
+#[test]
+fn nothing_stands_past_the_last(rt: HostRuntime) -> Result<(), Fail> {
+    let alloc = rt.alloc();
+    let register = program(alloc, vec![in alloc; Instr::Pin, Instr::Copy(15, 16)]?)?;
+    let field = program(alloc, vec![in alloc; Instr::Load(15, 2)]?)?;
+    for (program, step, rule) in [(register, 2, 5), (field, 1, 6)] {
+        match check(program) {
+            Err(fault) => assert_eq!(rt;
+                fault,
+                CheckFault {
+                    kind: 1,
+                    behaviour: 1,
+                    step,
+                    rule
+                }
+            ),
+            Ok(_) => assert!(rt; false, "rule {rule}"),
+        }
+    }
+    Ok(())
+}
