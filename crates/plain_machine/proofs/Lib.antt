@@ -1,4 +1,5 @@
 pub mod Arguments
 pub mod Firsts
 pub mod Going
+pub mod Indexing
 pub mod Undoing

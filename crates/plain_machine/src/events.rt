@@ -1,40 +1,22 @@
-// The events: taking a letter, and running up to the next act.
+// Running up to the next act.
 
 ghost use Rattle.std.specs.Prelude.{◌≡◌, ℕ, ◌+◌, ◌<◌, ◌≤◌, [], List, length, slice_get, IsOk, IsErr, IfOk, IfSome, IfErr, OnOk, OnErr};
-ghost use Rattle.std.specs.Bool.{OnTrue, OnFalse};
 ghost use Rattle.orca_names.specs.declared.names.Value as names;
 ghost use Rattle.behaviour_code.specs.Good.{ProgramIsGood};
-ghost use Rattle.machine_rules.specs.Plain.{Goes, NotEnabled, after_act, plain_take, plain_go, turn_of_actor};
+ghost use Rattle.machine_rules.specs.Plain.{Goes, after_act, plain_go, turn_of_actor};
 ghost use Rattle.plain_machine.specs.Faults.{Faulted};
 ghost use Rattle.plain_machine.specs.State.{state_of};
 ghost use Rattle.plain_machine.specs.Undo.{IsBefore};
 
-use crate::actor::take_letter;
 use crate::acts::{Before, Left, end, make, print, send};
 use crate::machine::PlainFault;
-use crate::table::{AllRows, actor_at};
+use crate::table::{AllRows, Table, actor_at};
 use behaviour_check::Checked;
 use behaviour_code::Program;
 use machine_rules::{PlainActor, PlainLetter};
 use orca_names::{ACTORS_LIMIT, ActorName, Fields, NoMemory, Row, Value};
 use std::alloc::Global;
 use turn_step::{Act, Frame, segment};
-
-/// The actor takes its first letter, where it has one and no frame.
-pub(crate) fn take_in(code: &Checked, actors: &mut Vec<PlainActor>, a: ActorName) -> bool
-    ensures done { OnTrue result ((prints : List names.Value) (steps : ℕ) →
-        plain_take (state_of code.now actors.old.items prints steps) a ≡ Goes (state_of code.now actors.new.items prints (steps + 1))) }
-    ensures not_ready { OnFalse result ((prints : List names.Value) (steps : ℕ) →
-        plain_take (state_of code.now actors.old.items prints steps) a ≡ NotEnabled) }
-    ensures same { OnFalse result (actors.new.items ≡ actors.old.items) }
-{
-    let place = a.0 as usize;
-    if place >= actors.len() {
-        return false;
-    }
-    let actor = &mut actors[place];
-    take_letter(code.program(), actor)
-}
 
 /// The turn of an actor, which changes nothing yet.
 fn evaluate(
@@ -71,7 +53,7 @@ fn outcome(done: Result<(), NoMemory>) -> Result<(), PlainFault>
 fn commit(
     alloc: Global,
     program: &Program,
-    actors: &mut Vec<PlainActor>,
+    actors: &mut Table,
     prints: &mut Vec<Value>,
     a: ActorName,
     before: &Before,
@@ -81,14 +63,14 @@ fn commit(
     act: Act,
 ) -> Result<(), PlainFault>
     requires good { ProgramIsGood program.now }
-    requires there { a < length actors.old.items }
-    requires before { IfSome (slice_get actors.old.items a) (IsBefore before.now) }
-    requires gone { (steps : ℕ) → plain_go (state_of program.now actors.old.items prints.old.items steps) a
-        ≡ after_act (state_of program.now actors.old.items prints.old.items steps) a frame fields made.now act }
-    ensures ok { OnOk result ((steps : ℕ) → plain_go (state_of program.now actors.old.items prints.old.items steps) a
-        ≡ Goes (state_of program.now actors.new.items prints.new.items (steps + 1))) }
-    ensures fault { IfErr result (λ e. (steps : ℕ) → Faulted (plain_go (state_of program.now actors.old.items prints.old.items steps) a) a e) }
-    ensures same { OnErr result (actors.new.items ≡ actors.old.items) }
+    requires there { a < length actors.old }
+    requires before { IfSome (slice_get actors.old a) (IsBefore before.now) }
+    requires gone { (steps : ℕ) → plain_go (state_of program.now actors.old prints.old.items steps) a
+        ≡ after_act (state_of program.now actors.old prints.old.items steps) a frame fields made.now act }
+    ensures ok { OnOk result ((steps : ℕ) → plain_go (state_of program.now actors.old prints.old.items steps) a
+        ≡ Goes (state_of program.now actors.new prints.new.items (steps + 1))) }
+    ensures fault { IfErr result (λ e. (steps : ℕ) → Faulted (plain_go (state_of program.now actors.old prints.old.items steps) a) a e) }
+    ensures same { OnErr result (actors.new ≡ actors.old) }
     ensures same_prints { OnErr result (prints.new.items ≡ prints.old.items) }
 {
     match act {
@@ -147,17 +129,17 @@ fn commit(
 pub(crate) fn go_in(
     alloc: Global,
     code: &Checked,
-    actors: &mut Vec<PlainActor>,
+    actors: &mut Table,
     prints: &mut Vec<Value>,
     a: ActorName,
 ) -> Result<(), PlainFault>
-    ensures ok { OnOk result ((steps : ℕ) → plain_go (state_of code.now actors.old.items prints.old.items steps) a
-        ≡ Goes (state_of code.now actors.new.items prints.new.items (steps + 1))) }
-    ensures fault { IfErr result (λ e. (steps : ℕ) → Faulted (plain_go (state_of code.now actors.old.items prints.old.items steps) a) a e) }
-    ensures same { OnErr result (actors.new.items ≡ actors.old.items) }
+    ensures ok { OnOk result ((steps : ℕ) → plain_go (state_of code.now actors.old prints.old.items steps) a
+        ≡ Goes (state_of code.now actors.new prints.new.items (steps + 1))) }
+    ensures fault { IfErr result (λ e. (steps : ℕ) → Faulted (plain_go (state_of code.now actors.old prints.old.items steps) a) a e) }
+    ensures same { OnErr result (actors.new ≡ actors.old) }
     ensures same_prints { OnErr result (prints.new.items ≡ prints.old.items) }
 {
-    let Some(actor) = actor_at(actors, a) else {
+    let Some(actor) = actor_at(actors.as_slice(), a) else {
         return Err(PlainFault::NotReady);
     };
     let Some(start) = &actor.frame else {

@@ -1,11 +1,20 @@
 // The first enabled event.
 
-ghost use Rattle.std.specs.Prelude.{◌≡◌, ◌≤◌, All, IfNone, IfSome, length};
+ghost use Rattle.std.specs.Prelude.{◌≡◌, All, IfNone, IfSome};
 ghost use Rattle.plain_machine.specs.First.{ComesFirst, IsIdle, event_of};
+ghost use Rattle.plain_machine.specs.Ready.{IsIndex, can_act as acts};
 
 use event_rule::Event;
 use machine_rules::PlainActor;
 use orca_names::ActorName;
+use ready_set::ReadySet;
+
+/// Whether the actor can do something: it has a frame or a letter.
+pub(crate) fn can_act(actor: &PlainActor) -> bool
+    ensures { result ≡ acts actor.now }
+{
+    actor.frame.is_some() || !actor.letters.is_empty()
+}
 
 /// What an actor can do: it goes where it has a frame, and else takes where it has a letter.
 fn event_of(a: ActorName, actor: &PlainActor) -> Option<Event>
@@ -21,15 +30,13 @@ fn event_of(a: ActorName, actor: &PlainActor) -> Option<Event>
 }
 
 /// What the first actor that can do something does.
-pub(crate) fn first_event(actors: &[PlainActor]) -> Option<Event>
-    requires { length actors.now ≤ 65536 }
+pub(crate) fn first_event(actors: &[PlainActor], ready: &ReadySet) -> Option<Event>
+    requires { IsIndex ready.now actors.now }
     ensures none { IfNone result (All IsIdle actors.now) }
     ensures some { IfSome result (ComesFirst actors.now) }
 {
-    for (place, actor) in actors.iter().enumerate() {
-        if let Some(event) = event_of(ActorName(place as u32), actor) {
-            return Some(event);
-        }
+    match ready.first() {
+        Some(a) => event_of(ActorName(a), &actors[a as usize]),
+        None => None,
     }
-    None
 }

@@ -10,13 +10,11 @@ ghost use Rattle.machine_rules.specs.PlainRun.{IsPlainFirst, IsPlainQuiet};
 ghost use Rattle.plain_machine.specs.Faults.{Faulted};
 
 use crate::actor::first_actor;
-use crate::events::{go_in, take_in};
-use crate::first::first_event;
+use crate::events::go_in;
 use crate::reach::reached;
-use crate::table::count_objects;
+use crate::table::{Table, count_objects};
 use behaviour_check::Checked;
 use event_rule::Event;
-use machine_rules::PlainActor;
 use orca_names::{ActorName, NoMemory, Thing, Value};
 use std::alloc::Global;
 use std::marker::Model;
@@ -41,7 +39,7 @@ pub enum PlainFault {
 #[derive(Drop)]
 pub struct Plain<'a> {
     code: &'a Checked,
-    actors: Vec<PlainActor>,
+    actors: Table,
     prints: Vec<Value>,
     steps: u64,
 }
@@ -52,9 +50,9 @@ impl<'a> Model for Plain<'a> {
 
     ghost Value = { plain.PlainState };
 
-    ghost view = { λ m. state_of m.code.now m.actors.items m.prints.items m.steps };
+    ghost view = { λ m. state_of m.code.now m.actors m.prints.items m.steps };
 
-    ghost invariant = { λ m. IsSound (state_of m.code.now m.actors.items m.prints.items m.steps) };
+    ghost invariant = { λ m. IsSound (state_of m.code.now m.actors m.prints.items m.steps) };
 }
 
 impl<'a> Plain<'a> {
@@ -65,7 +63,7 @@ impl<'a> Plain<'a> {
     pub fn start(alloc: Global, code: &'a Checked) -> Result<Plain<'a>, NoMemory>
         ensures { IfOk result (λ m. m ≡ start_of code.now) }
     {
-        let mut actors = Vec::new(alloc);
+        let mut actors = Table::new(alloc);
         actors.push(first_actor(alloc, code.program())?)?;
         Ok(Plain {
             code,
@@ -86,7 +84,7 @@ impl<'a> Plain<'a> {
         ensures fault { IfErr result (λ e. (e ≡ PlainFault.NotReady) × (plain_take self.old a ≡ NotEnabled)) }
         ensures same { OnErr result (self.new ≡ self.old) }
     {
-        if take_in(self.code, &mut self.actors, a) {
+        if self.actors.take(self.code, a) {
             self.steps += 1;
             Ok(())
         } else {
@@ -133,7 +131,7 @@ impl<'a> Plain<'a> {
     pub fn objects_made(&self) -> u64
         ensures { result ≡ objects_made self.now.actors }
     {
-        count_objects(&self.actors)
+        count_objects(self.actors.as_slice())
     }
 
     /// The first of the enabled events, in the order in which one worker does them; `None` exactly
@@ -141,7 +139,7 @@ impl<'a> Plain<'a> {
     pub fn first_enabled(&self) -> Option<Event>
         ensures { MatchOption result (IsPlainQuiet self.now) (IsPlainFirst self.now) }
     {
-        first_event(&self.actors)
+        self.actors.first_event()
     }
 
     /// All that is reachable, in the order of things: what a path leads to from an actor that is
@@ -153,7 +151,7 @@ impl<'a> Plain<'a> {
         ensures exact { IfOk result (λ found. (x : thing) → Contains found.items x ↔ IsReachable self.now x) }
         ensures rising { IfOk result (λ found. IsStrictlySortedBy thing_cmp found.items) }
     {
-        reached(alloc, &self.actors)
+        reached(alloc, self.actors.as_slice())
     }
 
     /// How many events were done.

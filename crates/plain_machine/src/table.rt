@@ -1,12 +1,24 @@
-// The table of all actors.
+// The table of all actors, with an index of those that can do something.
 
-ghost use Rattle.std.specs.Prelude.{◌≡◌, ◌+◌, ◌<◌, ◌^◌, [], ◌∷◌, ◌++◌, length, slice_get, Some, OnOk, OnErr};
+ghost use Rattle.std.specs.Prelude.{◌≡◌, ℕ, ◌+◌, ◌<◌, ◌^◌, List, [], ◌∷◌, ◌++◌, All, IfNone, IfSome, length, slice_get, OnOk, OnErr};
+ghost use Rattle.std.specs.Bool.{OnTrue, OnFalse};
 ghost use Rattle.std.specs.Option.{option_copied};
-ghost use Rattle.machine_rules.specs.Plain.{objects_made, plain_row, with_turn, with_letter};
+ghost use Rattle.orca_names.specs.declared.names.Value as names;
+ghost use Rattle.machine_rules.specs.Plain.{Goes, NotEnabled, objects_made, plain_row, plain_take, with_turn, with_letter};
+ghost use Rattle.plain_machine.specs.First.{ComesFirst, IsIdle};
+ghost use Rattle.plain_machine.specs.Ready.{IsIndex};
+ghost use Rattle.plain_machine.specs.State.{state_of};
 ghost use Rattle.plain_machine.specs.Undo.{with_undone};
 
+use crate::actor::take_letter;
+use crate::first::{can_act, first_event};
+use behaviour_check::Checked;
+use event_rule::Event;
 use machine_rules::{PlainActor, PlainLetter};
 use orca_names::{ActorName, Fields, NoMemory, ObjName, Row, Rows};
+use ready_set::ReadySet;
+use std::alloc::Global;
+use std::marker::Model;
 use turn_rules::Frame;
 
 /// The rows of all objects ever made.
@@ -49,55 +61,151 @@ pub(crate) fn actor_at(actors: &[PlainActor], a: ActorName) -> Option<&PlainActo
     actors.get(a.0 as usize)
 }
 
-/// Puts what a turn left into its actor.
-pub(crate) fn keep_turn(
-    actors: &mut Vec<PlainActor>,
-    a: ActorName,
-    frame: Option<Frame>,
-    fields: Fields,
-    made: &[Row],
-) -> Result<(), NoMemory>
-    requires { a < length actors.old.items }
-    ensures ok { OnOk result (actors.new.items ≡ with_turn actors.old.items a frame fields made.now) }
-    ensures err { OnErr result (actors.new.items ≡ actors.old.items) }
-{
-    let actor = &mut actors[a.0 as usize];
-    actor.rows.extend_from_slice(made)?;
-    actor.frame = frame;
-    actor.fields = fields;
-    Ok(())
+/// All actors ever made, by number, seen by contracts as their list. It is kept of each whether it
+/// can do something, so that the first that can is found without a walk.
+#[derive(Drop)]
+pub(crate) struct Table {
+    actors: Vec<PlainActor>,
+    ready: ReadySet,
 }
 
-/// Takes back what a turn left in its actor.
-pub(crate) fn undo_turn(
-    actors: &mut Vec<PlainActor>,
-    a: ActorName,
-    frame: Option<Frame>,
-    fields: Fields,
-    rows: usize,
-)
-    requires { a < length actors.old.items }
-    ensures { actors.new.items ≡ with_undone actors.old.items a frame fields rows }
-{
-    let actor = &mut actors[a.0 as usize];
-    actor.rows.truncate(rows);
-    actor.frame = frame;
-    actor.fields = fields;
+impl Model for Table {
+    ghost use Rattle.std.specs.Prelude.{List};
+    ghost use Rattle.machine_rules.specs.declared.PlainActor as rules;
+    ghost use Rattle.plain_machine.specs.Ready.{IsIndex};
+
+    ghost Value = { List rules.PlainActor };
+
+    ghost view = { λ t. t.actors.items };
+
+    ghost invariant = { λ t. IsIndex t.ready t.actors.items };
 }
 
-/// One letter more for an actor that was made.
-pub(crate) fn post_letter(
-    actors: &mut Vec<PlainActor>,
-    to: ActorName,
-    letter: PlainLetter,
-) -> Result<(), NoMemory>
-    ensures ok { OnOk result (actors.new.items ≡ with_letter actors.old.items to letter) }
-    ensures err { OnErr result (actors.new.items ≡ actors.old.items) }
+/// Makes sure that the index has a place for one actor more.
+#[tactic(auto, using(crate::proofs::Indexing::index_after_grow))]
+fn reserve_place(ready: &mut ReadySet, actors: &[PlainActor]) -> Result<(), NoMemory>
+    requires few { length actors.now < 65536 }
+    requires index { IsIndex ready.old actors.now }
+    ensures index { IsIndex ready.new actors.now }
+    ensures ok { OnOk result (length actors.now < length ready.new) }
 {
-    let place = to.0 as usize;
-    if place < actors.len() {
-        let actor = &mut actors[place];
-        actor.letters.push(letter)?;
+    if actors.len() == ready.len() {
+        ready.grow()?;
     }
     Ok(())
+}
+
+impl Table {
+    /// No actors. It takes no memory.
+    pub fn new(alloc: Global) -> Table
+        ensures { result ≡ [] }
+    {
+        Table {
+            actors: Vec::new(alloc),
+            ready: ReadySet::new(alloc),
+        }
+    }
+
+    /// The actors, by number.
+    pub fn as_slice(&self) -> &[PlainActor]
+        ensures { result.now ≡ self.now }
+    {
+        self.actors.as_slice()
+    }
+
+    /// How many actors were made.
+    pub fn len(&self) -> usize
+        ensures { result ≡ length self.now }
+    {
+        self.actors.len()
+    }
+
+    /// What the first actor that can do something does.
+    pub fn first_event(&self) -> Option<Event>
+        ensures none { IfNone result (All IsIdle self.now) }
+        ensures some { IfSome result (ComesFirst self.now) }
+    {
+        first_event(&self.actors, &self.ready)
+    }
+
+    /// One actor more.
+    pub fn push(&mut self, actor: PlainActor) -> Result<(), NoMemory>
+        requires { length self.old < 65536 }
+        ensures ok { OnOk result (self.new ≡ self.old ++ actor ∷ []) }
+        ensures err { OnErr result (self.new ≡ self.old) }
+    {
+        let place = self.actors.len();
+        reserve_place(&mut self.ready, &self.actors)?;
+        let on = can_act(&actor);
+        self.actors.push(actor)?;
+        self.ready.put(place as u32, on);
+        Ok(())
+    }
+
+    /// The actor takes its first letter, where it has one and no frame.
+    pub fn take(&mut self, code: &Checked, a: ActorName) -> bool
+        ensures done { OnTrue result ((prints : List names.Value) (steps : ℕ) →
+            plain_take (state_of code.now self.old prints steps) a ≡ Goes (state_of code.now self.new prints (steps + 1))) }
+        ensures not_ready { OnFalse result ((prints : List names.Value) (steps : ℕ) →
+            plain_take (state_of code.now self.old prints steps) a ≡ NotEnabled) }
+        ensures same { OnFalse result (self.new ≡ self.old) }
+    {
+        let place = a.0 as usize;
+        if place >= self.actors.len() {
+            return false;
+        }
+        let actor = &mut self.actors[place];
+        if take_letter(code.program(), actor) {
+            self.ready.put(a.0, can_act(actor));
+            true
+        } else {
+            false
+        }
+    }
+
+    /// Puts what a turn left into its actor.
+    pub fn keep_turn(
+        &mut self,
+        a: ActorName,
+        frame: Option<Frame>,
+        fields: Fields,
+        made: &[Row],
+    ) -> Result<(), NoMemory>
+        requires { a < length self.old }
+        ensures ok { OnOk result (self.new ≡ with_turn self.old a frame fields made.now) }
+        ensures err { OnErr result (self.new ≡ self.old) }
+    {
+        let actor = &mut self.actors[a.0 as usize];
+        actor.rows.extend_from_slice(made)?;
+        actor.frame = frame;
+        actor.fields = fields;
+        self.ready.put(a.0, can_act(actor));
+        Ok(())
+    }
+
+    /// Takes back what a turn left in its actor.
+    pub fn undo_turn(&mut self, a: ActorName, frame: Option<Frame>, fields: Fields, rows: usize)
+        requires { a < length self.old }
+        ensures { self.new ≡ with_undone self.old a frame fields rows }
+    {
+        let actor = &mut self.actors[a.0 as usize];
+        actor.rows.truncate(rows);
+        actor.frame = frame;
+        actor.fields = fields;
+        self.ready.put(a.0, can_act(actor));
+    }
+
+    /// One letter more for an actor that was made.
+    pub fn post(&mut self, to: ActorName, letter: PlainLetter) -> Result<(), NoMemory>
+        ensures ok { OnOk result (self.new ≡ with_letter self.old to letter) }
+        ensures err { OnErr result (self.new ≡ self.old) }
+    {
+        let place = to.0 as usize;
+        if place < self.actors.len() {
+            let actor = &mut self.actors[place];
+            actor.letters.push(letter)?;
+            self.ready.put(to.0, can_act(actor));
+        }
+        Ok(())
+    }
 }

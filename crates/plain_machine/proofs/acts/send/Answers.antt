@@ -8,4 +8,4 @@ returns-in-Err-clause-err c =
     let b = c.args.before.now in
     c.undo_turn.ensures
     ∙ ap (λ xs. with_undone xs c.args.a b.frame b.fields b.rows) (c.in-Err.ensures.err ∙ c.in_ok-keep_turn.ensures.ok)
-    ∙ with_undone-with_turn c.args.actors.now.items c.args.a b _ _ _ c.requires.before
+    ∙ with_undone-with_turn c.args.actors.now c.args.a b _ _ _ c.requires.before
