@@ -10,6 +10,3 @@ mod reach;
 mod table;
 
 pub use machine::{Plain, PlainFault};
-
-#[cfg(test)]
-mod tests;

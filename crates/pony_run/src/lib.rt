@@ -12,4 +12,6 @@ pub use report_text::Status;
 pub use word_line::{Job, Order};
 
 #[cfg(test)]
+mod machine_tests;
+#[cfg(test)]
 mod tests;
