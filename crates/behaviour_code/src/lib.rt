@@ -8,3 +8,6 @@ mod names;
 pub use code::{Behaviour, Kind, Program};
 pub use instr::{Instr, Registers, RowRegisters};
 pub use names::{Name, Names};
+
+#[cfg(test)]
+mod tests;

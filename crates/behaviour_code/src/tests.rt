@@ -1,0 +1,47 @@
+// Names that are given once, and what stands where no kind does.
+
+use crate::{Behaviour, Instr, Kind, Name, Names, Program};
+use plain_list::Listed;
+use std::test::Fail;
+
+#[test]
+fn names_are_given_once(rt: HostRuntime) -> Result<(), Fail> {
+    let mut names = Names::new(rt.alloc());
+    let texts = ["start", "Main", "start", "start_", "Main"];
+    for (text, want) in texts.iter().zip([0, 1, 0, 2, 1]) {
+        assert_eq!(rt; names.intern(text)?, Name(want), "{text}");
+    }
+    assert_eq!(rt; names.len(), 3);
+    assert_eq!(rt; names.text_or_empty(Name(2)), "start_");
+    assert_eq!(rt; names.text_or_empty(Name(3)), "");
+    Ok(())
+}
+
+#[test]
+fn a_start_has_no_parameters(rt: HostRuntime) -> Result<(), Fail> {
+    let alloc = rt.alloc();
+    for (parameters, want) in [(0, Some(Name(0))), (1, None)] {
+        let mut names = Names::new(alloc);
+        let start = names.intern("start")?;
+        let behaviour = Behaviour {
+            name: start,
+            parameters,
+            body: Listed::of(vec![in alloc; Instr::Pin]?),
+        };
+        let kind = Kind {
+            name: Name(0),
+            fields: 3,
+            behaviours: Listed::of(vec![in alloc; behaviour]?),
+        };
+        let kinds = Listed::of(vec![in alloc; kind]?);
+        let program = Program { kinds, names };
+        assert_eq!(rt; program.start_name(), want, "{parameters}");
+        assert_eq!(rt; (program.field_count(0), program.field_count(1)), (3, 0));
+        assert_eq!(rt;
+            (program.body(0, 0).len(), program.body(0, 1).len()),
+            (1, 0)
+        );
+        assert!(rt; program.behaviours(1).is_empty());
+    }
+    Ok(())
+}
