@@ -15,7 +15,7 @@ use Rattle.turn_rules.specs.declared.act.Frame.{Frame}
 use Rattle.turn_rules.proofs.Bounds.{segment_makes}
 use Rattle.machine_rules.specs.declared.PlainActor.{PlainActor}
 use Rattle.machine_rules.specs.declared.PlainLetter.{PlainLetter}
-use Rattle.machine_rules.specs.Plain.{PlainState, Outcome, NotEnabled, IsFull, Goes, after_act, after_letter, after_turn, fresh_actor, frame_of, next_state, objects_made, plain_go, plain_row, plain_take, stopped_at, taken, turn_of_actor, with_changed, with_letter, with_name, with_turn}
+use Rattle.machine_rules.specs.Plain.{PlainState, Outcome, NotEnabled, IsFull, Goes, after_act, after_letter, after_turn, fresh_actor, frame_of, next_state, objects_made, plain_go, plain_row, plain_take, stopped_at, taken, turn_of_actor, with_letter, with_name, with_turn}
 use Rattle.machine_rules.specs.PlainLimits.{IsWithinLimits, OnGoes}
 use Rattle.machine_rules.proofs.Changing.{changing_makes, length-with_changed}
 

@@ -10,7 +10,7 @@ use Rattle.behaviour_code.specs.Find.{behaviours_of, field_count, start_name, ta
 use Rattle.turn_rules.specs.declared.act.Act.{Act}
 use Rattle.turn_rules.specs.declared.act.Act.TheVariants.{Post, New, Print, End}
 use Rattle.turn_rules.specs.declared.act.Frame.{Frame}
-use Rattle.turn_rules.specs.Segment.{Setting, Stop, segment_of}
+use Rattle.turn_rules.specs.Segment.{Stop, segment_of}
 use Rattle.machine_rules.specs.declared.PlainActor.{PlainActor}
 use Rattle.machine_rules.specs.declared.PlainLetter.{PlainLetter}
 
