@@ -7,10 +7,14 @@ use std::test::Fail;
 #[test]
 fn names_are_given_once(rt: HostRuntime) -> Result<(), Fail> {
     let mut names = Names::new(rt.alloc());
-    let texts = ["start", "Main", "start", "start_", "Main"];
-    for (text, want) in texts.iter().zip([0, 1, 0, 2, 1]) {
-        assert_eq!(rt; names.intern(text)?, Name(want), "{text}");
-    }
+    let start = names.intern("start")?;
+    let main = names.intern("Main")?;
+    let longer = names.intern("start_")?;
+    let again = names.intern("Main")?;
+    assert_eq!(rt;
+        [start, main, longer, again],
+        [Name(0), Name(1), Name(2), Name(1)]
+    );
     assert_eq!(rt; names.len(), 3);
     assert_eq!(rt; names.text_or_empty(Name(2)), "start_");
     assert_eq!(rt; names.text_or_empty(Name(3)), "");
