@@ -1,5 +1,5 @@
 -- A set of strings, seen as texts.
-use Rattle.std.proofs.Common.{◌≡◌, ℕ, ◌+◌, Bool, true, false, cond, not, suc, ◌||◌, List, [], ◌∷◌, ◌++◌, map, ap, ap₂, refl, sym, ◌∙◌, String, string_bytes, string_eq, bytes_eq, Global, if◌then◌else◌, subst}
+use Rattle.std.proofs.Common.{◌≡◌, ℕ, ◌+◌, Bool, true, false, cond, not, ◌||◌, List, [], ◌∷◌, ◌++◌, map, ap, ap₂, refl, sym, ◌∙◌, String, string_bytes, string_eq, bytes_eq, Global, if◌then◌else◌, subst}
 use Rattle.std.specs.List.{list_any, position_or_len}
 use Rattle.std.proofs.lemmas.List.{map-append}
 use Rattle.indexmap.specs.IndexSet.{insert_key}

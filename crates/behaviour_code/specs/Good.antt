@@ -1,6 +1,6 @@
 -- What a program is like that some text gives.
 use Rattle.std.specs.Prelude.{ℕ, ◌≡◌, ◌<◌, ◌≤◌, ◌^◌, List, [], ◌∷◌, Option, Some, None, All, IfSome, length, true}
-use Rattle.behaviour_code.specs.Names.{interned, is_name, text_of, with_text}
+use Rattle.behaviour_code.specs.Names.{is_name, text_of, with_text}
 use Rattle.behaviour_code.specs.declared.instr.Instr.{Instr}
 use Rattle.behaviour_code.specs.declared.instr.Instr.TheVariants as I
 use Rattle.behaviour_code.specs.declared.code.Behaviour.{Behaviour}

@@ -102,7 +102,7 @@ const LINES: &[(&[u8], u8)] = &[
     (b"drop r0 r1", 4),
     (b"int r0", 4),
     (b"int 0 x", 4),
-    (b"self R0", 4),
+    (b"self R", 4),
     (b"copy r0 f0", 4),
     (b"add r0 r1", 4),
     (b"sub r0 r1 r2 r3", 4),

@@ -29,6 +29,21 @@ pub(crate) struct Left<'a> {
     pub made: &'a [Row],
 }
 
+impl<'a> Left<'a> {
+    /// What a turn leaves that goes on after its act.
+    pub fn going_on(frame: Frame, fields: Fields, made: &'a [Row]) -> Left<'a>
+        ensures frame { result.frame ≡ Some frame }
+        ensures fields { result.fields ≡ fields }
+        ensures made { result.made.now ≡ made.now }
+    {
+        Left {
+            frame: Some(frame),
+            fields,
+            made,
+        }
+    }
+}
+
 pub(crate) fn end(actors: &mut Table, a: ActorName, left: &Left) -> Result<(), NoMemory>
     requires { a < length actors.old }
     ensures ok { OnOk result (actors.new ≡ with_turn actors.old a left.now.frame left.now.fields left.now.made.now) }

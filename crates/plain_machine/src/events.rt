@@ -83,11 +83,7 @@ fn commit(
             outcome(end(actors, a, &left))
         }
         Act::Print { value } => {
-            let left = Left {
-                frame: Some(frame),
-                fields,
-                made,
-            };
+            let left = Left::going_on(frame, fields, made);
             outcome(print(actors, prints, a, before, &left, value))
         }
         Act::Post {
@@ -95,19 +91,9 @@ fn commit(
             behaviour,
             args,
         } => {
-            let left = Left {
-                frame: Some(frame),
-                fields,
-                made,
-            };
-            outcome(send(
-                actors,
-                a,
-                before,
-                &left,
-                to,
-                PlainLetter { behaviour, args },
-            ))
+            let left = Left::going_on(frame, fields, made);
+            let letter = PlainLetter { behaviour, args };
+            outcome(send(actors, a, before, &left, to, letter))
         }
         Act::New { kind, into } => {
             if actors.len() >= ACTORS_LIMIT {
@@ -115,11 +101,7 @@ fn commit(
             }
             let name = ActorName(actors.len() as u32);
             frame.registers.write(into, Value::Actor(name));
-            let left = Left {
-                frame: Some(frame),
-                fields,
-                made,
-            };
+            let left = Left::going_on(frame, fields, made);
             outcome(make(alloc, program, actors, a, before, &left, kind))
         }
     }

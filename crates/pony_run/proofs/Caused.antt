@@ -3,7 +3,6 @@ use Rattle.std.proofs.Common.{◌≡◌, ◌≢◌, ◌⊎◌, inl, inr, ℕ, �
 use Rattle.std.specs.declared.option.Option.{Option}
 use Rattle.std.proofs.lemmas.Grind.{common_steps}
 use Rattle.event_rule.specs.declared.event.Event.{Event}
-use Rattle.word_line.specs.Orders.{order_of}
 use Rattle.word_line.specs.declared.order.Order.{Order}
 use Rattle.report_text.specs.Ends.{IsEnd}
 use Rattle.report_text.specs.declared.status.Status.{Status}

@@ -1,5 +1,5 @@
 -- From one layer of causes to the next.
-use Rattle.std.proofs.Common.{◌≡◌, ◌⊎◌, inl, inr, ℕ, List, [], refl, subst, sym, arith}
+use Rattle.std.proofs.Common.{◌≡◌, inl, inr, ℕ, List, [], refl, subst, sym, arith}
 use Rattle.std.specs.declared.option.Option.{Option}
 use Rattle.std.proofs.KnownBytes.{Appends-nil}
 use Rattle.event_rule.specs.declared.event.Event.{Event}
@@ -9,7 +9,7 @@ use Rattle.report_text.specs.declared.status.Status.TheVariants as status
 use Rattle.behaviour_code.specs.declared.code.Program.{Program}
 use Rattle.machine_rules.specs.Plain.{PlainState, start_of}
 use Rattle.pony_run.specs.Ends.{EndsAs, IsReport, RunsTo}
-use Rattle.pony_run.specs.Headline.{Ends, MeansReport, MeansRun, Work, Writes}
+use Rattle.pony_run.specs.Headline.{MeansReport, MeansRun, Work, Writes}
 use Rattle.pony_run.specs.Streams.{Sides}
 
 -- what holds of all that is written

@@ -6,7 +6,6 @@
 -- layer where memory was refused; any other status comes of the layers below, and then this layer's
 -- causes are absent.
 use Rattle.std.specs.Prelude.{◌≡◌, ◌⊎◌, ℕ, ◌<◌, ◌≤◌, List, [], length, take, Some, None}
-use Rattle.std.specs.declared.option.Option.{Option}
 use Rattle.std.specs.Io.KnownBytes.{Appends}
 use Rattle.event_rule.specs.declared.event.Event.{Event}
 use Rattle.word_line.specs.Orders.{order_of}

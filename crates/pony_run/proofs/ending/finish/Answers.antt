@@ -1,4 +1,4 @@
-use Rattle.std.proofs.Common.{◌≡◌, ◌++◌, ◌∷◌, [], List, arith, length, length-append, ap, subst, sym}
+use Rattle.std.proofs.Common.{◌∷◌, [], List, arith, length, length-append, ap, subst, sym}
 use Rattle.event_rule.specs.declared.event.Event.{Event}
 use Rattle.machine_rules.specs.PlainRun.{IsPlainRun}
 use Rattle.machine_rules.proofs.PlainRuns.{one_step_more, run_goes_on}

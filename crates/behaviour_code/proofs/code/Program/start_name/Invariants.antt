@@ -1,6 +1,6 @@
 use Rattle.std.proofs.Common.{◌≡◌, drop}
 use Rattle.std.specs.Prelude.{find}
-use Rattle.behaviour_code.specs.Find.{is_start, behaviours_of}
+use Rattle.behaviour_code.specs.Find.{is_start}
 use Rattle.behaviour_code.proofs.code.Program.start_name.Given as goal
 
 abbrev pub invariant-loop-behaviour : goal.invariant-loop-behaviour
