@@ -9,7 +9,7 @@ use Rattle.machine_rules.specs.declared.PlainActor.{PlainActor}
 use Rattle.machine_rules.specs.declared.PlainLetter.{PlainLetter}
 use Rattle.machine_rules.specs.Plain.{PlainState, plain_row}
 
--- there is something
+-- a letter waits
 abbrev pub is_some_letter : List PlainLetter → Bool
 is_some_letter [] = false
 is_some_letter (letter ∷ letters) = true
