@@ -29,6 +29,18 @@ const TO_ITSELF: &[u8] =
 
 const TO_ITSELF_REPORT: &[u8] = b"--\nend quiet\nactors made 1 left 0\nobjects made 1 left 0\n";
 
+// An object goes from the first actor to a second and on to a third, which drops it.
+const PASSED: &[u8] =
+    b"kind Main 0\non start 0\npin\nnew r0 A\nnew r1 B\nint r2 9\nrow r3 r2\nsend r0 give r3 r1\nend\nkind A 0\non give 2\nsend r1 keep r0\nend\nkind B 0\non keep 1\nget r1 r0 0\nprint r1\nend\n";
+
+const PASSED_REPORT: &[u8] = b"9\n--\nend quiet\nactors made 3 left 1\nobjects made 1 left 0\n";
+
+// A pinned actor made an object that names another actor, which alone keeps the object.
+const NAMED: &[u8] =
+    b"kind Main 0\non start 0\nnew r0 J\nnew r1 K\nsend r0 make r1\nend\nkind J 0\non make 1\npin\nrow r1 r0\nsend r0 keep r1\nend\nkind K 1\non keep 1\nstore f0 r0\nend\n";
+
+const NAMED_REPORT: &[u8] = b"--\nend quiet\nactors made 3 left 1\nobjects made 1 left 0\n";
+
 // Two peers that hold each other, which nobody else holds in the end.
 const PEERS: &[u8] =
     b"kind Main 0\non start 0\npin\nnew r0 Peer\nnew r1 Peer\nsend r0 meet r1\nsend r1 meet r0\nend\nkind Peer 1\non meet 1\nstore f0 r0\nend\n";
@@ -74,9 +86,17 @@ const CALLS: &[(&[&str], &[u8], u8, &[u8])] = &[
     (&["run"], SEVEN, 0, SEVEN_REPORT),
     (&["run", "--budget", "2"], SEVEN, 5, SEVEN_CUT),
     (&["run", "--budget", "3"], SEVEN, 0, SEVEN_REPORT),
+    (
+        &[],
+        b"kind Main 0\r\non start 0\r\nint r0 7\r\nprint r0\r\nend",
+        0,
+        SEVEN_REPORT,
+    ),
     (&[], MOST, 0, MOST_REPORT),
     (&[], PINNED, 0, PINNED_REPORT),
     (&[], TO_ITSELF, 0, TO_ITSELF_REPORT),
+    (&[], PASSED, 0, PASSED_REPORT),
+    (&[], NAMED, 0, NAMED_REPORT),
     (&[], PEERS, 0, PEERS_REPORT),
     (&[], KEPT, 0, KEPT_REPORT),
     (&[], PING, 0, PING_REPORT),
