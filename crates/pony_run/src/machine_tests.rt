@@ -1,8 +1,5 @@
 // The machine that frees nothing, driven event by event over checked texts.
 
-ghost use Rattle.std.specs.Prelude.{◌<◌, ◌≤◌, IfOk, length};
-ghost use Rattle.pony_run.specs.Streams.{most_bytes};
-
 use behaviour_check::{Checked, check};
 use behaviour_text::parse;
 use event_rule::Event;
@@ -26,9 +23,10 @@ const SEVEN: &[u8] = b"kind Main 0\non start 0\nint r0 7\nprint r0\nend\n";
 const TWO_LETTERS: &[u8] =
     b"kind Main 0\non start 0\nint r0 4\nrow r1 r0\nrow r2 r1\nnew r3 Cell\nsend r3 keep r1 r0\nsend r3 keep r0 r3\nend\nkind Cell 1\non keep 2\nstore f0 r0\nprint r0\nprint r1\nend\n";
 
-fn checked(alloc: Global, text: &[u8]) -> Result<Checked, Fail>
-    requires { length text.now < most_bytes }
-{
+fn checked(alloc: Global, text: &[u8]) -> Result<Checked, Fail> {
+    if text.len() > 4096 {
+        return Err(Fail::from("a long text"));
+    }
     Ok(check(parse(alloc, text)?)?)
 }
 

@@ -4,9 +4,9 @@
 ghost use Rattle.std.specs.Prelude.{◌<◌};
 
 use crate::{Job, Order, Outcome, Status, run_single, run_words};
-use event_rule::Event;
 use orca_names::ActorName;
 use outside_world::{MemSink, MemSource, OpenGate};
+use std::alloc::Global;
 use std::test::Fail;
 
 const SEVEN: &[u8] = b"kind Main 0\non start 0\nint r0 7\nprint r0\nend\n";
@@ -208,22 +208,23 @@ fn a_run_ends_where_all_actors_are_made(rt: HostRuntime) -> Result<(), Fail> {
     Ok(())
 }
 
+/// So many line feeds.
+fn line_feeds(alloc: Global, count: usize) -> Result<Vec<u8>, Fail> {
+    Ok(vec![in alloc; b'\n'; count]?)
+}
+
 #[test]
 fn a_text_is_read_to_its_limit(rt: HostRuntime) -> Result<(), Fail> {
     let alloc = rt.alloc();
-    let mut input = vec![in alloc; b'\n'; 1_048_577]?;
-    let (outcome, sink) = call(&rt, &["run"], input.as_slice(), &SURE, &SURE)?;
+    let longest = line_feeds(alloc, 1_048_576)?;
+    let (outcome, sink) = call(&rt, &["run"], longest.as_slice(), &SURE, &SURE)?;
+    assert_eq!(rt; outcome.status.code(), 4);
+    let want = b"refused program kind 0 behaviour 0 step 0 rule 1\n";
+    assert_eq!(rt; sink.bytes(), want.as_slice());
+    let longer = line_feeds(alloc, 1_048_577)?;
+    let (outcome, sink) = call(&rt, &["run"], longer.as_slice(), &SURE, &SURE)?;
     assert_eq!(rt; outcome.status, Status::TooLong);
     assert_eq!(rt; sink.bytes(), b"refused length\n".as_slice());
-    input.truncate(1_048_576);
-    let (outcome, _) = call(&rt, &["run"], input.as_slice(), &SURE, &SURE)?;
-    let want = Status::BadProgram {
-        kind: 0,
-        behaviour: 0,
-        step: 0,
-        rule: 1,
-    };
-    assert_eq!(rt; outcome.status, want);
     Ok(())
 }
 
@@ -249,17 +250,15 @@ fn devices_fail_at_each_call_in_turn(rt: HostRuntime) -> Result<(), Fail> {
             fails: &[n],
         };
         let (outcome, sink) = call(&rt, &[], SEVEN, &SURE, &writes)?;
-        let status = if n < 4 {
-            Status::WriteFault
-        } else {
-            Status::Quiet
+        let (status, length) = match n {
+            1 => (Status::WriteFault, 0),
+            2 => (Status::WriteFault, 20),
+            3 => (Status::WriteFault, 40),
+            _ => (Status::Quiet, 58),
         };
         assert_eq!(rt; outcome.status, status, "write {n}");
-        assert_eq!(rt;
-            sink.bytes(),
-            &SEVEN_REPORT[..(20 * (n as usize - 1)).min(58)],
-            "write {n}"
-        );
+        assert_eq!(rt; sink.bytes().len(), length, "write {n}");
+        assert!(rt; SEVEN_REPORT.starts_with(sink.bytes()), "write {n}");
     }
     let deaf = Device {
         piece: 20,
@@ -284,11 +283,7 @@ fn a_run_has_its_book(rt: HostRuntime) -> Result<(), Fail> {
     let outcome = run_single(alloc, &order, &mut source, &mut sink);
     assert_eq!(rt; outcome.status, Status::Quiet);
     assert_eq!(rt; sink.bytes(), SEVEN_REPORT);
-    let main = ActorName(0);
-    let want = [Event::Take(main), Event::Go(main), Event::Go(main)];
-    assert_eq!(rt; outcome.book.len(), 3);
-    for (i, event) in want.iter().enumerate() {
-        assert_eq!(rt; outcome.book.at(i as u64), *event);
-    }
+    let book = outcome.book.text(alloc)?;
+    assert_eq!(rt; book.as_slice(), b"book 1\ntake 0\ngo 0\ngo 0\n".as_slice());
     Ok(())
 }
