@@ -17,17 +17,17 @@ const ROW: ObjName = ObjName {
     serial: 0,
 };
 
-const SEVEN: &[u8] = b"kind Main 0\non start 0\nint r0 7\nprint r0\nend\n";
+const SEVEN: &str = "kind Main 0\non start 0\nint r0 7\nprint r0\nend\n";
 
 // Two letters to a cell, which keeps the object of the first one and prints what came.
-const TWO_LETTERS: &[u8] =
-    b"kind Main 0\non start 0\nint r0 4\nrow r1 r0\nrow r2 r1\nnew r3 Cell\nsend r3 keep r1 r0\nsend r3 keep r0 r3\nend\nkind Cell 1\non keep 2\nstore f0 r0\nprint r0\nprint r1\nend\n";
+const TWO_LETTERS: &str =
+    "kind Main 0\non start 0\nint r0 4\nrow r1 r0\nrow r2 r1\nnew r3 Cell\nsend r3 keep r1 r0\nsend r3 keep r0 r3\nend\nkind Cell 1\non keep 2\nstore f0 r0\nprint r0\nprint r1\nend\n";
 
-fn checked(alloc: Global, text: &[u8]) -> Result<Checked, Fail> {
+fn checked(alloc: Global, text: &str) -> Result<Checked, Fail> {
     if text.len() > 4096 {
         return Err(Fail::from("a long text"));
     }
-    Ok(check(parse(alloc, text)?)?)
+    Ok(check(parse(alloc, text.as_bytes())?)?)
 }
 
 /// Does this event, if the machine is young enough.
@@ -42,6 +42,23 @@ fn does(alloc: Global, machine: &mut Plain<'_>, event: Event) -> Result<(), Plai
     }
 }
 
+/// Which of these events were enabled, each after those before it.
+fn enabled(alloc: Global, text: &str, events: &[(bool, u32)]) -> Result<Vec<bool>, Fail> {
+    let code = checked(alloc, text)?;
+    let mut machine = Plain::start(alloc, &code)?;
+    let mut done = Vec::new(alloc);
+    for (goes, actor) in events {
+        let name = ActorName(*actor);
+        let event = if *goes {
+            Event::Go(name)
+        } else {
+            Event::Take(name)
+        };
+        done.push(does(alloc, &mut machine, event).is_ok())?;
+    }
+    Ok(done)
+}
+
 /// Does the first enabled events, at most as many as these, and answers how many they were.
 fn run(alloc: Global, machine: &mut Plain<'_>, most: u64) -> Result<u64, Fail> {
     for done in 0..most {
@@ -53,74 +70,62 @@ fn run(alloc: Global, machine: &mut Plain<'_>, most: u64) -> Result<u64, Fail> {
     Ok(most)
 }
 
-#[test]
-fn seven_is_printed_in_three_events(rt: HostRuntime) -> Result<(), Fail> {
-    let alloc = rt.alloc();
-    let code = checked(alloc, SEVEN)?;
+/// What is reachable after so many events, what was printed, and how many events, actors and objects
+/// there were.
+fn after(alloc: Global, text: &str, most: u64) -> Result<(Vec<Thing>, Vec<Value>, [u64; 3]), Fail> {
+    let code = checked(alloc, text)?;
     let mut machine = Plain::start(alloc, &code)?;
-    assert_eq!(rt;
-        machine.reach(alloc)?.as_slice(),
-        [Thing::Actor(MAIN)].as_slice()
-    );
-    assert_eq!(rt; machine.first_enabled(), Some(Event::Take(MAIN)));
-    assert_eq!(rt; does(alloc, &mut machine, Event::Take(MAIN)), Ok(()));
-    assert_eq!(rt; machine.first_enabled(), Some(Event::Go(MAIN)));
-    assert!(rt; machine.prints().is_empty());
-    assert_eq!(rt; does(alloc, &mut machine, Event::Go(MAIN)), Ok(()));
-    assert_eq!(rt; machine.prints(), [Value::Num(7)].as_slice());
-    assert_eq!(rt; run(alloc, &mut machine, 9)?, 1);
-    assert_eq!(rt; machine.first_enabled(), None);
-    assert_eq!(rt;
-        (machine.steps(), machine.made(), machine.objects_made()),
-        (3, 1, 0)
-    );
-    assert!(rt; machine.reach(alloc)?.is_empty());
-    Ok(())
+    let done = run(alloc, &mut machine, most)?;
+    let things = machine.reach(alloc)?;
+    let prints = machine.prints().to_vec(alloc)?;
+    Ok((
+        things,
+        prints,
+        [done, machine.made(), machine.objects_made()],
+    ))
 }
+
+// Events of the program that prints, some of them before or after their time: whether an actor goes,
+// else it takes a letter, and which one.
+const EVENTS: &[(bool, u32)] = &[
+    (true, 0),
+    (false, 1),
+    (false, 0),
+    (false, 0),
+    (true, 1),
+    (true, 0),
+    (true, 0),
+    (true, 0),
+    (false, 0),
+];
+
+const ENABLED: &[bool] = &[false, false, true, false, false, true, true, false, false];
 
 #[test]
 fn events_that_are_not_enabled_change_nothing(rt: HostRuntime) -> Result<(), Fail> {
-    let alloc = rt.alloc();
-    let code = checked(alloc, SEVEN)?;
-    let mut machine = Plain::start(alloc, &code)?;
-    let refused = [Event::Go(MAIN), Event::Go(CELL), Event::Take(CELL)];
-    for event in refused {
-        assert_eq!(rt; does(alloc, &mut machine, event), Err(PlainFault::NotReady));
-    }
-    assert_eq!(rt; machine.steps(), 0);
-    assert_eq!(rt; machine.first_enabled(), Some(Event::Take(MAIN)));
-    does(alloc, &mut machine, Event::Take(MAIN))?;
-    assert_eq!(rt;
-        does(alloc, &mut machine, Event::Take(MAIN)),
-        Err(PlainFault::NotReady)
-    );
-    assert_eq!(rt; machine.first_enabled(), Some(Event::Go(MAIN)));
-    assert_eq!(rt; run(alloc, &mut machine, 9)?, 2);
-    for event in [Event::Take(MAIN), Event::Go(MAIN)] {
-        assert_eq!(rt; does(alloc, &mut machine, event), Err(PlainFault::NotReady));
-    }
-    assert_eq!(rt; machine.prints(), [Value::Num(7)].as_slice());
+    let done = enabled(rt.alloc(), SEVEN, EVENTS)?;
+    assert!(rt; done.as_slice() == ENABLED);
     Ok(())
 }
 
 #[test]
-fn letters_come_in_order_and_hold_what_they_bring(rt: HostRuntime) -> Result<(), Fail> {
-    let alloc = rt.alloc();
-    let code = checked(alloc, TWO_LETTERS)?;
-    let mut machine = Plain::start(alloc, &code)?;
-    assert_eq!(rt; run(alloc, &mut machine, 5)?, 5);
-    assert_eq!(rt; (machine.made(), machine.objects_made()), (2, 2));
+fn letters_hold_what_they_bring(rt: HostRuntime) -> Result<(), Fail> {
+    let (things, _, counts) = after(rt.alloc(), TWO_LETTERS, 5)?;
     // The turn has ended; the letters hold the cell, the object and by it its owner.
     let held = [Thing::Actor(MAIN), Thing::Obj(ROW), Thing::Actor(CELL)];
-    assert_eq!(rt; machine.reach(alloc)?.as_slice(), held.as_slice());
-    assert_eq!(rt; run(alloc, &mut machine, 99)?, 8);
+    assert!(rt; things.as_slice() == held.as_slice() && counts == [5, 2, 2]);
+    Ok(())
+}
+
+#[test]
+fn letters_come_in_their_order(rt: HostRuntime) -> Result<(), Fail> {
+    let (things, prints, counts) = after(rt.alloc(), TWO_LETTERS, 99)?;
     let want = [
         Value::Obj(ROW),
         Value::Num(4),
         Value::Num(4),
         Value::Actor(CELL),
     ];
-    assert_eq!(rt; machine.prints(), want.as_slice());
-    assert!(rt; machine.reach(alloc)?.is_empty());
+    assert!(rt; prints.as_slice() == want.as_slice() && things.is_empty() && counts == [13, 2, 2]);
     Ok(())
 }
