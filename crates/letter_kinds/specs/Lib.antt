@@ -1,0 +1,3 @@
+pub mod Counting
+pub mod Holdings
+pub mod Sums
