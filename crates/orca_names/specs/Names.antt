@@ -1,6 +1,6 @@
 -- The owner of a thing, and the order of things.
-use Rattle.std.specs.Prelude.{ℕ, Option, Some, None}
-use Rattle.std.specs.Ordering.{nat_cmp, on, then_cmp}
+use Rattle.std.specs.Prelude.{ℕ, Bool, Option, Some, None}
+use Rattle.std.specs.Ordering.{nat_cmp, on, then_cmp, eq_by_cmp}
 use Rattle.std.specs.declared.cmp.Ordering.{Ordering}
 use Rattle.std.specs.Option.{option_cmp}
 use Rattle.orca_names.specs.declared.names.Thing.{Thing}
@@ -19,3 +19,7 @@ serial_of (Obj n) = Some n.serial
 -- by owner; the actor itself comes before its objects, these by serial
 abbrev pub thing_cmp : Thing → Thing → Ordering
 thing_cmp = then_cmp (on owner_of nat_cmp) (on serial_of (option_cmp nat_cmp))
+
+-- whether two things are the same
+abbrev pub is_thing : Thing → Thing → Bool
+is_thing = eq_by_cmp thing_cmp
