@@ -3,10 +3,12 @@
 //! What letters do to the counts of a cell, and what notes do to the detector, stands in `specs/`.
 #![tactic(auto)]
 
+mod laws;
 mod letter;
 mod note;
 mod plan;
 
+pub use laws::{one_largest, rounds_give_the_largest, union_is_closed};
 pub use letter::{Amounts, Letter, Load};
 pub use note::{Note, Report};
 pub use plan::SweepPlan;
