@@ -1,7 +1,6 @@
 -- How much a letter says of a thing.
 use Rattle.std.specs.Prelude.{ℕ, ◌≡◌, Bool, if◌then◌else◌, List, sum_by}
-use Rattle.std.specs.Ordering.{eq_by_cmp}
-use Rattle.orca_names.specs.Names.{thing_cmp}
+use Rattle.orca_names.specs.Names.{is_thing}
 use Rattle.orca_names.specs.declared.names.Thing.{Thing}
 use Rattle.letter_kinds.specs.declared.letter.Letter.{Letter}
 use Rattle.letter_kinds.specs.declared.letter.Letter.TheVariants.{App, Inc, Dec, Confirm}
@@ -9,11 +8,11 @@ use Rattle.letter_kinds.specs.Counting.{Amount, Loaded}
 
 -- the amounts for x in a list
 unfoldable pub amount_of : Thing → List Amount → ℕ
-amount_of x things = sum_by (λ e. if eq_by_cmp thing_cmp x e.0 then e.1 else 0) things
+amount_of x things = sum_by (λ e. if is_thing x e.0 then e.1 else 0) things
 
 -- how often x stands in a load
 unfoldable pub times_loaded : Thing → List Loaded → ℕ
-times_loaded x load = sum_by (λ e. if eq_by_cmp thing_cmp x e.0 then 1 else 0) load
+times_loaded x load = sum_by (λ e. if is_thing x e.0 then 1 else 0) load
 
 -- the amount by which an Inc raises x
 unfoldable pub inc_of : Thing → Letter → ℕ
