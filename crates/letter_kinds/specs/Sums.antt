@@ -1,6 +1,6 @@
 -- How much a letter says of a thing.
-use Rattle.std.specs.Prelude.{ℕ, ◌≡◌, Bool, if◌then◌else◌, List, sum_by}
-use Rattle.orca_names.specs.Names.{is_thing}
+use Rattle.std.specs.Prelude.{ℕ, ◌≡◌, Bool, List, if◌then◌else◌, sum_by}
+use Rattle.orca_names.specs.Names.{is_thing, times_among}
 use Rattle.orca_names.specs.declared.names.Thing.{Thing}
 use Rattle.letter_kinds.specs.declared.letter.Letter.{Letter}
 use Rattle.letter_kinds.specs.declared.letter.Letter.TheVariants.{App, Inc, Dec, Confirm}
@@ -12,7 +12,7 @@ amount_of x things = sum_by (λ e. if is_thing x e.0 then e.1 else 0) things
 
 -- how often x stands in a load
 unfoldable pub times_loaded : Thing → List Loaded → ℕ
-times_loaded x load = sum_by (λ e. if is_thing x e.0 then 1 else 0) load
+times_loaded x load = times_among x load
 
 -- the amount by which an Inc raises x
 unfoldable pub inc_of : Thing → Letter → ℕ

@@ -7,7 +7,7 @@ use Rattle.orca_names.specs.declared.names.ObjName.{ObjName}
 use Rattle.orca_names.specs.declared.names.Thing.{Thing}
 use Rattle.orca_names.specs.declared.names.Thing.TheVariants.{Actor, Obj}
 use Rattle.orca_names.specs.declared.names.Value.{Value}
-use Rattle.reach_walk.specs.Reach.{named_by, row_edges}
+use Rattle.reach_walk.specs.Reach.{named_by, row_edges, thing_row}
 
 -- every object that has a row is listed
 abbrev pub Covers : List ObjName → (ObjName → Option (List Value)) → Type 0
@@ -39,15 +39,6 @@ in_order (x ∷ xs) = put_in_order x (in_order xs)
 unfoldable pub marks_of : (ObjName → Option (List Value)) → List ObjName → List Value → List Thing
 marks_of rows all roots = in_order (with_owners (led_to rows all (named_by roots)))
 
--- the row of a thing: an actor has none
-abbrev pub thing_row : (ObjName → Option (List Value)) → Thing → Option (List Value)
-thing_row rows (Actor a) = None
-thing_row rows (Obj n) = rows n
-
 -- the load of a letter: each mark of its arguments, with its row
 abbrev pub load_of : (ObjName → Option (List Value)) → List ObjName → List Value → List (Thing × Option (List Value))
 load_of rows all args = map (λ x. (x, thing_row rows x)) (marks_of rows all args)
-
--- how often a thing stands in a load
-abbrev pub times_loaded : Thing → List (Thing × Option (List Value)) → ℕ
-times_loaded x load = sum_by (λ e. if is_thing x e.0 then 1 else 0) load
