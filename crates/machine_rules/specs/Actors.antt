@@ -1,5 +1,5 @@
 -- The actors by number, and the letters that wait for each.
-use Rattle.std.specs.Prelude.{ℕ, List, [], ◌∷◌, ◌++◌, get_or, set, Option, Some, None, option_map}
+use Rattle.std.specs.Prelude.{ℕ, List, [], ◌∷◌, ◌++◌, get_or, set, Option, Some, None}
 use Rattle.letter_kinds.specs.declared.letter.Letter.{Letter}
 use Rattle.letter_kinds.specs.declared.letter.Letter.TheVariants.{Dec}
 use Rattle.letter_kinds.specs.Counting.{Amount}
@@ -24,7 +24,8 @@ seat_at actors a = get_or actors a None
 -- ---- posting
 
 abbrev pub with_letter_more : Letter → Option Seat → Option Seat
-with_letter_more letter found = option_map (λ o. record o { mail = o.mail ++ letter ∷ [] }) found
+with_letter_more letter None = None
+with_letter_more letter (Some o) = Some (record o { mail = o.mail ++ letter ∷ [] })
 
 -- a letter for an actor that is gone is lost
 unfoldable pub push_letter : ℕ → Letter → Actors → Actors

@@ -1,4 +1,16 @@
+pub mod Actors
+pub mod Balance
+pub mod Block
+pub mod Cell
+pub mod Collect
+pub mod Detect
+pub mod Go
+pub mod Left
+pub mod Next
 pub mod Plain
 pub mod PlainLimits
 pub mod PlainReach
 pub mod PlainRun
+pub mod Run
+pub mod State
+pub mod Take
