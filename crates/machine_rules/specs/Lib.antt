@@ -1,10 +1,13 @@
 pub mod Actors
+pub mod Agreement
 pub mod Balance
 pub mod Block
 pub mod Cell
 pub mod Collect
 pub mod Detect
+pub mod Facts
 pub mod Go
+pub mod Known
 pub mod Left
 pub mod Next
 pub mod Plain
