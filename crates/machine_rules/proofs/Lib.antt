@@ -1,8 +1,12 @@
 pub mod Changing
 pub mod InHand
+pub mod Makes
 pub mod Paths
 pub mod PlainGrowth
 pub mod PlainRuns
 pub mod Posting
+pub mod Safety
 pub mod SeatReads
 pub mod Seats
+pub mod Sends
+pub mod Takes
