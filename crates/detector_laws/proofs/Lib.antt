@@ -5,6 +5,7 @@ pub mod HearTokens
 pub mod Letters
 pub mod Maps
 pub mod Members
+pub mod Named
 pub mod Names
 pub mod News
 pub mod Notes
@@ -14,5 +15,6 @@ pub mod Ready
 pub mod Reap
 pub mod Safe
 pub mod Scan
+pub mod Starts
 pub mod Steps
 pub mod Sums

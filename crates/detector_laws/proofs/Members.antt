@@ -1,5 +1,5 @@
 -- What is one of a list.
-use Rattle.std.proofs.Common.{◌≡◌, Bool, true, false, cond, ◌⊎◌, inl, inr, ⊎_elim, List, [], ◌∷◌, ◌++◌, filter, map, refl, ap, sym, subst, ◌∙◌}
+use Rattle.std.proofs.Common.{◌≡◌, Bool, true, false, cond, ◌⊎◌, inl, inr, ⊎_elim, List, [], ◌∷◌, ◌++◌, filter, find, map, Some, refl, ap, sym, subst, ◌∙◌}
 use Rattle.std.specs.List.{AllByRecursion}
 use Rattle.detector_laws.specs.World.{In}
 
@@ -26,3 +26,11 @@ each_In P (y ∷ ys) h x i = ⊎_elim (λ e. subst P (sym e) h.0) (λ j. each_In
 pub In_each : {A : Type 0} (P : A → Type 0) (xs : List A) → ((x : A) → In x xs → P x) → AllByRecursion P xs
 In_each P [] h = tt
 In_each P (y ∷ ys) h = (h y (inl refl), In_each P ys (λ x i. h x (inr i)))
+
+pub In-find : {A : Type 0} (p : A → Bool) (xs : List A) (x : A) → find p xs ≡ Some x → In x xs × (p x ≡ true)
+In-find p [] x h = absurd (cc)
+In-find p (y ∷ ys) x h = found p x y ys (In-find p ys x) (p y) refl h
+  where
+    found : {A : Type 0} (p : A → Bool) (x y : A) (ys : List A) → (find p ys ≡ Some x → In x ys × (p x ≡ true)) → (b : Bool) → p y ≡ b → cond b (Some y) (find p ys) ≡ Some x → ((x ≡ y) ⊎ In x ys) × (p x ≡ true)
+    found p x y ys more true e h' = let same : y ≡ x = cc in (inl (sym same), ap p (sym same) ∙ e)
+    found p x y ys more false e h' = (inr (more h').0, (more h').1)

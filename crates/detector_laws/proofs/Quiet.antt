@@ -10,6 +10,7 @@ use Rattle.letter_kinds.specs.Detector.{Token, has, in_token, candidates}
 use Rattle.letter_kinds.specs.Reports.{count_on, told_on, told_on_by, report_of}
 use Rattle.letter_kinds.proofs.Filters.{filter_full, all_filter, filter_twice, filter_true}
 use Rattle.letter_kinds.proofs.Rounds.{largest_by_rounds}
+use Rattle.letter_kinds.proofs.Acked.{each_acked}
 use Rattle.detector_laws.specs.Balance.{sum_below, ActorsAreBalanced}
 use Rattle.detector_laws.specs.News.{NoNewsNoClosedSet}
 use Rattle.detector_laws.specs.Quiet.{IsQuiet, IsReached, root, edge}
@@ -47,7 +48,7 @@ none_spoiled w q h t (m, i, p) = ⊎_elim
     p.cause
 
 no_token : (w : World) → IsQuiet w → ReportsAreExact w → TokensAreSound w → (t : Token) → In t w.detector.tokens → ⊥
-no_token w q h k t i = ⊎_elim (λ s. q.unacked t i (sealed_acked w q t s)) (λ s. none_spoiled w q h t s) (k.state t i)
+no_token w q h k t i = ⊎_elim (λ s. q.unacked t i (each_acked t (sealed_acked w q t s))) (λ s. none_spoiled w q h t s) (k.state t i)
 
 none_in_token : (ts : List Token) → ((t : Token) → In t ts → ⊥) → (m : ℕ) → in_token ts m ≡ false
 none_in_token [] h m = refl

@@ -5,6 +5,7 @@ use Rattle.std.proofs.lemmas.Bool.Decides.{nat_tests}
 use Rattle.letter_kinds.specs.declared.note.Report.{Report}
 use Rattle.letter_kinds.specs.Detector.{Token, has, close_token}
 use Rattle.letter_kinds.specs.Reports.{report_of}
+use Rattle.letter_kinds.proofs.Acked.{acked_each}
 use Rattle.detector_laws.specs.Events.{Reaps}
 use Rattle.detector_laws.specs.Reports.{with_notes, told_by_kept, told_of, IsSilentOn, IsBlocked, IsAsTold, ExactReports, ReportsAreExact}
 use Rattle.detector_laws.specs.Tokens.{confirm_count, IsSealedMember, IsSealed, other_before_confirm, IsSpoiled, SoundTokens, TokensAreSound}
@@ -31,7 +32,7 @@ report_of-in ms (k ∷ ks) a h = ⊎_elim
 pub reaped_sealed : (w w' : World) (t : Token) → Reaps w t w' → TokensAreSound w → IsSealed w.cell w.mail w.loaded w.notes t
 reaped_sealed w w' t r k = ⊎_elim
     (λ s. s)
-    (λ s. let (m, i, p) = s in absurd (false≢true (sym p.unnoted ∙ r.acked m i)))
+    (λ s. let (m, i, p) = s in absurd (false≢true (sym p.unnoted ∙ acked_each t r.acked m i)))
     (k.state t r.is_open)
 
 reaped_last : (w w' : World) (t : Token) → Reaps w t w' → ReportsAreExact w → IsSealed w.cell w.mail w.loaded w.notes t → (a : ℕ) → IsAsTold (w'.cell a) a (told_of a (close_token t w.detector).kept w.notes)

@@ -2,7 +2,7 @@
 use Rattle.std.specs.Prelude.{ℕ, ◌≡◌, ◌≢◌, ◌⊎◌, if◌then◌else◌, true, false, List, [], ◌∷◌, ◌++◌}
 use Rattle.letter_kinds.specs.declared.note.Note.TheVariants.{Unblock}
 use Rattle.letter_kinds.specs.declared.note.Report.{Report}
-use Rattle.letter_kinds.specs.Detector.{Token, has, close_token}
+use Rattle.letter_kinds.specs.Detector.{Token, has, all_acked, close_token}
 use Rattle.detector_laws.specs.Reports.{IsExact}
 use Rattle.detector_laws.specs.World.{LetterKind, Other, Cell, World, In, NoConfirms}
 
@@ -51,7 +51,7 @@ pub record Moves (w : World) (a : ℕ) (after : World) : Type 0 where
 -- what the reap of a token may change
 pub record Reaps (w : World) (t : Token) (after : World) : Type 0 where
   pub is_open : In t w.detector.tokens
-  pub acked : (m : ℕ) → has t.members m ≡ true → has t.acked m ≡ true
+  pub acked : all_acked t ≡ true
   pub detector : after.detector ≡ close_token t w.detector
   pub notes : after.notes ≡ w.notes
   -- the members go, with all that they hold

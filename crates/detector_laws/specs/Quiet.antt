@@ -1,13 +1,13 @@
 -- The state in which no event is enabled, and who is reached and needed.
 use Rattle.std.specs.Prelude.{ℕ, ◌≡◌, ◌≢◌, true, false, []}
-use Rattle.letter_kinds.specs.Detector.{Token, has}
+use Rattle.letter_kinds.specs.Detector.{Token, all_acked}
 use Rattle.detector_laws.specs.World.{World, In, OnlyConfirms}
 
 -- no event is enabled
 pub record IsQuiet (w : World) : Type 0 where
   pub heard : w.notes ≡ []
   pub scanned : w.detector.news ≡ false
-  pub unacked : (t : Token) → In t w.detector.tokens → ((m : ℕ) → has t.members m ≡ true → has t.acked m ≡ true) → ⊥
+  pub unacked : (t : Token) → In t w.detector.tokens → all_acked t ≢ true
   pub idle : (a : ℕ) → (w.cell a).present ≡ true → (w.cell a).framed ≡ false
   pub empty : (a : ℕ) → (w.cell a).present ≡ true → w.mail a ≡ []
   pub unloaded : (a : ℕ) → w.loaded a ≡ 0

@@ -1,11 +1,18 @@
--- Steps and runs of the world that the detector's laws speak of.
-use Rattle.std.specs.Prelude.{ℕ, ◌≡◌, true, List, ◌∷◌}
+-- The start, steps and runs of the world that the detector's laws speak of.
+use Rattle.std.specs.Prelude.{ℕ, ◌≡◌, true, false, List, [], ◌∷◌}
 use Rattle.letter_kinds.specs.declared.note.Note.{Note}
 use Rattle.letter_kinds.specs.declared.note.Report.{Report}
-use Rattle.letter_kinds.specs.Detector.{Token}
+use Rattle.letter_kinds.specs.Detector.{Token, fresh_detector}
 use Rattle.detector_laws.specs.Balance.{ActorsAreBalanced}
 use Rattle.detector_laws.specs.Events.{CanBlock, Moves, Reaps}
-use Rattle.detector_laws.specs.World.{World, LetterKind, Confirm, hear, scan, block, take_confirm}
+use Rattle.detector_laws.specs.World.{World, LetterKind, Confirm, NoConfirms, hear, scan, block, take_confirm}
+
+-- nothing was reported yet, and no Confirm waits
+pub record IsStart (w : World) : Type 0 where
+  pub detector : w.detector ≡ fresh_detector
+  pub notes : w.notes ≡ []
+  pub unreported : (a : ℕ) → (w.cell a).reported ≡ false
+  pub unasked : (a : ℕ) → NoConfirms (w.mail a)
 
 -- one event leads from the world to another
 pub data IsStep (w : World) : World → Type 0 where

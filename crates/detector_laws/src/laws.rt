@@ -6,13 +6,18 @@ ghost use Rattle.detector_laws.specs.Facts.{DetectorFacts};
 ghost use Rattle.detector_laws.specs.News.{NoNewsNoClosedSet};
 ghost use Rattle.detector_laws.specs.Quiet.{IsNeeded, IsQuiet, IsReached};
 ghost use Rattle.detector_laws.specs.Reports.{IsRising, ReportsAreExact};
-ghost use Rattle.detector_laws.specs.Run.{IsRun, IsStep};
+ghost use Rattle.detector_laws.specs.Run.{IsRun, IsStart, IsStep};
 ghost use Rattle.detector_laws.specs.Tokens.{TokensAreSound};
 ghost use Rattle.detector_laws.specs.World.{block, Confirm, hear, In, LetterKind, scan, take_confirm, World};
 ghost use Rattle.letter_kinds.specs.declared.note.Note.{Note};
 ghost use Rattle.letter_kinds.specs.declared.note.Report.{Report};
-ghost use Rattle.letter_kinds.specs.Detector.{close_token, closed_set, Detector, has, heard, scanned, Token};
-ghost use Rattle.std.specs.Prelude.{List, true, ℕ, ◌∷◌, ◌≡◌, ◌≢◌};
+ghost use Rattle.letter_kinds.specs.Detector.{close_token, closed_set, Detector, has, heard, scanned, Token, token_numbered};
+ghost use Rattle.std.specs.Prelude.{List, Some, true, ℕ, ◌∷◌, ◌≡◌, ◌≢◌};
+
+/// The token of a number is one of the open tokens.
+pub fn numbered_is_open()
+    ensures { (d : Detector) (number : ℕ) (t : Token) → token_numbered number d ≡ Some t → In t d.tokens × (t.number ≡ number) }
+{}
 
 /// Hearing a note keeps what kept reports and notes tell of actors true.
 pub fn hear_keeps_reports()
@@ -53,6 +58,11 @@ pub fn detector_keeps()
     ensures reap_news { (d : Detector) (t : Token) → In t d.tokens → ((u : Token) → In u d.tokens → u.number ≡ t.number → u ≡ t) → NoNewsNoClosedSet d → NoNewsNoClosedSet (close_token t d) }
     ensures hear_order { (n : Note) (d : Detector) → IsRising d.kept → IsRising (heard n d).kept }
     ensures reap_order { (t : Token) (d : Detector) → IsRising d.kept → IsRising (close_token t d).kept }
+{}
+
+/// All that holds of the detector holds where a run starts.
+pub fn start_has_facts()
+    ensures { (w : World) → IsStart w → DetectorFacts w }
 {}
 
 /// Each event keeps all that holds of the detector, where the counts balance before it.
