@@ -1,3 +1,6 @@
 pub mod Closed
+pub mod Counting
 pub mod Detector
+pub mod Holdings
 pub mod Reports
+pub mod Sums

@@ -1,6 +1,6 @@
 -- The owner of a thing, and the order of things.
-use Rattle.std.specs.Prelude.{ℕ, Option, Some, None}
-use Rattle.std.specs.Ordering.{nat_cmp, on, then_cmp}
+use Rattle.std.specs.Prelude.{ℕ, Bool, if◌then◌else◌, List, Option, Some, None, sum_by}
+use Rattle.std.specs.Ordering.{nat_cmp, on, then_cmp, eq_by_cmp}
 use Rattle.std.specs.declared.cmp.Ordering.{Ordering}
 use Rattle.std.specs.Option.{option_cmp}
 use Rattle.orca_names.specs.declared.names.Thing.{Thing}
@@ -19,3 +19,11 @@ serial_of (Obj n) = Some n.serial
 -- by owner; the actor itself comes before its objects, these by serial
 abbrev pub thing_cmp : Thing → Thing → Ordering
 thing_cmp = then_cmp (on owner_of nat_cmp) (on serial_of (option_cmp nat_cmp))
+
+-- whether two things are the same
+abbrev pub is_thing : Thing → Thing → Bool
+is_thing = eq_by_cmp thing_cmp
+
+-- how often a thing stands among pairs of a thing and something
+abbrev pub times_among : {A : Type 0} → Thing → List (Thing × A) → ℕ
+times_among x pairs = sum_by (λ e. if is_thing x e.0 then 1 else 0) pairs

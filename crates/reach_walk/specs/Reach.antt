@@ -20,12 +20,20 @@ named_by values = filter_map thing_of values
 
 -- what a finite path leads to from a root: a root; what a value on an edge of a reached thing names;
 -- the owner of a reached object
-pub data Reaches (edges : Thing → List Value) (roots : List Thing) : Thing → Type 0 where
-  root : {x : Thing} → Contains roots x → Reaches edges roots x
-  step : {t x : Thing} → Reaches edges roots t → Contains (named_by (edges t)) x → Reaches edges roots x
-  owned : {n : ObjName} → Reaches edges roots (things.Obj n) → Reaches edges roots (things.Actor n.owner)
+pub data ReachesFrom (edges : Thing → List Value) (IsRoot : Thing → Type 0) : Thing → Type 0 where
+  root : {x : Thing} → IsRoot x → ReachesFrom edges IsRoot x
+  step : {t x : Thing} → ReachesFrom edges IsRoot t → Contains (named_by (edges t)) x → ReachesFrom edges IsRoot x
+  owned : {n : ObjName} → ReachesFrom edges IsRoot (things.Obj n) → ReachesFrom edges IsRoot (things.Actor n.owner)
+
+-- what is reached from the things of a list
+abbrev pub Reaches : (Thing → List Value) → List Thing → Thing → Type 0
+Reaches edges roots x = ReachesFrom edges (Contains roots) x
+
+-- the row of a thing: an actor has none
+abbrev pub thing_row : (ObjName → Option (List Value)) → Thing → Option (List Value)
+thing_row rows (things.Actor a) = None
+thing_row rows (things.Obj n) = rows n
 
 -- an object leads to the values of its row, an actor nowhere
 abbrev pub row_edges : (ObjName → Option (List Value)) → Thing → List Value
-row_edges rows (things.Actor a) = []
-row_edges rows (things.Obj n) = unwrap_or (rows n) []
+row_edges rows x = unwrap_or (thing_row rows x) []

@@ -1,0 +1,58 @@
+-- A letter in the hand is pushed.
+use Rattle.std.proofs.Common.{◌≡◌, ◌≢◌, ℕ, suc, zero, ◌+◌, ◌<◌, ◌≤◌, ◌==◌, cond, Option, Some, None, List, [], ◌∷◌, ◌++◌, length, get_or, set, refl, ap, sym, ◌∙◌, subst, arith, eq-eqb, ne_eqb, true, false}
+use Rattle.std.proofs.lemmas.List.Sums.{sum_by_push}
+use Rattle.machine_rules.proofs.Seats.{present_below, balanced-set}
+use Rattle.letter_kinds.specs.Holdings.{own_in, held_in}
+use Rattle.letter_kinds.specs.Sums.{amount_of, times_loaded, inc_of, dec_of, load_count}
+use Rattle.letter_kinds.specs.declared.letter.Letter.{Letter}
+use Rattle.machine_rules.proofs.InHand.{BalancedWith, credit, debit}
+use Rattle.machine_rules.proofs.Seats.{IsPresent}
+use Rattle.machine_rules.specs.Actors.{Seat, Actors, seat_at, with_letter_more, push_letter}
+use Rattle.machine_rules.specs.Balance.{own_at, incs_at, decs_at, held_at, loads_at, owner_seat, held_sum, load_sum}
+use Rattle.machine_rules.specs.Cell.{Cell}
+use Rattle.orca_names.specs.Names.{owner_of}
+use Rattle.orca_names.specs.declared.names.Thing.{Thing}
+use Rattle.std.specs.Prelude.{sum_by}
+
+-- what a seat reads with one more letter
+module _ (x : Thing) (o : Seat) (l : Letter) where
+  pub own_at_push : own_at x (with_letter_more l (Some o)) ≡ own_at x (Some o)
+  unfolding own_at
+  own_at_push = refl
+
+  pub held_at_push : held_at x (with_letter_more l (Some o)) ≡ held_at x (Some o)
+  unfolding held_at
+  held_at_push = refl
+
+  pub incs_at_push : incs_at x (with_letter_more l (Some o)) ≡ incs_at x (Some o) + inc_of x l
+  unfolding incs_at
+  incs_at_push = sum_by_push (inc_of x) o.mail l
+
+  pub decs_at_push : decs_at x (with_letter_more l (Some o)) ≡ decs_at x (Some o) + dec_of x l
+  unfolding decs_at
+  decs_at_push = sum_by_push (dec_of x) o.mail l
+
+  pub loads_at_push : loads_at x (with_letter_more l (Some o)) ≡ loads_at x (Some o) + load_count x l
+  unfolding loads_at
+  loads_at_push = sum_by_push (load_count x) o.mail l
+
+cond_eq : {A : Type 0} (a b : ℕ) (x y : A) → a ≡ b → cond (a == b) x y ≡ x
+cond_eq a b x y e = rw (eq-eqb a b e) refl
+
+cond_ne : {A : Type 0} (a b : ℕ) (x y : A) → a ≢ b → cond (a == b) x y ≡ y
+cond_ne a b x y n = rw (ne_eqb a b n) refl
+
+pub push_balanced : (s : Actors) (b : ℕ) (l : Letter) (d e : Thing → ℕ) → IsPresent s b
+    → BalancedWith (λ x. credit b l x + d x) (λ x. debit b l x + e x) s → BalancedWith d e (push_letter b l s)
+unfolding push_letter
+push_balanced s b l d e (o, at) bal =
+    rw at (balanced-set s b (Some o) (with_letter_more l (Some o)) (present_below s b o at) at _ _ d e
+    (λ x is.
+    let c = cond_eq (owner_of x) b (inc_of x l) 0 is in
+    let c' = cond_eq (owner_of x) b (dec_of x l) 0 is in
+    omega (arith, own_at_push x o l, held_at_push x o l, incs_at_push x o l, decs_at_push x o l, loads_at_push x o l))
+    (λ x not.
+    let c = cond_ne (owner_of x) b (inc_of x l) 0 not in
+    let c' = cond_ne (owner_of x) b (dec_of x l) 0 not in
+    omega (arith, held_at_push x o l, loads_at_push x o l))
+    bal)

@@ -1,0 +1,53 @@
+-- One seat of the actors is changed: what is owed is said of that seat alone.
+use Rattle.std.proofs.Common.{◌≡◌, ◌≢◌, ℕ, suc, zero, ◌+◌, ◌<◌, ◌≤◌, Option, Some, None, List, [], ◌∷◌, ◌++◌, length, get_or, set, refl, ap, sym, ◌∙◌, subst, arith, inl, inr, ⊎_elim, get_or-set_same, get_or-set_other}
+use Rattle.std.proofs.lemmas.List.{get_or_past}
+use Rattle.std.proofs.lemmas.Bool.{cases_eq, cases_lt}
+use Rattle.std.proofs.lemmas.List.Sums.{sum_by-set, sum_by_push, sum_by-cons, sum_by-append}
+use Rattle.letter_kinds.proofs.Sums.{sum-nil}
+use Rattle.letter_kinds.specs.Holdings.{own_in, held_in}
+use Rattle.letter_kinds.specs.Sums.{amount_of, times_loaded, inc_of, dec_of, load_count}
+use Rattle.letter_kinds.specs.declared.letter.Letter.{Letter}
+use Rattle.machine_rules.proofs.InHand.{BalancedWith, credit, debit}
+use Rattle.machine_rules.specs.Actors.{Seat, Actors, seat_at, with_letter_more, push_letter}
+use Rattle.machine_rules.specs.Balance.{own_at, incs_at, decs_at, held_at, loads_at, owner_seat, held_sum, load_sum}
+use Rattle.machine_rules.specs.Cell.{Cell}
+use Rattle.orca_names.specs.Names.{owner_of}
+use Rattle.orca_names.specs.declared.names.Thing.{Thing}
+use Rattle.std.specs.Prelude.{sum_by}
+
+-- the actor is present
+abbrev pub IsPresent : Actors → ℕ → Type 0
+IsPresent s a = (o : Seat) × (seat_at s a ≡ Some o)
+
+pub present_below : (s : Actors) (b : ℕ) (o : Seat) → seat_at s b ≡ Some o → b < length s
+present_below s b o e = ⊎_elim (λ h. h) (λ h. let n = get_or_past s b None h in cc) (cases_lt b (length s))
+
+-- The seat at b is changed from old to new. What is owed is said of that seat alone.
+module _ (s : Actors) (b : ℕ) (old new : Option Seat) (within : b < length s) (was : seat_at s b ≡ old) where
+  pub at_same : (i : ℕ) → i ≡ b → seat_at (set s b new) i ≡ new
+  at_same i e = rw e (get_or-set_same s b new None within)
+
+  pub at_other : (i : ℕ) → i ≢ b → seat_at (set s b new) i ≡ seat_at s i
+  at_other i n = get_or-set_other s b i new None n
+
+  pub held_sum-set : (x : Thing) → held_sum x (set s b new) + held_at x old ≡ held_sum x s + held_at x new
+  held_sum-set x = rw (← was) (sum_by-set (held_at x) s b new None within)
+
+  pub load_sum-set : (x : Thing) → load_sum x (set s b new) + loads_at x old ≡ load_sum x s + loads_at x new
+  load_sum-set x = rw (← was) (sum_by-set (loads_at x) s b new None within)
+
+  pub balanced-set : (d e d' e' : Thing → ℕ)
+      → ((x : Thing) → owner_of x ≡ b →
+      own_at x new + incs_at x new + d' x + (held_at x old + loads_at x old + decs_at x old + e x)
+      ≡ held_at x new + loads_at x new + decs_at x new + e' x + (own_at x old + incs_at x old + d x))
+      → ((x : Thing) → owner_of x ≢ b → d' x + (held_at x old + loads_at x old + e x) ≡ held_at x new + loads_at x new + e' x + d x)
+      → BalancedWith d e s → BalancedWith d' e' (set s b new)
+  balanced-set d e d' e' mine others bal x = ⊎_elim
+      (λ is. let h = held_sum-set x in let l = load_sum-set x in let m = mine x is in let z = bal x in
+      let n = at_same (owner_of x) is in
+      let o : seat_at s (owner_of x) ≡ old = rw is was in
+      let z' = rw o at z in
+      rw n (omega arith))
+      (λ not. let h = held_sum-set x in let l = load_sum-set x in let m = others x not in let z = bal x in
+      rw (at_other (owner_of x) not) (omega arith))
+      (cases_eq (owner_of x) b)

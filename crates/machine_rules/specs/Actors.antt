@@ -1,0 +1,37 @@
+-- The actors by number, and the letters that wait for each.
+use Rattle.std.specs.Prelude.{ℕ, List, [], ◌∷◌, ◌++◌, get_or, set, Option, Some, None}
+use Rattle.letter_kinds.specs.declared.letter.Letter.{Letter}
+use Rattle.letter_kinds.specs.declared.letter.Letter.TheVariants.{Dec}
+use Rattle.letter_kinds.specs.Counting.{Amount}
+use Rattle.machine_rules.specs.Cell.{Cell}
+
+-- an actor that is present
+pub record Seat : Type 0 where
+  pub cell : Cell
+  -- its letters, the first of which it takes next
+  pub mail : List Letter
+
+-- all actors ever made, by number; none where the actor is gone
+abbrev pub Actors : Type 0
+Actors = List (Option Seat)
+
+abbrev pub seat : Cell → List Letter → Option Seat
+seat cell mail = Some (record { cell = cell; mail = mail })
+
+abbrev pub seat_at : Actors → ℕ → Option Seat
+seat_at actors a = get_or actors a None
+
+-- ---- posting
+
+abbrev pub with_letter_more : Letter → Option Seat → Option Seat
+with_letter_more letter None = None
+with_letter_more letter (Some o) = Some (record o { mail = o.mail ++ letter ∷ [] })
+
+-- a letter for an actor that is gone is lost
+unfoldable pub push_letter : ℕ → Letter → Actors → Actors
+push_letter to letter actors = set actors to (with_letter_more letter (seat_at actors to))
+
+-- to each of these owners one Dec with its amounts
+unfoldable pub push_decs : List (ℕ × List Amount) → Actors → Actors
+push_decs [] actors = actors
+push_decs (group ∷ groups) actors = push_decs groups (push_letter group.0 (Dec group.1) actors)

@@ -1,0 +1,54 @@
+-- What an actor keeps in the machine that collects.
+use Rattle.std.specs.Prelude.{ℕ, false, Bool, List, [], ◌++◌, map, replicate, Option, Some, None}
+use Rattle.std.specs.Option.{option_map_or}
+use Rattle.std.specs.List.{filter_map}
+use Rattle.std.specs.FinMap as m
+use Rattle.orca_names.specs.declared.names.ObjName.{ObjName}
+use Rattle.orca_names.specs.declared.names.Thing.{Thing}
+use Rattle.orca_names.specs.declared.names.Thing.TheVariants as things
+use Rattle.orca_names.specs.declared.names.Value.TheVariants.{Null}
+use Rattle.orca_names.specs.declared.row.Fields.{Fields}
+use Rattle.behaviour_code.specs.declared.code.Program.{Program}
+use Rattle.behaviour_code.specs.Find.{field_count}
+use Rattle.turn_rules.specs.declared.act.Frame.{Frame}
+use Rattle.letter_kinds.specs.Holdings.{Holdings, nothing_held}
+
+pub record Cell : Type 0 where
+  pub kind : ℕ
+  pub fields : Fields
+  -- where it stands in a behaviour, if it is in one
+  pub frame : Option Frame
+  pub holdings : Holdings
+  -- it did something since it collected
+  pub dirty : Bool
+  -- it told the detector that it is blocked
+  pub reported : Bool
+
+-- a clean actor with null fields that is counted so often
+abbrev pub clean_cell : Program → ℕ → ℕ → Cell
+clean_cell program kind count = record {
+  kind = kind;
+  fields = record { values = replicate (field_count program kind) Null; pinned = false };
+  frame = None;
+  holdings = nothing_held count;
+  dirty = false;
+  reported = false;
+}
+
+-- the first actor, which nobody holds
+abbrev pub first_cell : Program → Cell
+first_cell program = clean_cell program 0 0
+
+-- an actor that was just made; its maker holds it with 256
+abbrev pub fresh_cell : Program → ℕ → Cell
+fresh_cell program kind = clean_cell program kind 256
+
+-- the object that a thing is
+abbrev pub object_name : Thing → Option ObjName
+object_name (things.Actor a) = None
+object_name (things.Obj n) = Some n
+
+-- the objects of which an actor may have a row: its own, and those that it holds
+unfoldable pub known_objects : ℕ → Holdings → List ObjName
+known_objects me h =
+    map (λ e. record { owner = me; serial = e.0 }) (m.entries h.rows) ++ filter_map (λ e. object_name e.0) (m.entries h.foreign)

@@ -1,0 +1,58 @@
+-- Hear, scan and reap: the detector's events (MAC, OOPSLA 2013).
+use Rattle.std.specs.Prelude.{ℕ, suc, true, false, Bool, List, [], ◌∷◌, ◌++◌, set, Option, Some, None}
+use Rattle.orca_names.specs.Names.{owner_of}
+use Rattle.letter_kinds.specs.declared.letter.Letter.TheVariants.{Confirm}
+use Rattle.letter_kinds.specs.declared.note.Note.{Note}
+use Rattle.letter_kinds.specs.Counting.{Amount, by_owner, given_back}
+use Rattle.letter_kinds.specs.Detector.{Detector, Token, all_acked, close_token, closed_set, has, heard, scanned, token_numbered}
+use Rattle.machine_rules.specs.Actors.{Actors, Seat, push_decs, push_letter, seat_at}
+use Rattle.machine_rules.specs.State.{State, Step, NotEnabled, Goes}
+
+-- ---- hear: the detector takes the first of its notes
+
+abbrev pub hear_in : State → List Note → Step
+hear_in s [] = NotEnabled
+hear_in s (note ∷ notes) = Goes (record s { detector = heard note s.detector; notes = notes })
+
+abbrev pub hear : State → Step
+hear s = hear_in s s.notes
+
+-- ---- scan: where there is news, the largest closed set becomes a token, and its members are asked
+
+-- a Confirm of the token to each of these
+abbrev pub ask_all : List ℕ → ℕ → Actors → Actors
+ask_all [] token actors = actors
+ask_all (a ∷ members) token actors = ask_all members token (push_letter a (Confirm token) actors)
+
+abbrev pub scan_in : State → List ℕ → Bool → Step
+scan_in s closed false = NotEnabled
+scan_in s closed true =
+    Goes (record s { actors = ask_all closed (suc s.detector.opened) s.actors; detector = scanned s.detector closed })
+
+abbrev pub scan : State → Step
+scan s = scan_in s (closed_set s.detector) s.detector.news
+
+-- ---- reap: the members of a token that all acknowledged go, with all that they own
+
+-- what a member held on things whose owners are not in the set
+abbrev pub held_outside : List ℕ → Option Seat → List Amount
+held_outside members None = []
+held_outside members (Some o) = given_back (λ x. has members (owner_of x)) o.cell.holdings
+
+-- these members go, one after another; then the Decs go out that return what they held outside of
+-- the set
+unfoldable pub reaped : List ℕ → List ℕ → List (ℕ × List Amount) → Actors → Actors
+reaped members [] decs actors = push_decs decs actors
+reaped members (a ∷ rest) decs actors = reaped members rest (decs ++ by_owner (held_outside members (seat_at actors a))) (set actors a None)
+
+abbrev pub reap_in : State → Token → Bool → Step
+reap_in s token false = NotEnabled
+reap_in s token true =
+    Goes (record s { actors = reaped token.members token.members [] s.actors; detector = close_token token s.detector })
+
+abbrev pub reap_found : State → Option Token → Step
+reap_found s None = NotEnabled
+reap_found s (Some token) = reap_in s token (all_acked token)
+
+abbrev pub reap : State → ℕ → Step
+reap s number = reap_found s (token_numbered number s.detector)

@@ -1,0 +1,48 @@
+-- The facts that every event of the machine that collects keeps, beside the plain machine.
+use Rattle.std.specs.Prelude.{ℕ, ◌<◌, ◌≤◌, ◌≡◌, ◌≢◌, List, length, Option, Some, None}
+use Rattle.std.specs.FinMap as m
+use Rattle.orca_names.specs.declared.names.ObjName.{ObjName}
+use Rattle.orca_names.specs.declared.names.Thing.{Thing}
+use Rattle.orca_names.specs.declared.names.Thing.TheVariants.{Actor, Obj}
+use Rattle.reach_walk.specs.Reach.{thing_row}
+use Rattle.letter_kinds.specs.declared.letter.Letter.{Letter}
+use Rattle.letter_kinds.specs.Holdings.{Row}
+use Rattle.machine_rules.specs.Actors.{Actors, seat, seat_at}
+use Rattle.machine_rules.specs.Agreement.{Agrees, Person, people_of}
+use Rattle.machine_rules.specs.Balance.{IsBalanced, NeverOverdraws}
+use Rattle.machine_rules.specs.Cell.{Cell}
+use Rattle.machine_rules.specs.Known.{IsSoundAt}
+use Rattle.machine_rules.specs.Plain.{PlainState, objects_made, plain_row}
+use Rattle.machine_rules.specs.State.{State}
+
+-- something holds of each actor that is present
+abbrev pub Every : (ℕ → Cell → List Letter → Type 0) → Actors → Type 0
+Every Q actors = (a : ℕ) (c : Cell) (mail : List Letter) → seat_at actors a ≡ seat c mail → Q a c mail
+
+-- nothing has a row from its owner's next serial on
+abbrev pub IsPastRows : (Thing → Option Row) → ℕ → Cell → List Letter → Type 0
+IsPastRows all a c mail = (k : ℕ) → c.holdings.next ≤ k → all (Obj (record { owner = a; serial = k })) ≡ None
+
+-- it holds at least 1 of each thing in its table
+abbrev pub IsFirmAt : ℕ → Cell → List Letter → Type 0
+IsFirmAt a c mail = (x : Thing) (e : ℕ × Option Row) → m.get c.holdings.foreign x ≡ Some e → 0 < e.0
+
+-- what the actors keep, beside these persons and the map of all rows ever made
+pub record KeepsCounts (all : Thing → Option Row) (people : List Person) (actors : Actors) : Type 0 where
+  pub balanced : IsBalanced actors
+  pub prefixes : NeverOverdraws actors
+  pub sound : Every (IsSoundAt all) actors
+  pub agrees : Agrees people actors
+  pub bare : (a : ℕ) → all (Actor a) ≡ None
+  pub serials : Every (IsPastRows all) actors
+  pub long : length people ≡ length actors
+  pub unmade : (a : ℕ) → length actors ≤ a → (k : ℕ) → all (Obj (record { owner = a; serial = k })) ≡ None
+  pub firm : Every IsFirmAt actors
+
+-- the facts: the counts are kept beside the plain machine, which runs the same program, printed the
+-- same and made as many objects
+pub record Facts (p : PlainState) (s : State) : Type 0 where
+  pub counts : KeepsCounts (thing_row (plain_row p.actors)) (people_of p.actors) s.actors
+  pub program : p.program ≡ s.program
+  pub prints : p.prints ≡ s.prints
+  pub objects : objects_made p.actors ≡ s.objects

@@ -1,0 +1,78 @@
+-- What an actor knows, and what the letters that wait for it load.
+use Rattle.std.specs.Prelude.{ℕ, ◌<◌, ◌≡◌, ◌≢◌, ◌⊎◌, Bool, true, List, [], ◌∷◌, Contains, Option, Some, None, unwrap_or}
+use Rattle.orca_names.specs.Names.{owner_of}
+use Rattle.orca_names.specs.declared.names.Thing.{Thing}
+use Rattle.orca_names.specs.declared.names.Value.{Value}
+use Rattle.turn_rules.specs.declared.act.Frame.{Frame}
+use Rattle.reach_walk.specs.Reach.{named_by, thing_row, ReachesFrom}
+use Rattle.letter_kinds.specs.declared.letter.Letter.{Letter}
+use Rattle.letter_kinds.specs.declared.letter.Letter.TheVariants.{App, Inc, Dec, Confirm}
+use Rattle.letter_kinds.specs.Counting.{Loaded}
+use Rattle.letter_kinds.specs.Holdings.{Holdings, Row, has_own, held_in, row_of}
+use Rattle.letter_kinds.specs.Sums.{times_loaded}
+use Rattle.machine_rules.specs.Cell.{Cell}
+
+-- one of the values names the thing
+abbrev pub Names : List Value → Thing → Type 0
+Names values x = Contains (named_by values) x
+
+abbrev pub InFrame : Option Frame → Thing → Type 0
+InFrame None x = ⊥
+InFrame (Some frame) x = Names frame.registers x
+
+-- the values of a thing's row
+unfoldable pub row_values : (Thing → Option Row) → Thing → List Value
+row_values all x = unwrap_or (all x) []
+
+-- what a path through the rows leads to from a root
+abbrev pub Reaches : (Thing → Option Row) → (Thing → Type 0) → Thing → Type 0
+Reaches all roots x = ReachesFrom (row_values all) roots x
+
+-- where an actor's walks begin: its fields, its registers, and what it holds
+pub data Roots (c : Cell) : Thing → Type 0 where
+  in_fields : {x : Thing} → Names c.fields.values x → Roots c x
+  in_frame : {x : Thing} → InFrame c.frame x → Roots c x
+  in_table : {x : Thing} → 0 < held_in c.holdings x → Roots c x
+
+-- an actor knows a thing: its own, which is there, or another's, on which it holds a count
+abbrev pub IsKnown : ℕ → Holdings → Thing → Type 0
+IsKnown me h x = ((owner_of x ≡ me) × (has_own h x ≡ true)) ⊎ ((owner_of x ≢ me) × (0 < held_in h x))
+
+-- the row that an actor has of a thing
+abbrev pub row_at : ℕ → Holdings → Thing → Option Row
+row_at me h = thing_row (row_of me h)
+
+-- it knows all that it reaches through the rows ever made
+abbrev pub IsClosedAt : (Thing → Option Row) → ℕ → Cell → Type 0
+IsClosedAt all me c = (x : Thing) → Reaches all (Roots c) x → IsKnown me c.holdings x
+
+-- the rows that it has are those that were made
+abbrev pub RowsAreAt : (Thing → Option Row) → ℕ → Holdings → Type 0
+RowsAreAt all me h = (x : Thing) → IsKnown me h x → row_at me h x ≡ all x
+
+-- each row of a load is the one that was made
+abbrev pub RowsAreIn : (Thing → Option Row) → List Loaded → Type 0
+RowsAreIn all [] = Unit {0}
+RowsAreIn all (e ∷ load) = (e.1 ≡ all e.0) × RowsAreIn all load
+
+-- a load is exactly what its letter's arguments reach
+pub record IsLoadOf (all : Thing → Option Row) (args : List Value) (load : List Loaded) : Type 0 where
+  pub reached : (x : Thing) → 0 < times_loaded x load → Reaches all (Names args) x
+  pub whole : (x : Thing) → Reaches all (Names args) x → 0 < times_loaded x load
+  pub rows : RowsAreIn all load
+
+abbrev pub IsExactLetter : (Thing → Option Row) → Letter → Type 0
+IsExactLetter all (App behaviour args load) = IsLoadOf all args load
+IsExactLetter all (Inc things) = Unit {0}
+IsExactLetter all (Dec things) = Unit {0}
+IsExactLetter all (Confirm token) = Unit {0}
+
+abbrev pub AreExactLetters : (Thing → Option Row) → List Letter → Type 0
+AreExactLetters all [] = Unit {0}
+AreExactLetters all (letter ∷ mail) = IsExactLetter all letter × AreExactLetters all mail
+
+-- of an actor that is present: it knows what it reaches, with the rows, and its letters' loads are exact
+pub record IsSoundAt (all : Thing → Option Row) (a : ℕ) (c : Cell) (mail : List Letter) : Type 0 where
+  pub closed : IsClosedAt all a c
+  pub rows : RowsAreAt all a c.holdings
+  pub loads : AreExactLetters all mail

@@ -1,0 +1,34 @@
+-- The events of the machine that collects: which are enabled, what each leads to, and which one
+-- worker does first.
+use Rattle.std.specs.Prelude.{◌≡◌, ◌≢◌, Bool, true}
+use Rattle.std.specs.declared.cmp.Ordering.TheVariants.{Greater}
+use Rattle.event_rule.specs.Events.{event_cmp}
+use Rattle.event_rule.specs.declared.event.Event.{Event}
+use Rattle.event_rule.specs.declared.event.Event.TheVariants.{Take, Go, Collect, Block, Hear, Scan, Reap}
+use Rattle.machine_rules.specs.State.{State, Step, NotEnabled, Goes}
+use Rattle.machine_rules.specs.Take.{take}
+use Rattle.machine_rules.specs.Go.{go}
+use Rattle.machine_rules.specs.Collect.{collect}
+use Rattle.machine_rules.specs.Block.{block}
+use Rattle.machine_rules.specs.Detect.{hear, scan, reap}
+
+abbrev pub next : State → Event → Step
+next s (Take a) = take s a
+next s (Go a) = go s a
+next s (Collect a) = collect s a
+next s (Block a) = block s a
+next s Hear = hear s
+next s Scan = scan s
+next s (Reap token) = reap s token
+
+abbrev pub IsEnabled : State → Event → Type 0
+IsEnabled s e = next s e ≢ NotEnabled
+
+-- the event is the first of those that are enabled, in the one-worker order
+pub record IsFirst (s : State) (e : Event) : Type 0 where
+  pub enabled : IsEnabled s e
+  pub least : (f : Event) → IsEnabled s f → event_cmp e f ≢ Greater
+
+-- no event is enabled
+abbrev pub IsQuiet : State → Type 0
+IsQuiet s = (e : Event) → next s e ≡ NotEnabled

@@ -1,0 +1,96 @@
+-- Runs of the machine that collects, and the plain machine beside each.
+use Rattle.std.specs.Prelude.{ℕ, ◌≡◌, Bool, true, false, if◌then◌else◌, List, [], ◌∷◌, Option, Some, None}
+use Rattle.behaviour_code.specs.declared.code.Program.{Program}
+use Rattle.turn_rules.specs.declared.act.Act.{Act}
+use Rattle.turn_rules.specs.declared.act.Act.TheVariants.{Post, New, Print, End}
+use Rattle.turn_rules.specs.declared.act.Frame.{Frame}
+use Rattle.turn_rules.specs.Segment.{Stop}
+use Rattle.event_rule.specs.declared.event.Event.{Event}
+use Rattle.event_rule.specs.declared.event.Event.TheVariants.{Take, Go, Collect, Block, Hear, Scan, Reap}
+use Rattle.letter_kinds.specs.declared.letter.Letter.{Letter}
+use Rattle.letter_kinds.specs.declared.letter.Letter.TheVariants.{App, Inc, Dec, Confirm}
+use Rattle.letter_kinds.specs.Counting.{Loaded, lacking}
+use Rattle.machine_rules.specs.Actors.{Seat, seat_at}
+use Rattle.machine_rules.specs.Cell.{Cell}
+use Rattle.machine_rules.specs.Go.{load_from, turn_of_cell, turned}
+use Rattle.machine_rules.specs.Next.{next}
+use Rattle.machine_rules.specs.Plain.{PlainState, start_of}
+use Rattle.machine_rules.specs.Plain as plain
+use Rattle.machine_rules.specs.PlainRun.{outcome_of}
+use Rattle.machine_rules.specs.State.{State, Step, NotEnabled, IsFull, Goes, first_state}
+
+-- t is the state after the events of the book, each of which is enabled in its turn, and none of
+-- which is refused
+abbrev pub Leads : State → List Event → State → Type 0
+Leads s [] t = s ≡ t
+Leads s (e ∷ book) t = (u : State) × (next s e ≡ Goes u) × Leads u book t
+
+-- the book is a run of the program, and leads to t
+abbrev pub IsRun : Program → List Event → State → Type 0
+IsRun program book t = Leads (first_state program) book t
+
+-- ---- choices: what the plain machine does too
+
+-- the first letter is an application letter
+abbrev pub starts_with_app : List Letter → Bool
+starts_with_app [] = false
+starts_with_app (App behaviour args load ∷ mail) = true
+starts_with_app (Inc things ∷ mail) = false
+starts_with_app (Dec things ∷ mail) = false
+starts_with_app (Confirm token ∷ mail) = false
+
+abbrev pub is_nothing_lacking : List Loaded → Bool
+is_nothing_lacking [] = true
+is_nothing_lacking (e ∷ lacked) = false
+
+-- the act of a go that does not mint
+abbrev pub act_is_choice : ℕ → Cell → Frame → Stop → Act → Bool
+act_is_choice a c frame stop End = true
+act_is_choice a c frame stop (Print value) = true
+act_is_choice a c frame stop (New kind register) = true
+act_is_choice a c frame stop (Post to behaviour args) =
+    let after = turned stop (Some (plain.stopped_at frame stop)) c.dirty c in
+    is_nothing_lacking (lacking a after.holdings (load_from a after.holdings args))
+
+abbrev pub go_is_choice : Program → ℕ → Cell → Option Frame → Bool
+go_is_choice program a c None = false
+go_is_choice program a c (Some frame) = let stop = turn_of_cell program a c frame in act_is_choice a c frame stop stop.act
+
+abbrev pub take_is_choice_at : Option Seat → Bool
+take_is_choice_at None = false
+take_is_choice_at (Some o) = starts_with_app o.mail
+
+abbrev pub go_is_choice_at : Program → ℕ → Option Seat → Bool
+go_is_choice_at program a None = false
+go_is_choice_at program a (Some o) = go_is_choice program a o.cell o.cell.frame
+
+-- takes of application letters, and goes that do not mint
+abbrev pub is_choice : State → Event → Bool
+is_choice s (Take a) = take_is_choice_at (seat_at s.actors a)
+is_choice s (Go a) = go_is_choice_at s.program a (seat_at s.actors a)
+is_choice s (Collect a) = false
+is_choice s (Block a) = false
+is_choice s Hear = false
+is_choice s Scan = false
+is_choice s (Reap token) = false
+
+abbrev pub choices_after : (State → List Event) → Step → List Event
+choices_after later NotEnabled = []
+choices_after later IsFull = []
+choices_after later (Goes t) = later t
+
+-- the choices of a book, from a state on
+abbrev pub choices : List Event → State → List Event
+choices [] s = []
+choices (e ∷ book) s = if is_choice s e then e ∷ choices_after (choices book) (next s e) else choices_after (choices book) (next s e)
+
+-- ---- the plain machine beside a run
+
+-- each of the events is enabled in its turn in the plain machine, and leads from s to t
+abbrev pub PlainLeads : PlainState → List Event → PlainState → Type 0
+PlainLeads s [] t = s ≡ t
+PlainLeads s (e ∷ events) t = (u : PlainState) × (outcome_of s e ≡ plain.Goes u) × PlainLeads u events t
+
+-- p is the state of the machine that frees nothing, after the choices of the book
+abbrev pub IsPlainBeside : Program → List Event → PlainState → Type 0
+IsPlainBeside program book p = PlainLeads (start_of program) (choices book (first_state program)) p

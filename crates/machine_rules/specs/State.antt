@@ -1,0 +1,43 @@
+-- The state of the machine that collects, and how it starts.
+use Rattle.std.specs.Prelude.{ℕ, zero, List, [], ◌∷◌}
+use Rattle.std.specs.Option.{option_map_or}
+use Rattle.orca_names.specs.declared.names.Value.{Value}
+use Rattle.behaviour_code.specs.declared.code.Program.{Program}
+use Rattle.behaviour_code.specs.Find.{start_name}
+use Rattle.letter_kinds.specs.declared.letter.Letter.{Letter}
+use Rattle.letter_kinds.specs.declared.letter.Letter.TheVariants.{App}
+use Rattle.letter_kinds.specs.declared.note.Note.{Note}
+use Rattle.letter_kinds.specs.Detector.{Detector, fresh_detector}
+use Rattle.machine_rules.specs.Actors.{Actors, seat}
+use Rattle.machine_rules.specs.Cell.{Cell, first_cell}
+
+pub record State : Type 0 where
+  pub program : Program
+  pub actors : Actors
+  pub detector : Detector
+  -- what the detector has still to hear
+  pub notes : List Note
+  pub prints : List Value
+  -- how many objects were ever made
+  pub objects : ℕ
+
+-- the letter `start`, with no arguments
+abbrev pub start_letters : Program → List Letter
+start_letters program = option_map_or (λ name. App name [] [] ∷ []) (start_name program) []
+
+-- one actor of the first kind, with the letter `start`
+abbrev pub first_state : Program → State
+first_state program = record {
+  program = program;
+  actors = seat (first_cell program) (start_letters program) ∷ [];
+  detector = fresh_detector;
+  notes = [];
+  prints = [];
+  objects = 0;
+}
+
+-- what an event leads to
+pub data Step : Type 0 where
+  NotEnabled : Step
+  IsFull : Step
+  Goes : State → Step

@@ -1,0 +1,48 @@
+-- Take: an actor without a frame takes the first of its letters.
+use Rattle.std.specs.Prelude.{ℕ, true, false, Bool, if◌then◌else◌, List, [], ◌∷◌, ◌++◌, set, Option, Some, None}
+use Rattle.behaviour_code.specs.declared.code.Program.{Program}
+use Rattle.turn_rules.specs.declared.act.Frame.{Frame}
+use Rattle.letter_kinds.specs.declared.letter.Letter.{Letter}
+use Rattle.letter_kinds.specs.declared.letter.Letter.TheVariants.{App, Inc, Dec, Confirm}
+use Rattle.letter_kinds.specs.declared.note.Note.{Note}
+use Rattle.letter_kinds.specs.declared.note.Note.TheVariants.{Unblock, Ack}
+use Rattle.letter_kinds.specs.Counting.{lower_all, raise_all, receive}
+use Rattle.machine_rules.specs.Actors.{Seat, seat, seat_at}
+use Rattle.machine_rules.specs.Cell.{Cell}
+use Rattle.machine_rules.specs.Plain.{frame_of}
+use Rattle.machine_rules.specs.State.{State, Step, NotEnabled, Goes}
+
+-- the actor after it took the letter; a Confirm changes nothing of it
+abbrev pub cell_after : Program → ℕ → Letter → Cell → Cell
+cell_after program me (App behaviour args load) c = record c {
+  frame = frame_of program c.kind (record { behaviour = behaviour; args = args });
+  holdings = receive me load c.holdings;
+  dirty = true;
+  reported = false;
+}
+cell_after program me (Inc things) c = record c { holdings = raise_all me things c.holdings; dirty = true; reported = false }
+cell_after program me (Dec things) c = record c { holdings = lower_all me things c.holdings; dirty = true; reported = false }
+cell_after program me (Confirm token) c = c
+
+-- what an actor that has a report out tells the detector when it takes the letter
+abbrev pub note_of : ℕ → Letter → Note
+note_of a (App behaviour args load) = Unblock a
+note_of a (Inc things) = Unblock a
+note_of a (Dec things) = Unblock a
+note_of a (Confirm token) = Ack token a
+
+abbrev pub notes_after : Bool → Note → List Note → List Note
+notes_after reported note notes = if reported then notes ++ note ∷ [] else notes
+
+abbrev pub take_in : State → ℕ → Cell → Option Frame → List Letter → Step
+take_in s a c (Some frame) mail = NotEnabled
+take_in s a c None [] = NotEnabled
+take_in s a c None (letter ∷ mail) =
+    Goes (record s { actors = set s.actors a (seat (cell_after s.program a letter c) mail); notes = notes_after c.reported (note_of a letter) s.notes })
+
+abbrev pub take_at : State → ℕ → Option Seat → Step
+take_at s a None = NotEnabled
+take_at s a (Some o) = take_in s a o.cell o.cell.frame o.mail
+
+abbrev pub take : State → ℕ → Step
+take s a = take_at s a (seat_at s.actors a)

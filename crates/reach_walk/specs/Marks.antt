@@ -1,0 +1,44 @@
+-- Marks and loads: what values reach through finitely many rows, as lists.
+use Rattle.std.specs.Prelude.{ℕ, ◌≡◌, if◌then◌else◌, List, [], ◌∷◌, ◌++◌, Option, None, Some, Contains, map}
+use Rattle.std.specs.FinMap.Entries.{by_order}
+use Rattle.std.specs.List.{list_any, sum_by}
+use Rattle.orca_names.specs.Names.{owner_of, thing_cmp, is_thing}
+use Rattle.orca_names.specs.declared.names.ObjName.{ObjName}
+use Rattle.orca_names.specs.declared.names.Thing.{Thing}
+use Rattle.orca_names.specs.declared.names.Thing.TheVariants.{Actor, Obj}
+use Rattle.orca_names.specs.declared.names.Value.{Value}
+use Rattle.reach_walk.specs.Reach.{named_by, row_edges, thing_row}
+
+-- every object that has a row is listed
+abbrev pub Covers : List ObjName → (ObjName → Option (List Value)) → Type 0
+Covers all rows = (n : ObjName) (row : List Value) → rows n ≡ Some row → Contains all n
+
+-- where things lead when the rows of the listed objects alone are followed: one object more adds
+-- where its row leads, if the others lead to it
+unfoldable pub led_to : (ObjName → Option (List Value)) → List ObjName → List Thing → List Thing
+led_to rows [] things = things
+led_to rows (n ∷ names) things =
+    let found = led_to rows names things in
+    if list_any (is_thing (Obj n)) found then found ++ led_to rows names (named_by (row_edges rows (Obj n))) else found
+
+-- things and their owners
+abbrev pub with_owners : List Thing → List Thing
+with_owners things = things ++ map (λ x. Actor (owner_of x)) things
+
+-- a thing in its place among things in order, where it stands once
+abbrev pub put_in_order : Thing → List Thing → List Thing
+put_in_order x [] = x ∷ []
+put_in_order x (y ∷ ys) = by_order (thing_cmp x y) (x ∷ y ∷ ys) (y ∷ ys) (y ∷ put_in_order x ys)
+
+-- things in their order, each once
+abbrev pub in_order : List Thing → List Thing
+in_order [] = []
+in_order (x ∷ xs) = put_in_order x (in_order xs)
+
+-- the marks of values: what they reach through rows, and the owners of what they reach
+unfoldable pub marks_of : (ObjName → Option (List Value)) → List ObjName → List Value → List Thing
+marks_of rows all roots = in_order (with_owners (led_to rows all (named_by roots)))
+
+-- the load of a letter: each mark of its arguments, with its row
+abbrev pub load_of : (ObjName → Option (List Value)) → List ObjName → List Value → List (Thing × Option (List Value))
+load_of rows all args = map (λ x. (x, thing_row rows x)) (marks_of rows all args)
