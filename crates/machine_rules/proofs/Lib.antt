@@ -4,5 +4,6 @@ pub mod Paths
 pub mod PlainGrowth
 pub mod PlainRuns
 pub mod Posting
+pub mod Receiving
 pub mod SeatReads
 pub mod Seats
