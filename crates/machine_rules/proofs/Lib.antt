@@ -7,3 +7,4 @@ pub mod Posting
 pub mod Receiving
 pub mod SeatReads
 pub mod Seats
+pub mod Sweeping
