@@ -7,4 +7,5 @@ pub mod Posting
 pub mod Receiving
 pub mod SeatReads
 pub mod Seats
+pub mod Sending
 pub mod Sweeping
