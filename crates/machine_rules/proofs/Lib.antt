@@ -10,9 +10,12 @@ pub mod PlainGrowth
 pub mod PlainRuns
 pub mod Posting
 pub mod Reaps
+pub mod Receiving
 pub mod Safety
 pub mod SeatReads
 pub mod Seats
+pub mod Sending
 pub mod Sends
+pub mod Sweeping
 pub mod Sweeps
 pub mod Takes
