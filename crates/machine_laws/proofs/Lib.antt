@@ -1,0 +1,4 @@
+pub mod Balancing
+pub mod Moving
+pub mod OwnThings
+pub mod Seen
