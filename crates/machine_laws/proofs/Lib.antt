@@ -1,4 +1,6 @@
 pub mod Balancing
+pub mod Collecting
 pub mod Moving
 pub mod OwnThings
 pub mod Seen
+pub mod Taking
