@@ -7,5 +7,6 @@ pub mod Posting
 pub mod Receiving
 pub mod SeatReads
 pub mod Seats
+pub mod Segments
 pub mod Sending
 pub mod Sweeping
