@@ -1,4 +1,5 @@
 pub mod Changing
+pub mod Finite
 pub mod InHand
 pub mod Paths
 pub mod PlainGrowth
