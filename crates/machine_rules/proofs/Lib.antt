@@ -11,3 +11,4 @@ pub mod Seats
 pub mod Segments
 pub mod Sending
 pub mod Sweeping
+pub mod Turns
