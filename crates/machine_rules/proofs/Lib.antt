@@ -1,10 +1,14 @@
 pub mod Agreeing
 pub mod Changing
 pub mod Every
+pub mod Finite
 pub mod Freed
+pub mod Global
 pub mod InHand
+pub mod InvTake
 pub mod Living
 pub mod Makes
+pub mod Naming
 pub mod Paths
 pub mod PlainGrowth
 pub mod PlainRuns
@@ -14,8 +18,10 @@ pub mod Receiving
 pub mod Safety
 pub mod SeatReads
 pub mod Seats
+pub mod Segments
 pub mod Sending
 pub mod Sends
 pub mod Sweeping
 pub mod Sweeps
 pub mod Takes
+pub mod Turns

@@ -7,7 +7,8 @@ use Rattle.letter_kinds.proofs.Counts.{cond_eq, cond_ne, amount-nil}
 use Rattle.machine_rules.proofs.Seats.{balanced-set, present_below, at_same, at_other}
 use Rattle.machine_rules.proofs.Safety.{prefix-set}
 use Rattle.machine_rules.proofs.SeatReads.{own_at-none, incs_at-none, decs_at-none, held_at-none, loads_at-none, held_at-seat}
-use Rattle.machine_rules.proofs.Sweeps.{owed, owed-groups, Firm, firm_groups, amount-dropped, decs_keep}
+use Rattle.machine_rules.proofs.Sweeps.{owed, owed-groups, Firm, firm_groups, decs_keep}
+use Rattle.machine_rules.proofs.Sweeping.{amount-given_back}
 use Rattle.letter_kinds.specs.Counting.{given_back, by_owner}
 use Rattle.letter_kinds.specs.Detector.{has}
 use Rattle.letter_kinds.specs.Holdings.{own_in, held_in}
@@ -64,11 +65,11 @@ pub record Ready (all : List ℕ) (s : Actors) (m : ℕ) : Type 0 where
 
 owed_back : (all : List ℕ) (o : Option Seat) (x : Thing) → has all (owner_of x) ≡ false → owed (by_owner (held_outside all o)) x ≡ held_at x o
 owed_back all None x out = owed-groups [] x ∙ amount-nil x ∙ sym (held_at-none x)
-owed_back all (Some o) x out = owed-groups (given_back (λ x. has all (owner_of x)) o.cell.holdings) x ∙ amount-dropped (λ x. has all (owner_of x)) o.cell.holdings x ∙ rw out (sym (held_at-seat x o.cell o.mail))
+owed_back all (Some o) x out = owed-groups (given_back (λ x. has all (owner_of x)) o.cell.holdings) x ∙ amount-given_back (λ x. has all (owner_of x)) o.cell.holdings x ∙ rw out (sym (held_at-seat x o.cell o.mail))
 
 owed_in : (all : List ℕ) (o : Option Seat) (x : Thing) → has all (owner_of x) ≡ true → owed (by_owner (held_outside all o)) x ≡ 0
 owed_in all None x out = owed-groups [] x ∙ amount-nil x
-owed_in all (Some o) x out = owed-groups (given_back (λ x. has all (owner_of x)) o.cell.holdings) x ∙ amount-dropped (λ x. has all (owner_of x)) o.cell.holdings x ∙ rw out refl
+owed_in all (Some o) x out = owed-groups (given_back (λ x. has all (owner_of x)) o.cell.holdings) x ∙ amount-given_back (λ x. has all (owner_of x)) o.cell.holdings x ∙ rw out refl
 
 -- one member after another
 abbrev pub AllReady : List ℕ → List ℕ → Actors → Type 0

@@ -12,6 +12,7 @@ use Rattle.orca_names.proofs.ThingOrder.{cases_thing, thing_total, thing_exact, 
 use Rattle.letter_kinds.proofs.Counts.{amount-nil, amount-same, amount-other, cond_eq, cond_ne}
 use Rattle.machine_rules.proofs.Posting.{push_balanced}
 use Rattle.machine_rules.proofs.SeatReads.{letter_Dec}
+use Rattle.machine_rules.proofs.Sweeping.{own-sweep, held-sweep, amount-given_back}
 use Rattle.machine_rules.proofs.Sends.{cell_balanced, cell_prefix, cell_there, present_owner, push_prefix, cond_zero}
 use Rattle.letter_kinds.specs.Counting.{sweep, given_back, join_owner, by_owner}
 use Rattle.letter_kinds.specs.Holdings.{Holdings, Row, own_in, held_in, has_own, row_count, entry_count}
@@ -30,97 +31,6 @@ use Rattle.orca_names.specs.declared.names.Thing.{Thing}
 use Rattle.orca_names.specs.declared.names.Thing.TheVariants.{Actor, Obj}
 use Rattle.orca_names.specs.declared.names.Value.{Value}
 use Rattle.std.specs.Prelude.{sum_by}
-
--- own rows: what is freed had count 0
-kept_count : (b : Bool) (o : Option (Row × ℕ)) → row_count (cond (b || not (row_count o == 0)) o None) ≡ row_count o
-kept_count true o = refl
-kept_count false o = ⊎_elim
-    (λ z. rw (eq-eqb (row_count o) 0 z) (sym z))
-    (λ n. rw (ne_eqb (row_count o) 0 n) refl)
-    (cases_eq (row_count o) 0)
-
--- an own object stays where it is marked or counted
-abbrev pub stays : (Thing → Bool) → ℕ → Holdings → ℕ → Bool
-stays marked me c k = marked (Obj (record { owner = me; serial = k })) || not (row_count (m.get c.rows k) == 0)
-
-pub own-sweep : (marked : Thing → Bool) (me : ℕ) (c : Holdings) (x : Thing) → own_in (sweep marked me c) x ≡ own_in c x
-unfolding own_in sweep
-own-sweep marked me c (Actor a) = refl
-own-sweep marked me c (Obj n) =
-    ap row_count (m.get-retain_keys c.rows (stays marked me c) n.serial (λ j t. ap (stays marked me c) (sym (m.nat_cmp-IsAntisymmetric n.serial j t))))
-    ∙ kept_count (marked (Obj (record { owner = me; serial = n.serial }))) (m.get c.rows n.serial)
-
--- entries
-kept_entry : (b : Bool) (o : Option (ℕ × Option Row)) → entry_count (cond b o None) ≡ cond b (entry_count o) 0
-kept_entry true o = refl
-kept_entry false o = refl
-
-pub held-sweep : (marked : Thing → Bool) (me : ℕ) (c : Holdings) (x : Thing) → held_in (sweep marked me c) x ≡ cond (marked x) (held_in c x) 0
-unfolding held_in sweep
-held-sweep marked me c x =
-    ap entry_count (m.get-retain_keys c.foreign marked x (λ y t. ap marked (sym (thing_exact x y t))))
-    ∙ kept_entry (marked x) (m.get c.foreign x)
-
--- an entry, as an amount that goes back
-abbrev counted : Thing × (ℕ × Option Row) → Thing × ℕ
-counted e = (e.0, e.1.0)
-
--- what goes back of sorted entries
-abbrev drops : (Thing → Bool) → List (Thing × (ℕ × Option Row)) → List (Thing × ℕ)
-drops marked es = map counted (filter (λ e. not (marked e.0)) es)
-
-both_true : (a b : Bool) → T (a && b) → T a × T b
-both_true true b h = (tt, h)
-both_true false b h = absurd h
-
-pub not_above : (x y : Thing) → T (is_lt (thing_cmp x y)) → x ≢ y
-not_above x y h e = absurd (subst (λ o. T (is_lt o)) (ap (thing_cmp x) (sym e) ∙ tied_itself thing_total x) h)
-
-drops-above : (marked : Thing → Bool) (x : Thing) (es : List (Thing × (ℕ × Option Row))) → T (below_all thing_cmp x es) → amount_of x (drops marked es) ≡ 0
-drops-above marked x [] h = amount-nil x
-drops-above marked x (e ∷ es) h =
-    let parts = both_true _ _ h in
-    let rest = drops-above marked x es parts.1 in
-    elim (not (marked e.0)) as (λ b. amount_of x (map counted (cond b (e ∷ filter (λ e. not (marked e.0)) es) (filter (λ e. not (marked e.0)) es))) ≡ 0) [
-      | true ↦ amount-other x (counted e) (drops marked es) (not_above x e.0 parts.0) ∙ rest
-      | false ↦ rest
-    ]
-
-drops-cons : (marked : Thing → Bool) (x : Thing) (e : Thing × (ℕ × Option Row)) (es : List (Thing × (ℕ × Option Row)))
-    → amount_of x (drops marked (e ∷ es)) ≡ cond (marked e.0) 0 (cond (is_thing x e.0) e.1.0 0) + amount_of x (drops marked es)
-drops-cons marked x e es =
-    elim (marked e.0) as (λ b. amount_of x (map counted (cond (not b) (e ∷ filter (λ e. not (marked e.0)) es) (filter (λ e. not (marked e.0)) es))) ≡ cond b 0 (cond (is_thing x e.0) e.1.0 0) + amount_of x (drops marked es)) [
-      | true ↦ omega arith
-      | false ↦ ⊎_elim
-          (λ same. rw (is_eq_true x e.0 same) (amount-same x (counted e) (drops marked es) same))
-          (λ other. rw (is_ne_false x e.0 other) (let u = amount-other x (counted e) (drops marked es) other in omega arith))
-          (cases_thing x e.0)
-    ]
-
-cond_none : (b : Bool) → ◌≡◌ {A = ℕ} 0 (cond b 0 0)
-cond_none true = refl
-cond_none false = refl
-
-drops-find : (marked : Thing → Bool) (x : Thing) (es : List (Thing × (ℕ × Option Row))) → T (m.is_sorted thing_cmp es)
-    → amount_of x (drops marked es) ≡ cond (marked x) 0 (entry_count (m.find thing_cmp x es))
-drops-find marked x [] h = amount-nil x ∙ cond_none (marked x)
-drops-find marked x (e ∷ es) h =
-    let parts = both_true _ _ h in
-    drops-cons marked x e es ∙ ⊎_elim
-    (λ same.
-    let above : T (below_all thing_cmp x es) = rw same parts.0 in
-    let z = drops-above marked x es above in
-    rw (is_eq_true x e.0 same, same) (rw (← same) (omega arith)))
-    (λ other. rw (is_ne_false x e.0 other) (nothing (marked e.0) _ _ (drops-find marked x es parts.1)))
-    (cases_thing x e.0)
-  where
-    nothing : (b : Bool) (m n : ℕ) → m ≡ n → cond b 0 0 + m ≡ n
-    nothing true m n e = omega arith
-    nothing false m n e = omega arith
-
-pub amount-dropped : (marked : Thing → Bool) (c : Holdings) (x : Thing) → amount_of x (given_back marked c) ≡ cond (marked x) 0 (held_in c x)
-unfolding given_back held_in
-amount-dropped marked c x = drops-find marked x (m.entries c.foreign) (m.entries_sorted c.foreign) ∙ ap (λ o. cond (marked x) 0 (entry_count o)) (sym (m.get-entries c.foreign x))
 
 -- what the letters to all owners owe
 unfoldable pub owed : List (ℕ × List (Thing × ℕ)) → Thing → ℕ
@@ -210,4 +120,4 @@ module _ (marked : Thing → Bool) (s : Actors) (a : ℕ) (c : Cell) (mail : Lis
       parts false n = omega arith
 
       gone : (x : Thing) → held_in (sweep marked a c.holdings) x + owed (by_owner (given_back marked c.holdings)) x ≡ held_in c.holdings x
-      gone x = rw (held-sweep marked a c.holdings x, owed-groups (given_back marked c.holdings) x, amount-dropped marked c.holdings x) (parts (marked x) (held_in c.holdings x))
+      gone x = rw (held-sweep marked a c.holdings x, owed-groups (given_back marked c.holdings) x, amount-given_back marked c.holdings x) (parts (marked x) (held_in c.holdings x))

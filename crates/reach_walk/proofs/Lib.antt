@@ -1,6 +1,11 @@
 pub mod Added
 pub mod Covers
 pub mod Elements
+pub mod InOrder
+pub mod LedTo
+pub mod Loads
+pub mod MarkLaws
 pub mod Named
+pub mod Owners
 pub mod Sets
 pub mod Walking

@@ -12,6 +12,7 @@ use Rattle.reach_walk.specs.Reach.{named_by, Reaches, root, step, owned}
 use Rattle.reach_walk.specs.Walk.{next_of, Adds}
 use Rattle.reach_walk.proofs.Elements.{Contains-head, Contains-later, Contains-cons_cases, none_in_nil}
 use Rattle.reach_walk.proofs.Added.{still_there}
+use Rattle.reach_walk.proofs.Owners.{owner_reached}
 
 -- these were seen, and the first of them are done with
 pub record Walks (edges : Thing → List Value) (roots seen : List Thing) (done : ℕ) : Type 0 where
@@ -29,14 +30,9 @@ module _ (edges : Thing → List Value) (roots : List Thing) where
     next_seen = λ t x c d. none_in_nil t _ c;
   }
 
-  -- the owner of a reached thing is reached
-  owner_reached : (t : Thing) → Reaches edges roots t → Reaches edges roots (Actor (owner_of t))
-  owner_reached (Actor a) r = r
-  owner_reached (Obj n) r = owned r
-
   next_reached : (t x : Thing) → Reaches edges roots t → Contains (next_of edges t) x → Reaches edges roots x
   next_reached t x r c = elim (Contains-cons_cases (Actor (owner_of t)) (named_by (edges t)) x c) as (λ _. Reaches edges roots x) [
-    | inl e ↦ subst (Reaches edges roots) e (owner_reached t r)
+    | inl e ↦ subst (Reaches edges roots) e (owner_reached edges roots t r)
     | inr d ↦ step r d
   ]
 

@@ -1,3 +1,4 @@
+pub mod MarkLaws
 pub mod Marks
 pub mod Reach
 pub mod Rows

@@ -1,12 +1,14 @@
-//! What is reached: the one walk along edges, and the marks through the rows of objects.
+//! What is reached: the one walk along edges, the marks through the rows of objects, and their laws.
 #![tactic(auto)]
 
 mod edges;
+mod laws;
 mod marks;
 mod reach;
 mod seen;
 
 pub use edges::Edges;
+pub use laws::{loads_are_exact, marks_are_exact, marks_are_unique};
 pub use marks::mark;
 pub use reach::walk;
 

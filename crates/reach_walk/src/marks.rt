@@ -5,6 +5,7 @@ ghost use Rattle.std.specs.List.Sorted.{IsStrictlySortedBy};
 ghost use Rattle.orca_names.specs.Names.{thing_cmp};
 ghost use Rattle.orca_names.specs.declared.names.Thing.{Thing as thing};
 ghost use Rattle.orca_names.specs.declared.names.Thing.TheVariants.{Obj as object};
+ghost use Rattle.reach_walk.specs.Marks.{marks_of};
 ghost use Rattle.reach_walk.specs.Reach.{named_by, row_edges, Reaches};
 ghost use Rattle.reach_walk.specs.Rows.{row_edges-within};
 
@@ -44,6 +45,7 @@ impl<R: Rows> Edges for RowEdges<'_, R> {
 pub fn mark<R: Rows>(alloc: Global, roots: &[Value], rows: &R) -> Result<Vec<Thing>, NoMemory>
     ensures exact { IfOk result (λ found. (x : thing) → Contains found.items x ↔ Reaches (row_edges (R.rows rows.now)) (named_by roots.now) x) }
     ensures rising { IfOk result (λ found. IsStrictlySortedBy thing_cmp found.items) }
+    ensures list { IfOk result (λ found. found.items ≡ marks_of (R.rows rows.now) (R.all rows.now) roots.now) }
 {
     let mut things = Vec::new(alloc);
     push_named(&mut things, roots)?;

@@ -3,9 +3,10 @@ use Rattle.std.specs.BTreeSet.{contains}
 use Rattle.std.proofs.lemmas.Bool.{not-false}
 use Rattle.std.proofs.lemmas.Map.Views.{btree_set_contains_iff}
 use Rattle.orca_names.specs.Names.{thing_cmp}
+use Rattle.orca_names.proofs.ThingOrder.{thing_total, thing_exact}
 use Rattle.reach_walk.specs.Walk.{Adds}
 use Rattle.reach_walk.proofs.Added.{Adds-new, Adds-known}
-use Rattle.reach_walk.proofs.Sets.{IsSetOf-push, things_total, exact_things}
+use Rattle.reach_walk.proofs.Sets.{IsSetOf-push}
 use Rattle.reach_walk.proofs.seen.Seen.see.Goals as goal
 
 pub invariant_of-self-then-branch : goal.invariant_of-self-then-branch
@@ -26,5 +27,5 @@ returns-else-branch c =
     let t = c.args.thing.now in
     let s = c.self.inside in
     let held : contains thing_cmp s.set t ≡ true = not-false (contains thing_cmp s.set t) (sym c.in_ok-insert.ensures.added ∙ c.if-branch.false) in
-    let listed = c.self.invariant.only t ((btree_set_contains_iff things_total exact_things s.set t).0 held) in
+    let listed = c.self.invariant.only t ((btree_set_contains_iff thing_total thing_exact s.set t).0 held) in
     subst (Adds (t ∷ []) c.args.self.now) (sym (c.reserve.ensures.items ∙ c.self.view_is)) (Adds-known t c.args.self.now (subst (λ ts. Contains ts t) c.self.view_is listed))
