@@ -16,7 +16,8 @@ use Rattle.machine_laws.proofs.Seen.{mail_at, world_of, noted, letters_of, kinds
 use Rattle.machine_rules.proofs.InHand.{debit}
 use Rattle.machine_rules.proofs.SeatReads.{letter_Dec, loads_at-seat}
 use Rattle.machine_rules.proofs.Seats.{present_below, load_sum-set}
-use Rattle.machine_rules.proofs.Sweeping.{IsFirm, firm_counted}
+use Rattle.machine_rules.proofs.Sweeping.{firm_counted}
+use Rattle.machine_rules.specs.Facts.{IsFirm}
 use Rattle.machine_rules.proofs.Sweeps.{owed, owed-groups, Firm, firm_groups, debit_Dec, amount-dropped, held-sweep}
 use Rattle.machine_rules.specs.Actors.{Seat, Actors, seat_at, push_letter, push_decs, seat}
 use Rattle.machine_rules.specs.Balance.{load_sum}
