@@ -16,9 +16,9 @@ use Rattle.machine_laws.proofs.Seen.{mail_at, world_of, noted, letters_of, kinds
 use Rattle.machine_rules.proofs.InHand.{debit}
 use Rattle.machine_rules.proofs.SeatReads.{letter_Dec, loads_at-seat}
 use Rattle.machine_rules.proofs.Seats.{present_below, load_sum-set}
-use Rattle.machine_rules.proofs.Sweeping.{firm_counted}
+use Rattle.machine_rules.proofs.Sweeping.{amount-given_back, firm_counted, held-sweep}
 use Rattle.machine_rules.specs.Facts.{IsFirm}
-use Rattle.machine_rules.proofs.Sweeps.{owed, owed-groups, Firm, firm_groups, debit_Dec, amount-dropped, held-sweep}
+use Rattle.machine_rules.proofs.Sweeps.{owed, owed-groups, Firm, firm_groups, debit_Dec}
 use Rattle.machine_rules.specs.Actors.{Seat, Actors, seat_at, push_letter, push_decs, seat}
 use Rattle.machine_rules.specs.Balance.{load_sum}
 use Rattle.machine_rules.specs.Cell.{Cell}
@@ -90,7 +90,7 @@ collect_moves marked all s d ns a c ls at dirty awake firm closed =
     some false n h = h
     unowed : (b : ℕ) → b ≢ a → held_in c.holdings (Actor b) ≡ 0 → (x : Thing) → owner_of x ≡ b → 0 < amount_of x (given_back marked c.holdings) → ⊥
     unowed b n h x o p =
-        let held = some (marked x) (held_in c.holdings x) (subst (λ (k : ℕ). 0 < k) (amount-dropped marked c.holdings x) p) in
+        let held = some (marked x) (held_in c.holdings x) (subst (λ (k : ℕ). 0 < k) (amount-given_back marked c.holdings x) p) in
         let up : 0 < held_in c.holdings (Actor (owner_of x)) = owner_held all a c closed x held (λ e. n (sym o ∙ e)) in
         let z = ap (λ (i : ℕ). held_in c.holdings (Actor i)) o in
         omega arith

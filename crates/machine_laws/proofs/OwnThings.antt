@@ -9,7 +9,7 @@ use Rattle.letter_kinds.specs.declared.letter.Letter.{Letter}
 use Rattle.letter_kinds.specs.Counting.{Amount, Loaded, gain, is_lacking, lacking, mint_all, send, sweep, to_mint}
 use Rattle.letter_kinds.specs.Holdings.{Holdings, Row, held_in, with_made}
 use Rattle.letter_kinds.specs.Sums.{amount_of}
-use Rattle.machine_rules.proofs.Sweeps.{held-sweep}
+use Rattle.machine_rules.proofs.Sweeping.{held-sweep}
 use Rattle.machine_rules.specs.Cell.{Cell}
 
 -- of an actor: it keeps no such count
@@ -67,4 +67,4 @@ module _ (a : ℕ) (x : Thing) (own : owner_of x ≡ a) (h : Holdings) (none : h
   none_gained n above = held_set_other (λ k. k + 256) x (Actor n) None h (λ e. let z : owner_of x ≡ n = ap owner_of e in absurd (omega arith)) ∙ none
 
   pub none_minted : (things : List Amount) → amount_of x things ≡ 0 → held_in (mint_all things h) x ≡ 0
-  none_minted things no = omega (arith, held-mint_all x things h)
+  none_minted things nothing = omega (arith, held-mint_all x things h)
