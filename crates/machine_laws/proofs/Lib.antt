@@ -1,7 +1,9 @@
 pub mod Balancing
+pub mod Blocking
 pub mod Clearing
 pub mod Collecting
 pub mod Going
+pub mod HeldActors
 pub mod Moving
 pub mod OwnThings
 pub mod Parting
