@@ -7,5 +7,6 @@ pub mod HeldActors
 pub mod Moving
 pub mod OwnThings
 pub mod Parting
+pub mod Scanning
 pub mod Seen
 pub mod Taking
