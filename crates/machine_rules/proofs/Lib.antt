@@ -5,6 +5,8 @@ pub mod Finite
 pub mod Freed
 pub mod Global
 pub mod InHand
+pub mod InvCollect
+pub mod InvReap
 pub mod InvTake
 pub mod Living
 pub mod Makes
