@@ -4,10 +4,15 @@ pub mod Every
 pub mod Finite
 pub mod Freed
 pub mod Global
+pub mod Going
 pub mod InHand
+pub mod InvCollect
+pub mod InvReap
 pub mod InvTake
+pub mod Lacking
 pub mod Living
 pub mod Makes
+pub mod Minting
 pub mod Naming
 pub mod Paths
 pub mod PlainGrowth
