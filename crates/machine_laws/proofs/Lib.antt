@@ -1,12 +1,13 @@
 pub mod Balancing
 pub mod Blocking
-pub mod Clearing
 pub mod Collecting
 pub mod Going
 pub mod HeldActors
 pub mod Moving
 pub mod OwnThings
 pub mod Parting
+pub mod Reaping
 pub mod Scanning
+pub mod Sealing
 pub mod Seen
 pub mod Taking

@@ -18,9 +18,9 @@ use Rattle.letter_kinds.specs.declared.note.Note.{Note}
 use Rattle.letter_kinds.specs.Counting.{Amount, Loaded, by_owner, gain, given_back, lacking, mint_all, send, sweep, to_mint}
 use Rattle.letter_kinds.specs.Detector.{Token, all_acked, closed_set, token_numbered}
 use Rattle.letter_kinds.specs.Holdings.{held_in}
-use Rattle.machine_laws.proofs.Clearing.{every_none}
 use Rattle.machine_laws.proofs.OwnThings.{HoldsNoOwn, mints_no_own, none_gained, none_made, none_minted, none_sent, none_swept}
 use Rattle.machine_rules.proofs.Every.{every_decs, every_more, every_push, every_set}
+use Rattle.machine_rules.proofs.InvReap.{every_reap}
 use Rattle.machine_rules.proofs.Makes.{fresh_held}
 use Rattle.machine_rules.proofs.Seats.{present_below}
 use Rattle.machine_rules.proofs.Takes.{held-taken_own}
@@ -63,11 +63,6 @@ fresh_none s kind n x o = fresh_held (fresh_cell s.program kind).holdings (refl,
 asked : (members : List ℕ) (token : ℕ) (actors : Actors) → NoOwn actors → NoOwn (ask_all members token actors)
 asked [] token actors own = own
 asked (m ∷ ms) token actors own = asked ms token (push_letter m (Confirm token) actors) (every_push HoldsNoOwn (Confirm token) (λ i c ks z. z) actors m own)
-
-cleared : (all ms : List ℕ) (gs : List (ℕ × List Amount)) (actors : Actors) → NoOwn actors → NoOwn (reaped all ms gs actors)
-unfolding reaped
-cleared all [] gs actors own = every_decs HoldsNoOwn (λ es i k ks z. z) gs actors own
-cleared all (m ∷ ms) gs actors own = cleared all ms _ (set actors m None) (every_none HoldsNoOwn actors m own)
 
 module _ (s t : State) (own : NoOwn s.actors) where
   arrived : (u : State) → Goes u ≡ Goes t → NoOwn u.actors → NoOwn t.actors
@@ -150,7 +145,7 @@ module _ (s t : State) (own : NoOwn s.actors) where
 
   reaps_one : (token : Token) (q : Bool) → reap_in s token q ≡ Goes t → NoOwn t.actors
   reaps_one token false e = absurd (not_enabled t e)
-  reaps_one token true e = arrived _ e (cleared token.members token.members [] s.actors own)
+  reaps_one token true e = arrived _ e (every_reap HoldsNoOwn (λ es i k ks z. z) token.members token.members [] s.actors own)
 
   reaps : (found : Option Token) → reap_found s found ≡ Goes t → NoOwn t.actors
   reaps None e = absurd (not_enabled t e)
