@@ -7,8 +7,11 @@ pub mod Global
 pub mod Going
 pub mod InHand
 pub mod InvCollect
+pub mod InvMake
+pub mod InvPost
 pub mod InvReap
 pub mod InvTake
+pub mod InvTurn
 pub mod Lacking
 pub mod Living
 pub mod Makes
