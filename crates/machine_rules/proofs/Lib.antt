@@ -1,6 +1,7 @@
 pub mod Changing
 pub mod Finite
 pub mod InHand
+pub mod Loads
 pub mod Paths
 pub mod PlainGrowth
 pub mod PlainRuns
