@@ -1,6 +1,5 @@
 -- Loads and marks are exact: they have what is reached over the actor's rows, and nothing else.
-use Rattle.std.proofs.Common.{◌≡◌, ℕ, zero, ◌+◌, ◌<◌, ◌≤◌, ◌⊎◌, inl, inr, ⊎_elim, Bool, true, List, [], ◌∷◌, Option, All, Contains, subst, sym, ◌∙◌, arith}
-use Rattle.std.specs.List.{list_any}
+use Rattle.std.proofs.Common.{◌≡◌, ℕ, ◌≤◌, ◌⊎◌, inl, inr, ⊎_elim, true, List, [], ◌∷◌, Option, All, arith}
 use Rattle.std.proofs.lemmas.Cmp.{eq_by_cmp_equiv}
 use Rattle.std.proofs.lemmas.List.Elements.{All-head, All-tail}
 use Rattle.std.proofs.lemmas.Map.Views.{Contains-from_any, list_any-from_Contains}
@@ -11,8 +10,7 @@ use Rattle.orca_names.specs.declared.names.Value.{Value}
 use Rattle.reach_walk.proofs.Loads.{loads-exact}
 use Rattle.reach_walk.proofs.MarkLaws.{marks-reached, reached-marks, cases_reached}
 use Rattle.reach_walk.specs.Marks.{Covers, marks_of, load_of}
-use Rattle.reach_walk.specs.Reach.{named_by, row_edges, thing_row}
-use Rattle.reach_walk.specs.Reach as walks
+use Rattle.reach_walk.specs.Reach.{thing_row}
 use Rattle.letter_kinds.specs.Counting.{Loaded}
 use Rattle.letter_kinds.specs.Holdings.{Row, Holdings, row_of}
 use Rattle.letter_kinds.specs.Sums.{times_loaded}
