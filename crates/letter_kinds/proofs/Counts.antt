@@ -247,3 +247,7 @@ pub held-send_own : (me : ℕ) (x : Thing) (es : List (Thing × Option Row)) (c 
 unfolding send
 held-send_own me x [] c o = refl
 held-send_own me x (e ∷ es) c o = held-send_own me x es (send_one me e c) o ∙ held_own_one_sent me x e c o
+
+pub has_actor : (h : Holdings) (a : ℕ) → has_own h (Actor a) ≡ true
+unfolding has_own
+has_actor h a = refl

@@ -30,6 +30,14 @@ pub filter_commute : {A : Type 0} (p q : A → Bool) (xs : List A) → filter p 
 filter_commute p q [] = refl
 filter_commute p q (x ∷ xs) = grind (arith, filter_commute p q xs)
 
+pub filter_twice : {A : Type 0} (p q : A → Bool) (xs : List A) → filter p (filter q xs) ≡ filter (λ x. cond (q x) (p x) false) xs
+filter_twice p q [] = refl
+filter_twice p q (x ∷ xs) = grind (arith, filter_twice p q xs)
+
+pub filter_true : {A : Type 0} (xs : List A) → xs ≡ filter (λ x. true) xs
+filter_true [] = refl
+filter_true (x ∷ xs) = ap (λ ys. x ∷ ys) (filter_true xs)
+
 pub sum_by-filter_le : {A : Type 0} (f : A → ℕ) (p : A → Bool) (xs : List A) → sum_by f (filter p xs) ≤ sum_by f xs
 sum_by-filter_le f p [] = omega arith
 sum_by-filter_le f p (x ∷ xs) = grind (arith, sum_by-cons f x xs, sum_by-cons f x (filter p xs), sum_by-filter_le f p xs)

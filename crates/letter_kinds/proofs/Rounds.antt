@@ -6,7 +6,7 @@ use Rattle.std.proofs.lemmas.Bool.{cases_lt, or_left, or_right, or_cases}
 use Rattle.letter_kinds.specs.declared.note.Report.{Report}
 use Rattle.letter_kinds.specs.Reports.{told_on, told_on_by}
 use Rattle.letter_kinds.specs.Closed.{IsClosed, IsLargest, is_covered, one_round, rounds, largest_closed}
-use Rattle.letter_kinds.proofs.Filters.{filter_full, filter_all, all_filter, filter_commute, sum_by-filter_le, passing_each, each_passing, each_of_two}
+use Rattle.letter_kinds.proofs.Filters.{filter_full, filter_all, all_filter, filter_commute, filter_twice, filter_true, sum_by-filter_le, passing_each, each_passing, each_of_two}
 
 -- a round that removes nothing is the last
 rounds_fixed : (n : ℕ) (rs : List Report) → one_round rs ≡ rs → rounds n rs ≡ rs
@@ -45,14 +45,6 @@ rounds_keep zero rs set h = refl
 rounds_keep (suc n) rs set h =
     let e : filter set (one_round rs) ≡ filter set rs = round_keeps rs set h in
     rounds_keep n (one_round rs) set (subst IsClosed (sym e) h) ∙ e
-
-filter_twice : (p q : Report → Bool) (rs : List Report) → filter p (filter q rs) ≡ filter (λ r. cond (q r) (p r) false) rs
-filter_twice p q [] = refl
-filter_twice p q (r ∷ rs) = grind (arith, filter_twice p q rs)
-
-filter_true : (rs : List Report) → rs ≡ filter (λ r. true) rs
-filter_true [] = refl
-filter_true (r ∷ rs) = ap (λ ys. r ∷ ys) (filter_true rs)
 
 pub rounds_among : (n : ℕ) (rs : List Report) → (kept : Report → Bool) × (rounds n rs ≡ filter kept rs)
 rounds_among zero rs = (λ r. true, filter_true rs)

@@ -1,6 +1,6 @@
 -- The detector of blocked actors: the reports that it keeps, its open tokens, and what it makes of notes.
-use Rattle.std.specs.Prelude.{ℕ, suc, ◌==◌, ◌||◌, not, if◌then◌else◌, Bool, true, false, List, [], ◌∷◌, ◌++◌, filter, map, Option}
-use Rattle.std.specs.List.{list_all, find}
+use Rattle.std.specs.Prelude.{ℕ, suc, ◌==◌, not, if◌then◌else◌, Bool, true, false, List, [], ◌∷◌, ◌++◌, filter, map, Option}
+use Rattle.std.specs.List.{list_all, list_any, find}
 use Rattle.letter_kinds.specs.declared.note.Note.{Note}
 use Rattle.letter_kinds.specs.declared.note.Note.TheVariants.{Block, Unblock, Ack}
 use Rattle.letter_kinds.specs.declared.note.Report.{Report}
@@ -26,8 +26,7 @@ fresh_detector = record { kept = []; tokens = []; opened = 0; news = false }
 
 -- whether the number is among these
 abbrev pub has : List ℕ → ℕ → Bool
-has [] a = false
-has (x ∷ xs) a = (x == a) || has xs a
+has xs a = list_any (λ x. x == a) xs
 
 -- the open token of this number
 abbrev pub token_numbered : ℕ → Detector → Option Token
@@ -50,8 +49,7 @@ heard (Ack number a) d = record d { tokens = map (note_ack number a) d.tokens }
 
 -- whether one of these tokens has the actor as a member
 abbrev pub in_token : List Token → ℕ → Bool
-in_token [] a = false
-in_token (t ∷ ts) a = has t.members a || in_token ts a
+in_token tokens a = list_any (λ t. has t.members a) tokens
 
 -- the kept reports of actors in no open token
 abbrev pub candidates : Detector → List Report

@@ -1,8 +1,9 @@
-// What holds of closed sets of reports.
+// What holds of closed sets of reports, and of tokens.
 
 ghost use Rattle.letter_kinds.specs.Closed.{IsClosed, IsLargest, largest_closed};
 ghost use Rattle.letter_kinds.specs.declared.note.Report.{Report};
-ghost use Rattle.std.specs.Prelude.{filter, Bool, List, ◌||◌, ◌≡◌};
+ghost use Rattle.letter_kinds.specs.Detector.{all_acked, has, Token};
+ghost use Rattle.std.specs.Prelude.{Bool, filter, List, true, ℕ, ◌||◌, ◌≡◌};
 
 /// Removal by rounds gives the largest closed set.
 pub fn rounds_give_the_largest()
@@ -17,4 +18,10 @@ pub fn one_largest()
 /// The union of two closed sets is closed.
 pub fn union_is_closed()
     ensures { (reports : List Report) (one other : Report → Bool) → IsClosed (filter one reports) → IsClosed (filter other reports) → IsClosed (filter (λ r. one r || other r) reports) }
+{}
+
+/// All members of a token acknowledged it exactly where each of them did.
+pub fn acked_by_all_is_by_each()
+    ensures each { (t : Token) → all_acked t ≡ true → (m : ℕ) → has t.members m ≡ true → has t.acked m ≡ true }
+    ensures all { (t : Token) → ((m : ℕ) → has t.members m ≡ true → has t.acked m ≡ true) → all_acked t ≡ true }
 {}

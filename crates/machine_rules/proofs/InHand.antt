@@ -1,5 +1,5 @@
 -- The balance with something in the hand: what was taken from one list and is not yet in another.
-use Rattle.std.proofs.Common.{◌≡◌, ℕ, ◌+◌, ◌<◌, ◌==◌, cond, Option, Some, None, List, [], ◌∷◌, set}
+use Rattle.std.proofs.Common.{◌≡◌, ℕ, ◌+◌, ◌<◌, ◌==◌, cond, Option, Some, None, List, [], ◌∷◌, set, arith}
 use Rattle.orca_names.specs.Names.{owner_of}
 use Rattle.orca_names.specs.declared.names.Thing.{Thing}
 use Rattle.behaviour_code.specs.declared.code.Program.{Program}
@@ -8,7 +8,7 @@ use Rattle.letter_kinds.specs.Counting.{Amount}
 use Rattle.letter_kinds.specs.Holdings.{Row}
 use Rattle.letter_kinds.specs.Sums.{inc_of, dec_of, load_count}
 use Rattle.machine_rules.specs.Actors.{Actors, Seat, seat, seat_at}
-use Rattle.machine_rules.specs.Balance.{own_at, incs_at, decs_at, owner_seat, held_sum, load_sum}
+use Rattle.machine_rules.specs.Balance.{IsBalanced, own_at, incs_at, decs_at, owner_seat, held_sum, load_sum}
 use Rattle.machine_rules.specs.Cell.{Cell}
 use Rattle.machine_rules.specs.Facts.{Every}
 use Rattle.machine_rules.specs.Known.{IsSoundAt}
@@ -29,6 +29,16 @@ debit b l x = load_count x l + cond (owner_of x == b) (dec_of x l) 0
 
 abbrev pub none : Thing → ℕ
 none x = 0
+
+-- with nothing in the hand
+abbrev pub Balanced : Actors → Type 0
+Balanced s = BalancedWith none none s
+
+pub in_hand : (s : Actors) → IsBalanced s → Balanced s
+in_hand s bal x = omega (arith, bal x)
+
+pub out_of_hand : (s : Actors) → Balanced s → IsBalanced s
+out_of_hand s bal x = omega (arith, bal x)
 
 -- each amount is at least 1
 abbrev pub AllCounted : List Amount → Type 0

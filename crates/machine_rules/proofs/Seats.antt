@@ -8,7 +8,7 @@ use Rattle.letter_kinds.specs.Holdings.{own_in, held_in}
 use Rattle.letter_kinds.specs.Sums.{amount_of, times_loaded, inc_of, dec_of, load_count}
 use Rattle.letter_kinds.specs.declared.letter.Letter.{Letter}
 use Rattle.machine_rules.proofs.InHand.{BalancedWith, credit, debit}
-use Rattle.machine_rules.specs.Actors.{Seat, Actors, seat_at, with_letter_more, push_letter}
+use Rattle.machine_rules.specs.Actors.{Seat, Actors, seat, seat_at, with_letter_more, push_letter}
 use Rattle.machine_rules.specs.Balance.{own_at, incs_at, decs_at, held_at, loads_at, owner_seat, held_sum, load_sum}
 use Rattle.machine_rules.specs.Cell.{Cell}
 use Rattle.orca_names.specs.Names.{owner_of}
@@ -51,3 +51,15 @@ module _ (s : Actors) (b : ℕ) (old new : Option Seat) (within : b < length s) 
       (λ not. let h = held_sum-set x in let l = load_sum-set x in let m = others x not in let z = bal x in
       rw (at_other (owner_of x) not) (omega arith))
       (cases_eq (owner_of x) b)
+
+cell_or : Cell → Option Seat → Cell
+cell_or c None = c
+cell_or c (Some o) = o.cell
+
+mail_or : List Letter → Option Seat → List Letter
+mail_or ls None = ls
+mail_or ls (Some o) = o.mail
+
+pub some_seat : (c d : Cell) (ls ms : List Letter) → seat c ls ≡ seat d ms → (c ≡ d) × (ls ≡ ms)
+unfolding cell_or mail_or
+some_seat c d ls ms e = (ap (cell_or c) e, ap (mail_or ls) e)

@@ -12,6 +12,7 @@ use Rattle.orca_names.specs.declared.names.Thing.TheVariants.{Actor, Obj}
 use Rattle.orca_names.specs.declared.row.Fields.{Fields}
 use Rattle.turn_rules.specs.declared.act.Frame.{Frame}
 use Rattle.reach_walk.specs.Reach.{root, owned}
+use Rattle.letter_kinds.proofs.Counts.{has_actor}
 use Rattle.letter_kinds.specs.Holdings.{Row, Holdings, own_in, held_in, has_own, row_of, row_count, add_rows}
 use Rattle.machine_rules.proofs.Paths.{along_row, reach_into}
 use Rattle.machine_rules.proofs.Receiving.{own_row, NoActorRows}
@@ -28,10 +29,6 @@ MadeIn me base count x = (i : ℕ) × (i < count) × (x ≡ Obj (record { owner 
 
 abbrev pub Made : ℕ → ℕ → List Row → Thing → Type 0
 Made me base made x = MadeIn me base (length made) x
-
-pub has_actor : (c : Holdings) (a : ℕ) → has_own c (Actor a) ≡ true
-unfolding has_own
-has_actor c a = refl
 
 -- ---- the rows made
 

@@ -18,6 +18,7 @@ use Rattle.machine_rules.proofs.InHand.{AllCounted}
 use Rattle.machine_rules.proofs.Paths.{along_row, reach_into}
 use Rattle.machine_rules.proofs.Receiving.{own_row}
 use Rattle.machine_rules.specs.Cell.{Cell}
+use Rattle.machine_rules.specs.Facts.{IsFirm}
 use Rattle.machine_rules.specs.Known.{Names, Reaches, row_at, IsKnown, InFrame, Roots, in_fields, in_frame, in_table, IsClosedAt, RowsAreAt}
 
 -- ---- counts
@@ -120,10 +121,6 @@ drops-find marked x (e ∷ es) h =
 pub amount-given_back : (marked : Thing → Bool) (c : Holdings) (x : Thing) → amount_of x (given_back marked c) ≡ cond (marked x) 0 (held_in c x)
 unfolding given_back held_in
 amount-given_back marked c x = drops-find marked x (m.entries c.foreign) (m.entries_sorted c.foreign) ∙ ap (λ o. cond (marked x) 0 (entry_count o)) (sym (m.get-entries c.foreign x))
-
--- at least 1 is held of each thing in the table
-abbrev pub IsFirm : Holdings → Type 0
-IsFirm h = (x : Thing) (e : ℕ × Option Row) → m.get h.foreign x ≡ Some e → 0 < e.0
 
 -- what `find` finds in sorted entries is at least 1
 abbrev Found : List (Thing × (ℕ × Option Row)) → Type 0

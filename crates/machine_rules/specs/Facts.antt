@@ -6,7 +6,7 @@ use Rattle.orca_names.specs.declared.names.Thing.{Thing}
 use Rattle.orca_names.specs.declared.names.Thing.TheVariants.{Actor, Obj}
 use Rattle.reach_walk.specs.Reach.{thing_row}
 use Rattle.letter_kinds.specs.declared.letter.Letter.{Letter}
-use Rattle.letter_kinds.specs.Holdings.{Row}
+use Rattle.letter_kinds.specs.Holdings.{Holdings, Row}
 use Rattle.machine_rules.specs.Actors.{Actors, seat, seat_at}
 use Rattle.machine_rules.specs.Agreement.{Agrees, Person, people_of}
 use Rattle.machine_rules.specs.Balance.{IsBalanced, NeverOverdraws}
@@ -23,9 +23,12 @@ Every Q actors = (a : ℕ) (c : Cell) (mail : List Letter) → seat_at actors a 
 abbrev pub IsPastRows : (Thing → Option Row) → ℕ → Cell → List Letter → Type 0
 IsPastRows all a c mail = (k : ℕ) → c.holdings.next ≤ k → all (Obj (record { owner = a; serial = k })) ≡ None
 
--- it holds at least 1 of each thing in its table
+-- at least 1 is held of each thing in the table
+abbrev pub IsFirm : Holdings → Type 0
+IsFirm h = (x : Thing) (e : ℕ × Option Row) → m.get h.foreign x ≡ Some e → 0 < e.0
+
 abbrev pub IsFirmAt : ℕ → Cell → List Letter → Type 0
-IsFirmAt a c mail = (x : Thing) (e : ℕ × Option Row) → m.get c.holdings.foreign x ≡ Some e → 0 < e.0
+IsFirmAt a c mail = IsFirm c.holdings
 
 -- what the actors keep, beside these persons and the map of all rows ever made
 pub record KeepsCounts (all : Thing → Option Row) (people : List Person) (actors : Actors) : Type 0 where

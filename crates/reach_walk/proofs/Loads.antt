@@ -11,8 +11,8 @@ use Rattle.orca_names.specs.declared.names.Thing.{Thing}
 use Rattle.orca_names.specs.declared.names.Value.{Value}
 use Rattle.orca_names.proofs.ThingOrder.{is_eq_true, is_ne_false}
 use Rattle.reach_walk.specs.MarkLaws.{IsExactLoad}
-use Rattle.reach_walk.specs.Marks.{Covers, marks_of, load_of}
 use Rattle.reach_walk.specs.Reach.{thing_row}
+use Rattle.reach_walk.specs.Marks.{Covers, marks_of, load_of}
 use Rattle.reach_walk.proofs.Elements.{Contains-head, Contains-later, Contains-cons_cases, none_in_nil}
 use Rattle.reach_walk.proofs.InOrder.{first_absent}
 use Rattle.reach_walk.proofs.MarkLaws.{marks-sorted, marks-reached, reached-marks}

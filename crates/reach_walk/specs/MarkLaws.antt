@@ -6,7 +6,7 @@ use Rattle.orca_names.specs.declared.names.ObjName.{ObjName}
 use Rattle.orca_names.specs.declared.names.Thing.{Thing}
 use Rattle.orca_names.specs.declared.names.Value.{Value}
 use Rattle.reach_walk.specs.Marks.{Covers, marks_of, load_of}
-use Rattle.reach_walk.specs.Reach.{named_by, row_edges, thing_row, Reaches}
+use Rattle.reach_walk.specs.Reach.{named_by, row_edges, Reaches, thing_row}
 
 -- the things that the values reach through rows, no others, in the order of things, each once
 pub record AreMarks (rows : ObjName → Option (List Value)) (roots : List Value) (things : List Thing) : Type 0 where

@@ -1,0 +1,27 @@
+-- The names of the actors of some reports.
+use Rattle.std.proofs.Common.{◌≡◌, ℕ, ◌≢◌, ◌==◌, true, false, inl, inr, ⊎_elim, List, [], ◌∷◌, map, refl, ap, sym, eqb-true, eq-eqb}
+use Rattle.std.proofs.lemmas.Bool.{or_cases, or_left, or_right, or_parts, eqb-false}
+use Rattle.std.specs.List.{AllByRecursion}
+use Rattle.letter_kinds.specs.declared.note.Report.{Report}
+use Rattle.letter_kinds.specs.Detector.{has}
+use Rattle.detector_laws.specs.World.{In}
+
+abbrev pub names : List Report → List ℕ
+names rs = map (λ r. r.actor) rs
+
+pub named : (rs : List Report) (m : ℕ) → has (names rs) m ≡ true → (r : Report) × In r rs × (r.actor ≡ m)
+named [] m h = absurd (cc)
+named (r ∷ rs) m h = ⊎_elim
+    (λ t. (r, inl refl, eqb-true r.actor m t))
+    (λ t. let (q, i, e) = named rs m t in (q, inr i, e))
+    (or_cases (r.actor == m) (has (names rs) m) h)
+
+pub unnamed : (rs : List Report) (m : ℕ) → has (names rs) m ≡ false → AllByRecursion (λ r. r.actor ≢ m) rs
+unnamed [] m h = tt
+unnamed (r ∷ rs) m h = let two = or_parts (r.actor == m) (has (names rs) m) h in (eqb-false r.actor m two.0, unnamed rs m two.1)
+
+pub name_In : (rs : List Report) (r : Report) → In r rs → has (names rs) r.actor ≡ true
+name_In [] r i = absurd i
+name_In (q ∷ rs) r i = ⊎_elim
+    (λ e. or_left (q.actor == r.actor) (has (names rs) r.actor) (eq-eqb q.actor r.actor (ap (λ (x : Report). x.actor) (sym e))))
+    (λ j. or_right (q.actor == r.actor) (has (names rs) r.actor) (name_In rs r j)) i

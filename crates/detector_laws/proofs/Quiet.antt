@@ -1,0 +1,234 @@
+-- Where no event is enabled, each present actor is reached.
+use Rattle.std.proofs.Common.{◌≡◌, ℕ, zero, suc, ◌+◌, ◌≤◌, ◌<◌, ◌≢◌, ◌==◌, not, Bool, true, false, cond, if◌then◌else◌, inl, inr, ⊎_elim, List, [], ◌∷◌, length, filter, None, sum_by, arith, refl, ap, sym, subst, ◌∙◌, eqb-true}
+use Rattle.std.proofs.lemmas.Bool.{cases_eq, cases_Bool, cases_lt, cond_both, cond-true, false≢true, or_parts, eqb-false}
+use Rattle.std.proofs.lemmas.Bool.Decides.{nat_tests}
+use Rattle.std.proofs.lemmas.List.Sums.{sum_by-cons}
+use Rattle.std.specs.List.{AllByRecursion}
+use Rattle.letter_kinds.specs.declared.note.Report.{Report}
+use Rattle.letter_kinds.specs.Closed.{IsClosed, largest_closed}
+use Rattle.letter_kinds.specs.Detector.{Token, has, in_token, candidates}
+use Rattle.letter_kinds.specs.Reports.{count_on, told_on, told_on_by, report_of}
+use Rattle.letter_kinds.proofs.Filters.{filter_full, all_filter, filter_twice, filter_true}
+use Rattle.letter_kinds.proofs.Rounds.{largest_by_rounds}
+use Rattle.letter_kinds.proofs.Acked.{each_acked}
+use Rattle.detector_laws.specs.Balance.{sum_below, ActorsAreBalanced}
+use Rattle.detector_laws.specs.News.{NoNewsNoClosedSet}
+use Rattle.detector_laws.specs.Quiet.{IsQuiet, IsReached, root, edge}
+use Rattle.detector_laws.specs.Reports.{told_by_kept, told_of, IsExact, IsBlocked, IsAsTold, ReportsAreExact, IsRising}
+use Rattle.detector_laws.specs.Tokens.{trace_count, IsSealed, unblocks_before_ack, other_before_confirm, IsSpoiled, TokensAreSound}
+use Rattle.detector_laws.specs.World.{World, In, at, OnlyConfirms}
+use Rattle.detector_laws.proofs.ActorTokens.{present_if_reported}
+use Rattle.detector_laws.proofs.Maps.{at_same, at_other}
+use Rattle.detector_laws.proofs.Members.{In-filter, each_In, In_each}
+use Rattle.detector_laws.proofs.Names.{names, named, name_In}
+use Rattle.detector_laws.proofs.Order.{filter_rising, In_report_of}
+use Rattle.detector_laws.proofs.Sums.{sum_below_same, sum_below_at, above_same}
+
+-- whatever holds of the pinned, and of those that one of it holds, as what is reached does
+pub record IsReach (w : World) (reached : ℕ → Type 0) : Type 0 where
+  pub roots : (a : ℕ) → (w.cell a).present ≡ true → (w.cell a).pinned ≡ true → reached a
+  pub edges : (b a : ℕ) → (w.cell b).present ≡ true → reached b → (w.cell b).foreign a ≢ 0 → reached a
+
+-- no token is open
+
+sealed_acked : (w : World) → IsQuiet w → (t : Token) → IsSealed w.cell w.mail w.loaded w.notes t → (m : ℕ) → has t.members m ≡ true → has t.acked m ≡ true
+sealed_acked w q t s m i =
+    let seal = s m i in
+    let one : trace_count t m [] [] ≡ 1 = subst (λ l. trace_count t m l [] ≡ 1) (q.empty m seal.blocked.present) (subst (λ ns. trace_count t m (w.mail m) ns ≡ 1) q.heard seal.one) in
+    last_place (has t.acked m) one
+  where
+    last_place : (b : Bool) → (0 + 0) + (if b then 1 else 0) ≡ 1 → b ≡ true
+    last_place true e = refl
+    last_place false e = absurd (omega arith)
+
+none_spoiled : (w : World) → IsQuiet w → ReportsAreExact w → (t : Token) → IsSpoiled w.cell w.mail w.notes t → ⊥
+none_spoiled w q h t (m, i, p) = ⊎_elim
+    (λ l. false≢true (subst (λ ns. unblocks_before_ack t.number m ns ≡ true) q.heard l))
+    (λ l. false≢true (subst (λ ls. other_before_confirm t.number ls ≡ true) (q.empty m (present_if_reported w h m l.0)) l.1))
+    p.cause
+
+no_token : (w : World) → IsQuiet w → ReportsAreExact w → TokensAreSound w → (t : Token) → In t w.detector.tokens → ⊥
+no_token w q h k t i = ⊎_elim (λ s. q.unacked t i (each_acked t (sealed_acked w q t s))) (λ s. none_spoiled w q h t s) (k.state t i)
+
+none_in_token : (ts : List Token) → ((t : Token) → In t ts → ⊥) → (m : ℕ) → in_token ts m ≡ false
+none_in_token [] h m = refl
+none_in_token (t ∷ ts) h m = absurd (h t (inl refl))
+
+-- each report that is kept is exact
+
+kept_exact : (w : World) → IsQuiet w → ReportsAreExact w → IsRising w.detector.kept → (r : Report) → In r w.detector.kept → IsBlocked (w.cell r.actor) × IsExact (w.cell r.actor) r.actor r
+kept_exact w q h rising r i =
+    subst (λ o. IsAsTold (w.cell r.actor) r.actor (told_by_kept o)) (In_report_of w.detector.kept r rising i)
+    (subst (λ ns. IsAsTold (w.cell r.actor) r.actor (told_of r.actor w.detector.kept ns)) q.heard (h.last r.actor))
+
+no_report : (rs : List Report) (a : ℕ) → has (names rs) a ≡ false → report_of rs a ≡ None
+no_report [] a h = refl
+no_report (r ∷ rs) a h = let two = or_parts (r.actor == a) (has (names rs) a) h in grind (arith, two.0, no_report rs a two.1)
+
+-- an unpinned actor's report is kept
+unkept_pinned : (w : World) → IsQuiet w → ReportsAreExact w → (a : ℕ) → (w.cell a).present ≡ true → has (names w.detector.kept) a ≡ false → (w.cell a).pinned ≡ true
+unkept_pinned w q h a here out = ⊎_elim
+    (λ t. t)
+    (λ f. let off : (w.cell a).reported ≡ false = subst (λ o. IsAsTold (w.cell a) a (told_by_kept o)) (no_report w.detector.kept a out)
+    (subst (λ ns. IsAsTold (w.cell a) a (told_of a w.detector.kept ns)) q.heard (h.last a)) in
+    absurd (false≢true (sym off ∙ q.blocked a here f)))
+    (cases_Bool (w.cell a).pinned)
+
+-- those that no other holds, in rounds
+
+-- what actors outside these reports hold on x
+abbrev outside : World → List Report → ℕ → ℕ
+outside w rs x = sum_below w.made (λ b. if has (names rs) b then 0 else (w.cell b).foreign x)
+
+abbrev unheld : World → List Report → Report → Bool
+unheld w rs r = outside w rs r.actor == 0
+
+abbrev settle : World → ℕ → List Report → List Report
+settle w zero rs = rs
+settle w (suc n) rs = settle w n (filter (unheld w rs) rs)
+
+settle_fixed : (w : World) (n : ℕ) (rs : List Report) → filter (unheld w rs) rs ≡ rs → settle w n rs ≡ rs
+settle_fixed w zero rs h = refl
+settle_fixed w (suc n) rs h = rw h (settle_fixed w n rs h)
+
+settle_end : (w : World) (n : ℕ) (rs : List Report) → length rs ≤ n → filter (unheld w (settle w n rs)) (settle w n rs) ≡ settle w n rs
+settle_end w zero [] h = refl
+settle_end w zero (r ∷ rs) h = absurd (omega arith)
+settle_end w (suc n) rs h = ⊎_elim
+    (λ short. settle_end w n (filter (unheld w rs) rs) (omega arith))
+    (λ long. let full : filter (unheld w rs) rs ≡ rs = filter_full (unheld w rs) rs (omega arith) in
+    subst (λ ys. filter (unheld w ys) ys ≡ ys) (sym (settle_fixed w (suc n) rs full)) full)
+    (cases_lt (length (filter (unheld w rs) rs)) (length rs))
+
+settle_among : (w : World) (n : ℕ) (rs : List Report) → (kept : Report → Bool) × (settle w n rs ≡ filter kept rs)
+settle_among w zero rs = (λ r. true, filter_true rs)
+settle_among w (suc n) rs =
+    let (kept, e) = settle_among w n (filter (unheld w rs) rs) in
+    (λ r. cond (unheld w rs r) (kept r) false, e ∙ filter_twice kept (unheld w rs) rs)
+
+-- who is removed is reached
+
+some_below : (n : ℕ) (f : ℕ → ℕ) → sum_below n f ≢ 0 → (b : ℕ) × (b < n) × (f b ≢ 0)
+some_below zero f h = absurd (h refl)
+some_below (suc n) f h = ⊎_elim
+    (λ (z : f n ≡ 0). let (b, lt, ne) = some_below n f (λ e. h (omega arith)) in (b, omega (arith, lt), ne))
+    (λ (s : f n ≢ 0). (n, omega arith, s))
+    (cases_eq (f n) 0)
+
+held_from_outside : (w : World) (rs : List Report) (x : ℕ) → outside w rs x ≢ 0 → (b : ℕ) × (has (names rs) b ≡ false) × ((w.cell b).foreign x ≢ 0)
+held_from_outside w rs x h =
+    let (b, lt, ne) = some_below w.made (λ c. if has (names rs) c then 0 else (w.cell c).foreign x) h in
+    let two = parts (has (names rs) b) ((w.cell b).foreign x) ne in (b, two.0, two.1)
+  where
+    parts : (t : Bool) (k : ℕ) → (if t then 0 else k) ≢ 0 → (t ≡ false) × (k ≢ 0)
+    parts true k ne = absurd (ne refl)
+    parts false k ne = (refl, ne)
+
+In-stays : (p : Report → Bool) (rs : List Report) (r : Report) → In r rs → p r ≡ true → In r (filter p rs)
+In-stays p [] r i t = absurd i
+In-stays p (q ∷ rs) r i t = ⊎_elim
+    (λ (e : r ≡ q). let t' : p q ≡ true = ap p (sym e) ∙ t in subst (λ ys. In r ys) (sym (cond-true (p q) (q ∷ filter p rs) (filter p rs) t')) (inl e))
+    (λ j. cond_both (p q) (q ∷ filter p rs) (filter p rs) (In r) (λ _. inr (In-stays p rs r j t)) (λ _. In-stays p rs r j t)) i
+
+removed : (p : Report → Bool) (rs : List Report) (a : ℕ) → has (names rs) a ≡ true → has (names (filter p rs)) a ≡ false → (r : Report) × In r rs × (r.actor ≡ a) × (p r ≡ false)
+removed p rs a i out =
+    let (r, j, e) = named rs a i in
+    (r, j, e, ⊎_elim (λ (t : p r ≡ true). absurd (false≢true (sym out ∙ (ap (has (names (filter p rs))) (sym e) ∙ name_In (filter p rs) r (In-stays p rs r j t))))) (λ f. f) (cases_Bool (p r)))
+
+reached_step : (w : World) (reached : ℕ → Type 0) → IsReach w reached → ActorsAreBalanced w → (rs : List Report)
+    → ((a : ℕ) → (w.cell a).present ≡ true → has (names rs) a ≡ false → reached a)
+    → (a : ℕ) → (w.cell a).present ≡ true → has (names (filter (unheld w rs) rs)) a ≡ false → reached a
+reached_step w reached is bal rs before a here out = ⊎_elim
+    (λ (i : has (names rs) a ≡ true).
+    let (r, j, e, f) = removed (unheld w rs) rs a i out in
+    let (b, o, ne) = held_from_outside w rs r.actor (eqb-false (outside w rs r.actor) 0 f) in
+    let there : (w.cell b).present ≡ true = ⊎_elim (λ t. t) (λ (gone : (w.cell b).present ≡ false). absurd (ne (bal.absent b r.actor gone))) (cases_Bool (w.cell b).present) in
+    is.edges b a there (before b there o) (subst (λ x. (w.cell b).foreign x ≢ 0) e ne))
+    (λ o. before a here o)
+    (cases_Bool (has (names rs) a))
+
+reached_outside : (w : World) (reached : ℕ → Type 0) → IsReach w reached → ActorsAreBalanced w → (n : ℕ) (rs : List Report)
+    → ((a : ℕ) → (w.cell a).present ≡ true → has (names rs) a ≡ false → reached a)
+    → (a : ℕ) → (w.cell a).present ≡ true → has (names (settle w n rs)) a ≡ false → reached a
+reached_outside w reached is bal zero rs before a here out = before a here out
+reached_outside w reached is bal (suc n) rs before a here out =
+    reached_outside w reached is bal n (filter (unheld w rs) rs) (reached_step w reached is bal rs before) a here out
+
+-- those that stay are closed
+
+zero_below : (n : ℕ) (f : ℕ → ℕ) → sum_below n f ≡ 0 → (b : ℕ) → b < n → f b ≡ 0
+zero_below zero f h b lt = absurd (omega arith)
+zero_below (suc n) f h b lt = ⊎_elim
+    (λ (e : b ≡ n). subst (λ x. f x ≡ 0) (sym e) (let z : f n ≡ 0 = omega arith in z))
+    (λ (ne : b ≢ n). zero_below n f (omega arith) b (omega arith))
+    (cases_eq b n)
+
+-- a sum over all is one over these, where it is 0 outside
+zeros : (n : ℕ) → sum_below n (λ b. 0) ≡ 0
+zeros zero = refl
+zeros (suc n) = omega (arith, zeros n)
+
+not_head : (r : Report) (rs : List Report) (b : ℕ) → b ≢ r.actor → has (names rs) b ≡ false → has (names (r ∷ rs)) b ≡ false
+not_head r rs b ne h = grind (arith, nat_tests)
+
+told_on-ge : (m : ℕ) (r : Report) (k : ℕ) → count_on r.held m ≡ k → (r.actor ≡ m → k ≡ 0) → k ≤ told_on m r
+told_on-ge m r k h z = ⊎_elim (λ (e : r.actor ≡ m). grind (arith, nat_tests, z e)) (λ (ne : r.actor ≢ m). grind (arith, nat_tests)) (cases_eq r.actor m)
+
+all_le_some : (n : ℕ) (f : ℕ → ℕ) (rs : List Report) → AllByRecursion (λ r. r.actor < n) rs → IsRising rs → ((b : ℕ) → b < n → has (names rs) b ≡ false → f b ≡ 0) → sum_below n f ≤ sum_by (λ r. f r.actor) rs
+all_le_some n f [] k h z = omega (arith, sum_below_same n f (λ b. 0) (λ b lt. z b lt refl), zeros n)
+all_le_some n f (r ∷ rs) k h z =
+    omega (
+      arith,
+      sum_by-cons (λ q. f q.actor) r rs,
+      above_same r.actor f rs h.0,
+      sum_below_at n r.actor f k.0,
+      all_le_some n (at f r.actor 0) rs k.1 h.1 (λ b lt out. ⊎_elim
+          (λ (e : b ≡ r.actor). subst (λ x. at f r.actor 0 x ≡ 0) (sym e) (at_same f r.actor 0))
+          (λ (ne : b ≢ r.actor). at_other f r.actor 0 b ne ∙ z b lt (not_head r rs b ne out))
+          (cases_eq b r.actor)),
+    )
+
+told_on_by-ge : (w : World) → ActorsAreBalanced w → (m : ℕ) (rs : List Report) → AllByRecursion (λ r. IsExact (w.cell r.actor) r.actor r) rs → sum_by (λ r. (w.cell r.actor).foreign m) rs ≤ told_on_by m rs
+told_on_by-ge w bal m [] h = omega arith
+told_on_by-ge w bal m (r ∷ rs) h =
+    omega (arith, sum_by-cons (told_on m) r rs, sum_by-cons (λ q. (w.cell q.actor).foreign m) r rs, told_on-ge m r ((w.cell r.actor).foreign m) (h.0.held m) (λ e. subst (λ x. (w.cell r.actor).foreign x ≡ 0) e (bal.own r.actor)), told_on_by-ge w bal m rs h.1)
+
+stay_closed : (w : World) → IsQuiet w → ActorsAreBalanced w → (rs : List Report) → IsRising rs → ((r : Report) → In r rs → IsBlocked (w.cell r.actor) × IsExact (w.cell r.actor) r.actor r)
+    → filter (unheld w rs) rs ≡ rs → IsClosed rs
+stay_closed w q bal rs rising exact fixed =
+    let stays = all_filter (unheld w rs) rs fixed in
+    let few : AllByRecursion (λ r. r.actor < w.made) rs = In_each (λ r. r.actor < w.made) rs (λ r i. bal.made r.actor (exact r i).0.present) in
+    let exacts : AllByRecursion (λ r. IsExact (w.cell r.actor) r.actor r) rs = In_each (λ r. IsExact (w.cell r.actor) r.actor r) rs (λ r i. (exact r i).1) in
+    In_each (λ r. r.count ≤ told_on_by r.actor rs) rs (λ r i.
+    let f = λ (b : ℕ). (w.cell b).foreign r.actor in
+    let none : outside w rs r.actor ≡ 0 = eqb-true (outside w rs r.actor) 0 (each_In (λ x. unheld w rs x ≡ true) rs stays r i) in
+    let here = (exact r i).0.present in
+    let full : (w.cell r.actor).count ≡ sum_below w.made f + w.loaded r.actor = bal.full r.actor here (subst OnlyConfirms (sym (q.empty r.actor here)) tt) in
+    let count : r.count ≡ (w.cell r.actor).count = (exact r i).1.count in
+    let unloaded : w.loaded r.actor ≡ 0 = q.unloaded r.actor in
+    let inside : sum_below w.made f ≤ sum_by (λ x. f x.actor) rs = all_le_some w.made f rs few rising
+    (λ b lt out. ap (λ t. if t then 0 else f b) (sym out) ∙ zero_below w.made (λ c. if has (names rs) c then 0 else f c) none b lt) in
+    let enough : sum_by (λ x. f x.actor) rs ≤ told_on_by r.actor rs = told_on_by-ge w bal r.actor rs exacts in
+    omega arith)
+
+all_free : (p : Report → Bool) (rs : List Report) → ((r : Report) → p r ≡ true) → filter p rs ≡ rs
+all_free p [] h = refl
+all_free p (r ∷ rs) h = grind (arith, h r, all_free p rs h)
+
+pub quiet_reached : (w : World) → IsQuiet w → ReportsAreExact w → TokensAreSound w → NoNewsNoClosedSet w.detector → ActorsAreBalanced w → IsRising w.detector.kept → (reached : ℕ → Type 0) → IsReach w reached → (a : ℕ) → (w.cell a).present ≡ true → reached a
+quiet_reached w q h k news bal rising reached is a here =
+    let kept = w.detector.kept in
+    let left = settle w (length kept) kept in
+    let (test, e) = settle_among w (length kept) kept in
+    let cs : candidates w.detector ≡ kept = all_free (λ r. not (in_token w.detector.tokens r.actor)) kept (λ r. ap not (none_in_token w.detector.tokens (no_token w q h k) r.actor)) in
+    let none : largest_closed kept ≡ [] = subst (λ rs. largest_closed rs ≡ []) cs (news q.scanned) in
+    let closed : IsClosed left = stay_closed w q bal left (subst IsRising (sym e) (filter_rising test kept rising))
+    (λ r i. kept_exact w q h rising r (In-filter test r kept (subst (In r) e i)).0)
+    (settle_end w (length kept) kept (omega arith)) in
+    let gone : left ≡ [] = e ∙ (sym ((largest_by_rounds kept).all test (subst IsClosed e closed)) ∙ ap (filter test) none) in
+    reached_outside w reached is bal (length kept) kept (λ b there out. is.roots b there (unkept_pinned w q h b there out)) a here
+    (subst (λ rs. has (names rs) a ≡ false) (sym gone) refl)
+
+pub quiet_all_reached : (w : World) → IsQuiet w → ReportsAreExact w → TokensAreSound w → NoNewsNoClosedSet w.detector → ActorsAreBalanced w → IsRising w.detector.kept → (a : ℕ) → (w.cell a).present ≡ true → IsReached w a
+quiet_all_reached w q h k news bal rising =
+    quiet_reached w q h k news bal rising (IsReached w) record { roots = λ a p t. root p t; edges = λ b a p r ne. edge p r ne }

@@ -1,0 +1,88 @@
+-- Where a report is kept, its actor is ready to be sealed or spoils a token.
+use Rattle.std.proofs.Common.{◌≡◌, ℕ, ◌≢◌, ◌==◌, Bool, true, false, ◌||◌, ◌⊎◌, inl, inr, ⊎_elim, List, [], ◌∷◌, ◌++◌, arith, refl, sym, subst}
+use Rattle.std.proofs.lemmas.Bool.{cases_eq, cases_Bool, or_parts, eqb-false}
+use Rattle.std.proofs.lemmas.Bool.Decides.{nat_tests}
+use Rattle.letter_kinds.specs.declared.note.Note.{Note}
+use Rattle.letter_kinds.specs.declared.note.Note.TheVariants.{Block, Unblock, Ack}
+use Rattle.letter_kinds.specs.declared.note.Report.{Report}
+use Rattle.detector_laws.specs.Reports.{Reported, Contradictory, with_note, with_notes, IsSilentOn, IsExact, IsBlocked, IsAsTold}
+use Rattle.detector_laws.specs.Tokens.{confirm_count, ack_count, EndsInConfirm, unblocks_before_ack, has_confirm, other_before_confirm}
+use Rattle.detector_laws.specs.World.{LetterKind, Other, Confirm, Cell, OnlyConfirms}
+use Rattle.detector_laws.proofs.Hear.{with_notes-contradictory}
+use Rattle.detector_laws.proofs.Notes.{with_note-other_block, with_note-other_unblock}
+
+-- an Unblock of m is among the notes
+abbrev unblocked : ℕ → List Note → Bool
+unblocked m [] = false
+unblocked m (Block b count held ∷ ns) = unblocked m ns
+unblocked m (Unblock b ∷ ns) = (b == m) || unblocked m ns
+unblocked m (Ack u b ∷ ns) = unblocked m ns
+
+unblocked_before_ack : (n m : ℕ) (ns : List Note) → unblocked m ns ≡ true → ack_count n m ns ≡ 0 → unblocks_before_ack n m ns ≡ true
+unblocked_before_ack n m [] h k = absurd (cc)
+unblocked_before_ack n m (Block b count held ∷ ns) h k = unblocked_before_ack n m ns h k
+unblocked_before_ack n m (Unblock b ∷ ns) h k = grind (arith, unblocked_before_ack n m ns)
+unblocked_before_ack n m (Ack u b ∷ ns) h k = grind (arith, unblocked_before_ack n m ns)
+
+wrong_step : (m : ℕ) (r : Report) (b count : ℕ) (held : List (ℕ × ℕ)) → b ≡ m → with_note m (Reported r) (Block b count held) ≡ Contradictory
+wrong_step m r b count held e = grind (arith, nat_tests)
+
+-- with a report kept and no Unblock behind, a further Block would be wrong
+still_on : (m : ℕ) (r : Report) (ns : List Note) → unblocked m ns ≡ false → ((with_notes m (Reported r) ns ≡ Reported r) × IsSilentOn m ns) ⊎ (with_notes m (Reported r) ns ≡ Contradictory)
+still_on m r [] h = inl (refl, tt)
+still_on m r (Block b count held ∷ ns) h = ⊎_elim
+    (λ (e : b ≡ m). inr (subst (λ s. with_notes m s ns ≡ Contradictory) (sym (wrong_step m r b count held e)) (with_notes-contradictory m ns)))
+    (λ (ne : b ≢ m). ⊎_elim
+    (λ k. inl (subst (λ s. with_notes m s ns ≡ Reported r) (sym (with_note-other_block m (Reported r) b count held ne)) k.0, (ne, k.1)))
+    (λ k. inr (subst (λ s. with_notes m s ns ≡ Contradictory) (sym (with_note-other_block m (Reported r) b count held ne)) k))
+    (still_on m r ns h))
+    (cases_eq b m)
+still_on m r (Unblock b ∷ ns) h =
+    let two = or_parts (b == m) (unblocked m ns) h in
+    let ne : b ≢ m = eqb-false b m two.0 in
+    ⊎_elim
+    (λ k. inl (subst (λ s. with_notes m s ns ≡ Reported r) (sym (with_note-other_unblock m (Reported r) b ne)) k.0, (ne, k.1)))
+    (λ k. inr (subst (λ s. with_notes m s ns ≡ Contradictory) (sym (with_note-other_unblock m (Reported r) b ne)) k))
+    (still_on m r ns two.1)
+still_on m r (Ack u b ∷ ns) h = still_on m r ns h
+
+has_confirm-push : (n : ℕ) (ls : List LetterKind) → has_confirm n (ls ++ Confirm n ∷ []) ≡ true
+has_confirm-push n [] = grind (arith, nat_tests)
+has_confirm-push n (Other ∷ ls) = has_confirm-push n ls
+has_confirm-push n (Confirm u ∷ ls) = grind (arith, has_confirm-push n ls)
+
+only_or_before_confirm : (n : ℕ) (ls : List LetterKind) → confirm_count n ls ≡ 0 → OnlyConfirms ls ⊎ (other_before_confirm n (ls ++ Confirm n ∷ []) ≡ true)
+only_or_before_confirm n [] h = inl tt
+only_or_before_confirm n (Other ∷ ls) h = inr (has_confirm-push n ls)
+only_or_before_confirm n (Confirm u ∷ ls) h = ⊎_elim (λ k. inl k) (λ k. inr (grind (arith, nat_tests))) (only_or_before_confirm n ls (omega arith))
+
+pub only-EndsInConfirm : (n : ℕ) (ls : List LetterKind) → OnlyConfirms ls → EndsInConfirm n (ls ++ Confirm n ∷ [])
+only-EndsInConfirm n [] h = refl
+only-EndsInConfirm n (Other ∷ ls) h = absurd h
+only-EndsInConfirm n (Confirm u ∷ []) h = refl
+only-EndsInConfirm n (Confirm u ∷ (Other ∷ ls)) h = absurd h
+only-EndsInConfirm n (Confirm u ∷ (Confirm v ∷ ls)) h = only-EndsInConfirm n (Confirm v ∷ ls) h
+
+-- a member whose report tells what is
+pub record IsReady (cell : ℕ → Cell) (mail : ℕ → List LetterKind) (notes : List Note) (r : Report) : Type 0 where
+  pub blocked : IsBlocked (cell r.actor)
+  pub exact : IsExact (cell r.actor) r.actor r
+  pub silent : IsSilentOn r.actor notes
+  pub only : OnlyConfirms (mail r.actor)
+
+abbrev pub Spoils : (ℕ → Cell) → (ℕ → List LetterKind) → List Note → ℕ → Report → Type 0
+Spoils cell mail notes n r = (unblocks_before_ack n r.actor notes ≡ true) ⊎ (((cell r.actor).reported ≡ true) × (other_before_confirm n (mail r.actor ++ Confirm n ∷ []) ≡ true))
+
+pub ready_or_spoils : (cell : ℕ → Cell) (mail : ℕ → List LetterKind) (notes : List Note) (n : ℕ) (r : Report) → IsAsTold (cell r.actor) r.actor (with_notes r.actor (Reported r) notes)
+    → ack_count n r.actor notes ≡ 0 → confirm_count n (mail r.actor) ≡ 0 → IsReady cell mail notes r ⊎ Spoils cell mail notes n r
+ready_or_spoils cell mail notes n r last a0 c0 = ⊎_elim
+    (λ (t : unblocked r.actor notes ≡ true). inr (inl (unblocked_before_ack n r.actor notes t a0)))
+    (λ (f : unblocked r.actor notes ≡ false). ⊎_elim
+    (λ on. let now : IsBlocked (cell r.actor) × IsExact (cell r.actor) r.actor r = subst (IsAsTold (cell r.actor) r.actor) on.0 last in
+    ⊎_elim
+    (λ only. inl record { blocked = now.0; exact = now.1; silent = on.1; only = only })
+    (λ wt. inr (inr (now.0.reported, wt)))
+    (only_or_before_confirm n (mail r.actor) c0))
+    (λ wrong. absurd (subst (IsAsTold (cell r.actor) r.actor) wrong last))
+    (still_on r.actor r notes f))
+    (cases_Bool (unblocked r.actor notes))

@@ -1,0 +1,128 @@
+-- A reap takes a sealed token, and keeps what holds of reports and of the other tokens.
+use Rattle.std.proofs.Common.{◌≡◌, ℕ, ◌≤◌, ◌≢◌, ◌==◌, not, true, false, inl, inr, ⊎_elim, List, [], ◌∷◌, filter, None, arith, refl, ap, sym, subst, ◌∙◌, eq-eqb}
+use Rattle.std.proofs.lemmas.Bool.{cases_eq, cases_Bool, false≢true, not-true, false_from_ne_true}
+use Rattle.std.proofs.lemmas.Bool.Decides.{nat_tests}
+use Rattle.letter_kinds.specs.declared.note.Report.{Report}
+use Rattle.letter_kinds.specs.Detector.{Token, has, close_token}
+use Rattle.letter_kinds.specs.Reports.{report_of}
+use Rattle.letter_kinds.proofs.Acked.{acked_each}
+use Rattle.detector_laws.specs.Events.{Reaps}
+use Rattle.detector_laws.specs.Reports.{with_notes, told_by_kept, told_of, IsSilentOn, IsBlocked, IsAsTold, ExactReports, ReportsAreExact}
+use Rattle.detector_laws.specs.Tokens.{confirm_count, IsSealedMember, IsSealed, other_before_confirm, IsSpoiled, SoundTokens, TokensAreSound}
+use Rattle.detector_laws.specs.World.{Cell, World, In}
+use Rattle.detector_laws.proofs.Letters.{confirm_count-append, confirm_count-none, other_before_confirm-append}
+use Rattle.detector_laws.proofs.Members.{In-filter}
+use Rattle.detector_laws.proofs.Notes.{with_notes-silent}
+
+report_of-out : (ms : List ℕ) (ks : List Report) (a : ℕ) → has ms a ≡ true → report_of (filter (λ k. not (has ms k.actor)) ks) a ≡ None
+report_of-out ms [] a h = refl
+report_of-out ms (k ∷ ks) a h = ⊎_elim
+    (λ (e : k.actor ≡ a). let t : has ms k.actor ≡ true = ap (has ms) e ∙ h in grind (arith, report_of-out ms ks a h))
+    (λ (ne : k.actor ≢ a). grind (arith, nat_tests, report_of-out ms ks a h))
+    (cases_eq k.actor a)
+
+report_of-in : (ms : List ℕ) (ks : List Report) (a : ℕ) → has ms a ≡ false → report_of (filter (λ k. not (has ms k.actor)) ks) a ≡ report_of ks a
+report_of-in ms [] a h = refl
+report_of-in ms (k ∷ ks) a h = ⊎_elim
+    (λ (e : k.actor ≡ a). let t : has ms k.actor ≡ false = ap (has ms) e ∙ h in grind (arith, report_of-in ms ks a h))
+    (λ (ne : k.actor ≢ a). grind (arith, nat_tests, report_of-in ms ks a h))
+    (cases_eq k.actor a)
+
+-- only a sealed token is reaped
+pub reaped_sealed : (w w' : World) (t : Token) → Reaps w t w' → TokensAreSound w → IsSealed w.cell w.mail w.loaded w.notes t
+reaped_sealed w w' t r k = ⊎_elim
+    (λ s. s)
+    (λ s. let (m, i, p) = s in absurd (false≢true (sym p.unnoted ∙ acked_each t r.acked m i)))
+    (k.state t r.is_open)
+
+reaped_last : (w w' : World) (t : Token) → Reaps w t w' → ReportsAreExact w → IsSealed w.cell w.mail w.loaded w.notes t → (a : ℕ) → IsAsTold (w'.cell a) a (told_of a (close_token t w.detector).kept w.notes)
+reaped_last w w' t r h s a = ⊎_elim
+    (λ (i : has t.members a ≡ true).
+    subst (IsAsTold (w'.cell a) a) (sym (with_notes-silent a (told_by_kept (report_of (close_token t w.detector).kept a)) w.notes (s a i).silent ∙ ap told_by_kept (report_of-out t.members w.detector.kept a i))) (r.gone a i).1)
+    (λ (o : has t.members a ≡ false).
+    subst (λ q. IsAsTold (w'.cell a) a (with_notes a (told_by_kept q) w.notes)) (sym (report_of-in t.members w.detector.kept a o))
+    (subst (λ c. IsAsTold c a (told_of a w.detector.kept w.notes)) (sym (r.stays a o)) (h.last a)))
+    (cases_Bool (has t.members a))
+
+reaped_absent : (w w' : World) (t : Token) → Reaps w t w' → ReportsAreExact w → IsSealed w.cell w.mail w.loaded w.notes t → (a : ℕ) → (w'.cell a).present ≡ false
+    → (report_of (close_token t w.detector).kept a ≡ None) × IsSilentOn a w.notes
+reaped_absent w w' t r h s a gone = ⊎_elim
+    (λ (i : has t.members a ≡ true). (report_of-out t.members w.detector.kept a i, (s a i).silent))
+    (λ (o : has t.members a ≡ false). let before = h.absent a (ap (λ (c : Cell). c.present) (sym (r.stays a o)) ∙ gone) in
+    (report_of-in t.members w.detector.kept a o ∙ before.0, before.1))
+    (cases_Bool (has t.members a))
+
+pub reap_reports : (w w' : World) (t : Token) → Reaps w t w' → ReportsAreExact w → TokensAreSound w → ReportsAreExact w'
+reap_reports w w' t r h k =
+    let s = reaped_sealed w w' t r k in
+    subst (λ d. ExactReports w'.cell d.kept w'.notes) (sym r.detector)
+    (subst (λ ns. ExactReports w'.cell (close_token t w.detector).kept ns) (sym r.notes)
+    record { last = reaped_last w w' t r h s; absent = reaped_absent w w' t r h s })
+
+-- a token that stays has no member of the reaped one
+apart_from : (w : World) (t u : Token) → TokensAreSound w → In t w.detector.tokens → In u w.detector.tokens → not (u.number == t.number) ≡ true → (m : ℕ) → has u.members m ≡ true → has t.members m ≡ false
+apart_from w t u k i j ne m h = ⊎_elim
+    (λ (y : has t.members m ≡ true). absurd (false≢true (sym (not_same u.number t.number ne) ∙ eq-eqb u.number t.number (k.apart u t j i m h y))))
+    (λ f. f)
+    (cases_Bool (has t.members m))
+  where
+    not_same : (a b : ℕ) → not (a == b) ≡ true → (a == b) ≡ false
+    not_same a b h = not-true (a == b) h
+
+reaped_confirms : (w w' : World) (t : Token) → Reaps w t w' → (n b : ℕ) → confirm_count n (w'.mail b) ≤ confirm_count n (w.mail b)
+reaped_confirms w w' t r n b = ⊎_elim
+    (λ (i : has t.members b ≡ true). omega (arith, ap (confirm_count n) (r.gone b i).2))
+    (λ (o : has t.members b ≡ false). let (come, grown, plain) = r.sends b o in
+    omega (arith, ap (confirm_count n) grown, confirm_count-append n (w.mail b) come, confirm_count-none n come plain))
+    (cases_Bool (has t.members b))
+
+stayed_sealed : (w w' : World) (t u : Token) → Reaps w t w' → ((m : ℕ) → has u.members m ≡ true → has t.members m ≡ false) → IsSealed w.cell w.mail w.loaded w.notes u → IsSealed w'.cell w'.mail w'.loaded w.notes u
+stayed_sealed w w' t u r out s m i =
+    let seal = s m i in
+    let unheld = λ (b : ℕ) (j : has t.members b ≡ true). seal.held b (other_of u b (λ y. false≢true (sym (out b y) ∙ j))) in
+    subst (λ l. IsSealedMember u m w'.cell l (w'.loaded m) w.notes) (sym (r.sends_held m (out m i) unheld))
+    record {
+      blocked = subst IsBlocked (sym (r.stays m (out m i))) seal.blocked;
+      letters = seal.letters;
+      silent = seal.silent;
+      held = λ b o. ⊎_elim
+          (λ (j : has t.members b ≡ true). r.empty b m j)
+          (λ (j : has t.members b ≡ false). ap (λ (c : Cell). c.foreign m) (r.stays b j) ∙ seal.held b o)
+          (cases_Bool (has t.members b));
+      unloaded = r.unloaded m seal.unloaded;
+      one = seal.one;
+    }
+  where
+    other_of : (u : Token) (b : ℕ) → (has u.members b ≡ true → ⊥) → has u.members b ≡ false
+    other_of u b h = false_from_ne_true (has u.members b) h
+
+stayed_spoiled : (w w' : World) (t u : Token) → Reaps w t w' → ((m : ℕ) → has u.members m ≡ true → has t.members m ≡ false) → IsSpoiled w.cell w.mail w.notes u → IsSpoiled w'.cell w'.mail w.notes u
+stayed_spoiled w w' t u r out (m, i, p) =
+    let (come, grown, plain) = r.sends m (out m i) in (
+      m,
+      i,
+      record {
+        unnoted = p.unnoted;
+        cause = ⊎_elim
+            (λ l. inl l)
+            (λ l. inr (ap (λ (c : Cell). c.reported) (r.stays m (out m i)) ∙ l.0, subst (λ x. other_before_confirm u.number x ≡ true) (sym grown) (other_before_confirm-append u.number (w.mail m) come l.1)))
+            p.cause;
+      },
+    )
+
+pub reap_tokens : (w w' : World) (t : Token) → Reaps w t w' → TokensAreSound w → TokensAreSound w'
+reap_tokens w w' t r k =
+    let is = λ (u : Token) (i : In u (close_token t w.detector).tokens). In-filter (λ v. not (v.number == t.number)) u w.detector.tokens i in
+    let out = λ (u : Token) (i : In u (close_token t w.detector).tokens). apart_from w t u k r.is_open (is u i).0 (is u i).1 in
+    subst (λ d. SoundTokens d w'.cell w'.mail w'.loaded w'.notes) (sym r.detector)
+    (subst (λ ns. SoundTokens (close_token t w.detector) w'.cell w'.mail w'.loaded ns) (sym r.notes)
+    record {
+      apart = λ u v i j. k.apart u v (is u i).0 (is v j).0;
+      kept = λ u i m h. let (q, e) = k.kept u (is u i).0 m h in (q, report_of-in t.members w.detector.kept m (out u i m h) ∙ e);
+      unique = λ u v i j. k.unique u v (is u i).0 (is v j).0;
+      numbers = λ u i. k.numbers u (is u i).0;
+      letters = λ b n lt. omega (arith, k.letters b n lt, reaped_confirms w w' t r n b);
+      heard = k.heard;
+      once = λ u i m h. omega (arith, k.once u (is u i).0 m h, reaped_confirms w w' t r u.number m);
+      state = λ u i. ⊎_elim (λ s. inl (stayed_sealed w w' t u r (out u i) s)) (λ s. inr (stayed_spoiled w w' t u r (out u i) s)) (k.state u (is u i).0);
+    })

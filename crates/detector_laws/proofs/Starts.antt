@@ -1,0 +1,38 @@
+-- All facts hold where a run starts.
+use Rattle.std.proofs.Common.{sym, subst, refl, []}
+use Rattle.letter_kinds.specs.Detector.{Detector, fresh_detector}
+use Rattle.detector_laws.specs.Facts.{DetectorFacts}
+use Rattle.detector_laws.specs.News.{NoNewsNoClosedSet}
+use Rattle.detector_laws.specs.Reports.{ExactReports, ReportsAreExact, IsRising}
+use Rattle.detector_laws.specs.Run.{IsStart}
+use Rattle.detector_laws.specs.Tokens.{SoundTokens, TokensAreSound}
+use Rattle.detector_laws.specs.World.{World}
+use Rattle.detector_laws.proofs.Letters.{confirm_count-none}
+
+start_reports : (w : World) → IsStart w → ReportsAreExact w
+start_reports w s =
+    subst (λ (d : Detector). ExactReports w.cell d.kept w.notes) (sym s.detector)
+    (subst (λ ns. ExactReports w.cell [] ns) (sym s.notes) record { last = s.unreported; absent = λ a gone. (refl, tt) })
+
+start_tokens : (w : World) → IsStart w → TokensAreSound w
+start_tokens w s =
+    subst (λ d. SoundTokens d w.cell w.mail w.loaded w.notes) (sym s.detector)
+    (subst (λ ns. SoundTokens fresh_detector w.cell w.mail w.loaded ns) (sym s.notes)
+    record {
+      apart = λ t u i. absurd i;
+      kept = λ t i. absurd i;
+      unique = λ t u i. absurd i;
+      numbers = λ t i. absurd i;
+      letters = λ a n lt. confirm_count-none n (w.mail a) (s.unasked a);
+      heard = λ a n lt. refl;
+      once = λ t i. absurd i;
+      state = λ t i. absurd i;
+    })
+
+pub start_facts : (w : World) → IsStart w → DetectorFacts w
+start_facts w s = record {
+  reports = start_reports w s;
+  tokens = start_tokens w s;
+  news = subst NoNewsNoClosedSet (sym s.detector) (λ e. refl);
+  rising = subst (λ (d : Detector). IsRising d.kept) (sym s.detector) tt;
+}

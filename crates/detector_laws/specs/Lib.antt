@@ -1,0 +1,9 @@
+pub mod Balance
+pub mod Events
+pub mod Facts
+pub mod News
+pub mod Quiet
+pub mod Reports
+pub mod Run
+pub mod Tokens
+pub mod World

@@ -1,0 +1,29 @@
+-- The start, steps and runs of the world that the detector's laws speak of.
+use Rattle.std.specs.Prelude.{ℕ, ◌≡◌, true, false, List, [], ◌∷◌}
+use Rattle.letter_kinds.specs.declared.note.Note.{Note}
+use Rattle.letter_kinds.specs.declared.note.Report.{Report}
+use Rattle.letter_kinds.specs.Detector.{Token, fresh_detector}
+use Rattle.detector_laws.specs.Balance.{ActorsAreBalanced}
+use Rattle.detector_laws.specs.Events.{CanBlock, Moves, Reaps}
+use Rattle.detector_laws.specs.World.{World, LetterKind, Confirm, NoConfirms, hear, scan, block, take_confirm}
+
+-- nothing was reported yet, and no Confirm waits
+pub record IsStart (w : World) : Type 0 where
+  pub detector : w.detector ≡ fresh_detector
+  pub notes : w.notes ≡ []
+  pub unreported : (a : ℕ) → (w.cell a).reported ≡ false
+  pub unasked : (a : ℕ) → NoConfirms (w.mail a)
+
+-- one event leads from the world to another
+pub data IsStep (w : World) : World → Type 0 where
+  Hears : {n : Note} {ns : List Note} → w.notes ≡ n ∷ ns → IsStep w (hear w n ns)
+  Scans : w.detector.news ≡ true → IsStep w (scan w)
+  ReapsOne : {t : Token} {after : World} → Reaps w t after → IsStep w after
+  Blocks : {a : ℕ} {r : Report} → CanBlock w a r → IsStep w (block w a r)
+  TakesConfirm : {a token : ℕ} {letters : List LetterKind} → w.mail a ≡ Confirm token ∷ letters → IsStep w (take_confirm w a token letters)
+  MovesOne : {a : ℕ} {after : World} → Moves w a after → IsStep w after
+
+-- events lead from the world to another, and before each of them the counts balance
+pub data IsRun (w : World) : World → Type 0 where
+  Stays : IsRun w w
+  GoesOn : {v u : World} → IsRun w v → ActorsAreBalanced v → IsStep v u → IsRun w u

@@ -1,0 +1,170 @@
+-- A reap keeps the balance and the prefixes: what the members held outside goes back in Decs.
+use Rattle.std.proofs.Common.{◌≡◌, ◌≢◌, ◌⊎◌, ℕ, zero, suc, ◌+◌, ◌-◌, ◌<◌, ◌≤◌, ◌==◌, ◌||◌, cond, Bool, true, false, Option, Some, None, List, [], ◌∷◌, ◌++◌, length, set, get_or, refl, sym, ◌∙◌, ap, arith, subst, inl, inr, ⊎_elim, eq-eqb, ne_eqb, length-set}
+use Rattle.std.proofs.lemmas.Bool.{cases_eq, cases_lt}
+use Rattle.std.proofs.lemmas.List.Sums.{sum_by-cons}
+use Rattle.letter_kinds.proofs.Sums.{sum-nil, sum-zero}
+use Rattle.letter_kinds.proofs.Counts.{cond_eq, cond_ne, amount-nil}
+use Rattle.machine_rules.proofs.Seats.{balanced-set, present_below, at_same, at_other}
+use Rattle.machine_rules.proofs.Safety.{prefix-set}
+use Rattle.machine_rules.proofs.SeatReads.{own_at-none, incs_at-none, decs_at-none, held_at-none, loads_at-none, held_at-seat}
+use Rattle.machine_rules.proofs.Sweeps.{owed, owed-groups, Firm, firm_groups, decs_keep}
+use Rattle.machine_rules.proofs.Sweeping.{amount-given_back}
+use Rattle.letter_kinds.specs.Counting.{given_back, by_owner}
+use Rattle.letter_kinds.specs.Detector.{has}
+use Rattle.letter_kinds.specs.Holdings.{own_in, held_in}
+use Rattle.letter_kinds.specs.Sums.{amount_of}
+use Rattle.letter_kinds.specs.declared.letter.Letter.{Letter}
+use Rattle.letter_kinds.specs.declared.letter.Letter.TheVariants.{Dec}
+use Rattle.machine_rules.proofs.InHand.{BalancedWith, debit, none, AllCounted}
+use Rattle.machine_rules.specs.Actors.{Seat, Actors, seat_at, push_decs, seat}
+use Rattle.machine_rules.specs.Balance.{own_at, incs_at, decs_at, held_at, loads_at, held_sum, load_sum, owner_seat, IsCoveredAt, NeverOverdraws}
+use Rattle.machine_rules.proofs.InHand.{Balanced}
+use Rattle.machine_rules.specs.Cell.{Cell}
+use Rattle.machine_rules.specs.Detect.{held_outside, reaped}
+use Rattle.orca_names.specs.Names.{owner_of}
+use Rattle.orca_names.specs.declared.names.Thing.{Thing}
+use Rattle.orca_names.specs.declared.names.Thing.TheVariants.{Actor, Obj}
+use Rattle.std.specs.Prelude.{sum_by}
+
+owed-append : (gs hs : List (ℕ × List (Thing × ℕ))) (x : Thing) → owed (gs ++ hs) x ≡ owed gs x + owed hs x
+unfolding owed
+owed-append [] hs x = omega arith
+owed-append (g ∷ gs) hs x = let r = owed-append gs hs x in omega arith
+
+firm_append : (gs hs : List (ℕ × List (Thing × ℕ))) → Firm gs → Firm hs → Firm (gs ++ hs)
+firm_append [] hs f h = h
+firm_append (g ∷ gs) hs f h = (f.0, firm_append gs hs f.1 h)
+
+-- what a thing of a member, or another, loses as the member goes
+abbrev lost : ℕ → Option Seat → Thing → ℕ
+lost m o x = cond (owner_of x == m) (own_at x o + incs_at x o) 0
+
+abbrev kept : ℕ → Option Seat → Thing → ℕ
+kept m o x = held_at x o + loads_at x o + cond (owner_of x == m) (decs_at x o) 0
+
+remove_one : (s : Actors) (m : ℕ) (d e : Thing → ℕ) → m < length s → BalancedWith d e s
+    → BalancedWith (λ x. lost m (seat_at s m) x + d x) (λ x. kept m (seat_at s m) x + e x) (set s m None)
+remove_one s m d e within = balanced-set s m (seat_at s m) None within refl d e _ _
+    (λ x is.
+    let a = cond_eq (owner_of x) m (own_at x (seat_at s m) + incs_at x (seat_at s m)) 0 is in
+    let b = cond_eq (owner_of x) m (decs_at x (seat_at s m)) 0 is in
+    omega (arith, own_at-none x, incs_at-none x, decs_at-none x, held_at-none x, loads_at-none x))
+    (λ x not.
+    let a = cond_ne (owner_of x) m (own_at x (seat_at s m) + incs_at x (seat_at s m)) 0 not in
+    let b = cond_ne (owner_of x) m (decs_at x (seat_at s m)) 0 not in
+    omega (arith, held_at-none x, loads_at-none x))
+
+remove_prefix : (s : Actors) (m : ℕ) → m < length s → NeverOverdraws s → NeverOverdraws (set s m None)
+remove_prefix s m within = prefix-set s m (seat_at s m) None within refl (λ x is h. tt)
+
+-- the facts about what is still to go: each is of the set, has no letter, and its entries are counted
+pub record Ready (all : List ℕ) (s : Actors) (m : ℕ) : Type 0 where
+  pub within : m < length s
+  pub quiet : (x : Thing) → loads_at x (seat_at s m) ≡ 0
+  pub firm : AllCounted (held_outside all (seat_at s m))
+
+owed_back : (all : List ℕ) (o : Option Seat) (x : Thing) → has all (owner_of x) ≡ false → owed (by_owner (held_outside all o)) x ≡ held_at x o
+owed_back all None x out = owed-groups [] x ∙ amount-nil x ∙ sym (held_at-none x)
+owed_back all (Some o) x out = owed-groups (given_back (λ x. has all (owner_of x)) o.cell.holdings) x ∙ amount-given_back (λ x. has all (owner_of x)) o.cell.holdings x ∙ rw out (sym (held_at-seat x o.cell o.mail))
+
+owed_in : (all : List ℕ) (o : Option Seat) (x : Thing) → has all (owner_of x) ≡ true → owed (by_owner (held_outside all o)) x ≡ 0
+owed_in all None x out = owed-groups [] x ∙ amount-nil x
+owed_in all (Some o) x out = owed-groups (given_back (λ x. has all (owner_of x)) o.cell.holdings) x ∙ amount-given_back (λ x. has all (owner_of x)) o.cell.holdings x ∙ rw out refl
+
+-- one member after another
+abbrev pub AllReady : List ℕ → List ℕ → Actors → Type 0
+AllReady all [] s = Unit {0}
+AllReady all (m ∷ ms) s = Ready all s m × AllReady all ms s
+
+ready_later : (all : List ℕ) (s : Actors) (k m : ℕ) → k < length s → Ready all s m → Ready all (set s k None) m
+ready_later all s k m within r = ⊎_elim
+    (λ same. let n = at_same s k (seat_at s k) None within refl m same in record {
+      within = rw (length-set s k None) r.within;
+      quiet = λ x. rw n (loads_at-none x);
+      firm = rw n tt;
+    })
+    (λ other. let n = at_other s k (seat_at s k) None within refl m other in record {
+      within = rw (length-set s k None) r.within;
+      quiet = λ x. rw n (r.quiet x);
+      firm = rw n r.firm;
+    })
+    (cases_eq m k)
+
+all_ready_later : (all : List ℕ) (s : Actors) (k : ℕ) (ms : List ℕ) → k < length s → AllReady all ms s → AllReady all ms (set s k None)
+all_ready_later all s k [] within h = tt
+all_ready_later all s k (m ∷ ms) within h = (ready_later all s k m within h.0, all_ready_later all s k ms within h.1)
+
+pub record Under (all ms : List ℕ) (gs : List (ℕ × List (Thing × ℕ))) (s : Actors) (d e : Thing → ℕ) : Type 0 where
+  pub bal : BalancedWith d e s
+  pub prefix : NeverOverdraws s
+  pub firm : Firm gs
+  pub outside : (x : Thing) → has all (owner_of x) ≡ false → (d x ≡ 0) × (e x ≡ owed gs x)
+  pub inside : (x : Thing) → has all (owner_of x) ≡ true → owed gs x ≡ 0
+  pub clean : (x : Thing) (i : ℕ) → has all (owner_of x) ≡ true → has all i ≡ false → (held_at x (seat_at s i) ≡ 0) × (loads_at x (seat_at s i) ≡ 0)
+  pub gone : (i : ℕ) → has all i ≡ true → (seat_at s i ≡ None) ⊎ (has ms i ≡ true)
+
+cases_bool : (b : Bool) → (b ≡ true) ⊎ (b ≡ false)
+cases_bool true = inl refl
+cases_bool false = inr refl
+
+done : (all : List ℕ) (gs : List (ℕ × List (Thing × ℕ))) (s : Actors) (d e : Thing → ℕ) → Under all [] gs s d e → BalancedWith none (owed gs) s
+done all gs s d e u x = ⊎_elim
+    (λ ins.
+    let n = none_at (owner_of x) ins in
+    let h = sum-zero (held_at x) s None (λ i. (zero_at x ins i).0) in
+    let l = sum-zero (loads_at x) s None (λ i. (zero_at x ins i).1) in
+    let o = u.inside x ins in
+    rw n (omega (arith, own_at-none x, incs_at-none x, decs_at-none x)))
+    (λ out. let o = u.outside x out in let b = u.bal x in omega (arith, o.0, o.1))
+    (cases_bool (has all (owner_of x)))
+  where
+    none_at : (i : ℕ) → has all i ≡ true → seat_at s i ≡ None
+    none_at i h = ⊎_elim (λ e. e) (λ no. cc) (u.gone i h)
+
+    zero_at : (x : Thing) → has all (owner_of x) ≡ true → (i : ℕ) → (held_at x (seat_at s i) ≡ 0) × (loads_at x (seat_at s i) ≡ 0)
+    zero_at x ins i = ⊎_elim
+        (λ h. let n = none_at i h in rw n (held_at-none x, loads_at-none x))
+        (λ out. u.clean x i ins out)
+        (cases_bool (has all i))
+
+one_more : (all ms : List ℕ) (m : ℕ) (gs : List (ℕ × List (Thing × ℕ))) (s : Actors) (d e : Thing → ℕ) → has all m ≡ true → Ready all s m → Under all (m ∷ ms) gs s d e
+    → Under all ms (gs ++ by_owner (held_outside all (seat_at s m))) (set s m None) (λ x. lost m (seat_at s m) x + d x) (λ x. kept m (seat_at s m) x + e x)
+one_more all ms m gs s d e member r u = record {
+  bal = remove_one s m d e r.within u.bal;
+  prefix = remove_prefix s m r.within u.prefix;
+  firm = firm_append gs _ u.firm (firm_groups _ r.firm);
+  outside = λ x out.
+      let o = u.outside x out in
+      let not : owner_of x ≢ m = λ same. (let z = ap (has all) same in cc) in
+      let a = cond_ne (owner_of x) m (own_at x (seat_at s m) + incs_at x (seat_at s m)) 0 not in
+      let b = cond_ne (owner_of x) m (decs_at x (seat_at s m)) 0 not in
+      let w = owed-append gs (by_owner (held_outside all (seat_at s m))) x in
+      let v = owed_back all (seat_at s m) x out in
+      let q = r.quiet x in
+      (omega (arith, o.0), omega (arith, o.1));
+  inside = λ x ins.
+      let w = owed-append gs (by_owner (held_outside all (seat_at s m))) x in
+      let v = owed_in all (seat_at s m) x ins in
+      let i = u.inside x ins in omega arith;
+  clean = λ x i ins out.
+      let not : i ≢ m = λ same. (let z = ap (has all) same in cc) in
+      rw (at_other s m (seat_at s m) None r.within refl i not) (u.clean x i ins out);
+  gone = λ i ins. gone_more i (cases_eq i m) (u.gone i ins);
+}
+  where
+    gone_more : (i : ℕ) → (i ≡ m) ⊎ (i ≢ m) → (seat_at s i ≡ None) ⊎ (has (m ∷ ms) i ≡ true) → (seat_at (set s m None) i ≡ None) ⊎ (has ms i ≡ true)
+    gone_more i (inl same) q = inl (at_same s m (seat_at s m) None r.within refl i same)
+    gone_more i (inr other) (inl n) = inl (at_other s m (seat_at s m) None r.within refl i other ∙ n)
+    gone_more i (inr other) (inr q) = inr (rw (ne_eqb m i (λ e. other (sym e))) at q)
+
+abbrev pub AllIn : List ℕ → List ℕ → Type 0
+AllIn all [] = Unit {0}
+AllIn all (m ∷ ms) = (has all m ≡ true) × AllIn all ms
+
+pub reap_keeps : (all ms : List ℕ) (gs : List (ℕ × List (Thing × ℕ))) (s : Actors) (d e : Thing → ℕ) → AllIn all ms → AllReady all ms s → Under all ms gs s d e
+    → Balanced (reaped all ms gs s) × NeverOverdraws (reaped all ms gs s)
+unfolding reaped
+reap_keeps all [] gs s d e ins ready u = decs_keep gs s u.firm (done all gs s d e u) u.prefix
+reap_keeps all (m ∷ ms) gs s d e ins ready u = reap_keeps all ms _ (set s m None) _ _ ins.1
+    (all_ready_later all s m ms ready.0.within ready.1)
+    (one_more all ms m gs s d e ins.0 ready.0 u)

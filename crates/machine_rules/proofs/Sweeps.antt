@@ -1,0 +1,123 @@
+-- Collecting keeps the balance and the prefixes: what is swept from the table goes back in Decs.
+use Rattle.std.proofs.Common.{◌≡◌, ◌≢◌, ◌⊎◌, ℕ, zero, suc, ◌+◌, ◌-◌, ◌<◌, ◌≤◌, ◌==◌, ◌&&◌, ◌||◌, not, cond, Bool, true, false, T, Option, Some, None, List, [], ◌∷◌, ◌++◌, map, length, set, refl, sym, ◌∙◌, ap, arith, subst, inl, inr, ⊎_elim, eq-eqb, ne_eqb}
+use Rattle.std.proofs.lemmas.Bool.{cases_eq}
+use Rattle.std.specs.List.{filter}
+use Rattle.std.specs.FinMap as m
+use Rattle.std.specs.FinMap.Entries.{below_all}
+use Rattle.std.specs.Ordering.{nat_cmp, eq_by_cmp, is_lt}
+use Rattle.std.specs.declared.cmp.Ordering.{Ordering}
+use Rattle.std.specs.declared.cmp.Ordering.TheVariants.{Less, Equal, Greater}
+use Rattle.std.proofs.lemmas.Cmp.{nat_cmp_total, tied_itself}
+use Rattle.orca_names.proofs.ThingOrder.{cases_thing, thing_total, thing_exact, is_self, is_eq_true, is_ne_false}
+use Rattle.letter_kinds.proofs.Counts.{amount-nil, amount-same, amount-other, cond_eq, cond_ne}
+use Rattle.machine_rules.proofs.Posting.{push_balanced}
+use Rattle.machine_rules.proofs.SeatReads.{letter_Dec}
+use Rattle.machine_rules.proofs.Sweeping.{own-sweep, held-sweep, amount-given_back}
+use Rattle.machine_rules.proofs.Sends.{cell_balanced, cell_prefix, cell_there, present_owner, push_prefix, cond_zero}
+use Rattle.letter_kinds.specs.Counting.{sweep, given_back, join_owner, by_owner}
+use Rattle.letter_kinds.specs.Holdings.{Holdings, Row, own_in, held_in, has_own, row_count, entry_count}
+use Rattle.letter_kinds.specs.Sums.{amount_of, inc_of, dec_of, load_count}
+use Rattle.letter_kinds.specs.declared.letter.Letter.{Letter}
+use Rattle.letter_kinds.specs.declared.letter.Letter.TheVariants.{App, Inc, Dec, Confirm}
+use Rattle.machine_rules.proofs.InHand.{BalancedWith, credit, debit, none, AllCounted}
+use Rattle.machine_rules.proofs.Seats.{IsPresent}
+use Rattle.machine_rules.specs.Actors.{Seat, Actors, seat_at, push_letter, push_decs, seat}
+use Rattle.machine_rules.specs.Balance.{own_at, incs_at, decs_at, held_at, loads_at, held_sum, load_sum, owner_seat, IsCovered, IsCoveredAt, NeverOverdraws}
+use Rattle.machine_rules.proofs.InHand.{Balanced}
+use Rattle.machine_rules.specs.Cell.{Cell}
+use Rattle.machine_rules.specs.Collect.{collected}
+use Rattle.orca_names.specs.Names.{owner_of, is_thing, thing_cmp}
+use Rattle.orca_names.specs.declared.names.Thing.{Thing}
+use Rattle.orca_names.specs.declared.names.Thing.TheVariants.{Actor, Obj}
+use Rattle.orca_names.specs.declared.names.Value.{Value}
+use Rattle.std.specs.Prelude.{sum_by}
+
+-- what the letters to all owners owe
+unfoldable pub owed : List (ℕ × List (Thing × ℕ)) → Thing → ℕ
+owed [] x = 0
+owed (g ∷ gs) x = debit g.0 (Dec g.1) x + owed gs x
+
+pub debit_Dec : (b : ℕ) (es : List (Thing × ℕ)) (x : Thing) → debit b (Dec es) x ≡ cond (owner_of x == b) (amount_of x es) 0
+debit_Dec b es x = let l = letter_Dec x es in rw (l.1, l.2) (omega arith)
+
+debit_one : (b : ℕ) (e : Thing × ℕ) (es : List (Thing × ℕ)) (x : Thing) → owner_of e.0 ≡ b → debit b (Dec (e ∷ es)) x ≡ cond (is_thing x e.0) e.1 0 + debit b (Dec es) x
+debit_one b e es x o =
+    rw (debit_Dec b (e ∷ es) x, debit_Dec b es x) (⊎_elim
+    (λ same. rw (is_eq_true x e.0 same, cond_eq (owner_of x) b (amount_of x (e ∷ es)) 0 (ap owner_of same ∙ o), cond_eq (owner_of x) b (amount_of x es) 0 (ap owner_of same ∙ o)) (amount-same x e es same))
+    (λ other. rw (is_ne_false x e.0 other, amount-other x e es other) (omega arith))
+    (cases_thing x e.0))
+
+debit_none : (b : ℕ) (x : Thing) → debit b (Dec []) x ≡ 0
+debit_none b x = debit_Dec b [] x ∙ cond_zero (owner_of x == b) (amount_of x []) (amount-nil x)
+
+owed-join : (e : Thing × ℕ) (gs : List (ℕ × List (Thing × ℕ))) (x : Thing) → owed (join_owner e gs) x ≡ cond (is_thing x e.0) e.1 0 + owed gs x
+unfolding owed
+owed-join e [] x = omega (arith, debit_one (owner_of e.0) e [] x refl, debit_none (owner_of e.0) x)
+owed-join e (g ∷ gs) x = ⊎_elim
+    (λ same. rw (eq-eqb (owner_of e.0) g.0 same) (omega (arith, debit_one g.0 e g.1 x same)))
+    (λ other. rw (ne_eqb (owner_of e.0) g.0 other) (omega (arith, debit_one (owner_of e.0) e [] x refl, debit_none (owner_of e.0) x)))
+    (cases_eq (owner_of e.0) g.0)
+
+pub owed-groups : (es : List (Thing × ℕ)) (x : Thing) → owed (by_owner es) x ≡ amount_of x es
+unfolding by_owner owed
+owed-groups [] x = sym (amount-nil x)
+owed-groups (e ∷ es) x = owed-join e (by_owner es) x ∙ ⊎_elim
+    (λ same. rw (is_eq_true x e.0 same) (let u = amount-same x e es same in let r = owed-groups es x in omega arith))
+    (λ other. rw (is_ne_false x e.0 other) (let u = amount-other x e es other in let r = owed-groups es x in omega arith))
+    (cases_thing x e.0)
+
+-- each group is of something, of its owner, that is counted
+abbrev pub Firm : List (ℕ × List (Thing × ℕ)) → Type 0
+Firm [] = Unit {0}
+Firm (g ∷ gs) = ((x : Thing) × (owner_of x ≡ g.0) × (0 < amount_of x g.1)) × Firm gs
+
+firm_join : (e : Thing × ℕ) (gs : List (ℕ × List (Thing × ℕ))) → 0 < e.1 → Firm gs → Firm (join_owner e gs)
+firm_join e [] h f = ((e.0, refl, (let u = amount-same e.0 e [] refl in omega arith)), tt)
+firm_join e (g ∷ gs) h f = ⊎_elim
+    (λ same. rw (eq-eqb (owner_of e.0) g.0 same) ((e.0, same, (let u = amount-same e.0 e g.1 refl in omega arith)), f.1))
+    (λ other. rw (ne_eqb (owner_of e.0) g.0 other) ((e.0, refl, (let u = amount-same e.0 e [] refl in omega arith)), f))
+    (cases_eq (owner_of e.0) g.0)
+
+pub firm_groups : (es : List (Thing × ℕ)) → AllCounted es → Firm (by_owner es)
+unfolding by_owner
+firm_groups [] h = tt
+firm_groups (e ∷ es) h = firm_join e (by_owner es) h.0 (firm_groups es h.1)
+
+-- pushing them all
+group_present : (g : ℕ × List (Thing × ℕ)) (gs : List (ℕ × List (Thing × ℕ))) (s : Actors) → Firm (g ∷ gs) → BalancedWith none (owed (g ∷ gs)) s → IsPresent s g.0
+unfolding owed
+group_present g gs s f bal =
+    let x = f.0.0 in
+    let z = bal x in
+    let d = debit_Dec g.0 g.1 x ∙ cond_eq (owner_of x) g.0 (amount_of x g.1) 0 f.0.1 in
+    subst (IsPresent s) f.0.1 (present_owner x s (omega (arith, f.0.2)))
+
+pub decs_keep : (gs : List (ℕ × List (Thing × ℕ))) (s : Actors) → Firm gs → BalancedWith none (owed gs) s → NeverOverdraws s → Balanced (push_decs gs s) × NeverOverdraws (push_decs gs s)
+unfolding push_decs owed
+decs_keep [] s f bal p = (bal, p)
+decs_keep (g ∷ gs) s f bal p =
+    let there = group_present g gs s f bal in
+    let next : BalancedWith none (owed gs) (push_letter g.0 (Dec g.1) s) = push_balanced s g.0 (Dec g.1) none (owed gs) there
+    (λ x. let z = bal x in let c = cond_zero (owner_of x == g.0) (inc_of x (Dec g.1)) (letter_Dec x g.1).0 in omega arith) in
+    decs_keep gs (push_letter g.0 (Dec g.1) s) f.1 next
+    (push_prefix s g.0 (Dec g.1) (owed gs) there.0 there.1 next (λ x is some. absurd (let l = (letter_Dec x g.1).0 in omega arith)) p)
+
+-- a collection
+module _ (marked : Thing → Bool) (s : Actors) (a : ℕ) (c : Cell) (mail : List Letter) (at : seat_at s a ≡ seat c mail) (counted : AllCounted (given_back marked c.holdings)) where
+  abbrev after : Cell
+  after = record c { holdings = sweep marked a c.holdings; dirty = false }
+
+  pub collect_keeps : Balanced s → NeverOverdraws s → Balanced (collected marked a c mail s) × NeverOverdraws (collected marked a c mail s)
+  collect_keeps bal p = decs_keep (by_owner (given_back marked c.holdings)) (set s a (seat after mail)) (firm_groups _ counted)
+      (cell_balanced s a c after mail at none none none (owed (by_owner (given_back marked c.holdings)))
+      (λ x is. let o = own-sweep marked a c.holdings x in let e = gone x in omega arith)
+      (λ x not. let e = gone x in omega arith)
+      bal)
+      (cell_prefix s a c after mail at (λ x is. let o = own-sweep marked a c.holdings x in omega arith) p)
+    where
+      parts : (b : Bool) (n : ℕ) → cond b n 0 + cond b 0 n ≡ n
+      parts true n = omega arith
+      parts false n = omega arith
+
+      gone : (x : Thing) → held_in (sweep marked a c.holdings) x + owed (by_owner (given_back marked c.holdings)) x ≡ held_in c.holdings x
+      gone x = rw (held-sweep marked a c.holdings x, owed-groups (given_back marked c.holdings) x, amount-given_back marked c.holdings x) (parts (marked x) (held_in c.holdings x))
