@@ -14,6 +14,7 @@ pub mod InvTake
 pub mod InvTurn
 pub mod Lacking
 pub mod Living
+pub mod Loads
 pub mod Makes
 pub mod Minting
 pub mod Naming
