@@ -7,10 +7,14 @@ pub mod Global
 pub mod Going
 pub mod InHand
 pub mod InvCollect
+pub mod InvMake
+pub mod InvPost
 pub mod InvReap
 pub mod InvTake
+pub mod InvTurn
 pub mod Lacking
 pub mod Living
+pub mod Loads
 pub mod Makes
 pub mod Minting
 pub mod Naming
