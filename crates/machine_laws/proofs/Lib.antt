@@ -2,6 +2,7 @@ pub mod Balancing
 pub mod Blocking
 pub mod Collecting
 pub mod Going
+pub mod Growing
 pub mod HeldActors
 pub mod Moving
 pub mod OwnThings
