@@ -11,4 +11,5 @@ pub mod Reaping
 pub mod Scanning
 pub mod Sealing
 pub mod Seen
+pub mod Stepping
 pub mod Taking
