@@ -4,6 +4,7 @@ pub mod Collecting
 pub mod Going
 pub mod Growing
 pub mod HeldActors
+pub mod Keeping
 pub mod Moving
 pub mod OwnThings
 pub mod Parting
