@@ -12,5 +12,6 @@ pub mod Reaping
 pub mod Scanning
 pub mod Sealing
 pub mod Seen
+pub mod Starting
 pub mod Stepping
 pub mod Taking
