@@ -8,6 +8,7 @@ pub mod Keeping
 pub mod Moving
 pub mod OwnThings
 pub mod Parting
+pub mod Quieting
 pub mod Reaping
 pub mod Scanning
 pub mod Sealing
