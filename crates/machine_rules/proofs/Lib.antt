@@ -21,6 +21,7 @@ pub mod Naming
 pub mod Paths
 pub mod PlainGrowth
 pub mod PlainRuns
+pub mod PlainSide
 pub mod Posting
 pub mod Reaps
 pub mod Receiving
@@ -30,6 +31,7 @@ pub mod Seats
 pub mod Segments
 pub mod Sending
 pub mod Sends
+pub mod Slices
 pub mod Sweeping
 pub mod Sweeps
 pub mod Takes
