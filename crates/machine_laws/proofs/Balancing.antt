@@ -1,22 +1,22 @@
 -- The counts balance for the detector's laws where they balance for all things.
-use Rattle.std.proofs.Common.{◌≡◌, ◌≢◌, ◌⊎◌, ℕ, zero, suc, ◌+◌, ◌<◌, ◌≤◌, Bool, true, false, Option, Some, None, List, [], ◌∷◌, length, get_or, refl, ap, sym, subst, ◌∙◌, arith, inl, inr, ⊎_elim}
+use Rattle.std.proofs.Common.{◌≡◌, ℕ, zero, suc, ◌+◌, ◌<◌, true, false, Option, Some, None, List, [], ◌∷◌, length, get_or, refl, ap, sym, ◌∙◌, arith, ⊎_elim}
 use Rattle.std.proofs.lemmas.Bool.{cases_lt, false≢true}
 use Rattle.std.proofs.lemmas.List.{get_or_past}
 use Rattle.detector_laws.specs.Balance.{ActorsAreBalanced, sum_below}
-use Rattle.detector_laws.specs.World.{World, OnlyConfirms}
+use Rattle.detector_laws.specs.World.{OnlyConfirms}
 use Rattle.letter_kinds.proofs.Sums.{sum-nil}
 use Rattle.letter_kinds.specs.Detector.{Detector}
-use Rattle.letter_kinds.specs.Holdings.{own_in, held_in}
+use Rattle.letter_kinds.specs.Holdings.{own_in}
 use Rattle.letter_kinds.specs.Sums.{inc_of, dec_of}
 use Rattle.letter_kinds.specs.declared.letter.Letter.{Letter}
 use Rattle.letter_kinds.specs.declared.letter.Letter.TheVariants.{App, Inc, Dec, Confirm}
 use Rattle.letter_kinds.specs.declared.note.Note.{Note}
 use Rattle.machine_laws.proofs.OwnThings.{HoldsNoOwn}
 use Rattle.machine_rules.specs.Facts.{Every}
-use Rattle.machine_laws.proofs.Seen.{kind_of, kinds, cell_of, letters_of, mail_at, world_of}
+use Rattle.machine_laws.proofs.Seen.{kinds, cell_of, letters_of, world_of}
 use Rattle.machine_rules.proofs.SeatReads.{letter_Confirm}
 use Rattle.machine_rules.specs.Actors.{Seat, Actors, seat_at, seat}
-use Rattle.machine_rules.specs.Balance.{held_at, own_at, incs_at, decs_at, held_sum, load_sum, IsBalanced}
+use Rattle.machine_rules.specs.Balance.{held_at, own_at, incs_at, decs_at, IsBalanced}
 use Rattle.machine_rules.specs.Cell.{Cell}
 use Rattle.orca_names.specs.declared.names.Thing.{Thing}
 use Rattle.orca_names.specs.declared.names.Thing.TheVariants.{Actor}

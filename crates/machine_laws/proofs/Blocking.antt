@@ -1,16 +1,16 @@
 -- A block, as the detector's laws see it; it keeps all that is kept of the counts.
-use Rattle.std.proofs.Common.{◌≡◌, ◌≢◌, ℕ, ◌<◌, ◌≤◌, ◌==◌, not, ◌&&◌, ◌||◌, Bool, true, false, is_none, is_some, Option, Some, None, List, [], ◌∷◌, ◌++◌, length, set, refl, ap, sym, subst, ◌∙◌, arith, ⊎_elim, get_or-set_same, get_or-set_other, length-set, eq-eqb, ne_eqb}
+use Rattle.std.proofs.Common.{◌≡◌, ◌≢◌, ℕ, ◌<◌, not, ◌&&◌, ◌||◌, true, false, is_none, is_some, Option, Some, None, List, [], ◌∷◌, ◌++◌, length, set, refl, ap, sym, ◌∙◌, arith, ⊎_elim, get_or-set_same, get_or-set_other, length-set, eq-eqb, ne_eqb}
 use Rattle.std.proofs.lemmas.Bool.{and_parts, cases_eq, not-true, or_parts}
 use mathlib.Core.Path.{fun_ext}
 use Rattle.orca_names.specs.declared.names.Thing.{Thing}
-use Rattle.orca_names.specs.declared.names.Thing.TheVariants.{Actor, Obj}
+use Rattle.orca_names.specs.declared.names.Thing.TheVariants.{Actor}
 use Rattle.turn_rules.specs.declared.act.Frame.{Frame}
 use Rattle.letter_kinds.specs.declared.letter.Letter.{Letter}
 use Rattle.letter_kinds.specs.declared.note.Note.{Note}
 use Rattle.letter_kinds.specs.declared.note.Note.TheVariants.{Block}
 use Rattle.letter_kinds.specs.declared.note.Report.{Report}
 use Rattle.letter_kinds.specs.Detector.{Detector}
-use Rattle.letter_kinds.specs.Holdings.{Holdings, Row, held_in}
+use Rattle.letter_kinds.specs.Holdings.{Holdings, Row}
 use Rattle.letter_kinds.specs.Reports.{report_told}
 use Rattle.detector_laws.specs.Events.{CanBlock}
 use Rattle.detector_laws.specs.World as view
@@ -29,7 +29,7 @@ use Rattle.machine_rules.specs.Balance.{load_sum}
 use Rattle.machine_rules.specs.Block.{held_actors, may_block, no_letters}
 use Rattle.machine_rules.specs.Cell.{Cell}
 use Rattle.machine_rules.specs.Facts.{IsFirmAt, IsPastRows, KeepsCounts}
-use Rattle.machine_rules.specs.Known.{IsClosedAt, IsSoundAt}
+use Rattle.machine_rules.specs.Known.{IsSoundAt}
 
 -- the actor has its report out
 abbrev pub reporting : Cell → Cell
@@ -112,12 +112,12 @@ module _ (s : Actors) (a : ℕ) (c : Cell) (ls : List Letter) (at : seat_at s a 
       let s1 = set s a (seat (reporting c) ls) in
       let made : length s1 ≡ length s = length-set s a (seat (reporting c) ls) in
       let cell : (λ b. cell_of (seat_at s1 b)) ≡ view.at (λ b. cell_of (seat_at s b)) a (record (cell_of (seat_at s a)) { reported = true }) = fun_ext (λ b. ⊎_elim
-          (λ same. rw (eq-eqb b a same, same) (ap cell_of mine ∙ ap (λ (o : Option Seat). record (cell_of o) { reported = true }) (sym at)))
-          (λ other. rw (ne_eqb b a other) (ap cell_of (there b other)))
-          (cases_eq b a)) in
+      (λ same. rw (eq-eqb b a same, same) (ap cell_of mine ∙ ap (λ (o : Option Seat). record (cell_of o) { reported = true }) (sym at)))
+      (λ other. rw (ne_eqb b a other) (ap cell_of (there b other)))
+      (cases_eq b a)) in
       let mail : (λ b. mail_at s1 b) ≡ (λ b. mail_at s b) = fun_ext (λ b. ⊎_elim
-          (λ same. rw same (ap (λ o. kinds (letters_of o)) mine ∙ sym (ap (λ o. kinds (letters_of o)) at)))
-          (λ other. ap (λ o. kinds (letters_of o)) (there b other))
-          (cases_eq b a)) in
+      (λ same. rw same (ap (λ o. kinds (letters_of o)) mine ∙ sym (ap (λ o. kinds (letters_of o)) at)))
+      (λ other. ap (λ o. kinds (letters_of o)) (there b other))
+      (cases_eq b a)) in
       let loaded : (λ x. load_sum (Actor x) s1) ≡ (λ x. load_sum (Actor x) s) = fun_ext (λ x. same_loads s a c (reporting c) ls at (Actor x)) in
       λ i. record { made = made i; cell = cell i; mail = mail i; loaded = loaded i; detector = d; notes = ns ++ Block a c.holdings.count (held_actors c.holdings) ∷ [] }

@@ -1,25 +1,21 @@
 -- A collect, as the detector's laws see it.
-use Rattle.std.proofs.Common.{◌≡◌, ◌≢◌, ◌⊎◌, ℕ, zero, suc, ◌+◌, ◌<◌, ◌≤◌, Bool, true, false, cond, ◌==◌, eq-eqb, Option, Some, None, List, [], ◌∷◌, ◌++◌, set, refl, ap, sym, subst, ◌∙◌, arith, inl, inr, ⊎_elim, get_or-set_other}
+use Rattle.std.proofs.Common.{◌≡◌, ◌≢◌, ℕ, ◌<◌, ◌≤◌, Bool, true, false, cond, ◌==◌, eq-eqb, Option, None, List, [], ◌∷◌, set, refl, ap, sym, subst, ◌∙◌, arith, inl, inr, ⊎_elim, get_or-set_other}
 use Rattle.machine_laws.proofs.Moving.{Adds, adds_none, adds_then, adds_push, push_other, push_loads, moves}
-use Rattle.detector_laws.specs.World as view
-use Rattle.detector_laws.specs.World.{LetterKind, Other}
 use Rattle.detector_laws.specs.Events.{Moves}
-use Rattle.detector_laws.specs.World.{World}
 use Rattle.letter_kinds.specs.Counting.{sweep, given_back, by_owner}
 use Rattle.letter_kinds.specs.Detector.{Detector}
 use Rattle.letter_kinds.specs.Holdings.{Row, held_in}
-use Rattle.letter_kinds.specs.Sums.{amount_of, load_count}
+use Rattle.letter_kinds.specs.Sums.{amount_of}
 use Rattle.letter_kinds.specs.declared.letter.Letter.{Letter}
 use Rattle.letter_kinds.specs.declared.letter.Letter.TheVariants.{Dec}
 use Rattle.letter_kinds.specs.declared.note.Note.{Note}
-use Rattle.machine_laws.proofs.Seen.{mail_at, world_of, noted, letters_of, kinds}
-use Rattle.machine_rules.proofs.InHand.{debit}
+use Rattle.machine_laws.proofs.Seen.{world_of, noted, letters_of, kinds}
 use Rattle.machine_rules.proofs.SeatReads.{letter_Dec, loads_at-seat}
 use Rattle.machine_rules.proofs.Seats.{present_below, load_sum-set}
 use Rattle.machine_rules.proofs.Sweeping.{amount-given_back, firm_counted, held-sweep}
 use Rattle.machine_rules.specs.Facts.{IsFirm}
 use Rattle.machine_rules.proofs.Sweeps.{owed, owed-groups, Firm, firm_groups, debit_Dec}
-use Rattle.machine_rules.specs.Actors.{Seat, Actors, seat_at, push_letter, push_decs, seat}
+use Rattle.machine_rules.specs.Actors.{Actors, seat_at, push_letter, push_decs, seat}
 use Rattle.machine_rules.specs.Balance.{load_sum}
 use Rattle.machine_rules.specs.Cell.{Cell}
 use Rattle.machine_rules.specs.Collect.{collected}
@@ -28,7 +24,6 @@ use Rattle.orca_names.specs.Names.{owner_of}
 use Rattle.orca_names.specs.declared.names.Thing.{Thing}
 use Rattle.orca_names.specs.declared.names.Thing.TheVariants.{Actor, Obj}
 use Rattle.reach_walk.specs.Reach.{owned, root}
-use Rattle.std.specs.Prelude.{sum_by}
 
 -- who holds a thing of another holds that other
 pub owner_held : (all : Thing → Option Row) (a : ℕ) (c : Cell) → IsClosedAt all a c → (x : Thing) → 0 < held_in c.holdings x → owner_of x ≢ a → 0 < held_in c.holdings (Actor (owner_of x))
@@ -78,16 +73,18 @@ collect_moves marked all s d ns a c ls at dirty awake firm closed =
     let gs = by_owner (given_back marked c.holdings) in
     let s1 = set s a (seat (swept marked a c) ls) in
     moves s (push_decs gs s1) d ns a c (swept marked a c) ls ls at (decs_adds gs s1) [] refl awake (inr (inl dirty))
-        (λ b n h. ap (λ o. kinds (letters_of o)) (decs_quiet b gs s1 (not_to b gs (firm_groups _ (firm_counted marked c.holdings firm)) (λ x o p. unowed b n h x o (omega (arith, owed-groups (given_back marked c.holdings) x)))) ∙ get_or-set_other s a b (seat (swept marked a c) ls) None n))
-        (λ b n h u. omega (arith, u, decs_loads (Actor b) gs s1, same_loads s a c (swept marked a c) ls at (Actor b)))
-        (λ b n h u. held-sweep marked a c.holdings (Actor b) ∙ none (marked (Actor b)) (held_in c.holdings (Actor b)) h)
+    (λ b n h. ap (λ o. kinds (letters_of o)) (decs_quiet b gs s1 (not_to b gs (firm_groups _ (firm_counted marked c.holdings firm)) (λ x o p. unowed b n h x o (omega (arith, owed-groups (given_back marked c.holdings) x)))) ∙ get_or-set_other s a b (seat (swept marked a c) ls) None n))
+    (λ b n h u. omega (arith, u, decs_loads (Actor b) gs s1, same_loads s a c (swept marked a c) ls at (Actor b)))
+    (λ b n h u. held-sweep marked a c.holdings (Actor b) ∙ none (marked (Actor b)) (held_in c.holdings (Actor b)) h)
   where
     none : (q : Bool) (n : ℕ) → n ≡ 0 → cond q n 0 ≡ 0
     none true n h = h
     none false n h = refl
+
     some : (q : Bool) (n : ℕ) → 0 < cond q 0 n → 0 < n
     some true n h = absurd (omega arith)
     some false n h = h
+
     unowed : (b : ℕ) → b ≢ a → held_in c.holdings (Actor b) ≡ 0 → (x : Thing) → owner_of x ≡ b → 0 < amount_of x (given_back marked c.holdings) → ⊥
     unowed b n h x o p =
         let held = some (marked x) (held_in c.holdings x) (subst (λ (k : ℕ). 0 < k) (amount-given_back marked c.holdings x) p) in

@@ -1,11 +1,8 @@
 -- Each event keeps what holds of the detector; those that the plain machine does not do keep what is kept of the counts.
-use Rattle.std.proofs.Common.{◌≡◌, ℕ, Bool, true, false, Option, Some, None, List, [], ◌∷◌, refl, sym, subst}
+use Rattle.std.proofs.Common.{◌≡◌, ℕ, Bool, true, false, Option, Some, None, List, [], ◌∷◌, refl, subst}
 use Rattle.orca_names.specs.declared.names.Thing.{Thing}
-use Rattle.orca_names.specs.declared.names.Thing.TheVariants.{Actor}
-use Rattle.orca_names.specs.declared.names.Value.{Value}
 use Rattle.event_rule.specs.declared.event.Event.{Event}
 use Rattle.event_rule.specs.declared.event.Event.TheVariants.{Block, Hear, Scan, Reap}
-use Rattle.behaviour_code.specs.declared.code.Program.{Program}
 use Rattle.letter_kinds.specs.declared.letter.Letter.{Letter}
 use Rattle.letter_kinds.specs.declared.note.Note.{Note}
 use Rattle.letter_kinds.specs.Detector.{Token, all_acked, closed_set, token_numbered}
@@ -31,7 +28,7 @@ use Rattle.machine_rules.specs.Cell.{Cell}
 use Rattle.machine_rules.specs.Detect.{hear_in, reap_found, reap_in, scan_in}
 use Rattle.machine_rules.specs.Facts.{Every, KeepsCounts}
 use Rattle.machine_rules.specs.Next.{next}
-use Rattle.machine_rules.specs.State.{State, Step, NotEnabled, Goes}
+use Rattle.machine_rules.specs.State.{State, Goes}
 
 -- the counts are kept beside the same persons and rows, and the rest that the plain machine sees stays
 pub record KeepsBeside (all : Thing → Option Row) (people : List Person) (s t : State) : Type 0 where

@@ -1,9 +1,8 @@
 -- No event gives an actor a count on a thing of its own.
-use Rattle.std.proofs.Common.{◌≡◌, ◌≢◌, ℕ, suc, ◌+◌, ◌<◌, nat_lt, Bool, true, false, if◌then◌else◌, Option, Some, None, List, [], ◌∷◌, ◌++◌, length, set, refl, ap, sym, subst, ◌∙◌, arith, length-set}
+use Rattle.std.proofs.Common.{◌≡◌, ℕ, suc, ◌<◌, nat_lt, Bool, true, false, if◌then◌else◌, Option, Some, None, List, [], ◌∷◌, length, set, refl, subst, ◌∙◌}
 use Rattle.std.specs.FinMap as m
 use Rattle.std.specs.Ordering.{nat_cmp}
 use Rattle.orca_names.specs.Names.{owner_of, thing_cmp}
-use Rattle.orca_names.specs.declared.names.Thing.{Thing}
 use Rattle.orca_names.specs.declared.names.Thing.TheVariants as things
 use Rattle.orca_names.specs.declared.names.Value.{Value}
 use Rattle.event_rule.specs.declared.event.Event.{Event}
@@ -13,11 +12,10 @@ use Rattle.turn_rules.specs.declared.act.Act.{Act}
 use Rattle.turn_rules.specs.declared.act.Act.TheVariants.{Post, New, Print, End}
 use Rattle.turn_rules.specs.declared.act.Frame.{Frame}
 use Rattle.letter_kinds.specs.declared.letter.Letter.{Letter}
-use Rattle.letter_kinds.specs.declared.letter.Letter.TheVariants.{App, Inc, Dec, Confirm}
+use Rattle.letter_kinds.specs.declared.letter.Letter.TheVariants.{App, Inc, Confirm}
 use Rattle.letter_kinds.specs.declared.note.Note.{Note}
-use Rattle.letter_kinds.specs.Counting.{Amount, Loaded, by_owner, gain, given_back, lacking, mint_all, send, sweep, to_mint}
+use Rattle.letter_kinds.specs.Counting.{Loaded, by_owner, gain, given_back, lacking, mint_all, send, sweep, to_mint}
 use Rattle.letter_kinds.specs.Detector.{Token, all_acked, closed_set, token_numbered}
-use Rattle.letter_kinds.specs.Holdings.{held_in}
 use Rattle.machine_laws.proofs.OwnThings.{HoldsNoOwn, mints_no_own, none_gained, none_made, none_minted, none_sent, none_swept}
 use Rattle.machine_rules.proofs.Every.{every_decs, every_more, every_push, every_set}
 use Rattle.machine_rules.proofs.InvReap.{every_reap}
@@ -27,13 +25,13 @@ use Rattle.machine_rules.proofs.Takes.{held-taken_own}
 use Rattle.machine_rules.specs.Actors.{Actors, Seat, push_letter, seat, seat_at}
 use Rattle.machine_rules.specs.Block.{block_at, block_in, may_block}
 use Rattle.machine_rules.specs.Cell.{Cell, fresh_cell}
-use Rattle.machine_rules.specs.Collect.{collect_at, collect_in, collected, is_marked}
-use Rattle.machine_rules.specs.Detect.{ask_all, hear_in, reap_found, reap_in, reaped, scan_in}
+use Rattle.machine_rules.specs.Collect.{collect_at, collect_in, is_marked}
+use Rattle.machine_rules.specs.Detect.{ask_all, hear_in, reap_found, reap_in, scan_in}
 use Rattle.machine_rules.specs.Facts.{Every}
-use Rattle.machine_rules.specs.Go.{act_in, go_at, go_in, load_from, make, mint, post, post_or_mint, turn_of_cell, turned}
+use Rattle.machine_rules.specs.Go.{act_in, go_at, go_in, load_from, make, post_or_mint, turn_of_cell, turned}
 use Rattle.machine_rules.specs.Next.{next}
 use Rattle.machine_rules.specs.Plain.{stopped_at, with_name}
-use Rattle.machine_rules.specs.State.{State, Step, NotEnabled, IsFull, Goes}
+use Rattle.machine_rules.specs.State.{State, NotEnabled, IsFull, Goes}
 use Rattle.machine_rules.specs.Take.{cell_after, take_at, take_in}
 
 -- ---- what a step leads to
@@ -83,7 +81,7 @@ module _ (s t : State) (own : NoOwn s.actors) where
   collects a c None true ls at e =
       let marked = is_marked a c in
       arrived _ e (every_decs HoldsNoOwn (λ es i k ms z. z) (by_owner (given_back marked c.holdings)) _
-          (one_set a c (record c { holdings = sweep marked a c.holdings; dirty = false }) ls ls at (λ x o. none_swept a x o c.holdings (own a c ls at x o) marked)))
+      (one_set a c (record c { holdings = sweep marked a c.holdings; dirty = false }) ls ls at (λ x o. none_swept a x o c.holdings (own a c ls at x o) marked)))
 
   blocks : (a : ℕ) (c : Cell) (ls : List Letter) (q : Bool) → seat_at s.actors a ≡ seat c ls → block_in s a c ls q ≡ Goes t → NoOwn t.actors
   blocks a c ls false at e = absurd (not_enabled t e)
@@ -107,13 +105,13 @@ module _ (s t : State) (own : NoOwn s.actors) where
         let after = turned stop (Some frame) c.dirty c in
         let load = load_from a after.holdings args in
         every_push HoldsNoOwn (App behaviour args load) (λ i k ms z. z) (set s.actors a (seat (record after { holdings = send a load after.holdings }) ls)) to
-            (one_set a c (record after { holdings = send a load after.holdings }) ls ls at (λ x o. none_sent a x o after.holdings (turned_none (Some frame) c.dirty x o) load))
+        (one_set a c (record after { holdings = send a load after.holdings }) ls ls at (λ x o. none_sent a x o after.holdings (turned_none (Some frame) c.dirty x o) load))
     posts to behaviour args (e ∷ es) l =
         let after = turned stop (Some frame) c.dirty c in
         let things = to_mint (owner_of e.0) (e ∷ es) in
         every_push HoldsNoOwn (Inc things) (λ i k ms z. z) (set s.actors a (seat (record c { holdings = mint_all things c.holdings }) ls)) (owner_of e.0)
-            (one_set a c (record c { holdings = mint_all things c.holdings }) ls ls at
-            (λ x o. none_minted a x o c.holdings (own a c ls at x o) things (mints_no_own a after.holdings (load_from a after.holdings args) e es l x o)))
+        (one_set a c (record c { holdings = mint_all things c.holdings }) ls ls at
+        (λ x o. none_minted a x o c.holdings (own a c ls at x o) things (mints_no_own a after.holdings (load_from a after.holdings args) e es l x o)))
 
     makes : (kind into : ℕ) → NoOwn (make a (turned stop (Some (with_name frame into (length s.actors))) c.dirty c) ls (fresh_cell s.program kind) s.actors)
     makes kind into =
@@ -121,7 +119,7 @@ module _ (s t : State) (own : NoOwn s.actors) where
         let after = turned stop (Some (with_name frame into n)) c.dirty c in
         let c2 : Cell = record after { holdings = gain 256 (things.Actor n) None after.holdings } in
         every_more HoldsNoOwn (set s.actors a (seat c2 ls)) (fresh_cell s.program kind) [] (fresh_none s kind _)
-            (one_set a c c2 ls ls at (λ x o. none_gained a x o after.holdings (turned_none (Some (with_name frame into n)) c.dirty x o) n within))
+        (one_set a c c2 ls ls at (λ x o. none_gained a x o after.holdings (turned_none (Some (with_name frame into n)) c.dirty x o) n within))
 
     acts : (act : Act) → act_in s a c ls frame stop act ≡ Goes t → NoOwn t.actors
     acts (Print v) e = arrived _ e (one_set a c (turned stop (Some frame) c.dirty c) ls ls at (turned_none (Some frame) c.dirty))

@@ -1,10 +1,9 @@
 -- Where no event is enabled, the detector's laws see a quiet world, and each actor that is present is reached.
-use Rattle.std.proofs.Common.{◌≡◌, ◌≢◌, ◌⊎◌, ℕ, zero, suc, ◌==◌, nat_lt, not, ◌&&◌, ◌||◌, Bool, true, false, cond, if◌then◌else◌, is_none, is_some, Option, Some, None, List, [], ◌∷◌, find, get_or, length, refl, ap, sym, subst, ◌∙◌, inl, inr, ⊎_elim, arith, eq-eqb}
+use Rattle.std.proofs.Common.{◌≡◌, ◌⊎◌, ℕ, ◌==◌, nat_lt, not, ◌&&◌, ◌||◌, Bool, true, false, cond, if◌then◌else◌, is_none, is_some, Option, Some, None, List, [], ◌∷◌, find, length, refl, ap, sym, subst, ◌∙◌, ⊎_elim, eq-eqb}
 use Rattle.std.specs.Prelude.{sum_by}
 use Rattle.std.proofs.lemmas.Bool.{false≢true}
 use Rattle.orca_names.specs.declared.names.Thing.{Thing}
 use Rattle.orca_names.specs.declared.names.Thing.TheVariants.{Actor}
-use Rattle.orca_names.specs.declared.names.Value.{Value}
 use Rattle.event_rule.specs.declared.event.Event.TheVariants.{Take, Go, Collect, Block, Hear, Scan, Reap}
 use Rattle.turn_rules.specs.Segment.{Stop}
 use Rattle.turn_rules.specs.declared.act.Act.{Act}
@@ -13,7 +12,7 @@ use Rattle.turn_rules.specs.declared.act.Frame.{Frame}
 use Rattle.letter_kinds.proofs.Sums.{sum-nil, sum-zero}
 use Rattle.letter_kinds.specs.declared.letter.Letter.{Letter}
 use Rattle.letter_kinds.specs.declared.note.Note.{Note}
-use Rattle.letter_kinds.specs.Detector.{Detector, Token, all_acked, closed_set, token_numbered}
+use Rattle.letter_kinds.specs.Detector.{Token, all_acked, closed_set, token_numbered}
 use Rattle.letter_kinds.specs.Holdings.{Row}
 use Rattle.letter_kinds.specs.Sums.{load_count}
 use Rattle.detector_laws.proofs.Named.{numbered_is_open}
@@ -23,20 +22,20 @@ use Rattle.detector_laws.specs.Quiet as view
 use Rattle.detector_laws.specs.World.{In}
 use Rattle.machine_laws.proofs.Balancing.{balanced}
 use Rattle.machine_laws.proofs.OwnThings.{HoldsNoOwn}
-use Rattle.machine_laws.proofs.Seen.{cell_of, kinds, letters_of, mail_at, world}
+use Rattle.machine_laws.proofs.Seen.{cell_of, kinds, letters_of, world}
 use Rattle.machine_rules.proofs.SeatReads.{loads_at-none, loads_at-seat}
-use Rattle.machine_rules.specs.Actors.{Actors, Seat, seat, seat_at}
+use Rattle.machine_rules.specs.Actors.{Seat, seat, seat_at}
 use Rattle.machine_rules.specs.Agreement.{Person}
-use Rattle.machine_rules.specs.Balance.{load_sum, loads_at}
+use Rattle.machine_rules.specs.Balance.{loads_at}
 use Rattle.machine_rules.specs.Block.{block_at, block_in, may_block}
 use Rattle.machine_rules.specs.Cell.{Cell}
 use Rattle.machine_rules.specs.Collect.{collect_at, collect_in}
 use Rattle.machine_rules.specs.Detect.{hear_in, reap_found, reap_in, scan_in}
 use Rattle.machine_rules.specs.Facts.{Every, KeepsCounts}
 use Rattle.machine_rules.specs.Go.{act_in, go_at, go_in, turn_of_cell}
-use Rattle.machine_rules.specs.Next.{IsQuiet, next}
+use Rattle.machine_rules.specs.Next.{IsQuiet}
 use Rattle.machine_rules.specs.Plain.{stopped_at}
-use Rattle.machine_rules.specs.State.{State, Step, NotEnabled, IsFull, Goes}
+use Rattle.machine_rules.specs.State.{State, NotEnabled, IsFull, Goes}
 use Rattle.machine_rules.specs.Take.{take_at, take_in}
 
 -- ---- an actor for which no event is enabled

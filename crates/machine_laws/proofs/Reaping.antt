@@ -1,17 +1,15 @@
 -- A reap, as the detector's laws see it.
-use Rattle.std.proofs.Common.{◌≡◌, ◌≢◌, ◌⊎◌, ℕ, zero, suc, ◌+◌, ◌<◌, ◌≤◌, ◌==◌, ◌||◌, Bool, true, false, cond, Option, Some, None, List, [], ◌∷◌, ◌++◌, length, set, refl, ap, sym, subst, ◌∙◌, arith, inl, inr, ⊎_elim, get_or-set_same, get_or-set_other, length-set, eq-eqb, ne_eqb, append-nil}
+use Rattle.std.proofs.Common.{◌≡◌, ℕ, ◌<◌, ◌≤◌, ◌==◌, ◌||◌, Bool, true, false, cond, Option, Some, None, List, [], ◌∷◌, ◌++◌, length, set, refl, ap, sym, subst, ◌∙◌, arith, ⊎_elim, get_or-set_same, get_or-set_other, length-set, eq-eqb, ne_eqb}
 use Rattle.std.proofs.lemmas.Bool.{cases_eq, cases_lt, false≢true}
 use Rattle.std.proofs.lemmas.List.{get_or_past}
-use Rattle.machine_laws.proofs.Moving.{Adds, push_other, push_here, sum_by-set_past}
+use Rattle.machine_laws.proofs.Moving.{push_other, push_here, sum_by-set_past}
 use Rattle.machine_laws.proofs.Collecting.{owner_held, NotTo, not_to, decs_quiet, decs_adds, decs_loads}
-use Rattle.detector_laws.specs.World as view
-use Rattle.detector_laws.specs.World.{LetterKind, Other}
+use Rattle.detector_laws.specs.World.{LetterKind}
 use Rattle.detector_laws.specs.Events.{Reaps}
-use Rattle.detector_laws.specs.World.{World, In, NoConfirms}
+use Rattle.detector_laws.specs.World.{In, NoConfirms}
 use Rattle.letter_kinds.specs.Counting.{given_back, by_owner}
 use Rattle.letter_kinds.specs.Detector.{all_acked, has, Detector, Token, close_token}
 use Rattle.letter_kinds.specs.Holdings.{Row, held_in}
-use Rattle.letter_kinds.specs.Sums.{amount_of}
 use Rattle.letter_kinds.specs.declared.letter.Letter.{Letter}
 use Rattle.letter_kinds.specs.declared.letter.Letter.TheVariants.{Dec}
 use Rattle.letter_kinds.specs.declared.note.Note.{Note}
@@ -20,19 +18,17 @@ use Rattle.machine_rules.proofs.InvReap.{every_none}
 use Rattle.machine_rules.proofs.Reaps.{AllIn}
 use Rattle.machine_rules.proofs.SeatReads.{loads_at-none}
 use Rattle.machine_rules.proofs.Sweeping.{amount-given_back, firm_counted}
-use Rattle.machine_rules.proofs.Sweeps.{owed, owed-groups, Firm, firm_groups}
-use Rattle.machine_rules.specs.Actors.{Seat, Actors, seat_at, with_letter_more, push_letter, push_decs, seat}
+use Rattle.machine_rules.proofs.Sweeps.{owed, owed-groups, firm_groups}
+use Rattle.machine_rules.specs.Actors.{Seat, Actors, seat_at, with_letter_more, push_letter, push_decs}
 use Rattle.machine_rules.specs.Balance.{loads_at, load_sum}
 use Rattle.machine_rules.specs.Cell.{Cell}
 use Rattle.machine_rules.specs.Detect.{held_outside, reaped}
-use Rattle.machine_rules.specs.Known.{IsClosedAt}
 use Rattle.machine_rules.specs.Agreement.{Person}
 use Rattle.machine_rules.specs.Facts.{Every, KeepsCounts}
 use Rattle.orca_names.specs.Names.{owner_of}
 use Rattle.orca_names.specs.declared.names.Thing.{Thing}
-use Rattle.orca_names.specs.declared.names.Thing.TheVariants.{Actor, Obj}
+use Rattle.orca_names.specs.declared.names.Thing.TheVariants.{Actor}
 use Rattle.std.proofs.lemmas.List.Sums.{sum_by-set}
-use Rattle.std.specs.Prelude.{sum_by}
 
 -- ---- the members are gone
 
@@ -104,7 +100,7 @@ reap_quiet all (m ∷ ms) gs s b ins out none every = ⊎_elim
     (λ same. absurd (let z = eq-eqb m b (sym same) in false≢true (sym out ∙ rw z refl)))
     (λ other.
     reap_quiet all ms (gs ++ by_owner (held_outside all (seat_at s m))) (set s m None) b ins.1 (rw (ne_eqb m b (λ e. other (sym e))) at out)
-        (not_to_append b gs (by_owner (held_outside all (seat_at s m))) none (spared all b m s (seat_at s m) refl ins.0 every)) (every_none (Spares all b) s m every)
+    (not_to_append b gs (by_owner (held_outside all (seat_at s m))) none (spared all b m s (seat_at s m) refl ins.0 every)) (every_none (Spares all b) s m every)
     ∙ get_or-set_other s m b None None other)
     (cases_eq b m)
 
@@ -137,9 +133,11 @@ module _ (s : Actors) (d : Detector) (ns : List Note) (t : Token) (all : Thing �
     where
       marked : Thing → Bool
       marked = λ x. has t.members (owner_of x)
+
       some : (q : Bool) (n : ℕ) → 0 < cond q 0 n → 0 < n
       some true n h = absurd (omega arith)
       some false n h = h
+
       unowed : (x : Thing) → owner_of x ≡ i → 0 < owed (by_owner (given_back marked c.holdings)) x → ⊥
       unowed x o p =
           let held = some (marked x) (held_in c.holdings x) (subst (λ (k : ℕ). 0 < k) (owed-groups (given_back marked c.holdings) x ∙ amount-given_back marked c.holdings x) p) in

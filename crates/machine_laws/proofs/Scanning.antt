@@ -1,22 +1,20 @@
 -- A scan, as the detector's laws see it; it keeps all that is kept of the counts.
-use Rattle.std.proofs.Common.{◌≡◌, ◌≢◌, ◌⊎◌, ℕ, zero, suc, ◌+◌, ◌<◌, ◌≤◌, ◌==◌, ◌||◌, Bool, true, false, cond, if◌then◌else◌, Option, Some, None, List, [], ◌∷◌, ◌++◌, length, map, set, refl, ap, sym, subst, ◌∙◌, arith, inl, inr, ⊎_elim, eq-eqb, ne_eqb}
+use Rattle.std.proofs.Common.{◌≡◌, ℕ, suc, ◌≤◌, ◌==◌, ◌||◌, Bool, true, false, if◌then◌else◌, Option, Some, None, List, [], ◌∷◌, ◌++◌, length, refl, ap, sym, ◌∙◌, arith, ⊎_elim, eq-eqb, ne_eqb}
 use Rattle.std.proofs.lemmas.Bool.{cases_eq, false≢true}
 use mathlib.Core.Path.{fun_ext}
 use Rattle.detector_laws.proofs.Members.{each_In}
 use Rattle.detector_laws.proofs.Names.{names, named}
 use Rattle.detector_laws.proofs.Scan.{IsChosen, largest_chosen}
-use Rattle.detector_laws.specs.Facts.{DetectorFacts}
-use Rattle.machine_laws.proofs.Moving.{push_here, push_other, push_loads, added_cell, kinds-append, push_loads_same}
+use Rattle.machine_laws.proofs.Moving.{push_here, push_other, added_cell, kinds-append, push_loads_same}
 use Rattle.detector_laws.specs.World as view
 use Rattle.detector_laws.specs.World.{LetterKind, Other}
 use Rattle.detector_laws.specs.Reports.{ReportsAreExact, IsRising, AllAbove}
 use Rattle.detector_laws.specs.World.{World, In}
 use Rattle.letter_kinds.specs.Closed.{largest_closed}
 use Rattle.letter_kinds.specs.Detector.{Detector, scanned, has, closed_set, candidates}
-use Rattle.letter_kinds.specs.Holdings.{Row, held_in}
+use Rattle.letter_kinds.specs.Holdings.{Row}
 use Rattle.letter_kinds.specs.Reports.{report_of}
 use Rattle.letter_kinds.specs.Sums.{inc_of, dec_of}
-use Rattle.letter_kinds.specs.declared.letter.Letter.{Letter}
 use Rattle.letter_kinds.specs.declared.letter.Letter.TheVariants.{Confirm}
 use Rattle.letter_kinds.specs.declared.note.Note.{Note}
 use Rattle.letter_kinds.specs.declared.note.Report.{Report}
@@ -28,16 +26,15 @@ use Rattle.machine_rules.proofs.InHand.{Balanced, in_hand, none, out_of_hand}
 use Rattle.machine_rules.proofs.Posting.{push_balanced}
 use Rattle.machine_rules.proofs.SeatReads.{letter_Confirm}
 use Rattle.machine_rules.proofs.Sends.{push_prefix, cond_zero}
-use Rattle.machine_rules.specs.Actors.{Seat, Actors, seat_at, push_letter, seat}
+use Rattle.machine_rules.specs.Actors.{Seat, Actors, seat_at, push_letter}
 use Rattle.machine_rules.specs.Agreement.{Person}
-use Rattle.machine_rules.specs.Balance.{load_sum, IsBalanced}
-use Rattle.machine_rules.specs.Cell.{Cell}
+use Rattle.machine_rules.specs.Balance.{load_sum}
 use Rattle.machine_rules.specs.Detect.{ask_all}
 use Rattle.machine_rules.specs.Facts.{IsFirmAt, IsPastRows, KeepsCounts}
 use Rattle.machine_rules.specs.Known.{IsSoundAt}
 use Rattle.orca_names.specs.Names.{owner_of}
 use Rattle.orca_names.specs.declared.names.Thing.{Thing}
-use Rattle.orca_names.specs.declared.names.Thing.TheVariants.{Actor, Obj}
+use Rattle.orca_names.specs.declared.names.Thing.TheVariants.{Actor}
 
 present_seat : (o : Option Seat) → (cell_of o).present ≡ true → (q : Seat) × (o ≡ Some q)
 present_seat None h = absurd (false≢true h)
@@ -61,7 +58,7 @@ module _ (s : Actors) (b t : ℕ) (here : (cell_of (seat_at s b)).present ≡ tr
       let l = Confirm t in
       let o = present_seat (seat_at s b) here in
       let bal : Balanced (push_letter b l s) = push_balanced s b l none none o
-          (λ x. let z = in_hand s keeps.balanced x in let k = letter_Confirm x t in let p = cond_zero (owner_of x == b) (inc_of x l) k.0 in let q = cond_zero (owner_of x == b) (dec_of x l) k.1 in omega (arith, k.2)) in
+      (λ x. let z = in_hand s keeps.balanced x in let k = letter_Confirm x t in let p = cond_zero (owner_of x == b) (inc_of x l) k.0 in let q = cond_zero (owner_of x == b) (dec_of x l) k.1 in omega (arith, k.2)) in
       record {
         balanced = out_of_hand _ bal;
         prefixes = push_prefix s b l none o.0 o.1 bal (λ x is some. absurd (let k = letter_Confirm x t in omega (arith, k.0))) keeps.prefixes;
@@ -125,10 +122,10 @@ asks_mail [] t s h apart b = refl
 asks_mail (m ∷ ms) t s h apart b =
     let q = rest_here m ms t s h in
     ⊎_elim
-        (λ same. rw (eq-eqb m b (sym same), same) (asks_other ms t (push_letter m (Confirm t) s) m apart.0 ∙ ask_mail s m t q.0))
-        (λ other. rw (ne_eqb m b (λ e. other (sym e)))
-        (asks_mail ms t (push_letter m (Confirm t) s) q.1 apart.1 b ∙ ap (λ (ks : List LetterKind). if has ms b then ks ++ view.Confirm t ∷ [] else ks) (ap (λ o. kinds (letters_of o)) (push_other s m (Confirm t) b other))))
-        (cases_eq b m)
+    (λ same. rw (eq-eqb m b (sym same), same) (asks_other ms t (push_letter m (Confirm t) s) m apart.0 ∙ ask_mail s m t q.0))
+    (λ other. rw (ne_eqb m b (λ e. other (sym e)))
+    (asks_mail ms t (push_letter m (Confirm t) s) q.1 apart.1 b ∙ ap (λ (ks : List LetterKind). if has ms b then ks ++ view.Confirm t ∷ [] else ks) (ap (λ o. kinds (letters_of o)) (push_other s m (Confirm t) b other))))
+    (cases_eq b m)
 
 -- the chosen are distinct and present
 above_out : (a b : ℕ) (rs : List Report) → b ≤ a → AllAbove a rs → has (names rs) b ≡ false

@@ -1,17 +1,16 @@
 -- A reap keeps what holds of the counts: what it asks is what the seal says.
-use Rattle.std.proofs.Common.{◌≡◌, ◌≢◌, ◌⊎◌, ℕ, zero, suc, ◌+◌, ◌<◌, ◌≤◌, ◌==◌, ◌||◌, Bool, true, false, cond, Option, Some, None, is_some, List, [], ◌∷◌, ◌++◌, length, set, refl, ap, sym, subst, ◌∙◌, arith, inl, inr, ⊎_elim, eq-eqb}
+use Rattle.std.proofs.Common.{◌≡◌, ℕ, ◌==◌, ◌||◌, Bool, true, false, Option, Some, None, is_some, List, [], ◌∷◌, refl, ap, sym, subst, ◌∙◌, arith, eq-eqb}
 use Rattle.std.proofs.lemmas.Bool.{false≢true}
 use Rattle.machine_laws.proofs.Reaping.{all_in}
-use Rattle.detector_laws.specs.Tokens.{IsSealedMember, IsSealed, EndsInConfirm}
-use Rattle.detector_laws.specs.World.{World}
+use Rattle.detector_laws.specs.Tokens.{IsSealed, EndsInConfirm}
 use Rattle.letter_kinds.proofs.Sums.{sum-at, sum-nil}
-use Rattle.letter_kinds.specs.Detector.{has, Detector, Token}
+use Rattle.letter_kinds.specs.Detector.{has, Token}
 use Rattle.letter_kinds.specs.Holdings.{held_in}
 use Rattle.letter_kinds.specs.Sums.{load_count}
 use Rattle.letter_kinds.specs.declared.letter.Letter.{Letter}
 use Rattle.letter_kinds.specs.declared.letter.Letter.TheVariants.{App, Inc, Dec, Confirm}
 use Rattle.letter_kinds.specs.declared.note.Note.{Note}
-use Rattle.machine_laws.proofs.Seen.{mail_at, world_of, letters_of, kinds, cell_of}
+use Rattle.machine_laws.proofs.Seen.{mail_at, letters_of, kinds, cell_of}
 use Rattle.machine_rules.proofs.InvReap.{AllSealed, Sealed, inv_reap}
 use Rattle.machine_rules.proofs.SeatReads.{loads_at-seat, letter_Confirm}
 use Rattle.machine_rules.proofs.Seats.{present_below}

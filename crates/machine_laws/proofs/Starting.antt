@@ -1,7 +1,6 @@
 -- What holds where a run starts.
-use Rattle.std.proofs.Common.{◌≡◌, ℕ, false, zero, suc, Option, Some, None, List, [], ◌∷◌, refl, ap, sym, subst, ◌∙◌}
+use Rattle.std.proofs.Common.{◌≡◌, ℕ, false, zero, suc, Option, Some, None, List, [], ◌∷◌, refl, ap, sym, ◌∙◌}
 use Rattle.std.specs.FinMap as m
-use Rattle.std.specs.Ordering.{nat_cmp}
 use Rattle.std.specs.Option.{option_map_or}
 use Rattle.orca_names.specs.Names.{thing_cmp}
 use Rattle.orca_names.specs.declared.names.Thing.{Thing}
@@ -16,9 +15,9 @@ use Rattle.detector_laws.specs.World.{NoConfirms}
 use Rattle.machine_laws.proofs.OwnThings.{HoldsNoOwn}
 use Rattle.machine_laws.proofs.Seen.{cell_of, kinds, mail_at, world}
 use Rattle.machine_rules.specs.Actors.{Actors, Seat, seat, seat_at}
-use Rattle.machine_rules.specs.Cell.{Cell, first_cell}
+use Rattle.machine_rules.specs.Cell.{Cell}
 use Rattle.machine_rules.specs.Facts.{Every}
-use Rattle.machine_rules.specs.State.{first_state, start_letters}
+use Rattle.machine_rules.specs.State.{first_state}
 
 nothing_of : (n : ℕ) (x : Thing) → held_in (nothing_held n) x ≡ 0
 unfolding held_in

@@ -1,11 +1,10 @@
 -- Each event is a step of the world that the detector's laws speak of.
-use Rattle.std.proofs.Common.{◌≡◌, ◌≢◌, ◌⊎◌, ℕ, suc, ◌+◌, ◌<◌, nat_lt, Bool, true, false, if◌then◌else◌, Option, Some, None, is_some, List, [], ◌∷◌, ◌++◌, length, set, refl, ap, sym, subst, ◌∙◌, arith, inl, inr, ⊎_elim}
+use Rattle.std.proofs.Common.{◌≡◌, ◌⊎◌, ℕ, ◌<◌, nat_lt, Bool, true, false, if◌then◌else◌, Option, Some, None, is_some, List, [], ◌∷◌, ◌++◌, length, refl, ap, sym, subst, ◌∙◌, inl, inr, ⊎_elim}
 use Rattle.std.specs.FinMap as m
 use Rattle.std.specs.Ordering.{nat_cmp}
 use Rattle.std.proofs.lemmas.Bool.{false≢true}
 use Rattle.orca_names.specs.Names.{owner_of, thing_cmp}
 use Rattle.orca_names.specs.declared.names.Thing.{Thing}
-use Rattle.orca_names.specs.declared.names.Thing.TheVariants as things
 use Rattle.orca_names.specs.declared.names.Value.{Value}
 use Rattle.event_rule.specs.declared.event.Event.{Event}
 use Rattle.event_rule.specs.declared.event.Event.TheVariants.{Take, Go, Collect, Block, Hear, Scan, Reap}
@@ -19,7 +18,7 @@ use Rattle.letter_kinds.specs.declared.note.Note.{Note}
 use Rattle.letter_kinds.specs.declared.note.Note.TheVariants.{Unblock}
 use Rattle.letter_kinds.specs.Counting.{Loaded, lacking, to_mint}
 use Rattle.letter_kinds.specs.Detector.{Token, all_acked, closed_set, token_numbered}
-use Rattle.letter_kinds.specs.Holdings.{Row, held_in}
+use Rattle.letter_kinds.specs.Holdings.{Row}
 use Rattle.letter_kinds.specs.Sums.{amount_of}
 use Rattle.detector_laws.proofs.Named.{numbered_is_open}
 use Rattle.detector_laws.specs.Events.{Moves}
@@ -48,7 +47,7 @@ use Rattle.machine_rules.specs.Facts.{KeepsCounts}
 use Rattle.machine_rules.specs.Go.{act_in, go_at, go_in, load_from, make, post_or_mint, turn_of_cell, turned}
 use Rattle.machine_rules.specs.Next.{next}
 use Rattle.machine_rules.specs.Plain.{stopped_at, with_name}
-use Rattle.machine_rules.specs.State.{State, Step, NotEnabled, IsFull, Goes}
+use Rattle.machine_rules.specs.State.{State, Goes}
 use Rattle.machine_rules.specs.Take.{take_at, take_in}
 
 -- ---- who runs or is dirty has no report out
