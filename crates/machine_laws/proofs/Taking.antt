@@ -4,9 +4,8 @@ use Rattle.std.proofs.lemmas.Bool.{cases_eq}
 use mathlib.Core.Path.{fun_ext}
 use Rattle.machine_laws.proofs.Moving.{adds_none, moves}
 use Rattle.detector_laws.specs.World as view
-use Rattle.detector_laws.specs.World.{LetterKind, Other}
+use Rattle.detector_laws.specs.World.{LetterKind, Other, World}
 use Rattle.detector_laws.specs.Events.{Moves}
-use Rattle.detector_laws.specs.World.{World}
 use Rattle.letter_kinds.proofs.Amounts.{held-raise_all, held-lower_all}
 use Rattle.letter_kinds.proofs.Counts.{held-receive}
 use Rattle.letter_kinds.specs.Detector.{Detector}
