@@ -2,6 +2,8 @@ pub mod Agreeing
 pub mod Changing
 pub mod Every
 pub mod Finite
+pub mod Following
+pub mod FollowingGo
 pub mod Freed
 pub mod Global
 pub mod Going
