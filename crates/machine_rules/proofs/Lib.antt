@@ -13,6 +13,7 @@ pub mod Paths
 pub mod PlainGrowth
 pub mod PlainRuns
 pub mod Posting
+pub mod Reachable
 pub mod Reaps
 pub mod Receiving
 pub mod Safety
