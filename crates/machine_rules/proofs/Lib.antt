@@ -6,7 +6,11 @@ pub mod Freed
 pub mod Global
 pub mod InHand
 pub mod InvTake
+pub mod Lacking
+pub mod Leaving
 pub mod Living
+pub mod Local
+pub mod Locals
 pub mod Makes
 pub mod Naming
 pub mod Paths
