@@ -1,26 +1,50 @@
--- What is minted is what the actor lacks: things of one owner, on which it holds a count.
-use Rattle.std.proofs.Common.{◌≡◌, ℕ, ◌<◌, ◌==◌, ◌&&◌, cond, Bool, true, false, List, [], ◌∷◌, map, refl, ◌∙◌, ap, arith, ⊎_elim, eqb-true}
+-- What an actor lacks of a load, and what it mints.
+use Rattle.std.proofs.Common.{◌≡◌, ◌≢◌, ◌⊎◌, ℕ, zero, suc, ◌+◌, ◌-◌, ◌<◌, ◌≤◌, ◌==◌, ◌&&◌, not, cond, Bool, true, false, Option, Some, None, List, [], ◌∷◌, map, refl, sym, ◌∙◌, ap, arith, inl, inr, ⊎_elim, eq-eqb, ne_eqb, eqb-true}
+use Rattle.std.proofs.lemmas.Bool.{cases_eq}
 use Rattle.std.specs.List.{filter}
 use Rattle.orca_names.proofs.ThingOrder.{cases_thing}
 use Rattle.orca_names.specs.Names.{owner_of}
 use Rattle.orca_names.specs.declared.names.Thing.{Thing}
-use Rattle.letter_kinds.proofs.Counts.{amount-nil, amount-other}
-use Rattle.letter_kinds.specs.Counting.{Amount, Loaded, is_lacking, lacking, to_mint}
-use Rattle.letter_kinds.specs.Holdings.{Holdings, held_in}
-use Rattle.letter_kinds.specs.Sums.{amount_of}
+use Rattle.letter_kinds.proofs.Counts.{amount-nil, amount-same, amount-other, loaded-nil, loaded-other}
+use Rattle.letter_kinds.specs.Counting.{Loaded, is_lacking, lacking, to_mint}
+use Rattle.letter_kinds.specs.Holdings.{Holdings, Row, held_in}
+use Rattle.letter_kinds.specs.Sums.{amount_of, times_loaded}
+use Rattle.machine_rules.proofs.InHand.{AllCounted}
 
--- 256 of each of these
-abbrev minted : List Loaded → List Amount
-minted es = map (λ e. (e.0, 256)) es
+pub filter_none : (p : Thing → Bool) (x : Thing) (es : List (Thing × Option Row)) → filter (λ e. p e.0) es ≡ [] → 0 < times_loaded x es → p x ≡ false
+filter_none p x [] e h = absurd (omega (arith, loaded-nil x))
+filter_none p x (y ∷ es) e h = elim (p y.0) as (λ b. p y.0 ≡ b → cond b (y ∷ filter (λ e. p e.0) es) (filter (λ e. p e.0) es) ≡ [] → p x ≡ false) [
+  | true ↦ λ t e. cc
+  | false ↦ λ f e. ⊎_elim
+      (λ same. ap p same ∙ f)
+      (λ other. filter_none p x es e (let z = loaded-other x y es other in omega arith))
+      (cases_thing x y.0)
+] refl e
 
--- where one is among those that two tests let through, both let it through
-minted_in : (x : Thing) (q p : Thing → Bool) (es : List Loaded) → 0 < amount_of x (minted (filter (λ e. q e.0) (filter (λ e. p e.0) es))) → (q x ≡ true) × (p x ≡ true)
+pub one_or_more : (a : ℕ) (c : Holdings) (x : Thing) → owner_of x ≢ a → is_lacking a c x ≡ false → held_in c x ≢ 1
+one_or_more a c x other lack is = let n = ne_eqb (owner_of x) a other in let o = eq-eqb (held_in c x) 1 is in lies (owner_of x == a) (held_in c x == 1) n o lack
+  where
+    lies : (p q : Bool) → p ≡ false → q ≡ true → (not p && q) ≡ false → ⊥
+    lies true q n o l = cc
+    lies false true n o l = cc
+    lies false false n o l = cc
+
+pub some_load : (n h : ℕ) → n ≤ 1 → 0 < h → h ≢ 1 → 0 < n → n < h
+some_load n h once pos not some = ⊎_elim (λ e. absurd (not e)) (λ ne. omega arith) (cases_eq h 1)
+
+pub no_load : (n h : ℕ) → (0 < n → n < h) → n ≤ h
+no_load zero h f = omega arith
+no_load (suc n) h f = let z = f (omega arith) in omega arith
+
+-- what is minted is of one owner, and held
+minted_in : (x : Thing) (q p : Thing → Bool) (es : List (Thing × Option Row))
+    → 0 < amount_of x (map (λ (e : Thing × Option Row). (e.0, 256)) (filter (λ e. q e.0) (filter (λ e. p e.0) es))) → (q x ≡ true) × (p x ≡ true)
 minted_in x q p [] h = absurd (omega (arith, amount-nil x))
-minted_in x q p (y ∷ es) h = elim (p y.0) as (λ b. p y.0 ≡ b → 0 < amount_of x (minted (filter (λ e. q e.0) (cond b (y ∷ filter (λ e. p e.0) es) (filter (λ e. p e.0) es)))) → (q x ≡ true) × (p x ≡ true)) [
-  | true ↦ λ pt h. elim (q y.0) as (λ b. q y.0 ≡ b → 0 < amount_of x (minted (cond b (y ∷ filter (λ e. q e.0) (filter (λ e. p e.0) es)) (filter (λ e. q e.0) (filter (λ e. p e.0) es)))) → (q x ≡ true) × (p x ≡ true)) [
+minted_in x q p (y ∷ es) h = elim (p y.0) as (λ b. p y.0 ≡ b → 0 < amount_of x (map (λ (e : Thing × Option Row). (e.0, 256)) (filter (λ e. q e.0) (cond b (y ∷ filter (λ e. p e.0) es) (filter (λ e. p e.0) es)))) → (q x ≡ true) × (p x ≡ true)) [
+  | true ↦ λ pt h. elim (q y.0) as (λ b. q y.0 ≡ b → 0 < amount_of x (map (λ (e : Thing × Option Row). (e.0, 256)) (cond b (y ∷ filter (λ e. q e.0) (filter (λ e. p e.0) es)) (filter (λ e. q e.0) (filter (λ e. p e.0) es)))) → (q x ≡ true) × (p x ≡ true)) [
     | true ↦ λ qt h. ⊎_elim
         (λ same. (ap q same ∙ qt, ap p same ∙ pt))
-        (λ other. minted_in x q p es (let z = amount-other x (y.0, 256) (minted (filter (λ e. q e.0) (filter (λ e. p e.0) es))) other in omega arith))
+        (λ other. minted_in x q p es (let z = amount-other x (y.0, 256) (map (λ (e : Thing × Option Row). (e.0, 256)) (filter (λ e. q e.0) (filter (λ e. p e.0) es))) other in omega arith))
         (cases_thing x y.0)
     | false ↦ λ qf h. minted_in x q p es h
   ] refl h
@@ -31,9 +55,19 @@ and_right : (p q : Bool) → (p && q) ≡ true → q ≡ true
 and_right true q e = e
 and_right false q e = cc
 
-pub to_mint_theirs : (a b : ℕ) (c : Holdings) (es : List Loaded) (x : Thing) → 0 < amount_of x (to_mint b (lacking a c es)) → (owner_of x ≡ b) × (0 < held_in c x)
+pub to_mint_theirs : (a b : ℕ) (c : Holdings) (es : List (Thing × Option Row)) (x : Thing) → 0 < amount_of x (to_mint b (lacking a c es)) → (owner_of x ≡ b) × (0 < held_in c x)
 to_mint_theirs a b c es x h =
     let z = minted_in x (λ y. owner_of y == b) (is_lacking a c) es h in
     let o = eqb-true (owner_of x) b z.0 in
     let one = eqb-true (held_in c x) 1 (and_right _ _ z.1) in
     (o, omega arith)
+
+pub counted_mint : (b : ℕ) (es : List Loaded) → AllCounted (to_mint b es)
+counted_mint b [] = tt
+counted_mint b (e ∷ es) = elim (owner_of e.0 == b) as (λ t. AllCounted (map (λ (e : Loaded). (e.0, 256)) (cond t (e ∷ filter (λ e. owner_of e.0 == b) es) (filter (λ e. owner_of e.0 == b) es)))) [
+  | true ↦ (omega arith, counted_mint b es)
+  | false ↦ counted_mint b es
+]
+
+pub first_minted : (e : Loaded) (es : List Loaded) → 0 < amount_of e.0 (to_mint (owner_of e.0) (e ∷ es))
+first_minted e es = rw (eq-eqb (owner_of e.0) (owner_of e.0) refl) (let z = amount-same e.0 (e.0, 256) (map (λ (e : Loaded). (e.0, 256)) (filter (λ y. owner_of y.0 == owner_of e.0) es)) refl in omega arith)

@@ -33,7 +33,7 @@ use Rattle.machine_rules.specs.State.{State, NotEnabled, IsFull, Goes, first_sta
 use Rattle.machine_rules.specs.Take.{cell_after, take_at, take_in}
 use Rattle.machine_rules.proofs.Every.{every_set, every_push, every_decs, every_more}
 use Rattle.machine_rules.proofs.Lacking.{to_mint_theirs}
-use Rattle.machine_rules.proofs.Leaving.{every_reaped}
+use Rattle.machine_rules.proofs.InvReap.{every_reap}
 use Rattle.machine_rules.proofs.Local.{Local}
 use Rattle.machine_rules.proofs.Seats.{present_below}
 
@@ -171,7 +171,7 @@ module _ (Q : ℕ → Cell → List Letter → Type 0) (local : Local Q) where
 
   on_reap : (s t : State) (token : Token) (acked : Bool) → reap_in s token acked ≡ Goes t → Keeps s t
   on_reap s t token false e = not_enabled t e
-  on_reap s t token true e = moved s _ t e (every_reaped Q (λ things. local.letter (Dec things)) token.members token.members [] s.actors)
+  on_reap s t token true e = moved s _ t e (every_reap Q (λ things. local.letter (Dec things)) token.members token.members [] s.actors)
 
   reap_token : (s t : State) (found : Option Token) → reap_found s found ≡ Goes t → Keeps s t
   reap_token s t None e = not_enabled t e
