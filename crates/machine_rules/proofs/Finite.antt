@@ -1,5 +1,5 @@
 -- Every object of which an actor has a row is among those that it knows.
-use Rattle.std.proofs.Common.{◌≡◌, ℕ, ◌==◌, cond, true, false, Option, Some, None, List, [], ◌∷◌, ◌++◌, map, Contains, refl, ap, sym, ◌∙◌, subst, inl, inr, ⊎_elim, eqb-true, eq-eqb, ne_eqb}
+use Rattle.std.proofs.Common.{◌≡◌, ℕ, cond, true, false, Option, Some, None, List, [], ◌∷◌, map, Contains, refl, ap, sym, ◌∙◌, subst, ⊎_elim, eqb-true, eq-eqb, ne_eqb}
 use Rattle.std.specs.List.{cons_option, filter_map}
 use Rattle.std.proofs.lemmas.Bool.{cases_eq}
 use Rattle.std.proofs.lemmas.List.Elements.{Contains-append_left, Contains-append_right}
@@ -24,7 +24,8 @@ own_names me es = map (λ e. record { owner = me; serial = e.0 }) es
 -- one that is found is among them
 own_found : (me k : ℕ) (es : List (ℕ × (Row × ℕ))) (r : Row) → own_row (m.find nat_cmp k es) ≡ Some r → Contains (own_names me es) (record { owner = me; serial = k })
 own_found me k [] r h = cc
-own_found me k (e ∷ es) r h = elim (eq_by_cmp nat_cmp k e.0) as (λ t. eq_by_cmp nat_cmp k e.0 ≡ t → own_row (cond t (Some e.1) (m.find nat_cmp k es)) ≡ Some r → Contains (own_names me (e ∷ es)) (record { owner = me; serial = k })) [
+own_found me k (e ∷ es) r h = elim (eq_by_cmp nat_cmp k e.0) as
+    (λ t. eq_by_cmp nat_cmp k e.0 ≡ t → own_row (cond t (Some e.1) (m.find nat_cmp k es)) ≡ Some r → Contains (own_names me (e ∷ es)) (record { owner = me; serial = k })) [
   | true ↦ λ t h. subst (λ i. Contains (own_names me (e ∷ es)) (record { owner = me; serial = i })) (sym (eqb-true k e.0 (sym (unsigned_tied k e.0) ∙ t))) (Contains-head _ _)
   | false ↦ λ t h. Contains-later _ _ _ (own_found me k es r h)
 ] refl h
@@ -40,7 +41,8 @@ later_option (Some q) n ns c = Contains-later q ns n c
 entry_found : (n : ObjName) (es : List (Thing × (ℕ × Option Row))) (r : Row) → entry_row (m.find thing_cmp (Obj n) es) ≡ Some r
     → Contains (filter_map (λ e. object_name e.0) es) n
 entry_found n [] r h = cc
-entry_found n (e ∷ es) r h = elim (is_thing (Obj n) e.0) as (λ t. is_thing (Obj n) e.0 ≡ t → entry_row (cond t (Some e.1) (m.find thing_cmp (Obj n) es)) ≡ Some r → Contains (filter_map (λ e. object_name e.0) (e ∷ es)) n) [
+entry_found n (e ∷ es) r h = elim (is_thing (Obj n) e.0) as
+    (λ t. is_thing (Obj n) e.0 ≡ t → entry_row (cond t (Some e.1) (m.find thing_cmp (Obj n) es)) ≡ Some r → Contains (filter_map (λ e. object_name e.0) (e ∷ es)) n) [
   | true ↦ λ t h. first_option (object_name e.0) n _ (ap object_name (sym (is_same (Obj n) e.0 t)))
   | false ↦ λ t h. later_option (object_name e.0) n _ (entry_found n es r h)
 ] refl h

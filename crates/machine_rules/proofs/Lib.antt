@@ -11,6 +11,7 @@ pub mod InvReap
 pub mod InvTake
 pub mod Lacking
 pub mod Living
+pub mod Loads
 pub mod Local
 pub mod Locals
 pub mod Makes

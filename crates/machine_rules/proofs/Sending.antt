@@ -1,5 +1,5 @@
 -- Sending and minting change no row, and who knows all that it reaches still does.
-use Rattle.std.proofs.Common.{◌≡◌, ◌≢◌, ℕ, zero, suc, ◌+◌, ◌-◌, ◌<◌, ◌==◌, cond, Bool, true, false, Option, Some, None, List, [], ◌∷◌, refl, sym, ◌∙◌, ap, arith, subst, inl, inr, ⊎_elim, ne_eqb}
+use Rattle.std.proofs.Common.{◌≡◌, ◌≢◌, ℕ, zero, suc, ◌+◌, ◌-◌, ◌<◌, Option, List, [], ◌∷◌, refl, sym, ◌∙◌, arith, subst, inl, inr, ⊎_elim, ne_eqb}
 use Rattle.std.proofs.lemmas.Bool.{cases_eq}
 use Rattle.std.specs.FinMap as m
 use Rattle.orca_names.proofs.ThingOrder.{cases_thing}
@@ -11,7 +11,7 @@ use Rattle.orca_names.specs.declared.names.Value.{Value}
 use Rattle.reach_walk.specs.Reach.{root, owned}
 use Rattle.letter_kinds.proofs.Amounts.{held-mint_all}
 use Rattle.letter_kinds.proofs.Counts.{cond_eq, cond_ne, has_set_own, has_set_held, held-send, held-send_own}
-use Rattle.letter_kinds.specs.Counting.{Amount, Loaded, set_own, raise, set_held, spend, send_one, send, mint_one, mint_all}
+use Rattle.letter_kinds.specs.Counting.{Amount, Loaded, raise, set_held, spend, send_one, send, mint_one, mint_all}
 use Rattle.letter_kinds.specs.Holdings.{Row, Holdings, held_in, has_own, row_of, entry_row}
 use Rattle.letter_kinds.specs.Sums.{amount_of, times_loaded}
 use Rattle.machine_rules.proofs.Paths.{along_row, reach_into, reach_more}

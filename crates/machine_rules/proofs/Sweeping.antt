@@ -1,5 +1,5 @@
 -- A sweep keeps every count of one's own, the counts held on what is marked, and what is closed.
-use Rattle.std.proofs.Common.{◌≡◌, ◌≢◌, ◌⊎◌, ℕ, ◌+◌, ◌<◌, ◌≤◌, ◌==◌, ◌&&◌, ◌||◌, not, cond, Bool, true, false, T, Option, Some, None, is_some, List, [], ◌∷◌, map, filter, refl, sym, ◌∙◌, ap, arith, subst, inl, inr, ⊎_elim, eq-eqb, ne_eqb}
+use Rattle.std.proofs.Common.{◌≡◌, ◌≢◌, ℕ, ◌+◌, ◌<◌, ◌==◌, ◌&&◌, ◌||◌, not, cond, Bool, true, false, T, Option, Some, None, is_some, List, [], ◌∷◌, map, filter, refl, sym, ◌∙◌, ap, arith, subst, inl, inr, ⊎_elim, eq-eqb, ne_eqb}
 use Rattle.std.proofs.lemmas.Bool.{cases_eq}
 use Rattle.std.proofs.lemmas.Cmp.{tied_itself}
 use Rattle.std.specs.FinMap as m
@@ -87,7 +87,8 @@ drops-above marked x (e ∷ es) h =
 drops-cons : (marked : Thing → Bool) (x : Thing) (e : Thing × (ℕ × Option Row)) (es : List (Thing × (ℕ × Option Row)))
     → amount_of x (drops marked (e ∷ es)) ≡ cond (marked e.0) 0 (cond (is_thing x e.0) e.1.0 0) + amount_of x (drops marked es)
 drops-cons marked x e es =
-    elim (marked e.0) as (λ b. amount_of x (map counted (cond (not b) (e ∷ filter (λ e. not (marked e.0)) es) (filter (λ e. not (marked e.0)) es))) ≡ cond b 0 (cond (is_thing x e.0) e.1.0 0) + amount_of x (drops marked es)) [
+    let others = filter (λ (f : Thing × (ℕ × Option Row)). not (marked f.0)) es in
+    elim (marked e.0) as (λ b. amount_of x (map counted (cond (not b) (e ∷ others) others)) ≡ cond b 0 (cond (is_thing x e.0) e.1.0 0) + amount_of x (drops marked es)) [
       | true ↦ omega arith
       | false ↦ ⊎_elim
           (λ same. rw (is_eq_true x e.0 same) (amount-same x (counted e) (drops marked es) same))
@@ -103,18 +104,18 @@ drops-find : (marked : Thing → Bool) (x : Thing) (es : List (Thing × (ℕ × 
     → amount_of x (drops marked es) ≡ cond (marked x) 0 (entry_count (m.find thing_cmp x es))
 drops-find marked x [] h = amount-nil x ∙ cond_none (marked x)
 drops-find marked x (e ∷ es) h =
-    let parts = both_true _ _ h in
-    drops-cons marked x e es ∙ ⊎_elim
-    (λ same.
-    let above : T (below_all thing_cmp x es) = rw same parts.0 in
-    let z = drops-above marked x es above in
-    rw (is_eq_true x e.0 same, same) (rw (← same) (omega arith)))
-    (λ other. rw (is_ne_false x e.0 other) (nothing (marked e.0) _ _ (drops-find marked x es parts.1)))
-    (cases_thing x e.0)
+    let parts : T (below_all thing_cmp e.0 es) × T (m.is_sorted thing_cmp es) = both_true _ _ h in
+    drops-cons marked x e es ∙ ⊎_elim (here parts.0) (λ other. rw (is_ne_false x e.0 other) (nothing (marked e.0) _ _ (drops-find marked x es parts.1))) (cases_thing x e.0)
   where
     nothing : (b : Bool) (m n : ℕ) → m ≡ n → cond b 0 0 + m ≡ n
     nothing true m n e = omega arith
     nothing false m n e = omega arith
+
+    here : T (below_all thing_cmp e.0 es) → x ≡ e.0
+        → cond (marked e.0) 0 (cond (is_thing x e.0) e.1.0 0) + amount_of x (drops marked es) ≡ cond (marked x) 0 (entry_count (m.find thing_cmp x (e ∷ es)))
+    here above same =
+        let z : amount_of x (drops marked es) ≡ 0 = drops-above marked x es (rw same above) in
+        rw (is_eq_true x e.0 same, same) (rw (← same) (omega arith))
 
 -- of what is not marked all that is held goes back
 pub amount-given_back : (marked : Thing → Bool) (c : Holdings) (x : Thing) → amount_of x (given_back marked c) ≡ cond (marked x) 0 (held_in c x)

@@ -1,12 +1,12 @@
 -- What a turn of an actor names, and that it depends on no rows but those that it reaches.
-use Rattle.std.proofs.Common.{◌≡◌, ℕ, ◌+◌, ◌<◌, ◌⊎◌, inl, inr, List, [], ◌∷◌, ◌++◌, length, get_or, Contains, Option, refl, sym, subst, ◌∙◌}
+use Rattle.std.proofs.Common.{◌≡◌, ℕ, ◌<◌, ◌⊎◌, inl, inr, List, [], ◌∷◌, ◌++◌, length, get_or, Contains, Option, refl, sym, subst}
 use Rattle.std.proofs.lemmas.List.{get_or_default}
 use Rattle.std.proofs.lemmas.List.Elements.{Contains-append_left, Contains-append_right, Contains-append_cases, filter_map-append}
 use Rattle.orca_names.specs.declared.names.ObjName.{ObjName}
 use Rattle.orca_names.specs.declared.names.Thing.{Thing}
 use Rattle.orca_names.specs.declared.names.Thing.TheVariants as things
 use Rattle.orca_names.specs.declared.names.Value.{Value}
-use Rattle.orca_names.specs.declared.names.Value.TheVariants.{Null, Num, Actor, Obj}
+use Rattle.orca_names.specs.declared.names.Value.TheVariants.{Actor}
 use Rattle.orca_names.specs.declared.row.Fields.{Fields}
 use Rattle.behaviour_code.specs.declared.code.Program.{Program}
 use Rattle.reach_walk.proofs.Elements.{Contains-head, Contains-later}
