@@ -1,5 +1,6 @@
 pub mod Agreeing
 pub mod Changing
+pub mod Cleaning
 pub mod Every
 pub mod Finite
 pub mod Freed
@@ -17,6 +18,7 @@ pub mod Locals
 pub mod Makes
 pub mod Minting
 pub mod Naming
+pub mod NoSelf
 pub mod Paths
 pub mod PlainGrowth
 pub mod PlainRuns
