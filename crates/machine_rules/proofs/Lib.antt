@@ -19,6 +19,7 @@ pub mod Makes
 pub mod Minting
 pub mod Naming
 pub mod NoSelf
+pub mod ObjectsAtQuiet
 pub mod Paths
 pub mod PlainGrowth
 pub mod PlainRuns
@@ -26,6 +27,7 @@ pub mod Posting
 pub mod Reachable
 pub mod Reaps
 pub mod Receiving
+pub mod Rest
 pub mod Safety
 pub mod SeatReads
 pub mod Seats

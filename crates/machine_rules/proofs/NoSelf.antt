@@ -1,9 +1,11 @@
 -- No actor ever holds a count on a thing of its own.
-use Rattle.std.proofs.Common.{◌≡◌, ◌≢◌, ℕ, zero, suc, ◌+◌, ◌<◌, cond, Bool, true, false, refl, ap, ◌∙◌, arith}
+use Rattle.std.proofs.Common.{◌≡◌, ◌≢◌, ℕ, zero, suc, ◌+◌, ◌<◌, cond, Bool, true, false, List, refl, ap, ◌∙◌, arith}
 use Rattle.std.specs.FinMap as m
 use Rattle.orca_names.specs.Names.{owner_of, thing_cmp}
 use Rattle.orca_names.specs.declared.names.Thing.{Thing}
 use Rattle.orca_names.specs.declared.names.Thing.TheVariants.{Actor}
+use Rattle.event_rule.specs.declared.event.Event.{Event}
+use Rattle.behaviour_code.specs.declared.code.Program.{Program}
 use Rattle.letter_kinds.proofs.Amounts.{held-mint_all}
 use Rattle.letter_kinds.proofs.Counts.{held-send_own}
 use Rattle.letter_kinds.specs.Holdings.{Holdings, Row, entry_count, held_in, nothing_held, with_made}
@@ -18,9 +20,6 @@ use Rattle.machine_rules.specs.Go.{turn_of_cell}
 use Rattle.machine_rules.specs.Next.{next}
 use Rattle.machine_rules.specs.Run.{IsRun}
 use Rattle.machine_rules.specs.State.{State, Goes, first_state}
-use Rattle.event_rule.specs.declared.event.Event.{Event}
-use Rattle.behaviour_code.specs.declared.code.Program.{Program}
-use Rattle.std.proofs.Common.{List}
 
 held-with_made : (made : List Row) (h : Holdings) (x : Thing) → held_in (with_made made h) x ≡ held_in h x
 unfolding held_in
