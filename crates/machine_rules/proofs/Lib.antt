@@ -18,6 +18,7 @@ pub mod Locals
 pub mod Makes
 pub mod Minting
 pub mod Naming
+pub mod Needs
 pub mod NoSelf
 pub mod ObjectsAtQuiet
 pub mod Paths
