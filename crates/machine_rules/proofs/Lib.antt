@@ -8,8 +8,11 @@ pub mod Global
 pub mod Going
 pub mod InHand
 pub mod InvCollect
+pub mod InvMake
+pub mod InvPost
 pub mod InvReap
 pub mod InvTake
+pub mod InvTurn
 pub mod Lacking
 pub mod Living
 pub mod Loads
@@ -24,6 +27,7 @@ pub mod ObjectsAtQuiet
 pub mod Paths
 pub mod PlainGrowth
 pub mod PlainRuns
+pub mod PlainSide
 pub mod Posting
 pub mod Reachable
 pub mod Reaps
@@ -35,6 +39,7 @@ pub mod Seats
 pub mod Segments
 pub mod Sending
 pub mod Sends
+pub mod Slices
 pub mod Sweeping
 pub mod Sweeps
 pub mod Takes

@@ -1,5 +1,5 @@
--- Sending and minting change no row, and who knows all that it reaches still does.
-use Rattle.std.proofs.Common.{◌≡◌, ◌≢◌, ℕ, zero, suc, ◌+◌, ◌-◌, ◌<◌, Option, List, [], ◌∷◌, refl, sym, ◌∙◌, arith, subst, inl, inr, ⊎_elim, ne_eqb}
+-- Sending and minting change no row, and who sends knows what it knew.
+use Rattle.std.proofs.Common.{◌≡◌, ◌≢◌, ℕ, ◌+◌, ◌-◌, ◌<◌, Option, List, [], ◌∷◌, refl, sym, ◌∙◌, arith, subst, inl, inr, ⊎_elim, ne_eqb}
 use Rattle.std.proofs.lemmas.Bool.{cases_eq}
 use Rattle.std.specs.FinMap as m
 use Rattle.orca_names.proofs.ThingOrder.{cases_thing}
@@ -9,11 +9,10 @@ use Rattle.orca_names.specs.declared.names.Thing.{Thing}
 use Rattle.orca_names.specs.declared.names.Thing.TheVariants.{Actor, Obj}
 use Rattle.orca_names.specs.declared.names.Value.{Value}
 use Rattle.reach_walk.specs.Reach.{root, owned}
-use Rattle.letter_kinds.proofs.Amounts.{held-mint_all}
 use Rattle.letter_kinds.proofs.Counts.{cond_eq, cond_ne, has_set_own, has_set_held, held-send, held-send_own}
 use Rattle.letter_kinds.specs.Counting.{Amount, Loaded, raise, set_held, spend, send_one, send, mint_one, mint_all}
 use Rattle.letter_kinds.specs.Holdings.{Row, Holdings, held_in, has_own, row_of, entry_row}
-use Rattle.letter_kinds.specs.Sums.{amount_of, times_loaded}
+use Rattle.letter_kinds.specs.Sums.{times_loaded}
 use Rattle.machine_rules.proofs.Paths.{along_row, reach_into, reach_more}
 use Rattle.machine_rules.proofs.Receiving.{row_set_own, row_set_held_other, row_set_held_own, row_set_held_same}
 use Rattle.machine_rules.specs.Cell.{Cell}
@@ -109,39 +108,6 @@ module _ (all : Thing → Option Row) (me : ℕ) (c : Cell) (load : List Loaded)
 
   pub send_rows : RowsAreAt all me sent.holdings
   send_rows x k = row-send me x load c.holdings ∙ rows x (known_off x k)
-
--- ---- minting for what is held keeps what the actor has closed
-
-module _ (all : Thing → Option Row) (me : ℕ) (c : Cell) (es : List Amount) (has : (x : Thing) → 0 < amount_of x es → 0 < held_in c.holdings x)
-    (closed : IsClosedAt all me c) (rows : RowsAreAt all me c.holdings) where
-  abbrev minted : Cell
-  minted = record c { holdings = mint_all es c.holdings }
-
-  minted_held : (x : Thing) → 0 < held_in minted.holdings x → 0 < held_in c.holdings x
-  minted_held x h = positive (held_in c.holdings x) (amount_of x es) (held-mint_all x es c.holdings) (has x)
-    where
-      positive : (n m : ℕ) → held_in minted.holdings x ≡ n + m → (0 < m → 0 < n) → 0 < n
-      positive n zero e f = omega arith
-      positive n (suc m) e f = f (omega arith)
-
-  minted_back : (x : Thing) → IsKnown me minted.holdings x → IsKnown me c.holdings x
-  minted_back x (inl own) = inl (own.0, sym (has-mint_all x es c.holdings) ∙ own.1)
-  minted_back x (inr other) = inr (other.0, minted_held x other.1)
-
-  minted_on : (x : Thing) → IsKnown me c.holdings x → IsKnown me minted.holdings x
-  minted_on x (inl own) = inl (own.0, has-mint_all x es c.holdings ∙ own.1)
-  minted_on x (inr other) = inr (other.0, let z = held-mint_all x es c.holdings in let o = other.1 in omega arith)
-
-  minted_root : (x : Thing) → Roots minted x → Reaches all (Roots c) x
-  minted_root x (in_fields h) = root (in_fields h)
-  minted_root x (in_frame h) = root (in_frame h)
-  minted_root x (in_table h) = root (in_table (minted_held x h))
-
-  pub mint_closed : IsClosedAt all me minted
-  mint_closed x h = minted_on x (closed x (reach_more all minted_root h))
-
-  pub mint_rows : RowsAreAt all me minted.holdings
-  mint_rows x k = row-mint_all me x es c.holdings ∙ rows x (minted_back x k)
 
 -- ---- what the arguments reach over the actor's own rows is what they reach over all rows
 
