@@ -1,0 +1,123 @@
+-- A block, as the detector's laws see it; it keeps all that is kept of the counts.
+use Rattle.std.proofs.Common.{◌≡◌, ◌≢◌, ℕ, ◌<◌, not, ◌&&◌, ◌||◌, true, false, is_none, is_some, Option, Some, None, List, [], ◌∷◌, ◌++◌, length, set, refl, ap, sym, ◌∙◌, arith, ⊎_elim, get_or-set_same, get_or-set_other, length-set, eq-eqb, ne_eqb}
+use Rattle.std.proofs.lemmas.Bool.{and_parts, cases_eq, not-true, or_parts}
+use mathlib.Core.Path.{fun_ext}
+use Rattle.orca_names.specs.declared.names.Thing.{Thing}
+use Rattle.orca_names.specs.declared.names.Thing.TheVariants.{Actor}
+use Rattle.turn_rules.specs.declared.act.Frame.{Frame}
+use Rattle.letter_kinds.specs.declared.letter.Letter.{Letter}
+use Rattle.letter_kinds.specs.declared.note.Note.{Note}
+use Rattle.letter_kinds.specs.declared.note.Note.TheVariants.{Block}
+use Rattle.letter_kinds.specs.declared.note.Report.{Report}
+use Rattle.letter_kinds.specs.Detector.{Detector}
+use Rattle.letter_kinds.specs.Holdings.{Holdings, Row}
+use Rattle.letter_kinds.specs.Reports.{report_told}
+use Rattle.detector_laws.specs.Events.{CanBlock}
+use Rattle.detector_laws.specs.World as view
+use Rattle.machine_laws.proofs.Collecting.{same_loads}
+use Rattle.machine_laws.proofs.HeldActors.{count_on-held_actors}
+use Rattle.machine_laws.proofs.Seen.{cell_of, kinds, letters_of, mail_at, world_of}
+use Rattle.machine_rules.proofs.Agreeing.{agrees_same}
+use Rattle.machine_rules.proofs.Every.{every_set}
+use Rattle.machine_rules.proofs.InHand.{in_hand, none, out_of_hand}
+use Rattle.machine_rules.proofs.InvTake.{Alike, alike_closed}
+use Rattle.machine_rules.proofs.Seats.{present_below}
+use Rattle.machine_rules.proofs.Sends.{cell_balanced, cell_prefix}
+use Rattle.machine_rules.specs.Actors.{Actors, Seat, seat, seat_at}
+use Rattle.machine_rules.specs.Agreement.{Person}
+use Rattle.machine_rules.specs.Balance.{load_sum}
+use Rattle.machine_rules.specs.Block.{held_actors, may_block, no_letters}
+use Rattle.machine_rules.specs.Cell.{Cell}
+use Rattle.machine_rules.specs.Facts.{IsFirmAt, IsPastRows, KeepsCounts}
+use Rattle.machine_rules.specs.Known.{IsSoundAt}
+
+-- the actor has its report out
+abbrev pub reporting : Cell → Cell
+reporting c = record c { reported = true }
+
+-- what it reports
+abbrev pub report_of_cell : ℕ → Cell → Report
+report_of_cell a c = report_told a c.holdings.count (held_actors c.holdings)
+
+-- ---- what a block asks
+
+pub record MayBlock (c : Cell) : Type 0 where
+  pub idle : c.frame ≡ None
+  pub clean : c.dirty ≡ false
+  pub unpinned : c.fields.pinned ≡ false
+  pub quiet : c.reported ≡ false
+
+no_frame : (f : Option Frame) → is_none f ≡ true → f ≡ None
+no_frame None e = refl
+no_frame (Some f) e = cc
+
+pub may_then : (c : Cell) (ls : List Letter) → may_block c ls ≡ true → MayBlock c
+may_then c ls e =
+    let idle = and_parts (is_none c.frame) (no_letters ls && not (c.dirty || (c.fields.pinned || c.reported))) e in
+    let rest = and_parts (no_letters ls) (not (c.dirty || (c.fields.pinned || c.reported))) idle.1 in
+    let clean = or_parts c.dirty (c.fields.pinned || c.reported) (not-true _ rest.1) in
+    let last = or_parts c.fields.pinned c.reported clean.1 in
+    record { idle = no_frame c.frame idle.0; clean = clean.0; unpinned = last.0; quiet = last.1 }
+
+-- ---- the counts
+
+alike : (me : ℕ) (h : Holdings) → Alike me h h
+alike me h = record { foreign = refl; next = refl; has = λ x. refl; rows = λ x. refl }
+
+module _ (s : Actors) (a : ℕ) (c : Cell) (ls : List Letter) (at : seat_at s a ≡ seat c ls) where
+  within : a < length s
+  within = present_below s a _ at
+
+  pub block_keeps : (all : Thing → Option Row) (ps : List Person) → KeepsCounts all ps s → KeepsCounts all ps (set s a (seat (reporting c) ls))
+  block_keeps all ps keeps =
+      let here = keeps.sound a c ls at in
+      record {
+        balanced = out_of_hand _ (cell_balanced s a c (reporting c) ls at none none none none (λ x is. omega arith) (λ x not. omega arith) (in_hand s keeps.balanced));
+        prefixes = cell_prefix s a c (reporting c) ls at (λ x is. omega arith) keeps.prefixes;
+        sound = every_set (IsSoundAt all) s a (reporting c) ls within
+            (record { closed = alike_closed all a c c.holdings c.dirty true (alike a c.holdings) here.closed; rows = here.rows; loads = here.loads }) keeps.sound;
+        agrees = agrees_same ps s a c (reporting c) ls ls at refl keeps.agrees;
+        bare = keeps.bare;
+        serials = every_set (IsPastRows all) s a (reporting c) ls within (keeps.serials a c ls at) keeps.serials;
+        long = keeps.long ∙ sym (length-set s a (seat (reporting c) ls));
+        unmade = λ b h k. keeps.unmade b (let w = length-set s a (seat (reporting c) ls) in omega arith) k;
+        firm = every_set IsFirmAt s a (reporting c) ls within (keeps.firm a c ls at) keeps.firm;
+      }
+
+  -- ---- the world
+
+  pub can_block : (d : Detector) (ns : List Note) → MayBlock c → CanBlock (world_of s d ns) a (report_of_cell a c)
+  can_block d ns may = record {
+    present = ap (λ o. (cell_of o).present) at;
+    quiet = ap (λ o. (cell_of o).reported) at ∙ may.quiet;
+    unpinned = ap (λ o. (cell_of o).pinned) at ∙ may.unpinned;
+    clean = ap (λ o. (cell_of o).dirty) at ∙ may.clean;
+    idle = ap (λ o. (cell_of o).framed) at ∙ ap is_some may.idle;
+    exact = record {
+      actor = refl;
+      count = sym (ap (λ o. (cell_of o).count) at);
+      held = λ x. count_on-held_actors c.holdings x ∙ sym (ap (λ o. (cell_of o).foreign x) at);
+    };
+  }
+
+  there : (b : ℕ) → b ≢ a → seat_at (set s a (seat (reporting c) ls)) b ≡ seat_at s b
+  there b n = get_or-set_other s a b (seat (reporting c) ls) None n
+
+  mine : seat_at (set s a (seat (reporting c) ls)) a ≡ seat (reporting c) ls
+  mine = get_or-set_same s a (seat (reporting c) ls) None within
+
+  pub block_is : (d : Detector) (ns : List Note)
+      → world_of (set s a (seat (reporting c) ls)) d (ns ++ Block a c.holdings.count (held_actors c.holdings) ∷ []) ≡ view.block (world_of s d ns) a (report_of_cell a c)
+  block_is d ns =
+      let s1 = set s a (seat (reporting c) ls) in
+      let made : length s1 ≡ length s = length-set s a (seat (reporting c) ls) in
+      let cell : (λ b. cell_of (seat_at s1 b)) ≡ view.at (λ b. cell_of (seat_at s b)) a (record (cell_of (seat_at s a)) { reported = true }) = fun_ext (λ b. ⊎_elim
+      (λ same. rw (eq-eqb b a same, same) (ap cell_of mine ∙ ap (λ (o : Option Seat). record (cell_of o) { reported = true }) (sym at)))
+      (λ other. rw (ne_eqb b a other) (ap cell_of (there b other)))
+      (cases_eq b a)) in
+      let mail : (λ b. mail_at s1 b) ≡ (λ b. mail_at s b) = fun_ext (λ b. ⊎_elim
+      (λ same. rw same (ap (λ o. kinds (letters_of o)) mine ∙ sym (ap (λ o. kinds (letters_of o)) at)))
+      (λ other. ap (λ o. kinds (letters_of o)) (there b other))
+      (cases_eq b a)) in
+      let loaded : (λ x. load_sum (Actor x) s1) ≡ (λ x. load_sum (Actor x) s) = fun_ext (λ x. same_loads s a c (reporting c) ls at (Actor x)) in
+      λ i. record { made = made i; cell = cell i; mail = mail i; loaded = loaded i; detector = d; notes = ns ++ Block a c.holdings.count (held_actors c.holdings) ∷ [] }

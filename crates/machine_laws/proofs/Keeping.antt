@@ -1,0 +1,100 @@
+-- Each event keeps what holds of the detector; those that the plain machine does not do keep what is kept of the counts.
+use Rattle.std.proofs.Common.{◌≡◌, ℕ, Bool, true, false, Option, Some, None, List, [], ◌∷◌, refl, subst}
+use Rattle.orca_names.specs.declared.names.Thing.{Thing}
+use Rattle.event_rule.specs.declared.event.Event.{Event}
+use Rattle.event_rule.specs.declared.event.Event.TheVariants.{Block, Hear, Scan, Reap}
+use Rattle.letter_kinds.specs.declared.letter.Letter.{Letter}
+use Rattle.letter_kinds.specs.declared.note.Note.{Note}
+use Rattle.letter_kinds.specs.Detector.{Token, all_acked, closed_set, token_numbered}
+use Rattle.letter_kinds.specs.Holdings.{Row}
+use Rattle.detector_laws.proofs.Named.{numbered_is_open}
+use Rattle.detector_laws.proofs.Reap.{reaped_sealed}
+use Rattle.detector_laws.proofs.Steps.{step_keeps}
+use Rattle.detector_laws.specs.Facts.{DetectorFacts}
+use Rattle.detector_laws.specs.Tokens.{IsSealed}
+use Rattle.machine_laws.proofs.Balancing.{balanced}
+use Rattle.machine_laws.proofs.Blocking.{block_keeps}
+use Rattle.machine_laws.proofs.OwnThings.{HoldsNoOwn}
+use Rattle.machine_laws.proofs.Parting.{goes_to, not_enabled}
+use Rattle.machine_laws.proofs.Reaping.{reap_reaps}
+use Rattle.machine_laws.proofs.Scanning.{scan_keeps}
+use Rattle.machine_laws.proofs.Sealing.{reap_keeps}
+use Rattle.machine_laws.proofs.Seen.{world}
+use Rattle.machine_laws.proofs.Stepping.{next_steps}
+use Rattle.machine_rules.specs.Actors.{Seat, seat, seat_at}
+use Rattle.machine_rules.specs.Agreement.{Person}
+use Rattle.machine_rules.specs.Block.{block_at, block_in, may_block}
+use Rattle.machine_rules.specs.Cell.{Cell}
+use Rattle.machine_rules.specs.Detect.{hear_in, reap_found, reap_in, scan_in}
+use Rattle.machine_rules.specs.Facts.{Every, KeepsCounts}
+use Rattle.machine_rules.specs.Next.{next}
+use Rattle.machine_rules.specs.State.{State, Goes}
+
+-- the counts are kept beside the same persons and rows, and the rest that the plain machine sees stays
+pub record KeepsBeside (all : Thing → Option Row) (people : List Person) (s t : State) : Type 0 where
+  pub counts : KeepsCounts all people t.actors
+  pub program : t.program ≡ s.program
+  pub prints : t.prints ≡ s.prints
+  pub objects : t.objects ≡ s.objects
+
+module _ (s t : State) (all : Thing → Option Row) (people : List Person) (keeps : KeepsCounts all people s.actors) (facts : DetectorFacts (world s)) where
+  -- every event keeps what holds of the detector
+  pub next_keeps : Every HoldsNoOwn s.actors → (e : Event) → next s e ≡ Goes t → DetectorFacts (world t)
+  next_keeps own e is =
+      step_keeps (world s) (world t) (balanced s.actors s.detector s.notes keeps.balanced own) (next_steps s t all people keeps facts e is) facts
+
+  -- a token that is reaped is sealed
+  pub token_sealed : (number : ℕ) (token : Token) → token_numbered number s.detector ≡ Some token → all_acked token ≡ true → IsSealed (world s).cell (world s).mail (world s).loaded s.notes token
+  token_sealed number token at acked =
+      reaped_sealed (world s) _ token (reap_reaps s.actors s.detector s.notes token all people keeps (numbered_is_open s.detector number token at).0 acked) facts.tokens
+
+  abbrev Beside : State → Type 0
+  Beside u = KeepsBeside all people s u
+
+  arrived : (u : State) → Goes u ≡ Goes t → Beside u → Beside t
+  arrived u e k = subst Beside (goes_to u t e) k
+
+  -- ---- block
+
+  blocks : (a : ℕ) (c : Cell) (ls : List Letter) (q : Bool) → seat_at s.actors a ≡ seat c ls → block_in s a c ls q ≡ Goes t → Beside t
+  blocks a c ls false at e = absurd (not_enabled t e)
+  blocks a c ls true at e = arrived _ e (record { counts = block_keeps s.actors a c ls at all people keeps; program = refl; prints = refl; objects = refl })
+
+  block_seat : (a : ℕ) (o : Option Seat) → seat_at s.actors a ≡ o → block_at s a o ≡ Goes t → Beside t
+  block_seat a None at e = absurd (not_enabled t e)
+  block_seat a (Some o) at e = blocks a o.cell o.mail (may_block o.cell o.mail) at e
+
+  pub block_beside : (a : ℕ) → next s (Block a) ≡ Goes t → Beside t
+  block_beside a e = block_seat a (seat_at s.actors a) refl e
+
+  -- ---- hear
+
+  hears : (ns : List Note) → hear_in s ns ≡ Goes t → Beside t
+  hears [] e = absurd (not_enabled t e)
+  hears (n ∷ ns) e = arrived _ e (record { counts = keeps; program = refl; prints = refl; objects = refl })
+
+  pub hear_beside : next s Hear ≡ Goes t → Beside t
+  hear_beside e = hears s.notes e
+
+  -- ---- scan
+
+  scans : (news : Bool) → scan_in s (closed_set s.detector) news ≡ Goes t → Beside t
+  scans false e = absurd (not_enabled t e)
+  scans true e = arrived _ e (record { counts = scan_keeps s.actors s.detector s.notes facts.rising facts.reports all people keeps; program = refl; prints = refl; objects = refl })
+
+  pub scan_beside : next s Scan ≡ Goes t → Beside t
+  scan_beside e = scans s.detector.news e
+
+  -- ---- reap
+
+  reaps_one : (number : ℕ) (token : Token) → token_numbered number s.detector ≡ Some token → (q : Bool) → all_acked token ≡ q → reap_in s token q ≡ Goes t → Beside t
+  reaps_one number token at false is e = absurd (not_enabled t e)
+  reaps_one number token at true is e =
+      arrived _ e (record { counts = reap_keeps s.actors s.notes token all people keeps (token_sealed number token at is); program = refl; prints = refl; objects = refl })
+
+  reaps : (number : ℕ) (found : Option Token) → token_numbered number s.detector ≡ found → reap_found s found ≡ Goes t → Beside t
+  reaps number None at e = absurd (not_enabled t e)
+  reaps number (Some token) at e = reaps_one number token at (all_acked token) refl e
+
+  pub reap_beside : (number : ℕ) → next s (Reap number) ≡ Goes t → Beside t
+  reap_beside number e = reaps number (token_numbered number s.detector) refl e

@@ -1,0 +1,161 @@
+-- A reap, as the detector's laws see it.
+use Rattle.std.proofs.Common.{◌≡◌, ℕ, ◌<◌, ◌≤◌, ◌==◌, ◌||◌, Bool, true, false, cond, Option, Some, None, List, [], ◌∷◌, ◌++◌, length, set, refl, ap, sym, subst, ◌∙◌, arith, ⊎_elim, get_or-set_same, get_or-set_other, length-set, eq-eqb, ne_eqb}
+use Rattle.std.proofs.lemmas.Bool.{cases_eq, cases_lt, false≢true}
+use Rattle.std.proofs.lemmas.List.{get_or_past}
+use Rattle.machine_laws.proofs.Moving.{push_other, push_here, sum_by-set_past}
+use Rattle.machine_laws.proofs.Collecting.{owner_held, NotTo, not_to, decs_quiet, decs_adds, decs_loads}
+use Rattle.detector_laws.specs.World.{LetterKind}
+use Rattle.detector_laws.specs.Events.{Reaps}
+use Rattle.detector_laws.specs.World.{In, NoConfirms}
+use Rattle.letter_kinds.specs.Counting.{given_back, by_owner}
+use Rattle.letter_kinds.specs.Detector.{all_acked, has, Detector, Token, close_token}
+use Rattle.letter_kinds.specs.Holdings.{Row, held_in}
+use Rattle.letter_kinds.specs.declared.letter.Letter.{Letter}
+use Rattle.letter_kinds.specs.declared.letter.Letter.TheVariants.{Dec}
+use Rattle.letter_kinds.specs.declared.note.Note.{Note}
+use Rattle.machine_laws.proofs.Seen.{mail_at, world_of, letters_of, kinds, cell_of}
+use Rattle.machine_rules.proofs.InvReap.{every_none}
+use Rattle.machine_rules.proofs.Reaps.{AllIn}
+use Rattle.machine_rules.proofs.SeatReads.{loads_at-none}
+use Rattle.machine_rules.proofs.Sweeping.{amount-given_back, firm_counted}
+use Rattle.machine_rules.proofs.Sweeps.{owed, owed-groups, firm_groups}
+use Rattle.machine_rules.specs.Actors.{Seat, Actors, seat_at, with_letter_more, push_letter, push_decs}
+use Rattle.machine_rules.specs.Balance.{loads_at, load_sum}
+use Rattle.machine_rules.specs.Cell.{Cell}
+use Rattle.machine_rules.specs.Detect.{held_outside, reaped}
+use Rattle.machine_rules.specs.Agreement.{Person}
+use Rattle.machine_rules.specs.Facts.{Every, KeepsCounts}
+use Rattle.orca_names.specs.Names.{owner_of}
+use Rattle.orca_names.specs.declared.names.Thing.{Thing}
+use Rattle.orca_names.specs.declared.names.Thing.TheVariants.{Actor}
+use Rattle.std.proofs.lemmas.List.Sums.{sum_by-set}
+
+-- ---- the members are gone
+
+set_clears : (s : Actors) (m : ℕ) → seat_at (set s m None) m ≡ None
+set_clears s m = ⊎_elim
+    (λ within. get_or-set_same s m None None within)
+    (λ past. get_or_past (set s m None) m None (let z = length-set s m None in omega arith))
+    (cases_lt m (length s))
+
+still_none : (s : Actors) (m i : ℕ) → seat_at s i ≡ None → seat_at (set s m None) i ≡ None
+still_none s m i e = ⊎_elim (λ same. rw same (set_clears s m)) (λ other. get_or-set_other s m i None None other ∙ e) (cases_eq i m)
+
+push_none : (s : Actors) (b i : ℕ) (l : Letter) → seat_at s i ≡ None → seat_at (push_letter b l s) i ≡ None
+push_none s b i l e = ⊎_elim
+    (λ same. ap (seat_at (push_letter b l s)) same ∙ push_here s b l ∙ ap (with_letter_more l) (ap (seat_at s) (sym same) ∙ e))
+    (λ other. push_other s b l i other ∙ e)
+    (cases_eq i b)
+
+decs_none : (gs : List (ℕ × List (Thing × ℕ))) (s : Actors) (i : ℕ) → seat_at s i ≡ None → seat_at (push_decs gs s) i ≡ None
+unfolding push_decs
+decs_none [] s i e = e
+decs_none (g ∷ gs) s i e = decs_none gs (push_letter g.0 (Dec g.1) s) i (push_none s g.0 i (Dec g.1) e)
+
+reap_none : (all ms : List ℕ) (gs : List (ℕ × List (Thing × ℕ))) (s : Actors) (i : ℕ) → seat_at s i ≡ None → seat_at (reaped all ms gs s) i ≡ None
+unfolding reaped
+reap_none all [] gs s i e = decs_none gs s i e
+reap_none all (m ∷ ms) gs s i e = reap_none all ms _ (set s m None) i (still_none s m i e)
+
+reap_gone : (all ms : List ℕ) (gs : List (ℕ × List (Thing × ℕ))) (s : Actors) (i : ℕ) → has ms i ≡ true → seat_at (reaped all ms gs s) i ≡ None
+unfolding reaped
+reap_gone all [] gs s i h = absurd (false≢true h)
+reap_gone all (m ∷ ms) gs s i h = ⊎_elim
+    (λ same. reap_none all ms _ (set s m None) i (ap (seat_at (set s m None)) same ∙ set_clears s m))
+    (λ other. reap_gone all ms _ (set s m None) i (rw (ne_eqb m i (λ e. other (sym e))) at h))
+    (cases_eq i m)
+
+-- ---- the others stay, and get Decs
+abbrev AddsAt : Actors → Actors → ℕ → Type 0
+AddsAt s s' b = (cell_of (seat_at s' b) ≡ cell_of (seat_at s b)) × ((come : List LetterKind) × (mail_at s' b ≡ mail_at s b ++ come) × NoConfirms come)
+
+reap_adds : (all ms : List ℕ) (gs : List (ℕ × List (Thing × ℕ))) (s : Actors) (b : ℕ) → has ms b ≡ false → AddsAt s (reaped all ms gs s) b
+unfolding reaped
+reap_adds all [] gs s b out = let z = decs_adds gs s in (z.cell b, z.mail b)
+reap_adds all (m ∷ ms) gs s b out = ⊎_elim
+    (λ same. absurd (let z = eq-eqb m b (sym same) in false≢true (sym out ∙ rw z refl)))
+    (λ other.
+    let rest = reap_adds all ms (gs ++ by_owner (held_outside all (seat_at s m))) (set s m None) b (rw (ne_eqb m b (λ e. other (sym e))) at out) in
+    let there = get_or-set_other s m b None None other in
+    (rest.0 ∙ ap cell_of there, (rest.1.0, rest.1.1 ∙ ap (λ (o : Option Seat). kinds (letters_of o) ++ rest.1.0) there, rest.1.2)))
+    (cases_eq b m)
+
+not_to_append : (b : ℕ) (gs hs : List (ℕ × List (Thing × ℕ))) → NotTo b gs → NotTo b hs → NotTo b (gs ++ hs)
+not_to_append b [] hs h k = k
+not_to_append b (g ∷ gs) hs h k = (h.0, not_to_append b gs hs h.1 k)
+
+-- no Dec of a member goes to b
+abbrev Spares : List ℕ → ℕ → ℕ → Cell → List Letter → Type 0
+Spares all b m c ls = has all m ≡ true → NotTo b (by_owner (given_back (λ x. has all (owner_of x)) c.holdings))
+
+spared : (all : List ℕ) (b m : ℕ) (s : Actors) (o : Option Seat) → seat_at s m ≡ o → has all m ≡ true → Every (Spares all b) s → NotTo b (by_owner (held_outside all o))
+unfolding by_owner
+spared all b m s None e ins every = tt
+spared all b m s (Some o) e ins every = every m o.cell o.mail e ins
+
+reap_quiet : (all ms : List ℕ) (gs : List (ℕ × List (Thing × ℕ))) (s : Actors) (b : ℕ) → AllIn all ms → has ms b ≡ false → NotTo b gs → Every (Spares all b) s → seat_at (reaped all ms gs s) b ≡ seat_at s b
+unfolding reaped
+reap_quiet all [] gs s b ins out none every = decs_quiet b gs s none
+reap_quiet all (m ∷ ms) gs s b ins out none every = ⊎_elim
+    (λ same. absurd (let z = eq-eqb m b (sym same) in false≢true (sym out ∙ rw z refl)))
+    (λ other.
+    reap_quiet all ms (gs ++ by_owner (held_outside all (seat_at s m))) (set s m None) b ins.1 (rw (ne_eqb m b (λ e. other (sym e))) at out)
+    (not_to_append b gs (by_owner (held_outside all (seat_at s m))) none (spared all b m s (seat_at s m) refl ins.0 every)) (every_none (Spares all b) s m every)
+    ∙ get_or-set_other s m b None None other)
+    (cases_eq b m)
+
+-- ---- loads
+clear_loads : (x : Thing) (s : Actors) (m : ℕ) → load_sum x (set s m None) ≤ load_sum x s
+clear_loads x s m = ⊎_elim
+    (λ lt. omega (arith, sum_by-set (loads_at x) s m None None lt, loads_at-none x))
+    (λ ge. omega (arith, sum_by-set_past (loads_at x) s m None ge))
+    (cases_lt m (length s))
+
+reap_loads : (x : Thing) (all ms : List ℕ) (gs : List (ℕ × List (Thing × ℕ))) (s : Actors) → load_sum x (reaped all ms gs s) ≤ load_sum x s
+unfolding reaped
+reap_loads x all [] gs s = decs_loads x gs s
+reap_loads x all (m ∷ ms) gs s = omega (arith, reap_loads x all ms (gs ++ by_owner (held_outside all (seat_at s m))) (set s m None), clear_loads x s m)
+
+pub all_in : (ms ks : List ℕ) → ((m : ℕ) → has ks m ≡ true → has ms m ≡ true) → AllIn ms ks
+all_in ms [] h = tt
+all_in ms (k ∷ ks) h = (h k (rw (eq-eqb k k refl) refl), all_in ms ks (λ m p. h m (more (k == m) (has ks m) p)))
+  where
+    more : (p q : Bool) → q ≡ true → (p || q) ≡ true
+    more true q e = refl
+    more false q e = e
+
+module _ (s : Actors) (d : Detector) (ns : List Note) (t : Token) (all : Thing → Option Row) (ps : List Person) (keeps : KeepsCounts all ps s) (opened : In t d.tokens) (acked : all_acked t ≡ true) where
+  gone_at : (m : ℕ) → has t.members m ≡ true → seat_at (reaped t.members t.members [] s) m ≡ None
+  gone_at m h = reap_gone t.members t.members [] s m h
+
+  spares : (i : ℕ) → has t.members i ≡ false → ((m : ℕ) → has t.members m ≡ true → (cell_of (seat_at s m)).foreign i ≡ 0) → Every (Spares t.members i) s
+  spares i out free m c ls at ins = not_to i (by_owner (given_back marked c.holdings)) (firm_groups _ (firm_counted marked c.holdings (keeps.firm m c ls at))) unowed
+    where
+      marked : Thing → Bool
+      marked = λ x. has t.members (owner_of x)
+
+      some : (q : Bool) (n : ℕ) → 0 < cond q 0 n → 0 < n
+      some true n h = absurd (omega arith)
+      some false n h = h
+
+      unowed : (x : Thing) → owner_of x ≡ i → 0 < owed (by_owner (given_back marked c.holdings)) x → ⊥
+      unowed x o p =
+          let held = some (marked x) (held_in c.holdings x) (subst (λ (k : ℕ). 0 < k) (owed-groups (given_back marked c.holdings) x ∙ amount-given_back marked c.holdings x) p) in
+          let up : 0 < held_in c.holdings (Actor (owner_of x)) = owner_held all m c (keeps.sound m c ls at).closed x held (λ e. false≢true (sym out ∙ ap (has t.members) (sym o ∙ e) ∙ ins)) in
+          let z = ap (λ (k : ℕ). held_in c.holdings (Actor k)) o in
+          let w = sym (ap (λ q. (cell_of q).foreign i) at) ∙ free m ins in
+          absurd (omega arith)
+
+  pub reap_reaps : Reaps (world_of s d ns) t (world_of (reaped t.members t.members [] s) (close_token t d) ns)
+  reap_reaps = record {
+    is_open = opened;
+    acked = acked;
+    detector = refl;
+    notes = refl;
+    gone = λ m h. let e = gone_at m h in (ap (λ o. (cell_of o).present) e, ap (λ o. (cell_of o).reported) e, ap (λ o. kinds (letters_of o)) e);
+    empty = λ m x h. ap (λ o. (cell_of o).foreign x) (gone_at m h);
+    stays = λ i out. (reap_adds t.members t.members [] s i out).0;
+    sends = λ i out. (reap_adds t.members t.members [] s i out).1;
+    sends_held = λ i out free. ap (λ o. kinds (letters_of o)) (reap_quiet t.members t.members [] s i (all_in t.members t.members (λ m h. h)) out tt (spares i out free));
+    unloaded = λ x h. omega (arith, h, reap_loads (Actor x) t.members t.members [] s);
+  }
