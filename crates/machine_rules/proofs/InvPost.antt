@@ -37,7 +37,7 @@ next_send_one : (me : ℕ) (e : Loaded) (c : Holdings) (b : Bool) → (cond b (r
 next_send_one me e c true = next_own (λ h. h + 1) e.0 c
 next_send_one me e c false = next_held (λ h. h - 1) e.0 (entry_row (m.get c.foreign e.0)) c
 
-next_send : (me : ℕ) (es : List Loaded) (c : Holdings) → (send me es c).next ≡ c.next
+pub next_send : (me : ℕ) (es : List Loaded) (c : Holdings) → (send me es c).next ≡ c.next
 unfolding send
 next_send me [] c = refl
 next_send me (e ∷ es) c = next_send me es _ ∙ next_send_one me e c (owner_of e.0 == me)

@@ -37,10 +37,10 @@ kept_entry false o = refl
 
 module _ (marked : Thing → Bool) (me : ℕ) (c : Holdings) where
   -- an own object stays where it is marked or counted
-  stays : ℕ → Bool
+  unfoldable pub stays : ℕ → Bool
   stays k = marked (Obj (record { owner = me; serial = k })) || not (row_count (m.get c.rows k) == 0)
 
-  get_row-sweep : (k : ℕ) → m.get (sweep marked me c).rows k ≡ cond (stays k) (m.get c.rows k) None
+  pub get_row-sweep : (k : ℕ) → m.get (sweep marked me c).rows k ≡ cond (stays k) (m.get c.rows k) None
   unfolding sweep stays
   get_row-sweep k = m.get-retain_keys c.rows _ k
       (λ j t. ap (λ i. marked (Obj (record { owner = me; serial = i })) || not (row_count (m.get c.rows i) == 0)) (sym (m.nat_cmp-IsAntisymmetric k j t)))

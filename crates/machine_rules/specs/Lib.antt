@@ -3,6 +3,7 @@ pub mod Agreement
 pub mod Balance
 pub mod Block
 pub mod Cell
+pub mod Clean
 pub mod Collect
 pub mod Detect
 pub mod Facts
