@@ -6,13 +6,11 @@ pub mod Growing
 pub mod HeldActors
 pub mod Keeping
 pub mod Moving
-pub mod OwnThings
-pub mod Parting
+pub mod Noted
 pub mod Quieting
 pub mod Reaping
 pub mod Scanning
 pub mod Sealing
-pub mod Seen
 pub mod Starting
 pub mod Stepping
 pub mod Taking

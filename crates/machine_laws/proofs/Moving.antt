@@ -11,7 +11,8 @@ use Rattle.letter_kinds.specs.Sums.{load_count}
 use Rattle.letter_kinds.specs.declared.letter.Letter.{Letter}
 use Rattle.letter_kinds.specs.declared.note.Note.{Note}
 use Rattle.letter_kinds.specs.declared.note.Note.TheVariants.{Unblock}
-use Rattle.machine_laws.proofs.Seen.{kind_of, kinds, cell_of, letters_of, mail_at, world_of, noted}
+use Rattle.machine_laws.specs.Seen.{kind_of, kinds, cell_of, letters_of, mail_at, world_of}
+use Rattle.machine_laws.proofs.Noted.{noted}
 use Rattle.machine_rules.proofs.Posting.{loads_at_push}
 use Rattle.machine_rules.proofs.SeatReads.{loads_at-none}
 use Rattle.machine_rules.proofs.Seats.{present_below}

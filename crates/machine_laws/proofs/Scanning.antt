@@ -17,7 +17,7 @@ use Rattle.letter_kinds.specs.Sums.{inc_of, dec_of}
 use Rattle.letter_kinds.specs.declared.letter.Letter.TheVariants.{Confirm}
 use Rattle.letter_kinds.specs.declared.note.Note.{Note}
 use Rattle.letter_kinds.specs.declared.note.Report.{Report}
-use Rattle.machine_laws.proofs.Seen.{mail_at, world_of, letters_of, kinds, cell_of}
+use Rattle.machine_laws.specs.Seen.{mail_at, world_of, letters_of, kinds, cell_of}
 use Rattle.machine_rules.proofs.Agreeing.{agrees_push_other}
 use Rattle.machine_rules.proofs.Every.{every_push, length-push}
 use Rattle.machine_rules.proofs.Global.{mail_push}

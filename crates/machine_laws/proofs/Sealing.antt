@@ -10,7 +10,7 @@ use Rattle.letter_kinds.specs.Sums.{load_count}
 use Rattle.letter_kinds.specs.declared.letter.Letter.{Letter}
 use Rattle.letter_kinds.specs.declared.letter.Letter.TheVariants.{App, Inc, Dec, Confirm}
 use Rattle.letter_kinds.specs.declared.note.Note.{Note}
-use Rattle.machine_laws.proofs.Seen.{mail_at, letters_of, kinds, cell_of}
+use Rattle.machine_laws.specs.Seen.{mail_at, letters_of, kinds, cell_of}
 use Rattle.machine_rules.proofs.InvReap.{AllSealed, Sealed, inv_reap}
 use Rattle.machine_rules.proofs.SeatReads.{loads_at-seat, letter_Confirm}
 use Rattle.machine_rules.proofs.Seats.{present_below}

@@ -15,7 +15,8 @@ use Rattle.letter_kinds.specs.declared.letter.Letter.{Letter}
 use Rattle.letter_kinds.specs.declared.letter.Letter.TheVariants.{App, Inc, Dec, Confirm}
 use Rattle.letter_kinds.specs.declared.note.Note.{Note}
 use Rattle.letter_kinds.specs.declared.note.Note.TheVariants.{Ack}
-use Rattle.machine_laws.proofs.Seen.{kind_of, mail_at, world_of, noted, acked, letters_of, kinds, cell_of}
+use Rattle.machine_laws.specs.Seen.{kind_of, mail_at, world_of, letters_of, kinds, cell_of}
+use Rattle.machine_laws.proofs.Noted.{noted, acked}
 use Rattle.machine_rules.proofs.InHand.{take_letter}
 use Rattle.behaviour_code.specs.declared.code.Program.{Program}
 use Rattle.machine_rules.proofs.SeatReads.{letter_App, letter_Confirm, loads_at-seat}

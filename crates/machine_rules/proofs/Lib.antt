@@ -44,6 +44,7 @@ pub mod Sending
 pub mod Sends
 pub mod Slices
 pub mod Starting
+pub mod Steps
 pub mod Sweeping
 pub mod Sweeps
 pub mod Takes
