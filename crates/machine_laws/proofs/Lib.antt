@@ -1,3 +1,4 @@
+pub mod AtQuiet
 pub mod Balancing
 pub mod Blocking
 pub mod Collecting
@@ -14,3 +15,4 @@ pub mod Sealing
 pub mod Starting
 pub mod Stepping
 pub mod Taking
+pub mod WholeRuns
