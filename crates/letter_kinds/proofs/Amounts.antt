@@ -1,18 +1,13 @@
-use Rattle.std.proofs.Common.{◌≡◌, ◌≢◌, ◌⊎◌, ℕ, suc, zero, ◌+◌, ◌-◌, ◌<◌, ◌≤◌, ◌==◌, ◌||◌, not, Bool, true, false, cond, Option, Some, None, is_some, List, [], ◌∷◌, ◌++◌, map, refl, ap, sym, ◌∙◌, subst, arith, inl, inr, ⊎_elim, eq-eqb, ne_eqb}
+use Rattle.std.proofs.Common.{◌≡◌, ◌⊎◌, ℕ, suc, zero, ◌+◌, ◌-◌, ◌<◌, ◌==◌, Bool, true, false, cond, List, [], ◌∷◌, refl, ap, sym, ◌∙◌, arith, inl, inr, ⊎_elim}
 use Rattle.std.specs.FinMap as m
-use Rattle.std.specs.Ordering.{nat_cmp, eq_by_cmp}
-use Rattle.std.proofs.lemmas.Cmp.{nat_cmp_total}
 use Rattle.std.proofs.lemmas.Bool.{cases_eq}
 use Rattle.orca_names.proofs.ThingOrder.{cases_thing}
 use Rattle.letter_kinds.proofs.Counts.{amount-nil, amount-same, amount-other, own_set_at, own_set_other, held_set_own, own_set_held, held_set_same, held_set_other, has_set_own, cond_eq, cond_ne}
-use Rattle.letter_kinds.specs.Counting.{with_row_count, set_own, raise, lower, set_held, gain, spend, mint_one, raise_all, lower_all, mint_all}
-use Rattle.letter_kinds.specs.Holdings.{Holdings, Row, own_in, held_in, has_own, row_count, entry_count, entry_row}
-use Rattle.letter_kinds.specs.Sums.{amount_of, times_loaded}
-use Rattle.letter_kinds.specs.declared.letter.Letter.{Letter}
-use Rattle.orca_names.specs.Names.{owner_of, is_thing, thing_cmp}
+use Rattle.letter_kinds.specs.Counting.{raise, lower, mint_one, raise_all, lower_all, mint_all}
+use Rattle.letter_kinds.specs.Holdings.{Holdings, own_in, held_in, has_own, entry_row}
+use Rattle.letter_kinds.specs.Sums.{amount_of}
+use Rattle.orca_names.specs.Names.{owner_of}
 use Rattle.orca_names.specs.declared.names.Thing.{Thing}
-use Rattle.orca_names.specs.declared.names.Thing.TheVariants.{Actor, Obj}
-use Rattle.std.specs.Prelude.{sum_by}
 
 amount_more : (x : Thing) (e : Thing × ℕ) (es : List (Thing × ℕ)) → 0 < amount_of x es → 0 < amount_of x (e ∷ es)
 amount_more x e es h = ⊎_elim (λ is. let t = amount-same x e es is in omega arith) (λ not. let t = amount-other x e es not in omega arith) (cases_thing x e.0)

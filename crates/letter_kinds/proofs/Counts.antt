@@ -1,21 +1,18 @@
-use Rattle.std.proofs.Common.{◌≡◌, ◌≢◌, ◌⊎◌, ℕ, suc, zero, ◌+◌, ◌-◌, ◌<◌, ◌≤◌, ◌==◌, ◌||◌, not, Bool, true, false, cond, Option, Some, None, is_some, List, [], ◌∷◌, ◌++◌, refl, ap, sym, ◌∙◌, subst, arith, inl, inr, ⊎_elim, eq-eqb, ne_eqb}
+use Rattle.std.proofs.Common.{◌≡◌, ◌≢◌, ◌⊎◌, ℕ, ◌+◌, ◌-◌, ◌<◌, ◌==◌, true, cond, Option, Some, None, is_some, List, [], ◌∷◌, refl, ap, sym, ◌∙◌, arith, inl, inr, ⊎_elim, eq-eqb, ne_eqb}
 use Rattle.std.specs.FinMap as m
 use Rattle.std.specs.Ordering.{nat_cmp, eq_by_cmp}
 use Rattle.std.proofs.lemmas.Cmp.{nat_cmp_total}
 use Rattle.std.proofs.lemmas.Bool.{cases_eq}
 use Rattle.std.specs.Cmp.{unsigned_tied}
 use Rattle.std.proofs.lemmas.List.Sums.{sum_by-cons}
-use Rattle.letter_kinds.proofs.Sums.{sum-nil}
-use Rattle.orca_names.proofs.ThingOrder.{is_self, is_same, is_eq_true, is_ne_false, cases_thing, thing_total}
-use Rattle.letter_kinds.specs.Counting.{with_row_count, set_own, raise, lower, set_held, gain, spend, mint_one, receive_one, receive, send_one, send, raise_all, lower_all, mint_all, sweep}
-use Rattle.letter_kinds.specs.Holdings.{Holdings, Row, own_in, held_in, has_own, row_count, entry_count, entry_row}
+use Rattle.orca_names.proofs.ThingOrder.{is_self, is_eq_true, is_ne_false, cases_thing, thing_total}
+use Rattle.letter_kinds.specs.Counting.{with_row_count, set_own, raise, lower, set_held, gain, spend, receive_one, receive, send_one, send}
+use Rattle.letter_kinds.specs.Holdings.{Holdings, Row, own_in, held_in, has_own, row_count, entry_row}
 use Rattle.letter_kinds.specs.Sums.{amount_of, times_loaded}
-use Rattle.letter_kinds.specs.declared.letter.Letter.{Letter}
-use Rattle.orca_names.specs.Names.{owner_of, is_thing, thing_cmp}
+use Rattle.orca_names.specs.Names.{owner_of}
 use Rattle.orca_names.specs.declared.names.ObjName.{ObjName}
 use Rattle.orca_names.specs.declared.names.Thing.{Thing}
 use Rattle.orca_names.specs.declared.names.Thing.TheVariants.{Actor, Obj}
-use Rattle.std.specs.Prelude.{sum_by}
 
 pub cond_eq : {A : Type 0} (a b : ℕ) (x y : A) → a ≡ b → cond (a == b) x y ≡ x
 cond_eq a b x y e = rw (eq-eqb a b e) refl

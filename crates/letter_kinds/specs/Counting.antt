@@ -1,11 +1,9 @@
 -- What letters do to the counts of an actor that sends, takes, mints or collects
 -- (Orca, OOPSLA 2017).
-use Rattle.std.specs.Prelude.{ℕ, ◌+◌, ◌-◌, ◌≡◌, Bool, true, not, ◌&&◌, ◌||◌, ◌==◌, if◌then◌else◌, Option, Some, None, List, [], ◌∷◌, filter, map}
+use Rattle.std.specs.Prelude.{ℕ, ◌+◌, ◌-◌, Bool, not, ◌&&◌, ◌||◌, ◌==◌, if◌then◌else◌, Option, List, [], ◌∷◌, filter, map}
 use Rattle.std.specs.Option.{option_map_or}
 use Rattle.std.specs.FinMap as m
-use Rattle.std.specs.Ordering.{nat_cmp}
 use Rattle.orca_names.specs.Names.{owner_of}
-use Rattle.orca_names.specs.declared.names.ObjName.{ObjName}
 use Rattle.orca_names.specs.declared.names.Thing.{Thing}
 use Rattle.orca_names.specs.declared.names.Thing.TheVariants.{Actor, Obj}
 use Rattle.letter_kinds.specs.Holdings.{Row, OwnRows, Holdings, row_count, entry_row, held_in}

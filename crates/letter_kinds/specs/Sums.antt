@@ -1,5 +1,5 @@
 -- How much a letter says of a thing.
-use Rattle.std.specs.Prelude.{ℕ, ◌≡◌, Bool, List, if◌then◌else◌, sum_by}
+use Rattle.std.specs.Prelude.{ℕ, List, if◌then◌else◌, sum_by}
 use Rattle.orca_names.specs.Names.{is_thing, times_among}
 use Rattle.orca_names.specs.declared.names.Thing.{Thing}
 use Rattle.letter_kinds.specs.declared.letter.Letter.{Letter}

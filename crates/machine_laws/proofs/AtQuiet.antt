@@ -1,10 +1,7 @@
 -- Where a run ends quiet, exactly what is reachable is left, and the detector rests.
-use Rattle.std.proofs.Common.{◌≡◌, ◌≢◌, ℕ, zero, suc, ◌<◌, ◌+◌, Bool, true, false, Option, Some, None, is_some, List, [], ◌∷◌, refl, sym, ap, subst, ◌∙◌, arith, inl, inr}
+use Rattle.std.proofs.Common.{◌≡◌, ◌≢◌, ℕ, zero, suc, ◌<◌, true, false, Option, Some, None, List, [], ◌∷◌, refl, sym, ap, subst, ◌∙◌, arith, inl}
 use Rattle.std.proofs.lemmas.Bool.{false≢true}
-use Rattle.orca_names.specs.declared.names.Thing.{Thing}
 use Rattle.orca_names.specs.declared.names.Thing.TheVariants.{Actor}
-use Rattle.behaviour_code.specs.declared.code.Program.{Program}
-use Rattle.event_rule.specs.declared.event.Event.{Event}
 use Rattle.letter_kinds.specs.declared.letter.Letter.{Letter}
 use Rattle.letter_kinds.specs.declared.note.Report.{Report}
 use Rattle.letter_kinds.specs.Detector.{Token}

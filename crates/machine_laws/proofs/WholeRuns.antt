@@ -1,12 +1,11 @@
 -- All facts hold at the start, are kept by every event, and so hold after each run and each of its prefixes.
-use Rattle.std.proofs.Common.{◌≡◌, ℕ, Bool, true, false, List, [], ◌∷◌, ◌++◌, refl, sym, ap, subst, ◌∙◌}
+use Rattle.std.proofs.Common.{◌≡◌, Bool, true, false, List, [], ◌∷◌, ◌++◌, refl, sym, subst, ◌∙◌}
 use Rattle.std.specs.Prelude.{if◌then◌else◌}
 use Rattle.orca_names.specs.declared.names.Thing.{Thing}
 use Rattle.behaviour_code.specs.declared.code.Program.{Program}
 use Rattle.event_rule.specs.declared.event.Event.{Event}
 use Rattle.event_rule.specs.declared.event.Event.TheVariants.{Take, Go, Collect, Block, Hear, Scan, Reap}
 use Rattle.reach_walk.specs.Reach.{thing_row}
-use Rattle.letter_kinds.specs.Holdings.{Row}
 use Rattle.machine_laws.proofs.Keeping.{KeepsBeside, block_beside, hear_beside, next_keeps, reap_beside, scan_beside}
 use Rattle.machine_laws.proofs.Starting.{start_detects}
 use Rattle.machine_laws.specs.AllFacts.{AllFacts}
@@ -19,14 +18,11 @@ use Rattle.machine_rules.proofs.NoSelf.{no_self-first, no_self-next}
 use Rattle.machine_rules.proofs.Reachable.{reachable_lives}
 use Rattle.machine_rules.proofs.Starting as starting
 use Rattle.machine_rules.specs.Agreement.{people_of}
-use Rattle.machine_rules.specs.Facts.{Facts}
 use Rattle.machine_rules.specs.Left.{IsLeft}
 use Rattle.machine_rules.specs.Next.{next}
-use Rattle.machine_rules.specs.Plain as plain
-use Rattle.machine_rules.specs.Plain.{Outcome, PlainState, plain_row, start_of}
+use Rattle.machine_rules.specs.Plain.{PlainState, plain_row, start_of}
 use Rattle.machine_rules.specs.PlainReach.{IsReachable}
-use Rattle.machine_rules.specs.PlainRun.{outcome_of}
-use Rattle.machine_rules.specs.Run.{IsPlainBeside, IsRun, Leads, PlainFollows, PlainLeads, choices, choices_after, is_choice}
+use Rattle.machine_rules.specs.Run.{IsRun, Leads, PlainFollows, PlainLeads, choices, choices_after, is_choice}
 use Rattle.machine_rules.specs.State.{State, Step, Goes, first_state}
 
 pub start_all : StartHasAllFacts
@@ -41,12 +37,16 @@ start_all program = record {
 
 module _ (p : PlainState) (s t : State) (facts : AllFacts p s) where
   stayed : (e : Event) → KeepsBeside (thing_row (plain_row p.actors)) (people_of p.actors) s t → Beside false p e t
-  stayed e kept = (p, refl, record {
-    counts = kept.counts;
-    program = facts.beside.program ∙ sym kept.program;
-    prints = facts.beside.prints ∙ sym kept.prints;
-    objects = facts.beside.objects ∙ sym kept.objects;
-  })
+  stayed e kept = (
+    p,
+    refl,
+    record {
+      counts = kept.counts;
+      program = facts.beside.program ∙ sym kept.program;
+      prints = facts.beside.prints ∙ sym kept.prints;
+      objects = facts.beside.objects ∙ sym kept.objects;
+    },
+  )
 
   beside_after : (e : Event) → next s e ≡ Goes t → Beside (is_choice s e) p e t
   beside_after (Take a) goes = takes_keep a p s t facts.beside goes

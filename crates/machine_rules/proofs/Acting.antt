@@ -1,7 +1,7 @@
 -- The laws of take, go and collect, and of what speaks of one actor alone.
-use Rattle.std.proofs.Common.{◌≡◌, ℕ, Bool, true, false, refl}
+use Rattle.std.proofs.Common.{Bool, true, false, refl}
 use Rattle.event_rule.specs.declared.event.Event.{Event}
-use Rattle.event_rule.specs.declared.event.Event.TheVariants.{Take, Go, Collect}
+use Rattle.event_rule.specs.declared.event.Event.TheVariants.{Take, Go}
 use Rattle.machine_rules.proofs.Cleaning.{clean-first, clean-next}
 use Rattle.machine_rules.proofs.Following.{Follows}
 use Rattle.machine_rules.proofs.Follows.{collect_kept, go_kept, take_kept}

@@ -1,13 +1,13 @@
 -- Events keep the agreement of the two machines.
-use Rattle.std.proofs.Common.{◌≡◌, ◌≢◌, ◌⊎◌, ℕ, zero, suc, ◌+◌, ◌<◌, ◌≤◌, Bool, true, false, Option, Some, None, List, [], ◌∷◌, ◌++◌, length, set, get_or, refl, sym, ◌∙◌, ap, arith, subst, inl, inr, ⊎_elim, get_or-set_same, get_or-set_other}
-use Rattle.std.proofs.lemmas.Bool.{cases_eq, false≢true}
+use Rattle.std.proofs.Common.{◌≡◌, ℕ, ◌<◌, Option, Some, None, List, [], ◌∷◌, ◌++◌, length, set, refl, sym, ◌∙◌, ap, subst, ⊎_elim, get_or-set_same, get_or-set_other}
+use Rattle.std.proofs.lemmas.Bool.{cases_eq}
 use Rattle.machine_rules.proofs.Seats.{present_below, at_same, at_other}
 use Rattle.machine_rules.proofs.Sends.{push_is}
 use Rattle.machine_rules.proofs.Seats.{some_seat}
 use Rattle.letter_kinds.specs.Holdings.{Row}
 use Rattle.letter_kinds.specs.declared.letter.Letter.{Letter}
 use Rattle.letter_kinds.specs.declared.letter.Letter.TheVariants.{App, Inc, Dec, Confirm}
-use Rattle.machine_rules.specs.Actors.{Seat, Actors, seat_at, push_letter, with_letter_more, push_decs, seat}
+use Rattle.machine_rules.specs.Actors.{Seat, Actors, seat_at, push_letter, seat}
 use Rattle.machine_rules.specs.Agreement.{Person, nobody, person_at, person_of, IsRootPerson, app_letters, Agrees}
 use Rattle.machine_rules.specs.Cell.{Cell}
 use Rattle.orca_names.specs.declared.names.Thing.{Thing}

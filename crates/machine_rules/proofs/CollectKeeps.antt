@@ -1,5 +1,5 @@
 -- A collection keeps all that is kept of the counts.
-use Rattle.std.proofs.Common.{◌≡◌, ℕ, ◌+◌, ◌<◌, ◌≤◌, Bool, true, false, Option, Some, None, List, [], ◌∷◌, length, set, refl, sym, ◌∙◌, ap, arith, length-set}
+use Rattle.std.proofs.Common.{◌≡◌, ℕ, ◌<◌, Bool, true, false, Option, None, List, length, set, sym, ◌∙◌, arith, length-set}
 use Rattle.orca_names.specs.declared.names.Thing.{Thing}
 use Rattle.letter_kinds.specs.Counting.{by_owner, given_back, sweep}
 use Rattle.letter_kinds.specs.Holdings.{Row}

@@ -1,5 +1,5 @@
 -- What holds of every actor that is present stays so where one seat changes or letters are pushed.
-use Rattle.std.proofs.Common.{◌≡◌, ◌≢◌, ◌⊎◌, ℕ, zero, suc, ◌+◌, ◌<◌, ◌≤◌, Bool, true, false, Option, Some, None, List, [], ◌∷◌, ◌++◌, length, set, get_or, refl, sym, ◌∙◌, ap, arith, subst, subst₂, inl, inr, ⊎_elim, get_or-set_other, get_or-set_same, length-set}
+use Rattle.std.proofs.Common.{◌≡◌, ◌≢◌, ℕ, ◌<◌, Option, Some, None, List, [], ◌∷◌, ◌++◌, length, set, refl, sym, ◌∙◌, ap, subst, subst₂, ⊎_elim, get_or-set_other, get_or-set_same, length-set}
 use Rattle.std.proofs.lemmas.Bool.{cases_eq, cases_lt}
 use Rattle.std.proofs.lemmas.List.{get_or_past}
 use Rattle.machine_rules.proofs.Seats.{present_below}
@@ -7,13 +7,12 @@ use Rattle.machine_rules.proofs.Makes.{more_last, more_other}
 use Rattle.machine_rules.proofs.Seats.{some_seat}
 use Rattle.machine_rules.proofs.Agreeing.{agrees_push_other}
 use Rattle.letter_kinds.specs.declared.letter.Letter.{Letter}
-use Rattle.letter_kinds.specs.declared.letter.Letter.TheVariants.{App, Inc, Dec, Confirm}
-use Rattle.machine_rules.specs.Actors.{Seat, Actors, seat_at, push_letter, with_letter_more, push_decs, seat}
-use Rattle.machine_rules.specs.Agreement.{Person, person_at, IsRootPerson, Agrees}
+use Rattle.letter_kinds.specs.declared.letter.Letter.TheVariants.{Dec}
+use Rattle.machine_rules.specs.Actors.{Seat, Actors, seat_at, push_letter, push_decs, seat}
+use Rattle.machine_rules.specs.Agreement.{Person, Agrees}
 use Rattle.machine_rules.specs.Cell.{Cell}
 use Rattle.machine_rules.specs.Facts.{Every}
 use Rattle.orca_names.specs.declared.names.Thing.{Thing}
-use Rattle.orca_names.specs.declared.names.Value.{Value}
 
 module _ (Q : ℕ → Cell → List Letter → Type 0) where
   pub every_set : (s : Actors) (b : ℕ) (c : Cell) (ls : List Letter) → b < length s → Q b c ls → Every Q s → Every Q (set s b (seat c ls))

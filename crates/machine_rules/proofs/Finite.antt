@@ -26,9 +26,9 @@ own_found : (me k : ℕ) (es : List (ℕ × (Row × ℕ))) (r : Row) → own_row
 own_found me k [] r h = cc
 own_found me k (e ∷ es) r h = elim (eq_by_cmp nat_cmp k e.0) as
     (λ t. eq_by_cmp nat_cmp k e.0 ≡ t → own_row (cond t (Some e.1) (m.find nat_cmp k es)) ≡ Some r → Contains (own_names me (e ∷ es)) (record { owner = me; serial = k })) [
-  | true ↦ λ t h. subst (λ i. Contains (own_names me (e ∷ es)) (record { owner = me; serial = i })) (sym (eqb-true k e.0 (sym (unsigned_tied k e.0) ∙ t))) (Contains-head _ _)
-  | false ↦ λ t h. Contains-later _ _ _ (own_found me k es r h)
-] refl h
+      | true ↦ λ t h. subst (λ i. Contains (own_names me (e ∷ es)) (record { owner = me; serial = i })) (sym (eqb-true k e.0 (sym (unsigned_tied k e.0) ∙ t))) (Contains-head _ _)
+      | false ↦ λ t h. Contains-later _ _ _ (own_found me k es r h)
+    ] refl h
 
 first_option : (o : Option ObjName) (n : ObjName) (ns : List ObjName) → o ≡ Some n → Contains (cons_option o ns) n
 first_option None n ns e = cc
@@ -43,15 +43,15 @@ entry_found : (n : ObjName) (es : List (Thing × (ℕ × Option Row))) (r : Row)
 entry_found n [] r h = cc
 entry_found n (e ∷ es) r h = elim (is_thing (Obj n) e.0) as
     (λ t. is_thing (Obj n) e.0 ≡ t → entry_row (cond t (Some e.1) (m.find thing_cmp (Obj n) es)) ≡ Some r → Contains (filter_map (λ e. object_name e.0) (e ∷ es)) n) [
-  | true ↦ λ t h. first_option (object_name e.0) n _ (ap object_name (sym (is_same (Obj n) e.0 t)))
-  | false ↦ λ t h. later_option (object_name e.0) n _ (entry_found n es r h)
-] refl h
+      | true ↦ λ t h. first_option (object_name e.0) n _ (ap object_name (sym (is_same (Obj n) e.0 t)))
+      | false ↦ λ t h. later_option (object_name e.0) n _ (entry_found n es r h)
+    ] refl h
 
 pub known_objects-cover : (me : ℕ) (c : Holdings) → Covers (known_objects me c) (row_of me c)
 unfolding known_objects row_of
 known_objects-cover me c n r h = ⊎_elim
     (λ same. Contains-append_left _ _ n (subst (Contains (own_names me (m.entries c.rows))) (name same)
-      (own_found me n.serial (m.entries c.rows) r (sym (ap own_row (m.get-entries c.rows n.serial)) ∙ rw (eq-eqb n.owner me same) at h))))
+    (own_found me n.serial (m.entries c.rows) r (sym (ap own_row (m.get-entries c.rows n.serial)) ∙ rw (eq-eqb n.owner me same) at h))))
     (λ other. Contains-append_right _ _ n (entry_found n (m.entries c.foreign) r (sym (ap entry_row (m.get-entries c.foreign (Obj n))) ∙ rw (ne_eqb n.owner me other) at h)))
     (cases_eq n.owner me)
   where

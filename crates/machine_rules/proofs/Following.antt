@@ -1,11 +1,9 @@
 -- What it is for the plain machine to follow an event, and how it follows a take.
-use Rattle.std.proofs.Common.{◌≡◌, ℕ, ◌+◌, ◌<◌, Bool, true, false, Option, Some, None, List, [], ◌∷◌, ◌++◌, length, set, refl, sym, ◌∙◌, ap, subst, option_and_then}
+use Rattle.std.proofs.Common.{◌≡◌, ℕ, Bool, true, false, Option, Some, None, List, [], ◌∷◌, set, refl, sym, ◌∙◌, ap, subst, option_and_then}
 use Rattle.std.specs.Prelude.{slice_get}
 use Rattle.std.specs.Option.{option_map_or}
 use Rattle.orca_names.specs.declared.names.Thing.{Thing}
 use Rattle.orca_names.specs.declared.names.Value.{Value}
-use Rattle.orca_names.specs.declared.row.Fields.{Fields}
-use Rattle.behaviour_code.specs.declared.code.Program.{Program}
 use Rattle.reach_walk.specs.Reach.{thing_row}
 use Rattle.turn_rules.specs.declared.act.Frame.{Frame}
 use Rattle.letter_kinds.specs.Counting.{Loaded}
@@ -17,14 +15,14 @@ use Rattle.machine_rules.proofs.InHand.{take_letter}
 use Rattle.machine_rules.proofs.TakeKeeps.{take_keeps_counts, next_receive}
 use Rattle.machine_rules.proofs.PlainSide.{StandsAt, objects_kept, people-set, rows_kept, same_rows, stands_beside}
 use Rattle.machine_rules.proofs.Steps.{goes_to}
-use Rattle.machine_rules.specs.Actors.{Actors, Seat, seat, seat_at}
+use Rattle.machine_rules.specs.Actors.{seat, seat_at}
 use Rattle.machine_rules.specs.Agreement.{Person, app_letters, people_of, person_of, person_of_plain}
 use Rattle.machine_rules.specs.Cell.{Cell}
 use Rattle.machine_rules.specs.Facts.{Facts, KeepsCounts}
 use Rattle.machine_rules.specs.Plain.{Outcome, PlainState, after_letter, frame_of, next_state, plain_row, plain_take, taken}
 use Rattle.machine_rules.specs.Plain as plain
 use Rattle.machine_rules.specs.Run.{starts_with_app}
-use Rattle.machine_rules.specs.State.{State, Step, NotEnabled, IsFull, Goes}
+use Rattle.machine_rules.specs.State.{State, Goes}
 use Rattle.machine_rules.specs.Take.{cell_after, take_in}
 use Rattle.machine_rules.specs.declared.PlainActor.{PlainActor}
 use Rattle.machine_rules.specs.declared.PlainLetter.{PlainLetter}

@@ -1,15 +1,13 @@
 -- How the plain machine follows a go: it takes the same turn, but for a go that mints.
-use Rattle.std.proofs.Common.{◌≡◌, ◌⊎◌, ℕ, zero, suc, ◌+◌, ◌<◌, cond, nat_lt, Bool, true, false, Option, Some, None, List, [], ◌∷◌, ◌++◌, length, length-set, map, set, set-set, replicate, get_or, refl, sym, ◌∙◌, ap, subst, arith, option_and_then}
+use Rattle.std.proofs.Common.{◌≡◌, ℕ, zero, suc, ◌+◌, ◌<◌, nat_lt, Bool, true, false, Option, Some, None, List, [], ◌∷◌, ◌++◌, length, length-set, set, set-set, refl, sym, ◌∙◌, ap, subst, arith, option_and_then}
 use Rattle.std.specs.Prelude.{if◌then◌else◌, slice_get}
 use Rattle.std.specs.FinMap as m
 use Rattle.std.specs.Option.{option_map_or}
 use Rattle.orca_names.specs.Names.{owner_of, thing_cmp}
 use Rattle.std.specs.Ordering.{nat_cmp}
-use Rattle.orca_names.specs.declared.names.ObjName.{ObjName}
 use Rattle.orca_names.specs.declared.names.Thing.{Thing}
 use Rattle.orca_names.specs.declared.names.Thing.TheVariants as things
 use Rattle.orca_names.specs.declared.names.Value.{Value}
-use Rattle.orca_names.specs.declared.row.Fields.{Fields}
 use Rattle.behaviour_code.specs.Find.{field_count}
 use Rattle.behaviour_code.specs.declared.code.Program.{Program}
 use Rattle.reach_walk.specs.Reach.{thing_row}
@@ -18,7 +16,7 @@ use Rattle.turn_rules.specs.declared.act.Act.{Act}
 use Rattle.turn_rules.specs.declared.act.Act.TheVariants.{End, New, Post, Print}
 use Rattle.turn_rules.specs.declared.act.Frame.{Frame}
 use Rattle.letter_kinds.specs.Counting.{Loaded, gain, lacking, send, to_mint}
-use Rattle.letter_kinds.specs.Holdings.{Holdings, Row, held_in, nothing_held}
+use Rattle.letter_kinds.specs.Holdings.{Row, held_in}
 use Rattle.letter_kinds.specs.Sums.{amount_of, times_loaded}
 use Rattle.letter_kinds.specs.declared.letter.Letter.{Letter}
 use Rattle.letter_kinds.specs.declared.letter.Letter.TheVariants.{App}
@@ -38,17 +36,16 @@ use Rattle.machine_rules.proofs.Naming.{nulls_name_nothing}
 use Rattle.machine_rules.proofs.PlainSide.{StandsAt, objects_grow, objects_kept, objects_pushed, people-push, people-set, rows_grow, rows_kept, rows_pushed, same_rows, stands_at, stands_beside}
 use Rattle.machine_rules.proofs.Seats.{IsPresent, at_same, present_below}
 use Rattle.machine_rules.proofs.Sends.{held_below}
-use Rattle.machine_rules.proofs.Turns.{turn_over}
-use Rattle.machine_rules.specs.Actors.{Actors, Seat, push_letter, seat, seat_at}
+use Rattle.machine_rules.specs.Actors.{Actors, push_letter, seat, seat_at}
 use Rattle.machine_rules.specs.Agreement.{Person, people_of, person_at, person_of, person_of_plain}
 use Rattle.machine_rules.specs.Cell.{Cell, fresh_cell}
 use Rattle.machine_rules.specs.Facts.{Facts, KeepsCounts}
 use Rattle.machine_rules.specs.Go.{act_in, go_in, load_from, make, mint, post, post_or_mint, turn_of_cell, turned, with_turn_kept}
-use Rattle.machine_rules.specs.Known.{InFrame, IsKnown, IsLoadOf, Names, Roots, in_fields, in_frame, in_table, row_at}
+use Rattle.machine_rules.specs.Known.{InFrame, IsKnown, IsLoadOf, Names, Roots, in_fields, in_frame, in_table}
 use Rattle.machine_rules.specs.Plain.{Outcome, PlainState, after_act, after_turn, fresh_actor, next_state, objects_made, plain_go, plain_row, stopped_at, turn_of_actor, with_name, with_turn}
 use Rattle.machine_rules.specs.Plain as plain
 use Rattle.machine_rules.specs.Run.{act_is_choice, go_is_choice, is_nothing_lacking}
-use Rattle.machine_rules.specs.State.{State, Step, NotEnabled, IsFull, Goes}
+use Rattle.machine_rules.specs.State.{State, IsFull, Goes}
 use Rattle.machine_rules.specs.declared.PlainActor.{PlainActor}
 use Rattle.machine_rules.specs.declared.PlainLetter.{PlainLetter}
 

@@ -1,6 +1,5 @@
 -- Take, go and collect keep the facts, and the plain machine follows them.
-use Rattle.std.proofs.Common.{◌≡◌, ℕ, Bool, true, false, Option, Some, None, List, [], ◌∷◌, refl}
-use Rattle.orca_names.specs.declared.names.Thing.{Thing}
+use Rattle.std.proofs.Common.{◌≡◌, ℕ, Bool, true, false, Option, Some, None, List, refl}
 use Rattle.reach_walk.specs.Reach.{thing_row}
 use Rattle.turn_rules.specs.declared.act.Frame.{Frame}
 use Rattle.event_rule.specs.declared.event.Event.TheVariants.{Take, Go, Collect}
@@ -14,7 +13,7 @@ use Rattle.machine_rules.specs.Agreement.{people_of}
 use Rattle.machine_rules.specs.Cell.{Cell}
 use Rattle.machine_rules.specs.Collect.{collect_at, collect_in, is_marked}
 use Rattle.machine_rules.specs.Facts.{Facts}
-use Rattle.machine_rules.specs.Go.{go_at, go_in}
+use Rattle.machine_rules.specs.Go.{go_at}
 use Rattle.machine_rules.specs.Next.{next}
 use Rattle.machine_rules.specs.Plain.{PlainState, plain_go, plain_row, plain_take}
 use Rattle.machine_rules.specs.Run.{go_is_choice_at, is_choice, take_is_choice_at}

@@ -1,16 +1,15 @@
 -- What lives in the plain machine is left.
-use Rattle.std.proofs.Common.{◌≡◌, ◌≢◌, ◌⊎◌, ℕ, zero, suc, ◌+◌, ◌-◌, ◌<◌, ◌≤◌, ◌==◌, cond, Bool, true, false, Option, Some, None, is_some, List, [], ◌∷◌, ◌++◌, refl, sym, ◌∙◌, ap, arith, subst, inl, inr, ⊎_elim}
-use Rattle.std.proofs.lemmas.Bool.{cases_eq}
+use Rattle.std.proofs.Common.{◌≡◌, ◌⊎◌, ℕ, zero, suc, ◌+◌, ◌<◌, true, Option, Some, None, List, [], ◌∷◌, refl, sym, ◌∙◌, ap, arith, subst, inl, inr, ⊎_elim}
 use Rattle.std.proofs.lemmas.List.Sums.{sum_by-cons}
 use Rattle.letter_kinds.proofs.Sums.{sum-at, sum-nil}
 use Rattle.letter_kinds.proofs.Counts.{counted_has}
 use Rattle.machine_rules.proofs.Seats.{present_below}
 use Rattle.machine_rules.proofs.Safety.{safe_zero}
-use Rattle.machine_rules.proofs.SeatReads.{own_at-seat, incs_at-seat, own_at-none, incs_at-none, held_at-seat, loads_at-seat, letter_App, letter_Inc, letter_Dec, letter_Confirm}
+use Rattle.machine_rules.proofs.SeatReads.{own_at-seat, incs_at-seat, own_at-none, incs_at-none, loads_at-seat, letter_App, letter_Inc, letter_Dec, letter_Confirm}
 use Rattle.machine_rules.proofs.Sends.{held_below}
 use Rattle.letter_kinds.proofs.Counts.{has_actor}
-use Rattle.letter_kinds.specs.Holdings.{Row, own_in, held_in, has_own}
-use Rattle.letter_kinds.specs.Sums.{times_loaded, inc_of, dec_of, load_count}
+use Rattle.letter_kinds.specs.Holdings.{Row, own_in, has_own}
+use Rattle.letter_kinds.specs.Sums.{times_loaded, inc_of, load_count}
 use Rattle.letter_kinds.specs.declared.letter.Letter.{Letter}
 use Rattle.letter_kinds.specs.declared.letter.Letter.TheVariants.{App, Inc, Dec, Confirm}
 use Rattle.machine_rules.proofs.InHand.{Sound}
@@ -18,10 +17,10 @@ use Rattle.machine_rules.proofs.Living.{Letters, here, later, Holds, Lives, stan
 use Rattle.machine_rules.proofs.Paths.{along_row}
 use Rattle.machine_rules.specs.Actors.{Seat, Actors, seat_at, seat}
 use Rattle.machine_rules.specs.Agreement.{Person, person_at, person_of, IsRootPerson, app_letters, Agrees}
-use Rattle.machine_rules.specs.Balance.{own_at, incs_at, decs_at, held_at, loads_at, held_sum, load_sum, owner_seat, IsCovered, IsCoveredAt, NeverOverdraws}
+use Rattle.machine_rules.specs.Balance.{own_at, incs_at, loads_at, held_sum, load_sum, owner_seat, IsCoveredAt, NeverOverdraws}
 use Rattle.machine_rules.proofs.InHand.{Balanced}
 use Rattle.machine_rules.specs.Cell.{Cell}
-use Rattle.machine_rules.specs.Known.{Names, Reaches, row_at, IsKnown, InFrame, Roots, in_fields, in_frame, in_table, IsClosedAt, RowsAreAt, IsLoadOf, IsExactLetter, AreExactLetters, IsSoundAt}
+use Rattle.machine_rules.specs.Known.{Names, Reaches, IsKnown, Roots, in_fields, in_frame, IsLoadOf, AreExactLetters}
 use Rattle.machine_rules.specs.Left.{IsLeft}
 use Rattle.orca_names.specs.Names.{owner_of}
 use Rattle.orca_names.specs.declared.names.ObjName.{ObjName}

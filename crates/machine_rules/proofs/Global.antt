@@ -1,32 +1,27 @@
 -- What each actor knows stays so where a seat changes, a letter is pushed, an actor is made or the map of all rows grows.
-use Rattle.std.proofs.Common.{◌≡◌, ◌≢◌, ◌⊎◌, ℕ, zero, suc, ◌+◌, ◌-◌, ◌<◌, ◌≤◌, ◌==◌, cond, Bool, true, false, Option, Some, None, is_some, List, [], ◌∷◌, ◌++◌, length, set, get_or, refl, sym, ◌∙◌, ap, arith, subst, inl, inr, ⊎_elim}
-use Rattle.std.proofs.lemmas.Bool.{cases_eq, cases_lt}
-use Rattle.std.proofs.lemmas.List.{get_or_past, get_or_push, get_or_append_left}
+use Rattle.std.proofs.Common.{◌≡◌, ◌⊎◌, ℕ, ◌<◌, Option, Some, List, [], ◌∷◌, ◌++◌, length, set, refl, sym, ◌∙◌, arith, ⊎_elim}
+use Rattle.std.proofs.lemmas.Bool.{cases_eq}
 use Rattle.std.proofs.lemmas.List.Sums.{sum_by-cons}
-use Rattle.letter_kinds.proofs.Sums.{sum-nil}
 use Rattle.machine_rules.proofs.Makes.{more_last, more_other}
 use Rattle.letter_kinds.proofs.Counts.{loaded-same, loaded_more}
 use Rattle.machine_rules.proofs.Seats.{present_below, at_same, at_other, some_seat}
-use Rattle.machine_rules.proofs.SeatReads.{letter_App, letter_Inc, letter_Dec, letter_Confirm}
+use Rattle.machine_rules.proofs.SeatReads.{letter_App}
 use Rattle.machine_rules.proofs.Sends.{push_is}
 use Rattle.machine_rules.proofs.Paths.{reach_into}
 use Rattle.machine_rules.proofs.Freed.{known_left, loaded_left}
-use Rattle.letter_kinds.specs.Holdings.{Row, own_in, held_in, has_own}
+use Rattle.letter_kinds.specs.Holdings.{Row}
 use Rattle.letter_kinds.specs.Sums.{times_loaded, load_count}
 use Rattle.letter_kinds.specs.declared.letter.Letter.{Letter}
 use Rattle.letter_kinds.specs.declared.letter.Letter.TheVariants.{App, Inc, Dec, Confirm}
 use Rattle.machine_rules.proofs.InHand.{Sound}
 use Rattle.machine_rules.proofs.Paths.{along_row}
-use Rattle.machine_rules.specs.Actors.{Seat, Actors, seat_at, with_letter_more, push_letter, push_decs, seat}
+use Rattle.machine_rules.specs.Actors.{Seat, Actors, seat_at, push_letter, seat}
 use Rattle.machine_rules.specs.Balance.{NeverOverdraws}
 use Rattle.machine_rules.proofs.InHand.{Balanced}
 use Rattle.machine_rules.specs.Cell.{Cell}
-use Rattle.machine_rules.specs.Known.{Names, Reaches, row_at, IsKnown, InFrame, Roots, IsClosedAt, RowsAreAt, RowsAreIn, IsLoadOf, IsExactLetter, AreExactLetters, IsSoundAt}
+use Rattle.machine_rules.specs.Known.{Names, Reaches, Roots, RowsAreIn, IsExactLetter, AreExactLetters, IsSoundAt}
 use Rattle.machine_rules.specs.Left.{IsLeft}
-use Rattle.orca_names.specs.Names.{owner_of}
 use Rattle.orca_names.specs.declared.names.Thing.{Thing}
-use Rattle.orca_names.specs.declared.names.Thing.TheVariants.{Actor, Obj}
-use Rattle.orca_names.specs.declared.names.Value.{Value}
 use Rattle.reach_walk.specs.Reach.{root, owned}
 use Rattle.std.specs.Prelude.{sum_by}
 

@@ -1,8 +1,7 @@
 -- A turn of an actor: what it knows afterwards, and that the plain machine takes the same turn.
-use Rattle.std.proofs.Common.{◌≡◌, ◌≢◌, ◌⊎◌, ℕ, zero, suc, ◌+◌, ◌-◌, ◌<◌, ◌≤◌, ◌==◌, cond, Bool, true, false, Option, Some, None, is_some, List, [], ◌∷◌, ◌++◌, length, set, get_or, refl, sym, ◌∙◌, ap, arith, subst, inl, inr, ⊎_elim, eq-eqb, ne_eqb}
+use Rattle.std.proofs.Common.{◌≡◌, ◌⊎◌, ℕ, ◌+◌, ◌<◌, ◌≤◌, Bool, true, false, Option, Some, None, is_some, List, [], ◌∷◌, length, get_or, refl, sym, ◌∙◌, ap, arith, subst, inl, inr, eq-eqb}
 use Rattle.std.specs.FinMap as m
 use Rattle.std.specs.Prelude.{option_map}
-use Rattle.orca_names.specs.Names.{owner_of}
 use Rattle.orca_names.specs.declared.names.ObjName.{ObjName}
 use Rattle.orca_names.specs.declared.names.Thing.{Thing}
 use Rattle.orca_names.specs.declared.names.Thing.TheVariants.{Actor, Obj}
@@ -18,10 +17,9 @@ use Rattle.letter_kinds.specs.Counting.{Loaded}
 use Rattle.letter_kinds.specs.Holdings.{Holdings, Row, has_own, held_in, own_in, row_of}
 use Rattle.letter_kinds.specs.Sums.{times_loaded}
 use Rattle.letter_kinds.specs.declared.letter.Letter.{Letter}
-use Rattle.machine_rules.proofs.Freed.{known_left}
 use Rattle.machine_rules.proofs.Global.{sound_grown}
 use Rattle.machine_rules.proofs.InHand.{Sound, in_hand}
-use Rattle.machine_rules.proofs.Paths.{along_row, reach_into, reach_more}
+use Rattle.machine_rules.proofs.Paths.{along_row, reach_into}
 use Rattle.machine_rules.proofs.Receiving.{NoActorRows}
 use Rattle.machine_rules.proofs.Seats.{IsPresent, some_seat}
 use Rattle.machine_rules.proofs.Segments.{Made, Source, seg_closed, seg_rows, along, up, known_source, own-made, held-made}
@@ -32,7 +30,7 @@ use Rattle.machine_rules.specs.Agreement.{Person}
 use Rattle.machine_rules.specs.Cell.{Cell}
 use Rattle.machine_rules.specs.Facts.{KeepsCounts}
 use Rattle.machine_rules.specs.Go.{turn_of_cell, turned}
-use Rattle.machine_rules.specs.Known.{InFrame, IsClosedAt, IsKnown, IsLoadOf, IsSoundAt, Names, Reaches, Roots, RowsAreAt, RowsAreIn, in_fields, in_frame, in_table, row_at}
+use Rattle.machine_rules.specs.Known.{InFrame, IsClosedAt, IsKnown, IsLoadOf, IsSoundAt, Names, Reaches, Roots, RowsAreAt, RowsAreIn, in_fields, in_frame, row_at}
 use Rattle.machine_rules.specs.Left.{IsLeft}
 
 -- an object by its owner and its serial
@@ -150,8 +148,8 @@ module _ (program : Program) (all all' : Thing → Option Row) (ps : List Person
       where
         bare_new : (x : Thing) (r : Row) → Made a c.holdings.next turn.turn.made x → all x ≡ Some r → ⊥
         bare_new x r new e = let z = inv.serials a c ls at (c.holdings.next + new.0) (omega arith) in let q = new.2 in let w = ap all q in cc
-
         -- a load that is exact over the actor's own rows is exact over all
+
     module _ (to b : ℕ) (args : List Value) (act : turn.act ≡ Post to b args) (load : List Loaded) (is : IsLoadOf (row_at a after.holdings) args load) where
       posted : (x : Thing) → Names args x → Names (act_values turn.act) x
       posted x n = rw act (names_args to args x n)

@@ -1,9 +1,8 @@
 -- What lives in the machine that frees nothing, as proofs go through it.
-use Rattle.std.proofs.Common.{◌≡◌, ◌⊎◌, ℕ, Bool, true, Option, Some, None, List, [], ◌∷◌}
+use Rattle.std.proofs.Common.{◌≡◌, ◌⊎◌, ℕ, Option, Some, List, ◌∷◌}
 use Rattle.orca_names.specs.declared.names.ObjName.{ObjName}
 use Rattle.orca_names.specs.declared.names.Thing.{Thing}
 use Rattle.orca_names.specs.declared.names.Thing.TheVariants.{Actor, Obj}
-use Rattle.orca_names.specs.declared.names.Value.{Value}
 use Rattle.letter_kinds.specs.Holdings.{Row}
 use Rattle.machine_rules.specs.declared.PlainLetter.{PlainLetter}
 use Rattle.machine_rules.specs.Agreement.{Person, person_at, IsRootPerson}

@@ -1,5 +1,5 @@
 -- One actor more: the balance and the prefixes are kept.
-use Rattle.std.proofs.Common.{◌≡◌, ◌≢◌, ◌⊎◌, ℕ, zero, suc, ◌+◌, ◌-◌, ◌<◌, ◌≤◌, cond, Bool, true, false, Option, Some, None, List, [], ◌∷◌, ◌++◌, length, set, get_or, refl, sym, ◌∙◌, ap, arith, subst, inl, inr, ⊎_elim, length-set, length-append}
+use Rattle.std.proofs.Common.{◌≡◌, ◌≢◌, ℕ, ◌+◌, ◌<◌, ◌≤◌, cond, Option, None, List, [], ◌∷◌, ◌++◌, length, set, refl, sym, ◌∙◌, ap, arith, subst, ⊎_elim, length-set, length-append}
 use Rattle.std.proofs.lemmas.List.{get_or_past, get_or_push, get_or_append_left}
 use Rattle.std.proofs.lemmas.Bool.{cases_eq, cases_lt}
 use Rattle.std.specs.FinMap as m
@@ -7,24 +7,22 @@ use Rattle.std.proofs.lemmas.List.Sums.{sum_by_push}
 use Rattle.letter_kinds.proofs.Sums.{sum-nil}
 use Rattle.orca_names.proofs.ThingOrder.{cases_thing, is_eq_true, is_ne_false}
 use Rattle.letter_kinds.proofs.Counts.{held_set_same, held_set_other, own_set_held}
-use Rattle.machine_rules.proofs.SeatReads.{own_at-seat, held_at-seat, incs_at-seat, decs_at-seat, loads_at-seat, own_at-none, held_at-none, incs_at-none, decs_at-none, loads_at-none}
+use Rattle.machine_rules.proofs.SeatReads.{own_at-seat, held_at-seat, incs_at-seat, decs_at-seat, loads_at-seat, own_at-none, incs_at-none, decs_at-none}
 use Rattle.machine_rules.proofs.Safety.{safe_nil}
 use Rattle.machine_rules.proofs.Sends.{cell_balanced, cell_prefix}
 use Rattle.letter_kinds.specs.Counting.{gain}
-use Rattle.letter_kinds.specs.Holdings.{Holdings, Row, own_in, held_in}
+use Rattle.letter_kinds.specs.Holdings.{Holdings, own_in, held_in}
 use Rattle.letter_kinds.specs.Sums.{inc_of, dec_of, load_count}
 use Rattle.letter_kinds.specs.declared.letter.Letter.{Letter}
 use Rattle.machine_rules.proofs.InHand.{BalancedWith, none}
 use Rattle.machine_rules.specs.Actors.{Seat, Actors, seat_at, seat}
-use Rattle.machine_rules.specs.Balance.{own_at, incs_at, decs_at, held_at, loads_at, held_sum, load_sum, owner_seat, IsCovered, IsCoveredAt, NeverOverdraws}
+use Rattle.machine_rules.specs.Balance.{own_at, incs_at, decs_at, held_at, loads_at, IsCoveredAt, NeverOverdraws}
 use Rattle.machine_rules.proofs.InHand.{Balanced}
 use Rattle.machine_rules.specs.Cell.{Cell}
 use Rattle.machine_rules.specs.Go.{make}
 use Rattle.orca_names.specs.Names.{owner_of, is_thing}
 use Rattle.orca_names.specs.declared.names.Thing.{Thing}
 use Rattle.orca_names.specs.declared.names.Thing.TheVariants.{Actor, Obj}
-use Rattle.orca_names.specs.declared.names.Value.{Value}
-use Rattle.std.specs.Prelude.{sum_by}
 
 -- one more actor
 module _ (s : Actors) (new : Option Seat) where

@@ -3,7 +3,7 @@ use Rattle.std.proofs.Common.{◌≡◌, ℕ, zero, suc, ◌+◌, ◌<◌, Optio
 use Rattle.orca_names.specs.declared.names.Thing.{Thing}
 use Rattle.reach_walk.specs.Reach.{root}
 use Rattle.letter_kinds.proofs.Amounts.{held-mint_all}
-use Rattle.letter_kinds.specs.Counting.{Amount, mint_all}
+use Rattle.letter_kinds.specs.Counting.{mint_all}
 use Rattle.letter_kinds.specs.Holdings.{Row, held_in}
 use Rattle.letter_kinds.specs.Sums.{amount_of}
 use Rattle.machine_rules.proofs.Paths.{reach_more}

@@ -1,14 +1,11 @@
 -- What lists of values name: padding with nulls names nothing, and one value set names one thing more.
-use Rattle.std.proofs.Common.{◌≡◌, ℕ, zero, suc, ◌⊎◌, inl, inr, List, [], ◌∷◌, ◌++◌, Contains, Option, Some, None, refl, sym, subst, ◌∙◌}
+use Rattle.std.proofs.Common.{◌≡◌, ℕ, zero, suc, ◌⊎◌, inl, inr, List, [], ◌∷◌, ◌++◌, Option, Some, None, refl}
 use Rattle.std.specs.Prelude.{replicate, set, IfSome}
-use Rattle.std.proofs.lemmas.List.{append-nil}
-use Rattle.std.proofs.lemmas.List.Elements.{Contains-append_cases}
 use Rattle.orca_names.specs.declared.names.Thing.{Thing}
 use Rattle.orca_names.specs.declared.names.Value.{Value}
 use Rattle.orca_names.specs.declared.names.Value.TheVariants.{Null}
-use Rattle.reach_walk.specs.Reach.{named_by, thing_of}
-use Rattle.behaviour_code.specs.Good.{Each}
-use Rattle.turn_rules.proofs.Known.{Knows, Knows-from_named, KnowsValue, Knows-set, named_is_known}
+use Rattle.reach_walk.specs.Reach.{thing_of}
+use Rattle.turn_rules.proofs.Known.{Knows, Knows-from_named, Knows-set, named_is_known}
 use Rattle.machine_rules.specs.Known.{Names}
 
 -- ---- nulls

@@ -118,6 +118,7 @@ module _ (p : PlainState) (s : State) (facts : Facts p s) (clean : CleanAreSwept
       → (c.fields.pinned ≡ false) × (c.holdings.count ≡ held_within dead (Actor u) 0 s.actors)
   unreachable_closed dead others u c mail at gone =
       let live : Every (λ a c mail. dead a ≡ false → Lives all (people_of p.actors) (Actor a)) s.actors = λ a d ms is no. reachable_lives p (others a d ms is no) in
-      let lost : Lives all (people_of p.actors) (Actor u) → ⊥ = λ l. gone (lives_reachable p l) in
-      (dead_free all (people_of p.actors) s.actors facts.counts clean rest dead live u c mail at lost,
-      dead_closed all (people_of p.actors) s.actors facts.counts clean rest dead live u c mail at lost)
+      let lost : Lives all (people_of p.actors) (Actor u) → ⊥ = λ l. gone (lives_reachable p l) in (
+        dead_free all (people_of p.actors) s.actors facts.counts clean rest dead live u c mail at lost,
+        dead_closed all (people_of p.actors) s.actors facts.counts clean rest dead live u c mail at lost,
+      )

@@ -1,8 +1,8 @@
 -- The plain machine's actors and rows, where one actor is changed or one more is made.
-use Rattle.std.proofs.Common.{◌≡◌, ◌≢◌, ◌⊎◌, ℕ, zero, suc, ◌+◌, ◌-◌, ◌<◌, ◌≤◌, Bool, Option, Some, None, List, [], ◌∷◌, ◌++◌, length, length-append, map, set, get_or, refl, sym, ◌∙◌, ap, arith, subst, inl, inr, ⊎_elim, option_and_then}
+use Rattle.std.proofs.Common.{◌≡◌, ◌≢◌, ◌⊎◌, ℕ, zero, suc, ◌+◌, ◌-◌, ◌<◌, ◌≤◌, Option, Some, List, [], ◌∷◌, ◌++◌, length, length-append, set, get_or, refl, sym, ◌∙◌, ap, arith, subst, inl, inr, ⊎_elim, option_and_then}
 use Rattle.std.specs.Prelude.{slice_get}
 use Rattle.std.proofs.lemmas.Bool.{cases_eq, cases_lt}
-use Rattle.std.proofs.lemmas.List.{get_or-map, map-set}
+use Rattle.std.proofs.lemmas.List.{map-set}
 use Rattle.std.proofs.lemmas.List.Sums.{sum_by-append, sum_by-set}
 use Rattle.std.proofs.lemmas.Option.{get_or_from_slice_get, slice_get_within}
 use Rattle.orca_names.specs.declared.names.ObjName.{ObjName}
@@ -11,12 +11,12 @@ use Rattle.orca_names.specs.declared.names.Thing.TheVariants.{Actor, Obj}
 use Rattle.reach_walk.specs.Reach.{thing_row}
 use Rattle.letter_kinds.specs.Holdings.{Row}
 use Rattle.letter_kinds.specs.declared.letter.Letter.{Letter}
-use Rattle.machine_rules.proofs.Going.{Grows, object}
+use Rattle.machine_rules.proofs.Going.{Grows}
 use Rattle.machine_rules.proofs.Seats.{present_below}
 use Rattle.machine_rules.proofs.Segments.{Made}
 use Rattle.machine_rules.proofs.Slices.{slice_append_below, slice_append_past, slice_past, slice_push_last, slice_push_other, slice_read, slice_set_other, slice_set_same}
 use Rattle.machine_rules.specs.Actors.{Actors, seat, seat_at}
-use Rattle.machine_rules.specs.Agreement.{Person, nobody, people_of, person_at, person_of, person_of_plain}
+use Rattle.machine_rules.specs.Agreement.{Person, people_of, person_at, person_of, person_of_plain}
 use Rattle.machine_rules.specs.Cell.{Cell}
 use Rattle.machine_rules.specs.Facts.{KeepsCounts}
 use Rattle.machine_rules.specs.Plain.{objects_made, plain_row}

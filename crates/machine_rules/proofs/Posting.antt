@@ -1,18 +1,15 @@
 -- A letter in the hand is pushed.
-use Rattle.std.proofs.Common.{◌≡◌, ◌≢◌, ℕ, suc, zero, ◌+◌, ◌<◌, ◌≤◌, ◌==◌, cond, Option, Some, None, List, [], ◌∷◌, ◌++◌, length, get_or, set, refl, ap, sym, ◌∙◌, subst, arith, eq-eqb, ne_eqb, true, false}
+use Rattle.std.proofs.Common.{◌≡◌, ◌≢◌, ℕ, ◌+◌, ◌==◌, cond, Some, refl, arith, eq-eqb, ne_eqb}
 use Rattle.std.proofs.lemmas.List.Sums.{sum_by_push}
 use Rattle.machine_rules.proofs.Seats.{present_below, balanced-set}
-use Rattle.letter_kinds.specs.Holdings.{own_in, held_in}
-use Rattle.letter_kinds.specs.Sums.{amount_of, times_loaded, inc_of, dec_of, load_count}
+use Rattle.letter_kinds.specs.Sums.{inc_of, dec_of, load_count}
 use Rattle.letter_kinds.specs.declared.letter.Letter.{Letter}
 use Rattle.machine_rules.proofs.InHand.{BalancedWith, credit, debit}
 use Rattle.machine_rules.proofs.Seats.{IsPresent}
-use Rattle.machine_rules.specs.Actors.{Seat, Actors, seat_at, with_letter_more, push_letter}
-use Rattle.machine_rules.specs.Balance.{own_at, incs_at, decs_at, held_at, loads_at, owner_seat, held_sum, load_sum}
-use Rattle.machine_rules.specs.Cell.{Cell}
+use Rattle.machine_rules.specs.Actors.{Seat, Actors, with_letter_more, push_letter}
+use Rattle.machine_rules.specs.Balance.{own_at, incs_at, decs_at, held_at, loads_at}
 use Rattle.orca_names.specs.Names.{owner_of}
 use Rattle.orca_names.specs.declared.names.Thing.{Thing}
-use Rattle.std.specs.Prelude.{sum_by}
 
 -- what a seat reads with one more letter
 module _ (x : Thing) (o : Seat) (l : Letter) where

@@ -1,5 +1,5 @@
 -- A reap of sealed members keeps all that is kept of the counts.
-use Rattle.std.proofs.Common.{◌≡◌, ◌≢◌, ◌⊎◌, ℕ, zero, suc, ◌+◌, ◌-◌, ◌<◌, ◌≤◌, ◌==◌, cond, Bool, true, false, Option, Some, None, List, [], ◌∷◌, ◌++◌, length, set, get_or, refl, sym, ◌∙◌, ap, arith, subst, inl, inr, ⊎_elim, length-set, get_or-set_same, get_or-set_other}
+use Rattle.std.proofs.Common.{◌≡◌, ◌⊎◌, ℕ, zero, suc, ◌<◌, true, false, Option, Some, None, List, [], ◌∷◌, ◌++◌, length, set, refl, sym, ◌∙◌, ap, arith, subst, inl, inr, ⊎_elim, length-set, get_or-set_same, get_or-set_other}
 use Rattle.std.proofs.lemmas.Bool.{cases_eq, cases_lt}
 use Rattle.std.proofs.lemmas.List.{get_or_past}
 use Rattle.machine_rules.proofs.Seats.{present_below}
@@ -10,25 +10,22 @@ use Rattle.machine_rules.proofs.Sweeping.{firm_counted}
 use Rattle.machine_rules.proofs.Freed.{load_into}
 use Rattle.machine_rules.proofs.Sweeps.{owed}
 use Rattle.machine_rules.proofs.Reaps.{Ready, AllReady, Under, AllIn, reap_keeps}
-use Rattle.letter_kinds.specs.Counting.{by_owner}
 use Rattle.letter_kinds.specs.Detector.{has}
 use Rattle.letter_kinds.specs.Holdings.{Row, held_in}
 use Rattle.letter_kinds.specs.Sums.{load_count}
 use Rattle.letter_kinds.specs.declared.letter.Letter.{Letter}
 use Rattle.letter_kinds.specs.declared.letter.Letter.TheVariants.{Dec}
-use Rattle.machine_rules.proofs.InHand.{in_hand, out_of_hand, none, AllCounted, Sound}
-use Rattle.machine_rules.proofs.Paths.{along_row}
-use Rattle.machine_rules.specs.Actors.{Seat, Actors, seat_at, push_decs, seat}
+use Rattle.machine_rules.proofs.InHand.{in_hand, out_of_hand, none}
+use Rattle.machine_rules.specs.Actors.{Seat, Actors, seat_at, seat}
 use Rattle.machine_rules.specs.Agreement.{Person, person_at, person_of, IsRootPerson, Agrees, app_letters}
 use Rattle.machine_rules.specs.Balance.{held_at, loads_at}
 use Rattle.machine_rules.specs.Cell.{Cell}
-use Rattle.machine_rules.specs.Detect.{held_outside, reaped}
+use Rattle.machine_rules.specs.Detect.{reaped}
 use Rattle.machine_rules.specs.Facts.{Every, IsFirmAt, IsPastRows, KeepsCounts}
-use Rattle.machine_rules.specs.Known.{Reaches, IsKnown, Roots, in_table, AreExactLetters, IsSoundAt}
+use Rattle.machine_rules.specs.Known.{Reaches, IsKnown, in_table, IsSoundAt}
 use Rattle.orca_names.specs.Names.{owner_of}
 use Rattle.orca_names.specs.declared.names.Thing.{Thing}
 use Rattle.orca_names.specs.declared.names.Thing.TheVariants.{Actor, Obj}
-use Rattle.orca_names.specs.declared.names.Value.{Value}
 use Rattle.reach_walk.specs.Reach.{root, owned}
 use Rattle.std.specs.Prelude.{sum_by}
 

@@ -1,30 +1,22 @@
 -- A reap keeps the balance and the prefixes: what the members held outside goes back in Decs.
-use Rattle.std.proofs.Common.{◌≡◌, ◌≢◌, ◌⊎◌, ℕ, zero, suc, ◌+◌, ◌-◌, ◌<◌, ◌≤◌, ◌==◌, ◌||◌, cond, Bool, true, false, Option, Some, None, List, [], ◌∷◌, ◌++◌, length, set, get_or, refl, sym, ◌∙◌, ap, arith, subst, inl, inr, ⊎_elim, eq-eqb, ne_eqb, length-set}
-use Rattle.std.proofs.lemmas.Bool.{cases_eq, cases_lt}
-use Rattle.std.proofs.lemmas.List.Sums.{sum_by-cons}
-use Rattle.letter_kinds.proofs.Sums.{sum-nil, sum-zero}
+use Rattle.std.proofs.Common.{◌≡◌, ◌≢◌, ◌⊎◌, ℕ, ◌+◌, ◌<◌, ◌==◌, cond, Bool, true, false, Option, Some, None, List, [], ◌∷◌, ◌++◌, length, set, refl, sym, ◌∙◌, ap, arith, inl, inr, ⊎_elim, ne_eqb, length-set}
+use Rattle.std.proofs.lemmas.Bool.{cases_eq}
+use Rattle.letter_kinds.proofs.Sums.{sum-zero}
 use Rattle.letter_kinds.proofs.Counts.{cond_eq, cond_ne, amount-nil}
-use Rattle.machine_rules.proofs.Seats.{balanced-set, present_below, at_same, at_other}
+use Rattle.machine_rules.proofs.Seats.{balanced-set, at_same, at_other}
 use Rattle.machine_rules.proofs.Safety.{prefix-set}
 use Rattle.machine_rules.proofs.SeatReads.{own_at-none, incs_at-none, decs_at-none, held_at-none, loads_at-none, held_at-seat}
 use Rattle.machine_rules.proofs.Sweeps.{owed, owed-groups, Firm, firm_groups, decs_keep}
 use Rattle.machine_rules.proofs.Sweeping.{amount-given_back}
 use Rattle.letter_kinds.specs.Counting.{given_back, by_owner}
 use Rattle.letter_kinds.specs.Detector.{has}
-use Rattle.letter_kinds.specs.Holdings.{own_in, held_in}
-use Rattle.letter_kinds.specs.Sums.{amount_of}
-use Rattle.letter_kinds.specs.declared.letter.Letter.{Letter}
-use Rattle.letter_kinds.specs.declared.letter.Letter.TheVariants.{Dec}
-use Rattle.machine_rules.proofs.InHand.{BalancedWith, debit, none, AllCounted}
-use Rattle.machine_rules.specs.Actors.{Seat, Actors, seat_at, push_decs, seat}
-use Rattle.machine_rules.specs.Balance.{own_at, incs_at, decs_at, held_at, loads_at, held_sum, load_sum, owner_seat, IsCoveredAt, NeverOverdraws}
+use Rattle.machine_rules.proofs.InHand.{BalancedWith, none, AllCounted}
+use Rattle.machine_rules.specs.Actors.{Seat, Actors, seat_at}
+use Rattle.machine_rules.specs.Balance.{own_at, incs_at, decs_at, held_at, loads_at, NeverOverdraws}
 use Rattle.machine_rules.proofs.InHand.{Balanced}
-use Rattle.machine_rules.specs.Cell.{Cell}
 use Rattle.machine_rules.specs.Detect.{held_outside, reaped}
 use Rattle.orca_names.specs.Names.{owner_of}
 use Rattle.orca_names.specs.declared.names.Thing.{Thing}
-use Rattle.orca_names.specs.declared.names.Thing.TheVariants.{Actor, Obj}
-use Rattle.std.specs.Prelude.{sum_by}
 
 owed-append : (gs hs : List (ℕ × List (Thing × ℕ))) (x : Thing) → owed (gs ++ hs) x ≡ owed gs x + owed hs x
 unfolding owed

@@ -1,19 +1,16 @@
 -- Prefixes: what letters take from a count is there.
-use Rattle.std.proofs.Common.{◌≡◌, ◌≢◌, ◌⊎◌, ℕ, suc, zero, ◌+◌, ◌-◌, ◌<◌, ◌≤◌, ◌==◌, min, Option, Some, None, List, [], ◌∷◌, ◌++◌, length, take, drop, set, refl, ap, sym, ◌∙◌, subst, arith, inl, inr, ⊎_elim, take_all, drop_of_length-le, take-append-drop, length-append}
+use Rattle.std.proofs.Common.{◌≡◌, ◌⊎◌, ℕ, suc, zero, ◌+◌, ◌<◌, ◌≤◌, min, Option, List, [], ◌∷◌, ◌++◌, length, take, drop, set, refl, ap, sym, ◌∙◌, subst, arith, inl, inr, ⊎_elim, take_all, drop_of_length-le, take-append-drop, length-append}
 use Rattle.std.proofs.lemmas.Bool.{cases_eq, cases_lt}
 use Rattle.std.proofs.lemmas.List.{take-append-le}
 use Rattle.std.proofs.lemmas.List.Sums.{sum_by-cons, sum_by-append, sum_by_push}
 use Rattle.letter_kinds.proofs.Sums.{sum-nil}
 use Rattle.machine_rules.proofs.Seats.{at_same, at_other}
-use Rattle.letter_kinds.specs.Holdings.{own_in}
 use Rattle.letter_kinds.specs.Sums.{inc_of, dec_of, load_count}
 use Rattle.letter_kinds.specs.declared.letter.Letter.{Letter}
-use Rattle.machine_rules.specs.Actors.{Seat, Actors, seat_at, seat}
-use Rattle.machine_rules.specs.Balance.{owner_seat, IsCovered, IsCoveredAt, NeverOverdraws}
-use Rattle.machine_rules.specs.Cell.{Cell}
+use Rattle.machine_rules.specs.Actors.{Seat, Actors, seat_at}
+use Rattle.machine_rules.specs.Balance.{IsCovered, IsCoveredAt, NeverOverdraws}
 use Rattle.orca_names.specs.Names.{owner_of}
 use Rattle.orca_names.specs.declared.names.Thing.{Thing}
-use Rattle.orca_names.specs.declared.names.Thing.TheVariants.{Actor, Obj}
 use Rattle.std.specs.Prelude.{sum_by}
 
 pub sum-parts : {A : Type 0} (f : A → ℕ) (k : ℕ) (xs : List A) → sum_by f (take k xs) + sum_by f (drop k xs) ≡ sum_by f xs

@@ -1,16 +1,13 @@
 -- What a seat and a letter read.
-use Rattle.std.proofs.Common.{◌≡◌, ℕ, ◌+◌, ◌<◌, ◌≤◌, Bool, Option, Some, None, List, [], ◌∷◌, refl, arith}
-use Rattle.std.proofs.lemmas.List.Sums.{sum_by-cons}
-use Rattle.letter_kinds.specs.Holdings.{Row, own_in, held_in, has_own}
+use Rattle.std.proofs.Common.{◌≡◌, ℕ, Option, None, List, refl}
+use Rattle.letter_kinds.specs.Holdings.{Row, own_in, held_in}
 use Rattle.letter_kinds.specs.Sums.{amount_of, times_loaded, inc_of, dec_of, load_count}
 use Rattle.letter_kinds.specs.declared.letter.Letter.{Letter}
 use Rattle.letter_kinds.specs.declared.letter.Letter.TheVariants.{App, Inc, Dec, Confirm}
-use Rattle.machine_rules.specs.Actors.{Seat, seat}
+use Rattle.machine_rules.specs.Actors.{seat}
 use Rattle.machine_rules.specs.Balance.{own_at, incs_at, decs_at, held_at, loads_at}
 use Rattle.machine_rules.specs.Cell.{Cell}
-use Rattle.orca_names.specs.Names.{owner_of}
 use Rattle.orca_names.specs.declared.names.Thing.{Thing}
-use Rattle.orca_names.specs.declared.names.Thing.TheVariants.{Actor, Obj}
 use Rattle.orca_names.specs.declared.names.Value.{Value}
 use Rattle.std.specs.Prelude.{sum_by}
 

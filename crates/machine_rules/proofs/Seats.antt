@@ -1,19 +1,15 @@
 -- One seat of the actors is changed: what is owed is said of that seat alone.
-use Rattle.std.proofs.Common.{◌≡◌, ◌≢◌, ℕ, suc, zero, ◌+◌, ◌<◌, ◌≤◌, Option, Some, None, List, [], ◌∷◌, ◌++◌, length, get_or, set, refl, ap, sym, ◌∙◌, subst, arith, inl, inr, ⊎_elim, get_or-set_same, get_or-set_other}
+use Rattle.std.proofs.Common.{◌≡◌, ◌≢◌, ℕ, ◌+◌, ◌<◌, Option, Some, None, List, length, set, ap, arith, ⊎_elim, get_or-set_same, get_or-set_other}
 use Rattle.std.proofs.lemmas.List.{get_or_past}
 use Rattle.std.proofs.lemmas.Bool.{cases_eq, cases_lt}
-use Rattle.std.proofs.lemmas.List.Sums.{sum_by-set, sum_by_push, sum_by-cons, sum_by-append}
-use Rattle.letter_kinds.proofs.Sums.{sum-nil}
-use Rattle.letter_kinds.specs.Holdings.{own_in, held_in}
-use Rattle.letter_kinds.specs.Sums.{amount_of, times_loaded, inc_of, dec_of, load_count}
+use Rattle.std.proofs.lemmas.List.Sums.{sum_by-set}
 use Rattle.letter_kinds.specs.declared.letter.Letter.{Letter}
-use Rattle.machine_rules.proofs.InHand.{BalancedWith, credit, debit}
-use Rattle.machine_rules.specs.Actors.{Seat, Actors, seat, seat_at, with_letter_more, push_letter}
-use Rattle.machine_rules.specs.Balance.{own_at, incs_at, decs_at, held_at, loads_at, owner_seat, held_sum, load_sum}
+use Rattle.machine_rules.proofs.InHand.{BalancedWith}
+use Rattle.machine_rules.specs.Actors.{Seat, Actors, seat, seat_at}
+use Rattle.machine_rules.specs.Balance.{own_at, incs_at, decs_at, held_at, loads_at, held_sum, load_sum}
 use Rattle.machine_rules.specs.Cell.{Cell}
 use Rattle.orca_names.specs.Names.{owner_of}
 use Rattle.orca_names.specs.declared.names.Thing.{Thing}
-use Rattle.std.specs.Prelude.{sum_by}
 
 -- the actor is present
 abbrev pub IsPresent : Actors → ℕ → Type 0

@@ -1,5 +1,5 @@
 -- Sending and minting keep the balance and the prefixes.
-use Rattle.std.proofs.Common.{◌≡◌, ◌≢◌, ◌⊎◌, ℕ, zero, suc, ◌+◌, ◌-◌, ◌<◌, ◌≤◌, ◌==◌, cond, Bool, true, false, Option, Some, None, List, [], ◌∷◌, ◌++◌, length, set, refl, sym, ◌∙◌, ap, arith, subst, inl, inr, ⊎_elim}
+use Rattle.std.proofs.Common.{◌≡◌, ◌≢◌, ℕ, zero, suc, ◌+◌, ◌<◌, ◌≤◌, ◌==◌, cond, Bool, true, false, Option, Some, None, List, [], ◌∷◌, ◌++◌, set, refl, sym, ◌∙◌, ap, arith, ⊎_elim}
 use Rattle.std.proofs.lemmas.Bool.{cases_eq}
 use Rattle.std.proofs.lemmas.List.Sums.{sum_by_push}
 use Rattle.letter_kinds.proofs.Sums.{sum-at}
@@ -13,19 +13,17 @@ use Rattle.letter_kinds.specs.Counting.{send, mint_all}
 use Rattle.letter_kinds.specs.Holdings.{Row, own_in, held_in, has_own}
 use Rattle.letter_kinds.specs.Sums.{amount_of, times_loaded, inc_of, dec_of, load_count}
 use Rattle.letter_kinds.specs.declared.letter.Letter.{Letter}
-use Rattle.letter_kinds.specs.declared.letter.Letter.TheVariants.{App, Inc, Dec, Confirm}
+use Rattle.letter_kinds.specs.declared.letter.Letter.TheVariants.{App, Inc}
 use Rattle.machine_rules.proofs.InHand.{BalancedWith, credit, debit, none}
 use Rattle.machine_rules.proofs.Seats.{IsPresent}
 use Rattle.machine_rules.specs.Actors.{Seat, Actors, seat_at, with_letter_more, push_letter, seat}
-use Rattle.machine_rules.specs.Balance.{own_at, incs_at, decs_at, held_at, loads_at, held_sum, load_sum, owner_seat, IsCovered, IsCoveredAt, NeverOverdraws}
+use Rattle.machine_rules.specs.Balance.{own_at, incs_at, held_at, loads_at, held_sum, load_sum, owner_seat, NeverOverdraws}
 use Rattle.machine_rules.proofs.InHand.{Balanced}
 use Rattle.machine_rules.specs.Cell.{Cell}
 use Rattle.machine_rules.specs.Go.{post, mint}
 use Rattle.orca_names.specs.Names.{owner_of}
 use Rattle.orca_names.specs.declared.names.Thing.{Thing}
-use Rattle.orca_names.specs.declared.names.Thing.TheVariants.{Actor, Obj}
 use Rattle.orca_names.specs.declared.names.Value.{Value}
-use Rattle.std.specs.Prelude.{sum_by}
 
 -- what is counted, or to be raised, has an owner that is present
 present_if : (x : Thing) (s : Actors) (o : Option Seat) → owner_seat s x ≡ o → 0 < own_at x o + incs_at x o → IsPresent s (owner_of x)

@@ -1,5 +1,5 @@
 -- Reading a list of which one element is changed, or to which one is added.
-use Rattle.std.proofs.Common.{◌≡◌, ◌≢◌, ℕ, zero, suc, ◌+◌, ◌-◌, ◌<◌, ◌≤◌, Option, Some, None, List, [], ◌∷◌, ◌++◌, length, set, get_or, refl, ap, arith}
+use Rattle.std.proofs.Common.{◌≡◌, ◌≢◌, ℕ, zero, suc, ◌+◌, ◌<◌, ◌≤◌, Some, None, List, [], ◌∷◌, ◌++◌, length, set, get_or, refl, ap, arith}
 use Rattle.std.specs.Prelude.{slice_get}
 
 pub slice_set_same : {A : Type 0} (xs : List A) (a : ℕ) (y : A) → a < length xs → slice_get (set xs a y) a ≡ Some y

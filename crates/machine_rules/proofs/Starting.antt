@@ -1,36 +1,33 @@
 -- The start has the facts: the first actor holds nothing, and its letter names nothing.
-use Rattle.std.proofs.Common.{◌≡◌, ◌==◌, ℕ, Bool, if◌then◌else◌, zero, suc, ◌+◌, ◌<◌, ◌≤◌, false, true, Option, Some, None, List, [], ◌∷◌, get_or, length, refl, sym, ◌∙◌, ap, arith, subst, inl, inr}
+use Rattle.std.proofs.Common.{◌≡◌, ◌==◌, ℕ, Bool, if◌then◌else◌, zero, suc, ◌+◌, false, true, Option, Some, None, List, [], ◌∷◌, refl, sym, ◌∙◌, ap, arith, inl, inr}
 use Rattle.std.specs.FinMap as m
 use Rattle.std.specs.Ordering.{nat_cmp}
 use Rattle.std.specs.Option.{option_map_or}
 use Rattle.std.specs.Prelude.{sum_by}
 use Rattle.std.proofs.lemmas.List.Sums.{sum_by-cons}
 use Rattle.orca_names.specs.Names.{owner_of, thing_cmp}
-use Rattle.orca_names.specs.declared.names.ObjName.{ObjName}
 use Rattle.orca_names.specs.declared.names.Thing.{Thing}
 use Rattle.orca_names.specs.declared.names.Thing.TheVariants.{Actor, Obj}
-use Rattle.orca_names.specs.declared.names.Value.{Value}
 use Rattle.behaviour_code.specs.Find.{field_count, start_name}
 use Rattle.behaviour_code.specs.declared.code.Program.{Program}
 use Rattle.reach_walk.specs.Reach.{thing_row}
 use Rattle.reach_walk.proofs.Elements.{none_in_nil}
 use Rattle.letter_kinds.proofs.Counts.{loaded-nil}
-use Rattle.letter_kinds.specs.Holdings.{Row, held_in, nothing_held, own_in, row_of}
-use Rattle.letter_kinds.specs.Sums.{dec_of, inc_of, load_count, times_loaded}
+use Rattle.letter_kinds.specs.Holdings.{Row, held_in, own_in, row_of}
+use Rattle.letter_kinds.specs.Sums.{dec_of, inc_of, load_count}
 use Rattle.letter_kinds.specs.declared.letter.Letter.{Letter}
 use Rattle.letter_kinds.specs.declared.letter.Letter.TheVariants.{App}
-use Rattle.machine_rules.proofs.InHand.{Balanced, out_of_hand}
 use Rattle.machine_rules.proofs.Naming.{nulls_name_nothing}
 use Rattle.machine_rules.proofs.Paths.{reach_into}
 use Rattle.machine_rules.proofs.Safety.{sum-parts}
 use Rattle.machine_rules.proofs.SeatReads.{decs_at-none, decs_at-seat, held_at-seat, incs_at-none, incs_at-seat, letter_App, loads_at-seat, own_at-none, own_at-seat}
 use Rattle.machine_rules.proofs.Seats.{some_seat}
-use Rattle.machine_rules.specs.Actors.{Actors, Seat, seat, seat_at}
+use Rattle.machine_rules.specs.Actors.{Actors, seat, seat_at}
 use Rattle.machine_rules.specs.Agreement.{IsRootPerson, Person, app_letters, nobody, people_of, person_at, person_of}
-use Rattle.machine_rules.specs.Balance.{IsBalanced, IsCovered, IsCoveredAt, NeverOverdraws, decs_at, held_at, incs_at, loads_at, own_at}
+use Rattle.machine_rules.specs.Balance.{IsBalanced, IsCovered, IsCoveredAt, decs_at, held_at, incs_at, loads_at, own_at}
 use Rattle.machine_rules.specs.Cell.{Cell, first_cell}
 use Rattle.machine_rules.specs.Facts.{Facts, KeepsCounts}
-use Rattle.machine_rules.specs.Known.{AreExactLetters, IsLoadOf, IsSoundAt, Names, Reaches, Roots, in_fields, in_frame, in_table, row_at}
+use Rattle.machine_rules.specs.Known.{AreExactLetters, IsSoundAt, Names, Reaches, Roots, in_fields, in_frame, in_table, row_at}
 use Rattle.machine_rules.specs.Plain.{first_actor, plain_row, start_of}
 use Rattle.machine_rules.specs.State.{first_state}
 use Rattle.machine_rules.specs.declared.PlainLetter.{PlainLetter}

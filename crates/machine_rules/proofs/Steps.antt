@@ -1,7 +1,7 @@
 -- What a step leads to is one state.
 use Rattle.std.proofs.Common.{◌≡◌, Bool, true, false}
 use Rattle.std.specs.Prelude.{if◌then◌else◌}
-use Rattle.machine_rules.specs.State.{State, Step, NotEnabled, IsFull, Goes}
+use Rattle.machine_rules.specs.State.{State, NotEnabled, IsFull, Goes}
 
 pub goes_to : (s t : State) → Goes s ≡ Goes t → s ≡ t
 goes_to s t e = cc

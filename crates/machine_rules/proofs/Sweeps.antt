@@ -1,36 +1,26 @@
 -- Collecting keeps the balance and the prefixes: what is swept from the table goes back in Decs.
-use Rattle.std.proofs.Common.{◌≡◌, ◌≢◌, ◌⊎◌, ℕ, zero, suc, ◌+◌, ◌-◌, ◌<◌, ◌≤◌, ◌==◌, ◌&&◌, ◌||◌, not, cond, Bool, true, false, T, Option, Some, None, List, [], ◌∷◌, ◌++◌, map, length, set, refl, sym, ◌∙◌, ap, arith, subst, inl, inr, ⊎_elim, eq-eqb, ne_eqb}
+use Rattle.std.proofs.Common.{◌≡◌, ℕ, ◌+◌, ◌<◌, ◌==◌, cond, Bool, true, false, List, [], ◌∷◌, set, refl, sym, ◌∙◌, ap, arith, subst, ⊎_elim, eq-eqb, ne_eqb}
 use Rattle.std.proofs.lemmas.Bool.{cases_eq}
-use Rattle.std.specs.List.{filter}
-use Rattle.std.specs.FinMap as m
-use Rattle.std.specs.FinMap.Entries.{below_all}
-use Rattle.std.specs.Ordering.{nat_cmp, eq_by_cmp, is_lt}
-use Rattle.std.specs.declared.cmp.Ordering.{Ordering}
-use Rattle.std.specs.declared.cmp.Ordering.TheVariants.{Less, Equal, Greater}
-use Rattle.std.proofs.lemmas.Cmp.{nat_cmp_total, tied_itself}
-use Rattle.orca_names.proofs.ThingOrder.{cases_thing, thing_total, thing_exact, is_self, is_eq_true, is_ne_false}
-use Rattle.letter_kinds.proofs.Counts.{amount-nil, amount-same, amount-other, cond_eq, cond_ne}
+use Rattle.orca_names.proofs.ThingOrder.{cases_thing, is_eq_true, is_ne_false}
+use Rattle.letter_kinds.proofs.Counts.{amount-nil, amount-same, amount-other, cond_eq}
 use Rattle.machine_rules.proofs.Posting.{push_balanced}
 use Rattle.machine_rules.proofs.SeatReads.{letter_Dec}
 use Rattle.machine_rules.proofs.Sweeping.{own-sweep, held-sweep, amount-given_back}
-use Rattle.machine_rules.proofs.Sends.{cell_balanced, cell_prefix, cell_there, present_owner, push_prefix, cond_zero}
+use Rattle.machine_rules.proofs.Sends.{cell_balanced, cell_prefix, present_owner, push_prefix, cond_zero}
 use Rattle.letter_kinds.specs.Counting.{sweep, given_back, join_owner, by_owner}
-use Rattle.letter_kinds.specs.Holdings.{Holdings, Row, own_in, held_in, has_own, row_count, entry_count}
-use Rattle.letter_kinds.specs.Sums.{amount_of, inc_of, dec_of, load_count}
+use Rattle.letter_kinds.specs.Holdings.{held_in}
+use Rattle.letter_kinds.specs.Sums.{amount_of, inc_of}
 use Rattle.letter_kinds.specs.declared.letter.Letter.{Letter}
-use Rattle.letter_kinds.specs.declared.letter.Letter.TheVariants.{App, Inc, Dec, Confirm}
-use Rattle.machine_rules.proofs.InHand.{BalancedWith, credit, debit, none, AllCounted}
+use Rattle.letter_kinds.specs.declared.letter.Letter.TheVariants.{Dec}
+use Rattle.machine_rules.proofs.InHand.{BalancedWith, debit, none, AllCounted}
 use Rattle.machine_rules.proofs.Seats.{IsPresent}
-use Rattle.machine_rules.specs.Actors.{Seat, Actors, seat_at, push_letter, push_decs, seat}
-use Rattle.machine_rules.specs.Balance.{own_at, incs_at, decs_at, held_at, loads_at, held_sum, load_sum, owner_seat, IsCovered, IsCoveredAt, NeverOverdraws}
+use Rattle.machine_rules.specs.Actors.{Actors, seat_at, push_letter, push_decs, seat}
+use Rattle.machine_rules.specs.Balance.{NeverOverdraws}
 use Rattle.machine_rules.proofs.InHand.{Balanced}
 use Rattle.machine_rules.specs.Cell.{Cell}
 use Rattle.machine_rules.specs.Collect.{collected}
-use Rattle.orca_names.specs.Names.{owner_of, is_thing, thing_cmp}
+use Rattle.orca_names.specs.Names.{owner_of, is_thing}
 use Rattle.orca_names.specs.declared.names.Thing.{Thing}
-use Rattle.orca_names.specs.declared.names.Thing.TheVariants.{Actor, Obj}
-use Rattle.orca_names.specs.declared.names.Value.{Value}
-use Rattle.std.specs.Prelude.{sum_by}
 
 -- what the letters to all owners owe
 unfoldable pub owed : List (ℕ × List (Thing × ℕ)) → Thing → ℕ

@@ -1,8 +1,8 @@
 -- A take keeps all that is kept of the counts.
 use Rattle.behaviour_code.specs.Find.{behaviours_of, takes_call}
 use Rattle.behaviour_code.specs.declared.code.Program.{Program}
-use Rattle.letter_kinds.proofs.Counts.{cond_eq, cond_ne, has_set_own, held_set_own, counted_has}
-use Rattle.letter_kinds.specs.Counting.{Amount, Loaded, set_own, raise, lower, set_held, gain, raise_all, lower_all, receive_one, receive}
+use Rattle.letter_kinds.proofs.Counts.{cond_eq, cond_ne, has_set_own, counted_has}
+use Rattle.letter_kinds.specs.Counting.{Amount, Loaded, set_own, lower, set_held, gain, raise_all, lower_all, receive_one, receive}
 use Rattle.letter_kinds.specs.Holdings.{Entries, Holdings, Row, own_in, held_in, has_own, entry_count}
 use Rattle.letter_kinds.specs.Sums.{times_loaded}
 use Rattle.letter_kinds.specs.declared.letter.Letter.TheVariants.{App, Inc, Dec, Confirm}
@@ -17,25 +17,23 @@ use Rattle.machine_rules.proofs.Safety.{safe_first}
 use Rattle.machine_rules.proofs.SeatReads.{letter_App}
 use Rattle.machine_rules.proofs.Seats.{present_below}
 use Rattle.machine_rules.proofs.Takes.{take_balanced, take_prefix, safe_here}
-use Rattle.machine_rules.specs.Actors.{Seat, Actors, seat_at, seat}
-use Rattle.machine_rules.specs.Agreement.{Person, person_at, person_of, Agrees, app_letters}
-use Rattle.machine_rules.specs.Balance.{IsCovered, IsCoveredAt, NeverOverdraws}
+use Rattle.machine_rules.specs.Actors.{Actors, seat_at, seat}
+use Rattle.machine_rules.specs.Agreement.{Person, person_of, Agrees, app_letters}
 use Rattle.machine_rules.specs.Cell.{Cell}
 use Rattle.machine_rules.specs.Facts.{IsFirm, IsFirmAt, IsPastRows, KeepsCounts}
-use Rattle.machine_rules.specs.Known.{Names, Reaches, IsKnown, InFrame, Roots, in_fields, in_frame, in_table, IsClosedAt, RowsAreAt, RowsAreIn, IsLoadOf, IsExactLetter, AreExactLetters, row_at, IsSoundAt}
+use Rattle.machine_rules.specs.Known.{Names, IsKnown, InFrame, Roots, in_fields, in_frame, in_table, IsClosedAt, RowsAreAt, row_at, IsSoundAt}
 use Rattle.machine_rules.specs.Plain.{frame_of, registers_of}
 use Rattle.machine_rules.specs.Take.{cell_after}
 use Rattle.machine_rules.specs.declared.PlainLetter.{PlainLetter}
-use Rattle.orca_names.proofs.ThingOrder.{is_self, is_eq_true, is_ne_false, cases_thing, thing_total}
-use Rattle.orca_names.specs.Names.{owner_of, is_thing, thing_cmp}
+use Rattle.orca_names.proofs.ThingOrder.{is_eq_true, cases_thing, thing_total}
+use Rattle.orca_names.specs.Names.{owner_of}
 use Rattle.orca_names.specs.declared.names.Thing.TheVariants.{Actor, Obj}
 use Rattle.orca_names.specs.declared.names.Thing.{Thing}
-use Rattle.orca_names.specs.declared.names.Value.{Value}
 use Rattle.reach_walk.specs.Reach.{root}
-use Rattle.std.proofs.Common.{◌≡◌, ◌≢◌, ◌⊎◌, ℕ, zero, suc, ◌+◌, ◌-◌, ◌<◌, ◌≤◌, ◌==◌, cond, Bool, true, false, Option, Some, None, is_some, List, [], ◌∷◌, ◌++◌, length, set, get_or, refl, sym, ◌∙◌, ap, arith, subst, inl, inr, ⊎_elim, eq-eqb, ne_eqb, length-set}
+use Rattle.std.proofs.Common.{◌≡◌, ℕ, ◌+◌, ◌-◌, ◌<◌, ◌==◌, cond, Bool, true, false, Option, Some, None, List, [], ◌∷◌, length, set, refl, sym, ◌∙◌, ap, arith, subst, inl, inr, ⊎_elim, length-set}
 use Rattle.std.proofs.lemmas.Bool.{cases_eq}
 use Rattle.std.specs.FinMap as m
-use Rattle.std.specs.Prelude.{option_map, position, replicate}
+use Rattle.std.specs.Prelude.{option_map, position}
 
 -- all but the own counts is as it was
 pub record Alike (me : ℕ) (c d : Holdings) : Type 0 where

@@ -1,27 +1,24 @@
 -- Taking a letter keeps the balance and the prefixes.
-use Rattle.std.proofs.Common.{◌≡◌, ◌≢◌, ℕ, ◌+◌, ◌-◌, ◌<◌, ◌≤◌, Bool, true, false, Option, Some, None, List, [], ◌∷◌, refl, sym, ◌∙◌, ap, arith, subst}
+use Rattle.std.proofs.Common.{◌≡◌, ◌≢◌, ℕ, ◌+◌, List, ◌∷◌, refl, ◌∙◌, ap, arith, subst}
 use Rattle.std.proofs.lemmas.List.Sums.{sum_by-cons}
 use Rattle.letter_kinds.proofs.Counts.{own-receive, held-receive, held-receive_own, counted_has}
 use Rattle.letter_kinds.proofs.Amounts.{own-raise_all, held-raise_all, own-lower_all, held-lower_all}
 use Rattle.machine_rules.proofs.Seats.{balanced-set, present_below}
 use Rattle.machine_rules.proofs.Safety.{safe_taken, safe_first, prefix-set}
 use Rattle.machine_rules.proofs.SeatReads.{own_at-seat, held_at-seat, incs_at-seat, decs_at-seat, loads_at-seat, letter_App, letter_Inc, letter_Dec, letter_Confirm}
-use Rattle.letter_kinds.specs.Counting.{receive, raise_all, lower_all}
-use Rattle.letter_kinds.specs.Holdings.{own_in, held_in, has_own}
-use Rattle.letter_kinds.specs.Sums.{amount_of, times_loaded, inc_of, dec_of, load_count}
+use Rattle.letter_kinds.specs.Holdings.{own_in, held_in}
+use Rattle.letter_kinds.specs.Sums.{inc_of, dec_of, load_count}
 use Rattle.letter_kinds.specs.declared.letter.Letter.{Letter}
 use Rattle.letter_kinds.specs.declared.letter.Letter.TheVariants.{App, Inc, Dec, Confirm}
 use Rattle.machine_rules.proofs.InHand.{none, take_letter}
-use Rattle.machine_rules.specs.Actors.{Seat, Actors, seat_at, seat}
-use Rattle.machine_rules.specs.Balance.{own_at, incs_at, decs_at, held_at, loads_at, IsCovered, IsCoveredAt, NeverOverdraws}
+use Rattle.machine_rules.specs.Actors.{Actors, seat_at, seat}
+use Rattle.machine_rules.specs.Balance.{IsCovered, IsCoveredAt, NeverOverdraws}
 use Rattle.machine_rules.proofs.InHand.{Balanced}
 use Rattle.machine_rules.specs.Cell.{Cell}
 use Rattle.machine_rules.specs.Take.{cell_after}
 use Rattle.orca_names.specs.Names.{owner_of}
 use Rattle.orca_names.specs.declared.names.Thing.{Thing}
-use Rattle.orca_names.specs.declared.names.Thing.TheVariants.{Actor, Obj}
 use Rattle.behaviour_code.specs.declared.code.Program.{Program}
-use Rattle.std.specs.Prelude.{sum_by}
 
 module _ (program : Program) (me : ℕ) (x : Thing) (c : Cell) (ls : List Letter) where
   -- the count that taking a letter leaves on a thing of one's own

@@ -1,5 +1,5 @@
 -- A turn keeps all that is kept of the counts, with the rows that it makes.
-use Rattle.std.proofs.Common.{◌≡◌, ◌⊎◌, ℕ, ◌+◌, ◌<◌, ◌≤◌, Bool, Option, Some, None, List, length, set, refl, sym, ◌∙◌, ap, arith, ⊎_elim, length-set}
+use Rattle.std.proofs.Common.{◌≡◌, ℕ, ◌+◌, ◌<◌, ◌≤◌, Bool, Option, Some, None, List, length, set, refl, sym, ◌∙◌, ap, arith, ⊎_elim, length-set}
 use Rattle.std.specs.FinMap as m
 use Rattle.std.specs.Prelude.{unwrap_or}
 use Rattle.orca_names.specs.Names.{owner_of, serial_of}

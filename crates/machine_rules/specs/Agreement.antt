@@ -1,5 +1,5 @@
 -- The two machines agree: an actor that is present is the same in both.
-use Rattle.std.specs.Prelude.{ℕ, ◌≡◌, ◌⊎◌, false, Bool, true, List, [], ◌∷◌, get_or, length, map, Option, Some, None}
+use Rattle.std.specs.Prelude.{ℕ, ◌≡◌, ◌⊎◌, false, true, List, [], ◌∷◌, get_or, length, map, Option, None}
 use Rattle.orca_names.specs.declared.row.Fields.{Fields}
 use Rattle.turn_rules.specs.declared.act.Frame.{Frame}
 use Rattle.letter_kinds.specs.declared.letter.Letter.{Letter}

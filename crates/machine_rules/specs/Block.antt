@@ -1,5 +1,5 @@
 -- Block: an actor with nothing to do reports to the detector (MAC, OOPSLA 2013).
-use Rattle.std.specs.Prelude.{ℕ, true, false, Bool, ◌||◌, ◌&&◌, not, is_none, if◌then◌else◌, List, [], ◌∷◌, ◌++◌, set, Option, Some, None}
+use Rattle.std.specs.Prelude.{ℕ, true, false, Bool, ◌||◌, ◌&&◌, not, is_none, List, [], ◌∷◌, ◌++◌, set, Option, Some, None}
 use Rattle.std.specs.List.{filter_map}
 use Rattle.std.specs.FinMap as m
 use Rattle.orca_names.specs.declared.names.Thing.{Thing}

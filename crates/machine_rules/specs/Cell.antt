@@ -1,6 +1,5 @@
 -- What an actor keeps in the machine that collects.
-use Rattle.std.specs.Prelude.{ℕ, false, Bool, List, [], ◌++◌, map, replicate, Option, Some, None}
-use Rattle.std.specs.Option.{option_map_or}
+use Rattle.std.specs.Prelude.{ℕ, false, Bool, List, ◌++◌, map, replicate, Option, Some, None}
 use Rattle.std.specs.List.{filter_map}
 use Rattle.std.specs.FinMap as m
 use Rattle.orca_names.specs.declared.names.ObjName.{ObjName}

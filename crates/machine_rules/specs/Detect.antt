@@ -4,7 +4,7 @@ use Rattle.orca_names.specs.Names.{owner_of}
 use Rattle.letter_kinds.specs.declared.letter.Letter.TheVariants.{Confirm}
 use Rattle.letter_kinds.specs.declared.note.Note.{Note}
 use Rattle.letter_kinds.specs.Counting.{Amount, by_owner, given_back}
-use Rattle.letter_kinds.specs.Detector.{Detector, Token, all_acked, close_token, closed_set, has, heard, scanned, token_numbered}
+use Rattle.letter_kinds.specs.Detector.{Token, all_acked, close_token, closed_set, has, heard, scanned, token_numbered}
 use Rattle.machine_rules.specs.Actors.{Actors, Seat, push_decs, push_letter, seat_at}
 use Rattle.machine_rules.specs.State.{State, Step, NotEnabled, Goes}
 

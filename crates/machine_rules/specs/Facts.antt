@@ -1,7 +1,6 @@
 -- The facts that every event of the machine that collects keeps, beside the plain machine.
-use Rattle.std.specs.Prelude.{ℕ, ◌<◌, ◌≤◌, ◌≡◌, ◌≢◌, List, length, Option, Some, None}
+use Rattle.std.specs.Prelude.{ℕ, ◌<◌, ◌≤◌, ◌≡◌, List, length, Option, Some, None}
 use Rattle.std.specs.FinMap as m
-use Rattle.orca_names.specs.declared.names.ObjName.{ObjName}
 use Rattle.orca_names.specs.declared.names.Thing.{Thing}
 use Rattle.orca_names.specs.declared.names.Thing.TheVariants.{Actor, Obj}
 use Rattle.reach_walk.specs.Reach.{thing_row}

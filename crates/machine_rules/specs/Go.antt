@@ -1,7 +1,6 @@
 -- Go: an actor's frame runs up to its next act.
 use Rattle.std.specs.Prelude.{ℕ, ◌+◌, nat_lt, true, Bool, if◌then◌else◌, List, [], ◌∷◌, ◌++◌, length, set, Option, Some, None}
 use Rattle.orca_names.specs.Names.{owner_of}
-use Rattle.orca_names.specs.declared.names.Thing.{Thing}
 use Rattle.orca_names.specs.declared.names.Thing.TheVariants as things
 use Rattle.orca_names.specs.declared.names.Value.{Value}
 use Rattle.behaviour_code.specs.declared.code.Program.{Program}

@@ -1,11 +1,11 @@
 -- The events of the machine that collects: which are enabled, what each leads to, and which one
 -- worker does first.
-use Rattle.std.specs.Prelude.{◌≡◌, ◌≢◌, Bool, true}
+use Rattle.std.specs.Prelude.{◌≡◌, ◌≢◌}
 use Rattle.std.specs.declared.cmp.Ordering.TheVariants.{Greater}
 use Rattle.event_rule.specs.Events.{event_cmp}
 use Rattle.event_rule.specs.declared.event.Event.{Event}
 use Rattle.event_rule.specs.declared.event.Event.TheVariants.{Take, Go, Collect, Block, Hear, Scan, Reap}
-use Rattle.machine_rules.specs.State.{State, Step, NotEnabled, Goes}
+use Rattle.machine_rules.specs.State.{State, Step, NotEnabled}
 use Rattle.machine_rules.specs.Take.{take}
 use Rattle.machine_rules.specs.Go.{go}
 use Rattle.machine_rules.specs.Collect.{collect}

@@ -1,5 +1,5 @@
 -- The state of the machine that collects, and how it starts.
-use Rattle.std.specs.Prelude.{ℕ, zero, List, [], ◌∷◌}
+use Rattle.std.specs.Prelude.{ℕ, List, [], ◌∷◌}
 use Rattle.std.specs.Option.{option_map_or}
 use Rattle.orca_names.specs.declared.names.Value.{Value}
 use Rattle.behaviour_code.specs.declared.code.Program.{Program}
@@ -9,7 +9,7 @@ use Rattle.letter_kinds.specs.declared.letter.Letter.TheVariants.{App}
 use Rattle.letter_kinds.specs.declared.note.Note.{Note}
 use Rattle.letter_kinds.specs.Detector.{Detector, fresh_detector}
 use Rattle.machine_rules.specs.Actors.{Actors, seat}
-use Rattle.machine_rules.specs.Cell.{Cell, first_cell}
+use Rattle.machine_rules.specs.Cell.{first_cell}
 
 pub record State : Type 0 where
   pub program : Program

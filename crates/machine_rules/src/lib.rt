@@ -7,14 +7,13 @@
 mod laws;
 
 use behaviour_code::Name;
+pub use laws::{
+    clean_cells_stay_swept, no_actor_gets_a_count_on_its_own, take_go_and_collect_keep_the_facts,
+    the_start_has_the_facts,
+};
 use orca_names::{Args, Fields, Row};
 use plain_list::{Listed, Queue};
 use turn_rules::Frame;
-
-pub use laws::{
-    clean_cells_stay_swept, no_actor_gets_a_count_on_its_own,
-    take_go_and_collect_keep_the_facts, the_start_has_the_facts,
-};
 
 /// An application letter: the name of a behaviour, and the arguments.
 #[derive(Clone, Copy, Debug)]

@@ -1,7 +1,7 @@
 -- Marks and loads: what values reach through finitely many rows, as lists.
-use Rattle.std.specs.Prelude.{ℕ, ◌≡◌, if◌then◌else◌, List, [], ◌∷◌, ◌++◌, Option, None, Some, Contains, map}
+use Rattle.std.specs.Prelude.{◌≡◌, if◌then◌else◌, List, [], ◌∷◌, ◌++◌, Option, Some, Contains, map}
 use Rattle.std.specs.FinMap.Entries.{by_order}
-use Rattle.std.specs.List.{list_any, sum_by}
+use Rattle.std.specs.List.{list_any}
 use Rattle.orca_names.specs.Names.{owner_of, thing_cmp, is_thing}
 use Rattle.orca_names.specs.declared.names.ObjName.{ObjName}
 use Rattle.orca_names.specs.declared.names.Thing.{Thing}
