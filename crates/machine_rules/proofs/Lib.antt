@@ -2,6 +2,7 @@ pub mod Agreeing
 pub mod Changing
 pub mod Cleaning
 pub mod Every
+pub mod Examples
 pub mod Finite
 pub mod Following
 pub mod FollowingGo
@@ -16,6 +17,8 @@ pub mod InvReap
 pub mod InvTake
 pub mod InvTurn
 pub mod Lacking
+pub mod LedgerSteps
+pub mod Ledgers
 pub mod Living
 pub mod Loads
 pub mod Local
