@@ -2,7 +2,7 @@ pub mod Agreeing
 pub mod Changing
 pub mod Cleaning
 pub mod Every
-pub mod Examples
+pub mod ExampleRuns
 pub mod Finite
 pub mod Following
 pub mod FollowingGo

@@ -3,6 +3,10 @@
 //! The rules stand in `specs/`, a file a topic; here is the data that they speak of.
 #![tactic(auto)]
 
+mod examples;
+
+pub use examples::{an_object_is_passed_on_and_goes, two_hold_each_other_and_go};
+
 use behaviour_code::Name;
 use orca_names::{Args, Fields, Row};
 use plain_list::{Listed, Queue};
