@@ -1,5 +1,5 @@
 -- Concrete books are runs, by computation, and nothing that is not needed is left after them.
-use Rattle.std.proofs.Common.{◌≡◌, ◌↔◌, ℕ, zero, suc, ◌++◌, ◌==◌, ◌&&◌, ◌||◌, not, Bool, true, false, List, [], ◌∷◌, Option, Some, None, is_some, refl, ap, sym, ◌∙◌, subst}
+use Rattle.std.proofs.Common.{◌≡◌, ◌↔◌, ℕ, zero, suc, ◌++◌, ◌==◌, ◌&&◌, ◌||◌, not, true, false, List, [], ◌∷◌, Option, Some, None, is_some, refl, ap, sym, ◌∙◌, subst}
 use Rattle.std.specs.FinMap as m
 use Rattle.std.specs.List.{find}
 use Rattle.std.specs.Ordering.{nat_cmp}
@@ -13,7 +13,7 @@ use Rattle.reach_walk.specs.Marks.{led_to, marks_of}
 use Rattle.letter_kinds.specs.Counting.{by_owner}
 use Rattle.letter_kinds.specs.Detector.{closed_set}
 use Rattle.letter_kinds.specs.Holdings.{has_own}
-use Rattle.machine_rules.proofs.LedgerSteps.{Book, first_book, after_all, after_all-leads, state_told, seats_told}
+use Rattle.machine_rules.proofs.LedgerSteps.{Page, first_page, after_all, after_all-leads, state_told, seats_told}
 use Rattle.machine_rules.specs.Actors.{Actors, Seat, seat_at}
 use Rattle.machine_rules.specs.Block.{block_at, block_in, no_letters}
 use Rattle.machine_rules.specs.Collect.{collect_at, collect_in}
@@ -26,14 +26,14 @@ use Rattle.machine_rules.specs.Run.{IsRun, Leads}
 use Rattle.machine_rules.specs.State.{State, NotEnabled, first_state}
 use Rattle.machine_rules.specs.Take.{take_at, take_in}
 
--- what is there, or else the book that is given
-abbrev book_or : Book → Option Book → Book
-book_or b None = b
-book_or b (Some c) = c
+-- what is there, or else the page that is given
+abbrev page_or : Page → Option Page → Page
+page_or b None = b
+page_or b (Some c) = c
 
-book_there : (b : Book) (o : Option Book) → is_some o ≡ true → o ≡ Some (book_or b o)
-book_there b None h = cc
-book_there b (Some c) h = refl
+page_there : (b : Page) (o : Option Page) → is_some o ≡ true → o ≡ Some (page_or b o)
+page_there b None h = cc
+page_there b (Some c) h = refl
 
 -- ---- where no event is enabled
 
@@ -70,16 +70,16 @@ still_quiet s still notes tokens news (Reap token) = ap (λ tokens. reap_found s
 
 -- ---- two peers that hold each other
 
-two_first : Book
-two_first = first_book two_hold_each_other
+two_first : Page
+two_first = first_page two_hold_each_other
 
-two_at_the_ping : Book
-two_at_the_ping = book_or two_first (after_all two_up_to_the_ping (Some two_first))
+two_at_the_ping : Page
+two_at_the_ping = page_or two_first (after_all two_up_to_the_ping (Some two_first))
 
-two_last : Book
-two_last = book_or two_first (after_all two_to_the_end (Some two_at_the_ping))
+two_last : Page
+two_last = page_or two_first (after_all two_to_the_end (Some two_at_the_ping))
 
--- all that these books compute with
+-- what these pages compute with
 two_computed : Unit {0}
 unfolding led_to marks_of by_owner two_first two_at_the_ping two_last
 two_computed = tt
@@ -94,11 +94,11 @@ to_the_end = refl
 
 from_first : IsRun two_hold_each_other two_up_to_the_ping (state_told two_at_the_ping)
 unfolding two_first two_at_the_ping
-from_first = after_all-leads two_up_to_the_ping two_first two_at_the_ping (book_there two_first _ up_to_the_ping)
+from_first = after_all-leads two_up_to_the_ping two_first two_at_the_ping (page_there two_first _ up_to_the_ping)
 
 from_ping : Leads (state_told two_at_the_ping) two_to_the_end (state_told two_last)
 unfolding two_last
-from_ping = after_all-leads two_to_the_end two_at_the_ping two_last (book_there two_first _ to_the_end)
+from_ping = after_all-leads two_to_the_end two_at_the_ping two_last (page_there two_first _ to_the_end)
 
 joined : (s t u : State) (first second : List Event) → Leads s first t → Leads t second u → Leads s (first ++ second) u
 joined s t u [] second l m = subst (λ s. Leads s second u) (sym l) m
@@ -138,13 +138,13 @@ two_hold_each_other_and_go = record {
 
 -- ---- an object is passed on
 
-passing_first : Book
-passing_first = first_book passes_an_object_on
+passing_first : Page
+passing_first = first_page passes_an_object_on
 
-passing_last : Book
-passing_last = book_or passing_first (after_all passing_book (Some passing_first))
+passing_last : Page
+passing_last = page_or passing_first (after_all passing_book (Some passing_first))
 
--- all that this book computes with
+-- what this page computes with
 passing_computed : Unit {0}
 unfolding led_to marks_of by_owner passing_first passing_last
 passing_computed = tt
@@ -155,7 +155,7 @@ passing_goes = refl
 
 passing_run : IsRun passes_an_object_on passing_book (state_told passing_last)
 unfolding passing_first passing_last
-passing_run = after_all-leads passing_book passing_first passing_last (book_there passing_first _ passing_goes)
+passing_run = after_all-leads passing_book passing_first passing_last (page_there passing_first _ passing_goes)
 
 -- the first actor is still, and has no object
 abbrev IsMain : Option Seat → Type 0

@@ -4,7 +4,6 @@ use Rattle.std.proofs.lemmas.List.{length-map, map-append, map-set}
 use Rattle.std.specs.List.{list_any}
 use Rattle.std.specs.Option.{option_map_or}
 use Rattle.orca_names.specs.Names.{is_thing, owner_of}
-use Rattle.orca_names.specs.declared.names.ObjName.{ObjName}
 use Rattle.orca_names.specs.declared.names.Thing.{Thing}
 use Rattle.orca_names.specs.declared.names.Thing.TheVariants as things
 use Rattle.orca_names.specs.declared.names.Value.{Value}
@@ -16,7 +15,7 @@ use Rattle.turn_rules.specs.Segment.{Stop, segment_of}
 use Rattle.turn_rules.specs.declared.act.Act.{Act}
 use Rattle.turn_rules.specs.declared.act.Act.TheVariants.{Post, New, Print, End}
 use Rattle.turn_rules.specs.declared.act.Frame.{Frame}
-use Rattle.letter_kinds.specs.Counting.{Amount, Loaded, by_owner, gain, given_back, lacking, to_mint}
+use Rattle.letter_kinds.specs.Counting.{Amount, Loaded, by_owner, gain, lacking, to_mint}
 use Rattle.letter_kinds.specs.Detector.{Token, all_acked, close_token, closed_set, has, heard, scanned, token_numbered}
 use Rattle.letter_kinds.specs.declared.letter.Letter.{Letter}
 use Rattle.letter_kinds.specs.declared.letter.Letter.TheVariants.{App, Inc, Dec, Confirm}
@@ -24,15 +23,15 @@ use Rattle.letter_kinds.specs.declared.note.Note.{Note}
 use Rattle.letter_kinds.specs.declared.note.Note.TheVariants as notes
 use Rattle.machine_rules.proofs.Ledgers.{Ledger, told, empty_ledger, row_told, row_of-told, objects_told, known_objects-told, actors_told, held_actors-told, change_held, set_held-told, take_load, receive-told, give_load, send-told, raise_told, raise_all-told, lower_told, lower_all-told, mint_told, mint_all-told, lacking_told, lacking-told, make_told, with_made-told, sweep_told, sweep-told, back_told, given_back-told}
 use Rattle.machine_rules.specs.Actors.{Actors, Seat, push_decs, push_letter, seat, seat_at, with_letter_more}
-use Rattle.machine_rules.specs.Block.{block_at, block_in, may_block, held_actors}
-use Rattle.machine_rules.specs.Cell.{Cell, clean_cell, first_cell, fresh_cell, known_objects}
+use Rattle.machine_rules.specs.Block.{block_at, block_in, may_block}
+use Rattle.machine_rules.specs.Cell.{Cell, first_cell, fresh_cell}
 use Rattle.machine_rules.specs.Collect.{collect_at, collect_in, collected, is_marked}
 use Rattle.machine_rules.specs.Detect.{ask_all, hear_in, scan_in, reap_in, held_outside, reap_found, reaped}
 use Rattle.machine_rules.specs.Go.{act_in, go_at, go_in, load_from, post_or_mint, turn_of_cell, turned}
 use Rattle.machine_rules.specs.Next.{next}
 use Rattle.machine_rules.specs.Plain.{stopped_at, with_name}
 use Rattle.machine_rules.specs.Run.{Leads}
-use Rattle.machine_rules.specs.State.{State, Step, NotEnabled, IsFull, Goes, first_state, start_letters}
+use Rattle.machine_rules.specs.State.{State, Step, IsFull, Goes, first_state, start_letters}
 use Rattle.machine_rules.specs.Take.{cell_after, note_of, notes_after, take_at, take_in}
 
 -- ---- places
@@ -43,22 +42,28 @@ pub record Place : Type 0 where
   pub ledger : Ledger
   pub mail : List Letter
 
+-- all actors ever made, by number; none where the actor is gone
 abbrev pub Places : Type 0
 Places = List (Option Place)
 
+-- the cell with the holdings of the ledger
 abbrev cell_told : Place → Cell
 cell_told o = record o.cell { holdings = told o.ledger }
 
+-- the seat of a place
 abbrev seat_told : Option Place → Option Seat
 seat_told None = None
 seat_told (Some o) = seat (cell_told o) o.mail
 
+-- the actors in their places
 abbrev pub seats_told : Places → Actors
 seats_told places = map seat_told places
 
+-- a present actor
 abbrev place : Cell → Ledger → List Letter → Option Place
 place cell ledger mail = Some (record { cell = cell; ledger = ledger; mail = mail })
 
+-- the place of a number
 abbrev place_at : Places → ℕ → Option Place
 place_at places a = get_or places a None
 
@@ -72,6 +77,7 @@ set-told places a o p e = ap (set (seats_told places) a) e ∙ sym (map-set seat
 
 -- ---- posting
 
+-- one letter more
 abbrev mail_more : Letter → Option Place → Option Place
 mail_more letter None = None
 mail_more letter (Some o) = Some (record o { mail = o.mail ++ letter ∷ [] })
@@ -80,6 +86,7 @@ mail-told : (letter : Letter) (o : Option Place) → with_letter_more letter (se
 mail-told letter None = refl
 mail-told letter (Some o) = refl
 
+-- a letter for an actor
 abbrev push_told : ℕ → Letter → Places → Places
 push_told to letter places = set places to (mail_more letter (place_at places to))
 
@@ -88,6 +95,7 @@ unfolding push_letter
 push_letter-told to letter places =
     set-told places to _ (mail_more letter (place_at places to)) (ap (with_letter_more letter) (seat_at-told places to) ∙ mail-told letter (place_at places to))
 
+-- to each of these owners one Dec
 abbrev decs_told : List (ℕ × List Amount) → Places → Places
 decs_told [] places = places
 decs_told (group ∷ groups) places = decs_told groups (push_told group.0 (Dec group.1) places)
@@ -97,6 +105,7 @@ unfolding push_decs
 push_decs-told [] places = refl
 push_decs-told (group ∷ groups) places = ap (push_decs groups) (push_letter-told group.0 (Dec group.1) places) ∙ push_decs-told groups _
 
+-- a Confirm of the token to each of these
 abbrev asked_told : List ℕ → ℕ → Places → Places
 asked_told [] token places = places
 asked_told (a ∷ members) token places = asked_told members token (push_told a (Confirm token) places)
@@ -107,34 +116,38 @@ ask_all-told (a ∷ members) token places = ap (ask_all members token) (push_let
 
 -- ---- states
 
--- the actors stand in the places, and those of the state count for nothing
-pub record Book : Type 0 where
+-- a state whose actors stand in the places; those of the state count for nothing
+pub record Page : Type 0 where
   pub state : State
   pub places : Places
 
-abbrev pub state_told : Book → State
+-- the state with the actors of the places
+abbrev pub state_told : Page → State
 state_told b = record b.state { actors = seats_told b.places }
 
-abbrev pub first_book : Program → Book
-first_book program = record {
+-- before the first event
+abbrev pub first_page : Program → Page
+first_page program = record {
   state = record (first_state program) { actors = [] };
   places = place (first_cell program) (empty_ledger 0) (start_letters program) ∷ [];
 }
 
--- the step goes to the state of the book, if there is one
-abbrev Follows : Option Book → Step → Type 0
+-- the step goes to the state of the page, if there is one
+abbrev Follows : Option Page → Step → Type 0
 Follows None step = Unit {0}
 Follows (Some b) step = step ≡ Goes (state_told b)
 
 -- ---- take
 
+-- after the letter was taken
 abbrev ledger_after : ℕ → Letter → Ledger → Ledger
 ledger_after me (App behaviour args load) l = take_load me load l
 ledger_after me (Inc things) l = raise_told me things l
 ledger_after me (Dec things) l = lower_told me things l
 ledger_after me (Confirm token) l = l
 
-abbrev taken_in : Book → ℕ → Place → Option Frame → List Letter → Option Book
+-- after a take
+abbrev taken_in : Page → ℕ → Place → Option Frame → List Letter → Option Page
 taken_in b a o (Some frame) mail = None
 taken_in b a o None [] = None
 taken_in b a o None (letter ∷ mail) = Some (record {
@@ -150,7 +163,7 @@ after_letter-told program a (Inc things) o mail = ap (λ h. seat (record (cell_a
 after_letter-told program a (Dec things) o mail = ap (λ h. seat (record (cell_after program a (Dec things) o.cell) { holdings = h }) mail) (lower_all-told a things o.ledger)
 after_letter-told program a (Confirm token) o mail = refl
 
-take-follows : (b : Book) (a : ℕ) (o : Place) (frame : Option Frame) (mail : List Letter) → Follows (taken_in b a o frame mail) (take_in (state_told b) a (cell_told o) frame mail)
+take-follows : (b : Page) (a : ℕ) (o : Place) (frame : Option Frame) (mail : List Letter) → Follows (taken_in b a o frame mail) (take_in (state_told b) a (cell_told o) frame mail)
 take-follows b a o (Some frame) mail = tt
 take-follows b a o None [] = tt
 take-follows b a o None (letter ∷ mail) =
@@ -159,6 +172,7 @@ take-follows b a o None (letter ∷ mail) =
 
 -- ---- go
 
+-- what the frame does up to its next act
 abbrev turn_told : Program → ℕ → Place → Frame → Stop
 turn_told program a o frame = segment_of (record { program = program; me = a; base = o.ledger.next; rows = row_told a o.ledger }) frame o.cell.fields
 
@@ -173,24 +187,26 @@ place_turned stop frame dirty o = record { cell = turned stop frame dirty o.cell
 turned-told : (stop : Stop) (frame : Option Frame) (dirty : Bool) (o : Place) → turned stop frame dirty (cell_told o) ≡ cell_told (place_turned stop frame dirty o)
 turned-told stop frame dirty o = ap (λ h. record (turned stop frame dirty o.cell) { holdings = h }) (with_made-told stop.turn.made o.ledger)
 
+-- all that the arguments reach
 abbrev load_told : ℕ → Ledger → List Value → List Loaded
 load_told me l args = load_of (row_told me l) (objects_told me l) args
 
 load_from-told : (me : ℕ) (l : Ledger) (args : List Value) → load_from me (told l) args ≡ load_told me l args
 load_from-told me l args i = load_of (λ n. row_of-told me l n i) (known_objects-told me l i) args
 
--- the book after a turn that the actor keeps
-abbrev with_turn_told : Book → Stop → Places → Book
+-- the page after a turn that the actor keeps
+abbrev with_turn_told : Page → Stop → Places → Page
 with_turn_told b stop places = record { state = record b.state { objects = b.state.objects + length stop.turn.made }; places = places }
 
-abbrev post_or_mint_told : Book → ℕ → Place → Place → Stop → ℕ → ℕ → List Value → List Loaded → List Loaded → Book
+-- the letter goes, or there is more of what lacks
+abbrev post_or_mint_told : Page → ℕ → Place → Place → Stop → ℕ → ℕ → List Value → List Loaded → List Loaded → Page
 post_or_mint_told b a before after stop to behaviour args load [] =
     with_turn_told b stop (push_told to (App behaviour args load) (set b.places a (place after.cell (give_load a load after.ledger) after.mail)))
 post_or_mint_told b a before after stop to behaviour args load (e ∷ lacked) =
     let things = to_mint (owner_of e.0) (e ∷ lacked) in
     record b { places = push_told (owner_of e.0) (Inc things) (set b.places a (place before.cell (mint_told things before.ledger) before.mail)) }
 
-post-told : (b : Book) (a : ℕ) (before after : Place) (stop : Stop) (to behaviour : ℕ) (args : List Value) (load lacked : List Loaded) → after.mail ≡ before.mail
+post-told : (b : Page) (a : ℕ) (before after : Place) (stop : Stop) (to behaviour : ℕ) (args : List Value) (load lacked : List Loaded) → after.mail ≡ before.mail
     → post_or_mint (state_told b) a (cell_told before) (cell_told after) before.mail stop to behaviour args load lacked
     ≡ state_told (post_or_mint_told b a before after stop to behaviour args load lacked)
 post-told b a before after stop to behaviour args load [] same =
@@ -207,7 +223,8 @@ post-told b a before after stop to behaviour args load (e ∷ lacked) same =
         (ap (λ h. seat (record before.cell { holdings = h }) before.mail) (mint_all-told things before.ledger)))
     ∙ push_letter-told (owner_of e.0) (Inc things) _)
 
-abbrev acted : Book → ℕ → Place → Frame → Stop → Act → Option Book
+-- after the act of a turn
+abbrev acted : Page → ℕ → Place → Frame → Stop → Act → Option Page
 acted b a o frame stop End = Some (with_turn_told b stop (set b.places a (Some (place_turned stop None true o))))
 acted b a o frame stop (Print value) =
     Some (record { state = record b.state { objects = b.state.objects + length stop.turn.made; prints = b.state.prints ++ value ∷ [] };
@@ -224,7 +241,7 @@ acted b a o frame stop (Post to behaviour args) =
     let load = load_told a after.ledger args in
     Some (post_or_mint_told b a o after stop to behaviour args load (lacking_told a after.ledger load))
 
-act-follows : (b : Book) (a : ℕ) (o : Place) (frame : Frame) (stop : Stop) (act : Act)
+act-follows : (b : Page) (a : ℕ) (o : Place) (frame : Frame) (stop : Stop) (act : Act)
     → Follows (acted b a o frame stop act) (act_in (state_told b) a (cell_told o) o.mail frame stop act)
 act-follows b a o frame stop End =
     ap (λ actors. Goes (record b.state { actors = actors; objects = b.state.objects + length stop.turn.made }))
@@ -300,11 +317,12 @@ act-follows b a o frame stop (Post to behaviour args) =
         ∙ ap (post_or_mint (state_told b) a (cell_told o) (cell_told after) o.mail stop to behaviour args (load_told a after.ledger args))
           (lacking-told a after.ledger (load_told a after.ledger args))
 
-abbrev gone_in : Book → ℕ → Place → Option Frame → Option Book
+-- after a go
+abbrev gone_in : Page → ℕ → Place → Option Frame → Option Page
 gone_in b a o None = None
 gone_in b a o (Some frame) = let stop = turn_told b.state.program a o frame in acted b a o (stopped_at frame stop) stop stop.act
 
-go-follows : (b : Book) (a : ℕ) (o : Place) (frame : Option Frame) → Follows (gone_in b a o frame) (go_in (state_told b) a (cell_told o) frame o.mail)
+go-follows : (b : Page) (a : ℕ) (o : Place) (frame : Option Frame) → Follows (gone_in b a o frame) (go_in (state_told b) a (cell_told o) frame o.mail)
 go-follows b a o None = tt
 go-follows b a o (Some frame) =
     let stop = turn_told b.state.program a o frame in
@@ -313,6 +331,7 @@ go-follows b a o (Some frame) =
 
 -- ---- collect
 
+-- what the fields reach
 abbrev marked_told : ℕ → Place → Thing → Bool
 marked_told a o x = list_any (is_thing x) (marks_of (row_told a o.ledger) (objects_told a o.ledger) o.cell.fields.values)
 
@@ -320,9 +339,11 @@ is_marked-told : (a : ℕ) (o : Place) → is_marked a (cell_told o) ≡ marked_
 unfolding is_marked
 is_marked-told a o i = λ x. list_any (is_thing x) (marks_of (λ n. row_of-told a o.ledger n i) (known_objects-told a o.ledger i) o.cell.fields.values)
 
+-- the actor without what is not marked
 abbrev place_swept : ℕ → Place → Place
 place_swept a o = record { cell = record o.cell { dirty = false }; ledger = sweep_told (marked_told a o) a o.ledger; mail = o.mail }
 
+-- and to each owner a Dec with what was held
 abbrev places_collected : ℕ → Place → Places → Places
 places_collected a o places = decs_told (by_owner (back_told (marked_told a o) o.ledger)) (set places a (Some (place_swept a o)))
 
@@ -334,12 +355,13 @@ collected-told a o places =
       (set-told places a _ (Some (place_swept a o)) (ap (λ h. seat (record o.cell { holdings = h; dirty = false }) o.mail) (sweep-told (marked_told a o) a o.ledger)) i))
     ∙ push_decs-told (by_owner (back_told (marked_told a o) o.ledger)) (set places a (Some (place_swept a o)))
 
-abbrev collected_in : Book → ℕ → Place → Option Frame → Bool → Option Book
+-- after a collection
+abbrev collected_in : Page → ℕ → Place → Option Frame → Bool → Option Page
 collected_in b a o (Some frame) dirty = None
 collected_in b a o None false = None
 collected_in b a o None true = Some (record b { places = places_collected a o b.places })
 
-collect-follows : (b : Book) (a : ℕ) (o : Place) (frame : Option Frame) (dirty : Bool)
+collect-follows : (b : Page) (a : ℕ) (o : Place) (frame : Option Frame) (dirty : Bool)
     → Follows (collected_in b a o frame dirty) (collect_in (state_told b) a (cell_told o) frame dirty o.mail)
 collect-follows b a o (Some frame) dirty = tt
 collect-follows b a o None false = tt
@@ -347,14 +369,15 @@ collect-follows b a o None true = ap (λ actors. Goes (record b.state { actors =
 
 -- ---- block
 
-abbrev blocked_in : Book → ℕ → Place → Bool → Option Book
+-- after a report
+abbrev blocked_in : Page → ℕ → Place → Bool → Option Page
 blocked_in b a o false = None
 blocked_in b a o true = Some (record {
   state = record b.state { notes = b.state.notes ++ notes.Block a o.ledger.count (actors_told o.ledger) ∷ [] };
   places = set b.places a (place (record o.cell { reported = true }) o.ledger o.mail);
 })
 
-block-follows : (b : Book) (a : ℕ) (o : Place) (may : Bool) → Follows (blocked_in b a o may) (block_in (state_told b) a (cell_told o) o.mail may)
+block-follows : (b : Page) (a : ℕ) (o : Place) (may : Bool) → Follows (blocked_in b a o may) (block_in (state_told b) a (cell_told o) o.mail may)
 block-follows b a o false = tt
 block-follows b a o true = λ i. Goes (record b.state {
   actors = set-told b.places a _ (place (record o.cell { reported = true }) o.ledger o.mail) refl i;
@@ -364,12 +387,12 @@ block-follows b a o true = λ i. Goes (record b.state {
 -- ---- an event of an actor
 
 -- what the actor at the place does, if it is present
-abbrev of_place : (Place → Option Book) → Option Place → Option Book
+abbrev of_place : (Place → Option Page) → Option Place → Option Page
 of_place does None = None
 of_place does (Some o) = does o
 
 -- an event of an actor follows where it follows of each place
-place-follows : (b : Book) (a : ℕ) (does : Place → Option Book) (step : Option Seat → Step)
+place-follows : (b : Page) (a : ℕ) (does : Place → Option Page) (step : Option Seat → Step)
     → ((o : Place) → Follows (does o) (step (seat_told (Some o)))) → Follows (of_place does (place_at b.places a)) (step (seat_at (seats_told b.places) a))
 place-follows b a does step follows = subst (λ o. Follows (of_place does (place_at b.places a)) (step o)) (sym (seat_at-told b.places a)) (cases (place_at b.places a))
   where
@@ -379,26 +402,29 @@ place-follows b a does step follows = subst (λ o. Follows (of_place does (place
 
 -- ---- the detector
 
-abbrev heard_in : Book → List Note → Option Book
+-- after the detector took a note
+abbrev heard_in : Page → List Note → Option Page
 heard_in b [] = None
 heard_in b (note ∷ notes) = Some (record b { state = record b.state { detector = heard note b.state.detector; notes = notes } })
 
-hear-follows : (b : Book) (notes : List Note) → Follows (heard_in b notes) (hear_in (state_told b) notes)
+hear-follows : (b : Page) (notes : List Note) → Follows (heard_in b notes) (hear_in (state_told b) notes)
 hear-follows b [] = tt
 hear-follows b (note ∷ notes) = refl
 
-abbrev scanned_in : Book → List ℕ → Bool → Option Book
+-- after a scan
+abbrev scanned_in : Page → List ℕ → Bool → Option Page
 scanned_in b closed false = None
 scanned_in b closed true = Some (record {
   state = record b.state { detector = scanned b.state.detector closed };
   places = asked_told closed (suc b.state.detector.opened) b.places;
 })
 
-scan-follows : (b : Book) (closed : List ℕ) (news : Bool) → Follows (scanned_in b closed news) (scan_in (state_told b) closed news)
+scan-follows : (b : Page) (closed : List ℕ) (news : Bool) → Follows (scanned_in b closed news) (scan_in (state_told b) closed news)
 scan-follows b closed false = tt
 scan-follows b closed true =
     ap (λ actors. Goes (record b.state { actors = actors; detector = scanned b.state.detector closed })) (ask_all-told closed (suc b.state.detector.opened) b.places)
 
+-- what a member held on things whose owners are not in the set
 abbrev outside_told : List ℕ → Option Place → List Amount
 outside_told members None = []
 outside_told members (Some o) = back_told (λ x. has members (owner_of x)) o.ledger
@@ -407,6 +433,7 @@ held_outside-told : (members : List ℕ) (o : Option Place) → held_outside mem
 held_outside-told members None = refl
 held_outside-told members (Some o) = given_back-told (λ x. has members (owner_of x)) o.ledger
 
+-- without these members, and with the Decs that go out
 abbrev reaped_told : List ℕ → List ℕ → List (ℕ × List Amount) → Places → Places
 reaped_told members [] decs places = decs_told decs places
 reaped_told members (a ∷ rest) decs places = reaped_told members rest (decs ++ by_owner (outside_told members (place_at places a))) (set places a None)
@@ -420,38 +447,41 @@ reaped-told members (a ∷ rest) decs places =
       (set-told places a None None refl i))
     ∙ reaped-told members rest _ _
 
-abbrev reaped_in : Book → Token → Bool → Option Book
+-- after a reap of the token, if all acknowledged it
+abbrev reaped_in : Page → Token → Bool → Option Page
 reaped_in b token false = None
 reaped_in b token true = Some (record {
   state = record b.state { detector = close_token token b.state.detector };
   places = reaped_told token.members token.members [] b.places;
 })
 
-abbrev reaped_found : Book → Option Token → Option Book
+-- the token that is found is reaped
+abbrev reaped_found : Page → Option Token → Option Page
 reaped_found b None = None
 reaped_found b (Some token) = reaped_in b token (all_acked token)
 
-reap-follows : (b : Book) (token : Token) (all : Bool) → Follows (reaped_in b token all) (reap_in (state_told b) token all)
+reap-follows : (b : Page) (token : Token) (all : Bool) → Follows (reaped_in b token all) (reap_in (state_told b) token all)
 reap-follows b token false = tt
 reap-follows b token true =
     ap (λ actors. Goes (record b.state { actors = actors; detector = close_token token b.state.detector })) (reaped-told token.members token.members [] b.places)
 
-found-follows : (b : Book) (found : Option Token) → Follows (reaped_found b found) (reap_found (state_told b) found)
+found-follows : (b : Page) (found : Option Token) → Follows (reaped_found b found) (reap_found (state_told b) found)
 found-follows b None = tt
 found-follows b (Some token) = reap-follows b token (all_acked token)
 
 -- ---- an event
 
-abbrev next_book : Book → Event → Option Book
-next_book b (Take a) = of_place (λ o. taken_in b a o o.cell.frame o.mail) (place_at b.places a)
-next_book b (Go a) = of_place (λ o. gone_in b a o o.cell.frame) (place_at b.places a)
-next_book b (Collect a) = of_place (λ o. collected_in b a o o.cell.frame o.cell.dirty) (place_at b.places a)
-next_book b (Block a) = of_place (λ o. blocked_in b a o (may_block o.cell o.mail)) (place_at b.places a)
-next_book b Hear = heard_in b b.state.notes
-next_book b Scan = scanned_in b (closed_set b.state.detector) b.state.detector.news
-next_book b (Reap token) = reaped_found b (token_numbered token b.state.detector)
+-- after an event, if it is enabled
+abbrev next_page : Page → Event → Option Page
+next_page b (Take a) = of_place (λ o. taken_in b a o o.cell.frame o.mail) (place_at b.places a)
+next_page b (Go a) = of_place (λ o. gone_in b a o o.cell.frame) (place_at b.places a)
+next_page b (Collect a) = of_place (λ o. collected_in b a o o.cell.frame o.cell.dirty) (place_at b.places a)
+next_page b (Block a) = of_place (λ o. blocked_in b a o (may_block o.cell o.mail)) (place_at b.places a)
+next_page b Hear = heard_in b b.state.notes
+next_page b Scan = scanned_in b (closed_set b.state.detector) b.state.detector.news
+next_page b (Reap token) = reaped_found b (token_numbered token b.state.detector)
 
-next-follows : (b : Book) (e : Event) → Follows (next_book b e) (next (state_told b) e)
+next-follows : (b : Page) (e : Event) → Follows (next_page b e) (next (state_told b) e)
 next-follows b (Take a) = place-follows b a _ (take_at (state_told b) a) (λ o. take-follows b a o o.cell.frame o.mail)
 next-follows b (Go a) = place-follows b a _ (go_at (state_told b) a) (λ o. go-follows b a o o.cell.frame)
 next-follows b (Collect a) = place-follows b a _ (collect_at (state_told b) a) (λ o. collect-follows b a o o.cell.frame o.cell.dirty)
@@ -463,20 +493,20 @@ next-follows b (Reap token) = found-follows b (token_numbered token b.state.dete
 -- ---- the events of a run
 
 -- after these events, if each is enabled in its turn
-abbrev pub after_all : List Event → Option Book → Option Book
+abbrev pub after_all : List Event → Option Page → Option Page
 after_all [] b = b
 after_all (e ∷ events) None = None
-after_all (e ∷ events) (Some b) = after_all events (next_book b e)
+after_all (e ∷ events) (Some b) = after_all events (next_page b e)
 
-none_after : (events : List Event) (c : Book) → after_all events None ≡ Some c → ⊥
+none_after : (events : List Event) (c : Page) → after_all events None ≡ Some c → ⊥
 none_after [] c h = cc
 none_after (e ∷ events) c h = cc
 
-pub after_all-leads : (events : List Event) (b c : Book) → after_all events (Some b) ≡ Some c → Leads (state_told b) events (state_told c)
+pub after_all-leads : (events : List Event) (b c : Page) → after_all events (Some b) ≡ Some c → Leads (state_told b) events (state_told c)
 after_all-leads [] b c h = ap (λ o. option_map_or state_told o (state_told b)) h
-after_all-leads (e ∷ events) b c h = cases (next_book b e) (next-follows b e) h (λ d. after_all-leads events d c)
+after_all-leads (e ∷ events) b c h = cases (next_page b e) (next-follows b e) h (λ d. after_all-leads events d c)
   where
-    cases : (o : Option Book) → Follows o (next (state_told b) e) → after_all events o ≡ Some c
-        → ((d : Book) → after_all events (Some d) ≡ Some c → Leads (state_told d) events (state_told c)) → Leads (state_told b) (e ∷ events) (state_told c)
+    cases : (o : Option Page) → Follows o (next (state_told b) e) → after_all events o ≡ Some c
+        → ((d : Page) → after_all events (Some d) ≡ Some c → Leads (state_told d) events (state_told c)) → Leads (state_told b) (e ∷ events) (state_told c)
     cases None follows h later = absurd (none_after events c h)
     cases (Some d) goes h later = (state_told d, goes, later d h)

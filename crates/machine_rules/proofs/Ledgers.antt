@@ -1,5 +1,5 @@
 -- Holdings whose maps are written out as lists of entries count as holdings do.
-use Rattle.std.proofs.Common.{◌≡◌, ℕ, zero, suc, ◌+◌, ◌-◌, ◌==◌, ◌&&◌, ◌||◌, Bool, true, false, cond, not, if◌then◌else◌, List, [], ◌∷◌, ◌++◌, length, map, Option, Some, None, refl, ap, sym, ◌∙◌}
+use Rattle.std.proofs.Common.{◌≡◌, ℕ, suc, ◌+◌, ◌-◌, ◌==◌, ◌&&◌, ◌||◌, Bool, true, false, cond, not, if◌then◌else◌, List, [], ◌∷◌, ◌++◌, length, map, Option, Some, None, refl, ap, sym, ◌∙◌}
 use Rattle.std.specs.Prelude.{filter, option_map}
 use Rattle.std.specs.List.{filter_map}
 use Rattle.std.specs.Option.{option_map_or}
@@ -14,7 +14,7 @@ use Rattle.orca_names.specs.declared.names.ObjName.{ObjName}
 use Rattle.orca_names.specs.declared.names.Thing.{Thing}
 use Rattle.orca_names.specs.declared.names.Thing.TheVariants.{Actor, Obj}
 use Rattle.letter_kinds.specs.Holdings.{Row, Holdings, row_count, entry_count, entry_row, held_in, row_of, add_rows, with_made}
-use Rattle.letter_kinds.specs.Counting.{Amount, Loaded, with_row_count, set_own, set_held, receive_one, receive, send_one, send, raise_all, lower_all, is_lacking, lacking, mint_one, mint_all, sweep, given_back}
+use Rattle.letter_kinds.specs.Counting.{Amount, Loaded, with_row_count, set_own, set_held, receive, send, raise_all, lower_all, lacking, mint_all, sweep, given_back}
 use Rattle.machine_rules.specs.Block.{actor_entry, held_actors}
 use Rattle.machine_rules.specs.Cell.{known_objects, object_name}
 
@@ -60,17 +60,21 @@ pub record Ledger : Type 0 where
 abbrev pub told : Ledger → Holdings
 told l = record { count = l.count; rows = m.from_entries l.rows; next = l.next; foreign = m.from_entries l.foreign }
 
+-- no object, and nothing held
 abbrev pub empty_ledger : ℕ → Ledger
 empty_ledger count = record { count = count; rows = []; next = 0; foreign = [] }
 
+-- the entry of an own object
 abbrev own_entry : Ledger → ℕ → Option (Row × ℕ)
 own_entry l serial = m.find nat_cmp serial l.rows
 
+-- the entry of another's thing
 abbrev held_entry : Ledger → Thing → Option (ℕ × Option Row)
 held_entry l x = m.find thing_cmp x l.foreign
 
 -- ---- what it knows
 
+-- the row of an object, its own or another's
 abbrev pub row_told : ℕ → Ledger → ObjName → Option Row
 row_told me l n = if n.owner == me then option_map (λ e. e.0) (own_entry l n.serial) else entry_row (held_entry l (Obj n))
 
@@ -79,6 +83,7 @@ unfolding row_of
 row_of-told me l n i =
     if n.owner == me then option_map (λ e. e.0) (m.get-from_entries nat_cmp_total l.rows n.serial i) else entry_row (m.get-from_entries thing_total l.foreign (Obj n) i)
 
+-- the objects of which there may be a row
 abbrev pub objects_told : ℕ → Ledger → List ObjName
 objects_told me l =
     map (λ e. record { owner = me; serial = e.0 }) (in_key_order nat_cmp l.rows) ++ filter_map (λ e. object_name e.0) (in_key_order thing_cmp l.foreign)
@@ -88,6 +93,7 @@ unfolding known_objects
 known_objects-told me l i =
     map (λ e. record { owner = me; serial = e.0 }) (entries-in_order nat_cmp_total l.rows i) ++ filter_map (λ e. object_name e.0) (entries-in_order thing_total l.foreign i)
 
+-- the counts that are held on other actors
 abbrev pub actors_told : Ledger → List (ℕ × ℕ)
 actors_told l = filter_map actor_entry (in_key_order thing_cmp l.foreign)
 
@@ -96,6 +102,7 @@ held_actors-told l = ap (filter_map actor_entry) (entries-in_order thing_total l
 
 -- ---- one count
 
+-- an own thing's count is changed, where it is there
 abbrev change_own : (ℕ → ℕ) → Thing → Ledger → Ledger
 change_own change (Actor a) l = record l { count = change l.count }
 change_own change (Obj n) l =
@@ -113,6 +120,7 @@ set_own-told change (Obj n) l =
     cases None = refl
     cases (Some e) = insert-put nat_cmp_total nat_exact l.rows n.serial (e.0, change e.1)
 
+-- the count that is held on another's thing
 abbrev held_told : Ledger → Thing → ℕ
 held_told l x = entry_count (held_entry l x)
 
@@ -120,6 +128,7 @@ held_in-told : (l : Ledger) (x : Thing) → held_in (told l) x ≡ held_told l x
 unfolding held_in
 held_in-told l x = ap entry_count (m.get-from_entries thing_total l.foreign x)
 
+-- the count that is held on another's thing is changed
 abbrev pub change_held : (ℕ → ℕ) → Thing → Option Row → Ledger → Ledger
 change_held change x row l = record l { foreign = m.put thing_cmp x (change (held_told l x), row) l.foreign }
 
@@ -141,6 +150,7 @@ either-told false h k l n p q = q
 
 -- ---- loads
 
+-- who takes a letter counts what it loads
 abbrev pub take_load : ℕ → List Loaded → Ledger → Ledger
 take_load me [] l = l
 take_load me (e ∷ load) l =
@@ -152,6 +162,7 @@ receive-told me [] l = refl
 receive-told me (e ∷ load) l =
     ap (receive me load) (either-told (owner_of e.0 == me) _ _ _ _ (set_own-told (λ n. n - 1) e.0 l) (set_held-told (λ n. n + 1) e.0 e.1 l)) ∙ receive-told me load _
 
+-- who sends it counts the other way round
 abbrev pub give_load : ℕ → List Loaded → Ledger → Ledger
 give_load me [] l = l
 give_load me (e ∷ load) l =
@@ -165,6 +176,7 @@ send-told me (e ∷ load) l =
 
 -- ---- amounts
 
+-- counts of own things rise
 abbrev pub raise_told : ℕ → List Amount → Ledger → Ledger
 raise_told me [] l = l
 raise_told me (e ∷ things) l = raise_told me things (if owner_of e.0 == me then change_own (λ n. n + e.1) e.0 l else l)
@@ -175,6 +187,7 @@ raise_all-told me [] l = refl
 raise_all-told me (e ∷ things) l =
     ap (raise_all me things) (either-told (owner_of e.0 == me) _ _ _ _ (set_own-told (λ n. n + e.1) e.0 l) refl) ∙ raise_all-told me things _
 
+-- counts of own things fall
 abbrev pub lower_told : ℕ → List Amount → Ledger → Ledger
 lower_told me [] l = l
 lower_told me (e ∷ things) l = lower_told me things (if owner_of e.0 == me then change_own (λ n. n - e.1) e.0 l else l)
@@ -185,6 +198,7 @@ lower_all-told me [] l = refl
 lower_all-told me (e ∷ things) l =
     ap (lower_all me things) (either-told (owner_of e.0 == me) _ _ _ _ (set_own-told (λ n. n - e.1) e.0 l) refl) ∙ lower_all-told me things _
 
+-- counts that are held on others' things rise
 abbrev pub mint_told : List Amount → Ledger → Ledger
 mint_told [] l = l
 mint_told (e ∷ things) l = mint_told things (change_held (λ n. n + e.1) e.0 (entry_row (held_entry l e.0)) l)
@@ -194,6 +208,7 @@ unfolding mint_all
 mint_all-told [] l = refl
 mint_all-told (e ∷ things) l = ap (mint_all things) (keep_row-told (λ n. n + e.1) e.0 l) ∙ mint_all-told things _
 
+-- what is too little to be sent
 abbrev pub lacking_told : ℕ → Ledger → List Loaded → List Loaded
 lacking_told me l load = filter (λ e. not (owner_of e.0 == me) && (held_told l e.0 == 1)) load
 
@@ -202,6 +217,7 @@ lacking-told me l load i = filter (λ e. not (owner_of e.0 == me) && (held_in-to
 
 -- ---- new objects
 
+-- rows at the serials from the first on, each with count 0
 abbrev rows_more : ℕ → List Row → List (ℕ × (Row × ℕ)) → List (ℕ × (Row × ℕ))
 rows_more serial [] rows = rows
 rows_more serial (row ∷ made) rows = rows_more (suc serial) made (m.put nat_cmp serial (row, 0) rows)
@@ -212,6 +228,7 @@ add_rows-told serial [] rows = refl
 add_rows-told serial (row ∷ made) rows =
     ap (add_rows (suc serial) made) (insert-put nat_cmp_total nat_exact rows serial (row, 0)) ∙ add_rows-told (suc serial) made _
 
+-- with so many own objects more
 abbrev pub make_told : List Row → Ledger → Ledger
 make_told made l = record l { rows = rows_more l.next made l.rows; next = l.next + length made }
 
@@ -220,6 +237,7 @@ with_made-told made l = ap (λ rows. record (told l) { rows = rows; next = l.nex
 
 -- ---- a sweep
 
+-- without what is not marked
 abbrev pub sweep_told : (Thing → Bool) → ℕ → Ledger → Ledger
 sweep_told marked me l = record l {
   rows = where_key nat_cmp (λ serial. marked (Obj (record { owner = me; serial = serial })) || not (row_count (own_entry l serial) == 0)) l.rows;
@@ -240,6 +258,7 @@ sweep-told marked me l =
       foreign = retain-where thing_total thing_exact l.foreign marked i;
     })
 
+-- the counts on others' things that go back
 abbrev pub back_told : (Thing → Bool) → Ledger → List Amount
 back_told marked l = map (λ e. (e.0, e.1.0)) (filter (λ e. not (marked e.0)) (in_key_order thing_cmp l.foreign))
 

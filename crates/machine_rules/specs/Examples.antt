@@ -4,9 +4,7 @@ use Rattle.orca_names.specs.declared.names.Thing.{Thing}
 use Rattle.orca_names.specs.declared.names.Thing.TheVariants.{Actor}
 use Rattle.orca_names.specs.declared.names.Value.TheVariants.{Num}
 use Rattle.behaviour_code.specs.declared.code.Behaviour.{Behaviour}
-use Rattle.behaviour_code.specs.declared.code.Kind.{Kind}
 use Rattle.behaviour_code.specs.declared.code.Program.{Program}
-use Rattle.behaviour_code.specs.declared.instr.Instr.{Instr}
 use Rattle.behaviour_code.specs.declared.instr.Instr.TheVariants as I
 use Rattle.event_rule.specs.declared.event.Event.{Event}
 use Rattle.event_rule.specs.declared.event.Event.TheVariants.{Take, Go, Collect, Block, Hear, Scan, Reap}
@@ -41,6 +39,7 @@ poke = record { name = 4; parameters = 0; body = I.Load 0 0 ∷ I.Send 0 5 [] �
 abbrev pub ping : Behaviour
 ping = record { name = 5; parameters = 0; body = I.Int 0 1 ∷ I.Print 0 ∷ [] }
 
+-- the first actor makes two peers that keep each other
 abbrev pub two_hold_each_other : Program
 two_hold_each_other = record {
   kinds = record { name = 0; fields = 0; behaviours = start_of_two ∷ [] } ∷ record { name = 2; fields = 1; behaviours = meet ∷ poke ∷ ping ∷ [] } ∷ [];
@@ -98,6 +97,7 @@ give = record { name = 4; parameters = 2; body = I.Send 1 5 (0 ∷ []) ∷ [] }
 abbrev pub keep : Behaviour
 keep = record { name = 5; parameters = 1; body = I.Get 1 0 0 ∷ I.Print 1 ∷ [] }
 
+-- the first actor makes an object that goes through two others
 abbrev pub passes_an_object_on : Program
 passes_an_object_on = record {
   kinds =
@@ -111,8 +111,9 @@ passes_an_object_on = record {
 -- the object is freed by the last collection
 abbrev pub passing_book : List Event
 passing_book =
-    Take 0 ∷ Go 0 ∷ Go 0 ∷ Go 0 ∷ Go 0 ∷ Take 1 ∷ Go 1 ∷ Take 0 ∷ Go 1 ∷ Go 1 ∷ Take 2 ∷ Go 2 ∷ Go 2 ∷ Collect 0 ∷ Take 1 ∷ Take 2 ∷ Collect 1 ∷
-    Take 0 ∷ Take 2 ∷ Collect 0 ∷ Block 1 ∷ Collect 2 ∷ Take 0 ∷ Collect 0 ∷ Block 2 ∷ Hear ∷ Hear ∷ Scan ∷ Take 1 ∷ Take 2 ∷ Hear ∷ Hear ∷ Reap 1 ∷ []
+    Take 0 ∷ Go 0 ∷ Go 0 ∷ Go 0 ∷ Go 0 ∷ Take 1 ∷ Go 1 ∷ Take 0 ∷ Go 1 ∷ Go 1 ∷ Take 2 ∷ Go 2 ∷ Go 2 ∷
+    Collect 0 ∷ Take 1 ∷ Take 2 ∷ Collect 1 ∷ Take 0 ∷ Take 2 ∷ Collect 0 ∷ Block 1 ∷ Collect 2 ∷ Take 0 ∷ Collect 0 ∷ Block 2 ∷
+    Hear ∷ Hear ∷ Scan ∷ Take 1 ∷ Take 2 ∷ Hear ∷ Hear ∷ Reap 1 ∷ []
 
 -- the book is a run of the program. At the end 9 was printed, three actors and one object were made,
 -- the first actor alone is left, and no event is enabled
