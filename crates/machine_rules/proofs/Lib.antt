@@ -4,6 +4,7 @@ pub mod Changing
 pub mod Cleaning
 pub mod CollectKeeps
 pub mod Every
+pub mod ExampleRuns
 pub mod Finite
 pub mod Following
 pub mod FollowingGo
@@ -13,6 +14,8 @@ pub mod Global
 pub mod Going
 pub mod InHand
 pub mod Lacking
+pub mod LedgerSteps
+pub mod Ledgers
 pub mod Living
 pub mod Loads
 pub mod Local

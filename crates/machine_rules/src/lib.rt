@@ -4,9 +4,11 @@
 //! the machine that collects, as far as they need nothing of its detector.
 #![tactic(auto)]
 
+mod examples;
 mod laws;
 
 use behaviour_code::Name;
+pub use examples::{an_object_is_passed_on_and_goes, two_hold_each_other_and_go};
 pub use laws::{
     clean_cells_stay_swept, no_actor_gets_a_count_on_its_own, take_go_and_collect_keep_the_facts,
     the_start_has_the_facts,

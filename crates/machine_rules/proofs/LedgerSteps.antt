@@ -1,0 +1,512 @@
+-- The machine on ledgers leads where the machine leads.
+use Rattle.std.proofs.Common.{◌≡◌, ℕ, zero, suc, ◌+◌, Bool, true, false, if◌then◌else◌, List, [], ◌∷◌, ◌++◌, length, map, set, get_or, nat_lt, Option, Some, None, refl, ap, sym, ◌∙◌, subst}
+use Rattle.std.proofs.lemmas.List.{length-map, map-append, map-set}
+use Rattle.std.specs.List.{list_any}
+use Rattle.std.specs.Option.{option_map_or}
+use Rattle.orca_names.specs.Names.{is_thing, owner_of}
+use Rattle.orca_names.specs.declared.names.Thing.{Thing}
+use Rattle.orca_names.specs.declared.names.Thing.TheVariants as things
+use Rattle.orca_names.specs.declared.names.Value.{Value}
+use Rattle.behaviour_code.specs.declared.code.Program.{Program}
+use Rattle.event_rule.specs.declared.event.Event.{Event}
+use Rattle.event_rule.specs.declared.event.Event.TheVariants.{Take, Go, Collect, Block, Hear, Scan, Reap}
+use Rattle.reach_walk.specs.Marks.{load_of, marks_of}
+use Rattle.turn_rules.specs.Segment.{Stop, segment_of}
+use Rattle.turn_rules.specs.declared.act.Act.{Act}
+use Rattle.turn_rules.specs.declared.act.Act.TheVariants.{Post, New, Print, End}
+use Rattle.turn_rules.specs.declared.act.Frame.{Frame}
+use Rattle.letter_kinds.specs.Counting.{Amount, Loaded, by_owner, gain, lacking, to_mint}
+use Rattle.letter_kinds.specs.Detector.{Token, all_acked, close_token, closed_set, has, heard, scanned, token_numbered}
+use Rattle.letter_kinds.specs.declared.letter.Letter.{Letter}
+use Rattle.letter_kinds.specs.declared.letter.Letter.TheVariants.{App, Inc, Dec, Confirm}
+use Rattle.letter_kinds.specs.declared.note.Note.{Note}
+use Rattle.letter_kinds.specs.declared.note.Note.TheVariants as notes
+use Rattle.machine_rules.proofs.Ledgers.{Ledger, told, empty_ledger, row_told, row_of-told, objects_told, known_objects-told, actors_told, held_actors-told, change_held, set_held-told, take_load, receive-told, give_load, send-told, raise_told, raise_all-told, lower_told, lower_all-told, mint_told, mint_all-told, lacking_told, lacking-told, make_told, with_made-told, sweep_told, sweep-told, back_told, given_back-told}
+use Rattle.machine_rules.specs.Actors.{Actors, Seat, push_decs, push_letter, seat, seat_at, with_letter_more}
+use Rattle.machine_rules.specs.Block.{block_at, block_in, may_block}
+use Rattle.machine_rules.specs.Cell.{Cell, first_cell, fresh_cell}
+use Rattle.machine_rules.specs.Collect.{collect_at, collect_in, collected, is_marked}
+use Rattle.machine_rules.specs.Detect.{ask_all, hear_in, scan_in, reap_in, held_outside, reap_found, reaped}
+use Rattle.machine_rules.specs.Go.{act_in, go_at, go_in, load_from, post_or_mint, turn_of_cell, turned}
+use Rattle.machine_rules.specs.Next.{next}
+use Rattle.machine_rules.specs.Plain.{stopped_at, with_name}
+use Rattle.machine_rules.specs.Run.{Leads}
+use Rattle.machine_rules.specs.State.{State, Step, IsFull, Goes, first_state, start_letters}
+use Rattle.machine_rules.specs.Take.{cell_after, note_of, notes_after, take_at, take_in}
+
+-- ---- places
+
+-- an actor that is present; its holdings stand in the ledger, and those of the cell count for nothing
+pub record Place : Type 0 where
+  pub cell : Cell
+  pub ledger : Ledger
+  pub mail : List Letter
+
+-- all actors ever made, by number; none where the actor is gone
+abbrev pub Places : Type 0
+Places = List (Option Place)
+
+-- the cell with the holdings of the ledger
+abbrev cell_told : Place → Cell
+cell_told o = record o.cell { holdings = told o.ledger }
+
+-- the seat of a place
+abbrev seat_told : Option Place → Option Seat
+seat_told None = None
+seat_told (Some o) = seat (cell_told o) o.mail
+
+-- the actors in their places
+abbrev pub seats_told : Places → Actors
+seats_told places = map seat_told places
+
+-- a present actor
+abbrev place : Cell → Ledger → List Letter → Option Place
+place cell ledger mail = Some (record { cell = cell; ledger = ledger; mail = mail })
+
+-- the place of a number
+abbrev place_at : Places → ℕ → Option Place
+place_at places a = get_or places a None
+
+seat_at-told : (places : Places) (a : ℕ) → seat_at (seats_told places) a ≡ seat_told (place_at places a)
+seat_at-told [] a = refl
+seat_at-told (o ∷ places) zero = refl
+seat_at-told (o ∷ places) (suc a) = seat_at-told places a
+
+set-told : (places : Places) (a : ℕ) (o : Option Seat) (p : Option Place) → o ≡ seat_told p → set (seats_told places) a o ≡ seats_told (set places a p)
+set-told places a o p e = ap (set (seats_told places) a) e ∙ sym (map-set seat_told places a p)
+
+-- ---- posting
+
+-- one letter more
+abbrev mail_more : Letter → Option Place → Option Place
+mail_more letter None = None
+mail_more letter (Some o) = Some (record o { mail = o.mail ++ letter ∷ [] })
+
+mail-told : (letter : Letter) (o : Option Place) → with_letter_more letter (seat_told o) ≡ seat_told (mail_more letter o)
+mail-told letter None = refl
+mail-told letter (Some o) = refl
+
+-- a letter for an actor
+abbrev push_told : ℕ → Letter → Places → Places
+push_told to letter places = set places to (mail_more letter (place_at places to))
+
+push_letter-told : (to : ℕ) (letter : Letter) (places : Places) → push_letter to letter (seats_told places) ≡ seats_told (push_told to letter places)
+unfolding push_letter
+push_letter-told to letter places =
+    set-told places to _ (mail_more letter (place_at places to)) (ap (with_letter_more letter) (seat_at-told places to) ∙ mail-told letter (place_at places to))
+
+-- to each of these owners one Dec
+abbrev decs_told : List (ℕ × List Amount) → Places → Places
+decs_told [] places = places
+decs_told (group ∷ groups) places = decs_told groups (push_told group.0 (Dec group.1) places)
+
+push_decs-told : (groups : List (ℕ × List Amount)) (places : Places) → push_decs groups (seats_told places) ≡ seats_told (decs_told groups places)
+unfolding push_decs
+push_decs-told [] places = refl
+push_decs-told (group ∷ groups) places = ap (push_decs groups) (push_letter-told group.0 (Dec group.1) places) ∙ push_decs-told groups _
+
+-- a Confirm of the token to each of these
+abbrev asked_told : List ℕ → ℕ → Places → Places
+asked_told [] token places = places
+asked_told (a ∷ members) token places = asked_told members token (push_told a (Confirm token) places)
+
+ask_all-told : (members : List ℕ) (token : ℕ) (places : Places) → ask_all members token (seats_told places) ≡ seats_told (asked_told members token places)
+ask_all-told [] token places = refl
+ask_all-told (a ∷ members) token places = ap (ask_all members token) (push_letter-told a (Confirm token) places) ∙ ask_all-told members token _
+
+-- ---- states
+
+-- a state whose actors stand in the places; those of the state count for nothing
+pub record Page : Type 0 where
+  pub state : State
+  pub places : Places
+
+-- the state with the actors of the places
+abbrev pub state_told : Page → State
+state_told b = record b.state { actors = seats_told b.places }
+
+-- before the first event
+abbrev pub first_page : Program → Page
+first_page program = record {
+  state = record (first_state program) { actors = [] };
+  places = place (first_cell program) (empty_ledger 0) (start_letters program) ∷ [];
+}
+
+-- the step goes to the state of the page, if there is one
+abbrev Follows : Option Page → Step → Type 0
+Follows None step = Unit {0}
+Follows (Some b) step = step ≡ Goes (state_told b)
+
+-- ---- take
+
+-- after the letter was taken
+abbrev ledger_after : ℕ → Letter → Ledger → Ledger
+ledger_after me (App behaviour args load) l = take_load me load l
+ledger_after me (Inc things) l = raise_told me things l
+ledger_after me (Dec things) l = lower_told me things l
+ledger_after me (Confirm token) l = l
+
+-- after a take
+abbrev taken_in : Page → ℕ → Place → Option Frame → List Letter → Option Page
+taken_in b a o (Some frame) mail = None
+taken_in b a o None [] = None
+taken_in b a o None (letter ∷ mail) = Some (record {
+  state = record b.state { notes = notes_after o.cell.reported (note_of a letter) b.state.notes };
+  places = set b.places a (place (cell_after b.state.program a letter o.cell) (ledger_after a letter o.ledger) mail);
+})
+
+after_letter-told : (program : Program) (a : ℕ) (letter : Letter) (o : Place) (mail : List Letter)
+    → seat (cell_after program a letter (cell_told o)) mail ≡ seat_told (place (cell_after program a letter o.cell) (ledger_after a letter o.ledger) mail)
+after_letter-told program a (App behaviour args load) o mail =
+    ap (λ h. seat (record (cell_after program a (App behaviour args load) o.cell) { holdings = h }) mail) (receive-told a load o.ledger)
+after_letter-told program a (Inc things) o mail = ap (λ h. seat (record (cell_after program a (Inc things) o.cell) { holdings = h }) mail) (raise_all-told a things o.ledger)
+after_letter-told program a (Dec things) o mail = ap (λ h. seat (record (cell_after program a (Dec things) o.cell) { holdings = h }) mail) (lower_all-told a things o.ledger)
+after_letter-told program a (Confirm token) o mail = refl
+
+take-follows : (b : Page) (a : ℕ) (o : Place) (frame : Option Frame) (mail : List Letter) → Follows (taken_in b a o frame mail) (take_in (state_told b) a (cell_told o) frame mail)
+take-follows b a o (Some frame) mail = tt
+take-follows b a o None [] = tt
+take-follows b a o None (letter ∷ mail) =
+    ap (λ actors. Goes (record b.state { actors = actors; notes = notes_after o.cell.reported (note_of a letter) b.state.notes }))
+    (set-told b.places a _ (place (cell_after b.state.program a letter o.cell) (ledger_after a letter o.ledger) mail) (after_letter-told b.state.program a letter o mail))
+
+-- ---- go
+
+-- what the frame does up to its next act
+abbrev turn_told : Program → ℕ → Place → Frame → Stop
+turn_told program a o frame = segment_of (record { program = program; me = a; base = o.ledger.next; rows = row_told a o.ledger }) frame o.cell.fields
+
+turn-told : (program : Program) (a : ℕ) (o : Place) (frame : Frame) → turn_of_cell program a (cell_told o) frame ≡ turn_told program a o frame
+turn-told program a o frame i =
+    segment_of (record { program = program; me = a; base = o.ledger.next; rows = λ n. row_of-told a o.ledger n i }) frame o.cell.fields
+
+-- the actor after a turn
+abbrev place_turned : Stop → Option Frame → Bool → Place → Place
+place_turned stop frame dirty o = record { cell = turned stop frame dirty o.cell; ledger = make_told stop.turn.made o.ledger; mail = o.mail }
+
+turned-told : (stop : Stop) (frame : Option Frame) (dirty : Bool) (o : Place) → turned stop frame dirty (cell_told o) ≡ cell_told (place_turned stop frame dirty o)
+turned-told stop frame dirty o = ap (λ h. record (turned stop frame dirty o.cell) { holdings = h }) (with_made-told stop.turn.made o.ledger)
+
+-- all that the arguments reach
+abbrev load_told : ℕ → Ledger → List Value → List Loaded
+load_told me l args = load_of (row_told me l) (objects_told me l) args
+
+load_from-told : (me : ℕ) (l : Ledger) (args : List Value) → load_from me (told l) args ≡ load_told me l args
+load_from-told me l args i = load_of (λ n. row_of-told me l n i) (known_objects-told me l i) args
+
+-- the page after a turn that the actor keeps
+abbrev with_turn_told : Page → Stop → Places → Page
+with_turn_told b stop places = record { state = record b.state { objects = b.state.objects + length stop.turn.made }; places = places }
+
+-- the letter goes, or there is more of what lacks
+abbrev post_or_mint_told : Page → ℕ → Place → Place → Stop → ℕ → ℕ → List Value → List Loaded → List Loaded → Page
+post_or_mint_told b a before after stop to behaviour args load [] =
+    with_turn_told b stop (push_told to (App behaviour args load) (set b.places a (place after.cell (give_load a load after.ledger) after.mail)))
+post_or_mint_told b a before after stop to behaviour args load (e ∷ lacked) =
+    let things = to_mint (owner_of e.0) (e ∷ lacked) in
+    record b { places = push_told (owner_of e.0) (Inc things) (set b.places a (place before.cell (mint_told things before.ledger) before.mail)) }
+
+post-told : (b : Page) (a : ℕ) (before after : Place) (stop : Stop) (to behaviour : ℕ) (args : List Value) (load lacked : List Loaded) → after.mail ≡ before.mail
+    → post_or_mint (state_told b) a (cell_told before) (cell_told after) before.mail stop to behaviour args load lacked
+    ≡ state_told (post_or_mint_told b a before after stop to behaviour args load lacked)
+post-told b a before after stop to behaviour args load [] same =
+    ap (λ actors. record b.state { actors = actors; objects = b.state.objects + length stop.turn.made })
+    (ap (push_letter to (App behaviour args load))
+      (set-told b.places a _ (place after.cell (give_load a load after.ledger) after.mail)
+        (λ i. seat (record after.cell { holdings = send-told a load after.ledger i }) (sym same i)))
+    ∙ push_letter-told to (App behaviour args load) _)
+post-told b a before after stop to behaviour args load (e ∷ lacked) same =
+    let things : List Amount = to_mint (owner_of e.0) (e ∷ lacked) in
+    ap (λ actors. record b.state { actors = actors })
+    (ap (push_letter (owner_of e.0) (Inc things))
+      (set-told b.places a _ (place before.cell (mint_told things before.ledger) before.mail)
+        (ap (λ h. seat (record before.cell { holdings = h }) before.mail) (mint_all-told things before.ledger)))
+    ∙ push_letter-told (owner_of e.0) (Inc things) _)
+
+-- after the act of a turn
+abbrev acted : Page → ℕ → Place → Frame → Stop → Act → Option Page
+acted b a o frame stop End = Some (with_turn_told b stop (set b.places a (Some (place_turned stop None true o))))
+acted b a o frame stop (Print value) =
+    Some (record { state = record b.state { objects = b.state.objects + length stop.turn.made; prints = b.state.prints ++ value ∷ [] };
+    places = set b.places a (Some (place_turned stop (Some frame) o.cell.dirty o)) })
+acted b a o frame stop (New kind register) =
+    let after = place_turned stop (Some (with_name frame register (length b.places))) o.cell.dirty o in
+    if nat_lt (length b.places) 65536
+    then Some (with_turn_told b stop
+      (set b.places a (place after.cell (change_held (λ n. n + 256) (things.Actor (length b.places)) None after.ledger) o.mail)
+      ++ place (fresh_cell b.state.program kind) (empty_ledger 256) [] ∷ []))
+    else None
+acted b a o frame stop (Post to behaviour args) =
+    let after = place_turned stop (Some frame) o.cell.dirty o in
+    let load = load_told a after.ledger args in
+    Some (post_or_mint_told b a o after stop to behaviour args load (lacking_told a after.ledger load))
+
+act-follows : (b : Page) (a : ℕ) (o : Place) (frame : Frame) (stop : Stop) (act : Act)
+    → Follows (acted b a o frame stop act) (act_in (state_told b) a (cell_told o) o.mail frame stop act)
+act-follows b a o frame stop End =
+    ap (λ actors. Goes (record b.state { actors = actors; objects = b.state.objects + length stop.turn.made }))
+    (set-told b.places a _ (Some (place_turned stop None true o)) (ap (λ c. seat c o.mail) (turned-told stop None true o)))
+act-follows b a o frame stop (Print value) =
+    ap (λ actors. Goes (record b.state { actors = actors; objects = b.state.objects + length stop.turn.made; prints = b.state.prints ++ value ∷ [] }))
+    (set-told b.places a _ (Some (place_turned stop (Some frame) o.cell.dirty o)) (ap (λ c. seat c o.mail) (turned-told stop (Some frame) o.cell.dirty o)))
+act-follows b a o frame stop (New kind register) =
+    subst (λ n. Follows (acted b a o frame stop (New kind register)) (made n)) (sym (length-map b.places seat_told)) (cases (nat_lt (length b.places) 65536))
+  where
+    -- as many actors as this were made before
+    made : ℕ → Step
+    made n =
+        if nat_lt n 65536
+        then Goes (record b.state {
+          actors = set (seats_told b.places) a
+            (seat (record (turned stop (Some (with_name frame register n)) o.cell.dirty (cell_told o)) {
+              holdings = gain 256 (things.Actor n) None (turned stop (Some (with_name frame register n)) o.cell.dirty (cell_told o)).holdings;
+            }) o.mail)
+            ++ seat (fresh_cell b.state.program kind) [] ∷ [];
+          objects = b.state.objects + length stop.turn.made;
+        })
+        else IsFull
+
+    after : Place
+    after = place_turned stop (Some (with_name frame register (length b.places))) o.cell.dirty o
+
+    maker : Option Place
+    maker = place after.cell (change_held (λ n. n + 256) (things.Actor (length b.places)) None after.ledger) o.mail
+
+    fresh : Option Place
+    fresh = place (fresh_cell b.state.program kind) (empty_ledger 256) []
+
+    before : Cell
+    before = turned stop (Some (with_name frame register (length b.places))) o.cell.dirty (cell_told o)
+
+    goes : Goes (record b.state {
+      actors = set (seats_told b.places) a (seat (record before { holdings = gain 256 (things.Actor (length b.places)) None before.holdings }) o.mail)
+        ++ seat (fresh_cell b.state.program kind) [] ∷ [];
+      objects = b.state.objects + length stop.turn.made;
+    }) ≡ Goes (state_told (with_turn_told b stop (set b.places a maker ++ fresh ∷ [])))
+    goes =
+        ap (λ actors. Goes (record b.state { actors = actors; objects = b.state.objects + length stop.turn.made }))
+        (ap (λ actors. actors ++ seat (fresh_cell b.state.program kind) [] ∷ [])
+          (set-told b.places a _ maker
+            (ap (λ h. seat (record after.cell { holdings = gain 256 (things.Actor (length b.places)) None h }) o.mail) (with_made-told stop.turn.made o.ledger)
+            ∙ ap (λ h. seat (record after.cell { holdings = h }) o.mail) (set_held-told (λ n. n + 256) (things.Actor (length b.places)) None after.ledger)))
+        ∙ sym (map-append seat_told (set b.places a maker) (fresh ∷ [])))
+
+    cases : (room : Bool) → Follows (if room then Some (with_turn_told b stop (set b.places a maker ++ fresh ∷ [])) else None)
+        (if room then Goes (record b.state {
+          actors = set (seats_told b.places) a (seat (record before { holdings = gain 256 (things.Actor (length b.places)) None before.holdings }) o.mail)
+            ++ seat (fresh_cell b.state.program kind) [] ∷ [];
+          objects = b.state.objects + length stop.turn.made;
+        }) else IsFull)
+    cases true = goes
+    cases false = tt
+act-follows b a o frame stop (Post to behaviour args) =
+    ap Goes (posted ∙ post-told b a o after stop to behaviour args (load_told a after.ledger args) (lacking_told a after.ledger (load_told a after.ledger args)) refl)
+  where
+    after : Place
+    after = place_turned stop (Some frame) o.cell.dirty o
+
+    with_load : Cell → List Loaded → State
+    with_load c load = post_or_mint (state_told b) a (cell_told o) c o.mail stop to behaviour args load (lacking a c.holdings load)
+
+    posted : with_load (turned stop (Some frame) o.cell.dirty (cell_told o)) (load_from a (turned stop (Some frame) o.cell.dirty (cell_told o)).holdings args)
+        ≡ post_or_mint (state_told b) a (cell_told o) (cell_told after) o.mail stop to behaviour args (load_told a after.ledger args)
+            (lacking_told a after.ledger (load_told a after.ledger args))
+    posted =
+        ap (λ c. with_load c (load_from a c.holdings args)) (turned-told stop (Some frame) o.cell.dirty o)
+        ∙ ap (with_load (cell_told after)) (load_from-told a after.ledger args)
+        ∙ ap (post_or_mint (state_told b) a (cell_told o) (cell_told after) o.mail stop to behaviour args (load_told a after.ledger args))
+          (lacking-told a after.ledger (load_told a after.ledger args))
+
+-- after a go
+abbrev gone_in : Page → ℕ → Place → Option Frame → Option Page
+gone_in b a o None = None
+gone_in b a o (Some frame) = let stop = turn_told b.state.program a o frame in acted b a o (stopped_at frame stop) stop stop.act
+
+go-follows : (b : Page) (a : ℕ) (o : Place) (frame : Option Frame) → Follows (gone_in b a o frame) (go_in (state_told b) a (cell_told o) frame o.mail)
+go-follows b a o None = tt
+go-follows b a o (Some frame) =
+    let stop = turn_told b.state.program a o frame in
+    subst (λ (s : Stop). Follows (acted b a o (stopped_at frame stop) stop stop.act) (act_in (state_told b) a (cell_told o) o.mail (stopped_at frame s) s s.act))
+    (sym (turn-told b.state.program a o frame)) (act-follows b a o (stopped_at frame stop) stop stop.act)
+
+-- ---- collect
+
+-- what the fields reach
+abbrev marked_told : ℕ → Place → Thing → Bool
+marked_told a o x = list_any (is_thing x) (marks_of (row_told a o.ledger) (objects_told a o.ledger) o.cell.fields.values)
+
+is_marked-told : (a : ℕ) (o : Place) → is_marked a (cell_told o) ≡ marked_told a o
+unfolding is_marked
+is_marked-told a o i = λ x. list_any (is_thing x) (marks_of (λ n. row_of-told a o.ledger n i) (known_objects-told a o.ledger i) o.cell.fields.values)
+
+-- the actor without what is not marked
+abbrev place_swept : ℕ → Place → Place
+place_swept a o = record { cell = record o.cell { dirty = false }; ledger = sweep_told (marked_told a o) a o.ledger; mail = o.mail }
+
+-- and to each owner a Dec with what was held
+abbrev places_collected : ℕ → Place → Places → Places
+places_collected a o places = decs_told (by_owner (back_told (marked_told a o) o.ledger)) (set places a (Some (place_swept a o)))
+
+collected-told : (a : ℕ) (o : Place) (places : Places)
+    → collected (is_marked a (cell_told o)) a (cell_told o) o.mail (seats_told places) ≡ seats_told (places_collected a o places)
+collected-told a o places =
+    ap (λ marked. collected marked a (cell_told o) o.mail (seats_told places)) (is_marked-told a o)
+    ∙ (λ i. push_decs (by_owner (given_back-told (marked_told a o) o.ledger i))
+      (set-told places a _ (Some (place_swept a o)) (ap (λ h. seat (record o.cell { holdings = h; dirty = false }) o.mail) (sweep-told (marked_told a o) a o.ledger)) i))
+    ∙ push_decs-told (by_owner (back_told (marked_told a o) o.ledger)) (set places a (Some (place_swept a o)))
+
+-- after a collection
+abbrev collected_in : Page → ℕ → Place → Option Frame → Bool → Option Page
+collected_in b a o (Some frame) dirty = None
+collected_in b a o None false = None
+collected_in b a o None true = Some (record b { places = places_collected a o b.places })
+
+collect-follows : (b : Page) (a : ℕ) (o : Place) (frame : Option Frame) (dirty : Bool)
+    → Follows (collected_in b a o frame dirty) (collect_in (state_told b) a (cell_told o) frame dirty o.mail)
+collect-follows b a o (Some frame) dirty = tt
+collect-follows b a o None false = tt
+collect-follows b a o None true = ap (λ actors. Goes (record b.state { actors = actors })) (collected-told a o b.places)
+
+-- ---- block
+
+-- after a report
+abbrev blocked_in : Page → ℕ → Place → Bool → Option Page
+blocked_in b a o false = None
+blocked_in b a o true = Some (record {
+  state = record b.state { notes = b.state.notes ++ notes.Block a o.ledger.count (actors_told o.ledger) ∷ [] };
+  places = set b.places a (place (record o.cell { reported = true }) o.ledger o.mail);
+})
+
+block-follows : (b : Page) (a : ℕ) (o : Place) (may : Bool) → Follows (blocked_in b a o may) (block_in (state_told b) a (cell_told o) o.mail may)
+block-follows b a o false = tt
+block-follows b a o true = λ i. Goes (record b.state {
+  actors = set-told b.places a _ (place (record o.cell { reported = true }) o.ledger o.mail) refl i;
+  notes = b.state.notes ++ notes.Block a o.ledger.count (held_actors-told o.ledger i) ∷ [];
+})
+
+-- ---- an event of an actor
+
+-- what the actor at the place does, if it is present
+abbrev of_place : (Place → Option Page) → Option Place → Option Page
+of_place does None = None
+of_place does (Some o) = does o
+
+-- an event of an actor follows where it follows of each place
+place-follows : (b : Page) (a : ℕ) (does : Place → Option Page) (step : Option Seat → Step)
+    → ((o : Place) → Follows (does o) (step (seat_told (Some o)))) → Follows (of_place does (place_at b.places a)) (step (seat_at (seats_told b.places) a))
+place-follows b a does step follows = subst (λ o. Follows (of_place does (place_at b.places a)) (step o)) (sym (seat_at-told b.places a)) (cases (place_at b.places a))
+  where
+    cases : (o : Option Place) → Follows (of_place does o) (step (seat_told o))
+    cases None = tt
+    cases (Some o) = follows o
+
+-- ---- the detector
+
+-- after the detector took a note
+abbrev heard_in : Page → List Note → Option Page
+heard_in b [] = None
+heard_in b (note ∷ notes) = Some (record b { state = record b.state { detector = heard note b.state.detector; notes = notes } })
+
+hear-follows : (b : Page) (notes : List Note) → Follows (heard_in b notes) (hear_in (state_told b) notes)
+hear-follows b [] = tt
+hear-follows b (note ∷ notes) = refl
+
+-- after a scan
+abbrev scanned_in : Page → List ℕ → Bool → Option Page
+scanned_in b closed false = None
+scanned_in b closed true = Some (record {
+  state = record b.state { detector = scanned b.state.detector closed };
+  places = asked_told closed (suc b.state.detector.opened) b.places;
+})
+
+scan-follows : (b : Page) (closed : List ℕ) (news : Bool) → Follows (scanned_in b closed news) (scan_in (state_told b) closed news)
+scan-follows b closed false = tt
+scan-follows b closed true =
+    ap (λ actors. Goes (record b.state { actors = actors; detector = scanned b.state.detector closed })) (ask_all-told closed (suc b.state.detector.opened) b.places)
+
+-- what a member held on things whose owners are not in the set
+abbrev outside_told : List ℕ → Option Place → List Amount
+outside_told members None = []
+outside_told members (Some o) = back_told (λ x. has members (owner_of x)) o.ledger
+
+held_outside-told : (members : List ℕ) (o : Option Place) → held_outside members (seat_told o) ≡ outside_told members o
+held_outside-told members None = refl
+held_outside-told members (Some o) = given_back-told (λ x. has members (owner_of x)) o.ledger
+
+-- without these members, and with the Decs that go out
+abbrev reaped_told : List ℕ → List ℕ → List (ℕ × List Amount) → Places → Places
+reaped_told members [] decs places = decs_told decs places
+reaped_told members (a ∷ rest) decs places = reaped_told members rest (decs ++ by_owner (outside_told members (place_at places a))) (set places a None)
+
+reaped-told : (members rest : List ℕ) (decs : List (ℕ × List Amount)) (places : Places)
+    → reaped members rest decs (seats_told places) ≡ seats_told (reaped_told members rest decs places)
+unfolding reaped
+reaped-told members [] decs places = push_decs-told decs places
+reaped-told members (a ∷ rest) decs places =
+    (λ i. reaped members rest (decs ++ by_owner ((ap (held_outside members) (seat_at-told places a) ∙ held_outside-told members (place_at places a)) i))
+      (set-told places a None None refl i))
+    ∙ reaped-told members rest _ _
+
+-- after a reap of the token, if all acknowledged it
+abbrev reaped_in : Page → Token → Bool → Option Page
+reaped_in b token false = None
+reaped_in b token true = Some (record {
+  state = record b.state { detector = close_token token b.state.detector };
+  places = reaped_told token.members token.members [] b.places;
+})
+
+-- the token that is found is reaped
+abbrev reaped_found : Page → Option Token → Option Page
+reaped_found b None = None
+reaped_found b (Some token) = reaped_in b token (all_acked token)
+
+reap-follows : (b : Page) (token : Token) (all : Bool) → Follows (reaped_in b token all) (reap_in (state_told b) token all)
+reap-follows b token false = tt
+reap-follows b token true =
+    ap (λ actors. Goes (record b.state { actors = actors; detector = close_token token b.state.detector })) (reaped-told token.members token.members [] b.places)
+
+found-follows : (b : Page) (found : Option Token) → Follows (reaped_found b found) (reap_found (state_told b) found)
+found-follows b None = tt
+found-follows b (Some token) = reap-follows b token (all_acked token)
+
+-- ---- an event
+
+-- after an event, if it is enabled
+abbrev next_page : Page → Event → Option Page
+next_page b (Take a) = of_place (λ o. taken_in b a o o.cell.frame o.mail) (place_at b.places a)
+next_page b (Go a) = of_place (λ o. gone_in b a o o.cell.frame) (place_at b.places a)
+next_page b (Collect a) = of_place (λ o. collected_in b a o o.cell.frame o.cell.dirty) (place_at b.places a)
+next_page b (Block a) = of_place (λ o. blocked_in b a o (may_block o.cell o.mail)) (place_at b.places a)
+next_page b Hear = heard_in b b.state.notes
+next_page b Scan = scanned_in b (closed_set b.state.detector) b.state.detector.news
+next_page b (Reap token) = reaped_found b (token_numbered token b.state.detector)
+
+next-follows : (b : Page) (e : Event) → Follows (next_page b e) (next (state_told b) e)
+next-follows b (Take a) = place-follows b a _ (take_at (state_told b) a) (λ o. take-follows b a o o.cell.frame o.mail)
+next-follows b (Go a) = place-follows b a _ (go_at (state_told b) a) (λ o. go-follows b a o o.cell.frame)
+next-follows b (Collect a) = place-follows b a _ (collect_at (state_told b) a) (λ o. collect-follows b a o o.cell.frame o.cell.dirty)
+next-follows b (Block a) = place-follows b a _ (block_at (state_told b) a) (λ o. block-follows b a o (may_block o.cell o.mail))
+next-follows b Hear = hear-follows b b.state.notes
+next-follows b Scan = scan-follows b (closed_set b.state.detector) b.state.detector.news
+next-follows b (Reap token) = found-follows b (token_numbered token b.state.detector)
+
+-- ---- the events of a run
+
+-- after these events, if each is enabled in its turn
+abbrev pub after_all : List Event → Option Page → Option Page
+after_all [] b = b
+after_all (e ∷ events) None = None
+after_all (e ∷ events) (Some b) = after_all events (next_page b e)
+
+none_after : (events : List Event) (c : Page) → after_all events None ≡ Some c → ⊥
+none_after [] c h = cc
+none_after (e ∷ events) c h = cc
+
+pub after_all-leads : (events : List Event) (b c : Page) → after_all events (Some b) ≡ Some c → Leads (state_told b) events (state_told c)
+after_all-leads [] b c h = ap (λ o. option_map_or state_told o (state_told b)) h
+after_all-leads (e ∷ events) b c h = cases (next_page b e) (next-follows b e) h (λ d. after_all-leads events d c)
+  where
+    cases : (o : Option Page) → Follows o (next (state_told b) e) → after_all events o ≡ Some c
+        → ((d : Page) → after_all events (Some d) ≡ Some c → Leads (state_told d) events (state_told c)) → Leads (state_told b) (e ∷ events) (state_told c)
+    cases None follows h later = absurd (none_after events c h)
+    cases (Some d) goes h later = (state_told d, goes, later d h)
