@@ -1,109 +1,80 @@
 // Standard input and output, the trusted edge: what a terminal, file or pipe gives or gets is told
-// by no contract. So a read and a write are told for every reader and writer, and are used at these.
+// by no contract. So a source and a sink are told over every reader and writer, and are used at these.
 
-ghost use Rattle.std.specs.Prelude.{◌≡◌, None};
-ghost use Rattle.std.specs.Io.{ReadsAtMost};
-ghost use Rattle.std.specs.Io.KnownBytes.{ReadConsumes};
-ghost use Rattle.outside_world.specs.Device.{CountsFaults, TakesSome, WritesFront};
+ghost use Rattle.std.specs.Prelude.{◌≡◌};
 
 use crate::device::{Failed, Sink, Source};
 use std::io::{Read, Stdin, Stdout, Write};
-use std::marker::Model;
 
-/// One read. A failure is counted.
-fn read_counted<R: Read>(input: &mut R, faults: &mut u64, buf: &mut [u8]) -> Result<usize, Failed>
-    ensures within { ReadsAtMost result buf.new }
-    ensures bytes { ReadConsumes (R.remaining input.old) (R.remaining input.new) result buf.new }
-    ensures cause { CountsFaults faults.old faults.new result }
-{
-    match input.read(buf) {
-        Ok(count) => Ok(count),
-        Err(_) => {
-            *faults = faults.saturating_add(1);
-            Err(Failed)
-        }
-    }
-}
-
-/// One write. A failure is counted, and so is a write that takes nothing.
-fn write_counted<W: Write>(output: &mut W, faults: &mut u64, piece: &[u8]) -> Result<usize, Failed>
-    ensures some { TakesSome result piece.now }
-    ensures bytes { WritesFront (W.contents output.old) (W.contents output.new) result piece.now }
-    ensures cause { CountsFaults faults.old faults.new result }
-{
-    match output.write(piece) {
-        Ok(count) if count > 0 => Ok(count),
-        _ => {
-            *faults = faults.saturating_add(1);
-            Err(Failed)
-        }
-    }
-}
-
-/// Standard input. It tells no bytes; contracts see its count of faults.
+/// A source over a reader, which counts its failures.
 #[derive(Drop)]
-pub struct StdSource {
-    input: Stdin,
+pub struct ReadSource<R> {
+    input: R,
     faults: u64,
 }
 
-impl Model for StdSource {
-    ghost use Rattle.std.specs.Prelude.{ℕ};
-
-    ghost Value = { ℕ };
-
-    ghost view = { λ s. s.faults };
-}
-
-impl StdSource {
-    /// A source over standard input that has not failed yet.
-    pub fn new(input: Stdin) -> StdSource
-        ensures { result ≡ 0 }
+impl<R> ReadSource<R> {
+    /// A source over this reader that has not failed yet.
+    pub fn new(input: R) -> ReadSource<R>
+        ensures input { result.input ≡ input }
+        ensures faults { result.faults ≡ 0 }
     {
-        StdSource { input, faults: 0 }
+        ReadSource { input, faults: 0 }
     }
 }
 
-impl Source for StdSource {
-    ghost left = { λ _. None };
+impl<R: Read> Source for ReadSource<R> {
+    ghost left = { λ s. R.remaining s.input };
 
-    ghost faults = { λ s. s };
+    ghost faults = { λ s. s.faults };
 
     fn read(&mut self, buf: &mut [u8]) -> Result<usize, Failed> {
-        read_counted(&mut self.input, &mut self.faults, buf)
+        match self.input.read(buf) {
+            Ok(count) => Ok(count),
+            Err(_) => {
+                self.faults = self.faults.saturating_add(1);
+                Err(Failed)
+            }
+        }
     }
 }
 
-/// Standard output. It tells no bytes; contracts see its count of faults.
+/// Standard input. It tells no bytes.
+pub type StdSource = ReadSource<Stdin>;
+
+/// A sink over a writer, which counts its failures.
 #[derive(Drop)]
-pub struct StdSink {
-    output: Stdout,
+pub struct WriteSink<W> {
+    output: W,
     faults: u64,
 }
 
-impl Model for StdSink {
-    ghost use Rattle.std.specs.Prelude.{ℕ};
-
-    ghost Value = { ℕ };
-
-    ghost view = { λ s. s.faults };
-}
-
-impl StdSink {
-    /// A sink over standard output that has not failed yet.
-    pub fn new(output: Stdout) -> StdSink
-        ensures { result ≡ 0 }
+impl<W> WriteSink<W> {
+    /// A sink over this writer that has not failed yet.
+    pub fn new(output: W) -> WriteSink<W>
+        ensures output { result.output ≡ output }
+        ensures faults { result.faults ≡ 0 }
     {
-        StdSink { output, faults: 0 }
+        WriteSink { output, faults: 0 }
     }
 }
 
-impl Sink for StdSink {
-    ghost written = { λ _. None };
+impl<W: Write> Sink for WriteSink<W> {
+    ghost written = { λ s. W.contents s.output };
 
-    ghost faults = { λ s. s };
+    ghost faults = { λ s. s.faults };
 
+    // A write that takes nothing counts as a fault, too.
     fn write(&mut self, piece: &[u8]) -> Result<usize, Failed> {
-        write_counted(&mut self.output, &mut self.faults, piece)
+        match self.output.write(piece) {
+            Ok(count) if count > 0 => Ok(count),
+            _ => {
+                self.faults = self.faults.saturating_add(1);
+                Err(Failed)
+            }
+        }
     }
 }
+
+/// Standard output. It tells no bytes.
+pub type StdSink = WriteSink<Stdout>;
