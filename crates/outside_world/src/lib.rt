@@ -13,7 +13,7 @@ pub use device::{Failed, Sink, Source};
 pub use gate::{Gate, OpenGate};
 pub use mem_sink::MemSink;
 pub use mem_source::MemSource;
-pub use streams::{StdSink, StdSource};
+pub use streams::{ReadSource, StdSink, StdSource, WriteSink};
 pub use sure::{SureSink, SureSource};
 
 #[cfg(test)]

@@ -1,40 +1,32 @@
 // Standard input and output, the trusted edge: what a terminal, file or pipe gives or gets is told
-// by no contract.
+// by no contract. So a source and a sink are told over every reader and writer, and are used at these.
 
-ghost use Rattle.std.specs.Prelude.{◌≡◌, None};
+ghost use Rattle.std.specs.Prelude.{◌≡◌};
 
 use crate::device::{Failed, Sink, Source};
 use std::io::{Read, Stdin, Stdout, Write};
-use std::marker::Model;
 
-/// Standard input. It tells no bytes; contracts see its count of faults.
+/// A source over a reader, which counts its failures.
 #[derive(Drop)]
-pub struct StdSource {
-    input: Stdin,
+pub struct ReadSource<R> {
+    input: R,
     faults: u64,
 }
 
-impl Model for StdSource {
-    ghost use Rattle.std.specs.Prelude.{ℕ};
-
-    ghost Value = { ℕ };
-
-    ghost view = { λ s. s.faults };
-}
-
-impl StdSource {
-    /// A source over standard input that has not failed yet.
-    pub fn new(input: Stdin) -> StdSource
-        ensures { result ≡ 0 }
+impl<R> ReadSource<R> {
+    /// A source over this reader that has not failed yet.
+    pub fn new(input: R) -> ReadSource<R>
+        ensures input { result.input ≡ input }
+        ensures faults { result.faults ≡ 0 }
     {
-        StdSource { input, faults: 0 }
+        ReadSource { input, faults: 0 }
     }
 }
 
-impl Source for StdSource {
-    ghost left = { λ _. None };
+impl<R: Read> Source for ReadSource<R> {
+    ghost left = { λ s. R.remaining s.input };
 
-    ghost faults = { λ s. s };
+    ghost faults = { λ s. s.faults };
 
     fn read(&mut self, buf: &mut [u8]) -> Result<usize, Failed> {
         match self.input.read(buf) {
@@ -47,34 +39,30 @@ impl Source for StdSource {
     }
 }
 
-/// Standard output. It tells no bytes; contracts see its count of faults.
+/// Standard input. It tells no bytes.
+pub type StdSource = ReadSource<Stdin>;
+
+/// A sink over a writer, which counts its failures.
 #[derive(Drop)]
-pub struct StdSink {
-    output: Stdout,
+pub struct WriteSink<W> {
+    output: W,
     faults: u64,
 }
 
-impl Model for StdSink {
-    ghost use Rattle.std.specs.Prelude.{ℕ};
-
-    ghost Value = { ℕ };
-
-    ghost view = { λ s. s.faults };
-}
-
-impl StdSink {
-    /// A sink over standard output that has not failed yet.
-    pub fn new(output: Stdout) -> StdSink
-        ensures { result ≡ 0 }
+impl<W> WriteSink<W> {
+    /// A sink over this writer that has not failed yet.
+    pub fn new(output: W) -> WriteSink<W>
+        ensures output { result.output ≡ output }
+        ensures faults { result.faults ≡ 0 }
     {
-        StdSink { output, faults: 0 }
+        WriteSink { output, faults: 0 }
     }
 }
 
-impl Sink for StdSink {
-    ghost written = { λ _. None };
+impl<W: Write> Sink for WriteSink<W> {
+    ghost written = { λ s. W.contents s.output };
 
-    ghost faults = { λ s. s };
+    ghost faults = { λ s. s.faults };
 
     // A write that takes nothing counts as a fault, too.
     fn write(&mut self, piece: &[u8]) -> Result<usize, Failed> {
@@ -87,3 +75,6 @@ impl Sink for StdSink {
         }
     }
 }
+
+/// Standard output. It tells no bytes.
+pub type StdSink = WriteSink<Stdout>;
