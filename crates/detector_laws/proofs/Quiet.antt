@@ -47,7 +47,7 @@ none_spoiled w q h t (m, i, p) = ⊎_elim
     (λ l. false≢true (subst (λ ls. other_before_confirm t.number ls ≡ true) (q.empty m (present_if_reported w h m l.0)) l.1))
     p.cause
 
-no_token : (w : World) → IsQuiet w → ReportsAreExact w → TokensAreSound w → (t : Token) → In t w.detector.tokens → ⊥
+pub no_token : (w : World) → IsQuiet w → ReportsAreExact w → TokensAreSound w → (t : Token) → In t w.detector.tokens → ⊥
 no_token w q h k t i = ⊎_elim (λ s. q.unacked t i (each_acked t (sealed_acked w q t s))) (λ s. none_spoiled w q h t s) (k.state t i)
 
 none_in_token : (ts : List Token) → ((t : Token) → In t ts → ⊥) → (m : ℕ) → in_token ts m ≡ false

@@ -11,9 +11,9 @@ use Rattle.letter_kinds.specs.Sums.{inc_of, dec_of}
 use Rattle.letter_kinds.specs.declared.letter.Letter.{Letter}
 use Rattle.letter_kinds.specs.declared.letter.Letter.TheVariants.{App, Inc, Dec, Confirm}
 use Rattle.letter_kinds.specs.declared.note.Note.{Note}
-use Rattle.machine_laws.proofs.OwnThings.{HoldsNoOwn}
+use Rattle.machine_rules.specs.Clean.{HoldsNoOwnAt}
 use Rattle.machine_rules.specs.Facts.{Every}
-use Rattle.machine_laws.proofs.Seen.{kinds, cell_of, letters_of, world_of}
+use Rattle.machine_laws.specs.Seen.{kinds, cell_of, letters_of, world_of}
 use Rattle.machine_rules.proofs.SeatReads.{letter_Confirm}
 use Rattle.machine_rules.specs.Actors.{Seat, Actors, seat_at, seat}
 use Rattle.machine_rules.specs.Balance.{held_at, own_at, incs_at, decs_at, IsBalanced}
@@ -64,11 +64,11 @@ absent_none (Some o) h x = absurd (false≢true (sym h))
 pub present_below : (s : Actors) (b : ℕ) → (cell_of (seat_at s b)).present ≡ true → b < length s
 present_below s b p = ⊎_elim (λ lt. lt) (λ ge. absurd (false≢true (ap (λ o. (cell_of o).present) (sym (get_or_past s b None ge)) ∙ p))) (cases_lt b (length s))
 
-own_of : (b : ℕ) (o : Option Seat) → ((c : Cell) (ls : List Letter) → o ≡ seat c ls → HoldsNoOwn b c ls) → (cell_of o).foreign b ≡ 0
+own_of : (b : ℕ) (o : Option Seat) → ((c : Cell) (ls : List Letter) → o ≡ seat c ls → HoldsNoOwnAt b c ls) → (cell_of o).foreign b ≡ 0
 own_of b None h = refl
 own_of b (Some o) h = h o.cell o.mail refl (Actor b) refl
 
-pub balanced : (s : Actors) (d : Detector) (ns : List Note) → IsBalanced s → Every HoldsNoOwn s → ActorsAreBalanced (world_of s d ns)
+pub balanced : (s : Actors) (d : Detector) (ns : List Note) → IsBalanced s → Every HoldsNoOwnAt s → ActorsAreBalanced (world_of s d ns)
 balanced s d ns bal apart = record {
   full = λ x p only.
       let none = no_incs_at (Actor x) (seat_at s x) only in

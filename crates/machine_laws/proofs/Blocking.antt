@@ -16,7 +16,7 @@ use Rattle.detector_laws.specs.Events.{CanBlock}
 use Rattle.detector_laws.specs.World as view
 use Rattle.machine_laws.proofs.Collecting.{same_loads}
 use Rattle.machine_laws.proofs.HeldActors.{count_on-held_actors}
-use Rattle.machine_laws.proofs.Seen.{cell_of, kinds, letters_of, mail_at, world_of}
+use Rattle.machine_laws.specs.Seen.{cell_of, kinds, letters_of, mail_at, world_of}
 use Rattle.machine_rules.proofs.Agreeing.{agrees_same}
 use Rattle.machine_rules.proofs.Every.{every_set}
 use Rattle.machine_rules.proofs.InHand.{in_hand, none, out_of_hand}

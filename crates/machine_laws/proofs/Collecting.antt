@@ -9,7 +9,8 @@ use Rattle.letter_kinds.specs.Sums.{amount_of}
 use Rattle.letter_kinds.specs.declared.letter.Letter.{Letter}
 use Rattle.letter_kinds.specs.declared.letter.Letter.TheVariants.{Dec}
 use Rattle.letter_kinds.specs.declared.note.Note.{Note}
-use Rattle.machine_laws.proofs.Seen.{world_of, noted, letters_of, kinds}
+use Rattle.machine_laws.specs.Seen.{world_of, letters_of, kinds}
+use Rattle.machine_laws.proofs.Noted.{noted}
 use Rattle.machine_rules.proofs.SeatReads.{letter_Dec, loads_at-seat}
 use Rattle.machine_rules.proofs.Seats.{present_below, load_sum-set}
 use Rattle.machine_rules.proofs.Sweeping.{amount-given_back, firm_counted, held-sweep}

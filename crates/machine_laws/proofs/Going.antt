@@ -17,7 +17,8 @@ use Rattle.letter_kinds.specs.declared.letter.Letter.{Letter}
 use Rattle.letter_kinds.specs.declared.letter.Letter.TheVariants.{App, Inc}
 use Rattle.letter_kinds.specs.declared.note.Note.{Note}
 use Rattle.letter_kinds.specs.declared.note.Note.TheVariants.{Unblock}
-use Rattle.machine_laws.proofs.Seen.{mail_at, world_of, noted, letters_of, kinds, cell_of}
+use Rattle.machine_laws.specs.Seen.{mail_at, world_of, letters_of, kinds, cell_of}
+use Rattle.machine_laws.proofs.Noted.{noted}
 use Rattle.machine_rules.proofs.Makes.{more_last, more_other}
 use Rattle.machine_rules.proofs.SeatReads.{letter_App, letter_Inc, loads_at-seat}
 use Rattle.machine_rules.proofs.Seats.{present_below}

@@ -14,12 +14,12 @@ use Rattle.detector_laws.specs.Facts.{DetectorFacts}
 use Rattle.detector_laws.specs.Tokens.{IsSealed}
 use Rattle.machine_laws.proofs.Balancing.{balanced}
 use Rattle.machine_laws.proofs.Blocking.{block_keeps}
-use Rattle.machine_laws.proofs.OwnThings.{HoldsNoOwn}
-use Rattle.machine_laws.proofs.Parting.{goes_to, not_enabled}
+use Rattle.machine_rules.specs.Clean.{HoldsNoOwnAt}
+use Rattle.machine_rules.proofs.Steps.{goes_to, not_enabled}
 use Rattle.machine_laws.proofs.Reaping.{reap_reaps}
 use Rattle.machine_laws.proofs.Scanning.{scan_keeps}
 use Rattle.machine_laws.proofs.Sealing.{reap_keeps}
-use Rattle.machine_laws.proofs.Seen.{world}
+use Rattle.machine_laws.specs.Seen.{world}
 use Rattle.machine_laws.proofs.Stepping.{next_steps}
 use Rattle.machine_rules.specs.Actors.{Seat, seat, seat_at}
 use Rattle.machine_rules.specs.Agreement.{Person}
@@ -39,7 +39,7 @@ pub record KeepsBeside (all : Thing → Option Row) (people : List Person) (s t 
 
 module _ (s t : State) (all : Thing → Option Row) (people : List Person) (keeps : KeepsCounts all people s.actors) (facts : DetectorFacts (world s)) where
   -- every event keeps what holds of the detector
-  pub next_keeps : Every HoldsNoOwn s.actors → (e : Event) → next s e ≡ Goes t → DetectorFacts (world t)
+  pub next_keeps : Every HoldsNoOwnAt s.actors → (e : Event) → next s e ≡ Goes t → DetectorFacts (world t)
   next_keeps own e is =
       step_keeps (world s) (world t) (balanced s.actors s.detector s.notes keeps.balanced own) (next_steps s t all people keeps facts e is) facts
 

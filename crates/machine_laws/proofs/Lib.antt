@@ -1,3 +1,4 @@
+pub mod AtQuiet
 pub mod Balancing
 pub mod Blocking
 pub mod Collecting
@@ -6,13 +7,12 @@ pub mod Growing
 pub mod HeldActors
 pub mod Keeping
 pub mod Moving
-pub mod OwnThings
-pub mod Parting
+pub mod Noted
 pub mod Quieting
 pub mod Reaping
 pub mod Scanning
 pub mod Sealing
-pub mod Seen
 pub mod Starting
 pub mod Stepping
 pub mod Taking
+pub mod WholeRuns

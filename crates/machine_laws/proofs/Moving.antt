@@ -3,16 +3,16 @@ use Rattle.std.proofs.Common.{◌≡◌, ◌≢◌, ◌⊎◌, ℕ, zero, suc, �
 use Rattle.std.proofs.lemmas.Bool.{cases_eq, cases_lt}
 use Rattle.std.proofs.lemmas.List.{get_or_past}
 use Rattle.detector_laws.specs.World as view
-use Rattle.detector_laws.specs.World.{LetterKind, Other}
+use Rattle.detector_laws.specs.World.{LetterKind, Other, World, NoConfirms}
 use Rattle.detector_laws.specs.Events.{Moves}
-use Rattle.detector_laws.specs.World.{World, NoConfirms}
 use Rattle.letter_kinds.specs.Detector.{Detector}
 use Rattle.letter_kinds.specs.Holdings.{held_in}
 use Rattle.letter_kinds.specs.Sums.{load_count}
 use Rattle.letter_kinds.specs.declared.letter.Letter.{Letter}
 use Rattle.letter_kinds.specs.declared.note.Note.{Note}
 use Rattle.letter_kinds.specs.declared.note.Note.TheVariants.{Unblock}
-use Rattle.machine_laws.proofs.Seen.{kind_of, kinds, cell_of, letters_of, mail_at, world_of, noted}
+use Rattle.machine_laws.specs.Seen.{kind_of, kinds, cell_of, letters_of, mail_at, world_of}
+use Rattle.machine_laws.proofs.Noted.{noted}
 use Rattle.machine_rules.proofs.Posting.{loads_at_push}
 use Rattle.machine_rules.proofs.SeatReads.{loads_at-none}
 use Rattle.machine_rules.proofs.Seats.{present_below}
@@ -34,6 +34,7 @@ no_confirms-append (Other ∷ xs) ys h k = no_confirms-append xs ys h k
 no_confirms-append (view.Confirm t ∷ xs) ys h k = absurd h
 
 -- ---- one letter
+
 pub sum_by-set_past : {A : Type 0} (f : A → ℕ) (xs : List A) (i : ℕ) (y : A) → length xs ≤ i → sum_by f (set xs i y) ≡ sum_by f xs
 sum_by-set_past f [] i y h = refl
 sum_by-set_past f (x ∷ xs) zero y h = absurd (omega arith)
@@ -110,6 +111,7 @@ adds_push s b l k = record {
 }
 
 -- ---- an event: the seat of a is changed, and then letters are sent
+
 abbrev pub Cause : Cell → List Letter → Type 0
 Cause c ls = (is_some c.frame ≡ true) ⊎ ((c.dirty ≡ true) ⊎ ((rest : List LetterKind) × (kinds ls ≡ Other ∷ rest)))
 

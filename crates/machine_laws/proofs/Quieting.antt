@@ -21,8 +21,8 @@ use Rattle.detector_laws.specs.Facts.{DetectorFacts}
 use Rattle.detector_laws.specs.Quiet as view
 use Rattle.detector_laws.specs.World.{In}
 use Rattle.machine_laws.proofs.Balancing.{balanced}
-use Rattle.machine_laws.proofs.OwnThings.{HoldsNoOwn}
-use Rattle.machine_laws.proofs.Seen.{cell_of, kinds, letters_of, world}
+use Rattle.machine_rules.specs.Clean.{HoldsNoOwnAt}
+use Rattle.machine_laws.specs.Seen.{cell_of, kinds, letters_of, world}
 use Rattle.machine_rules.proofs.SeatReads.{loads_at-none, loads_at-seat}
 use Rattle.machine_rules.specs.Actors.{Seat, seat, seat_at}
 use Rattle.machine_rules.specs.Agreement.{Person}
@@ -162,7 +162,7 @@ quiet_world s quiet facts = record {
   blocked = λ a p free. in_world s quiet (λ o. (cell_of o).pinned ≡ false → (cell_of o).reported ≡ true) (λ c mail r. r.told) a (seat_at s.actors a) refl p free;
 }
 
-pub quiet_reached : (s : State) (all : Thing → Option Row) (people : List Person) → KeepsCounts all people s.actors → Every HoldsNoOwn s.actors → DetectorFacts (world s) → IsQuiet s
+pub quiet_reached : (s : State) (all : Thing → Option Row) (people : List Person) → KeepsCounts all people s.actors → Every HoldsNoOwnAt s.actors → DetectorFacts (world s) → IsQuiet s
     → (a : ℕ) → ((world s).cell a).present ≡ true → view.IsReached (world s) a
 quiet_reached s all people keeps own facts quiet =
     quiet_all_reached (world s) (quiet_world s quiet facts) facts.reports facts.tokens facts.news (balanced s.actors s.detector s.notes keeps.balanced own) facts.rising

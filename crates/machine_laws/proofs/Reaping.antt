@@ -4,16 +4,15 @@ use Rattle.std.proofs.lemmas.Bool.{cases_eq, cases_lt, false≢true}
 use Rattle.std.proofs.lemmas.List.{get_or_past}
 use Rattle.machine_laws.proofs.Moving.{push_other, push_here, sum_by-set_past}
 use Rattle.machine_laws.proofs.Collecting.{owner_held, NotTo, not_to, decs_quiet, decs_adds, decs_loads}
-use Rattle.detector_laws.specs.World.{LetterKind}
+use Rattle.detector_laws.specs.World.{LetterKind, In, NoConfirms}
 use Rattle.detector_laws.specs.Events.{Reaps}
-use Rattle.detector_laws.specs.World.{In, NoConfirms}
 use Rattle.letter_kinds.specs.Counting.{given_back, by_owner}
 use Rattle.letter_kinds.specs.Detector.{all_acked, has, Detector, Token, close_token}
 use Rattle.letter_kinds.specs.Holdings.{Row, held_in}
 use Rattle.letter_kinds.specs.declared.letter.Letter.{Letter}
 use Rattle.letter_kinds.specs.declared.letter.Letter.TheVariants.{Dec}
 use Rattle.letter_kinds.specs.declared.note.Note.{Note}
-use Rattle.machine_laws.proofs.Seen.{mail_at, world_of, letters_of, kinds, cell_of}
+use Rattle.machine_laws.specs.Seen.{mail_at, world_of, letters_of, kinds, cell_of}
 use Rattle.machine_rules.proofs.InvReap.{every_none}
 use Rattle.machine_rules.proofs.Reaps.{AllIn}
 use Rattle.machine_rules.proofs.SeatReads.{loads_at-none}
@@ -66,6 +65,7 @@ reap_gone all (m ∷ ms) gs s i h = ⊎_elim
     (cases_eq i m)
 
 -- ---- the others stay, and get Decs
+
 abbrev AddsAt : Actors → Actors → ℕ → Type 0
 AddsAt s s' b = (cell_of (seat_at s' b) ≡ cell_of (seat_at s b)) × ((come : List LetterKind) × (mail_at s' b ≡ mail_at s b ++ come) × NoConfirms come)
 
@@ -105,6 +105,7 @@ reap_quiet all (m ∷ ms) gs s b ins out none every = ⊎_elim
     (cases_eq b m)
 
 -- ---- loads
+
 clear_loads : (x : Thing) (s : Actors) (m : ℕ) → load_sum x (set s m None) ≤ load_sum x s
 clear_loads x s m = ⊎_elim
     (λ lt. omega (arith, sum_by-set (loads_at x) s m None None lt, loads_at-none x))

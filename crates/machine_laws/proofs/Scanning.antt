@@ -7,9 +7,8 @@ use Rattle.detector_laws.proofs.Names.{names, named}
 use Rattle.detector_laws.proofs.Scan.{IsChosen, largest_chosen}
 use Rattle.machine_laws.proofs.Moving.{push_here, push_other, added_cell, kinds-append, push_loads_same}
 use Rattle.detector_laws.specs.World as view
-use Rattle.detector_laws.specs.World.{LetterKind, Other}
+use Rattle.detector_laws.specs.World.{LetterKind, Other, World, In}
 use Rattle.detector_laws.specs.Reports.{ReportsAreExact, IsRising, AllAbove}
-use Rattle.detector_laws.specs.World.{World, In}
 use Rattle.letter_kinds.specs.Closed.{largest_closed}
 use Rattle.letter_kinds.specs.Detector.{Detector, scanned, has, closed_set, candidates}
 use Rattle.letter_kinds.specs.Holdings.{Row}
@@ -18,7 +17,7 @@ use Rattle.letter_kinds.specs.Sums.{inc_of, dec_of}
 use Rattle.letter_kinds.specs.declared.letter.Letter.TheVariants.{Confirm}
 use Rattle.letter_kinds.specs.declared.note.Note.{Note}
 use Rattle.letter_kinds.specs.declared.note.Report.{Report}
-use Rattle.machine_laws.proofs.Seen.{mail_at, world_of, letters_of, kinds, cell_of}
+use Rattle.machine_laws.specs.Seen.{mail_at, world_of, letters_of, kinds, cell_of}
 use Rattle.machine_rules.proofs.Agreeing.{agrees_push_other}
 use Rattle.machine_rules.proofs.Every.{every_push, length-push}
 use Rattle.machine_rules.proofs.Global.{mail_push}
@@ -41,6 +40,7 @@ present_seat None h = absurd (false≢true h)
 present_seat (Some q) h = (q, refl)
 
 -- ---- one Confirm
+
 module _ (s : Actors) (b t : ℕ) (here : (cell_of (seat_at s b)).present ≡ true) where
   ask_cell : (i : ℕ) → cell_of (seat_at (push_letter b (Confirm t) s) i) ≡ cell_of (seat_at s i)
   ask_cell i = ⊎_elim
@@ -75,6 +75,7 @@ module _ (s : Actors) (b t : ℕ) (here : (cell_of (seat_at s b)).present ≡ tr
   ask_loads x = push_loads_same s b (Confirm t) x (letter_Confirm x t).2
 
 -- ---- a Confirm to each
+
 or_left : (p q : Bool) → p ≡ true → (p || q) ≡ true
 or_left true q e = refl
 or_left false q e = cc

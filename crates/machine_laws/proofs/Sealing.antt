@@ -5,26 +5,24 @@ use Rattle.machine_laws.proofs.Reaping.{all_in}
 use Rattle.detector_laws.specs.Tokens.{IsSealed, EndsInConfirm}
 use Rattle.letter_kinds.proofs.Sums.{sum-at, sum-nil}
 use Rattle.letter_kinds.specs.Detector.{has, Token}
-use Rattle.letter_kinds.specs.Holdings.{held_in}
+use Rattle.letter_kinds.specs.Holdings.{held_in, Row}
 use Rattle.letter_kinds.specs.Sums.{load_count}
 use Rattle.letter_kinds.specs.declared.letter.Letter.{Letter}
 use Rattle.letter_kinds.specs.declared.letter.Letter.TheVariants.{App, Inc, Dec, Confirm}
 use Rattle.letter_kinds.specs.declared.note.Note.{Note}
-use Rattle.machine_laws.proofs.Seen.{mail_at, letters_of, kinds, cell_of}
+use Rattle.machine_laws.specs.Seen.{mail_at, letters_of, kinds, cell_of}
 use Rattle.machine_rules.proofs.InvReap.{AllSealed, Sealed, inv_reap}
 use Rattle.machine_rules.proofs.SeatReads.{loads_at-seat, letter_Confirm}
 use Rattle.machine_rules.proofs.Seats.{present_below}
 use Rattle.machine_rules.specs.Actors.{Seat, Actors, seat_at, seat}
-use Rattle.machine_rules.specs.Agreement.{app_letters}
+use Rattle.machine_rules.specs.Agreement.{app_letters, Person}
 use Rattle.machine_rules.specs.Balance.{loads_at, load_sum}
 use Rattle.machine_rules.specs.Cell.{Cell}
 use Rattle.machine_rules.specs.Detect.{reaped}
-use Rattle.machine_rules.specs.Agreement.{Person}
 use Rattle.machine_rules.specs.Facts.{KeepsCounts}
 use Rattle.orca_names.specs.declared.names.Thing.{Thing}
 use Rattle.orca_names.specs.declared.names.Thing.TheVariants.{Actor}
 use Rattle.turn_rules.specs.declared.act.Frame.{Frame}
-use Rattle.letter_kinds.specs.Holdings.{Row}
 use Rattle.std.proofs.lemmas.List.Sums.{sum_by-cons}
 use Rattle.std.specs.Prelude.{sum_by}
 

@@ -12,31 +12,16 @@ use Rattle.letter_kinds.specs.Holdings.{held_in, nothing_held}
 use Rattle.detector_laws.proofs.Starts.{start_facts}
 use Rattle.detector_laws.specs.Facts.{DetectorFacts}
 use Rattle.detector_laws.specs.World.{NoConfirms}
-use Rattle.machine_laws.proofs.OwnThings.{HoldsNoOwn}
-use Rattle.machine_laws.proofs.Seen.{cell_of, kinds, mail_at, world}
+use Rattle.machine_rules.specs.Clean.{HoldsNoOwnAt}
+use Rattle.machine_laws.specs.Seen.{cell_of, kinds, mail_at, world}
 use Rattle.machine_rules.specs.Actors.{Actors, Seat, seat, seat_at}
 use Rattle.machine_rules.specs.Cell.{Cell}
 use Rattle.machine_rules.specs.Facts.{Every}
 use Rattle.machine_rules.specs.State.{first_state}
 
-nothing_of : (n : ℕ) (x : Thing) → held_in (nothing_held n) x ≡ 0
-unfolding held_in
-nothing_of n x = rw (m.get-empty thing_cmp x) refl
-
 module _ (program : Program) where
   abbrev actors : Actors
   actors = (first_state program).actors
-
-  none_of : (a : ℕ) (x : Thing) (c : Cell) (ls : List Letter) → seat_at actors a ≡ seat c ls → held_in c.holdings x ≡ 0
-  none_of zero x c ls at = ap (λ (o : Option Seat). held_of o) (sym at) ∙ nothing_of 0 x
-    where
-      held_of : Option Seat → ℕ
-      held_of None = 0
-      held_of (Some o) = held_in o.cell.holdings x
-  none_of (suc a) x c ls at = cc
-
-  pub start_holds_no_own : Every HoldsNoOwn actors
-  start_holds_no_own a c ls at x own = none_of a x c ls at
 
   unreported : (a : ℕ) → (cell_of (seat_at actors a)).reported ≡ false
   unreported zero = refl

@@ -30,10 +30,11 @@ use Rattle.machine_laws.proofs.Blocking.{block_is, can_block, may_then}
 use Rattle.machine_laws.proofs.Collecting.{collect_moves}
 use Rattle.machine_laws.proofs.Going.{held_made, make_moves, mint_moves, post_moves, turn_moves}
 use Rattle.machine_laws.proofs.Growing.{load_known, target_known}
-use Rattle.machine_laws.proofs.Parting.{goes_if, goes_to, not_enabled}
+use Rattle.machine_rules.proofs.Steps.{goes_if, goes_to, not_enabled}
 use Rattle.machine_laws.proofs.Reaping.{reap_reaps}
 use Rattle.machine_laws.proofs.Scanning.{scan_is}
-use Rattle.machine_laws.proofs.Seen.{cell_of, kinds, letters_of, noted, world, world_of}
+use Rattle.machine_laws.specs.Seen.{cell_of, kinds, letters_of, world, world_of}
+use Rattle.machine_laws.proofs.Noted.{noted}
 use Rattle.machine_laws.proofs.Taking.{confirm_is, take_moves}
 use Rattle.machine_rules.proofs.Lacking.{first_minted, to_mint_theirs}
 use Rattle.machine_rules.proofs.Makes.{fresh_held}

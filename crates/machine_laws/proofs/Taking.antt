@@ -4,9 +4,8 @@ use Rattle.std.proofs.lemmas.Bool.{cases_eq}
 use mathlib.Core.Path.{fun_ext}
 use Rattle.machine_laws.proofs.Moving.{adds_none, moves}
 use Rattle.detector_laws.specs.World as view
-use Rattle.detector_laws.specs.World.{LetterKind, Other}
+use Rattle.detector_laws.specs.World.{LetterKind, Other, World}
 use Rattle.detector_laws.specs.Events.{Moves}
-use Rattle.detector_laws.specs.World.{World}
 use Rattle.letter_kinds.proofs.Amounts.{held-raise_all, held-lower_all}
 use Rattle.letter_kinds.proofs.Counts.{held-receive}
 use Rattle.letter_kinds.specs.Detector.{Detector}
@@ -16,7 +15,8 @@ use Rattle.letter_kinds.specs.declared.letter.Letter.{Letter}
 use Rattle.letter_kinds.specs.declared.letter.Letter.TheVariants.{App, Inc, Dec, Confirm}
 use Rattle.letter_kinds.specs.declared.note.Note.{Note}
 use Rattle.letter_kinds.specs.declared.note.Note.TheVariants.{Ack}
-use Rattle.machine_laws.proofs.Seen.{kind_of, mail_at, world_of, noted, acked, letters_of, kinds, cell_of}
+use Rattle.machine_laws.specs.Seen.{kind_of, mail_at, world_of, letters_of, kinds, cell_of}
+use Rattle.machine_laws.proofs.Noted.{noted, acked}
 use Rattle.machine_rules.proofs.InHand.{take_letter}
 use Rattle.behaviour_code.specs.declared.code.Program.{Program}
 use Rattle.machine_rules.proofs.SeatReads.{letter_App, letter_Confirm, loads_at-seat}

@@ -1,5 +1,14 @@
-//! What holds of the machine that collects in each state of a run.
+//! What holds of the machine that collects, over whole runs.
 //!
 //! The machine's rules are those of `machine_rules`; the laws of its detector are those of
-//! `detector_laws`, which speak of a world that each state shows.
+//! `detector_laws`, which speak of what a state shows of each actor. Here both come together: all
+//! facts hold at the start and are kept by every event, so a run never frees what is reachable, and
+//! where it ends quiet it leaves exactly that.
 #![tactic(auto)]
+
+mod laws;
+
+pub use laws::{
+    every_event_keeps_all_facts, every_run_has_all_facts, exactly_at_quiet, never_too_early,
+    the_detector_at_quiet, the_start_has_all_facts,
+};

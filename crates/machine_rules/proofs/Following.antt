@@ -16,6 +16,7 @@ use Rattle.letter_kinds.specs.declared.note.Note.{Note}
 use Rattle.machine_rules.proofs.InHand.{take_letter}
 use Rattle.machine_rules.proofs.InvTake.{inv_take, next_receive}
 use Rattle.machine_rules.proofs.PlainSide.{StandsAt, objects_kept, people-set, rows_kept, same_rows, stands_beside}
+use Rattle.machine_rules.proofs.Steps.{goes_to}
 use Rattle.machine_rules.specs.Actors.{Actors, Seat, seat, seat_at}
 use Rattle.machine_rules.specs.Agreement.{Person, app_letters, people_of, person_of, person_of_plain}
 use Rattle.machine_rules.specs.Cell.{Cell}
@@ -32,14 +33,6 @@ use Rattle.machine_rules.specs.declared.PlainLetter.{PlainLetter}
 abbrev pub Follows : Bool → Outcome → PlainState → State → Type 0
 Follows true goes p t = (q : PlainState) × (goes ≡ plain.Goes q) × Facts q t
 Follows false goes p t = Facts p t
-
-abbrev state_or : State → Step → State
-state_or s NotEnabled = s
-state_or s IsFull = s
-state_or s (Goes t) = t
-
-pub goes_to : (u t : State) → Goes u ≡ Goes t → u ≡ t
-goes_to u t e = ap (state_or u) e
 
 pub follows_on : (b : Bool) (goes : Outcome) (p : PlainState) (u t : State) → Goes u ≡ Goes t → Follows b goes p u → Follows b goes p t
 follows_on b goes p u t e h = subst (Follows b goes p) (goes_to u t e) h

@@ -5,6 +5,7 @@ pub mod Every
 pub mod Finite
 pub mod Following
 pub mod FollowingGo
+pub mod Follows
 pub mod Freed
 pub mod Global
 pub mod Going
@@ -42,6 +43,8 @@ pub mod Segments
 pub mod Sending
 pub mod Sends
 pub mod Slices
+pub mod Starting
+pub mod Steps
 pub mod Sweeping
 pub mod Sweeps
 pub mod Takes

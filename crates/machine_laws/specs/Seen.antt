@@ -1,20 +1,18 @@
--- What the detector's laws see of a state of the machine.
+-- What the detector's facts speak of, of a state of the machine.
 use Rattle.std.specs.Prelude.{ℕ, false, true, List, [], ◌∷◌, length, is_some, Option, Some, None}
 use Rattle.orca_names.specs.declared.names.Thing.TheVariants.{Actor}
 use Rattle.letter_kinds.specs.declared.letter.Letter.{Letter}
 use Rattle.letter_kinds.specs.declared.letter.Letter.TheVariants.{App, Inc, Dec, Confirm}
 use Rattle.letter_kinds.specs.declared.note.Note.{Note}
-use Rattle.letter_kinds.specs.declared.note.Note.TheVariants.{Ack, Unblock}
 use Rattle.letter_kinds.specs.Detector.{Detector}
 use Rattle.letter_kinds.specs.Holdings.{held_in}
 use Rattle.detector_laws.specs.World as view
 use Rattle.detector_laws.specs.World.{LetterKind, Other, World}
 use Rattle.machine_rules.specs.Actors.{Actors, Seat, seat_at}
 use Rattle.machine_rules.specs.Balance.{load_sum}
-use Rattle.machine_rules.specs.Cell.{Cell}
 use Rattle.machine_rules.specs.State.{State}
-use Rattle.machine_rules.specs.Take.{notes_after}
 
+-- a Confirm, or another letter
 abbrev pub kind_of : Letter → LetterKind
 kind_of (App behaviour args load) = Other
 kind_of (Inc things) = Other
@@ -25,6 +23,7 @@ abbrev pub kinds : List Letter → List LetterKind
 kinds [] = []
 kinds (letter ∷ mail) = kind_of letter ∷ kinds mail
 
+-- of an actor: whether it is there, what it is at, and its counts on actors
 abbrev pub cell_of : Option Seat → view.Cell
 cell_of None = record { present = false; framed = false; dirty = false; pinned = false; reported = false; count = 0; foreign = λ x. 0 }
 cell_of (Some o) = record {
@@ -59,11 +58,3 @@ world_of actors detector notes = record {
 -- of a state
 abbrev pub world : State → World
 world s = world_of s.actors s.detector s.notes
-
--- what an actor with such a cell tells where it acts
-abbrev pub noted : ℕ → Cell → List Note → List Note
-noted a c notes = notes_after c.reported (Unblock a) notes
-
--- what it tells where it takes the Confirm of a token
-abbrev pub acked : ℕ → ℕ → Cell → List Note → List Note
-acked a token c notes = notes_after c.reported (Ack token a) notes

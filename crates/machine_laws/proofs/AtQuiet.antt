@@ -1,0 +1,93 @@
+-- Where a run ends quiet, exactly what is reachable is left, and the detector rests.
+use Rattle.std.proofs.Common.{◌≡◌, ◌≢◌, ℕ, zero, suc, ◌<◌, ◌+◌, Bool, true, false, Option, Some, None, is_some, List, [], ◌∷◌, refl, sym, ap, subst, ◌∙◌, arith, inl, inr}
+use Rattle.std.proofs.lemmas.Bool.{false≢true}
+use Rattle.orca_names.specs.declared.names.Thing.{Thing}
+use Rattle.orca_names.specs.declared.names.Thing.TheVariants.{Actor}
+use Rattle.behaviour_code.specs.declared.code.Program.{Program}
+use Rattle.event_rule.specs.declared.event.Event.{Event}
+use Rattle.letter_kinds.specs.declared.letter.Letter.{Letter}
+use Rattle.letter_kinds.specs.declared.note.Report.{Report}
+use Rattle.letter_kinds.specs.Detector.{Token}
+use Rattle.letter_kinds.specs.Holdings.{held_in}
+use Rattle.letter_kinds.specs.Reports.{report_of}
+use Rattle.reach_walk.specs.Reach.{thing_row}
+use Rattle.detector_laws.proofs.Quiet.{no_token}
+use Rattle.detector_laws.specs.Quiet as view
+use Rattle.detector_laws.specs.Reports.{IsAsTold, told_by_kept, told_of}
+use Rattle.detector_laws.specs.World.{In}
+use Rattle.machine_laws.proofs.Quieting.{quiet_reached, quiet_world}
+use Rattle.machine_laws.proofs.WholeRuns.{run_has_facts}
+use Rattle.machine_laws.specs.AllFacts.{AllFacts}
+use Rattle.machine_laws.specs.Laws.{DetectorRests, DetectorRestsAtQuiet, ExactlyAtQuiet, IsReportOf}
+use Rattle.machine_laws.specs.Seen.{cell_of, world}
+use Rattle.machine_rules.proofs.Needs.{AllNeeded, IsNeeded, is_held, is_pinned, left_is_exact}
+use Rattle.machine_rules.proofs.Rest.{quiet_rest}
+use Rattle.machine_rules.specs.Actors.{Seat, seat, seat_at}
+use Rattle.machine_rules.specs.Agreement.{people_of}
+use Rattle.machine_rules.specs.Cell.{Cell}
+use Rattle.machine_rules.specs.Next.{IsQuiet}
+use Rattle.machine_rules.specs.Plain.{PlainState, plain_row}
+use Rattle.machine_rules.specs.State.{State}
+
+-- ---- who is reached in the detector's view is needed
+
+module _ (s : State) where
+  by_pin : (a : ℕ) (o : Option Seat) → seat_at s.actors a ≡ o → (cell_of o).pinned ≡ true → IsNeeded s.actors a
+  by_pin a None at e = cc
+  by_pin a (Some o) at e = is_pinned at e
+
+  by_hold : (a b : ℕ) (o : Option Seat) → seat_at s.actors a ≡ o → IsNeeded s.actors a → (cell_of o).foreign b ≢ 0 → IsNeeded s.actors b
+  by_hold a b None at n h = absurd (h refl)
+  by_hold a b (Some o) at n h = is_held n at (some_held (held_in o.cell.holdings (Actor b)) h)
+    where
+      some_held : (n : ℕ) → n ≢ 0 → 0 < n
+      some_held zero h = absurd (h refl)
+      some_held (suc n) h = omega arith
+
+  reached_needed : {a : ℕ} → view.IsReached (world s) a → IsNeeded s.actors a
+  reached_needed (view.root {a = a} here pin) = by_pin a (seat_at s.actors a) refl pin
+  reached_needed (view.edge {b = b} {a = a} here path holds) = by_hold b a (seat_at s.actors b) refl (reached_needed path) holds
+
+  all_needed : (p : PlainState) → AllFacts p s → IsQuiet s → AllNeeded s.actors
+  all_needed p facts quiet a c mail at =
+      reached_needed (quiet_reached s (thing_row (plain_row p.actors)) (people_of p.actors) facts.beside.counts facts.own facts.detector quiet a (ap (λ o. (cell_of o).present) at))
+
+pub exactly_at_quiet : ExactlyAtQuiet
+exactly_at_quiet program book t run quiet =
+    let facts = run_has_facts program book t run in
+    (facts.0, facts.1, left_is_exact facts.0 t facts.2.beside facts.2.clean (quiet_rest t quiet) (all_needed t facts.0 facts.2 quiet))
+
+-- ---- the detector
+
+none_open : (tokens : List Token) → ((t : Token) → In t tokens → ⊥) → tokens ≡ []
+none_open [] none = refl
+none_open (t ∷ tokens) none = absurd (none t (inl refl))
+
+module _ (s : State) (p : PlainState) (facts : AllFacts p s) (quiet : IsQuiet s) where
+  rests : view.IsQuiet (world s)
+  rests = quiet_world s quiet facts.detector
+
+  told : (a : ℕ) (c : Cell) (mail : List Letter) → seat_at s.actors a ≡ seat c mail → IsAsTold (cell_of (seat c mail)) a (told_by_kept (report_of s.detector.kept a))
+  told a c mail at =
+      subst (λ o. IsAsTold (cell_of o) a (told_by_kept (report_of s.detector.kept a))) at
+      (subst (λ notes. IsAsTold (cell_of (seat_at s.actors a)) a (told_of a s.detector.kept notes)) rests.heard (facts.detector.reports.last a))
+
+  reported : (a : ℕ) (c : Cell) (mail : List Letter) → seat_at s.actors a ≡ seat c mail → c.fields.pinned ≡ false → c.reported ≡ true
+  reported a c mail at free =
+      subst (λ o. (cell_of o).reported ≡ true) at (rests.blocked a (ap (λ o. (cell_of o).present) at) (ap (λ o. (cell_of o).pinned) at ∙ free))
+
+  kept : (a : ℕ) (c : Cell) → c.reported ≡ true → (mail : List Letter) (found : Option Report) → report_of s.detector.kept a ≡ found → IsAsTold (cell_of (seat c mail)) a (told_by_kept found)
+      → (r : Report) × (report_of s.detector.kept a ≡ Some r) × IsReportOf a c r
+  kept a c out mail None is unreported = absurd (false≢true (sym unreported ∙ out))
+  kept a c out mail (Some r) is (blocked, exact) = (r, is, record { actor = exact.actor; count = exact.count; held = exact.held })
+
+  pub detector_rests : DetectorRests s
+  detector_rests = record {
+    notes = rests.heard;
+    news = rests.scanned;
+    tokens = none_open s.detector.tokens (no_token (world s) rests facts.detector.reports facts.detector.tokens);
+    reports = λ a c mail at free. kept a c (reported a c mail at free) mail (report_of s.detector.kept a) refl (told a c mail at);
+  }
+
+pub detector_at_quiet : DetectorRestsAtQuiet
+detector_at_quiet program book t run quiet = let facts = run_has_facts program book t run in detector_rests t facts.0 facts.2 quiet

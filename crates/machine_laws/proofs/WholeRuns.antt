@@ -1,0 +1,129 @@
+-- All facts hold at the start, are kept by every event, and so hold after each run and each of its prefixes.
+use Rattle.std.proofs.Common.{◌≡◌, ℕ, Bool, true, false, List, [], ◌∷◌, ◌++◌, refl, sym, ap, subst, ◌∙◌}
+use Rattle.std.specs.Prelude.{if◌then◌else◌}
+use Rattle.orca_names.specs.declared.names.Thing.{Thing}
+use Rattle.behaviour_code.specs.declared.code.Program.{Program}
+use Rattle.event_rule.specs.declared.event.Event.{Event}
+use Rattle.event_rule.specs.declared.event.Event.TheVariants.{Take, Go, Collect, Block, Hear, Scan, Reap}
+use Rattle.reach_walk.specs.Reach.{thing_row}
+use Rattle.letter_kinds.specs.Holdings.{Row}
+use Rattle.machine_laws.proofs.Keeping.{KeepsBeside, block_beside, hear_beside, next_keeps, reap_beside, scan_beside}
+use Rattle.machine_laws.proofs.Starting.{start_detects}
+use Rattle.machine_laws.specs.AllFacts.{AllFacts}
+use Rattle.machine_laws.specs.Laws.{EventsKeepAllFacts, IsNeverTooEarly, NeverTooEarly, PlainFollows, RunsHaveAllFacts, StartHasAllFacts}
+use Rattle.machine_rules.proofs.Cleaning.{clean-first, clean-next}
+use Rattle.machine_rules.proofs.Following.{Follows}
+use Rattle.machine_rules.proofs.Follows.{collect_kept, go_kept, take_kept}
+use Rattle.machine_rules.proofs.Freed.{lives_left}
+use Rattle.machine_rules.proofs.InHand.{in_hand}
+use Rattle.machine_rules.proofs.NoSelf.{no_self-first, no_self-next}
+use Rattle.machine_rules.proofs.Reachable.{reachable_lives}
+use Rattle.machine_rules.proofs.Starting as starting
+use Rattle.machine_rules.specs.Agreement.{people_of}
+use Rattle.machine_rules.specs.Facts.{Facts}
+use Rattle.machine_rules.specs.Left.{IsLeft}
+use Rattle.machine_rules.specs.Next.{next}
+use Rattle.machine_rules.specs.Plain as plain
+use Rattle.machine_rules.specs.Plain.{Outcome, PlainState, plain_row, start_of}
+use Rattle.machine_rules.specs.PlainReach.{IsReachable}
+use Rattle.machine_rules.specs.PlainRun.{outcome_of}
+use Rattle.machine_rules.specs.Run.{IsPlainBeside, IsRun, Leads, PlainLeads, choices, choices_after, is_choice}
+use Rattle.machine_rules.specs.State.{State, Step, Goes, first_state}
+
+pub start_all : StartHasAllFacts
+start_all program = record {
+  beside = starting.start_facts program;
+  own = no_self-first program;
+  clean = clean-first program;
+  detector = start_detects program;
+}
+
+-- ---- one event
+
+-- the facts beside, and where the plain machine is then
+abbrev Beside : Bool → PlainState → Event → State → Type 0
+Beside choice p e t = (q : PlainState) × PlainFollows choice p e q × Facts q t
+
+module _ (p : PlainState) (s t : State) (facts : AllFacts p s) where
+  followed : (choice : Bool) (e : Event) → Follows choice (outcome_of p e) p t → Beside choice p e t
+  followed true e h = h
+  followed false e h = (p, refl, h)
+
+  stayed : (e : Event) → KeepsBeside (thing_row (plain_row p.actors)) (people_of p.actors) s t → Beside false p e t
+  stayed e kept = (p, refl, record {
+    counts = kept.counts;
+    program = facts.beside.program ∙ sym kept.program;
+    prints = facts.beside.prints ∙ sym kept.prints;
+    objects = facts.beside.objects ∙ sym kept.objects;
+  })
+
+  beside_after : (e : Event) → next s e ≡ Goes t → Beside (is_choice s e) p e t
+  beside_after (Take a) goes = followed (is_choice s (Take a)) (Take a) (take_kept p s facts.beside t a goes)
+  beside_after (Go a) goes = followed (is_choice s (Go a)) (Go a) (go_kept p s facts.beside t a goes)
+  beside_after (Collect a) goes = (p, refl, collect_kept p s facts.beside t a goes)
+  beside_after (Block a) goes = stayed (Block a) (block_beside s t _ _ facts.beside.counts facts.detector a goes)
+  beside_after Hear goes = stayed Hear (hear_beside s t _ _ facts.beside.counts facts.detector goes)
+  beside_after Scan goes = stayed Scan (scan_beside s t _ _ facts.beside.counts facts.detector goes)
+  beside_after (Reap token) goes = stayed (Reap token) (reap_beside s t _ _ facts.beside.counts facts.detector token goes)
+
+pub event_keeps : EventsKeepAllFacts
+event_keeps p s t e facts goes =
+    let beside = beside_after p s t facts e goes in (
+      beside.0,
+      beside.1,
+      record {
+        beside = beside.2;
+        own = no_self-next s t e goes facts.own;
+        clean = clean-next s t e goes facts.clean;
+        detector = next_keeps s t (thing_row (plain_row p.actors)) (people_of p.actors) facts.beside.counts facts.detector facts.own e goes;
+      },
+    )
+
+-- ---- runs
+
+abbrev Arrives : PlainState → List Event → State → Type 0
+Arrives p events t = (q : PlainState) × PlainLeads p events q × AllFacts q t
+
+after_event : (choice : Bool) (p q : PlainState) (e : Event) (events : List Event) (t : State) → PlainFollows choice p e q → Arrives q events t → Arrives p (if choice then e ∷ events else events) t
+after_event true p q e events t follows later = (later.0, (q, follows, later.1), later.2)
+after_event false p q e events t follows later = subst (λ r. Arrives r events t) (sym follows) later
+
+pub leads_on : (book : List Event) (p : PlainState) (s t : State) → AllFacts p s → Leads s book t → Arrives p (choices book s) t
+leads_on [] p s t facts same = (p, refl, subst (AllFacts p) same facts)
+leads_on (e ∷ book) p s t facts leads =
+    let u = leads.0 in
+    let goes = leads.1 in
+    let mid = event_keeps p s u e facts goes in
+    let rest = leads_on book mid.0 u t mid.2 leads.2 in
+    let one = after_event (is_choice s e) p mid.0 e (choices book u) t mid.1 rest in
+    subst (λ (step : Step). Arrives p (if is_choice s e then e ∷ choices_after (choices book) step else choices_after (choices book) step) t) (sym goes) one
+
+pub run_has_facts : RunsHaveAllFacts
+run_has_facts program book t run = leads_on book (start_of program) (first_state program) t (start_all program) run
+
+-- ---- prefixes
+
+prefix_leads : (book later : List Event) (s t : State) → Leads s (book ++ later) t → (u : State) × Leads s book u
+prefix_leads [] later s t leads = (s, refl)
+prefix_leads (e ∷ book) later s t leads = let rest = prefix_leads book later leads.0 t leads.2 in (rest.0, (leads.0, leads.1, rest.1))
+
+reachable_left : (p : PlainState) (s : State) → AllFacts p s → (x : Thing) → IsReachable p x → IsLeft s.actors x
+reachable_left p s facts x r =
+    let counts = facts.beside.counts in
+    lives_left (thing_row (plain_row p.actors)) (people_of p.actors) s.actors (in_hand s.actors counts.balanced) counts.prefixes counts.sound counts.agrees x (reachable_lives p r)
+
+never_early : (program : Program) (book : List Event) (s : State) → IsRun program book s → IsNeverTooEarly program book s
+never_early program book s run =
+    let facts = run_has_facts program book s run in
+    record {
+      plain = facts.0;
+      follows = facts.1;
+      prints = facts.2.beside.prints;
+      balanced = facts.2.beside.counts.balanced;
+      covered = facts.2.beside.counts.prefixes;
+      left = reachable_left facts.0 s facts.2;
+      freed = λ x gone r. gone.1 (reachable_left facts.0 s facts.2 x r);
+    }
+
+pub never_too_early : NeverTooEarly
+never_too_early program book later t run = let u = prefix_leads book later (first_state program) t run in (u.0, u.1, never_early program book u.0 u.1)

@@ -1,0 +1,86 @@
+-- What holds of every program, every run and each of its prefixes.
+use Rattle.std.specs.Prelude.{ℕ, ◌≡◌, ◌↔◌, Bool, true, false, List, [], ◌++◌, Option, Some}
+use Rattle.orca_names.specs.declared.names.Thing.{Thing}
+use Rattle.orca_names.specs.declared.names.Thing.TheVariants.{Actor}
+use Rattle.behaviour_code.specs.declared.code.Program.{Program}
+use Rattle.event_rule.specs.declared.event.Event.{Event}
+use Rattle.letter_kinds.specs.declared.letter.Letter.{Letter}
+use Rattle.letter_kinds.specs.declared.note.Report.{Report}
+use Rattle.letter_kinds.specs.Holdings.{held_in}
+use Rattle.letter_kinds.specs.Reports.{count_on, report_of}
+use Rattle.machine_laws.specs.AllFacts.{AllFacts}
+use Rattle.machine_rules.specs.Actors.{seat, seat_at}
+use Rattle.machine_rules.specs.Balance.{IsBalanced, NeverOverdraws}
+use Rattle.machine_rules.specs.Cell.{Cell}
+use Rattle.machine_rules.specs.Left.{IsFreed, IsLeft}
+use Rattle.machine_rules.specs.Next.{IsQuiet, next}
+use Rattle.machine_rules.specs.Plain as plain
+use Rattle.machine_rules.specs.Plain.{PlainState, start_of}
+use Rattle.machine_rules.specs.PlainReach.{IsReachable}
+use Rattle.machine_rules.specs.PlainRun.{outcome_of}
+use Rattle.machine_rules.specs.Run.{IsPlainBeside, IsRun, is_choice}
+use Rattle.machine_rules.specs.State.{State, Goes, first_state}
+
+-- ---- the facts hold
+
+abbrev pub StartHasAllFacts : Type 0
+StartHasAllFacts = (program : Program) → AllFacts (start_of program) (first_state program)
+
+-- the plain machine makes a choice too, and stays at any other event
+abbrev pub PlainFollows : Bool → PlainState → Event → PlainState → Type 0
+PlainFollows true p e q = outcome_of p e ≡ plain.Goes q
+PlainFollows false p e q = p ≡ q
+
+-- each event keeps all facts together
+abbrev pub EventsKeepAllFacts : Type 0
+EventsKeepAllFacts = (p : PlainState) (s t : State) (e : Event) → AllFacts p s → next s e ≡ Goes t →
+    (q : PlainState) × PlainFollows (is_choice s e) p e q × AllFacts q t
+
+-- so they hold after each run
+abbrev pub RunsHaveAllFacts : Type 0
+RunsHaveAllFacts = (program : Program) (book : List Event) (t : State) → IsRun program book t →
+    (p : PlainState) × IsPlainBeside program book p × AllFacts p t
+
+-- ---- never too early
+
+-- after this book nothing was freed that the machine that frees nothing still reaches
+pub record IsNeverTooEarly (program : Program) (book : List Event) (s : State) : Type 0 where
+  pub plain : PlainState
+  -- the choices of the book are enabled there in their turn, and lead to this state
+  pub follows : IsPlainBeside program book plain
+  pub prints : plain.prints ≡ s.prints
+  pub balanced : IsBalanced s.actors
+  pub covered : NeverOverdraws s.actors
+  -- what is reachable is left, and nothing freed is reachable
+  pub left : (x : Thing) → IsReachable plain x → IsLeft s.actors x
+  pub freed : (x : Thing) → IsFreed plain.actors s.actors x → IsReachable plain x → ⊥
+
+-- each prefix of a run is a run, and it is never too early
+abbrev pub NeverTooEarly : Type 0
+NeverTooEarly = (program : Program) (book later : List Event) (t : State) → IsRun program (book ++ later) t →
+    (s : State) × IsRun program book s × IsNeverTooEarly program book s
+
+-- ---- at quiet
+
+-- where no event is enabled, exactly what is reachable is left, cycles of actors and objects included
+abbrev pub ExactlyAtQuiet : Type 0
+ExactlyAtQuiet = (program : Program) (book : List Event) (t : State) → IsRun program book t → IsQuiet t →
+    (p : PlainState) × IsPlainBeside program book p × ((x : Thing) → IsLeft t.actors x ↔ IsReachable p x)
+
+-- the report tells the actor's count, and its counts on others
+pub record IsReportOf (a : ℕ) (c : Cell) (r : Report) : Type 0 where
+  pub actor : r.actor ≡ a
+  pub count : r.count ≡ c.holdings.count
+  pub held : (b : ℕ) → count_on r.held b ≡ held_in c.holdings (Actor b)
+
+-- nothing is on its way to the detector, no token is open, and of each actor that is present and not
+-- pinned an exact report is kept
+pub record DetectorRests (s : State) : Type 0 where
+  pub notes : s.notes ≡ []
+  pub news : s.detector.news ≡ false
+  pub tokens : s.detector.tokens ≡ []
+  pub reports : (a : ℕ) (c : Cell) (mail : List Letter) → seat_at s.actors a ≡ seat c mail → c.fields.pinned ≡ false →
+      (r : Report) × (report_of s.detector.kept a ≡ Some r) × IsReportOf a c r
+
+abbrev pub DetectorRestsAtQuiet : Type 0
+DetectorRestsAtQuiet = (program : Program) (book : List Event) (t : State) → IsRun program book t → IsQuiet t → DetectorRests t

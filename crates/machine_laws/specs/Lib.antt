@@ -1,0 +1,3 @@
+pub mod AllFacts
+pub mod Laws
+pub mod Seen

@@ -1,0 +1,41 @@
+// What holds of every program, every run and each of its prefixes.
+
+ghost use Rattle.machine_laws.specs.Laws.{StartHasAllFacts, EventsKeepAllFacts, RunsHaveAllFacts, NeverTooEarly, ExactlyAtQuiet, DetectorRestsAtQuiet};
+
+/// Where a run begins, all facts hold: the machine agrees with the one that frees nothing, counts
+/// balance and are never overdrawn, each actor knows what it reaches, clean cells are swept, and
+/// reports, tokens and news are sound.
+pub fn the_start_has_all_facts()
+    ensures { StartHasAllFacts }
+{}
+
+/// Each event that is enabled keeps all facts together, and the machine that frees nothing makes the
+/// same choice, or stays where the event is none.
+pub fn every_event_keeps_all_facts()
+    ensures { EventsKeepAllFacts }
+{}
+
+/// All facts hold after each run, beside the state that its choices lead to in the machine that frees
+/// nothing.
+pub fn every_run_has_all_facts()
+    ensures { RunsHaveAllFacts }
+{}
+
+/// Nothing is reclaimed too early (Orca, OOPSLA 2017; MAC, OOPSLA 2013): after each prefix of each
+/// run, whatever the order of its events, nothing that was freed is reachable in the machine that
+/// frees nothing, which makes the same choices and prints the same; and counts balance.
+pub fn never_too_early()
+    ensures { NeverTooEarly }
+{}
+
+/// Where no event is enabled any more, what is left is exactly what is reachable in the machine that
+/// frees nothing: objects, actors and cycles of both.
+pub fn exactly_at_quiet()
+    ensures { ExactlyAtQuiet }
+{}
+
+/// There the detector rests: no note waits, no token is open, and of each actor that is present and
+/// not pinned an exact report is kept.
+pub fn the_detector_at_quiet()
+    ensures { DetectorRestsAtQuiet }
+{}

@@ -1,0 +1,60 @@
+-- Take, go and collect keep the facts, and the plain machine follows them.
+use Rattle.std.proofs.Common.{◌≡◌, ℕ, Bool, true, false, Option, Some, None, List, [], ◌∷◌, refl}
+use Rattle.orca_names.specs.declared.names.Thing.{Thing}
+use Rattle.reach_walk.specs.Reach.{thing_row}
+use Rattle.turn_rules.specs.declared.act.Frame.{Frame}
+use Rattle.event_rule.specs.declared.event.Event.TheVariants.{Take, Go, Collect}
+use Rattle.letter_kinds.specs.declared.letter.Letter.{Letter}
+use Rattle.machine_rules.proofs.Following.{Follows, follows_on, take_follows}
+use Rattle.machine_rules.proofs.FollowingGo.{go_follows}
+use Rattle.machine_rules.proofs.InvCollect.{inv_collect}
+use Rattle.machine_rules.proofs.Loads.{marked_reached, reached_marked}
+use Rattle.machine_rules.specs.Actors.{Seat, seat, seat_at}
+use Rattle.machine_rules.specs.Agreement.{people_of}
+use Rattle.machine_rules.specs.Cell.{Cell}
+use Rattle.machine_rules.specs.Collect.{collect_at, collect_in, is_marked}
+use Rattle.machine_rules.specs.Facts.{Facts}
+use Rattle.machine_rules.specs.Go.{go_at, go_in}
+use Rattle.machine_rules.specs.Next.{next}
+use Rattle.machine_rules.specs.Plain.{PlainState, plain_go, plain_row, plain_take}
+use Rattle.machine_rules.specs.Run.{go_is_choice_at, is_choice, take_is_choice_at}
+use Rattle.machine_rules.specs.Plain as plain
+use Rattle.machine_rules.specs.PlainRun.{outcome_of}
+use Rattle.machine_rules.specs.State.{State, Goes}
+use Rattle.machine_rules.specs.Take.{take_at, take_in}
+
+module _ (p : PlainState) (s : State) (facts : Facts p s) (t : State) where
+  take_seat : (a : ℕ) (o : Option Seat) → seat_at s.actors a ≡ o → take_at s a o ≡ Goes t → Follows (take_is_choice_at o) (plain_take p a) p t
+  take_seat a None at e = cc
+  take_seat a (Some o) at e = by_frame o.cell.frame refl e
+    where
+      by_frame : (f : Option Frame) → o.cell.frame ≡ f → take_in s a o.cell f o.mail ≡ Goes t → Follows (take_is_choice_at (Some o)) (plain_take p a) p t
+      by_frame None is e = take_follows p s facts a o.cell is None o.mail t is at e
+      by_frame (Some f) is e = cc
+
+  go_seat : (a : ℕ) (o : Option Seat) → seat_at s.actors a ≡ o → go_at s a o ≡ Goes t → Follows (go_is_choice_at s.program a o) (plain_go p a) p t
+  go_seat a None at e = cc
+  go_seat a (Some o) at e = go_follows p s facts a o.cell o.mail at o.cell.frame refl t e
+
+  collect_cell : (a : ℕ) (c : Cell) (mail : List Letter) (f : Option Frame) (dirty : Bool) → c.frame ≡ f → seat_at s.actors a ≡ seat c mail → collect_in s a c f dirty mail ≡ Goes t → Facts p t
+  collect_cell a c mail (Some f) dirty is at e = cc
+  collect_cell a c mail None false is at e = cc
+  collect_cell a c mail None true is at e = follows_on false plain.NotEnabled p _ t e (record {
+    counts = inv_collect (thing_row (plain_row p.actors)) (people_of p.actors) s.actors facts.counts a c mail at is (is_marked a c) (marked_reached a c) (reached_marked a c);
+    program = facts.program;
+    prints = facts.prints;
+    objects = facts.objects;
+  })
+
+  collect_seat : (a : ℕ) (o : Option Seat) → seat_at s.actors a ≡ o → collect_at s a o ≡ Goes t → Facts p t
+  collect_seat a None at e = cc
+  collect_seat a (Some o) at e = collect_cell a o.cell o.mail o.cell.frame o.cell.dirty refl at e
+
+  pub take_kept : (a : ℕ) → next s (Take a) ≡ Goes t → Follows (is_choice s (Take a)) (outcome_of p (Take a)) p t
+  take_kept a e = take_seat a (seat_at s.actors a) refl e
+
+  pub go_kept : (a : ℕ) → next s (Go a) ≡ Goes t → Follows (is_choice s (Go a)) (outcome_of p (Go a)) p t
+  go_kept a e = go_seat a (seat_at s.actors a) refl e
+
+  pub collect_kept : (a : ℕ) → next s (Collect a) ≡ Goes t → Facts p t
+  collect_kept a e = collect_seat a (seat_at s.actors a) refl e
