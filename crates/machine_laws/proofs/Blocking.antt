@@ -20,7 +20,7 @@ use Rattle.machine_laws.specs.Seen.{cell_of, kinds, letters_of, mail_at, world_o
 use Rattle.machine_rules.proofs.Agreeing.{agrees_same}
 use Rattle.machine_rules.proofs.Every.{every_set}
 use Rattle.machine_rules.proofs.InHand.{in_hand, none, out_of_hand}
-use Rattle.machine_rules.proofs.InvTake.{Alike, alike_closed}
+use Rattle.machine_rules.proofs.TakeKeeps.{Alike, alike_closed}
 use Rattle.machine_rules.proofs.Seats.{present_below}
 use Rattle.machine_rules.proofs.Sends.{cell_balanced, cell_prefix}
 use Rattle.machine_rules.specs.Actors.{Actors, Seat, seat, seat_at}

@@ -13,7 +13,7 @@ use Rattle.letter_kinds.specs.declared.letter.Letter.{Letter}
 use Rattle.letter_kinds.specs.declared.letter.Letter.TheVariants.{Dec}
 use Rattle.letter_kinds.specs.declared.note.Note.{Note}
 use Rattle.machine_laws.specs.Seen.{mail_at, world_of, letters_of, kinds, cell_of}
-use Rattle.machine_rules.proofs.InvReap.{every_none}
+use Rattle.machine_rules.proofs.ReapKeeps.{every_none}
 use Rattle.machine_rules.proofs.Reaps.{AllIn}
 use Rattle.machine_rules.proofs.SeatReads.{loads_at-none}
 use Rattle.machine_rules.proofs.Sweeping.{amount-given_back, firm_counted}

@@ -11,7 +11,7 @@ use Rattle.letter_kinds.specs.declared.letter.Letter.{Letter}
 use Rattle.letter_kinds.specs.declared.letter.Letter.TheVariants.{App, Inc, Dec, Confirm}
 use Rattle.letter_kinds.specs.declared.note.Note.{Note}
 use Rattle.machine_laws.specs.Seen.{mail_at, letters_of, kinds, cell_of}
-use Rattle.machine_rules.proofs.InvReap.{AllSealed, Sealed, inv_reap}
+use Rattle.machine_rules.proofs.ReapKeeps.{AllSealed, Sealed, reap_keeps_counts}
 use Rattle.machine_rules.proofs.SeatReads.{loads_at-seat, letter_Confirm}
 use Rattle.machine_rules.proofs.Seats.{present_below}
 use Rattle.machine_rules.specs.Actors.{Seat, Actors, seat_at, seat}
@@ -76,4 +76,4 @@ module _ (s : Actors) (ns : List Note) (t : Token) (all : Thing → Option Row) 
       (sym (ap (λ q. (cell_of q).foreign m) at) ∙ q.held i out, omega (arith, q.unloaded, v, loads_at-seat (Actor m) c ls))
 
   pub reap_keeps : KeepsCounts all ps (reaped t.members t.members [] s)
-  reap_keeps = inv_reap all ps s keeps t.members (all_in t.members t.members (λ m h. h)) members_sealed members_alone
+  reap_keeps = reap_keeps_counts all ps s keeps t.members (all_in t.members t.members (λ m h. h)) members_sealed members_alone

@@ -10,12 +10,11 @@ use Rattle.letter_kinds.specs.Holdings.{Row}
 use Rattle.machine_laws.proofs.Keeping.{KeepsBeside, block_beside, hear_beside, next_keeps, reap_beside, scan_beside}
 use Rattle.machine_laws.proofs.Starting.{start_detects}
 use Rattle.machine_laws.specs.AllFacts.{AllFacts}
-use Rattle.machine_laws.specs.Laws.{EventsKeepAllFacts, IsNeverTooEarly, NeverTooEarly, PlainFollows, RunsHaveAllFacts, StartHasAllFacts}
+use Rattle.machine_laws.specs.Laws.{EventsKeepAllFacts, IsNeverTooEarly, NeverTooEarly, RunsHaveAllFacts, StartHasAllFacts}
 use Rattle.machine_rules.proofs.Cleaning.{clean-first, clean-next}
-use Rattle.machine_rules.proofs.Following.{Follows}
-use Rattle.machine_rules.proofs.Follows.{collect_kept, go_kept, take_kept}
 use Rattle.machine_rules.proofs.Freed.{lives_left}
 use Rattle.machine_rules.proofs.InHand.{in_hand}
+use Rattle.machine_rules.proofs.Acting.{Beside, collects_keep, goes_keep, takes_keep}
 use Rattle.machine_rules.proofs.NoSelf.{no_self-first, no_self-next}
 use Rattle.machine_rules.proofs.Reachable.{reachable_lives}
 use Rattle.machine_rules.proofs.Starting as starting
@@ -27,7 +26,7 @@ use Rattle.machine_rules.specs.Plain as plain
 use Rattle.machine_rules.specs.Plain.{Outcome, PlainState, plain_row, start_of}
 use Rattle.machine_rules.specs.PlainReach.{IsReachable}
 use Rattle.machine_rules.specs.PlainRun.{outcome_of}
-use Rattle.machine_rules.specs.Run.{IsPlainBeside, IsRun, Leads, PlainLeads, choices, choices_after, is_choice}
+use Rattle.machine_rules.specs.Run.{IsPlainBeside, IsRun, Leads, PlainFollows, PlainLeads, choices, choices_after, is_choice}
 use Rattle.machine_rules.specs.State.{State, Step, Goes, first_state}
 
 pub start_all : StartHasAllFacts
@@ -40,15 +39,7 @@ start_all program = record {
 
 -- ---- one event
 
--- the facts beside, and where the plain machine is then
-abbrev Beside : Bool → PlainState → Event → State → Type 0
-Beside choice p e t = (q : PlainState) × PlainFollows choice p e q × Facts q t
-
 module _ (p : PlainState) (s t : State) (facts : AllFacts p s) where
-  followed : (choice : Bool) (e : Event) → Follows choice (outcome_of p e) p t → Beside choice p e t
-  followed true e h = h
-  followed false e h = (p, refl, h)
-
   stayed : (e : Event) → KeepsBeside (thing_row (plain_row p.actors)) (people_of p.actors) s t → Beside false p e t
   stayed e kept = (p, refl, record {
     counts = kept.counts;
@@ -58,9 +49,9 @@ module _ (p : PlainState) (s t : State) (facts : AllFacts p s) where
   })
 
   beside_after : (e : Event) → next s e ≡ Goes t → Beside (is_choice s e) p e t
-  beside_after (Take a) goes = followed (is_choice s (Take a)) (Take a) (take_kept p s facts.beside t a goes)
-  beside_after (Go a) goes = followed (is_choice s (Go a)) (Go a) (go_kept p s facts.beside t a goes)
-  beside_after (Collect a) goes = (p, refl, collect_kept p s facts.beside t a goes)
+  beside_after (Take a) goes = takes_keep a p s t facts.beside goes
+  beside_after (Go a) goes = goes_keep a p s t facts.beside goes
+  beside_after (Collect a) goes = collects_keep a p s t facts.beside goes
   beside_after (Block a) goes = stayed (Block a) (block_beside s t _ _ facts.beside.counts facts.detector a goes)
   beside_after Hear goes = stayed Hear (hear_beside s t _ _ facts.beside.counts facts.detector goes)
   beside_after Scan goes = stayed Scan (scan_beside s t _ _ facts.beside.counts facts.detector goes)

@@ -14,22 +14,15 @@ use Rattle.machine_rules.specs.Balance.{IsBalanced, NeverOverdraws}
 use Rattle.machine_rules.specs.Cell.{Cell}
 use Rattle.machine_rules.specs.Left.{IsFreed, IsLeft}
 use Rattle.machine_rules.specs.Next.{IsQuiet, next}
-use Rattle.machine_rules.specs.Plain as plain
 use Rattle.machine_rules.specs.Plain.{PlainState, start_of}
 use Rattle.machine_rules.specs.PlainReach.{IsReachable}
-use Rattle.machine_rules.specs.PlainRun.{outcome_of}
-use Rattle.machine_rules.specs.Run.{IsPlainBeside, IsRun, is_choice}
+use Rattle.machine_rules.specs.Run.{IsPlainBeside, IsRun, PlainFollows, is_choice}
 use Rattle.machine_rules.specs.State.{State, Goes, first_state}
 
 -- ---- the facts hold
 
 abbrev pub StartHasAllFacts : Type 0
 StartHasAllFacts = (program : Program) → AllFacts (start_of program) (first_state program)
-
--- the plain machine makes a choice too, and stays at any other event
-abbrev pub PlainFollows : Bool → PlainState → Event → PlainState → Type 0
-PlainFollows true p e q = outcome_of p e ≡ plain.Goes q
-PlainFollows false p e q = p ≡ q
 
 -- each event keeps all facts together
 abbrev pub EventsKeepAllFacts : Type 0

@@ -14,7 +14,7 @@ use Rattle.letter_kinds.specs.declared.letter.Letter.{Letter}
 use Rattle.letter_kinds.specs.declared.letter.Letter.TheVariants.{App, Inc, Dec, Confirm}
 use Rattle.letter_kinds.specs.declared.note.Note.{Note}
 use Rattle.machine_rules.proofs.InHand.{take_letter}
-use Rattle.machine_rules.proofs.InvTake.{inv_take, next_receive}
+use Rattle.machine_rules.proofs.TakeKeeps.{take_keeps_counts, next_receive}
 use Rattle.machine_rules.proofs.PlainSide.{StandsAt, objects_kept, people-set, rows_kept, same_rows, stands_beside}
 use Rattle.machine_rules.proofs.Steps.{goes_to}
 use Rattle.machine_rules.specs.Actors.{Actors, Seat, seat, seat_at}
@@ -66,7 +66,7 @@ module _ (p : PlainState) (s : State) (facts : Facts p s) (a : ℕ) (c : Cell) (
       counts = same_rows all (thing_row (plain_row (set p.actors a y))) (people_of (set p.actors a y)) _ (rows_kept p.actors a x beside.there y refl)
           (subst (λ people. KeepsCounts all people (take_letter s.program a c (App b args load) ls s.actors))
           (ap (set (people_of p.actors) a) (sym same) ∙ sym (people-set p.actors a y))
-          (inv_take s.program all (people_of p.actors) s.actors facts.counts a c (App b args load) ls at));
+          (take_keeps_counts s.program all (people_of p.actors) s.actors facts.counts a c (App b args load) ls at));
       program = facts.program;
       prints = facts.prints;
       objects = objects_kept p.actors a x beside.there y refl ∙ facts.objects;
@@ -101,6 +101,6 @@ module _ (p : PlainState) (s : State) (facts : Facts p s) (a : ℕ) (c : Cell) (
   take_follows (Some f) ls t is at e = cc
   take_follows None [] t is at e = cc
   take_follows None (App b args load ∷ ls) t is at e = follows_on true (plain_take p a) p _ t e (app_follows b args load ls _ at)
-  take_follows None (Inc es ∷ ls) t is at e = follows_on false (plain_take p a) p _ t e (stays (Inc es) ls _ (inv_take s.program all (people_of p.actors) s.actors facts.counts a c (Inc es) ls at))
-  take_follows None (Dec es ∷ ls) t is at e = follows_on false (plain_take p a) p _ t e (stays (Dec es) ls _ (inv_take s.program all (people_of p.actors) s.actors facts.counts a c (Dec es) ls at))
-  take_follows None (Confirm k ∷ ls) t is at e = follows_on false (plain_take p a) p _ t e (stays (Confirm k) ls _ (inv_take s.program all (people_of p.actors) s.actors facts.counts a c (Confirm k) ls at))
+  take_follows None (Inc es ∷ ls) t is at e = follows_on false (plain_take p a) p _ t e (stays (Inc es) ls _ (take_keeps_counts s.program all (people_of p.actors) s.actors facts.counts a c (Inc es) ls at))
+  take_follows None (Dec es ∷ ls) t is at e = follows_on false (plain_take p a) p _ t e (stays (Dec es) ls _ (take_keeps_counts s.program all (people_of p.actors) s.actors facts.counts a c (Dec es) ls at))
+  take_follows None (Confirm k ∷ ls) t is at e = follows_on false (plain_take p a) p _ t e (stays (Confirm k) ls _ (take_keeps_counts s.program all (people_of p.actors) s.actors facts.counts a c (Confirm k) ls at))

@@ -27,10 +27,10 @@ use Rattle.machine_rules.proofs.Following.{Follows, follows_on, same_person}
 use Rattle.machine_rules.proofs.Freed.{counted_left, known_left}
 use Rattle.machine_rules.proofs.Going.{Grows, after, exact, held_after, known_load, known_target, left_present, same_turn, turn}
 use Rattle.machine_rules.proofs.InHand.{in_hand}
-use Rattle.machine_rules.proofs.InvMake.{inv_make}
-use Rattle.machine_rules.proofs.InvPost.{inv_mint, inv_post, next_send}
-use Rattle.machine_rules.proofs.InvTake.{next_held}
-use Rattle.machine_rules.proofs.InvTurn.{inv_turn}
+use Rattle.machine_rules.proofs.MakeKeeps.{make_keeps_counts}
+use Rattle.machine_rules.proofs.PostKeeps.{mint_keeps_counts, post_keeps_counts, next_send}
+use Rattle.machine_rules.proofs.TakeKeeps.{next_held}
+use Rattle.machine_rules.proofs.TurnKeeps.{turn_keeps_counts}
 use Rattle.machine_rules.proofs.Lacking.{counted_mint, first_minted, to_mint_theirs}
 use Rattle.machine_rules.proofs.Loads.{load_from-exact, load_from-once}
 use Rattle.machine_rules.proofs.Makes.{IsFresh, fresh_held}
@@ -135,7 +135,7 @@ module _ (p : PlainState) (s : State) (facts : Facts p s) (a : ℕ) (c : Cell) (
   turned_kept : (nf : Option Frame) (nd : Bool) → ((z : Thing) → InFrame nf z → Names stop.turn.registers z)
       → KeepsCounts all' (set (people_of p.actors) a (person_of (turned stop nf nd c) ls)) (set s.actors a (seat (turned stop nf nd c) ls))
   unfolding turn after
-  turned_kept nf nd names = inv_turn s.program all all' (people_of p.actors) s.actors facts.counts a c ls at f is grows nf nd names
+  turned_kept nf nd names = turn_keeps_counts s.program all all' (people_of p.actors) s.actors facts.counts a c ls at f is grows nf nd names
 
   -- the rows do not depend on the frame
   rows_of : (nf : Option Frame) (z : Thing) → all' z ≡ thing_row (plain_row (set p.actors a (y nf))) z
@@ -188,7 +188,7 @@ module _ (p : PlainState) (s : State) (facts : Facts p s) (a : ℕ) (c : Cell) (
       (made_by register (length s.actors) (fresh_cell s.program kind) s.actors)
   made_kept kind register =
       let fresh = fresh_cell s.program kind in
-      let one = inv_make all' (set (people_of p.actors) a (person_of c1 ls)) s1 kept1 a c1 ls at1 stopped refl register fresh (fresh_is s.program kind) (fresh_blank s.program kind) refl in
+      let one = make_keeps_counts all' (set (people_of p.actors) a (person_of c1 ls)) s1 kept1 a c1 ls at1 stopped refl register fresh (fresh_is s.program kind) (fresh_blank s.program kind) refl in
       let two : KeepsCounts all' (set (set (people_of p.actors) a (person_of c1 ls)) a (person_of (maker register (length s.actors)) ls) ++ person_of fresh [] ∷ []) (made_by register (length s.actors) fresh s1) =
       subst (λ n. KeepsCounts all' (set (set (people_of p.actors) a (person_of c1 ls)) a (person_of (maker register n) ls) ++ person_of fresh [] ∷ []) (made_by register n fresh s1)) (length-set s.actors a (seat c1 ls)) one in
       let three : KeepsCounts all' (set (people_of p.actors) a (person_of (maker register (length s.actors)) ls) ++ person_of fresh [] ∷ []) (made_by register (length s.actors) fresh s1) =
@@ -256,7 +256,7 @@ module _ (p : PlainState) (s : State) (facts : Facts p s) (a : ℕ) (c : Cell) (
 
     posted_kept : lacking a c1.holdings load ≡ [] → KeepsCounts all' (set turned_people to (with_letter b args (person_at turned_people to))) (post a c1 ls to b args load s.actors)
     posted_kept full =
-        let one = inv_post all' turned_people s1 kept1 a c1 ls at1 to b args load exact1 (load_from-once a c1.holdings args) known1 known_to full in
+        let one = post_keeps_counts all' turned_people s1 kept1 a c1 ls at1 to b args load exact1 (load_from-once a c1.holdings args) known1 known_to full in
         let same : set turned_people a (person_of sender ls) ≡ turned_people =
         set-set (people_of p.actors) a (person_of c1 ls) (person_of sender ls) ∙ ap (set (people_of p.actors) a) (ap (λ next. record (person_of c1 ls) { serial = next }) (next_send a load c1.holdings)) in
         let two : KeepsCounts all' (set turned_people to (with_letter b args (person_at turned_people to))) (post a c1 ls to b args load s1) =
@@ -314,7 +314,7 @@ module _ (p : PlainState) (s : State) (facts : Facts p s) (a : ℕ) (c : Cell) (
 
     mint_follows : (e : Loaded) (es : List Loaded) → lacking a c1.holdings load ≡ e ∷ es → Facts p (record s { actors = mint a c ls (owner_of e.0) (to_mint (owner_of e.0) (e ∷ es)) s.actors })
     mint_follows e es l = record {
-      counts = inv_mint all (people_of p.actors) s.actors facts.counts a c ls at (owner_of e.0) (to_mint (owner_of e.0) (e ∷ es)) (theirs e es l) (counted_mint (owner_of e.0) (e ∷ es))
+      counts = mint_keeps_counts all (people_of p.actors) s.actors facts.counts a c ls at (owner_of e.0) (to_mint (owner_of e.0) (e ∷ es)) (theirs e es l) (counted_mint (owner_of e.0) (e ∷ es))
           (held_present e.0 (theirs e es l e.0 (first_minted e es)).1);
       program = facts.program;
       prints = facts.prints;

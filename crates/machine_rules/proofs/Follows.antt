@@ -7,7 +7,7 @@ use Rattle.event_rule.specs.declared.event.Event.TheVariants.{Take, Go, Collect}
 use Rattle.letter_kinds.specs.declared.letter.Letter.{Letter}
 use Rattle.machine_rules.proofs.Following.{Follows, follows_on, take_follows}
 use Rattle.machine_rules.proofs.FollowingGo.{go_follows}
-use Rattle.machine_rules.proofs.InvCollect.{inv_collect}
+use Rattle.machine_rules.proofs.CollectKeeps.{collect_keeps_counts}
 use Rattle.machine_rules.proofs.Loads.{marked_reached, reached_marked}
 use Rattle.machine_rules.specs.Actors.{Seat, seat, seat_at}
 use Rattle.machine_rules.specs.Agreement.{people_of}
@@ -40,7 +40,7 @@ module _ (p : PlainState) (s : State) (facts : Facts p s) (t : State) where
   collect_cell a c mail (Some f) dirty is at e = cc
   collect_cell a c mail None false is at e = cc
   collect_cell a c mail None true is at e = follows_on false plain.NotEnabled p _ t e (record {
-    counts = inv_collect (thing_row (plain_row p.actors)) (people_of p.actors) s.actors facts.counts a c mail at is (is_marked a c) (marked_reached a c) (reached_marked a c);
+    counts = collect_keeps_counts (thing_row (plain_row p.actors)) (people_of p.actors) s.actors facts.counts a c mail at is (is_marked a c) (marked_reached a c) (reached_marked a c);
     program = facts.program;
     prints = facts.prints;
     objects = facts.objects;

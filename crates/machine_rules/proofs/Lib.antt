@@ -1,6 +1,8 @@
+pub mod Acting
 pub mod Agreeing
 pub mod Changing
 pub mod Cleaning
+pub mod CollectKeeps
 pub mod Every
 pub mod Finite
 pub mod Following
@@ -10,17 +12,12 @@ pub mod Freed
 pub mod Global
 pub mod Going
 pub mod InHand
-pub mod InvCollect
-pub mod InvMake
-pub mod InvPost
-pub mod InvReap
-pub mod InvTake
-pub mod InvTurn
 pub mod Lacking
 pub mod Living
 pub mod Loads
 pub mod Local
 pub mod Locals
+pub mod MakeKeeps
 pub mod Makes
 pub mod Minting
 pub mod Naming
@@ -31,8 +28,10 @@ pub mod Paths
 pub mod PlainGrowth
 pub mod PlainRuns
 pub mod PlainSide
+pub mod PostKeeps
 pub mod Posting
 pub mod Reachable
+pub mod ReapKeeps
 pub mod Reaps
 pub mod Receiving
 pub mod Rest
@@ -47,5 +46,7 @@ pub mod Starting
 pub mod Steps
 pub mod Sweeping
 pub mod Sweeps
+pub mod TakeKeeps
 pub mod Takes
+pub mod TurnKeeps
 pub mod Turns

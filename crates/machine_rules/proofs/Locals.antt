@@ -33,7 +33,7 @@ use Rattle.machine_rules.specs.State.{State, NotEnabled, IsFull, Goes, first_sta
 use Rattle.machine_rules.specs.Take.{cell_after, take_at, take_in}
 use Rattle.machine_rules.proofs.Every.{every_set, every_push, every_decs, every_more}
 use Rattle.machine_rules.proofs.Lacking.{to_mint_theirs}
-use Rattle.machine_rules.proofs.InvReap.{every_reap}
+use Rattle.machine_rules.proofs.ReapKeeps.{every_reap}
 use Rattle.machine_rules.proofs.Local.{Local}
 use Rattle.machine_rules.proofs.Seats.{present_below}
 

@@ -9,6 +9,7 @@ pub mod Detect
 pub mod Facts
 pub mod Go
 pub mod Known
+pub mod Laws
 pub mod Left
 pub mod Next
 pub mod Plain

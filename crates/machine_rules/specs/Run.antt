@@ -94,3 +94,8 @@ PlainLeads s (e ∷ events) t = (u : PlainState) × (outcome_of s e ≡ plain.Go
 -- p is the state of the machine that frees nothing, after the choices of the book
 abbrev pub IsPlainBeside : Program → List Event → PlainState → Type 0
 IsPlainBeside program book p = PlainLeads (start_of program) (choices book (first_state program)) p
+
+-- the plain machine makes a choice too, and stays at any other event
+abbrev pub PlainFollows : Bool → PlainState → Event → PlainState → Type 0
+PlainFollows true p e q = outcome_of p e ≡ plain.Goes q
+PlainFollows false p e q = p ≡ q

@@ -1,12 +1,20 @@
 //! The rules of the machines that run programs: their states, and what each event makes of a state.
 //!
-//! The rules stand in `specs/`, a file a topic; here is the data that they speak of.
+//! The rules stand in `specs/`, a file a topic; here is the data that they speak of, and the laws of
+//! the machine that collects, as far as they need nothing of its detector.
 #![tactic(auto)]
+
+mod laws;
 
 use behaviour_code::Name;
 use orca_names::{Args, Fields, Row};
 use plain_list::{Listed, Queue};
 use turn_rules::Frame;
+
+pub use laws::{
+    clean_cells_stay_swept, no_actor_gets_a_count_on_its_own,
+    take_go_and_collect_keep_the_facts, the_start_has_the_facts,
+};
 
 /// An application letter: the name of a behaviour, and the arguments.
 #[derive(Clone, Copy, Debug)]

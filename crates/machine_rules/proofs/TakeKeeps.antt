@@ -195,9 +195,9 @@ people_after program a c (Inc es) ls ps = ps
 people_after program a c (Dec es) ls ps = ps
 people_after program a c (Confirm t) ls ps = ps
 
-pub inv_take : (program : Program) (all : Thing → Option Row) (ps : List Person) (s : Actors) (inv : KeepsCounts all ps s)
+pub take_keeps_counts : (program : Program) (all : Thing → Option Row) (ps : List Person) (s : Actors) (inv : KeepsCounts all ps s)
     (a : ℕ) (c : Cell) (l : Letter) (ls : List Letter) (at : seat_at s a ≡ seat c (l ∷ ls)) → KeepsCounts all (people_after program a c l ls ps) (take_letter program a c l ls s)
-inv_take program all ps s inv a c (App b args load) ls at =
+take_keeps_counts program all ps s inv a c (App b args load) ls at =
     let l = App b args load in
     let letter : PlainLetter = record { behaviour = b; args = args } in
     let here = inv.sound a c (l ∷ ls) at in
@@ -212,6 +212,6 @@ inv_take program all ps s inv a c (App b args load) ls at =
     (next_receive a load c.holdings)
     (firm_receive a load c.holdings (inv.firm a c (l ∷ ls) at))
     (agrees_set ps s a c _ (l ∷ ls) ls at (let z = present_below s a _ at in let w = inv.long in omega arith) inv.agrees)
-inv_take program all ps s inv a c (Inc es) ls at = alike_take program all ps s inv a c (Inc es) ls at _ true false refl (alike_raise a es c.holdings) refl
-inv_take program all ps s inv a c (Dec es) ls at = alike_take program all ps s inv a c (Dec es) ls at _ true false refl (alike_lower a es c.holdings) refl
-inv_take program all ps s inv a c (Confirm t) ls at = alike_take program all ps s inv a c (Confirm t) ls at c.holdings c.dirty c.reported refl (alike_self a c.holdings) refl
+take_keeps_counts program all ps s inv a c (Inc es) ls at = alike_take program all ps s inv a c (Inc es) ls at _ true false refl (alike_raise a es c.holdings) refl
+take_keeps_counts program all ps s inv a c (Dec es) ls at = alike_take program all ps s inv a c (Dec es) ls at _ true false refl (alike_lower a es c.holdings) refl
+take_keeps_counts program all ps s inv a c (Confirm t) ls at = alike_take program all ps s inv a c (Confirm t) ls at c.holdings c.dirty c.reported refl (alike_self a c.holdings) refl

@@ -39,8 +39,8 @@ module _ (all : Thing → Option Row) (ps : List Person) (s : Actors) (inv : Kee
   same_person : person_of c ls ≡ person_of swept ls
   same_person i = record (person_of c ls) { serial = sym (next-sweep marked a c.holdings) i }
 
-  pub inv_collect : KeepsCounts all ps (collected marked a c ls s)
-  inv_collect =
+  pub collect_keeps_counts : KeepsCounts all ps (collected marked a c ls s)
+  collect_keeps_counts =
       let here = inv.sound a c ls at in
       let decs = by_owner (given_back marked c.holdings) in
       record {

@@ -51,8 +51,8 @@ module _ (program : Program) (all all' : Thing → Option Row) (ps : List Person
         (λ new. absurd (let q = new.2 in let w = new.1 in let o : b ≡ a = ap owner_of q in let h = past o in let i : k ≡ c.holdings.next + new.0 = same_serial a b (c.holdings.next + new.0) k q in omega arith))
         (grows.only (object b k))
 
-    pub inv_turn : KeepsCounts all' (set ps a (person_of c1 ls)) (set s a (seat c1 ls))
-    inv_turn = record {
+    pub turn_keeps_counts : KeepsCounts all' (set ps a (person_of c1 ls)) (set s a (seat c1 ls))
+    turn_keeps_counts = record {
       balanced = out_of_hand _ (cell_balanced s a c c1 ls at none none none none
           (λ x is. let o = own_after program all all' ps s inv a c ls at f frame grows nf nd names_nf x in let h = held_after program all all' ps s inv a c ls at f frame grows nf nd names_nf x in omega arith)
           (λ x not. let h = held_after program all all' ps s inv a c ls at f frame grows nf nd names_nf x in omega arith)

@@ -162,8 +162,8 @@ module _ (all : Thing → Option Row) (ps : List Person) (s : Actors) (inv : Kee
   }
 
   -- a reap
-  pub inv_reap : KeepsCounts all ps (reaped ms ms [] s)
-  inv_reap =
+  pub reap_keeps_counts : KeepsCounts all ps (reaped ms ms [] s)
+  reap_keeps_counts =
       let both = reap_keeps ms ms [] s none none ins (ready_all ms is_sealed) under in
       record {
         balanced = out_of_hand _ both.0;

@@ -18,7 +18,7 @@ use Rattle.machine_rules.proofs.Freed.{known_left}
 use Rattle.machine_rules.proofs.Global.{sound_push, sound_set}
 use Rattle.machine_rules.proofs.Going.{left_present}
 use Rattle.machine_rules.proofs.InHand.{AllCounted, in_hand, out_of_hand}
-use Rattle.machine_rules.proofs.InvTake.{firm_set_held, firm_set_own, next_held, next_own}
+use Rattle.machine_rules.proofs.TakeKeeps.{firm_set_held, firm_set_own, next_held, next_own}
 use Rattle.machine_rules.proofs.Lacking.{filter_none, no_load, one_or_more, some_load}
 use Rattle.machine_rules.proofs.Minting.{mint_closed, mint_rows}
 use Rattle.machine_rules.proofs.Seats.{IsPresent, present_below}
@@ -91,8 +91,8 @@ module _ (all : Thing → Option Row) (ps : List Person) (s : Actors) (inv : Kee
   abbrev people : List Person
   people = set ps a (person_of sender ls)
 
-  pub inv_post : KeepsCounts all (set people to (with_letter b args (person_at people to))) (post a c ls to b args load s)
-  inv_post = record {
+  pub post_keeps_counts : KeepsCounts all (set people to (with_letter b args (person_at people to))) (post a c ls to b args load s)
+  post_keeps_counts = record {
     balanced = out_of_hand _ (post_balanced s a c c ls at to b args load (λ x o. refl) (λ x. refl) has_load (λ x o. no_load (times_loaded x load) (held_in c.holdings x) (enough x o)) target (in_hand s inv.balanced));
     prefixes = post_prefix s a c c ls at to b args load (λ x o. refl) (λ x. refl) has_load (λ x o. no_load (times_loaded x load) (held_in c.holdings x) (enough x o)) target (in_hand s inv.balanced) inv.prefixes;
     sound = sound_push all sent to (App b args load) there.0 there.1 exact
@@ -144,8 +144,8 @@ module _ (all : Thing → Option Row) (ps : List Person) (s : Actors) (inv : Kee
   same_person : person_of c ls ≡ person_of minter ls
   same_person i = record (person_of c ls) { serial = sym (next_mint es c.holdings) i }
 
-  pub inv_mint : KeepsCounts all ps (mint a c ls b es s)
-  inv_mint = record {
+  pub mint_keeps_counts : KeepsCounts all ps (mint a c ls b es s)
+  mint_keeps_counts = record {
     balanced = out_of_hand _ (mint_balanced s a c ls at b es theirs target (in_hand s inv.balanced));
     prefixes = mint_prefix s a c ls at b es theirs target (in_hand s inv.balanced) inv.prefixes;
     sound = sound_push all minted b (Inc es) in_b.0 in_b.1 tt

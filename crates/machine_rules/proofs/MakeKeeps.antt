@@ -16,7 +16,7 @@ use Rattle.letter_kinds.specs.declared.letter.Letter.{Letter}
 use Rattle.machine_rules.proofs.Agreeing.{agrees_set, apart}
 use Rattle.machine_rules.proofs.Every.{every_more, every_set}
 use Rattle.machine_rules.proofs.InHand.{in_hand, out_of_hand}
-use Rattle.machine_rules.proofs.InvTake.{firm_set_held, next_held}
+use Rattle.machine_rules.proofs.TakeKeeps.{firm_set_held, next_held}
 use Rattle.machine_rules.proofs.Makes.{IsFresh, fresh_held, given, given_other, held_given, make_balanced, make_prefix, more_last, more_other}
 use Rattle.machine_rules.proofs.Naming.{set_names}
 use Rattle.machine_rules.proofs.Paths.{along_row, reach_into}
@@ -165,8 +165,8 @@ module _ (all : Thing → Option Row) (ps : List Person) (s : Actors) (inv : Kee
   wide : length first ≡ n
   wide = length-set s a _
 
-  pub inv_make : KeepsCounts all (set ps a (person_of c2 ls) ++ person_of fresh [] ∷ []) (make a c1 ls fresh s)
-  inv_make = record {
+  pub make_keeps_counts : KeepsCounts all (set ps a (person_of c2 ls) ++ person_of fresh [] ∷ []) (make a c1 ls fresh s)
+  make_keeps_counts = record {
     balanced = out_of_hand _ (make_balanced s a c c1 ls at (λ x. refl) (λ x. refl) fresh is_fresh (in_hand s inv.balanced));
     prefixes = make_prefix s a c c1 ls at (λ x. refl) (λ x. refl) fresh is_fresh inv.prefixes;
     sound = every_more (IsSoundAt all) first fresh [] (rw wide (record { closed = closed-fresh; rows = rows-fresh; loads = tt }))

@@ -1,0 +1,37 @@
+-- The laws of take, go and collect, and of what speaks of one actor alone.
+use Rattle.std.proofs.Common.{◌≡◌, ℕ, Bool, true, false, refl}
+use Rattle.event_rule.specs.declared.event.Event.{Event}
+use Rattle.event_rule.specs.declared.event.Event.TheVariants.{Take, Go, Collect}
+use Rattle.machine_rules.proofs.Cleaning.{clean-first, clean-next}
+use Rattle.machine_rules.proofs.Following.{Follows}
+use Rattle.machine_rules.proofs.Follows.{collect_kept, go_kept, take_kept}
+use Rattle.machine_rules.proofs.NoSelf.{no_self-first, no_self-next}
+use Rattle.machine_rules.specs.Facts.{Facts}
+use Rattle.machine_rules.specs.Laws.{CleanStaySwept, CollectsKeepFacts, GoesKeepFacts, NoneGetsItsOwn, TakesKeepFacts}
+use Rattle.machine_rules.specs.Plain.{PlainState}
+use Rattle.machine_rules.specs.PlainRun.{outcome_of}
+use Rattle.machine_rules.specs.Run.{PlainFollows, is_choice}
+use Rattle.machine_rules.specs.State.{State}
+
+-- the facts beside, and where the plain machine is then
+abbrev pub Beside : Bool → PlainState → Event → State → Type 0
+Beside choice p e t = (q : PlainState) × PlainFollows choice p e q × Facts q t
+
+pub followed : (choice : Bool) (p : PlainState) (e : Event) (t : State) → Follows choice (outcome_of p e) p t → Beside choice p e t
+followed true p e t h = h
+followed false p e t h = (p, refl, h)
+
+pub takes_keep : TakesKeepFacts
+takes_keep a p s t facts goes = followed (is_choice s (Take a)) p (Take a) t (take_kept p s facts t a goes)
+
+pub goes_keep : GoesKeepFacts
+goes_keep a p s t facts goes = followed (is_choice s (Go a)) p (Go a) t (go_kept p s facts t a goes)
+
+pub collects_keep : CollectsKeepFacts
+collects_keep a p s t facts goes = (p, refl, collect_kept p s facts t a goes)
+
+pub clean_stay_swept : CleanStaySwept
+clean_stay_swept = (clean-first, clean-next)
+
+pub none_gets_its_own : NoneGetsItsOwn
+none_gets_its_own = (no_self-first, no_self-next)

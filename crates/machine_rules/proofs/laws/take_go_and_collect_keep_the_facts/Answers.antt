@@ -1,0 +1,11 @@
+use Rattle.machine_rules.proofs.Acting.{takes_keep, goes_keep, collects_keep}
+use Rattle.machine_rules.proofs.laws.take_go_and_collect_keep_the_facts.Goals as goal
+
+pub returns-clause-take : goal.returns-clause-take
+returns-clause-take c = takes_keep
+
+pub returns-clause-go : goal.returns-clause-go
+returns-clause-go c = goes_keep
+
+pub returns-clause-collect : goal.returns-clause-collect
+returns-clause-collect c = collects_keep

@@ -1,0 +1,37 @@
+-- What take, go and collect keep, and what every event keeps of each actor.
+use Rattle.std.specs.Prelude.{ℕ, ◌≡◌}
+use Rattle.behaviour_code.specs.declared.code.Program.{Program}
+use Rattle.event_rule.specs.declared.event.Event.{Event}
+use Rattle.event_rule.specs.declared.event.Event.TheVariants.{Take, Go, Collect}
+use Rattle.machine_rules.specs.Clean.{CleanAreSwept, NoneHoldsItsOwn}
+use Rattle.machine_rules.specs.Facts.{Facts}
+use Rattle.machine_rules.specs.Next.{next}
+use Rattle.machine_rules.specs.Plain.{PlainState, start_of}
+use Rattle.machine_rules.specs.Run.{PlainFollows, is_choice}
+use Rattle.machine_rules.specs.State.{State, Goes, first_state}
+
+abbrev pub StartHasFacts : Type 0
+StartHasFacts = (program : Program) → Facts (start_of program) (first_state program)
+
+-- the event keeps the facts, beside the plain machine that makes the same choice
+abbrev pub KeepsFacts : Event → Type 0
+KeepsFacts e = (p : PlainState) (s t : State) → Facts p s → next s e ≡ Goes t → (q : PlainState) × PlainFollows (is_choice s e) p e q × Facts q t
+
+abbrev pub TakesKeepFacts : Type 0
+TakesKeepFacts = (a : ℕ) → KeepsFacts (Take a)
+
+abbrev pub GoesKeepFacts : Type 0
+GoesKeepFacts = (a : ℕ) → KeepsFacts (Go a)
+
+abbrev pub CollectsKeepFacts : Type 0
+CollectsKeepFacts = (a : ℕ) → KeepsFacts (Collect a)
+
+-- at the start and after every event, clean cells are swept
+abbrev pub CleanStaySwept : Type 0
+CleanStaySwept = ((program : Program) → CleanAreSwept (first_state program).actors)
+    × ((s t : State) (e : Event) → next s e ≡ Goes t → CleanAreSwept s.actors → CleanAreSwept t.actors)
+
+-- at the start and after every event, no actor holds a count on a thing of its own
+abbrev pub NoneGetsItsOwn : Type 0
+NoneGetsItsOwn = ((program : Program) → NoneHoldsItsOwn (first_state program).actors)
+    × ((s t : State) (e : Event) → next s e ≡ Goes t → NoneHoldsItsOwn s.actors → NoneHoldsItsOwn t.actors)

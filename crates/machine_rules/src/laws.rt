@@ -1,0 +1,28 @@
+// What the machine that collects keeps beside the machine that frees nothing.
+
+ghost use Rattle.machine_rules.specs.Laws.{StartHasFacts, TakesKeepFacts, GoesKeepFacts, CollectsKeepFacts, CleanStaySwept, NoneGetsItsOwn};
+
+/// Where a run begins, both machines agree, and the counts are kept.
+pub fn the_start_has_the_facts()
+    ensures { StartHasFacts }
+{}
+
+/// An actor that takes, goes on or collects keeps the facts, and the machine that frees nothing makes
+/// each choice of it: a take of an application letter, and a go that does not mint
+/// (Orca, OOPSLA 2017).
+pub fn take_go_and_collect_keep_the_facts()
+    ensures take { TakesKeepFacts }
+    ensures go { GoesKeepFacts }
+    ensures collect { CollectsKeepFacts }
+{}
+
+/// An idle actor that did nothing since it collected holds nothing that its fields do not reach, and
+/// owns no object that is neither reached nor counted. Every event keeps this.
+pub fn clean_cells_stay_swept()
+    ensures { CleanStaySwept }
+{}
+
+/// No event gives an actor a count on itself or on an object of its own.
+pub fn no_actor_gets_a_count_on_its_own()
+    ensures { NoneGetsItsOwn }
+{}
