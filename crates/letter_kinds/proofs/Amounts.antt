@@ -1,3 +1,4 @@
+-- What increments, decrements and minting do to each count.
 use Rattle.std.proofs.Common.{◌≡◌, ◌⊎◌, ℕ, suc, zero, ◌+◌, ◌-◌, ◌<◌, ◌==◌, Bool, true, false, cond, List, [], ◌∷◌, refl, ap, sym, ◌∙◌, arith, inl, inr, ⊎_elim}
 use Rattle.std.specs.FinMap as m
 use Rattle.std.proofs.lemmas.Bool.{cases_eq}

@@ -23,7 +23,7 @@ abbrev pub Entries : Type 0
 Entries = m.FinMap thing_cmp (ℕ × Option Row)
 
 pub record Holdings : Type 0 where
-  -- how often others hold the actor itself
+  -- the count on the actor itself: what others hold and letters load, as far as it was told
   pub count : ℕ
   pub rows : OwnRows
   -- the serial that its next object gets

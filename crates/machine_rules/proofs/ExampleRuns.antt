@@ -13,7 +13,8 @@ use Rattle.reach_walk.specs.Marks.{led_to, marks_of}
 use Rattle.letter_kinds.specs.Counting.{by_owner}
 use Rattle.letter_kinds.specs.Detector.{closed_set}
 use Rattle.letter_kinds.specs.Holdings.{has_own}
-use Rattle.machine_rules.proofs.LedgerSteps.{Page, first_page, after_all, after_all-leads, state_told, seats_told}
+use Rattle.machine_rules.proofs.LedgerSteps.{Page, first_page, after_all, after_all-leads, state_told}
+use Rattle.machine_rules.proofs.Places.{seats_told}
 use Rattle.machine_rules.specs.Actors.{Actors, Seat, seat_at}
 use Rattle.machine_rules.specs.Block.{block_at, block_in, no_letters}
 use Rattle.machine_rules.specs.Collect.{collect_at, collect_in}

@@ -1,6 +1,6 @@
 -- The machine on ledgers leads where the machine leads.
-use Rattle.std.proofs.Common.{◌≡◌, ℕ, zero, suc, ◌+◌, Bool, true, false, if◌then◌else◌, List, [], ◌∷◌, ◌++◌, length, map, set, get_or, nat_lt, Option, Some, None, refl, ap, sym, ◌∙◌, subst}
-use Rattle.std.proofs.lemmas.List.{length-map, map-append, map-set}
+use Rattle.std.proofs.Common.{◌≡◌, ℕ, suc, ◌+◌, Bool, true, false, if◌then◌else◌, List, [], ◌∷◌, ◌++◌, length, set, nat_lt, Option, Some, None, refl, ap, sym, ◌∙◌, subst}
+use Rattle.std.proofs.lemmas.List.{length-map, map-append}
 use Rattle.std.specs.List.{list_any}
 use Rattle.std.specs.Option.{option_map_or}
 use Rattle.orca_names.specs.Names.{is_thing, owner_of}
@@ -22,97 +22,18 @@ use Rattle.letter_kinds.specs.declared.letter.Letter.TheVariants.{App, Inc, Dec,
 use Rattle.letter_kinds.specs.declared.note.Note.{Note}
 use Rattle.letter_kinds.specs.declared.note.Note.TheVariants as notes
 use Rattle.machine_rules.proofs.Ledgers.{Ledger, told, empty_ledger, row_told, row_of-told, objects_told, known_objects-told, actors_told, held_actors-told, change_held, set_held-told, take_load, receive-told, give_load, send-told, raise_told, raise_all-told, lower_told, lower_all-told, mint_told, mint_all-told, lacking_told, lacking-told, make_told, with_made-told, sweep_told, sweep-told, back_told, given_back-told}
-use Rattle.machine_rules.specs.Actors.{Actors, Seat, push_decs, push_letter, seat, seat_at, with_letter_more}
+use Rattle.machine_rules.specs.Actors.{Seat, push_decs, push_letter, seat, seat_at}
 use Rattle.machine_rules.specs.Block.{block_at, block_in, may_block}
 use Rattle.machine_rules.specs.Cell.{Cell, first_cell, fresh_cell}
 use Rattle.machine_rules.specs.Collect.{collect_at, collect_in, collected, is_marked}
-use Rattle.machine_rules.specs.Detect.{ask_all, hear_in, scan_in, reap_in, held_outside, reap_found, reaped}
+use Rattle.machine_rules.specs.Detect.{hear_in, scan_in, reap_in, held_outside, reap_found, reaped}
 use Rattle.machine_rules.specs.Go.{act_in, go_at, go_in, load_from, post_or_mint, turn_of_cell, turned}
 use Rattle.machine_rules.specs.Next.{next}
 use Rattle.machine_rules.specs.Plain.{stopped_at, with_name}
 use Rattle.machine_rules.specs.Run.{Leads}
 use Rattle.machine_rules.specs.State.{State, Step, IsFull, Goes, first_state, start_letters}
 use Rattle.machine_rules.specs.Take.{cell_after, note_of, notes_after, take_at, take_in}
-
--- ---- places
-
--- an actor that is present; its holdings stand in the ledger, and those of the cell count for nothing
-pub record Place : Type 0 where
-  pub cell : Cell
-  pub ledger : Ledger
-  pub mail : List Letter
-
--- all actors ever made, by number; none where the actor is gone
-abbrev pub Places : Type 0
-Places = List (Option Place)
-
--- the cell with the holdings of the ledger
-abbrev cell_told : Place → Cell
-cell_told o = record o.cell { holdings = told o.ledger }
-
--- the seat of a place
-abbrev seat_told : Option Place → Option Seat
-seat_told None = None
-seat_told (Some o) = seat (cell_told o) o.mail
-
--- the actors in their places
-abbrev pub seats_told : Places → Actors
-seats_told places = map seat_told places
-
--- a present actor
-abbrev place : Cell → Ledger → List Letter → Option Place
-place cell ledger mail = Some (record { cell = cell; ledger = ledger; mail = mail })
-
--- the place of a number
-abbrev place_at : Places → ℕ → Option Place
-place_at places a = get_or places a None
-
-seat_at-told : (places : Places) (a : ℕ) → seat_at (seats_told places) a ≡ seat_told (place_at places a)
-seat_at-told [] a = refl
-seat_at-told (o ∷ places) zero = refl
-seat_at-told (o ∷ places) (suc a) = seat_at-told places a
-
-set-told : (places : Places) (a : ℕ) (o : Option Seat) (p : Option Place) → o ≡ seat_told p → set (seats_told places) a o ≡ seats_told (set places a p)
-set-told places a o p e = ap (set (seats_told places) a) e ∙ sym (map-set seat_told places a p)
-
--- ---- posting
-
--- one letter more
-abbrev mail_more : Letter → Option Place → Option Place
-mail_more letter None = None
-mail_more letter (Some o) = Some (record o { mail = o.mail ++ letter ∷ [] })
-
-mail-told : (letter : Letter) (o : Option Place) → with_letter_more letter (seat_told o) ≡ seat_told (mail_more letter o)
-mail-told letter None = refl
-mail-told letter (Some o) = refl
-
--- a letter for an actor
-abbrev push_told : ℕ → Letter → Places → Places
-push_told to letter places = set places to (mail_more letter (place_at places to))
-
-push_letter-told : (to : ℕ) (letter : Letter) (places : Places) → push_letter to letter (seats_told places) ≡ seats_told (push_told to letter places)
-unfolding push_letter
-push_letter-told to letter places =
-    set-told places to _ (mail_more letter (place_at places to)) (ap (with_letter_more letter) (seat_at-told places to) ∙ mail-told letter (place_at places to))
-
--- to each of these owners one Dec
-abbrev decs_told : List (ℕ × List Amount) → Places → Places
-decs_told [] places = places
-decs_told (group ∷ groups) places = decs_told groups (push_told group.0 (Dec group.1) places)
-
-push_decs-told : (groups : List (ℕ × List Amount)) (places : Places) → push_decs groups (seats_told places) ≡ seats_told (decs_told groups places)
-unfolding push_decs
-push_decs-told [] places = refl
-push_decs-told (group ∷ groups) places = ap (push_decs groups) (push_letter-told group.0 (Dec group.1) places) ∙ push_decs-told groups _
-
--- a Confirm of the token to each of these
-abbrev asked_told : List ℕ → ℕ → Places → Places
-asked_told [] token places = places
-asked_told (a ∷ members) token places = asked_told members token (push_told a (Confirm token) places)
-
-ask_all-told : (members : List ℕ) (token : ℕ) (places : Places) → ask_all members token (seats_told places) ≡ seats_told (asked_told members token places)
-ask_all-told [] token places = refl
-ask_all-told (a ∷ members) token places = ap (ask_all members token) (push_letter-told a (Confirm token) places) ∙ ask_all-told members token _
+use Rattle.machine_rules.proofs.Places.{Place, Places, seats_told, cell_told, seat_told, place, place_at, seat_at-told, set-told, push_told, push_letter-told, decs_told, push_decs-told, asked_told, ask_all-told}
 
 -- ---- states
 
@@ -212,29 +133,31 @@ post-told : (b : Page) (a : ℕ) (before after : Place) (stop : Stop) (to behavi
 post-told b a before after stop to behaviour args load [] same =
     ap (λ actors. record b.state { actors = actors; objects = b.state.objects + length stop.turn.made })
     (ap (push_letter to (App behaviour args load))
-      (set-told b.places a _ (place after.cell (give_load a load after.ledger) after.mail)
-        (λ i. seat (record after.cell { holdings = send-told a load after.ledger i }) (sym same i)))
+    (set-told b.places a _ (place after.cell (give_load a load after.ledger) after.mail)
+    (λ i. seat (record after.cell { holdings = send-told a load after.ledger i }) (sym same i)))
     ∙ push_letter-told to (App behaviour args load) _)
 post-told b a before after stop to behaviour args load (e ∷ lacked) same =
     let things : List Amount = to_mint (owner_of e.0) (e ∷ lacked) in
     ap (λ actors. record b.state { actors = actors })
     (ap (push_letter (owner_of e.0) (Inc things))
-      (set-told b.places a _ (place before.cell (mint_told things before.ledger) before.mail)
-        (ap (λ h. seat (record before.cell { holdings = h }) before.mail) (mint_all-told things before.ledger)))
+    (set-told b.places a _ (place before.cell (mint_told things before.ledger) before.mail)
+    (ap (λ h. seat (record before.cell { holdings = h }) before.mail) (mint_all-told things before.ledger)))
     ∙ push_letter-told (owner_of e.0) (Inc things) _)
 
 -- after the act of a turn
 abbrev acted : Page → ℕ → Place → Frame → Stop → Act → Option Page
 acted b a o frame stop End = Some (with_turn_told b stop (set b.places a (Some (place_turned stop None true o))))
 acted b a o frame stop (Print value) =
-    Some (record { state = record b.state { objects = b.state.objects + length stop.turn.made; prints = b.state.prints ++ value ∷ [] };
-    places = set b.places a (Some (place_turned stop (Some frame) o.cell.dirty o)) })
+    Some (record {
+      state = record b.state { objects = b.state.objects + length stop.turn.made; prints = b.state.prints ++ value ∷ [] };
+      places = set b.places a (Some (place_turned stop (Some frame) o.cell.dirty o));
+    })
 acted b a o frame stop (New kind register) =
     let after = place_turned stop (Some (with_name frame register (length b.places))) o.cell.dirty o in
     if nat_lt (length b.places) 65536
     then Some (with_turn_told b stop
-      (set b.places a (place after.cell (change_held (λ n. n + 256) (things.Actor (length b.places)) None after.ledger) o.mail)
-      ++ place (fresh_cell b.state.program kind) (empty_ledger 256) [] ∷ []))
+    (set b.places a (place after.cell (change_held (λ n. n + 256) (things.Actor (length b.places)) None after.ledger) o.mail)
+    ++ place (fresh_cell b.state.program kind) (empty_ledger 256) [] ∷ []))
     else None
 acted b a o frame stop (Post to behaviour args) =
     let after = place_turned stop (Some frame) o.cell.dirty o in
@@ -258,10 +181,10 @@ act-follows b a o frame stop (New kind register) =
         if nat_lt n 65536
         then Goes (record b.state {
           actors = set (seats_told b.places) a
-            (seat (record (turned stop (Some (with_name frame register n)) o.cell.dirty (cell_told o)) {
-              holdings = gain 256 (things.Actor n) None (turned stop (Some (with_name frame register n)) o.cell.dirty (cell_told o)).holdings;
-            }) o.mail)
-            ++ seat (fresh_cell b.state.program kind) [] ∷ [];
+              (seat (record (turned stop (Some (with_name frame register n)) o.cell.dirty (cell_told o)) {
+                holdings = gain 256 (things.Actor n) None (turned stop (Some (with_name frame register n)) o.cell.dirty (cell_told o)).holdings;
+              }) o.mail)
+              ++ seat (fresh_cell b.state.program kind) [] ∷ [];
           objects = b.state.objects + length stop.turn.made;
         })
         else IsFull
@@ -280,21 +203,21 @@ act-follows b a o frame stop (New kind register) =
 
     goes : Goes (record b.state {
       actors = set (seats_told b.places) a (seat (record before { holdings = gain 256 (things.Actor (length b.places)) None before.holdings }) o.mail)
-        ++ seat (fresh_cell b.state.program kind) [] ∷ [];
+          ++ seat (fresh_cell b.state.program kind) [] ∷ [];
       objects = b.state.objects + length stop.turn.made;
     }) ≡ Goes (state_told (with_turn_told b stop (set b.places a maker ++ fresh ∷ [])))
     goes =
         ap (λ actors. Goes (record b.state { actors = actors; objects = b.state.objects + length stop.turn.made }))
         (ap (λ actors. actors ++ seat (fresh_cell b.state.program kind) [] ∷ [])
-          (set-told b.places a _ maker
-            (ap (λ h. seat (record after.cell { holdings = gain 256 (things.Actor (length b.places)) None h }) o.mail) (with_made-told stop.turn.made o.ledger)
-            ∙ ap (λ h. seat (record after.cell { holdings = h }) o.mail) (set_held-told (λ n. n + 256) (things.Actor (length b.places)) None after.ledger)))
+        (set-told b.places a _ maker
+        (ap (λ h. seat (record after.cell { holdings = gain 256 (things.Actor (length b.places)) None h }) o.mail) (with_made-told stop.turn.made o.ledger)
+        ∙ ap (λ h. seat (record after.cell { holdings = h }) o.mail) (set_held-told (λ n. n + 256) (things.Actor (length b.places)) None after.ledger)))
         ∙ sym (map-append seat_told (set b.places a maker) (fresh ∷ [])))
 
     cases : (room : Bool) → Follows (if room then Some (with_turn_told b stop (set b.places a maker ++ fresh ∷ [])) else None)
         (if room then Goes (record b.state {
           actors = set (seats_told b.places) a (seat (record before { holdings = gain 256 (things.Actor (length b.places)) None before.holdings }) o.mail)
-            ++ seat (fresh_cell b.state.program kind) [] ∷ [];
+              ++ seat (fresh_cell b.state.program kind) [] ∷ [];
           objects = b.state.objects + length stop.turn.made;
         }) else IsFull)
     cases true = goes
@@ -310,12 +233,12 @@ act-follows b a o frame stop (Post to behaviour args) =
 
     posted : with_load (turned stop (Some frame) o.cell.dirty (cell_told o)) (load_from a (turned stop (Some frame) o.cell.dirty (cell_told o)).holdings args)
         ≡ post_or_mint (state_told b) a (cell_told o) (cell_told after) o.mail stop to behaviour args (load_told a after.ledger args)
-            (lacking_told a after.ledger (load_told a after.ledger args))
+        (lacking_told a after.ledger (load_told a after.ledger args))
     posted =
         ap (λ c. with_load c (load_from a c.holdings args)) (turned-told stop (Some frame) o.cell.dirty o)
         ∙ ap (with_load (cell_told after)) (load_from-told a after.ledger args)
         ∙ ap (post_or_mint (state_told b) a (cell_told o) (cell_told after) o.mail stop to behaviour args (load_told a after.ledger args))
-          (lacking-told a after.ledger (load_told a after.ledger args))
+        (lacking-told a after.ledger (load_told a after.ledger args))
 
 -- after a go
 abbrev gone_in : Page → ℕ → Place → Option Frame → Option Page
@@ -352,7 +275,7 @@ collected-told : (a : ℕ) (o : Place) (places : Places)
 collected-told a o places =
     ap (λ marked. collected marked a (cell_told o) o.mail (seats_told places)) (is_marked-told a o)
     ∙ (λ i. push_decs (by_owner (given_back-told (marked_told a o) o.ledger i))
-      (set-told places a _ (Some (place_swept a o)) (ap (λ h. seat (record o.cell { holdings = h; dirty = false }) o.mail) (sweep-told (marked_told a o) a o.ledger)) i))
+    (set-told places a _ (Some (place_swept a o)) (ap (λ h. seat (record o.cell { holdings = h; dirty = false }) o.mail) (sweep-told (marked_told a o) a o.ledger)) i))
     ∙ push_decs-told (by_owner (back_told (marked_told a o) o.ledger)) (set places a (Some (place_swept a o)))
 
 -- after a collection
@@ -444,7 +367,7 @@ unfolding reaped
 reaped-told members [] decs places = push_decs-told decs places
 reaped-told members (a ∷ rest) decs places =
     (λ i. reaped members rest (decs ++ by_owner ((ap (held_outside members) (seat_at-told places a) ∙ held_outside-told members (place_at places a)) i))
-      (set-told places a None None refl i))
+    (set-told places a None None refl i))
     ∙ reaped-told members rest _ _
 
 -- after a reap of the token, if all acknowledged it

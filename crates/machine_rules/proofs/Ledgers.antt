@@ -249,12 +249,12 @@ unfolding sweep
 sweep-told marked me l =
     (λ i. record (told l) {
       rows = m.retain_keys (m.from_entries l.rows)
-        (λ serial. marked (Obj (record { owner = me; serial = serial })) || not (row_count (m.get-from_entries nat_cmp_total l.rows serial i) == 0));
+          (λ serial. marked (Obj (record { owner = me; serial = serial })) || not (row_count (m.get-from_entries nat_cmp_total l.rows serial i) == 0));
       foreign = m.retain_keys (m.from_entries l.foreign) marked;
     })
     ∙ (λ i. record (told l) {
       rows = retain-where nat_cmp_total nat_exact l.rows
-        (λ serial. marked (Obj (record { owner = me; serial = serial })) || not (row_count (own_entry l serial) == 0)) i;
+          (λ serial. marked (Obj (record { owner = me; serial = serial })) || not (row_count (own_entry l serial) == 0)) i;
       foreign = retain-where thing_total thing_exact l.foreign marked i;
     })
 

@@ -28,6 +28,7 @@ pub mod Needs
 pub mod NoSelf
 pub mod ObjectsAtQuiet
 pub mod Paths
+pub mod Places
 pub mod PlainGrowth
 pub mod PlainRuns
 pub mod PlainSide

@@ -39,8 +39,8 @@ abbrev pub held_outside : List ℕ → Option Seat → List Amount
 held_outside members None = []
 held_outside members (Some o) = given_back (λ x. has members (owner_of x)) o.cell.holdings
 
--- these members go, one after another; then the Decs go out that return what they held outside of
--- the set
+-- of the set of members the rest go, one after another; then the Decs go out that return what each
+-- held outside of the set
 unfoldable pub reaped : List ℕ → List ℕ → List (ℕ × List Amount) → Actors → Actors
 reaped members [] decs actors = push_decs decs actors
 reaped members (a ∷ rest) decs actors = reaped members rest (decs ++ by_owner (held_outside members (seat_at actors a))) (set actors a None)

@@ -101,10 +101,10 @@ keep = record { name = 5; parameters = 1; body = I.Get 1 0 0 ∷ I.Print 1 ∷ [
 abbrev pub passes_an_object_on : Program
 passes_an_object_on = record {
   kinds =
-    record { name = 0; fields = 0; behaviours = start_of_passing ∷ [] }
-    ∷ record { name = 2; fields = 0; behaviours = give ∷ [] }
-    ∷ record { name = 3; fields = 0; behaviours = keep ∷ [] }
-    ∷ [];
+      record { name = 0; fields = 0; behaviours = start_of_passing ∷ [] }
+      ∷ record { name = 2; fields = 0; behaviours = give ∷ [] }
+      ∷ record { name = 3; fields = 0; behaviours = keep ∷ [] }
+      ∷ [];
   names = names_of_passing;
 }
 

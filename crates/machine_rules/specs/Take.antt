@@ -12,7 +12,7 @@ use Rattle.machine_rules.specs.Cell.{Cell}
 use Rattle.machine_rules.specs.Plain.{frame_of}
 use Rattle.machine_rules.specs.State.{State, Step, NotEnabled, Goes}
 
--- the actor after it took the letter; a Confirm changes nothing of it
+-- the idle actor after it took the letter; a Confirm changes nothing of it
 abbrev pub cell_after : Program → ℕ → Letter → Cell → Cell
 cell_after program me (App behaviour args load) c = record c {
   frame = frame_of program c.kind (record { behaviour = behaviour; args = args });
