@@ -27,6 +27,7 @@ pub mod Naming
 pub mod Needs
 pub mod NoSelf
 pub mod ObjectsAtQuiet
+pub mod OneRun
 pub mod Paths
 pub mod Places
 pub mod PlainGrowth

@@ -1,13 +1,14 @@
--- What take, go and collect keep, and what every event keeps of each actor.
-use Rattle.std.specs.Prelude.{ℕ, ◌≡◌}
+-- What take, go and collect keep, what every event keeps of each actor, and that runs and ends are one.
+use Rattle.std.specs.Prelude.{ℕ, ◌≡◌, List}
 use Rattle.behaviour_code.specs.declared.code.Program.{Program}
 use Rattle.event_rule.specs.declared.event.Event.{Event}
 use Rattle.event_rule.specs.declared.event.Event.TheVariants.{Take, Go, Collect}
 use Rattle.machine_rules.specs.Clean.{CleanAreSwept, NoneHoldsItsOwn}
+use Rattle.machine_rules.specs.Ends.{Ending, EndsAs}
 use Rattle.machine_rules.specs.Facts.{Facts}
 use Rattle.machine_rules.specs.Next.{next}
 use Rattle.machine_rules.specs.Plain.{PlainState, start_of}
-use Rattle.machine_rules.specs.Run.{PlainFollows, is_choice}
+use Rattle.machine_rules.specs.Run.{IsRun, PlainFollows, is_choice}
 use Rattle.machine_rules.specs.State.{State, Goes, first_state}
 
 abbrev pub StartHasFacts : Type 0
@@ -35,3 +36,11 @@ CleanStaySwept = ((program : Program) → CleanAreSwept (first_state program).ac
 abbrev pub NoneGetsItsOwn : Type 0
 NoneGetsItsOwn = ((program : Program) → NoneHoldsItsOwn (first_state program).actors)
     × ((s t : State) (e : Event) → next s e ≡ Goes t → NoneHoldsItsOwn s.actors → NoneHoldsItsOwn t.actors)
+
+-- a book leads to one state
+abbrev pub RunsLeadToOneState : Type 0
+RunsLeadToOneState = (program : Program) (book : List Event) (s t : State) → IsRun program book s → IsRun program book t → s ≡ t
+
+-- and a run ends in one way
+abbrev pub RunsEndInOneWay : Type 0
+RunsEndInOneWay = (one other : Ending) (s : State) (entries budget : ℕ) → EndsAs one s entries budget → EndsAs other s entries budget → one ≡ other

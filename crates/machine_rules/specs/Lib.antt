@@ -6,6 +6,7 @@ pub mod Cell
 pub mod Clean
 pub mod Collect
 pub mod Detect
+pub mod Ends
 pub mod Examples
 pub mod Facts
 pub mod Go

@@ -1,6 +1,6 @@
 // What the machine that collects keeps beside the machine that frees nothing.
 
-ghost use Rattle.machine_rules.specs.Laws.{StartHasFacts, TakesKeepFacts, GoesKeepFacts, CollectsKeepFacts, CleanStaySwept, NoneGetsItsOwn};
+ghost use Rattle.machine_rules.specs.Laws.{StartHasFacts, TakesKeepFacts, GoesKeepFacts, CollectsKeepFacts, CleanStaySwept, NoneGetsItsOwn, RunsLeadToOneState, RunsEndInOneWay};
 
 /// Where a run begins, both machines agree, and the counts are kept.
 pub fn the_start_has_the_facts()
@@ -25,4 +25,15 @@ pub fn clean_cells_stay_swept()
 /// No event gives an actor a count on itself or on an object of its own.
 pub fn no_actor_gets_a_count_on_its_own()
     ensures { NoneGetsItsOwn }
+{}
+
+/// The events of a book lead to one state, so a book says all of its run.
+pub fn a_book_leads_to_one_state()
+    ensures { RunsLeadToOneState }
+{}
+
+/// A run within a budget ends quiet, or by the budget, or at a full machine, and in no two of these
+/// ways.
+pub fn a_run_ends_in_one_way()
+    ensures { RunsEndInOneWay }
 {}
