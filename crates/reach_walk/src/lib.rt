@@ -9,7 +9,7 @@ mod seen;
 
 pub use edges::Edges;
 pub use laws::{loads_are_exact, marks_are_exact, marks_are_unique};
-pub use marks::mark;
+pub use marks::{Marks, mark};
 pub use reach::walk;
 
 #[cfg(test)]

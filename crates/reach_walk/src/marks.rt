@@ -37,12 +37,15 @@ impl<R: Rows> Edges for RowEdges<'_, R> {
     ghost within = { λ s t leads. row_edges-within (R.rows s.rows.now) (R.all s.rows.now) (R.within s.rows.now) t leads };
 }
 
-/// All that the values reach through the rows of objects, with the owners of the objects, in the
-/// order of things, each once.
+/// What values reach through the rows of objects, with the owners of the objects: in the order of
+/// things, each once.
+pub type Marks = Vec<Thing>;
+
+/// The marks of the values.
 ///
 /// # Errors
 /// `NoMemory` where memory was refused.
-pub fn mark<R: Rows>(alloc: Global, roots: &[Value], rows: &R) -> Result<Vec<Thing>, NoMemory>
+pub fn mark<R: Rows>(alloc: Global, roots: &[Value], rows: &R) -> Result<Marks, NoMemory>
     ensures exact { IfOk result (λ found. (x : thing) → Contains found.items x ↔ Reaches (row_edges (R.rows rows.now)) (named_by roots.now) x) }
     ensures rising { IfOk result (λ found. IsStrictlySortedBy thing_cmp found.items) }
     ensures list { IfOk result (λ found. found.items ≡ marks_of (R.rows rows.now) (R.all rows.now) roots.now) }
