@@ -17,7 +17,7 @@ zero_or : (n : ℕ) → (n ≡ 0) ⊎ (0 < n)
 zero_or zero = inl refl
 zero_or (suc n) = inr (omega arith)
 
--- LOWERING
+-- ---- lowering
 lowered_one : (me : ℕ) (x : Thing) (e : Thing × ℕ) (es : List (Thing × ℕ)) (c : Holdings) → owner_of x ≡ me
     → own_in (cond (owner_of e.0 == me) (lower e.1 e.0 c) c) x - amount_of x es ≡ own_in c x - amount_of x (e ∷ es)
 lowered_one me x e es c o = ⊎_elim
@@ -44,7 +44,7 @@ unfolding lower_all
 held-lower_all me x [] c = refl
 held-lower_all me x (e ∷ es) c = held-lower_all me x es _ ∙ held_lowered_one me e.1 x e.0 c (owner_of e.0 == me)
 
--- RAISING
+-- ---- raising
 raised_one : (me : ℕ) (x : Thing) (e : Thing × ℕ) (es : List (Thing × ℕ)) (c : Holdings) → owner_of x ≡ me → (0 < amount_of x (e ∷ es) → has_own c x ≡ true)
     → own_in (cond (owner_of e.0 == me) (raise e.1 e.0 c) c) x + amount_of x es ≡ own_in c x + amount_of x (e ∷ es)
 raised_one me x e es c o has = ⊎_elim
@@ -84,7 +84,7 @@ unfolding raise_all
 held-raise_all me x [] c = refl
 held-raise_all me x (e ∷ es) c = held-raise_all me x es _ ∙ held_raised_one e.1 x e.0 c (owner_of e.0 == me)
 
--- MINTING
+-- ---- minting
 pub held-mint_all : (x : Thing) (es : List (Thing × ℕ)) (c : Holdings) → held_in (mint_all es c) x ≡ held_in c x + amount_of x es
 unfolding mint_all
 held-mint_all x [] c = omega (arith, amount-nil x)

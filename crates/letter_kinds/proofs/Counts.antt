@@ -127,7 +127,7 @@ pub held_set_other : (f : ℕ → ℕ) (x y : Thing) (r : Option Row) (c : Holdi
 unfolding held_in set_held
 held_set_other f x y r c n = rw (m.get-insert thing_total) (rw (is_ne_false x y n) refl)
 
--- RECEIVING a load
+-- ---- receiving a load
 own_one : (me : ℕ) (x : Thing) (e : Thing × Option Row) (es : List (Thing × Option Row)) (c : Holdings) → owner_of x ≡ me
     → own_in (receive_one me e c) x - times_loaded x es ≡ own_in c x - times_loaded x (e ∷ es)
 own_one me x e es c o = ⊎_elim
@@ -182,7 +182,7 @@ unfolding receive
 held-receive_own me x [] c o = refl
 held-receive_own me x (e ∷ es) c o = held-receive_own me x es (receive_one me e c) o ∙ held_own_one me x e c o
 
--- SENDING a load: for each thing of it that is mine the count is there, and the foreign counts are enough
+-- ---- sending a load: for each thing of it that is mine the count is there, and the foreign counts are enough
 send_own_one : (me : ℕ) (x : Thing) (e : Thing × Option Row) (es : List (Thing × Option Row)) (c : Holdings) → owner_of x ≡ me
     → (0 < times_loaded x (e ∷ es) → has_own c x ≡ true) → own_in (send_one me e c) x + times_loaded x es ≡ own_in c x + times_loaded x (e ∷ es)
 send_own_one me x e es c o has = ⊎_elim

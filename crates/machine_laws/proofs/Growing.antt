@@ -1,5 +1,5 @@
 -- An actor that posts a letter knows whom it posts to and what the letter loads.
-use Rattle.std.proofs.Common.{◌≡◌, ◌⊎◌, ℕ, ◌+◌, ◌-◌, ◌<◌, ◌≤◌, ◌==◌, ◌&&◌, nat_le, nat_lt, Bool, if◌then◌else◌, Option, Some, None, List, [], length, get_or, refl, ap, ap₂, sym, ◌∙◌, arith, inl, inr, ⊎_elim, eq-eqb, eqb-true, leb-true, ltb-true, le-leb, lt-ltb}
+use Rattle.std.proofs.Common.{◌≡◌, ◌⊎◌, ℕ, ◌+◌, ◌-◌, ◌<◌, ◌==◌, ◌&&◌, nat_le, nat_lt, Bool, if◌then◌else◌, Option, Some, None, List, [], length, get_or, refl, ap, ap₂, arith, inl, inr, ⊎_elim, eq-eqb, eqb-true, leb-true, ltb-true, le-leb, lt-ltb}
 use Rattle.std.proofs.lemmas.Bool.{and_parts, cases_Bool}
 use Rattle.orca_names.specs.declared.names.ObjName.{ObjName}
 use Rattle.orca_names.specs.declared.names.Thing.{Thing}
@@ -53,16 +53,12 @@ grow_new all me base made i h =
     back : (b i : ℕ) → b + i - b ≡ i
     back b i = omega arith
 
-grows : (all : Thing → Option Row) (me base : ℕ) (made : List Row) → ((a : ℕ) → all (Actor a) ≡ None) → ((k : ℕ) → base ≤ k → all (Obj (record { owner = me; serial = k })) ≡ None) → Grows all (grow all me base made) me base made
-grows all me base made bare past = record {
+grows : (all : Thing → Option Row) (me base : ℕ) (made : List Row) → ((a : ℕ) → all (Actor a) ≡ None) → Grows all (grow all me base made) me base made
+grows all me base made bare = record {
   bare = bare;
-  keeps = λ x r e. ⊎_elim (λ same. same ∙ e) (λ new. absurd (let q = new.2 in let z = past (base + new.0) (omega arith) in let w = ap all q in none_some r (sym z ∙ sym w ∙ e))) (grow_only all me base made x);
   news = grow_new all me base made;
   only = grow_only all me base made;
 }
-  where
-    none_some : (r : Row) → None ≡ Some r → ⊥
-    none_some r e = cc
 
 -- ---- a letter
 
@@ -76,7 +72,7 @@ module _ (program : Program) (all : Thing → Option Row) (ps : List Person) (s 
   turned_on = turned stop (Some (stopped_at f stop)) c.dirty c
 
   grown : Grows all (grow all a c.holdings.next stop.turn.made) a c.holdings.next stop.turn.made
-  grown = grows all a c.holdings.next stop.turn.made keeps.bare (keeps.serials a c ls at)
+  grown = grows all a c.holdings.next stop.turn.made keeps.bare
 
   module _ (to behaviour : ℕ) (args : List Value) (act : stop.act ≡ Post to behaviour args) where
     pub target_known : IsKnown a turned_on.holdings (Actor to)

@@ -1,5 +1,5 @@
 -- The counts that an actor reports are those that it holds on actors.
-use Rattle.std.proofs.Common.{◌≡◌, ◌≢◌, ℕ, ◌+◌, ◌==◌, ◌&&◌, Bool, true, false, T, if◌then◌else◌, Option, List, [], ◌∷◌, filter_map, refl, ap, sym, subst, ◌∙◌, arith, ⊎_elim, eq-eqb, ne_eqb}
+use Rattle.std.proofs.Common.{◌≡◌, ◌≢◌, ℕ, ◌+◌, ◌==◌, T, if◌then◌else◌, Option, List, [], ◌∷◌, filter_map, refl, ap, sym, subst, ◌∙◌, arith, ⊎_elim, eq-eqb, ne_eqb}
 use Rattle.std.specs.FinMap as m
 use Rattle.std.specs.FinMap.Entries.{below_all}
 use Rattle.std.proofs.lemmas.Bool.{cases_eq}
@@ -10,16 +10,13 @@ use Rattle.orca_names.specs.declared.names.Thing.{Thing}
 use Rattle.orca_names.specs.declared.names.Thing.TheVariants.{Actor, Obj}
 use Rattle.letter_kinds.specs.Holdings.{Holdings, Row, entry_count, held_in}
 use Rattle.letter_kinds.specs.Reports.{count_on}
+use Rattle.machine_rules.proofs.Sweeping.{both_true}
 use Rattle.machine_rules.proofs.Sweeping.{not_above}
 use Rattle.machine_rules.specs.Block.{actor_entry, held_actors}
 
 -- the counts on actors, of entries
 abbrev told : List (Thing × (ℕ × Option Row)) → List (ℕ × ℕ)
 told es = filter_map actor_entry es
-
-both_true : (a b : Bool) → T (a && b) → T a × T b
-both_true true b h = (tt, h)
-both_true false b h = absurd h
 
 count-same : (x b n : ℕ) (rest : List (ℕ × ℕ)) → b ≡ x → count_on ((b, n) ∷ rest) x ≡ n + count_on rest x
 count-same x b n rest e = sum_by-cons (λ (q : ℕ × ℕ). if q.0 == x then q.1 else 0) (b, n) rest ∙ rw (eq-eqb b x e) refl

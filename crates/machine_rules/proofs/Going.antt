@@ -40,7 +40,6 @@ object owner serial = Obj (record { owner = owner; serial = serial })
 -- the plain map after the rows made
 pub record Grows (all all' : Thing → Option Row) (me base : ℕ) (made : List Row) : Type 0 where
   pub bare : NoActorRows all'
-  pub keeps : (x : Thing) (r : Row) → all x ≡ Some r → all' x ≡ Some r
   pub news : (i : ℕ) → i < length made → all' (object me (base + i)) ≡ Some (get_or made i [])
   pub only : (x : Thing) → (all' x ≡ all x) ⊎ Made me base made x
 
@@ -103,25 +102,25 @@ module _ (program : Program) (all all' : Thing → Option Row) (ps : List Person
 
     pub closed_after : IsClosedAt all' a after
     unfolding after
-    closed_after = seg_closed all all' grows.bare a c.holdings.next turn.turn.made c fresh grows.keeps grows.news grows.only turn.turn.fields nf nd
+    closed_after = seg_closed all all' grows.bare a c.holdings.next turn.turn.made c fresh grows.news grows.only turn.turn.fields nf nd
         (λ x n. source x (seg.in_fields x n)) (λ x n. source x (seg.in_registers x (names_nf x n))) (λ i x h n. source x (seg.in_made i x h n)) here.closed here.rows
 
     pub rows_after : RowsAreAt all' a after.holdings
     unfolding after
-    rows_after = seg_rows all all' grows.bare a c.holdings.next turn.turn.made c fresh grows.keeps grows.news grows.only turn.turn.fields nf nd
+    rows_after = seg_rows all all' grows.bare a c.holdings.next turn.turn.made c fresh grows.news grows.only turn.turn.fields nf nd
         (λ x n. source x (seg.in_fields x n)) (λ x n. source x (seg.in_registers x (names_nf x n))) (λ i x h n. source x (seg.in_made i x h n)) here.closed here.rows
 
     known_after : (x : Thing) → Source all a c c.holdings.next turn.turn.made x → IsKnown a after.holdings x
     unfolding after
-    known_after = known_source all all' grows.bare a c.holdings.next turn.turn.made c fresh grows.keeps grows.news grows.only turn.turn.fields nf nd
+    known_after = known_source all all' grows.bare a c.holdings.next turn.turn.made c fresh grows.news grows.only turn.turn.fields nf nd
         (λ x n. source x (seg.in_fields x n)) (λ x n. source x (seg.in_registers x (names_nf x n))) (λ i x h n. source x (seg.in_made i x h n)) here.closed here.rows
 
     -- what a posted letter's arguments reach
     args_source : (args : List Value) → ((x : Thing) → Names args x → Names (act_values turn.act) x) → (x : Thing) → Reaches all' (Names args) x → Source all a c c.holdings.next turn.turn.made x
     args_source args posted x h = reach_into _ (Source all a c c.holdings.next turn.turn.made) (λ x n. source x (seg.in_act x (posted x n)))
-        (along all all' grows.bare a c.holdings.next turn.turn.made c fresh grows.keeps grows.news grows.only turn.turn.fields nf nd
+        (along all all' grows.bare a c.holdings.next turn.turn.made c fresh grows.news grows.only turn.turn.fields nf nd
         (λ x n. source x (seg.in_fields x n)) (λ x n. source x (seg.in_registers x (names_nf x n))) (λ i x h n. source x (seg.in_made i x h n)) here.closed here.rows)
-        (up all all' grows.bare a c.holdings.next turn.turn.made c fresh grows.keeps grows.news grows.only turn.turn.fields nf nd
+        (up all all' grows.bare a c.holdings.next turn.turn.made c fresh grows.news grows.only turn.turn.fields nf nd
         (λ x n. source x (seg.in_fields x n)) (λ x n. source x (seg.in_registers x (names_nf x n))) (λ i x h n. source x (seg.in_made i x h n)) here.closed here.rows) h
 
     pub own_after : (x : Thing) → own_in after.holdings x ≡ own_in c.holdings x

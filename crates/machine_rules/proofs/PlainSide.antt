@@ -121,16 +121,9 @@ module _ (actors : List PlainActor) (a : ℕ) (x : PlainActor) (there : slice_ge
     pub rows_grow : Grows (thing_row (plain_row actors)) (thing_row (plain_row (set actors a y))) a (length x.rows) made
     rows_grow = record {
       bare = λ b. refl;
-      keeps = λ z r e. ⊎_elim (λ same. same ∙ e) (λ new. absurd (none_before z r new e)) (row_only z);
       news = made_row;
       only = row_only;
     }
-      where
-        none_before : (z : Thing) (r : Row) → Made a (length x.rows) made z → thing_row (plain_row actors) z ≡ Some r → ⊥
-        none_before z r new e =
-            let n : ObjName = record { owner = a; serial = length x.rows + new.0 } in
-            let gone = row_there n refl ∙ slice_past x.rows n.serial (omega arith) in
-            let here = sym (ap (thing_row (plain_row actors)) new.2) ∙ e in cc
 
     pub objects_grow : objects_made (set actors a y) ≡ objects_made actors + length made
     objects_grow = omega (

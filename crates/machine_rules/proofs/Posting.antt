@@ -1,6 +1,7 @@
 -- A letter in the hand is pushed.
-use Rattle.std.proofs.Common.{◌≡◌, ◌≢◌, ℕ, ◌+◌, ◌==◌, cond, Some, refl, arith, eq-eqb, ne_eqb}
+use Rattle.std.proofs.Common.{◌≡◌, ℕ, ◌+◌, Some, refl, arith}
 use Rattle.std.proofs.lemmas.List.Sums.{sum_by_push}
+use Rattle.letter_kinds.proofs.Counts.{cond_eq, cond_ne}
 use Rattle.machine_rules.proofs.Seats.{present_below, balanced-set}
 use Rattle.letter_kinds.specs.Sums.{inc_of, dec_of, load_count}
 use Rattle.letter_kinds.specs.declared.letter.Letter.{Letter}
@@ -32,12 +33,6 @@ module _ (x : Thing) (o : Seat) (l : Letter) where
   pub loads_at_push : loads_at x (with_letter_more l (Some o)) ≡ loads_at x (Some o) + load_count x l
   unfolding loads_at
   loads_at_push = sum_by_push (load_count x) o.mail l
-
-cond_eq : {A : Type 0} (a b : ℕ) (x y : A) → a ≡ b → cond (a == b) x y ≡ x
-cond_eq a b x y e = rw (eq-eqb a b e) refl
-
-cond_ne : {A : Type 0} (a b : ℕ) (x y : A) → a ≢ b → cond (a == b) x y ≡ y
-cond_ne a b x y n = rw (ne_eqb a b n) refl
 
 pub push_balanced : (s : Actors) (b : ℕ) (l : Letter) (d e : Thing → ℕ) → IsPresent s b
     → BalancedWith (λ x. credit b l x + d x) (λ x. debit b l x + e x) s → BalancedWith d e (push_letter b l s)

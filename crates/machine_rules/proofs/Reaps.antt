@@ -1,6 +1,6 @@
 -- A reap keeps the balance and the prefixes: what the members held outside goes back in Decs.
-use Rattle.std.proofs.Common.{◌≡◌, ◌≢◌, ◌⊎◌, ℕ, ◌+◌, ◌<◌, ◌==◌, cond, Bool, true, false, Option, Some, None, List, [], ◌∷◌, ◌++◌, length, set, refl, sym, ◌∙◌, ap, arith, inl, inr, ⊎_elim, ne_eqb, length-set}
-use Rattle.std.proofs.lemmas.Bool.{cases_eq}
+use Rattle.std.proofs.Common.{◌≡◌, ◌≢◌, ◌⊎◌, ℕ, ◌+◌, ◌<◌, ◌==◌, cond, true, false, Option, Some, None, List, [], ◌∷◌, ◌++◌, length, set, refl, sym, ◌∙◌, ap, arith, inl, inr, ⊎_elim, ne_eqb, length-set}
+use Rattle.std.proofs.lemmas.Bool.{cases_Bool, cases_eq}
 use Rattle.letter_kinds.proofs.Sums.{sum-zero}
 use Rattle.letter_kinds.proofs.Counts.{cond_eq, cond_ne, amount-nil}
 use Rattle.machine_rules.proofs.Seats.{balanced-set, at_same, at_other}
@@ -95,10 +95,6 @@ pub record Under (all ms : List ℕ) (gs : List (ℕ × List (Thing × ℕ))) (s
   pub clean : (x : Thing) (i : ℕ) → has all (owner_of x) ≡ true → has all i ≡ false → (held_at x (seat_at s i) ≡ 0) × (loads_at x (seat_at s i) ≡ 0)
   pub gone : (i : ℕ) → has all i ≡ true → (seat_at s i ≡ None) ⊎ (has ms i ≡ true)
 
-cases_bool : (b : Bool) → (b ≡ true) ⊎ (b ≡ false)
-cases_bool true = inl refl
-cases_bool false = inr refl
-
 done : (all : List ℕ) (gs : List (ℕ × List (Thing × ℕ))) (s : Actors) (d e : Thing → ℕ) → Under all [] gs s d e → BalancedWith none (owed gs) s
 done all gs s d e u x = ⊎_elim
     (λ ins.
@@ -108,7 +104,7 @@ done all gs s d e u x = ⊎_elim
     let o = u.inside x ins in
     rw n (omega (arith, own_at-none x, incs_at-none x, decs_at-none x)))
     (λ out. let o = u.outside x out in let b = u.bal x in omega (arith, o.0, o.1))
-    (cases_bool (has all (owner_of x)))
+    (cases_Bool (has all (owner_of x)))
   where
     none_at : (i : ℕ) → has all i ≡ true → seat_at s i ≡ None
     none_at i h = ⊎_elim (λ e. e) (λ no. cc) (u.gone i h)
@@ -117,7 +113,7 @@ done all gs s d e u x = ⊎_elim
     zero_at x ins i = ⊎_elim
         (λ h. let n = none_at i h in rw n (held_at-none x, loads_at-none x))
         (λ out. u.clean x i ins out)
-        (cases_bool (has all i))
+        (cases_Bool (has all i))
 
 one_more : (all ms : List ℕ) (m : ℕ) (gs : List (ℕ × List (Thing × ℕ))) (s : Actors) (d e : Thing → ℕ) → has all m ≡ true → Ready all s m → Under all (m ∷ ms) gs s d e
     → Under all ms (gs ++ by_owner (held_outside all (seat_at s m))) (set s m None) (λ x. lost m (seat_at s m) x + d x) (λ x. kept m (seat_at s m) x + e x)

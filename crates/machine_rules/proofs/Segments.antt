@@ -118,7 +118,6 @@ Source all me c base made x = Reaches all (Roots c) x ⊎ ((x ≡ Actor me) ⊎ 
 
 module _ (all all' : Thing → Option Row) (none : NoActorRows all') (me base : ℕ) (made : List Row) (c : Cell)
     (fresh : (k : ℕ) → base ≤ k → m.get c.holdings.rows k ≡ None)
-    (keeps : (x : Thing) (r : Row) → all x ≡ Some r → all' x ≡ Some r)
     (news : (i : ℕ) → i < length made → all' (Obj (record { owner = me; serial = base + i })) ≡ Some (get_or made i []))
     (only : (x : Thing) → (all' x ≡ all x) ⊎ Made me base made x)
     (fields : Fields) (frame : Option Frame) (dirty : Bool)

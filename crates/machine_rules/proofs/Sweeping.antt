@@ -67,7 +67,7 @@ counted e = (e.0, e.1.0)
 abbrev drops : (Thing → Bool) → List (Thing × (ℕ × Option Row)) → List Amount
 drops marked es = map (λ e. (e.0, e.1.0)) (filter (λ e. not (marked e.0)) es)
 
-both_true : (a b : Bool) → T (a && b) → T a × T b
+pub both_true : (a b : Bool) → T (a && b) → T a × T b
 both_true true b h = (tt, h)
 both_true false b h = absurd h
 
