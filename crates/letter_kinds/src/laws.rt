@@ -2,8 +2,8 @@
 
 ghost use Rattle.letter_kinds.specs.Closed.{IsClosed, IsLargest, largest_closed};
 ghost use Rattle.letter_kinds.specs.declared.note.Report.{Report};
-ghost use Rattle.letter_kinds.specs.Detector.{all_acked, has, Token};
-ghost use Rattle.std.specs.Prelude.{Bool, filter, List, true, ℕ, ◌||◌, ◌≡◌};
+ghost use Rattle.letter_kinds.specs.Detector.{all_acked, Detector, has, scanned, Token};
+ghost use Rattle.std.specs.Prelude.{Bool, false, filter, List, true, ℕ, ◌||◌, ◌≡◌};
 
 /// Removal by rounds gives the largest closed set.
 pub fn rounds_give_the_largest()
@@ -24,4 +24,9 @@ pub fn union_is_closed()
 pub fn acked_by_all_is_by_each()
     ensures each { (t : Token) → all_acked t ≡ true → (m : ℕ) → has t.members m ≡ true → has t.acked m ≡ true }
     ensures all { (t : Token) → ((m : ℕ) → has t.members m ≡ true → has t.acked m ≡ true) → all_acked t ≡ true }
+{}
+
+/// A scan leaves no news, whatever it found: it is not enabled again before a note is heard.
+pub fn a_scan_leaves_no_news()
+    ensures { (d : Detector) (found : List ℕ) → (scanned d found).news ≡ false }
 {}

@@ -8,7 +8,10 @@ mod letter;
 mod note;
 mod plan;
 
-pub use laws::{acked_by_all_is_by_each, one_largest, rounds_give_the_largest, union_is_closed};
+pub use laws::{
+    a_scan_leaves_no_news, acked_by_all_is_by_each, one_largest, rounds_give_the_largest,
+    union_is_closed,
+};
 pub use letter::{Amounts, Letter, Load};
 pub use note::{Note, Report};
 pub use plan::SweepPlan;

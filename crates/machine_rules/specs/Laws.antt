@@ -1,15 +1,17 @@
--- What take, go and collect keep, what every event keeps of each actor, and that runs and ends are one.
-use Rattle.std.specs.Prelude.{ℕ, ◌≡◌, List}
+-- What take, go and collect keep, what every event keeps of each actor, when events are enabled,
+-- and that runs and ends are one.
+use Rattle.std.specs.Prelude.{ℕ, ◌≡◌, ◌↔◌, List}
 use Rattle.behaviour_code.specs.declared.code.Program.{Program}
 use Rattle.event_rule.specs.declared.event.Event.{Event}
 use Rattle.event_rule.specs.declared.event.Event.TheVariants.{Take, Go, Collect}
 use Rattle.machine_rules.specs.Clean.{CleanAreSwept, NoneHoldsItsOwn}
+use Rattle.machine_rules.specs.Enabled.{CanHappen, IsRefusedAsFull}
 use Rattle.machine_rules.specs.Ends.{Ending, EndsAs}
 use Rattle.machine_rules.specs.Facts.{Facts}
-use Rattle.machine_rules.specs.Next.{next}
+use Rattle.machine_rules.specs.Next.{IsEnabled, next}
 use Rattle.machine_rules.specs.Plain.{PlainState, start_of}
 use Rattle.machine_rules.specs.Run.{IsRun, PlainFollows, is_choice}
-use Rattle.machine_rules.specs.State.{State, Goes, first_state}
+use Rattle.machine_rules.specs.State.{State, Goes, IsFull, first_state}
 
 abbrev pub StartHasFacts : Type 0
 StartHasFacts = (program : Program) → Facts (start_of program) (first_state program)
@@ -44,3 +46,11 @@ RunsLeadToOneState = (program : Program) (book : List Event) (s t : State) → I
 -- and a run ends in one way
 abbrev pub RunsEndInOneWay : Type 0
 RunsEndInOneWay = (one other : Ending) (s : State) (entries budget : ℕ) → EndsAs one s entries budget → EndsAs other s entries budget → one ≡ other
+
+-- an event is enabled exactly where it can happen
+abbrev pub EnabledExactly : Type 0
+EnabledExactly = (s : State) (e : Event) → IsEnabled s e ↔ CanHappen s e
+
+-- and refused exactly at a go that makes an actor too many
+abbrev pub FullExactly : Type 0
+FullExactly = (s : State) (e : Event) → next s e ≡ IsFull ↔ IsRefusedAsFull s e

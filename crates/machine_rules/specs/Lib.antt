@@ -6,6 +6,7 @@ pub mod Cell
 pub mod Clean
 pub mod Collect
 pub mod Detect
+pub mod Enabled
 pub mod Ends
 pub mod Examples
 pub mod Facts

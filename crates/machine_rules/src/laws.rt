@@ -1,6 +1,6 @@
 // What the machine that collects keeps beside the machine that frees nothing.
 
-ghost use Rattle.machine_rules.specs.Laws.{StartHasFacts, TakesKeepFacts, GoesKeepFacts, CollectsKeepFacts, CleanStaySwept, NoneGetsItsOwn, RunsLeadToOneState, RunsEndInOneWay};
+ghost use Rattle.machine_rules.specs.Laws.{StartHasFacts, TakesKeepFacts, GoesKeepFacts, CollectsKeepFacts, CleanStaySwept, NoneGetsItsOwn, RunsLeadToOneState, RunsEndInOneWay, EnabledExactly, FullExactly};
 
 /// Where a run begins, both machines agree, and the counts are kept.
 pub fn the_start_has_the_facts()
@@ -36,4 +36,11 @@ pub fn a_book_leads_to_one_state()
 /// ways.
 pub fn a_run_ends_in_one_way()
     ensures { RunsEndInOneWay }
+{}
+
+/// Each event is enabled exactly where it can happen, and refused exactly where it would make an actor
+/// too many; everywhere else it leads to a state.
+pub fn events_are_enabled_exactly()
+    ensures enabled { EnabledExactly }
+    ensures full { FullExactly }
 {}

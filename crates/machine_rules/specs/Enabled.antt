@@ -1,0 +1,47 @@
+-- When each event is enabled, and when a go is refused because the machine is full.
+use Rattle.std.specs.Prelude.{ℕ, ◌≡◌, ◌≢◌, ◌≤◌, true, false, List, [], length, Some, None}
+use Rattle.event_rule.specs.declared.event.Event.{Event}
+use Rattle.event_rule.specs.declared.event.Event.TheVariants.{Take, Go, Collect, Block, Hear, Scan, Reap}
+use Rattle.turn_rules.specs.declared.act.Act.TheVariants.{New}
+use Rattle.turn_rules.specs.declared.act.Frame.{Frame}
+use Rattle.letter_kinds.specs.Detector.{Token, all_acked, token_numbered}
+use Rattle.letter_kinds.specs.declared.letter.Letter.{Letter}
+use Rattle.machine_rules.specs.Actors.{seat, seat_at}
+use Rattle.machine_rules.specs.Cell.{Cell}
+use Rattle.machine_rules.specs.Go.{turn_of_cell}
+use Rattle.machine_rules.specs.State.{State}
+
+-- the actor is present, and its cell and its letters are so
+abbrev pub IsPresentWith : State → ℕ → (Cell → List Letter → Type 0) → Type 0
+IsPresentWith s a Q = (c : Cell) × (mail : List Letter) × (seat_at s.actors a ≡ seat c mail) × Q c mail
+
+-- clean, with nothing to do, not pinned, and not reported yet
+pub record IsIdle (c : Cell) (mail : List Letter) : Type 0 where
+  pub frame : c.frame ≡ None
+  pub letters : mail ≡ []
+  pub clean : c.dirty ≡ false
+  pub unpinned : c.fields.pinned ≡ false
+  pub unreported : c.reported ≡ false
+
+abbrev pub CanHappen : State → Event → Type 0
+CanHappen s (Take a) = IsPresentWith s a (λ c mail. (c.frame ≡ None) × (mail ≢ []))
+CanHappen s (Go a) = IsPresentWith s a (λ c mail. c.frame ≢ None)
+CanHappen s (Collect a) = IsPresentWith s a (λ c mail. (c.frame ≡ None) × (c.dirty ≡ true))
+CanHappen s (Block a) = IsPresentWith s a IsIdle
+CanHappen s Hear = s.notes ≢ []
+CanHappen s Scan = s.detector.news ≡ true
+CanHappen s (Reap token) = (t : Token) × (token_numbered token s.detector ≡ Some t) × (all_acked t ≡ true)
+
+-- the event is a go whose act makes an actor, where as many are made as may be
+pub record IsRefusedAsFull (s : State) (e : Event) : Type 0 where
+  pub actor : ℕ
+  pub is_go : e ≡ Go actor
+  pub cell : Cell
+  pub mail : List Letter
+  pub present : seat_at s.actors actor ≡ seat cell mail
+  pub frame : Frame
+  pub framed : cell.frame ≡ Some frame
+  pub kind : ℕ
+  pub register : ℕ
+  pub makes : (turn_of_cell s.program actor cell frame).act ≡ New kind register
+  pub made : 65536 ≤ length s.actors
