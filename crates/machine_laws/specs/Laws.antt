@@ -12,7 +12,7 @@ use Rattle.machine_laws.specs.AllFacts.{AllFacts}
 use Rattle.machine_rules.specs.Actors.{seat, seat_at}
 use Rattle.machine_rules.specs.Balance.{IsBalanced, NeverOverdraws}
 use Rattle.machine_rules.specs.Cell.{Cell}
-use Rattle.machine_rules.specs.Left.{IsFreed, IsLeft}
+use Rattle.machine_rules.specs.Left.{IsFreed, IsLeft, NamesNothingFreed}
 use Rattle.machine_rules.specs.Next.{IsQuiet, next}
 use Rattle.machine_rules.specs.Plain.{PlainState, start_of}
 use Rattle.machine_rules.specs.PlainReach.{IsReachable}
@@ -47,6 +47,8 @@ pub record IsNeverTooEarly (program : Program) (book : List Event) (s : State) :
   -- what is reachable is left, and nothing freed is reachable
   pub left : (x : Thing) → IsReachable plain x → IsLeft s.actors x
   pub freed : (x : Thing) → IsFreed plain.actors s.actors x → IsReachable plain x → ⊥
+  -- no actor and no letter names what was freed
+  pub named : NamesNothingFreed s.actors
 
 -- each prefix of a run is a run, and it is never too early
 abbrev pub NeverTooEarly : Type 0

@@ -31,7 +31,7 @@ use Rattle.reach_walk.specs.Reach.{root, owned}
 use Rattle.std.specs.Prelude.{sum_by}
 
 -- what is counted is left, by the balance and the prefixes
-counted_at : (s : Actors) (x : Thing) (o : Option Seat) → owner_seat s x ≡ o → IsCoveredAt x o → 0 < own_at x o + incs_at x o → IsLeft s x
+pub counted_at : (s : Actors) (x : Thing) (o : Option Seat) → owner_seat s x ≡ o → IsCoveredAt x o → 0 < own_at x o + incs_at x o → IsLeft s x
 counted_at s x None e safe h = absurd (omega (arith, own_at-none x, incs_at-none x))
 counted_at s x (Some o) e safe h = record { seat = o; present = e; kept = counted_has o.cell.holdings x (positive (own_in o.cell.holdings x) (sum_by (inc_of x) o.mail) (λ z. safe_zero x (own_in o.cell.holdings x) o.mail safe z) (omega (arith, own_at-seat x o.cell o.mail, incs_at-seat x o.cell o.mail))) }
   where

@@ -24,6 +24,7 @@ pub mod Locals
 pub mod MakeKeeps
 pub mod Makes
 pub mod Minting
+pub mod Named
 pub mod Naming
 pub mod Needs
 pub mod NoSelf
