@@ -1,5 +1,5 @@
 -- Events of actors keep what holds of reports.
-use Rattle.std.proofs.Common.{◌≡◌, ℕ, ◌≢◌, Bool, true, false, if◌then◌else◌, ⊎_elim, List, [], ◌∷◌, ◌++◌, None, arith, refl, ap, sym, subst, ◌∙◌}
+use Rattle.std.proofs.Common.{◌≡◌, ℕ, ◌≢◌, Bool, true, false, if◌then◌else◌, ⊎_elim, List, [], ◌∷◌, ◌++◌, Option, Some, None, arith, refl, ap, sym, subst, ◌∙◌}
 use Rattle.std.proofs.lemmas.Bool.{cases_eq, cond_both, false≢true}
 use Rattle.std.proofs.lemmas.Bool.Decides.{nat_tests}
 use Rattle.letter_kinds.specs.declared.note.Note.{Note}
@@ -8,18 +8,23 @@ use Rattle.letter_kinds.specs.declared.note.Report.{Report}
 use Rattle.letter_kinds.specs.Detector.{Detector}
 use Rattle.letter_kinds.specs.Reports.{block_note, report_of}
 use Rattle.detector_laws.specs.Events.{CanBlock, IsFresh, Moves}
-use Rattle.detector_laws.specs.Reports.{Told, Unreported, Reported, Contradictory, with_unblock, with_note, told_by_kept, told_of, IsSilentOn, IsAsTold, ExactReports, ReportsAreExact}
-use Rattle.detector_laws.specs.World.{LetterKind, Confirm, Cell, World, block, take_confirm}
+use Rattle.detector_laws.specs.Reports.{Told, Unreported, Reported, Contradictory, with_unblock, with_note, told_by_kept, told_of, IsSilentOn, IsAsTold, ExactReports}
+use Rattle.detector_laws.specs.World.{World, block, take_confirm, ReportsAreExact}
+use Rattle.detector_laws.specs.Cells.{is_reporting}
+use Rattle.detector_laws.proofs.Cells.{blocked_reports, some_not_none}
 use Rattle.detector_laws.proofs.Maps.{at_cases}
 use Rattle.detector_laws.proofs.Notes.{with_notes-push, with_note-other_block, with_note-other_unblock, with_notes-silent, IsSilentOn-push}
+use Rattle.letter_kinds.specs.declared.letter.Letter.{Letter}
+use Rattle.letter_kinds.specs.declared.letter.Letter.TheVariants.{Confirm}
+use Rattle.machine_rules.specs.Cell.{Cell}
 
 -- an actor with no report out is last told of as such
-off : (c : Cell) (a : ℕ) (s : Told) → IsAsTold c a s → c.reported ≡ false → s ≡ Unreported
+off : (c : Option Cell) (a : ℕ) (s : Told) → IsAsTold c a s → is_reporting c ≡ false → s ≡ Unreported
 off c a Unreported h e = refl
-off c a (Reported r) h e = absurd (cc (h.0.reported))
+off c a (Reported r) h e = absurd (false≢true (sym e ∙ blocked_reports h.0))
 off c a Contradictory h e = absurd h
 
-on_cases : (c : Cell) (a : ℕ) (s : Told) → IsAsTold c a s → c.reported ≡ true → with_unblock s ≡ Unreported
+on_cases : (c : Option Cell) (a : ℕ) (s : Told) → IsAsTold c a s → is_reporting c ≡ true → with_unblock s ≡ Unreported
 on_cases c a Unreported h e = absurd (cc)
 on_cases c a (Reported r) h e = refl
 on_cases c a Contradictory h e = absurd h
@@ -30,40 +35,40 @@ told_block a r e = grind (arith, nat_tests)
 told_unblock : (a : ℕ) (s : Told) → with_unblock s ≡ Unreported → with_note a s (Unblock a) ≡ Unreported
 told_unblock a s e = grind (arith, nat_tests)
 
-pub block_reports : (w : World) (a : ℕ) (r : Report) → CanBlock w a r → ReportsAreExact w → ReportsAreExact (block w a r)
-block_reports w a r can h =
-    let c' : Cell = record (w.cell a) { reported = true } in
+pub block_reports : (w : World) (a : ℕ) (c : Cell) (r : Report) → CanBlock w a c r → ReportsAreExact w → ReportsAreExact (block w a c r)
+block_reports w a c r can h =
+    let c' : Cell = record c { reported = true } in
     let kept = w.detector.kept in
     let ends = λ (b : ℕ). with_notes-push b (told_by_kept (report_of kept b)) w.notes (block_note r) in
-    let was : told_of a kept w.notes ≡ Unreported = off (w.cell a) a (told_of a kept w.notes) (h.last a) can.quiet in
+    let was : told_of a kept w.notes ≡ Unreported = off (w.cell a) a (told_of a kept w.notes) (h.last a) (ap is_reporting can.here ∙ can.quiet) in
     let is : told_of a kept (w.notes ++ block_note r ∷ []) ≡ Reported r = ends a ∙ (ap (λ s. with_note a s (block_note r)) was ∙ told_block a r can.exact.actor) in
-    let mine : IsAsTold c' a (Reported r) = (
-      record { present = can.present; reported = refl; unpinned = can.unpinned; clean = can.clean; idle = can.idle },
+    let mine : IsAsTold (Some c') a (Reported r) = (
+      record { cell = c'; here = refl; reported = refl; unpinned = can.unpinned; clean = can.clean; idle = can.idle },
       record { actor = can.exact.actor; count = can.exact.count; held = can.exact.held },
     ) in
     record {
-      last = at_cases (λ b c. IsAsTold c b (told_of b kept (w.notes ++ block_note r ∷ []))) w.cell a c'
-          (subst (IsAsTold c' a) (sym is) mine)
+      last = at_cases (λ b o. IsAsTold o b (told_of b kept (w.notes ++ block_note r ∷ []))) w.cell a (Some c')
+          (subst (IsAsTold (Some c') a) (sym is) mine)
           (λ b ne. subst (IsAsTold (w.cell b) b) (sym (ends b ∙ with_note-other_block b (told_of b kept w.notes) r.actor r.count r.held (λ e. ne (sym e ∙ can.exact.actor)))) (h.last b));
-      absent = at_cases (λ b c. c.present ≡ false → (report_of kept b ≡ None) × IsSilentOn b (w.notes ++ block_note r ∷ [])) w.cell a c'
-          (λ gone. absurd (cc (can.present)))
+      absent = at_cases (λ b o. o ≡ None → (report_of kept b ≡ None) × IsSilentOn b (w.notes ++ block_note r ∷ [])) w.cell a (Some c')
+          (λ gone. absurd (some_not_none refl gone))
           (λ b ne gone. let before = h.absent b gone in (before.0, IsSilentOn-push b w.notes (block_note r) before.1 (λ e. ne (sym e ∙ can.exact.actor))));
     }
 
-confirm_notes : (cell : ℕ → Cell) (kept : List Report) (notes : List Note) (a t : ℕ) → ExactReports cell kept notes → ExactReports cell kept (notes ++ Ack t a ∷ [])
+confirm_notes : (cell : ℕ → Option Cell) (kept : List Report) (notes : List Note) (a t : ℕ) → ExactReports cell kept notes → ExactReports cell kept (notes ++ Ack t a ∷ [])
 confirm_notes cell kept notes a t h = record {
   last = λ b. subst (IsAsTold (cell b) b) (sym (with_notes-push b (told_by_kept (report_of kept b)) notes (Ack t a))) (h.last b);
   absent = λ b gone. let before = h.absent b gone in (before.0, IsSilentOn-push b notes (Ack t a) before.1 tt);
 }
 
-pub confirm_reports : (w : World) (a t : ℕ) (ls : List LetterKind) → w.mail a ≡ Confirm t ∷ ls → ReportsAreExact w → ReportsAreExact (take_confirm w a t ls)
+pub confirm_reports : (w : World) (a t : ℕ) (ls : List Letter) → w.mail a ≡ Confirm t ∷ ls → ReportsAreExact w → ReportsAreExact (take_confirm w a t ls)
 confirm_reports w a t ls e h =
-    cond_both (w.cell a).reported (w.notes ++ Ack t a ∷ []) w.notes (λ ns. ExactReports w.cell w.detector.kept ns)
+    cond_both (is_reporting (w.cell a)) (w.notes ++ Ack t a ∷ []) w.notes (λ ns. ExactReports w.cell w.detector.kept ns)
     (λ _. confirm_notes w.cell w.detector.kept w.notes a t h)
     (λ _. h)
 
 -- after an event of a, and only a, that ends its report
-woken_told : (w : World) (a : ℕ) → ReportsAreExact w → (reported : Bool) → (w.cell a).reported ≡ reported → told_of a w.detector.kept (if reported then w.notes ++ Unblock a ∷ [] else w.notes) ≡ Unreported
+woken_told : (w : World) (a : ℕ) → ReportsAreExact w → (reported : Bool) → is_reporting (w.cell a) ≡ reported → told_of a w.detector.kept (if reported then w.notes ++ Unblock a ∷ [] else w.notes) ≡ Unreported
 woken_told w a h true e =
     let s = told_of a w.detector.kept w.notes in
     with_notes-push a (told_by_kept (report_of w.detector.kept a)) w.notes (Unblock a) ∙ told_unblock a s (on_cases (w.cell a) a s (h.last a) e)
@@ -83,24 +88,24 @@ moved_last w w' a m h b =
     ⊎_elim
     (λ (e : b ≡ a). subst (λ x. IsAsTold (w'.cell x) x (told_of x w.detector.kept w'.notes)) (sym e)
     (subst (λ ns. IsAsTold (w'.cell a) a (told_of a w.detector.kept ns)) (sym m.notes)
-    (subst (IsAsTold (w'.cell a) a) (sym (woken_told w a h (w.cell a).reported refl)) m.woken)))
+    (subst (IsAsTold (w'.cell a) a) (sym (woken_told w a h m.old.reported (ap is_reporting m.here))) (ap is_reporting m.there ∙ m.woken))))
     (λ (ne : b ≢ a). subst (λ ns. IsAsTold (w'.cell b) b (told_of b w.detector.kept ns)) (sym m.notes)
-    (subst (IsAsTold (w'.cell b) b) (sym (other_told w a b ne (w.cell a).reported))
+    (subst (IsAsTold (w'.cell b) b) (sym (other_told w a b ne m.old.reported))
     (⊎_elim
     (λ (same : w'.cell b ≡ w.cell b). subst (λ c. IsAsTold c b (told_of b w.detector.kept w.notes)) (sym same) (h.last b))
     (λ (new : IsFresh (w.cell b) (w'.cell b)). let none = h.absent b new.absent in
-    subst (IsAsTold (w'.cell b) b) (sym (with_notes-silent b (told_by_kept (report_of w.detector.kept b)) w.notes none.1 ∙ ap told_by_kept none.0)) new.quiet)
+    subst (IsAsTold (w'.cell b) b) (sym (with_notes-silent b (told_by_kept (report_of w.detector.kept b)) w.notes none.1 ∙ ap told_by_kept none.0)) (ap is_reporting new.present ∙ new.quiet))
     (m.others b ne))))
     (cases_eq b a)
 
-moved_absent : (w w' : World) (a : ℕ) → Moves w a w' → ReportsAreExact w → (b : ℕ) → (w'.cell b).present ≡ false → (report_of w.detector.kept b ≡ None) × IsSilentOn b w'.notes
+moved_absent : (w w' : World) (a : ℕ) → Moves w a w' → ReportsAreExact w → (b : ℕ) → w'.cell b ≡ None → (report_of w.detector.kept b ≡ None) × IsSilentOn b w'.notes
 moved_absent w w' a m h b gone =
     ⊎_elim
-    (λ (e : b ≡ a). absurd (false≢true (sym gone ∙ (ap (λ x. (w'.cell x).present) e ∙ m.there))))
+    (λ (e : b ≡ a). absurd (some_not_none (ap w'.cell e ∙ m.there) gone))
     (λ (ne : b ≢ a). ⊎_elim
-    (λ (same : w'.cell b ≡ w.cell b). let none = h.absent b (sym (ap (λ (c : Cell). c.present) same) ∙ gone) in
-    (none.0, subst (IsSilentOn b) (sym m.notes) (other_silent w a b ne (w.cell a).reported none.1)))
-    (λ (new : IsFresh (w.cell b) (w'.cell b)). absurd (false≢true (sym gone ∙ new.present)))
+    (λ (same : w'.cell b ≡ w.cell b). let none = h.absent b (sym same ∙ gone) in
+    (none.0, subst (IsSilentOn b) (sym m.notes) (other_silent w a b ne m.old.reported none.1)))
+    (λ (new : IsFresh (w.cell b) (w'.cell b)). absurd (some_not_none new.present gone))
     (m.others b ne))
     (cases_eq b a)
 

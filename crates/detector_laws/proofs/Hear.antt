@@ -6,8 +6,9 @@ use Rattle.letter_kinds.specs.declared.note.Note.TheVariants.{Block, Unblock, Ac
 use Rattle.letter_kinds.specs.declared.note.Report.{Report}
 use Rattle.letter_kinds.specs.Detector.{heard}
 use Rattle.letter_kinds.specs.Reports.{report_told, report_of, keep_report, drop_report}
-use Rattle.detector_laws.specs.Reports.{Contradictory, with_block, with_unblock, with_notes, told_by_kept, told_of, IsSilentOn, IsAsTold, ReportsAreExact}
-use Rattle.detector_laws.specs.World.{Cell, World, hear}
+use Rattle.detector_laws.specs.Reports.{Contradictory, with_block, with_unblock, with_notes, told_by_kept, told_of, IsSilentOn, IsAsTold}
+use Rattle.detector_laws.specs.World.{World, hear, ReportsAreExact}
+use Rattle.machine_rules.specs.Cell.{Cell}
 
 pub report_of-keep : (r : Report) (ks : List Report) (a : ℕ) → report_of (keep_report r ks) a ≡ (if r.actor == a then Some r else report_of ks a)
 report_of-keep r [] a = refl
@@ -23,16 +24,16 @@ with_notes-contradictory a (Block b count held ∷ ns) = grind (arith, with_note
 with_notes-contradictory a (Unblock b ∷ ns) = grind (arith, with_notes-contradictory a ns)
 with_notes-contradictory a (Ack t b ∷ ns) = with_notes-contradictory a ns
 
-not_wrong : (c : Cell) (a : ℕ) (ns : List Note) → IsAsTold c a (with_notes a Contradictory ns) → ⊥
+not_wrong : (c : Option Cell) (a : ℕ) (ns : List Note) → IsAsTold c a (with_notes a Contradictory ns) → ⊥
 not_wrong c a ns h = subst (IsAsTold c a) (with_notes-contradictory a ns) h
 
-block_step : (c : Cell) (a : ℕ) (r : Report) (ns : List Note) (b : Bool) (o : Option Report)
+block_step : (c : Option Cell) (a : ℕ) (r : Report) (ns : List Note) (b : Bool) (o : Option Report)
     → IsAsTold c a (with_notes a (if b then with_block (told_by_kept o) r else told_by_kept o) ns) → IsAsTold c a (with_notes a (told_by_kept (if b then Some r else o)) ns)
 block_step c a r ns true None h = h
 block_step c a r ns true (Some q) h = absurd (not_wrong c a ns h)
 block_step c a r ns false o h = h
 
-unblock_step : (c : Cell) (a : ℕ) (ns : List Note) (b : Bool) (o : Option Report)
+unblock_step : (c : Option Cell) (a : ℕ) (ns : List Note) (b : Bool) (o : Option Report)
     → IsAsTold c a (with_notes a (if b then with_unblock (told_by_kept o) else told_by_kept o) ns) → IsAsTold c a (with_notes a (told_by_kept (if b then None else o)) ns)
 unblock_step c a ns true None h = absurd (not_wrong c a ns h)
 unblock_step c a ns true (Some q) h = h

@@ -7,12 +7,16 @@ use Rattle.letter_kinds.specs.declared.note.Note.TheVariants.{Block, Unblock, Ac
 use Rattle.letter_kinds.specs.declared.note.Report.{Report}
 use Rattle.letter_kinds.specs.Detector.{Token, Detector, has, note_ack, heard}
 use Rattle.letter_kinds.specs.Reports.{report_told, block_note, report_of, drop_report}
-use Rattle.detector_laws.specs.Reports.{IsSilentOn, ReportsAreExact}
-use Rattle.detector_laws.specs.Tokens.{confirm_count, ack_count, trace_count, IsSealed, unblocks_before_ack, IsSpoiled, SoundTokens, TokensAreSound}
-use Rattle.detector_laws.specs.World.{LetterKind, Cell, World, In, hear}
+use Rattle.detector_laws.specs.Reports.{IsSilentOn}
+use Rattle.detector_laws.specs.Tokens.{ack_count, trace_count, IsSealed, unblocks_before_ack, IsSpoiled, SoundTokens}
+use Rattle.detector_laws.specs.World.{World, hear, TokensAreSound}
 use Rattle.detector_laws.proofs.Hear.{report_of-keep, report_of-drop}
 use Rattle.detector_laws.proofs.Letters.{other_before_confirm-some}
 use Rattle.detector_laws.proofs.Members.{In-filter, In-map}
+use Rattle.detector_laws.specs.Confirms.{confirm_count}
+use Rattle.detector_laws.specs.Members.{In}
+use Rattle.letter_kinds.specs.declared.letter.Letter.{Letter}
+use Rattle.machine_rules.specs.Cell.{Cell}
 
 tail_acks : (t a : ℕ) (n : Note) (ns : List Note) → ack_count t a ns ≤ ack_count t a (n ∷ ns)
 tail_acks t a (Block b count held) ns = omega arith
@@ -23,10 +27,10 @@ tail_acks t a (Ack u b) ns = omega arith
 has_acked : (u a : ℕ) (t : Token) (m : ℕ) → has (note_ack u a t).acked m ≡ (if u == t.number then (a == m) || has t.acked m else has t.acked m)
 has_acked u a t m = grind (arith, nat_tests)
 
-noted_le : (u a : ℕ) (t : Token) (m : ℕ) (mail : List LetterKind) (ns : List Note) → trace_count (note_ack u a t) m mail ns ≤ trace_count t m mail (Ack u a ∷ ns)
+noted_le : (u a : ℕ) (t : Token) (m : ℕ) (mail : List Letter) (ns : List Note) → trace_count (note_ack u a t) m mail ns ≤ trace_count t m mail (Ack u a ∷ ns)
 noted_le u a t m mail ns = rw (has_acked u a t m) (grind (arith, nat_tests))
 
-noted_one : (u a : ℕ) (t : Token) (m : ℕ) (mail : List LetterKind) (ns : List Note) → trace_count t m mail (Ack u a ∷ ns) ≡ 1 → trace_count (note_ack u a t) m mail ns ≡ 1
+noted_one : (u a : ℕ) (t : Token) (m : ℕ) (mail : List Letter) (ns : List Note) → trace_count t m mail (Ack u a ∷ ns) ≡ 1 → trace_count (note_ack u a t) m mail ns ≡ 1
 noted_one u a t m mail ns h = rw (has_acked u a t m) (grind (arith, nat_tests))
 
 silent_tail : (m : ℕ) (n : Note) (ns : List Note) → IsSilentOn m (n ∷ ns) → IsSilentOn m ns
@@ -38,10 +42,10 @@ unblocks_before_ack-ack : (u a : ℕ) (t : Token) (m : ℕ) (ns : List Note) →
 unblocks_before_ack-ack u a t m ns h k = rw (has_acked u a t m) (grind (arith, nat_tests))
 
 -- while the Confirm waits, the Ack is not under way
-unnoted_ack : (u a : ℕ) (t : Token) (m : ℕ) (mail : List LetterKind) (ns : List Note) → 0 < confirm_count t.number mail → trace_count t m mail (Ack u a ∷ ns) ≤ 1 → has t.acked m ≡ false → has (note_ack u a t).acked m ≡ false
+unnoted_ack : (u a : ℕ) (t : Token) (m : ℕ) (mail : List Letter) (ns : List Note) → 0 < confirm_count t.number mail → trace_count t m mail (Ack u a ∷ ns) ≤ 1 → has t.acked m ≡ false → has (note_ack u a t).acked m ≡ false
 unnoted_ack u a t m mail ns h k e = rw (has_acked u a t m) (grind (arith, nat_tests))
 
-block_heard : (cell : ℕ → Cell) (mail : ℕ → List LetterKind) (loaded : ℕ → ℕ) (d : Detector) (r : Report) (ns : List Note) → SoundTokens d cell mail loaded (block_note r ∷ ns) → SoundTokens (heard (block_note r) d) cell mail loaded ns
+block_heard : (cell : ℕ → Option Cell) (mail : ℕ → List Letter) (loaded : ℕ → ℕ) (d : Detector) (r : Report) (ns : List Note) → SoundTokens d cell mail loaded (block_note r ∷ ns) → SoundTokens (heard (block_note r) d) cell mail loaded ns
 block_heard cell mail loaded d r ns k = record {
   apart = k.apart;
   kept = λ t i m j. let (q, e) = k.kept t i m j in subst (λ o. (s : Report) × (o ≡ Some s)) (sym (report_of-keep r d.kept m))
@@ -67,7 +71,7 @@ unblocks_before_ack-other t a m ns ne h = grind (arith, nat_tests)
 dropped_other : (a m : ℕ) (o p : Option Report) (r : Report) → a ≢ m → o ≡ (if a == m then None else p) → p ≡ Some r → o ≡ Some r
 dropped_other a m o p r ne e f = grind (arith, nat_tests)
 
-unblock_heard : (cell : ℕ → Cell) (mail : ℕ → List LetterKind) (loaded : ℕ → ℕ) (d : Detector) (a : ℕ) (ns : List Note) → SoundTokens d cell mail loaded (Unblock a ∷ ns) → SoundTokens (heard (Unblock a) d) cell mail loaded ns
+unblock_heard : (cell : ℕ → Option Cell) (mail : ℕ → List Letter) (loaded : ℕ → ℕ) (d : Detector) (a : ℕ) (ns : List Note) → SoundTokens d cell mail loaded (Unblock a ∷ ns) → SoundTokens (heard (Unblock a) d) cell mail loaded ns
 unblock_heard cell mail loaded d a ns k =
     let is = λ (t : Token) (i : In t (filter (λ u. not (has u.members a)) d.tokens)). In-filter (λ u. not (has u.members a)) t d.tokens i in
     record {
@@ -92,7 +96,7 @@ unblock_heard cell mail loaded d a ns k =
           (k.state t (is t i).0);
     }
 
-ack_heard : (cell : ℕ → Cell) (mail : ℕ → List LetterKind) (loaded : ℕ → ℕ) (d : Detector) (u a : ℕ) (ns : List Note) → SoundTokens d cell mail loaded (Ack u a ∷ ns) → SoundTokens (heard (Ack u a) d) cell mail loaded ns
+ack_heard : (cell : ℕ → Option Cell) (mail : ℕ → List Letter) (loaded : ℕ → ℕ) (d : Detector) (u a : ℕ) (ns : List Note) → SoundTokens d cell mail loaded (Ack u a ∷ ns) → SoundTokens (heard (Ack u a) d) cell mail loaded ns
 ack_heard cell mail loaded d u a ns k =
     let from = λ (t : Token) (i : In t (map (note_ack u a) d.tokens)). In-map (note_ack u a) t d.tokens i in
     record {
@@ -121,10 +125,10 @@ ack_heard cell mail loaded d u a ns k =
           (k.state t' i'));
     }
 
-heard_tokens : (cell : ℕ → Cell) (mail : ℕ → List LetterKind) (loaded : ℕ → ℕ) (d : Detector) (n : Note) (ns : List Note) → SoundTokens d cell mail loaded (n ∷ ns) → SoundTokens (heard n d) cell mail loaded ns
+heard_tokens : (cell : ℕ → Option Cell) (mail : ℕ → List Letter) (loaded : ℕ → ℕ) (d : Detector) (n : Note) (ns : List Note) → SoundTokens d cell mail loaded (n ∷ ns) → SoundTokens (heard n d) cell mail loaded ns
 heard_tokens cell mail loaded d (Block b count held) ns k = block_heard cell mail loaded d (report_told b count held) ns k
 heard_tokens cell mail loaded d (Unblock a) ns k = unblock_heard cell mail loaded d a ns k
 heard_tokens cell mail loaded d (Ack u a) ns k = ack_heard cell mail loaded d u a ns k
 
-pub hear_tokens : (w : World) (n : Note) (ns : List Note) → w.notes ≡ n ∷ ns → ReportsAreExact w → TokensAreSound w → TokensAreSound (hear w n ns)
-hear_tokens w n ns e h k = heard_tokens w.cell w.mail w.loaded w.detector n ns (subst (SoundTokens w.detector w.cell w.mail w.loaded) e k)
+pub hear_tokens : (w : World) (n : Note) (ns : List Note) → w.notes ≡ n ∷ ns → TokensAreSound w → TokensAreSound (hear w n ns)
+hear_tokens w n ns e k = heard_tokens w.cell w.mail w.loaded w.detector n ns (subst (SoundTokens w.detector w.cell w.mail w.loaded) e k)

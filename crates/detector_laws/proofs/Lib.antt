@@ -1,5 +1,6 @@
 pub mod ActorReports
 pub mod ActorTokens
+pub mod Cells
 pub mod Hear
 pub mod HearTokens
 pub mod Letters

@@ -1,8 +1,8 @@
 -- The token of a number is one of the open tokens.
 use Rattle.std.proofs.Common.{◌≡◌, ℕ, ◌==◌, Some, eqb-true}
 use Rattle.letter_kinds.specs.Detector.{Detector, Token, token_numbered}
-use Rattle.detector_laws.specs.World.{In}
 use Rattle.detector_laws.proofs.Members.{In-find}
+use Rattle.detector_laws.specs.Members.{In}
 
 pub numbered_is_open : (d : Detector) (number : ℕ) (t : Token) → token_numbered number d ≡ Some t → In t d.tokens × (t.number ≡ number)
 numbered_is_open d number t h =

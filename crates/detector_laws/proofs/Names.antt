@@ -4,7 +4,7 @@ use Rattle.std.proofs.lemmas.Bool.{or_cases, or_left, or_right, or_parts, eqb-fa
 use Rattle.std.specs.List.{AllByRecursion}
 use Rattle.letter_kinds.specs.declared.note.Report.{Report}
 use Rattle.letter_kinds.specs.Detector.{has}
-use Rattle.detector_laws.specs.World.{In}
+use Rattle.detector_laws.specs.Members.{In}
 
 abbrev pub names : List Report → List ℕ
 names rs = map (λ r. r.actor) rs

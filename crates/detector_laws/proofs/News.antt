@@ -12,10 +12,10 @@ use Rattle.letter_kinds.proofs.Filters.{filter_twice}
 use Rattle.letter_kinds.proofs.Rounds.{largest_by_rounds}
 use Rattle.detector_laws.specs.News.{NoNewsNoClosedSet}
 use Rattle.detector_laws.specs.Reports.{IsRising}
-use Rattle.detector_laws.specs.World.{In}
 use Rattle.detector_laws.proofs.Names.{names, name_In}
 use Rattle.detector_laws.proofs.Order.{filter_rising, keep_rising}
 use Rattle.detector_laws.proofs.Scan.{in_token_from}
+use Rattle.detector_laws.specs.Members.{In}
 
 -- the same test keeps the same
 same_filter : (p q : Report → Bool) (rs : List Report) → ((r : Report) → p r ≡ q r) → filter p rs ≡ filter q rs

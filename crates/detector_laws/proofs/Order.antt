@@ -5,7 +5,7 @@ use Rattle.std.proofs.lemmas.Bool.Decides.{nat_tests}
 use Rattle.letter_kinds.specs.declared.note.Report.{Report}
 use Rattle.letter_kinds.specs.Reports.{report_of, keep_report}
 use Rattle.detector_laws.specs.Reports.{AllAbove, IsRising}
-use Rattle.detector_laws.specs.World.{In}
+use Rattle.detector_laws.specs.Members.{In}
 
 filter_above : (p : Report → Bool) (a : ℕ) (rs : List Report) → AllAbove a rs → AllAbove a (filter p rs)
 filter_above p a [] h = tt

@@ -1,5 +1,5 @@
 -- Where no event is enabled, each present actor is reached.
-use Rattle.std.proofs.Common.{◌≡◌, ℕ, zero, suc, ◌+◌, ◌≤◌, ◌<◌, ◌≢◌, ◌==◌, not, Bool, true, false, cond, if◌then◌else◌, inl, inr, ⊎_elim, List, [], ◌∷◌, length, filter, None, sum_by, arith, refl, ap, sym, subst, ◌∙◌, eqb-true}
+use Rattle.std.proofs.Common.{◌≡◌, ℕ, zero, suc, ◌+◌, ◌≤◌, ◌<◌, ◌≢◌, ◌==◌, not, Bool, true, false, cond, if◌then◌else◌, inl, inr, ⊎_elim, List, [], ◌∷◌, length, filter, Some, None, sum_by, arith, refl, ap, sym, subst, ◌∙◌, eqb-true}
 use Rattle.std.proofs.lemmas.Bool.{cases_eq, cases_Bool, cases_lt, cond_both, cond-true, false≢true, or_parts, eqb-false}
 use Rattle.std.proofs.lemmas.Bool.Decides.{nat_tests}
 use Rattle.std.proofs.lemmas.List.Sums.{sum_by-cons}
@@ -14,41 +14,43 @@ use Rattle.letter_kinds.proofs.Acked.{each_acked}
 use Rattle.detector_laws.specs.Balance.{sum_below, ActorsAreBalanced}
 use Rattle.detector_laws.specs.News.{NoNewsNoClosedSet}
 use Rattle.detector_laws.specs.Quiet.{IsQuiet, IsReached, root, edge}
-use Rattle.detector_laws.specs.Reports.{told_by_kept, told_of, IsExact, IsBlocked, IsAsTold, ReportsAreExact, IsRising}
-use Rattle.detector_laws.specs.Tokens.{trace_count, IsSealed, unblocks_before_ack, other_before_confirm, IsSpoiled, TokensAreSound}
-use Rattle.detector_laws.specs.World.{World, In, at, OnlyConfirms}
-use Rattle.detector_laws.proofs.ActorTokens.{present_if_reported}
+use Rattle.detector_laws.specs.Reports.{told_by_kept, told_of, IsAsTold, IsRising}
+use Rattle.detector_laws.specs.Tokens.{trace_count, IsSealed, unblocks_before_ack, IsSpoiled}
+use Rattle.detector_laws.specs.World.{World, at, ReportsAreExact, TokensAreSound}
+use Rattle.machine_rules.specs.Cell.{Cell}
+use Rattle.detector_laws.specs.Cells.{held_on, is_reporting}
+use Rattle.detector_laws.proofs.Cells.{IsTrue, holder_present, reporter_present, true_holds}
 use Rattle.detector_laws.proofs.Maps.{at_same, at_other}
 use Rattle.detector_laws.proofs.Members.{In-filter, each_In, In_each}
 use Rattle.detector_laws.proofs.Names.{names, named, name_In}
 use Rattle.detector_laws.proofs.Order.{filter_rising, In_report_of}
 use Rattle.detector_laws.proofs.Sums.{sum_below_same, sum_below_at, above_same}
+use Rattle.detector_laws.specs.Confirms.{OnlyConfirms, other_before_confirm}
+use Rattle.detector_laws.specs.Members.{In}
 
--- whatever holds of the pinned, and of those that one of it holds, as what is reached does
-pub record IsReach (w : World) (reached : ℕ → Type 0) : Type 0 where
-  pub roots : (a : ℕ) → (w.cell a).present ≡ true → (w.cell a).pinned ≡ true → reached a
-  pub edges : (b a : ℕ) → (w.cell b).present ≡ true → reached b → (w.cell b).foreign a ≢ 0 → reached a
+abbrev IsPresent : World → ℕ → Type 0
+IsPresent w a = (c : Cell) × (w.cell a ≡ Some c)
 
 -- no token is open
 
 sealed_acked : (w : World) → IsQuiet w → (t : Token) → IsSealed w.cell w.mail w.loaded w.notes t → (m : ℕ) → has t.members m ≡ true → has t.acked m ≡ true
 sealed_acked w q t s m i =
     let seal = s m i in
-    let one : trace_count t m [] [] ≡ 1 = subst (λ l. trace_count t m l [] ≡ 1) (q.empty m seal.blocked.present) (subst (λ ns. trace_count t m (w.mail m) ns ≡ 1) q.heard seal.one) in
+    let one : trace_count t m [] [] ≡ 1 = subst (λ l. trace_count t m l [] ≡ 1) (q.rest m seal.blocked.cell seal.blocked.here).empty (subst (λ ns. trace_count t m (w.mail m) ns ≡ 1) q.heard seal.one) in
     last_place (has t.acked m) one
   where
     last_place : (b : Bool) → (0 + 0) + (if b then 1 else 0) ≡ 1 → b ≡ true
     last_place true e = refl
     last_place false e = absurd (omega arith)
 
-none_spoiled : (w : World) → IsQuiet w → ReportsAreExact w → (t : Token) → IsSpoiled w.cell w.mail w.notes t → ⊥
-none_spoiled w q h t (m, i, p) = ⊎_elim
+none_spoiled : (w : World) → IsQuiet w → (t : Token) → IsSpoiled w.cell w.mail w.notes t → ⊥
+none_spoiled w q t (m, i, p) = ⊎_elim
     (λ l. false≢true (subst (λ ns. unblocks_before_ack t.number m ns ≡ true) q.heard l))
-    (λ l. false≢true (subst (λ ls. other_before_confirm t.number ls ≡ true) (q.empty m (present_if_reported w h m l.0)) l.1))
+    (λ l. false≢true (subst (λ ls. other_before_confirm t.number ls ≡ true) (let c = reporter_present (w.cell m) l.0 in (q.rest m c.0 c.1).empty) l.1))
     p.cause
 
-pub no_token : (w : World) → IsQuiet w → ReportsAreExact w → TokensAreSound w → (t : Token) → In t w.detector.tokens → ⊥
-no_token w q h k t i = ⊎_elim (λ s. q.unacked t i (each_acked t (sealed_acked w q t s))) (λ s. none_spoiled w q h t s) (k.state t i)
+pub no_token : (w : World) → IsQuiet w → TokensAreSound w → (t : Token) → In t w.detector.tokens → ⊥
+no_token w q k t i = ⊎_elim (λ s. q.unacked t i (each_acked t (sealed_acked w q t s))) (λ s. none_spoiled w q t s) (k.state t i)
 
 none_in_token : (ts : List Token) → ((t : Token) → In t ts → ⊥) → (m : ℕ) → in_token ts m ≡ false
 none_in_token [] h m = refl
@@ -56,7 +58,7 @@ none_in_token (t ∷ ts) h m = absurd (h t (inl refl))
 
 -- each report that is kept is exact
 
-kept_exact : (w : World) → IsQuiet w → ReportsAreExact w → IsRising w.detector.kept → (r : Report) → In r w.detector.kept → IsBlocked (w.cell r.actor) × IsExact (w.cell r.actor) r.actor r
+kept_exact : (w : World) → IsQuiet w → ReportsAreExact w → IsRising w.detector.kept → (r : Report) → In r w.detector.kept → IsTrue w.cell r
 kept_exact w q h rising r i =
     subst (λ o. IsAsTold (w.cell r.actor) r.actor (told_by_kept o)) (In_report_of w.detector.kept r rising i)
     (subst (λ ns. IsAsTold (w.cell r.actor) r.actor (told_of r.actor w.detector.kept ns)) q.heard (h.last r.actor))
@@ -66,19 +68,19 @@ no_report [] a h = refl
 no_report (r ∷ rs) a h = let two = or_parts (r.actor == a) (has (names rs) a) h in grind (arith, two.0, no_report rs a two.1)
 
 -- an unpinned actor's report is kept
-unkept_pinned : (w : World) → IsQuiet w → ReportsAreExact w → (a : ℕ) → (w.cell a).present ≡ true → has (names w.detector.kept) a ≡ false → (w.cell a).pinned ≡ true
-unkept_pinned w q h a here out = ⊎_elim
+unkept_pinned : (w : World) → IsQuiet w → ReportsAreExact w → (a : ℕ) (c : Cell) → w.cell a ≡ Some c → has (names w.detector.kept) a ≡ false → c.fields.pinned ≡ true
+unkept_pinned w q h a c here out = ⊎_elim
     (λ t. t)
-    (λ f. let off : (w.cell a).reported ≡ false = subst (λ o. IsAsTold (w.cell a) a (told_by_kept o)) (no_report w.detector.kept a out)
+    (λ f. let off : is_reporting (w.cell a) ≡ false = subst (λ o. IsAsTold (w.cell a) a (told_by_kept o)) (no_report w.detector.kept a out)
     (subst (λ ns. IsAsTold (w.cell a) a (told_of a w.detector.kept ns)) q.heard (h.last a)) in
-    absurd (false≢true (sym off ∙ q.blocked a here f)))
-    (cases_Bool (w.cell a).pinned)
+    absurd (false≢true (sym off ∙ (ap is_reporting here ∙ q.told a c here f))))
+    (cases_Bool c.fields.pinned)
 
 -- those that no other holds, in rounds
 
 -- what actors outside these reports hold on x
 abbrev outside : World → List Report → ℕ → ℕ
-outside w rs x = sum_below w.made (λ b. if has (names rs) b then 0 else (w.cell b).foreign x)
+outside w rs x = sum_below w.made (λ b. if has (names rs) b then 0 else held_on (w.cell b) x)
 
 abbrev unheld : World → List Report → Report → Bool
 unheld w rs r = outside w rs r.actor == 0
@@ -115,10 +117,10 @@ some_below (suc n) f h = ⊎_elim
     (λ (s : f n ≢ 0). (n, omega arith, s))
     (cases_eq (f n) 0)
 
-held_from_outside : (w : World) (rs : List Report) (x : ℕ) → outside w rs x ≢ 0 → (b : ℕ) × (has (names rs) b ≡ false) × ((w.cell b).foreign x ≢ 0)
+held_from_outside : (w : World) (rs : List Report) (x : ℕ) → outside w rs x ≢ 0 → (b : ℕ) × (has (names rs) b ≡ false) × (held_on (w.cell b) x ≢ 0)
 held_from_outside w rs x h =
-    let (b, lt, ne) = some_below w.made (λ c. if has (names rs) c then 0 else (w.cell c).foreign x) h in
-    let two = parts (has (names rs) b) ((w.cell b).foreign x) ne in (b, two.0, two.1)
+    let (b, lt, ne) = some_below w.made (λ c. if has (names rs) c then 0 else held_on (w.cell c) x) h in
+    let two = parts (has (names rs) b) (held_on (w.cell b) x) ne in (b, two.0, two.1)
   where
     parts : (t : Bool) (k : ℕ) → (if t then 0 else k) ≢ 0 → (t ≡ false) × (k ≢ 0)
     parts true k ne = absurd (ne refl)
@@ -135,24 +137,20 @@ removed p rs a i out =
     let (r, j, e) = named rs a i in
     (r, j, e, ⊎_elim (λ (t : p r ≡ true). absurd (false≢true (sym out ∙ (ap (has (names (filter p rs))) (sym e) ∙ name_In (filter p rs) r (In-stays p rs r j t))))) (λ f. f) (cases_Bool (p r)))
 
-reached_step : (w : World) (reached : ℕ → Type 0) → IsReach w reached → ActorsAreBalanced w → (rs : List Report)
-    → ((a : ℕ) → (w.cell a).present ≡ true → has (names rs) a ≡ false → reached a)
-    → (a : ℕ) → (w.cell a).present ≡ true → has (names (filter (unheld w rs) rs)) a ≡ false → reached a
-reached_step w reached is bal rs before a here out = ⊎_elim
+reached_step : (w : World) (rs : List Report) → ((a : ℕ) → IsPresent w a → has (names rs) a ≡ false → IsReached w a)
+    → (a : ℕ) → IsPresent w a → has (names (filter (unheld w rs) rs)) a ≡ false → IsReached w a
+reached_step w rs before a here out = ⊎_elim
     (λ (i : has (names rs) a ≡ true).
     let (r, j, e, f) = removed (unheld w rs) rs a i out in
     let (b, o, ne) = held_from_outside w rs r.actor (eqb-false (outside w rs r.actor) 0 f) in
-    let there : (w.cell b).present ≡ true = ⊎_elim (λ t. t) (λ (gone : (w.cell b).present ≡ false). absurd (ne (bal.absent b r.actor gone))) (cases_Bool (w.cell b).present) in
-    is.edges b a there (before b there o) (subst (λ x. (w.cell b).foreign x ≢ 0) e ne))
+    edge (before b (holder_present (w.cell b) r.actor ne) o) (subst (λ x. held_on (w.cell b) x ≢ 0) e ne))
     (λ o. before a here o)
     (cases_Bool (has (names rs) a))
 
-reached_outside : (w : World) (reached : ℕ → Type 0) → IsReach w reached → ActorsAreBalanced w → (n : ℕ) (rs : List Report)
-    → ((a : ℕ) → (w.cell a).present ≡ true → has (names rs) a ≡ false → reached a)
-    → (a : ℕ) → (w.cell a).present ≡ true → has (names (settle w n rs)) a ≡ false → reached a
-reached_outside w reached is bal zero rs before a here out = before a here out
-reached_outside w reached is bal (suc n) rs before a here out =
-    reached_outside w reached is bal n (filter (unheld w rs) rs) (reached_step w reached is bal rs before) a here out
+reached_outside : (w : World) (n : ℕ) (rs : List Report) → ((a : ℕ) → IsPresent w a → has (names rs) a ≡ false → IsReached w a)
+    → (a : ℕ) → IsPresent w a → has (names (settle w n rs)) a ≡ false → IsReached w a
+reached_outside w zero rs before a here out = before a here out
+reached_outside w (suc n) rs before a here out = reached_outside w n (filter (unheld w rs) rs) (reached_step w rs before) a here out
 
 -- those that stay are closed
 
@@ -188,23 +186,23 @@ all_le_some n f (r ∷ rs) k h z =
           (cases_eq b r.actor)),
     )
 
-told_on_by-ge : (w : World) → ActorsAreBalanced w → (m : ℕ) (rs : List Report) → AllByRecursion (λ r. IsExact (w.cell r.actor) r.actor r) rs → sum_by (λ r. (w.cell r.actor).foreign m) rs ≤ told_on_by m rs
+told_on_by-ge : (w : World) → ActorsAreBalanced w → (m : ℕ) (rs : List Report) → AllByRecursion (IsTrue w.cell) rs → sum_by (λ r. held_on (w.cell r.actor) m) rs ≤ told_on_by m rs
 told_on_by-ge w bal m [] h = omega arith
 told_on_by-ge w bal m (r ∷ rs) h =
-    omega (arith, sum_by-cons (told_on m) r rs, sum_by-cons (λ q. (w.cell q.actor).foreign m) r rs, told_on-ge m r ((w.cell r.actor).foreign m) (h.0.held m) (λ e. subst (λ x. (w.cell r.actor).foreign x ≡ 0) e (bal.own r.actor)), told_on_by-ge w bal m rs h.1)
+    omega (arith, sum_by-cons (told_on m) r rs, sum_by-cons (λ q. held_on (w.cell q.actor) m) r rs, told_on-ge m r (held_on (w.cell r.actor) m) (true_holds w.cell r h.0 m) (λ e. subst (λ x. held_on (w.cell r.actor) x ≡ 0) e (bal.own r.actor)), told_on_by-ge w bal m rs h.1)
 
-stay_closed : (w : World) → IsQuiet w → ActorsAreBalanced w → (rs : List Report) → IsRising rs → ((r : Report) → In r rs → IsBlocked (w.cell r.actor) × IsExact (w.cell r.actor) r.actor r)
+stay_closed : (w : World) → IsQuiet w → ActorsAreBalanced w → (rs : List Report) → IsRising rs → ((r : Report) → In r rs → IsTrue w.cell r)
     → filter (unheld w rs) rs ≡ rs → IsClosed rs
 stay_closed w q bal rs rising exact fixed =
     let stays = all_filter (unheld w rs) rs fixed in
-    let few : AllByRecursion (λ r. r.actor < w.made) rs = In_each (λ r. r.actor < w.made) rs (λ r i. bal.made r.actor (exact r i).0.present) in
-    let exacts : AllByRecursion (λ r. IsExact (w.cell r.actor) r.actor r) rs = In_each (λ r. IsExact (w.cell r.actor) r.actor r) rs (λ r i. (exact r i).1) in
+    let few : AllByRecursion (λ r. r.actor < w.made) rs = In_each (λ r. r.actor < w.made) rs (λ r i. let member = (exact r i).0 in bal.made r.actor member.cell member.here) in
+    let exacts : AllByRecursion (IsTrue w.cell) rs = In_each (IsTrue w.cell) rs exact in
     In_each (λ r. r.count ≤ told_on_by r.actor rs) rs (λ r i.
-    let f = λ (b : ℕ). (w.cell b).foreign r.actor in
+    let f = λ (b : ℕ). held_on (w.cell b) r.actor in
     let none : outside w rs r.actor ≡ 0 = eqb-true (outside w rs r.actor) 0 (each_In (λ x. unheld w rs x ≡ true) rs stays r i) in
-    let here = (exact r i).0.present in
-    let full : (w.cell r.actor).count ≡ sum_below w.made f + w.loaded r.actor = bal.full r.actor here (subst OnlyConfirms (sym (q.empty r.actor here)) tt) in
-    let count : r.count ≡ (w.cell r.actor).count = (exact r i).1.count in
+    let member = (exact r i).0 in
+    let full : member.cell.holdings.count ≡ sum_below w.made f + w.loaded r.actor = bal.full r.actor member.cell member.here (subst OnlyConfirms (sym (q.rest r.actor member.cell member.here).empty) tt) in
+    let count : r.count ≡ member.cell.holdings.count = (exact r i).1.count in
     let unloaded : w.loaded r.actor ≡ 0 = q.unloaded r.actor in
     let inside : sum_below w.made f ≤ sum_by (λ x. f x.actor) rs = all_le_some w.made f rs few rising
     (λ b lt out. ap (λ t. if t then 0 else f b) (sym out) ∙ zero_below w.made (λ c. if has (names rs) c then 0 else f c) none b lt) in
@@ -215,20 +213,16 @@ all_free : (p : Report → Bool) (rs : List Report) → ((r : Report) → p r �
 all_free p [] h = refl
 all_free p (r ∷ rs) h = grind (arith, h r, all_free p rs h)
 
-pub quiet_reached : (w : World) → IsQuiet w → ReportsAreExact w → TokensAreSound w → NoNewsNoClosedSet w.detector → ActorsAreBalanced w → IsRising w.detector.kept → (reached : ℕ → Type 0) → IsReach w reached → (a : ℕ) → (w.cell a).present ≡ true → reached a
-quiet_reached w q h k news bal rising reached is a here =
+pub quiet_all_reached : (w : World) → IsQuiet w → ReportsAreExact w → TokensAreSound w → NoNewsNoClosedSet w.detector → ActorsAreBalanced w → IsRising w.detector.kept → (a : ℕ) (c : Cell) → w.cell a ≡ Some c → IsReached w a
+quiet_all_reached w q h k news bal rising a c here =
     let kept = w.detector.kept in
     let left = settle w (length kept) kept in
     let (test, e) = settle_among w (length kept) kept in
-    let cs : candidates w.detector ≡ kept = all_free (λ r. not (in_token w.detector.tokens r.actor)) kept (λ r. ap not (none_in_token w.detector.tokens (no_token w q h k) r.actor)) in
+    let cs : candidates w.detector ≡ kept = all_free (λ r. not (in_token w.detector.tokens r.actor)) kept (λ r. ap not (none_in_token w.detector.tokens (no_token w q k) r.actor)) in
     let none : largest_closed kept ≡ [] = subst (λ rs. largest_closed rs ≡ []) cs (news q.scanned) in
     let closed : IsClosed left = stay_closed w q bal left (subst IsRising (sym e) (filter_rising test kept rising))
     (λ r i. kept_exact w q h rising r (In-filter test r kept (subst (In r) e i)).0)
     (settle_end w (length kept) kept (omega arith)) in
     let gone : left ≡ [] = e ∙ (sym ((largest_by_rounds kept).all test (subst IsClosed e closed)) ∙ ap (filter test) none) in
-    reached_outside w reached is bal (length kept) kept (λ b there out. is.roots b there (unkept_pinned w q h b there out)) a here
+    reached_outside w (length kept) kept (λ b there out. root there.1 (unkept_pinned w q h b there.0 there.1 out)) a (c, here)
     (subst (λ rs. has (names rs) a ≡ false) (sym gone) refl)
-
-pub quiet_all_reached : (w : World) → IsQuiet w → ReportsAreExact w → TokensAreSound w → NoNewsNoClosedSet w.detector → ActorsAreBalanced w → IsRising w.detector.kept → (a : ℕ) → (w.cell a).present ≡ true → IsReached w a
-quiet_all_reached w q h k news bal rising =
-    quiet_reached w q h k news bal rising (IsReached w) record { roots = λ a p t. root p t; edges = λ b a p r ne. edge p r ne }

@@ -7,12 +7,15 @@ use Rattle.letter_kinds.specs.Detector.{Token, has, close_token}
 use Rattle.letter_kinds.specs.Reports.{report_of}
 use Rattle.letter_kinds.proofs.Acked.{acked_each}
 use Rattle.detector_laws.specs.Events.{Reaps}
-use Rattle.detector_laws.specs.Reports.{with_notes, told_by_kept, told_of, IsSilentOn, IsBlocked, IsAsTold, ExactReports, ReportsAreExact}
-use Rattle.detector_laws.specs.Tokens.{confirm_count, IsSealedMember, IsSealed, other_before_confirm, IsSpoiled, SoundTokens, TokensAreSound}
-use Rattle.detector_laws.specs.World.{Cell, World, In}
+use Rattle.detector_laws.specs.Reports.{with_notes, told_by_kept, told_of, IsSilentOn, IsBlocked, IsAsTold, ExactReports}
+use Rattle.detector_laws.specs.Tokens.{IsSealedMember, IsSealed, IsSpoiled, SoundTokens}
+use Rattle.detector_laws.specs.World.{World, ReportsAreExact, TokensAreSound}
+use Rattle.detector_laws.specs.Cells.{held_on, is_reporting}
 use Rattle.detector_laws.proofs.Letters.{confirm_count-append, confirm_count-none, other_before_confirm-append}
 use Rattle.detector_laws.proofs.Members.{In-filter}
 use Rattle.detector_laws.proofs.Notes.{with_notes-silent}
+use Rattle.detector_laws.specs.Confirms.{confirm_count, other_before_confirm}
+use Rattle.detector_laws.specs.Members.{In}
 
 report_of-out : (ms : List ℕ) (ks : List Report) (a : ℕ) → has ms a ≡ true → report_of (filter (λ k. not (has ms k.actor)) ks) a ≡ None
 report_of-out ms [] a h = refl
@@ -38,17 +41,17 @@ reaped_sealed w w' t r k = ⊎_elim
 reaped_last : (w w' : World) (t : Token) → Reaps w t w' → ReportsAreExact w → IsSealed w.cell w.mail w.loaded w.notes t → (a : ℕ) → IsAsTold (w'.cell a) a (told_of a (close_token t w.detector).kept w.notes)
 reaped_last w w' t r h s a = ⊎_elim
     (λ (i : has t.members a ≡ true).
-    subst (IsAsTold (w'.cell a) a) (sym (with_notes-silent a (told_by_kept (report_of (close_token t w.detector).kept a)) w.notes (s a i).silent ∙ ap told_by_kept (report_of-out t.members w.detector.kept a i))) (r.gone a i).1)
+    subst (IsAsTold (w'.cell a) a) (sym (with_notes-silent a (told_by_kept (report_of (close_token t w.detector).kept a)) w.notes (s a i).silent ∙ ap told_by_kept (report_of-out t.members w.detector.kept a i))) (ap is_reporting (r.gone a i).0))
     (λ (o : has t.members a ≡ false).
     subst (λ q. IsAsTold (w'.cell a) a (with_notes a (told_by_kept q) w.notes)) (sym (report_of-in t.members w.detector.kept a o))
     (subst (λ c. IsAsTold c a (told_of a w.detector.kept w.notes)) (sym (r.stays a o)) (h.last a)))
     (cases_Bool (has t.members a))
 
-reaped_absent : (w w' : World) (t : Token) → Reaps w t w' → ReportsAreExact w → IsSealed w.cell w.mail w.loaded w.notes t → (a : ℕ) → (w'.cell a).present ≡ false
+reaped_absent : (w w' : World) (t : Token) → Reaps w t w' → ReportsAreExact w → IsSealed w.cell w.mail w.loaded w.notes t → (a : ℕ) → w'.cell a ≡ None
     → (report_of (close_token t w.detector).kept a ≡ None) × IsSilentOn a w.notes
 reaped_absent w w' t r h s a gone = ⊎_elim
     (λ (i : has t.members a ≡ true). (report_of-out t.members w.detector.kept a i, (s a i).silent))
-    (λ (o : has t.members a ≡ false). let before = h.absent a (ap (λ (c : Cell). c.present) (sym (r.stays a o)) ∙ gone) in
+    (λ (o : has t.members a ≡ false). let before = h.absent a (sym (r.stays a o) ∙ gone) in
     (report_of-in t.members w.detector.kept a o ∙ before.0, before.1))
     (cases_Bool (has t.members a))
 
@@ -71,7 +74,7 @@ apart_from w t u k i j ne m h = ⊎_elim
 
 reaped_confirms : (w w' : World) (t : Token) → Reaps w t w' → (n b : ℕ) → confirm_count n (w'.mail b) ≤ confirm_count n (w.mail b)
 reaped_confirms w w' t r n b = ⊎_elim
-    (λ (i : has t.members b ≡ true). omega (arith, ap (confirm_count n) (r.gone b i).2))
+    (λ (i : has t.members b ≡ true). omega (arith, ap (confirm_count n) (r.gone b i).1))
     (λ (o : has t.members b ≡ false). let (come, grown, plain) = r.sends b o in
     omega (arith, ap (confirm_count n) grown, confirm_count-append n (w.mail b) come, confirm_count-none n come plain))
     (cases_Bool (has t.members b))
@@ -86,8 +89,8 @@ stayed_sealed w w' t u r out s m i =
       letters = seal.letters;
       silent = seal.silent;
       held = λ b o. ⊎_elim
-          (λ (j : has t.members b ≡ true). r.empty b m j)
-          (λ (j : has t.members b ≡ false). ap (λ (c : Cell). c.foreign m) (r.stays b j) ∙ seal.held b o)
+          (λ (j : has t.members b ≡ true). ap (λ o. held_on o m) (r.gone b j).0)
+          (λ (j : has t.members b ≡ false). ap (λ o. held_on o m) (r.stays b j) ∙ seal.held b o)
           (cases_Bool (has t.members b));
       unloaded = r.unloaded m seal.unloaded;
       one = seal.one;
@@ -105,7 +108,7 @@ stayed_spoiled w w' t u r out (m, i, p) =
         unnoted = p.unnoted;
         cause = ⊎_elim
             (λ l. inl l)
-            (λ l. inr (ap (λ (c : Cell). c.reported) (r.stays m (out m i)) ∙ l.0, subst (λ x. other_before_confirm u.number x ≡ true) (sym grown) (other_before_confirm-append u.number (w.mail m) come l.1)))
+            (λ l. inr (ap is_reporting (r.stays m (out m i)) ∙ l.0, subst (λ x. other_before_confirm u.number x ≡ true) (sym grown) (other_before_confirm-append u.number (w.mail m) come l.1)))
             p.cause;
       },
     )

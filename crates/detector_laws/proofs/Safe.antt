@@ -1,23 +1,20 @@
 -- No member of a sealed token is needed.
-use Rattle.std.proofs.Common.{◌≡◌, ℕ, true, false, ⊎_elim, List, [], ◌∷◌, sym, ◌∙◌}
+use Rattle.std.proofs.Common.{◌≡◌, ℕ, true, false, ⊎_elim, ap, sym, ◌∙◌}
 use Rattle.std.proofs.lemmas.Bool.{cases_Bool, false≢true}
 use Rattle.letter_kinds.specs.Detector.{Token, has}
 use Rattle.detector_laws.specs.Events.{Reaps}
 use Rattle.detector_laws.specs.Quiet.{IsNeeded, by_pin, by_frame, by_letter, by_load, by_holder}
-use Rattle.detector_laws.specs.Tokens.{EndsInConfirm, IsSealed, TokensAreSound}
-use Rattle.detector_laws.specs.World.{LetterKind, Other, Confirm, World, OnlyConfirms}
+use Rattle.detector_laws.specs.Tokens.{IsSealed}
+use Rattle.detector_laws.specs.World.{World, TokensAreSound}
+use Rattle.detector_laws.proofs.Cells.{same_some}
+use Rattle.detector_laws.proofs.Letters.{EndsInConfirm-only}
 use Rattle.detector_laws.proofs.Reap.{reaped_sealed}
-
-ends_only : (t : ℕ) (ls : List LetterKind) → EndsInConfirm t ls → OnlyConfirms ls
-ends_only t [] h = tt
-ends_only t (Other ∷ ls) h = absurd h
-ends_only t (Confirm u ∷ []) h = tt
-ends_only t (Confirm u ∷ (l ∷ ls)) h = ends_only t (l ∷ ls) h
+use Rattle.machine_rules.specs.Cell.{Cell}
 
 pub sealed_unneeded : (w : World) (t : Token) → IsSealed w.cell w.mail w.loaded w.notes t → (a : ℕ) → IsNeeded w a → has t.members a ≡ true → ⊥
-sealed_unneeded w t s a (by_pin p) i = false≢true (sym (s a i).blocked.unpinned ∙ p)
-sealed_unneeded w t s a (by_frame p) i = false≢true (sym (s a i).blocked.idle ∙ p)
-sealed_unneeded w t s a (by_letter p) i = p (ends_only t.number (w.mail a) (s a i).letters)
+sealed_unneeded w t s a (by_pin here p) i = let member = (s a i).blocked in false≢true (sym member.unpinned ∙ (ap (λ (c : Cell). c.fields.pinned) (same_some member.here here) ∙ p))
+sealed_unneeded w t s a (by_frame here p) i = let member = (s a i).blocked in p (ap (λ (c : Cell). c.frame) (same_some here member.here) ∙ member.idle)
+sealed_unneeded w t s a (by_letter p) i = p (EndsInConfirm-only t.number (w.mail a) (s a i).letters)
 sealed_unneeded w t s a (by_load p) i = p (s a i).unloaded
 sealed_unneeded w t s a (by_holder {b} n p) i = ⊎_elim
     (λ (j : has t.members b ≡ true). sealed_unneeded w t s b n j)

@@ -1,6 +1,6 @@
 -- A scan opens a token that is sealed or spoiled.
-use Rattle.std.proofs.Common.{◌≡◌, ℕ, suc, ◌+◌, ◌≤◌, ◌<◌, not, true, false, ◌⊎◌, inl, inr, ⊎_elim, List, [], ◌∷◌, ◌++◌, Some, sum_by, arith, refl, ap, sym, subst, ◌∙◌}
-use Rattle.std.proofs.lemmas.Bool.{cases_Bool, cases_lt, cond_both, false≢true, not-true, or_left, or_right}
+use Rattle.std.proofs.Common.{◌≡◌, ℕ, suc, ◌+◌, ◌≤◌, ◌<◌, ◌≢◌, not, true, false, ◌⊎◌, inl, inr, ⊎_elim, List, [], ◌∷◌, ◌++◌, Option, Some, sum_by, arith, refl, ap, sym, subst, ◌∙◌}
+use Rattle.std.proofs.lemmas.Bool.{cases_Bool, cases_eq, cases_lt, cond_both, false≢true, not-true, or_left, or_right}
 use Rattle.std.proofs.lemmas.Bool.Decides.{nat_tests}
 use Rattle.std.proofs.lemmas.List.Sums.{sum_by-cons}
 use Rattle.std.specs.List.{AllByRecursion}
@@ -11,15 +11,22 @@ use Rattle.letter_kinds.specs.Detector.{Token, Detector, has, in_token, candidat
 use Rattle.letter_kinds.specs.Reports.{count_on, told_on, told_on_by, report_of}
 use Rattle.letter_kinds.proofs.Rounds.{largest_by_rounds}
 use Rattle.detector_laws.specs.Balance.{sum_below, ActorsAreBalanced}
-use Rattle.detector_laws.specs.Reports.{with_notes, told_by_kept, IsExact, IsAsTold, ExactReports, ReportsAreExact, IsRising}
-use Rattle.detector_laws.specs.Tokens.{confirm_count, ack_count, trace_count, IsSealedMember, IsSealed, unblocks_before_ack, other_before_confirm, IsSpoiledMember, IsSpoiled, SoundTokens, TokensAreSound}
-use Rattle.detector_laws.specs.World.{LetterKind, Confirm, Cell, World, In, confirmed, scan}
+use Rattle.detector_laws.specs.Reports.{with_notes, told_by_kept, IsAsTold, ExactReports, IsRising}
+use Rattle.detector_laws.specs.Tokens.{ack_count, trace_count, IsSealedMember, IsSealed, unblocks_before_ack, IsSpoiledMember, IsSpoiled, SoundTokens}
+use Rattle.detector_laws.specs.World.{World, confirmed, scan, ReportsAreExact, TokensAreSound}
+use Rattle.detector_laws.specs.Cells.{held_on, is_reporting}
+use Rattle.detector_laws.proofs.Cells.{IsTrue, holder_present, true_holds}
 use Rattle.detector_laws.proofs.Letters.{confirm_count-append}
 use Rattle.detector_laws.proofs.Members.{In-filter, In-append, each_In, In_each}
 use Rattle.detector_laws.proofs.Names.{names, named, unnamed, name_In}
 use Rattle.detector_laws.proofs.Order.{filter_rising, In_report_of}
 use Rattle.detector_laws.proofs.Ready.{only-EndsInConfirm, IsReady, Spoils, ready_or_spoils}
 use Rattle.detector_laws.proofs.Sums.{some_le_all, some_and_one}
+use Rattle.detector_laws.specs.Confirms.{confirm_count, other_before_confirm}
+use Rattle.detector_laws.specs.Members.{In}
+use Rattle.letter_kinds.specs.declared.letter.Letter.{Letter}
+use Rattle.letter_kinds.specs.declared.letter.Letter.TheVariants.{Confirm}
+use Rattle.machine_rules.specs.Cell.{Cell}
 
 all_or_one : (A B : Report → Type 0) (rs : List Report) → AllByRecursion (λ r. A r ⊎ B r) rs → AllByRecursion A rs ⊎ ((r : Report) × In r rs × B r)
 all_or_one A B [] h = inl tt
@@ -32,30 +39,30 @@ all_or_one A B (r ∷ rs) h = ⊎_elim
 told_on-le : (m : ℕ) (r : Report) (k : ℕ) → count_on r.held m ≡ k → told_on m r ≤ k
 told_on-le m r k h = grind (arith, nat_tests)
 
-told_on_by-le : (cell : ℕ → Cell) (m : ℕ) (rs : List Report) → AllByRecursion (λ r. IsExact (cell r.actor) r.actor r) rs → told_on_by m rs ≤ sum_by (λ r. (cell r.actor).foreign m) rs
+told_on_by-le : (cell : ℕ → Option Cell) (m : ℕ) (rs : List Report) → AllByRecursion (IsTrue cell) rs → told_on_by m rs ≤ sum_by (λ r. held_on (cell r.actor) m) rs
 told_on_by-le cell m [] h = omega arith
 told_on_by-le cell m (r ∷ rs) h =
-    omega (arith, sum_by-cons (told_on m) r rs, sum_by-cons (λ q. (cell q.actor).foreign m) r rs, told_on-le m r ((cell r.actor).foreign m) (h.0.held m), told_on_by-le cell m rs h.1)
+    omega (arith, sum_by-cons (told_on m) r rs, sum_by-cons (λ q. held_on (cell q.actor) m) r rs, told_on-le m r (held_on (cell r.actor) m) (true_holds cell r h.0 m), told_on_by-le cell m rs h.1)
 
 -- by the balance, a closed set whose reports are exact holds all counts on itself, and no letter under way loads a member
 holds_all : (w : World) → ActorsAreBalanced w → (rs : List Report) → IsClosed rs → IsRising rs → AllByRecursion (IsReady w.cell w.mail w.notes) rs
-    → (r : Report) → In r rs → ((b : ℕ) → has (names rs) b ≡ false → (w.cell b).foreign r.actor ≡ 0) × (w.loaded r.actor ≡ 0)
+    → (r : Report) → In r rs → ((b : ℕ) → has (names rs) b ≡ false → held_on (w.cell b) r.actor ≡ 0) × (w.loaded r.actor ≡ 0)
 holds_all w bal rs closed rising ready r i =
-    let f = λ (b : ℕ). (w.cell b).foreign r.actor in
+    let f = λ (b : ℕ). held_on (w.cell b) r.actor in
     let mine = each_In (IsReady w.cell w.mail w.notes) rs ready r i in
-    let few : AllByRecursion (λ q. q.actor < w.made) rs = In_each (λ q. q.actor < w.made) rs (λ q j. bal.made q.actor (each_In (IsReady w.cell w.mail w.notes) rs ready q j).blocked.present) in
-    let exact : AllByRecursion (λ q. IsExact (w.cell q.actor) q.actor q) rs = In_each (λ q. IsExact (w.cell q.actor) q.actor q) rs (λ q j. (each_In (IsReady w.cell w.mail w.notes) rs ready q j).exact) in
+    let few : AllByRecursion (λ q. q.actor < w.made) rs = In_each (λ q. q.actor < w.made) rs (λ q j. let member = (each_In (IsReady w.cell w.mail w.notes) rs ready q j).told.0 in bal.made q.actor member.cell member.here) in
+    let exact : AllByRecursion (IsTrue w.cell) rs = In_each (IsTrue w.cell) rs (λ q j. (each_In (IsReady w.cell w.mail w.notes) rs ready q j).told) in
     let covered : r.count ≤ told_on_by r.actor rs = each_In (λ q. q.count ≤ told_on_by q.actor rs) rs closed r i in
     let sum : told_on_by r.actor rs ≤ sum_by (λ q. f q.actor) rs = told_on_by-le w.cell r.actor rs exact in
-    let full : (w.cell r.actor).count ≡ sum_below w.made f + w.loaded r.actor = bal.full r.actor mine.blocked.present mine.only in
-    let count : r.count ≡ (w.cell r.actor).count = mine.exact.count in (
+    let full : mine.told.0.cell.holdings.count ≡ sum_below w.made f + w.loaded r.actor = bal.full r.actor mine.told.0.cell mine.told.0.here mine.only in
+    let count : r.count ≡ mine.told.0.cell.holdings.count = mine.told.1.count in (
       λ b out. ⊎_elim
           (λ (lt : b < w.made). let one : sum_by (λ q. f q.actor) rs + f b ≤ sum_below w.made f = some_and_one w.made f b rs lt rising few (unnamed rs b out) in
           let none : f b ≡ 0 = omega arith in none)
           (λ (ge : w.made ≤ b). ⊎_elim
-          (λ (t : (w.cell b).present ≡ true). absurd (let lt : b < w.made = bal.made b t in omega arith))
-          (λ (t : (w.cell b).present ≡ false). bal.absent b r.actor t)
-          (cases_Bool (w.cell b).present))
+          (λ (none : f b ≡ 0). none)
+          (λ (some : f b ≢ 0). let c = holder_present (w.cell b) r.actor some in absurd (let lt : b < w.made = bal.made b c.0 c.1 in omega arith))
+          (cases_eq (f b) 0))
           (cases_lt b w.made),
       let all : sum_by (λ q. f q.actor) rs ≤ sum_below w.made f = some_le_all w.made f rs rising few in
           omega arith,
@@ -63,10 +70,10 @@ holds_all w bal rs closed rising ready r i =
 
 -- what is opened
 
-confirmed_in : (set : List ℕ) (n : ℕ) (mail : ℕ → List LetterKind) (m : ℕ) → has set m ≡ true → confirmed set n mail m ≡ mail m ++ Confirm n ∷ []
+confirmed_in : (set : List ℕ) (n : ℕ) (mail : ℕ → List Letter) (m : ℕ) → has set m ≡ true → confirmed set n mail m ≡ mail m ++ Confirm n ∷ []
 confirmed_in set n mail m h = grind arith
 
-confirmed_out : (set : List ℕ) (n : ℕ) (mail : ℕ → List LetterKind) (m : ℕ) → has set m ≡ false → confirmed set n mail m ≡ mail m
+confirmed_out : (set : List ℕ) (n : ℕ) (mail : ℕ → List Letter) (m : ℕ) → has set m ≡ false → confirmed set n mail m ≡ mail m
 confirmed_out set n mail m h = grind arith
 
 pub in_token_from : (ts : List Token) (t : Token) (m : ℕ) → In t ts → has t.members m ≡ true → in_token ts m ≡ true
@@ -81,7 +88,7 @@ other_confirm c n ne = grind (arith, nat_tests)
 one_confirm : (n : ℕ) → confirm_count n (Confirm n ∷ []) ≡ 1
 one_confirm n = grind (arith, nat_tests)
 
-fresh_trace : (n m : ℕ) (ls : List LetterKind) (ns : List Note) → confirm_count n ls ≡ 0 → ack_count n m ns ≡ 0 → (confirm_count n (ls ++ Confirm n ∷ []) + ack_count n m ns) + 0 ≡ 1
+fresh_trace : (n m : ℕ) (ls : List Letter) (ns : List Note) → confirm_count n ls ≡ 0 → ack_count n m ns ≡ 0 → (confirm_count n (ls ++ Confirm n ∷ []) + ack_count n m ns) + 0 ≡ 1
 fresh_trace n m ls ns h k = omega (arith, confirm_count-append n ls (Confirm n ∷ []), one_confirm n)
 
 -- a set of reports that may be opened
@@ -117,7 +124,7 @@ fresh_state w bal h k rs ch =
     subst (λ x. IsSealedMember (fresh_token w rs) x w.cell (confirmed (names rs) n w.mail x) (w.loaded x) w.notes) e
     (subst (λ l. IsSealedMember (fresh_token w rs) r.actor w.cell l (w.loaded r.actor) w.notes) (sym (confirmed_in (names rs) n w.mail r.actor (subst (λ x. has (names rs) x ≡ true) (sym e) i)))
     record {
-      blocked = mine.blocked;
+      blocked = mine.told.0;
       letters = only-EndsInConfirm n (w.mail r.actor) mine.only;
       silent = mine.silent;
       held = all.0;
@@ -131,7 +138,7 @@ fresh_state w bal h k rs ch =
       i,
       record {
         unnoted = refl;
-        cause = subst (λ l. (unblocks_before_ack n r.actor w.notes ≡ true) ⊎ (((w.cell r.actor).reported ≡ true) × (other_before_confirm n l ≡ true))) (sym (confirmed_in (names rs) n w.mail r.actor i)) sp;
+        cause = subst (λ l. (unblocks_before_ack n r.actor w.notes ≡ true) ⊎ ((is_reporting (w.cell r.actor) ≡ true) × (other_before_confirm n l ≡ true))) (sym (confirmed_in (names rs) n w.mail r.actor i)) sp;
       },
     ))
     (all_or_one (IsReady w.cell w.mail w.notes) (Spoils w.cell w.mail w.notes n) rs each)
@@ -198,7 +205,7 @@ opened_tokens w bal h k rs ch =
           (λ s. inl (λ m a. let seal = s m a in
           subst (λ l. IsSealedMember t m w.cell l (w.loaded m) w.notes) (sym (confirmed_out (names rs) n w.mail m (free t i' m a))) seal))
           (λ s. let (m, a, p) = s in
-          inr (m, a, subst (λ l. IsSpoiledMember t m (w.cell m).reported l w.notes) (sym (confirmed_out (names rs) n w.mail m (free t i' m a))) p))
+          inr (m, a, subst (λ l. IsSpoiledMember t m (is_reporting (w.cell m)) l w.notes) (sym (confirmed_out (names rs) n w.mail m (free t i' m a))) p))
           (k.state t i'))
           (λ i'. ⊎_elim (λ e. subst (λ x. IsSealed w.cell mail' w.loaded w.notes x ⊎ IsSpoiled w.cell mail' w.notes x) (sym e) (fresh_state w bal h k rs ch)) (λ z. absurd z) i')
           (split t i);

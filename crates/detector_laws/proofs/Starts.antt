@@ -1,12 +1,11 @@
 -- All facts hold where a run starts.
 use Rattle.std.proofs.Common.{sym, subst, refl, []}
 use Rattle.letter_kinds.specs.Detector.{Detector, fresh_detector}
-use Rattle.detector_laws.specs.Facts.{DetectorFacts}
 use Rattle.detector_laws.specs.News.{NoNewsNoClosedSet}
-use Rattle.detector_laws.specs.Reports.{ExactReports, ReportsAreExact, IsRising}
+use Rattle.detector_laws.specs.Reports.{ExactReports, IsRising}
 use Rattle.detector_laws.specs.Run.{IsStart}
-use Rattle.detector_laws.specs.Tokens.{SoundTokens, TokensAreSound}
-use Rattle.detector_laws.specs.World.{World}
+use Rattle.detector_laws.specs.Tokens.{SoundTokens}
+use Rattle.detector_laws.specs.World.{World, ReportsAreExact, TokensAreSound, FactsHold}
 use Rattle.detector_laws.proofs.Letters.{confirm_count-none}
 
 start_reports : (w : World) → IsStart w → ReportsAreExact w
@@ -29,7 +28,7 @@ start_tokens w s =
       state = λ t i. absurd i;
     })
 
-pub start_facts : (w : World) → IsStart w → DetectorFacts w
+pub start_facts : (w : World) → IsStart w → FactsHold w
 start_facts w s = record {
   reports = start_reports w s;
   tokens = start_tokens w s;

@@ -1,13 +1,13 @@
 -- Each event keeps all facts, and so does each run.
-use Rattle.std.proofs.Common.{◌≡◌, ℕ, true, sym, subst}
+use Rattle.std.proofs.Common.{◌≡◌, ℕ, Some, sym, subst}
 use Rattle.letter_kinds.specs.Detector.{Detector, closed_set}
+use Rattle.machine_rules.specs.Cell.{Cell}
 use Rattle.detector_laws.specs.Balance.{ActorsAreBalanced}
-use Rattle.detector_laws.specs.Facts.{DetectorFacts}
 use Rattle.detector_laws.specs.News.{NoNewsNoClosedSet}
 use Rattle.detector_laws.specs.Quiet.{IsQuiet, IsReached}
 use Rattle.detector_laws.specs.Reports.{IsRising}
 use Rattle.detector_laws.specs.Run.{IsStep, Hears, Scans, ReapsOne, Blocks, TakesConfirm, MovesOne, IsRun, Stays, GoesOn}
-use Rattle.detector_laws.specs.World.{World}
+use Rattle.detector_laws.specs.World.{World, FactsHold}
 use Rattle.detector_laws.proofs.ActorReports.{block_reports, confirm_reports, moves_reports}
 use Rattle.detector_laws.proofs.ActorTokens.{block_tokens, confirm_tokens, moves_tokens}
 use Rattle.detector_laws.proofs.Hear.{hear_reports}
@@ -17,10 +17,10 @@ use Rattle.detector_laws.proofs.Quiet.{quiet_all_reached}
 use Rattle.detector_laws.proofs.Reap.{reap_reports, reap_tokens}
 use Rattle.detector_laws.proofs.Scan.{scan_tokens, scanned_kept, scan_reports}
 
-pub step_keeps : (w u : World) → ActorsAreBalanced w → IsStep w u → DetectorFacts w → DetectorFacts u
+pub step_keeps : (w u : World) → ActorsAreBalanced w → IsStep w u → FactsHold w → FactsHold u
 step_keeps w u bal (Hears {n} {ns} e) k = record {
   reports = hear_reports w n ns e k.reports;
-  tokens = hear_tokens w n ns e k.reports k.tokens;
+  tokens = hear_tokens w n ns e k.tokens;
   news = hear_news n w.detector k.news;
   rising = heard_rising n w.detector k.rising;
 }
@@ -36,30 +36,30 @@ step_keeps w u bal (ReapsOne {t} r) k = record {
   news = subst NoNewsNoClosedSet (sym r.detector) (reap_news w.detector t r.is_open (λ v i e. k.tokens.unique v t i r.is_open e) k.news);
   rising = subst (λ (d : Detector). IsRising d.kept) (sym r.detector) (closed_rising t w.detector k.rising);
 }
-step_keeps w u bal (Blocks {a} {r} can) k = record {
-  reports = block_reports w a r can k.reports;
-  tokens = block_tokens w a r can k.reports k.tokens;
+step_keeps w u bal (Blocks {a} {c} {r} can) k = record {
+  reports = block_reports w a c r can k.reports;
+  tokens = block_tokens w a c r can k.tokens;
   news = k.news;
   rising = k.rising;
 }
-step_keeps w u bal (TakesConfirm {a} {token = t} {letters = ls} e) k = record {
+step_keeps w u bal (TakesConfirm {a} {token = t} {mail = ls} e) k = record {
   reports = confirm_reports w a t ls e k.reports;
-  tokens = confirm_tokens w a t ls e k.reports k.tokens;
+  tokens = confirm_tokens w a t ls e k.tokens;
   news = k.news;
   rising = k.rising;
 }
 step_keeps w u bal (MovesOne {a} m) k = record {
   reports = moves_reports w u a m k.reports;
-  tokens = moves_tokens w u a m k.reports k.tokens;
+  tokens = moves_tokens w u a m k.tokens;
   news = subst NoNewsNoClosedSet (sym m.detector) k.news;
   rising = subst (λ (d : Detector). IsRising d.kept) (sym m.detector) k.rising;
 }
 
-pub run_keeps : (w u : World) → IsRun w u → DetectorFacts w → DetectorFacts u
+pub run_keeps : (w u : World) → IsRun w u → FactsHold w → FactsHold u
 run_keeps w u Stays k = k
 run_keeps w u (GoesOn {v} run bal step) k = step_keeps v u bal step (run_keeps w v run k)
 
-pub quiet_run : (w u : World) → DetectorFacts w → IsRun w u → ActorsAreBalanced u → IsQuiet u → (a : ℕ) → (u.cell a).present ≡ true → IsReached u a
+pub quiet_run : (w u : World) → FactsHold w → IsRun w u → ActorsAreBalanced u → IsQuiet u → (a : ℕ) (c : Cell) → u.cell a ≡ Some c → IsReached u a
 quiet_run w u k run bal q =
     let now = run_keeps w u run k in
     quiet_all_reached u q now.reports now.tokens now.news bal now.rising

@@ -1,6 +1,9 @@
 -- What the detector's laws take from the counts of actors.
-use Rattle.std.specs.Prelude.{ℕ, zero, suc, ◌+◌, ◌≡◌, ◌<◌, true, false}
-use Rattle.detector_laws.specs.World.{World, OnlyConfirms}
+use Rattle.std.specs.Prelude.{ℕ, zero, suc, ◌+◌, ◌≡◌, ◌<◌, Some}
+use Rattle.machine_rules.specs.Cell.{Cell}
+use Rattle.detector_laws.specs.Cells.{held_on}
+use Rattle.detector_laws.specs.Confirms.{OnlyConfirms}
+use Rattle.detector_laws.specs.World.{World}
 
 -- the sum of f over the numbers below n
 abbrev pub sum_below : ℕ → (ℕ → ℕ) → ℕ
@@ -10,9 +13,7 @@ sum_below (suc n) f = f n + sum_below n f
 -- an actor's count is what all hold on it and what letters load. An actor whose letters are all
 -- Confirms has no Inc and no Dec under way
 pub record ActorsAreBalanced (w : World) : Type 0 where
-  pub full : (x : ℕ) → (w.cell x).present ≡ true → OnlyConfirms (w.mail x) → (w.cell x).count ≡ sum_below w.made (λ b. (w.cell b).foreign x) + w.loaded x
-  pub made : (b : ℕ) → (w.cell b).present ≡ true → b < w.made
-  -- who is absent holds nothing
-  pub absent : (b x : ℕ) → (w.cell b).present ≡ false → (w.cell b).foreign x ≡ 0
+  pub full : (x : ℕ) (c : Cell) → w.cell x ≡ Some c → OnlyConfirms (w.mail x) → c.holdings.count ≡ sum_below w.made (λ b. held_on (w.cell b) x) + w.loaded x
+  pub made : (b : ℕ) (c : Cell) → w.cell b ≡ Some c → b < w.made
   -- no actor holds a count on itself
-  pub own : (b : ℕ) → (w.cell b).foreign b ≡ 0
+  pub own : (b : ℕ) → held_on (w.cell b) b ≡ 0

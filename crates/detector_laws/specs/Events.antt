@@ -1,50 +1,61 @@
 -- What each event of the machine may change of what the detector's laws speak of.
-use Rattle.std.specs.Prelude.{ℕ, ◌≡◌, ◌≢◌, ◌⊎◌, if◌then◌else◌, true, false, List, [], ◌∷◌, ◌++◌}
+use Rattle.std.specs.Prelude.{ℕ, ◌≡◌, ◌≢◌, ◌⊎◌, if◌then◌else◌, true, false, List, [], ◌∷◌, ◌++◌, Option, None, Some, is_some}
+use Rattle.orca_names.specs.declared.names.Thing.TheVariants.{Actor}
+use Rattle.letter_kinds.specs.declared.letter.Letter.{Letter}
 use Rattle.letter_kinds.specs.declared.note.Note.TheVariants.{Unblock}
 use Rattle.letter_kinds.specs.declared.note.Report.{Report}
 use Rattle.letter_kinds.specs.Detector.{Token, has, all_acked, close_token}
-use Rattle.detector_laws.specs.Reports.{IsExact}
-use Rattle.detector_laws.specs.World.{LetterKind, Other, Cell, World, In, NoConfirms}
+use Rattle.letter_kinds.specs.Holdings.{held_in}
+use Rattle.machine_rules.specs.Cell.{Cell}
+use Rattle.detector_laws.specs.Cells.{held_on}
+use Rattle.detector_laws.specs.Confirms.{NoConfirms, is_confirm}
+use Rattle.detector_laws.specs.Members.{In}
+use Rattle.detector_laws.specs.Reports.{IsReportOf}
+use Rattle.detector_laws.specs.World.{World}
 
 -- ---- block
 
--- the actor may report that it is blocked, and this report is exact
-pub record CanBlock (w : World) (a : ℕ) (r : Report) : Type 0 where
-  pub present : (w.cell a).present ≡ true
-  pub quiet : (w.cell a).reported ≡ false
-  pub unpinned : (w.cell a).pinned ≡ false
-  pub clean : (w.cell a).dirty ≡ false
-  pub idle : (w.cell a).framed ≡ false
-  pub exact : IsExact (w.cell a) a r
+-- the actor with this cell may report that it is blocked, and this is its report
+pub record CanBlock (w : World) (a : ℕ) (c : Cell) (r : Report) : Type 0 where
+  pub here : w.cell a ≡ Some c
+  pub quiet : c.reported ≡ false
+  pub unpinned : c.fields.pinned ≡ false
+  pub clean : c.dirty ≡ false
+  pub idle : c.frame ≡ None
+  pub exact : IsReportOf a c r
 
 -- ---- take of a letter other than a Confirm, go, collect
 
--- nobody was there, and now there is an actor that holds nothing and has no report out
-pub record IsFresh (before after : Cell) : Type 0 where
-  pub absent : before.present ≡ false
-  pub present : after.present ≡ true
-  pub quiet : after.reported ≡ false
-  pub empty : (x : ℕ) → after.foreign x ≡ 0
+-- nobody was there, and now there is an actor that holds no other and has no report out
+pub record IsFresh (before after : Option Cell) : Type 0 where
+  pub absent : before ≡ None
+  pub cell : Cell
+  pub present : after ≡ Some cell
+  pub quiet : cell.reported ≡ false
+  pub empty : (x : ℕ) → held_in cell.holdings (Actor x) ≡ 0
 
 -- what an actor's take of a letter other than a Confirm, its go or its collect may change
 pub record Moves (w : World) (a : ℕ) (after : World) : Type 0 where
-  pub here : (w.cell a).present ≡ true
-  pub there : (after.cell a).present ≡ true
-  pub woken : (after.cell a).reported ≡ false
+  -- its cell, and what becomes of it
+  pub old : Cell
+  pub new : Cell
+  pub here : w.cell a ≡ Some old
+  pub there : after.cell a ≡ Some new
+  pub woken : new.reported ≡ false
   -- it had a frame, was dirty, or had such a letter
-  pub cause : ((w.cell a).framed ≡ true) ⊎ ((w.cell a).dirty ≡ true) ⊎ ((letters : List LetterKind) × (w.mail a ≡ Other ∷ letters))
+  pub cause : (is_some old.frame ≡ true) ⊎ (old.dirty ≡ true) ⊎ ((letter : Letter) × (mail : List Letter) × (w.mail a ≡ letter ∷ mail) × (is_confirm letter ≡ false))
   pub detector : after.detector ≡ w.detector
   -- it withdraws its report if one is out
-  pub notes : after.notes ≡ (if (w.cell a).reported then w.notes ++ Unblock a ∷ [] else w.notes)
+  pub notes : after.notes ≡ (if old.reported then w.notes ++ Unblock a ∷ [] else w.notes)
   -- each other cell stays, or is that of a new actor
   pub others : (b : ℕ) → b ≢ a → (after.cell b ≡ w.cell b) ⊎ IsFresh (w.cell b) (after.cell b)
   -- of its own letters the first ones may go, and others may come
-  pub own : (gone rest come : List LetterKind) × (w.mail a ≡ gone ++ rest) × (after.mail a ≡ rest ++ come) × NoConfirms come
-  pub sends : (b : ℕ) → b ≢ a → (come : List LetterKind) × (after.mail b ≡ w.mail b ++ come) × NoConfirms come
+  pub own : (gone rest come : List Letter) × (w.mail a ≡ gone ++ rest) × (after.mail a ≡ rest ++ come) × NoConfirms come
+  pub sends : (b : ℕ) → b ≢ a → (come : List Letter) × (after.mail b ≡ w.mail b ++ come) × NoConfirms come
   -- it sends to those that it holds, and loads and holds afterwards what it held or what was loaded
-  pub sends_held : (b : ℕ) → (w.cell b).present ≡ true → b ≢ a → (w.cell a).foreign b ≡ 0 → after.mail b ≡ w.mail b
-  pub loads_held : (b : ℕ) → (w.cell b).present ≡ true → b ≢ a → (w.cell a).foreign b ≡ 0 → w.loaded b ≡ 0 → after.loaded b ≡ 0
-  pub holds_held : (b : ℕ) → (w.cell b).present ≡ true → b ≢ a → (w.cell a).foreign b ≡ 0 → w.loaded b ≡ 0 → (after.cell a).foreign b ≡ 0
+  pub sends_held : (b : ℕ) → w.cell b ≢ None → b ≢ a → held_in old.holdings (Actor b) ≡ 0 → after.mail b ≡ w.mail b
+  pub loads_held : (b : ℕ) → w.cell b ≢ None → b ≢ a → held_in old.holdings (Actor b) ≡ 0 → w.loaded b ≡ 0 → after.loaded b ≡ 0
+  pub holds_held : (b : ℕ) → w.cell b ≢ None → b ≢ a → held_in old.holdings (Actor b) ≡ 0 → w.loaded b ≡ 0 → held_in new.holdings (Actor b) ≡ 0
 
 -- ---- reap
 
@@ -55,10 +66,9 @@ pub record Reaps (w : World) (t : Token) (after : World) : Type 0 where
   pub detector : after.detector ≡ close_token t w.detector
   pub notes : after.notes ≡ w.notes
   -- the members go, with all that they hold
-  pub gone : (m : ℕ) → has t.members m ≡ true → ((after.cell m).present ≡ false) × ((after.cell m).reported ≡ false) × (after.mail m ≡ [])
-  pub empty : (m x : ℕ) → has t.members m ≡ true → (after.cell m).foreign x ≡ 0
+  pub gone : (m : ℕ) → has t.members m ≡ true → (after.cell m ≡ None) × (after.mail m ≡ [])
   pub stays : (b : ℕ) → has t.members b ≡ false → after.cell b ≡ w.cell b
   -- Decs go to those on whom a member held
-  pub sends : (b : ℕ) → has t.members b ≡ false → (come : List LetterKind) × (after.mail b ≡ w.mail b ++ come) × NoConfirms come
-  pub sends_held : (b : ℕ) → has t.members b ≡ false → ((m : ℕ) → has t.members m ≡ true → (w.cell m).foreign b ≡ 0) → after.mail b ≡ w.mail b
+  pub sends : (b : ℕ) → has t.members b ≡ false → (come : List Letter) × (after.mail b ≡ w.mail b ++ come) × NoConfirms come
+  pub sends_held : (b : ℕ) → has t.members b ≡ false → ((m : ℕ) → has t.members m ≡ true → held_on (w.cell m) b ≡ 0) → after.mail b ≡ w.mail b
   pub unloaded : (b : ℕ) → w.loaded b ≡ 0 → after.loaded b ≡ 0

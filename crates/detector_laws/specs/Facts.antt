@@ -1,12 +1,17 @@
 -- All that every event keeps.
+use Rattle.std.specs.Prelude.{ℕ, List, Option}
+use Rattle.letter_kinds.specs.declared.letter.Letter.{Letter}
+use Rattle.letter_kinds.specs.declared.note.Note.{Note}
+use Rattle.letter_kinds.specs.Detector.{Detector}
+use Rattle.machine_rules.specs.Cell.{Cell}
 use Rattle.detector_laws.specs.News.{NoNewsNoClosedSet}
-use Rattle.detector_laws.specs.Reports.{ReportsAreExact, IsRising}
-use Rattle.detector_laws.specs.Tokens.{TokensAreSound}
-use Rattle.detector_laws.specs.World.{World}
+use Rattle.detector_laws.specs.Reports.{ExactReports, IsRising}
+use Rattle.detector_laws.specs.Tokens.{SoundTokens}
 
--- what holds of the detector in each state of a run
-pub record DetectorFacts (w : World) : Type 0 where
-  pub reports : ReportsAreExact w
-  pub tokens : TokensAreSound w
-  pub news : NoNewsNoClosedSet w.detector
-  pub rising : IsRising w.detector.kept
+-- what holds in each state of a run: of the detector, of the cell and the letters of each actor, of how
+-- many letters load it, and of the notes that the detector has still to hear
+pub record DetectorFacts (d : Detector) (cell : ℕ → Option Cell) (mail : ℕ → List Letter) (loaded : ℕ → ℕ) (notes : List Note) : Type 0 where
+  pub reports : ExactReports cell d.kept notes
+  pub tokens : SoundTokens d cell mail loaded notes
+  pub news : NoNewsNoClosedSet d
+  pub rising : IsRising d.kept

@@ -1,6 +1,9 @@
 pub mod Balance
+pub mod Cells
+pub mod Confirms
 pub mod Events
 pub mod Facts
+pub mod Members
 pub mod News
 pub mod Quiet
 pub mod Reports

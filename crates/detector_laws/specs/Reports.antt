@@ -1,10 +1,13 @@
 -- What kept reports and notes tell of each actor is what its cell is.
 use Rattle.std.specs.Prelude.{ℕ, ◌≡◌, ◌≢◌, ◌<◌, ◌==◌, if◌then◌else◌, true, false, List, [], ◌∷◌, Option, Some, None}
+use Rattle.orca_names.specs.declared.names.Thing.TheVariants.{Actor}
 use Rattle.letter_kinds.specs.declared.note.Note.{Note}
 use Rattle.letter_kinds.specs.declared.note.Note.TheVariants.{Block, Unblock, Ack}
 use Rattle.letter_kinds.specs.declared.note.Report.{Report}
+use Rattle.letter_kinds.specs.Holdings.{held_in}
 use Rattle.letter_kinds.specs.Reports.{count_on, report_of, report_told}
-use Rattle.detector_laws.specs.World.{Cell, World}
+use Rattle.machine_rules.specs.Cell.{Cell}
+use Rattle.detector_laws.specs.Cells.{is_reporting}
 
 -- ---- what is told of one actor
 
@@ -55,34 +58,31 @@ IsSilentOn a (Ack token b ∷ notes) = IsSilentOn a notes
 
 -- ---- what is told is true
 
--- the report tells the actor's counts
-pub record IsExact (c : Cell) (a : ℕ) (r : Report) : Type 0 where
+-- the report tells the actor's count, and its counts on others
+pub record IsReportOf (a : ℕ) (c : Cell) (r : Report) : Type 0 where
   pub actor : r.actor ≡ a
-  pub count : r.count ≡ c.count
-  pub held : (x : ℕ) → count_on r.held x ≡ c.foreign x
+  pub count : r.count ≡ c.holdings.count
+  pub held : (x : ℕ) → count_on r.held x ≡ held_in c.holdings (Actor x)
 
--- the actor has a report out, and nothing to do
-pub record IsBlocked (c : Cell) : Type 0 where
-  pub present : c.present ≡ true
-  pub reported : c.reported ≡ true
-  pub unpinned : c.pinned ≡ false
-  pub clean : c.dirty ≡ false
-  pub idle : c.framed ≡ false
+-- the actor is present, has a report out, and nothing to do
+pub record IsBlocked (actor : Option Cell) : Type 0 where
+  pub cell : Cell
+  pub here : actor ≡ Some cell
+  pub reported : cell.reported ≡ true
+  pub unpinned : cell.fields.pinned ≡ false
+  pub clean : cell.dirty ≡ false
+  pub idle : cell.frame ≡ None
 
--- the cell of the actor is as it was last told
-abbrev pub IsAsTold : Cell → ℕ → Told → Type 0
-IsAsTold c a Unreported = c.reported ≡ false
-IsAsTold c a (Reported r) = IsBlocked c × IsExact c a r
-IsAsTold c a Contradictory = ⊥
+-- the actor is as it was last told
+abbrev pub IsAsTold : Option Cell → ℕ → Told → Type 0
+IsAsTold actor a Unreported = is_reporting actor ≡ false
+IsAsTold actor a (Reported r) = (blocked : IsBlocked actor) × IsReportOf a blocked.cell r
+IsAsTold actor a Contradictory = ⊥
 
 -- each actor is as it was last told; of one that is absent nothing is told
-pub record ExactReports (cell : ℕ → Cell) (kept : List Report) (notes : List Note) : Type 0 where
+pub record ExactReports (cell : ℕ → Option Cell) (kept : List Report) (notes : List Note) : Type 0 where
   pub last : (a : ℕ) → IsAsTold (cell a) a (told_of a kept notes)
-  pub absent : (a : ℕ) → (cell a).present ≡ false → (report_of kept a ≡ None) × IsSilentOn a notes
-
--- so it is in this world
-abbrev pub ReportsAreExact : World → Type 0
-ReportsAreExact w = ExactReports w.cell w.detector.kept w.notes
+  pub absent : (a : ℕ) → cell a ≡ None → (report_of kept a ≡ None) × IsSilentOn a notes
 
 -- ---- their order
 

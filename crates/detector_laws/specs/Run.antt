@@ -1,17 +1,22 @@
 -- The start, steps and runs of the world that the detector's laws speak of.
 use Rattle.std.specs.Prelude.{ℕ, ◌≡◌, true, false, List, [], ◌∷◌}
+use Rattle.letter_kinds.specs.declared.letter.Letter.{Letter}
+use Rattle.letter_kinds.specs.declared.letter.Letter.TheVariants.{Confirm}
 use Rattle.letter_kinds.specs.declared.note.Note.{Note}
 use Rattle.letter_kinds.specs.declared.note.Report.{Report}
 use Rattle.letter_kinds.specs.Detector.{Token, fresh_detector}
+use Rattle.machine_rules.specs.Cell.{Cell}
 use Rattle.detector_laws.specs.Balance.{ActorsAreBalanced}
+use Rattle.detector_laws.specs.Cells.{is_reporting}
+use Rattle.detector_laws.specs.Confirms.{NoConfirms}
 use Rattle.detector_laws.specs.Events.{CanBlock, Moves, Reaps}
-use Rattle.detector_laws.specs.World.{World, LetterKind, Confirm, NoConfirms, hear, scan, block, take_confirm}
+use Rattle.detector_laws.specs.World.{World, hear, scan, block, take_confirm}
 
 -- nothing was reported yet, and no Confirm waits
 pub record IsStart (w : World) : Type 0 where
   pub detector : w.detector ≡ fresh_detector
   pub notes : w.notes ≡ []
-  pub unreported : (a : ℕ) → (w.cell a).reported ≡ false
+  pub unreported : (a : ℕ) → is_reporting (w.cell a) ≡ false
   pub unasked : (a : ℕ) → NoConfirms (w.mail a)
 
 -- one event leads from the world to another
@@ -19,8 +24,8 @@ pub data IsStep (w : World) : World → Type 0 where
   Hears : {n : Note} {ns : List Note} → w.notes ≡ n ∷ ns → IsStep w (hear w n ns)
   Scans : w.detector.news ≡ true → IsStep w (scan w)
   ReapsOne : {t : Token} {after : World} → Reaps w t after → IsStep w after
-  Blocks : {a : ℕ} {r : Report} → CanBlock w a r → IsStep w (block w a r)
-  TakesConfirm : {a token : ℕ} {letters : List LetterKind} → w.mail a ≡ Confirm token ∷ letters → IsStep w (take_confirm w a token letters)
+  Blocks : {a : ℕ} {c : Cell} {r : Report} → CanBlock w a c r → IsStep w (block w a c r)
+  TakesConfirm : {a token : ℕ} {mail : List Letter} → w.mail a ≡ Confirm token ∷ mail → IsStep w (take_confirm w a token mail)
   MovesOne : {a : ℕ} {after : World} → Moves w a after → IsStep w after
 
 -- events lead from the world to another, and before each of them the counts balance

@@ -1,20 +1,18 @@
 -- Each open token is sealed, so that its members never act again, or spoiled, so that it is never reaped.
-use Rattle.std.specs.Prelude.{ℕ, ◌+◌, ◌≡◌, ◌≤◌, ◌<◌, ◌==◌, ◌&&◌, ◌||◌, ◌⊎◌, if◌then◌else◌, Bool, true, false, List, [], ◌∷◌, Some}
+use Rattle.std.specs.Prelude.{ℕ, ◌+◌, ◌≡◌, ◌≤◌, ◌<◌, ◌==◌, ◌&&◌, ◌||◌, ◌⊎◌, if◌then◌else◌, Bool, true, false, List, [], ◌∷◌, Option, Some}
+use Rattle.letter_kinds.specs.declared.letter.Letter.{Letter}
 use Rattle.letter_kinds.specs.declared.note.Note.{Note}
 use Rattle.letter_kinds.specs.declared.note.Note.TheVariants.{Block, Unblock, Ack}
 use Rattle.letter_kinds.specs.declared.note.Report.{Report}
 use Rattle.letter_kinds.specs.Detector.{Token, Detector, has}
 use Rattle.letter_kinds.specs.Reports.{report_of}
+use Rattle.machine_rules.specs.Cell.{Cell}
+use Rattle.detector_laws.specs.Cells.{held_on, is_reporting}
+use Rattle.detector_laws.specs.Confirms.{EndsInConfirm, confirm_count, other_before_confirm}
+use Rattle.detector_laws.specs.Members.{In}
 use Rattle.detector_laws.specs.Reports.{IsBlocked, IsSilentOn}
-use Rattle.detector_laws.specs.World.{LetterKind, Other, Confirm, Cell, World, In}
 
--- ---- where the Confirm of a token is
-
--- how many of these letters are Confirms of the token
-abbrev pub confirm_count : ℕ → List LetterKind → ℕ
-confirm_count token [] = 0
-confirm_count token (Other ∷ letters) = confirm_count token letters
-confirm_count token (Confirm other ∷ letters) = (if other == token then 1 else 0) + confirm_count token letters
+-- ---- where the acknowledgement of a member is
 
 -- how many of these notes are Acks of the token by the actor
 abbrev pub ack_count : ℕ → ℕ → List Note → ℕ
@@ -24,31 +22,24 @@ ack_count token a (Unblock b ∷ notes) = ack_count token a notes
 ack_count token a (Ack other b ∷ notes) = (if (other == token) && (b == a) then 1 else 0) + ack_count token a notes
 
 -- for a member: its Confirms that wait, its Acks under way, and its acknowledgement that was noted
-abbrev pub trace_count : Token → ℕ → List LetterKind → List Note → ℕ
-trace_count t m letters notes =
-    confirm_count t.number letters + ack_count t.number m notes + (if has t.acked m then 1 else 0)
+abbrev pub trace_count : Token → ℕ → List Letter → List Note → ℕ
+trace_count t m mail notes =
+    confirm_count t.number mail + ack_count t.number m notes + (if has t.acked m then 1 else 0)
 
 -- ---- sealed
 
--- all letters are Confirms, and the last of them is the token's
-abbrev pub EndsInConfirm : ℕ → List LetterKind → Type 0
-EndsInConfirm token [] = Unit {0}
-EndsInConfirm token (Other ∷ letters) = ⊥
-EndsInConfirm token (Confirm other ∷ []) = other ≡ token
-EndsInConfirm token (Confirm other ∷ (letter ∷ letters)) = EndsInConfirm token (letter ∷ letters)
-
 -- the member is blocked and stays so: only members hold it, and it has no letter but Confirms
-pub record IsSealedMember (t : Token) (m : ℕ) (cell : ℕ → Cell) (mail : List LetterKind) (loaded : ℕ) (notes : List Note) : Type 0 where
+pub record IsSealedMember (t : Token) (m : ℕ) (cell : ℕ → Option Cell) (mail : List Letter) (loaded : ℕ) (notes : List Note) : Type 0 where
   pub blocked : IsBlocked (cell m)
   pub letters : EndsInConfirm t.number mail
   pub silent : IsSilentOn m notes
-  pub held : (b : ℕ) → has t.members b ≡ false → (cell b).foreign m ≡ 0
+  pub held : (b : ℕ) → has t.members b ≡ false → held_on (cell b) m ≡ 0
   pub unloaded : loaded ≡ 0
   -- it has exactly one of these: the Confirm, its Ack under way, its acknowledgement
   pub one : trace_count t m mail notes ≡ 1
 
 -- all members are so
-abbrev pub IsSealed : (ℕ → Cell) → (ℕ → List LetterKind) → (ℕ → ℕ) → List Note → Token → Type 0
+abbrev pub IsSealed : (ℕ → Option Cell) → (ℕ → List Letter) → (ℕ → ℕ) → List Note → Token → Type 0
 IsSealed cell mail loaded notes t = (m : ℕ) → has t.members m ≡ true → IsSealedMember t m cell (mail m) (loaded m) notes
 
 -- ---- spoiled
@@ -61,31 +52,19 @@ unblocks_before_ack token a (Unblock b ∷ notes) = (b == a) || unblocks_before_
 unblocks_before_ack token a (Ack other b ∷ notes) =
     if (other == token) && (b == a) then false else unblocks_before_ack token a notes
 
--- a Confirm of the token is among the letters
-abbrev pub has_confirm : ℕ → List LetterKind → Bool
-has_confirm token [] = false
-has_confirm token (Other ∷ letters) = has_confirm token letters
-has_confirm token (Confirm other ∷ letters) = (other == token) || has_confirm token letters
-
--- a letter other than a Confirm stands before the Confirm of the token
-abbrev pub other_before_confirm : ℕ → List LetterKind → Bool
-other_before_confirm token [] = false
-other_before_confirm token (Other ∷ letters) = has_confirm token letters
-other_before_confirm token (Confirm other ∷ letters) = if other == token then false else other_before_confirm token letters
-
 -- the member has not acknowledged, and its Unblock comes before its Ack or will come
-pub record IsSpoiledMember (t : Token) (m : ℕ) (reported : Bool) (letters : List LetterKind) (notes : List Note) : Type 0 where
+pub record IsSpoiledMember (t : Token) (m : ℕ) (reported : Bool) (mail : List Letter) (notes : List Note) : Type 0 where
   pub unnoted : has t.acked m ≡ false
-  pub cause : (unblocks_before_ack t.number m notes ≡ true) ⊎ ((reported ≡ true) × (other_before_confirm t.number letters ≡ true))
+  pub cause : (unblocks_before_ack t.number m notes ≡ true) ⊎ ((reported ≡ true) × (other_before_confirm t.number mail ≡ true))
 
 -- some member is so
-abbrev pub IsSpoiled : (ℕ → Cell) → (ℕ → List LetterKind) → List Note → Token → Type 0
-IsSpoiled cell mail notes t = (m : ℕ) × (has t.members m ≡ true) × IsSpoiledMember t m (cell m).reported (mail m) notes
+abbrev pub IsSpoiled : (ℕ → Option Cell) → (ℕ → List Letter) → List Note → Token → Type 0
+IsSpoiled cell mail notes t = (m : ℕ) × (has t.members m ≡ true) × IsSpoiledMember t m (is_reporting (cell m)) (mail m) notes
 
 -- ---- all open tokens
 
 -- what holds of all open tokens
-pub record SoundTokens (d : Detector) (cell : ℕ → Cell) (mail : ℕ → List LetterKind) (loaded : ℕ → ℕ) (notes : List Note) : Type 0 where
+pub record SoundTokens (d : Detector) (cell : ℕ → Option Cell) (mail : ℕ → List Letter) (loaded : ℕ → ℕ) (notes : List Note) : Type 0 where
   -- two tokens have no member in common
   pub apart : (t u : Token) → In t d.tokens → In u d.tokens → (m : ℕ) → has t.members m ≡ true → has u.members m ≡ true → t.number ≡ u.number
   -- of each member a report is kept
@@ -99,7 +78,3 @@ pub record SoundTokens (d : Detector) (cell : ℕ → Cell) (mail : ℕ → List
   -- a member has at most one of these: the Confirm, its Ack under way, its acknowledgement
   pub once : (t : Token) → In t d.tokens → (m : ℕ) → has t.members m ≡ true → trace_count t m (mail m) notes ≤ 1
   pub state : (t : Token) → In t d.tokens → IsSealed cell mail loaded notes t ⊎ IsSpoiled cell mail notes t
-
--- so it is in this world
-abbrev pub TokensAreSound : World → Type 0
-TokensAreSound w = SoundTokens w.detector w.cell w.mail w.loaded w.notes

@@ -1,62 +1,42 @@
--- The part of the machine that matters to the detector: what it knows of actors, letters and notes.
-use Rattle.std.specs.Prelude.{ℕ, suc, ◌≡◌, ◌==◌, ◌⊎◌, if◌then◌else◌, Bool, true, List, [], ◌∷◌, ◌++◌}
+-- All that an event may change of what the detector's facts speak of.
+use Rattle.std.specs.Prelude.{ℕ, suc, ◌==◌, if◌then◌else◌, true, List, [], ◌∷◌, ◌++◌, Option, Some}
+use Rattle.letter_kinds.specs.declared.letter.Letter.{Letter}
+use Rattle.letter_kinds.specs.declared.letter.Letter.TheVariants.{Confirm}
 use Rattle.letter_kinds.specs.declared.note.Note.{Note}
 use Rattle.letter_kinds.specs.declared.note.Note.TheVariants.{Ack}
 use Rattle.letter_kinds.specs.declared.note.Report.{Report}
 use Rattle.letter_kinds.specs.Detector.{Detector, has, heard, closed_set, scanned}
 use Rattle.letter_kinds.specs.Reports.{block_note}
-
--- a letter: the Confirm of a token, or any other
-pub data LetterKind : Type 0 where
-  Other : LetterKind
-  Confirm : (token : ℕ) → LetterKind
-
--- an actor: whether it is present, has a frame, is dirty and pinned, and has a report out; its count
-pub record Cell : Type 0 where
-  pub present : Bool
-  pub framed : Bool
-  pub dirty : Bool
-  pub pinned : Bool
-  pub reported : Bool
-  pub count : ℕ
-  -- what it holds on each actor
-  pub foreign : ℕ → ℕ
+use Rattle.machine_rules.specs.Cell.{Cell}
+use Rattle.detector_laws.specs.Cells.{is_reporting}
+use Rattle.detector_laws.specs.Facts.{DetectorFacts}
+use Rattle.detector_laws.specs.Reports.{ExactReports}
+use Rattle.detector_laws.specs.Tokens.{SoundTokens}
 
 -- all actors and what is under way
 pub record World : Type 0 where
   -- how many actors were made
   pub made : ℕ
-  pub cell : ℕ → Cell
+  -- the cell of each actor, where it is present
+  pub cell : ℕ → Option Cell
   -- the letters that wait for each actor
-  pub mail : ℕ → List LetterKind
+  pub mail : ℕ → List Letter
   -- how many letters, anywhere, load an actor
   pub loaded : ℕ → ℕ
   pub detector : Detector
   -- the notes that the detector has not heard yet
   pub notes : List Note
 
--- ---- lists and maps
+-- ---- the facts hold
 
--- x is one of these
-abbrev pub In : {A : Type 0} → A → List A → Type 0
-In x [] = ⊥
-In x (y ∷ ys) = (x ≡ y) ⊎ In x ys
+abbrev pub ReportsAreExact : World → Type 0
+ReportsAreExact w = ExactReports w.cell w.detector.kept w.notes
 
--- the map with another value at one place
-abbrev pub at : {A : Type 0} → (ℕ → A) → ℕ → A → ℕ → A
-at f a v x = if x == a then v else f x
+abbrev pub TokensAreSound : World → Type 0
+TokensAreSound w = SoundTokens w.detector w.cell w.mail w.loaded w.notes
 
--- all letters are Confirms
-abbrev pub OnlyConfirms : List LetterKind → Type 0
-OnlyConfirms [] = Unit {0}
-OnlyConfirms (Other ∷ letters) = ⊥
-OnlyConfirms (Confirm token ∷ letters) = OnlyConfirms letters
-
--- no letter is a Confirm
-abbrev pub NoConfirms : List LetterKind → Type 0
-NoConfirms [] = Unit {0}
-NoConfirms (Other ∷ letters) = NoConfirms letters
-NoConfirms (Confirm token ∷ letters) = ⊥
+abbrev pub FactsHold : World → Type 0
+FactsHold w = DetectorFacts w.detector w.cell w.mail w.loaded w.notes
 
 -- ---- events of the detector
 
@@ -65,7 +45,7 @@ abbrev pub hear : World → Note → List Note → World
 hear w note notes = record w { detector = heard note w.detector; notes = notes }
 
 -- the letters, where each member gets a Confirm
-abbrev pub confirmed : List ℕ → ℕ → (ℕ → List LetterKind) → ℕ → List LetterKind
+abbrev pub confirmed : List ℕ → ℕ → (ℕ → List Letter) → ℕ → List Letter
 confirmed members token mail a = if has members a then mail a ++ Confirm token ∷ [] else mail a
 
 -- it looks for the largest closed set, and asks its members
@@ -78,14 +58,18 @@ scan w =
 
 -- ---- events of an actor that only the detector sees
 
--- the actor reports that it is blocked
-abbrev pub block : World → ℕ → Report → World
-block w a r = record w { cell = at w.cell a (record (w.cell a) { reported = true }); notes = w.notes ++ block_note r ∷ [] }
+-- the map with another value at one place
+abbrev pub at : {A : Type 0} → (ℕ → A) → ℕ → A → ℕ → A
+at f a v x = if x == a then v else f x
+
+-- the actor with this cell reports that it is blocked
+abbrev pub block : World → ℕ → Cell → Report → World
+block w a c r = record w { cell = at w.cell a (Some (record c { reported = true })); notes = w.notes ++ block_note r ∷ [] }
 
 -- the actor takes a Confirm, which it acknowledges while its report is out; these letters are left
-abbrev pub take_confirm : World → ℕ → ℕ → List LetterKind → World
-take_confirm w a token letters =
+abbrev pub take_confirm : World → ℕ → ℕ → List Letter → World
+take_confirm w a token mail =
     record w {
-      mail = at w.mail a letters;
-      notes = if (w.cell a).reported then w.notes ++ Ack token a ∷ [] else w.notes;
+      mail = at w.mail a mail;
+      notes = if is_reporting (w.cell a) then w.notes ++ Ack token a ∷ [] else w.notes;
     }

@@ -2,16 +2,18 @@
 
 ghost use Rattle.detector_laws.specs.Balance.{ActorsAreBalanced};
 ghost use Rattle.detector_laws.specs.Events.{CanBlock, Moves, Reaps};
-ghost use Rattle.detector_laws.specs.Facts.{DetectorFacts};
+ghost use Rattle.detector_laws.specs.Members.{In};
 ghost use Rattle.detector_laws.specs.News.{NoNewsNoClosedSet};
 ghost use Rattle.detector_laws.specs.Quiet.{IsNeeded, IsQuiet, IsReached};
-ghost use Rattle.detector_laws.specs.Reports.{IsRising, ReportsAreExact};
+ghost use Rattle.detector_laws.specs.Reports.{IsRising};
 ghost use Rattle.detector_laws.specs.Run.{IsRun, IsStart, IsStep};
-ghost use Rattle.detector_laws.specs.Tokens.{TokensAreSound};
-ghost use Rattle.detector_laws.specs.World.{block, Confirm, hear, In, LetterKind, scan, take_confirm, World};
+ghost use Rattle.detector_laws.specs.World.{block, FactsHold, hear, ReportsAreExact, scan, take_confirm, TokensAreSound, World};
+ghost use Rattle.letter_kinds.specs.declared.letter.Letter.{Letter};
+ghost use Rattle.letter_kinds.specs.declared.letter.Letter.TheVariants.{Confirm};
 ghost use Rattle.letter_kinds.specs.declared.note.Note.{Note};
 ghost use Rattle.letter_kinds.specs.declared.note.Report.{Report};
 ghost use Rattle.letter_kinds.specs.Detector.{close_token, closed_set, Detector, has, heard, scanned, Token, token_numbered};
+ghost use Rattle.machine_rules.specs.Cell.{Cell};
 ghost use Rattle.std.specs.Prelude.{List, Some, true, ℕ, ◌∷◌, ◌≡◌, ◌≢◌};
 
 /// The token of a number is one of the open tokens.
@@ -26,17 +28,17 @@ pub fn hear_keeps_reports()
 
 /// So do a block, the take of a Confirm, and an actor's other events.
 pub fn actors_keep_reports()
-    ensures block { (w : World) (a : ℕ) (r : Report) → CanBlock w a r → ReportsAreExact w → ReportsAreExact (block w a r) }
-    ensures confirm { (w : World) (a t : ℕ) (ls : List LetterKind) → w.mail a ≡ Confirm t ∷ ls → ReportsAreExact w → ReportsAreExact (take_confirm w a t ls) }
+    ensures block { (w : World) (a : ℕ) (c : Cell) (r : Report) → CanBlock w a c r → ReportsAreExact w → ReportsAreExact (block w a c r) }
+    ensures confirm { (w : World) (a t : ℕ) (mail : List Letter) → w.mail a ≡ Confirm t ∷ mail → ReportsAreExact w → ReportsAreExact (take_confirm w a t mail) }
     ensures moves { (w after : World) (a : ℕ) → Moves w a after → ReportsAreExact w → ReportsAreExact after }
 {}
 
 /// These events keep each open token sealed or spoiled.
 pub fn actors_keep_tokens()
-    ensures block { (w : World) (a : ℕ) (r : Report) → CanBlock w a r → ReportsAreExact w → TokensAreSound w → TokensAreSound (block w a r) }
-    ensures confirm { (w : World) (a t : ℕ) (ls : List LetterKind) → w.mail a ≡ Confirm t ∷ ls → ReportsAreExact w → TokensAreSound w → TokensAreSound (take_confirm w a t ls) }
-    ensures moves { (w after : World) (a : ℕ) → Moves w a after → ReportsAreExact w → TokensAreSound w → TokensAreSound after }
-    ensures hear { (w : World) (n : Note) (ns : List Note) → w.notes ≡ n ∷ ns → ReportsAreExact w → TokensAreSound w → TokensAreSound (hear w n ns) }
+    ensures block { (w : World) (a : ℕ) (c : Cell) (r : Report) → CanBlock w a c r → TokensAreSound w → TokensAreSound (block w a c r) }
+    ensures confirm { (w : World) (a t : ℕ) (mail : List Letter) → w.mail a ≡ Confirm t ∷ mail → TokensAreSound w → TokensAreSound (take_confirm w a t mail) }
+    ensures moves { (w after : World) (a : ℕ) → Moves w a after → TokensAreSound w → TokensAreSound after }
+    ensures hear { (w : World) (n : Note) (ns : List Note) → w.notes ≡ n ∷ ns → TokensAreSound w → TokensAreSound (hear w n ns) }
 {}
 
 /// A scan opens a token that is sealed or spoiled, and keeps the others so.
@@ -62,27 +64,27 @@ pub fn detector_keeps()
 
 /// All that holds of the detector holds where a run starts.
 pub fn start_has_facts()
-    ensures { (w : World) → IsStart w → DetectorFacts w }
+    ensures { (w : World) → IsStart w → FactsHold w }
 {}
 
 /// Each event keeps all that holds of the detector, where the counts balance before it.
 pub fn steps_keep()
-    ensures { (w after : World) → ActorsAreBalanced w → IsStep w after → DetectorFacts w → DetectorFacts after }
+    ensures { (w after : World) → ActorsAreBalanced w → IsStep w after → FactsHold w → FactsHold after }
 {}
 
 /// So does each run.
 pub fn runs_keep()
-    ensures { (w after : World) → IsRun w after → DetectorFacts w → DetectorFacts after }
+    ensures { (w after : World) → IsRun w after → FactsHold w → FactsHold after }
 {}
 
 /// Where no event is enabled, each actor that is present is reached.
 pub fn quiet_is_exact()
-    ensures { (w : World) → IsQuiet w → ReportsAreExact w → TokensAreSound w → NoNewsNoClosedSet w.detector → ActorsAreBalanced w → IsRising w.detector.kept → (a : ℕ) → (w.cell a).present ≡ true → IsReached w a }
+    ensures { (w : World) → IsQuiet w → ReportsAreExact w → TokensAreSound w → NoNewsNoClosedSet w.detector → ActorsAreBalanced w → IsRising w.detector.kept → (a : ℕ) (c : Cell) → w.cell a ≡ Some c → IsReached w a }
 {}
 
 /// So it is where a run ends.
 pub fn exact_at_quiet()
-    ensures { (w after : World) → DetectorFacts w → IsRun w after → ActorsAreBalanced after → IsQuiet after → (a : ℕ) → (after.cell a).present ≡ true → IsReached after a }
+    ensures { (w after : World) → FactsHold w → IsRun w after → ActorsAreBalanced after → IsQuiet after → (a : ℕ) (c : Cell) → after.cell a ≡ Some c → IsReached after a }
 {}
 
 /// No actor that a reap takes is needed.

@@ -12,16 +12,10 @@ use Rattle.machine_rules.specs.Cell.{Cell}
 use Rattle.machine_rules.specs.Collect.{collect_at, collect_in}
 use Rattle.machine_rules.specs.Facts.{Every}
 use Rattle.machine_rules.specs.Go.{act_in, go_at, go_in, turn_of_cell}
-use Rattle.machine_rules.specs.Next.{IsQuiet, next}
+use Rattle.machine_rules.specs.Next.{IsAtRest, IsQuiet, next}
 use Rattle.machine_rules.specs.Plain.{stopped_at}
 use Rattle.machine_rules.specs.State.{State, NotEnabled, IsFull, Goes}
 use Rattle.machine_rules.specs.Take.{take_at, take_in}
-
--- it has no frame, did nothing since it collected, and no letter waits for it
-pub record IsAtRest (c : Cell) (mail : List Letter) : Type 0 where
-  pub idle : c.frame ≡ None
-  pub clean : c.dirty ≡ false
-  pub empty : mail ≡ []
 
 abbrev pub AtRest : Actors → Type 0
 AtRest actors = Every (λ a c mail. IsAtRest c mail) actors

@@ -1,5 +1,6 @@
 -- The actors by number, and the letters that wait for each.
-use Rattle.std.specs.Prelude.{ℕ, List, [], ◌∷◌, ◌++◌, get_or, set, Option, Some, None}
+use Rattle.std.specs.Prelude.{ℕ, List, [], ◌∷◌, ◌++◌, get_or, set, Option, Some, None, option_map}
+use Rattle.std.specs.Option.{option_map_or}
 use Rattle.letter_kinds.specs.declared.letter.Letter.{Letter}
 use Rattle.letter_kinds.specs.declared.letter.Letter.TheVariants.{Dec}
 use Rattle.letter_kinds.specs.Counting.{Amount}
@@ -20,6 +21,22 @@ seat cell mail = Some (record { cell = cell; mail = mail })
 
 abbrev pub seat_at : Actors → ℕ → Option Seat
 seat_at actors a = get_or actors a None
+
+-- ---- of an actor that may be gone
+
+-- its cell, where it is present
+abbrev pub cell_of : Option Seat → Option Cell
+cell_of actor = option_map (λ o. o.cell) actor
+
+-- the letters that wait for it
+abbrev pub letters_of : Option Seat → List Letter
+letters_of actor = option_map_or (λ o. o.mail) actor []
+
+abbrev pub cell_at : Actors → ℕ → Option Cell
+cell_at actors a = cell_of (seat_at actors a)
+
+abbrev pub mail_at : Actors → ℕ → List Letter
+mail_at actors a = letters_of (seat_at actors a)
 
 -- ---- posting
 

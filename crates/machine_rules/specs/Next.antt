@@ -1,10 +1,12 @@
 -- The events of the machine that collects: which are enabled, what each leads to, and which one
 -- worker does first.
-use Rattle.std.specs.Prelude.{◌≡◌, ◌≢◌}
+use Rattle.std.specs.Prelude.{◌≡◌, ◌≢◌, false, List, [], None}
 use Rattle.std.specs.declared.cmp.Ordering.TheVariants.{Greater}
 use Rattle.event_rule.specs.Events.{event_cmp}
 use Rattle.event_rule.specs.declared.event.Event.{Event}
 use Rattle.event_rule.specs.declared.event.Event.TheVariants.{Take, Go, Collect, Block, Hear, Scan, Reap}
+use Rattle.letter_kinds.specs.declared.letter.Letter.{Letter}
+use Rattle.machine_rules.specs.Cell.{Cell}
 use Rattle.machine_rules.specs.State.{State, Step, NotEnabled}
 use Rattle.machine_rules.specs.Take.{take}
 use Rattle.machine_rules.specs.Go.{go}
@@ -32,3 +34,11 @@ pub record IsFirst (s : State) (e : Event) : Type 0 where
 -- no event is enabled
 abbrev pub IsQuiet : State → Type 0
 IsQuiet s = (e : Event) → next s e ≡ NotEnabled
+
+-- ---- an actor that has nothing to do
+
+-- it has no frame, did nothing since it collected, and no letter waits for it
+pub record IsAtRest (c : Cell) (mail : List Letter) : Type 0 where
+  pub idle : c.frame ≡ None
+  pub clean : c.dirty ≡ false
+  pub empty : mail ≡ []
