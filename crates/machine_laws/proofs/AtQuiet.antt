@@ -1,5 +1,5 @@
 -- Where a run ends quiet, exactly what is reachable is left, and the detector rests.
-use Rattle.std.proofs.Common.{◌≡◌, ◌≢◌, ℕ, zero, suc, ◌<◌, true, false, Option, Some, None, List, [], ◌∷◌, refl, sym, ap, subst, ◌∙◌, arith, inl}
+use Rattle.std.proofs.Common.{◌≡◌, ◌≢◌, ℕ, zero, suc, ◌<◌, true, Option, Some, None, List, [], ◌∷◌, refl, sym, ap, subst, ◌∙◌, arith, inl}
 use Rattle.std.proofs.lemmas.Bool.{false≢true}
 use Rattle.orca_names.specs.declared.names.Thing.TheVariants.{Actor}
 use Rattle.letter_kinds.specs.declared.letter.Letter.{Letter}
@@ -8,32 +8,34 @@ use Rattle.letter_kinds.specs.Detector.{Token}
 use Rattle.letter_kinds.specs.Holdings.{held_in}
 use Rattle.letter_kinds.specs.Reports.{report_of}
 use Rattle.reach_walk.specs.Reach.{thing_row}
+use Rattle.detector_laws.proofs.Cells.{same_some, some_not_none}
+use Rattle.detector_laws.specs.Cells.{held_on}
 use Rattle.detector_laws.proofs.Quiet.{no_token}
 use Rattle.detector_laws.specs.Quiet as view
-use Rattle.detector_laws.specs.Reports.{IsAsTold, told_by_kept, told_of}
-use Rattle.detector_laws.specs.World.{In}
+use Rattle.detector_laws.specs.Reports.{IsAsTold, IsReportOf, told_by_kept, told_of}
 use Rattle.machine_laws.proofs.Quieting.{quiet_reached, quiet_world}
 use Rattle.machine_laws.proofs.WholeRuns.{run_has_facts}
 use Rattle.machine_laws.specs.AllFacts.{AllFacts}
-use Rattle.machine_laws.specs.Laws.{DetectorRests, DetectorRestsAtQuiet, ExactlyAtQuiet, IsReportOf}
-use Rattle.machine_laws.specs.Seen.{cell_of, world}
+use Rattle.machine_laws.specs.Laws.{DetectorRests, DetectorRestsAtQuiet, ExactlyAtQuiet}
+use Rattle.machine_laws.proofs.Seen.{world}
 use Rattle.machine_rules.proofs.Needs.{AllNeeded, IsNeeded, is_held, is_pinned, left_is_exact}
 use Rattle.machine_rules.proofs.Rest.{quiet_rest}
-use Rattle.machine_rules.specs.Actors.{Seat, seat, seat_at}
+use Rattle.machine_rules.specs.Actors.{Seat, cell_at, cell_of, seat, seat_at}
 use Rattle.machine_rules.specs.Agreement.{people_of}
 use Rattle.machine_rules.specs.Cell.{Cell}
 use Rattle.machine_rules.specs.Next.{IsQuiet}
 use Rattle.machine_rules.specs.Plain.{PlainState, plain_row}
 use Rattle.machine_rules.specs.State.{State}
+use Rattle.detector_laws.specs.Members.{In}
 
 -- ---- who is reached in the detector's view is needed
 
 module _ (s : State) where
-  by_pin : (a : ℕ) (o : Option Seat) → seat_at s.actors a ≡ o → (cell_of o).pinned ≡ true → IsNeeded s.actors a
-  by_pin a None at e = cc
-  by_pin a (Some o) at e = is_pinned at e
+  by_pin : (a : ℕ) (c : Cell) (o : Option Seat) → seat_at s.actors a ≡ o → cell_of o ≡ Some c → c.fields.pinned ≡ true → IsNeeded s.actors a
+  by_pin a c None at here pin = absurd (some_not_none here refl)
+  by_pin a c (Some o) at here pin = let same : o.cell ≡ c = cc in is_pinned at (ap (λ (c : Cell). c.fields.pinned) same ∙ pin)
 
-  by_hold : (a b : ℕ) (o : Option Seat) → seat_at s.actors a ≡ o → IsNeeded s.actors a → (cell_of o).foreign b ≢ 0 → IsNeeded s.actors b
+  by_hold : (a b : ℕ) (o : Option Seat) → seat_at s.actors a ≡ o → IsNeeded s.actors a → held_on (cell_of o) b ≢ 0 → IsNeeded s.actors b
   by_hold a b None at n h = absurd (h refl)
   by_hold a b (Some o) at n h = is_held n at (some_held (held_in o.cell.holdings (Actor b)) h)
     where
@@ -42,12 +44,12 @@ module _ (s : State) where
       some_held (suc n) h = omega arith
 
   reached_needed : {a : ℕ} → view.IsReached (world s) a → IsNeeded s.actors a
-  reached_needed (view.root {a = a} here pin) = by_pin a (seat_at s.actors a) refl pin
-  reached_needed (view.edge {b = b} {a = a} here path holds) = by_hold b a (seat_at s.actors b) refl (reached_needed path) holds
+  reached_needed (view.root {a = a} {c = c} here pin) = by_pin a c (seat_at s.actors a) refl here pin
+  reached_needed (view.edge {b = b} {a = a} path holds) = by_hold b a (seat_at s.actors b) refl (reached_needed path) holds
 
   all_needed : (p : PlainState) → AllFacts p s → IsQuiet s → AllNeeded s.actors
   all_needed p facts quiet a c mail at =
-      reached_needed (quiet_reached s (thing_row (plain_row p.actors)) (people_of p.actors) facts.beside.counts facts.own facts.detector quiet a (ap (λ o. (cell_of o).present) at))
+      reached_needed (quiet_reached s (thing_row (plain_row p.actors)) (people_of p.actors) facts.beside.counts facts.own facts.detector quiet a c (ap cell_of at))
 
 pub exactly_at_quiet : ExactlyAtQuiet
 exactly_at_quiet program book t run quiet =
@@ -64,26 +66,22 @@ module _ (s : State) (p : PlainState) (facts : AllFacts p s) (quiet : IsQuiet s)
   rests : view.IsQuiet (world s)
   rests = quiet_world s quiet facts.detector
 
-  told : (a : ℕ) (c : Cell) (mail : List Letter) → seat_at s.actors a ≡ seat c mail → IsAsTold (cell_of (seat c mail)) a (told_by_kept (report_of s.detector.kept a))
+  told : (a : ℕ) (c : Cell) (mail : List Letter) → seat_at s.actors a ≡ seat c mail → IsAsTold (Some c) a (told_by_kept (report_of s.detector.kept a))
   told a c mail at =
       subst (λ o. IsAsTold (cell_of o) a (told_by_kept (report_of s.detector.kept a))) at
-      (subst (λ notes. IsAsTold (cell_of (seat_at s.actors a)) a (told_of a s.detector.kept notes)) rests.heard (facts.detector.reports.last a))
+      (subst (λ notes. IsAsTold (cell_at s.actors a) a (told_of a s.detector.kept notes)) rests.heard (facts.detector.reports.last a))
 
-  reported : (a : ℕ) (c : Cell) (mail : List Letter) → seat_at s.actors a ≡ seat c mail → c.fields.pinned ≡ false → c.reported ≡ true
-  reported a c mail at free =
-      subst (λ o. (cell_of o).reported ≡ true) at (rests.blocked a (ap (λ o. (cell_of o).present) at) (ap (λ o. (cell_of o).pinned) at ∙ free))
-
-  kept : (a : ℕ) (c : Cell) → c.reported ≡ true → (mail : List Letter) (found : Option Report) → report_of s.detector.kept a ≡ found → IsAsTold (cell_of (seat c mail)) a (told_by_kept found)
+  kept : (a : ℕ) (c : Cell) → c.reported ≡ true → (found : Option Report) → report_of s.detector.kept a ≡ found → IsAsTold (Some c) a (told_by_kept found)
       → (r : Report) × (report_of s.detector.kept a ≡ Some r) × IsReportOf a c r
-  kept a c out mail None is unreported = absurd (false≢true (sym unreported ∙ out))
-  kept a c out mail (Some r) is (blocked, exact) = (r, is, record { actor = exact.actor; count = exact.count; held = exact.held })
+  kept a c out None is unreported = absurd (false≢true (sym unreported ∙ out))
+  kept a c out (Some r) is (blocked, exact) = (r, is, subst (λ c. IsReportOf a c r) (same_some blocked.here refl) exact)
 
   pub detector_rests : DetectorRests s
   detector_rests = record {
     notes = rests.heard;
     news = rests.scanned;
-    tokens = none_open s.detector.tokens (no_token (world s) rests facts.detector.reports facts.detector.tokens);
-    reports = λ a c mail at free. kept a c (reported a c mail at free) mail (report_of s.detector.kept a) refl (told a c mail at);
+    tokens = none_open s.detector.tokens (no_token (world s) rests facts.detector.tokens);
+    reports = λ a c mail at free. kept a c (rests.told a c (ap cell_of at) free) (report_of s.detector.kept a) refl (told a c mail at);
   }
 
 pub detector_at_quiet : DetectorRestsAtQuiet

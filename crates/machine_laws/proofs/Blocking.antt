@@ -1,5 +1,5 @@
 -- A block, as the detector's laws see it; it keeps all that is kept of the counts.
-use Rattle.std.proofs.Common.{◌≡◌, ◌≢◌, ℕ, ◌<◌, not, ◌&&◌, ◌||◌, true, false, is_none, is_some, Option, Some, None, List, [], ◌∷◌, ◌++◌, length, set, refl, ap, sym, ◌∙◌, arith, ⊎_elim, get_or-set_same, get_or-set_other, length-set, eq-eqb, ne_eqb}
+use Rattle.std.proofs.Common.{◌≡◌, ◌≢◌, ℕ, ◌<◌, not, ◌&&◌, ◌||◌, true, false, is_none, Option, Some, None, List, [], ◌∷◌, ◌++◌, length, set, refl, ap, sym, ◌∙◌, arith, ⊎_elim, get_or-set_same, get_or-set_other, length-set, eq-eqb, ne_eqb}
 use Rattle.std.proofs.lemmas.Bool.{and_parts, cases_eq, not-true, or_parts}
 use mathlib.Core.Path.{fun_ext}
 use Rattle.orca_names.specs.declared.names.Thing.{Thing}
@@ -16,14 +16,14 @@ use Rattle.detector_laws.specs.Events.{CanBlock}
 use Rattle.detector_laws.specs.World as view
 use Rattle.machine_laws.proofs.Collecting.{same_loads}
 use Rattle.machine_laws.proofs.HeldActors.{count_on-held_actors}
-use Rattle.machine_laws.specs.Seen.{cell_of, kinds, letters_of, mail_at, world_of}
+use Rattle.machine_laws.proofs.Seen.{world_of}
 use Rattle.machine_rules.proofs.Agreeing.{agrees_same}
 use Rattle.machine_rules.proofs.Every.{every_set}
 use Rattle.machine_rules.proofs.InHand.{in_hand, none, out_of_hand}
 use Rattle.machine_rules.proofs.TakeKeeps.{Alike, alike_closed}
 use Rattle.machine_rules.proofs.Seats.{present_below}
 use Rattle.machine_rules.proofs.Sends.{cell_balanced, cell_prefix}
-use Rattle.machine_rules.specs.Actors.{Actors, Seat, seat, seat_at}
+use Rattle.machine_rules.specs.Actors.{Actors, cell_at, cell_of, letters_of, mail_at, seat, seat_at}
 use Rattle.machine_rules.specs.Agreement.{Person}
 use Rattle.machine_rules.specs.Balance.{load_sum}
 use Rattle.machine_rules.specs.Block.{held_actors, may_block, no_letters}
@@ -86,18 +86,14 @@ module _ (s : Actors) (a : ℕ) (c : Cell) (ls : List Letter) (at : seat_at s a 
 
   -- ---- the world
 
-  pub can_block : (d : Detector) (ns : List Note) → MayBlock c → CanBlock (world_of s d ns) a (report_of_cell a c)
+  pub can_block : (d : Detector) (ns : List Note) → MayBlock c → CanBlock (world_of s d ns) a c (report_of_cell a c)
   can_block d ns may = record {
-    present = ap (λ o. (cell_of o).present) at;
-    quiet = ap (λ o. (cell_of o).reported) at ∙ may.quiet;
-    unpinned = ap (λ o. (cell_of o).pinned) at ∙ may.unpinned;
-    clean = ap (λ o. (cell_of o).dirty) at ∙ may.clean;
-    idle = ap (λ o. (cell_of o).framed) at ∙ ap is_some may.idle;
-    exact = record {
-      actor = refl;
-      count = sym (ap (λ o. (cell_of o).count) at);
-      held = λ x. count_on-held_actors c.holdings x ∙ sym (ap (λ o. (cell_of o).foreign x) at);
-    };
+    here = ap cell_of at;
+    quiet = may.quiet;
+    unpinned = may.unpinned;
+    clean = may.clean;
+    idle = may.idle;
+    exact = record { actor = refl; count = refl; held = count_on-held_actors c.holdings };
   }
 
   there : (b : ℕ) → b ≢ a → seat_at (set s a (seat (reporting c) ls)) b ≡ seat_at s b
@@ -107,17 +103,17 @@ module _ (s : Actors) (a : ℕ) (c : Cell) (ls : List Letter) (at : seat_at s a 
   mine = get_or-set_same s a (seat (reporting c) ls) None within
 
   pub block_is : (d : Detector) (ns : List Note)
-      → world_of (set s a (seat (reporting c) ls)) d (ns ++ Block a c.holdings.count (held_actors c.holdings) ∷ []) ≡ view.block (world_of s d ns) a (report_of_cell a c)
+      → world_of (set s a (seat (reporting c) ls)) d (ns ++ Block a c.holdings.count (held_actors c.holdings) ∷ []) ≡ view.block (world_of s d ns) a c (report_of_cell a c)
   block_is d ns =
       let s1 = set s a (seat (reporting c) ls) in
       let made : length s1 ≡ length s = length-set s a (seat (reporting c) ls) in
-      let cell : (λ b. cell_of (seat_at s1 b)) ≡ view.at (λ b. cell_of (seat_at s b)) a (record (cell_of (seat_at s a)) { reported = true }) = fun_ext (λ b. ⊎_elim
-      (λ same. rw (eq-eqb b a same, same) (ap cell_of mine ∙ ap (λ (o : Option Seat). record (cell_of o) { reported = true }) (sym at)))
+      let cell : cell_at s1 ≡ view.at (cell_at s) a (Some (reporting c)) = fun_ext (λ b. ⊎_elim
+      (λ same. rw (eq-eqb b a same, same) (ap cell_of mine))
       (λ other. rw (ne_eqb b a other) (ap cell_of (there b other)))
       (cases_eq b a)) in
-      let mail : (λ b. mail_at s1 b) ≡ (λ b. mail_at s b) = fun_ext (λ b. ⊎_elim
-      (λ same. rw same (ap (λ o. kinds (letters_of o)) mine ∙ sym (ap (λ o. kinds (letters_of o)) at)))
-      (λ other. ap (λ o. kinds (letters_of o)) (there b other))
+      let mail : mail_at s1 ≡ mail_at s = fun_ext (λ b. ⊎_elim
+      (λ same. rw same (ap letters_of mine ∙ sym (ap letters_of at)))
+      (λ other. ap letters_of (there b other))
       (cases_eq b a)) in
       let loaded : (λ x. load_sum (Actor x) s1) ≡ (λ x. load_sum (Actor x) s) = fun_ext (λ x. same_loads s a c (reporting c) ls at (Actor x)) in
       λ i. record { made = made i; cell = cell i; mail = mail i; loaded = loaded i; detector = d; notes = ns ++ Block a c.holdings.count (held_actors c.holdings) ∷ [] }

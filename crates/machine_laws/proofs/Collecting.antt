@@ -9,14 +9,14 @@ use Rattle.letter_kinds.specs.Sums.{amount_of}
 use Rattle.letter_kinds.specs.declared.letter.Letter.{Letter}
 use Rattle.letter_kinds.specs.declared.letter.Letter.TheVariants.{Dec}
 use Rattle.letter_kinds.specs.declared.note.Note.{Note}
-use Rattle.machine_laws.specs.Seen.{world_of, letters_of, kinds}
+use Rattle.machine_laws.proofs.Seen.{world_of}
 use Rattle.machine_laws.proofs.Noted.{noted}
 use Rattle.machine_rules.proofs.SeatReads.{letter_Dec, loads_at-seat}
 use Rattle.machine_rules.proofs.Seats.{present_below, load_sum-set}
 use Rattle.machine_rules.proofs.Sweeping.{amount-given_back, firm_counted, held-sweep}
 use Rattle.machine_rules.specs.Facts.{IsFirm}
 use Rattle.machine_rules.proofs.Sweeps.{owed, owed-groups, Firm, firm_groups, debit_Dec}
-use Rattle.machine_rules.specs.Actors.{Actors, seat_at, push_letter, push_decs, seat}
+use Rattle.machine_rules.specs.Actors.{Actors, letters_of, push_decs, push_letter, seat, seat_at}
 use Rattle.machine_rules.specs.Balance.{load_sum}
 use Rattle.machine_rules.specs.Cell.{Cell}
 use Rattle.machine_rules.specs.Collect.{collected}
@@ -74,7 +74,7 @@ collect_moves marked all s d ns a c ls at dirty awake firm closed =
     let gs = by_owner (given_back marked c.holdings) in
     let s1 = set s a (seat (swept marked a c) ls) in
     moves s (push_decs gs s1) d ns a c (swept marked a c) ls ls at (decs_adds gs s1) [] refl awake (inr (inl dirty))
-    (λ b n h. ap (λ o. kinds (letters_of o)) (decs_quiet b gs s1 (not_to b gs (firm_groups _ (firm_counted marked c.holdings firm)) (λ x o p. unowed b n h x o (omega (arith, owed-groups (given_back marked c.holdings) x)))) ∙ get_or-set_other s a b (seat (swept marked a c) ls) None n))
+    (λ b n h. ap letters_of (decs_quiet b gs s1 (not_to b gs (firm_groups _ (firm_counted marked c.holdings firm)) (λ x o p. unowed b n h x o (omega (arith, owed-groups (given_back marked c.holdings) x)))) ∙ get_or-set_other s a b (seat (swept marked a c) ls) None n))
     (λ b n h u. omega (arith, u, decs_loads (Actor b) gs s1, same_loads s a c (swept marked a c) ls at (Actor b)))
     (λ b n h u. held-sweep marked a c.holdings (Actor b) ∙ none (marked (Actor b)) (held_in c.holdings (Actor b)) h)
   where

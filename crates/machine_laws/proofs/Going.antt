@@ -1,9 +1,8 @@
 -- A go, as the detector's laws see it.
-use Rattle.std.proofs.Common.{◌≡◌, ◌≢◌, ℕ, zero, suc, ◌+◌, ◌<◌, Bool, true, false, if◌then◌else◌, Option, None, is_some, List, [], ◌∷◌, ◌++◌, length, set, refl, ap, sym, subst, ◌∙◌, arith, inl, inr, ⊎_elim, get_or-set_same, get_or-set_other, length-set, append-nil}
+use Rattle.std.proofs.Common.{◌≡◌, ◌≢◌, ℕ, zero, suc, ◌+◌, ◌<◌, Bool, true, false, Option, None, is_some, List, [], ◌++◌, length, set, refl, ap, sym, subst, ◌∙◌, arith, inl, inr, ⊎_elim, get_or-set_same, get_or-set_other, length-set, append-nil}
 use Rattle.std.proofs.lemmas.Bool.{cases_eq}
 use Rattle.std.proofs.lemmas.List.{get_or_past}
 use Rattle.machine_laws.proofs.Moving.{adds_none, adds_push, push_other, push_loads, moves}
-use Rattle.machine_laws.proofs.Balancing as bal
 use Rattle.machine_laws.proofs.Collecting.{owner_held, same_loads}
 use Rattle.detector_laws.specs.Events.{Moves}
 use Rattle.letter_kinds.proofs.Amounts.{held-mint_all}
@@ -16,13 +15,12 @@ use Rattle.letter_kinds.specs.Sums.{amount_of, times_loaded, load_count}
 use Rattle.letter_kinds.specs.declared.letter.Letter.{Letter}
 use Rattle.letter_kinds.specs.declared.letter.Letter.TheVariants.{App, Inc}
 use Rattle.letter_kinds.specs.declared.note.Note.{Note}
-use Rattle.letter_kinds.specs.declared.note.Note.TheVariants.{Unblock}
-use Rattle.machine_laws.specs.Seen.{mail_at, world_of, letters_of, kinds, cell_of}
+use Rattle.machine_laws.proofs.Seen.{world_of}
 use Rattle.machine_laws.proofs.Noted.{noted}
 use Rattle.machine_rules.proofs.Makes.{more_last, more_other}
 use Rattle.machine_rules.proofs.SeatReads.{letter_App, letter_Inc, loads_at-seat}
 use Rattle.machine_rules.proofs.Seats.{present_below}
-use Rattle.machine_rules.specs.Actors.{Actors, seat_at, push_letter, seat}
+use Rattle.machine_rules.specs.Actors.{Actors, cell_at, cell_of, letters_of, mail_at, push_letter, seat, seat_at}
 use Rattle.machine_rules.specs.Balance.{loads_at}
 use Rattle.machine_rules.specs.Cell.{Cell}
 use Rattle.turn_rules.specs.Segment.{Stop}
@@ -47,7 +45,7 @@ module _ (s : Actors) (d : Detector) (ns : List Note) (a : ℕ) (c : Cell) (ls :
       let c1 : Cell = turned stop f q c in
       let s1 = set s a (seat c1 ls) in
       moves s s1 d ns a c c1 ls ls at (adds_none s1) [] refl awake (inl running)
-      (λ b n h. ap (λ o. kinds (letters_of o)) (get_or-set_other s a b (seat c1 ls) None n))
+      (λ b n h. ap letters_of (get_or-set_other s a b (seat c1 ls) None n))
       (λ b n h u. same_loads s a c c1 ls at (Actor b) ∙ u)
       (λ b n h u. held_made stop.turn.made c.holdings (Actor b) ∙ h)
 
@@ -55,30 +53,30 @@ module _ (s : Actors) (d : Detector) (ns : List Note) (a : ℕ) (c : Cell) (ls :
   pub make_moves : (c1 : Cell) → c1.reported ≡ c.reported → ((x : Thing) → held_in c1.holdings x ≡ held_in c.holdings x) → (fresh : Cell) → fresh.reported ≡ false → ((x : Thing) → held_in fresh.holdings x ≡ 0)
       → Moves (world_of s d ns) a (world_of (make a c1 ls fresh s) d (noted a c ns))
   make_moves c1 still same fresh quiet empty = record {
-    here = ap (λ o. (cell_of o).present) at;
-    there = ap (λ o. (cell_of o).present) mine;
-    woken = ap (λ o. (cell_of o).reported) mine ∙ awake2;
-    cause = inl (ap (λ o. (cell_of o).framed) at ∙ running);
+    old = c;
+    new = c2;
+    here = ap cell_of at;
+    there = ap cell_of mine;
+    woken = still ∙ awake;
+    cause = inl running;
     detector = refl;
-    notes = ap (λ (q : Bool). if q then ns ++ Unblock a ∷ [] else ns) (sym (ap (λ o. (cell_of o).reported) at));
-    others = λ b n. ⊎_elim (λ new. inr (record {
-      absent = ap (λ o. (cell_of o).present) (nobody b new);
-      present = ap (λ o. (cell_of o).present) (newest b new);
-      quiet = ap (λ o. (cell_of o).reported) (newest b new) ∙ quiet;
-      empty = λ x. ap (λ o. (cell_of o).foreign x) (newest b new) ∙ empty (Actor x);
-    })) (λ old. inl (ap cell_of (same_seat b n old))) (cases_eq b (length s));
-    own = ([], kinds ls, [], ap (λ o. kinds (letters_of o)) at, ap (λ o. kinds (letters_of o)) mine ∙ sym (append-nil (kinds ls)), tt);
+    notes = refl;
+    others = λ b n. ⊎_elim
+        (λ new. inr (record { absent = ap cell_of (nobody b new); cell = fresh; present = ap cell_of (newest b new); quiet = quiet; empty = λ x. empty (Actor x) }))
+        (λ old. inl (ap cell_of (same_seat b n old)))
+        (cases_eq b (length s));
+    own = ([], ls, [], ap letters_of at, ap letters_of mine ∙ sym (append-nil ls), tt);
     sends = λ b n. (
       [],
       ⊎_elim
-          (λ new. ap (λ o. kinds (letters_of o)) (newest b new) ∙ sym (ap (λ o. kinds (letters_of o) ++ []) (nobody b new)))
-          (λ old. ap (λ o. kinds (letters_of o)) (same_seat b n old) ∙ sym (append-nil (mail_at s b)))
+          (λ new. ap letters_of (newest b new) ∙ sym (ap (λ o. letters_of o ++ []) (nobody b new)))
+          (λ old. ap letters_of (same_seat b n old) ∙ sym (append-nil (mail_at s b)))
           (cases_eq b (length s)),
       tt,
     );
-    sends_held = λ b p n h. ap (λ o. kinds (letters_of o)) (same_seat b n (old_one b p));
+    sends_held = λ b p n h. ap letters_of (same_seat b n (old_one b p));
     loads_held = λ b p n h u. omega (arith, u, sum_by_push (loads_at (Actor b)) first (seat fresh []), loads_at-seat (Actor b) fresh [], sum-nil (load_count (Actor b)), same_loads s a c c2 ls at (Actor b));
-    holds_held = λ b p n h u. ap (λ o. (cell_of o).foreign b) mine ∙ held_set_other (λ k. k + 256) (Actor b) (Actor (length s)) None c1.holdings (λ e. old_one b p (ap owner_of e)) ∙ same (Actor b) ∙ sym (ap (λ o. (cell_of o).foreign b) at) ∙ h;
+    holds_held = λ b p n h u. held_set_other (λ k. k + 256) (Actor b) (Actor (length s)) None c1.holdings (λ e. old_one b p (ap owner_of e)) ∙ same (Actor b) ∙ h;
   }
     where
       c2 : Cell
@@ -93,9 +91,6 @@ module _ (s : Actors) (d : Detector) (ns : List Note) (a : ℕ) (c : Cell) (ls :
       within : a < length s
       within = present_below s a _ at
 
-      awake2 : c2.reported ≡ false
-      awake2 = still ∙ awake
-
       mine : seat_at (make a c1 ls fresh s) a ≡ seat c2 ls
       mine = more_other first (seat fresh []) a (λ e. let w = wide in let h = within in absurd (omega arith)) ∙ get_or-set_same s a (seat c2 ls) None within
 
@@ -108,8 +103,8 @@ module _ (s : Actors) (d : Detector) (ns : List Note) (a : ℕ) (c : Cell) (ls :
       same_seat : (b : ℕ) → b ≢ a → b ≢ length s → seat_at (make a c1 ls fresh s) b ≡ seat_at s b
       same_seat b n o = more_other first (seat fresh []) b (λ e. o (e ∙ wide)) ∙ get_or-set_other s a b (seat c2 ls) None n
 
-      old_one : (b : ℕ) → (cell_of (seat_at s b)).present ≡ true → b ≢ length s
-      old_one b p e = let h = bal.present_below s b p in absurd (omega arith)
+      old_one : (b : ℕ) → cell_at s b ≢ None → b ≢ length s
+      old_one b p e = p (ap cell_of (nobody b e))
 
   -- a letter with a load
   pub post_moves : (c1 : Cell) → c1.reported ≡ c.reported → ((x : Thing) → held_in c1.holdings x ≡ held_in c.holdings x) → (to h : ℕ) (args : List Value) (load : List (Thing × Option Row))
@@ -119,7 +114,7 @@ module _ (s : Actors) (d : Detector) (ns : List Note) (a : ℕ) (c : Cell) (ls :
       let c2 : Cell = record c1 { holdings = send a load c1.holdings } in
       let s1 = set s a (seat c2 ls) in
       moves s (push_letter to (App h args load) s1) d ns a c c2 ls ls at (adds_push s1 to (App h args load) refl) [] refl (still ∙ awake) (inl running)
-      (λ b n z. ap (λ o. kinds (letters_of o)) (push_other s1 to (App h args load) b (λ e. away b n z (subst (λ (i : ℕ). IsKnown a c1.holdings (Actor i)) (sym e) known_to)) ∙ get_or-set_other s a b (seat c2 ls) None n))
+      (λ b n z. ap letters_of (push_other s1 to (App h args load) b (λ e. away b n z (subst (λ (i : ℕ). IsKnown a c1.holdings (Actor i)) (sym e) known_to)) ∙ get_or-set_other s a b (seat c2 ls) None n))
       (λ b n z u. omega (arith, u, push_loads s1 to (App h args load) (Actor b), same_loads s a c c2 ls at (Actor b), (letter_App (Actor b) h args load).2, unloaded b n z))
       (λ b n z u. omega (arith, held-send a (Actor b) load c1.holdings n, same (Actor b), z))
     where
@@ -141,7 +136,7 @@ module _ (s : Actors) (d : Detector) (ns : List Note) (a : ℕ) (c : Cell) (ls :
       let c2 : Cell = record c { holdings = mint_all es c.holdings } in
       let s1 = set s a (seat c2 ls) in
       moves s (push_letter to (Inc es) s1) d ns a c c2 ls ls at (adds_push s1 to (Inc es) refl) [] refl awake (inl running)
-      (λ b n z. ap (λ o. kinds (letters_of o)) (push_other s1 to (Inc es) b (λ e. away b n z e) ∙ get_or-set_other s a b (seat c2 ls) None n))
+      (λ b n z. ap letters_of (push_other s1 to (Inc es) b (λ e. away b n z e) ∙ get_or-set_other s a b (seat c2 ls) None n))
       (λ b n z u. omega (arith, u, push_loads s1 to (Inc es) (Actor b), same_loads s a c c2 ls at (Actor b), (letter_Inc (Actor b) es).2))
       (λ b n z u. omega (arith, held-mint_all (Actor b) es c.holdings, unminted b z, z))
     where

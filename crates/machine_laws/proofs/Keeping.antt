@@ -10,7 +10,7 @@ use Rattle.letter_kinds.specs.Holdings.{Row}
 use Rattle.detector_laws.proofs.Named.{numbered_is_open}
 use Rattle.detector_laws.proofs.Reap.{reaped_sealed}
 use Rattle.detector_laws.proofs.Steps.{step_keeps}
-use Rattle.detector_laws.specs.Facts.{DetectorFacts}
+use Rattle.detector_laws.specs.World.{FactsHold}
 use Rattle.detector_laws.specs.Tokens.{IsSealed}
 use Rattle.machine_laws.proofs.Balancing.{balanced}
 use Rattle.machine_laws.proofs.Blocking.{block_keeps}
@@ -19,10 +19,12 @@ use Rattle.machine_rules.proofs.Steps.{goes_to, not_enabled}
 use Rattle.machine_laws.proofs.Reaping.{reap_reaps}
 use Rattle.machine_laws.proofs.Scanning.{scan_keeps}
 use Rattle.machine_laws.proofs.Sealing.{reap_keeps}
-use Rattle.machine_laws.specs.Seen.{world}
+use Rattle.machine_laws.proofs.Seen.{world}
 use Rattle.machine_laws.proofs.Stepping.{next_steps}
-use Rattle.machine_rules.specs.Actors.{Seat, seat, seat_at}
+use Rattle.machine_rules.specs.Actors.{Seat, cell_at, mail_at, seat, seat_at}
 use Rattle.machine_rules.specs.Agreement.{Person}
+use Rattle.machine_rules.specs.Balance.{load_sum}
+use Rattle.orca_names.specs.declared.names.Thing.TheVariants.{Actor}
 use Rattle.machine_rules.specs.Block.{block_at, block_in, may_block}
 use Rattle.machine_rules.specs.Cell.{Cell}
 use Rattle.machine_rules.specs.Detect.{hear_in, reap_found, reap_in, scan_in}
@@ -37,14 +39,14 @@ pub record KeepsBeside (all : Thing → Option Row) (people : List Person) (s t 
   pub prints : t.prints ≡ s.prints
   pub objects : t.objects ≡ s.objects
 
-module _ (s t : State) (all : Thing → Option Row) (people : List Person) (keeps : KeepsCounts all people s.actors) (facts : DetectorFacts (world s)) where
+module _ (s t : State) (all : Thing → Option Row) (people : List Person) (keeps : KeepsCounts all people s.actors) (facts : FactsHold (world s)) where
   -- every event keeps what holds of the detector
-  pub next_keeps : Every HoldsNoOwnAt s.actors → (e : Event) → next s e ≡ Goes t → DetectorFacts (world t)
+  pub next_keeps : Every HoldsNoOwnAt s.actors → (e : Event) → next s e ≡ Goes t → FactsHold (world t)
   next_keeps own e is =
       step_keeps (world s) (world t) (balanced s.actors s.detector s.notes keeps.balanced own) (next_steps s t all people keeps facts e is) facts
 
   -- a token that is reaped is sealed
-  pub token_sealed : (number : ℕ) (token : Token) → token_numbered number s.detector ≡ Some token → all_acked token ≡ true → IsSealed (world s).cell (world s).mail (world s).loaded s.notes token
+  pub token_sealed : (number : ℕ) (token : Token) → token_numbered number s.detector ≡ Some token → all_acked token ≡ true → IsSealed (cell_at s.actors) (mail_at s.actors) (λ x. load_sum (Actor x) s.actors) s.notes token
   token_sealed number token at acked =
       reaped_sealed (world s) _ token (reap_reaps s.actors s.detector s.notes token all people keeps (numbered_is_open s.detector number token at).0 acked) facts.tokens
 

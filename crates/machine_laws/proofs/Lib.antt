@@ -12,6 +12,7 @@ pub mod Quieting
 pub mod Reaping
 pub mod Scanning
 pub mod Sealing
+pub mod Seen
 pub mod Starting
 pub mod Stepping
 pub mod Taking

@@ -1,37 +1,30 @@
 -- What every event of an actor does to the detector's world.
-use Rattle.std.proofs.Common.{◌≡◌, ◌≢◌, ◌⊎◌, ℕ, zero, suc, ◌+◌, ◌<◌, ◌≤◌, Bool, true, false, if◌then◌else◌, Option, Some, None, is_some, List, [], ◌∷◌, ◌++◌, length, set, refl, ap, sym, ◌∙◌, arith, inl, inr, ⊎_elim, get_or-set_same, get_or-set_other, length-set, append-nil, append_assoc}
+use Rattle.std.proofs.Common.{◌≡◌, ◌≢◌, ◌⊎◌, ℕ, zero, suc, ◌+◌, ◌<◌, ◌≤◌, true, false, Option, Some, None, is_some, List, [], ◌∷◌, ◌++◌, length, set, refl, ap, sym, ◌∙◌, arith, inl, inr, ⊎_elim, get_or-set_same, get_or-set_other, length-set, append-nil, append_assoc}
 use Rattle.std.proofs.lemmas.Bool.{cases_eq, cases_lt}
 use Rattle.std.proofs.lemmas.List.{get_or_past}
-use Rattle.detector_laws.specs.World as view
-use Rattle.detector_laws.specs.World.{LetterKind, Other, World, NoConfirms}
 use Rattle.detector_laws.specs.Events.{Moves}
 use Rattle.letter_kinds.specs.Detector.{Detector}
 use Rattle.letter_kinds.specs.Holdings.{held_in}
 use Rattle.letter_kinds.specs.Sums.{load_count}
 use Rattle.letter_kinds.specs.declared.letter.Letter.{Letter}
 use Rattle.letter_kinds.specs.declared.note.Note.{Note}
-use Rattle.letter_kinds.specs.declared.note.Note.TheVariants.{Unblock}
-use Rattle.machine_laws.specs.Seen.{kind_of, kinds, cell_of, letters_of, mail_at, world_of}
+use Rattle.machine_laws.proofs.Seen.{world_of}
 use Rattle.machine_laws.proofs.Noted.{noted}
 use Rattle.machine_rules.proofs.Posting.{loads_at_push}
 use Rattle.machine_rules.proofs.SeatReads.{loads_at-none}
 use Rattle.machine_rules.proofs.Seats.{present_below}
-use Rattle.machine_rules.specs.Actors.{Seat, Actors, seat_at, with_letter_more, push_letter, seat}
+use Rattle.machine_rules.specs.Actors.{Actors, Seat, cell_of, letters_of, mail_at, push_letter, seat, seat_at, with_letter_more}
 use Rattle.machine_rules.specs.Balance.{loads_at, load_sum}
 use Rattle.machine_rules.specs.Cell.{Cell}
 use Rattle.orca_names.specs.declared.names.Thing.{Thing}
 use Rattle.orca_names.specs.declared.names.Thing.TheVariants.{Actor}
 use Rattle.std.proofs.lemmas.List.Sums.{sum_by-cons, sum_by-set}
 use Rattle.std.specs.Prelude.{sum_by}
+use Rattle.detector_laws.specs.Confirms.{NoConfirms, is_confirm}
 
-pub kinds-append : (ls ms : List Letter) → kinds (ls ++ ms) ≡ kinds ls ++ kinds ms
-kinds-append [] ms = refl
-kinds-append (l ∷ ls) ms = ap (λ x. kind_of l ∷ x) (kinds-append ls ms)
-
-no_confirms-append : (xs ys : List LetterKind) → NoConfirms xs → NoConfirms ys → NoConfirms (xs ++ ys)
-no_confirms-append [] ys h k = k
-no_confirms-append (Other ∷ xs) ys h k = no_confirms-append xs ys h k
-no_confirms-append (view.Confirm t ∷ xs) ys h k = absurd h
+no_confirms-append : (ms ls : List Letter) → NoConfirms ms → NoConfirms ls → NoConfirms (ms ++ ls)
+no_confirms-append [] ls h k = k
+no_confirms-append (m ∷ ms) ls h k = (h.0, no_confirms-append ms ls h.1 k)
 
 -- ---- one letter
 
@@ -79,7 +72,7 @@ push_loads_same s b l x h = ⊎_elim
 -- cells stay, letters other than Confirms come
 pub record Adds (s s' : Actors) : Type 0 where
   pub cell : (b : ℕ) → cell_of (seat_at s' b) ≡ cell_of (seat_at s b)
-  pub mail : (b : ℕ) → (come : List LetterKind) × (mail_at s' b ≡ mail_at s b ++ come) × NoConfirms come
+  pub mail : (b : ℕ) → (come : List Letter) × (mail_at s' b ≡ mail_at s b ++ come) × NoConfirms come
 
 pub adds_none : (s : Actors) → Adds s s
 adds_none s = record { cell = λ b. refl; mail = λ b. ([], sym (append-nil (mail_at s b)), tt) }
@@ -87,69 +80,65 @@ adds_none s = record { cell = λ b. refl; mail = λ b. ([], sym (append-nil (mai
 pub adds_then : (s t u : Actors) → Adds s t → Adds t u → Adds s u
 adds_then s t u p q = record {
   cell = λ b. q.cell b ∙ p.cell b;
-  mail = λ b. let x = p.mail b in let y = q.mail b in (x.0 ++ y.0, y.1 ∙ ap (λ (m : List LetterKind). m ++ y.0) x.1 ∙ append_assoc (mail_at s b) x.0 y.0, no_confirms-append x.0 y.0 x.2 y.2);
+  mail = λ b. let x = p.mail b in let y = q.mail b in (x.0 ++ y.0, y.1 ∙ ap (λ (m : List Letter). m ++ y.0) x.1 ∙ append_assoc (mail_at s b) x.0 y.0, no_confirms-append x.0 y.0 x.2 y.2);
 }
 
 pub added_cell : (l : Letter) (o : Option Seat) → cell_of (with_letter_more l o) ≡ cell_of o
 added_cell l None = refl
 added_cell l (Some o) = refl
 
-added_mail : (l : Letter) (o : Option Seat) → kind_of l ≡ Other → (come : List LetterKind) × (kinds (letters_of (with_letter_more l o)) ≡ kinds (letters_of o) ++ come) × NoConfirms come
+added_mail : (l : Letter) (o : Option Seat) → is_confirm l ≡ false → (come : List Letter) × (letters_of (with_letter_more l o) ≡ letters_of o ++ come) × NoConfirms come
 added_mail l None k = ([], refl, tt)
-added_mail l (Some o) k = (Other ∷ [], kinds-append o.mail (l ∷ []) ∙ ap (λ (q : LetterKind). kinds o.mail ++ q ∷ []) k, tt)
+added_mail l (Some o) k = (l ∷ [], refl, (k, tt))
 
-pub adds_push : (s : Actors) (b : ℕ) (l : Letter) → kind_of l ≡ Other → Adds s (push_letter b l s)
+pub adds_push : (s : Actors) (b : ℕ) (l : Letter) → is_confirm l ≡ false → Adds s (push_letter b l s)
 adds_push s b l k = record {
   cell = λ i. ⊎_elim
       (λ same. rw same (ap cell_of (push_here s b l) ∙ added_cell l (seat_at s b)))
       (λ other. ap cell_of (push_other s b l i other))
       (cases_eq i b);
   mail = λ i. ⊎_elim
-      (λ same. rw same (let z = added_mail l (seat_at s b) k in (z.0, ap (λ o. kinds (letters_of o)) (push_here s b l) ∙ z.1, z.2)))
-      (λ other. ([], ap (λ o. kinds (letters_of o)) (push_other s b l i other) ∙ sym (append-nil (mail_at s i)), tt))
+      (λ same. rw same (let z = added_mail l (seat_at s b) k in (z.0, ap letters_of (push_here s b l) ∙ z.1, z.2)))
+      (λ other. ([], ap letters_of (push_other s b l i other) ∙ sym (append-nil (mail_at s i)), tt))
       (cases_eq i b);
 }
 
 -- ---- an event: the seat of a is changed, and then letters are sent
 
 abbrev pub Cause : Cell → List Letter → Type 0
-Cause c ls = (is_some c.frame ≡ true) ⊎ ((c.dirty ≡ true) ⊎ ((rest : List LetterKind) × (kinds ls ≡ Other ∷ rest)))
+Cause c ls = (is_some c.frame ≡ true) ⊎ (c.dirty ≡ true) ⊎ ((first : Letter) × (rest : List Letter) × (ls ≡ first ∷ rest) × (is_confirm first ≡ false))
 
 module _ (s s' : Actors) (d : Detector) (ns : List Note) (a : ℕ) (c c' : Cell) (ls rest : List Letter) (at : seat_at s a ≡ seat c ls)
-    (adds : Adds (set s a (seat c' rest)) s') (gone : List LetterKind) (left : kinds ls ≡ gone ++ kinds rest) (woken : c'.reported ≡ false) (cause : Cause c ls)
+    (adds : Adds (set s a (seat c' rest)) s') (gone : List Letter) (left : ls ≡ gone ++ rest) (woken : c'.reported ≡ false) (cause : Cause c ls)
     (quiet : (b : ℕ) → b ≢ a → held_in c.holdings (Actor b) ≡ 0 → mail_at s' b ≡ mail_at s b)
     (loads : (b : ℕ) → b ≢ a → held_in c.holdings (Actor b) ≡ 0 → load_sum (Actor b) s ≡ 0 → load_sum (Actor b) s' ≡ 0)
     (holds : (b : ℕ) → b ≢ a → held_in c.holdings (Actor b) ≡ 0 → load_sum (Actor b) s ≡ 0 → held_in c'.holdings (Actor b) ≡ 0) where
-  s1 : Actors
-  s1 = set s a (seat c' rest)
-
   within : a < length s
   within = present_below s a _ at
 
-  was : (b : ℕ) → (cell_of (seat_at s a)).foreign b ≡ 0 → held_in c.holdings (Actor b) ≡ 0
-  was b h = sym (ap (λ o. (cell_of o).foreign b) at) ∙ h
-
-  here : cell_of (seat_at s' a) ≡ cell_of (seat c' rest)
-  here = adds.cell a ∙ ap cell_of (get_or-set_same s a (seat c' rest) None within)
+  mine : seat_at (set s a (seat c' rest)) a ≡ seat c' rest
+  mine = get_or-set_same s a (seat c' rest) None within
 
   there : (b : ℕ) → b ≢ a → seat_at (set s a (seat c' rest)) b ≡ seat_at s b
   there b n = get_or-set_other s a b (seat c' rest) None n
 
-  my_mail : mail_at s a ≡ kinds ls
-  my_mail = ap (λ o. kinds (letters_of o)) at
+  my_mail : mail_at s a ≡ ls
+  my_mail = ap letters_of at
 
   pub moves : Moves (world_of s d ns) a (world_of s' d (noted a c ns))
   moves = record {
-    here = ap (λ o. (cell_of o).present) at;
-    there = ap (λ (k : view.Cell). k.present) here;
-    woken = ap (λ (k : view.Cell). k.reported) here ∙ woken;
-    cause = ⊎_elim (λ f. inl (ap (λ o. (cell_of o).framed) at ∙ f)) (λ r. inr (⊎_elim (λ f. inl (ap (λ o. (cell_of o).dirty) at ∙ f)) (λ l. inr (l.0, my_mail ∙ l.1)) r)) cause;
+    old = c;
+    new = c';
+    here = ap cell_of at;
+    there = adds.cell a ∙ ap cell_of mine;
+    woken = woken;
+    cause = ⊎_elim inl (λ r. inr (⊎_elim inl (λ l. inr (l.0, l.1, my_mail ∙ l.2, l.3)) r)) cause;
     detector = refl;
-    notes = ap (λ (q : Bool). if q then ns ++ Unblock a ∷ [] else ns) (sym (ap (λ o. (cell_of o).reported) at));
+    notes = refl;
     others = λ b n. inl (adds.cell b ∙ ap cell_of (there b n));
-    own = let m = adds.mail a in (gone, kinds rest, m.0, my_mail ∙ left, m.1 ∙ ap (λ (o : Option Seat). kinds (letters_of o) ++ m.0) (get_or-set_same s a (seat c' rest) None within), m.2);
-    sends = λ b n. let m = adds.mail b in (m.0, m.1 ∙ ap (λ (o : Option Seat). kinds (letters_of o) ++ m.0) (there b n), m.2);
-    sends_held = λ b p n h. quiet b n (was b h);
-    loads_held = λ b p n h u. loads b n (was b h) u;
-    holds_held = λ b p n h u. ap (λ (k : view.Cell). k.foreign b) here ∙ holds b n (was b h) u;
+    own = let m = adds.mail a in (gone, rest, m.0, my_mail ∙ left, m.1 ∙ ap (λ (o : Option Seat). letters_of o ++ m.0) mine, m.2);
+    sends = λ b n. let m = adds.mail b in (m.0, m.1 ∙ ap (λ (o : Option Seat). letters_of o ++ m.0) (there b n), m.2);
+    sends_held = λ b p n h. quiet b n h;
+    loads_held = λ b p n h u. loads b n h u;
+    holds_held = λ b p n h u. holds b n h u;
   }

@@ -2,9 +2,9 @@
 use Rattle.std.proofs.Common.{◌≡◌, ℕ, ◌<◌, ◌≤◌, ◌==◌, ◌||◌, Bool, true, false, cond, Option, Some, None, List, [], ◌∷◌, ◌++◌, length, set, refl, ap, sym, subst, ◌∙◌, arith, ⊎_elim, get_or-set_same, get_or-set_other, length-set, eq-eqb, ne_eqb}
 use Rattle.std.proofs.lemmas.Bool.{cases_eq, cases_lt, false≢true}
 use Rattle.std.proofs.lemmas.List.{get_or_past}
+use Rattle.detector_laws.specs.Cells.{held_on}
 use Rattle.machine_laws.proofs.Moving.{push_other, push_here, sum_by-set_past}
 use Rattle.machine_laws.proofs.Collecting.{owner_held, NotTo, not_to, decs_quiet, decs_adds, decs_loads}
-use Rattle.detector_laws.specs.World.{LetterKind, In, NoConfirms}
 use Rattle.detector_laws.specs.Events.{Reaps}
 use Rattle.letter_kinds.specs.Counting.{given_back, by_owner}
 use Rattle.letter_kinds.specs.Detector.{all_acked, has, Detector, Token, close_token}
@@ -12,13 +12,13 @@ use Rattle.letter_kinds.specs.Holdings.{Row, held_in}
 use Rattle.letter_kinds.specs.declared.letter.Letter.{Letter}
 use Rattle.letter_kinds.specs.declared.letter.Letter.TheVariants.{Dec}
 use Rattle.letter_kinds.specs.declared.note.Note.{Note}
-use Rattle.machine_laws.specs.Seen.{mail_at, world_of, letters_of, kinds, cell_of}
+use Rattle.machine_laws.proofs.Seen.{world_of}
 use Rattle.machine_rules.proofs.ReapKeeps.{every_none}
 use Rattle.machine_rules.proofs.Reaps.{AllIn}
 use Rattle.machine_rules.proofs.SeatReads.{loads_at-none}
 use Rattle.machine_rules.proofs.Sweeping.{amount-given_back, firm_counted}
 use Rattle.machine_rules.proofs.Sweeps.{owed, owed-groups, firm_groups}
-use Rattle.machine_rules.specs.Actors.{Seat, Actors, seat_at, with_letter_more, push_letter, push_decs}
+use Rattle.machine_rules.specs.Actors.{Actors, cell_at, Seat, cell_of, letters_of, mail_at, push_decs, push_letter, seat_at, with_letter_more}
 use Rattle.machine_rules.specs.Balance.{loads_at, load_sum}
 use Rattle.machine_rules.specs.Cell.{Cell}
 use Rattle.machine_rules.specs.Detect.{held_outside, reaped}
@@ -28,6 +28,8 @@ use Rattle.orca_names.specs.Names.{owner_of}
 use Rattle.orca_names.specs.declared.names.Thing.{Thing}
 use Rattle.orca_names.specs.declared.names.Thing.TheVariants.{Actor}
 use Rattle.std.proofs.lemmas.List.Sums.{sum_by-set}
+use Rattle.detector_laws.specs.Confirms.{NoConfirms}
+use Rattle.detector_laws.specs.Members.{In}
 
 -- ---- the members are gone
 
@@ -67,7 +69,7 @@ reap_gone all (m ∷ ms) gs s i h = ⊎_elim
 -- ---- the others stay, and get Decs
 
 abbrev AddsAt : Actors → Actors → ℕ → Type 0
-AddsAt s s' b = (cell_of (seat_at s' b) ≡ cell_of (seat_at s b)) × ((come : List LetterKind) × (mail_at s' b ≡ mail_at s b ++ come) × NoConfirms come)
+AddsAt s s' b = (cell_of (seat_at s' b) ≡ cell_of (seat_at s b)) × ((come : List Letter) × (mail_at s' b ≡ mail_at s b ++ come) × NoConfirms come)
 
 reap_adds : (all ms : List ℕ) (gs : List (ℕ × List (Thing × ℕ))) (s : Actors) (b : ℕ) → has ms b ≡ false → AddsAt s (reaped all ms gs s) b
 unfolding reaped
@@ -77,7 +79,7 @@ reap_adds all (m ∷ ms) gs s b out = ⊎_elim
     (λ other.
     let rest = reap_adds all ms (gs ++ by_owner (held_outside all (seat_at s m))) (set s m None) b (rw (ne_eqb m b (λ e. other (sym e))) at out) in
     let there = get_or-set_other s m b None None other in
-    (rest.0 ∙ ap cell_of there, (rest.1.0, rest.1.1 ∙ ap (λ (o : Option Seat). kinds (letters_of o) ++ rest.1.0) there, rest.1.2)))
+    (rest.0 ∙ ap cell_of there, (rest.1.0, rest.1.1 ∙ ap (λ (o : Option Seat). letters_of o ++ rest.1.0) there, rest.1.2)))
     (cases_eq b m)
 
 not_to_append : (b : ℕ) (gs hs : List (ℕ × List (Thing × ℕ))) → NotTo b gs → NotTo b hs → NotTo b (gs ++ hs)
@@ -129,7 +131,7 @@ module _ (s : Actors) (d : Detector) (ns : List Note) (t : Token) (all : Thing �
   gone_at : (m : ℕ) → has t.members m ≡ true → seat_at (reaped t.members t.members [] s) m ≡ None
   gone_at m h = reap_gone t.members t.members [] s m h
 
-  spares : (i : ℕ) → has t.members i ≡ false → ((m : ℕ) → has t.members m ≡ true → (cell_of (seat_at s m)).foreign i ≡ 0) → Every (Spares t.members i) s
+  spares : (i : ℕ) → has t.members i ≡ false → ((m : ℕ) → has t.members m ≡ true → held_on (cell_at s m) i ≡ 0) → Every (Spares t.members i) s
   spares i out free m c ls at ins = not_to i (by_owner (given_back marked c.holdings)) (firm_groups _ (firm_counted marked c.holdings (keeps.firm m c ls at))) unowed
     where
       marked : Thing → Bool
@@ -144,7 +146,7 @@ module _ (s : Actors) (d : Detector) (ns : List Note) (t : Token) (all : Thing �
           let held = some (marked x) (held_in c.holdings x) (subst (λ (k : ℕ). 0 < k) (owed-groups (given_back marked c.holdings) x ∙ amount-given_back marked c.holdings x) p) in
           let up : 0 < held_in c.holdings (Actor (owner_of x)) = owner_held all m c (keeps.sound m c ls at).closed x held (λ e. false≢true (sym out ∙ ap (has t.members) (sym o ∙ e) ∙ ins)) in
           let z = ap (λ (k : ℕ). held_in c.holdings (Actor k)) o in
-          let w = sym (ap (λ q. (cell_of q).foreign i) at) ∙ free m ins in
+          let w = sym (ap (λ o. held_on (cell_of o) i) at) ∙ free m ins in
           absurd (omega arith)
 
   pub reap_reaps : Reaps (world_of s d ns) t (world_of (reaped t.members t.members [] s) (close_token t d) ns)
@@ -153,10 +155,9 @@ module _ (s : Actors) (d : Detector) (ns : List Note) (t : Token) (all : Thing �
     acked = acked;
     detector = refl;
     notes = refl;
-    gone = λ m h. let e = gone_at m h in (ap (λ o. (cell_of o).present) e, ap (λ o. (cell_of o).reported) e, ap (λ o. kinds (letters_of o)) e);
-    empty = λ m x h. ap (λ o. (cell_of o).foreign x) (gone_at m h);
+    gone = λ m h. let e = gone_at m h in (ap cell_of e, ap letters_of e);
     stays = λ i out. (reap_adds t.members t.members [] s i out).0;
     sends = λ i out. (reap_adds t.members t.members [] s i out).1;
-    sends_held = λ i out free. ap (λ o. kinds (letters_of o)) (reap_quiet t.members t.members [] s i (all_in t.members t.members (λ m h. h)) out tt (spares i out free));
+    sends_held = λ i out free. ap letters_of (reap_quiet t.members t.members [] s i (all_in t.members t.members (λ m h. h)) out tt (spares i out free));
     unloaded = λ x h. omega (arith, h, reap_loads (Actor x) t.members t.members [] s);
   }

@@ -1,14 +1,16 @@
 -- A scan, as the detector's laws see it; it keeps all that is kept of the counts.
-use Rattle.std.proofs.Common.{◌≡◌, ℕ, suc, ◌≤◌, ◌==◌, ◌||◌, Bool, true, false, if◌then◌else◌, Option, Some, None, List, [], ◌∷◌, ◌++◌, length, refl, ap, sym, ◌∙◌, arith, ⊎_elim, eq-eqb, ne_eqb}
+use Rattle.std.proofs.Common.{◌≡◌, ◌≢◌, ℕ, suc, ◌≤◌, ◌==◌, ◌||◌, Bool, true, false, if◌then◌else◌, Option, Some, None, List, [], ◌∷◌, ◌++◌, length, refl, ap, sym, ◌∙◌, arith, ⊎_elim, eq-eqb, ne_eqb}
 use Rattle.std.proofs.lemmas.Bool.{cases_eq, false≢true}
 use mathlib.Core.Path.{fun_ext}
 use Rattle.detector_laws.proofs.Members.{each_In}
 use Rattle.detector_laws.proofs.Names.{names, named}
 use Rattle.detector_laws.proofs.Scan.{IsChosen, largest_chosen}
-use Rattle.machine_laws.proofs.Moving.{push_here, push_other, added_cell, kinds-append, push_loads_same}
+use Rattle.detector_laws.proofs.Cells.{some_not_none}
+use Rattle.letter_kinds.specs.declared.letter.Letter.{Letter}
+use Rattle.machine_laws.proofs.Moving.{push_here, push_other, added_cell, push_loads_same}
 use Rattle.detector_laws.specs.World as view
-use Rattle.detector_laws.specs.World.{LetterKind, Other, World, In}
-use Rattle.detector_laws.specs.Reports.{ReportsAreExact, IsRising, AllAbove}
+use Rattle.detector_laws.specs.World.{World}
+use Rattle.detector_laws.specs.Reports.{IsRising, AllAbove}
 use Rattle.letter_kinds.specs.Closed.{largest_closed}
 use Rattle.letter_kinds.specs.Detector.{Detector, scanned, has, closed_set, candidates}
 use Rattle.letter_kinds.specs.Holdings.{Row}
@@ -17,7 +19,7 @@ use Rattle.letter_kinds.specs.Sums.{inc_of, dec_of}
 use Rattle.letter_kinds.specs.declared.letter.Letter.TheVariants.{Confirm}
 use Rattle.letter_kinds.specs.declared.note.Note.{Note}
 use Rattle.letter_kinds.specs.declared.note.Report.{Report}
-use Rattle.machine_laws.specs.Seen.{mail_at, world_of, letters_of, kinds, cell_of}
+use Rattle.machine_laws.proofs.Seen.{world_of}
 use Rattle.machine_rules.proofs.Agreeing.{agrees_push_other}
 use Rattle.machine_rules.proofs.Every.{every_push, length-push}
 use Rattle.machine_rules.proofs.Global.{mail_push}
@@ -25,7 +27,7 @@ use Rattle.machine_rules.proofs.InHand.{Balanced, in_hand, none, out_of_hand}
 use Rattle.machine_rules.proofs.Posting.{push_balanced}
 use Rattle.machine_rules.proofs.SeatReads.{letter_Confirm}
 use Rattle.machine_rules.proofs.Sends.{push_prefix, cond_zero}
-use Rattle.machine_rules.specs.Actors.{Seat, Actors, seat_at, push_letter}
+use Rattle.machine_rules.specs.Actors.{Actors, cell_at, Seat, cell_of, letters_of, mail_at, push_letter, seat_at}
 use Rattle.machine_rules.specs.Agreement.{Person}
 use Rattle.machine_rules.specs.Balance.{load_sum}
 use Rattle.machine_rules.specs.Detect.{ask_all}
@@ -34,24 +36,25 @@ use Rattle.machine_rules.specs.Known.{IsSoundAt}
 use Rattle.orca_names.specs.Names.{owner_of}
 use Rattle.orca_names.specs.declared.names.Thing.{Thing}
 use Rattle.orca_names.specs.declared.names.Thing.TheVariants.{Actor}
+use Rattle.detector_laws.specs.World.{ReportsAreExact}
 
-present_seat : (o : Option Seat) → (cell_of o).present ≡ true → (q : Seat) × (o ≡ Some q)
-present_seat None h = absurd (false≢true h)
+present_seat : (o : Option Seat) → cell_of o ≢ None → (q : Seat) × (o ≡ Some q)
+present_seat None h = absurd (h refl)
 present_seat (Some q) h = (q, refl)
 
 -- ---- one Confirm
 
-module _ (s : Actors) (b t : ℕ) (here : (cell_of (seat_at s b)).present ≡ true) where
+module _ (s : Actors) (b t : ℕ) (here : cell_at s b ≢ None) where
   ask_cell : (i : ℕ) → cell_of (seat_at (push_letter b (Confirm t) s) i) ≡ cell_of (seat_at s i)
   ask_cell i = ⊎_elim
       (λ same. rw same (ap cell_of (push_here s b (Confirm t)) ∙ added_cell (Confirm t) (seat_at s b)))
       (λ other. ap cell_of (push_other s b (Confirm t) i other))
       (cases_eq i b)
 
-  ask_mail : mail_at (push_letter b (Confirm t) s) b ≡ mail_at s b ++ view.Confirm t ∷ []
+  ask_mail : mail_at (push_letter b (Confirm t) s) b ≡ mail_at s b ++ Confirm t ∷ []
   ask_mail =
       let o = present_seat (seat_at s b) here in
-      ap (λ q. kinds (letters_of q)) (push_here s b (Confirm t)) ∙ rw o.1 (kinds-append o.0.mail (Confirm t ∷ []))
+      ap letters_of (push_here s b (Confirm t)) ∙ rw o.1 refl
 
   ask_keeps : (all : Thing → Option Row) (ps : List Person) → KeepsCounts all ps s → KeepsCounts all ps (push_letter b (Confirm t) s)
   ask_keeps all ps keeps =
@@ -84,13 +87,13 @@ or_right : (p q : Bool) → q ≡ true → (p || q) ≡ true
 or_right true q e = refl
 or_right false q e = e
 
-rest_here : (m : ℕ) (ms : List ℕ) (t : ℕ) (s : Actors) → ((i : ℕ) → has (m ∷ ms) i ≡ true → (cell_of (seat_at s i)).present ≡ true)
-    → ((cell_of (seat_at s m)).present ≡ true) × ((i : ℕ) → has ms i ≡ true → (cell_of (seat_at (push_letter m (Confirm t) s) i)).present ≡ true)
+rest_here : (m : ℕ) (ms : List ℕ) (t : ℕ) (s : Actors) → ((i : ℕ) → has (m ∷ ms) i ≡ true → cell_at s i ≢ None)
+    → (cell_at s m ≢ None) × ((i : ℕ) → has ms i ≡ true → cell_at (push_letter m (Confirm t) s) i ≢ None)
 rest_here m ms t s h =
     let first = h m (or_left (m == m) (has ms m) (eq-eqb m m refl)) in
-    (first, λ i p. ap (λ (c : view.Cell). c.present) (ask_cell s m t first i) ∙ h i (or_right (m == i) (has ms i) p))
+    (first, λ i p gone. h i (or_right (m == i) (has ms i) p) (sym (ask_cell s m t first i) ∙ gone))
 
-asks_cell : (ms : List ℕ) (t : ℕ) (s : Actors) → ((i : ℕ) → has ms i ≡ true → (cell_of (seat_at s i)).present ≡ true) → (b : ℕ) → cell_of (seat_at (ask_all ms t s) b) ≡ cell_of (seat_at s b)
+asks_cell : (ms : List ℕ) (t : ℕ) (s : Actors) → ((i : ℕ) → has ms i ≡ true → cell_at s i ≢ None) → (b : ℕ) → cell_of (seat_at (ask_all ms t s) b) ≡ cell_of (seat_at s b)
 asks_cell [] t s h b = refl
 asks_cell (m ∷ ms) t s h b = let q = rest_here m ms t s h in asks_cell ms t (push_letter m (Confirm t) s) q.1 b ∙ ask_cell s m t q.0 b
 
@@ -98,11 +101,11 @@ asks_length : (ms : List ℕ) (t : ℕ) (s : Actors) → length (ask_all ms t s)
 asks_length [] t s = refl
 asks_length (m ∷ ms) t s = asks_length ms t (push_letter m (Confirm t) s) ∙ length-push m (Confirm t) s
 
-asks_loads : (ms : List ℕ) (t : ℕ) (s : Actors) (x : Thing) → ((i : ℕ) → has ms i ≡ true → (cell_of (seat_at s i)).present ≡ true) → load_sum x (ask_all ms t s) ≡ load_sum x s
+asks_loads : (ms : List ℕ) (t : ℕ) (s : Actors) (x : Thing) → ((i : ℕ) → has ms i ≡ true → cell_at s i ≢ None) → load_sum x (ask_all ms t s) ≡ load_sum x s
 asks_loads [] t s x h = refl
 asks_loads (m ∷ ms) t s x h = let q = rest_here m ms t s h in asks_loads ms t (push_letter m (Confirm t) s) x q.1 ∙ ask_loads s m t q.0 x
 
-asks_keep : (ms : List ℕ) (t : ℕ) (s : Actors) → ((i : ℕ) → has ms i ≡ true → (cell_of (seat_at s i)).present ≡ true) → (all : Thing → Option Row) (ps : List Person) → KeepsCounts all ps s → KeepsCounts all ps (ask_all ms t s)
+asks_keep : (ms : List ℕ) (t : ℕ) (s : Actors) → ((i : ℕ) → has ms i ≡ true → cell_at s i ≢ None) → (all : Thing → Option Row) (ps : List Person) → KeepsCounts all ps s → KeepsCounts all ps (ask_all ms t s)
 asks_keep [] t s h all ps keeps = keeps
 asks_keep (m ∷ ms) t s h all ps keeps = let q = rest_here m ms t s h in asks_keep ms t (push_letter m (Confirm t) s) q.1 all ps (ask_keeps s m t q.0 all ps keeps)
 
@@ -114,18 +117,18 @@ asks_other : (ms : List ℕ) (t : ℕ) (s : Actors) (b : ℕ) → has ms b ≡ f
 asks_other [] t s b out = refl
 asks_other (m ∷ ms) t s b out = ⊎_elim
     (λ same. absurd (let z = eq-eqb m b (sym same) in false≢true (sym out ∙ rw z refl)))
-    (λ other. asks_other ms t (push_letter m (Confirm t) s) b (rw (ne_eqb m b (λ e. other (sym e))) at out) ∙ ap (λ o. kinds (letters_of o)) (push_other s m (Confirm t) b other))
+    (λ other. asks_other ms t (push_letter m (Confirm t) s) b (rw (ne_eqb m b (λ e. other (sym e))) at out) ∙ ap letters_of (push_other s m (Confirm t) b other))
     (cases_eq b m)
 
-asks_mail : (ms : List ℕ) (t : ℕ) (s : Actors) → ((i : ℕ) → has ms i ≡ true → (cell_of (seat_at s i)).present ≡ true) → Distinct ms → (b : ℕ)
-    → mail_at (ask_all ms t s) b ≡ (if has ms b then mail_at s b ++ view.Confirm t ∷ [] else mail_at s b)
+asks_mail : (ms : List ℕ) (t : ℕ) (s : Actors) → ((i : ℕ) → has ms i ≡ true → cell_at s i ≢ None) → Distinct ms → (b : ℕ)
+    → mail_at (ask_all ms t s) b ≡ (if has ms b then mail_at s b ++ Confirm t ∷ [] else mail_at s b)
 asks_mail [] t s h apart b = refl
 asks_mail (m ∷ ms) t s h apart b =
     let q = rest_here m ms t s h in
     ⊎_elim
     (λ same. rw (eq-eqb m b (sym same), same) (asks_other ms t (push_letter m (Confirm t) s) m apart.0 ∙ ask_mail s m t q.0))
     (λ other. rw (ne_eqb m b (λ e. other (sym e)))
-    (asks_mail ms t (push_letter m (Confirm t) s) q.1 apart.1 b ∙ ap (λ (ks : List LetterKind). if has ms b then ks ++ view.Confirm t ∷ [] else ks) (ap (λ o. kinds (letters_of o)) (push_other s m (Confirm t) b other))))
+    (asks_mail ms t (push_letter m (Confirm t) s) q.1 apart.1 b ∙ ap (λ (ks : List Letter). if has ms b then ks ++ Confirm t ∷ [] else ks) (ap letters_of (push_other s m (Confirm t) b other))))
     (cases_eq b m)
 
 -- the chosen are distinct and present
@@ -137,10 +140,6 @@ rising_distinct : (rs : List Report) → IsRising rs → Distinct (names rs)
 rising_distinct [] h = tt
 rising_distinct (r ∷ rs) h = (above_out r.actor r.actor rs (omega arith) h.0, rising_distinct rs h.1)
 
-not_false : (q : Bool) → (q ≡ false → ⊥) → q ≡ true
-not_false true h = refl
-not_false false h = absurd (h refl)
-
 module _ (s : Actors) (d : Detector) (ns : List Note) (rising : IsRising d.kept) (kept : ReportsAreExact (world_of s d ns)) where
   chosen : IsChosen (world_of s d ns) (largest_closed (candidates d))
   chosen = largest_chosen (world_of s d ns) rising
@@ -148,15 +147,12 @@ module _ (s : Actors) (d : Detector) (ns : List Note) (rising : IsRising d.kept)
   distinct : Distinct (closed_set d)
   distinct = rising_distinct (largest_closed (candidates d)) chosen.rising
 
-  all_here : (m : ℕ) → has (closed_set d) m ≡ true → (cell_of (seat_at s m)).present ≡ true
-  all_here m h = not_false _ (λ gone.
+  all_here : (m : ℕ) → has (closed_set d) m ≡ true → cell_at s m ≢ None
+  all_here m h gone =
       let q = named (largest_closed (candidates d)) m h in
       let some = each_In (λ (r : Report). report_of d.kept r.actor ≡ Some r) (largest_closed (candidates d)) chosen.kept q.0 q.1 in
       let none = (kept.absent m gone).0 in
-      absurd (nothing q.0 (sym none ∙ ap (report_of d.kept) (sym q.2) ∙ some)))
-    where
-      nothing : (r : Report) → None ≡ Some r → ⊥
-      nothing r e = cc
+      some_not_none (ap (report_of d.kept) (sym q.2) ∙ some) none
 
   pub scan_keeps : (all : Thing → Option Row) (ps : List Person) → KeepsCounts all ps s → KeepsCounts all ps (ask_all (closed_set d) (suc d.opened) s)
   scan_keeps all ps keeps = asks_keep (closed_set d) (suc d.opened) s all_here all ps keeps
@@ -165,7 +161,7 @@ module _ (s : Actors) (d : Detector) (ns : List Note) (rising : IsRising d.kept)
   scan_is =
       let t = suc d.opened in
       let made : length (ask_all (closed_set d) (suc d.opened) s) ≡ length s = asks_length (closed_set d) t s in
-      let cell : (λ b. cell_of (seat_at (ask_all (closed_set d) (suc d.opened) s) b)) ≡ (λ b. cell_of (seat_at s b)) = fun_ext (λ b. asks_cell (closed_set d) t s all_here b) in
-      let mail : (λ b. mail_at (ask_all (closed_set d) (suc d.opened) s) b) ≡ view.confirmed (closed_set d) t (λ b. mail_at s b) = fun_ext (λ b. asks_mail (closed_set d) t s all_here distinct b) in
-      let loaded : (λ x. load_sum (Actor x) (ask_all (closed_set d) (suc d.opened) s)) ≡ (λ x. load_sum (Actor x) s) = fun_ext (λ x. asks_loads (closed_set d) t s (Actor x) all_here) in
+      let cell : cell_at (ask_all (closed_set d) t s) ≡ cell_at s = fun_ext (λ b. asks_cell (closed_set d) t s all_here b) in
+      let mail : mail_at (ask_all (closed_set d) t s) ≡ view.confirmed (closed_set d) t (mail_at s) = fun_ext (λ b. asks_mail (closed_set d) t s all_here distinct b) in
+      let loaded : (λ x. load_sum (Actor x) (ask_all (closed_set d) t s)) ≡ (λ x. load_sum (Actor x) s) = fun_ext (λ x. asks_loads (closed_set d) t s (Actor x) all_here) in
       λ i. record { made = made i; cell = cell i; mail = mail i; loaded = loaded i; detector = scanned d (closed_set d); notes = ns }

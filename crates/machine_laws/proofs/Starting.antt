@@ -4,28 +4,29 @@ use Rattle.std.specs.Option.{option_map_or}
 use Rattle.behaviour_code.specs.declared.code.Program.{Program}
 use Rattle.behaviour_code.specs.Find.{start_name}
 use Rattle.letter_kinds.specs.declared.letter.Letter.TheVariants.{App}
+use Rattle.detector_laws.specs.Cells.{is_reporting}
 use Rattle.detector_laws.proofs.Starts.{start_facts}
-use Rattle.detector_laws.specs.Facts.{DetectorFacts}
-use Rattle.detector_laws.specs.World.{NoConfirms}
-use Rattle.machine_laws.specs.Seen.{cell_of, kinds, mail_at, world}
-use Rattle.machine_rules.specs.Actors.{Actors, seat_at}
+use Rattle.detector_laws.specs.World.{FactsHold}
+use Rattle.machine_laws.proofs.Seen.{world}
+use Rattle.machine_rules.specs.Actors.{Actors, cell_at, mail_at}
 use Rattle.machine_rules.specs.State.{first_state}
+use Rattle.detector_laws.specs.Confirms.{NoConfirms}
 
 module _ (program : Program) where
   abbrev actors : Actors
   actors = (first_state program).actors
 
-  unreported : (a : ℕ) → (cell_of (seat_at actors a)).reported ≡ false
+  unreported : (a : ℕ) → is_reporting (cell_at actors a) ≡ false
   unreported zero = refl
   unreported (suc a) = refl
 
   unasked : (a : ℕ) → NoConfirms (mail_at actors a)
   unasked zero = by_name (start_name program)
     where
-      by_name : (found : Option ℕ) → NoConfirms (kinds (option_map_or (λ name. App name [] [] ∷ []) found []))
+      by_name : (found : Option ℕ) → NoConfirms ((option_map_or (λ name. App name [] [] ∷ []) found []))
       by_name None = tt
-      by_name (Some name) = tt
+      by_name (Some name) = (refl, tt)
   unasked (suc a) = tt
 
-  pub start_detects : DetectorFacts (world (first_state program))
+  pub start_detects : FactsHold (world (first_state program))
   start_detects = start_facts (world (first_state program)) (record { detector = refl; notes = refl; unreported = unreported; unasked = unasked })

@@ -20,12 +20,12 @@ use Rattle.letter_kinds.specs.Counting.{Loaded, lacking, to_mint}
 use Rattle.letter_kinds.specs.Detector.{Token, all_acked, closed_set, token_numbered}
 use Rattle.letter_kinds.specs.Holdings.{Row}
 use Rattle.letter_kinds.specs.Sums.{amount_of}
+use Rattle.detector_laws.proofs.Cells.{same_some}
 use Rattle.detector_laws.proofs.Named.{numbered_is_open}
 use Rattle.detector_laws.specs.Events.{Moves}
-use Rattle.detector_laws.specs.Facts.{DetectorFacts}
+use Rattle.detector_laws.specs.World.{FactsHold}
 use Rattle.detector_laws.specs.Reports.{Told, Unreported, Reported, Contradictory, IsAsTold, told_of}
 use Rattle.detector_laws.specs.Run.{IsStep, Hears, Scans, ReapsOne, Blocks, TakesConfirm, MovesOne}
-use Rattle.detector_laws.specs.World as view
 use Rattle.machine_laws.proofs.Blocking.{block_is, can_block, may_then}
 use Rattle.machine_laws.proofs.Collecting.{collect_moves}
 use Rattle.machine_laws.proofs.Going.{held_made, make_moves, mint_moves, post_moves, turn_moves}
@@ -33,12 +33,12 @@ use Rattle.machine_laws.proofs.Growing.{load_known, target_known}
 use Rattle.machine_rules.proofs.Steps.{goes_if, goes_to, not_enabled}
 use Rattle.machine_laws.proofs.Reaping.{reap_reaps}
 use Rattle.machine_laws.proofs.Scanning.{scan_is}
-use Rattle.machine_laws.specs.Seen.{cell_of, kinds, letters_of, world, world_of}
+use Rattle.machine_laws.proofs.Seen.{world, world_of}
 use Rattle.machine_laws.proofs.Noted.{noted}
 use Rattle.machine_laws.proofs.Taking.{confirm_is, take_moves}
 use Rattle.machine_rules.proofs.Lacking.{first_minted, to_mint_theirs}
 use Rattle.machine_rules.proofs.Makes.{fresh_held}
-use Rattle.machine_rules.specs.Actors.{Actors, Seat, seat, seat_at}
+use Rattle.machine_rules.specs.Actors.{Actors, Seat, cell_of, letters_of, seat, seat_at}
 use Rattle.machine_rules.specs.Agreement.{Person}
 use Rattle.machine_rules.specs.Block.{block_at, block_in, may_block}
 use Rattle.machine_rules.specs.Cell.{Cell, fresh_cell}
@@ -53,17 +53,19 @@ use Rattle.machine_rules.specs.Take.{take_at, take_in}
 
 -- ---- who runs or is dirty has no report out
 
-awake_if : (k : view.Cell) (a : ℕ) (t : Told) → IsAsTold k a t → (k.framed ≡ true) ⊎ (k.dirty ≡ true) → k.reported ≡ false
-awake_if k a Unreported h b = h
-awake_if k a (Reported r) h b = ⊎_elim (λ f. absurd (false≢true (sym h.0.idle ∙ f))) (λ f. absurd (false≢true (sym h.0.clean ∙ f))) b
-awake_if k a Contradictory h b = absurd h
+awake_if : (c : Cell) (a : ℕ) (told : Told) → IsAsTold (Some c) a told → (is_some c.frame ≡ true) ⊎ (c.dirty ≡ true) → c.reported ≡ false
+awake_if c a Unreported h b = h
+awake_if c a (Reported r) h b =
+    let same : h.0.cell ≡ c = same_some h.0.here refl in
+    ⊎_elim
+    (λ f. absurd (false≢true (sym (ap is_some h.0.idle) ∙ (ap (λ (c : Cell). is_some c.frame) same ∙ f))))
+    (λ f. absurd (false≢true (sym h.0.clean ∙ (ap (λ (c : Cell). c.dirty) same ∙ f))))
+    b
+awake_if c a Contradictory h b = absurd h
 
-module _ (s t : State) (all : Thing → Option Row) (ps : List Person) (keeps : KeepsCounts all ps s.actors) (facts : DetectorFacts (world s)) where
+module _ (s t : State) (all : Thing → Option Row) (ps : List Person) (keeps : KeepsCounts all ps s.actors) (facts : FactsHold (world s)) where
   awake : (a : ℕ) (c : Cell) (ls : List Letter) → seat_at s.actors a ≡ seat c ls → (is_some c.frame ≡ true) ⊎ (c.dirty ≡ true) → c.reported ≡ false
-  awake a c ls at b =
-      sym (ap (λ o. (cell_of o).reported) at)
-      ∙ awake_if (cell_of (seat_at s.actors a)) a (told_of a s.detector.kept s.notes) (facts.reports.last a)
-      (⊎_elim (λ f. inl (ap (λ o. (cell_of o).framed) at ∙ f)) (λ f. inr (ap (λ o. (cell_of o).dirty) at ∙ f)) b)
+  awake a c ls at = awake_if c a (told_of a s.detector.kept s.notes) (subst (λ o. IsAsTold (cell_of o) a (told_of a s.detector.kept s.notes)) at (facts.reports.last a))
 
   abbrev StepsTo : State → Type 0
   StepsTo u = IsStep (world s) (world u)
@@ -84,7 +86,7 @@ module _ (s t : State) (all : Thing → Option Row) (ps : List Person) (keeps : 
   takes a c None (Inc es ∷ ls) at e = arrived _ e (MovesOne (take_moves s.program s.actors s.detector s.notes a c (Inc es) ls at refl))
   takes a c None (Dec es ∷ ls) at e = arrived _ e (MovesOne (take_moves s.program s.actors s.detector s.notes a c (Dec es) ls at refl))
   takes a c None (Confirm n ∷ ls) at e =
-      arrived _ e (subst (IsStep (world s)) (sym (confirm_is s.program s.actors s.detector s.notes a c n ls at)) (TakesConfirm (ap (λ o. kinds (letters_of o)) at)))
+      arrived _ e (subst (IsStep (world s)) (sym (confirm_is s.program s.actors s.detector s.notes a c n ls at)) (TakesConfirm (ap letters_of at)))
 
   -- ---- collect
 

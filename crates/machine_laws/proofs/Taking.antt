@@ -1,10 +1,12 @@
 -- A take, as the detector's laws see it.
-use Rattle.std.proofs.Common.{◌≡◌, ◌≢◌, ℕ, ◌+◌, ◌≤◌, Bool, false, if◌then◌else◌, None, List, [], ◌∷◌, ◌++◌, length, set, refl, ap, sym, ◌∙◌, arith, inr, ⊎_elim, get_or-set_same, get_or-set_other, length-set, eq-eqb, ne_eqb}
-use Rattle.std.proofs.lemmas.Bool.{cases_eq}
+use Rattle.std.proofs.Common.{◌≡◌, ◌≢◌, ℕ, ◌+◌, ◌≤◌, false, if◌then◌else◌, None, List, [], ◌∷◌, ◌++◌, length, set, refl, ap, sym, ◌∙◌, arith, inr, ⊎_elim, get_or-set_same, get_or-set_other, length-set, eq-eqb, ne_eqb}
+use Rattle.std.proofs.lemmas.Bool.{cases_eq, false≢true}
 use mathlib.Core.Path.{fun_ext}
 use Rattle.machine_laws.proofs.Moving.{adds_none, moves}
+use Rattle.detector_laws.specs.Cells.{is_reporting}
+use Rattle.detector_laws.specs.Confirms.{is_confirm}
 use Rattle.detector_laws.specs.World as view
-use Rattle.detector_laws.specs.World.{LetterKind, Other, World}
+use Rattle.detector_laws.specs.World.{take_confirm}
 use Rattle.detector_laws.specs.Events.{Moves}
 use Rattle.letter_kinds.proofs.Amounts.{held-raise_all, held-lower_all}
 use Rattle.letter_kinds.proofs.Counts.{held-receive}
@@ -15,13 +17,13 @@ use Rattle.letter_kinds.specs.declared.letter.Letter.{Letter}
 use Rattle.letter_kinds.specs.declared.letter.Letter.TheVariants.{App, Inc, Dec, Confirm}
 use Rattle.letter_kinds.specs.declared.note.Note.{Note}
 use Rattle.letter_kinds.specs.declared.note.Note.TheVariants.{Ack}
-use Rattle.machine_laws.specs.Seen.{kind_of, mail_at, world_of, letters_of, kinds, cell_of}
+use Rattle.machine_laws.proofs.Seen.{world_of}
 use Rattle.machine_laws.proofs.Noted.{noted, acked}
 use Rattle.machine_rules.proofs.InHand.{take_letter}
 use Rattle.behaviour_code.specs.declared.code.Program.{Program}
 use Rattle.machine_rules.proofs.SeatReads.{letter_App, letter_Confirm, loads_at-seat}
 use Rattle.machine_rules.proofs.Seats.{present_below, load_sum-set}
-use Rattle.machine_rules.specs.Actors.{Actors, seat_at, seat}
+use Rattle.machine_rules.specs.Actors.{Actors, cell_at, cell_of, letters_of, mail_at, seat, seat_at}
 use Rattle.machine_rules.specs.Balance.{load_sum}
 use Rattle.machine_rules.specs.Cell.{Cell}
 use Rattle.machine_rules.specs.Take.{cell_after}
@@ -34,39 +36,40 @@ module _ (program : Program) (s : Actors) (d : Detector) (ns : List Note) (a : �
   fewer x c' = omega (arith, load_sum-set s a (seat c (l ∷ ls)) (seat c' ls) (present_below s a _ at) at x, loads_at-seat x c (l ∷ ls), loads_at-seat x c' ls, sum_by-cons (load_count x) l ls)
 
   -- a letter other than a Confirm
-  took : (c' : Cell) → kind_of l ≡ Other → c'.reported ≡ false → ((b : ℕ) → b ≢ a → held_in c'.holdings (Actor b) ≤ held_in c.holdings (Actor b) + load_count (Actor b) l)
+  took : (c' : Cell) → is_confirm l ≡ false → c'.reported ≡ false → ((b : ℕ) → b ≢ a → held_in c'.holdings (Actor b) ≤ held_in c.holdings (Actor b) + load_count (Actor b) l)
       → Moves (world_of s d ns) a (world_of (set s a (seat c' ls)) d (noted a c ns))
   took c' other woken held =
       let s1 = set s a (seat c' ls) in
-      moves s s1 d ns a c c' (l ∷ ls) ls at (adds_none s1) (kind_of l ∷ []) refl woken (inr (inr (kinds ls, ap (λ (k : LetterKind). k ∷ kinds ls) other)))
-      (λ b n h. ap (λ o. kinds (letters_of o)) (get_or-set_other s a b (seat c' ls) None n))
+      moves s s1 d ns a c c' (l ∷ ls) ls at (adds_none s1) (l ∷ []) refl woken (inr (inr (l, ls, refl, other)))
+      (λ b n h. ap letters_of (get_or-set_other s a b (seat c' ls) None n))
       (λ b n h u. omega (arith, u, fewer (Actor b) c'))
       (λ b n h u. omega (arith, held b n, h, u, fewer (Actor b) c'))
 
 module _ (program : Program) (s : Actors) (d : Detector) (ns : List Note) (a : ℕ) (c : Cell) where
-  pub take_moves : (l : Letter) (ls : List Letter) → seat_at s a ≡ seat c (l ∷ ls) → kind_of l ≡ Other → Moves (world_of s d ns) a (world_of (take_letter program a c l ls s) d (noted a c ns))
+  pub take_moves : (l : Letter) (ls : List Letter) → seat_at s a ≡ seat c (l ∷ ls) → is_confirm l ≡ false → Moves (world_of s d ns) a (world_of (take_letter program a c l ls s) d (noted a c ns))
   take_moves (App h args load) ls at o = took program s d ns a c (App h args load) ls at (cell_after program a (App h args load) c) refl refl
       (λ b n. omega (arith, held-receive a (Actor b) load c.holdings n, (letter_App (Actor b) h args load).2))
   take_moves (Inc es) ls at o = took program s d ns a c (Inc es) ls at (cell_after program a (Inc es) c) refl refl
       (λ b n. omega (arith, held-raise_all a (Actor b) es c.holdings))
   take_moves (Dec es) ls at o = took program s d ns a c (Dec es) ls at (cell_after program a (Dec es) c) refl refl
       (λ b n. omega (arith, held-lower_all a (Actor b) es c.holdings))
-  take_moves (Confirm t) ls at o = cc
+  take_moves (Confirm t) ls at o = absurd (false≢true (sym o))
 
   -- a Confirm is, to the detector's laws, theirs
-  pub confirm_is : (t : ℕ) (ls : List Letter) → seat_at s a ≡ seat c (Confirm t ∷ ls) → world_of (take_letter program a c (Confirm t) ls s) d (acked a t c ns) ≡ view.take_confirm (world_of s d ns) a t (kinds ls)
+  pub confirm_is : (t : ℕ) (ls : List Letter) → seat_at s a ≡ seat c (Confirm t ∷ ls) → world_of (take_letter program a c (Confirm t) ls s) d (acked a t c ns) ≡ take_confirm (world_of s d ns) a t ls
   confirm_is t ls at =
       let s1 = set s a (seat c ls) in
       let within = present_below s a _ at in
       let made : length s1 ≡ length s = length-set s a (seat c ls) in
-      let cell : (λ b. cell_of (seat_at s1 b)) ≡ (λ b. cell_of (seat_at s b)) = fun_ext (λ b. ⊎_elim
-      (λ same. rw same (ap cell_of (get_or-set_same s a (seat c ls) None within) ∙ sym (ap cell_of at)))
+      let mine = get_or-set_same s a (seat c ls) None within in
+      let cell : cell_at s1 ≡ cell_at s = fun_ext (λ b. ⊎_elim
+      (λ same. rw same (ap cell_of mine ∙ sym (ap cell_of at)))
       (λ other. ap cell_of (get_or-set_other s a b (seat c ls) None other))
       (cases_eq b a)) in
-      let mail : (λ b. mail_at s1 b) ≡ view.at (λ b. mail_at s b) a (kinds ls) = fun_ext (λ b. ⊎_elim
-      (λ same. rw (eq-eqb b a same, same) (ap (λ o. kinds (letters_of o)) (get_or-set_same s a (seat c ls) None within)))
-      (λ other. rw (ne_eqb b a other) (ap (λ o. kinds (letters_of o)) (get_or-set_other s a b (seat c ls) None other)))
+      let mail : mail_at s1 ≡ view.at (mail_at s) a ls = fun_ext (λ b. ⊎_elim
+      (λ same. rw (eq-eqb b a same, same) (ap letters_of mine))
+      (λ other. rw (ne_eqb b a other) (ap letters_of (get_or-set_other s a b (seat c ls) None other)))
       (cases_eq b a)) in
       let loaded : (λ x. load_sum (Actor x) s1) ≡ (λ x. load_sum (Actor x) s) = fun_ext (λ x. omega (arith, fewer program s d ns a c (Confirm t) ls at (Actor x) c, (letter_Confirm (Actor x) t).2)) in
-      let notes : acked a t c ns ≡ (if (cell_of (seat_at s a)).reported then ns ++ Ack t a ∷ [] else ns) = ap (λ (q : Bool). if q then ns ++ Ack t a ∷ [] else ns) (sym (ap (λ o. (cell_of o).reported) at)) in
+      let notes : acked a t c ns ≡ (if is_reporting (cell_at s a) then ns ++ Ack t a ∷ [] else ns) = ap (λ o. if is_reporting (cell_of o) then ns ++ Ack t a ∷ [] else ns) (sym at) in
       λ i. record { made = made i; cell = cell i; mail = mail i; loaded = loaded i; detector = d; notes = notes i }

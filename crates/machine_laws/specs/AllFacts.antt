@@ -1,6 +1,8 @@
 -- All that holds in each state of a run, beside the machine that frees nothing.
 use Rattle.detector_laws.specs.Facts.{DetectorFacts}
-use Rattle.machine_laws.specs.Seen.{world}
+use Rattle.orca_names.specs.declared.names.Thing.TheVariants.{Actor}
+use Rattle.machine_rules.specs.Actors.{cell_at, mail_at}
+use Rattle.machine_rules.specs.Balance.{load_sum}
 use Rattle.machine_rules.specs.Clean.{CleanAreSwept, NoneHoldsItsOwn}
 use Rattle.machine_rules.specs.Facts.{Facts}
 use Rattle.machine_rules.specs.Plain.{PlainState}
@@ -14,4 +16,4 @@ pub record AllFacts (p : PlainState) (s : State) : Type 0 where
   -- clean cells are swept
   pub clean : CleanAreSwept s.actors
   -- reports, tokens and news
-  pub detector : DetectorFacts (world s)
+  pub detector : DetectorFacts s.detector (cell_at s.actors) (mail_at s.actors) (λ x. load_sum (Actor x) s.actors) s.notes

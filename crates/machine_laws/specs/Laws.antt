@@ -1,13 +1,12 @@
 -- What holds of every program, every run and each of its prefixes.
 use Rattle.std.specs.Prelude.{ℕ, ◌≡◌, ◌↔◌, false, List, [], ◌++◌, Some}
 use Rattle.orca_names.specs.declared.names.Thing.{Thing}
-use Rattle.orca_names.specs.declared.names.Thing.TheVariants.{Actor}
 use Rattle.behaviour_code.specs.declared.code.Program.{Program}
 use Rattle.event_rule.specs.declared.event.Event.{Event}
 use Rattle.letter_kinds.specs.declared.letter.Letter.{Letter}
 use Rattle.letter_kinds.specs.declared.note.Report.{Report}
-use Rattle.letter_kinds.specs.Holdings.{held_in}
-use Rattle.letter_kinds.specs.Reports.{count_on, report_of}
+use Rattle.letter_kinds.specs.Reports.{report_of}
+use Rattle.detector_laws.specs.Reports.{IsReportOf}
 use Rattle.machine_laws.specs.AllFacts.{AllFacts}
 use Rattle.machine_rules.specs.Actors.{seat, seat_at}
 use Rattle.machine_rules.specs.Balance.{IsBalanced, NeverOverdraws}
@@ -61,12 +60,6 @@ NeverTooEarly = (program : Program) (book later : List Event) (t : State) → Is
 abbrev pub ExactlyAtQuiet : Type 0
 ExactlyAtQuiet = (program : Program) (book : List Event) (t : State) → IsRun program book t → IsQuiet t →
     (p : PlainState) × IsPlainBeside program book p × ((x : Thing) → IsLeft t.actors x ↔ IsReachable p x)
-
--- the report tells the actor's count, and its counts on others
-pub record IsReportOf (a : ℕ) (c : Cell) (r : Report) : Type 0 where
-  pub actor : r.actor ≡ a
-  pub count : r.count ≡ c.holdings.count
-  pub held : (b : ℕ) → count_on r.held b ≡ held_in c.holdings (Actor b)
 
 -- nothing is on its way to the detector, no token is open, and of each actor that is present and not
 -- pinned an exact report is kept

@@ -1,3 +1,2 @@
 pub mod AllFacts
 pub mod Laws
-pub mod Seen
