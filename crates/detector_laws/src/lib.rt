@@ -1,10 +1,9 @@
 //! What holds of the detector of blocked actors in each state of a run, and what follows from it.
 //!
-//! The laws speak of a world that has no more of actors and letters than matters to the detector
-//! (`specs/World.antt`), so they ask nothing of how programs run or how objects are kept. What they
-//! ask of the other events of an actor, and of the counts, stands in `specs/Events.antt` and
-//! `specs/Balance.antt`; what every event keeps, in `specs/Facts.antt`. The detector is that of MAC
-//! (OOPSLA 2013).
+//! The facts that every event keeps are said of the cells and letters of the machine that collects, of
+//! the detector and of the notes that it has still to hear (`specs/Facts.antt`). What the laws ask of
+//! an event stands in `specs/Events.antt`, and what they ask of the counts in `specs/Balance.antt`; they
+//! ask nothing of how programs run or how objects are kept. The detector is that of MAC (OOPSLA 2013).
 #![tactic(auto)]
 
 mod laws;

@@ -1,9 +1,8 @@
 //! What holds of the machine that collects, over whole runs.
 //!
 //! The machine's rules are those of `machine_rules`; the laws of its detector are those of
-//! `detector_laws`, which speak of what a state shows of each actor. Here both come together: all
-//! facts hold at the start and are kept by every event, so a run never frees what is reachable, and
-//! where it ends quiet it leaves exactly that.
+//! `detector_laws`. Here both come together: all facts hold at the start and are kept by every event,
+//! so a run never frees what is reachable, and where it ends quiet it leaves exactly that.
 #![tactic(auto)]
 
 mod laws;
