@@ -22,81 +22,79 @@ use Rattle.machine_laws.proofs.Sealing.{reap_keeps}
 use Rattle.machine_laws.proofs.Seen.{world}
 use Rattle.machine_laws.proofs.Stepping.{next_steps}
 use Rattle.machine_rules.specs.Actors.{Seat, cell_at, mail_at, seat, seat_at}
-use Rattle.machine_rules.specs.Agreement.{Person}
+use Rattle.machine_rules.specs.Agreement.{Person, people_of}
 use Rattle.machine_rules.specs.Balance.{load_sum}
 use Rattle.orca_names.specs.declared.names.Thing.TheVariants.{Actor}
 use Rattle.machine_rules.specs.Block.{block_at, block_in, may_block}
 use Rattle.machine_rules.specs.Cell.{Cell}
 use Rattle.machine_rules.specs.Detect.{hear_in, reap_found, reap_in, scan_in}
-use Rattle.machine_rules.specs.Facts.{Every, KeepsCounts}
+use Rattle.machine_rules.specs.Facts.{Every, Facts}
 use Rattle.machine_rules.specs.Next.{next}
+use Rattle.machine_rules.specs.Plain.{PlainState, plain_row}
+use Rattle.reach_walk.specs.Reach.{thing_row}
 use Rattle.machine_rules.specs.State.{State, Goes}
 
--- the counts are kept beside the same persons and rows, and the rest that the plain machine sees stays
-pub record KeepsBeside (all : Thing → Option Row) (people : List Person) (s t : State) : Type 0 where
-  pub counts : KeepsCounts all people t.actors
-  pub program : t.program ≡ s.program
-  pub prints : t.prints ≡ s.prints
-  pub objects : t.objects ≡ s.objects
+module _ (p : PlainState) (s t : State) (beside : Facts p s) (facts : FactsHold (world s)) where
+  abbrev all : Thing → Option Row
+  all = thing_row (plain_row p.actors)
 
-module _ (s t : State) (all : Thing → Option Row) (people : List Person) (keeps : KeepsCounts all people s.actors) (facts : FactsHold (world s)) where
+  abbrev people : List Person
+  people = people_of p.actors
+
   -- every event keeps what holds of the detector
   pub next_keeps : Every HoldsNoOwnAt s.actors → (e : Event) → next s e ≡ Goes t → FactsHold (world t)
   next_keeps own e is =
-      step_keeps (world s) (world t) (balanced s.actors s.detector s.notes keeps.balanced own) (next_steps s t all people keeps facts e is) facts
+      step_keeps (world s) (world t) (balanced s.actors s.detector s.notes beside.counts.balanced own) (next_steps p s t beside facts e is) facts
 
   -- a token that is reaped is sealed
   pub token_sealed : (number : ℕ) (token : Token) → token_numbered number s.detector ≡ Some token → all_acked token ≡ true → IsSealed (cell_at s.actors) (mail_at s.actors) (λ x. load_sum (Actor x) s.actors) s.notes token
   token_sealed number token at acked =
-      reaped_sealed (world s) _ token (reap_reaps s.actors s.detector s.notes token all people keeps (numbered_is_open s.detector number token at).0 acked) facts.tokens
+      reaped_sealed (world s) _ token (reap_reaps s.actors s.detector s.notes token all people beside.counts (numbered_is_open s.detector number token at).0 acked) facts.tokens
 
-  abbrev Beside : State → Type 0
-  Beside u = KeepsBeside all people s u
-
-  arrived : (u : State) → Goes u ≡ Goes t → Beside u → Beside t
-  arrived u e k = subst Beside (goes_to u t e) k
+  arrived : (u : State) → Goes u ≡ Goes t → Facts p u → Facts p t
+  arrived u e k = subst (Facts p) (goes_to u t e) k
 
   -- ---- block
 
-  blocks : (a : ℕ) (c : Cell) (ls : List Letter) (q : Bool) → seat_at s.actors a ≡ seat c ls → block_in s a c ls q ≡ Goes t → Beside t
+  blocks : (a : ℕ) (c : Cell) (ls : List Letter) (q : Bool) → seat_at s.actors a ≡ seat c ls → block_in s a c ls q ≡ Goes t → Facts p t
   blocks a c ls false at e = absurd (not_enabled t e)
-  blocks a c ls true at e = arrived _ e (record { counts = block_keeps s.actors a c ls at all people keeps; program = refl; prints = refl; objects = refl })
+  blocks a c ls true at e = arrived _ e (record { counts = block_keeps s.actors a c ls at all people beside.counts; program = beside.program; prints = beside.prints; objects = beside.objects })
 
-  block_seat : (a : ℕ) (o : Option Seat) → seat_at s.actors a ≡ o → block_at s a o ≡ Goes t → Beside t
+  block_seat : (a : ℕ) (o : Option Seat) → seat_at s.actors a ≡ o → block_at s a o ≡ Goes t → Facts p t
   block_seat a None at e = absurd (not_enabled t e)
   block_seat a (Some o) at e = blocks a o.cell o.mail (may_block o.cell o.mail) at e
 
-  pub block_beside : (a : ℕ) → next s (Block a) ≡ Goes t → Beside t
+  pub block_beside : (a : ℕ) → next s (Block a) ≡ Goes t → Facts p t
   block_beside a e = block_seat a (seat_at s.actors a) refl e
 
   -- ---- hear
 
-  hears : (ns : List Note) → hear_in s ns ≡ Goes t → Beside t
+  hears : (ns : List Note) → hear_in s ns ≡ Goes t → Facts p t
   hears [] e = absurd (not_enabled t e)
-  hears (n ∷ ns) e = arrived _ e (record { counts = keeps; program = refl; prints = refl; objects = refl })
+  hears (n ∷ ns) e = arrived _ e (record { counts = beside.counts; program = beside.program; prints = beside.prints; objects = beside.objects })
 
-  pub hear_beside : next s Hear ≡ Goes t → Beside t
+  pub hear_beside : next s Hear ≡ Goes t → Facts p t
   hear_beside e = hears s.notes e
 
   -- ---- scan
 
-  scans : (news : Bool) → scan_in s (closed_set s.detector) news ≡ Goes t → Beside t
+  scans : (news : Bool) → scan_in s (closed_set s.detector) news ≡ Goes t → Facts p t
   scans false e = absurd (not_enabled t e)
-  scans true e = arrived _ e (record { counts = scan_keeps s.actors s.detector s.notes facts.rising facts.reports all people keeps; program = refl; prints = refl; objects = refl })
+  scans true e = arrived _ e (record { counts = scan_keeps s.actors s.detector s.notes facts.rising facts.reports all people beside.counts; program = beside.program; prints = beside.prints; objects = beside.objects })
 
-  pub scan_beside : next s Scan ≡ Goes t → Beside t
+  pub scan_beside : next s Scan ≡ Goes t → Facts p t
   scan_beside e = scans s.detector.news e
 
   -- ---- reap
 
-  reaps_one : (number : ℕ) (token : Token) → token_numbered number s.detector ≡ Some token → (q : Bool) → all_acked token ≡ q → reap_in s token q ≡ Goes t → Beside t
+  reaps_one : (number : ℕ) (token : Token) → token_numbered number s.detector ≡ Some token → (q : Bool) → all_acked token ≡ q → reap_in s token q ≡ Goes t → Facts p t
   reaps_one number token at false is e = absurd (not_enabled t e)
   reaps_one number token at true is e =
-      arrived _ e (record { counts = reap_keeps s.actors s.notes token all people keeps (token_sealed number token at is); program = refl; prints = refl; objects = refl })
+      arrived _ e (record { counts = reap_keeps s.actors s.notes token all people beside.counts (token_sealed number token at is); program = beside.program; prints = beside.prints; objects = beside.objects })
 
-  reaps : (number : ℕ) (found : Option Token) → token_numbered number s.detector ≡ found → reap_found s found ≡ Goes t → Beside t
+  reaps : (number : ℕ) (found : Option Token) → token_numbered number s.detector ≡ found → reap_found s found ≡ Goes t → Facts p t
   reaps number None at e = absurd (not_enabled t e)
   reaps number (Some token) at e = reaps_one number token at (all_acked token) refl e
 
-  pub reap_beside : (number : ℕ) → next s (Reap number) ≡ Goes t → Beside t
+  pub reap_beside : (number : ℕ) → next s (Reap number) ≡ Goes t → Facts p t
   reap_beside number e = reaps number (token_numbered number s.detector) refl e

@@ -3,7 +3,6 @@ pub mod Balancing
 pub mod Blocking
 pub mod Collecting
 pub mod Going
-pub mod Growing
 pub mod HeldActors
 pub mod Keeping
 pub mod Moving

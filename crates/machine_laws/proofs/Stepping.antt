@@ -29,7 +29,7 @@ use Rattle.detector_laws.specs.Run.{IsStep, Hears, Scans, ReapsOne, Blocks, Take
 use Rattle.machine_laws.proofs.Blocking.{block_is, can_block, may_then}
 use Rattle.machine_laws.proofs.Collecting.{collect_moves}
 use Rattle.machine_laws.proofs.Going.{held_made, make_moves, mint_moves, post_moves, turn_moves}
-use Rattle.machine_laws.proofs.Growing.{load_known, target_known}
+use Rattle.machine_rules.proofs.FollowingGo.{known1, known_to}
 use Rattle.machine_rules.proofs.Steps.{goes_if, goes_to, not_enabled}
 use Rattle.machine_laws.proofs.Reaping.{reap_reaps}
 use Rattle.machine_laws.proofs.Scanning.{scan_is}
@@ -39,15 +39,17 @@ use Rattle.machine_laws.proofs.Taking.{confirm_is, take_moves}
 use Rattle.machine_rules.proofs.Lacking.{first_minted, to_mint_theirs}
 use Rattle.machine_rules.proofs.Makes.{fresh_held}
 use Rattle.machine_rules.specs.Actors.{Actors, Seat, cell_of, letters_of, seat, seat_at}
-use Rattle.machine_rules.specs.Agreement.{Person}
+use Rattle.machine_rules.specs.Agreement.{people_of}
 use Rattle.machine_rules.specs.Block.{block_at, block_in, may_block}
 use Rattle.machine_rules.specs.Cell.{Cell, fresh_cell}
 use Rattle.machine_rules.specs.Collect.{collect_at, collect_in, is_marked}
 use Rattle.machine_rules.specs.Detect.{hear_in, reap_found, reap_in, scan_in}
-use Rattle.machine_rules.specs.Facts.{KeepsCounts}
+use Rattle.machine_rules.specs.Facts.{Facts, IsFirm}
+use Rattle.machine_rules.specs.Known.{IsClosedAt}
+use Rattle.reach_walk.specs.Reach.{thing_row}
 use Rattle.machine_rules.specs.Go.{act_in, go_at, go_in, load_from, make, post_or_mint, turn_of_cell, turned}
 use Rattle.machine_rules.specs.Next.{next}
-use Rattle.machine_rules.specs.Plain.{stopped_at, with_name}
+use Rattle.machine_rules.specs.Plain.{PlainState, plain_row, stopped_at, with_name}
 use Rattle.machine_rules.specs.State.{State, Goes}
 use Rattle.machine_rules.specs.Take.{take_at, take_in}
 
@@ -63,7 +65,17 @@ awake_if c a (Reported r) h b =
     b
 awake_if c a Contradictory h b = absurd h
 
-module _ (s t : State) (all : Thing → Option Row) (ps : List Person) (keeps : KeepsCounts all ps s.actors) (facts : FactsHold (world s)) where
+module _ (p : PlainState) (s t : State) (beside : Facts p s) (facts : FactsHold (world s)) where
+  -- the map of all rows
+  abbrev all : Thing → Option Row
+  all = thing_row (plain_row p.actors)
+
+  firm_at : (a : ℕ) (c : Cell) (ls : List Letter) → seat_at s.actors a ≡ seat c ls → IsFirm c.holdings
+  firm_at a c ls at = beside.counts.firm a c ls at
+
+  closed_at : (a : ℕ) (c : Cell) (ls : List Letter) → seat_at s.actors a ≡ seat c ls → IsClosedAt all a c
+  closed_at a c ls at = (beside.counts.sound a c ls at).closed
+
   awake : (a : ℕ) (c : Cell) (ls : List Letter) → seat_at s.actors a ≡ seat c ls → (is_some c.frame ≡ true) ⊎ (c.dirty ≡ true) → c.reported ≡ false
   awake a c ls at = awake_if c a (told_of a s.detector.kept s.notes) (subst (λ o. IsAsTold (cell_of o) a (told_of a s.detector.kept s.notes)) at (facts.reports.last a))
 
@@ -95,7 +107,7 @@ module _ (s t : State) (all : Thing → Option Row) (ps : List Person) (keeps : 
   collects a c None false ls is at e = absurd (not_enabled t e)
   collects a c None true ls is at e =
       let up = awake a c ls at (inr is) in
-      arrived _ e (unnoted a c _ up (collect_moves (is_marked a c) all s.actors s.detector s.notes a c ls at is up (keeps.firm a c ls at) (keeps.sound a c ls at).closed))
+      arrived _ e (unnoted a c _ up (collect_moves (is_marked a c) all s.actors s.detector s.notes a c ls at is up (firm_at a c ls at) (closed_at a c ls at)))
 
   -- ---- go
 
@@ -119,9 +131,9 @@ module _ (s t : State) (all : Thing → Option Row) (ps : List Person) (keeps : 
         → StepsTo (post_or_mint s a c after ls stop to behaviour args (load_from a after.holdings args) lack)
     posts to behaviour args is [] l =
         unnoted a c _ up (post_moves s.actors s.detector s.notes a c ls at running up after refl (held_made stop.turn.made c.holdings) to behaviour args (load_from a after.holdings args)
-        (target_known s.program all ps s.actors keeps a c ls at f frame to behaviour args is) (load_known s.program all ps s.actors keeps a c ls at f frame to behaviour args is))
+        (known_to p s beside a c ls at f frame to behaviour args is) (known1 p s beside a c ls at f frame to behaviour args is))
     posts to behaviour args is (e ∷ es) l =
-        unnoted a c _ up (mint_moves s.actors s.detector s.notes a c ls at running up all (keeps.sound a c ls at).closed (owner_of e.0) (to_mint (owner_of e.0) (e ∷ es))
+        unnoted a c _ up (mint_moves s.actors s.detector s.notes a c ls at running up all (closed_at a c ls at) (owner_of e.0) (to_mint (owner_of e.0) (e ∷ es))
         (λ x some.
         let theirs = to_mint_theirs a (owner_of e.0) after.holdings (load_from a after.holdings args) x (subst (λ q. 0 < amount_of x (to_mint (owner_of e.0) q)) (sym l) some) in
         subst (λ n. 0 < n) (held_made stop.turn.made c.holdings x) theirs.1)
@@ -162,7 +174,7 @@ module _ (s t : State) (all : Thing → Option Row) (ps : List Person) (keeps : 
 
   reaps_one : (number : ℕ) (token : Token) → token_numbered number s.detector ≡ Some token → (q : Bool) → all_acked token ≡ q → reap_in s token q ≡ Goes t → StepsTo t
   reaps_one number token at false is e = absurd (not_enabled t e)
-  reaps_one number token at true is e = arrived _ e (ReapsOne (reap_reaps s.actors s.detector s.notes token all ps keeps (numbered_is_open s.detector number token at).0 is))
+  reaps_one number token at true is e = arrived _ e (ReapsOne (reap_reaps s.actors s.detector s.notes token all (people_of p.actors) beside.counts (numbered_is_open s.detector number token at).0 is))
 
   reaps : (number : ℕ) (found : Option Token) → token_numbered number s.detector ≡ found → reap_found s found ≡ Goes t → StepsTo t
   reaps number None at e = absurd (not_enabled t e)

@@ -1,12 +1,12 @@
 -- All facts hold at the start, are kept by every event, and so hold after each run and each of its prefixes.
-use Rattle.std.proofs.Common.{◌≡◌, Bool, true, false, List, [], ◌∷◌, ◌++◌, refl, sym, subst, ◌∙◌}
+use Rattle.std.proofs.Common.{◌≡◌, Bool, true, false, List, [], ◌∷◌, ◌++◌, refl, sym, subst}
 use Rattle.std.specs.Prelude.{if◌then◌else◌}
 use Rattle.orca_names.specs.declared.names.Thing.{Thing}
 use Rattle.behaviour_code.specs.declared.code.Program.{Program}
 use Rattle.event_rule.specs.declared.event.Event.{Event}
 use Rattle.event_rule.specs.declared.event.Event.TheVariants.{Take, Go, Collect, Block, Hear, Scan, Reap}
 use Rattle.reach_walk.specs.Reach.{thing_row}
-use Rattle.machine_laws.proofs.Keeping.{KeepsBeside, block_beside, hear_beside, next_keeps, reap_beside, scan_beside}
+use Rattle.machine_laws.proofs.Keeping.{block_beside, hear_beside, next_keeps, reap_beside, scan_beside}
 use Rattle.machine_laws.proofs.Starting.{start_detects}
 use Rattle.machine_laws.specs.AllFacts.{AllFacts}
 use Rattle.machine_laws.specs.Laws.{EventsKeepAllFacts, IsNeverTooEarly, NeverTooEarly, RunsHaveAllFacts, StartHasAllFacts}
@@ -37,26 +37,14 @@ start_all program = record {
 -- ---- one event
 
 module _ (p : PlainState) (s t : State) (facts : AllFacts p s) where
-  stayed : (e : Event) → KeepsBeside (thing_row (plain_row p.actors)) (people_of p.actors) s t → Beside false p e t
-  stayed e kept = (
-    p,
-    refl,
-    record {
-      counts = kept.counts;
-      program = facts.beside.program ∙ sym kept.program;
-      prints = facts.beside.prints ∙ sym kept.prints;
-      objects = facts.beside.objects ∙ sym kept.objects;
-    },
-  )
-
   beside_after : (e : Event) → next s e ≡ Goes t → Beside (is_choice s e) p e t
   beside_after (Take a) goes = takes_keep a p s t facts.beside goes
   beside_after (Go a) goes = goes_keep a p s t facts.beside goes
   beside_after (Collect a) goes = collects_keep a p s t facts.beside goes
-  beside_after (Block a) goes = stayed (Block a) (block_beside s t _ _ facts.beside.counts facts.detector a goes)
-  beside_after Hear goes = stayed Hear (hear_beside s t _ _ facts.beside.counts facts.detector goes)
-  beside_after Scan goes = stayed Scan (scan_beside s t _ _ facts.beside.counts facts.detector goes)
-  beside_after (Reap token) goes = stayed (Reap token) (reap_beside s t _ _ facts.beside.counts facts.detector token goes)
+  beside_after (Block a) goes = (p, refl, block_beside p s t facts.beside facts.detector a goes)
+  beside_after Hear goes = (p, refl, hear_beside p s t facts.beside facts.detector goes)
+  beside_after Scan goes = (p, refl, scan_beside p s t facts.beside facts.detector goes)
+  beside_after (Reap token) goes = (p, refl, reap_beside p s t facts.beside facts.detector token goes)
 
 pub event_keeps : EventsKeepAllFacts
 event_keeps p s t e facts goes =
@@ -67,7 +55,7 @@ event_keeps p s t e facts goes =
         beside = beside.2;
         own = no_self-next s t e goes facts.own;
         clean = clean-next s t e goes facts.clean;
-        detector = next_keeps s t (thing_row (plain_row p.actors)) (people_of p.actors) facts.beside.counts facts.detector facts.own e goes;
+        detector = next_keeps p s t facts.beside facts.detector facts.own e goes;
       },
     )
 
