@@ -13,7 +13,7 @@ use Rattle.machine_laws.proofs.Noted.{noted}
 use Rattle.machine_rules.proofs.Posting.{loads_at_push}
 use Rattle.machine_rules.proofs.SeatReads.{loads_at-none}
 use Rattle.machine_rules.proofs.Seats.{present_below}
-use Rattle.machine_rules.specs.Actors.{Actors, Seat, cell_of, letters_of, mail_at, push_letter, seat, seat_at, with_letter_more}
+use Rattle.machine_rules.specs.Actors.{Actors, Seat, cell_at, cell_of, letters_of, mail_at, push_letter, seat, seat_at, with_letter_more}
 use Rattle.machine_rules.specs.Balance.{loads_at, load_sum}
 use Rattle.machine_rules.specs.Cell.{Cell}
 use Rattle.orca_names.specs.declared.names.Thing.{Thing}
@@ -71,7 +71,7 @@ push_loads_same s b l x h = ⊎_elim
 
 -- cells stay, letters other than Confirms come
 pub record Adds (s s' : Actors) : Type 0 where
-  pub cell : (b : ℕ) → cell_of (seat_at s' b) ≡ cell_of (seat_at s b)
+  pub cell : (b : ℕ) → cell_at s' b ≡ cell_at s b
   pub mail : (b : ℕ) → (come : List Letter) × (mail_at s' b ≡ mail_at s b ++ come) × NoConfirms come
 
 pub adds_none : (s : Actors) → Adds s s

@@ -1,15 +1,13 @@
 -- Where no event is enabled, the detector's laws see a quiet world, and each actor that is present is reached.
-use Rattle.std.proofs.Common.{◌≡◌, ◌⊎◌, ℕ, ◌==◌, not, ◌&&◌, ◌||◌, Bool, true, false, cond, is_none, Option, Some, None, List, [], ◌∷◌, find, refl, ap, sym, subst, ◌∙◌, ⊎_elim, eq-eqb}
+use Rattle.std.proofs.Common.{◌≡◌, ◌⊎◌, ℕ, ◌==◌, Bool, true, false, cond, Option, Some, None, List, [], ◌∷◌, find, refl, ap, sym, subst, ◌∙◌, ⊎_elim, eq-eqb}
 use Rattle.std.specs.Prelude.{sum_by}
-use Rattle.std.proofs.lemmas.Bool.{false≢true}
+use Rattle.std.proofs.lemmas.Bool.{false_from_ne_true, false≢true}
 use Rattle.orca_names.specs.declared.names.Thing.{Thing}
 use Rattle.orca_names.specs.declared.names.Thing.TheVariants.{Actor}
-use Rattle.event_rule.specs.declared.event.Event.TheVariants.{Block, Hear, Scan, Reap}
-use Rattle.turn_rules.specs.declared.act.Frame.{Frame}
+use Rattle.event_rule.specs.declared.event.Event.TheVariants.{Hear, Scan, Reap}
 use Rattle.letter_kinds.proofs.Sums.{sum-nil, sum-zero}
 use Rattle.letter_kinds.specs.declared.letter.Letter.{Letter}
-use Rattle.letter_kinds.specs.declared.note.Note.{Note}
-use Rattle.letter_kinds.specs.Detector.{Token, all_acked, closed_set, token_numbered}
+use Rattle.letter_kinds.specs.Detector.{Token}
 use Rattle.letter_kinds.specs.Holdings.{Row}
 use Rattle.letter_kinds.specs.Sums.{load_count}
 use Rattle.detector_laws.proofs.Named.{numbered_is_open}
@@ -20,65 +18,18 @@ use Rattle.machine_laws.proofs.Balancing.{balanced}
 use Rattle.machine_rules.specs.Clean.{HoldsNoOwnAt}
 use Rattle.machine_laws.proofs.Seen.{world}
 use Rattle.detector_laws.proofs.Cells.{some_not_none}
-use Rattle.machine_rules.proofs.Rest.{quiet_rest}
+use Rattle.machine_rules.proofs.Rest.{is_nil, none_can, quiet_rest, quiet_told}
 use Rattle.machine_rules.proofs.SeatReads.{loads_at-none, loads_at-seat}
 use Rattle.machine_rules.specs.Actors.{Seat, cell_at, cell_of, letters_of, mail_at, seat, seat_at}
 use Rattle.machine_rules.specs.Agreement.{Person}
 use Rattle.machine_rules.specs.Balance.{loads_at}
-use Rattle.machine_rules.specs.Block.{block_at, block_in, may_block}
 use Rattle.machine_rules.specs.Cell.{Cell}
-use Rattle.machine_rules.specs.Detect.{hear_in, reap_found, reap_in, scan_in}
 use Rattle.machine_rules.specs.Facts.{Every, KeepsCounts}
 use Rattle.machine_rules.specs.Next.{IsAtRest, IsQuiet}
-use Rattle.machine_rules.specs.State.{State, NotEnabled}
+use Rattle.machine_rules.specs.State.{State}
 use Rattle.detector_laws.specs.Members.{In}
 
--- ---- an actor for which no event is enabled
-
-no_block : (s : State) (a : ℕ) (c : Cell) (mail : List Letter) (q : Bool) → block_in s a c mail q ≡ NotEnabled → q ≡ false
-no_block s a c mail false e = refl
-no_block s a c mail true e = cc
-
-must_have : (frame : Option Frame) (dirty pinned reported : Bool) → frame ≡ None → dirty ≡ false → pinned ≡ false → (is_none frame && (true && not (dirty || (pinned || reported)))) ≡ false → reported ≡ true
-must_have None false false true f d p e = refl
-must_have None false false false f d p e = cc
-must_have None false true r f d p e = cc
-must_have None true q r f d p e = cc
-must_have (Some f') q r t f d p e = cc
-
 module _ (s : State) (quiet : IsQuiet s) where
-  has_told : (a : ℕ) (c : Cell) (mail : List Letter) → seat_at s.actors a ≡ seat c mail → c.fields.pinned ≡ false → c.reported ≡ true
-  has_told a c mail at free =
-      let rest = quiet_rest s quiet a c mail at in
-      let held = no_block s a c mail (may_block c mail) (ap (block_at s a) (sym at) ∙ quiet (Block a)) in
-      must_have c.frame c.dirty c.fields.pinned c.reported rest.idle rest.clean free (subst (λ ls. may_block c ls ≡ false) rest.empty held)
-
-  -- ---- the detector
-
-  none_heard : s.notes ≡ []
-  none_heard = by_notes s.notes (quiet Hear)
-    where
-      by_notes : (ns : List Note) → hear_in s ns ≡ NotEnabled → ns ≡ []
-      by_notes [] e = refl
-      by_notes (n ∷ ns) e = cc
-
-  no_news : s.detector.news ≡ false
-  no_news = by_news s.detector.news (quiet Scan)
-    where
-      by_news : (q : Bool) → scan_in s (closed_set s.detector) q ≡ NotEnabled → q ≡ false
-      by_news false e = refl
-      by_news true e = cc
-
-  found_unacked : (found : Option Token) → reap_found s found ≡ NotEnabled → (t : Token) → found ≡ Some t → all_acked t ≡ true → ⊥
-  found_unacked None e t is acked = cc
-  found_unacked (Some u) e t is acked = let same : u ≡ t = cc in by_acked (all_acked u) (ap all_acked same ∙ acked) e
-    where
-      by_acked : (q : Bool) → q ≡ true → reap_in s u q ≡ NotEnabled → ⊥
-      by_acked true i e = cc
-      by_acked false i e = cc
-
-  -- ---- the world
-
   in_world : (a : ℕ) (P : Cell → List Letter → Type 0) → ((c : Cell) (mail : List Letter) → seat_at s.actors a ≡ seat c mail → P c mail) → (c : Cell) → cell_at s.actors a ≡ Some c → P c (mail_at s.actors a)
   in_world a P each c here = at_seat (seat_at s.actors a) refl here
     where
@@ -108,16 +59,16 @@ find_some (v ∷ ts) t i = find_first v t ts (find_some ts t) (v.number == t.num
 
 pub quiet_world : (s : State) → IsQuiet s → FactsHold (world s) → view.IsQuiet (world s)
 quiet_world s quiet facts = record {
-  heard = none_heard s quiet;
-  scanned = no_news s quiet;
+  heard = is_nil s.notes (none_can s quiet Hear);
+  scanned = false_from_ne_true s.detector.news (none_can s quiet Scan);
   unacked = λ t i acked.
       let found = find_some s.detector.tokens t i in
       let open_found = numbered_is_open s.detector t.number found.0 found.1 in
       let same : found.0 ≡ t = facts.tokens.unique found.0 t open_found.0 i open_found.1 in
-      found_unacked s quiet (token_numbered t.number s.detector) (quiet (Reap t.number)) t (found.1 ∙ ap (λ (u : Token). Some u) same) acked;
+      none_can s quiet (Reap t.number) (t, found.1 ∙ ap (λ (u : Token). Some u) same, acked);
   unloaded = λ a. sum-zero (loads_at (Actor a)) s.actors None (λ b. no_loads s quiet (Actor a) b (seat_at s.actors b) refl);
   rest = λ a. in_world s quiet a IsAtRest (quiet_rest s quiet a);
-  told = λ a. in_world s quiet a (λ c mail. c.fields.pinned ≡ false → c.reported ≡ true) (has_told s quiet a);
+  told = λ a. in_world s quiet a (λ c mail. c.fields.pinned ≡ false → c.reported ≡ true) (quiet_told s quiet a);
 }
 
 pub quiet_reached : (s : State) (all : Thing → Option Row) (people : List Person) → KeepsCounts all people s.actors → Every HoldsNoOwnAt s.actors → FactsHold (world s) → IsQuiet s

@@ -69,7 +69,7 @@ reap_gone all (m ∷ ms) gs s i h = ⊎_elim
 -- ---- the others stay, and get Decs
 
 abbrev AddsAt : Actors → Actors → ℕ → Type 0
-AddsAt s s' b = (cell_of (seat_at s' b) ≡ cell_of (seat_at s b)) × ((come : List Letter) × (mail_at s' b ≡ mail_at s b ++ come) × NoConfirms come)
+AddsAt s s' b = (cell_at s' b ≡ cell_at s b) × ((come : List Letter) × (mail_at s' b ≡ mail_at s b ++ come) × NoConfirms come)
 
 reap_adds : (all ms : List ℕ) (gs : List (ℕ × List (Thing × ℕ))) (s : Actors) (b : ℕ) → has ms b ≡ false → AddsAt s (reaped all ms gs s) b
 unfolding reaped

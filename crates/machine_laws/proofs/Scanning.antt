@@ -45,7 +45,7 @@ present_seat (Some q) h = (q, refl)
 -- ---- one Confirm
 
 module _ (s : Actors) (b t : ℕ) (here : cell_at s b ≢ None) where
-  ask_cell : (i : ℕ) → cell_of (seat_at (push_letter b (Confirm t) s) i) ≡ cell_of (seat_at s i)
+  ask_cell : (i : ℕ) → cell_at (push_letter b (Confirm t) s) i ≡ cell_at s i
   ask_cell i = ⊎_elim
       (λ same. rw same (ap cell_of (push_here s b (Confirm t)) ∙ added_cell (Confirm t) (seat_at s b)))
       (λ other. ap cell_of (push_other s b (Confirm t) i other))
@@ -93,7 +93,7 @@ rest_here m ms t s h =
     let first = h m (or_left (m == m) (has ms m) (eq-eqb m m refl)) in
     (first, λ i p gone. h i (or_right (m == i) (has ms i) p) (sym (ask_cell s m t first i) ∙ gone))
 
-asks_cell : (ms : List ℕ) (t : ℕ) (s : Actors) → ((i : ℕ) → has ms i ≡ true → cell_at s i ≢ None) → (b : ℕ) → cell_of (seat_at (ask_all ms t s) b) ≡ cell_of (seat_at s b)
+asks_cell : (ms : List ℕ) (t : ℕ) (s : Actors) → ((i : ℕ) → has ms i ≡ true → cell_at s i ≢ None) → (b : ℕ) → cell_at (ask_all ms t s) b ≡ cell_at s b
 asks_cell [] t s h b = refl
 asks_cell (m ∷ ms) t s h b = let q = rest_here m ms t s h in asks_cell ms t (push_letter m (Confirm t) s) q.1 b ∙ ask_cell s m t q.0 b
 

@@ -145,7 +145,7 @@ reaps : (s : State) (t : Token) (q : Bool) → q ≡ true → reap_in s t q ≡ 
 reaps s t false is e = cc
 reaps s t true is e = cc
 
-enabled : (s : State) (e : Event) → CanHappen s e → next s e ≢ NotEnabled
+pub enabled : (s : State) (e : Event) → CanHappen s e → next s e ≢ NotEnabled
 enabled s (Take a) (c, mail, at, both) off = takes s a c mail at c.frame mail both.0 both.1 (sym (ap (take_at s a) at) ∙ off)
 enabled s (Go a) (c, mail, at, framed) off = goes_on s a c mail at c.frame framed (sym (ap (go_at s a) at) ∙ off)
 enabled s (Collect a) (c, mail, at, both) off = collects s a c mail at c.frame c.dirty both.0 both.1 (sym (ap (collect_at s a) at) ∙ off)
