@@ -42,7 +42,7 @@ use Rattle.machine_rules.specs.Cell.{Cell, fresh_cell}
 use Rattle.machine_rules.specs.Facts.{Facts, KeepsCounts}
 use Rattle.machine_rules.specs.Go.{act_in, go_in, load_from, make, mint, post, post_or_mint, turn_of_cell, turned, with_turn_kept}
 use Rattle.machine_rules.specs.Known.{InFrame, IsKnown, IsLoadOf, Names, Roots, in_fields, in_frame, in_table}
-use Rattle.machine_rules.specs.Plain.{Outcome, PlainState, after_act, after_turn, fresh_actor, next_state, objects_made, plain_go, plain_row, stopped_at, turn_of_actor, with_name, with_turn}
+use Rattle.machine_rules.specs.Plain.{PlainState, after_act, after_turn, fresh_actor, next_state, objects_made, plain_go, plain_row, stopped_at, turn_of_actor, with_name, with_turn}
 use Rattle.machine_rules.specs.Plain as plain
 use Rattle.machine_rules.specs.Run.{act_is_choice, go_is_choice, is_nothing_lacking}
 use Rattle.machine_rules.specs.State.{State, IsFull, Goes}
