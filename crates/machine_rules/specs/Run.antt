@@ -39,7 +39,7 @@ starts_with_app (Inc things ∷ mail) = false
 starts_with_app (Dec things ∷ mail) = false
 starts_with_app (Confirm token ∷ mail) = false
 
--- the act of a go that does not mint
+-- the act of a go that does not mint: the actor lacks nothing of what a letter loads
 abbrev pub act_is_choice : ℕ → Holdings → Act → Bool
 act_is_choice a h End = true
 act_is_choice a h (Print value) = true
