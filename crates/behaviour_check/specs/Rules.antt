@@ -1,5 +1,5 @@
 -- The rules that a program keeps, and the first place where one fails.
-use Rattle.std.specs.Prelude.{ℕ, ◌≡◌, ◌+◌, Bool, false, List, [], ◌∷◌, ◌++◌, ◌||◌, ◌&&◌, ◌==◌, Option, Some, None, nat_lt, nat_le, not, if◌then◌else◌, is_some, option_map}
+use Rattle.std.specs.Prelude.{ℕ, ◌≡◌, ◌+◌, Bool, false, List, [], ◌∷◌, ◌++◌, ◌||◌, ◌==◌, Option, Some, None, nat_lt, nat_le, not, if◌then◌else◌, is_some, option_map}
 use Rattle.std.specs.Option.{option_or}
 use Rattle.std.specs.List.{list_any}
 use Rattle.behaviour_code.specs.Find.{is_kind, is_label, start_name}

@@ -1,7 +1,6 @@
 // Programs that keep the rules.
 
-ghost use Rattle.std.specs.Prelude.{◌≡◌, None};
-ghost use Rattle.behaviour_code.specs.Good.{ProgramIsGood};
+ghost use Rattle.std.specs.Prelude.{◌≡◌};
 ghost use Rattle.behaviour_check.specs.Rules.{IsChecked};
 
 use behaviour_code::Program;

@@ -1,6 +1,6 @@
 // Whether a rule fails at one place.
 
-ghost use Rattle.std.specs.Prelude.{◌≡◌, ◌<◌, ◌≤◌, not};
+ghost use Rattle.std.specs.Prelude.{◌≡◌};
 ghost use Rattle.std.specs.List.{list_any};
 ghost use Rattle.behaviour_code.specs.Find.{is_kind, is_label};
 ghost use Rattle.behaviour_check.specs.Rules.{is_behaviour, repeats_label, makes_unknown, jumps_nowhere, is_past, has_register_past, has_field_past, instr_rule};

@@ -1,6 +1,6 @@
 // The table of lines: their first words, and the operands behind these.
 
-ghost use Rattle.std.specs.Prelude.{◌≡◌, map, length, bytes_eq};
+ghost use Rattle.std.specs.Prelude.{◌≡◌, map, bytes_eq};
 ghost use Rattle.behaviour_text.specs.Table.{spelling, line_word, operands_of, most_further, starts_with, lettered_fault, operand_fault, operands_fault, lowest, fits_count, shape_fault};
 
 use crate::words::{is_name, numeral};

@@ -26,10 +26,11 @@ use Rattle.machine_rules.proofs.Sends.{cell_balanced, cell_prefix}
 use Rattle.machine_rules.specs.Actors.{Actors, cell_at, cell_of, letters_of, mail_at, seat, seat_at}
 use Rattle.machine_rules.specs.Agreement.{Person}
 use Rattle.machine_rules.specs.Balance.{load_sum}
-use Rattle.machine_rules.specs.Block.{held_actors, may_block, no_letters}
+use Rattle.machine_rules.specs.Block.{held_actors, may_block}
 use Rattle.machine_rules.specs.Cell.{Cell}
 use Rattle.machine_rules.specs.Facts.{IsFirmAt, IsPastRows, KeepsCounts}
 use Rattle.machine_rules.specs.Known.{IsSoundAt}
+use Rattle.machine_rules.specs.Lists.{is_empty}
 
 -- the actor has its report out
 abbrev pub reporting : Cell → Cell
@@ -53,8 +54,8 @@ no_frame (Some f) e = cc
 
 pub may_then : (c : Cell) (ls : List Letter) → may_block c ls ≡ true → MayBlock c
 may_then c ls e =
-    let idle = and_parts (is_none c.frame) (no_letters ls && not (c.dirty || (c.fields.pinned || c.reported))) e in
-    let rest = and_parts (no_letters ls) (not (c.dirty || (c.fields.pinned || c.reported))) idle.1 in
+    let idle = and_parts (is_none c.frame) (is_empty ls && not (c.dirty || (c.fields.pinned || c.reported))) e in
+    let rest = and_parts (is_empty ls) (not (c.dirty || (c.fields.pinned || c.reported))) idle.1 in
     let clean = or_parts c.dirty (c.fields.pinned || c.reported) (not-true _ rest.1) in
     let last = or_parts c.fields.pinned c.reported clean.1 in
     record { idle = no_frame c.frame idle.0; clean = clean.0; unpinned = last.0; quiet = last.1 }

@@ -12,13 +12,14 @@ use Rattle.letter_kinds.specs.Detector.{Token, all_acked, closed_set, token_numb
 use Rattle.letter_kinds.specs.declared.letter.Letter.{Letter}
 use Rattle.letter_kinds.specs.declared.note.Note.{Note}
 use Rattle.machine_rules.specs.Actors.{Seat, seat, seat_at}
-use Rattle.machine_rules.specs.Block.{block_at, block_in, may_block, no_letters}
+use Rattle.machine_rules.specs.Block.{block_at, block_in, may_block}
 use Rattle.machine_rules.specs.Cell.{Cell}
 use Rattle.machine_rules.specs.Collect.{collect_at, collect_in}
 use Rattle.machine_rules.specs.Detect.{hear_in, reap_found, reap_in, scan_in}
 use Rattle.machine_rules.specs.Enabled.{CanHappen, IsIdle, IsPresentWith, IsRefusedAsFull}
 use Rattle.machine_rules.specs.Go.{act_in, go_at, go_in, turn_of_cell}
 use Rattle.machine_rules.specs.Laws.{EnabledExactly, FullExactly}
+use Rattle.machine_rules.specs.Lists.{is_empty}
 use Rattle.machine_rules.specs.Next.{next}
 use Rattle.machine_rules.specs.Plain.{stopped_at}
 use Rattle.machine_rules.specs.State.{State, NotEnabled, IsFull, Goes}
@@ -49,7 +50,7 @@ module _ (s : State) (a : ℕ) where
       by_frame None false on = absurd (on refl)
       by_frame None true on = (refl, refl)
 
-  idle_if : (f : Option Frame) (mail : List Letter) (dirty pinned reported : Bool) → (is_none f && (no_letters mail && not (dirty || (pinned || reported)))) ≡ true
+  idle_if : (f : Option Frame) (mail : List Letter) (dirty pinned reported : Bool) → (is_none f && (is_empty mail && not (dirty || (pinned || reported)))) ≡ true
       → (f ≡ None) × (mail ≡ []) × (dirty ≡ false) × (pinned ≡ false) × (reported ≡ false)
   idle_if None [] false false false e = (refl, refl, refl, refl, refl)
   idle_if None [] false false true e = cc
@@ -121,7 +122,7 @@ module _ (s : State) (a : ℕ) (c : Cell) (mail : List Letter) (at : seat_at s.a
   collects None true idle did e = cc
 
   may : (f : Option Frame) (ls : List Letter) (dirty pinned reported : Bool) → f ≡ None → ls ≡ [] → dirty ≡ false → pinned ≡ false → reported ≡ false
-      → (is_none f && (no_letters ls && not (dirty || (pinned || reported)))) ≡ true
+      → (is_none f && (is_empty ls && not (dirty || (pinned || reported)))) ≡ true
   may None [] false false false f l d p r = refl
   may (Some g) ls dirty pinned reported f l d p r = cc
   may None (x ∷ ls) dirty pinned reported f l d p r = cc

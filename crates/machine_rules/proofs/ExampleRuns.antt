@@ -16,12 +16,13 @@ use Rattle.letter_kinds.specs.Holdings.{has_own}
 use Rattle.machine_rules.proofs.LedgerSteps.{Page, first_page, after_all, after_all-leads, state_told}
 use Rattle.machine_rules.proofs.Places.{seats_told}
 use Rattle.machine_rules.specs.Actors.{Actors, Seat, seat_at}
-use Rattle.machine_rules.specs.Block.{block_at, block_in, no_letters}
+use Rattle.machine_rules.specs.Block.{block_at, block_in}
 use Rattle.machine_rules.specs.Collect.{collect_at, collect_in}
 use Rattle.machine_rules.specs.Detect.{hear_in, reap_found, scan_in}
 use Rattle.machine_rules.specs.Examples.{two_hold_each_other, two_up_to_the_ping, two_to_the_end, TwoHoldEachOtherAndGo, passes_an_object_on, passing_book, AnObjectIsPassedOnAndGoes}
 use Rattle.machine_rules.specs.Go.{go_at, go_in}
 use Rattle.machine_rules.specs.Left.{IsLeft}
+use Rattle.machine_rules.specs.Lists.{is_empty}
 use Rattle.machine_rules.specs.Next.{IsQuiet}
 use Rattle.machine_rules.specs.Run.{IsRun, Leads}
 use Rattle.machine_rules.specs.State.{State, NotEnabled, first_state}
@@ -58,7 +59,7 @@ collect_still s a (Some o) still = λ i. collect_in s a o.cell (still.0 i) (stil
 block_still : (s : State) (a : ℕ) (o : Option Seat) → IsStill o → block_at s a o ≡ NotEnabled
 block_still s a None still = refl
 block_still s a (Some o) still =
-    λ i. block_in s a o.cell o.mail (is_none (still.0 i) && (no_letters (still.1 i) && not (still.2 i || (still.3 i || o.cell.reported))))
+    λ i. block_in s a o.cell o.mail (is_none (still.0 i) && (is_empty (still.1 i) && not (still.2 i || (still.3 i || o.cell.reported))))
 
 still_quiet : (s : State) → ((a : ℕ) → IsStill (seat_at s.actors a)) → s.notes ≡ [] → s.detector.tokens ≡ [] → s.detector.news ≡ false → IsQuiet s
 still_quiet s still notes tokens news (Take a) = take_still s a (seat_at s.actors a) (still a)

@@ -16,7 +16,7 @@ use Rattle.turn_rules.specs.declared.act.Act.{Act}
 use Rattle.turn_rules.specs.declared.act.Act.TheVariants.{End, New, Post, Print}
 use Rattle.turn_rules.specs.declared.act.Frame.{Frame}
 use Rattle.letter_kinds.specs.Counting.{Loaded, gain, lacking, send, to_mint}
-use Rattle.letter_kinds.specs.Holdings.{Row, held_in}
+use Rattle.letter_kinds.specs.Holdings.{Row, held_in, with_made}
 use Rattle.letter_kinds.specs.Sums.{amount_of, times_loaded}
 use Rattle.letter_kinds.specs.declared.letter.Letter.{Letter}
 use Rattle.letter_kinds.specs.declared.letter.Letter.TheVariants.{App}
@@ -42,9 +42,10 @@ use Rattle.machine_rules.specs.Cell.{Cell, fresh_cell}
 use Rattle.machine_rules.specs.Facts.{Facts, KeepsCounts}
 use Rattle.machine_rules.specs.Go.{act_in, go_in, load_from, make, mint, post, post_or_mint, turn_of_cell, turned, with_turn_kept}
 use Rattle.machine_rules.specs.Known.{InFrame, IsKnown, IsLoadOf, Names, Roots, in_fields, in_frame, in_table}
-use Rattle.machine_rules.specs.Plain.{Outcome, PlainState, after_act, after_turn, fresh_actor, next_state, objects_made, plain_go, plain_row, stopped_at, turn_of_actor, with_name, with_turn}
+use Rattle.machine_rules.specs.Lists.{is_empty}
+use Rattle.machine_rules.specs.Plain.{PlainState, after_act, after_turn, fresh_actor, next_state, objects_made, plain_go, plain_row, stopped_at, turn_of_actor, with_name, with_turn}
 use Rattle.machine_rules.specs.Plain as plain
-use Rattle.machine_rules.specs.Run.{act_is_choice, go_is_choice, is_nothing_lacking}
+use Rattle.machine_rules.specs.Run.{act_is_choice, go_is_choice}
 use Rattle.machine_rules.specs.State.{State, IsFull, Goes}
 use Rattle.machine_rules.specs.declared.PlainActor.{PlainActor}
 use Rattle.machine_rules.specs.declared.PlainLetter.{PlainLetter}
@@ -319,7 +320,7 @@ module _ (p : PlainState) (s : State) (facts : Facts p s) (a : ℕ) (c : Cell) (
     }
 
     letter_follows : (lack : List Loaded) → lacking a c1.holdings load ≡ lack
-        → Follows (is_nothing_lacking lack) (after_act p a stopped stop.turn.fields stop.turn.made (Post to b args)) p (post_or_mint s a c c1 ls stop to b args load lack)
+        → Follows (is_empty lack) (after_act p a stopped stop.turn.fields stop.turn.made (Post to b args)) p (post_or_mint s a c c1 ls stop to b args load lack)
     letter_follows [] l = (next_state p (plain.with_letter (with_turn p.actors a (Some stopped) stop.turn.fields stop.turn.made) to letter) p.prints, refl, post_follows l)
     letter_follows (e ∷ es) l = mint_follows e es l
 
@@ -335,7 +336,7 @@ module _ (p : PlainState) (s : State) (facts : Facts p s) (a : ℕ) (c : Cell) (
       (subst (λ prints. Facts (next_state p (with_turn p.actors a None stop.turn.fields stop.turn.made) (p.prints ++ [])) (record (with_turn_kept s stop (set s.actors a (seat (turned stop None true c) ls))) { prints = prints })) (nothing_printed s.prints)
       (turn_follows None true [] (λ z h. absurd h)))
 
-  act_follows : (act : Act) (t : State) → stop.act ≡ act → act_in s a c ls stopped stop act ≡ Goes t → Follows (act_is_choice a c f stop act) (after_act p a stopped stop.turn.fields stop.turn.made act) p t
+  act_follows : (act : Act) (t : State) → stop.act ≡ act → act_in s a c ls stopped stop act ≡ Goes t → Follows (act_is_choice a (with_made stop.turn.made c.holdings) act) (after_act p a stopped stop.turn.fields stop.turn.made act) p t
   act_follows End t act e = follows_on true _ p _ t e (_, refl, end_follows)
   act_follows (Print v) t act e = follows_on true _ p _ t e (_, refl, turn_follows (Some stopped) c.dirty (v ∷ []) (λ z h. h))
   act_follows (New kind register) t act e = by_room (nat_lt (length s.actors) 65536) refl e
@@ -355,7 +356,7 @@ module _ (p : PlainState) (s : State) (facts : Facts p s) (a : ℕ) (c : Cell) (
   plain_follows choice t h = subst (λ goes. Follows choice goes p t) (sym plain_went) h
 
   go_of_frame : (t : State) → go_in s a c (Some f) ls ≡ Goes t → Follows (go_is_choice s.program a c (Some f)) (plain_go p a) p t
-  go_of_frame t e = plain_follows (act_is_choice a c f stop stop.act) t (act_follows stop.act t refl e)
+  go_of_frame t e = plain_follows (act_is_choice a (with_made stop.turn.made c.holdings) stop.act) t (act_follows stop.act t refl e)
 
 pub go_follows : (p : PlainState) (s : State) → Facts p s → (a : ℕ) (c : Cell) (ls : List Letter) → seat_at s.actors a ≡ seat c ls → (f : Option Frame) → c.frame ≡ f → (t : State)
     → go_in s a c f ls ≡ Goes t → Follows (go_is_choice s.program a c f) (plain_go p a) p t

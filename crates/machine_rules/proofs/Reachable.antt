@@ -1,6 +1,6 @@
 -- What is reachable in the plain machine is what lives there.
 use Rattle.std.proofs.Common.{◌≡◌, ◌⊎◌, ◌↔◌, ℕ, zero, suc, ◌+◌, ◌||◌, Bool, true, false, is_some, Contains, Option, Some, None, List, [], ◌∷◌, ◌++◌, refl, sym, ap, subst, ◌∙◌, arith, inl, inr, ⊎_elim}
-use Rattle.std.specs.Prelude.{flat_map, slice_get, if◌then◌else◌}
+use Rattle.std.specs.Prelude.{flat_map, not, slice_get, if◌then◌else◌}
 use Rattle.std.specs.Option.{option_map_or}
 use Rattle.std.proofs.lemmas.List.Elements.{Contains-append_left, Contains-append_right, Contains-append_cases, filter_map-append}
 use Rattle.orca_names.specs.declared.names.Thing.{Thing}
@@ -13,8 +13,9 @@ use Rattle.machine_rules.specs.declared.PlainActor.{PlainActor}
 use Rattle.machine_rules.specs.declared.PlainLetter.{PlainLetter}
 use Rattle.machine_rules.specs.Agreement.{nobody, people_of, person_at, person_of_plain, IsRootPerson}
 use Rattle.machine_rules.specs.Known.{Names, InFrame}
+use Rattle.machine_rules.specs.Lists.{is_empty}
 use Rattle.machine_rules.specs.Plain.{PlainState, plain_row}
-use Rattle.machine_rules.specs.PlainReach.{is_some_letter, is_root, roots_from, values_of, plain_edges, IsReachable}
+use Rattle.machine_rules.specs.PlainReach.{is_root, roots_from, values_of, plain_edges, IsReachable}
 use Rattle.machine_rules.proofs.Living.{Letters, here, later, Holds, Lives, stands, holds, row, owner}
 
 -- ---- what lists of values name
@@ -40,7 +41,7 @@ person_read (x ∷ actors) (suc a) = person_read actors a
 
 -- ---- roots
 
-root_parts : (pinned : Bool) (frame : Option Frame) (letters : List PlainLetter) → (pinned || is_some frame || is_some_letter letters) ≡ true
+root_parts : (pinned : Bool) (frame : Option Frame) (letters : List PlainLetter) → (pinned || is_some frame || not (is_empty letters)) ≡ true
     → (pinned ≡ true) ⊎ ((frame ≡ None → ⊥) ⊎ (letters ≡ [] → ⊥))
 root_parts true frame letters e = inl refl
 root_parts false (Some f) letters e = inr (inl (λ z. cc))
@@ -48,7 +49,7 @@ root_parts false None (l ∷ letters) e = inr (inr (λ z. cc))
 root_parts false None [] e = cc
 
 parts_root : (pinned : Bool) (frame : Option Frame) (letters : List PlainLetter) → (pinned ≡ true) ⊎ ((frame ≡ None → ⊥) ⊎ (letters ≡ [] → ⊥))
-    → (pinned || is_some frame || is_some_letter letters) ≡ true
+    → (pinned || is_some frame || not (is_empty letters)) ≡ true
 parts_root true frame letters r = refl
 parts_root false (Some f) letters r = refl
 parts_root false None (l ∷ letters) r = refl

@@ -9,6 +9,7 @@ use Rattle.letter_kinds.specs.declared.note.Note.TheVariants.{Block}
 use Rattle.letter_kinds.specs.Holdings.{Holdings, Row}
 use Rattle.machine_rules.specs.Actors.{Seat, seat, seat_at}
 use Rattle.machine_rules.specs.Cell.{Cell}
+use Rattle.machine_rules.specs.Lists.{is_empty}
 use Rattle.machine_rules.specs.State.{State, Step, NotEnabled, Goes}
 
 -- the count on an actor, of an entry of one
@@ -20,13 +21,9 @@ actor_entry (Obj n, e) = None
 abbrev pub held_actors : Holdings → List (ℕ × ℕ)
 held_actors h = filter_map actor_entry (m.entries h.foreign)
 
-abbrev pub no_letters : List Letter → Bool
-no_letters [] = true
-no_letters (letter ∷ mail) = false
-
 -- idle, with no letter, clean, not pinned, and not reported yet
 abbrev pub may_block : Cell → List Letter → Bool
-may_block c mail = is_none c.frame && (no_letters mail && not (c.dirty || (c.fields.pinned || c.reported)))
+may_block c mail = is_none c.frame && (is_empty mail && not (c.dirty || (c.fields.pinned || c.reported)))
 
 abbrev pub block_in : State → ℕ → Cell → List Letter → Bool → Step
 block_in s a c mail false = NotEnabled

@@ -45,10 +45,14 @@ unfoldable pub reaped : List ℕ → List ℕ → List (ℕ × List Amount) → 
 reaped members [] decs actors = push_decs decs actors
 reaped members (a ∷ rest) decs actors = reaped members rest (decs ++ by_owner (held_outside members (seat_at actors a))) (set actors a None)
 
+-- the members of a set go, and Decs return what they held outside of it
+abbrev pub reap_members : List ℕ → Actors → Actors
+reap_members members actors = reaped members members [] actors
+
 abbrev pub reap_in : State → Token → Bool → Step
 reap_in s token false = NotEnabled
 reap_in s token true =
-    Goes (record s { actors = reaped token.members token.members [] s.actors; detector = close_token token s.detector })
+    Goes (record s { actors = reap_members token.members s.actors; detector = close_token token s.detector })
 
 abbrev pub reap_found : State → Option Token → Step
 reap_found s None = NotEnabled

@@ -30,6 +30,10 @@ turned stop frame dirty c = record c { fields = stop.turn.fields; frame = frame;
 abbrev pub load_from : ℕ → Holdings → List Value → List Loaded
 load_from me h args = load_of (row_of me h) (known_objects me h) args
 
+-- what the actor lacks of all that the arguments reach
+abbrev pub lacking_from : ℕ → Holdings → List Value → List Loaded
+lacking_from me h args = lacking me h (load_from me h args)
+
 -- ---- the acts
 
 -- a letter with its load goes to an actor
@@ -68,8 +72,7 @@ act_in s a c mail frame stop (New kind register) =
     else IsFull
 act_in s a c mail frame stop (Post to behaviour args) =
     let after = turned stop (Some frame) c.dirty c in
-    let load = load_from a after.holdings args in
-    Goes (post_or_mint s a c after mail stop to behaviour args load (lacking a after.holdings load))
+    Goes (post_or_mint s a c after mail stop to behaviour args (load_from a after.holdings args) (lacking_from a after.holdings args))
 
 -- ---- the event
 

@@ -14,6 +14,7 @@ pub mod Go
 pub mod Known
 pub mod Laws
 pub mod Left
+pub mod Lists
 pub mod Next
 pub mod Plain
 pub mod PlainLimits

@@ -1,22 +1,17 @@
 -- What is reachable in the plain machine.
-use Rattle.std.specs.Prelude.{ℕ, ◌+◌, ◌++◌, ◌||◌, Bool, true, false, is_some, if◌then◌else◌, List, [], ◌∷◌, flat_map, slice_get, unwrap_or}
+use Rattle.std.specs.Prelude.{ℕ, ◌+◌, ◌++◌, ◌||◌, Bool, is_some, not, if◌then◌else◌, List, [], ◌∷◌, flat_map, slice_get, unwrap_or}
 use Rattle.std.specs.Option.{option_map_or}
 use Rattle.orca_names.specs.declared.names.Thing.{Thing}
 use Rattle.orca_names.specs.declared.names.Thing.TheVariants.{Actor, Obj}
 use Rattle.orca_names.specs.declared.names.Value.{Value}
 use Rattle.reach_walk.specs.Reach.{Reaches}
 use Rattle.machine_rules.specs.declared.PlainActor.{PlainActor}
-use Rattle.machine_rules.specs.declared.PlainLetter.{PlainLetter}
+use Rattle.machine_rules.specs.Lists.{is_empty}
 use Rattle.machine_rules.specs.Plain.{PlainState, plain_row}
-
--- a letter waits
-abbrev pub is_some_letter : List PlainLetter → Bool
-is_some_letter [] = false
-is_some_letter (letter ∷ letters) = true
 
 -- a root is pinned, has a frame or has a letter
 abbrev pub is_root : PlainActor → Bool
-is_root x = x.fields.pinned || is_some x.frame || is_some_letter x.letters
+is_root x = x.fields.pinned || is_some x.frame || not (is_empty x.letters)
 
 -- the roots among these actors, the first of which has the number a
 abbrev pub roots_from : ℕ → List PlainActor → List Thing

@@ -4,15 +4,15 @@ use Rattle.behaviour_code.specs.declared.code.Program.{Program}
 use Rattle.turn_rules.specs.declared.act.Act.{Act}
 use Rattle.turn_rules.specs.declared.act.Act.TheVariants.{Post, New, Print, End}
 use Rattle.turn_rules.specs.declared.act.Frame.{Frame}
-use Rattle.turn_rules.specs.Segment.{Stop}
 use Rattle.event_rule.specs.declared.event.Event.{Event}
 use Rattle.event_rule.specs.declared.event.Event.TheVariants.{Take, Go, Collect, Block, Hear, Scan, Reap}
 use Rattle.letter_kinds.specs.declared.letter.Letter.{Letter}
 use Rattle.letter_kinds.specs.declared.letter.Letter.TheVariants.{App, Inc, Dec, Confirm}
-use Rattle.letter_kinds.specs.Counting.{Loaded, lacking}
+use Rattle.letter_kinds.specs.Holdings.{Holdings, with_made}
 use Rattle.machine_rules.specs.Actors.{Seat, seat_at}
 use Rattle.machine_rules.specs.Cell.{Cell}
-use Rattle.machine_rules.specs.Go.{load_from, turn_of_cell, turned}
+use Rattle.machine_rules.specs.Go.{lacking_from, turn_of_cell}
+use Rattle.machine_rules.specs.Lists.{is_empty}
 use Rattle.machine_rules.specs.Next.{next}
 use Rattle.machine_rules.specs.Plain.{PlainState, start_of}
 use Rattle.machine_rules.specs.Plain as plain
@@ -39,22 +39,16 @@ starts_with_app (Inc things ∷ mail) = false
 starts_with_app (Dec things ∷ mail) = false
 starts_with_app (Confirm token ∷ mail) = false
 
-abbrev pub is_nothing_lacking : List Loaded → Bool
-is_nothing_lacking [] = true
-is_nothing_lacking (e ∷ lacked) = false
-
--- the act of a go that does not mint
-abbrev pub act_is_choice : ℕ → Cell → Frame → Stop → Act → Bool
-act_is_choice a c frame stop End = true
-act_is_choice a c frame stop (Print value) = true
-act_is_choice a c frame stop (New kind register) = true
-act_is_choice a c frame stop (Post to behaviour args) =
-    let after = turned stop (Some (plain.stopped_at frame stop)) c.dirty c in
-    is_nothing_lacking (lacking a after.holdings (load_from a after.holdings args))
+-- the act of a go that does not mint: the actor lacks nothing of what a letter loads
+abbrev pub act_is_choice : ℕ → Holdings → Act → Bool
+act_is_choice a h End = true
+act_is_choice a h (Print value) = true
+act_is_choice a h (New kind register) = true
+act_is_choice a h (Post to behaviour args) = is_empty (lacking_from a h args)
 
 abbrev pub go_is_choice : Program → ℕ → Cell → Option Frame → Bool
 go_is_choice program a c None = false
-go_is_choice program a c (Some frame) = let stop = turn_of_cell program a c frame in act_is_choice a c frame stop stop.act
+go_is_choice program a c (Some frame) = let stop = turn_of_cell program a c frame in act_is_choice a (with_made stop.turn.made c.holdings) stop.act
 
 abbrev pub take_is_choice_at : Option Seat → Bool
 take_is_choice_at None = false

@@ -1,6 +1,6 @@
 -- The index finds the first actor that can do something.
 use Rattle.std.proofs.Common.{◌≡◌, ◌≢◌, ℕ, ◌-◌, ◌<◌, inl, inr, Bool, true, false, List, [], ◌∷◌, ◌++◌, All, IfNone, IfSome, length, get_or, replicate, take, slice_get, Option, None, Some, refl, sym, ap, subst, ◌∙◌, arith, length-append}
-use Rattle.std.specs.Prelude.{◌||◌, is_some}
+use Rattle.std.specs.Prelude.{◌||◌, is_some, not}
 use Rattle.std.specs.List.{position, position_or_len}
 use Rattle.std.specs.Option.{option_map_or}
 use Rattle.std.proofs.lemmas.Bool.{cases_lt}
@@ -12,7 +12,7 @@ use Rattle.event_rule.specs.declared.event.Event.{Event}
 use Rattle.turn_rules.specs.declared.act.Frame.{Frame}
 use Rattle.machine_rules.specs.declared.PlainActor.{PlainActor}
 use Rattle.machine_rules.specs.declared.PlainLetter.{PlainLetter}
-use Rattle.machine_rules.specs.PlainReach.{is_some_letter}
+use Rattle.machine_rules.specs.Lists.{is_empty}
 use Rattle.plain_machine.specs.First.{ComesFirst, IsIdle, event_of, event_with}
 use Rattle.plain_machine.specs.Ready.{IsIndex, can_act}
 
@@ -38,7 +38,7 @@ index_after_grow ready actors index =
 off_is_idle : (x : PlainActor) → can_act x ≡ false → IsIdle x
 off_is_idle x = by_parts x.frame x.letters
   where
-    by_parts : (frame : Option Frame) (letters : List PlainLetter) → (is_some frame || is_some_letter letters) ≡ false → event_with 0 frame letters ≡ None
+    by_parts : (frame : Option Frame) (letters : List PlainLetter) → (is_some frame || not (is_empty letters)) ≡ false → event_with 0 frame letters ≡ None
     by_parts (Some frame) letters e = absurd (cc)
     by_parts None (letter ∷ letters) e = absurd (cc)
     by_parts None [] e = refl
@@ -58,7 +58,7 @@ all_idle ready actors index none = λ k d within. idle_at ready actors k d index
 on_can_act : (a : ℕ) (x : PlainActor) → can_act x ≡ true → event_of a x ≢ None
 on_can_act a x = by_parts x.frame x.letters
   where
-    by_parts : (frame : Option Frame) (letters : List PlainLetter) → (is_some frame || is_some_letter letters) ≡ true → event_with a frame letters ≢ None
+    by_parts : (frame : Option Frame) (letters : List PlainLetter) → (is_some frame || not (is_empty letters)) ≡ true → event_with a frame letters ≢ None
     by_parts (Some frame) letters e none = cc
     by_parts None (letter ∷ letters) e none = cc
     by_parts None [] e none = cc

@@ -1,12 +1,12 @@
 -- Which actors can do something, and an index of them.
-use Rattle.std.specs.Prelude.{ℕ, ◌≡◌, ◌≤◌, ◌||◌, Bool, false, is_some, List, length, slice_get, slice_index_or}
+use Rattle.std.specs.Prelude.{ℕ, ◌≡◌, ◌≤◌, ◌||◌, Bool, false, is_some, not, List, length, slice_get, slice_index_or}
 use Rattle.std.specs.Option.{option_map_or}
 use Rattle.machine_rules.specs.declared.PlainActor.{PlainActor}
-use Rattle.machine_rules.specs.PlainReach.{is_some_letter}
+use Rattle.machine_rules.specs.Lists.{is_empty}
 
 -- it has a frame or a letter
 abbrev pub can_act : PlainActor → Bool
-can_act x = is_some x.frame || is_some_letter x.letters
+can_act x = is_some x.frame || not (is_empty x.letters)
 
 -- each actor has a place, which is on exactly where the actor can do something; the places past the last actor are off
 pub record IsIndex (ready : List Bool) (actors : List PlainActor) : Type 0 where

@@ -1,6 +1,6 @@
 // What an act does to the table, with the turn that it ends. Where memory is refused, nothing changes.
 
-ghost use Rattle.std.specs.Prelude.{◌≡◌, ◌+◌, ◌<◌, [], ◌∷◌, ◌++◌, length, slice_get, Some, IfSome, OnOk, OnErr};
+ghost use Rattle.std.specs.Prelude.{◌≡◌, ◌<◌, [], ◌∷◌, ◌++◌, length, slice_get, Some, IfSome, OnOk, OnErr};
 ghost use Rattle.behaviour_code.specs.Good.{ProgramIsGood};
 ghost use Rattle.machine_rules.specs.Plain.{fresh_actor as the_fresh, with_turn, with_letter};
 ghost use Rattle.plain_machine.specs.Undo.{IsBefore};

@@ -1,6 +1,6 @@
 // Running up to the next act.
 
-ghost use Rattle.std.specs.Prelude.{◌≡◌, ℕ, ◌+◌, ◌<◌, ◌≤◌, [], List, length, slice_get, IsOk, IsErr, IfOk, IfSome, IfErr, OnOk, OnErr};
+ghost use Rattle.std.specs.Prelude.{◌≡◌, ℕ, ◌+◌, ◌<◌, [], List, length, slice_get, IsOk, IsErr, IfOk, IfSome, IfErr, OnOk, OnErr};
 ghost use Rattle.orca_names.specs.declared.names.Value as names;
 ghost use Rattle.behaviour_code.specs.Good.{ProgramIsGood};
 ghost use Rattle.machine_rules.specs.Plain.{Goes, after_act, plain_go, turn_of_actor};

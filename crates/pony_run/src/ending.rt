@@ -1,8 +1,7 @@
 // The run, up to its end.
 
 ghost use Rattle.std.specs.Prelude.{◌≡◌, ◌<◌, ◌≤◌, ◌++◌, ◌∷◌, [], length, IfErr, IfOk, OnErr, OnOk};
-ghost use Rattle.event_rule.specs.declared.event.Event.TheVariants.{Go};
-ghost use Rattle.machine_rules.specs.Plain.{Goes, IsFull, plain_go};
+ghost use Rattle.machine_rules.specs.Plain.{Goes};
 ghost use Rattle.machine_rules.specs.PlainRun.{IsPlainFirst, IsPlainRun, outcome_of};
 ghost use Rattle.pony_run.specs.Ends.{EndsAs};
 ghost use Rattle.pony_run.specs.Steps.{IsEndOf, Stops};

@@ -1,6 +1,6 @@
 // Reading all that a source has left.
 
-ghost use Rattle.std.specs.Prelude.{◌≡◌, ◌<◌, ◌≤◌, ◌+◌, ◌-◌, IfOk, OnErr, IsErrOf, min, length, vec_len};
+ghost use Rattle.std.specs.Prelude.{◌≡◌, ◌<◌, ◌≤◌, ◌+◌, IfOk, OnErr, IsErrOf, vec_len};
 ghost use Rattle.std.specs.Io.KnownBytes.{IsAtEnd};
 ghost use Rattle.outside_world.specs.Device.{Rose};
 ghost use Rattle.pony_run.specs.Streams.{TakesAll, TakesMore, TakesPart, most_bytes};

@@ -1,8 +1,8 @@
 // The report of a run.
 
-ghost use Rattle.std.specs.Prelude.{◌≡◌, ◌≤◌, count_by, length, not, IfOk};
+ghost use Rattle.std.specs.Prelude.{◌≡◌, count_by, not, IfOk};
 ghost use Rattle.report_text.specs.Ends.{IsEnd};
-ghost use Rattle.pony_run.specs.Ends.{AreLeft, AreNumbers, IsReachCount, IsReport, is_actor};
+ghost use Rattle.pony_run.specs.Ends.{AreLeft, IsReachCount, IsReport, is_actor};
 
 use orca_names::{NoMemory, Thing};
 use plain_machine::Plain;

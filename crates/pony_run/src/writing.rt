@@ -1,6 +1,6 @@
 // Writing a whole text.
 
-ghost use Rattle.std.specs.Prelude.{◌≤◌, OnOk};
+ghost use Rattle.std.specs.Prelude.{OnOk};
 ghost use Rattle.std.specs.Io.KnownBytes.{Appends};
 ghost use Rattle.outside_world.specs.Device.{CountsFaults};
 ghost use Rattle.pony_run.specs.Streams.{GivesPart};

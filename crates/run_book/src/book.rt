@@ -1,6 +1,6 @@
 // The list of events that a run has made.
 
-ghost use Rattle.std.specs.Prelude.{◌≡◌, ◌≤◌, ◌+◌, ◌-◌, ◌++◌, ◌∷◌, ◌<◌, [], length, slice_get, IfOk, IsOk, OnOk, OnErr, Some};
+ghost use Rattle.std.specs.Prelude.{◌≡◌, ◌≤◌, ◌+◌, ◌++◌, ◌∷◌, ◌<◌, [], length, slice_get, IfOk, IsOk, OnOk, OnErr, Some};
 ghost use Rattle.run_book.specs.Books.{book_text};
 
 use event_rule::Event;

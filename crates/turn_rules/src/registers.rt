@@ -1,6 +1,6 @@
 // The registers of a frame.
 
-ghost use Rattle.std.specs.Prelude.{◌≡◌, ◌+◌, ◌-◌, ◌≤◌, ◌++◌, length, replicate, slice_index_or, slice_set};
+ghost use Rattle.std.specs.Prelude.{◌≡◌, ◌-◌, ◌++◌, length, replicate, slice_index_or, slice_set};
 ghost use Rattle.orca_names.specs.declared.names.Value.TheVariants.{Null};
 
 use orca_names::{Args, REGISTERS, Value};
