@@ -1,10 +1,9 @@
 -- A block, as the detector's laws see it; it keeps all that is kept of the counts.
-use Rattle.std.proofs.Common.{◌≡◌, ◌≢◌, ℕ, ◌<◌, not, ◌&&◌, ◌||◌, true, false, is_none, Option, Some, None, List, [], ◌∷◌, ◌++◌, length, set, refl, ap, sym, ◌∙◌, arith, ⊎_elim, get_or-set_same, get_or-set_other, length-set, eq-eqb, ne_eqb}
-use Rattle.std.proofs.lemmas.Bool.{and_parts, cases_eq, not-true, or_parts}
+use Rattle.std.proofs.Common.{◌≡◌, ◌≢◌, ℕ, ◌<◌, true, Option, Some, None, List, [], ◌∷◌, ◌++◌, length, set, refl, ap, sym, ◌∙◌, arith, ⊎_elim, get_or-set_same, get_or-set_other, length-set, eq-eqb, ne_eqb}
+use Rattle.std.proofs.lemmas.Bool.{cases_eq}
 use mathlib.Core.Path.{fun_ext}
 use Rattle.orca_names.specs.declared.names.Thing.{Thing}
 use Rattle.orca_names.specs.declared.names.Thing.TheVariants.{Actor}
-use Rattle.turn_rules.specs.declared.act.Frame.{Frame}
 use Rattle.letter_kinds.specs.declared.letter.Letter.{Letter}
 use Rattle.letter_kinds.specs.declared.note.Note.{Note}
 use Rattle.letter_kinds.specs.declared.note.Note.TheVariants.{Block}
@@ -26,11 +25,11 @@ use Rattle.machine_rules.proofs.Sends.{cell_balanced, cell_prefix}
 use Rattle.machine_rules.specs.Actors.{Actors, cell_at, cell_of, letters_of, mail_at, seat, seat_at}
 use Rattle.machine_rules.specs.Agreement.{Person}
 use Rattle.machine_rules.specs.Balance.{load_sum}
-use Rattle.machine_rules.specs.Block.{held_actors, may_block}
+use Rattle.machine_rules.specs.Block.{held_actors}
 use Rattle.machine_rules.specs.Cell.{Cell}
+use Rattle.machine_rules.specs.Enabled.{MayReport}
 use Rattle.machine_rules.specs.Facts.{IsFirmAt, IsPastRows, KeepsCounts}
 use Rattle.machine_rules.specs.Known.{IsSoundAt}
-use Rattle.machine_rules.specs.Lists.{is_empty}
 
 -- the actor has its report out
 abbrev pub reporting : Cell → Cell
@@ -39,26 +38,6 @@ reporting c = record c { reported = true }
 -- what it reports
 abbrev pub report_of_cell : ℕ → Cell → Report
 report_of_cell a c = report_told a c.holdings.count (held_actors c.holdings)
-
--- ---- what a block asks
-
-pub record MayBlock (c : Cell) : Type 0 where
-  pub idle : c.frame ≡ None
-  pub clean : c.dirty ≡ false
-  pub unpinned : c.fields.pinned ≡ false
-  pub quiet : c.reported ≡ false
-
-no_frame : (f : Option Frame) → is_none f ≡ true → f ≡ None
-no_frame None e = refl
-no_frame (Some f) e = cc
-
-pub may_then : (c : Cell) (ls : List Letter) → may_block c ls ≡ true → MayBlock c
-may_then c ls e =
-    let idle = and_parts (is_none c.frame) (is_empty ls && not (c.dirty || (c.fields.pinned || c.reported))) e in
-    let rest = and_parts (is_empty ls) (not (c.dirty || (c.fields.pinned || c.reported))) idle.1 in
-    let clean = or_parts c.dirty (c.fields.pinned || c.reported) (not-true _ rest.1) in
-    let last = or_parts c.fields.pinned c.reported clean.1 in
-    record { idle = no_frame c.frame idle.0; clean = clean.0; unpinned = last.0; quiet = last.1 }
 
 -- ---- the counts
 
@@ -87,13 +66,13 @@ module _ (s : Actors) (a : ℕ) (c : Cell) (ls : List Letter) (at : seat_at s a 
 
   -- ---- the world
 
-  pub can_block : (d : Detector) (ns : List Note) → MayBlock c → CanBlock (world_of s d ns) a c (report_of_cell a c)
+  pub can_block : (d : Detector) (ns : List Note) → MayReport c ls → CanBlock (world_of s d ns) a c (report_of_cell a c)
   can_block d ns may = record {
     here = ap cell_of at;
-    quiet = may.quiet;
+    quiet = may.unreported;
     unpinned = may.unpinned;
-    clean = may.clean;
-    idle = may.idle;
+    clean = may.rest.clean;
+    idle = may.rest.idle;
     exact = record { actor = refl; count = refl; held = count_on-held_actors c.holdings };
   }
 

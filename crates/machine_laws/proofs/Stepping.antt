@@ -26,7 +26,8 @@ use Rattle.detector_laws.specs.Events.{Moves}
 use Rattle.detector_laws.specs.World.{FactsHold}
 use Rattle.detector_laws.specs.Reports.{Told, Unreported, Reported, Contradictory, IsAsTold, told_of}
 use Rattle.detector_laws.specs.Run.{IsStep, Hears, Scans, ReapsOne, Blocks, TakesConfirm, MovesOne}
-use Rattle.machine_laws.proofs.Blocking.{block_is, can_block, may_then}
+use Rattle.machine_laws.proofs.Blocking.{block_is, can_block}
+use Rattle.machine_rules.proofs.Enabling.{may_report}
 use Rattle.machine_laws.proofs.Collecting.{collect_moves}
 use Rattle.machine_laws.proofs.Going.{held_made, make_moves, mint_moves, post_moves, turn_moves}
 use Rattle.machine_rules.proofs.FollowingGo.{known1, known_to}
@@ -160,7 +161,7 @@ module _ (p : PlainState) (s t : State) (beside : Facts p s) (facts : FactsHold 
   blocks : (a : ℕ) (c : Cell) (ls : List Letter) (q : Bool) → may_block c ls ≡ q → seat_at s.actors a ≡ seat c ls → block_in s a c ls q ≡ Goes t → StepsTo t
   blocks a c ls false may at e = absurd (not_enabled t e)
   blocks a c ls true may at e =
-      arrived _ e (subst (IsStep (world s)) (sym (block_is s.actors a c ls at s.detector s.notes)) (Blocks (can_block s.actors a c ls at s.detector s.notes (may_then c ls may))))
+      arrived _ e (subst (IsStep (world s)) (sym (block_is s.actors a c ls at s.detector s.notes)) (Blocks (can_block s.actors a c ls at s.detector s.notes (may_report c ls may))))
 
   -- ---- the detector's events
 

@@ -16,7 +16,7 @@ use Rattle.machine_rules.specs.Block.{block_at, block_in, may_block}
 use Rattle.machine_rules.specs.Cell.{Cell}
 use Rattle.machine_rules.specs.Collect.{collect_at, collect_in}
 use Rattle.machine_rules.specs.Detect.{hear_in, reap_found, reap_in, scan_in}
-use Rattle.machine_rules.specs.Enabled.{CanHappen, IsIdle, IsPresentWith, IsRefusedAsFull}
+use Rattle.machine_rules.specs.Enabled.{CanHappen, IsPresentWith, IsRefusedAsFull, MayReport}
 use Rattle.machine_rules.specs.Go.{act_in, go_at, go_in, turn_of_cell}
 use Rattle.machine_rules.specs.Laws.{EnabledExactly, FullExactly}
 use Rattle.machine_rules.specs.Lists.{is_empty}
@@ -26,6 +26,20 @@ use Rattle.machine_rules.specs.State.{State, NotEnabled, IsFull, Goes}
 use Rattle.machine_rules.specs.Take.{take_at, take_in}
 
 -- ---- what can be, from what is enabled
+
+idle_if : (f : Option Frame) (mail : List Letter) (dirty pinned reported : Bool) → (is_none f && (is_empty mail && not (dirty || (pinned || reported)))) ≡ true
+    → (f ≡ None) × (mail ≡ []) × (dirty ≡ false) × (pinned ≡ false) × (reported ≡ false)
+idle_if None [] false false false e = (refl, refl, refl, refl, refl)
+idle_if None [] false false true e = cc
+idle_if None [] false true reported e = cc
+idle_if None [] true pinned reported e = cc
+idle_if None (l ∷ ls) dirty pinned reported e = cc
+idle_if (Some f) mail dirty pinned reported e = cc
+
+pub may_report : (c : Cell) (mail : List Letter) → may_block c mail ≡ true → MayReport c mail
+may_report c mail e =
+    let z = idle_if c.frame mail c.dirty c.fields.pinned c.reported e in
+    record { rest = record { idle = z.0; clean = z.2; empty = z.1 }; unpinned = z.3; unreported = z.4 }
 
 module _ (s : State) (a : ℕ) where
   can_take : (o : Option Seat) → seat_at s.actors a ≡ o → take_at s a o ≢ NotEnabled → IsPresentWith s a (λ c mail. (c.frame ≡ None) × (mail ≢ []))
@@ -50,24 +64,13 @@ module _ (s : State) (a : ℕ) where
       by_frame None false on = absurd (on refl)
       by_frame None true on = (refl, refl)
 
-  idle_if : (f : Option Frame) (mail : List Letter) (dirty pinned reported : Bool) → (is_none f && (is_empty mail && not (dirty || (pinned || reported)))) ≡ true
-      → (f ≡ None) × (mail ≡ []) × (dirty ≡ false) × (pinned ≡ false) × (reported ≡ false)
-  idle_if None [] false false false e = (refl, refl, refl, refl, refl)
-  idle_if None [] false false true e = cc
-  idle_if None [] false true reported e = cc
-  idle_if None [] true pinned reported e = cc
-  idle_if None (l ∷ ls) dirty pinned reported e = cc
-  idle_if (Some f) mail dirty pinned reported e = cc
-
-  can_block : (o : Option Seat) → seat_at s.actors a ≡ o → block_at s a o ≢ NotEnabled → IsPresentWith s a IsIdle
+  can_block : (o : Option Seat) → seat_at s.actors a ≡ o → block_at s a o ≢ NotEnabled → IsPresentWith s a MayReport
   can_block None at on = absurd (on refl)
   can_block (Some o) at on = (o.cell, o.mail, at, by_test (may_block o.cell o.mail) refl on)
     where
-      by_test : (q : Bool) → may_block o.cell o.mail ≡ q → block_in s a o.cell o.mail q ≢ NotEnabled → IsIdle o.cell o.mail
+      by_test : (q : Bool) → may_block o.cell o.mail ≡ q → block_in s a o.cell o.mail q ≢ NotEnabled → MayReport o.cell o.mail
       by_test false e on = absurd (on refl)
-      by_test true e on =
-          let z = idle_if o.cell.frame o.mail o.cell.dirty o.cell.fields.pinned o.cell.reported e in
-          record { frame = z.0; letters = z.1; clean = z.2; unpinned = z.3; unreported = z.4 }
+      by_test true e on = may_report o.cell o.mail e
 
 can_hear : (s : State) (notes : List Note) → hear_in s notes ≢ NotEnabled → notes ≢ []
 can_hear s [] on = absurd (on refl)
@@ -150,9 +153,9 @@ pub enabled : (s : State) (e : Event) → CanHappen s e → next s e ≢ NotEnab
 enabled s (Take a) (c, mail, at, both) off = takes s a c mail at c.frame mail both.0 both.1 (sym (ap (take_at s a) at) ∙ off)
 enabled s (Go a) (c, mail, at, framed) off = goes_on s a c mail at c.frame framed (sym (ap (go_at s a) at) ∙ off)
 enabled s (Collect a) (c, mail, at, both) off = collects s a c mail at c.frame c.dirty both.0 both.1 (sym (ap (collect_at s a) at) ∙ off)
-enabled s (Block a) (c, mail, at, rest) off =
+enabled s (Block a) (c, mail, at, able) off =
     blocks s a c mail at (may_block c mail)
-    (may s a c mail at c.frame mail c.dirty c.fields.pinned c.reported rest.frame rest.letters rest.clean rest.unpinned rest.unreported)
+    (may s a c mail at c.frame mail c.dirty c.fields.pinned c.reported able.rest.idle able.rest.empty able.rest.clean able.unpinned able.unreported)
     (sym (ap (block_at s a) at) ∙ off)
 enabled s Hear some off = hears s s.notes some off
 enabled s Scan is off = scans s s.detector.news is off

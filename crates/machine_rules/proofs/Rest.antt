@@ -1,9 +1,8 @@
 -- Where no event is enabled, every actor is at rest.
-use Rattle.std.proofs.Common.{◌≡◌, ◌≢◌, ℕ, Bool, true, false, Option, Some, None, List, [], ◌∷◌, refl}
+use Rattle.std.proofs.Common.{◌≡◌, ◌≢◌, Bool, true, false, Option, Some, None, List, [], ◌∷◌, refl}
 use Rattle.std.proofs.lemmas.Bool.{false_from_ne_true}
 use Rattle.event_rule.specs.declared.event.Event.{Event}
 use Rattle.event_rule.specs.declared.event.Event.TheVariants.{Take, Go, Collect, Block}
-use Rattle.letter_kinds.specs.declared.letter.Letter.{Letter}
 use Rattle.machine_rules.proofs.Enabling.{enabled}
 use Rattle.machine_rules.specs.Actors.{Actors}
 use Rattle.machine_rules.specs.Enabled.{CanHappen}
@@ -40,6 +39,4 @@ quiet_told s quiet a c mail at unpinned = told c.reported refl
   where
     told : (q : Bool) → c.reported ≡ q → q ≡ true
     told true is = refl
-    told false is =
-        let rest = quiet_rest s quiet a c mail at in
-        absurd (none_can s quiet (Block a) (c, mail, at, record { frame = rest.idle; letters = rest.empty; clean = rest.clean; unpinned = unpinned; unreported = is }))
+    told false is = absurd (none_can s quiet (Block a) (c, mail, at, record { rest = quiet_rest s quiet a c mail at; unpinned = unpinned; unreported = is }))

@@ -9,17 +9,16 @@ use Rattle.letter_kinds.specs.declared.letter.Letter.{Letter}
 use Rattle.machine_rules.specs.Actors.{seat, seat_at}
 use Rattle.machine_rules.specs.Cell.{Cell}
 use Rattle.machine_rules.specs.Go.{turn_of_cell}
+use Rattle.machine_rules.specs.Next.{IsAtRest}
 use Rattle.machine_rules.specs.State.{State}
 
 -- the actor is present, and its cell and its letters are so
 abbrev pub IsPresentWith : State → ℕ → (Cell → List Letter → Type 0) → Type 0
 IsPresentWith s a Q = (c : Cell) × (mail : List Letter) × (seat_at s.actors a ≡ seat c mail) × Q c mail
 
--- clean, with nothing to do, not pinned, and not reported yet
-pub record IsIdle (c : Cell) (mail : List Letter) : Type 0 where
-  pub frame : c.frame ≡ None
-  pub letters : mail ≡ []
-  pub clean : c.dirty ≡ false
+-- at rest, not pinned, and not reported yet
+pub record MayReport (c : Cell) (mail : List Letter) : Type 0 where
+  pub rest : IsAtRest c mail
   pub unpinned : c.fields.pinned ≡ false
   pub unreported : c.reported ≡ false
 
@@ -27,7 +26,7 @@ abbrev pub CanHappen : State → Event → Type 0
 CanHappen s (Take a) = IsPresentWith s a (λ c mail. (c.frame ≡ None) × (mail ≢ []))
 CanHappen s (Go a) = IsPresentWith s a (λ c mail. c.frame ≢ None)
 CanHappen s (Collect a) = IsPresentWith s a (λ c mail. (c.frame ≡ None) × (c.dirty ≡ true))
-CanHappen s (Block a) = IsPresentWith s a IsIdle
+CanHappen s (Block a) = IsPresentWith s a MayReport
 CanHappen s Hear = s.notes ≢ []
 CanHappen s Scan = s.detector.news ≡ true
 CanHappen s (Reap token) = (t : Token) × (token_numbered token s.detector ≡ Some t) × (all_acked t ≡ true)
