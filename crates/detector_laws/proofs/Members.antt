@@ -1,6 +1,8 @@
 -- What is one of a list.
-use Rattle.std.proofs.Common.{◌≡◌, Bool, true, false, cond, ◌⊎◌, inl, inr, ⊎_elim, List, [], ◌∷◌, ◌++◌, filter, find, map, Some, refl, ap, sym, subst, ◌∙◌}
+use Rattle.std.proofs.Common.{◌≡◌, ℕ, ◌==◌, eq-eqb, Bool, true, false, cond, ◌⊎◌, inl, inr, ⊎_elim, List, [], ◌∷◌, ◌++◌, filter, find, map, Some, refl, ap, sym, subst, ◌∙◌}
+use Rattle.std.proofs.lemmas.Bool.{or_left, or_right}
 use Rattle.std.specs.List.{AllByRecursion}
+use Rattle.letter_kinds.specs.Detector.{has}
 use Rattle.detector_laws.specs.Members.{In}
 
 pub In-filter : {A : Type 0} (p : A → Bool) (x : A) (xs : List A) → In x (filter p xs) → In x xs × (p x ≡ true)
@@ -26,6 +28,11 @@ each_In P (y ∷ ys) h x i = ⊎_elim (λ e. subst P (sym e) h.0) (λ j. each_In
 pub In_each : {A : Type 0} (P : A → Type 0) (xs : List A) → ((x : A) → In x xs → P x) → AllByRecursion P xs
 In_each P [] h = tt
 In_each P (y ∷ ys) h = (h y (inl refl), In_each P ys (λ x i. h x (inr i)))
+
+-- what holds of each number that a list has holds of all its elements
+pub each_has : (P : ℕ → Type 0) (ks : List ℕ) → ((k : ℕ) → has ks k ≡ true → P k) → AllByRecursion P ks
+each_has P [] h = tt
+each_has P (k ∷ ks) h = (h k (or_left (k == k) (has ks k) (eq-eqb k k refl)), each_has P ks (λ i p. h i (or_right (k == i) (has ks i) p)))
 
 pub In-find : {A : Type 0} (p : A → Bool) (xs : List A) (x : A) → find p xs ≡ Some x → In x xs × (p x ≡ true)
 In-find p [] x h = absurd (cc)

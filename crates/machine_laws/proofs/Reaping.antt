@@ -1,5 +1,5 @@
 -- A reap, as the detector's laws see it.
-use Rattle.std.proofs.Common.{◌≡◌, ℕ, ◌<◌, ◌≤◌, ◌==◌, ◌||◌, Bool, true, false, cond, Option, Some, None, List, [], ◌∷◌, ◌++◌, length, set, refl, ap, sym, subst, ◌∙◌, arith, ⊎_elim, get_or-set_same, get_or-set_other, length-set, eq-eqb, ne_eqb}
+use Rattle.std.proofs.Common.{◌≡◌, ℕ, ◌<◌, ◌≤◌, Bool, true, false, cond, Option, Some, None, List, [], ◌∷◌, ◌++◌, length, set, refl, ap, sym, subst, ◌∙◌, arith, ⊎_elim, get_or-set_same, get_or-set_other, length-set, eq-eqb, ne_eqb}
 use Rattle.std.proofs.lemmas.Bool.{cases_eq, cases_lt, false≢true}
 use Rattle.std.proofs.lemmas.List.{get_or_past}
 use Rattle.detector_laws.specs.Cells.{held_on}
@@ -30,6 +30,7 @@ use Rattle.orca_names.specs.declared.names.Thing.TheVariants.{Actor}
 use Rattle.std.proofs.lemmas.List.Sums.{sum_by-set}
 use Rattle.detector_laws.specs.Confirms.{NoConfirms}
 use Rattle.detector_laws.specs.Members.{In}
+use Rattle.detector_laws.proofs.Members.{each_has}
 
 -- ---- the members are gone
 
@@ -119,14 +120,6 @@ unfolding reaped
 reap_loads x all [] gs s = decs_loads x gs s
 reap_loads x all (m ∷ ms) gs s = omega (arith, reap_loads x all ms (gs ++ by_owner (held_outside all (seat_at s m))) (set s m None), clear_loads x s m)
 
-pub all_in : (ms ks : List ℕ) → ((m : ℕ) → has ks m ≡ true → has ms m ≡ true) → AllIn ms ks
-all_in ms [] h = tt
-all_in ms (k ∷ ks) h = (h k (rw (eq-eqb k k refl) refl), all_in ms ks (λ m p. h m (more (k == m) (has ks m) p)))
-  where
-    more : (p q : Bool) → q ≡ true → (p || q) ≡ true
-    more true q e = refl
-    more false q e = e
-
 module _ (s : Actors) (d : Detector) (ns : List Note) (t : Token) (all : Thing → Option Row) (ps : List Person) (keeps : KeepsCounts all ps s) (opened : In t d.tokens) (acked : all_acked t ≡ true) where
   gone_at : (m : ℕ) → has t.members m ≡ true → seat_at (reaped t.members t.members [] s) m ≡ None
   gone_at m h = reap_gone t.members t.members [] s m h
@@ -158,6 +151,6 @@ module _ (s : Actors) (d : Detector) (ns : List Note) (t : Token) (all : Thing �
     gone = λ m h. let e = gone_at m h in (ap cell_of e, ap letters_of e);
     stays = λ i out. (reap_adds t.members t.members [] s i out).0;
     sends = λ i out. (reap_adds t.members t.members [] s i out).1;
-    sends_held = λ i out free. ap letters_of (reap_quiet t.members t.members [] s i (all_in t.members t.members (λ m h. h)) out tt (spares i out free));
+    sends_held = λ i out free. ap letters_of (reap_quiet t.members t.members [] s i (each_has _ t.members (λ m h. h)) out tt (spares i out free));
     unloaded = λ x h. omega (arith, h, reap_loads (Actor x) t.members t.members [] s);
   }

@@ -1,6 +1,6 @@
 -- A scan, as the detector's laws see it; it keeps all that is kept of the counts.
-use Rattle.std.proofs.Common.{◌≡◌, ◌≢◌, ℕ, suc, ◌≤◌, ◌==◌, ◌||◌, Bool, true, false, if◌then◌else◌, Option, Some, None, List, [], ◌∷◌, ◌++◌, length, refl, ap, sym, ◌∙◌, arith, ⊎_elim, eq-eqb, ne_eqb}
-use Rattle.std.proofs.lemmas.Bool.{cases_eq, false≢true}
+use Rattle.std.proofs.Common.{◌≡◌, ◌≢◌, ℕ, suc, ◌≤◌, ◌==◌, true, false, if◌then◌else◌, Option, Some, None, List, [], ◌∷◌, ◌++◌, length, refl, ap, sym, ◌∙◌, arith, ⊎_elim, eq-eqb, ne_eqb}
+use Rattle.std.proofs.lemmas.Bool.{cases_eq, false≢true, or_left, or_right}
 use mathlib.Core.Path.{fun_ext}
 use Rattle.detector_laws.proofs.Members.{each_In}
 use Rattle.detector_laws.proofs.Names.{names, named}
@@ -78,14 +78,6 @@ module _ (s : Actors) (b t : ℕ) (here : cell_at s b ≢ None) where
   ask_loads x = push_loads_same s b (Confirm t) x (letter_Confirm x t).2
 
 -- ---- a Confirm to each
-
-or_left : (p q : Bool) → p ≡ true → (p || q) ≡ true
-or_left true q e = refl
-or_left false q e = cc
-
-or_right : (p q : Bool) → q ≡ true → (p || q) ≡ true
-or_right true q e = refl
-or_right false q e = e
 
 rest_here : (m : ℕ) (ms : List ℕ) (t : ℕ) (s : Actors) → ((i : ℕ) → has (m ∷ ms) i ≡ true → cell_at s i ≢ None)
     → (cell_at s m ≢ None) × ((i : ℕ) → has ms i ≡ true → cell_at (push_letter m (Confirm t) s) i ≢ None)

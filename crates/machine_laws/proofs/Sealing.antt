@@ -1,10 +1,10 @@
 -- A reap keeps what holds of the counts: what it asks is what the seal says.
-use Rattle.std.proofs.Common.{◌≡◌, ℕ, ◌==◌, ◌||◌, Bool, true, false, Option, Some, None, List, [], ◌∷◌, refl, ap, sym, subst, ◌∙◌, arith, eq-eqb}
+use Rattle.std.proofs.Common.{◌≡◌, ℕ, true, false, Option, Some, None, List, [], ◌∷◌, refl, ap, sym, subst, ◌∙◌, arith}
 use Rattle.std.proofs.lemmas.Bool.{false≢true}
 use Rattle.detector_laws.proofs.Cells.{same_some, some_not_none}
 use Rattle.detector_laws.proofs.Letters.{EndsInConfirm-only}
 use Rattle.detector_laws.specs.Cells.{held_on}
-use Rattle.machine_laws.proofs.Reaping.{all_in}
+use Rattle.detector_laws.proofs.Members.{each_has}
 use Rattle.detector_laws.specs.Tokens.{IsSealed}
 use Rattle.letter_kinds.proofs.Sums.{sum-at, sum-nil}
 use Rattle.letter_kinds.specs.Detector.{has, Token}
@@ -35,14 +35,6 @@ only (Inc es ∷ ls) h = absurd (false≢true h.0)
 only (Dec es ∷ ls) h = absurd (false≢true h.0)
 only (Confirm t ∷ ls) h = let rest = only ls h.1 in (rest.0, λ x. omega (arith, sum_by-cons (load_count x) (Confirm t) ls, rest.1 x, (letter_Confirm x t).2))
 
-all_sealed : (s : Actors) (ks : List ℕ) → ((m : ℕ) → has ks m ≡ true → Sealed s m) → AllSealed s ks
-all_sealed s [] h = tt
-all_sealed s (k ∷ ks) h = (h k (rw (eq-eqb k k refl) refl), all_sealed s ks (λ m p. h m (more (k == m) (has ks m) p)))
-  where
-    more : (p q : Bool) → q ≡ true → (p || q) ≡ true
-    more true q e = refl
-    more false q e = e
-
 module _ (s : Actors) (ns : List Note) (t : Token) (all : Thing → Option Row) (ps : List Person) (keeps : KeepsCounts all ps s)
     (seal : IsSealed (cell_at s) (mail_at s) (λ x. load_sum (Actor x) s) ns t) where
   one : (m : ℕ) → has t.members m ≡ true → (o : Option Seat) → seat_at s m ≡ o → Sealed s m
@@ -63,7 +55,7 @@ module _ (s : Actors) (ns : List Note) (t : Token) (all : Thing → Option Row) 
 
   -- each member is sealed
   pub members_sealed : AllSealed s t.members
-  members_sealed = all_sealed s t.members (λ m ins. one m ins (seat_at s m) refl)
+  members_sealed = each_has (Sealed s) t.members (λ m ins. one m ins (seat_at s m) refl)
 
   -- none but a member holds a member, and no letter of another loads one
   pub members_alone : (m i : ℕ) (c : Cell) (ls : List Letter) → has t.members m ≡ true → has t.members i ≡ false → seat_at s i ≡ seat c ls → (held_in c.holdings (Actor m) ≡ 0) × (sum_by (load_count (Actor m)) ls ≡ 0)
@@ -74,4 +66,4 @@ module _ (s : Actors) (ns : List Note) (t : Token) (all : Thing → Option Row) 
       (sym (ap (λ o. held_on (cell_of o) m) at) ∙ q.held i out, omega (arith, q.unloaded, v, loads_at-seat (Actor m) c ls))
 
   pub reap_keeps : KeepsCounts all ps (reaped t.members t.members [] s)
-  reap_keeps = reap_keeps_counts all ps s keeps t.members (all_in t.members t.members (λ m h. h)) members_sealed members_alone
+  reap_keeps = reap_keeps_counts all ps s keeps t.members (each_has _ t.members (λ m h. h)) members_sealed members_alone

@@ -1,5 +1,6 @@
 -- A reap of sealed members keeps all that is kept of the counts.
 use Rattle.std.proofs.Common.{◌≡◌, ◌⊎◌, ℕ, zero, suc, ◌<◌, true, false, Option, Some, None, List, [], ◌∷◌, ◌++◌, length, set, refl, sym, ◌∙◌, ap, arith, subst, inl, inr, ⊎_elim, length-set, get_or-set_same, get_or-set_other}
+use Rattle.std.specs.List.{AllByRecursion}
 use Rattle.std.proofs.lemmas.Bool.{cases_eq, cases_lt}
 use Rattle.std.proofs.lemmas.List.{get_or_past}
 use Rattle.machine_rules.proofs.Seats.{present_below}
@@ -87,8 +88,7 @@ pub record Sealed (s : Actors) (m : ℕ) : Type 0 where
   pub quiet : (x : Thing) → sum_by (load_count x) mail ≡ 0
 
 abbrev pub AllSealed : Actors → List ℕ → Type 0
-AllSealed s [] = Unit {0}
-AllSealed s (m ∷ ms) = Sealed s m × AllSealed s ms
+AllSealed s ms = AllByRecursion (Sealed s) ms
 
 module _ (all : Thing → Option Row) (ps : List Person) (s : Actors) (inv : KeepsCounts all ps s) (ms : List ℕ)
     (ins : AllIn ms ms) (is_sealed : AllSealed s ms)

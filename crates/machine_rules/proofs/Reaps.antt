@@ -1,5 +1,6 @@
 -- A reap keeps the balance and the prefixes: what the members held outside goes back in Decs.
 use Rattle.std.proofs.Common.{◌≡◌, ◌≢◌, ◌⊎◌, ℕ, ◌+◌, ◌<◌, ◌==◌, cond, true, false, Option, Some, None, List, [], ◌∷◌, ◌++◌, length, set, refl, sym, ◌∙◌, ap, arith, inl, inr, ⊎_elim, ne_eqb, length-set}
+use Rattle.std.specs.List.{AllByRecursion}
 use Rattle.std.proofs.lemmas.Bool.{cases_Bool, cases_eq}
 use Rattle.letter_kinds.proofs.Sums.{sum-zero}
 use Rattle.letter_kinds.proofs.Counts.{cond_eq, cond_ne, amount-nil}
@@ -146,8 +147,7 @@ one_more all ms m gs s d e member r u = record {
     gone_more i (inr other) (inr q) = inr (rw (ne_eqb m i (λ e. other (sym e))) at q)
 
 abbrev pub AllIn : List ℕ → List ℕ → Type 0
-AllIn all [] = Unit {0}
-AllIn all (m ∷ ms) = (has all m ≡ true) × AllIn all ms
+AllIn all ms = AllByRecursion (λ m. has all m ≡ true) ms
 
 pub reap_keeps : (all ms : List ℕ) (gs : List (ℕ × List (Thing × ℕ))) (s : Actors) (d e : Thing → ℕ) → AllIn all ms → AllReady all ms s → Under all ms gs s d e
     → Balanced (reaped all ms gs s) × NeverOverdraws (reaped all ms gs s)
