@@ -21,7 +21,7 @@ use Rattle.machine_rules.proofs.Sweeps.{owed, owed-groups, firm_groups}
 use Rattle.machine_rules.specs.Actors.{Actors, cell_at, Seat, cell_of, letters_of, mail_at, push_decs, push_letter, seat_at, with_letter_more}
 use Rattle.machine_rules.specs.Balance.{loads_at, load_sum}
 use Rattle.machine_rules.specs.Cell.{Cell}
-use Rattle.machine_rules.specs.Detect.{held_outside, reaped}
+use Rattle.machine_rules.specs.Detect.{held_outside, reap_members, reaped}
 use Rattle.machine_rules.specs.Agreement.{Person}
 use Rattle.machine_rules.specs.Facts.{Every, KeepsCounts}
 use Rattle.orca_names.specs.Names.{owner_of}
@@ -121,7 +121,7 @@ reap_loads x all [] gs s = decs_loads x gs s
 reap_loads x all (m ∷ ms) gs s = omega (arith, reap_loads x all ms (gs ++ by_owner (held_outside all (seat_at s m))) (set s m None), clear_loads x s m)
 
 module _ (s : Actors) (d : Detector) (ns : List Note) (t : Token) (all : Thing → Option Row) (ps : List Person) (keeps : KeepsCounts all ps s) (opened : In t d.tokens) (acked : all_acked t ≡ true) where
-  gone_at : (m : ℕ) → has t.members m ≡ true → seat_at (reaped t.members t.members [] s) m ≡ None
+  gone_at : (m : ℕ) → has t.members m ≡ true → seat_at (reap_members t.members s) m ≡ None
   gone_at m h = reap_gone t.members t.members [] s m h
 
   spares : (i : ℕ) → has t.members i ≡ false → ((m : ℕ) → has t.members m ≡ true → held_on (cell_at s m) i ≡ 0) → Every (Spares t.members i) s
@@ -142,7 +142,7 @@ module _ (s : Actors) (d : Detector) (ns : List Note) (t : Token) (all : Thing �
           let w = sym (ap (λ o. held_on (cell_of o) i) at) ∙ free m ins in
           absurd (omega arith)
 
-  pub reap_reaps : Reaps (world_of s d ns) t (world_of (reaped t.members t.members [] s) (close_token t d) ns)
+  pub reap_reaps : Reaps (world_of s d ns) t (world_of (reap_members t.members s) (close_token t d) ns)
   reap_reaps = record {
     is_open = opened;
     acked = acked;

@@ -20,7 +20,7 @@ use Rattle.machine_rules.specs.Actors.{Actors, cell_at, Seat, cell_of, letters_o
 use Rattle.machine_rules.specs.Agreement.{app_letters, Person}
 use Rattle.machine_rules.specs.Balance.{loads_at, load_sum}
 use Rattle.machine_rules.specs.Cell.{Cell}
-use Rattle.machine_rules.specs.Detect.{reaped}
+use Rattle.machine_rules.specs.Detect.{reap_members}
 use Rattle.machine_rules.specs.Facts.{KeepsCounts}
 use Rattle.orca_names.specs.declared.names.Thing.{Thing}
 use Rattle.orca_names.specs.declared.names.Thing.TheVariants.{Actor}
@@ -65,5 +65,5 @@ module _ (s : Actors) (ns : List Note) (t : Token) (all : Thing → Option Row) 
       let v = rw at at w in
       (sym (ap (λ o. held_on (cell_of o) m) at) ∙ q.held i out, omega (arith, q.unloaded, v, loads_at-seat (Actor m) c ls))
 
-  pub reap_keeps : KeepsCounts all ps (reaped t.members t.members [] s)
+  pub reap_keeps : KeepsCounts all ps (reap_members t.members s)
   reap_keeps = reap_keeps_counts all ps s keeps t.members (each_has _ t.members (λ m h. h)) members_sealed members_alone

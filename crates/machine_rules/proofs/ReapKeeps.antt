@@ -21,7 +21,7 @@ use Rattle.machine_rules.specs.Actors.{Seat, Actors, seat_at, seat}
 use Rattle.machine_rules.specs.Agreement.{Person, person_at, person_of, IsRootPerson, Agrees, app_letters}
 use Rattle.machine_rules.specs.Balance.{held_at, loads_at}
 use Rattle.machine_rules.specs.Cell.{Cell}
-use Rattle.machine_rules.specs.Detect.{reaped}
+use Rattle.machine_rules.specs.Detect.{reap_members, reaped}
 use Rattle.machine_rules.specs.Facts.{Every, IsFirmAt, IsPastRows, KeepsCounts}
 use Rattle.machine_rules.specs.Known.{Reaches, IsKnown, in_table, IsSoundAt}
 use Rattle.orca_names.specs.Names.{owner_of}
@@ -159,7 +159,7 @@ module _ (all : Thing → Option Row) (ps : List Person) (s : Actors) (inv : Kee
   }
 
   -- a reap
-  pub reap_keeps_counts : KeepsCounts all ps (reaped ms ms [] s)
+  pub reap_keeps_counts : KeepsCounts all ps (reap_members ms s)
   reap_keeps_counts =
       let both = reap_keeps ms ms [] s none none ins (ready_all ms is_sealed) under in
       record {
