@@ -9,7 +9,7 @@ use Rattle.letter_kinds.specs.declared.note.Note.{Note}
 use Rattle.letter_kinds.specs.declared.note.Note.TheVariants.{Block}
 use Rattle.letter_kinds.specs.declared.note.Report.{Report}
 use Rattle.letter_kinds.specs.Detector.{Detector}
-use Rattle.letter_kinds.specs.Holdings.{Holdings, Row}
+use Rattle.letter_kinds.specs.Holdings.{Row}
 use Rattle.letter_kinds.specs.Reports.{report_told}
 use Rattle.detector_laws.specs.Events.{CanBlock}
 use Rattle.detector_laws.specs.World as view
@@ -19,7 +19,7 @@ use Rattle.machine_laws.proofs.Seen.{world_of}
 use Rattle.machine_rules.proofs.Agreeing.{agrees_same}
 use Rattle.machine_rules.proofs.Every.{every_set}
 use Rattle.machine_rules.proofs.InHand.{in_hand, none, out_of_hand}
-use Rattle.machine_rules.proofs.TakeKeeps.{Alike, alike_closed}
+use Rattle.machine_rules.proofs.TakeKeeps.{alike_closed, alike_self}
 use Rattle.machine_rules.proofs.Seats.{present_below}
 use Rattle.machine_rules.proofs.Sends.{cell_balanced, cell_prefix}
 use Rattle.machine_rules.specs.Actors.{Actors, cell_at, cell_of, letters_of, mail_at, seat, seat_at}
@@ -41,9 +41,6 @@ report_of_cell a c = report_told a c.holdings.count (held_actors c.holdings)
 
 -- ---- the counts
 
-alike : (me : ℕ) (h : Holdings) → Alike me h h
-alike me h = record { foreign = refl; next = refl; has = λ x. refl; rows = λ x. refl }
-
 module _ (s : Actors) (a : ℕ) (c : Cell) (ls : List Letter) (at : seat_at s a ≡ seat c ls) where
   within : a < length s
   within = present_below s a _ at
@@ -55,7 +52,7 @@ module _ (s : Actors) (a : ℕ) (c : Cell) (ls : List Letter) (at : seat_at s a 
         balanced = out_of_hand _ (cell_balanced s a c (reporting c) ls at none none none none (λ x is. omega arith) (λ x not. omega arith) (in_hand s keeps.balanced));
         prefixes = cell_prefix s a c (reporting c) ls at (λ x is. omega arith) keeps.prefixes;
         sound = every_set (IsSoundAt all) s a (reporting c) ls within
-            (record { closed = alike_closed all a c c.holdings c.dirty true (alike a c.holdings) here.closed; rows = here.rows; loads = here.loads }) keeps.sound;
+            (record { closed = alike_closed all a c c.holdings c.dirty true (alike_self a c.holdings) here.closed; rows = here.rows; loads = here.loads }) keeps.sound;
         agrees = agrees_same ps s a c (reporting c) ls ls at refl keeps.agrees;
         bare = keeps.bare;
         serials = every_set (IsPastRows all) s a (reporting c) ls within (keeps.serials a c ls at) keeps.serials;

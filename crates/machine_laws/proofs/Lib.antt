@@ -1,10 +1,13 @@
+pub mod ActorsWork
 pub mod AtQuiet
 pub mod Balancing
 pub mod Blocking
 pub mod Collecting
+pub mod ComesToRest
 pub mod Going
 pub mod HeldActors
 pub mod Keeping
+pub mod LeavesLess
 pub mod Moving
 pub mod Noted
 pub mod Quieting
@@ -14,5 +17,6 @@ pub mod Sealing
 pub mod Seen
 pub mod Starting
 pub mod Stepping
+pub mod TableWork
 pub mod Taking
 pub mod WholeRuns

@@ -1,9 +1,17 @@
 -- A scan, as the detector's laws see it; it keeps all that is kept of the counts.
-use Rattle.std.proofs.Common.{◌≡◌, ◌≢◌, ℕ, suc, ◌≤◌, ◌==◌, true, false, if◌then◌else◌, Option, Some, None, List, [], ◌∷◌, ◌++◌, length, refl, ap, sym, ◌∙◌, arith, ⊎_elim, eq-eqb, ne_eqb}
+use Rattle.std.proofs.Common.{◌≡◌, ◌≢◌, ℕ, suc, ◌≤◌, ◌==◌, true, false, if◌then◌else◌, Option, Some, None, List, [], ◌∷◌, ◌++◌, length, refl, ap, sym, ◌∙◌, arith, ⊎_elim, eq-eqb, ne_eqb, zero, ◌<◌}
 use Rattle.std.proofs.lemmas.Bool.{cases_eq, false≢true, or_left, or_right}
 use mathlib.Core.Path.{fun_ext}
-use Rattle.detector_laws.proofs.Members.{each_In}
-use Rattle.detector_laws.proofs.Names.{names, named}
+use Rattle.detector_laws.proofs.Members.{In_each, each_In}
+use Rattle.detector_laws.proofs.Sums.{some_le_all}
+use Rattle.detector_laws.specs.Balance.{sum_below}
+use Rattle.letter_kinds.proofs.Sums.{sum-nil}
+use Rattle.machine_rules.proofs.Seats.{present_below}
+use Rattle.std.specs.List.{AllByRecursion}
+use Rattle.std.specs.Prelude.{sum_by}
+use Rattle.std.proofs.lemmas.List.{length-map}
+use Rattle.std.proofs.lemmas.List.Sums.{sum_by-cons}
+use Rattle.detector_laws.proofs.Names.{name_In, names, named}
 use Rattle.detector_laws.proofs.Scan.{IsChosen, largest_chosen}
 use Rattle.detector_laws.proofs.Cells.{some_not_none}
 use Rattle.letter_kinds.specs.declared.letter.Letter.{Letter}
@@ -132,6 +140,14 @@ rising_distinct : (rs : List Report) → IsRising rs → Distinct (names rs)
 rising_distinct [] h = tt
 rising_distinct (r ∷ rs) h = (above_out r.actor r.actor rs (omega arith) h.0, rising_distinct rs h.1)
 
+ones : (rs : List Report) → sum_by (λ r. 1) rs ≡ length rs
+ones [] = sum-nil (λ (r : Report). 1)
+ones (r ∷ rs) = omega (arith, sum_by-cons (λ (r : Report). 1) r rs, ones rs)
+
+ones_below : (n : ℕ) → sum_below n (λ b. 1) ≡ n
+ones_below zero = refl
+ones_below (suc n) = omega (arith, ones_below n)
+
 module _ (s : Actors) (d : Detector) (ns : List Note) (rising : IsRising d.kept) (kept : ReportsAreExact (world_of s d ns)) where
   chosen : IsChosen (world_of s d ns) (largest_closed (candidates d))
   chosen = largest_chosen (world_of s d ns) rising
@@ -145,6 +161,13 @@ module _ (s : Actors) (d : Detector) (ns : List Note) (rising : IsRising d.kept)
       let some = each_In (λ (r : Report). report_of d.kept r.actor ≡ Some r) (largest_closed (candidates d)) chosen.kept q.0 q.1 in
       let none = (kept.absent m gone).0 in
       some_not_none (ap (report_of d.kept) (sym q.2) ∙ some) none
+
+  -- no more are asked than there are actors
+  pub few_asked : length (closed_set d) ≤ length s
+  few_asked =
+      let asked = largest_closed (candidates d) in
+      let within : AllByRecursion (λ r. r.actor < length s) asked = In_each (λ r. r.actor < length s) asked (λ r i. let o = present_seat (seat_at s r.actor) (all_here r.actor (name_In asked r i)) in present_below s r.actor o.0 o.1) in
+      omega (arith, some_le_all (length s) (λ b. 1) asked chosen.rising within, ones asked, ones_below (length s), length-map asked (λ r. r.actor))
 
   pub scan_keeps : (all : Thing → Option Row) (ps : List Person) → KeepsCounts all ps s → KeepsCounts all ps (ask_all (closed_set d) (suc d.opened) s)
   scan_keeps all ps keeps = asks_keep (closed_set d) (suc d.opened) s all_here all ps keeps

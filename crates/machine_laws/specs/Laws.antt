@@ -1,5 +1,5 @@
 -- What holds of every program, every run and each of its prefixes.
-use Rattle.std.specs.Prelude.{ℕ, ◌≡◌, ◌↔◌, false, List, [], ◌++◌, Some}
+use Rattle.std.specs.Prelude.{ℕ, ◌≡◌, ◌↔◌, false, List, [], ◌++◌, Some, ◌+◌, ◌<◌, ◌≤◌, length}
 use Rattle.orca_names.specs.declared.names.Thing.{Thing}
 use Rattle.behaviour_code.specs.declared.code.Program.{Program}
 use Rattle.event_rule.specs.declared.event.Event.{Event}
@@ -8,6 +8,7 @@ use Rattle.letter_kinds.specs.declared.note.Report.{Report}
 use Rattle.letter_kinds.specs.Reports.{report_of}
 use Rattle.detector_laws.specs.Reports.{IsReportOf}
 use Rattle.machine_laws.specs.AllFacts.{AllFacts}
+use Rattle.machine_laws.specs.Work.{work_left}
 use Rattle.machine_rules.specs.Actors.{seat, seat_at}
 use Rattle.machine_rules.specs.Balance.{IsBalanced, NeverOverdraws}
 use Rattle.machine_rules.specs.Cell.{Cell}
@@ -15,7 +16,7 @@ use Rattle.machine_rules.specs.Left.{IsFreed, IsLeft, NamesNothingFreed}
 use Rattle.machine_rules.specs.Next.{IsQuiet, next}
 use Rattle.machine_rules.specs.Plain.{PlainState, start_of}
 use Rattle.machine_rules.specs.PlainReach.{IsReachable}
-use Rattle.machine_rules.specs.Run.{IsPlainBeside, IsRun, PlainFollows, is_choice}
+use Rattle.machine_rules.specs.Run.{IsPlainBeside, IsRun, Leads, PlainFollows, choices, is_choice}
 use Rattle.machine_rules.specs.State.{State, Goes, first_state}
 
 -- ---- the facts hold
@@ -72,3 +73,14 @@ pub record DetectorRests (s : State) : Type 0 where
 
 abbrev pub DetectorRestsAtQuiet : Type 0
 DetectorRestsAtQuiet = (program : Program) (book : List Event) (t : State) → IsRun program book t → IsQuiet t → DetectorRests t
+
+-- ---- the machine comes to rest
+
+-- each event that is no choice leaves less to do
+abbrev pub EventsLeaveLess : Type 0
+EventsLeaveLess = (p : PlainState) (s t : State) (e : Event) → AllFacts p s → next s e ≡ Goes t → is_choice s e ≡ false → work_left t < work_left s
+
+-- so, after each prefix of a run, no more events follow without a choice than there is work left
+abbrev pub ChoicesAreAwaited : Type 0
+ChoicesAreAwaited = (program : Program) (book later : List Event) (s t : State) → IsRun program book s → Leads s later t → choices later s ≡ [] →
+    length later + work_left t ≤ work_left s

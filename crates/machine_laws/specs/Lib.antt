@@ -1,2 +1,3 @@
 pub mod AllFacts
 pub mod Laws
+pub mod Work

@@ -1,6 +1,6 @@
 // What holds of every program, every run and each of its prefixes.
 
-ghost use Rattle.machine_laws.specs.Laws.{StartHasAllFacts, EventsKeepAllFacts, RunsHaveAllFacts, NeverTooEarly, ExactlyAtQuiet, DetectorRestsAtQuiet};
+ghost use Rattle.machine_laws.specs.Laws.{StartHasAllFacts, EventsKeepAllFacts, RunsHaveAllFacts, NeverTooEarly, ExactlyAtQuiet, DetectorRestsAtQuiet, EventsLeaveLess, ChoicesAreAwaited};
 
 /// Where a run begins, all facts hold: the machine agrees with the one that frees nothing, counts
 /// balance and are never overdrawn, each actor knows what it reaches, clean cells are swept, and
@@ -38,4 +38,12 @@ pub fn exactly_at_quiet()
 /// not pinned an exact report is kept.
 pub fn the_detector_at_quiet()
     ensures { DetectorRestsAtQuiet }
+{}
+
+/// The machine comes to rest: each event that is no choice leaves less to do, so between two choices of
+/// a run there are no more events than there was work left after the first. What is collected, minted,
+/// reported and asked comes to an end, whatever the order.
+pub fn the_machine_comes_to_rest()
+    ensures less { EventsLeaveLess }
+    ensures run { ChoicesAreAwaited }
 {}

@@ -9,5 +9,5 @@ mod laws;
 
 pub use laws::{
     every_event_keeps_all_facts, every_run_has_all_facts, exactly_at_quiet, never_too_early,
-    the_detector_at_quiet, the_start_has_all_facts,
+    the_detector_at_quiet, the_machine_comes_to_rest, the_start_has_all_facts,
 };

@@ -126,7 +126,7 @@ amount-given_back marked c x = drops-find marked x (m.entries c.foreign) (m.entr
 abbrev Found : List (Thing × (ℕ × Option Row)) → Type 0
 Found es = (x : Thing) (e : ℕ × Option Row) → m.find thing_cmp x es ≡ Some e → 0 < e.0
 
-find_above : (x : Thing) (es : List (Thing × (ℕ × Option Row))) → T (below_all thing_cmp x es) → m.find thing_cmp x es ≡ None
+pub find_above : (x : Thing) (es : List (Thing × (ℕ × Option Row))) → T (below_all thing_cmp x es) → m.find thing_cmp x es ≡ None
 find_above x [] h = refl
 find_above x (e ∷ es) h = let p = both_true _ _ h in rw (is_ne_false x e.0 (not_above x e.0 p.0)) (find_above x es p.1)
 

@@ -42,7 +42,7 @@ pub record Alike (me : ℕ) (c d : Holdings) : Type 0 where
   pub has : (x : Thing) → has_own d x ≡ has_own c x
   pub rows : (x : Thing) → row_at me d x ≡ row_at me c x
 
-alike_self : (me : ℕ) (c : Holdings) → Alike me c c
+pub alike_self : (me : ℕ) (c : Holdings) → Alike me c c
 alike_self me c = record { foreign = refl; next = refl; has = λ x. refl; rows = λ x. refl }
 
 alike_then : (me : ℕ) (c d e : Holdings) → Alike me c d → Alike me d e → Alike me c e
@@ -62,12 +62,12 @@ alike_if : (me : ℕ) (b : Bool) (f : ℕ → ℕ) (y : Thing) (c : Holdings) �
 alike_if me true f y c = alike_own me f y c
 alike_if me false f y c = alike_self me c
 
-alike_raise : (me : ℕ) (es : List Amount) (c : Holdings) → Alike me c (raise_all me es c)
+pub alike_raise : (me : ℕ) (es : List Amount) (c : Holdings) → Alike me c (raise_all me es c)
 unfolding raise_all
 alike_raise me [] c = alike_self me c
 alike_raise me (e ∷ es) c = alike_then me c _ _ (alike_if me (owner_of e.0 == me) (λ h. h + e.1) e.0 c) (alike_raise me es _)
 
-alike_lower : (me : ℕ) (es : List Amount) (c : Holdings) → Alike me c (lower_all me es c)
+pub alike_lower : (me : ℕ) (es : List Amount) (c : Holdings) → Alike me c (lower_all me es c)
 unfolding lower_all
 alike_lower me [] c = alike_self me c
 alike_lower me (e ∷ es) c = alike_then me c _ _ (alike_if me (owner_of e.0 == me) (λ h. h - e.1) e.0 c) (alike_lower me es _)

@@ -1,0 +1,258 @@
+-- Each event that is no choice leaves less to do.
+use Rattle.std.proofs.Common.{◌≡◌, ℕ, suc, ◌+◌, ◌*◌, ◌≤◌, ◌<◌, ◌==◌, not, Bool, true, false, cond, if◌then◌else◌, Option, Some, None, List, [], ◌∷◌, length, filter, set, length-append, refl, ap, sym, subst, ◌∙◌, arith, ⊎_elim, eq-eqb, eqb-true}
+use Rattle.std.specs.Prelude.{sum_by}
+use Rattle.std.specs.FinMap as m
+use Rattle.std.proofs.lemmas.Bool.{and_parts, false≢true}
+use Rattle.std.proofs.lemmas.List.{length-map}
+use Rattle.std.proofs.lemmas.List.Sums.{sum_by-cons, sum_by_push}
+use Rattle.orca_names.specs.Names.{owner_of}
+use Rattle.orca_names.specs.declared.names.Thing.{Thing}
+use Rattle.orca_names.specs.declared.names.Value.{Value}
+use Rattle.event_rule.specs.declared.event.Event.{Event}
+use Rattle.event_rule.specs.declared.event.Event.TheVariants.{Take, Go, Collect, Block, Hear, Scan, Reap}
+use Rattle.turn_rules.specs.Segment.{Stop}
+use Rattle.turn_rules.specs.declared.act.Act.{Act}
+use Rattle.turn_rules.specs.declared.act.Act.TheVariants.{Post, New, Print, End}
+use Rattle.turn_rules.specs.declared.act.Frame.{Frame}
+use Rattle.letter_kinds.proofs.Filters.{length-filter_le}
+use Rattle.letter_kinds.specs.declared.letter.Letter.{Letter}
+use Rattle.letter_kinds.specs.declared.letter.Letter.TheVariants.{App, Inc, Dec, Confirm}
+use Rattle.letter_kinds.specs.declared.note.Note.{Note}
+use Rattle.letter_kinds.specs.declared.note.Note.TheVariants as notes
+use Rattle.letter_kinds.specs.Counting.{Loaded, by_owner, given_back, is_lacking, lacking, mint_all, sweep, to_mint}
+use Rattle.letter_kinds.specs.Detector.{Detector, Token, all_acked, closed_set, has, note_ack, scanned, token_numbered}
+use Rattle.letter_kinds.specs.Holdings.{Holdings, held_in, with_made}
+use Rattle.letter_kinds.specs.Sums.{amount_of}
+use Rattle.detector_laws.proofs.Named.{numbered_is_open}
+use Rattle.detector_laws.specs.Members.{In}
+use Rattle.machine_laws.proofs.ActorsWork.{asks-work, decs-work, more_times, push-work, reaped-work, set-work}
+use Rattle.machine_laws.proofs.Blocking.{reporting}
+use Rattle.machine_laws.proofs.Going.{held_made}
+use Rattle.machine_laws.proofs.TableWork.{by_owner-length, mint_first-work, sweep-work}
+use Rattle.machine_laws.specs.Work.{actors_work, count_work, detector_work, entry_work, letter_work, news_work, note_work, seat_work, silence_work, table_work}
+use Rattle.machine_rules.proofs.Enabling.{may_report}
+use Rattle.machine_rules.proofs.InHand.{AllCounted}
+use Rattle.machine_rules.specs.Lists.{is_empty}
+use Rattle.machine_rules.proofs.Lacking.{counted_mint, to_mint_theirs}
+use Rattle.machine_rules.proofs.Seats.{present_below}
+use Rattle.machine_rules.proofs.Steps.{goes_to, not_enabled}
+use Rattle.machine_rules.proofs.TakeKeeps.{alike_lower, alike_raise}
+use Rattle.machine_rules.specs.Actors.{Seat, seat, seat_at}
+use Rattle.machine_rules.specs.Block.{block_at, block_in, held_actors, may_block}
+use Rattle.machine_rules.specs.Cell.{Cell}
+use Rattle.machine_rules.specs.Collect.{collect_at, collect_in, is_marked}
+use Rattle.machine_rules.specs.Detect.{hear_in, reap_found, reap_in, scan_in}
+use Rattle.machine_rules.specs.Go.{act_in, go_at, go_in, lacking_from, load_from, mint, post_or_mint, turn_of_cell, turned}
+use Rattle.machine_rules.specs.Next.{next}
+use Rattle.machine_rules.specs.Plain.{stopped_at}
+use Rattle.machine_rules.specs.Run.{act_is_choice, go_is_choice, go_is_choice_at, is_choice, take_is_choice_at}
+use Rattle.machine_rules.specs.State.{State, Goes}
+use Rattle.machine_rules.specs.Take.{cell_after, note_of, notes_after, take_at, take_in}
+
+-- what a filter lets through first passes
+first_passes : {A : Type 0} (p : A → Bool) (xs : List A) (y : A) (ys : List A) → filter p xs ≡ y ∷ ys → p y ≡ true
+first_passes p [] y ys is = cc
+first_passes p (x ∷ xs) y ys is = by_test (first_passes p xs y ys) (p x) refl is
+  where
+    by_test : (filter p xs ≡ y ∷ ys → p y ≡ true) → (b : Bool) → p x ≡ b → cond b (x ∷ filter p xs) (filter p xs) ≡ y ∷ ys → p y ≡ true
+    by_test later true passes is = let same : x ≡ y = cc in ap p (sym same) ∙ passes
+    by_test later false passes is = later is
+
+-- ---- what is there, where n actors were made
+
+module _ (n : ℕ) where
+  abbrev pub work_of : State → ℕ
+  work_of s = actors_work n s.actors + detector_work n s.detector + sum_by (note_work n) s.notes
+
+  -- the parts of what a seat counts, where it is known whether its actor is dirty and reported
+  seat_is : (c : Cell) (ls : List Letter) (dirty reported : Bool) → c.dirty ≡ dirty → c.reported ≡ reported
+      → seat_work n (seat c ls) ≡ table_work n c.holdings + sum_by (letter_work n) ls + (if dirty then 1 else 0) + (if reported then 0 else silence_work n)
+  seat_is c ls dirty reported d r = λ i. table_work n c.holdings + sum_by (letter_work n) ls + (if d i then 1 else 0) + (if r i then 0 else silence_work n)
+
+  same_table : (h k : Holdings) → k.foreign ≡ h.foreign → table_work n k ≡ table_work n h
+  same_table h k same = λ i. sum_by (λ e. entry_work n e.1.0) (m.entries (same i))
+
+  -- who has its report out may tell one thing more
+  told-work : (reported : Bool) (note : Note) (told : List Note) → sum_by (note_work n) (notes_after reported note told) ≡ sum_by (note_work n) told + (if reported then note_work n note else 0)
+  told-work true note told = sum_by_push (note_work n) told note
+  told-work false note told = omega arith
+
+  -- fewer tokens
+  closed-work : (t : Token) (tokens : List Token) → In t tokens → length (filter (λ u. not (u.number == t.number)) tokens) < length tokens
+  closed-work t [] i = absurd i
+  closed-work t (u ∷ tokens) i = ⊎_elim
+      (λ (same : t ≡ u). let test = eq-eqb u.number t.number (ap (λ (x : Token). x.number) (sym same)) in rw test (omega (arith, length-filter_le (λ (v : Token). not (v.number == t.number)) tokens)))
+      (λ later. by_test (closed-work t tokens later) (not (u.number == t.number)))
+      i
+    where
+      by_test : length (filter (λ u. not (u.number == t.number)) tokens) < length tokens → (b : Bool)
+          → length (cond b (u ∷ filter (λ u. not (u.number == t.number)) tokens) (filter (λ u. not (u.number == t.number)) tokens)) < suc (length tokens)
+      by_test less true = omega arith
+      by_test less false = omega arith
+
+  -- ---- one event
+
+  module _ (s t : State) where
+    abbrev Less : State → Type 0
+    Less u = work_of u < work_of s
+
+    arrived : (u : State) → Goes u ≡ Goes t → Less u → Less t
+    arrived u e less = subst Less (goes_to u t e) less
+
+    -- ---- take
+
+    -- an Inc or a Dec changes no table
+    counts : (a : ℕ) (c c' : Cell) (letter : Letter) (ls : List Letter) → seat_at s.actors a ≡ seat c (letter ∷ ls) → letter_work n letter ≡ count_work n → note_work n (note_of a letter) ≡ suc (news_work n)
+        → c'.holdings.foreign ≡ c.holdings.foreign → c'.dirty ≡ true → c'.reported ≡ false → Less (record s { actors = set s.actors a (seat c' ls); notes = notes_after c.reported (note_of a letter) s.notes })
+    counts a c c' letter ls at one tells same dirty quiet = by_report c.reported refl
+      where
+        by_report : (q : Bool) → c.reported ≡ q → Less (record s { actors = set s.actors a (seat c' ls); notes = notes_after q (note_of a letter) s.notes })
+        by_report true is =
+            let was = seat_is c (letter ∷ ls) c.dirty true refl is in
+            let now = seat_is c' ls true false dirty quiet in
+            let mail = sum_by-cons (letter_work n) letter ls in
+            let told = told-work true (note_of a letter) s.notes in
+            omega (arith, one, tells, ap (seat_work n) at, was, now, mail, told, same_table c.holdings c'.holdings same, set-work n s.actors a (seat c' ls) (present_below s.actors a _ at))
+        by_report false is =
+            let was = seat_is c (letter ∷ ls) c.dirty false refl is in
+            let now = seat_is c' ls true false dirty quiet in
+            let mail = sum_by-cons (letter_work n) letter ls in
+            omega (arith, one, ap (seat_work n) at, was, now, mail, same_table c.holdings c'.holdings same, set-work n s.actors a (seat c' ls) (present_below s.actors a _ at))
+
+    confirm : (a token : ℕ) (c : Cell) (ls : List Letter) → seat_at s.actors a ≡ seat c (Confirm token ∷ ls) → Less (record s { actors = set s.actors a (seat c ls); notes = notes_after c.reported (notes.Ack token a) s.notes })
+    confirm a token c ls at = by_report c.reported refl
+      where
+        by_report : (q : Bool) → c.reported ≡ q → Less (record s { actors = set s.actors a (seat c ls); notes = notes_after q (notes.Ack token a) s.notes })
+        by_report true is = omega (arith, ap (seat_work n) at, sum_by-cons (letter_work n) (Confirm token) ls, told-work true (notes.Ack token a) s.notes, set-work n s.actors a (seat c ls) (present_below s.actors a _ at))
+        by_report false is = omega (arith, ap (seat_work n) at, sum_by-cons (letter_work n) (Confirm token) ls, set-work n s.actors a (seat c ls) (present_below s.actors a _ at))
+
+    takes : (a : ℕ) (c : Cell) (f : Option Frame) (ls : List Letter) → seat_at s.actors a ≡ seat c ls → take_is_choice_at (seat c ls) ≡ false → take_in s a c f ls ≡ Goes t → Less t
+    takes a c (Some f) ls at calm e = absurd (not_enabled t e)
+    takes a c None [] at calm e = absurd (not_enabled t e)
+    takes a c None (App behaviour args load ∷ ls) at calm e = absurd (false≢true (sym calm))
+    takes a c None (Inc es ∷ ls) at calm e = arrived _ e (counts a c (cell_after s.program a (Inc es) c) (Inc es) ls at refl refl (alike_raise a es c.holdings).foreign refl refl)
+    takes a c None (Dec es ∷ ls) at calm e = arrived _ e (counts a c (cell_after s.program a (Dec es) c) (Dec es) ls at refl refl (alike_lower a es c.holdings).foreign refl refl)
+    takes a c None (Confirm token ∷ ls) at calm e = arrived _ e (confirm a token c ls at)
+
+    -- ---- collect
+
+    collects : (a : ℕ) (c : Cell) (f : Option Frame) (q : Bool) (ls : List Letter) → c.dirty ≡ q → seat_at s.actors a ≡ seat c ls → collect_in s a c f q ls ≡ Goes t → Less t
+    collects a c (Some f) q ls is at e = absurd (not_enabled t e)
+    collects a c None false ls is at e = absurd (not_enabled t e)
+    collects a c None true ls is at e =
+        let marked = is_marked a c in
+        let back = given_back marked c.holdings in
+        let swept : Cell = record c { holdings = sweep marked a c.holdings; dirty = false } in
+        arrived _ e (omega (
+          arith,
+          decs-work n (by_owner back) (set s.actors a (seat swept ls)),
+          more_times (length (by_owner back)) (length back) (count_work n) (by_owner-length back),
+          sweep-work n marked a c.holdings,
+          set-work n s.actors a (seat swept ls) (present_below s.actors a _ at),
+          ap (seat_work n) at,
+          seat_is c ls true c.reported is refl,
+        ))
+
+    -- ---- block
+
+    blocks : (a : ℕ) (c : Cell) (ls : List Letter) (q : Bool) → may_block c ls ≡ q → seat_at s.actors a ≡ seat c ls → block_in s a c ls q ≡ Goes t → Less t
+    blocks a c ls false may at e = absurd (not_enabled t e)
+    blocks a c ls true may at e =
+        let quiet = (may_report c ls may).unreported in
+        arrived _ e (omega (
+          arith,
+          set-work n s.actors a (seat (reporting c) ls) (present_below s.actors a _ at),
+          ap (seat_work n) at,
+          seat_is c ls c.dirty false refl quiet,
+          sum_by_push (note_work n) s.notes (notes.Block a c.holdings.count (held_actors c.holdings)),
+        ))
+
+    -- ---- a go that mints
+
+    mints : (a : ℕ) (c : Cell) (ls : List Letter) (stop : Stop) → seat_at s.actors a ≡ seat c ls → (load : List Loaded) (e : Loaded) (es : List Loaded) → lacking a (with_made stop.turn.made c.holdings) load ≡ e ∷ es
+        → Less (record s { actors = mint a c ls (owner_of e.0) (to_mint (owner_of e.0) (e ∷ es)) s.actors })
+    mints a c ls stop at load e es lacks =
+        let owner = owner_of e.0 in
+        let things = to_mint owner (e ∷ es) in
+        let held = held_made stop.turn.made c.holdings in
+        let first : things ≡ (e.0, 256) ∷ to_mint owner es = rw (eq-eqb owner owner refl) refl in
+        let one : held_in c.holdings e.0 ≡ 1 = sym (held e.0) ∙ eqb-true _ 1 (and_parts (not (owner == a)) _ (first_passes (λ x. is_lacking a (with_made stop.turn.made c.holdings) x.0) load e es lacks)).1 in
+        let known = λ (x : Thing) (some : 0 < amount_of x things).
+        subst (λ k. 0 < k) (held x) (to_mint_theirs a owner (with_made stop.turn.made c.holdings) load x (subst (λ q. 0 < amount_of x (to_mint owner q)) (sym lacks) some)).1 in
+        let table = subst (λ ts. table_work n (mint_all ts c.holdings) + suc (count_work n) ≤ table_work n c.holdings) (sym first)
+        (mint_first-work n (e.0, 256) (to_mint owner es) c.holdings (subst AllCounted first (counted_mint owner (e ∷ es))) (λ x some. known x (subst (λ ts. 0 < amount_of x ts) (sym first) some)) one) in
+        let minted : Cell = record c { holdings = mint_all things c.holdings } in
+        omega (arith, table, push-work n owner (Inc things) (set s.actors a (seat minted ls)), set-work n s.actors a (seat minted ls) (present_below s.actors a _ at), ap (seat_work n) at)
+
+    posts : (a : ℕ) (c : Cell) (ls : List Letter) (stop : Stop) → seat_at s.actors a ≡ seat c ls → (after : Cell) (to behaviour : ℕ) (args : List Value) (load lack : List Loaded) → lacking a (with_made stop.turn.made c.holdings) load ≡ lack
+        → is_empty lack ≡ false → Less (post_or_mint s a c after ls stop to behaviour args load lack)
+    posts a c ls stop at after to behaviour args load [] lacks some = absurd (false≢true (sym some))
+    posts a c ls stop at after to behaviour args load (e ∷ es) lacks some = mints a c ls stop at load e es lacks
+
+    acts : (a : ℕ) (c : Cell) (ls : List Letter) (f : Frame) (stop : Stop) → seat_at s.actors a ≡ seat c ls → (act : Act) → act_is_choice a (with_made stop.turn.made c.holdings) act ≡ false
+        → act_in s a c ls f stop act ≡ Goes t → Less t
+    acts a c ls f stop at End calm e = absurd (false≢true (sym calm))
+    acts a c ls f stop at (Print v) calm e = absurd (false≢true (sym calm))
+    acts a c ls f stop at (New kind register) calm e = absurd (false≢true (sym calm))
+    acts a c ls f stop at (Post to behaviour args) calm e =
+        let h = with_made stop.turn.made c.holdings in
+        arrived _ e (posts a c ls stop at (turned stop (Some f) c.dirty c) to behaviour args (load_from a h args) (lacking_from a h args) refl calm)
+
+    goes : (a : ℕ) (c : Cell) (f : Option Frame) (ls : List Letter) → seat_at s.actors a ≡ seat c ls → go_is_choice s.program a c f ≡ false → go_in s a c f ls ≡ Goes t → Less t
+    goes a c None ls at calm e = absurd (not_enabled t e)
+    goes a c (Some f) ls at calm e = let stop = turn_of_cell s.program a c f in acts a c ls (stopped_at f stop) stop at stop.act calm e
+
+    -- ---- the detector's events
+
+    hears : (ns : List Note) → s.notes ≡ ns → hear_in s ns ≡ Goes t → Less t
+    hears [] is e = absurd (not_enabled t e)
+    hears (notes.Block a count held ∷ ns) is e =
+        arrived _ e (omega (arith, ap (sum_by (note_work n)) is, sum_by-cons (note_work n) (notes.Block a count held) ns))
+    hears (notes.Unblock a ∷ ns) is e =
+        arrived _ e (omega (arith, ap (sum_by (note_work n)) is, sum_by-cons (note_work n) (notes.Unblock a) ns, length-filter_le (λ (u : Token). not (has u.members a)) s.detector.tokens))
+    hears (notes.Ack token a ∷ ns) is e =
+        arrived _ e (omega (arith, ap (sum_by (note_work n)) is, sum_by-cons (note_work n) (notes.Ack token a) ns, length-map s.detector.tokens (note_ack token a)))
+
+    scanned-work : (d : Detector) (members : List ℕ) → d.news ≡ true → length members ≤ n → detector_work n (scanned d members) + 2 * length members < detector_work n d
+    scanned-work d [] news few = rw news (omega arith)
+    scanned-work d (a ∷ members) news few = rw news (omega (arith, few, length-append d.tokens (record { number = suc d.opened; members = a ∷ members; acked = [] } ∷ [])))
+
+    scans : length (closed_set s.detector) ≤ n → (news : Bool) → s.detector.news ≡ news → scan_in s (closed_set s.detector) news ≡ Goes t → Less t
+    scans few false is e = absurd (not_enabled t e)
+    scans few true is e =
+        arrived _ e (omega (arith, scanned-work s.detector (closed_set s.detector) is few, asks-work n (closed_set s.detector) (suc s.detector.opened) s.actors))
+
+    reaps_one : (token : Token) → In token s.detector.tokens → (q : Bool) → reap_in s token q ≡ Goes t → Less t
+    reaps_one token listed false e = absurd (not_enabled t e)
+    reaps_one token listed true e = arrived _ e (omega (arith, closed-work token s.detector.tokens listed, reaped-work n token.members token.members [] s.actors))
+
+    reaps : (number : ℕ) (found : Option Token) → token_numbered number s.detector ≡ found → reap_found s found ≡ Goes t → Less t
+    reaps number None at e = absurd (not_enabled t e)
+    reaps number (Some token) at e = reaps_one token (numbered_is_open s.detector number token at).0 (all_acked token) e
+
+    -- ---- all events
+
+    pub leaves_less : length (closed_set s.detector) ≤ n → (e : Event) → next s e ≡ Goes t → is_choice s e ≡ false → Less t
+    leaves_less few (Take a) e calm = by_seat (seat_at s.actors a) refl e calm
+      where
+        by_seat : (o : Option Seat) → seat_at s.actors a ≡ o → take_at s a o ≡ Goes t → take_is_choice_at o ≡ false → Less t
+        by_seat None at e calm = absurd (not_enabled t e)
+        by_seat (Some o) at e calm = takes a o.cell o.cell.frame o.mail at calm e
+    leaves_less few (Go a) e calm = by_seat (seat_at s.actors a) refl e calm
+      where
+        by_seat : (o : Option Seat) → seat_at s.actors a ≡ o → go_at s a o ≡ Goes t → go_is_choice_at s.program a o ≡ false → Less t
+        by_seat None at e calm = absurd (not_enabled t e)
+        by_seat (Some o) at e calm = goes a o.cell o.cell.frame o.mail at calm e
+    leaves_less few (Collect a) e calm = by_seat (seat_at s.actors a) refl e
+      where
+        by_seat : (o : Option Seat) → seat_at s.actors a ≡ o → collect_at s a o ≡ Goes t → Less t
+        by_seat None at e = absurd (not_enabled t e)
+        by_seat (Some o) at e = collects a o.cell o.cell.frame o.cell.dirty o.mail refl at e
+    leaves_less few (Block a) e calm = by_seat (seat_at s.actors a) refl e
+      where
+        by_seat : (o : Option Seat) → seat_at s.actors a ≡ o → block_at s a o ≡ Goes t → Less t
+        by_seat None at e = absurd (not_enabled t e)
+        by_seat (Some o) at e = blocks a o.cell o.mail (may_block o.cell o.mail) refl at e
+    leaves_less few Hear e calm = hears s.notes refl e
+    leaves_less few Scan e calm = scans few s.detector.news refl e
+    leaves_less few (Reap number) e calm = reaps number (token_numbered number s.detector) refl e

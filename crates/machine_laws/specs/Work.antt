@@ -1,0 +1,67 @@
+-- What a state has left to do besides choices, as a number. What a thing can still bring about counts
+-- less than the thing itself, so each event that is no choice makes the number smaller.
+use Rattle.std.specs.Prelude.{ℕ, suc, ◌+◌, ◌*◌, ◌==◌, if◌then◌else◌, Option, None, Some, length, sum_by}
+use Rattle.std.specs.FinMap as m
+use Rattle.letter_kinds.specs.declared.letter.Letter.{Letter}
+use Rattle.letter_kinds.specs.declared.letter.Letter.TheVariants.{App, Inc, Dec, Confirm}
+use Rattle.letter_kinds.specs.declared.note.Note.{Note}
+use Rattle.letter_kinds.specs.declared.note.Note.TheVariants.{Block, Unblock, Ack}
+use Rattle.letter_kinds.specs.Detector.{Detector}
+use Rattle.letter_kinds.specs.Holdings.{Holdings}
+use Rattle.machine_rules.specs.Actors.{Actors, Seat}
+use Rattle.machine_rules.specs.State.{State}
+
+-- ---- one thing to do, where n actors were made
+
+-- news leads to a scan: it opens a token, which counts 1 until it is reaped, and asks at most n actors
+abbrev pub news_work : ℕ → ℕ
+news_work n = 2 + 2 * n
+
+-- a Block or an Unblock under way is news; an Ack counts 1
+abbrev pub note_work : ℕ → Note → ℕ
+note_work n (Block a count held) = suc (news_work n)
+note_work n (Unblock a) = suc (news_work n)
+note_work n (Ack token a) = 1
+
+-- an actor that has no report out may post a Block
+abbrev pub silence_work : ℕ → ℕ
+silence_work n = 2 + news_work n
+
+-- an Inc or a Dec makes an actor dirty, which counts 1 until it collects, and may make it post an
+-- Unblock and so have no report out
+abbrev pub count_work : ℕ → ℕ
+count_work n = 3 + news_work n + silence_work n
+
+-- a Confirm is answered by an Ack; the take of an application letter is a choice
+abbrev pub letter_work : ℕ → Letter → ℕ
+letter_work n (App behaviour args load) = 0
+letter_work n (Inc things) = count_work n
+letter_work n (Dec things) = count_work n
+letter_work n (Confirm token) = 2
+
+-- an entry of a table may go back by a Dec, and at count 1 it may be minted, which sends an Inc
+abbrev pub entry_work : ℕ → ℕ → ℕ
+entry_work n count = count_work n + (if count == 1 then suc (count_work n) else 0)
+
+-- ---- a state
+
+abbrev pub table_work : ℕ → Holdings → ℕ
+table_work n h = sum_by (λ e. entry_work n e.1.0) (m.entries h.foreign)
+
+-- an actor's table, its letters, and whether it is dirty and has no report out
+abbrev pub seat_work : ℕ → Option Seat → ℕ
+seat_work n None = 0
+seat_work n (Some o) =
+    table_work n o.cell.holdings + sum_by (letter_work n) o.mail + (if o.cell.dirty then 1 else 0) + (if o.cell.reported then 0 else silence_work n)
+
+abbrev pub actors_work : ℕ → Actors → ℕ
+actors_work n actors = sum_by (seat_work n) actors
+
+-- each open token, and news
+abbrev pub detector_work : ℕ → Detector → ℕ
+detector_work n d = length d.tokens + (if d.news then news_work n else 0)
+
+abbrev pub work_left : State → ℕ
+work_left s =
+    let n = length s.actors in
+    actors_work n s.actors + detector_work n s.detector + sum_by (note_work n) s.notes
