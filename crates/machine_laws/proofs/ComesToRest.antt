@@ -5,7 +5,7 @@ use Rattle.machine_laws.proofs.LeavesLess.{leaves_less, work_of}
 use Rattle.machine_laws.proofs.Scanning.{few_asked}
 use Rattle.machine_laws.proofs.WholeRuns.{event_keeps, run_has_facts}
 use Rattle.machine_laws.specs.AllFacts.{AllFacts}
-use Rattle.machine_laws.specs.Laws.{ChoicesAreAwaited, EventsLeaveLess}
+use Rattle.machine_laws.specs.Laws.{RestsBetweenChoices, EventsLeaveLess}
 use Rattle.machine_laws.specs.Work.{work_left}
 use Rattle.machine_rules.specs.Agreement.{people_of}
 use Rattle.machine_rules.specs.Next.{next}
@@ -25,14 +25,14 @@ no_choice : (choice : Bool) (e : Event) (later : List Event) → (if choice then
 no_choice true e later none = cc
 no_choice false e later none = (refl, none)
 
-awaited : (later : List Event) (p : PlainState) (s t : State) → AllFacts p s → Leads s later t → choices later s ≡ [] → length later + work_left t ≤ work_left s
-awaited [] p s t facts same none = omega (arith, ap work_left same)
-awaited (e ∷ later) p s t facts (u, goes, leads) none =
+rests : (later : List Event) (p : PlainState) (s t : State) → AllFacts p s → Leads s later t → choices later s ≡ [] → length later + work_left t ≤ work_left s
+rests [] p s t facts same none = omega (arith, ap work_left same)
+rests (e ∷ later) p s t facts (u, goes, leads) none =
     let calm = no_choice (is_choice s e) e (choices_after (choices later) (next s e)) none in
     let after = event_keeps p s u e facts goes in
-    omega (arith, event_leaves_less p s u e facts goes calm.0, awaited later after.0 u t after.2 leads (sym (ap (choices_after (choices later)) goes) ∙ calm.1))
+    omega (arith, event_leaves_less p s u e facts goes calm.0, rests later after.0 u t after.2 leads (sym (ap (choices_after (choices later)) goes) ∙ calm.1))
 
-pub choices_are_awaited : ChoicesAreAwaited
-choices_are_awaited program book later s t run leads none =
+pub rests_between_choices : RestsBetweenChoices
+rests_between_choices program book later s t run leads none =
     let facts = run_has_facts program book s run in
-    awaited later facts.0 s t facts.2 leads none
+    rests later facts.0 s t facts.2 leads none

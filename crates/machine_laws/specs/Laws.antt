@@ -81,6 +81,6 @@ abbrev pub EventsLeaveLess : Type 0
 EventsLeaveLess = (p : PlainState) (s t : State) (e : Event) → AllFacts p s → next s e ≡ Goes t → is_choice s e ≡ false → work_left t < work_left s
 
 -- so, after each prefix of a run, no more events follow without a choice than there is work left
-abbrev pub ChoicesAreAwaited : Type 0
-ChoicesAreAwaited = (program : Program) (book later : List Event) (s t : State) → IsRun program book s → Leads s later t → choices later s ≡ [] →
+abbrev pub RestsBetweenChoices : Type 0
+RestsBetweenChoices = (program : Program) (book later : List Event) (s t : State) → IsRun program book s → Leads s later t → choices later s ≡ [] →
     length later + work_left t ≤ work_left s

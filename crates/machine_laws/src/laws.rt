@@ -1,6 +1,6 @@
 // What holds of every program, every run and each of its prefixes.
 
-ghost use Rattle.machine_laws.specs.Laws.{StartHasAllFacts, EventsKeepAllFacts, RunsHaveAllFacts, NeverTooEarly, ExactlyAtQuiet, DetectorRestsAtQuiet, EventsLeaveLess, ChoicesAreAwaited};
+ghost use Rattle.machine_laws.specs.Laws.{StartHasAllFacts, EventsKeepAllFacts, RunsHaveAllFacts, NeverTooEarly, ExactlyAtQuiet, DetectorRestsAtQuiet, EventsLeaveLess, RestsBetweenChoices};
 
 /// Where a run begins, all facts hold: the machine agrees with the one that frees nothing, counts
 /// balance and are never overdrawn, each actor knows what it reaches, clean cells are swept, and
@@ -45,5 +45,5 @@ pub fn the_detector_at_quiet()
 /// reported and asked comes to an end, whatever the order.
 pub fn the_machine_comes_to_rest()
     ensures less { EventsLeaveLess }
-    ensures run { ChoicesAreAwaited }
+    ensures run { RestsBetweenChoices }
 {}
