@@ -26,7 +26,8 @@ pub(crate) fn leap_if_zero(number: u64, label: Name) -> Effect
 /// Makes an actor of the kind of this name; an unknown kind makes nothing.
 pub(crate) fn new_actor(program: &Program, kind: Name, into: u64) -> Effect
     requires { length program.now.kinds ≤ 256 }
-    ensures { result ≡ option_map_or (λ k. Effect.Acts (Act.New k into)) (kind_named program.now kind) Effect.Next }
+    ensures { let known = kind_named program.now kind in
+        result ≡ option_map_or (λ k. Effect.Acts (Act.New k into)) known Effect.Next }
 {
     match find_kind(program, kind) {
         Some(kind) => Effect::Acts(Act::New { kind, into }),

@@ -1,4 +1,4 @@
-// Reading and writing registers, fields and rows.
+// Values of registers, rows and kinds.
 
 ghost use Rattle.std.specs.Prelude.{◌≡◌, ◌+◌, ◌<◌, ◌≤◌, length, map, position, slice_index_or, IfSome, OnOk, OnErr, ◌++◌, ◌∷◌, []};
 ghost use Rattle.std.specs.Option.{option_map_or};
@@ -20,17 +20,6 @@ pub(crate) fn gather(registers: &RegisterFile, numbers: &[u64]) -> Args
         args.push(registers.read(*r));
     }
     args
-}
-
-/// What a field holds, null past the last.
-pub(crate) fn field(values: &Args, f: u64) -> Value
-    ensures { result ≡ slice_index_or values.now f Null }
-{
-    if f < values.len() {
-        values.at(f)
-    } else {
-        Value::Null
-    }
 }
 
 /// A row of the values of so many registers, behind those that were made.

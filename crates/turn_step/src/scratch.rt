@@ -3,7 +3,6 @@
 ghost use Rattle.std.specs.Prelude.{◌≡◌, slice_index_or, slice_set};
 ghost use Rattle.orca_names.specs.declared.names.Value.TheVariants.{Null};
 
-use crate::parts::field;
 use orca_names::{Fields, Value};
 use turn_rules::{Effect, RegisterFile};
 
@@ -26,13 +25,18 @@ impl Scratch {
     pub(crate) fn field(&self, f: u64) -> Value
         ensures { result ≡ slice_index_or self.now.fields.values f Null }
     {
-        field(&self.fields.values, f)
+        if f < self.fields.values.len() {
+            self.fields.values.at(f)
+        } else {
+            Value::Null
+        }
     }
 
     /// Puts a value into a register, and goes on.
     pub(crate) fn put(&mut self, d: u64, value: Value) -> Effect
         ensures goes_on { result ≡ Effect.Next }
-        ensures turn { self.new ≡ record self.old { registers = slice_set self.old.registers d value } }
+        ensures turn { let registers = slice_set self.old.registers d value in
+            self.new ≡ record self.old { registers = registers } }
     {
         self.registers.write(d, value);
         Effect::Next
@@ -41,7 +45,8 @@ impl Scratch {
     /// Stores a value into a field, and goes on; past the last nothing is stored.
     pub(crate) fn store(&mut self, f: u64, value: Value) -> Effect
         ensures goes_on { result ≡ Effect.Next }
-        ensures turn { self.new ≡ record self.old { fields = record self.old.fields { values = slice_set self.old.fields.values f value } } }
+        ensures turn { let values = slice_set self.old.fields.values f value in
+            self.new ≡ record self.old { fields = record self.old.fields { values = values } } }
     {
         if f < self.fields.values.len() {
             self.fields.values.set(f, value);

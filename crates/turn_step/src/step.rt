@@ -71,7 +71,8 @@ fn put_row(
 ) -> Result<Effect, NoMemory>
     requires { base + length made.old.items < 2 ^ 64 }
     ensures ok { (p : Setting) → p.me ≡ me → p.base ≡ base → IfOk result (λ effect.
-        step_of p (Instr.Row d values.now) (turn_of turn.old made.old.items) ≡ (effect, turn_of turn.new made.new.items)) }
+        step_of p (Instr.Row d values.now) (turn_of turn.old made.old.items)
+        ≡ (effect, turn_of turn.new made.new.items)) }
     ensures rows { length made.new.items ≤ length made.old.items + 1 }
     ensures turn { OnErr result (turn.new ≡ turn.old) }
     ensures made { OnErr result (made.new.items ≡ made.old.items) }
@@ -93,7 +94,8 @@ fn place<R: Rows>(
     i: u64,
 ) -> Value
     ensures { let t = turn_of turn.now made.now in
-        result ≡ place_of (record { program = program.now; me = me; base = base; rows = R.rows rows.now }) t (value_at t s) i }
+        result ≡ place_of
+        (record { program = program.now; me = me; base = base; rows = R.rows rows.now }) t (value_at t s) i }
 {
     match turn.value(s) {
         Value::Obj(n) => look(program, me, base, rows, made, n, i),
