@@ -4,7 +4,7 @@ use Rattle.orca_names.specs.declared.names.Value.{Value}
 use Rattle.behaviour_code.specs.declared.instr.Instr.{Instr}
 use Rattle.behaviour_code.specs.Find.{is_label}
 use Rattle.turn_rules.specs.Segment.{Turn}
-use Rattle.turn_step.specs.declared.step.Scratch.{Scratch}
+use Rattle.turn_step.specs.declared.scratch.Scratch.{Scratch}
 
 -- a turn that made these rows so far
 abbrev pub turn_of : Scratch → List (List Value) → Turn

@@ -1,36 +1,14 @@
-// Reading and writing registers, fields and rows.
+// Values of registers, rows and kinds.
 
 ghost use Rattle.std.specs.Prelude.{◌≡◌, ◌+◌, ◌<◌, ◌≤◌, length, map, position, slice_index_or, IfSome, OnOk, OnErr, ◌++◌, ◌∷◌, []};
 ghost use Rattle.std.specs.Option.{option_map_or};
 ghost use Rattle.orca_names.specs.declared.names.Value.TheVariants.{Null};
 ghost use Rattle.behaviour_code.specs.Find.{is_kind, kind_named};
-ghost use Rattle.turn_rules.specs.Segment.{Setting, number_of, one_if, row_in, value_eq};
+ghost use Rattle.turn_rules.specs.Segment.{Setting, row_in};
 
 use behaviour_code::{Kind, Name, Program};
 use orca_names::{ActorName, Args, NoMemory, ObjName, Row, Rows, Value};
 use turn_rules::RegisterFile;
-
-/// The number of a value; one that is no number counts as 0.
-pub(crate) fn number(value: Value) -> u64
-    ensures { result ≡ number_of value }
-{
-    match value {
-        Value::Num(n) => n,
-        _ => 0,
-    }
-}
-
-pub(crate) fn one_if(holds: bool) -> u64
-    ensures { result ≡ one_if holds }
-{
-    if holds { 1 } else { 0 }
-}
-
-pub(crate) fn same(a: Value, b: Value) -> bool
-    ensures { result ≡ value_eq a b }
-{
-    a == b
-}
 
 /// The values of so many registers.
 pub(crate) fn gather(registers: &RegisterFile, numbers: &[u64]) -> Args
@@ -42,17 +20,6 @@ pub(crate) fn gather(registers: &RegisterFile, numbers: &[u64]) -> Args
         args.push(registers.read(*r));
     }
     args
-}
-
-/// What a field holds, null past the last.
-pub(crate) fn field(values: &Args, f: u64) -> Value
-    ensures { result ≡ slice_index_or values.now f Null }
-{
-    if f < values.len() {
-        values.at(f)
-    } else {
-        Value::Null
-    }
 }
 
 /// A row of the values of so many registers, behind those that were made.

@@ -5,7 +5,8 @@ ghost use Rattle.behaviour_code.specs.Find.{body_of, is_label};
 ghost use Rattle.turn_rules.specs.Segment.{Setting, Stop, run_from, segment_of};
 ghost use Rattle.turn_step.specs.Scratch.{turn_of, place_after};
 
-use crate::step::{Scratch, step};
+use crate::scratch::Scratch;
+use crate::step::step;
 use behaviour_check::Checked;
 use behaviour_code::{Instr, Name, Program};
 use orca_names::{ActorName, Fields, NoMemory, Row, Rows};

@@ -1,21 +1,16 @@
 // One instruction.
 
-ghost use Rattle.std.specs.Prelude.{◌≡◌, ◌+◌, ◌<◌, ◌≤◌, ◌^◌, length, slice_index_or, IfOk, OnErr};
-ghost use Rattle.orca_names.specs.declared.names.Value.TheVariants.{Null};
-ghost use Rattle.turn_rules.specs.Segment.{Setting, number_of, step_of};
+ghost use Rattle.std.specs.Prelude.{◌≡◌, ◌+◌, ◌<◌, ◌≤◌, ◌^◌, length, IfOk, OnErr};
+ghost use Rattle.turn_rules.specs.Segment.{Setting, place_of, step_of, value_at};
 ghost use Rattle.turn_step.specs.Scratch.{turn_of};
 
-use crate::parts::{field, find_kind, gather, look, make_row, number, one_if, same};
-use behaviour_code::{Instr, Program};
-use orca_names::{ActorName, Fields, NoMemory, ObjName, Row, Rows, Value};
-use turn_rules::{Act, Effect, RegisterFile};
-
-/// The registers and fields that a turn works on.
-#[derive(Clone, Copy, Debug)]
-pub(crate) struct Scratch {
-    pub registers: RegisterFile,
-    pub fields: Fields,
-}
+use crate::arithmetic::{difference, is_less, is_same, number, product, sum};
+use crate::effects::{leap_if_zero, new_actor, post, print};
+use crate::parts::{look, make_row};
+use crate::scratch::Scratch;
+use behaviour_code::{Instr, Program, RowRegisters};
+use orca_names::{ActorName, NoMemory, ObjName, Row, Rows, Value};
+use turn_rules::Effect;
 
 /// Does one instruction.
 ///
@@ -38,113 +33,72 @@ pub(crate) fn step<R: Rows>(
     ensures made { OnErr result (made.new.items ≡ made.old.items) }
 {
     match instr {
-        Instr::Drop(d) => {
-            turn.registers.write(*d, Value::Null);
-            Ok(Effect::Next)
-        }
-        Instr::Int(d, n) => {
-            turn.registers.write(*d, Value::Num(*n));
-            Ok(Effect::Next)
-        }
-        Instr::Own(d) => {
-            turn.registers.write(*d, Value::Actor(me));
-            Ok(Effect::Next)
-        }
-        Instr::Copy(d, s) => {
-            let value = turn.registers.read(*s);
-            turn.registers.write(*d, value);
-            Ok(Effect::Next)
-        }
-        Instr::Add(d, a, b) => {
-            let (a, b) = numbers(&turn.registers, *a, *b);
-            turn.registers.write(*d, Value::Num(a.wrapping_add(b)));
-            Ok(Effect::Next)
-        }
-        Instr::Sub(d, a, b) => {
-            let (a, b) = numbers(&turn.registers, *a, *b);
-            turn.registers.write(*d, Value::Num(a.wrapping_sub(b)));
-            Ok(Effect::Next)
-        }
-        Instr::Mul(d, a, b) => {
-            let (a, b) = numbers(&turn.registers, *a, *b);
-            turn.registers.write(*d, Value::Num(a.wrapping_mul(b)));
-            Ok(Effect::Next)
-        }
-        Instr::Less(d, a, b) => {
-            let (a, b) = numbers(&turn.registers, *a, *b);
-            turn.registers.write(*d, Value::Num(one_if(a < b)));
-            Ok(Effect::Next)
-        }
-        Instr::Same(d, a, b) => {
-            let same = same(turn.registers.read(*a), turn.registers.read(*b));
-            turn.registers.write(*d, Value::Num(one_if(same)));
-            Ok(Effect::Next)
-        }
-        Instr::Row(d, values) => {
-            let serial = base + made.len() as u64;
-            make_row(&turn.registers, values.as_slice(), made)?;
-            turn.registers
-                .write(*d, Value::Obj(ObjName { owner: me, serial }));
-            Ok(Effect::Next)
-        }
-        Instr::Get(d, s, i) => {
-            let value = match turn.registers.read(*s) {
-                Value::Obj(n) => look(program, me, base, rows, made.as_slice(), n, *i),
-                _ => Value::Null,
-            };
-            turn.registers.write(*d, value);
-            Ok(Effect::Next)
-        }
-        Instr::Load(d, f) => {
-            let value = field(&turn.fields.values, *f);
-            turn.registers.write(*d, value);
-            Ok(Effect::Next)
-        }
-        Instr::Store(f, s) => {
-            let value = turn.registers.read(*s);
-            if *f < turn.fields.values.len() {
-                turn.fields.values.set(*f, value);
-            }
-            Ok(Effect::Next)
-        }
+        Instr::Drop(d) => Ok(turn.put(*d, Value::Null)),
+        Instr::Int(d, n) => Ok(turn.put(*d, Value::Num(*n))),
+        Instr::Own(d) => Ok(turn.put(*d, Value::Actor(me))),
+        Instr::Copy(d, s) => Ok(turn.put(*d, turn.value(*s))),
+        Instr::Add(d, a, b) => Ok(turn.put(*d, sum(turn.value(*a), turn.value(*b)))),
+        Instr::Sub(d, a, b) => Ok(turn.put(*d, difference(turn.value(*a), turn.value(*b)))),
+        Instr::Mul(d, a, b) => Ok(turn.put(*d, product(turn.value(*a), turn.value(*b)))),
+        Instr::Less(d, a, b) => Ok(turn.put(*d, is_less(turn.value(*a), turn.value(*b)))),
+        Instr::Same(d, a, b) => Ok(turn.put(*d, is_same(turn.value(*a), turn.value(*b)))),
+        Instr::Row(d, values) => put_row(me, base, *d, values, turn, made),
+        Instr::Get(d, s, i) => Ok(turn.put(*d, place(program, me, base, rows, turn, made, *s, *i))),
+        Instr::Load(d, f) => Ok(turn.put(*d, turn.field(*f))),
+        Instr::Store(f, s) => Ok(turn.store(*f, turn.value(*s))),
         Instr::Jump(l) => Ok(Effect::Leap(*l)),
-        Instr::JumpZero(a, l) => {
-            if number(turn.registers.read(*a)) == 0 {
-                Ok(Effect::Leap(*l))
-            } else {
-                Ok(Effect::Next)
-            }
-        }
+        Instr::JumpZero(a, l) => Ok(leap_if_zero(number(turn.value(*a)), *l)),
         Instr::Label(_) => Ok(Effect::Next),
-        Instr::Pin => {
-            turn.fields.pinned = true;
-            Ok(Effect::Next)
-        }
-        Instr::Unpin => {
-            turn.fields.pinned = false;
-            Ok(Effect::Next)
-        }
-        Instr::New(d, kind) => match find_kind(program, *kind) {
-            Some(kind) => Ok(Effect::Acts(Act::New { kind, into: *d })),
-            None => Ok(Effect::Next),
-        },
-        Instr::Send(to, behaviour, values) => match turn.registers.read(*to) {
-            Value::Actor(to) => Ok(Effect::Acts(Act::Post {
-                to,
-                behaviour: *behaviour,
-                args: gather(&turn.registers, values.as_slice()),
-            })),
-            _ => Ok(Effect::Next),
-        },
-        Instr::Print(a) => Ok(Effect::Acts(Act::Print {
-            value: turn.registers.read(*a),
-        })),
+        Instr::Pin => Ok(turn.set_pinned(true)),
+        Instr::Unpin => Ok(turn.set_pinned(false)),
+        Instr::New(d, kind) => Ok(new_actor(program, *kind, *d)),
+        Instr::Send(to, behaviour, values) => Ok(post(turn, *to, *behaviour, values)),
+        Instr::Print(a) => Ok(print(turn.value(*a))),
     }
 }
 
-/// The numbers of two registers.
-fn numbers(registers: &RegisterFile, a: u64, b: u64) -> (u64, u64)
-    ensures { result ≡ (number_of (slice_index_or registers.now a Null), number_of (slice_index_or registers.now b Null)) }
+/// Makes a row of the values of so many registers, puts its object into a register, and goes on.
+///
+/// # Errors
+/// Where memory is refused, nothing changes.
+fn put_row(
+    me: ActorName,
+    base: u64,
+    d: u64,
+    values: &RowRegisters,
+    turn: &mut Scratch,
+    made: &mut Vec<Row>,
+) -> Result<Effect, NoMemory>
+    requires { base + length made.old.items < 2 ^ 64 }
+    ensures ok { (p : Setting) → p.me ≡ me → p.base ≡ base → IfOk result (λ effect.
+        step_of p (Instr.Row d values.now) (turn_of turn.old made.old.items)
+        ≡ (effect, turn_of turn.new made.new.items)) }
+    ensures rows { length made.new.items ≤ length made.old.items + 1 }
+    ensures turn { OnErr result (turn.new ≡ turn.old) }
+    ensures made { OnErr result (made.new.items ≡ made.old.items) }
 {
-    (number(registers.read(a)), number(registers.read(b)))
+    let serial = base + made.len() as u64;
+    make_row(&turn.registers, values.as_slice(), made)?;
+    Ok(turn.put(d, Value::Obj(ObjName { owner: me, serial })))
+}
+
+/// The value at a place of the row of a register's object, null where there is none.
+fn place<R: Rows>(
+    program: &Program,
+    me: ActorName,
+    base: u64,
+    rows: &R,
+    turn: &Scratch,
+    made: &[Row],
+    s: u64,
+    i: u64,
+) -> Value
+    ensures { let t = turn_of turn.now made.now in
+        result ≡ place_of
+        (record { program = program.now; me = me; base = base; rows = R.rows rows.now }) t (value_at t s) i }
+{
+    match turn.value(s) {
+        Value::Obj(n) => look(program, me, base, rows, made, n, i),
+        _ => Value::Null,
+    }
 }

@@ -253,7 +253,7 @@ fn rows_and_fields(rt: HostRuntime) -> Result<(), Fail> {
 }
 
 #[test]
-fn jumps_and_acts(rt: HostRuntime) -> Result<(), Fail> {
+fn jumps(rt: HostRuntime) -> Result<(), Fail> {
     let alloc = rt.alloc();
     let jumps = vec![in alloc;
         Instr::JumpZero(0, MAIN),
@@ -270,7 +270,12 @@ fn jumps_and_acts(rt: HostRuntime) -> Result<(), Fail> {
     assert_eq!(rt; &left.frame.registers.as_slice()[8..12], want.as_slice());
     assert!(rt; matches!(left.act, Act::End));
     assert_eq!(rt; left.frame.place, 8);
+    Ok(())
+}
 
+#[test]
+fn acts(rt: HostRuntime) -> Result<(), Fail> {
+    let alloc = rt.alloc();
     let prints = vec![in alloc;
         Instr::Jump(START),
         Instr::Print(1),
