@@ -1,9 +1,8 @@
 -- A text of a program is read as that program.
-use Rattle.std.proofs.Common.{option_map, ◌≡◌, ℕ, ◌+◌, ◌<◌, ◌≤◌, ◌^◌, ◌||◌, Bool, true, false, cond, not, List, [], ◌∷◌, ◌++◌, length, map, flat_map, refl, ap, ap₂, sym, ◌∙◌, subst, arith, Option, Some, None, Result, Ok, Err, if◌then◌else◌, le-ltb, min, decimal, append-nil, append_assoc, length-append, zero, suc}
+use Rattle.std.proofs.Common.{option_map, ◌≡◌, ℕ, ◌+◌, ◌<◌, ◌≤◌, ◌^◌, ◌||◌, Bool, true, false, cond, not, List, [], ◌∷◌, ◌++◌, length, map, flat_map, refl, ap, ap₂, sym, ◌∙◌, subst, arith, Option, Some, None, Result, Ok, Err, if◌then◌else◌, le-ltb, min, decimal, append-nil, append_assoc, length-append, zero, suc, IfOk, IfErr, OnOk}
 use Rattle.text_lines.specs.Lines.{line_fault, lines_of}
 use Rattle.text_lines.specs.declared.LineKind.{LineKind}
 use Rattle.behaviour_text.proofs.Sound.{text_sound}
-use Rattle.std.proofs.Common.{IfOk, IfErr, OnOk}
 use Rattle.behaviour_text.proofs.Places.{first_fault_read}
 use Rattle.behaviour_text.proofs.Said.{Lines}
 use Rattle.behaviour_text.proofs.Reread.{number_read, numeral_fits, name_fits, nones}

@@ -1,7 +1,6 @@
 -- The canonical text of a program is a text of it.
 use Rattle.behaviour_text.proofs.Choices.{both, and_true, either, neither, or_right, or_false, each_append}
-use Rattle.std.proofs.Common.{◌≡◌, ℕ, ◌+◌, ◌*◌, ◌<◌, ◌≤◌, ◌^◌, ◌||◌, ◌&&◌, ◌==◌, Bool, true, false, cond, not, List, [], ◌∷◌, ◌++◌, length, map, flat_map, filter, refl, ap, ap₂, sym, ◌∙◌, subst, arith, Option, Some, None, if◌then◌else◌, nat_le, leb-true, le-leb, le-ltb, eqb-true, ne_eqb, append-nil, append_assoc, length-append, decimal, zero, suc, All, inl, inr}
-use Rattle.std.proofs.Common.{Ok}
+use Rattle.std.proofs.Common.{◌≡◌, ℕ, ◌+◌, ◌*◌, ◌<◌, ◌≤◌, ◌^◌, ◌||◌, ◌&&◌, ◌==◌, Bool, true, false, cond, not, List, [], ◌∷◌, ◌++◌, length, map, flat_map, filter, refl, ap, ap₂, sym, ◌∙◌, subst, arith, Option, Some, None, if◌then◌else◌, nat_le, leb-true, le-leb, le-ltb, eqb-true, ne_eqb, append-nil, append_assoc, length-append, decimal, zero, suc, All, inl, inr, Ok}
 use Rattle.behaviour_text.proofs.Again.{again}
 use Rattle.std.specs.List.{slice_split, list_any, list_all}
 use Rattle.std.proofs.lemmas.List.Splits.{slice_split_at, slice_split_none, length-slice_split}

@@ -1,8 +1,7 @@
 -- What is read keeps the limits.
 use Rattle.behaviour_text.proofs.Steps.{end_read, line_read}
 use Rattle.behaviour_text.proofs.Choices.{both, neither, option_or_none, no_fault, each_push}
-use Rattle.std.proofs.Common.{◌≡◌, ℕ, ◌+◌, ◌<◌, ◌≤◌, ◌^◌, ◌&&◌, Bool, true, false, List, [], ◌∷◌, ◌++◌, length, drop, map, refl, sym, subst, arith, Option, Some, None, if◌then◌else◌, nat_lt, ltb-true, ltb-false, length-append, length-drop, zero, suc, All}
-use Rattle.std.proofs.Common.{Result, Ok, Err}
+use Rattle.std.proofs.Common.{◌≡◌, ℕ, ◌+◌, ◌<◌, ◌≤◌, ◌^◌, ◌&&◌, Bool, true, false, List, [], ◌∷◌, ◌++◌, length, drop, map, refl, sym, subst, arith, Option, Some, None, if◌then◌else◌, nat_lt, ltb-true, ltb-false, length-append, length-drop, zero, suc, All, Result, Ok, Err}
 use Rattle.text_lines.specs.Lines.{lines_of}
 use Rattle.std.specs.Str.Parse.{digits_value}
 use Rattle.std.proofs.lemmas.List.{length-map}

@@ -1,13 +1,10 @@
 -- What is read without a fault is what the lines say.
 use Rattle.behaviour_text.proofs.Steps.{kept, end_read, line_read}
 use Rattle.behaviour_text.proofs.Choices.{option_or_none, filter_first, push_grows, each_push, each_weaker}
-use Rattle.std.proofs.Common.{◌≡◌, ℕ, ◌+◌, ◌<◌, ◌≤◌, Bool, true, false, cond, not, List, [], ◌∷◌, ◌++◌, length, map, filter, refl, ap, sym, ◌∙◌, subst, arith, Option, Some, None, IfSome, Result, Ok, Err, if◌then◌else◌, bytes_eq, slice_index_or, append_assoc, append-nil}
+use Rattle.std.proofs.Common.{◌≡◌, ℕ, ◌+◌, ◌<◌, ◌≤◌, Bool, true, false, cond, not, List, [], ◌∷◌, ◌++◌, length, map, filter, refl, ap, sym, ◌∙◌, subst, arith, Option, Some, None, IfSome, Result, Ok, Err, if◌then◌else◌, bytes_eq, slice_index_or, append_assoc, append-nil, zero, suc}
 use Rattle.std.specs.List.{list_any}
-use Rattle.text_lines.specs.Lines.{line_fault}
-use Rattle.text_lines.specs.Lines.{lines_of}
-use Rattle.std.proofs.Common.{zero, suc}
-use Rattle.behaviour_text.proofs.Said.{closed_said}
-use Rattle.behaviour_text.proofs.Said.{Lines, so_far, so_far_at, item_said, on_place, inside_place}
+use Rattle.text_lines.specs.Lines.{line_fault, lines_of}
+use Rattle.behaviour_text.proofs.Said.{closed_said, Lines, so_far, so_far_at, item_said, on_place, inside_place}
 use Rattle.behaviour_text.proofs.Known.{InstrKnown, BehaviourKnown, KindKnown, InKindKnown, InBehaviourKnown, OpenKnown, KnownAt, said_same, texts_kept, finds}
 use Rattle.behaviour_code.specs.Good.{Each}
 use Rattle.behaviour_code.specs.Names.{text_of}

@@ -1,11 +1,9 @@
 -- One line more.
 use Rattle.behaviour_text.proofs.Choices.{option_or_none}
-use Rattle.std.proofs.Common.{option_map, ◌≡◌, ℕ, ◌+◌, ◌<◌, ◌≤◌, Bool, true, false, List, [], ◌∷◌, ◌++◌, length, drop, get_or, map, refl, ap, sym, ◌∙◌, subst, arith, Option, Some, None, Result, Ok, Err, if◌then◌else◌, bytes_eq, slice_range, zero, suc, length-append, add-one}
+use Rattle.std.proofs.Common.{option_map, ◌≡◌, ℕ, ◌+◌, ◌<◌, ◌≤◌, Bool, true, false, List, [], ◌∷◌, ◌++◌, length, drop, get_or, map, refl, ap, sym, ◌∙◌, subst, arith, Option, Some, None, Result, Ok, Err, if◌then◌else◌, bytes_eq, slice_range, zero, suc, length-append, add-one, drop_of_length-le}
 use Rattle.std.specs.List.{list_any}
-use Rattle.std.proofs.Common.{drop_of_length-le}
 use Rattle.std.proofs.lemmas.List.{length-map}
-use Rattle.text_lines.specs.Lines.{lines_of}
-use Rattle.text_lines.specs.Lines.{line_at, tested, line_fault}
+use Rattle.text_lines.specs.Lines.{lines_of, line_at, tested, line_fault}
 use Rattle.text_lines.specs.declared.LineSpan.{LineSpan}
 use Rattle.text_lines.specs.declared.LineKind.{LineKind}
 use Rattle.std.specs.Option.{option_or}

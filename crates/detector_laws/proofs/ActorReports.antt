@@ -2,21 +2,21 @@
 use Rattle.std.proofs.Common.{◌≡◌, ℕ, ◌≢◌, Bool, true, false, if◌then◌else◌, ⊎_elim, List, [], ◌∷◌, ◌++◌, Option, Some, None, arith, refl, ap, sym, subst, ◌∙◌}
 use Rattle.std.proofs.lemmas.Bool.{cases_eq, cond_both, false≢true}
 use Rattle.std.proofs.lemmas.Bool.Decides.{nat_tests}
+use Rattle.letter_kinds.specs.Detector.{Detector}
+use Rattle.letter_kinds.specs.Reports.{block_note, report_of}
+use Rattle.letter_kinds.specs.declared.letter.Letter.{Letter}
+use Rattle.letter_kinds.specs.declared.letter.Letter.TheVariants.{Confirm}
 use Rattle.letter_kinds.specs.declared.note.Note.{Note}
 use Rattle.letter_kinds.specs.declared.note.Note.TheVariants.{Unblock, Ack}
 use Rattle.letter_kinds.specs.declared.note.Report.{Report}
-use Rattle.letter_kinds.specs.Detector.{Detector}
-use Rattle.letter_kinds.specs.Reports.{block_note, report_of}
-use Rattle.detector_laws.specs.Events.{CanBlock, IsFresh, Moves}
-use Rattle.detector_laws.specs.Reports.{Told, Unreported, Reported, Contradictory, with_unblock, with_note, told_by_kept, told_of, IsSilentOn, IsAsTold, ExactReports}
-use Rattle.detector_laws.specs.World.{World, block, take_confirm, ReportsAreExact}
-use Rattle.detector_laws.specs.Cells.{is_reporting}
+use Rattle.machine_rules.specs.Cell.{Cell}
 use Rattle.detector_laws.proofs.Cells.{blocked_reports, some_not_none}
 use Rattle.detector_laws.proofs.Maps.{at_cases}
 use Rattle.detector_laws.proofs.Notes.{with_notes-push, with_note-other_block, with_note-other_unblock, with_notes-silent, IsSilentOn-push}
-use Rattle.letter_kinds.specs.declared.letter.Letter.{Letter}
-use Rattle.letter_kinds.specs.declared.letter.Letter.TheVariants.{Confirm}
-use Rattle.machine_rules.specs.Cell.{Cell}
+use Rattle.detector_laws.specs.Cells.{is_reporting}
+use Rattle.detector_laws.specs.Events.{CanBlock, IsFresh, Moves}
+use Rattle.detector_laws.specs.Reports.{Told, Unreported, Reported, Contradictory, with_unblock, with_note, told_by_kept, told_of, IsSilentOn, IsAsTold, ExactReports}
+use Rattle.detector_laws.specs.World.{World, block, take_confirm, ReportsAreExact}
 
 -- an actor with no report out is last told of as such
 off : (c : Option Cell) (a : ℕ) (s : Told) → IsAsTold c a s → is_reporting c ≡ false → s ≡ Unreported

@@ -2,26 +2,26 @@
 use Rattle.std.proofs.Common.{◌≡◌, ℕ, ◌≤◌, ◌≢◌, ◌==◌, Bool, true, false, if◌then◌else◌, ◌⊎◌, inl, inr, ⊎_elim, List, [], ◌∷◌, ◌++◌, Option, Some, is_some, arith, refl, ap, sym, subst, ◌∙◌}
 use Rattle.std.proofs.lemmas.Bool.{cases_eq, cond_both, false≢true, false_from_ne_true}
 use Rattle.std.proofs.lemmas.Bool.Decides.{nat_tests}
+use Rattle.orca_names.specs.declared.names.Thing.TheVariants.{Actor}
+use Rattle.letter_kinds.specs.Detector.{Token, has}
+use Rattle.letter_kinds.specs.Holdings.{held_in}
+use Rattle.letter_kinds.specs.Reports.{block_note}
+use Rattle.letter_kinds.specs.declared.letter.Letter.{Letter}
+use Rattle.letter_kinds.specs.declared.letter.Letter.TheVariants.{Confirm}
 use Rattle.letter_kinds.specs.declared.note.Note.{Note}
 use Rattle.letter_kinds.specs.declared.note.Note.TheVariants.{Unblock, Ack}
 use Rattle.letter_kinds.specs.declared.note.Report.{Report}
-use Rattle.letter_kinds.specs.Detector.{Token, has}
-use Rattle.letter_kinds.specs.Reports.{block_note}
-use Rattle.detector_laws.specs.Events.{CanBlock, IsFresh, Moves}
-use Rattle.detector_laws.specs.Reports.{IsSilentOn, IsBlocked}
-use Rattle.detector_laws.specs.Tokens.{ack_count, trace_count, IsSealedMember, IsSealed, unblocks_before_ack, IsSpoiledMember, IsSpoiled, SoundTokens}
-use Rattle.detector_laws.specs.World.{World, at, block, take_confirm, TokensAreSound}
-use Rattle.orca_names.specs.declared.names.Thing.TheVariants.{Actor}
-use Rattle.letter_kinds.specs.Holdings.{held_in}
-use Rattle.detector_laws.specs.Cells.{held_on, is_reporting}
+use Rattle.machine_rules.specs.Cell.{Cell}
 use Rattle.detector_laws.proofs.Cells.{blocked_reports, reporter_present, same_some, some_not_none}
 use Rattle.detector_laws.proofs.Letters.{confirm_count-append, confirm_count-none, other_before_confirm-append, other_before_confirm-some, EndsInConfirm-only, EndsInConfirm-tail}
 use Rattle.detector_laws.proofs.Maps.{at_cases, at_same, at_other}
 use Rattle.detector_laws.proofs.Notes.{IsSilentOn-push, ack_count-append, unblocks_before_ack-append, unblocks_before_ack-push}
+use Rattle.detector_laws.specs.Cells.{held_on, is_reporting}
 use Rattle.detector_laws.specs.Confirms.{EndsInConfirm, confirm_count, other_before_confirm}
-use Rattle.letter_kinds.specs.declared.letter.Letter.{Letter}
-use Rattle.letter_kinds.specs.declared.letter.Letter.TheVariants.{Confirm}
-use Rattle.machine_rules.specs.Cell.{Cell}
+use Rattle.detector_laws.specs.Events.{CanBlock, IsFresh, Moves}
+use Rattle.detector_laws.specs.Reports.{IsSilentOn, IsBlocked}
+use Rattle.detector_laws.specs.Tokens.{ack_count, trace_count, IsSealedMember, IsSealed, unblocks_before_ack, IsSpoiledMember, IsSpoiled, SoundTokens}
+use Rattle.detector_laws.specs.World.{World, at, block, take_confirm, TokensAreSound}
 
 -- a member of a sealed token, where nothing of it changes and a note comes that says nothing of it
 pub sealed_stays : (t : Token) (m : ℕ) (cell cell' : ℕ → Option Cell) (mail : List Letter) (loaded loaded' : ℕ) (notes more : List Note)

@@ -1,8 +1,8 @@
 -- Actors that are present, and what is told of them.
 use Rattle.std.proofs.Common.{◌≡◌, ◌≢◌, ℕ, true, Option, Some, None, refl, sym, ap, ◌∙◌}
 use Rattle.std.proofs.lemmas.Bool.{false≢true}
-use Rattle.letter_kinds.specs.declared.note.Report.{Report}
 use Rattle.letter_kinds.specs.Reports.{count_on}
+use Rattle.letter_kinds.specs.declared.note.Report.{Report}
 use Rattle.machine_rules.specs.Cell.{Cell}
 use Rattle.detector_laws.specs.Cells.{held_on, is_reporting}
 use Rattle.detector_laws.specs.Reports.{IsAsTold, IsBlocked, Reported}

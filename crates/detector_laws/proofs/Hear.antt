@@ -1,14 +1,14 @@
 -- Hearing a note keeps what holds of reports.
 use Rattle.std.proofs.Common.{◌≡◌, ℕ, ◌==◌, Bool, true, false, if◌then◌else◌, List, [], ◌∷◌, Option, Some, None, arith, refl, sym, subst}
 use Rattle.std.proofs.lemmas.Bool.Decides.{nat_tests}
+use Rattle.letter_kinds.specs.Detector.{heard}
+use Rattle.letter_kinds.specs.Reports.{report_told, report_of, keep_report, drop_report}
 use Rattle.letter_kinds.specs.declared.note.Note.{Note}
 use Rattle.letter_kinds.specs.declared.note.Note.TheVariants.{Block, Unblock, Ack}
 use Rattle.letter_kinds.specs.declared.note.Report.{Report}
-use Rattle.letter_kinds.specs.Detector.{heard}
-use Rattle.letter_kinds.specs.Reports.{report_told, report_of, keep_report, drop_report}
+use Rattle.machine_rules.specs.Cell.{Cell}
 use Rattle.detector_laws.specs.Reports.{Contradictory, with_block, with_unblock, with_notes, told_by_kept, told_of, IsSilentOn, IsAsTold}
 use Rattle.detector_laws.specs.World.{World, hear, ReportsAreExact}
-use Rattle.machine_rules.specs.Cell.{Cell}
 
 pub report_of-keep : (r : Report) (ks : List Report) (a : ℕ) → report_of (keep_report r ks) a ≡ (if r.actor == a then Some r else report_of ks a)
 report_of-keep r [] a = refl

@@ -2,21 +2,21 @@
 use Rattle.std.proofs.Common.{◌≡◌, ℕ, ◌≤◌, ◌<◌, ◌≢◌, ◌==◌, not, true, false, if◌then◌else◌, ◌||◌, ◌⊎◌, inl, inr, ⊎_elim, List, ◌∷◌, filter, map, Option, Some, None, arith, refl, ap, sym, subst, ◌∙◌}
 use Rattle.std.proofs.lemmas.Bool.{cond_both}
 use Rattle.std.proofs.lemmas.Bool.Decides.{nat_tests}
+use Rattle.letter_kinds.specs.Detector.{Token, Detector, has, note_ack, heard}
+use Rattle.letter_kinds.specs.Reports.{report_told, block_note, report_of, drop_report}
+use Rattle.letter_kinds.specs.declared.letter.Letter.{Letter}
 use Rattle.letter_kinds.specs.declared.note.Note.{Note}
 use Rattle.letter_kinds.specs.declared.note.Note.TheVariants.{Block, Unblock, Ack}
 use Rattle.letter_kinds.specs.declared.note.Report.{Report}
-use Rattle.letter_kinds.specs.Detector.{Token, Detector, has, note_ack, heard}
-use Rattle.letter_kinds.specs.Reports.{report_told, block_note, report_of, drop_report}
-use Rattle.detector_laws.specs.Reports.{IsSilentOn}
-use Rattle.detector_laws.specs.Tokens.{ack_count, trace_count, IsSealed, unblocks_before_ack, IsSpoiled, SoundTokens}
-use Rattle.detector_laws.specs.World.{World, hear, TokensAreSound}
+use Rattle.machine_rules.specs.Cell.{Cell}
 use Rattle.detector_laws.proofs.Hear.{report_of-keep, report_of-drop}
 use Rattle.detector_laws.proofs.Letters.{other_before_confirm-some}
 use Rattle.detector_laws.proofs.Members.{In-filter, In-map}
 use Rattle.detector_laws.specs.Confirms.{confirm_count}
 use Rattle.detector_laws.specs.Members.{In}
-use Rattle.letter_kinds.specs.declared.letter.Letter.{Letter}
-use Rattle.machine_rules.specs.Cell.{Cell}
+use Rattle.detector_laws.specs.Reports.{IsSilentOn}
+use Rattle.detector_laws.specs.Tokens.{ack_count, trace_count, IsSealed, unblocks_before_ack, IsSpoiled, SoundTokens}
+use Rattle.detector_laws.specs.World.{World, hear, TokensAreSound}
 
 tail_acks : (t a : ℕ) (n : Note) (ns : List Note) → ack_count t a ns ≤ ack_count t a (n ∷ ns)
 tail_acks t a (Block b count held) ns = omega arith

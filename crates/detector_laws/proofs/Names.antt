@@ -2,8 +2,8 @@
 use Rattle.std.proofs.Common.{◌≡◌, ℕ, ◌≢◌, ◌==◌, true, false, inl, inr, ⊎_elim, List, [], ◌∷◌, map, refl, ap, sym, eqb-true, eq-eqb}
 use Rattle.std.proofs.lemmas.Bool.{or_cases, or_left, or_right, or_parts, eqb-false}
 use Rattle.std.specs.List.{AllByRecursion}
-use Rattle.letter_kinds.specs.declared.note.Report.{Report}
 use Rattle.letter_kinds.specs.Detector.{has}
+use Rattle.letter_kinds.specs.declared.note.Report.{Report}
 use Rattle.detector_laws.specs.Members.{In}
 
 abbrev pub names : List Report → List ℕ

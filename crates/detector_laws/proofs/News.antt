@@ -2,20 +2,20 @@
 use Rattle.std.proofs.Common.{◌≡◌, ℕ, suc, ◌≢◌, ◌==◌, not, Bool, true, false, cond, ◌||◌, inl, inr, ⊎_elim, List, [], ◌∷◌, ◌++◌, filter, map, arith, refl, ap, sym, subst, ◌∙◌, eq-eqb}
 use Rattle.std.proofs.lemmas.Bool.{cases_eq, cases_Bool, false≢true}
 use Rattle.std.proofs.lemmas.Bool.Decides.{nat_tests}
-use Rattle.letter_kinds.specs.declared.note.Note.{Note}
-use Rattle.letter_kinds.specs.declared.note.Note.TheVariants.{Block, Unblock, Ack}
-use Rattle.letter_kinds.specs.declared.note.Report.{Report}
+use Rattle.letter_kinds.proofs.Filters.{filter_twice}
+use Rattle.letter_kinds.proofs.Rounds.{largest_by_rounds}
 use Rattle.letter_kinds.specs.Closed.{IsClosed, largest_closed}
 use Rattle.letter_kinds.specs.Detector.{Token, Detector, has, note_ack, heard, in_token, candidates, closed_set, open_token, quieted, scanned, close_token}
 use Rattle.letter_kinds.specs.Reports.{report_told}
-use Rattle.letter_kinds.proofs.Filters.{filter_twice}
-use Rattle.letter_kinds.proofs.Rounds.{largest_by_rounds}
-use Rattle.detector_laws.specs.News.{NoNewsNoClosedSet}
-use Rattle.detector_laws.specs.Reports.{IsRising}
+use Rattle.letter_kinds.specs.declared.note.Note.{Note}
+use Rattle.letter_kinds.specs.declared.note.Note.TheVariants.{Block, Unblock, Ack}
+use Rattle.letter_kinds.specs.declared.note.Report.{Report}
 use Rattle.detector_laws.proofs.Names.{names, name_In}
 use Rattle.detector_laws.proofs.Order.{filter_rising, keep_rising}
 use Rattle.detector_laws.proofs.Scan.{in_token_from}
 use Rattle.detector_laws.specs.Members.{In}
+use Rattle.detector_laws.specs.News.{NoNewsNoClosedSet}
+use Rattle.detector_laws.specs.Reports.{IsRising}
 
 -- the same test keeps the same
 same_filter : (p q : Report → Bool) (rs : List Report) → ((r : Report) → p r ≡ q r) → filter p rs ≡ filter q rs

@@ -2,10 +2,10 @@
 use Rattle.std.proofs.Common.{◌≡◌, ℕ, ◌≤◌, ◌<◌, ◌==◌, nat_lt, Bool, if◌then◌else◌, ⊎_elim, List, [], ◌∷◌, filter, Some, arith, sym, subst, ◌∙◌, eqb-true}
 use Rattle.std.proofs.lemmas.Bool.{cond_both, eqb-false, ltb-true, ltb-false}
 use Rattle.std.proofs.lemmas.Bool.Decides.{nat_tests}
-use Rattle.letter_kinds.specs.declared.note.Report.{Report}
 use Rattle.letter_kinds.specs.Reports.{report_of, keep_report}
-use Rattle.detector_laws.specs.Reports.{AllAbove, IsRising}
+use Rattle.letter_kinds.specs.declared.note.Report.{Report}
 use Rattle.detector_laws.specs.Members.{In}
+use Rattle.detector_laws.specs.Reports.{AllAbove, IsRising}
 
 filter_above : (p : Report → Bool) (a : ℕ) (rs : List Report) → AllAbove a rs → AllAbove a (filter p rs)
 filter_above p a [] h = tt

@@ -4,29 +4,29 @@ use Rattle.std.proofs.lemmas.Bool.{cases_eq, cases_Bool, cases_lt, cond_both, co
 use Rattle.std.proofs.lemmas.Bool.Decides.{nat_tests}
 use Rattle.std.proofs.lemmas.List.Sums.{sum_by-cons}
 use Rattle.std.specs.List.{AllByRecursion}
-use Rattle.letter_kinds.specs.declared.note.Report.{Report}
+use Rattle.letter_kinds.proofs.Acked.{each_acked}
+use Rattle.letter_kinds.proofs.Filters.{filter_full, all_filter, filter_twice, filter_true}
+use Rattle.letter_kinds.proofs.Rounds.{largest_by_rounds}
 use Rattle.letter_kinds.specs.Closed.{IsClosed, largest_closed}
 use Rattle.letter_kinds.specs.Detector.{Token, has, in_token, candidates}
 use Rattle.letter_kinds.specs.Reports.{count_on, told_on, told_on_by, report_of}
-use Rattle.letter_kinds.proofs.Filters.{filter_full, all_filter, filter_twice, filter_true}
-use Rattle.letter_kinds.proofs.Rounds.{largest_by_rounds}
-use Rattle.letter_kinds.proofs.Acked.{each_acked}
-use Rattle.detector_laws.specs.Balance.{sum_below, ActorsAreBalanced}
-use Rattle.detector_laws.specs.News.{NoNewsNoClosedSet}
-use Rattle.detector_laws.specs.Quiet.{IsQuiet, IsReached, root, edge}
-use Rattle.detector_laws.specs.Reports.{told_by_kept, told_of, IsAsTold, IsRising}
-use Rattle.detector_laws.specs.Tokens.{trace_count, IsSealed, unblocks_before_ack, IsSpoiled}
-use Rattle.detector_laws.specs.World.{World, at, ReportsAreExact, TokensAreSound}
+use Rattle.letter_kinds.specs.declared.note.Report.{Report}
 use Rattle.machine_rules.specs.Cell.{Cell}
-use Rattle.detector_laws.specs.Cells.{held_on, is_reporting}
 use Rattle.detector_laws.proofs.Cells.{IsTrue, holder_present, reporter_present, true_holds}
 use Rattle.detector_laws.proofs.Maps.{at_same, at_other}
 use Rattle.detector_laws.proofs.Members.{In-filter, each_In, In_each}
 use Rattle.detector_laws.proofs.Names.{names, named, name_In}
 use Rattle.detector_laws.proofs.Order.{filter_rising, In_report_of}
 use Rattle.detector_laws.proofs.Sums.{sum_below_same, sum_below_at, above_same}
+use Rattle.detector_laws.specs.Balance.{sum_below, ActorsAreBalanced}
+use Rattle.detector_laws.specs.Cells.{held_on, is_reporting}
 use Rattle.detector_laws.specs.Confirms.{OnlyConfirms, other_before_confirm}
 use Rattle.detector_laws.specs.Members.{In}
+use Rattle.detector_laws.specs.News.{NoNewsNoClosedSet}
+use Rattle.detector_laws.specs.Quiet.{IsQuiet, IsReached, root, edge}
+use Rattle.detector_laws.specs.Reports.{told_by_kept, told_of, IsAsTold, IsRising}
+use Rattle.detector_laws.specs.Tokens.{trace_count, IsSealed, unblocks_before_ack, IsSpoiled}
+use Rattle.detector_laws.specs.World.{World, at, ReportsAreExact, TokensAreSound}
 
 abbrev IsPresent : World → ℕ → Type 0
 IsPresent w a = (c : Cell) × (w.cell a ≡ Some c)

@@ -2,19 +2,19 @@
 use Rattle.std.proofs.Common.{◌≡◌, ℕ, ◌≢◌, ◌==◌, Bool, true, false, ◌||◌, ◌⊎◌, inl, inr, ⊎_elim, List, [], ◌∷◌, ◌++◌, Option, arith, refl, sym, subst}
 use Rattle.std.proofs.lemmas.Bool.{cases_eq, cases_Bool, or_parts, eqb-false}
 use Rattle.std.proofs.lemmas.Bool.Decides.{nat_tests}
+use Rattle.letter_kinds.specs.declared.letter.Letter.{Letter}
+use Rattle.letter_kinds.specs.declared.letter.Letter.TheVariants.{Confirm}
 use Rattle.letter_kinds.specs.declared.note.Note.{Note}
 use Rattle.letter_kinds.specs.declared.note.Note.TheVariants.{Block, Unblock, Ack}
 use Rattle.letter_kinds.specs.declared.note.Report.{Report}
-use Rattle.detector_laws.specs.Reports.{Reported, Contradictory, with_note, with_notes, IsSilentOn, IsAsTold}
-use Rattle.detector_laws.specs.Tokens.{ack_count, unblocks_before_ack}
-use Rattle.detector_laws.specs.Cells.{is_reporting}
+use Rattle.machine_rules.specs.Cell.{Cell}
 use Rattle.detector_laws.proofs.Cells.{IsTrue, blocked_reports}
 use Rattle.detector_laws.proofs.Hear.{with_notes-contradictory}
 use Rattle.detector_laws.proofs.Notes.{with_note-other_block, with_note-other_unblock}
+use Rattle.detector_laws.specs.Cells.{is_reporting}
 use Rattle.detector_laws.specs.Confirms.{is_confirm, EndsInConfirm, OnlyConfirms, confirm_count, has_confirm, other_before_confirm}
-use Rattle.letter_kinds.specs.declared.letter.Letter.{Letter}
-use Rattle.letter_kinds.specs.declared.letter.Letter.TheVariants.{Confirm}
-use Rattle.machine_rules.specs.Cell.{Cell}
+use Rattle.detector_laws.specs.Reports.{Reported, Contradictory, with_note, with_notes, IsSilentOn, IsAsTold}
+use Rattle.detector_laws.specs.Tokens.{ack_count, unblocks_before_ack}
 
 -- an Unblock of m is among the notes
 abbrev unblocked : ℕ → List Note → Bool

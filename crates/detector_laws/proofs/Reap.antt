@@ -2,20 +2,20 @@
 use Rattle.std.proofs.Common.{◌≡◌, ℕ, ◌≤◌, ◌≢◌, ◌==◌, not, true, false, inl, inr, ⊎_elim, List, [], ◌∷◌, filter, None, arith, refl, ap, sym, subst, ◌∙◌, eq-eqb}
 use Rattle.std.proofs.lemmas.Bool.{cases_eq, cases_Bool, false≢true, not-true, false_from_ne_true}
 use Rattle.std.proofs.lemmas.Bool.Decides.{nat_tests}
-use Rattle.letter_kinds.specs.declared.note.Report.{Report}
+use Rattle.letter_kinds.proofs.Acked.{acked_each}
 use Rattle.letter_kinds.specs.Detector.{Token, has, close_token}
 use Rattle.letter_kinds.specs.Reports.{report_of}
-use Rattle.letter_kinds.proofs.Acked.{acked_each}
-use Rattle.detector_laws.specs.Events.{Reaps}
-use Rattle.detector_laws.specs.Reports.{with_notes, told_by_kept, told_of, IsSilentOn, IsBlocked, IsAsTold, ExactReports}
-use Rattle.detector_laws.specs.Tokens.{IsSealedMember, IsSealed, IsSpoiled, SoundTokens}
-use Rattle.detector_laws.specs.World.{World, ReportsAreExact, TokensAreSound}
-use Rattle.detector_laws.specs.Cells.{held_on, is_reporting}
+use Rattle.letter_kinds.specs.declared.note.Report.{Report}
 use Rattle.detector_laws.proofs.Letters.{confirm_count-append, confirm_count-none, other_before_confirm-append}
 use Rattle.detector_laws.proofs.Members.{In-filter}
 use Rattle.detector_laws.proofs.Notes.{with_notes-silent}
+use Rattle.detector_laws.specs.Cells.{held_on, is_reporting}
 use Rattle.detector_laws.specs.Confirms.{confirm_count, other_before_confirm}
+use Rattle.detector_laws.specs.Events.{Reaps}
 use Rattle.detector_laws.specs.Members.{In}
+use Rattle.detector_laws.specs.Reports.{with_notes, told_by_kept, told_of, IsSilentOn, IsBlocked, IsAsTold, ExactReports}
+use Rattle.detector_laws.specs.Tokens.{IsSealedMember, IsSealed, IsSpoiled, SoundTokens}
+use Rattle.detector_laws.specs.World.{World, ReportsAreExact, TokensAreSound}
 
 report_of-out : (ms : List ℕ) (ks : List Report) (a : ℕ) → has ms a ≡ true → report_of (filter (λ k. not (has ms k.actor)) ks) a ≡ None
 report_of-out ms [] a h = refl

@@ -2,14 +2,14 @@
 use Rattle.std.proofs.Common.{◌≡◌, ℕ, true, false, ⊎_elim, ap, sym, ◌∙◌}
 use Rattle.std.proofs.lemmas.Bool.{cases_Bool, false≢true}
 use Rattle.letter_kinds.specs.Detector.{Token, has}
+use Rattle.machine_rules.specs.Cell.{Cell}
+use Rattle.detector_laws.proofs.Cells.{same_some}
+use Rattle.detector_laws.proofs.Letters.{EndsInConfirm-only}
+use Rattle.detector_laws.proofs.Reap.{reaped_sealed}
 use Rattle.detector_laws.specs.Events.{Reaps}
 use Rattle.detector_laws.specs.Quiet.{IsNeeded, by_pin, by_frame, by_letter, by_load, by_holder}
 use Rattle.detector_laws.specs.Tokens.{IsSealed}
 use Rattle.detector_laws.specs.World.{World, TokensAreSound}
-use Rattle.detector_laws.proofs.Cells.{same_some}
-use Rattle.detector_laws.proofs.Letters.{EndsInConfirm-only}
-use Rattle.detector_laws.proofs.Reap.{reaped_sealed}
-use Rattle.machine_rules.specs.Cell.{Cell}
 
 pub sealed_unneeded : (w : World) (t : Token) → IsSealed w.cell w.mail w.loaded w.notes t → (a : ℕ) → IsNeeded w a → has t.members a ≡ true → ⊥
 sealed_unneeded w t s a (by_pin here p) i = let member = (s a i).blocked in false≢true (sym member.unpinned ∙ (ap (λ (c : Cell). c.fields.pinned) (same_some member.here here) ∙ p))

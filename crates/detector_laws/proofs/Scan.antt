@@ -4,17 +4,15 @@ use Rattle.std.proofs.lemmas.Bool.{cases_Bool, cases_eq, cases_lt, cond_both, fa
 use Rattle.std.proofs.lemmas.Bool.Decides.{nat_tests}
 use Rattle.std.proofs.lemmas.List.Sums.{sum_by-cons}
 use Rattle.std.specs.List.{AllByRecursion}
-use Rattle.letter_kinds.specs.declared.note.Note.{Note}
-use Rattle.letter_kinds.specs.declared.note.Report.{Report}
+use Rattle.letter_kinds.proofs.Rounds.{largest_by_rounds}
 use Rattle.letter_kinds.specs.Closed.{IsClosed, largest_closed}
 use Rattle.letter_kinds.specs.Detector.{Token, Detector, has, in_token, candidates, closed_set, open_token, quieted, scanned}
 use Rattle.letter_kinds.specs.Reports.{count_on, told_on, told_on_by, report_of}
-use Rattle.letter_kinds.proofs.Rounds.{largest_by_rounds}
-use Rattle.detector_laws.specs.Balance.{sum_below, ActorsAreBalanced}
-use Rattle.detector_laws.specs.Reports.{with_notes, told_by_kept, IsAsTold, ExactReports, IsRising}
-use Rattle.detector_laws.specs.Tokens.{ack_count, trace_count, IsSealedMember, IsSealed, unblocks_before_ack, IsSpoiledMember, IsSpoiled, SoundTokens}
-use Rattle.detector_laws.specs.World.{World, confirmed, scan, ReportsAreExact, TokensAreSound}
-use Rattle.detector_laws.specs.Cells.{held_on, is_reporting}
+use Rattle.letter_kinds.specs.declared.letter.Letter.{Letter}
+use Rattle.letter_kinds.specs.declared.letter.Letter.TheVariants.{Confirm}
+use Rattle.letter_kinds.specs.declared.note.Note.{Note}
+use Rattle.letter_kinds.specs.declared.note.Report.{Report}
+use Rattle.machine_rules.specs.Cell.{Cell}
 use Rattle.detector_laws.proofs.Cells.{IsTrue, holder_present, true_holds}
 use Rattle.detector_laws.proofs.Letters.{confirm_count-append}
 use Rattle.detector_laws.proofs.Members.{In-filter, In-append, each_In, In_each}
@@ -22,11 +20,13 @@ use Rattle.detector_laws.proofs.Names.{names, named, unnamed, name_In}
 use Rattle.detector_laws.proofs.Order.{filter_rising, In_report_of}
 use Rattle.detector_laws.proofs.Ready.{only-EndsInConfirm, IsReady, Spoils, ready_or_spoils}
 use Rattle.detector_laws.proofs.Sums.{some_le_all, some_and_one}
+use Rattle.detector_laws.specs.Balance.{sum_below, ActorsAreBalanced}
+use Rattle.detector_laws.specs.Cells.{held_on, is_reporting}
 use Rattle.detector_laws.specs.Confirms.{confirm_count, other_before_confirm}
 use Rattle.detector_laws.specs.Members.{In}
-use Rattle.letter_kinds.specs.declared.letter.Letter.{Letter}
-use Rattle.letter_kinds.specs.declared.letter.Letter.TheVariants.{Confirm}
-use Rattle.machine_rules.specs.Cell.{Cell}
+use Rattle.detector_laws.specs.Reports.{with_notes, told_by_kept, IsAsTold, ExactReports, IsRising}
+use Rattle.detector_laws.specs.Tokens.{ack_count, trace_count, IsSealedMember, IsSealed, unblocks_before_ack, IsSpoiledMember, IsSpoiled, SoundTokens}
+use Rattle.detector_laws.specs.World.{World, confirmed, scan, ReportsAreExact, TokensAreSound}
 
 all_or_one : (A B : Report → Type 0) (rs : List Report) → AllByRecursion (λ r. A r ⊎ B r) rs → AllByRecursion A rs ⊎ ((r : Report) × In r rs × B r)
 all_or_one A B [] h = inl tt

@@ -1,12 +1,12 @@
 -- All facts hold where a run starts.
 use Rattle.std.proofs.Common.{sym, subst, refl, []}
 use Rattle.letter_kinds.specs.Detector.{Detector, fresh_detector}
+use Rattle.detector_laws.proofs.Letters.{confirm_count-none}
 use Rattle.detector_laws.specs.News.{NoNewsNoClosedSet}
 use Rattle.detector_laws.specs.Reports.{ExactReports, IsRising}
 use Rattle.detector_laws.specs.Run.{IsStart}
 use Rattle.detector_laws.specs.Tokens.{SoundTokens}
 use Rattle.detector_laws.specs.World.{World, ReportsAreExact, TokensAreSound, FactsHold}
-use Rattle.detector_laws.proofs.Letters.{confirm_count-none}
 
 start_reports : (w : World) → IsStart w → ReportsAreExact w
 start_reports w s =

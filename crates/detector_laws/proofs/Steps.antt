@@ -2,12 +2,6 @@
 use Rattle.std.proofs.Common.{◌≡◌, ℕ, Some, sym, subst}
 use Rattle.letter_kinds.specs.Detector.{Detector, closed_set}
 use Rattle.machine_rules.specs.Cell.{Cell}
-use Rattle.detector_laws.specs.Balance.{ActorsAreBalanced}
-use Rattle.detector_laws.specs.News.{NoNewsNoClosedSet}
-use Rattle.detector_laws.specs.Quiet.{IsQuiet, IsReached}
-use Rattle.detector_laws.specs.Reports.{IsRising}
-use Rattle.detector_laws.specs.Run.{IsStep, Hears, Scans, ReapsOne, Blocks, TakesConfirm, MovesOne, IsRun, Stays, GoesOn}
-use Rattle.detector_laws.specs.World.{World, FactsHold}
 use Rattle.detector_laws.proofs.ActorReports.{block_reports, confirm_reports, moves_reports}
 use Rattle.detector_laws.proofs.ActorTokens.{block_tokens, confirm_tokens, moves_tokens}
 use Rattle.detector_laws.proofs.Hear.{hear_reports}
@@ -16,6 +10,12 @@ use Rattle.detector_laws.proofs.News.{hear_news, scan_news, reap_news, heard_ris
 use Rattle.detector_laws.proofs.Quiet.{quiet_all_reached}
 use Rattle.detector_laws.proofs.Reap.{reap_reports, reap_tokens}
 use Rattle.detector_laws.proofs.Scan.{scan_tokens, scanned_kept, scan_reports}
+use Rattle.detector_laws.specs.Balance.{ActorsAreBalanced}
+use Rattle.detector_laws.specs.News.{NoNewsNoClosedSet}
+use Rattle.detector_laws.specs.Quiet.{IsQuiet, IsReached}
+use Rattle.detector_laws.specs.Reports.{IsRising}
+use Rattle.detector_laws.specs.Run.{IsStep, Hears, Scans, ReapsOne, Blocks, TakesConfirm, MovesOne, IsRun, Stays, GoesOn}
+use Rattle.detector_laws.specs.World.{World, FactsHold}
 
 pub step_keeps : (w u : World) → ActorsAreBalanced w → IsStep w u → FactsHold w → FactsHold u
 step_keeps w u bal (Hears {n} {ns} e) k = record {

@@ -4,10 +4,10 @@ use Rattle.std.proofs.lemmas.Bool.{cases_eq}
 use Rattle.std.proofs.lemmas.List.Sums.{sum_by-cons}
 use Rattle.std.specs.List.{AllByRecursion}
 use Rattle.letter_kinds.specs.declared.note.Report.{Report}
+use Rattle.detector_laws.proofs.Maps.{at_same, at_other}
 use Rattle.detector_laws.specs.Balance.{sum_below}
 use Rattle.detector_laws.specs.Reports.{AllAbove, IsRising}
 use Rattle.detector_laws.specs.World.{at}
-use Rattle.detector_laws.proofs.Maps.{at_same, at_other}
 
 pub sum_below_same : (n : ℕ) (f g : ℕ → ℕ) → ((b : ℕ) → b < n → f b ≡ g b) → sum_below n f ≡ sum_below n g
 sum_below_same zero f g h = refl

@@ -1,11 +1,11 @@
 -- What each event of the machine may change of what the detector's laws speak of.
 use Rattle.std.specs.Prelude.{ℕ, ◌≡◌, ◌≢◌, ◌⊎◌, if◌then◌else◌, true, false, List, [], ◌∷◌, ◌++◌, Option, None, Some, is_some}
 use Rattle.orca_names.specs.declared.names.Thing.TheVariants.{Actor}
+use Rattle.letter_kinds.specs.Detector.{Token, has, all_acked, close_token}
+use Rattle.letter_kinds.specs.Holdings.{held_in}
 use Rattle.letter_kinds.specs.declared.letter.Letter.{Letter}
 use Rattle.letter_kinds.specs.declared.note.Note.TheVariants.{Unblock}
 use Rattle.letter_kinds.specs.declared.note.Report.{Report}
-use Rattle.letter_kinds.specs.Detector.{Token, has, all_acked, close_token}
-use Rattle.letter_kinds.specs.Holdings.{held_in}
 use Rattle.machine_rules.specs.Cell.{Cell}
 use Rattle.detector_laws.specs.Cells.{held_on}
 use Rattle.detector_laws.specs.Confirms.{NoConfirms, is_confirm}

@@ -1,8 +1,8 @@
 -- All that every event keeps.
 use Rattle.std.specs.Prelude.{ℕ, List, Option}
+use Rattle.letter_kinds.specs.Detector.{Detector}
 use Rattle.letter_kinds.specs.declared.letter.Letter.{Letter}
 use Rattle.letter_kinds.specs.declared.note.Note.{Note}
-use Rattle.letter_kinds.specs.Detector.{Detector}
 use Rattle.machine_rules.specs.Cell.{Cell}
 use Rattle.detector_laws.specs.News.{NoNewsNoClosedSet}
 use Rattle.detector_laws.specs.Reports.{ExactReports, IsRising}

@@ -1,11 +1,11 @@
 -- What kept reports and notes tell of each actor is what its cell is.
 use Rattle.std.specs.Prelude.{ℕ, ◌≡◌, ◌≢◌, ◌<◌, ◌==◌, if◌then◌else◌, true, false, List, [], ◌∷◌, Option, Some, None}
 use Rattle.orca_names.specs.declared.names.Thing.TheVariants.{Actor}
+use Rattle.letter_kinds.specs.Holdings.{held_in}
+use Rattle.letter_kinds.specs.Reports.{count_on, report_of, report_told}
 use Rattle.letter_kinds.specs.declared.note.Note.{Note}
 use Rattle.letter_kinds.specs.declared.note.Note.TheVariants.{Block, Unblock, Ack}
 use Rattle.letter_kinds.specs.declared.note.Report.{Report}
-use Rattle.letter_kinds.specs.Holdings.{held_in}
-use Rattle.letter_kinds.specs.Reports.{count_on, report_of, report_told}
 use Rattle.machine_rules.specs.Cell.{Cell}
 use Rattle.detector_laws.specs.Cells.{is_reporting}
 

@@ -1,11 +1,11 @@
 -- Each open token is sealed, so that its members never act again, or spoiled, so that it is never reaped.
 use Rattle.std.specs.Prelude.{ℕ, ◌+◌, ◌≡◌, ◌≤◌, ◌<◌, ◌==◌, ◌&&◌, ◌||◌, ◌⊎◌, if◌then◌else◌, Bool, true, false, List, [], ◌∷◌, Option, Some}
+use Rattle.letter_kinds.specs.Detector.{Token, Detector, has}
+use Rattle.letter_kinds.specs.Reports.{report_of}
 use Rattle.letter_kinds.specs.declared.letter.Letter.{Letter}
 use Rattle.letter_kinds.specs.declared.note.Note.{Note}
 use Rattle.letter_kinds.specs.declared.note.Note.TheVariants.{Block, Unblock, Ack}
 use Rattle.letter_kinds.specs.declared.note.Report.{Report}
-use Rattle.letter_kinds.specs.Detector.{Token, Detector, has}
-use Rattle.letter_kinds.specs.Reports.{report_of}
 use Rattle.machine_rules.specs.Cell.{Cell}
 use Rattle.detector_laws.specs.Cells.{held_on, is_reporting}
 use Rattle.detector_laws.specs.Confirms.{EndsInConfirm, confirm_count, other_before_confirm}

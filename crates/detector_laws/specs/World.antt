@@ -1,12 +1,12 @@
 -- All that an event may change of what the detector's facts speak of.
 use Rattle.std.specs.Prelude.{ℕ, suc, ◌==◌, if◌then◌else◌, true, List, [], ◌∷◌, ◌++◌, Option, Some}
+use Rattle.letter_kinds.specs.Detector.{Detector, has, heard, closed_set, scanned}
+use Rattle.letter_kinds.specs.Reports.{block_note}
 use Rattle.letter_kinds.specs.declared.letter.Letter.{Letter}
 use Rattle.letter_kinds.specs.declared.letter.Letter.TheVariants.{Confirm}
 use Rattle.letter_kinds.specs.declared.note.Note.{Note}
 use Rattle.letter_kinds.specs.declared.note.Note.TheVariants.{Ack}
 use Rattle.letter_kinds.specs.declared.note.Report.{Report}
-use Rattle.letter_kinds.specs.Detector.{Detector, has, heard, closed_set, scanned}
-use Rattle.letter_kinds.specs.Reports.{block_note}
 use Rattle.machine_rules.specs.Cell.{Cell}
 use Rattle.detector_laws.specs.Cells.{is_reporting}
 use Rattle.detector_laws.specs.Facts.{DetectorFacts}

@@ -5,15 +5,15 @@ use Rattle.std.proofs.lemmas.Bool.{cases_lt}
 use Rattle.std.proofs.lemmas.List.{get_or_past}
 use Rattle.std.proofs.lemmas.List.Sums.{sum_by-set, sum_by_push}
 use Rattle.orca_names.specs.Names.{owner_of}
-use Rattle.letter_kinds.specs.declared.letter.Letter.{Letter}
-use Rattle.letter_kinds.specs.declared.letter.Letter.TheVariants.{Confirm, Dec}
 use Rattle.letter_kinds.specs.Counting.{Amount, by_owner}
 use Rattle.letter_kinds.specs.Detector.{has}
+use Rattle.letter_kinds.specs.declared.letter.Letter.{Letter}
+use Rattle.letter_kinds.specs.declared.letter.Letter.TheVariants.{Confirm, Dec}
+use Rattle.machine_rules.specs.Actors.{Actors, Seat, push_decs, push_letter, seat_at, with_letter_more}
+use Rattle.machine_rules.specs.Detect.{ask_all, held_outside, reaped}
 use Rattle.machine_laws.proofs.Moving.{sum_by-set_past}
 use Rattle.machine_laws.proofs.TableWork.{by_owner-length, sweep-work}
 use Rattle.machine_laws.specs.Work.{actors_work, count_work, letter_work, seat_work}
-use Rattle.machine_rules.specs.Actors.{Actors, Seat, push_decs, push_letter, seat_at, with_letter_more}
-use Rattle.machine_rules.specs.Detect.{ask_all, held_outside, reaped}
 
 -- ---- over numbers
 

@@ -2,22 +2,12 @@
 use Rattle.std.proofs.Common.{◌≡◌, ◌≢◌, ℕ, zero, suc, ◌<◌, true, Option, Some, None, List, [], ◌∷◌, refl, sym, ap, subst, ◌∙◌, arith, inl}
 use Rattle.std.proofs.lemmas.Bool.{false≢true}
 use Rattle.orca_names.specs.declared.names.Thing.TheVariants.{Actor}
-use Rattle.letter_kinds.specs.declared.letter.Letter.{Letter}
-use Rattle.letter_kinds.specs.declared.note.Report.{Report}
+use Rattle.reach_walk.specs.Reach.{thing_row}
 use Rattle.letter_kinds.specs.Detector.{Token}
 use Rattle.letter_kinds.specs.Holdings.{held_in}
 use Rattle.letter_kinds.specs.Reports.{report_of}
-use Rattle.reach_walk.specs.Reach.{thing_row}
-use Rattle.detector_laws.proofs.Cells.{same_some, some_not_none}
-use Rattle.detector_laws.specs.Cells.{held_on}
-use Rattle.detector_laws.proofs.Quiet.{no_token}
-use Rattle.detector_laws.specs.Quiet as view
-use Rattle.detector_laws.specs.Reports.{IsAsTold, IsReportOf, told_by_kept, told_of}
-use Rattle.machine_laws.proofs.Quieting.{quiet_reached, quiet_world}
-use Rattle.machine_laws.proofs.WholeRuns.{run_has_facts}
-use Rattle.machine_laws.specs.AllFacts.{AllFacts}
-use Rattle.machine_laws.specs.Laws.{DetectorRests, DetectorRestsAtQuiet, ExactlyAtQuiet}
-use Rattle.machine_laws.proofs.Seen.{world}
+use Rattle.letter_kinds.specs.declared.letter.Letter.{Letter}
+use Rattle.letter_kinds.specs.declared.note.Report.{Report}
 use Rattle.machine_rules.proofs.Needs.{AllNeeded, IsNeeded, is_held, is_pinned, left_is_exact}
 use Rattle.machine_rules.proofs.Rest.{quiet_rest}
 use Rattle.machine_rules.specs.Actors.{Seat, cell_at, cell_of, seat, seat_at}
@@ -26,7 +16,17 @@ use Rattle.machine_rules.specs.Cell.{Cell}
 use Rattle.machine_rules.specs.Next.{IsQuiet}
 use Rattle.machine_rules.specs.Plain.{PlainState, plain_row}
 use Rattle.machine_rules.specs.State.{State}
+use Rattle.detector_laws.proofs.Cells.{same_some, some_not_none}
+use Rattle.detector_laws.proofs.Quiet.{no_token}
+use Rattle.detector_laws.specs.Cells.{held_on}
 use Rattle.detector_laws.specs.Members.{In}
+use Rattle.detector_laws.specs.Quiet as view
+use Rattle.detector_laws.specs.Reports.{IsAsTold, IsReportOf, told_by_kept, told_of}
+use Rattle.machine_laws.proofs.Quieting.{quiet_reached, quiet_world}
+use Rattle.machine_laws.proofs.Seen.{world}
+use Rattle.machine_laws.proofs.WholeRuns.{run_has_facts}
+use Rattle.machine_laws.specs.AllFacts.{AllFacts}
+use Rattle.machine_laws.specs.Laws.{DetectorRests, DetectorRestsAtQuiet, ExactlyAtQuiet}
 
 -- ---- who is reached in the detector's view is needed
 

@@ -2,9 +2,10 @@
 use Rattle.std.proofs.Common.{◌≡◌, ℕ, zero, suc, ◌+◌, ◌<◌, Option, Some, None, List, [], ◌∷◌, length, get_or, refl, ap, sym, arith, ⊎_elim}
 use Rattle.std.proofs.lemmas.Bool.{cases_lt, false≢true}
 use Rattle.std.proofs.lemmas.List.{get_or_past}
-use Rattle.detector_laws.proofs.Cells.{some_not_none}
-use Rattle.detector_laws.specs.Cells.{held_on}
-use Rattle.detector_laws.specs.Balance.{ActorsAreBalanced, sum_below}
+use Rattle.std.proofs.lemmas.List.Sums.{sum_by-cons}
+use Rattle.std.specs.Prelude.{sum_by}
+use Rattle.orca_names.specs.declared.names.Thing.{Thing}
+use Rattle.orca_names.specs.declared.names.Thing.TheVariants.{Actor}
 use Rattle.letter_kinds.proofs.Sums.{sum-nil}
 use Rattle.letter_kinds.specs.Detector.{Detector}
 use Rattle.letter_kinds.specs.Holdings.{own_in}
@@ -12,18 +13,17 @@ use Rattle.letter_kinds.specs.Sums.{inc_of, dec_of}
 use Rattle.letter_kinds.specs.declared.letter.Letter.{Letter}
 use Rattle.letter_kinds.specs.declared.letter.Letter.TheVariants.{App, Inc, Dec, Confirm}
 use Rattle.letter_kinds.specs.declared.note.Note.{Note}
-use Rattle.machine_rules.specs.Clean.{HoldsNoOwnAt}
-use Rattle.machine_rules.specs.Facts.{Every}
-use Rattle.machine_laws.proofs.Seen.{world_of}
 use Rattle.machine_rules.proofs.SeatReads.{letter_Confirm}
 use Rattle.machine_rules.specs.Actors.{Actors, cell_at, Seat, cell_of, letters_of, seat, seat_at}
 use Rattle.machine_rules.specs.Balance.{held_at, own_at, incs_at, decs_at, IsBalanced}
 use Rattle.machine_rules.specs.Cell.{Cell}
-use Rattle.orca_names.specs.declared.names.Thing.{Thing}
-use Rattle.orca_names.specs.declared.names.Thing.TheVariants.{Actor}
-use Rattle.std.proofs.lemmas.List.Sums.{sum_by-cons}
-use Rattle.std.specs.Prelude.{sum_by}
+use Rattle.machine_rules.specs.Clean.{HoldsNoOwnAt}
+use Rattle.machine_rules.specs.Facts.{Every}
+use Rattle.detector_laws.proofs.Cells.{some_not_none}
+use Rattle.detector_laws.specs.Balance.{ActorsAreBalanced, sum_below}
+use Rattle.detector_laws.specs.Cells.{held_on}
 use Rattle.detector_laws.specs.Confirms.{OnlyConfirms}
+use Rattle.machine_laws.proofs.Seen.{world_of}
 
 -- a sum over numbers is one over the list
 shift : (n : ℕ) (f : ℕ → ℕ) → sum_below (suc n) f ≡ f 0 + sum_below n (λ b. f (suc b))

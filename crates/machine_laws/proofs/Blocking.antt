@@ -4,24 +4,19 @@ use Rattle.std.proofs.lemmas.Bool.{cases_eq}
 use mathlib.Core.Path.{fun_ext}
 use Rattle.orca_names.specs.declared.names.Thing.{Thing}
 use Rattle.orca_names.specs.declared.names.Thing.TheVariants.{Actor}
+use Rattle.letter_kinds.specs.Detector.{Detector}
+use Rattle.letter_kinds.specs.Holdings.{Row}
+use Rattle.letter_kinds.specs.Reports.{report_told}
 use Rattle.letter_kinds.specs.declared.letter.Letter.{Letter}
 use Rattle.letter_kinds.specs.declared.note.Note.{Note}
 use Rattle.letter_kinds.specs.declared.note.Note.TheVariants.{Block}
 use Rattle.letter_kinds.specs.declared.note.Report.{Report}
-use Rattle.letter_kinds.specs.Detector.{Detector}
-use Rattle.letter_kinds.specs.Holdings.{Row}
-use Rattle.letter_kinds.specs.Reports.{report_told}
-use Rattle.detector_laws.specs.Events.{CanBlock}
-use Rattle.detector_laws.specs.World as view
-use Rattle.machine_laws.proofs.Collecting.{same_loads}
-use Rattle.machine_laws.proofs.HeldActors.{count_on-held_actors}
-use Rattle.machine_laws.proofs.Seen.{world_of}
 use Rattle.machine_rules.proofs.Agreeing.{agrees_same}
 use Rattle.machine_rules.proofs.Every.{every_set}
 use Rattle.machine_rules.proofs.InHand.{in_hand, none, out_of_hand}
-use Rattle.machine_rules.proofs.TakeKeeps.{alike_closed, alike_self}
 use Rattle.machine_rules.proofs.Seats.{present_below}
 use Rattle.machine_rules.proofs.Sends.{cell_balanced, cell_prefix}
+use Rattle.machine_rules.proofs.TakeKeeps.{alike_closed, alike_self}
 use Rattle.machine_rules.specs.Actors.{Actors, cell_at, cell_of, letters_of, mail_at, seat, seat_at}
 use Rattle.machine_rules.specs.Agreement.{Person}
 use Rattle.machine_rules.specs.Balance.{load_sum}
@@ -30,6 +25,11 @@ use Rattle.machine_rules.specs.Cell.{Cell}
 use Rattle.machine_rules.specs.Enabled.{MayReport}
 use Rattle.machine_rules.specs.Facts.{IsFirmAt, IsPastRows, KeepsCounts}
 use Rattle.machine_rules.specs.Known.{IsSoundAt}
+use Rattle.detector_laws.specs.Events.{CanBlock}
+use Rattle.detector_laws.specs.World as view
+use Rattle.machine_laws.proofs.Collecting.{same_loads}
+use Rattle.machine_laws.proofs.HeldActors.{count_on-held_actors}
+use Rattle.machine_laws.proofs.Seen.{world_of}
 
 -- the actor has its report out
 abbrev pub reporting : Cell → Cell

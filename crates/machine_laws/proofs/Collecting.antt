@@ -1,7 +1,9 @@
 -- A collect, as the detector's laws see it.
 use Rattle.std.proofs.Common.{◌≡◌, ◌≢◌, ℕ, ◌<◌, ◌≤◌, Bool, true, false, cond, ◌==◌, eq-eqb, Option, None, List, [], ◌∷◌, set, refl, ap, sym, subst, ◌∙◌, arith, inl, inr, ⊎_elim, get_or-set_other}
-use Rattle.machine_laws.proofs.Moving.{Adds, adds_none, adds_then, adds_push, push_other, push_loads, moves}
-use Rattle.detector_laws.specs.Events.{Moves}
+use Rattle.orca_names.specs.Names.{owner_of}
+use Rattle.orca_names.specs.declared.names.Thing.{Thing}
+use Rattle.orca_names.specs.declared.names.Thing.TheVariants.{Actor, Obj}
+use Rattle.reach_walk.specs.Reach.{owned, root}
 use Rattle.letter_kinds.specs.Counting.{sweep, given_back, by_owner}
 use Rattle.letter_kinds.specs.Detector.{Detector}
 use Rattle.letter_kinds.specs.Holdings.{Row, held_in}
@@ -9,22 +11,20 @@ use Rattle.letter_kinds.specs.Sums.{amount_of}
 use Rattle.letter_kinds.specs.declared.letter.Letter.{Letter}
 use Rattle.letter_kinds.specs.declared.letter.Letter.TheVariants.{Dec}
 use Rattle.letter_kinds.specs.declared.note.Note.{Note}
-use Rattle.machine_laws.proofs.Seen.{world_of}
-use Rattle.machine_laws.proofs.Noted.{noted}
 use Rattle.machine_rules.proofs.SeatReads.{letter_Dec, loads_at-seat}
 use Rattle.machine_rules.proofs.Seats.{present_below, load_sum-set}
 use Rattle.machine_rules.proofs.Sweeping.{amount-given_back, firm_counted, held-sweep}
-use Rattle.machine_rules.specs.Facts.{IsFirm}
 use Rattle.machine_rules.proofs.Sweeps.{owed, owed-groups, Firm, firm_groups, debit_Dec}
 use Rattle.machine_rules.specs.Actors.{Actors, letters_of, push_decs, push_letter, seat, seat_at}
 use Rattle.machine_rules.specs.Balance.{load_sum}
 use Rattle.machine_rules.specs.Cell.{Cell}
 use Rattle.machine_rules.specs.Collect.{collected}
+use Rattle.machine_rules.specs.Facts.{IsFirm}
 use Rattle.machine_rules.specs.Known.{IsClosedAt, in_table}
-use Rattle.orca_names.specs.Names.{owner_of}
-use Rattle.orca_names.specs.declared.names.Thing.{Thing}
-use Rattle.orca_names.specs.declared.names.Thing.TheVariants.{Actor, Obj}
-use Rattle.reach_walk.specs.Reach.{owned, root}
+use Rattle.detector_laws.specs.Events.{Moves}
+use Rattle.machine_laws.proofs.Moving.{Adds, adds_none, adds_then, adds_push, push_other, push_loads, moves}
+use Rattle.machine_laws.proofs.Noted.{noted}
+use Rattle.machine_laws.proofs.Seen.{world_of}
 
 -- who holds a thing of another holds that other
 pub owner_held : (all : Thing → Option Row) (a : ℕ) (c : Cell) → IsClosedAt all a c → (x : Thing) → 0 < held_in c.holdings x → owner_of x ≢ a → 0 < held_in c.holdings (Actor (owner_of x))

@@ -1,17 +1,17 @@
 -- Between choices a run comes to rest.
 use Rattle.std.proofs.Common.{◌≡◌, ◌+◌, ◌≤◌, ◌<◌, Bool, true, false, if◌then◌else◌, List, [], ◌∷◌, length, refl, ap, sym, subst, ◌∙◌, arith}
 use Rattle.event_rule.specs.declared.event.Event.{Event}
+use Rattle.machine_rules.specs.Agreement.{people_of}
+use Rattle.machine_rules.specs.Next.{next}
+use Rattle.machine_rules.specs.Plain.{PlainState}
+use Rattle.machine_rules.specs.Run.{Leads, PlainFollows, choices, choices_after, is_choice}
+use Rattle.machine_rules.specs.State.{State}
 use Rattle.machine_laws.proofs.LeavesLess.{leaves_less, work_of}
 use Rattle.machine_laws.proofs.Scanning.{few_asked}
 use Rattle.machine_laws.proofs.WholeRuns.{event_keeps, run_has_facts}
 use Rattle.machine_laws.specs.AllFacts.{AllFacts}
 use Rattle.machine_laws.specs.Laws.{RestsBetweenChoices, EventsLeaveLess}
 use Rattle.machine_laws.specs.Work.{work_left}
-use Rattle.machine_rules.specs.Agreement.{people_of}
-use Rattle.machine_rules.specs.Next.{next}
-use Rattle.machine_rules.specs.Plain.{PlainState}
-use Rattle.machine_rules.specs.Run.{Leads, PlainFollows, choices, choices_after, is_choice}
-use Rattle.machine_rules.specs.State.{State}
 
 pub event_leaves_less : EventsLeaveLess
 event_leaves_less p s t e facts goes calm =

@@ -2,9 +2,13 @@
 use Rattle.std.proofs.Common.{◌≡◌, ◌≢◌, ℕ, zero, suc, ◌+◌, ◌<◌, Bool, true, false, Option, None, is_some, List, [], ◌++◌, length, set, refl, ap, sym, subst, ◌∙◌, arith, inl, inr, ⊎_elim, get_or-set_same, get_or-set_other, length-set, append-nil}
 use Rattle.std.proofs.lemmas.Bool.{cases_eq}
 use Rattle.std.proofs.lemmas.List.{get_or_past}
-use Rattle.machine_laws.proofs.Moving.{adds_none, adds_push, push_other, push_loads, moves}
-use Rattle.machine_laws.proofs.Collecting.{owner_held, same_loads}
-use Rattle.detector_laws.specs.Events.{Moves}
+use Rattle.std.proofs.lemmas.List.Sums.{sum_by_push}
+use Rattle.orca_names.specs.Names.{owner_of}
+use Rattle.orca_names.specs.declared.names.Thing.{Thing}
+use Rattle.orca_names.specs.declared.names.Thing.TheVariants.{Actor}
+use Rattle.orca_names.specs.declared.names.Value.{Value}
+use Rattle.turn_rules.specs.Segment.{Stop}
+use Rattle.turn_rules.specs.declared.act.Frame.{Frame}
 use Rattle.letter_kinds.proofs.Amounts.{held-mint_all}
 use Rattle.letter_kinds.proofs.Counts.{held-send, held_set_other}
 use Rattle.letter_kinds.proofs.Sums.{sum-nil}
@@ -15,23 +19,19 @@ use Rattle.letter_kinds.specs.Sums.{amount_of, times_loaded, load_count}
 use Rattle.letter_kinds.specs.declared.letter.Letter.{Letter}
 use Rattle.letter_kinds.specs.declared.letter.Letter.TheVariants.{App, Inc}
 use Rattle.letter_kinds.specs.declared.note.Note.{Note}
-use Rattle.machine_laws.proofs.Seen.{world_of}
-use Rattle.machine_laws.proofs.Noted.{noted}
 use Rattle.machine_rules.proofs.Makes.{more_last, more_other}
 use Rattle.machine_rules.proofs.SeatReads.{letter_App, letter_Inc, loads_at-seat}
 use Rattle.machine_rules.proofs.Seats.{present_below}
 use Rattle.machine_rules.specs.Actors.{Actors, cell_at, cell_of, letters_of, mail_at, push_letter, seat, seat_at}
 use Rattle.machine_rules.specs.Balance.{loads_at}
 use Rattle.machine_rules.specs.Cell.{Cell}
-use Rattle.turn_rules.specs.Segment.{Stop}
-use Rattle.turn_rules.specs.declared.act.Frame.{Frame}
 use Rattle.machine_rules.specs.Go.{post, mint, make, turned}
 use Rattle.machine_rules.specs.Known.{IsClosedAt, IsKnown}
-use Rattle.orca_names.specs.Names.{owner_of}
-use Rattle.orca_names.specs.declared.names.Thing.{Thing}
-use Rattle.orca_names.specs.declared.names.Thing.TheVariants.{Actor}
-use Rattle.orca_names.specs.declared.names.Value.{Value}
-use Rattle.std.proofs.lemmas.List.Sums.{sum_by_push}
+use Rattle.detector_laws.specs.Events.{Moves}
+use Rattle.machine_laws.proofs.Collecting.{owner_held, same_loads}
+use Rattle.machine_laws.proofs.Moving.{adds_none, adds_push, push_other, push_loads, moves}
+use Rattle.machine_laws.proofs.Noted.{noted}
+use Rattle.machine_laws.proofs.Seen.{world_of}
 
 -- a turn holds what it held before
 pub held_made : (made : List Row) (h : Holdings) (x : Thing) → held_in (with_made made h) x ≡ held_in h x

@@ -1,38 +1,38 @@
 -- Each event keeps what holds of the detector; those that the plain machine does not do keep what is kept of the counts.
 use Rattle.std.proofs.Common.{◌≡◌, ℕ, Bool, true, false, Option, Some, None, List, [], ◌∷◌, refl, subst}
 use Rattle.orca_names.specs.declared.names.Thing.{Thing}
+use Rattle.orca_names.specs.declared.names.Thing.TheVariants.{Actor}
+use Rattle.reach_walk.specs.Reach.{thing_row}
 use Rattle.event_rule.specs.declared.event.Event.{Event}
 use Rattle.event_rule.specs.declared.event.Event.TheVariants.{Block, Hear, Scan, Reap}
-use Rattle.letter_kinds.specs.declared.letter.Letter.{Letter}
-use Rattle.letter_kinds.specs.declared.note.Note.{Note}
 use Rattle.letter_kinds.specs.Detector.{Token, all_acked, closed_set, token_numbered}
 use Rattle.letter_kinds.specs.Holdings.{Row}
+use Rattle.letter_kinds.specs.declared.letter.Letter.{Letter}
+use Rattle.letter_kinds.specs.declared.note.Note.{Note}
+use Rattle.machine_rules.proofs.Steps.{goes_to, not_enabled}
+use Rattle.machine_rules.specs.Actors.{Seat, cell_at, mail_at, seat, seat_at}
+use Rattle.machine_rules.specs.Agreement.{Person, people_of}
+use Rattle.machine_rules.specs.Balance.{load_sum}
+use Rattle.machine_rules.specs.Block.{block_at, block_in, may_block}
+use Rattle.machine_rules.specs.Cell.{Cell}
+use Rattle.machine_rules.specs.Clean.{HoldsNoOwnAt}
+use Rattle.machine_rules.specs.Detect.{hear_in, reap_found, reap_in, scan_in}
+use Rattle.machine_rules.specs.Facts.{Every, Facts}
+use Rattle.machine_rules.specs.Next.{next}
+use Rattle.machine_rules.specs.Plain.{PlainState, plain_row}
+use Rattle.machine_rules.specs.State.{State, Goes}
 use Rattle.detector_laws.proofs.Named.{numbered_is_open}
 use Rattle.detector_laws.proofs.Reap.{reaped_sealed}
 use Rattle.detector_laws.proofs.Steps.{step_keeps}
-use Rattle.detector_laws.specs.World.{FactsHold}
 use Rattle.detector_laws.specs.Tokens.{IsSealed}
+use Rattle.detector_laws.specs.World.{FactsHold}
 use Rattle.machine_laws.proofs.Balancing.{balanced}
 use Rattle.machine_laws.proofs.Blocking.{block_keeps}
-use Rattle.machine_rules.specs.Clean.{HoldsNoOwnAt}
-use Rattle.machine_rules.proofs.Steps.{goes_to, not_enabled}
 use Rattle.machine_laws.proofs.Reaping.{reap_reaps}
 use Rattle.machine_laws.proofs.Scanning.{scan_keeps}
 use Rattle.machine_laws.proofs.Sealing.{reap_keeps}
 use Rattle.machine_laws.proofs.Seen.{world}
 use Rattle.machine_laws.proofs.Stepping.{next_steps}
-use Rattle.machine_rules.specs.Actors.{Seat, cell_at, mail_at, seat, seat_at}
-use Rattle.machine_rules.specs.Agreement.{Person, people_of}
-use Rattle.machine_rules.specs.Balance.{load_sum}
-use Rattle.orca_names.specs.declared.names.Thing.TheVariants.{Actor}
-use Rattle.machine_rules.specs.Block.{block_at, block_in, may_block}
-use Rattle.machine_rules.specs.Cell.{Cell}
-use Rattle.machine_rules.specs.Detect.{hear_in, reap_found, reap_in, scan_in}
-use Rattle.machine_rules.specs.Facts.{Every, Facts}
-use Rattle.machine_rules.specs.Next.{next}
-use Rattle.machine_rules.specs.Plain.{PlainState, plain_row}
-use Rattle.reach_walk.specs.Reach.{thing_row}
-use Rattle.machine_rules.specs.State.{State, Goes}
 
 module _ (p : PlainState) (s t : State) (beside : Facts p s) (facts : FactsHold (world s)) where
   abbrev all : Thing → Option Row

@@ -15,24 +15,16 @@ use Rattle.turn_rules.specs.declared.act.Act.{Act}
 use Rattle.turn_rules.specs.declared.act.Act.TheVariants.{Post, New, Print, End}
 use Rattle.turn_rules.specs.declared.act.Frame.{Frame}
 use Rattle.letter_kinds.proofs.Filters.{length-filter_le}
-use Rattle.letter_kinds.specs.declared.letter.Letter.{Letter}
-use Rattle.letter_kinds.specs.declared.letter.Letter.TheVariants.{App, Inc, Dec, Confirm}
-use Rattle.letter_kinds.specs.declared.note.Note.{Note}
-use Rattle.letter_kinds.specs.declared.note.Note.TheVariants as notes
 use Rattle.letter_kinds.specs.Counting.{Loaded, by_owner, given_back, is_lacking, lacking, mint_all, sweep, to_mint}
 use Rattle.letter_kinds.specs.Detector.{Detector, Token, all_acked, closed_set, has, note_ack, scanned, token_numbered}
 use Rattle.letter_kinds.specs.Holdings.{Holdings, held_in, with_made}
 use Rattle.letter_kinds.specs.Sums.{amount_of}
-use Rattle.detector_laws.proofs.Named.{numbered_is_open}
-use Rattle.detector_laws.specs.Members.{In}
-use Rattle.machine_laws.proofs.ActorsWork.{asks-work, decs-work, more_times, push-work, reaped-work, set-work}
-use Rattle.machine_laws.proofs.Blocking.{reporting}
-use Rattle.machine_laws.proofs.Going.{held_made}
-use Rattle.machine_laws.proofs.TableWork.{by_owner-length, mint_first-work, sweep-work}
-use Rattle.machine_laws.specs.Work.{actors_work, count_work, detector_work, entry_work, letter_work, news_work, note_work, seat_work, silence_work, table_work}
+use Rattle.letter_kinds.specs.declared.letter.Letter.{Letter}
+use Rattle.letter_kinds.specs.declared.letter.Letter.TheVariants.{App, Inc, Dec, Confirm}
+use Rattle.letter_kinds.specs.declared.note.Note.{Note}
+use Rattle.letter_kinds.specs.declared.note.Note.TheVariants as notes
 use Rattle.machine_rules.proofs.Enabling.{may_report}
 use Rattle.machine_rules.proofs.InHand.{AllCounted}
-use Rattle.machine_rules.specs.Lists.{is_empty}
 use Rattle.machine_rules.proofs.Lacking.{counted_mint, to_mint_theirs}
 use Rattle.machine_rules.proofs.Seats.{present_below}
 use Rattle.machine_rules.proofs.Steps.{goes_to, not_enabled}
@@ -43,11 +35,19 @@ use Rattle.machine_rules.specs.Cell.{Cell}
 use Rattle.machine_rules.specs.Collect.{collect_at, collect_in, is_marked}
 use Rattle.machine_rules.specs.Detect.{hear_in, reap_found, reap_in, scan_in}
 use Rattle.machine_rules.specs.Go.{act_in, go_at, go_in, lacking_from, load_from, mint, post_or_mint, turn_of_cell, turned}
+use Rattle.machine_rules.specs.Lists.{is_empty}
 use Rattle.machine_rules.specs.Next.{next}
 use Rattle.machine_rules.specs.Plain.{stopped_at}
 use Rattle.machine_rules.specs.Run.{act_is_choice, go_is_choice, go_is_choice_at, is_choice, take_is_choice_at}
 use Rattle.machine_rules.specs.State.{State, Goes}
 use Rattle.machine_rules.specs.Take.{cell_after, note_of, notes_after, take_at, take_in}
+use Rattle.detector_laws.proofs.Named.{numbered_is_open}
+use Rattle.detector_laws.specs.Members.{In}
+use Rattle.machine_laws.proofs.ActorsWork.{asks-work, decs-work, more_times, push-work, reaped-work, set-work}
+use Rattle.machine_laws.proofs.Blocking.{reporting}
+use Rattle.machine_laws.proofs.Going.{held_made}
+use Rattle.machine_laws.proofs.TableWork.{by_owner-length, mint_first-work, sweep-work}
+use Rattle.machine_laws.specs.Work.{actors_work, count_work, detector_work, entry_work, letter_work, news_work, note_work, seat_work, silence_work, table_work}
 
 -- what a filter lets through first passes
 first_passes : {A : Type 0} (p : A → Bool) (xs : List A) (y : A) (ys : List A) → filter p xs ≡ y ∷ ys → p y ≡ true

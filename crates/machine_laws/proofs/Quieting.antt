@@ -6,28 +6,28 @@ use Rattle.orca_names.specs.declared.names.Thing.{Thing}
 use Rattle.orca_names.specs.declared.names.Thing.TheVariants.{Actor}
 use Rattle.event_rule.specs.declared.event.Event.TheVariants.{Hear, Scan, Reap}
 use Rattle.letter_kinds.proofs.Sums.{sum-nil, sum-zero}
-use Rattle.letter_kinds.specs.declared.letter.Letter.{Letter}
 use Rattle.letter_kinds.specs.Detector.{Token}
 use Rattle.letter_kinds.specs.Holdings.{Row}
 use Rattle.letter_kinds.specs.Sums.{load_count}
-use Rattle.detector_laws.proofs.Named.{numbered_is_open}
-use Rattle.detector_laws.proofs.Quiet.{quiet_all_reached}
-use Rattle.detector_laws.specs.World.{FactsHold}
-use Rattle.detector_laws.specs.Quiet as view
-use Rattle.machine_laws.proofs.Balancing.{balanced}
-use Rattle.machine_rules.specs.Clean.{HoldsNoOwnAt}
-use Rattle.machine_laws.proofs.Seen.{world}
-use Rattle.detector_laws.proofs.Cells.{some_not_none}
+use Rattle.letter_kinds.specs.declared.letter.Letter.{Letter}
 use Rattle.machine_rules.proofs.Rest.{is_nil, none_can, quiet_rest, quiet_told}
 use Rattle.machine_rules.proofs.SeatReads.{loads_at-none, loads_at-seat}
 use Rattle.machine_rules.specs.Actors.{Seat, cell_at, cell_of, letters_of, mail_at, seat, seat_at}
 use Rattle.machine_rules.specs.Agreement.{Person}
 use Rattle.machine_rules.specs.Balance.{loads_at}
 use Rattle.machine_rules.specs.Cell.{Cell}
+use Rattle.machine_rules.specs.Clean.{HoldsNoOwnAt}
 use Rattle.machine_rules.specs.Facts.{Every, KeepsCounts}
 use Rattle.machine_rules.specs.Next.{IsAtRest, IsQuiet}
 use Rattle.machine_rules.specs.State.{State}
+use Rattle.detector_laws.proofs.Cells.{some_not_none}
+use Rattle.detector_laws.proofs.Named.{numbered_is_open}
+use Rattle.detector_laws.proofs.Quiet.{quiet_all_reached}
 use Rattle.detector_laws.specs.Members.{In}
+use Rattle.detector_laws.specs.Quiet as view
+use Rattle.detector_laws.specs.World.{FactsHold}
+use Rattle.machine_laws.proofs.Balancing.{balanced}
+use Rattle.machine_laws.proofs.Seen.{world}
 
 module _ (s : State) (quiet : IsQuiet s) where
   in_world : (a : ℕ) (P : Cell → List Letter → Type 0) → ((c : Cell) (mail : List Letter) → seat_at s.actors a ≡ seat c mail → P c mail) → (c : Cell) → cell_at s.actors a ≡ Some c → P c (mail_at s.actors a)

@@ -2,35 +2,35 @@
 use Rattle.std.proofs.Common.{◌≡◌, ℕ, ◌<◌, ◌≤◌, Bool, true, false, cond, Option, Some, None, List, [], ◌∷◌, ◌++◌, length, set, refl, ap, sym, subst, ◌∙◌, arith, ⊎_elim, get_or-set_same, get_or-set_other, length-set, eq-eqb, ne_eqb}
 use Rattle.std.proofs.lemmas.Bool.{cases_eq, cases_lt, false≢true}
 use Rattle.std.proofs.lemmas.List.{get_or_past}
-use Rattle.detector_laws.specs.Cells.{held_on}
-use Rattle.machine_laws.proofs.Moving.{push_other, push_here, sum_by-set_past}
-use Rattle.machine_laws.proofs.Collecting.{owner_held, NotTo, not_to, decs_quiet, decs_adds, decs_loads}
-use Rattle.detector_laws.specs.Events.{Reaps}
+use Rattle.std.proofs.lemmas.List.Sums.{sum_by-set}
+use Rattle.orca_names.specs.Names.{owner_of}
+use Rattle.orca_names.specs.declared.names.Thing.{Thing}
+use Rattle.orca_names.specs.declared.names.Thing.TheVariants.{Actor}
 use Rattle.letter_kinds.specs.Counting.{given_back, by_owner}
 use Rattle.letter_kinds.specs.Detector.{all_acked, has, Detector, Token, close_token}
 use Rattle.letter_kinds.specs.Holdings.{Row, held_in}
 use Rattle.letter_kinds.specs.declared.letter.Letter.{Letter}
 use Rattle.letter_kinds.specs.declared.letter.Letter.TheVariants.{Dec}
 use Rattle.letter_kinds.specs.declared.note.Note.{Note}
-use Rattle.machine_laws.proofs.Seen.{world_of}
 use Rattle.machine_rules.proofs.ReapKeeps.{every_none}
 use Rattle.machine_rules.proofs.Reaps.{AllIn}
 use Rattle.machine_rules.proofs.SeatReads.{loads_at-none}
 use Rattle.machine_rules.proofs.Sweeping.{amount-given_back, firm_counted}
 use Rattle.machine_rules.proofs.Sweeps.{owed, owed-groups, firm_groups}
 use Rattle.machine_rules.specs.Actors.{Actors, cell_at, Seat, cell_of, letters_of, mail_at, push_decs, push_letter, seat_at, with_letter_more}
+use Rattle.machine_rules.specs.Agreement.{Person}
 use Rattle.machine_rules.specs.Balance.{loads_at, load_sum}
 use Rattle.machine_rules.specs.Cell.{Cell}
 use Rattle.machine_rules.specs.Detect.{held_outside, reap_members, reaped}
-use Rattle.machine_rules.specs.Agreement.{Person}
 use Rattle.machine_rules.specs.Facts.{Every, KeepsCounts}
-use Rattle.orca_names.specs.Names.{owner_of}
-use Rattle.orca_names.specs.declared.names.Thing.{Thing}
-use Rattle.orca_names.specs.declared.names.Thing.TheVariants.{Actor}
-use Rattle.std.proofs.lemmas.List.Sums.{sum_by-set}
-use Rattle.detector_laws.specs.Confirms.{NoConfirms}
-use Rattle.detector_laws.specs.Members.{In}
 use Rattle.detector_laws.proofs.Members.{each_has}
+use Rattle.detector_laws.specs.Cells.{held_on}
+use Rattle.detector_laws.specs.Confirms.{NoConfirms}
+use Rattle.detector_laws.specs.Events.{Reaps}
+use Rattle.detector_laws.specs.Members.{In}
+use Rattle.machine_laws.proofs.Collecting.{owner_held, NotTo, not_to, decs_quiet, decs_adds, decs_loads}
+use Rattle.machine_laws.proofs.Moving.{push_other, push_here, sum_by-set_past}
+use Rattle.machine_laws.proofs.Seen.{world_of}
 
 -- ---- the members are gone
 

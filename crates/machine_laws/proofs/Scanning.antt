@@ -1,39 +1,31 @@
 -- A scan, as the detector's laws see it; it keeps all that is kept of the counts.
 use Rattle.std.proofs.Common.{◌≡◌, ◌≢◌, ℕ, suc, ◌≤◌, ◌==◌, true, false, if◌then◌else◌, Option, Some, None, List, [], ◌∷◌, ◌++◌, length, refl, ap, sym, ◌∙◌, arith, ⊎_elim, eq-eqb, ne_eqb, zero, ◌<◌}
 use Rattle.std.proofs.lemmas.Bool.{cases_eq, false≢true, or_left, or_right}
-use mathlib.Core.Path.{fun_ext}
-use Rattle.detector_laws.proofs.Members.{In_each, each_In}
-use Rattle.detector_laws.proofs.Sums.{some_le_all}
-use Rattle.detector_laws.specs.Balance.{sum_below}
-use Rattle.letter_kinds.proofs.Sums.{sum-nil}
-use Rattle.machine_rules.proofs.Seats.{present_below}
 use Rattle.std.specs.List.{AllByRecursion}
 use Rattle.std.specs.Prelude.{sum_by}
 use Rattle.std.proofs.lemmas.List.{length-map}
 use Rattle.std.proofs.lemmas.List.Sums.{sum_by-cons}
-use Rattle.detector_laws.proofs.Names.{name_In, names, named}
-use Rattle.detector_laws.proofs.Scan.{IsChosen, largest_chosen}
-use Rattle.detector_laws.proofs.Cells.{some_not_none}
-use Rattle.letter_kinds.specs.declared.letter.Letter.{Letter}
-use Rattle.machine_laws.proofs.Moving.{push_here, push_other, added_cell, push_loads_same}
-use Rattle.detector_laws.specs.World as view
-use Rattle.detector_laws.specs.World.{World}
-use Rattle.detector_laws.specs.Reports.{IsRising, AllAbove}
+use mathlib.Core.Path.{fun_ext}
+use Rattle.orca_names.specs.Names.{owner_of}
+use Rattle.orca_names.specs.declared.names.Thing.{Thing}
+use Rattle.orca_names.specs.declared.names.Thing.TheVariants.{Actor}
+use Rattle.letter_kinds.proofs.Sums.{sum-nil}
 use Rattle.letter_kinds.specs.Closed.{largest_closed}
 use Rattle.letter_kinds.specs.Detector.{Detector, scanned, has, closed_set, candidates}
 use Rattle.letter_kinds.specs.Holdings.{Row}
 use Rattle.letter_kinds.specs.Reports.{report_of}
 use Rattle.letter_kinds.specs.Sums.{inc_of, dec_of}
+use Rattle.letter_kinds.specs.declared.letter.Letter.{Letter}
 use Rattle.letter_kinds.specs.declared.letter.Letter.TheVariants.{Confirm}
 use Rattle.letter_kinds.specs.declared.note.Note.{Note}
 use Rattle.letter_kinds.specs.declared.note.Report.{Report}
-use Rattle.machine_laws.proofs.Seen.{world_of}
 use Rattle.machine_rules.proofs.Agreeing.{agrees_push_other}
 use Rattle.machine_rules.proofs.Every.{every_push, length-push}
 use Rattle.machine_rules.proofs.Global.{mail_push}
 use Rattle.machine_rules.proofs.InHand.{Balanced, in_hand, none, out_of_hand}
 use Rattle.machine_rules.proofs.Posting.{push_balanced}
 use Rattle.machine_rules.proofs.SeatReads.{letter_Confirm}
+use Rattle.machine_rules.proofs.Seats.{present_below}
 use Rattle.machine_rules.proofs.Sends.{push_prefix, cond_zero}
 use Rattle.machine_rules.specs.Actors.{Actors, cell_at, Seat, cell_of, letters_of, mail_at, push_letter, seat_at}
 use Rattle.machine_rules.specs.Agreement.{Person}
@@ -41,10 +33,17 @@ use Rattle.machine_rules.specs.Balance.{load_sum}
 use Rattle.machine_rules.specs.Detect.{ask_all}
 use Rattle.machine_rules.specs.Facts.{IsFirmAt, IsPastRows, KeepsCounts}
 use Rattle.machine_rules.specs.Known.{IsSoundAt}
-use Rattle.orca_names.specs.Names.{owner_of}
-use Rattle.orca_names.specs.declared.names.Thing.{Thing}
-use Rattle.orca_names.specs.declared.names.Thing.TheVariants.{Actor}
-use Rattle.detector_laws.specs.World.{ReportsAreExact}
+use Rattle.detector_laws.proofs.Cells.{some_not_none}
+use Rattle.detector_laws.proofs.Members.{In_each, each_In}
+use Rattle.detector_laws.proofs.Names.{name_In, names, named}
+use Rattle.detector_laws.proofs.Scan.{IsChosen, largest_chosen}
+use Rattle.detector_laws.proofs.Sums.{some_le_all}
+use Rattle.detector_laws.specs.Balance.{sum_below}
+use Rattle.detector_laws.specs.Reports.{IsRising, AllAbove}
+use Rattle.detector_laws.specs.World as view
+use Rattle.detector_laws.specs.World.{World, ReportsAreExact}
+use Rattle.machine_laws.proofs.Moving.{push_here, push_other, added_cell, push_loads_same}
+use Rattle.machine_laws.proofs.Seen.{world_of}
 
 present_seat : (o : Option Seat) → cell_of o ≢ None → (q : Seat) × (o ≡ Some q)
 present_seat None h = absurd (h refl)

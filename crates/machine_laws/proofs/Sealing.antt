@@ -1,11 +1,10 @@
 -- A reap keeps what holds of the counts: what it asks is what the seal says.
 use Rattle.std.proofs.Common.{◌≡◌, ℕ, true, false, Option, Some, None, List, [], ◌∷◌, refl, ap, sym, subst, ◌∙◌, arith}
 use Rattle.std.proofs.lemmas.Bool.{false≢true}
-use Rattle.detector_laws.proofs.Cells.{same_some, some_not_none}
-use Rattle.detector_laws.proofs.Letters.{EndsInConfirm-only}
-use Rattle.detector_laws.specs.Cells.{held_on}
-use Rattle.detector_laws.proofs.Members.{each_has}
-use Rattle.detector_laws.specs.Tokens.{IsSealed}
+use Rattle.std.proofs.lemmas.List.Sums.{sum_by-cons}
+use Rattle.std.specs.Prelude.{sum_by}
+use Rattle.orca_names.specs.declared.names.Thing.{Thing}
+use Rattle.orca_names.specs.declared.names.Thing.TheVariants.{Actor}
 use Rattle.letter_kinds.proofs.Sums.{sum-at, sum-nil}
 use Rattle.letter_kinds.specs.Detector.{has, Token}
 use Rattle.letter_kinds.specs.Holdings.{held_in, Row}
@@ -22,11 +21,12 @@ use Rattle.machine_rules.specs.Balance.{loads_at, load_sum}
 use Rattle.machine_rules.specs.Cell.{Cell}
 use Rattle.machine_rules.specs.Detect.{reap_members}
 use Rattle.machine_rules.specs.Facts.{KeepsCounts}
-use Rattle.orca_names.specs.declared.names.Thing.{Thing}
-use Rattle.orca_names.specs.declared.names.Thing.TheVariants.{Actor}
-use Rattle.std.proofs.lemmas.List.Sums.{sum_by-cons}
-use Rattle.std.specs.Prelude.{sum_by}
+use Rattle.detector_laws.proofs.Cells.{same_some, some_not_none}
+use Rattle.detector_laws.proofs.Letters.{EndsInConfirm-only}
+use Rattle.detector_laws.proofs.Members.{each_has}
+use Rattle.detector_laws.specs.Cells.{held_on}
 use Rattle.detector_laws.specs.Confirms.{OnlyConfirms}
+use Rattle.detector_laws.specs.Tokens.{IsSealed}
 
 only : (ls : List Letter) → OnlyConfirms ls → (app_letters ls ≡ []) × ((x : Thing) → sum_by (load_count x) ls ≡ 0)
 only [] h = (refl, λ x. sum-nil (load_count x))

@@ -1,16 +1,16 @@
 -- What holds where a run starts.
 use Rattle.std.proofs.Common.{◌≡◌, ℕ, false, zero, suc, Option, Some, None, [], ◌∷◌, refl}
 use Rattle.std.specs.Option.{option_map_or}
-use Rattle.behaviour_code.specs.declared.code.Program.{Program}
 use Rattle.behaviour_code.specs.Find.{start_name}
+use Rattle.behaviour_code.specs.declared.code.Program.{Program}
 use Rattle.letter_kinds.specs.declared.letter.Letter.TheVariants.{App}
-use Rattle.detector_laws.specs.Cells.{is_reporting}
-use Rattle.detector_laws.proofs.Starts.{start_facts}
-use Rattle.detector_laws.specs.World.{FactsHold}
-use Rattle.machine_laws.proofs.Seen.{world}
 use Rattle.machine_rules.specs.Actors.{Actors, cell_at, mail_at}
 use Rattle.machine_rules.specs.State.{first_state}
+use Rattle.detector_laws.proofs.Starts.{start_facts}
+use Rattle.detector_laws.specs.Cells.{is_reporting}
 use Rattle.detector_laws.specs.Confirms.{NoConfirms}
+use Rattle.detector_laws.specs.World.{FactsHold}
+use Rattle.machine_laws.proofs.Seen.{world}
 
 module _ (program : Program) where
   abbrev actors : Actors

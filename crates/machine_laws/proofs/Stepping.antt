@@ -6,39 +6,26 @@ use Rattle.std.proofs.lemmas.Bool.{false≢true}
 use Rattle.orca_names.specs.Names.{owner_of, thing_cmp}
 use Rattle.orca_names.specs.declared.names.Thing.{Thing}
 use Rattle.orca_names.specs.declared.names.Value.{Value}
+use Rattle.reach_walk.specs.Reach.{thing_row}
 use Rattle.event_rule.specs.declared.event.Event.{Event}
 use Rattle.event_rule.specs.declared.event.Event.TheVariants.{Take, Go, Collect, Block, Hear, Scan, Reap}
 use Rattle.turn_rules.specs.Segment.{Stop}
 use Rattle.turn_rules.specs.declared.act.Act.{Act}
 use Rattle.turn_rules.specs.declared.act.Act.TheVariants.{Post, New, Print, End}
 use Rattle.turn_rules.specs.declared.act.Frame.{Frame}
-use Rattle.letter_kinds.specs.declared.letter.Letter.{Letter}
-use Rattle.letter_kinds.specs.declared.letter.Letter.TheVariants.{App, Inc, Dec, Confirm}
-use Rattle.letter_kinds.specs.declared.note.Note.{Note}
-use Rattle.letter_kinds.specs.declared.note.Note.TheVariants.{Unblock}
 use Rattle.letter_kinds.specs.Counting.{Loaded, lacking, to_mint}
 use Rattle.letter_kinds.specs.Detector.{Token, all_acked, closed_set, token_numbered}
 use Rattle.letter_kinds.specs.Holdings.{Row}
 use Rattle.letter_kinds.specs.Sums.{amount_of}
-use Rattle.detector_laws.proofs.Cells.{same_some}
-use Rattle.detector_laws.proofs.Named.{numbered_is_open}
-use Rattle.detector_laws.specs.Events.{Moves}
-use Rattle.detector_laws.specs.World.{FactsHold}
-use Rattle.detector_laws.specs.Reports.{Told, Unreported, Reported, Contradictory, IsAsTold, told_of}
-use Rattle.detector_laws.specs.Run.{IsStep, Hears, Scans, ReapsOne, Blocks, TakesConfirm, MovesOne}
-use Rattle.machine_laws.proofs.Blocking.{block_is, can_block}
+use Rattle.letter_kinds.specs.declared.letter.Letter.{Letter}
+use Rattle.letter_kinds.specs.declared.letter.Letter.TheVariants.{App, Inc, Dec, Confirm}
+use Rattle.letter_kinds.specs.declared.note.Note.{Note}
+use Rattle.letter_kinds.specs.declared.note.Note.TheVariants.{Unblock}
 use Rattle.machine_rules.proofs.Enabling.{may_report}
-use Rattle.machine_laws.proofs.Collecting.{collect_moves}
-use Rattle.machine_laws.proofs.Going.{held_made, make_moves, mint_moves, post_moves, turn_moves}
-use Rattle.machine_rules.proofs.FollowingGo.{known1, known_to}
-use Rattle.machine_rules.proofs.Steps.{goes_if, goes_to, not_enabled}
-use Rattle.machine_laws.proofs.Reaping.{reap_reaps}
-use Rattle.machine_laws.proofs.Scanning.{scan_is}
-use Rattle.machine_laws.proofs.Seen.{world, world_of}
-use Rattle.machine_laws.proofs.Noted.{noted}
-use Rattle.machine_laws.proofs.Taking.{confirm_is, take_moves}
+use Rattle.machine_rules.proofs.FollowingGo.{load_known, target_known}
 use Rattle.machine_rules.proofs.Lacking.{first_minted, to_mint_theirs}
 use Rattle.machine_rules.proofs.Makes.{fresh_held}
+use Rattle.machine_rules.proofs.Steps.{goes_if, goes_to, not_enabled}
 use Rattle.machine_rules.specs.Actors.{Actors, Seat, cell_of, letters_of, seat, seat_at}
 use Rattle.machine_rules.specs.Agreement.{people_of}
 use Rattle.machine_rules.specs.Block.{block_at, block_in, may_block}
@@ -46,13 +33,26 @@ use Rattle.machine_rules.specs.Cell.{Cell, fresh_cell}
 use Rattle.machine_rules.specs.Collect.{collect_at, collect_in, is_marked}
 use Rattle.machine_rules.specs.Detect.{hear_in, reap_found, reap_in, scan_in}
 use Rattle.machine_rules.specs.Facts.{Facts, IsFirm}
-use Rattle.machine_rules.specs.Known.{IsClosedAt}
-use Rattle.reach_walk.specs.Reach.{thing_row}
 use Rattle.machine_rules.specs.Go.{act_in, go_at, go_in, load_from, make, post_or_mint, turn_of_cell, turned}
+use Rattle.machine_rules.specs.Known.{IsClosedAt}
 use Rattle.machine_rules.specs.Next.{next}
 use Rattle.machine_rules.specs.Plain.{PlainState, plain_row, stopped_at, with_name}
 use Rattle.machine_rules.specs.State.{State, Goes}
 use Rattle.machine_rules.specs.Take.{take_at, take_in}
+use Rattle.detector_laws.proofs.Cells.{same_some}
+use Rattle.detector_laws.proofs.Named.{numbered_is_open}
+use Rattle.detector_laws.specs.Events.{Moves}
+use Rattle.detector_laws.specs.Reports.{Told, Unreported, Reported, Contradictory, IsAsTold, told_of}
+use Rattle.detector_laws.specs.Run.{IsStep, Hears, Scans, ReapsOne, Blocks, TakesConfirm, MovesOne}
+use Rattle.detector_laws.specs.World.{FactsHold}
+use Rattle.machine_laws.proofs.Blocking.{block_is, can_block}
+use Rattle.machine_laws.proofs.Collecting.{collect_moves}
+use Rattle.machine_laws.proofs.Going.{held_made, make_moves, mint_moves, post_moves, turn_moves}
+use Rattle.machine_laws.proofs.Noted.{noted}
+use Rattle.machine_laws.proofs.Reaping.{reap_reaps}
+use Rattle.machine_laws.proofs.Scanning.{scan_is}
+use Rattle.machine_laws.proofs.Seen.{world, world_of}
+use Rattle.machine_laws.proofs.Taking.{confirm_is, take_moves}
 
 -- ---- who runs or is dirty has no report out
 
@@ -132,7 +132,7 @@ module _ (p : PlainState) (s t : State) (beside : Facts p s) (facts : FactsHold 
         → StepsTo (post_or_mint s a c after ls stop to behaviour args (load_from a after.holdings args) lack)
     posts to behaviour args is [] l =
         unnoted a c _ up (post_moves s.actors s.detector s.notes a c ls at running up after refl (held_made stop.turn.made c.holdings) to behaviour args (load_from a after.holdings args)
-        (known_to p s beside a c ls at f frame to behaviour args is) (known1 p s beside a c ls at f frame to behaviour args is))
+        (target_known p s beside a c ls at f frame to behaviour args is) (load_known p s beside a c ls at f frame to behaviour args is))
     posts to behaviour args is (e ∷ es) l =
         unnoted a c _ up (mint_moves s.actors s.detector s.notes a c ls at running up all (closed_at a c ls at) (owner_of e.0) (to_mint (owner_of e.0) (e ∷ es))
         (λ x some.

@@ -1,13 +1,11 @@
 -- A take, as the detector's laws see it.
 use Rattle.std.proofs.Common.{◌≡◌, ◌≢◌, ℕ, ◌+◌, ◌≤◌, false, if◌then◌else◌, None, List, [], ◌∷◌, ◌++◌, length, set, refl, ap, sym, ◌∙◌, arith, inr, ⊎_elim, get_or-set_same, get_or-set_other, length-set, eq-eqb, ne_eqb}
 use Rattle.std.proofs.lemmas.Bool.{cases_eq, false≢true}
+use Rattle.std.proofs.lemmas.List.Sums.{sum_by-cons}
 use mathlib.Core.Path.{fun_ext}
-use Rattle.machine_laws.proofs.Moving.{adds_none, moves}
-use Rattle.detector_laws.specs.Cells.{is_reporting}
-use Rattle.detector_laws.specs.Confirms.{is_confirm}
-use Rattle.detector_laws.specs.World as view
-use Rattle.detector_laws.specs.World.{take_confirm}
-use Rattle.detector_laws.specs.Events.{Moves}
+use Rattle.orca_names.specs.declared.names.Thing.{Thing}
+use Rattle.orca_names.specs.declared.names.Thing.TheVariants.{Actor}
+use Rattle.behaviour_code.specs.declared.code.Program.{Program}
 use Rattle.letter_kinds.proofs.Amounts.{held-raise_all, held-lower_all}
 use Rattle.letter_kinds.proofs.Counts.{held-receive}
 use Rattle.letter_kinds.specs.Detector.{Detector}
@@ -17,19 +15,21 @@ use Rattle.letter_kinds.specs.declared.letter.Letter.{Letter}
 use Rattle.letter_kinds.specs.declared.letter.Letter.TheVariants.{App, Inc, Dec, Confirm}
 use Rattle.letter_kinds.specs.declared.note.Note.{Note}
 use Rattle.letter_kinds.specs.declared.note.Note.TheVariants.{Ack}
-use Rattle.machine_laws.proofs.Seen.{world_of}
-use Rattle.machine_laws.proofs.Noted.{noted, acked}
 use Rattle.machine_rules.proofs.InHand.{take_letter}
-use Rattle.behaviour_code.specs.declared.code.Program.{Program}
 use Rattle.machine_rules.proofs.SeatReads.{letter_App, letter_Confirm, loads_at-seat}
 use Rattle.machine_rules.proofs.Seats.{present_below, load_sum-set}
 use Rattle.machine_rules.specs.Actors.{Actors, cell_at, cell_of, letters_of, mail_at, seat, seat_at}
 use Rattle.machine_rules.specs.Balance.{load_sum}
 use Rattle.machine_rules.specs.Cell.{Cell}
 use Rattle.machine_rules.specs.Take.{cell_after}
-use Rattle.orca_names.specs.declared.names.Thing.{Thing}
-use Rattle.orca_names.specs.declared.names.Thing.TheVariants.{Actor}
-use Rattle.std.proofs.lemmas.List.Sums.{sum_by-cons}
+use Rattle.detector_laws.specs.Cells.{is_reporting}
+use Rattle.detector_laws.specs.Confirms.{is_confirm}
+use Rattle.detector_laws.specs.Events.{Moves}
+use Rattle.detector_laws.specs.World as view
+use Rattle.detector_laws.specs.World.{take_confirm}
+use Rattle.machine_laws.proofs.Moving.{adds_none, moves}
+use Rattle.machine_laws.proofs.Noted.{noted, acked}
+use Rattle.machine_laws.proofs.Seen.{world_of}
 
 module _ (program : Program) (s : Actors) (d : Detector) (ns : List Note) (a : ℕ) (c : Cell) (l : Letter) (ls : List Letter) (at : seat_at s a ≡ seat c (l ∷ ls)) where
   fewer : (x : Thing) (c' : Cell) → load_sum x (set s a (seat c' ls)) + load_count x l ≡ load_sum x s

@@ -3,17 +3,13 @@ use Rattle.std.proofs.Common.{◌≡◌, Bool, true, false, List, [], ◌∷◌,
 use Rattle.std.specs.Prelude.{if◌then◌else◌}
 use Rattle.orca_names.specs.declared.names.Thing.{Thing}
 use Rattle.behaviour_code.specs.declared.code.Program.{Program}
+use Rattle.reach_walk.specs.Reach.{thing_row}
 use Rattle.event_rule.specs.declared.event.Event.{Event}
 use Rattle.event_rule.specs.declared.event.Event.TheVariants.{Take, Go, Collect, Block, Hear, Scan, Reap}
-use Rattle.reach_walk.specs.Reach.{thing_row}
-use Rattle.machine_laws.proofs.Keeping.{block_beside, hear_beside, next_keeps, reap_beside, scan_beside}
-use Rattle.machine_laws.proofs.Starting.{start_detects}
-use Rattle.machine_laws.specs.AllFacts.{AllFacts}
-use Rattle.machine_laws.specs.Laws.{EventsKeepAllFacts, IsNeverTooEarly, NeverTooEarly, RunsHaveAllFacts, StartHasAllFacts}
+use Rattle.machine_rules.proofs.Acting.{Beside, collects_keep, goes_keep, takes_keep}
 use Rattle.machine_rules.proofs.Cleaning.{clean-first, clean-next}
 use Rattle.machine_rules.proofs.Freed.{lives_left}
 use Rattle.machine_rules.proofs.InHand.{in_hand}
-use Rattle.machine_rules.proofs.Acting.{Beside, collects_keep, goes_keep, takes_keep}
 use Rattle.machine_rules.proofs.Named.{named_left}
 use Rattle.machine_rules.proofs.NoSelf.{no_self-first, no_self-next}
 use Rattle.machine_rules.proofs.Reachable.{reachable_lives}
@@ -25,6 +21,10 @@ use Rattle.machine_rules.specs.Plain.{PlainState, plain_row, start_of}
 use Rattle.machine_rules.specs.PlainReach.{IsReachable}
 use Rattle.machine_rules.specs.Run.{IsRun, Leads, PlainFollows, PlainLeads, choices, choices_after, is_choice}
 use Rattle.machine_rules.specs.State.{State, Step, Goes, first_state}
+use Rattle.machine_laws.proofs.Keeping.{block_beside, hear_beside, next_keeps, reap_beside, scan_beside}
+use Rattle.machine_laws.proofs.Starting.{start_detects}
+use Rattle.machine_laws.specs.AllFacts.{AllFacts}
+use Rattle.machine_laws.specs.Laws.{EventsKeepAllFacts, IsNeverTooEarly, NeverTooEarly, RunsHaveAllFacts, StartHasAllFacts}
 
 pub start_all : StartHasAllFacts
 start_all program = record {

@@ -1,5 +1,4 @@
 -- All that holds in each state of a run, beside the machine that frees nothing.
-use Rattle.detector_laws.specs.Facts.{DetectorFacts}
 use Rattle.orca_names.specs.declared.names.Thing.TheVariants.{Actor}
 use Rattle.machine_rules.specs.Actors.{cell_at, mail_at}
 use Rattle.machine_rules.specs.Balance.{load_sum}
@@ -7,6 +6,7 @@ use Rattle.machine_rules.specs.Clean.{CleanAreSwept, NoneHoldsItsOwn}
 use Rattle.machine_rules.specs.Facts.{Facts}
 use Rattle.machine_rules.specs.Plain.{PlainState}
 use Rattle.machine_rules.specs.State.{State}
+use Rattle.detector_laws.specs.Facts.{DetectorFacts}
 
 pub record AllFacts (p : PlainState) (s : State) : Type 0 where
   -- agreement, balance, prefixes, held closure, and what carries them

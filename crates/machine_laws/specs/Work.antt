@@ -2,12 +2,12 @@
 -- less than the thing itself, so each event that is no choice makes the number smaller.
 use Rattle.std.specs.Prelude.{ℕ, suc, ◌+◌, ◌*◌, ◌==◌, if◌then◌else◌, Option, None, Some, length, sum_by}
 use Rattle.std.specs.FinMap as m
+use Rattle.letter_kinds.specs.Detector.{Detector}
+use Rattle.letter_kinds.specs.Holdings.{Holdings}
 use Rattle.letter_kinds.specs.declared.letter.Letter.{Letter}
 use Rattle.letter_kinds.specs.declared.letter.Letter.TheVariants.{App, Inc, Dec, Confirm}
 use Rattle.letter_kinds.specs.declared.note.Note.{Note}
 use Rattle.letter_kinds.specs.declared.note.Note.TheVariants.{Block, Unblock, Ack}
-use Rattle.letter_kinds.specs.Detector.{Detector}
-use Rattle.letter_kinds.specs.Holdings.{Holdings}
 use Rattle.machine_rules.specs.Actors.{Actors, Seat}
 use Rattle.machine_rules.specs.State.{State}
 

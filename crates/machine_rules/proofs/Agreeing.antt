@@ -1,9 +1,8 @@
 -- Events keep the agreement of the two machines.
 use Rattle.std.proofs.Common.{◌≡◌, ℕ, ◌<◌, Option, Some, None, List, [], ◌∷◌, ◌++◌, length, set, refl, sym, ◌∙◌, ap, subst, ⊎_elim, get_or-set_same, get_or-set_other}
 use Rattle.std.proofs.lemmas.Bool.{cases_eq}
-use Rattle.machine_rules.proofs.Seats.{present_below, at_same, at_other}
+use Rattle.machine_rules.proofs.Seats.{present_below, at_same, at_other, some_seat}
 use Rattle.machine_rules.proofs.Sends.{push_is}
-use Rattle.machine_rules.proofs.Seats.{some_seat}
 use Rattle.letter_kinds.specs.Holdings.{Row}
 use Rattle.letter_kinds.specs.declared.letter.Letter.{Letter}
 use Rattle.letter_kinds.specs.declared.letter.Letter.TheVariants.{App, Inc, Dec, Confirm}

@@ -2,9 +2,8 @@
 use Rattle.std.proofs.Common.{◌≡◌, ◌≢◌, ℕ, ◌<◌, Option, Some, None, List, [], ◌∷◌, ◌++◌, length, set, refl, sym, ◌∙◌, ap, subst, subst₂, ⊎_elim, get_or-set_other, get_or-set_same, length-set}
 use Rattle.std.proofs.lemmas.Bool.{cases_eq, cases_lt}
 use Rattle.std.proofs.lemmas.List.{get_or_past}
-use Rattle.machine_rules.proofs.Seats.{present_below}
+use Rattle.machine_rules.proofs.Seats.{present_below, some_seat}
 use Rattle.machine_rules.proofs.Makes.{more_last, more_other}
-use Rattle.machine_rules.proofs.Seats.{some_seat}
 use Rattle.machine_rules.proofs.Agreeing.{agrees_push_other}
 use Rattle.letter_kinds.specs.declared.letter.Letter.{Letter}
 use Rattle.letter_kinds.specs.declared.letter.Letter.TheVariants.{Dec}

@@ -235,13 +235,13 @@ module _ (p : PlainState) (s : State) (facts : Facts p s) (a : ℕ) (c : Cell) (
     unfolding turn after
     exact1 = exact s.program all all' (people_of p.actors) s.actors facts.counts a c ls at f is grows (Some stopped) c.dirty (λ z h. h) to b args act load (load_from-exact a c1.holdings args)
 
-    pub known1 : (z : Thing) → 0 < times_loaded z load → IsKnown a c1.holdings z
+    pub load_known : (z : Thing) → 0 < times_loaded z load → IsKnown a c1.holdings z
     unfolding turn after
-    known1 = known_load s.program all all' (people_of p.actors) s.actors facts.counts a c ls at f is grows (Some stopped) c.dirty (λ z h. h) to b args act load (load_from-exact a c1.holdings args)
+    load_known = known_load s.program all all' (people_of p.actors) s.actors facts.counts a c ls at f is grows (Some stopped) c.dirty (λ z h. h) to b args act load (load_from-exact a c1.holdings args)
 
-    pub known_to : IsKnown a c1.holdings (things.Actor to)
+    pub target_known : IsKnown a c1.holdings (things.Actor to)
     unfolding turn after
-    known_to = known_target s.program all all' (people_of p.actors) s.actors facts.counts a c ls at f is grows (Some stopped) c.dirty (λ z h. h) to b args act load (load_from-exact a c1.holdings args)
+    target_known = known_target s.program all all' (people_of p.actors) s.actors facts.counts a c ls at f is grows (Some stopped) c.dirty (λ z h. h) to b args act load (load_from-exact a c1.holdings args)
 
     abbrev sender : Cell
     sender = record c1 { holdings = send a load c1.holdings }
@@ -254,7 +254,7 @@ module _ (p : PlainState) (s : State) (facts : Facts p s) (a : ℕ) (c : Cell) (
 
     posted_kept : lacking a c1.holdings load ≡ [] → KeepsCounts all' (set turned_people to (with_letter b args (person_at turned_people to))) (post a c1 ls to b args load s.actors)
     posted_kept full =
-        let one = post_keeps_counts all' turned_people s1 kept1 a c1 ls at1 to b args load exact1 (load_from-once a c1.holdings args) known1 known_to full in
+        let one = post_keeps_counts all' turned_people s1 kept1 a c1 ls at1 to b args load exact1 (load_from-once a c1.holdings args) load_known target_known full in
         let same : set turned_people a (person_of sender ls) ≡ turned_people =
         set-set (people_of p.actors) a (person_of c1 ls) (person_of sender ls) ∙ ap (set (people_of p.actors) a) (ap (λ next. record (person_of c1 ls) { serial = next }) (next_send a load c1.holdings)) in
         let two : KeepsCounts all' (set turned_people to (with_letter b args (person_at turned_people to))) (post a c1 ls to b args load s1) =
@@ -267,7 +267,7 @@ module _ (p : PlainState) (s : State) (facts : Facts p s) (a : ℕ) (c : Cell) (
       where
         to_below : to < length (set p.actors a (y (Some stopped)))
         to_below =
-            let here = left_present s1 to (known_left s1 (in_hand s1 kept1.balanced) kept1.prefixes a c1 ls (things.Actor to) at1 known_to) in
+            let here = left_present s1 to (known_left s1 (in_hand s1 kept1.balanced) kept1.prefixes a c1 ls (things.Actor to) at1 target_known) in
             let below = present_below s1 to here.0 here.1 in
             omega (arith, long, length-set s.actors a (seat c1 ls), length-set p.actors a (y (Some stopped)))
 

@@ -2,23 +2,21 @@
 use Rattle.std.proofs.Common.{◌≡◌, ◌⊎◌, ℕ, zero, suc, ◌+◌, ◌<◌, true, Option, Some, None, List, [], ◌∷◌, refl, sym, ◌∙◌, ap, arith, subst, inl, inr, ⊎_elim}
 use Rattle.std.proofs.lemmas.List.Sums.{sum_by-cons}
 use Rattle.letter_kinds.proofs.Sums.{sum-at, sum-nil}
-use Rattle.letter_kinds.proofs.Counts.{counted_has}
+use Rattle.letter_kinds.proofs.Counts.{counted_has, has_actor}
 use Rattle.machine_rules.proofs.Seats.{present_below}
 use Rattle.machine_rules.proofs.Safety.{safe_zero}
 use Rattle.machine_rules.proofs.SeatReads.{own_at-seat, incs_at-seat, own_at-none, incs_at-none, loads_at-seat, letter_App, letter_Inc, letter_Dec, letter_Confirm}
 use Rattle.machine_rules.proofs.Sends.{held_below}
-use Rattle.letter_kinds.proofs.Counts.{has_actor}
 use Rattle.letter_kinds.specs.Holdings.{Row, own_in, has_own}
 use Rattle.letter_kinds.specs.Sums.{times_loaded, inc_of, load_count}
 use Rattle.letter_kinds.specs.declared.letter.Letter.{Letter}
 use Rattle.letter_kinds.specs.declared.letter.Letter.TheVariants.{App, Inc, Dec, Confirm}
-use Rattle.machine_rules.proofs.InHand.{Sound}
+use Rattle.machine_rules.proofs.InHand.{Sound, Balanced}
 use Rattle.machine_rules.proofs.Living.{Letters, here, later, Holds, Lives, stands, holds, row, owner}
 use Rattle.machine_rules.proofs.Paths.{along_row}
 use Rattle.machine_rules.specs.Actors.{Seat, Actors, seat_at, seat}
 use Rattle.machine_rules.specs.Agreement.{Person, person_at, person_of, IsRootPerson, app_letters, Agrees}
 use Rattle.machine_rules.specs.Balance.{own_at, incs_at, loads_at, held_sum, load_sum, owner_seat, IsCoveredAt, NeverOverdraws}
-use Rattle.machine_rules.proofs.InHand.{Balanced}
 use Rattle.machine_rules.specs.Cell.{Cell}
 use Rattle.machine_rules.specs.Known.{Names, Reaches, IsKnown, Roots, in_fields, in_frame, IsLoadOf, AreExactLetters}
 use Rattle.machine_rules.specs.Left.{IsLeft}

@@ -7,17 +7,15 @@ use Rattle.letter_kinds.proofs.Counts.{loaded-same, loaded_more}
 use Rattle.machine_rules.proofs.Seats.{present_below, at_same, at_other, some_seat}
 use Rattle.machine_rules.proofs.SeatReads.{letter_App}
 use Rattle.machine_rules.proofs.Sends.{push_is}
-use Rattle.machine_rules.proofs.Paths.{reach_into}
+use Rattle.machine_rules.proofs.Paths.{reach_into, along_row}
 use Rattle.machine_rules.proofs.Freed.{known_left, loaded_left}
 use Rattle.letter_kinds.specs.Holdings.{Row}
 use Rattle.letter_kinds.specs.Sums.{times_loaded, load_count}
 use Rattle.letter_kinds.specs.declared.letter.Letter.{Letter}
 use Rattle.letter_kinds.specs.declared.letter.Letter.TheVariants.{App, Inc, Dec, Confirm}
-use Rattle.machine_rules.proofs.InHand.{Sound}
-use Rattle.machine_rules.proofs.Paths.{along_row}
+use Rattle.machine_rules.proofs.InHand.{Sound, Balanced}
 use Rattle.machine_rules.specs.Actors.{Seat, Actors, seat_at, push_letter, seat}
 use Rattle.machine_rules.specs.Balance.{NeverOverdraws}
-use Rattle.machine_rules.proofs.InHand.{Balanced}
 use Rattle.machine_rules.specs.Cell.{Cell}
 use Rattle.machine_rules.specs.Known.{Names, Reaches, Roots, RowsAreIn, IsExactLetter, AreExactLetters, IsSoundAt}
 use Rattle.machine_rules.specs.Left.{IsLeft}

@@ -14,10 +14,9 @@ use Rattle.letter_kinds.specs.Counting.{gain}
 use Rattle.letter_kinds.specs.Holdings.{Holdings, own_in, held_in}
 use Rattle.letter_kinds.specs.Sums.{inc_of, dec_of, load_count}
 use Rattle.letter_kinds.specs.declared.letter.Letter.{Letter}
-use Rattle.machine_rules.proofs.InHand.{BalancedWith, none}
+use Rattle.machine_rules.proofs.InHand.{BalancedWith, none, Balanced}
 use Rattle.machine_rules.specs.Actors.{Seat, Actors, seat_at, seat}
 use Rattle.machine_rules.specs.Balance.{own_at, incs_at, decs_at, held_at, loads_at, IsCoveredAt, NeverOverdraws}
-use Rattle.machine_rules.proofs.InHand.{Balanced}
 use Rattle.machine_rules.specs.Cell.{Cell}
 use Rattle.machine_rules.specs.Go.{make}
 use Rattle.orca_names.specs.Names.{owner_of, is_thing}

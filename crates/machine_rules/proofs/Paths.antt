@@ -1,11 +1,10 @@
 -- Paths through rows: going along a row, and what holds of all that is reached.
 use Rattle.std.proofs.Common.{◌≡◌, [], Option, Some, None, refl, sym, subst}
-use Rattle.std.specs.Prelude.{unwrap_or}
+use Rattle.std.specs.Prelude.{unwrap_or, Contains}
 use Rattle.orca_names.specs.declared.names.ObjName.{ObjName}
 use Rattle.orca_names.specs.declared.names.Thing.{Thing}
 use Rattle.orca_names.specs.declared.names.Thing.TheVariants.{Actor, Obj}
 use Rattle.reach_walk.specs.Reach.{root, step, owned, named_by}
-use Rattle.std.specs.Prelude.{Contains}
 use Rattle.reach_walk.proofs.Elements.{none_in_nil}
 use Rattle.letter_kinds.specs.Holdings.{Row}
 use Rattle.machine_rules.specs.Known.{Names, Reaches, row_values}

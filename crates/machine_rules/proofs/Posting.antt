@@ -2,11 +2,10 @@
 use Rattle.std.proofs.Common.{◌≡◌, ℕ, ◌+◌, Some, refl, arith}
 use Rattle.std.proofs.lemmas.List.Sums.{sum_by_push}
 use Rattle.letter_kinds.proofs.Counts.{cond_eq, cond_ne}
-use Rattle.machine_rules.proofs.Seats.{present_below, balanced-set}
+use Rattle.machine_rules.proofs.Seats.{present_below, balanced-set, IsPresent}
 use Rattle.letter_kinds.specs.Sums.{inc_of, dec_of, load_count}
 use Rattle.letter_kinds.specs.declared.letter.Letter.{Letter}
 use Rattle.machine_rules.proofs.InHand.{BalancedWith, credit, debit}
-use Rattle.machine_rules.proofs.Seats.{IsPresent}
 use Rattle.machine_rules.specs.Actors.{Seat, Actors, with_letter_more, push_letter}
 use Rattle.machine_rules.specs.Balance.{own_at, incs_at, decs_at, held_at, loads_at}
 use Rattle.orca_names.specs.Names.{owner_of}

@@ -11,10 +11,9 @@ use Rattle.machine_rules.proofs.Sweeps.{owed, owed-groups, Firm, firm_groups, de
 use Rattle.machine_rules.proofs.Sweeping.{amount-given_back}
 use Rattle.letter_kinds.specs.Counting.{given_back, by_owner}
 use Rattle.letter_kinds.specs.Detector.{has}
-use Rattle.machine_rules.proofs.InHand.{BalancedWith, none, AllCounted}
+use Rattle.machine_rules.proofs.InHand.{BalancedWith, none, AllCounted, Balanced}
 use Rattle.machine_rules.specs.Actors.{Seat, Actors, seat_at}
 use Rattle.machine_rules.specs.Balance.{own_at, incs_at, decs_at, held_at, loads_at, NeverOverdraws}
-use Rattle.machine_rules.proofs.InHand.{Balanced}
 use Rattle.machine_rules.specs.Detect.{held_outside, reaped}
 use Rattle.orca_names.specs.Names.{owner_of}
 use Rattle.orca_names.specs.declared.names.Thing.{Thing}

@@ -5,7 +5,7 @@ use Rattle.std.proofs.lemmas.List.Sums.{sum_by_push}
 use Rattle.letter_kinds.proofs.Sums.{sum-at}
 use Rattle.letter_kinds.proofs.Counts.{own-send, held-send, held-send_own, cond_eq, cond_ne}
 use Rattle.letter_kinds.proofs.Amounts.{held-mint_all, own-mint_all}
-use Rattle.machine_rules.proofs.Seats.{balanced-set, present_below, at_same, at_other, held_sum-set}
+use Rattle.machine_rules.proofs.Seats.{balanced-set, present_below, at_same, at_other, held_sum-set, IsPresent}
 use Rattle.machine_rules.proofs.Posting.{push_balanced, held_at_push}
 use Rattle.machine_rules.proofs.Safety.{safe_more, safe_push, prefix-set}
 use Rattle.machine_rules.proofs.SeatReads.{own_at-seat, held_at-seat, incs_at-seat, decs_at-seat, loads_at-seat, letter_App, letter_Inc, own_at-none, incs_at-none}
@@ -14,11 +14,9 @@ use Rattle.letter_kinds.specs.Holdings.{Row, own_in, held_in, has_own}
 use Rattle.letter_kinds.specs.Sums.{amount_of, times_loaded, inc_of, dec_of, load_count}
 use Rattle.letter_kinds.specs.declared.letter.Letter.{Letter}
 use Rattle.letter_kinds.specs.declared.letter.Letter.TheVariants.{App, Inc}
-use Rattle.machine_rules.proofs.InHand.{BalancedWith, credit, debit, none}
-use Rattle.machine_rules.proofs.Seats.{IsPresent}
+use Rattle.machine_rules.proofs.InHand.{BalancedWith, credit, debit, none, Balanced}
 use Rattle.machine_rules.specs.Actors.{Seat, Actors, seat_at, with_letter_more, push_letter, seat}
 use Rattle.machine_rules.specs.Balance.{own_at, incs_at, held_at, loads_at, held_sum, load_sum, owner_seat, NeverOverdraws}
-use Rattle.machine_rules.proofs.InHand.{Balanced}
 use Rattle.machine_rules.specs.Cell.{Cell}
 use Rattle.machine_rules.specs.Go.{post, mint}
 use Rattle.orca_names.specs.Names.{owner_of}

@@ -12,11 +12,10 @@ use Rattle.letter_kinds.specs.Holdings.{held_in}
 use Rattle.letter_kinds.specs.Sums.{amount_of, inc_of}
 use Rattle.letter_kinds.specs.declared.letter.Letter.{Letter}
 use Rattle.letter_kinds.specs.declared.letter.Letter.TheVariants.{Dec}
-use Rattle.machine_rules.proofs.InHand.{BalancedWith, debit, none, AllCounted}
+use Rattle.machine_rules.proofs.InHand.{BalancedWith, debit, none, AllCounted, Balanced}
 use Rattle.machine_rules.proofs.Seats.{IsPresent}
 use Rattle.machine_rules.specs.Actors.{Actors, seat_at, push_letter, push_decs, seat}
 use Rattle.machine_rules.specs.Balance.{NeverOverdraws}
-use Rattle.machine_rules.proofs.InHand.{Balanced}
 use Rattle.machine_rules.specs.Cell.{Cell}
 use Rattle.machine_rules.specs.Collect.{collected}
 use Rattle.orca_names.specs.Names.{owner_of, is_thing}

@@ -10,10 +10,9 @@ use Rattle.letter_kinds.specs.Holdings.{own_in, held_in}
 use Rattle.letter_kinds.specs.Sums.{inc_of, dec_of, load_count}
 use Rattle.letter_kinds.specs.declared.letter.Letter.{Letter}
 use Rattle.letter_kinds.specs.declared.letter.Letter.TheVariants.{App, Inc, Dec, Confirm}
-use Rattle.machine_rules.proofs.InHand.{none, take_letter}
+use Rattle.machine_rules.proofs.InHand.{none, take_letter, Balanced}
 use Rattle.machine_rules.specs.Actors.{Actors, seat_at, seat}
 use Rattle.machine_rules.specs.Balance.{IsCovered, IsCoveredAt, NeverOverdraws}
-use Rattle.machine_rules.proofs.InHand.{Balanced}
 use Rattle.machine_rules.specs.Cell.{Cell}
 use Rattle.machine_rules.specs.Take.{cell_after}
 use Rattle.orca_names.specs.Names.{owner_of}

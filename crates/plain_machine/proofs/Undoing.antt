@@ -1,5 +1,5 @@
 -- What a turn left is taken back.
-use Rattle.std.proofs.Common.{◌≡◌, ℕ, zero, suc, List, [], ◌∷◌, ◌++◌, take, Option, None, Some, slice_get, IfSome, refl, sym, ap, ◌∙◌}
+use Rattle.std.proofs.Common.{◌≡◌, ℕ, zero, suc, List, [], ◌∷◌, ◌++◌, take, Option, None, Some, slice_get, IfSome, refl, sym, ap, ◌∙◌, set}
 use Rattle.std.proofs.lemmas.List.{take_at}
 use Rattle.orca_names.specs.declared.names.Value.{Value}
 use Rattle.orca_names.specs.declared.row.Fields.{Fields}
@@ -9,7 +9,6 @@ use Rattle.machine_rules.specs.Plain.{with_changed, with_turn}
 use Rattle.plain_machine.specs.declared.acts.Before.{Before}
 use Rattle.plain_machine.specs.Undo.{IsBefore, with_undone}
 use Rattle.std.specs.Option.{option_map_or}
-use Rattle.std.proofs.Common.{set}
 
 with_changed-cons : (x : PlainActor) (xs : List PlainActor) (a : ℕ) (change : PlainActor → PlainActor) → with_changed (x ∷ xs) (suc a) change ≡ x ∷ with_changed xs a change
 with_changed-cons x xs a change =

@@ -1,6 +1,5 @@
 -- The next line of a text.
-use Rattle.std.proofs.Common.{◌≡◌, ◌≢◌, ℕ, ◌+◌, ◌<◌, ◌≤◌, false, List, [], ◌∷◌, ◌++◌, ◌==◌, length, get_or, take, drop, refl, ap, sym, ◌∙◌, subst, arith, All, length-drop, length-take-le, take_all, drop_of_length-le, add-one, drop-cons, take-append-drop, ne_eqb}
-use Rattle.std.proofs.Common.{inl, inr, get_or-take, drop-drop, map, append_assoc, ◌-◌, Option}
+use Rattle.std.proofs.Common.{◌≡◌, ◌≢◌, ℕ, ◌+◌, ◌<◌, ◌≤◌, false, List, [], ◌∷◌, ◌++◌, ◌==◌, length, get_or, take, drop, refl, ap, sym, ◌∙◌, subst, arith, All, length-drop, length-take-le, take_all, drop_of_length-le, add-one, drop-cons, take-append-drop, ne_eqb, inl, inr, get_or-take, drop-drop, map, append_assoc, ◌-◌, Option}
 use Rattle.std.proofs.lemmas.Bool.{cases_lt}
 use Rattle.std.proofs.lemmas.List.Elements.{All-from_get_or}
 use Rattle.std.specs.List.{slice_split}

@@ -1,6 +1,5 @@
-use Rattle.std.proofs.Common.{drop}
+use Rattle.std.proofs.Common.{drop, arith}
 use Rattle.std.proofs.lemmas.Grind.{common_steps}
-use Rattle.std.proofs.Common.{arith}
 use Rattle.outside_world.proofs.Front.{drop-front_read, drop-all_read}
 use Rattle.outside_world.proofs.mem_source.copy_front.Goals as goal
 
