@@ -13,7 +13,7 @@ use Rattle.orca_names.specs.declared.names.Thing.{Thing}
 pub amount_more : (x : Thing) (e : Thing × ℕ) (es : List (Thing × ℕ)) → 0 < amount_of x es → 0 < amount_of x (e ∷ es)
 amount_more x e es h = ⊎_elim (λ is. let t = amount-same x e es is in omega arith) (λ not. let t = amount-other x e es not in omega arith) (cases_thing x e.0)
 
-zero_or : (n : ℕ) → (n ≡ 0) ⊎ (0 < n)
+pub zero_or : (n : ℕ) → (n ≡ 0) ⊎ (0 < n)
 zero_or zero = inl refl
 zero_or (suc n) = inr (omega arith)
 

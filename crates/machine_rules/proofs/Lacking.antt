@@ -1,6 +1,6 @@
 -- What an actor lacks of a load, and what it mints.
 use Rattle.std.proofs.Common.{◌≡◌, ◌≢◌, ℕ, zero, suc, ◌<◌, ◌≤◌, ◌==◌, ◌&&◌, not, cond, Bool, true, false, Option, List, [], ◌∷◌, map, refl, ◌∙◌, ap, arith, ⊎_elim, eq-eqb, ne_eqb, eqb-true}
-use Rattle.std.proofs.lemmas.Bool.{cases_eq}
+use Rattle.std.proofs.lemmas.Bool.{and_parts, cases_eq}
 use Rattle.std.specs.List.{filter}
 use Rattle.orca_names.proofs.ThingOrder.{cases_thing}
 use Rattle.orca_names.specs.Names.{owner_of}
@@ -51,15 +51,11 @@ minted_in x q p (y ∷ es) h = elim (p y.0) as (λ b. p y.0 ≡ b → 0 < amount
   | false ↦ λ pf h. minted_in x q p es h
 ] refl h
 
-and_right : (p q : Bool) → (p && q) ≡ true → q ≡ true
-and_right true q e = e
-and_right false q e = cc
-
 pub to_mint_theirs : (a b : ℕ) (c : Holdings) (es : List (Thing × Option Row)) (x : Thing) → 0 < amount_of x (to_mint b (lacking a c es)) → (owner_of x ≡ b) × (0 < held_in c x)
 to_mint_theirs a b c es x h =
     let z = minted_in x (λ y. owner_of y == b) (is_lacking a c) es h in
     let o = eqb-true (owner_of x) b z.0 in
-    let one = eqb-true (held_in c x) 1 (and_right _ _ z.1) in
+    let one = eqb-true (held_in c x) 1 (and_parts (not (owner_of x == a)) _ z.1).1 in
     (o, omega arith)
 
 pub counted_mint : (b : ℕ) (es : List Loaded) → AllCounted (to_mint b es)

@@ -1,6 +1,6 @@
 -- Where every actor is at rest, each object that is left is reached from the fields of an actor that is
 -- present; and if each present actor lives in the plain machine, just what lives there is left.
-use Rattle.std.proofs.Common.{◌≡◌, ◌⊎◌, ◌↔◌, ℕ, zero, suc, ◌<◌, Option, Some, None, List, [], ◌∷◌, get_or, refl, sym, ◌∙◌, arith, subst, inl, inr, ⊎_elim}
+use Rattle.std.proofs.Common.{◌≡◌, ◌↔◌, ℕ, zero, suc, ◌<◌, Option, Some, None, List, [], ◌∷◌, get_or, refl, sym, ◌∙◌, arith, subst, inl, ⊎_elim}
 use Rattle.std.specs.FinMap as m
 use Rattle.std.specs.Prelude.{sum_by}
 use Rattle.std.proofs.lemmas.List.Sums.{sum_by-cons}
@@ -27,12 +27,9 @@ use Rattle.machine_rules.specs.Clean.{CleanAreSwept, IsInReach}
 use Rattle.machine_rules.specs.Facts.{Every, KeepsCounts}
 use Rattle.machine_rules.specs.Known.{Names, Reaches, in_fields, row_at, IsSoundAt}
 use Rattle.machine_rules.specs.Left.{IsLeft}
+use Rattle.letter_kinds.proofs.Amounts.{zero_or}
 
 -- ---- a sum that is not 0 has an item that is not 0
-
-zero_or : (n : ℕ) → (n ≡ 0) ⊎ (0 < n)
-zero_or zero = inl refl
-zero_or (suc n) = inr (omega arith)
 
 sum-some : {A : Type 0} (f : A → ℕ) (xs : List A) (d : A) → 0 < sum_by f xs → (i : ℕ) × (0 < f (get_or xs i d))
 sum-some f [] d h = absurd (omega (arith, sum-nil f))
