@@ -1,6 +1,8 @@
 -- Where a run ends quiet, exactly what is reachable is left, and the detector rests.
+use Rattle.std.specs.Prelude.{◌↔◌}
 use Rattle.std.proofs.Common.{◌≡◌, ◌≢◌, ℕ, zero, suc, ◌<◌, true, Option, Some, None, List, [], ◌∷◌, refl, sym, ap, subst, ◌∙◌, arith, inl}
 use Rattle.std.proofs.lemmas.Bool.{false≢true}
+use Rattle.orca_names.specs.declared.names.Thing.{Thing}
 use Rattle.orca_names.specs.declared.names.Thing.TheVariants.{Actor}
 use Rattle.reach_walk.specs.Reach.{thing_row}
 use Rattle.letter_kinds.specs.Detector.{Token}
@@ -13,7 +15,9 @@ use Rattle.machine_rules.proofs.Rest.{quiet_rest}
 use Rattle.machine_rules.specs.Actors.{Seat, cell_at, cell_of, seat, seat_at}
 use Rattle.machine_rules.specs.Agreement.{people_of}
 use Rattle.machine_rules.specs.Cell.{Cell}
+use Rattle.machine_rules.specs.Left.{IsLeft}
 use Rattle.machine_rules.specs.Next.{IsQuiet}
+use Rattle.machine_rules.specs.PlainReach.{IsReachable}
 use Rattle.machine_rules.specs.Plain.{PlainState, plain_row}
 use Rattle.machine_rules.specs.State.{State}
 use Rattle.detector_laws.proofs.Cells.{same_some, some_not_none}
@@ -51,10 +55,11 @@ module _ (s : State) where
   all_needed p facts quiet a c mail at =
       reached_needed (quiet_reached s (thing_row (plain_row p.actors)) (people_of p.actors) facts.beside.counts facts.own facts.detector quiet a c (ap cell_of at))
 
+pub quiet_exact : (p : PlainState) (s : State) → AllFacts p s → IsQuiet s → (x : Thing) → IsLeft s.actors x ↔ IsReachable p x
+quiet_exact p s facts quiet = left_is_exact p s facts.beside facts.clean (quiet_rest s quiet) (all_needed s p facts quiet)
+
 pub exactly_at_quiet : ExactlyAtQuiet
-exactly_at_quiet program book t run quiet =
-    let facts = run_has_facts program book t run in
-    (facts.0, facts.1, left_is_exact facts.0 t facts.2.beside facts.2.clean (quiet_rest t quiet) (all_needed t facts.0 facts.2 quiet))
+exactly_at_quiet program book t run quiet = let facts = run_has_facts program book t run in (facts.0, facts.1, quiet_exact facts.0 t facts.2 quiet)
 
 -- ---- the detector
 

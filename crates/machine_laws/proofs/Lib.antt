@@ -2,8 +2,10 @@ pub mod ActorsWork
 pub mod AtQuiet
 pub mod Balancing
 pub mod Blocking
+pub mod Calm
 pub mod Collecting
 pub mod ComesToRest
+pub mod GoesToRest
 pub mod Going
 pub mod HeldActors
 pub mod Keeping

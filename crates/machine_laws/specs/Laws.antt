@@ -1,5 +1,5 @@
 -- What holds of every program, every run and each of its prefixes.
-use Rattle.std.specs.Prelude.{ℕ, ◌≡◌, ◌↔◌, false, List, [], ◌++◌, Some, ◌+◌, ◌<◌, ◌≤◌, length}
+use Rattle.std.specs.Prelude.{ℕ, ◌≡◌, ◌↔◌, true, false, List, [], ◌++◌, Some, ◌+◌, ◌<◌, ◌≤◌, length}
 use Rattle.orca_names.specs.declared.names.Thing.{Thing}
 use Rattle.behaviour_code.specs.declared.code.Program.{Program}
 use Rattle.event_rule.specs.declared.event.Event.{Event}
@@ -10,9 +10,10 @@ use Rattle.machine_rules.specs.Actors.{seat, seat_at}
 use Rattle.machine_rules.specs.Balance.{IsBalanced, NeverOverdraws}
 use Rattle.machine_rules.specs.Cell.{Cell}
 use Rattle.machine_rules.specs.Left.{IsFreed, IsLeft, NamesNothingFreed}
-use Rattle.machine_rules.specs.Next.{IsQuiet, next}
+use Rattle.machine_rules.specs.Next.{IsEnabled, IsQuiet, next}
 use Rattle.machine_rules.specs.Plain.{PlainState, start_of}
 use Rattle.machine_rules.specs.PlainReach.{IsReachable}
+use Rattle.machine_rules.specs.PlainRun.{IsPlainQuiet}
 use Rattle.machine_rules.specs.Run.{IsPlainBeside, IsRun, Leads, PlainFollows, choices, is_choice}
 use Rattle.machine_rules.specs.State.{State, Goes, first_state}
 use Rattle.detector_laws.specs.Reports.{IsReportOf}
@@ -84,3 +85,19 @@ EventsLeaveLess = (p : PlainState) (s t : State) (e : Event) → AllFacts p s �
 abbrev pub RestsBetweenChoices : Type 0
 RestsBetweenChoices = (program : Program) (book later : List Event) (s t : State) → IsRun program book s → Leads s later t → choices later s ≡ [] →
     length later + work_left t ≤ work_left s
+
+-- events without a choice lead from this state to one in which only choices are enabled. Where the
+-- machine that frees nothing is quiet beside the book, that one is quiet, and what is unreachable is gone
+pub record CanRest (program : Program) (book : List Event) (s : State) : Type 0 where
+  pub later : List Event
+  pub last : State
+  pub leads : Leads s later last
+  pub calm : choices later s ≡ []
+  pub waits : (e : Event) → IsEnabled last e → is_choice last e ≡ true
+  pub plain : PlainState
+  pub follows : IsPlainBeside program book plain
+  pub freed : IsPlainQuiet plain → IsQuiet last × ((x : Thing) → IsLeft last.actors x ↔ IsReachable plain x)
+
+-- so it is after each run
+abbrev pub RunsCanRest : Type 0
+RunsCanRest = (program : Program) (book : List Event) (s : State) → IsRun program book s → CanRest program book s

@@ -255,7 +255,7 @@ reap_not_full s (Some t) e = by_acked (all_acked t) e
     by_acked false e = cc
     by_acked true e = cc
 
-full : (s : State) (e : Event) → next s e ≡ IsFull → IsRefusedAsFull s e
+pub full : (s : State) (e : Event) → next s e ≡ IsFull → IsRefusedAsFull s e
 full s (Take a) e = absurd (take_not_full s a (seat_at s.actors a) e)
 full s (Go a) e = full_seat s a (seat_at s.actors a) refl e
 full s (Collect a) e = absurd (collect_not_full s a (seat_at s.actors a) e)

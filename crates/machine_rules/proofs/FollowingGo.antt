@@ -106,7 +106,7 @@ module _ (p : PlainState) (s : State) (facts : Facts p s) (a : ℕ) (c : Cell) (
       (λ i. segment_of (record { program = facts.program i; me = a; base = serial i; rows = plain_row p.actors }) f (beside.same i).fields)
       ∙ sym (same_turn s.program all all (people_of p.actors) s.actors facts.counts a c ls at f is (plain_row p.actors) (λ x. refl))
 
-  plain_went : plain_go p a ≡ after_act p a stopped stop.turn.fields stop.turn.made stop.act
+  pub plain_went : plain_go p a ≡ after_act p a stopped stop.turn.fields stop.turn.made stop.act
   plain_went = went p a x f beside.there (ap (λ (q : Person). q.frame) beside.same ∙ is) ∙ ap (after_turn p a f) plain_turn
 
   -- the plain actor after the turn
