@@ -15,7 +15,7 @@ use Rattle.behaviour_code.specs.declared.code.Program.{Program}
 use Rattle.behaviour_code.specs.declared.instr.Instr.{Instr}
 use Rattle.behaviour_text.specs.Faults.{kind_fault, on_fault, inside_fault, body_fault, place_fault, word_fault, words_fault}
 use Rattle.behaviour_text.specs.Items.{register_of, instr_of, name_place}
-use Rattle.behaviour_text.specs.Reading.{start, kinds_begun, place_of, closed_at, closed, with_kind, with_on, with_end, with_instr, named, with_item, with_word, with_words, read_from, finished, finish, read_text}
+use Rattle.behaviour_text.specs.Reading.{start, kinds_begun, place_of, closed_at, closed, with_kind, with_on, with_end, with_instr, named, with_item, with_word, with_words, read_from, finished, finish}
 use Rattle.behaviour_text.specs.Table.{line_word, starts_with, fits_count, shape_fault}
 use Rattle.behaviour_text.specs.Words.{words_of, has_numeral_form, word_at, number_of, number_at}
 use Rattle.behaviour_text.specs.declared.place.Stage.{Stage}
@@ -197,7 +197,3 @@ done_small bytes p (Ok s) told h =
     let small = read_small 0 start s (lines_of bytes) (tt, omega arith) told in
     let same : finished s ≡ p = cc in
     subst Limits same (record { few = closed_count s s.stage small; each = closed_small s s.stage small })
-
-pub read_limits : (bytes : List ℕ) (p : Program) → read_text bytes ≡ Ok p → Limits p
-unfolding read_text
-read_limits bytes p h = done_small bytes p (read_from 0 start (lines_of bytes)) refl h

@@ -20,7 +20,7 @@ use Rattle.detector_laws.specs.Cells.{held_on, is_reporting}
 use Rattle.detector_laws.specs.Confirms.{EndsInConfirm, confirm_count, other_before_confirm}
 use Rattle.detector_laws.specs.Events.{CanBlock, IsFresh, Moves}
 use Rattle.detector_laws.specs.Reports.{IsSilentOn, IsBlocked}
-use Rattle.detector_laws.specs.Tokens.{ack_count, trace_count, IsSealedMember, IsSealed, unblocks_before_ack, IsSpoiledMember, IsSpoiled, SoundTokens}
+use Rattle.detector_laws.specs.Tokens.{ack_count, trace_count, IsSealedMember, IsSealed, unblocks_before_ack, IsSpoiled, SoundTokens}
 use Rattle.detector_laws.specs.World.{World, at, block, take_confirm, TokensAreSound}
 
 -- a member of a sealed token, where nothing of it changes and a note comes that says nothing of it
@@ -34,12 +34,6 @@ sealed_stays t m cell cell' mail loaded loaded' notes more s same held none sile
   held = held;
   unloaded = none;
   one = omega (arith, s.one, unacked, ack_count-append t.number m notes more);
-}
-
-spoiled_stays : (t : Token) (m : ℕ) (reported : Bool) (mail come : List Letter) (notes more : List Note) → IsSpoiledMember t m reported mail notes → IsSpoiledMember t m reported (mail ++ come) (notes ++ more)
-spoiled_stays t m reported mail come notes more s = record {
-  unnoted = s.unnoted;
-  cause = ⊎_elim (λ l. inl (unblocks_before_ack-append t.number m notes more l)) (λ l. inr (l.0, other_before_confirm-append t.number mail come l.1)) s.cause;
 }
 
 -- Block

@@ -7,7 +7,7 @@ use Rattle.machine_rules.proofs.Enabling.{full}
 use Rattle.machine_rules.proofs.FollowingGo.{plain_went}
 use Rattle.machine_rules.specs.Enabled.{IsRefusedAsFull}
 use Rattle.machine_rules.specs.Go.{turn_of_cell}
-use Rattle.machine_rules.specs.Next.{IsEnabled, IsQuiet, next}
+use Rattle.machine_rules.specs.Next.{IsQuiet, next}
 use Rattle.machine_rules.specs.Plain.{PlainState, after_act, stopped_at}
 use Rattle.machine_rules.specs.Plain as plain
 use Rattle.machine_rules.specs.PlainRun.{IsPlainQuiet, outcome_of}
@@ -18,36 +18,31 @@ use Rattle.machine_laws.proofs.Calm.{IsCalm, some_or_none}
 use Rattle.machine_laws.proofs.ComesToRest.{event_leaves_less}
 use Rattle.machine_laws.proofs.WholeRuns.{event_keeps, run_has_facts}
 use Rattle.machine_laws.specs.AllFacts.{AllFacts}
-use Rattle.machine_laws.specs.Laws.{RunsCanRest}
+use Rattle.machine_laws.specs.Laws.{AwaitsChoices, GarbageIsGone, RunsCanRest}
 use Rattle.machine_laws.specs.Work.{work_left}
 
 -- ---- events that are no choice, as long as there are some
-
--- beside an event that is no choice the plain machine stays
-facts_stay : (p : PlainState) (s t : State) (e : Event) → AllFacts p s → next s e ≡ Goes t → is_choice s e ≡ false → AllFacts p t
-facts_stay p s t e facts goes calm =
-    let after = event_keeps p s t e facts goes in
-    subst (λ q. AllFacts q t) (sym (subst (λ choice. PlainFollows choice p e after.0) calm after.1)) after.2
 
 no_choices : (e : Event) (later : List Event) (s t : State) → is_choice s e ≡ false → next s e ≡ Goes t → choices later t ≡ [] → choices (e ∷ later) s ≡ []
 no_choices e later s t calm goes none =
     ap (λ (q : Bool). if q then e ∷ choices_after (choices later) (next s e) else choices_after (choices later) (next s e)) calm ∙ (ap (choices_after (choices later)) goes ∙ none)
 
--- the plain state stays, and at the end no event is calm
-abbrev GoesOn : PlainState → State → Type 0
-GoesOn p s = (later : List Event) × (t : State) × Leads s later t × (choices later s ≡ []) × AllFacts p t × ((e : Event) → IsCalm t e → ⊥)
+-- at the end no event is calm
+abbrev GoesOn : State → Type 0
+GoesOn s = (later : List Event) × (t : State) × Leads s later t × (choices later s ≡ []) × ((e : Event) → IsCalm t e → ⊥)
 
-goes_on : (work : ℕ) (p : PlainState) (s : State) → AllFacts p s → work_left s ≤ work → GoesOn p s
+goes_on : (work : ℕ) (p : PlainState) (s : State) → AllFacts p s → work_left s ≤ work → GoesOn s
 goes_on zero p s facts enough = ⊎_elim
     (λ some. let (e, (t, goes, calm)) = some in absurd (omega (arith, event_leaves_less p s t e facts goes calm)))
-    (λ none. ([], s, refl, refl, facts, none))
+    (λ none. ([], s, refl, refl, none))
     (some_or_none s)
 goes_on (suc work) p s facts enough = ⊎_elim
     (λ some.
     let (e, (t, goes, calm)) = some in
-    let (later, last, leads, none, kept, end) = goes_on work p t (facts_stay p s t e facts goes calm) (omega (arith, event_leaves_less p s t e facts goes calm)) in
-    (e ∷ later, last, (t, goes, leads), no_choices e later s t calm goes none, kept, end))
-    (λ none. ([], s, refl, refl, facts, none))
+    let after = event_keeps p s t e facts goes in
+    let (later, last, leads, none, end) = goes_on work after.0 t after.2 (omega (arith, event_leaves_less p s t e facts goes calm)) in
+    (e ∷ later, last, (t, goes, leads), no_choices e later s t calm goes none, end))
+    (λ none. ([], s, refl, refl, none))
     (some_or_none s)
 
 -- ---- what is enabled there
@@ -58,7 +53,7 @@ full_is_choice s e r =
     ap (is_choice s) r.is_go ∙ (ap (go_is_choice_at s.program r.actor) r.present ∙ (ap (go_is_choice s.program r.actor r.cell) r.framed
     ∙ ap (act_is_choice r.actor (with_made (turn_of_cell s.program r.actor r.cell r.frame).turn.made r.cell.holdings)) r.makes))
 
-waits : (s : State) → ((e : Event) → IsCalm s e → ⊥) → (e : Event) → IsEnabled s e → is_choice s e ≡ true
+waits : (s : State) → ((e : Event) → IsCalm s e → ⊥) → AwaitsChoices s
 waits s none e enabled = by_step (next s e) refl
   where
     by_step : (step : Step) → next s e ≡ step → is_choice s e ≡ true
@@ -80,29 +75,27 @@ plain_refused p s e facts r off =
     not_off u true e = cc
     not_off u false e = cc
 
-quiet_too : (p : PlainState) (s : State) → AllFacts p s → ((e : Event) → IsCalm s e → ⊥) → IsPlainQuiet p → IsQuiet s
-quiet_too p s facts none quiet e = by_step (next s e) refl
+quiet_too : (p : PlainState) (s : State) → AllFacts p s → AwaitsChoices s → IsPlainQuiet p → IsQuiet s
+quiet_too p s facts awaits quiet e = by_step (next s e) refl
   where
     by_step : (step : Step) → next s e ≡ step → next s e ≡ NotEnabled
     by_step NotEnabled off = off
     by_step IsFull is = absurd (plain_refused p s e facts (full s e is) (quiet e))
     by_step (Goes t) goes =
-        let chosen = waits s none e (λ off. let same : NotEnabled ≡ Goes t = sym off ∙ goes in cc) in
+        let chosen = awaits e (λ off. let same : NotEnabled ≡ Goes t = sym off ∙ goes in cc) in
         let after = event_keeps p s t e facts goes in
         let follows : outcome_of p e ≡ plain.Goes after.0 = subst (λ choice. PlainFollows choice p e after.0) chosen after.1 in
         let same : plain.NotEnabled ≡ plain.Goes after.0 = sym (quiet e) ∙ follows in cc
 
+-- ---- the laws
+
 pub runs_can_rest : RunsCanRest
 runs_can_rest program book s run =
     let facts = run_has_facts program book s run in
-    let (later, last, leads, calm, kept, none) = goes_on (work_left s) facts.0 s facts.2 (omega arith) in
-    record {
-      later = later;
-      last = last;
-      leads = leads;
-      calm = calm;
-      waits = waits last none;
-      plain = facts.0;
-      follows = facts.1;
-      freed = λ quiet. let rest = quiet_too facts.0 last kept none quiet in (rest, quiet_exact facts.0 last kept rest);
-    }
+    let (later, last, leads, calm, none) = goes_on (work_left s) facts.0 s facts.2 (omega arith) in
+    record { later = later; last = last; leads = leads; calm = calm; waits = waits last none }
+
+pub garbage_is_gone : GarbageIsGone
+garbage_is_gone program book t run awaits =
+    let facts = run_has_facts program book t run in
+    (facts.0, facts.1, λ quiet. let rest = quiet_too facts.0 t facts.2 awaits quiet in (rest, quiet_exact facts.0 t facts.2 rest))

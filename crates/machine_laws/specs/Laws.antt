@@ -86,18 +86,24 @@ abbrev pub RestsBetweenChoices : Type 0
 RestsBetweenChoices = (program : Program) (book later : List Event) (s t : State) → IsRun program book s → Leads s later t → choices later s ≡ [] →
     length later + work_left t ≤ work_left s
 
--- events without a choice lead from this state to one in which only choices are enabled. Where the
--- machine that frees nothing is quiet beside the book, that one is quiet, and what is unreachable is gone
-pub record CanRest (program : Program) (book : List Event) (s : State) : Type 0 where
+-- whatever is enabled is a choice
+abbrev pub AwaitsChoices : State → Type 0
+AwaitsChoices s = (e : Event) → IsEnabled s e → is_choice s e ≡ true
+
+-- events without a choice lead to where only choices are enabled
+pub record CanRest (s : State) : Type 0 where
   pub later : List Event
   pub last : State
   pub leads : Leads s later last
   pub calm : choices later s ≡ []
-  pub waits : (e : Event) → IsEnabled last e → is_choice last e ≡ true
-  pub plain : PlainState
-  pub follows : IsPlainBeside program book plain
-  pub freed : IsPlainQuiet plain → IsQuiet last × ((x : Thing) → IsLeft last.actors x ↔ IsReachable plain x)
+  pub waits : AwaitsChoices last
 
--- so it is after each run
+-- each run can go on so
 abbrev pub RunsCanRest : Type 0
-RunsCanRest = (program : Program) (book : List Event) (s : State) → IsRun program book s → CanRest program book s
+RunsCanRest = (program : Program) (book : List Event) (s : State) → IsRun program book s → CanRest s
+
+-- where only choices are enabled, and the machine that frees nothing is quiet, nothing is enabled, and
+-- exactly what is reachable is left
+abbrev pub GarbageIsGone : Type 0
+GarbageIsGone = (program : Program) (book : List Event) (t : State) → IsRun program book t → AwaitsChoices t →
+    (p : PlainState) × IsPlainBeside program book p × (IsPlainQuiet p → IsQuiet t × ((x : Thing) → IsLeft t.actors x ↔ IsReachable p x))

@@ -16,7 +16,7 @@ use Rattle.letter_kinds.specs.Counting.{sweep}
 use Rattle.letter_kinds.specs.Holdings.{Holdings, Row, entry_row, has_own, nothing_held, own_in, row_count, row_of}
 use Rattle.machine_rules.proofs.Loads.{marked_reached, reached_marked}
 use Rattle.machine_rules.proofs.Local.{Local}
-use Rattle.machine_rules.proofs.Locals.{every_next, every_first, every_run}
+use Rattle.machine_rules.proofs.Locals.{every_next, every_first}
 use Rattle.machine_rules.proofs.Paths.{along_row, reach_into}
 use Rattle.machine_rules.proofs.Receiving.{own_row}
 use Rattle.machine_rules.proofs.Sweeping.{stays, get_row-sweep, get_entry-sweep, own-sweep}
@@ -25,7 +25,6 @@ use Rattle.machine_rules.specs.Clean.{IsInReach, IsSweptAt, IsCleanAt, CleanAreS
 use Rattle.machine_rules.specs.Collect.{is_marked}
 use Rattle.machine_rules.specs.Known.{row_at}
 use Rattle.machine_rules.specs.Next.{next}
-use Rattle.machine_rules.specs.Run.{IsRun}
 use Rattle.machine_rules.specs.State.{State, Goes, first_state}
 use Rattle.machine_rules.specs.Take.{cell_after}
 
@@ -139,6 +138,3 @@ clean-first program = every_first IsCleanAt clean_local program
 
 pub clean-next : (s t : State) (e : Event) → next s e ≡ Goes t → CleanAreSwept s.actors → CleanAreSwept t.actors
 clean-next s t e now h = every_next IsCleanAt clean_local s t e now h
-
-pub clean-run : (program : Program) (book : List Event) (t : State) → IsRun program book t → CleanAreSwept t.actors
-clean-run program book t run = every_run IsCleanAt clean_local program book t run

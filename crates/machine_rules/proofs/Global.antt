@@ -2,7 +2,6 @@
 use Rattle.std.proofs.Common.{◌≡◌, ◌⊎◌, ℕ, ◌<◌, Option, Some, List, [], ◌∷◌, ◌++◌, length, set, refl, sym, ◌∙◌, arith, ⊎_elim}
 use Rattle.std.proofs.lemmas.Bool.{cases_eq}
 use Rattle.std.proofs.lemmas.List.Sums.{sum_by-cons}
-use Rattle.machine_rules.proofs.Makes.{more_last, more_other}
 use Rattle.letter_kinds.proofs.Counts.{loaded-same, loaded_more}
 use Rattle.machine_rules.proofs.Seats.{present_below, at_same, at_other, some_seat}
 use Rattle.machine_rules.proofs.SeatReads.{letter_App}
@@ -42,15 +41,6 @@ pub sound_push : (all : Thing → Option Row) (s : Actors) (b : ℕ) (l : Letter
 sound_push all s b l o at ok sound = rw (push_is s b l o at)
     (sound_set all s b (Some o) o.cell (o.mail ++ l ∷ []) (present_below s b o at) at
     (let z = sound b o.cell o.mail at in record { closed = z.closed; rows = z.rows; loads = mail_push all o.mail l ok z.loads }) sound)
-
--- one more actor
-pub sound_more : (all : Thing → Option Row) (s : Actors) (c : Cell) (ls : List Letter) → IsSoundAt all (length s) c ls → Sound all s → Sound all (s ++ seat c ls ∷ [])
-sound_more all s c ls new sound a d ms at = ⊎_elim
-    (λ same.
-    let z = some_seat c d ls ms (sym (more_last s (seat c ls) a same) ∙ at) in
-    rw (same, sym z.0, sym z.1) new)
-    (λ other. sound a d ms (sym (more_other s (seat c ls) a other) ∙ at))
-    (cases_eq a (length s))
 
 -- the map of all rows grows by things that are not left
 module _ (all all' : Thing → Option Row) (New : Thing → Type 0) (only : (x : Thing) → (all' x ≡ all x) ⊎ New x)

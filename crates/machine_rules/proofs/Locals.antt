@@ -28,7 +28,6 @@ use Rattle.machine_rules.specs.Facts.{Every}
 use Rattle.machine_rules.specs.Go.{act_in, go_at, go_in, load_from, make, post_or_mint, turn_of_cell, turned, with_turn_kept}
 use Rattle.machine_rules.specs.Next.{next}
 use Rattle.machine_rules.specs.Plain.{stopped_at, with_name}
-use Rattle.machine_rules.specs.Run.{IsRun, Leads}
 use Rattle.machine_rules.specs.State.{State, NotEnabled, IsFull, Goes, first_state}
 use Rattle.machine_rules.specs.Take.{cell_after, take_at, take_in}
 use Rattle.machine_rules.proofs.Every.{every_set, every_push, every_decs, every_more}
@@ -193,12 +192,3 @@ module _ (Q : ℕ → Cell → List Letter → Type 0) (local : Local Q) where
     where
       nowhere : (a : ℕ) (c : Cell) (mail : List Letter) → seat_at [] a ≡ seat c mail → ⊥
       nowhere a c mail at = cc
-
-  -- ---- runs
-
-  pub every_leads : (book : List Event) (s t : State) → Leads s book t → Every Q s.actors → Every Q t.actors
-  every_leads [] s t same h = subst (λ (u : State). Every Q u.actors) same h
-  every_leads (e ∷ book) s t (u, now, rest) h = every_leads book u t rest (every_next s u e now h)
-
-  pub every_run : (program : Program) (book : List Event) (t : State) → IsRun program book t → Every Q t.actors
-  every_run program book t run = every_leads book (first_state program) t run (every_first program)

@@ -11,14 +11,13 @@ use Rattle.letter_kinds.proofs.Counts.{held-send_own}
 use Rattle.letter_kinds.specs.Holdings.{Holdings, Row, entry_count, held_in, nothing_held, with_made}
 use Rattle.letter_kinds.specs.Sums.{amount_of}
 use Rattle.machine_rules.proofs.Local.{Local}
-use Rattle.machine_rules.proofs.Locals.{every_next, every_first, every_run}
+use Rattle.machine_rules.proofs.Locals.{every_next, every_first}
 use Rattle.machine_rules.proofs.Makes.{held_given, given_other}
 use Rattle.machine_rules.proofs.Sweeping.{held-sweep}
 use Rattle.machine_rules.proofs.Takes.{held-taken_own}
 use Rattle.machine_rules.specs.Clean.{HoldsNoOwnAt, NoneHoldsItsOwn}
 use Rattle.machine_rules.specs.Go.{turn_of_cell}
 use Rattle.machine_rules.specs.Next.{next}
-use Rattle.machine_rules.specs.Run.{IsRun}
 use Rattle.machine_rules.specs.State.{State, Goes, first_state}
 
 held-with_made : (made : List Row) (h : Holdings) (x : Thing) → held_in (with_made made h) x ≡ held_in h x
@@ -59,6 +58,3 @@ no_self-first program = every_first HoldsNoOwnAt no_self program
 
 pub no_self-next : (s t : State) (e : Event) → next s e ≡ Goes t → NoneHoldsItsOwn s.actors → NoneHoldsItsOwn t.actors
 no_self-next s t e now h = every_next HoldsNoOwnAt no_self s t e now h
-
-pub no_self-run : (program : Program) (book : List Event) (t : State) → IsRun program book t → NoneHoldsItsOwn t.actors
-no_self-run program book t run = every_run HoldsNoOwnAt no_self program book t run

@@ -44,12 +44,6 @@ module _ (all : Thing → Option Row) (a : ℕ) (c : Cell) (mail : List Letter) 
   same_row : (x : Thing) → Reaches all (Names c.fields.values) x → row_at a c.holdings x ≡ all x
   same_row x h = sound.rows x (sound.closed x (reach_more all (λ y n. root (in_fields n)) h))
 
-  pub own_over : (x : Thing) → Reaches all (Names c.fields.values) x → IsInReach a c x
-  own_over x h = (reach_into all (λ y. Reaches all (Names c.fields.values) y × IsInReach a c y)
-      (λ y n. (root n, root n))
-      (λ y z r p e n. (along_row all p.0 e n, along_row (row_at a c.holdings) p.1 (same_row y p.0 ∙ e) n))
-      (λ n p. (owned p.0, owned p.1)) h).1
-
   pub over_all : (x : Thing) → IsInReach a c x → Reaches all (Names c.fields.values) x
   over_all x h = reach_into (row_at a c.holdings) (Reaches all (Names c.fields.values))
       (λ y n. root n)
@@ -75,13 +69,6 @@ module _ (s : Actors) (bal : IsBalanced s) (clean : CleanAreSwept s) (rest : AtR
       let l = sum-zero (loads_at x) s None (no_loads x) in
       let d : decs_at x (seat c mail) ≡ 0 = decs_at-seat x c mail ∙ rw ((rest (owner_of x) c mail at).empty) (sum-nil (dec_of x)) in
       omega arith
-
-  count_is : (c : Cell) (a : ℕ) → own_in c.holdings (Actor a) ≡ c.holdings.count
-  unfolding own_in
-  count_is c a = refl
-
-  pub rest_counts : (a : ℕ) (c : Cell) (mail : List Letter) → seat_at s a ≡ seat c mail → c.holdings.count ≡ held_sum (Actor a) s
-  rest_counts a c mail at = sym (count_is c a) ∙ all_held (Actor a) c mail at
 
   entry_there : (o : Option (ℕ × Option Row)) → 0 < entry_count o → (e : ℕ × Option Row) × (o ≡ Some e)
   entry_there None h = absurd (omega arith)

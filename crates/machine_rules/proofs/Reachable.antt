@@ -1,5 +1,5 @@
 -- What is reachable in the plain machine is what lives there.
-use Rattle.std.proofs.Common.{◌≡◌, ◌⊎◌, ◌↔◌, ℕ, zero, suc, ◌+◌, ◌||◌, Bool, true, false, is_some, Contains, Option, Some, None, List, [], ◌∷◌, ◌++◌, refl, sym, ap, subst, ◌∙◌, arith, inl, inr, ⊎_elim}
+use Rattle.std.proofs.Common.{◌≡◌, ◌⊎◌, ℕ, zero, suc, ◌+◌, ◌||◌, Bool, true, false, is_some, Contains, Option, Some, None, List, [], ◌∷◌, ◌++◌, refl, sym, ap, subst, ◌∙◌, arith, inl, inr, ⊎_elim}
 use Rattle.std.specs.Prelude.{flat_map, not, slice_get, if◌then◌else◌}
 use Rattle.std.specs.Option.{option_map_or}
 use Rattle.std.proofs.lemmas.List.Elements.{Contains-append_left, Contains-append_right, Contains-append_cases, filter_map-append}
@@ -180,6 +180,3 @@ module _ (p : PlainState) where
   lives_reachable (holds {a = a} {x = x} l h) = step (lives_reachable l) (held_edge p.actors a x h)
   lives_reachable (row {n = n} {x = x} {r = r} l e m) = step (lives_reachable l) (edge_row (plain_row p.actors n) r x e m)
   lives_reachable (owner l) = owned (lives_reachable l)
-
-  pub reachable_is_lives : (x : Thing) → IsReachable p x ↔ LivesIn x
-  reachable_is_lives x = (reachable_lives, lives_reachable)

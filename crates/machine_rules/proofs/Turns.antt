@@ -1,7 +1,7 @@
 -- What a turn of an actor names, and that it depends on no rows but those that it reaches.
 use Rattle.std.proofs.Common.{◌≡◌, ℕ, ◌<◌, ◌⊎◌, inl, inr, List, [], ◌∷◌, ◌++◌, length, get_or, Contains, Option, refl, sym, subst}
 use Rattle.std.proofs.lemmas.List.{get_or_default}
-use Rattle.std.proofs.lemmas.List.Elements.{Contains-append_left, Contains-append_right, Contains-append_cases, filter_map-append}
+use Rattle.std.proofs.lemmas.List.Elements.{Contains-append_cases, filter_map-append}
 use Rattle.orca_names.specs.declared.names.ObjName.{ObjName}
 use Rattle.orca_names.specs.declared.names.Thing.{Thing}
 use Rattle.orca_names.specs.declared.names.Thing.TheVariants as things
@@ -44,13 +44,6 @@ module _ (rows : ObjName → Option Row) where
 -- its registers or its fields name it
 abbrev pub Given : Frame → Fields → Thing → Type 0
 Given frame fields x = Names frame.registers x ⊎ Names fields.values x
-
-given_named : (frame : Frame) (fields : Fields) (x : Thing) → Given frame fields x → Names (frame.registers ++ fields.values) x
-given_named frame fields x h =
-    let registers = named_by frame.registers in
-    let values = named_by fields.values in
-    subst (λ ts. Contains ts x) (sym (filter_map-append thing_of frame.registers fields.values))
-    (elim h as (λ _. Contains (registers ++ values) x) [ inl n ↦ Contains-append_left registers values x n | inr n ↦ Contains-append_right registers values x n ])
 
 named_given : (frame : Frame) (fields : Fields) (x : Thing) → Names (frame.registers ++ fields.values) x → Given frame fields x
 named_given frame fields x n = Contains-append_cases (named_by frame.registers) (named_by fields.values) x

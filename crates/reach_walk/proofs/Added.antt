@@ -4,10 +4,7 @@ use Rattle.std.proofs.lemmas.List.{append-nil, append_assoc, take_more}
 use Rattle.std.proofs.lemmas.List.Elements.{Contains-append_left, Contains-append_right, Contains-append_cases}
 use Rattle.orca_names.specs.declared.names.Thing.{Thing}
 use Rattle.reach_walk.specs.Walk.{Adds}
-use Rattle.reach_walk.proofs.Elements.{only_one, none_in_nil}
-
-pub Adds-nil : (old : List Thing) → Adds [] old old
-Adds-nil old = record { behind = ([], sym (append-nil old)); added = λ x c. none_in_nil x _ c; only = λ x c. inl c }
+use Rattle.reach_walk.proofs.Elements.{only_one}
 
 pub Adds-known : (t : Thing) (old : List Thing) → Contains old t → Adds (t ∷ []) old old
 Adds-known t old there = record { behind = ([], sym (append-nil old)); added = λ x c. subst (Contains old) (only_one t x c) there; only = λ x c. inl c }

@@ -53,10 +53,6 @@ module _ (rows : ObjName → Option (List Value)) (all : List ObjName) (roots : 
         | inr e ↦ inr (λ r. true≢false (sym (list_any-from_Contains (eq_by_cmp_equiv thing_total) x marks (reached-marks covers x r)) ∙ e))
       ]
 
--- any list that covers the rows gives the same marks
-pub marks-any_cover : (rows : ObjName → Option (List Value)) (all others : List ObjName) (roots : List Value) → Covers all rows → Covers others rows → marks_of rows all roots ≡ marks_of rows others roots
-marks-any_cover rows all others roots covers also = marks-unique rows others roots (marks_of rows all roots) also (marks-exact rows all roots covers)
-
 -- a result that holds exactly the reached things, in order, holds the marks
 pub marks-found : {T E : Type 0} (rows : ObjName → Option (List Value)) (all : List ObjName) (roots : List Value) → Covers all rows → (found : Result T E) (things : T → List Thing)
     → IfOk found (λ t. (x : Thing) → Contains (things t) x ↔ Reaches (row_edges rows) (named_by roots) x)

@@ -64,11 +64,3 @@ levels_longer words summary top room levels = record {
 
 pub bit-zero : (k : ℕ) → bit (0 ∷ []) k ≡ 0
 bit-zero k = ap (λ v. bit_at v (k % 64)) (get_or-push_zero [] (k / 64)) ∙ bit_at-zero (k % 64)
-
-pub no_levels : AreLevels [] [] 0
-no_levels = record {
-  words_within = omega arith;
-  summary_within = omega arith;
-  words_told = record { at = λ j. bit_at-zero (j % 64) };
-  summary_told = record { at = bit-zero };
-}

@@ -12,9 +12,6 @@ use Rattle.turn_step.specs.Scratch.{place_after}
 pub run_from-next : (p : Setting) (body : List Instr) (i : ℕ) (d : Instr) (t : Turn) → i < length body → run_from p (drop i body) None i t ≡ on_effect (run_from p (drop (i + 1) body)) i (step_of p (get_or body i d) t)
 run_from-next p body i d t h = at_drop_more (λ xs. run_from p xs None i t) body i d h
 
-pub place_after-next : (name : ℕ) (body : List Instr) (i : ℕ) (d : Instr) → i < length body → place_after name (drop i body) i ≡ cond (is_label name (get_or body i d)) (i + 1) (place_after name (drop (i + 1) body) (i + 1))
-place_after-next name body i d h = at_drop_more (λ xs. place_after name xs i) body i d h
-
 -- what is sought is found at the place behind the label
 from_part : (p : Setting) (body : List Instr) (name : ℕ) (xs : List Instr) (i : ℕ) (t : Turn) → xs ≡ drop i body → run_from p xs (Some name) i t ≡ run_from p (drop (place_after name xs i) body) None (place_after name xs i) t
 from_part p body name [] i t e = ap (λ ys. run_from p ys None i t) e

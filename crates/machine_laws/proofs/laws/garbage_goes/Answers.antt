@@ -1,5 +1,8 @@
-use Rattle.machine_laws.proofs.GoesToRest.{runs_can_rest}
+use Rattle.machine_laws.proofs.GoesToRest.{garbage_is_gone, runs_can_rest}
 use Rattle.machine_laws.proofs.laws.garbage_goes.Goals as goal
 
-pub returns : goal.returns
-returns c = runs_can_rest
+pub returns-clause-rest : goal.returns-clause-rest
+returns-clause-rest c = runs_can_rest
+
+pub returns-clause-gone : goal.returns-clause-gone
+returns-clause-gone c = garbage_is_gone
