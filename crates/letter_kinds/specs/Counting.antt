@@ -83,8 +83,8 @@ abbrev pub lacking : ℕ → Holdings → List Loaded → List Loaded
 lacking me h load = filter (λ e. is_lacking me h e.0) load
 
 -- those of one owner, with the amount by which the counts rise
-abbrev pub to_mint : ℕ → List Loaded → List Amount
-to_mint b load = map (λ e. (e.0, 256)) (filter (λ e. owner_of e.0 == b) load)
+abbrev pub to_mint : ℕ → ℕ → List Loaded → List Amount
+to_mint weight b load = map (λ e. (e.0, weight)) (filter (λ e. owner_of e.0 == b) load)
 
 abbrev pub mint_one : Amount → Holdings → Holdings
 mint_one e h = set_held (λ count. count + e.1) e.0 (entry_row (m.get h.foreign e.0)) h

@@ -90,12 +90,12 @@ quiet_too p s facts awaits quiet e = by_step (next s e) refl
 -- ---- the laws
 
 pub runs_can_rest : RunsCanRest
-runs_can_rest program book s run =
-    let facts = run_has_facts program book s run in
+runs_can_rest program options heavy book s run =
+    let facts = run_has_facts program options heavy book s run in
     let (later, last, leads, calm, none) = goes_on (work_left s) facts.0 s facts.2 (omega arith) in
     record { later = later; last = last; leads = leads; calm = calm; waits = waits last none }
 
 pub garbage_is_gone : GarbageIsGone
-garbage_is_gone program book t run awaits =
-    let facts = run_has_facts program book t run in
+garbage_is_gone program options heavy book t run awaits =
+    let facts = run_has_facts program options heavy book t run in
     (facts.0, facts.1, λ quiet. let rest = quiet_too facts.0 t facts.2 awaits quiet in (rest, quiet_exact facts.0 t facts.2 rest))

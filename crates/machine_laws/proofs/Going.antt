@@ -50,9 +50,9 @@ module _ (s : Actors) (d : Detector) (ns : List Note) (a : ℕ) (c : Cell) (ls :
       (λ b n h u. held_made stop.turn.made c.holdings (Actor b) ∙ h)
 
   -- a new actor
-  pub make_moves : (c1 : Cell) → c1.reported ≡ c.reported → ((x : Thing) → held_in c1.holdings x ≡ held_in c.holdings x) → (fresh : Cell) → fresh.reported ≡ false → ((x : Thing) → held_in fresh.holdings x ≡ 0)
-      → Moves (world_of s d ns) a (world_of (make a c1 ls fresh s) d (noted a c ns))
-  make_moves c1 still same fresh quiet empty = record {
+  pub make_moves : (w : ℕ) (c1 : Cell) → c1.reported ≡ c.reported → ((x : Thing) → held_in c1.holdings x ≡ held_in c.holdings x) → (fresh : Cell) → fresh.reported ≡ false → ((x : Thing) → held_in fresh.holdings x ≡ 0)
+      → Moves (world_of s d ns) a (world_of (make w a c1 ls fresh s) d (noted a c ns))
+  make_moves w c1 still same fresh quiet empty = record {
     old = c;
     new = c2;
     here = ap cell_of at;
@@ -76,11 +76,11 @@ module _ (s : Actors) (d : Detector) (ns : List Note) (a : ℕ) (c : Cell) (ls :
     );
     sends_held = λ b p n h. ap letters_of (same_seat b n (old_one b p));
     loads_held = λ b p n h u. omega (arith, u, sum_by_push (loads_at (Actor b)) first (seat fresh []), loads_at-seat (Actor b) fresh [], sum-nil (load_count (Actor b)), same_loads s a c c2 ls at (Actor b));
-    holds_held = λ b p n h u. held_set_other (λ k. k + 256) (Actor b) (Actor (length s)) None c1.holdings (λ e. old_one b p (ap owner_of e)) ∙ same (Actor b) ∙ h;
+    holds_held = λ b p n h u. held_set_other (λ k. k + w) (Actor b) (Actor (length s)) None c1.holdings (λ e. old_one b p (ap owner_of e)) ∙ same (Actor b) ∙ h;
   }
     where
       c2 : Cell
-      c2 = record c1 { holdings = gain 256 (Actor (length s)) None c1.holdings }
+      c2 = record c1 { holdings = gain w (Actor (length s)) None c1.holdings }
 
       first : Actors
       first = set s a (seat c2 ls)
@@ -91,16 +91,16 @@ module _ (s : Actors) (d : Detector) (ns : List Note) (a : ℕ) (c : Cell) (ls :
       within : a < length s
       within = present_below s a _ at
 
-      mine : seat_at (make a c1 ls fresh s) a ≡ seat c2 ls
+      mine : seat_at (make w a c1 ls fresh s) a ≡ seat c2 ls
       mine = more_other first (seat fresh []) a (λ e. let w = wide in let h = within in absurd (omega arith)) ∙ get_or-set_same s a (seat c2 ls) None within
 
       nobody : (b : ℕ) → b ≡ length s → seat_at s b ≡ None
       nobody b e = get_or_past s b None (omega arith)
 
-      newest : (b : ℕ) → b ≡ length s → seat_at (make a c1 ls fresh s) b ≡ seat fresh []
+      newest : (b : ℕ) → b ≡ length s → seat_at (make w a c1 ls fresh s) b ≡ seat fresh []
       newest b e = more_last first (seat fresh []) b (e ∙ sym wide)
 
-      same_seat : (b : ℕ) → b ≢ a → b ≢ length s → seat_at (make a c1 ls fresh s) b ≡ seat_at s b
+      same_seat : (b : ℕ) → b ≢ a → b ≢ length s → seat_at (make w a c1 ls fresh s) b ≡ seat_at s b
       same_seat b n o = more_other first (seat fresh []) b (λ e. o (e ∙ wide)) ∙ get_or-set_other s a b (seat c2 ls) None n
 
       old_one : (b : ℕ) → cell_at s b ≢ None → b ≢ length s

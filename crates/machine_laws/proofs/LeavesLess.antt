@@ -92,7 +92,7 @@ module _ (n : ℕ) where
 
   -- ---- one event
 
-  module _ (s t : State) where
+  module _ (s t : State) (heavy : 0 < s.options.weight) where
     abbrev Less : State → Type 0
     Less u = work_of u < work_of s
 
@@ -170,17 +170,17 @@ module _ (n : ℕ) where
     -- ---- a go that mints
 
     mints : (a : ℕ) (c : Cell) (ls : List Letter) (stop : Stop) → seat_at s.actors a ≡ seat c ls → (load : List Loaded) (e : Loaded) (es : List Loaded) → lacking a (with_made stop.turn.made c.holdings) load ≡ e ∷ es
-        → Less (record s { actors = mint a c ls (owner_of e.0) (to_mint (owner_of e.0) (e ∷ es)) s.actors })
+        → Less (record s { actors = mint a c ls (owner_of e.0) (to_mint s.options.weight (owner_of e.0) (e ∷ es)) s.actors })
     mints a c ls stop at load e es lacks =
         let owner = owner_of e.0 in
-        let things = to_mint owner (e ∷ es) in
+        let things = to_mint s.options.weight owner (e ∷ es) in
         let held = held_made stop.turn.made c.holdings in
-        let first : things ≡ (e.0, 256) ∷ to_mint owner es = rw (eq-eqb owner owner refl) refl in
+        let first : things ≡ (e.0, s.options.weight) ∷ to_mint s.options.weight owner es = rw (eq-eqb owner owner refl) refl in
         let one : held_in c.holdings e.0 ≡ 1 = sym (held e.0) ∙ eqb-true _ 1 (and_parts (not (owner == a)) _ (first_passes (λ x. is_lacking a (with_made stop.turn.made c.holdings) x.0) load e es lacks)).1 in
         let known = λ (x : Thing) (some : 0 < amount_of x things).
-        subst (λ k. 0 < k) (held x) (to_mint_theirs a owner (with_made stop.turn.made c.holdings) load x (subst (λ q. 0 < amount_of x (to_mint owner q)) (sym lacks) some)).1 in
+        subst (λ k. 0 < k) (held x) (to_mint_theirs s.options.weight a owner (with_made stop.turn.made c.holdings) load x (subst (λ q. 0 < amount_of x (to_mint s.options.weight owner q)) (sym lacks) some)).1 in
         let table = subst (λ ts. table_work n (mint_all ts c.holdings) + suc (count_work n) ≤ table_work n c.holdings) (sym first)
-        (mint_first-work n (e.0, 256) (to_mint owner es) c.holdings (subst AllCounted first (counted_mint owner (e ∷ es))) (λ x some. known x (subst (λ ts. 0 < amount_of x ts) (sym first) some)) one) in
+        (mint_first-work n (e.0, s.options.weight) (to_mint s.options.weight owner es) c.holdings (subst AllCounted first (counted_mint s.options.weight heavy owner (e ∷ es))) (λ x some. known x (subst (λ ts. 0 < amount_of x ts) (sym first) some)) one) in
         let minted : Cell = record c { holdings = mint_all things c.holdings } in
         omega (arith, table, push-work n owner (Inc things) (set s.actors a (seat minted ls)), set-work n s.actors a (seat minted ls) (present_below s.actors a _ at), ap (seat_work n) at)
 

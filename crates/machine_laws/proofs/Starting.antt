@@ -5,6 +5,7 @@ use Rattle.behaviour_code.specs.Find.{start_name}
 use Rattle.behaviour_code.specs.declared.code.Program.{Program}
 use Rattle.letter_kinds.specs.declared.letter.Letter.TheVariants.{App}
 use Rattle.machine_rules.specs.Actors.{Actors, cell_at, mail_at}
+use Rattle.machine_rules.specs.Options.{Options}
 use Rattle.machine_rules.specs.State.{first_state}
 use Rattle.detector_laws.proofs.Starts.{start_facts}
 use Rattle.detector_laws.specs.Cells.{is_reporting}
@@ -12,9 +13,9 @@ use Rattle.detector_laws.specs.Confirms.{NoConfirms}
 use Rattle.detector_laws.specs.World.{FactsHold}
 use Rattle.machine_laws.proofs.Seen.{world}
 
-module _ (program : Program) where
+module _ (program : Program) (options : Options) where
   abbrev actors : Actors
-  actors = (first_state program).actors
+  actors = (first_state program options).actors
 
   unreported : (a : ℕ) → is_reporting (cell_at actors a) ≡ false
   unreported zero = refl
@@ -28,5 +29,5 @@ module _ (program : Program) where
       by_name (Some name) = (refl, tt)
   unasked (suc a) = tt
 
-  pub start_detects : FactsHold (world (first_state program))
-  start_detects = start_facts (world (first_state program)) (record { detector = refl; notes = refl; unreported = unreported; unasked = unasked })
+  pub start_detects : FactsHold (world (first_state program options))
+  start_detects = start_facts (world (first_state program options)) (record { detector = refl; notes = refl; unreported = unreported; unasked = unasked })

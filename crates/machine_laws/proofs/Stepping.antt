@@ -134,17 +134,17 @@ module _ (p : PlainState) (s t : State) (beside : Facts p s) (facts : FactsHold 
         unnoted a c _ up (post_moves s.actors s.detector s.notes a c ls at running up after refl (held_made stop.turn.made c.holdings) to behaviour args (load_from a after.holdings args)
         (target_known p s beside a c ls at f frame to behaviour args is) (load_known p s beside a c ls at f frame to behaviour args is))
     posts to behaviour args is (e ∷ es) l =
-        unnoted a c _ up (mint_moves s.actors s.detector s.notes a c ls at running up all (closed_at a c ls at) (owner_of e.0) (to_mint (owner_of e.0) (e ∷ es))
+        unnoted a c _ up (mint_moves s.actors s.detector s.notes a c ls at running up all (closed_at a c ls at) (owner_of e.0) (to_mint s.options.weight (owner_of e.0) (e ∷ es))
         (λ x some.
-        let theirs = to_mint_theirs a (owner_of e.0) after.holdings (load_from a after.holdings args) x (subst (λ q. 0 < amount_of x (to_mint (owner_of e.0) q)) (sym l) some) in
+        let theirs = to_mint_theirs s.options.weight a (owner_of e.0) after.holdings (load_from a after.holdings args) x (subst (λ q. 0 < amount_of x (to_mint s.options.weight (owner_of e.0) q)) (sym l) some) in
         subst (λ n. 0 < n) (held_made stop.turn.made c.holdings x) theirs.1)
-        e.0 refl (first_minted e es))
+        e.0 refl (first_minted s.options.weight beside.weight e es))
 
-    makes : (kind into : ℕ) → IsStep (world s) (world_of (make a (turned stop (Some (with_name stopped into (length s.actors))) c.dirty c) ls (fresh_cell s.program kind) s.actors) s.detector s.notes)
+    makes : (kind into : ℕ) → IsStep (world s) (world_of (make s.options.weight a (turned stop (Some (with_name stopped into (length s.actors))) c.dirty c) ls (fresh_cell s.options.weight s.program kind) s.actors) s.detector s.notes)
     makes kind into =
-        let fresh = fresh_cell s.program kind in
-        unnoted a c _ up (make_moves s.actors s.detector s.notes a c ls at running up (turned stop (Some (with_name stopped into (length s.actors))) c.dirty c) refl (held_made stop.turn.made c.holdings)
-        fresh refl (fresh_held fresh.holdings (refl, (λ k. m.get-empty nat_cmp k), (λ y. m.get-empty thing_cmp y))))
+        let fresh = fresh_cell s.options.weight s.program kind in
+        unnoted a c _ up (make_moves s.actors s.detector s.notes a c ls at running up s.options.weight (turned stop (Some (with_name stopped into (length s.actors))) c.dirty c) refl (held_made stop.turn.made c.holdings)
+        fresh refl (fresh_held s.options.weight fresh.holdings (refl, (λ k. m.get-empty nat_cmp k), (λ y. m.get-empty thing_cmp y))))
 
     acts : (act : Act) → stop.act ≡ act → act_in s a c ls stopped stop act ≡ Goes t → StepsTo t
     acts (Print v) is e = arrived _ e (unnoted a c _ up (turn_moves s.actors s.detector s.notes a c ls at running up stop (Some stopped) c.dirty))

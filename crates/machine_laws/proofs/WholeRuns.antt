@@ -1,5 +1,5 @@
 -- All facts hold at the start, are kept by every event, and so hold after each run and each of its prefixes.
-use Rattle.std.proofs.Common.{◌≡◌, Bool, true, false, List, [], ◌∷◌, ◌++◌, refl, sym, subst}
+use Rattle.std.proofs.Common.{◌≡◌, ◌<◌, Bool, true, false, List, [], ◌∷◌, ◌++◌, refl, sym, subst}
 use Rattle.std.specs.Prelude.{if◌then◌else◌}
 use Rattle.orca_names.specs.declared.names.Thing.{Thing}
 use Rattle.behaviour_code.specs.declared.code.Program.{Program}
@@ -17,6 +17,7 @@ use Rattle.machine_rules.proofs.Starting as starting
 use Rattle.machine_rules.specs.Agreement.{people_of}
 use Rattle.machine_rules.specs.Left.{IsLeft}
 use Rattle.machine_rules.specs.Next.{next}
+use Rattle.machine_rules.specs.Options.{Options}
 use Rattle.machine_rules.specs.Plain.{PlainState, plain_row, start_of}
 use Rattle.machine_rules.specs.PlainReach.{IsReachable}
 use Rattle.machine_rules.specs.Run.{IsRun, Leads, PlainFollows, PlainLeads, choices, choices_after, is_choice}
@@ -27,11 +28,11 @@ use Rattle.machine_laws.specs.AllFacts.{AllFacts}
 use Rattle.machine_laws.specs.Laws.{EventsKeepAllFacts, IsNeverTooEarly, NeverTooEarly, RunsHaveAllFacts, StartHasAllFacts}
 
 pub start_all : StartHasAllFacts
-start_all program = record {
-  beside = starting.start_facts program;
-  own = no_self-first program;
-  clean = clean-first program;
-  detector = start_detects program;
+start_all program options heavy = record {
+  beside = starting.start_facts program options heavy;
+  own = no_self-first program options;
+  clean = clean-first program options;
+  detector = start_detects program options;
 }
 
 -- ---- one event
@@ -79,7 +80,7 @@ leads_on (e ∷ book) p s t facts leads =
     subst (λ (step : Step). Arrives p (if is_choice s e then e ∷ choices_after (choices book) step else choices_after (choices book) step) t) (sym goes) one
 
 pub run_has_facts : RunsHaveAllFacts
-run_has_facts program book t run = leads_on book (start_of program) (first_state program) t (start_all program) run
+run_has_facts program options heavy book t run = leads_on book (start_of program) (first_state program options) t (start_all program options heavy) run
 
 -- ---- prefixes
 
@@ -92,9 +93,9 @@ reachable_left p s facts x r =
     let counts = facts.beside.counts in
     lives_left (thing_row (plain_row p.actors)) (people_of p.actors) s.actors (in_hand s.actors counts.balanced) counts.prefixes counts.sound counts.agrees x (reachable_lives p r)
 
-never_early : (program : Program) (book : List Event) (s : State) → IsRun program book s → IsNeverTooEarly program book s
-never_early program book s run =
-    let facts = run_has_facts program book s run in
+never_early : (program : Program) (options : Options) → 0 < options.weight → (book : List Event) (s : State) → IsRun program options book s → IsNeverTooEarly program options book s
+never_early program options heavy book s run =
+    let facts = run_has_facts program options heavy book s run in
     record {
       plain = facts.0;
       follows = facts.1;
@@ -107,4 +108,4 @@ never_early program book s run =
     }
 
 pub never_too_early : NeverTooEarly
-never_too_early program book later t run = let u = prefix_leads book later (first_state program) t run in (u.0, u.1, never_early program book u.0 u.1)
+never_too_early program options heavy book later t run = let u = prefix_leads book later (first_state program options) t run in (u.0, u.1, never_early program options heavy book u.0 u.1)

@@ -25,6 +25,7 @@ use Rattle.machine_rules.specs.Clean.{IsInReach, IsSweptAt, IsCleanAt, CleanAreS
 use Rattle.machine_rules.specs.Collect.{is_marked}
 use Rattle.machine_rules.specs.Known.{row_at}
 use Rattle.machine_rules.specs.Next.{next}
+use Rattle.machine_rules.specs.Options.{Options}
 use Rattle.machine_rules.specs.State.{State, Goes, first_state}
 use Rattle.machine_rules.specs.Take.{cell_after}
 
@@ -121,20 +122,20 @@ took program a c (Confirm token) mail q = q
 pub clean_local : Local IsCleanAt
 clean_local = record {
   start = λ program idle d. bare_swept program 0 0 0;
-  fresh = λ program a kind idle d. bare_swept program a kind 256;
+  fresh = λ weight program a kind idle d. bare_swept program a kind weight;
   letter = λ l a c mail q. q;
   take = λ program a c l mail idle q. took program a c l mail q;
   collect = λ a c mail idle d q i e. sweep_swept (is_marked a c) a c (marked_reached a c) (reached_marked a c);
   block = λ a c mail may q idle d. told_swept a c (q idle d);
   turn = λ program a c mail f is q. busy a _ mail _ refl;
   end = λ program a c mail f is q. dirty a _ mail refl;
-  make = λ a n c mail f g below is q. busy a _ mail g refl;
+  make = λ weight a n c mail f g below is q. busy a _ mail g refl;
   send = λ a c mail f load is q. busy a _ mail f is;
   mint = λ a c mail f things is some q. busy a _ mail f is;
 }
 
-pub clean-first : (program : Program) → CleanAreSwept (first_state program).actors
-clean-first program = every_first IsCleanAt clean_local program
+pub clean-first : (program : Program) (options : Options) → CleanAreSwept (first_state program options).actors
+clean-first program options = every_first IsCleanAt clean_local program options
 
 pub clean-next : (s t : State) (e : Event) → next s e ≡ Goes t → CleanAreSwept s.actors → CleanAreSwept t.actors
 clean-next s t e now h = every_next IsCleanAt clean_local s t e now h

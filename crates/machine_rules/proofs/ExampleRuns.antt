@@ -19,7 +19,7 @@ use Rattle.machine_rules.specs.Actors.{Actors, Seat, seat_at}
 use Rattle.machine_rules.specs.Block.{block_at, block_in}
 use Rattle.machine_rules.specs.Collect.{collect_at, collect_in}
 use Rattle.machine_rules.specs.Detect.{hear_in, reap_found, scan_in}
-use Rattle.machine_rules.specs.Examples.{two_hold_each_other, two_up_to_the_ping, two_to_the_end, TwoHoldEachOtherAndGo, passes_an_object_on, passing_book, AnObjectIsPassedOnAndGoes}
+use Rattle.machine_rules.specs.Examples.{usual, two_hold_each_other, two_up_to_the_ping, two_to_the_end, TwoHoldEachOtherAndGo, passes_an_object_on, passing_book, AnObjectIsPassedOnAndGoes}
 use Rattle.machine_rules.specs.Go.{go_at, go_in}
 use Rattle.machine_rules.specs.Left.{IsLeft}
 use Rattle.machine_rules.specs.Lists.{is_empty}
@@ -73,7 +73,7 @@ still_quiet s still notes tokens news (Reap token) = ap (λ tokens. reap_found s
 -- ---- two peers that hold each other
 
 two_first : Page
-two_first = first_page two_hold_each_other
+two_first = first_page two_hold_each_other usual
 
 two_at_the_ping : Page
 two_at_the_ping = page_or two_first (after_all two_up_to_the_ping (Some two_first))
@@ -94,7 +94,7 @@ to_the_end : is_some (after_all two_to_the_end (Some two_at_the_ping)) ≡ true
 unfolding two_computed
 to_the_end = refl
 
-from_first : IsRun two_hold_each_other two_up_to_the_ping (state_told two_at_the_ping)
+from_first : IsRun two_hold_each_other usual two_up_to_the_ping (state_told two_at_the_ping)
 unfolding two_first two_at_the_ping
 from_first = after_all-leads two_up_to_the_ping two_first two_at_the_ping (page_there two_first _ up_to_the_ping)
 
@@ -106,8 +106,8 @@ joined : (s t u : State) (first second : List Event) → Leads s first t → Lea
 joined s t u [] second l m = subst (λ s. Leads s second u) (sym l) m
 joined s t u (e ∷ first) second l m = (l.0, l.1, joined l.0 t u first second l.2 m)
 
-from_start : IsRun two_hold_each_other (two_up_to_the_ping ++ two_to_the_end) (state_told two_last)
-from_start = joined (first_state two_hold_each_other) (state_told two_at_the_ping) (state_told two_last) two_up_to_the_ping two_to_the_end from_first from_ping
+from_start : IsRun two_hold_each_other usual (two_up_to_the_ping ++ two_to_the_end) (state_told two_last)
+from_start = joined (first_state two_hold_each_other usual) (state_told two_at_the_ping) (state_told two_last) two_up_to_the_ping two_to_the_end from_first from_ping
 
 two_gone : seats_told two_last.places ≡ None ∷ None ∷ None ∷ []
 unfolding two_computed
@@ -141,7 +141,7 @@ two_hold_each_other_and_go = record {
 -- ---- an object is passed on
 
 passing_first : Page
-passing_first = first_page passes_an_object_on
+passing_first = first_page passes_an_object_on usual
 
 passing_last : Page
 passing_last = page_or passing_first (after_all passing_book (Some passing_first))
@@ -155,7 +155,7 @@ passing_goes : is_some (after_all passing_book (Some passing_first)) ≡ true
 unfolding passing_computed
 passing_goes = refl
 
-passing_run : IsRun passes_an_object_on passing_book (state_told passing_last)
+passing_run : IsRun passes_an_object_on usual passing_book (state_told passing_last)
 unfolding passing_first passing_last
 passing_run = after_all-leads passing_book passing_first passing_last (page_there passing_first _ passing_goes)
 

@@ -68,6 +68,7 @@ module _ (p : PlainState) (s : State) (facts : Facts p s) (a : ℕ) (c : Cell) (
       program = facts.program;
       prints = facts.prints;
       objects = objects_kept p.actors a x beside.there y refl ∙ facts.objects;
+      weight = facts.weight;
     },
   )
     where
@@ -93,7 +94,7 @@ module _ (p : PlainState) (s : State) (facts : Facts p s) (a : ℕ) (c : Cell) (
   -- another letter
   stays : (l : Letter) (ls : List Letter) (notes : List Note) → KeepsCounts all (people_of p.actors) (take_letter s.program a c l ls s.actors)
       → Facts p (record s { actors = take_letter s.program a c l ls s.actors; notes = notes })
-  stays l ls notes counts = record { counts = counts; program = facts.program; prints = facts.prints; objects = facts.objects }
+  stays l ls notes counts = record { counts = counts; program = facts.program; prints = facts.prints; objects = facts.objects; weight = facts.weight }
 
   pub take_follows : (f : Option Frame) (ls : List Letter) (t : State) → c.frame ≡ f → seat_at s.actors a ≡ seat c ls → take_in s a c f ls ≡ Goes t → Follows (starts_with_app ls) (plain_take p a) p t
   take_follows (Some f) ls t is at e = cc

@@ -73,13 +73,13 @@ rows_alike xs a y z same (things.Obj n) = read xs a n.owner
     read (w ∷ xs) (suc a) (suc b) = read xs a b
 
 -- a fresh actor has nothing
-pub fresh_is : (program : Program) (kind : ℕ) → IsFresh (fresh_cell program kind).holdings
-fresh_is program kind = (refl, (λ k. m.get-empty nat_cmp k), (λ x. m.get-empty thing_cmp x))
+pub fresh_is : (w : ℕ) (program : Program) (kind : ℕ) → IsFresh w (fresh_cell w program kind).holdings
+fresh_is w program kind = (refl, (λ k. m.get-empty nat_cmp k), (λ x. m.get-empty thing_cmp x))
 
-pub fresh_blank : (program : Program) (kind : ℕ) (x : Thing) → Roots (fresh_cell program kind) x → ⊥
-fresh_blank program kind x (in_fields h) = nulls_name_nothing (field_count program kind) x h
-fresh_blank program kind x (in_frame h) = h
-fresh_blank program kind x (in_table h) = absurd (let z = fresh_held (fresh_cell program kind).holdings (fresh_is program kind) x in omega arith)
+pub fresh_blank : (w : ℕ) (program : Program) (kind : ℕ) (x : Thing) → Roots (fresh_cell w program kind) x → ⊥
+fresh_blank w program kind x (in_fields h) = nulls_name_nothing (field_count program kind) x h
+fresh_blank w program kind x (in_frame h) = h
+fresh_blank w program kind x (in_table h) = absurd (let z = fresh_held w (fresh_cell w program kind).holdings (fresh_is w program kind) x in omega arith)
 
 module _ (p : PlainState) (s : State) (facts : Facts p s) (a : ℕ) (c : Cell) (ls : List Letter) (at : seat_at s.actors a ≡ seat c ls) (f : Frame) (is : c.frame ≡ Some f) where
   abbrev all : Thing → Option Row
@@ -155,7 +155,7 @@ module _ (p : PlainState) (s : State) (facts : Facts p s) (a : ℕ) (c : Cell) (
       (record (with_turn_kept s stop (set s.actors a (seat (turned stop nf nd c) ls))) { prints = s.prints ++ printed })
   turn_follows nf nd printed names =
       subst (λ actors. Facts (next_state p actors (p.prints ++ printed)) (record (with_turn_kept s stop (set s.actors a (seat (turned stop nf nd c) ls))) { prints = s.prints ++ printed })) (sym (turned_actors nf))
-      (record { counts = beside_kept nf nd names; program = facts.program; prints = ap (λ vs. vs ++ printed) facts.prints; objects = objects_more nf })
+      (record { counts = beside_kept nf nd names; program = facts.program; prints = ap (λ vs. vs ++ printed) facts.prints; objects = objects_more nf; weight = facts.weight })
 
   -- ---- one actor more
 
@@ -176,17 +176,17 @@ module _ (p : PlainState) (s : State) (facts : Facts p s) (a : ℕ) (c : Cell) (
 
   -- the maker, which names the actor n and holds it
   abbrev maker : ℕ → ℕ → Cell
-  maker register n = record c1 { frame = Some (with_name stopped register n); holdings = gain 256 (things.Actor n) None c1.holdings }
+  maker register n = record c1 { frame = Some (with_name stopped register n); holdings = gain s.options.weight (things.Actor n) None c1.holdings }
 
   -- the actors with a maker and a fresh actor more
   abbrev made_by : ℕ → ℕ → Cell → Actors → Actors
   made_by register n fresh actors = set actors a (seat (maker register n) ls) ++ seat fresh [] ∷ []
 
-  made_kept : (kind register : ℕ) → KeepsCounts all' (set (people_of p.actors) a (person_of (maker register (length s.actors)) ls) ++ person_of (fresh_cell s.program kind) [] ∷ [])
-      (made_by register (length s.actors) (fresh_cell s.program kind) s.actors)
+  made_kept : (kind register : ℕ) → KeepsCounts all' (set (people_of p.actors) a (person_of (maker register (length s.actors)) ls) ++ person_of (fresh_cell s.options.weight s.program kind) [] ∷ [])
+      (made_by register (length s.actors) (fresh_cell s.options.weight s.program kind) s.actors)
   made_kept kind register =
-      let fresh = fresh_cell s.program kind in
-      let one = make_keeps_counts all' (set (people_of p.actors) a (person_of c1 ls)) s1 kept1 a c1 ls at1 stopped refl register fresh (fresh_is s.program kind) (fresh_blank s.program kind) refl in
+      let fresh = fresh_cell s.options.weight s.program kind in
+      let one = make_keeps_counts s.options.weight facts.weight all' (set (people_of p.actors) a (person_of c1 ls)) s1 kept1 a c1 ls at1 stopped refl register fresh (fresh_is s.options.weight s.program kind) (fresh_blank s.options.weight s.program kind) refl in
       let two : KeepsCounts all' (set (set (people_of p.actors) a (person_of c1 ls)) a (person_of (maker register (length s.actors)) ls) ++ person_of fresh [] ∷ []) (made_by register (length s.actors) fresh s1) =
       subst (λ n. KeepsCounts all' (set (set (people_of p.actors) a (person_of c1 ls)) a (person_of (maker register n) ls) ++ person_of fresh [] ∷ []) (made_by register n fresh s1)) (length-set s.actors a (seat c1 ls)) one in
       let three : KeepsCounts all' (set (people_of p.actors) a (person_of (maker register (length s.actors)) ls) ++ person_of fresh [] ∷ []) (made_by register (length s.actors) fresh s1) =
@@ -195,7 +195,7 @@ module _ (p : PlainState) (s : State) (facts : Facts p s) (a : ℕ) (c : Cell) (
       (set-set s.actors a (seat c1 ls) (seat (maker register (length s.actors)) ls)) three
 
   same_maker : (register n : ℕ) → person_of_plain (y (Some (with_name stopped register n))) ≡ person_of (maker register n) ls
-  same_maker register n = same_y (Some (with_name stopped register n)) c.dirty ∙ ap (λ next. record (person_of (maker register n) ls) { serial = next }) (sym (next_held (λ h. h + 256) (things.Actor n) None c1.holdings))
+  same_maker register n = same_y (Some (with_name stopped register n)) c.dirty ∙ ap (λ next. record (person_of (maker register n) ls) { serial = next }) (sym (next_held (λ h. h + s.options.weight) (things.Actor n) None c1.holdings))
 
   long : length p.actors ≡ length s.actors
   long = omega (arith, length_people p.actors, facts.counts.long)
@@ -205,24 +205,25 @@ module _ (p : PlainState) (s : State) (facts : Facts p s) (a : ℕ) (c : Cell) (
       length_people (z ∷ xs) = ap suc (length_people xs)
 
   make_follows : (kind register : ℕ) → Facts (next_state p (with_turn p.actors a (Some (with_name stopped register (length p.actors))) stop.turn.fields stop.turn.made ++ fresh_actor p.program kind ∷ []) p.prints)
-      (with_turn_kept s stop (make a (turned stop (Some (with_name stopped register (length s.actors))) c.dirty c) ls (fresh_cell s.program kind) s.actors))
+      (with_turn_kept s stop (make s.options.weight a (turned stop (Some (with_name stopped register (length s.actors))) c.dirty c) ls (fresh_cell s.options.weight s.program kind) s.actors))
   make_follows kind register =
       let nf = Some (with_name stopped register (length s.actors)) in
-      let fresh = fresh_cell s.program kind in
+      let fresh = fresh_cell s.options.weight s.program kind in
       let mine = fresh_actor p.program kind in
       let actors = set p.actors a (y nf) in
       let people : people_of (actors ++ mine ∷ []) ≡ set (people_of p.actors) a (person_of (maker register (length s.actors)) ls) ++ person_of fresh [] ∷ [] =
-      people-push actors mine ∙ (λ i. (people-set p.actors a (y nf) ∙ ap (set (people_of p.actors) a) (same_maker register (length s.actors))) i ++ person_of (fresh_cell (facts.program i) kind) [] ∷ []) in
+      people-push actors mine ∙ (λ i. (people-set p.actors a (y nf) ∙ ap (set (people_of p.actors) a) (same_maker register (length s.actors))) i ++ person_of (fresh_cell s.options.weight (facts.program i) kind) [] ∷ []) in
       let rows : (z : Thing) → all' z ≡ thing_row (plain_row (actors ++ mine ∷ [])) z = λ z. rows_of nf z ∙ rows_pushed actors mine refl z in
       let plain_actors : with_turn p.actors a (Some (with_name stopped register (length p.actors))) stop.turn.fields stop.turn.made ++ mine ∷ [] ≡ actors ++ mine ∷ [] =
       ap (λ n. with_turn p.actors a (Some (with_name stopped register n)) stop.turn.fields stop.turn.made ++ mine ∷ []) long ∙ ap (λ xs. xs ++ mine ∷ []) (turned_actors nf) in
-      subst (λ xs. Facts (next_state p xs p.prints) (with_turn_kept s stop (make a (turned stop nf c.dirty c) ls fresh s.actors))) (sym plain_actors)
+      subst (λ xs. Facts (next_state p xs p.prints) (with_turn_kept s stop (make s.options.weight a (turned stop nf c.dirty c) ls fresh s.actors))) (sym plain_actors)
       (record {
         counts = subst (λ ps. KeepsCounts (thing_row (plain_row (actors ++ mine ∷ []))) ps (made_by register (length s.actors) fresh s.actors)) (sym people)
             (same_rows all' (thing_row (plain_row (actors ++ mine ∷ []))) _ _ rows (made_kept kind register));
         program = facts.program;
         prints = facts.prints;
         objects = objects_pushed actors mine refl ∙ objects_more nf;
+        weight = facts.weight;
       })
 
   -- ---- a letter
@@ -294,6 +295,7 @@ module _ (p : PlainState) (s : State) (facts : Facts p s) (a : ℕ) (c : Cell) (
           program = facts.program;
           prints = facts.prints;
           objects = objects_kept actors to receiver.actor receiver.there lettered refl ∙ objects_more (Some stopped);
+          weight = facts.weight;
         })
 
     -- ---- minting
@@ -302,21 +304,22 @@ module _ (p : PlainState) (s : State) (facts : Facts p s) (a : ℕ) (c : Cell) (
     unfolding turn after
     held1 = held_after s.program all all' (people_of p.actors) s.actors facts.counts a c ls at f is grows (Some stopped) c.dirty (λ z h. h)
 
-    pub theirs : (e : Loaded) (es : List Loaded) → lacking a c1.holdings load ≡ e ∷ es → (z : Thing) → 0 < amount_of z (to_mint (owner_of e.0) (e ∷ es)) → (owner_of z ≡ owner_of e.0) × (0 < held_in c.holdings z)
+    pub theirs : (e : Loaded) (es : List Loaded) → lacking a c1.holdings load ≡ e ∷ es → (z : Thing) → 0 < amount_of z (to_mint s.options.weight (owner_of e.0) (e ∷ es)) → (owner_of z ≡ owner_of e.0) × (0 < held_in c.holdings z)
     theirs e es l z some =
-        let w = to_mint_theirs a (owner_of e.0) c1.holdings load z (subst (λ q. 0 < amount_of z (to_mint (owner_of e.0) q)) (sym l) some) in
+        let w = to_mint_theirs s.options.weight a (owner_of e.0) c1.holdings load z (subst (λ q. 0 < amount_of z (to_mint s.options.weight (owner_of e.0) q)) (sym l) some) in
         (w.0, subst (λ n. 0 < n) (held1 z) w.1)
 
     held_present : (z : Thing) → 0 < held_in c.holdings z → IsPresent s.actors (owner_of z)
     held_present z h = let left = counted_left s.actors z (in_hand s.actors facts.counts.balanced) facts.counts.prefixes (let w = held_below z s.actors a c ls at in omega arith) in (left.seat, left.present)
 
-    mint_follows : (e : Loaded) (es : List Loaded) → lacking a c1.holdings load ≡ e ∷ es → Facts p (record s { actors = mint a c ls (owner_of e.0) (to_mint (owner_of e.0) (e ∷ es)) s.actors })
+    mint_follows : (e : Loaded) (es : List Loaded) → lacking a c1.holdings load ≡ e ∷ es → Facts p (record s { actors = mint a c ls (owner_of e.0) (to_mint s.options.weight (owner_of e.0) (e ∷ es)) s.actors })
     mint_follows e es l = record {
-      counts = mint_keeps_counts all (people_of p.actors) s.actors facts.counts a c ls at (owner_of e.0) (to_mint (owner_of e.0) (e ∷ es)) (theirs e es l) (counted_mint (owner_of e.0) (e ∷ es))
-          (held_present e.0 (theirs e es l e.0 (first_minted e es)).1);
+      counts = mint_keeps_counts all (people_of p.actors) s.actors facts.counts a c ls at (owner_of e.0) (to_mint s.options.weight (owner_of e.0) (e ∷ es)) (theirs e es l) (counted_mint s.options.weight facts.weight (owner_of e.0) (e ∷ es))
+          (held_present e.0 (theirs e es l e.0 (first_minted s.options.weight facts.weight e es)).1);
       program = facts.program;
       prints = facts.prints;
       objects = facts.objects;
+      weight = facts.weight;
     }
 
     letter_follows : (lack : List Loaded) → lacking a c1.holdings load ≡ lack
@@ -342,7 +345,7 @@ module _ (p : PlainState) (s : State) (facts : Facts p s) (a : ℕ) (c : Cell) (
   act_follows (New kind register) t act e = by_room (nat_lt (length s.actors) 65536) refl e
     where
       made : State
-      made = with_turn_kept s stop (make a (turned stop (Some (with_name stopped register (length s.actors))) c.dirty c) ls (fresh_cell s.program kind) s.actors)
+      made = with_turn_kept s stop (make s.options.weight a (turned stop (Some (with_name stopped register (length s.actors))) c.dirty c) ls (fresh_cell s.options.weight s.program kind) s.actors)
 
       plain_made : PlainState
       plain_made = next_state p (with_turn p.actors a (Some (with_name stopped register (length p.actors))) stop.turn.fields stop.turn.made ++ fresh_actor p.program kind ∷ []) p.prints

@@ -43,6 +43,7 @@ module _ (p : PlainState) (s : State) (facts : Facts p s) (t : State) where
     program = facts.program;
     prints = facts.prints;
     objects = facts.objects;
+    weight = facts.weight;
   })
 
   collect_seat : (a : ℕ) (o : Option Seat) → seat_at s.actors a ≡ o → collect_at s a o ≡ Goes t → Facts p t

@@ -37,33 +37,33 @@ no_load zero h f = omega arith
 no_load (suc n) h f = let z = f (omega arith) in omega arith
 
 -- what is minted is of one owner, and held
-minted_in : (x : Thing) (q p : Thing → Bool) (es : List (Thing × Option Row))
-    → 0 < amount_of x (map (λ (e : Thing × Option Row). (e.0, 256)) (filter (λ e. q e.0) (filter (λ e. p e.0) es))) → (q x ≡ true) × (p x ≡ true)
-minted_in x q p [] h = absurd (omega (arith, amount-nil x))
-minted_in x q p (y ∷ es) h = elim (p y.0) as (λ b. p y.0 ≡ b → 0 < amount_of x (map (λ (e : Thing × Option Row). (e.0, 256)) (filter (λ e. q e.0) (cond b (y ∷ filter (λ e. p e.0) es) (filter (λ e. p e.0) es)))) → (q x ≡ true) × (p x ≡ true)) [
-  | true ↦ λ pt h. elim (q y.0) as (λ b. q y.0 ≡ b → 0 < amount_of x (map (λ (e : Thing × Option Row). (e.0, 256)) (cond b (y ∷ filter (λ e. q e.0) (filter (λ e. p e.0) es)) (filter (λ e. q e.0) (filter (λ e. p e.0) es)))) → (q x ≡ true) × (p x ≡ true)) [
+minted_in : (w : ℕ) (x : Thing) (q p : Thing → Bool) (es : List (Thing × Option Row))
+    → 0 < amount_of x (map (λ (e : Thing × Option Row). (e.0, w)) (filter (λ e. q e.0) (filter (λ e. p e.0) es))) → (q x ≡ true) × (p x ≡ true)
+minted_in w x q p [] h = absurd (omega (arith, amount-nil x))
+minted_in w x q p (y ∷ es) h = elim (p y.0) as (λ b. p y.0 ≡ b → 0 < amount_of x (map (λ (e : Thing × Option Row). (e.0, w)) (filter (λ e. q e.0) (cond b (y ∷ filter (λ e. p e.0) es) (filter (λ e. p e.0) es)))) → (q x ≡ true) × (p x ≡ true)) [
+  | true ↦ λ pt h. elim (q y.0) as (λ b. q y.0 ≡ b → 0 < amount_of x (map (λ (e : Thing × Option Row). (e.0, w)) (cond b (y ∷ filter (λ e. q e.0) (filter (λ e. p e.0) es)) (filter (λ e. q e.0) (filter (λ e. p e.0) es)))) → (q x ≡ true) × (p x ≡ true)) [
     | true ↦ λ qt h. ⊎_elim
         (λ same. (ap q same ∙ qt, ap p same ∙ pt))
-        (λ other. minted_in x q p es (let z = amount-other x (y.0, 256) (map (λ (e : Thing × Option Row). (e.0, 256)) (filter (λ e. q e.0) (filter (λ e. p e.0) es))) other in omega arith))
+        (λ other. minted_in w x q p es (let z = amount-other x (y.0, w) (map (λ (e : Thing × Option Row). (e.0, w)) (filter (λ e. q e.0) (filter (λ e. p e.0) es))) other in omega arith))
         (cases_thing x y.0)
-    | false ↦ λ qf h. minted_in x q p es h
+    | false ↦ λ qf h. minted_in w x q p es h
   ] refl h
-  | false ↦ λ pf h. minted_in x q p es h
+  | false ↦ λ pf h. minted_in w x q p es h
 ] refl h
 
-pub to_mint_theirs : (a b : ℕ) (c : Holdings) (es : List (Thing × Option Row)) (x : Thing) → 0 < amount_of x (to_mint b (lacking a c es)) → (owner_of x ≡ b) × (0 < held_in c x)
-to_mint_theirs a b c es x h =
-    let z = minted_in x (λ y. owner_of y == b) (is_lacking a c) es h in
+pub to_mint_theirs : (w a b : ℕ) (c : Holdings) (es : List (Thing × Option Row)) (x : Thing) → 0 < amount_of x (to_mint w b (lacking a c es)) → (owner_of x ≡ b) × (0 < held_in c x)
+to_mint_theirs w a b c es x h =
+    let z = minted_in w x (λ y. owner_of y == b) (is_lacking a c) es h in
     let o = eqb-true (owner_of x) b z.0 in
     let one = eqb-true (held_in c x) 1 (and_parts (not (owner_of x == a)) _ z.1).1 in
     (o, omega arith)
 
-pub counted_mint : (b : ℕ) (es : List Loaded) → AllCounted (to_mint b es)
-counted_mint b [] = tt
-counted_mint b (e ∷ es) = elim (owner_of e.0 == b) as (λ t. AllCounted (map (λ (e : Loaded). (e.0, 256)) (cond t (e ∷ filter (λ e. owner_of e.0 == b) es) (filter (λ e. owner_of e.0 == b) es)))) [
-  | true ↦ (omega arith, counted_mint b es)
-  | false ↦ counted_mint b es
+pub counted_mint : (w : ℕ) → 0 < w → (b : ℕ) (es : List Loaded) → AllCounted (to_mint w b es)
+counted_mint w pos b [] = tt
+counted_mint w pos b (e ∷ es) = elim (owner_of e.0 == b) as (λ t. AllCounted (map (λ (e : Loaded). (e.0, w)) (cond t (e ∷ filter (λ e. owner_of e.0 == b) es) (filter (λ e. owner_of e.0 == b) es)))) [
+  | true ↦ (pos, counted_mint w pos b es)
+  | false ↦ counted_mint w pos b es
 ]
 
-pub first_minted : (e : Loaded) (es : List Loaded) → 0 < amount_of e.0 (to_mint (owner_of e.0) (e ∷ es))
-first_minted e es = rw (eq-eqb (owner_of e.0) (owner_of e.0) refl) (let z = amount-same e.0 (e.0, 256) (map (λ (e : Loaded). (e.0, 256)) (filter (λ y. owner_of y.0 == owner_of e.0) es)) refl in omega arith)
+pub first_minted : (w : ℕ) → 0 < w → (e : Loaded) (es : List Loaded) → 0 < amount_of e.0 (to_mint w (owner_of e.0) (e ∷ es))
+first_minted w pos e es = rw (eq-eqb (owner_of e.0) (owner_of e.0) refl) (let z = amount-same e.0 (e.0, w) (map (λ (e : Loaded). (e.0, w)) (filter (λ y. owner_of y.0 == owner_of e.0) es)) refl in omega arith)

@@ -29,6 +29,7 @@ use Rattle.machine_rules.specs.Collect.{collect_at, collect_in, collected, is_ma
 use Rattle.machine_rules.specs.Detect.{hear_in, scan_in, reap_in, held_outside, reap_found, reaped}
 use Rattle.machine_rules.specs.Go.{act_in, go_at, go_in, load_from, post_or_mint, turn_of_cell, turned}
 use Rattle.machine_rules.specs.Next.{next}
+use Rattle.machine_rules.specs.Options.{Options}
 use Rattle.machine_rules.specs.Plain.{stopped_at, with_name}
 use Rattle.machine_rules.specs.Run.{Leads}
 use Rattle.machine_rules.specs.State.{State, Step, IsFull, Goes, first_state, start_letters}
@@ -47,9 +48,9 @@ abbrev pub state_told : Page → State
 state_told b = record b.state { actors = seats_told b.places }
 
 -- before the first event
-abbrev pub first_page : Program → Page
-first_page program = record {
-  state = record (first_state program) { actors = [] };
+abbrev pub first_page : Program → Options → Page
+first_page program options = record {
+  state = record (first_state program options) { actors = [] };
   places = place (first_cell program) (empty_ledger 0) (start_letters program) ∷ [];
 }
 
@@ -124,7 +125,7 @@ abbrev post_or_mint_told : Page → ℕ → Place → Place → Stop → ℕ →
 post_or_mint_told b a before after stop to behaviour args load [] =
     with_turn_told b stop (push_told to (App behaviour args load) (set b.places a (place after.cell (give_load a load after.ledger) after.mail)))
 post_or_mint_told b a before after stop to behaviour args load (e ∷ lacked) =
-    let things = to_mint (owner_of e.0) (e ∷ lacked) in
+    let things = to_mint b.state.options.weight (owner_of e.0) (e ∷ lacked) in
     record b { places = push_told (owner_of e.0) (Inc things) (set b.places a (place before.cell (mint_told things before.ledger) before.mail)) }
 
 post-told : (b : Page) (a : ℕ) (before after : Place) (stop : Stop) (to behaviour : ℕ) (args : List Value) (load lacked : List Loaded) → after.mail ≡ before.mail
@@ -137,7 +138,7 @@ post-told b a before after stop to behaviour args load [] same =
     (λ i. seat (record after.cell { holdings = send-told a load after.ledger i }) (sym same i)))
     ∙ push_letter-told to (App behaviour args load) _)
 post-told b a before after stop to behaviour args load (e ∷ lacked) same =
-    let things : List Amount = to_mint (owner_of e.0) (e ∷ lacked) in
+    let things : List Amount = to_mint b.state.options.weight (owner_of e.0) (e ∷ lacked) in
     ap (λ actors. record b.state { actors = actors })
     (ap (push_letter (owner_of e.0) (Inc things))
     (set-told b.places a _ (place before.cell (mint_told things before.ledger) before.mail)
@@ -156,8 +157,8 @@ acted b a o frame stop (New kind register) =
     let after = place_turned stop (Some (with_name frame register (length b.places))) o.cell.dirty o in
     if nat_lt (length b.places) 65536
     then Some (with_turn_told b stop
-    (set b.places a (place after.cell (change_held (λ n. n + 256) (things.Actor (length b.places)) None after.ledger) o.mail)
-    ++ place (fresh_cell b.state.program kind) (empty_ledger 256) [] ∷ []))
+    (set b.places a (place after.cell (change_held (λ n. n + b.state.options.weight) (things.Actor (length b.places)) None after.ledger) o.mail)
+    ++ place (fresh_cell b.state.options.weight b.state.program kind) (empty_ledger b.state.options.weight) [] ∷ []))
     else None
 acted b a o frame stop (Post to behaviour args) =
     let after = place_turned stop (Some frame) o.cell.dirty o in
@@ -182,9 +183,9 @@ act-follows b a o frame stop (New kind register) =
         then Goes (record b.state {
           actors = set (seats_told b.places) a
               (seat (record (turned stop (Some (with_name frame register n)) o.cell.dirty (cell_told o)) {
-                holdings = gain 256 (things.Actor n) None (turned stop (Some (with_name frame register n)) o.cell.dirty (cell_told o)).holdings;
+                holdings = gain b.state.options.weight (things.Actor n) None (turned stop (Some (with_name frame register n)) o.cell.dirty (cell_told o)).holdings;
               }) o.mail)
-              ++ seat (fresh_cell b.state.program kind) [] ∷ [];
+              ++ seat (fresh_cell b.state.options.weight b.state.program kind) [] ∷ [];
           objects = b.state.objects + length stop.turn.made;
         })
         else IsFull
@@ -193,31 +194,31 @@ act-follows b a o frame stop (New kind register) =
     after = place_turned stop (Some (with_name frame register (length b.places))) o.cell.dirty o
 
     maker : Option Place
-    maker = place after.cell (change_held (λ n. n + 256) (things.Actor (length b.places)) None after.ledger) o.mail
+    maker = place after.cell (change_held (λ n. n + b.state.options.weight) (things.Actor (length b.places)) None after.ledger) o.mail
 
     fresh : Option Place
-    fresh = place (fresh_cell b.state.program kind) (empty_ledger 256) []
+    fresh = place (fresh_cell b.state.options.weight b.state.program kind) (empty_ledger b.state.options.weight) []
 
     before : Cell
     before = turned stop (Some (with_name frame register (length b.places))) o.cell.dirty (cell_told o)
 
     goes : Goes (record b.state {
-      actors = set (seats_told b.places) a (seat (record before { holdings = gain 256 (things.Actor (length b.places)) None before.holdings }) o.mail)
-          ++ seat (fresh_cell b.state.program kind) [] ∷ [];
+      actors = set (seats_told b.places) a (seat (record before { holdings = gain b.state.options.weight (things.Actor (length b.places)) None before.holdings }) o.mail)
+          ++ seat (fresh_cell b.state.options.weight b.state.program kind) [] ∷ [];
       objects = b.state.objects + length stop.turn.made;
     }) ≡ Goes (state_told (with_turn_told b stop (set b.places a maker ++ fresh ∷ [])))
     goes =
         ap (λ actors. Goes (record b.state { actors = actors; objects = b.state.objects + length stop.turn.made }))
-        (ap (λ actors. actors ++ seat (fresh_cell b.state.program kind) [] ∷ [])
+        (ap (λ actors. actors ++ seat (fresh_cell b.state.options.weight b.state.program kind) [] ∷ [])
         (set-told b.places a _ maker
-        (ap (λ h. seat (record after.cell { holdings = gain 256 (things.Actor (length b.places)) None h }) o.mail) (with_made-told stop.turn.made o.ledger)
-        ∙ ap (λ h. seat (record after.cell { holdings = h }) o.mail) (set_held-told (λ n. n + 256) (things.Actor (length b.places)) None after.ledger)))
+        (ap (λ h. seat (record after.cell { holdings = gain b.state.options.weight (things.Actor (length b.places)) None h }) o.mail) (with_made-told stop.turn.made o.ledger)
+        ∙ ap (λ h. seat (record after.cell { holdings = h }) o.mail) (set_held-told (λ n. n + b.state.options.weight) (things.Actor (length b.places)) None after.ledger)))
         ∙ sym (map-append seat_told (set b.places a maker) (fresh ∷ [])))
 
     cases : (room : Bool) → Follows (if room then Some (with_turn_told b stop (set b.places a maker ++ fresh ∷ [])) else None)
         (if room then Goes (record b.state {
-          actors = set (seats_told b.places) a (seat (record before { holdings = gain 256 (things.Actor (length b.places)) None before.holdings }) o.mail)
-              ++ seat (fresh_cell b.state.program kind) [] ∷ [];
+          actors = set (seats_told b.places) a (seat (record before { holdings = gain b.state.options.weight (things.Actor (length b.places)) None before.holdings }) o.mail)
+              ++ seat (fresh_cell b.state.options.weight b.state.program kind) [] ∷ [];
           objects = b.state.objects + length stop.turn.made;
         }) else IsFull)
     cases true = goes

@@ -19,7 +19,7 @@ use Rattle.machine_rules.specs.Take.{cell_after}
 pub record Local (Q : ℕ → Cell → List Letter → Type 0) : Type 0 where
   -- at the start, and where the actor was just made
   pub start : (program : Program) → Q 0 (first_cell program) (start_letters program)
-  pub fresh : (program : Program) (a kind : ℕ) → Q a (fresh_cell program kind) []
+  pub fresh : (weight : ℕ) (program : Program) (a kind : ℕ) → Q a (fresh_cell weight program kind) []
   -- others act, and a letter comes in
   pub letter : (l : Letter) (a : ℕ) (c : Cell) (mail : List Letter) → Q a c mail → Q a c (mail ++ l ∷ [])
   -- the actor takes, collects or reports
@@ -33,8 +33,8 @@ pub record Local (Q : ℕ → Cell → List Letter → Type 0) : Type 0 where
   pub end : (program : Program) (a : ℕ) (c : Cell) (mail : List Letter) (f : Frame) → c.frame ≡ Some f → Q a c mail
       → Q a (turned (turn_of_cell program a c f) None true c) mail
   -- then it makes an actor, or sends; or it mints instead of the turn
-  pub make : (a n : ℕ) (c : Cell) (mail : List Letter) (f g : Frame) → a < n → c.frame ≡ Some f → Q a c mail
-      → Q a (record c { frame = Some g; holdings = gain 256 (Actor n) None c.holdings }) mail
+  pub make : (weight a n : ℕ) (c : Cell) (mail : List Letter) (f g : Frame) → a < n → c.frame ≡ Some f → Q a c mail
+      → Q a (record c { frame = Some g; holdings = gain weight (Actor n) None c.holdings }) mail
   pub send : (a : ℕ) (c : Cell) (mail : List Letter) (f : Frame) (load : List Loaded) → c.frame ≡ Some f → Q a c mail
       → Q a (record c { holdings = send a load c.holdings }) mail
   pub mint : (a : ℕ) (c : Cell) (mail : List Letter) (f : Frame) (things : List Amount) → c.frame ≡ Some f

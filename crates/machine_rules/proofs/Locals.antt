@@ -27,6 +27,7 @@ use Rattle.machine_rules.specs.Detect.{ask_all, hear_in, reap_found, reap_in, sc
 use Rattle.machine_rules.specs.Facts.{Every}
 use Rattle.machine_rules.specs.Go.{act_in, go_at, go_in, load_from, make, post_or_mint, turn_of_cell, turned, with_turn_kept}
 use Rattle.machine_rules.specs.Next.{next}
+use Rattle.machine_rules.specs.Options.{Options}
 use Rattle.machine_rules.specs.Plain.{stopped_at, with_name}
 use Rattle.machine_rules.specs.State.{State, NotEnabled, IsFull, Goes, first_state}
 use Rattle.machine_rules.specs.Take.{cell_after, take_at, take_in}
@@ -101,24 +102,24 @@ module _ (Q : ℕ → Cell → List Letter → Type 0) (local : Local Q) where
     held_after x = refl
 
     on_new : (kind register : ℕ) → Every Q s.actors
-        → Every Q (make a (turned stop (Some (with_name later register (length s.actors))) c.dirty c) mail (fresh_cell s.program kind) s.actors)
+        → Every Q (make s.options.weight a (turned stop (Some (with_name later register (length s.actors))) c.dirty c) mail (fresh_cell s.options.weight s.program kind) s.actors)
     on_new kind register h =
         let n = length s.actors in
         let g = with_name later register n in
-        let maker = record after { frame = Some g; holdings = gain 256 (Actor n) None after.holdings } in
-        every_more Q (set s.actors a (seat maker mail)) (fresh_cell s.program kind) [] (local.fresh s.program _ kind)
-        (every_here s.actors a _ maker mail at (local.make a n after mail later g (present_below s.actors a _ at) refl (here h)) h)
+        let maker = record after { frame = Some g; holdings = gain s.options.weight (Actor n) None after.holdings } in
+        every_more Q (set s.actors a (seat maker mail)) (fresh_cell s.options.weight s.program kind) [] (local.fresh s.options.weight s.program _ kind)
+        (every_here s.actors a _ maker mail at (local.make s.options.weight a n after mail later g (present_below s.actors a _ at) refl (here h)) h)
 
     on_post : (to behaviour : ℕ) (args : List Value) (load lacked : List Loaded) → lacking a after.holdings load ≡ lacked → Keeps s (post_or_mint s a c after mail stop to behaviour args load lacked)
     on_post to behaviour args load [] l h = every_letter _ to (App behaviour args load)
         (every_here s.actors a _ (record after { holdings = send a load after.holdings }) mail at (local.send a after mail later load refl (here h)) h)
     on_post to behaviour args load (y ∷ ys) l h =
-        let things = to_mint (owner_of y.0) (y ∷ ys) in
+        let things = to_mint s.options.weight (owner_of y.0) (y ∷ ys) in
         every_letter _ (owner_of y.0) (Inc things)
         (every_here s.actors a _ (record c { holdings = mint_all things c.holdings }) mail at
         (local.mint a c mail f things is
         (λ x some.
-        let z = (to_mint_theirs a (owner_of y.0) after.holdings load x (subst (λ q. 0 < amount_of x (to_mint (owner_of y.0) q)) (sym l) some)).1 in
+        let z = (to_mint_theirs s.options.weight a (owner_of y.0) after.holdings load x (subst (λ q. 0 < amount_of x (to_mint s.options.weight (owner_of y.0) q)) (sym l) some)).1 in
         subst (λ n. 0 < n) (held_after x) z)
         (h a c mail at)) h)
 
@@ -128,7 +129,7 @@ module _ (Q : ℕ → Cell → List Letter → Type 0) (local : Local Q) where
     on_act (New kind register) t e = by_room (nat_lt (length s.actors) 65536) e
       where
         by_room : (b : Bool) → (if b
-            then Goes (with_turn_kept s stop (make a (turned stop (Some (with_name later register (length s.actors))) c.dirty c) mail (fresh_cell s.program kind) s.actors))
+            then Goes (with_turn_kept s stop (make s.options.weight a (turned stop (Some (with_name later register (length s.actors))) c.dirty c) mail (fresh_cell s.options.weight s.program kind) s.actors))
             else IsFull) ≡ Goes t → Keeps s t
         by_room true e = moved s _ t e (on_new kind register)
         by_room false e = full t e
@@ -187,8 +188,8 @@ module _ (Q : ℕ → Cell → List Letter → Type 0) (local : Local Q) where
   every_next s t Scan e = on_scan s t (closed_set s.detector) s.detector.news e
   every_next s t (Reap number) e = reap_token s t (token_numbered number s.detector) e
 
-  pub every_first : (program : Program) → Every Q (first_state program).actors
-  every_first program = every_more Q [] _ _ (local.start program) (λ a c mail at. absurd (nowhere a c mail at))
+  pub every_first : (program : Program) (options : Options) → Every Q (first_state program options).actors
+  every_first program options = every_more Q [] _ _ (local.start program) (λ a c mail at. absurd (nowhere a c mail at))
     where
       nowhere : (a : ℕ) (c : Cell) (mail : List Letter) → seat_at [] a ≡ seat c mail → ⊥
       nowhere a c mail at = cc

@@ -68,16 +68,16 @@ obj_actor q n e = cc
 no_way : false ≡ true → ⊥
 no_way e = cc
 
-fresh_has : (q : ObjName) (c : Holdings) → IsFresh c → has_own c (Obj q) ≡ false
+fresh_has : (w : ℕ) (q : ObjName) (c : Holdings) → IsFresh w c → has_own c (Obj q) ≡ false
 unfolding has_own
-fresh_has q c f = ap is_some (f.1 q.serial)
+fresh_has w q c f = ap is_some (f.1 q.serial)
 
-given_self : (n : ℕ) → given n (Actor n) ≡ 256
-given_self n = rw (is_self (Actor n)) refl
+given_self : (w n : ℕ) → given w n (Actor n) ≡ w
+given_self w n = rw (is_self (Actor n)) refl
 
-module _ (all : Thing → Option Row) (ps : List Person) (s : Actors) (inv : KeepsCounts all ps s)
+module _ (wt : ℕ) (heavy : 0 < wt) (all : Thing → Option Row) (ps : List Person) (s : Actors) (inv : KeepsCounts all ps s)
     (a : ℕ) (c : Cell) (ls : List Letter) (at : seat_at s a ≡ seat c ls) (f : Frame) (frame : c.frame ≡ Some f) (into : ℕ)
-    (fresh : Cell) (is_fresh : IsFresh fresh.holdings) (blank : (x : Thing) → Roots fresh x → ⊥) (zero_serial : fresh.holdings.next ≡ 0) where
+    (fresh : Cell) (is_fresh : IsFresh wt fresh.holdings) (blank : (x : Thing) → Roots fresh x → ⊥) (zero_serial : fresh.holdings.next ≡ 0) where
   abbrev n : ℕ
   n = length s
 
@@ -85,19 +85,19 @@ module _ (all : Thing → Option Row) (ps : List Person) (s : Actors) (inv : Kee
   c1 = record c { frame = Some (with_name f into n) }
 
   abbrev c2 : Cell
-  c2 = record c1 { holdings = gain 256 (Actor n) None c.holdings }
+  c2 = record c1 { holdings = gain wt (Actor n) None c.holdings }
 
   within : a < n
   within = present_below s a _ at
 
-  held-c2 : (x : Thing) → held_in c2.holdings x ≡ held_in c.holdings x + given n x
-  held-c2 x = held_given n c.holdings x
+  held-c2 : (x : Thing) → held_in c2.holdings x ≡ held_in c.holdings x + given wt n x
+  held-c2 x = held_given wt n c.holdings x
 
   has-c2 : (x : Thing) → has_own c2.holdings x ≡ has_own c.holdings x
-  has-c2 x = has_set_held (λ h. h + 256) x (Actor n) None c.holdings
+  has-c2 x = has_set_held (λ h. h + wt) x (Actor n) None c.holdings
 
-  given_or : (x : Thing) → 0 < given n x → x ≡ Actor n
-  given_or x h = ⊎_elim (λ same. same) (λ other. absurd (let z = given_other n x other in omega arith)) (cases_thing x (Actor n))
+  given_or : (x : Thing) → 0 < given wt n x → x ≡ Actor n
+  given_or x h = ⊎_elim (λ same. same) (λ other. absurd (let z = given_other wt n x other in omega arith)) (cases_thing x (Actor n))
 
   roots-c2 : (x : Thing) → Roots c2 x → Reaches all (Roots c) x ⊎ (x ≡ Actor n)
   roots-c2 x (in_fields h) = inl (root (in_fields h))
@@ -111,7 +111,7 @@ module _ (all : Thing → Option Row) (ps : List Person) (s : Actors) (inv : Kee
   roots-c2 x (in_table h) = ⊎_elim
       (λ old. inl (root (in_table old)))
       (λ new. inr (given_or x new))
-      (either (held_in c.holdings x) (given n x) (subst (λ k. 0 < k) (held-c2 x) h))
+      (either (held_in c.holdings x) (given wt n x) (subst (λ k. 0 < k) (held-c2 x) h))
     where
       either : (p q : ℕ) → 0 < p + q → (0 < p) ⊎ (0 < q)
       either zero q h = inr (omega arith)
@@ -127,11 +127,11 @@ module _ (all : Thing → Option Row) (ps : List Person) (s : Actors) (inv : Kee
   known-c2 x (inr other) = inr (other.0, let z = held-c2 x in let w = other.1 in omega arith)
 
   known-new : IsKnown a c2.holdings (Actor n)
-  known-new = inr ((λ same. let w = within in absurd (omega arith)), let z = held-c2 (Actor n) in let w = given_self n in omega arith)
+  known-new = inr ((λ same. let w = within in absurd (omega arith)), let z = held-c2 (Actor n) in let w = given_self wt n in omega arith)
 
   back-c2 : (x : Thing) → x ≢ Actor n → IsKnown a c2.holdings x → IsKnown a c.holdings x
   back-c2 x other (inl own) = inl (own.0, sym (has-c2 x) ∙ own.1)
-  back-c2 x other (inr held) = inr (held.0, let z = held-c2 x in let w = given_other n x other in let h = held.1 in omega arith)
+  back-c2 x other (inr held) = inr (held.0, let z = held-c2 x in let w = given_other wt n x other in let h = held.1 in omega arith)
 
   closed-c2 : IsClosedAt all a c2
   closed-c2 x h = ⊎_elim
@@ -142,7 +142,7 @@ module _ (all : Thing → Option Row) (ps : List Person) (s : Actors) (inv : Kee
   rows-c2 : RowsAreAt all a c2.holdings
   rows-c2 x k = ⊎_elim
       (λ new. subst (λ y. row_at a c2.holdings y ≡ all y) (sym new) (sym (inv.bare n)))
-      (λ other. row_set_held_other a (λ h. h + 256) (Actor n) None x c.holdings other ∙ (inv.sound a c ls at).rows x (back-c2 x other k))
+      (λ other. row_set_held_other a (λ h. h + wt) (Actor n) None x c.holdings other ∙ (inv.sound a c ls at).rows x (back-c2 x other k))
       (cases_thing x (Actor n))
 
   closed-fresh : IsClosedAt all n fresh
@@ -150,14 +150,14 @@ module _ (all : Thing → Option Row) (ps : List Person) (s : Actors) (inv : Kee
 
   rows-fresh : RowsAreAt all n fresh.holdings
   rows-fresh (Actor b) k = sym (inv.bare b)
-  rows-fresh (Obj q) (inl own) = absurd (let z = fresh_has q fresh.holdings is_fresh in let w = own.1 in no_way (sym z ∙ w))
-  rows-fresh (Obj q) (inr held) = absurd (let z = fresh_held fresh.holdings is_fresh (Obj q) in let w = held.1 in omega arith)
+  rows-fresh (Obj q) (inl own) = absurd (let z = fresh_has wt q fresh.holdings is_fresh in let w = own.1 in no_way (sym z ∙ w))
+  rows-fresh (Obj q) (inr held) = absurd (let z = fresh_held wt fresh.holdings is_fresh (Obj q) in let w = held.1 in omega arith)
 
   serial-c2 : c2.holdings.next ≡ c.holdings.next
-  serial-c2 = next_held (λ h. h + 256) (Actor n) None c.holdings
+  serial-c2 = next_held (λ h. h + wt) (Actor n) None c.holdings
 
   firm-c2 : IsFirm c2.holdings
-  firm-c2 = firm_set_held (λ h. h + 256) (Actor n) None c.holdings (omega arith) (inv.firm a c ls at)
+  firm-c2 = firm_set_held (λ h. h + wt) (Actor n) None c.holdings (omega arith) (inv.firm a c ls at)
 
   abbrev first : Actors
   first = set s a (seat c2 ls)
@@ -165,10 +165,10 @@ module _ (all : Thing → Option Row) (ps : List Person) (s : Actors) (inv : Kee
   wide : length first ≡ n
   wide = length-set s a _
 
-  pub make_keeps_counts : KeepsCounts all (set ps a (person_of c2 ls) ++ person_of fresh [] ∷ []) (make a c1 ls fresh s)
+  pub make_keeps_counts : KeepsCounts all (set ps a (person_of c2 ls) ++ person_of fresh [] ∷ []) (make wt a c1 ls fresh s)
   make_keeps_counts = record {
-    balanced = out_of_hand _ (make_balanced s a c c1 ls at (λ x. refl) (λ x. refl) fresh is_fresh (in_hand s inv.balanced));
-    prefixes = make_prefix s a c c1 ls at (λ x. refl) (λ x. refl) fresh is_fresh inv.prefixes;
+    balanced = out_of_hand _ (make_balanced wt s a c c1 ls at (λ x. refl) (λ x. refl) fresh is_fresh (in_hand s inv.balanced));
+    prefixes = make_prefix wt s a c c1 ls at (λ x. refl) (λ x. refl) fresh is_fresh inv.prefixes;
     sound = every_more (IsSoundAt all) first fresh [] (rw wide (record { closed = closed-fresh; rows = rows-fresh; loads = tt }))
         (every_set (IsSoundAt all) s a c2 ls within (record { closed = closed-c2; rows = rows-c2; loads = (inv.sound a c ls at).loads }) inv.sound);
     agrees = agrees_more (set ps a (person_of c2 ls)) first fresh [] (length-set ps a _ ∙ inv.long ∙ sym wide)

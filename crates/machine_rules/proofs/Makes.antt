@@ -60,45 +60,45 @@ module _ (s : Actors) (new : Option Seat) where
       (λ not. subst (IsCoveredAt x) (sym (more_other (owner_of x) not)) (p x))
       (cases_eq (owner_of x) (length s))
 
--- a cell that counts 256 on itself and nothing else
-abbrev pub IsFresh : Holdings → Type 0
-IsFresh c = (c.count ≡ 256) × ((k : ℕ) → m.get c.rows k ≡ None) × ((x : Thing) → m.get c.foreign x ≡ None)
+-- a cell that counts w on itself and nothing else
+abbrev pub IsFresh : ℕ → Holdings → Type 0
+IsFresh w c = (c.count ≡ w) × ((k : ℕ) → m.get c.rows k ≡ None) × ((x : Thing) → m.get c.foreign x ≡ None)
 
-pub fresh_held : (c : Holdings) → IsFresh c → (x : Thing) → held_in c x ≡ 0
+pub fresh_held : (w : ℕ) (c : Holdings) → IsFresh w c → (x : Thing) → held_in c x ≡ 0
 unfolding held_in
-fresh_held c f x = rw (f.2 x) refl
+fresh_held w c f x = rw (f.2 x) refl
 
 -- what the maker of the actor n holds on it
-abbrev pub given : ℕ → Thing → ℕ
-given n x = cond (is_thing x (Actor n)) 256 0
+abbrev pub given : ℕ → ℕ → Thing → ℕ
+given w n x = cond (is_thing x (Actor n)) w 0
 
-pub given_other : (n : ℕ) (x : Thing) → x ≢ Actor n → given n x ≡ 0
-given_other n x h = rw (is_ne_false x (Actor n) h) refl
+pub given_other : (w n : ℕ) (x : Thing) → x ≢ Actor n → given w n x ≡ 0
+given_other w n x h = rw (is_ne_false x (Actor n) h) refl
 
-fresh_own : (n : ℕ) (c : Holdings) → IsFresh c → (x : Thing) → owner_of x ≡ n → own_in c x ≡ given n x
+fresh_own : (w n : ℕ) (c : Holdings) → IsFresh w c → (x : Thing) → owner_of x ≡ n → own_in c x ≡ given w n x
 unfolding own_in
-fresh_own n c f (Actor a) o = f.0 ∙ sym (rw (is_eq_true (Actor a) (Actor n) (ap Actor o)) refl)
-fresh_own n c f (Obj q) o = rw (f.1 q.serial) (sym (given_other n (Obj q) (λ e. cc)))
+fresh_own w n c f (Actor a) o = f.0 ∙ sym (rw (is_eq_true (Actor a) (Actor n) (ap Actor o)) refl)
+fresh_own w n c f (Obj q) o = rw (f.1 q.serial) (sym (given_other w n (Obj q) (λ e. cc)))
 
-pub held_given : (n : ℕ) (c : Holdings) (x : Thing) → held_in (gain 256 (Actor n) None c) x ≡ held_in c x + given n x
-held_given n c x = ⊎_elim
-    (λ e. rw (is_eq_true x (Actor n) e) (held_set_same (λ h. h + 256) x (Actor n) None c e))
-    (λ ne. rw (is_ne_false x (Actor n) ne) (let u = held_set_other (λ h. h + 256) x (Actor n) None c ne in omega arith))
+pub held_given : (w n : ℕ) (c : Holdings) (x : Thing) → held_in (gain w (Actor n) None c) x ≡ held_in c x + given w n x
+held_given w n c x = ⊎_elim
+    (λ e. rw (is_eq_true x (Actor n) e) (held_set_same (λ h. h + w) x (Actor n) None c e))
+    (λ ne. rw (is_ne_false x (Actor n) ne) (let u = held_set_other (λ h. h + w) x (Actor n) None c ne in omega arith))
     (cases_thing x (Actor n))
 
-module _ (s : Actors) (a : ℕ) (c0 c : Cell) (mail : List Letter) (at : seat_at s a ≡ seat c0 mail) (own_same : (x : Thing) → own_in c.holdings x ≡ own_in c0.holdings x) (held_same : (x : Thing) → held_in c.holdings x ≡ held_in c0.holdings x)
-    (fresh : Cell) (is_fresh : IsFresh fresh.holdings) where
+module _ (w : ℕ) (s : Actors) (a : ℕ) (c0 c : Cell) (mail : List Letter) (at : seat_at s a ≡ seat c0 mail) (own_same : (x : Thing) → own_in c.holdings x ≡ own_in c0.holdings x) (held_same : (x : Thing) → held_in c.holdings x ≡ held_in c0.holdings x)
+    (fresh : Cell) (is_fresh : IsFresh w fresh.holdings) where
   -- the maker holds the new actor
   abbrev maker : Cell
-  maker = record c { holdings = gain 256 (Actor (length s)) None c.holdings }
+  maker = record c { holdings = gain w (Actor (length s)) None c.holdings }
 
-  pub make_balanced : Balanced s → Balanced (make a c mail fresh s)
+  pub make_balanced : Balanced s → Balanced (make w a c mail fresh s)
   make_balanced bal =
       let n = length s in
       let long = length-set s a (seat maker mail) in
-      balanced-more (set s a (seat maker mail)) (seat fresh []) (given n) none
+      balanced-more (set s a (seat maker mail)) (seat fresh []) (given w n) none
       (λ x is.
-      let o = fresh_own n fresh.holdings is_fresh x (is ∙ long) in
+      let o = fresh_own w n fresh.holdings is_fresh x (is ∙ long) in
       omega (
         arith,
         own_at-seat x fresh [],
@@ -109,19 +109,19 @@ module _ (s : Actors) (a : ℕ) (c0 c : Cell) (mail : List Letter) (at : seat_at
         sum-nil (inc_of x),
         sum-nil (dec_of x),
         sum-nil (load_count x),
-        fresh_held fresh.holdings is_fresh x,
+        fresh_held w fresh.holdings is_fresh x,
       ))
       (λ x not.
-      let o = given_other n x (λ e. not (ap owner_of e ∙ sym long)) in
-      omega (arith, held_at-seat x fresh [], loads_at-seat x fresh [], sum-nil (load_count x), fresh_held fresh.holdings is_fresh x))
-      (cell_balanced s a c0 maker mail at none none (given n) none
-      (λ x is. let h = held_given n c.holdings x in let o = own_set_held (λ h. h + 256) x (Actor n) None c.holdings in let p = own_same x in let q = held_same x in omega arith)
-      (λ x not. let h = held_given n c.holdings x in let q = held_same x in omega arith)
+      let o = given_other w n x (λ e. not (ap owner_of e ∙ sym long)) in
+      omega (arith, held_at-seat x fresh [], loads_at-seat x fresh [], sum-nil (load_count x), fresh_held w fresh.holdings is_fresh x))
+      (cell_balanced s a c0 maker mail at none none (given w n) none
+      (λ x is. let h = held_given w n c.holdings x in let o = own_set_held (λ h. h + w) x (Actor n) None c.holdings in let p = own_same x in let q = held_same x in omega arith)
+      (λ x not. let h = held_given w n c.holdings x in let q = held_same x in omega arith)
       bal)
 
-  pub make_prefix : NeverOverdraws s → NeverOverdraws (make a c mail fresh s)
+  pub make_prefix : NeverOverdraws s → NeverOverdraws (make w a c mail fresh s)
   make_prefix p =
       let n = length s in
       prefix-more (set s a (seat maker mail)) (seat fresh [])
       (λ x is. safe_nil x (own_in fresh.holdings x))
-      (cell_prefix s a c0 maker mail at (λ x is. let o = own_set_held (λ h. h + 256) x (Actor n) None c.holdings in let p = own_same x in omega arith) p)
+      (cell_prefix s a c0 maker mail at (λ x is. let o = own_set_held (λ h. h + w) x (Actor n) None c.holdings in let p = own_same x in omega arith) p)

@@ -18,6 +18,7 @@ use Rattle.machine_rules.proofs.Takes.{held-taken_own}
 use Rattle.machine_rules.specs.Clean.{HoldsNoOwnAt, NoneHoldsItsOwn}
 use Rattle.machine_rules.specs.Go.{turn_of_cell}
 use Rattle.machine_rules.specs.Next.{next}
+use Rattle.machine_rules.specs.Options.{Options}
 use Rattle.machine_rules.specs.State.{State, Goes, first_state}
 
 held-with_made : (made : List Row) (h : Holdings) (x : Thing) → held_in (with_made made h) x ≡ held_in h x
@@ -39,22 +40,22 @@ none_minted n (suc k) e f = let z = f (omega arith) in absurd (omega arith)
 pub no_self : Local HoldsNoOwnAt
 no_self = record {
   start = λ program x o. held-nothing 0 x;
-  fresh = λ program a kind x o. held-nothing 256 x;
+  fresh = λ weight program a kind x o. held-nothing weight x;
   letter = λ l a c mail q. q;
   take = λ program a c l mail idle q x o. held-taken_own program a x c mail l o ∙ q x o;
   collect = λ a c mail idle d q x o. held-sweep _ a c.holdings x ∙ swept_none _ (held_in c.holdings x) (q x o);
   block = λ a c mail may q. q;
   turn = λ program a c mail f is q x o. held-with_made (turn_of_cell program a c f).turn.made c.holdings x ∙ q x o;
   end = λ program a c mail f is q x o. held-with_made (turn_of_cell program a c f).turn.made c.holdings x ∙ q x o;
-  make = λ a n c mail f g below is q x o.
+  make = λ weight a n c mail f g below is q x o.
       let apart : x ≢ Actor n = λ e. let z : owner_of x ≡ n = ap owner_of e in absurd (omega arith) in
-      let h = held_given n c.holdings x in let z = given_other n x apart in let y = q x o in omega arith;
+      let h = held_given weight n c.holdings x in let z = given_other weight n x apart in let y = q x o in omega arith;
   send = λ a c mail f load is q x o. held-send_own a x load c.holdings o ∙ q x o;
   mint = λ a c mail f things is some q x o. held-mint_all x things c.holdings ∙ none_minted (held_in c.holdings x) (amount_of x things) (q x o) (some x);
 }
 
-pub no_self-first : (program : Program) → NoneHoldsItsOwn (first_state program).actors
-no_self-first program = every_first HoldsNoOwnAt no_self program
+pub no_self-first : (program : Program) (options : Options) → NoneHoldsItsOwn (first_state program options).actors
+no_self-first program options = every_first HoldsNoOwnAt no_self program options
 
 pub no_self-next : (s t : State) (e : Event) → next s e ≡ Goes t → NoneHoldsItsOwn s.actors → NoneHoldsItsOwn t.actors
 no_self-next s t e now h = every_next HoldsNoOwnAt no_self s t e now h

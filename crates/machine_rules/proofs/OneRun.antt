@@ -21,7 +21,7 @@ leads_to_one (e ∷ book) r s t one other =
     leads_to_one book one.0 s t one.2 (subst (λ u. Leads u book t) (goes_to other.0 one.0 (sym other.1 ∙ one.1)) other.2)
 
 pub one_state : RunsLeadToOneState
-one_state program book s t one other = leads_to_one book (first_state program) s t one other
+one_state program options book s t one other = leads_to_one book (first_state program options) s t one other
 
 -- ---- ends
 

@@ -1,5 +1,5 @@
 -- The start has the facts: the first actor holds nothing, and its letter names nothing.
-use Rattle.std.proofs.Common.{◌≡◌, ◌==◌, ℕ, Bool, if◌then◌else◌, zero, suc, ◌+◌, false, true, Option, Some, None, List, [], ◌∷◌, refl, sym, ◌∙◌, ap, arith, inl, inr}
+use Rattle.std.proofs.Common.{◌≡◌, ◌<◌, ◌==◌, ℕ, Bool, if◌then◌else◌, zero, suc, ◌+◌, false, true, Option, Some, None, List, [], ◌∷◌, refl, sym, ◌∙◌, ap, arith, inl, inr}
 use Rattle.std.specs.FinMap as m
 use Rattle.std.specs.Ordering.{nat_cmp}
 use Rattle.std.specs.Option.{option_map_or}
@@ -29,6 +29,7 @@ use Rattle.machine_rules.specs.Cell.{Cell, first_cell}
 use Rattle.machine_rules.specs.Facts.{Facts, KeepsCounts}
 use Rattle.machine_rules.specs.Known.{AreExactLetters, IsSoundAt, Names, Reaches, Roots, in_fields, in_frame, in_table, row_at}
 use Rattle.machine_rules.specs.Plain.{first_actor, plain_row, start_of}
+use Rattle.machine_rules.specs.Options.{Options}
 use Rattle.machine_rules.specs.State.{first_state}
 use Rattle.machine_rules.specs.declared.PlainLetter.{PlainLetter}
 
@@ -182,5 +183,5 @@ module _ (program : Program) (found : Option ℕ) where
       absent zero e r = cc
       absent (suc i) e r = nobody_stands r
 
-pub start_facts : (program : Program) → Facts (start_of program) (first_state program)
-start_facts program = record { counts = start_keeps program (start_name program); program = refl; prints = refl; objects = refl }
+pub start_facts : (program : Program) (options : Options) → 0 < options.weight → Facts (start_of program) (first_state program options)
+start_facts program options heavy = record { counts = start_keeps program (start_name program); program = refl; prints = refl; objects = refl; weight = heavy }

@@ -38,9 +38,9 @@ clean_cell program kind count = record {
 abbrev pub first_cell : Program → Cell
 first_cell program = clean_cell program 0 0
 
--- an actor that was just made; its maker holds it with 256
-abbrev pub fresh_cell : Program → ℕ → Cell
-fresh_cell program kind = clean_cell program kind 256
+-- an actor that was just made; its maker holds it with the weight
+abbrev pub fresh_cell : ℕ → Program → ℕ → Cell
+fresh_cell weight program kind = clean_cell program kind weight
 
 -- the object that a thing is
 abbrev pub object_name : Thing → Option ObjName

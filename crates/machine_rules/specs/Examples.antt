@@ -10,8 +10,14 @@ use Rattle.event_rule.specs.declared.event.Event.{Event}
 use Rattle.event_rule.specs.declared.event.Event.TheVariants.{Take, Go, Collect, Block, Hear, Scan, Reap}
 use Rattle.machine_rules.specs.Left.{IsLeft}
 use Rattle.machine_rules.specs.Next.{IsQuiet}
+use Rattle.machine_rules.specs.Options.{Options, Deep}
 use Rattle.machine_rules.specs.Run.{IsRun, Leads}
 use Rattle.machine_rules.specs.State.{State}
+
+-- ---- the usual options
+
+abbrev pub usual : Options
+usual = record { weight = 256; trace = Deep }
 
 -- ---- two peers that hold each other
 
@@ -64,12 +70,12 @@ two_to_the_end =
 -- printed, three actors were made, nothing is left, and no event is enabled
 pub record TwoHoldEachOtherAndGo : Type 0 where
   pub ping : State
-  pub up_to_the_ping : IsRun two_hold_each_other two_up_to_the_ping ping
+  pub up_to_the_ping : IsRun two_hold_each_other usual two_up_to_the_ping ping
   pub opened : ping.detector.opened ≡ 1
   pub cancelled : ping.detector.tokens ≡ []
   pub last : State
   pub to_the_end : Leads ping two_to_the_end last
-  pub run : IsRun two_hold_each_other (two_up_to_the_ping ++ two_to_the_end) last
+  pub run : IsRun two_hold_each_other usual (two_up_to_the_ping ++ two_to_the_end) last
   pub prints : last.prints ≡ Num 1 ∷ []
   pub made : length last.actors ≡ 3
   pub nothing_left : (x : Thing) → IsLeft last.actors x → ⊥
@@ -119,7 +125,7 @@ passing_book =
 -- the first actor alone is left, and no event is enabled
 pub record AnObjectIsPassedOnAndGoes : Type 0 where
   pub last : State
-  pub run : IsRun passes_an_object_on passing_book last
+  pub run : IsRun passes_an_object_on usual passing_book last
   pub prints : last.prints ≡ Num 9 ∷ []
   pub made : length last.actors ≡ 3
   pub objects : last.objects ≡ 1

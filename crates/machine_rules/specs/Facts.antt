@@ -42,9 +42,10 @@ pub record KeepsCounts (all : Thing → Option Row) (people : List Person) (acto
   pub firm : Every IsFirmAt actors
 
 -- the facts: the counts are kept beside the plain machine, which runs the same program, printed the
--- same and made as many objects
+-- same and made as many objects; and an increment is one
 pub record Facts (p : PlainState) (s : State) : Type 0 where
   pub counts : KeepsCounts (thing_row (plain_row p.actors)) (people_of p.actors) s.actors
   pub program : p.program ≡ s.program
   pub prints : p.prints ≡ s.prints
   pub objects : objects_made p.actors ≡ s.objects
+  pub weight : 0 < s.options.weight

@@ -46,10 +46,10 @@ abbrev pub mint : ℕ → Cell → List Letter → ℕ → List Amount → Actor
 mint a c mail owner things actors =
     push_letter owner (Inc things) (set actors a (seat (record c { holdings = mint_all things c.holdings }) mail))
 
--- one actor more, which its maker holds with 256
-abbrev pub make : ℕ → Cell → List Letter → Cell → Actors → Actors
-make a c mail fresh actors =
-    set actors a (seat (record c { holdings = gain 256 (things.Actor (length actors)) None c.holdings }) mail) ++ seat fresh [] ∷ []
+-- one actor more, which its maker holds with the weight
+abbrev pub make : ℕ → ℕ → Cell → List Letter → Cell → Actors → Actors
+make weight a c mail fresh actors =
+    set actors a (seat (record c { holdings = gain weight (things.Actor (length actors)) None c.holdings }) mail) ++ seat fresh [] ∷ []
 
 -- the state after a turn that the actor keeps, with so many objects more
 abbrev pub with_turn_kept : State → Stop → Actors → State
@@ -60,7 +60,7 @@ with_turn_kept s stop actors = record s { actors = actors; objects = s.objects +
 abbrev pub post_or_mint : State → ℕ → Cell → Cell → List Letter → Stop → ℕ → ℕ → List Value → List Loaded → List Loaded → State
 post_or_mint s a before after mail stop to behaviour args load [] = with_turn_kept s stop (post a after mail to behaviour args load s.actors)
 post_or_mint s a before after mail stop to behaviour args load (e ∷ lacked) =
-    record s { actors = mint a before mail (owner_of e.0) (to_mint (owner_of e.0) (e ∷ lacked)) s.actors }
+    record s { actors = mint a before mail (owner_of e.0) (to_mint s.options.weight (owner_of e.0) (e ∷ lacked)) s.actors }
 
 abbrev pub act_in : State → ℕ → Cell → List Letter → Frame → Stop → Act → Step
 act_in s a c mail frame stop End = Goes (with_turn_kept s stop (set s.actors a (seat (turned stop None true c) mail)))
@@ -68,7 +68,7 @@ act_in s a c mail frame stop (Print value) =
     Goes (record (with_turn_kept s stop (set s.actors a (seat (turned stop (Some frame) c.dirty c) mail))) { prints = s.prints ++ value ∷ [] })
 act_in s a c mail frame stop (New kind register) =
     if nat_lt (length s.actors) 65536
-    then Goes (with_turn_kept s stop (make a (turned stop (Some (with_name frame register (length s.actors))) c.dirty c) mail (fresh_cell s.program kind) s.actors))
+    then Goes (with_turn_kept s stop (make s.options.weight a (turned stop (Some (with_name frame register (length s.actors))) c.dirty c) mail (fresh_cell s.options.weight s.program kind) s.actors))
     else IsFull
 act_in s a c mail frame stop (Post to behaviour args) =
     let after = turned stop (Some frame) c.dirty c in

@@ -1,6 +1,6 @@
 -- What take, go and collect keep, what every event keeps of each actor, when events are enabled,
 -- and that runs and ends are one.
-use Rattle.std.specs.Prelude.{ℕ, ◌≡◌, ◌↔◌, List}
+use Rattle.std.specs.Prelude.{ℕ, ◌<◌, ◌≡◌, ◌↔◌, List}
 use Rattle.behaviour_code.specs.declared.code.Program.{Program}
 use Rattle.event_rule.specs.declared.event.Event.{Event}
 use Rattle.event_rule.specs.declared.event.Event.TheVariants.{Take, Go, Collect}
@@ -9,12 +9,13 @@ use Rattle.machine_rules.specs.Enabled.{CanHappen, IsRefusedAsFull}
 use Rattle.machine_rules.specs.Ends.{Ending, EndsAs}
 use Rattle.machine_rules.specs.Facts.{Facts}
 use Rattle.machine_rules.specs.Next.{IsEnabled, next}
+use Rattle.machine_rules.specs.Options.{Options}
 use Rattle.machine_rules.specs.Plain.{PlainState, start_of}
 use Rattle.machine_rules.specs.Run.{IsRun, PlainFollows, is_choice}
 use Rattle.machine_rules.specs.State.{State, Goes, IsFull, first_state}
 
 abbrev pub StartHasFacts : Type 0
-StartHasFacts = (program : Program) → Facts (start_of program) (first_state program)
+StartHasFacts = (program : Program) (options : Options) → 0 < options.weight → Facts (start_of program) (first_state program options)
 
 -- the event keeps the facts, beside the plain machine that makes the same choice
 abbrev pub KeepsFacts : Event → Type 0
@@ -31,17 +32,17 @@ CollectsKeepFacts = (a : ℕ) → KeepsFacts (Collect a)
 
 -- at the start and after every event, clean cells are swept
 abbrev pub CleanStaySwept : Type 0
-CleanStaySwept = ((program : Program) → CleanAreSwept (first_state program).actors)
+CleanStaySwept = ((program : Program) (options : Options) → CleanAreSwept (first_state program options).actors)
     × ((s t : State) (e : Event) → next s e ≡ Goes t → CleanAreSwept s.actors → CleanAreSwept t.actors)
 
 -- at the start and after every event, no actor holds a count on a thing of its own
 abbrev pub NoneGetsItsOwn : Type 0
-NoneGetsItsOwn = ((program : Program) → NoneHoldsItsOwn (first_state program).actors)
+NoneGetsItsOwn = ((program : Program) (options : Options) → NoneHoldsItsOwn (first_state program options).actors)
     × ((s t : State) (e : Event) → next s e ≡ Goes t → NoneHoldsItsOwn s.actors → NoneHoldsItsOwn t.actors)
 
 -- a book leads to one state
 abbrev pub RunsLeadToOneState : Type 0
-RunsLeadToOneState = (program : Program) (book : List Event) (s t : State) → IsRun program book s → IsRun program book t → s ≡ t
+RunsLeadToOneState = (program : Program) (options : Options) (book : List Event) (s t : State) → IsRun program options book s → IsRun program options book t → s ≡ t
 
 -- and a run ends in one way
 abbrev pub RunsEndInOneWay : Type 0

@@ -16,6 +16,7 @@ pub mod Laws
 pub mod Left
 pub mod Lists
 pub mod Next
+pub mod Options
 pub mod Plain
 pub mod PlainLimits
 pub mod PlainReach

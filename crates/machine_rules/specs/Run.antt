@@ -14,6 +14,7 @@ use Rattle.machine_rules.specs.Cell.{Cell}
 use Rattle.machine_rules.specs.Go.{lacking_from, turn_of_cell}
 use Rattle.machine_rules.specs.Lists.{is_empty}
 use Rattle.machine_rules.specs.Next.{next}
+use Rattle.machine_rules.specs.Options.{Options}
 use Rattle.machine_rules.specs.Plain.{PlainState, start_of}
 use Rattle.machine_rules.specs.Plain as plain
 use Rattle.machine_rules.specs.PlainRun.{outcome_of}
@@ -26,8 +27,8 @@ Leads s [] t = s ≡ t
 Leads s (e ∷ book) t = (u : State) × (next s e ≡ Goes u) × Leads u book t
 
 -- the book is a run of the program, and leads to t
-abbrev pub IsRun : Program → List Event → State → Type 0
-IsRun program book t = Leads (first_state program) book t
+abbrev pub IsRun : Program → Options → List Event → State → Type 0
+IsRun program options book t = Leads (first_state program options) book t
 
 -- ---- choices: what the plain machine does too
 
@@ -86,8 +87,8 @@ PlainLeads s [] t = s ≡ t
 PlainLeads s (e ∷ events) t = (u : PlainState) × (outcome_of s e ≡ plain.Goes u) × PlainLeads u events t
 
 -- p is the state of the machine that frees nothing, after the choices of the book
-abbrev pub IsPlainBeside : Program → List Event → PlainState → Type 0
-IsPlainBeside program book p = PlainLeads (start_of program) (choices book (first_state program)) p
+abbrev pub IsPlainBeside : Program → Options → List Event → PlainState → Type 0
+IsPlainBeside program options book p = PlainLeads (start_of program) (choices book (first_state program options)) p
 
 -- the plain machine makes a choice too, and stays at any other event
 abbrev pub PlainFollows : Bool → PlainState → Event → PlainState → Type 0

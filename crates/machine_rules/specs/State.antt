@@ -10,9 +10,11 @@ use Rattle.letter_kinds.specs.declared.note.Note.{Note}
 use Rattle.letter_kinds.specs.Detector.{Detector, fresh_detector}
 use Rattle.machine_rules.specs.Actors.{Actors, seat}
 use Rattle.machine_rules.specs.Cell.{first_cell}
+use Rattle.machine_rules.specs.Options.{Options}
 
 pub record State : Type 0 where
   pub program : Program
+  pub options : Options
   pub actors : Actors
   pub detector : Detector
   -- what the detector has still to hear
@@ -26,9 +28,10 @@ abbrev pub start_letters : Program → List Letter
 start_letters program = option_map_or (λ name. App name [] [] ∷ []) (start_name program) []
 
 -- one actor of the first kind, with the letter `start`
-abbrev pub first_state : Program → State
-first_state program = record {
+abbrev pub first_state : Program → Options → State
+first_state program options = record {
   program = program;
+  options = options;
   actors = seat (first_cell program) (start_letters program) ∷ [];
   detector = fresh_detector;
   notes = [];
