@@ -1,5 +1,5 @@
 -- Events of actors keep what holds of reports.
-use Rattle.std.proofs.Common.{◌≡◌, ℕ, ◌≢◌, Bool, true, false, if◌then◌else◌, ⊎_elim, List, [], ◌∷◌, ◌++◌, Option, Some, None, arith, refl, ap, sym, subst, ◌∙◌}
+use Rattle.std.proofs.Common.{◌≡◌, ℕ, ◌≢◌, ◌≤◌, Bool, true, false, if◌then◌else◌, ⊎_elim, List, [], ◌∷◌, ◌++◌, Option, Some, None, arith, refl, ap, sym, subst, ◌∙◌}
 use Rattle.std.proofs.lemmas.Bool.{cases_eq, cond_both, false≢true}
 use Rattle.std.proofs.lemmas.Bool.Decides.{nat_tests}
 use Rattle.letter_kinds.specs.Detector.{Detector}
@@ -10,16 +10,16 @@ use Rattle.letter_kinds.specs.declared.note.Note.{Note}
 use Rattle.letter_kinds.specs.declared.note.Note.TheVariants.{Unblock, Ack}
 use Rattle.letter_kinds.specs.declared.note.Report.{Report}
 use Rattle.machine_rules.specs.Cell.{Cell}
-use Rattle.detector_laws.proofs.Cells.{blocked_reports, some_not_none}
+use Rattle.detector_laws.proofs.Cells.{blocked_reports}
 use Rattle.detector_laws.proofs.Maps.{at_cases}
-use Rattle.detector_laws.proofs.Notes.{with_notes-push, with_note-other_block, with_note-other_unblock, with_notes-silent, IsSilentOn-push}
+use Rattle.detector_laws.proofs.Notes.{with_notes-push, with_note-other_block, with_note-other_unblock, IsSilentOn-push}
 use Rattle.detector_laws.specs.Cells.{is_reporting}
 use Rattle.detector_laws.specs.Events.{CanBlock, IsFresh, Moves}
 use Rattle.detector_laws.specs.Reports.{Told, Unreported, Reported, Contradictory, with_unblock, with_note, told_by_kept, told_of, IsSilentOn, IsAsTold, ExactReports}
 use Rattle.detector_laws.specs.World.{World, block, take_confirm, ReportsAreExact}
 
 -- an actor with no report out is last told of as such
-off : (c : Option Cell) (a : ℕ) (s : Told) → IsAsTold c a s → is_reporting c ≡ false → s ≡ Unreported
+pub off : (c : Option Cell) (a : ℕ) (s : Told) → IsAsTold c a s → is_reporting c ≡ false → s ≡ Unreported
 off c a Unreported h e = refl
 off c a (Reported r) h e = absurd (false≢true (sym e ∙ blocked_reports h.0))
 off c a Contradictory h e = absurd h
@@ -50,21 +50,20 @@ block_reports w a c r can h =
       last = at_cases (λ b o. IsAsTold o b (told_of b kept (w.notes ++ block_note r ∷ []))) w.cell a (Some c')
           (subst (IsAsTold (Some c') a) (sym is) mine)
           (λ b ne. subst (IsAsTold (w.cell b) b) (sym (ends b ∙ with_note-other_block b (told_of b kept w.notes) r.actor r.count r.held (λ e. ne (sym e ∙ can.exact.actor)))) (h.last b));
-      absent = at_cases (λ b o. o ≡ None → (report_of kept b ≡ None) × IsSilentOn b (w.notes ++ block_note r ∷ [])) w.cell a (Some c')
-          (λ gone. absurd (some_not_none refl gone))
-          (λ b ne gone. let before = h.absent b gone in (before.0, IsSilentOn-push b w.notes (block_note r) before.1 (λ e. ne (sym e ∙ can.exact.actor))));
+      unmade = λ b past. let before = h.unmade b past in
+          (before.0, IsSilentOn-push b w.notes (block_note r) before.1 (λ e. let z = can.made in let y = can.exact.actor in absurd (omega arith)));
     }
 
-confirm_notes : (cell : ℕ → Option Cell) (kept : List Report) (notes : List Note) (a t : ℕ) → ExactReports cell kept notes → ExactReports cell kept (notes ++ Ack t a ∷ [])
-confirm_notes cell kept notes a t h = record {
+confirm_notes : (made : ℕ) (cell : ℕ → Option Cell) (kept : List Report) (notes : List Note) (a t : ℕ) → ExactReports made cell kept notes → ExactReports made cell kept (notes ++ Ack t a ∷ [])
+confirm_notes made cell kept notes a t h = record {
   last = λ b. subst (IsAsTold (cell b) b) (sym (with_notes-push b (told_by_kept (report_of kept b)) notes (Ack t a))) (h.last b);
-  absent = λ b gone. let before = h.absent b gone in (before.0, IsSilentOn-push b notes (Ack t a) before.1 tt);
+  unmade = λ b past. let before = h.unmade b past in (before.0, IsSilentOn-push b notes (Ack t a) before.1 tt);
 }
 
 pub confirm_reports : (w : World) (a t : ℕ) (ls : List Letter) → w.mail a ≡ Confirm t ∷ ls → ReportsAreExact w → ReportsAreExact (take_confirm w a t ls)
 confirm_reports w a t ls e h =
-    cond_both (is_reporting (w.cell a)) (w.notes ++ Ack t a ∷ []) w.notes (λ ns. ExactReports w.cell w.detector.kept ns)
-    (λ _. confirm_notes w.cell w.detector.kept w.notes a t h)
+    cond_both (is_reporting (w.cell a)) (w.notes ++ Ack t a ∷ []) w.notes (λ ns. ExactReports w.made w.cell w.detector.kept ns)
+    (λ _. confirm_notes w.made w.cell w.detector.kept w.notes a t h)
     (λ _. h)
 
 -- after an event of a, and only a, that ends its report
@@ -93,22 +92,18 @@ moved_last w w' a m h b =
     (subst (IsAsTold (w'.cell b) b) (sym (other_told w a b ne m.old.reported))
     (⊎_elim
     (λ (same : w'.cell b ≡ w.cell b). subst (λ c. IsAsTold c b (told_of b w.detector.kept w.notes)) (sym same) (h.last b))
-    (λ (new : IsFresh (w.cell b) (w'.cell b)). let none = h.absent b new.absent in
-    subst (IsAsTold (w'.cell b) b) (sym (with_notes-silent b (told_by_kept (report_of w.detector.kept b)) w.notes none.1 ∙ ap told_by_kept none.0)) (ap is_reporting new.present ∙ new.quiet))
+    (λ (new : IsFresh (w.cell b) (w'.cell b)).
+    subst (IsAsTold (w'.cell b) b) (sym (off (w.cell b) b (told_of b w.detector.kept w.notes) (h.last b) (ap is_reporting new.absent))) (ap is_reporting new.present ∙ new.quiet))
     (m.others b ne))))
     (cases_eq b a)
 
-moved_absent : (w w' : World) (a : ℕ) → Moves w a w' → ReportsAreExact w → (b : ℕ) → w'.cell b ≡ None → (report_of w.detector.kept b ≡ None) × IsSilentOn b w'.notes
-moved_absent w w' a m h b gone =
-    ⊎_elim
-    (λ (e : b ≡ a). absurd (some_not_none (ap w'.cell e ∙ m.there) gone))
-    (λ (ne : b ≢ a). ⊎_elim
-    (λ (same : w'.cell b ≡ w.cell b). let none = h.absent b (sym same ∙ gone) in
-    (none.0, subst (IsSilentOn b) (sym m.notes) (other_silent w a b ne m.old.reported none.1)))
-    (λ (new : IsFresh (w.cell b) (w'.cell b)). absurd (some_not_none new.present gone))
-    (m.others b ne))
-    (cases_eq b a)
+moved_unmade : (w w' : World) (a : ℕ) → Moves w a w' → ReportsAreExact w → (b : ℕ) → w'.made ≤ b → (report_of w.detector.kept b ≡ None) × IsSilentOn b w'.notes
+moved_unmade w w' a m h b past =
+    let grows = m.grows in
+    let below = m.made in
+    let none = h.unmade b (omega arith) in
+    (none.0, subst (IsSilentOn b) (sym m.notes) (other_silent w a b (λ e. absurd (omega arith)) m.old.reported none.1))
 
 pub moves_reports : (w w' : World) (a : ℕ) → Moves w a w' → ReportsAreExact w → ReportsAreExact w'
-moves_reports w w' a m h = subst (λ (d : Detector). ExactReports w'.cell d.kept w'.notes) (sym m.detector)
-    record { last = moved_last w w' a m h; absent = moved_absent w w' a m h }
+moves_reports w w' a m h = subst (λ (d : Detector). ExactReports w'.made w'.cell d.kept w'.notes) (sym m.detector)
+    record { last = moved_last w w' a m h; unmade = moved_unmade w w' a m h }

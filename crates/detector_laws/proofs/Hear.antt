@@ -50,13 +50,13 @@ told_of-heard w (Unblock b) ns a h =
     (unblock_step (w.cell a) a ns (b == a) (report_of w.detector.kept a) h)
 told_of-heard w (Ack t b) ns a h = h
 
-absent-heard : (w : World) (n : Note) (ns : List Note) (a : ℕ) → (report_of w.detector.kept a ≡ None) × IsSilentOn a (n ∷ ns) → (report_of (heard n w.detector).kept a ≡ None) × IsSilentOn a ns
-absent-heard w (Block b count held) ns a h = (grind (arith, nat_tests, report_of-keep (report_told b count held) w.detector.kept a), h.1.1)
-absent-heard w (Unblock b) ns a h = (grind (arith, nat_tests, report_of-drop b w.detector.kept a), h.1.1)
-absent-heard w (Ack t b) ns a h = h
+unmade-heard : (w : World) (n : Note) (ns : List Note) (a : ℕ) → (report_of w.detector.kept a ≡ None) × IsSilentOn a (n ∷ ns) → (report_of (heard n w.detector).kept a ≡ None) × IsSilentOn a ns
+unmade-heard w (Block b count held) ns a h = (grind (arith, nat_tests, report_of-keep (report_told b count held) w.detector.kept a), h.1.1)
+unmade-heard w (Unblock b) ns a h = (grind (arith, nat_tests, report_of-drop b w.detector.kept a), h.1.1)
+unmade-heard w (Ack t b) ns a h = h
 
 pub hear_reports : (w : World) (n : Note) (ns : List Note) → w.notes ≡ n ∷ ns → ReportsAreExact w → ReportsAreExact (hear w n ns)
 hear_reports w n ns e h = record {
   last = λ a. told_of-heard w n ns a (subst (λ l. IsAsTold (w.cell a) a (told_of a w.detector.kept l)) e (h.last a));
-  absent = λ a gone. absent-heard w n ns a (subst (λ l. (report_of w.detector.kept a ≡ None) × IsSilentOn a l) e (h.absent a gone));
+  unmade = λ a past. unmade-heard w n ns a (subst (λ l. (report_of w.detector.kept a ≡ None) × IsSilentOn a l) e (h.unmade a past));
 }

@@ -1,5 +1,5 @@
 -- A scan opens a token that is sealed or spoiled.
-use Rattle.std.proofs.Common.{◌≡◌, ℕ, suc, ◌+◌, ◌≤◌, ◌<◌, ◌≢◌, not, true, false, ◌⊎◌, inl, inr, ⊎_elim, List, [], ◌∷◌, ◌++◌, Option, Some, sum_by, arith, refl, ap, sym, subst, ◌∙◌}
+use Rattle.std.proofs.Common.{◌≡◌, ℕ, suc, ◌+◌, ◌≤◌, ◌<◌, ◌≢◌, not, ◌&&◌, is_some, None, true, false, ◌⊎◌, inl, inr, ⊎_elim, List, [], ◌∷◌, ◌++◌, Option, Some, sum_by, arith, refl, ap, sym, subst, ◌∙◌}
 use Rattle.std.proofs.lemmas.Bool.{cases_Bool, cases_eq, cases_lt, cond_both, false≢true, not-true, or_left, or_right}
 use Rattle.std.proofs.lemmas.Bool.Decides.{nat_tests}
 use Rattle.std.proofs.lemmas.List.Sums.{sum_by-cons}
@@ -13,7 +13,7 @@ use Rattle.letter_kinds.specs.declared.letter.Letter.TheVariants.{Confirm}
 use Rattle.letter_kinds.specs.declared.note.Note.{Note}
 use Rattle.letter_kinds.specs.declared.note.Report.{Report}
 use Rattle.machine_rules.specs.Cell.{Cell}
-use Rattle.detector_laws.proofs.Cells.{IsTrue, holder_present, true_holds}
+use Rattle.detector_laws.proofs.Cells.{IsTrue, blocked_reports, holder_present, true_holds}
 use Rattle.detector_laws.proofs.Letters.{confirm_count-append}
 use Rattle.detector_laws.proofs.Members.{In-filter, In-append, each_In, In_each}
 use Rattle.detector_laws.proofs.Names.{names, named, unnamed, name_In}
@@ -25,7 +25,7 @@ use Rattle.detector_laws.specs.Cells.{held_on, is_reporting}
 use Rattle.detector_laws.specs.Confirms.{confirm_count, other_before_confirm}
 use Rattle.detector_laws.specs.Members.{In}
 use Rattle.detector_laws.specs.Reports.{with_notes, told_by_kept, IsAsTold, ExactReports, IsRising}
-use Rattle.detector_laws.specs.Tokens.{ack_count, trace_count, IsSealedMember, IsSealed, unblocks_before_ack, IsSpoiledMember, IsSpoiled, SoundTokens}
+use Rattle.detector_laws.specs.Tokens.{ack_count, trace_count, IsSealedMember, IsSealed, IsSpoiledMember, IsSpoiled, SoundTokens}
 use Rattle.detector_laws.specs.World.{World, confirmed, scan, ReportsAreExact, TokensAreSound}
 
 all_or_one : (A B : Report → Type 0) (rs : List Report) → AllByRecursion (λ r. A r ⊎ B r) rs → AllByRecursion A rs ⊎ ((r : Report) × In r rs × B r)
@@ -70,11 +70,16 @@ holds_all w bal rs closed rising ready r i =
 
 -- what is opened
 
-confirmed_in : (set : List ℕ) (n : ℕ) (mail : ℕ → List Letter) (m : ℕ) → has set m ≡ true → confirmed set n mail m ≡ mail m ++ Confirm n ∷ []
-confirmed_in set n mail m h = grind arith
+confirmed_in : (set : List ℕ) (n : ℕ) (cell : ℕ → Option Cell) (mail : ℕ → List Letter) (m : ℕ) → has set m ≡ true → is_some (cell m) ≡ true → confirmed set n cell mail m ≡ mail m ++ Confirm n ∷ []
+confirmed_in set n cell mail m h here = rw (h, here) refl
 
-confirmed_out : (set : List ℕ) (n : ℕ) (mail : ℕ → List Letter) (m : ℕ) → has set m ≡ false → confirmed set n mail m ≡ mail m
-confirmed_out set n mail m h = grind arith
+confirmed_out : (set : List ℕ) (n : ℕ) (cell : ℕ → Option Cell) (mail : ℕ → List Letter) (m : ℕ) → has set m ≡ false → confirmed set n cell mail m ≡ mail m
+confirmed_out set n cell mail m h = rw h refl
+
+-- who has a report out is present
+here_if : (c : Option Cell) → is_reporting c ≡ true → is_some c ≡ true
+here_if None h = cc
+here_if (Some c) h = refl
 
 pub in_token_from : (ts : List Token) (t : Token) (m : ℕ) → In t ts → has t.members m ≡ true → in_token ts m ≡ true
 in_token_from [] t m i h = absurd i
@@ -109,7 +114,7 @@ free_member w rs ch t i m h = ⊎_elim
     (cases_Bool (has (names rs) m))
 
 fresh_state : (w : World) → ActorsAreBalanced w → ReportsAreExact w → TokensAreSound w → (rs : List Report) → IsChosen w rs
-    → IsSealed w.cell (confirmed (names rs) (suc w.detector.opened) w.mail) w.loaded w.notes (fresh_token w rs) ⊎ IsSpoiled w.cell (confirmed (names rs) (suc w.detector.opened) w.mail) w.notes (fresh_token w rs)
+    → IsSealed w.cell (confirmed (names rs) (suc w.detector.opened) w.cell w.mail) w.loaded w.notes (fresh_token w rs) ⊎ IsSpoiled w.cell (confirmed (names rs) (suc w.detector.opened) w.cell w.mail) w.notes (fresh_token w rs)
 fresh_state w bal h k rs ch =
     let n = suc w.detector.opened in
     let each : AllByRecursion (λ r. IsReady w.cell w.mail w.notes r ⊎ Spoils w.cell w.mail w.notes n r) rs =
@@ -121,8 +126,8 @@ fresh_state w bal h k rs ch =
     (λ (ready : AllByRecursion (IsReady w.cell w.mail w.notes) rs). inl (λ m i. let (r, j, e) = named rs m i in
     let mine = each_In (IsReady w.cell w.mail w.notes) rs ready r j in
     let all = holds_all w bal rs ch.closed ch.rising ready r j in
-    subst (λ x. IsSealedMember (fresh_token w rs) x w.cell (confirmed (names rs) n w.mail x) (w.loaded x) w.notes) e
-    (subst (λ l. IsSealedMember (fresh_token w rs) r.actor w.cell l (w.loaded r.actor) w.notes) (sym (confirmed_in (names rs) n w.mail r.actor (subst (λ x. has (names rs) x ≡ true) (sym e) i)))
+    subst (λ x. IsSealedMember (fresh_token w rs) x w.cell (confirmed (names rs) n w.cell w.mail x) (w.loaded x) w.notes) e
+    (subst (λ l. IsSealedMember (fresh_token w rs) r.actor w.cell l (w.loaded r.actor) w.notes) (sym (confirmed_in (names rs) n w.cell w.mail r.actor (subst (λ x. has (names rs) x ≡ true) (sym e) i) (here_if (w.cell r.actor) (blocked_reports mine.told.0))))
     record {
       blocked = mine.told.0;
       letters = only-EndsInConfirm n (w.mail r.actor) mine.only;
@@ -138,16 +143,18 @@ fresh_state w bal h k rs ch =
       i,
       record {
         unnoted = refl;
-        cause = subst (λ l. (unblocks_before_ack n r.actor w.notes ≡ true) ⊎ ((is_reporting (w.cell r.actor) ≡ true) × (other_before_confirm n l ≡ true))) (sym (confirmed_in (names rs) n w.mail r.actor i)) sp;
+        cause = ⊎_elim inl
+            (λ waits. inr (waits.0, subst (λ l. other_before_confirm n l ≡ true) (sym (confirmed_in (names rs) n w.cell w.mail r.actor i (here_if (w.cell r.actor) waits.0))) waits.1))
+            sp;
       },
     ))
     (all_or_one (IsReady w.cell w.mail w.notes) (Spoils w.cell w.mail w.notes n) rs each)
 
 opened_tokens : (w : World) → ActorsAreBalanced w → ReportsAreExact w → TokensAreSound w → (rs : List Report) → IsChosen w rs
-    → SoundTokens (open_token (names rs) (quieted w.detector)) w.cell (confirmed (names rs) (suc w.detector.opened) w.mail) w.loaded w.notes
+    → SoundTokens (open_token (names rs) (quieted w.detector)) w.cell (confirmed (names rs) (suc w.detector.opened) w.cell w.mail) w.loaded w.notes
 opened_tokens w bal h k rs ch =
     let n = suc w.detector.opened in
-    let mail' = confirmed (names rs) n w.mail in
+    let mail' = confirmed (names rs) n w.cell w.mail in
     let old = w.detector.tokens in
     let new = fresh_token w rs in
     let free = free_member w rs ch in
@@ -188,24 +195,25 @@ opened_tokens w bal h k rs ch =
           (λ i'. let le : t.number ≤ w.detector.opened = k.numbers t i' in omega arith)
           (λ i'. ⊎_elim (λ e. let is : t.number ≡ n = ap (λ (x : Token). x.number) e in omega arith) (λ z. absurd z) i')
           (split t i);
-      letters = λ a c lt. cond_both (has (names rs) a) (w.mail a ++ Confirm n ∷ []) (w.mail a) (λ l. confirm_count c l ≡ 0)
+      letters = λ a c lt. cond_both (has (names rs) a && is_some (w.cell a)) (w.mail a ++ Confirm n ∷ []) (w.mail a) (λ l. confirm_count c l ≡ 0)
           (λ _. omega (arith, confirm_count-append c (w.mail a) (Confirm n ∷ []), k.letters a c (omega arith), other_confirm c n (λ e. omega arith)))
           (λ _. k.letters a c (omega arith));
       heard = λ a c lt. k.heard a c (omega arith);
       once = λ t i m a. ⊎_elim
-          (λ i'. subst (λ l. trace_count t m l w.notes ≤ 1) (sym (confirmed_out (names rs) n w.mail m (free t i' m a))) (k.once t i' m a))
+          (λ i'. subst (λ l. trace_count t m l w.notes ≤ 1) (sym (confirmed_out (names rs) n w.cell w.mail m (free t i' m a))) (k.once t i' m a))
           (λ i'. ⊎_elim
           (λ e. subst (λ x. trace_count x m (mail' m) w.notes ≤ 1) (sym e)
-          (subst (λ l. trace_count new m l w.notes ≤ 1) (sym (confirmed_in (names rs) n w.mail m (subst (λ x. has x.members m ≡ true) e a)))
-          (omega (arith, fresh_trace n m (w.mail m) w.notes (k.letters m n (omega arith)) (k.heard m n (omega arith))))))
+          (cond_both (has (names rs) m && is_some (w.cell m)) (w.mail m ++ Confirm n ∷ []) (w.mail m) (λ l. trace_count new m l w.notes ≤ 1)
+          (λ _. omega (arith, fresh_trace n m (w.mail m) w.notes (k.letters m n (omega arith)) (k.heard m n (omega arith))))
+          (λ _. omega (arith, k.letters m n (omega arith), k.heard m n (omega arith)))))
           (λ z. absurd z) i')
           (split t i);
       state = λ t i. ⊎_elim
           (λ i'. ⊎_elim
           (λ s. inl (λ m a. let seal = s m a in
-          subst (λ l. IsSealedMember t m w.cell l (w.loaded m) w.notes) (sym (confirmed_out (names rs) n w.mail m (free t i' m a))) seal))
+          subst (λ l. IsSealedMember t m w.cell l (w.loaded m) w.notes) (sym (confirmed_out (names rs) n w.cell w.mail m (free t i' m a))) seal))
           (λ s. let (m, a, p) = s in
-          inr (m, a, subst (λ l. IsSpoiledMember t m (is_reporting (w.cell m)) l w.notes) (sym (confirmed_out (names rs) n w.mail m (free t i' m a))) p))
+          inr (m, a, subst (λ l. IsSpoiledMember t m (is_reporting (w.cell m)) l w.notes) (sym (confirmed_out (names rs) n w.cell w.mail m (free t i' m a))) p))
           (k.state t i'))
           (λ i'. ⊎_elim (λ e. subst (λ x. IsSealed w.cell mail' w.loaded w.notes x ⊎ IsSpoiled w.cell mail' w.notes x) (sym e) (fresh_state w bal h k rs ch)) (λ z. absurd z) i')
           (split t i);
@@ -229,8 +237,8 @@ largest_chosen w rising =
       kept = In_each (λ r. report_of d.kept r.actor ≡ Some r) (largest_closed cs) (λ r i. In_report_of d.kept r rising (from r i).0);
     }
 
-scanned_tokens : (w : World) (set : List ℕ) → TokensAreSound w → SoundTokens (open_token set (quieted w.detector)) w.cell (confirmed set (suc w.detector.opened) w.mail) w.loaded w.notes
-    → SoundTokens (scanned w.detector set) w.cell (confirmed set (suc w.detector.opened) w.mail) w.loaded w.notes
+scanned_tokens : (w : World) (set : List ℕ) → TokensAreSound w → SoundTokens (open_token set (quieted w.detector)) w.cell (confirmed set (suc w.detector.opened) w.cell w.mail) w.loaded w.notes
+    → SoundTokens (scanned w.detector set) w.cell (confirmed set (suc w.detector.opened) w.cell w.mail) w.loaded w.notes
 scanned_tokens w [] k new = record { apart = k.apart; kept = k.kept; unique = k.unique; numbers = k.numbers; letters = k.letters; heard = k.heard; once = k.once; state = k.state }
 scanned_tokens w (x ∷ xs) k new = new
 
@@ -243,4 +251,4 @@ scanned_kept d [] = refl
 scanned_kept d (x ∷ xs) = refl
 
 pub scan_reports : (w : World) → ReportsAreExact w → ReportsAreExact (scan w)
-scan_reports w h = subst (λ kept. ExactReports w.cell kept w.notes) (sym (scanned_kept w.detector (closed_set w.detector))) h
+scan_reports w h = subst (λ kept. ExactReports w.made w.cell kept w.notes) (sym (scanned_kept w.detector (closed_set w.detector))) h

@@ -10,8 +10,8 @@ use Rattle.detector_laws.specs.World.{World, ReportsAreExact, TokensAreSound, Fa
 
 start_reports : (w : World) → IsStart w → ReportsAreExact w
 start_reports w s =
-    subst (λ (d : Detector). ExactReports w.cell d.kept w.notes) (sym s.detector)
-    (subst (λ ns. ExactReports w.cell [] ns) (sym s.notes) record { last = s.unreported; absent = λ a gone. (refl, tt) })
+    subst (λ (d : Detector). ExactReports w.made w.cell d.kept w.notes) (sym s.detector)
+    (subst (λ ns. ExactReports w.made w.cell [] ns) (sym s.notes) record { last = s.unreported; unmade = λ a past. (refl, tt) })
 
 start_tokens : (w : World) → IsStart w → TokensAreSound w
 start_tokens w s =

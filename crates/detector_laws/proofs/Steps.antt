@@ -8,13 +8,13 @@ use Rattle.detector_laws.proofs.Hear.{hear_reports}
 use Rattle.detector_laws.proofs.HearTokens.{hear_tokens}
 use Rattle.detector_laws.proofs.News.{hear_news, scan_news, reap_news, heard_rising, closed_rising}
 use Rattle.detector_laws.proofs.Quiet.{quiet_all_reached}
-use Rattle.detector_laws.proofs.Reap.{reap_reports, reap_tokens}
+use Rattle.detector_laws.proofs.Reap.{leave_reports, leave_tokens, reap_reports, reap_tokens}
 use Rattle.detector_laws.proofs.Scan.{scan_tokens, scanned_kept, scan_reports}
 use Rattle.detector_laws.specs.Balance.{ActorsAreBalanced}
 use Rattle.detector_laws.specs.News.{NoNewsNoClosedSet}
 use Rattle.detector_laws.specs.Quiet.{IsQuiet, IsReached}
 use Rattle.detector_laws.specs.Reports.{IsRising}
-use Rattle.detector_laws.specs.Run.{IsStep, Hears, Scans, ReapsOne, Blocks, TakesConfirm, MovesOne, IsRun, Stays, GoesOn}
+use Rattle.detector_laws.specs.Run.{IsStep, Hears, Scans, ReapsOne, LeavesOne, Blocks, TakesConfirm, MovesOne, IsRun, Stays, GoesOn}
 use Rattle.detector_laws.specs.World.{World, FactsHold}
 
 pub step_keeps : (w u : World) → ActorsAreBalanced w → IsStep w u → FactsHold w → FactsHold u
@@ -35,6 +35,12 @@ step_keeps w u bal (ReapsOne {t} r) k = record {
   tokens = reap_tokens w u t r k.tokens;
   news = subst NoNewsNoClosedSet (sym r.detector) (reap_news w.detector t r.is_open (λ v i e. k.tokens.unique v t i r.is_open e) k.news);
   rising = subst (λ (d : Detector). IsRising d.kept) (sym r.detector) (closed_rising t w.detector k.rising);
+}
+step_keeps w u bal (LeavesOne {a} l) k = record {
+  reports = leave_reports w u a l k.reports;
+  tokens = leave_tokens w u a l k.tokens;
+  news = subst NoNewsNoClosedSet (sym l.detector) k.news;
+  rising = subst (λ (d : Detector). IsRising d.kept) (sym l.detector) k.rising;
 }
 step_keeps w u bal (Blocks {a} {c} {r} can) k = record {
   reports = block_reports w a c r can k.reports;

@@ -1,5 +1,5 @@
 -- What each event of the machine may change of what the detector's laws speak of.
-use Rattle.std.specs.Prelude.{ℕ, ◌≡◌, ◌≢◌, ◌⊎◌, if◌then◌else◌, true, false, List, [], ◌∷◌, ◌++◌, Option, None, Some, is_some}
+use Rattle.std.specs.Prelude.{ℕ, ◌<◌, ◌≤◌, ◌≡◌, ◌≢◌, ◌⊎◌, if◌then◌else◌, true, false, List, [], ◌∷◌, ◌++◌, Option, None, Some, is_some}
 use Rattle.orca_names.specs.declared.names.Thing.TheVariants.{Actor}
 use Rattle.letter_kinds.specs.Detector.{Token, has, all_acked, close_token}
 use Rattle.letter_kinds.specs.Holdings.{held_in}
@@ -18,6 +18,7 @@ use Rattle.detector_laws.specs.World.{World}
 -- the actor with this cell may report that it is blocked, and this is its report
 pub record CanBlock (w : World) (a : ℕ) (c : Cell) (r : Report) : Type 0 where
   pub here : w.cell a ≡ Some c
+  pub made : a < w.made
   pub quiet : c.reported ≡ false
   pub unpinned : c.fields.pinned ≡ false
   pub clean : c.dirty ≡ false
@@ -42,6 +43,8 @@ pub record Moves (w : World) (a : ℕ) (after : World) : Type 0 where
   pub here : w.cell a ≡ Some old
   pub there : after.cell a ≡ Some new
   pub woken : new.reported ≡ false
+  pub made : a < w.made
+  pub grows : w.made ≤ after.made
   -- it had a frame, was dirty, or had such a letter
   pub cause : (is_some old.frame ≡ true) ⊎ (old.dirty ≡ true) ⊎ ((letter : Letter) × (mail : List Letter) × (w.mail a ≡ letter ∷ mail) × (is_confirm letter ≡ false))
   pub detector : after.detector ≡ w.detector
@@ -57,18 +60,31 @@ pub record Moves (w : World) (a : ℕ) (after : World) : Type 0 where
   pub loads_held : (b : ℕ) → w.cell b ≢ None → b ≢ a → held_in old.holdings (Actor b) ≡ 0 → w.loaded b ≡ 0 → after.loaded b ≡ 0
   pub holds_held : (b : ℕ) → w.cell b ≢ None → b ≢ a → held_in old.holdings (Actor b) ≡ 0 → w.loaded b ≡ 0 → held_in new.holdings (Actor b) ≡ 0
 
--- ---- reap
+-- ---- reap and leave
+
+-- what may change where some actors go
+pub record Departs (w : World) (gone : List ℕ) (after : World) : Type 0 where
+  pub made : after.made ≡ w.made
+  pub notes : after.notes ≡ w.notes
+  -- they go, with all that they hold
+  pub clears : (m : ℕ) → has gone m ≡ true → (after.cell m ≡ None) × (after.mail m ≡ [])
+  pub stays : (b : ℕ) → has gone b ≡ false → after.cell b ≡ w.cell b
+  -- Decs go to those on whom one of them held
+  pub sends : (b : ℕ) → has gone b ≡ false → (come : List Letter) × (after.mail b ≡ w.mail b ++ come) × NoConfirms come
+  pub sends_held : (b : ℕ) → has gone b ≡ false → ((m : ℕ) → has gone m ≡ true → held_on (w.cell m) b ≡ 0) → after.mail b ≡ w.mail b
+  pub unloaded : (b : ℕ) → w.loaded b ≡ 0 → after.loaded b ≡ 0
 
 -- what the reap of a token may change
 pub record Reaps (w : World) (t : Token) (after : World) : Type 0 where
   pub is_open : In t w.detector.tokens
   pub acked : all_acked t ≡ true
   pub detector : after.detector ≡ close_token t w.detector
-  pub notes : after.notes ≡ w.notes
-  -- the members go, with all that they hold
-  pub gone : (m : ℕ) → has t.members m ≡ true → (after.cell m ≡ None) × (after.mail m ≡ [])
-  pub stays : (b : ℕ) → has t.members b ≡ false → after.cell b ≡ w.cell b
-  -- Decs go to those on whom a member held
-  pub sends : (b : ℕ) → has t.members b ≡ false → (come : List Letter) × (after.mail b ≡ w.mail b ++ come) × NoConfirms come
-  pub sends_held : (b : ℕ) → has t.members b ≡ false → ((m : ℕ) → has t.members m ≡ true → held_on (w.cell m) b ≡ 0) → after.mail b ≡ w.mail b
-  pub unloaded : (b : ℕ) → w.loaded b ≡ 0 → after.loaded b ≡ 0
+  pub departs : Departs w t.members after
+
+-- what the leave of an actor may change: it has no report out
+pub record Leaves (w : World) (a : ℕ) (after : World) : Type 0 where
+  pub cell : Cell
+  pub here : w.cell a ≡ Some cell
+  pub unreported : cell.reported ≡ false
+  pub detector : after.detector ≡ w.detector
+  pub departs : Departs w (a ∷ []) after

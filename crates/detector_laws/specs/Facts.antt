@@ -8,10 +8,10 @@ use Rattle.detector_laws.specs.News.{NoNewsNoClosedSet}
 use Rattle.detector_laws.specs.Reports.{ExactReports, IsRising}
 use Rattle.detector_laws.specs.Tokens.{SoundTokens}
 
--- what holds in each state of a run: of the detector, of the cell and the letters of each actor, of how
+-- what holds in each state of a run: of how many actors were made, of the detector, of the cell and the letters of each actor, of how
 -- many letters load it, and of the notes that the detector has still to hear
-pub record DetectorFacts (d : Detector) (cell : ℕ → Option Cell) (mail : ℕ → List Letter) (loaded : ℕ → ℕ) (notes : List Note) : Type 0 where
-  pub reports : ExactReports cell d.kept notes
+pub record DetectorFacts (made : ℕ) (d : Detector) (cell : ℕ → Option Cell) (mail : ℕ → List Letter) (loaded : ℕ → ℕ) (notes : List Note) : Type 0 where
+  pub reports : ExactReports made cell d.kept notes
   pub tokens : SoundTokens d cell mail loaded notes
   pub news : NoNewsNoClosedSet d
   pub rising : IsRising d.kept

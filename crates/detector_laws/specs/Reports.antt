@@ -1,5 +1,5 @@
 -- What kept reports and notes tell of each actor is what its cell is.
-use Rattle.std.specs.Prelude.{ℕ, ◌≡◌, ◌≢◌, ◌<◌, ◌==◌, if◌then◌else◌, true, false, List, [], ◌∷◌, Option, Some, None}
+use Rattle.std.specs.Prelude.{ℕ, ◌≡◌, ◌≢◌, ◌<◌, ◌≤◌, ◌==◌, if◌then◌else◌, true, false, List, [], ◌∷◌, Option, Some, None}
 use Rattle.orca_names.specs.declared.names.Thing.TheVariants.{Actor}
 use Rattle.letter_kinds.specs.Holdings.{held_in}
 use Rattle.letter_kinds.specs.Reports.{count_on, report_of, report_told}
@@ -79,10 +79,11 @@ IsAsTold actor a Unreported = is_reporting actor ≡ false
 IsAsTold actor a (Reported r) = (blocked : IsBlocked actor) × IsReportOf a blocked.cell r
 IsAsTold actor a Contradictory = ⊥
 
--- each actor is as it was last told; of one that is absent nothing is told
-pub record ExactReports (cell : ℕ → Option Cell) (kept : List Report) (notes : List Note) : Type 0 where
+-- each actor is as it was last told: of one that left, what was told was withdrawn; where so many
+-- actors were made, nothing is told of any other
+pub record ExactReports (made : ℕ) (cell : ℕ → Option Cell) (kept : List Report) (notes : List Note) : Type 0 where
   pub last : (a : ℕ) → IsAsTold (cell a) a (told_of a kept notes)
-  pub absent : (a : ℕ) → cell a ≡ None → (report_of kept a ≡ None) × IsSilentOn a notes
+  pub unmade : (a : ℕ) → made ≤ a → (report_of kept a ≡ None) × IsSilentOn a notes
 
 -- ---- their order
 

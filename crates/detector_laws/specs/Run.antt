@@ -9,7 +9,7 @@ use Rattle.machine_rules.specs.Cell.{Cell}
 use Rattle.detector_laws.specs.Balance.{ActorsAreBalanced}
 use Rattle.detector_laws.specs.Cells.{is_reporting}
 use Rattle.detector_laws.specs.Confirms.{NoConfirms}
-use Rattle.detector_laws.specs.Events.{CanBlock, Moves, Reaps}
+use Rattle.detector_laws.specs.Events.{CanBlock, Leaves, Moves, Reaps}
 use Rattle.detector_laws.specs.World.{World, hear, scan, block, take_confirm}
 
 -- nothing was reported yet, and no Confirm waits
@@ -24,6 +24,7 @@ pub data IsStep (w : World) : World → Type 0 where
   Hears : {n : Note} {ns : List Note} → w.notes ≡ n ∷ ns → IsStep w (hear w n ns)
   Scans : w.detector.news ≡ true → IsStep w (scan w)
   ReapsOne : {t : Token} {after : World} → Reaps w t after → IsStep w after
+  LeavesOne : {a : ℕ} {after : World} → Leaves w a after → IsStep w after
   Blocks : {a : ℕ} {c : Cell} {r : Report} → CanBlock w a c r → IsStep w (block w a c r)
   TakesConfirm : {a token : ℕ} {mail : List Letter} → w.mail a ≡ Confirm token ∷ mail → IsStep w (take_confirm w a token mail)
   MovesOne : {a : ℕ} {after : World} → Moves w a after → IsStep w after

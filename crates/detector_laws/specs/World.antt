@@ -1,5 +1,5 @@
 -- All that an event may change of what the detector's facts speak of.
-use Rattle.std.specs.Prelude.{ℕ, suc, ◌==◌, if◌then◌else◌, true, List, [], ◌∷◌, ◌++◌, Option, Some}
+use Rattle.std.specs.Prelude.{ℕ, suc, ◌==◌, if◌then◌else◌, ◌&&◌, is_some, true, List, [], ◌∷◌, ◌++◌, Option, Some}
 use Rattle.letter_kinds.specs.Detector.{Detector, has, heard, closed_set, scanned}
 use Rattle.letter_kinds.specs.Reports.{block_note}
 use Rattle.letter_kinds.specs.declared.letter.Letter.{Letter}
@@ -30,13 +30,13 @@ pub record World : Type 0 where
 -- ---- the facts hold
 
 abbrev pub ReportsAreExact : World → Type 0
-ReportsAreExact w = ExactReports w.cell w.detector.kept w.notes
+ReportsAreExact w = ExactReports w.made w.cell w.detector.kept w.notes
 
 abbrev pub TokensAreSound : World → Type 0
 TokensAreSound w = SoundTokens w.detector w.cell w.mail w.loaded w.notes
 
 abbrev pub FactsHold : World → Type 0
-FactsHold w = DetectorFacts w.detector w.cell w.mail w.loaded w.notes
+FactsHold w = DetectorFacts w.made w.detector w.cell w.mail w.loaded w.notes
 
 -- ---- events of the detector
 
@@ -44,16 +44,16 @@ FactsHold w = DetectorFacts w.detector w.cell w.mail w.loaded w.notes
 abbrev pub hear : World → Note → List Note → World
 hear w note notes = record w { detector = heard note w.detector; notes = notes }
 
--- the letters, where each member gets a Confirm
-abbrev pub confirmed : List ℕ → ℕ → (ℕ → List Letter) → ℕ → List Letter
-confirmed members token mail a = if has members a then mail a ++ Confirm token ∷ [] else mail a
+-- the letters, where each member that is present gets a Confirm
+abbrev pub confirmed : List ℕ → ℕ → (ℕ → Option Cell) → (ℕ → List Letter) → ℕ → List Letter
+confirmed members token cell mail a = if has members a && is_some (cell a) then mail a ++ Confirm token ∷ [] else mail a
 
 -- it looks for the largest closed set, and asks its members
 abbrev pub scan : World → World
 scan w =
     record w {
       detector = scanned w.detector (closed_set w.detector);
-      mail = confirmed (closed_set w.detector) (suc w.detector.opened) w.mail;
+      mail = confirmed (closed_set w.detector) (suc w.detector.opened) w.cell w.mail;
     }
 
 -- ---- events of an actor that only the detector sees

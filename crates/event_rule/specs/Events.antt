@@ -4,7 +4,7 @@ use Rattle.std.specs.Ordering.{nat_cmp, on, then_cmp}
 use Rattle.std.specs.declared.cmp.Ordering.{Ordering}
 use Rattle.std.specs.Fmt.{decimal}
 use Rattle.event_rule.specs.declared.event.Event.{Event}
-use Rattle.event_rule.specs.declared.event.Event.TheVariants.{Take, Go, Collect, Block, Hear, Scan, Reap}
+use Rattle.event_rule.specs.declared.event.Event.TheVariants.{Take, Go, Collect, Leave, Block, Hear, Scan, Reap}
 
 -- the round of the one-worker order that has the event: acts and letters, then collections and
 -- reports, then the detector's
@@ -12,6 +12,7 @@ abbrev pub round_of : Event → ℕ
 round_of (Go a) = 0
 round_of (Take a) = 0
 round_of (Collect a) = 1
+round_of (Leave a) = 1
 round_of (Block a) = 1
 round_of Hear = 2
 round_of Scan = 3
@@ -22,17 +23,19 @@ abbrev pub number_of : Event → ℕ
 number_of (Go a) = a
 number_of (Take a) = a
 number_of (Collect a) = a
+number_of (Leave a) = a
 number_of (Block a) = a
 number_of Hear = 0
 number_of Scan = 0
 number_of (Reap token) = token
 
--- in a round an actor goes before it takes, and collects before it blocks
+-- in a round an actor goes before it takes, and collects before it leaves or blocks
 abbrev pub turn_of : Event → ℕ
 turn_of (Go a) = 0
 turn_of (Take a) = 1
 turn_of (Collect a) = 0
-turn_of (Block a) = 1
+turn_of (Leave a) = 1
+turn_of (Block a) = 2
 turn_of Hear = 0
 turn_of Scan = 0
 turn_of (Reap token) = 0
@@ -46,6 +49,7 @@ abbrev pub event_text : Event → List ℕ
 event_text (Take a) = codes "take " ++ decimal a
 event_text (Go a) = codes "go " ++ decimal a
 event_text (Collect a) = codes "collect " ++ decimal a
+event_text (Leave a) = codes "leave " ++ decimal a
 event_text (Block a) = codes "block " ++ decimal a
 event_text Hear = codes "hear"
 event_text Scan = codes "scan"

@@ -20,6 +20,8 @@ pub enum Event {
     Go(ActorName),
     /// The actor frees what its fields do not reach, and gives foreign counts back.
     Collect(ActorName),
+    /// The actor, which nobody holds, goes with all that it owns.
+    Leave(ActorName),
     /// The actor reports to the detector that it is blocked.
     Block(ActorName),
     /// The detector takes the first of its notes.
@@ -37,7 +39,7 @@ impl Event {
     {
         match self {
             Event::Take(_) | Event::Go(_) => 0,
-            Event::Collect(_) | Event::Block(_) => 1,
+            Event::Collect(_) | Event::Leave(_) | Event::Block(_) => 1,
             Event::Hear => 2,
             Event::Scan => 3,
             Event::Reap(_) => 4,
@@ -49,18 +51,23 @@ impl Event {
         ensures { result ≡ number_of self.now }
     {
         match self {
-            Event::Take(a) | Event::Go(a) | Event::Collect(a) | Event::Block(a) => a.0,
+            Event::Take(a)
+            | Event::Go(a)
+            | Event::Collect(a)
+            | Event::Leave(a)
+            | Event::Block(a) => a.0,
             Event::Hear | Event::Scan => 0,
             Event::Reap(token) => *token,
         }
     }
 
-    /// Its place among the two events that an actor has in a round.
+    /// Its place among the events that an actor has in a round.
     fn turn(&self) -> u8
         ensures { result ≡ turn_of self.now }
     {
         match self {
-            Event::Take(_) | Event::Block(_) => 1,
+            Event::Take(_) | Event::Leave(_) => 1,
+            Event::Block(_) => 2,
             _ => 0,
         }
     }
@@ -103,6 +110,7 @@ impl fmt::Display for Event {
             Event::Take(a) => write!(f, "take {}", a.0),
             Event::Go(a) => write!(f, "go {}", a.0),
             Event::Collect(a) => write!(f, "collect {}", a.0),
+            Event::Leave(a) => write!(f, "leave {}", a.0),
             Event::Block(a) => write!(f, "block {}", a.0),
             Event::Hear => write!(f, "hear"),
             Event::Scan => write!(f, "scan"),

@@ -12,6 +12,7 @@ fn events_rise_as_one_worker_does_them(rt: HostRuntime) -> Result<(), Fail> {
         (Event::Go(ActorName(12)), "go 12"),
         (Event::Take(ActorName(12)), "take 12"),
         (Event::Collect(ActorName(0)), "collect 0"),
+        (Event::Leave(ActorName(0)), "leave 0"),
         (Event::Block(ActorName(0)), "block 0"),
         (Event::Collect(ActorName(65535)), "collect 65535"),
         (Event::Block(ActorName(65535)), "block 65535"),

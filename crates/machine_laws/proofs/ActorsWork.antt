@@ -1,19 +1,20 @@
 -- How much work is left in all actors, where a seat changes, letters come, and members are reaped.
-use Rattle.std.proofs.Common.{◌≡◌, ℕ, zero, suc, ◌+◌, ◌*◌, ◌≤◌, ◌<◌, Option, Some, None, List, [], ◌∷◌, ◌++◌, length, set, ap, length-append, arith, ⊎_elim}
+use Rattle.std.proofs.Common.{◌≡◌, ℕ, zero, suc, ◌+◌, ◌*◌, ◌≤◌, ◌<◌, Bool, false, if◌then◌else◌, Option, Some, None, List, [], ◌∷◌, ◌++◌, length, set, ap, length-append, arith, ⊎_elim}
 use Rattle.std.proofs.Math.Nat.{suc-mul}
 use Rattle.std.proofs.lemmas.Bool.{cases_lt}
 use Rattle.std.proofs.lemmas.List.{get_or_past}
 use Rattle.std.proofs.lemmas.List.Sums.{sum_by-set, sum_by_push}
+use Rattle.std.specs.Prelude.{sum_by}
 use Rattle.orca_names.specs.Names.{owner_of}
 use Rattle.letter_kinds.specs.Counting.{Amount, by_owner}
 use Rattle.letter_kinds.specs.Detector.{has}
 use Rattle.letter_kinds.specs.declared.letter.Letter.{Letter}
 use Rattle.letter_kinds.specs.declared.letter.Letter.TheVariants.{Confirm, Dec}
 use Rattle.machine_rules.specs.Actors.{Actors, Seat, push_decs, push_letter, seat_at, with_letter_more}
-use Rattle.machine_rules.specs.Detect.{ask_all, held_outside, reaped}
+use Rattle.machine_rules.specs.Detect.{ask_all, held_outside, reap_members, reaped}
 use Rattle.machine_laws.proofs.Moving.{sum_by-set_past}
 use Rattle.machine_laws.proofs.TableWork.{by_owner-length, sweep-work}
-use Rattle.machine_laws.specs.Work.{actors_work, count_work, letter_work, seat_work}
+use Rattle.machine_laws.specs.Work.{actors_work, count_work, letter_work, seat_work, silence_work, table_work}
 
 -- ---- over numbers
 
@@ -68,14 +69,17 @@ module _ (n : ℕ) where
 
   -- ---- a reap
 
-  -- the Decs that a member sends count no more than its table
-  member-work : (members : List ℕ) (o : Option Seat) → length (by_owner (held_outside members o)) * count_work n ≤ seat_work n o
-  unfolding by_owner
-  member-work members None = omega arith
-  member-work members (Some o) =
+  -- the Decs that an actor sends as it goes count no more than its table
+  table_covers : (members : List ℕ) (o : Seat) → length (by_owner (held_outside members (Some o))) * count_work n ≤ table_work n o.cell.holdings
+  table_covers members o =
       let table = sweep-work n (λ x. has members (owner_of x)) 0 o.cell.holdings in
       let few = more_times (length (by_owner (held_outside members (Some o)))) (length (held_outside members (Some o))) (count_work n) (by_owner-length (held_outside members (Some o))) in
       omega (arith, table, few)
+
+  member-work : (members : List ℕ) (o : Option Seat) → length (by_owner (held_outside members o)) * count_work n ≤ seat_work n o
+  unfolding by_owner
+  member-work members None = omega arith
+  member-work members (Some o) = omega (arith, table_covers members o)
 
   pub reaped-work : (members rest : List ℕ) (decs : List (ℕ × List Amount)) (s : Actors) → actors_work n (reaped members rest decs s) ≤ actors_work n s + length decs * count_work n
   unfolding reaped
@@ -84,3 +88,13 @@ module _ (n : ℕ) where
       let more = by_owner (held_outside members (seat_at s a)) in
       let later = reaped-work members rest (decs ++ more) (set s a None) in
       omega (arith, later, ap (λ (l : ℕ). l * count_work n) (length-append decs more), both_times (length decs) (length more) (count_work n), member-work members (seat_at s a), clear-work s a)
+
+  -- who leaves had no report out
+  pub leave-work : (s : Actors) (a : ℕ) (o : Seat) → seat_at s a ≡ Some o → o.cell.reported ≡ false → actors_work n (reap_members (a ∷ []) s) + silence_work n ≤ actors_work n s
+  unfolding reaped
+  leave-work s a o at quiet =
+      let decs = decs-work (by_owner (held_outside (a ∷ []) (seat_at s a))) (set s a None) in
+      let mine : seat_work n (Some o) ≡ table_work n o.cell.holdings + sum_by (letter_work n) o.mail + (if o.cell.dirty then 1 else 0) + silence_work n =
+      ap (λ (q : Bool). table_work n o.cell.holdings + sum_by (letter_work n) o.mail + (if o.cell.dirty then 1 else 0) + (if q then 0 else silence_work n)) quiet in
+      let few : length (by_owner (held_outside (a ∷ []) (seat_at s a))) * count_work n ≤ table_work n o.cell.holdings = rw at (table_covers (a ∷ []) o) in
+      omega (arith, decs, few, mine, clear-work s a, ap (seat_work n) at)

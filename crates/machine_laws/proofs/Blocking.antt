@@ -66,6 +66,7 @@ module _ (s : Actors) (a : ℕ) (c : Cell) (ls : List Letter) (at : seat_at s a 
   pub can_block : (d : Detector) (ns : List Note) → MayReport c ls → CanBlock (world_of s d ns) a c (report_of_cell a c)
   can_block d ns may = record {
     here = ap cell_of at;
+    made = within;
     quiet = may.unreported;
     unpinned = may.unpinned;
     clean = may.rest.clean;

@@ -3,7 +3,7 @@ use Rattle.std.proofs.Common.{◌≡◌, ◌⊎◌, ℕ, zero, suc, ◌≤◌, �
 use Rattle.std.proofs.lemmas.Bool.{cases_eq, cases_lt, false≢true}
 use Rattle.std.proofs.lemmas.List.{get_or_past}
 use Rattle.event_rule.specs.declared.event.Event.{Event}
-use Rattle.event_rule.specs.declared.event.Event.TheVariants.{Take, Go, Collect, Block, Hear, Scan, Reap}
+use Rattle.event_rule.specs.declared.event.Event.TheVariants.{Take, Go, Collect, Leave, Block, Hear, Scan, Reap}
 use Rattle.letter_kinds.specs.Detector.{Token, token_numbered}
 use Rattle.machine_rules.proofs.Steps.{not_enabled}
 use Rattle.machine_rules.specs.Actors.{seat_at}
@@ -11,6 +11,7 @@ use Rattle.machine_rules.specs.Block.{block_at}
 use Rattle.machine_rules.specs.Collect.{collect_at}
 use Rattle.machine_rules.specs.Detect.{reap_found}
 use Rattle.machine_rules.specs.Go.{go_at}
+use Rattle.machine_rules.specs.Leave.{leave_at}
 use Rattle.machine_rules.specs.Next.{next}
 use Rattle.machine_rules.specs.Run.{is_choice}
 use Rattle.machine_rules.specs.State.{State, Step, NotEnabled, IsFull, Goes}
@@ -40,12 +41,12 @@ module _ (s : State) where
   -- ---- the events of an actor
 
   abbrev NoneOfActor : ℕ → Type 0
-  NoneOfActor a = (IsCalm s (Take a) → ⊥) × (IsCalm s (Go a) → ⊥) × (IsCalm s (Collect a) → ⊥) × (IsCalm s (Block a) → ⊥)
+  NoneOfActor a = (IsCalm s (Take a) → ⊥) × (IsCalm s (Go a) → ⊥) × (IsCalm s (Collect a) → ⊥) × (IsCalm s (Leave a) → ⊥) × (IsCalm s (Block a) → ⊥)
 
   of_actor : (a : ℕ) → SomeCalm ⊎ NoneOfActor a
   of_actor a =
-      ⊎_elim inl (λ takes. ⊎_elim inl (λ goes. ⊎_elim inl (λ collects. ⊎_elim inl (λ blocks. inr (takes, goes, collects, blocks))
-      (calm_or_not (Block a))) (calm_or_not (Collect a))) (calm_or_not (Go a))) (calm_or_not (Take a))
+      ⊎_elim inl (λ takes. ⊎_elim inl (λ goes. ⊎_elim inl (λ collects. ⊎_elim inl (λ leaves. ⊎_elim inl (λ blocks. inr (takes, goes, collects, leaves, blocks))
+      (calm_or_not (Block a))) (calm_or_not (Leave a))) (calm_or_not (Collect a))) (calm_or_not (Go a))) (calm_or_not (Take a))
 
   of_actors : (n : ℕ) → SomeCalm ⊎ ((a : ℕ) → a < n → NoneOfActor a)
   of_actors zero = inr (λ a within. absurd (omega arith))
@@ -59,6 +60,7 @@ module _ (s : State) where
         λ k. not_enabled k.0 (sym (ap (take_at s a) nobody) ∙ k.1),
         λ k. not_enabled k.0 (sym (ap (go_at s a) nobody) ∙ k.1),
         λ k. not_enabled k.0 (sym (ap (collect_at s a) nobody) ∙ k.1),
+        λ k. not_enabled k.0 (sym (ap (leave_at s a) nobody) ∙ k.1),
         λ k. not_enabled k.0 (sym (ap (block_at s a) nobody) ∙ k.1),
       )
 
@@ -86,7 +88,8 @@ module _ (s : State) where
   none_left actors hears scans reaps (Take a) = (actors a).0
   none_left actors hears scans reaps (Go a) = (actors a).1
   none_left actors hears scans reaps (Collect a) = (actors a).2
-  none_left actors hears scans reaps (Block a) = (actors a).3
+  none_left actors hears scans reaps (Leave a) = (actors a).3
+  none_left actors hears scans reaps (Block a) = (actors a).4
   none_left actors hears scans reaps Hear = hears
   none_left actors hears scans reaps Scan = scans
   none_left actors hears scans reaps (Reap number) = reaps number

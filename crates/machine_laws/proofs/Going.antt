@@ -1,5 +1,5 @@
 -- A go, as the detector's laws see it.
-use Rattle.std.proofs.Common.{◌≡◌, ◌≢◌, ℕ, zero, suc, ◌+◌, ◌<◌, Bool, true, false, Option, None, is_some, List, [], ◌++◌, length, set, refl, ap, sym, subst, ◌∙◌, arith, inl, inr, ⊎_elim, get_or-set_same, get_or-set_other, length-set, append-nil}
+use Rattle.std.proofs.Common.{◌≡◌, ◌≢◌, ℕ, zero, suc, ◌+◌, ◌<◌, Bool, true, false, Option, None, is_some, List, [], ◌∷◌, ◌++◌, length, length-append, set, refl, ap, sym, subst, ◌∙◌, arith, inl, inr, ⊎_elim, get_or-set_same, get_or-set_other, length-set, append-nil}
 use Rattle.std.proofs.lemmas.Bool.{cases_eq}
 use Rattle.std.proofs.lemmas.List.{get_or_past}
 use Rattle.std.proofs.lemmas.List.Sums.{sum_by_push}
@@ -58,6 +58,8 @@ module _ (s : Actors) (d : Detector) (ns : List Note) (a : ℕ) (c : Cell) (ls :
     here = ap cell_of at;
     there = ap cell_of mine;
     woken = still ∙ awake;
+    made = within;
+    grows = omega (arith, wide, length-append first (seat fresh [] ∷ []));
     cause = inl running;
     detector = refl;
     notes = refl;

@@ -9,7 +9,7 @@ use Rattle.orca_names.specs.Names.{owner_of}
 use Rattle.orca_names.specs.declared.names.Thing.{Thing}
 use Rattle.orca_names.specs.declared.names.Value.{Value}
 use Rattle.event_rule.specs.declared.event.Event.{Event}
-use Rattle.event_rule.specs.declared.event.Event.TheVariants.{Take, Go, Collect, Block, Hear, Scan, Reap}
+use Rattle.event_rule.specs.declared.event.Event.TheVariants.{Take, Go, Collect, Leave, Block, Hear, Scan, Reap}
 use Rattle.turn_rules.specs.Segment.{Stop}
 use Rattle.turn_rules.specs.declared.act.Act.{Act}
 use Rattle.turn_rules.specs.declared.act.Act.TheVariants.{Post, New, Print, End}
@@ -23,7 +23,7 @@ use Rattle.letter_kinds.specs.declared.letter.Letter.{Letter}
 use Rattle.letter_kinds.specs.declared.letter.Letter.TheVariants.{App, Inc, Dec, Confirm}
 use Rattle.letter_kinds.specs.declared.note.Note.{Note}
 use Rattle.letter_kinds.specs.declared.note.Note.TheVariants as notes
-use Rattle.machine_rules.proofs.Enabling.{may_report}
+use Rattle.machine_rules.proofs.Enabling.{may_go, may_report}
 use Rattle.machine_rules.proofs.InHand.{AllCounted}
 use Rattle.machine_rules.proofs.Lacking.{counted_mint, to_mint_theirs}
 use Rattle.machine_rules.proofs.Seats.{present_below}
@@ -36,6 +36,7 @@ use Rattle.machine_rules.specs.Collect.{collect_at, collect_in, is_marked}
 use Rattle.machine_rules.specs.Detect.{hear_in, reap_found, reap_in, scan_in}
 use Rattle.machine_rules.specs.Go.{act_in, go_at, go_in, lacking_from, load_from, mint, post_or_mint, turn_of_cell, turned}
 use Rattle.machine_rules.specs.Lists.{is_empty}
+use Rattle.machine_rules.specs.Leave.{leave_at, leave_in, may_leave}
 use Rattle.machine_rules.specs.Next.{next}
 use Rattle.machine_rules.specs.Plain.{stopped_at}
 use Rattle.machine_rules.specs.Run.{act_is_choice, go_is_choice, go_is_choice_at, is_choice, take_is_choice_at}
@@ -43,7 +44,7 @@ use Rattle.machine_rules.specs.State.{State, Goes}
 use Rattle.machine_rules.specs.Take.{cell_after, note_of, notes_after, take_at, take_in}
 use Rattle.detector_laws.proofs.Named.{numbered_is_open}
 use Rattle.detector_laws.specs.Members.{In}
-use Rattle.machine_laws.proofs.ActorsWork.{asks-work, decs-work, more_times, push-work, reaped-work, set-work}
+use Rattle.machine_laws.proofs.ActorsWork.{asks-work, decs-work, leave-work, more_times, push-work, reaped-work, set-work}
 use Rattle.machine_laws.proofs.Blocking.{reporting}
 use Rattle.machine_laws.proofs.Going.{held_made}
 use Rattle.machine_laws.proofs.TableWork.{by_owner-length, mint_first-work, sweep-work}
@@ -167,6 +168,10 @@ module _ (n : ℕ) where
           sum_by_push (note_work n) s.notes (notes.Block a c.holdings.count (held_actors c.holdings)),
         ))
 
+    leaves : (a : ℕ) (o : Seat) (q : Bool) → may_leave o.cell o.mail ≡ q → seat_at s.actors a ≡ Some o → leave_in s a q ≡ Goes t → Less t
+    leaves a o false may at e = absurd (not_enabled t e)
+    leaves a o true may at e = arrived _ e (omega (arith, leave-work n s.actors a o at (may_go o.cell o.mail may).0.unreported))
+
     -- ---- a go that mints
 
     mints : (a : ℕ) (c : Cell) (ls : List Letter) (stop : Stop) → seat_at s.actors a ≡ seat c ls → (load : List Loaded) (e : Loaded) (es : List Loaded) → lacking a (with_made stop.turn.made c.holdings) load ≡ e ∷ es
@@ -248,6 +253,11 @@ module _ (n : ℕ) where
         by_seat : (o : Option Seat) → seat_at s.actors a ≡ o → collect_at s a o ≡ Goes t → Less t
         by_seat None at e = absurd (not_enabled t e)
         by_seat (Some o) at e = collects a o.cell o.cell.frame o.cell.dirty o.mail refl at e
+    leaves_less few (Leave a) e calm = by_seat (seat_at s.actors a) refl e
+      where
+        by_seat : (o : Option Seat) → seat_at s.actors a ≡ o → leave_at s a o ≡ Goes t → Less t
+        by_seat None at e = absurd (not_enabled t e)
+        by_seat (Some o) at e = leaves a o (may_leave o.cell o.mail) refl at e
     leaves_less few (Block a) e calm = by_seat (seat_at s.actors a) refl e
       where
         by_seat : (o : Option Seat) → seat_at s.actors a ≡ o → block_at s a o ≡ Goes t → Less t

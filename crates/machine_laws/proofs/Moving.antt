@@ -11,6 +11,7 @@ use Rattle.letter_kinds.specs.Holdings.{held_in}
 use Rattle.letter_kinds.specs.Sums.{load_count}
 use Rattle.letter_kinds.specs.declared.letter.Letter.{Letter}
 use Rattle.letter_kinds.specs.declared.note.Note.{Note}
+use Rattle.machine_rules.proofs.Every.{length-push}
 use Rattle.machine_rules.proofs.Posting.{loads_at_push}
 use Rattle.machine_rules.proofs.SeatReads.{loads_at-none}
 use Rattle.machine_rules.proofs.Seats.{present_below}
@@ -71,14 +72,16 @@ push_loads_same s b l x h = ⊎_elim
 
 -- cells stay, letters other than Confirms come
 pub record Adds (s s' : Actors) : Type 0 where
+  pub size : length s' ≡ length s
   pub cell : (b : ℕ) → cell_at s' b ≡ cell_at s b
   pub mail : (b : ℕ) → (come : List Letter) × (mail_at s' b ≡ mail_at s b ++ come) × NoConfirms come
 
 pub adds_none : (s : Actors) → Adds s s
-adds_none s = record { cell = λ b. refl; mail = λ b. ([], sym (append-nil (mail_at s b)), tt) }
+adds_none s = record { size = refl; cell = λ b. refl; mail = λ b. ([], sym (append-nil (mail_at s b)), tt) }
 
 pub adds_then : (s t u : Actors) → Adds s t → Adds t u → Adds s u
 adds_then s t u p q = record {
+  size = q.size ∙ p.size;
   cell = λ b. q.cell b ∙ p.cell b;
   mail = λ b. let x = p.mail b in let y = q.mail b in (x.0 ++ y.0, y.1 ∙ ap (λ (m : List Letter). m ++ y.0) x.1 ∙ append_assoc (mail_at s b) x.0 y.0, no_confirms-append x.0 y.0 x.2 y.2);
 }
@@ -93,6 +96,7 @@ added_mail l (Some o) k = (l ∷ [], refl, (k, tt))
 
 pub adds_push : (s : Actors) (b : ℕ) (l : Letter) → is_confirm l ≡ false → Adds s (push_letter b l s)
 adds_push s b l k = record {
+  size = length-push b l s;
   cell = λ i. ⊎_elim
       (λ same. rw same (ap cell_of (push_here s b l) ∙ added_cell l (seat_at s b)))
       (λ other. ap cell_of (push_other s b l i other))
@@ -132,6 +136,8 @@ module _ (s s' : Actors) (d : Detector) (ns : List Note) (a : ℕ) (c c' : Cell)
     here = ap cell_of at;
     there = adds.cell a ∙ ap cell_of mine;
     woken = woken;
+    made = within;
+    grows = omega (arith, adds.size, length-set s a (seat c' rest));
     cause = ⊎_elim inl (λ r. inr (⊎_elim inl (λ l. inr (l.0, l.1, my_mail ∙ l.2, l.3)) r)) cause;
     detector = refl;
     notes = refl;

@@ -12,7 +12,7 @@ use Rattle.letter_kinds.specs.Holdings.{Row, held_in}
 use Rattle.letter_kinds.specs.declared.letter.Letter.{Letter}
 use Rattle.letter_kinds.specs.declared.letter.Letter.TheVariants.{Dec}
 use Rattle.letter_kinds.specs.declared.note.Note.{Note}
-use Rattle.machine_rules.proofs.ReapKeeps.{every_none}
+use Rattle.machine_rules.proofs.ReapKeeps.{every_none, length-reap}
 use Rattle.machine_rules.proofs.Reaps.{AllIn}
 use Rattle.machine_rules.proofs.SeatReads.{loads_at-none}
 use Rattle.machine_rules.proofs.Sweeping.{amount-given_back, firm_counted}
@@ -26,7 +26,7 @@ use Rattle.machine_rules.specs.Facts.{Every, KeepsCounts}
 use Rattle.detector_laws.proofs.Members.{each_has}
 use Rattle.detector_laws.specs.Cells.{held_on}
 use Rattle.detector_laws.specs.Confirms.{NoConfirms}
-use Rattle.detector_laws.specs.Events.{Reaps}
+use Rattle.detector_laws.specs.Events.{Departs, Reaps}
 use Rattle.detector_laws.specs.Members.{In}
 use Rattle.machine_laws.proofs.Collecting.{owner_held, NotTo, not_to, decs_quiet, decs_adds, decs_loads}
 use Rattle.machine_laws.proofs.Moving.{push_other, push_here, sum_by-set_past}
@@ -120,15 +120,15 @@ unfolding reaped
 reap_loads x all [] gs s = decs_loads x gs s
 reap_loads x all (m ∷ ms) gs s = omega (arith, reap_loads x all ms (gs ++ by_owner (held_outside all (seat_at s m))) (set s m None), clear_loads x s m)
 
-module _ (s : Actors) (d : Detector) (ns : List Note) (t : Token) (all : Thing → Option Row) (ps : List Person) (keeps : KeepsCounts all ps s) (opened : In t d.tokens) (acked : all_acked t ≡ true) where
-  gone_at : (m : ℕ) → has t.members m ≡ true → seat_at (reap_members t.members s) m ≡ None
-  gone_at m h = reap_gone t.members t.members [] s m h
+module _ (s : Actors) (d after : Detector) (ns : List Note) (ms : List ℕ) (all : Thing → Option Row) (ps : List Person) (keeps : KeepsCounts all ps s) where
+  gone_at : (m : ℕ) → has ms m ≡ true → seat_at (reap_members ms s) m ≡ None
+  gone_at m h = reap_gone ms ms [] s m h
 
-  spares : (i : ℕ) → has t.members i ≡ false → ((m : ℕ) → has t.members m ≡ true → held_on (cell_at s m) i ≡ 0) → Every (Spares t.members i) s
+  spares : (i : ℕ) → has ms i ≡ false → ((m : ℕ) → has ms m ≡ true → held_on (cell_at s m) i ≡ 0) → Every (Spares ms i) s
   spares i out free m c ls at ins = not_to i (by_owner (given_back marked c.holdings)) (firm_groups _ (firm_counted marked c.holdings (keeps.firm m c ls at))) unowed
     where
       marked : Thing → Bool
-      marked = λ x. has t.members (owner_of x)
+      marked = λ x. has ms (owner_of x)
 
       some : (q : Bool) (n : ℕ) → 0 < cond q 0 n → 0 < n
       some true n h = absurd (omega arith)
@@ -137,20 +137,22 @@ module _ (s : Actors) (d : Detector) (ns : List Note) (t : Token) (all : Thing �
       unowed : (x : Thing) → owner_of x ≡ i → 0 < owed (by_owner (given_back marked c.holdings)) x → ⊥
       unowed x o p =
           let held = some (marked x) (held_in c.holdings x) (subst (λ (k : ℕ). 0 < k) (owed-groups (given_back marked c.holdings) x ∙ amount-given_back marked c.holdings x) p) in
-          let up : 0 < held_in c.holdings (Actor (owner_of x)) = owner_held all m c (keeps.sound m c ls at).closed x held (λ e. false≢true (sym out ∙ ap (has t.members) (sym o ∙ e) ∙ ins)) in
+          let up : 0 < held_in c.holdings (Actor (owner_of x)) = owner_held all m c (keeps.sound m c ls at).closed x held (λ e. false≢true (sym out ∙ ap (has ms) (sym o ∙ e) ∙ ins)) in
           let z = ap (λ (k : ℕ). held_in c.holdings (Actor k)) o in
           let w = sym (ap (λ o. held_on (cell_of o) i) at) ∙ free m ins in
           absurd (omega arith)
 
-  pub reap_reaps : Reaps (world_of s d ns) t (world_of (reap_members t.members s) (close_token t d) ns)
-  reap_reaps = record {
-    is_open = opened;
-    acked = acked;
-    detector = refl;
+  pub departs : Departs (world_of s d ns) ms (world_of (reap_members ms s) after ns)
+  departs = record {
+    made = length-reap ms ms [] s;
     notes = refl;
-    gone = λ m h. let e = gone_at m h in (ap cell_of e, ap letters_of e);
-    stays = λ i out. (reap_adds t.members t.members [] s i out).0;
-    sends = λ i out. (reap_adds t.members t.members [] s i out).1;
-    sends_held = λ i out free. ap letters_of (reap_quiet t.members t.members [] s i (each_has _ t.members (λ m h. h)) out tt (spares i out free));
-    unloaded = λ x h. omega (arith, h, reap_loads (Actor x) t.members t.members [] s);
+    clears = λ m h. let e = gone_at m h in (ap cell_of e, ap letters_of e);
+    stays = λ i out. (reap_adds ms ms [] s i out).0;
+    sends = λ i out. (reap_adds ms ms [] s i out).1;
+    sends_held = λ i out free. ap letters_of (reap_quiet ms ms [] s i (each_has _ ms (λ m h. h)) out tt (spares i out free));
+    unloaded = λ x h. omega (arith, h, reap_loads (Actor x) ms ms [] s);
   }
+
+module _ (s : Actors) (d : Detector) (ns : List Note) (t : Token) (all : Thing → Option Row) (ps : List Person) (keeps : KeepsCounts all ps s) (opened : In t d.tokens) (acked : all_acked t ≡ true) where
+  pub reap_reaps : Reaps (world_of s d ns) t (world_of (reap_members t.members s) (close_token t d) ns)
+  reap_reaps = record { is_open = opened; acked = acked; detector = refl; departs = departs s d (close_token t d) ns t.members all ps keeps }

@@ -1,6 +1,6 @@
 -- A scan, as the detector's laws see it; it keeps all that is kept of the counts.
-use Rattle.std.proofs.Common.{◌≡◌, ◌≢◌, ℕ, suc, ◌≤◌, ◌==◌, true, false, if◌then◌else◌, Option, Some, None, List, [], ◌∷◌, ◌++◌, length, refl, ap, sym, ◌∙◌, arith, ⊎_elim, eq-eqb, ne_eqb, zero, ◌<◌}
-use Rattle.std.proofs.lemmas.Bool.{cases_eq, false≢true, or_left, or_right}
+use Rattle.std.proofs.Common.{◌≡◌, ℕ, suc, ◌≤◌, ◌==◌, true, false, if◌then◌else◌, ◌&&◌, is_some, get_or, set, subst, Option, Some, None, List, [], ◌∷◌, ◌++◌, length, refl, ap, sym, ◌∙◌, arith, ⊎_elim, eq-eqb, ne_eqb, zero, ◌<◌}
+use Rattle.std.proofs.lemmas.Bool.{cases_eq, cases_lt, false≢true}
 use Rattle.std.specs.List.{AllByRecursion}
 use Rattle.std.specs.Prelude.{sum_by}
 use Rattle.std.proofs.lemmas.List.{length-map}
@@ -15,7 +15,6 @@ use Rattle.letter_kinds.specs.Detector.{Detector, scanned, has, closed_set, cand
 use Rattle.letter_kinds.specs.Holdings.{Row}
 use Rattle.letter_kinds.specs.Reports.{report_of}
 use Rattle.letter_kinds.specs.Sums.{inc_of, dec_of}
-use Rattle.letter_kinds.specs.declared.letter.Letter.{Letter}
 use Rattle.letter_kinds.specs.declared.letter.Letter.TheVariants.{Confirm}
 use Rattle.letter_kinds.specs.declared.note.Note.{Note}
 use Rattle.letter_kinds.specs.declared.note.Report.{Report}
@@ -25,9 +24,8 @@ use Rattle.machine_rules.proofs.Global.{mail_push}
 use Rattle.machine_rules.proofs.InHand.{Balanced, in_hand, none, out_of_hand}
 use Rattle.machine_rules.proofs.Posting.{push_balanced}
 use Rattle.machine_rules.proofs.SeatReads.{letter_Confirm}
-use Rattle.machine_rules.proofs.Seats.{present_below}
 use Rattle.machine_rules.proofs.Sends.{push_prefix, cond_zero}
-use Rattle.machine_rules.specs.Actors.{Actors, cell_at, Seat, cell_of, letters_of, mail_at, push_letter, seat_at}
+use Rattle.machine_rules.specs.Actors.{Actors, cell_at, Seat, cell_of, letters_of, mail_at, push_letter, seat_at, with_letter_more}
 use Rattle.machine_rules.specs.Agreement.{Person}
 use Rattle.machine_rules.specs.Balance.{load_sum}
 use Rattle.machine_rules.specs.Detect.{ask_all}
@@ -45,28 +43,35 @@ use Rattle.detector_laws.specs.World.{World, ReportsAreExact}
 use Rattle.machine_laws.proofs.Moving.{push_here, push_other, added_cell, push_loads_same}
 use Rattle.machine_laws.proofs.Seen.{world_of}
 
-present_seat : (o : Option Seat) → cell_of o ≢ None → (q : Seat) × (o ≡ Some q)
-present_seat None h = absurd (h refl)
-present_seat (Some q) h = (q, refl)
-
 -- ---- one Confirm
 
-module _ (s : Actors) (b t : ℕ) (here : cell_at s b ≢ None) where
+module _ (s : Actors) (b t : ℕ) where
   ask_cell : (i : ℕ) → cell_at (push_letter b (Confirm t) s) i ≡ cell_at s i
   ask_cell i = ⊎_elim
       (λ same. rw same (ap cell_of (push_here s b (Confirm t)) ∙ added_cell (Confirm t) (seat_at s b)))
       (λ other. ap cell_of (push_other s b (Confirm t) i other))
       (cases_eq i b)
 
-  ask_mail : mail_at (push_letter b (Confirm t) s) b ≡ mail_at s b ++ Confirm t ∷ []
-  ask_mail =
-      let o = present_seat (seat_at s b) here in
-      ap letters_of (push_here s b (Confirm t)) ∙ rw o.1 refl
+  ask_mail : mail_at (push_letter b (Confirm t) s) b ≡ (if is_some (cell_at s b) then mail_at s b ++ Confirm t ∷ [] else mail_at s b)
+  ask_mail = ap letters_of (push_here s b (Confirm t)) ∙ more (seat_at s b)
+    where
+      more : (o : Option Seat) → letters_of (with_letter_more (Confirm t) o) ≡ (if is_some (cell_of o) then letters_of o ++ Confirm t ∷ [] else letters_of o)
+      more None = refl
+      more (Some o) = refl
 
-  ask_keeps : (all : Thing → Option Row) (ps : List Person) → KeepsCounts all ps s → KeepsCounts all ps (push_letter b (Confirm t) s)
-  ask_keeps all ps keeps =
+  -- who is gone gets nothing
+  ask_nobody : seat_at s b ≡ None → push_letter b (Confirm t) s ≡ s
+  unfolding push_letter
+  ask_nobody gone = ap (λ o. set s b (with_letter_more (Confirm t) o)) gone ∙ ap (set s b) (sym gone) ∙ set_same s b None
+    where
+      set_same : {A : Type 0} (xs : List A) (i : ℕ) (d : A) → set xs i (get_or xs i d) ≡ xs
+      set_same [] i d = refl
+      set_same (x ∷ xs) zero d = refl
+      set_same (x ∷ xs) (suc i) d = ap (λ ys. x ∷ ys) (set_same xs i d)
+
+  ask_here : (all : Thing → Option Row) (ps : List Person) → (q : Seat) × (seat_at s b ≡ Some q) → KeepsCounts all ps s → KeepsCounts all ps (push_letter b (Confirm t) s)
+  ask_here all ps o keeps =
       let l = Confirm t in
-      let o = present_seat (seat_at s b) here in
       let bal : Balanced (push_letter b l s) = push_balanced s b l none none o
       (λ x. let z = in_hand s keeps.balanced x in let k = letter_Confirm x t in let p = cond_zero (owner_of x == b) (inc_of x l) k.0 in let q = cond_zero (owner_of x == b) (dec_of x l) k.1 in omega (arith, k.2)) in
       record {
@@ -81,32 +86,33 @@ module _ (s : Actors) (b t : ℕ) (here : cell_at s b ≢ None) where
         firm = every_push IsFirmAt l (λ i c ms q. q) s b keeps.firm;
       }
 
+  ask_keeps : (all : Thing → Option Row) (ps : List Person) → KeepsCounts all ps s → KeepsCounts all ps (push_letter b (Confirm t) s)
+  ask_keeps all ps keeps = by_seat (seat_at s b) refl
+    where
+      by_seat : (o : Option Seat) → seat_at s b ≡ o → KeepsCounts all ps (push_letter b (Confirm t) s)
+      by_seat None gone = subst (KeepsCounts all ps) (sym (ask_nobody gone)) keeps
+      by_seat (Some q) there = ask_here all ps (q, there) keeps
+
   ask_loads : (x : Thing) → load_sum x (push_letter b (Confirm t) s) ≡ load_sum x s
   ask_loads x = push_loads_same s b (Confirm t) x (letter_Confirm x t).2
 
 -- ---- a Confirm to each
 
-rest_here : (m : ℕ) (ms : List ℕ) (t : ℕ) (s : Actors) → ((i : ℕ) → has (m ∷ ms) i ≡ true → cell_at s i ≢ None)
-    → (cell_at s m ≢ None) × ((i : ℕ) → has ms i ≡ true → cell_at (push_letter m (Confirm t) s) i ≢ None)
-rest_here m ms t s h =
-    let first = h m (or_left (m == m) (has ms m) (eq-eqb m m refl)) in
-    (first, λ i p gone. h i (or_right (m == i) (has ms i) p) (sym (ask_cell s m t first i) ∙ gone))
-
-asks_cell : (ms : List ℕ) (t : ℕ) (s : Actors) → ((i : ℕ) → has ms i ≡ true → cell_at s i ≢ None) → (b : ℕ) → cell_at (ask_all ms t s) b ≡ cell_at s b
-asks_cell [] t s h b = refl
-asks_cell (m ∷ ms) t s h b = let q = rest_here m ms t s h in asks_cell ms t (push_letter m (Confirm t) s) q.1 b ∙ ask_cell s m t q.0 b
+asks_cell : (ms : List ℕ) (t : ℕ) (s : Actors) (b : ℕ) → cell_at (ask_all ms t s) b ≡ cell_at s b
+asks_cell [] t s b = refl
+asks_cell (m ∷ ms) t s b = asks_cell ms t (push_letter m (Confirm t) s) b ∙ ask_cell s m t b
 
 asks_length : (ms : List ℕ) (t : ℕ) (s : Actors) → length (ask_all ms t s) ≡ length s
 asks_length [] t s = refl
 asks_length (m ∷ ms) t s = asks_length ms t (push_letter m (Confirm t) s) ∙ length-push m (Confirm t) s
 
-asks_loads : (ms : List ℕ) (t : ℕ) (s : Actors) (x : Thing) → ((i : ℕ) → has ms i ≡ true → cell_at s i ≢ None) → load_sum x (ask_all ms t s) ≡ load_sum x s
-asks_loads [] t s x h = refl
-asks_loads (m ∷ ms) t s x h = let q = rest_here m ms t s h in asks_loads ms t (push_letter m (Confirm t) s) x q.1 ∙ ask_loads s m t q.0 x
+asks_loads : (ms : List ℕ) (t : ℕ) (s : Actors) (x : Thing) → load_sum x (ask_all ms t s) ≡ load_sum x s
+asks_loads [] t s x = refl
+asks_loads (m ∷ ms) t s x = asks_loads ms t (push_letter m (Confirm t) s) x ∙ ask_loads s m t x
 
-asks_keep : (ms : List ℕ) (t : ℕ) (s : Actors) → ((i : ℕ) → has ms i ≡ true → cell_at s i ≢ None) → (all : Thing → Option Row) (ps : List Person) → KeepsCounts all ps s → KeepsCounts all ps (ask_all ms t s)
-asks_keep [] t s h all ps keeps = keeps
-asks_keep (m ∷ ms) t s h all ps keeps = let q = rest_here m ms t s h in asks_keep ms t (push_letter m (Confirm t) s) q.1 all ps (ask_keeps s m t q.0 all ps keeps)
+asks_keep : (ms : List ℕ) (t : ℕ) (s : Actors) (all : Thing → Option Row) (ps : List Person) → KeepsCounts all ps s → KeepsCounts all ps (ask_all ms t s)
+asks_keep [] t s all ps keeps = keeps
+asks_keep (m ∷ ms) t s all ps keeps = asks_keep ms t (push_letter m (Confirm t) s) all ps (ask_keeps s m t all ps keeps)
 
 abbrev Distinct : List ℕ → Type 0
 Distinct [] = Unit {0}
@@ -119,18 +125,17 @@ asks_other (m ∷ ms) t s b out = ⊎_elim
     (λ other. asks_other ms t (push_letter m (Confirm t) s) b (rw (ne_eqb m b (λ e. other (sym e))) at out) ∙ ap letters_of (push_other s m (Confirm t) b other))
     (cases_eq b m)
 
-asks_mail : (ms : List ℕ) (t : ℕ) (s : Actors) → ((i : ℕ) → has ms i ≡ true → cell_at s i ≢ None) → Distinct ms → (b : ℕ)
-    → mail_at (ask_all ms t s) b ≡ (if has ms b then mail_at s b ++ Confirm t ∷ [] else mail_at s b)
-asks_mail [] t s h apart b = refl
-asks_mail (m ∷ ms) t s h apart b =
-    let q = rest_here m ms t s h in
-    ⊎_elim
-    (λ same. rw (eq-eqb m b (sym same), same) (asks_other ms t (push_letter m (Confirm t) s) m apart.0 ∙ ask_mail s m t q.0))
+asks_mail : (ms : List ℕ) (t : ℕ) (s : Actors) → Distinct ms → (b : ℕ)
+    → mail_at (ask_all ms t s) b ≡ (if has ms b && is_some (cell_at s b) then mail_at s b ++ Confirm t ∷ [] else mail_at s b)
+asks_mail [] t s apart b = refl
+asks_mail (m ∷ ms) t s apart b = ⊎_elim
+    (λ same. rw (eq-eqb m b (sym same), same) (asks_other ms t (push_letter m (Confirm t) s) m apart.0 ∙ ask_mail s m t))
     (λ other. rw (ne_eqb m b (λ e. other (sym e)))
-    (asks_mail ms t (push_letter m (Confirm t) s) q.1 apart.1 b ∙ ap (λ (ks : List Letter). if has ms b then ks ++ Confirm t ∷ [] else ks) (ap letters_of (push_other s m (Confirm t) b other))))
+    (asks_mail ms t (push_letter m (Confirm t) s) apart.1 b
+    ∙ (λ i. let there = push_other s m (Confirm t) b other in if has ms b && is_some (cell_of (there i)) then letters_of (there i) ++ Confirm t ∷ [] else letters_of (there i))))
     (cases_eq b m)
 
--- the chosen are distinct and present
+-- the chosen are distinct
 above_out : (a b : ℕ) (rs : List Report) → b ≤ a → AllAbove a rs → has (names rs) b ≡ false
 above_out a b [] le h = refl
 above_out a b (r ∷ rs) le h = rw (ne_eqb r.actor b (λ e. let q = h.0 in absurd (omega arith))) (above_out a b rs le h.1)
@@ -154,28 +159,32 @@ module _ (s : Actors) (d : Detector) (ns : List Note) (rising : IsRising d.kept)
   distinct : Distinct (closed_set d)
   distinct = rising_distinct (largest_closed (candidates d)) chosen.rising
 
-  all_here : (m : ℕ) → has (closed_set d) m ≡ true → cell_at s m ≢ None
-  all_here m h gone =
+  -- they were made
+  all_made : (m : ℕ) → has (closed_set d) m ≡ true → m < length s
+  all_made m h = ⊎_elim
+      (λ below. below)
+      (λ past.
       let q = named (largest_closed (candidates d)) m h in
       let some = each_In (λ (r : Report). report_of d.kept r.actor ≡ Some r) (largest_closed (candidates d)) chosen.kept q.0 q.1 in
-      let none = (kept.absent m gone).0 in
-      some_not_none (ap (report_of d.kept) (sym q.2) ∙ some) none
+      let none = (kept.unmade m past).0 in
+      absurd (some_not_none (ap (report_of d.kept) (sym q.2) ∙ some) none))
+      (cases_lt m (length s))
 
   -- no more are asked than there are actors
   pub few_asked : length (closed_set d) ≤ length s
   few_asked =
       let asked = largest_closed (candidates d) in
-      let within : AllByRecursion (λ r. r.actor < length s) asked = In_each (λ r. r.actor < length s) asked (λ r i. let o = present_seat (seat_at s r.actor) (all_here r.actor (name_In asked r i)) in present_below s r.actor o.0 o.1) in
+      let within : AllByRecursion (λ r. r.actor < length s) asked = In_each (λ r. r.actor < length s) asked (λ r i. all_made r.actor (name_In asked r i)) in
       omega (arith, some_le_all (length s) (λ b. 1) asked chosen.rising within, ones asked, ones_below (length s), length-map asked (λ r. r.actor))
 
   pub scan_keeps : (all : Thing → Option Row) (ps : List Person) → KeepsCounts all ps s → KeepsCounts all ps (ask_all (closed_set d) (suc d.opened) s)
-  scan_keeps all ps keeps = asks_keep (closed_set d) (suc d.opened) s all_here all ps keeps
+  scan_keeps all ps keeps = asks_keep (closed_set d) (suc d.opened) s all ps keeps
 
   pub scan_is : world_of (ask_all (closed_set d) (suc d.opened) s) (scanned d (closed_set d)) ns ≡ view.scan (world_of s d ns)
   scan_is =
       let t = suc d.opened in
       let made : length (ask_all (closed_set d) (suc d.opened) s) ≡ length s = asks_length (closed_set d) t s in
-      let cell : cell_at (ask_all (closed_set d) t s) ≡ cell_at s = fun_ext (λ b. asks_cell (closed_set d) t s all_here b) in
-      let mail : mail_at (ask_all (closed_set d) t s) ≡ view.confirmed (closed_set d) t (mail_at s) = fun_ext (λ b. asks_mail (closed_set d) t s all_here distinct b) in
-      let loaded : (λ x. load_sum (Actor x) (ask_all (closed_set d) t s)) ≡ (λ x. load_sum (Actor x) s) = fun_ext (λ x. asks_loads (closed_set d) t s (Actor x) all_here) in
+      let cell : cell_at (ask_all (closed_set d) t s) ≡ cell_at s = fun_ext (λ b. asks_cell (closed_set d) t s b) in
+      let mail : mail_at (ask_all (closed_set d) t s) ≡ view.confirmed (closed_set d) t (cell_at s) (mail_at s) = fun_ext (λ b. asks_mail (closed_set d) t s distinct b) in
+      let loaded : (λ x. load_sum (Actor x) (ask_all (closed_set d) t s)) ≡ (λ x. load_sum (Actor x) s) = fun_ext (λ x. asks_loads (closed_set d) t s (Actor x)) in
       λ i. record { made = made i; cell = cell i; mail = mail i; loaded = loaded i; detector = scanned d (closed_set d); notes = ns }

@@ -8,7 +8,7 @@ use Rattle.orca_names.specs.declared.names.Thing.{Thing}
 use Rattle.orca_names.specs.declared.names.Value.{Value}
 use Rattle.reach_walk.specs.Reach.{thing_row}
 use Rattle.event_rule.specs.declared.event.Event.{Event}
-use Rattle.event_rule.specs.declared.event.Event.TheVariants.{Take, Go, Collect, Block, Hear, Scan, Reap}
+use Rattle.event_rule.specs.declared.event.Event.TheVariants.{Take, Go, Collect, Leave, Block, Hear, Scan, Reap}
 use Rattle.turn_rules.specs.Segment.{Stop}
 use Rattle.turn_rules.specs.declared.act.Act.{Act}
 use Rattle.turn_rules.specs.declared.act.Act.TheVariants.{Post, New, Print, End}
@@ -21,7 +21,7 @@ use Rattle.letter_kinds.specs.declared.letter.Letter.{Letter}
 use Rattle.letter_kinds.specs.declared.letter.Letter.TheVariants.{App, Inc, Dec, Confirm}
 use Rattle.letter_kinds.specs.declared.note.Note.{Note}
 use Rattle.letter_kinds.specs.declared.note.Note.TheVariants.{Unblock}
-use Rattle.machine_rules.proofs.Enabling.{may_report}
+use Rattle.machine_rules.proofs.Enabling.{may_go, may_report}
 use Rattle.machine_rules.proofs.FollowingGo.{load_known, target_known}
 use Rattle.machine_rules.proofs.Lacking.{first_minted, to_mint_theirs}
 use Rattle.machine_rules.proofs.Makes.{fresh_held}
@@ -35,6 +35,7 @@ use Rattle.machine_rules.specs.Detect.{hear_in, reap_found, reap_in, scan_in}
 use Rattle.machine_rules.specs.Facts.{Facts, IsFirm}
 use Rattle.machine_rules.specs.Go.{act_in, go_at, go_in, load_from, make, post_or_mint, turn_of_cell, turned}
 use Rattle.machine_rules.specs.Known.{IsClosedAt}
+use Rattle.machine_rules.specs.Leave.{leave_at, leave_in, may_leave}
 use Rattle.machine_rules.specs.Next.{next}
 use Rattle.machine_rules.specs.Plain.{PlainState, plain_row, stopped_at, with_name}
 use Rattle.machine_rules.specs.State.{State, Goes}
@@ -43,13 +44,13 @@ use Rattle.detector_laws.proofs.Cells.{same_some}
 use Rattle.detector_laws.proofs.Named.{numbered_is_open}
 use Rattle.detector_laws.specs.Events.{Moves}
 use Rattle.detector_laws.specs.Reports.{Told, Unreported, Reported, Contradictory, IsAsTold, told_of}
-use Rattle.detector_laws.specs.Run.{IsStep, Hears, Scans, ReapsOne, Blocks, TakesConfirm, MovesOne}
+use Rattle.detector_laws.specs.Run.{IsStep, Hears, Scans, ReapsOne, LeavesOne, Blocks, TakesConfirm, MovesOne}
 use Rattle.detector_laws.specs.World.{FactsHold}
 use Rattle.machine_laws.proofs.Blocking.{block_is, can_block}
 use Rattle.machine_laws.proofs.Collecting.{collect_moves}
 use Rattle.machine_laws.proofs.Going.{held_made, make_moves, mint_moves, post_moves, turn_moves}
 use Rattle.machine_laws.proofs.Noted.{noted}
-use Rattle.machine_laws.proofs.Reaping.{reap_reaps}
+use Rattle.machine_laws.proofs.Reaping.{departs, reap_reaps}
 use Rattle.machine_laws.proofs.Scanning.{scan_is}
 use Rattle.machine_laws.proofs.Seen.{world, world_of}
 use Rattle.machine_laws.proofs.Taking.{confirm_is, take_moves}
@@ -163,6 +164,18 @@ module _ (p : PlainState) (s t : State) (beside : Facts p s) (facts : FactsHold 
   blocks a c ls true may at e =
       arrived _ e (subst (IsStep (world s)) (sym (block_is s.actors a c ls at s.detector s.notes)) (Blocks (can_block s.actors a c ls at s.detector s.notes (may_report c ls may))))
 
+  -- ---- leave
+
+  leaves : (a : ℕ) (c : Cell) (ls : List Letter) (q : Bool) → may_leave c ls ≡ q → seat_at s.actors a ≡ seat c ls → leave_in s a q ≡ Goes t → StepsTo t
+  leaves a c ls false may at e = absurd (not_enabled t e)
+  leaves a c ls true may at e = arrived _ e (LeavesOne (record {
+    cell = c;
+    here = ap cell_of at;
+    unreported = (may_go c ls may).0.unreported;
+    detector = refl;
+    departs = departs s.actors s.detector s.detector s.notes (a ∷ []) all (people_of p.actors) beside.counts;
+  }))
+
   -- ---- the detector's events
 
   hears : (ns : List Note) → s.notes ≡ ns → hear_in s ns ≡ Goes t → StepsTo t
@@ -199,6 +212,11 @@ module _ (p : PlainState) (s t : State) (beside : Facts p s) (facts : FactsHold 
       seat_collects : (o : Option Seat) → seat_at s.actors a ≡ o → collect_at s a o ≡ Goes t → StepsTo t
       seat_collects None at e = absurd (not_enabled t e)
       seat_collects (Some o) at e = collects a o.cell o.cell.frame o.cell.dirty o.mail refl at e
+  next_steps (Leave a) e = seat_leaves (seat_at s.actors a) refl e
+    where
+      seat_leaves : (o : Option Seat) → seat_at s.actors a ≡ o → leave_at s a o ≡ Goes t → StepsTo t
+      seat_leaves None at e = absurd (not_enabled t e)
+      seat_leaves (Some o) at e = leaves a o.cell o.mail (may_leave o.cell o.mail) refl at e
   next_steps (Block a) e = seat_blocks (seat_at s.actors a) refl e
     where
       seat_blocks : (o : Option Seat) → seat_at s.actors a ≡ o → block_at s a o ≡ Goes t → StepsTo t

@@ -5,8 +5,8 @@ use Rattle.orca_names.specs.declared.names.Thing.{Thing}
 use Rattle.behaviour_code.specs.declared.code.Program.{Program}
 use Rattle.reach_walk.specs.Reach.{thing_row}
 use Rattle.event_rule.specs.declared.event.Event.{Event}
-use Rattle.event_rule.specs.declared.event.Event.TheVariants.{Take, Go, Collect, Block, Hear, Scan, Reap}
-use Rattle.machine_rules.proofs.Acting.{Beside, collects_keep, goes_keep, takes_keep}
+use Rattle.event_rule.specs.declared.event.Event.TheVariants.{Take, Go, Collect, Leave, Block, Hear, Scan, Reap}
+use Rattle.machine_rules.proofs.Acting.{Beside, collects_keep, goes_keep, leaves_keep, takes_keep}
 use Rattle.machine_rules.proofs.Cleaning.{clean-first, clean-next}
 use Rattle.machine_rules.proofs.Freed.{lives_left}
 use Rattle.machine_rules.proofs.InHand.{in_hand}
@@ -42,6 +42,7 @@ module _ (p : PlainState) (s t : State) (facts : AllFacts p s) where
   beside_after (Take a) goes = takes_keep a p s t facts.beside goes
   beside_after (Go a) goes = goes_keep a p s t facts.beside goes
   beside_after (Collect a) goes = collects_keep a p s t facts.beside goes
+  beside_after (Leave a) goes = leaves_keep a p s t facts.beside goes
   beside_after (Block a) goes = (p, refl, block_beside p s t facts.beside facts.detector a goes)
   beside_after Hear goes = (p, refl, hear_beside p s t facts.beside facts.detector goes)
   beside_after Scan goes = (p, refl, scan_beside p s t facts.beside facts.detector goes)

@@ -1,4 +1,5 @@
 -- All that holds in each state of a run, beside the machine that frees nothing.
+use Rattle.std.specs.Prelude.{length}
 use Rattle.orca_names.specs.declared.names.Thing.TheVariants.{Actor}
 use Rattle.machine_rules.specs.Actors.{cell_at, mail_at}
 use Rattle.machine_rules.specs.Balance.{load_sum}
@@ -16,4 +17,4 @@ pub record AllFacts (p : PlainState) (s : State) : Type 0 where
   -- clean cells are swept
   pub clean : CleanAreSwept s.actors
   -- reports, tokens and news
-  pub detector : DetectorFacts s.detector (cell_at s.actors) (mail_at s.actors) (λ x. load_sum (Actor x) s.actors) s.notes
+  pub detector : DetectorFacts (length s.actors) s.detector (cell_at s.actors) (mail_at s.actors) (λ x. load_sum (Actor x) s.actors) s.notes

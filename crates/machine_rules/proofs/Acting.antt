@@ -5,9 +5,10 @@ use Rattle.event_rule.specs.declared.event.Event.TheVariants.{Take, Go}
 use Rattle.machine_rules.proofs.Cleaning.{clean-first, clean-next}
 use Rattle.machine_rules.proofs.Following.{Follows}
 use Rattle.machine_rules.proofs.Follows.{collect_kept, go_kept, take_kept}
+use Rattle.machine_rules.proofs.Leaving.{leave_kept}
 use Rattle.machine_rules.proofs.NoSelf.{no_self-first, no_self-next}
 use Rattle.machine_rules.specs.Facts.{Facts}
-use Rattle.machine_rules.specs.Laws.{CleanStaySwept, CollectsKeepFacts, GoesKeepFacts, NoneGetsItsOwn, TakesKeepFacts}
+use Rattle.machine_rules.specs.Laws.{CleanStaySwept, CollectsKeepFacts, GoesKeepFacts, LeavesKeepFacts, NoneGetsItsOwn, TakesKeepFacts}
 use Rattle.machine_rules.specs.Plain.{PlainState}
 use Rattle.machine_rules.specs.PlainRun.{outcome_of}
 use Rattle.machine_rules.specs.Run.{PlainFollows, is_choice}
@@ -29,6 +30,9 @@ goes_keep a p s t facts goes = followed (is_choice s (Go a)) p (Go a) t (go_kept
 
 pub collects_keep : CollectsKeepFacts
 collects_keep a p s t facts goes = (p, refl, collect_kept p s facts t a goes)
+
+pub leaves_keep : LeavesKeepFacts
+leaves_keep a p s t facts goes = (p, refl, leave_kept p s facts t a goes)
 
 pub clean_stay_swept : CleanStaySwept
 clean_stay_swept = (clean-first, clean-next)

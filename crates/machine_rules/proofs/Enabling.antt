@@ -1,9 +1,9 @@
 -- An event is enabled exactly where it can happen, and refused exactly where the machine is full.
-use Rattle.std.proofs.Common.{◌≡◌, ◌≢◌, ◌≤◌, ◌||◌, ◌&&◌, not, ℕ, nat_lt, Bool, true, false, Option, Some, None, is_none, List, [], ◌∷◌, length, lt-ltb, ltb-true, refl, sym, ◌∙◌, ap, arith, ⊎_elim}
+use Rattle.std.proofs.Common.{◌≡◌, ◌≢◌, ◌≤◌, ◌||◌, ◌&&◌, not, ℕ, nat_lt, Bool, true, false, Option, Some, None, is_none, List, [], ◌∷◌, length, lt-ltb, ltb-true, eq-eqb, eqb-true, ◌==◌, refl, sym, ◌∙◌, ap, arith, ⊎_elim}
 use Rattle.std.specs.Prelude.{if◌then◌else◌}
-use Rattle.std.proofs.lemmas.Bool.{cases_lt}
+use Rattle.std.proofs.lemmas.Bool.{and_parts, cases_lt}
 use Rattle.event_rule.specs.declared.event.Event.{Event}
-use Rattle.event_rule.specs.declared.event.Event.TheVariants.{Take, Go, Collect, Block, Hear, Scan, Reap}
+use Rattle.event_rule.specs.declared.event.Event.TheVariants.{Take, Go, Collect, Leave, Block, Hear, Scan, Reap}
 use Rattle.turn_rules.specs.Segment.{Stop}
 use Rattle.turn_rules.specs.declared.act.Act.{Act}
 use Rattle.turn_rules.specs.declared.act.Act.TheVariants.{Post, New, Print, End}
@@ -19,6 +19,7 @@ use Rattle.machine_rules.specs.Detect.{hear_in, reap_found, reap_in, scan_in}
 use Rattle.machine_rules.specs.Enabled.{CanHappen, IsPresentWith, IsRefusedAsFull, MayReport}
 use Rattle.machine_rules.specs.Go.{act_in, go_at, go_in, turn_of_cell}
 use Rattle.machine_rules.specs.Laws.{EnabledExactly, FullExactly}
+use Rattle.machine_rules.specs.Leave.{leave_at, leave_in, may_leave}
 use Rattle.machine_rules.specs.Lists.{is_empty}
 use Rattle.machine_rules.specs.Next.{next}
 use Rattle.machine_rules.specs.Plain.{stopped_at}
@@ -72,6 +73,19 @@ module _ (s : State) (a : ℕ) where
       by_test false e on = absurd (on refl)
       by_test true e on = may_report o.cell o.mail e
 
+pub may_go : (c : Cell) (mail : List Letter) → may_leave c mail ≡ true → MayReport c mail × (c.holdings.count ≡ 0)
+may_go c mail e =
+    let both = and_parts (may_block c mail) (c.holdings.count == 0) e in
+    (may_report c mail both.0, eqb-true c.holdings.count 0 both.1)
+
+can_leave : (s : State) (a : ℕ) (o : Option Seat) → seat_at s.actors a ≡ o → leave_at s a o ≢ NotEnabled → IsPresentWith s a (λ c mail. MayReport c mail × (c.holdings.count ≡ 0))
+can_leave s a None at on = absurd (on refl)
+can_leave s a (Some o) at on = (o.cell, o.mail, at, by_test (may_leave o.cell o.mail) refl on)
+  where
+    by_test : (q : Bool) → may_leave o.cell o.mail ≡ q → leave_in s a q ≢ NotEnabled → MayReport o.cell o.mail × (o.cell.holdings.count ≡ 0)
+    by_test false e on = absurd (on refl)
+    by_test true e on = may_go o.cell o.mail e
+
 can_hear : (s : State) (notes : List Note) → hear_in s notes ≢ NotEnabled → notes ≢ []
 can_hear s [] on = absurd (on refl)
 can_hear s (n ∷ notes) on = λ e. cc
@@ -92,6 +106,7 @@ can : (s : State) (e : Event) → next s e ≢ NotEnabled → CanHappen s e
 can s (Take a) on = can_take s a (seat_at s.actors a) refl on
 can s (Go a) on = can_go s a (seat_at s.actors a) refl on
 can s (Collect a) on = can_collect s a (seat_at s.actors a) refl on
+can s (Leave a) on = can_leave s a (seat_at s.actors a) refl on
 can s (Block a) on = can_block s a (seat_at s.actors a) refl on
 can s Hear on = can_hear s s.notes on
 can s Scan on = can_scan s s.detector.news on
@@ -137,6 +152,10 @@ module _ (s : State) (a : ℕ) (c : Cell) (mail : List Letter) (at : seat_at s.a
   blocks false is e = cc
   blocks true is e = cc
 
+leaves : (s : State) (a : ℕ) (q : Bool) → q ≡ true → leave_in s a q ≡ NotEnabled → ⊥
+leaves s a false is e = cc
+leaves s a true is e = cc
+
 hears : (s : State) (notes : List Note) → notes ≢ [] → hear_in s notes ≡ NotEnabled → ⊥
 hears s [] some e = some refl
 hears s (n ∷ notes) some e = cc
@@ -153,6 +172,17 @@ pub enabled : (s : State) (e : Event) → CanHappen s e → next s e ≢ NotEnab
 enabled s (Take a) (c, mail, at, both) off = takes s a c mail at c.frame mail both.0 both.1 (sym (ap (take_at s a) at) ∙ off)
 enabled s (Go a) (c, mail, at, framed) off = goes_on s a c mail at c.frame framed (sym (ap (go_at s a) at) ∙ off)
 enabled s (Collect a) (c, mail, at, both) off = collects s a c mail at c.frame c.dirty both.0 both.1 (sym (ap (collect_at s a) at) ∙ off)
+enabled s (Leave a) (c, mail, at, (able, none)) off =
+    leaves s a (may_leave c mail)
+    (and_true (may_block c mail) (c.holdings.count == 0)
+    (may s a c mail at c.frame mail c.dirty c.fields.pinned c.reported able.rest.idle able.rest.empty able.rest.clean able.unpinned able.unreported)
+    (eq-eqb c.holdings.count 0 none))
+    (sym (ap (leave_at s a) at) ∙ off)
+  where
+    and_true : (p q : Bool) → p ≡ true → q ≡ true → (p && q) ≡ true
+    and_true true true e f = refl
+    and_true true false e f = cc
+    and_true false q e f = cc
 enabled s (Block a) (c, mail, at, able) off =
     blocks s a c mail at (may_block c mail)
     (may s a c mail at c.frame mail c.dirty c.fields.pinned c.reported able.rest.idle able.rest.empty able.rest.clean able.unpinned able.unreported)
@@ -239,6 +269,14 @@ block_not_full s a (Some o) e = by_test (may_block o.cell o.mail) e
     by_test false e = cc
     by_test true e = cc
 
+leave_not_full : (s : State) (a : ℕ) (o : Option Seat) → leave_at s a o ≡ IsFull → ⊥
+leave_not_full s a None e = cc
+leave_not_full s a (Some o) e = by_test (may_leave o.cell o.mail) e
+  where
+    by_test : (q : Bool) → leave_in s a q ≡ IsFull → ⊥
+    by_test false e = cc
+    by_test true e = cc
+
 hear_not_full : (s : State) (notes : List Note) → hear_in s notes ≡ IsFull → ⊥
 hear_not_full s [] e = cc
 hear_not_full s (n ∷ notes) e = cc
@@ -259,6 +297,7 @@ pub full : (s : State) (e : Event) → next s e ≡ IsFull → IsRefusedAsFull s
 full s (Take a) e = absurd (take_not_full s a (seat_at s.actors a) e)
 full s (Go a) e = full_seat s a (seat_at s.actors a) refl e
 full s (Collect a) e = absurd (collect_not_full s a (seat_at s.actors a) e)
+full s (Leave a) e = absurd (leave_not_full s a (seat_at s.actors a) e)
 full s (Block a) e = absurd (block_not_full s a (seat_at s.actors a) e)
 full s Hear e = absurd (hear_not_full s s.notes e)
 full s Scan e = absurd (scan_not_full s s.detector.news e)

@@ -8,7 +8,7 @@ use Rattle.orca_names.specs.Names.{owner_of}
 use Rattle.orca_names.specs.declared.names.Thing.{Thing}
 use Rattle.orca_names.specs.declared.names.Thing.TheVariants.{Actor, Obj}
 use Rattle.event_rule.specs.declared.event.Event.{Event}
-use Rattle.event_rule.specs.declared.event.Event.TheVariants.{Take, Go, Collect, Block, Hear, Scan, Reap}
+use Rattle.event_rule.specs.declared.event.Event.TheVariants.{Take, Go, Collect, Leave, Block, Hear, Scan, Reap}
 use Rattle.reach_walk.specs.Marks.{led_to, marks_of}
 use Rattle.letter_kinds.specs.Counting.{by_owner}
 use Rattle.letter_kinds.specs.Detector.{closed_set}
@@ -21,6 +21,7 @@ use Rattle.machine_rules.specs.Collect.{collect_at, collect_in}
 use Rattle.machine_rules.specs.Detect.{hear_in, reap_found, scan_in}
 use Rattle.machine_rules.specs.Examples.{usual, two_hold_each_other, two_up_to_the_ping, two_to_the_end, TwoHoldEachOtherAndGo, passes_an_object_on, passing_book, AnObjectIsPassedOnAndGoes}
 use Rattle.machine_rules.specs.Go.{go_at, go_in}
+use Rattle.machine_rules.specs.Leave.{leave_at, leave_in}
 use Rattle.machine_rules.specs.Left.{IsLeft}
 use Rattle.machine_rules.specs.Lists.{is_empty}
 use Rattle.machine_rules.specs.Next.{IsQuiet}
@@ -61,10 +62,16 @@ block_still s a None still = refl
 block_still s a (Some o) still =
     λ i. block_in s a o.cell o.mail (is_none (still.0 i) && (is_empty (still.1 i) && not (still.2 i || (still.3 i || o.cell.reported))))
 
+leave_still : (s : State) (a : ℕ) (o : Option Seat) → IsStill o → leave_at s a o ≡ NotEnabled
+leave_still s a None still = refl
+leave_still s a (Some o) still =
+    λ i. leave_in s a ((is_none (still.0 i) && (is_empty (still.1 i) && not (still.2 i || (still.3 i || o.cell.reported)))) && (o.cell.holdings.count == 0))
+
 still_quiet : (s : State) → ((a : ℕ) → IsStill (seat_at s.actors a)) → s.notes ≡ [] → s.detector.tokens ≡ [] → s.detector.news ≡ false → IsQuiet s
 still_quiet s still notes tokens news (Take a) = take_still s a (seat_at s.actors a) (still a)
 still_quiet s still notes tokens news (Go a) = go_still s a (seat_at s.actors a) (still a)
 still_quiet s still notes tokens news (Collect a) = collect_still s a (seat_at s.actors a) (still a)
+still_quiet s still notes tokens news (Leave a) = leave_still s a (seat_at s.actors a) (still a)
 still_quiet s still notes tokens news (Block a) = block_still s a (seat_at s.actors a) (still a)
 still_quiet s still notes tokens news Hear = ap (hear_in s) notes
 still_quiet s still notes tokens news Scan = ap (scan_in s (closed_set s.detector)) news

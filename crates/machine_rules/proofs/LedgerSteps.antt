@@ -1,5 +1,5 @@
 -- The machine on ledgers leads where the machine leads.
-use Rattle.std.proofs.Common.{◌≡◌, ℕ, suc, ◌+◌, Bool, true, false, if◌then◌else◌, List, [], ◌∷◌, ◌++◌, length, set, nat_lt, Option, Some, None, refl, ap, sym, ◌∙◌, subst}
+use Rattle.std.proofs.Common.{◌≡◌, ℕ, suc, ◌==◌, ◌&&◌, ◌+◌, Bool, true, false, if◌then◌else◌, List, [], ◌∷◌, ◌++◌, length, set, nat_lt, Option, Some, None, refl, ap, sym, ◌∙◌, subst}
 use Rattle.std.proofs.lemmas.List.{length-map, map-append}
 use Rattle.std.specs.List.{list_any}
 use Rattle.std.specs.Option.{option_map_or}
@@ -9,7 +9,7 @@ use Rattle.orca_names.specs.declared.names.Thing.TheVariants as things
 use Rattle.orca_names.specs.declared.names.Value.{Value}
 use Rattle.behaviour_code.specs.declared.code.Program.{Program}
 use Rattle.event_rule.specs.declared.event.Event.{Event}
-use Rattle.event_rule.specs.declared.event.Event.TheVariants.{Take, Go, Collect, Block, Hear, Scan, Reap}
+use Rattle.event_rule.specs.declared.event.Event.TheVariants.{Take, Go, Collect, Leave, Block, Hear, Scan, Reap}
 use Rattle.reach_walk.specs.Marks.{load_of, marks_of}
 use Rattle.turn_rules.specs.Segment.{Stop, segment_of}
 use Rattle.turn_rules.specs.declared.act.Act.{Act}
@@ -28,6 +28,7 @@ use Rattle.machine_rules.specs.Cell.{Cell, first_cell, fresh_cell}
 use Rattle.machine_rules.specs.Collect.{collect_at, collect_in, collected, is_marked}
 use Rattle.machine_rules.specs.Detect.{hear_in, scan_in, reap_in, held_outside, reap_found, reaped}
 use Rattle.machine_rules.specs.Go.{act_in, go_at, go_in, load_from, post_or_mint, turn_of_cell, turned}
+use Rattle.machine_rules.specs.Leave.{leave_at, leave_in}
 use Rattle.machine_rules.specs.Next.{next}
 use Rattle.machine_rules.specs.Options.{Options}
 use Rattle.machine_rules.specs.Plain.{stopped_at, with_name}
@@ -393,6 +394,21 @@ found-follows : (b : Page) (found : Option Token) → Follows (reaped_found b fo
 found-follows b None = tt
 found-follows b (Some token) = reap-follows b token (all_acked token)
 
+-- ---- leave
+
+-- whether the actor may leave
+abbrev may_leave_told : Place → Bool
+may_leave_told o = may_block o.cell o.mail && (o.ledger.count == 0)
+
+-- after a leave
+abbrev left_in : Page → ℕ → Bool → Option Page
+left_in b a false = None
+left_in b a true = Some (record b { places = reaped_told (a ∷ []) (a ∷ []) [] b.places })
+
+leave-follows : (b : Page) (a : ℕ) (may : Bool) → Follows (left_in b a may) (leave_in (state_told b) a may)
+leave-follows b a false = tt
+leave-follows b a true = ap (λ actors. Goes (record b.state { actors = actors })) (reaped-told (a ∷ []) (a ∷ []) [] b.places)
+
 -- ---- an event
 
 -- after an event, if it is enabled
@@ -400,6 +416,7 @@ abbrev next_page : Page → Event → Option Page
 next_page b (Take a) = of_place (λ o. taken_in b a o o.cell.frame o.mail) (place_at b.places a)
 next_page b (Go a) = of_place (λ o. gone_in b a o o.cell.frame) (place_at b.places a)
 next_page b (Collect a) = of_place (λ o. collected_in b a o o.cell.frame o.cell.dirty) (place_at b.places a)
+next_page b (Leave a) = of_place (λ o. left_in b a (may_leave_told o)) (place_at b.places a)
 next_page b (Block a) = of_place (λ o. blocked_in b a o (may_block o.cell o.mail)) (place_at b.places a)
 next_page b Hear = heard_in b b.state.notes
 next_page b Scan = scanned_in b (closed_set b.state.detector) b.state.detector.news
@@ -409,6 +426,7 @@ next-follows : (b : Page) (e : Event) → Follows (next_page b e) (next (state_t
 next-follows b (Take a) = place-follows b a _ (take_at (state_told b) a) (λ o. take-follows b a o o.cell.frame o.mail)
 next-follows b (Go a) = place-follows b a _ (go_at (state_told b) a) (λ o. go-follows b a o o.cell.frame)
 next-follows b (Collect a) = place-follows b a _ (collect_at (state_told b) a) (λ o. collect-follows b a o o.cell.frame o.cell.dirty)
+next-follows b (Leave a) = place-follows b a _ (leave_at (state_told b) a) (λ o. leave-follows b a (may_leave_told o))
 next-follows b (Block a) = place-follows b a _ (block_at (state_told b) a) (λ o. block-follows b a o (may_block o.cell o.mail))
 next-follows b Hear = hear-follows b b.state.notes
 next-follows b Scan = scan-follows b (closed_set b.state.detector) b.state.detector.news

@@ -15,6 +15,7 @@ pub mod Global
 pub mod Going
 pub mod InHand
 pub mod Lacking
+pub mod Leaving
 pub mod LedgerSteps
 pub mod Ledgers
 pub mod Living

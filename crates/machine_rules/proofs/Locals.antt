@@ -11,7 +11,7 @@ use Rattle.turn_rules.specs.declared.act.Act.TheVariants.{Post, New, Print, End}
 use Rattle.turn_rules.specs.declared.act.Frame.{Frame}
 use Rattle.turn_rules.specs.Segment.{Stop}
 use Rattle.event_rule.specs.declared.event.Event.{Event}
-use Rattle.event_rule.specs.declared.event.Event.TheVariants.{Take, Go, Collect, Block, Hear, Scan, Reap}
+use Rattle.event_rule.specs.declared.event.Event.TheVariants.{Take, Go, Collect, Leave, Block, Hear, Scan, Reap}
 use Rattle.letter_kinds.specs.declared.letter.Letter.{Letter}
 use Rattle.letter_kinds.specs.declared.letter.Letter.TheVariants.{App, Inc, Dec, Confirm}
 use Rattle.letter_kinds.specs.declared.note.Note.{Note}
@@ -26,6 +26,7 @@ use Rattle.machine_rules.specs.Collect.{collect_at, collect_in, is_marked}
 use Rattle.machine_rules.specs.Detect.{ask_all, hear_in, reap_found, reap_in, scan_in}
 use Rattle.machine_rules.specs.Facts.{Every}
 use Rattle.machine_rules.specs.Go.{act_in, go_at, go_in, load_from, make, post_or_mint, turn_of_cell, turned, with_turn_kept}
+use Rattle.machine_rules.specs.Leave.{leave_at, leave_in, may_leave}
 use Rattle.machine_rules.specs.Next.{next}
 use Rattle.machine_rules.specs.Options.{Options}
 use Rattle.machine_rules.specs.Plain.{stopped_at, with_name}
@@ -159,6 +160,14 @@ module _ (Q : ℕ → Cell → List Letter → Type 0) (local : Local Q) where
   block_seat a None s t at e = not_enabled t e
   block_seat a (Some o) s t at e = on_block a o.cell o.mail (may_block o.cell o.mail) s t refl at e
 
+  leave_seat : (a : ℕ) (o : Option Seat) (s t : State) → leave_at s a o ≡ Goes t → Keeps s t
+  leave_seat a None s t e = not_enabled t e
+  leave_seat a (Some o) s t e = by_test (may_leave o.cell o.mail) e
+    where
+      by_test : (q : Bool) → leave_in s a q ≡ Goes t → Keeps s t
+      by_test false e = not_enabled t e
+      by_test true e = moved s _ t e (every_reap Q (λ things. local.letter (Dec things)) (a ∷ []) (a ∷ []) [] s.actors)
+
   -- ---- the detector
 
   on_hear : (s t : State) (notes : List Note) → hear_in s notes ≡ Goes t → Keeps s t
@@ -183,6 +192,7 @@ module _ (Q : ℕ → Cell → List Letter → Type 0) (local : Local Q) where
   every_next s t (Take a) e = take_seat a (seat_at s.actors a) s t refl e
   every_next s t (Go a) e = go_seat a (seat_at s.actors a) s t refl e
   every_next s t (Collect a) e = collect_seat a (seat_at s.actors a) s t refl e
+  every_next s t (Leave a) e = leave_seat a (seat_at s.actors a) s t e
   every_next s t (Block a) e = block_seat a (seat_at s.actors a) s t refl e
   every_next s t Hear e = on_hear s t s.notes e
   every_next s t Scan e = on_scan s t (closed_set s.detector) s.detector.news e

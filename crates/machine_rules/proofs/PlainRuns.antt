@@ -4,7 +4,7 @@ use Rattle.std.specs.Option.{option_map_or}
 use Rattle.orca_names.specs.declared.names.Value.{Value}
 use Rattle.orca_names.specs.declared.row.Fields.{Fields}
 use Rattle.event_rule.specs.declared.event.Event.{Event}
-use Rattle.event_rule.specs.declared.event.Event.TheVariants.{Take, Go, Collect, Block, Hear, Scan, Reap}
+use Rattle.event_rule.specs.declared.event.Event.TheVariants.{Take, Go, Collect, Leave, Block, Hear, Scan, Reap}
 use Rattle.turn_rules.specs.declared.act.Act.{Act}
 use Rattle.turn_rules.specs.declared.act.Act.TheVariants.{Post, New, Print, End}
 use Rattle.turn_rules.specs.declared.act.Frame.{Frame}
@@ -67,6 +67,7 @@ event_is_next s (Go a) = go_is_next s a
 event_is_next s (Collect a) = tt
 event_is_next s (Block a) = tt
 event_is_next s Hear = tt
+event_is_next s (Leave a) = tt
 event_is_next s Scan = tt
 event_is_next s (Reap token) = tt
 

@@ -72,7 +72,7 @@ unfolding reaped
 agrees_reap ps all [] gs s idle ag = agrees_decs ps gs s ag
 agrees_reap ps all (m ∷ ms) gs s idle ag = agrees_reap ps all ms _ (set s m None) idle.1 (agrees_none ps s m idle.0 ag)
 
-length-reap : (all ms : List ℕ) (gs : List (ℕ × List (Thing × ℕ))) (s : Actors) → length (reaped all ms gs s) ≡ length s
+pub length-reap : (all ms : List ℕ) (gs : List (ℕ × List (Thing × ℕ))) (s : Actors) → length (reaped all ms gs s) ≡ length s
 unfolding reaped
 length-reap all [] gs s = length-decs gs s
 length-reap all (m ∷ ms) gs s = length-reap all ms _ (set s m None) ∙ length-set s m None

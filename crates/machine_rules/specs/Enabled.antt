@@ -1,7 +1,7 @@
 -- When each event is enabled, and when a go is refused because the machine is full.
 use Rattle.std.specs.Prelude.{ℕ, ◌≡◌, ◌≢◌, ◌≤◌, true, false, List, [], length, Some, None}
 use Rattle.event_rule.specs.declared.event.Event.{Event}
-use Rattle.event_rule.specs.declared.event.Event.TheVariants.{Take, Go, Collect, Block, Hear, Scan, Reap}
+use Rattle.event_rule.specs.declared.event.Event.TheVariants.{Take, Go, Collect, Leave, Block, Hear, Scan, Reap}
 use Rattle.turn_rules.specs.declared.act.Act.TheVariants.{New}
 use Rattle.turn_rules.specs.declared.act.Frame.{Frame}
 use Rattle.letter_kinds.specs.Detector.{Token, all_acked, token_numbered}
@@ -26,6 +26,7 @@ abbrev pub CanHappen : State → Event → Type 0
 CanHappen s (Take a) = IsPresentWith s a (λ c mail. (c.frame ≡ None) × (mail ≢ []))
 CanHappen s (Go a) = IsPresentWith s a (λ c mail. c.frame ≢ None)
 CanHappen s (Collect a) = IsPresentWith s a (λ c mail. (c.frame ≡ None) × (c.dirty ≡ true))
+CanHappen s (Leave a) = IsPresentWith s a (λ c mail. MayReport c mail × (c.holdings.count ≡ 0))
 CanHappen s (Block a) = IsPresentWith s a MayReport
 CanHappen s Hear = s.notes ≢ []
 CanHappen s Scan = s.detector.news ≡ true

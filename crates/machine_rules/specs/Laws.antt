@@ -3,7 +3,7 @@
 use Rattle.std.specs.Prelude.{ℕ, ◌<◌, ◌≡◌, ◌↔◌, List}
 use Rattle.behaviour_code.specs.declared.code.Program.{Program}
 use Rattle.event_rule.specs.declared.event.Event.{Event}
-use Rattle.event_rule.specs.declared.event.Event.TheVariants.{Take, Go, Collect}
+use Rattle.event_rule.specs.declared.event.Event.TheVariants.{Take, Go, Collect, Leave}
 use Rattle.machine_rules.specs.Clean.{CleanAreSwept, NoneHoldsItsOwn}
 use Rattle.machine_rules.specs.Enabled.{CanHappen, IsRefusedAsFull}
 use Rattle.machine_rules.specs.Ends.{Ending, EndsAs}
@@ -29,6 +29,9 @@ GoesKeepFacts = (a : ℕ) → KeepsFacts (Go a)
 
 abbrev pub CollectsKeepFacts : Type 0
 CollectsKeepFacts = (a : ℕ) → KeepsFacts (Collect a)
+
+abbrev pub LeavesKeepFacts : Type 0
+LeavesKeepFacts = (a : ℕ) → KeepsFacts (Leave a)
 
 -- at the start and after every event, clean cells are swept
 abbrev pub CleanStaySwept : Type 0

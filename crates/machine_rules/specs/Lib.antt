@@ -13,6 +13,7 @@ pub mod Facts
 pub mod Go
 pub mod Known
 pub mod Laws
+pub mod Leave
 pub mod Left
 pub mod Lists
 pub mod Next

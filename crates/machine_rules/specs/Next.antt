@@ -4,7 +4,7 @@ use Rattle.std.specs.Prelude.{◌≡◌, ◌≢◌, false, List, [], None}
 use Rattle.std.specs.declared.cmp.Ordering.TheVariants.{Greater}
 use Rattle.event_rule.specs.Events.{event_cmp}
 use Rattle.event_rule.specs.declared.event.Event.{Event}
-use Rattle.event_rule.specs.declared.event.Event.TheVariants.{Take, Go, Collect, Block, Hear, Scan, Reap}
+use Rattle.event_rule.specs.declared.event.Event.TheVariants.{Take, Go, Collect, Leave, Block, Hear, Scan, Reap}
 use Rattle.letter_kinds.specs.declared.letter.Letter.{Letter}
 use Rattle.machine_rules.specs.Cell.{Cell}
 use Rattle.machine_rules.specs.State.{State, Step, NotEnabled}
@@ -12,12 +12,14 @@ use Rattle.machine_rules.specs.Take.{take}
 use Rattle.machine_rules.specs.Go.{go}
 use Rattle.machine_rules.specs.Collect.{collect}
 use Rattle.machine_rules.specs.Block.{block}
+use Rattle.machine_rules.specs.Leave.{leave}
 use Rattle.machine_rules.specs.Detect.{hear, scan, reap}
 
 abbrev pub next : State → Event → Step
 next s (Take a) = take s a
 next s (Go a) = go s a
 next s (Collect a) = collect s a
+next s (Leave a) = leave s a
 next s (Block a) = block s a
 next s Hear = hear s
 next s Scan = scan s

@@ -5,7 +5,7 @@ use Rattle.turn_rules.specs.declared.act.Act.{Act}
 use Rattle.turn_rules.specs.declared.act.Act.TheVariants.{Post, New, Print, End}
 use Rattle.turn_rules.specs.declared.act.Frame.{Frame}
 use Rattle.event_rule.specs.declared.event.Event.{Event}
-use Rattle.event_rule.specs.declared.event.Event.TheVariants.{Take, Go, Collect, Block, Hear, Scan, Reap}
+use Rattle.event_rule.specs.declared.event.Event.TheVariants.{Take, Go, Collect, Leave, Block, Hear, Scan, Reap}
 use Rattle.letter_kinds.specs.declared.letter.Letter.{Letter}
 use Rattle.letter_kinds.specs.declared.letter.Letter.TheVariants.{App, Inc, Dec, Confirm}
 use Rattle.letter_kinds.specs.Holdings.{Holdings, with_made}
@@ -64,6 +64,7 @@ abbrev pub is_choice : State → Event → Bool
 is_choice s (Take a) = take_is_choice_at (seat_at s.actors a)
 is_choice s (Go a) = go_is_choice_at s.program a (seat_at s.actors a)
 is_choice s (Collect a) = false
+is_choice s (Leave a) = false
 is_choice s (Block a) = false
 is_choice s Hear = false
 is_choice s Scan = false

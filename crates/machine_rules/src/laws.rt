@@ -1,19 +1,20 @@
 // What the machine that collects keeps beside the machine that frees nothing.
 
-ghost use Rattle.machine_rules.specs.Laws.{StartHasFacts, TakesKeepFacts, GoesKeepFacts, CollectsKeepFacts, CleanStaySwept, NoneGetsItsOwn, RunsLeadToOneState, RunsEndInOneWay, EnabledExactly, FullExactly};
+ghost use Rattle.machine_rules.specs.Laws.{StartHasFacts, TakesKeepFacts, GoesKeepFacts, CollectsKeepFacts, LeavesKeepFacts, CleanStaySwept, NoneGetsItsOwn, RunsLeadToOneState, RunsEndInOneWay, EnabledExactly, FullExactly};
 
 /// Where a run begins, both machines agree, and the counts are kept.
 pub fn the_start_has_the_facts()
     ensures { StartHasFacts }
 {}
 
-/// An actor that takes, goes on or collects keeps the facts, and the machine that frees nothing makes
+/// An actor that takes, goes on, collects or leaves keeps the facts, and the machine that frees nothing makes
 /// each choice of it: a take of an application letter, and a go that does not mint
 /// (Orca, OOPSLA 2017).
 pub fn take_go_and_collect_keep_the_facts()
     ensures take { TakesKeepFacts }
     ensures go { GoesKeepFacts }
     ensures collect { CollectsKeepFacts }
+    ensures leave { LeavesKeepFacts }
 {}
 
 /// An idle actor that did nothing since it collected holds nothing that its fields do not reach, and

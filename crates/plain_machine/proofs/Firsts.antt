@@ -11,7 +11,7 @@ use Rattle.orca_names.specs.declared.names.Value.{Value}
 use Rattle.orca_names.specs.declared.row.Fields.{Fields}
 use Rattle.event_rule.specs.Events.{event_cmp}
 use Rattle.event_rule.specs.declared.event.Event.{Event}
-use Rattle.event_rule.specs.declared.event.Event.TheVariants.{Take, Go, Collect, Block, Hear, Scan, Reap}
+use Rattle.event_rule.specs.declared.event.Event.TheVariants.{Take, Go, Collect, Leave, Block, Hear, Scan, Reap}
 use Rattle.turn_rules.specs.declared.act.Act.{Act}
 use Rattle.turn_rules.specs.declared.act.Act.TheVariants.{Post, New, Print, End}
 use Rattle.turn_rules.specs.declared.act.Frame.{Frame}
@@ -74,6 +74,7 @@ enabled_can_do : (s : PlainState) (e : Event) → IsPlainEnabled s e → CanDo s
 enabled_can_do s (Go a) enabled = going s a enabled
 enabled_can_do s (Take a) enabled = taking s a enabled
 enabled_can_do s (Collect a) enabled = absurd (enabled refl)
+enabled_can_do s (Leave a) enabled = absurd (enabled refl)
 enabled_can_do s (Block a) enabled = absurd (enabled refl)
 enabled_can_do s Hear enabled = absurd (enabled refl)
 enabled_can_do s Scan enabled = absurd (enabled refl)
