@@ -7,13 +7,13 @@ use Rattle.detector_laws.specs.Confirms.{is_confirm, confirms, confirm_count, ha
 
 -- the Confirm of a token is a Confirm
 pub confirms_some : (t : ℕ) (l : Letter) → confirms t l ≡ true → is_confirm l ≡ true
-confirms_some t (App behaviour args load) h = h
+confirms_some t (App behaviour args load rows) h = h
 confirms_some t (Inc things) h = h
 confirms_some t (Dec things) h = h
 confirms_some t (Confirm u) h = refl
 
 confirms_none : (t : ℕ) (l : Letter) → is_confirm l ≡ false → confirms t l ≡ false
-confirms_none t (App behaviour args load) h = refl
+confirms_none t (App behaviour args load rows) h = refl
 confirms_none t (Inc things) h = refl
 confirms_none t (Dec things) h = refl
 confirms_none t (Confirm u) h = absurd (false≢true (sym h))

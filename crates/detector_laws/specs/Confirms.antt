@@ -7,14 +7,14 @@ use Rattle.letter_kinds.specs.declared.letter.Letter.TheVariants.{App, Inc, Dec,
 
 -- a letter of the detector
 abbrev pub is_confirm : Letter → Bool
-is_confirm (App behaviour args load) = false
+is_confirm (App behaviour args load rows) = false
 is_confirm (Inc things) = false
 is_confirm (Dec things) = false
 is_confirm (Confirm token) = true
 
 -- the Confirm of this token
 abbrev pub confirms : ℕ → Letter → Bool
-confirms token (App behaviour args load) = false
+confirms token (App behaviour args load rows) = false
 confirms token (Inc things) = false
 confirms token (Dec things) = false
 confirms token (Confirm other) = other == token

@@ -16,21 +16,21 @@ times_loaded x load = times_among x load
 
 -- the amount by which an Inc raises x
 unfoldable pub inc_of : Thing → Letter → ℕ
-inc_of x (App behaviour args load) = 0
+inc_of x (App behaviour args load rows) = 0
 inc_of x (Inc things) = amount_of x things
 inc_of x (Dec things) = 0
 inc_of x (Confirm token) = 0
 
 -- the amount by which a Dec lowers x
 unfoldable pub dec_of : Thing → Letter → ℕ
-dec_of x (App behaviour args load) = 0
+dec_of x (App behaviour args load rows) = 0
 dec_of x (Inc things) = 0
 dec_of x (Dec things) = amount_of x things
 dec_of x (Confirm token) = 0
 
 -- how often an application letter loads x
 unfoldable pub load_count : Thing → Letter → ℕ
-load_count x (App behaviour args load) = times_loaded x load
+load_count x (App behaviour args load rows) = times_loaded x load
 load_count x (Inc things) = 0
 load_count x (Dec things) = 0
 load_count x (Confirm token) = 0

@@ -4,8 +4,7 @@ use behaviour_code::Name;
 use orca_names::{Args, Row, Thing};
 use plain_list::Listed;
 
-/// All that a letter's arguments reach, in the order of things, each once; an object comes with its
-/// row (Orca, OOPSLA 2017, with deep tracing).
+/// Things, in the order of things, each once; an object may come with its row (Orca, OOPSLA 2017).
 pub type Load = Listed<(Thing, Option<Row>)>;
 
 /// Things, each with an amount by which its count rises or falls.
@@ -14,11 +13,14 @@ pub type Amounts = Listed<(Thing, u64)>;
 /// A letter from one actor to another, or from the detector to an actor.
 #[derive(Debug, Drop)]
 pub enum Letter {
-    /// An application letter: it starts a behaviour, and counts all that its arguments reach.
+    /// An application letter: it starts a behaviour, and counts its load. With deep tracing that is all
+    /// that its arguments reach; with root-only tracing it is what stands in them, and the owners of
+    /// that, and the rows that they reach come uncounted.
     App {
         behaviour: Name,
         args: Args,
         load: Load,
+        rows: Load,
     },
     /// The counts of these things, which the taker owns, rise.
     Inc {

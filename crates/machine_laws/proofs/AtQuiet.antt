@@ -59,7 +59,7 @@ pub quiet_exact : (p : PlainState) (s : State) → AllFacts p s → IsQuiet s �
 quiet_exact p s facts quiet = left_is_exact p s facts.beside facts.clean (quiet_rest s quiet) (all_needed s p facts quiet)
 
 pub exactly_at_quiet : ExactlyAtQuiet
-exactly_at_quiet program options heavy book t run quiet = let facts = run_has_facts program options heavy book t run in (facts.0, facts.1, quiet_exact facts.0 t facts.2 quiet)
+exactly_at_quiet program options heavy deep book t run quiet = let facts = run_has_facts program options heavy deep book t run in (facts.0, facts.1, quiet_exact facts.0 t facts.2 quiet)
 
 -- ---- the detector
 
@@ -90,4 +90,4 @@ module _ (s : State) (p : PlainState) (facts : AllFacts p s) (quiet : IsQuiet s)
   }
 
 pub detector_at_quiet : DetectorRestsAtQuiet
-detector_at_quiet program options heavy book t run quiet = let facts = run_has_facts program options heavy book t run in detector_rests t facts.0 facts.2 quiet
+detector_at_quiet program options heavy deep book t run quiet = let facts = run_has_facts program options heavy deep book t run in detector_rests t facts.0 facts.2 quiet

@@ -36,7 +36,7 @@ sum_list w (x ∷ xs) d h e = omega (arith, shift (length xs) h, e 0, sum_by-con
 
 pub no_amounts : (x : Thing) (ls : List Letter) → OnlyConfirms ls → (sum_by (inc_of x) ls ≡ 0) × (sum_by (dec_of x) ls ≡ 0)
 no_amounts x [] h = (sum-nil (inc_of x), sum-nil (dec_of x))
-no_amounts x (App b vs load ∷ ls) h = absurd (false≢true h.0)
+no_amounts x (App b vs load rows ∷ ls) h = absurd (false≢true h.0)
 no_amounts x (Inc es ∷ ls) h = absurd (false≢true h.0)
 no_amounts x (Dec es ∷ ls) h = absurd (false≢true h.0)
 no_amounts x (Confirm t ∷ ls) h =

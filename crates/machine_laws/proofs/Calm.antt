@@ -58,8 +58,8 @@ module _ (s : State) where
   none_past a past =
       let nobody : seat_at s.actors a ≡ None = get_or_past s.actors a None past in (
         λ k. not_enabled k.0 (sym (ap (take_at s a) nobody) ∙ k.1),
-        λ k. not_enabled k.0 (sym (ap (go_at s a) nobody) ∙ k.1),
-        λ k. not_enabled k.0 (sym (ap (collect_at s a) nobody) ∙ k.1),
+        λ k. not_enabled k.0 (sym (ap (go_at s.options.trace s a) nobody) ∙ k.1),
+        λ k. not_enabled k.0 (sym (ap (collect_at s.options.trace s a) nobody) ∙ k.1),
         λ k. not_enabled k.0 (sym (ap (leave_at s a) nobody) ∙ k.1),
         λ k. not_enabled k.0 (sym (ap (block_at s a) nobody) ∙ k.1),
       )

@@ -15,7 +15,7 @@ use Rattle.machine_laws.specs.Work.{work_left}
 
 pub event_leaves_less : EventsLeaveLess
 event_leaves_less p s t e facts goes calm =
-    let less = leaves_less (length s.actors) s t facts.beside.weight (few_asked s.actors s.detector s.notes facts.detector.rising facts.detector.reports) e goes calm in
+    let less = leaves_less (length s.actors) s t facts.beside.weight facts.beside.deep (few_asked s.actors s.detector s.notes facts.detector.rising facts.detector.reports) e goes calm in
     let after = event_keeps p s t e facts goes in
     let still : p ≡ after.0 = subst (λ choice. PlainFollows choice p e after.0) calm after.1 in
     let long : length t.actors ≡ length s.actors = sym after.2.beside.counts.long ∙ (ap (λ (q : PlainState). length (people_of q.actors)) (sym still) ∙ facts.beside.counts.long) in
@@ -33,6 +33,6 @@ rests (e ∷ later) p s t facts (u, goes, leads) none =
     omega (arith, event_leaves_less p s u e facts goes calm.0, rests later after.0 u t after.2 leads (sym (ap (choices_after (choices later)) goes) ∙ calm.1))
 
 pub rests_between_choices : RestsBetweenChoices
-rests_between_choices program options heavy book later s t run leads none =
-    let facts = run_has_facts program options heavy book s run in
+rests_between_choices program options heavy deep book later s t run leads none =
+    let facts = run_has_facts program options heavy deep book s run in
     rests later facts.0 s t facts.2 leads none

@@ -1,6 +1,7 @@
 -- A run can go on to where only choices are enabled, and is quiet there if the plain machine is.
-use Rattle.std.proofs.Common.{◌≡◌, ℕ, zero, suc, ◌≤◌, nat_lt, Bool, true, false, if◌then◌else◌, List, [], ◌∷◌, length, refl, ap, sym, subst, ◌∙◌, arith, ⊎_elim}
+use Rattle.std.proofs.Common.{◌≡◌, ◌&&◌, ℕ, zero, suc, ◌≤◌, nat_lt, Bool, true, false, if◌then◌else◌, List, [], ◌∷◌, length, refl, ap, sym, subst, ◌∙◌, arith, ⊎_elim}
 use Rattle.std.proofs.lemmas.Bool.{cases_Bool}
+use Rattle.std.specs.Prelude.{is_none}
 use Rattle.event_rule.specs.declared.event.Event.{Event}
 use Rattle.letter_kinds.specs.Holdings.{with_made}
 use Rattle.machine_rules.proofs.Enabling.{full}
@@ -8,6 +9,7 @@ use Rattle.machine_rules.proofs.FollowingGo.{plain_went}
 use Rattle.machine_rules.specs.Enabled.{IsRefusedAsFull}
 use Rattle.machine_rules.specs.Go.{turn_of_cell}
 use Rattle.machine_rules.specs.Next.{IsQuiet, next}
+use Rattle.machine_rules.specs.Options.{Deep}
 use Rattle.machine_rules.specs.Plain.{PlainState, after_act, stopped_at}
 use Rattle.machine_rules.specs.Plain as plain
 use Rattle.machine_rules.specs.PlainRun.{IsPlainQuiet, outcome_of}
@@ -50,8 +52,9 @@ goes_on (suc work) p s facts enough = ⊎_elim
 -- a go that would make an actor too many is a choice
 full_is_choice : (s : State) (e : Event) → IsRefusedAsFull s e → is_choice s e ≡ true
 full_is_choice s e r =
-    ap (is_choice s) r.is_go ∙ (ap (go_is_choice_at s.program r.actor) r.present ∙ (ap (go_is_choice s.program r.actor r.cell) r.framed
-    ∙ ap (act_is_choice r.actor (with_made (turn_of_cell s.program r.actor r.cell r.frame).turn.made r.cell.holdings)) r.makes))
+    ap (is_choice s) r.is_go ∙ (ap (go_is_choice_at s.options.trace s.program r.actor) r.present ∙ (ap (go_is_choice s.options.trace s.program r.actor r.cell) r.framed
+    ∙ (λ i. is_none (r.held i)
+    && act_is_choice s.options.trace r.actor (with_made (turn_of_cell s.options.trace s.program r.actor r.cell r.frame).turn.made r.cell.holdings) (r.makes i))))
 
 waits : (s : State) → ((e : Event) → IsCalm s e → ⊥) → AwaitsChoices s
 waits s none e enabled = by_step (next s e) refl
@@ -66,9 +69,9 @@ waits s none e enabled = by_step (next s e) refl
 -- it could go too, where a go is refused as full
 plain_refused : (p : PlainState) (s : State) (e : Event) → AllFacts p s → IsRefusedAsFull s e → outcome_of p e ≡ plain.NotEnabled → ⊥
 plain_refused p s e facts r off =
-    let stop = turn_of_cell s.program r.actor r.cell r.frame in
+    let stop = turn_of_cell Deep s.program r.actor r.cell r.frame in
     let went = plain_went p s facts.beside r.actor r.cell r.mail r.present r.frame r.framed in
-    let act = ap (after_act p r.actor (stopped_at r.frame stop) stop.turn.fields stop.turn.made) r.makes in
+    let act = ap (after_act p r.actor (stopped_at r.frame stop) stop.turn.fields stop.turn.made) (sym (ap (λ q. (turn_of_cell q s.program r.actor r.cell r.frame).act) facts.beside.deep) ∙ r.makes) in
     not_off _ (nat_lt (length p.actors) 65536) (sym (went ∙ act) ∙ (ap (outcome_of p) (sym r.is_go) ∙ off))
   where
     not_off : (u : PlainState) (room : Bool) → (if room then plain.Goes u else plain.IsFull) ≡ plain.NotEnabled → ⊥
@@ -90,12 +93,12 @@ quiet_too p s facts awaits quiet e = by_step (next s e) refl
 -- ---- the laws
 
 pub runs_can_rest : RunsCanRest
-runs_can_rest program options heavy book s run =
-    let facts = run_has_facts program options heavy book s run in
+runs_can_rest program options heavy deep book s run =
+    let facts = run_has_facts program options heavy deep book s run in
     let (later, last, leads, calm, none) = goes_on (work_left s) facts.0 s facts.2 (omega arith) in
     record { later = later; last = last; leads = leads; calm = calm; waits = waits last none }
 
 pub garbage_is_gone : GarbageIsGone
-garbage_is_gone program options heavy book t run awaits =
-    let facts = run_has_facts program options heavy book t run in
+garbage_is_gone program options heavy deep book t run awaits =
+    let facts = run_has_facts program options heavy deep book t run in
     (facts.0, facts.1, λ quiet. let rest = quiet_too facts.0 t facts.2 awaits quiet in (rest, quiet_exact facts.0 t facts.2 rest))

@@ -109,15 +109,15 @@ module _ (s : Actors) (d : Detector) (ns : List Note) (a : ℕ) (c : Cell) (ls :
       old_one b p e = p (ap cell_of (nobody b e))
 
   -- a letter with a load
-  pub post_moves : (c1 : Cell) → c1.reported ≡ c.reported → ((x : Thing) → held_in c1.holdings x ≡ held_in c.holdings x) → (to h : ℕ) (args : List Value) (load : List (Thing × Option Row))
+  pub post_moves : (c1 : Cell) → c1.reported ≡ c.reported → ((x : Thing) → held_in c1.holdings x ≡ held_in c.holdings x) → (to h : ℕ) (args : List Value) (load rows : List (Thing × Option Row))
       → IsKnown a c1.holdings (Actor to) → ((x : Thing) → 0 < times_loaded x load → IsKnown a c1.holdings x)
-      → Moves (world_of s d ns) a (world_of (post a c1 ls to h args load s) d (noted a c ns))
-  post_moves c1 still same to h args load known_to known =
+      → Moves (world_of s d ns) a (world_of (post a c1 ls to h args load rows s) d (noted a c ns))
+  post_moves c1 still same to h args load rows known_to known =
       let c2 : Cell = record c1 { holdings = send a load c1.holdings } in
       let s1 = set s a (seat c2 ls) in
-      moves s (push_letter to (App h args load) s1) d ns a c c2 ls ls at (adds_push s1 to (App h args load) refl) [] refl (still ∙ awake) (inl running)
-      (λ b n z. ap letters_of (push_other s1 to (App h args load) b (λ e. away b n z (subst (λ (i : ℕ). IsKnown a c1.holdings (Actor i)) (sym e) known_to)) ∙ get_or-set_other s a b (seat c2 ls) None n))
-      (λ b n z u. omega (arith, u, push_loads s1 to (App h args load) (Actor b), same_loads s a c c2 ls at (Actor b), (letter_App (Actor b) h args load).2, unloaded b n z))
+      moves s (push_letter to (App h args load rows) s1) d ns a c c2 ls ls at (adds_push s1 to (App h args load rows) refl) [] refl (still ∙ awake) (inl running)
+      (λ b n z. ap letters_of (push_other s1 to (App h args load rows) b (λ e. away b n z (subst (λ (i : ℕ). IsKnown a c1.holdings (Actor i)) (sym e) known_to)) ∙ get_or-set_other s a b (seat c2 ls) None n))
+      (λ b n z u. omega (arith, u, push_loads s1 to (App h args load rows) (Actor b), same_loads s a c c2 ls at (Actor b), (letter_App (Actor b) h args load rows).2, unloaded b n z))
       (λ b n z u. omega (arith, held-send a (Actor b) load c1.holdings n, same (Actor b), z))
     where
       away : (b : ℕ) → b ≢ a → held_in c.holdings (Actor b) ≡ 0 → IsKnown a c1.holdings (Actor b) → ⊥

@@ -58,7 +58,7 @@ module _ (p : PlainState) (s t : State) (beside : Facts p s) (facts : FactsHold 
 
   blocks : (a : ℕ) (c : Cell) (ls : List Letter) (q : Bool) → seat_at s.actors a ≡ seat c ls → block_in s a c ls q ≡ Goes t → Facts p t
   blocks a c ls false at e = absurd (not_enabled t e)
-  blocks a c ls true at e = arrived _ e (record { counts = block_keeps s.actors a c ls at all people beside.counts; program = beside.program; prints = beside.prints; objects = beside.objects; weight = beside.weight })
+  blocks a c ls true at e = arrived _ e (record { counts = block_keeps s.actors a c ls at all people beside.counts; program = beside.program; prints = beside.prints; objects = beside.objects; weight = beside.weight; deep = beside.deep })
 
   block_seat : (a : ℕ) (o : Option Seat) → seat_at s.actors a ≡ o → block_at s a o ≡ Goes t → Facts p t
   block_seat a None at e = absurd (not_enabled t e)
@@ -71,7 +71,7 @@ module _ (p : PlainState) (s t : State) (beside : Facts p s) (facts : FactsHold 
 
   hears : (ns : List Note) → hear_in s ns ≡ Goes t → Facts p t
   hears [] e = absurd (not_enabled t e)
-  hears (n ∷ ns) e = arrived _ e (record { counts = beside.counts; program = beside.program; prints = beside.prints; objects = beside.objects; weight = beside.weight })
+  hears (n ∷ ns) e = arrived _ e (record { counts = beside.counts; program = beside.program; prints = beside.prints; objects = beside.objects; weight = beside.weight; deep = beside.deep })
 
   pub hear_beside : next s Hear ≡ Goes t → Facts p t
   hear_beside e = hears s.notes e
@@ -80,7 +80,7 @@ module _ (p : PlainState) (s t : State) (beside : Facts p s) (facts : FactsHold 
 
   scans : (news : Bool) → scan_in s (closed_set s.detector) news ≡ Goes t → Facts p t
   scans false e = absurd (not_enabled t e)
-  scans true e = arrived _ e (record { counts = scan_keeps s.actors s.detector s.notes facts.rising facts.reports all people beside.counts; program = beside.program; prints = beside.prints; objects = beside.objects; weight = beside.weight })
+  scans true e = arrived _ e (record { counts = scan_keeps s.actors s.detector s.notes facts.rising facts.reports all people beside.counts; program = beside.program; prints = beside.prints; objects = beside.objects; weight = beside.weight; deep = beside.deep })
 
   pub scan_beside : next s Scan ≡ Goes t → Facts p t
   scan_beside e = scans s.detector.news e
@@ -90,7 +90,7 @@ module _ (p : PlainState) (s t : State) (beside : Facts p s) (facts : FactsHold 
   reaps_one : (number : ℕ) (token : Token) → token_numbered number s.detector ≡ Some token → (q : Bool) → all_acked token ≡ q → reap_in s token q ≡ Goes t → Facts p t
   reaps_one number token at false is e = absurd (not_enabled t e)
   reaps_one number token at true is e =
-      arrived _ e (record { counts = reap_keeps s.actors s.notes token all people beside.counts (token_sealed number token at is); program = beside.program; prints = beside.prints; objects = beside.objects; weight = beside.weight })
+      arrived _ e (record { counts = reap_keeps s.actors s.notes token all people beside.counts (token_sealed number token at is); program = beside.program; prints = beside.prints; objects = beside.objects; weight = beside.weight; deep = beside.deep })
 
   reaps : (number : ℕ) (found : Option Token) → token_numbered number s.detector ≡ found → reap_found s found ≡ Goes t → Facts p t
   reaps number None at e = absurd (not_enabled t e)

@@ -38,6 +38,7 @@ use Rattle.machine_rules.specs.Go.{act_in, go_at, go_in, lacking_from, load_from
 use Rattle.machine_rules.specs.Lists.{is_empty}
 use Rattle.machine_rules.specs.Leave.{leave_at, leave_in, may_leave}
 use Rattle.machine_rules.specs.Next.{next}
+use Rattle.machine_rules.specs.Options.{Deep}
 use Rattle.machine_rules.specs.Plain.{stopped_at}
 use Rattle.machine_rules.specs.Run.{act_is_choice, go_is_choice, go_is_choice_at, is_choice, take_is_choice_at}
 use Rattle.machine_rules.specs.State.{State, Goes}
@@ -93,7 +94,7 @@ module _ (n : ℕ) where
 
   -- ---- one event
 
-  module _ (s t : State) (heavy : 0 < s.options.weight) where
+  module _ (s t : State) (heavy : 0 < s.options.weight) (deep : s.options.trace ≡ Deep) where
     abbrev Less : State → Type 0
     Less u = work_of u < work_of s
 
@@ -130,18 +131,18 @@ module _ (n : ℕ) where
     takes : (a : ℕ) (c : Cell) (f : Option Frame) (ls : List Letter) → seat_at s.actors a ≡ seat c ls → take_is_choice_at (seat c ls) ≡ false → take_in s a c f ls ≡ Goes t → Less t
     takes a c (Some f) ls at calm e = absurd (not_enabled t e)
     takes a c None [] at calm e = absurd (not_enabled t e)
-    takes a c None (App behaviour args load ∷ ls) at calm e = absurd (false≢true (sym calm))
+    takes a c None (App behaviour args load rows ∷ ls) at calm e = absurd (false≢true (sym calm))
     takes a c None (Inc es ∷ ls) at calm e = arrived _ e (counts a c (cell_after s.program a (Inc es) c) (Inc es) ls at refl refl (alike_raise a es c.holdings).foreign refl refl)
     takes a c None (Dec es ∷ ls) at calm e = arrived _ e (counts a c (cell_after s.program a (Dec es) c) (Dec es) ls at refl refl (alike_lower a es c.holdings).foreign refl refl)
     takes a c None (Confirm token ∷ ls) at calm e = arrived _ e (confirm a token c ls at)
 
     -- ---- collect
 
-    collects : (a : ℕ) (c : Cell) (f : Option Frame) (q : Bool) (ls : List Letter) → c.dirty ≡ q → seat_at s.actors a ≡ seat c ls → collect_in s a c f q ls ≡ Goes t → Less t
+    collects : (a : ℕ) (c : Cell) (f : Option Frame) (q : Bool) (ls : List Letter) → c.dirty ≡ q → seat_at s.actors a ≡ seat c ls → collect_in Deep s a c f q ls ≡ Goes t → Less t
     collects a c (Some f) q ls is at e = absurd (not_enabled t e)
     collects a c None false ls is at e = absurd (not_enabled t e)
     collects a c None true ls is at e =
-        let marked = is_marked a c in
+        let marked = is_marked Deep a c in
         let back = given_back marked c.holdings in
         let swept : Cell = record c { holdings = sweep marked a c.holdings; dirty = false } in
         arrived _ e (omega (
@@ -189,23 +190,23 @@ module _ (n : ℕ) where
         let minted : Cell = record c { holdings = mint_all things c.holdings } in
         omega (arith, table, push-work n owner (Inc things) (set s.actors a (seat minted ls)), set-work n s.actors a (seat minted ls) (present_below s.actors a _ at), ap (seat_work n) at)
 
-    posts : (a : ℕ) (c : Cell) (ls : List Letter) (stop : Stop) → seat_at s.actors a ≡ seat c ls → (after : Cell) (to behaviour : ℕ) (args : List Value) (load lack : List Loaded) → lacking a (with_made stop.turn.made c.holdings) load ≡ lack
-        → is_empty lack ≡ false → Less (post_or_mint s a c after ls stop to behaviour args load lack)
-    posts a c ls stop at after to behaviour args load [] lacks some = absurd (false≢true (sym some))
-    posts a c ls stop at after to behaviour args load (e ∷ es) lacks some = mints a c ls stop at load e es lacks
+    posts : (a : ℕ) (c : Cell) (ls : List Letter) (stop : Stop) → seat_at s.actors a ≡ seat c ls → (after : Cell) (to behaviour : ℕ) (args : List Value) (load rows lack : List Loaded) → lacking a (with_made stop.turn.made c.holdings) load ≡ lack
+        → is_empty lack ≡ false → Less (post_or_mint s a c after ls stop to behaviour args load rows lack)
+    posts a c ls stop at after to behaviour args load rows [] lacks some = absurd (false≢true (sym some))
+    posts a c ls stop at after to behaviour args load rows (e ∷ es) lacks some = mints a c ls stop at load e es lacks
 
-    acts : (a : ℕ) (c : Cell) (ls : List Letter) (f : Frame) (stop : Stop) → seat_at s.actors a ≡ seat c ls → (act : Act) → act_is_choice a (with_made stop.turn.made c.holdings) act ≡ false
-        → act_in s a c ls f stop act ≡ Goes t → Less t
+    acts : (a : ℕ) (c : Cell) (ls : List Letter) (f : Frame) (stop : Stop) → seat_at s.actors a ≡ seat c ls → (act : Act) → act_is_choice Deep a (with_made stop.turn.made c.holdings) act ≡ false
+        → act_in Deep s a c ls f stop act ≡ Goes t → Less t
     acts a c ls f stop at End calm e = absurd (false≢true (sym calm))
     acts a c ls f stop at (Print v) calm e = absurd (false≢true (sym calm))
     acts a c ls f stop at (New kind register) calm e = absurd (false≢true (sym calm))
     acts a c ls f stop at (Post to behaviour args) calm e =
         let h = with_made stop.turn.made c.holdings in
-        arrived _ e (posts a c ls stop at (turned stop (Some f) c.dirty c) to behaviour args (load_from a h args) (lacking_from a h args) refl calm)
+        arrived _ e (posts a c ls stop at (turned stop (Some f) c.dirty c) to behaviour args (load_from Deep a h args) [] (lacking_from Deep a h args) refl calm)
 
-    goes : (a : ℕ) (c : Cell) (f : Option Frame) (ls : List Letter) → seat_at s.actors a ≡ seat c ls → go_is_choice s.program a c f ≡ false → go_in s a c f ls ≡ Goes t → Less t
+    goes : (a : ℕ) (c : Cell) (f : Option Frame) (ls : List Letter) → seat_at s.actors a ≡ seat c ls → go_is_choice Deep s.program a c f ≡ false → go_in Deep s a c f ls ≡ Goes t → Less t
     goes a c None ls at calm e = absurd (not_enabled t e)
-    goes a c (Some f) ls at calm e = let stop = turn_of_cell s.program a c f in acts a c ls (stopped_at f stop) stop at stop.act calm e
+    goes a c (Some f) ls at calm e = let stop = turn_of_cell Deep s.program a c f in acts a c ls (stopped_at f stop) stop at stop.act calm e
 
     -- ---- the detector's events
 
@@ -243,14 +244,14 @@ module _ (n : ℕ) where
         by_seat : (o : Option Seat) → seat_at s.actors a ≡ o → take_at s a o ≡ Goes t → take_is_choice_at o ≡ false → Less t
         by_seat None at e calm = absurd (not_enabled t e)
         by_seat (Some o) at e calm = takes a o.cell o.cell.frame o.mail at calm e
-    leaves_less few (Go a) e calm = by_seat (seat_at s.actors a) refl e calm
+    leaves_less few (Go a) e calm = by_seat (seat_at s.actors a) refl (sym (ap (λ q. go_at q s a (seat_at s.actors a)) deep) ∙ e) (sym (ap (λ q. go_is_choice_at q s.program a (seat_at s.actors a)) deep) ∙ calm)
       where
-        by_seat : (o : Option Seat) → seat_at s.actors a ≡ o → go_at s a o ≡ Goes t → go_is_choice_at s.program a o ≡ false → Less t
+        by_seat : (o : Option Seat) → seat_at s.actors a ≡ o → go_at Deep s a o ≡ Goes t → go_is_choice_at Deep s.program a o ≡ false → Less t
         by_seat None at e calm = absurd (not_enabled t e)
         by_seat (Some o) at e calm = goes a o.cell o.cell.frame o.mail at calm e
-    leaves_less few (Collect a) e calm = by_seat (seat_at s.actors a) refl e
+    leaves_less few (Collect a) e calm = by_seat (seat_at s.actors a) refl (sym (ap (λ q. collect_at q s a (seat_at s.actors a)) deep) ∙ e)
       where
-        by_seat : (o : Option Seat) → seat_at s.actors a ≡ o → collect_at s a o ≡ Goes t → Less t
+        by_seat : (o : Option Seat) → seat_at s.actors a ≡ o → collect_at Deep s a o ≡ Goes t → Less t
         by_seat None at e = absurd (not_enabled t e)
         by_seat (Some o) at e = collects a o.cell o.cell.frame o.cell.dirty o.mail refl at e
     leaves_less few (Leave a) e calm = by_seat (seat_at s.actors a) refl e

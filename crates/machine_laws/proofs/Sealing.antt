@@ -30,7 +30,7 @@ use Rattle.detector_laws.specs.Tokens.{IsSealed}
 
 only : (ls : List Letter) → OnlyConfirms ls → (app_letters ls ≡ []) × ((x : Thing) → sum_by (load_count x) ls ≡ 0)
 only [] h = (refl, λ x. sum-nil (load_count x))
-only (App b args load ∷ ls) h = absurd (false≢true h.0)
+only (App b args load rows ∷ ls) h = absurd (false≢true h.0)
 only (Inc es ∷ ls) h = absurd (false≢true h.0)
 only (Dec es ∷ ls) h = absurd (false≢true h.0)
 only (Confirm t ∷ ls) h = let rest = only ls h.1 in (rest.0, λ x. omega (arith, sum_by-cons (load_count x) (Confirm t) ls, rest.1 x, (letter_Confirm x t).2))

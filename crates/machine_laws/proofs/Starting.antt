@@ -24,7 +24,7 @@ module _ (program : Program) (options : Options) where
   unasked : (a : ℕ) → NoConfirms (mail_at actors a)
   unasked zero = by_name (start_name program)
     where
-      by_name : (found : Option ℕ) → NoConfirms ((option_map_or (λ name. App name [] [] ∷ []) found []))
+      by_name : (found : Option ℕ) → NoConfirms ((option_map_or (λ name. App name [] [] [] ∷ []) found []))
       by_name None = tt
       by_name (Some name) = (refl, tt)
   unasked (suc a) = tt

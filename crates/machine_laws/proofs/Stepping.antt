@@ -37,6 +37,7 @@ use Rattle.machine_rules.specs.Go.{act_in, go_at, go_in, load_from, make, post_o
 use Rattle.machine_rules.specs.Known.{IsClosedAt}
 use Rattle.machine_rules.specs.Leave.{leave_at, leave_in, may_leave}
 use Rattle.machine_rules.specs.Next.{next}
+use Rattle.machine_rules.specs.Options.{Deep}
 use Rattle.machine_rules.specs.Plain.{PlainState, plain_row, stopped_at, with_name}
 use Rattle.machine_rules.specs.State.{State, Goes}
 use Rattle.machine_rules.specs.Take.{take_at, take_in}
@@ -96,7 +97,7 @@ module _ (p : PlainState) (s t : State) (beside : Facts p s) (facts : FactsHold 
   takes : (a : ℕ) (c : Cell) (f : Option Frame) (ls : List Letter) → seat_at s.actors a ≡ seat c ls → take_in s a c f ls ≡ Goes t → StepsTo t
   takes a c (Some f) ls at e = absurd (not_enabled t e)
   takes a c None [] at e = absurd (not_enabled t e)
-  takes a c None (App h args load ∷ ls) at e = arrived _ e (MovesOne (take_moves s.program s.actors s.detector s.notes a c (App h args load) ls at refl))
+  takes a c None (App h args load rows ∷ ls) at e = arrived _ e (MovesOne (take_moves s.program s.actors s.detector s.notes a c (App h args load rows) ls at refl))
   takes a c None (Inc es ∷ ls) at e = arrived _ e (MovesOne (take_moves s.program s.actors s.detector s.notes a c (Inc es) ls at refl))
   takes a c None (Dec es ∷ ls) at e = arrived _ e (MovesOne (take_moves s.program s.actors s.detector s.notes a c (Dec es) ls at refl))
   takes a c None (Confirm n ∷ ls) at e =
@@ -104,18 +105,18 @@ module _ (p : PlainState) (s t : State) (beside : Facts p s) (facts : FactsHold 
 
   -- ---- collect
 
-  collects : (a : ℕ) (c : Cell) (f : Option Frame) (q : Bool) (ls : List Letter) → c.dirty ≡ q → seat_at s.actors a ≡ seat c ls → collect_in s a c f q ls ≡ Goes t → StepsTo t
+  collects : (a : ℕ) (c : Cell) (f : Option Frame) (q : Bool) (ls : List Letter) → c.dirty ≡ q → seat_at s.actors a ≡ seat c ls → collect_in Deep s a c f q ls ≡ Goes t → StepsTo t
   collects a c (Some f) q ls is at e = absurd (not_enabled t e)
   collects a c None false ls is at e = absurd (not_enabled t e)
   collects a c None true ls is at e =
       let up = awake a c ls at (inr is) in
-      arrived _ e (unnoted a c _ up (collect_moves (is_marked a c) all s.actors s.detector s.notes a c ls at is up (firm_at a c ls at) (closed_at a c ls at)))
+      arrived _ e (unnoted a c _ up (collect_moves (is_marked Deep a c) all s.actors s.detector s.notes a c ls at is up (firm_at a c ls at) (closed_at a c ls at)))
 
   -- ---- go
 
   module _ (a : ℕ) (c : Cell) (ls : List Letter) (at : seat_at s.actors a ≡ seat c ls) (f : Frame) (frame : c.frame ≡ Some f) where
     abbrev stop : Stop
-    stop = turn_of_cell s.program a c f
+    stop = turn_of_cell Deep s.program a c f
 
     abbrev stopped : Frame
     stopped = stopped_at f stop
@@ -129,15 +130,15 @@ module _ (p : PlainState) (s t : State) (beside : Facts p s) (facts : FactsHold 
     running : is_some c.frame ≡ true
     running = ap is_some frame
 
-    posts : (to behaviour : ℕ) (args : List Value) → stop.act ≡ Post to behaviour args → (lack : List Loaded) → lacking a after.holdings (load_from a after.holdings args) ≡ lack
-        → StepsTo (post_or_mint s a c after ls stop to behaviour args (load_from a after.holdings args) lack)
+    posts : (to behaviour : ℕ) (args : List Value) → stop.act ≡ Post to behaviour args → (lack : List Loaded) → lacking a after.holdings (load_from Deep a after.holdings args) ≡ lack
+        → StepsTo (post_or_mint s a c after ls stop to behaviour args (load_from Deep a after.holdings args) [] lack)
     posts to behaviour args is [] l =
-        unnoted a c _ up (post_moves s.actors s.detector s.notes a c ls at running up after refl (held_made stop.turn.made c.holdings) to behaviour args (load_from a after.holdings args)
+        unnoted a c _ up (post_moves s.actors s.detector s.notes a c ls at running up after refl (held_made stop.turn.made c.holdings) to behaviour args (load_from Deep a after.holdings args) []
         (target_known p s beside a c ls at f frame to behaviour args is) (load_known p s beside a c ls at f frame to behaviour args is))
     posts to behaviour args is (e ∷ es) l =
         unnoted a c _ up (mint_moves s.actors s.detector s.notes a c ls at running up all (closed_at a c ls at) (owner_of e.0) (to_mint s.options.weight (owner_of e.0) (e ∷ es))
         (λ x some.
-        let theirs = to_mint_theirs s.options.weight a (owner_of e.0) after.holdings (load_from a after.holdings args) x (subst (λ q. 0 < amount_of x (to_mint s.options.weight (owner_of e.0) q)) (sym l) some) in
+        let theirs = to_mint_theirs s.options.weight a (owner_of e.0) after.holdings (load_from Deep a after.holdings args) x (subst (λ q. 0 < amount_of x (to_mint s.options.weight (owner_of e.0) q)) (sym l) some) in
         subst (λ n. 0 < n) (held_made stop.turn.made c.holdings x) theirs.1)
         e.0 refl (first_minted s.options.weight beside.weight e es))
 
@@ -147,15 +148,15 @@ module _ (p : PlainState) (s t : State) (beside : Facts p s) (facts : FactsHold 
         unnoted a c _ up (make_moves s.actors s.detector s.notes a c ls at running up s.options.weight (turned stop (Some (with_name stopped into (length s.actors))) c.dirty c) refl (held_made stop.turn.made c.holdings)
         fresh refl (fresh_held s.options.weight fresh.holdings (refl, (λ k. m.get-empty nat_cmp k), (λ y. m.get-empty thing_cmp y))))
 
-    acts : (act : Act) → stop.act ≡ act → act_in s a c ls stopped stop act ≡ Goes t → StepsTo t
+    acts : (act : Act) → stop.act ≡ act → act_in Deep s a c ls stopped stop act ≡ Goes t → StepsTo t
     acts (Print v) is e = arrived _ e (unnoted a c _ up (turn_moves s.actors s.detector s.notes a c ls at running up stop (Some stopped) c.dirty))
     acts End is e = arrived _ e (unnoted a c _ up (turn_moves s.actors s.detector s.notes a c ls at running up stop None true))
     acts (New kind into) is e = arrived _ (goes_if _ t (nat_lt (length s.actors) 65536) e) (makes kind into)
-    acts (Post to behaviour args) is e = arrived _ e (posts to behaviour args is (lacking a after.holdings (load_from a after.holdings args)) refl)
+    acts (Post to behaviour args) is e = arrived _ e (posts to behaviour args is (lacking a after.holdings (load_from Deep a after.holdings args)) refl)
 
-  goes : (a : ℕ) (c : Cell) (f : Option Frame) (ls : List Letter) → c.frame ≡ f → seat_at s.actors a ≡ seat c ls → go_in s a c f ls ≡ Goes t → StepsTo t
+  goes : (a : ℕ) (c : Cell) (f : Option Frame) (ls : List Letter) → c.frame ≡ f → seat_at s.actors a ≡ seat c ls → go_in Deep s a c f ls ≡ Goes t → StepsTo t
   goes a c None ls is at e = absurd (not_enabled t e)
-  goes a c (Some f) ls is at e = acts a c ls at f is (turn_of_cell s.program a c f).act refl e
+  goes a c (Some f) ls is at e = acts a c ls at f is (turn_of_cell Deep s.program a c f).act refl e
 
   -- ---- block
 
@@ -202,14 +203,14 @@ module _ (p : PlainState) (s t : State) (beside : Facts p s) (facts : FactsHold 
       seat_takes : (o : Option Seat) → seat_at s.actors a ≡ o → take_at s a o ≡ Goes t → StepsTo t
       seat_takes None at e = absurd (not_enabled t e)
       seat_takes (Some o) at e = takes a o.cell o.cell.frame o.mail at e
-  next_steps (Go a) e = seat_goes (seat_at s.actors a) refl e
+  next_steps (Go a) e = seat_goes (seat_at s.actors a) refl (sym (ap (λ q. go_at q s a (seat_at s.actors a)) beside.deep) ∙ e)
     where
-      seat_goes : (o : Option Seat) → seat_at s.actors a ≡ o → go_at s a o ≡ Goes t → StepsTo t
+      seat_goes : (o : Option Seat) → seat_at s.actors a ≡ o → go_at Deep s a o ≡ Goes t → StepsTo t
       seat_goes None at e = absurd (not_enabled t e)
       seat_goes (Some o) at e = goes a o.cell o.cell.frame o.mail refl at e
-  next_steps (Collect a) e = seat_collects (seat_at s.actors a) refl e
+  next_steps (Collect a) e = seat_collects (seat_at s.actors a) refl (sym (ap (λ q. collect_at q s a (seat_at s.actors a)) beside.deep) ∙ e)
     where
-      seat_collects : (o : Option Seat) → seat_at s.actors a ≡ o → collect_at s a o ≡ Goes t → StepsTo t
+      seat_collects : (o : Option Seat) → seat_at s.actors a ≡ o → collect_at Deep s a o ≡ Goes t → StepsTo t
       seat_collects None at e = absurd (not_enabled t e)
       seat_collects (Some o) at e = collects a o.cell o.cell.frame o.cell.dirty o.mail refl at e
   next_steps (Leave a) e = seat_leaves (seat_at s.actors a) refl e

@@ -47,8 +47,8 @@ module _ (program : Program) (s : Actors) (d : Detector) (ns : List Note) (a : �
 
 module _ (program : Program) (s : Actors) (d : Detector) (ns : List Note) (a : ℕ) (c : Cell) where
   pub take_moves : (l : Letter) (ls : List Letter) → seat_at s a ≡ seat c (l ∷ ls) → is_confirm l ≡ false → Moves (world_of s d ns) a (world_of (take_letter program a c l ls s) d (noted a c ns))
-  take_moves (App h args load) ls at o = took program s d ns a c (App h args load) ls at (cell_after program a (App h args load) c) refl refl
-      (λ b n. omega (arith, held-receive a (Actor b) load c.holdings n, (letter_App (Actor b) h args load).2))
+  take_moves (App h args load rows) ls at o = took program s d ns a c (App h args load rows) ls at (cell_after program a (App h args load rows) c) refl refl
+      (λ b n. omega (arith, held-receive a (Actor b) load c.holdings n, (letter_App (Actor b) h args load rows).2))
   take_moves (Inc es) ls at o = took program s d ns a c (Inc es) ls at (cell_after program a (Inc es) c) refl refl
       (λ b n. omega (arith, held-raise_all a (Actor b) es c.holdings))
   take_moves (Dec es) ls at o = took program s d ns a c (Dec es) ls at (cell_after program a (Dec es) c) refl refl

@@ -17,7 +17,7 @@ use Rattle.machine_rules.proofs.Starting as starting
 use Rattle.machine_rules.specs.Agreement.{people_of}
 use Rattle.machine_rules.specs.Left.{IsLeft}
 use Rattle.machine_rules.specs.Next.{next}
-use Rattle.machine_rules.specs.Options.{Options}
+use Rattle.machine_rules.specs.Options.{Deep, Options}
 use Rattle.machine_rules.specs.Plain.{PlainState, plain_row, start_of}
 use Rattle.machine_rules.specs.PlainReach.{IsReachable}
 use Rattle.machine_rules.specs.Run.{IsRun, Leads, PlainFollows, PlainLeads, choices, choices_after, is_choice}
@@ -28,8 +28,8 @@ use Rattle.machine_laws.specs.AllFacts.{AllFacts}
 use Rattle.machine_laws.specs.Laws.{EventsKeepAllFacts, IsNeverTooEarly, NeverTooEarly, RunsHaveAllFacts, StartHasAllFacts}
 
 pub start_all : StartHasAllFacts
-start_all program options heavy = record {
-  beside = starting.start_facts program options heavy;
+start_all program options heavy deep = record {
+  beside = starting.start_facts program options heavy deep;
   own = no_self-first program options;
   clean = clean-first program options;
   detector = start_detects program options;
@@ -56,7 +56,7 @@ event_keeps p s t e facts goes =
       record {
         beside = beside.2;
         own = no_self-next s t e goes facts.own;
-        clean = clean-next s t e goes facts.clean;
+        clean = clean-next s t e facts.beside.deep goes facts.clean;
         detector = next_keeps p s t facts.beside facts.detector facts.own e goes;
       },
     )
@@ -81,7 +81,7 @@ leads_on (e ∷ book) p s t facts leads =
     subst (λ (step : Step). Arrives p (if is_choice s e then e ∷ choices_after (choices book) step else choices_after (choices book) step) t) (sym goes) one
 
 pub run_has_facts : RunsHaveAllFacts
-run_has_facts program options heavy book t run = leads_on book (start_of program) (first_state program options) t (start_all program options heavy) run
+run_has_facts program options heavy deep book t run = leads_on book (start_of program) (first_state program options) t (start_all program options heavy deep) run
 
 -- ---- prefixes
 
@@ -94,9 +94,9 @@ reachable_left p s facts x r =
     let counts = facts.beside.counts in
     lives_left (thing_row (plain_row p.actors)) (people_of p.actors) s.actors (in_hand s.actors counts.balanced) counts.prefixes counts.sound counts.agrees x (reachable_lives p r)
 
-never_early : (program : Program) (options : Options) → 0 < options.weight → (book : List Event) (s : State) → IsRun program options book s → IsNeverTooEarly program options book s
-never_early program options heavy book s run =
-    let facts = run_has_facts program options heavy book s run in
+never_early : (program : Program) (options : Options) → 0 < options.weight → options.trace ≡ Deep → (book : List Event) (s : State) → IsRun program options book s → IsNeverTooEarly program options book s
+never_early program options heavy deep book s run =
+    let facts = run_has_facts program options heavy deep book s run in
     record {
       plain = facts.0;
       follows = facts.1;
@@ -109,4 +109,4 @@ never_early program options heavy book s run =
     }
 
 pub never_too_early : NeverTooEarly
-never_too_early program options heavy book later t run = let u = prefix_leads book later (first_state program options) t run in (u.0, u.1, never_early program options heavy book u.0 u.1)
+never_too_early program options heavy deep book later t run = let u = prefix_leads book later (first_state program options) t run in (u.0, u.1, never_early program options heavy deep book u.0 u.1)

@@ -11,7 +11,7 @@ use Rattle.machine_rules.specs.Balance.{IsBalanced, NeverOverdraws}
 use Rattle.machine_rules.specs.Cell.{Cell}
 use Rattle.machine_rules.specs.Left.{IsFreed, IsLeft, NamesNothingFreed}
 use Rattle.machine_rules.specs.Next.{IsEnabled, IsQuiet, next}
-use Rattle.machine_rules.specs.Options.{Options}
+use Rattle.machine_rules.specs.Options.{Deep, Options}
 use Rattle.machine_rules.specs.Plain.{PlainState, start_of}
 use Rattle.machine_rules.specs.PlainReach.{IsReachable}
 use Rattle.machine_rules.specs.PlainRun.{IsPlainQuiet}
@@ -24,7 +24,7 @@ use Rattle.machine_laws.specs.Work.{work_left}
 -- ---- the facts hold
 
 abbrev pub StartHasAllFacts : Type 0
-StartHasAllFacts = (program : Program) (options : Options) → 0 < options.weight → AllFacts (start_of program) (first_state program options)
+StartHasAllFacts = (program : Program) (options : Options) → 0 < options.weight → options.trace ≡ Deep → AllFacts (start_of program) (first_state program options)
 
 -- each event keeps all facts together
 abbrev pub EventsKeepAllFacts : Type 0
@@ -33,7 +33,7 @@ EventsKeepAllFacts = (p : PlainState) (s t : State) (e : Event) → AllFacts p s
 
 -- so they hold after each run
 abbrev pub RunsHaveAllFacts : Type 0
-RunsHaveAllFacts = (program : Program) (options : Options) → 0 < options.weight → (book : List Event) (t : State) → IsRun program options book t →
+RunsHaveAllFacts = (program : Program) (options : Options) → 0 < options.weight → options.trace ≡ Deep → (book : List Event) (t : State) → IsRun program options book t →
     (p : PlainState) × IsPlainBeside program options book p × AllFacts p t
 
 -- ---- never too early
@@ -54,14 +54,14 @@ pub record IsNeverTooEarly (program : Program) (options : Options) (book : List 
 
 -- each prefix of a run is a run, and it is never too early
 abbrev pub NeverTooEarly : Type 0
-NeverTooEarly = (program : Program) (options : Options) → 0 < options.weight → (book later : List Event) (t : State) → IsRun program options (book ++ later) t →
+NeverTooEarly = (program : Program) (options : Options) → 0 < options.weight → options.trace ≡ Deep → (book later : List Event) (t : State) → IsRun program options (book ++ later) t →
     (s : State) × IsRun program options book s × IsNeverTooEarly program options book s
 
 -- ---- at quiet
 
 -- where no event is enabled, exactly what is reachable is left, cycles of actors and objects included
 abbrev pub ExactlyAtQuiet : Type 0
-ExactlyAtQuiet = (program : Program) (options : Options) → 0 < options.weight → (book : List Event) (t : State) → IsRun program options book t → IsQuiet t →
+ExactlyAtQuiet = (program : Program) (options : Options) → 0 < options.weight → options.trace ≡ Deep → (book : List Event) (t : State) → IsRun program options book t → IsQuiet t →
     (p : PlainState) × IsPlainBeside program options book p × ((x : Thing) → IsLeft t.actors x ↔ IsReachable p x)
 
 -- nothing is on its way to the detector, no token is open, and of each actor that is present and not
@@ -74,7 +74,7 @@ pub record DetectorRests (s : State) : Type 0 where
       (r : Report) × (report_of s.detector.kept a ≡ Some r) × IsReportOf a c r
 
 abbrev pub DetectorRestsAtQuiet : Type 0
-DetectorRestsAtQuiet = (program : Program) (options : Options) → 0 < options.weight → (book : List Event) (t : State) → IsRun program options book t → IsQuiet t → DetectorRests t
+DetectorRestsAtQuiet = (program : Program) (options : Options) → 0 < options.weight → options.trace ≡ Deep → (book : List Event) (t : State) → IsRun program options book t → IsQuiet t → DetectorRests t
 
 -- ---- the machine comes to rest
 
@@ -84,7 +84,7 @@ EventsLeaveLess = (p : PlainState) (s t : State) (e : Event) → AllFacts p s �
 
 -- so, after each prefix of a run, no more events follow without a choice than there is work left
 abbrev pub RestsBetweenChoices : Type 0
-RestsBetweenChoices = (program : Program) (options : Options) → 0 < options.weight → (book later : List Event) (s t : State) → IsRun program options book s → Leads s later t → choices later s ≡ [] →
+RestsBetweenChoices = (program : Program) (options : Options) → 0 < options.weight → options.trace ≡ Deep → (book later : List Event) (s t : State) → IsRun program options book s → Leads s later t → choices later s ≡ [] →
     length later + work_left t ≤ work_left s
 
 -- whatever is enabled is a choice
@@ -101,10 +101,10 @@ pub record CanRest (s : State) : Type 0 where
 
 -- each run can go on so
 abbrev pub RunsCanRest : Type 0
-RunsCanRest = (program : Program) (options : Options) → 0 < options.weight → (book : List Event) (s : State) → IsRun program options book s → CanRest s
+RunsCanRest = (program : Program) (options : Options) → 0 < options.weight → options.trace ≡ Deep → (book : List Event) (s : State) → IsRun program options book s → CanRest s
 
 -- where only choices are enabled, and the machine that frees nothing is quiet, nothing is enabled, and
 -- exactly what is reachable is left
 abbrev pub GarbageIsGone : Type 0
-GarbageIsGone = (program : Program) (options : Options) → 0 < options.weight → (book : List Event) (t : State) → IsRun program options book t → AwaitsChoices t →
+GarbageIsGone = (program : Program) (options : Options) → 0 < options.weight → options.trace ≡ Deep → (book : List Event) (t : State) → IsRun program options book t → AwaitsChoices t →
     (p : PlainState) × IsPlainBeside program options book p × (IsPlainQuiet p → IsQuiet t × ((x : Thing) → IsLeft t.actors x ↔ IsReachable p x))

@@ -34,7 +34,7 @@ count_work n = 3 + news_work n + silence_work n
 
 -- a Confirm is answered by an Ack; the take of an application letter is a choice
 abbrev pub letter_work : ℕ → Letter → ℕ
-letter_work n (App behaviour args load) = 0
+letter_work n (App behaviour args load rows) = 0
 letter_work n (Inc things) = count_work n
 letter_work n (Dec things) = count_work n
 letter_work n (Confirm token) = 2

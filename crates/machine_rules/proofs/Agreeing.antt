@@ -53,7 +53,7 @@ agrees_same ps s a c c' ls ls' at alike ag =
 
 app_more : (ls : List Letter) (l : Letter) → app_letters (ls ++ l ∷ []) ≡ app_letters ls ++ app_letters (l ∷ [])
 app_more [] l = refl
-app_more (App b args load ∷ ls) l = ap (λ r. record { behaviour = b; args = args } ∷ r) (app_more ls l)
+app_more (App b args load rows ∷ ls) l = ap (λ r. record { behaviour = b; args = args } ∷ r) (app_more ls l)
 app_more (Inc es ∷ ls) l = app_more ls l
 app_more (Dec es ∷ ls) l = app_more ls l
 app_more (Confirm t ∷ ls) l = app_more ls l
@@ -61,14 +61,14 @@ app_more (Confirm t ∷ ls) l = app_more ls l
 abbrev pub with_letter : ℕ → List Value → Person → Person
 with_letter b args p = record p { letters = p.letters ++ record { behaviour = b; args = args } ∷ [] }
 
-pub agrees_push_app : (ps : List Person) (s : Actors) (to b : ℕ) (args : List Value) (load : List (Thing × Option Row)) (o : Seat) → seat_at s to ≡ Some o → to < length ps → Agrees ps s
-    → Agrees (set ps to (with_letter b args (person_at ps to))) (push_letter to (App b args load) s)
-agrees_push_app ps s to b args load o at within ag =
+pub agrees_push_app : (ps : List Person) (s : Actors) (to b : ℕ) (args : List Value) (load rows : List (Thing × Option Row)) (o : Seat) → seat_at s to ≡ Some o → to < length ps → Agrees ps s
+    → Agrees (set ps to (with_letter b args (person_at ps to))) (push_letter to (App b args load rows) s)
+agrees_push_app ps s to b args load rows o at within ag =
     let e = ag.present to o.cell o.mail at in
-    let m = app_more o.mail (App b args load) in
-    rw (push_is s to (App b args load) o at, e)
-    (subst (λ ls. Agrees (set ps to (record (person_of o.cell o.mail) { letters = ls })) (set s to (seat o.cell (o.mail ++ App b args load ∷ [])))) m
-    (agrees_set ps s to o.cell o.cell o.mail (o.mail ++ App b args load ∷ []) at within ag))
+    let m = app_more o.mail (App b args load rows) in
+    rw (push_is s to (App b args load rows) o at, e)
+    (subst (λ ls. Agrees (set ps to (record (person_of o.cell o.mail) { letters = ls })) (set s to (seat o.cell (o.mail ++ App b args load rows ∷ [])))) m
+    (agrees_set ps s to o.cell o.cell o.mail (o.mail ++ App b args load rows ∷ []) at within ag))
 
 append_none : {A : Type 0} (xs : List A) → xs ++ [] ≡ xs
 append_none [] = refl

@@ -25,7 +25,7 @@ use Rattle.machine_rules.specs.Clean.{IsInReach, IsSweptAt, IsCleanAt, CleanAreS
 use Rattle.machine_rules.specs.Collect.{is_marked}
 use Rattle.machine_rules.specs.Known.{row_at}
 use Rattle.machine_rules.specs.Next.{next}
-use Rattle.machine_rules.specs.Options.{Options}
+use Rattle.machine_rules.specs.Options.{Deep, Options}
 use Rattle.machine_rules.specs.State.{State, Goes, first_state}
 use Rattle.machine_rules.specs.Take.{cell_after}
 
@@ -114,18 +114,18 @@ told_swept me c q = record { foreign = q.foreign; own = q.own }
 -- ---- all events
 
 took : (program : Program) (a : ℕ) (c : Cell) (l : Letter) (mail : List Letter) → IsCleanAt a c mail → IsCleanAt a (cell_after program a l c) mail
-took program a c (App behaviour args load) mail q = dirty a (cell_after program a (App behaviour args load) c) mail refl
+took program a c (App behaviour args load rows) mail q = dirty a (cell_after program a (App behaviour args load rows) c) mail refl
 took program a c (Inc things) mail q = dirty a (cell_after program a (Inc things) c) mail refl
 took program a c (Dec things) mail q = dirty a (cell_after program a (Dec things) c) mail refl
 took program a c (Confirm token) mail q = q
 
-pub clean_local : Local IsCleanAt
+pub clean_local : Local Deep IsCleanAt
 clean_local = record {
   start = λ program idle d. bare_swept program 0 0 0;
   fresh = λ weight program a kind idle d. bare_swept program a kind weight;
   letter = λ l a c mail q. q;
   take = λ program a c l mail idle q. took program a c l mail q;
-  collect = λ a c mail idle d q i e. sweep_swept (is_marked a c) a c (marked_reached a c) (reached_marked a c);
+  collect = λ a c mail idle d q i e. sweep_swept (is_marked Deep a c) a c (marked_reached a c) (reached_marked a c);
   block = λ a c mail may q idle d. told_swept a c (q idle d);
   turn = λ program a c mail f is q. busy a _ mail _ refl;
   end = λ program a c mail f is q. dirty a _ mail refl;
@@ -135,7 +135,7 @@ clean_local = record {
 }
 
 pub clean-first : (program : Program) (options : Options) → CleanAreSwept (first_state program options).actors
-clean-first program options = every_first IsCleanAt clean_local program options
+clean-first program options = every_first Deep IsCleanAt clean_local program options
 
-pub clean-next : (s t : State) (e : Event) → next s e ≡ Goes t → CleanAreSwept s.actors → CleanAreSwept t.actors
-clean-next s t e now h = every_next IsCleanAt clean_local s t e now h
+pub clean-next : (s t : State) (e : Event) → s.options.trace ≡ Deep → next s e ≡ Goes t → CleanAreSwept s.actors → CleanAreSwept t.actors
+clean-next s t e deep now h = every_next Deep IsCleanAt clean_local s t e deep now h

@@ -2,6 +2,7 @@
 use Rattle.std.proofs.Common.{◌≡◌, ◌≢◌, ◌≤◌, ◌||◌, ◌&&◌, not, ℕ, nat_lt, Bool, true, false, Option, Some, None, is_none, List, [], ◌∷◌, length, lt-ltb, ltb-true, eq-eqb, eqb-true, ◌==◌, refl, sym, ◌∙◌, ap, arith, ⊎_elim}
 use Rattle.std.specs.Prelude.{if◌then◌else◌}
 use Rattle.std.proofs.lemmas.Bool.{and_parts, cases_lt}
+use Rattle.orca_names.specs.declared.names.Thing.{Thing}
 use Rattle.event_rule.specs.declared.event.Event.{Event}
 use Rattle.event_rule.specs.declared.event.Event.TheVariants.{Take, Go, Collect, Leave, Block, Hear, Scan, Reap}
 use Rattle.turn_rules.specs.Segment.{Stop}
@@ -17,11 +18,12 @@ use Rattle.machine_rules.specs.Cell.{Cell}
 use Rattle.machine_rules.specs.Collect.{collect_at, collect_in}
 use Rattle.machine_rules.specs.Detect.{hear_in, reap_found, reap_in, scan_in}
 use Rattle.machine_rules.specs.Enabled.{CanHappen, IsPresentWith, IsRefusedAsFull, MayReport}
-use Rattle.machine_rules.specs.Go.{act_in, go_at, go_in, turn_of_cell}
+use Rattle.machine_rules.specs.Go.{act_in, go_at, go_in, needed, needing, turn_of_cell}
 use Rattle.machine_rules.specs.Laws.{EnabledExactly, FullExactly}
 use Rattle.machine_rules.specs.Leave.{leave_at, leave_in, may_leave}
 use Rattle.machine_rules.specs.Lists.{is_empty}
 use Rattle.machine_rules.specs.Next.{next}
+use Rattle.machine_rules.specs.Options.{Trace}
 use Rattle.machine_rules.specs.Plain.{stopped_at}
 use Rattle.machine_rules.specs.State.{State, NotEnabled, IsFull, Goes}
 use Rattle.machine_rules.specs.Take.{take_at, take_in}
@@ -52,15 +54,15 @@ module _ (s : State) (a : ℕ) where
       by_frame None [] on = absurd (on refl)
       by_frame None (l ∷ ls) on = (refl, λ e. cc)
 
-  can_go : (o : Option Seat) → seat_at s.actors a ≡ o → go_at s a o ≢ NotEnabled → IsPresentWith s a (λ c mail. c.frame ≢ None)
+  can_go : (o : Option Seat) → seat_at s.actors a ≡ o → go_at s.options.trace s a o ≢ NotEnabled → IsPresentWith s a (λ c mail. c.frame ≢ None)
   can_go None at on = absurd (on refl)
-  can_go (Some o) at on = (o.cell, o.mail, at, λ idle. on (ap (λ f. go_in s a o.cell f o.mail) idle))
+  can_go (Some o) at on = (o.cell, o.mail, at, λ idle. on (ap (λ f. go_in s.options.trace s a o.cell f o.mail) idle))
 
-  can_collect : (o : Option Seat) → seat_at s.actors a ≡ o → collect_at s a o ≢ NotEnabled → IsPresentWith s a (λ c mail. (c.frame ≡ None) × (c.dirty ≡ true))
+  can_collect : (o : Option Seat) → seat_at s.actors a ≡ o → collect_at s.options.trace s a o ≢ NotEnabled → IsPresentWith s a (λ c mail. (c.frame ≡ None) × (c.dirty ≡ true))
   can_collect None at on = absurd (on refl)
   can_collect (Some o) at on = (o.cell, o.mail, at, by_frame o.cell.frame o.cell.dirty on)
     where
-      by_frame : (f : Option Frame) (dirty : Bool) → collect_in s a o.cell f dirty o.mail ≢ NotEnabled → (f ≡ None) × (dirty ≡ true)
+      by_frame : (f : Option Frame) (dirty : Bool) → collect_in s.options.trace s a o.cell f dirty o.mail ≢ NotEnabled → (f ≡ None) × (dirty ≡ true)
       by_frame (Some f) dirty on = absurd (on refl)
       by_frame None false on = absurd (on refl)
       by_frame None true on = (refl, refl)
@@ -118,11 +120,11 @@ room_enables : (t : State) (room : Bool) → (if room then Goes t else IsFull) �
 room_enables t true e = cc
 room_enables t false e = cc
 
-act_enables : (s : State) (a : ℕ) (c : Cell) (mail : List Letter) (f : Frame) (stop : Stop) (act : Act) → act_in s a c mail f stop act ≡ NotEnabled → ⊥
-act_enables s a c mail f stop End e = cc
-act_enables s a c mail f stop (Print v) e = cc
-act_enables s a c mail f stop (New kind register) e = room_enables _ (nat_lt (length s.actors) 65536) e
-act_enables s a c mail f stop (Post to behaviour args) e = cc
+act_enables : (trace : Trace) (s : State) (a : ℕ) (c : Cell) (mail : List Letter) (f : Frame) (stop : Stop) (act : Act) → act_in trace s a c mail f stop act ≡ NotEnabled → ⊥
+act_enables trace s a c mail f stop End e = cc
+act_enables trace s a c mail f stop (Print v) e = cc
+act_enables trace s a c mail f stop (New kind register) e = room_enables _ (nat_lt (length s.actors) 65536) e
+act_enables trace s a c mail f stop (Post to behaviour args) e = cc
 
 module _ (s : State) (a : ℕ) (c : Cell) (mail : List Letter) (at : seat_at s.actors a ≡ seat c mail) where
   takes : (f : Option Frame) (ls : List Letter) → f ≡ None → ls ≢ [] → take_in s a c f ls ≡ NotEnabled → ⊥
@@ -130,11 +132,15 @@ module _ (s : State) (a : ℕ) (c : Cell) (mail : List Letter) (at : seat_at s.a
   takes None [] idle some e = some refl
   takes None (l ∷ ls) idle some e = cc
 
-  goes_on : (f : Option Frame) → f ≢ None → go_in s a c f mail ≡ NotEnabled → ⊥
+  goes_on : (f : Option Frame) → f ≢ None → go_in s.options.trace s a c f mail ≡ NotEnabled → ⊥
   goes_on None framed e = framed refl
-  goes_on (Some f) framed e = let stop = turn_of_cell s.program a c f in act_enables s a c mail (stopped_at f stop) stop stop.act e
+  goes_on (Some f) framed e = by_need (needed s.options.trace s.program a c f) e
+    where
+      by_need : (need : Option Thing) → needing s a c mail need (act_in s.options.trace s a c mail (stopped_at f (turn_of_cell s.options.trace s.program a c f)) (turn_of_cell s.options.trace s.program a c f) (turn_of_cell s.options.trace s.program a c f).act) ≡ NotEnabled → ⊥
+      by_need None e = let stop = turn_of_cell s.options.trace s.program a c f in act_enables s.options.trace s a c mail (stopped_at f stop) stop stop.act e
+      by_need (Some x) e = cc
 
-  collects : (f : Option Frame) (dirty : Bool) → f ≡ None → dirty ≡ true → collect_in s a c f dirty mail ≡ NotEnabled → ⊥
+  collects : (f : Option Frame) (dirty : Bool) → f ≡ None → dirty ≡ true → collect_in s.options.trace s a c f dirty mail ≡ NotEnabled → ⊥
   collects (Some f) dirty idle did e = cc
   collects None false idle did e = cc
   collects None true idle did e = cc
@@ -170,8 +176,8 @@ reaps s t true is e = cc
 
 pub enabled : (s : State) (e : Event) → CanHappen s e → next s e ≢ NotEnabled
 enabled s (Take a) (c, mail, at, both) off = takes s a c mail at c.frame mail both.0 both.1 (sym (ap (take_at s a) at) ∙ off)
-enabled s (Go a) (c, mail, at, framed) off = goes_on s a c mail at c.frame framed (sym (ap (go_at s a) at) ∙ off)
-enabled s (Collect a) (c, mail, at, both) off = collects s a c mail at c.frame c.dirty both.0 both.1 (sym (ap (collect_at s a) at) ∙ off)
+enabled s (Go a) (c, mail, at, framed) off = goes_on s a c mail at c.frame framed (sym (ap (go_at s.options.trace s a) at) ∙ off)
+enabled s (Collect a) (c, mail, at, both) off = collects s a c mail at c.frame c.dirty both.0 both.1 (sym (ap (collect_at s.options.trace s a) at) ∙ off)
 enabled s (Leave a) (c, mail, at, (able, none)) off =
     leaves s a (may_leave c mail)
     (and_true (may_block c mail) (c.holdings.count == 0)
@@ -211,12 +217,12 @@ no_room t n from = by_room (nat_lt n 65536) refl
     by_room false e = refl
 
 module _ (s : State) (a : ℕ) (c : Cell) (mail : List Letter) (at : seat_at s.actors a ≡ seat c mail) where
-  full_act : (f : Frame) (act : Act) → c.frame ≡ Some f → (turn_of_cell s.program a c f).act ≡ act
-      → act_in s a c mail (stopped_at f (turn_of_cell s.program a c f)) (turn_of_cell s.program a c f) act ≡ IsFull → IsRefusedAsFull s (Go a)
-  full_act f End framed is e = cc
-  full_act f (Print v) framed is e = cc
-  full_act f (Post to behaviour args) framed is e = cc
-  full_act f (New kind register) framed is e = record {
+  full_act : (f : Frame) (act : Act) → c.frame ≡ Some f → needed s.options.trace s.program a c f ≡ None → (turn_of_cell s.options.trace s.program a c f).act ≡ act
+      → act_in s.options.trace s a c mail (stopped_at f (turn_of_cell s.options.trace s.program a c f)) (turn_of_cell s.options.trace s.program a c f) act ≡ IsFull → IsRefusedAsFull s (Go a)
+  full_act f End framed held is e = cc
+  full_act f (Print v) framed held is e = cc
+  full_act f (Post to behaviour args) framed held is e = cc
+  full_act f (New kind register) framed held is e = record {
     actor = a;
     is_go = refl;
     cell = c;
@@ -224,22 +230,30 @@ module _ (s : State) (a : ℕ) (c : Cell) (mail : List Letter) (at : seat_at s.a
     present = at;
     frame = f;
     framed = framed;
+    held = held;
     kind = kind;
     register = register;
     makes = is;
     made = room_left _ (length s.actors) e;
   }
 
-  full_go : (f : Option Frame) → c.frame ≡ f → go_in s a c f mail ≡ IsFull → IsRefusedAsFull s (Go a)
+  full_go : (f : Option Frame) → c.frame ≡ f → go_in s.options.trace s a c f mail ≡ IsFull → IsRefusedAsFull s (Go a)
   full_go None framed e = cc
-  full_go (Some f) framed e = full_act f (turn_of_cell s.program a c f).act framed refl e
+  full_go (Some f) framed e = by_need (needed s.options.trace s.program a c f) refl e
+    where
+      by_need : (need : Option Thing) → needed s.options.trace s.program a c f ≡ need
+          → needing s a c mail need (act_in s.options.trace s a c mail (stopped_at f (turn_of_cell s.options.trace s.program a c f)) (turn_of_cell s.options.trace s.program a c f) (turn_of_cell s.options.trace s.program a c f).act) ≡ IsFull → IsRefusedAsFull s (Go a)
+      by_need None is e = full_act f (turn_of_cell s.options.trace s.program a c f).act framed is refl e
+      by_need (Some x) is e = cc
 
-  refused : (f : Frame) (kind register : ℕ) → c.frame ≡ Some f → (turn_of_cell s.program a c f).act ≡ New kind register → 65536 ≤ length s.actors → go_in s a c c.frame mail ≡ IsFull
-  refused f kind register framed makes from =
-      let stop = turn_of_cell s.program a c f in
-      ap (λ g. go_in s a c g mail) framed ∙ ap (act_in s a c mail (stopped_at f stop) stop) makes ∙ no_room _ (length s.actors) from
+  refused : (f : Frame) (kind register : ℕ) → c.frame ≡ Some f → needed s.options.trace s.program a c f ≡ None → (turn_of_cell s.options.trace s.program a c f).act ≡ New kind register → 65536 ≤ length s.actors → go_in s.options.trace s a c c.frame mail ≡ IsFull
+  refused f kind register framed held makes from =
+      let stop = turn_of_cell s.options.trace s.program a c f in
+      ap (λ g. go_in s.options.trace s a c g mail) framed
+      ∙ ap (λ need. needing s a c mail need (act_in s.options.trace s a c mail (stopped_at f stop) stop stop.act)) held
+      ∙ ap (act_in s.options.trace s a c mail (stopped_at f stop) stop) makes ∙ no_room _ (length s.actors) from
 
-full_seat : (s : State) (a : ℕ) (o : Option Seat) → seat_at s.actors a ≡ o → go_at s a o ≡ IsFull → IsRefusedAsFull s (Go a)
+full_seat : (s : State) (a : ℕ) (o : Option Seat) → seat_at s.actors a ≡ o → go_at s.options.trace s a o ≡ IsFull → IsRefusedAsFull s (Go a)
 full_seat s a None at e = cc
 full_seat s a (Some o) at e = full_go s a o.cell o.mail at o.cell.frame refl e
 
@@ -252,11 +266,11 @@ take_not_full s a (Some o) e = by_frame o.cell.frame o.mail e
     by_frame None [] e = cc
     by_frame None (l ∷ mail) e = cc
 
-collect_not_full : (s : State) (a : ℕ) (o : Option Seat) → collect_at s a o ≡ IsFull → ⊥
+collect_not_full : (s : State) (a : ℕ) (o : Option Seat) → collect_at s.options.trace s a o ≡ IsFull → ⊥
 collect_not_full s a None e = cc
 collect_not_full s a (Some o) e = by_frame o.cell.frame o.cell.dirty e
   where
-    by_frame : (f : Option Frame) (dirty : Bool) → collect_in s a o.cell f dirty o.mail ≡ IsFull → ⊥
+    by_frame : (f : Option Frame) (dirty : Bool) → collect_in s.options.trace s a o.cell f dirty o.mail ≡ IsFull → ⊥
     by_frame (Some f) dirty e = cc
     by_frame None false e = cc
     by_frame None true e = cc
@@ -305,7 +319,7 @@ full s (Reap token) e = absurd (reap_not_full s (token_numbered token s.detector
 
 is_full : (s : State) (e : Event) → IsRefusedAsFull s e → next s e ≡ IsFull
 is_full s e r =
-    ap (next s) r.is_go ∙ ap (go_at s r.actor) r.present ∙ refused s r.actor r.cell r.mail r.present r.frame r.kind r.register r.framed r.makes r.made
+    ap (next s) r.is_go ∙ ap (go_at s.options.trace s r.actor) r.present ∙ refused s r.actor r.cell r.mail r.present r.frame r.kind r.register r.framed r.held r.makes r.made
 
 pub full_exactly : FullExactly
 full_exactly s e = (full s e, is_full s e)

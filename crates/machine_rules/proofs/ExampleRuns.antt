@@ -49,13 +49,13 @@ take_still : (s : State) (a : ℕ) (o : Option Seat) → IsStill o → take_at s
 take_still s a None still = refl
 take_still s a (Some o) still = λ i. take_in s a o.cell (still.0 i) (still.1 i)
 
-go_still : (s : State) (a : ℕ) (o : Option Seat) → IsStill o → go_at s a o ≡ NotEnabled
+go_still : (s : State) (a : ℕ) (o : Option Seat) → IsStill o → go_at s.options.trace s a o ≡ NotEnabled
 go_still s a None still = refl
-go_still s a (Some o) still = λ i. go_in s a o.cell (still.0 i) o.mail
+go_still s a (Some o) still = λ i. go_in s.options.trace s a o.cell (still.0 i) o.mail
 
-collect_still : (s : State) (a : ℕ) (o : Option Seat) → IsStill o → collect_at s a o ≡ NotEnabled
+collect_still : (s : State) (a : ℕ) (o : Option Seat) → IsStill o → collect_at s.options.trace s a o ≡ NotEnabled
 collect_still s a None still = refl
-collect_still s a (Some o) still = λ i. collect_in s a o.cell (still.0 i) (still.2 i) o.mail
+collect_still s a (Some o) still = λ i. collect_in s.options.trace s a o.cell (still.0 i) (still.2 i) o.mail
 
 block_still : (s : State) (a : ℕ) (o : Option Seat) → IsStill o → block_at s a o ≡ NotEnabled
 block_still s a None still = refl

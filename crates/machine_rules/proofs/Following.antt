@@ -55,28 +55,29 @@ module _ (p : PlainState) (s : State) (facts : Facts p s) (a : ℕ) (c : Cell) (
   all = thing_row (plain_row p.actors)
 
   -- an application letter
-  app_follows : (b : ℕ) (args : List Value) (load : List Loaded) (ls : List Letter) (notes : List Note) → seat_at s.actors a ≡ seat c (App b args load ∷ ls)
-      → Follows true (plain_take p a) p (record s { actors = take_letter s.program a c (App b args load) ls s.actors; notes = notes })
-  app_follows b args load ls notes at = (
+  app_follows : (b : ℕ) (args : List Value) (load rows : List Loaded) (ls : List Letter) (notes : List Note) → seat_at s.actors a ≡ seat c (App b args load rows ∷ ls)
+      → Follows true (plain_take p a) p (record s { actors = take_letter s.program a c (App b args load rows) ls s.actors; notes = notes })
+  app_follows b args load rows ls notes at = (
     next_state p (set p.actors a y) p.prints,
     took p a x letter (app_letters ls) beside.there (ap (λ (q : Person). q.frame) beside.same ∙ idle) (ap (λ (q : Person). q.letters) beside.same),
     record {
       counts = same_rows all (thing_row (plain_row (set p.actors a y))) (people_of (set p.actors a y)) _ (rows_kept p.actors a x beside.there y refl)
-          (subst (λ people. KeepsCounts all people (take_letter s.program a c (App b args load) ls s.actors))
+          (subst (λ people. KeepsCounts all people (take_letter s.program a c (App b args load rows) ls s.actors))
           (ap (set (people_of p.actors) a) (sym same) ∙ sym (people-set p.actors a y))
-          (take_keeps_counts s.program all (people_of p.actors) s.actors facts.counts a c (App b args load) ls at));
+          (take_keeps_counts s.program all (people_of p.actors) s.actors facts.counts a c (App b args load rows) ls at));
       program = facts.program;
       prints = facts.prints;
       objects = objects_kept p.actors a x beside.there y refl ∙ facts.objects;
       weight = facts.weight;
+      deep = facts.deep;
     },
   )
     where
       letter : PlainLetter
       letter = record { behaviour = b; args = args }
 
-      beside : StandsAt p.actors a (person_of c (App b args load ∷ ls))
-      beside = stands_beside all p.actors s.actors facts.counts a c (App b args load ∷ ls) at
+      beside : StandsAt p.actors a (person_of c (App b args load rows ∷ ls))
+      beside = stands_beside all p.actors s.actors facts.counts a c (App b args load rows ∷ ls) at
 
       x : PlainActor
       x = beside.actor
@@ -84,22 +85,22 @@ module _ (p : PlainState) (s : State) (facts : Facts p s) (a : ℕ) (c : Cell) (
       y : PlainActor
       y = record x { frame = frame_of p.program x.kind letter; letters = app_letters ls }
 
-      same : person_of_plain y ≡ person_of (cell_after s.program a (App b args load) c) ls
+      same : person_of_plain y ≡ person_of (cell_after s.program a (App b args load rows) c) ls
       same =
           let kind = ap (λ (q : Person). q.kind) beside.same in
-          same_person (person_of_plain y) (person_of (cell_after s.program a (App b args load) c) ls) kind (ap (λ (q : Person). q.fields) beside.same)
+          same_person (person_of_plain y) (person_of (cell_after s.program a (App b args load rows) c) ls) kind (ap (λ (q : Person). q.fields) beside.same)
           ((λ i. frame_of (facts.program i) (kind i) letter)) refl
           (ap (λ (q : Person). q.serial) beside.same ∙ sym (next_receive a load c.holdings))
 
   -- another letter
   stays : (l : Letter) (ls : List Letter) (notes : List Note) → KeepsCounts all (people_of p.actors) (take_letter s.program a c l ls s.actors)
       → Facts p (record s { actors = take_letter s.program a c l ls s.actors; notes = notes })
-  stays l ls notes counts = record { counts = counts; program = facts.program; prints = facts.prints; objects = facts.objects; weight = facts.weight }
+  stays l ls notes counts = record { counts = counts; program = facts.program; prints = facts.prints; objects = facts.objects; weight = facts.weight; deep = facts.deep }
 
   pub take_follows : (f : Option Frame) (ls : List Letter) (t : State) → c.frame ≡ f → seat_at s.actors a ≡ seat c ls → take_in s a c f ls ≡ Goes t → Follows (starts_with_app ls) (plain_take p a) p t
   take_follows (Some f) ls t is at e = cc
   take_follows None [] t is at e = cc
-  take_follows None (App b args load ∷ ls) t is at e = follows_on true (plain_take p a) p _ t e (app_follows b args load ls _ at)
+  take_follows None (App b args load rows ∷ ls) t is at e = follows_on true (plain_take p a) p _ t e (app_follows b args load rows ls _ at)
   take_follows None (Inc es ∷ ls) t is at e = follows_on false (plain_take p a) p _ t e (stays (Inc es) ls _ (take_keeps_counts s.program all (people_of p.actors) s.actors facts.counts a c (Inc es) ls at))
   take_follows None (Dec es ∷ ls) t is at e = follows_on false (plain_take p a) p _ t e (stays (Dec es) ls _ (take_keeps_counts s.program all (people_of p.actors) s.actors facts.counts a c (Dec es) ls at))
   take_follows None (Confirm k ∷ ls) t is at e = follows_on false (plain_take p a) p _ t e (stays (Confirm k) ls _ (take_keeps_counts s.program all (people_of p.actors) s.actors facts.counts a c (Confirm k) ls at))

@@ -41,6 +41,7 @@ use Rattle.machine_rules.specs.Agreement.{Person, people_of, person_at, person_o
 use Rattle.machine_rules.specs.Cell.{Cell, fresh_cell}
 use Rattle.machine_rules.specs.Facts.{Facts, KeepsCounts}
 use Rattle.machine_rules.specs.Go.{act_in, go_in, load_from, make, mint, post, post_or_mint, turn_of_cell, turned, with_turn_kept}
+use Rattle.machine_rules.specs.Options.{Deep}
 use Rattle.machine_rules.specs.Known.{InFrame, IsKnown, IsLoadOf, Names, Roots, in_fields, in_frame, in_table}
 use Rattle.machine_rules.specs.Lists.{is_empty}
 use Rattle.machine_rules.specs.Plain.{PlainState, after_act, after_turn, fresh_actor, next_state, objects_made, plain_go, plain_row, stopped_at, turn_of_actor, with_name, with_turn}
@@ -86,7 +87,7 @@ module _ (p : PlainState) (s : State) (facts : Facts p s) (a : ℕ) (c : Cell) (
   all = thing_row (plain_row p.actors)
 
   abbrev stop : Stop
-  stop = turn_of_cell s.program a c f
+  stop = turn_of_cell Deep s.program a c f
 
   abbrev stopped : Frame
   stopped = stopped_at f stop
@@ -155,7 +156,7 @@ module _ (p : PlainState) (s : State) (facts : Facts p s) (a : ℕ) (c : Cell) (
       (record (with_turn_kept s stop (set s.actors a (seat (turned stop nf nd c) ls))) { prints = s.prints ++ printed })
   turn_follows nf nd printed names =
       subst (λ actors. Facts (next_state p actors (p.prints ++ printed)) (record (with_turn_kept s stop (set s.actors a (seat (turned stop nf nd c) ls))) { prints = s.prints ++ printed })) (sym (turned_actors nf))
-      (record { counts = beside_kept nf nd names; program = facts.program; prints = ap (λ vs. vs ++ printed) facts.prints; objects = objects_more nf; weight = facts.weight })
+      (record { counts = beside_kept nf nd names; program = facts.program; prints = ap (λ vs. vs ++ printed) facts.prints; objects = objects_more nf; weight = facts.weight; deep = facts.deep })
 
   -- ---- one actor more
 
@@ -224,13 +225,14 @@ module _ (p : PlainState) (s : State) (facts : Facts p s) (a : ℕ) (c : Cell) (
         prints = facts.prints;
         objects = objects_pushed actors mine refl ∙ objects_more nf;
         weight = facts.weight;
+      deep = facts.deep;
       })
 
   -- ---- a letter
 
   module _ (to b : ℕ) (args : List Value) (act : stop.act ≡ Post to b args) where
     abbrev load : List Loaded
-    load = load_from a c1.holdings args
+    load = load_from Deep a c1.holdings args
 
     exact1 : IsLoadOf all' args load
     unfolding turn after
@@ -253,14 +255,14 @@ module _ (p : PlainState) (s : State) (facts : Facts p s) (a : ℕ) (c : Cell) (
     abbrev turned_people : List Person
     turned_people = set (people_of p.actors) a (person_of c1 ls)
 
-    posted_kept : lacking a c1.holdings load ≡ [] → KeepsCounts all' (set turned_people to (with_letter b args (person_at turned_people to))) (post a c1 ls to b args load s.actors)
+    posted_kept : lacking a c1.holdings load ≡ [] → KeepsCounts all' (set turned_people to (with_letter b args (person_at turned_people to))) (post a c1 ls to b args load [] s.actors)
     posted_kept full =
-        let one = post_keeps_counts all' turned_people s1 kept1 a c1 ls at1 to b args load exact1 (load_from-once a c1.holdings args) load_known target_known full in
+        let one = post_keeps_counts all' turned_people s1 kept1 a c1 ls at1 to b args load [] exact1 (load_from-once a c1.holdings args) load_known target_known full in
         let same : set turned_people a (person_of sender ls) ≡ turned_people =
         set-set (people_of p.actors) a (person_of c1 ls) (person_of sender ls) ∙ ap (set (people_of p.actors) a) (ap (λ next. record (person_of c1 ls) { serial = next }) (next_send a load c1.holdings)) in
-        let two : KeepsCounts all' (set turned_people to (with_letter b args (person_at turned_people to))) (post a c1 ls to b args load s1) =
-        subst (λ people. KeepsCounts all' (set people to (with_letter b args (person_at people to))) (post a c1 ls to b args load s1)) same one in
-        subst (λ actors. KeepsCounts all' (set turned_people to (with_letter b args (person_at turned_people to))) (push_letter to (App b args load) actors)) (set-set s.actors a (seat c1 ls) (seat sender ls)) two
+        let two : KeepsCounts all' (set turned_people to (with_letter b args (person_at turned_people to))) (post a c1 ls to b args load [] s1) =
+        subst (λ people. KeepsCounts all' (set people to (with_letter b args (person_at people to))) (post a c1 ls to b args load [] s1)) same one in
+        subst (λ actors. KeepsCounts all' (set turned_people to (with_letter b args (person_at turned_people to))) (push_letter to (App b args load []) actors)) (set-set s.actors a (seat c1 ls) (seat sender ls)) two
 
     -- the actor that gets the letter
     receiver : StandsAt (set p.actors a (y (Some stopped))) to (person_at (people_of (set p.actors a (y (Some stopped)))) to)
@@ -278,7 +280,7 @@ module _ (p : PlainState) (s : State) (facts : Facts p s) (a : ℕ) (c : Cell) (
 
     post_follows : lacking a c1.holdings load ≡ []
         → Facts (next_state p (plain.with_letter (with_turn p.actors a (Some stopped) stop.turn.fields stop.turn.made) to letter) p.prints)
-        (with_turn_kept s stop (post a c1 ls to b args load s.actors))
+        (with_turn_kept s stop (post a c1 ls to b args load [] s.actors))
     post_follows full =
         let actors = set p.actors a (y (Some stopped)) in
         let plain_actors : plain.with_letter (with_turn p.actors a (Some stopped) stop.turn.fields stop.turn.made) to letter ≡ set actors to lettered =
@@ -288,14 +290,15 @@ module _ (p : PlainState) (s : State) (facts : Facts p s) (a : ℕ) (c : Cell) (
         let people : people_of (set actors to lettered) ≡ set turned_people to (with_letter b args (person_at turned_people to)) =
         people-set actors to lettered ∙ ap (λ q. set (people_of actors) to (with_letter b args q)) receiver.same ∙ ap (λ ps. set ps to (with_letter b args (person_at ps to))) ours in
         let rows : (z : Thing) → all' z ≡ thing_row (plain_row (set actors to lettered)) z = λ z. rows_of (Some stopped) z ∙ rows_kept actors to receiver.actor receiver.there lettered refl z in
-        subst (λ xs. Facts (next_state p xs p.prints) (with_turn_kept s stop (post a c1 ls to b args load s.actors))) (sym plain_actors)
+        subst (λ xs. Facts (next_state p xs p.prints) (with_turn_kept s stop (post a c1 ls to b args load [] s.actors))) (sym plain_actors)
         (record {
-          counts = subst (λ ps. KeepsCounts (thing_row (plain_row (set actors to lettered))) ps (post a c1 ls to b args load s.actors)) (sym people)
+          counts = subst (λ ps. KeepsCounts (thing_row (plain_row (set actors to lettered))) ps (post a c1 ls to b args load [] s.actors)) (sym people)
               (same_rows all' (thing_row (plain_row (set actors to lettered))) _ _ rows (posted_kept full));
           program = facts.program;
           prints = facts.prints;
           objects = objects_kept actors to receiver.actor receiver.there lettered refl ∙ objects_more (Some stopped);
           weight = facts.weight;
+      deep = facts.deep;
         })
 
     -- ---- minting
@@ -320,10 +323,11 @@ module _ (p : PlainState) (s : State) (facts : Facts p s) (a : ℕ) (c : Cell) (
       prints = facts.prints;
       objects = facts.objects;
       weight = facts.weight;
+      deep = facts.deep;
     }
 
     letter_follows : (lack : List Loaded) → lacking a c1.holdings load ≡ lack
-        → Follows (is_empty lack) (after_act p a stopped stop.turn.fields stop.turn.made (Post to b args)) p (post_or_mint s a c c1 ls stop to b args load lack)
+        → Follows (is_empty lack) (after_act p a stopped stop.turn.fields stop.turn.made (Post to b args)) p (post_or_mint s a c c1 ls stop to b args load [] lack)
     letter_follows [] l = (next_state p (plain.with_letter (with_turn p.actors a (Some stopped) stop.turn.fields stop.turn.made) to letter) p.prints, refl, post_follows l)
     letter_follows (e ∷ es) l = mint_follows e es l
 
@@ -339,7 +343,7 @@ module _ (p : PlainState) (s : State) (facts : Facts p s) (a : ℕ) (c : Cell) (
       (subst (λ prints. Facts (next_state p (with_turn p.actors a None stop.turn.fields stop.turn.made) (p.prints ++ [])) (record (with_turn_kept s stop (set s.actors a (seat (turned stop None true c) ls))) { prints = prints })) (nothing_printed s.prints)
       (turn_follows None true [] (λ z h. absurd h)))
 
-  act_follows : (act : Act) (t : State) → stop.act ≡ act → act_in s a c ls stopped stop act ≡ Goes t → Follows (act_is_choice a (with_made stop.turn.made c.holdings) act) (after_act p a stopped stop.turn.fields stop.turn.made act) p t
+  act_follows : (act : Act) (t : State) → stop.act ≡ act → act_in Deep s a c ls stopped stop act ≡ Goes t → Follows (act_is_choice Deep a (with_made stop.turn.made c.holdings) act) (after_act p a stopped stop.turn.fields stop.turn.made act) p t
   act_follows End t act e = follows_on true _ p _ t e (_, refl, end_follows)
   act_follows (Print v) t act e = follows_on true _ p _ t e (_, refl, turn_follows (Some stopped) c.dirty (v ∷ []) (λ z h. h))
   act_follows (New kind register) t act e = by_room (nat_lt (length s.actors) 65536) refl e
@@ -353,15 +357,15 @@ module _ (p : PlainState) (s : State) (facts : Facts p s) (a : ℕ) (c : Cell) (
       by_room : (room : Bool) → nat_lt (length s.actors) 65536 ≡ room → (if room then Goes made else IsFull) ≡ Goes t → Follows true (if nat_lt (length p.actors) 65536 then plain.Goes plain_made else plain.IsFull) p t
       by_room false r e = cc
       by_room true r e = follows_on true _ p made t e (plain_made, ap (λ q. if q then plain.Goes plain_made else plain.IsFull) (ap (λ n. nat_lt n 65536) long ∙ r), make_follows kind register)
-  act_follows (Post to b args) t act e = follows_on _ _ p _ t e (letter_follows to b args act (lacking a c1.holdings (load_from a c1.holdings args)) refl)
+  act_follows (Post to b args) t act e = follows_on _ _ p _ t e (letter_follows to b args act (lacking a c1.holdings (load_from Deep a c1.holdings args)) refl)
 
   plain_follows : (choice : Bool) (t : State) → Follows choice (after_act p a stopped stop.turn.fields stop.turn.made stop.act) p t → Follows choice (plain_go p a) p t
   plain_follows choice t h = subst (λ goes. Follows choice goes p t) (sym plain_went) h
 
-  go_of_frame : (t : State) → go_in s a c (Some f) ls ≡ Goes t → Follows (go_is_choice s.program a c (Some f)) (plain_go p a) p t
-  go_of_frame t e = plain_follows (act_is_choice a (with_made stop.turn.made c.holdings) stop.act) t (act_follows stop.act t refl e)
+  go_of_frame : (t : State) → go_in Deep s a c (Some f) ls ≡ Goes t → Follows (go_is_choice Deep s.program a c (Some f)) (plain_go p a) p t
+  go_of_frame t e = plain_follows (act_is_choice Deep a (with_made stop.turn.made c.holdings) stop.act) t (act_follows stop.act t refl e)
 
 pub go_follows : (p : PlainState) (s : State) → Facts p s → (a : ℕ) (c : Cell) (ls : List Letter) → seat_at s.actors a ≡ seat c ls → (f : Option Frame) → c.frame ≡ f → (t : State)
-    → go_in s a c f ls ≡ Goes t → Follows (go_is_choice s.program a c f) (plain_go p a) p t
+    → go_in Deep s a c f ls ≡ Goes t → Follows (go_is_choice Deep s.program a c f) (plain_go p a) p t
 go_follows p s facts a c ls at None is t e = cc
 go_follows p s facts a c ls at (Some f) is t e = go_of_frame p s facts a c ls at f is t e

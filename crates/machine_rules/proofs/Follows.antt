@@ -1,5 +1,5 @@
 -- Take, go and collect keep the facts, and the plain machine follows them.
-use Rattle.std.proofs.Common.{◌≡◌, ℕ, Bool, true, false, Option, Some, None, List, refl}
+use Rattle.std.proofs.Common.{◌≡◌, ℕ, Bool, true, false, Option, Some, None, List, refl, ap, sym, ◌∙◌, subst}
 use Rattle.reach_walk.specs.Reach.{thing_row}
 use Rattle.turn_rules.specs.declared.act.Frame.{Frame}
 use Rattle.event_rule.specs.declared.event.Event.TheVariants.{Take, Go, Collect}
@@ -15,6 +15,7 @@ use Rattle.machine_rules.specs.Collect.{collect_at, collect_in, is_marked}
 use Rattle.machine_rules.specs.Facts.{Facts}
 use Rattle.machine_rules.specs.Go.{go_at}
 use Rattle.machine_rules.specs.Next.{next}
+use Rattle.machine_rules.specs.Options.{Deep}
 use Rattle.machine_rules.specs.Plain.{PlainState, plain_go, plain_row, plain_take}
 use Rattle.machine_rules.specs.Run.{go_is_choice_at, is_choice, take_is_choice_at}
 use Rattle.machine_rules.specs.Plain as plain
@@ -31,22 +32,23 @@ module _ (p : PlainState) (s : State) (facts : Facts p s) (t : State) where
       by_frame None is e = take_follows p s facts a o.cell is None o.mail t is at e
       by_frame (Some f) is e = cc
 
-  go_seat : (a : ℕ) (o : Option Seat) → seat_at s.actors a ≡ o → go_at s a o ≡ Goes t → Follows (go_is_choice_at s.program a o) (plain_go p a) p t
+  go_seat : (a : ℕ) (o : Option Seat) → seat_at s.actors a ≡ o → go_at Deep s a o ≡ Goes t → Follows (go_is_choice_at Deep s.program a o) (plain_go p a) p t
   go_seat a None at e = cc
   go_seat a (Some o) at e = go_follows p s facts a o.cell o.mail at o.cell.frame refl t e
 
-  collect_cell : (a : ℕ) (c : Cell) (mail : List Letter) (f : Option Frame) (dirty : Bool) → c.frame ≡ f → seat_at s.actors a ≡ seat c mail → collect_in s a c f dirty mail ≡ Goes t → Facts p t
+  collect_cell : (a : ℕ) (c : Cell) (mail : List Letter) (f : Option Frame) (dirty : Bool) → c.frame ≡ f → seat_at s.actors a ≡ seat c mail → collect_in Deep s a c f dirty mail ≡ Goes t → Facts p t
   collect_cell a c mail (Some f) dirty is at e = cc
   collect_cell a c mail None false is at e = cc
   collect_cell a c mail None true is at e = follows_on false plain.NotEnabled p _ t e (record {
-    counts = collect_keeps_counts (thing_row (plain_row p.actors)) (people_of p.actors) s.actors facts.counts a c mail at is (is_marked a c) (marked_reached a c) (reached_marked a c);
+    counts = collect_keeps_counts (thing_row (plain_row p.actors)) (people_of p.actors) s.actors facts.counts a c mail at is (is_marked Deep a c) (marked_reached a c) (reached_marked a c);
     program = facts.program;
     prints = facts.prints;
     objects = facts.objects;
     weight = facts.weight;
+    deep = facts.deep;
   })
 
-  collect_seat : (a : ℕ) (o : Option Seat) → seat_at s.actors a ≡ o → collect_at s a o ≡ Goes t → Facts p t
+  collect_seat : (a : ℕ) (o : Option Seat) → seat_at s.actors a ≡ o → collect_at Deep s a o ≡ Goes t → Facts p t
   collect_seat a None at e = cc
   collect_seat a (Some o) at e = collect_cell a o.cell o.mail o.cell.frame o.cell.dirty refl at e
 
@@ -54,7 +56,9 @@ module _ (p : PlainState) (s : State) (facts : Facts p s) (t : State) where
   take_kept a e = take_seat a (seat_at s.actors a) refl e
 
   pub go_kept : (a : ℕ) → next s (Go a) ≡ Goes t → Follows (is_choice s (Go a)) (outcome_of p (Go a)) p t
-  go_kept a e = go_seat a (seat_at s.actors a) refl e
+  go_kept a e =
+      subst (λ q. Follows (go_is_choice_at q s.program a (seat_at s.actors a)) (plain_go p a) p t) (sym facts.deep)
+      (go_seat a (seat_at s.actors a) refl (sym (ap (λ q. go_at q s a (seat_at s.actors a)) facts.deep) ∙ e))
 
   pub collect_kept : (a : ℕ) → next s (Collect a) ≡ Goes t → Facts p t
-  collect_kept a e = collect_seat a (seat_at s.actors a) refl e
+  collect_kept a e = collect_seat a (seat_at s.actors a) refl (sym (ap (λ q. collect_at q s a (seat_at s.actors a)) facts.deep) ∙ e)

@@ -54,9 +54,9 @@ pub load_into : (all : Thing → Option Row) (x y : Thing) (ls : List Letter) �
     → ((args : List Value) (load : List (Thing × Option Row)) → IsLoadOf all args load → 0 < times_loaded x load → 0 < times_loaded y load)
     → 0 < sum_by (load_count x) ls → 0 < sum_by (load_count y) ls
 load_into all x y [] ok f h = absurd (omega (arith, sum-nil (load_count x)))
-load_into all x y (App b args load ∷ ls) ok f h = ⊎_elim
-    (λ some. omega (arith, (letter_App y b args load).2, sum_by-cons (load_count y) (App b args load) ls, f args load ok.0 some))
-    (λ none. let r = load_into all x y ls ok.1 f (omega (arith, (letter_App x b args load).2, sum_by-cons (load_count x) (App b args load) ls)) in omega (arith, sum_by-cons (load_count y) (App b args load) ls))
+load_into all x y (App b args load rows ∷ ls) ok f h = ⊎_elim
+    (λ some. omega (arith, (letter_App y b args load rows).2, sum_by-cons (load_count y) (App b args load rows) ls, f args load ok.0 some))
+    (λ none. let r = load_into all x y ls ok.1 f (omega (arith, (letter_App x b args load rows).2, sum_by-cons (load_count x) (App b args load rows) ls)) in omega (arith, sum_by-cons (load_count y) (App b args load rows) ls))
     (some_or (times_loaded x load))
   where
     some_or : (n : ℕ) → (0 < n) ⊎ (n ≡ 0)
@@ -73,7 +73,7 @@ first_or all x b args load ls is more (later l) = let z = more l in omega arith
 
 args_loaded : (all : Thing → Option Row) (x : Thing) (ls : List Letter) → AreExactLetters all ls → Letters (app_letters ls) x → 0 < sum_by (load_count x) ls
 args_loaded all x [] ok h = elim h [ ]
-args_loaded all x (App b args load ∷ ls) ok h = omega (arith, sum_by-cons (load_count x) (App b args load) ls, (letter_App x b args load).2, first_or all x b args load ls ok.0 (args_loaded all x ls ok.1) h)
+args_loaded all x (App b args load rows ∷ ls) ok h = omega (arith, sum_by-cons (load_count x) (App b args load rows) ls, (letter_App x b args load rows).2, first_or all x b args load ls ok.0 (args_loaded all x ls ok.1) h)
 args_loaded all x (Inc es ∷ ls) ok h = let r = args_loaded all x ls ok.1 h in omega (arith, sum_by-cons (load_count x) (Inc es) ls)
 args_loaded all x (Dec es ∷ ls) ok h = let r = args_loaded all x ls ok.1 h in omega (arith, sum_by-cons (load_count x) (Dec es) ls)
 args_loaded all x (Confirm t ∷ ls) ok h = let r = args_loaded all x ls ok.1 h in omega (arith, sum_by-cons (load_count x) (Confirm t) ls)

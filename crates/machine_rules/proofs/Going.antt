@@ -32,6 +32,7 @@ use Rattle.machine_rules.specs.Facts.{KeepsCounts}
 use Rattle.machine_rules.specs.Go.{turn_of_cell, turned}
 use Rattle.machine_rules.specs.Known.{InFrame, IsClosedAt, IsKnown, IsLoadOf, IsSoundAt, Names, Reaches, Roots, RowsAreAt, RowsAreIn, in_fields, in_frame, row_at}
 use Rattle.machine_rules.specs.Left.{IsLeft}
+use Rattle.machine_rules.specs.Options.{Deep}
 
 -- an object by its owner and its serial
 abbrev pub object : ℕ → ℕ → Thing
@@ -70,7 +71,7 @@ left_present s to left = (left.seat, left.present)
 module _ (program : Program) (all all' : Thing → Option Row) (ps : List Person) (s : Actors) (inv : KeepsCounts all ps s)
     (a : ℕ) (c : Cell) (ls : List Letter) (at : seat_at s a ≡ seat c ls) (f : Frame) (frame : c.frame ≡ Some f) where
   unfoldable pub turn : Stop
-  turn = turn_of_cell program a c f
+  turn = turn_of_cell Deep program a c f
 
   here : IsSoundAt all a c ls
   here = inv.sound a c ls at

@@ -1,6 +1,6 @@
 -- What an actor lacks of a load, and what it mints.
 use Rattle.std.proofs.Common.{◌≡◌, ◌≢◌, ℕ, zero, suc, ◌<◌, ◌≤◌, ◌==◌, ◌&&◌, not, cond, Bool, true, false, Option, List, [], ◌∷◌, map, refl, ◌∙◌, ap, arith, ⊎_elim, eq-eqb, ne_eqb, eqb-true}
-use Rattle.std.proofs.lemmas.Bool.{and_parts, cases_eq}
+use Rattle.std.proofs.lemmas.Bool.{and_parts, cases_eq, eqb-false, not-true}
 use Rattle.std.specs.List.{filter}
 use Rattle.orca_names.proofs.ThingOrder.{cases_thing}
 use Rattle.orca_names.specs.Names.{owner_of}
@@ -9,7 +9,9 @@ use Rattle.letter_kinds.proofs.Counts.{amount-nil, amount-same, amount-other, lo
 use Rattle.letter_kinds.specs.Counting.{Loaded, is_lacking, lacking, to_mint}
 use Rattle.letter_kinds.specs.Holdings.{Holdings, Row, held_in}
 use Rattle.letter_kinds.specs.Sums.{amount_of, times_loaded}
+use Rattle.reach_walk.specs.Marks.{in_order, with_owners}
 use Rattle.machine_rules.proofs.InHand.{AllCounted}
+use Rattle.machine_rules.specs.Go.{lacks, to_need}
 
 pub filter_none : (p : Thing → Bool) (x : Thing) (es : List (Thing × Option Row)) → filter (λ e. p e.0) es ≡ [] → 0 < times_loaded x es → p x ≡ false
 filter_none p x [] e h = absurd (omega (arith, loaded-nil x))
@@ -51,12 +53,13 @@ minted_in w x q p (y ∷ es) h = elim (p y.0) as (λ b. p y.0 ≡ b → 0 < amou
   | false ↦ λ pf h. minted_in w x q p es h
 ] refl h
 
-pub to_mint_theirs : (w a b : ℕ) (c : Holdings) (es : List (Thing × Option Row)) (x : Thing) → 0 < amount_of x (to_mint w b (lacking a c es)) → (owner_of x ≡ b) × (0 < held_in c x)
+pub to_mint_theirs : (w a b : ℕ) (c : Holdings) (es : List (Thing × Option Row)) (x : Thing) → 0 < amount_of x (to_mint w b (lacking a c es)) → (owner_of x ≡ b) × (0 < held_in c x) × (owner_of x ≢ a)
 to_mint_theirs w a b c es x h =
     let z = minted_in w x (λ y. owner_of y == b) (is_lacking a c) es h in
     let o = eqb-true (owner_of x) b z.0 in
-    let one = eqb-true (held_in c x) 1 (and_parts (not (owner_of x == a)) _ z.1).1 in
-    (o, omega arith)
+    let both = and_parts (not (owner_of x == a)) _ z.1 in
+    let one = eqb-true (held_in c x) 1 both.1 in
+    (o, omega arith, eqb-false (owner_of x) a (not-true (owner_of x == a) both.0))
 
 pub counted_mint : (w : ℕ) → 0 < w → (b : ℕ) (es : List Loaded) → AllCounted (to_mint w b es)
 counted_mint w pos b [] = tt
@@ -67,3 +70,19 @@ counted_mint w pos b (e ∷ es) = elim (owner_of e.0 == b) as (λ t. AllCounted 
 
 pub first_minted : (w : ℕ) → 0 < w → (e : Loaded) (es : List Loaded) → 0 < amount_of e.0 (to_mint w (owner_of e.0) (e ∷ es))
 first_minted w pos e es = rw (eq-eqb (owner_of e.0) (owner_of e.0) refl) (let z = amount-same e.0 (e.0, w) (map (λ (e : Loaded). (e.0, w)) (filter (λ y. owner_of y.0 == owner_of e.0) es)) refl in omega arith)
+
+-- what is minted for a thing that the actor got is not its own, and not held
+needed_in : (w : ℕ) (y : Thing) (p : Thing → Bool) (xs : List Thing) → 0 < amount_of y (map (λ z. (z, w)) (filter p xs)) → p y ≡ true
+needed_in w y p [] h = absurd (omega (arith, amount-nil y))
+needed_in w y p (x ∷ xs) h = elim (p x) as (λ b. p x ≡ b → 0 < amount_of y (map (λ (z : Thing). (z, w)) (cond b (x ∷ filter p xs) (filter p xs))) → p y ≡ true) [
+  | true ↦ λ pt h. ⊎_elim
+      (λ same. ap p same ∙ pt)
+      (λ other. needed_in w y p xs (let z = amount-other y (x, w) (map (λ (z : Thing). (z, w)) (filter p xs)) other in omega arith))
+      (cases_thing y x)
+  | false ↦ λ pf h. needed_in w y p xs h
+] refl h
+
+pub to_need_lacks : (w me : ℕ) (h : Holdings) (x y : Thing) → 0 < amount_of y (to_need w me h x) → (owner_of y ≢ me) × (held_in h y ≡ 0)
+to_need_lacks w me h x y some =
+    let both = and_parts (not (owner_of y == me)) (held_in h y == 0) (needed_in w y (lacks me h) (in_order (with_owners (x ∷ []))) some) in
+    (eqb-false (owner_of y) me (not-true (owner_of y == me) both.0), eqb-true (held_in h y) 0 both.1)

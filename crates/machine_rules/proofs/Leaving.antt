@@ -91,6 +91,7 @@ module _ (p : PlainState) (s : State) (facts : Facts p s) (t : State) where
         prints = facts.prints;
         objects = facts.objects;
         weight = facts.weight;
+        deep = facts.deep;
       })
 
   leave_seat : (a : ℕ) (o : Option Seat) → seat_at s.actors a ≡ o → leave_at s a o ≡ Goes t → Facts p t

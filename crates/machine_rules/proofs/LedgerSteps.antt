@@ -25,12 +25,12 @@ use Rattle.machine_rules.proofs.Ledgers.{Ledger, told, empty_ledger, row_told, r
 use Rattle.machine_rules.specs.Actors.{Seat, push_decs, push_letter, seat, seat_at}
 use Rattle.machine_rules.specs.Block.{block_at, block_in, may_block}
 use Rattle.machine_rules.specs.Cell.{Cell, first_cell, fresh_cell}
-use Rattle.machine_rules.specs.Collect.{collect_at, collect_in, collected, is_marked}
+use Rattle.machine_rules.specs.Collect.{collect_at, collect_in, collected, is_marked, is_marked_deep}
 use Rattle.machine_rules.specs.Detect.{hear_in, scan_in, reap_in, held_outside, reap_found, reaped}
 use Rattle.machine_rules.specs.Go.{act_in, go_at, go_in, load_from, post_or_mint, turn_of_cell, turned}
 use Rattle.machine_rules.specs.Leave.{leave_at, leave_in}
 use Rattle.machine_rules.specs.Next.{next}
-use Rattle.machine_rules.specs.Options.{Options}
+use Rattle.machine_rules.specs.Options.{Deep, Options}
 use Rattle.machine_rules.specs.Plain.{stopped_at, with_name}
 use Rattle.machine_rules.specs.Run.{Leads}
 use Rattle.machine_rules.specs.State.{State, Step, IsFull, Goes, first_state, start_letters}
@@ -44,9 +44,9 @@ pub record Page : Type 0 where
   pub state : State
   pub places : Places
 
--- the state with the actors of the places
+-- the state with the actors of the places, and deep tracing
 abbrev pub state_told : Page → State
-state_told b = record b.state { actors = seats_told b.places }
+state_told b = record b.state { actors = seats_told b.places; options = record { weight = b.state.options.weight; trace = Deep } }
 
 -- before the first event
 abbrev pub first_page : Program → Options → Page
@@ -64,7 +64,7 @@ Follows (Some b) step = step ≡ Goes (state_told b)
 
 -- after the letter was taken
 abbrev ledger_after : ℕ → Letter → Ledger → Ledger
-ledger_after me (App behaviour args load) l = take_load me load l
+ledger_after me (App behaviour args load rows) l = take_load me load l
 ledger_after me (Inc things) l = raise_told me things l
 ledger_after me (Dec things) l = lower_told me things l
 ledger_after me (Confirm token) l = l
@@ -80,8 +80,8 @@ taken_in b a o None (letter ∷ mail) = Some (record {
 
 after_letter-told : (program : Program) (a : ℕ) (letter : Letter) (o : Place) (mail : List Letter)
     → seat (cell_after program a letter (cell_told o)) mail ≡ seat_told (place (cell_after program a letter o.cell) (ledger_after a letter o.ledger) mail)
-after_letter-told program a (App behaviour args load) o mail =
-    ap (λ h. seat (record (cell_after program a (App behaviour args load) o.cell) { holdings = h }) mail) (receive-told a load o.ledger)
+after_letter-told program a (App behaviour args load rows) o mail =
+    ap (λ h. seat (record (cell_after program a (App behaviour args load rows) o.cell) { holdings = h }) mail) (receive-told a load o.ledger)
 after_letter-told program a (Inc things) o mail = ap (λ h. seat (record (cell_after program a (Inc things) o.cell) { holdings = h }) mail) (raise_all-told a things o.ledger)
 after_letter-told program a (Dec things) o mail = ap (λ h. seat (record (cell_after program a (Dec things) o.cell) { holdings = h }) mail) (lower_all-told a things o.ledger)
 after_letter-told program a (Confirm token) o mail = refl
@@ -90,7 +90,7 @@ take-follows : (b : Page) (a : ℕ) (o : Place) (frame : Option Frame) (mail : L
 take-follows b a o (Some frame) mail = tt
 take-follows b a o None [] = tt
 take-follows b a o None (letter ∷ mail) =
-    ap (λ actors. Goes (record b.state { actors = actors; notes = notes_after o.cell.reported (note_of a letter) b.state.notes }))
+    ap (λ actors. Goes (record (state_told b) { actors = actors; notes = notes_after o.cell.reported (note_of a letter) b.state.notes }))
     (set-told b.places a _ (place (cell_after b.state.program a letter o.cell) (ledger_after a letter o.ledger) mail) (after_letter-told b.state.program a letter o mail))
 
 -- ---- go
@@ -99,7 +99,7 @@ take-follows b a o None (letter ∷ mail) =
 abbrev turn_told : Program → ℕ → Place → Frame → Stop
 turn_told program a o frame = segment_of (record { program = program; me = a; base = o.ledger.next; rows = row_told a o.ledger }) frame o.cell.fields
 
-turn-told : (program : Program) (a : ℕ) (o : Place) (frame : Frame) → turn_of_cell program a (cell_told o) frame ≡ turn_told program a o frame
+turn-told : (program : Program) (a : ℕ) (o : Place) (frame : Frame) → turn_of_cell Deep program a (cell_told o) frame ≡ turn_told program a o frame
 turn-told program a o frame i =
     segment_of (record { program = program; me = a; base = o.ledger.next; rows = λ n. row_of-told a o.ledger n i }) frame o.cell.fields
 
@@ -114,7 +114,7 @@ turned-told stop frame dirty o = ap (λ h. record (turned stop frame dirty o.cel
 abbrev load_told : ℕ → Ledger → List Value → List Loaded
 load_told me l args = load_of (row_told me l) (objects_told me l) args
 
-load_from-told : (me : ℕ) (l : Ledger) (args : List Value) → load_from me (told l) args ≡ load_told me l args
+load_from-told : (me : ℕ) (l : Ledger) (args : List Value) → load_from Deep me (told l) args ≡ load_told me l args
 load_from-told me l args i = load_of (λ n. row_of-told me l n i) (known_objects-told me l i) args
 
 -- the page after a turn that the actor keeps
@@ -124,23 +124,23 @@ with_turn_told b stop places = record { state = record b.state { objects = b.sta
 -- the letter goes, or there is more of what lacks
 abbrev post_or_mint_told : Page → ℕ → Place → Place → Stop → ℕ → ℕ → List Value → List Loaded → List Loaded → Page
 post_or_mint_told b a before after stop to behaviour args load [] =
-    with_turn_told b stop (push_told to (App behaviour args load) (set b.places a (place after.cell (give_load a load after.ledger) after.mail)))
+    with_turn_told b stop (push_told to (App behaviour args load []) (set b.places a (place after.cell (give_load a load after.ledger) after.mail)))
 post_or_mint_told b a before after stop to behaviour args load (e ∷ lacked) =
     let things = to_mint b.state.options.weight (owner_of e.0) (e ∷ lacked) in
     record b { places = push_told (owner_of e.0) (Inc things) (set b.places a (place before.cell (mint_told things before.ledger) before.mail)) }
 
 post-told : (b : Page) (a : ℕ) (before after : Place) (stop : Stop) (to behaviour : ℕ) (args : List Value) (load lacked : List Loaded) → after.mail ≡ before.mail
-    → post_or_mint (state_told b) a (cell_told before) (cell_told after) before.mail stop to behaviour args load lacked
+    → post_or_mint (state_told b) a (cell_told before) (cell_told after) before.mail stop to behaviour args load [] lacked
     ≡ state_told (post_or_mint_told b a before after stop to behaviour args load lacked)
 post-told b a before after stop to behaviour args load [] same =
-    ap (λ actors. record b.state { actors = actors; objects = b.state.objects + length stop.turn.made })
-    (ap (push_letter to (App behaviour args load))
+    ap (λ actors. record (state_told b) { actors = actors; objects = b.state.objects + length stop.turn.made })
+    (ap (push_letter to (App behaviour args load []))
     (set-told b.places a _ (place after.cell (give_load a load after.ledger) after.mail)
     (λ i. seat (record after.cell { holdings = send-told a load after.ledger i }) (sym same i)))
-    ∙ push_letter-told to (App behaviour args load) _)
+    ∙ push_letter-told to (App behaviour args load []) _)
 post-told b a before after stop to behaviour args load (e ∷ lacked) same =
     let things : List Amount = to_mint b.state.options.weight (owner_of e.0) (e ∷ lacked) in
-    ap (λ actors. record b.state { actors = actors })
+    ap (λ actors. record (state_told b) { actors = actors })
     (ap (push_letter (owner_of e.0) (Inc things))
     (set-told b.places a _ (place before.cell (mint_told things before.ledger) before.mail)
     (ap (λ h. seat (record before.cell { holdings = h }) before.mail) (mint_all-told things before.ledger)))
@@ -167,12 +167,12 @@ acted b a o frame stop (Post to behaviour args) =
     Some (post_or_mint_told b a o after stop to behaviour args load (lacking_told a after.ledger load))
 
 act-follows : (b : Page) (a : ℕ) (o : Place) (frame : Frame) (stop : Stop) (act : Act)
-    → Follows (acted b a o frame stop act) (act_in (state_told b) a (cell_told o) o.mail frame stop act)
+    → Follows (acted b a o frame stop act) (act_in Deep (state_told b) a (cell_told o) o.mail frame stop act)
 act-follows b a o frame stop End =
-    ap (λ actors. Goes (record b.state { actors = actors; objects = b.state.objects + length stop.turn.made }))
+    ap (λ actors. Goes (record (state_told b) { actors = actors; objects = b.state.objects + length stop.turn.made }))
     (set-told b.places a _ (Some (place_turned stop None true o)) (ap (λ c. seat c o.mail) (turned-told stop None true o)))
 act-follows b a o frame stop (Print value) =
-    ap (λ actors. Goes (record b.state { actors = actors; objects = b.state.objects + length stop.turn.made; prints = b.state.prints ++ value ∷ [] }))
+    ap (λ actors. Goes (record (state_told b) { actors = actors; objects = b.state.objects + length stop.turn.made; prints = b.state.prints ++ value ∷ [] }))
     (set-told b.places a _ (Some (place_turned stop (Some frame) o.cell.dirty o)) (ap (λ c. seat c o.mail) (turned-told stop (Some frame) o.cell.dirty o)))
 act-follows b a o frame stop (New kind register) =
     subst (λ n. Follows (acted b a o frame stop (New kind register)) (made n)) (sym (length-map b.places seat_told)) (cases (nat_lt (length b.places) 65536))
@@ -181,7 +181,7 @@ act-follows b a o frame stop (New kind register) =
     made : ℕ → Step
     made n =
         if nat_lt n 65536
-        then Goes (record b.state {
+        then Goes (record (state_told b) {
           actors = set (seats_told b.places) a
               (seat (record (turned stop (Some (with_name frame register n)) o.cell.dirty (cell_told o)) {
                 holdings = gain b.state.options.weight (things.Actor n) None (turned stop (Some (with_name frame register n)) o.cell.dirty (cell_told o)).holdings;
@@ -203,13 +203,13 @@ act-follows b a o frame stop (New kind register) =
     before : Cell
     before = turned stop (Some (with_name frame register (length b.places))) o.cell.dirty (cell_told o)
 
-    goes : Goes (record b.state {
+    goes : Goes (record (state_told b) {
       actors = set (seats_told b.places) a (seat (record before { holdings = gain b.state.options.weight (things.Actor (length b.places)) None before.holdings }) o.mail)
           ++ seat (fresh_cell b.state.options.weight b.state.program kind) [] ∷ [];
       objects = b.state.objects + length stop.turn.made;
     }) ≡ Goes (state_told (with_turn_told b stop (set b.places a maker ++ fresh ∷ [])))
     goes =
-        ap (λ actors. Goes (record b.state { actors = actors; objects = b.state.objects + length stop.turn.made }))
+        ap (λ actors. Goes (record (state_told b) { actors = actors; objects = b.state.objects + length stop.turn.made }))
         (ap (λ actors. actors ++ seat (fresh_cell b.state.options.weight b.state.program kind) [] ∷ [])
         (set-told b.places a _ maker
         (ap (λ h. seat (record after.cell { holdings = gain b.state.options.weight (things.Actor (length b.places)) None h }) o.mail) (with_made-told stop.turn.made o.ledger)
@@ -217,7 +217,7 @@ act-follows b a o frame stop (New kind register) =
         ∙ sym (map-append seat_told (set b.places a maker) (fresh ∷ [])))
 
     cases : (room : Bool) → Follows (if room then Some (with_turn_told b stop (set b.places a maker ++ fresh ∷ [])) else None)
-        (if room then Goes (record b.state {
+        (if room then Goes (record (state_told b) {
           actors = set (seats_told b.places) a (seat (record before { holdings = gain b.state.options.weight (things.Actor (length b.places)) None before.holdings }) o.mail)
               ++ seat (fresh_cell b.state.options.weight b.state.program kind) [] ∷ [];
           objects = b.state.objects + length stop.turn.made;
@@ -231,15 +231,15 @@ act-follows b a o frame stop (Post to behaviour args) =
     after = place_turned stop (Some frame) o.cell.dirty o
 
     with_load : Cell → List Loaded → State
-    with_load c load = post_or_mint (state_told b) a (cell_told o) c o.mail stop to behaviour args load (lacking a c.holdings load)
+    with_load c load = post_or_mint (state_told b) a (cell_told o) c o.mail stop to behaviour args load [] (lacking a c.holdings load)
 
-    posted : with_load (turned stop (Some frame) o.cell.dirty (cell_told o)) (load_from a (turned stop (Some frame) o.cell.dirty (cell_told o)).holdings args)
-        ≡ post_or_mint (state_told b) a (cell_told o) (cell_told after) o.mail stop to behaviour args (load_told a after.ledger args)
+    posted : with_load (turned stop (Some frame) o.cell.dirty (cell_told o)) (load_from Deep a (turned stop (Some frame) o.cell.dirty (cell_told o)).holdings args)
+        ≡ post_or_mint (state_told b) a (cell_told o) (cell_told after) o.mail stop to behaviour args (load_told a after.ledger args) []
         (lacking_told a after.ledger (load_told a after.ledger args))
     posted =
-        ap (λ c. with_load c (load_from a c.holdings args)) (turned-told stop (Some frame) o.cell.dirty o)
+        ap (λ c. with_load c (load_from Deep a c.holdings args)) (turned-told stop (Some frame) o.cell.dirty o)
         ∙ ap (with_load (cell_told after)) (load_from-told a after.ledger args)
-        ∙ ap (post_or_mint (state_told b) a (cell_told o) (cell_told after) o.mail stop to behaviour args (load_told a after.ledger args))
+        ∙ ap (post_or_mint (state_told b) a (cell_told o) (cell_told after) o.mail stop to behaviour args (load_told a after.ledger args) [])
         (lacking-told a after.ledger (load_told a after.ledger args))
 
 -- after a go
@@ -247,11 +247,11 @@ abbrev gone_in : Page → ℕ → Place → Option Frame → Option Page
 gone_in b a o None = None
 gone_in b a o (Some frame) = let stop = turn_told b.state.program a o frame in acted b a o (stopped_at frame stop) stop stop.act
 
-go-follows : (b : Page) (a : ℕ) (o : Place) (frame : Option Frame) → Follows (gone_in b a o frame) (go_in (state_told b) a (cell_told o) frame o.mail)
+go-follows : (b : Page) (a : ℕ) (o : Place) (frame : Option Frame) → Follows (gone_in b a o frame) (go_in Deep (state_told b) a (cell_told o) frame o.mail)
 go-follows b a o None = tt
 go-follows b a o (Some frame) =
     let stop = turn_told b.state.program a o frame in
-    subst (λ (s : Stop). Follows (acted b a o (stopped_at frame stop) stop stop.act) (act_in (state_told b) a (cell_told o) o.mail (stopped_at frame s) s s.act))
+    subst (λ (s : Stop). Follows (acted b a o (stopped_at frame stop) stop stop.act) (act_in Deep (state_told b) a (cell_told o) o.mail (stopped_at frame s) s s.act))
     (sym (turn-told b.state.program a o frame)) (act-follows b a o (stopped_at frame stop) stop stop.act)
 
 -- ---- collect
@@ -260,8 +260,8 @@ go-follows b a o (Some frame) =
 abbrev marked_told : ℕ → Place → Thing → Bool
 marked_told a o x = list_any (is_thing x) (marks_of (row_told a o.ledger) (objects_told a o.ledger) o.cell.fields.values)
 
-is_marked-told : (a : ℕ) (o : Place) → is_marked a (cell_told o) ≡ marked_told a o
-unfolding is_marked
+is_marked-told : (a : ℕ) (o : Place) → is_marked Deep a (cell_told o) ≡ marked_told a o
+unfolding is_marked_deep
 is_marked-told a o i = λ x. list_any (is_thing x) (marks_of (λ n. row_of-told a o.ledger n i) (known_objects-told a o.ledger i) o.cell.fields.values)
 
 -- the actor without what is not marked
@@ -273,7 +273,7 @@ abbrev places_collected : ℕ → Place → Places → Places
 places_collected a o places = decs_told (by_owner (back_told (marked_told a o) o.ledger)) (set places a (Some (place_swept a o)))
 
 collected-told : (a : ℕ) (o : Place) (places : Places)
-    → collected (is_marked a (cell_told o)) a (cell_told o) o.mail (seats_told places) ≡ seats_told (places_collected a o places)
+    → collected (is_marked Deep a (cell_told o)) a (cell_told o) o.mail (seats_told places) ≡ seats_told (places_collected a o places)
 collected-told a o places =
     ap (λ marked. collected marked a (cell_told o) o.mail (seats_told places)) (is_marked-told a o)
     ∙ (λ i. push_decs (by_owner (given_back-told (marked_told a o) o.ledger i))
@@ -287,10 +287,10 @@ collected_in b a o None false = None
 collected_in b a o None true = Some (record b { places = places_collected a o b.places })
 
 collect-follows : (b : Page) (a : ℕ) (o : Place) (frame : Option Frame) (dirty : Bool)
-    → Follows (collected_in b a o frame dirty) (collect_in (state_told b) a (cell_told o) frame dirty o.mail)
+    → Follows (collected_in b a o frame dirty) (collect_in Deep (state_told b) a (cell_told o) frame dirty o.mail)
 collect-follows b a o (Some frame) dirty = tt
 collect-follows b a o None false = tt
-collect-follows b a o None true = ap (λ actors. Goes (record b.state { actors = actors })) (collected-told a o b.places)
+collect-follows b a o None true = ap (λ actors. Goes (record (state_told b) { actors = actors })) (collected-told a o b.places)
 
 -- ---- block
 
@@ -304,7 +304,7 @@ blocked_in b a o true = Some (record {
 
 block-follows : (b : Page) (a : ℕ) (o : Place) (may : Bool) → Follows (blocked_in b a o may) (block_in (state_told b) a (cell_told o) o.mail may)
 block-follows b a o false = tt
-block-follows b a o true = λ i. Goes (record b.state {
+block-follows b a o true = λ i. Goes (record (state_told b) {
   actors = set-told b.places a _ (place (record o.cell { reported = true }) o.ledger o.mail) refl i;
   notes = b.state.notes ++ notes.Block a o.ledger.count (held_actors-told o.ledger i) ∷ [];
 })
@@ -347,7 +347,7 @@ scanned_in b closed true = Some (record {
 scan-follows : (b : Page) (closed : List ℕ) (news : Bool) → Follows (scanned_in b closed news) (scan_in (state_told b) closed news)
 scan-follows b closed false = tt
 scan-follows b closed true =
-    ap (λ actors. Goes (record b.state { actors = actors; detector = scanned b.state.detector closed })) (ask_all-told closed (suc b.state.detector.opened) b.places)
+    ap (λ actors. Goes (record (state_told b) { actors = actors; detector = scanned b.state.detector closed })) (ask_all-told closed (suc b.state.detector.opened) b.places)
 
 -- what a member held on things whose owners are not in the set
 abbrev outside_told : List ℕ → Option Place → List Amount
@@ -388,7 +388,7 @@ reaped_found b (Some token) = reaped_in b token (all_acked token)
 reap-follows : (b : Page) (token : Token) (all : Bool) → Follows (reaped_in b token all) (reap_in (state_told b) token all)
 reap-follows b token false = tt
 reap-follows b token true =
-    ap (λ actors. Goes (record b.state { actors = actors; detector = close_token token b.state.detector })) (reaped-told token.members token.members [] b.places)
+    ap (λ actors. Goes (record (state_told b) { actors = actors; detector = close_token token b.state.detector })) (reaped-told token.members token.members [] b.places)
 
 found-follows : (b : Page) (found : Option Token) → Follows (reaped_found b found) (reap_found (state_told b) found)
 found-follows b None = tt
@@ -407,7 +407,7 @@ left_in b a true = Some (record b { places = reaped_told (a ∷ []) (a ∷ []) [
 
 leave-follows : (b : Page) (a : ℕ) (may : Bool) → Follows (left_in b a may) (leave_in (state_told b) a may)
 leave-follows b a false = tt
-leave-follows b a true = ap (λ actors. Goes (record b.state { actors = actors })) (reaped-told (a ∷ []) (a ∷ []) [] b.places)
+leave-follows b a true = ap (λ actors. Goes (record (state_told b) { actors = actors })) (reaped-told (a ∷ []) (a ∷ []) [] b.places)
 
 -- ---- an event
 
@@ -424,8 +424,8 @@ next_page b (Reap token) = reaped_found b (token_numbered token b.state.detector
 
 next-follows : (b : Page) (e : Event) → Follows (next_page b e) (next (state_told b) e)
 next-follows b (Take a) = place-follows b a _ (take_at (state_told b) a) (λ o. take-follows b a o o.cell.frame o.mail)
-next-follows b (Go a) = place-follows b a _ (go_at (state_told b) a) (λ o. go-follows b a o o.cell.frame)
-next-follows b (Collect a) = place-follows b a _ (collect_at (state_told b) a) (λ o. collect-follows b a o o.cell.frame o.cell.dirty)
+next-follows b (Go a) = place-follows b a _ (go_at Deep (state_told b) a) (λ o. go-follows b a o o.cell.frame)
+next-follows b (Collect a) = place-follows b a _ (collect_at Deep (state_told b) a) (λ o. collect-follows b a o o.cell.frame o.cell.dirty)
 next-follows b (Leave a) = place-follows b a _ (leave_at (state_told b) a) (λ o. leave-follows b a (may_leave_told o))
 next-follows b (Block a) = place-follows b a _ (block_at (state_told b) a) (λ o. block-follows b a o (may_block o.cell o.mail))
 next-follows b Hear = hear-follows b b.state.notes

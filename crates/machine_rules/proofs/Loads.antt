@@ -17,8 +17,9 @@ use Rattle.letter_kinds.specs.Sums.{times_loaded}
 use Rattle.machine_rules.proofs.Finite.{known_objects-cover}
 use Rattle.machine_rules.proofs.Turns.{along_edges, along_rows}
 use Rattle.machine_rules.specs.Cell.{Cell, known_objects}
-use Rattle.machine_rules.specs.Collect.{is_marked}
+use Rattle.machine_rules.specs.Collect.{is_marked_deep}
 use Rattle.machine_rules.specs.Go.{load_from}
+use Rattle.machine_rules.specs.Options.{Deep}
 use Rattle.machine_rules.specs.Known.{Names, Reaches, row_at, RowsAreIn, IsLoadOf}
 
 -- ---- loads
@@ -49,23 +50,23 @@ module _ (rows : ObjName → Option Row) (all : List ObjName) (args : List Value
 
 -- the load of an actor's letter
 module _ (me : ℕ) (h : Holdings) (args : List Value) where
-  pub load_from-once : (x : Thing) → times_loaded x (load_from me h args) ≤ 1
+  pub load_from-once : (x : Thing) → times_loaded x (load_from Deep me h args) ≤ 1
   load_from-once = load_once (row_of me h) (known_objects me h) args (known_objects-cover me h)
 
-  pub load_from-exact : IsLoadOf (row_at me h) args (load_from me h args)
+  pub load_from-exact : IsLoadOf (row_at me h) args (load_from Deep me h args)
   load_from-exact = load_exact (row_of me h) (known_objects me h) args (known_objects-cover me h)
 
 -- ---- marks
 
 module _ (a : ℕ) (c : Cell) where
-  pub marked_reached : (x : Thing) → is_marked a c x ≡ true → Reaches (row_at a c.holdings) (Names c.fields.values) x
-  unfolding is_marked
+  pub marked_reached : (x : Thing) → is_marked_deep a c x ≡ true → Reaches (row_at a c.holdings) (Names c.fields.values) x
+  unfolding is_marked_deep
   marked_reached x e =
       let marks = marks_of (row_of a c.holdings) (known_objects a c.holdings) c.fields.values in
       along_rows (row_of a c.holdings) (λ y n. n) (marks-reached (row_of a c.holdings) (known_objects a c.holdings) c.fields.values x (Contains-from_any is_same x marks e))
 
-  pub reached_marked : (x : Thing) → Reaches (row_at a c.holdings) (Names c.fields.values) x → is_marked a c x ≡ true
-  unfolding is_marked
+  pub reached_marked : (x : Thing) → Reaches (row_at a c.holdings) (Names c.fields.values) x → is_marked_deep a c x ≡ true
+  unfolding is_marked_deep
   reached_marked x r =
       let marks = marks_of (row_of a c.holdings) (known_objects a c.holdings) c.fields.values in
       list_any-from_Contains (eq_by_cmp_equiv thing_total) x marks

@@ -1,5 +1,5 @@
 -- A fact that speaks of one actor alone, and is kept as `Local` says, holds of every actor after every event.
-use Rattle.std.proofs.Common.{◌≡◌, ℕ, ◌<◌, nat_lt, Bool, true, false, Option, Some, None, List, [], ◌∷◌, length, set, refl, sym, subst}
+use Rattle.std.proofs.Common.{◌≡◌, ℕ, ◌<◌, nat_lt, Bool, true, false, Option, Some, None, List, [], ◌∷◌, length, set, refl, ap, sym, ◌∙◌, subst}
 use Rattle.std.specs.Prelude.{if◌then◌else◌}
 use Rattle.orca_names.specs.Names.{owner_of}
 use Rattle.orca_names.specs.declared.names.Thing.{Thing}
@@ -22,18 +22,18 @@ use Rattle.letter_kinds.specs.Sums.{amount_of}
 use Rattle.machine_rules.specs.Actors.{Actors, Seat, seat, seat_at, push_letter}
 use Rattle.machine_rules.specs.Block.{block_at, block_in, may_block}
 use Rattle.machine_rules.specs.Cell.{Cell, fresh_cell}
-use Rattle.machine_rules.specs.Collect.{collect_at, collect_in, is_marked}
+use Rattle.machine_rules.specs.Collect.{collect_at, collect_in, is_marked, without_unused}
 use Rattle.machine_rules.specs.Detect.{ask_all, hear_in, reap_found, reap_in, scan_in}
 use Rattle.machine_rules.specs.Facts.{Every}
-use Rattle.machine_rules.specs.Go.{act_in, go_at, go_in, load_from, make, post_or_mint, turn_of_cell, turned, with_turn_kept}
+use Rattle.machine_rules.specs.Go.{act_in, go_at, go_in, load_from, make, needed, needing, post_or_mint, rows_from, to_need, turn_of_cell, turned, with_turn_kept}
 use Rattle.machine_rules.specs.Leave.{leave_at, leave_in, may_leave}
-use Rattle.machine_rules.specs.Next.{next}
-use Rattle.machine_rules.specs.Options.{Options}
+use Rattle.machine_rules.specs.Next.{next, next_by}
+use Rattle.machine_rules.specs.Options.{Options, Trace}
 use Rattle.machine_rules.specs.Plain.{stopped_at, with_name}
 use Rattle.machine_rules.specs.State.{State, NotEnabled, IsFull, Goes, first_state}
 use Rattle.machine_rules.specs.Take.{cell_after, take_at, take_in}
 use Rattle.machine_rules.proofs.Every.{every_set, every_push, every_decs, every_more}
-use Rattle.machine_rules.proofs.Lacking.{to_mint_theirs}
+use Rattle.machine_rules.proofs.Lacking.{to_mint_theirs, to_need_lacks}
 use Rattle.machine_rules.proofs.ReapKeeps.{every_reap}
 use Rattle.machine_rules.proofs.Local.{Local}
 use Rattle.machine_rules.proofs.Seats.{present_below}
@@ -47,7 +47,7 @@ not_enabled t e = cc
 full : {P : Type 0} (t : State) → IsFull ≡ Goes t → P
 full t e = cc
 
-module _ (Q : ℕ → Cell → List Letter → Type 0) (local : Local Q) where
+module _ (trace : Trace) (Q : ℕ → Cell → List Letter → Type 0) (local : Local trace Q) where
   abbrev Keeps : State → State → Type 0
   Keeps s t = Every Q s.actors → Every Q t.actors
 
@@ -72,12 +72,12 @@ module _ (Q : ℕ → Cell → List Letter → Type 0) (local : Local Q) where
   on_take a c None (l ∷ mail) s t is at e = moved s _ t e (λ h. every_here s.actors a _ (cell_after s.program a l c) mail at (local.take s.program a c l mail is (h a c (l ∷ mail) at)) h)
 
   on_collect : (a : ℕ) (c : Cell) (f : Option Frame) (dirty : Bool) (mail : List Letter) (s t : State) → c.frame ≡ f → c.dirty ≡ dirty → seat_at s.actors a ≡ seat c mail
-      → collect_in s a c f dirty mail ≡ Goes t → Keeps s t
+      → collect_in trace s a c f dirty mail ≡ Goes t → Keeps s t
   on_collect a c (Some f) dirty mail s t is did at e = not_enabled t e
   on_collect a c None false mail s t is did at e = not_enabled t e
   on_collect a c None true mail s t is did at e = moved s _ t e (λ h.
-      every_decs Q (λ things. local.letter (Dec things)) (by_owner (given_back (is_marked a c) c.holdings)) _
-      (every_here s.actors a _ (record c { holdings = sweep (is_marked a c) a c.holdings; dirty = false }) mail at (local.collect a c mail is did (h a c mail at)) h))
+      every_decs Q (λ things. local.letter (Dec things)) (by_owner (given_back (is_marked trace a c) (without_unused trace a c).holdings)) _
+      (every_here s.actors a _ (record (without_unused trace a c) { holdings = sweep (is_marked trace a c) a (without_unused trace a c).holdings; dirty = false }) mail at (local.collect a c mail is did (h a c mail at)) h))
 
   on_block : (a : ℕ) (c : Cell) (mail : List Letter) (may : Bool) (s t : State) → may_block c mail ≡ may → seat_at s.actors a ≡ seat c mail → block_in s a c mail may ≡ Goes t → Keeps s t
   on_block a c mail false s t may at e = not_enabled t e
@@ -87,7 +87,7 @@ module _ (Q : ℕ → Cell → List Letter → Type 0) (local : Local Q) where
 
   module _ (a : ℕ) (c : Cell) (mail : List Letter) (f : Frame) (is : c.frame ≡ Some f) (s : State) (at : seat_at s.actors a ≡ seat c mail) where
     abbrev stop : Stop
-    stop = turn_of_cell s.program a c f
+    stop = turn_of_cell trace s.program a c f
 
     abbrev later : Frame
     later = stopped_at f stop
@@ -98,10 +98,6 @@ module _ (Q : ℕ → Cell → List Letter → Type 0) (local : Local Q) where
     here : Every Q s.actors → Q a after mail
     here h = local.turn s.program a c mail f is (h a c mail at)
 
-    held_after : (x : Thing) → held_in after.holdings x ≡ held_in c.holdings x
-    unfolding held_in
-    held_after x = refl
-
     on_new : (kind register : ℕ) → Every Q s.actors
         → Every Q (make s.options.weight a (turned stop (Some (with_name later register (length s.actors))) c.dirty c) mail (fresh_cell s.options.weight s.program kind) s.actors)
     on_new kind register h =
@@ -111,20 +107,18 @@ module _ (Q : ℕ → Cell → List Letter → Type 0) (local : Local Q) where
         every_more Q (set s.actors a (seat maker mail)) (fresh_cell s.options.weight s.program kind) [] (local.fresh s.options.weight s.program _ kind)
         (every_here s.actors a _ maker mail at (local.make s.options.weight a n after mail later g (present_below s.actors a _ at) refl (here h)) h)
 
-    on_post : (to behaviour : ℕ) (args : List Value) (load lacked : List Loaded) → lacking a after.holdings load ≡ lacked → Keeps s (post_or_mint s a c after mail stop to behaviour args load lacked)
-    on_post to behaviour args load [] l h = every_letter _ to (App behaviour args load)
+    on_post : (to behaviour : ℕ) (args : List Value) (load rows lacked : List Loaded) → lacking a after.holdings load ≡ lacked → Keeps s (post_or_mint s a c after mail stop to behaviour args load rows lacked)
+    on_post to behaviour args load rows [] l h = every_letter _ to (App behaviour args load rows)
         (every_here s.actors a _ (record after { holdings = send a load after.holdings }) mail at (local.send a after mail later load refl (here h)) h)
-    on_post to behaviour args load (y ∷ ys) l h =
+    on_post to behaviour args load rows (y ∷ ys) l h =
         let things = to_mint s.options.weight (owner_of y.0) (y ∷ ys) in
         every_letter _ (owner_of y.0) (Inc things)
         (every_here s.actors a _ (record c { holdings = mint_all things c.holdings }) mail at
         (local.mint a c mail f things is
-        (λ x some.
-        let z = (to_mint_theirs s.options.weight a (owner_of y.0) after.holdings load x (subst (λ q. 0 < amount_of x (to_mint s.options.weight (owner_of y.0) q)) (sym l) some)).1 in
-        subst (λ n. 0 < n) (held_after x) z)
+        (λ x some. (to_mint_theirs s.options.weight a (owner_of y.0) after.holdings load x (subst (λ q. 0 < amount_of x (to_mint s.options.weight (owner_of y.0) q)) (sym l) some)).2)
         (h a c mail at)) h)
 
-    on_act : (act : Act) (t : State) → act_in s a c mail later stop act ≡ Goes t → Keeps s t
+    on_act : (act : Act) (t : State) → act_in trace s a c mail later stop act ≡ Goes t → Keeps s t
     on_act End t e = moved s _ t e (λ h. every_here s.actors a _ (turned stop None true c) mail at (local.end s.program a c mail f is (h a c mail at)) h)
     on_act (Print v) t e = moved s _ t e (λ h. every_here s.actors a _ after mail at (here h) h)
     on_act (New kind register) t e = by_room (nat_lt (length s.actors) 65536) e
@@ -135,12 +129,21 @@ module _ (Q : ℕ → Cell → List Letter → Type 0) (local : Local Q) where
         by_room true e = moved s _ t e (on_new kind register)
         by_room false e = full t e
     on_act (Post to behaviour args) t e =
-        let load = load_from a after.holdings args in
-        moved s _ t e (on_post to behaviour args load (lacking a after.holdings load) refl)
+        let load = load_from trace a after.holdings args in
+        moved s _ t e (on_post to behaviour args load (rows_from trace a after args) (lacking a after.holdings load) refl)
 
-  on_go : (a : ℕ) (c : Cell) (f : Option Frame) (mail : List Letter) (s t : State) → c.frame ≡ f → seat_at s.actors a ≡ seat c mail → go_in s a c f mail ≡ Goes t → Keeps s t
+  on_need : (a : ℕ) (c : Cell) (mail : List Letter) (f : Frame) (s t : State) → c.frame ≡ Some f → seat_at s.actors a ≡ seat c mail → (need : Option Thing)
+      → needing s a c mail need (act_in trace s a c mail (stopped_at f (turn_of_cell trace s.program a c f)) (turn_of_cell trace s.program a c f) (turn_of_cell trace s.program a c f).act) ≡ Goes t → Keeps s t
+  on_need a c mail f s t is at None e = on_act a c mail f is s at (turn_of_cell trace s.program a c f).act t e
+  on_need a c mail f s t is at (Some x) e = moved s _ t e (λ h.
+      let things = to_need s.options.weight a c.holdings x in
+      every_letter _ (owner_of x) (Inc things)
+      (every_here s.actors a _ (record c { holdings = mint_all things c.holdings }) mail at
+      (local.mint a c mail f things is (λ y some. (to_need_lacks s.options.weight a c.holdings x y some).0) (h a c mail at)) h))
+
+  on_go : (a : ℕ) (c : Cell) (f : Option Frame) (mail : List Letter) (s t : State) → c.frame ≡ f → seat_at s.actors a ≡ seat c mail → go_in trace s a c f mail ≡ Goes t → Keeps s t
   on_go a c None mail s t is at e = not_enabled t e
-  on_go a c (Some f) mail s t is at e = on_act a c mail f is s at (turn_of_cell s.program a c f).act t e
+  on_go a c (Some f) mail s t is at e = on_need a c mail f s t is at (needed trace s.program a c f) e
 
   -- ---- the seat of the actor that acts
 
@@ -148,11 +151,11 @@ module _ (Q : ℕ → Cell → List Letter → Type 0) (local : Local Q) where
   take_seat a None s t at e = not_enabled t e
   take_seat a (Some o) s t at e = on_take a o.cell o.cell.frame o.mail s t refl at e
 
-  go_seat : (a : ℕ) (o : Option Seat) (s t : State) → seat_at s.actors a ≡ o → go_at s a o ≡ Goes t → Keeps s t
+  go_seat : (a : ℕ) (o : Option Seat) (s t : State) → seat_at s.actors a ≡ o → go_at trace s a o ≡ Goes t → Keeps s t
   go_seat a None s t at e = not_enabled t e
   go_seat a (Some o) s t at e = on_go a o.cell o.cell.frame o.mail s t refl at e
 
-  collect_seat : (a : ℕ) (o : Option Seat) (s t : State) → seat_at s.actors a ≡ o → collect_at s a o ≡ Goes t → Keeps s t
+  collect_seat : (a : ℕ) (o : Option Seat) (s t : State) → seat_at s.actors a ≡ o → collect_at trace s a o ≡ Goes t → Keeps s t
   collect_seat a None s t at e = not_enabled t e
   collect_seat a (Some o) s t at e = on_collect a o.cell o.cell.frame o.cell.dirty o.mail s t refl refl at e
 
@@ -188,15 +191,19 @@ module _ (Q : ℕ → Cell → List Letter → Type 0) (local : Local Q) where
 
   -- ---- all events
 
-  pub every_next : (s t : State) (e : Event) → next s e ≡ Goes t → Every Q s.actors → Every Q t.actors
-  every_next s t (Take a) e = take_seat a (seat_at s.actors a) s t refl e
-  every_next s t (Go a) e = go_seat a (seat_at s.actors a) s t refl e
-  every_next s t (Collect a) e = collect_seat a (seat_at s.actors a) s t refl e
-  every_next s t (Leave a) e = leave_seat a (seat_at s.actors a) s t e
-  every_next s t (Block a) e = block_seat a (seat_at s.actors a) s t refl e
-  every_next s t Hear e = on_hear s t s.notes e
-  every_next s t Scan e = on_scan s t (closed_set s.detector) s.detector.news e
-  every_next s t (Reap number) e = reap_token s t (token_numbered number s.detector) e
+  every_next_by : (s t : State) (e : Event) → next_by trace s e ≡ Goes t → Every Q s.actors → Every Q t.actors
+  every_next_by s t (Take a) e = take_seat a (seat_at s.actors a) s t refl e
+  every_next_by s t (Go a) e = go_seat a (seat_at s.actors a) s t refl e
+  every_next_by s t (Collect a) e = collect_seat a (seat_at s.actors a) s t refl e
+  every_next_by s t (Leave a) e = leave_seat a (seat_at s.actors a) s t e
+  every_next_by s t (Block a) e = block_seat a (seat_at s.actors a) s t refl e
+  every_next_by s t Hear e = on_hear s t s.notes e
+  every_next_by s t Scan e = on_scan s t (closed_set s.detector) s.detector.news e
+  every_next_by s t (Reap number) e = reap_token s t (token_numbered number s.detector) e
+
+  -- where the state has this mode
+  pub every_next : (s t : State) (e : Event) → s.options.trace ≡ trace → next s e ≡ Goes t → Every Q s.actors → Every Q t.actors
+  every_next s t e mode goes = every_next_by s t e (sym (ap (λ q. next_by q s e) mode) ∙ goes)
 
   pub every_first : (program : Program) (options : Options) → Every Q (first_state program options).actors
   every_first program options = every_more Q [] _ _ (local.start program) (λ a c mail at. absurd (nowhere a c mail at))

@@ -13,12 +13,12 @@ use Rattle.letter_kinds.specs.Sums.{amount_of}
 use Rattle.machine_rules.proofs.Local.{Local}
 use Rattle.machine_rules.proofs.Locals.{every_next, every_first}
 use Rattle.machine_rules.proofs.Makes.{held_given, given_other}
-use Rattle.machine_rules.proofs.Sweeping.{held-sweep}
+use Rattle.machine_rules.proofs.Sweeping.{held-sweep, same_holdings}
 use Rattle.machine_rules.proofs.Takes.{held-taken_own}
 use Rattle.machine_rules.specs.Clean.{HoldsNoOwnAt, NoneHoldsItsOwn}
 use Rattle.machine_rules.specs.Go.{turn_of_cell}
 use Rattle.machine_rules.specs.Next.{next}
-use Rattle.machine_rules.specs.Options.{Options}
+use Rattle.machine_rules.specs.Options.{Deep, Options, Trace}
 use Rattle.machine_rules.specs.State.{State, Goes, first_state}
 
 held-with_made : (made : List Row) (h : Holdings) (x : Thing) → held_in (with_made made h) x ≡ held_in h x
@@ -33,29 +33,29 @@ swept_none : (b : Bool) (n : ℕ) → n ≡ 0 → cond b n 0 ≡ 0
 swept_none true n e = e
 swept_none false n e = refl
 
-none_minted : (n k : ℕ) → n ≡ 0 → (0 < k → 0 < n) → n + k ≡ 0
+none_minted : (n k : ℕ) → n ≡ 0 → (0 < k → ⊥) → n + k ≡ 0
 none_minted n zero e f = omega arith
-none_minted n (suc k) e f = let z = f (omega arith) in absurd (omega arith)
+none_minted n (suc k) e f = absurd (f (omega arith))
 
-pub no_self : Local HoldsNoOwnAt
-no_self = record {
+pub no_self : (trace : Trace) → Local trace HoldsNoOwnAt
+no_self trace = record {
   start = λ program x o. held-nothing 0 x;
   fresh = λ weight program a kind x o. held-nothing weight x;
   letter = λ l a c mail q. q;
   take = λ program a c l mail idle q x o. held-taken_own program a x c mail l o ∙ q x o;
-  collect = λ a c mail idle d q x o. held-sweep _ a c.holdings x ∙ swept_none _ (held_in c.holdings x) (q x o);
+  collect = λ a c mail idle d q x o. held-sweep _ a _ x ∙ swept_none _ _ (ap (λ h. held_in h x) (same_holdings trace a c) ∙ q x o);
   block = λ a c mail may q. q;
-  turn = λ program a c mail f is q x o. held-with_made (turn_of_cell program a c f).turn.made c.holdings x ∙ q x o;
-  end = λ program a c mail f is q x o. held-with_made (turn_of_cell program a c f).turn.made c.holdings x ∙ q x o;
+  turn = λ program a c mail f is q x o. held-with_made (turn_of_cell trace program a c f).turn.made c.holdings x ∙ q x o;
+  end = λ program a c mail f is q x o. held-with_made (turn_of_cell trace program a c f).turn.made c.holdings x ∙ q x o;
   make = λ weight a n c mail f g below is q x o.
       let apart : x ≢ Actor n = λ e. let z : owner_of x ≡ n = ap owner_of e in absurd (omega arith) in
       let h = held_given weight n c.holdings x in let z = given_other weight n x apart in let y = q x o in omega arith;
   send = λ a c mail f load is q x o. held-send_own a x load c.holdings o ∙ q x o;
-  mint = λ a c mail f things is some q x o. held-mint_all x things c.holdings ∙ none_minted (held_in c.holdings x) (amount_of x things) (q x o) (some x);
+  mint = λ a c mail f things is some q x o. held-mint_all x things c.holdings ∙ none_minted (held_in c.holdings x) (amount_of x things) (q x o) (λ h. some x h o);
 }
 
 pub no_self-first : (program : Program) (options : Options) → NoneHoldsItsOwn (first_state program options).actors
-no_self-first program options = every_first HoldsNoOwnAt no_self program options
+no_self-first program options = every_first Deep HoldsNoOwnAt (no_self Deep) program options
 
 pub no_self-next : (s t : State) (e : Event) → next s e ≡ Goes t → NoneHoldsItsOwn s.actors → NoneHoldsItsOwn t.actors
-no_self-next s t e now h = every_next HoldsNoOwnAt no_self s t e now h
+no_self-next s t e now h = every_next s.options.trace HoldsNoOwnAt (no_self s.options.trace) s t e refl now h

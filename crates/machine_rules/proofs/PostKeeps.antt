@@ -62,7 +62,7 @@ firm_send me (e ∷ es) c enough firm = firm_send me es (send_one me e c) later 
 
 module _ (all : Thing → Option Row) (ps : List Person) (s : Actors) (inv : KeepsCounts all ps s)
     (a : ℕ) (c : Cell) (ls : List Letter) (at : seat_at s a ≡ seat c ls)
-    (to b : ℕ) (args : List Value) (load : List Loaded) (exact : IsLoadOf all args load) (once : (x : Thing) → times_loaded x load ≤ 1)
+    (to b : ℕ) (args : List Value) (load rows : List Loaded) (exact : IsLoadOf all args load) (once : (x : Thing) → times_loaded x load ≤ 1)
     (known : (x : Thing) → 0 < times_loaded x load → IsKnown a c.holdings x) (known_to : IsKnown a c.holdings (Actor to)) (full : lacking a c.holdings load ≡ []) where
   held_load : (x : Thing) → owner_of x ≢ a → 0 < times_loaded x load → 0 < held_in c.holdings x
   held_load x o h = ⊎_elim (λ own. absurd (o own.0)) (λ other. other.1) (known x h)
@@ -91,26 +91,26 @@ module _ (all : Thing → Option Row) (ps : List Person) (s : Actors) (inv : Kee
   abbrev people : List Person
   people = set ps a (person_of sender ls)
 
-  pub post_keeps_counts : KeepsCounts all (set people to (with_letter b args (person_at people to))) (post a c ls to b args load s)
+  pub post_keeps_counts : KeepsCounts all (set people to (with_letter b args (person_at people to))) (post a c ls to b args load rows s)
   post_keeps_counts = record {
-    balanced = out_of_hand _ (post_balanced s a c c ls at to b args load (λ x o. refl) (λ x. refl) has_load (λ x o. no_load (times_loaded x load) (held_in c.holdings x) (enough x o)) target (in_hand s inv.balanced));
-    prefixes = post_prefix s a c c ls at to b args load (λ x o. refl) (λ x. refl) has_load (λ x o. no_load (times_loaded x load) (held_in c.holdings x) (enough x o)) target (in_hand s inv.balanced) inv.prefixes;
-    sound = sound_push all sent to (App b args load) there.0 there.1 exact
+    balanced = out_of_hand _ (post_balanced s a c c ls at to b args load rows (λ x o. refl) (λ x. refl) has_load (λ x o. no_load (times_loaded x load) (held_in c.holdings x) (enough x o)) target (in_hand s inv.balanced));
+    prefixes = post_prefix s a c c ls at to b args load rows (λ x o. refl) (λ x. refl) has_load (λ x o. no_load (times_loaded x load) (held_in c.holdings x) (enough x o)) target (in_hand s inv.balanced) inv.prefixes;
+    sound = sound_push all sent to (App b args load rows) there.0 there.1 exact
         (sound_set all s a (seat c ls) sender ls within at
         (let here = inv.sound a c ls at in record {
           closed = send_closed all a c load enough here.closed here.rows;
           rows = send_rows all a c load enough here.closed here.rows;
           loads = here.loads;
         }) inv.sound);
-    agrees = agrees_push_app people sent to b args load there.0 there.1
+    agrees = agrees_push_app people sent to b args load rows there.0 there.1
         (let w = present_below sent to there.0 there.1 in let l = length-set ps a (person_of sender ls) in let k = length-set s a (seat sender ls) in let i = inv.long in omega arith)
         (agrees_set ps s a c sender ls ls at (let w = inv.long in let z = within in omega arith) inv.agrees);
     bare = inv.bare;
-    serials = every_push (IsPastRows all) (App b args load) (λ i d ms q. q) sent to
+    serials = every_push (IsPastRows all) (App b args load rows) (λ i d ms q. q) sent to
         (every_set (IsPastRows all) s a sender ls within (λ k h. inv.serials a c ls at k (let z = next_send a load c.holdings in omega arith)) inv.serials);
-    long = length-set people to _ ∙ length-set ps a _ ∙ inv.long ∙ sym (length-push to (App b args load) sent ∙ length-set s a _);
-    unmade = λ i h k. inv.unmade i (let z = length-push to (App b args load) sent in let w = length-set s a (seat sender ls) in omega arith) k;
-    firm = every_push IsFirmAt (App b args load) (λ i d ms q. q) sent to
+    long = length-set people to _ ∙ length-set ps a _ ∙ inv.long ∙ sym (length-push to (App b args load rows) sent ∙ length-set s a _);
+    unmade = λ i h k. inv.unmade i (let z = length-push to (App b args load rows) sent in let w = length-set s a (seat sender ls) in omega arith) k;
+    firm = every_push IsFirmAt (App b args load rows) (λ i d ms q. q) sent to
         (every_set IsFirmAt s a sender ls within (firm_send a load c.holdings enough (inv.firm a c ls at)) inv.firm);
   }
 

@@ -105,13 +105,13 @@ has-receive me x (e ∷ es) c = has-receive me x es (receive_one me e c) ∙ has
 
 -- ---- taking a letter keeps what the actor has closed
 
-module _ (all : Thing → Option Row) (none : NoActorRows all) (me : ℕ) (c : Cell) (args : List Value) (load : List Loaded) (frame : Option Frame)
+module _ (all : Thing → Option Row) (none : NoActorRows all) (me : ℕ) (c : Cell) (args : List Value) (load : List Loaded) (frame : Option Frame) (brought : m.FinMap thing_cmp Row)
     (starts : (x : Thing) → InFrame frame x → Names args x)
     (exact : IsLoadOf all args load)
     (mine : (x : Thing) → owner_of x ≡ me → 0 < times_loaded x load → has_own c.holdings x ≡ true)
     (closed : IsClosedAt all me c) (rows : RowsAreAt all me c.holdings) where
   abbrev after : Cell
-  after = record c { frame = frame; holdings = receive me load c.holdings; dirty = true; reported = false }
+  after = record c { frame = frame; holdings = receive me load c.holdings; known = brought; dirty = true; reported = false }
 
   held-after : (x : Thing) → 0 < held_in after.holdings x → (0 < held_in c.holdings x) ⊎ (0 < times_loaded x load)
   held-after x h = ⊎_elim

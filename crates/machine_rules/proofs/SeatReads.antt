@@ -54,8 +54,8 @@ module _ (x : Thing) where
   unfolding loads_at
   loads_at-none = refl
 
-module _ (x : Thing) (b : ℕ) (vs : List Value) (load : List (Thing × Option Row)) where
-  pub letter_App : (inc_of x (App b vs load) ≡ 0) × (dec_of x (App b vs load) ≡ 0) × (load_count x (App b vs load) ≡ times_loaded x load)
+module _ (x : Thing) (b : ℕ) (vs : List Value) (load rows : List (Thing × Option Row)) where
+  pub letter_App : (inc_of x (App b vs load rows) ≡ 0) × (dec_of x (App b vs load rows) ≡ 0) × (load_count x (App b vs load rows) ≡ times_loaded x load)
   unfolding inc_of dec_of load_count
   letter_App = (refl, refl, refl)
 

@@ -116,7 +116,7 @@ cond_zero false n e = refl
 
 -- Post: the segment's cell c has the counts of the cell c0 before it
 module _ (s : Actors) (a : ℕ) (c0 c : Cell) (mail : List Letter) (at : seat_at s a ≡ seat c0 mail)
-    (b behaviour : ℕ) (args : List Value) (load : List (Thing × Option Row))
+    (b behaviour : ℕ) (args : List Value) (load rows : List (Thing × Option Row))
     (own_same : (x : Thing) → owner_of x ≡ a → own_in c.holdings x ≡ own_in c0.holdings x) (held_same : (x : Thing) → held_in c.holdings x ≡ held_in c0.holdings x)
     (has : (x : Thing) → owner_of x ≡ a → 0 < times_loaded x load → has_own c.holdings x ≡ true)
     (enough : (x : Thing) → owner_of x ≢ a → times_loaded x load ≤ held_in c.holdings x)
@@ -124,31 +124,31 @@ module _ (s : Actors) (a : ℕ) (c0 c : Cell) (mail : List Letter) (at : seat_at
   abbrev sent : Cell → Cell
   sent d = record d { holdings = send a load d.holdings }
 
-  pub post_balanced : Balanced s → Balanced (post a c mail b behaviour args load s)
-  post_balanced bal = push_balanced (set s a (seat (sent c) mail)) b (App behaviour args load) none none (cell_present s a c0 (sent c) mail at b target)
+  pub post_balanced : Balanced s → Balanced (post a c mail b behaviour args load rows s)
+  post_balanced bal = push_balanced (set s a (seat (sent c) mail)) b (App behaviour args load rows) none none (cell_present s a c0 (sent c) mail at b target)
       (cell_balanced s a c0 (sent c) mail at none none _ _
       (λ x is.
-      let l = letter_App x behaviour args load in
+      let l = letter_App x behaviour args load rows in
       let q = own-send a x load c.holdings is (has x is) in
       let h = held-send_own a x load c.holdings is in
       let os = own_same x is in let hs = held_same x in
-      let n = cond_zero (owner_of x == b) (inc_of x (App behaviour args load)) l.0 in
-      let n' = cond_zero (owner_of x == b) (dec_of x (App behaviour args load)) l.1 in
+      let n = cond_zero (owner_of x == b) (inc_of x (App behaviour args load rows)) l.0 in
+      let n' = cond_zero (owner_of x == b) (dec_of x (App behaviour args load rows)) l.1 in
       omega (arith, l.2))
       (λ x not.
-      let l = letter_App x behaviour args load in
+      let l = letter_App x behaviour args load rows in
       let h = held-send a x load c.holdings not in
       let en = enough x not in let hs = held_same x in
-      let n = cond_zero (owner_of x == b) (inc_of x (App behaviour args load)) l.0 in
-      let n' = cond_zero (owner_of x == b) (dec_of x (App behaviour args load)) l.1 in
+      let n = cond_zero (owner_of x == b) (inc_of x (App behaviour args load rows)) l.0 in
+      let n' = cond_zero (owner_of x == b) (dec_of x (App behaviour args load rows)) l.1 in
       omega (arith, l.2))
       bal)
 
-  pub post_prefix : Balanced s → NeverOverdraws s → NeverOverdraws (post a c mail b behaviour args load s)
+  pub post_prefix : Balanced s → NeverOverdraws s → NeverOverdraws (post a c mail b behaviour args load rows s)
   post_prefix bal p =
       let there = cell_present s a c0 (sent c) mail at b target in
-      push_prefix (set s a (seat (sent c) mail)) b (App behaviour args load) none there.0 there.1 (post_balanced bal)
-      (λ x is some. absurd (let l = letter_App x behaviour args load in omega (arith, l.0)))
+      push_prefix (set s a (seat (sent c) mail)) b (App behaviour args load rows) none there.0 there.1 (post_balanced bal)
+      (λ x is some. absurd (let l = letter_App x behaviour args load rows in omega (arith, l.0)))
       (cell_prefix s a c0 (sent c) mail at (λ x is. let q = own-send a x load c.holdings is (has x is) in let os = own_same x is in omega arith) p)
 
 none_of : (n : ℕ) → (0 < n → ⊥) → 0 ≡ n

@@ -29,13 +29,13 @@ use Rattle.machine_rules.specs.Cell.{Cell, first_cell}
 use Rattle.machine_rules.specs.Facts.{Facts, KeepsCounts}
 use Rattle.machine_rules.specs.Known.{AreExactLetters, IsSoundAt, Names, Reaches, Roots, in_fields, in_frame, in_table, row_at}
 use Rattle.machine_rules.specs.Plain.{first_actor, plain_row, start_of}
-use Rattle.machine_rules.specs.Options.{Options}
+use Rattle.machine_rules.specs.Options.{Deep, Options}
 use Rattle.machine_rules.specs.State.{first_state}
 use Rattle.machine_rules.specs.declared.PlainLetter.{PlainLetter}
 
 -- the letter `start`, if the program has it
 abbrev letters : Option ℕ → List Letter
-letters found = option_map_or (λ name. App name [] [] ∷ []) found []
+letters found = option_map_or (λ name. App name [] [] [] ∷ []) found []
 
 abbrev plain_letters : Option ℕ → List PlainLetter
 plain_letters found = option_map_or (λ name. record { behaviour = name; args = [] } ∷ []) found []
@@ -44,10 +44,10 @@ plain_letters found = option_map_or (λ name. record { behaviour = name; args = 
 letters_say : (found : Option ℕ) (x : Thing) → (sum_by (inc_of x) (letters found) ≡ 0) × (sum_by (dec_of x) (letters found) ≡ 0) × (sum_by (load_count x) (letters found) ≡ 0)
 letters_say None x = (refl, refl, refl)
 letters_say (Some name) x =
-    let w = letter_App x name [] [] in (
-      omega (arith, sum_by-cons (inc_of x) (App name [] []) [], w.0),
-      omega (arith, sum_by-cons (dec_of x) (App name [] []) [], w.1),
-      omega (arith, sum_by-cons (load_count x) (App name [] []) [], w.2, loaded-nil x),
+    let w = letter_App x name [] [] [] in (
+      omega (arith, sum_by-cons (inc_of x) (App name [] [] []) [], w.0),
+      omega (arith, sum_by-cons (dec_of x) (App name [] [] []) [], w.1),
+      omega (arith, sum_by-cons (load_count x) (App name [] [] []) [], w.2, loaded-nil x),
     )
 
 no_values : (all : Thing → Option Row) (x : Thing) → Reaches all (Names []) x → ⊥
@@ -183,5 +183,5 @@ module _ (program : Program) (found : Option ℕ) where
       absent zero e r = cc
       absent (suc i) e r = nobody_stands r
 
-pub start_facts : (program : Program) (options : Options) → 0 < options.weight → Facts (start_of program) (first_state program options)
-start_facts program options heavy = record { counts = start_keeps program (start_name program); program = refl; prints = refl; objects = refl; weight = heavy }
+pub start_facts : (program : Program) (options : Options) → 0 < options.weight → options.trace ≡ Deep → Facts (start_of program) (first_state program options)
+start_facts program options heavy deep = record { counts = start_keeps program (start_name program); program = refl; prints = refl; objects = refl; weight = heavy; deep = deep }

@@ -18,8 +18,17 @@ use Rattle.machine_rules.proofs.InHand.{AllCounted}
 use Rattle.machine_rules.proofs.Paths.{along_row, reach_into}
 use Rattle.machine_rules.proofs.Receiving.{own_row}
 use Rattle.machine_rules.specs.Cell.{Cell}
+use Rattle.machine_rules.specs.Collect.{without_unused}
 use Rattle.machine_rules.specs.Facts.{IsFirm}
+use Rattle.machine_rules.specs.Options.{Deep, Trace}
+use Rattle.machine_rules.specs.Options as options
 use Rattle.machine_rules.specs.Known.{Names, Reaches, row_at, IsKnown, InFrame, Roots, in_fields, in_frame, in_table, IsClosedAt, RowsAreAt}
+
+-- ---- what letters brought does not matter to the counts
+
+pub same_holdings : (trace : Trace) (a : ℕ) (c : Cell) → (without_unused trace a c).holdings ≡ c.holdings
+same_holdings Deep a c = refl
+same_holdings options.Roots a c = refl
 
 -- ---- counts
 

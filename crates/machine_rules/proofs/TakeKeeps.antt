@@ -23,7 +23,7 @@ use Rattle.machine_rules.specs.Cell.{Cell}
 use Rattle.machine_rules.specs.Facts.{IsFirm, IsFirmAt, IsPastRows, KeepsCounts}
 use Rattle.machine_rules.specs.Known.{Names, IsKnown, InFrame, Roots, in_fields, in_frame, in_table, IsClosedAt, RowsAreAt, row_at, IsSoundAt}
 use Rattle.machine_rules.specs.Plain.{frame_of, registers_of}
-use Rattle.machine_rules.specs.Take.{cell_after}
+use Rattle.machine_rules.specs.Take.{cell_after, learn}
 use Rattle.machine_rules.specs.declared.PlainLetter.{PlainLetter}
 use Rattle.orca_names.proofs.ThingOrder.{is_eq_true, cases_thing, thing_total}
 use Rattle.orca_names.specs.Names.{owner_of}
@@ -188,23 +188,23 @@ module _ (program : Program) (all : Thing → Option Row) (ps : List Person) (s 
 
 -- who stands beside it afterwards in the plain machine
 abbrev pub people_after : Program → ℕ → Cell → Letter → List Letter → List Person → List Person
-people_after program a c (App b args load) ls ps = set ps a (person_of (cell_after program a (App b args load) c) ls)
+people_after program a c (App b args load rows) ls ps = set ps a (person_of (cell_after program a (App b args load rows) c) ls)
 people_after program a c (Inc es) ls ps = ps
 people_after program a c (Dec es) ls ps = ps
 people_after program a c (Confirm t) ls ps = ps
 
 pub take_keeps_counts : (program : Program) (all : Thing → Option Row) (ps : List Person) (s : Actors) (inv : KeepsCounts all ps s)
     (a : ℕ) (c : Cell) (l : Letter) (ls : List Letter) (at : seat_at s a ≡ seat c (l ∷ ls)) → KeepsCounts all (people_after program a c l ls ps) (take_letter program a c l ls s)
-take_keeps_counts program all ps s inv a c (App b args load) ls at =
-    let l = App b args load in
+take_keeps_counts program all ps s inv a c (App b args load rows) ls at =
+    let l = App b args load rows in
     let letter : PlainLetter = record { behaviour = b; args = args } in
     let here = inv.sound a c (l ∷ ls) at in
     let mine : (x : Thing) → owner_of x ≡ a → 0 < times_loaded x load → has_own c.holdings x ≡ true = λ x o h.
-    counted_has c.holdings x (let z = safe_first x (own_in c.holdings x) l ls (safe_here program s a c l ls at inv.prefixes x o) in let w = letter_App x b args load in omega (arith, z.0, w.0, w.1, w.2)) in
+    counted_has c.holdings x (let z = safe_first x (own_in c.holdings x) l ls (safe_here program s a c l ls at inv.prefixes x o) in let w = letter_App x b args load rows in omega (arith, z.0, w.0, w.1, w.2)) in
     put program all ps s inv a c l ls at _ (length-set ps a _)
     (record {
-      closed = take_closed all inv.bare a c args load (frame_of program c.kind letter) (starts_named program c.kind letter) here.loads.0 mine here.closed here.rows;
-      rows = take_rows all inv.bare a c args load (frame_of program c.kind letter) (starts_named program c.kind letter) here.loads.0 mine here.closed here.rows;
+      closed = take_closed all inv.bare a c args load (frame_of program c.kind letter) (learn a rows c.known) (starts_named program c.kind letter) here.loads.0 mine here.closed here.rows;
+      rows = take_rows all inv.bare a c args load (frame_of program c.kind letter) (learn a rows c.known) (starts_named program c.kind letter) here.loads.0 mine here.closed here.rows;
       loads = here.loads.1;
     })
     (next_receive a load c.holdings)

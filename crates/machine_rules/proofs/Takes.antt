@@ -22,8 +22,8 @@ use Rattle.behaviour_code.specs.declared.code.Program.{Program}
 module _ (program : Program) (me : ℕ) (x : Thing) (c : Cell) (ls : List Letter) where
   -- the count that taking a letter leaves on a thing of one's own
   pub own-taken : (l : Letter) → owner_of x ≡ me → IsCovered x (own_in c.holdings x) (l ∷ ls) → own_in (cell_after program me l c).holdings x + load_count x l + dec_of x l ≡ own_in c.holdings x + inc_of x l
-  own-taken (App b vs load) o safe =
-      let f = safe_first x (own_in c.holdings x) (App b vs load) ls safe in let a = letter_App x b vs load in
+  own-taken (App b vs load rows) o safe =
+      let f = safe_first x (own_in c.holdings x) (App b vs load rows) ls safe in let a = letter_App x b vs load rows in
       omega (arith, f.0, a.0, a.1, a.2, own-receive me x load c.holdings o)
   own-taken (Inc es) o safe =
       let f = safe_first x (own_in c.holdings x) (Inc es) ls safe in let a = letter_Inc x es in
@@ -35,13 +35,13 @@ module _ (program : Program) (me : ℕ) (x : Thing) (c : Cell) (ls : List Letter
   own-taken (Confirm t) o safe = let a = letter_Confirm x t in omega (arith, a.0, a.1, a.2)
 
   pub held-taken_own : (l : Letter) → owner_of x ≡ me → held_in (cell_after program me l c).holdings x ≡ held_in c.holdings x
-  held-taken_own (App b vs load) o = held-receive_own me x load c.holdings o
+  held-taken_own (App b vs load rows) o = held-receive_own me x load c.holdings o
   held-taken_own (Inc es) o = held-raise_all me x es c.holdings
   held-taken_own (Dec es) o = held-lower_all me x es c.holdings
   held-taken_own (Confirm t) o = refl
 
   pub held-taken : (l : Letter) → owner_of x ≢ me → held_in (cell_after program me l c).holdings x ≡ held_in c.holdings x + load_count x l
-  held-taken (App b vs load) o = let a = letter_App x b vs load in
+  held-taken (App b vs load rows) o = let a = letter_App x b vs load rows in
       omega (arith, a.2, held-receive me x load c.holdings o)
   held-taken (Inc es) o = let a = letter_Inc x es in
       omega (arith, a.2, held-raise_all me x es c.holdings)

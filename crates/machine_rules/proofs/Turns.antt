@@ -20,6 +20,7 @@ use Rattle.letter_kinds.specs.Holdings.{Row, row_of}
 use Rattle.machine_rules.proofs.Segments.{MadeIn}
 use Rattle.machine_rules.specs.Cell.{Cell}
 use Rattle.machine_rules.specs.Go.{turn_of_cell}
+use Rattle.machine_rules.specs.Options.{Deep}
 use Rattle.machine_rules.specs.Known.{Names, Reaches, row_at, row_values}
 
 -- ---- paths through rows of objects are paths through rows of things
@@ -93,11 +94,11 @@ module _ (program : Program) (a : ℕ) (c : Cell) (frame : Frame) where
   abbrev pub turn_over : (ObjName → Option Row) → Stop
   turn_over rows = segment_of (record { program = program; me = a; base = c.holdings.next; rows = rows }) frame c.fields
 
-  pub turn_names : NamesOnlyFrom (row_at a c.holdings) a c.holdings.next frame c.fields (turn_of_cell program a c frame)
+  pub turn_names : NamesOnlyFrom (row_at a c.holdings) a c.holdings.next frame c.fields (turn_of_cell Deep program a c frame)
   turn_names = segment_names (record { program = program; me = a; base = c.holdings.next; rows = row_of a c.holdings }) frame c.fields
 
   pub turn_local : (rows : ObjName → Option Row) → ((x : Thing) → Reaches (thing_row rows) (Given frame c.fields) x → row_at a c.holdings x ≡ thing_row rows x)
-      → turn_of_cell program a c frame ≡ turn_over rows
+      → turn_of_cell Deep program a c frame ≡ turn_over rows
   turn_local rows agree = sym (segment_local (record { program = program; me = a; base = c.holdings.next; rows = rows }) frame c.fields (row_of a c.holdings) (λ x r. sym (agree x r)))
 
 -- ---- the values of an act

@@ -34,7 +34,7 @@ people_of actors = map person_of_plain actors
 -- the application letters, without their loads
 abbrev pub app_letters : List Letter → List PlainLetter
 app_letters [] = []
-app_letters (App behaviour args load ∷ mail) = record { behaviour = behaviour; args = args } ∷ app_letters mail
+app_letters (App behaviour args load rows ∷ mail) = record { behaviour = behaviour; args = args } ∷ app_letters mail
 app_letters (Inc things ∷ mail) = app_letters mail
 app_letters (Dec things ∷ mail) = app_letters mail
 app_letters (Confirm token ∷ mail) = app_letters mail

@@ -1,34 +1,57 @@
 -- Collect: an idle actor that did something frees what its fields do not reach (Orca, OOPSLA 2017).
-use Rattle.std.specs.Prelude.{ℕ, true, false, Bool, List, set, Option, Some, None}
+use Rattle.std.specs.Prelude.{ℕ, ◌==◌, not, true, false, Bool, List, ◌++◌, filter, map, set, Option, Some, None}
 use Rattle.std.specs.List.{list_any}
+use Rattle.std.specs.FinMap as m
 use Rattle.orca_names.specs.Names.{is_thing}
 use Rattle.orca_names.specs.declared.names.Thing.{Thing}
+use Rattle.orca_names.specs.declared.names.Value.{Value}
+use Rattle.orca_names.specs.declared.names.Value.TheVariants as values
 use Rattle.turn_rules.specs.declared.act.Frame.{Frame}
 use Rattle.reach_walk.specs.Marks.{marks_of}
 use Rattle.letter_kinds.specs.declared.letter.Letter.{Letter}
 use Rattle.letter_kinds.specs.Holdings.{row_of}
 use Rattle.letter_kinds.specs.Counting.{by_owner, given_back, sweep}
-use Rattle.machine_rules.specs.Actors.{Actors, Seat, push_decs, seat, seat_at}
-use Rattle.machine_rules.specs.Cell.{Cell, known_objects}
+use Rattle.machine_rules.specs.Actors.{Actors, Seat, push_decs, seat}
+use Rattle.machine_rules.specs.Cell.{Cell, known_objects, listed_objects, own_row_of, row_by_roots}
+use Rattle.machine_rules.specs.Options.{Trace, Deep, Roots}
 use Rattle.machine_rules.specs.State.{State, Step, NotEnabled, Goes}
 
 -- what the actor's fields reach, as far as it knows
-unfoldable pub is_marked : ℕ → Cell → Thing → Bool
-is_marked a c x = list_any (is_thing x) (marks_of (row_of a c.holdings) (known_objects a c.holdings) c.fields.values)
+unfoldable pub is_marked_deep : ℕ → Cell → Thing → Bool
+is_marked_deep a c x = list_any (is_thing x) (marks_of (row_of a c.holdings) (known_objects a c.holdings) c.fields.values)
+
+-- its fields, and its own objects that are counted
+unfoldable pub start_of_marks : ℕ → Cell → List Value
+start_of_marks a c =
+    c.fields.values ++ map (λ e. values.Obj (record { owner = a; serial = e.0 })) (filter (λ e. not (e.1.1 == 0)) (m.entries c.holdings.rows))
+
+-- what they reach through own rows alone
+unfoldable pub is_marked_by_roots : ℕ → Cell → Thing → Bool
+is_marked_by_roots a c x = list_any (is_thing x) (marks_of (own_row_of a c) (listed_objects a c) (start_of_marks a c))
+
+-- what they reach through all rows that it has: the rows of these objects stay
+unfoldable pub is_in_use : ℕ → Cell → Thing → Bool
+is_in_use a c x = list_any (is_thing x) (marks_of (row_by_roots a c) (listed_objects a c) (start_of_marks a c))
+
+abbrev pub is_marked : Trace → ℕ → Cell → Thing → Bool
+is_marked Deep a c = is_marked_deep a c
+is_marked Roots a c = is_marked_by_roots a c
+
+-- without the rows that letters brought and that are in use no more
+abbrev pub without_unused : Trace → ℕ → Cell → Cell
+without_unused Deep a c = c
+without_unused Roots a c = record c { known = m.retain_keys c.known (is_in_use a c) }
 
 -- the actor without what is not marked, and to each owner a Dec with what was held
 abbrev pub collected : (Thing → Bool) → ℕ → Cell → List Letter → Actors → Actors
 collected marked a c mail actors =
     push_decs (by_owner (given_back marked c.holdings)) (set actors a (seat (record c { holdings = sweep marked a c.holdings; dirty = false }) mail))
 
-abbrev pub collect_in : State → ℕ → Cell → Option Frame → Bool → List Letter → Step
-collect_in s a c (Some frame) dirty mail = NotEnabled
-collect_in s a c None false mail = NotEnabled
-collect_in s a c None true mail = Goes (record s { actors = collected (is_marked a c) a c mail s.actors })
+abbrev pub collect_in : Trace → State → ℕ → Cell → Option Frame → Bool → List Letter → Step
+collect_in trace s a c (Some frame) dirty mail = NotEnabled
+collect_in trace s a c None false mail = NotEnabled
+collect_in trace s a c None true mail = Goes (record s { actors = collected (is_marked trace a c) a (without_unused trace a c) mail s.actors })
 
-abbrev pub collect_at : State → ℕ → Option Seat → Step
-collect_at s a None = NotEnabled
-collect_at s a (Some o) = collect_in s a o.cell o.cell.frame o.cell.dirty o.mail
-
-abbrev pub collect : State → ℕ → Step
-collect s a = collect_at s a (seat_at s.actors a)
+abbrev pub collect_at : Trace → State → ℕ → Option Seat → Step
+collect_at trace s a None = NotEnabled
+collect_at trace s a (Some o) = collect_in trace s a o.cell o.cell.frame o.cell.dirty o.mail

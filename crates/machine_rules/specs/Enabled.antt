@@ -8,7 +8,7 @@ use Rattle.letter_kinds.specs.Detector.{Token, all_acked, token_numbered}
 use Rattle.letter_kinds.specs.declared.letter.Letter.{Letter}
 use Rattle.machine_rules.specs.Actors.{seat, seat_at}
 use Rattle.machine_rules.specs.Cell.{Cell}
-use Rattle.machine_rules.specs.Go.{turn_of_cell}
+use Rattle.machine_rules.specs.Go.{needed, turn_of_cell}
 use Rattle.machine_rules.specs.Next.{IsAtRest}
 use Rattle.machine_rules.specs.State.{State}
 
@@ -43,5 +43,6 @@ pub record IsRefusedAsFull (s : State) (e : Event) : Type 0 where
   pub framed : cell.frame ≡ Some frame
   pub kind : ℕ
   pub register : ℕ
-  pub makes : (turn_of_cell s.program actor cell frame).act ≡ New kind register
+  pub held : needed s.options.trace s.program actor cell frame ≡ None
+  pub makes : (turn_of_cell s.options.trace s.program actor cell frame).act ≡ New kind register
   pub made : 65536 ≤ length s.actors

@@ -11,6 +11,7 @@ use Rattle.machine_rules.specs.Agreement.{Agrees, Person, people_of}
 use Rattle.machine_rules.specs.Balance.{IsBalanced, NeverOverdraws}
 use Rattle.machine_rules.specs.Cell.{Cell}
 use Rattle.machine_rules.specs.Known.{IsSoundAt}
+use Rattle.machine_rules.specs.Options.{Deep}
 use Rattle.machine_rules.specs.Plain.{PlainState, objects_made, plain_row}
 use Rattle.machine_rules.specs.State.{State}
 
@@ -49,3 +50,4 @@ pub record Facts (p : PlainState) (s : State) : Type 0 where
   pub prints : p.prints ≡ s.prints
   pub objects : objects_made p.actors ≡ s.objects
   pub weight : 0 < s.options.weight
+  pub deep : s.options.trace ≡ Deep

@@ -62,7 +62,7 @@ pub record IsLoadOf (all : Thing → Option Row) (args : List Value) (load : Lis
   pub rows : RowsAreIn all load
 
 abbrev pub IsExactLetter : (Thing → Option Row) → Letter → Type 0
-IsExactLetter all (App behaviour args load) = IsLoadOf all args load
+IsExactLetter all (App behaviour args load rows) = IsLoadOf all args load
 IsExactLetter all (Inc things) = Unit {0}
 IsExactLetter all (Dec things) = Unit {0}
 IsExactLetter all (Confirm token) = Unit {0}

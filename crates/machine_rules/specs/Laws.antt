@@ -9,13 +9,13 @@ use Rattle.machine_rules.specs.Enabled.{CanHappen, IsRefusedAsFull}
 use Rattle.machine_rules.specs.Ends.{Ending, EndsAs}
 use Rattle.machine_rules.specs.Facts.{Facts}
 use Rattle.machine_rules.specs.Next.{IsEnabled, next}
-use Rattle.machine_rules.specs.Options.{Options}
+use Rattle.machine_rules.specs.Options.{Deep, Options}
 use Rattle.machine_rules.specs.Plain.{PlainState, start_of}
 use Rattle.machine_rules.specs.Run.{IsRun, PlainFollows, is_choice}
 use Rattle.machine_rules.specs.State.{State, Goes, IsFull, first_state}
 
 abbrev pub StartHasFacts : Type 0
-StartHasFacts = (program : Program) (options : Options) → 0 < options.weight → Facts (start_of program) (first_state program options)
+StartHasFacts = (program : Program) (options : Options) → 0 < options.weight → options.trace ≡ Deep → Facts (start_of program) (first_state program options)
 
 -- the event keeps the facts, beside the plain machine that makes the same choice
 abbrev pub KeepsFacts : Event → Type 0
@@ -33,10 +33,10 @@ CollectsKeepFacts = (a : ℕ) → KeepsFacts (Collect a)
 abbrev pub LeavesKeepFacts : Type 0
 LeavesKeepFacts = (a : ℕ) → KeepsFacts (Leave a)
 
--- at the start and after every event, clean cells are swept
+-- with deep tracing, at the start and after every event, clean cells are swept
 abbrev pub CleanStaySwept : Type 0
 CleanStaySwept = ((program : Program) (options : Options) → CleanAreSwept (first_state program options).actors)
-    × ((s t : State) (e : Event) → next s e ≡ Goes t → CleanAreSwept s.actors → CleanAreSwept t.actors)
+    × ((s t : State) (e : Event) → s.options.trace ≡ Deep → next s e ≡ Goes t → CleanAreSwept s.actors → CleanAreSwept t.actors)
 
 -- at the start and after every event, no actor holds a count on a thing of its own
 abbrev pub NoneGetsItsOwn : Type 0

@@ -9,21 +9,27 @@ use Rattle.letter_kinds.specs.declared.letter.Letter.{Letter}
 use Rattle.machine_rules.specs.Cell.{Cell}
 use Rattle.machine_rules.specs.State.{State, Step, NotEnabled}
 use Rattle.machine_rules.specs.Take.{take}
-use Rattle.machine_rules.specs.Go.{go}
-use Rattle.machine_rules.specs.Collect.{collect}
+use Rattle.machine_rules.specs.Go.{go_at}
+use Rattle.machine_rules.specs.Collect.{collect_at}
 use Rattle.machine_rules.specs.Block.{block}
+use Rattle.machine_rules.specs.Actors.{seat_at}
 use Rattle.machine_rules.specs.Leave.{leave}
+use Rattle.machine_rules.specs.Options.{Trace}
 use Rattle.machine_rules.specs.Detect.{hear, scan, reap}
 
+-- with this tracing
+abbrev pub next_by : Trace → State → Event → Step
+next_by trace s (Take a) = take s a
+next_by trace s (Go a) = go_at trace s a (seat_at s.actors a)
+next_by trace s (Collect a) = collect_at trace s a (seat_at s.actors a)
+next_by trace s (Leave a) = leave s a
+next_by trace s (Block a) = block s a
+next_by trace s Hear = hear s
+next_by trace s Scan = scan s
+next_by trace s (Reap token) = reap s token
+
 abbrev pub next : State → Event → Step
-next s (Take a) = take s a
-next s (Go a) = go s a
-next s (Collect a) = collect s a
-next s (Leave a) = leave s a
-next s (Block a) = block s a
-next s Hear = hear s
-next s Scan = scan s
-next s (Reap token) = reap s token
+next s e = next_by s.options.trace s e
 
 abbrev pub IsEnabled : State → Event → Type 0
 IsEnabled s e = next s e ≢ NotEnabled

@@ -1,5 +1,5 @@
 -- Runs of the machine that collects, and the plain machine beside each.
-use Rattle.std.specs.Prelude.{ℕ, ◌≡◌, Bool, true, false, if◌then◌else◌, List, [], ◌∷◌, Option, Some, None}
+use Rattle.std.specs.Prelude.{ℕ, ◌≡◌, ◌&&◌, is_none, Bool, true, false, if◌then◌else◌, List, [], ◌∷◌, Option, Some, None}
 use Rattle.behaviour_code.specs.declared.code.Program.{Program}
 use Rattle.turn_rules.specs.declared.act.Act.{Act}
 use Rattle.turn_rules.specs.declared.act.Act.TheVariants.{Post, New, Print, End}
@@ -11,10 +11,10 @@ use Rattle.letter_kinds.specs.declared.letter.Letter.TheVariants.{App, Inc, Dec,
 use Rattle.letter_kinds.specs.Holdings.{Holdings, with_made}
 use Rattle.machine_rules.specs.Actors.{Seat, seat_at}
 use Rattle.machine_rules.specs.Cell.{Cell}
-use Rattle.machine_rules.specs.Go.{lacking_from, turn_of_cell}
+use Rattle.machine_rules.specs.Go.{lacking_from, needed, turn_of_cell}
 use Rattle.machine_rules.specs.Lists.{is_empty}
 use Rattle.machine_rules.specs.Next.{next}
-use Rattle.machine_rules.specs.Options.{Options}
+use Rattle.machine_rules.specs.Options.{Options, Trace}
 use Rattle.machine_rules.specs.Plain.{PlainState, start_of}
 use Rattle.machine_rules.specs.Plain as plain
 use Rattle.machine_rules.specs.PlainRun.{outcome_of}
@@ -35,34 +35,36 @@ IsRun program options book t = Leads (first_state program options) book t
 -- the first letter is an application letter
 abbrev pub starts_with_app : List Letter → Bool
 starts_with_app [] = false
-starts_with_app (App behaviour args load ∷ mail) = true
+starts_with_app (App behaviour args load rows ∷ mail) = true
 starts_with_app (Inc things ∷ mail) = false
 starts_with_app (Dec things ∷ mail) = false
 starts_with_app (Confirm token ∷ mail) = false
 
 -- the act of a go that does not mint: the actor lacks nothing of what a letter loads
-abbrev pub act_is_choice : ℕ → Holdings → Act → Bool
-act_is_choice a h End = true
-act_is_choice a h (Print value) = true
-act_is_choice a h (New kind register) = true
-act_is_choice a h (Post to behaviour args) = is_empty (lacking_from a h args)
+abbrev pub act_is_choice : Trace → ℕ → Holdings → Act → Bool
+act_is_choice trace a h End = true
+act_is_choice trace a h (Print value) = true
+act_is_choice trace a h (New kind register) = true
+act_is_choice trace a h (Post to behaviour args) = is_empty (lacking_from trace a h args)
 
-abbrev pub go_is_choice : Program → ℕ → Cell → Option Frame → Bool
-go_is_choice program a c None = false
-go_is_choice program a c (Some frame) = let stop = turn_of_cell program a c frame in act_is_choice a (with_made stop.turn.made c.holdings) stop.act
+abbrev pub go_is_choice : Trace → Program → ℕ → Cell → Option Frame → Bool
+go_is_choice trace program a c None = false
+go_is_choice trace program a c (Some frame) =
+    let stop = turn_of_cell trace program a c frame in
+    is_none (needed trace program a c frame) && act_is_choice trace a (with_made stop.turn.made c.holdings) stop.act
 
 abbrev pub take_is_choice_at : Option Seat → Bool
 take_is_choice_at None = false
 take_is_choice_at (Some o) = starts_with_app o.mail
 
-abbrev pub go_is_choice_at : Program → ℕ → Option Seat → Bool
-go_is_choice_at program a None = false
-go_is_choice_at program a (Some o) = go_is_choice program a o.cell o.cell.frame
+abbrev pub go_is_choice_at : Trace → Program → ℕ → Option Seat → Bool
+go_is_choice_at trace program a None = false
+go_is_choice_at trace program a (Some o) = go_is_choice trace program a o.cell o.cell.frame
 
 -- takes of application letters, and goes that do not mint
 abbrev pub is_choice : State → Event → Bool
 is_choice s (Take a) = take_is_choice_at (seat_at s.actors a)
-is_choice s (Go a) = go_is_choice_at s.program a (seat_at s.actors a)
+is_choice s (Go a) = go_is_choice_at s.options.trace s.program a (seat_at s.actors a)
 is_choice s (Collect a) = false
 is_choice s (Leave a) = false
 is_choice s (Block a) = false

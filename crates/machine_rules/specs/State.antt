@@ -25,7 +25,7 @@ pub record State : Type 0 where
 
 -- the letter `start`, with no arguments
 abbrev pub start_letters : Program → List Letter
-start_letters program = option_map_or (λ name. App name [] [] ∷ []) (start_name program) []
+start_letters program = option_map_or (λ name. App name [] [] [] ∷ []) (start_name program) []
 
 -- one actor of the first kind, with the letter `start`
 abbrev pub first_state : Program → Options → State

@@ -1,5 +1,5 @@
 -- Marks and loads: what values reach through finitely many rows, as lists.
-use Rattle.std.specs.Prelude.{◌≡◌, if◌then◌else◌, List, [], ◌∷◌, ◌++◌, Option, Some, Contains, map}
+use Rattle.std.specs.Prelude.{◌≡◌, if◌then◌else◌, List, [], ◌∷◌, ◌++◌, Option, Some, None, Contains, map}
 use Rattle.std.specs.FinMap.Entries.{by_order}
 use Rattle.std.specs.List.{list_any}
 use Rattle.orca_names.specs.Names.{owner_of, thing_cmp, is_thing}
@@ -42,3 +42,7 @@ marks_of rows all roots = in_order (with_owners (led_to rows all (named_by roots
 -- the load of a letter: each mark of its arguments, with its row
 abbrev pub load_of : (ObjName → Option (List Value)) → List ObjName → List Value → List (Thing × Option (List Value))
 load_of rows all args = map (λ x. (x, thing_row rows x)) (marks_of rows all args)
+
+-- the load of a letter with root-only tracing: what stands in its arguments, and the owners of that
+unfoldable pub load_roots : List Value → List (Thing × Option (List Value))
+load_roots args = map (λ x. (x, None)) (in_order (with_owners (named_by args)))

@@ -143,3 +143,25 @@ run_from p (i ∷ rest) (Some label) place t = run_from p rest (if is_label labe
 abbrev pub segment_of : Setting → Frame → Fields → Stop
 segment_of p frame fields =
     run_from p (drop frame.place (body_of p.program frame.kind frame.behaviour)) None frame.place (record { registers = frame.registers; fields = fields; made = [] })
+
+-- ---- what a segment gets from rows
+
+-- what the instruction reads from a row
+abbrev pub got_by : Setting → Instr → Turn → List Value
+got_by p (I.Get d s i) t = place_of p t (value_at t s) i ∷ []
+got_by p _ t = []
+
+abbrev pub gets_on : (Option ℕ → ℕ → Turn → List Value) → ℕ → Effect × Turn → List Value
+gets_on go_on place (Next, t) = go_on None (place + 1) t
+gets_on go_on place (Leap label, t) = go_on (Some label) (place + 1) t
+gets_on go_on place (Acts act, t) = []
+
+abbrev pub gets_from : Setting → List Instr → Option ℕ → ℕ → Turn → List Value
+gets_from p [] sought place t = []
+gets_from p (i ∷ rest) None place t = got_by p i t ++ gets_on (gets_from p rest) place (step_of p i t)
+gets_from p (i ∷ rest) (Some label) place t = gets_from p rest (if is_label label i then None else Some label) (place + 1) t
+
+-- the values that a frame's segment reads from rows, in their order
+abbrev pub gets_of : Setting → Frame → Fields → List Value
+gets_of p frame fields =
+    gets_from p (drop frame.place (body_of p.program frame.kind frame.behaviour)) None frame.place (record { registers = frame.registers; fields = fields; made = [] })
