@@ -17,13 +17,14 @@ use Rattle.machine_rules.proofs.InHand.{in_hand, none, out_of_hand}
 use Rattle.machine_rules.proofs.Seats.{present_below}
 use Rattle.machine_rules.proofs.Sends.{cell_balanced, cell_prefix}
 use Rattle.machine_rules.proofs.TakeKeeps.{alike_closed, alike_self}
+use Rattle.machine_rules.specs.Options.{Deep, Trace}
 use Rattle.machine_rules.specs.Actors.{Actors, cell_at, cell_of, letters_of, mail_at, seat, seat_at}
 use Rattle.machine_rules.specs.Agreement.{Person}
 use Rattle.machine_rules.specs.Balance.{load_sum}
 use Rattle.machine_rules.specs.Block.{held_actors}
 use Rattle.machine_rules.specs.Cell.{Cell}
 use Rattle.machine_rules.specs.Enabled.{MayReport}
-use Rattle.machine_rules.specs.Facts.{IsFirmAt, IsPastRows, KeepsCounts}
+use Rattle.machine_rules.specs.Facts.{IsFirmAt, IsPastRows, KeepsCounts, Every, IsSound}
 use Rattle.machine_rules.specs.Known.{IsSoundAt}
 use Rattle.detector_laws.specs.Events.{CanBlock}
 use Rattle.detector_laws.specs.World as view
@@ -45,21 +46,24 @@ module _ (s : Actors) (a : ℕ) (c : Cell) (ls : List Letter) (at : seat_at s a 
   within : a < length s
   within = present_below s a _ at
 
-  pub block_keeps : (all : Thing → Option Row) (ps : List Person) → KeepsCounts all ps s → KeepsCounts all ps (set s a (seat (reporting c) ls))
+  pub block_put : (trace : Trace) (all : Thing → Option Row) (ps : List Person) → KeepsCounts trace all ps s → Every (IsSound trace all) (set s a (seat (reporting c) ls)) → KeepsCounts trace all ps (set s a (seat (reporting c) ls))
+  block_put trace all ps keeps sound = record {
+    balanced = out_of_hand _ (cell_balanced s a c (reporting c) ls at none none none none (λ x is. omega arith) (λ x not. omega arith) (in_hand s keeps.balanced));
+    prefixes = cell_prefix s a c (reporting c) ls at trace (λ x is. omega arith) keeps.prefixes;
+    sound = sound;
+    agrees = agrees_same ps s a c (reporting c) ls ls at refl keeps.agrees;
+    bare = keeps.bare;
+    serials = every_set (IsPastRows all) s a (reporting c) ls within (keeps.serials a c ls at) keeps.serials;
+    long = keeps.long ∙ sym (length-set s a (seat (reporting c) ls));
+    unmade = λ b h k. keeps.unmade b (let w = length-set s a (seat (reporting c) ls) in omega arith) k;
+    firm = every_set IsFirmAt s a (reporting c) ls within (keeps.firm a c ls at) keeps.firm;
+  }
+
+  pub block_keeps : (all : Thing → Option Row) (ps : List Person) → KeepsCounts Deep all ps s → KeepsCounts Deep all ps (set s a (seat (reporting c) ls))
   block_keeps all ps keeps =
       let here = keeps.sound a c ls at in
-      record {
-        balanced = out_of_hand _ (cell_balanced s a c (reporting c) ls at none none none none (λ x is. omega arith) (λ x not. omega arith) (in_hand s keeps.balanced));
-        prefixes = cell_prefix s a c (reporting c) ls at (λ x is. omega arith) keeps.prefixes;
-        sound = every_set (IsSoundAt all) s a (reporting c) ls within
-            (record { closed = alike_closed all a c c.holdings c.dirty true (alike_self a c.holdings) here.closed; rows = here.rows; loads = here.loads }) keeps.sound;
-        agrees = agrees_same ps s a c (reporting c) ls ls at refl keeps.agrees;
-        bare = keeps.bare;
-        serials = every_set (IsPastRows all) s a (reporting c) ls within (keeps.serials a c ls at) keeps.serials;
-        long = keeps.long ∙ sym (length-set s a (seat (reporting c) ls));
-        unmade = λ b h k. keeps.unmade b (let w = length-set s a (seat (reporting c) ls) in omega arith) k;
-        firm = every_set IsFirmAt s a (reporting c) ls within (keeps.firm a c ls at) keeps.firm;
-      }
+      block_put Deep all ps keeps (every_set (IsSoundAt all) s a (reporting c) ls within
+      (record { closed = alike_closed all a c c.holdings c.dirty true (alike_self a c.holdings) here.closed; rows = here.rows; loads = here.loads }) keeps.sound)
 
   -- ---- the world
 

@@ -71,7 +71,7 @@ plain_refused : (p : PlainState) (s : State) (e : Event) → AllFacts p s → Is
 plain_refused p s e facts r off =
     let stop = turn_of_cell Deep s.program r.actor r.cell r.frame in
     let went = plain_went p s facts.beside r.actor r.cell r.mail r.present r.frame r.framed in
-    let act = ap (after_act p r.actor (stopped_at r.frame stop) stop.turn.fields stop.turn.made) (sym (ap (λ q. (turn_of_cell q s.program r.actor r.cell r.frame).act) facts.beside.deep) ∙ r.makes) in
+    let act = ap (after_act p r.actor (stopped_at r.frame stop) stop.turn.fields stop.turn.made) (sym (ap (λ q. (turn_of_cell q s.program r.actor r.cell r.frame).act) facts.beside.mode) ∙ r.makes) in
     not_off _ (nat_lt (length p.actors) 65536) (sym (went ∙ act) ∙ (ap (outcome_of p) (sym r.is_go) ∙ off))
   where
     not_off : (u : PlainState) (room : Bool) → (if room then plain.Goes u else plain.IsFull) ≡ plain.NotEnabled → ⊥

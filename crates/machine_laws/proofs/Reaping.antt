@@ -17,6 +17,7 @@ use Rattle.machine_rules.proofs.Reaps.{AllIn}
 use Rattle.machine_rules.proofs.SeatReads.{loads_at-none}
 use Rattle.machine_rules.proofs.Sweeping.{amount-given_back, firm_counted}
 use Rattle.machine_rules.proofs.Sweeps.{owed, owed-groups, firm_groups}
+use Rattle.machine_rules.specs.Options.{Deep}
 use Rattle.machine_rules.specs.Actors.{Actors, cell_at, Seat, cell_of, letters_of, mail_at, push_decs, push_letter, seat_at, with_letter_more}
 use Rattle.machine_rules.specs.Agreement.{Person}
 use Rattle.machine_rules.specs.Balance.{loads_at, load_sum}
@@ -120,7 +121,7 @@ unfolding reaped
 reap_loads x all [] gs s = decs_loads x gs s
 reap_loads x all (m ∷ ms) gs s = omega (arith, reap_loads x all ms (gs ++ by_owner (held_outside all (seat_at s m))) (set s m None), clear_loads x s m)
 
-module _ (s : Actors) (d after : Detector) (ns : List Note) (ms : List ℕ) (all : Thing → Option Row) (ps : List Person) (keeps : KeepsCounts all ps s) where
+module _ (s : Actors) (d after : Detector) (ns : List Note) (ms : List ℕ) (all : Thing → Option Row) (ps : List Person) (keeps : KeepsCounts Deep all ps s) where
   gone_at : (m : ℕ) → has ms m ≡ true → seat_at (reap_members ms s) m ≡ None
   gone_at m h = reap_gone ms ms [] s m h
 
@@ -153,6 +154,6 @@ module _ (s : Actors) (d after : Detector) (ns : List Note) (ms : List ℕ) (all
     unloaded = λ x h. omega (arith, h, reap_loads (Actor x) ms ms [] s);
   }
 
-module _ (s : Actors) (d : Detector) (ns : List Note) (t : Token) (all : Thing → Option Row) (ps : List Person) (keeps : KeepsCounts all ps s) (opened : In t d.tokens) (acked : all_acked t ≡ true) where
+module _ (s : Actors) (d : Detector) (ns : List Note) (t : Token) (all : Thing → Option Row) (ps : List Person) (keeps : KeepsCounts Deep all ps s) (opened : In t d.tokens) (acked : all_acked t ≡ true) where
   pub reap_reaps : Reaps (world_of s d ns) t (world_of (reap_members t.members s) (close_token t d) ns)
   reap_reaps = record { is_open = opened; acked = acked; detector = refl; departs = departs s d (close_token t d) ns t.members all ps keeps }

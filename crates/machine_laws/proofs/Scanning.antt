@@ -15,6 +15,7 @@ use Rattle.letter_kinds.specs.Detector.{Detector, scanned, has, closed_set, cand
 use Rattle.letter_kinds.specs.Holdings.{Row}
 use Rattle.letter_kinds.specs.Reports.{report_of}
 use Rattle.letter_kinds.specs.Sums.{inc_of, dec_of}
+use Rattle.letter_kinds.specs.declared.letter.Letter.{Letter}
 use Rattle.letter_kinds.specs.declared.letter.Letter.TheVariants.{Confirm}
 use Rattle.letter_kinds.specs.declared.note.Note.{Note}
 use Rattle.letter_kinds.specs.declared.note.Report.{Report}
@@ -25,11 +26,13 @@ use Rattle.machine_rules.proofs.InHand.{Balanced, in_hand, none, out_of_hand}
 use Rattle.machine_rules.proofs.Posting.{push_balanced}
 use Rattle.machine_rules.proofs.SeatReads.{letter_Confirm}
 use Rattle.machine_rules.proofs.Sends.{push_prefix, cond_zero}
+use Rattle.machine_rules.specs.Cell.{Cell}
+use Rattle.machine_rules.specs.Options.{Deep, Trace}
 use Rattle.machine_rules.specs.Actors.{Actors, cell_at, Seat, cell_of, letters_of, mail_at, push_letter, seat_at, with_letter_more}
 use Rattle.machine_rules.specs.Agreement.{Person}
 use Rattle.machine_rules.specs.Balance.{load_sum}
 use Rattle.machine_rules.specs.Detect.{ask_all}
-use Rattle.machine_rules.specs.Facts.{IsFirmAt, IsPastRows, KeepsCounts}
+use Rattle.machine_rules.specs.Facts.{IsFirmAt, IsPastRows, KeepsCounts, IsSound}
 use Rattle.machine_rules.specs.Known.{IsSoundAt}
 use Rattle.detector_laws.proofs.Cells.{some_not_none}
 use Rattle.detector_laws.proofs.Members.{In_each, each_In}
@@ -42,6 +45,13 @@ use Rattle.detector_laws.specs.World as view
 use Rattle.detector_laws.specs.World.{World, ReportsAreExact}
 use Rattle.machine_laws.proofs.Moving.{push_here, push_other, added_cell, push_loads_same}
 use Rattle.machine_laws.proofs.Seen.{world_of}
+
+-- what an actor knows does not hang on Confirms
+abbrev pub Confirming : Trace → (Thing → Option Row) → Type 0
+Confirming trace all = (t i : ℕ) (c : Cell) (ms : List Letter) → IsSound trace all i c ms → IsSound trace all i c (ms ++ Confirm t ∷ [])
+
+pub confirms_deep : (all : Thing → Option Row) → Confirming Deep all
+confirms_deep all t i c ms q = record { closed = q.closed; rows = q.rows; loads = mail_push all ms (Confirm t) tt q.loads }
 
 -- ---- one Confirm
 
@@ -69,15 +79,15 @@ module _ (s : Actors) (b t : ℕ) where
       set_same (x ∷ xs) zero d = refl
       set_same (x ∷ xs) (suc i) d = ap (λ ys. x ∷ ys) (set_same xs i d)
 
-  ask_here : (all : Thing → Option Row) (ps : List Person) → (q : Seat) × (seat_at s b ≡ Some q) → KeepsCounts all ps s → KeepsCounts all ps (push_letter b (Confirm t) s)
-  ask_here all ps o keeps =
+  ask_here : (trace : Trace) (all : Thing → Option Row) (ps : List Person) (confirm : Confirming trace all) → (q : Seat) × (seat_at s b ≡ Some q) → KeepsCounts trace all ps s → KeepsCounts trace all ps (push_letter b (Confirm t) s)
+  ask_here trace all ps confirm o keeps =
       let l = Confirm t in
       let bal : Balanced (push_letter b l s) = push_balanced s b l none none o
       (λ x. let z = in_hand s keeps.balanced x in let k = letter_Confirm x t in let p = cond_zero (owner_of x == b) (inc_of x l) k.0 in let q = cond_zero (owner_of x == b) (dec_of x l) k.1 in omega (arith, k.2)) in
       record {
         balanced = out_of_hand _ bal;
-        prefixes = push_prefix s b l none o.0 o.1 bal (λ x is some. absurd (let k = letter_Confirm x t in omega (arith, k.0))) keeps.prefixes;
-        sound = every_push (IsSoundAt all) l (λ i c ms q. record { closed = q.closed; rows = q.rows; loads = mail_push all ms l tt q.loads }) s b keeps.sound;
+        prefixes = push_prefix trace s b l none o.0 o.1 bal (λ deep x is some. absurd (let k = letter_Confirm x t in omega (arith, k.0))) keeps.prefixes;
+        sound = every_push (IsSound trace all) l (λ i c ms q. confirm t i c ms q) s b keeps.sound;
         agrees = agrees_push_other ps s b l o.0 o.1 refl keeps.agrees;
         bare = keeps.bare;
         serials = every_push (IsPastRows all) l (λ i c ms q. q) s b keeps.serials;
@@ -86,12 +96,12 @@ module _ (s : Actors) (b t : ℕ) where
         firm = every_push IsFirmAt l (λ i c ms q. q) s b keeps.firm;
       }
 
-  ask_keeps : (all : Thing → Option Row) (ps : List Person) → KeepsCounts all ps s → KeepsCounts all ps (push_letter b (Confirm t) s)
-  ask_keeps all ps keeps = by_seat (seat_at s b) refl
+  ask_keeps : (trace : Trace) (all : Thing → Option Row) (ps : List Person) (confirm : Confirming trace all) → KeepsCounts trace all ps s → KeepsCounts trace all ps (push_letter b (Confirm t) s)
+  ask_keeps trace all ps confirm keeps = by_seat (seat_at s b) refl
     where
-      by_seat : (o : Option Seat) → seat_at s b ≡ o → KeepsCounts all ps (push_letter b (Confirm t) s)
-      by_seat None gone = subst (KeepsCounts all ps) (sym (ask_nobody gone)) keeps
-      by_seat (Some q) there = ask_here all ps (q, there) keeps
+      by_seat : (o : Option Seat) → seat_at s b ≡ o → KeepsCounts trace all ps (push_letter b (Confirm t) s)
+      by_seat None gone = subst (KeepsCounts trace all ps) (sym (ask_nobody gone)) keeps
+      by_seat (Some q) there = ask_here trace all ps confirm (q, there) keeps
 
   ask_loads : (x : Thing) → load_sum x (push_letter b (Confirm t) s) ≡ load_sum x s
   ask_loads x = push_loads_same s b (Confirm t) x (letter_Confirm x t).2
@@ -110,9 +120,9 @@ asks_loads : (ms : List ℕ) (t : ℕ) (s : Actors) (x : Thing) → load_sum x (
 asks_loads [] t s x = refl
 asks_loads (m ∷ ms) t s x = asks_loads ms t (push_letter m (Confirm t) s) x ∙ ask_loads s m t x
 
-asks_keep : (ms : List ℕ) (t : ℕ) (s : Actors) (all : Thing → Option Row) (ps : List Person) → KeepsCounts all ps s → KeepsCounts all ps (ask_all ms t s)
-asks_keep [] t s all ps keeps = keeps
-asks_keep (m ∷ ms) t s all ps keeps = asks_keep ms t (push_letter m (Confirm t) s) all ps (ask_keeps s m t all ps keeps)
+asks_keep : (trace : Trace) (all : Thing → Option Row) (confirm : Confirming trace all) (ms : List ℕ) (t : ℕ) (s : Actors) (ps : List Person) → KeepsCounts trace all ps s → KeepsCounts trace all ps (ask_all ms t s)
+asks_keep trace all confirm [] t s ps keeps = keeps
+asks_keep trace all confirm (m ∷ ms) t s ps keeps = asks_keep trace all confirm ms t (push_letter m (Confirm t) s) ps (ask_keeps s m t trace all ps confirm keeps)
 
 abbrev Distinct : List ℕ → Type 0
 Distinct [] = Unit {0}
@@ -177,8 +187,8 @@ module _ (s : Actors) (d : Detector) (ns : List Note) (rising : IsRising d.kept)
       let within : AllByRecursion (λ r. r.actor < length s) asked = In_each (λ r. r.actor < length s) asked (λ r i. all_made r.actor (name_In asked r i)) in
       omega (arith, some_le_all (length s) (λ b. 1) asked chosen.rising within, ones asked, ones_below (length s), length-map asked (λ r. r.actor))
 
-  pub scan_keeps : (all : Thing → Option Row) (ps : List Person) → KeepsCounts all ps s → KeepsCounts all ps (ask_all (closed_set d) (suc d.opened) s)
-  scan_keeps all ps keeps = asks_keep (closed_set d) (suc d.opened) s all ps keeps
+  pub scan_keeps : (trace : Trace) (all : Thing → Option Row) (confirm : Confirming trace all) (ps : List Person) → KeepsCounts trace all ps s → KeepsCounts trace all ps (ask_all (closed_set d) (suc d.opened) s)
+  scan_keeps trace all confirm ps keeps = asks_keep trace all confirm (closed_set d) (suc d.opened) s ps keeps
 
   pub scan_is : world_of (ask_all (closed_set d) (suc d.opened) s) (scanned d (closed_set d)) ns ≡ view.scan (world_of s d ns)
   scan_is =

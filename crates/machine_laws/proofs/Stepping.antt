@@ -68,7 +68,7 @@ awake_if c a (Reported r) h b =
     b
 awake_if c a Contradictory h b = absurd h
 
-module _ (p : PlainState) (s t : State) (beside : Facts p s) (facts : FactsHold (world s)) where
+module _ (p : PlainState) (s t : State) (beside : Facts Deep p s) (facts : FactsHold (world s)) where
   -- the map of all rows
   abbrev all : Thing → Option Row
   all = thing_row (plain_row p.actors)
@@ -203,12 +203,12 @@ module _ (p : PlainState) (s t : State) (beside : Facts p s) (facts : FactsHold 
       seat_takes : (o : Option Seat) → seat_at s.actors a ≡ o → take_at s a o ≡ Goes t → StepsTo t
       seat_takes None at e = absurd (not_enabled t e)
       seat_takes (Some o) at e = takes a o.cell o.cell.frame o.mail at e
-  next_steps (Go a) e = seat_goes (seat_at s.actors a) refl (sym (ap (λ q. go_at q s a (seat_at s.actors a)) beside.deep) ∙ e)
+  next_steps (Go a) e = seat_goes (seat_at s.actors a) refl (sym (ap (λ q. go_at q s a (seat_at s.actors a)) beside.mode) ∙ e)
     where
       seat_goes : (o : Option Seat) → seat_at s.actors a ≡ o → go_at Deep s a o ≡ Goes t → StepsTo t
       seat_goes None at e = absurd (not_enabled t e)
       seat_goes (Some o) at e = goes a o.cell o.cell.frame o.mail refl at e
-  next_steps (Collect a) e = seat_collects (seat_at s.actors a) refl (sym (ap (λ q. collect_at q s a (seat_at s.actors a)) beside.deep) ∙ e)
+  next_steps (Collect a) e = seat_collects (seat_at s.actors a) refl (sym (ap (λ q. collect_at q s a (seat_at s.actors a)) beside.mode) ∙ e)
     where
       seat_collects : (o : Option Seat) → seat_at s.actors a ≡ o → collect_at Deep s a o ≡ Goes t → StepsTo t
       seat_collects None at e = absurd (not_enabled t e)

@@ -56,7 +56,7 @@ event_keeps p s t e facts goes =
       record {
         beside = beside.2;
         own = no_self-next s t e goes facts.own;
-        clean = clean-next s t e facts.beside.deep goes facts.clean;
+        clean = clean-next s t e facts.beside.mode goes facts.clean;
         detector = next_keeps p s t facts.beside facts.detector facts.own e goes;
       },
     )

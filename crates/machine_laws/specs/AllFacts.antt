@@ -1,6 +1,7 @@
 -- All that holds in each state of a run, beside the machine that frees nothing.
 use Rattle.std.specs.Prelude.{length}
 use Rattle.orca_names.specs.declared.names.Thing.TheVariants.{Actor}
+use Rattle.machine_rules.specs.Options.{Deep}
 use Rattle.machine_rules.specs.Actors.{cell_at, mail_at}
 use Rattle.machine_rules.specs.Balance.{load_sum}
 use Rattle.machine_rules.specs.Clean.{CleanAreSwept, NoneHoldsItsOwn}
@@ -11,7 +12,7 @@ use Rattle.detector_laws.specs.Facts.{DetectorFacts}
 
 pub record AllFacts (p : PlainState) (s : State) : Type 0 where
   -- agreement, balance, prefixes, held closure, and what carries them
-  pub beside : Facts p s
+  pub beside : Facts Deep p s
   -- no actor holds a count on a thing of its own
   pub own : NoneHoldsItsOwn s.actors
   -- clean cells are swept

@@ -45,7 +45,7 @@ pub record IsNeverTooEarly (program : Program) (options : Options) (book : List 
   pub follows : IsPlainBeside program options book plain
   pub prints : plain.prints ≡ s.prints
   pub balanced : IsBalanced s.actors
-  pub covered : NeverOverdraws s.actors
+  pub covered : NeverOverdraws Deep s.actors
   -- what is reachable is left, and nothing freed is reachable
   pub left : (x : Thing) → IsReachable plain x → IsLeft s.actors x
   pub freed : (x : Thing) → IsFreed plain.actors s.actors x → IsReachable plain x → ⊥

@@ -7,6 +7,7 @@ use Rattle.machine_rules.proofs.Following.{Follows}
 use Rattle.machine_rules.proofs.Follows.{collect_kept, go_kept, take_kept}
 use Rattle.machine_rules.proofs.Leaving.{leave_kept}
 use Rattle.machine_rules.proofs.NoSelf.{no_self-first, no_self-next}
+use Rattle.machine_rules.specs.Options.{Deep}
 use Rattle.machine_rules.specs.Facts.{Facts}
 use Rattle.machine_rules.specs.Laws.{CleanStaySwept, CollectsKeepFacts, GoesKeepFacts, LeavesKeepFacts, NoneGetsItsOwn, TakesKeepFacts}
 use Rattle.machine_rules.specs.Plain.{PlainState}
@@ -16,7 +17,7 @@ use Rattle.machine_rules.specs.State.{State}
 
 -- the facts beside, and where the plain machine is then
 abbrev pub Beside : Bool → PlainState → Event → State → Type 0
-Beside choice p e t = (q : PlainState) × PlainFollows choice p e q × Facts q t
+Beside choice p e t = (q : PlainState) × PlainFollows choice p e q × Facts Deep q t
 
 pub followed : (choice : Bool) (p : PlainState) (e : Event) (t : State) → Follows choice (outcome_of p e) p t → Beside choice p e t
 followed true p e t h = h

@@ -15,6 +15,7 @@ use Rattle.machine_rules.proofs.InHand.{take_letter}
 use Rattle.machine_rules.proofs.TakeKeeps.{take_keeps_counts, next_receive}
 use Rattle.machine_rules.proofs.PlainSide.{StandsAt, objects_kept, people-set, rows_kept, same_rows, stands_beside}
 use Rattle.machine_rules.proofs.Steps.{goes_to}
+use Rattle.machine_rules.specs.Options.{Deep}
 use Rattle.machine_rules.specs.Actors.{seat, seat_at}
 use Rattle.machine_rules.specs.Agreement.{Person, app_letters, people_of, person_of, person_of_plain}
 use Rattle.machine_rules.specs.Cell.{Cell}
@@ -29,8 +30,8 @@ use Rattle.machine_rules.specs.declared.PlainLetter.{PlainLetter}
 
 -- where the event is a choice, the plain machine goes too; else it stays
 abbrev pub Follows : Bool → Outcome → PlainState → State → Type 0
-Follows true goes p t = (q : PlainState) × (goes ≡ plain.Goes q) × Facts q t
-Follows false goes p t = Facts p t
+Follows true goes p t = (q : PlainState) × (goes ≡ plain.Goes q) × Facts Deep q t
+Follows false goes p t = Facts Deep p t
 
 pub follows_on : (b : Bool) (goes : Outcome) (p : PlainState) (u t : State) → Goes u ≡ Goes t → Follows b goes p u → Follows b goes p t
 follows_on b goes p u t e h = subst (Follows b goes p) (goes_to u t e) h
@@ -50,7 +51,7 @@ took p a x l ls there idle mail =
     after : PlainActor → Outcome
     after y = plain.Goes (next_state p (set p.actors a y) p.prints)
 
-module _ (p : PlainState) (s : State) (facts : Facts p s) (a : ℕ) (c : Cell) (idle : c.frame ≡ None) where
+module _ (p : PlainState) (s : State) (facts : Facts Deep p s) (a : ℕ) (c : Cell) (idle : c.frame ≡ None) where
   abbrev all : Thing → Option Row
   all = thing_row (plain_row p.actors)
 
@@ -62,14 +63,14 @@ module _ (p : PlainState) (s : State) (facts : Facts p s) (a : ℕ) (c : Cell) (
     took p a x letter (app_letters ls) beside.there (ap (λ (q : Person). q.frame) beside.same ∙ idle) (ap (λ (q : Person). q.letters) beside.same),
     record {
       counts = same_rows all (thing_row (plain_row (set p.actors a y))) (people_of (set p.actors a y)) _ (rows_kept p.actors a x beside.there y refl)
-          (subst (λ people. KeepsCounts all people (take_letter s.program a c (App b args load rows) ls s.actors))
+          (subst (λ people. KeepsCounts Deep all people (take_letter s.program a c (App b args load rows) ls s.actors))
           (ap (set (people_of p.actors) a) (sym same) ∙ sym (people-set p.actors a y))
           (take_keeps_counts s.program all (people_of p.actors) s.actors facts.counts a c (App b args load rows) ls at));
       program = facts.program;
       prints = facts.prints;
       objects = objects_kept p.actors a x beside.there y refl ∙ facts.objects;
       weight = facts.weight;
-      deep = facts.deep;
+      mode = facts.mode;
     },
   )
     where
@@ -93,9 +94,9 @@ module _ (p : PlainState) (s : State) (facts : Facts p s) (a : ℕ) (c : Cell) (
           (ap (λ (q : Person). q.serial) beside.same ∙ sym (next_receive a load c.holdings))
 
   -- another letter
-  stays : (l : Letter) (ls : List Letter) (notes : List Note) → KeepsCounts all (people_of p.actors) (take_letter s.program a c l ls s.actors)
-      → Facts p (record s { actors = take_letter s.program a c l ls s.actors; notes = notes })
-  stays l ls notes counts = record { counts = counts; program = facts.program; prints = facts.prints; objects = facts.objects; weight = facts.weight; deep = facts.deep }
+  stays : (l : Letter) (ls : List Letter) (notes : List Note) → KeepsCounts Deep all (people_of p.actors) (take_letter s.program a c l ls s.actors)
+      → Facts Deep p (record s { actors = take_letter s.program a c l ls s.actors; notes = notes })
+  stays l ls notes counts = record { counts = counts; program = facts.program; prints = facts.prints; objects = facts.objects; weight = facts.weight; mode = facts.mode }
 
   pub take_follows : (f : Option Frame) (ls : List Letter) (t : State) → c.frame ≡ f → seat_at s.actors a ≡ seat c ls → take_in s a c f ls ≡ Goes t → Follows (starts_with_app ls) (plain_take p a) p t
   take_follows (Some f) ls t is at e = cc

@@ -82,7 +82,7 @@ fresh_blank w program kind x (in_fields h) = nulls_name_nothing (field_count pro
 fresh_blank w program kind x (in_frame h) = h
 fresh_blank w program kind x (in_table h) = absurd (let z = fresh_held w (fresh_cell w program kind).holdings (fresh_is w program kind) x in omega arith)
 
-module _ (p : PlainState) (s : State) (facts : Facts p s) (a : ℕ) (c : Cell) (ls : List Letter) (at : seat_at s.actors a ≡ seat c ls) (f : Frame) (is : c.frame ≡ Some f) where
+module _ (p : PlainState) (s : State) (facts : Facts Deep p s) (a : ℕ) (c : Cell) (ls : List Letter) (at : seat_at s.actors a ≡ seat c ls) (f : Frame) (is : c.frame ≡ Some f) where
   abbrev all : Thing → Option Row
   all = thing_row (plain_row p.actors)
 
@@ -132,7 +132,7 @@ module _ (p : PlainState) (s : State) (facts : Facts p s) (a : ℕ) (c : Cell) (
       length_more (r ∷ rows) made = omega (arith, length_more rows made)
 
   turned_kept : (nf : Option Frame) (nd : Bool) → ((z : Thing) → InFrame nf z → Names stop.turn.registers z)
-      → KeepsCounts all' (set (people_of p.actors) a (person_of (turned stop nf nd c) ls)) (set s.actors a (seat (turned stop nf nd c) ls))
+      → KeepsCounts Deep all' (set (people_of p.actors) a (person_of (turned stop nf nd c) ls)) (set s.actors a (seat (turned stop nf nd c) ls))
   unfolding turn after
   turned_kept nf nd names = turn_keeps_counts s.program all all' (people_of p.actors) s.actors facts.counts a c ls at f is grows nf nd names
 
@@ -141,9 +141,9 @@ module _ (p : PlainState) (s : State) (facts : Facts p s) (a : ℕ) (c : Cell) (
   rows_of nf = rows_alike p.actors a (y None) (y nf) refl
 
   beside_kept : (nf : Option Frame) (nd : Bool) → ((z : Thing) → InFrame nf z → Names stop.turn.registers z)
-      → KeepsCounts (thing_row (plain_row (set p.actors a (y nf)))) (people_of (set p.actors a (y nf))) (set s.actors a (seat (turned stop nf nd c) ls))
+      → KeepsCounts Deep (thing_row (plain_row (set p.actors a (y nf)))) (people_of (set p.actors a (y nf))) (set s.actors a (seat (turned stop nf nd c) ls))
   beside_kept nf nd names =
-      subst (λ people. KeepsCounts (thing_row (plain_row (set p.actors a (y nf)))) people (set s.actors a (seat (turned stop nf nd c) ls)))
+      subst (λ people. KeepsCounts Deep (thing_row (plain_row (set p.actors a (y nf)))) people (set s.actors a (seat (turned stop nf nd c) ls)))
       (ap (set (people_of p.actors) a) (sym (same_y nf nd)) ∙ sym (people-set p.actors a (y nf)))
       (same_rows all' (thing_row (plain_row (set p.actors a (y nf)))) _ _ (rows_of nf) (turned_kept nf nd names))
 
@@ -152,11 +152,11 @@ module _ (p : PlainState) (s : State) (facts : Facts p s) (a : ℕ) (c : Cell) (
 
   -- an end or a print: the turn, and what was printed
   turn_follows : (nf : Option Frame) (nd : Bool) (printed : List Value) → ((z : Thing) → InFrame nf z → Names stop.turn.registers z)
-      → Facts (next_state p (with_turn p.actors a nf stop.turn.fields stop.turn.made) (p.prints ++ printed))
+      → Facts Deep (next_state p (with_turn p.actors a nf stop.turn.fields stop.turn.made) (p.prints ++ printed))
       (record (with_turn_kept s stop (set s.actors a (seat (turned stop nf nd c) ls))) { prints = s.prints ++ printed })
   turn_follows nf nd printed names =
-      subst (λ actors. Facts (next_state p actors (p.prints ++ printed)) (record (with_turn_kept s stop (set s.actors a (seat (turned stop nf nd c) ls))) { prints = s.prints ++ printed })) (sym (turned_actors nf))
-      (record { counts = beside_kept nf nd names; program = facts.program; prints = ap (λ vs. vs ++ printed) facts.prints; objects = objects_more nf; weight = facts.weight; deep = facts.deep })
+      subst (λ actors. Facts Deep (next_state p actors (p.prints ++ printed)) (record (with_turn_kept s stop (set s.actors a (seat (turned stop nf nd c) ls))) { prints = s.prints ++ printed })) (sym (turned_actors nf))
+      (record { counts = beside_kept nf nd names; program = facts.program; prints = ap (λ vs. vs ++ printed) facts.prints; objects = objects_more nf; weight = facts.weight; mode = facts.mode })
 
   -- ---- one actor more
 
@@ -172,7 +172,7 @@ module _ (p : PlainState) (s : State) (facts : Facts p s) (a : ℕ) (c : Cell) (
   at1 : seat_at s1 a ≡ seat c1 ls
   at1 = at_same s.actors a (seat c ls) (seat c1 ls) within at a refl
 
-  kept1 : KeepsCounts all' (set (people_of p.actors) a (person_of c1 ls)) s1
+  kept1 : KeepsCounts Deep all' (set (people_of p.actors) a (person_of c1 ls)) s1
   kept1 = turned_kept (Some stopped) c.dirty (λ z h. h)
 
   -- the maker, which names the actor n and holds it
@@ -183,16 +183,16 @@ module _ (p : PlainState) (s : State) (facts : Facts p s) (a : ℕ) (c : Cell) (
   abbrev made_by : ℕ → ℕ → Cell → Actors → Actors
   made_by register n fresh actors = set actors a (seat (maker register n) ls) ++ seat fresh [] ∷ []
 
-  made_kept : (kind register : ℕ) → KeepsCounts all' (set (people_of p.actors) a (person_of (maker register (length s.actors)) ls) ++ person_of (fresh_cell s.options.weight s.program kind) [] ∷ [])
+  made_kept : (kind register : ℕ) → KeepsCounts Deep all' (set (people_of p.actors) a (person_of (maker register (length s.actors)) ls) ++ person_of (fresh_cell s.options.weight s.program kind) [] ∷ [])
       (made_by register (length s.actors) (fresh_cell s.options.weight s.program kind) s.actors)
   made_kept kind register =
       let fresh = fresh_cell s.options.weight s.program kind in
       let one = make_keeps_counts s.options.weight facts.weight all' (set (people_of p.actors) a (person_of c1 ls)) s1 kept1 a c1 ls at1 stopped refl register fresh (fresh_is s.options.weight s.program kind) (fresh_blank s.options.weight s.program kind) refl in
-      let two : KeepsCounts all' (set (set (people_of p.actors) a (person_of c1 ls)) a (person_of (maker register (length s.actors)) ls) ++ person_of fresh [] ∷ []) (made_by register (length s.actors) fresh s1) =
-      subst (λ n. KeepsCounts all' (set (set (people_of p.actors) a (person_of c1 ls)) a (person_of (maker register n) ls) ++ person_of fresh [] ∷ []) (made_by register n fresh s1)) (length-set s.actors a (seat c1 ls)) one in
-      let three : KeepsCounts all' (set (people_of p.actors) a (person_of (maker register (length s.actors)) ls) ++ person_of fresh [] ∷ []) (made_by register (length s.actors) fresh s1) =
-      subst (λ people. KeepsCounts all' (people ++ person_of fresh [] ∷ []) (made_by register (length s.actors) fresh s1)) (set-set (people_of p.actors) a (person_of c1 ls) (person_of (maker register (length s.actors)) ls)) two in
-      subst (λ actors. KeepsCounts all' (set (people_of p.actors) a (person_of (maker register (length s.actors)) ls) ++ person_of fresh [] ∷ []) (actors ++ seat fresh [] ∷ []))
+      let two : KeepsCounts Deep all' (set (set (people_of p.actors) a (person_of c1 ls)) a (person_of (maker register (length s.actors)) ls) ++ person_of fresh [] ∷ []) (made_by register (length s.actors) fresh s1) =
+      subst (λ n. KeepsCounts Deep all' (set (set (people_of p.actors) a (person_of c1 ls)) a (person_of (maker register n) ls) ++ person_of fresh [] ∷ []) (made_by register n fresh s1)) (length-set s.actors a (seat c1 ls)) one in
+      let three : KeepsCounts Deep all' (set (people_of p.actors) a (person_of (maker register (length s.actors)) ls) ++ person_of fresh [] ∷ []) (made_by register (length s.actors) fresh s1) =
+      subst (λ people. KeepsCounts Deep all' (people ++ person_of fresh [] ∷ []) (made_by register (length s.actors) fresh s1)) (set-set (people_of p.actors) a (person_of c1 ls) (person_of (maker register (length s.actors)) ls)) two in
+      subst (λ actors. KeepsCounts Deep all' (set (people_of p.actors) a (person_of (maker register (length s.actors)) ls) ++ person_of fresh [] ∷ []) (actors ++ seat fresh [] ∷ []))
       (set-set s.actors a (seat c1 ls) (seat (maker register (length s.actors)) ls)) three
 
   same_maker : (register n : ℕ) → person_of_plain (y (Some (with_name stopped register n))) ≡ person_of (maker register n) ls
@@ -205,7 +205,7 @@ module _ (p : PlainState) (s : State) (facts : Facts p s) (a : ℕ) (c : Cell) (
       length_people [] = refl
       length_people (z ∷ xs) = ap suc (length_people xs)
 
-  make_follows : (kind register : ℕ) → Facts (next_state p (with_turn p.actors a (Some (with_name stopped register (length p.actors))) stop.turn.fields stop.turn.made ++ fresh_actor p.program kind ∷ []) p.prints)
+  make_follows : (kind register : ℕ) → Facts Deep (next_state p (with_turn p.actors a (Some (with_name stopped register (length p.actors))) stop.turn.fields stop.turn.made ++ fresh_actor p.program kind ∷ []) p.prints)
       (with_turn_kept s stop (make s.options.weight a (turned stop (Some (with_name stopped register (length s.actors))) c.dirty c) ls (fresh_cell s.options.weight s.program kind) s.actors))
   make_follows kind register =
       let nf = Some (with_name stopped register (length s.actors)) in
@@ -217,15 +217,15 @@ module _ (p : PlainState) (s : State) (facts : Facts p s) (a : ℕ) (c : Cell) (
       let rows : (z : Thing) → all' z ≡ thing_row (plain_row (actors ++ mine ∷ [])) z = λ z. rows_of nf z ∙ rows_pushed actors mine refl z in
       let plain_actors : with_turn p.actors a (Some (with_name stopped register (length p.actors))) stop.turn.fields stop.turn.made ++ mine ∷ [] ≡ actors ++ mine ∷ [] =
       ap (λ n. with_turn p.actors a (Some (with_name stopped register n)) stop.turn.fields stop.turn.made ++ mine ∷ []) long ∙ ap (λ xs. xs ++ mine ∷ []) (turned_actors nf) in
-      subst (λ xs. Facts (next_state p xs p.prints) (with_turn_kept s stop (make s.options.weight a (turned stop nf c.dirty c) ls fresh s.actors))) (sym plain_actors)
+      subst (λ xs. Facts Deep (next_state p xs p.prints) (with_turn_kept s stop (make s.options.weight a (turned stop nf c.dirty c) ls fresh s.actors))) (sym plain_actors)
       (record {
-        counts = subst (λ ps. KeepsCounts (thing_row (plain_row (actors ++ mine ∷ []))) ps (made_by register (length s.actors) fresh s.actors)) (sym people)
+        counts = subst (λ ps. KeepsCounts Deep (thing_row (plain_row (actors ++ mine ∷ []))) ps (made_by register (length s.actors) fresh s.actors)) (sym people)
             (same_rows all' (thing_row (plain_row (actors ++ mine ∷ []))) _ _ rows (made_kept kind register));
         program = facts.program;
         prints = facts.prints;
         objects = objects_pushed actors mine refl ∙ objects_more nf;
         weight = facts.weight;
-      deep = facts.deep;
+      mode = facts.mode;
       })
 
   -- ---- a letter
@@ -255,14 +255,14 @@ module _ (p : PlainState) (s : State) (facts : Facts p s) (a : ℕ) (c : Cell) (
     abbrev turned_people : List Person
     turned_people = set (people_of p.actors) a (person_of c1 ls)
 
-    posted_kept : lacking a c1.holdings load ≡ [] → KeepsCounts all' (set turned_people to (with_letter b args (person_at turned_people to))) (post a c1 ls to b args load [] s.actors)
+    posted_kept : lacking a c1.holdings load ≡ [] → KeepsCounts Deep all' (set turned_people to (with_letter b args (person_at turned_people to))) (post a c1 ls to b args load [] s.actors)
     posted_kept full =
         let one = post_keeps_counts all' turned_people s1 kept1 a c1 ls at1 to b args load [] exact1 (load_from-once a c1.holdings args) load_known target_known full in
         let same : set turned_people a (person_of sender ls) ≡ turned_people =
         set-set (people_of p.actors) a (person_of c1 ls) (person_of sender ls) ∙ ap (set (people_of p.actors) a) (ap (λ next. record (person_of c1 ls) { serial = next }) (next_send a load c1.holdings)) in
-        let two : KeepsCounts all' (set turned_people to (with_letter b args (person_at turned_people to))) (post a c1 ls to b args load [] s1) =
-        subst (λ people. KeepsCounts all' (set people to (with_letter b args (person_at people to))) (post a c1 ls to b args load [] s1)) same one in
-        subst (λ actors. KeepsCounts all' (set turned_people to (with_letter b args (person_at turned_people to))) (push_letter to (App b args load []) actors)) (set-set s.actors a (seat c1 ls) (seat sender ls)) two
+        let two : KeepsCounts Deep all' (set turned_people to (with_letter b args (person_at turned_people to))) (post a c1 ls to b args load [] s1) =
+        subst (λ people. KeepsCounts Deep all' (set people to (with_letter b args (person_at people to))) (post a c1 ls to b args load [] s1)) same one in
+        subst (λ actors. KeepsCounts Deep all' (set turned_people to (with_letter b args (person_at turned_people to))) (push_letter to (App b args load []) actors)) (set-set s.actors a (seat c1 ls) (seat sender ls)) two
 
     -- the actor that gets the letter
     receiver : StandsAt (set p.actors a (y (Some stopped))) to (person_at (people_of (set p.actors a (y (Some stopped)))) to)
@@ -279,7 +279,7 @@ module _ (p : PlainState) (s : State) (facts : Facts p s) (a : ℕ) (c : Cell) (
     lettered = record receiver.actor { letters = receiver.actor.letters ++ letter ∷ [] }
 
     post_follows : lacking a c1.holdings load ≡ []
-        → Facts (next_state p (plain.with_letter (with_turn p.actors a (Some stopped) stop.turn.fields stop.turn.made) to letter) p.prints)
+        → Facts Deep (next_state p (plain.with_letter (with_turn p.actors a (Some stopped) stop.turn.fields stop.turn.made) to letter) p.prints)
         (with_turn_kept s stop (post a c1 ls to b args load [] s.actors))
     post_follows full =
         let actors = set p.actors a (y (Some stopped)) in
@@ -290,15 +290,15 @@ module _ (p : PlainState) (s : State) (facts : Facts p s) (a : ℕ) (c : Cell) (
         let people : people_of (set actors to lettered) ≡ set turned_people to (with_letter b args (person_at turned_people to)) =
         people-set actors to lettered ∙ ap (λ q. set (people_of actors) to (with_letter b args q)) receiver.same ∙ ap (λ ps. set ps to (with_letter b args (person_at ps to))) ours in
         let rows : (z : Thing) → all' z ≡ thing_row (plain_row (set actors to lettered)) z = λ z. rows_of (Some stopped) z ∙ rows_kept actors to receiver.actor receiver.there lettered refl z in
-        subst (λ xs. Facts (next_state p xs p.prints) (with_turn_kept s stop (post a c1 ls to b args load [] s.actors))) (sym plain_actors)
+        subst (λ xs. Facts Deep (next_state p xs p.prints) (with_turn_kept s stop (post a c1 ls to b args load [] s.actors))) (sym plain_actors)
         (record {
-          counts = subst (λ ps. KeepsCounts (thing_row (plain_row (set actors to lettered))) ps (post a c1 ls to b args load [] s.actors)) (sym people)
+          counts = subst (λ ps. KeepsCounts Deep (thing_row (plain_row (set actors to lettered))) ps (post a c1 ls to b args load [] s.actors)) (sym people)
               (same_rows all' (thing_row (plain_row (set actors to lettered))) _ _ rows (posted_kept full));
           program = facts.program;
           prints = facts.prints;
           objects = objects_kept actors to receiver.actor receiver.there lettered refl ∙ objects_more (Some stopped);
           weight = facts.weight;
-      deep = facts.deep;
+      mode = facts.mode;
         })
 
     -- ---- minting
@@ -315,7 +315,7 @@ module _ (p : PlainState) (s : State) (facts : Facts p s) (a : ℕ) (c : Cell) (
     held_present : (z : Thing) → 0 < held_in c.holdings z → IsPresent s.actors (owner_of z)
     held_present z h = let left = counted_left s.actors z (in_hand s.actors facts.counts.balanced) facts.counts.prefixes (let w = held_below z s.actors a c ls at in omega arith) in (left.seat, left.present)
 
-    mint_follows : (e : Loaded) (es : List Loaded) → lacking a c1.holdings load ≡ e ∷ es → Facts p (record s { actors = mint a c ls (owner_of e.0) (to_mint s.options.weight (owner_of e.0) (e ∷ es)) s.actors })
+    mint_follows : (e : Loaded) (es : List Loaded) → lacking a c1.holdings load ≡ e ∷ es → Facts Deep p (record s { actors = mint a c ls (owner_of e.0) (to_mint s.options.weight (owner_of e.0) (e ∷ es)) s.actors })
     mint_follows e es l = record {
       counts = mint_keeps_counts all (people_of p.actors) s.actors facts.counts a c ls at (owner_of e.0) (to_mint s.options.weight (owner_of e.0) (e ∷ es)) (theirs e es l) (counted_mint s.options.weight facts.weight (owner_of e.0) (e ∷ es))
           (held_present e.0 (theirs e es l e.0 (first_minted s.options.weight facts.weight e es)).1);
@@ -323,7 +323,7 @@ module _ (p : PlainState) (s : State) (facts : Facts p s) (a : ℕ) (c : Cell) (
       prints = facts.prints;
       objects = facts.objects;
       weight = facts.weight;
-      deep = facts.deep;
+      mode = facts.mode;
     }
 
     letter_follows : (lack : List Loaded) → lacking a c1.holdings load ≡ lack
@@ -337,10 +337,10 @@ module _ (p : PlainState) (s : State) (facts : Facts p s) (a : ℕ) (c : Cell) (
   nothing_printed [] = refl
   nothing_printed (v ∷ prints) = ap (λ r. v ∷ r) (nothing_printed prints)
 
-  end_follows : Facts (next_state p (with_turn p.actors a None stop.turn.fields stop.turn.made) p.prints) (with_turn_kept s stop (set s.actors a (seat (turned stop None true c) ls)))
+  end_follows : Facts Deep (next_state p (with_turn p.actors a None stop.turn.fields stop.turn.made) p.prints) (with_turn_kept s stop (set s.actors a (seat (turned stop None true c) ls)))
   end_follows =
-      subst (λ prints. Facts (next_state p (with_turn p.actors a None stop.turn.fields stop.turn.made) prints) (with_turn_kept s stop (set s.actors a (seat (turned stop None true c) ls)))) (nothing_printed p.prints)
-      (subst (λ prints. Facts (next_state p (with_turn p.actors a None stop.turn.fields stop.turn.made) (p.prints ++ [])) (record (with_turn_kept s stop (set s.actors a (seat (turned stop None true c) ls))) { prints = prints })) (nothing_printed s.prints)
+      subst (λ prints. Facts Deep (next_state p (with_turn p.actors a None stop.turn.fields stop.turn.made) prints) (with_turn_kept s stop (set s.actors a (seat (turned stop None true c) ls)))) (nothing_printed p.prints)
+      (subst (λ prints. Facts Deep (next_state p (with_turn p.actors a None stop.turn.fields stop.turn.made) (p.prints ++ [])) (record (with_turn_kept s stop (set s.actors a (seat (turned stop None true c) ls))) { prints = prints })) (nothing_printed s.prints)
       (turn_follows None true [] (λ z h. absurd h)))
 
   act_follows : (act : Act) (t : State) → stop.act ≡ act → act_in Deep s a c ls stopped stop act ≡ Goes t → Follows (act_is_choice Deep a (with_made stop.turn.made c.holdings) act) (after_act p a stopped stop.turn.fields stop.turn.made act) p t
@@ -365,7 +365,7 @@ module _ (p : PlainState) (s : State) (facts : Facts p s) (a : ℕ) (c : Cell) (
   go_of_frame : (t : State) → go_in Deep s a c (Some f) ls ≡ Goes t → Follows (go_is_choice Deep s.program a c (Some f)) (plain_go p a) p t
   go_of_frame t e = plain_follows (act_is_choice Deep a (with_made stop.turn.made c.holdings) stop.act) t (act_follows stop.act t refl e)
 
-pub go_follows : (p : PlainState) (s : State) → Facts p s → (a : ℕ) (c : Cell) (ls : List Letter) → seat_at s.actors a ≡ seat c ls → (f : Option Frame) → c.frame ≡ f → (t : State)
+pub go_follows : (p : PlainState) (s : State) → Facts Deep p s → (a : ℕ) (c : Cell) (ls : List Letter) → seat_at s.actors a ≡ seat c ls → (f : Option Frame) → c.frame ≡ f → (t : State)
     → go_in Deep s a c f ls ≡ Goes t → Follows (go_is_choice Deep s.program a c f) (plain_go p a) p t
 go_follows p s facts a c ls at None is t e = cc
 go_follows p s facts a c ls at (Some f) is t e = go_of_frame p s facts a c ls at f is t e

@@ -23,7 +23,7 @@ use Rattle.machine_rules.specs.PlainRun.{outcome_of}
 use Rattle.machine_rules.specs.State.{State, Goes}
 use Rattle.machine_rules.specs.Take.{take_at, take_in}
 
-module _ (p : PlainState) (s : State) (facts : Facts p s) (t : State) where
+module _ (p : PlainState) (s : State) (facts : Facts Deep p s) (t : State) where
   take_seat : (a : ℕ) (o : Option Seat) → seat_at s.actors a ≡ o → take_at s a o ≡ Goes t → Follows (take_is_choice_at o) (plain_take p a) p t
   take_seat a None at e = cc
   take_seat a (Some o) at e = by_frame o.cell.frame refl e
@@ -36,7 +36,7 @@ module _ (p : PlainState) (s : State) (facts : Facts p s) (t : State) where
   go_seat a None at e = cc
   go_seat a (Some o) at e = go_follows p s facts a o.cell o.mail at o.cell.frame refl t e
 
-  collect_cell : (a : ℕ) (c : Cell) (mail : List Letter) (f : Option Frame) (dirty : Bool) → c.frame ≡ f → seat_at s.actors a ≡ seat c mail → collect_in Deep s a c f dirty mail ≡ Goes t → Facts p t
+  collect_cell : (a : ℕ) (c : Cell) (mail : List Letter) (f : Option Frame) (dirty : Bool) → c.frame ≡ f → seat_at s.actors a ≡ seat c mail → collect_in Deep s a c f dirty mail ≡ Goes t → Facts Deep p t
   collect_cell a c mail (Some f) dirty is at e = cc
   collect_cell a c mail None false is at e = cc
   collect_cell a c mail None true is at e = follows_on false plain.NotEnabled p _ t e (record {
@@ -45,10 +45,10 @@ module _ (p : PlainState) (s : State) (facts : Facts p s) (t : State) where
     prints = facts.prints;
     objects = facts.objects;
     weight = facts.weight;
-    deep = facts.deep;
+    mode = facts.mode;
   })
 
-  collect_seat : (a : ℕ) (o : Option Seat) → seat_at s.actors a ≡ o → collect_at Deep s a o ≡ Goes t → Facts p t
+  collect_seat : (a : ℕ) (o : Option Seat) → seat_at s.actors a ≡ o → collect_at Deep s a o ≡ Goes t → Facts Deep p t
   collect_seat a None at e = cc
   collect_seat a (Some o) at e = collect_cell a o.cell o.mail o.cell.frame o.cell.dirty refl at e
 
@@ -57,8 +57,8 @@ module _ (p : PlainState) (s : State) (facts : Facts p s) (t : State) where
 
   pub go_kept : (a : ℕ) → next s (Go a) ≡ Goes t → Follows (is_choice s (Go a)) (outcome_of p (Go a)) p t
   go_kept a e =
-      subst (λ q. Follows (go_is_choice_at q s.program a (seat_at s.actors a)) (plain_go p a) p t) (sym facts.deep)
-      (go_seat a (seat_at s.actors a) refl (sym (ap (λ q. go_at q s a (seat_at s.actors a)) facts.deep) ∙ e))
+      subst (λ q. Follows (go_is_choice_at q s.program a (seat_at s.actors a)) (plain_go p a) p t) (sym facts.mode)
+      (go_seat a (seat_at s.actors a) refl (sym (ap (λ q. go_at q s a (seat_at s.actors a)) facts.mode) ∙ e))
 
-  pub collect_kept : (a : ℕ) → next s (Collect a) ≡ Goes t → Facts p t
-  collect_kept a e = collect_seat a (seat_at s.actors a) refl (sym (ap (λ q. collect_at q s a (seat_at s.actors a)) facts.deep) ∙ e)
+  pub collect_kept : (a : ℕ) → next s (Collect a) ≡ Goes t → Facts Deep p t
+  collect_kept a e = collect_seat a (seat_at s.actors a) refl (sym (ap (λ q. collect_at q s a (seat_at s.actors a)) facts.mode) ∙ e)

@@ -14,6 +14,7 @@ use Rattle.letter_kinds.specs.declared.letter.Letter.TheVariants.{App, Inc, Dec,
 use Rattle.machine_rules.proofs.InHand.{Sound, Balanced}
 use Rattle.machine_rules.proofs.Living.{Letters, here, later, Holds, Lives, stands, holds, row, owner}
 use Rattle.machine_rules.proofs.Paths.{along_row}
+use Rattle.machine_rules.specs.Options.{Deep}
 use Rattle.machine_rules.specs.Actors.{Seat, Actors, seat_at, seat}
 use Rattle.machine_rules.specs.Agreement.{Person, person_at, person_of, IsRootPerson, app_letters, Agrees}
 use Rattle.machine_rules.specs.Balance.{own_at, incs_at, loads_at, held_sum, load_sum, owner_seat, IsCoveredAt, NeverOverdraws}
@@ -29,7 +30,7 @@ use Rattle.reach_walk.specs.Reach.{root, owned}
 use Rattle.std.specs.Prelude.{sum_by}
 
 -- what is counted is left, by the balance and the prefixes
-pub counted_at : (s : Actors) (x : Thing) (o : Option Seat) → owner_seat s x ≡ o → IsCoveredAt x o → 0 < own_at x o + incs_at x o → IsLeft s x
+pub counted_at : (s : Actors) (x : Thing) (o : Option Seat) → owner_seat s x ≡ o → IsCoveredAt Deep x o → 0 < own_at x o + incs_at x o → IsLeft s x
 counted_at s x None e safe h = absurd (omega (arith, own_at-none x, incs_at-none x))
 counted_at s x (Some o) e safe h = record { seat = o; present = e; kept = counted_has o.cell.holdings x (positive (own_in o.cell.holdings x) (sum_by (inc_of x) o.mail) (λ z. safe_zero x (own_in o.cell.holdings x) o.mail safe z) (omega (arith, own_at-seat x o.cell o.mail, incs_at-seat x o.cell o.mail))) }
   where
@@ -37,10 +38,10 @@ counted_at s x (Some o) e safe h = record { seat = o; present = e; kept = counte
     positive zero i f h = let z = f refl in absurd (omega arith)
     positive (suc n) i f h = omega arith
 
-pub counted_left : (s : Actors) (x : Thing) → Balanced s → NeverOverdraws s → 0 < held_sum x s + load_sum x s → IsLeft s x
+pub counted_left : (s : Actors) (x : Thing) → Balanced s → NeverOverdraws Deep s → 0 < held_sum x s + load_sum x s → IsLeft s x
 counted_left s x bal p h = counted_at s x (owner_seat s x) refl (p x) (let z = bal x in omega arith)
 
-module _ (s : Actors) (bal : Balanced s) (p : NeverOverdraws s) where
+module _ (s : Actors) (bal : Balanced s) (p : NeverOverdraws Deep s) where
   pub known_left : (a : ℕ) (c : Cell) (ls : List Letter) (x : Thing) → seat_at s a ≡ seat c ls → IsKnown a c.holdings x → IsLeft s x
   known_left a c ls x at (inl own) = record { seat = record { cell = c; mail = ls }; present = ap (seat_at s) own.0 ∙ at; kept = own.1 }
   known_left a c ls x at (inr other) = counted_left s x bal p (let h = held_below x s a c ls at in let o = other.1 in omega arith)
@@ -79,7 +80,7 @@ args_loaded all x (Dec es ∷ ls) ok h = let r = args_loaded all x ls ok.1 h in 
 args_loaded all x (Confirm t ∷ ls) ok h = let r = args_loaded all x ls ok.1 h in omega (arith, sum_by-cons (load_count x) (Confirm t) ls)
 
 -- nothing that was freed lives in the plain machine
-module _ (all : Thing → Option Row) (ps : List Person) (s : Actors) (bal : Balanced s) (p : NeverOverdraws s) (sound : Sound all s) (agrees : Agrees ps s) where
+module _ (all : Thing → Option Row) (ps : List Person) (s : Actors) (bal : Balanced s) (p : NeverOverdraws Deep s) (sound : Sound all s) (agrees : Agrees ps s) where
   -- some present actor is it, reaches it, or has it in a load
   record Grasp (x : Thing) : Type 0 where
     by : ℕ

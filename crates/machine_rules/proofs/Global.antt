@@ -13,6 +13,7 @@ use Rattle.letter_kinds.specs.Sums.{times_loaded, load_count}
 use Rattle.letter_kinds.specs.declared.letter.Letter.{Letter}
 use Rattle.letter_kinds.specs.declared.letter.Letter.TheVariants.{App, Inc, Dec, Confirm}
 use Rattle.machine_rules.proofs.InHand.{Sound, Balanced}
+use Rattle.machine_rules.specs.Options.{Deep}
 use Rattle.machine_rules.specs.Actors.{Seat, Actors, seat_at, push_letter, seat}
 use Rattle.machine_rules.specs.Balance.{NeverOverdraws}
 use Rattle.machine_rules.specs.Cell.{Cell}
@@ -44,7 +45,7 @@ sound_push all s b l o at ok sound = rw (push_is s b l o at)
 
 -- the map of all rows grows by things that are not left
 module _ (all all' : Thing → Option Row) (New : Thing → Type 0) (only : (x : Thing) → (all' x ≡ all x) ⊎ New x)
-    (s : Actors) (bal : Balanced s) (p : NeverOverdraws s) (unborn : (x : Thing) → New x → IsLeft s x → ⊥) (bare : (x : Thing) (r : Row) → New x → all x ≡ Some r → ⊥) where
+    (s : Actors) (bal : Balanced s) (p : NeverOverdraws Deep s) (unborn : (x : Thing) → New x → IsLeft s x → ⊥) (bare : (x : Thing) (r : Row) → New x → all x ≡ Some r → ⊥) where
   still : (x : Thing) → IsLeft s x → all' x ≡ all x
   still x left = ⊎_elim (λ e. e) (λ new. absurd (unborn x new left)) (only x)
 

@@ -68,7 +68,7 @@ rows_swap rows rows' (e ∷ es) same h = (h.0 ∙ same e.0 (let z = loaded-same 
 pub left_present : (s : Actors) (to : ℕ) → IsLeft s (Actor to) → IsPresent s to
 left_present s to left = (left.seat, left.present)
 
-module _ (program : Program) (all all' : Thing → Option Row) (ps : List Person) (s : Actors) (inv : KeepsCounts all ps s)
+module _ (program : Program) (all all' : Thing → Option Row) (ps : List Person) (s : Actors) (inv : KeepsCounts Deep all ps s)
     (a : ℕ) (c : Cell) (ls : List Letter) (at : seat_at s a ≡ seat c ls) (f : Frame) (frame : c.frame ≡ Some f) where
   unfoldable pub turn : Stop
   turn = turn_of_cell Deep program a c f

@@ -16,11 +16,11 @@ use Rattle.machine_rules.proofs.SeatReads.{incs_at-seat, loads_at-seat, own_at-s
 use Rattle.machine_rules.proofs.Seats.{present_below}
 use Rattle.machine_rules.proofs.Sends.{held_below}
 use Rattle.machine_rules.proofs.Steps.{goes_to, not_enabled}
+use Rattle.machine_rules.specs.Options.{Deep, Trace}
 use Rattle.machine_rules.specs.Actors.{Actors, Seat, seat, seat_at}
 use Rattle.machine_rules.specs.Agreement.{Person, app_letters, people_of}
 use Rattle.machine_rules.specs.Balance.{held_sum, incs_at, load_sum, loads_at, own_at}
 use Rattle.machine_rules.specs.Cell.{Cell}
-use Rattle.machine_rules.specs.Detect.{reap_members}
 use Rattle.machine_rules.specs.Enabled.{MayReport}
 use Rattle.machine_rules.specs.Facts.{Facts, KeepsCounts}
 use Rattle.machine_rules.specs.Leave.{leave_at, leave_in, may_leave}
@@ -42,7 +42,7 @@ is_member a = rw (eq-eqb a a refl) refl
 no_sum : (f : Letter → ℕ) (ls : List Letter) → ls ≡ [] → sum_by f ls ≡ 0
 no_sum f ls e = ap (sum_by f) e ∙ sum-nil f
 
-module _ (all : Thing → Option Row) (ps : List Person) (s : Actors) (inv : KeepsCounts all ps s)
+module _ (trace : Trace) (all : Thing → Option Row) (ps : List Person) (s : Actors) (inv : KeepsCounts trace all ps s)
     (a : ℕ) (c : Cell) (ls : List Letter) (at : seat_at s a ≡ seat c ls) (may : MayReport c ls) (uncounted : c.holdings.count ≡ 0) where
   -- nobody holds the actor, and no letter loads it
   own_none : own_at (Actor a) (seat_at s a) ≡ 0
@@ -58,7 +58,7 @@ module _ (all : Thing → Option Row) (ps : List Person) (s : Actors) (inv : Kee
   pub unloaded : load_sum (Actor a) s ≡ 0
   unloaded = let z = inv.balanced (Actor a) in omega (arith, own_none, incs_none)
 
-  alone : (m i : ℕ) (d : Cell) (ms : List Letter) → has (a ∷ []) m ≡ true → has (a ∷ []) i ≡ false → seat_at s i ≡ seat d ms
+  pub alone : (m i : ℕ) (d : Cell) (ms : List Letter) → has (a ∷ []) m ≡ true → has (a ∷ []) i ≡ false → seat_at s i ≡ seat d ms
       → (held_in d.holdings (Actor m) ≡ 0) × (sum_by (load_count (Actor m)) ms ≡ 0)
   alone m i d ms ins out there =
       let w = sum-at (loads_at (Actor a)) s i None (present_below s i _ there) in
@@ -66,7 +66,7 @@ module _ (all : Thing → Option Row) (ps : List Person) (s : Actors) (inv : Kee
       subst (λ m. (held_in d.holdings (Actor m) ≡ 0) × (sum_by (load_count (Actor m)) ms ≡ 0)) (only_member a m ins)
       (omega (arith, unheld, held_below (Actor a) s i d ms there), omega (arith, unloaded, v, loads_at-seat (Actor a) d ms))
 
-  sealed : Sealed s a
+  pub sealed : Sealed s a
   sealed = record {
     cell = c;
     mail = ls;
@@ -77,26 +77,25 @@ module _ (all : Thing → Option Row) (ps : List Person) (s : Actors) (inv : Kee
     quiet = λ x. no_sum (load_count x) ls may.rest.empty;
   }
 
-  pub leave_keeps_counts : KeepsCounts all ps (reap_members (a ∷ []) s)
-  leave_keeps_counts = reap_keeps_counts all ps s inv (a ∷ []) (is_member a, tt) (sealed, tt) alone
-
-module _ (p : PlainState) (s : State) (facts : Facts p s) (t : State) where
-  leaves : (a : ℕ) (c : Cell) (ls : List Letter) (q : Bool) → may_leave c ls ≡ q → seat_at s.actors a ≡ seat c ls → leave_in s a q ≡ Goes t → Facts p t
+module _ (p : PlainState) (s : State) (facts : Facts Deep p s) (t : State) where
+  leaves : (a : ℕ) (c : Cell) (ls : List Letter) (q : Bool) → may_leave c ls ≡ q → seat_at s.actors a ≡ seat c ls → leave_in s a q ≡ Goes t → Facts Deep p t
   leaves a c ls false may at e = absurd (not_enabled t e)
   leaves a c ls true may at e =
       let able = may_go c ls may in
-      subst (Facts p) (goes_to _ t e) (record {
-        counts = leave_keeps_counts (thing_row (plain_row p.actors)) (people_of p.actors) s.actors facts.counts a c ls at able.0 able.1;
+      subst (Facts Deep p) (goes_to _ t e) (record {
+        counts = reap_keeps_counts (thing_row (plain_row p.actors)) (people_of p.actors) s.actors facts.counts (a ∷ []) (is_member a, tt)
+            (sealed Deep (thing_row (plain_row p.actors)) (people_of p.actors) s.actors facts.counts a c ls at able.0 able.1, tt)
+            (alone Deep (thing_row (plain_row p.actors)) (people_of p.actors) s.actors facts.counts a c ls at able.0 able.1);
         program = facts.program;
         prints = facts.prints;
         objects = facts.objects;
         weight = facts.weight;
-        deep = facts.deep;
+        mode = facts.mode;
       })
 
-  leave_seat : (a : ℕ) (o : Option Seat) → seat_at s.actors a ≡ o → leave_at s a o ≡ Goes t → Facts p t
+  leave_seat : (a : ℕ) (o : Option Seat) → seat_at s.actors a ≡ o → leave_at s a o ≡ Goes t → Facts Deep p t
   leave_seat a None at e = absurd (not_enabled t e)
   leave_seat a (Some o) at e = leaves a o.cell o.mail (may_leave o.cell o.mail) refl at e
 
-  pub leave_kept : (a : ℕ) → next s (Leave a) ≡ Goes t → Facts p t
+  pub leave_kept : (a : ℕ) → next s (Leave a) ≡ Goes t → Facts Deep p t
   leave_kept a e = leave_seat a (seat_at s.actors a) refl e

@@ -22,10 +22,11 @@ use Rattle.machine_rules.proofs.Naming.{set_names}
 use Rattle.machine_rules.proofs.Paths.{along_row, reach_into}
 use Rattle.machine_rules.proofs.Receiving.{row_set_held_other}
 use Rattle.machine_rules.proofs.Seats.{present_below, some_seat}
+use Rattle.machine_rules.specs.Options.{Deep, Trace}
 use Rattle.machine_rules.specs.Actors.{Actors, seat, seat_at}
 use Rattle.machine_rules.specs.Agreement.{Agrees, IsRootPerson, Person, nobody, person_at, person_of}
 use Rattle.machine_rules.specs.Cell.{Cell}
-use Rattle.machine_rules.specs.Facts.{IsFirm, IsFirmAt, IsPastRows, KeepsCounts}
+use Rattle.machine_rules.specs.Facts.{IsFirm, IsFirmAt, IsPastRows, KeepsCounts, IsSound, Every}
 use Rattle.machine_rules.specs.Go.{make}
 use Rattle.machine_rules.specs.Known.{InFrame, IsClosedAt, IsKnown, IsSoundAt, Reaches, Roots, RowsAreAt, in_fields, in_frame, in_table, row_at}
 use Rattle.machine_rules.specs.Plain.{with_name}
@@ -75,7 +76,47 @@ fresh_has w q c f = ap is_some (f.1 q.serial)
 given_self : (w n : ℕ) → given w n (Actor n) ≡ w
 given_self w n = rw (is_self (Actor n)) refl
 
-module _ (wt : ℕ) (heavy : 0 < wt) (all : Thing → Option Row) (ps : List Person) (s : Actors) (inv : KeepsCounts all ps s)
+module _ (trace : Trace) (wt : ℕ) (heavy : 0 < wt) (all : Thing → Option Row) (ps : List Person) (s : Actors) (inv : KeepsCounts trace all ps s)
+    (a : ℕ) (c : Cell) (ls : List Letter) (at : seat_at s a ≡ seat c ls) (g : Frame)
+    (fresh : Cell) (is_fresh : IsFresh wt fresh.holdings) (zero_serial : fresh.holdings.next ≡ 0) where
+  abbrev d1 : Cell
+  d1 = record c { frame = Some g }
+
+  abbrev d2 : Cell
+  d2 = record d1 { holdings = gain wt (Actor (length s)) None c.holdings }
+
+  maker_within : a < length s
+  maker_within = present_below s a _ at
+
+  serial-d2 : d2.holdings.next ≡ c.holdings.next
+  serial-d2 = next_held (λ h. h + wt) (Actor (length s)) None c.holdings
+
+  firm-d2 : IsFirm d2.holdings
+  firm-d2 = firm_set_held (λ h. h + wt) (Actor (length s)) None c.holdings (omega arith) (inv.firm a c ls at)
+
+  abbrev first : Actors
+  first = set s a (seat d2 ls)
+
+  wide : length first ≡ length s
+  wide = length-set s a _
+
+  pub make_put : Every (IsSound trace all) (make wt a d1 ls fresh s) → KeepsCounts trace all (set ps a (person_of d2 ls) ++ person_of fresh [] ∷ []) (make wt a d1 ls fresh s)
+  make_put sound = record {
+    balanced = out_of_hand _ (make_balanced wt s a c d1 ls at (λ x. refl) (λ x. refl) fresh is_fresh (in_hand s inv.balanced));
+    prefixes = make_prefix wt s a c d1 ls at (λ x. refl) (λ x. refl) fresh is_fresh trace inv.prefixes;
+    sound = sound;
+    agrees = agrees_more (set ps a (person_of d2 ls)) first fresh [] (length-set ps a _ ∙ inv.long ∙ sym wide)
+        (agrees_set ps s a c d2 ls ls at (let w = inv.long in let z = maker_within in omega arith) inv.agrees);
+    bare = inv.bare;
+    serials = every_more (IsPastRows all) first fresh [] (λ k h. inv.unmade (length first) (let w = wide in omega arith) k)
+        (every_set (IsPastRows all) s a d2 ls maker_within (λ k h. inv.serials a c ls at k (let z = serial-d2 in omega arith)) inv.serials);
+    long = let x = length-append (set ps a (person_of d2 ls)) (person_of fresh [] ∷ []) in let y = length-append first (seat fresh [] ∷ []) in let z = length-set ps a (person_of d2 ls) in let w = wide in let l = inv.long in omega arith;
+    unmade = λ i h k. inv.unmade i (let y = length-append first (seat fresh [] ∷ []) in let w = wide in omega arith) k;
+    firm = every_more IsFirmAt first fresh [] (λ x e is. absurd (none_some' e (sym (is_fresh.2 x) ∙ is)))
+        (every_set IsFirmAt s a d2 ls maker_within firm-d2 inv.firm);
+  }
+
+module _ (wt : ℕ) (heavy : 0 < wt) (all : Thing → Option Row) (ps : List Person) (s : Actors) (inv : KeepsCounts Deep all ps s)
     (a : ℕ) (c : Cell) (ls : List Letter) (at : seat_at s a ≡ seat c ls) (f : Frame) (frame : c.frame ≡ Some f) (into : ℕ)
     (fresh : Cell) (is_fresh : IsFresh wt fresh.holdings) (blank : (x : Thing) → Roots fresh x → ⊥) (zero_serial : fresh.holdings.next ≡ 0) where
   abbrev n : ℕ
@@ -153,31 +194,13 @@ module _ (wt : ℕ) (heavy : 0 < wt) (all : Thing → Option Row) (ps : List Per
   rows-fresh (Obj q) (inl own) = absurd (let z = fresh_has wt q fresh.holdings is_fresh in let w = own.1 in no_way (sym z ∙ w))
   rows-fresh (Obj q) (inr held) = absurd (let z = fresh_held wt fresh.holdings is_fresh (Obj q) in let w = held.1 in omega arith)
 
-  serial-c2 : c2.holdings.next ≡ c.holdings.next
-  serial-c2 = next_held (λ h. h + wt) (Actor n) None c.holdings
+  abbrev first' : Actors
+  first' = set s a (seat c2 ls)
 
-  firm-c2 : IsFirm c2.holdings
-  firm-c2 = firm_set_held (λ h. h + wt) (Actor n) None c.holdings (omega arith) (inv.firm a c ls at)
+  wide' : length first' ≡ n
+  wide' = length-set s a _
 
-  abbrev first : Actors
-  first = set s a (seat c2 ls)
-
-  wide : length first ≡ n
-  wide = length-set s a _
-
-  pub make_keeps_counts : KeepsCounts all (set ps a (person_of c2 ls) ++ person_of fresh [] ∷ []) (make wt a c1 ls fresh s)
-  make_keeps_counts = record {
-    balanced = out_of_hand _ (make_balanced wt s a c c1 ls at (λ x. refl) (λ x. refl) fresh is_fresh (in_hand s inv.balanced));
-    prefixes = make_prefix wt s a c c1 ls at (λ x. refl) (λ x. refl) fresh is_fresh inv.prefixes;
-    sound = every_more (IsSoundAt all) first fresh [] (rw wide (record { closed = closed-fresh; rows = rows-fresh; loads = tt }))
-        (every_set (IsSoundAt all) s a c2 ls within (record { closed = closed-c2; rows = rows-c2; loads = (inv.sound a c ls at).loads }) inv.sound);
-    agrees = agrees_more (set ps a (person_of c2 ls)) first fresh [] (length-set ps a _ ∙ inv.long ∙ sym wide)
-        (agrees_set ps s a c c2 ls ls at (let w = inv.long in let z = within in omega arith) inv.agrees);
-    bare = inv.bare;
-    serials = every_more (IsPastRows all) first fresh [] (λ k h. inv.unmade (length first) (let w = wide in omega arith) k)
-        (every_set (IsPastRows all) s a c2 ls within (λ k h. inv.serials a c ls at k (let z = serial-c2 in omega arith)) inv.serials);
-    long = let x = length-append (set ps a (person_of c2 ls)) (person_of fresh [] ∷ []) in let y = length-append first (seat fresh [] ∷ []) in let z = length-set ps a (person_of c2 ls) in let w = wide in let l = inv.long in omega arith;
-    unmade = λ i h k. inv.unmade i (let y = length-append first (seat fresh [] ∷ []) in let w = wide in omega arith) k;
-    firm = every_more IsFirmAt first fresh [] (λ x e is. absurd (none_some' e (sym (is_fresh.2 x) ∙ is)))
-        (every_set IsFirmAt s a c2 ls within firm-c2 inv.firm);
-  }
+  pub make_keeps_counts : KeepsCounts Deep all (set ps a (person_of c2 ls) ++ person_of fresh [] ∷ []) (make wt a c1 ls fresh s)
+  make_keeps_counts = make_put Deep wt heavy all ps s inv a c ls at (with_name f into n) fresh is_fresh zero_serial
+      (every_more (IsSoundAt all) first' fresh [] (rw wide' (record { closed = closed-fresh; rows = rows-fresh; loads = tt }))
+      (every_set (IsSoundAt all) s a c2 ls within (record { closed = closed-c2; rows = rows-c2; loads = (inv.sound a c ls at).loads }) inv.sound))

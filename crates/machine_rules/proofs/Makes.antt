@@ -15,6 +15,7 @@ use Rattle.letter_kinds.specs.Holdings.{Holdings, own_in, held_in}
 use Rattle.letter_kinds.specs.Sums.{inc_of, dec_of, load_count}
 use Rattle.letter_kinds.specs.declared.letter.Letter.{Letter}
 use Rattle.machine_rules.proofs.InHand.{BalancedWith, none, Balanced}
+use Rattle.machine_rules.specs.Options.{Trace}
 use Rattle.machine_rules.specs.Actors.{Seat, Actors, seat_at, seat}
 use Rattle.machine_rules.specs.Balance.{own_at, incs_at, decs_at, held_at, loads_at, IsCoveredAt, NeverOverdraws}
 use Rattle.machine_rules.specs.Cell.{Cell}
@@ -54,10 +55,10 @@ module _ (s : Actors) (new : Option Seat) where
       (λ not. let q = others x not in rw (more_other (owner_of x) not) (omega arith))
       (cases_eq (owner_of x) (length s))
 
-  pub prefix-more : ((x : Thing) → owner_of x ≡ length s → IsCoveredAt x new) → NeverOverdraws s → NeverOverdraws (s ++ new ∷ [])
-  prefix-more mine p x = ⊎_elim
-      (λ is. subst (IsCoveredAt x) (sym (more_last (owner_of x) is)) (mine x is))
-      (λ not. subst (IsCoveredAt x) (sym (more_other (owner_of x) not)) (p x))
+  pub prefix-more : (trace : Trace) → ((x : Thing) → owner_of x ≡ length s → IsCoveredAt trace x new) → NeverOverdraws trace s → NeverOverdraws trace (s ++ new ∷ [])
+  prefix-more trace mine p x = ⊎_elim
+      (λ is. subst (IsCoveredAt trace x) (sym (more_last (owner_of x) is)) (mine x is))
+      (λ not. subst (IsCoveredAt trace x) (sym (more_other (owner_of x) not)) (p x))
       (cases_eq (owner_of x) (length s))
 
 -- a cell that counts w on itself and nothing else
@@ -119,9 +120,9 @@ module _ (w : ℕ) (s : Actors) (a : ℕ) (c0 c : Cell) (mail : List Letter) (at
       (λ x not. let h = held_given w n c.holdings x in let q = held_same x in omega arith)
       bal)
 
-  pub make_prefix : NeverOverdraws s → NeverOverdraws (make w a c mail fresh s)
-  make_prefix p =
+  pub make_prefix : (trace : Trace) → NeverOverdraws trace s → NeverOverdraws trace (make w a c mail fresh s)
+  make_prefix trace p =
       let n = length s in
-      prefix-more (set s a (seat maker mail)) (seat fresh [])
-      (λ x is. safe_nil x (own_in fresh.holdings x))
-      (cell_prefix s a c0 maker mail at (λ x is. let o = own_set_held (λ h. h + w) x (Actor n) None c.holdings in let p = own_same x in omega arith) p)
+      prefix-more (set s a (seat maker mail)) (seat fresh []) trace
+      (λ x is. safe_nil trace x (own_in fresh.holdings x))
+      (cell_prefix s a c0 maker mail at trace (λ x is. let o = own_set_held (λ h. h + w) x (Actor n) None c.holdings in let p = own_same x in omega arith) p)

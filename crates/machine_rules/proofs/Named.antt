@@ -10,6 +10,7 @@ use Rattle.letter_kinds.specs.declared.letter.Letter.{Letter}
 use Rattle.machine_rules.proofs.Freed.{counted_at, known_left, loaded_left}
 use Rattle.machine_rules.proofs.InHand.{in_hand}
 use Rattle.machine_rules.proofs.SeatReads.{decs_at-seat, incs_at-seat}
+use Rattle.machine_rules.specs.Options.{Deep}
 use Rattle.machine_rules.specs.Actors.{Actors, seat, seat_at}
 use Rattle.machine_rules.specs.Agreement.{Person}
 use Rattle.machine_rules.specs.Balance.{decs_at, incs_at, own_at, owner_seat}
@@ -17,7 +18,7 @@ use Rattle.machine_rules.specs.Cell.{Cell}
 use Rattle.machine_rules.specs.Facts.{KeepsCounts}
 use Rattle.machine_rules.specs.Left.{IsLeft, NamesNothingFreed, by_dec, by_inc, by_load, by_root}
 
-module _ (all : Thing → Option Row) (people : List Person) (s : Actors) (counts : KeepsCounts all people s) where
+module _ (all : Thing → Option Row) (people : List Person) (s : Actors) (counts : KeepsCounts Deep all people s) where
   -- what its owner counts, or is told to count, is left
   counted : (x : Thing) → 0 < own_at x (owner_seat s x) + incs_at x (owner_seat s x) → IsLeft s x
   counted x h = counted_at s x (owner_seat s x) refl (counts.prefixes x) h

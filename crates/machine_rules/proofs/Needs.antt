@@ -10,6 +10,7 @@ use Rattle.machine_rules.proofs.Living.{Lives, stands}
 use Rattle.machine_rules.proofs.ObjectsAtQuiet.{by_rows, exactly_left, held_reached, over_all}
 use Rattle.machine_rules.proofs.Reachable.{reachable_lives, lives_reachable}
 use Rattle.machine_rules.proofs.Rest.{AtRest}
+use Rattle.machine_rules.specs.Options.{Deep}
 use Rattle.machine_rules.specs.Actors.{Actors, seat, seat_at}
 use Rattle.machine_rules.specs.Agreement.{Person, IsRootPerson, people_of}
 use Rattle.machine_rules.specs.Cell.{Cell}
@@ -28,7 +29,7 @@ pub data IsNeeded (s : Actors) : ℕ → Type 0 where
 abbrev pub AllNeeded : Actors → Type 0
 AllNeeded s = Every (λ a c mail. IsNeeded s a) s
 
-module _ (all : Thing → Option Row) (people : List Person) (s : Actors) (inv : KeepsCounts all people s) (clean : CleanAreSwept s) (rest : AtRest s) where
+module _ (all : Thing → Option Row) (people : List Person) (s : Actors) (inv : KeepsCounts Deep all people s) (clean : CleanAreSwept s) (rest : AtRest s) where
   -- what a living actor holds, lives
   pub held_on : (a : ℕ) (c : Cell) (mail : List Letter) (x : Thing) → seat_at s a ≡ seat c mail → Lives all people (Actor a) → 0 < held_in c.holdings x → Lives all people x
   held_on a c mail x at lives h = by_rows all people s inv clean rest a c mail at lives
@@ -46,7 +47,7 @@ module _ (all : Thing → Option Row) (people : List Person) (s : Actors) (inv :
 
 -- ---- in the words of the plain machine
 
-module _ (p : PlainState) (s : State) (facts : Facts p s) (clean : CleanAreSwept s.actors) (rest : AtRest s.actors) where
+module _ (p : PlainState) (s : State) (facts : Facts Deep p s) (clean : CleanAreSwept s.actors) (rest : AtRest s.actors) where
   abbrev all : Thing → Option Row
   all = thing_row (plain_row p.actors)
 

@@ -19,6 +19,7 @@ use Rattle.machine_rules.proofs.Living.{Holds, Lives, holds, row, owner}
 use Rattle.machine_rules.proofs.Paths.{along_row, reach_into, reach_more}
 use Rattle.machine_rules.proofs.Rest.{AtRest}
 use Rattle.machine_rules.proofs.SeatReads.{own_at-seat, held_at-seat, incs_at-seat, decs_at-seat, loads_at-seat, held_at-none, loads_at-none}
+use Rattle.machine_rules.specs.Options.{Deep}
 use Rattle.machine_rules.specs.Actors.{Actors, Seat, seat, seat_at}
 use Rattle.machine_rules.specs.Agreement.{Person}
 use Rattle.machine_rules.specs.Balance.{IsBalanced, decs_at, incs_at, held_at, held_sum, loads_at}
@@ -119,7 +120,7 @@ pub record IsHeld (all : Thing → Option Row) (s : Actors) (x : Thing) : Type 0
 abbrev pub ActorsLive : (Thing → Option Row) → List Person → Actors → Type 0
 ActorsLive all people s = Every (λ a c mail. Lives all people (Actor a)) s
 
-module _ (all : Thing → Option Row) (people : List Person) (s : Actors) (inv : KeepsCounts all people s) (clean : CleanAreSwept s) (rest : AtRest s) where
+module _ (all : Thing → Option Row) (people : List Person) (s : Actors) (inv : KeepsCounts Deep all people s) (clean : CleanAreSwept s) (rest : AtRest s) where
   pub left_held : (n : ObjName) → IsLeft s (Obj n) → IsHeld all s (Obj n)
   left_held n left =
       let h = left_holder s inv.balanced clean rest n left in

@@ -15,6 +15,7 @@ use Rattle.machine_rules.proofs.Going.{Grows}
 use Rattle.machine_rules.proofs.Seats.{present_below}
 use Rattle.machine_rules.proofs.Segments.{Made}
 use Rattle.machine_rules.proofs.Slices.{slice_append_below, slice_append_past, slice_past, slice_push_last, slice_push_other, slice_read, slice_set_other, slice_set_same}
+use Rattle.machine_rules.specs.Options.{Trace}
 use Rattle.machine_rules.specs.Actors.{Actors, seat, seat_at}
 use Rattle.machine_rules.specs.Agreement.{Person, people_of, person_at, person_of, person_of_plain}
 use Rattle.machine_rules.specs.Cell.{Cell}
@@ -39,7 +40,7 @@ length-people : (actors : List PlainActor) → length (people_of actors) ≡ len
 length-people [] = refl
 length-people (x ∷ xs) = ap suc (length-people xs)
 
-pub stands_beside : (all : Thing → Option Row) (actors : List PlainActor) (s : Actors) → KeepsCounts all (people_of actors) s → (a : ℕ) (c : Cell) (ls : List Letter) → seat_at s a ≡ seat c ls
+pub stands_beside : {trace : Trace} (all : Thing → Option Row) (actors : List PlainActor) (s : Actors) → KeepsCounts trace all (people_of actors) s → (a : ℕ) (c : Cell) (ls : List Letter) → seat_at s a ≡ seat c ls
     → StandsAt actors a (person_of c ls)
 stands_beside all actors s kept a c ls at =
     stands_at actors a (person_of c ls) (omega (arith, length-people actors, kept.long, present_below s a _ at)) (kept.agrees.present a c ls at)
@@ -150,5 +151,5 @@ module _ (actors : List PlainActor) (y : PlainActor) (bare : y.rows ≡ []) wher
 
 -- ---- the same rows, told by another map
 
-pub same_rows : (all all' : Thing → Option Row) (people : List Person) (s : Actors) → ((z : Thing) → all z ≡ all' z) → KeepsCounts all people s → KeepsCounts all' people s
-same_rows all all' people s same kept = subst (λ (rows : Thing → Option Row). KeepsCounts rows people s) (λ i z. same z i) kept
+pub same_rows : {trace : Trace} (all all' : Thing → Option Row) (people : List Person) (s : Actors) → ((z : Thing) → all z ≡ all' z) → KeepsCounts trace all people s → KeepsCounts trace all' people s
+same_rows {trace = trace} all all' people s same kept = subst (λ (rows : Thing → Option Row). KeepsCounts trace rows people s) (λ i z. same z i) kept

@@ -17,12 +17,13 @@ use Rattle.letter_kinds.specs.Sums.{load_count}
 use Rattle.letter_kinds.specs.declared.letter.Letter.{Letter}
 use Rattle.letter_kinds.specs.declared.letter.Letter.TheVariants.{Dec}
 use Rattle.machine_rules.proofs.InHand.{in_hand, out_of_hand, none}
+use Rattle.machine_rules.specs.Options.{Deep, Trace}
 use Rattle.machine_rules.specs.Actors.{Seat, Actors, seat_at, seat}
 use Rattle.machine_rules.specs.Agreement.{Person, person_at, person_of, IsRootPerson, Agrees, app_letters}
 use Rattle.machine_rules.specs.Balance.{held_at, loads_at}
 use Rattle.machine_rules.specs.Cell.{Cell}
 use Rattle.machine_rules.specs.Detect.{reap_members, reaped}
-use Rattle.machine_rules.specs.Facts.{Every, IsFirmAt, IsPastRows, KeepsCounts}
+use Rattle.machine_rules.specs.Facts.{Every, IsFirmAt, IsPastRows, KeepsCounts, IsSound}
 use Rattle.machine_rules.specs.Known.{Reaches, IsKnown, in_table, IsSoundAt}
 use Rattle.orca_names.specs.Names.{owner_of}
 use Rattle.orca_names.specs.declared.names.Thing.{Thing}
@@ -90,29 +91,10 @@ pub record Sealed (s : Actors) (m : ℕ) : Type 0 where
 abbrev pub AllSealed : Actors → List ℕ → Type 0
 AllSealed s ms = AllByRecursion (Sealed s) ms
 
-module _ (all : Thing → Option Row) (ps : List Person) (s : Actors) (inv : KeepsCounts all ps s) (ms : List ℕ)
+module _ (trace : Trace) (all : Thing → Option Row) (ps : List Person) (s : Actors) (inv : KeepsCounts trace all ps s) (ms : List ℕ)
     (ins : AllIn ms ms) (is_sealed : AllSealed s ms)
-    (alone : (m i : ℕ) (c : Cell) (ls : List Letter) → has ms m ≡ true → has ms i ≡ false → seat_at s i ≡ seat c ls → (held_in c.holdings (Actor m) ≡ 0) × (sum_by (load_count (Actor m)) ls ≡ 0)) where
-  zero_or : (n : ℕ) → (n ≡ 0) ⊎ (0 < n)
-  zero_or zero = inl refl
-  zero_or (suc n) = inr (omega arith)
-
-  -- who holds a thing of a member holds the member
-  held_none : (x : Thing) (i : ℕ) (c : Cell) (ls : List Letter) → has ms (owner_of x) ≡ true → has ms i ≡ false → seat_at s i ≡ seat c ls → held_in c.holdings x ≡ 0
-  held_none x i c ls inside out at = ⊎_elim (λ z. z)
-      (λ some. absurd (by_known ((inv.sound i c ls at).closed (Actor (owner_of x)) (owner_reached all x (root (in_table some))))))
-      (zero_or (held_in c.holdings x))
-    where
-      by_known : IsKnown i c.holdings (Actor (owner_of x)) → ⊥
-      by_known (inl own) = let z = ap (has ms) own.0 in cc
-      by_known (inr other) = let z = (alone (owner_of x) i c ls inside out at).0 in let w = other.1 in absurd (omega arith)
-
-  loads_none : (x : Thing) (i : ℕ) (c : Cell) (ls : List Letter) → has ms (owner_of x) ≡ true → has ms i ≡ false → seat_at s i ≡ seat c ls → sum_by (load_count x) ls ≡ 0
-  loads_none x i c ls inside out at = ⊎_elim (λ z. z)
-      (λ some. absurd (let z = (alone (owner_of x) i c ls inside out at).1 in
-      let w = load_into all x (Actor (owner_of x)) ls (inv.sound i c ls at).loads (λ args load is h. is.whole (Actor (owner_of x)) (owner_reached all x (is.reached x h))) some in omega arith))
-      (zero_or (sum_by (load_count x) ls))
-
+    (held_none : (x : Thing) (i : ℕ) (c : Cell) (ls : List Letter) → has ms (owner_of x) ≡ true → has ms i ≡ false → seat_at s i ≡ seat c ls → held_in c.holdings x ≡ 0)
+    (loads_none : (x : Thing) (i : ℕ) (c : Cell) (ls : List Letter) → has ms (owner_of x) ≡ true → has ms i ≡ false → seat_at s i ≡ seat c ls → sum_by (load_count x) ls ≡ 0) where
   clean : (x : Thing) (i : ℕ) → has ms (owner_of x) ≡ true → has ms i ≡ false → (held_at x (seat_at s i) ≡ 0) × (loads_at x (seat_at s i) ≡ 0)
   clean x i inside out = by_seat (seat_at s i) refl
     where
@@ -147,7 +129,7 @@ module _ (all : Thing → Option Row) (ps : List Person) (s : Actors) (inv : Kee
   unfolding owed
   owed_none x = refl
 
-  under : Under ms ms [] s none none
+  under : Under trace ms ms [] s none none
   under = record {
     bal = in_hand s inv.balanced;
     prefix = inv.prefixes;
@@ -159,13 +141,13 @@ module _ (all : Thing → Option Row) (ps : List Person) (s : Actors) (inv : Kee
   }
 
   -- a reap
-  pub reap_keeps_counts : KeepsCounts all ps (reap_members ms s)
-  reap_keeps_counts =
-      let both = reap_keeps ms ms [] s none none ins (ready_all ms is_sealed) under in
+  pub reap_put : Every (IsSound trace all) (reap_members ms s) → KeepsCounts trace all ps (reap_members ms s)
+  reap_put sound =
+      let both = reap_keeps trace ms ms [] s none none ins (ready_all ms is_sealed) under in
       record {
         balanced = out_of_hand _ both.0;
         prefixes = both.1;
-        sound = every_reap (IsSoundAt all) (λ es b d ks q. record { closed = q.closed; rows = q.rows; loads = mail_push all ks (Dec es) tt q.loads }) ms ms [] s inv.sound;
+        sound = sound;
         agrees = agrees_reap ps ms ms [] s (idle_all ms is_sealed) inv.agrees;
         bare = inv.bare;
         serials = every_reap (IsPastRows all) (λ es b d ks q. q) ms ms [] s inv.serials;
@@ -173,3 +155,30 @@ module _ (all : Thing → Option Row) (ps : List Person) (s : Actors) (inv : Kee
         unmade = λ b h k. inv.unmade b (let z = length-reap ms ms [] s in omega arith) k;
         firm = every_reap IsFirmAt (λ es b d ks q. q) ms ms [] s inv.firm;
       }
+
+module _ (all : Thing → Option Row) (ps : List Person) (s : Actors) (inv : KeepsCounts Deep all ps s) (ms : List ℕ)
+    (ins : AllIn ms ms) (is_sealed : AllSealed s ms)
+    (alone : (m i : ℕ) (c : Cell) (ls : List Letter) → has ms m ≡ true → has ms i ≡ false → seat_at s i ≡ seat c ls → (held_in c.holdings (Actor m) ≡ 0) × (sum_by (load_count (Actor m)) ls ≡ 0)) where
+  zero_or : (n : ℕ) → (n ≡ 0) ⊎ (0 < n)
+  zero_or zero = inl refl
+  zero_or (suc n) = inr (omega arith)
+
+  -- who holds a thing of a member holds the member
+  held_none : (x : Thing) (i : ℕ) (c : Cell) (ls : List Letter) → has ms (owner_of x) ≡ true → has ms i ≡ false → seat_at s i ≡ seat c ls → held_in c.holdings x ≡ 0
+  held_none x i c ls inside out at = ⊎_elim (λ z. z)
+      (λ some. absurd (by_known ((inv.sound i c ls at).closed (Actor (owner_of x)) (owner_reached all x (root (in_table some))))))
+      (zero_or (held_in c.holdings x))
+    where
+      by_known : IsKnown i c.holdings (Actor (owner_of x)) → ⊥
+      by_known (inl own) = let z = ap (has ms) own.0 in cc
+      by_known (inr other) = let z = (alone (owner_of x) i c ls inside out at).0 in let w = other.1 in absurd (omega arith)
+
+  loads_none : (x : Thing) (i : ℕ) (c : Cell) (ls : List Letter) → has ms (owner_of x) ≡ true → has ms i ≡ false → seat_at s i ≡ seat c ls → sum_by (load_count x) ls ≡ 0
+  loads_none x i c ls inside out at = ⊎_elim (λ z. z)
+      (λ some. absurd (let z = (alone (owner_of x) i c ls inside out at).1 in
+      let w = load_into all x (Actor (owner_of x)) ls (inv.sound i c ls at).loads (λ args load is h. is.whole (Actor (owner_of x)) (owner_reached all x (is.reached x h))) some in omega arith))
+      (zero_or (sum_by (load_count x) ls))
+
+  pub reap_keeps_counts : KeepsCounts Deep all ps (reap_members ms s)
+  reap_keeps_counts = reap_put Deep all ps s inv ms ins is_sealed held_none loads_none
+      (every_reap (IsSoundAt all) (λ es b d ks q. record { closed = q.closed; rows = q.rows; loads = mail_push all ks (Dec es) tt q.loads }) ms ms [] s inv.sound)

@@ -12,6 +12,7 @@ use Rattle.machine_rules.proofs.Sweeping.{amount-given_back}
 use Rattle.letter_kinds.specs.Counting.{given_back, by_owner}
 use Rattle.letter_kinds.specs.Detector.{has}
 use Rattle.machine_rules.proofs.InHand.{BalancedWith, none, AllCounted, Balanced}
+use Rattle.machine_rules.specs.Options.{Trace}
 use Rattle.machine_rules.specs.Actors.{Seat, Actors, seat_at}
 use Rattle.machine_rules.specs.Balance.{own_at, incs_at, decs_at, held_at, loads_at, NeverOverdraws}
 use Rattle.machine_rules.specs.Detect.{held_outside, reaped}
@@ -46,8 +47,8 @@ remove_one s m d e within = balanced-set s m (seat_at s m) None within refl d e 
     let b = cond_ne (owner_of x) m (decs_at x (seat_at s m)) 0 not in
     omega (arith, held_at-none x, loads_at-none x))
 
-remove_prefix : (s : Actors) (m : ℕ) → m < length s → NeverOverdraws s → NeverOverdraws (set s m None)
-remove_prefix s m within = prefix-set s m (seat_at s m) None within refl (λ x is h. tt)
+remove_prefix : (trace : Trace) (s : Actors) (m : ℕ) → m < length s → NeverOverdraws trace s → NeverOverdraws trace (set s m None)
+remove_prefix trace s m within = prefix-set trace s m (seat_at s m) None within refl (λ x is h. tt)
 
 -- the facts about what is still to go: each is of the set, has no letter, and its entries are counted
 pub record Ready (all : List ℕ) (s : Actors) (m : ℕ) : Type 0 where
@@ -86,17 +87,17 @@ all_ready_later : (all : List ℕ) (s : Actors) (k : ℕ) (ms : List ℕ) → k 
 all_ready_later all s k [] within h = tt
 all_ready_later all s k (m ∷ ms) within h = (ready_later all s k m within h.0, all_ready_later all s k ms within h.1)
 
-pub record Under (all ms : List ℕ) (gs : List (ℕ × List (Thing × ℕ))) (s : Actors) (d e : Thing → ℕ) : Type 0 where
+pub record Under (trace : Trace) (all ms : List ℕ) (gs : List (ℕ × List (Thing × ℕ))) (s : Actors) (d e : Thing → ℕ) : Type 0 where
   pub bal : BalancedWith d e s
-  pub prefix : NeverOverdraws s
+  pub prefix : NeverOverdraws trace s
   pub firm : Firm gs
   pub outside : (x : Thing) → has all (owner_of x) ≡ false → (d x ≡ 0) × (e x ≡ owed gs x)
   pub inside : (x : Thing) → has all (owner_of x) ≡ true → owed gs x ≡ 0
   pub clean : (x : Thing) (i : ℕ) → has all (owner_of x) ≡ true → has all i ≡ false → (held_at x (seat_at s i) ≡ 0) × (loads_at x (seat_at s i) ≡ 0)
   pub gone : (i : ℕ) → has all i ≡ true → (seat_at s i ≡ None) ⊎ (has ms i ≡ true)
 
-done : (all : List ℕ) (gs : List (ℕ × List (Thing × ℕ))) (s : Actors) (d e : Thing → ℕ) → Under all [] gs s d e → BalancedWith none (owed gs) s
-done all gs s d e u x = ⊎_elim
+done : (trace : Trace) (all : List ℕ) (gs : List (ℕ × List (Thing × ℕ))) (s : Actors) (d e : Thing → ℕ) → Under trace all [] gs s d e → BalancedWith none (owed gs) s
+done trace all gs s d e u x = ⊎_elim
     (λ ins.
     let n = none_at (owner_of x) ins in
     let h = sum-zero (held_at x) s None (λ i. (zero_at x ins i).0) in
@@ -115,11 +116,11 @@ done all gs s d e u x = ⊎_elim
         (λ out. u.clean x i ins out)
         (cases_Bool (has all i))
 
-one_more : (all ms : List ℕ) (m : ℕ) (gs : List (ℕ × List (Thing × ℕ))) (s : Actors) (d e : Thing → ℕ) → has all m ≡ true → Ready all s m → Under all (m ∷ ms) gs s d e
-    → Under all ms (gs ++ by_owner (held_outside all (seat_at s m))) (set s m None) (λ x. lost m (seat_at s m) x + d x) (λ x. kept m (seat_at s m) x + e x)
-one_more all ms m gs s d e member r u = record {
+one_more : (trace : Trace) (all ms : List ℕ) (m : ℕ) (gs : List (ℕ × List (Thing × ℕ))) (s : Actors) (d e : Thing → ℕ) → has all m ≡ true → Ready all s m → Under trace all (m ∷ ms) gs s d e
+    → Under trace all ms (gs ++ by_owner (held_outside all (seat_at s m))) (set s m None) (λ x. lost m (seat_at s m) x + d x) (λ x. kept m (seat_at s m) x + e x)
+one_more trace all ms m gs s d e member r u = record {
   bal = remove_one s m d e r.within u.bal;
-  prefix = remove_prefix s m r.within u.prefix;
+  prefix = remove_prefix trace s m r.within u.prefix;
   firm = firm_append gs _ u.firm (firm_groups _ r.firm);
   outside = λ x out.
       let o = u.outside x out in
@@ -148,10 +149,10 @@ one_more all ms m gs s d e member r u = record {
 abbrev pub AllIn : List ℕ → List ℕ → Type 0
 AllIn all ms = AllByRecursion (λ m. has all m ≡ true) ms
 
-pub reap_keeps : (all ms : List ℕ) (gs : List (ℕ × List (Thing × ℕ))) (s : Actors) (d e : Thing → ℕ) → AllIn all ms → AllReady all ms s → Under all ms gs s d e
-    → Balanced (reaped all ms gs s) × NeverOverdraws (reaped all ms gs s)
+pub reap_keeps : (trace : Trace) (all ms : List ℕ) (gs : List (ℕ × List (Thing × ℕ))) (s : Actors) (d e : Thing → ℕ) → AllIn all ms → AllReady all ms s → Under trace all ms gs s d e
+    → Balanced (reaped all ms gs s) × NeverOverdraws trace (reaped all ms gs s)
 unfolding reaped
-reap_keeps all [] gs s d e ins ready u = decs_keep gs s u.firm (done all gs s d e u) u.prefix
-reap_keeps all (m ∷ ms) gs s d e ins ready u = reap_keeps all ms _ (set s m None) _ _ ins.1
+reap_keeps trace all [] gs s d e ins ready u = decs_keep trace gs s u.firm (done trace all gs s d e u) u.prefix
+reap_keeps trace all (m ∷ ms) gs s d e ins ready u = reap_keeps trace all ms _ (set s m None) _ _ ins.1
     (all_ready_later all s m ms ready.0.within ready.1)
-    (one_more all ms m gs s d e ins.0 ready.0 u)
+    (one_more trace all ms m gs s d e ins.0 ready.0 u)

@@ -15,6 +15,7 @@ use Rattle.letter_kinds.specs.Sums.{amount_of, times_loaded, inc_of, dec_of, loa
 use Rattle.letter_kinds.specs.declared.letter.Letter.{Letter}
 use Rattle.letter_kinds.specs.declared.letter.Letter.TheVariants.{App, Inc}
 use Rattle.machine_rules.proofs.InHand.{BalancedWith, credit, debit, none, Balanced}
+use Rattle.machine_rules.specs.Options.{Trace, Deep}
 use Rattle.machine_rules.specs.Actors.{Seat, Actors, seat_at, with_letter_more, push_letter, seat}
 use Rattle.machine_rules.specs.Balance.{own_at, incs_at, held_at, loads_at, held_sum, load_sum, owner_seat, NeverOverdraws}
 use Rattle.machine_rules.specs.Cell.{Cell}
@@ -45,28 +46,27 @@ push_is s b l o at = rw at refl
 seat_below : (x : Thing) (s : Actors) (b : ℕ) (o : Seat) → seat_at s b ≡ Some o → loads_at x (Some o) ≤ load_sum x s
 seat_below x s b o at = let w = sum-at (loads_at x) s b None (present_below s b o at) in rw at at w
 
-module _ (s : Actors) (b : ℕ) (l : Letter) (e : Thing → ℕ) (o : Seat) (at : seat_at s b ≡ Some o) (bal : BalancedWith none e (push_letter b l s))
-    (pushed : (x : Thing) → owner_of x ≡ b → 0 < inc_of x l → inc_of x l < held_sum x (push_letter b l s)) where
+module _ (trace : Trace) (s : Actors) (b : ℕ) (l : Letter) (e : Thing → ℕ) (o : Seat) (at : seat_at s b ≡ Some o) (bal : BalancedWith none e (push_letter b l s))
+    (pushed : trace ≡ Deep → (x : Thing) → owner_of x ≡ b → 0 < inc_of x l → inc_of x l < held_sum x (push_letter b l s)) where
   here : (x : Thing) → owner_of x ≡ b → owner_seat (push_letter b l s) x ≡ with_letter_more l (Some o)
   here x is = rw (push_is s b l o at) (at_same s b (Some o) (with_letter_more l (Some o)) (present_below s b o at) at (owner_of x) is)
 
   loads_below : (x : Thing) → owner_of x ≡ b → loads_at x (with_letter_more l (Some o)) ≤ load_sum x (push_letter b l s)
   loads_below x is = seat_below x (push_letter b l s) b (record o { mail = o.mail ++ l ∷ [] }) (ap (seat_at (push_letter b l s)) (sym is) ∙ here x is)
 
-  pub push_prefix : NeverOverdraws s → NeverOverdraws (push_letter b l s)
-  push_prefix p = rw (push_is s b l o at) (prefix-set s b (Some o) (with_letter_more l (Some o)) (present_below s b o at) at
+  pub push_prefix : NeverOverdraws trace s → NeverOverdraws trace (push_letter b l s)
+  push_prefix p = rw (push_is s b l o at) (prefix-set trace s b (Some o) (with_letter_more l (Some o)) (present_below s b o at) at
       (λ x is safe.
       let h = here x is in
       let z' = rw h at (bal x) in
       let w = loads_below x is in
-      let q = pushed x is in
       let i1 = incs_at-seat x o.cell (o.mail ++ l ∷ []) in
       let d1 = decs_at-seat x o.cell (o.mail ++ l ∷ []) in
       let l1 = loads_at-seat x o.cell (o.mail ++ l ∷ []) in
       let o1 = own_at-seat x o.cell (o.mail ++ l ∷ []) in
-      safe_push x (own_in o.cell.holdings x) o.mail l
+      safe_push trace x (own_in o.cell.holdings x) o.mail l
       (omega arith)
-      (λ some. let q' = q some in omega (arith, sum_by_push (inc_of x) o.mail l, sum_by_push (dec_of x) o.mail l, sum_by_push (load_count x) o.mail l))
+      (λ deep some. let q' = pushed deep x is some in omega (arith, sum_by_push (inc_of x) o.mail l, sum_by_push (dec_of x) o.mail l, sum_by_push (load_count x) o.mail l))
       safe) p)
 
 pub held_sum-push : (s : Actors) (b : ℕ) (l : Letter) (o : Seat) (at : seat_at s b ≡ Some o) (x : Thing) → held_sum x (push_letter b l s) ≡ held_sum x s
@@ -98,8 +98,8 @@ module _ (s : Actors) (a : ℕ) (c0 c : Cell) (mail : List Letter) (at : seat_at
       (λ x not. let m = others x not in
       omega (arith, held_at-seat x c mail, loads_at-seat x c mail, held_at-seat x c0 mail, loads_at-seat x c0 mail))
 
-  pub cell_prefix : ((x : Thing) → owner_of x ≡ a → own_in c0.holdings x ≤ own_in c.holdings x) → NeverOverdraws s → NeverOverdraws (set s a (seat c mail))
-  cell_prefix up = prefix-set s a (seat c0 mail) (seat c mail) (present_below s a _ at) at (λ x is. safe_more x (own_in c0.holdings x) (own_in c.holdings x) mail (up x is))
+  pub cell_prefix : (trace : Trace) → ((x : Thing) → owner_of x ≡ a → own_in c0.holdings x ≤ own_in c.holdings x) → NeverOverdraws trace s → NeverOverdraws trace (set s a (seat c mail))
+  cell_prefix trace up = prefix-set trace s a (seat c0 mail) (seat c mail) (present_below s a _ at) at (λ x is. safe_more trace x (own_in c0.holdings x) (own_in c.holdings x) mail (up x is))
 
   pub cell_there : seat_at (set s a (seat c mail)) a ≡ seat c mail
   cell_there = at_same s a (seat c0 mail) (seat c mail) (present_below s a _ at) at a refl
@@ -144,12 +144,12 @@ module _ (s : Actors) (a : ℕ) (c0 c : Cell) (mail : List Letter) (at : seat_at
       omega (arith, l.2))
       bal)
 
-  pub post_prefix : Balanced s → NeverOverdraws s → NeverOverdraws (post a c mail b behaviour args load rows s)
-  post_prefix bal p =
+  pub post_prefix : (trace : Trace) → Balanced s → NeverOverdraws trace s → NeverOverdraws trace (post a c mail b behaviour args load rows s)
+  post_prefix trace bal p =
       let there = cell_present s a c0 (sent c) mail at b target in
-      push_prefix (set s a (seat (sent c) mail)) b (App behaviour args load rows) none there.0 there.1 (post_balanced bal)
-      (λ x is some. absurd (let l = letter_App x behaviour args load rows in omega (arith, l.0)))
-      (cell_prefix s a c0 (sent c) mail at (λ x is. let q = own-send a x load c.holdings is (has x is) in let os = own_same x is in omega arith) p)
+      push_prefix trace (set s a (seat (sent c) mail)) b (App behaviour args load rows) none there.0 there.1 (post_balanced bal)
+      (λ deep x is some. absurd (let l = letter_App x behaviour args load rows in omega (arith, l.0)))
+      (cell_prefix s a c0 (sent c) mail at trace (λ x is. let q = own-send a x load c.holdings is (has x is) in let os = own_same x is in omega arith) p)
 
 none_of : (n : ℕ) → (0 < n → ⊥) → 0 ≡ n
 none_of zero h = refl
@@ -157,7 +157,7 @@ none_of (suc n) h = absurd (h (omega arith))
 
 -- Mint, for things of b of which a has some
 module _ (s : Actors) (a : ℕ) (c : Cell) (mail : List Letter) (at : seat_at s a ≡ seat c mail)
-    (b : ℕ) (es : List (Thing × ℕ)) (theirs : (x : Thing) → 0 < amount_of x es → (owner_of x ≡ b) × (0 < held_in c.holdings x))
+    (b : ℕ) (es : List (Thing × ℕ)) (theirs : (x : Thing) → 0 < amount_of x es → owner_of x ≡ b)
     (target : IsPresent s b) where
   abbrev minted : Cell
   minted = record c { holdings = mint_all es c.holdings }
@@ -170,7 +170,7 @@ module _ (s : Actors) (a : ℕ) (c : Cell) (mail : List Letter) (at : seat_at s 
       bal)
     where
       no_amount : (x : Thing) → owner_of x ≢ b → 0 ≡ amount_of x es
-      no_amount x not = none_of (amount_of x es) (λ some. not (theirs x some).0)
+      no_amount x not = none_of (amount_of x es) (λ some. not (theirs x some))
 
       fits : (x : Thing) → (credit b (Inc es) x ≡ amount_of x es) × (debit b (Inc es) x ≡ 0)
       fits x =
@@ -181,15 +181,15 @@ module _ (s : Actors) (a : ℕ) (c : Cell) (mail : List Letter) (at : seat_at s 
             (let n' = cond_zero (owner_of x == b) (dec_of x (Inc es)) l.1 in omega (arith, l.2)),
           )
 
-  pub mint_prefix : Balanced s → NeverOverdraws s → NeverOverdraws (mint a c mail b es s)
-  mint_prefix bal p =
+  pub mint_prefix : (trace : Trace) → (trace ≡ Deep → (x : Thing) → 0 < amount_of x es → 0 < held_in c.holdings x) → Balanced s → NeverOverdraws trace s → NeverOverdraws trace (mint a c mail b es s)
+  mint_prefix trace some_held bal p =
       let there = cell_present s a c minted mail at b target in
-      push_prefix (set s a (seat minted mail)) b (Inc es) none there.0 there.1 (mint_balanced bal)
-      (λ x is some.
+      push_prefix trace (set s a (seat minted mail)) b (Inc es) none there.0 there.1 (mint_balanced bal)
+      (λ deep x is some.
       let l = letter_Inc x es in
-      let t = theirs x (omega (arith, l.0)) in
+      let t = some_held deep x (omega (arith, l.0)) in
       let h = held-mint_all x es c.holdings in
       let b' = held_below x (set s a (seat minted mail)) a minted mail (cell_there s a c minted mail at) in
       let k = held_sum-push (set s a (seat minted mail)) b (Inc es) there.0 there.1 x in
-      omega (arith, l.0, t.1))
-      (cell_prefix s a c minted mail at (λ x is. let o = own-mint_all x es c.holdings in omega arith) p)
+      omega (arith, l.0, t))
+      (cell_prefix s a c minted mail at trace (λ x is. let o = own-mint_all x es c.holdings in omega arith) p)

@@ -134,7 +134,7 @@ module _ (program : Program) (found : Option ℕ) where
         sum_by-cons (loads_at x) (seat c (letters found)) [],
       )
 
-  start_covered : (x : Thing) (i : ℕ) → IsCoveredAt x (seat_at s i)
+  start_covered : (x : Thing) (i : ℕ) → IsCoveredAt Deep x (seat_at s i)
   unfolding IsCovered
   start_covered x zero = λ k.
       let z = letters_say found x in
@@ -159,7 +159,7 @@ module _ (program : Program) (found : Option ℕ) where
   first_person : person_at people 0 ≡ person_of c (letters found)
   first_person i = record (person_of c (letters found)) { letters = sym (same_letters found) i }
 
-  pub start_keeps : KeepsCounts all people s
+  pub start_keeps : KeepsCounts Deep all people s
   start_keeps = record {
     balanced = start_balanced;
     prefixes = λ x. start_covered x (owner_of x);
@@ -183,5 +183,5 @@ module _ (program : Program) (found : Option ℕ) where
       absent zero e r = cc
       absent (suc i) e r = nobody_stands r
 
-pub start_facts : (program : Program) (options : Options) → 0 < options.weight → options.trace ≡ Deep → Facts (start_of program) (first_state program options)
-start_facts program options heavy deep = record { counts = start_keeps program (start_name program); program = refl; prints = refl; objects = refl; weight = heavy; deep = deep }
+pub start_facts : (program : Program) (options : Options) → 0 < options.weight → options.trace ≡ Deep → Facts Deep (start_of program) (first_state program options)
+start_facts program options heavy deep = record { counts = start_keeps program (start_name program); program = refl; prints = refl; objects = refl; weight = heavy; mode = deep }

@@ -8,12 +8,13 @@ use Rattle.machine_rules.proofs.SeatReads.{letter_Dec}
 use Rattle.machine_rules.proofs.Sweeping.{own-sweep, held-sweep, amount-given_back}
 use Rattle.machine_rules.proofs.Sends.{cell_balanced, cell_prefix, present_owner, push_prefix, cond_zero}
 use Rattle.letter_kinds.specs.Counting.{sweep, given_back, join_owner, by_owner}
-use Rattle.letter_kinds.specs.Holdings.{held_in}
+use Rattle.letter_kinds.specs.Holdings.{held_in, own_in}
 use Rattle.letter_kinds.specs.Sums.{amount_of, inc_of}
 use Rattle.letter_kinds.specs.declared.letter.Letter.{Letter}
 use Rattle.letter_kinds.specs.declared.letter.Letter.TheVariants.{Dec}
 use Rattle.machine_rules.proofs.InHand.{BalancedWith, debit, none, AllCounted, Balanced}
 use Rattle.machine_rules.proofs.Seats.{IsPresent}
+use Rattle.machine_rules.specs.Options.{Trace}
 use Rattle.machine_rules.specs.Actors.{Actors, seat_at, push_letter, push_decs, seat}
 use Rattle.machine_rules.specs.Balance.{NeverOverdraws}
 use Rattle.machine_rules.specs.Cell.{Cell}
@@ -81,29 +82,35 @@ group_present g gs s f bal =
     let d = debit_Dec g.0 g.1 x ∙ cond_eq (owner_of x) g.0 (amount_of x g.1) 0 f.0.1 in
     subst (IsPresent s) f.0.1 (present_owner x s (omega (arith, f.0.2)))
 
-pub decs_keep : (gs : List (ℕ × List (Thing × ℕ))) (s : Actors) → Firm gs → BalancedWith none (owed gs) s → NeverOverdraws s → Balanced (push_decs gs s) × NeverOverdraws (push_decs gs s)
+pub decs_keep : (trace : Trace) (gs : List (ℕ × List (Thing × ℕ))) (s : Actors) → Firm gs → BalancedWith none (owed gs) s → NeverOverdraws trace s → Balanced (push_decs gs s) × NeverOverdraws trace (push_decs gs s)
 unfolding push_decs owed
-decs_keep [] s f bal p = (bal, p)
-decs_keep (g ∷ gs) s f bal p =
+decs_keep trace [] s f bal p = (bal, p)
+decs_keep trace (g ∷ gs) s f bal p =
     let there = group_present g gs s f bal in
     let next : BalancedWith none (owed gs) (push_letter g.0 (Dec g.1) s) = push_balanced s g.0 (Dec g.1) none (owed gs) there
     (λ x. let z = bal x in let c = cond_zero (owner_of x == g.0) (inc_of x (Dec g.1)) (letter_Dec x g.1).0 in omega arith) in
-    decs_keep gs (push_letter g.0 (Dec g.1) s) f.1 next
-    (push_prefix s g.0 (Dec g.1) (owed gs) there.0 there.1 next (λ x is some. absurd (let l = (letter_Dec x g.1).0 in omega arith)) p)
+    decs_keep trace gs (push_letter g.0 (Dec g.1) s) f.1 next
+    (push_prefix trace s g.0 (Dec g.1) (owed gs) there.0 there.1 next (λ deep x is some. absurd (let l = (letter_Dec x g.1).0 in omega arith)) p)
 
 -- a collection
-module _ (marked : Thing → Bool) (s : Actors) (a : ℕ) (c : Cell) (mail : List Letter) (at : seat_at s a ≡ seat c mail) (counted : AllCounted (given_back marked c.holdings)) where
+module _ (marked : Thing → Bool) (s : Actors) (a : ℕ) (c0 c : Cell) (mail : List Letter) (at : seat_at s a ≡ seat c0 mail) (same : c.holdings ≡ c0.holdings) (counted : AllCounted (given_back marked c.holdings)) where
   abbrev after : Cell
   after = record c { holdings = sweep marked a c.holdings; dirty = false }
 
-  pub collect_keeps : Balanced s → NeverOverdraws s → Balanced (collected marked a c mail s) × NeverOverdraws (collected marked a c mail s)
-  collect_keeps bal p = decs_keep (by_owner (given_back marked c.holdings)) (set s a (seat after mail)) (firm_groups _ counted)
-      (cell_balanced s a c after mail at none none none (owed (by_owner (given_back marked c.holdings)))
-      (λ x is. let o = own-sweep marked a c.holdings x in let e = gone x in omega arith)
-      (λ x not. let e = gone x in omega arith)
+  pub collect_keeps : (trace : Trace) → Balanced s → NeverOverdraws trace s → Balanced (collected marked a c mail s) × NeverOverdraws trace (collected marked a c mail s)
+  collect_keeps trace bal p = decs_keep trace (by_owner (given_back marked c.holdings)) (set s a (seat after mail)) (firm_groups _ counted)
+      (cell_balanced s a c0 after mail at none none none (owed (by_owner (given_back marked c.holdings)))
+      (λ x is. let o = own-sweep marked a c.holdings x in let e = gone x in let p = own_same x in let q = held_same x in omega arith)
+      (λ x not. let e = gone x in let q = held_same x in omega arith)
       bal)
-      (cell_prefix s a c after mail at (λ x is. let o = own-sweep marked a c.holdings x in omega arith) p)
+      (cell_prefix s a c0 after mail at trace (λ x is. let o = own-sweep marked a c.holdings x in let p = own_same x in omega arith) p)
     where
+      own_same : (x : Thing) → own_in c.holdings x ≡ own_in c0.holdings x
+      own_same x = ap (λ h. own_in h x) same
+
+      held_same : (x : Thing) → held_in c.holdings x ≡ held_in c0.holdings x
+      held_same x = ap (λ h. held_in h x) same
+
       parts : (b : Bool) (n : ℕ) → cond b n 0 + cond b 0 n ≡ n
       parts true n = omega arith
       parts false n = omega arith

@@ -4,7 +4,7 @@ use Rattle.behaviour_code.specs.declared.code.Program.{Program}
 use Rattle.letter_kinds.proofs.Counts.{cond_eq, cond_ne, has_set_own, counted_has}
 use Rattle.letter_kinds.specs.Counting.{Amount, Loaded, set_own, lower, set_held, gain, raise_all, lower_all, receive_one, receive}
 use Rattle.letter_kinds.specs.Holdings.{Entries, Holdings, Row, own_in, held_in, has_own, entry_count}
-use Rattle.letter_kinds.specs.Sums.{times_loaded}
+use Rattle.letter_kinds.specs.Sums.{inc_of, times_loaded, load_count}
 use Rattle.letter_kinds.specs.declared.letter.Letter.TheVariants.{App, Inc, Dec, Confirm}
 use Rattle.letter_kinds.specs.declared.letter.Letter.{Letter}
 use Rattle.machine_rules.proofs.Agreeing.{agrees_set, agrees_same}
@@ -13,14 +13,16 @@ use Rattle.machine_rules.proofs.InHand.{take_letter, in_hand, out_of_hand}
 use Rattle.machine_rules.proofs.Naming.{padded_names}
 use Rattle.machine_rules.proofs.Paths.{reach_more}
 use Rattle.machine_rules.proofs.Receiving.{get_other, row_set_own, take_closed, take_rows}
-use Rattle.machine_rules.proofs.Safety.{safe_first}
+use Rattle.machine_rules.proofs.Safety.{safe_first, safe_inc}
 use Rattle.machine_rules.proofs.SeatReads.{letter_App}
 use Rattle.machine_rules.proofs.Seats.{present_below}
-use Rattle.machine_rules.proofs.Takes.{take_balanced, take_prefix, safe_here}
+use Rattle.machine_rules.proofs.Takes.{take_balanced, take_prefix}
 use Rattle.machine_rules.specs.Actors.{Actors, seat_at, seat}
 use Rattle.machine_rules.specs.Agreement.{Person, person_of, Agrees, app_letters}
+use Rattle.machine_rules.specs.Balance.{IsCoveredAt}
 use Rattle.machine_rules.specs.Cell.{Cell}
-use Rattle.machine_rules.specs.Facts.{IsFirm, IsFirmAt, IsPastRows, KeepsCounts}
+use Rattle.machine_rules.specs.Options.{Deep, Trace}
+use Rattle.machine_rules.specs.Facts.{IsFirm, IsFirmAt, IsPastRows, KeepsCounts, IsSound}
 use Rattle.machine_rules.specs.Known.{Names, IsKnown, InFrame, Roots, in_fields, in_frame, in_table, IsClosedAt, RowsAreAt, row_at, IsSoundAt}
 use Rattle.machine_rules.specs.Plain.{frame_of, registers_of}
 use Rattle.machine_rules.specs.Take.{cell_after, learn}
@@ -152,19 +154,20 @@ starts_named program kind letter x = by_place (position (takes_call letter.behav
 
 -- ---- take
 
-module _ (program : Program) (all : Thing → Option Row) (ps : List Person) (s : Actors) (inv : KeepsCounts all ps s)
-    (a : ℕ) (c : Cell) (l : Letter) (ls : List Letter) (at : seat_at s a ≡ seat c (l ∷ ls)) where
+module _ (trace : Trace) (program : Program) (all : Thing → Option Row) (ps : List Person) (s : Actors) (inv : KeepsCounts trace all ps s)
+    (a : ℕ) (c : Cell) (l : Letter) (ls : List Letter) (at : seat_at s a ≡ seat c (l ∷ ls)) (has : (x : Thing) → owner_of x ≡ a → 0 < inc_of x l → has_own c.holdings x ≡ true) where
   within : a < length s
   within = present_below s a _ at
 
   abbrev next : Cell
   next = cell_after program a l c
 
-  put : (ps' : List Person) → length ps' ≡ length ps → IsSoundAt all a next ls → next.holdings.next ≡ c.holdings.next → IsFirm next.holdings → Agrees ps' (take_letter program a c l ls s) → KeepsCounts all ps' (take_letter program a c l ls s)
-  put ps' long sound serial firm agrees = record {
-    balanced = out_of_hand _ (take_balanced program s a c l ls at inv.prefixes (in_hand s inv.balanced));
-    prefixes = take_prefix program s a c l ls at inv.prefixes;
-    sound = every_set (IsSoundAt all) s a next ls within sound inv.sound;
+  pub take_put : (ps' : List Person) → length ps' ≡ length ps → IsSound trace all a next ls → next.holdings.next ≡ c.holdings.next → IsFirm next.holdings → Agrees ps' (take_letter program a c l ls s)
+      → KeepsCounts trace all ps' (take_letter program a c l ls s)
+  take_put ps' long sound serial firm agrees = record {
+    balanced = out_of_hand _ (take_balanced trace program s a c l ls at inv.prefixes has (in_hand s inv.balanced));
+    prefixes = take_prefix trace program s a c l ls at inv.prefixes has;
+    sound = every_set (IsSound trace all) s a next ls within sound inv.sound;
     agrees = agrees;
     bare = inv.bare;
     serials = every_set (IsPastRows all) s a next ls within (λ k h. inv.serials a c (l ∷ ls) at k (omega arith)) inv.serials;
@@ -173,18 +176,35 @@ module _ (program : Program) (all : Thing → Option Row) (ps : List Person) (s 
     firm = every_set IsFirmAt s a next ls within firm inv.firm;
   }
 
-  -- the counts of own things change, and nothing else
-  alike_take : (h : Holdings) (dirty reported : Bool) → next ≡ record c { holdings = h; dirty = dirty; reported = reported } → Alike a c.holdings h → app_letters (l ∷ ls) ≡ app_letters ls → KeepsCounts all ps (take_letter program a c l ls s)
-  alike_take h dirty reported is p e =
-      let here = inv.sound a c (l ∷ ls) at in
-      put ps refl
-      (subst (λ d. IsSoundAt all a d ls) (sym is) (record { closed = alike_closed all a c h dirty reported p here.closed; rows = alike_rows all a c h dirty reported p here.rows; loads = here.loads.1 }))
-      (ap (λ (d : Cell). d.holdings.next) is ∙ p.next)
-      (subst (λ (d : Cell). IsFirm d.holdings) (sym is) (alike_firm a c.holdings h p (inv.firm a c (l ∷ ls) at)))
-      (agrees_same ps s a c next (l ∷ ls) ls at (same_person ∙ ap (λ d. person_of d ls) (sym is)) inv.agrees)
+  -- the load's own things are there
+  pub load_there : (x : Thing) → owner_of x ≡ a → 0 < load_count x l → inc_of x l ≡ 0 → has_own c.holdings x ≡ true
+  load_there x o h none = counted_has c.holdings x (let z = safe_first trace x (own_in c.holdings x) l ls (subst (IsCoveredAt trace x) (ap (seat_at s) o ∙ at) (inv.prefixes x)) in omega (arith, z, none))
+
+  -- where the counts of own things alone change, who stands beside it is the same
+  pub alike_agrees : (h : Holdings) (dirty reported : Bool) → next ≡ record c { holdings = h; dirty = dirty; reported = reported } → Alike a c.holdings h → app_letters (l ∷ ls) ≡ app_letters ls → Agrees ps (take_letter program a c l ls s)
+  alike_agrees h dirty reported is p e = agrees_same ps s a c next (l ∷ ls) ls at (same_person ∙ ap (λ d. person_of d ls) (sym is)) inv.agrees
     where
       same_person : person_of c (l ∷ ls) ≡ person_of (record c { holdings = h; dirty = dirty; reported = reported }) ls
       same_person i = record { kind = c.kind; fields = c.fields; frame = c.frame; serial = sym p.next i; letters = e i }
+
+  pub alike_put : (h : Holdings) (dirty reported : Bool) → next ≡ record c { holdings = h; dirty = dirty; reported = reported } → Alike a c.holdings h → app_letters (l ∷ ls) ≡ app_letters ls
+      → IsSound trace all a next ls → KeepsCounts trace all ps (take_letter program a c l ls s)
+  alike_put h dirty reported is p e sound = take_put ps refl sound
+      (ap (λ (d : Cell). d.holdings.next) is ∙ p.next)
+      (subst (λ (d : Cell). IsFirm d.holdings) (sym is) (alike_firm a c.holdings h p (inv.firm a c (l ∷ ls) at)))
+      (alike_agrees h dirty reported is p e)
+
+module _ (program : Program) (all : Thing → Option Row) (ps : List Person) (s : Actors) (inv : KeepsCounts Deep all ps s)
+    (a : ℕ) (c : Cell) (l : Letter) (ls : List Letter) (at : seat_at s a ≡ seat c (l ∷ ls)) where
+  has : (x : Thing) → owner_of x ≡ a → 0 < inc_of x l → has_own c.holdings x ≡ true
+  has x o some = counted_has c.holdings x (safe_inc x (own_in c.holdings x) l ls (subst (IsCoveredAt Deep x) (ap (seat_at s) o ∙ at) (inv.prefixes x)) some)
+
+  -- the counts of own things change, and nothing else
+  alike_take : (h : Holdings) (dirty reported : Bool) → cell_after program a l c ≡ record c { holdings = h; dirty = dirty; reported = reported } → Alike a c.holdings h → app_letters (l ∷ ls) ≡ app_letters ls → KeepsCounts Deep all ps (take_letter program a c l ls s)
+  alike_take h dirty reported is p e =
+      let here = inv.sound a c (l ∷ ls) at in
+      alike_put Deep program all ps s inv a c l ls at has h dirty reported is p e
+      (subst (λ d. IsSoundAt all a d ls) (sym is) (record { closed = alike_closed all a c h dirty reported p here.closed; rows = alike_rows all a c h dirty reported p here.rows; loads = here.loads.1 }))
 
 -- who stands beside it afterwards in the plain machine
 abbrev pub people_after : Program → ℕ → Cell → Letter → List Letter → List Person → List Person
@@ -193,15 +213,16 @@ people_after program a c (Inc es) ls ps = ps
 people_after program a c (Dec es) ls ps = ps
 people_after program a c (Confirm t) ls ps = ps
 
-pub take_keeps_counts : (program : Program) (all : Thing → Option Row) (ps : List Person) (s : Actors) (inv : KeepsCounts all ps s)
-    (a : ℕ) (c : Cell) (l : Letter) (ls : List Letter) (at : seat_at s a ≡ seat c (l ∷ ls)) → KeepsCounts all (people_after program a c l ls ps) (take_letter program a c l ls s)
+pub take_keeps_counts : (program : Program) (all : Thing → Option Row) (ps : List Person) (s : Actors) (inv : KeepsCounts Deep all ps s)
+    (a : ℕ) (c : Cell) (l : Letter) (ls : List Letter) (at : seat_at s a ≡ seat c (l ∷ ls)) → KeepsCounts Deep all (people_after program a c l ls ps) (take_letter program a c l ls s)
 take_keeps_counts program all ps s inv a c (App b args load rows) ls at =
     let l = App b args load rows in
     let letter : PlainLetter = record { behaviour = b; args = args } in
     let here = inv.sound a c (l ∷ ls) at in
+    let there = has program all ps s inv a c l ls at in
     let mine : (x : Thing) → owner_of x ≡ a → 0 < times_loaded x load → has_own c.holdings x ≡ true = λ x o h.
-    counted_has c.holdings x (let z = safe_first x (own_in c.holdings x) l ls (safe_here program s a c l ls at inv.prefixes x o) in let w = letter_App x b args load rows in omega (arith, z.0, w.0, w.1, w.2)) in
-    put program all ps s inv a c l ls at _ (length-set ps a _)
+    let w = letter_App x b args load rows in load_there Deep program all ps s inv a c l ls at there x o (omega (arith, w.2)) w.0 in
+    take_put Deep program all ps s inv a c l ls at there _ (length-set ps a _)
     (record {
       closed = take_closed all inv.bare a c args load (frame_of program c.kind letter) (learn a rows c.known) (starts_named program c.kind letter) here.loads.0 mine here.closed here.rows;
       rows = take_rows all inv.bare a c args load (frame_of program c.kind letter) (learn a rows c.known) (starts_named program c.kind letter) here.loads.0 mine here.closed here.rows;

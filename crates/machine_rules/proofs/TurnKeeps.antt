@@ -7,7 +7,7 @@ use Rattle.orca_names.specs.declared.names.Thing.{Thing}
 use Rattle.behaviour_code.specs.declared.code.Program.{Program}
 use Rattle.turn_rules.specs.Segment.{Stop}
 use Rattle.turn_rules.specs.declared.act.Frame.{Frame}
-use Rattle.letter_kinds.specs.Holdings.{Row}
+use Rattle.letter_kinds.specs.Holdings.{Row, held_in, own_in}
 use Rattle.letter_kinds.specs.declared.letter.Letter.{Letter}
 use Rattle.machine_rules.proofs.Agreeing.{agrees_set}
 use Rattle.machine_rules.proofs.Every.{every_but, every_set}
@@ -16,16 +16,49 @@ use Rattle.machine_rules.proofs.Going.{Grows, after, closed_after, held_after, o
 use Rattle.machine_rules.proofs.InHand.{in_hand, none, out_of_hand}
 use Rattle.machine_rules.proofs.Seats.{present_below}
 use Rattle.machine_rules.proofs.Sends.{cell_balanced, cell_prefix}
+use Rattle.machine_rules.specs.Options.{Deep, Trace}
 use Rattle.machine_rules.specs.Actors.{Actors, seat, seat_at}
 use Rattle.machine_rules.specs.Agreement.{Person, person_of}
 use Rattle.machine_rules.specs.Cell.{Cell}
-use Rattle.machine_rules.specs.Facts.{IsFirmAt, IsPastRows, KeepsCounts}
+use Rattle.machine_rules.specs.Facts.{IsFirmAt, IsPastRows, KeepsCounts, IsSound, Every}
 use Rattle.machine_rules.specs.Known.{InFrame, Names}
 
 same_serial : (a b j k : ℕ) → object b k ≡ object a j → k ≡ j
 same_serial a b j k e = ap (λ x. unwrap_or (serial_of x) 0) e
 
-module _ (program : Program) (all all' : Thing → Option Row) (ps : List Person) (s : Actors) (inv : KeepsCounts all ps s)
+-- an actor's cell after rows were made, which counts and holds as before
+module _ (trace : Trace) (all all' : Thing → Option Row) (ps : List Person) (s : Actors) (inv : KeepsCounts trace all ps s)
+    (a : ℕ) (c c1 : Cell) (ls : List Letter) (at : seat_at s a ≡ seat c ls) (made : List Row) (grows : Grows all all' a c.holdings.next made)
+    (serial_after : c1.holdings.next ≡ c.holdings.next + length made) (foreign_after : c1.holdings.foreign ≡ c.holdings.foreign)
+    (own_same : (x : Thing) → own_in c1.holdings x ≡ own_in c.holdings x) (held_same : (x : Thing) → held_in c1.holdings x ≡ held_in c.holdings x) where
+  within : a < length s
+  within = present_below s a _ at
+
+  past_made : (b k : ℕ) → (b ≡ a → c.holdings.next + length made ≤ k) → all (object b k) ≡ None → all' (object b k) ≡ None
+  past_made b k past n = ⊎_elim
+      (λ same. same ∙ n)
+      (λ new. absurd (let q = new.2 in let w = new.1 in let o : b ≡ a = ap owner_of q in let h = past o in let i : k ≡ c.holdings.next + new.0 = same_serial a b (c.holdings.next + new.0) k q in omega arith))
+      (grows.only (object b k))
+
+  pub turn_put : Every (IsSound trace all') (set s a (seat c1 ls)) → KeepsCounts trace all' (set ps a (person_of c1 ls)) (set s a (seat c1 ls))
+  turn_put sound = record {
+    balanced = out_of_hand _ (cell_balanced s a c c1 ls at none none none none
+        (λ x is. let o = own_same x in let h = held_same x in omega arith)
+        (λ x not. let h = held_same x in omega arith)
+        (in_hand s inv.balanced));
+    prefixes = cell_prefix s a c c1 ls at trace (λ x is. let o = own_same x in omega arith) inv.prefixes;
+    sound = sound;
+    agrees = agrees_set ps s a c c1 ls ls at (let w = inv.long in let z = within in omega arith) inv.agrees;
+    bare = grows.bare;
+    serials = every_but (IsPastRows all') s a c1 ls within
+        (λ k h. past_made a k (λ _. let z = serial_after in omega arith) (inv.serials a c ls at k (let z = serial_after in omega arith)))
+        (λ b d ms other is k h. past_made b k (λ same. absurd (other same)) (inv.serials b d ms is k h));
+    long = length-set ps a _ ∙ inv.long ∙ sym (length-set s a _);
+    unmade = λ b h k. past_made b k (λ same. absurd (let w = length-set s a (seat c1 ls) in let z = within in omega arith)) (inv.unmade b (let w = length-set s a (seat c1 ls) in omega arith) k);
+    firm = every_set IsFirmAt s a c1 ls within (λ x e is. inv.firm a c ls at x e (ap (λ q. m.get q x) (sym foreign_after) ∙ is)) inv.firm;
+  }
+
+module _ (program : Program) (all all' : Thing → Option Row) (ps : List Person) (s : Actors) (inv : KeepsCounts Deep all ps s)
     (a : ℕ) (c : Cell) (ls : List Letter) (at : seat_at s a ≡ seat c ls) (f : Frame) (frame : c.frame ≡ Some f) where
   abbrev t : Stop
   t = turn program all all' ps s inv a c ls at f frame
@@ -34,43 +67,21 @@ module _ (program : Program) (all all' : Thing → Option Row) (ps : List Person
     abbrev c1 : Cell
     c1 = after program all all' ps s inv a c ls at f frame grows nf nd names_nf
 
-    within : a < length s
-    within = present_below s a _ at
-
-    serial_after : c1.holdings.next ≡ c.holdings.next + length t.turn.made
+    serial : c1.holdings.next ≡ c.holdings.next + length t.turn.made
     unfolding after
-    serial_after = refl
+    serial = refl
 
-    foreign_after : c1.holdings.foreign ≡ c.holdings.foreign
+    foreign : c1.holdings.foreign ≡ c.holdings.foreign
     unfolding after
-    foreign_after = refl
+    foreign = refl
 
-    past_made : (b k : ℕ) → (b ≡ a → c.holdings.next + length t.turn.made ≤ k) → all (object b k) ≡ None → all' (object b k) ≡ None
-    past_made b k past n = ⊎_elim
-        (λ same. same ∙ n)
-        (λ new. absurd (let q = new.2 in let w = new.1 in let o : b ≡ a = ap owner_of q in let h = past o in let i : k ≡ c.holdings.next + new.0 = same_serial a b (c.holdings.next + new.0) k q in omega arith))
-        (grows.only (object b k))
-
-    pub turn_keeps_counts : KeepsCounts all' (set ps a (person_of c1 ls)) (set s a (seat c1 ls))
-    turn_keeps_counts = record {
-      balanced = out_of_hand _ (cell_balanced s a c c1 ls at none none none none
-          (λ x is. let o = own_after program all all' ps s inv a c ls at f frame grows nf nd names_nf x in let h = held_after program all all' ps s inv a c ls at f frame grows nf nd names_nf x in omega arith)
-          (λ x not. let h = held_after program all all' ps s inv a c ls at f frame grows nf nd names_nf x in omega arith)
-          (in_hand s inv.balanced));
-      prefixes = cell_prefix s a c c1 ls at (λ x is. let o = own_after program all all' ps s inv a c ls at f frame grows nf nd names_nf x in omega arith) inv.prefixes;
-      sound = sound_set all' s a (seat c ls) c1 ls within at
-          (record {
-            closed = closed_after program all all' ps s inv a c ls at f frame grows nf nd names_nf;
-            rows = rows_after program all all' ps s inv a c ls at f frame grows nf nd names_nf;
-            loads = (sound_after program all all' ps s inv a c ls at f frame grows nf nd names_nf a c ls at).loads;
-          })
-          (sound_after program all all' ps s inv a c ls at f frame grows nf nd names_nf);
-      agrees = agrees_set ps s a c c1 ls ls at (let w = inv.long in let z = within in omega arith) inv.agrees;
-      bare = grows.bare;
-      serials = every_but (IsPastRows all') s a c1 ls within
-          (λ k h. past_made a k (λ _. let z = serial_after in omega arith) (inv.serials a c ls at k (let z = serial_after in omega arith)))
-          (λ b d ms other is k h. past_made b k (λ same. absurd (other same)) (inv.serials b d ms is k h));
-      long = length-set ps a _ ∙ inv.long ∙ sym (length-set s a _);
-      unmade = λ b h k. past_made b k (λ same. absurd (let w = length-set s a (seat c1 ls) in let z = within in omega arith)) (inv.unmade b (let w = length-set s a (seat c1 ls) in omega arith) k);
-      firm = every_set IsFirmAt s a c1 ls within (λ x e is. inv.firm a c ls at x e (ap (λ q. m.get q x) (sym foreign_after) ∙ is)) inv.firm;
-    }
+    pub turn_keeps_counts : KeepsCounts Deep all' (set ps a (person_of c1 ls)) (set s a (seat c1 ls))
+    turn_keeps_counts = turn_put Deep all all' ps s inv a c c1 ls at t.turn.made grows serial foreign
+        (own_after program all all' ps s inv a c ls at f frame grows nf nd names_nf) (held_after program all all' ps s inv a c ls at f frame grows nf nd names_nf)
+        (sound_set all' s a (seat c ls) c1 ls (present_below s a _ at) at
+        (record {
+          closed = closed_after program all all' ps s inv a c ls at f frame grows nf nd names_nf;
+          rows = rows_after program all all' ps s inv a c ls at f frame grows nf nd names_nf;
+          loads = (sound_after program all all' ps s inv a c ls at f frame grows nf nd names_nf a c ls at).loads;
+        })
+        (sound_after program all all' ps s inv a c ls at f frame grows nf nd names_nf))

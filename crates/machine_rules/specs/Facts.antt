@@ -11,7 +11,8 @@ use Rattle.machine_rules.specs.Agreement.{Agrees, Person, people_of}
 use Rattle.machine_rules.specs.Balance.{IsBalanced, NeverOverdraws}
 use Rattle.machine_rules.specs.Cell.{Cell}
 use Rattle.machine_rules.specs.Known.{IsSoundAt}
-use Rattle.machine_rules.specs.Options.{Deep}
+use Rattle.machine_rules.specs.KnownByRoots.{IsRootsAt}
+use Rattle.machine_rules.specs.Options.{Trace, Deep, Roots}
 use Rattle.machine_rules.specs.Plain.{PlainState, objects_made, plain_row}
 use Rattle.machine_rules.specs.State.{State}
 
@@ -30,11 +31,16 @@ IsFirm h = (x : Thing) (e : ℕ × Option Row) → m.get h.foreign x ≡ Some e 
 abbrev pub IsFirmAt : ℕ → Cell → List Letter → Type 0
 IsFirmAt a c mail = IsFirm c.holdings
 
+-- what each actor knows
+abbrev pub IsSound : Trace → (Thing → Option Row) → ℕ → Cell → List Letter → Type 0
+IsSound Deep all a c mail = IsSoundAt all a c mail
+IsSound Roots all a c mail = IsRootsAt all a c mail
+
 -- what the actors keep, beside these persons and the map of all rows ever made
-pub record KeepsCounts (all : Thing → Option Row) (people : List Person) (actors : Actors) : Type 0 where
+pub record KeepsCounts (trace : Trace) (all : Thing → Option Row) (people : List Person) (actors : Actors) : Type 0 where
   pub balanced : IsBalanced actors
-  pub prefixes : NeverOverdraws actors
-  pub sound : Every (IsSoundAt all) actors
+  pub prefixes : NeverOverdraws trace actors
+  pub sound : Every (IsSound trace all) actors
   pub agrees : Agrees people actors
   pub bare : (a : ℕ) → all (Actor a) ≡ None
   pub serials : Every (IsPastRows all) actors
@@ -44,10 +50,10 @@ pub record KeepsCounts (all : Thing → Option Row) (people : List Person) (acto
 
 -- the facts: the counts are kept beside the plain machine, which runs the same program, printed the
 -- same and made as many objects; and an increment is one
-pub record Facts (p : PlainState) (s : State) : Type 0 where
-  pub counts : KeepsCounts (thing_row (plain_row p.actors)) (people_of p.actors) s.actors
+pub record Facts (trace : Trace) (p : PlainState) (s : State) : Type 0 where
+  pub counts : KeepsCounts trace (thing_row (plain_row p.actors)) (people_of p.actors) s.actors
   pub program : p.program ≡ s.program
   pub prints : p.prints ≡ s.prints
   pub objects : objects_made p.actors ≡ s.objects
   pub weight : 0 < s.options.weight
-  pub deep : s.options.trace ≡ Deep
+  pub mode : s.options.trace ≡ trace

@@ -12,6 +12,7 @@ pub mod Examples
 pub mod Facts
 pub mod Go
 pub mod Known
+pub mod KnownByRoots
 pub mod Laws
 pub mod Leave
 pub mod Left
