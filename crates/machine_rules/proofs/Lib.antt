@@ -43,6 +43,8 @@ pub mod ReapKeeps
 pub mod Reaps
 pub mod Receiving
 pub mod Rest
+pub mod RootsLeft
+pub mod RootsSame
 pub mod Safety
 pub mod SeatReads
 pub mod Seats

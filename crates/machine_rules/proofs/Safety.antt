@@ -17,7 +17,7 @@ use Rattle.std.specs.Prelude.{sum_by}
 pub sum-parts : {A : Type 0} (f : A → ℕ) (k : ℕ) (xs : List A) → sum_by f (take k xs) + sum_by f (drop k xs) ≡ sum_by f xs
 sum-parts f k xs = sym (sum_by-append f (take k xs) (drop k xs)) ∙ ap (sum_by f) (take-append-drop k xs)
 
-drop-push : {A : Type 0} (k : ℕ) (xs : List A) (y : A) → k ≤ length xs → drop k (xs ++ y ∷ []) ≡ drop k xs ++ y ∷ []
+pub drop-push : {A : Type 0} (k : ℕ) (xs : List A) (y : A) → k ≤ length xs → drop k (xs ++ y ∷ []) ≡ drop k xs ++ y ∷ []
 drop-push zero xs y h = refl
 drop-push (suc k) [] y h = absurd (omega arith)
 drop-push (suc k) (x ∷ xs) y h = drop-push k xs y (omega arith)

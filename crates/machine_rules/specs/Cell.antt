@@ -65,8 +65,8 @@ unfoldable pub row_by_roots : ℕ → Cell → ObjName → Option Row
 row_by_roots me c n = if n.owner == me then option_map (λ e. e.0) (m.get c.holdings.rows n.serial) else m.get c.known (things.Obj n)
 
 -- the row of an own object
-unfoldable pub own_row_of : ℕ → Cell → ObjName → Option Row
-own_row_of me c n = if n.owner == me then option_map (λ e. e.0) (m.get c.holdings.rows n.serial) else None
+unfoldable pub own_row_of : ℕ → Holdings → ObjName → Option Row
+own_row_of me h n = if n.owner == me then option_map (λ e. e.0) (m.get h.rows n.serial) else None
 
 -- its own objects, and those of which letters brought the rows
 unfoldable pub listed_objects : ℕ → Cell → List ObjName

@@ -27,7 +27,7 @@ start_of_marks a c =
 
 -- what they reach through own rows alone
 unfoldable pub is_marked_by_roots : ℕ → Cell → Thing → Bool
-is_marked_by_roots a c x = list_any (is_thing x) (marks_of (own_row_of a c) (listed_objects a c) (start_of_marks a c))
+is_marked_by_roots a c x = list_any (is_thing x) (marks_of (own_row_of a c.holdings) (listed_objects a c) (start_of_marks a c))
 
 -- what they reach through all rows that it has: the rows of these objects stay
 unfoldable pub is_in_use : ℕ → Cell → Thing → Bool

@@ -19,7 +19,7 @@ use Rattle.machine_rules.specs.Known.{InFrame, IsKnown, IsLoadOf, Names, Reaches
 pub data IsNamedIn (a : ℕ) (c : Cell) : Thing → Type 0 where
   by_field : {x : Thing} → Names c.fields.values x → IsNamedIn a c x
   by_frame : {x : Thing} → InFrame c.frame x → IsNamedIn a c x
-  by_row : {x : Thing} (n : ObjName) (row : Row) → own_row_of a c n ≡ Some row → Names row x → IsNamedIn a c x
+  by_row : {x : Thing} (n : ObjName) (row : Row) → own_row_of a c.holdings n ≡ Some row → Names row x → IsNamedIn a c x
 
 -- it knows the thing and its owner
 abbrev pub IsKnownWithOwner : ℕ → Holdings → Thing → Type 0
@@ -63,7 +63,7 @@ pub record IsBacked (a : ℕ) (c : Cell) (mail : List Letter) (k : ℕ) (x : Thi
   pub from : Thing
   pub own : owner_of from ≡ a
   pub counted : IsCountedAfter c mail k from
-  pub leads : Reaches (thing_row (own_row_of a c)) (λ y. y ≡ from) x
+  pub leads : Reaches (thing_row (own_row_of a c.holdings)) (λ y. y ≡ from) x
 
 -- ---- all of it
 
@@ -72,9 +72,11 @@ pub record IsRootsAt (all : Thing → Option Row) (a : ℕ) (c : Cell) (mail : L
   pub named : (x : Thing) → IsNamedIn a c x → IsKnownWithOwner a c.holdings x
   -- who holds a thing holds its owner
   pub owners : (x : Thing) → 0 < held_in c.holdings x → IsKnown a c.holdings (Actor (owner_of x))
-  -- own rows are those that were made, and of others' objects that its walks reach it has the row
-  pub mine : (n : ObjName) (row : Row) → own_row_of a c n ≡ Some row → all (Obj n) ≡ Some row
-  pub brought : (n : ObjName) → n.owner ≢ a → Reaches all (WalkRoots a c) (Obj n) → m.get c.known (Obj n) ≡ all (Obj n)
+  -- own rows, and those that letters brought, are those that were made
+  pub mine : (n : ObjName) (row : Row) → own_row_of a c.holdings n ≡ Some row → all (Obj n) ≡ Some row
+  pub right : (n : ObjName) (row : Row) → m.get c.known (Obj n) ≡ Some row → all (Obj n) ≡ Some row
+  -- of others' objects that its walks reach it has the row
+  pub brought : (n : ObjName) (row : Row) → n.owner ≢ a → Reaches all (WalkRoots a c) (Obj n) → all (Obj n) ≡ Some row → m.get c.known (Obj n) ≡ Some row
   pub letters : AreRootLetters all mail
   -- where an Inc for a thing still waits behind a prefix of its letters, the thing is backed after that
   pub backed : (x : Thing) (k : ℕ) → owner_of x ≡ a → 0 < sum_by (inc_of x) (drop k mail) → IsBacked a c mail k x

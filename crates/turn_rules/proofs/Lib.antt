@@ -2,3 +2,4 @@ pub mod Bounds
 pub mod Known
 pub mod Local
 pub mod Names
+pub mod Gets

@@ -37,17 +37,17 @@ KnowsEffect K Next = Unit {0}
 KnowsEffect K (Leap label) = Unit {0}
 KnowsEffect K (Acts act) = Knows K (act_values act)
 
-KnowsEffect-leap : (K : Thing → Type 0) (n label : ℕ) → KnowsEffect K (leap_if_zero n label)
+pub KnowsEffect-leap : (K : Thing → Type 0) (n label : ℕ) → KnowsEffect K (leap_if_zero n label)
 KnowsEffect-leap K zero label = tt
 KnowsEffect-leap K (suc n) label = tt
 
-KnowsEffect-post : (K : Thing → Type 0) (to : Value) (behaviour : ℕ) (args : List Value) → KnowsValue K to → Knows K args → KnowsEffect K (post_to to behaviour args)
+pub KnowsEffect-post : (K : Thing → Type 0) (to : Value) (behaviour : ℕ) (args : List Value) → KnowsValue K to → Knows K args → KnowsEffect K (post_to to behaviour args)
 KnowsEffect-post K Null behaviour args k h = tt
 KnowsEffect-post K (Num n) behaviour args k h = tt
 KnowsEffect-post K (Actor a) behaviour args k h = (k, h)
 KnowsEffect-post K (Obj n) behaviour args k h = tt
 
-KnowsEffect-new : (K : Thing → Type 0) (kind : Option ℕ) (d : ℕ) → KnowsEffect K (option_map_or (λ k. Acts (New k d)) kind Next)
+pub KnowsEffect-new : (K : Thing → Type 0) (kind : Option ℕ) (d : ℕ) → KnowsEffect K (option_map_or (λ k. Acts (New k d)) kind Next)
 KnowsEffect-new K None d = tt
 KnowsEffect-new K (Some k) d = tt
 
@@ -55,7 +55,7 @@ module _ (p : Setting) (frame : Frame) (fields : Fields) where
   abbrev pub Known : ℕ → Thing → Type 0
   Known made x = IsKnown p frame fields made x
 
-  known_more : (m n : ℕ) → m ≤ n → (x : Thing) → Known m x → Known n x
+  pub known_more : (m n : ℕ) → m ≤ n → (x : Thing) → Known m x → Known n x
   known_more m n le x (reached r) = reached r
   known_more m n le x (itself e) = itself e
   known_more m n le x (own i l e) = own i (omega arith) e
@@ -73,7 +73,7 @@ module _ (p : Setting) (frame : Frame) (fields : Fields) where
       cases true e = KnowsRow-get (Known made) rows (n.serial - p.base) h
       cases false e = row_before made n e k
 
-  place_known : (made : ℕ) (t : Turn) (v : Value) (i : ℕ) → KnowsTurn (Known made) t → KnowsValue (Known made) v → KnowsValue (Known made) (place_of p t v i)
+  pub place_known : (made : ℕ) (t : Turn) (v : Value) (i : ℕ) → KnowsTurn (Known made) t → KnowsValue (Known made) v → KnowsValue (Known made) (place_of p t v i)
   place_known made t Null i h k = tt
   place_known made t (Num n) i h k = tt
   place_known made t (Actor a) i h k = tt
