@@ -45,6 +45,7 @@ pub mod Receiving
 pub mod Rest
 pub mod RootsLeft
 pub mod RootsSame
+pub mod RootsTake
 pub mod Safety
 pub mod SeatReads
 pub mod Seats

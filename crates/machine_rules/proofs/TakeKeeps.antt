@@ -119,7 +119,7 @@ firm_set_held f y r c pos firm x e is = ⊎_elim
 pub firm_set_own : (f : ℕ → ℕ) (y : Thing) (c : Holdings) → IsFirm c → IsFirm (set_own f y c)
 firm_set_own f y c firm = alike_firm 0 c (set_own f y c) (alike_own 0 f y c) firm
 
-firm_receive : (me : ℕ) (es : List Loaded) (c : Holdings) → IsFirm c → IsFirm (receive me es c)
+pub firm_receive : (me : ℕ) (es : List Loaded) (c : Holdings) → IsFirm c → IsFirm (receive me es c)
 unfolding receive
 firm_receive me [] c firm = firm
 firm_receive me (e ∷ es) c firm = firm_receive me es (receive_one me e c) (⊎_elim
@@ -145,7 +145,7 @@ next_receive me (e ∷ es) c = next_receive me es _ ∙ next_one me e c (owner_o
 
 -- ---- registers with which a behaviour starts name what the arguments name
 
-starts_named : (program : Program) (kind : ℕ) (letter : PlainLetter) (x : Thing) → InFrame (frame_of program kind letter) x → Names letter.args x
+pub starts_named : (program : Program) (kind : ℕ) (letter : PlainLetter) (x : Thing) → InFrame (frame_of program kind letter) x → Names letter.args x
 starts_named program kind letter x = by_place (position (takes_call letter.behaviour (length letter.args)) (behaviours_of program kind))
   where
     by_place : (found : Option ℕ) → InFrame (option_map (λ b. record { kind = kind; behaviour = b; place = 0; registers = registers_of letter.args }) found) x → Names letter.args x
