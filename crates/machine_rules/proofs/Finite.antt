@@ -22,7 +22,7 @@ abbrev own_names : ℕ → List (ℕ × (Row × ℕ)) → List ObjName
 own_names me es = map (λ e. record { owner = me; serial = e.0 }) es
 
 -- one that is found is among them
-own_found : (me k : ℕ) (es : List (ℕ × (Row × ℕ))) (r : Row) → own_row (m.find nat_cmp k es) ≡ Some r → Contains (own_names me es) (record { owner = me; serial = k })
+pub own_found : (me k : ℕ) (es : List (ℕ × (Row × ℕ))) (r : Row) → own_row (m.find nat_cmp k es) ≡ Some r → Contains (own_names me es) (record { owner = me; serial = k })
 own_found me k [] r h = cc
 own_found me k (e ∷ es) r h = elim (eq_by_cmp nat_cmp k e.0) as
     (λ t. eq_by_cmp nat_cmp k e.0 ≡ t → own_row (cond t (Some e.1) (m.find nat_cmp k es)) ≡ Some r → Contains (own_names me (e ∷ es)) (record { owner = me; serial = k })) [
@@ -30,11 +30,11 @@ own_found me k (e ∷ es) r h = elim (eq_by_cmp nat_cmp k e.0) as
       | false ↦ λ t h. Contains-later _ _ _ (own_found me k es r h)
     ] refl h
 
-first_option : (o : Option ObjName) (n : ObjName) (ns : List ObjName) → o ≡ Some n → Contains (cons_option o ns) n
+pub first_option : (o : Option ObjName) (n : ObjName) (ns : List ObjName) → o ≡ Some n → Contains (cons_option o ns) n
 first_option None n ns e = cc
 first_option (Some q) n ns e = let same : q ≡ n = cc in subst (λ q. Contains (q ∷ ns) n) (sym same) (Contains-head n ns)
 
-later_option : (o : Option ObjName) (n : ObjName) (ns : List ObjName) → Contains ns n → Contains (cons_option o ns) n
+pub later_option : (o : Option ObjName) (n : ObjName) (ns : List ObjName) → Contains ns n → Contains (cons_option o ns) n
 later_option None n ns c = c
 later_option (Some q) n ns c = Contains-later q ns n c
 

@@ -171,14 +171,12 @@ module _ (all : Thing → Option Row) (bare : (b : ℕ) → all (Actor b) ≡ No
 
 -- ---- where nothing new is known
 
--- fields, frame, what is held, and the rows that letters brought are the same
+-- fields, frame and the rows that letters brought are the same, and it holds what it held
 module _ (all : Thing → Option Row) (a : ℕ) (c d : Cell) (mail : List Letter) (here : IsRootsAt all a c mail) (same : SameOwn a c.holdings d.holdings)
-    (held_same : (x : Thing) → held_in d.holdings x ≡ held_in c.holdings x) (fields : d.fields.values ≡ c.fields.values) (frame : d.frame ≡ c.frame) (known : d.known ≡ c.known) where
-  kept' : (x : Thing) → 0 < held_in c.holdings x → 0 < held_in d.holdings x
-  kept' x h = let z = held_same x in omega arith
-
+    (kept' : (x : Thing) → 0 < held_in c.holdings x → 0 < held_in d.holdings x) (before : (x : Thing) → 0 < held_in d.holdings x → 0 < held_in c.holdings x)
+    (fields : d.fields.values ≡ c.fields.values) (frame : d.frame ≡ c.frame) (known : d.known ≡ c.known) where
   holds' : (x : Thing) → 0 < held_in d.holdings x → (0 < held_in c.holdings x) ⊎ ⊥
-  holds' x h = inl (let z = held_same x in omega arith)
+  holds' x h = inl (before x h)
 
   fields' : (x : Thing) → Names d.fields.values x → Names c.fields.values x ⊎ ⊥
   fields' x n = inl (subst (λ vs. Names vs x) fields n)
@@ -193,8 +191,8 @@ module _ (all : Thing → Option Row) (a : ℕ) (c d : Cell) (mail : List Letter
   same_walk x h = ⊎_elim (λ old. old) (λ new. absurd (reach_into all (λ x. ⊥) (λ x e. e) (λ x y r p e n. p) (λ n p. p) new))
       (walks all a c d mail here same kept' (λ x. ⊥) fields' frame' holds' no_new x h)
 
-  pub same_roots : (ls : List Letter) → AreRootLetters all ls → ((x : Thing) (k : ℕ) → owner_of x ≡ a → 0 < sum_by (inc_of x) (drop k ls) → IsBacked a d ls k x) → IsRootsAt all a d ls
-  same_roots ls letters backed = record {
+  pub still_roots : (ls : List Letter) → AreRootLetters all ls → ((x : Thing) (k : ℕ) → owner_of x ≡ a → 0 < sum_by (inc_of x) (drop k ls) → IsBacked a d ls k x) → IsRootsAt all a d ls
+  still_roots ls letters backed = record {
     named = carried_named all a c d mail here same kept' (λ x. ⊥) fields' frame' holds' no_new;
     owners = carried_owners all a c d mail here same kept' (λ x. ⊥) fields' frame' holds' no_new;
     mine = carried_mine all a c d mail here same kept' (λ x. ⊥) fields' frame' holds' no_new;
@@ -203,6 +201,12 @@ module _ (all : Thing → Option Row) (a : ℕ) (c d : Cell) (mail : List Letter
     letters = letters;
     backed = backed;
   }
+
+pub same_roots : (all : Thing → Option Row) (a : ℕ) (c d : Cell) (mail : List Letter) (here : IsRootsAt all a c mail) (same : SameOwn a c.holdings d.holdings)
+    (held_same : (x : Thing) → held_in d.holdings x ≡ held_in c.holdings x) (fields : d.fields.values ≡ c.fields.values) (frame : d.frame ≡ c.frame) (known : d.known ≡ c.known)
+    (ls : List Letter) → AreRootLetters all ls → ((x : Thing) (k : ℕ) → owner_of x ≡ a → 0 < sum_by (inc_of x) (drop k ls) → IsBacked a d ls k x) → IsRootsAt all a d ls
+same_roots all a c d mail here same held_same fields frame known ls letters backed =
+    still_roots all a c d mail here same (λ x h. let z = held_same x in omega arith) (λ x h. let z = held_same x in omega arith) fields frame known ls letters backed
 
 -- ---- take
 

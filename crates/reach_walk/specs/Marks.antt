@@ -43,6 +43,6 @@ marks_of rows all roots = in_order (with_owners (led_to rows all (named_by roots
 abbrev pub load_of : (ObjName → Option (List Value)) → List ObjName → List Value → List (Thing × Option (List Value))
 load_of rows all args = map (λ x. (x, thing_row rows x)) (marks_of rows all args)
 
--- the load of a letter with root-only tracing: what stands in its arguments, and the owners of that
-unfoldable pub load_roots : List Value → List (Thing × Option (List Value))
-load_roots args = map (λ x. (x, None)) (in_order (with_owners (named_by args)))
+-- the load of a letter with root-only tracing: what its arguments reach over no rows
+abbrev pub load_roots : List Value → List (Thing × Option (List Value))
+load_roots args = load_of (λ n. None) [] args
