@@ -48,6 +48,7 @@ pub mod RootsPost
 pub mod RootsRows
 pub mod RootsSame
 pub mod RootsTake
+pub mod RootsTurn
 pub mod Safety
 pub mod SeatReads
 pub mod Seats

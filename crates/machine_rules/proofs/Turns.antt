@@ -46,7 +46,7 @@ module _ (rows : ObjName → Option Row) where
 abbrev pub Given : Frame → Fields → Thing → Type 0
 Given frame fields x = Names frame.registers x ⊎ Names fields.values x
 
-named_given : (frame : Frame) (fields : Fields) (x : Thing) → Names (frame.registers ++ fields.values) x → Given frame fields x
+pub named_given : (frame : Frame) (fields : Fields) (x : Thing) → Names (frame.registers ++ fields.values) x → Given frame fields x
 named_given frame fields x n = Contains-append_cases (named_by frame.registers) (named_by fields.values) x
     (subst (λ ts. Contains ts x) (filter_map-append thing_of frame.registers fields.values) n)
 
