@@ -44,6 +44,7 @@ pub mod Reaps
 pub mod Receiving
 pub mod Rest
 pub mod RootsLeft
+pub mod RootsNeed
 pub mod RootsPost
 pub mod RootsRows
 pub mod RootsSame
