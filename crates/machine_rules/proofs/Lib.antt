@@ -43,6 +43,7 @@ pub mod ReapKeeps
 pub mod Reaps
 pub mod Receiving
 pub mod Rest
+pub mod RootsCollect
 pub mod RootsLeft
 pub mod RootsNeed
 pub mod RootsPost
