@@ -3,6 +3,7 @@ pub mod Agreeing
 pub mod Changing
 pub mod Cleaning
 pub mod CollectKeeps
+pub mod EitherMode
 pub mod Enabling
 pub mod Every
 pub mod ExampleRuns
