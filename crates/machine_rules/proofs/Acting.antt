@@ -7,7 +7,7 @@ use Rattle.machine_rules.proofs.Following.{Follows}
 use Rattle.machine_rules.proofs.Follows.{collect_kept, go_kept, take_kept}
 use Rattle.machine_rules.proofs.Leaving.{leave_kept}
 use Rattle.machine_rules.proofs.NoSelf.{no_self-first, no_self-next}
-use Rattle.machine_rules.specs.Options.{Deep}
+use Rattle.machine_rules.specs.Options.{Trace}
 use Rattle.machine_rules.specs.Facts.{Facts}
 use Rattle.machine_rules.specs.Laws.{CleanStaySwept, CollectsKeepFacts, GoesKeepFacts, LeavesKeepFacts, NoneGetsItsOwn, TakesKeepFacts}
 use Rattle.machine_rules.specs.Plain.{PlainState}
@@ -16,24 +16,24 @@ use Rattle.machine_rules.specs.Run.{PlainFollows, is_choice}
 use Rattle.machine_rules.specs.State.{State}
 
 -- the facts beside, and where the plain machine is then
-abbrev pub Beside : Bool → PlainState → Event → State → Type 0
-Beside choice p e t = (q : PlainState) × PlainFollows choice p e q × Facts Deep q t
+abbrev pub Beside : Trace → Bool → PlainState → Event → State → Type 0
+Beside trace choice p e t = (q : PlainState) × PlainFollows choice p e q × Facts trace q t
 
-pub followed : (choice : Bool) (p : PlainState) (e : Event) (t : State) → Follows choice (outcome_of p e) p t → Beside choice p e t
-followed true p e t h = h
-followed false p e t h = (p, refl, h)
+pub followed : (trace : Trace) (choice : Bool) (p : PlainState) (e : Event) (t : State) → Follows trace choice (outcome_of p e) p t → Beside trace choice p e t
+followed trace true p e t h = h
+followed trace false p e t h = (p, refl, h)
 
 pub takes_keep : TakesKeepFacts
-takes_keep a p s t facts goes = followed (is_choice s (Take a)) p (Take a) t (take_kept p s facts t a goes)
+takes_keep a trace p s t facts goes = followed trace (is_choice s (Take a)) p (Take a) t (take_kept trace p s facts t a goes)
 
 pub goes_keep : GoesKeepFacts
-goes_keep a p s t facts goes = followed (is_choice s (Go a)) p (Go a) t (go_kept p s facts t a goes)
+goes_keep a trace p s t facts goes = followed trace (is_choice s (Go a)) p (Go a) t (go_kept trace p s facts t a goes)
 
 pub collects_keep : CollectsKeepFacts
-collects_keep a p s t facts goes = (p, refl, collect_kept p s facts t a goes)
+collects_keep a trace p s t facts goes = (p, refl, collect_kept trace p s facts t a goes)
 
 pub leaves_keep : LeavesKeepFacts
-leaves_keep a p s t facts goes = (p, refl, leave_kept p s facts t a goes)
+leaves_keep a trace p s t facts goes = (p, refl, leave_kept trace p s facts t a goes)
 
 pub clean_stay_swept : CleanStaySwept
 clean_stay_swept = (clean-first, clean-next)

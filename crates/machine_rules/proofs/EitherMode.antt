@@ -34,6 +34,7 @@ use Rattle.machine_rules.proofs.RootsCollect.{collect_keeps_roots}
 use Rattle.machine_rules.proofs.RootsLeft as rooted
 use Rattle.machine_rules.proofs.RootsNeed.{need_keeps_roots}
 use Rattle.machine_rules.proofs.RootsPost.{make_keeps_roots, mint_keeps_roots, post_keeps_roots, post_known, reap_keeps_roots}
+use Rattle.machine_rules.proofs.RootsRows.{letter_exact}
 use Rattle.machine_rules.proofs.RootsTake.{take_keeps_roots}
 use Rattle.machine_rules.proofs.RootsTurn.{args_known, same_turn as same_turn_roots, turn_keeps_roots}
 use Rattle.machine_rules.proofs.Seats.{IsPresent}
@@ -51,7 +52,7 @@ use Rattle.machine_rules.specs.Detect.{reap_members}
 use Rattle.machine_rules.specs.Facts.{KeepsCounts}
 use Rattle.machine_rules.specs.Go.{load_from, make, mint, needed, post, rows_from, to_need, turn_of_cell, turned}
 use Rattle.machine_rules.specs.Known.{InFrame, IsKnown, Names, Reaches, Roots}
-use Rattle.machine_rules.specs.KnownByRoots.{IsKnownWithOwner, IsRootsAt, WalkRoots, held, mine}
+use Rattle.machine_rules.specs.KnownByRoots.{IsKnownWithOwner, IsRootOf, IsRootsAt, WalkRoots, held, mine, owns, stands}
 use Rattle.machine_rules.specs.Left.{IsLeft}
 use Rattle.machine_rules.specs.Options.{Trace, Deep}
 use Rattle.machine_rules.specs.Options as options
@@ -191,6 +192,13 @@ module _ (program : Program) (all all' : Thing → Option Row) (ps : List Person
       (post a flat ls to b args (load_from options.Roots a flat.holdings args) (rows_from options.Roots a flat args) s1)
   flat_posted ps1 s1 kept at1 full = post_keeps_roots all' ps1 s1 kept a flat ls at1 to b args flat_args flat_walk flat_target full
 
+  flat_load : (ps1 : List Person) (s1 : Actors) (kept : KeepsCounts options.Roots all' ps1 s1) (at1 : seat_at s1 a ≡ seat flat ls) → (x : Thing) → 0 < times_loaded x (load_from options.Roots a flat.holdings args) → IsKnown a flat.holdings x
+  flat_load ps1 s1 kept at1 x h = by_root ((letter_exact all' s1 (in_hand s1 kept.balanced) kept.sound kept.bare a flat ls at1 args flat_walk).only x h)
+    where
+      by_root : {x : Thing} → IsRootOf args x → IsKnown a flat.holdings x
+      by_root {x = x} (stands n) = (flat_args x n).0
+      by_root (owns {x = y} n) = (flat_args y n).1
+
 pub target_known : (trace : Trace) (program : Program) (all all' : Thing → Option Row) (ps : List Person) (s : Actors) (inv : KeepsCounts trace all ps s)
     (a : ℕ) (c : Cell) (ls : List Letter) (at : seat_at s a ≡ seat c ls) (f : Frame) (frame : c.frame ≡ Some f) (held_all : needed trace program a c f ≡ None)
     (grows : Grows all all' a c.holdings.next (turn_of_cell trace program a c f).turn.made) (nf : Option Frame) (nd : Bool) (names_nf : (x : Thing) → InFrame nf x → Names (turn_of_cell trace program a c f).turn.registers x)
@@ -213,3 +221,13 @@ posted_keeps Deep program all all' ps s inv a c ls at f frame held_all grows nf 
     deep_posted program all all' ps s inv a c ls at f frame grows nf nd names to b args act _ _ (turn_keeps Deep program all all' ps s inv a c ls at f frame held_all grows nf nd names) at1 full
 posted_keeps options.Roots program all all' ps s inv a c ls at f frame held_all grows nf nd names to b args act at1 full =
     flat_posted program all all' ps s inv a c ls at f frame held_all grows nf nd names to b args act _ _ (turn_keeps options.Roots program all all' ps s inv a c ls at f frame held_all grows nf nd names) at1 full
+
+pub loaded_known : (trace : Trace) (program : Program) (all all' : Thing → Option Row) (ps : List Person) (s : Actors) (inv : KeepsCounts trace all ps s)
+    (a : ℕ) (c : Cell) (ls : List Letter) (at : seat_at s a ≡ seat c ls) (f : Frame) (frame : c.frame ≡ Some f) (held_all : needed trace program a c f ≡ None)
+    (grows : Grows all all' a c.holdings.next (turn_of_cell trace program a c f).turn.made) (nf : Option Frame) (nd : Bool) (names_nf : (x : Thing) → InFrame nf x → Names (turn_of_cell trace program a c f).turn.registers x)
+    (to b : ℕ) (args : List Value) (act : (turn_of_cell trace program a c f).act ≡ Post to b args)
+    → (let after = turned (turn_of_cell trace program a c f) nf nd c in
+    seat_at (set s a (seat after ls)) a ≡ seat after ls → (x : Thing) → 0 < times_loaded x (load_from trace a after.holdings args) → IsKnown a after.holdings x)
+loaded_known Deep program all all' ps s inv a c ls at f frame held_all grows nf nd names to b args act at1 = deep_load program all all' ps s inv a c ls at f frame grows nf nd names to b args act
+loaded_known options.Roots program all all' ps s inv a c ls at f frame held_all grows nf nd names to b args act at1 =
+    flat_load program all all' ps s inv a c ls at f frame held_all grows nf nd names to b args act _ _ (turn_keeps options.Roots program all all' ps s inv a c ls at f frame held_all grows nf nd names) at1

@@ -11,11 +11,12 @@ use Rattle.letter_kinds.specs.Holdings.{Row}
 use Rattle.letter_kinds.specs.declared.letter.Letter.{Letter}
 use Rattle.letter_kinds.specs.declared.letter.Letter.TheVariants.{App, Inc, Dec, Confirm}
 use Rattle.letter_kinds.specs.declared.note.Note.{Note}
+use Rattle.machine_rules.proofs.EitherMode.{take_keeps}
 use Rattle.machine_rules.proofs.InHand.{take_letter}
-use Rattle.machine_rules.proofs.TakeKeeps.{take_keeps_counts, next_receive}
+use Rattle.machine_rules.proofs.TakeKeeps.{next_receive}
 use Rattle.machine_rules.proofs.PlainSide.{StandsAt, objects_kept, people-set, rows_kept, same_rows, stands_beside}
 use Rattle.machine_rules.proofs.Steps.{goes_to}
-use Rattle.machine_rules.specs.Options.{Deep}
+use Rattle.machine_rules.specs.Options.{Trace}
 use Rattle.machine_rules.specs.Actors.{seat, seat_at}
 use Rattle.machine_rules.specs.Agreement.{Person, app_letters, people_of, person_of, person_of_plain}
 use Rattle.machine_rules.specs.Cell.{Cell}
@@ -29,12 +30,12 @@ use Rattle.machine_rules.specs.declared.PlainActor.{PlainActor}
 use Rattle.machine_rules.specs.declared.PlainLetter.{PlainLetter}
 
 -- where the event is a choice, the plain machine goes too; else it stays
-abbrev pub Follows : Bool → Outcome → PlainState → State → Type 0
-Follows true goes p t = (q : PlainState) × (goes ≡ plain.Goes q) × Facts Deep q t
-Follows false goes p t = Facts Deep p t
+abbrev pub Follows : Trace → Bool → Outcome → PlainState → State → Type 0
+Follows trace true goes p t = (q : PlainState) × (goes ≡ plain.Goes q) × Facts trace q t
+Follows trace false goes p t = Facts trace p t
 
-pub follows_on : (b : Bool) (goes : Outcome) (p : PlainState) (u t : State) → Goes u ≡ Goes t → Follows b goes p u → Follows b goes p t
-follows_on b goes p u t e h = subst (Follows b goes p) (goes_to u t e) h
+pub follows_on : (trace : Trace) (b : Bool) (goes : Outcome) (p : PlainState) (u t : State) → Goes u ≡ Goes t → Follows trace b goes p u → Follows trace b goes p t
+follows_on trace b goes p u t e h = subst (Follows trace b goes p) (goes_to u t e) h
 
 pub same_person : (x y : Person) → x.kind ≡ y.kind → x.fields ≡ y.fields → x.frame ≡ y.frame → x.letters ≡ y.letters → x.serial ≡ y.serial → x ≡ y
 same_person x y k f r l n i = record { kind = k i; fields = f i; frame = r i; letters = l i; serial = n i }
@@ -51,21 +52,21 @@ took p a x l ls there idle mail =
     after : PlainActor → Outcome
     after y = plain.Goes (next_state p (set p.actors a y) p.prints)
 
-module _ (p : PlainState) (s : State) (facts : Facts Deep p s) (a : ℕ) (c : Cell) (idle : c.frame ≡ None) where
+module _ (trace : Trace) (p : PlainState) (s : State) (facts : Facts trace p s) (a : ℕ) (c : Cell) (idle : c.frame ≡ None) where
   abbrev all : Thing → Option Row
   all = thing_row (plain_row p.actors)
 
   -- an application letter
   app_follows : (b : ℕ) (args : List Value) (load rows : List Loaded) (ls : List Letter) (notes : List Note) → seat_at s.actors a ≡ seat c (App b args load rows ∷ ls)
-      → Follows true (plain_take p a) p (record s { actors = take_letter s.program a c (App b args load rows) ls s.actors; notes = notes })
+      → Follows trace true (plain_take p a) p (record s { actors = take_letter s.program a c (App b args load rows) ls s.actors; notes = notes })
   app_follows b args load rows ls notes at = (
     next_state p (set p.actors a y) p.prints,
     took p a x letter (app_letters ls) beside.there (ap (λ (q : Person). q.frame) beside.same ∙ idle) (ap (λ (q : Person). q.letters) beside.same),
     record {
       counts = same_rows all (thing_row (plain_row (set p.actors a y))) (people_of (set p.actors a y)) _ (rows_kept p.actors a x beside.there y refl)
-          (subst (λ people. KeepsCounts Deep all people (take_letter s.program a c (App b args load rows) ls s.actors))
+          (subst (λ people. KeepsCounts trace all people (take_letter s.program a c (App b args load rows) ls s.actors))
           (ap (set (people_of p.actors) a) (sym same) ∙ sym (people-set p.actors a y))
-          (take_keeps_counts s.program all (people_of p.actors) s.actors facts.counts a c (App b args load rows) ls at));
+          (take_keeps trace s.program all (people_of p.actors) s.actors facts.counts a c (App b args load rows) ls at));
       program = facts.program;
       prints = facts.prints;
       objects = objects_kept p.actors a x beside.there y refl ∙ facts.objects;
@@ -94,14 +95,14 @@ module _ (p : PlainState) (s : State) (facts : Facts Deep p s) (a : ℕ) (c : Ce
           (ap (λ (q : Person). q.serial) beside.same ∙ sym (next_receive a load c.holdings))
 
   -- another letter
-  stays : (l : Letter) (ls : List Letter) (notes : List Note) → KeepsCounts Deep all (people_of p.actors) (take_letter s.program a c l ls s.actors)
-      → Facts Deep p (record s { actors = take_letter s.program a c l ls s.actors; notes = notes })
+  stays : (l : Letter) (ls : List Letter) (notes : List Note) → KeepsCounts trace all (people_of p.actors) (take_letter s.program a c l ls s.actors)
+      → Facts trace p (record s { actors = take_letter s.program a c l ls s.actors; notes = notes })
   stays l ls notes counts = record { counts = counts; program = facts.program; prints = facts.prints; objects = facts.objects; weight = facts.weight; mode = facts.mode }
 
-  pub take_follows : (f : Option Frame) (ls : List Letter) (t : State) → c.frame ≡ f → seat_at s.actors a ≡ seat c ls → take_in s a c f ls ≡ Goes t → Follows (starts_with_app ls) (plain_take p a) p t
+  pub take_follows : (f : Option Frame) (ls : List Letter) (t : State) → c.frame ≡ f → seat_at s.actors a ≡ seat c ls → take_in s a c f ls ≡ Goes t → Follows trace (starts_with_app ls) (plain_take p a) p t
   take_follows (Some f) ls t is at e = cc
   take_follows None [] t is at e = cc
-  take_follows None (App b args load rows ∷ ls) t is at e = follows_on true (plain_take p a) p _ t e (app_follows b args load rows ls _ at)
-  take_follows None (Inc es ∷ ls) t is at e = follows_on false (plain_take p a) p _ t e (stays (Inc es) ls _ (take_keeps_counts s.program all (people_of p.actors) s.actors facts.counts a c (Inc es) ls at))
-  take_follows None (Dec es ∷ ls) t is at e = follows_on false (plain_take p a) p _ t e (stays (Dec es) ls _ (take_keeps_counts s.program all (people_of p.actors) s.actors facts.counts a c (Dec es) ls at))
-  take_follows None (Confirm k ∷ ls) t is at e = follows_on false (plain_take p a) p _ t e (stays (Confirm k) ls _ (take_keeps_counts s.program all (people_of p.actors) s.actors facts.counts a c (Confirm k) ls at))
+  take_follows None (App b args load rows ∷ ls) t is at e = follows_on trace true (plain_take p a) p _ t e (app_follows b args load rows ls _ at)
+  take_follows None (Inc es ∷ ls) t is at e = follows_on trace false (plain_take p a) p _ t e (stays (Inc es) ls _ (take_keeps trace s.program all (people_of p.actors) s.actors facts.counts a c (Inc es) ls at))
+  take_follows None (Dec es ∷ ls) t is at e = follows_on trace false (plain_take p a) p _ t e (stays (Dec es) ls _ (take_keeps trace s.program all (people_of p.actors) s.actors facts.counts a c (Dec es) ls at))
+  take_follows None (Confirm k ∷ ls) t is at e = follows_on trace false (plain_take p a) p _ t e (stays (Confirm k) ls _ (take_keeps trace s.program all (people_of p.actors) s.actors facts.counts a c (Confirm k) ls at))

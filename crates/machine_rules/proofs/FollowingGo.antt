@@ -1,5 +1,5 @@
 -- How the plain machine follows a go: it takes the same turn, but for a go that mints.
-use Rattle.std.proofs.Common.{◌≡◌, ℕ, zero, suc, ◌+◌, ◌<◌, nat_lt, Bool, true, false, Option, Some, None, List, [], ◌∷◌, ◌++◌, length, length-set, set, set-set, refl, sym, ◌∙◌, ap, subst, arith, option_and_then}
+use Rattle.std.proofs.Common.{◌≡◌, ◌≢◌, ◌&&◌, is_none, ℕ, zero, suc, ◌+◌, ◌<◌, nat_lt, Bool, true, false, Option, Some, None, List, [], ◌∷◌, ◌++◌, length, length-set, set, set-set, refl, sym, ◌∙◌, ap, subst, arith, option_and_then}
 use Rattle.std.specs.Prelude.{if◌then◌else◌, slice_get}
 use Rattle.std.specs.FinMap as m
 use Rattle.std.specs.Option.{option_map_or}
@@ -22,15 +22,12 @@ use Rattle.letter_kinds.specs.declared.letter.Letter.{Letter}
 use Rattle.letter_kinds.specs.declared.letter.Letter.TheVariants.{App}
 use Rattle.machine_rules.proofs.Agreeing.{with_letter}
 use Rattle.machine_rules.proofs.Following.{Follows, follows_on, same_person}
-use Rattle.machine_rules.proofs.Freed.{counted_left, known_left}
-use Rattle.machine_rules.proofs.Going.{Grows, after, exact, held_after, known_load, known_target, left_present, same_turn, turn}
+use Rattle.machine_rules.proofs.EitherMode.{counted_left, known_left, loaded_known, make_keeps, mint_keeps, need_keeps, posted_keeps, same_turn, target_known as known_target, turn_keeps}
+use Rattle.machine_rules.proofs.Going.{Grows, left_present}
 use Rattle.machine_rules.proofs.InHand.{in_hand}
-use Rattle.machine_rules.proofs.MakeKeeps.{make_keeps_counts}
-use Rattle.machine_rules.proofs.PostKeeps.{mint_keeps_counts, post_keeps_counts, next_send}
+use Rattle.machine_rules.proofs.PostKeeps.{next_send}
 use Rattle.machine_rules.proofs.TakeKeeps.{next_held}
-use Rattle.machine_rules.proofs.TurnKeeps.{turn_keeps_counts}
 use Rattle.machine_rules.proofs.Lacking.{counted_mint, first_minted, to_mint_theirs}
-use Rattle.machine_rules.proofs.Loads.{load_from-exact, load_from-once}
 use Rattle.machine_rules.proofs.Makes.{IsFresh, fresh_held}
 use Rattle.machine_rules.proofs.Naming.{nulls_name_nothing}
 use Rattle.machine_rules.proofs.PlainSide.{StandsAt, objects_grow, objects_kept, objects_pushed, people-push, people-set, rows_grow, rows_kept, rows_pushed, same_rows, stands_at, stands_beside}
@@ -40,8 +37,8 @@ use Rattle.machine_rules.specs.Actors.{Actors, push_letter, seat, seat_at}
 use Rattle.machine_rules.specs.Agreement.{Person, people_of, person_at, person_of, person_of_plain}
 use Rattle.machine_rules.specs.Cell.{Cell, fresh_cell}
 use Rattle.machine_rules.specs.Facts.{Facts, KeepsCounts}
-use Rattle.machine_rules.specs.Go.{act_in, go_in, load_from, make, mint, post, post_or_mint, turn_of_cell, turned, with_turn_kept}
-use Rattle.machine_rules.specs.Options.{Deep}
+use Rattle.machine_rules.specs.Go.{act_in, go_in, load_from, make, mint, needed, needing, post, post_or_mint, rows_from, turn_of_cell, turned, with_turn_kept}
+use Rattle.machine_rules.specs.Options.{Trace}
 use Rattle.machine_rules.specs.Known.{InFrame, IsKnown, IsLoadOf, Names, Roots, in_fields, in_frame, in_table}
 use Rattle.machine_rules.specs.Lists.{is_empty}
 use Rattle.machine_rules.specs.Plain.{PlainState, after_act, after_turn, fresh_actor, next_state, objects_made, plain_go, plain_row, stopped_at, turn_of_actor, with_name, with_turn}
@@ -82,12 +79,12 @@ fresh_blank w program kind x (in_fields h) = nulls_name_nothing (field_count pro
 fresh_blank w program kind x (in_frame h) = h
 fresh_blank w program kind x (in_table h) = absurd (let z = fresh_held w (fresh_cell w program kind).holdings (fresh_is w program kind) x in omega arith)
 
-module _ (p : PlainState) (s : State) (facts : Facts Deep p s) (a : ℕ) (c : Cell) (ls : List Letter) (at : seat_at s.actors a ≡ seat c ls) (f : Frame) (is : c.frame ≡ Some f) where
+module _ (trace : Trace) (p : PlainState) (s : State) (facts : Facts trace p s) (a : ℕ) (c : Cell) (ls : List Letter) (at : seat_at s.actors a ≡ seat c ls) (f : Frame) (is : c.frame ≡ Some f) (held_all : needed trace s.program a c f ≡ None) where
   abbrev all : Thing → Option Row
   all = thing_row (plain_row p.actors)
 
   abbrev stop : Stop
-  stop = turn_of_cell Deep s.program a c f
+  stop = turn_of_cell trace s.program a c f
 
   abbrev stopped : Frame
   stopped = stopped_at f stop
@@ -102,10 +99,9 @@ module _ (p : PlainState) (s : State) (facts : Facts Deep p s) (a : ℕ) (c : Ce
   serial = ap (λ (q : Person). q.serial) beside.same
 
   plain_turn : turn_of_actor p a x f ≡ stop
-  unfolding turn
   plain_turn =
       (λ i. segment_of (record { program = facts.program i; me = a; base = serial i; rows = plain_row p.actors }) f (beside.same i).fields)
-      ∙ sym (same_turn s.program all all (people_of p.actors) s.actors facts.counts a c ls at f is (plain_row p.actors) (λ x. refl))
+      ∙ sym (same_turn trace s.program all (people_of p.actors) s.actors facts.counts a c ls at f is (plain_row p.actors) (λ x. refl))
 
   pub plain_went : plain_go p a ≡ after_act p a stopped stop.turn.fields stop.turn.made stop.act
   plain_went = went p a x f beside.there (ap (λ (q : Person). q.frame) beside.same ∙ is) ∙ ap (after_turn p a f) plain_turn
@@ -132,18 +128,17 @@ module _ (p : PlainState) (s : State) (facts : Facts Deep p s) (a : ℕ) (c : Ce
       length_more (r ∷ rows) made = omega (arith, length_more rows made)
 
   turned_kept : (nf : Option Frame) (nd : Bool) → ((z : Thing) → InFrame nf z → Names stop.turn.registers z)
-      → KeepsCounts Deep all' (set (people_of p.actors) a (person_of (turned stop nf nd c) ls)) (set s.actors a (seat (turned stop nf nd c) ls))
-  unfolding turn after
-  turned_kept nf nd names = turn_keeps_counts s.program all all' (people_of p.actors) s.actors facts.counts a c ls at f is grows nf nd names
+      → KeepsCounts trace all' (set (people_of p.actors) a (person_of (turned stop nf nd c) ls)) (set s.actors a (seat (turned stop nf nd c) ls))
+  turned_kept nf nd names = turn_keeps trace s.program all all' (people_of p.actors) s.actors facts.counts a c ls at f is held_all grows nf nd names
 
   -- the rows do not depend on the frame
   rows_of : (nf : Option Frame) (z : Thing) → all' z ≡ thing_row (plain_row (set p.actors a (y nf))) z
   rows_of nf = rows_alike p.actors a (y None) (y nf) refl
 
   beside_kept : (nf : Option Frame) (nd : Bool) → ((z : Thing) → InFrame nf z → Names stop.turn.registers z)
-      → KeepsCounts Deep (thing_row (plain_row (set p.actors a (y nf)))) (people_of (set p.actors a (y nf))) (set s.actors a (seat (turned stop nf nd c) ls))
+      → KeepsCounts trace (thing_row (plain_row (set p.actors a (y nf)))) (people_of (set p.actors a (y nf))) (set s.actors a (seat (turned stop nf nd c) ls))
   beside_kept nf nd names =
-      subst (λ people. KeepsCounts Deep (thing_row (plain_row (set p.actors a (y nf)))) people (set s.actors a (seat (turned stop nf nd c) ls)))
+      subst (λ people. KeepsCounts trace (thing_row (plain_row (set p.actors a (y nf)))) people (set s.actors a (seat (turned stop nf nd c) ls)))
       (ap (set (people_of p.actors) a) (sym (same_y nf nd)) ∙ sym (people-set p.actors a (y nf)))
       (same_rows all' (thing_row (plain_row (set p.actors a (y nf)))) _ _ (rows_of nf) (turned_kept nf nd names))
 
@@ -152,10 +147,10 @@ module _ (p : PlainState) (s : State) (facts : Facts Deep p s) (a : ℕ) (c : Ce
 
   -- an end or a print: the turn, and what was printed
   turn_follows : (nf : Option Frame) (nd : Bool) (printed : List Value) → ((z : Thing) → InFrame nf z → Names stop.turn.registers z)
-      → Facts Deep (next_state p (with_turn p.actors a nf stop.turn.fields stop.turn.made) (p.prints ++ printed))
+      → Facts trace (next_state p (with_turn p.actors a nf stop.turn.fields stop.turn.made) (p.prints ++ printed))
       (record (with_turn_kept s stop (set s.actors a (seat (turned stop nf nd c) ls))) { prints = s.prints ++ printed })
   turn_follows nf nd printed names =
-      subst (λ actors. Facts Deep (next_state p actors (p.prints ++ printed)) (record (with_turn_kept s stop (set s.actors a (seat (turned stop nf nd c) ls))) { prints = s.prints ++ printed })) (sym (turned_actors nf))
+      subst (λ actors. Facts trace (next_state p actors (p.prints ++ printed)) (record (with_turn_kept s stop (set s.actors a (seat (turned stop nf nd c) ls))) { prints = s.prints ++ printed })) (sym (turned_actors nf))
       (record { counts = beside_kept nf nd names; program = facts.program; prints = ap (λ vs. vs ++ printed) facts.prints; objects = objects_more nf; weight = facts.weight; mode = facts.mode })
 
   -- ---- one actor more
@@ -172,7 +167,7 @@ module _ (p : PlainState) (s : State) (facts : Facts Deep p s) (a : ℕ) (c : Ce
   at1 : seat_at s1 a ≡ seat c1 ls
   at1 = at_same s.actors a (seat c ls) (seat c1 ls) within at a refl
 
-  kept1 : KeepsCounts Deep all' (set (people_of p.actors) a (person_of c1 ls)) s1
+  kept1 : KeepsCounts trace all' (set (people_of p.actors) a (person_of c1 ls)) s1
   kept1 = turned_kept (Some stopped) c.dirty (λ z h. h)
 
   -- the maker, which names the actor n and holds it
@@ -183,16 +178,16 @@ module _ (p : PlainState) (s : State) (facts : Facts Deep p s) (a : ℕ) (c : Ce
   abbrev made_by : ℕ → ℕ → Cell → Actors → Actors
   made_by register n fresh actors = set actors a (seat (maker register n) ls) ++ seat fresh [] ∷ []
 
-  made_kept : (kind register : ℕ) → KeepsCounts Deep all' (set (people_of p.actors) a (person_of (maker register (length s.actors)) ls) ++ person_of (fresh_cell s.options.weight s.program kind) [] ∷ [])
+  made_kept : (kind register : ℕ) → KeepsCounts trace all' (set (people_of p.actors) a (person_of (maker register (length s.actors)) ls) ++ person_of (fresh_cell s.options.weight s.program kind) [] ∷ [])
       (made_by register (length s.actors) (fresh_cell s.options.weight s.program kind) s.actors)
   made_kept kind register =
       let fresh = fresh_cell s.options.weight s.program kind in
-      let one = make_keeps_counts s.options.weight facts.weight all' (set (people_of p.actors) a (person_of c1 ls)) s1 kept1 a c1 ls at1 stopped refl register fresh (fresh_is s.options.weight s.program kind) (fresh_blank s.options.weight s.program kind) refl in
-      let two : KeepsCounts Deep all' (set (set (people_of p.actors) a (person_of c1 ls)) a (person_of (maker register (length s.actors)) ls) ++ person_of fresh [] ∷ []) (made_by register (length s.actors) fresh s1) =
-      subst (λ n. KeepsCounts Deep all' (set (set (people_of p.actors) a (person_of c1 ls)) a (person_of (maker register n) ls) ++ person_of fresh [] ∷ []) (made_by register n fresh s1)) (length-set s.actors a (seat c1 ls)) one in
-      let three : KeepsCounts Deep all' (set (people_of p.actors) a (person_of (maker register (length s.actors)) ls) ++ person_of fresh [] ∷ []) (made_by register (length s.actors) fresh s1) =
-      subst (λ people. KeepsCounts Deep all' (people ++ person_of fresh [] ∷ []) (made_by register (length s.actors) fresh s1)) (set-set (people_of p.actors) a (person_of c1 ls) (person_of (maker register (length s.actors)) ls)) two in
-      subst (λ actors. KeepsCounts Deep all' (set (people_of p.actors) a (person_of (maker register (length s.actors)) ls) ++ person_of fresh [] ∷ []) (actors ++ seat fresh [] ∷ []))
+      let one = make_keeps trace s.options.weight facts.weight all' (set (people_of p.actors) a (person_of c1 ls)) s1 kept1 a c1 ls at1 stopped refl register fresh (fresh_is s.options.weight s.program kind) (fresh_blank s.options.weight s.program kind) refl (λ x. m.get-empty thing_cmp x) in
+      let two : KeepsCounts trace all' (set (set (people_of p.actors) a (person_of c1 ls)) a (person_of (maker register (length s.actors)) ls) ++ person_of fresh [] ∷ []) (made_by register (length s.actors) fresh s1) =
+      subst (λ n. KeepsCounts trace all' (set (set (people_of p.actors) a (person_of c1 ls)) a (person_of (maker register n) ls) ++ person_of fresh [] ∷ []) (made_by register n fresh s1)) (length-set s.actors a (seat c1 ls)) one in
+      let three : KeepsCounts trace all' (set (people_of p.actors) a (person_of (maker register (length s.actors)) ls) ++ person_of fresh [] ∷ []) (made_by register (length s.actors) fresh s1) =
+      subst (λ people. KeepsCounts trace all' (people ++ person_of fresh [] ∷ []) (made_by register (length s.actors) fresh s1)) (set-set (people_of p.actors) a (person_of c1 ls) (person_of (maker register (length s.actors)) ls)) two in
+      subst (λ actors. KeepsCounts trace all' (set (people_of p.actors) a (person_of (maker register (length s.actors)) ls) ++ person_of fresh [] ∷ []) (actors ++ seat fresh [] ∷ []))
       (set-set s.actors a (seat c1 ls) (seat (maker register (length s.actors)) ls)) three
 
   same_maker : (register n : ℕ) → person_of_plain (y (Some (with_name stopped register n))) ≡ person_of (maker register n) ls
@@ -205,7 +200,7 @@ module _ (p : PlainState) (s : State) (facts : Facts Deep p s) (a : ℕ) (c : Ce
       length_people [] = refl
       length_people (z ∷ xs) = ap suc (length_people xs)
 
-  make_follows : (kind register : ℕ) → Facts Deep (next_state p (with_turn p.actors a (Some (with_name stopped register (length p.actors))) stop.turn.fields stop.turn.made ++ fresh_actor p.program kind ∷ []) p.prints)
+  make_follows : (kind register : ℕ) → Facts trace (next_state p (with_turn p.actors a (Some (with_name stopped register (length p.actors))) stop.turn.fields stop.turn.made ++ fresh_actor p.program kind ∷ []) p.prints)
       (with_turn_kept s stop (make s.options.weight a (turned stop (Some (with_name stopped register (length s.actors))) c.dirty c) ls (fresh_cell s.options.weight s.program kind) s.actors))
   make_follows kind register =
       let nf = Some (with_name stopped register (length s.actors)) in
@@ -217,9 +212,9 @@ module _ (p : PlainState) (s : State) (facts : Facts Deep p s) (a : ℕ) (c : Ce
       let rows : (z : Thing) → all' z ≡ thing_row (plain_row (actors ++ mine ∷ [])) z = λ z. rows_of nf z ∙ rows_pushed actors mine refl z in
       let plain_actors : with_turn p.actors a (Some (with_name stopped register (length p.actors))) stop.turn.fields stop.turn.made ++ mine ∷ [] ≡ actors ++ mine ∷ [] =
       ap (λ n. with_turn p.actors a (Some (with_name stopped register n)) stop.turn.fields stop.turn.made ++ mine ∷ []) long ∙ ap (λ xs. xs ++ mine ∷ []) (turned_actors nf) in
-      subst (λ xs. Facts Deep (next_state p xs p.prints) (with_turn_kept s stop (make s.options.weight a (turned stop nf c.dirty c) ls fresh s.actors))) (sym plain_actors)
+      subst (λ xs. Facts trace (next_state p xs p.prints) (with_turn_kept s stop (make s.options.weight a (turned stop nf c.dirty c) ls fresh s.actors))) (sym plain_actors)
       (record {
-        counts = subst (λ ps. KeepsCounts Deep (thing_row (plain_row (actors ++ mine ∷ []))) ps (made_by register (length s.actors) fresh s.actors)) (sym people)
+        counts = subst (λ ps. KeepsCounts trace (thing_row (plain_row (actors ++ mine ∷ []))) ps (made_by register (length s.actors) fresh s.actors)) (sym people)
             (same_rows all' (thing_row (plain_row (actors ++ mine ∷ []))) _ _ rows (made_kept kind register));
         program = facts.program;
         prints = facts.prints;
@@ -232,19 +227,16 @@ module _ (p : PlainState) (s : State) (facts : Facts Deep p s) (a : ℕ) (c : Ce
 
   module _ (to b : ℕ) (args : List Value) (act : stop.act ≡ Post to b args) where
     abbrev load : List Loaded
-    load = load_from Deep a c1.holdings args
+    load = load_from trace a c1.holdings args
 
-    exact1 : IsLoadOf all' args load
-    unfolding turn after
-    exact1 = exact s.program all all' (people_of p.actors) s.actors facts.counts a c ls at f is grows (Some stopped) c.dirty (λ z h. h) to b args act load (load_from-exact a c1.holdings args)
+    abbrev came : List Loaded
+    came = rows_from trace a c1 args
 
     pub load_known : (z : Thing) → 0 < times_loaded z load → IsKnown a c1.holdings z
-    unfolding turn after
-    load_known = known_load s.program all all' (people_of p.actors) s.actors facts.counts a c ls at f is grows (Some stopped) c.dirty (λ z h. h) to b args act load (load_from-exact a c1.holdings args)
+    load_known = loaded_known trace s.program all all' (people_of p.actors) s.actors facts.counts a c ls at f is held_all grows (Some stopped) c.dirty (λ z h. h) to b args act at1
 
     pub target_known : IsKnown a c1.holdings (things.Actor to)
-    unfolding turn after
-    target_known = known_target s.program all all' (people_of p.actors) s.actors facts.counts a c ls at f is grows (Some stopped) c.dirty (λ z h. h) to b args act load (load_from-exact a c1.holdings args)
+    target_known = known_target trace s.program all all' (people_of p.actors) s.actors facts.counts a c ls at f is held_all grows (Some stopped) c.dirty (λ z h. h) to b args act
 
     abbrev sender : Cell
     sender = record c1 { holdings = send a load c1.holdings }
@@ -255,14 +247,14 @@ module _ (p : PlainState) (s : State) (facts : Facts Deep p s) (a : ℕ) (c : Ce
     abbrev turned_people : List Person
     turned_people = set (people_of p.actors) a (person_of c1 ls)
 
-    posted_kept : lacking a c1.holdings load ≡ [] → KeepsCounts Deep all' (set turned_people to (with_letter b args (person_at turned_people to))) (post a c1 ls to b args load [] s.actors)
+    posted_kept : lacking a c1.holdings load ≡ [] → KeepsCounts trace all' (set turned_people to (with_letter b args (person_at turned_people to))) (post a c1 ls to b args load came s.actors)
     posted_kept full =
-        let one = post_keeps_counts all' turned_people s1 kept1 a c1 ls at1 to b args load [] exact1 (load_from-once a c1.holdings args) load_known target_known full in
+        let one = posted_keeps trace s.program all all' (people_of p.actors) s.actors facts.counts a c ls at f is held_all grows (Some stopped) c.dirty (λ z h. h) to b args act at1 full in
         let same : set turned_people a (person_of sender ls) ≡ turned_people =
         set-set (people_of p.actors) a (person_of c1 ls) (person_of sender ls) ∙ ap (set (people_of p.actors) a) (ap (λ next. record (person_of c1 ls) { serial = next }) (next_send a load c1.holdings)) in
-        let two : KeepsCounts Deep all' (set turned_people to (with_letter b args (person_at turned_people to))) (post a c1 ls to b args load [] s1) =
-        subst (λ people. KeepsCounts Deep all' (set people to (with_letter b args (person_at people to))) (post a c1 ls to b args load [] s1)) same one in
-        subst (λ actors. KeepsCounts Deep all' (set turned_people to (with_letter b args (person_at turned_people to))) (push_letter to (App b args load []) actors)) (set-set s.actors a (seat c1 ls) (seat sender ls)) two
+        let two : KeepsCounts trace all' (set turned_people to (with_letter b args (person_at turned_people to))) (post a c1 ls to b args load came s1) =
+        subst (λ people. KeepsCounts trace all' (set people to (with_letter b args (person_at people to))) (post a c1 ls to b args load came s1)) same one in
+        subst (λ actors. KeepsCounts trace all' (set turned_people to (with_letter b args (person_at turned_people to))) (push_letter to (App b args load came) actors)) (set-set s.actors a (seat c1 ls) (seat sender ls)) two
 
     -- the actor that gets the letter
     receiver : StandsAt (set p.actors a (y (Some stopped))) to (person_at (people_of (set p.actors a (y (Some stopped)))) to)
@@ -270,7 +262,7 @@ module _ (p : PlainState) (s : State) (facts : Facts Deep p s) (a : ℕ) (c : Ce
       where
         to_below : to < length (set p.actors a (y (Some stopped)))
         to_below =
-            let here = left_present s1 to (known_left s1 (in_hand s1 kept1.balanced) kept1.prefixes a c1 ls (things.Actor to) at1 target_known) in
+            let here = left_present s1 to (known_left trace all' turned_people s1 kept1 a c1 ls (things.Actor to) at1 target_known) in
             let below = present_below s1 to here.0 here.1 in
             omega (arith, long, length-set s.actors a (seat c1 ls), length-set p.actors a (y (Some stopped)))
 
@@ -279,8 +271,8 @@ module _ (p : PlainState) (s : State) (facts : Facts Deep p s) (a : ℕ) (c : Ce
     lettered = record receiver.actor { letters = receiver.actor.letters ++ letter ∷ [] }
 
     post_follows : lacking a c1.holdings load ≡ []
-        → Facts Deep (next_state p (plain.with_letter (with_turn p.actors a (Some stopped) stop.turn.fields stop.turn.made) to letter) p.prints)
-        (with_turn_kept s stop (post a c1 ls to b args load [] s.actors))
+        → Facts trace (next_state p (plain.with_letter (with_turn p.actors a (Some stopped) stop.turn.fields stop.turn.made) to letter) p.prints)
+        (with_turn_kept s stop (post a c1 ls to b args load came s.actors))
     post_follows full =
         let actors = set p.actors a (y (Some stopped)) in
         let plain_actors : plain.with_letter (with_turn p.actors a (Some stopped) stop.turn.fields stop.turn.made) to letter ≡ set actors to lettered =
@@ -290,9 +282,9 @@ module _ (p : PlainState) (s : State) (facts : Facts Deep p s) (a : ℕ) (c : Ce
         let people : people_of (set actors to lettered) ≡ set turned_people to (with_letter b args (person_at turned_people to)) =
         people-set actors to lettered ∙ ap (λ q. set (people_of actors) to (with_letter b args q)) receiver.same ∙ ap (λ ps. set ps to (with_letter b args (person_at ps to))) ours in
         let rows : (z : Thing) → all' z ≡ thing_row (plain_row (set actors to lettered)) z = λ z. rows_of (Some stopped) z ∙ rows_kept actors to receiver.actor receiver.there lettered refl z in
-        subst (λ xs. Facts Deep (next_state p xs p.prints) (with_turn_kept s stop (post a c1 ls to b args load [] s.actors))) (sym plain_actors)
+        subst (λ xs. Facts trace (next_state p xs p.prints) (with_turn_kept s stop (post a c1 ls to b args load came s.actors))) (sym plain_actors)
         (record {
-          counts = subst (λ ps. KeepsCounts Deep (thing_row (plain_row (set actors to lettered))) ps (post a c1 ls to b args load [] s.actors)) (sym people)
+          counts = subst (λ ps. KeepsCounts trace (thing_row (plain_row (set actors to lettered))) ps (post a c1 ls to b args load came s.actors)) (sym people)
               (same_rows all' (thing_row (plain_row (set actors to lettered))) _ _ rows (posted_kept full));
           program = facts.program;
           prints = facts.prints;
@@ -304,8 +296,8 @@ module _ (p : PlainState) (s : State) (facts : Facts Deep p s) (a : ℕ) (c : Ce
     -- ---- minting
 
     held1 : (z : Thing) → held_in c1.holdings z ≡ held_in c.holdings z
-    unfolding turn after
-    held1 = held_after s.program all all' (people_of p.actors) s.actors facts.counts a c ls at f is grows (Some stopped) c.dirty (λ z h. h)
+    unfolding held_in
+    held1 z = refl
 
     pub theirs : (e : Loaded) (es : List Loaded) → lacking a c1.holdings load ≡ e ∷ es → (z : Thing) → 0 < amount_of z (to_mint s.options.weight (owner_of e.0) (e ∷ es)) → (owner_of z ≡ owner_of e.0) × (0 < held_in c.holdings z)
     theirs e es l z some =
@@ -313,11 +305,15 @@ module _ (p : PlainState) (s : State) (facts : Facts Deep p s) (a : ℕ) (c : Ce
         (w.0, subst (λ n. 0 < n) (held1 z) w.1)
 
     held_present : (z : Thing) → 0 < held_in c.holdings z → IsPresent s.actors (owner_of z)
-    held_present z h = let left = counted_left s.actors z (in_hand s.actors facts.counts.balanced) facts.counts.prefixes (let w = held_below z s.actors a c ls at in omega arith) in (left.seat, left.present)
+    held_present z h = let left = counted_left trace all (people_of p.actors) s.actors facts.counts z (let w = held_below z s.actors a c ls at in omega arith) in (left.seat, left.present)
 
-    mint_follows : (e : Loaded) (es : List Loaded) → lacking a c1.holdings load ≡ e ∷ es → Facts Deep p (record s { actors = mint a c ls (owner_of e.0) (to_mint s.options.weight (owner_of e.0) (e ∷ es)) s.actors })
+    not_own : (e : Loaded) (es : List Loaded) → lacking a c1.holdings load ≡ e ∷ es → owner_of e.0 ≢ a
+    not_own e es l = (to_mint_theirs s.options.weight a (owner_of e.0) c1.holdings load e.0
+        (subst (λ q. 0 < amount_of e.0 (to_mint s.options.weight (owner_of e.0) q)) (sym l) (first_minted s.options.weight facts.weight e es))).2
+
+    mint_follows : (e : Loaded) (es : List Loaded) → lacking a c1.holdings load ≡ e ∷ es → Facts trace p (record s { actors = mint a c ls (owner_of e.0) (to_mint s.options.weight (owner_of e.0) (e ∷ es)) s.actors })
     mint_follows e es l = record {
-      counts = mint_keeps_counts all (people_of p.actors) s.actors facts.counts a c ls at (owner_of e.0) (to_mint s.options.weight (owner_of e.0) (e ∷ es)) (theirs e es l) (counted_mint s.options.weight facts.weight (owner_of e.0) (e ∷ es))
+      counts = mint_keeps trace all (people_of p.actors) s.actors facts.counts a c ls at (owner_of e.0) (to_mint s.options.weight (owner_of e.0) (e ∷ es)) (theirs e es l) (not_own e es l) (counted_mint s.options.weight facts.weight (owner_of e.0) (e ∷ es))
           (held_present e.0 (theirs e es l e.0 (first_minted s.options.weight facts.weight e es)).1);
       program = facts.program;
       prints = facts.prints;
@@ -327,7 +323,7 @@ module _ (p : PlainState) (s : State) (facts : Facts Deep p s) (a : ℕ) (c : Ce
     }
 
     letter_follows : (lack : List Loaded) → lacking a c1.holdings load ≡ lack
-        → Follows (is_empty lack) (after_act p a stopped stop.turn.fields stop.turn.made (Post to b args)) p (post_or_mint s a c c1 ls stop to b args load [] lack)
+        → Follows trace (is_empty lack) (after_act p a stopped stop.turn.fields stop.turn.made (Post to b args)) p (post_or_mint s a c c1 ls stop to b args load came lack)
     letter_follows [] l = (next_state p (plain.with_letter (with_turn p.actors a (Some stopped) stop.turn.fields stop.turn.made) to letter) p.prints, refl, post_follows l)
     letter_follows (e ∷ es) l = mint_follows e es l
 
@@ -337,15 +333,15 @@ module _ (p : PlainState) (s : State) (facts : Facts Deep p s) (a : ℕ) (c : Ce
   nothing_printed [] = refl
   nothing_printed (v ∷ prints) = ap (λ r. v ∷ r) (nothing_printed prints)
 
-  end_follows : Facts Deep (next_state p (with_turn p.actors a None stop.turn.fields stop.turn.made) p.prints) (with_turn_kept s stop (set s.actors a (seat (turned stop None true c) ls)))
+  end_follows : Facts trace (next_state p (with_turn p.actors a None stop.turn.fields stop.turn.made) p.prints) (with_turn_kept s stop (set s.actors a (seat (turned stop None true c) ls)))
   end_follows =
-      subst (λ prints. Facts Deep (next_state p (with_turn p.actors a None stop.turn.fields stop.turn.made) prints) (with_turn_kept s stop (set s.actors a (seat (turned stop None true c) ls)))) (nothing_printed p.prints)
-      (subst (λ prints. Facts Deep (next_state p (with_turn p.actors a None stop.turn.fields stop.turn.made) (p.prints ++ [])) (record (with_turn_kept s stop (set s.actors a (seat (turned stop None true c) ls))) { prints = prints })) (nothing_printed s.prints)
+      subst (λ prints. Facts trace (next_state p (with_turn p.actors a None stop.turn.fields stop.turn.made) prints) (with_turn_kept s stop (set s.actors a (seat (turned stop None true c) ls)))) (nothing_printed p.prints)
+      (subst (λ prints. Facts trace (next_state p (with_turn p.actors a None stop.turn.fields stop.turn.made) (p.prints ++ [])) (record (with_turn_kept s stop (set s.actors a (seat (turned stop None true c) ls))) { prints = prints })) (nothing_printed s.prints)
       (turn_follows None true [] (λ z h. absurd h)))
 
-  act_follows : (act : Act) (t : State) → stop.act ≡ act → act_in Deep s a c ls stopped stop act ≡ Goes t → Follows (act_is_choice Deep a (with_made stop.turn.made c.holdings) act) (after_act p a stopped stop.turn.fields stop.turn.made act) p t
-  act_follows End t act e = follows_on true _ p _ t e (_, refl, end_follows)
-  act_follows (Print v) t act e = follows_on true _ p _ t e (_, refl, turn_follows (Some stopped) c.dirty (v ∷ []) (λ z h. h))
+  act_follows : (act : Act) (t : State) → stop.act ≡ act → act_in trace s a c ls stopped stop act ≡ Goes t → Follows trace (act_is_choice trace a (with_made stop.turn.made c.holdings) act) (after_act p a stopped stop.turn.fields stop.turn.made act) p t
+  act_follows End t act e = follows_on trace true _ p _ t e (_, refl, end_follows)
+  act_follows (Print v) t act e = follows_on trace true _ p _ t e (_, refl, turn_follows (Some stopped) c.dirty (v ∷ []) (λ z h. h))
   act_follows (New kind register) t act e = by_room (nat_lt (length s.actors) 65536) refl e
     where
       made : State
@@ -354,18 +350,30 @@ module _ (p : PlainState) (s : State) (facts : Facts Deep p s) (a : ℕ) (c : Ce
       plain_made : PlainState
       plain_made = next_state p (with_turn p.actors a (Some (with_name stopped register (length p.actors))) stop.turn.fields stop.turn.made ++ fresh_actor p.program kind ∷ []) p.prints
 
-      by_room : (room : Bool) → nat_lt (length s.actors) 65536 ≡ room → (if room then Goes made else IsFull) ≡ Goes t → Follows true (if nat_lt (length p.actors) 65536 then plain.Goes plain_made else plain.IsFull) p t
+      by_room : (room : Bool) → nat_lt (length s.actors) 65536 ≡ room → (if room then Goes made else IsFull) ≡ Goes t → Follows trace true (if nat_lt (length p.actors) 65536 then plain.Goes plain_made else plain.IsFull) p t
       by_room false r e = cc
-      by_room true r e = follows_on true _ p made t e (plain_made, ap (λ q. if q then plain.Goes plain_made else plain.IsFull) (ap (λ n. nat_lt n 65536) long ∙ r), make_follows kind register)
-  act_follows (Post to b args) t act e = follows_on _ _ p _ t e (letter_follows to b args act (lacking a c1.holdings (load_from Deep a c1.holdings args)) refl)
+      by_room true r e = follows_on trace true _ p made t e (plain_made, ap (λ q. if q then plain.Goes plain_made else plain.IsFull) (ap (λ n. nat_lt n 65536) long ∙ r), make_follows kind register)
+  act_follows (Post to b args) t act e = follows_on trace _ _ p _ t e (letter_follows to b args act (lacking a c1.holdings (load_from trace a c1.holdings args)) refl)
 
-  plain_follows : (choice : Bool) (t : State) → Follows choice (after_act p a stopped stop.turn.fields stop.turn.made stop.act) p t → Follows choice (plain_go p a) p t
-  plain_follows choice t h = subst (λ goes. Follows choice goes p t) (sym plain_went) h
+  plain_follows : (choice : Bool) (t : State) → Follows trace choice (after_act p a stopped stop.turn.fields stop.turn.made stop.act) p t → Follows trace choice (plain_go p a) p t
+  plain_follows choice t h = subst (λ goes. Follows trace choice goes p t) (sym plain_went) h
 
-  go_of_frame : (t : State) → go_in Deep s a c (Some f) ls ≡ Goes t → Follows (go_is_choice Deep s.program a c (Some f)) (plain_go p a) p t
-  go_of_frame t e = plain_follows (act_is_choice Deep a (with_made stop.turn.made c.holdings) stop.act) t (act_follows stop.act t refl e)
-
-pub go_follows : (p : PlainState) (s : State) → Facts Deep p s → (a : ℕ) (c : Cell) (ls : List Letter) → seat_at s.actors a ≡ seat c ls → (f : Option Frame) → c.frame ≡ f → (t : State)
-    → go_in Deep s a c f ls ≡ Goes t → Follows (go_is_choice Deep s.program a c f) (plain_go p a) p t
-go_follows p s facts a c ls at None is t e = cc
-go_follows p s facts a c ls at (Some f) is t e = go_of_frame p s facts a c ls at f is t e
+pub go_follows : (trace : Trace) (p : PlainState) (s : State) → Facts trace p s → (a : ℕ) (c : Cell) (ls : List Letter) → seat_at s.actors a ≡ seat c ls → (f : Option Frame) → c.frame ≡ f → (t : State)
+    → go_in trace s a c f ls ≡ Goes t → Follows trace (go_is_choice trace s.program a c f) (plain_go p a) p t
+go_follows trace p s facts a c ls at None is t e = cc
+go_follows trace p s facts a c ls at (Some f) is t e = by_need (needed trace s.program a c f) refl e
+  where
+    by_need : (o : Option Thing) → needed trace s.program a c f ≡ o
+        → (let stop = turn_of_cell trace s.program a c f in
+        needing s a c ls o (act_in trace s a c ls (stopped_at f stop) stop stop.act) ≡ Goes t → Follows trace (is_none o && act_is_choice trace a (with_made stop.turn.made c.holdings) stop.act) (plain_go p a) p t)
+    by_need None n e =
+        let stop = turn_of_cell trace s.program a c f in
+        plain_follows trace p s facts a c ls at f is n (act_is_choice trace a (with_made stop.turn.made c.holdings) stop.act) t (act_follows trace p s facts a c ls at f is n stop.act t refl e)
+    by_need (Some x) n e = follows_on trace false (plain_go p a) p _ t e (record {
+      counts = need_keeps trace (thing_row (plain_row p.actors)) (people_of p.actors) s.actors facts.counts a c ls at s.options.weight facts.weight s.program f is x n;
+      program = facts.program;
+      prints = facts.prints;
+      objects = facts.objects;
+      weight = facts.weight;
+      mode = facts.mode;
+    })

@@ -11,12 +11,13 @@ use Rattle.letter_kinds.specs.Holdings.{Row, held_in, own_in}
 use Rattle.letter_kinds.specs.Sums.{inc_of, load_count}
 use Rattle.letter_kinds.specs.declared.letter.Letter.{Letter}
 use Rattle.machine_rules.proofs.Enabling.{may_go}
-use Rattle.machine_rules.proofs.ReapKeeps.{Sealed, reap_keeps_counts}
+use Rattle.machine_rules.proofs.EitherMode.{reap_keeps}
+use Rattle.machine_rules.proofs.ReapKeeps.{Sealed}
 use Rattle.machine_rules.proofs.SeatReads.{incs_at-seat, loads_at-seat, own_at-seat}
 use Rattle.machine_rules.proofs.Seats.{present_below}
 use Rattle.machine_rules.proofs.Sends.{held_below}
 use Rattle.machine_rules.proofs.Steps.{goes_to, not_enabled}
-use Rattle.machine_rules.specs.Options.{Deep, Trace}
+use Rattle.machine_rules.specs.Options.{Trace}
 use Rattle.machine_rules.specs.Actors.{Actors, Seat, seat, seat_at}
 use Rattle.machine_rules.specs.Agreement.{Person, app_letters, people_of}
 use Rattle.machine_rules.specs.Balance.{held_sum, incs_at, load_sum, loads_at, own_at}
@@ -77,15 +78,15 @@ module _ (trace : Trace) (all : Thing → Option Row) (ps : List Person) (s : Ac
     quiet = λ x. no_sum (load_count x) ls may.rest.empty;
   }
 
-module _ (p : PlainState) (s : State) (facts : Facts Deep p s) (t : State) where
-  leaves : (a : ℕ) (c : Cell) (ls : List Letter) (q : Bool) → may_leave c ls ≡ q → seat_at s.actors a ≡ seat c ls → leave_in s a q ≡ Goes t → Facts Deep p t
+module _ (trace : Trace) (p : PlainState) (s : State) (facts : Facts trace p s) (t : State) where
+  leaves : (a : ℕ) (c : Cell) (ls : List Letter) (q : Bool) → may_leave c ls ≡ q → seat_at s.actors a ≡ seat c ls → leave_in s a q ≡ Goes t → Facts trace p t
   leaves a c ls false may at e = absurd (not_enabled t e)
   leaves a c ls true may at e =
       let able = may_go c ls may in
-      subst (Facts Deep p) (goes_to _ t e) (record {
-        counts = reap_keeps_counts (thing_row (plain_row p.actors)) (people_of p.actors) s.actors facts.counts (a ∷ []) (is_member a, tt)
-            (sealed Deep (thing_row (plain_row p.actors)) (people_of p.actors) s.actors facts.counts a c ls at able.0 able.1, tt)
-            (alone Deep (thing_row (plain_row p.actors)) (people_of p.actors) s.actors facts.counts a c ls at able.0 able.1);
+      subst (Facts trace p) (goes_to _ t e) (record {
+        counts = reap_keeps trace (thing_row (plain_row p.actors)) (people_of p.actors) s.actors facts.counts (a ∷ []) (is_member a, tt)
+            (sealed trace (thing_row (plain_row p.actors)) (people_of p.actors) s.actors facts.counts a c ls at able.0 able.1, tt)
+            (alone trace (thing_row (plain_row p.actors)) (people_of p.actors) s.actors facts.counts a c ls at able.0 able.1);
         program = facts.program;
         prints = facts.prints;
         objects = facts.objects;
@@ -93,9 +94,9 @@ module _ (p : PlainState) (s : State) (facts : Facts Deep p s) (t : State) where
         mode = facts.mode;
       })
 
-  leave_seat : (a : ℕ) (o : Option Seat) → seat_at s.actors a ≡ o → leave_at s a o ≡ Goes t → Facts Deep p t
+  leave_seat : (a : ℕ) (o : Option Seat) → seat_at s.actors a ≡ o → leave_at s a o ≡ Goes t → Facts trace p t
   leave_seat a None at e = absurd (not_enabled t e)
   leave_seat a (Some o) at e = leaves a o.cell o.mail (may_leave o.cell o.mail) refl at e
 
-  pub leave_kept : (a : ℕ) → next s (Leave a) ≡ Goes t → Facts Deep p t
+  pub leave_kept : (a : ℕ) → next s (Leave a) ≡ Goes t → Facts trace p t
   leave_kept a e = leave_seat a (seat_at s.actors a) refl e

@@ -6,6 +6,7 @@ use Rattle.std.specs.Option.{option_map_or}
 use Rattle.std.specs.Prelude.{sum_by}
 use Rattle.std.proofs.lemmas.List.Sums.{sum_by-cons}
 use Rattle.orca_names.specs.Names.{owner_of, thing_cmp}
+use Rattle.orca_names.specs.declared.names.ObjName.{ObjName}
 use Rattle.orca_names.specs.declared.names.Thing.{Thing}
 use Rattle.orca_names.specs.declared.names.Thing.TheVariants.{Actor, Obj}
 use Rattle.behaviour_code.specs.Find.{field_count, start_name}
@@ -13,23 +14,27 @@ use Rattle.behaviour_code.specs.declared.code.Program.{Program}
 use Rattle.reach_walk.specs.Reach.{thing_row}
 use Rattle.reach_walk.proofs.Elements.{none_in_nil}
 use Rattle.letter_kinds.proofs.Counts.{loaded-nil}
-use Rattle.letter_kinds.specs.Holdings.{Row, held_in, own_in, row_of}
+use Rattle.letter_kinds.specs.Holdings.{Row, has_own, held_in, own_in, row_of}
 use Rattle.letter_kinds.specs.Sums.{dec_of, inc_of, load_count}
 use Rattle.letter_kinds.specs.declared.letter.Letter.{Letter}
 use Rattle.letter_kinds.specs.declared.letter.Letter.TheVariants.{App}
 use Rattle.machine_rules.proofs.Naming.{nulls_name_nothing}
 use Rattle.machine_rules.proofs.Paths.{reach_into}
+use Rattle.machine_rules.proofs.RootsSame.{own_row_has}
+use Rattle.machine_rules.proofs.RootsTake.{root_reached}
 use Rattle.machine_rules.proofs.Safety.{sum-parts}
 use Rattle.machine_rules.proofs.SeatReads.{decs_at-none, decs_at-seat, held_at-seat, incs_at-none, incs_at-seat, letter_App, loads_at-seat, own_at-none, own_at-seat}
 use Rattle.machine_rules.proofs.Seats.{some_seat}
 use Rattle.machine_rules.specs.Actors.{Actors, seat, seat_at}
 use Rattle.machine_rules.specs.Agreement.{IsRootPerson, Person, app_letters, nobody, people_of, person_at, person_of}
 use Rattle.machine_rules.specs.Balance.{IsBalanced, IsCovered, IsCoveredAt, decs_at, held_at, incs_at, loads_at, own_at}
-use Rattle.machine_rules.specs.Cell.{Cell, first_cell}
-use Rattle.machine_rules.specs.Facts.{Facts, KeepsCounts}
+use Rattle.machine_rules.specs.Cell.{Cell, first_cell, own_row_of}
+use Rattle.machine_rules.specs.Facts.{Facts, IsSound, KeepsCounts}
 use Rattle.machine_rules.specs.Known.{AreExactLetters, IsSoundAt, Names, Reaches, Roots, in_fields, in_frame, in_table, row_at}
+use Rattle.machine_rules.specs.KnownByRoots.{AreRootLetters, IsNamedIn, IsRootsAt, by_field, by_frame, by_row}
 use Rattle.machine_rules.specs.Plain.{first_actor, plain_row, start_of}
-use Rattle.machine_rules.specs.Options.{Deep, Options}
+use Rattle.machine_rules.specs.Options.{Deep, Options, Trace}
+use Rattle.machine_rules.specs.Options as options
 use Rattle.machine_rules.specs.State.{first_state}
 use Rattle.machine_rules.specs.declared.PlainLetter.{PlainLetter}
 
@@ -134,12 +139,12 @@ module _ (program : Program) (found : Option ℕ) where
         sum_by-cons (loads_at x) (seat c (letters found)) [],
       )
 
-  start_covered : (x : Thing) (i : ℕ) → IsCoveredAt Deep x (seat_at s i)
+  start_covered : (trace : Trace) (x : Thing) (i : ℕ) → IsCoveredAt trace x (seat_at s i)
   unfolding IsCovered
-  start_covered x zero = λ k.
+  start_covered trace x zero = λ k.
       let z = letters_say found x in
       omega (arith, z.0, z.1, z.2, sum-parts (inc_of x) k (letters found), sum-parts (dec_of x) k (letters found), sum-parts (load_count x) k (letters found))
-  start_covered x (suc i) = tt
+  start_covered trace x (suc i) = tt
 
   start_sound : IsSoundAt all 0 c (letters found)
   start_sound = record {
@@ -147,6 +152,44 @@ module _ (program : Program) (found : Option ℕ) where
     rows = λ x k. row_zero 0 x ∙ sym (no_rows x);
     loads = letters_exact all found;
   }
+
+  no_own_row : (n : ObjName) (row : Row) → own_row_of 0 c.holdings n ≡ Some row → ⊥
+  unfolding has_own
+  no_own_row n row e = let z = (own_row_has 0 c.holdings n row e).1 in let w = m.get-empty {X = Row × ℕ} nat_cmp n.serial in cc
+
+  no_names : (x : Thing) → IsNamedIn 0 c x → ⊥
+  no_names x (by_field n) = blank x (in_fields n)
+  no_names x (by_frame n) = blank x (in_frame n)
+  no_names x (by_row n row e nm) = no_own_row n row e
+
+  letters_rooted : (found : Option ℕ) → AreRootLetters all (letters found)
+  letters_rooted None = tt
+  letters_rooted (Some name) = (
+    record {
+      only = λ x h. absurd (let z = loaded-nil x in omega arith);
+      whole = λ x h. absurd (no_values all x (root_reached all [] x h));
+      rows = record { reached = λ x h. absurd (let z = loaded-nil x in omega arith); whole = λ x h. absurd (no_values all x h); rows = tt };
+    },
+    tt,
+  )
+
+  start_roots : IsRootsAt all 0 c (letters found)
+  start_roots = record {
+    named = λ x n. absurd (no_names x n);
+    owners = λ x h. absurd (let z = held_zero x in omega arith);
+    mine = λ n row e. absurd (no_own_row n row e);
+    right = λ n row got. absurd (let z = m.get-empty {X = Row} thing_cmp (Obj n) in none_row row (sym z ∙ got));
+    brought = λ n row out h is. absurd (none_row row (sym (no_rows (Obj n)) ∙ is));
+    letters = letters_rooted found;
+    backed = λ x k o h. absurd (let z = letters_say found x in omega (arith, z.0, sum-parts (inc_of x) k (letters found)));
+  }
+    where
+      none_row : (row : Row) → None ≡ Some row → ⊥
+      none_row row e = cc
+
+  sound_at : (trace : Trace) → IsSound trace all 0 c (letters found)
+  sound_at Deep = start_sound
+  sound_at options.Roots = start_roots
 
   nobody_stands : IsRootPerson nobody → ⊥
   nobody_stands (inl e) = cc
@@ -159,11 +202,11 @@ module _ (program : Program) (found : Option ℕ) where
   first_person : person_at people 0 ≡ person_of c (letters found)
   first_person i = record (person_of c (letters found)) { letters = sym (same_letters found) i }
 
-  pub start_keeps : KeepsCounts Deep all people s
-  start_keeps = record {
+  pub start_keeps : (trace : Trace) → KeepsCounts trace all people s
+  start_keeps trace = record {
     balanced = start_balanced;
-    prefixes = λ x. start_covered x (owner_of x);
-    sound = λ a d ms at. let z = only_seat a d ms at in rw (z.0, sym z.1.0, sym z.1.1) start_sound;
+    prefixes = λ x. start_covered trace x (owner_of x);
+    sound = λ a d ms at. let z = only_seat a d ms at in rw (z.0, sym z.1.0, sym z.1.1) (sound_at trace);
     agrees = record {
       present = λ a d ms at. let z = only_seat a d ms at in rw (z.0, sym z.1.0, sym z.1.1) first_person;
       absent = absent;
@@ -183,5 +226,5 @@ module _ (program : Program) (found : Option ℕ) where
       absent zero e r = cc
       absent (suc i) e r = nobody_stands r
 
-pub start_facts : (program : Program) (options : Options) → 0 < options.weight → options.trace ≡ Deep → Facts Deep (start_of program) (first_state program options)
-start_facts program options heavy deep = record { counts = start_keeps program (start_name program); program = refl; prints = refl; objects = refl; weight = heavy; mode = deep }
+pub start_facts : (program : Program) (options : Options) → 0 < options.weight → Facts options.trace (start_of program) (first_state program options)
+start_facts program options heavy = record { counts = start_keeps program (start_name program) options.trace; program = refl; prints = refl; objects = refl; weight = heavy; mode = refl }

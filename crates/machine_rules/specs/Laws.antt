@@ -9,17 +9,17 @@ use Rattle.machine_rules.specs.Enabled.{CanHappen, IsRefusedAsFull}
 use Rattle.machine_rules.specs.Ends.{Ending, EndsAs}
 use Rattle.machine_rules.specs.Facts.{Facts}
 use Rattle.machine_rules.specs.Next.{IsEnabled, next}
-use Rattle.machine_rules.specs.Options.{Deep, Options}
+use Rattle.machine_rules.specs.Options.{Deep, Options, Trace}
 use Rattle.machine_rules.specs.Plain.{PlainState, start_of}
 use Rattle.machine_rules.specs.Run.{IsRun, PlainFollows, is_choice}
 use Rattle.machine_rules.specs.State.{State, Goes, IsFull, first_state}
 
 abbrev pub StartHasFacts : Type 0
-StartHasFacts = (program : Program) (options : Options) → 0 < options.weight → options.trace ≡ Deep → Facts Deep (start_of program) (first_state program options)
+StartHasFacts = (program : Program) (options : Options) → 0 < options.weight → Facts options.trace (start_of program) (first_state program options)
 
--- the event keeps the facts, beside the plain machine that makes the same choice
+-- with either tracing, the event keeps the facts, beside the plain machine that makes the same choice
 abbrev pub KeepsFacts : Event → Type 0
-KeepsFacts e = (p : PlainState) (s t : State) → Facts Deep p s → next s e ≡ Goes t → (q : PlainState) × PlainFollows (is_choice s e) p e q × Facts Deep q t
+KeepsFacts e = (trace : Trace) (p : PlainState) (s t : State) → Facts trace p s → next s e ≡ Goes t → (q : PlainState) × PlainFollows (is_choice s e) p e q × Facts trace q t
 
 abbrev pub TakesKeepFacts : Type 0
 TakesKeepFacts = (a : ℕ) → KeepsFacts (Take a)
