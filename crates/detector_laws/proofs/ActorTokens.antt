@@ -192,15 +192,15 @@ moved_sealed w w' a mv t s m i =
     let seal = s m i in
     let ne : m ≢ a = λ e. member_stays w w' a mv t s (subst (λ x. has t.members x ≡ true) e i) in
     let outside : has t.members a ≡ false = not_member t a (member_stays w w' a mv t s) in
-    let unheld : held_in mv.old.holdings (Actor m) ≡ 0 = ap (λ o. held_on o m) (sym mv.here) ∙ seal.held a outside in
+    let away = mv.apart t.members (λ k j. (some_not_none (s k j).blocked.here, (s k j).unloaded, (s k j).held)) outside m i in
     let here = some_not_none seal.blocked.here in
     let same : w'.cell m ≡ w.cell m = ⊎_elim (λ e. e) (λ (new : IsFresh (w.cell m) (w'.cell m)). absurd (here new.absent)) (mv.others m ne) in
     let held : (b : ℕ) → has t.members b ≡ false → held_on (w'.cell b) m ≡ 0 = λ b out. ⊎_elim
-    (λ (e : b ≡ a). subst (λ x. held_on (w'.cell x) m ≡ 0) (sym e) (ap (λ o. held_on o m) mv.there ∙ mv.holds_held m here ne unheld seal.unloaded))
+    (λ (e : b ≡ a). subst (λ x. held_on (w'.cell x) m ≡ 0) (sym e) (ap (λ o. held_on o m) mv.there ∙ away.2))
     (λ (other : b ≢ a). ⊎_elim (λ (e : w'.cell b ≡ w.cell b). ap (λ o. held_on o m) e ∙ seal.held b out) (λ (new : IsFresh (w.cell b) (w'.cell b)). ap (λ o. held_on o m) new.present ∙ new.empty m) (mv.others b other))
     (cases_eq b a) in
-    let loaded : w'.loaded m ≡ 0 = mv.loads_held m here ne unheld seal.unloaded in
-    subst (λ l. IsSealedMember t m w'.cell l (w'.loaded m) w'.notes) (sym (mv.sends_held m here ne unheld))
+    let loaded : w'.loaded m ≡ 0 = away.1 in
+    subst (λ l. IsSealedMember t m w'.cell l (w'.loaded m) w'.notes) (sym (away.0))
     (subst (λ ns. IsSealedMember t m w'.cell (w.mail m) (w'.loaded m) ns) (sym mv.notes)
     (cond_both mv.old.reported (w.notes ++ Unblock a ∷ []) w.notes (λ ns. IsSealedMember t m w'.cell (w.mail m) (w'.loaded m) ns)
     (λ _. sealed_stays t m w.cell w'.cell (w.mail m) (w.loaded m) (w'.loaded m) w.notes (Unblock a ∷ []) seal same held loaded (IsSilentOn-push m w.notes (Unblock a) seal.silent (λ e. ne (sym e))) refl)

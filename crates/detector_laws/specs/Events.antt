@@ -35,6 +35,10 @@ pub record IsFresh (before after : Option Cell) : Type 0 where
   pub quiet : cell.reported ≡ false
   pub empty : (x : ℕ) → held_in cell.holdings (Actor x) ≡ 0
 
+-- the members are there, no letter loads one, and none but members holds one
+abbrev pub IsApart : World → List ℕ → Type 0
+IsApart w ms = (m : ℕ) → has ms m ≡ true → (w.cell m ≢ None) × (w.loaded m ≡ 0) × ((b : ℕ) → has ms b ≡ false → held_on (w.cell b) m ≡ 0)
+
 -- what an actor's take of a letter other than a Confirm, its go or its collect may change
 pub record Moves (w : World) (a : ℕ) (after : World) : Type 0 where
   -- its cell, and what becomes of it
@@ -55,10 +59,9 @@ pub record Moves (w : World) (a : ℕ) (after : World) : Type 0 where
   -- of its own letters the first ones may go, and others may come
   pub own : (gone rest come : List Letter) × (w.mail a ≡ gone ++ rest) × (after.mail a ≡ rest ++ come) × NoConfirms come
   pub sends : (b : ℕ) → b ≢ a → (come : List Letter) × (after.mail b ≡ w.mail b ++ come) × NoConfirms come
-  -- it sends to those that it holds, and loads and holds afterwards what it held or what was loaded
-  pub sends_held : (b : ℕ) → w.cell b ≢ None → b ≢ a → held_in old.holdings (Actor b) ≡ 0 → after.mail b ≡ w.mail b
-  pub loads_held : (b : ℕ) → w.cell b ≢ None → b ≢ a → held_in old.holdings (Actor b) ≡ 0 → w.loaded b ≡ 0 → after.loaded b ≡ 0
-  pub holds_held : (b : ℕ) → w.cell b ≢ None → b ≢ a → held_in old.holdings (Actor b) ≡ 0 → w.loaded b ≡ 0 → held_in new.holdings (Actor b) ≡ 0
+  -- to the members of a set that is apart, and that it is none of, it sends nothing, and it neither loads nor holds one
+  pub apart : (ms : List ℕ) → IsApart w ms → has ms a ≡ false → (m : ℕ) → has ms m ≡ true
+      → (after.mail m ≡ w.mail m) × (after.loaded m ≡ 0) × (held_in new.holdings (Actor m) ≡ 0)
 
 -- ---- reap and leave
 

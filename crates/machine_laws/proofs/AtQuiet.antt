@@ -19,6 +19,7 @@ use Rattle.machine_rules.specs.Left.{IsLeft}
 use Rattle.machine_rules.specs.Next.{IsQuiet}
 use Rattle.machine_rules.specs.PlainReach.{IsReachable}
 use Rattle.machine_rules.specs.Plain.{PlainState, plain_row}
+use Rattle.machine_rules.specs.Options.{Deep, Trace}
 use Rattle.machine_rules.specs.State.{State}
 use Rattle.detector_laws.proofs.Cells.{same_some, some_not_none}
 use Rattle.detector_laws.proofs.Quiet.{no_token}
@@ -28,7 +29,7 @@ use Rattle.detector_laws.specs.Quiet as view
 use Rattle.detector_laws.specs.Reports.{IsAsTold, IsReportOf, told_by_kept, told_of}
 use Rattle.machine_laws.proofs.Quieting.{quiet_reached, quiet_world}
 use Rattle.machine_laws.proofs.Seen.{world}
-use Rattle.machine_laws.proofs.WholeRuns.{run_has_facts}
+use Rattle.machine_laws.proofs.WholeRuns.{run_has_deep, run_has_facts}
 use Rattle.machine_laws.specs.AllFacts.{AllFacts}
 use Rattle.machine_laws.specs.Laws.{DetectorRests, DetectorRestsAtQuiet, ExactlyAtQuiet}
 
@@ -51,15 +52,15 @@ module _ (s : State) where
   reached_needed (view.root {a = a} {c = c} here pin) = by_pin a c (seat_at s.actors a) refl here pin
   reached_needed (view.edge {b = b} {a = a} path holds) = by_hold b a (seat_at s.actors b) refl (reached_needed path) holds
 
-  all_needed : (p : PlainState) → AllFacts p s → IsQuiet s → AllNeeded s.actors
-  all_needed p facts quiet a c mail at =
-      reached_needed (quiet_reached s (thing_row (plain_row p.actors)) (people_of p.actors) facts.beside.counts facts.own facts.detector quiet a c (ap cell_of at))
+  all_needed : (trace : Trace) (p : PlainState) → AllFacts trace p s → IsQuiet s → AllNeeded s.actors
+  all_needed trace p facts quiet a c mail at =
+      reached_needed (quiet_reached trace s (thing_row (plain_row p.actors)) (people_of p.actors) facts.beside.counts facts.own facts.detector quiet a c (ap cell_of at))
 
-pub quiet_exact : (p : PlainState) (s : State) → AllFacts p s → IsQuiet s → (x : Thing) → IsLeft s.actors x ↔ IsReachable p x
-quiet_exact p s facts quiet = left_is_exact p s facts.beside facts.clean (quiet_rest s quiet) (all_needed s p facts quiet)
+pub quiet_exact : (p : PlainState) (s : State) → AllFacts Deep p s → IsQuiet s → (x : Thing) → IsLeft s.actors x ↔ IsReachable p x
+quiet_exact p s facts quiet = left_is_exact p s facts.beside (facts.clean refl) (quiet_rest s quiet) (all_needed s Deep p facts quiet)
 
 pub exactly_at_quiet : ExactlyAtQuiet
-exactly_at_quiet program options heavy deep book t run quiet = let facts = run_has_facts program options heavy deep book t run in (facts.0, facts.1, quiet_exact facts.0 t facts.2 quiet)
+exactly_at_quiet program options heavy deep book t run quiet = let facts = run_has_deep program options heavy deep book t run in (facts.0, facts.1, quiet_exact facts.0 t facts.2 quiet)
 
 -- ---- the detector
 
@@ -67,7 +68,7 @@ none_open : (tokens : List Token) → ((t : Token) → In t tokens → ⊥) → 
 none_open [] none = refl
 none_open (t ∷ tokens) none = absurd (none t (inl refl))
 
-module _ (s : State) (p : PlainState) (facts : AllFacts p s) (quiet : IsQuiet s) where
+module _ (trace : Trace) (s : State) (p : PlainState) (facts : AllFacts trace p s) (quiet : IsQuiet s) where
   rests : view.IsQuiet (world s)
   rests = quiet_world s quiet facts.detector
 
@@ -90,4 +91,4 @@ module _ (s : State) (p : PlainState) (facts : AllFacts p s) (quiet : IsQuiet s)
   }
 
 pub detector_at_quiet : DetectorRestsAtQuiet
-detector_at_quiet program options heavy deep book t run quiet = let facts = run_has_facts program options heavy deep book t run in detector_rests t facts.0 facts.2 quiet
+detector_at_quiet program options heavy book t run quiet = let facts = run_has_facts program options heavy book t run in detector_rests options.trace t facts.0 facts.2 quiet

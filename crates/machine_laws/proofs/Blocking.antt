@@ -11,6 +11,9 @@ use Rattle.letter_kinds.specs.declared.letter.Letter.{Letter}
 use Rattle.letter_kinds.specs.declared.note.Note.{Note}
 use Rattle.letter_kinds.specs.declared.note.Note.TheVariants.{Block}
 use Rattle.letter_kinds.specs.declared.note.Report.{Report}
+use Rattle.machine_rules.proofs.RootsSame.{backed_more, own_self}
+use Rattle.machine_rules.proofs.RootsTake.{same_roots}
+use Rattle.machine_rules.specs.KnownByRoots.{IsRootsAt}
 use Rattle.machine_rules.proofs.Agreeing.{agrees_same}
 use Rattle.machine_rules.proofs.Every.{every_set}
 use Rattle.machine_rules.proofs.InHand.{in_hand, none, out_of_hand}
@@ -18,6 +21,7 @@ use Rattle.machine_rules.proofs.Seats.{present_below}
 use Rattle.machine_rules.proofs.Sends.{cell_balanced, cell_prefix}
 use Rattle.machine_rules.proofs.TakeKeeps.{alike_closed, alike_self}
 use Rattle.machine_rules.specs.Options.{Deep, Trace}
+use Rattle.machine_rules.specs.Options as options
 use Rattle.machine_rules.specs.Actors.{Actors, cell_at, cell_of, letters_of, mail_at, seat, seat_at}
 use Rattle.machine_rules.specs.Agreement.{Person}
 use Rattle.machine_rules.specs.Balance.{load_sum}
@@ -59,8 +63,12 @@ module _ (s : Actors) (a : ℕ) (c : Cell) (ls : List Letter) (at : seat_at s a 
     firm = every_set IsFirmAt s a (reporting c) ls within (keeps.firm a c ls at) keeps.firm;
   }
 
-  pub block_keeps : (all : Thing → Option Row) (ps : List Person) → KeepsCounts Deep all ps s → KeepsCounts Deep all ps (set s a (seat (reporting c) ls))
-  block_keeps all ps keeps =
+  pub block_keeps : (trace : Trace) (all : Thing → Option Row) (ps : List Person) → KeepsCounts trace all ps s → KeepsCounts trace all ps (set s a (seat (reporting c) ls))
+  block_keeps options.Roots all ps keeps =
+      let q = keeps.sound a c ls at in
+      block_put options.Roots all ps keeps (every_set (IsRootsAt all) s a (reporting c) ls within
+      (same_roots all a c (reporting c) ls q (own_self a c.holdings) (λ x. refl) refl refl refl ls q.letters (λ x k o h. backed_more a c (reporting c) ls k x (λ y o. omega arith) (λ n row e. e) (q.backed x k o h))) keeps.sound)
+  block_keeps Deep all ps keeps =
       let here = keeps.sound a c ls at in
       block_put Deep all ps keeps (every_set (IsSoundAt all) s a (reporting c) ls within
       (record { closed = alike_closed all a c c.holdings c.dirty true (alike_self a c.holdings) here.closed; rows = here.rows; loads = here.loads }) keeps.sound)

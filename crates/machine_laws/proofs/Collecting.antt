@@ -20,16 +20,19 @@ use Rattle.machine_rules.specs.Balance.{load_sum}
 use Rattle.machine_rules.specs.Cell.{Cell}
 use Rattle.machine_rules.specs.Collect.{collected}
 use Rattle.machine_rules.specs.Facts.{IsFirm}
-use Rattle.machine_rules.specs.Known.{IsClosedAt, in_table}
+use Rattle.machine_rules.specs.Known.{IsKnown}
 use Rattle.detector_laws.specs.Events.{Moves}
 use Rattle.machine_laws.proofs.Moving.{Adds, adds_none, adds_then, adds_push, push_other, push_loads, moves}
 use Rattle.machine_laws.proofs.Noted.{noted}
 use Rattle.machine_laws.proofs.Seen.{world_of}
 
+-- who holds a thing knows its owner
+abbrev pub HoldsOwners : ℕ → Cell → Type 0
+HoldsOwners a c = (x : Thing) → 0 < held_in c.holdings x → IsKnown a c.holdings (Actor (owner_of x))
+
 -- who holds a thing of another holds that other
-pub owner_held : (all : Thing → Option Row) (a : ℕ) (c : Cell) → IsClosedAt all a c → (x : Thing) → 0 < held_in c.holdings x → owner_of x ≢ a → 0 < held_in c.holdings (Actor (owner_of x))
-owner_held all a c closed (Actor b) h n = h
-owner_held all a c closed (Obj q) h n = ⊎_elim (λ own. absurd (n own.0)) (λ held. held.1) (closed (Actor q.owner) (owned (root (in_table h))))
+pub owner_held : (a : ℕ) (c : Cell) → HoldsOwners a c → (x : Thing) → 0 < held_in c.holdings x → owner_of x ≢ a → 0 < held_in c.holdings (Actor (owner_of x))
+owner_held a c owners x h n = ⊎_elim (λ own. absurd (n own.0)) (λ held. held.1) (owners x h)
 
 abbrev pub NotTo : ℕ → List (ℕ × List (Thing × ℕ)) → Type 0
 NotTo b [] = Unit {0}
@@ -68,15 +71,16 @@ swept marked me c = record c { holdings = sweep marked me c.holdings; dirty = fa
 pub same_loads : (s : Actors) (a : ℕ) (c c' : Cell) (ls : List Letter) → seat_at s a ≡ seat c ls → (x : Thing) → load_sum x (set s a (seat c' ls)) ≡ load_sum x s
 same_loads s a c c' ls at x = omega (arith, load_sum-set s a (seat c ls) (seat c' ls) (present_below s a _ at) at x, loads_at-seat x c ls, loads_at-seat x c' ls)
 
-pub collect_moves : (marked : Thing → Bool) (all : Thing → Option Row) (s : Actors) (d : Detector) (ns : List Note) (a : ℕ) (c : Cell) (ls : List Letter) → seat_at s a ≡ seat c ls
-    → c.dirty ≡ true → c.reported ≡ false → IsFirm c.holdings → IsClosedAt all a c → Moves (world_of s d ns) a (world_of (collected marked a c ls s) d (noted a c ns))
-collect_moves marked all s d ns a c ls at dirty awake firm closed =
-    let gs = by_owner (given_back marked c.holdings) in
-    let s1 = set s a (seat (swept marked a c) ls) in
-    moves s (push_decs gs s1) d ns a c (swept marked a c) ls ls at (decs_adds gs s1) [] refl awake (inr (inl dirty))
-    (λ b n h. ap letters_of (decs_quiet b gs s1 (not_to b gs (firm_groups _ (firm_counted marked c.holdings firm)) (λ x o p. unowed b n h x o (omega (arith, owed-groups (given_back marked c.holdings) x)))) ∙ get_or-set_other s a b (seat (swept marked a c) ls) None n))
-    (λ b n h u. omega (arith, u, decs_loads (Actor b) gs s1, same_loads s a c (swept marked a c) ls at (Actor b)))
-    (λ b n h u. held-sweep marked a c.holdings (Actor b) ∙ none (marked (Actor b)) (held_in c.holdings (Actor b)) h)
+-- the cell that is swept may lack rows that letters brought
+pub collect_moves : (marked : Thing → Bool) (s : Actors) (d : Detector) (ns : List Note) (a : ℕ) (c c0 : Cell) (ls : List Letter) → seat_at s a ≡ seat c ls → c0.holdings ≡ c.holdings → c0.reported ≡ c.reported
+    → c.dirty ≡ true → c.reported ≡ false → IsFirm c.holdings → HoldsOwners a c → Moves (world_of s d ns) a (world_of (collected marked a c0 ls s) d (noted a c ns))
+collect_moves marked s d ns a c c0 ls at same still dirty awake firm owners =
+    let gs = by_owner (given_back marked c0.holdings) in
+    let s1 = set s a (seat (swept marked a c0) ls) in
+    moves s (push_decs gs s1) d ns a c (swept marked a c0) ls ls at (decs_adds gs s1) [] refl (still ∙ awake) (inr (inl dirty))
+    (λ b n h. ap letters_of (decs_quiet b gs s1 (not_to b gs (firm_groups _ (firm_counted marked c0.holdings (subst IsFirm (sym same) firm))) (λ x o p. unowed b n h x o (omega (arith, owed-groups (given_back marked c0.holdings) x)))) ∙ get_or-set_other s a b (seat (swept marked a c0) ls) None n))
+    (λ b n h u. omega (arith, u, decs_loads (Actor b) gs s1, same_loads s a c (swept marked a c0) ls at (Actor b)))
+    (λ b n h u. held-sweep marked a c0.holdings (Actor b) ∙ none (marked (Actor b)) (held_in c0.holdings (Actor b)) (ap (λ k. held_in k (Actor b)) same ∙ h))
   where
     none : (q : Bool) (n : ℕ) → n ≡ 0 → cond q n 0 ≡ 0
     none true n h = h
@@ -86,9 +90,9 @@ collect_moves marked all s d ns a c ls at dirty awake firm closed =
     some true n h = absurd (omega arith)
     some false n h = h
 
-    unowed : (b : ℕ) → b ≢ a → held_in c.holdings (Actor b) ≡ 0 → (x : Thing) → owner_of x ≡ b → 0 < amount_of x (given_back marked c.holdings) → ⊥
+    unowed : (b : ℕ) → b ≢ a → held_in c.holdings (Actor b) ≡ 0 → (x : Thing) → owner_of x ≡ b → 0 < amount_of x (given_back marked c0.holdings) → ⊥
     unowed b n h x o p =
-        let held = some (marked x) (held_in c.holdings x) (subst (λ (k : ℕ). 0 < k) (amount-given_back marked c.holdings x) p) in
-        let up : 0 < held_in c.holdings (Actor (owner_of x)) = owner_held all a c closed x held (λ e. n (sym o ∙ e)) in
+        let held = some (marked x) (held_in c0.holdings x) (subst (λ (k : ℕ). 0 < k) (amount-given_back marked c0.holdings x) p) in
+        let up : 0 < held_in c.holdings (Actor (owner_of x)) = owner_held a c owners x (subst (λ k. 0 < held_in k x) same held) (λ e. n (sym o ∙ e)) in
         let z = ap (λ (i : ℕ). held_in c.holdings (Actor i)) o in
         omega arith

@@ -18,7 +18,7 @@ use Rattle.machine_rules.specs.State.{State, Step, NotEnabled, IsFull, Goes}
 use Rattle.machine_laws.proofs.AtQuiet.{quiet_exact}
 use Rattle.machine_laws.proofs.Calm.{IsCalm, some_or_none}
 use Rattle.machine_laws.proofs.ComesToRest.{event_leaves_less}
-use Rattle.machine_laws.proofs.WholeRuns.{event_keeps, run_has_facts}
+use Rattle.machine_laws.proofs.WholeRuns.{event_keeps, run_has_deep}
 use Rattle.machine_laws.specs.AllFacts.{AllFacts}
 use Rattle.machine_laws.specs.Laws.{AwaitsChoices, GarbageIsGone, RunsCanRest}
 use Rattle.machine_laws.specs.Work.{work_left}
@@ -33,7 +33,7 @@ no_choices e later s t calm goes none =
 abbrev GoesOn : State → Type 0
 GoesOn s = (later : List Event) × (t : State) × Leads s later t × (choices later s ≡ []) × ((e : Event) → IsCalm t e → ⊥)
 
-goes_on : (work : ℕ) (p : PlainState) (s : State) → AllFacts p s → work_left s ≤ work → GoesOn s
+goes_on : (work : ℕ) (p : PlainState) (s : State) → AllFacts Deep p s → work_left s ≤ work → GoesOn s
 goes_on zero p s facts enough = ⊎_elim
     (λ some. let (e, (t, goes, calm)) = some in absurd (omega (arith, event_leaves_less p s t e facts goes calm)))
     (λ none. ([], s, refl, refl, none))
@@ -41,7 +41,7 @@ goes_on zero p s facts enough = ⊎_elim
 goes_on (suc work) p s facts enough = ⊎_elim
     (λ some.
     let (e, (t, goes, calm)) = some in
-    let after = event_keeps p s t e facts goes in
+    let after = event_keeps Deep p s t e facts goes in
     let (later, last, leads, none, end) = goes_on work after.0 t after.2 (omega (arith, event_leaves_less p s t e facts goes calm)) in
     (e ∷ later, last, (t, goes, leads), no_choices e later s t calm goes none, end))
     (λ none. ([], s, refl, refl, none))
@@ -67,10 +67,10 @@ waits s none e enabled = by_step (next s e) refl
 -- ---- where the plain machine is quiet
 
 -- it could go too, where a go is refused as full
-plain_refused : (p : PlainState) (s : State) (e : Event) → AllFacts p s → IsRefusedAsFull s e → outcome_of p e ≡ plain.NotEnabled → ⊥
+plain_refused : (p : PlainState) (s : State) (e : Event) → AllFacts Deep p s → IsRefusedAsFull s e → outcome_of p e ≡ plain.NotEnabled → ⊥
 plain_refused p s e facts r off =
     let stop = turn_of_cell Deep s.program r.actor r.cell r.frame in
-    let went = plain_went p s facts.beside r.actor r.cell r.mail r.present r.frame r.framed in
+    let went = plain_went Deep p s facts.beside r.actor r.cell r.mail r.present r.frame r.framed refl in
     let act = ap (after_act p r.actor (stopped_at r.frame stop) stop.turn.fields stop.turn.made) (sym (ap (λ q. (turn_of_cell q s.program r.actor r.cell r.frame).act) facts.beside.mode) ∙ r.makes) in
     not_off _ (nat_lt (length p.actors) 65536) (sym (went ∙ act) ∙ (ap (outcome_of p) (sym r.is_go) ∙ off))
   where
@@ -78,7 +78,7 @@ plain_refused p s e facts r off =
     not_off u true e = cc
     not_off u false e = cc
 
-quiet_too : (p : PlainState) (s : State) → AllFacts p s → AwaitsChoices s → IsPlainQuiet p → IsQuiet s
+quiet_too : (p : PlainState) (s : State) → AllFacts Deep p s → AwaitsChoices s → IsPlainQuiet p → IsQuiet s
 quiet_too p s facts awaits quiet e = by_step (next s e) refl
   where
     by_step : (step : Step) → next s e ≡ step → next s e ≡ NotEnabled
@@ -86,7 +86,7 @@ quiet_too p s facts awaits quiet e = by_step (next s e) refl
     by_step IsFull is = absurd (plain_refused p s e facts (full s e is) (quiet e))
     by_step (Goes t) goes =
         let chosen = awaits e (λ off. let same : NotEnabled ≡ Goes t = sym off ∙ goes in cc) in
-        let after = event_keeps p s t e facts goes in
+        let after = event_keeps Deep p s t e facts goes in
         let follows : outcome_of p e ≡ plain.Goes after.0 = subst (λ choice. PlainFollows choice p e after.0) chosen after.1 in
         let same : plain.NotEnabled ≡ plain.Goes after.0 = sym (quiet e) ∙ follows in cc
 
@@ -94,11 +94,11 @@ quiet_too p s facts awaits quiet e = by_step (next s e) refl
 
 pub runs_can_rest : RunsCanRest
 runs_can_rest program options heavy deep book s run =
-    let facts = run_has_facts program options heavy deep book s run in
+    let facts = run_has_deep program options heavy deep book s run in
     let (later, last, leads, calm, none) = goes_on (work_left s) facts.0 s facts.2 (omega arith) in
     record { later = later; last = last; leads = leads; calm = calm; waits = waits last none }
 
 pub garbage_is_gone : GarbageIsGone
 garbage_is_gone program options heavy deep book t run awaits =
-    let facts = run_has_facts program options heavy deep book t run in
+    let facts = run_has_deep program options heavy deep book t run in
     (facts.0, facts.1, λ quiet. let rest = quiet_too facts.0 t facts.2 awaits quiet in (rest, quiet_exact facts.0 t facts.2 rest))

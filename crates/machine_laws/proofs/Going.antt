@@ -26,10 +26,10 @@ use Rattle.machine_rules.specs.Actors.{Actors, cell_at, cell_of, letters_of, mai
 use Rattle.machine_rules.specs.Balance.{loads_at}
 use Rattle.machine_rules.specs.Cell.{Cell}
 use Rattle.machine_rules.specs.Go.{post, mint, make, turned}
-use Rattle.machine_rules.specs.Known.{IsClosedAt, IsKnown}
+use Rattle.machine_rules.specs.Known.{IsKnown}
 use Rattle.detector_laws.specs.Events.{Moves}
-use Rattle.machine_laws.proofs.Collecting.{owner_held, same_loads}
-use Rattle.machine_laws.proofs.Moving.{adds_none, adds_push, push_other, push_loads, moves}
+use Rattle.machine_laws.proofs.Collecting.{HoldsOwners, owner_held, same_loads}
+use Rattle.machine_laws.proofs.Moving.{not_same, unheld, adds_none, adds_push, push_other, push_loads, moves}
 use Rattle.machine_laws.proofs.Noted.{noted}
 use Rattle.machine_laws.proofs.Seen.{world_of}
 
@@ -76,9 +76,15 @@ module _ (s : Actors) (d : Detector) (ns : List Note) (a : ℕ) (c : Cell) (ls :
           (cases_eq b (length s)),
       tt,
     );
-    sends_held = λ b p n h. ap letters_of (same_seat b n (old_one b p));
-    loads_held = λ b p n h u. omega (arith, u, sum_by_push (loads_at (Actor b)) first (seat fresh []), loads_at-seat (Actor b) fresh [], sum-nil (load_count (Actor b)), same_loads s a c c2 ls at (Actor b));
-    holds_held = λ b p n h u. held_set_other (λ k. k + w) (Actor b) (Actor (length s)) None c1.holdings (λ e. old_one b p (ap owner_of e)) ∙ same (Actor b) ∙ h;
+    apart = λ ms is out b ins.
+        let n = not_same ms a b out ins in
+        let p = (is b ins).0 in
+        let h = unheld s d ns a c ls at ms is out b ins in
+        (
+          ap letters_of (same_seat b n (old_one b p)),
+          omega (arith, (is b ins).1, sum_by_push (loads_at (Actor b)) first (seat fresh []), loads_at-seat (Actor b) fresh [], sum-nil (load_count (Actor b)), same_loads s a c c2 ls at (Actor b)),
+          held_set_other (λ k. k + w) (Actor b) (Actor (length s)) None c1.holdings (λ e. old_one b p (ap owner_of e)) ∙ same (Actor b) ∙ h,
+        );
   }
     where
       c2 : Cell
@@ -131,10 +137,10 @@ module _ (s : Actors) (d : Detector) (ns : List Note) (a : ℕ) (c : Cell) (ls :
       unloaded b n z = zero_if (times_loaded (Actor b) load) (λ p. away b n z (known (Actor b) p))
 
   -- an Inc for things of which a holds some
-  pub mint_moves : (all : Thing → Option Row) → IsClosedAt all a c → (to : ℕ) (es : List (Thing × ℕ)) → ((x : Thing) → 0 < amount_of x es → 0 < held_in c.holdings x)
+  pub mint_moves : HoldsOwners a c → (to : ℕ) (es : List (Thing × ℕ)) → ((x : Thing) → 0 < amount_of x es → 0 < held_in c.holdings x)
       → (x : Thing) → owner_of x ≡ to → 0 < amount_of x es
       → Moves (world_of s d ns) a (world_of (mint a c ls to es s) d (noted a c ns))
-  mint_moves all closed to es held x o p =
+  mint_moves owners to es held x o p =
       let c2 : Cell = record c { holdings = mint_all es c.holdings } in
       let s1 = set s a (seat c2 ls) in
       moves s (push_letter to (Inc es) s1) d ns a c c2 ls ls at (adds_push s1 to (Inc es) refl) [] refl awake (inl running)
@@ -144,7 +150,7 @@ module _ (s : Actors) (d : Detector) (ns : List Note) (a : ℕ) (c : Cell) (ls :
     where
       away : (b : ℕ) → b ≢ a → held_in c.holdings (Actor b) ≡ 0 → b ≡ to → ⊥
       away b n z e =
-          let up : 0 < held_in c.holdings (Actor (owner_of x)) = owner_held all a c closed x (held x p) (λ q. n (e ∙ sym o ∙ q)) in
+          let up : 0 < held_in c.holdings (Actor (owner_of x)) = owner_held a c owners x (held x p) (λ q. n (e ∙ sym o ∙ q)) in
           let w = ap (λ (i : ℕ). held_in c.holdings (Actor i)) (o ∙ sym e) in
           omega arith
 

@@ -11,6 +11,7 @@ pub mod HeldActors
 pub mod Keeping
 pub mod LeavesLess
 pub mod Moving
+pub mod Needing
 pub mod Noted
 pub mod Quieting
 pub mod Reaping

@@ -6,7 +6,7 @@ use Rattle.std.proofs.lemmas.List.Sums.{sum_by-cons, sum_by-set}
 use Rattle.std.specs.Prelude.{sum_by}
 use Rattle.orca_names.specs.declared.names.Thing.{Thing}
 use Rattle.orca_names.specs.declared.names.Thing.TheVariants.{Actor}
-use Rattle.letter_kinds.specs.Detector.{Detector}
+use Rattle.letter_kinds.specs.Detector.{Detector, has}
 use Rattle.letter_kinds.specs.Holdings.{held_in}
 use Rattle.letter_kinds.specs.Sums.{load_count}
 use Rattle.letter_kinds.specs.declared.letter.Letter.{Letter}
@@ -18,8 +18,9 @@ use Rattle.machine_rules.proofs.Seats.{present_below}
 use Rattle.machine_rules.specs.Actors.{Actors, Seat, cell_at, cell_of, letters_of, mail_at, push_letter, seat, seat_at, with_letter_more}
 use Rattle.machine_rules.specs.Balance.{loads_at, load_sum}
 use Rattle.machine_rules.specs.Cell.{Cell}
+use Rattle.detector_laws.specs.Cells.{held_on}
 use Rattle.detector_laws.specs.Confirms.{NoConfirms, is_confirm}
-use Rattle.detector_laws.specs.Events.{Moves}
+use Rattle.detector_laws.specs.Events.{IsApart, Moves}
 use Rattle.machine_laws.proofs.Noted.{noted}
 use Rattle.machine_laws.proofs.Seen.{world_of}
 
@@ -112,11 +113,16 @@ adds_push s b l k = record {
 abbrev pub Cause : Cell → List Letter → Type 0
 Cause c ls = (is_some c.frame ≡ true) ⊎ (c.dirty ≡ true) ⊎ ((first : Letter) × (rest : List Letter) × (ls ≡ first ∷ rest) × (is_confirm first ≡ false))
 
+pub not_same : (ms : List ℕ) (a m : ℕ) → has ms a ≡ false → has ms m ≡ true → m ≢ a
+not_same ms a m out ins e = let z = ap (has ms) e in cc
+
+-- who is no member of a set that is apart holds no member
+pub unheld : (s : Actors) (d : Detector) (ns : List Note) (a : ℕ) (c : Cell) (ls : List Letter) → seat_at s a ≡ seat c ls → (ms : List ℕ) → IsApart (world_of s d ns) ms → has ms a ≡ false
+    → (m : ℕ) → has ms m ≡ true → held_in c.holdings (Actor m) ≡ 0
+unheld s d ns a c ls at ms is out m ins = ap (λ o. held_on (cell_of o) m) (sym at) ∙ (is m ins).2 a out
+
 module _ (s s' : Actors) (d : Detector) (ns : List Note) (a : ℕ) (c c' : Cell) (ls rest : List Letter) (at : seat_at s a ≡ seat c ls)
-    (adds : Adds (set s a (seat c' rest)) s') (gone : List Letter) (left : ls ≡ gone ++ rest) (woken : c'.reported ≡ false) (cause : Cause c ls)
-    (quiet : (b : ℕ) → b ≢ a → held_in c.holdings (Actor b) ≡ 0 → mail_at s' b ≡ mail_at s b)
-    (loads : (b : ℕ) → b ≢ a → held_in c.holdings (Actor b) ≡ 0 → load_sum (Actor b) s ≡ 0 → load_sum (Actor b) s' ≡ 0)
-    (holds : (b : ℕ) → b ≢ a → held_in c.holdings (Actor b) ≡ 0 → load_sum (Actor b) s ≡ 0 → held_in c'.holdings (Actor b) ≡ 0) where
+    (adds : Adds (set s a (seat c' rest)) s') (gone : List Letter) (left : ls ≡ gone ++ rest) (woken : c'.reported ≡ false) (cause : Cause c ls) where
   within : a < length s
   within = present_below s a _ at
 
@@ -129,8 +135,9 @@ module _ (s s' : Actors) (d : Detector) (ns : List Note) (a : ℕ) (c c' : Cell)
   my_mail : mail_at s a ≡ ls
   my_mail = ap letters_of at
 
-  pub moves : Moves (world_of s d ns) a (world_of s' d (noted a c ns))
-  moves = record {
+  pub moves_apart : ((ms : List ℕ) → IsApart (world_of s d ns) ms → has ms a ≡ false → (m : ℕ) → has ms m ≡ true
+      → (mail_at s' m ≡ mail_at s m) × (load_sum (Actor m) s' ≡ 0) × (held_in c'.holdings (Actor m) ≡ 0)) → Moves (world_of s d ns) a (world_of s' d (noted a c ns))
+  moves_apart apart = record {
     old = c;
     new = c';
     here = ap cell_of at;
@@ -144,7 +151,14 @@ module _ (s s' : Actors) (d : Detector) (ns : List Note) (a : ℕ) (c c' : Cell)
     others = λ b n. inl (adds.cell b ∙ ap cell_of (there b n));
     own = let m = adds.mail a in (gone, rest, m.0, my_mail ∙ left, m.1 ∙ ap (λ (o : Option Seat). letters_of o ++ m.0) mine, m.2);
     sends = λ b n. let m = adds.mail b in (m.0, m.1 ∙ ap (λ (o : Option Seat). letters_of o ++ m.0) (there b n), m.2);
-    sends_held = λ b p n h. quiet b n h;
-    loads_held = λ b p n h u. loads b n h u;
-    holds_held = λ b p n h u. holds b n h u;
+    apart = apart;
   }
+
+  -- it sends to those that it holds, and loads and holds afterwards what it held or what was loaded
+  pub moves : ((b : ℕ) → b ≢ a → held_in c.holdings (Actor b) ≡ 0 → mail_at s' b ≡ mail_at s b)
+      → ((b : ℕ) → b ≢ a → held_in c.holdings (Actor b) ≡ 0 → load_sum (Actor b) s ≡ 0 → load_sum (Actor b) s' ≡ 0)
+      → ((b : ℕ) → b ≢ a → held_in c.holdings (Actor b) ≡ 0 → load_sum (Actor b) s ≡ 0 → held_in c'.holdings (Actor b) ≡ 0) → Moves (world_of s d ns) a (world_of s' d (noted a c ns))
+  moves quiet loads holds = moves_apart (λ ms is out m ins.
+      let n = not_same ms a m out ins in
+      let h = unheld s d ns a c ls at ms is out m ins in
+      (quiet m n h, loads m n h (is m ins).1, holds m n h (is m ins).1))

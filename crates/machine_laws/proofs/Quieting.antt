@@ -12,7 +12,7 @@ use Rattle.letter_kinds.specs.Sums.{load_count}
 use Rattle.letter_kinds.specs.declared.letter.Letter.{Letter}
 use Rattle.machine_rules.proofs.Rest.{is_nil, none_can, quiet_rest, quiet_told}
 use Rattle.machine_rules.proofs.SeatReads.{loads_at-none, loads_at-seat}
-use Rattle.machine_rules.specs.Options.{Deep}
+use Rattle.machine_rules.specs.Options.{Trace}
 use Rattle.machine_rules.specs.Actors.{Seat, cell_at, cell_of, letters_of, mail_at, seat, seat_at}
 use Rattle.machine_rules.specs.Agreement.{Person}
 use Rattle.machine_rules.specs.Balance.{loads_at}
@@ -72,7 +72,7 @@ quiet_world s quiet facts = record {
   told = λ a. in_world s quiet a (λ c mail. c.fields.pinned ≡ false → c.reported ≡ true) (quiet_told s quiet a);
 }
 
-pub quiet_reached : (s : State) (all : Thing → Option Row) (people : List Person) → KeepsCounts Deep all people s.actors → Every HoldsNoOwnAt s.actors → FactsHold (world s) → IsQuiet s
+pub quiet_reached : (trace : Trace) (s : State) (all : Thing → Option Row) (people : List Person) → KeepsCounts trace all people s.actors → Every HoldsNoOwnAt s.actors → FactsHold (world s) → IsQuiet s
     → (a : ℕ) (c : Cell) → cell_at s.actors a ≡ Some c → view.IsReached (world s) a
-quiet_reached s all people keeps own facts quiet =
+quiet_reached trace s all people keeps own facts quiet =
     quiet_all_reached (world s) (quiet_world s quiet facts) facts.reports facts.tokens facts.news (balanced s.actors s.detector s.notes keeps.balanced own) facts.rising

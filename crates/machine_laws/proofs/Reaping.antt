@@ -12,12 +12,13 @@ use Rattle.letter_kinds.specs.Holdings.{Row, held_in}
 use Rattle.letter_kinds.specs.declared.letter.Letter.{Letter}
 use Rattle.letter_kinds.specs.declared.letter.Letter.TheVariants.{Dec}
 use Rattle.letter_kinds.specs.declared.note.Note.{Note}
+use Rattle.machine_rules.proofs.EitherMode.{held_owner}
 use Rattle.machine_rules.proofs.ReapKeeps.{every_none, length-reap}
 use Rattle.machine_rules.proofs.Reaps.{AllIn}
 use Rattle.machine_rules.proofs.SeatReads.{loads_at-none}
 use Rattle.machine_rules.proofs.Sweeping.{amount-given_back, firm_counted}
 use Rattle.machine_rules.proofs.Sweeps.{owed, owed-groups, firm_groups}
-use Rattle.machine_rules.specs.Options.{Deep}
+use Rattle.machine_rules.specs.Options.{Trace}
 use Rattle.machine_rules.specs.Actors.{Actors, cell_at, Seat, cell_of, letters_of, mail_at, push_decs, push_letter, seat_at, with_letter_more}
 use Rattle.machine_rules.specs.Agreement.{Person}
 use Rattle.machine_rules.specs.Balance.{loads_at, load_sum}
@@ -121,7 +122,7 @@ unfolding reaped
 reap_loads x all [] gs s = decs_loads x gs s
 reap_loads x all (m ∷ ms) gs s = omega (arith, reap_loads x all ms (gs ++ by_owner (held_outside all (seat_at s m))) (set s m None), clear_loads x s m)
 
-module _ (s : Actors) (d after : Detector) (ns : List Note) (ms : List ℕ) (all : Thing → Option Row) (ps : List Person) (keeps : KeepsCounts Deep all ps s) where
+module _ (s : Actors) (d after : Detector) (ns : List Note) (ms : List ℕ) (trace : Trace) (all : Thing → Option Row) (ps : List Person) (keeps : KeepsCounts trace all ps s) where
   gone_at : (m : ℕ) → has ms m ≡ true → seat_at (reap_members ms s) m ≡ None
   gone_at m h = reap_gone ms ms [] s m h
 
@@ -138,7 +139,7 @@ module _ (s : Actors) (d after : Detector) (ns : List Note) (ms : List ℕ) (all
       unowed : (x : Thing) → owner_of x ≡ i → 0 < owed (by_owner (given_back marked c.holdings)) x → ⊥
       unowed x o p =
           let held = some (marked x) (held_in c.holdings x) (subst (λ (k : ℕ). 0 < k) (owed-groups (given_back marked c.holdings) x ∙ amount-given_back marked c.holdings x) p) in
-          let up : 0 < held_in c.holdings (Actor (owner_of x)) = owner_held all m c (keeps.sound m c ls at).closed x held (λ e. false≢true (sym out ∙ ap (has ms) (sym o ∙ e) ∙ ins)) in
+          let up : 0 < held_in c.holdings (Actor (owner_of x)) = owner_held m c (held_owner trace all ps s keeps m c ls at) x held (λ e. false≢true (sym out ∙ ap (has ms) (sym o ∙ e) ∙ ins)) in
           let z = ap (λ (k : ℕ). held_in c.holdings (Actor k)) o in
           let w = sym (ap (λ o. held_on (cell_of o) i) at) ∙ free m ins in
           absurd (omega arith)
@@ -154,6 +155,6 @@ module _ (s : Actors) (d after : Detector) (ns : List Note) (ms : List ℕ) (all
     unloaded = λ x h. omega (arith, h, reap_loads (Actor x) ms ms [] s);
   }
 
-module _ (s : Actors) (d : Detector) (ns : List Note) (t : Token) (all : Thing → Option Row) (ps : List Person) (keeps : KeepsCounts Deep all ps s) (opened : In t d.tokens) (acked : all_acked t ≡ true) where
+module _ (s : Actors) (d : Detector) (ns : List Note) (t : Token) (trace : Trace) (all : Thing → Option Row) (ps : List Person) (keeps : KeepsCounts trace all ps s) (opened : In t d.tokens) (acked : all_acked t ≡ true) where
   pub reap_reaps : Reaps (world_of s d ns) t (world_of (reap_members t.members s) (close_token t d) ns)
-  reap_reaps = record { is_open = opened; acked = acked; detector = refl; departs = departs s d (close_token t d) ns t.members all ps keeps }
+  reap_reaps = record { is_open = opened; acked = acked; detector = refl; departs = departs s d (close_token t d) ns t.members trace all ps keeps }

@@ -19,6 +19,7 @@ use Rattle.letter_kinds.specs.declared.letter.Letter.{Letter}
 use Rattle.letter_kinds.specs.declared.letter.Letter.TheVariants.{Confirm}
 use Rattle.letter_kinds.specs.declared.note.Note.{Note}
 use Rattle.letter_kinds.specs.declared.note.Report.{Report}
+use Rattle.machine_rules.proofs.RootsSame.{roots_push}
 use Rattle.machine_rules.proofs.Agreeing.{agrees_push_other}
 use Rattle.machine_rules.proofs.Every.{every_push, length-push}
 use Rattle.machine_rules.proofs.Global.{mail_push}
@@ -28,6 +29,7 @@ use Rattle.machine_rules.proofs.SeatReads.{letter_Confirm}
 use Rattle.machine_rules.proofs.Sends.{push_prefix, cond_zero}
 use Rattle.machine_rules.specs.Cell.{Cell}
 use Rattle.machine_rules.specs.Options.{Deep, Trace}
+use Rattle.machine_rules.specs.Options as options
 use Rattle.machine_rules.specs.Actors.{Actors, cell_at, Seat, cell_of, letters_of, mail_at, push_letter, seat_at, with_letter_more}
 use Rattle.machine_rules.specs.Agreement.{Person}
 use Rattle.machine_rules.specs.Balance.{load_sum}
@@ -52,6 +54,10 @@ Confirming trace all = (t i : ℕ) (c : Cell) (ms : List Letter) → IsSound tra
 
 pub confirms_deep : (all : Thing → Option Row) → Confirming Deep all
 confirms_deep all t i c ms q = record { closed = q.closed; rows = q.rows; loads = mail_push all ms (Confirm t) tt q.loads }
+
+pub confirms_all : (trace : Trace) (all : Thing → Option Row) → Confirming trace all
+confirms_all Deep all = confirms_deep all
+confirms_all options.Roots all = λ t. roots_push all (Confirm t) tt (λ x. (letter_Confirm x t).0)
 
 -- ---- one Confirm
 

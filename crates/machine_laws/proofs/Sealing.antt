@@ -12,10 +12,11 @@ use Rattle.letter_kinds.specs.Sums.{load_count}
 use Rattle.letter_kinds.specs.declared.letter.Letter.{Letter}
 use Rattle.letter_kinds.specs.declared.letter.Letter.TheVariants.{App, Inc, Dec, Confirm}
 use Rattle.letter_kinds.specs.declared.note.Note.{Note}
-use Rattle.machine_rules.proofs.ReapKeeps.{AllSealed, Sealed, reap_keeps_counts}
+use Rattle.machine_rules.proofs.EitherMode.{reap_keeps}
+use Rattle.machine_rules.proofs.ReapKeeps.{AllSealed, Sealed}
 use Rattle.machine_rules.proofs.SeatReads.{loads_at-seat, letter_Confirm}
 use Rattle.machine_rules.proofs.Seats.{present_below}
-use Rattle.machine_rules.specs.Options.{Deep}
+use Rattle.machine_rules.specs.Options.{Trace}
 use Rattle.machine_rules.specs.Actors.{Actors, cell_at, Seat, cell_of, letters_of, mail_at, seat, seat_at}
 use Rattle.machine_rules.specs.Agreement.{app_letters, Person}
 use Rattle.machine_rules.specs.Balance.{loads_at, load_sum}
@@ -36,7 +37,7 @@ only (Inc es ∷ ls) h = absurd (false≢true h.0)
 only (Dec es ∷ ls) h = absurd (false≢true h.0)
 only (Confirm t ∷ ls) h = let rest = only ls h.1 in (rest.0, λ x. omega (arith, sum_by-cons (load_count x) (Confirm t) ls, rest.1 x, (letter_Confirm x t).2))
 
-module _ (s : Actors) (ns : List Note) (t : Token) (all : Thing → Option Row) (ps : List Person) (keeps : KeepsCounts Deep all ps s)
+module _ (s : Actors) (ns : List Note) (t : Token) (trace : Trace) (all : Thing → Option Row) (ps : List Person) (keeps : KeepsCounts trace all ps s)
     (seal : IsSealed (cell_at s) (mail_at s) (λ x. load_sum (Actor x) s) ns t) where
   one : (m : ℕ) → has t.members m ≡ true → (o : Option Seat) → seat_at s m ≡ o → Sealed s m
   one m h None e = absurd (some_not_none (seal m h).blocked.here (ap cell_of e))
@@ -66,5 +67,5 @@ module _ (s : Actors) (ns : List Note) (t : Token) (all : Thing → Option Row) 
       let v = rw at at w in
       (sym (ap (λ o. held_on (cell_of o) m) at) ∙ q.held i out, omega (arith, q.unloaded, v, loads_at-seat (Actor m) c ls))
 
-  pub reap_keeps : KeepsCounts Deep all ps (reap_members t.members s)
-  reap_keeps = reap_keeps_counts all ps s keeps t.members (each_has _ t.members (λ m h. h)) members_sealed members_alone
+  pub members_keep : KeepsCounts trace all ps (reap_members t.members s)
+  members_keep = reap_keeps trace all ps s keeps t.members (each_has _ t.members (λ m h. h)) members_sealed members_alone

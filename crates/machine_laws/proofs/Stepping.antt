@@ -21,23 +21,24 @@ use Rattle.letter_kinds.specs.declared.letter.Letter.{Letter}
 use Rattle.letter_kinds.specs.declared.letter.Letter.TheVariants.{App, Inc, Dec, Confirm}
 use Rattle.letter_kinds.specs.declared.note.Note.{Note}
 use Rattle.letter_kinds.specs.declared.note.Note.TheVariants.{Unblock}
+use Rattle.machine_rules.proofs.EitherMode.{held_owner}
 use Rattle.machine_rules.proofs.Enabling.{may_go, may_report}
 use Rattle.machine_rules.proofs.FollowingGo.{load_known, target_known}
 use Rattle.machine_rules.proofs.Lacking.{first_minted, to_mint_theirs}
 use Rattle.machine_rules.proofs.Makes.{fresh_held}
+use Rattle.machine_rules.proofs.Sweeping.{same_holdings, same_reported}
 use Rattle.machine_rules.proofs.Steps.{goes_if, goes_to, not_enabled}
 use Rattle.machine_rules.specs.Actors.{Actors, Seat, cell_of, letters_of, seat, seat_at}
 use Rattle.machine_rules.specs.Agreement.{people_of}
 use Rattle.machine_rules.specs.Block.{block_at, block_in, may_block}
 use Rattle.machine_rules.specs.Cell.{Cell, fresh_cell}
-use Rattle.machine_rules.specs.Collect.{collect_at, collect_in, is_marked}
+use Rattle.machine_rules.specs.Collect.{collect_at, collect_in, is_marked, without_unused}
 use Rattle.machine_rules.specs.Detect.{hear_in, reap_found, reap_in, scan_in}
 use Rattle.machine_rules.specs.Facts.{Facts, IsFirm}
-use Rattle.machine_rules.specs.Go.{act_in, go_at, go_in, load_from, make, post_or_mint, turn_of_cell, turned}
-use Rattle.machine_rules.specs.Known.{IsClosedAt}
+use Rattle.machine_rules.specs.Go.{act_in, go_at, go_in, load_from, make, needed, needing, post_or_mint, rows_from, turn_of_cell, turned}
 use Rattle.machine_rules.specs.Leave.{leave_at, leave_in, may_leave}
 use Rattle.machine_rules.specs.Next.{next}
-use Rattle.machine_rules.specs.Options.{Deep}
+use Rattle.machine_rules.specs.Options.{Trace}
 use Rattle.machine_rules.specs.Plain.{PlainState, plain_row, stopped_at, with_name}
 use Rattle.machine_rules.specs.State.{State, Goes}
 use Rattle.machine_rules.specs.Take.{take_at, take_in}
@@ -48,8 +49,9 @@ use Rattle.detector_laws.specs.Reports.{Told, Unreported, Reported, Contradictor
 use Rattle.detector_laws.specs.Run.{IsStep, Hears, Scans, ReapsOne, LeavesOne, Blocks, TakesConfirm, MovesOne}
 use Rattle.detector_laws.specs.World.{FactsHold}
 use Rattle.machine_laws.proofs.Blocking.{block_is, can_block}
-use Rattle.machine_laws.proofs.Collecting.{collect_moves}
+use Rattle.machine_laws.proofs.Collecting.{HoldsOwners, collect_moves}
 use Rattle.machine_laws.proofs.Going.{held_made, make_moves, mint_moves, post_moves, turn_moves}
+use Rattle.machine_laws.proofs.Needing.{need_moves}
 use Rattle.machine_laws.proofs.Noted.{noted}
 use Rattle.machine_laws.proofs.Reaping.{departs, reap_reaps}
 use Rattle.machine_laws.proofs.Scanning.{scan_is}
@@ -68,7 +70,7 @@ awake_if c a (Reported r) h b =
     b
 awake_if c a Contradictory h b = absurd h
 
-module _ (p : PlainState) (s t : State) (beside : Facts Deep p s) (facts : FactsHold (world s)) where
+module _ (trace : Trace) (p : PlainState) (s t : State) (beside : Facts trace p s) (facts : FactsHold (world s)) where
   -- the map of all rows
   abbrev all : Thing → Option Row
   all = thing_row (plain_row p.actors)
@@ -76,8 +78,8 @@ module _ (p : PlainState) (s t : State) (beside : Facts Deep p s) (facts : Facts
   firm_at : (a : ℕ) (c : Cell) (ls : List Letter) → seat_at s.actors a ≡ seat c ls → IsFirm c.holdings
   firm_at a c ls at = beside.counts.firm a c ls at
 
-  closed_at : (a : ℕ) (c : Cell) (ls : List Letter) → seat_at s.actors a ≡ seat c ls → IsClosedAt all a c
-  closed_at a c ls at = (beside.counts.sound a c ls at).closed
+  owners_at : (a : ℕ) (c : Cell) (ls : List Letter) → seat_at s.actors a ≡ seat c ls → HoldsOwners a c
+  owners_at a c ls at x h = held_owner trace all (people_of p.actors) s.actors beside.counts a c ls at x h
 
   awake : (a : ℕ) (c : Cell) (ls : List Letter) → seat_at s.actors a ≡ seat c ls → (is_some c.frame ≡ true) ⊎ (c.dirty ≡ true) → c.reported ≡ false
   awake a c ls at = awake_if c a (told_of a s.detector.kept s.notes) (subst (λ o. IsAsTold (cell_of o) a (told_of a s.detector.kept s.notes)) at (facts.reports.last a))
@@ -105,18 +107,18 @@ module _ (p : PlainState) (s t : State) (beside : Facts Deep p s) (facts : Facts
 
   -- ---- collect
 
-  collects : (a : ℕ) (c : Cell) (f : Option Frame) (q : Bool) (ls : List Letter) → c.dirty ≡ q → seat_at s.actors a ≡ seat c ls → collect_in Deep s a c f q ls ≡ Goes t → StepsTo t
+  collects : (a : ℕ) (c : Cell) (f : Option Frame) (q : Bool) (ls : List Letter) → c.dirty ≡ q → seat_at s.actors a ≡ seat c ls → collect_in trace s a c f q ls ≡ Goes t → StepsTo t
   collects a c (Some f) q ls is at e = absurd (not_enabled t e)
   collects a c None false ls is at e = absurd (not_enabled t e)
   collects a c None true ls is at e =
       let up = awake a c ls at (inr is) in
-      arrived _ e (unnoted a c _ up (collect_moves (is_marked Deep a c) all s.actors s.detector s.notes a c ls at is up (firm_at a c ls at) (closed_at a c ls at)))
+      arrived _ e (unnoted a c _ up (collect_moves (is_marked trace a c) s.actors s.detector s.notes a c (without_unused trace a c) ls at (same_holdings trace a c) (same_reported trace a c) is up (firm_at a c ls at) (owners_at a c ls at)))
 
   -- ---- go
 
-  module _ (a : ℕ) (c : Cell) (ls : List Letter) (at : seat_at s.actors a ≡ seat c ls) (f : Frame) (frame : c.frame ≡ Some f) where
+  module _ (a : ℕ) (c : Cell) (ls : List Letter) (at : seat_at s.actors a ≡ seat c ls) (f : Frame) (frame : c.frame ≡ Some f) (held_all : needed trace s.program a c f ≡ None) where
     abbrev stop : Stop
-    stop = turn_of_cell Deep s.program a c f
+    stop = turn_of_cell trace s.program a c f
 
     abbrev stopped : Frame
     stopped = stopped_at f stop
@@ -130,15 +132,15 @@ module _ (p : PlainState) (s t : State) (beside : Facts Deep p s) (facts : Facts
     running : is_some c.frame ≡ true
     running = ap is_some frame
 
-    posts : (to behaviour : ℕ) (args : List Value) → stop.act ≡ Post to behaviour args → (lack : List Loaded) → lacking a after.holdings (load_from Deep a after.holdings args) ≡ lack
-        → StepsTo (post_or_mint s a c after ls stop to behaviour args (load_from Deep a after.holdings args) [] lack)
+    posts : (to behaviour : ℕ) (args : List Value) → stop.act ≡ Post to behaviour args → (lack : List Loaded) → lacking a after.holdings (load_from trace a after.holdings args) ≡ lack
+        → StepsTo (post_or_mint s a c after ls stop to behaviour args (load_from trace a after.holdings args) (rows_from trace a after args) lack)
     posts to behaviour args is [] l =
-        unnoted a c _ up (post_moves s.actors s.detector s.notes a c ls at running up after refl (held_made stop.turn.made c.holdings) to behaviour args (load_from Deep a after.holdings args) []
-        (target_known p s beside a c ls at f frame to behaviour args is) (load_known p s beside a c ls at f frame to behaviour args is))
+        unnoted a c _ up (post_moves s.actors s.detector s.notes a c ls at running up after refl (held_made stop.turn.made c.holdings) to behaviour args (load_from trace a after.holdings args) (rows_from trace a after args)
+        (target_known trace p s beside a c ls at f frame held_all to behaviour args is) (load_known trace p s beside a c ls at f frame held_all to behaviour args is))
     posts to behaviour args is (e ∷ es) l =
-        unnoted a c _ up (mint_moves s.actors s.detector s.notes a c ls at running up all (closed_at a c ls at) (owner_of e.0) (to_mint s.options.weight (owner_of e.0) (e ∷ es))
+        unnoted a c _ up (mint_moves s.actors s.detector s.notes a c ls at running up (owners_at a c ls at) (owner_of e.0) (to_mint s.options.weight (owner_of e.0) (e ∷ es))
         (λ x some.
-        let theirs = to_mint_theirs s.options.weight a (owner_of e.0) after.holdings (load_from Deep a after.holdings args) x (subst (λ q. 0 < amount_of x (to_mint s.options.weight (owner_of e.0) q)) (sym l) some) in
+        let theirs = to_mint_theirs s.options.weight a (owner_of e.0) after.holdings (load_from trace a after.holdings args) x (subst (λ q. 0 < amount_of x (to_mint s.options.weight (owner_of e.0) q)) (sym l) some) in
         subst (λ n. 0 < n) (held_made stop.turn.made c.holdings x) theirs.1)
         e.0 refl (first_minted s.options.weight beside.weight e es))
 
@@ -148,15 +150,21 @@ module _ (p : PlainState) (s t : State) (beside : Facts Deep p s) (facts : Facts
         unnoted a c _ up (make_moves s.actors s.detector s.notes a c ls at running up s.options.weight (turned stop (Some (with_name stopped into (length s.actors))) c.dirty c) refl (held_made stop.turn.made c.holdings)
         fresh refl (fresh_held s.options.weight fresh.holdings (refl, (λ k. m.get-empty nat_cmp k), (λ y. m.get-empty thing_cmp y))))
 
-    acts : (act : Act) → stop.act ≡ act → act_in Deep s a c ls stopped stop act ≡ Goes t → StepsTo t
+    acts : (act : Act) → stop.act ≡ act → act_in trace s a c ls stopped stop act ≡ Goes t → StepsTo t
     acts (Print v) is e = arrived _ e (unnoted a c _ up (turn_moves s.actors s.detector s.notes a c ls at running up stop (Some stopped) c.dirty))
     acts End is e = arrived _ e (unnoted a c _ up (turn_moves s.actors s.detector s.notes a c ls at running up stop None true))
     acts (New kind into) is e = arrived _ (goes_if _ t (nat_lt (length s.actors) 65536) e) (makes kind into)
-    acts (Post to behaviour args) is e = arrived _ e (posts to behaviour args is (lacking a after.holdings (load_from Deep a after.holdings args)) refl)
+    acts (Post to behaviour args) is e = arrived _ e (posts to behaviour args is (lacking a after.holdings (load_from trace a after.holdings args)) refl)
 
-  goes : (a : ℕ) (c : Cell) (f : Option Frame) (ls : List Letter) → c.frame ≡ f → seat_at s.actors a ≡ seat c ls → go_in Deep s a c f ls ≡ Goes t → StepsTo t
+  goes : (a : ℕ) (c : Cell) (f : Option Frame) (ls : List Letter) → c.frame ≡ f → seat_at s.actors a ≡ seat c ls → go_in trace s a c f ls ≡ Goes t → StepsTo t
   goes a c None ls is at e = absurd (not_enabled t e)
-  goes a c (Some f) ls is at e = acts a c ls at f is (turn_of_cell Deep s.program a c f).act refl e
+  goes a c (Some f) ls is at e = by_need (needed trace s.program a c f) refl e
+    where
+      by_need : (o : Option Thing) → needed trace s.program a c f ≡ o → needing s a c ls o (act_in trace s a c ls (stopped_at f (turn_of_cell trace s.program a c f)) (turn_of_cell trace s.program a c f) (turn_of_cell trace s.program a c f).act) ≡ Goes t → StepsTo t
+      by_need None n e = acts a c ls at f is n (turn_of_cell trace s.program a c f).act refl e
+      by_need (Some x) n e =
+          let up = awake a c ls at (inl (ap is_some is)) in
+          arrived _ e (unnoted a c _ up (need_moves trace all (people_of p.actors) s.actors beside.counts s.detector s.notes a c ls at up s.options.weight beside.weight s.program f is x n))
 
   -- ---- block
 
@@ -174,7 +182,7 @@ module _ (p : PlainState) (s t : State) (beside : Facts Deep p s) (facts : Facts
     here = ap cell_of at;
     unreported = (may_go c ls may).0.unreported;
     detector = refl;
-    departs = departs s.actors s.detector s.detector s.notes (a ∷ []) all (people_of p.actors) beside.counts;
+    departs = departs s.actors s.detector s.detector s.notes (a ∷ []) trace all (people_of p.actors) beside.counts;
   }))
 
   -- ---- the detector's events
@@ -189,7 +197,7 @@ module _ (p : PlainState) (s t : State) (beside : Facts Deep p s) (facts : Facts
 
   reaps_one : (number : ℕ) (token : Token) → token_numbered number s.detector ≡ Some token → (q : Bool) → all_acked token ≡ q → reap_in s token q ≡ Goes t → StepsTo t
   reaps_one number token at false is e = absurd (not_enabled t e)
-  reaps_one number token at true is e = arrived _ e (ReapsOne (reap_reaps s.actors s.detector s.notes token all (people_of p.actors) beside.counts (numbered_is_open s.detector number token at).0 is))
+  reaps_one number token at true is e = arrived _ e (ReapsOne (reap_reaps s.actors s.detector s.notes token trace all (people_of p.actors) beside.counts (numbered_is_open s.detector number token at).0 is))
 
   reaps : (number : ℕ) (found : Option Token) → token_numbered number s.detector ≡ found → reap_found s found ≡ Goes t → StepsTo t
   reaps number None at e = absurd (not_enabled t e)
@@ -205,12 +213,12 @@ module _ (p : PlainState) (s t : State) (beside : Facts Deep p s) (facts : Facts
       seat_takes (Some o) at e = takes a o.cell o.cell.frame o.mail at e
   next_steps (Go a) e = seat_goes (seat_at s.actors a) refl (sym (ap (λ q. go_at q s a (seat_at s.actors a)) beside.mode) ∙ e)
     where
-      seat_goes : (o : Option Seat) → seat_at s.actors a ≡ o → go_at Deep s a o ≡ Goes t → StepsTo t
+      seat_goes : (o : Option Seat) → seat_at s.actors a ≡ o → go_at trace s a o ≡ Goes t → StepsTo t
       seat_goes None at e = absurd (not_enabled t e)
       seat_goes (Some o) at e = goes a o.cell o.cell.frame o.mail refl at e
   next_steps (Collect a) e = seat_collects (seat_at s.actors a) refl (sym (ap (λ q. collect_at q s a (seat_at s.actors a)) beside.mode) ∙ e)
     where
-      seat_collects : (o : Option Seat) → seat_at s.actors a ≡ o → collect_at Deep s a o ≡ Goes t → StepsTo t
+      seat_collects : (o : Option Seat) → seat_at s.actors a ≡ o → collect_at trace s a o ≡ Goes t → StepsTo t
       seat_collects None at e = absurd (not_enabled t e)
       seat_collects (Some o) at e = collects a o.cell o.cell.frame o.cell.dirty o.mail refl at e
   next_steps (Leave a) e = seat_leaves (seat_at s.actors a) refl e

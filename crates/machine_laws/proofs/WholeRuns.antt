@@ -1,5 +1,5 @@
 -- All facts hold at the start, are kept by every event, and so hold after each run and each of its prefixes.
-use Rattle.std.proofs.Common.{◌≡◌, ◌<◌, Bool, true, false, List, [], ◌∷◌, ◌++◌, refl, sym, subst}
+use Rattle.std.proofs.Common.{◌≡◌, ◌<◌, Bool, true, false, List, [], ◌∷◌, ◌++◌, refl, sym, ◌∙◌, subst}
 use Rattle.std.specs.Prelude.{if◌then◌else◌}
 use Rattle.orca_names.specs.declared.names.Thing.{Thing}
 use Rattle.behaviour_code.specs.declared.code.Program.{Program}
@@ -8,8 +8,7 @@ use Rattle.event_rule.specs.declared.event.Event.{Event}
 use Rattle.event_rule.specs.declared.event.Event.TheVariants.{Take, Go, Collect, Leave, Block, Hear, Scan, Reap}
 use Rattle.machine_rules.proofs.Acting.{Beside, collects_keep, goes_keep, leaves_keep, takes_keep}
 use Rattle.machine_rules.proofs.Cleaning.{clean-first, clean-next}
-use Rattle.machine_rules.proofs.Freed.{lives_left}
-use Rattle.machine_rules.proofs.InHand.{in_hand}
+use Rattle.machine_rules.proofs.EitherMode.{lives_left}
 use Rattle.machine_rules.proofs.Named.{named_left}
 use Rattle.machine_rules.proofs.NoSelf.{no_self-first, no_self-next}
 use Rattle.machine_rules.proofs.Reachable.{reachable_lives}
@@ -17,10 +16,10 @@ use Rattle.machine_rules.proofs.Starting as starting
 use Rattle.machine_rules.specs.Agreement.{people_of}
 use Rattle.machine_rules.specs.Left.{IsLeft}
 use Rattle.machine_rules.specs.Next.{next}
-use Rattle.machine_rules.specs.Options.{Deep, Options}
+use Rattle.machine_rules.specs.Options.{Deep, Options, Trace}
 use Rattle.machine_rules.specs.Plain.{PlainState, plain_row, start_of}
 use Rattle.machine_rules.specs.PlainReach.{IsReachable}
-use Rattle.machine_rules.specs.Run.{IsRun, Leads, PlainFollows, PlainLeads, choices, choices_after, is_choice}
+use Rattle.machine_rules.specs.Run.{IsPlainBeside, IsRun, Leads, PlainFollows, PlainLeads, choices, choices_after, is_choice}
 use Rattle.machine_rules.specs.State.{State, Step, Goes, first_state}
 use Rattle.machine_laws.proofs.Keeping.{block_beside, hear_beside, next_keeps, reap_beside, scan_beside}
 use Rattle.machine_laws.proofs.Starting.{start_detects}
@@ -28,60 +27,64 @@ use Rattle.machine_laws.specs.AllFacts.{AllFacts}
 use Rattle.machine_laws.specs.Laws.{EventsKeepAllFacts, IsNeverTooEarly, NeverTooEarly, RunsHaveAllFacts, StartHasAllFacts}
 
 pub start_all : StartHasAllFacts
-start_all program options heavy deep = record {
-  beside = starting.start_facts program options heavy deep;
+start_all program options heavy = record {
+  beside = starting.start_facts program options heavy;
   own = no_self-first program options;
-  clean = clean-first program options;
+  clean = λ deep. clean-first program options;
   detector = start_detects program options;
 }
 
 -- ---- one event
 
-module _ (p : PlainState) (s t : State) (facts : AllFacts p s) where
-  beside_after : (e : Event) → next s e ≡ Goes t → Beside (is_choice s e) p e t
-  beside_after (Take a) goes = takes_keep a p s t facts.beside goes
-  beside_after (Go a) goes = goes_keep a p s t facts.beside goes
-  beside_after (Collect a) goes = collects_keep a p s t facts.beside goes
-  beside_after (Leave a) goes = leaves_keep a p s t facts.beside goes
-  beside_after (Block a) goes = (p, refl, block_beside p s t facts.beside facts.detector a goes)
-  beside_after Hear goes = (p, refl, hear_beside p s t facts.beside facts.detector goes)
-  beside_after Scan goes = (p, refl, scan_beside p s t facts.beside facts.detector goes)
-  beside_after (Reap token) goes = (p, refl, reap_beside p s t facts.beside facts.detector token goes)
+module _ (trace : Trace) (p : PlainState) (s t : State) (facts : AllFacts trace p s) where
+  beside_after : (e : Event) → next s e ≡ Goes t → Beside trace (is_choice s e) p e t
+  beside_after (Take a) goes = takes_keep a trace p s t facts.beside goes
+  beside_after (Go a) goes = goes_keep a trace p s t facts.beside goes
+  beside_after (Collect a) goes = collects_keep a trace p s t facts.beside goes
+  beside_after (Leave a) goes = leaves_keep a trace p s t facts.beside goes
+  beside_after (Block a) goes = (p, refl, block_beside trace p s t facts.beside facts.detector a goes)
+  beside_after Hear goes = (p, refl, hear_beside trace p s t facts.beside facts.detector goes)
+  beside_after Scan goes = (p, refl, scan_beside trace p s t facts.beside facts.detector goes)
+  beside_after (Reap token) goes = (p, refl, reap_beside trace p s t facts.beside facts.detector token goes)
 
 pub event_keeps : EventsKeepAllFacts
-event_keeps p s t e facts goes =
-    let beside = beside_after p s t facts e goes in (
+event_keeps trace p s t e facts goes =
+    let beside = beside_after trace p s t facts e goes in (
       beside.0,
       beside.1,
       record {
         beside = beside.2;
         own = no_self-next s t e goes facts.own;
-        clean = clean-next s t e facts.beside.mode goes facts.clean;
-        detector = next_keeps p s t facts.beside facts.detector facts.own e goes;
+        clean = λ deep. clean-next s t e (facts.beside.mode ∙ deep) goes (facts.clean deep);
+        detector = next_keeps trace p s t facts.beside facts.detector facts.own e goes;
       },
     )
 
 -- ---- runs
 
-abbrev Arrives : PlainState → List Event → State → Type 0
-Arrives p events t = (q : PlainState) × PlainLeads p events q × AllFacts q t
+abbrev Arrives : Trace → PlainState → List Event → State → Type 0
+Arrives trace p events t = (q : PlainState) × PlainLeads p events q × AllFacts trace q t
 
-after_event : (choice : Bool) (p q : PlainState) (e : Event) (events : List Event) (t : State) → PlainFollows choice p e q → Arrives q events t → Arrives p (if choice then e ∷ events else events) t
-after_event true p q e events t follows later = (later.0, (q, follows, later.1), later.2)
-after_event false p q e events t follows later = subst (λ r. Arrives r events t) (sym follows) later
+after_event : (trace : Trace) (choice : Bool) (p q : PlainState) (e : Event) (events : List Event) (t : State) → PlainFollows choice p e q → Arrives trace q events t → Arrives trace p (if choice then e ∷ events else events) t
+after_event trace true p q e events t follows later = (later.0, (q, follows, later.1), later.2)
+after_event trace false p q e events t follows later = subst (λ r. Arrives trace r events t) (sym follows) later
 
-pub leads_on : (book : List Event) (p : PlainState) (s t : State) → AllFacts p s → Leads s book t → Arrives p (choices book s) t
-leads_on [] p s t facts same = (p, refl, subst (AllFacts p) same facts)
-leads_on (e ∷ book) p s t facts leads =
+pub leads_on : (trace : Trace) (book : List Event) (p : PlainState) (s t : State) → AllFacts trace p s → Leads s book t → Arrives trace p (choices book s) t
+leads_on trace [] p s t facts same = (p, refl, subst (AllFacts trace p) same facts)
+leads_on trace (e ∷ book) p s t facts leads =
     let u = leads.0 in
     let goes = leads.1 in
-    let mid = event_keeps p s u e facts goes in
-    let rest = leads_on book mid.0 u t mid.2 leads.2 in
-    let one = after_event (is_choice s e) p mid.0 e (choices book u) t mid.1 rest in
-    subst (λ (step : Step). Arrives p (if is_choice s e then e ∷ choices_after (choices book) step else choices_after (choices book) step) t) (sym goes) one
+    let mid = event_keeps trace p s u e facts goes in
+    let rest = leads_on trace book mid.0 u t mid.2 leads.2 in
+    let one = after_event trace (is_choice s e) p mid.0 e (choices book u) t mid.1 rest in
+    subst (λ (step : Step). Arrives trace p (if is_choice s e then e ∷ choices_after (choices book) step else choices_after (choices book) step) t) (sym goes) one
 
 pub run_has_facts : RunsHaveAllFacts
-run_has_facts program options heavy deep book t run = leads_on book (start_of program) (first_state program options) t (start_all program options heavy deep) run
+run_has_facts program options heavy book t run = leads_on options.trace book (start_of program) (first_state program options) t (start_all program options heavy) run
+
+-- with deep tracing
+pub run_has_deep : (program : Program) (options : Options) → 0 < options.weight → options.trace ≡ Deep → (book : List Event) (t : State) → IsRun program options book t → (p : PlainState) × IsPlainBeside program options book p × AllFacts Deep p t
+run_has_deep program options heavy deep book t run = let facts = run_has_facts program options heavy book t run in (facts.0, facts.1, subst (λ q. AllFacts q facts.0 t) deep facts.2)
 
 -- ---- prefixes
 
@@ -89,24 +92,22 @@ prefix_leads : (book later : List Event) (s t : State) → Leads s (book ++ late
 prefix_leads [] later s t leads = (s, refl)
 prefix_leads (e ∷ book) later s t leads = let rest = prefix_leads book later leads.0 t leads.2 in (rest.0, (leads.0, leads.1, rest.1))
 
-reachable_left : (p : PlainState) (s : State) → AllFacts p s → (x : Thing) → IsReachable p x → IsLeft s.actors x
-reachable_left p s facts x r =
-    let counts = facts.beside.counts in
-    lives_left (thing_row (plain_row p.actors)) (people_of p.actors) s.actors (in_hand s.actors counts.balanced) counts.prefixes counts.sound counts.agrees x (reachable_lives p r)
+reachable_left : (trace : Trace) (p : PlainState) (s : State) → AllFacts trace p s → (x : Thing) → IsReachable p x → IsLeft s.actors x
+reachable_left trace p s facts x r = lives_left trace (thing_row (plain_row p.actors)) (people_of p.actors) s.actors facts.beside.counts x (reachable_lives p r)
 
-never_early : (program : Program) (options : Options) → 0 < options.weight → options.trace ≡ Deep → (book : List Event) (s : State) → IsRun program options book s → IsNeverTooEarly program options book s
-never_early program options heavy deep book s run =
-    let facts = run_has_facts program options heavy deep book s run in
+never_early : (program : Program) (options : Options) → 0 < options.weight → (book : List Event) (s : State) → IsRun program options book s → IsNeverTooEarly program options book s
+never_early program options heavy book s run =
+    let facts = run_has_facts program options heavy book s run in
     record {
       plain = facts.0;
       follows = facts.1;
       prints = facts.2.beside.prints;
       balanced = facts.2.beside.counts.balanced;
       covered = facts.2.beside.counts.prefixes;
-      left = reachable_left facts.0 s facts.2;
-      freed = λ x gone r. gone.1 (reachable_left facts.0 s facts.2 x r);
-      named = named_left (thing_row (plain_row facts.0.actors)) (people_of facts.0.actors) s.actors facts.2.beside.counts;
+      left = reachable_left options.trace facts.0 s facts.2;
+      freed = λ x gone r. gone.1 (reachable_left options.trace facts.0 s facts.2 x r);
+      named = named_left options.trace (thing_row (plain_row facts.0.actors)) (people_of facts.0.actors) s.actors facts.2.beside.counts;
     }
 
 pub never_too_early : NeverTooEarly
-never_too_early program options heavy deep book later t run = let u = prefix_leads book later (first_state program options) t run in (u.0, u.1, never_early program options heavy deep book u.0 u.1)
+never_too_early program options heavy book later t run = let u = prefix_leads book later (first_state program options) t run in (u.0, u.1, never_early program options heavy book u.0 u.1)

@@ -1,7 +1,7 @@
 -- All that holds in each state of a run, beside the machine that frees nothing.
-use Rattle.std.specs.Prelude.{length}
+use Rattle.std.specs.Prelude.{◌≡◌, length}
 use Rattle.orca_names.specs.declared.names.Thing.TheVariants.{Actor}
-use Rattle.machine_rules.specs.Options.{Deep}
+use Rattle.machine_rules.specs.Options.{Trace, Deep}
 use Rattle.machine_rules.specs.Actors.{cell_at, mail_at}
 use Rattle.machine_rules.specs.Balance.{load_sum}
 use Rattle.machine_rules.specs.Clean.{CleanAreSwept, NoneHoldsItsOwn}
@@ -10,12 +10,12 @@ use Rattle.machine_rules.specs.Plain.{PlainState}
 use Rattle.machine_rules.specs.State.{State}
 use Rattle.detector_laws.specs.Facts.{DetectorFacts}
 
-pub record AllFacts (p : PlainState) (s : State) : Type 0 where
+pub record AllFacts (trace : Trace) (p : PlainState) (s : State) : Type 0 where
   -- agreement, balance, prefixes, held closure, and what carries them
-  pub beside : Facts Deep p s
+  pub beside : Facts trace p s
   -- no actor holds a count on a thing of its own
   pub own : NoneHoldsItsOwn s.actors
-  -- clean cells are swept
-  pub clean : CleanAreSwept s.actors
+  -- with deep tracing, clean cells are swept
+  pub clean : trace ≡ Deep → CleanAreSwept s.actors
   -- reports, tokens and news
   pub detector : DetectorFacts (length s.actors) s.detector (cell_at s.actors) (mail_at s.actors) (λ x. load_sum (Actor x) s.actors) s.notes

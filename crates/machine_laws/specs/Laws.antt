@@ -11,7 +11,7 @@ use Rattle.machine_rules.specs.Balance.{IsBalanced, NeverOverdraws}
 use Rattle.machine_rules.specs.Cell.{Cell}
 use Rattle.machine_rules.specs.Left.{IsFreed, IsLeft, NamesNothingFreed}
 use Rattle.machine_rules.specs.Next.{IsEnabled, IsQuiet, next}
-use Rattle.machine_rules.specs.Options.{Deep, Options}
+use Rattle.machine_rules.specs.Options.{Deep, Options, Trace}
 use Rattle.machine_rules.specs.Plain.{PlainState, start_of}
 use Rattle.machine_rules.specs.PlainReach.{IsReachable}
 use Rattle.machine_rules.specs.PlainRun.{IsPlainQuiet}
@@ -24,17 +24,17 @@ use Rattle.machine_laws.specs.Work.{work_left}
 -- ---- the facts hold
 
 abbrev pub StartHasAllFacts : Type 0
-StartHasAllFacts = (program : Program) (options : Options) → 0 < options.weight → options.trace ≡ Deep → AllFacts (start_of program) (first_state program options)
+StartHasAllFacts = (program : Program) (options : Options) → 0 < options.weight → AllFacts options.trace (start_of program) (first_state program options)
 
 -- each event keeps all facts together
 abbrev pub EventsKeepAllFacts : Type 0
-EventsKeepAllFacts = (p : PlainState) (s t : State) (e : Event) → AllFacts p s → next s e ≡ Goes t →
-    (q : PlainState) × PlainFollows (is_choice s e) p e q × AllFacts q t
+EventsKeepAllFacts = (trace : Trace) (p : PlainState) (s t : State) (e : Event) → AllFacts trace p s → next s e ≡ Goes t →
+    (q : PlainState) × PlainFollows (is_choice s e) p e q × AllFacts trace q t
 
 -- so they hold after each run
 abbrev pub RunsHaveAllFacts : Type 0
-RunsHaveAllFacts = (program : Program) (options : Options) → 0 < options.weight → options.trace ≡ Deep → (book : List Event) (t : State) → IsRun program options book t →
-    (p : PlainState) × IsPlainBeside program options book p × AllFacts p t
+RunsHaveAllFacts = (program : Program) (options : Options) → 0 < options.weight → (book : List Event) (t : State) → IsRun program options book t →
+    (p : PlainState) × IsPlainBeside program options book p × AllFacts options.trace p t
 
 -- ---- never too early
 
@@ -45,7 +45,7 @@ pub record IsNeverTooEarly (program : Program) (options : Options) (book : List 
   pub follows : IsPlainBeside program options book plain
   pub prints : plain.prints ≡ s.prints
   pub balanced : IsBalanced s.actors
-  pub covered : NeverOverdraws Deep s.actors
+  pub covered : NeverOverdraws options.trace s.actors
   -- what is reachable is left, and nothing freed is reachable
   pub left : (x : Thing) → IsReachable plain x → IsLeft s.actors x
   pub freed : (x : Thing) → IsFreed plain.actors s.actors x → IsReachable plain x → ⊥
@@ -54,7 +54,7 @@ pub record IsNeverTooEarly (program : Program) (options : Options) (book : List 
 
 -- each prefix of a run is a run, and it is never too early
 abbrev pub NeverTooEarly : Type 0
-NeverTooEarly = (program : Program) (options : Options) → 0 < options.weight → options.trace ≡ Deep → (book later : List Event) (t : State) → IsRun program options (book ++ later) t →
+NeverTooEarly = (program : Program) (options : Options) → 0 < options.weight → (book later : List Event) (t : State) → IsRun program options (book ++ later) t →
     (s : State) × IsRun program options book s × IsNeverTooEarly program options book s
 
 -- ---- at quiet
@@ -74,13 +74,13 @@ pub record DetectorRests (s : State) : Type 0 where
       (r : Report) × (report_of s.detector.kept a ≡ Some r) × IsReportOf a c r
 
 abbrev pub DetectorRestsAtQuiet : Type 0
-DetectorRestsAtQuiet = (program : Program) (options : Options) → 0 < options.weight → options.trace ≡ Deep → (book : List Event) (t : State) → IsRun program options book t → IsQuiet t → DetectorRests t
+DetectorRestsAtQuiet = (program : Program) (options : Options) → 0 < options.weight → (book : List Event) (t : State) → IsRun program options book t → IsQuiet t → DetectorRests t
 
 -- ---- the machine comes to rest
 
 -- each event that is no choice leaves less to do
 abbrev pub EventsLeaveLess : Type 0
-EventsLeaveLess = (p : PlainState) (s t : State) (e : Event) → AllFacts p s → next s e ≡ Goes t → is_choice s e ≡ false → work_left t < work_left s
+EventsLeaveLess = (p : PlainState) (s t : State) (e : Event) → AllFacts Deep p s → next s e ≡ Goes t → is_choice s e ≡ false → work_left t < work_left s
 
 -- so, after each prefix of a run, no more events follow without a choice than there is work left
 abbrev pub RestsBetweenChoices : Type 0

@@ -8,7 +8,7 @@ use Rattle.orca_names.specs.declared.names.Thing.{Thing}
 use Rattle.orca_names.specs.declared.names.Thing.TheVariants.{Actor, Obj}
 use Rattle.orca_names.specs.declared.names.Value.{Value}
 use Rattle.behaviour_code.specs.declared.code.Program.{Program}
-use Rattle.reach_walk.specs.Reach.{root, thing_row}
+use Rattle.reach_walk.specs.Reach.{root, owned, thing_row}
 use Rattle.turn_rules.specs.Laws.{act_values}
 use Rattle.turn_rules.specs.Segment.{Stop, segment_of}
 use Rattle.turn_rules.specs.declared.act.Act.TheVariants.{Post}
@@ -24,6 +24,7 @@ use Rattle.machine_rules.proofs.CollectKeeps.{collect_keeps_counts}
 use Rattle.machine_rules.proofs.Freed as freed
 use Rattle.machine_rules.proofs.Going.{Grows, after, exact, known_load, known_target, same_turn as same_turn_deep, turn}
 use Rattle.machine_rules.proofs.InHand.{AllCounted, in_hand, take_letter}
+use Rattle.machine_rules.proofs.Living.{Lives}
 use Rattle.machine_rules.proofs.Loads.{load_from-exact, load_from-once, marked_reached, reached_marked}
 use Rattle.machine_rules.proofs.MakeKeeps.{make_keeps_counts}
 use Rattle.machine_rules.proofs.Makes.{IsFresh}
@@ -45,14 +46,14 @@ use Rattle.machine_rules.proofs.TurnKeeps.{turn_keeps_counts}
 use Rattle.machine_rules.proofs.Turns.{names_args, names_target}
 use Rattle.machine_rules.specs.Actors.{Actors, seat, seat_at}
 use Rattle.machine_rules.specs.Agreement.{Person, person_at, person_of}
-use Rattle.machine_rules.specs.Balance.{held_sum, load_sum}
+use Rattle.machine_rules.specs.Balance.{held_sum, incs_at, load_sum, own_at, owner_seat}
 use Rattle.machine_rules.specs.Cell.{Cell}
 use Rattle.machine_rules.specs.Collect.{collected, is_marked, without_unused}
 use Rattle.machine_rules.specs.Detect.{reap_members}
 use Rattle.machine_rules.specs.Facts.{KeepsCounts}
 use Rattle.machine_rules.specs.Go.{load_from, make, mint, needed, post, rows_from, to_need, turn_of_cell, turned}
-use Rattle.machine_rules.specs.Known.{InFrame, IsKnown, Names, Reaches, Roots}
-use Rattle.machine_rules.specs.KnownByRoots.{IsKnownWithOwner, IsRootOf, IsRootsAt, WalkRoots, held, mine, owns, stands}
+use Rattle.machine_rules.specs.Known.{InFrame, IsKnown, Names, Reaches, Roots, in_fields, in_frame, in_table}
+use Rattle.machine_rules.specs.KnownByRoots.{IsKnownWithOwner, IsRootOf, IsRootsAt, WalkRoots, by_field, by_frame, held, mine, owns, stands}
 use Rattle.machine_rules.specs.Left.{IsLeft}
 use Rattle.machine_rules.specs.Options.{Trace, Deep}
 use Rattle.machine_rules.specs.Options as options
@@ -64,10 +65,39 @@ pub counted_left : (trace : Trace) (all : Thing → Option Row) (ps : List Perso
 counted_left Deep all ps s inv x h = freed.counted_left s x (in_hand s inv.balanced) inv.prefixes h
 counted_left options.Roots all ps s inv x h = rooted.counted_left all s (in_hand s inv.balanced) inv.sound x h
 
+pub counted_at : (trace : Trace) (all : Thing → Option Row) (ps : List Person) (s : Actors) → KeepsCounts trace all ps s → (x : Thing) → 0 < own_at x (owner_seat s x) + incs_at x (owner_seat s x) → IsLeft s x
+counted_at Deep all ps s inv x h = freed.counted_at s x (owner_seat s x) refl (inv.prefixes x) h
+counted_at options.Roots all ps s inv x h = rooted.counted_at all s (in_hand s inv.balanced) inv.sound x (owner_seat s x) refl h
+
+pub loaded_left : (trace : Trace) (all : Thing → Option Row) (ps : List Person) (s : Actors) → KeepsCounts trace all ps s
+    → (a : ℕ) (c : Cell) (ls : List Letter) (x : Thing) → seat_at s a ≡ seat c ls → 0 < sum_by (load_count x) ls → IsLeft s x
+loaded_left Deep all ps s inv a c ls x at h = freed.loaded_left s (in_hand s inv.balanced) inv.prefixes a c ls x at h
+loaded_left options.Roots all ps s inv a c ls x at h = rooted.loaded_left all s (in_hand s inv.balanced) inv.sound a c ls x at h
+
+-- what fields, registers and tables name is left
+pub root_left : (trace : Trace) (all : Thing → Option Row) (ps : List Person) (s : Actors) → KeepsCounts trace all ps s
+    → (a : ℕ) (c : Cell) (ls : List Letter) (x : Thing) → seat_at s a ≡ seat c ls → Roots c x → IsLeft s x
+root_left Deep all ps s inv a c ls x at r = freed.known_left s (in_hand s inv.balanced) inv.prefixes a c ls x at ((inv.sound a c ls at).closed x (root r))
+root_left options.Roots all ps s inv a c ls x at (in_fields n) = rooted.known_left all s (in_hand s inv.balanced) inv.sound a c ls x at ((inv.sound a c ls at).named x (by_field n)).0
+root_left options.Roots all ps s inv a c ls x at (in_frame n) = rooted.known_left all s (in_hand s inv.balanced) inv.sound a c ls x at ((inv.sound a c ls at).named x (by_frame n)).0
+root_left options.Roots all ps s inv a c ls x at (in_table h) = rooted.held_left all s (in_hand s inv.balanced) inv.sound a c ls x at h
+
+-- what lives in the plain machine is left
+pub lives_left : (trace : Trace) (all : Thing → Option Row) (ps : List Person) (s : Actors) → KeepsCounts trace all ps s → (x : Thing) → Lives all ps x → IsLeft s x
+lives_left Deep all ps s inv x l = freed.lives_left all ps s (in_hand s inv.balanced) inv.prefixes inv.sound inv.agrees x l
+lives_left options.Roots all ps s inv x l = rooted.lives_left all s (in_hand s inv.balanced) inv.sound inv.bare ps inv.agrees l
+
 pub known_left : (trace : Trace) (all : Thing → Option Row) (ps : List Person) (s : Actors) → KeepsCounts trace all ps s
     → (a : ℕ) (c : Cell) (ls : List Letter) (x : Thing) → seat_at s a ≡ seat c ls → IsKnown a c.holdings x → IsLeft s x
 known_left Deep all ps s inv a c ls x at k = freed.known_left s (in_hand s inv.balanced) inv.prefixes a c ls x at k
 known_left options.Roots all ps s inv a c ls x at k = rooted.known_left all s (in_hand s inv.balanced) inv.sound a c ls x at k
+
+-- who holds a thing knows its owner
+pub held_owner : (trace : Trace) (all : Thing → Option Row) (ps : List Person) (s : Actors) → KeepsCounts trace all ps s
+    → (a : ℕ) (c : Cell) (ls : List Letter) → seat_at s a ≡ seat c ls → (x : Thing) → 0 < held_in c.holdings x → IsKnown a c.holdings (Actor (owner_of x))
+held_owner Deep all ps s inv a c ls at (Actor b) h = (inv.sound a c ls at).closed (Actor b) (root (in_table h))
+held_owner Deep all ps s inv a c ls at (Obj n) h = (inv.sound a c ls at).closed (Actor n.owner) (owned (root (in_table h)))
+held_owner options.Roots all ps s inv a c ls at x h = (inv.sound a c ls at).owners x h
 
 -- ---- take, collect, reap
 

@@ -7,10 +7,10 @@ use Rattle.reach_walk.specs.Reach.{root}
 use Rattle.letter_kinds.specs.Holdings.{Row}
 use Rattle.letter_kinds.specs.Sums.{dec_of, inc_of}
 use Rattle.letter_kinds.specs.declared.letter.Letter.{Letter}
-use Rattle.machine_rules.proofs.Freed.{counted_at, known_left, loaded_left}
+use Rattle.machine_rules.proofs.EitherMode.{counted_at, loaded_left, root_left}
 use Rattle.machine_rules.proofs.InHand.{in_hand}
 use Rattle.machine_rules.proofs.SeatReads.{decs_at-seat, incs_at-seat}
-use Rattle.machine_rules.specs.Options.{Deep}
+use Rattle.machine_rules.specs.Options.{Trace}
 use Rattle.machine_rules.specs.Actors.{Actors, seat, seat_at}
 use Rattle.machine_rules.specs.Agreement.{Person}
 use Rattle.machine_rules.specs.Balance.{decs_at, incs_at, own_at, owner_seat}
@@ -18,10 +18,10 @@ use Rattle.machine_rules.specs.Cell.{Cell}
 use Rattle.machine_rules.specs.Facts.{KeepsCounts}
 use Rattle.machine_rules.specs.Left.{IsLeft, NamesNothingFreed, by_dec, by_inc, by_load, by_root}
 
-module _ (all : Thing → Option Row) (people : List Person) (s : Actors) (counts : KeepsCounts Deep all people s) where
+module _ (trace : Trace) (all : Thing → Option Row) (people : List Person) (s : Actors) (counts : KeepsCounts trace all people s) where
   -- what its owner counts, or is told to count, is left
   counted : (x : Thing) → 0 < own_at x (owner_seat s x) + incs_at x (owner_seat s x) → IsLeft s x
-  counted x h = counted_at s x (owner_seat s x) refl (counts.prefixes x) h
+  counted x h = counted_at trace all people s counts x h
 
   module _ (a : ℕ) (c : Cell) (mail : List Letter) (at : seat_at s a ≡ seat c mail) (x : Thing) (own : owner_of x ≡ a) where
     here : owner_seat s x ≡ seat c mail
@@ -38,7 +38,7 @@ module _ (all : Thing → Option Row) (people : List Person) (s : Actors) (count
         counted x (let b = counts.balanced x in omega arith)
 
   pub named_left : NamesNothingFreed s
-  named_left a c mail at x (by_root r) = known_left s (in_hand s counts.balanced) counts.prefixes a c mail x at ((counts.sound a c mail at).closed x (root r))
-  named_left a c mail at x (by_load h) = loaded_left s (in_hand s counts.balanced) counts.prefixes a c mail x at h
+  named_left a c mail at x (by_root r) = root_left trace all people s counts a c mail x at r
+  named_left a c mail at x (by_load h) = loaded_left trace all people s counts a c mail x at h
   named_left a c mail at x (by_inc own h) = raised_left a c mail at x own h
   named_left a c mail at x (by_dec own h) = lowered_left a c mail at x own h

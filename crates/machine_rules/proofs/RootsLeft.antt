@@ -61,7 +61,7 @@ module _ (all : Thing → Option Row) (a : ℕ) (c : Cell) (mail : List Letter) 
 -- ---- among all
 
 module _ (all : Thing → Option Row) (s : Actors) (bal : Balanced s) (sound : Every (IsRootsAt all) s) where
-  counted_at : (x : Thing) (o : Option Seat) → owner_seat s x ≡ o → 0 < own_at x o + incs_at x o → IsLeft s x
+  pub counted_at : (x : Thing) (o : Option Seat) → owner_seat s x ≡ o → 0 < own_at x o + incs_at x o → IsLeft s x
   counted_at x None e h = absurd (omega (arith, own_at-none x, incs_at-none x))
   counted_at x (Some o) e h = record {
     seat = o;

@@ -30,6 +30,10 @@ pub same_holdings : (trace : Trace) (a : ℕ) (c : Cell) → (without_unused tra
 same_holdings Deep a c = refl
 same_holdings options.Roots a c = refl
 
+pub same_reported : (trace : Trace) (a : ℕ) (c : Cell) → (without_unused trace a c).reported ≡ c.reported
+same_reported Deep a c = refl
+same_reported options.Roots a c = refl
+
 -- ---- counts
 
 -- an own row that goes had count 0
