@@ -44,6 +44,7 @@ pub mod ReapKeeps
 pub mod Reaps
 pub mod Receiving
 pub mod Rest
+pub mod RootsClean
 pub mod RootsCollect
 pub mod RootsLeft
 pub mod RootsNeed

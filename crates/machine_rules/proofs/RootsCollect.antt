@@ -59,10 +59,10 @@ module _ (rows : ObjName → Option Row) (all : List ObjName) (roots : List Valu
 
 -- ---- where the walk starts
 
-abbrev own_value : ℕ → ℕ × (Row × ℕ) → Value
+abbrev pub own_value : ℕ → ℕ × (Row × ℕ) → Value
 own_value me e = values.Obj (record { owner = me; serial = e.0 })
 
-abbrev is_counted : ℕ × (Row × ℕ) → Bool
+abbrev pub is_counted : ℕ × (Row × ℕ) → Bool
 is_counted e = not (e.1.1 == 0)
 
 counted_found : (me k : ℕ) (es : List (ℕ × (Row × ℕ))) (r : Row × ℕ) → m.find nat_cmp k es ≡ Some r → 0 < r.1 → Names (map (own_value me) (filter is_counted es)) (Obj (record { owner = me; serial = k }))
@@ -81,7 +81,7 @@ counted_found me k (e ∷ es) r h some = elim (eq_by_cmp nat_cmp k e.0) as
     later true c = Contains-later _ _ _ c
     later false c = c
 
-abbrev counted_values : ℕ → Cell → List Value
+abbrev pub counted_values : ℕ → Cell → List Value
 counted_values me c = map (own_value me) (filter is_counted (m.entries c.holdings.rows))
 
 pub starts_counted : (me : ℕ) (c : Cell) (n : ObjName) → n.owner ≡ me → 0 < own_in c.holdings (Obj n) → Names (start_of_marks me c) (Obj n)
