@@ -12,6 +12,7 @@ use Rattle.letter_kinds.specs.declared.letter.Letter.{Letter}
 use Rattle.letter_kinds.specs.declared.note.Report.{Report}
 use Rattle.machine_rules.proofs.Needs.{AllNeeded, IsNeeded, is_held, is_pinned, left_is_exact}
 use Rattle.machine_rules.proofs.Rest.{quiet_rest}
+use Rattle.machine_rules.proofs.RootsQuiet.{exact_by_roots}
 use Rattle.machine_rules.specs.Actors.{Seat, cell_at, cell_of, seat, seat_at}
 use Rattle.machine_rules.specs.Agreement.{people_of}
 use Rattle.machine_rules.specs.Cell.{Cell}
@@ -20,6 +21,7 @@ use Rattle.machine_rules.specs.Next.{IsQuiet}
 use Rattle.machine_rules.specs.PlainReach.{IsReachable}
 use Rattle.machine_rules.specs.Plain.{PlainState, plain_row}
 use Rattle.machine_rules.specs.Options.{Deep, Trace}
+use Rattle.machine_rules.specs.Options as trace
 use Rattle.machine_rules.specs.State.{State}
 use Rattle.detector_laws.proofs.Cells.{same_some, some_not_none}
 use Rattle.detector_laws.proofs.Quiet.{no_token}
@@ -31,7 +33,7 @@ use Rattle.machine_laws.proofs.Quieting.{quiet_reached, quiet_world}
 use Rattle.machine_laws.proofs.Seen.{world}
 use Rattle.machine_laws.proofs.WholeRuns.{run_has_deep, run_has_facts}
 use Rattle.machine_laws.specs.AllFacts.{AllFacts}
-use Rattle.machine_laws.specs.Laws.{DetectorRests, DetectorRestsAtQuiet, ExactlyAtQuiet}
+use Rattle.machine_laws.specs.Laws.{DetectorRests, DetectorRestsAtQuiet, ExactlyAtQuiet, ExactlyAtQuietByRoots}
 
 -- ---- who is reached in the detector's view is needed
 
@@ -61,6 +63,13 @@ quiet_exact p s facts quiet = left_is_exact p s facts.beside (facts.clean refl) 
 
 pub exactly_at_quiet : ExactlyAtQuiet
 exactly_at_quiet program options heavy deep book t run quiet = let facts = run_has_deep program options heavy deep book t run in (facts.0, facts.1, quiet_exact facts.0 t facts.2 quiet)
+
+-- with root-only tracing
+pub quiet_by_roots : ExactlyAtQuietByRoots
+quiet_by_roots program options heavy roots book t run quiet =
+    let facts = run_has_facts program options heavy book t run in
+    let all : AllFacts trace.Roots facts.0 t = subst (λ q. AllFacts q facts.0 t) roots facts.2 in
+    (facts.0, facts.1, exact_by_roots facts.0 t.actors all.beside.counts (all.marked refl) (quiet_rest t quiet) (all_needed t trace.Roots facts.0 all quiet))
 
 -- ---- the detector
 

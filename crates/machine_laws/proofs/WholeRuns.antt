@@ -12,6 +12,7 @@ use Rattle.machine_rules.proofs.EitherMode.{lives_left}
 use Rattle.machine_rules.proofs.Named.{named_left}
 use Rattle.machine_rules.proofs.NoSelf.{no_self-first, no_self-next}
 use Rattle.machine_rules.proofs.Reachable.{reachable_lives}
+use Rattle.machine_rules.proofs.RootsClean.{roots_clean-first, roots_clean-next}
 use Rattle.machine_rules.proofs.Starting as starting
 use Rattle.machine_rules.specs.Agreement.{people_of}
 use Rattle.machine_rules.specs.Left.{IsLeft}
@@ -31,6 +32,7 @@ start_all program options heavy = record {
   beside = starting.start_facts program options heavy;
   own = no_self-first program options;
   clean = λ deep. clean-first program options;
+  marked = λ roots. roots_clean-first program options;
   detector = start_detects program options;
 }
 
@@ -56,6 +58,7 @@ event_keeps trace p s t e facts goes =
         beside = beside.2;
         own = no_self-next s t e goes facts.own;
         clean = λ deep. clean-next s t e (facts.beside.mode ∙ deep) goes (facts.clean deep);
+        marked = λ roots. roots_clean-next s t e (facts.beside.mode ∙ roots) goes (facts.marked roots);
         detector = next_keeps trace p s t facts.beside facts.detector facts.own e goes;
       },
     )

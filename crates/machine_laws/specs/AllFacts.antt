@@ -1,11 +1,11 @@
 -- All that holds in each state of a run, beside the machine that frees nothing.
 use Rattle.std.specs.Prelude.{◌≡◌, length}
 use Rattle.orca_names.specs.declared.names.Thing.TheVariants.{Actor}
-use Rattle.machine_rules.specs.Options.{Trace, Deep}
+use Rattle.machine_rules.specs.Options.{Trace, Deep, Roots}
 use Rattle.machine_rules.specs.Actors.{cell_at, mail_at}
 use Rattle.machine_rules.specs.Balance.{load_sum}
-use Rattle.machine_rules.specs.Clean.{CleanAreSwept, NoneHoldsItsOwn}
-use Rattle.machine_rules.specs.Facts.{Facts}
+use Rattle.machine_rules.specs.Clean.{CleanAreSwept, IsCleanByRootsAt, NoneHoldsItsOwn}
+use Rattle.machine_rules.specs.Facts.{Every, Facts}
 use Rattle.machine_rules.specs.Plain.{PlainState}
 use Rattle.machine_rules.specs.State.{State}
 use Rattle.detector_laws.specs.Facts.{DetectorFacts}
@@ -17,5 +17,7 @@ pub record AllFacts (trace : Trace) (p : PlainState) (s : State) : Type 0 where
   pub own : NoneHoldsItsOwn s.actors
   -- with deep tracing, clean cells are swept
   pub clean : trace ≡ Deep → CleanAreSwept s.actors
+  -- with root-only tracing, they have just what is marked
+  pub marked : trace ≡ Roots → Every IsCleanByRootsAt s.actors
   -- reports, tokens and news
   pub detector : DetectorFacts (length s.actors) s.detector (cell_at s.actors) (mail_at s.actors) (λ x. load_sum (Actor x) s.actors) s.notes

@@ -10,8 +10,9 @@ use Rattle.machine_rules.specs.Actors.{seat, seat_at}
 use Rattle.machine_rules.specs.Balance.{IsBalanced, NeverOverdraws}
 use Rattle.machine_rules.specs.Cell.{Cell}
 use Rattle.machine_rules.specs.Left.{IsFreed, IsLeft, NamesNothingFreed}
+use Rattle.machine_rules.specs.LeftByRoots.{IsReachedOrHeld}
 use Rattle.machine_rules.specs.Next.{IsEnabled, IsQuiet, next}
-use Rattle.machine_rules.specs.Options.{Deep, Options, Trace}
+use Rattle.machine_rules.specs.Options.{Deep, Options, Roots, Trace}
 use Rattle.machine_rules.specs.Plain.{PlainState, start_of}
 use Rattle.machine_rules.specs.PlainReach.{IsReachable}
 use Rattle.machine_rules.specs.PlainRun.{IsPlainQuiet}
@@ -63,6 +64,12 @@ NeverTooEarly = (program : Program) (options : Options) → 0 < options.weight �
 abbrev pub ExactlyAtQuiet : Type 0
 ExactlyAtQuiet = (program : Program) (options : Options) → 0 < options.weight → options.trace ≡ Deep → (book : List Event) (t : State) → IsRun program options book t → IsQuiet t →
     (p : PlainState) × IsPlainBeside program options book p × ((x : Thing) → IsLeft t.actors x ↔ IsReachable p x)
+
+-- with root-only tracing, what is reached from the roots is left, where an actor leads to its own objects
+-- that some actor that is left holds as well
+abbrev pub ExactlyAtQuietByRoots : Type 0
+ExactlyAtQuietByRoots = (program : Program) (options : Options) → 0 < options.weight → options.trace ≡ Roots → (book : List Event) (t : State) → IsRun program options book t → IsQuiet t →
+    (p : PlainState) × IsPlainBeside program options book p × ((x : Thing) → IsLeft t.actors x ↔ IsReachedOrHeld p t.actors x)
 
 -- nothing is on its way to the detector, no token is open, and of each actor that is present and not
 -- pinned an exact report is kept

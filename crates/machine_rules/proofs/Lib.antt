@@ -49,6 +49,7 @@ pub mod RootsCollect
 pub mod RootsLeft
 pub mod RootsNeed
 pub mod RootsPost
+pub mod RootsQuiet
 pub mod RootsRows
 pub mod RootsSame
 pub mod RootsTake

@@ -32,7 +32,7 @@ use Rattle.letter_kinds.proofs.Amounts.{zero_or}
 
 -- ---- a sum that is not 0 has an item that is not 0
 
-sum-some : {A : Type 0} (f : A → ℕ) (xs : List A) (d : A) → 0 < sum_by f xs → (i : ℕ) × (0 < f (get_or xs i d))
+pub sum-some : {A : Type 0} (f : A → ℕ) (xs : List A) (d : A) → 0 < sum_by f xs → (i : ℕ) × (0 < f (get_or xs i d))
 sum-some f [] d h = absurd (omega (arith, sum-nil f))
 sum-some f (x ∷ xs) d h = ⊎_elim
     (λ z. let later = sum-some f xs d (omega (arith, sum_by-cons f x xs)) in (suc later.0, later.1))
@@ -53,7 +53,7 @@ module _ (all : Thing → Option Row) (a : ℕ) (c : Cell) (mail : List Letter) 
 
 -- ---- at rest what is counted is held by an entry, and the entry is reached
 
-module _ (s : Actors) (bal : IsBalanced s) (clean : CleanAreSwept s) (rest : AtRest s) where
+module _ (s : Actors) (bal : IsBalanced s) (rest : AtRest s) where
   no_loads : (x : Thing) (i : ℕ) → loads_at x (seat_at s i) ≡ 0
   no_loads x i = by_seat (seat_at s i) refl
     where
@@ -61,7 +61,7 @@ module _ (s : Actors) (bal : IsBalanced s) (clean : CleanAreSwept s) (rest : AtR
       by_seat None e = loads_at-none x
       by_seat (Some o) e = loads_at-seat x o.cell o.mail ∙ rw ((rest i o.cell o.mail e).empty) (sum-nil (load_count x))
 
-  all_held : (x : Thing) (c : Cell) (mail : List Letter) → seat_at s (owner_of x) ≡ seat c mail → own_in c.holdings x ≡ held_sum x s
+  pub all_held : (x : Thing) (c : Cell) (mail : List Letter) → seat_at s (owner_of x) ≡ seat c mail → own_in c.holdings x ≡ held_sum x s
   all_held x c mail at =
       let z = bal x in
       let z' = rw at at z in
@@ -71,13 +71,15 @@ module _ (s : Actors) (bal : IsBalanced s) (clean : CleanAreSwept s) (rest : AtR
       let d : decs_at x (seat c mail) ≡ 0 = decs_at-seat x c mail ∙ rw ((rest (owner_of x) c mail at).empty) (sum-nil (dec_of x)) in
       omega arith
 
-  entry_there : (o : Option (ℕ × Option Row)) → 0 < entry_count o → (e : ℕ × Option Row) × (o ≡ Some e)
-  entry_there None h = absurd (omega arith)
-  entry_there (Some e) h = (e, refl)
+entry_there : (o : Option (ℕ × Option Row)) → 0 < entry_count o → (e : ℕ × Option Row) × (o ≡ Some e)
+entry_there None h = absurd (omega arith)
+entry_there (Some e) h = (e, refl)
 
-  entry_of : (c : Cell) (x : Thing) → 0 < held_in c.holdings x → (e : ℕ × Option Row) × (m.get c.holdings.foreign x ≡ Some e)
-  unfolding held_in
-  entry_of c x h = entry_there (m.get c.holdings.foreign x) h
+pub entry_of : (c : Cell) (x : Thing) → 0 < held_in c.holdings x → (e : ℕ × Option Row) × (m.get c.holdings.foreign x ≡ Some e)
+unfolding held_in
+entry_of c x h = entry_there (m.get c.holdings.foreign x) h
+
+module _ (s : Actors) (bal : IsBalanced s) (clean : CleanAreSwept s) (rest : AtRest s) where
 
   pub held_reached : (a : ℕ) (c : Cell) (mail : List Letter) (x : Thing) → seat_at s a ≡ seat c mail → 0 < held_in c.holdings x → IsInReach a c x
   held_reached a c mail x at h = let entry = entry_of c x h in let q = rest a c mail at in (clean a c mail at q.idle q.clean).foreign x entry.0 entry.1
@@ -102,7 +104,7 @@ module _ (s : Actors) (bal : IsBalanced s) (clean : CleanAreSwept s) (rest : AtR
       ⊎_elim
       (λ mine. record { by = n.owner; cell = c; mail = mail; at = left.present; reached = mine })
       (λ counted.
-      let total = all_held (Obj n) c mail left.present in
+      let total = all_held s bal rest (Obj n) c mail left.present in
       let z = sum-some (held_at (Obj n)) s None (omega arith) in holder_at (Obj n) z.0 (seat_at s z.0) refl z.1)
       ((clean n.owner c mail left.present q.idle q.clean).own n.serial left.kept)
 

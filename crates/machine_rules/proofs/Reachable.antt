@@ -29,7 +29,7 @@ names_right xs ys x n = subst (λ ts. Contains ts x) (sym (filter_map-append thi
 names_cases : (xs ys : List Value) (x : Thing) → Names (xs ++ ys) x → Names xs x ⊎ Names ys x
 names_cases xs ys x n = Contains-append_cases (named_by xs) (named_by ys) x (subst (λ ts. Contains ts x) (filter_map-append thing_of xs ys) n)
 
-no_names : (x : Thing) (P : Type 0) → Names [] x → P
+pub no_names : (x : Thing) (P : Type 0) → Names [] x → P
 no_names x P n = none_in_nil x P n
 
 -- ---- who an actor of the plain machine is
@@ -72,7 +72,7 @@ nobody_stands (inr (inr f)) = f refl
 abbrev RootOf : ℕ → List PlainActor → Thing → Type 0
 RootOf k actors x = (i : ℕ) × (x ≡ Actor (k + i)) × IsRootPerson (person_at (people_of actors) i)
 
-listed_root : (k : ℕ) (actors : List PlainActor) (x : Thing) → Contains (roots_from k actors) x → RootOf k actors x
+pub listed_root : (k : ℕ) (actors : List PlainActor) (x : Thing) → Contains (roots_from k actors) x → RootOf k actors x
 listed_root k [] x c = none_in_nil x _ c
 listed_root k (y ∷ actors) x c = by_root (λ d. let z = listed_root (k + 1) actors x d in (suc z.0, z.1 ∙ ap Actor (omega arith), z.2)) (is_root y) refl c
   where
@@ -83,7 +83,7 @@ listed_root k (y ∷ actors) x c = by_root (λ d. let z = listed_root (k + 1) ac
         (Contains-cons_cases (Actor k) (roots_from (k + 1) actors) x c)
     by_root deeper false e c = deeper c
 
-root_listed : (k : ℕ) (actors : List PlainActor) (i : ℕ) → IsRootPerson (person_at (people_of actors) i) → Contains (roots_from k actors) (Actor (k + i))
+pub root_listed : (k : ℕ) (actors : List PlainActor) (i : ℕ) → IsRootPerson (person_at (people_of actors) i) → Contains (roots_from k actors) (Actor (k + i))
 root_listed k [] i r = absurd (nobody_stands r)
 root_listed k (y ∷ actors) zero r = by_root (is_root y) (person_root y r)
   where
@@ -138,14 +138,14 @@ nobody_holds x P (inl n) = no_names x P n
 nobody_holds x P (inr (inl h)) = absurd h
 nobody_holds x P (inr (inr h)) = elim h [ ]
 
-edge_held : (actors : List PlainActor) (a : ℕ) (x : Thing) → Names (plain_edges actors (Actor a)) x → Holds (person_at (people_of actors) a) x
+pub edge_held : (actors : List PlainActor) (a : ℕ) (x : Thing) → Names (plain_edges actors (Actor a)) x → Holds (person_at (people_of actors) a) x
 edge_held actors a x n = subst (λ p. Holds p x) (sym (person_read actors a)) (by_actor (slice_get actors a) n)
   where
     by_actor : (o : Option PlainActor) → Names (option_map_or values_of o []) x → Holds (option_map_or person_of_plain o nobody) x
     by_actor None n = no_names x _ n
     by_actor (Some p) n = named_held p x n
 
-held_edge : (actors : List PlainActor) (a : ℕ) (x : Thing) → Holds (person_at (people_of actors) a) x → Names (plain_edges actors (Actor a)) x
+pub held_edge : (actors : List PlainActor) (a : ℕ) (x : Thing) → Holds (person_at (people_of actors) a) x → Names (plain_edges actors (Actor a)) x
 held_edge actors a x h = by_actor (slice_get actors a) (subst (λ p. Holds p x) (person_read actors a) h)
   where
     by_actor : (o : Option PlainActor) → Holds (option_map_or person_of_plain o nobody) x → Names (option_map_or values_of o []) x
@@ -171,7 +171,7 @@ module _ (p : PlainState) where
   reachable_lives (step {t = t} {x = x} path n) = along t x (reachable_lives path) n
   reachable_lives (owned path) = owner (reachable_lives path)
 
-  edge_row : (o : Option (List Value)) (r : List Value) (x : Thing) → o ≡ Some r → Names r x → Names (option_map_or (λ v. v) o []) x
+  pub edge_row : (o : Option (List Value)) (r : List Value) (x : Thing) → o ≡ Some r → Names r x → Names (option_map_or (λ v. v) o []) x
   edge_row None r x e n = cc
   edge_row (Some s) r x e n = let same : s ≡ r = cc in subst (λ vs. Names vs x) (sym same) n
 

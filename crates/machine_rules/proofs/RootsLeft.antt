@@ -126,7 +126,7 @@ module _ (all : Thing → Option Row) (s : Actors) (bal : Balanced s) (sound : E
     args_loaded x (Confirm t ∷ ls) ok h = let r = args_loaded x ls ok h in omega (arith, sum_by-cons (load_count x) (Confirm t) ls)
 
     module _ (ps : List Person) (agrees : Agrees ps s) where
-      person_left : (x : Thing) (a : ℕ) (c : Cell) (ls : List Letter) → seat_at s a ≡ seat c ls → Holds (person_of c ls) x → IsLeft s x
+      pub person_left : (x : Thing) (a : ℕ) (c : Cell) (ls : List Letter) → seat_at s a ≡ seat c ls → Holds (person_of c ls) x → IsLeft s x
       person_left x a c ls at (inl n) = known_left a c ls x at ((sound a c ls at).named x (by_field n)).0
       person_left x a c ls at (inr (inl n)) = known_left a c ls x at ((sound a c ls at).named x (by_frame n)).0
       person_left x a c ls at (inr (inr l)) = loaded_left a c ls x at (args_loaded x ls (sound a c ls at).letters l)

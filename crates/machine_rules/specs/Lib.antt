@@ -16,6 +16,7 @@ pub mod KnownByRoots
 pub mod Laws
 pub mod Leave
 pub mod Left
+pub mod LeftByRoots
 pub mod Lists
 pub mod Next
 pub mod Options
