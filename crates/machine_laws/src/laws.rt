@@ -1,6 +1,6 @@
 // What holds of every program, every run and each of its prefixes.
 
-ghost use Rattle.machine_laws.specs.Laws.{StartHasAllFacts, EventsKeepAllFacts, RunsHaveAllFacts, NeverTooEarly, ExactlyAtQuiet, DetectorRestsAtQuiet, EventsLeaveLess, RestsBetweenChoices, RunsCanRest, GarbageIsGone};
+ghost use Rattle.machine_laws.specs.Laws.{StartHasAllFacts, EventsKeepAllFacts, RunsHaveAllFacts, NeverTooEarly, ExactlyAtQuiet, ExactlyAtQuietByRoots, DetectorRestsAtQuiet, EventsLeaveLess, RestsBetweenChoices, RunsCanRest, GarbageIsGone};
 
 /// Where a run begins, all facts hold: the machine agrees with the one that frees nothing, counts
 /// balance and are never overdrawn, each actor knows what it reaches, clean cells are swept, and
@@ -29,9 +29,11 @@ pub fn never_too_early()
 {}
 
 /// Where no event is enabled any more, what is left is exactly what is reachable in the machine that
-/// frees nothing: objects, actors and cycles of both.
+/// frees nothing: objects, actors and cycles of both. With root-only tracing it is what is reached there
+/// where an actor leads to its own objects that some actor that is left holds as well.
 pub fn exactly_at_quiet()
-    ensures { ExactlyAtQuiet }
+    ensures deep { ExactlyAtQuiet }
+    ensures roots { ExactlyAtQuietByRoots }
 {}
 
 /// There the detector rests: no note waits, no token is open, and of each actor that is present and
