@@ -12,6 +12,8 @@ use Rattle.letter_kinds.specs.declared.letter.Letter.{Letter}
 use Rattle.letter_kinds.specs.declared.note.Report.{Report}
 use Rattle.machine_rules.proofs.Needs.{AllNeeded, IsNeeded, is_held, is_pinned, left_is_exact}
 use Rattle.machine_rules.proofs.Rest.{quiet_rest}
+use Rattle.machine_rules.proofs.InHand.{in_hand}
+use Rattle.machine_rules.proofs.RootsLeft.{prefix_backed}
 use Rattle.machine_rules.proofs.RootsQuiet.{exact_by_roots}
 use Rattle.machine_rules.specs.Actors.{Seat, cell_at, cell_of, seat, seat_at}
 use Rattle.machine_rules.specs.Agreement.{people_of}
@@ -33,7 +35,7 @@ use Rattle.machine_laws.proofs.Quieting.{quiet_reached, quiet_world}
 use Rattle.machine_laws.proofs.Seen.{world}
 use Rattle.machine_laws.proofs.WholeRuns.{run_has_deep, run_has_facts}
 use Rattle.machine_laws.specs.AllFacts.{AllFacts}
-use Rattle.machine_laws.specs.Laws.{DetectorRests, DetectorRestsAtQuiet, ExactlyAtQuiet, ExactlyAtQuietByRoots}
+use Rattle.machine_laws.specs.Laws.{DetectorRests, DetectorRestsAtQuiet, ExactlyAtQuiet, ExactlyAtQuietByRoots, RunsAreTracedByRoots}
 
 -- ---- who is reached in the detector's view is needed
 
@@ -65,6 +67,18 @@ pub exactly_at_quiet : ExactlyAtQuiet
 exactly_at_quiet program options heavy deep book t run quiet = let facts = run_has_deep program options heavy deep book t run in (facts.0, facts.1, quiet_exact facts.0 t facts.2 quiet)
 
 -- with root-only tracing
+pub traced_by_roots : RunsAreTracedByRoots
+traced_by_roots program options heavy roots book t run =
+    let facts = run_has_facts program options heavy book t run in
+    let all : AllFacts trace.Roots facts.0 t = subst (λ q. AllFacts q facts.0 t) roots facts.2 in
+    let counts = all.beside.counts in
+    record {
+      covered = counts.prefixes;
+      marked = all.marked refl;
+      named = λ a c mail at. (counts.sound a c mail at).named;
+      backed = λ a c mail at x k o h. prefix_backed (thing_row (plain_row facts.0.actors)) t.actors (in_hand t.actors counts.balanced) counts.sound counts.bare x a c mail at o k h;
+    }
+
 pub quiet_by_roots : ExactlyAtQuietByRoots
 quiet_by_roots program options heavy roots book t run quiet =
     let facts = run_has_facts program options heavy book t run in

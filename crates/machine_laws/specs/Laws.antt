@@ -18,6 +18,7 @@ use Rattle.machine_rules.specs.PlainReach.{IsReachable}
 use Rattle.machine_rules.specs.PlainRun.{IsPlainQuiet}
 use Rattle.machine_rules.specs.Run.{IsPlainBeside, IsRun, Leads, PlainFollows, choices, is_choice}
 use Rattle.machine_rules.specs.State.{State, Goes, first_state}
+use Rattle.machine_rules.specs.TracedByRoots.{AreTracedByRoots}
 use Rattle.detector_laws.specs.Reports.{IsReportOf}
 use Rattle.machine_laws.specs.AllFacts.{AllFacts}
 use Rattle.machine_laws.specs.Work.{work_left}
@@ -36,6 +37,10 @@ EventsKeepAllFacts = (trace : Trace) (p : PlainState) (s t : State) (e : Event) 
 abbrev pub RunsHaveAllFacts : Type 0
 RunsHaveAllFacts = (program : Program) (options : Options) → 0 < options.weight → (book : List Event) (t : State) → IsRun program options book t →
     (p : PlainState) × IsPlainBeside program options book p × AllFacts options.trace p t
+
+-- with root-only tracing these, in place of what is known with deep tracing
+abbrev pub RunsAreTracedByRoots : Type 0
+RunsAreTracedByRoots = (program : Program) (options : Options) → 0 < options.weight → options.trace ≡ Roots → (book : List Event) (t : State) → IsRun program options book t → AreTracedByRoots t.actors
 
 -- ---- never too early
 

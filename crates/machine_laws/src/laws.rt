@@ -1,6 +1,6 @@
 // What holds of every program, every run and each of its prefixes.
 
-ghost use Rattle.machine_laws.specs.Laws.{StartHasAllFacts, EventsKeepAllFacts, RunsHaveAllFacts, NeverTooEarly, ExactlyAtQuiet, ExactlyAtQuietByRoots, DetectorRestsAtQuiet, EventsLeaveLess, RestsBetweenChoices, RunsCanRest, GarbageIsGone};
+ghost use Rattle.machine_laws.specs.Laws.{StartHasAllFacts, EventsKeepAllFacts, RunsHaveAllFacts, NeverTooEarly, ExactlyAtQuiet, ExactlyAtQuietByRoots, RunsAreTracedByRoots, DetectorRestsAtQuiet, EventsLeaveLess, RestsBetweenChoices, RunsCanRest, GarbageIsGone};
 
 /// Where a run begins, all facts hold: the machine agrees with the one that frees nothing, counts
 /// balance and are never overdrawn, each actor knows what it reaches, clean cells are swept, and
@@ -19,6 +19,13 @@ pub fn every_event_keeps_all_facts()
 /// nothing.
 pub fn every_run_has_all_facts()
     ensures { RunsHaveAllFacts }
+{}
+
+/// With root-only tracing, after each run: no count is overdrawn, idle actors that did nothing have just
+/// what is marked, what fields, registers and rows name is known with its owner, and each thing that a
+/// prefix of letters counts for is counted, or led to by what is counted.
+pub fn every_run_is_traced_by_roots()
+    ensures { RunsAreTracedByRoots }
 {}
 
 /// Nothing is reclaimed too early (Orca, OOPSLA 2017; MAC, OOPSLA 2013): after each prefix of each

@@ -145,8 +145,11 @@ module _ (all : Thing → Option Row) (s : Actors) (bal : Balanced s) (sound : E
 
     -- ---- what is held is backed after each prefix
 
-    pub held_backed : (x : Thing) (b : ℕ) (d : Cell) (ms : List Letter) → seat_at s b ≡ seat d ms → owner_of x ≡ b → 0 < held_sum x s → (k : ℕ) → IsBacked b d ms k x
-    held_backed x b d ms at o h k = ⊎_elim
+    -- somebody holds it, or a letter that is none of the prefix loads it; or an Inc for it waits behind
+    pub prefix_backed : (x : Thing) (b : ℕ) (d : Cell) (ms : List Letter) → seat_at s b ≡ seat d ms → owner_of x ≡ b → (k : ℕ)
+        → (sum_by (load_count x) (take k ms) < held_sum x s + load_sum x s) ⊎ (0 < sum_by (inc_of x) (drop k ms)) → IsBacked b d ms k x
+    prefix_backed x b d ms at o k (inr waits) = (sound b d ms at).backed x k o waits
+    prefix_backed x b d ms at o k (inl h) = ⊎_elim
         (λ none.
         let z = rw (ap (seat_at s) o ∙ at) at (bal x) in
         let w = rw at at (sum-at (loads_at x) s b None (present_below s b _ at)) in
@@ -167,3 +170,7 @@ module _ (all : Thing → Option Row) (s : Actors) (bal : Balanced s) (sound : E
         })
         (λ some. (sound b d ms at).backed x k o (omega arith))
         (cases_eq (sum_by (inc_of x) (drop k ms)) 0)
+
+    -- what somebody holds is backed
+    pub held_backed : (x : Thing) (b : ℕ) (d : Cell) (ms : List Letter) → seat_at s b ≡ seat d ms → owner_of x ≡ b → 0 < held_sum x s → (k : ℕ) → IsBacked b d ms k x
+    held_backed x b d ms at o h k = prefix_backed x b d ms at o k (inl (let w = rw at at (sum-at (loads_at x) s b None (present_below s b _ at)) in omega (arith, loads_at-seat x d ms, sum-parts (load_count x) k ms)))

@@ -27,3 +27,4 @@ pub mod PlainRun
 pub mod Run
 pub mod State
 pub mod Take
+pub mod TracedByRoots
