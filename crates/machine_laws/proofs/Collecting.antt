@@ -1,12 +1,11 @@
 -- A collect, as the detector's laws see it.
-use Rattle.std.proofs.Common.{◌≡◌, ◌≢◌, ℕ, ◌<◌, ◌≤◌, Bool, true, false, cond, ◌==◌, eq-eqb, Option, None, List, [], ◌∷◌, set, refl, ap, sym, subst, ◌∙◌, arith, inl, inr, ⊎_elim, get_or-set_other}
+use Rattle.std.proofs.Common.{◌≡◌, ◌≢◌, ℕ, ◌<◌, ◌≤◌, Bool, true, false, cond, ◌==◌, eq-eqb, None, List, [], ◌∷◌, set, refl, ap, sym, subst, ◌∙◌, arith, inl, inr, ⊎_elim, get_or-set_other}
 use Rattle.orca_names.specs.Names.{owner_of}
 use Rattle.orca_names.specs.declared.names.Thing.{Thing}
-use Rattle.orca_names.specs.declared.names.Thing.TheVariants.{Actor, Obj}
-use Rattle.reach_walk.specs.Reach.{owned, root}
+use Rattle.orca_names.specs.declared.names.Thing.TheVariants.{Actor}
 use Rattle.letter_kinds.specs.Counting.{sweep, given_back, by_owner}
 use Rattle.letter_kinds.specs.Detector.{Detector}
-use Rattle.letter_kinds.specs.Holdings.{Row, held_in}
+use Rattle.letter_kinds.specs.Holdings.{held_in}
 use Rattle.letter_kinds.specs.Sums.{amount_of}
 use Rattle.letter_kinds.specs.declared.letter.Letter.{Letter}
 use Rattle.letter_kinds.specs.declared.letter.Letter.TheVariants.{Dec}

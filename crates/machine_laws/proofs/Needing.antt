@@ -1,7 +1,6 @@
 -- With root-only tracing: who mints for what it got from a row reaches no set that is apart, as the detector's laws see it.
-use Rattle.std.proofs.Common.{◌≡◌, ◌≢◌, ◌⊎◌, ℕ, zero, suc, ◌<◌, Bool, true, false, Option, Some, None, is_some, List, [], set, refl, ap, sym, subst, ◌∙◌, arith, inl, inr, ⊎_elim, get_or-set_other}
+use Rattle.std.proofs.Common.{◌≡◌, ◌≢◌, ℕ, zero, suc, ◌<◌, Bool, true, false, Option, Some, None, is_some, List, [], set, refl, ap, sym, subst, ◌∙◌, arith, inl, inr, ⊎_elim, get_or-set_other}
 use Rattle.orca_names.specs.Names.{owner_of}
-use Rattle.orca_names.specs.declared.names.ObjName.{ObjName}
 use Rattle.orca_names.specs.declared.names.Thing.{Thing}
 use Rattle.orca_names.specs.declared.names.Thing.TheVariants.{Actor, Obj}
 use Rattle.behaviour_code.specs.declared.code.Program.{Program}
@@ -9,7 +8,7 @@ use Rattle.turn_rules.specs.declared.act.Frame.{Frame}
 use Rattle.letter_kinds.proofs.Amounts.{held-mint_all}
 use Rattle.letter_kinds.specs.Counting.{Amount, mint_all}
 use Rattle.letter_kinds.specs.Detector.{Detector, has}
-use Rattle.letter_kinds.specs.Holdings.{Row, held_in}
+use Rattle.letter_kinds.specs.Holdings.{Row}
 use Rattle.letter_kinds.specs.Sums.{amount_of}
 use Rattle.letter_kinds.specs.declared.letter.Letter.{Letter}
 use Rattle.letter_kinds.specs.declared.letter.Letter.TheVariants.{Inc}
@@ -20,17 +19,16 @@ use Rattle.machine_rules.proofs.RootsLeft.{along_left, owner_left, root_left}
 use Rattle.machine_rules.proofs.RootsNeed.{is_pair, reached}
 use Rattle.machine_rules.proofs.RootsSame.{has_own_row}
 use Rattle.machine_rules.proofs.SeatReads.{letter_Inc}
-use Rattle.machine_rules.specs.Actors.{Actors, cell_of, letters_of, push_letter, seat, seat_at}
+use Rattle.machine_rules.specs.Actors.{Actors, letters_of, push_letter, seat, seat_at}
 use Rattle.machine_rules.specs.Agreement.{Person}
-use Rattle.machine_rules.specs.Cell.{Cell, own_row_of}
+use Rattle.machine_rules.specs.Cell.{Cell}
 use Rattle.machine_rules.specs.Facts.{KeepsCounts}
 use Rattle.machine_rules.specs.Go.{mint, needed, to_need}
 use Rattle.machine_rules.specs.Known.{IsKnown, Names, Reaches}
-use Rattle.machine_rules.specs.KnownByRoots.{IsKnownWithOwner, IsRootsAt, WalkRoots, by_row, held, mine, named}
+use Rattle.machine_rules.specs.KnownByRoots.{WalkRoots, by_row, held, mine, named}
 use Rattle.machine_rules.specs.Left.{IsLeft}
 use Rattle.machine_rules.specs.Options.{Trace, Deep}
 use Rattle.machine_rules.specs.Options as options
-use Rattle.detector_laws.specs.Cells.{held_on}
 use Rattle.detector_laws.specs.Events.{IsApart, Moves}
 use Rattle.machine_laws.proofs.Collecting.{same_loads}
 use Rattle.machine_laws.proofs.Moving.{adds_push, moves_apart, not_same, push_loads, push_other, unheld}

@@ -35,7 +35,6 @@ use Rattle.machine_rules.specs.Agreement.{Person}
 use Rattle.machine_rules.specs.Balance.{load_sum}
 use Rattle.machine_rules.specs.Detect.{ask_all}
 use Rattle.machine_rules.specs.Facts.{IsFirmAt, IsPastRows, KeepsCounts, IsSound}
-use Rattle.machine_rules.specs.Known.{IsSoundAt}
 use Rattle.detector_laws.proofs.Cells.{some_not_none}
 use Rattle.detector_laws.proofs.Members.{In_each, each_In}
 use Rattle.detector_laws.proofs.Names.{name_In, names, named}

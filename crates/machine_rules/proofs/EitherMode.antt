@@ -1,5 +1,5 @@
 -- What each event keeps, by the mode of tracing: the same statements for both.
-use Rattle.std.proofs.Common.{◌≡◌, ◌≢◌, ◌⊎◌, Bool, true, false, ℕ, ◌+◌, ◌<◌, Option, Some, None, List, [], ◌∷◌, ◌++◌, length, set, refl, sym, ◌∙◌, ap, arith, subst, inl, inr, ⊎_elim}
+use Rattle.std.proofs.Common.{◌≡◌, ◌≢◌, Bool, true, false, ℕ, ◌+◌, ◌<◌, Option, Some, None, List, [], ◌∷◌, ◌++◌, length, set, refl, ◌∙◌, arith, inl, inr, ⊎_elim}
 use Rattle.std.specs.FinMap as m
 use Rattle.std.specs.Prelude.{sum_by}
 use Rattle.orca_names.specs.Names.{owner_of}
@@ -9,14 +9,13 @@ use Rattle.orca_names.specs.declared.names.Thing.TheVariants.{Actor, Obj}
 use Rattle.orca_names.specs.declared.names.Value.{Value}
 use Rattle.behaviour_code.specs.declared.code.Program.{Program}
 use Rattle.reach_walk.specs.Reach.{root, owned, thing_row}
-use Rattle.turn_rules.specs.Laws.{act_values}
-use Rattle.turn_rules.specs.Segment.{Stop, segment_of}
+use Rattle.turn_rules.specs.Segment.{segment_of}
 use Rattle.turn_rules.specs.declared.act.Act.TheVariants.{Post}
 use Rattle.turn_rules.specs.declared.act.Frame.{Frame}
 use Rattle.letter_kinds.proofs.Amounts.{held-mint_all}
-use Rattle.letter_kinds.specs.Counting.{Amount, Loaded, gain, lacking, mint_all, send}
+use Rattle.letter_kinds.specs.Counting.{Amount, gain, lacking, mint_all, send}
 use Rattle.letter_kinds.specs.Detector.{has}
-use Rattle.letter_kinds.specs.Holdings.{Holdings, Row, held_in}
+use Rattle.letter_kinds.specs.Holdings.{Row, held_in}
 use Rattle.letter_kinds.specs.Sums.{amount_of, load_count, times_loaded}
 use Rattle.letter_kinds.specs.declared.letter.Letter.{Letter}
 use Rattle.machine_rules.proofs.Agreeing.{with_letter}
@@ -34,7 +33,7 @@ use Rattle.machine_rules.proofs.Reaps.{AllIn}
 use Rattle.machine_rules.proofs.RootsCollect.{collect_keeps_roots}
 use Rattle.machine_rules.proofs.RootsLeft as rooted
 use Rattle.machine_rules.proofs.RootsNeed.{need_keeps_roots}
-use Rattle.machine_rules.proofs.RootsPost.{make_keeps_roots, mint_keeps_roots, post_keeps_roots, post_known, reap_keeps_roots}
+use Rattle.machine_rules.proofs.RootsPost.{make_keeps_roots, mint_keeps_roots, post_keeps_roots, reap_keeps_roots}
 use Rattle.machine_rules.proofs.RootsRows.{letter_exact}
 use Rattle.machine_rules.proofs.RootsTake.{take_keeps_roots}
 use Rattle.machine_rules.proofs.RootsTurn.{args_known, same_turn as same_turn_roots, turn_keeps_roots}
@@ -53,7 +52,7 @@ use Rattle.machine_rules.specs.Detect.{reap_members}
 use Rattle.machine_rules.specs.Facts.{KeepsCounts}
 use Rattle.machine_rules.specs.Go.{load_from, make, mint, needed, post, rows_from, to_need, turn_of_cell, turned}
 use Rattle.machine_rules.specs.Known.{InFrame, IsKnown, Names, Reaches, Roots, in_fields, in_frame, in_table}
-use Rattle.machine_rules.specs.KnownByRoots.{IsKnownWithOwner, IsRootOf, IsRootsAt, WalkRoots, by_field, by_frame, held, mine, owns, stands}
+use Rattle.machine_rules.specs.KnownByRoots.{IsKnownWithOwner, IsRootOf, WalkRoots, by_field, by_frame, held, mine, owns, stands}
 use Rattle.machine_rules.specs.Left.{IsLeft}
 use Rattle.machine_rules.specs.Options.{Trace, Deep}
 use Rattle.machine_rules.specs.Options as options

@@ -24,7 +24,6 @@ use Rattle.machine_rules.proofs.Agreeing.{with_letter}
 use Rattle.machine_rules.proofs.Following.{Follows, follows_on, same_person}
 use Rattle.machine_rules.proofs.EitherMode.{counted_left, known_left, loaded_known, make_keeps, mint_keeps, need_keeps, posted_keeps, same_turn, target_known as known_target, turn_keeps}
 use Rattle.machine_rules.proofs.Going.{Grows, left_present}
-use Rattle.machine_rules.proofs.InHand.{in_hand}
 use Rattle.machine_rules.proofs.PostKeeps.{next_send}
 use Rattle.machine_rules.proofs.TakeKeeps.{next_held}
 use Rattle.machine_rules.proofs.Lacking.{counted_mint, first_minted, to_mint_theirs}
@@ -39,7 +38,7 @@ use Rattle.machine_rules.specs.Cell.{Cell, fresh_cell}
 use Rattle.machine_rules.specs.Facts.{Facts, KeepsCounts}
 use Rattle.machine_rules.specs.Go.{act_in, go_in, load_from, make, mint, needed, needing, post, post_or_mint, rows_from, turn_of_cell, turned, with_turn_kept}
 use Rattle.machine_rules.specs.Options.{Trace}
-use Rattle.machine_rules.specs.Known.{InFrame, IsKnown, IsLoadOf, Names, Roots, in_fields, in_frame, in_table}
+use Rattle.machine_rules.specs.Known.{InFrame, IsKnown, Names, Roots, in_fields, in_frame, in_table}
 use Rattle.machine_rules.specs.Lists.{is_empty}
 use Rattle.machine_rules.specs.Plain.{PlainState, after_act, after_turn, fresh_actor, next_state, objects_made, plain_go, plain_row, stopped_at, turn_of_actor, with_name, with_turn}
 use Rattle.machine_rules.specs.Plain as plain

@@ -1,15 +1,14 @@
 -- With root-only tracing, an idle actor that did nothing since it collected has just what is marked, after every event.
-use Rattle.std.proofs.Common.{◌≡◌, ◌≢◌, ◌⊎◌, ℕ, ◌<◌, ◌==◌, not, cond, Bool, true, false, T, is_some, Option, Some, None, List, [], ◌∷◌, ◌++◌, map, filter, refl, sym, ap, subst, ◌∙◌, arith, inl, inr, ⊎_elim, eq-eqb, ne_eqb}
+use Rattle.std.proofs.Common.{◌≡◌, ◌≢◌, ℕ, ◌<◌, ◌==◌, not, cond, Bool, true, false, T, is_some, Option, Some, None, List, [], ◌∷◌, map, filter, refl, sym, ap, subst, ◌∙◌, arith, ⊎_elim, eq-eqb, ne_eqb}
 use Rattle.std.proofs.lemmas.Bool.{cases_eq}
 use Rattle.std.proofs.lemmas.Cmp.{nat_cmp_total, tied_itself}
 use Rattle.std.proofs.lemmas.List.Elements.{Contains-append_cases, filter_map-append}
 use Rattle.std.specs.Cmp.{unsigned_tied}
 use Rattle.std.specs.FinMap as m
 use Rattle.std.specs.FinMap.Entries.{below_all}
-use Rattle.std.specs.Ordering.{eq_by_cmp, is_lt, nat_cmp}
+use Rattle.std.specs.Ordering.{is_lt, nat_cmp}
 use Rattle.std.specs.Prelude.{Contains}
 use Rattle.orca_names.specs.Names.{thing_cmp}
-use Rattle.orca_names.specs.declared.names.ObjName.{ObjName}
 use Rattle.orca_names.specs.declared.names.Thing.{Thing}
 use Rattle.orca_names.specs.declared.names.Thing.TheVariants.{Actor, Obj}
 use Rattle.behaviour_code.specs.declared.code.Program.{Program}
@@ -25,7 +24,7 @@ use Rattle.machine_rules.proofs.Local.{Local}
 use Rattle.machine_rules.proofs.Locals.{every_first, every_next}
 use Rattle.machine_rules.proofs.Paths.{along_row, reach_into}
 use Rattle.machine_rules.proofs.RootsCollect.{IsMarked, counted_values, is_counted, marks_sound, marks_whole, own_row-marked, own_row-stayed, own_value, starts_counted}
-use Rattle.machine_rules.proofs.RootsSame.{has_own_row, own_row_has}
+use Rattle.machine_rules.proofs.RootsSame.{has_own_row}
 use Rattle.machine_rules.proofs.Sweeping.{both_true, get_entry-sweep, own-sweep}
 use Rattle.machine_rules.specs.Cell.{Cell, clean_cell, own_row_of}
 use Rattle.machine_rules.specs.Clean.{IsCleanByRootsAt, IsInOwnReach, IsSweptByRootsAt, StartsMarks, of_count, of_field}

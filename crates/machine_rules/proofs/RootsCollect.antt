@@ -1,8 +1,8 @@
 -- With root-only tracing: a collection keeps the facts, and nothing that is backed goes.
-use Rattle.std.proofs.Common.{◌≡◌, ◌≢◌, ◌⊎◌, ℕ, zero, suc, ◌+◌, ◌<◌, ◌≤◌, ◌==◌, ◌||◌, not, cond, Bool, true, false, Option, Some, None, is_some, List, [], ◌∷◌, ◌++◌, map, filter, set, take, drop, refl, sym, ◌∙◌, ap, arith, subst, inl, inr, ⊎_elim, eq-eqb, ne_eqb, eqb-true}
+use Rattle.std.proofs.Common.{◌≡◌, ◌≢◌, ◌⊎◌, ℕ, zero, suc, ◌+◌, ◌<◌, ◌==◌, ◌||◌, not, cond, Bool, true, false, Option, Some, None, List, [], ◌∷◌, ◌++◌, map, filter, set, take, refl, sym, ◌∙◌, ap, arith, subst, inl, inr, ⊎_elim, eq-eqb, ne_eqb, eqb-true}
 use Rattle.std.specs.Prelude.{Contains, sum_by}
 use Rattle.std.specs.FinMap as m
-use Rattle.std.specs.List.{filter_map, list_any}
+use Rattle.std.specs.List.{list_any}
 use Rattle.std.specs.Ordering.{nat_cmp, eq_by_cmp}
 use Rattle.std.specs.Cmp.{unsigned_tied}
 use Rattle.std.proofs.lemmas.Bool.{cases_eq}
@@ -22,22 +22,21 @@ use Rattle.reach_walk.specs.Marks.{Covers, marks_of}
 use Rattle.reach_walk.specs.Reach.{named_by, root, owned, thing_of, thing_row}
 use Rattle.letter_kinds.proofs.Sums.{sum-nil}
 use Rattle.letter_kinds.specs.Counting.{by_owner, given_back, sweep}
-use Rattle.letter_kinds.specs.Holdings.{Holdings, Row, has_own, held_in, own_in, row_count}
+use Rattle.letter_kinds.specs.Holdings.{Holdings, Row, held_in, own_in, row_count}
 use Rattle.letter_kinds.specs.Sums.{dec_of, inc_of, load_count}
 use Rattle.letter_kinds.specs.declared.letter.Letter.{Letter}
 use Rattle.letter_kinds.specs.declared.letter.Letter.TheVariants.{Dec}
 use Rattle.machine_rules.proofs.CollectKeeps.{collect_put}
 use Rattle.machine_rules.proofs.Every.{every_decs, every_set}
 use Rattle.machine_rules.proofs.InHand.{Balanced, in_hand}
-use Rattle.machine_rules.proofs.Paths.{along_row, reach_into, reach_more}
+use Rattle.machine_rules.proofs.Paths.{along_row, reach_into}
 use Rattle.machine_rules.proofs.Receiving.{own_row}
-use Rattle.machine_rules.proofs.RootsLeft.{root_left}
 use Rattle.machine_rules.proofs.RootsRows.{by_own, listed-cover, rows_agree}
 use Rattle.machine_rules.proofs.RootsSame.{has_own_row, own_is_none, own_row_has, roots_push}
 use Rattle.machine_rules.proofs.Safety.{sum-parts}
 use Rattle.machine_rules.proofs.SeatReads.{letter_Dec}
 use Rattle.machine_rules.proofs.Seats.{present_below}
-use Rattle.machine_rules.proofs.Sweeping.{get_row-sweep, has-sweep, held-sweep, held_before, known-marked, known-sweep, own-sweep, stays}
+use Rattle.machine_rules.proofs.Sweeping.{get_row-sweep, has-sweep, held_before, known-marked, own-sweep, stays}
 use Rattle.machine_rules.proofs.Turns.{along_edges, along_rows}
 use Rattle.machine_rules.specs.Actors.{Actors, seat, seat_at}
 use Rattle.machine_rules.specs.Agreement.{Person}

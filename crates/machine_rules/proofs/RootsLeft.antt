@@ -1,5 +1,5 @@
 -- With root-only tracing: what is held, loaded or named is left, and so is all that it leads to.
-use Rattle.std.proofs.Common.{◌≡◌, ◌≢◌, ◌⊎◌, ℕ, zero, suc, ◌+◌, ◌<◌, ◌≤◌, true, Option, Some, None, List, [], ◌∷◌, drop, take, refl, sym, ◌∙◌, ap, arith, subst, inl, inr, ⊎_elim}
+use Rattle.std.proofs.Common.{◌≡◌, ◌⊎◌, ℕ, zero, suc, ◌+◌, ◌<◌, true, Option, Some, None, List, [], ◌∷◌, drop, take, refl, sym, ◌∙◌, ap, arith, subst, inl, inr, ⊎_elim}
 use Rattle.std.specs.Prelude.{sum_by}
 use Rattle.std.proofs.lemmas.Bool.{cases_eq}
 use Rattle.std.proofs.lemmas.List.Sums.{sum_by-cons}
@@ -7,29 +7,28 @@ use Rattle.orca_names.specs.Names.{owner_of}
 use Rattle.orca_names.specs.declared.names.ObjName.{ObjName}
 use Rattle.orca_names.specs.declared.names.Thing.{Thing}
 use Rattle.orca_names.specs.declared.names.Thing.TheVariants.{Actor, Obj}
-use Rattle.orca_names.specs.declared.names.Value.{Value}
-use Rattle.reach_walk.specs.Reach.{root, owned, thing_row}
-use Rattle.letter_kinds.proofs.Counts.{counted_has, has_actor, loaded-nil}
+use Rattle.reach_walk.specs.Reach.{root, thing_row}
+use Rattle.letter_kinds.proofs.Counts.{counted_has, has_actor}
 use Rattle.letter_kinds.proofs.Sums.{sum-at, sum-nil}
-use Rattle.letter_kinds.specs.Holdings.{Holdings, Row, has_own, held_in, own_in}
+use Rattle.letter_kinds.specs.Holdings.{Row, has_own, held_in, own_in}
 use Rattle.letter_kinds.specs.Sums.{dec_of, inc_of, load_count}
 use Rattle.letter_kinds.specs.declared.letter.Letter.{Letter}
 use Rattle.letter_kinds.specs.declared.letter.Letter.TheVariants.{App, Inc, Dec, Confirm}
 use Rattle.machine_rules.proofs.InHand.{Balanced}
 use Rattle.machine_rules.proofs.Living.{Letters, here, later, Holds, Lives, stands, holds, row, owner}
 use Rattle.machine_rules.proofs.Paths.{reach_into}
-use Rattle.machine_rules.proofs.RootsSame.{has_own_row, own_row_has}
+use Rattle.machine_rules.proofs.RootsSame.{has_own_row}
 use Rattle.machine_rules.proofs.Safety.{sum-parts}
-use Rattle.machine_rules.proofs.SeatReads.{decs_at-none, decs_at-seat, incs_at-none, incs_at-seat, letter_App, letter_Confirm, letter_Dec, letter_Inc, loads_at-seat, own_at-none, own_at-seat}
+use Rattle.machine_rules.proofs.SeatReads.{decs_at-seat, incs_at-none, incs_at-seat, letter_App, loads_at-seat, own_at-none, own_at-seat}
 use Rattle.machine_rules.proofs.Seats.{present_below}
 use Rattle.machine_rules.proofs.Sends.{held_below}
 use Rattle.machine_rules.specs.Actors.{Actors, Seat, seat, seat_at}
 use Rattle.machine_rules.specs.Agreement.{Agrees, IsRootPerson, Person, app_letters, person_at, person_of}
-use Rattle.machine_rules.specs.Balance.{decs_at, held_sum, incs_at, load_sum, loads_at, own_at, owner_seat}
+use Rattle.machine_rules.specs.Balance.{held_sum, incs_at, load_sum, loads_at, own_at, owner_seat}
 use Rattle.machine_rules.specs.Cell.{Cell, own_row_of}
 use Rattle.machine_rules.specs.Facts.{Every}
-use Rattle.machine_rules.specs.Known.{InFrame, IsKnown, Names, Reaches}
-use Rattle.machine_rules.specs.KnownByRoots.{AreRootLetters, IsBacked, IsKnownWithOwner, IsNamedIn, IsRootsAt, WalkRoots, by_field, by_frame, by_row, held, mine, named, stands as stands_in, owns}
+use Rattle.machine_rules.specs.Known.{IsKnown, Names, Reaches}
+use Rattle.machine_rules.specs.KnownByRoots.{AreRootLetters, IsBacked, IsKnownWithOwner, IsRootsAt, WalkRoots, by_field, by_frame, by_row, held, mine, named, stands as stands_in}
 use Rattle.machine_rules.specs.Left.{IsLeft}
 
 -- ---- at one actor

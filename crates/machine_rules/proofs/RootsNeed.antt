@@ -1,6 +1,6 @@
 -- With root-only tracing: what a turn gets from a row is backed where its owner keeps it, so the actor may mint for it.
-use Rattle.std.proofs.Common.{◌≡◌, ◌≢◌, ◌⊎◌, ℕ, zero, suc, ◌+◌, ◌<◌, ◌≤◌, ◌==◌, ◌&&◌, ◌||◌, not, cond, Bool, true, false, Option, Some, None, List, [], ◌∷◌, map, refl, sym, ◌∙◌, ap, arith, subst, inl, inr, ⊎_elim, eq-eqb, ne_eqb}
-use Rattle.std.proofs.lemmas.Bool.{cases_eq, cases_Bool, false≢true, or_parts}
+use Rattle.std.proofs.Common.{◌≡◌, ◌≢◌, ◌⊎◌, ℕ, ◌<◌, cond, Bool, true, false, Option, Some, List, [], ◌∷◌, map, refl, sym, ◌∙◌, ap, arith, subst, inl, inr, ⊎_elim, eq-eqb}
+use Rattle.std.proofs.lemmas.Bool.{cases_eq, cases_Bool, false≢true}
 use Rattle.std.specs.Prelude.{Contains}
 use Rattle.std.specs.List.{filter}
 use Rattle.orca_names.proofs.ThingOrder.{cases_thing}
@@ -8,18 +8,17 @@ use Rattle.orca_names.specs.Names.{owner_of}
 use Rattle.orca_names.specs.declared.names.ObjName.{ObjName}
 use Rattle.orca_names.specs.declared.names.Thing.{Thing}
 use Rattle.orca_names.specs.declared.names.Thing.TheVariants.{Actor, Obj}
-use Rattle.orca_names.specs.declared.names.Value.{Value}
 use Rattle.behaviour_code.specs.declared.code.Program.{Program}
 use Rattle.reach_walk.proofs.Elements.{Contains-cons_cases, Contains-head, Contains-later, none_in_nil, only_one}
 use Rattle.reach_walk.proofs.InOrder.{in_order-has, in_order-only}
 use Rattle.reach_walk.specs.Marks.{in_order, with_owners}
-use Rattle.reach_walk.specs.Reach.{named_by, root, owned, thing_row}
+use Rattle.reach_walk.specs.Reach.{named_by, owned, thing_row}
 use Rattle.turn_rules.specs.Segment.{gets_of}
 use Rattle.turn_rules.specs.declared.act.Frame.{Frame}
 use Rattle.letter_kinds.proofs.Amounts.{held-mint_all}
 use Rattle.letter_kinds.proofs.Counts.{amount-nil, amount-same, amount-other, has_actor}
 use Rattle.letter_kinds.specs.Counting.{Amount, mint_all}
-use Rattle.letter_kinds.specs.Holdings.{Holdings, Row, has_own, held_in}
+use Rattle.letter_kinds.specs.Holdings.{Holdings, Row, held_in}
 use Rattle.letter_kinds.specs.Sums.{amount_of}
 use Rattle.letter_kinds.specs.declared.letter.Letter.{Letter}
 use Rattle.machine_rules.proofs.InHand.{AllCounted, Balanced, in_hand}

@@ -1,11 +1,11 @@
 -- With root-only tracing: who posts, mints, makes an actor or goes keeps the facts.
-use Rattle.std.proofs.Common.{◌≡◌, ◌≢◌, ◌⊎◌, ℕ, zero, suc, ◌+◌, ◌-◌, ◌<◌, ◌≤◌, true, false, Option, Some, None, List, [], ◌∷◌, ◌++◌, length, length-set, set, drop, refl, sym, ◌∙◌, ap, arith, subst, inl, inr, ⊎_elim}
+use Rattle.std.proofs.Common.{◌≡◌, ◌≢◌, ◌⊎◌, ℕ, zero, suc, ◌+◌, ◌-◌, ◌<◌, ◌≤◌, true, false, Option, Some, None, List, [], ◌∷◌, ◌++◌, length, set, drop, refl, sym, ◌∙◌, ap, arith, subst, inl, inr, ⊎_elim}
 use Rattle.std.specs.Prelude.{sum_by}
 use Rattle.std.specs.FinMap as m
 use Rattle.std.proofs.lemmas.Bool.{cases_eq}
 use Rattle.std.proofs.lemmas.List.Sums.{sum_by-cons}
 use Rattle.orca_names.proofs.ThingOrder.{cases_thing}
-use Rattle.orca_names.specs.Names.{owner_of, thing_cmp}
+use Rattle.orca_names.specs.Names.{owner_of}
 use Rattle.orca_names.specs.declared.names.ObjName.{ObjName}
 use Rattle.orca_names.specs.declared.names.Thing.{Thing}
 use Rattle.orca_names.specs.declared.names.Thing.TheVariants.{Actor, Obj}
@@ -13,13 +13,12 @@ use Rattle.orca_names.specs.declared.names.Value.{Value}
 use Rattle.orca_names.specs.declared.names.Value.TheVariants as values
 use Rattle.turn_rules.specs.declared.act.Frame.{Frame}
 use Rattle.reach_walk.specs.Marks.{load_of, load_roots}
-use Rattle.reach_walk.specs.Reach.{root, owned}
 use Rattle.letter_kinds.proofs.Amounts.{held-mint_all, own-mint_all}
-use Rattle.letter_kinds.proofs.Counts.{held-send, held-send_own, held_set_other, held_set_same, own-send, own_set_held}
+use Rattle.letter_kinds.proofs.Counts.{held-send, held-send_own, held_set_same, own-send, own_set_held}
 use Rattle.letter_kinds.proofs.Sums.{sum-nil}
 use Rattle.letter_kinds.specs.Counting.{Amount, Loaded, gain, lacking, mint_all, send}
 use Rattle.letter_kinds.specs.Detector.{has}
-use Rattle.letter_kinds.specs.Holdings.{Holdings, Row, has_own, held_in, own_in}
+use Rattle.letter_kinds.specs.Holdings.{Row, has_own, held_in, own_in}
 use Rattle.letter_kinds.specs.Sums.{amount_of, inc_of, load_count, times_loaded}
 use Rattle.letter_kinds.specs.declared.letter.Letter.{Letter}
 use Rattle.letter_kinds.specs.declared.letter.Letter.TheVariants.{App, Inc, Dec, Confirm}
@@ -27,7 +26,7 @@ use Rattle.machine_rules.proofs.Agreeing.{with_letter}
 use Rattle.machine_rules.proofs.Every.{every_more, every_push, every_set}
 use Rattle.machine_rules.proofs.InHand.{AllCounted, Balanced, in_hand}
 use Rattle.machine_rules.proofs.MakeKeeps.{make_put}
-use Rattle.machine_rules.proofs.Makes.{IsFresh, fresh_held, given, given_other, held_given}
+use Rattle.machine_rules.proofs.Makes.{IsFresh, fresh_held, given_other, held_given}
 use Rattle.machine_rules.proofs.Naming.{set_names}
 use Rattle.machine_rules.proofs.Paths.{reach_into, reach_more}
 use Rattle.machine_rules.proofs.PostKeeps.{known_enough, known_has, mint_put, post_put}
@@ -35,10 +34,10 @@ use Rattle.machine_rules.proofs.ReapKeeps.{AllSealed, every_reap, reap_put}
 use Rattle.machine_rules.proofs.Reaps.{AllIn}
 use Rattle.machine_rules.proofs.RootsLeft.{known_left}
 use Rattle.machine_rules.proofs.RootsRows.{letter_exact, roots_once}
-use Rattle.machine_rules.proofs.RootsSame.{SameOwn, backed_more, backed_push, carried_mine, carried_named, carried_owners, letters_push, own_gained, own_minted, own_row_has, own_sent, own_self, roots_push, same_rows_more, walks}
-use Rattle.machine_rules.proofs.RootsTake.{owner_root, same_roots, still_roots}
+use Rattle.machine_rules.proofs.RootsSame.{SameOwn, backed_more, backed_push, carried_mine, carried_named, carried_owners, letters_push, own_gained, own_minted, own_row_has, own_sent, roots_push, same_rows_more, walks}
+use Rattle.machine_rules.proofs.RootsTake.{owner_root, still_roots}
 use Rattle.machine_rules.proofs.SeatReads.{letter_App, letter_Confirm, letter_Dec, letter_Inc}
-use Rattle.machine_rules.proofs.Seats.{IsPresent, at_other, present_below, some_seat}
+use Rattle.machine_rules.proofs.Seats.{IsPresent, at_other, present_below}
 use Rattle.machine_rules.proofs.Sends.{push_is}
 use Rattle.machine_rules.specs.Actors.{Actors, Seat, push_letter, seat, seat_at}
 use Rattle.machine_rules.specs.Agreement.{Person, person_at, person_of}

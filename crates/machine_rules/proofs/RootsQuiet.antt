@@ -1,15 +1,14 @@
 -- With root-only tracing: where every actor is at rest and each that is present is needed, what is left is just
 -- what is reached from the roots, where an actor leads to its own objects that are held as well.
-use Rattle.std.proofs.Common.{◌≡◌, ◌↔◌, ℕ, ◌<◌, true, Option, Some, None, List, [], refl, sym, ◌∙◌, ap, arith, subst, inl, ⊎_elim}
-use Rattle.std.specs.FinMap as m
+use Rattle.std.proofs.Common.{◌≡◌, ◌↔◌, ℕ, ◌<◌, Option, Some, None, List, [], refl, sym, ◌∙◌, ap, arith, subst, inl}
 use Rattle.std.specs.Option.{option_map_or}
 use Rattle.std.specs.Prelude.{Contains}
 use Rattle.orca_names.specs.declared.names.ObjName.{ObjName}
 use Rattle.orca_names.specs.declared.names.Thing.{Thing}
 use Rattle.orca_names.specs.declared.names.Thing.TheVariants.{Actor, Obj}
 use Rattle.orca_names.specs.declared.names.Value.{Value}
-use Rattle.reach_walk.specs.Reach.{named_by, thing_row}
-use Rattle.letter_kinds.specs.Holdings.{Row, held_in, own_in}
+use Rattle.reach_walk.specs.Reach.{thing_row}
+use Rattle.letter_kinds.specs.Holdings.{Row, own_in}
 use Rattle.letter_kinds.specs.declared.letter.Letter.{Letter}
 use Rattle.machine_rules.proofs.EitherMode.{lives_left}
 use Rattle.machine_rules.proofs.InHand.{Balanced, in_hand}
@@ -22,8 +21,8 @@ use Rattle.machine_rules.proofs.Rest.{AtRest}
 use Rattle.machine_rules.proofs.RootsLeft.{along_left, held_left, owner_left, person_left}
 use Rattle.machine_rules.proofs.SeatReads.{held_at-none, held_at-seat}
 use Rattle.machine_rules.specs.Actors.{Actors, Seat, seat, seat_at}
-use Rattle.machine_rules.specs.Agreement.{IsRootPerson, Person, people_of, person_at}
-use Rattle.machine_rules.specs.Balance.{held_at, held_sum}
+use Rattle.machine_rules.specs.Agreement.{IsRootPerson, Person, people_of}
+use Rattle.machine_rules.specs.Balance.{held_at}
 use Rattle.machine_rules.specs.Cell.{Cell, own_row_of}
 use Rattle.machine_rules.specs.Clean.{IsCleanByRootsAt, IsInOwnReach, StartsMarks, of_count, of_field}
 use Rattle.machine_rules.specs.Facts.{Every, KeepsCounts}

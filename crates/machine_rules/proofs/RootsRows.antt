@@ -1,21 +1,20 @@
 -- With root-only tracing: over the rows that it has an actor reaches what it reaches over all; letters are exact.
-use Rattle.std.proofs.Common.{◌≡◌, ◌≢◌, ◌⊎◌, ℕ, ◌<◌, ◌≤◌, ◌==◌, cond, true, false, Option, Some, None, List, [], ◌∷◌, map, Contains, refl, sym, ◌∙◌, ap, arith, subst, inl, inr, ⊎_elim, eq-eqb, ne_eqb}
-use Rattle.std.specs.Prelude.{option_map}
+use Rattle.std.proofs.Common.{◌≡◌, ◌≢◌, ℕ, ◌<◌, ◌≤◌, cond, true, false, Option, Some, None, List, [], ◌∷◌, map, Contains, refl, sym, ◌∙◌, ap, arith, subst, ⊎_elim, eq-eqb, ne_eqb}
 use Rattle.std.specs.FinMap as m
 use Rattle.std.specs.List.{filter_map}
 use Rattle.std.proofs.lemmas.Bool.{cases_eq}
 use Rattle.std.proofs.lemmas.List.Elements.{Contains-append_left, Contains-append_right}
 use Rattle.orca_names.proofs.ThingOrder.{is_same}
-use Rattle.orca_names.specs.Names.{is_thing, owner_of, thing_cmp}
+use Rattle.orca_names.specs.Names.{is_thing, thing_cmp}
 use Rattle.orca_names.specs.declared.names.ObjName.{ObjName}
 use Rattle.orca_names.specs.declared.names.Thing.{Thing}
 use Rattle.orca_names.specs.declared.names.Thing.TheVariants.{Actor, Obj}
 use Rattle.orca_names.specs.declared.names.Value.{Value}
 use Rattle.reach_walk.specs.Marks.{Covers, load_of, load_roots}
 use Rattle.reach_walk.specs.Reach.{root, owned, thing_row}
-use Rattle.letter_kinds.proofs.Counts.{loaded-nil, loaded-same, loaded_more}
+use Rattle.letter_kinds.proofs.Counts.{loaded-same, loaded_more}
 use Rattle.letter_kinds.specs.Counting.{Loaded}
-use Rattle.letter_kinds.specs.Holdings.{Holdings, Row, has_own}
+use Rattle.letter_kinds.specs.Holdings.{Row, has_own}
 use Rattle.letter_kinds.specs.Sums.{times_loaded}
 use Rattle.letter_kinds.specs.declared.letter.Letter.{Letter}
 use Rattle.machine_rules.proofs.Finite.{first_option, later_option, own_found}
@@ -30,8 +29,8 @@ use Rattle.machine_rules.proofs.Seats.{some_seat}
 use Rattle.machine_rules.specs.Actors.{Actors, seat, seat_at}
 use Rattle.machine_rules.specs.Cell.{Cell, listed_objects, object_name, own_row_of, row_by_roots}
 use Rattle.machine_rules.specs.Facts.{Every}
-use Rattle.machine_rules.specs.Known.{IsKnown, IsLoadOf, Names, Reaches, RowsAreIn}
-use Rattle.machine_rules.specs.KnownByRoots.{IsKnownWithOwner, IsRootLetter, IsRootOf, IsRootsAt, WalkRoots, stands, owns}
+use Rattle.machine_rules.specs.Known.{IsLoadOf, Names, Reaches, RowsAreIn}
+use Rattle.machine_rules.specs.KnownByRoots.{IsRootLetter, IsRootOf, IsRootsAt, WalkRoots, stands}
 
 -- ---- the rows that it has are listed
 

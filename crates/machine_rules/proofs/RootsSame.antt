@@ -1,31 +1,30 @@
 -- Own rows through changes of counts; and what an actor knows with root-only tracing where its cell changes.
-use Rattle.std.proofs.Common.{◌≡◌, ◌≢◌, ◌⊎◌, ℕ, ◌+◌, ◌-◌, ◌<◌, ◌≤◌, ◌==◌, cond, Bool, true, false, Option, Some, None, is_some, List, [], ◌∷◌, ◌++◌, length, take, drop, refl, sym, ◌∙◌, ap, arith, subst, inl, inr, ⊎_elim, eq-eqb, ne_eqb, take_all, drop_of_length-le, length-append}
-use Rattle.std.specs.Prelude.{option_map, sum_by}
+use Rattle.std.proofs.Common.{◌≡◌, ◌≢◌, ◌⊎◌, ℕ, ◌+◌, ◌-◌, ◌<◌, ◌≤◌, true, Option, Some, None, is_some, List, [], ◌∷◌, ◌++◌, length, take, drop, refl, sym, ◌∙◌, ap, arith, inl, inr, ⊎_elim, eq-eqb, ne_eqb, drop_of_length-le, length-append}
+use Rattle.std.specs.Prelude.{sum_by}
 use Rattle.std.proofs.lemmas.Bool.{cases_eq, cases_lt}
 use Rattle.std.proofs.lemmas.List.{take-append-le}
 use Rattle.std.proofs.lemmas.List.Sums.{sum_by_push}
 use Rattle.std.specs.FinMap as m
-use Rattle.orca_names.specs.Names.{owner_of, thing_cmp}
+use Rattle.orca_names.specs.Names.{owner_of}
 use Rattle.orca_names.specs.declared.names.ObjName.{ObjName}
 use Rattle.orca_names.specs.declared.names.Thing.{Thing}
 use Rattle.orca_names.specs.declared.names.Thing.TheVariants.{Actor, Obj}
-use Rattle.orca_names.specs.declared.names.Value.{Value}
 use Rattle.reach_walk.specs.Reach.{root, owned, thing_row}
-use Rattle.letter_kinds.proofs.Counts.{cond_eq, cond_ne, has_set_own, has_set_held}
+use Rattle.letter_kinds.proofs.Counts.{cond_eq, cond_ne, has_set_held}
 use Rattle.letter_kinds.proofs.Sums.{sum-nil}
-use Rattle.letter_kinds.specs.Counting.{Amount, Loaded, gain, lower, mint_all, mint_one, raise, receive, receive_one, send, send_one, set_held, set_own, spend}
-use Rattle.letter_kinds.specs.Holdings.{Holdings, Row, entry_row, has_own, held_in, own_in, row_of}
+use Rattle.letter_kinds.specs.Counting.{Amount, Loaded, gain, lower, mint_all, receive, receive_one, send, set_held}
+use Rattle.letter_kinds.specs.Holdings.{Holdings, Row, has_own, held_in, own_in, row_of}
 use Rattle.letter_kinds.specs.Sums.{dec_of, inc_of, load_count}
 use Rattle.letter_kinds.specs.declared.letter.Letter.{Letter}
 use Rattle.letter_kinds.specs.declared.letter.Letter.TheVariants.{App, Inc, Dec, Confirm}
-use Rattle.machine_rules.proofs.Paths.{along_row, reach_into, reach_more}
+use Rattle.machine_rules.proofs.Paths.{along_row, reach_into}
 use Rattle.machine_rules.proofs.Receiving.{has-receive, own_row, row_set_held_own, row_set_own}
-use Rattle.machine_rules.proofs.Safety.{drop-push, sum-parts}
+use Rattle.machine_rules.proofs.Safety.{drop-push}
 use Rattle.machine_rules.proofs.Sending.{has-mint_all, has-send, row-mint_all, row-send}
 use Rattle.machine_rules.proofs.TakeKeeps.{Alike}
 use Rattle.machine_rules.specs.Cell.{Cell, own_row_of}
 use Rattle.machine_rules.specs.Known.{InFrame, IsKnown, Names, Reaches, row_at}
-use Rattle.machine_rules.specs.KnownByRoots.{AreRootLetters, IsBacked, IsCountedAfter, IsKnownWithOwner, IsNamedIn, IsRootsAt, WalkRoots, by_field, by_frame, by_row, held, mine, named}
+use Rattle.machine_rules.specs.KnownByRoots.{AreRootLetters, IsBacked, IsKnownWithOwner, IsNamedIn, IsRootsAt, WalkRoots, by_field, by_frame, by_row, held, mine, named}
 
 -- ---- own rows
 

@@ -1,5 +1,5 @@
 -- With root-only tracing: who takes a letter knows what it should.
-use Rattle.std.proofs.Common.{◌≡◌, ◌≢◌, ◌⊎◌, ℕ, zero, suc, ◌+◌, ◌<◌, ◌==◌, Bool, cond, true, false, Option, Some, None, List, [], ◌∷◌, length, length-set, set, drop, take, refl, sym, ◌∙◌, ap, arith, subst, inl, inr, ⊎_elim, eq-eqb, ne_eqb}
+use Rattle.std.proofs.Common.{◌≡◌, ◌≢◌, ◌⊎◌, ℕ, zero, suc, ◌+◌, ◌<◌, ◌==◌, Bool, cond, true, false, Option, Some, None, List, [], ◌∷◌, length-set, drop, take, refl, sym, ◌∙◌, ap, arith, subst, inl, inr, ⊎_elim, eq-eqb, ne_eqb}
 use Rattle.std.specs.Prelude.{sum_by}
 use Rattle.std.specs.FinMap as m
 use Rattle.std.specs.Option.{option_map_or}
@@ -14,7 +14,7 @@ use Rattle.orca_names.specs.declared.names.Value.{Value}
 use Rattle.behaviour_code.specs.declared.code.Program.{Program}
 use Rattle.turn_rules.specs.declared.act.Frame.{Frame}
 use Rattle.reach_walk.specs.Reach.{root, owned, thing_row}
-use Rattle.letter_kinds.proofs.Counts.{held-receive, held-receive_own, loaded-nil, loaded-same, loaded-other, loaded_more}
+use Rattle.letter_kinds.proofs.Counts.{held-receive, held-receive_own, loaded-nil, loaded-other}
 use Rattle.letter_kinds.specs.Counting.{Loaded, receive}
 use Rattle.letter_kinds.specs.Holdings.{Holdings, Row, has_own, held_in, own_in}
 use Rattle.letter_kinds.specs.Sums.{dec_of, inc_of, load_count, times_loaded}
@@ -24,7 +24,7 @@ use Rattle.machine_rules.proofs.Agreeing.{agrees_set}
 use Rattle.machine_rules.proofs.InHand.{take_letter}
 use Rattle.machine_rules.proofs.Paths.{along_row, reach_into, reach_more}
 use Rattle.machine_rules.proofs.RootsLeft.{inc_there}
-use Rattle.machine_rules.proofs.RootsSame.{SameOwn, backed_more, carried_mine, carried_named, carried_owners, own_alike, own_received, own_self, same_rows_more, walks}
+use Rattle.machine_rules.proofs.RootsSame.{SameOwn, carried_mine, carried_named, carried_owners, own_alike, own_received, walks}
 use Rattle.machine_rules.proofs.SeatReads.{letter_App}
 use Rattle.machine_rules.proofs.Seats.{present_below}
 use Rattle.machine_rules.proofs.TakeKeeps.{Alike, alike_lower, alike_put, alike_raise, alike_self, firm_receive, load_there, next_receive, people_after, starts_named, take_put}

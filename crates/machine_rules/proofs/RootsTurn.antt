@@ -1,12 +1,12 @@
 -- With root-only tracing: a turn names what is known, got or made, and the rows that it makes change nothing for others.
-use Rattle.std.proofs.Common.{◌≡◌, ◌≢◌, ◌⊎◌, ℕ, zero, suc, ◌+◌, ◌<◌, ◌≤◌, ◌==◌, ◌&&◌, ◌||◌, not, Bool, true, false, Option, Some, None, is_some, cond, List, [], ◌∷◌, length, set, get_or, drop, Contains, refl, sym, ◌∙◌, ap, arith, subst, inl, inr, ⊎_elim, eq-eqb, ne_eqb, eqb-true}
-use Rattle.std.specs.Prelude.{option_map, sum_by}
+use Rattle.std.proofs.Common.{◌≡◌, ◌≢◌, ◌⊎◌, ℕ, ◌+◌, ◌<◌, ◌≤◌, ◌==◌, Bool, true, false, Option, Some, None, is_some, cond, List, [], ◌∷◌, length, set, get_or, Contains, refl, sym, ◌∙◌, ap, arith, subst, inl, inr, ⊎_elim, eq-eqb, ne_eqb}
+use Rattle.std.specs.Prelude.{sum_by}
 use Rattle.std.specs.List.{find}
 use Rattle.std.specs.FinMap as m
-use Rattle.std.proofs.lemmas.Bool.{cases_Bool, cases_eq, cases_lt, or_parts, false≢true, true≢false}
+use Rattle.std.proofs.lemmas.Bool.{cases_eq, cases_lt, or_parts, true≢false}
 use Rattle.std.proofs.lemmas.List.{get_or_default}
 use Rattle.std.proofs.lemmas.List.Sums.{sum_by-cons}
-use Rattle.orca_names.specs.Names.{owner_of, serial_of}
+use Rattle.orca_names.specs.Names.{owner_of}
 use Rattle.orca_names.specs.declared.names.ObjName.{ObjName}
 use Rattle.orca_names.specs.declared.names.Thing.{Thing}
 use Rattle.orca_names.specs.declared.names.Thing.TheVariants.{Actor, Obj}
@@ -21,7 +21,7 @@ use Rattle.turn_rules.specs.declared.act.Frame.{Frame}
 use Rattle.letter_kinds.proofs.Counts.{has_actor, loaded-same, loaded_more}
 use Rattle.letter_kinds.specs.Counting.{Loaded}
 use Rattle.letter_kinds.specs.Holdings.{Holdings, Row, has_own, held_in, own_in}
-use Rattle.letter_kinds.specs.Sums.{inc_of, load_count, times_loaded}
+use Rattle.letter_kinds.specs.Sums.{load_count, times_loaded}
 use Rattle.letter_kinds.specs.declared.letter.Letter.{Letter}
 use Rattle.letter_kinds.specs.declared.letter.Letter.TheVariants.{App, Inc, Dec, Confirm}
 use Rattle.machine_rules.proofs.Every.{every_but}
@@ -29,21 +29,21 @@ use Rattle.machine_rules.proofs.Going.{Grows, object}
 use Rattle.machine_rules.proofs.InHand.{Balanced, in_hand}
 use Rattle.machine_rules.proofs.Paths.{along_row, reach_into}
 use Rattle.machine_rules.proofs.Receiving.{own_row}
-use Rattle.machine_rules.proofs.RootsLeft.{along_left, known_left, loaded_left, owner_left, reached_left, root_left, walk_left}
-use Rattle.machine_rules.proofs.RootsRows.{own_to_all, rows_agree, rows_sound}
+use Rattle.machine_rules.proofs.RootsLeft.{along_left, loaded_left, owner_left, reached_left, root_left, walk_left}
+use Rattle.machine_rules.proofs.RootsRows.{rows_agree, rows_sound}
 use Rattle.machine_rules.proofs.RootsSame.{backed_more, own_is_none, own_row_has}
-use Rattle.machine_rules.proofs.SeatReads.{letter_App, letter_Confirm, letter_Dec, letter_Inc}
+use Rattle.machine_rules.proofs.SeatReads.{letter_App}
 use Rattle.machine_rules.proofs.Seats.{present_below, some_seat}
-use Rattle.machine_rules.proofs.Segments.{Made, MadeIn, add_rows-below, add_rows-made, add_rows-past, cases_serial, has-made_back, has-made_new, has-made_old, held-made, made_from, own-made}
+use Rattle.machine_rules.proofs.Segments.{Made, add_rows-below, add_rows-made, add_rows-past, cases_serial, has-made_back, has-made_new, has-made_old, held-made, made_from, own-made}
 use Rattle.machine_rules.proofs.TurnKeeps.{turn_put}
 use Rattle.machine_rules.proofs.Turns.{From, Given, NamesOnlyFrom, along_rows, named_given, segment_local, segment_names}
 use Rattle.machine_rules.specs.Actors.{Actors, seat, seat_at}
 use Rattle.machine_rules.specs.Agreement.{Person, person_of}
 use Rattle.machine_rules.specs.Cell.{Cell, own_row_of, row_by_roots}
-use Rattle.machine_rules.specs.Facts.{Every, KeepsCounts}
+use Rattle.machine_rules.specs.Facts.{KeepsCounts}
 use Rattle.machine_rules.specs.Go.{lacks, needed, needs, setting_of, turn_of_cell, turned}
-use Rattle.machine_rules.specs.Known.{InFrame, IsKnown, IsLoadOf, Names, Reaches, RowsAreIn}
-use Rattle.machine_rules.specs.KnownByRoots.{AreRootLetters, IsBacked, IsKnownWithOwner, IsNamedIn, IsRootLetter, IsRootsAt, WalkRoots, by_field, by_frame, by_row, held, mine, named, stands}
+use Rattle.machine_rules.specs.Known.{InFrame, IsKnown, Names, Reaches, RowsAreIn}
+use Rattle.machine_rules.specs.KnownByRoots.{AreRootLetters, IsKnownWithOwner, IsNamedIn, IsRootLetter, IsRootsAt, WalkRoots, by_field, by_frame, by_row, held, mine, named, stands}
 use Rattle.machine_rules.specs.Left.{IsLeft}
 use Rattle.machine_rules.specs.Options as options
 

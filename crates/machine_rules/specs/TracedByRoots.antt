@@ -4,9 +4,8 @@ use Rattle.orca_names.specs.Names.{owner_of}
 use Rattle.orca_names.specs.declared.names.Thing.{Thing}
 use Rattle.letter_kinds.specs.Sums.{inc_of, load_count}
 use Rattle.letter_kinds.specs.declared.letter.Letter.{Letter}
-use Rattle.machine_rules.specs.Actors.{Actors, seat, seat_at}
+use Rattle.machine_rules.specs.Actors.{Actors}
 use Rattle.machine_rules.specs.Balance.{NeverOverdraws, held_sum, load_sum}
-use Rattle.machine_rules.specs.Cell.{Cell}
 use Rattle.machine_rules.specs.Clean.{IsCleanByRootsAt}
 use Rattle.machine_rules.specs.Facts.{Every}
 use Rattle.machine_rules.specs.KnownByRoots.{IsBacked, IsKnownWithOwner, IsNamedIn}
