@@ -19,6 +19,7 @@ use Rattle.machine_rules.specs.Actors.{Seat, cell_at, cell_of, seat, seat_at}
 use Rattle.machine_rules.specs.Agreement.{people_of}
 use Rattle.machine_rules.specs.Cell.{Cell}
 use Rattle.machine_rules.specs.Left.{IsLeft}
+use Rattle.machine_rules.specs.LeftByRoots.{IsReachedOrHeld}
 use Rattle.machine_rules.specs.Next.{IsQuiet}
 use Rattle.machine_rules.specs.PlainReach.{IsReachable}
 use Rattle.machine_rules.specs.Plain.{PlainState, plain_row}
@@ -33,7 +34,7 @@ use Rattle.detector_laws.specs.Quiet as view
 use Rattle.detector_laws.specs.Reports.{IsAsTold, IsReportOf, told_by_kept, told_of}
 use Rattle.machine_laws.proofs.Quieting.{quiet_reached, quiet_world}
 use Rattle.machine_laws.proofs.Seen.{world}
-use Rattle.machine_laws.proofs.WholeRuns.{run_has_deep, run_has_facts}
+use Rattle.machine_laws.proofs.WholeRuns.{run_has_deep, run_has_facts, run_has_roots}
 use Rattle.machine_laws.specs.AllFacts.{AllFacts}
 use Rattle.machine_laws.specs.Laws.{DetectorRests, DetectorRestsAtQuiet, ExactlyAtQuiet, ExactlyAtQuietByRoots, RunsAreTracedByRoots}
 
@@ -69,8 +70,8 @@ exactly_at_quiet program options heavy deep book t run quiet = let facts = run_h
 -- with root-only tracing
 pub traced_by_roots : RunsAreTracedByRoots
 traced_by_roots program options heavy roots book t run =
-    let facts = run_has_facts program options heavy book t run in
-    let all : AllFacts trace.Roots facts.0 t = subst (λ q. AllFacts q facts.0 t) roots facts.2 in
+    let facts = run_has_roots program options heavy roots book t run in
+    let all = facts.2 in
     let counts = all.beside.counts in
     record {
       covered = counts.prefixes;
@@ -79,11 +80,12 @@ traced_by_roots program options heavy roots book t run =
       backed = λ a c mail at x k o h. prefix_backed (thing_row (plain_row facts.0.actors)) t.actors (in_hand t.actors counts.balanced) counts.sound counts.bare x a c mail at o k h;
     }
 
+pub quiet_exact_by_roots : (p : PlainState) (s : State) → AllFacts trace.Roots p s → IsQuiet s → (x : Thing) → IsLeft s.actors x ↔ IsReachedOrHeld p s.actors x
+quiet_exact_by_roots p s facts quiet = exact_by_roots p s.actors facts.beside.counts (facts.marked refl) (quiet_rest s quiet) (all_needed s trace.Roots p facts quiet)
+
 pub quiet_by_roots : ExactlyAtQuietByRoots
 quiet_by_roots program options heavy roots book t run quiet =
-    let facts = run_has_facts program options heavy book t run in
-    let all : AllFacts trace.Roots facts.0 t = subst (λ q. AllFacts q facts.0 t) roots facts.2 in
-    (facts.0, facts.1, exact_by_roots facts.0 t.actors all.beside.counts (all.marked refl) (quiet_rest t quiet) (all_needed t trace.Roots facts.0 all quiet))
+    let facts = run_has_roots program options heavy roots book t run in (facts.0, facts.1, quiet_exact_by_roots facts.0 t facts.2 quiet)
 
 -- ---- the detector
 

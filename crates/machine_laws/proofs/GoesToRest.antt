@@ -7,20 +7,21 @@ use Rattle.letter_kinds.specs.Holdings.{with_made}
 use Rattle.machine_rules.proofs.Enabling.{full}
 use Rattle.machine_rules.proofs.FollowingGo.{plain_went}
 use Rattle.machine_rules.specs.Enabled.{IsRefusedAsFull}
-use Rattle.machine_rules.specs.Go.{turn_of_cell}
+use Rattle.machine_rules.specs.Go.{needed, turn_of_cell}
 use Rattle.machine_rules.specs.Next.{IsQuiet, next}
-use Rattle.machine_rules.specs.Options.{Deep}
+use Rattle.machine_rules.specs.Options.{Deep, Trace}
+use Rattle.machine_rules.specs.Options as trace
 use Rattle.machine_rules.specs.Plain.{PlainState, after_act, stopped_at}
 use Rattle.machine_rules.specs.Plain as plain
 use Rattle.machine_rules.specs.PlainRun.{IsPlainQuiet, outcome_of}
 use Rattle.machine_rules.specs.Run.{Leads, PlainFollows, act_is_choice, choices, choices_after, go_is_choice, go_is_choice_at, is_choice}
 use Rattle.machine_rules.specs.State.{State, Step, NotEnabled, IsFull, Goes}
-use Rattle.machine_laws.proofs.AtQuiet.{quiet_exact}
+use Rattle.machine_laws.proofs.AtQuiet.{quiet_exact, quiet_exact_by_roots}
 use Rattle.machine_laws.proofs.Calm.{IsCalm, some_or_none}
 use Rattle.machine_laws.proofs.ComesToRest.{event_leaves_less}
-use Rattle.machine_laws.proofs.WholeRuns.{event_keeps, run_has_deep}
+use Rattle.machine_laws.proofs.WholeRuns.{event_keeps, run_has_deep, run_has_roots}
 use Rattle.machine_laws.specs.AllFacts.{AllFacts}
-use Rattle.machine_laws.specs.Laws.{AwaitsChoices, GarbageIsGone, RunsCanRest}
+use Rattle.machine_laws.specs.Laws.{AwaitsChoices, GarbageIsGone, GarbageIsGoneByRoots, RunsCanRest}
 use Rattle.machine_laws.specs.Work.{work_left}
 
 -- ---- events that are no choice, as long as there are some
@@ -67,10 +68,10 @@ waits s none e enabled = by_step (next s e) refl
 -- ---- where the plain machine is quiet
 
 -- it could go too, where a go is refused as full
-plain_refused : (p : PlainState) (s : State) (e : Event) → AllFacts Deep p s → IsRefusedAsFull s e → outcome_of p e ≡ plain.NotEnabled → ⊥
-plain_refused p s e facts r off =
-    let stop = turn_of_cell Deep s.program r.actor r.cell r.frame in
-    let went = plain_went Deep p s facts.beside r.actor r.cell r.mail r.present r.frame r.framed refl in
+plain_refused : (trace : Trace) (p : PlainState) (s : State) (e : Event) → AllFacts trace p s → IsRefusedAsFull s e → outcome_of p e ≡ plain.NotEnabled → ⊥
+plain_refused trace p s e facts r off =
+    let stop = turn_of_cell trace s.program r.actor r.cell r.frame in
+    let went = plain_went trace p s facts.beside r.actor r.cell r.mail r.present r.frame r.framed (sym (ap (λ q. needed q s.program r.actor r.cell r.frame) facts.beside.mode) ∙ r.held) in
     let act = ap (after_act p r.actor (stopped_at r.frame stop) stop.turn.fields stop.turn.made) (sym (ap (λ q. (turn_of_cell q s.program r.actor r.cell r.frame).act) facts.beside.mode) ∙ r.makes) in
     not_off _ (nat_lt (length p.actors) 65536) (sym (went ∙ act) ∙ (ap (outcome_of p) (sym r.is_go) ∙ off))
   where
@@ -78,15 +79,15 @@ plain_refused p s e facts r off =
     not_off u true e = cc
     not_off u false e = cc
 
-quiet_too : (p : PlainState) (s : State) → AllFacts Deep p s → AwaitsChoices s → IsPlainQuiet p → IsQuiet s
-quiet_too p s facts awaits quiet e = by_step (next s e) refl
+quiet_too : (trace : Trace) (p : PlainState) (s : State) → AllFacts trace p s → AwaitsChoices s → IsPlainQuiet p → IsQuiet s
+quiet_too trace p s facts awaits quiet e = by_step (next s e) refl
   where
     by_step : (step : Step) → next s e ≡ step → next s e ≡ NotEnabled
     by_step NotEnabled off = off
-    by_step IsFull is = absurd (plain_refused p s e facts (full s e is) (quiet e))
+    by_step IsFull is = absurd (plain_refused trace p s e facts (full s e is) (quiet e))
     by_step (Goes t) goes =
         let chosen = awaits e (λ off. let same : NotEnabled ≡ Goes t = sym off ∙ goes in cc) in
-        let after = event_keeps Deep p s t e facts goes in
+        let after = event_keeps trace p s t e facts goes in
         let follows : outcome_of p e ≡ plain.Goes after.0 = subst (λ choice. PlainFollows choice p e after.0) chosen after.1 in
         let same : plain.NotEnabled ≡ plain.Goes after.0 = sym (quiet e) ∙ follows in cc
 
@@ -101,4 +102,10 @@ runs_can_rest program options heavy deep book s run =
 pub garbage_is_gone : GarbageIsGone
 garbage_is_gone program options heavy deep book t run awaits =
     let facts = run_has_deep program options heavy deep book t run in
-    (facts.0, facts.1, λ quiet. let rest = quiet_too facts.0 t facts.2 awaits quiet in (rest, quiet_exact facts.0 t facts.2 rest))
+    (facts.0, facts.1, λ quiet. let rest = quiet_too Deep facts.0 t facts.2 awaits quiet in (rest, quiet_exact facts.0 t facts.2 rest))
+
+-- with root-only tracing
+pub garbage_is_gone_by_roots : GarbageIsGoneByRoots
+garbage_is_gone_by_roots program options heavy roots book t run awaits =
+    let facts = run_has_roots program options heavy roots book t run in
+    (facts.0, facts.1, λ quiet. let rest = quiet_too trace.Roots facts.0 t facts.2 awaits quiet in (rest, quiet_exact_by_roots facts.0 t facts.2 rest))

@@ -17,7 +17,7 @@ use Rattle.machine_rules.proofs.Starting as starting
 use Rattle.machine_rules.specs.Agreement.{people_of}
 use Rattle.machine_rules.specs.Left.{IsLeft}
 use Rattle.machine_rules.specs.Next.{next}
-use Rattle.machine_rules.specs.Options.{Deep, Options, Trace}
+use Rattle.machine_rules.specs.Options.{Deep, Options, Roots, Trace}
 use Rattle.machine_rules.specs.Plain.{PlainState, plain_row, start_of}
 use Rattle.machine_rules.specs.PlainReach.{IsReachable}
 use Rattle.machine_rules.specs.Run.{IsPlainBeside, IsRun, Leads, PlainFollows, PlainLeads, choices, choices_after, is_choice}
@@ -88,6 +88,10 @@ run_has_facts program options heavy book t run = leads_on options.trace book (st
 -- with deep tracing
 pub run_has_deep : (program : Program) (options : Options) → 0 < options.weight → options.trace ≡ Deep → (book : List Event) (t : State) → IsRun program options book t → (p : PlainState) × IsPlainBeside program options book p × AllFacts Deep p t
 run_has_deep program options heavy deep book t run = let facts = run_has_facts program options heavy book t run in (facts.0, facts.1, subst (λ q. AllFacts q facts.0 t) deep facts.2)
+
+-- with root-only tracing
+pub run_has_roots : (program : Program) (options : Options) → 0 < options.weight → options.trace ≡ Roots → (book : List Event) (t : State) → IsRun program options book t → (p : PlainState) × IsPlainBeside program options book p × AllFacts Roots p t
+run_has_roots program options heavy roots book t run = let facts = run_has_facts program options heavy book t run in (facts.0, facts.1, subst (λ q. AllFacts q facts.0 t) roots facts.2)
 
 -- ---- prefixes
 

@@ -120,3 +120,8 @@ RunsCanRest = (program : Program) (options : Options) → 0 < options.weight →
 abbrev pub GarbageIsGone : Type 0
 GarbageIsGone = (program : Program) (options : Options) → 0 < options.weight → options.trace ≡ Deep → (book : List Event) (t : State) → IsRun program options book t → AwaitsChoices t →
     (p : PlainState) × IsPlainBeside program options book p × (IsPlainQuiet p → IsQuiet t × ((x : Thing) → IsLeft t.actors x ↔ IsReachable p x))
+
+-- with root-only tracing, exactly what is reached or held
+abbrev pub GarbageIsGoneByRoots : Type 0
+GarbageIsGoneByRoots = (program : Program) (options : Options) → 0 < options.weight → options.trace ≡ Roots → (book : List Event) (t : State) → IsRun program options book t → AwaitsChoices t →
+    (p : PlainState) × IsPlainBeside program options book p × (IsPlainQuiet p → IsQuiet t × ((x : Thing) → IsLeft t.actors x ↔ IsReachedOrHeld p t.actors x))

@@ -1,6 +1,6 @@
 // What holds of every program, every run and each of its prefixes.
 
-ghost use Rattle.machine_laws.specs.Laws.{StartHasAllFacts, EventsKeepAllFacts, RunsHaveAllFacts, NeverTooEarly, ExactlyAtQuiet, ExactlyAtQuietByRoots, RunsAreTracedByRoots, DetectorRestsAtQuiet, EventsLeaveLess, RestsBetweenChoices, RunsCanRest, GarbageIsGone};
+ghost use Rattle.machine_laws.specs.Laws.{StartHasAllFacts, EventsKeepAllFacts, RunsHaveAllFacts, NeverTooEarly, ExactlyAtQuiet, ExactlyAtQuietByRoots, RunsAreTracedByRoots, DetectorRestsAtQuiet, EventsLeaveLess, RestsBetweenChoices, RunsCanRest, GarbageIsGone, GarbageIsGoneByRoots};
 
 /// Where a run begins, all facts hold: the machine agrees with the one that frees nothing, counts
 /// balance and are never overdrawn, each actor knows what it reaches, clean cells are swept, and
@@ -59,8 +59,10 @@ pub fn the_machine_comes_to_rest()
 
 /// Garbage goes: each run can go on, without a choice, to a state in which only choices are enabled.
 /// Where the program has come to its end in such a state, which is where the machine that frees nothing
-/// is quiet, no event is enabled, and exactly what is reachable is left.
+/// is quiet, no event is enabled, and exactly what is reachable is left; with root-only tracing, what the
+/// law at quiet says.
 pub fn garbage_goes()
     ensures rest { RunsCanRest }
     ensures gone { GarbageIsGone }
+    ensures roots { GarbageIsGoneByRoots }
 {}
