@@ -30,7 +30,7 @@ use Rattle.machine_rules.proofs.PostKeeps.{mint_keeps_counts, post_keeps_counts,
 use Rattle.machine_rules.proofs.TakeKeeps.{next_held}
 use Rattle.machine_rules.proofs.TurnKeeps.{turn_keeps_counts}
 use Rattle.machine_rules.proofs.Lacking.{counted_mint, first_minted, to_mint_theirs}
-use Rattle.machine_rules.proofs.Loads.{load_from-exact, load_from-once}
+use Rattle.machine_rules.proofs.Loads.{load_from-exact}
 use Rattle.machine_rules.proofs.Makes.{IsFresh, fresh_held}
 use Rattle.machine_rules.proofs.Naming.{nulls_name_nothing}
 use Rattle.machine_rules.proofs.PlainSide.{StandsAt, objects_grow, objects_kept, objects_pushed, people-push, people-set, rows_grow, rows_kept, rows_pushed, same_rows, stands_at, stands_beside}
@@ -257,7 +257,7 @@ module _ (p : PlainState) (s : State) (facts : Facts p s) (a : ℕ) (c : Cell) (
 
     posted_kept : lacking a c1.holdings load ≡ [] → KeepsCounts all' (set turned_people to (with_letter b args (person_at turned_people to))) (post a c1 ls to b args load [] s.actors)
     posted_kept full =
-        let one = post_keeps_counts all' turned_people s1 kept1 a c1 ls at1 to b args load [] exact1 (load_from-once a c1.holdings args) load_known target_known full in
+        let one = post_keeps_counts all' turned_people s1 kept1 a c1 ls at1 to b args load [] exact1 load_known target_known full in
         let same : set turned_people a (person_of sender ls) ≡ turned_people =
         set-set (people_of p.actors) a (person_of c1 ls) (person_of sender ls) ∙ ap (set (people_of p.actors) a) (ap (λ next. record (person_of c1 ls) { serial = next }) (next_send a load c1.holdings)) in
         let two : KeepsCounts all' (set turned_people to (with_letter b args (person_at turned_people to))) (post a c1 ls to b args load [] s1) =

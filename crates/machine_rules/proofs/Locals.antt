@@ -17,7 +17,6 @@ use Rattle.letter_kinds.specs.declared.letter.Letter.TheVariants.{App, Inc, Dec,
 use Rattle.letter_kinds.specs.declared.note.Note.{Note}
 use Rattle.letter_kinds.specs.Counting.{Loaded, by_owner, gain, given_back, lacking, mint_all, send, sweep, to_mint}
 use Rattle.letter_kinds.specs.Detector.{Token, all_acked, closed_set, token_numbered}
-use Rattle.letter_kinds.specs.Holdings.{held_in}
 use Rattle.letter_kinds.specs.Sums.{amount_of}
 use Rattle.machine_rules.specs.Actors.{Actors, Seat, seat, seat_at, push_letter}
 use Rattle.machine_rules.specs.Block.{block_at, block_in, may_block}

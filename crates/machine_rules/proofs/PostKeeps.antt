@@ -1,5 +1,5 @@
 -- Posting a letter, and minting, keep all that is kept of the counts.
-use Rattle.std.proofs.Common.{◌≡◌, ◌≢◌, ℕ, ◌+◌, ◌-◌, ◌<◌, ◌≤◌, ◌==◌, cond, Bool, true, false, Option, List, [], ◌∷◌, length, set, refl, sym, ◌∙◌, arith, ⊎_elim, length-set}
+use Rattle.std.proofs.Common.{◌≡◌, ◌≢◌, ℕ, ◌+◌, ◌-◌, ◌<◌, ◌==◌, cond, Bool, true, false, Option, List, [], ◌∷◌, length, set, refl, sym, ◌∙◌, arith, ⊎_elim, length-set}
 use Rattle.std.proofs.lemmas.Bool.{cases_eq}
 use Rattle.std.specs.FinMap as m
 use Rattle.orca_names.specs.Names.{owner_of}
@@ -62,13 +62,13 @@ firm_send me (e ∷ es) c enough firm = firm_send me es (send_one me e c) later 
 
 module _ (all : Thing → Option Row) (ps : List Person) (s : Actors) (inv : KeepsCounts all ps s)
     (a : ℕ) (c : Cell) (ls : List Letter) (at : seat_at s a ≡ seat c ls)
-    (to b : ℕ) (args : List Value) (load rows : List Loaded) (exact : IsLoadOf all args load) (once : (x : Thing) → times_loaded x load ≤ 1)
+    (to b : ℕ) (args : List Value) (load rows : List Loaded) (exact : IsLoadOf all args load)
     (known : (x : Thing) → 0 < times_loaded x load → IsKnown a c.holdings x) (known_to : IsKnown a c.holdings (Actor to)) (full : lacking a c.holdings load ≡ []) where
   held_load : (x : Thing) → owner_of x ≢ a → 0 < times_loaded x load → 0 < held_in c.holdings x
   held_load x o h = ⊎_elim (λ own. absurd (o own.0)) (λ other. other.1) (known x h)
 
   enough : Enough a load c.holdings
-  enough x o h = some_load (times_loaded x load) (held_in c.holdings x) (once x) (held_load x o h) (one_or_more a c.holdings x o (filter_none (is_lacking a c.holdings) x load full h)) h
+  enough x o h = some_load (times_loaded x load) (held_in c.holdings x) (exact.once x) (held_load x o h) (one_or_more a c.holdings x o (filter_none (is_lacking a c.holdings) x load full h)) h
 
   has_load : (x : Thing) → owner_of x ≡ a → 0 < times_loaded x load → has_own c.holdings x ≡ true
   has_load x o h = ⊎_elim (λ own. own.1) (λ other. absurd (other.0 o)) (known x h)
