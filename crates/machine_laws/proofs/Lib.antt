@@ -5,6 +5,7 @@ pub mod Blocking
 pub mod Calm
 pub mod Collecting
 pub mod ComesToRest
+pub mod Counting
 pub mod GoesToRest
 pub mod Going
 pub mod HeldActors

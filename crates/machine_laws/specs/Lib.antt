@@ -1,3 +1,4 @@
 pub mod AllFacts
+pub mod Bounds
 pub mod Laws
 pub mod Work

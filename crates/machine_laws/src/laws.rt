@@ -1,5 +1,6 @@
 // What holds of every program, every run and each of its prefixes.
 
+ghost use Rattle.machine_laws.specs.Bounds.{RunsCountAtMost, RunsCountInFewBits};
 ghost use Rattle.machine_laws.specs.Laws.{StartHasAllFacts, EventsKeepAllFacts, RunsHaveAllFacts, NeverTooEarly, ExactlyAtQuiet, DetectorRestsAtQuiet, EventsLeaveLess, RestsBetweenChoices, RunsCanRest, GarbageIsGone};
 
 /// Where a run begins, all facts hold: the machine agrees with the one that frees nothing, counts
@@ -54,4 +55,12 @@ pub fn the_machine_comes_to_rest()
 pub fn garbage_goes()
     ensures rest { RunsCanRest }
     ensures gone { GarbageIsGone }
+{}
+
+/// After a run of n events no count, and no sum of the balance, is above n times the weight. So with
+/// at most 100,000,000 events, and a weight of at most 65,536, each fits 43 bits, and so does the
+/// number of tokens that were opened.
+pub fn counts_stay_small()
+    ensures weights { RunsCountAtMost }
+    ensures bits { RunsCountInFewBits }
 {}

@@ -225,7 +225,7 @@ module _ (p : PlainState) (s : State) (facts : Facts p s) (a : ℕ) (c : Cell) (
         prints = facts.prints;
         objects = objects_pushed actors mine refl ∙ objects_more nf;
         weight = facts.weight;
-      deep = facts.deep;
+        deep = facts.deep;
       })
 
   -- ---- a letter
@@ -298,7 +298,7 @@ module _ (p : PlainState) (s : State) (facts : Facts p s) (a : ℕ) (c : Cell) (
           prints = facts.prints;
           objects = objects_kept actors to receiver.actor receiver.there lettered refl ∙ objects_more (Some stopped);
           weight = facts.weight;
-      deep = facts.deep;
+          deep = facts.deep;
         })
 
     -- ---- minting

@@ -1,5 +1,7 @@
 pub mod Acting
 pub mod Agreeing
+pub mod Bounding
+pub mod Cases
 pub mod Changing
 pub mod Cleaning
 pub mod CollectKeeps
@@ -30,6 +32,7 @@ pub mod Naming
 pub mod Needs
 pub mod NoSelf
 pub mod ObjectsAtQuiet
+pub mod Once
 pub mod OneRun
 pub mod Paths
 pub mod Places

@@ -2,6 +2,7 @@ pub mod Actors
 pub mod Agreement
 pub mod Balance
 pub mod Block
+pub mod Bounds
 pub mod Cell
 pub mod Clean
 pub mod Collect

@@ -1,5 +1,6 @@
 // What the machine that collects keeps beside the machine that frees nothing.
 
+ghost use Rattle.machine_rules.specs.Bounds.{EventsOpenOneToken, EventsRaiseByTheWeight, RunsCountByTheWeight, RunsOpenNoMoreTokens};
 ghost use Rattle.machine_rules.specs.Laws.{StartHasFacts, TakesKeepFacts, GoesKeepFacts, CollectsKeepFacts, LeavesKeepFacts, CleanStaySwept, NoneGetsItsOwn, RunsLeadToOneState, RunsEndInOneWay, EnabledExactly, FullExactly};
 
 /// Where a run begins, both machines agree, and the counts are kept.
@@ -44,4 +45,17 @@ pub fn a_run_ends_in_one_way()
 pub fn events_are_enabled_exactly()
     ensures enabled { EnabledExactly }
     ensures full { FullExactly }
+{}
+
+/// What an owner counts of a thing, with the increments under way, rises by the weight at most with each
+/// event. So after a run it is at most the weight times the number of events.
+pub fn counts_rise_by_the_weight()
+    ensures event { EventsRaiseByTheWeight }
+    ensures run { RunsCountByTheWeight }
+{}
+
+/// No more tokens are opened than there are events.
+pub fn events_open_one_token()
+    ensures event { EventsOpenOneToken }
+    ensures run { RunsOpenNoMoreTokens }
 {}
