@@ -19,6 +19,7 @@ pub mod Scanning
 pub mod Sealing
 pub mod Seen
 pub mod Starting
+pub mod StayingFreed
 pub mod Stepping
 pub mod TableWork
 pub mod Taking

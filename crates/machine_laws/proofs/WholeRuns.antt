@@ -89,7 +89,7 @@ prefix_leads : (book later : List Event) (s t : State) → Leads s (book ++ late
 prefix_leads [] later s t leads = (s, refl)
 prefix_leads (e ∷ book) later s t leads = let rest = prefix_leads book later leads.0 t leads.2 in (rest.0, (leads.0, leads.1, rest.1))
 
-reachable_left : (p : PlainState) (s : State) → AllFacts p s → (x : Thing) → IsReachable p x → IsLeft s.actors x
+pub reachable_left : (p : PlainState) (s : State) → AllFacts p s → (x : Thing) → IsReachable p x → IsLeft s.actors x
 reachable_left p s facts x r =
     let counts = facts.beside.counts in
     lives_left (thing_row (plain_row p.actors)) (people_of p.actors) s.actors (in_hand s.actors counts.balanced) counts.prefixes counts.sound counts.agrees x (reachable_lives p r)

@@ -1,4 +1,5 @@
 pub mod AllFacts
 pub mod Bounds
+pub mod Freed
 pub mod Laws
 pub mod Work

@@ -1,6 +1,7 @@
 // What holds of every program, every run and each of its prefixes.
 
 ghost use Rattle.machine_laws.specs.Bounds.{RunsCountAtMost, RunsCountInFewBits};
+ghost use Rattle.machine_laws.specs.Freed.{FreedStaysFreed};
 ghost use Rattle.machine_laws.specs.Laws.{StartHasAllFacts, EventsKeepAllFacts, RunsHaveAllFacts, NeverTooEarly, ExactlyAtQuiet, DetectorRestsAtQuiet, EventsLeaveLess, RestsBetweenChoices, RunsCanRest, GarbageIsGone};
 
 /// Where a run begins, all facts hold: the machine agrees with the one that frees nothing, counts
@@ -63,4 +64,10 @@ pub fn garbage_goes()
 pub fn counts_stay_small()
     ensures weights { RunsCountAtMost }
     ensures bits { RunsCountInFewBits }
+{}
+
+/// What was freed stays freed: whatever an event of a run freed, after the whole run it is not there, and
+/// the machine that frees nothing does not reach it.
+pub fn freed_stays_freed()
+    ensures { FreedStaysFreed }
 {}

@@ -12,6 +12,7 @@ pub mod Finite
 pub mod Following
 pub mod FollowingGo
 pub mod Follows
+pub mod Forgotten
 pub mod Freed
 pub mod Global
 pub mod Going
@@ -54,6 +55,7 @@ pub mod Sending
 pub mod Sends
 pub mod Slices
 pub mod Starting
+pub mod Staying
 pub mod Steps
 pub mod Sweeping
 pub mod Sweeps

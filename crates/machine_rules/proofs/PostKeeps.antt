@@ -121,7 +121,7 @@ unfolding mint_all
 firm_mint [] c pos firm = firm
 firm_mint (e ∷ es) c pos firm = firm_mint es (mint_one e c) pos.1 (firm_set_held (λ h. h + e.1) e.0 (entry_row (m.get c.foreign e.0)) c (let z = pos.0 in omega arith) firm)
 
-next_mint : (es : List Amount) (c : Holdings) → (mint_all es c).next ≡ c.next
+pub next_mint : (es : List Amount) (c : Holdings) → (mint_all es c).next ≡ c.next
 unfolding mint_all
 next_mint [] c = refl
 next_mint (e ∷ es) c = next_mint es _ ∙ next_held (λ h. h + e.1) e.0 (entry_row (m.get c.foreign e.0)) c

@@ -143,7 +143,7 @@ next_receive me (e ∷ es) c = next_receive me es _ ∙ next_one me e c (owner_o
 
 -- ---- registers with which a behaviour starts name what the arguments name
 
-starts_named : (program : Program) (kind : ℕ) (letter : PlainLetter) (x : Thing) → InFrame (frame_of program kind letter) x → Names letter.args x
+pub starts_named : (program : Program) (kind : ℕ) (letter : PlainLetter) (x : Thing) → InFrame (frame_of program kind letter) x → Names letter.args x
 starts_named program kind letter x = by_place (position (takes_call letter.behaviour (length letter.args)) (behaviours_of program kind))
   where
     by_place : (found : Option ℕ) → InFrame (option_map (λ b. record { kind = kind; behaviour = b; place = 0; registers = registers_of letter.args }) found) x → Names letter.args x

@@ -12,6 +12,7 @@ pub mod Ends
 pub mod Examples
 pub mod Facts
 pub mod Go
+pub mod Gone
 pub mod Known
 pub mod Laws
 pub mod Leave

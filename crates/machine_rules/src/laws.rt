@@ -1,6 +1,7 @@
 // What the machine that collects keeps beside the machine that frees nothing.
 
 ghost use Rattle.machine_rules.specs.Bounds.{EventsOpenOneToken, EventsRaiseByTheWeight, RunsCountByTheWeight, RunsOpenNoMoreTokens};
+ghost use Rattle.machine_rules.specs.Gone.{ForgottenStaysForgotten, GoneStaysGone};
 ghost use Rattle.machine_rules.specs.Laws.{StartHasFacts, TakesKeepFacts, GoesKeepFacts, CollectsKeepFacts, LeavesKeepFacts, CleanStaySwept, NoneGetsItsOwn, RunsLeadToOneState, RunsEndInOneWay, EnabledExactly, FullExactly};
 
 /// Where a run begins, both machines agree, and the counts are kept.
@@ -58,4 +59,12 @@ pub fn counts_rise_by_the_weight()
 pub fn events_open_one_token()
     ensures event { EventsOpenOneToken }
     ensures run { RunsOpenNoMoreTokens }
+{}
+
+/// Gone stays gone. In the machine that frees nothing, what was made and is not reachable never becomes
+/// reachable again. In the machine that collects, what was there and is not left never comes back, since
+/// names are never used again.
+pub fn gone_stays_gone()
+    ensures forgotten { ForgottenStaysForgotten }
+    ensures gone { GoneStaysGone }
 {}
