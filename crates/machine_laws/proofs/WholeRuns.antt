@@ -12,6 +12,7 @@ use Rattle.machine_rules.proofs.Freed.{lives_left}
 use Rattle.machine_rules.proofs.InHand.{in_hand}
 use Rattle.machine_rules.proofs.Named.{named_left}
 use Rattle.machine_rules.proofs.NoSelf.{no_self-first, no_self-next}
+use Rattle.machine_rules.proofs.OwnLetters.{runs_name_own}
 use Rattle.machine_rules.proofs.Reachable.{reachable_lives}
 use Rattle.machine_rules.proofs.Starting as starting
 use Rattle.machine_rules.specs.Agreement.{people_of}
@@ -105,7 +106,7 @@ never_early program options heavy deep book s run =
       covered = facts.2.beside.counts.prefixes;
       left = reachable_left facts.0 s facts.2;
       freed = λ x gone r. gone.1 (reachable_left facts.0 s facts.2 x r);
-      named = named_left (thing_row (plain_row facts.0.actors)) (people_of facts.0.actors) s.actors facts.2.beside.counts;
+      named = named_left (thing_row (plain_row facts.0.actors)) (people_of facts.0.actors) s.actors facts.2.beside.counts (runs_name_own program options book s run);
     }
 
 pub never_too_early : NeverTooEarly

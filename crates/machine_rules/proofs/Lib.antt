@@ -35,6 +35,7 @@ pub mod NoSelf
 pub mod ObjectsAtQuiet
 pub mod Once
 pub mod OneRun
+pub mod OwnLetters
 pub mod Paths
 pub mod Places
 pub mod PlainGrowth
@@ -53,6 +54,7 @@ pub mod Seats
 pub mod Segments
 pub mod Sending
 pub mod Sends
+pub mod Shares
 pub mod Slices
 pub mod Starting
 pub mod Staying

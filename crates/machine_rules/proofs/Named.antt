@@ -9,12 +9,14 @@ use Rattle.letter_kinds.specs.Sums.{dec_of, inc_of}
 use Rattle.letter_kinds.specs.declared.letter.Letter.{Letter}
 use Rattle.machine_rules.proofs.Freed.{counted_at, known_left, loaded_left}
 use Rattle.machine_rules.proofs.InHand.{in_hand}
+use Rattle.machine_rules.proofs.OwnLetters.{decs_own, incs_own}
 use Rattle.machine_rules.proofs.SeatReads.{decs_at-seat, incs_at-seat}
 use Rattle.machine_rules.specs.Actors.{Actors, seat, seat_at}
 use Rattle.machine_rules.specs.Agreement.{Person}
 use Rattle.machine_rules.specs.Balance.{decs_at, incs_at, own_at, owner_seat}
 use Rattle.machine_rules.specs.Cell.{Cell}
 use Rattle.machine_rules.specs.Facts.{KeepsCounts}
+use Rattle.machine_rules.specs.Letters.{LettersNameTheirOwn}
 use Rattle.machine_rules.specs.Left.{IsLeft, NamesNothingFreed, by_dec, by_inc, by_load, by_root}
 
 module _ (all : Thing → Option Row) (people : List Person) (s : Actors) (counts : KeepsCounts all people s) where
@@ -36,8 +38,8 @@ module _ (all : Thing → Option Row) (people : List Person) (s : Actors) (count
         let some : 0 < decs_at x (owner_seat s x) = subst (λ o. 0 < decs_at x o) (sym here) (let i = decs_at-seat x c mail in omega arith) in
         counted x (let b = counts.balanced x in omega arith)
 
-  pub named_left : NamesNothingFreed s
-  named_left a c mail at x (by_root r) = known_left s (in_hand s counts.balanced) counts.prefixes a c mail x at ((counts.sound a c mail at).closed x (root r))
-  named_left a c mail at x (by_load h) = loaded_left s (in_hand s counts.balanced) counts.prefixes a c mail x at h
-  named_left a c mail at x (by_inc own h) = raised_left a c mail at x own h
-  named_left a c mail at x (by_dec own h) = lowered_left a c mail at x own h
+  pub named_left : LettersNameTheirOwn s → NamesNothingFreed s
+  named_left own a c mail at x (by_root r) = known_left s (in_hand s counts.balanced) counts.prefixes a c mail x at ((counts.sound a c mail at).closed x (root r))
+  named_left own a c mail at x (by_load h) = loaded_left s (in_hand s counts.balanced) counts.prefixes a c mail x at h
+  named_left own a c mail at x (by_inc h) = raised_left a c mail at x (incs_own a mail (own a c mail at) x h) h
+  named_left own a c mail at x (by_dec h) = lowered_left a c mail at x (decs_own a mail (own a c mail at) x h) h

@@ -29,7 +29,7 @@ same y = y
 one_more : (x y : Thing) (ys : List Thing) → x ≡ y → times_in same x (y ∷ ys) ≡ 1 + times_in same x ys
 one_more x y ys is = sum_by-cons (λ e. if is_thing x e then 1 else 0) y ys ∙ rw (is_eq_true x y is) refl
 
-none_more : (x y : Thing) (ys : List Thing) → (x ≡ y → ⊥) → times_in same x (y ∷ ys) ≡ times_in same x ys
+pub none_more : (x y : Thing) (ys : List Thing) → (x ≡ y → ⊥) → times_in same x (y ∷ ys) ≡ times_in same x ys
 none_more x y ys not = sum_by-cons (λ e. if is_thing x e then 1 else 0) y ys ∙ rw (is_ne_false x y not) (omega arith)
 
 absent_none : (x : Thing) (ys : List Thing) → (Contains ys x → ⊥) → times_in same x ys ≡ 0
@@ -60,7 +60,7 @@ pub load_once : (trace : Trace) (me : ℕ) (h : Holdings) (args : List Value) (x
 load_once Deep me h args x = (load_from-exact me h args).once x
 load_once Roots me h args x = roots_once args x
 
-times_all : (x : Thing) (es : List Loaded) → times_in (λ (e : Loaded). e.0) x es ≡ times_loaded x es
+pub times_all : (x : Thing) (es : List Loaded) → times_in (λ (e : Loaded). e.0) x es ≡ times_loaded x es
 unfolding times_loaded
 times_all x es = refl
 

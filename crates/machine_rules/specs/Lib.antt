@@ -17,6 +17,7 @@ pub mod Known
 pub mod Laws
 pub mod Leave
 pub mod Left
+pub mod Letters
 pub mod Lists
 pub mod Next
 pub mod Options

@@ -2,6 +2,7 @@
 
 ghost use Rattle.machine_rules.specs.Bounds.{EventsOpenOneToken, EventsRaiseByTheWeight, RunsCountByTheWeight, RunsOpenNoMoreTokens};
 ghost use Rattle.machine_rules.specs.Gone.{ForgottenStaysForgotten, GoneStaysGone};
+ghost use Rattle.machine_rules.specs.Letters.{EventsKeepNamesOwn, RunsNameOwn, StartNamesOwn};
 ghost use Rattle.machine_rules.specs.Laws.{StartHasFacts, TakesKeepFacts, GoesKeepFacts, CollectsKeepFacts, LeavesKeepFacts, CleanStaySwept, NoneGetsItsOwn, RunsLeadToOneState, RunsEndInOneWay, EnabledExactly, FullExactly};
 
 /// Where a run begins, both machines agree, and the counts are kept.
@@ -67,4 +68,12 @@ pub fn events_open_one_token()
 pub fn gone_stays_gone()
     ensures forgotten { ForgottenStaysForgotten }
     ensures gone { GoneStaysGone }
+{}
+
+/// Letters name only their own: an increment or a decrement that waits for an actor names things of this
+/// actor alone, each once.
+pub fn letters_name_their_own()
+    ensures start { StartNamesOwn }
+    ensures event { EventsKeepNamesOwn }
+    ensures run { RunsNameOwn }
 {}
