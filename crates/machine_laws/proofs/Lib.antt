@@ -6,6 +6,7 @@ pub mod Calm
 pub mod Collecting
 pub mod ComesToRest
 pub mod Counting
+pub mod Done
 pub mod GoesToRest
 pub mod Going
 pub mod HeldActors

@@ -2,4 +2,5 @@ pub mod AllFacts
 pub mod Bounds
 pub mod Freed
 pub mod Laws
+pub mod Reaps
 pub mod Work

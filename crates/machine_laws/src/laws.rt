@@ -3,6 +3,7 @@
 ghost use Rattle.machine_laws.specs.Bounds.{RunsCountAtMost, RunsCountInFewBits};
 ghost use Rattle.machine_laws.specs.Freed.{FreedStaysFreed};
 ghost use Rattle.machine_laws.specs.Laws.{StartHasAllFacts, EventsKeepAllFacts, RunsHaveAllFacts, NeverTooEarly, ExactlyAtQuiet, DetectorRestsAtQuiet, EventsLeaveLess, RestsBetweenChoices, RunsCanRest, GarbageIsGone};
+ghost use Rattle.machine_laws.specs.Reaps.{ReapsTakeTheDone, RunsReapTheDone};
 
 /// Where a run begins, all facts hold: the machine agrees with the one that frees nothing, counts
 /// balance and are never overdrawn, each actor knows what it reaches, clean cells are swept, and
@@ -70,4 +71,11 @@ pub fn counts_stay_small()
 /// the machine that frees nothing does not reach it.
 pub fn freed_stays_freed()
     ensures { FreedStaysFreed }
+{}
+
+/// A reap is enabled only on a sealed token: its members are present and reported, and have nothing to
+/// do and no letter. So no event of theirs is enabled.
+pub fn reaps_take_the_done()
+    ensures state { ReapsTakeTheDone }
+    ensures run { RunsReapTheDone }
 {}

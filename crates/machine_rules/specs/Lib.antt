@@ -1,5 +1,6 @@
 pub mod Actors
 pub mod Agreement
+pub mod Apart
 pub mod Balance
 pub mod Block
 pub mod Bounds
