@@ -9,6 +9,7 @@ pub mod Enabling
 pub mod Every
 pub mod ExampleRuns
 pub mod Finite
+pub mod Firsts
 pub mod Following
 pub mod FollowingGo
 pub mod Follows
@@ -35,6 +36,7 @@ pub mod NoSelf
 pub mod ObjectsAtQuiet
 pub mod Once
 pub mod OneRun
+pub mod Ordered
 pub mod OwnLetters
 pub mod Paths
 pub mod Places

@@ -12,6 +12,7 @@ pub mod Enabled
 pub mod Ends
 pub mod Examples
 pub mod Facts
+pub mod First
 pub mod Go
 pub mod Gone
 pub mod Known

@@ -1,6 +1,7 @@
 // What the machine that collects keeps beside the machine that frees nothing.
 
 ghost use Rattle.machine_rules.specs.Bounds.{EventsOpenOneToken, EventsRaiseByTheWeight, RunsCountByTheWeight, RunsOpenNoMoreTokens};
+ghost use Rattle.machine_rules.specs.First.{NoneIsFirstAtQuiet, OneIsFirst, QuietOrFirst};
 ghost use Rattle.machine_rules.specs.Gone.{ForgottenStaysForgotten, GoneStaysGone};
 ghost use Rattle.machine_rules.specs.Letters.{EventsKeepNamesOwn, RunsNameOwn, StartNamesOwn};
 ghost use Rattle.machine_rules.specs.Laws.{StartHasFacts, TakesKeepFacts, GoesKeepFacts, CollectsKeepFacts, LeavesKeepFacts, CleanStaySwept, NoneGetsItsOwn, RunsLeadToOneState, RunsEndInOneWay, EnabledExactly, FullExactly};
@@ -76,4 +77,11 @@ pub fn letters_name_their_own()
     ensures start { StartNamesOwn }
     ensures event { EventsKeepNamesOwn }
     ensures run { RunsNameOwn }
+{}
+
+/// A state is quiet, or one event comes first in the one-worker order, and only one.
+pub fn one_event_is_first()
+    ensures some { QuietOrFirst }
+    ensures one { OneIsFirst }
+    ensures none { NoneIsFirstAtQuiet }
 {}
