@@ -5,6 +5,7 @@ pub mod Cases
 pub mod Changing
 pub mod Cleaning
 pub mod CollectKeeps
+pub mod Commuting
 pub mod Enabling
 pub mod Every
 pub mod ExampleRuns
@@ -67,3 +68,4 @@ pub mod TakeKeeps
 pub mod Takes
 pub mod TurnKeeps
 pub mod Turns
+pub mod Untouched

@@ -1,5 +1,6 @@
 // What the machine that collects keeps beside the machine that frees nothing.
 
+ghost use Rattle.machine_rules.specs.Apart.{CellsCanBeAway, OthersKeepEnabled, OthersLeaveTheCell};
 ghost use Rattle.machine_rules.specs.Bounds.{EventsOpenOneToken, EventsRaiseByTheWeight, RunsCountByTheWeight, RunsOpenNoMoreTokens};
 ghost use Rattle.machine_rules.specs.First.{NoneIsFirstAtQuiet, OneIsFirst, QuietOrFirst};
 ghost use Rattle.machine_rules.specs.Gone.{ForgottenStaysForgotten, GoneStaysGone};
@@ -84,4 +85,13 @@ pub fn one_event_is_first()
     ensures some { QuietOrFirst }
     ensures one { OneIsFirst }
     ensures none { NoneIsFirstAtQuiet }
+{}
+
+/// An actor's cell can be away while others act. An event that is not of the actor, and does not reap it,
+/// does the same whether the cell is changed before it or after; it leaves the cell as it was, and at most
+/// adds letters. So what was enabled of the actor stays enabled, but that a letter ends its leave and block.
+pub fn cells_can_be_away()
+    ensures commutes { CellsCanBeAway }
+    ensures cell { OthersLeaveTheCell }
+    ensures enabled { OthersKeepEnabled }
 {}

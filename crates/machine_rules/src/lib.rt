@@ -10,7 +10,7 @@ mod laws;
 use behaviour_code::Name;
 pub use examples::{an_object_is_passed_on_and_goes, two_hold_each_other_and_go};
 pub use laws::{
-    a_book_leads_to_one_state, a_run_ends_in_one_way, clean_cells_stay_swept,
+    a_book_leads_to_one_state, a_run_ends_in_one_way, cells_can_be_away, clean_cells_stay_swept,
     counts_rise_by_the_weight, events_are_enabled_exactly, events_open_one_token, gone_stays_gone,
     letters_name_their_own, no_actor_gets_a_count_on_its_own, one_event_is_first,
     take_go_and_collect_keep_the_facts, the_start_has_the_facts,
