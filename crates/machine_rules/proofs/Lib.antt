@@ -59,6 +59,7 @@ pub mod Sending
 pub mod Sends
 pub mod Shares
 pub mod Slices
+pub mod SmallRuns
 pub mod Starting
 pub mod Staying
 pub mod Steps

@@ -28,5 +28,6 @@ pub mod PlainLimits
 pub mod PlainReach
 pub mod PlainRun
 pub mod Run
+pub mod SmallExamples
 pub mod State
 pub mod Take
