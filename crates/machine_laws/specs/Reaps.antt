@@ -1,11 +1,13 @@
 -- Whom a reap takes.
 use Rattle.std.specs.Prelude.{ℕ, ◌<◌, ◌≡◌, true, false, List, [], None, Some}
+use Rattle.orca_names.specs.declared.names.Thing.TheVariants.{Actor}
 use Rattle.behaviour_code.specs.declared.code.Program.{Program}
 use Rattle.event_rule.specs.declared.event.Event.{Event}
 use Rattle.event_rule.specs.declared.event.Event.TheVariants.{Reap}
 use Rattle.letter_kinds.specs.Detector.{Token, has, token_numbered}
-use Rattle.machine_rules.specs.Actors.{seat, seat_at}
+use Rattle.machine_rules.specs.Actors.{cell_at, mail_at, seat, seat_at}
 use Rattle.machine_rules.specs.Apart.{HasNoEvent}
+use Rattle.machine_rules.specs.Balance.{load_sum}
 use Rattle.machine_rules.specs.Cell.{Cell}
 use Rattle.machine_rules.specs.Next.{IsEnabled}
 use Rattle.machine_rules.specs.Options.{Deep, Options}
@@ -14,9 +16,6 @@ use Rattle.machine_rules.specs.Run.{IsRun}
 use Rattle.machine_rules.specs.State.{State}
 use Rattle.detector_laws.specs.Tokens.{IsSealed}
 use Rattle.machine_laws.specs.AllFacts.{AllFacts}
-use Rattle.machine_rules.specs.Actors.{cell_at, mail_at}
-use Rattle.machine_rules.specs.Balance.{load_sum}
-use Rattle.orca_names.specs.declared.names.Thing.TheVariants.{Actor}
 
 -- the actor is present and has a report out; it has no frame and no letter, is clean and not pinned,
 -- so no event of its own is enabled

@@ -13,9 +13,9 @@ use Rattle.orca_names.specs.declared.names.Thing.TheVariants.{Actor, Obj}
 use Rattle.orca_names.specs.declared.names.Value.{Value}
 use Rattle.behaviour_code.specs.Find.{start_name}
 use Rattle.behaviour_code.specs.declared.code.Program.{Program}
-use Rattle.event_rule.specs.declared.event.Event.{Event}
 use Rattle.turn_rules.specs.Segment.{Stop}
 use Rattle.turn_rules.specs.declared.act.Frame.{Frame}
+use Rattle.event_rule.specs.declared.event.Event.{Event}
 use Rattle.letter_kinds.proofs.Amounts.{own-lower_all, own-mint_all}
 use Rattle.letter_kinds.proofs.Counts.{own-receive, own_set_held}
 use Rattle.letter_kinds.proofs.Raising.{own_le-raise_all, own_le-send, own_le-with_made}

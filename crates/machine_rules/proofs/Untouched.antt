@@ -158,6 +158,12 @@ module _ (s t : State) (a : ℕ) (adds : LeavesCell s t a) where
   keeps_enabled : KeepsEnabled s t a
   keeps_enabled = record {
     take = still (Take a) (λ can. let at = after can.0 can.1 can.2 in (can.0, can.1 ++ adds.come, at, (can.3.0, push_not_empty can.1 adds.come can.3.1)));
+    no_more = λ same. was (Take a) (λ can. (
+      can.0,
+      mail_at s.actors a,
+      (before can.0 can.1 can.2).0,
+      (can.3.0, λ empty. can.3.1 (ap letters_of (sym can.2) ∙ (same ∙ empty))),
+    ));
     go = (
       was (Go a) (λ can. (can.0, mail_at s.actors a, (before can.0 can.1 can.2).0, can.3)),
       still (Go a) (λ can. (can.0, can.1 ++ adds.come, after can.0 can.1 can.2, can.3)),

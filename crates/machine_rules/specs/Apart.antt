@@ -63,10 +63,11 @@ pub record LeavesCell (s t : State) (a : ℕ) : Type 0 where
   pub come : List Letter
   pub mail : mail_at t.actors a ≡ mail_at s.actors a ++ come
 
--- what was enabled of the actor stays so; only a letter that comes ends that it may leave or block,
--- and only such a letter enables anything: its take
+-- go and collect are enabled where they were, and take where it was; only a letter that comes enables
+-- anything, a take, and only such a letter ends anything, that the actor may leave or block
 pub record KeepsEnabled (s t : State) (a : ℕ) : Type 0 where
   pub take : IsEnabled s (Take a) → IsEnabled t (Take a)
+  pub no_more : mail_at t.actors a ≡ mail_at s.actors a → IsEnabled t (Take a) → IsEnabled s (Take a)
   pub go : IsEnabled t (Go a) ↔ IsEnabled s (Go a)
   pub collect : IsEnabled t (Collect a) ↔ IsEnabled s (Collect a)
   pub leave : IsEnabled t (Leave a) ↔ IsEnabled s (Leave a) × (mail_at t.actors a ≡ [])
