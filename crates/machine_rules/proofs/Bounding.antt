@@ -1,7 +1,7 @@
 -- Each event raises what is counted of a thing by the weight at most, and opens one token at most.
-use Rattle.std.proofs.Common.{◌≡◌, ℕ, zero, suc, ◌+◌, ◌*◌, ◌<◌, ◌≤◌, Bool, true, false, Option, Some, None, List, [], ◌∷◌, ◌++◌, length, set, refl, ap, arith, ⊎_elim}
+use Rattle.std.proofs.Common.{◌≡◌, ℕ, zero, suc, ◌+◌, ◌*◌, ◌<◌, ◌≤◌, Bool, true, false, Option, Some, None, List, [], ◌∷◌, ◌++◌, length, set, refl, ap, subst, ◌∙◌, length-set, arith, ⊎_elim}
 use Rattle.std.proofs.lemmas.Bool.{cases_eq, cases_lt}
-use Rattle.std.proofs.lemmas.List.{get_or_past}
+use Rattle.std.proofs.lemmas.List.{get_or_past, length-append}
 use Rattle.std.proofs.lemmas.List.Sums.{sum_by-cons}
 use Rattle.std.specs.FinMap as m
 use Rattle.std.specs.Option.{option_map_or}
@@ -29,17 +29,18 @@ use Rattle.letter_kinds.specs.declared.letter.Letter.TheVariants.{App, Inc, Dec,
 use Rattle.letter_kinds.specs.declared.note.Note.{Note}
 use Rattle.letter_kinds.specs.declared.note.Note.TheVariants.{Block, Unblock, Ack}
 use Rattle.machine_rules.proofs.Cases.{Cases, each_next, kept}
-use Rattle.machine_rules.proofs.Every.{push_none, set_none}
+use Rattle.machine_rules.proofs.Every.{length-decs, length-push, push_none, set_none}
 use Rattle.machine_rules.proofs.Makes.{more_last, more_other}
 use Rattle.machine_rules.proofs.Once.{load_once, minted_once, needed_once}
 use Rattle.machine_rules.proofs.Posting.{incs_at_push, own_at_push}
+use Rattle.machine_rules.proofs.ReapKeeps.{length-reap}
 use Rattle.machine_rules.proofs.SeatReads.{incs_at-none, incs_at-seat, letter_App, letter_Confirm, letter_Dec, letter_Inc, own_at-none, own_at-seat}
 use Rattle.machine_rules.proofs.Seats.{at_other, at_same, present_below}
 use Rattle.machine_rules.proofs.Sends.{push_is}
 use Rattle.machine_rules.proofs.Sweeping.{own-sweep, same_holdings}
 use Rattle.machine_rules.specs.Actors.{Actors, Seat, push_decs, push_letter, seat, seat_at, with_letter_more}
 use Rattle.machine_rules.specs.Balance.{incs_at, own_at}
-use Rattle.machine_rules.specs.Bounds.{EventsOpenOneToken, EventsRaiseByTheWeight, RunsCountByTheWeight, RunsOpenNoMoreTokens, counted}
+use Rattle.machine_rules.specs.Bounds.{EventsOpenOneToken, EventsRaiseByTheWeight, RunsCountByTheWeight, RunsMakeFewActors, RunsOpenNoMoreTokens, counted}
 use Rattle.machine_rules.specs.Cell.{Cell, first_cell, fresh_cell}
 use Rattle.machine_rules.specs.Collect.{collected, is_marked, without_unused}
 use Rattle.machine_rules.specs.Detect.{ask_all, held_outside, reaped}
@@ -206,7 +207,7 @@ raises trace = record {
   ending = λ s a c mail f going pos x. at_most _ _ _ (turned_counts s.actors a c mail going.0 (turn_of_cell trace s.program a c f) None true x);
   printing = λ s a c mail f v going pos x.
       at_most _ _ _ (turned_counts s.actors a c mail going.0 (turn_of_cell trace s.program a c f) (Some (stopped_at f (turn_of_cell trace s.program a c f))) c.dirty x);
-  making = λ s a c mail f g kind going pos x. made_counts s.actors a c mail going.0 s.options.weight (turn_of_cell trace s.program a c f) g s.program kind x;
+  making = λ s a c mail f g kind going room pos x. made_counts s.actors a c mail going.0 s.options.weight (turn_of_cell trace s.program a c f) g s.program kind x;
   posting = λ s a c mail f to behaviour args going none pos x.
       let z = posted_counts s.actors a c mail going.0 trace (turn_of_cell trace s.program a c f) (Some (stopped_at f (turn_of_cell trace s.program a c f))) c.dirty
       to behaviour args (rows_from trace a (kept trace s a c f) args) x in omega arith;
@@ -248,7 +249,7 @@ opens trace = record {
   taking = λ s a c l mail at is. omega arith;
   ending = λ s a c mail f going. omega arith;
   printing = λ s a c mail f v going. omega arith;
-  making = λ s a c mail f g kind going. omega arith;
+  making = λ s a c mail f g kind going room. omega arith;
   posting = λ s a c mail f to behaviour args going none. omega arith;
   minting = λ s a c mail f args e lacked going is. omega arith;
   getting = λ s a c mail f y going. omega arith;
@@ -263,6 +264,52 @@ opens trace = record {
 pub events_open : EventsOpenOneToken
 events_open s t e goes = each_next Opens opens s t e goes
 
+-- ---- actors
+
+length-asked : (members : List ℕ) (token : ℕ) (s : Actors) → length (ask_all members token s) ≡ length s
+length-asked [] token s = refl
+length-asked (a ∷ members) token s = length-asked members token (push_letter a (Confirm token) s) ∙ length-push a (Confirm token) s
+
+abbrev Room : State → Event → State → Type 0
+Room s e t = length s.actors ≤ 65536 → length t.actors ≤ 65536
+
+set_room : (s : Actors) (a : ℕ) (o : Option Seat) → length s ≤ 65536 → length (set s a o) ≤ 65536
+set_room s a o h = let l = length-set s a o in omega arith
+
+push_room : (s : Actors) (b : ℕ) (l : Letter) → length s ≤ 65536 → length (push_letter b l s) ≤ 65536
+push_room s b l h = let k = length-push b l s in omega arith
+
+more_room : (s : Actors) (a : ℕ) (o new : Option Seat) → length s < 65536 → length (set s a o ++ new ∷ []) ≤ 65536
+more_room s a o new h = let l = length-set s a o in let k = length-append (set s a o) (new ∷ []) in omega arith
+
+room_in : (trace : Trace) → Cases trace Room
+room_in trace = record {
+  taking = λ s a c l mail at is h. set_room s.actors a _ h;
+  ending = λ s a c mail f going h. set_room s.actors a _ h;
+  printing = λ s a c mail f v going h. set_room s.actors a _ h;
+  making = λ s a c mail f g kind going room h. more_room s.actors a _ _ room;
+  posting = λ s a c mail f to behaviour args going none h. push_room _ to _ (set_room s.actors a _ h);
+  minting = λ s a c mail f args e lacked going is h. push_room _ _ _ (set_room s.actors a _ h);
+  getting = λ s a c mail f x going h. push_room _ _ _ (set_room s.actors a _ h);
+  collecting = λ s a c mail at is did h.
+      let k = length-decs (by_owner (given_back (is_marked trace a c) (without_unused trace a c).holdings))
+      (set s.actors a (seat (record (without_unused trace a c) { holdings = sweep (is_marked trace a c) a (without_unused trace a c).holdings; dirty = false }) mail)) in
+      let l = length-set s.actors a (seat (record (without_unused trace a c) { holdings = sweep (is_marked trace a c) a (without_unused trace a c).holdings; dirty = false }) mail) in
+      omega arith;
+  leaving = λ s a c mail at may h. let l = length-reap (a ∷ []) (a ∷ []) [] s.actors in omega arith;
+  blocking = λ s a c mail at may h. set_room s.actors a _ h;
+  hearing = λ s note later is h. h;
+  scanning = λ s news h. let l = length-asked (closed_set s.detector) (suc s.detector.opened) s.actors in omega arith;
+  reaping = λ s number token is acked h. let l = length-reap token.members token.members [] s.actors in omega arith;
+}
+
+pub leads_room : (book : List Event) (s t : State) → Leads s book t → length s.actors ≤ 65536 → length t.actors ≤ 65536
+leads_room [] s t same h = subst (λ (u : State). length u.actors ≤ 65536) same h
+leads_room (e ∷ book) s t (u, goes, leads) h = leads_room book u t leads (each_next Room room_in s u e goes h)
+
+pub runs_make_few : RunsMakeFewActors
+runs_make_few program options book t run = leads_room book (first_state program options) t run (omega arith)
+
 -- ---- the options stay
 
 abbrev Stays : State → Event → State → Type 0
@@ -273,7 +320,7 @@ stays trace = record {
   taking = λ s a c l mail at is. refl;
   ending = λ s a c mail f going. refl;
   printing = λ s a c mail f v going. refl;
-  making = λ s a c mail f g kind going. refl;
+  making = λ s a c mail f g kind going room. refl;
   posting = λ s a c mail f to behaviour args going none. refl;
   minting = λ s a c mail f args e lacked going is. refl;
   getting = λ s a c mail f y going. refl;

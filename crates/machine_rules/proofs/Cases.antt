@@ -1,5 +1,5 @@
 -- What one has to show of each kind of event, so that it holds of every event that leads to a state.
-use Rattle.std.proofs.Common.{◌≡◌, ℕ, suc, nat_lt, Bool, true, false, Option, Some, None, List, [], ◌∷◌, ◌++◌, length, set, refl, subst}
+use Rattle.std.proofs.Common.{◌≡◌, ℕ, ◌<◌, suc, nat_lt, Bool, true, false, Option, Some, None, List, [], ◌∷◌, ◌++◌, length, set, ltb-true, refl, subst}
 use Rattle.std.specs.Prelude.{if◌then◌else◌}
 use Rattle.orca_names.specs.Names.{owner_of}
 use Rattle.orca_names.specs.declared.names.Thing.{Thing}
@@ -44,7 +44,7 @@ pub record Cases (trace : Trace) (P : State → Event → State → Type 0) : Ty
       → P s (Go a) (with_turn_kept s (turn_of_cell trace s.program a c f) (set s.actors a (seat (turned (turn_of_cell trace s.program a c f) None true c) mail)))
   pub printing : (s : State) (a : ℕ) (c : Cell) (mail : List Letter) (f : Frame) (v : Value) → IsGoing s a c mail f
       → P s (Go a) (record (with_turn_kept s (turn_of_cell trace s.program a c f) (set s.actors a (seat (kept trace s a c f) mail))) { prints = s.prints ++ v ∷ [] })
-  pub making : (s : State) (a : ℕ) (c : Cell) (mail : List Letter) (f g : Frame) (kind : ℕ) → IsGoing s a c mail f
+  pub making : (s : State) (a : ℕ) (c : Cell) (mail : List Letter) (f g : Frame) (kind : ℕ) → IsGoing s a c mail f → length s.actors < 65536
       → P s (Go a) (with_turn_kept s (turn_of_cell trace s.program a c f) (make s.options.weight a (turned (turn_of_cell trace s.program a c f) (Some g) c.dirty c) mail (fresh_cell s.options.weight s.program kind) s.actors))
   pub posting : (s : State) (a : ℕ) (c : Cell) (mail : List Letter) (f : Frame) (to behaviour : ℕ) (args : List Value) → IsGoing s a c mail f
       → lacking_from trace a (kept trace s a c f).holdings args ≡ []
@@ -108,13 +108,13 @@ module _ (trace : Trace) (P : State → Event → State → Type 0) (cases : Cas
     on_act : (act : Act) (t : State) → act_in trace s a c mail (stopped_at f stop) stop act ≡ Goes t → P s (Go a) t
     on_act End t e = leads s _ t (Go a) e (cases.ending s a c mail f (at, is))
     on_act (Print v) t e = leads s _ t (Go a) e (cases.printing s a c mail f v (at, is))
-    on_act (New kind register) t e = by_room (nat_lt (length s.actors) 65536) e
+    on_act (New kind register) t e = by_room (nat_lt (length s.actors) 65536) refl e
       where
-        by_room : (b : Bool) → (if b
+        by_room : (b : Bool) → nat_lt (length s.actors) 65536 ≡ b → (if b
             then Goes (with_turn_kept s stop (make s.options.weight a (turned stop (Some (with_name (stopped_at f stop) register (length s.actors))) c.dirty c) mail (fresh_cell s.options.weight s.program kind) s.actors))
             else IsFull) ≡ Goes t → P s (Go a) t
-        by_room true e = leads s _ t (Go a) e (cases.making s a c mail f (with_name (stopped_at f stop) register (length s.actors)) kind (at, is))
-        by_room false e = absurd (not_full t e)
+        by_room true room e = leads s _ t (Go a) e (cases.making s a c mail f (with_name (stopped_at f stop) register (length s.actors)) kind (at, is) (ltb-true (length s.actors) 65536 room))
+        by_room false full e = absurd (not_full t e)
     on_act (Post to behaviour args) t e = leads s _ t (Go a) e (on_post to behaviour args (lacking_from trace a after.holdings args) refl)
 
     on_need : (t : State) (found : Option Thing) → needing s a c mail found (act_in trace s a c mail (stopped_at f stop) stop stop.act) ≡ Goes t → P s (Go a) t

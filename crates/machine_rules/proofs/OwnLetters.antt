@@ -87,7 +87,7 @@ owned trace = record {
   taking = λ s a c l mail at is own. own_cell s.actors a c (cell_after s.program a l c) (l ∷ mail) mail at (own a c (l ∷ mail) at).1 own;
   ending = λ s a c mail f going own. own_cell s.actors a c _ mail mail going.0 (own a c mail going.0) own;
   printing = λ s a c mail f v going own. own_cell s.actors a c _ mail mail going.0 (own a c mail going.0) own;
-  making = λ s a c mail f g kind going own. every_more OwnMail _ (fresh_cell s.options.weight s.program kind) [] tt (own_cell s.actors a c _ mail mail going.0 (own a c mail going.0) own);
+  making = λ s a c mail f g kind going room own. every_more OwnMail _ (fresh_cell s.options.weight s.program kind) [] tt (own_cell s.actors a c _ mail mail going.0 (own a c mail going.0) own);
   posting = λ s a c mail f to behaviour args going none own. own_push _ to (App behaviour args _ _) tt (own_cell s.actors a c _ mail mail going.0 (own a c mail going.0) own);
   minting = λ s a c mail f args e lacked going is own. own_push _ (owner_of e.0) (Inc (to_mint s.options.weight (owner_of e.0) (e ∷ lacked)))
       (mint_is_for trace s.options.weight a (owner_of e.0) (kept trace s a c f).holdings args (e ∷ lacked) is)

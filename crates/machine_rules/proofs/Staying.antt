@@ -223,7 +223,7 @@ stays trace = record {
   taking = λ s a c l mail at is. stays_cell s.actors a c (cell_after s.program a l c) (l ∷ mail) mail at (keeps_taken s.program a l c);
   ending = λ s a c mail f going. stays_turned s.actors a c mail going.0 (turn_of_cell trace s.program a c f) None true;
   printing = λ s a c mail f v going. stays_turned s.actors a c mail going.0 (turn_of_cell trace s.program a c f) (Some (stopped_at f (turn_of_cell trace s.program a c f))) c.dirty;
-  making = λ s a c mail f g kind going. stays_made s.actors a c mail going.0 s.options.weight (turn_of_cell trace s.program a c f) g (fresh_cell s.options.weight s.program kind);
+  making = λ s a c mail f g kind going room. stays_made s.actors a c mail going.0 s.options.weight (turn_of_cell trace s.program a c f) g (fresh_cell s.options.weight s.program kind);
   posting = λ s a c mail f to behaviour args going none. stays_posted s.actors a c mail going.0 (turn_of_cell trace s.program a c f) (Some (stopped_at f (turn_of_cell trace s.program a c f))) c.dirty
       to behaviour args (load_from trace a (kept trace s a c f).holdings args) (rows_from trace a (kept trace s a c f) args);
   minting = λ s a c mail f args e lacked going is. stays_minted s.actors a c mail going.0 _ _;

@@ -30,3 +30,7 @@ EventsOpenOneToken = (s t : State) (e : Event) → next s e ≡ Goes t → t.det
 -- so no more were opened than there were events
 abbrev pub RunsOpenNoMoreTokens : Type 0
 RunsOpenNoMoreTokens = (program : Program) (options : Options) (book : List Event) (t : State) → IsRun program options book t → t.detector.opened ≤ length book
+
+-- no more than 65,536 actors are made
+abbrev pub RunsMakeFewActors : Type 0
+RunsMakeFewActors = (program : Program) (options : Options) (book : List Event) (t : State) → IsRun program options book t → length t.actors ≤ 65536

@@ -1,7 +1,7 @@
 // What the machine that collects keeps beside the machine that frees nothing.
 
 ghost use Rattle.machine_rules.specs.Apart.{CellsCanBeAway, OthersKeepEnabled, OthersLeaveTheCell};
-ghost use Rattle.machine_rules.specs.Bounds.{EventsOpenOneToken, EventsRaiseByTheWeight, RunsCountByTheWeight, RunsOpenNoMoreTokens};
+ghost use Rattle.machine_rules.specs.Bounds.{EventsOpenOneToken, EventsRaiseByTheWeight, RunsCountByTheWeight, RunsMakeFewActors, RunsOpenNoMoreTokens};
 ghost use Rattle.machine_rules.specs.First.{NoneIsFirstAtQuiet, OneIsFirst, QuietOrFirst};
 ghost use Rattle.machine_rules.specs.Gone.{ForgottenStaysForgotten, GoneStaysGone};
 ghost use Rattle.machine_rules.specs.Letters.{EventsKeepNamesOwn, RunsNameOwn, StartNamesOwn};
@@ -94,4 +94,9 @@ pub fn cells_can_be_away()
     ensures commutes { CellsCanBeAway }
     ensures cell { OthersLeaveTheCell }
     ensures enabled { OthersKeepEnabled }
+{}
+
+/// No run makes more than 65,536 actors.
+pub fn runs_make_few_actors()
+    ensures { RunsMakeFewActors }
 {}
