@@ -24,4 +24,5 @@ pub mod StayingFreed
 pub mod Stepping
 pub mod TableWork
 pub mod Taking
+pub mod Telling
 pub mod WholeRuns

@@ -59,9 +59,10 @@ pub fn garbage_goes()
     ensures gone { GarbageIsGone }
 {}
 
-/// After a run of n events no count, and no sum of the balance, is above n times the weight. So with
-/// at most 100,000,000 events, and a weight of at most 65,536, each fits 43 bits, and so does the
-/// number of tokens that were opened.
+/// After a run of n events no count, no amount of a letter, no sum of the balance, and no count that a note or
+/// a report tells is above n times the weight. So with at most 100,000,000 events, and a weight of at most
+/// 65,536, each fits 43 bits, and so does the number of tokens that were opened; and what all reports
+/// tell on one actor fits 59 bits.
 pub fn counts_stay_small()
     ensures weights { RunsCountAtMost }
     ensures bits { RunsCountInFewBits }
