@@ -1,3 +1,4 @@
+pub mod Acked
 pub mod ActorReports
 pub mod ActorTokens
 pub mod Cells

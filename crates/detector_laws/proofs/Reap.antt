@@ -163,6 +163,7 @@ leave_reports w w' a l h =
           (cases_Bool (has (a ∷ []) b));
       unmade = λ b past. h.unmade b (let z = l.departs.made in omega arith);
     })
+
 pub leave_tokens : (w w' : World) (a : ℕ) → Leaves w a w' → TokensAreSound w → TokensAreSound w'
 leave_tokens w w' a l k =
     let r = l.departs in

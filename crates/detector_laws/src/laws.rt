@@ -7,14 +7,15 @@ ghost use Rattle.detector_laws.specs.News.{NoNewsNoClosedSet};
 ghost use Rattle.detector_laws.specs.Quiet.{IsNeeded, IsQuiet, IsReached};
 ghost use Rattle.detector_laws.specs.Reports.{IsRising};
 ghost use Rattle.detector_laws.specs.Run.{IsRun, IsStart, IsStep};
+ghost use Rattle.detector_laws.specs.Tokens.{IsSealed};
 ghost use Rattle.detector_laws.specs.World.{block, FactsHold, hear, ReportsAreExact, scan, take_confirm, TokensAreSound, World};
 ghost use Rattle.letter_kinds.specs.declared.letter.Letter.{Letter};
 ghost use Rattle.letter_kinds.specs.declared.letter.Letter.TheVariants.{Confirm};
 ghost use Rattle.letter_kinds.specs.declared.note.Note.{Note};
 ghost use Rattle.letter_kinds.specs.declared.note.Report.{Report};
-ghost use Rattle.letter_kinds.specs.Detector.{close_token, closed_set, Detector, has, heard, scanned, Token, token_numbered};
+ghost use Rattle.letter_kinds.specs.Detector.{all_acked, close_token, closed_set, Detector, has, heard, scanned, Token, token_numbered};
 ghost use Rattle.machine_rules.specs.Cell.{Cell};
-ghost use Rattle.std.specs.Prelude.{List, Some, true, ℕ, ◌∷◌, ◌≡◌, ◌≢◌};
+ghost use Rattle.std.specs.Prelude.{[], List, Some, true, ℕ, ◌∷◌, ◌≡◌, ◌≢◌};
 
 /// The token of a number is one of the open tokens.
 pub fn numbered_is_open()
@@ -90,4 +91,11 @@ pub fn exact_at_quiet()
 /// No actor that a reap takes is needed.
 pub fn reaps_the_unneeded()
     ensures { (w after : World) (t : Token) → Reaps w t after → TokensAreSound w → (a : ℕ) → IsNeeded w a → has t.members a ≢ true }
+{}
+
+/// A token that all its members acknowledged, so that its reap is enabled, is sealed; and no letter
+/// waits for a member.
+pub fn acked_is_sealed()
+    ensures sealed { (w : World) (t : Token) → TokensAreSound w → In t w.detector.tokens → all_acked t ≡ true → IsSealed w.cell w.mail w.loaded w.notes t }
+    ensures bare { (w : World) (t : Token) → TokensAreSound w → In t w.detector.tokens → all_acked t ≡ true → (m : ℕ) → has t.members m ≡ true → w.mail m ≡ [] }
 {}

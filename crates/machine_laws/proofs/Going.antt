@@ -79,8 +79,7 @@ module _ (s : Actors) (d : Detector) (ns : List Note) (a : ℕ) (c : Cell) (ls :
     apart = λ ms is out b ins.
         let n = not_same ms a b out ins in
         let p = (is b ins).0 in
-        let h = unheld s d ns a c ls at ms is out b ins in
-        (
+        let h = unheld s d ns a c ls at ms is out b ins in (
           ap letters_of (same_seat b n (old_one b p)),
           omega (arith, (is b ins).1, sum_by_push (loads_at (Actor b)) first (seat fresh []), loads_at-seat (Actor b) fresh [], sum-nil (load_count (Actor b)), same_loads s a c c2 ls at (Actor b)),
           held_set_other (λ k. k + w) (Actor b) (Actor (length s)) None c1.holdings (λ e. old_one b p (ap owner_of e)) ∙ same (Actor b) ∙ h,

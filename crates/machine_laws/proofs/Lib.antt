@@ -5,6 +5,8 @@ pub mod Blocking
 pub mod Calm
 pub mod Collecting
 pub mod ComesToRest
+pub mod Counting
+pub mod Done
 pub mod GoesToRest
 pub mod Going
 pub mod HeldActors
@@ -19,7 +21,9 @@ pub mod Scanning
 pub mod Sealing
 pub mod Seen
 pub mod Starting
+pub mod StayingFreed
 pub mod Stepping
 pub mod TableWork
 pub mod Taking
+pub mod Telling
 pub mod WholeRuns

@@ -86,8 +86,7 @@ module _ (all : Thing → Option Row) (ps : List Person) (s : Actors) (inv : Kee
         (λ ms apart out m ins.
         let far = reached_away ms apart out (reached all ps s inv a c ls at wt heavy program f frame x need) in
         let other = not_same ms (owner_of x) m far ins in
-        let n = not_same ms a m out ins in
-        (
+        let n = not_same ms a m out ins in (
           ap letters_of (push_other s1 (owner_of x) (Inc es) m other ∙ get_or-set_other s a m (seat c2 ls) None n),
           omega (arith, (apart m ins).1, push_loads s1 (owner_of x) (Inc es) (Actor m), same_loads s a c c2 ls at (Actor m), (letter_Inc (Actor m) es).2),
           omega (arith, held-mint_all (Actor m) es c.holdings, unminted m other, unheld s d ns a c ls at ms apart out m ins),

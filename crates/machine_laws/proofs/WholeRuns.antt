@@ -11,6 +11,7 @@ use Rattle.machine_rules.proofs.Cleaning.{clean-first, clean-next}
 use Rattle.machine_rules.proofs.EitherMode.{lives_left}
 use Rattle.machine_rules.proofs.Named.{named_left}
 use Rattle.machine_rules.proofs.NoSelf.{no_self-first, no_self-next}
+use Rattle.machine_rules.proofs.OwnLetters.{runs_name_own}
 use Rattle.machine_rules.proofs.Reachable.{reachable_lives}
 use Rattle.machine_rules.proofs.RootsClean.{roots_clean-first, roots_clean-next}
 use Rattle.machine_rules.proofs.Starting as starting
@@ -99,7 +100,7 @@ prefix_leads : (book later : List Event) (s t : State) → Leads s (book ++ late
 prefix_leads [] later s t leads = (s, refl)
 prefix_leads (e ∷ book) later s t leads = let rest = prefix_leads book later leads.0 t leads.2 in (rest.0, (leads.0, leads.1, rest.1))
 
-reachable_left : (trace : Trace) (p : PlainState) (s : State) → AllFacts trace p s → (x : Thing) → IsReachable p x → IsLeft s.actors x
+pub reachable_left : (trace : Trace) (p : PlainState) (s : State) → AllFacts trace p s → (x : Thing) → IsReachable p x → IsLeft s.actors x
 reachable_left trace p s facts x r = lives_left trace (thing_row (plain_row p.actors)) (people_of p.actors) s.actors facts.beside.counts x (reachable_lives p r)
 
 never_early : (program : Program) (options : Options) → 0 < options.weight → (book : List Event) (s : State) → IsRun program options book s → IsNeverTooEarly program options book s
@@ -113,7 +114,7 @@ never_early program options heavy book s run =
       covered = facts.2.beside.counts.prefixes;
       left = reachable_left options.trace facts.0 s facts.2;
       freed = λ x gone r. gone.1 (reachable_left options.trace facts.0 s facts.2 x r);
-      named = named_left options.trace (thing_row (plain_row facts.0.actors)) (people_of facts.0.actors) s.actors facts.2.beside.counts;
+      named = named_left options.trace (thing_row (plain_row facts.0.actors)) (people_of facts.0.actors) s.actors facts.2.beside.counts (runs_name_own program options book s run);
     }
 
 pub never_too_early : NeverTooEarly

@@ -1,3 +1,6 @@
 pub mod AllFacts
+pub mod Bounds
+pub mod Freed
 pub mod Laws
+pub mod Reaps
 pub mod Work

@@ -1,6 +1,9 @@
 // What holds of every program, every run and each of its prefixes.
 
+ghost use Rattle.machine_laws.specs.Bounds.{RunsCountAtMost, RunsCountInFewBits};
+ghost use Rattle.machine_laws.specs.Freed.{FreedStaysFreed};
 ghost use Rattle.machine_laws.specs.Laws.{StartHasAllFacts, EventsKeepAllFacts, RunsHaveAllFacts, NeverTooEarly, ExactlyAtQuiet, ExactlyAtQuietByRoots, RunsAreTracedByRoots, DetectorRestsAtQuiet, EventsLeaveLess, RestsBetweenChoices, RunsCanRest, GarbageIsGone, GarbageIsGoneByRoots};
+ghost use Rattle.machine_laws.specs.Reaps.{ReapsTakeTheDone, RunsReapTheDone};
 
 /// Where a run begins, all facts hold: the machine agrees with the one that frees nothing, counts
 /// balance and are never overdrawn, each actor knows what it reaches, clean cells are swept, and
@@ -65,4 +68,26 @@ pub fn garbage_goes()
     ensures rest { RunsCanRest }
     ensures gone { GarbageIsGone }
     ensures roots { GarbageIsGoneByRoots }
+{}
+
+/// After a run of n events no count, no amount of a letter, no sum of the balance, and no count that a note or
+/// a report tells is above n times the weight. So with at most 100,000,000 events, and a weight of at most
+/// 65,536, each fits 43 bits, and so does the number of tokens that were opened; and what all reports
+/// tell on one actor fits 59 bits.
+pub fn counts_stay_small()
+    ensures weights { RunsCountAtMost }
+    ensures bits { RunsCountInFewBits }
+{}
+
+/// What was freed stays freed: whatever an event of a run freed, after the whole run it is not there, and
+/// the machine that frees nothing does not reach it.
+pub fn freed_stays_freed()
+    ensures { FreedStaysFreed }
+{}
+
+/// A reap is enabled only on a sealed token: its members are present and reported, and have nothing to
+/// do and no letter. So no event of theirs is enabled.
+pub fn reaps_take_the_done()
+    ensures state { ReapsTakeTheDone }
+    ensures run { RunsReapTheDone }
 {}

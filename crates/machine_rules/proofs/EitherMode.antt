@@ -24,7 +24,7 @@ use Rattle.machine_rules.proofs.Freed as freed
 use Rattle.machine_rules.proofs.Going.{Grows, after, exact, known_load, known_target, same_turn as same_turn_deep, turn}
 use Rattle.machine_rules.proofs.InHand.{AllCounted, in_hand, take_letter}
 use Rattle.machine_rules.proofs.Living.{Lives}
-use Rattle.machine_rules.proofs.Loads.{load_from-exact, load_from-once, marked_reached, reached_marked}
+use Rattle.machine_rules.proofs.Loads.{load_from-exact, marked_reached, reached_marked}
 use Rattle.machine_rules.proofs.MakeKeeps.{make_keeps_counts}
 use Rattle.machine_rules.proofs.Makes.{IsFresh}
 use Rattle.machine_rules.proofs.PostKeeps.{mint_keeps_counts, post_keeps_counts}
@@ -197,7 +197,7 @@ module _ (program : Program) (all all' : Thing → Option Row) (ps : List Person
   deep_posted ps1 s1 kept at1 full =
       post_keeps_counts all' ps1 s1 kept a deep ls at1 to b args (load_from Deep a deep.holdings args) []
       (exact program all all' ps s inv a c ls at f frame grows nf nd names_nf to b args act (load_from Deep a deep.holdings args) (load_from-exact a deep.holdings args))
-      (load_from-once a deep.holdings args) deep_load deep_target full
+      deep_load deep_target full
 
 module _ (program : Program) (all all' : Thing → Option Row) (ps : List Person) (s : Actors) (inv : KeepsCounts options.Roots all ps s)
     (a : ℕ) (c : Cell) (ls : List Letter) (at : seat_at s a ≡ seat c ls) (f : Frame) (frame : c.frame ≡ Some f) (held_all : needed options.Roots program a c f ≡ None)

@@ -43,7 +43,7 @@ module _ (Q : ℕ → Cell → List Letter → Type 0) where
       (cases_eq a (length s))
 
 -- nothing at b: a letter for it is lost, and nothing changes
-set_none : (s : Actors) (b i : ℕ) → seat_at s b ≡ None → seat_at (set s b None) i ≡ seat_at s i
+pub set_none : (s : Actors) (b i : ℕ) → seat_at s b ≡ None → seat_at (set s b None) i ≡ seat_at s i
 set_none s b i e = ⊎_elim
     (λ same. ⊎_elim
     (λ within. rw same (get_or-set_same s b None None within ∙ sym e))
@@ -52,7 +52,7 @@ set_none s b i e = ⊎_elim
     (λ other. get_or-set_other s b i None None other)
     (cases_eq i b)
 
-push_none : (s : Actors) (b : ℕ) (l : Letter) → seat_at s b ≡ None → push_letter b l s ≡ set s b None
+pub push_none : (s : Actors) (b : ℕ) (l : Letter) → seat_at s b ≡ None → push_letter b l s ≡ set s b None
 unfolding push_letter
 push_none s b l e = rw e refl
 

@@ -30,18 +30,18 @@ use Rattle.machine_rules.specs.State.{State, NotEnabled, first_state}
 use Rattle.machine_rules.specs.Take.{take_at, take_in}
 
 -- what is there, or else the page that is given
-abbrev page_or : Page → Option Page → Page
+abbrev pub page_or : Page → Option Page → Page
 page_or b None = b
 page_or b (Some c) = c
 
-page_there : (b : Page) (o : Option Page) → is_some o ≡ true → o ≡ Some (page_or b o)
+pub page_there : (b : Page) (o : Option Page) → is_some o ≡ true → o ≡ Some (page_or b o)
 page_there b None h = cc
 page_there b (Some c) h = refl
 
 -- ---- where no event is enabled
 
 -- an actor that is pinned and has nothing to do, or none
-abbrev IsStill : Option Seat → Type 0
+abbrev pub IsStill : Option Seat → Type 0
 IsStill None = Unit {0}
 IsStill (Some o) = (o.cell.frame ≡ None) × (o.mail ≡ []) × (o.cell.dirty ≡ false) × (o.cell.fields.pinned ≡ true)
 
@@ -67,7 +67,7 @@ leave_still s a None still = refl
 leave_still s a (Some o) still =
     λ i. leave_in s a ((is_none (still.0 i) && (is_empty (still.1 i) && not (still.2 i || (still.3 i || o.cell.reported)))) && (o.cell.holdings.count == 0))
 
-still_quiet : (s : State) → ((a : ℕ) → IsStill (seat_at s.actors a)) → s.notes ≡ [] → s.detector.tokens ≡ [] → s.detector.news ≡ false → IsQuiet s
+pub still_quiet : (s : State) → ((a : ℕ) → IsStill (seat_at s.actors a)) → s.notes ≡ [] → s.detector.tokens ≡ [] → s.detector.news ≡ false → IsQuiet s
 still_quiet s still notes tokens news (Take a) = take_still s a (seat_at s.actors a) (still a)
 still_quiet s still notes tokens news (Go a) = go_still s a (seat_at s.actors a) (still a)
 still_quiet s still notes tokens news (Collect a) = collect_still s a (seat_at s.actors a) (still a)

@@ -219,7 +219,7 @@ module _ (trace : Trace) (p : PlainState) (s : State) (facts : Facts trace p s) 
         prints = facts.prints;
         objects = objects_pushed actors mine refl ∙ objects_more nf;
         weight = facts.weight;
-      mode = facts.mode;
+        mode = facts.mode;
       })
 
   -- ---- a letter
@@ -289,7 +289,7 @@ module _ (trace : Trace) (p : PlainState) (s : State) (facts : Facts trace p s) 
           prints = facts.prints;
           objects = objects_kept actors to receiver.actor receiver.there lettered refl ∙ objects_more (Some stopped);
           weight = facts.weight;
-      mode = facts.mode;
+          mode = facts.mode;
         })
 
     -- ---- minting

@@ -70,6 +70,8 @@ module _ (all all' : Thing → Option Row) (New : Thing → Type 0) (only : (x :
   letter_grown (App b args load rows) left ok =
       let left' : (x : Thing) → 0 < times_loaded x load → IsLeft s x = λ x h. left x (let z = (letter_App x b args load rows).2 in omega arith) in
       record {
+        once = ok.once;
+        rising = ok.rising;
         reached = λ x h. grown (Names args) x (ok.reached x h);
         whole = λ x h. ok.whole x (shrunk (Names args) (λ x q. left' x (ok.whole x q)) x h);
         rows = rows_in load left' ok.rows;

@@ -158,6 +158,8 @@ module _ (program : Program) (all all' : Thing → Option Row) (ps : List Person
       exact =
           let known : (x : Thing) → Reaches all' (Names args) x → IsKnown a after.holdings x = λ x h. known_after x (args_source args posted x h) in
           record {
+            once = is.once;
+            rising = is.rising;
             reached = λ x h. over_all all' a after.holdings args known rows_after x (is.reached x h);
             whole = λ x h. is.whole x (over_own all' a after.holdings args known rows_after x h);
             rows = rows_swap (row_at a after.holdings) all' load (λ x h. rows_after x (known x (over_all all' a after.holdings args known rows_after x (is.reached x h)))) is.rows;

@@ -7,6 +7,7 @@ use Rattle.letter_kinds.specs.Holdings.{Row}
 use Rattle.letter_kinds.specs.Sums.{dec_of, inc_of}
 use Rattle.letter_kinds.specs.declared.letter.Letter.{Letter}
 use Rattle.machine_rules.proofs.EitherMode.{counted_at, loaded_left, root_left}
+use Rattle.machine_rules.proofs.OwnLetters.{decs_own, incs_own}
 use Rattle.machine_rules.proofs.SeatReads.{decs_at-seat, incs_at-seat}
 use Rattle.machine_rules.specs.Options.{Trace}
 use Rattle.machine_rules.specs.Actors.{Actors, seat, seat_at}
@@ -14,6 +15,7 @@ use Rattle.machine_rules.specs.Agreement.{Person}
 use Rattle.machine_rules.specs.Balance.{decs_at, incs_at, own_at, owner_seat}
 use Rattle.machine_rules.specs.Cell.{Cell}
 use Rattle.machine_rules.specs.Facts.{KeepsCounts}
+use Rattle.machine_rules.specs.Letters.{LettersNameTheirOwn}
 use Rattle.machine_rules.specs.Left.{IsLeft, NamesNothingFreed, by_dec, by_inc, by_load, by_root}
 
 module _ (trace : Trace) (all : Thing → Option Row) (people : List Person) (s : Actors) (counts : KeepsCounts trace all people s) where
@@ -35,8 +37,8 @@ module _ (trace : Trace) (all : Thing → Option Row) (people : List Person) (s 
         let some : 0 < decs_at x (owner_seat s x) = subst (λ o. 0 < decs_at x o) (sym here) (let i = decs_at-seat x c mail in omega arith) in
         counted x (let b = counts.balanced x in omega arith)
 
-  pub named_left : NamesNothingFreed s
-  named_left a c mail at x (by_root r) = root_left trace all people s counts a c mail x at r
-  named_left a c mail at x (by_load h) = loaded_left trace all people s counts a c mail x at h
-  named_left a c mail at x (by_inc own h) = raised_left a c mail at x own h
-  named_left a c mail at x (by_dec own h) = lowered_left a c mail at x own h
+  pub named_left : LettersNameTheirOwn s → NamesNothingFreed s
+  named_left own a c mail at x (by_root r) = root_left trace all people s counts a c mail x at r
+  named_left own a c mail at x (by_load h) = loaded_left trace all people s counts a c mail x at h
+  named_left own a c mail at x (by_inc h) = raised_left a c mail at x (incs_own a mail (own a c mail at) x h) h
+  named_left own a c mail at x (by_dec h) = lowered_left a c mail at x (decs_own a mail (own a c mail at) x h) h

@@ -80,7 +80,6 @@ unfolding held_in
 entry_of c x h = entry_there (m.get c.holdings.foreign x) h
 
 module _ (s : Actors) (bal : IsBalanced s) (clean : CleanAreSwept s) (rest : AtRest s) where
-
   pub held_reached : (a : ℕ) (c : Cell) (mail : List Letter) (x : Thing) → seat_at s a ≡ seat c mail → 0 < held_in c.holdings x → IsInReach a c x
   held_reached a c mail x at h = let entry = entry_of c x h in let q = rest a c mail at in (clean a c mail at q.idle q.clean).foreign x entry.0 entry.1
 

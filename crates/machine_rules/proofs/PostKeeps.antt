@@ -111,13 +111,13 @@ module _ (a : ℕ) (h : Holdings) (load : List Loaded) (once : (x : Thing) → t
 
 module _ (all : Thing → Option Row) (ps : List Person) (s : Actors) (inv : KeepsCounts Deep all ps s)
     (a : ℕ) (c : Cell) (ls : List Letter) (at : seat_at s a ≡ seat c ls)
-    (to b : ℕ) (args : List Value) (load rows : List Loaded) (exact : IsLoadOf all args load) (once : (x : Thing) → times_loaded x load ≤ 1)
+    (to b : ℕ) (args : List Value) (load rows : List Loaded) (exact : IsLoadOf all args load)
     (known : (x : Thing) → 0 < times_loaded x load → IsKnown a c.holdings x) (known_to : IsKnown a c.holdings (Actor to)) (full : lacking a c.holdings load ≡ []) where
   enough : Enough a load c.holdings
-  enough = known_enough a c.holdings load once known full
+  enough = known_enough a c.holdings load exact.once known full
 
   has_load : (x : Thing) → owner_of x ≡ a → 0 < times_loaded x load → has_own c.holdings x ≡ true
-  has_load = known_has a c.holdings load once known full
+  has_load = known_has a c.holdings load exact.once known full
 
   target : IsPresent s to
   target = left_present s to (known_left s (in_hand s inv.balanced) inv.prefixes a c ls (Actor to) at known_to)
@@ -144,7 +144,7 @@ unfolding mint_all
 firm_mint [] c pos firm = firm
 firm_mint (e ∷ es) c pos firm = firm_mint es (mint_one e c) pos.1 (firm_set_held (λ h. h + e.1) e.0 (entry_row (m.get c.foreign e.0)) c (let z = pos.0 in omega arith) firm)
 
-next_mint : (es : List Amount) (c : Holdings) → (mint_all es c).next ≡ c.next
+pub next_mint : (es : List Amount) (c : Holdings) → (mint_all es c).next ≡ c.next
 unfolding mint_all
 next_mint [] c = refl
 next_mint (e ∷ es) c = next_mint es _ ∙ next_held (λ h. h + e.1) e.0 (entry_row (m.get c.foreign e.0)) c

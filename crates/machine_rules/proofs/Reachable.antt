@@ -34,7 +34,7 @@ no_names x P n = none_in_nil x P n
 
 -- ---- who an actor of the plain machine is
 
-person_read : (actors : List PlainActor) (a : ℕ) → person_at (people_of actors) a ≡ option_map_or person_of_plain (slice_get actors a) nobody
+pub person_read : (actors : List PlainActor) (a : ℕ) → person_at (people_of actors) a ≡ option_map_or person_of_plain (slice_get actors a) nobody
 person_read [] a = refl
 person_read (x ∷ actors) zero = refl
 person_read (x ∷ actors) (suc a) = person_read actors a
@@ -63,7 +63,7 @@ root_person x e = root_parts x.fields.pinned x.frame x.letters e
 person_root : (x : PlainActor) → IsRootPerson (person_of_plain x) → is_root x ≡ true
 person_root x r = parts_root x.fields.pinned x.frame x.letters r
 
-nobody_stands : IsRootPerson nobody → ⊥
+pub nobody_stands : IsRootPerson nobody → ⊥
 nobody_stands (inl e) = cc
 nobody_stands (inr (inl f)) = f refl
 nobody_stands (inr (inr f)) = f refl
@@ -133,7 +133,7 @@ module _ (p : PlainActor) (x : Thing) where
       (λ m. inr (⊎_elim (λ r. inl (registers_in p.frame x r)) (λ l. inr (letters_in p.letters x l)) (names_cases registers args x m)))
       (names_cases p.fields.values (registers ++ args) x n)
 
-nobody_holds : (x : Thing) (P : Type 0) → Holds nobody x → P
+pub nobody_holds : (x : Thing) (P : Type 0) → Holds nobody x → P
 nobody_holds x P (inl n) = no_names x P n
 nobody_holds x P (inr (inl h)) = absurd h
 nobody_holds x P (inr (inr h)) = elim h [ ]

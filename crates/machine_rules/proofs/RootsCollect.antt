@@ -228,10 +228,13 @@ module _ (all : Thing → Option Row) (ps : List Person) (s : Actors) (inv : Kee
   walk_used : (x : Thing) → Reaches all (WalkRoots a d) x → Reaches all (WalkRoots a c) x × (IsUsed x ⊎ (x ≡ Actor a))
   walk_used x h = reach_into all (λ x. Reaches all (WalkRoots a c) x × (IsUsed x ⊎ (x ≡ Actor a)))
       (λ x r. let z = root_used x r in (root z.0, z.1))
-      (λ x y r p e n. (along_row all p.0 e n, inl (⊎_elim
-      (λ used. along_row (thing_row (row_by_roots a c)) used (rows_agree all s bal inv.sound inv.bare a c ls at x p.0 ∙ e) n)
-      (λ self. absurd (none_some r (sym (inv.bare a) ∙ (ap all (sym self) ∙ e))))
-      p.1)))
+      (λ x y r p e n. (
+        along_row all p.0 e n,
+        inl (⊎_elim
+            (λ used. along_row (thing_row (row_by_roots a c)) used (rows_agree all s bal inv.sound inv.bare a c ls at x p.0 ∙ e) n)
+            (λ self. absurd (none_some r (sym (inv.bare a) ∙ (ap all (sym self) ∙ e))))
+            p.1),
+      ))
       (λ n p. (owned p.0, ⊎_elim (λ used. inl (owned used)) (λ self. absurd (obj_actor n self)) p.1)) h
     where
       obj_actor : (n : ObjName) → Obj n ≡ Actor a → ⊥

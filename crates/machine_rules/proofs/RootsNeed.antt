@@ -125,8 +125,7 @@ module _ (all : Thing → Option Row) (ps : List Person) (s : Actors) (inv : Kee
   along (Actor i) y r p e nm = absurd (let z = inv.bare i in cc)
   along (Obj n) y r p e nm = λ out. ⊎_elim
       (λ same.
-      let z = p.1 (λ o. out (same ∙ o)) in
-      (
+      let z = p.1 (λ o. out (same ∙ o)) in (
         subst (λ i. 0 < held_sum (Actor i) s) (sym same) z.0,
         subst (λ i. (d : Cell) (ms : List Letter) → seat_at s i ≡ seat d ms → (k : ℕ) → IsBacked i d ms k y) (sym same) (λ d ms is k. on d ms is k (z.1 d ms is k)),
       ))

@@ -33,7 +33,7 @@ use Rattle.machine_rules.proofs.PostKeeps.{known_enough, known_has, mint_put, po
 use Rattle.machine_rules.proofs.ReapKeeps.{AllSealed, every_reap, reap_put}
 use Rattle.machine_rules.proofs.Reaps.{AllIn}
 use Rattle.machine_rules.proofs.RootsLeft.{known_left}
-use Rattle.machine_rules.proofs.RootsRows.{letter_exact, roots_once}
+use Rattle.machine_rules.proofs.RootsRows.{letter_exact}
 use Rattle.machine_rules.proofs.RootsSame.{SameOwn, backed_more, backed_push, carried_mine, carried_named, carried_owners, letters_push, own_gained, own_minted, own_row_has, own_sent, roots_push, same_rows_more, walks}
 use Rattle.machine_rules.proofs.RootsTake.{owner_root, still_roots}
 use Rattle.machine_rules.proofs.SeatReads.{letter_App, letter_Confirm, letter_Dec, letter_Inc}
@@ -83,10 +83,10 @@ module _ (all : Thing → Option Row) (ps : List Person) (s : Actors) (inv : Kee
   post_known x h = known_root x (ok.only x h)
 
   enough : (x : Thing) → owner_of x ≢ a → 0 < times_loaded x load → times_loaded x load < held_in c.holdings x
-  enough = known_enough a c.holdings load (roots_once args) post_known full
+  enough = known_enough a c.holdings load ok.once post_known full
 
   has_load : (x : Thing) → owner_of x ≡ a → 0 < times_loaded x load → has_own c.holdings x ≡ true
-  has_load = known_has a c.holdings load (roots_once args) post_known full
+  has_load = known_has a c.holdings load ok.once post_known full
 
   abbrev sender : Cell
   sender = record c { holdings = send a load c.holdings }

@@ -1,5 +1,5 @@
 -- With root-only tracing: over the rows that it has an actor reaches what it reaches over all; letters are exact.
-use Rattle.std.proofs.Common.{◌≡◌, ◌≢◌, ℕ, ◌<◌, ◌≤◌, cond, true, false, Option, Some, None, List, [], ◌∷◌, map, Contains, refl, sym, ◌∙◌, ap, arith, subst, ⊎_elim, eq-eqb, ne_eqb}
+use Rattle.std.proofs.Common.{◌≡◌, ◌≢◌, ℕ, ◌<◌, cond, true, false, Option, Some, None, List, [], ◌∷◌, map, Contains, refl, sym, ◌∙◌, ap, arith, subst, ⊎_elim, eq-eqb, ne_eqb}
 use Rattle.std.specs.FinMap as m
 use Rattle.std.specs.List.{filter_map}
 use Rattle.std.proofs.lemmas.Bool.{cases_eq}
@@ -19,7 +19,7 @@ use Rattle.letter_kinds.specs.Sums.{times_loaded}
 use Rattle.letter_kinds.specs.declared.letter.Letter.{Letter}
 use Rattle.machine_rules.proofs.Finite.{first_option, later_option, own_found}
 use Rattle.machine_rules.proofs.InHand.{Balanced}
-use Rattle.machine_rules.proofs.Loads.{load_exact, load_once}
+use Rattle.machine_rules.proofs.Loads.{load_exact}
 use Rattle.machine_rules.proofs.Paths.{along_row, reach_into}
 use Rattle.machine_rules.proofs.Receiving.{own_row}
 use Rattle.machine_rules.proofs.RootsLeft.{reached_left}
@@ -118,6 +118,8 @@ module _ (all : Thing → Option Row) (s : Actors) (bal : Balanced s) (sound : E
     rows_exact =
         let is = load_exact (row_by_roots a c) (listed_objects a c) args (listed-cover a c) in
         record {
+          once = is.once;
+          rising = is.rising;
           reached = λ x h. own_to_all all a c ls here (is.reached x h);
           whole = λ x h. is.whole x (all_to_own walk h);
           rows = rows_swap (load_of (row_by_roots a c) (listed_objects a c) args) (λ x h. rows_agree x (walks_all x (own_to_all all a c ls here (is.reached x h)))) is.rows;
@@ -127,6 +129,8 @@ module _ (all : Thing → Option Row) (s : Actors) (bal : Balanced s) (sound : E
     letter_exact =
         let is = load_exact (λ n. None) [] args (λ n row e. cc) in
         record {
+          once = is.once;
+          rising = is.rising;
           only = λ x h. bare_root args x (is.reached x h);
           whole = λ x h. is.whole x (root_bare args x h);
           rows = rows_exact;
@@ -141,6 +145,3 @@ module _ (all : Thing → Option Row) (s : Actors) (bal : Balanced s) (sound : E
 
         root_bare : (args : List Value) (x : Thing) → IsRootOf args x → Reaches (thing_row (λ n. None)) (Names args) x
         root_bare args x h = root_reached (thing_row (λ n. None)) args x h
-
-pub roots_once : (args : List Value) (x : Thing) → times_loaded x (load_roots args) ≤ 1
-roots_once args x = load_once (λ n. None) [] args (λ n row e. cc) x

@@ -187,8 +187,7 @@ module _ (program : Program) (all all' : Thing → Option Row) (ps : List Person
     got_known : (x : Thing) → Reaches all (WalkRoots a c) x → needs a c.holdings x ≡ false → IsKnownWithOwner a c.holdings x
     got_known x reached none =
         let both = or_parts (lacks a c.holdings x) (lacks a c.holdings (Actor (owner_of x))) none in
-        let left = reached_left all s bal inv.sound inv.bare a c ls at reached in
-        (
+        let left = reached_left all s bal inv.sound inv.bare a c ls at reached in (
           not_lacking a c.holdings x both.0 (λ o.
               let z = some_seat left.seat.cell c left.seat.mail ls (sym left.present ∙ (ap (seat_at s) o ∙ at)) in
               subst (λ (d : Cell). has_own d.holdings x ≡ true) z.0 left.kept),
@@ -345,9 +344,13 @@ module _ (program : Program) (all all' : Thing → Option Row) (ps : List Person
       letter_grown args load rows left ok =
           let from : (x : Thing) → Names args x → IsLeft s x = λ x n. left x (ok.whole x (stands n)) in
           record {
+            once = ok.once;
+            rising = ok.rising;
             only = ok.only;
             whole = ok.whole;
             rows = record {
+              once = ok.rows.once;
+              rising = ok.rows.rising;
               reached = λ x h. grown (ok.rows.reached x h);
               whole = λ x h. ok.rows.whole x (shrunk from h);
               rows = rows_grown rows (λ x h. walk_left all s bal inv.sound inv.bare from (ok.rows.reached x h)) ok.rows.rows;

@@ -13,6 +13,7 @@ use Rattle.behaviour_code.specs.Find.{field_count, start_name}
 use Rattle.behaviour_code.specs.declared.code.Program.{Program}
 use Rattle.reach_walk.specs.Reach.{thing_row}
 use Rattle.reach_walk.proofs.Elements.{none_in_nil}
+use Rattle.reach_walk.proofs.InOrder.{in_order-sorted}
 use Rattle.letter_kinds.proofs.Counts.{loaded-nil}
 use Rattle.letter_kinds.specs.Holdings.{Row, has_own, held_in, own_in, row_of}
 use Rattle.letter_kinds.specs.Sums.{dec_of, inc_of, load_count}
@@ -62,6 +63,8 @@ letters_exact : (all : Thing → Option Row) (found : Option ℕ) → AreExactLe
 letters_exact all None = tt
 letters_exact all (Some name) = (
   record {
+    once = λ x. let z = loaded-nil x in omega arith;
+    rising = in_order-sorted [];
     reached = λ x h. absurd (let z = loaded-nil x in omega arith);
     whole = λ x h. absurd (no_values all x h);
     rows = tt;
@@ -166,9 +169,11 @@ module _ (program : Program) (found : Option ℕ) where
   letters_rooted None = tt
   letters_rooted (Some name) = (
     record {
+      once = λ x. let z = loaded-nil x in omega arith;
+      rising = in_order-sorted [];
       only = λ x h. absurd (let z = loaded-nil x in omega arith);
       whole = λ x h. absurd (no_values all x (root_reached all [] x h));
-      rows = record { reached = λ x h. absurd (let z = loaded-nil x in omega arith); whole = λ x h. absurd (no_values all x h); rows = tt };
+      rows = record { once = λ x. let z = loaded-nil x in omega arith; rising = in_order-sorted []; reached = λ x h. absurd (let z = loaded-nil x in omega arith); whole = λ x h. absurd (no_values all x h); rows = tt };
     },
     tt,
   )

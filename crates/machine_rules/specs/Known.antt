@@ -1,6 +1,7 @@
 -- What an actor knows, and what the letters that wait for it load.
-use Rattle.std.specs.Prelude.{ℕ, ◌<◌, ◌≡◌, ◌≢◌, ◌⊎◌, true, List, [], ◌∷◌, Contains, Option, Some, None, unwrap_or}
-use Rattle.orca_names.specs.Names.{owner_of}
+use Rattle.std.specs.Prelude.{ℕ, ◌<◌, ◌≤◌, ◌≡◌, ◌≢◌, ◌⊎◌, true, List, [], ◌∷◌, Contains, map, Option, Some, None, unwrap_or}
+use Rattle.std.specs.List.Sorted.{IsStrictlySortedBy}
+use Rattle.orca_names.specs.Names.{owner_of, thing_cmp}
 use Rattle.orca_names.specs.declared.names.Thing.{Thing}
 use Rattle.orca_names.specs.declared.names.Value.{Value}
 use Rattle.turn_rules.specs.declared.act.Frame.{Frame}
@@ -55,8 +56,10 @@ abbrev pub RowsAreIn : (Thing → Option Row) → List Loaded → Type 0
 RowsAreIn all [] = Unit {0}
 RowsAreIn all (e ∷ load) = (e.1 ≡ all e.0) × RowsAreIn all load
 
--- a load is exactly what its letter's arguments reach
+-- a load is exactly what its letter's arguments reach: each thing once, in the order of things
 pub record IsLoadOf (all : Thing → Option Row) (args : List Value) (load : List Loaded) : Type 0 where
+  pub once : (x : Thing) → times_loaded x load ≤ 1
+  pub rising : IsStrictlySortedBy thing_cmp (map (λ e. e.0) load)
   pub reached : (x : Thing) → 0 < times_loaded x load → Reaches all (Names args) x
   pub whole : (x : Thing) → Reaches all (Names args) x → 0 < times_loaded x load
   pub rows : RowsAreIn all load

@@ -1,7 +1,8 @@
 -- What an actor knows with root-only tracing, and what the letters that wait for it load.
-use Rattle.std.specs.Prelude.{ℕ, ◌+◌, ◌<◌, ◌≡◌, ◌≢◌, drop, take, true, List, [], ◌∷◌, Option, Some, sum_by}
+use Rattle.std.specs.Prelude.{ℕ, ◌+◌, ◌<◌, ◌≤◌, ◌≡◌, ◌≢◌, drop, map, take, true, List, [], ◌∷◌, Option, Some, sum_by}
 use Rattle.std.specs.FinMap as m
-use Rattle.orca_names.specs.Names.{owner_of}
+use Rattle.std.specs.List.Sorted.{IsStrictlySortedBy}
+use Rattle.orca_names.specs.Names.{owner_of, thing_cmp}
 use Rattle.orca_names.specs.declared.names.ObjName.{ObjName}
 use Rattle.orca_names.specs.declared.names.Thing.{Thing}
 use Rattle.orca_names.specs.declared.names.Thing.TheVariants.{Actor, Obj}
@@ -38,8 +39,10 @@ pub data IsRootOf (args : List Value) : Thing → Type 0 where
   stands : {x : Thing} → Names args x → IsRootOf args x
   owns : {x : Thing} → Names args x → IsRootOf args (Actor (owner_of x))
 
--- the load is that, and the rows are those that the arguments reach
+-- the load is that, each thing once, in the order of things; and the rows are those that the arguments reach
 pub record IsRootLetter (all : Thing → Option Row) (args : List Value) (load brought : List Loaded) : Type 0 where
+  pub once : (x : Thing) → times_loaded x load ≤ 1
+  pub rising : IsStrictlySortedBy thing_cmp (map (λ e. e.0) load)
   pub only : (x : Thing) → 0 < times_loaded x load → IsRootOf args x
   pub whole : (x : Thing) → IsRootOf args x → 0 < times_loaded x load
   pub rows : IsLoadOf all args brought

@@ -29,12 +29,12 @@ abbrev pub IsFreed : List PlainActor → Actors → Thing → Type 0
 IsFreed made actors x = IsMade made x × (IsLeft actors x → ⊥)
 
 -- a present actor names it: in its fields, its registers or its table; in a letter's load, which has
--- what the arguments name; or in an Inc or Dec for a thing of its own
+-- what the arguments name; or in an Inc or a Dec
 pub data IsNamedBy (a : ℕ) (c : Cell) (mail : List Letter) (x : Thing) : Type 0 where
   by_root : Roots c x → IsNamedBy a c mail x
   by_load : 0 < sum_by (load_count x) mail → IsNamedBy a c mail x
-  by_inc : owner_of x ≡ a → 0 < sum_by (inc_of x) mail → IsNamedBy a c mail x
-  by_dec : owner_of x ≡ a → 0 < sum_by (dec_of x) mail → IsNamedBy a c mail x
+  by_inc : 0 < sum_by (inc_of x) mail → IsNamedBy a c mail x
+  by_dec : 0 < sum_by (dec_of x) mail → IsNamedBy a c mail x
 
 -- all that actors name is left, so nothing freed is named
 abbrev pub NamesNothingFreed : Actors → Type 0

@@ -1,7 +1,9 @@
 pub mod Actors
 pub mod Agreement
+pub mod Apart
 pub mod Balance
 pub mod Block
+pub mod Bounds
 pub mod Cell
 pub mod Clean
 pub mod Collect
@@ -10,13 +12,16 @@ pub mod Enabled
 pub mod Ends
 pub mod Examples
 pub mod Facts
+pub mod First
 pub mod Go
+pub mod Gone
 pub mod Known
 pub mod KnownByRoots
 pub mod Laws
 pub mod Leave
 pub mod Left
 pub mod LeftByRoots
+pub mod Letters
 pub mod Lists
 pub mod Next
 pub mod Options
@@ -25,6 +30,7 @@ pub mod PlainLimits
 pub mod PlainReach
 pub mod PlainRun
 pub mod Run
+pub mod SmallExamples
 pub mod State
 pub mod Take
 pub mod TracedByRoots

@@ -1,6 +1,7 @@
 // Programs and books that are runs of them.
 
 ghost use Rattle.machine_rules.specs.Examples.{AnObjectIsPassedOnAndGoes, TwoHoldEachOtherAndGo};
+ghost use Rattle.machine_rules.specs.SmallExamples.{AReapGivesBackByOwners, AnUnblockCancelsItsOwn, MintsAreForTheLowestFirst, TheFirstLeavesAtOnce};
 
 /// Two actors hold each other, and the detector finds them. One is pinged before it is asked, so the
 /// first token is cancelled; the second token takes both. At the end nothing is left.
@@ -12,4 +13,26 @@ pub fn two_hold_each_other_and_go()
 /// freed, and its maker alone is left, which is pinned.
 pub fn an_object_is_passed_on_and_goes()
     ensures { AnObjectIsPassedOnAndGoes }
+{}
+
+/// The first actor begins clean: where no letter comes to it, it leaves at once.
+pub fn the_first_leaves_at_once()
+    ensures { TheFirstLeavesAtOnce }
+{}
+
+/// A new actor begins clean, and reports its count, which is the weight. A scan that finds no closed set
+/// opens no token. An Unblock cancels the tokens of its actor, and no other.
+pub fn an_unblock_cancels_its_own()
+    ensures { AnUnblockCancelsItsOwn }
+{}
+
+/// An actor that lacks things of two owners mints for the lower one first, by the weight. The taker of
+/// the increment is dirty then, though it was clean, and collects.
+pub fn mints_are_for_the_lowest_first()
+    ensures { MintsAreForTheLowestFirst }
+{}
+
+/// A reap gives back what a member held on two things of one owner by one decrement.
+pub fn a_reap_gives_back_by_owners()
+    ensures { AReapGivesBackByOwners }
 {}

@@ -1,0 +1,87 @@
+-- What the events of a book freed is freed after later ones too, and is not reached then.
+use Rattle.std.proofs.Common.{◌≡◌, suc, Bool, true, false, is_some, None, List, [], ◌∷◌, ◌++◌, length, refl, sym, ap, subst, arith, ⊎_elim}
+use Rattle.std.specs.Prelude.{if◌then◌else◌}
+use Rattle.std.proofs.lemmas.Bool.{cases_lt}
+use Rattle.orca_names.specs.declared.names.Thing.{Thing}
+use Rattle.orca_names.specs.declared.names.Thing.TheVariants.{Actor, Obj}
+use Rattle.event_rule.specs.declared.event.Event.{Event}
+use Rattle.machine_rules.proofs.Forgotten.{forgotten_stays}
+use Rattle.machine_rules.proofs.Staying.{gone_stays}
+use Rattle.machine_rules.specs.Agreement.{people_of}
+use Rattle.machine_rules.specs.Gone.{IsGone, IsNamed}
+use Rattle.machine_rules.specs.Left.{IsFreed, IsMade}
+use Rattle.machine_rules.specs.Options.{Trace}
+use Rattle.machine_rules.specs.Plain.{PlainState, plain_row}
+use Rattle.machine_rules.specs.Run.{Leads, PlainLeads, choices, choices_after, is_choice}
+use Rattle.machine_rules.specs.State.{State, Step, Goes, first_state}
+use Rattle.machine_rules.specs.declared.PlainActor.{PlainActor}
+use Rattle.machine_laws.proofs.WholeRuns.{leads_on, reachable_left, run_has_facts}
+use Rattle.machine_laws.specs.AllFacts.{AllFacts}
+use Rattle.machine_laws.specs.Freed.{FreedStaysFreed}
+
+split_leads : (book later : List Event) (s t : State) → Leads s (book ++ later) t → (u : State) × Leads s book u × Leads u later t
+split_leads [] later s t leads = (s, refl, leads)
+split_leads (e ∷ book) later s t leads = let rest = split_leads book later leads.0 t leads.2 in (rest.0, (leads.0, leads.1, rest.1), rest.2)
+
+-- ---- the plain machine beside the whole
+
+abbrev Chosen : Bool → Event → List Event → Step → List Event
+Chosen b e book step = if b then e ∷ choices_after (choices book) step else choices_after (choices book) step
+
+chosen_on : (b : Bool) (e : Event) (book later : List Event) (u : State) (p q r : PlainState)
+    → ((p : PlainState) → PlainLeads p (choices book u) q → PlainLeads p (choices (book ++ later) u) r)
+    → PlainLeads p (Chosen b e book (Goes u)) q → PlainLeads p (Chosen b e (book ++ later) (Goes u)) r
+chosen_on true e book later u p q r rest (v, goes, leads) = (v, goes, rest v leads)
+chosen_on false e book later u p q r rest leads = rest p leads
+
+beside_on : (book later : List Event) (s u : State) (q r : PlainState) → Leads s book u → PlainLeads q (choices later u) r → (p : PlainState) → PlainLeads p (choices book s) q → PlainLeads p (choices (book ++ later) s) r
+beside_on [] later s u q r same beside p stays =
+    subst (λ (v : PlainState). PlainLeads v (choices later s) r) (sym stays) (subst (λ (w : State). PlainLeads q (choices later w) r) (sym same) beside)
+beside_on (e ∷ book) later s u q r (v, goes, leads) beside p first =
+    subst (λ (step : Step). PlainLeads p (Chosen (is_choice s e) e book step) q → PlainLeads p (Chosen (is_choice s e) e (book ++ later) step) r) (sym goes)
+    (chosen_on (is_choice s e) e book later v p q r (beside_on book later v u q r leads beside)) first
+
+-- ---- what was made has a name
+
+length-people : (actors : List PlainActor) → length (people_of actors) ≡ length actors
+length-people [] = refl
+length-people (x ∷ xs) = ap suc (length-people xs)
+
+made_named : (trace : Trace) (p : PlainState) (s : State) → AllFacts trace p s → (x : Thing) → IsMade p.actors x → IsNamed s.actors x
+made_named trace p s facts (Actor a) made = let l = facts.beside.counts.long in omega (arith, length-people p.actors)
+made_named trace p s facts (Obj n) made = (
+  ⊎_elim
+      (λ below. below)
+      (λ past. absurd (no_row (facts.beside.counts.unmade n.owner past n.serial)))
+      (cases_lt n.owner (length s.actors)),
+  λ seat at. ⊎_elim
+      (λ below. below)
+      (λ past. absurd (no_row (facts.beside.counts.serials n.owner seat.cell seat.mail at n.serial past)))
+      (cases_lt n.serial seat.cell.holdings.next),
+)
+  where
+    no_row : plain_row p.actors n ≡ None → ⊥
+    no_row none = let w = ap is_some none in cc
+
+freed_gone : (trace : Trace) (p : PlainState) (s : State) → AllFacts trace p s → (x : Thing) → IsFreed p.actors s.actors x → IsGone s.actors x
+freed_gone trace p s facts x freed = (made_named trace p s facts x freed.0, freed.1)
+
+-- ---- the law
+
+pub freed_stays : FreedStaysFreed
+freed_stays program options heavy book later t run =
+    let parts = split_leads book later (first_state program options) t run in
+    let first = run_has_facts program options heavy book parts.0 parts.1 in
+    let last = leads_on options.trace later first.0 parts.0 t first.2 parts.2 in
+    let forgotten = λ (x : Thing) (freed : IsFreed first.0.actors parts.0.actors x).
+    forgotten_stays (choices later parts.0) first.0 last.0 last.1 x (freed.0, λ r. freed.1 (reachable_left options.trace first.0 parts.0 first.2 x r)) in
+    record {
+      mid = parts.0;
+      run = parts.1;
+      before = first.0;
+      beside = first.1;
+      after = last.0;
+      beside_all = beside_on book later (first_state program options) parts.0 first.0 last.0 parts.1 last.1 _ first.1;
+      freed = λ x freed. ((forgotten x freed).0, (gone_stays later parts.0 t parts.2 x (freed_gone options.trace first.0 parts.0 first.2 x freed)).1);
+      unreached = λ x freed. (forgotten x freed).1;
+    }

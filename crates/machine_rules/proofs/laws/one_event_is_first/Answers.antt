@@ -1,0 +1,11 @@
+use Rattle.machine_rules.proofs.Firsts.{none_at_quiet, one_is_first, quiet_or_first}
+use Rattle.machine_rules.proofs.laws.one_event_is_first.Goals as goal
+
+pub returns-clause-some : goal.returns-clause-some
+returns-clause-some c = quiet_or_first
+
+pub returns-clause-one : goal.returns-clause-one
+returns-clause-one c = one_is_first
+
+pub returns-clause-none : goal.returns-clause-none
+returns-clause-none c = none_at_quiet
