@@ -40,10 +40,10 @@ page_there b (Some c) h = refl
 
 -- ---- where no event is enabled
 
--- an actor that is pinned and has nothing to do, or none
+-- an actor that is pinned or told that it is blocked, and has nothing to do, or none
 abbrev pub IsStill : Option Seat → Type 0
 IsStill None = Unit {0}
-IsStill (Some o) = (o.cell.frame ≡ None) × (o.mail ≡ []) × (o.cell.dirty ≡ false) × (o.cell.fields.pinned ≡ true)
+IsStill (Some o) = (o.cell.frame ≡ None) × (o.mail ≡ []) × (o.cell.dirty ≡ false) × ((o.cell.fields.pinned || o.cell.reported) ≡ true)
 
 take_still : (s : State) (a : ℕ) (o : Option Seat) → IsStill o → take_at s a o ≡ NotEnabled
 take_still s a None still = refl
@@ -60,12 +60,12 @@ collect_still s a (Some o) still = λ i. collect_in s.options.trace s a o.cell (
 block_still : (s : State) (a : ℕ) (o : Option Seat) → IsStill o → block_at s a o ≡ NotEnabled
 block_still s a None still = refl
 block_still s a (Some o) still =
-    λ i. block_in s a o.cell o.mail (is_none (still.0 i) && (is_empty (still.1 i) && not (still.2 i || (still.3 i || o.cell.reported))))
+    λ i. block_in s a o.cell o.mail (is_none (still.0 i) && (is_empty (still.1 i) && not (still.2 i || still.3 i)))
 
 leave_still : (s : State) (a : ℕ) (o : Option Seat) → IsStill o → leave_at s a o ≡ NotEnabled
 leave_still s a None still = refl
 leave_still s a (Some o) still =
-    λ i. leave_in s a ((is_none (still.0 i) && (is_empty (still.1 i) && not (still.2 i || (still.3 i || o.cell.reported)))) && (o.cell.holdings.count == 0))
+    λ i. leave_in s a ((is_none (still.0 i) && (is_empty (still.1 i) && not (still.2 i || still.3 i))) && (o.cell.holdings.count == 0))
 
 pub still_quiet : (s : State) → ((a : ℕ) → IsStill (seat_at s.actors a)) → s.notes ≡ [] → s.detector.tokens ≡ [] → s.detector.news ≡ false → IsQuiet s
 still_quiet s still notes tokens news (Take a) = take_still s a (seat_at s.actors a) (still a)

@@ -21,18 +21,18 @@ use Rattle.machine_rules.specs.Cell.{known_objects, object_name}
 -- ---- maps
 
 module _ {K X : Type 0} {R : K → K → Ordering} (o : IsTotalOrder R) (same : m.IsAntisymmetric R) where
-  insert-put : (es : List (K × X)) (k : K) (v : X) → m.insert {R = R} (m.from_entries es) k v ≡ m.from_entries (m.put R k v es)
+  pub insert-put : (es : List (K × X)) (k : K) (v : X) → m.insert {R = R} (m.from_entries es) k v ≡ m.from_entries (m.put R k v es)
   insert-put es k v = m.same_map o same _ _
       (λ q. m.get-insert o (m.from_entries es) k v q ∙ ap (cond (eq_by_cmp R q k) (Some v)) (m.get-from_entries o es q)
       ∙ sym (m.get-from_entries o (m.put R k v es) q ∙ find-put R o q k v es))
 
-  retain-where : (es : List (K × X)) (p : K → Bool) → m.retain_keys {R = R} (m.from_entries es) p ≡ m.from_entries (where_key R p es)
+  pub retain-where : (es : List (K × X)) (p : K → Bool) → m.retain_keys {R = R} (m.from_entries es) p ≡ m.from_entries (where_key R p es)
   retain-where es p = m.same_map o same _ _
       (λ q. m.get-retain_keys (m.from_entries es) p q (λ x t. ap p (sym (same q x t))) ∙ ap (λ f. cond (p q) f None) (m.get-from_entries o es q)
       ∙ sym (m.get-from_entries o (where_key R p es) q ∙ find-where_key R p q (λ x t. ap p (sym (same q x t))) es))
 
 -- in the order of their keys
-abbrev in_key_order : {K X : Type 0} (R : K → K → Ordering) → List (K × X) → List (K × X)
+abbrev pub in_key_order : {K X : Type 0} (R : K → K → Ordering) → List (K × X) → List (K × X)
 in_key_order R [] = []
 in_key_order R (e ∷ es) = m.put R e.0 e.1 (in_key_order R es)
 
@@ -40,11 +40,11 @@ none_in_none : {X : Type 0} (xs : List X) → length xs ≡ 0 → xs ≡ []
 none_in_none [] e = refl
 none_in_none (x ∷ xs) e = cc
 
-entries-in_order : {K X : Type 0} {R : K → K → Ordering} (o : IsTotalOrder R) (es : List (K × X)) → m.entries {R = R} (m.from_entries es) ≡ in_key_order R es
+pub entries-in_order : {K X : Type 0} {R : K → K → Ordering} (o : IsTotalOrder R) (es : List (K × X)) → m.entries {R = R} (m.from_entries es) ≡ in_key_order R es
 entries-in_order {X = X} {R = R} o [] = none_in_none _ (sym (m.len-entries {R = R} m.empty) ∙ m.len-empty R X)
 entries-in_order {R = R} o (e ∷ es) = m.entries-insert o (m.from_entries es) e.0 e.1 ∙ ap (m.put R e.0 e.1) (entries-in_order o es)
 
-nat_exact : m.IsAntisymmetric nat_cmp
+pub nat_exact : m.IsAntisymmetric nat_cmp
 nat_exact = m.nat_cmp-IsAntisymmetric
 
 -- ---- ledgers
@@ -65,7 +65,7 @@ abbrev pub empty_ledger : ℕ → Ledger
 empty_ledger count = record { count = count; rows = []; next = 0; foreign = [] }
 
 -- the entry of an own object
-abbrev own_entry : Ledger → ℕ → Option (Row × ℕ)
+abbrev pub own_entry : Ledger → ℕ → Option (Row × ℕ)
 own_entry l serial = m.find nat_cmp serial l.rows
 
 -- the entry of another's thing
@@ -121,10 +121,10 @@ set_own-told change (Obj n) l =
     cases (Some e) = insert-put nat_cmp_total nat_exact l.rows n.serial (e.0, change e.1)
 
 -- the count that is held on another's thing
-abbrev held_told : Ledger → Thing → ℕ
+abbrev pub held_told : Ledger → Thing → ℕ
 held_told l x = entry_count (held_entry l x)
 
-held_in-told : (l : Ledger) (x : Thing) → held_in (told l) x ≡ held_told l x
+pub held_in-told : (l : Ledger) (x : Thing) → held_in (told l) x ≡ held_told l x
 unfolding held_in
 held_in-told l x = ap entry_count (m.get-from_entries thing_total l.foreign x)
 

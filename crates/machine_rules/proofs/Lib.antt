@@ -1,6 +1,7 @@
 pub mod Acting
 pub mod Agreeing
 pub mod Bounding
+pub mod Brought
 pub mod Cases
 pub mod Changing
 pub mod Cleaning

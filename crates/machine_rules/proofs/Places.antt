@@ -4,24 +4,27 @@ use Rattle.std.proofs.lemmas.List.{map-set}
 use Rattle.letter_kinds.specs.Counting.{Amount}
 use Rattle.letter_kinds.specs.declared.letter.Letter.{Letter}
 use Rattle.letter_kinds.specs.declared.letter.Letter.TheVariants.{Dec, Confirm}
-use Rattle.machine_rules.proofs.Ledgers.{Ledger, told}
+use Rattle.machine_rules.proofs.Brought.{Brought, cell_with}
+use Rattle.machine_rules.proofs.Ledgers.{Ledger}
 use Rattle.machine_rules.specs.Actors.{Actors, Seat, push_decs, push_letter, seat, seat_at, with_letter_more}
 use Rattle.machine_rules.specs.Cell.{Cell}
 use Rattle.machine_rules.specs.Detect.{ask_all}
 
--- an actor that is present; its holdings stand in the ledger, and those of the cell count for nothing
+-- an actor that is present; its holdings stand in the ledger and the rows that letters brought beside it,
+-- and those of the cell count for nothing
 pub record Place : Type 0 where
   pub cell : Cell
   pub ledger : Ledger
+  pub known : Brought
   pub mail : List Letter
 
 -- all actors ever made, by number; none where the actor is gone
 abbrev pub Places : Type 0
 Places = List (Option Place)
 
--- the cell with the holdings of the ledger
+-- the cell with the holdings of the ledger and the rows beside it
 abbrev pub cell_told : Place → Cell
-cell_told o = record o.cell { holdings = told o.ledger }
+cell_told o = cell_with o.cell o.ledger o.known
 
 -- the seat of a place
 abbrev pub seat_told : Option Place → Option Seat
@@ -33,8 +36,8 @@ abbrev pub seats_told : Places → Actors
 seats_told places = map seat_told places
 
 -- a present actor
-abbrev pub place : Cell → Ledger → List Letter → Option Place
-place cell ledger mail = Some (record { cell = cell; ledger = ledger; mail = mail })
+abbrev pub place : Cell → Ledger → Brought → List Letter → Option Place
+place cell ledger known mail = Some (record { cell = cell; ledger = ledger; known = known; mail = mail })
 
 -- the place of a number
 abbrev pub place_at : Places → ℕ → Option Place
