@@ -60,6 +60,7 @@ pub mod RootsNeed
 pub mod RootsPost
 pub mod RootsQuiet
 pub mod RootsRows
+pub mod RootsRuns
 pub mod RootsSame
 pub mod RootsTake
 pub mod RootsTurn
@@ -79,6 +80,7 @@ pub mod Sweeping
 pub mod Sweeps
 pub mod TakeKeeps
 pub mod Takes
+pub mod Telling
 pub mod TurnKeeps
 pub mod Turns
 pub mod Untouched

@@ -16,10 +16,10 @@ use Rattle.machine_rules.specs.Run.{Leads}
 use Rattle.machine_rules.specs.SmallExamples.{AReapGivesBackByOwners, AnUnblockCancelsItsOwn, MintsAreForTheLowestFirst, TheFirstLeavesAtOnce, both_go, by_five, gives_an_object, giving_book, makes_one, starts_nothing, tells_of_two, up_to_no_token, up_to_one_mint, up_to_the_unblock}
 
 -- the page after these events, or else the one before them
-abbrev turned : List Event → Page → Page
+abbrev pub turned : List Event → Page → Page
 turned book b = page_or b (after_all book (Some b))
 
-turned_leads : (book : List Event) (b : Page) → is_some (after_all book (Some b)) ≡ true → Leads (state_told b) book (state_told (turned book b))
+pub turned_leads : (book : List Event) (b : Page) → is_some (after_all book (Some b)) ≡ true → Leads (state_told b) book (state_told (turned book b))
 turned_leads book b goes = after_all-leads book b (turned book b) (page_there b _ goes)
 
 -- where all actors are gone nothing is left

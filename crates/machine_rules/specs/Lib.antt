@@ -29,6 +29,7 @@ pub mod Plain
 pub mod PlainLimits
 pub mod PlainReach
 pub mod PlainRun
+pub mod RootsExamples
 pub mod Run
 pub mod SmallExamples
 pub mod State

@@ -1,6 +1,7 @@
 // Programs and books that are runs of them.
 
 ghost use Rattle.machine_rules.specs.Examples.{AnObjectIsPassedOnAndGoes, TwoHoldEachOtherAndGo};
+ghost use Rattle.machine_rules.specs.RootsExamples.{AGotObjectIsMinted, AHeldObjectStays};
 ghost use Rattle.machine_rules.specs.SmallExamples.{AReapGivesBackByOwners, AnUnblockCancelsItsOwn, MintsAreForTheLowestFirst, TheFirstLeavesAtOnce};
 
 /// Two actors hold each other, and the detector finds them. One is pinged before it is asked, so the
@@ -35,4 +36,16 @@ pub fn mints_are_for_the_lowest_first()
 /// A reap gives back what a member held on two things of one owner by one decrement.
 pub fn a_reap_gives_back_by_owners()
     ensures { AReapGivesBackByOwners }
+{}
+
+/// With root-only tracing an object is held by an actor that its row names, and so both stay with the
+/// object's owner, though nothing leads to them; with deep tracing both go.
+pub fn a_held_object_stays()
+    ensures { AHeldObjectStays }
+{}
+
+/// With root-only tracing, where a turn gets an object that its actor does not hold, the actor mints for
+/// that first, and nothing of the turn is kept.
+pub fn a_got_object_is_minted()
+    ensures { AGotObjectIsMinted }
 {}

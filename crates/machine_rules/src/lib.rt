@@ -9,8 +9,9 @@ mod laws;
 
 use behaviour_code::Name;
 pub use examples::{
-    a_reap_gives_back_by_owners, an_object_is_passed_on_and_goes, an_unblock_cancels_its_own,
-    mints_are_for_the_lowest_first, the_first_leaves_at_once, two_hold_each_other_and_go,
+    a_got_object_is_minted, a_held_object_stays, a_reap_gives_back_by_owners,
+    an_object_is_passed_on_and_goes, an_unblock_cancels_its_own, mints_are_for_the_lowest_first,
+    the_first_leaves_at_once, two_hold_each_other_and_go,
 };
 pub use laws::{
     a_book_leads_to_one_state, a_run_ends_in_one_way, cells_can_be_away, clean_cells_stay_swept,
