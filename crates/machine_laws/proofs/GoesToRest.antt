@@ -19,7 +19,7 @@ use Rattle.machine_rules.specs.State.{State, Step, NotEnabled, IsFull, Goes}
 use Rattle.machine_laws.proofs.AtQuiet.{quiet_exact, quiet_exact_by_roots}
 use Rattle.machine_laws.proofs.Calm.{IsCalm, some_or_none}
 use Rattle.machine_laws.proofs.ComesToRest.{event_leaves_less}
-use Rattle.machine_laws.proofs.WholeRuns.{event_keeps, run_has_deep, run_has_roots}
+use Rattle.machine_laws.proofs.WholeRuns.{event_keeps, run_has_deep, run_has_facts, run_has_roots}
 use Rattle.machine_laws.specs.AllFacts.{AllFacts}
 use Rattle.machine_laws.specs.Laws.{AwaitsChoices, GarbageIsGone, GarbageIsGoneByRoots, RunsCanRest}
 use Rattle.machine_laws.specs.Work.{work_left}
@@ -34,16 +34,16 @@ no_choices e later s t calm goes none =
 abbrev GoesOn : State → Type 0
 GoesOn s = (later : List Event) × (t : State) × Leads s later t × (choices later s ≡ []) × ((e : Event) → IsCalm t e → ⊥)
 
-goes_on : (work : ℕ) (p : PlainState) (s : State) → AllFacts Deep p s → work_left s ≤ work → GoesOn s
-goes_on zero p s facts enough = ⊎_elim
-    (λ some. let (e, (t, goes, calm)) = some in absurd (omega (arith, event_leaves_less p s t e facts goes calm)))
+goes_on : (trace : Trace) (work : ℕ) (p : PlainState) (s : State) → AllFacts trace p s → work_left s ≤ work → GoesOn s
+goes_on trace zero p s facts enough = ⊎_elim
+    (λ some. let (e, (t, goes, calm)) = some in absurd (omega (arith, event_leaves_less trace p s t e facts goes calm)))
     (λ none. ([], s, refl, refl, none))
     (some_or_none s)
-goes_on (suc work) p s facts enough = ⊎_elim
+goes_on trace (suc work) p s facts enough = ⊎_elim
     (λ some.
     let (e, (t, goes, calm)) = some in
-    let after = event_keeps Deep p s t e facts goes in
-    let (later, last, leads, none, end) = goes_on work after.0 t after.2 (omega (arith, event_leaves_less p s t e facts goes calm)) in
+    let after = event_keeps trace p s t e facts goes in
+    let (later, last, leads, none, end) = goes_on trace work after.0 t after.2 (omega (arith, event_leaves_less trace p s t e facts goes calm)) in
     (e ∷ later, last, (t, goes, leads), no_choices e later s t calm goes none, end))
     (λ none. ([], s, refl, refl, none))
     (some_or_none s)
@@ -94,9 +94,9 @@ quiet_too trace p s facts awaits quiet e = by_step (next s e) refl
 -- ---- the laws
 
 pub runs_can_rest : RunsCanRest
-runs_can_rest program options heavy deep book s run =
-    let facts = run_has_deep program options heavy deep book s run in
-    let (later, last, leads, calm, none) = goes_on (work_left s) facts.0 s facts.2 (omega arith) in
+runs_can_rest program options heavy book s run =
+    let facts = run_has_facts program options heavy book s run in
+    let (later, last, leads, calm, none) = goes_on options.trace (work_left s) facts.0 s facts.2 (omega arith) in
     record { later = later; last = last; leads = leads; calm = calm; waits = waits last none }
 
 pub garbage_is_gone : GarbageIsGone

@@ -1,11 +1,12 @@
 -- Each event that is no choice leaves less to do.
-use Rattle.std.proofs.Common.{◌≡◌, ℕ, suc, ◌+◌, ◌*◌, ◌≤◌, ◌<◌, ◌==◌, not, Bool, true, false, cond, if◌then◌else◌, Option, Some, None, List, [], ◌∷◌, length, filter, set, length-append, refl, ap, sym, subst, ◌∙◌, arith, ⊎_elim, eq-eqb, eqb-true}
-use Rattle.std.specs.Prelude.{sum_by}
+use Rattle.std.proofs.Common.{◌≡◌, ℕ, suc, ◌+◌, ◌*◌, ◌≤◌, ◌<◌, ◌==◌, ◌&&◌, not, Bool, true, false, cond, if◌then◌else◌, Option, Some, None, List, [], ◌∷◌, ◌++◌, length, filter, set, length-append, refl, ap, sym, subst, ◌∙◌, arith, ⊎_elim, eq-eqb, eqb-true}
+use Rattle.std.specs.Prelude.{is_none, sum_by}
 use Rattle.std.specs.FinMap as m
+use Rattle.std.proofs.Math.Nat.{suc-mul}
 use Rattle.std.proofs.lemmas.Bool.{and_parts, false≢true}
 use Rattle.std.proofs.lemmas.List.{length-map}
 use Rattle.std.proofs.lemmas.List.Sums.{sum_by-cons, sum_by_push}
-use Rattle.orca_names.specs.Names.{owner_of}
+use Rattle.orca_names.specs.Names.{owner_of, thing_cmp}
 use Rattle.orca_names.specs.declared.names.Thing.{Thing}
 use Rattle.orca_names.specs.declared.names.Value.{Value}
 use Rattle.event_rule.specs.declared.event.Event.{Event}
@@ -16,8 +17,8 @@ use Rattle.turn_rules.specs.declared.act.Act.TheVariants.{Post, New, Print, End}
 use Rattle.turn_rules.specs.declared.act.Frame.{Frame}
 use Rattle.letter_kinds.proofs.Filters.{length-filter_le}
 use Rattle.letter_kinds.specs.Counting.{Loaded, by_owner, given_back, is_lacking, lacking, mint_all, sweep, to_mint}
-use Rattle.letter_kinds.specs.Detector.{Detector, Token, all_acked, closed_set, has, note_ack, scanned, token_numbered}
-use Rattle.letter_kinds.specs.Holdings.{Holdings, held_in, with_made}
+use Rattle.letter_kinds.specs.Detector.{Detector, Token, all_acked, close_token, closed_set, has, heard, note_ack, scanned, token_numbered}
+use Rattle.letter_kinds.specs.Holdings.{Holdings, Row, held_in, with_made}
 use Rattle.letter_kinds.specs.Sums.{amount_of}
 use Rattle.letter_kinds.specs.declared.letter.Letter.{Letter}
 use Rattle.letter_kinds.specs.declared.letter.Letter.TheVariants.{App, Inc, Dec, Confirm}
@@ -29,16 +30,16 @@ use Rattle.machine_rules.proofs.Lacking.{counted_mint, to_mint_theirs}
 use Rattle.machine_rules.proofs.Seats.{present_below}
 use Rattle.machine_rules.proofs.Steps.{goes_to, not_enabled}
 use Rattle.machine_rules.proofs.TakeKeeps.{alike_lower, alike_raise}
-use Rattle.machine_rules.specs.Actors.{Seat, seat, seat_at}
+use Rattle.machine_rules.specs.Actors.{Actors, Seat, seat, seat_at}
 use Rattle.machine_rules.specs.Block.{block_at, block_in, held_actors, may_block}
 use Rattle.machine_rules.specs.Cell.{Cell}
-use Rattle.machine_rules.specs.Collect.{collect_at, collect_in, is_marked}
-use Rattle.machine_rules.specs.Detect.{hear_in, reap_found, reap_in, scan_in}
-use Rattle.machine_rules.specs.Go.{act_in, go_at, go_in, lacking_from, load_from, mint, post_or_mint, turn_of_cell, turned}
+use Rattle.machine_rules.specs.Collect.{collect_at, collect_in, collected, is_in_use, is_marked, without_unused}
+use Rattle.machine_rules.specs.Detect.{ask_all, hear_in, reap_found, reap_in, reap_members, scan_in}
+use Rattle.machine_rules.specs.Go.{act_in, go_at, go_in, lacking_from, load_from, mint, needed, needing, post_or_mint, rows_from, to_need, turn_of_cell, turned}
 use Rattle.machine_rules.specs.Lists.{is_empty}
 use Rattle.machine_rules.specs.Leave.{leave_at, leave_in, may_leave}
 use Rattle.machine_rules.specs.Next.{next}
-use Rattle.machine_rules.specs.Options.{Deep}
+use Rattle.machine_rules.specs.Options.{Trace, Deep, Roots}
 use Rattle.machine_rules.specs.Plain.{stopped_at}
 use Rattle.machine_rules.specs.Run.{act_is_choice, go_is_choice, go_is_choice_at, is_choice, take_is_choice_at}
 use Rattle.machine_rules.specs.State.{State, Goes}
@@ -47,9 +48,10 @@ use Rattle.detector_laws.proofs.Named.{numbered_is_open}
 use Rattle.detector_laws.specs.Members.{In}
 use Rattle.machine_laws.proofs.ActorsWork.{asks-work, decs-work, leave-work, more_times, push-work, reaped-work, set-work}
 use Rattle.machine_laws.proofs.Blocking.{reporting}
+use Rattle.machine_laws.proofs.GetsWork.{asks-gets, decs-gets, gets, idle-gets, mint-gets, need-length, need_mint-gets, push-gets, reaped-gets}
 use Rattle.machine_laws.proofs.Going.{held_made}
-use Rattle.machine_laws.proofs.TableWork.{by_owner-length, mint_first-work, sweep-work}
-use Rattle.machine_laws.specs.Work.{actors_work, count_work, detector_work, entry_work, letter_work, news_work, note_work, seat_work, silence_work, table_work}
+use Rattle.machine_laws.proofs.TableWork.{by_owner-length, mint_all-more, mint_first-work, sweep-work}
+use Rattle.machine_laws.specs.Work.{actors_work, count_work, detector_work, entry_work, get_work, gets_left, letter_work, news_work, note_work, seat_work, silence_work, table_work}
 
 -- what a filter lets through first passes
 first_passes : {A : Type 0} (p : A → Bool) (xs : List A) (y : A) (ys : List A) → filter p xs ≡ y ∷ ys → p y ≡ true
@@ -60,11 +62,20 @@ first_passes p (x ∷ xs) y ys is = by_test (first_passes p xs y ys) (p x) refl 
     by_test later true passes is = let same : x ≡ y = cc in ap p (sym same) ∙ passes
     by_test later false passes is = later is
 
+-- a collection changes what letters brought, and else the holdings alone
+with_known : (trace : Trace) (a : ℕ) (c : Cell) → (known : m.FinMap thing_cmp Row) × (without_unused trace a c ≡ record c { known = known })
+with_known Deep a c = (c.known, refl)
+with_known Roots a c = (m.retain_keys c.known (is_in_use a c), refl)
+
 -- ---- what is there, where n actors were made
 
 module _ (n : ℕ) where
   abbrev pub work_of : State → ℕ
-  work_of s = actors_work n s.actors + detector_work n s.detector + sum_by (note_work n) s.notes
+  work_of s = actors_work n s.actors + detector_work n s.detector + sum_by (note_work n) s.notes + gets_left s * get_work n
+
+  -- without what turns get
+  abbrev pub plain_work : State → ℕ
+  plain_work s = actors_work n s.actors + detector_work n s.detector + sum_by (note_work n) s.notes
 
   -- the parts of what a seat counts, where it is known whether its actor is dirty and reported
   seat_is : (c : Cell) (ls : List Letter) (dirty reported : Bool) → c.dirty ≡ dirty → c.reported ≡ reported
@@ -94,19 +105,44 @@ module _ (n : ℕ) where
 
   -- ---- one event
 
-  module _ (s t : State) (heavy : 0 < s.options.weight) (deep : s.options.trace ≡ Deep) where
+  module _ (s t : State) (heavy : 0 < s.options.weight) where
+    abbrev tracing : Trace
+    tracing = s.options.trace
+
+    abbrev left : Actors → ℕ
+    left actors = gets tracing s.program actors
+
     abbrev Less : State → Type 0
     Less u = work_of u < work_of s
 
     arrived : (u : State) → Goes u ≡ Goes t → Less u → Less t
     arrived u e less = subst Less (goes_to u t e) less
 
+    abbrev so : Actors → Detector → List Note → State
+    so actors detector told = record s { actors = actors; detector = detector; notes = told }
+
+    -- there is less besides, and no more that turns get
+    both : (actors : Actors) (detector : Detector) (told : List Note) → plain_work (so actors detector told) < plain_work s → left actors ≤ left s.actors → Less (so actors detector told)
+    both actors detector told less few =
+        add_less (plain_work (so actors detector told)) (plain_work s) (left actors * get_work n) (left s.actors * get_work n) less (more_times (left actors) (left s.actors) (get_work n) few)
+      where
+        add_less : (a b c d : ℕ) → a < b → c ≤ d → a + c < b + d
+        add_less a b c d less few = omega arith
+
+    -- there is one less that a turn gets, and not so much more besides
+    fewer : (actors : Actors) → plain_work (so actors s.detector s.notes) < plain_work s + get_work n → left actors < left s.actors → Less (so actors s.detector s.notes)
+    fewer actors less few =
+        add_more (plain_work (so actors s.detector s.notes)) (plain_work s) (left actors) (left s.actors) (get_work n) less (more_times (suc (left actors)) (left s.actors) (get_work n) few)
+      where
+        add_more : (a b c d each : ℕ) → a < b + each → suc c * each ≤ d * each → a + c * each < b + d * each
+        add_more a b c d each less few = omega (arith, less, few, suc-mul c each)
+
     -- ---- take
 
     -- an Inc or a Dec changes no table
     counts : (a : ℕ) (c c' : Cell) (letter : Letter) (ls : List Letter) → seat_at s.actors a ≡ seat c (letter ∷ ls) → letter_work n letter ≡ count_work n → note_work n (note_of a letter) ≡ suc (news_work n)
-        → c'.holdings.foreign ≡ c.holdings.foreign → c'.dirty ≡ true → c'.reported ≡ false → Less (record s { actors = set s.actors a (seat c' ls); notes = notes_after c.reported (note_of a letter) s.notes })
-    counts a c c' letter ls at one tells same dirty quiet = by_report c.reported refl
+        → c'.holdings.foreign ≡ c.holdings.foreign → c'.dirty ≡ true → c'.reported ≡ false → c'.frame ≡ None → Less (record s { actors = set s.actors a (seat c' ls); notes = notes_after c.reported (note_of a letter) s.notes })
+    counts a c c' letter ls at one tells same dirty quiet idle = by_report c.reported refl
       where
         by_report : (q : Bool) → c.reported ≡ q → Less (record s { actors = set s.actors a (seat c' ls); notes = notes_after q (note_of a letter) s.notes })
         by_report true is =
@@ -114,46 +150,58 @@ module _ (n : ℕ) where
             let now = seat_is c' ls true false dirty quiet in
             let mail = sum_by-cons (letter_work n) letter ls in
             let told = told-work true (note_of a letter) s.notes in
-            omega (arith, one, tells, ap (seat_work n) at, was, now, mail, told, same_table c.holdings c'.holdings same, set-work n s.actors a (seat c' ls) (present_below s.actors a _ at))
+            both (set s.actors a (seat c' ls)) s.detector (notes_after true (note_of a letter) s.notes) (omega (arith, one, tells, ap (seat_work n) at, was, now, mail, told, same_table c.holdings c'.holdings same, set-work n s.actors a (seat c' ls) (present_below s.actors a _ at))) (idle-gets tracing s.program s.actors a c' ls idle)
         by_report false is =
             let was = seat_is c (letter ∷ ls) c.dirty false refl is in
             let now = seat_is c' ls true false dirty quiet in
             let mail = sum_by-cons (letter_work n) letter ls in
-            omega (arith, one, ap (seat_work n) at, was, now, mail, same_table c.holdings c'.holdings same, set-work n s.actors a (seat c' ls) (present_below s.actors a _ at))
+            both (set s.actors a (seat c' ls)) s.detector (notes_after false (note_of a letter) s.notes) (omega (arith, one, ap (seat_work n) at, was, now, mail, same_table c.holdings c'.holdings same, set-work n s.actors a (seat c' ls) (present_below s.actors a _ at))) (idle-gets tracing s.program s.actors a c' ls idle)
 
-    confirm : (a token : ℕ) (c : Cell) (ls : List Letter) → seat_at s.actors a ≡ seat c (Confirm token ∷ ls) → Less (record s { actors = set s.actors a (seat c ls); notes = notes_after c.reported (notes.Ack token a) s.notes })
-    confirm a token c ls at = by_report c.reported refl
+    confirm : (a token : ℕ) (c : Cell) (ls : List Letter) → c.frame ≡ None → seat_at s.actors a ≡ seat c (Confirm token ∷ ls) → Less (record s { actors = set s.actors a (seat c ls); notes = notes_after c.reported (notes.Ack token a) s.notes })
+    confirm a token c ls idle at = by_report c.reported refl
       where
         by_report : (q : Bool) → c.reported ≡ q → Less (record s { actors = set s.actors a (seat c ls); notes = notes_after q (notes.Ack token a) s.notes })
-        by_report true is = omega (arith, ap (seat_work n) at, sum_by-cons (letter_work n) (Confirm token) ls, told-work true (notes.Ack token a) s.notes, set-work n s.actors a (seat c ls) (present_below s.actors a _ at))
-        by_report false is = omega (arith, ap (seat_work n) at, sum_by-cons (letter_work n) (Confirm token) ls, set-work n s.actors a (seat c ls) (present_below s.actors a _ at))
+        by_report true is =
+            both (set s.actors a (seat c ls)) s.detector (notes_after true (notes.Ack token a) s.notes) (omega (arith, ap (seat_work n) at, sum_by-cons (letter_work n) (Confirm token) ls, told-work true (notes.Ack token a) s.notes, set-work n s.actors a (seat c ls) (present_below s.actors a _ at)))
+            (idle-gets tracing s.program s.actors a c ls idle)
+        by_report false is =
+            both (set s.actors a (seat c ls)) s.detector (notes_after false (notes.Ack token a) s.notes) (omega (arith, ap (seat_work n) at, sum_by-cons (letter_work n) (Confirm token) ls, set-work n s.actors a (seat c ls) (present_below s.actors a _ at)))
+            (idle-gets tracing s.program s.actors a c ls idle)
 
-    takes : (a : ℕ) (c : Cell) (f : Option Frame) (ls : List Letter) → seat_at s.actors a ≡ seat c ls → take_is_choice_at (seat c ls) ≡ false → take_in s a c f ls ≡ Goes t → Less t
-    takes a c (Some f) ls at calm e = absurd (not_enabled t e)
-    takes a c None [] at calm e = absurd (not_enabled t e)
-    takes a c None (App behaviour args load rows ∷ ls) at calm e = absurd (false≢true (sym calm))
-    takes a c None (Inc es ∷ ls) at calm e = arrived _ e (counts a c (cell_after s.program a (Inc es) c) (Inc es) ls at refl refl (alike_raise a es c.holdings).foreign refl refl)
-    takes a c None (Dec es ∷ ls) at calm e = arrived _ e (counts a c (cell_after s.program a (Dec es) c) (Dec es) ls at refl refl (alike_lower a es c.holdings).foreign refl refl)
-    takes a c None (Confirm token ∷ ls) at calm e = arrived _ e (confirm a token c ls at)
+    takes : (a : ℕ) (c : Cell) (f : Option Frame) (ls : List Letter) → c.frame ≡ f → seat_at s.actors a ≡ seat c ls → take_is_choice_at (seat c ls) ≡ false → take_in s a c f ls ≡ Goes t → Less t
+    takes a c (Some f) ls idle at calm e = absurd (not_enabled t e)
+    takes a c None [] idle at calm e = absurd (not_enabled t e)
+    takes a c None (App behaviour args load rows ∷ ls) idle at calm e = absurd (false≢true (sym calm))
+    takes a c None (Inc es ∷ ls) idle at calm e = arrived _ e (counts a c (cell_after s.program a (Inc es) c) (Inc es) ls at refl refl (alike_raise a es c.holdings).foreign refl refl idle)
+    takes a c None (Dec es ∷ ls) idle at calm e = arrived _ e (counts a c (cell_after s.program a (Dec es) c) (Dec es) ls at refl refl (alike_lower a es c.holdings).foreign refl refl idle)
+    takes a c None (Confirm token ∷ ls) idle at calm e = arrived _ e (confirm a token c ls idle at)
 
     -- ---- collect
 
-    collects : (a : ℕ) (c : Cell) (f : Option Frame) (q : Bool) (ls : List Letter) → c.dirty ≡ q → seat_at s.actors a ≡ seat c ls → collect_in Deep s a c f q ls ≡ Goes t → Less t
-    collects a c (Some f) q ls is at e = absurd (not_enabled t e)
-    collects a c None false ls is at e = absurd (not_enabled t e)
-    collects a c None true ls is at e =
-        let marked = is_marked Deep a c in
+    -- the rows that letters brought count for nothing
+    swept : (a : ℕ) (c : Cell) (ls : List Letter) → c.frame ≡ None → c.dirty ≡ true → seat_at s.actors a ≡ seat c ls → (marked : Thing → Bool) (known : m.FinMap thing_cmp Row)
+        → Less (record s { actors = collected marked a (record c { known = known }) ls s.actors })
+    swept a c ls idle is at marked known =
         let back = given_back marked c.holdings in
-        let swept : Cell = record c { holdings = sweep marked a c.holdings; dirty = false } in
-        arrived _ e (omega (
+        let after : Cell = record c { holdings = sweep marked a c.holdings; dirty = false; known = known } in
+        both (collected marked a (record c { known = known }) ls s.actors) s.detector s.notes
+        (omega (
           arith,
-          decs-work n (by_owner back) (set s.actors a (seat swept ls)),
+          decs-work n (by_owner back) (set s.actors a (seat after ls)),
           more_times (length (by_owner back)) (length back) (count_work n) (by_owner-length back),
           sweep-work n marked a c.holdings,
-          set-work n s.actors a (seat swept ls) (present_below s.actors a _ at),
+          set-work n s.actors a (seat after ls) (present_below s.actors a _ at),
           ap (seat_work n) at,
           seat_is c ls true c.reported is refl,
         ))
+        (omega (arith, decs-gets tracing s.program (by_owner back) (set s.actors a (seat after ls)), idle-gets tracing s.program s.actors a after ls idle))
+
+    collects : (a : ℕ) (c : Cell) (f : Option Frame) (q : Bool) (ls : List Letter) → c.frame ≡ f → c.dirty ≡ q → seat_at s.actors a ≡ seat c ls → collect_in tracing s a c f q ls ≡ Goes t → Less t
+    collects a c (Some f) q ls idle is at e = absurd (not_enabled t e)
+    collects a c None false ls idle is at e = absurd (not_enabled t e)
+    collects a c None true ls idle is at e =
+        let kept = with_known tracing a c in
+        arrived _ e (subst (λ d. Less (record s { actors = collected (is_marked tracing a c) a d ls s.actors })) (sym kept.1) (swept a c ls idle is at (is_marked tracing a c) kept.0))
 
     -- ---- block
 
@@ -161,17 +209,19 @@ module _ (n : ℕ) where
     blocks a c ls false may at e = absurd (not_enabled t e)
     blocks a c ls true may at e =
         let quiet = (may_report c ls may).unreported in
-        arrived _ e (omega (
+        arrived _ e (both (set s.actors a (seat (reporting c) ls)) s.detector (s.notes ++ notes.Block a c.holdings.count (held_actors c.holdings) ∷ [])
+        (omega (
           arith,
           set-work n s.actors a (seat (reporting c) ls) (present_below s.actors a _ at),
           ap (seat_work n) at,
           seat_is c ls c.dirty false refl quiet,
           sum_by_push (note_work n) s.notes (notes.Block a c.holdings.count (held_actors c.holdings)),
         ))
+        (idle-gets tracing s.program s.actors a (reporting c) ls (may_report c ls may).rest.idle))
 
     leaves : (a : ℕ) (o : Seat) (q : Bool) → may_leave o.cell o.mail ≡ q → seat_at s.actors a ≡ Some o → leave_in s a q ≡ Goes t → Less t
     leaves a o false may at e = absurd (not_enabled t e)
-    leaves a o true may at e = arrived _ e (omega (arith, leave-work n s.actors a o at (may_go o.cell o.mail may).0.unreported))
+    leaves a o true may at e = arrived _ e (both (reap_members (a ∷ []) s.actors) s.detector s.notes (omega (arith, leave-work n s.actors a o at (may_go o.cell o.mail may).0.unreported)) (reaped-gets tracing s.program (a ∷ []) (a ∷ []) [] s.actors))
 
     -- ---- a go that mints
 
@@ -188,36 +238,58 @@ module _ (n : ℕ) where
         let table = subst (λ ts. table_work n (mint_all ts c.holdings) + suc (count_work n) ≤ table_work n c.holdings) (sym first)
         (mint_first-work n (e.0, s.options.weight) (to_mint s.options.weight owner es) c.holdings (subst AllCounted first (counted_mint s.options.weight heavy owner (e ∷ es))) (λ x some. known x (subst (λ ts. 0 < amount_of x ts) (sym first) some)) one) in
         let minted : Cell = record c { holdings = mint_all things c.holdings } in
-        omega (arith, table, push-work n owner (Inc things) (set s.actors a (seat minted ls)), set-work n s.actors a (seat minted ls) (present_below s.actors a _ at), ap (seat_work n) at)
+        both (mint a c ls owner things s.actors) s.detector s.notes (omega (arith, table, push-work n owner (Inc things) (set s.actors a (seat minted ls)), set-work n s.actors a (seat minted ls) (present_below s.actors a _ at), ap (seat_work n) at))
+        (omega (arith, push-gets tracing s.program owner (Inc things) (set s.actors a (seat minted ls)), mint-gets tracing s.program s.actors a c ls at things))
 
     posts : (a : ℕ) (c : Cell) (ls : List Letter) (stop : Stop) → seat_at s.actors a ≡ seat c ls → (after : Cell) (to behaviour : ℕ) (args : List Value) (load rows lack : List Loaded) → lacking a (with_made stop.turn.made c.holdings) load ≡ lack
         → is_empty lack ≡ false → Less (post_or_mint s a c after ls stop to behaviour args load rows lack)
     posts a c ls stop at after to behaviour args load rows [] lacks some = absurd (false≢true (sym some))
     posts a c ls stop at after to behaviour args load rows (e ∷ es) lacks some = mints a c ls stop at load e es lacks
 
-    acts : (a : ℕ) (c : Cell) (ls : List Letter) (f : Frame) (stop : Stop) → seat_at s.actors a ≡ seat c ls → (act : Act) → act_is_choice Deep a (with_made stop.turn.made c.holdings) act ≡ false
-        → act_in Deep s a c ls f stop act ≡ Goes t → Less t
+    -- ---- a go that mints for what the turn gets
+
+    needs-less : (a : ℕ) (c : Cell) (ls : List Letter) (f : Frame) → c.frame ≡ Some f → seat_at s.actors a ≡ seat c ls → (x : Thing) → needed tracing s.program a c f ≡ Some x
+        → Less (record s { actors = mint a c ls (owner_of x) (to_need s.options.weight a c.holdings x) s.actors })
+    needs-less a c ls f is at x found =
+        let things = to_need s.options.weight a c.holdings x in
+        let within = present_below s.actors a _ at in
+        let minted : Cell = record c { holdings = mint_all things c.holdings } in
+        let few = more_times (length things) 2 (suc (2 * count_work n)) (need-length s.options.weight a c.holdings x) in
+        fewer (mint a c ls (owner_of x) things s.actors)
+        (omega (arith, mint_all-more n things c.holdings, few, push-work n (owner_of x) (Inc things) (set s.actors a (seat minted ls)), set-work n s.actors a (seat minted ls) within, ap (seat_work n) at))
+        (omega (arith, push-gets tracing s.program (owner_of x) (Inc things) (set s.actors a (seat minted ls)), need_mint-gets tracing s.program s.actors a c ls at s.options.weight heavy f x within is found))
+
+    acts : (a : ℕ) (c : Cell) (ls : List Letter) (f : Frame) (stop : Stop) → seat_at s.actors a ≡ seat c ls → (act : Act) → act_is_choice tracing a (with_made stop.turn.made c.holdings) act ≡ false
+        → act_in tracing s a c ls f stop act ≡ Goes t → Less t
     acts a c ls f stop at End calm e = absurd (false≢true (sym calm))
     acts a c ls f stop at (Print v) calm e = absurd (false≢true (sym calm))
     acts a c ls f stop at (New kind register) calm e = absurd (false≢true (sym calm))
     acts a c ls f stop at (Post to behaviour args) calm e =
         let h = with_made stop.turn.made c.holdings in
-        arrived _ e (posts a c ls stop at (turned stop (Some f) c.dirty c) to behaviour args (load_from Deep a h args) [] (lacking_from Deep a h args) refl calm)
+        arrived _ e (posts a c ls stop at (turned stop (Some f) c.dirty c) to behaviour args (load_from tracing a h args) (rows_from tracing a (turned stop (Some f) c.dirty c) args) (lacking_from tracing a h args) refl calm)
 
-    goes : (a : ℕ) (c : Cell) (f : Option Frame) (ls : List Letter) → seat_at s.actors a ≡ seat c ls → go_is_choice Deep s.program a c f ≡ false → go_in Deep s a c f ls ≡ Goes t → Less t
-    goes a c None ls at calm e = absurd (not_enabled t e)
-    goes a c (Some f) ls at calm e = let stop = turn_of_cell Deep s.program a c f in acts a c ls (stopped_at f stop) stop at stop.act calm e
+    goes : (a : ℕ) (c : Cell) (f : Option Frame) (ls : List Letter) → c.frame ≡ f → seat_at s.actors a ≡ seat c ls → go_is_choice tracing s.program a c f ≡ false → go_in tracing s a c f ls ≡ Goes t → Less t
+    goes a c None ls is at calm e = absurd (not_enabled t e)
+    goes a c (Some f) ls is at calm e = by_found (needed tracing s.program a c f) refl calm e
+      where
+        stop : Stop
+        stop = turn_of_cell tracing s.program a c f
+
+        by_found : (found : Option Thing) → needed tracing s.program a c f ≡ found → (is_none found && act_is_choice tracing a (with_made stop.turn.made c.holdings) stop.act) ≡ false
+            → needing s a c ls found (act_in tracing s a c ls (stopped_at f stop) stop stop.act) ≡ Goes t → Less t
+        by_found None found calm e = acts a c ls (stopped_at f stop) stop at stop.act calm e
+        by_found (Some x) found calm e = arrived _ e (needs-less a c ls f is at x found)
 
     -- ---- the detector's events
 
     hears : (ns : List Note) → s.notes ≡ ns → hear_in s ns ≡ Goes t → Less t
     hears [] is e = absurd (not_enabled t e)
     hears (notes.Block a count held ∷ ns) is e =
-        arrived _ e (omega (arith, ap (sum_by (note_work n)) is, sum_by-cons (note_work n) (notes.Block a count held) ns))
+        arrived _ e (both s.actors (heard (notes.Block a count held) s.detector) ns (omega (arith, ap (sum_by (note_work n)) is, sum_by-cons (note_work n) (notes.Block a count held) ns)) (omega arith))
     hears (notes.Unblock a ∷ ns) is e =
-        arrived _ e (omega (arith, ap (sum_by (note_work n)) is, sum_by-cons (note_work n) (notes.Unblock a) ns, length-filter_le (λ (u : Token). not (has u.members a)) s.detector.tokens))
+        arrived _ e (both s.actors (heard (notes.Unblock a) s.detector) ns (omega (arith, ap (sum_by (note_work n)) is, sum_by-cons (note_work n) (notes.Unblock a) ns, length-filter_le (λ (u : Token). not (has u.members a)) s.detector.tokens)) (omega arith))
     hears (notes.Ack token a ∷ ns) is e =
-        arrived _ e (omega (arith, ap (sum_by (note_work n)) is, sum_by-cons (note_work n) (notes.Ack token a) ns, length-map s.detector.tokens (note_ack token a)))
+        arrived _ e (both s.actors (heard (notes.Ack token a) s.detector) ns (omega (arith, ap (sum_by (note_work n)) is, sum_by-cons (note_work n) (notes.Ack token a) ns, length-map s.detector.tokens (note_ack token a))) (omega arith))
 
     scanned-work : (d : Detector) (members : List ℕ) → d.news ≡ true → length members ≤ n → detector_work n (scanned d members) + 2 * length members < detector_work n d
     scanned-work d [] news few = rw news (omega arith)
@@ -226,11 +298,13 @@ module _ (n : ℕ) where
     scans : length (closed_set s.detector) ≤ n → (news : Bool) → s.detector.news ≡ news → scan_in s (closed_set s.detector) news ≡ Goes t → Less t
     scans few false is e = absurd (not_enabled t e)
     scans few true is e =
-        arrived _ e (omega (arith, scanned-work s.detector (closed_set s.detector) is few, asks-work n (closed_set s.detector) (suc s.detector.opened) s.actors))
+        arrived _ e (both (ask_all (closed_set s.detector) (suc s.detector.opened) s.actors) (scanned s.detector (closed_set s.detector)) s.notes (omega (arith, scanned-work s.detector (closed_set s.detector) is few, asks-work n (closed_set s.detector) (suc s.detector.opened) s.actors))
+        (asks-gets tracing s.program (closed_set s.detector) (suc s.detector.opened) s.actors))
 
     reaps_one : (token : Token) → In token s.detector.tokens → (q : Bool) → reap_in s token q ≡ Goes t → Less t
     reaps_one token listed false e = absurd (not_enabled t e)
-    reaps_one token listed true e = arrived _ e (omega (arith, closed-work token s.detector.tokens listed, reaped-work n token.members token.members [] s.actors))
+    reaps_one token listed true e =
+        arrived _ e (both (reap_members token.members s.actors) (close_token token s.detector) s.notes (omega (arith, closed-work token s.detector.tokens listed, reaped-work n token.members token.members [] s.actors)) (reaped-gets tracing s.program token.members token.members [] s.actors))
 
     reaps : (number : ℕ) (found : Option Token) → token_numbered number s.detector ≡ found → reap_found s found ≡ Goes t → Less t
     reaps number None at e = absurd (not_enabled t e)
@@ -243,17 +317,17 @@ module _ (n : ℕ) where
       where
         by_seat : (o : Option Seat) → seat_at s.actors a ≡ o → take_at s a o ≡ Goes t → take_is_choice_at o ≡ false → Less t
         by_seat None at e calm = absurd (not_enabled t e)
-        by_seat (Some o) at e calm = takes a o.cell o.cell.frame o.mail at calm e
-    leaves_less few (Go a) e calm = by_seat (seat_at s.actors a) refl (sym (ap (λ q. go_at q s a (seat_at s.actors a)) deep) ∙ e) (sym (ap (λ q. go_is_choice_at q s.program a (seat_at s.actors a)) deep) ∙ calm)
+        by_seat (Some o) at e calm = takes a o.cell o.cell.frame o.mail refl at calm e
+    leaves_less few (Go a) e calm = by_seat (seat_at s.actors a) refl e calm
       where
-        by_seat : (o : Option Seat) → seat_at s.actors a ≡ o → go_at Deep s a o ≡ Goes t → go_is_choice_at Deep s.program a o ≡ false → Less t
+        by_seat : (o : Option Seat) → seat_at s.actors a ≡ o → go_at tracing s a o ≡ Goes t → go_is_choice_at tracing s.program a o ≡ false → Less t
         by_seat None at e calm = absurd (not_enabled t e)
-        by_seat (Some o) at e calm = goes a o.cell o.cell.frame o.mail at calm e
-    leaves_less few (Collect a) e calm = by_seat (seat_at s.actors a) refl (sym (ap (λ q. collect_at q s a (seat_at s.actors a)) deep) ∙ e)
+        by_seat (Some o) at e calm = goes a o.cell o.cell.frame o.mail refl at calm e
+    leaves_less few (Collect a) e calm = by_seat (seat_at s.actors a) refl e
       where
-        by_seat : (o : Option Seat) → seat_at s.actors a ≡ o → collect_at Deep s a o ≡ Goes t → Less t
+        by_seat : (o : Option Seat) → seat_at s.actors a ≡ o → collect_at tracing s a o ≡ Goes t → Less t
         by_seat None at e = absurd (not_enabled t e)
-        by_seat (Some o) at e = collects a o.cell o.cell.frame o.cell.dirty o.mail refl at e
+        by_seat (Some o) at e = collects a o.cell o.cell.frame o.cell.dirty o.mail refl refl at e
     leaves_less few (Leave a) e calm = by_seat (seat_at s.actors a) refl e
       where
         by_seat : (o : Option Seat) → seat_at s.actors a ≡ o → leave_at s a o ≡ Goes t → Less t

@@ -7,6 +7,7 @@ pub mod Collecting
 pub mod ComesToRest
 pub mod Counting
 pub mod Done
+pub mod GetsWork
 pub mod GoesToRest
 pub mod Going
 pub mod HeldActors

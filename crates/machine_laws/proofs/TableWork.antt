@@ -59,6 +59,16 @@ module _ (f : Entry → ℕ) where
       at_order above later Greater more found =
           omega (arith, sum_by-cons (λ (e : Thing × Entry). f e.1) e es, sum_by-cons (λ (e : Thing × Entry). f e.1) e (m.put thing_cmp k v es), later found)
 
+  -- an entry is changed or comes
+  sum-put_le : (k : Thing) (v : Entry) (es : List (Thing × Entry)) → value_sum (m.put thing_cmp k v es) ≤ value_sum es + f v
+  sum-put_le k v [] = omega (arith, sum_by-cons (λ (e : Thing × Entry). f e.1) (k, v) [])
+  sum-put_le k v (e ∷ es) = at_order (sum-put_le k v es) (thing_cmp k e.0)
+    where
+      at_order : value_sum (m.put thing_cmp k v es) ≤ value_sum es + f v → (r : Ordering) → value_sum (by_order r ((k, v) ∷ e ∷ es) ((e.0, v) ∷ es) (e ∷ m.put thing_cmp k v es)) ≤ value_sum (e ∷ es) + f v
+      at_order later Less = omega (arith, sum_by-cons (λ (e : Thing × Entry). f e.1) (k, v) (e ∷ es))
+      at_order later Equal = omega (arith, sum_by-cons (λ (e : Thing × Entry). f e.1) (e.0, v) es, sum_by-cons (λ (e : Thing × Entry). f e.1) e es)
+      at_order later Greater = omega (arith, sum_by-cons (λ (e : Thing × Entry). f e.1) e es, sum_by-cons (λ (e : Thing × Entry). f e.1) e (m.put thing_cmp k v es), later)
+
 -- ---- minting
 
 -- what is held of a thing stands in its entry
@@ -112,6 +122,32 @@ module _ (n : ℕ) where
       let rest = mint_all-work es (mint_one e h) counted.1 (λ x h'. omega (arith, held x (amount_more x e es h'), held_still e h x)) in
       let lone : entry_work n (held_in h e.0) ≡ count_work n + suc (count_work n) = rw one refl in
       omega (arith, rest, mint_one-work e h some counted.0, lone)
+
+  -- ---- minting for what is not held
+
+  entry_most : (count : ℕ) → entry_work n count ≤ suc (2 * count_work n)
+  entry_most count = by_one (count == 1)
+    where
+      by_one : (b : Bool) → count_work n + (if b then suc (count_work n) else 0) ≤ suc (2 * count_work n)
+      by_one true = omega arith
+      by_one false = omega arith
+
+  mint_one-more : (e : Amount) (h : Holdings) → table_work n (mint_one e h) ≤ table_work n h + suc (2 * count_work n)
+  unfolding set_held
+  mint_one-more e h =
+      let row = entry_row (m.get h.foreign e.0) in
+      let put = ap (λ es. sum_by (λ (e : Thing × Entry). entry_work n e.1.0) es) (m.entries-insert thing_total h.foreign e.0 (held_in h e.0 + e.1, row)) in
+      omega (arith, put, sum-put_le (λ v. entry_work n v.0) e.0 (held_in h e.0 + e.1, row) (m.entries h.foreign), entry_most (held_in h e.0 + e.1))
+
+  -- each of them is at most an entry more
+  pub mint_all-more : (es : List Amount) (h : Holdings) → table_work n (mint_all es h) ≤ table_work n h + length es * suc (2 * count_work n)
+  unfolding mint_all
+  mint_all-more [] h = omega arith
+  mint_all-more (e ∷ es) h =
+      one_more (table_work n (mint_all es (mint_one e h))) (table_work n (mint_one e h)) (table_work n h) (length es) (suc (2 * count_work n)) (mint_all-more es (mint_one e h)) (mint_one-more e h)
+    where
+      one_more : (after between before more each : ℕ) → after ≤ between + more * each → between ≤ before + each → after ≤ before + suc more * each
+      one_more after between before more each rest one = omega (arith, rest, one, suc-mul more each)
 
 -- ---- sweeping
 

@@ -21,7 +21,7 @@ use Rattle.machine_rules.specs.State.{State, Goes, first_state}
 use Rattle.machine_rules.specs.TracedByRoots.{AreTracedByRoots}
 use Rattle.detector_laws.specs.Reports.{IsReportOf}
 use Rattle.machine_laws.specs.AllFacts.{AllFacts}
-use Rattle.machine_laws.specs.Work.{work_left}
+use Rattle.machine_laws.specs.Work.{gets_left, work_left}
 
 -- ---- the facts hold
 
@@ -92,11 +92,15 @@ DetectorRestsAtQuiet = (program : Program) (options : Options) → 0 < options.w
 
 -- each event that is no choice leaves less to do
 abbrev pub EventsLeaveLess : Type 0
-EventsLeaveLess = (p : PlainState) (s t : State) (e : Event) → AllFacts Deep p s → next s e ≡ Goes t → is_choice s e ≡ false → work_left t < work_left s
+EventsLeaveLess = (trace : Trace) (p : PlainState) (s t : State) (e : Event) → AllFacts trace p s → next s e ≡ Goes t → is_choice s e ≡ false → work_left t < work_left s
+
+-- with deep tracing, for what turns get there is nothing to do
+abbrev pub DeepNeedsNoGet : Type 0
+DeepNeedsNoGet = (s : State) → s.options.trace ≡ Deep → gets_left s ≡ 0
 
 -- so, after each prefix of a run, no more events follow without a choice than there is work left
 abbrev pub RestsBetweenChoices : Type 0
-RestsBetweenChoices = (program : Program) (options : Options) → 0 < options.weight → options.trace ≡ Deep → (book later : List Event) (s t : State) → IsRun program options book s → Leads s later t → choices later s ≡ [] →
+RestsBetweenChoices = (program : Program) (options : Options) → 0 < options.weight → (book later : List Event) (s t : State) → IsRun program options book s → Leads s later t → choices later s ≡ [] →
     length later + work_left t ≤ work_left s
 
 -- whatever is enabled is a choice
@@ -113,7 +117,7 @@ pub record CanRest (s : State) : Type 0 where
 
 -- each run can go on so
 abbrev pub RunsCanRest : Type 0
-RunsCanRest = (program : Program) (options : Options) → 0 < options.weight → options.trace ≡ Deep → (book : List Event) (s : State) → IsRun program options book s → CanRest s
+RunsCanRest = (program : Program) (options : Options) → 0 < options.weight → (book : List Event) (s : State) → IsRun program options book s → CanRest s
 
 -- where only choices are enabled, and the machine that frees nothing is quiet, nothing is enabled, and
 -- exactly what is reachable is left

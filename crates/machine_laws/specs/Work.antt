@@ -1,7 +1,11 @@
 -- What a state has left to do besides choices, as a number. What a thing can still bring about counts
 -- less than the thing itself, so each event that is no choice makes the number smaller.
-use Rattle.std.specs.Prelude.{ℕ, suc, ◌+◌, ◌*◌, ◌==◌, if◌then◌else◌, Option, None, Some, length, sum_by}
+use Rattle.std.specs.Prelude.{ℕ, suc, ◌+◌, ◌*◌, ◌==◌, if◌then◌else◌, Option, None, Some, [], ◌∷◌, filter, length, sum_by}
 use Rattle.std.specs.FinMap as m
+use Rattle.behaviour_code.specs.declared.code.Program.{Program}
+use Rattle.reach_walk.specs.Reach.{named_by}
+use Rattle.turn_rules.specs.Segment.{gets_of}
+use Rattle.turn_rules.specs.declared.act.Frame.{Frame}
 use Rattle.letter_kinds.specs.Detector.{Detector}
 use Rattle.letter_kinds.specs.Holdings.{Holdings}
 use Rattle.letter_kinds.specs.declared.letter.Letter.{Letter}
@@ -9,6 +13,9 @@ use Rattle.letter_kinds.specs.declared.letter.Letter.TheVariants.{App, Inc, Dec,
 use Rattle.letter_kinds.specs.declared.note.Note.{Note}
 use Rattle.letter_kinds.specs.declared.note.Note.TheVariants.{Block, Unblock, Ack}
 use Rattle.machine_rules.specs.Actors.{Actors, Seat}
+use Rattle.machine_rules.specs.Cell.{Cell}
+use Rattle.machine_rules.specs.Go.{needs, setting_of}
+use Rattle.machine_rules.specs.Options.{Trace, Deep, Roots}
 use Rattle.machine_rules.specs.State.{State}
 
 -- ---- one thing to do, where n actors were made
@@ -43,6 +50,11 @@ letter_work n (Confirm token) = 2
 abbrev pub entry_work : ℕ → ℕ → ℕ
 entry_work n count = count_work n + (if count == 1 then suc (count_work n) else 0)
 
+-- with root-only tracing a value that a turn gets may be needed: the mint makes at most two entries more, and
+-- sends an Inc
+abbrev pub get_work : ℕ → ℕ
+get_work n = 3 + 5 * count_work n
+
 -- ---- a state
 
 abbrev pub table_work : ℕ → Holdings → ℕ
@@ -61,7 +73,25 @@ actors_work n actors = sum_by (seat_work n) actors
 abbrev pub detector_work : ℕ → Detector → ℕ
 detector_work n d = length d.tokens + (if d.news then news_work n else 0)
 
+-- how many of the values that its turn gets an actor needs; with deep tracing none
+abbrev pub needed_gets : Trace → Program → ℕ → Cell → Option Frame → ℕ
+needed_gets Deep program a c frame = 0
+needed_gets Roots program a c None = 0
+needed_gets Roots program a c (Some frame) = length (filter (needs a c.holdings) (named_by (gets_of (setting_of Roots program a c) frame c.fields)))
+
+abbrev pub needed_at : Trace → Program → ℕ → Option Seat → ℕ
+needed_at trace program a None = 0
+needed_at trace program a (Some o) = needed_gets trace program a o.cell o.cell.frame
+
+-- a sum over all actors, by their numbers
+abbrev pub sum_at : (ℕ → Option Seat → ℕ) → Actors → ℕ
+sum_at f [] = 0
+sum_at f (o ∷ actors) = f 0 o + sum_at (λ a. f (suc a)) actors
+
+abbrev pub gets_left : State → ℕ
+gets_left s = sum_at (needed_at s.options.trace s.program) s.actors
+
 abbrev pub work_left : State → ℕ
 work_left s =
     let n = length s.actors in
-    actors_work n s.actors + detector_work n s.detector + sum_by (note_work n) s.notes
+    actors_work n s.actors + detector_work n s.detector + sum_by (note_work n) s.notes + gets_left s * get_work n

@@ -2,12 +2,12 @@
 
 ghost use Rattle.machine_laws.specs.Bounds.{RunsCountAtMost, RunsCountInFewBits};
 ghost use Rattle.machine_laws.specs.Freed.{FreedStaysFreed};
-ghost use Rattle.machine_laws.specs.Laws.{StartHasAllFacts, EventsKeepAllFacts, RunsHaveAllFacts, NeverTooEarly, ExactlyAtQuiet, ExactlyAtQuietByRoots, RunsAreTracedByRoots, DetectorRestsAtQuiet, EventsLeaveLess, RestsBetweenChoices, RunsCanRest, GarbageIsGone, GarbageIsGoneByRoots};
+ghost use Rattle.machine_laws.specs.Laws.{StartHasAllFacts, EventsKeepAllFacts, RunsHaveAllFacts, NeverTooEarly, ExactlyAtQuiet, ExactlyAtQuietByRoots, RunsAreTracedByRoots, DetectorRestsAtQuiet, EventsLeaveLess, DeepNeedsNoGet, RestsBetweenChoices, RunsCanRest, GarbageIsGone, GarbageIsGoneByRoots};
 ghost use Rattle.machine_laws.specs.Reaps.{ReapsTakeTheDone, RunsReapTheDone};
 
 /// Where a run begins, all facts hold: the machine agrees with the one that frees nothing, counts
-/// balance and are never overdrawn, each actor knows what it reaches, clean cells are swept, and
-/// reports, tokens and news are sound.
+/// balance and are never overdrawn, each actor knows what it reaches (with root-only tracing, what its fields,
+/// registers and rows name), clean cells are swept, and reports, tokens and news are sound.
 pub fn the_start_has_all_facts()
     ensures { StartHasAllFacts }
 {}
@@ -52,12 +52,14 @@ pub fn the_detector_at_quiet()
     ensures { DetectorRestsAtQuiet }
 {}
 
-/// The machine comes to rest: each event that is no choice leaves less to do, so between two choices of
-/// a run there are no more events than there was work left after the first. What is collected, minted,
-/// reported and asked comes to an end, whatever the order.
+/// The machine comes to rest, with either tracing: each event that is no choice leaves less to do, so between
+/// two choices of a run there are no more events than there was work left after the first. What is
+/// collected, minted, reported and asked comes to an end, whatever the order. With deep tracing, for
+/// what turns get there is nothing to do.
 pub fn the_machine_comes_to_rest()
     ensures less { EventsLeaveLess }
     ensures run { RestsBetweenChoices }
+    ensures deep { DeepNeedsNoGet }
 {}
 
 /// Garbage goes: each run can go on, without a choice, to a state in which only choices are enabled.

@@ -81,6 +81,9 @@ is_pair w me h x y some =
     let inside = in_order-only (with_owners (x ∷ [])) y (needed_of w y (lacks me h) (in_order (with_owners (x ∷ []))) some) in
     ⊎_elim (λ e. inl (sym e)) (λ later. inr (sym (only_one (Actor (owner_of x)) y later))) (Contains-cons_cases x (Actor (owner_of x) ∷ []) y inside)
 
+pub itself_minted : (w : ℕ) → 0 < w → (me : ℕ) (h : Holdings) (x : Thing) → lacks me h x ≡ true → 0 < amount_of x (to_need w me h x)
+itself_minted w pos me h x t = of_needed w pos x (lacks me h) (in_order (with_owners (x ∷ []))) (in_order-has (with_owners (x ∷ [])) x (Contains-head x (Actor (owner_of x) ∷ []))) t
+
 pub owner_minted : (w : ℕ) → 0 < w → (me : ℕ) (h : Holdings) (x : Thing) → lacks me h (Actor (owner_of x)) ≡ true → 0 < amount_of (Actor (owner_of x)) (to_need w me h x)
 owner_minted w pos me h x t = of_needed w pos (Actor (owner_of x)) (lacks me h) (in_order (with_owners (x ∷ [])))
     (in_order-has (with_owners (x ∷ [])) (Actor (owner_of x)) (Contains-later x (Actor (owner_of x) ∷ []) (Actor (owner_of x)) (Contains-head (Actor (owner_of x)) []))) t
