@@ -19,7 +19,7 @@ use Rattle.machine_rules.proofs.Telling.{is_left_told, left-told, tally-told}
 use Rattle.machine_rules.specs.Actors.{seat_at}
 use Rattle.machine_rules.specs.Examples.{usual}
 use Rattle.machine_rules.specs.Left.{IsLeft}
-use Rattle.machine_rules.specs.RootsExamples.{AGotObjectIsMinted, AHeldObjectStays, by_roots, from_the_mint, from_the_object, gets_an_object, holding_deep, is_held_by_its_own, the_inner, the_object, the_outer, up_to_the_object, up_to_the_turn}
+use Rattle.machine_rules.specs.RootsExamples.{ABroughtRowStays, AGotObjectIsMinted, AHeldObjectStays, by_roots, by_roots_and_five, from_the_look, from_the_mint, from_the_object, gets_an_object, holding_deep, is_held_by_its_own, looks_later, first_object, the_object, second_object, up_to_the_look, up_to_the_object, up_to_the_turn}
 use Rattle.machine_rules.specs.Run.{Leads}
 
 -- what is told to be left is left
@@ -234,8 +234,8 @@ a_got_object_is_minted = record {
   letter = refl;
   prints_none = refl;
   first = tally-told getting_minted.places (Actor 0);
-  inner = tally-told getting_minted.places the_inner;
-  outer = tally-told getting_minted.places the_outer;
+  inner = tally-told getting_minted.places first_object;
+  outer = tally-told getting_minted.places second_object;
   other = tally-told getting_minted.places (Actor 1);
   last = state_told getting_last;
   to_the_end = getting_run;
@@ -244,4 +244,81 @@ a_got_object_is_minted = record {
   objects = refl;
   left = only_left getting_last.places (λ x. x ≡ Actor 0) getting_only getting_there;
   quiet = still_quiet (state_told getting_last) getting_still refl refl refl;
+}
+
+-- ---- a row that a letter brought stays
+
+looking_first : Page
+looking_first = first_page looks_later by_roots_and_five
+
+looking_asked : Page
+looking_asked = turned up_to_the_look looking_first
+
+looking_last : Page
+looking_last = turned from_the_look looking_asked
+
+looking_computed : Unit {0}
+unfolding led_to marks_of by_owner amount_of times_loaded inc_of dec_of load_count looking_first looking_asked looking_last
+looking_computed = tt
+
+asked_goes : is_some (after_all up_to_the_look (Some looking_first)) ≡ true
+unfolding looking_computed
+asked_goes = refl
+
+looking_goes : is_some (after_all from_the_look (Some looking_asked)) ≡ true
+unfolding looking_computed
+looking_goes = refl
+
+asked_run : Leads (state_told looking_first) up_to_the_look (state_told looking_asked)
+unfolding looking_asked
+asked_run = turned_leads up_to_the_look looking_first asked_goes
+
+looking_run : Leads (state_told looking_asked) from_the_look (state_told looking_last)
+unfolding looking_last
+looking_run = turned_leads from_the_look looking_asked looking_goes
+
+looking_object : (owner serial : ℕ) → is_left_told looking_last.places (Obj (record { owner = owner; serial = serial })) ≡ true → Obj (record { owner = owner; serial = serial }) ≡ Actor 0
+unfolding looking_computed
+looking_object zero serial there = absurd (false≢true there)
+looking_object (suc zero) serial there = absurd (false≢true there)
+looking_object (suc (suc zero)) serial there = absurd (false≢true there)
+looking_object (suc (suc (suc owner))) serial there = absurd (false≢true there)
+
+looking_only : (x : Thing) → is_left_told looking_last.places x ≡ true → x ≡ Actor 0
+unfolding looking_computed
+looking_only (Actor zero) there = refl
+looking_only (Actor (suc zero)) there = absurd (false≢true there)
+looking_only (Actor (suc (suc zero))) there = absurd (false≢true there)
+looking_only (Actor (suc (suc (suc a)))) there = absurd (false≢true there)
+looking_only (Obj n) there = looking_object n.owner n.serial there
+
+looking_there : (x : Thing) → x ≡ Actor 0 → is_left_told looking_last.places x ≡ true
+unfolding looking_computed
+looking_there x is = subst (λ x. is_left_told looking_last.places x ≡ true) (sym is) refl
+
+looking_still : (a : ℕ) → IsStill (seat_at (seats_told looking_last.places) a)
+unfolding looking_computed
+looking_still zero = (refl {a = None}, refl {a = []}, refl {a = false}, refl {a = true})
+looking_still (suc zero) = tt
+looking_still (suc (suc zero)) = tt
+looking_still (suc (suc (suc a))) = tt
+
+pub a_brought_row_stays : ABroughtRowStays
+unfolding looking_computed
+a_brought_row_stays = record {
+  asked = state_told looking_asked;
+  to_the_look = asked_run;
+  letter = refl;
+  first = tally-told looking_asked.places (Actor 0);
+  outer = tally-told looking_asked.places first_object;
+  owner = tally-told looking_asked.places (Actor 1);
+  inner = tally-told looking_asked.places the_object;
+  looker = tally-told looking_asked.places (Actor 2);
+  last = state_told looking_last;
+  to_the_end = looking_run;
+  prints = refl;
+  made = refl;
+  objects = refl;
+  left = only_left looking_last.places (λ x. x ≡ Actor 0) looking_only looking_there;
+  quiet = still_quiet (state_told looking_last) looking_still refl refl refl;
 }

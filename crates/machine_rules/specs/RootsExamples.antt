@@ -126,11 +126,11 @@ gets_an_object = record {
   names = codes "Main" ∷ codes "start" ∷ codes "A" ∷ codes "open" ∷ [];
 }
 
-abbrev pub the_inner : Thing
-the_inner = Obj (record { owner = 0; serial = 0 })
+abbrev pub first_object : Thing
+first_object = Obj (record { owner = 0; serial = 0 })
 
-abbrev pub the_outer : Thing
-the_outer = Obj (record { owner = 0; serial = 1 })
+abbrev pub second_object : Thing
+second_object = Obj (record { owner = 0; serial = 1 })
 
 abbrev pub up_to_the_turn : List Event
 up_to_the_turn = Take 0 ∷ Go 0 ∷ Go 0 ∷ Go 0 ∷ Take 1 ∷ []
@@ -146,16 +146,81 @@ pub record AGotObjectIsMinted : Type 0 where
   pub minted : State
   pub to_the_mint : Leads taken (Go 1 ∷ []) minted
   pub frame : frame_at minted.actors 1 ≡ frame_at taken.actors 1
-  pub letter : mail_at minted.actors 0 ≡ Inc ((the_inner, 256) ∷ []) ∷ []
+  pub letter : mail_at minted.actors 0 ≡ Inc ((first_object, 256) ∷ []) ∷ []
   pub prints_none : minted.prints ≡ []
   pub first : tally_of minted.actors (Actor 0) ≡ record { count = 1; incs = 0; decs = 0; held = 1; letters = 0 }
-  pub inner : tally_of minted.actors the_inner ≡ record { count = 0; incs = 256; decs = 0; held = 256; letters = 0 }
-  pub outer : tally_of minted.actors the_outer ≡ record { count = 1; incs = 0; decs = 0; held = 1; letters = 0 }
+  pub inner : tally_of minted.actors first_object ≡ record { count = 0; incs = 256; decs = 0; held = 256; letters = 0 }
+  pub outer : tally_of minted.actors second_object ≡ record { count = 1; incs = 0; decs = 0; held = 1; letters = 0 }
   pub other : tally_of minted.actors (Actor 1) ≡ record { count = 256; incs = 0; decs = 0; held = 256; letters = 0 }
   pub last : State
   pub to_the_end : Leads minted from_the_mint last
   pub prints : last.prints ≡ values.Num 4 ∷ []
   pub made : length last.actors ≡ 2
+  pub objects : last.objects ≡ 2
+  pub left : (x : Thing) → IsLeft last.actors x ↔ x ≡ Actor 0
+  pub quiet : IsQuiet last
+
+-- ---- a row that a letter brought stays
+
+-- with an increment of five
+abbrev pub by_roots_and_five : Options
+by_roots_and_five = record { weight = 5; trace = Roots }
+
+-- Main 0, start 1, B 2, A 3, make 4, pass 5, open 6, look 7: stays, makes the two, and tells the first of itself and of the second
+abbrev pub start_of_passing_on : Behaviour
+start_of_passing_on = record { name = 1; parameters = 0; body = I.Pin ∷ I.New 0 2 ∷ I.New 1 3 ∷ I.Own 2 ∷ I.Send 0 4 (2 ∷ 1 ∷ []) ∷ [] }
+
+-- sends an object of its own that has the one that it got
+abbrev pub pass_on : Behaviour
+pass_on = record { name = 5; parameters = 2; body = I.Row 2 (0 ∷ []) ∷ I.Send 1 6 (2 ∷ []) ∷ [] }
+
+-- sends an object that has 7
+abbrev pub make_seven : Behaviour
+make_seven = record { name = 4; parameters = 2; body = I.Int 2 7 ∷ I.Row 3 (2 ∷ []) ∷ I.Send 0 5 (3 ∷ 1 ∷ []) ∷ [] }
+
+-- keeps the object, and looks at it later
+abbrev pub keep_and_look : Behaviour
+keep_and_look = record { name = 6; parameters = 1; body = I.Store 0 0 ∷ I.Own 1 ∷ I.Send 1 7 [] ∷ [] }
+
+-- prints what the object in it has
+abbrev pub look_inside : Behaviour
+look_inside = record { name = 7; parameters = 0; body = I.Load 0 0 ∷ I.Get 1 0 0 ∷ I.Get 2 1 0 ∷ I.Print 2 ∷ [] }
+
+abbrev pub looks_later : Program
+looks_later = record {
+  kinds =
+      record { name = 0; fields = 0; behaviours = start_of_passing_on ∷ pass_on ∷ [] }
+      ∷ record { name = 2; fields = 0; behaviours = make_seven ∷ [] }
+      ∷ record { name = 3; fields = 1; behaviours = keep_and_look ∷ look_inside ∷ [] }
+      ∷ [];
+  names = codes "Main" ∷ codes "start" ∷ codes "B" ∷ codes "A" ∷ codes "make" ∷ codes "pass" ∷ codes "open" ∷ codes "look" ∷ [];
+}
+
+-- the one that looks collects first
+abbrev pub up_to_the_look : List Event
+up_to_the_look =
+    Take 0 ∷ Go 0 ∷ Go 0 ∷ Go 0 ∷ Go 0 ∷ Take 1 ∷ Go 1 ∷ Go 1 ∷ Take 0 ∷ Go 0 ∷ Go 0 ∷ Go 1 ∷ Take 2 ∷ Take 2 ∷ Go 2 ∷ Go 2 ∷ Collect 2 ∷ Take 2 ∷ Go 2 ∷ []
+
+abbrev pub from_the_look : List Event
+from_the_look =
+    Take 1 ∷ Go 2 ∷ Go 2 ∷ Collect 0 ∷ Take 2 ∷ Collect 1 ∷ Take 0 ∷ Take 2 ∷ Collect 0 ∷ Block 1 ∷ Collect 2 ∷ Take 1 ∷ Collect 1 ∷ Block 1 ∷ Leave 2 ∷
+    Take 0 ∷ Collect 0 ∷ Take 1 ∷ Collect 1 ∷ Leave 1 ∷ Hear ∷ Hear ∷ Hear ∷ Hear ∷ Scan ∷ []
+
+-- the actor that looks holds the outer object, and neither the inner one nor its owner: it mints for both. The
+-- row of the inner object, which a letter brought, is still there after the collection, so 7 is printed
+pub record ABroughtRowStays : Type 0 where
+  pub asked : State
+  pub to_the_look : IsRun looks_later by_roots_and_five up_to_the_look asked
+  pub letter : mail_at asked.actors 1 ≡ Inc ((Actor 1, 5) ∷ (the_object, 5) ∷ []) ∷ []
+  pub first : tally_of asked.actors (Actor 0) ≡ record { count = 2; incs = 0; decs = 0; held = 2; letters = 0 }
+  pub outer : tally_of asked.actors first_object ≡ record { count = 1; incs = 0; decs = 0; held = 1; letters = 0 }
+  pub owner : tally_of asked.actors (Actor 1) ≡ record { count = 6; incs = 5; decs = 0; held = 11; letters = 0 }
+  pub inner : tally_of asked.actors the_object ≡ record { count = 1; incs = 5; decs = 0; held = 6; letters = 0 }
+  pub looker : tally_of asked.actors (Actor 2) ≡ record { count = 10; incs = 0; decs = 0; held = 10; letters = 0 }
+  pub last : State
+  pub to_the_end : Leads asked from_the_look last
+  pub prints : last.prints ≡ values.Num 7 ∷ []
+  pub made : length last.actors ≡ 3
   pub objects : last.objects ≡ 2
   pub left : (x : Thing) → IsLeft last.actors x ↔ x ≡ Actor 0
   pub quiet : IsQuiet last

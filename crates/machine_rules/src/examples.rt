@@ -1,7 +1,7 @@
 // Programs and books that are runs of them.
 
 ghost use Rattle.machine_rules.specs.Examples.{AnObjectIsPassedOnAndGoes, TwoHoldEachOtherAndGo};
-ghost use Rattle.machine_rules.specs.RootsExamples.{AGotObjectIsMinted, AHeldObjectStays};
+ghost use Rattle.machine_rules.specs.RootsExamples.{ABroughtRowStays, AGotObjectIsMinted, AHeldObjectStays};
 ghost use Rattle.machine_rules.specs.SmallExamples.{AReapGivesBackByOwners, AnUnblockCancelsItsOwn, MintsAreForTheLowestFirst, TheFirstLeavesAtOnce};
 
 /// Two actors hold each other, and the detector finds them. One is pinged before it is asked, so the
@@ -48,4 +48,11 @@ pub fn a_held_object_stays()
 /// that first, and nothing of the turn is kept.
 pub fn a_got_object_is_minted()
     ensures { AGotObjectIsMinted }
+{}
+
+/// With root-only tracing the row of another's object that a letter brought stays as long as it is in use, also
+/// where the actor does not hold the object. Where a turn gets it, the actor mints for the object and its
+/// owner, of whichever it holds none.
+pub fn a_brought_row_stays()
+    ensures { ABroughtRowStays }
 {}
