@@ -1,15 +1,19 @@
 -- What the events of a book freed is freed after later ones too, and is not reached then.
-use Rattle.std.proofs.Common.{◌≡◌, suc, Bool, true, false, is_some, None, List, [], ◌∷◌, ◌++◌, length, refl, sym, ap, subst, arith, ⊎_elim}
+use Rattle.std.proofs.Common.{◌≡◌, ℕ, suc, Bool, true, false, is_some, option_map, Option, Some, None, inl, ◌∙◌, eq-eqb, List, [], ◌∷◌, ◌++◌, length, refl, sym, ap, subst, arith, ⊎_elim}
 use Rattle.std.specs.Prelude.{if◌then◌else◌}
 use Rattle.std.proofs.lemmas.Bool.{cases_lt}
+use Rattle.std.specs.FinMap as m
+use Rattle.orca_names.specs.declared.names.ObjName.{ObjName}
 use Rattle.orca_names.specs.declared.names.Thing.{Thing}
 use Rattle.orca_names.specs.declared.names.Thing.TheVariants.{Actor, Obj}
 use Rattle.event_rule.specs.declared.event.Event.{Event}
+use Rattle.letter_kinds.specs.Holdings.{Holdings, Row, has_own, row_of}
 use Rattle.machine_rules.proofs.Forgotten.{forgotten_stays}
+use Rattle.machine_rules.proofs.Seats.{present_below}
 use Rattle.machine_rules.proofs.Staying.{gone_stays}
 use Rattle.machine_rules.specs.Agreement.{people_of}
 use Rattle.machine_rules.specs.Gone.{IsGone, IsNamed}
-use Rattle.machine_rules.specs.Left.{IsFreed, IsMade}
+use Rattle.machine_rules.specs.Left.{IsFreed, IsLeft, IsMade}
 use Rattle.machine_rules.specs.Plain.{PlainState, plain_row}
 use Rattle.machine_rules.specs.Run.{Leads, PlainLeads, choices, choices_after, is_choice}
 use Rattle.machine_rules.specs.State.{State, Step, Goes, first_state}
@@ -65,6 +69,22 @@ made_named p s facts (Obj n) made = (
 freed_gone : (p : PlainState) (s : State) → AllFacts p s → (x : Thing) → IsFreed p.actors s.actors x → IsGone s.actors x
 freed_gone p s facts x freed = (made_named p s facts x freed.0, freed.1)
 
+-- what is left was made
+row_there : (a : ℕ) (h : Holdings) (n : ObjName) → n.owner ≡ a → has_own h (Obj n) ≡ true → is_some (row_of a h n) ≡ true
+unfolding has_own row_of
+row_there a h n own has = rw (eq-eqb n.owner a own) (by_entry (m.get h.rows n.serial) has)
+  where
+    by_entry : (e : Option (Row × ℕ)) → is_some e ≡ true → is_some (option_map (λ r. r.0) e) ≡ true
+    by_entry None has = cc
+    by_entry (Some e) has = refl
+
+left_made : (p : PlainState) (s : State) → AllFacts p s → (x : Thing) → IsLeft s.actors x → IsMade p.actors x
+left_made p s facts (Actor a) left = let l = facts.beside.counts.long in let below = present_below s.actors a left.seat left.present in omega (arith, length-people p.actors)
+left_made p s facts (Obj n) left =
+    let o = left.seat in
+    let same : row_of n.owner o.cell.holdings n ≡ plain_row p.actors n = (facts.beside.counts.sound n.owner o.cell o.mail left.present).rows (Obj n) (inl (refl, left.kept)) in
+    ap is_some (sym same) ∙ row_there n.owner o.cell.holdings n refl left.kept
+
 -- ---- the law
 
 pub freed_stays : FreedStaysFreed
@@ -81,6 +101,7 @@ freed_stays program options heavy deep book later t run =
       beside = first.1;
       after = last.0;
       beside_all = beside_on book later (first_state program options) parts.0 first.0 last.0 parts.1 last.1 _ first.1;
+      made = left_made first.0 parts.0 first.2;
       freed = λ x freed. ((forgotten x freed).0, (gone_stays later parts.0 t parts.2 x (freed_gone first.0 parts.0 first.2 x freed)).1);
       unreached = λ x freed. (forgotten x freed).1;
     }

@@ -27,6 +27,10 @@ abbrev pub IsNamed : Actors → Thing → Type 0
 IsNamed actors (Actor a) = a < length actors
 IsNamed actors (Obj n) = (n.owner < length actors) × ((seat : Seat) → seat_at actors n.owner ≡ Some seat → n.serial < seat.cell.holdings.next)
 
+-- a name that was given stays so, whatever events follow
+abbrev pub NamesStayGiven : Type 0
+NamesStayGiven = (book : List Event) (s t : State) → Leads s book t → (x : Thing) → IsNamed s.actors x → IsNamed t.actors x
+
 -- its name was given, and it is not there
 abbrev pub IsGone : Actors → Thing → Type 0
 IsGone actors x = IsNamed actors x × (IsLeft actors x → ⊥)

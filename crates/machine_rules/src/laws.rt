@@ -3,7 +3,7 @@
 ghost use Rattle.machine_rules.specs.Apart.{CellsCanBeAway, OthersKeepEnabled, OthersLeaveTheCell};
 ghost use Rattle.machine_rules.specs.Bounds.{EventsOpenOneToken, EventsRaiseByTheWeight, RunsCountByTheWeight, RunsMakeFewActors, RunsOpenNoMoreTokens};
 ghost use Rattle.machine_rules.specs.First.{NoneIsFirstAtQuiet, OneIsFirst, QuietOrFirst};
-ghost use Rattle.machine_rules.specs.Gone.{ForgottenStaysForgotten, GoneStaysGone};
+ghost use Rattle.machine_rules.specs.Gone.{ForgottenStaysForgotten, GoneStaysGone, NamesStayGiven};
 ghost use Rattle.machine_rules.specs.Letters.{EventsKeepNamesOwn, RunsNameOwn, StartNamesOwn};
 ghost use Rattle.machine_rules.specs.Laws.{StartHasFacts, TakesKeepFacts, GoesKeepFacts, CollectsKeepFacts, LeavesKeepFacts, CleanStaySwept, NoneGetsItsOwn, RunsLeadToOneState, RunsEndInOneWay, EnabledExactly, FullExactly};
 
@@ -69,6 +69,7 @@ pub fn events_open_one_token()
 /// names are never used again.
 pub fn gone_stays_gone()
     ensures forgotten { ForgottenStaysForgotten }
+    ensures given { NamesStayGiven }
     ensures gone { GoneStaysGone }
 {}
 
