@@ -12,7 +12,7 @@ use Rattle.machine_rules.proofs.Forgotten.{forgotten_stays}
 use Rattle.machine_rules.proofs.Seats.{present_below}
 use Rattle.machine_rules.proofs.Staying.{gone_stays}
 use Rattle.machine_rules.specs.Agreement.{people_of}
-use Rattle.machine_rules.specs.Gone.{IsGone, IsNamed}
+use Rattle.machine_rules.specs.Gone.{IsGone, HasName}
 use Rattle.machine_rules.specs.Left.{IsFreed, IsLeft, IsMade}
 use Rattle.machine_rules.specs.Plain.{PlainState, plain_row}
 use Rattle.machine_rules.specs.Run.{Leads, PlainLeads, choices, choices_after, is_choice}
@@ -50,7 +50,7 @@ length-people : (actors : List PlainActor) → length (people_of actors) ≡ len
 length-people [] = refl
 length-people (x ∷ xs) = ap suc (length-people xs)
 
-made_named : (p : PlainState) (s : State) → AllFacts p s → (x : Thing) → IsMade p.actors x → IsNamed s.actors x
+made_named : (p : PlainState) (s : State) → AllFacts p s → (x : Thing) → IsMade p.actors x → HasName s.actors x
 made_named p s facts (Actor a) made = let l = facts.beside.counts.long in omega (arith, length-people p.actors)
 made_named p s facts (Obj n) made = (
   ⊎_elim

@@ -33,7 +33,7 @@ use Rattle.machine_rules.specs.Cell.{Cell, fresh_cell}
 use Rattle.machine_rules.specs.Collect.{collected, is_marked, without_unused}
 use Rattle.machine_rules.specs.Detect.{ask_all, held_outside, reaped}
 use Rattle.machine_rules.specs.Go.{load_from, make, mint, post, rows_from, turn_of_cell, turned}
-use Rattle.machine_rules.specs.Gone.{GoneStaysGone, IsNamed, NamesStayGiven}
+use Rattle.machine_rules.specs.Gone.{GoneStaysGone, HasName, NamesStayGiven}
 use Rattle.machine_rules.specs.Options.{Trace}
 use Rattle.machine_rules.specs.Plain.{stopped_at}
 use Rattle.machine_rules.specs.Left.{IsLeft}
@@ -110,7 +110,7 @@ keeps_taken program a (Confirm token) c = keeps_same _ _ refl (λ x. refl)
 
 -- a name that was given stays given, and what it names is left only where it was left
 abbrev Stays : Actors → Actors → Type 0
-Stays s t = (x : Thing) → IsNamed s x → IsNamed t x × (IsLeft t x → IsLeft s x)
+Stays s t = (x : Thing) → HasName s x → HasName t x × (IsLeft t x → IsLeft s x)
 
 -- a name that was given is given where the actors are no fewer, and no serial is taken back
 module _ (s t : Actors) (long : length s ≤ length t)

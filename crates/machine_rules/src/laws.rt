@@ -2,6 +2,7 @@
 
 ghost use Rattle.machine_rules.specs.Apart.{CellsCanBeAway, OthersKeepEnabled, OthersLeaveTheCell};
 ghost use Rattle.machine_rules.specs.Bounds.{EventsOpenOneToken, EventsRaiseByTheWeight, RunsCountByTheWeight, RunsMakeFewActors, RunsOpenNoMoreTokens};
+ghost use Rattle.machine_rules.specs.Ends.{RunsGoOnOrEnd};
 ghost use Rattle.machine_rules.specs.First.{NoneIsFirstAtQuiet, OneIsFirst, QuietOrFirst};
 ghost use Rattle.machine_rules.specs.Gone.{ForgottenStaysForgotten, GoneStaysGone, NamesStayGiven};
 ghost use Rattle.machine_rules.specs.Letters.{EventsKeepNamesOwn, RunsNameOwn, StartNamesOwn};
@@ -100,4 +101,9 @@ pub fn cells_can_be_away()
 /// No run makes more than 65,536 actors.
 pub fn runs_make_few_actors()
     ensures { RunsMakeFewActors }
+{}
+
+/// A run within its budget goes on by its first event, or ends: quiet, by the budget, or at a full machine.
+pub fn a_run_goes_on_or_ends()
+    ensures { RunsGoOnOrEnd }
 {}
