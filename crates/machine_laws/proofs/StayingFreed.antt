@@ -1,16 +1,24 @@
 -- What the events of a book freed is freed after later ones too, and is not reached then.
-use Rattle.std.proofs.Common.{◌≡◌, suc, Bool, true, false, is_some, None, List, [], ◌∷◌, ◌++◌, length, refl, sym, ap, subst, arith, ⊎_elim}
+use Rattle.std.proofs.Common.{◌≡◌, ℕ, suc, Bool, true, false, is_some, option_map, Option, Some, None, inl, ◌∙◌, eq-eqb, List, [], ◌∷◌, ◌++◌, length, refl, sym, ap, subst, arith, ⊎_elim}
 use Rattle.std.specs.Prelude.{if◌then◌else◌}
 use Rattle.std.proofs.lemmas.Bool.{cases_lt}
+use Rattle.std.specs.FinMap as m
+use Rattle.orca_names.specs.declared.names.ObjName.{ObjName}
 use Rattle.orca_names.specs.declared.names.Thing.{Thing}
 use Rattle.orca_names.specs.declared.names.Thing.TheVariants.{Actor, Obj}
 use Rattle.event_rule.specs.declared.event.Event.{Event}
+use Rattle.letter_kinds.specs.Holdings.{Holdings, Row, has_own, row_of}
 use Rattle.machine_rules.proofs.Forgotten.{forgotten_stays}
+use Rattle.machine_rules.proofs.Seats.{present_below}
 use Rattle.machine_rules.proofs.Staying.{gone_stays}
+use Rattle.letter_kinds.specs.declared.letter.Letter.{Letter}
+use Rattle.reach_walk.specs.Reach.{thing_row}
 use Rattle.machine_rules.specs.Agreement.{people_of}
-use Rattle.machine_rules.specs.Gone.{IsGone, IsNamed}
-use Rattle.machine_rules.specs.Left.{IsFreed, IsMade}
-use Rattle.machine_rules.specs.Options.{Trace}
+use Rattle.machine_rules.specs.Cell.{Cell, own_row_of}
+use Rattle.machine_rules.specs.Facts.{IsSound}
+use Rattle.machine_rules.specs.Gone.{IsGone, HasName}
+use Rattle.machine_rules.specs.Left.{IsFreed, IsLeft, IsMade}
+use Rattle.machine_rules.specs.Options.{Trace, Deep, Roots}
 use Rattle.machine_rules.specs.Plain.{PlainState, plain_row}
 use Rattle.machine_rules.specs.Run.{Leads, PlainLeads, choices, choices_after, is_choice}
 use Rattle.machine_rules.specs.State.{State, Step, Goes, first_state}
@@ -47,7 +55,7 @@ length-people : (actors : List PlainActor) → length (people_of actors) ≡ len
 length-people [] = refl
 length-people (x ∷ xs) = ap suc (length-people xs)
 
-made_named : (trace : Trace) (p : PlainState) (s : State) → AllFacts trace p s → (x : Thing) → IsMade p.actors x → IsNamed s.actors x
+made_named : (trace : Trace) (p : PlainState) (s : State) → AllFacts trace p s → (x : Thing) → IsMade p.actors x → HasName s.actors x
 made_named trace p s facts (Actor a) made = let l = facts.beside.counts.long in omega (arith, length-people p.actors)
 made_named trace p s facts (Obj n) made = (
   ⊎_elim
@@ -66,6 +74,40 @@ made_named trace p s facts (Obj n) made = (
 freed_gone : (trace : Trace) (p : PlainState) (s : State) → AllFacts trace p s → (x : Thing) → IsFreed p.actors s.actors x → IsGone s.actors x
 freed_gone trace p s facts x freed = (made_named trace p s facts x freed.0, freed.1)
 
+-- what is left was made
+row_there : (a : ℕ) (h : Holdings) (n : ObjName) → n.owner ≡ a → has_own h (Obj n) ≡ true → is_some (row_of a h n) ≡ true
+unfolding has_own row_of
+row_there a h n own has = rw (eq-eqb n.owner a own) (by_entry (m.get h.rows n.serial) has)
+  where
+    by_entry : (e : Option (Row × ℕ)) → is_some e ≡ true → is_some (option_map (λ r. r.0) e) ≡ true
+    by_entry None has = cc
+    by_entry (Some e) has = refl
+
+-- of an own object that is there the row was made, with either tracing
+some_made : (all : Thing → Option Row) (n : ObjName) (o : Option Row) → ((row : Row) → o ≡ Some row → all (Obj n) ≡ Some row) → is_some o ≡ true → is_some (all (Obj n)) ≡ true
+some_made all n None made there = cc
+some_made all n (Some row) made there = ap is_some (made row refl)
+
+own_row_there : (a : ℕ) (h : Holdings) (n : ObjName) → n.owner ≡ a → has_own h (Obj n) ≡ true → is_some (own_row_of a h n) ≡ true
+unfolding has_own own_row_of
+own_row_there a h n own has = rw (eq-eqb n.owner a own) (by_entry (m.get h.rows n.serial) has)
+  where
+    by_entry : (e : Option (Row × ℕ)) → is_some e ≡ true → is_some (option_map (λ r. r.0) e) ≡ true
+    by_entry None has = cc
+    by_entry (Some e) has = refl
+
+own_made : (trace : Trace) (all : Thing → Option Row) (n : ObjName) (c : Cell) (mail : List Letter) → IsSound trace all n.owner c mail → has_own c.holdings (Obj n) ≡ true → is_some (all (Obj n)) ≡ true
+own_made Deep all n c mail sound kept =
+    let same : row_of n.owner c.holdings n ≡ all (Obj n) = sound.rows (Obj n) (inl (refl, kept)) in
+    ap is_some (sym same) ∙ row_there n.owner c.holdings n refl kept
+own_made Roots all n c mail sound kept = some_made all n (own_row_of n.owner c.holdings n) (sound.mine n) (own_row_there n.owner c.holdings n refl kept)
+
+left_made : (trace : Trace) (p : PlainState) (s : State) → AllFacts trace p s → (x : Thing) → IsLeft s.actors x → IsMade p.actors x
+left_made trace p s facts (Actor a) left = let l = facts.beside.counts.long in let below = present_below s.actors a left.seat left.present in omega (arith, length-people p.actors)
+left_made trace p s facts (Obj n) left =
+    let o = left.seat in
+    own_made trace (thing_row (plain_row p.actors)) n o.cell o.mail (facts.beside.counts.sound n.owner o.cell o.mail left.present) left.kept
+
 -- ---- the law
 
 pub freed_stays : FreedStaysFreed
@@ -82,6 +124,7 @@ freed_stays program options heavy book later t run =
       beside = first.1;
       after = last.0;
       beside_all = beside_on book later (first_state program options) parts.0 first.0 last.0 parts.1 last.1 _ first.1;
+      made = left_made options.trace first.0 parts.0 first.2;
       freed = λ x freed. ((forgotten x freed).0, (gone_stays later parts.0 t parts.2 x (freed_gone options.trace first.0 parts.0 first.2 x freed)).1);
       unreached = λ x freed. (forgotten x freed).1;
     }

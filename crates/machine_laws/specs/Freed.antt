@@ -3,7 +3,7 @@ use Rattle.std.specs.Prelude.{◌<◌, List, ◌++◌}
 use Rattle.orca_names.specs.declared.names.Thing.{Thing}
 use Rattle.behaviour_code.specs.declared.code.Program.{Program}
 use Rattle.event_rule.specs.declared.event.Event.{Event}
-use Rattle.machine_rules.specs.Left.{IsFreed}
+use Rattle.machine_rules.specs.Left.{IsFreed, IsLeft, IsMade}
 use Rattle.machine_rules.specs.Options.{Options}
 use Rattle.machine_rules.specs.Plain.{PlainState}
 use Rattle.machine_rules.specs.PlainReach.{IsReachable}
@@ -20,6 +20,8 @@ pub record StaysFreed (program : Program) (options : Options) (book later : List
   pub beside : IsPlainBeside program options book before
   pub after : PlainState
   pub beside_all : IsPlainBeside program options (book ++ later) after
+  -- what is left was made; so what was left and is not left any more was freed
+  pub made : (x : Thing) → IsLeft mid.actors x → IsMade before.actors x
   pub freed : (x : Thing) → IsFreed before.actors mid.actors x → IsFreed after.actors t.actors x
   pub unreached : (x : Thing) → IsFreed before.actors mid.actors x → IsReachable after x → ⊥
 

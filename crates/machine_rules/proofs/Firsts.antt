@@ -2,17 +2,18 @@
 use Rattle.std.proofs.Common.{◌≡◌, ◌⊎◌, ℕ, zero, suc, ◌<◌, ◌==◌, true, false, Some, List, [], ◌∷◌, length, refl, ap, sym, subst, ◌∙◌, arith, inl, inr, ⊎_elim, eqb-true}
 use Rattle.std.specs.List.{find}
 use Rattle.std.specs.Prelude.{if◌then◌else◌}
-use Rattle.std.proofs.lemmas.Bool.{cases_eq}
+use Rattle.std.proofs.lemmas.Bool.{cases_eq, cases_lt}
 use Rattle.event_rule.specs.declared.event.Event.{Event}
 use Rattle.event_rule.specs.declared.event.Event.TheVariants.{Take, Go, Collect, Leave, Block, Hear, Scan, Reap}
 use Rattle.letter_kinds.specs.Detector.{Token}
-use Rattle.machine_rules.proofs.Enabling.{enabled_exactly}
+use Rattle.machine_rules.proofs.Enabling.{enabled_exactly, full_exactly}
 use Rattle.machine_rules.proofs.Ordered.{Upto, upto_both, upto_or, upto_trans}
 use Rattle.machine_rules.proofs.Seats.{present_below}
 use Rattle.machine_rules.specs.Apart.{actor_of}
 use Rattle.machine_rules.specs.Enabled.{CanHappen}
+use Rattle.machine_rules.specs.Ends.{ActorsFull, Budget, Ending, EndsAs, GoesOn, Quiet, RunsGoOnOrEnd}
 use Rattle.machine_rules.specs.First.{NoneIsFirstAtQuiet, OneIsFirst, QuietOrFirst}
-use Rattle.machine_rules.specs.Next.{IsEnabled, IsQuiet, next}
+use Rattle.machine_rules.specs.Next.{IsEnabled, IsFirst, IsQuiet, next}
 use Rattle.machine_rules.specs.State.{State, Step, NotEnabled, IsFull, Goes}
 
 module _ (s : State) where
@@ -145,3 +146,24 @@ one_is_first s e f one other = upto_both e f (one.least f other.enabled) (other.
 
 pub none_at_quiet : NoneIsFirstAtQuiet
 none_at_quiet s e quiet first = first.enabled (quiet e)
+
+-- ---- a run goes on or ends
+
+refused_go : (s : State) (e : Event) → next s e ≡ IsFull → (a : ℕ) × (e ≡ Go a)
+refused_go s e is = let r = (full_exactly s e).0 is in (r.actor, r.is_go)
+
+pub go_on_or_end : RunsGoOnOrEnd
+go_on_or_end s entries budget within = ⊎_elim
+    (λ quiet. inr (Quiet, quiet))
+    (λ some. ⊎_elim
+    (λ room. by_step some.0 some.1 room (next s some.0) refl)
+    (λ full. inr (Budget, record { spent = omega arith; next = some.0; enabled = some.1 }))
+    (cases_lt entries budget))
+    (quiet_or_first s)
+  where
+    by_step : (e : Event) → IsFirst s e → entries < budget → (step : Step) → next s e ≡ step → GoesOn s entries budget ⊎ ((ending : Ending) × EndsAs ending s entries budget)
+    by_step e first room NotEnabled is = absurd (first.enabled is)
+    by_step e first room IsFull is =
+        let go = refused_go s e is in
+        inr (ActorsFull go.0, record { room = room; first = subst (IsFirst s) go.1 first; full = subst (λ f. next s f ≡ IsFull) go.1 is })
+    by_step e first room (Goes t) is = inl (record { room = room; next_event = e; first = first; after = t; goes = is })

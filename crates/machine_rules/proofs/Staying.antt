@@ -33,9 +33,11 @@ use Rattle.machine_rules.specs.Cell.{Cell, fresh_cell}
 use Rattle.machine_rules.specs.Collect.{collected, is_marked, without_unused}
 use Rattle.machine_rules.specs.Detect.{ask_all, held_outside, reaped}
 use Rattle.machine_rules.specs.Go.{load_from, make, mint, post, rows_from, turn_of_cell, turned}
-use Rattle.machine_rules.specs.Gone.{GoneStaysGone, IsGone}
+use Rattle.machine_rules.specs.Gone.{GoneStaysGone, HasName, NamesStayGiven}
 use Rattle.machine_rules.specs.Options.{Trace}
 use Rattle.machine_rules.specs.Plain.{stopped_at}
+use Rattle.machine_rules.specs.Left.{IsLeft}
+use Rattle.machine_rules.specs.Run.{Leads}
 use Rattle.machine_rules.specs.State.{State}
 use Rattle.machine_rules.specs.Take.{cell_after}
 
@@ -106,17 +108,18 @@ keeps_taken program a (Confirm token) c = keeps_same _ _ refl (λ x. refl)
 
 -- ---- the actors
 
+-- a name that was given stays given, and what it names is left only where it was left
 abbrev Stays : Actors → Actors → Type 0
-Stays s t = (x : Thing) → IsGone s x → IsGone t x
+Stays s t = (x : Thing) → HasName s x → HasName t x × (IsLeft t x → IsLeft s x)
 
 -- a name that was given is given where the actors are no fewer, and no serial is taken back
 module _ (s t : Actors) (long : length s ≤ length t)
     (seats : (i : ℕ) (o : Seat) → i < length s → seat_at t i ≡ Some o → (o' : Seat) × (seat_at s i ≡ Some o') × Keeps o'.cell.holdings o.cell.holdings) where
   stays_by : Stays s t
-  stays_by (Actor a) (named, gone) = (omega arith, λ left. let z = seats a left.seat named left.present in gone (record { seat = z.0; present = z.1; kept = has_actor z.0.cell.holdings a }))
-  stays_by (Obj n) (named, gone) = (
+  stays_by (Actor a) named = (omega arith, λ left. let z = seats a left.seat named left.present in record { seat = z.0; present = z.1; kept = has_actor z.0.cell.holdings a })
+  stays_by (Obj n) named = (
     (let h = named.0 in omega arith, λ o at. let z = seats n.owner o named.0 at in let k = z.2.next in let b = named.1 z.0 z.1 in omega arith),
-    λ left. let z = seats n.owner left.seat named.0 left.present in gone (record { seat = z.0; present = z.1; kept = z.2.old n (named.1 z.0 z.1) left.kept }),
+    λ left. let z = seats n.owner left.seat named.0 left.present in record { seat = z.0; present = z.1; kept = z.2.old n (named.1 z.0 z.1) left.kept },
   )
 
 keeps_self : (h : Holdings) → Keeps h h
@@ -137,7 +140,10 @@ stays_read : (s t : Actors) → length s ≤ length t → ((i : ℕ) → i < len
 stays_read s t long same = stays_by s t long (λ i o below now. (o, sym (same i below) ∙ now, keeps_self o.cell.holdings))
 
 stays_trans : (s mid t : Actors) → Stays s mid → Stays mid t → Stays s t
-stays_trans s mid t one two x gone = two x (one x gone)
+stays_trans s mid t one two x named = let a = one x named in let b = two x a.0 in (b.0, λ left. a.1 (b.1 left))
+
+stays_self : (s : Actors) → Stays s s
+stays_self s x named = (named, λ left. left)
 
 stays_push : (s : Actors) (b : ℕ) (l : Letter) → Stays s (push_letter b l s)
 stays_push s b l = by_seat (seat_at s b) refl
@@ -148,12 +154,12 @@ stays_push s b l = by_seat (seat_at s b) refl
 
 stays_decs : (gs : List (ℕ × List Amount)) (s : Actors) → Stays s (push_decs gs s)
 unfolding push_decs
-stays_decs [] s x gone = gone
-stays_decs (g ∷ gs) s x gone = stays_decs gs (push_letter g.0 (Dec g.1) s) x (stays_push s g.0 (Dec g.1) x gone)
+stays_decs [] s x named = (named, λ left. left)
+stays_decs (g ∷ gs) s x named = stays_trans s (push_letter g.0 (Dec g.1) s) _ (stays_push s g.0 (Dec g.1)) (stays_decs gs (push_letter g.0 (Dec g.1) s)) x named
 
 stays_asked : (members : List ℕ) (token : ℕ) (s : Actors) → Stays s (ask_all members token s)
-stays_asked [] token s x gone = gone
-stays_asked (a ∷ members) token s x gone = stays_asked members token (push_letter a (Confirm token) s) x (stays_push s a (Confirm token) x gone)
+stays_asked [] token s x named = (named, λ left. left)
+stays_asked (a ∷ members) token s x named = stays_trans s (push_letter a (Confirm token) s) _ (stays_push s a (Confirm token)) (stays_asked members token (push_letter a (Confirm token) s)) x named
 
 stays_clear : (s : Actors) (b : ℕ) → Stays s (set s b None)
 stays_clear s b = stays_by s (set s b None) (let l = length-set s b None in omega arith) (λ i o below now. ⊎_elim
@@ -166,8 +172,8 @@ stays_clear s b = stays_by s (set s b None) (let l = length-set s b None in omeg
 
 stays_reaped : (all members : List ℕ) (gs : List (ℕ × List Amount)) (s : Actors) → Stays s (reaped all members gs s)
 unfolding reaped
-stays_reaped all [] gs s x gone = stays_decs gs s x gone
-stays_reaped all (a ∷ members) gs s x gone = stays_reaped all members (gs ++ by_owner (held_outside all (seat_at s a))) (set s a None) x (stays_clear s a x gone)
+stays_reaped all [] gs s x named = stays_decs gs s x named
+stays_reaped all (a ∷ members) gs s x named = stays_trans s (set s a None) _ (stays_clear s a) (stays_reaped all members (gs ++ by_owner (held_outside all (seat_at s a))) (set s a None)) x named
 
 stays_more : (s : Actors) (new : Option Seat) → Stays s (s ++ new ∷ [])
 stays_more s new = stays_read s (s ++ new ∷ []) (let l = length-append s (new ∷ []) in omega arith) (λ i below. more_other s new i (omega arith))
@@ -231,11 +237,17 @@ stays trace = record {
   collecting = λ s a c mail at is did. stays_collected s.actors a c mail at (is_marked trace a c) (without_unused trace a c) (same_holdings trace a c);
   leaving = λ s a c mail at may. stays_reaped (a ∷ []) (a ∷ []) [] s.actors;
   blocking = λ s a c mail at may. stays_cell s.actors a c (record c { reported = true }) mail mail at (keeps_self c.holdings);
-  hearing = λ s note later is x gone. gone;
+  hearing = λ s note later is. stays_self s.actors;
   scanning = λ s news. stays_asked (closed_set s.detector) (suc s.detector.opened) s.actors;
   reaping = λ s number token is acked. stays_reaped token.members token.members [] s.actors;
 }
 
+leads_stay : (book : List Event) (s t : State) → Leads s book t → Stays s.actors t.actors
+leads_stay [] s t same = subst (λ (u : State). Stays s.actors u.actors) same (stays_self s.actors)
+leads_stay (e ∷ book) s t (u, goes, leads) = stays_trans s.actors u.actors t.actors (each_next StaysAfter stays s u e goes) (leads_stay book u t leads)
+
+pub names_stay : NamesStayGiven
+names_stay book s t leads x named = (leads_stay book s t leads x named).0
+
 pub gone_stays : GoneStaysGone
-gone_stays [] s t same x gone = subst (λ (u : State). IsGone u.actors x) same gone
-gone_stays (e ∷ book) s t (u, goes, leads) x gone = gone_stays book u t leads x (each_next StaysAfter stays s u e goes x gone)
+gone_stays book s t leads x gone = let z = leads_stay book s t leads x gone.0 in (z.0, λ left. gone.1 (z.1 left))

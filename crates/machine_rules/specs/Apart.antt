@@ -34,6 +34,7 @@ pub record IsApart (s : State) (a : ℕ) (e : Event) : Type 0 where
 
 -- ---- another cell
 
+-- the seat with this cell
 abbrev pub with_cell_in : Cell → Option Seat → Option Seat
 with_cell_in c None = None
 with_cell_in c (Some o) = Some (record o { cell = c })
@@ -63,8 +64,8 @@ pub record LeavesCell (s t : State) (a : ℕ) : Type 0 where
   pub come : List Letter
   pub mail : mail_at t.actors a ≡ mail_at s.actors a ++ come
 
--- go and collect are enabled where they were, and take where it was; only a letter that comes enables
--- anything, a take, and only such a letter ends anything, that the actor may leave or block
+-- a letter that comes can enable the actor's take, and ends its leave and its block; nothing else of the
+-- actor's is enabled by the event, or ended
 pub record KeepsEnabled (s t : State) (a : ℕ) : Type 0 where
   pub take : IsEnabled s (Take a) → IsEnabled t (Take a)
   pub no_more : mail_at t.actors a ≡ mail_at s.actors a → IsEnabled t (Take a) → IsEnabled s (Take a)

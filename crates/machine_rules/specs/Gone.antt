@@ -23,13 +23,17 @@ ForgottenStaysForgotten = (events : List Event) (p q : PlainState) → PlainLead
 -- ---- in the machine that collects
 
 -- its name was given: the actor was made; or the owner was made and, where it is present, is past the serial
-abbrev pub IsNamed : Actors → Thing → Type 0
-IsNamed actors (Actor a) = a < length actors
-IsNamed actors (Obj n) = (n.owner < length actors) × ((seat : Seat) → seat_at actors n.owner ≡ Some seat → n.serial < seat.cell.holdings.next)
+abbrev pub HasName : Actors → Thing → Type 0
+HasName actors (Actor a) = a < length actors
+HasName actors (Obj n) = (n.owner < length actors) × ((seat : Seat) → seat_at actors n.owner ≡ Some seat → n.serial < seat.cell.holdings.next)
+
+-- a name that was given stays so, whatever events follow
+abbrev pub NamesStayGiven : Type 0
+NamesStayGiven = (book : List Event) (s t : State) → Leads s book t → (x : Thing) → HasName s.actors x → HasName t.actors x
 
 -- its name was given, and it is not there
 abbrev pub IsGone : Actors → Thing → Type 0
-IsGone actors x = IsNamed actors x × (IsLeft actors x → ⊥)
+IsGone actors x = HasName actors x × (IsLeft actors x → ⊥)
 
 -- that stays so, whatever events follow: a name is never given again
 abbrev pub GoneStaysGone : Type 0

@@ -2,8 +2,9 @@
 
 ghost use Rattle.machine_rules.specs.Apart.{CellsCanBeAway, OthersKeepEnabled, OthersLeaveTheCell};
 ghost use Rattle.machine_rules.specs.Bounds.{EventsOpenOneToken, EventsRaiseByTheWeight, RunsCountByTheWeight, RunsMakeFewActors, RunsOpenNoMoreTokens};
+ghost use Rattle.machine_rules.specs.Ends.{RunsGoOnOrEnd};
 ghost use Rattle.machine_rules.specs.First.{NoneIsFirstAtQuiet, OneIsFirst, QuietOrFirst};
-ghost use Rattle.machine_rules.specs.Gone.{ForgottenStaysForgotten, GoneStaysGone};
+ghost use Rattle.machine_rules.specs.Gone.{ForgottenStaysForgotten, GoneStaysGone, NamesStayGiven};
 ghost use Rattle.machine_rules.specs.Letters.{EventsKeepNamesOwn, RunsNameOwn, StartNamesOwn};
 ghost use Rattle.machine_rules.specs.Laws.{StartHasFacts, TakesKeepFacts, GoesKeepFacts, CollectsKeepFacts, LeavesKeepFacts, CleanStaySwept, NoneGetsItsOwn, RunsLeadToOneState, RunsEndInOneWay, EnabledExactly, FullExactly};
 
@@ -69,6 +70,7 @@ pub fn events_open_one_token()
 /// names are never used again.
 pub fn gone_stays_gone()
     ensures forgotten { ForgottenStaysForgotten }
+    ensures given { NamesStayGiven }
     ensures gone { GoneStaysGone }
 {}
 
@@ -99,4 +101,9 @@ pub fn cells_can_be_away()
 /// No run makes more than 65,536 actors.
 pub fn runs_make_few_actors()
     ensures { RunsMakeFewActors }
+{}
+
+/// A run within its budget goes on by its first event, or ends: quiet, by the budget, or at a full machine.
+pub fn a_run_goes_on_or_ends()
+    ensures { RunsGoOnOrEnd }
 {}

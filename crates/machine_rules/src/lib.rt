@@ -14,10 +14,11 @@ pub use examples::{
     the_first_leaves_at_once, two_hold_each_other_and_go,
 };
 pub use laws::{
-    a_book_leads_to_one_state, a_run_ends_in_one_way, cells_can_be_away, clean_cells_stay_swept,
-    counts_rise_by_the_weight, events_are_enabled_exactly, events_open_one_token, gone_stays_gone,
-    letters_name_their_own, no_actor_gets_a_count_on_its_own, one_event_is_first,
-    runs_make_few_actors, take_go_and_collect_keep_the_facts, the_start_has_the_facts,
+    a_book_leads_to_one_state, a_run_ends_in_one_way, a_run_goes_on_or_ends, cells_can_be_away,
+    clean_cells_stay_swept, counts_rise_by_the_weight, events_are_enabled_exactly,
+    events_open_one_token, gone_stays_gone, letters_name_their_own,
+    no_actor_gets_a_count_on_its_own, one_event_is_first, runs_make_few_actors,
+    take_go_and_collect_keep_the_facts, the_start_has_the_facts,
 };
 use orca_names::{Args, Fields, Row};
 use plain_list::{Listed, Queue};
