@@ -2,13 +2,16 @@
 #![tactic(auto)]
 
 mod arithmetic;
+mod deed;
 mod effects;
 mod parts;
 mod run;
 mod scratch;
 mod step;
 
-pub use run::segment;
+pub use deed::Deed;
+pub use run::{Stopped, segment, segment_at};
+pub use scratch::Scratch;
 pub use turn_rules::{Act, Frame, RegisterFile};
 
 #[cfg(test)]
