@@ -10,6 +10,7 @@ mod scratch;
 mod step;
 
 pub use deed::Deed;
+pub use parts::gather;
 pub use run::{Stopped, segment, segment_at};
 pub use scratch::Scratch;
 pub use turn_rules::{Act, Frame, RegisterFile};

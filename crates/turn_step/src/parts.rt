@@ -11,7 +11,7 @@ use orca_names::{ActorName, Args, NoMemory, ObjName, Row, Rows, Value};
 use turn_rules::RegisterFile;
 
 /// The values of so many registers.
-pub(crate) fn gather(registers: &RegisterFile, numbers: &[u64]) -> Args
+pub fn gather(registers: &RegisterFile, numbers: &[u64]) -> Args
     requires { length numbers.now ≤ 8 }
     ensures { result ≡ map (λ r. slice_index_or registers.now r Null) numbers.now }
 {
