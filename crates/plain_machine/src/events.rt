@@ -104,7 +104,7 @@ pub(crate) fn go_in(
     let Some(actor) = actor_at(actors.as_slice(), a) else {
         return Err(PlainFault::NotReady);
     };
-    let Some(start) = &actor.frame else {
+    let Some(start) = actor.frame.get() else {
         return Err(PlainFault::NotReady);
     };
     let kind = start.kind;

@@ -20,7 +20,6 @@ use orca_names::{ActorName, Fields, NoMemory, ObjName, Row, Rows};
 use ready_set::ReadySet;
 use std::alloc::Global;
 use std::marker::Model;
-use turn_rules::Frame;
 use turn_step::Scratch;
 
 /// The rows of all objects ever made.
@@ -95,28 +94,6 @@ fn reserve_place(ready: &mut ReadySet, actors: &[PlainActor]) -> Result<(), NoMe
         ready.grow()?;
     }
     Ok(())
-}
-
-/// Writes the frame that goes on, in place where there is one.
-fn put_frame(frame: &mut Option<Frame>, stand: &Stand, turn: &Scratch)
-    ensures { frame.new ≡ Some (frame_left stand.now turn.now) }
-{
-    match frame {
-        Some(slot) => {
-            slot.kind = stand.kind;
-            slot.behaviour = stand.behaviour;
-            slot.place = stand.place;
-            slot.registers = turn.registers;
-        }
-        None => {
-            *frame = Some(Frame {
-                kind: stand.kind,
-                behaviour: stand.behaviour,
-                place: stand.place,
-                registers: turn.registers,
-            });
-        }
-    }
 }
 
 impl Table {
@@ -215,7 +192,8 @@ impl Table {
         ensures { self.new ≡ with_kept self.old a (Some (frame_left stand.now turn.now)) turn.now.fields }
     {
         let actor = &mut self.actors[a.0 as usize];
-        put_frame(&mut actor.frame, stand, turn);
+        actor.frame
+            .keep(stand.kind, stand.behaviour, stand.place, &turn.registers);
         actor.fields = turn.fields;
         self.ready.put(a.0, can_act(actor));
     }
@@ -226,7 +204,7 @@ impl Table {
         ensures { self.new ≡ with_kept self.old a None fields.now }
     {
         let actor = &mut self.actors[a.0 as usize];
-        actor.frame = None;
+        actor.frame.end();
         actor.fields = *fields;
         self.ready.put(a.0, can_act(actor));
     }

@@ -1,4 +1,4 @@
-use Rattle.std.proofs.Common.{Some, [], ◌∷◌, ◌++◌, ◌<◌, length, ap, sym, subst, ◌∙◌, arith}
+use Rattle.std.proofs.Common.{Some, [], ◌∷◌, ◌++◌, ap, ◌∙◌, arith}
 use Rattle.machine_rules.specs.Plain.{fresh_actor}
 use Rattle.plain_machine.specs.Undo.{frame_left, with_first_rows, with_kept, with_rows}
 use Rattle.plain_machine.proofs.Undoing.{length-with_rows, make_in_parts, rows_back}
