@@ -77,7 +77,8 @@ impl<T: Drop> Queue<T> {
         ensures ok { OnOk result (self.new ≡ self.old ++ item ∷ []) }
         ensures err { OnErr result (self.new ≡ self.old) }
     {
-        self.items.push_back(item)?;
+        self.items.reserve(1)?;
+        self.items.push_back_reserved(item);
         Ok(())
     }
 }

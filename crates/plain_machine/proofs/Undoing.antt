@@ -1,5 +1,5 @@
 -- A turn by its parts: rows first, then its act, then the frame and the fields; or the rows are taken back.
-use Rattle.std.proofs.Common.{◌≡◌, ℕ, ◌<◌, zero, suc, List, [], ◌∷◌, ◌++◌, length, take, Option, None, Some, slice_get, IfSome, refl, sym, ap, ◌∙◌, set, arith}
+use Rattle.std.proofs.Common.{◌≡◌, ℕ, ◌<◌, zero, suc, List, [], ◌∷◌, ◌++◌, length, take, Option, None, Some, slice_get, IfSome, refl, sym, ap, ◌∙◌, set, arith, append-nil}
 use Rattle.std.proofs.lemmas.List.{take_at}
 use Rattle.orca_names.specs.declared.names.Value.{Value}
 use Rattle.orca_names.specs.declared.row.Fields.{Fields}
@@ -84,3 +84,9 @@ rows_back (x ∷ xs) (suc a) b made h =
     ap (λ ys. with_first_rows ys (suc a) b.rows) (with_changed-cons x xs a (λ y. record y { rows = y.rows ++ made }))
     ∙ with_changed-cons x (with_rows xs a made) a (λ y. record y { rows = take b.rows y.rows })
     ∙ ap (λ ys. x ∷ ys) (rows_back xs a b made h)
+
+pub no_rows : (actors : List PlainActor) (a : ℕ) (made : List (List Value)) → length made ≡ 0 → with_rows actors a made ≡ actors
+no_rows actors a (row ∷ made) e = absurd (omega (arith, e))
+no_rows [] a [] e = refl
+no_rows (x ∷ xs) zero [] e = ap (λ y. y ∷ xs) (λ j. record x { rows = append-nil x.rows j })
+no_rows (x ∷ xs) (suc a) [] e = with_changed-cons x xs a (λ y. record y { rows = y.rows ++ [] }) ∙ ap (λ ys. x ∷ ys) (no_rows xs a [] refl)

@@ -93,6 +93,8 @@ pub(crate) fn go_in(
     code: &Checked,
     actors: &mut Table,
     prints: &mut Vec<Value>,
+    turn: &mut Scratch,
+    made: &mut Vec<Row>,
     a: ActorName,
 ) -> Result<(), PlainFault>
     ensures ok { OnOk result ((steps : ℕ) → plain_go (state_of code.now actors.old prints.old.items steps) a
@@ -110,23 +112,21 @@ pub(crate) fn go_in(
     let kind = start.kind;
     let behaviour = start.behaviour;
     let rows = actor.rows.as_slice().len();
-    let mut turn = Scratch {
-        registers: start.registers,
-        fields: actor.fields,
-    };
-    let mut made = Vec::new(alloc);
+    turn.registers = start.registers;
+    turn.fields = actor.fields;
+    made.clear();
     let done = segment_at(
         code,
         a,
         kind,
         behaviour,
         start.place,
-        &mut turn,
+        turn,
         &AllRows {
             actors: actors.as_slice(),
         },
         rows as u64,
-        &mut made,
+        made,
     );
     match done {
         Ok(stop) => {
@@ -143,7 +143,7 @@ pub(crate) fn go_in(
                 prints,
                 a,
                 &stand,
-                &mut turn,
+                turn,
                 made.as_slice(),
                 &stop.deed,
             )

@@ -40,7 +40,7 @@ impl Rows for AllRows<'_> {
     fn row_of(&self, n: ObjName) -> Option<&Row> {
         let owner = n.owner.0 as usize;
         if owner < self.actors.len() {
-            self.actors[owner].rows.get(n.serial as usize)
+            self.actors[owner].rows.get(n.serial.get() as usize)
         } else {
             None
         }
@@ -170,9 +170,11 @@ impl Table {
         ensures ok { OnOk result (self.new ≡ with_rows self.old a made.now) }
         ensures err { OnErr result (self.new ≡ self.old) }
     {
-        let actor = &mut self.actors[a.0 as usize];
-        actor.rows.extend_from_slice(made)?;
-        self.ready.put(a.0, can_act(actor));
+        if !made.is_empty() {
+            let actor = &mut self.actors[a.0 as usize];
+            actor.rows.extend_from_slice(made)?;
+            self.ready.put(a.0, can_act(actor));
+        }
         Ok(())
     }
 

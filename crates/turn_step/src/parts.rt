@@ -78,8 +78,9 @@ pub(crate) fn look<R: Rows>(
     ensures { result ≡ option_map_or (λ row. slice_index_or row i Null)
         (row_in (record { program = program.now; me = me; base = base; rows = R.rows rows.now }) made.now n) Null }
 {
-    if n.owner == me && base <= n.serial {
-        match made.get((n.serial - base) as usize) {
+    let serial = n.serial.get();
+    if n.owner == me && base <= serial {
+        match made.get((serial - base) as usize) {
             Some(row) => value_in(row, i),
             None => Value::Null,
         }

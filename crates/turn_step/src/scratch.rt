@@ -4,7 +4,7 @@ ghost use Rattle.std.specs.Prelude.{◌≡◌, slice_index_or, slice_set};
 ghost use Rattle.orca_names.specs.declared.names.Value.TheVariants.{Null};
 
 use crate::deed::Lead;
-use orca_names::{Fields, Value};
+use orca_names::{Args, Fields, Value};
 use turn_rules::RegisterFile;
 
 /// The registers and fields that a turn works on.
@@ -15,6 +15,17 @@ pub struct Scratch {
 }
 
 impl Scratch {
+    /// Room for a turn: nulls, and no fields.
+    pub fn new() -> Scratch {
+        Scratch {
+            registers: RegisterFile::nulls(),
+            fields: Fields {
+                values: Args::new(),
+                pinned: false,
+            },
+        }
+    }
+
     /// What a register holds, null past the last.
     pub(crate) fn value(&self, r: u64) -> Value
         ensures { result ≡ slice_index_or self.now.registers r Null }

@@ -10,7 +10,7 @@ use crate::effects::{leap_if_zero, new_actor, post};
 use crate::parts::{look, make_row};
 use crate::scratch::Scratch;
 use behaviour_code::{Instr, Program, RowRegisters};
-use orca_names::{ActorName, NoMemory, ObjName, Row, Rows, Value};
+use orca_names::{ActorName, NoMemory, ObjName, Row, Rows, Serial, Value};
 
 /// Does one instruction.
 ///
@@ -79,7 +79,11 @@ fn put_row(
 {
     let serial = base + made.len() as u64;
     make_row(&turn.registers, values.as_slice(), made)?;
-    Ok(turn.put(d, Value::Obj(ObjName { owner: me, serial })))
+    let name = ObjName {
+        owner: me,
+        serial: Serial::of(serial),
+    };
+    Ok(turn.put(d, Value::Obj(name)))
 }
 
 /// The value at a place of the row of a register's object, null where there is none.
