@@ -137,8 +137,9 @@ impl Table {
     {
         let place = self.actors.len();
         reserve_place(&mut self.ready, &self.actors)?;
+        self.actors.reserve(1)?;
         let on = can_act(&actor);
-        self.actors.push(actor)?;
+        self.actors.push_reserved(actor);
         self.ready.put(place as u32, on);
         Ok(())
     }
