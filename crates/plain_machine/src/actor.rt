@@ -14,6 +14,7 @@ use std::alloc::Global;
 use turn_rules::FrameRoom;
 
 /// An actor of a kind that is just made. It takes no memory.
+#[inline(always)]
 pub(crate) fn fresh_actor(alloc: Global, program: &Program, kind: u32) -> PlainActor
     requires { ProgramIsGood program.now }
     ensures { result ≡ fresh_actor program.now kind }

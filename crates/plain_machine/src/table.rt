@@ -130,6 +130,7 @@ impl Table {
     }
 
     /// One actor more.
+    #[inline(always)]
     pub fn push(&mut self, actor: PlainActor) -> Result<(), NoMemory>
         requires { length self.old < 65536 }
         ensures ok { OnOk result (self.new ≡ self.old ++ actor ∷ []) }
