@@ -196,7 +196,8 @@ impl Table {
         ensures { self.new ≡ with_kept self.old a (Some (frame_left stand.now turn.now)) turn.now.fields }
     {
         let actor = &mut self.actors[a.0 as usize];
-        actor.frame
+        actor
+            .frame
             .keep(stand.kind, stand.behaviour, stand.place, &turn.registers);
         actor.fields = turn.fields;
         self.ready.put(a.0, can_act(actor));

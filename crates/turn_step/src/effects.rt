@@ -38,12 +38,7 @@ pub(crate) fn new_actor(program: &Program, kind: Name, into: u64) -> Lead<'stati
 }
 
 /// Sends the values of so many registers to a register's actor; what is no actor gets nothing.
-pub(crate) fn post<'p>(
-    turn: &Scratch,
-    to: u64,
-    behaviour: Name,
-    values: &'p Registers,
-) -> Lead<'p>
+pub(crate) fn post<'p>(turn: &Scratch, to: u64, behaviour: Name, values: &'p Registers) -> Lead<'p>
     ensures { effect_of result turn.now.registers ≡ post_to (slice_index_or turn.now.registers to Null) behaviour
         (map (λ r. slice_index_or turn.now.registers r Null) values.now) }
 {
