@@ -5,6 +5,10 @@ use denote.Ref.{Bor}
 use Rattle.std.specs.List.{list_all}
 use Rattle.std.specs.Result.{OkIff, result_ok}
 use Rattle.std.specs.Str.Parse.{ParsesUnsigned, digits_value}
+use Rattle.std.specs.Char.{digit_value}
+use Rattle.std.proofs.lemmas.Str.{digit_value_digit}
+use Rattle.std.specs.Prelude.{◌-◌, ◌*◌, ◌+◌, ◌==◌, not}
+use Rattle.std.specs.Int.{IsInRange}
 use Rattle.std.proofs.lemmas.Str.Parse.{IsDigitsTest, IsNumeralModel, numerals_by_value, parse_digits}
 use borrow.Author.Rules.{rules}
 use Rattle.behaviour_text.specs.Words.{has_numeral_form, numeral, is_digit, is_word}
@@ -62,3 +66,22 @@ words_now [] = refl
 words_now (w ∷ ws) =
     onto (is_word w.now) w (filter (λ (x : Bor (List ℕ)). is_word x.now) ws)
     ∙ ap (λ (t : List (List ℕ)). cond (is_word w.now) (w.now ∷ t) t) (words_now ws)
+
+-- ---- numerals of one digit and of two
+
+in_range : (d : ℕ) → is_digit d ≡ true → IsInRange 48 57 d
+in_range d h = (leb-true 48 d (both (nat_le 48 d) (nat_le d 57) h).0, leb-true d 57 (both (nat_le 48 d) (nat_le d 57) h).1)
+
+pub one_digit_is : (d : ℕ) → is_digit d ≡ true → Some (d - 48) ≡ numeral (d ∷ [])
+one_digit_is d h =
+    let range = in_range d h in
+    let value : d - 48 ≡ 0 * 10 + digit_value d = omega (arith, digit_value_digit d range) in
+    ap Some value ∙ bounded (is_digit d) (0 * 10 + digit_value d) h (omega (arith, digit_value_digit d range, range.1))
+
+pub two_digits_are : (d e : ℕ) → not (d == 48) ≡ true → is_digit d ≡ true → is_digit e ≡ true → Some (10 * (d - 48) + (e - 48)) ≡ numeral (d ∷ e ∷ [])
+two_digits_are d e n h k =
+    let r = in_range d h in
+    let q = in_range e k in
+    let value : 10 * (d - 48) + (e - 48) ≡ (0 * 10 + digit_value d) * 10 + digit_value e = omega (arith, digit_value_digit d r, digit_value_digit e q) in
+    let form : (not (d == 48) && (is_digit d && (is_digit e && true))) ≡ true = and_true _ _ n (and_true _ _ h (and_true _ _ k refl)) in
+    ap Some value ∙ bounded (not (d == 48) && (is_digit d && (is_digit e && true))) ((0 * 10 + digit_value d) * 10 + digit_value e) form (omega (arith, digit_value_digit d r, digit_value_digit e q, r.1, q.1))

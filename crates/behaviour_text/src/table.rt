@@ -121,15 +121,59 @@ fn is_spelled(word: LineWord, text: &[u8]) -> bool
     spelling(word) == text
 }
 
-/// What a first word says, `None` where no line begins with it.
+/// What a first word would have to say, by its first letters.
+fn guess(text: &[u8]) -> Option<LineWord> {
+    match text {
+        [b'a', ..] => Some(LineWord::Instr(Opcode::Add)),
+        [b'c', ..] => Some(LineWord::Instr(Opcode::Copy)),
+        [b'd', ..] => Some(LineWord::Instr(Opcode::Drop)),
+        [b'e', ..] => Some(LineWord::End),
+        [b'g', ..] => Some(LineWord::Instr(Opcode::Get)),
+        [b'i', ..] => Some(LineWord::Instr(Opcode::Int)),
+        [b'j', b'u', ..] => Some(LineWord::Instr(Opcode::Jump)),
+        [b'j', ..] => Some(LineWord::Instr(Opcode::JumpZero)),
+        [b'k', ..] => Some(LineWord::Kind),
+        [b'l', b'a', ..] => Some(LineWord::Instr(Opcode::Label)),
+        [b'l', b'e', ..] => Some(LineWord::Instr(Opcode::Less)),
+        [b'l', ..] => Some(LineWord::Instr(Opcode::Load)),
+        [b'm', ..] => Some(LineWord::Instr(Opcode::Mul)),
+        [b'n', ..] => Some(LineWord::Instr(Opcode::New)),
+        [b'o', ..] => Some(LineWord::On),
+        [b'p', b'r', ..] => Some(LineWord::Instr(Opcode::Print)),
+        [b'p', ..] => Some(LineWord::Instr(Opcode::Pin)),
+        [b'r', ..] => Some(LineWord::Instr(Opcode::Row)),
+        [b's', b'a', ..] => Some(LineWord::Instr(Opcode::Same)),
+        [b's', b'e', b'n', ..] => Some(LineWord::Instr(Opcode::Send)),
+        [b's', b'e', ..] => Some(LineWord::Instr(Opcode::Own)),
+        [b's', b't', ..] => Some(LineWord::Instr(Opcode::Store)),
+        [b's', ..] => Some(LineWord::Instr(Opcode::Sub)),
+        [b'u', ..] => Some(LineWord::Instr(Opcode::Unpin)),
+        _ => None,
+    }
+}
+
 #[tactic(auto, unfolding(crate::specs::Table::line_word))]
-pub(crate) fn line_word(text: &[u8]) -> Option<LineWord>
+fn look_up(text: &[u8]) -> Option<LineWord>
     ensures { result ≡ line_word text.now }
 {
     ALL_WORDS
         .iter()
         .copied()
         .find(|word| is_spelled(*word, text))
+}
+
+/// What a first word says, `None` where no line begins with it. It is guessed and then compared, and
+/// looked up where the guess is wrong.
+#[tactic(auto, using(crate::proofs::Spelled::word_of_spelling))]
+pub(crate) fn line_word(text: &[u8]) -> Option<LineWord>
+    ensures { result ≡ line_word text.now }
+{
+    if let Some(word) = guess(text) {
+        if is_spelled(word, text) {
+            return Some(word);
+        }
+    }
+    look_up(text)
 }
 
 fn opcode_operands(opcode: Opcode) -> &'static [Operand]

@@ -1,6 +1,6 @@
 // Words, numerals and names.
 
-ghost use Rattle.std.specs.Prelude.{◌≡◌, map, IfOk};
+ghost use Rattle.std.specs.Prelude.{◌≡◌, [], ◌∷◌, map, IfOk};
 ghost use Rattle.std.specs.List.{list_all, slice_split};
 ghost use Rattle.text_lines.specs.Lines.{is_space};
 ghost use Rattle.behaviour_code.specs.Names.{is_name, is_name_byte};
@@ -49,8 +49,29 @@ fn has_numeral_form(word: &[u8]) -> bool
     }
 }
 
-/// The number of a numeral of at most 64 bits.
-pub(crate) fn numeral(word: &[u8]) -> Option<u64>
+#[tactic(auto, using(crate::proofs::Numerals::one_digit_is))]
+fn one_digit(digit: u8) -> Option<u64>
+    ensures { result ≡ numeral (digit ∷ []) }
+{
+    if is_digit(digit) {
+        Some(u64::from(digit - b'0'))
+    } else {
+        None
+    }
+}
+
+#[tactic(auto, using(crate::proofs::Numerals::two_digits_are))]
+fn two_digits(first: u8, second: u8) -> Option<u64>
+    ensures { result ≡ numeral (first ∷ second ∷ []) }
+{
+    if first != b'0' && is_digit(first) && is_digit(second) {
+        Some(10 * u64::from(first - b'0') + u64::from(second - b'0'))
+    } else {
+        None
+    }
+}
+
+fn any_numeral(word: &[u8]) -> Option<u64>
     ensures { result ≡ numeral word.now }
 {
     if !has_numeral_form(word) {
@@ -59,6 +80,17 @@ pub(crate) fn numeral(word: &[u8]) -> Option<u64>
     match str::from_utf8(word) {
         Ok(text) => text.parse::<u64>().ok(),
         Err(_) => None,
+    }
+}
+
+/// The number of a numeral of at most 64 bits. Most have one digit or two.
+pub(crate) fn numeral(word: &[u8]) -> Option<u64>
+    ensures { result ≡ numeral word.now }
+{
+    match word {
+        [digit] => one_digit(*digit),
+        [first, second] => two_digits(*first, *second),
+        _ => any_numeral(word),
     }
 }
 

@@ -22,7 +22,7 @@ pub use laws::{
 };
 use orca_names::{Args, Fields, Row};
 use plain_list::{Listed, Queue};
-use turn_rules::Frame;
+use turn_rules::FrameRoom;
 
 /// An application letter: the name of a behaviour, and the arguments.
 #[derive(Clone, Copy, Debug)]
@@ -37,7 +37,7 @@ pub struct PlainLetter {
 pub struct PlainActor {
     pub kind: u32,
     pub fields: Fields,
-    pub frame: Option<Frame>,
+    pub frame: FrameRoom,
     pub letters: Queue<PlainLetter>,
     pub rows: Listed<Row>,
 }

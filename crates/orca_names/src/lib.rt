@@ -15,7 +15,7 @@ pub use limits::{
     NAME_LIMIT, REGISTERS, TEXT_LIMIT, VALUES_LIMIT, WORKERS_LIMIT,
 };
 pub use memory::NoMemory;
-pub use names::{ActorName, ObjName, Thing, Value};
+pub use names::{ActorName, ObjName, Serial, Thing, Value};
 pub use row::{Args, Fields, Row};
 pub use rows::Rows;
 pub use tally::{Sums, Tally};

@@ -1,6 +1,6 @@
 // Names of actors and objects, and what a program computes with.
 
-ghost use Rattle.std.specs.Prelude.{◌≡◌};
+ghost use Rattle.std.specs.Prelude.{◌≡◌, nat_eq};
 ghost use Rattle.std.proofs.Common.{rules};
 ghost use Rattle.std.specs.Cmp.{partial_order_from_own_ties};
 ghost use Rattle.std.specs.Cmp.Rules.{comparing};
@@ -24,12 +24,68 @@ impl Model for ActorName {
     ghost inverse = { λ n. record { 0 = n } };
 }
 
+/// The number of an object among those of its owner, seen as that number. It is kept in two halves,
+/// so that a name takes twelve bytes and a value sixteen.
+#[derive(Clone, Copy, Debug)]
+pub struct Serial {
+    high: u32,
+    low: u32,
+}
+
+impl Model for Serial {
+    ghost use Rattle.std.specs.Prelude.{ℕ, ◌+◌, ◌*◌, ◌/◌, ◌%◌, ◌^◌, ◌<◌};
+    ghost use Rattle.orca_names.specs.Halves.{high_half, low_half};
+
+    ghost Value = { ℕ };
+
+    ghost view = { λ s. s.high * 2 ^ 32 + s.low };
+
+    ghost invariant = { λ s. s.low < 2 ^ 32 };
+
+    ghost inverse = { λ n. record { high = n / 2 ^ 32; low = n % 2 ^ 32 } };
+
+    ghost inverse_ok = { λ s kept i. record { high = high_half s.high s.low kept i; low = low_half s.high s.low kept i } };
+}
+
+impl Serial {
+    /// The serial of this number.
+    pub const fn of(number: u64) -> Serial
+        ensures { result ≡ number }
+    {
+        Serial {
+            high: (number >> 32) as u32,
+            low: (number & 0xffff_ffff) as u32,
+        }
+    }
+
+    /// The number.
+    pub fn get(&self) -> u64
+        ensures { result ≡ self.now }
+    {
+        (u64::from(self.high) << 32) | u64::from(self.low)
+    }
+}
+
+impl PartialEq for Serial {
+    ghost eq = { nat_eq };
+
+    ghost laws = { Prim.search (comparing, rules) };
+
+    fn eq(&self, other: &Serial) -> bool {
+        self.get() == other.get()
+    }
+}
+
+impl Eq for Serial {
+    ghost laws = { Prim.search rules };
+}
+
 /// An object, named by its owner, which is the actor that made it, and by the number of objects
 /// that this owner made before it. A name is never used again.
-#[derive(Clone, Copy, Debug, PartialEq, Eq, PartialOrd, Ord)]
+#[derive(Clone, Copy, Debug, PartialEq, Eq)]
 pub struct ObjName {
     pub owner: ActorName,
-    pub serial: u64,
+    pub serial: Serial,
 }
 
 /// What is counted and collected: an actor or an object.
@@ -56,7 +112,7 @@ impl Thing {
     {
         match self {
             Thing::Actor(_) => None,
-            Thing::Obj(n) => Some(n.serial),
+            Thing::Obj(n) => Some(n.serial.get()),
         }
     }
 }

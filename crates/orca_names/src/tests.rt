@@ -1,12 +1,12 @@
 // Examples from outside of the contracts: the order of things, and values kept in their places.
 
-use crate::{ActorName, Args, ObjName, Row, Thing, Value};
+use crate::{ActorName, Args, ObjName, Row, Serial, Thing, Value};
 use std::test::Fail;
 
 const fn object(owner: u32, serial: u64) -> Thing {
     Thing::Obj(ObjName {
         owner: ActorName(owner),
-        serial,
+        serial: Serial::of(serial),
     })
 }
 

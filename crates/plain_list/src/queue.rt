@@ -1,6 +1,6 @@
 // A `VecDeque`, seen as the list of its elements.
 
-ghost use Rattle.std.specs.Prelude.{◌≡◌, ◌<◌, ◌↔◌, ◌++◌, ◌∷◌, [], length, slice_get, IsTrue, Some, IfSome, IfNone, OnOk, OnErr};
+ghost use Rattle.std.specs.Prelude.{◌≡◌, ◌<◌, ◌↔◌, ◌++◌, ◌∷◌, [], drop, length, slice_get, IsTrue, Some, IfSome, IfNone, OnOk, OnErr};
 
 use std::alloc::{AllocError, Global};
 use std::collections::VecDeque;
@@ -65,12 +65,20 @@ impl<T> Queue<T> {
 }
 
 impl<T: Drop> Queue<T> {
+    /// Drops the first element, if there is one.
+    pub fn drop_first(&mut self)
+        ensures { self.new ≡ drop 1 self.old }
+    {
+        let _ = self.items.pop_front();
+    }
+
     /// One element more, at the end. Where memory is refused, the queue stays as it was.
     pub fn push(&mut self, item: T) -> Result<(), AllocError>
         ensures ok { OnOk result (self.new ≡ self.old ++ item ∷ []) }
         ensures err { OnErr result (self.new ≡ self.old) }
     {
-        self.items.push_back(item)?;
+        self.items.reserve(1)?;
+        self.items.push_back_reserved(item);
         Ok(())
     }
 }

@@ -1,17 +1,29 @@
--- A turn that is taken back.
-use Rattle.std.specs.Prelude.{ℕ, ◌≡◌, List, length, take, Option}
+-- A turn that is kept or taken back by its parts.
+use Rattle.std.specs.Prelude.{ℕ, ◌≡◌, ◌++◌, List, length, take, Option}
+use Rattle.orca_names.specs.declared.names.Value.{Value}
 use Rattle.orca_names.specs.declared.row.Fields.{Fields}
 use Rattle.turn_rules.specs.declared.act.Frame.{Frame}
+use Rattle.turn_step.specs.declared.scratch.Scratch.{Scratch}
 use Rattle.machine_rules.specs.declared.PlainActor.{PlainActor}
 use Rattle.machine_rules.specs.Plain.{with_changed}
-use Rattle.plain_machine.specs.declared.acts.Before.{Before}
+use Rattle.plain_machine.specs.declared.acts.Stand.{Stand}
 
--- what an actor has before a turn
-pub record IsBefore (b : Before) (x : PlainActor) : Type 0 where
-  pub frame : b.frame ≡ x.frame
-  pub fields : b.fields ≡ x.fields
-  pub rows : b.rows ≡ length x.rows
+-- the actor has as many rows
+abbrev pub has_rows : Stand → PlainActor → Type 0
+has_rows stand x = stand.rows ≡ length x.rows
 
--- the actors, one of which has this frame and these fields again, and only its first rows
-abbrev pub with_undone : List PlainActor → ℕ → Option Frame → Fields → ℕ → List PlainActor
-with_undone actors a frame fields rows = with_changed actors a (λ x. record x { frame = frame; fields = fields; rows = take rows x.rows })
+-- the frame that goes on, with the registers that the turn left
+abbrev pub frame_left : Stand → Scratch → Frame
+frame_left stand turn = record { kind = stand.kind; behaviour = stand.behaviour; place = stand.place; registers = turn.registers }
+
+-- the actors, one of which has more rows
+abbrev pub with_rows : List PlainActor → ℕ → List (List Value) → List PlainActor
+with_rows actors a made = with_changed actors a (λ x. record x { rows = x.rows ++ made })
+
+-- the actors, one of which has its first rows alone
+abbrev pub with_first_rows : List PlainActor → ℕ → ℕ → List PlainActor
+with_first_rows actors a rows = with_changed actors a (λ x. record x { rows = take rows x.rows })
+
+-- the actors, one of which has this frame and these fields
+abbrev pub with_kept : List PlainActor → ℕ → Option Frame → Fields → List PlainActor
+with_kept actors a frame fields = with_changed actors a (λ x. record x { frame = frame; fields = fields })

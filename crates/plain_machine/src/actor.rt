@@ -11,9 +11,10 @@ use machine_rules::{PlainActor, PlainLetter};
 use orca_names::{Args, Fields, NoMemory};
 use plain_list::{Listed, Queue};
 use std::alloc::Global;
-use turn_rules::{Frame, RegisterFile};
+use turn_rules::FrameRoom;
 
 /// An actor of a kind that is just made. It takes no memory.
+#[inline(always)]
 pub(crate) fn fresh_actor(alloc: Global, program: &Program, kind: u32) -> PlainActor
     requires { ProgramIsGood program.now }
     ensures { result ≡ fresh_actor program.now kind }
@@ -24,7 +25,7 @@ pub(crate) fn fresh_actor(alloc: Global, program: &Program, kind: u32) -> PlainA
             values: Args::nulls(program.field_count(kind) as usize),
             pinned: false,
         },
-        frame: None,
+        frame: FrameRoom::new(),
         letters: Queue::new(alloc),
         rows: Listed::new(alloc),
     }
@@ -53,19 +54,15 @@ fn behaviour_place(behaviours: &[Behaviour], letter: &PlainLetter) -> Option<usi
         && u64::from(b.parameters) == letter.args.len())
 }
 
-/// The frame that a letter starts, if the kind has its behaviour with as many parameters.
-fn start_frame(program: &Program, kind: u32, letter: &PlainLetter) -> Option<Frame>
-    requires { length (behaviours_of program.now kind) ≤ 64 }
-    ensures { result ≡ frame_of program.now kind letter.now }
+/// Starts the frame of a letter, if the kind has its behaviour with as many parameters.
+fn start_frame(program: &Program, kind: u32, letter: &PlainLetter, frame: &mut FrameRoom)
+    requires few { length (behaviours_of program.now kind) ≤ 64 }
+    requires idle { frame.old ≡ None }
+    ensures { frame.new ≡ frame_of program.now kind letter.now }
 {
     match behaviour_place(program.behaviours(kind), letter) {
-        Some(place) => Some(Frame {
-            kind,
-            behaviour: place as u8,
-            place: 0,
-            registers: RegisterFile::of(&letter.args),
-        }),
-        None => None,
+        Some(place) => frame.start(kind, place as u8, &letter.args),
+        None => {}
     }
 }
 
@@ -75,14 +72,10 @@ pub(crate) fn take_letter(program: &Program, actor: &mut PlainActor) -> bool
     ensures done { OnTrue result (taken program.now actor.old ≡ Some actor.new) }
     ensures not_ready { OnFalse result ((taken program.now actor.old ≡ None) × (actor.new ≡ actor.old)) }
 {
-    if actor.frame.is_some() {
+    if actor.frame.is_some() || actor.letters.is_empty() {
         return false;
     }
-    match actor.letters.pop() {
-        Some(letter) => {
-            actor.frame = start_frame(program, actor.kind, &letter);
-            true
-        }
-        None => false,
-    }
+    start_frame(program, actor.kind, actor.letters.at(0), &mut actor.frame);
+    actor.letters.drop_first();
+    true
 }

@@ -1,43 +1,23 @@
 // Running up to the next act.
 
-ghost use Rattle.std.specs.Prelude.{◌≡◌, ℕ, ◌+◌, ◌<◌, [], List, length, slice_get, IsOk, IsErr, IfOk, IfSome, IfErr, OnOk, OnErr};
-ghost use Rattle.orca_names.specs.declared.names.Value as names;
+ghost use Rattle.std.specs.Prelude.{◌≡◌, ℕ, ◌+◌, ◌<◌, length, map, slice_get, slice_index_or, IsOk, IsErr, IfSome, IfErr, OnOk, OnErr};
+ghost use Rattle.orca_names.specs.declared.names.Value.TheVariants.{Null};
 ghost use Rattle.behaviour_code.specs.Good.{ProgramIsGood};
-ghost use Rattle.machine_rules.specs.Plain.{Goes, after_act, plain_go, turn_of_actor};
+ghost use Rattle.machine_rules.specs.Plain.{Goes, after_act, plain_go};
 ghost use Rattle.plain_machine.specs.Faults.{Faulted};
 ghost use Rattle.plain_machine.specs.State.{state_of};
-ghost use Rattle.plain_machine.specs.Undo.{IsBefore};
+ghost use Rattle.plain_machine.specs.Undo.{frame_left, has_rows};
+ghost use Rattle.turn_step.specs.Scratch.{act_of};
 
-use crate::acts::{Before, Left, end, make, print, send};
+use crate::acts::{Stand, end, make, print, send};
 use crate::machine::PlainFault;
 use crate::table::{AllRows, Table, actor_at};
 use behaviour_check::Checked;
-use behaviour_code::Program;
-use machine_rules::{PlainActor, PlainLetter};
-use orca_names::{ACTORS_LIMIT, ActorName, Fields, NoMemory, Row, Value};
+use behaviour_code::{Name, Program, Registers};
+use machine_rules::PlainLetter;
+use orca_names::{ACTORS_LIMIT, ActorName, NoMemory, Row, Value};
 use std::alloc::Global;
-use turn_step::{Act, Frame, segment};
-
-/// The turn of an actor, which changes nothing yet.
-fn evaluate(
-    code: &Checked,
-    actors: &[PlainActor],
-    a: ActorName,
-    actor: &PlainActor,
-    frame: &mut Frame,
-    fields: &mut Fields,
-    made: &mut Vec<Row>,
-) -> Result<Act, NoMemory>
-    requires fields { fields.old ≡ actor.now.fields }
-    requires fresh { made.old.items ≡ [] }
-    ensures ok { IfOk result (λ act. (prints : List names.Value) (steps : ℕ) → turn_of_actor (state_of code.now actors.now prints steps) a actor.now frame.old
-        ≡ record { act = act; place = frame.new.place; turn = record { registers = frame.new.registers; fields = fields.new; made = made.new.items } }) }
-    ensures kind { frame.new.kind ≡ frame.old.kind }
-    ensures behaviour { frame.new.behaviour ≡ frame.old.behaviour }
-{
-    let base = actor.rows.as_slice().len() as u64;
-    segment(code, a, frame, fields, &AllRows { actors }, base, made)
-}
+use turn_step::{Deed, RegisterFile, Scratch, gather, segment_at};
 
 fn outcome(done: Result<(), NoMemory>) -> Result<(), PlainFault>
     ensures ok { OnOk result (IsOk done) }
@@ -49,60 +29,60 @@ fn outcome(done: Result<(), NoMemory>) -> Result<(), PlainFault>
     }
 }
 
-/// What the turn of an actor leads to, by its act.
+/// A letter with the values of these registers.
+fn letter_of(registers: &RegisterFile, behaviour: Name, values: &Registers) -> PlainLetter
+    ensures { result ≡ record { behaviour = behaviour; args = map (λ r. slice_index_or registers.now r Null) values.now } }
+{
+    PlainLetter {
+        behaviour,
+        args: gather(registers, values.as_slice()),
+    }
+}
+
+/// What the turn of an actor leads to, by its deed.
 fn commit(
     alloc: Global,
     program: &Program,
     actors: &mut Table,
     prints: &mut Vec<Value>,
     a: ActorName,
-    before: &Before,
-    mut frame: Frame,
-    fields: Fields,
+    stand: &Stand,
+    turn: &mut Scratch,
     made: &[Row],
-    act: Act,
+    deed: &Deed<'_>,
 ) -> Result<(), PlainFault>
     requires good { ProgramIsGood program.now }
     requires there { a < length actors.old }
-    requires before { IfSome (slice_get actors.old a) (IsBefore before.now) }
+    requires rows { IfSome (slice_get actors.old a) (has_rows stand.now) }
     requires gone { (steps : ℕ) → plain_go (state_of program.now actors.old prints.old.items steps) a
-        ≡ after_act (state_of program.now actors.old prints.old.items steps) a frame fields made.now act }
+        ≡ after_act (state_of program.now actors.old prints.old.items steps) a (frame_left stand.now turn.old) turn.old.fields made.now (act_of deed.now turn.old.registers) }
     ensures ok { OnOk result ((steps : ℕ) → plain_go (state_of program.now actors.old prints.old.items steps) a
         ≡ Goes (state_of program.now actors.new prints.new.items (steps + 1))) }
     ensures fault { IfErr result (λ e. (steps : ℕ) → Faulted (plain_go (state_of program.now actors.old prints.old.items steps) a) a e) }
     ensures same { OnErr result (actors.new ≡ actors.old) }
     ensures same_prints { OnErr result (prints.new.items ≡ prints.old.items) }
 {
-    match act {
-        Act::End => {
-            let left = Left {
-                frame: None,
-                fields,
-                made,
-            };
-            outcome(end(actors, a, &left))
+    match *deed {
+        Deed::End => outcome(end(actors, a, &turn.fields, made)),
+        Deed::Print { register } => {
+            let value = turn.registers.read(register);
+            outcome(print(actors, prints, a, stand, turn, made, value))
         }
-        Act::Print { value } => {
-            let left = Left::going_on(frame, fields, made);
-            outcome(print(actors, prints, a, before, &left, value))
-        }
-        Act::Post {
+        Deed::Post {
             to,
             behaviour,
-            args,
+            values,
         } => {
-            let left = Left::going_on(frame, fields, made);
-            let letter = PlainLetter { behaviour, args };
-            outcome(send(actors, a, before, &left, to, letter))
+            let letter = letter_of(&turn.registers, behaviour, values);
+            outcome(send(actors, a, stand, turn, made, to, letter))
         }
-        Act::New { kind, into } => {
+        Deed::New { kind, into } => {
             if actors.len() >= ACTORS_LIMIT {
                 return Err(PlainFault::ActorsFull { actor: a });
             }
             let name = ActorName(actors.len() as u32);
-            frame.registers.write(into, Value::Actor(name));
-            let left = Left::going_on(frame, fields, made);
-            outcome(make(alloc, program, actors, a, before, &left, kind))
+            turn.registers.write(into, Value::Actor(name));
+            outcome(make(alloc, program, actors, a, stand, turn, made, kind))
         }
     }
 }
@@ -113,6 +93,8 @@ pub(crate) fn go_in(
     code: &Checked,
     actors: &mut Table,
     prints: &mut Vec<Value>,
+    turn: &mut Scratch,
+    made: &mut Vec<Row>,
     a: ActorName,
 ) -> Result<(), PlainFault>
     ensures ok { OnOk result ((steps : ℕ) → plain_go (state_of code.now actors.old prints.old.items steps) a
@@ -124,39 +106,48 @@ pub(crate) fn go_in(
     let Some(actor) = actor_at(actors.as_slice(), a) else {
         return Err(PlainFault::NotReady);
     };
-    let Some(start) = &actor.frame else {
+    let Some(start) = actor.frame.get() else {
         return Err(PlainFault::NotReady);
     };
-    let before = Before {
-        frame: actor.frame,
-        fields: actor.fields,
-        rows: actor.rows.len(),
-    };
-    let mut frame = *start;
-    let mut fields = actor.fields;
-    let mut made = Vec::new(alloc);
-    let act = match evaluate(
+    let kind = start.kind;
+    let behaviour = start.behaviour;
+    let rows = actor.rows.as_slice().len();
+    turn.registers = start.registers;
+    turn.fields = actor.fields;
+    made.clear();
+    let done = segment_at(
         code,
-        actors.as_slice(),
         a,
-        actor,
-        &mut frame,
-        &mut fields,
-        &mut made,
-    ) {
-        Ok(act) => act,
-        Err(NoMemory) => return Err(PlainFault::NoMemory),
-    };
-    commit(
-        alloc,
-        code.program(),
-        actors,
-        prints,
-        a,
-        &before,
-        frame,
-        fields,
-        made.as_slice(),
-        act,
-    )
+        kind,
+        behaviour,
+        start.place,
+        turn,
+        &AllRows {
+            actors: actors.as_slice(),
+        },
+        rows as u64,
+        made,
+    );
+    match done {
+        Ok(stop) => {
+            let stand = Stand {
+                kind,
+                behaviour,
+                place: stop.place,
+                rows,
+            };
+            commit(
+                alloc,
+                code.program(),
+                actors,
+                prints,
+                a,
+                &stand,
+                turn,
+                made.as_slice(),
+                &stop.deed,
+            )
+        }
+        Err(NoMemory) => Err(PlainFault::NoMemory),
+    }
 }

@@ -15,10 +15,11 @@ use crate::reach::reached;
 use crate::table::{Table, count_objects};
 use behaviour_check::Checked;
 use event_rule::Event;
-use orca_names::{ActorName, NoMemory, Thing, Value};
+use orca_names::{ActorName, NoMemory, Row, Thing, Value};
 use std::alloc::Global;
 use std::marker::Model;
 use thiserror::Error;
+use turn_step::Scratch;
 
 /// Why the plain machine refused an event.
 #[derive(Clone, Copy, Debug, PartialEq, Eq, Error)]
@@ -35,13 +36,15 @@ pub enum PlainFault {
 }
 
 /// The machine that frees nothing, seen by contracts as its state: all actors ever made, with their
-/// rows, and what was printed.
+/// rows, and what was printed. It keeps room for a turn and for its new rows.
 #[derive(Drop)]
 pub struct Plain<'a> {
     code: &'a Checked,
     actors: Table,
     prints: Vec<Value>,
     steps: u64,
+    turn: Scratch,
+    made: Vec<Row>,
 }
 
 impl<'a> Model for Plain<'a> {
@@ -70,6 +73,8 @@ impl<'a> Plain<'a> {
             actors,
             prints: Vec::new(alloc),
             steps: 0,
+            turn: Scratch::new(),
+            made: Vec::new(alloc),
         })
     }
 
@@ -104,7 +109,15 @@ impl<'a> Plain<'a> {
         ensures fault { IfErr result (Faulted (plain_go self.old a) a) }
         ensures same { OnErr result (self.new ≡ self.old) }
     {
-        match go_in(alloc, self.code, &mut self.actors, &mut self.prints, a) {
+        match go_in(
+            alloc,
+            self.code,
+            &mut self.actors,
+            &mut self.prints,
+            &mut self.turn,
+            &mut self.made,
+            a,
+        ) {
             Ok(()) => {
                 self.steps += 1;
                 Ok(())

@@ -15,7 +15,7 @@ use orca_names::{ActorName, NoMemory, Rows, Thing, Value};
 use plain_list::Queue;
 use reach_walk::{Edges, walk};
 use std::alloc::Global;
-use turn_rules::Frame;
+use turn_rules::FrameRoom;
 
 /// What leads on in the plain machine: actors and objects.
 #[derive(Clone, Copy)]
@@ -57,10 +57,10 @@ fn push_all(values: &[Value], found: &mut Vec<Value>) -> Result<(), NoMemory>
 }
 
 /// The registers of a frame, none where there is none.
-fn registers_of(frame: &Option<Frame>) -> &[Value]
+fn registers_of(frame: &FrameRoom) -> &[Value]
     ensures { result.now ≡ option_map_or (λ f. f.registers) frame.now [] }
 {
-    match frame {
+    match frame.get() {
         Some(frame) => frame.registers.as_slice(),
         None => &[],
     }

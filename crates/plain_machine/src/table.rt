@@ -1,16 +1,17 @@
 // The table of all actors, with an index of those that can do something.
 
-ghost use Rattle.std.specs.Prelude.{◌≡◌, ℕ, ◌+◌, ◌<◌, ◌^◌, List, [], ◌∷◌, ◌++◌, All, IfNone, IfSome, length, slice_get, OnOk, OnErr};
+ghost use Rattle.std.specs.Prelude.{◌≡◌, ℕ, ◌+◌, ◌<◌, ◌^◌, List, [], ◌∷◌, ◌++◌, All, IfNone, IfSome, length, slice_get, Some, None, OnOk, OnErr};
 ghost use Rattle.std.specs.Bool.{OnTrue, OnFalse};
 ghost use Rattle.std.specs.Option.{option_copied};
 ghost use Rattle.orca_names.specs.declared.names.Value as names;
-ghost use Rattle.machine_rules.specs.Plain.{Goes, NotEnabled, objects_made, plain_row, plain_take, with_turn, with_letter};
+ghost use Rattle.machine_rules.specs.Plain.{Goes, NotEnabled, objects_made, plain_row, plain_take, with_letter};
 ghost use Rattle.plain_machine.specs.First.{ComesFirst, IsIdle};
 ghost use Rattle.plain_machine.specs.Ready.{IsIndex};
 ghost use Rattle.plain_machine.specs.State.{state_of};
-ghost use Rattle.plain_machine.specs.Undo.{with_undone};
+ghost use Rattle.plain_machine.specs.Undo.{frame_left, with_first_rows, with_kept, with_rows};
 
 use crate::actor::take_letter;
+use crate::acts::Stand;
 use crate::first::{can_act, first_event};
 use behaviour_check::Checked;
 use event_rule::Event;
@@ -19,7 +20,7 @@ use orca_names::{ActorName, Fields, NoMemory, ObjName, Row, Rows};
 use ready_set::ReadySet;
 use std::alloc::Global;
 use std::marker::Model;
-use turn_rules::Frame;
+use turn_step::Scratch;
 
 /// The rows of all objects ever made.
 #[derive(Clone, Copy)]
@@ -39,7 +40,7 @@ impl Rows for AllRows<'_> {
     fn row_of(&self, n: ObjName) -> Option<&Row> {
         let owner = n.owner.0 as usize;
         if owner < self.actors.len() {
-            self.actors[owner].rows.get(n.serial as usize)
+            self.actors[owner].rows.get(n.serial.get() as usize)
         } else {
             None
         }
@@ -129,6 +130,7 @@ impl Table {
     }
 
     /// One actor more.
+    #[inline(always)]
     pub fn push(&mut self, actor: PlainActor) -> Result<(), NoMemory>
         requires { length self.old < 65536 }
         ensures ok { OnOk result (self.new ≡ self.old ++ actor ∷ []) }
@@ -136,8 +138,9 @@ impl Table {
     {
         let place = self.actors.len();
         reserve_place(&mut self.ready, &self.actors)?;
+        self.actors.reserve(1)?;
         let on = can_act(&actor);
-        self.actors.push(actor)?;
+        self.actors.push_reserved(actor);
         self.ready.put(place as u32, on);
         Ok(())
     }
@@ -163,35 +166,51 @@ impl Table {
         }
     }
 
-    /// Puts what a turn left into its actor.
-    pub fn keep_turn(
-        &mut self,
-        a: ActorName,
-        frame: Option<Frame>,
-        fields: Fields,
-        made: &[Row],
-    ) -> Result<(), NoMemory>
+    /// More rows for an actor.
+    pub fn add_rows(&mut self, a: ActorName, made: &[Row]) -> Result<(), NoMemory>
         requires { a < length self.old }
-        ensures ok { OnOk result (self.new ≡ with_turn self.old a frame fields made.now) }
+        ensures ok { OnOk result (self.new ≡ with_rows self.old a made.now) }
         ensures err { OnErr result (self.new ≡ self.old) }
     {
-        let actor = &mut self.actors[a.0 as usize];
-        actor.rows.extend_from_slice(made)?;
-        actor.frame = frame;
-        actor.fields = fields;
-        self.ready.put(a.0, can_act(actor));
+        if !made.is_empty() {
+            let actor = &mut self.actors[a.0 as usize];
+            actor.rows.extend_from_slice(made)?;
+            self.ready.put(a.0, can_act(actor));
+        }
         Ok(())
     }
 
-    /// Takes back what a turn left in its actor.
-    pub fn undo_turn(&mut self, a: ActorName, frame: Option<Frame>, fields: Fields, rows: usize)
+    /// The first rows of an actor; the others are dropped.
+    pub fn drop_rows(&mut self, a: ActorName, rows: usize)
         requires { a < length self.old }
-        ensures { self.new ≡ with_undone self.old a frame fields rows }
+        ensures { self.new ≡ with_first_rows self.old a rows }
     {
         let actor = &mut self.actors[a.0 as usize];
         actor.rows.truncate(rows);
-        actor.frame = frame;
-        actor.fields = fields;
+        self.ready.put(a.0, can_act(actor));
+    }
+
+    /// Puts the registers and fields of a turn that goes on into its actor.
+    pub fn keep_turn(&mut self, a: ActorName, stand: &Stand, turn: &Scratch)
+        requires { a < length self.old }
+        ensures { self.new ≡ with_kept self.old a (Some (frame_left stand.now turn.now)) turn.now.fields }
+    {
+        let actor = &mut self.actors[a.0 as usize];
+        actor
+            .frame
+            .keep(stand.kind, stand.behaviour, stand.place, &turn.registers);
+        actor.fields = turn.fields;
+        self.ready.put(a.0, can_act(actor));
+    }
+
+    /// Puts the fields of a turn that ended into its actor.
+    pub fn end_turn(&mut self, a: ActorName, fields: &Fields)
+        requires { a < length self.old }
+        ensures { self.new ≡ with_kept self.old a None fields.now }
+    {
+        let actor = &mut self.actors[a.0 as usize];
+        actor.frame.end();
+        actor.fields = *fields;
         self.ready.put(a.0, can_act(actor));
     }
 

@@ -3,7 +3,7 @@
 use behaviour_check::{Checked, check};
 use behaviour_text::parse;
 use event_rule::Event;
-use orca_names::{ActorName, ObjName, Thing, Value};
+use orca_names::{ActorName, ObjName, Serial, Thing, Value};
 use plain_machine::{Plain, PlainFault};
 use std::alloc::Global;
 use std::test::Fail;
@@ -14,7 +14,7 @@ const CELL: ActorName = ActorName(1);
 
 const ROW: ObjName = ObjName {
     owner: MAIN,
-    serial: 0,
+    serial: Serial::of(0),
 };
 
 const SEVEN: &str = "kind Main 0\non start 0\nint r0 7\nprint r0\nend\n";

@@ -10,13 +10,13 @@ ghost use Rattle.std.proofs.lemmas.Option.{none-some, slice_get_within};
 ghost use Rattle.orca_names.specs.declared.names.ObjName.{ObjName as object_name};
 
 use crate::{Edges, mark, walk};
-use orca_names::{ActorName, NoMemory, ObjName, Row, Rows, Thing, Value};
+use orca_names::{ActorName, NoMemory, ObjName, Row, Rows, Serial, Thing, Value};
 use std::test::Fail;
 
 const fn object(owner: u32, serial: u64) -> ObjName {
     ObjName {
         owner: ActorName(owner),
-        serial,
+        serial: Serial::of(serial),
     }
 }
 
@@ -33,7 +33,7 @@ impl Rows for Shelf {
 
     fn row_of(&self, n: ObjName) -> Option<&Row> {
         if n.owner == ActorName(0) {
-            self.rows.get(n.serial as usize)
+            self.rows.get(n.serial.get() as usize)
         } else {
             None
         }

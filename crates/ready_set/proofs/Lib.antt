@@ -1,3 +1,4 @@
+mod Unchanged
 pub mod Least
 pub mod Summaries
 pub mod Words

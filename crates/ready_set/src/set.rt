@@ -94,6 +94,16 @@ impl ReadySet {
         requires { a < length self.old }
         ensures { self.new ≡ slice_set self.old a on }
     {
+        if self.has(a) != on {
+            self.change(a, on);
+        }
+    }
+
+    /// Puts the number into the set, or takes it out, on all levels.
+    fn change(&mut self, a: u32, on: bool)
+        requires { a < length self.old }
+        ensures { self.new ≡ slice_set self.old a on }
+    {
         let b = a / 64;
         let c = b / 64;
         let word = put_bit(self.words[b as usize], a % 64, on);

@@ -13,7 +13,7 @@ fn push_thing(out: &mut String, thing: &Thing) -> Result<(), AllocError>
 {
     match thing {
         Thing::Actor(a) => write!(out, "actor {}", a.0),
-        Thing::Obj(n) => write!(out, "object {}.{}", n.owner.0, n.serial),
+        Thing::Obj(n) => write!(out, "object {}.{}", n.owner.0, n.serial.get()),
     }
 }
 

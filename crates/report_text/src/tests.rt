@@ -2,7 +2,7 @@
 
 use crate::{Numbers, Status, refusal_line, report};
 use event_rule::Event;
-use orca_names::{ActorName, ObjName, Sums, Tally, Thing, Value};
+use orca_names::{ActorName, ObjName, Serial, Sums, Tally, Thing, Value};
 use plain_list::Listed;
 use run_book::Book;
 use std::alloc::Global;
@@ -14,7 +14,7 @@ const MAIN: ActorName = ActorName(0);
 
 const ROW: ObjName = ObjName {
     owner: MAIN,
-    serial: 0,
+    serial: Serial::of(0),
 };
 
 const fn sums(thing: Thing, count: u64, held: u64, letters: u64) -> Sums {
@@ -87,7 +87,7 @@ fn counts_of_what_is_left(rt: HostRuntime) -> Result<(), Fail> {
     let alloc = rt.alloc();
     let second = ObjName {
         owner: MAIN,
-        serial: 1,
+        serial: Serial::of(1),
     };
     let lines = [
         sums(Thing::Actor(MAIN), 1, 0, 1),

@@ -39,7 +39,7 @@ pub fn is_space(byte: u8) -> bool
 fn is_allowed(byte: u8) -> bool
     ensures { result ≡ is_allowed byte }
 {
-    is_space(byte) || (33 <= byte && byte <= 126)
+    (33 <= byte && byte <= 126) || is_space(byte)
 }
 
 fn has_foreign_byte(line: &[u8]) -> bool

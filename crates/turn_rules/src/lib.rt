@@ -8,7 +8,9 @@
 mod act;
 mod laws;
 mod registers;
+mod slot;
 
 pub use act::{Act, Effect, Frame};
 pub use laws::{segment_is_local, segment_names_only_known};
 pub use registers::RegisterFile;
+pub use slot::FrameRoom;

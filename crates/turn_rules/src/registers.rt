@@ -1,6 +1,6 @@
 // The registers of a frame.
 
-ghost use Rattle.std.specs.Prelude.{◌≡◌, ◌-◌, ◌++◌, length, replicate, slice_index_or, slice_set};
+ghost use Rattle.std.specs.Prelude.{◌≡◌, ◌≤◌, ◌-◌, ◌++◌, length, replicate, slice_index_or, slice_set};
 ghost use Rattle.orca_names.specs.declared.names.Value.TheVariants.{Null};
 
 use orca_names::{Args, REGISTERS, Value};
@@ -25,6 +25,16 @@ impl Model for RegisterFile {
     ghost inverse = { λ values. record { places = values } };
 }
 
+/// Puts the values into the first places, and null into all others.
+fn put_first(places: &mut [Value], values: &[Value])
+    requires { length values.now ≤ length places.old }
+    ensures { places.new ≡ values.now ++ replicate (length places.old - length values.now) Null }
+{
+    let count = values.len();
+    places[..count].copy_from_slice(values);
+    places[count..].fill(Value::Null);
+}
+
 impl RegisterFile {
     /// The registers with which a behaviour starts: its arguments, and null in all others.
     pub fn of(args: &Args) -> RegisterFile
@@ -36,6 +46,22 @@ impl RegisterFile {
             places[i] = *value;
         }
         RegisterFile { places }
+    }
+
+    /// Sixteen nulls.
+    pub fn nulls() -> RegisterFile
+        ensures { result ≡ replicate 16 Null }
+    {
+        RegisterFile {
+            places: [Value::Null; REGISTERS],
+        }
+    }
+
+    /// The registers with which a behaviour starts, in place: its arguments, and null in all others.
+    pub fn start(&mut self, args: &Args)
+        ensures { self.new ≡ args.now ++ replicate (16 - length args.now) Null }
+    {
+        put_first(&mut self.places, args.as_slice());
     }
 
     /// What a register holds, null past the last.

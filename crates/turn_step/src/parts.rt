@@ -11,7 +11,7 @@ use orca_names::{ActorName, Args, NoMemory, ObjName, Row, Rows, Value};
 use turn_rules::RegisterFile;
 
 /// The values of so many registers.
-pub(crate) fn gather(registers: &RegisterFile, numbers: &[u64]) -> Args
+pub fn gather(registers: &RegisterFile, numbers: &[u64]) -> Args
     requires { length numbers.now ≤ 8 }
     ensures { result ≡ map (λ r. slice_index_or registers.now r Null) numbers.now }
 {
@@ -78,8 +78,9 @@ pub(crate) fn look<R: Rows>(
     ensures { result ≡ option_map_or (λ row. slice_index_or row i Null)
         (row_in (record { program = program.now; me = me; base = base; rows = R.rows rows.now }) made.now n) Null }
 {
-    if n.owner == me && base <= n.serial {
-        match made.get((n.serial - base) as usize) {
+    let serial = n.serial.get();
+    if n.owner == me && base <= serial {
+        match made.get((serial - base) as usize) {
             Some(row) => value_in(row, i),
             None => Value::Null,
         }

@@ -2,32 +2,32 @@
 
 ghost use Rattle.std.specs.Prelude.{◌≡◌, ◌+◌, ◌<◌, ◌≤◌, ◌^◌, length, IfOk, OnErr};
 ghost use Rattle.turn_rules.specs.Segment.{Setting, place_of, step_of, value_at};
-ghost use Rattle.turn_step.specs.Scratch.{turn_of};
+ghost use Rattle.turn_step.specs.Scratch.{effect_of, turn_of};
 
 use crate::arithmetic::{difference, is_less, is_same, number, product, sum};
-use crate::effects::{leap_if_zero, new_actor, post, print};
+use crate::deed::{Deed, Lead};
+use crate::effects::{leap_if_zero, new_actor, post};
 use crate::parts::{look, make_row};
 use crate::scratch::Scratch;
 use behaviour_code::{Instr, Program, RowRegisters};
-use orca_names::{ActorName, NoMemory, ObjName, Row, Rows, Value};
-use turn_rules::Effect;
+use orca_names::{ActorName, NoMemory, ObjName, Row, Rows, Serial, Value};
 
 /// Does one instruction.
 ///
 /// # Errors
 /// Where memory is refused, nothing changes.
-pub(crate) fn step<R: Rows>(
+pub(crate) fn step<'p, R: Rows>(
     program: &Program,
     me: ActorName,
     base: u64,
     rows: &R,
-    instr: &Instr,
+    instr: &'p Instr,
     turn: &mut Scratch,
     made: &mut Vec<Row>,
-) -> Result<Effect, NoMemory>
+) -> Result<Lead<'p>, NoMemory>
     requires kinds { length program.now.kinds ≤ 256 }
     requires room { base + length made.old.items < 2 ^ 64 }
-    ensures ok { IfOk result (λ effect. step_of (record { program = program.now; me = me; base = base; rows = R.rows rows.now }) instr.now (turn_of turn.old made.old.items) ≡ (effect, turn_of turn.new made.new.items)) }
+    ensures ok { IfOk result (λ lead. step_of (record { program = program.now; me = me; base = base; rows = R.rows rows.now }) instr.now (turn_of turn.old made.old.items) ≡ (effect_of lead turn.new.registers, turn_of turn.new made.new.items)) }
     ensures rows { length made.new.items ≤ length made.old.items + 1 }
     ensures turn { OnErr result (turn.new ≡ turn.old) }
     ensures made { OnErr result (made.new.items ≡ made.old.items) }
@@ -46,14 +46,14 @@ pub(crate) fn step<R: Rows>(
         Instr::Get(d, s, i) => Ok(turn.put(*d, place(program, me, base, rows, turn, made, *s, *i))),
         Instr::Load(d, f) => Ok(turn.put(*d, turn.field(*f))),
         Instr::Store(f, s) => Ok(turn.store(*f, turn.value(*s))),
-        Instr::Jump(l) => Ok(Effect::Leap(*l)),
+        Instr::Jump(l) => Ok(Lead::Leap(*l)),
         Instr::JumpZero(a, l) => Ok(leap_if_zero(number(turn.value(*a)), *l)),
-        Instr::Label(_) => Ok(Effect::Next),
+        Instr::Label(_) => Ok(Lead::Next),
         Instr::Pin => Ok(turn.set_pinned(true)),
         Instr::Unpin => Ok(turn.set_pinned(false)),
         Instr::New(d, kind) => Ok(new_actor(program, *kind, *d)),
         Instr::Send(to, behaviour, values) => Ok(post(turn, *to, *behaviour, values)),
-        Instr::Print(a) => Ok(print(turn.value(*a))),
+        Instr::Print(a) => Ok(Lead::Does(Deed::Print { register: *a })),
     }
 }
 
@@ -68,18 +68,22 @@ fn put_row(
     values: &RowRegisters,
     turn: &mut Scratch,
     made: &mut Vec<Row>,
-) -> Result<Effect, NoMemory>
+) -> Result<Lead<'static>, NoMemory>
     requires { base + length made.old.items < 2 ^ 64 }
-    ensures ok { (p : Setting) → p.me ≡ me → p.base ≡ base → IfOk result (λ effect.
+    ensures ok { (p : Setting) → p.me ≡ me → p.base ≡ base → IfOk result (λ lead.
         step_of p (Instr.Row d values.now) (turn_of turn.old made.old.items)
-        ≡ (effect, turn_of turn.new made.new.items)) }
+        ≡ (effect_of lead turn.new.registers, turn_of turn.new made.new.items)) }
     ensures rows { length made.new.items ≤ length made.old.items + 1 }
     ensures turn { OnErr result (turn.new ≡ turn.old) }
     ensures made { OnErr result (made.new.items ≡ made.old.items) }
 {
     let serial = base + made.len() as u64;
     make_row(&turn.registers, values.as_slice(), made)?;
-    Ok(turn.put(d, Value::Obj(ObjName { owner: me, serial })))
+    let name = ObjName {
+        owner: me,
+        serial: Serial::of(serial),
+    };
+    Ok(turn.put(d, Value::Obj(name)))
 }
 
 /// The value at a place of the row of a register's object, null where there is none.

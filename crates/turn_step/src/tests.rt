@@ -9,7 +9,7 @@ ghost use Rattle.behaviour_code.specs.Good.{Each, InstrFits, ProgramIsGood, name
 use crate::{Act, Frame, RegisterFile, segment};
 use behaviour_check::{CheckFault, check};
 use behaviour_code::{Behaviour, Instr, Kind, Name, Names, Program, Registers, RowRegisters};
-use orca_names::{ActorName, Args, Fields, ObjName, Row, Rows, Value};
+use orca_names::{ActorName, Args, Fields, ObjName, Row, Rows, Serial, Value};
 use plain_list::Listed;
 use std::alloc::{AllocError, Global};
 use std::test::Fail;
@@ -24,7 +24,10 @@ const ME: ActorName = ActorName(4);
 const OTHER: ActorName = ActorName(9);
 
 const fn object(owner: ActorName, serial: u64) -> Value {
-    Value::Obj(ObjName { owner, serial })
+    Value::Obj(ObjName {
+        owner,
+        serial: Serial::of(serial),
+    })
 }
 
 // The one row of before.
@@ -128,7 +131,7 @@ fn turn(alloc: Global, body: Vec<Instr>, place: u32) -> Result<Left, Fail>
     let rows = OneRow {
         name: ObjName {
             owner: ME,
-            serial: 2,
+            serial: Serial::of(2),
         },
         row: Row::of(&[Value::Num(5), Value::Actor(OTHER)]),
     };

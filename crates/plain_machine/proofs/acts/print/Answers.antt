@@ -1,11 +1,18 @@
-use Rattle.std.proofs.Common.{ap, ◌∙◌}
-use Rattle.plain_machine.specs.Undo.{with_undone}
-use Rattle.plain_machine.proofs.Undoing.{with_undone-with_turn}
+use Rattle.std.proofs.Common.{Some, ap, ◌∙◌}
+use Rattle.plain_machine.specs.Undo.{frame_left, with_first_rows, with_kept}
+use Rattle.plain_machine.proofs.Undoing.{rows_back, turn_in_parts}
 use Rattle.plain_machine.proofs.acts.print.Goals as goal
+
+pub returns-in-Ok-clause-ok : goal.returns-in-Ok-clause-ok
+returns-in-Ok-clause-ok c =
+    let frame = Some (frame_left c.args.stand.now c.args.turn.now) in
+    c.keep_turn.ensures
+    ∙ ap (λ xs. with_kept xs c.args.a frame c.args.turn.now.fields) c.in_ok-add_rows.ensures.ok
+    ∙ turn_in_parts c.args.actors.now c.args.a frame c.args.turn.now.fields c.args.made.now
 
 pub returns-in-Err-clause-err : goal.returns-in-Err-clause-err
 returns-in-Err-clause-err c =
-    let b = c.args.before.now in
-    c.undo_turn.ensures
-    ∙ ap (λ xs. with_undone xs c.args.a b.frame b.fields b.rows) c.in_ok-keep_turn.ensures.ok
-    ∙ with_undone-with_turn c.args.actors.now c.args.a b _ _ _ c.requires.before
+    let b = c.args.stand.now in
+    c.drop_rows.ensures
+    ∙ ap (λ xs. with_first_rows xs c.args.a b.rows) c.in_ok-add_rows.ensures.ok
+    ∙ rows_back c.args.actors.now c.args.a b c.args.made.now c.requires.rows

@@ -1,5 +1,8 @@
-use Rattle.std.proofs.Common.{ap, slice_get, sym, ◌∙◌}
-use Rattle.machine_rules.specs.Plain.{PlainState, after_act, turn_of_actor}
+use Rattle.std.proofs.Common.{ap, length, refl, slice_get, sym, ◌∙◌}
+use Rattle.machine_rules.specs.Plain.{PlainState, after_act, plain_row, turn_of_actor}
+use Rattle.turn_rules.specs.declared.act.Frame.{Frame}
+use Rattle.turn_rules.specs.Segment.{Setting, segment_of}
+use Rattle.turn_step.specs.Scratch.{act_of}
 use Rattle.plain_machine.specs.State.{state_of}
 use Rattle.plain_machine.proofs.Going.{plain_go-turn}
 use Rattle.plain_machine.proofs.events.go_in.Goals as goal
@@ -10,12 +13,15 @@ commit-requires-clause-gone c = λ steps.
     let prints = c.args.prints.now.items in
     let s : PlainState = state_of program c.args.actors.now prints steps in
     let x = c.in-Some.actor.now in
-    let frame = c.evaluate.new.frame in
-    let fields = c.evaluate.new.fields in
-    plain_go-turn s c.args.a x c.in-Some-frame.start frame fields c.evaluate.new.made.items c.in-Ok.act
-    (ap (λ xs. slice_get xs c.args.a) (sym c.as_slice.ensures) ∙ sym c.in-Some.ensures) c.in-Some-frame.is
-    (ap (λ p. turn_of_actor (state_of p c.args.actors.now prints steps) c.args.a x c.in-Some-frame.start) c.program.ensures.value
-    ∙ ap (λ xs. turn_of_actor (state_of c.args.code.now xs prints steps) c.args.a x c.in-Some-frame.start) (sym c.as_slice-2.ensures)
-    ∙ c.in-Ok.ensures.ok prints steps)
-    c.in-Ok.ensures.kind c.in-Ok.ensures.behaviour
-    ∙ ap (λ rows. after_act s c.args.a frame fields rows c.in-Ok.act) (sym c.as_slice-3.ensures.value)
+    let start = c.in-Some-get.start.now in
+    let turn = c.segment_at-done.new.turn in
+    let act = act_of c.in-Ok.stop.deed turn.registers in
+    let frame : Frame = record { kind = start.kind; behaviour = start.behaviour; place = c.in-Ok.stop.place; registers = turn.registers } in
+    plain_go-turn s c.args.a x start frame turn.fields c.segment_at-done.new.made.items act
+    (ap (λ xs. slice_get xs c.args.a) (sym c.as_slice.ensures) ∙ sym c.in-Some.ensures) (sym c.in-Some-get.ensures)
+    (ap (λ p. turn_of_actor (state_of p c.args.actors.now prints steps) c.args.a x start) c.program.ensures.value
+    ∙ ap (λ xs. turn_of_actor (state_of c.args.code.now xs prints steps) c.args.a x start) (sym c.as_slice-2.ensures)
+    ∙ ap (λ rows. let p : Setting = record { program = c.args.code.now; me = c.args.a; base = length rows; rows = plain_row c.as_slice-2.result.now } in segment_of p start x.fields) (sym c.as_slice-rows.ensures)
+    ∙ c.in-Ok.ensures.ok)
+    refl refl
+    ∙ ap (λ rows. after_act s c.args.a frame turn.fields rows act) (sym c.as_slice-in-Ok.ensures.value)

@@ -1,7 +1,7 @@
 use Rattle.std.proofs.Common.{sym, ◌∙◌}
 use Rattle.std.proofs.lemmas.Str.{IsUtf8-from_ascii}
 use Rattle.behaviour_text.proofs.Numerals.{numeral_is, digits_form, ascii_digits}
-use Rattle.behaviour_text.proofs.words.numeral.Goals as goal
+use Rattle.behaviour_text.proofs.words.any_numeral.Goals as goal
 
 pub returns-in-Ok : goal.returns-in-Ok
 returns-in-Ok c =
