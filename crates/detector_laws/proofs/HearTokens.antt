@@ -1,5 +1,5 @@
 -- Hearing a note keeps what holds of tokens.
-use Rattle.std.proofs.Common.{◌≡◌, ℕ, ◌≤◌, ◌<◌, ◌≢◌, ◌==◌, not, true, false, if◌then◌else◌, ◌||◌, ◌⊎◌, inl, inr, ⊎_elim, List, ◌∷◌, filter, map, Option, Some, None, arith, refl, ap, sym, subst, ◌∙◌}
+use Rattle.std.proofs.Common.{◌≡◌, ℕ, ◌≤◌, ◌<◌, ◌≢◌, ◌==◌, not, Bool, true, false, if◌then◌else◌, ◌&&◌, ◌||◌, ◌⊎◌, inl, inr, ⊎_elim, List, [], ◌∷◌, filter, map, Option, Some, None, arith, refl, ap, sym, subst, ◌∙◌}
 use Rattle.std.proofs.lemmas.Bool.{cond_both}
 use Rattle.std.proofs.lemmas.Bool.Decides.{nat_tests}
 use Rattle.letter_kinds.specs.Detector.{Token, Detector, has, note_ack, heard}
@@ -24,14 +24,18 @@ tail_acks t a (Unblock b) ns = omega arith
 tail_acks t a (Ack u b) ns = omega arith
 
 -- the notes' head goes, and what it says is noted in the token
-has_acked : (u a : ℕ) (t : Token) (m : ℕ) → has (note_ack u a t).acked m ≡ (if u == t.number then (a == m) || has t.acked m else has t.acked m)
-has_acked u a t m = grind (arith, nat_tests)
+has-filter : (p : ℕ → Bool) (ms : List ℕ) (m : ℕ) → has (filter p ms) m ≡ (has ms m && p m)
+has-filter p [] m = refl
+has-filter p (x ∷ ms) m = grind (arith, nat_tests, has-filter p ms m)
+
+has_acked : (u a : ℕ) (t : Token) (m : ℕ) → has (note_ack u a t).acked m ≡ (if u == t.number then has t.members m && (has t.acked m || (m == a)) else has t.acked m)
+has_acked u a t m = grind (arith, nat_tests, has-filter (λ x. has t.acked x || (x == a)) t.members m)
 
 noted_le : (u a : ℕ) (t : Token) (m : ℕ) (mail : List Letter) (ns : List Note) → trace_count (note_ack u a t) m mail ns ≤ trace_count t m mail (Ack u a ∷ ns)
 noted_le u a t m mail ns = rw (has_acked u a t m) (grind (arith, nat_tests))
 
-noted_one : (u a : ℕ) (t : Token) (m : ℕ) (mail : List Letter) (ns : List Note) → trace_count t m mail (Ack u a ∷ ns) ≡ 1 → trace_count (note_ack u a t) m mail ns ≡ 1
-noted_one u a t m mail ns h = rw (has_acked u a t m) (grind (arith, nat_tests))
+noted_one : (u a : ℕ) (t : Token) (m : ℕ) (mail : List Letter) (ns : List Note) → has t.members m ≡ true → trace_count t m mail (Ack u a ∷ ns) ≡ 1 → trace_count (note_ack u a t) m mail ns ≡ 1
+noted_one u a t m mail ns member h = rw (has_acked u a t m) (grind (arith, nat_tests))
 
 silent_tail : (m : ℕ) (n : Note) (ns : List Note) → IsSilentOn m (n ∷ ns) → IsSilentOn m ns
 silent_tail m (Block b count held) ns h = h.1
@@ -113,7 +117,7 @@ ack_heard cell mail loaded d u a ns k =
           (λ j. omega (arith, k.once t' i' m j, noted_le u a t' m (mail m) ns));
       state = λ t i. let (t', i', e) = from t i in subst (λ x. IsSealed cell mail loaded ns x ⊎ IsSpoiled cell mail ns x) (sym e)
           (⊎_elim
-          (λ s. inl (λ m j. let seal = s m j in record { blocked = seal.blocked; letters = seal.letters; silent = seal.silent; held = seal.held; unloaded = seal.unloaded; one = noted_one u a t' m (mail m) ns seal.one }))
+          (λ s. inl (λ m j. let seal = s m j in record { blocked = seal.blocked; letters = seal.letters; silent = seal.silent; held = seal.held; unloaded = seal.unloaded; one = noted_one u a t' m (mail m) ns j seal.one }))
           (λ s. let (m, j, p) = s in inr (
             m,
             j,

@@ -1,5 +1,5 @@
 -- The detector of blocked actors: the reports that it keeps, its open tokens, and what it makes of notes.
-use Rattle.std.specs.Prelude.{ℕ, suc, ◌==◌, not, if◌then◌else◌, Bool, true, false, List, [], ◌∷◌, ◌++◌, filter, map, Option}
+use Rattle.std.specs.Prelude.{ℕ, suc, ◌==◌, ◌||◌, not, if◌then◌else◌, Bool, true, false, List, [], ◌∷◌, ◌++◌, filter, map, Option}
 use Rattle.std.specs.List.{list_all, list_any, find}
 use Rattle.letter_kinds.specs.declared.note.Note.{Note}
 use Rattle.letter_kinds.specs.declared.note.Note.TheVariants.{Block, Unblock, Ack}
@@ -34,9 +34,10 @@ token_numbered number d = find (λ t. t.number == number) d.tokens
 
 -- ---- hear: what the detector makes of a note
 
--- the actor acknowledged the token of this number
+-- the actor acknowledged the token of this number; of members alone this is noted, in their order
 abbrev pub note_ack : ℕ → ℕ → Token → Token
-note_ack number a t = record t { acked = if number == t.number then a ∷ t.acked else t.acked }
+note_ack number a t =
+    record t { acked = if number == t.number then filter (λ m. has t.acked m || (m == a)) t.members else t.acked }
 
 -- a report is kept; an actor that has work again loses its report, and cancels each token of which it
 -- is a member; an acknowledgement is noted if its token is open
