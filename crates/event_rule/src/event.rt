@@ -51,11 +51,8 @@ impl Event {
         ensures { result ≡ number_of self.now }
     {
         match self {
-            Event::Take(a)
-            | Event::Go(a)
-            | Event::Collect(a)
-            | Event::Leave(a)
-            | Event::Block(a) => a.0,
+            Event::Take(a) | Event::Go(a) | Event::Collect(a) | Event::Leave(a) | Event::Block(a) =>
+                a.0,
             Event::Hear | Event::Scan => 0,
             Event::Reap(token) => *token,
         }
