@@ -6,7 +6,7 @@ use Rattle.letter_kinds.proofs.Acked.{acked_each}
 use Rattle.letter_kinds.specs.Detector.{Detector, Token, has, close_token}
 use Rattle.letter_kinds.specs.Reports.{report_of}
 use Rattle.letter_kinds.specs.declared.note.Report.{Report}
-use Rattle.machine_rules.proofs.Leaving.{only_member}
+use Rattle.letter_kinds.proofs.Members.{only_member}
 use Rattle.machine_rules.specs.Cell.{Cell}
 use Rattle.detector_laws.proofs.ActorReports.{off}
 use Rattle.detector_laws.proofs.Cells.{blocked_reports}

@@ -1,5 +1,5 @@
 -- The order of events and their text.
-use Rattle.std.specs.Prelude.{ℕ, List, ◌++◌, codes}
+use Rattle.std.specs.Prelude.{ℕ, List, ◌++◌, Option, Some, None, codes}
 use Rattle.std.specs.Ordering.{nat_cmp, on, then_cmp}
 use Rattle.std.specs.declared.cmp.Ordering.{Ordering}
 use Rattle.std.specs.Fmt.{decimal}
@@ -54,3 +54,14 @@ event_text (Block a) = codes "block " ++ decimal a
 event_text Hear = codes "hear"
 event_text Scan = codes "scan"
 event_text (Reap token) = codes "reap " ++ decimal token
+
+-- the actor that acts, where one does; the others are the detector's
+abbrev pub actor_of : Event → Option ℕ
+actor_of (Take a) = Some a
+actor_of (Go a) = Some a
+actor_of (Collect a) = Some a
+actor_of (Leave a) = Some a
+actor_of (Block a) = Some a
+actor_of Hear = None
+actor_of Scan = None
+actor_of (Reap token) = None

@@ -10,19 +10,19 @@ use Rattle.letter_kinds.specs.Holdings.{held_in}
 use Rattle.letter_kinds.specs.Reports.{report_of}
 use Rattle.letter_kinds.specs.declared.letter.Letter.{Letter}
 use Rattle.letter_kinds.specs.declared.note.Report.{Report}
-use Rattle.machine_rules.proofs.Needs.{AllNeeded, IsNeeded, is_held, is_pinned, left_is_exact}
+use Rattle.count_laws.proofs.rest.Needs.{AllNeeded, IsNeeded, is_held, is_pinned, left_is_exact}
 use Rattle.machine_rules.proofs.Rest.{quiet_rest}
-use Rattle.machine_rules.proofs.InHand.{in_hand}
-use Rattle.machine_rules.proofs.RootsLeft.{prefix_backed}
-use Rattle.machine_rules.proofs.RootsQuiet.{exact_by_roots}
+use Rattle.count_laws.proofs.balance.InHand.{in_hand}
+use Rattle.count_laws.proofs.roots.Left.{prefix_backed}
+use Rattle.count_laws.proofs.roots.AtQuiet.{exact_by_roots}
 use Rattle.machine_rules.specs.Actors.{Seat, cell_at, cell_of, seat, seat_at}
-use Rattle.machine_rules.specs.Agreement.{people_of}
+use Rattle.count_laws.specs.Agreement.{people_of}
 use Rattle.machine_rules.specs.Cell.{Cell}
 use Rattle.machine_rules.specs.Left.{IsLeft}
-use Rattle.machine_rules.specs.LeftByRoots.{IsReachedOrHeld}
+use Rattle.count_laws.specs.LeftByRoots.{IsReachedOrHeld}
 use Rattle.machine_rules.specs.Next.{IsQuiet}
-use Rattle.machine_rules.specs.PlainReach.{IsReachable}
-use Rattle.machine_rules.specs.Plain.{PlainState, plain_row}
+use Rattle.plain_rules.specs.Reach.{IsReachable}
+use Rattle.plain_rules.specs.Machine.{PlainState, plain_row}
 use Rattle.machine_rules.specs.Options.{Deep, Trace}
 use Rattle.machine_rules.specs.Options as trace
 use Rattle.machine_rules.specs.State.{State}

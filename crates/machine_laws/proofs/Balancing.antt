@@ -13,12 +13,11 @@ use Rattle.letter_kinds.specs.Sums.{inc_of, dec_of}
 use Rattle.letter_kinds.specs.declared.letter.Letter.{Letter}
 use Rattle.letter_kinds.specs.declared.letter.Letter.TheVariants.{App, Inc, Dec, Confirm}
 use Rattle.letter_kinds.specs.declared.note.Note.{Note}
-use Rattle.machine_rules.proofs.SeatReads.{letter_Confirm}
-use Rattle.machine_rules.specs.Actors.{Actors, cell_at, Seat, cell_of, letters_of, seat, seat_at}
+use Rattle.count_laws.proofs.balance.SeatReads.{letter_Confirm}
+use Rattle.machine_rules.specs.Actors.{Actors, cell_at, Seat, cell_of, letters_of, seat, seat_at, Every}
 use Rattle.machine_rules.specs.Balance.{held_at, own_at, incs_at, decs_at, IsBalanced}
 use Rattle.machine_rules.specs.Cell.{Cell}
-use Rattle.machine_rules.specs.Clean.{HoldsNoOwnAt}
-use Rattle.machine_rules.specs.Facts.{Every}
+use Rattle.count_laws.specs.Clean.{HoldsNoOwnAt}
 use Rattle.detector_laws.proofs.Cells.{some_not_none}
 use Rattle.detector_laws.specs.Balance.{ActorsAreBalanced, sum_below}
 use Rattle.detector_laws.specs.Cells.{held_on}

@@ -11,25 +11,25 @@ use Rattle.letter_kinds.specs.declared.letter.Letter.{Letter}
 use Rattle.letter_kinds.specs.declared.note.Note.{Note}
 use Rattle.letter_kinds.specs.declared.note.Note.TheVariants.{Block}
 use Rattle.letter_kinds.specs.declared.note.Report.{Report}
-use Rattle.machine_rules.proofs.RootsSame.{backed_more, own_self}
-use Rattle.machine_rules.proofs.RootsTake.{same_roots}
-use Rattle.machine_rules.specs.KnownByRoots.{IsRootsAt}
-use Rattle.machine_rules.proofs.Agreeing.{agrees_same}
-use Rattle.machine_rules.proofs.Every.{every_set}
-use Rattle.machine_rules.proofs.InHand.{in_hand, none, out_of_hand}
-use Rattle.machine_rules.proofs.Seats.{present_below}
-use Rattle.machine_rules.proofs.Sends.{cell_balanced, cell_prefix}
-use Rattle.machine_rules.proofs.TakeKeeps.{alike_closed, alike_self}
+use Rattle.count_laws.proofs.roots.Same.{backed_more, own_self}
+use Rattle.count_laws.proofs.roots.Take.{same_roots}
+use Rattle.count_laws.specs.KnownByRoots.{IsRootsAt}
+use Rattle.count_laws.proofs.agreement.Agreeing.{agrees_same}
+use Rattle.count_laws.proofs.events.Every.{every_set}
+use Rattle.count_laws.proofs.balance.InHand.{in_hand, none, out_of_hand}
+use Rattle.machine_rules.proofs.Present.{present_below}
+use Rattle.count_laws.proofs.balance.Sends.{cell_balanced, cell_prefix}
+use Rattle.count_laws.proofs.events.Take.{alike_closed, alike_self}
 use Rattle.machine_rules.specs.Options.{Deep, Trace}
 use Rattle.machine_rules.specs.Options as options
-use Rattle.machine_rules.specs.Actors.{Actors, cell_at, cell_of, letters_of, mail_at, seat, seat_at}
-use Rattle.machine_rules.specs.Agreement.{Person}
+use Rattle.machine_rules.specs.Actors.{Actors, cell_at, cell_of, letters_of, mail_at, seat, seat_at, Every}
+use Rattle.count_laws.specs.Agreement.{Person}
 use Rattle.machine_rules.specs.Balance.{load_sum}
 use Rattle.machine_rules.specs.Block.{held_actors}
 use Rattle.machine_rules.specs.Cell.{Cell}
 use Rattle.machine_rules.specs.Enabled.{MayReport}
-use Rattle.machine_rules.specs.Facts.{IsFirmAt, IsPastRows, KeepsCounts, Every, IsSound}
-use Rattle.machine_rules.specs.Known.{IsSoundAt}
+use Rattle.count_laws.specs.Facts.{IsFirmAt, IsPastRows, KeepsCounts, IsSound}
+use Rattle.count_laws.specs.Known.{IsSoundAt}
 use Rattle.detector_laws.specs.Events.{CanBlock}
 use Rattle.detector_laws.specs.World as view
 use Rattle.machine_laws.proofs.Collecting.{same_loads}

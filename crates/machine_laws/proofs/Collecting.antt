@@ -10,16 +10,17 @@ use Rattle.letter_kinds.specs.Sums.{amount_of}
 use Rattle.letter_kinds.specs.declared.letter.Letter.{Letter}
 use Rattle.letter_kinds.specs.declared.letter.Letter.TheVariants.{Dec}
 use Rattle.letter_kinds.specs.declared.note.Note.{Note}
-use Rattle.machine_rules.proofs.SeatReads.{letter_Dec, loads_at-seat}
-use Rattle.machine_rules.proofs.Seats.{present_below, load_sum-set}
-use Rattle.machine_rules.proofs.Sweeping.{amount-given_back, firm_counted, held-sweep}
-use Rattle.machine_rules.proofs.Sweeps.{owed, owed-groups, Firm, firm_groups, debit_Dec}
+use Rattle.count_laws.proofs.balance.SeatReads.{letter_Dec, loads_at-seat}
+use Rattle.count_laws.proofs.balance.Seats.{load_sum-set}
+use Rattle.machine_rules.proofs.Present.{present_below}
+use Rattle.count_laws.proofs.balance.Sweeping.{amount-given_back, firm_counted, held-sweep}
+use Rattle.count_laws.proofs.balance.Sweeps.{owed, owed-groups, Firm, firm_groups, debit_Dec}
 use Rattle.machine_rules.specs.Actors.{Actors, letters_of, push_decs, push_letter, seat, seat_at}
 use Rattle.machine_rules.specs.Balance.{load_sum}
 use Rattle.machine_rules.specs.Cell.{Cell}
 use Rattle.machine_rules.specs.Collect.{collected}
-use Rattle.machine_rules.specs.Facts.{IsFirm}
-use Rattle.machine_rules.specs.Known.{IsKnown}
+use Rattle.count_laws.specs.Facts.{IsFirm}
+use Rattle.count_laws.specs.Known.{IsKnown}
 use Rattle.detector_laws.specs.Events.{Moves}
 use Rattle.machine_laws.proofs.Moving.{Adds, adds_none, adds_then, adds_push, push_other, push_loads, moves}
 use Rattle.machine_laws.proofs.Noted.{noted}

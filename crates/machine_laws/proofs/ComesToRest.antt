@@ -1,9 +1,9 @@
 -- Between choices a run comes to rest.
 use Rattle.std.proofs.Common.{◌≡◌, ◌+◌, ◌≤◌, ◌<◌, Bool, true, false, if◌then◌else◌, List, [], ◌∷◌, length, refl, ap, sym, subst, ◌∙◌, arith}
 use Rattle.event_rule.specs.declared.event.Event.{Event}
-use Rattle.machine_rules.specs.Agreement.{people_of}
+use Rattle.count_laws.specs.Agreement.{people_of}
 use Rattle.machine_rules.specs.Next.{next}
-use Rattle.machine_rules.specs.Plain.{PlainState}
+use Rattle.plain_rules.specs.Machine.{PlainState}
 use Rattle.machine_rules.specs.Run.{Leads, PlainFollows, choices, choices_after, is_choice}
 use Rattle.machine_rules.specs.Options.{Trace}
 use Rattle.machine_rules.specs.State.{State}

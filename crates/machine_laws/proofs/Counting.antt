@@ -14,16 +14,16 @@ use Rattle.letter_kinds.specs.Holdings.{held_in, own_in}
 use Rattle.letter_kinds.specs.declared.letter.Letter.{Letter}
 use Rattle.letter_kinds.specs.declared.note.Note.{Note}
 use Rattle.letter_kinds.specs.declared.note.Report.{Report}
-use Rattle.machine_rules.proofs.Bounding.{events_raise, options_stay, runs_count, runs_make_few, runs_open}
-use Rattle.machine_rules.proofs.OwnLetters.{decs_own, events_keep_own, incs_own, runs_name_own, start_names_own}
-use Rattle.machine_rules.proofs.SeatReads.{decs_at-none, decs_at-seat, held_at-none, held_at-seat, incs_at-none, incs_at-seat, own_at-seat}
+use Rattle.count_laws.proofs.bounds.Bounding.{events_raise, options_stay, runs_count, runs_make_few, runs_open}
+use Rattle.count_laws.proofs.letters.OwnLetters.{decs_own, events_keep_own, incs_own, runs_name_own, start_names_own}
+use Rattle.count_laws.proofs.balance.SeatReads.{decs_at-none, decs_at-seat, held_at-none, held_at-seat, incs_at-none, incs_at-seat, own_at-seat}
 use Rattle.machine_rules.specs.Actors.{Actors, Seat, cell_at, seat, seat_at}
 use Rattle.machine_rules.specs.Balance.{IsBalanced, decs_at, held_at, held_sum, incs_at, own_at, owner_seat}
-use Rattle.machine_rules.specs.Bounds.{counted}
+use Rattle.count_laws.specs.Bounds.{counted}
 use Rattle.machine_rules.specs.Cell.{Cell}
-use Rattle.machine_rules.specs.Letters.{LettersNameTheirOwn}
+use Rattle.count_laws.specs.Letters.{LettersNameTheirOwn}
 use Rattle.machine_rules.specs.Options.{Options, Trace}
-use Rattle.machine_rules.specs.Plain.{PlainState, start_of}
+use Rattle.plain_rules.specs.Machine.{PlainState, start_of}
 use Rattle.machine_rules.specs.Run.{Leads}
 use Rattle.machine_rules.specs.State.{State, first_state}
 use Rattle.detector_laws.proofs.Members.{In_each}

@@ -6,9 +6,10 @@ use Rattle.event_rule.specs.declared.event.Event.TheVariants.{Take, Go, Collect,
 use Rattle.letter_kinds.specs.Detector.{Token}
 use Rattle.letter_kinds.specs.declared.letter.Letter.{Letter}
 use Rattle.machine_rules.proofs.Enabling.{enabled_exactly}
-use Rattle.machine_rules.proofs.Seats.{some_seat}
+use Rattle.count_laws.proofs.balance.Seats.{some_seat}
 use Rattle.machine_rules.specs.Actors.{Seat, cell_of, letters_of, seat, seat_at}
-use Rattle.machine_rules.specs.Apart.{HasNoEvent, actor_of}
+use Rattle.count_laws.specs.Apart.{HasNoEvent}
+use Rattle.event_rule.specs.Events.{actor_of}
 use Rattle.machine_rules.specs.Cell.{Cell}
 use Rattle.machine_rules.specs.Enabled.{CanHappen}
 use Rattle.machine_rules.specs.Next.{next}

@@ -22,7 +22,7 @@ use Rattle.letter_kinds.specs.Holdings.{Holdings, held_in}
 use Rattle.letter_kinds.specs.Sums.{amount_of}
 use Rattle.letter_kinds.specs.declared.letter.Letter.{Letter}
 use Rattle.letter_kinds.specs.declared.letter.Letter.TheVariants.{Confirm, Dec}
-use Rattle.machine_rules.proofs.RootsNeed.{itself_minted, owner_minted}
+use Rattle.count_laws.proofs.roots.Need.{itself_minted, owner_minted}
 use Rattle.machine_rules.specs.Actors.{Actors, Seat, push_decs, push_letter, seat, seat_at, with_letter_more}
 use Rattle.machine_rules.specs.Cell.{Cell, row_by_roots}
 use Rattle.machine_rules.specs.Detect.{ask_all, held_outside, reaped}

@@ -5,15 +5,15 @@ use Rattle.std.specs.Prelude.{is_none}
 use Rattle.event_rule.specs.declared.event.Event.{Event}
 use Rattle.letter_kinds.specs.Holdings.{with_made}
 use Rattle.machine_rules.proofs.Enabling.{full}
-use Rattle.machine_rules.proofs.FollowingGo.{plain_went}
+use Rattle.count_laws.proofs.agreement.FollowingGo.{plain_went}
 use Rattle.machine_rules.specs.Enabled.{IsRefusedAsFull}
 use Rattle.machine_rules.specs.Go.{needed, turn_of_cell}
 use Rattle.machine_rules.specs.Next.{IsQuiet, next}
 use Rattle.machine_rules.specs.Options.{Deep, Trace}
 use Rattle.machine_rules.specs.Options as trace
-use Rattle.machine_rules.specs.Plain.{PlainState, after_act, stopped_at}
-use Rattle.machine_rules.specs.Plain as plain
-use Rattle.machine_rules.specs.PlainRun.{IsPlainQuiet, outcome_of}
+use Rattle.plain_rules.specs.Machine.{PlainState, after_act, stopped_at}
+use Rattle.plain_rules.specs.Machine as plain
+use Rattle.plain_rules.specs.Run.{IsPlainQuiet, outcome_of}
 use Rattle.machine_rules.specs.Run.{Leads, PlainFollows, act_is_choice, choices, choices_after, go_is_choice, go_is_choice_at, is_choice}
 use Rattle.machine_rules.specs.State.{State, Step, NotEnabled, IsFull, Goes}
 use Rattle.machine_laws.proofs.AtQuiet.{quiet_exact, quiet_exact_by_roots}

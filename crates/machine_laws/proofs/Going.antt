@@ -19,14 +19,14 @@ use Rattle.letter_kinds.specs.Sums.{amount_of, times_loaded, load_count}
 use Rattle.letter_kinds.specs.declared.letter.Letter.{Letter}
 use Rattle.letter_kinds.specs.declared.letter.Letter.TheVariants.{App, Inc}
 use Rattle.letter_kinds.specs.declared.note.Note.{Note}
-use Rattle.machine_rules.proofs.Makes.{more_last, more_other}
-use Rattle.machine_rules.proofs.SeatReads.{letter_App, letter_Inc, loads_at-seat}
-use Rattle.machine_rules.proofs.Seats.{present_below}
+use Rattle.count_laws.proofs.balance.Makes.{more_last, more_other}
+use Rattle.count_laws.proofs.balance.SeatReads.{letter_App, letter_Inc, loads_at-seat}
+use Rattle.machine_rules.proofs.Present.{present_below}
 use Rattle.machine_rules.specs.Actors.{Actors, cell_at, cell_of, letters_of, mail_at, push_letter, seat, seat_at}
 use Rattle.machine_rules.specs.Balance.{loads_at}
 use Rattle.machine_rules.specs.Cell.{Cell}
 use Rattle.machine_rules.specs.Go.{post, mint, make, turned}
-use Rattle.machine_rules.specs.Known.{IsKnown}
+use Rattle.count_laws.specs.Known.{IsKnown}
 use Rattle.detector_laws.specs.Events.{Moves}
 use Rattle.machine_laws.proofs.Collecting.{HoldsOwners, owner_held, same_loads}
 use Rattle.machine_laws.proofs.Moving.{not_same, unheld, adds_none, adds_push, push_other, push_loads, moves}

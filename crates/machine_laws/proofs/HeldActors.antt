@@ -10,7 +10,7 @@ use Rattle.orca_names.specs.declared.names.Thing.{Thing}
 use Rattle.orca_names.specs.declared.names.Thing.TheVariants.{Actor, Obj}
 use Rattle.letter_kinds.specs.Holdings.{Holdings, Row, entry_count, held_in}
 use Rattle.letter_kinds.specs.Reports.{count_on}
-use Rattle.machine_rules.proofs.Sweeping.{both_true, not_above}
+use Rattle.count_laws.proofs.balance.Sweeping.{both_true, not_above}
 use Rattle.machine_rules.specs.Block.{actor_entry, held_actors}
 
 -- the counts on actors, of entries

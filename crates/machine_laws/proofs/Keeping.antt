@@ -11,16 +11,16 @@ use Rattle.letter_kinds.specs.declared.letter.Letter.{Letter}
 use Rattle.letter_kinds.specs.declared.note.Note.{Note}
 use Rattle.machine_rules.proofs.Steps.{goes_to, not_enabled}
 use Rattle.machine_rules.specs.Options.{Trace}
-use Rattle.machine_rules.specs.Actors.{Seat, cell_at, mail_at, seat, seat_at}
-use Rattle.machine_rules.specs.Agreement.{Person, people_of}
+use Rattle.machine_rules.specs.Actors.{Seat, cell_at, mail_at, seat, seat_at, Every}
+use Rattle.count_laws.specs.Agreement.{Person, people_of}
 use Rattle.machine_rules.specs.Balance.{load_sum}
 use Rattle.machine_rules.specs.Block.{block_at, block_in, may_block}
 use Rattle.machine_rules.specs.Cell.{Cell}
-use Rattle.machine_rules.specs.Clean.{HoldsNoOwnAt}
+use Rattle.count_laws.specs.Clean.{HoldsNoOwnAt}
 use Rattle.machine_rules.specs.Detect.{hear_in, reap_found, reap_in, scan_in}
-use Rattle.machine_rules.specs.Facts.{Every, Facts}
+use Rattle.count_laws.specs.Facts.{Facts}
 use Rattle.machine_rules.specs.Next.{next}
-use Rattle.machine_rules.specs.Plain.{PlainState, plain_row}
+use Rattle.plain_rules.specs.Machine.{PlainState, plain_row}
 use Rattle.machine_rules.specs.State.{State, Goes}
 use Rattle.detector_laws.proofs.Named.{numbered_is_open}
 use Rattle.detector_laws.proofs.Reap.{reaped_sealed}

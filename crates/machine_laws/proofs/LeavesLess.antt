@@ -25,22 +25,22 @@ use Rattle.letter_kinds.specs.declared.letter.Letter.TheVariants.{App, Inc, Dec,
 use Rattle.letter_kinds.specs.declared.note.Note.{Note}
 use Rattle.letter_kinds.specs.declared.note.Note.TheVariants as notes
 use Rattle.machine_rules.proofs.Enabling.{may_go, may_report}
-use Rattle.machine_rules.proofs.InHand.{AllCounted}
-use Rattle.machine_rules.proofs.Lacking.{counted_mint, to_mint_theirs}
-use Rattle.machine_rules.proofs.Seats.{present_below}
+use Rattle.count_laws.proofs.balance.InHand.{AllCounted}
+use Rattle.count_laws.proofs.knowledge.Lacking.{counted_mint, to_mint_theirs}
+use Rattle.machine_rules.proofs.Present.{present_below}
 use Rattle.machine_rules.proofs.Steps.{goes_to, not_enabled}
-use Rattle.machine_rules.proofs.TakeKeeps.{alike_lower, alike_raise}
+use Rattle.count_laws.proofs.events.Take.{alike_lower, alike_raise}
 use Rattle.machine_rules.specs.Actors.{Actors, Seat, seat, seat_at}
 use Rattle.machine_rules.specs.Block.{block_at, block_in, held_actors, may_block}
 use Rattle.machine_rules.specs.Cell.{Cell}
 use Rattle.machine_rules.specs.Collect.{collect_at, collect_in, collected, is_in_use, is_marked, without_unused}
 use Rattle.machine_rules.specs.Detect.{ask_all, hear_in, reap_found, reap_in, reap_members, scan_in}
 use Rattle.machine_rules.specs.Go.{act_in, go_at, go_in, lacking_from, load_from, mint, needed, needing, post_or_mint, rows_from, to_need, turn_of_cell, turned}
-use Rattle.machine_rules.specs.Lists.{is_empty}
+use Rattle.plain_list.specs.Lists.{is_empty}
 use Rattle.machine_rules.specs.Leave.{leave_at, leave_in, may_leave}
 use Rattle.machine_rules.specs.Next.{next}
 use Rattle.machine_rules.specs.Options.{Trace, Deep, Roots}
-use Rattle.machine_rules.specs.Plain.{stopped_at}
+use Rattle.plain_rules.specs.Machine.{stopped_at}
 use Rattle.machine_rules.specs.Run.{act_is_choice, go_is_choice, go_is_choice_at, is_choice, take_is_choice_at}
 use Rattle.machine_rules.specs.State.{State, Goes}
 use Rattle.machine_rules.specs.Take.{cell_after, note_of, notes_after, take_at, take_in}

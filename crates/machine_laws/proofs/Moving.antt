@@ -11,10 +11,10 @@ use Rattle.letter_kinds.specs.Holdings.{held_in}
 use Rattle.letter_kinds.specs.Sums.{load_count}
 use Rattle.letter_kinds.specs.declared.letter.Letter.{Letter}
 use Rattle.letter_kinds.specs.declared.note.Note.{Note}
-use Rattle.machine_rules.proofs.Every.{length-push}
-use Rattle.machine_rules.proofs.Posting.{loads_at_push}
-use Rattle.machine_rules.proofs.SeatReads.{loads_at-none}
-use Rattle.machine_rules.proofs.Seats.{present_below}
+use Rattle.count_laws.proofs.events.Every.{length-push}
+use Rattle.count_laws.proofs.balance.Posting.{loads_at_push}
+use Rattle.count_laws.proofs.balance.SeatReads.{loads_at-none}
+use Rattle.machine_rules.proofs.Present.{present_below}
 use Rattle.machine_rules.specs.Actors.{Actors, Seat, cell_at, cell_of, letters_of, mail_at, push_letter, seat, seat_at, with_letter_more}
 use Rattle.machine_rules.specs.Balance.{loads_at, load_sum}
 use Rattle.machine_rules.specs.Cell.{Cell}

@@ -13,19 +13,19 @@ use Rattle.letter_kinds.specs.Sums.{amount_of}
 use Rattle.letter_kinds.specs.declared.letter.Letter.{Letter}
 use Rattle.letter_kinds.specs.declared.letter.Letter.TheVariants.{Inc}
 use Rattle.letter_kinds.specs.declared.note.Note.{Note}
-use Rattle.machine_rules.proofs.InHand.{in_hand}
-use Rattle.machine_rules.proofs.Paths.{reach_into}
-use Rattle.machine_rules.proofs.RootsLeft.{along_left, owner_left, root_left}
-use Rattle.machine_rules.proofs.RootsNeed.{is_pair, reached}
-use Rattle.machine_rules.proofs.RootsSame.{has_own_row}
-use Rattle.machine_rules.proofs.SeatReads.{letter_Inc}
+use Rattle.count_laws.proofs.balance.InHand.{in_hand}
+use Rattle.count_laws.proofs.knowledge.Paths.{reach_into}
+use Rattle.count_laws.proofs.roots.Left.{along_left, owner_left, root_left}
+use Rattle.count_laws.proofs.roots.Need.{is_pair, reached}
+use Rattle.count_laws.proofs.roots.Same.{has_own_row}
+use Rattle.count_laws.proofs.balance.SeatReads.{letter_Inc}
 use Rattle.machine_rules.specs.Actors.{Actors, letters_of, push_letter, seat, seat_at}
-use Rattle.machine_rules.specs.Agreement.{Person}
+use Rattle.count_laws.specs.Agreement.{Person}
 use Rattle.machine_rules.specs.Cell.{Cell}
-use Rattle.machine_rules.specs.Facts.{KeepsCounts}
+use Rattle.count_laws.specs.Facts.{KeepsCounts}
 use Rattle.machine_rules.specs.Go.{mint, needed, to_need}
-use Rattle.machine_rules.specs.Known.{IsKnown, Names, Reaches}
-use Rattle.machine_rules.specs.KnownByRoots.{WalkRoots, by_row, held, mine, named}
+use Rattle.count_laws.specs.Known.{IsKnown, Names, Reaches}
+use Rattle.count_laws.specs.KnownByRoots.{WalkRoots, by_row, held, mine, named}
 use Rattle.machine_rules.specs.Left.{IsLeft}
 use Rattle.machine_rules.specs.Options.{Trace, Deep}
 use Rattle.machine_rules.specs.Options as options

@@ -11,14 +11,14 @@ use Rattle.letter_kinds.specs.Holdings.{Row}
 use Rattle.letter_kinds.specs.Sums.{load_count}
 use Rattle.letter_kinds.specs.declared.letter.Letter.{Letter}
 use Rattle.machine_rules.proofs.Rest.{is_nil, none_can, quiet_rest, quiet_told}
-use Rattle.machine_rules.proofs.SeatReads.{loads_at-none, loads_at-seat}
+use Rattle.count_laws.proofs.balance.SeatReads.{loads_at-none, loads_at-seat}
 use Rattle.machine_rules.specs.Options.{Trace}
-use Rattle.machine_rules.specs.Actors.{Seat, cell_at, cell_of, letters_of, mail_at, seat, seat_at}
-use Rattle.machine_rules.specs.Agreement.{Person}
+use Rattle.machine_rules.specs.Actors.{Seat, cell_at, cell_of, letters_of, mail_at, seat, seat_at, Every}
+use Rattle.count_laws.specs.Agreement.{Person}
 use Rattle.machine_rules.specs.Balance.{loads_at}
 use Rattle.machine_rules.specs.Cell.{Cell}
-use Rattle.machine_rules.specs.Clean.{HoldsNoOwnAt}
-use Rattle.machine_rules.specs.Facts.{Every, KeepsCounts}
+use Rattle.count_laws.specs.Clean.{HoldsNoOwnAt}
+use Rattle.count_laws.specs.Facts.{KeepsCounts}
 use Rattle.machine_rules.specs.Next.{IsAtRest, IsQuiet}
 use Rattle.machine_rules.specs.State.{State}
 use Rattle.detector_laws.proofs.Cells.{some_not_none}

@@ -12,19 +12,19 @@ use Rattle.letter_kinds.specs.Holdings.{Row, held_in}
 use Rattle.letter_kinds.specs.declared.letter.Letter.{Letter}
 use Rattle.letter_kinds.specs.declared.letter.Letter.TheVariants.{Dec}
 use Rattle.letter_kinds.specs.declared.note.Note.{Note}
-use Rattle.machine_rules.proofs.EitherMode.{held_owner}
-use Rattle.machine_rules.proofs.ReapKeeps.{every_none, length-reap}
-use Rattle.machine_rules.proofs.Reaps.{AllIn}
-use Rattle.machine_rules.proofs.SeatReads.{loads_at-none}
-use Rattle.machine_rules.proofs.Sweeping.{amount-given_back, firm_counted}
-use Rattle.machine_rules.proofs.Sweeps.{owed, owed-groups, firm_groups}
+use Rattle.count_laws.proofs.events.EitherMode.{held_owner}
+use Rattle.count_laws.proofs.events.Reap.{every_none, length-reap}
+use Rattle.count_laws.proofs.balance.Reaps.{AllIn}
+use Rattle.count_laws.proofs.balance.SeatReads.{loads_at-none}
+use Rattle.count_laws.proofs.balance.Sweeping.{amount-given_back, firm_counted}
+use Rattle.count_laws.proofs.balance.Sweeps.{owed, owed-groups, firm_groups}
 use Rattle.machine_rules.specs.Options.{Trace}
-use Rattle.machine_rules.specs.Actors.{Actors, cell_at, Seat, cell_of, letters_of, mail_at, push_decs, push_letter, seat_at, with_letter_more}
-use Rattle.machine_rules.specs.Agreement.{Person}
+use Rattle.machine_rules.specs.Actors.{Actors, cell_at, Seat, cell_of, letters_of, mail_at, push_decs, push_letter, seat_at, with_letter_more, Every}
+use Rattle.count_laws.specs.Agreement.{Person}
 use Rattle.machine_rules.specs.Balance.{loads_at, load_sum}
 use Rattle.machine_rules.specs.Cell.{Cell}
 use Rattle.machine_rules.specs.Detect.{held_outside, reap_members, reaped}
-use Rattle.machine_rules.specs.Facts.{Every, KeepsCounts}
+use Rattle.count_laws.specs.Facts.{KeepsCounts}
 use Rattle.detector_laws.proofs.Members.{each_has}
 use Rattle.detector_laws.specs.Cells.{held_on}
 use Rattle.detector_laws.specs.Confirms.{NoConfirms}

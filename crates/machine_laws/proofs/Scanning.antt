@@ -19,22 +19,22 @@ use Rattle.letter_kinds.specs.declared.letter.Letter.{Letter}
 use Rattle.letter_kinds.specs.declared.letter.Letter.TheVariants.{Confirm}
 use Rattle.letter_kinds.specs.declared.note.Note.{Note}
 use Rattle.letter_kinds.specs.declared.note.Report.{Report}
-use Rattle.machine_rules.proofs.RootsSame.{roots_push}
-use Rattle.machine_rules.proofs.Agreeing.{agrees_push_other}
-use Rattle.machine_rules.proofs.Every.{every_push, length-push}
-use Rattle.machine_rules.proofs.Global.{mail_push}
-use Rattle.machine_rules.proofs.InHand.{Balanced, in_hand, none, out_of_hand}
-use Rattle.machine_rules.proofs.Posting.{push_balanced}
-use Rattle.machine_rules.proofs.SeatReads.{letter_Confirm}
-use Rattle.machine_rules.proofs.Sends.{push_prefix, cond_zero}
+use Rattle.count_laws.proofs.roots.Same.{roots_push}
+use Rattle.count_laws.proofs.agreement.Agreeing.{agrees_push_other}
+use Rattle.count_laws.proofs.events.Every.{every_push, length-push}
+use Rattle.count_laws.proofs.knowledge.Global.{mail_push}
+use Rattle.count_laws.proofs.balance.InHand.{Balanced, in_hand, none, out_of_hand}
+use Rattle.count_laws.proofs.balance.Posting.{push_balanced}
+use Rattle.count_laws.proofs.balance.SeatReads.{letter_Confirm}
+use Rattle.count_laws.proofs.balance.Sends.{push_prefix, cond_zero}
 use Rattle.machine_rules.specs.Cell.{Cell}
 use Rattle.machine_rules.specs.Options.{Deep, Trace}
 use Rattle.machine_rules.specs.Options as options
 use Rattle.machine_rules.specs.Actors.{Actors, cell_at, Seat, cell_of, letters_of, mail_at, push_letter, seat_at, with_letter_more}
-use Rattle.machine_rules.specs.Agreement.{Person}
+use Rattle.count_laws.specs.Agreement.{Person}
 use Rattle.machine_rules.specs.Balance.{load_sum}
 use Rattle.machine_rules.specs.Detect.{ask_all}
-use Rattle.machine_rules.specs.Facts.{IsFirmAt, IsPastRows, KeepsCounts, IsSound}
+use Rattle.count_laws.specs.Facts.{IsFirmAt, IsPastRows, KeepsCounts, IsSound}
 use Rattle.detector_laws.proofs.Cells.{some_not_none}
 use Rattle.detector_laws.proofs.Members.{In_each, each_In}
 use Rattle.detector_laws.proofs.Names.{name_In, names, named}

@@ -12,17 +12,17 @@ use Rattle.letter_kinds.specs.Sums.{load_count}
 use Rattle.letter_kinds.specs.declared.letter.Letter.{Letter}
 use Rattle.letter_kinds.specs.declared.letter.Letter.TheVariants.{App, Inc, Dec, Confirm}
 use Rattle.letter_kinds.specs.declared.note.Note.{Note}
-use Rattle.machine_rules.proofs.EitherMode.{reap_keeps}
-use Rattle.machine_rules.proofs.ReapKeeps.{AllSealed, Sealed}
-use Rattle.machine_rules.proofs.SeatReads.{loads_at-seat, letter_Confirm}
-use Rattle.machine_rules.proofs.Seats.{present_below}
+use Rattle.count_laws.proofs.events.EitherMode.{reap_keeps}
+use Rattle.count_laws.proofs.events.Reap.{AllSealed, Sealed}
+use Rattle.count_laws.proofs.balance.SeatReads.{loads_at-seat, letter_Confirm}
+use Rattle.machine_rules.proofs.Present.{present_below}
 use Rattle.machine_rules.specs.Options.{Trace}
 use Rattle.machine_rules.specs.Actors.{Actors, cell_at, Seat, cell_of, letters_of, mail_at, seat, seat_at}
-use Rattle.machine_rules.specs.Agreement.{app_letters, Person}
+use Rattle.count_laws.specs.Agreement.{app_letters, Person}
 use Rattle.machine_rules.specs.Balance.{loads_at, load_sum}
 use Rattle.machine_rules.specs.Cell.{Cell}
 use Rattle.machine_rules.specs.Detect.{reap_members}
-use Rattle.machine_rules.specs.Facts.{KeepsCounts}
+use Rattle.count_laws.specs.Facts.{KeepsCounts}
 use Rattle.detector_laws.proofs.Cells.{same_some, some_not_none}
 use Rattle.detector_laws.proofs.Letters.{EndsInConfirm-only}
 use Rattle.detector_laws.proofs.Members.{each_has}

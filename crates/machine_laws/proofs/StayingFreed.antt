@@ -8,21 +8,21 @@ use Rattle.orca_names.specs.declared.names.Thing.{Thing}
 use Rattle.orca_names.specs.declared.names.Thing.TheVariants.{Actor, Obj}
 use Rattle.event_rule.specs.declared.event.Event.{Event}
 use Rattle.letter_kinds.specs.Holdings.{Holdings, Row, has_own, row_of}
-use Rattle.machine_rules.proofs.Forgotten.{forgotten_stays}
-use Rattle.machine_rules.proofs.Seats.{present_below}
-use Rattle.machine_rules.proofs.Staying.{gone_stays}
+use Rattle.count_laws.proofs.agreement.Forgotten.{forgotten_stays}
+use Rattle.machine_rules.proofs.Present.{present_below}
+use Rattle.count_laws.proofs.gone.Staying.{gone_stays}
 use Rattle.letter_kinds.specs.declared.letter.Letter.{Letter}
 use Rattle.reach_walk.specs.Reach.{thing_row}
-use Rattle.machine_rules.specs.Agreement.{people_of}
+use Rattle.count_laws.specs.Agreement.{people_of}
 use Rattle.machine_rules.specs.Cell.{Cell, own_row_of}
-use Rattle.machine_rules.specs.Facts.{IsSound}
-use Rattle.machine_rules.specs.Gone.{IsGone, HasName}
+use Rattle.count_laws.specs.Facts.{IsSound}
+use Rattle.count_laws.specs.Gone.{IsGone, HasName}
 use Rattle.machine_rules.specs.Left.{IsFreed, IsLeft, IsMade}
 use Rattle.machine_rules.specs.Options.{Trace, Deep, Roots}
-use Rattle.machine_rules.specs.Plain.{PlainState, plain_row}
+use Rattle.plain_rules.specs.Machine.{PlainState, plain_row}
 use Rattle.machine_rules.specs.Run.{Leads, PlainLeads, choices, choices_after, is_choice}
 use Rattle.machine_rules.specs.State.{State, Step, Goes, first_state}
-use Rattle.machine_rules.specs.declared.PlainActor.{PlainActor}
+use Rattle.plain_rules.specs.declared.PlainActor.{PlainActor}
 use Rattle.machine_laws.proofs.WholeRuns.{leads_on, reachable_left, run_has_facts}
 use Rattle.machine_laws.specs.AllFacts.{AllFacts}
 use Rattle.machine_laws.specs.Freed.{FreedStaysFreed}

@@ -18,8 +18,8 @@ use Rattle.letter_kinds.proofs.Sums.{sum-nil}
 use Rattle.letter_kinds.specs.Counting.{Amount, by_owner, given_back, join_owner, mint_all, mint_one, set_held, sweep}
 use Rattle.letter_kinds.specs.Holdings.{Entries, Holdings, Row, entry_count, entry_row, held_in}
 use Rattle.letter_kinds.specs.Sums.{amount_of}
-use Rattle.machine_rules.proofs.InHand.{AllCounted}
-use Rattle.machine_rules.proofs.Sweeping.{both_true, find_above}
+use Rattle.count_laws.proofs.balance.InHand.{AllCounted}
+use Rattle.count_laws.proofs.balance.Sweeping.{both_true, find_above}
 use Rattle.machine_laws.specs.Work.{count_work, entry_work, table_work}
 
 -- ---- one entry of a table gets another value

@@ -15,9 +15,10 @@ use Rattle.letter_kinds.specs.declared.letter.Letter.{Letter}
 use Rattle.letter_kinds.specs.declared.letter.Letter.TheVariants.{App, Inc, Dec, Confirm}
 use Rattle.letter_kinds.specs.declared.note.Note.{Note}
 use Rattle.letter_kinds.specs.declared.note.Note.TheVariants.{Ack}
-use Rattle.machine_rules.proofs.InHand.{take_letter}
-use Rattle.machine_rules.proofs.SeatReads.{letter_App, letter_Confirm, loads_at-seat}
-use Rattle.machine_rules.proofs.Seats.{present_below, load_sum-set}
+use Rattle.count_laws.proofs.balance.InHand.{take_letter}
+use Rattle.count_laws.proofs.balance.SeatReads.{letter_App, letter_Confirm, loads_at-seat}
+use Rattle.count_laws.proofs.balance.Seats.{load_sum-set}
+use Rattle.machine_rules.proofs.Present.{present_below}
 use Rattle.machine_rules.specs.Actors.{Actors, cell_at, cell_of, letters_of, mail_at, seat, seat_at}
 use Rattle.machine_rules.specs.Balance.{load_sum}
 use Rattle.machine_rules.specs.Cell.{Cell}

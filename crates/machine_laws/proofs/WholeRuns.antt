@@ -6,21 +6,21 @@ use Rattle.behaviour_code.specs.declared.code.Program.{Program}
 use Rattle.reach_walk.specs.Reach.{thing_row}
 use Rattle.event_rule.specs.declared.event.Event.{Event}
 use Rattle.event_rule.specs.declared.event.Event.TheVariants.{Take, Go, Collect, Leave, Block, Hear, Scan, Reap}
-use Rattle.machine_rules.proofs.Acting.{Beside, collects_keep, goes_keep, leaves_keep, takes_keep}
-use Rattle.machine_rules.proofs.Cleaning.{clean-first, clean-next}
-use Rattle.machine_rules.proofs.EitherMode.{lives_left}
-use Rattle.machine_rules.proofs.Named.{named_left}
-use Rattle.machine_rules.proofs.NoSelf.{no_self-first, no_self-next}
-use Rattle.machine_rules.proofs.OwnLetters.{runs_name_own}
-use Rattle.machine_rules.proofs.Reachable.{reachable_lives}
-use Rattle.machine_rules.proofs.RootsClean.{roots_clean-first, roots_clean-next}
-use Rattle.machine_rules.proofs.Starting as starting
-use Rattle.machine_rules.specs.Agreement.{people_of}
+use Rattle.count_laws.proofs.events.Acting.{Beside, collects_keep, goes_keep, leaves_keep, takes_keep}
+use Rattle.count_laws.proofs.local.Cleaning.{clean-first, clean-next}
+use Rattle.count_laws.proofs.events.EitherMode.{lives_left}
+use Rattle.count_laws.proofs.letters.Named.{named_left}
+use Rattle.count_laws.proofs.local.NoSelf.{no_self-first, no_self-next}
+use Rattle.count_laws.proofs.letters.OwnLetters.{runs_name_own}
+use Rattle.count_laws.proofs.agreement.Reachable.{reachable_lives}
+use Rattle.count_laws.proofs.roots.Clean.{roots_clean-first, roots_clean-next}
+use Rattle.count_laws.proofs.events.Start as starting
+use Rattle.count_laws.specs.Agreement.{people_of}
 use Rattle.machine_rules.specs.Left.{IsLeft}
 use Rattle.machine_rules.specs.Next.{next}
 use Rattle.machine_rules.specs.Options.{Deep, Options, Roots, Trace}
-use Rattle.machine_rules.specs.Plain.{PlainState, plain_row, start_of}
-use Rattle.machine_rules.specs.PlainReach.{IsReachable}
+use Rattle.plain_rules.specs.Machine.{PlainState, plain_row, start_of}
+use Rattle.plain_rules.specs.Reach.{IsReachable}
 use Rattle.machine_rules.specs.Run.{IsPlainBeside, IsRun, Leads, PlainFollows, PlainLeads, choices, choices_after, is_choice}
 use Rattle.machine_rules.specs.State.{State, Step, Goes, first_state}
 use Rattle.machine_laws.proofs.Keeping.{block_beside, hear_beside, next_keeps, reap_beside, scan_beside}

@@ -2,11 +2,11 @@
 use Rattle.std.specs.Prelude.{◌≡◌, length}
 use Rattle.orca_names.specs.declared.names.Thing.TheVariants.{Actor}
 use Rattle.machine_rules.specs.Options.{Trace, Deep, Roots}
-use Rattle.machine_rules.specs.Actors.{cell_at, mail_at}
+use Rattle.machine_rules.specs.Actors.{cell_at, mail_at, Every}
 use Rattle.machine_rules.specs.Balance.{load_sum}
-use Rattle.machine_rules.specs.Clean.{CleanAreSwept, IsCleanByRootsAt, NoneHoldsItsOwn}
-use Rattle.machine_rules.specs.Facts.{Every, Facts}
-use Rattle.machine_rules.specs.Plain.{PlainState}
+use Rattle.count_laws.specs.Clean.{CleanAreSwept, IsCleanByRootsAt, NoneHoldsItsOwn}
+use Rattle.count_laws.specs.Facts.{Facts}
+use Rattle.plain_rules.specs.Machine.{PlainState}
 use Rattle.machine_rules.specs.State.{State}
 use Rattle.detector_laws.specs.Facts.{DetectorFacts}
 

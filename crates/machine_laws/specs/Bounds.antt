@@ -10,7 +10,7 @@ use Rattle.letter_kinds.specs.declared.note.Note.TheVariants.{Block, Unblock, Ac
 use Rattle.letter_kinds.specs.declared.note.Report.{Report}
 use Rattle.machine_rules.specs.Actors.{Actors, seat_at}
 use Rattle.machine_rules.specs.Balance.{decs_at, held_at, held_sum, incs_at, load_sum, own_at, owner_seat}
-use Rattle.machine_rules.specs.Bounds.{counted}
+use Rattle.count_laws.specs.Bounds.{counted}
 use Rattle.machine_rules.specs.Options.{Options}
 use Rattle.machine_rules.specs.Run.{IsRun}
 use Rattle.machine_rules.specs.State.{State}

@@ -5,8 +5,8 @@ use Rattle.behaviour_code.specs.declared.code.Program.{Program}
 use Rattle.event_rule.specs.declared.event.Event.{Event}
 use Rattle.machine_rules.specs.Left.{IsFreed, IsLeft, IsMade}
 use Rattle.machine_rules.specs.Options.{Options}
-use Rattle.machine_rules.specs.Plain.{PlainState}
-use Rattle.machine_rules.specs.PlainReach.{IsReachable}
+use Rattle.plain_rules.specs.Machine.{PlainState}
+use Rattle.plain_rules.specs.Reach.{IsReachable}
 use Rattle.machine_rules.specs.Run.{IsPlainBeside, IsRun}
 use Rattle.machine_rules.specs.State.{State}
 

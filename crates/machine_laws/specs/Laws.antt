@@ -7,18 +7,20 @@ use Rattle.letter_kinds.specs.Reports.{report_of}
 use Rattle.letter_kinds.specs.declared.letter.Letter.{Letter}
 use Rattle.letter_kinds.specs.declared.note.Report.{Report}
 use Rattle.machine_rules.specs.Actors.{seat, seat_at}
-use Rattle.machine_rules.specs.Balance.{IsBalanced, NeverOverdraws}
+use Rattle.machine_rules.specs.Balance.{IsBalanced}
+use Rattle.count_laws.specs.Prefixes.{NeverOverdraws}
 use Rattle.machine_rules.specs.Cell.{Cell}
-use Rattle.machine_rules.specs.Left.{IsFreed, IsLeft, NamesNothingFreed}
-use Rattle.machine_rules.specs.LeftByRoots.{IsReachedOrHeld}
+use Rattle.machine_rules.specs.Left.{IsFreed, IsLeft}
+use Rattle.count_laws.specs.Named.{NamesNothingFreed}
+use Rattle.count_laws.specs.LeftByRoots.{IsReachedOrHeld}
 use Rattle.machine_rules.specs.Next.{IsEnabled, IsQuiet, next}
 use Rattle.machine_rules.specs.Options.{Deep, Options, Roots, Trace}
-use Rattle.machine_rules.specs.Plain.{PlainState, start_of}
-use Rattle.machine_rules.specs.PlainReach.{IsReachable}
-use Rattle.machine_rules.specs.PlainRun.{IsPlainQuiet}
+use Rattle.plain_rules.specs.Machine.{PlainState, start_of}
+use Rattle.plain_rules.specs.Reach.{IsReachable}
+use Rattle.plain_rules.specs.Run.{IsPlainQuiet}
 use Rattle.machine_rules.specs.Run.{IsPlainBeside, IsRun, Leads, PlainFollows, choices, is_choice}
 use Rattle.machine_rules.specs.State.{State, Goes, first_state}
-use Rattle.machine_rules.specs.TracedByRoots.{AreTracedByRoots}
+use Rattle.count_laws.specs.TracedByRoots.{AreTracedByRoots}
 use Rattle.detector_laws.specs.Reports.{IsReportOf}
 use Rattle.machine_laws.specs.AllFacts.{AllFacts}
 use Rattle.machine_laws.specs.Work.{gets_left, work_left}

@@ -6,12 +6,12 @@ use Rattle.event_rule.specs.declared.event.Event.{Event}
 use Rattle.event_rule.specs.declared.event.Event.TheVariants.{Reap}
 use Rattle.letter_kinds.specs.Detector.{Token, has, token_numbered}
 use Rattle.machine_rules.specs.Actors.{cell_at, mail_at, seat, seat_at}
-use Rattle.machine_rules.specs.Apart.{HasNoEvent}
+use Rattle.count_laws.specs.Apart.{HasNoEvent}
 use Rattle.machine_rules.specs.Balance.{load_sum}
 use Rattle.machine_rules.specs.Cell.{Cell}
 use Rattle.machine_rules.specs.Next.{IsEnabled}
 use Rattle.machine_rules.specs.Options.{Options, Trace}
-use Rattle.machine_rules.specs.Plain.{PlainState}
+use Rattle.plain_rules.specs.Machine.{PlainState}
 use Rattle.machine_rules.specs.Run.{IsRun}
 use Rattle.machine_rules.specs.State.{State}
 use Rattle.detector_laws.specs.Tokens.{IsSealed}

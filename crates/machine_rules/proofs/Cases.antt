@@ -24,7 +24,7 @@ use Rattle.machine_rules.specs.Go.{act_in, go_at, go_in, lacking_from, load_from
 use Rattle.machine_rules.specs.Leave.{leave_at, leave_in, may_leave}
 use Rattle.machine_rules.specs.Next.{next, next_by}
 use Rattle.machine_rules.specs.Options.{Trace}
-use Rattle.machine_rules.specs.Plain.{stopped_at, with_name}
+use Rattle.plain_rules.specs.Machine.{stopped_at, with_name}
 use Rattle.machine_rules.specs.State.{State, IsFull, Goes}
 use Rattle.machine_rules.specs.Take.{cell_after, note_of, notes_after, take_at, take_in}
 use Rattle.machine_rules.proofs.Steps.{goes_to, not_enabled, not_full}

@@ -21,10 +21,10 @@ use Rattle.machine_rules.specs.Enabled.{CanHappen, IsPresentWith, IsRefusedAsFul
 use Rattle.machine_rules.specs.Go.{act_in, go_at, go_in, needed, needing, turn_of_cell}
 use Rattle.machine_rules.specs.Laws.{EnabledExactly, FullExactly}
 use Rattle.machine_rules.specs.Leave.{leave_at, leave_in, may_leave}
-use Rattle.machine_rules.specs.Lists.{is_empty}
+use Rattle.plain_list.specs.Lists.{is_empty}
 use Rattle.machine_rules.specs.Next.{next}
 use Rattle.machine_rules.specs.Options.{Trace}
-use Rattle.machine_rules.specs.Plain.{stopped_at}
+use Rattle.plain_rules.specs.Machine.{stopped_at}
 use Rattle.machine_rules.specs.State.{State, NotEnabled, IsFull, Goes}
 use Rattle.machine_rules.specs.Take.{take_at, take_in}
 

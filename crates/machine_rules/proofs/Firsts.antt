@@ -8,8 +8,8 @@ use Rattle.event_rule.specs.declared.event.Event.TheVariants.{Take, Go, Collect,
 use Rattle.letter_kinds.specs.Detector.{Token}
 use Rattle.machine_rules.proofs.Enabling.{enabled_exactly, full_exactly}
 use Rattle.machine_rules.proofs.Ordered.{Upto, upto_both, upto_or, upto_trans}
-use Rattle.machine_rules.proofs.Seats.{present_below}
-use Rattle.machine_rules.specs.Apart.{actor_of}
+use Rattle.machine_rules.proofs.Present.{present_below}
+use Rattle.event_rule.specs.Events.{actor_of}
 use Rattle.machine_rules.specs.Enabled.{CanHappen}
 use Rattle.machine_rules.specs.Ends.{ActorsFull, Budget, Ending, EndsAs, GoesOn, Quiet, RunsGoOnOrEnd}
 use Rattle.machine_rules.specs.First.{NoneIsFirstAtQuiet, OneIsFirst, QuietOrFirst}

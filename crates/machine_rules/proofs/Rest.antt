@@ -4,9 +4,8 @@ use Rattle.std.proofs.lemmas.Bool.{false_from_ne_true}
 use Rattle.event_rule.specs.declared.event.Event.{Event}
 use Rattle.event_rule.specs.declared.event.Event.TheVariants.{Take, Go, Collect, Block}
 use Rattle.machine_rules.proofs.Enabling.{enabled}
-use Rattle.machine_rules.specs.Actors.{Actors}
+use Rattle.machine_rules.specs.Actors.{Actors, Every}
 use Rattle.machine_rules.specs.Enabled.{CanHappen}
-use Rattle.machine_rules.specs.Facts.{Every}
 use Rattle.machine_rules.specs.Next.{IsAtRest, IsQuiet}
 use Rattle.machine_rules.specs.State.{State}
 

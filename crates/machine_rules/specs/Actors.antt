@@ -1,5 +1,5 @@
 -- The actors by number, and the letters that wait for each.
-use Rattle.std.specs.Prelude.{ℕ, List, [], ◌∷◌, ◌++◌, get_or, set, Option, Some, None, option_map}
+use Rattle.std.specs.Prelude.{ℕ, ◌≡◌, List, [], ◌∷◌, ◌++◌, get_or, set, Option, Some, None, option_map}
 use Rattle.std.specs.Option.{option_map_or}
 use Rattle.letter_kinds.specs.declared.letter.Letter.{Letter}
 use Rattle.letter_kinds.specs.declared.letter.Letter.TheVariants.{Dec}
@@ -37,6 +37,10 @@ cell_at actors a = cell_of (seat_at actors a)
 
 abbrev pub mail_at : Actors → ℕ → List Letter
 mail_at actors a = letters_of (seat_at actors a)
+
+-- something holds of each actor that is present
+abbrev pub Every : (ℕ → Cell → List Letter → Type 0) → Actors → Type 0
+Every Q actors = (a : ℕ) (c : Cell) (mail : List Letter) → seat_at actors a ≡ seat c mail → Q a c mail
 
 -- ---- posting
 

@@ -6,7 +6,6 @@ use Rattle.orca_names.specs.declared.names.Thing.{Thing}
 use Rattle.letter_kinds.specs.declared.letter.Letter.{Letter}
 use Rattle.letter_kinds.specs.Holdings.{held_in, own_in}
 use Rattle.letter_kinds.specs.Sums.{dec_of, inc_of, load_count}
-use Rattle.machine_rules.specs.Options.{Trace, Deep, Roots}
 use Rattle.machine_rules.specs.Actors.{Actors, Seat, seat_at}
 
 -- ---- of one seat; of an actor that is gone there is nothing
@@ -51,24 +50,3 @@ load_sum x actors = sum_by (loads_at x) actors
 abbrev pub IsBalanced : Actors → Type 0
 IsBalanced actors = (x : Thing) →
     own_at x (owner_seat actors x) + incs_at x (owner_seat actors x) ≡ held_sum x actors + load_sum x actors + decs_at x (owner_seat actors x)
-
--- ---- prefixes
-
--- what is left where an increment still waits
-abbrev pub spare : Trace → ℕ
-spare Deep = 1
-spare Roots = 0
-
--- however many letters are taken, what they take from a count of n is there, and with deep tracing, where
--- an increment still waits behind them, one is left
-unfoldable pub IsCovered : Trace → Thing → ℕ → List Letter → Type 0
-IsCovered trace x n mail = (k : ℕ) →
-    sum_by (dec_of x) (take k mail) + sum_by (load_count x) (take k mail) + min (spare trace) (sum_by (inc_of x) (drop k mail)) ≤ n + sum_by (inc_of x) (take k mail)
-
-abbrev pub IsCoveredAt : Trace → Thing → Option Seat → Type 0
-IsCoveredAt trace x None = Unit {0}
-IsCoveredAt trace x (Some o) = IsCovered trace x (own_in o.cell.holdings x) o.mail
-
--- no letter takes from a count what is not there
-abbrev pub NeverOverdraws : Trace → Actors → Type 0
-NeverOverdraws trace actors = (x : Thing) → IsCoveredAt trace x (owner_seat actors x)

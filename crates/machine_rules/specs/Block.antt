@@ -9,7 +9,7 @@ use Rattle.letter_kinds.specs.declared.note.Note.TheVariants.{Block}
 use Rattle.letter_kinds.specs.Holdings.{Holdings, Row}
 use Rattle.machine_rules.specs.Actors.{Seat, seat, seat_at}
 use Rattle.machine_rules.specs.Cell.{Cell}
-use Rattle.machine_rules.specs.Lists.{is_empty}
+use Rattle.plain_list.specs.Lists.{is_empty}
 use Rattle.machine_rules.specs.State.{State, Step, NotEnabled, Goes}
 
 -- the count on an actor, of an entry of one

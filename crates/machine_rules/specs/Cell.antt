@@ -1,8 +1,7 @@
 -- What an actor keeps in the machine that collects.
-use Rattle.std.specs.Prelude.{ℕ, false, Bool, List, ◌++◌, map, replicate, Option, Some, None}
+use Rattle.std.specs.Prelude.{ℕ, false, Bool, List, ◌++◌, map, replicate, Option, Some, None, ◌==◌, if◌then◌else◌, option_map}
 use Rattle.std.specs.List.{filter_map}
 use Rattle.std.specs.FinMap as m
-use Rattle.std.specs.Prelude.{◌==◌, if◌then◌else◌, option_map}
 use Rattle.orca_names.specs.Names.{thing_cmp}
 use Rattle.orca_names.specs.declared.names.ObjName.{ObjName}
 use Rattle.orca_names.specs.declared.names.Thing.{Thing}

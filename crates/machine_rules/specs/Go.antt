@@ -19,7 +19,7 @@ use Rattle.letter_kinds.specs.Counting.{Amount, Loaded, gain, lacking, mint_all,
 use Rattle.machine_rules.specs.Actors.{Actors, Seat, push_letter, seat}
 use Rattle.machine_rules.specs.Cell.{Cell, fresh_cell, known_objects, listed_objects, row_by, row_by_roots}
 use Rattle.machine_rules.specs.Options.{Trace, Deep, Roots}
-use Rattle.machine_rules.specs.Plain.{stopped_at, with_name}
+use Rattle.plain_rules.specs.Machine.{stopped_at, with_name}
 use Rattle.machine_rules.specs.State.{State, Step, NotEnabled, IsFull, Goes}
 
 -- what a turn reads, over the rows that the actor has

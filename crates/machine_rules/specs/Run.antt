@@ -12,12 +12,12 @@ use Rattle.letter_kinds.specs.Holdings.{Holdings, with_made}
 use Rattle.machine_rules.specs.Actors.{Seat, seat_at}
 use Rattle.machine_rules.specs.Cell.{Cell}
 use Rattle.machine_rules.specs.Go.{lacking_from, needed, turn_of_cell}
-use Rattle.machine_rules.specs.Lists.{is_empty}
+use Rattle.plain_list.specs.Lists.{is_empty}
 use Rattle.machine_rules.specs.Next.{next}
 use Rattle.machine_rules.specs.Options.{Options, Trace}
-use Rattle.machine_rules.specs.Plain.{PlainState, start_of}
-use Rattle.machine_rules.specs.Plain as plain
-use Rattle.machine_rules.specs.PlainRun.{outcome_of}
+use Rattle.plain_rules.specs.Machine.{PlainState, start_of}
+use Rattle.plain_rules.specs.Machine as plain
+use Rattle.plain_rules.specs.Run.{outcome_of}
 use Rattle.machine_rules.specs.State.{State, Step, NotEnabled, IsFull, Goes, first_state}
 
 -- t is the state after the events of the book, each of which is enabled in its turn, and none of

@@ -13,7 +13,7 @@ use Rattle.letter_kinds.specs.Counting.{Loaded, lower_all, raise_all, receive}
 use Rattle.letter_kinds.specs.Holdings.{Row}
 use Rattle.machine_rules.specs.Actors.{Seat, seat, seat_at}
 use Rattle.machine_rules.specs.Cell.{Cell}
-use Rattle.machine_rules.specs.Plain.{frame_of}
+use Rattle.plain_rules.specs.Machine.{frame_of}
 use Rattle.machine_rules.specs.State.{State, Step, NotEnabled, Goes}
 
 -- the rows of others' objects are kept

@@ -15,10 +15,10 @@ use Rattle.event_rule.specs.declared.event.Event.TheVariants.{Take, Go, Collect,
 use Rattle.turn_rules.specs.declared.act.Act.{Act}
 use Rattle.turn_rules.specs.declared.act.Act.TheVariants.{Post, New, Print, End}
 use Rattle.turn_rules.specs.declared.act.Frame.{Frame}
-use Rattle.machine_rules.specs.declared.PlainActor.{PlainActor}
-use Rattle.machine_rules.specs.declared.PlainLetter.{PlainLetter}
-use Rattle.machine_rules.specs.Plain.{PlainState, Outcome, NotEnabled, IsFull, Goes, after_act, after_letter, after_turn, fresh_actor, next_state, plain_go, plain_take, stopped_at, taken, turn_of_actor, with_name, with_turn}
-use Rattle.machine_rules.specs.PlainRun.{IsPlainEnabled, IsPlainFirst, IsPlainQuiet, outcome_of}
+use Rattle.plain_rules.specs.declared.PlainActor.{PlainActor}
+use Rattle.plain_rules.specs.declared.PlainLetter.{PlainLetter}
+use Rattle.plain_rules.specs.Machine.{PlainState, Outcome, NotEnabled, IsFull, Goes, after_act, after_letter, after_turn, fresh_actor, next_state, plain_go, plain_take, stopped_at, taken, turn_of_actor, with_name, with_turn}
+use Rattle.plain_rules.specs.Run.{IsPlainEnabled, IsPlainFirst, IsPlainQuiet, outcome_of}
 use Rattle.plain_machine.specs.First.{ComesFirst, IsIdle, event_of, event_with}
 
 -- an actor of the table can do the event

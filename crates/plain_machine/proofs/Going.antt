@@ -5,8 +5,8 @@ use Rattle.orca_names.specs.declared.names.Value.{Value}
 use Rattle.orca_names.specs.declared.row.Fields.{Fields}
 use Rattle.turn_rules.specs.declared.act.Act.{Act}
 use Rattle.turn_rules.specs.declared.act.Frame.{Frame}
-use Rattle.machine_rules.specs.declared.PlainActor.{PlainActor}
-use Rattle.machine_rules.specs.Plain.{PlainState, Outcome, NotEnabled, after_act, after_turn, plain_go, turn_of_actor}
+use Rattle.plain_rules.specs.declared.PlainActor.{PlainActor}
+use Rattle.plain_rules.specs.Machine.{PlainState, Outcome, NotEnabled, after_act, after_turn, plain_go, turn_of_actor}
 
 pub plain_go-turn : (s : PlainState) (a : ℕ) (x : PlainActor) (old new : Frame) (fields : Fields) (made : List (List Value)) (act : Act) →
     slice_get s.actors a ≡ Some x → x.frame ≡ Some old →

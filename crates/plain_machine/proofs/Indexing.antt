@@ -10,9 +10,9 @@ use Rattle.std.proofs.lemmas.List.Sums.{fails_before_first}
 use Rattle.std.proofs.lemmas.Option.{slice_get-get_or, slice_get_past, slice_get_read}
 use Rattle.event_rule.specs.declared.event.Event.{Event}
 use Rattle.turn_rules.specs.declared.act.Frame.{Frame}
-use Rattle.machine_rules.specs.declared.PlainActor.{PlainActor}
-use Rattle.machine_rules.specs.declared.PlainLetter.{PlainLetter}
-use Rattle.machine_rules.specs.Lists.{is_empty}
+use Rattle.plain_rules.specs.declared.PlainActor.{PlainActor}
+use Rattle.plain_rules.specs.declared.PlainLetter.{PlainLetter}
+use Rattle.plain_list.specs.Lists.{is_empty}
 use Rattle.plain_machine.specs.First.{ComesFirst, IsIdle, event_of, event_with}
 use Rattle.plain_machine.specs.Ready.{IsIndex, can_act}
 

@@ -4,9 +4,9 @@ use Rattle.std.proofs.lemmas.List.{take_at}
 use Rattle.orca_names.specs.declared.names.Value.{Value}
 use Rattle.orca_names.specs.declared.row.Fields.{Fields}
 use Rattle.turn_rules.specs.declared.act.Frame.{Frame}
-use Rattle.machine_rules.specs.declared.PlainActor.{PlainActor}
-use Rattle.machine_rules.specs.declared.PlainLetter.{PlainLetter}
-use Rattle.machine_rules.specs.Plain.{with_changed, with_letter, with_turn}
+use Rattle.plain_rules.specs.declared.PlainActor.{PlainActor}
+use Rattle.plain_rules.specs.declared.PlainLetter.{PlainLetter}
+use Rattle.plain_rules.specs.Machine.{with_changed, with_letter, with_turn}
 use Rattle.plain_machine.specs.declared.acts.Stand.{Stand}
 use Rattle.plain_machine.specs.Undo.{has_rows, with_first_rows, with_kept, with_rows}
 use Rattle.std.specs.Option.{option_map_or}

@@ -1,6 +1,6 @@
 -- When each fault comes.
 use Rattle.std.specs.Prelude.{ℕ, ◌≡◌}
-use Rattle.machine_rules.specs.Plain.{Outcome, NotEnabled, IsFull}
+use Rattle.plain_rules.specs.Machine.{Outcome, NotEnabled, IsFull}
 use Rattle.plain_machine.specs.declared.machine.PlainFault.{PlainFault}
 use Rattle.plain_machine.specs.declared.machine.PlainFault.TheVariants.{NotReady, ActorsFull, NoMemory}
 

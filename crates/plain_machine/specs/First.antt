@@ -3,8 +3,8 @@ use Rattle.std.specs.Prelude.{◌≡◌, ℕ, List, [], ◌∷◌, Option, Some,
 use Rattle.event_rule.specs.declared.event.Event.{Event}
 use Rattle.event_rule.specs.declared.event.Event.TheVariants.{Take, Go}
 use Rattle.turn_rules.specs.declared.act.Frame.{Frame}
-use Rattle.machine_rules.specs.declared.PlainActor.{PlainActor}
-use Rattle.machine_rules.specs.declared.PlainLetter.{PlainLetter}
+use Rattle.plain_rules.specs.declared.PlainActor.{PlainActor}
+use Rattle.plain_rules.specs.declared.PlainLetter.{PlainLetter}
 
 -- an actor with this frame goes, and without one takes the first of these letters
 abbrev pub event_with : ℕ → Option Frame → List PlainLetter → Option Event

@@ -1,8 +1,8 @@
 -- Which actors can do something, and an index of them.
 use Rattle.std.specs.Prelude.{ℕ, ◌≡◌, ◌≤◌, ◌||◌, Bool, false, is_some, not, List, length, slice_get, slice_index_or}
 use Rattle.std.specs.Option.{option_map_or}
-use Rattle.machine_rules.specs.declared.PlainActor.{PlainActor}
-use Rattle.machine_rules.specs.Lists.{is_empty}
+use Rattle.plain_rules.specs.declared.PlainActor.{PlainActor}
+use Rattle.plain_list.specs.Lists.{is_empty}
 
 -- it has a frame or a letter
 abbrev pub can_act : PlainActor → Bool

@@ -2,10 +2,10 @@
 use Rattle.std.specs.Prelude.{ℕ, ◌≤◌, List}
 use Rattle.orca_names.specs.declared.names.Value.{Value}
 use Rattle.behaviour_code.specs.declared.code.Program.{Program}
-use Rattle.machine_rules.specs.declared.PlainActor.{PlainActor}
+use Rattle.plain_rules.specs.declared.PlainActor.{PlainActor}
 use Rattle.behaviour_check.specs.Rules.{IsChecked}
-use Rattle.machine_rules.specs.Plain.{PlainState}
-use Rattle.machine_rules.specs.PlainLimits.{IsWithinLimits}
+use Rattle.plain_rules.specs.Machine.{PlainState}
+use Rattle.plain_rules.specs.Limits.{IsWithinLimits}
 
 -- its program was checked, it keeps its limits, and no more events were done than a run book has
 pub record IsSound (s : PlainState) : Type 0 where

@@ -8,9 +8,9 @@ use Rattle.orca_names.specs.declared.names.Thing.{Thing}
 use Rattle.orca_names.specs.declared.names.Thing.TheVariants.{Actor, Obj}
 use Rattle.orca_names.specs.declared.names.Value.{Value}
 use Rattle.reach_walk.specs.Rows.{Contains-map}
-use Rattle.machine_rules.specs.declared.PlainActor.{PlainActor}
-use Rattle.machine_rules.specs.Plain.{plain_row}
-use Rattle.machine_rules.specs.PlainReach.{plain_edges, values_of}
+use Rattle.plain_rules.specs.declared.PlainActor.{PlainActor}
+use Rattle.plain_rules.specs.Machine.{plain_row}
+use Rattle.plain_rules.specs.Reach.{plain_edges, values_of}
 use Rattle.plain_machine.specs.Objects.{all_objects, in_tail, row_is_listed}
 
 -- the actors, the first of which has the number a

@@ -4,8 +4,8 @@ use Rattle.orca_names.specs.declared.names.Value.{Value}
 use Rattle.orca_names.specs.declared.row.Fields.{Fields}
 use Rattle.turn_rules.specs.declared.act.Frame.{Frame}
 use Rattle.turn_step.specs.declared.scratch.Scratch.{Scratch}
-use Rattle.machine_rules.specs.declared.PlainActor.{PlainActor}
-use Rattle.machine_rules.specs.Plain.{with_changed}
+use Rattle.plain_rules.specs.declared.PlainActor.{PlainActor}
+use Rattle.plain_rules.specs.Machine.{with_changed}
 use Rattle.plain_machine.specs.declared.acts.Stand.{Stand}
 
 -- the actor has as many rows

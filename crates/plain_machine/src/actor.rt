@@ -4,10 +4,10 @@ ghost use Rattle.std.specs.Prelude.{◌≡◌, ◌<◌, ◌≤◌, length, Some,
 ghost use Rattle.std.specs.Bool.{OnTrue, OnFalse};
 ghost use Rattle.behaviour_code.specs.Good.{ProgramIsGood};
 ghost use Rattle.behaviour_code.specs.Find.{behaviours_of, takes_call};
-ghost use Rattle.machine_rules.specs.Plain.{taken, frame_of, fresh_actor, first_actor as the_first};
+ghost use Rattle.plain_rules.specs.Machine.{taken, frame_of, fresh_actor, first_actor as the_first};
 
 use behaviour_code::{Behaviour, Program};
-use machine_rules::{PlainActor, PlainLetter};
+use plain_rules::{PlainActor, PlainLetter};
 use orca_names::{Args, Fields, NoMemory};
 use plain_list::{Listed, Queue};
 use std::alloc::Global;

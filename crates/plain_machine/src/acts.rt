@@ -2,13 +2,13 @@
 
 ghost use Rattle.std.specs.Prelude.{◌≡◌, ◌<◌, [], ◌∷◌, ◌++◌, length, slice_get, None, Some, IfSome, OnOk, OnErr};
 ghost use Rattle.behaviour_code.specs.Good.{ProgramIsGood};
-ghost use Rattle.machine_rules.specs.Plain.{fresh_actor as the_fresh, with_turn, with_letter};
+ghost use Rattle.plain_rules.specs.Machine.{fresh_actor as the_fresh, with_turn, with_letter};
 ghost use Rattle.plain_machine.specs.Undo.{has_rows, frame_left};
 
 use crate::actor::fresh_actor;
 use crate::table::Table;
 use behaviour_code::Program;
-use machine_rules::PlainLetter;
+use plain_rules::PlainLetter;
 use orca_names::{ActorName, Fields, NoMemory, Row, Value};
 use std::alloc::Global;
 use turn_step::Scratch;

@@ -3,7 +3,7 @@
 ghost use Rattle.std.specs.Prelude.{◌≡◌, ℕ, ◌+◌, ◌<◌, length, map, slice_get, slice_index_or, IsOk, IsErr, IfSome, IfErr, OnOk, OnErr};
 ghost use Rattle.orca_names.specs.declared.names.Value.TheVariants.{Null};
 ghost use Rattle.behaviour_code.specs.Good.{ProgramIsGood};
-ghost use Rattle.machine_rules.specs.Plain.{Goes, after_act, plain_go};
+ghost use Rattle.plain_rules.specs.Machine.{Goes, after_act, plain_go};
 ghost use Rattle.plain_machine.specs.Faults.{Faulted};
 ghost use Rattle.plain_machine.specs.State.{state_of};
 ghost use Rattle.plain_machine.specs.Undo.{frame_left, has_rows};
@@ -14,7 +14,7 @@ use crate::machine::PlainFault;
 use crate::table::{AllRows, Table, actor_at};
 use behaviour_check::Checked;
 use behaviour_code::{Name, Program, Registers};
-use machine_rules::PlainLetter;
+use plain_rules::PlainLetter;
 use orca_names::{ACTORS_LIMIT, ActorName, NoMemory, Row, Value};
 use std::alloc::Global;
 use turn_step::{Deed, RegisterFile, Scratch, gather, segment_at};

@@ -5,7 +5,7 @@ ghost use Rattle.plain_machine.specs.First.{ComesFirst, IsIdle, event_of};
 ghost use Rattle.plain_machine.specs.Ready.{IsIndex, can_act as acts};
 
 use event_rule::Event;
-use machine_rules::PlainActor;
+use plain_rules::PlainActor;
 use orca_names::ActorName;
 use ready_set::ReadySet;
 

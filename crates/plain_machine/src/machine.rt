@@ -4,9 +4,9 @@ ghost use Rattle.std.specs.Prelude.{◌≡◌, ◌↔◌, ◌<◌, length, Conta
 ghost use Rattle.std.specs.List.Sorted.{IsStrictlySortedBy};
 ghost use Rattle.orca_names.specs.Names.{thing_cmp};
 ghost use Rattle.orca_names.specs.declared.names.Thing.{Thing as thing};
-ghost use Rattle.machine_rules.specs.Plain.{Goes, NotEnabled, objects_made, plain_take, plain_go, start_of};
-ghost use Rattle.machine_rules.specs.PlainReach.{IsReachable};
-ghost use Rattle.machine_rules.specs.PlainRun.{IsPlainFirst, IsPlainQuiet};
+ghost use Rattle.plain_rules.specs.Machine.{Goes, NotEnabled, objects_made, plain_take, plain_go, start_of};
+ghost use Rattle.plain_rules.specs.Reach.{IsReachable};
+ghost use Rattle.plain_rules.specs.Run.{IsPlainFirst, IsPlainQuiet};
 ghost use Rattle.plain_machine.specs.Faults.{Faulted};
 
 use crate::actor::first_actor;
@@ -48,7 +48,7 @@ pub struct Plain<'a> {
 }
 
 impl<'a> Model for Plain<'a> {
-    ghost use Rattle.machine_rules.specs.Plain as plain;
+    ghost use Rattle.plain_rules.specs.Machine as plain;
     ghost use Rattle.plain_machine.specs.State.{state_of, IsSound};
 
     ghost Value = { plain.PlainState };

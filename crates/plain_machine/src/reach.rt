@@ -6,11 +6,11 @@ ghost use Rattle.std.specs.Option.{option_map_or};
 ghost use Rattle.orca_names.specs.Names.{thing_cmp};
 ghost use Rattle.orca_names.specs.declared.names.Thing.{Thing as thing};
 ghost use Rattle.reach_walk.specs.Reach.{Reaches};
-ghost use Rattle.machine_rules.specs.PlainReach.{is_root, plain_edges, roots_from, values_of};
+ghost use Rattle.plain_rules.specs.Reach.{is_root, plain_edges, roots_from, values_of};
 ghost use Rattle.plain_machine.specs.Things.{all_things, edges_are_listed};
 
 use crate::table::{AllRows, actor_at};
-use machine_rules::{PlainActor, PlainLetter};
+use plain_rules::{PlainActor, PlainLetter};
 use orca_names::{ActorName, NoMemory, Rows, Thing, Value};
 use plain_list::Queue;
 use reach_walk::{Edges, walk};

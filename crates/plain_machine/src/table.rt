@@ -4,7 +4,7 @@ ghost use Rattle.std.specs.Prelude.{◌≡◌, ℕ, ◌+◌, ◌<◌, ◌^◌, L
 ghost use Rattle.std.specs.Bool.{OnTrue, OnFalse};
 ghost use Rattle.std.specs.Option.{option_copied};
 ghost use Rattle.orca_names.specs.declared.names.Value as names;
-ghost use Rattle.machine_rules.specs.Plain.{Goes, NotEnabled, objects_made, plain_row, plain_take, with_letter};
+ghost use Rattle.plain_rules.specs.Machine.{Goes, NotEnabled, objects_made, plain_row, plain_take, with_letter};
 ghost use Rattle.plain_machine.specs.First.{ComesFirst, IsIdle};
 ghost use Rattle.plain_machine.specs.Ready.{IsIndex};
 ghost use Rattle.plain_machine.specs.State.{state_of};
@@ -15,7 +15,7 @@ use crate::acts::Stand;
 use crate::first::{can_act, first_event};
 use behaviour_check::Checked;
 use event_rule::Event;
-use machine_rules::{PlainActor, PlainLetter};
+use plain_rules::{PlainActor, PlainLetter};
 use orca_names::{ActorName, Fields, NoMemory, ObjName, Row, Rows};
 use ready_set::ReadySet;
 use std::alloc::Global;
@@ -72,7 +72,7 @@ pub(crate) struct Table {
 
 impl Model for Table {
     ghost use Rattle.std.specs.Prelude.{List};
-    ghost use Rattle.machine_rules.specs.declared.PlainActor as rules;
+    ghost use Rattle.plain_rules.specs.declared.PlainActor as rules;
     ghost use Rattle.plain_machine.specs.Ready.{IsIndex};
 
     ghost Value = { List rules.PlainActor };

@@ -14,7 +14,7 @@ use Rattle.behaviour_text.specs.Text.{IsText}
 use Rattle.behaviour_text.proofs.Again.{again, no_fault_read}
 use Rattle.behaviour_check.specs.Rules.{broken, first_broken}
 use Rattle.behaviour_check.specs.declared.checked.CheckFault.{CheckFault}
-use Rattle.machine_rules.specs.Plain.{PlainState}
+use Rattle.plain_rules.specs.Machine.{PlainState}
 use Rattle.pony_run.specs.Causes.{Causes, IsGiven, IsProgramOf, IsUnlessMemory, OrderCauses}
 use Rattle.pony_run.specs.Ends.{EndsAs, RunsTo}
 use Rattle.pony_run.specs.Headline.{Answers, BadWords, Ends, HasInput, HasOrder, Means, MeansInput, MeansProgram, MeansRun, MeansSource, MeansText, RunsOrder, Work}

@@ -7,7 +7,7 @@ use Rattle.word_line.specs.declared.order.Order.{Order}
 use Rattle.report_text.specs.declared.status.Status.{Status}
 use Rattle.report_text.specs.declared.status.Status.TheVariants as status
 use Rattle.behaviour_code.specs.declared.code.Program.{Program}
-use Rattle.machine_rules.specs.Plain.{PlainState, start_of}
+use Rattle.plain_rules.specs.Machine.{PlainState, start_of}
 use Rattle.pony_run.specs.Ends.{EndsAs, IsReport, RunsTo}
 use Rattle.pony_run.specs.Headline.{MeansReport, MeansRun, Work, Writes}
 use Rattle.pony_run.specs.Streams.{Sides}

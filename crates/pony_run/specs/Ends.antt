@@ -11,9 +11,9 @@ use Rattle.report_text.specs.declared.numbers.Numbers.{Numbers}
 use Rattle.report_text.specs.declared.status.Status.{Status}
 use Rattle.report_text.specs.declared.status.Status.TheVariants as status
 use Rattle.behaviour_code.specs.declared.code.Program.{Program}
-use Rattle.machine_rules.specs.Plain.{IsFull, PlainState, objects_made, plain_go, start_of}
-use Rattle.machine_rules.specs.PlainReach.{IsReachable}
-use Rattle.machine_rules.specs.PlainRun.{IsPlainFirst, IsPlainQuiet, IsPlainRun}
+use Rattle.plain_rules.specs.Machine.{IsFull, PlainState, objects_made, plain_go, start_of}
+use Rattle.plain_rules.specs.Reach.{IsReachable}
+use Rattle.plain_rules.specs.Run.{IsPlainFirst, IsPlainQuiet, IsPlainRun}
 
 -- the book is a run of the program in the one-worker order, within the budget, and leads to t
 pub record RunsTo (program : Program) (budget : ℕ) (book : List Event) (t : PlainState) : Type 0 where

@@ -18,7 +18,7 @@ use Rattle.behaviour_code.specs.declared.code.Program.{Program}
 use Rattle.behaviour_text.specs.Faults.{first_fault}
 use Rattle.behaviour_text.specs.Text.{IsText}
 use Rattle.behaviour_check.specs.Rules.{broken, first_broken}
-use Rattle.machine_rules.specs.Plain.{PlainState}
+use Rattle.plain_rules.specs.Machine.{PlainState}
 use Rattle.pony_run.specs.Ends.{EndsAs, IsReport, RunsTo}
 use Rattle.pony_run.specs.Streams.{HasFailed, IsUntouched, Sides, TakesAll, TakesPart, most_bytes}
 

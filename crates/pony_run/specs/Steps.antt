@@ -2,7 +2,7 @@
 use Rattle.std.specs.Prelude.{◌≡◌}
 use Rattle.event_rule.specs.declared.event.Event.{Event}
 use Rattle.event_rule.specs.declared.event.Event.TheVariants.{Go}
-use Rattle.machine_rules.specs.Plain.{IsFull, PlainState, plain_go}
+use Rattle.plain_rules.specs.Machine.{IsFull, PlainState, plain_go}
 use Rattle.report_text.specs.declared.status.Status.{Status}
 use Rattle.report_text.specs.declared.status.Status.TheVariants as status
 use Rattle.plain_machine.specs.declared.machine.PlainFault.{PlainFault}

@@ -1,8 +1,8 @@
 // The run, up to its end.
 
 ghost use Rattle.std.specs.Prelude.{◌≡◌, ◌<◌, ◌≤◌, ◌++◌, ◌∷◌, [], length, IfErr, IfOk, OnErr, OnOk};
-ghost use Rattle.machine_rules.specs.Plain.{Goes};
-ghost use Rattle.machine_rules.specs.PlainRun.{IsPlainFirst, IsPlainRun, outcome_of};
+ghost use Rattle.plain_rules.specs.Machine.{Goes};
+ghost use Rattle.plain_rules.specs.Run.{IsPlainFirst, IsPlainRun, outcome_of};
 ghost use Rattle.pony_run.specs.Ends.{EndsAs};
 ghost use Rattle.pony_run.specs.Steps.{IsEndOf, Stops};
 

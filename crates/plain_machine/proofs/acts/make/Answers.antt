@@ -1,5 +1,5 @@
 use Rattle.std.proofs.Common.{Some, [], ◌∷◌, ◌++◌, ap, ◌∙◌, arith}
-use Rattle.machine_rules.specs.Plain.{fresh_actor}
+use Rattle.plain_rules.specs.Machine.{fresh_actor}
 use Rattle.plain_machine.specs.Undo.{frame_left, with_first_rows, with_kept, with_rows}
 use Rattle.plain_machine.proofs.Undoing.{length-with_rows, make_in_parts, rows_back}
 use Rattle.plain_machine.proofs.acts.make.Goals as goal

@@ -1,5 +1,5 @@
 use Rattle.std.proofs.Common.{Some, ap, ◌∙◌}
-use Rattle.machine_rules.specs.Plain.{with_letter}
+use Rattle.plain_rules.specs.Machine.{with_letter}
 use Rattle.plain_machine.specs.Undo.{frame_left, with_first_rows, with_kept}
 use Rattle.plain_machine.proofs.Undoing.{rows_back, send_in_parts}
 use Rattle.plain_machine.proofs.acts.send.Goals as goal

@@ -1,5 +1,5 @@
 use Rattle.std.proofs.Common.{ap, length, refl, slice_get, sym, ◌∙◌}
-use Rattle.machine_rules.specs.Plain.{PlainState, after_act, plain_row, turn_of_actor}
+use Rattle.plain_rules.specs.Machine.{PlainState, after_act, plain_row, turn_of_actor}
 use Rattle.turn_rules.specs.declared.act.Frame.{Frame}
 use Rattle.turn_rules.specs.Segment.{Setting, segment_of}
 use Rattle.turn_step.specs.Scratch.{act_of}

@@ -1,7 +1,7 @@
 use Rattle.std.proofs.Common.{List, ◌+◌, ◌++◌, append_assoc, ap, drop, sym, ◌∙◌}
 use Rattle.std.specs.Prelude.{flat_map}
 use Rattle.orca_names.specs.declared.names.Value.{Value}
-use Rattle.machine_rules.specs.declared.PlainLetter.{PlainLetter}
+use Rattle.plain_rules.specs.declared.PlainLetter.{PlainLetter}
 use Rattle.plain_machine.proofs.Arguments.{flat_map-drop}
 use Rattle.plain_machine.proofs.reach.push_arguments.Goals as goal
 

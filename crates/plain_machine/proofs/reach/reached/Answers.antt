@@ -1,7 +1,7 @@
 use Rattle.std.proofs.Common.{List, Contains, IfOk, subst, ◌∙◌}
 use Rattle.orca_names.specs.declared.names.Thing.{Thing}
 use Rattle.reach_walk.specs.Reach.{Reaches}
-use Rattle.machine_rules.specs.PlainReach.{plain_edges}
+use Rattle.plain_rules.specs.Reach.{plain_edges}
 use Rattle.plain_machine.proofs.reach.reached.Goals as goal
 
 pub returns-clause-exact : goal.returns-clause-exact

@@ -1,5 +1,5 @@
 use Rattle.std.proofs.Common.{◌≡◌, ◌++◌, drop}
-use Rattle.machine_rules.specs.PlainReach.{roots_from}
+use Rattle.plain_rules.specs.Reach.{roots_from}
 use Rattle.plain_machine.proofs.reach.roots.Given as goal
 
 abbrev pub invariant-loop-place : goal.invariant-loop-place

@@ -1,6 +1,6 @@
 use Rattle.std.proofs.Common.{subst}
-use Rattle.machine_rules.specs.Plain.{PlainState}
-use Rattle.machine_rules.specs.PlainRun.{IsPlainRun}
+use Rattle.plain_rules.specs.Machine.{PlainState}
+use Rattle.plain_rules.specs.Run.{IsPlainRun}
 use Rattle.pony_run.proofs.Layers.{run_is_starved, run_is_written}
 use Rattle.pony_run.proofs.call.run_checked.Goals as goal
 

@@ -1,7 +1,7 @@
 use Rattle.std.proofs.Common.{◌∷◌, [], List, arith, length, length-append, ap, subst, sym}
 use Rattle.event_rule.specs.declared.event.Event.{Event}
-use Rattle.machine_rules.specs.PlainRun.{IsPlainRun}
-use Rattle.machine_rules.proofs.PlainRuns.{one_step_more, run_goes_on}
+use Rattle.plain_rules.specs.Run.{IsPlainRun}
+use Rattle.plain_rules.proofs.Runs.{one_step_more, run_goes_on}
 use Rattle.pony_run.proofs.ending.finish.Goals as goal
 
 pub loop-event-preserved : goal.loop-event-preserved

@@ -1,5 +1,5 @@
 use Rattle.std.proofs.Common.{◌≡◌, ◌≤◌, ◌-◌, length}
-use Rattle.machine_rules.specs.PlainRun.{IsPlainRun}
+use Rattle.plain_rules.specs.Run.{IsPlainRun}
 use Rattle.pony_run.proofs.ending.finish.Given as goal
 
 abbrev pub invariant-loop-event : goal.invariant-loop-event

@@ -1,7 +1,7 @@
 use Rattle.std.proofs.Common.{ap, arith, subst}
-use Rattle.machine_rules.specs.Plain.{PlainState, plain_go}
-use Rattle.machine_rules.specs.PlainLimits.{IsWithinLimits, OnGoes}
-use Rattle.machine_rules.proofs.PlainGrowth.{plain_go_is_within}
+use Rattle.plain_rules.specs.Machine.{PlainState, plain_go}
+use Rattle.plain_rules.specs.Limits.{IsWithinLimits, OnGoes}
+use Rattle.plain_rules.proofs.Growth.{plain_go_is_within}
 use Rattle.plain_machine.specs.Faults.{Faulted}
 use Rattle.plain_machine.specs.State.{state_of}
 use Rattle.plain_machine.proofs.machine.Plain.go.Goals as goal

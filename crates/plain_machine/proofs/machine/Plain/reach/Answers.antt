@@ -1,8 +1,8 @@
 use Rattle.std.proofs.Common.{List, Contains, IfOk, subst, ◌∙◌, ap}
 use Rattle.orca_names.specs.declared.names.Thing.{Thing}
 use Rattle.reach_walk.specs.Reach.{Reaches}
-use Rattle.machine_rules.specs.declared.PlainActor.{PlainActor}
-use Rattle.machine_rules.specs.PlainReach.{plain_edges, roots_from}
+use Rattle.plain_rules.specs.declared.PlainActor.{PlainActor}
+use Rattle.plain_rules.specs.Reach.{plain_edges, roots_from}
 use Rattle.plain_machine.proofs.machine.Plain.reach.Goals as goal
 
 pub returns-clause-exact : goal.returns-clause-exact

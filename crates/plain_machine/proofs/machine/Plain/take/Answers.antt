@@ -1,6 +1,6 @@
 use Rattle.std.proofs.Common.{ap, arith, subst}
-use Rattle.machine_rules.specs.PlainLimits.{IsWithinLimits, OnGoes}
-use Rattle.machine_rules.proofs.PlainGrowth.{plain_take_is_within}
+use Rattle.plain_rules.specs.Limits.{IsWithinLimits, OnGoes}
+use Rattle.plain_rules.proofs.Growth.{plain_take_is_within}
 use Rattle.plain_machine.specs.State.{state_of}
 use Rattle.plain_machine.proofs.machine.Plain.take.Goals as goal
 

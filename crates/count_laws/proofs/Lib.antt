@@ -1,0 +1,11 @@
+pub mod agreement
+pub mod away
+pub mod balance
+pub mod bounds
+pub mod events
+pub mod gone
+pub mod knowledge
+pub mod letters
+pub mod local
+pub mod rest
+pub mod roots

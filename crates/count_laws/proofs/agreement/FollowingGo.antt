@@ -1,0 +1,379 @@
+-- How the plain machine follows a go: it takes the same turn, but for a go that mints.
+use Rattle.std.proofs.Common.{◌≡◌, ◌≢◌, ◌&&◌, is_none, ℕ, zero, suc, ◌+◌, ◌<◌, nat_lt, Bool, true, false, Option, Some, None, List, [], ◌∷◌, ◌++◌, length, length-set, set, set-set, refl, sym, ◌∙◌, ap, subst, arith, option_and_then}
+use Rattle.std.specs.Prelude.{if◌then◌else◌, slice_get}
+use Rattle.std.specs.FinMap as m
+use Rattle.std.specs.Option.{option_map_or}
+use Rattle.orca_names.specs.Names.{owner_of, thing_cmp}
+use Rattle.std.specs.Ordering.{nat_cmp}
+use Rattle.orca_names.specs.declared.names.Thing.{Thing}
+use Rattle.orca_names.specs.declared.names.Thing.TheVariants as things
+use Rattle.orca_names.specs.declared.names.Value.{Value}
+use Rattle.behaviour_code.specs.Find.{field_count}
+use Rattle.behaviour_code.specs.declared.code.Program.{Program}
+use Rattle.reach_walk.specs.Reach.{thing_row}
+use Rattle.turn_rules.specs.Segment.{Stop, segment_of}
+use Rattle.turn_rules.specs.declared.act.Act.{Act}
+use Rattle.turn_rules.specs.declared.act.Act.TheVariants.{End, New, Post, Print}
+use Rattle.turn_rules.specs.declared.act.Frame.{Frame}
+use Rattle.letter_kinds.specs.Counting.{Loaded, gain, lacking, send, to_mint}
+use Rattle.letter_kinds.specs.Holdings.{Row, held_in, with_made}
+use Rattle.letter_kinds.specs.Sums.{amount_of, times_loaded}
+use Rattle.letter_kinds.specs.declared.letter.Letter.{Letter}
+use Rattle.letter_kinds.specs.declared.letter.Letter.TheVariants.{App}
+use Rattle.count_laws.proofs.agreement.Agreeing.{with_letter}
+use Rattle.count_laws.proofs.agreement.Following.{Follows, follows_on, same_person}
+use Rattle.count_laws.proofs.events.EitherMode.{counted_left, known_left, loaded_known, make_keeps, mint_keeps, need_keeps, posted_keeps, same_turn, target_known as known_target, turn_keeps}
+use Rattle.count_laws.proofs.knowledge.Going.{Grows, left_present}
+use Rattle.count_laws.proofs.events.Post.{next_send}
+use Rattle.count_laws.proofs.events.Take.{next_held}
+use Rattle.count_laws.proofs.knowledge.Lacking.{counted_mint, first_minted, to_mint_theirs}
+use Rattle.count_laws.proofs.balance.Makes.{IsFresh, fresh_held}
+use Rattle.count_laws.proofs.knowledge.Naming.{nulls_name_nothing}
+use Rattle.count_laws.proofs.agreement.PlainSide.{StandsAt, objects_grow, objects_kept, objects_pushed, people-push, people-set, rows_grow, rows_kept, rows_pushed, same_rows, stands_at, stands_beside}
+use Rattle.count_laws.proofs.balance.Seats.{IsPresent, at_same}
+use Rattle.machine_rules.proofs.Present.{present_below}
+use Rattle.count_laws.proofs.balance.Sends.{held_below}
+use Rattle.machine_rules.specs.Actors.{Actors, push_letter, seat, seat_at}
+use Rattle.count_laws.specs.Agreement.{Person, people_of, person_at, person_of, person_of_plain}
+use Rattle.machine_rules.specs.Cell.{Cell, fresh_cell}
+use Rattle.count_laws.specs.Facts.{Facts, KeepsCounts}
+use Rattle.machine_rules.specs.Go.{act_in, go_in, load_from, make, mint, needed, needing, post, post_or_mint, rows_from, turn_of_cell, turned, with_turn_kept}
+use Rattle.machine_rules.specs.Options.{Trace}
+use Rattle.count_laws.specs.Known.{InFrame, IsKnown, Names, Roots, in_fields, in_frame, in_table}
+use Rattle.plain_list.specs.Lists.{is_empty}
+use Rattle.plain_rules.specs.Machine.{PlainState, after_act, after_turn, fresh_actor, next_state, objects_made, plain_go, plain_row, stopped_at, turn_of_actor, with_name, with_turn}
+use Rattle.plain_rules.specs.Machine as plain
+use Rattle.machine_rules.specs.Run.{act_is_choice, go_is_choice}
+use Rattle.machine_rules.specs.State.{State, IsFull, Goes}
+use Rattle.plain_rules.specs.declared.PlainActor.{PlainActor}
+use Rattle.plain_rules.specs.declared.PlainLetter.{PlainLetter}
+
+-- ---- the plain machine's go
+
+went : (p : PlainState) (a : ℕ) (x : PlainActor) (f : Frame) → slice_get p.actors a ≡ Some x → x.frame ≡ Some f → plain_go p a ≡ after_turn p a f (turn_of_actor p a x f)
+went p a x f there is =
+    ap (λ found. option_map_or (λ (z : PlainActor). option_map_or (λ g. after_turn p a g (turn_of_actor p a z g)) z.frame plain.NotEnabled) found plain.NotEnabled) there
+    ∙ ap (λ found. option_map_or (λ g. after_turn p a g (turn_of_actor p a x g)) found plain.NotEnabled) is
+
+changed : (xs : List PlainActor) (a : ℕ) (x : PlainActor) (change : PlainActor → PlainActor) → slice_get xs a ≡ Some x → plain.with_changed xs a change ≡ set xs a (change x)
+changed xs a x change there = ap (λ found. option_map_or (λ z. set xs a (change z)) found xs) there
+
+-- one actor in the place of another with the same rows
+rows_alike : (xs : List PlainActor) (a : ℕ) (y z : PlainActor) → y.rows ≡ z.rows → (t : Thing) → thing_row (plain_row (set xs a y)) t ≡ thing_row (plain_row (set xs a z)) t
+rows_alike xs a y z same (things.Actor b) = refl
+rows_alike xs a y z same (things.Obj n) = read xs a n.owner
+  where
+    read : (xs : List PlainActor) (a b : ℕ) → option_and_then (λ (w : PlainActor). slice_get w.rows n.serial) (slice_get (set xs a y) b) ≡ option_and_then (λ (w : PlainActor). slice_get w.rows n.serial) (slice_get (set xs a z) b)
+    read [] a b = refl
+    read (w ∷ xs) zero zero = ap (λ rows. slice_get rows n.serial) same
+    read (w ∷ xs) zero (suc b) = refl
+    read (w ∷ xs) (suc a) zero = refl
+    read (w ∷ xs) (suc a) (suc b) = read xs a b
+
+-- a fresh actor has nothing
+pub fresh_is : (w : ℕ) (program : Program) (kind : ℕ) → IsFresh w (fresh_cell w program kind).holdings
+fresh_is w program kind = (refl, (λ k. m.get-empty nat_cmp k), (λ x. m.get-empty thing_cmp x))
+
+pub fresh_blank : (w : ℕ) (program : Program) (kind : ℕ) (x : Thing) → Roots (fresh_cell w program kind) x → ⊥
+fresh_blank w program kind x (in_fields h) = nulls_name_nothing (field_count program kind) x h
+fresh_blank w program kind x (in_frame h) = h
+fresh_blank w program kind x (in_table h) = absurd (let z = fresh_held w (fresh_cell w program kind).holdings (fresh_is w program kind) x in omega arith)
+
+module _ (trace : Trace) (p : PlainState) (s : State) (facts : Facts trace p s) (a : ℕ) (c : Cell) (ls : List Letter) (at : seat_at s.actors a ≡ seat c ls) (f : Frame) (is : c.frame ≡ Some f) (held_all : needed trace s.program a c f ≡ None) where
+  abbrev all : Thing → Option Row
+  all = thing_row (plain_row p.actors)
+
+  abbrev stop : Stop
+  stop = turn_of_cell trace s.program a c f
+
+  abbrev stopped : Frame
+  stopped = stopped_at f stop
+
+  beside : StandsAt p.actors a (person_of c ls)
+  beside = stands_beside all p.actors s.actors facts.counts a c ls at
+
+  abbrev x : PlainActor
+  x = beside.actor
+
+  serial : length x.rows ≡ c.holdings.next
+  serial = ap (λ (q : Person). q.serial) beside.same
+
+  plain_turn : turn_of_actor p a x f ≡ stop
+  plain_turn =
+      (λ i. segment_of (record { program = facts.program i; me = a; base = serial i; rows = plain_row p.actors }) f (beside.same i).fields)
+      ∙ sym (same_turn trace s.program all (people_of p.actors) s.actors facts.counts a c ls at f is (plain_row p.actors) (λ x. refl))
+
+  pub plain_went : plain_go p a ≡ after_act p a stopped stop.turn.fields stop.turn.made stop.act
+  plain_went = went p a x f beside.there (ap (λ (q : Person). q.frame) beside.same ∙ is) ∙ ap (after_turn p a f) plain_turn
+
+  -- the plain actor after the turn
+  abbrev y : Option Frame → PlainActor
+  y nf = record x { frame = nf; fields = stop.turn.fields; rows = x.rows ++ stop.turn.made }
+
+  abbrev all' : Thing → Option Row
+  all' = thing_row (plain_row (set p.actors a (y None)))
+
+  turned_actors : (nf : Option Frame) → with_turn p.actors a nf stop.turn.fields stop.turn.made ≡ set p.actors a (y nf)
+  turned_actors nf = changed p.actors a x (λ z. record z { frame = nf; fields = stop.turn.fields; rows = z.rows ++ stop.turn.made }) beside.there
+
+  grows : Grows all all' a c.holdings.next stop.turn.made
+  grows = subst (λ base. Grows all all' a base stop.turn.made) serial (rows_grow p.actors a x beside.there (y None) stop.turn.made refl)
+
+  same_y : (nf : Option Frame) (nd : Bool) → person_of_plain (y nf) ≡ person_of (turned stop nf nd c) ls
+  same_y nf nd = same_person (person_of_plain (y nf)) (person_of (turned stop nf nd c) ls) (ap (λ (q : Person). q.kind) beside.same) refl refl (ap (λ (q : Person). q.letters) beside.same)
+      (omega (arith, length_more x.rows stop.turn.made, serial))
+    where
+      length_more : (rows made : List Row) → length (rows ++ made) ≡ length rows + length made
+      length_more [] made = omega arith
+      length_more (r ∷ rows) made = omega (arith, length_more rows made)
+
+  turned_kept : (nf : Option Frame) (nd : Bool) → ((z : Thing) → InFrame nf z → Names stop.turn.registers z)
+      → KeepsCounts trace all' (set (people_of p.actors) a (person_of (turned stop nf nd c) ls)) (set s.actors a (seat (turned stop nf nd c) ls))
+  turned_kept nf nd names = turn_keeps trace s.program all all' (people_of p.actors) s.actors facts.counts a c ls at f is held_all grows nf nd names
+
+  -- the rows do not depend on the frame
+  rows_of : (nf : Option Frame) (z : Thing) → all' z ≡ thing_row (plain_row (set p.actors a (y nf))) z
+  rows_of nf = rows_alike p.actors a (y None) (y nf) refl
+
+  beside_kept : (nf : Option Frame) (nd : Bool) → ((z : Thing) → InFrame nf z → Names stop.turn.registers z)
+      → KeepsCounts trace (thing_row (plain_row (set p.actors a (y nf)))) (people_of (set p.actors a (y nf))) (set s.actors a (seat (turned stop nf nd c) ls))
+  beside_kept nf nd names =
+      subst (λ people. KeepsCounts trace (thing_row (plain_row (set p.actors a (y nf)))) people (set s.actors a (seat (turned stop nf nd c) ls)))
+      (ap (set (people_of p.actors) a) (sym (same_y nf nd)) ∙ sym (people-set p.actors a (y nf)))
+      (same_rows all' (thing_row (plain_row (set p.actors a (y nf)))) _ _ (rows_of nf) (turned_kept nf nd names))
+
+  objects_more : (nf : Option Frame) → objects_made (set p.actors a (y nf)) ≡ s.objects + length stop.turn.made
+  objects_more nf = omega (arith, objects_grow p.actors a x beside.there (y nf) stop.turn.made refl, facts.objects)
+
+  -- an end or a print: the turn, and what was printed
+  turn_follows : (nf : Option Frame) (nd : Bool) (printed : List Value) → ((z : Thing) → InFrame nf z → Names stop.turn.registers z)
+      → Facts trace (next_state p (with_turn p.actors a nf stop.turn.fields stop.turn.made) (p.prints ++ printed))
+      (record (with_turn_kept s stop (set s.actors a (seat (turned stop nf nd c) ls))) { prints = s.prints ++ printed })
+  turn_follows nf nd printed names =
+      subst (λ actors. Facts trace (next_state p actors (p.prints ++ printed)) (record (with_turn_kept s stop (set s.actors a (seat (turned stop nf nd c) ls))) { prints = s.prints ++ printed })) (sym (turned_actors nf))
+      (record { counts = beside_kept nf nd names; program = facts.program; prints = ap (λ vs. vs ++ printed) facts.prints; objects = objects_more nf; weight = facts.weight; mode = facts.mode })
+
+  -- ---- one actor more
+
+  abbrev c1 : Cell
+  c1 = turned stop (Some stopped) c.dirty c
+
+  abbrev s1 : Actors
+  s1 = set s.actors a (seat c1 ls)
+
+  within : a < length s.actors
+  within = present_below s.actors a _ at
+
+  at1 : seat_at s1 a ≡ seat c1 ls
+  at1 = at_same s.actors a (seat c ls) (seat c1 ls) within at a refl
+
+  kept1 : KeepsCounts trace all' (set (people_of p.actors) a (person_of c1 ls)) s1
+  kept1 = turned_kept (Some stopped) c.dirty (λ z h. h)
+
+  -- the maker, which names the actor n and holds it
+  abbrev maker : ℕ → ℕ → Cell
+  maker register n = record c1 { frame = Some (with_name stopped register n); holdings = gain s.options.weight (things.Actor n) None c1.holdings }
+
+  -- the actors with a maker and a fresh actor more
+  abbrev made_by : ℕ → ℕ → Cell → Actors → Actors
+  made_by register n fresh actors = set actors a (seat (maker register n) ls) ++ seat fresh [] ∷ []
+
+  made_kept : (kind register : ℕ) → KeepsCounts trace all' (set (people_of p.actors) a (person_of (maker register (length s.actors)) ls) ++ person_of (fresh_cell s.options.weight s.program kind) [] ∷ [])
+      (made_by register (length s.actors) (fresh_cell s.options.weight s.program kind) s.actors)
+  made_kept kind register =
+      let fresh = fresh_cell s.options.weight s.program kind in
+      let one = make_keeps trace s.options.weight facts.weight all' (set (people_of p.actors) a (person_of c1 ls)) s1 kept1 a c1 ls at1 stopped refl register fresh (fresh_is s.options.weight s.program kind) (fresh_blank s.options.weight s.program kind) refl (λ x. m.get-empty thing_cmp x) in
+      let two : KeepsCounts trace all' (set (set (people_of p.actors) a (person_of c1 ls)) a (person_of (maker register (length s.actors)) ls) ++ person_of fresh [] ∷ []) (made_by register (length s.actors) fresh s1) =
+      subst (λ n. KeepsCounts trace all' (set (set (people_of p.actors) a (person_of c1 ls)) a (person_of (maker register n) ls) ++ person_of fresh [] ∷ []) (made_by register n fresh s1)) (length-set s.actors a (seat c1 ls)) one in
+      let three : KeepsCounts trace all' (set (people_of p.actors) a (person_of (maker register (length s.actors)) ls) ++ person_of fresh [] ∷ []) (made_by register (length s.actors) fresh s1) =
+      subst (λ people. KeepsCounts trace all' (people ++ person_of fresh [] ∷ []) (made_by register (length s.actors) fresh s1)) (set-set (people_of p.actors) a (person_of c1 ls) (person_of (maker register (length s.actors)) ls)) two in
+      subst (λ actors. KeepsCounts trace all' (set (people_of p.actors) a (person_of (maker register (length s.actors)) ls) ++ person_of fresh [] ∷ []) (actors ++ seat fresh [] ∷ []))
+      (set-set s.actors a (seat c1 ls) (seat (maker register (length s.actors)) ls)) three
+
+  same_maker : (register n : ℕ) → person_of_plain (y (Some (with_name stopped register n))) ≡ person_of (maker register n) ls
+  same_maker register n = same_y (Some (with_name stopped register n)) c.dirty ∙ ap (λ next. record (person_of (maker register n) ls) { serial = next }) (sym (next_held (λ h. h + s.options.weight) (things.Actor n) None c1.holdings))
+
+  long : length p.actors ≡ length s.actors
+  long = omega (arith, length_people p.actors, facts.counts.long)
+    where
+      length_people : (xs : List PlainActor) → length (people_of xs) ≡ length xs
+      length_people [] = refl
+      length_people (z ∷ xs) = ap suc (length_people xs)
+
+  make_follows : (kind register : ℕ) → Facts trace (next_state p (with_turn p.actors a (Some (with_name stopped register (length p.actors))) stop.turn.fields stop.turn.made ++ fresh_actor p.program kind ∷ []) p.prints)
+      (with_turn_kept s stop (make s.options.weight a (turned stop (Some (with_name stopped register (length s.actors))) c.dirty c) ls (fresh_cell s.options.weight s.program kind) s.actors))
+  make_follows kind register =
+      let nf = Some (with_name stopped register (length s.actors)) in
+      let fresh = fresh_cell s.options.weight s.program kind in
+      let mine = fresh_actor p.program kind in
+      let actors = set p.actors a (y nf) in
+      let people : people_of (actors ++ mine ∷ []) ≡ set (people_of p.actors) a (person_of (maker register (length s.actors)) ls) ++ person_of fresh [] ∷ [] =
+      people-push actors mine ∙ (λ i. (people-set p.actors a (y nf) ∙ ap (set (people_of p.actors) a) (same_maker register (length s.actors))) i ++ person_of (fresh_cell s.options.weight (facts.program i) kind) [] ∷ []) in
+      let rows : (z : Thing) → all' z ≡ thing_row (plain_row (actors ++ mine ∷ [])) z = λ z. rows_of nf z ∙ rows_pushed actors mine refl z in
+      let plain_actors : with_turn p.actors a (Some (with_name stopped register (length p.actors))) stop.turn.fields stop.turn.made ++ mine ∷ [] ≡ actors ++ mine ∷ [] =
+      ap (λ n. with_turn p.actors a (Some (with_name stopped register n)) stop.turn.fields stop.turn.made ++ mine ∷ []) long ∙ ap (λ xs. xs ++ mine ∷ []) (turned_actors nf) in
+      subst (λ xs. Facts trace (next_state p xs p.prints) (with_turn_kept s stop (make s.options.weight a (turned stop nf c.dirty c) ls fresh s.actors))) (sym plain_actors)
+      (record {
+        counts = subst (λ ps. KeepsCounts trace (thing_row (plain_row (actors ++ mine ∷ []))) ps (made_by register (length s.actors) fresh s.actors)) (sym people)
+            (same_rows all' (thing_row (plain_row (actors ++ mine ∷ []))) _ _ rows (made_kept kind register));
+        program = facts.program;
+        prints = facts.prints;
+        objects = objects_pushed actors mine refl ∙ objects_more nf;
+        weight = facts.weight;
+        mode = facts.mode;
+      })
+
+  -- ---- a letter
+
+  module _ (to b : ℕ) (args : List Value) (act : stop.act ≡ Post to b args) where
+    abbrev load : List Loaded
+    load = load_from trace a c1.holdings args
+
+    abbrev came : List Loaded
+    came = rows_from trace a c1 args
+
+    pub load_known : (z : Thing) → 0 < times_loaded z load → IsKnown a c1.holdings z
+    load_known = loaded_known trace s.program all all' (people_of p.actors) s.actors facts.counts a c ls at f is held_all grows (Some stopped) c.dirty (λ z h. h) to b args act at1
+
+    pub target_known : IsKnown a c1.holdings (things.Actor to)
+    target_known = known_target trace s.program all all' (people_of p.actors) s.actors facts.counts a c ls at f is held_all grows (Some stopped) c.dirty (λ z h. h) to b args act
+
+    abbrev sender : Cell
+    sender = record c1 { holdings = send a load c1.holdings }
+
+    abbrev letter : PlainLetter
+    letter = record { behaviour = b; args = args }
+
+    abbrev turned_people : List Person
+    turned_people = set (people_of p.actors) a (person_of c1 ls)
+
+    posted_kept : lacking a c1.holdings load ≡ [] → KeepsCounts trace all' (set turned_people to (with_letter b args (person_at turned_people to))) (post a c1 ls to b args load came s.actors)
+    posted_kept full =
+        let one = posted_keeps trace s.program all all' (people_of p.actors) s.actors facts.counts a c ls at f is held_all grows (Some stopped) c.dirty (λ z h. h) to b args act at1 full in
+        let same : set turned_people a (person_of sender ls) ≡ turned_people =
+        set-set (people_of p.actors) a (person_of c1 ls) (person_of sender ls) ∙ ap (set (people_of p.actors) a) (ap (λ next. record (person_of c1 ls) { serial = next }) (next_send a load c1.holdings)) in
+        let two : KeepsCounts trace all' (set turned_people to (with_letter b args (person_at turned_people to))) (post a c1 ls to b args load came s1) =
+        subst (λ people. KeepsCounts trace all' (set people to (with_letter b args (person_at people to))) (post a c1 ls to b args load came s1)) same one in
+        subst (λ actors. KeepsCounts trace all' (set turned_people to (with_letter b args (person_at turned_people to))) (push_letter to (App b args load came) actors)) (set-set s.actors a (seat c1 ls) (seat sender ls)) two
+
+    -- the actor that gets the letter
+    receiver : StandsAt (set p.actors a (y (Some stopped))) to (person_at (people_of (set p.actors a (y (Some stopped)))) to)
+    receiver = stands_at (set p.actors a (y (Some stopped))) to _ to_below refl
+      where
+        to_below : to < length (set p.actors a (y (Some stopped)))
+        to_below =
+            let here = left_present s1 to (known_left trace all' turned_people s1 kept1 a c1 ls (things.Actor to) at1 target_known) in
+            let below = present_below s1 to here.0 here.1 in
+            omega (arith, long, length-set s.actors a (seat c1 ls), length-set p.actors a (y (Some stopped)))
+
+    -- the plain actor with the letter
+    abbrev lettered : PlainActor
+    lettered = record receiver.actor { letters = receiver.actor.letters ++ letter ∷ [] }
+
+    post_follows : lacking a c1.holdings load ≡ []
+        → Facts trace (next_state p (plain.with_letter (with_turn p.actors a (Some stopped) stop.turn.fields stop.turn.made) to letter) p.prints)
+        (with_turn_kept s stop (post a c1 ls to b args load came s.actors))
+    post_follows full =
+        let actors = set p.actors a (y (Some stopped)) in
+        let plain_actors : plain.with_letter (with_turn p.actors a (Some stopped) stop.turn.fields stop.turn.made) to letter ≡ set actors to lettered =
+        ap (λ xs. plain.with_letter xs to letter) (turned_actors (Some stopped))
+        ∙ changed actors to receiver.actor (λ z. record z { letters = z.letters ++ letter ∷ [] }) receiver.there in
+        let ours : people_of actors ≡ turned_people = people-set p.actors a (y (Some stopped)) ∙ ap (set (people_of p.actors) a) (same_y (Some stopped) c.dirty) in
+        let people : people_of (set actors to lettered) ≡ set turned_people to (with_letter b args (person_at turned_people to)) =
+        people-set actors to lettered ∙ ap (λ q. set (people_of actors) to (with_letter b args q)) receiver.same ∙ ap (λ ps. set ps to (with_letter b args (person_at ps to))) ours in
+        let rows : (z : Thing) → all' z ≡ thing_row (plain_row (set actors to lettered)) z = λ z. rows_of (Some stopped) z ∙ rows_kept actors to receiver.actor receiver.there lettered refl z in
+        subst (λ xs. Facts trace (next_state p xs p.prints) (with_turn_kept s stop (post a c1 ls to b args load came s.actors))) (sym plain_actors)
+        (record {
+          counts = subst (λ ps. KeepsCounts trace (thing_row (plain_row (set actors to lettered))) ps (post a c1 ls to b args load came s.actors)) (sym people)
+              (same_rows all' (thing_row (plain_row (set actors to lettered))) _ _ rows (posted_kept full));
+          program = facts.program;
+          prints = facts.prints;
+          objects = objects_kept actors to receiver.actor receiver.there lettered refl ∙ objects_more (Some stopped);
+          weight = facts.weight;
+          mode = facts.mode;
+        })
+
+    -- ---- minting
+
+    held1 : (z : Thing) → held_in c1.holdings z ≡ held_in c.holdings z
+    unfolding held_in
+    held1 z = refl
+
+    pub theirs : (e : Loaded) (es : List Loaded) → lacking a c1.holdings load ≡ e ∷ es → (z : Thing) → 0 < amount_of z (to_mint s.options.weight (owner_of e.0) (e ∷ es)) → (owner_of z ≡ owner_of e.0) × (0 < held_in c.holdings z)
+    theirs e es l z some =
+        let w = to_mint_theirs s.options.weight a (owner_of e.0) c1.holdings load z (subst (λ q. 0 < amount_of z (to_mint s.options.weight (owner_of e.0) q)) (sym l) some) in
+        (w.0, subst (λ n. 0 < n) (held1 z) w.1)
+
+    held_present : (z : Thing) → 0 < held_in c.holdings z → IsPresent s.actors (owner_of z)
+    held_present z h = let left = counted_left trace all (people_of p.actors) s.actors facts.counts z (let w = held_below z s.actors a c ls at in omega arith) in (left.seat, left.present)
+
+    not_own : (e : Loaded) (es : List Loaded) → lacking a c1.holdings load ≡ e ∷ es → owner_of e.0 ≢ a
+    not_own e es l = (to_mint_theirs s.options.weight a (owner_of e.0) c1.holdings load e.0
+        (subst (λ q. 0 < amount_of e.0 (to_mint s.options.weight (owner_of e.0) q)) (sym l) (first_minted s.options.weight facts.weight e es))).2
+
+    mint_follows : (e : Loaded) (es : List Loaded) → lacking a c1.holdings load ≡ e ∷ es → Facts trace p (record s { actors = mint a c ls (owner_of e.0) (to_mint s.options.weight (owner_of e.0) (e ∷ es)) s.actors })
+    mint_follows e es l = record {
+      counts = mint_keeps trace all (people_of p.actors) s.actors facts.counts a c ls at (owner_of e.0) (to_mint s.options.weight (owner_of e.0) (e ∷ es)) (theirs e es l) (not_own e es l) (counted_mint s.options.weight facts.weight (owner_of e.0) (e ∷ es))
+          (held_present e.0 (theirs e es l e.0 (first_minted s.options.weight facts.weight e es)).1);
+      program = facts.program;
+      prints = facts.prints;
+      objects = facts.objects;
+      weight = facts.weight;
+      mode = facts.mode;
+    }
+
+    letter_follows : (lack : List Loaded) → lacking a c1.holdings load ≡ lack
+        → Follows trace (is_empty lack) (after_act p a stopped stop.turn.fields stop.turn.made (Post to b args)) p (post_or_mint s a c c1 ls stop to b args load came lack)
+    letter_follows [] l = (next_state p (plain.with_letter (with_turn p.actors a (Some stopped) stop.turn.fields stop.turn.made) to letter) p.prints, refl, post_follows l)
+    letter_follows (e ∷ es) l = mint_follows e es l
+
+  -- ---- every act
+
+  nothing_printed : (prints : List Value) → prints ++ [] ≡ prints
+  nothing_printed [] = refl
+  nothing_printed (v ∷ prints) = ap (λ r. v ∷ r) (nothing_printed prints)
+
+  end_follows : Facts trace (next_state p (with_turn p.actors a None stop.turn.fields stop.turn.made) p.prints) (with_turn_kept s stop (set s.actors a (seat (turned stop None true c) ls)))
+  end_follows =
+      subst (λ prints. Facts trace (next_state p (with_turn p.actors a None stop.turn.fields stop.turn.made) prints) (with_turn_kept s stop (set s.actors a (seat (turned stop None true c) ls)))) (nothing_printed p.prints)
+      (subst (λ prints. Facts trace (next_state p (with_turn p.actors a None stop.turn.fields stop.turn.made) (p.prints ++ [])) (record (with_turn_kept s stop (set s.actors a (seat (turned stop None true c) ls))) { prints = prints })) (nothing_printed s.prints)
+      (turn_follows None true [] (λ z h. absurd h)))
+
+  act_follows : (act : Act) (t : State) → stop.act ≡ act → act_in trace s a c ls stopped stop act ≡ Goes t → Follows trace (act_is_choice trace a (with_made stop.turn.made c.holdings) act) (after_act p a stopped stop.turn.fields stop.turn.made act) p t
+  act_follows End t act e = follows_on trace true _ p _ t e (_, refl, end_follows)
+  act_follows (Print v) t act e = follows_on trace true _ p _ t e (_, refl, turn_follows (Some stopped) c.dirty (v ∷ []) (λ z h. h))
+  act_follows (New kind register) t act e = by_room (nat_lt (length s.actors) 65536) refl e
+    where
+      made : State
+      made = with_turn_kept s stop (make s.options.weight a (turned stop (Some (with_name stopped register (length s.actors))) c.dirty c) ls (fresh_cell s.options.weight s.program kind) s.actors)
+
+      plain_made : PlainState
+      plain_made = next_state p (with_turn p.actors a (Some (with_name stopped register (length p.actors))) stop.turn.fields stop.turn.made ++ fresh_actor p.program kind ∷ []) p.prints
+
+      by_room : (room : Bool) → nat_lt (length s.actors) 65536 ≡ room → (if room then Goes made else IsFull) ≡ Goes t → Follows trace true (if nat_lt (length p.actors) 65536 then plain.Goes plain_made else plain.IsFull) p t
+      by_room false r e = cc
+      by_room true r e = follows_on trace true _ p made t e (plain_made, ap (λ q. if q then plain.Goes plain_made else plain.IsFull) (ap (λ n. nat_lt n 65536) long ∙ r), make_follows kind register)
+  act_follows (Post to b args) t act e = follows_on trace _ _ p _ t e (letter_follows to b args act (lacking a c1.holdings (load_from trace a c1.holdings args)) refl)
+
+  plain_follows : (choice : Bool) (t : State) → Follows trace choice (after_act p a stopped stop.turn.fields stop.turn.made stop.act) p t → Follows trace choice (plain_go p a) p t
+  plain_follows choice t h = subst (λ goes. Follows trace choice goes p t) (sym plain_went) h
+
+pub go_follows : (trace : Trace) (p : PlainState) (s : State) → Facts trace p s → (a : ℕ) (c : Cell) (ls : List Letter) → seat_at s.actors a ≡ seat c ls → (f : Option Frame) → c.frame ≡ f → (t : State)
+    → go_in trace s a c f ls ≡ Goes t → Follows trace (go_is_choice trace s.program a c f) (plain_go p a) p t
+go_follows trace p s facts a c ls at None is t e = cc
+go_follows trace p s facts a c ls at (Some f) is t e = by_need (needed trace s.program a c f) refl e
+  where
+    by_need : (o : Option Thing) → needed trace s.program a c f ≡ o
+        → (let stop = turn_of_cell trace s.program a c f in
+        needing s a c ls o (act_in trace s a c ls (stopped_at f stop) stop stop.act) ≡ Goes t → Follows trace (is_none o && act_is_choice trace a (with_made stop.turn.made c.holdings) stop.act) (plain_go p a) p t)
+    by_need None n e =
+        let stop = turn_of_cell trace s.program a c f in
+        plain_follows trace p s facts a c ls at f is n (act_is_choice trace a (with_made stop.turn.made c.holdings) stop.act) t (act_follows trace p s facts a c ls at f is n stop.act t refl e)
+    by_need (Some x) n e = follows_on trace false (plain_go p a) p _ t e (record {
+      counts = need_keeps trace (thing_row (plain_row p.actors)) (people_of p.actors) s.actors facts.counts a c ls at s.options.weight facts.weight s.program f is x n;
+      program = facts.program;
+      prints = facts.prints;
+      objects = facts.objects;
+      weight = facts.weight;
+      mode = facts.mode;
+    })

@@ -1,0 +1,2 @@
+pub mod Commuting
+pub mod Untouched

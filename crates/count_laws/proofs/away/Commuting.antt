@@ -1,0 +1,242 @@
+-- An event apart from an actor is the same whether the actor's cell is changed before it or after.
+use Rattle.std.proofs.Common.{◌≡◌, ◌≢◌, ℕ, zero, suc, ◌<◌, nat_lt, Bool, true, false, Option, Some, None, List, [], ◌∷◌, ◌++◌, length, length-set, set, refl, ap, sym, ◌∙◌, arith, ⊎_elim, get_or-set_other, get_or-set_same}
+use Rattle.std.specs.Prelude.{if◌then◌else◌}
+use Rattle.std.proofs.lemmas.Bool.{cases_eq}
+use Rattle.std.proofs.lemmas.List.{get_or_append_left}
+use Rattle.orca_names.specs.Names.{owner_of}
+use Rattle.orca_names.specs.declared.names.Thing.{Thing}
+use Rattle.orca_names.specs.declared.names.Thing.TheVariants.{Actor}
+use Rattle.orca_names.specs.declared.names.Value.{Value}
+use Rattle.turn_rules.specs.Segment.{Stop}
+use Rattle.turn_rules.specs.declared.act.Act.{Act}
+use Rattle.turn_rules.specs.declared.act.Act.TheVariants.{Post, New, Print, End}
+use Rattle.turn_rules.specs.declared.act.Frame.{Frame}
+use Rattle.event_rule.specs.declared.event.Event.TheVariants.{Take, Go, Collect, Leave, Block, Hear, Scan, Reap}
+use Rattle.letter_kinds.specs.Counting.{Amount, Loaded, by_owner, gain, given_back, sweep}
+use Rattle.letter_kinds.specs.Detector.{Token, all_acked, close_token, closed_set, has, scanned, token_numbered}
+use Rattle.letter_kinds.specs.Holdings.{with_made}
+use Rattle.letter_kinds.specs.declared.letter.Letter.{Letter}
+use Rattle.letter_kinds.specs.declared.letter.Letter.TheVariants.{Confirm, Dec}
+use Rattle.letter_kinds.specs.declared.note.Note.{Note}
+use Rattle.letter_kinds.specs.declared.note.Note.TheVariants as notes
+use Rattle.count_laws.proofs.events.Every.{length-push}
+use Rattle.count_laws.proofs.away.Untouched.{alone_spared, spared_first}
+use Rattle.machine_rules.specs.Actors.{Actors, Seat, push_decs, push_letter, seat, seat_at, with_letter_more}
+use Rattle.count_laws.specs.Apart.{CellsCanBeAway, put_cell, step_with_cell, with_cell, with_cell_in}
+use Rattle.machine_rules.specs.Block.{block_at, block_in, held_actors, may_block}
+use Rattle.machine_rules.specs.Cell.{Cell, fresh_cell}
+use Rattle.machine_rules.specs.Collect.{collect_at, collect_in, is_marked, without_unused}
+use Rattle.machine_rules.specs.Detect.{ask_all, hear_in, held_outside, reap_found, reap_in, reaped, scan_in}
+use Rattle.machine_rules.specs.Go.{act_in, go_at, go_in, needed, needing, post_or_mint, turn_of_cell, turned, with_turn_kept}
+use Rattle.machine_rules.specs.Leave.{leave_at, leave_in, may_leave}
+use Rattle.machine_rules.specs.Options.{Trace}
+use Rattle.plain_rules.specs.Machine.{stopped_at, with_name}
+use Rattle.machine_rules.specs.State.{State, Step, IsFull, Goes}
+use Rattle.machine_rules.specs.Take.{note_of, notes_after, take_at, take_in}
+
+-- ---- lists
+
+set_apart : {A : Type 0} (xs : List A) (a b : ℕ) (x y : A) → b ≢ a → set (set xs a x) b y ≡ set (set xs b y) a x
+set_apart [] a b x y not = refl
+set_apart (z ∷ xs) zero zero x y not = absurd (not refl)
+set_apart (z ∷ xs) zero (suc b) x y not = refl
+set_apart (z ∷ xs) (suc a) zero x y not = refl
+set_apart (z ∷ xs) (suc a) (suc b) x y not = ap (λ ys. z ∷ ys) (set_apart xs a b x y (λ e. not (ap suc e)))
+
+set_twice : {A : Type 0} (xs : List A) (a : ℕ) (x y : A) → set (set xs a x) a y ≡ set xs a y
+set_twice [] a x y = refl
+set_twice (z ∷ xs) zero x y = refl
+set_twice (z ∷ xs) (suc a) x y = ap (λ ys. z ∷ ys) (set_twice xs a x y)
+
+set_append : {A : Type 0} (xs ys : List A) (a : ℕ) (x : A) → a < length xs → set (xs ++ ys) a x ≡ set xs a x ++ ys
+set_append [] ys a x h = absurd (omega arith)
+set_append (z ∷ xs) ys zero x h = refl
+set_append (z ∷ xs) ys (suc a) x h = ap (λ zs. z ∷ zs) (set_append xs ys a x (omega arith))
+
+-- ---- the actors, where the cell of one is changed
+
+module _ (a : ℕ) (c : Cell) where
+  put_other : (s : Actors) (b : ℕ) → b ≢ a → seat_at (put_cell a c s) b ≡ seat_at s b
+  put_other s b not = get_or-set_other s a b (with_cell_in c (seat_at s a)) None not
+
+  put_length : (s : Actors) → length (put_cell a c s) ≡ length s
+  put_length s = length-set s a _
+
+  put_set : (s : Actors) (b : ℕ) (o : Option Seat) → b ≢ a → set (put_cell a c s) b o ≡ put_cell a c (set s b o)
+  put_set s b o not =
+      set_apart s a b (with_cell_in c (seat_at s a)) o not
+      ∙ ap (λ q. set (set s b o) a (with_cell_in c q)) (sym (get_or-set_other s b a o None (λ e. not (sym e))))
+
+  cell_letter : (l : Letter) (o : Option Seat) → with_letter_more l (with_cell_in c o) ≡ with_cell_in c (with_letter_more l o)
+  cell_letter l None = refl
+  cell_letter l (Some o) = refl
+
+  put_push : (s : Actors) (b : ℕ) (l : Letter) → a < length s → push_letter b l (put_cell a c s) ≡ put_cell a c (push_letter b l s)
+  unfolding push_letter
+  put_push s b l below = ⊎_elim
+      (λ is. rw is (
+      ap (λ q. set (put_cell a c s) a (with_letter_more l q)) (get_or-set_same s a (with_cell_in c (seat_at s a)) None below)
+      ∙ set_twice s a _ _
+      ∙ ap (set s a) (cell_letter l (seat_at s a))
+      ∙ sym (set_twice s a _ _)
+      ∙ ap (λ q. set (set s a (with_letter_more l (seat_at s a))) a (with_cell_in c q)) (sym (get_or-set_same s a (with_letter_more l (seat_at s a)) None below))))
+      (λ not. ap (λ q. set (put_cell a c s) b (with_letter_more l q)) (put_other s b not) ∙ put_set s b (with_letter_more l (seat_at s b)) not)
+      (cases_eq b a)
+
+  put_more : (s : Actors) (o : Option Seat) → a < length s → put_cell a c s ++ o ∷ [] ≡ put_cell a c (s ++ o ∷ [])
+  put_more s o below =
+      sym (set_append s (o ∷ []) a (with_cell_in c (seat_at s a)) below)
+      ∙ ap (λ q. set (s ++ o ∷ []) a (with_cell_in c q)) (sym (get_or_append_left s (o ∷ []) None a below))
+
+  put_decs : (gs : List (ℕ × List Amount)) (s : Actors) → a < length s → push_decs gs (put_cell a c s) ≡ put_cell a c (push_decs gs s)
+  unfolding push_decs
+  put_decs [] s below = refl
+  put_decs (g ∷ gs) s below = ap (push_decs gs) (put_push s g.0 (Dec g.1) below) ∙ put_decs gs (push_letter g.0 (Dec g.1) s) (let l = length-push g.0 (Dec g.1) s in omega arith)
+
+  put_asked : (members : List ℕ) (token : ℕ) (s : Actors) → a < length s → ask_all members token (put_cell a c s) ≡ put_cell a c (ask_all members token s)
+  put_asked [] token s below = refl
+  put_asked (b ∷ members) token s below =
+      ap (ask_all members token) (put_push s b (Confirm token) below) ∙ put_asked members token (push_letter b (Confirm token) s) (let l = length-push b (Confirm token) s in omega arith)
+
+  put_reaped : (all members : List ℕ) (gs : List (ℕ × List Amount)) (s : Actors) → a < length s → has members a ≡ false → reaped all members gs (put_cell a c s) ≡ put_cell a c (reaped all members gs s)
+  unfolding reaped
+  put_reaped all [] gs s below out = put_decs gs s below
+  put_reaped all (m ∷ members) gs s below out =
+      let z = spared_first m members a out in
+      let not : m ≢ a = λ e. z.0 (sym e) in
+      ap (λ q. reaped all members (gs ++ by_owner (held_outside all q)) (set (put_cell a c s) m None)) (put_other s m not)
+      ∙ ap (reaped all members (gs ++ by_owner (held_outside all (seat_at s m)))) (put_set s m None not)
+      ∙ put_reaped all members (gs ++ by_owner (held_outside all (seat_at s m))) (set s m None) (let l = length-set s m None in omega arith) z.1
+
+  -- ---- an event of another actor
+
+  abbrev Away : State → Step → Step → Type 0
+  Away s away step = away ≡ step_with_cell a c step
+
+  module _ (s : State) (below : a < length s.actors) (b : ℕ) (not : b ≢ a) where
+    abbrev away : State
+    away = with_cell a c s
+
+    take_away : (d : Cell) (f : Option Frame) (mail : List Letter) → take_in away b d f mail ≡ step_with_cell a c (take_in s b d f mail)
+    take_away d (Some f) mail = refl
+    take_away d None [] = refl
+    take_away d None (l ∷ mail) = ap (λ actors. Goes (record s { actors = actors; notes = notes_after d.reported (note_of b l) s.notes })) (put_set s.actors b _ not)
+
+    block_away : (d : Cell) (mail : List Letter) (may : Bool) → block_in away b d mail may ≡ step_with_cell a c (block_in s b d mail may)
+    block_away d mail false = refl
+    block_away d mail true = ap (λ actors. Goes (record s { actors = actors; notes = s.notes ++ notes.Block b d.holdings.count (held_actors d.holdings) ∷ [] })) (put_set s.actors b _ not)
+
+    alone : has (b ∷ []) a ≡ false
+    alone = alone_spared b a (λ e. not (sym e))
+
+    leave_away : (may : Bool) → leave_in away b may ≡ step_with_cell a c (leave_in s b may)
+    leave_away false = refl
+    leave_away true = ap (λ actors. Goes (record s { actors = actors })) (put_reaped (b ∷ []) (b ∷ []) [] s.actors below alone)
+
+    collect_away : (trace : Trace) (d : Cell) (f : Option Frame) (dirty : Bool) (mail : List Letter) → collect_in trace away b d f dirty mail ≡ step_with_cell a c (collect_in trace s b d f dirty mail)
+    collect_away trace d (Some f) dirty mail = refl
+    collect_away trace d None false mail = refl
+    collect_away trace d None true mail =
+        let e : Cell = without_unused trace b d in
+        let groups = by_owner (given_back (is_marked trace b d) e.holdings) in
+        let new = seat (record e { holdings = sweep (is_marked trace b d) b e.holdings; dirty = false }) mail in
+        ap (λ actors. Goes (record s { actors = push_decs groups actors })) (put_set s.actors b new not)
+        ∙ ap (λ actors. Goes (record s { actors = actors })) (put_decs groups (set s.actors b new) (let l = length-set s.actors b new in omega arith))
+
+    -- ---- its go
+
+    push_away : (o : Option Seat) (to : ℕ) (l : Letter) → push_letter to l (set (put_cell a c s.actors) b o) ≡ put_cell a c (push_letter to l (set s.actors b o))
+    push_away o to l = ap (push_letter to l) (put_set s.actors b o not) ∙ put_push (set s.actors b o) to l (let l = length-set s.actors b o in omega arith)
+
+    module _ (trace : Trace) (d : Cell) (mail : List Letter) (f : Frame) (stop : Stop) where
+      post_away : (before after : Cell) (to behaviour : ℕ) (args : List Value) (load rows lacked : List Loaded)
+          → Goes (post_or_mint away b before after mail stop to behaviour args load rows lacked) ≡ step_with_cell a c (Goes (post_or_mint s b before after mail stop to behaviour args load rows lacked))
+      post_away before after to behaviour args load rows [] = ap (λ actors. Goes (with_turn_kept s stop actors)) (push_away _ to _)
+      post_away before after to behaviour args load rows (e ∷ lacked) = ap (λ actors. Goes (record s { actors = actors })) (push_away _ (owner_of e.0) _)
+
+      abbrev made : ℕ → ℕ → ℕ → Actors → Actors
+      made kind register n actors =
+          set actors b (seat (record (turned stop (Some (with_name f register n)) d.dirty d) { holdings = gain s.options.weight (Actor n) None (with_made stop.turn.made d.holdings) }) mail)
+          ++ seat (fresh_cell s.options.weight s.program kind) [] ∷ []
+
+      abbrev made_in : ℕ → ℕ → ℕ → Bool → Actors → Step
+      made_in kind register n room actors = if room then Goes (with_turn_kept s stop (made kind register n actors)) else IsFull
+
+      made_away : (kind register n : ℕ) (room : Bool) → made_in kind register n room (put_cell a c s.actors) ≡ step_with_cell a c (made_in kind register n room s.actors)
+      made_away kind register n false = refl
+      made_away kind register n true =
+          let maker = seat (record (turned stop (Some (with_name f register n)) d.dirty d) { holdings = gain s.options.weight (Actor n) None (with_made stop.turn.made d.holdings) }) mail in
+          let fresh = seat (fresh_cell s.options.weight s.program kind) [] in
+          ap (λ actors. Goes (with_turn_kept s stop (actors ++ fresh ∷ []))) (put_set s.actors b maker not)
+          ∙ ap (λ actors. Goes (with_turn_kept s stop actors)) (put_more (set s.actors b maker) fresh (let l = length-set s.actors b maker in omega arith))
+
+      act_away : (act : Act) → act_in trace away b d mail f stop act ≡ step_with_cell a c (act_in trace s b d mail f stop act)
+      act_away End = ap (λ actors. Goes (with_turn_kept s stop actors)) (put_set s.actors b _ not)
+      act_away (Print v) = ap (λ actors. Goes (record (with_turn_kept s stop actors) { prints = s.prints ++ v ∷ [] })) (put_set s.actors b _ not)
+      act_away (New kind register) =
+          ap (λ n. made_in kind register n (nat_lt n 65536) (put_cell a c s.actors)) (put_length s.actors)
+          ∙ made_away kind register (length s.actors) (nat_lt (length s.actors) 65536)
+      act_away (Post to behaviour args) = post_away d _ to behaviour args _ _ _
+
+      need_away : (found : Option Thing) (step other : Step) → other ≡ step_with_cell a c step → needing away b d mail found other ≡ step_with_cell a c (needing s b d mail found step)
+      need_away None step other e = e
+      need_away (Some x) step other e = ap (λ actors. Goes (record s { actors = actors })) (push_away _ (owner_of x) _)
+
+    go_away : (trace : Trace) (d : Cell) (f : Option Frame) (mail : List Letter) → go_in trace away b d f mail ≡ step_with_cell a c (go_in trace s b d f mail)
+    go_away trace d None mail = refl
+    go_away trace d (Some f) mail =
+        let stop = turn_of_cell trace s.program b d f in
+        need_away trace d mail (stopped_at f stop) stop (needed trace s.program b d f) _ _ (act_away trace d mail (stopped_at f stop) stop stop.act)
+
+    -- ---- of the seat
+
+    take_seat : (o : Option Seat) → take_at away b o ≡ step_with_cell a c (take_at s b o)
+    take_seat None = refl
+    take_seat (Some o) = take_away o.cell o.cell.frame o.mail
+
+    go_seat : (o : Option Seat) → go_at s.options.trace away b o ≡ step_with_cell a c (go_at s.options.trace s b o)
+    go_seat None = refl
+    go_seat (Some o) = go_away s.options.trace o.cell o.cell.frame o.mail
+
+    collect_seat : (o : Option Seat) → collect_at s.options.trace away b o ≡ step_with_cell a c (collect_at s.options.trace s b o)
+    collect_seat None = refl
+    collect_seat (Some o) = collect_away s.options.trace o.cell o.cell.frame o.cell.dirty o.mail
+
+    block_seat : (o : Option Seat) → block_at away b o ≡ step_with_cell a c (block_at s b o)
+    block_seat None = refl
+    block_seat (Some o) = block_away o.cell o.mail (may_block o.cell o.mail)
+
+    leave_seat : (o : Option Seat) → leave_at away b o ≡ step_with_cell a c (leave_at s b o)
+    leave_seat None = refl
+    leave_seat (Some o) = leave_away (may_leave o.cell o.mail)
+
+  -- ---- the detector's events
+
+  hear_away : (s : State) (notes : List Note) → hear_in (with_cell a c s) notes ≡ step_with_cell a c (hear_in s notes)
+  hear_away s [] = refl
+  hear_away s (n ∷ notes) = refl
+
+  scan_away : (s : State) → a < length s.actors → (closed : List ℕ) (news : Bool) → scan_in (with_cell a c s) closed news ≡ step_with_cell a c (scan_in s closed news)
+  scan_away s below closed false = refl
+  scan_away s below closed true = ap (λ actors. Goes (record s { actors = actors; detector = scanned s.detector closed })) (put_asked closed (suc s.detector.opened) s.actors below)
+
+  reap_away : (s : State) → a < length s.actors → (t : Token) (acked : Bool) → has t.members a ≡ false → reap_in (with_cell a c s) t acked ≡ step_with_cell a c (reap_in s t acked)
+  reap_away s below t false out = refl
+  reap_away s below t true out = ap (λ actors. Goes (record s { actors = actors; detector = close_token t s.detector })) (put_reaped t.members t.members [] s.actors below out)
+
+  found_away : (s : State) → a < length s.actors → (found : Option Token) → ((t : Token) → found ≡ Some t → has t.members a ≡ false) → reap_found (with_cell a c s) found ≡ step_with_cell a c (reap_found s found)
+  found_away s below None out = refl
+  found_away s below (Some t) out = reap_away s below t (all_acked t) (out t refl)
+
+other_than : (a b : ℕ) → (Some b ≡ Some a → ⊥) → b ≢ a
+other_than a b h e = h (ap Some e)
+
+pub cells_away : CellsCanBeAway
+cells_away s a c (Take b) apart = let not = other_than a b apart.others in ap (take_at (with_cell a c s) b) (put_other a c s.actors b not) ∙ take_seat a c s apart.made b not (seat_at s.actors b)
+cells_away s a c (Go b) apart = let not = other_than a b apart.others in ap (go_at s.options.trace (with_cell a c s) b) (put_other a c s.actors b not) ∙ go_seat a c s apart.made b not (seat_at s.actors b)
+cells_away s a c (Collect b) apart = let not = other_than a b apart.others in ap (collect_at s.options.trace (with_cell a c s) b) (put_other a c s.actors b not) ∙ collect_seat a c s apart.made b not (seat_at s.actors b)
+cells_away s a c (Leave b) apart = let not = other_than a b apart.others in ap (leave_at (with_cell a c s) b) (put_other a c s.actors b not) ∙ leave_seat a c s apart.made b not (seat_at s.actors b)
+cells_away s a c (Block b) apart = let not = other_than a b apart.others in ap (block_at (with_cell a c s) b) (put_other a c s.actors b not) ∙ block_seat a c s apart.made b not (seat_at s.actors b)
+cells_away s a c Hear apart = hear_away a c s s.notes
+cells_away s a c Scan apart = scan_away a c s apart.made (closed_set s.detector) s.detector.news
+cells_away s a c (Reap number) apart = found_away a c s apart.made (token_numbered number s.detector) (λ t found. apart.spared number t refl found)

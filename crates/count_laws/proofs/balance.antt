@@ -1,0 +1,11 @@
+pub mod InHand
+pub mod Makes
+pub mod Posting
+pub mod Reaps
+pub mod Safety
+pub mod SeatReads
+pub mod Seats
+pub mod Sends
+pub mod Sweeping
+pub mod Sweeps
+pub mod Takes

@@ -1,0 +1,11 @@
+pub mod Acting
+pub mod Collect
+pub mod EitherMode
+pub mod Every
+pub mod Leave
+pub mod Make
+pub mod Post
+pub mod Reap
+pub mod Start
+pub mod Take
+pub mod Turn

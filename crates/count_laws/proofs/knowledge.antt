@@ -1,0 +1,14 @@
+pub mod Finite
+pub mod Freed
+pub mod Global
+pub mod Going
+pub mod Lacking
+pub mod Living
+pub mod Loads
+pub mod Minting
+pub mod Naming
+pub mod Paths
+pub mod Receiving
+pub mod Segments
+pub mod Sending
+pub mod Turns

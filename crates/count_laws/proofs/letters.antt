@@ -1,0 +1,4 @@
+pub mod Named
+pub mod Once
+pub mod OwnLetters
+pub mod Shares

@@ -1,0 +1,45 @@
+-- What an actor or one of its letters names is left.
+use Rattle.std.proofs.Common.{◌≡◌, ℕ, ◌+◌, ◌<◌, List, Option, ap, sym, ◌∙◌, subst, arith}
+use Rattle.std.specs.Prelude.{sum_by}
+use Rattle.orca_names.specs.Names.{owner_of}
+use Rattle.orca_names.specs.declared.names.Thing.{Thing}
+use Rattle.letter_kinds.specs.Holdings.{Row}
+use Rattle.letter_kinds.specs.Sums.{dec_of, inc_of}
+use Rattle.letter_kinds.specs.declared.letter.Letter.{Letter}
+use Rattle.count_laws.proofs.events.EitherMode.{counted_at, loaded_left, root_left}
+use Rattle.count_laws.proofs.letters.OwnLetters.{decs_own, incs_own}
+use Rattle.count_laws.proofs.balance.SeatReads.{decs_at-seat, incs_at-seat}
+use Rattle.machine_rules.specs.Options.{Trace}
+use Rattle.machine_rules.specs.Actors.{Actors, seat, seat_at}
+use Rattle.count_laws.specs.Agreement.{Person}
+use Rattle.machine_rules.specs.Balance.{decs_at, incs_at, own_at, owner_seat}
+use Rattle.machine_rules.specs.Cell.{Cell}
+use Rattle.count_laws.specs.Facts.{KeepsCounts}
+use Rattle.count_laws.specs.Letters.{LettersNameTheirOwn}
+use Rattle.machine_rules.specs.Left.{IsLeft}
+use Rattle.count_laws.specs.Named.{NamesNothingFreed, by_dec, by_inc, by_load, by_root}
+
+module _ (trace : Trace) (all : Thing → Option Row) (people : List Person) (s : Actors) (counts : KeepsCounts trace all people s) where
+  -- what its owner counts, or is told to count, is left
+  counted : (x : Thing) → 0 < own_at x (owner_seat s x) + incs_at x (owner_seat s x) → IsLeft s x
+  counted x h = counted_at trace all people s counts x h
+
+  module _ (a : ℕ) (c : Cell) (mail : List Letter) (at : seat_at s a ≡ seat c mail) (x : Thing) (own : owner_of x ≡ a) where
+    here : owner_seat s x ≡ seat c mail
+    here = ap (seat_at s) own ∙ at
+
+    raised_left : 0 < sum_by (inc_of x) mail → IsLeft s x
+    raised_left h =
+        let some : 0 < incs_at x (owner_seat s x) = subst (λ o. 0 < incs_at x o) (sym here) (let i = incs_at-seat x c mail in omega arith) in
+        counted x (omega arith)
+
+    lowered_left : 0 < sum_by (dec_of x) mail → IsLeft s x
+    lowered_left h =
+        let some : 0 < decs_at x (owner_seat s x) = subst (λ o. 0 < decs_at x o) (sym here) (let i = decs_at-seat x c mail in omega arith) in
+        counted x (let b = counts.balanced x in omega arith)
+
+  pub named_left : LettersNameTheirOwn s → NamesNothingFreed s
+  named_left own a c mail at x (by_root r) = root_left trace all people s counts a c mail x at r
+  named_left own a c mail at x (by_load h) = loaded_left trace all people s counts a c mail x at h
+  named_left own a c mail at x (by_inc h) = raised_left a c mail at x (incs_own a mail (own a c mail at) x h) h
+  named_left own a c mail at x (by_dec h) = lowered_left a c mail at x (decs_own a mail (own a c mail at) x h) h

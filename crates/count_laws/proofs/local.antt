@@ -1,0 +1,4 @@
+pub mod Cleaning
+pub mod Local
+pub mod Locals
+pub mod NoSelf

@@ -1,0 +1,10 @@
+pub mod AtQuiet
+pub mod Clean
+pub mod Collect
+pub mod Left
+pub mod Need
+pub mod Post
+pub mod Rows
+pub mod Same
+pub mod Take
+pub mod Turn

@@ -1,0 +1,14 @@
+pub mod Agreement
+pub mod Apart
+pub mod Bounds
+pub mod Clean
+pub mod Facts
+pub mod Gone
+pub mod Known
+pub mod KnownByRoots
+pub mod Laws
+pub mod LeftByRoots
+pub mod Letters
+pub mod Named
+pub mod Prefixes
+pub mod TracedByRoots

@@ -1,0 +1,229 @@
+-- Concrete books are runs, by computation, and nothing that is not needed is left after them.
+use Rattle.std.proofs.Common.{◌≡◌, ◌↔◌, ℕ, zero, suc, ◌++◌, ◌==◌, ◌&&◌, ◌||◌, not, true, false, List, [], ◌∷◌, Option, Some, None, is_some, refl, ap, sym, ◌∙◌, subst}
+use Rattle.std.specs.FinMap as m
+use Rattle.std.specs.List.{find}
+use Rattle.std.specs.Ordering.{nat_cmp}
+use Rattle.std.specs.Prelude.{is_none}
+use Rattle.orca_names.specs.Names.{owner_of}
+use Rattle.orca_names.specs.declared.names.Thing.{Thing}
+use Rattle.orca_names.specs.declared.names.Thing.TheVariants.{Actor, Obj}
+use Rattle.event_rule.specs.declared.event.Event.{Event}
+use Rattle.event_rule.specs.declared.event.Event.TheVariants.{Take, Go, Collect, Leave, Block, Hear, Scan, Reap}
+use Rattle.reach_walk.specs.Marks.{led_to, marks_of}
+use Rattle.letter_kinds.specs.Counting.{by_owner}
+use Rattle.letter_kinds.specs.Detector.{closed_set}
+use Rattle.letter_kinds.specs.Holdings.{has_own}
+use Rattle.machine_examples.proofs.LedgerSteps.{Page, first_page, after_all, after_all-leads, state_told}
+use Rattle.machine_examples.proofs.Places.{seats_told}
+use Rattle.machine_rules.specs.Actors.{Actors, Seat, seat_at}
+use Rattle.machine_rules.specs.Block.{block_at, block_in}
+use Rattle.machine_rules.specs.Collect.{collect_at, collect_in}
+use Rattle.machine_rules.specs.Detect.{hear_in, reap_found, scan_in}
+use Rattle.machine_examples.specs.Examples.{usual, two_hold_each_other, two_up_to_the_ping, two_to_the_end, TwoHoldEachOtherAndGo, passes_an_object_on, passing_book, AnObjectIsPassedOnAndGoes}
+use Rattle.machine_rules.specs.Go.{go_at, go_in}
+use Rattle.machine_rules.specs.Leave.{leave_at, leave_in}
+use Rattle.machine_rules.specs.Left.{IsLeft}
+use Rattle.plain_list.specs.Lists.{is_empty}
+use Rattle.machine_rules.specs.Next.{IsQuiet}
+use Rattle.machine_rules.specs.Run.{IsRun, Leads}
+use Rattle.machine_rules.specs.State.{State, NotEnabled, first_state}
+use Rattle.machine_rules.specs.Take.{take_at, take_in}
+
+-- what is there, or else the page that is given
+abbrev pub page_or : Page → Option Page → Page
+page_or b None = b
+page_or b (Some c) = c
+
+pub page_there : (b : Page) (o : Option Page) → is_some o ≡ true → o ≡ Some (page_or b o)
+page_there b None h = cc
+page_there b (Some c) h = refl
+
+-- ---- where no event is enabled
+
+-- an actor that is pinned or told that it is blocked, and has nothing to do, or none
+abbrev pub IsStill : Option Seat → Type 0
+IsStill None = Unit {0}
+IsStill (Some o) = (o.cell.frame ≡ None) × (o.mail ≡ []) × (o.cell.dirty ≡ false) × ((o.cell.fields.pinned || o.cell.reported) ≡ true)
+
+take_still : (s : State) (a : ℕ) (o : Option Seat) → IsStill o → take_at s a o ≡ NotEnabled
+take_still s a None still = refl
+take_still s a (Some o) still = λ i. take_in s a o.cell (still.0 i) (still.1 i)
+
+go_still : (s : State) (a : ℕ) (o : Option Seat) → IsStill o → go_at s.options.trace s a o ≡ NotEnabled
+go_still s a None still = refl
+go_still s a (Some o) still = λ i. go_in s.options.trace s a o.cell (still.0 i) o.mail
+
+collect_still : (s : State) (a : ℕ) (o : Option Seat) → IsStill o → collect_at s.options.trace s a o ≡ NotEnabled
+collect_still s a None still = refl
+collect_still s a (Some o) still = λ i. collect_in s.options.trace s a o.cell (still.0 i) (still.2 i) o.mail
+
+block_still : (s : State) (a : ℕ) (o : Option Seat) → IsStill o → block_at s a o ≡ NotEnabled
+block_still s a None still = refl
+block_still s a (Some o) still =
+    λ i. block_in s a o.cell o.mail (is_none (still.0 i) && (is_empty (still.1 i) && not (still.2 i || still.3 i)))
+
+leave_still : (s : State) (a : ℕ) (o : Option Seat) → IsStill o → leave_at s a o ≡ NotEnabled
+leave_still s a None still = refl
+leave_still s a (Some o) still =
+    λ i. leave_in s a ((is_none (still.0 i) && (is_empty (still.1 i) && not (still.2 i || still.3 i))) && (o.cell.holdings.count == 0))
+
+pub still_quiet : (s : State) → ((a : ℕ) → IsStill (seat_at s.actors a)) → s.notes ≡ [] → s.detector.tokens ≡ [] → s.detector.news ≡ false → IsQuiet s
+still_quiet s still notes tokens news (Take a) = take_still s a (seat_at s.actors a) (still a)
+still_quiet s still notes tokens news (Go a) = go_still s a (seat_at s.actors a) (still a)
+still_quiet s still notes tokens news (Collect a) = collect_still s a (seat_at s.actors a) (still a)
+still_quiet s still notes tokens news (Leave a) = leave_still s a (seat_at s.actors a) (still a)
+still_quiet s still notes tokens news (Block a) = block_still s a (seat_at s.actors a) (still a)
+still_quiet s still notes tokens news Hear = ap (hear_in s) notes
+still_quiet s still notes tokens news Scan = ap (scan_in s (closed_set s.detector)) news
+still_quiet s still notes tokens news (Reap token) = ap (λ tokens. reap_found s (find (λ t. t.number == token) tokens)) tokens
+
+-- ---- two peers that hold each other
+
+two_first : Page
+two_first = first_page two_hold_each_other usual
+
+two_at_the_ping : Page
+two_at_the_ping = page_or two_first (after_all two_up_to_the_ping (Some two_first))
+
+two_last : Page
+two_last = page_or two_first (after_all two_to_the_end (Some two_at_the_ping))
+
+-- what these pages compute with
+two_computed : Unit {0}
+unfolding led_to marks_of by_owner two_first two_at_the_ping two_last
+two_computed = tt
+
+up_to_the_ping : is_some (after_all two_up_to_the_ping (Some two_first)) ≡ true
+unfolding two_computed
+up_to_the_ping = refl
+
+to_the_end : is_some (after_all two_to_the_end (Some two_at_the_ping)) ≡ true
+unfolding two_computed
+to_the_end = refl
+
+from_first : IsRun two_hold_each_other usual two_up_to_the_ping (state_told two_at_the_ping)
+unfolding two_first two_at_the_ping
+from_first = after_all-leads two_up_to_the_ping two_first two_at_the_ping (page_there two_first _ up_to_the_ping)
+
+from_ping : Leads (state_told two_at_the_ping) two_to_the_end (state_told two_last)
+unfolding two_last
+from_ping = after_all-leads two_to_the_end two_at_the_ping two_last (page_there two_first _ to_the_end)
+
+joined : (s t u : State) (first second : List Event) → Leads s first t → Leads t second u → Leads s (first ++ second) u
+joined s t u [] second l m = subst (λ s. Leads s second u) (sym l) m
+joined s t u (e ∷ first) second l m = (l.0, l.1, joined l.0 t u first second l.2 m)
+
+from_start : IsRun two_hold_each_other usual (two_up_to_the_ping ++ two_to_the_end) (state_told two_last)
+from_start = joined (first_state two_hold_each_other usual) (state_told two_at_the_ping) (state_told two_last) two_up_to_the_ping two_to_the_end from_first from_ping
+
+two_gone : seats_told two_last.places ≡ None ∷ None ∷ None ∷ []
+unfolding two_computed
+two_gone = refl
+
+none_of_three : (a : ℕ) → seat_at (None ∷ None ∷ None ∷ []) a ≡ None
+none_of_three zero = refl
+none_of_three (suc zero) = refl
+none_of_three (suc (suc zero)) = refl
+none_of_three (suc (suc (suc a))) = refl
+
+nobody : (a : ℕ) → seat_at (seats_told two_last.places) a ≡ None
+nobody a = ap (λ actors. seat_at actors a) two_gone ∙ none_of_three a
+
+pub two_hold_each_other_and_go : TwoHoldEachOtherAndGo
+unfolding two_computed
+two_hold_each_other_and_go = record {
+  ping = state_told two_at_the_ping;
+  up_to_the_ping = from_first;
+  opened = refl;
+  cancelled = refl;
+  last = state_told two_last;
+  to_the_end = from_ping;
+  run = from_start;
+  prints = refl;
+  made = refl;
+  nothing_left = λ x left. let e = nobody (owner_of x) in let p = left.present in cc;
+  quiet = still_quiet (state_told two_last) (λ a. subst IsStill (sym (nobody a)) tt) refl refl refl;
+}
+
+-- ---- an object is passed on
+
+passing_first : Page
+passing_first = first_page passes_an_object_on usual
+
+passing_last : Page
+passing_last = page_or passing_first (after_all passing_book (Some passing_first))
+
+-- what this page computes with
+passing_computed : Unit {0}
+unfolding led_to marks_of by_owner passing_first passing_last
+passing_computed = tt
+
+passing_goes : is_some (after_all passing_book (Some passing_first)) ≡ true
+unfolding passing_computed
+passing_goes = refl
+
+passing_run : IsRun passes_an_object_on usual passing_book (state_told passing_last)
+unfolding passing_first passing_last
+passing_run = after_all-leads passing_book passing_first passing_last (page_there passing_first _ passing_goes)
+
+-- the first actor is still, and has no object
+abbrev IsMain : Option Seat → Type 0
+IsMain None = ⊥
+IsMain (Some o) = IsStill (Some o) × (o.cell.holdings.rows ≡ m.empty)
+
+main_left : IsMain (seat_at (seats_told passing_last.places) 0)
+unfolding passing_computed
+main_left = ((refl, refl, refl, refl), refl)
+
+others_gone : (a : ℕ) → seat_at (seats_told passing_last.places) (suc a) ≡ None
+unfolding passing_computed
+others_gone zero = refl
+others_gone (suc zero) = refl
+others_gone (suc (suc a)) = refl
+
+all_still : (a : ℕ) → IsStill (seat_at (seats_told passing_last.places) a)
+all_still zero = cases (seat_at (seats_told passing_last.places) 0) main_left
+  where
+    cases : (o : Option Seat) → IsMain o → IsStill o
+    cases None h = absurd h
+    cases (Some o) h = h.0
+all_still (suc a) = subst IsStill (sym (others_gone a)) tt
+
+-- of an actor with no object, only itself is left
+only_main : (actors : Actors) → IsMain (seat_at actors 0) → ((a : ℕ) → seat_at actors (suc a) ≡ None) → (x : Thing) → IsLeft actors x ↔ x ≡ Actor 0
+unfolding has_own
+only_main actors main others x = (of_thing x, λ e. subst (IsLeft actors) (sym e) (itself (seat_at actors 0) refl main))
+  where
+    itself : (o : Option Seat) → seat_at actors 0 ≡ o → IsMain o → IsLeft actors (Actor 0)
+    itself None e h = absurd h
+    itself (Some o) e h = record { seat = o; present = e; kept = refl }
+
+    -- it has no object
+    no_object : (serial : ℕ) (o : Seat) (found : Option Seat) → IsMain found → found ≡ Some o → (owner : ℕ) → has_own o.cell.holdings (Obj (record { owner = owner; serial = serial })) ≡ true → ⊥
+    no_object serial o None h e owner kept = cc
+    no_object serial o (Some p) h e owner kept =
+        let same : p ≡ o = cc in
+        let rows : o.cell.holdings.rows ≡ m.empty = subst (λ (p : Seat). p.cell.holdings.rows ≡ m.empty) same h.1 in
+        let none : is_some (m.get o.cell.holdings.rows serial) ≡ false = ap (λ rows. is_some (m.get rows serial)) rows ∙ ap is_some (m.get-empty nat_cmp serial) in
+        cc
+
+    of_object : (owner serial : ℕ) → IsLeft actors (Obj (record { owner = owner; serial = serial })) → ⊥
+    of_object zero serial left = no_object serial left.seat (seat_at actors 0) main left.present 0 left.kept
+    of_object (suc a) serial left = let e = others a in let p = left.present in cc
+
+    of_thing : (x : Thing) → IsLeft actors x → x ≡ Actor 0
+    of_thing (Actor zero) left = refl
+    of_thing (Actor (suc a)) left = let e = others a in let p = left.present in cc
+    of_thing (Obj n) left = absurd (of_object n.owner n.serial left)
+
+pub an_object_is_passed_on_and_goes : AnObjectIsPassedOnAndGoes
+unfolding passing_computed
+an_object_is_passed_on_and_goes = record {
+  last = state_told passing_last;
+  run = passing_run;
+  prints = refl;
+  made = refl;
+  objects = refl;
+  left = only_main (seats_told passing_last.places) main_left others_gone;
+  quiet = still_quiet (state_told passing_last) all_still refl refl refl;
+}

@@ -1,5 +1,0 @@
-use Rattle.machine_rules.proofs.RootsRuns.{a_brought_row_stays}
-use Rattle.machine_rules.proofs.examples.a_brought_row_stays.Goals as goal
-
-pub returns : goal.returns
-returns c = a_brought_row_stays

@@ -1,5 +1,0 @@
-use Rattle.machine_rules.proofs.RootsRuns.{a_got_object_is_minted}
-use Rattle.machine_rules.proofs.examples.a_got_object_is_minted.Goals as goal
-
-pub returns : goal.returns
-returns c = a_got_object_is_minted

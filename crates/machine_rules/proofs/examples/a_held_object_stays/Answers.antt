@@ -1,5 +1,0 @@
-use Rattle.machine_rules.proofs.RootsRuns.{a_held_object_stays}
-use Rattle.machine_rules.proofs.examples.a_held_object_stays.Goals as goal
-
-pub returns : goal.returns
-returns c = a_held_object_stays

@@ -1,6 +1,0 @@
--- The book is a run, and what is not needed is gone after it.
-use Rattle.machine_rules.proofs.ExampleRuns.{two_hold_each_other_and_go}
-use Rattle.machine_rules.proofs.examples.two_hold_each_other_and_go.Goals as goal
-
-pub returns : goal.returns
-returns c = two_hold_each_other_and_go

@@ -1,5 +1,0 @@
-use Rattle.machine_rules.proofs.Acting.{none_gets_its_own}
-use Rattle.machine_rules.proofs.laws.no_actor_gets_a_count_on_its_own.Goals as goal
-
-pub returns : goal.returns
-returns c = none_gets_its_own

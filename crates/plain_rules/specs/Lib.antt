@@ -1,0 +1,4 @@
+pub mod Limits
+pub mod Machine
+pub mod Reach
+pub mod Run
