@@ -6,7 +6,7 @@ use Rattle.orca_names.specs.declared.names.Thing.TheVariants.{Actor, Obj}
 use Rattle.reach_walk.specs.Reach.{thing_row}
 use Rattle.letter_kinds.specs.declared.letter.Letter.{Letter}
 use Rattle.letter_kinds.specs.Holdings.{Holdings, Row}
-use Rattle.machine_rules.specs.Actors.{Actors, seat, seat_at}
+use Rattle.machine_rules.specs.Actors.{Actors, Every}
 use Rattle.count_laws.specs.Agreement.{Agrees, Person, people_of}
 use Rattle.machine_rules.specs.Balance.{IsBalanced}
 use Rattle.count_laws.specs.Prefixes.{NeverOverdraws}
