@@ -7,8 +7,9 @@ use Rattle.letter_kinds.specs.Detector.{Token, has, token_numbered}
 use Rattle.letter_kinds.specs.declared.letter.Letter.{Letter}
 use Rattle.machine_rules.specs.Actors.{Actors, Seat, cell_at, mail_at, seat_at}
 use Rattle.machine_rules.specs.Cell.{Cell}
-use Rattle.machine_rules.specs.Next.{IsEnabled, next}
-use Rattle.machine_rules.specs.State.{State, Step, NotEnabled, IsFull, Goes}
+use Rattle.event_rule.specs.Runs.{IsEnabled, Step, NotEnabled, IsFull, Goes}
+use Rattle.machine_rules.specs.Next.{next}
+use Rattle.machine_rules.specs.State.{State}
 
 -- ---- whose event it is
 
@@ -37,7 +38,7 @@ abbrev pub with_cell : ℕ → Cell → State → State
 with_cell a c s = record s { actors = put_cell a c s.actors }
 
 -- so in the state that a step leads to
-abbrev pub step_with_cell : ℕ → Cell → Step → Step
+abbrev pub step_with_cell : ℕ → Cell → Step State → Step State
 step_with_cell a c NotEnabled = NotEnabled
 step_with_cell a c IsFull = IsFull
 step_with_cell a c (Goes t) = Goes (with_cell a c t)
@@ -57,12 +58,12 @@ pub record LeavesCell (s t : State) (a : ℕ) : Type 0 where
 -- a letter that comes can enable the actor's take, and ends its leave and its block; nothing else of the
 -- actor's is enabled by the event, or ended
 pub record KeepsEnabled (s t : State) (a : ℕ) : Type 0 where
-  pub take : IsEnabled s (Take a) → IsEnabled t (Take a)
-  pub no_more : mail_at t.actors a ≡ mail_at s.actors a → IsEnabled t (Take a) → IsEnabled s (Take a)
-  pub go : IsEnabled t (Go a) ↔ IsEnabled s (Go a)
-  pub collect : IsEnabled t (Collect a) ↔ IsEnabled s (Collect a)
-  pub leave : IsEnabled t (Leave a) ↔ IsEnabled s (Leave a) × (mail_at t.actors a ≡ [])
-  pub block : IsEnabled t (Block a) ↔ IsEnabled s (Block a) × (mail_at t.actors a ≡ [])
+  pub take : IsEnabled next s (Take a) → IsEnabled next t (Take a)
+  pub no_more : mail_at t.actors a ≡ mail_at s.actors a → IsEnabled next t (Take a) → IsEnabled next s (Take a)
+  pub go : IsEnabled next t (Go a) ↔ IsEnabled next s (Go a)
+  pub collect : IsEnabled next t (Collect a) ↔ IsEnabled next s (Collect a)
+  pub leave : IsEnabled next t (Leave a) ↔ IsEnabled next s (Leave a) × (mail_at t.actors a ≡ [])
+  pub block : IsEnabled next t (Block a) ↔ IsEnabled next s (Block a) × (mail_at t.actors a ≡ [])
 
 abbrev pub OthersLeaveTheCell : Type 0
 OthersLeaveTheCell = (s t : State) (a : ℕ) (e : Event) → IsApart s a e → next s e ≡ Goes t → LeavesCell s t a

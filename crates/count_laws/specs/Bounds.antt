@@ -5,10 +5,11 @@ use Rattle.behaviour_code.specs.declared.code.Program.{Program}
 use Rattle.event_rule.specs.declared.event.Event.{Event}
 use Rattle.machine_rules.specs.Actors.{Actors}
 use Rattle.machine_rules.specs.Balance.{incs_at, own_at, owner_seat}
+use Rattle.event_rule.specs.Runs.{Goes}
 use Rattle.machine_rules.specs.Next.{next}
 use Rattle.machine_rules.specs.Options.{Options}
 use Rattle.machine_rules.specs.Run.{IsRun}
-use Rattle.machine_rules.specs.State.{State, Goes}
+use Rattle.machine_rules.specs.State.{State}
 
 -- what the owner counts of a thing, with the increments under way
 abbrev pub counted : Thing → Actors → ℕ

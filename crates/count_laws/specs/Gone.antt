@@ -5,9 +5,11 @@ use Rattle.orca_names.specs.declared.names.Thing.TheVariants.{Actor, Obj}
 use Rattle.event_rule.specs.declared.event.Event.{Event}
 use Rattle.machine_rules.specs.Actors.{Actors, Seat, seat_at}
 use Rattle.machine_rules.specs.Left.{IsLeft, IsMade}
+use Rattle.event_rule.specs.Runs.{Leads}
+use Rattle.plain_rules.specs.Run.{plain_next}
+use Rattle.machine_rules.specs.Next.{next}
 use Rattle.plain_rules.specs.Machine.{PlainState}
 use Rattle.plain_rules.specs.Reach.{IsReachable}
-use Rattle.machine_rules.specs.Run.{Leads, PlainLeads}
 use Rattle.machine_rules.specs.State.{State}
 
 -- ---- in the plain machine
@@ -18,7 +20,7 @@ IsForgotten p x = IsMade p.actors x × (IsReachable p x → ⊥)
 
 -- that stays so, whatever events follow
 abbrev pub ForgottenStaysForgotten : Type 0
-ForgottenStaysForgotten = (events : List Event) (p q : PlainState) → PlainLeads p events q → (x : Thing) → IsForgotten p x → IsForgotten q x
+ForgottenStaysForgotten = (events : List Event) (p q : PlainState) → Leads plain_next p events q → (x : Thing) → IsForgotten p x → IsForgotten q x
 
 -- ---- in the machine that collects
 
@@ -29,7 +31,7 @@ HasName actors (Obj n) = (n.owner < length actors) × ((seat : Seat) → seat_at
 
 -- a name that was given stays so, whatever events follow
 abbrev pub NamesStayGiven : Type 0
-NamesStayGiven = (book : List Event) (s t : State) → Leads s book t → (x : Thing) → HasName s.actors x → HasName t.actors x
+NamesStayGiven = (book : List Event) (s t : State) → Leads next s book t → (x : Thing) → HasName s.actors x → HasName t.actors x
 
 -- its name was given, and it is not there
 abbrev pub IsGone : Actors → Thing → Type 0
@@ -37,4 +39,4 @@ IsGone actors x = HasName actors x × (IsLeft actors x → ⊥)
 
 -- that stays so, whatever events follow: a name is never given again
 abbrev pub GoneStaysGone : Type 0
-GoneStaysGone = (book : List Event) (s t : State) → Leads s book t → (x : Thing) → IsGone s.actors x → IsGone t.actors x
+GoneStaysGone = (book : List Event) (s t : State) → Leads next s book t → (x : Thing) → IsGone s.actors x → IsGone t.actors x

@@ -9,10 +9,11 @@ use Rattle.letter_kinds.specs.Counting.{Amount}
 use Rattle.letter_kinds.specs.declared.letter.Letter.{Letter}
 use Rattle.letter_kinds.specs.declared.letter.Letter.TheVariants.{App, Inc, Dec, Confirm}
 use Rattle.machine_rules.specs.Actors.{Actors, Every}
+use Rattle.event_rule.specs.Runs.{Goes}
 use Rattle.machine_rules.specs.Next.{next}
 use Rattle.machine_rules.specs.Options.{Options}
 use Rattle.machine_rules.specs.Run.{IsRun}
-use Rattle.machine_rules.specs.State.{State, Goes, first_state}
+use Rattle.machine_rules.specs.State.{State, first_state}
 
 -- these are amounts for things of this actor alone, one for each
 pub record AreFor (a : ℕ) (things : List Amount) : Type 0 where

@@ -24,9 +24,10 @@ use Rattle.machine_rules.specs.Go.{go_at, go_in}
 use Rattle.machine_rules.specs.Leave.{leave_at, leave_in}
 use Rattle.machine_rules.specs.Left.{IsLeft}
 use Rattle.plain_list.specs.Lists.{is_empty}
-use Rattle.machine_rules.specs.Next.{IsQuiet}
-use Rattle.machine_rules.specs.Run.{IsRun, Leads}
-use Rattle.machine_rules.specs.State.{State, NotEnabled, first_state}
+use Rattle.event_rule.specs.Runs.{IsQuiet, Leads, NotEnabled}
+use Rattle.machine_rules.specs.Next.{next}
+use Rattle.machine_rules.specs.Run.{IsRun}
+use Rattle.machine_rules.specs.State.{State, first_state}
 use Rattle.machine_rules.specs.Take.{take_at, take_in}
 
 -- what is there, or else the page that is given
@@ -67,7 +68,7 @@ leave_still s a None still = refl
 leave_still s a (Some o) still =
     λ i. leave_in s a ((is_none (still.0 i) && (is_empty (still.1 i) && not (still.2 i || still.3 i))) && (o.cell.holdings.count == 0))
 
-pub still_quiet : (s : State) → ((a : ℕ) → IsStill (seat_at s.actors a)) → s.notes ≡ [] → s.detector.tokens ≡ [] → s.detector.news ≡ false → IsQuiet s
+pub still_quiet : (s : State) → ((a : ℕ) → IsStill (seat_at s.actors a)) → s.notes ≡ [] → s.detector.tokens ≡ [] → s.detector.news ≡ false → IsQuiet next s
 still_quiet s still notes tokens news (Take a) = take_still s a (seat_at s.actors a) (still a)
 still_quiet s still notes tokens news (Go a) = go_still s a (seat_at s.actors a) (still a)
 still_quiet s still notes tokens news (Collect a) = collect_still s a (seat_at s.actors a) (still a)
@@ -105,12 +106,12 @@ from_first : IsRun two_hold_each_other usual two_up_to_the_ping (state_told two_
 unfolding two_first two_at_the_ping
 from_first = after_all-leads two_up_to_the_ping two_first two_at_the_ping (page_there two_first _ up_to_the_ping)
 
-from_ping : Leads (state_told two_at_the_ping) two_to_the_end (state_told two_last)
+from_ping : Leads next (state_told two_at_the_ping) two_to_the_end (state_told two_last)
 unfolding two_last
 from_ping = after_all-leads two_to_the_end two_at_the_ping two_last (page_there two_first _ to_the_end)
 
-joined : (s t u : State) (first second : List Event) → Leads s first t → Leads t second u → Leads s (first ++ second) u
-joined s t u [] second l m = subst (λ s. Leads s second u) (sym l) m
+joined : (s t u : State) (first second : List Event) → Leads next s first t → Leads next t second u → Leads next s (first ++ second) u
+joined s t u [] second l m = subst (λ s. Leads next s second u) (sym l) m
 joined s t u (e ∷ first) second l m = (l.0, l.1, joined l.0 t u first second l.2 m)
 
 from_start : IsRun two_hold_each_other usual (two_up_to_the_ping ++ two_to_the_end) (state_told two_last)

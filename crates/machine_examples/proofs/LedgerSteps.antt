@@ -33,11 +33,11 @@ use Rattle.machine_rules.specs.Collect.{collect_at, collect_in, collected, is_ma
 use Rattle.machine_rules.specs.Detect.{hear_in, scan_in, reap_in, held_outside, reap_found, reaped}
 use Rattle.machine_rules.specs.Go.{act_in, go_at, go_in, load_from, needed, needing, mint, post_or_mint, rows_from, setting_of, turn_of_cell, turned}
 use Rattle.machine_rules.specs.Leave.{leave_at, leave_in}
+use Rattle.event_rule.specs.Runs.{Leads, Step, IsFull, Goes}
 use Rattle.machine_rules.specs.Next.{next}
 use Rattle.machine_rules.specs.Options.{Trace, Deep, Roots, Options}
 use Rattle.plain_rules.specs.Machine.{stopped_at, with_name}
-use Rattle.machine_rules.specs.Run.{Leads}
-use Rattle.machine_rules.specs.State.{State, Step, IsFull, Goes, first_state, start_letters}
+use Rattle.machine_rules.specs.State.{State, first_state, start_letters}
 use Rattle.machine_rules.specs.Take.{cell_after, note_of, notes_after, take_at, take_in}
 use Rattle.machine_examples.proofs.Places.{Place, Places, seats_told, cell_told, seat_told, place, place_at, seat_at-told, set-told, push_told, push_letter-told, decs_told, push_decs-told, asked_told, ask_all-told}
 
@@ -64,7 +64,7 @@ abbrev traced : Page → Trace
 traced b = b.state.options.trace
 
 -- the step goes to the state of the page, if there is one
-abbrev Follows : Option Page → Step → Type 0
+abbrev Follows : Option Page → Step State → Type 0
 Follows None step = Unit {0}
 Follows (Some b) step = step ≡ Goes (state_told b)
 
@@ -236,7 +236,7 @@ act-follows b a o frame stop (New kind register) =
     subst (λ n. Follows (acted b a o frame stop (New kind register)) (made n)) (sym (length-map b.places seat_told)) (cases (nat_lt (length b.places) 65536))
   where
     -- as many actors as this were made before
-    made : ℕ → Step
+    made : ℕ → Step State
     made n =
         if nat_lt n 65536
         then Goes (record (state_told b) {
@@ -307,7 +307,7 @@ abbrev needing_told : Page → ℕ → Place → Option Thing → Option Page �
 needing_told b a o None page = page
 needing_told b a o (Some x) page = Some (record b { places = minted_told a o (owner_of x) (need_told b.state.options.weight a o.ledger x) b.places })
 
-need-follows : (b : Page) (a : ℕ) (o : Place) (found : Option Thing) (page : Option Page) (step : Step) → Follows page step
+need-follows : (b : Page) (a : ℕ) (o : Place) (found : Option Thing) (page : Option Page) (step : Step State) → Follows page step
     → Follows (needing_told b a o found page) (needing (state_told b) a (cell_told o) o.mail found step)
 need-follows b a o None page step follows = follows
 need-follows b a o (Some x) page step follows =
@@ -411,7 +411,7 @@ of_place does None = None
 of_place does (Some o) = does o
 
 -- an event of an actor follows where it follows of each place
-place-follows : (b : Page) (a : ℕ) (does : Place → Option Page) (step : Option Seat → Step)
+place-follows : (b : Page) (a : ℕ) (does : Place → Option Page) (step : Option Seat → Step State)
     → ((o : Place) → Follows (does o) (step (seat_told (Some o)))) → Follows (of_place does (place_at b.places a)) (step (seat_at (seats_told b.places) a))
 place-follows b a does step follows = subst (λ o. Follows (of_place does (place_at b.places a)) (step o)) (sym (seat_at-told b.places a)) (cases (place_at b.places a))
   where
@@ -538,11 +538,11 @@ none_after : (events : List Event) (c : Page) → after_all events None ≡ Some
 none_after [] c h = cc
 none_after (e ∷ events) c h = cc
 
-pub after_all-leads : (events : List Event) (b c : Page) → after_all events (Some b) ≡ Some c → Leads (state_told b) events (state_told c)
+pub after_all-leads : (events : List Event) (b c : Page) → after_all events (Some b) ≡ Some c → Leads next (state_told b) events (state_told c)
 after_all-leads [] b c h = ap (λ o. option_map_or state_told o (state_told b)) h
 after_all-leads (e ∷ events) b c h = cases (next_page b e) (next-follows b e) h (λ d. after_all-leads events d c)
   where
     cases : (o : Option Page) → Follows o (next (state_told b) e) → after_all events o ≡ Some c
-        → ((d : Page) → after_all events (Some d) ≡ Some c → Leads (state_told d) events (state_told c)) → Leads (state_told b) (e ∷ events) (state_told c)
+        → ((d : Page) → after_all events (Some d) ≡ Some c → Leads next (state_told d) events (state_told c)) → Leads next (state_told b) (e ∷ events) (state_told c)
     cases None follows h later = absurd (none_after events c h)
     cases (Some d) goes h later = (state_told d, goes, later d h)

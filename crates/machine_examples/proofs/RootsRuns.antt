@@ -20,7 +20,8 @@ use Rattle.machine_rules.specs.Actors.{seat_at}
 use Rattle.machine_examples.specs.Examples.{usual}
 use Rattle.machine_rules.specs.Left.{IsLeft}
 use Rattle.machine_examples.specs.RootsExamples.{ABroughtRowStays, AGotObjectIsMinted, AHeldObjectStays, by_roots, by_roots_and_five, from_the_look, from_the_mint, from_the_object, gets_an_object, holding_deep, is_held_by_its_own, looks_later, first_object, the_object, second_object, up_to_the_look, up_to_the_object, up_to_the_turn}
-use Rattle.machine_rules.specs.Run.{Leads}
+use Rattle.event_rule.specs.Runs.{Leads}
+use Rattle.machine_rules.specs.Next.{next}
 
 -- what is told to be left is left
 only_left : (places : Places) (P : Thing → Type 0) → ((x : Thing) → is_left_told places x ≡ true → P x) → ((x : Thing) → P x → is_left_told places x ≡ true) → (x : Thing) → IsLeft (seats_told places) x ↔ P x
@@ -59,15 +60,15 @@ deep_goes : is_some (after_all holding_deep (Some deep_first)) ≡ true
 unfolding holding_computed
 deep_goes = refl
 
-sent_run : Leads (state_told holding_first) up_to_the_object (state_told holding_sent)
+sent_run : Leads next (state_told holding_first) up_to_the_object (state_told holding_sent)
 unfolding holding_sent
 sent_run = turned_leads up_to_the_object holding_first sent_goes
 
-holding_run : Leads (state_told holding_sent) from_the_object (state_told holding_last)
+holding_run : Leads next (state_told holding_sent) from_the_object (state_told holding_last)
 unfolding holding_last
 holding_run = turned_leads from_the_object holding_sent holding_goes
 
-deep_run : Leads (state_told deep_first) holding_deep (state_told deep_last)
+deep_run : Leads next (state_told deep_first) holding_deep (state_told deep_last)
 unfolding deep_last
 deep_run = turned_leads holding_deep deep_first deep_goes
 
@@ -188,15 +189,15 @@ getting_goes : is_some (after_all from_the_mint (Some getting_minted)) ≡ true
 unfolding getting_computed
 getting_goes = refl
 
-taken_run : Leads (state_told getting_first) up_to_the_turn (state_told getting_taken)
+taken_run : Leads next (state_told getting_first) up_to_the_turn (state_told getting_taken)
 unfolding getting_taken
 taken_run = turned_leads up_to_the_turn getting_first taken_goes
 
-minted_run : Leads (state_told getting_taken) (Go 1 ∷ []) (state_told getting_minted)
+minted_run : Leads next (state_told getting_taken) (Go 1 ∷ []) (state_told getting_minted)
 unfolding getting_minted
 minted_run = turned_leads (Go 1 ∷ []) getting_taken minted_goes
 
-getting_run : Leads (state_told getting_minted) from_the_mint (state_told getting_last)
+getting_run : Leads next (state_told getting_minted) from_the_mint (state_told getting_last)
 unfolding getting_last
 getting_run = turned_leads from_the_mint getting_minted getting_goes
 
@@ -269,11 +270,11 @@ looking_goes : is_some (after_all from_the_look (Some looking_asked)) ≡ true
 unfolding looking_computed
 looking_goes = refl
 
-asked_run : Leads (state_told looking_first) up_to_the_look (state_told looking_asked)
+asked_run : Leads next (state_told looking_first) up_to_the_look (state_told looking_asked)
 unfolding looking_asked
 asked_run = turned_leads up_to_the_look looking_first asked_goes
 
-looking_run : Leads (state_told looking_asked) from_the_look (state_told looking_last)
+looking_run : Leads next (state_told looking_asked) from_the_look (state_told looking_last)
 unfolding looking_last
 looking_run = turned_leads from_the_look looking_asked looking_goes
 

@@ -12,14 +12,15 @@ use Rattle.machine_examples.proofs.Places.{seats_told}
 use Rattle.machine_rules.specs.Actors.{Actors, seat_at}
 use Rattle.machine_examples.specs.Examples.{usual}
 use Rattle.machine_rules.specs.Left.{IsLeft}
-use Rattle.machine_rules.specs.Run.{Leads}
+use Rattle.event_rule.specs.Runs.{Leads}
+use Rattle.machine_rules.specs.Next.{next}
 use Rattle.machine_examples.specs.SmallExamples.{AReapGivesBackByOwners, AnUnblockCancelsItsOwn, MintsAreForTheLowestFirst, TheFirstLeavesAtOnce, both_go, by_five, gives_an_object, giving_book, makes_one, starts_nothing, tells_of_two, up_to_no_token, up_to_one_mint, up_to_the_unblock}
 
 -- the page after these events, or else the one before them
 abbrev pub turned : List Event → Page → Page
 turned book b = page_or b (after_all book (Some b))
 
-pub turned_leads : (book : List Event) (b : Page) → is_some (after_all book (Some b)) ≡ true → Leads (state_told b) book (state_told (turned book b))
+pub turned_leads : (book : List Event) (b : Page) → is_some (after_all book (Some b)) ≡ true → Leads next (state_told b) book (state_told (turned book b))
 turned_leads book b goes = after_all-leads book b (turned book b) (page_there b _ goes)
 
 -- where all actors are gone nothing is left
@@ -42,7 +43,7 @@ nothing_goes : is_some (after_all (Leave 0 ∷ []) (Some nothing_first)) ≡ tru
 unfolding nothing_computed
 nothing_goes = refl
 
-nothing_run : Leads (state_told nothing_first) (Leave 0 ∷ []) (state_told nothing_last)
+nothing_run : Leads next (state_told nothing_first) (Leave 0 ∷ []) (state_told nothing_last)
 unfolding nothing_last
 nothing_run = turned_leads (Leave 0 ∷ []) nothing_first nothing_goes
 
@@ -90,15 +91,15 @@ last_goes : is_some (after_all both_go (Some one_heard)) ≡ true
 unfolding one_computed
 last_goes = refl
 
-scanned_run : Leads (state_told one_first) up_to_no_token (state_told one_scanned)
+scanned_run : Leads next (state_told one_first) up_to_no_token (state_told one_scanned)
 unfolding one_scanned
 scanned_run = turned_leads up_to_no_token one_first scanned_goes
 
-heard_run : Leads (state_told one_scanned) up_to_the_unblock (state_told one_heard)
+heard_run : Leads next (state_told one_scanned) up_to_the_unblock (state_told one_heard)
 unfolding one_heard
 heard_run = turned_leads up_to_the_unblock one_scanned heard_goes
 
-last_run : Leads (state_told one_heard) both_go (state_told one_last)
+last_run : Leads next (state_told one_heard) both_go (state_told one_last)
 unfolding one_last
 last_run = turned_leads both_go one_heard last_goes
 
@@ -156,15 +157,15 @@ collect_goes : is_some (after_all (Take 1 ∷ Collect 1 ∷ Go 3 ∷ []) (Some t
 unfolding two_computed
 collect_goes = refl
 
-once_run : Leads (state_told two_first) up_to_one_mint (state_told two_once)
+once_run : Leads next (state_told two_first) up_to_one_mint (state_told two_once)
 unfolding two_once
 once_run = turned_leads up_to_one_mint two_first once_goes
 
-twice_run : Leads (state_told two_once) (Go 3 ∷ []) (state_told two_twice)
+twice_run : Leads next (state_told two_once) (Go 3 ∷ []) (state_told two_twice)
 unfolding two_twice
 twice_run = turned_leads (Go 3 ∷ []) two_once twice_goes
 
-collect_run : Leads (state_told two_twice) (Take 1 ∷ Collect 1 ∷ Go 3 ∷ []) (state_told two_last)
+collect_run : Leads next (state_told two_twice) (Take 1 ∷ Collect 1 ∷ Go 3 ∷ []) (state_told two_last)
 unfolding two_last
 collect_run = turned_leads (Take 1 ∷ Collect 1 ∷ Go 3 ∷ []) two_twice collect_goes
 
@@ -198,7 +199,7 @@ giving_goes : is_some (after_all giving_book (Some giving_first)) ≡ true
 unfolding giving_computed
 giving_goes = refl
 
-giving_run : Leads (state_told giving_first) giving_book (state_told giving_last)
+giving_run : Leads next (state_told giving_first) giving_book (state_told giving_last)
 unfolding giving_last
 giving_run = turned_leads giving_book giving_first giving_goes
 

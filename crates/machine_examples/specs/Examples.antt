@@ -9,9 +9,10 @@ use Rattle.behaviour_code.specs.declared.instr.Instr.TheVariants as I
 use Rattle.event_rule.specs.declared.event.Event.{Event}
 use Rattle.event_rule.specs.declared.event.Event.TheVariants.{Take, Go, Collect, Block, Hear, Scan, Reap}
 use Rattle.machine_rules.specs.Left.{IsLeft}
-use Rattle.machine_rules.specs.Next.{IsQuiet}
+use Rattle.event_rule.specs.Runs.{IsQuiet, Leads}
+use Rattle.machine_rules.specs.Next.{next}
 use Rattle.machine_rules.specs.Options.{Options, Deep}
-use Rattle.machine_rules.specs.Run.{IsRun, Leads}
+use Rattle.machine_rules.specs.Run.{IsRun}
 use Rattle.machine_rules.specs.State.{State}
 
 -- ---- the usual options
@@ -74,12 +75,12 @@ pub record TwoHoldEachOtherAndGo : Type 0 where
   pub opened : ping.detector.opened ≡ 1
   pub cancelled : ping.detector.tokens ≡ []
   pub last : State
-  pub to_the_end : Leads ping two_to_the_end last
+  pub to_the_end : Leads next ping two_to_the_end last
   pub run : IsRun two_hold_each_other usual (two_up_to_the_ping ++ two_to_the_end) last
   pub prints : last.prints ≡ Num 1 ∷ []
   pub made : length last.actors ≡ 3
   pub nothing_left : (x : Thing) → IsLeft last.actors x → ⊥
-  pub quiet : IsQuiet last
+  pub quiet : IsQuiet next last
 
 -- ---- an object is passed on
 
@@ -130,4 +131,4 @@ pub record AnObjectIsPassedOnAndGoes : Type 0 where
   pub made : length last.actors ≡ 3
   pub objects : last.objects ≡ 1
   pub left : (x : Thing) → IsLeft last.actors x ↔ x ≡ Actor 0
-  pub quiet : IsQuiet last
+  pub quiet : IsQuiet next last

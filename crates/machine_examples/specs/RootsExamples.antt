@@ -15,9 +15,10 @@ use Rattle.machine_rules.specs.Balance.{decs_at, held_sum, incs_at, load_sum, ow
 use Rattle.machine_rules.specs.Cell.{Cell}
 use Rattle.machine_examples.specs.Examples.{usual}
 use Rattle.machine_rules.specs.Left.{IsLeft}
-use Rattle.machine_rules.specs.Next.{IsQuiet}
+use Rattle.event_rule.specs.Runs.{IsQuiet, Leads}
+use Rattle.machine_rules.specs.Next.{next}
 use Rattle.machine_rules.specs.Options.{Options, Roots}
-use Rattle.machine_rules.specs.Run.{IsRun, Leads}
+use Rattle.machine_rules.specs.Run.{IsRun}
 use Rattle.machine_rules.specs.State.{State}
 
 abbrev pub by_roots : Options
@@ -96,7 +97,7 @@ pub record AHeldObjectStays : Type 0 where
       ((Actor 1, None) ∷ (the_object, Some (values.Actor 2 ∷ [])) ∷ (Actor 2, None) ∷ [])
       ∷ []
   pub last : State
-  pub to_the_end : Leads sent from_the_object last
+  pub to_the_end : Leads next sent from_the_object last
   pub prints : last.prints ≡ []
   pub made : length last.actors ≡ 3
   pub objects : last.objects ≡ 1
@@ -104,11 +105,11 @@ pub record AHeldObjectStays : Type 0 where
   pub object : tally_of last.actors the_object ≡ record { count = 1; incs = 0; decs = 0; held = 1; letters = 0 }
   pub holder : tally_of last.actors (Actor 2) ≡ record { count = 1; incs = 0; decs = 0; held = 1; letters = 0 }
   pub left : (x : Thing) → IsLeft last.actors x ↔ (x ≡ Actor 1) ⊎ ((x ≡ Actor 2) ⊎ (x ≡ the_object))
-  pub quiet : IsQuiet last
+  pub quiet : IsQuiet next last
   pub deep : State
   pub deep_run : IsRun is_held_by_its_own usual holding_deep deep
   pub deep_left : (x : Thing) → IsLeft deep.actors x ↔ x ≡ Actor 1
-  pub deep_quiet : IsQuiet deep
+  pub deep_quiet : IsQuiet next deep
 
 -- ---- an object is got from another
 
@@ -144,7 +145,7 @@ pub record AGotObjectIsMinted : Type 0 where
   pub taken : State
   pub to_the_turn : IsRun gets_an_object by_roots up_to_the_turn taken
   pub minted : State
-  pub to_the_mint : Leads taken (Go 1 ∷ []) minted
+  pub to_the_mint : Leads next taken (Go 1 ∷ []) minted
   pub frame : frame_at minted.actors 1 ≡ frame_at taken.actors 1
   pub letter : mail_at minted.actors 0 ≡ Inc ((first_object, 256) ∷ []) ∷ []
   pub prints_none : minted.prints ≡ []
@@ -153,12 +154,12 @@ pub record AGotObjectIsMinted : Type 0 where
   pub outer : tally_of minted.actors second_object ≡ record { count = 1; incs = 0; decs = 0; held = 1; letters = 0 }
   pub other : tally_of minted.actors (Actor 1) ≡ record { count = 256; incs = 0; decs = 0; held = 256; letters = 0 }
   pub last : State
-  pub to_the_end : Leads minted from_the_mint last
+  pub to_the_end : Leads next minted from_the_mint last
   pub prints : last.prints ≡ values.Num 4 ∷ []
   pub made : length last.actors ≡ 2
   pub objects : last.objects ≡ 2
   pub left : (x : Thing) → IsLeft last.actors x ↔ x ≡ Actor 0
-  pub quiet : IsQuiet last
+  pub quiet : IsQuiet next last
 
 -- ---- a row that a letter brought stays
 
@@ -218,9 +219,9 @@ pub record ABroughtRowStays : Type 0 where
   pub inner : tally_of asked.actors the_object ≡ record { count = 1; incs = 5; decs = 0; held = 6; letters = 0 }
   pub looker : tally_of asked.actors (Actor 2) ≡ record { count = 10; incs = 0; decs = 0; held = 10; letters = 0 }
   pub last : State
-  pub to_the_end : Leads asked from_the_look last
+  pub to_the_end : Leads next asked from_the_look last
   pub prints : last.prints ≡ values.Num 7 ∷ []
   pub made : length last.actors ≡ 3
   pub objects : last.objects ≡ 2
   pub left : (x : Thing) → IsLeft last.actors x ↔ x ≡ Actor 0
-  pub quiet : IsQuiet last
+  pub quiet : IsQuiet next last

@@ -12,9 +12,10 @@ use Rattle.letter_kinds.specs.declared.letter.Letter.TheVariants.{Dec, Inc}
 use Rattle.machine_rules.specs.Actors.{mail_at}
 use Rattle.machine_examples.specs.Examples.{usual}
 use Rattle.machine_rules.specs.Left.{IsLeft}
-use Rattle.machine_rules.specs.Next.{IsQuiet}
+use Rattle.event_rule.specs.Runs.{IsQuiet, Leads}
+use Rattle.machine_rules.specs.Next.{next}
 use Rattle.machine_rules.specs.Options.{Options, Deep}
-use Rattle.machine_rules.specs.Run.{IsRun, Leads}
+use Rattle.machine_rules.specs.Run.{IsRun}
 use Rattle.machine_rules.specs.State.{State}
 
 -- ---- an increment of five
@@ -33,7 +34,7 @@ pub record TheFirstLeavesAtOnce : Type 0 where
   pub last : State
   pub run : IsRun starts_nothing usual (Leave 0 ∷ []) last
   pub nothing_left : (x : Thing) → IsLeft last.actors x → ⊥
-  pub quiet : IsQuiet last
+  pub quiet : IsQuiet next last
 
 -- ---- a fresh actor begins clean; a scan may find nothing; an Unblock cancels its own tokens alone
 
@@ -68,13 +69,13 @@ pub record AnUnblockCancelsItsOwn : Type 0 where
   pub opened : scanned.detector.opened ≡ 0
   pub none : scanned.detector.tokens ≡ []
   pub heard : State
-  pub to_the_unblock : Leads scanned up_to_the_unblock heard
+  pub to_the_unblock : Leads next scanned up_to_the_unblock heard
   pub withdrawn : heard.detector.kept ≡ report_told 0 0 [] ∷ []
   pub token : heard.detector.tokens ≡ record { number = 1; members = 0 ∷ []; acked = [] } ∷ []
   pub last : State
-  pub to_the_end : Leads heard both_go last
+  pub to_the_end : Leads next heard both_go last
   pub nothing_left : (x : Thing) → IsLeft last.actors x → ⊥
-  pub quiet : IsQuiet last
+  pub quiet : IsQuiet next last
 
 -- ---- a mint is for the lowest owner first; an increment makes its taker dirty
 
@@ -107,10 +108,10 @@ pub record MintsAreForTheLowestFirst : Type 0 where
   pub lower : mail_at once.actors 1 ≡ Inc ((Actor 1, 5) ∷ []) ∷ []
   pub not_yet : mail_at once.actors 2 ≡ []
   pub twice : State
-  pub to_the_other : Leads once (Go 3 ∷ []) twice
+  pub to_the_other : Leads next once (Go 3 ∷ []) twice
   pub other : mail_at twice.actors 2 ≡ Inc ((Actor 2, 5) ∷ []) ∷ []
   pub last : State
-  pub to_a_collect : Leads twice (Take 1 ∷ Collect 1 ∷ Go 3 ∷ []) last
+  pub to_a_collect : Leads next twice (Take 1 ∷ Collect 1 ∷ Go 3 ∷ []) last
 
 -- ---- a reap gives back by owners
 

@@ -20,7 +20,8 @@ use Rattle.count_laws.specs.Agreement.{people_of}
 use Rattle.machine_rules.specs.Cell.{Cell}
 use Rattle.machine_rules.specs.Left.{IsLeft}
 use Rattle.count_laws.specs.LeftByRoots.{IsReachedOrHeld}
-use Rattle.machine_rules.specs.Next.{IsQuiet}
+use Rattle.event_rule.specs.Runs.{IsQuiet}
+use Rattle.machine_rules.specs.Next.{next}
 use Rattle.plain_rules.specs.Reach.{IsReachable}
 use Rattle.plain_rules.specs.Machine.{PlainState, plain_row}
 use Rattle.machine_rules.specs.Options.{Deep, Trace}
@@ -57,11 +58,11 @@ module _ (s : State) where
   reached_needed (view.root {a = a} {c = c} here pin) = by_pin a c (seat_at s.actors a) refl here pin
   reached_needed (view.edge {b = b} {a = a} path holds) = by_hold b a (seat_at s.actors b) refl (reached_needed path) holds
 
-  all_needed : (trace : Trace) (p : PlainState) → AllFacts trace p s → IsQuiet s → AllNeeded s.actors
+  all_needed : (trace : Trace) (p : PlainState) → AllFacts trace p s → IsQuiet next s → AllNeeded s.actors
   all_needed trace p facts quiet a c mail at =
       reached_needed (quiet_reached trace s (thing_row (plain_row p.actors)) (people_of p.actors) facts.beside.counts facts.own facts.detector quiet a c (ap cell_of at))
 
-pub quiet_exact : (p : PlainState) (s : State) → AllFacts Deep p s → IsQuiet s → (x : Thing) → IsLeft s.actors x ↔ IsReachable p x
+pub quiet_exact : (p : PlainState) (s : State) → AllFacts Deep p s → IsQuiet next s → (x : Thing) → IsLeft s.actors x ↔ IsReachable p x
 quiet_exact p s facts quiet = left_is_exact p s facts.beside (facts.clean refl) (quiet_rest s quiet) (all_needed s Deep p facts quiet)
 
 pub exactly_at_quiet : ExactlyAtQuiet
@@ -80,7 +81,7 @@ traced_by_roots program options heavy roots book t run =
       backed = λ a c mail at x k o h. prefix_backed (thing_row (plain_row facts.0.actors)) t.actors (in_hand t.actors counts.balanced) counts.sound counts.bare x a c mail at o k h;
     }
 
-pub quiet_exact_by_roots : (p : PlainState) (s : State) → AllFacts trace.Roots p s → IsQuiet s → (x : Thing) → IsLeft s.actors x ↔ IsReachedOrHeld p s.actors x
+pub quiet_exact_by_roots : (p : PlainState) (s : State) → AllFacts trace.Roots p s → IsQuiet next s → (x : Thing) → IsLeft s.actors x ↔ IsReachedOrHeld p s.actors x
 quiet_exact_by_roots p s facts quiet = exact_by_roots p s.actors facts.beside.counts (facts.marked refl) (quiet_rest s quiet) (all_needed s trace.Roots p facts quiet)
 
 pub quiet_by_roots : ExactlyAtQuietByRoots
@@ -93,7 +94,7 @@ none_open : (tokens : List Token) → ((t : Token) → In t tokens → ⊥) → 
 none_open [] none = refl
 none_open (t ∷ tokens) none = absurd (none t (inl refl))
 
-module _ (trace : Trace) (s : State) (p : PlainState) (facts : AllFacts trace p s) (quiet : IsQuiet s) where
+module _ (trace : Trace) (s : State) (p : PlainState) (facts : AllFacts trace p s) (quiet : IsQuiet next s) where
   rests : view.IsQuiet (world s)
   rests = quiet_world s quiet facts.detector
 

@@ -5,16 +5,17 @@ use Rattle.std.proofs.lemmas.List.{get_or_past}
 use Rattle.event_rule.specs.declared.event.Event.{Event}
 use Rattle.event_rule.specs.declared.event.Event.TheVariants.{Take, Go, Collect, Leave, Block, Hear, Scan, Reap}
 use Rattle.letter_kinds.specs.Detector.{Token, token_numbered}
-use Rattle.machine_rules.proofs.Steps.{not_enabled}
+use Rattle.event_rule.proofs.Steps.{not_enabled}
 use Rattle.machine_rules.specs.Actors.{seat_at}
 use Rattle.machine_rules.specs.Block.{block_at}
 use Rattle.machine_rules.specs.Collect.{collect_at}
 use Rattle.machine_rules.specs.Detect.{reap_found}
 use Rattle.machine_rules.specs.Go.{go_at}
 use Rattle.machine_rules.specs.Leave.{leave_at}
+use Rattle.event_rule.specs.Runs.{Step, NotEnabled, IsFull, Goes}
 use Rattle.machine_rules.specs.Next.{next}
 use Rattle.machine_rules.specs.Run.{is_choice}
-use Rattle.machine_rules.specs.State.{State, Step, NotEnabled, IsFull, Goes}
+use Rattle.machine_rules.specs.State.{State}
 use Rattle.machine_rules.specs.Take.{take_at}
 use Rattle.detector_laws.proofs.Named.{numbered_is_open}
 use Rattle.detector_laws.specs.Members.{In}
@@ -32,7 +33,7 @@ module _ (s : State) where
   calm_or_not : (e : Event) → SomeCalm ⊎ (IsCalm s e → ⊥)
   calm_or_not e = by_step (next s e) (is_choice s e) refl refl
     where
-      by_step : (step : Step) (choice : Bool) → next s e ≡ step → is_choice s e ≡ choice → SomeCalm ⊎ (IsCalm s e → ⊥)
+      by_step : (step : Step State) (choice : Bool) → next s e ≡ step → is_choice s e ≡ choice → SomeCalm ⊎ (IsCalm s e → ⊥)
       by_step (Goes t) false goes calm = inl (e, (t, goes, calm))
       by_step (Goes t) true goes chosen = inr (λ k. false≢true (sym k.2 ∙ chosen))
       by_step NotEnabled choice off is = inr (λ k. not_enabled k.0 (sym off ∙ k.1))

@@ -2,9 +2,10 @@
 use Rattle.std.proofs.Common.{◌≡◌, ◌+◌, ◌≤◌, ◌<◌, Bool, true, false, if◌then◌else◌, List, [], ◌∷◌, length, refl, ap, sym, subst, ◌∙◌, arith}
 use Rattle.event_rule.specs.declared.event.Event.{Event}
 use Rattle.count_laws.specs.Agreement.{people_of}
+use Rattle.event_rule.specs.Runs.{Leads}
 use Rattle.machine_rules.specs.Next.{next}
 use Rattle.plain_rules.specs.Machine.{PlainState}
-use Rattle.machine_rules.specs.Run.{Leads, PlainFollows, choices, choices_after, is_choice}
+use Rattle.machine_rules.specs.Run.{PlainFollows, choices, choices_after, is_choice}
 use Rattle.machine_rules.specs.Options.{Trace}
 use Rattle.machine_rules.specs.State.{State}
 use Rattle.machine_laws.proofs.LeavesLess.{leaves_less, work_of}
@@ -26,7 +27,7 @@ no_choice : (choice : Bool) (e : Event) (later : List Event) → (if choice then
 no_choice true e later none = cc
 no_choice false e later none = (refl, none)
 
-rests : (trace : Trace) (later : List Event) (p : PlainState) (s t : State) → AllFacts trace p s → Leads s later t → choices later s ≡ [] → length later + work_left t ≤ work_left s
+rests : (trace : Trace) (later : List Event) (p : PlainState) (s t : State) → AllFacts trace p s → Leads next s later t → choices later s ≡ [] → length later + work_left t ≤ work_left s
 rests trace [] p s t facts same none = omega (arith, ap work_left same)
 rests trace (e ∷ later) p s t facts (u, goes, leads) none =
     let calm = no_choice (is_choice s e) e (choices_after (choices later) (next s e)) none in

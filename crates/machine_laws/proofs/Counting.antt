@@ -23,8 +23,9 @@ use Rattle.count_laws.specs.Bounds.{counted}
 use Rattle.machine_rules.specs.Cell.{Cell}
 use Rattle.count_laws.specs.Letters.{LettersNameTheirOwn}
 use Rattle.machine_rules.specs.Options.{Options, Trace}
+use Rattle.event_rule.specs.Runs.{Leads}
+use Rattle.machine_rules.specs.Next.{next}
 use Rattle.plain_rules.specs.Machine.{PlainState, start_of}
-use Rattle.machine_rules.specs.Run.{Leads}
 use Rattle.machine_rules.specs.State.{State, first_state}
 use Rattle.detector_laws.proofs.Members.{In_each}
 use Rattle.detector_laws.proofs.Order.{In_report_of}
@@ -96,7 +97,7 @@ cells_count s bound each a c mail at = (
 
 -- with each event what is counted, and so what is told, rises by the weight at most
 leads_tell : (trace : Trace) (book : List Event) (p : PlainState) (s t : State) (bound : ℕ) → AllFacts trace p s → LettersNameTheirOwn s.actors → ((x : Thing) → counted x s.actors ≤ bound) → OfTold (λ n. n ≤ bound) s
-    → Leads s book t → OfTold (λ n. n ≤ bound + length book * s.options.weight) t
+    → Leads next s book t → OfTold (λ n. n ≤ bound + length book * s.options.weight) t
 leads_tell trace [] p s t bound facts own most told same = subst (OfTold (λ n. n ≤ bound + 0 * s.options.weight)) same (told_weaker (λ n. n ≤ bound) (λ n. n ≤ bound + 0 * s.options.weight) s (λ n h. omega arith) told)
 leads_tell trace (e ∷ book) p s t bound facts own most told (u, goes, leads) =
     let w = s.options.weight in

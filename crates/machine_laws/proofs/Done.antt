@@ -12,8 +12,9 @@ use Rattle.count_laws.specs.Apart.{HasNoEvent}
 use Rattle.event_rule.specs.Events.{actor_of}
 use Rattle.machine_rules.specs.Cell.{Cell}
 use Rattle.machine_rules.specs.Enabled.{CanHappen}
+use Rattle.event_rule.specs.Runs.{Step, NotEnabled, IsFull, Goes}
 use Rattle.machine_rules.specs.Next.{next}
-use Rattle.machine_rules.specs.State.{State, Step, NotEnabled, IsFull, Goes}
+use Rattle.machine_rules.specs.State.{State}
 use Rattle.detector_laws.proofs.Acked.{acked_bare, acked_sealed}
 use Rattle.detector_laws.proofs.Cells.{same_some, some_not_none}
 use Rattle.detector_laws.proofs.Named.{numbered_is_open}
@@ -26,7 +27,7 @@ use Rattle.machine_laws.specs.Reaps.{IsDone, ReapsTakeTheDone, RunsReapTheDone}
 off : (s : State) (e : Event) → (CanHappen s e → ⊥) → next s e ≡ NotEnabled
 off s e never = by_step (next s e) (λ on. never ((enabled_exactly s e).0 on))
   where
-    by_step : (step : Step) → (step ≢ NotEnabled → ⊥) → step ≡ NotEnabled
+    by_step : (step : Step State) → (step ≢ NotEnabled → ⊥) → step ≡ NotEnabled
     by_step NotEnabled h = refl
     by_step IsFull h = absurd (h (λ e. cc))
     by_step (Goes t) h = absurd (h (λ e. cc))

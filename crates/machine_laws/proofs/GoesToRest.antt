@@ -8,14 +8,14 @@ use Rattle.machine_rules.proofs.Enabling.{full}
 use Rattle.count_laws.proofs.agreement.FollowingGo.{plain_went}
 use Rattle.machine_rules.specs.Enabled.{IsRefusedAsFull}
 use Rattle.machine_rules.specs.Go.{needed, turn_of_cell}
-use Rattle.machine_rules.specs.Next.{IsQuiet, next}
+use Rattle.event_rule.specs.Runs.{IsQuiet, Leads, Step, NotEnabled, IsFull, Goes}
+use Rattle.plain_rules.specs.Run.{plain_next}
+use Rattle.machine_rules.specs.Next.{next}
 use Rattle.machine_rules.specs.Options.{Deep, Trace}
 use Rattle.machine_rules.specs.Options as trace
 use Rattle.plain_rules.specs.Machine.{PlainState, after_act, stopped_at}
-use Rattle.plain_rules.specs.Machine as plain
-use Rattle.plain_rules.specs.Run.{IsPlainQuiet, outcome_of}
-use Rattle.machine_rules.specs.Run.{Leads, PlainFollows, act_is_choice, choices, choices_after, go_is_choice, go_is_choice_at, is_choice}
-use Rattle.machine_rules.specs.State.{State, Step, NotEnabled, IsFull, Goes}
+use Rattle.machine_rules.specs.Run.{PlainFollows, act_is_choice, choices, choices_after, go_is_choice, go_is_choice_at, is_choice}
+use Rattle.machine_rules.specs.State.{State}
 use Rattle.machine_laws.proofs.AtQuiet.{quiet_exact, quiet_exact_by_roots}
 use Rattle.machine_laws.proofs.Calm.{IsCalm, some_or_none}
 use Rattle.machine_laws.proofs.ComesToRest.{event_leaves_less}
@@ -32,7 +32,7 @@ no_choices e later s t calm goes none =
 
 -- at the end no event is calm
 abbrev GoesOn : State → Type 0
-GoesOn s = (later : List Event) × (t : State) × Leads s later t × (choices later s ≡ []) × ((e : Event) → IsCalm t e → ⊥)
+GoesOn s = (later : List Event) × (t : State) × Leads next s later t × (choices later s ≡ []) × ((e : Event) → IsCalm t e → ⊥)
 
 goes_on : (trace : Trace) (work : ℕ) (p : PlainState) (s : State) → AllFacts trace p s → work_left s ≤ work → GoesOn s
 goes_on trace zero p s facts enough = ⊎_elim
@@ -60,7 +60,7 @@ full_is_choice s e r =
 waits : (s : State) → ((e : Event) → IsCalm s e → ⊥) → AwaitsChoices s
 waits s none e enabled = by_step (next s e) refl
   where
-    by_step : (step : Step) → next s e ≡ step → is_choice s e ≡ true
+    by_step : (step : Step State) → next s e ≡ step → is_choice s e ≡ true
     by_step NotEnabled off = absurd (enabled off)
     by_step (Goes t) goes = ⊎_elim (λ chosen. chosen) (λ calm. absurd (none e (t, goes, calm))) (cases_Bool (is_choice s e))
     by_step IsFull is = full_is_choice s e (full s e is)
@@ -68,28 +68,28 @@ waits s none e enabled = by_step (next s e) refl
 -- ---- where the plain machine is quiet
 
 -- it could go too, where a go is refused as full
-plain_refused : (trace : Trace) (p : PlainState) (s : State) (e : Event) → AllFacts trace p s → IsRefusedAsFull s e → outcome_of p e ≡ plain.NotEnabled → ⊥
+plain_refused : (trace : Trace) (p : PlainState) (s : State) (e : Event) → AllFacts trace p s → IsRefusedAsFull s e → plain_next p e ≡ NotEnabled → ⊥
 plain_refused trace p s e facts r off =
     let stop = turn_of_cell trace s.program r.actor r.cell r.frame in
     let went = plain_went trace p s facts.beside r.actor r.cell r.mail r.present r.frame r.framed (sym (ap (λ q. needed q s.program r.actor r.cell r.frame) facts.beside.mode) ∙ r.held) in
     let act = ap (after_act p r.actor (stopped_at r.frame stop) stop.turn.fields stop.turn.made) (sym (ap (λ q. (turn_of_cell q s.program r.actor r.cell r.frame).act) facts.beside.mode) ∙ r.makes) in
-    not_off _ (nat_lt (length p.actors) 65536) (sym (went ∙ act) ∙ (ap (outcome_of p) (sym r.is_go) ∙ off))
+    not_off _ (nat_lt (length p.actors) 65536) (sym (went ∙ act) ∙ (ap (plain_next p) (sym r.is_go) ∙ off))
   where
-    not_off : (u : PlainState) (room : Bool) → (if room then plain.Goes u else plain.IsFull) ≡ plain.NotEnabled → ⊥
+    not_off : (u : PlainState) (room : Bool) → (if room then Goes u else IsFull) ≡ NotEnabled → ⊥
     not_off u true e = cc
     not_off u false e = cc
 
-quiet_too : (trace : Trace) (p : PlainState) (s : State) → AllFacts trace p s → AwaitsChoices s → IsPlainQuiet p → IsQuiet s
+quiet_too : (trace : Trace) (p : PlainState) (s : State) → AllFacts trace p s → AwaitsChoices s → IsQuiet plain_next p → IsQuiet next s
 quiet_too trace p s facts awaits quiet e = by_step (next s e) refl
   where
-    by_step : (step : Step) → next s e ≡ step → next s e ≡ NotEnabled
+    by_step : (step : Step State) → next s e ≡ step → next s e ≡ NotEnabled
     by_step NotEnabled off = off
     by_step IsFull is = absurd (plain_refused trace p s e facts (full s e is) (quiet e))
     by_step (Goes t) goes =
         let chosen = awaits e (λ off. let same : NotEnabled ≡ Goes t = sym off ∙ goes in cc) in
         let after = event_keeps trace p s t e facts goes in
-        let follows : outcome_of p e ≡ plain.Goes after.0 = subst (λ choice. PlainFollows choice p e after.0) chosen after.1 in
-        let same : plain.NotEnabled ≡ plain.Goes after.0 = sym (quiet e) ∙ follows in cc
+        let follows : plain_next p e ≡ Goes after.0 = subst (λ choice. PlainFollows choice p e after.0) chosen after.1 in
+        let same : NotEnabled ≡ Goes after.0 = sym (quiet e) ∙ follows in cc
 
 -- ---- the laws
 

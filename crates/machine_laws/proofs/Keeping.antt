@@ -9,7 +9,7 @@ use Rattle.letter_kinds.specs.Detector.{Token, all_acked, closed_set, token_numb
 use Rattle.letter_kinds.specs.Holdings.{Row}
 use Rattle.letter_kinds.specs.declared.letter.Letter.{Letter}
 use Rattle.letter_kinds.specs.declared.note.Note.{Note}
-use Rattle.machine_rules.proofs.Steps.{goes_to, not_enabled}
+use Rattle.event_rule.proofs.Steps.{goes_to, not_enabled}
 use Rattle.machine_rules.specs.Options.{Trace}
 use Rattle.machine_rules.specs.Actors.{Seat, cell_at, mail_at, seat, seat_at, Every}
 use Rattle.count_laws.specs.Agreement.{Person, people_of}
@@ -19,9 +19,10 @@ use Rattle.machine_rules.specs.Cell.{Cell}
 use Rattle.count_laws.specs.Clean.{HoldsNoOwnAt}
 use Rattle.machine_rules.specs.Detect.{hear_in, reap_found, reap_in, scan_in}
 use Rattle.count_laws.specs.Facts.{Facts}
+use Rattle.event_rule.specs.Runs.{Goes}
 use Rattle.machine_rules.specs.Next.{next}
 use Rattle.plain_rules.specs.Machine.{PlainState, plain_row}
-use Rattle.machine_rules.specs.State.{State, Goes}
+use Rattle.machine_rules.specs.State.{State}
 use Rattle.detector_laws.proofs.Named.{numbered_is_open}
 use Rattle.detector_laws.proofs.Reap.{reaped_sealed}
 use Rattle.detector_laws.proofs.Steps.{step_keeps}

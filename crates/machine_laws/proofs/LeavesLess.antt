@@ -28,7 +28,7 @@ use Rattle.machine_rules.proofs.Enabling.{may_go, may_report}
 use Rattle.count_laws.proofs.balance.InHand.{AllCounted}
 use Rattle.count_laws.proofs.knowledge.Lacking.{counted_mint, to_mint_theirs}
 use Rattle.machine_rules.proofs.Present.{present_below}
-use Rattle.machine_rules.proofs.Steps.{goes_to, not_enabled}
+use Rattle.event_rule.proofs.Steps.{goes_to, not_enabled}
 use Rattle.count_laws.proofs.events.Take.{alike_lower, alike_raise}
 use Rattle.machine_rules.specs.Actors.{Actors, Seat, seat, seat_at}
 use Rattle.machine_rules.specs.Block.{block_at, block_in, held_actors, may_block}
@@ -38,11 +38,12 @@ use Rattle.machine_rules.specs.Detect.{ask_all, hear_in, reap_found, reap_in, re
 use Rattle.machine_rules.specs.Go.{act_in, go_at, go_in, lacking_from, load_from, mint, needed, needing, post_or_mint, rows_from, to_need, turn_of_cell, turned}
 use Rattle.plain_list.specs.Lists.{is_empty}
 use Rattle.machine_rules.specs.Leave.{leave_at, leave_in, may_leave}
+use Rattle.event_rule.specs.Runs.{Goes}
 use Rattle.machine_rules.specs.Next.{next}
 use Rattle.machine_rules.specs.Options.{Trace, Deep, Roots}
 use Rattle.plain_rules.specs.Machine.{stopped_at}
 use Rattle.machine_rules.specs.Run.{act_is_choice, go_is_choice, go_is_choice_at, is_choice, take_is_choice_at}
-use Rattle.machine_rules.specs.State.{State, Goes}
+use Rattle.machine_rules.specs.State.{State}
 use Rattle.machine_rules.specs.Take.{cell_after, note_of, notes_after, take_at, take_in}
 use Rattle.detector_laws.proofs.Named.{numbered_is_open}
 use Rattle.detector_laws.specs.Members.{In}

@@ -19,7 +19,8 @@ use Rattle.machine_rules.specs.Balance.{loads_at}
 use Rattle.machine_rules.specs.Cell.{Cell}
 use Rattle.count_laws.specs.Clean.{HoldsNoOwnAt}
 use Rattle.count_laws.specs.Facts.{KeepsCounts}
-use Rattle.machine_rules.specs.Next.{IsAtRest, IsQuiet}
+use Rattle.event_rule.specs.Runs.{IsQuiet}
+use Rattle.machine_rules.specs.Next.{IsAtRest, next}
 use Rattle.machine_rules.specs.State.{State}
 use Rattle.detector_laws.proofs.Cells.{some_not_none}
 use Rattle.detector_laws.proofs.Named.{numbered_is_open}
@@ -30,7 +31,7 @@ use Rattle.detector_laws.specs.World.{FactsHold}
 use Rattle.machine_laws.proofs.Balancing.{balanced}
 use Rattle.machine_laws.proofs.Seen.{world}
 
-module _ (s : State) (quiet : IsQuiet s) where
+module _ (s : State) (quiet : IsQuiet next s) where
   in_world : (a : ℕ) (P : Cell → List Letter → Type 0) → ((c : Cell) (mail : List Letter) → seat_at s.actors a ≡ seat c mail → P c mail) → (c : Cell) → cell_at s.actors a ≡ Some c → P c (mail_at s.actors a)
   in_world a P each c here = at_seat (seat_at s.actors a) refl here
     where
@@ -58,7 +59,7 @@ find_some : (ts : List Token) (t : Token) → In t ts → Found t ts
 find_some [] t i = absurd i
 find_some (v ∷ ts) t i = find_first v t ts (find_some ts t) (v.number == t.number) refl i
 
-pub quiet_world : (s : State) → IsQuiet s → FactsHold (world s) → view.IsQuiet (world s)
+pub quiet_world : (s : State) → IsQuiet next s → FactsHold (world s) → view.IsQuiet (world s)
 quiet_world s quiet facts = record {
   heard = is_nil s.notes (none_can s quiet Hear);
   scanned = false_from_ne_true s.detector.news (none_can s quiet Scan);
@@ -72,7 +73,7 @@ quiet_world s quiet facts = record {
   told = λ a. in_world s quiet a (λ c mail. c.fields.pinned ≡ false → c.reported ≡ true) (quiet_told s quiet a);
 }
 
-pub quiet_reached : (trace : Trace) (s : State) (all : Thing → Option Row) (people : List Person) → KeepsCounts trace all people s.actors → Every HoldsNoOwnAt s.actors → FactsHold (world s) → IsQuiet s
+pub quiet_reached : (trace : Trace) (s : State) (all : Thing → Option Row) (people : List Person) → KeepsCounts trace all people s.actors → Every HoldsNoOwnAt s.actors → FactsHold (world s) → IsQuiet next s
     → (a : ℕ) (c : Cell) → cell_at s.actors a ≡ Some c → view.IsReached (world s) a
 quiet_reached trace s all people keeps own facts quiet =
     quiet_all_reached (world s) (quiet_world s quiet facts) facts.reports facts.tokens facts.news (balanced s.actors s.detector s.notes keeps.balanced own) facts.rising

@@ -19,34 +19,37 @@ use Rattle.count_laws.specs.Facts.{IsSound}
 use Rattle.count_laws.specs.Gone.{IsGone, HasName}
 use Rattle.machine_rules.specs.Left.{IsFreed, IsLeft, IsMade}
 use Rattle.machine_rules.specs.Options.{Trace, Deep, Roots}
+use Rattle.event_rule.specs.Runs.{Leads, Step, Goes}
+use Rattle.plain_rules.specs.Run.{plain_next}
+use Rattle.machine_rules.specs.Next.{next}
 use Rattle.plain_rules.specs.Machine.{PlainState, plain_row}
-use Rattle.machine_rules.specs.Run.{Leads, PlainLeads, choices, choices_after, is_choice}
-use Rattle.machine_rules.specs.State.{State, Step, Goes, first_state}
+use Rattle.machine_rules.specs.Run.{choices, choices_after, is_choice}
+use Rattle.machine_rules.specs.State.{State, first_state}
 use Rattle.plain_rules.specs.declared.PlainActor.{PlainActor}
 use Rattle.machine_laws.proofs.WholeRuns.{leads_on, reachable_left, run_has_facts}
 use Rattle.machine_laws.specs.AllFacts.{AllFacts}
 use Rattle.machine_laws.specs.Freed.{FreedStaysFreed}
 
-split_leads : (book later : List Event) (s t : State) → Leads s (book ++ later) t → (u : State) × Leads s book u × Leads u later t
+split_leads : (book later : List Event) (s t : State) → Leads next s (book ++ later) t → (u : State) × Leads next s book u × Leads next u later t
 split_leads [] later s t leads = (s, refl, leads)
 split_leads (e ∷ book) later s t leads = let rest = split_leads book later leads.0 t leads.2 in (rest.0, (leads.0, leads.1, rest.1), rest.2)
 
 -- ---- the plain machine beside the whole
 
-abbrev Chosen : Bool → Event → List Event → Step → List Event
+abbrev Chosen : Bool → Event → List Event → Step State → List Event
 Chosen b e book step = if b then e ∷ choices_after (choices book) step else choices_after (choices book) step
 
 chosen_on : (b : Bool) (e : Event) (book later : List Event) (u : State) (p q r : PlainState)
-    → ((p : PlainState) → PlainLeads p (choices book u) q → PlainLeads p (choices (book ++ later) u) r)
-    → PlainLeads p (Chosen b e book (Goes u)) q → PlainLeads p (Chosen b e (book ++ later) (Goes u)) r
+    → ((p : PlainState) → Leads plain_next p (choices book u) q → Leads plain_next p (choices (book ++ later) u) r)
+    → Leads plain_next p (Chosen b e book (Goes u)) q → Leads plain_next p (Chosen b e (book ++ later) (Goes u)) r
 chosen_on true e book later u p q r rest (v, goes, leads) = (v, goes, rest v leads)
 chosen_on false e book later u p q r rest leads = rest p leads
 
-beside_on : (book later : List Event) (s u : State) (q r : PlainState) → Leads s book u → PlainLeads q (choices later u) r → (p : PlainState) → PlainLeads p (choices book s) q → PlainLeads p (choices (book ++ later) s) r
+beside_on : (book later : List Event) (s u : State) (q r : PlainState) → Leads next s book u → Leads plain_next q (choices later u) r → (p : PlainState) → Leads plain_next p (choices book s) q → Leads plain_next p (choices (book ++ later) s) r
 beside_on [] later s u q r same beside p stays =
-    subst (λ (v : PlainState). PlainLeads v (choices later s) r) (sym stays) (subst (λ (w : State). PlainLeads q (choices later w) r) (sym same) beside)
+    subst (λ (v : PlainState). Leads plain_next v (choices later s) r) (sym stays) (subst (λ (w : State). Leads plain_next q (choices later w) r) (sym same) beside)
 beside_on (e ∷ book) later s u q r (v, goes, leads) beside p first =
-    subst (λ (step : Step). PlainLeads p (Chosen (is_choice s e) e book step) q → PlainLeads p (Chosen (is_choice s e) e (book ++ later) step) r) (sym goes)
+    subst (λ (step : Step State). Leads plain_next p (Chosen (is_choice s e) e book step) q → Leads plain_next p (Chosen (is_choice s e) e (book ++ later) step) r) (sym goes)
     (chosen_on (is_choice s e) e book later v p q r (beside_on book later v u q r leads beside)) first
 
 -- ---- what was made has a name

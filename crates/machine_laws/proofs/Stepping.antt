@@ -27,7 +27,7 @@ use Rattle.count_laws.proofs.agreement.FollowingGo.{load_known, target_known}
 use Rattle.count_laws.proofs.knowledge.Lacking.{first_minted, to_mint_theirs}
 use Rattle.count_laws.proofs.balance.Makes.{fresh_held}
 use Rattle.count_laws.proofs.balance.Sweeping.{same_holdings, same_reported}
-use Rattle.machine_rules.proofs.Steps.{goes_if, goes_to, not_enabled}
+use Rattle.event_rule.proofs.Steps.{goes_if, goes_to, not_enabled}
 use Rattle.machine_rules.specs.Actors.{Actors, Seat, cell_of, letters_of, seat, seat_at}
 use Rattle.count_laws.specs.Agreement.{people_of}
 use Rattle.machine_rules.specs.Block.{block_at, block_in, may_block}
@@ -37,10 +37,11 @@ use Rattle.machine_rules.specs.Detect.{hear_in, reap_found, reap_in, scan_in}
 use Rattle.count_laws.specs.Facts.{Facts, IsFirm}
 use Rattle.machine_rules.specs.Go.{act_in, go_at, go_in, load_from, make, needed, needing, post_or_mint, rows_from, turn_of_cell, turned}
 use Rattle.machine_rules.specs.Leave.{leave_at, leave_in, may_leave}
+use Rattle.event_rule.specs.Runs.{Goes}
 use Rattle.machine_rules.specs.Next.{next}
 use Rattle.machine_rules.specs.Options.{Trace}
 use Rattle.plain_rules.specs.Machine.{PlainState, plain_row, stopped_at, with_name}
-use Rattle.machine_rules.specs.State.{State, Goes}
+use Rattle.machine_rules.specs.State.{State}
 use Rattle.machine_rules.specs.Take.{take_at, take_in}
 use Rattle.detector_laws.proofs.Cells.{same_some}
 use Rattle.detector_laws.proofs.Named.{numbered_is_open}

@@ -18,9 +18,10 @@ use Rattle.machine_rules.proofs.Cases.{Cases, each_next}
 use Rattle.machine_rules.specs.Actors.{seat, seat_at}
 use Rattle.machine_rules.specs.Block.{held_actors}
 use Rattle.machine_rules.specs.Cell.{Cell}
+use Rattle.event_rule.specs.Runs.{Goes}
 use Rattle.machine_rules.specs.Next.{next}
 use Rattle.machine_rules.specs.Options.{Trace}
-use Rattle.machine_rules.specs.State.{State, Goes}
+use Rattle.machine_rules.specs.State.{State}
 use Rattle.machine_rules.specs.Take.{note_of, notes_after}
 use Rattle.machine_laws.proofs.HeldActors.{count_on-held_actors}
 use Rattle.machine_laws.specs.Bounds.{OfEachTold, OfNote, OfTold}

@@ -17,12 +17,14 @@ use Rattle.count_laws.proofs.roots.Clean.{roots_clean-first, roots_clean-next}
 use Rattle.count_laws.proofs.events.Start as starting
 use Rattle.count_laws.specs.Agreement.{people_of}
 use Rattle.machine_rules.specs.Left.{IsLeft}
+use Rattle.event_rule.specs.Runs.{Leads, Step, Goes}
+use Rattle.plain_rules.specs.Run.{plain_next}
 use Rattle.machine_rules.specs.Next.{next}
 use Rattle.machine_rules.specs.Options.{Deep, Options, Roots, Trace}
 use Rattle.plain_rules.specs.Machine.{PlainState, plain_row, start_of}
 use Rattle.plain_rules.specs.Reach.{IsReachable}
-use Rattle.machine_rules.specs.Run.{IsPlainBeside, IsRun, Leads, PlainFollows, PlainLeads, choices, choices_after, is_choice}
-use Rattle.machine_rules.specs.State.{State, Step, Goes, first_state}
+use Rattle.machine_rules.specs.Run.{IsPlainBeside, IsRun, PlainFollows, choices, choices_after, is_choice}
+use Rattle.machine_rules.specs.State.{State, first_state}
 use Rattle.machine_laws.proofs.Keeping.{block_beside, hear_beside, next_keeps, reap_beside, scan_beside}
 use Rattle.machine_laws.proofs.Starting.{start_detects}
 use Rattle.machine_laws.specs.AllFacts.{AllFacts}
@@ -67,13 +69,13 @@ event_keeps trace p s t e facts goes =
 -- ---- runs
 
 abbrev Arrives : Trace → PlainState → List Event → State → Type 0
-Arrives trace p events t = (q : PlainState) × PlainLeads p events q × AllFacts trace q t
+Arrives trace p events t = (q : PlainState) × Leads plain_next p events q × AllFacts trace q t
 
 after_event : (trace : Trace) (choice : Bool) (p q : PlainState) (e : Event) (events : List Event) (t : State) → PlainFollows choice p e q → Arrives trace q events t → Arrives trace p (if choice then e ∷ events else events) t
 after_event trace true p q e events t follows later = (later.0, (q, follows, later.1), later.2)
 after_event trace false p q e events t follows later = subst (λ r. Arrives trace r events t) (sym follows) later
 
-pub leads_on : (trace : Trace) (book : List Event) (p : PlainState) (s t : State) → AllFacts trace p s → Leads s book t → Arrives trace p (choices book s) t
+pub leads_on : (trace : Trace) (book : List Event) (p : PlainState) (s t : State) → AllFacts trace p s → Leads next s book t → Arrives trace p (choices book s) t
 leads_on trace [] p s t facts same = (p, refl, subst (AllFacts trace p) same facts)
 leads_on trace (e ∷ book) p s t facts leads =
     let u = leads.0 in
@@ -81,7 +83,7 @@ leads_on trace (e ∷ book) p s t facts leads =
     let mid = event_keeps trace p s u e facts goes in
     let rest = leads_on trace book mid.0 u t mid.2 leads.2 in
     let one = after_event trace (is_choice s e) p mid.0 e (choices book u) t mid.1 rest in
-    subst (λ (step : Step). Arrives trace p (if is_choice s e then e ∷ choices_after (choices book) step else choices_after (choices book) step) t) (sym goes) one
+    subst (λ (step : Step State). Arrives trace p (if is_choice s e then e ∷ choices_after (choices book) step else choices_after (choices book) step) t) (sym goes) one
 
 pub run_has_facts : RunsHaveAllFacts
 run_has_facts program options heavy book t run = leads_on options.trace book (start_of program) (first_state program options) t (start_all program options heavy) run
@@ -96,7 +98,7 @@ run_has_roots program options heavy roots book t run = let facts = run_has_facts
 
 -- ---- prefixes
 
-prefix_leads : (book later : List Event) (s t : State) → Leads s (book ++ later) t → (u : State) × Leads s book u
+prefix_leads : (book later : List Event) (s t : State) → Leads next s (book ++ later) t → (u : State) × Leads next s book u
 prefix_leads [] later s t leads = (s, refl)
 prefix_leads (e ∷ book) later s t leads = let rest = prefix_leads book later leads.0 t leads.2 in (rest.0, (leads.0, leads.1, rest.1))
 

@@ -13,13 +13,14 @@ use Rattle.machine_rules.specs.Cell.{Cell}
 use Rattle.machine_rules.specs.Left.{IsFreed, IsLeft}
 use Rattle.count_laws.specs.Named.{NamesNothingFreed}
 use Rattle.count_laws.specs.LeftByRoots.{IsReachedOrHeld}
-use Rattle.machine_rules.specs.Next.{IsEnabled, IsQuiet, next}
+use Rattle.event_rule.specs.Runs.{IsEnabled, IsQuiet, Leads, Goes}
+use Rattle.plain_rules.specs.Run.{plain_next}
+use Rattle.machine_rules.specs.Next.{next}
 use Rattle.machine_rules.specs.Options.{Deep, Options, Roots, Trace}
 use Rattle.plain_rules.specs.Machine.{PlainState, start_of}
 use Rattle.plain_rules.specs.Reach.{IsReachable}
-use Rattle.plain_rules.specs.Run.{IsPlainQuiet}
-use Rattle.machine_rules.specs.Run.{IsPlainBeside, IsRun, Leads, PlainFollows, choices, is_choice}
-use Rattle.machine_rules.specs.State.{State, Goes, first_state}
+use Rattle.machine_rules.specs.Run.{IsPlainBeside, IsRun, PlainFollows, choices, is_choice}
+use Rattle.machine_rules.specs.State.{State, first_state}
 use Rattle.count_laws.specs.TracedByRoots.{AreTracedByRoots}
 use Rattle.detector_laws.specs.Reports.{IsReportOf}
 use Rattle.machine_laws.specs.AllFacts.{AllFacts}
@@ -69,13 +70,13 @@ NeverTooEarly = (program : Program) (options : Options) → 0 < options.weight �
 
 -- where no event is enabled, exactly what is reachable is left, cycles of actors and objects included
 abbrev pub ExactlyAtQuiet : Type 0
-ExactlyAtQuiet = (program : Program) (options : Options) → 0 < options.weight → options.trace ≡ Deep → (book : List Event) (t : State) → IsRun program options book t → IsQuiet t →
+ExactlyAtQuiet = (program : Program) (options : Options) → 0 < options.weight → options.trace ≡ Deep → (book : List Event) (t : State) → IsRun program options book t → IsQuiet next t →
     (p : PlainState) × IsPlainBeside program options book p × ((x : Thing) → IsLeft t.actors x ↔ IsReachable p x)
 
 -- with root-only tracing, what is reached from the roots is left, where an actor leads to its own objects
 -- that some actor that is left holds as well
 abbrev pub ExactlyAtQuietByRoots : Type 0
-ExactlyAtQuietByRoots = (program : Program) (options : Options) → 0 < options.weight → options.trace ≡ Roots → (book : List Event) (t : State) → IsRun program options book t → IsQuiet t →
+ExactlyAtQuietByRoots = (program : Program) (options : Options) → 0 < options.weight → options.trace ≡ Roots → (book : List Event) (t : State) → IsRun program options book t → IsQuiet next t →
     (p : PlainState) × IsPlainBeside program options book p × ((x : Thing) → IsLeft t.actors x ↔ IsReachedOrHeld p t.actors x)
 
 -- nothing is on its way to the detector, no token is open, and of each actor that is present and not
@@ -88,7 +89,7 @@ pub record DetectorRests (s : State) : Type 0 where
       (r : Report) × (report_of s.detector.kept a ≡ Some r) × IsReportOf a c r
 
 abbrev pub DetectorRestsAtQuiet : Type 0
-DetectorRestsAtQuiet = (program : Program) (options : Options) → 0 < options.weight → (book : List Event) (t : State) → IsRun program options book t → IsQuiet t → DetectorRests t
+DetectorRestsAtQuiet = (program : Program) (options : Options) → 0 < options.weight → (book : List Event) (t : State) → IsRun program options book t → IsQuiet next t → DetectorRests t
 
 -- ---- the machine comes to rest
 
@@ -102,18 +103,18 @@ DeepNeedsNoGet = (s : State) → s.options.trace ≡ Deep → gets_left s ≡ 0
 
 -- so, after each prefix of a run, no more events follow without a choice than there is work left
 abbrev pub RestsBetweenChoices : Type 0
-RestsBetweenChoices = (program : Program) (options : Options) → 0 < options.weight → (book later : List Event) (s t : State) → IsRun program options book s → Leads s later t → choices later s ≡ [] →
+RestsBetweenChoices = (program : Program) (options : Options) → 0 < options.weight → (book later : List Event) (s t : State) → IsRun program options book s → Leads next s later t → choices later s ≡ [] →
     length later + work_left t ≤ work_left s
 
 -- whatever is enabled is a choice
 abbrev pub AwaitsChoices : State → Type 0
-AwaitsChoices s = (e : Event) → IsEnabled s e → is_choice s e ≡ true
+AwaitsChoices s = (e : Event) → IsEnabled next s e → is_choice s e ≡ true
 
 -- events without a choice lead to where only choices are enabled
 pub record CanRest (s : State) : Type 0 where
   pub later : List Event
   pub last : State
-  pub leads : Leads s later last
+  pub leads : Leads next s later last
   pub calm : choices later s ≡ []
   pub waits : AwaitsChoices last
 
@@ -125,9 +126,9 @@ RunsCanRest = (program : Program) (options : Options) → 0 < options.weight →
 -- exactly what is reachable is left
 abbrev pub GarbageIsGone : Type 0
 GarbageIsGone = (program : Program) (options : Options) → 0 < options.weight → options.trace ≡ Deep → (book : List Event) (t : State) → IsRun program options book t → AwaitsChoices t →
-    (p : PlainState) × IsPlainBeside program options book p × (IsPlainQuiet p → IsQuiet t × ((x : Thing) → IsLeft t.actors x ↔ IsReachable p x))
+    (p : PlainState) × IsPlainBeside program options book p × (IsQuiet plain_next p → IsQuiet next t × ((x : Thing) → IsLeft t.actors x ↔ IsReachable p x))
 
 -- with root-only tracing, exactly what is reached or held
 abbrev pub GarbageIsGoneByRoots : Type 0
 GarbageIsGoneByRoots = (program : Program) (options : Options) → 0 < options.weight → options.trace ≡ Roots → (book : List Event) (t : State) → IsRun program options book t → AwaitsChoices t →
-    (p : PlainState) × IsPlainBeside program options book p × (IsPlainQuiet p → IsQuiet t × ((x : Thing) → IsLeft t.actors x ↔ IsReachedOrHeld p t.actors x))
+    (p : PlainState) × IsPlainBeside program options book p × (IsQuiet plain_next p → IsQuiet next t × ((x : Thing) → IsLeft t.actors x ↔ IsReachedOrHeld p t.actors x))

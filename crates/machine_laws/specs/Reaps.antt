@@ -9,7 +9,8 @@ use Rattle.machine_rules.specs.Actors.{cell_at, mail_at, seat, seat_at}
 use Rattle.count_laws.specs.Apart.{HasNoEvent}
 use Rattle.machine_rules.specs.Balance.{load_sum}
 use Rattle.machine_rules.specs.Cell.{Cell}
-use Rattle.machine_rules.specs.Next.{IsEnabled}
+use Rattle.event_rule.specs.Runs.{IsEnabled}
+use Rattle.machine_rules.specs.Next.{next}
 use Rattle.machine_rules.specs.Options.{Options, Trace}
 use Rattle.plain_rules.specs.Machine.{PlainState}
 use Rattle.machine_rules.specs.Run.{IsRun}
@@ -37,9 +38,9 @@ pub record TakesTheDone (s : State) (number : ℕ) : Type 0 where
 
 -- a reap is enabled only there
 abbrev pub ReapsTakeTheDone : Type 0
-ReapsTakeTheDone = (trace : Trace) (p : PlainState) (s : State) → AllFacts trace p s → (number : ℕ) → IsEnabled s (Reap number) → TakesTheDone s number
+ReapsTakeTheDone = (trace : Trace) (p : PlainState) (s : State) → AllFacts trace p s → (number : ℕ) → IsEnabled next s (Reap number) → TakesTheDone s number
 
 -- in each run too
 abbrev pub RunsReapTheDone : Type 0
 RunsReapTheDone = (program : Program) (options : Options) → 0 < options.weight → (book : List Event) (s : State) → IsRun program options book s →
-    (number : ℕ) → IsEnabled s (Reap number) → TakesTheDone s number
+    (number : ℕ) → IsEnabled next s (Reap number) → TakesTheDone s number

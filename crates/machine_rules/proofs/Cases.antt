@@ -22,12 +22,13 @@ use Rattle.machine_rules.specs.Collect.{collect_at, collect_in, collected, is_ma
 use Rattle.machine_rules.specs.Detect.{ask_all, hear_in, reap_found, reap_in, reap_members, scan_in}
 use Rattle.machine_rules.specs.Go.{act_in, go_at, go_in, lacking_from, load_from, make, mint, needed, needing, post, post_or_mint, rows_from, to_need, turn_of_cell, turned, with_turn_kept}
 use Rattle.machine_rules.specs.Leave.{leave_at, leave_in, may_leave}
+use Rattle.event_rule.specs.Runs.{IsFull, Goes}
 use Rattle.machine_rules.specs.Next.{next, next_by}
 use Rattle.machine_rules.specs.Options.{Trace}
 use Rattle.plain_rules.specs.Machine.{stopped_at, with_name}
-use Rattle.machine_rules.specs.State.{State, IsFull, Goes}
+use Rattle.machine_rules.specs.State.{State}
 use Rattle.machine_rules.specs.Take.{cell_after, note_of, notes_after, take_at, take_in}
-use Rattle.machine_rules.proofs.Steps.{goes_to, not_enabled, not_full}
+use Rattle.event_rule.proofs.Steps.{goes_to, not_enabled, not_full}
 
 -- the actor after a turn that it keeps, where it has this frame
 abbrev pub kept : Trace → State → ℕ → Cell → Frame → Cell

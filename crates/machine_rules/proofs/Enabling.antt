@@ -22,10 +22,11 @@ use Rattle.machine_rules.specs.Go.{act_in, go_at, go_in, needed, needing, turn_o
 use Rattle.machine_rules.specs.Laws.{EnabledExactly, FullExactly}
 use Rattle.machine_rules.specs.Leave.{leave_at, leave_in, may_leave}
 use Rattle.plain_list.specs.Lists.{is_empty}
+use Rattle.event_rule.specs.Runs.{NotEnabled, IsFull, Goes}
 use Rattle.machine_rules.specs.Next.{next}
 use Rattle.machine_rules.specs.Options.{Trace}
 use Rattle.plain_rules.specs.Machine.{stopped_at}
-use Rattle.machine_rules.specs.State.{State, NotEnabled, IsFull, Goes}
+use Rattle.machine_rules.specs.State.{State}
 use Rattle.machine_rules.specs.Take.{take_at, take_in}
 
 -- ---- what can be, from what is enabled

@@ -7,30 +7,29 @@ use Rattle.event_rule.specs.declared.event.Event.{Event}
 use Rattle.event_rule.specs.declared.event.Event.TheVariants.{Take, Go, Collect, Leave, Block, Hear, Scan, Reap}
 use Rattle.letter_kinds.specs.Detector.{Token}
 use Rattle.machine_rules.proofs.Enabling.{enabled_exactly, full_exactly}
-use Rattle.machine_rules.proofs.Ordered.{Upto, upto_both, upto_or, upto_trans}
+use Rattle.event_rule.proofs.Ordered.{Upto, upto_both, upto_or, upto_trans}
 use Rattle.machine_rules.proofs.Present.{present_below}
 use Rattle.event_rule.specs.Events.{actor_of}
 use Rattle.machine_rules.specs.Enabled.{CanHappen}
-use Rattle.machine_rules.specs.Ends.{ActorsFull, Budget, Ending, EndsAs, GoesOn, Quiet, RunsGoOnOrEnd}
-use Rattle.machine_rules.specs.First.{NoneIsFirstAtQuiet, OneIsFirst, QuietOrFirst}
-use Rattle.machine_rules.specs.Next.{IsEnabled, IsFirst, IsQuiet, next}
-use Rattle.machine_rules.specs.State.{State, Step, NotEnabled, IsFull, Goes}
+use Rattle.event_rule.specs.Runs.{ActorsFull, Budget, Ending, EndsAs, GoesOn, Quiet, GoesOnOrEnds, NoneIsFirstAtQuiet, OneIsFirst, QuietOrFirst, IsEnabled, IsFirst, IsQuiet, Step, NotEnabled, IsFull, Goes}
+use Rattle.machine_rules.specs.Next.{next}
+use Rattle.machine_rules.specs.State.{State}
 
 module _ (s : State) where
   -- ---- of those with a mark, the first that is enabled, or none is
 
   pub record IsBest (P : Event → Type 0) : Type 0 where
     pub event : Event
-    pub enabled : IsEnabled s event
-    pub least : (f : Event) → P f → IsEnabled s f → Upto event f
+    pub enabled : IsEnabled next s event
+    pub least : (f : Event) → P f → IsEnabled next s f → Upto event f
 
   abbrev Best : (Event → Type 0) → Type 0
-  Best P = IsBest P ⊎ ((f : Event) → P f → IsEnabled s f → ⊥)
+  Best P = IsBest P ⊎ ((f : Event) → P f → IsEnabled next s f → ⊥)
 
-  enabled_or_not : (e : Event) → IsEnabled s e ⊎ (next s e ≡ NotEnabled)
+  enabled_or_not : (e : Event) → IsEnabled next s e ⊎ (next s e ≡ NotEnabled)
   enabled_or_not e = by_step (next s e) refl
     where
-      by_step : (step : Step) → next s e ≡ step → IsEnabled s e ⊎ (next s e ≡ NotEnabled)
+      by_step : (step : Step State) → next s e ≡ step → IsEnabled next s e ⊎ (next s e ≡ NotEnabled)
       by_step NotEnabled is = inr is
       by_step IsFull is = inl (λ off. let z = sym is ∙ off in cc)
       by_step (Goes t) is = inl (λ off. let z = sym is ∙ off in cc)
@@ -53,7 +52,7 @@ module _ (s : State) where
   best_both P Q (inr none) (inl q) = inl (record { event = q.event; enabled = q.enabled; least = λ f mark h. ⊎_elim (λ m. absurd (none f m h)) (λ m. q.least f m h) mark })
   best_both P Q (inr none) (inr nor) = inr (λ f mark h. ⊎_elim (λ m. none f m h) (λ m. nor f m h) mark)
 
-  best_of : (P Q : Event → Type 0) → ((f : Event) → IsEnabled s f → Q f → P f) → Best P → Best Q
+  best_of : (P Q : Event → Type 0) → ((f : Event) → IsEnabled next s f → Q f → P f) → Best P → Best Q
   best_of P Q covers (inl p) = inl (record { event = p.event; enabled = p.enabled; least = λ f mark h. p.least f (covers f h mark) h })
   best_of P Q covers (inr none) = inr (λ f mark h. none f (covers f h mark) h)
 
@@ -132,27 +131,21 @@ module _ (s : State) where
   best = best_of Any (λ f. Unit {0}) (λ f h mark. any f ((enabled_exactly s f).0 h))
       (best_both _ _ (of_actors (length s.actors)) (best_both _ _ (best_one Hear) (best_both _ _ (best_one Scan) (of_tokens s.detector.tokens))))
 
-  none_quiet : ((f : Event) → Unit {0} → IsEnabled s f → ⊥) → IsQuiet s
+  none_quiet : ((f : Event) → Unit {0} → IsEnabled next s f → ⊥) → IsQuiet next s
   none_quiet none f = ⊎_elim (λ on. absurd (none f tt on)) (λ off. off) (enabled_or_not f)
 
-pub quiet_or_first : QuietOrFirst
+pub quiet_or_first : QuietOrFirst next
 quiet_or_first s = ⊎_elim
     (λ b. inr (b.event, record { enabled = b.enabled; least = λ f h. b.least f tt h }))
     (λ none. inl (none_quiet s none))
     (best s)
-
-pub one_is_first : OneIsFirst
-one_is_first s e f one other = upto_both e f (one.least f other.enabled) (other.least e one.enabled)
-
-pub none_at_quiet : NoneIsFirstAtQuiet
-none_at_quiet s e quiet first = first.enabled (quiet e)
 
 -- ---- a run goes on or ends
 
 refused_go : (s : State) (e : Event) → next s e ≡ IsFull → (a : ℕ) × (e ≡ Go a)
 refused_go s e is = let r = (full_exactly s e).0 is in (r.actor, r.is_go)
 
-pub go_on_or_end : RunsGoOnOrEnd
+pub go_on_or_end : GoesOnOrEnds next
 go_on_or_end s entries budget within = ⊎_elim
     (λ quiet. inr (Quiet, quiet))
     (λ some. ⊎_elim
@@ -161,9 +154,9 @@ go_on_or_end s entries budget within = ⊎_elim
     (cases_lt entries budget))
     (quiet_or_first s)
   where
-    by_step : (e : Event) → IsFirst s e → entries < budget → (step : Step) → next s e ≡ step → GoesOn s entries budget ⊎ ((ending : Ending) × EndsAs ending s entries budget)
+    by_step : (e : Event) → IsFirst next s e → entries < budget → (step : Step State) → next s e ≡ step → GoesOn next s entries budget ⊎ ((ending : Ending) × EndsAs next ending s entries budget)
     by_step e first room NotEnabled is = absurd (first.enabled is)
     by_step e first room IsFull is =
         let go = refused_go s e is in
-        inr (ActorsFull go.0, record { room = room; first = subst (IsFirst s) go.1 first; full = subst (λ f. next s f ≡ IsFull) go.1 is })
+        inr (ActorsFull go.0, record { room = room; first = subst (IsFirst next s) go.1 first; full = subst (λ f. next s f ≡ IsFull) go.1 is })
     by_step e first room (Goes t) is = inl (record { room = room; next_event = e; first = first; after = t; goes = is })

@@ -6,7 +6,8 @@ use Rattle.event_rule.specs.declared.event.Event.TheVariants.{Take, Go, Collect,
 use Rattle.machine_rules.proofs.Enabling.{enabled}
 use Rattle.machine_rules.specs.Actors.{Actors, Every}
 use Rattle.machine_rules.specs.Enabled.{CanHappen}
-use Rattle.machine_rules.specs.Next.{IsAtRest, IsQuiet}
+use Rattle.event_rule.specs.Runs.{IsQuiet}
+use Rattle.machine_rules.specs.Next.{IsAtRest, next}
 use Rattle.machine_rules.specs.State.{State}
 
 abbrev pub AtRest : Actors → Type 0
@@ -20,10 +21,10 @@ pub is_nil : {A : Type 0} (xs : List A) → (xs ≢ [] → ⊥) → xs ≡ []
 is_nil [] h = refl
 is_nil (x ∷ xs) h = absurd (h (λ e. cc))
 
-pub none_can : (s : State) → IsQuiet s → (e : Event) → CanHappen s e → ⊥
+pub none_can : (s : State) → IsQuiet next s → (e : Event) → CanHappen s e → ⊥
 none_can s quiet e can = enabled s e can (quiet e)
 
-pub quiet_rest : (s : State) → IsQuiet s → AtRest s.actors
+pub quiet_rest : (s : State) → IsQuiet next s → AtRest s.actors
 quiet_rest s quiet a c mail at =
     let idle = is_none c.frame (λ framed. none_can s quiet (Go a) (c, mail, at, framed)) in
     record {
@@ -33,7 +34,7 @@ quiet_rest s quiet a c mail at =
     }
 
 -- one that is not pinned has its report out
-pub quiet_told : (s : State) → IsQuiet s → Every (λ a c mail. c.fields.pinned ≡ false → c.reported ≡ true) s.actors
+pub quiet_told : (s : State) → IsQuiet next s → Every (λ a c mail. c.fields.pinned ≡ false → c.reported ≡ true) s.actors
 quiet_told s quiet a c mail at unpinned = told c.reported refl
   where
     told : (q : Bool) → c.reported ≡ q → q ≡ true

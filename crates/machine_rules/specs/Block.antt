@@ -10,7 +10,8 @@ use Rattle.letter_kinds.specs.Holdings.{Holdings, Row}
 use Rattle.machine_rules.specs.Actors.{Seat, seat, seat_at}
 use Rattle.machine_rules.specs.Cell.{Cell}
 use Rattle.plain_list.specs.Lists.{is_empty}
-use Rattle.machine_rules.specs.State.{State, Step, NotEnabled, Goes}
+use Rattle.event_rule.specs.Runs.{Step, NotEnabled, Goes}
+use Rattle.machine_rules.specs.State.{State}
 
 -- the count on an actor, of an entry of one
 abbrev pub actor_entry : Thing × (ℕ × Option Row) → Option (ℕ × ℕ)
@@ -25,7 +26,7 @@ held_actors h = filter_map actor_entry (m.entries h.foreign)
 abbrev pub may_block : Cell → List Letter → Bool
 may_block c mail = is_none c.frame && (is_empty mail && not (c.dirty || (c.fields.pinned || c.reported)))
 
-abbrev pub block_in : State → ℕ → Cell → List Letter → Bool → Step
+abbrev pub block_in : State → ℕ → Cell → List Letter → Bool → Step State
 block_in s a c mail false = NotEnabled
 block_in s a c mail true =
     Goes (record s {
@@ -33,9 +34,9 @@ block_in s a c mail true =
       notes = s.notes ++ Block a c.holdings.count (held_actors c.holdings) ∷ [];
     })
 
-abbrev pub block_at : State → ℕ → Option Seat → Step
+abbrev pub block_at : State → ℕ → Option Seat → Step State
 block_at s a None = NotEnabled
 block_at s a (Some o) = block_in s a o.cell o.mail (may_block o.cell o.mail)
 
-abbrev pub block : State → ℕ → Step
+abbrev pub block : State → ℕ → Step State
 block s a = block_at s a (seat_at s.actors a)

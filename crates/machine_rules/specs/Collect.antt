@@ -14,7 +14,8 @@ use Rattle.letter_kinds.specs.Counting.{by_owner, given_back, sweep}
 use Rattle.machine_rules.specs.Actors.{Actors, Seat, push_decs, seat}
 use Rattle.machine_rules.specs.Cell.{Cell, known_objects, listed_objects, own_row_of, row_by_roots}
 use Rattle.machine_rules.specs.Options.{Trace, Deep, Roots}
-use Rattle.machine_rules.specs.State.{State, Step, NotEnabled, Goes}
+use Rattle.event_rule.specs.Runs.{Step, NotEnabled, Goes}
+use Rattle.machine_rules.specs.State.{State}
 
 -- what the actor's fields reach, as far as it knows
 unfoldable pub is_marked_deep : ℕ → Cell → Thing → Bool
@@ -47,11 +48,11 @@ abbrev pub collected : (Thing → Bool) → ℕ → Cell → List Letter → Act
 collected marked a c mail actors =
     push_decs (by_owner (given_back marked c.holdings)) (set actors a (seat (record c { holdings = sweep marked a c.holdings; dirty = false }) mail))
 
-abbrev pub collect_in : Trace → State → ℕ → Cell → Option Frame → Bool → List Letter → Step
+abbrev pub collect_in : Trace → State → ℕ → Cell → Option Frame → Bool → List Letter → Step State
 collect_in trace s a c (Some frame) dirty mail = NotEnabled
 collect_in trace s a c None false mail = NotEnabled
 collect_in trace s a c None true mail = Goes (record s { actors = collected (is_marked trace a c) a (without_unused trace a c) mail s.actors })
 
-abbrev pub collect_at : Trace → State → ℕ → Option Seat → Step
+abbrev pub collect_at : Trace → State → ℕ → Option Seat → Step State
 collect_at trace s a None = NotEnabled
 collect_at trace s a (Some o) = collect_in trace s a o.cell o.cell.frame o.cell.dirty o.mail

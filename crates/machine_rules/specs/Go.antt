@@ -19,8 +19,9 @@ use Rattle.letter_kinds.specs.Counting.{Amount, Loaded, gain, lacking, mint_all,
 use Rattle.machine_rules.specs.Actors.{Actors, Seat, push_letter, seat}
 use Rattle.machine_rules.specs.Cell.{Cell, fresh_cell, known_objects, listed_objects, row_by, row_by_roots}
 use Rattle.machine_rules.specs.Options.{Trace, Deep, Roots}
+use Rattle.event_rule.specs.Runs.{Step, NotEnabled, IsFull, Goes}
 use Rattle.plain_rules.specs.Machine.{stopped_at, with_name}
-use Rattle.machine_rules.specs.State.{State, Step, NotEnabled, IsFull, Goes}
+use Rattle.machine_rules.specs.State.{State}
 
 -- what a turn reads, over the rows that the actor has
 abbrev pub setting_of : Trace → Program → ℕ → Cell → Setting
@@ -96,7 +97,7 @@ post_or_mint s a before after mail stop to behaviour args load rows [] = with_tu
 post_or_mint s a before after mail stop to behaviour args load rows (e ∷ lacked) =
     record s { actors = mint a before mail (owner_of e.0) (to_mint s.options.weight (owner_of e.0) (e ∷ lacked)) s.actors }
 
-abbrev pub act_in : Trace → State → ℕ → Cell → List Letter → Frame → Stop → Act → Step
+abbrev pub act_in : Trace → State → ℕ → Cell → List Letter → Frame → Stop → Act → Step State
 act_in trace s a c mail frame stop End = Goes (with_turn_kept s stop (set s.actors a (seat (turned stop None true c) mail)))
 act_in trace s a c mail frame stop (Print value) =
     Goes (record (with_turn_kept s stop (set s.actors a (seat (turned stop (Some frame) c.dirty c) mail))) { prints = s.prints ++ value ∷ [] })
@@ -111,16 +112,16 @@ act_in trace s a c mail frame stop (Post to behaviour args) =
 -- ---- the event
 
 -- where the turn got a thing that the actor lacks, it mints for that first, and nothing of the turn is kept
-abbrev pub needing : State → ℕ → Cell → List Letter → Option Thing → Step → Step
+abbrev pub needing : State → ℕ → Cell → List Letter → Option Thing → Step State → Step State
 needing s a c mail None step = step
 needing s a c mail (Some x) step = Goes (record s { actors = mint a c mail (owner_of x) (to_need s.options.weight a c.holdings x) s.actors })
 
-abbrev pub go_in : Trace → State → ℕ → Cell → Option Frame → List Letter → Step
+abbrev pub go_in : Trace → State → ℕ → Cell → Option Frame → List Letter → Step State
 go_in trace s a c None mail = NotEnabled
 go_in trace s a c (Some frame) mail =
     let stop = turn_of_cell trace s.program a c frame in
     needing s a c mail (needed trace s.program a c frame) (act_in trace s a c mail (stopped_at frame stop) stop stop.act)
 
-abbrev pub go_at : Trace → State → ℕ → Option Seat → Step
+abbrev pub go_at : Trace → State → ℕ → Option Seat → Step State
 go_at trace s a None = NotEnabled
 go_at trace s a (Some o) = go_in trace s a o.cell o.cell.frame o.mail

@@ -5,8 +5,6 @@ pub mod Cell
 pub mod Collect
 pub mod Detect
 pub mod Enabled
-pub mod Ends
-pub mod First
 pub mod Go
 pub mod Laws
 pub mod Leave

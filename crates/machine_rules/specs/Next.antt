@@ -1,13 +1,11 @@
--- The events of the machine that collects: which are enabled, what each leads to, and which one
--- worker does first.
+-- The events of the machine that collects: what each leads to.
 use Rattle.std.specs.Prelude.{◌≡◌, ◌≢◌, false, List, [], None}
-use Rattle.std.specs.declared.cmp.Ordering.TheVariants.{Greater}
-use Rattle.event_rule.specs.Events.{event_cmp}
 use Rattle.event_rule.specs.declared.event.Event.{Event}
 use Rattle.event_rule.specs.declared.event.Event.TheVariants.{Take, Go, Collect, Leave, Block, Hear, Scan, Reap}
 use Rattle.letter_kinds.specs.declared.letter.Letter.{Letter}
 use Rattle.machine_rules.specs.Cell.{Cell}
-use Rattle.machine_rules.specs.State.{State, Step, NotEnabled}
+use Rattle.event_rule.specs.Runs.{Step, NotEnabled}
+use Rattle.machine_rules.specs.State.{State}
 use Rattle.machine_rules.specs.Take.{take}
 use Rattle.machine_rules.specs.Go.{go_at}
 use Rattle.machine_rules.specs.Collect.{collect_at}
@@ -18,7 +16,7 @@ use Rattle.machine_rules.specs.Options.{Trace}
 use Rattle.machine_rules.specs.Detect.{hear, scan, reap}
 
 -- with this tracing
-abbrev pub next_by : Trace → State → Event → Step
+abbrev pub next_by : Trace → State → Event → Step State
 next_by trace s (Take a) = take s a
 next_by trace s (Go a) = go_at trace s a (seat_at s.actors a)
 next_by trace s (Collect a) = collect_at trace s a (seat_at s.actors a)
@@ -28,20 +26,8 @@ next_by trace s Hear = hear s
 next_by trace s Scan = scan s
 next_by trace s (Reap token) = reap s token
 
-abbrev pub next : State → Event → Step
+abbrev pub next : State → Event → Step State
 next s e = next_by s.options.trace s e
-
-abbrev pub IsEnabled : State → Event → Type 0
-IsEnabled s e = next s e ≢ NotEnabled
-
--- the event is the first of those that are enabled, in the one-worker order
-pub record IsFirst (s : State) (e : Event) : Type 0 where
-  pub enabled : IsEnabled s e
-  pub least : (f : Event) → IsEnabled s f → event_cmp e f ≢ Greater
-
--- no event is enabled
-abbrev pub IsQuiet : State → Type 0
-IsQuiet s = (e : Event) → next s e ≡ NotEnabled
 
 -- ---- an actor that has nothing to do
 

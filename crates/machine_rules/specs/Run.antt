@@ -13,22 +13,16 @@ use Rattle.machine_rules.specs.Actors.{Seat, seat_at}
 use Rattle.machine_rules.specs.Cell.{Cell}
 use Rattle.machine_rules.specs.Go.{lacking_from, needed, turn_of_cell}
 use Rattle.plain_list.specs.Lists.{is_empty}
+use Rattle.plain_rules.specs.Run.{plain_next}
+use Rattle.event_rule.specs.Runs.{Step, NotEnabled, IsFull, Goes, Leads}
 use Rattle.machine_rules.specs.Next.{next}
 use Rattle.machine_rules.specs.Options.{Options, Trace}
 use Rattle.plain_rules.specs.Machine.{PlainState, start_of}
-use Rattle.plain_rules.specs.Machine as plain
-use Rattle.plain_rules.specs.Run.{outcome_of}
-use Rattle.machine_rules.specs.State.{State, Step, NotEnabled, IsFull, Goes, first_state}
-
--- t is the state after the events of the book, each of which is enabled in its turn, and none of
--- which is refused
-abbrev pub Leads : State → List Event → State → Type 0
-Leads s [] t = s ≡ t
-Leads s (e ∷ book) t = (u : State) × (next s e ≡ Goes u) × Leads u book t
+use Rattle.machine_rules.specs.State.{State, first_state}
 
 -- the book is a run of the program, and leads to t
 abbrev pub IsRun : Program → Options → List Event → State → Type 0
-IsRun program options book t = Leads (first_state program options) book t
+IsRun program options book t = Leads next (first_state program options) book t
 
 -- ---- choices: what the plain machine does too
 
@@ -72,7 +66,7 @@ is_choice s Hear = false
 is_choice s Scan = false
 is_choice s (Reap token) = false
 
-abbrev pub choices_after : (State → List Event) → Step → List Event
+abbrev pub choices_after : (State → List Event) → Step State → List Event
 choices_after later NotEnabled = []
 choices_after later IsFull = []
 choices_after later (Goes t) = later t
@@ -84,16 +78,11 @@ choices (e ∷ book) s = if is_choice s e then e ∷ choices_after (choices book
 
 -- ---- the plain machine beside a run
 
--- each of the events is enabled in its turn in the plain machine, and leads from s to t
-abbrev pub PlainLeads : PlainState → List Event → PlainState → Type 0
-PlainLeads s [] t = s ≡ t
-PlainLeads s (e ∷ events) t = (u : PlainState) × (outcome_of s e ≡ plain.Goes u) × PlainLeads u events t
-
 -- p is the state of the machine that frees nothing, after the choices of the book
 abbrev pub IsPlainBeside : Program → Options → List Event → PlainState → Type 0
-IsPlainBeside program options book p = PlainLeads (start_of program) (choices book (first_state program options)) p
+IsPlainBeside program options book p = Leads plain_next (start_of program) (choices book (first_state program options)) p
 
 -- the plain machine makes a choice too, and stays at any other event
 abbrev pub PlainFollows : Bool → PlainState → Event → PlainState → Type 0
-PlainFollows true p e q = outcome_of p e ≡ plain.Goes q
+PlainFollows true p e q = plain_next p e ≡ Goes q
 PlainFollows false p e q = p ≡ q

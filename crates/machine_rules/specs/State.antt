@@ -38,9 +38,3 @@ first_state program options = record {
   prints = [];
   objects = 0;
 }
-
--- what an event leads to
-pub data Step : Type 0 where
-  NotEnabled : Step
-  IsFull : Step
-  Goes : State → Step

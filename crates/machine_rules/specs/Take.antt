@@ -13,8 +13,9 @@ use Rattle.letter_kinds.specs.Counting.{Loaded, lower_all, raise_all, receive}
 use Rattle.letter_kinds.specs.Holdings.{Row}
 use Rattle.machine_rules.specs.Actors.{Seat, seat, seat_at}
 use Rattle.machine_rules.specs.Cell.{Cell}
+use Rattle.event_rule.specs.Runs.{Step, NotEnabled, Goes}
 use Rattle.plain_rules.specs.Machine.{frame_of}
-use Rattle.machine_rules.specs.State.{State, Step, NotEnabled, Goes}
+use Rattle.machine_rules.specs.State.{State}
 
 -- the rows of others' objects are kept
 unfoldable pub learn : ℕ → List Loaded → m.FinMap thing_cmp Row → m.FinMap thing_cmp Row
@@ -44,15 +45,15 @@ note_of a (Confirm token) = Ack token a
 abbrev pub notes_after : Bool → Note → List Note → List Note
 notes_after reported note notes = if reported then notes ++ note ∷ [] else notes
 
-abbrev pub take_in : State → ℕ → Cell → Option Frame → List Letter → Step
+abbrev pub take_in : State → ℕ → Cell → Option Frame → List Letter → Step State
 take_in s a c (Some frame) mail = NotEnabled
 take_in s a c None [] = NotEnabled
 take_in s a c None (letter ∷ mail) =
     Goes (record s { actors = set s.actors a (seat (cell_after s.program a letter c) mail); notes = notes_after c.reported (note_of a letter) s.notes })
 
-abbrev pub take_at : State → ℕ → Option Seat → Step
+abbrev pub take_at : State → ℕ → Option Seat → Step State
 take_at s a None = NotEnabled
 take_at s a (Some o) = take_in s a o.cell o.cell.frame o.mail
 
-abbrev pub take : State → ℕ → Step
+abbrev pub take : State → ℕ → Step State
 take s a = take_at s a (seat_at s.actors a)

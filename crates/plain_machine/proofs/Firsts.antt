@@ -17,8 +17,9 @@ use Rattle.turn_rules.specs.declared.act.Act.TheVariants.{Post, New, Print, End}
 use Rattle.turn_rules.specs.declared.act.Frame.{Frame}
 use Rattle.plain_rules.specs.declared.PlainActor.{PlainActor}
 use Rattle.plain_rules.specs.declared.PlainLetter.{PlainLetter}
-use Rattle.plain_rules.specs.Machine.{PlainState, Outcome, NotEnabled, IsFull, Goes, after_act, after_letter, after_turn, fresh_actor, next_state, plain_go, plain_take, stopped_at, taken, turn_of_actor, with_name, with_turn}
-use Rattle.plain_rules.specs.Run.{IsPlainEnabled, IsPlainFirst, IsPlainQuiet, outcome_of}
+use Rattle.event_rule.specs.Runs.{Step, NotEnabled, IsFull, Goes, IsEnabled, IsFirst, IsQuiet}
+use Rattle.plain_rules.specs.Run.{plain_next}
+use Rattle.plain_rules.specs.Machine.{PlainState, after_act, after_letter, after_turn, fresh_actor, next_state, plain_go, plain_take, stopped_at, taken, turn_of_actor, with_name, with_turn}
 use Rattle.plain_machine.specs.First.{ComesFirst, IsIdle, event_of, event_with}
 
 -- an actor of the table can do the event
@@ -31,10 +32,10 @@ record CanDo (s : PlainState) (e : Event) : Type 0 where
 -- ---- what is enabled is what some actor can do
 
 -- what a go and a take lead to, by what stands in the table
-gone : (s : PlainState) (a : ℕ) → PlainActor → Option Frame → Outcome
+gone : (s : PlainState) (a : ℕ) → PlainActor → Option Frame → Step PlainState
 gone s a x frame = option_map_or (λ f. after_turn s a f (turn_of_actor s a x f)) frame NotEnabled
 
-took : (s : PlainState) (a : ℕ) → Option PlainActor → Outcome
+took : (s : PlainState) (a : ℕ) → Option PlainActor → Step PlainState
 took s a found = option_map_or (λ x. Goes (next_state s (slice_set s.actors a x) s.prints)) found NotEnabled
 
 plain_go-at : (s : PlainState) (a : ℕ) (found : Option PlainActor) → slice_get s.actors a ≡ found → plain_go s a ≡ option_map_or (λ x. gone s a x x.frame) found NotEnabled
@@ -45,7 +46,7 @@ plain_take-at : (s : PlainState) (a : ℕ) (found : Option PlainActor) → slice
 unfolding took
 plain_take-at s a found e = ap (λ (o : Option PlainActor). option_map_or (λ x. Goes (next_state s (slice_set s.actors a x) s.prints)) (option_and_then (taken s.program) o) NotEnabled) e
 
-going : (s : PlainState) (a : ℕ) → IsPlainEnabled s (Go a) → CanDo s (Go a)
+going : (s : PlainState) (a : ℕ) → IsEnabled plain_next s (Go a) → CanDo s (Go a)
 unfolding gone
 going s a enabled = of_actor (slice_get s.actors a) refl
   where
@@ -57,7 +58,7 @@ going s a enabled = of_actor (slice_get s.actors a) refl
     of_actor None e = absurd (enabled (plain_go-at s a None e))
     of_actor (Some x) e = of_frame x e x.frame refl
 
-taking : (s : PlainState) (a : ℕ) → IsPlainEnabled s (Take a) → CanDo s (Take a)
+taking : (s : PlainState) (a : ℕ) → IsEnabled plain_next s (Take a) → CanDo s (Take a)
 unfolding took
 taking s a enabled = of_actor (slice_get s.actors a) refl
   where
@@ -70,7 +71,7 @@ taking s a enabled = of_actor (slice_get s.actors a) refl
     of_actor None e = absurd (enabled (plain_take-at s a None e))
     of_actor (Some x) e = of_parts x e x.frame x.letters refl refl
 
-enabled_can_do : (s : PlainState) (e : Event) → IsPlainEnabled s e → CanDo s e
+enabled_can_do : (s : PlainState) (e : Event) → IsEnabled plain_next s e → CanDo s e
 enabled_can_do s (Go a) enabled = going s a enabled
 enabled_can_do s (Take a) enabled = taking s a enabled
 enabled_can_do s (Collect a) enabled = absurd (enabled refl)
@@ -95,7 +96,7 @@ act_leads_on s a frame fields made (New kind register) e = cases (nat_lt (length
     cases true e = cc
     cases false e = cc
 
-can_do_is_enabled : (s : PlainState) (e : Event) → CanDo s e → IsPlainEnabled s e
+can_do_is_enabled : (s : PlainState) (e : Event) → CanDo s e → IsEnabled plain_next s e
 unfolding gone took
 can_do_is_enabled s e can = by_parts can.actor.frame can.actor.letters refl refl
   where
@@ -105,18 +106,18 @@ can_do_is_enabled s e can = by_parts can.actor.frame can.actor.letters refl refl
     x : PlainActor
     x = can.actor
 
-    by_parts : (frame : Option Frame) (letters : List PlainLetter) → x.frame ≡ frame → x.letters ≡ letters → IsPlainEnabled s e
+    by_parts : (frame : Option Frame) (letters : List PlainLetter) → x.frame ≡ frame → x.letters ≡ letters → IsEnabled plain_next s e
     by_parts (Some frame) letters f l =
         let it : ◌≡◌ {A = Option Event} (Some (Go a)) (Some e) = sym (ap₂ (event_with a) f l) ∙ can.event in
         let same : Go a ≡ e = cc in
-        subst (IsPlainEnabled s) same (λ none.
+        subst (IsEnabled plain_next s) same (λ none.
         let stop = turn_of_actor s a x frame in
         act_leads_on s a (stopped_at frame stop) stop.turn.fields stop.turn.made stop.act
         (sym (plain_go-at s a (Some x) can.there ∙ ap (gone s a x) f) ∙ none))
     by_parts None (letter ∷ letters) f l =
         let it : ◌≡◌ {A = Option Event} (Some (Take a)) (Some e) = sym (ap₂ (event_with a) f l) ∙ can.event in
         let same : Take a ≡ e = cc in
-        subst (IsPlainEnabled s) same (λ none.
+        subst (IsEnabled plain_next s) same (λ none.
         let goes = sym (plain_take-at s a (Some x) can.there ∙ ap (took s a) (ap₂ (after_letter s.program x) f l)) ∙ none in cc)
     by_parts None [] f l =
         let it : ◌≡◌ {A = Option Event} None (Some e) = sym (ap₂ (event_with a) f l) ∙ can.event in cc
@@ -182,7 +183,7 @@ before_can_not actors n a x e within h idle there event =
     let none = idle_has_none a x it in
     cc
 
-comes_first_is_first : (s : PlainState) (e : Event) → ComesFirst s.actors e → IsPlainFirst s e
+comes_first_is_first : (s : PlainState) (e : Event) → ComesFirst s.actors e → IsFirst plain_next s e
 comes_first_is_first s e first = record {
   enabled = can_do_is_enabled s e (record { place = first.place; actor = first.actor; there = first.there; event = first.event });
   least = λ f enabled.
@@ -207,18 +208,18 @@ comes_first_is_first s e first = record {
       ];
 }
 
-idle_is_quiet : (s : PlainState) → All IsIdle s.actors → IsPlainQuiet s
-idle_is_quiet s idle e = cases (outcome_of s e) refl
+idle_is_quiet : (s : PlainState) → All IsIdle s.actors → IsQuiet plain_next s
+idle_is_quiet s idle e = cases (plain_next s e) refl
   where
-    can_not : IsPlainEnabled s e → ⊥
+    can_not : IsEnabled plain_next s e → ⊥
     can_not enabled = let can = enabled_can_do s e enabled in idle_can_not s.actors can.place can.actor e idle can.there can.event
 
-    cases : (o : Outcome) → outcome_of s e ≡ o → outcome_of s e ≡ NotEnabled
+    cases : (o : Step PlainState) → plain_next s e ≡ o → plain_next s e ≡ NotEnabled
     cases NotEnabled h = h
     cases IsFull h = absurd (can_not (λ none. cc))
     cases (Goes t) h = absurd (can_not (λ none. cc))
 
 pub first_matches : (s : PlainState) (actors : List PlainActor) → actors ≡ s.actors → (result : Option Event) → IfNone result (All IsIdle actors) → IfSome result (ComesFirst actors) →
-    MatchOption result (IsPlainQuiet s) (IsPlainFirst s)
+    MatchOption result (IsQuiet plain_next s) (IsFirst plain_next s)
 first_matches s actors same None none some = idle_is_quiet s (subst (All IsIdle) same none)
 first_matches s actors same (Some e) none some = comes_first_is_first s e (subst (λ xs. ComesFirst xs e) same some)

@@ -1,11 +1,11 @@
 -- When each fault comes.
 use Rattle.std.specs.Prelude.{ℕ, ◌≡◌}
-use Rattle.plain_rules.specs.Machine.{Outcome, NotEnabled, IsFull}
+use Rattle.event_rule.specs.Runs.{Step, NotEnabled, IsFull}
 use Rattle.plain_machine.specs.declared.machine.PlainFault.{PlainFault}
 use Rattle.plain_machine.specs.declared.machine.PlainFault.TheVariants.{NotReady, ActorsFull, NoMemory}
 
 -- the fault says what the event of this actor leads to; want of memory says nothing
-abbrev pub Faulted : Outcome → ℕ → PlainFault → Type 0
+abbrev pub Faulted : Step PlainState → ℕ → PlainFault → Type 0
 Faulted outcome a NotReady = outcome ≡ NotEnabled
 Faulted outcome a (ActorsFull b) = (outcome ≡ IsFull) × (b ≡ a)
 Faulted outcome a NoMemory = Unit {0}

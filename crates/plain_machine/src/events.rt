@@ -3,7 +3,8 @@
 ghost use Rattle.std.specs.Prelude.{◌≡◌, ℕ, ◌+◌, ◌<◌, length, map, slice_get, slice_index_or, IsOk, IsErr, IfSome, IfErr, OnOk, OnErr};
 ghost use Rattle.orca_names.specs.declared.names.Value.TheVariants.{Null};
 ghost use Rattle.behaviour_code.specs.Good.{ProgramIsGood};
-ghost use Rattle.plain_rules.specs.Machine.{Goes, after_act, plain_go};
+ghost use Rattle.event_rule.specs.Runs.{Goes};
+ghost use Rattle.plain_rules.specs.Machine.{after_act, plain_go};
 ghost use Rattle.plain_machine.specs.Faults.{Faulted};
 ghost use Rattle.plain_machine.specs.State.{state_of};
 ghost use Rattle.plain_machine.specs.Undo.{frame_left, has_rows};

@@ -4,9 +4,11 @@ ghost use Rattle.std.specs.Prelude.{◌≡◌, ◌↔◌, ◌<◌, length, Conta
 ghost use Rattle.std.specs.List.Sorted.{IsStrictlySortedBy};
 ghost use Rattle.orca_names.specs.Names.{thing_cmp};
 ghost use Rattle.orca_names.specs.declared.names.Thing.{Thing as thing};
-ghost use Rattle.plain_rules.specs.Machine.{Goes, NotEnabled, objects_made, plain_take, plain_go, start_of};
+ghost use Rattle.event_rule.specs.Runs.{Goes, NotEnabled, IsFirst, IsQuiet};
+ghost use Rattle.plain_rules.specs.Run.{plain_next};
+use Rattle.event_rule.specs.Runs.{Goes, NotEnabled}
+ghost use Rattle.plain_rules.specs.Machine.{objects_made, plain_take, plain_go, start_of};
 ghost use Rattle.plain_rules.specs.Reach.{IsReachable};
-ghost use Rattle.plain_rules.specs.Run.{IsPlainFirst, IsPlainQuiet};
 ghost use Rattle.plain_machine.specs.Faults.{Faulted};
 
 use crate::actor::first_actor;
@@ -150,7 +152,7 @@ impl<'a> Plain<'a> {
     /// The first of the enabled events, in the order in which one worker does them; `None` exactly
     /// where none is enabled. It takes no memory.
     pub fn first_enabled(&self) -> Option<Event>
-        ensures { MatchOption result (IsPlainQuiet self.now) (IsPlainFirst self.now) }
+        ensures { MatchOption result (IsQuiet plain_next self.now) (IsFirst plain_next self.now) }
     {
         self.actors.first_event()
     }

@@ -4,7 +4,8 @@ ghost use Rattle.std.specs.Prelude.{◌≡◌, ℕ, ◌+◌, ◌<◌, ◌^◌, L
 ghost use Rattle.std.specs.Bool.{OnTrue, OnFalse};
 ghost use Rattle.std.specs.Option.{option_copied};
 ghost use Rattle.orca_names.specs.declared.names.Value as names;
-ghost use Rattle.plain_rules.specs.Machine.{Goes, NotEnabled, objects_made, plain_row, plain_take, with_letter};
+ghost use Rattle.event_rule.specs.Runs.{Goes, NotEnabled};
+ghost use Rattle.plain_rules.specs.Machine.{objects_made, plain_row, plain_take, with_letter};
 ghost use Rattle.plain_machine.specs.First.{ComesFirst, IsIdle};
 ghost use Rattle.plain_machine.specs.Ready.{IsIndex};
 ghost use Rattle.plain_machine.specs.State.{state_of};

@@ -15,7 +15,8 @@ use Rattle.turn_rules.specs.declared.act.Frame.{Frame}
 use Rattle.turn_rules.proofs.Bounds.{segment_makes}
 use Rattle.plain_rules.specs.declared.PlainActor.{PlainActor}
 use Rattle.plain_rules.specs.declared.PlainLetter.{PlainLetter}
-use Rattle.plain_rules.specs.Machine.{PlainState, Outcome, NotEnabled, IsFull, Goes, after_act, after_letter, after_turn, fresh_actor, frame_of, next_state, objects_made, plain_go, plain_row, plain_take, stopped_at, taken, turn_of_actor, with_letter, with_name, with_turn}
+use Rattle.event_rule.specs.Runs.{Step, NotEnabled, IsFull, Goes}
+use Rattle.plain_rules.specs.Machine.{PlainState, after_act, after_letter, after_turn, fresh_actor, frame_of, next_state, objects_made, plain_go, plain_row, plain_take, stopped_at, taken, turn_of_actor, with_letter, with_name, with_turn}
 use Rattle.plain_rules.specs.Limits.{IsWithinLimits, OnGoes}
 use Rattle.plain_rules.proofs.Changing.{changing_makes, length-with_changed}
 
@@ -74,7 +75,7 @@ after_act_is_within s a frame fields made (New kind register) within few = cases
 pub plain_go_is_within : (s : PlainState) (a : ℕ) → ProgramIsGood s.program → IsWithinLimits s → OnGoes IsWithinLimits (plain_go s a)
 plain_go_is_within s a good within = of_actor (slice_get s.actors a)
   where
-    gone : PlainActor → Frame → Outcome
+    gone : PlainActor → Frame → Step PlainState
     gone x frame = after_turn s a frame (turn_of_actor s a x frame)
 
     of_frame : (x : PlainActor) (frame : Option Frame) → OnGoes IsWithinLimits (option_map_or (gone x) frame NotEnabled)
@@ -99,7 +100,7 @@ taking_keeps_rows program x y None (letter ∷ letters) e =
 pub plain_take_is_within : (s : PlainState) (a : ℕ) → IsWithinLimits s → OnGoes IsWithinLimits (plain_take s a)
 plain_take_is_within s a within = of_actor (slice_get s.actors a) refl
   where
-    took : PlainActor → Outcome
+    took : PlainActor → Step PlainState
     took y = Goes (next_state s (set s.actors a y) s.prints)
 
     of_taken : (x : PlainActor) → slice_get s.actors a ≡ Some x → (result : Option PlainActor) → taken s.program x ≡ result → OnGoes IsWithinLimits (option_map_or took result NotEnabled)

@@ -9,14 +9,15 @@ use Rattle.turn_rules.specs.declared.act.Act.{Act}
 use Rattle.turn_rules.specs.declared.act.Act.TheVariants.{Post, New, Print, End}
 use Rattle.turn_rules.specs.declared.act.Frame.{Frame}
 use Rattle.plain_rules.specs.declared.PlainActor.{PlainActor}
-use Rattle.plain_rules.specs.Machine.{PlainState, Outcome, NotEnabled, IsFull, Goes, after_act, after_turn, fresh_actor, next_state, plain_go, plain_take, stopped_at, taken, turn_of_actor, with_name, with_turn}
+use Rattle.event_rule.specs.Runs.{Step, NotEnabled, IsFull, Goes, IsFirst, LeadsInOrder}
+use Rattle.plain_rules.specs.Run.{plain_next}
+use Rattle.plain_rules.specs.Machine.{PlainState, after_act, after_turn, fresh_actor, next_state, plain_go, plain_take, stopped_at, taken, turn_of_actor, with_name, with_turn}
 use Rattle.plain_rules.specs.Limits.{OnGoes}
-use Rattle.plain_rules.specs.Run.{outcome_of, IsPlainFirst, IsPlainRun}
 
-pub run_goes_on : (s t u : PlainState) (book : List Event) (e : Event) → IsPlainRun s book t → IsPlainFirst t e → outcome_of t e ≡ Goes u →
-    IsPlainRun s (book ++ e ∷ []) u
+pub run_goes_on : (s t u : PlainState) (book : List Event) (e : Event) → LeadsInOrder plain_next s book t → IsFirst plain_next t e → plain_next t e ≡ Goes u →
+    LeadsInOrder plain_next s (book ++ e ∷ []) u
 run_goes_on s t u [] e run first goes =
-    let P : PlainState → Type 0 = λ x. IsPlainRun x (e ∷ []) u in
+    let P : PlainState → Type 0 = λ x. LeadsInOrder plain_next x (e ∷ []) u in
     subst P (sym run) (first, (u, goes, refl))
 run_goes_on s t u (f ∷ book) e run first goes =
     (run.0, (run.1.0, run.1.1, run_goes_on run.1.0 t u book e run.1.2 first goes))
@@ -41,7 +42,7 @@ act_is_next s a frame fields made (New kind register) = cases (nat_lt (length s.
 go_is_next : (s : PlainState) (a : ℕ) → OnGoes (IsNext s) (plain_go s a)
 go_is_next s a = of_actor (slice_get s.actors a)
   where
-    gone : PlainActor → Frame → Outcome
+    gone : PlainActor → Frame → Step PlainState
     gone x frame = after_turn s a frame (turn_of_actor s a x frame)
 
     of_frame : (x : PlainActor) (frame : Option Frame) → OnGoes (IsNext s) (option_map_or (gone x) frame NotEnabled)
@@ -61,7 +62,7 @@ take_is_next s a = cases (option_and_then (taken s.program) (slice_get s.actors 
     cases None = tt
     cases (Some x) = refl
 
-event_is_next : (s : PlainState) (e : Event) → OnGoes (IsNext s) (outcome_of s e)
+event_is_next : (s : PlainState) (e : Event) → OnGoes (IsNext s) (plain_next s e)
 event_is_next s (Take a) = take_is_next s a
 event_is_next s (Go a) = go_is_next s a
 event_is_next s (Collect a) = tt
@@ -71,5 +72,5 @@ event_is_next s (Leave a) = tt
 event_is_next s Scan = tt
 event_is_next s (Reap token) = tt
 
-pub one_step_more : (s t : PlainState) (e : Event) → outcome_of s e ≡ Goes t → t.steps ≡ s.steps + 1
+pub one_step_more : (s t : PlainState) (e : Event) → plain_next s e ≡ Goes t → t.steps ≡ s.steps + 1
 one_step_more s t e goes = subst (OnGoes (IsNext s)) goes (event_is_next s e)

@@ -1,6 +1,7 @@
 -- How large a state of the plain machine may be.
 use Rattle.std.specs.Prelude.{◌*◌, ◌≤◌, length}
-use Rattle.plain_rules.specs.Machine.{Outcome, NotEnabled, IsFull, Goes, PlainState, objects_made}
+use Rattle.event_rule.specs.Runs.{Step, NotEnabled, IsFull, Goes}
+use Rattle.plain_rules.specs.Machine.{PlainState, objects_made}
 
 -- no more actors than may be made, and no more objects than the events so far can have made
 pub record IsWithinLimits (s : PlainState) : Type 0 where
@@ -8,7 +9,7 @@ pub record IsWithinLimits (s : PlainState) : Type 0 where
   pub objects : objects_made s.actors ≤ 1024 * s.steps
 
 -- what holds of the state that an event leads to, if it leads to one
-abbrev pub OnGoes : (PlainState → Type 0) → Outcome → Type 0
+abbrev pub OnGoes : (PlainState → Type 0) → Step PlainState → Type 0
 OnGoes P NotEnabled = Unit {0}
 OnGoes P IsFull = Unit {0}
 OnGoes P (Goes s) = P s

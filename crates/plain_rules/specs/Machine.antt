@@ -11,6 +11,7 @@ use Rattle.turn_rules.specs.declared.act.Act.{Act}
 use Rattle.turn_rules.specs.declared.act.Act.TheVariants.{Post, New, Print, End}
 use Rattle.turn_rules.specs.declared.act.Frame.{Frame}
 use Rattle.turn_rules.specs.Segment.{Stop, segment_of}
+use Rattle.event_rule.specs.Runs.{Step, NotEnabled, IsFull, Goes}
 use Rattle.plain_rules.specs.declared.PlainActor.{PlainActor}
 use Rattle.plain_rules.specs.declared.PlainLetter.{PlainLetter}
 
@@ -20,12 +21,6 @@ pub record PlainState : Type 0 where
   pub actors : List PlainActor
   pub prints : List Value
   pub steps : ℕ
-
--- what an event leads to
-pub data Outcome : Type 0 where
-  NotEnabled : Outcome
-  IsFull : Outcome
-  Goes : PlainState → Outcome
 
 -- ---- actors and their rows
 
@@ -86,7 +81,7 @@ taken program x = after_letter program x x.frame x.letters
 abbrev pub next_state : PlainState → List PlainActor → List Value → PlainState
 next_state s actors prints = record { program = s.program; actors = actors; prints = prints; steps = s.steps + 1 }
 
-abbrev pub plain_take : PlainState → ℕ → Outcome
+abbrev pub plain_take : PlainState → ℕ → Step PlainState
 plain_take s a =
     option_map_or (λ x. Goes (next_state s (slice_set s.actors a x) s.prints))
     (option_and_then (taken s.program) (slice_get s.actors a)) NotEnabled
@@ -106,7 +101,7 @@ abbrev pub with_name : Frame → ℕ → ℕ → Frame
 with_name frame register a = record frame { registers = slice_set frame.registers register (Actor a) }
 
 -- what a turn leads to that left this frame, these fields and new rows, and ended with this act
-abbrev pub after_act : PlainState → ℕ → Frame → Fields → List (List Value) → Act → Outcome
+abbrev pub after_act : PlainState → ℕ → Frame → Fields → List (List Value) → Act → Step PlainState
 after_act s a frame fields made End = Goes (next_state s (with_turn s.actors a None fields made) s.prints)
 after_act s a frame fields made (Print v) = Goes (next_state s (with_turn s.actors a (Some frame) fields made) (s.prints ++ v ∷ []))
 after_act s a frame fields made (Post to behaviour args) =
@@ -124,10 +119,10 @@ turn_of_actor s a x frame = segment_of (record { program = s.program; me = a; ba
 abbrev pub stopped_at : Frame → Stop → Frame
 stopped_at frame stop = record frame { place = stop.place; registers = stop.turn.registers }
 
-abbrev pub after_turn : PlainState → ℕ → Frame → Stop → Outcome
+abbrev pub after_turn : PlainState → ℕ → Frame → Stop → Step PlainState
 after_turn s a frame stop = after_act s a (stopped_at frame stop) stop.turn.fields stop.turn.made stop.act
 
-abbrev pub plain_go : PlainState → ℕ → Outcome
+abbrev pub plain_go : PlainState → ℕ → Step PlainState
 plain_go s a =
     option_map_or (λ x. option_map_or (λ frame. after_turn s a frame (turn_of_actor s a x frame)) x.frame NotEnabled)
     (slice_get s.actors a) NotEnabled

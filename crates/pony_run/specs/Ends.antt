@@ -11,30 +11,31 @@ use Rattle.report_text.specs.declared.numbers.Numbers.{Numbers}
 use Rattle.report_text.specs.declared.status.Status.{Status}
 use Rattle.report_text.specs.declared.status.Status.TheVariants as status
 use Rattle.behaviour_code.specs.declared.code.Program.{Program}
-use Rattle.plain_rules.specs.Machine.{IsFull, PlainState, objects_made, plain_go, start_of}
+use Rattle.event_rule.specs.Runs.{IsFull, IsFirst, IsQuiet, LeadsInOrder}
+use Rattle.plain_rules.specs.Run.{plain_next}
+use Rattle.plain_rules.specs.Machine.{PlainState, objects_made, plain_go, start_of}
 use Rattle.plain_rules.specs.Reach.{IsReachable}
-use Rattle.plain_rules.specs.Run.{IsPlainFirst, IsPlainQuiet, IsPlainRun}
 
 -- the book is a run of the program in the one-worker order, within the budget, and leads to t
 pub record RunsTo (program : Program) (budget : ℕ) (book : List Event) (t : PlainState) : Type 0 where
-  pub run : IsPlainRun (start_of program) book t
+  pub run : LeadsInOrder plain_next (start_of program) book t
   pub within : length book ≤ budget
 
 -- the run ends by the budget: the book is as long, and an event is enabled
 pub record IsSpent (t : PlainState) (book : List Event) (budget : ℕ) : Type 0 where
   pub spent : length book ≡ budget
   pub next : Event
-  pub enabled : IsPlainFirst t next
+  pub enabled : IsFirst plain_next t next
 
 -- the run ends at an actor that would make one more than may be made
 pub record IsFullAt (actor : ℕ) (t : PlainState) (book : List Event) (budget : ℕ) : Type 0 where
   pub room : length book < budget
-  pub next : IsPlainFirst t (Go actor)
+  pub next : IsFirst plain_next t (Go actor)
   pub full : plain_go t actor ≡ IsFull
 
 -- how a run ends: no event is enabled, or else by the budget, or else at a full machine
 abbrev pub EndsAs : Status → PlainState → List Event → ℕ → Type 0
-EndsAs status.Quiet t book budget = IsPlainQuiet t
+EndsAs status.Quiet t book budget = IsQuiet plain_next t
 EndsAs status.Budget t book budget = IsSpent t book budget
 EndsAs (status.ActorsFull actor) t book budget = IsFullAt actor t book budget
 EndsAs other t book budget = ⊥

@@ -2,7 +2,8 @@
 use Rattle.std.specs.Prelude.{◌≡◌}
 use Rattle.event_rule.specs.declared.event.Event.{Event}
 use Rattle.event_rule.specs.declared.event.Event.TheVariants.{Go}
-use Rattle.plain_rules.specs.Machine.{IsFull, PlainState, plain_go}
+use Rattle.event_rule.specs.Runs.{IsFull}
+use Rattle.plain_rules.specs.Machine.{PlainState, plain_go}
 use Rattle.report_text.specs.declared.status.Status.{Status}
 use Rattle.report_text.specs.declared.status.Status.TheVariants as status
 use Rattle.plain_machine.specs.declared.machine.PlainFault.{PlainFault}

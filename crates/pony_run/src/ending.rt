@@ -1,8 +1,8 @@
 // The run, up to its end.
 
 ghost use Rattle.std.specs.Prelude.{◌≡◌, ◌<◌, ◌≤◌, ◌++◌, ◌∷◌, [], length, IfErr, IfOk, OnErr, OnOk};
-ghost use Rattle.plain_rules.specs.Machine.{Goes};
-ghost use Rattle.plain_rules.specs.Run.{IsPlainFirst, IsPlainRun, outcome_of};
+ghost use Rattle.event_rule.specs.Runs.{Goes, IsFirst, LeadsInOrder};
+ghost use Rattle.plain_rules.specs.Run.{plain_next};
 ghost use Rattle.pony_run.specs.Ends.{EndsAs};
 ghost use Rattle.pony_run.specs.Steps.{IsEndOf, Stops};
 
@@ -20,9 +20,9 @@ fn step(
     book: &mut Book,
     event: Event,
 ) -> Result<(), PlainFault>
-    requires first { IsPlainFirst machine.old event }
+    requires first { IsFirst plain_next machine.old event }
     requires early { machine.old.steps < 100000000 }
-    ensures ok { OnOk result (outcome_of machine.old event ≡ Goes machine.new) }
+    ensures ok { OnOk result (plain_next machine.old event ≡ Goes machine.new) }
     ensures entry { OnOk result (book.new.entries ≡ book.old.entries ++ event ∷ []) }
     ensures stops { IfErr result (Stops machine.old event) }
     ensures same { OnErr result (machine.new ≡ machine.old) }
@@ -64,7 +64,7 @@ pub(crate) fn finish(
     requires fresh { book.old.entries ≡ [] }
     requires start { machine.old.steps ≡ 0 }
     requires most { budget ≤ 100000000 }
-    ensures run { IsPlainRun machine.old book.new.entries machine.new }
+    ensures run { LeadsInOrder plain_next machine.old book.new.entries machine.new }
     ensures within { length book.new.entries ≤ budget }
     ensures end { IfOk result (λ end. EndsAs end machine.new book.new.entries budget) }
 {

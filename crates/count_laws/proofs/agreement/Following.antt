@@ -15,26 +15,26 @@ use Rattle.count_laws.proofs.events.EitherMode.{take_keeps}
 use Rattle.count_laws.proofs.balance.InHand.{take_letter}
 use Rattle.count_laws.proofs.events.Take.{next_receive}
 use Rattle.count_laws.proofs.agreement.PlainSide.{StandsAt, objects_kept, people-set, rows_kept, same_rows, stands_beside}
-use Rattle.machine_rules.proofs.Steps.{goes_to}
+use Rattle.event_rule.proofs.Steps.{goes_to}
 use Rattle.machine_rules.specs.Options.{Trace}
 use Rattle.machine_rules.specs.Actors.{seat, seat_at}
 use Rattle.count_laws.specs.Agreement.{Person, app_letters, people_of, person_of, person_of_plain}
 use Rattle.machine_rules.specs.Cell.{Cell}
 use Rattle.count_laws.specs.Facts.{Facts, KeepsCounts}
-use Rattle.plain_rules.specs.Machine.{Outcome, PlainState, after_letter, frame_of, next_state, plain_row, plain_take, taken}
-use Rattle.plain_rules.specs.Machine as plain
+use Rattle.event_rule.specs.Runs.{Step, Goes, NotEnabled}
+use Rattle.plain_rules.specs.Machine.{PlainState, after_letter, frame_of, next_state, plain_row, plain_take, taken}
 use Rattle.machine_rules.specs.Run.{starts_with_app}
-use Rattle.machine_rules.specs.State.{State, Goes}
+use Rattle.machine_rules.specs.State.{State}
 use Rattle.machine_rules.specs.Take.{cell_after, take_in}
 use Rattle.plain_rules.specs.declared.PlainActor.{PlainActor}
 use Rattle.plain_rules.specs.declared.PlainLetter.{PlainLetter}
 
 -- where the event is a choice, the plain machine goes too; else it stays
-abbrev pub Follows : Trace → Bool → Outcome → PlainState → State → Type 0
-Follows trace true goes p t = (q : PlainState) × (goes ≡ plain.Goes q) × Facts trace q t
+abbrev pub Follows : Trace → Bool → Step PlainState → PlainState → State → Type 0
+Follows trace true goes p t = (q : PlainState) × (goes ≡ Goes q) × Facts trace q t
 Follows trace false goes p t = Facts trace p t
 
-pub follows_on : (trace : Trace) (b : Bool) (goes : Outcome) (p : PlainState) (u t : State) → Goes u ≡ Goes t → Follows trace b goes p u → Follows trace b goes p t
+pub follows_on : (trace : Trace) (b : Bool) (goes : Step PlainState) (p : PlainState) (u t : State) → Goes u ≡ Goes t → Follows trace b goes p u → Follows trace b goes p t
 follows_on trace b goes p u t e h = subst (Follows trace b goes p) (goes_to u t e) h
 
 pub same_person : (x y : Person) → x.kind ≡ y.kind → x.fields ≡ y.fields → x.frame ≡ y.frame → x.letters ≡ y.letters → x.serial ≡ y.serial → x ≡ y
@@ -43,14 +43,14 @@ same_person x y k f r l n i = record { kind = k i; fields = f i; frame = r i; le
 -- ---- take
 
 took : (p : PlainState) (a : ℕ) (x : PlainActor) (l : PlainLetter) (ls : List PlainLetter) → slice_get p.actors a ≡ Some x → x.frame ≡ None → x.letters ≡ l ∷ ls
-    → plain_take p a ≡ plain.Goes (next_state p (set p.actors a (record x { frame = frame_of p.program x.kind l; letters = ls })) p.prints)
+    → plain_take p a ≡ Goes (next_state p (set p.actors a (record x { frame = frame_of p.program x.kind l; letters = ls })) p.prints)
 took p a x l ls there idle mail =
-    ap (λ found. option_map_or after (option_and_then (taken p.program) found) plain.NotEnabled) there
-    ∙ ap (λ f. option_map_or after (after_letter p.program x f x.letters) plain.NotEnabled) idle
-    ∙ ap (λ m. option_map_or after (after_letter p.program x None m) plain.NotEnabled) mail
+    ap (λ found. option_map_or after (option_and_then (taken p.program) found) NotEnabled) there
+    ∙ ap (λ f. option_map_or after (after_letter p.program x f x.letters) NotEnabled) idle
+    ∙ ap (λ m. option_map_or after (after_letter p.program x None m) NotEnabled) mail
   where
-    after : PlainActor → Outcome
-    after y = plain.Goes (next_state p (set p.actors a y) p.prints)
+    after : PlainActor → Step PlainState
+    after y = Goes (next_state p (set p.actors a y) p.prints)
 
 module _ (trace : Trace) (p : PlainState) (s : State) (facts : Facts trace p s) (a : ℕ) (c : Cell) (idle : c.frame ≡ None) where
   abbrev all : Thing → Option Row

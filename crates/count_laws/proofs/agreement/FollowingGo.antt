@@ -41,10 +41,10 @@ use Rattle.machine_rules.specs.Go.{act_in, go_in, load_from, make, mint, needed,
 use Rattle.machine_rules.specs.Options.{Trace}
 use Rattle.count_laws.specs.Known.{InFrame, IsKnown, Names, Roots, in_fields, in_frame, in_table}
 use Rattle.plain_list.specs.Lists.{is_empty}
-use Rattle.plain_rules.specs.Machine.{PlainState, after_act, after_turn, fresh_actor, next_state, objects_made, plain_go, plain_row, stopped_at, turn_of_actor, with_name, with_turn}
-use Rattle.plain_rules.specs.Machine as plain
+use Rattle.event_rule.specs.Runs.{IsFull, Goes, NotEnabled}
+use Rattle.plain_rules.specs.Machine.{PlainState, after_act, after_turn, fresh_actor, next_state, objects_made, plain_go, plain_row, stopped_at, turn_of_actor, with_name, with_turn, with_letter as with_plain_letter, with_changed}
 use Rattle.machine_rules.specs.Run.{act_is_choice, go_is_choice}
-use Rattle.machine_rules.specs.State.{State, IsFull, Goes}
+use Rattle.machine_rules.specs.State.{State}
 use Rattle.plain_rules.specs.declared.PlainActor.{PlainActor}
 use Rattle.plain_rules.specs.declared.PlainLetter.{PlainLetter}
 
@@ -52,10 +52,10 @@ use Rattle.plain_rules.specs.declared.PlainLetter.{PlainLetter}
 
 went : (p : PlainState) (a : ℕ) (x : PlainActor) (f : Frame) → slice_get p.actors a ≡ Some x → x.frame ≡ Some f → plain_go p a ≡ after_turn p a f (turn_of_actor p a x f)
 went p a x f there is =
-    ap (λ found. option_map_or (λ (z : PlainActor). option_map_or (λ g. after_turn p a g (turn_of_actor p a z g)) z.frame plain.NotEnabled) found plain.NotEnabled) there
-    ∙ ap (λ found. option_map_or (λ g. after_turn p a g (turn_of_actor p a x g)) found plain.NotEnabled) is
+    ap (λ found. option_map_or (λ (z : PlainActor). option_map_or (λ g. after_turn p a g (turn_of_actor p a z g)) z.frame NotEnabled) found NotEnabled) there
+    ∙ ap (λ found. option_map_or (λ g. after_turn p a g (turn_of_actor p a x g)) found NotEnabled) is
 
-changed : (xs : List PlainActor) (a : ℕ) (x : PlainActor) (change : PlainActor → PlainActor) → slice_get xs a ≡ Some x → plain.with_changed xs a change ≡ set xs a (change x)
+changed : (xs : List PlainActor) (a : ℕ) (x : PlainActor) (change : PlainActor → PlainActor) → slice_get xs a ≡ Some x → with_changed xs a change ≡ set xs a (change x)
 changed xs a x change there = ap (λ found. option_map_or (λ z. set xs a (change z)) found xs) there
 
 -- one actor in the place of another with the same rows
@@ -271,12 +271,12 @@ module _ (trace : Trace) (p : PlainState) (s : State) (facts : Facts trace p s) 
     lettered = record receiver.actor { letters = receiver.actor.letters ++ letter ∷ [] }
 
     post_follows : lacking a c1.holdings load ≡ []
-        → Facts trace (next_state p (plain.with_letter (with_turn p.actors a (Some stopped) stop.turn.fields stop.turn.made) to letter) p.prints)
+        → Facts trace (next_state p (with_plain_letter (with_turn p.actors a (Some stopped) stop.turn.fields stop.turn.made) to letter) p.prints)
         (with_turn_kept s stop (post a c1 ls to b args load came s.actors))
     post_follows full =
         let actors = set p.actors a (y (Some stopped)) in
-        let plain_actors : plain.with_letter (with_turn p.actors a (Some stopped) stop.turn.fields stop.turn.made) to letter ≡ set actors to lettered =
-        ap (λ xs. plain.with_letter xs to letter) (turned_actors (Some stopped))
+        let plain_actors : with_plain_letter (with_turn p.actors a (Some stopped) stop.turn.fields stop.turn.made) to letter ≡ set actors to lettered =
+        ap (λ xs. with_plain_letter xs to letter) (turned_actors (Some stopped))
         ∙ changed actors to receiver.actor (λ z. record z { letters = z.letters ++ letter ∷ [] }) receiver.there in
         let ours : people_of actors ≡ turned_people = people-set p.actors a (y (Some stopped)) ∙ ap (set (people_of p.actors) a) (same_y (Some stopped) c.dirty) in
         let people : people_of (set actors to lettered) ≡ set turned_people to (with_letter b args (person_at turned_people to)) =
@@ -324,7 +324,7 @@ module _ (trace : Trace) (p : PlainState) (s : State) (facts : Facts trace p s) 
 
     letter_follows : (lack : List Loaded) → lacking a c1.holdings load ≡ lack
         → Follows trace (is_empty lack) (after_act p a stopped stop.turn.fields stop.turn.made (Post to b args)) p (post_or_mint s a c c1 ls stop to b args load came lack)
-    letter_follows [] l = (next_state p (plain.with_letter (with_turn p.actors a (Some stopped) stop.turn.fields stop.turn.made) to letter) p.prints, refl, post_follows l)
+    letter_follows [] l = (next_state p (with_plain_letter (with_turn p.actors a (Some stopped) stop.turn.fields stop.turn.made) to letter) p.prints, refl, post_follows l)
     letter_follows (e ∷ es) l = mint_follows e es l
 
   -- ---- every act
@@ -350,9 +350,9 @@ module _ (trace : Trace) (p : PlainState) (s : State) (facts : Facts trace p s) 
       plain_made : PlainState
       plain_made = next_state p (with_turn p.actors a (Some (with_name stopped register (length p.actors))) stop.turn.fields stop.turn.made ++ fresh_actor p.program kind ∷ []) p.prints
 
-      by_room : (room : Bool) → nat_lt (length s.actors) 65536 ≡ room → (if room then Goes made else IsFull) ≡ Goes t → Follows trace true (if nat_lt (length p.actors) 65536 then plain.Goes plain_made else plain.IsFull) p t
+      by_room : (room : Bool) → nat_lt (length s.actors) 65536 ≡ room → (if room then Goes made else IsFull) ≡ Goes t → Follows trace true (if nat_lt (length p.actors) 65536 then Goes plain_made else IsFull) p t
       by_room false r e = cc
-      by_room true r e = follows_on trace true _ p made t e (plain_made, ap (λ q. if q then plain.Goes plain_made else plain.IsFull) (ap (λ n. nat_lt n 65536) long ∙ r), make_follows kind register)
+      by_room true r e = follows_on trace true _ p made t e (plain_made, ap (λ q. if q then Goes plain_made else IsFull) (ap (λ n. nat_lt n 65536) long ∙ r), make_follows kind register)
   act_follows (Post to b args) t act e = follows_on trace _ _ p _ t e (letter_follows to b args act (lacking a c1.holdings (load_from trace a c1.holdings args)) refl)
 
   plain_follows : (choice : Bool) (t : State) → Follows trace choice (after_act p a stopped stop.turn.fields stop.turn.made stop.act) p t → Follows trace choice (plain_go p a) p t

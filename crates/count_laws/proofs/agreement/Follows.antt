@@ -13,13 +13,13 @@ use Rattle.machine_rules.specs.Cell.{Cell}
 use Rattle.machine_rules.specs.Collect.{collect_at, collect_in}
 use Rattle.count_laws.specs.Facts.{Facts}
 use Rattle.machine_rules.specs.Go.{go_at}
+use Rattle.plain_rules.specs.Run.{plain_next}
+use Rattle.event_rule.specs.Runs.{Goes, NotEnabled}
 use Rattle.machine_rules.specs.Next.{next}
 use Rattle.machine_rules.specs.Options.{Trace}
 use Rattle.plain_rules.specs.Machine.{PlainState, plain_go, plain_row, plain_take}
 use Rattle.machine_rules.specs.Run.{go_is_choice_at, is_choice, take_is_choice_at}
-use Rattle.plain_rules.specs.Machine as plain
-use Rattle.plain_rules.specs.Run.{outcome_of}
-use Rattle.machine_rules.specs.State.{State, Goes}
+use Rattle.machine_rules.specs.State.{State}
 use Rattle.machine_rules.specs.Take.{take_at, take_in}
 
 module _ (trace : Trace) (p : PlainState) (s : State) (facts : Facts trace p s) (t : State) where
@@ -38,7 +38,7 @@ module _ (trace : Trace) (p : PlainState) (s : State) (facts : Facts trace p s) 
   collect_cell : (a : ℕ) (c : Cell) (mail : List Letter) (f : Option Frame) (dirty : Bool) → c.frame ≡ f → seat_at s.actors a ≡ seat c mail → collect_in trace s a c f dirty mail ≡ Goes t → Facts trace p t
   collect_cell a c mail (Some f) dirty is at e = cc
   collect_cell a c mail None false is at e = cc
-  collect_cell a c mail None true is at e = follows_on trace false plain.NotEnabled p _ t e (record {
+  collect_cell a c mail None true is at e = follows_on trace false NotEnabled p _ t e (record {
     counts = collect_keeps trace (thing_row (plain_row p.actors)) (people_of p.actors) s.actors facts.counts a c mail at is;
     program = facts.program;
     prints = facts.prints;
@@ -51,10 +51,10 @@ module _ (trace : Trace) (p : PlainState) (s : State) (facts : Facts trace p s) 
   collect_seat a None at e = cc
   collect_seat a (Some o) at e = collect_cell a o.cell o.mail o.cell.frame o.cell.dirty refl at e
 
-  pub take_kept : (a : ℕ) → next s (Take a) ≡ Goes t → Follows trace (is_choice s (Take a)) (outcome_of p (Take a)) p t
+  pub take_kept : (a : ℕ) → next s (Take a) ≡ Goes t → Follows trace (is_choice s (Take a)) (plain_next p (Take a)) p t
   take_kept a e = take_seat a (seat_at s.actors a) refl e
 
-  pub go_kept : (a : ℕ) → next s (Go a) ≡ Goes t → Follows trace (is_choice s (Go a)) (outcome_of p (Go a)) p t
+  pub go_kept : (a : ℕ) → next s (Go a) ≡ Goes t → Follows trace (is_choice s (Go a)) (plain_next p (Go a)) p t
   go_kept a e =
       subst (λ q. Follows trace (go_is_choice_at q s.program a (seat_at s.actors a)) (plain_go p a) p t) (sym facts.mode)
       (go_seat a (seat_at s.actors a) refl (sym (ap (λ q. go_at q s a (seat_at s.actors a)) facts.mode) ∙ e))

@@ -33,8 +33,9 @@ use Rattle.count_laws.specs.Agreement.{IsRootPerson, Person, nobody, people_of, 
 use Rattle.count_laws.specs.Gone.{ForgottenStaysForgotten, IsForgotten}
 use Rattle.count_laws.specs.Known.{InFrame, Names}
 use Rattle.machine_rules.specs.Left.{IsMade}
-use Rattle.plain_rules.specs.Machine.{NotEnabled, IsFull, Goes, PlainState, after_act, after_letter, after_turn, frame_of, fresh_actor, next_state, plain_row, stopped_at, turn_of_actor, with_changed, with_letter, with_name}
-use Rattle.plain_rules.specs.Run.{outcome_of}
+use Rattle.event_rule.specs.Runs.{NotEnabled, IsFull, Goes}
+use Rattle.plain_rules.specs.Run.{plain_next}
+use Rattle.plain_rules.specs.Machine.{PlainState, after_act, after_letter, after_turn, frame_of, fresh_actor, next_state, plain_row, stopped_at, turn_of_actor, with_changed, with_letter, with_name}
 use Rattle.plain_rules.specs.declared.PlainActor.{PlainActor}
 use Rattle.plain_rules.specs.declared.PlainLetter.{PlainLetter}
 
@@ -431,7 +432,7 @@ module _ (p : PlainState) where
       by_frame None framed e = cc
       by_frame (Some f) framed e = went a x there f framed q e
 
-  traced : (e : Event) (q : PlainState) → outcome_of p e ≡ Goes q → Traced q
+  traced : (e : Event) (q : PlainState) → plain_next p e ≡ Goes q → Traced q
   traced (Take a) q e = on_take a (slice_get p.actors a) refl q e
   traced (Go a) q e = on_go a (slice_get p.actors a) refl q e
   traced (Collect a) q e = cc

@@ -30,8 +30,9 @@ use Rattle.machine_rules.specs.Detect.{ask_all, hear_in, held_outside, reap_foun
 use Rattle.machine_rules.specs.Go.{act_in, go_at, go_in, needed, needing, post_or_mint, turn_of_cell, turned, with_turn_kept}
 use Rattle.machine_rules.specs.Leave.{leave_at, leave_in, may_leave}
 use Rattle.machine_rules.specs.Options.{Trace}
+use Rattle.event_rule.specs.Runs.{Step, IsFull, Goes}
 use Rattle.plain_rules.specs.Machine.{stopped_at, with_name}
-use Rattle.machine_rules.specs.State.{State, Step, IsFull, Goes}
+use Rattle.machine_rules.specs.State.{State}
 use Rattle.machine_rules.specs.Take.{note_of, notes_after, take_at, take_in}
 
 -- ---- lists
@@ -110,7 +111,7 @@ module _ (a : ℕ) (c : Cell) where
 
   -- ---- an event of another actor
 
-  abbrev Away : State → Step → Step → Type 0
+  abbrev Away : State → Step State → Step State → Type 0
   Away s away step = away ≡ step_with_cell a c step
 
   module _ (s : State) (below : a < length s.actors) (b : ℕ) (not : b ≢ a) where
@@ -159,7 +160,7 @@ module _ (a : ℕ) (c : Cell) where
           set actors b (seat (record (turned stop (Some (with_name f register n)) d.dirty d) { holdings = gain s.options.weight (Actor n) None (with_made stop.turn.made d.holdings) }) mail)
           ++ seat (fresh_cell s.options.weight s.program kind) [] ∷ []
 
-      abbrev made_in : ℕ → ℕ → ℕ → Bool → Actors → Step
+      abbrev made_in : ℕ → ℕ → ℕ → Bool → Actors → Step State
       made_in kind register n room actors = if room then Goes (with_turn_kept s stop (made kind register n actors)) else IsFull
 
       made_away : (kind register n : ℕ) (room : Bool) → made_in kind register n room (put_cell a c s.actors) ≡ step_with_cell a c (made_in kind register n room s.actors)
@@ -178,7 +179,7 @@ module _ (a : ℕ) (c : Cell) where
           ∙ made_away kind register (length s.actors) (nat_lt (length s.actors) 65536)
       act_away (Post to behaviour args) = post_away d _ to behaviour args _ _ _
 
-      need_away : (found : Option Thing) (step other : Step) → other ≡ step_with_cell a c step → needing away b d mail found other ≡ step_with_cell a c (needing s b d mail found step)
+      need_away : (found : Option Thing) (step other : Step State) → other ≡ step_with_cell a c step → needing away b d mail found other ≡ step_with_cell a c (needing s b d mail found step)
       need_away None step other e = e
       need_away (Some x) step other e = ap (λ actors. Goes (record s { actors = actors })) (push_away _ (owner_of x) _)
 

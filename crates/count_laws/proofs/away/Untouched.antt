@@ -20,7 +20,8 @@ use Rattle.machine_rules.specs.Cell.{Cell}
 use Rattle.machine_rules.specs.Collect.{is_marked, without_unused}
 use Rattle.machine_rules.specs.Detect.{ask_all, held_outside, reaped}
 use Rattle.machine_rules.specs.Enabled.{CanHappen, MayReport}
-use Rattle.machine_rules.specs.Next.{IsEnabled}
+use Rattle.event_rule.specs.Runs.{IsEnabled}
+use Rattle.machine_rules.specs.Next.{next}
 use Rattle.machine_rules.specs.Options.{Trace}
 use Rattle.machine_rules.specs.State.{State}
 
@@ -140,10 +141,10 @@ module _ (s t : State) (a : ℕ) (adds : LeavesCell s t a) where
   after : (c : Cell) (mail : List Letter) → seat_at s.actors a ≡ seat c mail → seat_at t.actors a ≡ seat c (mail ++ adds.come)
   after c mail at = seat_cell (seat_at t.actors a) c (adds.cell ∙ ap cell_of at) ∙ ap (seat c) (adds.mail ∙ ap (λ o. letters_of o ++ adds.come) at)
 
-  still : (e : Event) → (CanHappen s e → CanHappen t e) → IsEnabled s e → IsEnabled t e
+  still : (e : Event) → (CanHappen s e → CanHappen t e) → IsEnabled next s e → IsEnabled next t e
   still e f on = (enabled_exactly t e).1 (f ((enabled_exactly s e).0 on))
 
-  was : (e : Event) → (CanHappen t e → CanHappen s e) → IsEnabled t e → IsEnabled s e
+  was : (e : Event) → (CanHappen t e → CanHappen s e) → IsEnabled next t e → IsEnabled next s e
   was e f on = (enabled_exactly s e).1 (f ((enabled_exactly t e).0 on))
 
   -- where the mail is empty afterwards it was so before

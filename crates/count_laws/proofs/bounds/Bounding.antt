@@ -46,11 +46,11 @@ use Rattle.machine_rules.specs.Cell.{Cell, first_cell, fresh_cell}
 use Rattle.machine_rules.specs.Collect.{collected, is_marked, without_unused}
 use Rattle.machine_rules.specs.Detect.{ask_all, held_outside, reaped}
 use Rattle.machine_rules.specs.Go.{load_from, make, mint, post, rows_from, to_need, turn_of_cell, turned}
+use Rattle.event_rule.specs.Runs.{Leads, Goes}
 use Rattle.machine_rules.specs.Next.{next}
 use Rattle.machine_rules.specs.Options.{Options, Trace}
 use Rattle.plain_rules.specs.Machine.{stopped_at}
-use Rattle.machine_rules.specs.Run.{Leads}
-use Rattle.machine_rules.specs.State.{State, Goes, first_state, start_letters}
+use Rattle.machine_rules.specs.State.{State, first_state, start_letters}
 use Rattle.machine_rules.specs.Take.{cell_after}
 
 -- ---- what one seat counts
@@ -304,7 +304,7 @@ room_in trace = record {
   reaping = λ s number token is acked h. let l = length-reap token.members token.members [] s.actors in omega arith;
 }
 
-pub leads_room : (book : List Event) (s t : State) → Leads s book t → length s.actors ≤ 65536 → length t.actors ≤ 65536
+pub leads_room : (book : List Event) (s t : State) → Leads next s book t → length s.actors ≤ 65536 → length t.actors ≤ 65536
 leads_room [] s t same h = subst (λ (u : State). length u.actors ≤ 65536) same h
 leads_room (e ∷ book) s t (u, goes, leads) h = leads_room book u t leads (each_next Room room_in s u e goes h)
 
@@ -338,7 +338,7 @@ options_stay s t e goes = each_next Stays stays s t e goes
 
 -- ---- runs
 
-leads_count : (book : List Event) (s t : State) → 0 < s.options.weight → Leads s book t → (x : Thing) → counted x t.actors ≤ counted x s.actors + length book * s.options.weight
+leads_count : (book : List Event) (s t : State) → 0 < s.options.weight → Leads next s book t → (x : Thing) → counted x t.actors ≤ counted x s.actors + length book * s.options.weight
 leads_count [] s t pos leads x = let z = ap (λ (u : State). counted x u.actors) leads in omega arith
 leads_count (e ∷ book) s t pos (u, goes, leads) x =
     let one = events_raise s u e pos goes x in
@@ -347,7 +347,7 @@ leads_count (e ∷ book) s t pos (u, goes, leads) x =
     let later' : counted x t.actors ≤ counted x u.actors + length book * s.options.weight = rw w at later in
     omega arith
 
-leads_open : (book : List Event) (s t : State) → Leads s book t → t.detector.opened ≤ s.detector.opened + length book
+leads_open : (book : List Event) (s t : State) → Leads next s book t → t.detector.opened ≤ s.detector.opened + length book
 leads_open [] s t leads = let z = ap (λ (u : State). u.detector.opened) leads in omega arith
 leads_open (e ∷ book) s t (u, goes, leads) =
     let one = events_open s u e goes in

@@ -10,8 +10,8 @@ use Rattle.count_laws.proofs.local.NoSelf.{no_self-first, no_self-next}
 use Rattle.machine_rules.specs.Options.{Trace}
 use Rattle.count_laws.specs.Facts.{Facts}
 use Rattle.count_laws.specs.Laws.{CleanStaySwept, CollectsKeepFacts, GoesKeepFacts, LeavesKeepFacts, NoneGetsItsOwn, TakesKeepFacts}
+use Rattle.plain_rules.specs.Run.{plain_next}
 use Rattle.plain_rules.specs.Machine.{PlainState}
-use Rattle.plain_rules.specs.Run.{outcome_of}
 use Rattle.machine_rules.specs.Run.{PlainFollows, is_choice}
 use Rattle.machine_rules.specs.State.{State}
 
@@ -19,7 +19,7 @@ use Rattle.machine_rules.specs.State.{State}
 abbrev pub Beside : Trace → Bool → PlainState → Event → State → Type 0
 Beside trace choice p e t = (q : PlainState) × PlainFollows choice p e q × Facts trace q t
 
-pub followed : (trace : Trace) (choice : Bool) (p : PlainState) (e : Event) (t : State) → Follows trace choice (outcome_of p e) p t → Beside trace choice p e t
+pub followed : (trace : Trace) (choice : Bool) (p : PlainState) (e : Event) (t : State) → Follows trace choice (plain_next p e) p t → Beside trace choice p e t
 followed trace true p e t h = h
 followed trace false p e t h = (p, refl, h)
 

@@ -17,7 +17,7 @@ use Rattle.count_laws.proofs.events.Reap.{Sealed}
 use Rattle.count_laws.proofs.balance.SeatReads.{incs_at-seat, loads_at-seat, own_at-seat}
 use Rattle.machine_rules.proofs.Present.{present_below}
 use Rattle.count_laws.proofs.balance.Sends.{held_below}
-use Rattle.machine_rules.proofs.Steps.{goes_to, not_enabled}
+use Rattle.event_rule.proofs.Steps.{goes_to, not_enabled}
 use Rattle.machine_rules.specs.Options.{Trace}
 use Rattle.machine_rules.specs.Actors.{Actors, Seat, seat, seat_at}
 use Rattle.count_laws.specs.Agreement.{Person, app_letters, people_of}
@@ -26,9 +26,10 @@ use Rattle.machine_rules.specs.Cell.{Cell}
 use Rattle.machine_rules.specs.Enabled.{MayReport}
 use Rattle.count_laws.specs.Facts.{Facts, KeepsCounts}
 use Rattle.machine_rules.specs.Leave.{leave_at, leave_in, may_leave}
+use Rattle.event_rule.specs.Runs.{Goes}
 use Rattle.machine_rules.specs.Next.{next}
 use Rattle.plain_rules.specs.Machine.{PlainState, plain_row}
-use Rattle.machine_rules.specs.State.{State, Goes}
+use Rattle.machine_rules.specs.State.{State}
 
 -- the one member of a set of one
 no_sum : (f : Letter → ℕ) (ls : List Letter) → ls ≡ [] → sum_by f ls ≡ 0

@@ -36,9 +36,10 @@ use Rattle.machine_rules.specs.Detect.{ask_all, held_outside, reaped}
 use Rattle.machine_rules.specs.Go.{load_from, make, mint, post, rows_from, turn_of_cell, turned}
 use Rattle.count_laws.specs.Gone.{GoneStaysGone, HasName, NamesStayGiven}
 use Rattle.machine_rules.specs.Options.{Trace}
+use Rattle.event_rule.specs.Runs.{Leads}
+use Rattle.machine_rules.specs.Next.{next}
 use Rattle.plain_rules.specs.Machine.{stopped_at}
 use Rattle.machine_rules.specs.Left.{IsLeft}
-use Rattle.machine_rules.specs.Run.{Leads}
 use Rattle.machine_rules.specs.State.{State}
 use Rattle.machine_rules.specs.Take.{cell_after}
 
@@ -243,7 +244,7 @@ stays trace = record {
   reaping = λ s number token is acked. stays_reaped token.members token.members [] s.actors;
 }
 
-leads_stay : (book : List Event) (s t : State) → Leads s book t → Stays s.actors t.actors
+leads_stay : (book : List Event) (s t : State) → Leads next s book t → Stays s.actors t.actors
 leads_stay [] s t same = subst (λ (u : State). Stays s.actors u.actors) same (stays_self s.actors)
 leads_stay (e ∷ book) s t (u, goes, leads) = stays_trans s.actors u.actors t.actors (each_next StaysAfter stays s u e goes) (leads_stay book u t leads)
 

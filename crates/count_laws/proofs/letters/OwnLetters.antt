@@ -29,7 +29,8 @@ use Rattle.machine_rules.specs.Detect.{ask_all, held_outside, reaped}
 use Rattle.machine_rules.specs.Go.{to_need}
 use Rattle.count_laws.specs.Letters.{AreFor, EventsKeepNamesOwn, LettersNameTheirOwn, NamesOwn, RunsNameOwn, StartNamesOwn}
 use Rattle.machine_rules.specs.Options.{Trace}
-use Rattle.machine_rules.specs.Run.{Leads}
+use Rattle.event_rule.specs.Runs.{Leads}
+use Rattle.machine_rules.specs.Next.{next}
 use Rattle.machine_rules.specs.State.{State, first_state, start_letters}
 use Rattle.machine_rules.specs.Take.{cell_after}
 
@@ -116,7 +117,7 @@ nowhere a c mail at = cc
 pub start_names_own : StartNamesOwn
 start_names_own program options = every_more OwnMail [] (first_cell program) (start_letters program) (start_mail (start_name program) 0) nowhere
 
-leads_own : (book : List Event) (s t : State) → Leads s book t → LettersNameTheirOwn s.actors → LettersNameTheirOwn t.actors
+leads_own : (book : List Event) (s t : State) → Leads next s book t → LettersNameTheirOwn s.actors → LettersNameTheirOwn t.actors
 leads_own [] s t same own = subst (λ (u : State). LettersNameTheirOwn u.actors) same own
 leads_own (e ∷ book) s t (u, goes, leads) own = leads_own book u t leads (events_keep_own s u e goes own)
 

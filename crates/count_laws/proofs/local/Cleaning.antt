@@ -24,9 +24,10 @@ use Rattle.machine_rules.specs.Cell.{Cell, clean_cell}
 use Rattle.count_laws.specs.Clean.{IsInReach, IsSweptAt, IsCleanAt, CleanAreSwept}
 use Rattle.machine_rules.specs.Collect.{is_marked}
 use Rattle.count_laws.specs.Known.{row_at}
+use Rattle.event_rule.specs.Runs.{Goes}
 use Rattle.machine_rules.specs.Next.{next}
 use Rattle.machine_rules.specs.Options.{Deep, Options}
-use Rattle.machine_rules.specs.State.{State, Goes, first_state}
+use Rattle.machine_rules.specs.State.{State, first_state}
 use Rattle.machine_rules.specs.Take.{cell_after}
 
 -- ---- of an actor with a frame, or that did something, nothing is said

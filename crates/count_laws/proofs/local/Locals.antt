@@ -25,10 +25,11 @@ use Rattle.machine_rules.specs.Collect.{collect_at, collect_in, is_marked, witho
 use Rattle.machine_rules.specs.Detect.{ask_all, hear_in, reap_found, reap_in, scan_in}
 use Rattle.machine_rules.specs.Go.{act_in, go_at, go_in, load_from, make, needed, needing, post_or_mint, rows_from, to_need, turn_of_cell, turned, with_turn_kept}
 use Rattle.machine_rules.specs.Leave.{leave_at, leave_in, may_leave}
+use Rattle.event_rule.specs.Runs.{NotEnabled, IsFull, Goes}
 use Rattle.machine_rules.specs.Next.{next, next_by}
 use Rattle.machine_rules.specs.Options.{Options, Trace}
 use Rattle.plain_rules.specs.Machine.{stopped_at, with_name}
-use Rattle.machine_rules.specs.State.{State, NotEnabled, IsFull, Goes, first_state}
+use Rattle.machine_rules.specs.State.{State, first_state}
 use Rattle.machine_rules.specs.Take.{cell_after, take_at, take_in}
 use Rattle.count_laws.proofs.events.Every.{every_set, every_push, every_decs, every_more}
 use Rattle.count_laws.proofs.knowledge.Lacking.{to_mint_theirs, to_need_lacks}

@@ -17,9 +17,10 @@ use Rattle.count_laws.proofs.balance.Sweeping.{held-sweep, same_holdings}
 use Rattle.count_laws.proofs.balance.Takes.{held-taken_own}
 use Rattle.count_laws.specs.Clean.{HoldsNoOwnAt, NoneHoldsItsOwn}
 use Rattle.machine_rules.specs.Go.{turn_of_cell}
+use Rattle.event_rule.specs.Runs.{Goes}
 use Rattle.machine_rules.specs.Next.{next}
 use Rattle.machine_rules.specs.Options.{Deep, Options, Trace}
-use Rattle.machine_rules.specs.State.{State, Goes, first_state}
+use Rattle.machine_rules.specs.State.{State, first_state}
 
 held-with_made : (made : List Row) (h : Holdings) (x : Thing) → held_in (with_made made h) x ≡ held_in h x
 unfolding held_in

@@ -31,10 +31,11 @@ use Rattle.count_laws.specs.Clean.{IsCleanByRootsAt, IsInOwnReach, IsSweptByRoot
 use Rattle.machine_rules.specs.Collect.{is_marked_by_roots, start_of_marks, without_unused}
 use Rattle.machine_rules.specs.Actors.{Every}
 use Rattle.count_laws.specs.Known.{Names}
+use Rattle.event_rule.specs.Runs.{Goes}
 use Rattle.machine_rules.specs.Next.{next}
 use Rattle.machine_rules.specs.Options.{Options}
 use Rattle.machine_rules.specs.Options as options
-use Rattle.machine_rules.specs.State.{State, Goes, first_state}
+use Rattle.machine_rules.specs.State.{State, first_state}
 use Rattle.machine_rules.specs.Take.{cell_after}
 
 -- ---- what stands among sorted entries is found

@@ -1,0 +1,3 @@
+pub mod OneRun
+pub mod Ordered
+pub mod Steps
