@@ -16,19 +16,13 @@ use Rattle.letter_kinds.specs.Holdings.{has_own}
 use Rattle.machine_examples.proofs.LedgerSteps.{Page, first_page, after_all, after_all-leads, state_told}
 use Rattle.machine_examples.proofs.Places.{seats_told}
 use Rattle.machine_rules.specs.Actors.{Actors, Seat, seat_at}
-use Rattle.machine_rules.specs.Block.{block_at, block_in}
-use Rattle.machine_rules.specs.Collect.{collect_at, collect_in}
-use Rattle.machine_rules.specs.Detect.{hear_in, reap_found, scan_in}
 use Rattle.machine_examples.specs.Examples.{usual, two_hold_each_other, two_up_to_the_ping, two_to_the_end, TwoHoldEachOtherAndGo, passes_an_object_on, passing_book, AnObjectIsPassedOnAndGoes}
-use Rattle.machine_rules.specs.Go.{go_at, go_in}
-use Rattle.machine_rules.specs.Leave.{leave_at, leave_in}
 use Rattle.machine_rules.specs.Left.{IsLeft}
 use Rattle.plain_list.specs.Lists.{is_empty}
 use Rattle.event_rule.specs.Runs.{IsQuiet, Leads, NotEnabled}
 use Rattle.machine_rules.specs.Next.{next}
 use Rattle.machine_rules.specs.Run.{IsRun}
 use Rattle.machine_rules.specs.State.{State, first_state}
-use Rattle.machine_rules.specs.Take.{take_at, take_in}
 
 -- what is there, or else the page that is given
 abbrev pub page_or : Page → Option Page → Page

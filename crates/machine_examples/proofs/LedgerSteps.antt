@@ -27,19 +27,18 @@ use Rattle.letter_kinds.specs.declared.note.Note.TheVariants as notes
 use Rattle.machine_examples.proofs.Brought.{Brought, cell_with, learn_told, learn-told, listed_told, listed-told, marked_by_roots_told, marked_by_roots-told, need_told, need-told, needs_told, needs-told, row_brought, row_brought-told, used_told, used-told}
 use Rattle.machine_examples.proofs.Ledgers.{Ledger, told, empty_ledger, row_told, row_of-told, objects_told, known_objects-told, actors_told, held_actors-told, change_held, set_held-told, take_load, receive-told, give_load, send-told, raise_told, raise_all-told, lower_told, lower_all-told, mint_told, mint_all-told, lacking_told, lacking-told, make_told, with_made-told, sweep_told, sweep-told, back_told, given_back-told}
 use Rattle.machine_rules.specs.Actors.{Seat, push_decs, push_letter, seat, seat_at}
-use Rattle.machine_rules.specs.Block.{block_at, block_in, may_block}
 use Rattle.machine_rules.specs.Cell.{Cell, first_cell, fresh_cell, row_by}
-use Rattle.machine_rules.specs.Collect.{collect_at, collect_in, collected, is_marked, is_marked_deep, without_unused}
-use Rattle.machine_rules.specs.Detect.{hear_in, scan_in, reap_in, held_outside, reap_found, reaped}
-use Rattle.machine_rules.specs.Go.{act_in, go_at, go_in, load_from, needed, needing, mint, post_or_mint, rows_from, setting_of, turn_of_cell, turned}
-use Rattle.machine_rules.specs.Leave.{leave_at, leave_in}
+use Rattle.machine_rules.specs.Collect.{collected, is_marked, is_marked_deep, without_unused}
+use Rattle.machine_rules.specs.Detect.{held_outside, reaped}
+use Rattle.machine_rules.specs.Go.{act_in, load_from, needed, needing, mint, post_or_mint, rows_from, setting_of, turn_of_cell, turned}
 use Rattle.event_rule.specs.Runs.{Leads, Step, IsFull, Goes}
 use Rattle.machine_rules.specs.Next.{next}
 use Rattle.machine_rules.specs.Options.{Trace, Deep, Roots, Options}
 use Rattle.plain_rules.specs.Machine.{stopped_at, with_name}
 use Rattle.machine_rules.specs.State.{State, first_state, start_letters}
-use Rattle.machine_rules.specs.Take.{cell_after, note_of, notes_after, take_at, take_in}
+use Rattle.machine_rules.specs.Take.{cell_after, note_of, notes_after}
 use Rattle.machine_examples.proofs.Places.{Place, Places, seats_told, cell_told, seat_told, place, place_at, seat_at-told, set-told, push_told, push_letter-told, decs_told, push_decs-told, asked_told, ask_all-told}
+use Rattle.machine_rules.specs.Guards.{may_block}
 
 -- ---- states
 

@@ -27,7 +27,6 @@ use Rattle.count_laws.specs.Agreement.{Person}
 use Rattle.machine_rules.specs.Balance.{load_sum}
 use Rattle.machine_rules.specs.Block.{held_actors}
 use Rattle.machine_rules.specs.Cell.{Cell}
-use Rattle.machine_rules.specs.Enabled.{MayReport}
 use Rattle.count_laws.specs.Facts.{IsFirmAt, IsPastRows, KeepsCounts, IsSound}
 use Rattle.count_laws.specs.Known.{IsSoundAt}
 use Rattle.detector_laws.specs.Events.{CanBlock}
@@ -35,6 +34,7 @@ use Rattle.detector_laws.specs.World as view
 use Rattle.machine_laws.proofs.Collecting.{same_loads}
 use Rattle.machine_laws.proofs.HeldActors.{count_on-held_actors}
 use Rattle.machine_laws.proofs.Seen.{world_of}
+use Rattle.machine_rules.proofs.Guards.{MayReport}
 
 -- the actor has its report out
 abbrev pub reporting : Cell → Cell

@@ -7,16 +7,10 @@ use Rattle.event_rule.specs.declared.event.Event.TheVariants.{Take, Go, Collect,
 use Rattle.letter_kinds.specs.Detector.{Token, token_numbered}
 use Rattle.event_rule.proofs.Steps.{not_enabled}
 use Rattle.machine_rules.specs.Actors.{seat_at}
-use Rattle.machine_rules.specs.Block.{block_at}
-use Rattle.machine_rules.specs.Collect.{collect_at}
-use Rattle.machine_rules.specs.Detect.{reap_found}
-use Rattle.machine_rules.specs.Go.{go_at}
-use Rattle.machine_rules.specs.Leave.{leave_at}
 use Rattle.event_rule.specs.Runs.{Step, NotEnabled, IsFull, Goes}
 use Rattle.machine_rules.specs.Next.{next}
 use Rattle.machine_rules.specs.Run.{is_choice}
 use Rattle.machine_rules.specs.State.{State}
-use Rattle.machine_rules.specs.Take.{take_at}
 use Rattle.detector_laws.proofs.Named.{numbered_is_open}
 use Rattle.detector_laws.specs.Members.{In}
 

@@ -14,10 +14,8 @@ use Rattle.machine_rules.specs.Options.{Trace}
 use Rattle.machine_rules.specs.Actors.{Seat, cell_at, mail_at, seat, seat_at, Every}
 use Rattle.count_laws.specs.Agreement.{Person, people_of}
 use Rattle.machine_rules.specs.Balance.{load_sum}
-use Rattle.machine_rules.specs.Block.{block_at, block_in, may_block}
 use Rattle.machine_rules.specs.Cell.{Cell}
 use Rattle.count_laws.specs.Clean.{HoldsNoOwnAt}
-use Rattle.machine_rules.specs.Detect.{hear_in, reap_found, reap_in, scan_in}
 use Rattle.count_laws.specs.Facts.{Facts}
 use Rattle.event_rule.specs.Runs.{Goes}
 use Rattle.machine_rules.specs.Next.{next}
@@ -35,6 +33,7 @@ use Rattle.machine_laws.proofs.Scanning.{confirms_all, scan_keeps}
 use Rattle.machine_laws.proofs.Sealing.{members_keep}
 use Rattle.machine_laws.proofs.Seen.{world}
 use Rattle.machine_laws.proofs.Stepping.{next_steps}
+use Rattle.machine_rules.specs.Guards.{may_block}
 
 module _ (trace : Trace) (p : PlainState) (s t : State) (beside : Facts trace p s) (facts : FactsHold (world s)) where
   abbrev all : Thing → Option Row

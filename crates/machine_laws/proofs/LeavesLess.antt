@@ -24,27 +24,26 @@ use Rattle.letter_kinds.specs.declared.letter.Letter.{Letter}
 use Rattle.letter_kinds.specs.declared.letter.Letter.TheVariants.{App, Inc, Dec, Confirm}
 use Rattle.letter_kinds.specs.declared.note.Note.{Note}
 use Rattle.letter_kinds.specs.declared.note.Note.TheVariants as notes
-use Rattle.machine_rules.proofs.Enabling.{may_go, may_report}
+use Rattle.machine_rules.proofs.Enabling.{may_go}
 use Rattle.count_laws.proofs.balance.InHand.{AllCounted}
 use Rattle.count_laws.proofs.knowledge.Lacking.{counted_mint, to_mint_theirs}
 use Rattle.machine_rules.proofs.Present.{present_below}
 use Rattle.event_rule.proofs.Steps.{goes_to, not_enabled}
 use Rattle.count_laws.proofs.events.Take.{alike_lower, alike_raise}
 use Rattle.machine_rules.specs.Actors.{Actors, Seat, seat, seat_at}
-use Rattle.machine_rules.specs.Block.{block_at, block_in, held_actors, may_block}
+use Rattle.machine_rules.specs.Block.{held_actors}
 use Rattle.machine_rules.specs.Cell.{Cell}
-use Rattle.machine_rules.specs.Collect.{collect_at, collect_in, collected, is_in_use, is_marked, without_unused}
-use Rattle.machine_rules.specs.Detect.{ask_all, hear_in, reap_found, reap_in, reap_members, scan_in}
-use Rattle.machine_rules.specs.Go.{act_in, go_at, go_in, lacking_from, load_from, mint, needed, needing, post_or_mint, rows_from, to_need, turn_of_cell, turned}
+use Rattle.machine_rules.specs.Collect.{collected, is_in_use, is_marked, without_unused}
+use Rattle.machine_rules.specs.Detect.{ask_all, reap_members}
+use Rattle.machine_rules.specs.Go.{act_in, lacking_from, load_from, mint, needed, needing, post_or_mint, rows_from, to_need, turn_of_cell, turned}
 use Rattle.plain_list.specs.Lists.{is_empty}
-use Rattle.machine_rules.specs.Leave.{leave_at, leave_in, may_leave}
 use Rattle.event_rule.specs.Runs.{Goes}
 use Rattle.machine_rules.specs.Next.{next}
 use Rattle.machine_rules.specs.Options.{Trace, Deep, Roots}
 use Rattle.plain_rules.specs.Machine.{stopped_at}
 use Rattle.machine_rules.specs.Run.{act_is_choice, go_is_choice, go_is_choice_at, is_choice, take_is_choice_at}
 use Rattle.machine_rules.specs.State.{State}
-use Rattle.machine_rules.specs.Take.{cell_after, note_of, notes_after, take_at, take_in}
+use Rattle.machine_rules.specs.Take.{cell_after, note_of, notes_after}
 use Rattle.detector_laws.proofs.Named.{numbered_is_open}
 use Rattle.detector_laws.specs.Members.{In}
 use Rattle.machine_laws.proofs.ActorsWork.{asks-work, decs-work, leave-work, more_times, push-work, reaped-work, set-work}
@@ -53,6 +52,8 @@ use Rattle.machine_laws.proofs.GetsWork.{asks-gets, decs-gets, gets, idle-gets, 
 use Rattle.machine_laws.proofs.Going.{held_made}
 use Rattle.machine_laws.proofs.TableWork.{by_owner-length, mint_all-more, mint_first-work, sweep-work}
 use Rattle.machine_laws.specs.Work.{actors_work, count_work, detector_work, entry_work, get_work, gets_left, letter_work, news_work, note_work, seat_work, silence_work, table_work}
+use Rattle.machine_rules.proofs.Guards.{may_report}
+use Rattle.machine_rules.specs.Guards.{may_block, may_leave}
 
 -- what a filter lets through first passes
 first_passes : {A : Type 0} (p : A → Bool) (xs : List A) (y : A) (ys : List A) → filter p xs ≡ y ∷ ys → p y ≡ true

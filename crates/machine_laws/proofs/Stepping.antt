@@ -22,7 +22,7 @@ use Rattle.letter_kinds.specs.declared.letter.Letter.TheVariants.{App, Inc, Dec,
 use Rattle.letter_kinds.specs.declared.note.Note.{Note}
 use Rattle.letter_kinds.specs.declared.note.Note.TheVariants.{Unblock}
 use Rattle.count_laws.proofs.events.EitherMode.{held_owner}
-use Rattle.machine_rules.proofs.Enabling.{may_go, may_report}
+use Rattle.machine_rules.proofs.Enabling.{may_go}
 use Rattle.count_laws.proofs.agreement.FollowingGo.{load_known, target_known}
 use Rattle.count_laws.proofs.knowledge.Lacking.{first_minted, to_mint_theirs}
 use Rattle.count_laws.proofs.balance.Makes.{fresh_held}
@@ -30,19 +30,15 @@ use Rattle.count_laws.proofs.balance.Sweeping.{same_holdings, same_reported}
 use Rattle.event_rule.proofs.Steps.{goes_if, goes_to, not_enabled}
 use Rattle.machine_rules.specs.Actors.{Actors, Seat, cell_of, letters_of, seat, seat_at}
 use Rattle.count_laws.specs.Agreement.{people_of}
-use Rattle.machine_rules.specs.Block.{block_at, block_in, may_block}
 use Rattle.machine_rules.specs.Cell.{Cell, fresh_cell}
-use Rattle.machine_rules.specs.Collect.{collect_at, collect_in, is_marked, without_unused}
-use Rattle.machine_rules.specs.Detect.{hear_in, reap_found, reap_in, scan_in}
+use Rattle.machine_rules.specs.Collect.{is_marked, without_unused}
 use Rattle.count_laws.specs.Facts.{Facts, IsFirm}
-use Rattle.machine_rules.specs.Go.{act_in, go_at, go_in, load_from, make, needed, needing, post_or_mint, rows_from, turn_of_cell, turned}
-use Rattle.machine_rules.specs.Leave.{leave_at, leave_in, may_leave}
+use Rattle.machine_rules.specs.Go.{act_in, load_from, make, needed, needing, post_or_mint, rows_from, turn_of_cell, turned}
 use Rattle.event_rule.specs.Runs.{Goes}
 use Rattle.machine_rules.specs.Next.{next}
 use Rattle.machine_rules.specs.Options.{Trace}
 use Rattle.plain_rules.specs.Machine.{PlainState, plain_row, stopped_at, with_name}
 use Rattle.machine_rules.specs.State.{State}
-use Rattle.machine_rules.specs.Take.{take_at, take_in}
 use Rattle.detector_laws.proofs.Cells.{same_some}
 use Rattle.detector_laws.proofs.Named.{numbered_is_open}
 use Rattle.detector_laws.specs.Events.{Moves}
@@ -58,6 +54,8 @@ use Rattle.machine_laws.proofs.Reaping.{departs, reap_reaps}
 use Rattle.machine_laws.proofs.Scanning.{scan_is}
 use Rattle.machine_laws.proofs.Seen.{world, world_of}
 use Rattle.machine_laws.proofs.Taking.{confirm_is, take_moves}
+use Rattle.machine_rules.proofs.Guards.{may_report}
+use Rattle.machine_rules.specs.Guards.{may_block, may_leave}
 
 -- ---- who runs or is dirty has no report out
 

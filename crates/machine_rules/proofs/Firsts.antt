@@ -8,6 +8,7 @@ use Rattle.event_rule.specs.declared.event.Event.TheVariants.{Take, Go, Collect,
 use Rattle.letter_kinds.specs.Detector.{Token}
 use Rattle.machine_rules.proofs.Enabling.{enabled_exactly, full_exactly}
 use Rattle.event_rule.proofs.Ordered.{Upto, upto_both, upto_or, upto_trans}
+use Rattle.machine_rules.proofs.Guards.{acked_open}
 use Rattle.machine_rules.proofs.Present.{present_below}
 use Rattle.event_rule.specs.Events.{actor_of}
 use Rattle.machine_rules.specs.Enabled.{CanHappen}
@@ -125,7 +126,7 @@ module _ (s : State) where
   any (Block a) can = inl (a, present_below s.actors a _ can.2, refl)
   any Hear can = inr (inl refl)
   any Scan can = inr (inr (inl refl))
-  any (Reap number) can = inr (inr (inr (number, refl, found_among number s.detector.tokens can.0 can.1)))
+  any (Reap number) can = inr (inr (inr (number, refl, found_among number s.detector.tokens can.0 (acked_open number s.detector can.0 can.1).0)))
 
   best : Best (λ f. Unit {0})
   best = best_of Any (λ f. Unit {0}) (λ f h mark. any f ((enabled_exactly s f).0 h))

@@ -1,5 +1,7 @@
-pub mod Cases
+pub mod Acting
 pub mod Enabling
 pub mod Firsts
+pub mod Guards
 pub mod Present
 pub mod Rest
+pub mod Stepping

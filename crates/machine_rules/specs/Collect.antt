@@ -48,11 +48,5 @@ abbrev pub collected : (Thing → Bool) → ℕ → Cell → List Letter → Act
 collected marked a c mail actors =
     push_decs (by_owner (given_back marked c.holdings)) (set actors a (seat (record c { holdings = sweep marked a c.holdings; dirty = false }) mail))
 
-abbrev pub collect_in : Trace → State → ℕ → Cell → Option Frame → Bool → List Letter → Step State
-collect_in trace s a c (Some frame) dirty mail = NotEnabled
-collect_in trace s a c None false mail = NotEnabled
-collect_in trace s a c None true mail = Goes (record s { actors = collected (is_marked trace a c) a (without_unused trace a c) mail s.actors })
-
-abbrev pub collect_at : Trace → State → ℕ → Option Seat → Step State
-collect_at trace s a None = NotEnabled
-collect_at trace s a (Some o) = collect_in trace s a o.cell o.cell.frame o.cell.dirty o.mail
+abbrev pub collect : Trace → State → ℕ → Cell → List Letter → Step State
+collect trace s a c mail = Goes (record s { actors = collected (is_marked trace a c) a (without_unused trace a c) mail s.actors })

@@ -1,22 +1,19 @@
 -- Hear, scan and reap: the detector's events (MAC, OOPSLA 2013).
-use Rattle.std.specs.Prelude.{ℕ, suc, true, false, Bool, List, [], ◌∷◌, ◌++◌, set, Option, Some, None}
+use Rattle.std.specs.Prelude.{ℕ, suc, List, [], ◌∷◌, ◌++◌, if◌then◌else◌, set, Option, Some, None, option_and_then}
 use Rattle.orca_names.specs.Names.{owner_of}
 use Rattle.letter_kinds.specs.declared.letter.Letter.TheVariants.{Confirm}
 use Rattle.letter_kinds.specs.declared.note.Note.{Note}
 use Rattle.letter_kinds.specs.Counting.{Amount, by_owner, given_back}
-use Rattle.letter_kinds.specs.Detector.{Token, all_acked, close_token, closed_set, has, heard, scanned, token_numbered}
+use Rattle.letter_kinds.specs.Detector.{Detector, Token, all_acked, close_token, closed_set, has, heard, scanned, token_numbered}
 use Rattle.machine_rules.specs.Actors.{Actors, Seat, push_decs, push_letter, seat_at}
 use Rattle.event_rule.specs.Runs.{Step, NotEnabled, Goes}
 use Rattle.machine_rules.specs.State.{State}
 
 -- ---- hear: the detector takes the first of its notes
 
-abbrev pub hear_in : State → List Note → Step State
-hear_in s [] = NotEnabled
-hear_in s (note ∷ notes) = Goes (record s { detector = heard note s.detector; notes = notes })
-
-abbrev pub hear : State → Step State
-hear s = hear_in s s.notes
+abbrev pub hear : State → List Note → Step State
+hear s [] = NotEnabled
+hear s (note ∷ notes) = Goes (record s { detector = heard note s.detector; notes = notes })
 
 -- ---- scan: where there is news, the largest closed set becomes a token, and its members are asked
 
@@ -25,13 +22,10 @@ abbrev pub ask_all : List ℕ → ℕ → Actors → Actors
 ask_all [] token actors = actors
 ask_all (a ∷ members) token actors = ask_all members token (push_letter a (Confirm token) actors)
 
-abbrev pub scan_in : State → List ℕ → Bool → Step State
-scan_in s closed false = NotEnabled
-scan_in s closed true =
-    Goes (record s { actors = ask_all closed (suc s.detector.opened) s.actors; detector = scanned s.detector closed })
-
 abbrev pub scan : State → Step State
-scan s = scan_in s (closed_set s.detector) s.detector.news
+scan s =
+    let closed = closed_set s.detector in
+    Goes (record s { actors = ask_all closed (suc s.detector.opened) s.actors; detector = scanned s.detector closed })
 
 -- ---- reap: the members of a token that all acknowledged go, with all that they own
 
@@ -50,14 +44,9 @@ reaped members (a ∷ rest) decs actors = reaped members rest (decs ++ by_owner 
 abbrev pub reap_members : List ℕ → Actors → Actors
 reap_members members actors = reaped members members [] actors
 
-abbrev pub reap_in : State → Token → Bool → Step State
-reap_in s token false = NotEnabled
-reap_in s token true =
-    Goes (record s { actors = reap_members token.members s.actors; detector = close_token token s.detector })
+-- the open token of this number, if all its members acknowledged
+abbrev pub acked_token : ℕ → Detector → Option Token
+acked_token number d = option_and_then (λ t. if all_acked t then Some t else None) (token_numbered number d)
 
-abbrev pub reap_found : State → Option Token → Step State
-reap_found s None = NotEnabled
-reap_found s (Some token) = reap_in s token (all_acked token)
-
-abbrev pub reap : State → ℕ → Step State
-reap s number = reap_found s (token_numbered number s.detector)
+abbrev pub reap : State → Token → Step State
+reap s token = Goes (record s { actors = reap_members token.members s.actors; detector = close_token token s.detector })

@@ -1,36 +1,31 @@
 -- When each event is enabled, and when a go is refused because the machine is full.
-use Rattle.std.specs.Prelude.{ℕ, ◌≡◌, ◌≢◌, ◌≤◌, true, false, List, [], length, Some, None}
+use Rattle.std.specs.Prelude.{ℕ, ◌≡◌, ◌≢◌, ◌≤◌, true, List, [], length, Some, None}
 use Rattle.event_rule.specs.declared.event.Event.{Event}
 use Rattle.event_rule.specs.declared.event.Event.TheVariants.{Take, Go, Collect, Leave, Block, Hear, Scan, Reap}
 use Rattle.turn_rules.specs.declared.act.Act.TheVariants.{New}
 use Rattle.turn_rules.specs.declared.act.Frame.{Frame}
-use Rattle.letter_kinds.specs.Detector.{Token, all_acked, token_numbered}
+use Rattle.letter_kinds.specs.Detector.{Token}
 use Rattle.letter_kinds.specs.declared.letter.Letter.{Letter}
 use Rattle.machine_rules.specs.Actors.{seat, seat_at}
 use Rattle.machine_rules.specs.Cell.{Cell}
+use Rattle.machine_rules.specs.Detect.{acked_token}
 use Rattle.machine_rules.specs.Go.{needed, turn_of_cell}
-use Rattle.machine_rules.specs.Next.{IsAtRest}
+use Rattle.machine_rules.specs.Guards.{may_block, may_collect, may_go, may_leave, may_take}
 use Rattle.machine_rules.specs.State.{State}
 
 -- the actor is present, and its cell and its letters are so
 abbrev pub IsPresentWith : State → ℕ → (Cell → List Letter → Type 0) → Type 0
 IsPresentWith s a Q = (c : Cell) × (mail : List Letter) × (seat_at s.actors a ≡ seat c mail) × Q c mail
 
--- at rest, not pinned, and not reported yet
-pub record MayReport (c : Cell) (mail : List Letter) : Type 0 where
-  pub rest : IsAtRest c mail
-  pub unpinned : c.fields.pinned ≡ false
-  pub unreported : c.reported ≡ false
-
 abbrev pub CanHappen : State → Event → Type 0
-CanHappen s (Take a) = IsPresentWith s a (λ c mail. (c.frame ≡ None) × (mail ≢ []))
-CanHappen s (Go a) = IsPresentWith s a (λ c mail. c.frame ≢ None)
-CanHappen s (Collect a) = IsPresentWith s a (λ c mail. (c.frame ≡ None) × (c.dirty ≡ true))
-CanHappen s (Leave a) = IsPresentWith s a (λ c mail. MayReport c mail × (c.holdings.count ≡ 0))
-CanHappen s (Block a) = IsPresentWith s a MayReport
+CanHappen s (Take a) = IsPresentWith s a (λ c mail. may_take c mail ≡ true)
+CanHappen s (Go a) = IsPresentWith s a (λ c mail. may_go c mail ≡ true)
+CanHappen s (Collect a) = IsPresentWith s a (λ c mail. may_collect c mail ≡ true)
+CanHappen s (Leave a) = IsPresentWith s a (λ c mail. may_leave c mail ≡ true)
+CanHappen s (Block a) = IsPresentWith s a (λ c mail. may_block c mail ≡ true)
 CanHappen s Hear = s.notes ≢ []
 CanHappen s Scan = s.detector.news ≡ true
-CanHappen s (Reap token) = (t : Token) × (token_numbered token s.detector ≡ Some t) × (all_acked t ≡ true)
+CanHappen s (Reap number) = (t : Token) × (acked_token number s.detector ≡ Some t)
 
 -- the event is a go whose act makes an actor, where as many are made as may be
 pub record IsRefusedAsFull (s : State) (e : Event) : Type 0 where

@@ -1,6 +1,7 @@
 -- Go: an actor's frame runs up to its next act.
 use Rattle.std.specs.Prelude.{ℕ, ◌+◌, ◌==◌, ◌&&◌, ◌||◌, not, nat_lt, filter, map, true, Bool, if◌then◌else◌, List, [], ◌∷◌, ◌++◌, length, set, Option, Some, None}
 use Rattle.std.specs.List.{find}
+use Rattle.std.specs.Option.{option_map_or}
 use Rattle.orca_names.specs.Names.{owner_of}
 use Rattle.orca_names.specs.declared.names.Thing.{Thing}
 use Rattle.orca_names.specs.declared.names.Thing.TheVariants as things
@@ -116,12 +117,11 @@ abbrev pub needing : State → ℕ → Cell → List Letter → Option Thing →
 needing s a c mail None step = step
 needing s a c mail (Some x) step = Goes (record s { actors = mint a c mail (owner_of x) (to_need s.options.weight a c.holdings x) s.actors })
 
-abbrev pub go_in : Trace → State → ℕ → Cell → Option Frame → List Letter → Step State
-go_in trace s a c None mail = NotEnabled
-go_in trace s a c (Some frame) mail =
+abbrev pub turn_in : Trace → State → ℕ → Cell → List Letter → Frame → Step State
+turn_in trace s a c mail frame =
     let stop = turn_of_cell trace s.program a c frame in
     needing s a c mail (needed trace s.program a c frame) (act_in trace s a c mail (stopped_at frame stop) stop stop.act)
 
-abbrev pub go_at : Trace → State → ℕ → Option Seat → Step State
-go_at trace s a None = NotEnabled
-go_at trace s a (Some o) = go_in trace s a o.cell o.cell.frame o.mail
+-- the actor goes on in its frame
+abbrev pub go : Trace → State → ℕ → Cell → List Letter → Step State
+go trace s a c mail = option_map_or (turn_in trace s a c mail) c.frame NotEnabled

@@ -6,11 +6,13 @@ pub mod Collect
 pub mod Detect
 pub mod Enabled
 pub mod Go
+pub mod Guards
 pub mod Laws
 pub mod Leave
 pub mod Left
 pub mod Next
 pub mod Options
+pub mod Rules
 pub mod Run
 pub mod State
 pub mod Take

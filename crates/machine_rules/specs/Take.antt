@@ -45,15 +45,8 @@ note_of a (Confirm token) = Ack token a
 abbrev pub notes_after : Bool → Note → List Note → List Note
 notes_after reported note notes = if reported then notes ++ note ∷ [] else notes
 
-abbrev pub take_in : State → ℕ → Cell → Option Frame → List Letter → Step State
-take_in s a c (Some frame) mail = NotEnabled
-take_in s a c None [] = NotEnabled
-take_in s a c None (letter ∷ mail) =
+-- the actor takes the first of its letters
+abbrev pub take : State → ℕ → Cell → List Letter → Step State
+take s a c [] = NotEnabled
+take s a c (letter ∷ mail) =
     Goes (record s { actors = set s.actors a (seat (cell_after s.program a letter c) mail); notes = notes_after c.reported (note_of a letter) s.notes })
-
-abbrev pub take_at : State → ℕ → Option Seat → Step State
-take_at s a None = NotEnabled
-take_at s a (Some o) = take_in s a o.cell o.cell.frame o.mail
-
-abbrev pub take : State → ℕ → Step State
-take s a = take_at s a (seat_at s.actors a)

@@ -25,7 +25,7 @@ use Rattle.event_rule.specs.Runs.{Step, Goes, NotEnabled}
 use Rattle.plain_rules.specs.Machine.{PlainState, after_letter, frame_of, next_state, plain_row, plain_take, taken}
 use Rattle.machine_rules.specs.Run.{starts_with_app}
 use Rattle.machine_rules.specs.State.{State}
-use Rattle.machine_rules.specs.Take.{cell_after, take_in}
+use Rattle.machine_rules.specs.Take.{cell_after, note_of, notes_after}
 use Rattle.plain_rules.specs.declared.PlainActor.{PlainActor}
 use Rattle.plain_rules.specs.declared.PlainLetter.{PlainLetter}
 
@@ -33,9 +33,6 @@ use Rattle.plain_rules.specs.declared.PlainLetter.{PlainLetter}
 abbrev pub Follows : Trace → Bool → Step PlainState → PlainState → State → Type 0
 Follows trace true goes p t = (q : PlainState) × (goes ≡ Goes q) × Facts trace q t
 Follows trace false goes p t = Facts trace p t
-
-pub follows_on : (trace : Trace) (b : Bool) (goes : Step PlainState) (p : PlainState) (u t : State) → Goes u ≡ Goes t → Follows trace b goes p u → Follows trace b goes p t
-follows_on trace b goes p u t e h = subst (Follows trace b goes p) (goes_to u t e) h
 
 pub same_person : (x y : Person) → x.kind ≡ y.kind → x.fields ≡ y.fields → x.frame ≡ y.frame → x.letters ≡ y.letters → x.serial ≡ y.serial → x ≡ y
 same_person x y k f r l n i = record { kind = k i; fields = f i; frame = r i; letters = l i; serial = n i }
@@ -99,10 +96,12 @@ module _ (trace : Trace) (p : PlainState) (s : State) (facts : Facts trace p s) 
       → Facts trace p (record s { actors = take_letter s.program a c l ls s.actors; notes = notes })
   stays l ls notes counts = record { counts = counts; program = facts.program; prints = facts.prints; objects = facts.objects; weight = facts.weight; mode = facts.mode }
 
-  pub take_follows : (f : Option Frame) (ls : List Letter) (t : State) → c.frame ≡ f → seat_at s.actors a ≡ seat c ls → take_in s a c f ls ≡ Goes t → Follows trace (starts_with_app ls) (plain_take p a) p t
-  take_follows (Some f) ls t is at e = cc
-  take_follows None [] t is at e = cc
-  take_follows None (App b args load rows ∷ ls) t is at e = follows_on trace true (plain_take p a) p _ t e (app_follows b args load rows ls _ at)
-  take_follows None (Inc es ∷ ls) t is at e = follows_on trace false (plain_take p a) p _ t e (stays (Inc es) ls _ (take_keeps trace s.program all (people_of p.actors) s.actors facts.counts a c (Inc es) ls at))
-  take_follows None (Dec es ∷ ls) t is at e = follows_on trace false (plain_take p a) p _ t e (stays (Dec es) ls _ (take_keeps trace s.program all (people_of p.actors) s.actors facts.counts a c (Dec es) ls at))
-  take_follows None (Confirm k ∷ ls) t is at e = follows_on trace false (plain_take p a) p _ t e (stays (Confirm k) ls _ (take_keeps trace s.program all (people_of p.actors) s.actors facts.counts a c (Confirm k) ls at))
+  -- the state after the letter is taken
+  abbrev pub after_take : Letter → List Letter → State
+  after_take l ls = record s { actors = take_letter s.program a c l ls s.actors; notes = notes_after c.reported (note_of a l) s.notes }
+
+  pub take_follows : (l : Letter) (ls : List Letter) → seat_at s.actors a ≡ seat c (l ∷ ls) → Follows trace (starts_with_app (l ∷ ls)) (plain_take p a) p (after_take l ls)
+  take_follows (App b args load rows) ls at = app_follows b args load rows ls _ at
+  take_follows (Inc es) ls at = stays (Inc es) ls _ (take_keeps trace s.program all (people_of p.actors) s.actors facts.counts a c (Inc es) ls at)
+  take_follows (Dec es) ls at = stays (Dec es) ls _ (take_keeps trace s.program all (people_of p.actors) s.actors facts.counts a c (Dec es) ls at)
+  take_follows (Confirm k) ls at = stays (Confirm k) ls _ (take_keeps trace s.program all (people_of p.actors) s.actors facts.counts a c (Confirm k) ls at)

@@ -1,5 +1,5 @@
 -- How the plain machine follows a go: it takes the same turn, but for a go that mints.
-use Rattle.std.proofs.Common.{◌≡◌, ◌≢◌, ◌&&◌, is_none, ℕ, zero, suc, ◌+◌, ◌<◌, nat_lt, Bool, true, false, Option, Some, None, List, [], ◌∷◌, ◌++◌, length, length-set, set, set-set, refl, sym, ◌∙◌, ap, subst, arith, option_and_then}
+use Rattle.std.proofs.Common.{◌≡◌, ◌≢◌, ◌&&◌, is_none, ℕ, zero, suc, ◌+◌, ◌<◌, nat_lt, Bool, true, false, Option, Some, None, List, [], ◌∷◌, ◌++◌, length, length-set, set, set-set, refl, sym, ◌∙◌, ap, subst, arith, option_and_then, lt-ltb}
 use Rattle.std.specs.Prelude.{if◌then◌else◌, slice_get}
 use Rattle.std.specs.FinMap as m
 use Rattle.std.specs.Option.{option_map_or}
@@ -21,7 +21,7 @@ use Rattle.letter_kinds.specs.Sums.{amount_of, times_loaded}
 use Rattle.letter_kinds.specs.declared.letter.Letter.{Letter}
 use Rattle.letter_kinds.specs.declared.letter.Letter.TheVariants.{App}
 use Rattle.count_laws.proofs.agreement.Agreeing.{with_letter}
-use Rattle.count_laws.proofs.agreement.Following.{Follows, follows_on, same_person}
+use Rattle.count_laws.proofs.agreement.Following.{Follows, same_person}
 use Rattle.count_laws.proofs.events.EitherMode.{counted_left, known_left, loaded_known, make_keeps, mint_keeps, need_keeps, posted_keeps, same_turn, target_known as known_target, turn_keeps}
 use Rattle.count_laws.proofs.knowledge.Going.{Grows, left_present}
 use Rattle.count_laws.proofs.events.Post.{next_send}
@@ -37,7 +37,7 @@ use Rattle.machine_rules.specs.Actors.{Actors, push_letter, seat, seat_at}
 use Rattle.count_laws.specs.Agreement.{Person, people_of, person_at, person_of, person_of_plain}
 use Rattle.machine_rules.specs.Cell.{Cell, fresh_cell}
 use Rattle.count_laws.specs.Facts.{Facts, KeepsCounts}
-use Rattle.machine_rules.specs.Go.{act_in, go_in, load_from, make, mint, needed, needing, post, post_or_mint, rows_from, turn_of_cell, turned, with_turn_kept}
+use Rattle.machine_rules.specs.Go.{act_in, load_from, make, mint, needed, needing, post, post_or_mint, rows_from, turn_of_cell, turned, with_turn_kept, lacking_from, to_need}
 use Rattle.machine_rules.specs.Options.{Trace}
 use Rattle.count_laws.specs.Known.{InFrame, IsKnown, Names, Roots, in_fields, in_frame, in_table}
 use Rattle.plain_list.specs.Lists.{is_empty}
@@ -322,10 +322,8 @@ module _ (trace : Trace) (p : PlainState) (s : State) (facts : Facts trace p s) 
       mode = facts.mode;
     }
 
-    letter_follows : (lack : List Loaded) → lacking a c1.holdings load ≡ lack
-        → Follows trace (is_empty lack) (after_act p a stopped stop.turn.fields stop.turn.made (Post to b args)) p (post_or_mint s a c c1 ls stop to b args load came lack)
-    letter_follows [] l = (next_state p (with_plain_letter (with_turn p.actors a (Some stopped) stop.turn.fields stop.turn.made) to letter) p.prints, refl, post_follows l)
-    letter_follows (e ∷ es) l = mint_follows e es l
+    letter_follows : lacking a c1.holdings load ≡ [] → Follows trace true (after_act p a stopped stop.turn.fields stop.turn.made (Post to b args)) p (with_turn_kept s stop (post a c1 ls to b args load came s.actors))
+    letter_follows l = (next_state p (with_plain_letter (with_turn p.actors a (Some stopped) stop.turn.fields stop.turn.made) to letter) p.prints, refl, post_follows l)
 
   -- ---- every act
 
@@ -339,41 +337,40 @@ module _ (trace : Trace) (p : PlainState) (s : State) (facts : Facts trace p s) 
       (subst (λ prints. Facts trace (next_state p (with_turn p.actors a None stop.turn.fields stop.turn.made) (p.prints ++ [])) (record (with_turn_kept s stop (set s.actors a (seat (turned stop None true c) ls))) { prints = prints })) (nothing_printed s.prints)
       (turn_follows None true [] (λ z h. absurd h)))
 
-  act_follows : (act : Act) (t : State) → stop.act ≡ act → act_in trace s a c ls stopped stop act ≡ Goes t → Follows trace (act_is_choice trace a (with_made stop.turn.made c.holdings) act) (after_act p a stopped stop.turn.fields stop.turn.made act) p t
-  act_follows End t act e = follows_on trace true _ p _ t e (_, refl, end_follows)
-  act_follows (Print v) t act e = follows_on trace true _ p _ t e (_, refl, turn_follows (Some stopped) c.dirty (v ∷ []) (λ z h. h))
-  act_follows (New kind register) t act e = by_room (nat_lt (length s.actors) 65536) refl e
-    where
-      made : State
-      made = with_turn_kept s stop (make s.options.weight a (turned stop (Some (with_name stopped register (length s.actors))) c.dirty c) ls (fresh_cell s.options.weight s.program kind) s.actors)
+  -- where the turn stops at this act, the plain machine's go does so too
+  stops_too : (choice : Bool) (act : Act) (t : State) → stop.act ≡ act → Follows trace choice (after_act p a stopped stop.turn.fields stop.turn.made act) p t → Follows trace choice (plain_go p a) p t
+  stops_too choice act t stops h =
+      subst (λ goes. Follows trace choice goes p t) (sym (plain_went ∙ ap (after_act p a stopped stop.turn.fields stop.turn.made) stops)) h
 
+  pub ends_follow : stop.act ≡ End → Follows trace true (plain_go p a) p (with_turn_kept s stop (set s.actors a (seat (turned stop None true c) ls)))
+  ends_follow stops = stops_too true End _ stops (_, refl, end_follows)
+
+  pub prints_follow : (v : Value) → stop.act ≡ Print v → Follows trace true (plain_go p a) p (record (with_turn_kept s stop (set s.actors a (seat c1 ls))) { prints = s.prints ++ v ∷ [] })
+  prints_follow v stops = stops_too true (Print v) _ stops (_, refl, turn_follows (Some stopped) c.dirty (v ∷ []) (λ z h. h))
+
+  pub makes_follow : (kind register : ℕ) → stop.act ≡ New kind register → length s.actors < 65536
+      → Follows trace true (plain_go p a) p (with_turn_kept s stop (make s.options.weight a (turned stop (Some (with_name stopped register (length s.actors))) c.dirty c) ls (fresh_cell s.options.weight s.program kind) s.actors))
+  makes_follow kind register stops room = stops_too true (New kind register) _ stops (plain_made, ap (λ q. if q then Goes plain_made else IsFull) (ap (λ n. nat_lt n 65536) long ∙ lt-ltb (length s.actors) 65536 room), make_follows kind register)
+    where
       plain_made : PlainState
       plain_made = next_state p (with_turn p.actors a (Some (with_name stopped register (length p.actors))) stop.turn.fields stop.turn.made ++ fresh_actor p.program kind ∷ []) p.prints
 
-      by_room : (room : Bool) → nat_lt (length s.actors) 65536 ≡ room → (if room then Goes made else IsFull) ≡ Goes t → Follows trace true (if nat_lt (length p.actors) 65536 then Goes plain_made else IsFull) p t
-      by_room false r e = cc
-      by_room true r e = follows_on trace true _ p made t e (plain_made, ap (λ q. if q then Goes plain_made else IsFull) (ap (λ n. nat_lt n 65536) long ∙ r), make_follows kind register)
-  act_follows (Post to b args) t act e = follows_on trace _ _ p _ t e (letter_follows to b args act (lacking a c1.holdings (load_from trace a c1.holdings args)) refl)
+  pub posts_follow : (to b : ℕ) (args : List Value) → stop.act ≡ Post to b args → lacking_from trace a c1.holdings args ≡ []
+      → Follows trace true (plain_go p a) p (with_turn_kept s stop (post a c1 ls to b args (load_from trace a c1.holdings args) (rows_from trace a c1 args) s.actors))
+  posts_follow to b args stops full = stops_too true (Post to b args) _ stops (letter_follows to b args stops full)
 
-  plain_follows : (choice : Bool) (t : State) → Follows trace choice (after_act p a stopped stop.turn.fields stop.turn.made stop.act) p t → Follows trace choice (plain_go p a) p t
-  plain_follows choice t h = subst (λ goes. Follows trace choice goes p t) (sym plain_went) h
+  pub mints_follow : (to b : ℕ) (args : List Value) → stop.act ≡ Post to b args → (e : Loaded) (es : List Loaded) → lacking_from trace a c1.holdings args ≡ e ∷ es
+      → Facts trace p (record s { actors = mint a c ls (owner_of e.0) (to_mint s.options.weight (owner_of e.0) (e ∷ es)) s.actors })
+  mints_follow to b args stops e es lacked = mint_follows to b args stops e es lacked
 
-pub go_follows : (trace : Trace) (p : PlainState) (s : State) → Facts trace p s → (a : ℕ) (c : Cell) (ls : List Letter) → seat_at s.actors a ≡ seat c ls → (f : Option Frame) → c.frame ≡ f → (t : State)
-    → go_in trace s a c f ls ≡ Goes t → Follows trace (go_is_choice trace s.program a c f) (plain_go p a) p t
-go_follows trace p s facts a c ls at None is t e = cc
-go_follows trace p s facts a c ls at (Some f) is t e = by_need (needed trace s.program a c f) refl e
-  where
-    by_need : (o : Option Thing) → needed trace s.program a c f ≡ o
-        → (let stop = turn_of_cell trace s.program a c f in
-        needing s a c ls o (act_in trace s a c ls (stopped_at f stop) stop stop.act) ≡ Goes t → Follows trace (is_none o && act_is_choice trace a (with_made stop.turn.made c.holdings) stop.act) (plain_go p a) p t)
-    by_need None n e =
-        let stop = turn_of_cell trace s.program a c f in
-        plain_follows trace p s facts a c ls at f is n (act_is_choice trace a (with_made stop.turn.made c.holdings) stop.act) t (act_follows trace p s facts a c ls at f is n stop.act t refl e)
-    by_need (Some x) n e = follows_on trace false (plain_go p a) p _ t e (record {
-      counts = need_keeps trace (thing_row (plain_row p.actors)) (people_of p.actors) s.actors facts.counts a c ls at s.options.weight facts.weight s.program f is x n;
-      program = facts.program;
-      prints = facts.prints;
-      objects = facts.objects;
-      weight = facts.weight;
-      mode = facts.mode;
-    })
+-- who mints for what its turn gets
+pub gets_follow : (trace : Trace) (p : PlainState) (s : State) → Facts trace p s → (a : ℕ) (c : Cell) (ls : List Letter) → seat_at s.actors a ≡ seat c ls → (f : Frame) → c.frame ≡ Some f
+    → (x : Thing) → needed trace s.program a c f ≡ Some x → Facts trace p (record s { actors = mint a c ls (owner_of x) (to_need s.options.weight a c.holdings x) s.actors })
+gets_follow trace p s facts a c ls at f is x n = record {
+  counts = need_keeps trace (thing_row (plain_row p.actors)) (people_of p.actors) s.actors facts.counts a c ls at s.options.weight facts.weight s.program f is x n;
+  program = facts.program;
+  prints = facts.prints;
+  objects = facts.objects;
+  weight = facts.weight;
+  mode = facts.mode;
+}

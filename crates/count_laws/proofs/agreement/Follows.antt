@@ -1,63 +1,100 @@
 -- Take, go and collect keep the facts, and the plain machine follows them.
-use Rattle.std.proofs.Common.{◌≡◌, ℕ, Bool, true, false, Option, Some, None, List, refl, ap, sym, ◌∙◌, subst}
+use Rattle.std.proofs.Common.{◌≡◌, ◌&&◌, ℕ, Bool, true, false, Option, Some, None, is_none, List, [], ◌∷◌, refl, ap, sym, ◌∙◌, subst}
 use Rattle.reach_walk.specs.Reach.{thing_row}
+use Rattle.turn_rules.specs.declared.act.Act.{Act}
 use Rattle.turn_rules.specs.declared.act.Frame.{Frame}
-use Rattle.event_rule.specs.declared.event.Event.TheVariants.{Take, Go, Collect}
+use Rattle.event_rule.specs.Runs.{Goes}
+use Rattle.event_rule.specs.declared.event.Event.{Event}
+use Rattle.event_rule.specs.declared.event.Event.TheVariants.{Take, Go, Collect, Leave}
 use Rattle.letter_kinds.specs.declared.letter.Letter.{Letter}
-use Rattle.count_laws.proofs.events.EitherMode.{collect_keeps}
-use Rattle.count_laws.proofs.agreement.Following.{Follows, follows_on, take_follows}
-use Rattle.count_laws.proofs.agreement.FollowingGo.{go_follows}
-use Rattle.machine_rules.specs.Actors.{Seat, seat, seat_at}
-use Rattle.count_laws.specs.Agreement.{people_of}
-use Rattle.machine_rules.specs.Cell.{Cell}
-use Rattle.machine_rules.specs.Collect.{collect_at, collect_in}
-use Rattle.count_laws.specs.Facts.{Facts}
-use Rattle.machine_rules.specs.Go.{go_at}
+use Rattle.letter_kinds.specs.Holdings.{with_made}
+use Rattle.plain_list.specs.Lists.{is_empty}
+use Rattle.plain_rules.specs.Machine.{PlainState, plain_go, plain_row}
 use Rattle.plain_rules.specs.Run.{plain_next}
-use Rattle.event_rule.specs.Runs.{Goes, NotEnabled}
-use Rattle.machine_rules.specs.Next.{next}
+use Rattle.machine_rules.specs.Actors.{seat, seat_at}
+use Rattle.machine_rules.specs.Cell.{Cell}
+use Rattle.machine_rules.specs.Go.{needed, turn_of_cell}
+use Rattle.machine_rules.specs.Next.{next, next_by}
 use Rattle.machine_rules.specs.Options.{Trace}
-use Rattle.plain_rules.specs.Machine.{PlainState, plain_go, plain_row, plain_take}
-use Rattle.machine_rules.specs.Run.{go_is_choice_at, is_choice, take_is_choice_at}
+use Rattle.machine_rules.specs.Rules.{IsGoing, IsStep, StopsAt}
+use Rattle.machine_rules.specs.Rules as rule
+use Rattle.machine_rules.specs.Run.{act_is_choice, go_is_choice, go_is_choice_at, is_choice, take_is_choice_at}
 use Rattle.machine_rules.specs.State.{State}
-use Rattle.machine_rules.specs.Take.{take_at, take_in}
+use Rattle.machine_rules.proofs.Guards.{collector}
+use Rattle.machine_rules.proofs.Stepping.{is_step}
+use Rattle.count_laws.specs.Agreement.{people_of}
+use Rattle.count_laws.specs.Facts.{Facts}
+use Rattle.count_laws.proofs.agreement.Following.{Follows, after_take, take_follows}
+use Rattle.count_laws.proofs.agreement.FollowingGo.{ends_follow, gets_follow, makes_follow, mints_follow, posts_follow, prints_follow}
+use Rattle.count_laws.proofs.events.EitherMode.{collect_keeps}
+use Rattle.count_laws.proofs.events.Leave.{leave_kept}
 
-module _ (trace : Trace) (p : PlainState) (s : State) (facts : Facts trace p s) (t : State) where
-  take_seat : (a : ℕ) (o : Option Seat) → seat_at s.actors a ≡ o → take_at s a o ≡ Goes t → Follows trace (take_is_choice_at o) (plain_take p a) p t
-  take_seat a None at e = cc
-  take_seat a (Some o) at e = by_frame o.cell.frame refl e
-    where
-      by_frame : (f : Option Frame) → o.cell.frame ≡ f → take_in s a o.cell f o.mail ≡ Goes t → Follows trace (take_is_choice_at (Some o)) (plain_take p a) p t
-      by_frame None is e = take_follows trace p s facts a o.cell is None o.mail t is at e
-      by_frame (Some f) is e = cc
+module _ (trace : Trace) (p : PlainState) (s : State) (facts : Facts trace p s) where
+  -- ---- which goes are choices
 
-  go_seat : (a : ℕ) (o : Option Seat) → seat_at s.actors a ≡ o → go_at trace s a o ≡ Goes t → Follows trace (go_is_choice_at trace s.program a o) (plain_go p a) p t
-  go_seat a None at e = cc
-  go_seat a (Some o) at e = go_follows trace p s facts a o.cell o.mail at o.cell.frame refl t e
+  going_is : (a : ℕ) (c : Cell) (ls : List Letter) (f : Frame) → IsGoing s a c ls f → is_choice s (Go a) ≡ go_is_choice trace s.program a c (Some f)
+  going_is a c ls f going =
+      ap (λ q. go_is_choice_at q s.program a (seat_at s.actors a)) facts.mode ∙ ap (go_is_choice_at trace s.program a) going.present ∙ ap (go_is_choice trace s.program a c) going.framed
 
-  collect_cell : (a : ℕ) (c : Cell) (mail : List Letter) (f : Option Frame) (dirty : Bool) → c.frame ≡ f → seat_at s.actors a ≡ seat c mail → collect_in trace s a c f dirty mail ≡ Goes t → Facts trace p t
-  collect_cell a c mail (Some f) dirty is at e = cc
-  collect_cell a c mail None false is at e = cc
-  collect_cell a c mail None true is at e = follows_on trace false NotEnabled p _ t e (record {
-    counts = collect_keeps trace (thing_row (plain_row p.actors)) (people_of p.actors) s.actors facts.counts a c mail at is;
+  stopping_is : (a : ℕ) (c : Cell) (ls : List Letter) (f : Frame) (act : Act) → StopsAt trace s a c ls f act
+      → is_choice s (Go a) ≡ act_is_choice trace a (with_made (turn_of_cell trace s.program a c f).turn.made c.holdings) act
+  stopping_is a c ls f act stops =
+      let stop = turn_of_cell trace s.program a c f in
+      let h = with_made stop.turn.made c.holdings in
+      going_is a c ls f stops.going ∙ ap (λ n. is_none n && act_is_choice trace a h stop.act) stops.held ∙ ap (act_is_choice trace a h) stops.stop
+
+  chosen : (a : ℕ) (choice : Bool) (t : State) → is_choice s (Go a) ≡ choice → Follows trace choice (plain_go p a) p t → Follows trace (is_choice s (Go a)) (plain_go p a) p t
+  chosen a choice t is h = subst (λ q. Follows trace q (plain_go p a) p t) (sym is) h
+
+  -- ---- each rule
+
+  take_step : {a : ℕ} {t : State} → IsStep trace s (Take a) t → Follows trace (is_choice s (Take a)) (plain_next p (Take a)) p t
+  take_step (rule.takes a c l ls at idle) =
+      subst (λ q. Follows trace q (plain_next p (Take a)) p (after_take trace p s facts a c idle l ls)) (sym (ap take_is_choice_at at)) (take_follows trace p s facts a c idle l ls at)
+
+  go_step : {a : ℕ} {t : State} → IsStep trace s (Go a) t → Follows trace (is_choice s (Go a)) (plain_next p (Go a)) p t
+  go_step (rule.ends a c ls f stops) =
+      chosen a true _ (stopping_is a c ls f _ stops) (ends_follow trace p s facts a c ls stops.going.present f stops.going.framed stops.held stops.stop)
+  go_step (rule.prints a c ls f v stops) =
+      chosen a true _ (stopping_is a c ls f _ stops) (prints_follow trace p s facts a c ls stops.going.present f stops.going.framed stops.held v stops.stop)
+  go_step (rule.makes a c ls f kind register stops room) =
+      chosen a true _ (stopping_is a c ls f _ stops) (makes_follow trace p s facts a c ls stops.going.present f stops.going.framed stops.held kind register stops.stop room)
+  go_step (rule.posts a c ls f to b args stops lacked) =
+      chosen a true _ (stopping_is a c ls f _ stops ∙ ap is_empty lacked) (posts_follow trace p s facts a c ls stops.going.present f stops.going.framed stops.held to b args stops.stop lacked)
+  go_step (rule.mints a c ls f to b args e es stops lacked) =
+      chosen a false _ (stopping_is a c ls f _ stops ∙ ap is_empty lacked) (mints_follow trace p s facts a c ls stops.going.present f stops.going.framed stops.held to b args stops.stop e es lacked)
+  go_step (rule.gets a c ls f x going need) =
+      let stop = turn_of_cell trace s.program a c f in
+      chosen a false _ (going_is a c ls f going ∙ ap (λ n. is_none n && act_is_choice trace a (with_made stop.turn.made c.holdings) stop.act) need)
+      (gets_follow trace p s facts a c ls going.present f going.framed x need)
+
+  collect_step : {a : ℕ} {t : State} → IsStep trace s (Collect a) t → Facts trace p t
+  collect_step (rule.collects a c ls at may) = record {
+    counts = collect_keeps trace (thing_row (plain_row p.actors)) (people_of p.actors) s.actors facts.counts a c ls at (collector c ls may).0;
     program = facts.program;
     prints = facts.prints;
     objects = facts.objects;
     weight = facts.weight;
     mode = facts.mode;
-  })
+  }
 
-  collect_seat : (a : ℕ) (o : Option Seat) → seat_at s.actors a ≡ o → collect_at trace s a o ≡ Goes t → Facts trace p t
-  collect_seat a None at e = cc
-  collect_seat a (Some o) at e = collect_cell a o.cell o.mail o.cell.frame o.cell.dirty refl at e
+  leave_step : {a : ℕ} {t : State} → IsStep trace s (Leave a) t → Facts trace p t
+  leave_step (rule.leaves a c ls at may) = leave_kept trace p s facts a c ls at may
 
-  pub take_kept : (a : ℕ) → next s (Take a) ≡ Goes t → Follows trace (is_choice s (Take a)) (plain_next p (Take a)) p t
-  take_kept a e = take_seat a (seat_at s.actors a) refl e
+  -- ---- each event
 
-  pub go_kept : (a : ℕ) → next s (Go a) ≡ Goes t → Follows trace (is_choice s (Go a)) (plain_next p (Go a)) p t
-  go_kept a e =
-      subst (λ q. Follows trace (go_is_choice_at q s.program a (seat_at s.actors a)) (plain_go p a) p t) (sym facts.mode)
-      (go_seat a (seat_at s.actors a) refl (sym (ap (λ q. go_at q s a (seat_at s.actors a)) facts.mode) ∙ e))
+  -- by a rule of this mode
+  pub step_here : (t : State) (e : Event) → next s e ≡ Goes t → IsStep trace s e t
+  step_here t e goes = is_step trace s t e (sym (ap (λ q. next_by q s e) facts.mode) ∙ goes)
 
-  pub collect_kept : (a : ℕ) → next s (Collect a) ≡ Goes t → Facts trace p t
-  collect_kept a e = collect_seat a (seat_at s.actors a) refl (sym (ap (λ q. collect_at q s a (seat_at s.actors a)) facts.mode) ∙ e)
+  pub take_kept : (t : State) (a : ℕ) → next s (Take a) ≡ Goes t → Follows trace (is_choice s (Take a)) (plain_next p (Take a)) p t
+  take_kept t a goes = take_step (step_here t (Take a) goes)
+
+  pub go_kept : (t : State) (a : ℕ) → next s (Go a) ≡ Goes t → Follows trace (is_choice s (Go a)) (plain_next p (Go a)) p t
+  go_kept t a goes = go_step (step_here t (Go a) goes)
+
+  pub collect_kept : (t : State) (a : ℕ) → next s (Collect a) ≡ Goes t → Facts trace p t
+  collect_kept t a goes = collect_step (step_here t (Collect a) goes)
+
+  pub leave_beside : (t : State) (a : ℕ) → next s (Leave a) ≡ Goes t → Facts trace p t
+  leave_beside t a goes = leave_step (step_here t (Leave a) goes)

@@ -23,17 +23,21 @@ use Rattle.count_laws.proofs.events.Every.{length-push}
 use Rattle.count_laws.proofs.away.Untouched.{alone_spared, spared_first}
 use Rattle.machine_rules.specs.Actors.{Actors, Seat, push_decs, push_letter, seat, seat_at, with_letter_more}
 use Rattle.count_laws.specs.Apart.{CellsCanBeAway, put_cell, step_with_cell, with_cell, with_cell_in}
-use Rattle.machine_rules.specs.Block.{block_at, block_in, held_actors, may_block}
+use Rattle.machine_rules.specs.Block.{held_actors, block}
 use Rattle.machine_rules.specs.Cell.{Cell, fresh_cell}
-use Rattle.machine_rules.specs.Collect.{collect_at, collect_in, is_marked, without_unused}
-use Rattle.machine_rules.specs.Detect.{ask_all, hear_in, held_outside, reap_found, reap_in, reaped, scan_in}
-use Rattle.machine_rules.specs.Go.{act_in, go_at, go_in, needed, needing, post_or_mint, turn_of_cell, turned, with_turn_kept}
-use Rattle.machine_rules.specs.Leave.{leave_at, leave_in, may_leave}
+use Rattle.machine_rules.specs.Collect.{is_marked, without_unused, collect}
+use Rattle.machine_rules.specs.Detect.{ask_all, held_outside, reaped, acked_token, hear, reap, scan}
+use Rattle.machine_rules.specs.Go.{act_in, needed, needing, post_or_mint, turn_of_cell, turned, with_turn_kept, go, turn_in}
 use Rattle.machine_rules.specs.Options.{Trace}
-use Rattle.event_rule.specs.Runs.{Step, IsFull, Goes}
+use Rattle.event_rule.specs.Runs.{Step, IsFull, Goes, NotEnabled}
 use Rattle.plain_rules.specs.Machine.{stopped_at, with_name}
 use Rattle.machine_rules.specs.State.{State}
-use Rattle.machine_rules.specs.Take.{note_of, notes_after, take_at, take_in}
+use Rattle.machine_rules.specs.Take.{note_of, notes_after, take}
+use Rattle.machine_rules.specs.Guards.{may_block, may_leave, may_collect, may_go, may_take}
+use Rattle.std.specs.Option.{option_map_or}
+use Rattle.machine_rules.specs.Leave.{leave}
+use Rattle.machine_rules.specs.Next.{acting}
+use Rattle.machine_rules.proofs.Guards.{acked_open}
 
 -- ---- lists
 
@@ -118,26 +122,21 @@ module _ (a : ℕ) (c : Cell) where
     abbrev away : State
     away = with_cell a c s
 
-    take_away : (d : Cell) (f : Option Frame) (mail : List Letter) → take_in away b d f mail ≡ step_with_cell a c (take_in s b d f mail)
-    take_away d (Some f) mail = refl
-    take_away d None [] = refl
-    take_away d None (l ∷ mail) = ap (λ actors. Goes (record s { actors = actors; notes = notes_after d.reported (note_of b l) s.notes })) (put_set s.actors b _ not)
+    take_away : (d : Cell) (mail : List Letter) → take away b d mail ≡ step_with_cell a c (take s b d mail)
+    take_away d [] = refl
+    take_away d (l ∷ mail) = ap (λ actors. Goes (record s { actors = actors; notes = notes_after d.reported (note_of b l) s.notes })) (put_set s.actors b _ not)
 
-    block_away : (d : Cell) (mail : List Letter) (may : Bool) → block_in away b d mail may ≡ step_with_cell a c (block_in s b d mail may)
-    block_away d mail false = refl
-    block_away d mail true = ap (λ actors. Goes (record s { actors = actors; notes = s.notes ++ notes.Block b d.holdings.count (held_actors d.holdings) ∷ [] })) (put_set s.actors b _ not)
+    block_away : (d : Cell) (mail : List Letter) → block away b d mail ≡ step_with_cell a c (block s b d mail)
+    block_away d mail = ap (λ actors. Goes (record s { actors = actors; notes = s.notes ++ notes.Block b d.holdings.count (held_actors d.holdings) ∷ [] })) (put_set s.actors b _ not)
 
     alone : has (b ∷ []) a ≡ false
     alone = alone_spared b a (λ e. not (sym e))
 
-    leave_away : (may : Bool) → leave_in away b may ≡ step_with_cell a c (leave_in s b may)
-    leave_away false = refl
-    leave_away true = ap (λ actors. Goes (record s { actors = actors })) (put_reaped (b ∷ []) (b ∷ []) [] s.actors below alone)
+    leave_away : (d : Cell) (mail : List Letter) → leave away b d mail ≡ step_with_cell a c (leave s b d mail)
+    leave_away d mail = ap (λ actors. Goes (record s { actors = actors })) (put_reaped (b ∷ []) (b ∷ []) [] s.actors below alone)
 
-    collect_away : (trace : Trace) (d : Cell) (f : Option Frame) (dirty : Bool) (mail : List Letter) → collect_in trace away b d f dirty mail ≡ step_with_cell a c (collect_in trace s b d f dirty mail)
-    collect_away trace d (Some f) dirty mail = refl
-    collect_away trace d None false mail = refl
-    collect_away trace d None true mail =
+    collect_away : (trace : Trace) (d : Cell) (mail : List Letter) → collect trace away b d mail ≡ step_with_cell a c (collect trace s b d mail)
+    collect_away trace d mail =
         let e : Cell = without_unused trace b d in
         let groups = by_owner (given_back (is_marked trace b d) e.holdings) in
         let new = seat (record e { holdings = sweep (is_marked trace b d) b e.holdings; dirty = false }) mail in
@@ -183,61 +182,68 @@ module _ (a : ℕ) (c : Cell) where
       need_away None step other e = e
       need_away (Some x) step other e = ap (λ actors. Goes (record s { actors = actors })) (push_away _ (owner_of x) _)
 
-    go_away : (trace : Trace) (d : Cell) (f : Option Frame) (mail : List Letter) → go_in trace away b d f mail ≡ step_with_cell a c (go_in trace s b d f mail)
-    go_away trace d None mail = refl
-    go_away trace d (Some f) mail =
+    turn_away : (trace : Trace) (d : Cell) (mail : List Letter) (f : Option Frame)
+        → option_map_or (turn_in trace away b d mail) f NotEnabled ≡ step_with_cell a c (option_map_or (turn_in trace s b d mail) f NotEnabled)
+    turn_away trace d mail None = refl
+    turn_away trace d mail (Some f) =
         let stop = turn_of_cell trace s.program b d f in
         need_away trace d mail (stopped_at f stop) stop (needed trace s.program b d f) _ _ (act_away trace d mail (stopped_at f stop) stop stop.act)
 
     -- ---- of the seat
 
-    take_seat : (o : Option Seat) → take_at away b o ≡ step_with_cell a c (take_at s b o)
-    take_seat None = refl
-    take_seat (Some o) = take_away o.cell o.cell.frame o.mail
+    acting_away : (may : Cell → List Letter → Bool) (one other : Cell → List Letter → Step State) → ((d : Cell) (mail : List Letter) → one d mail ≡ step_with_cell a c (other d mail))
+        → (o : Option Seat) → acting may one o ≡ step_with_cell a c (acting may other o)
+    acting_away may one other same None = refl
+    acting_away may one other same (Some o) = by_test (may o.cell o.mail)
+      where
+        by_test : (q : Bool) → (if q then one o.cell o.mail else NotEnabled) ≡ step_with_cell a c (if q then other o.cell o.mail else NotEnabled)
+        by_test false = refl
+        by_test true = same o.cell o.mail
 
-    go_seat : (o : Option Seat) → go_at s.options.trace away b o ≡ step_with_cell a c (go_at s.options.trace s b o)
-    go_seat None = refl
-    go_seat (Some o) = go_away s.options.trace o.cell o.cell.frame o.mail
-
-    collect_seat : (o : Option Seat) → collect_at s.options.trace away b o ≡ step_with_cell a c (collect_at s.options.trace s b o)
-    collect_seat None = refl
-    collect_seat (Some o) = collect_away s.options.trace o.cell o.cell.frame o.cell.dirty o.mail
-
-    block_seat : (o : Option Seat) → block_at away b o ≡ step_with_cell a c (block_at s b o)
-    block_seat None = refl
-    block_seat (Some o) = block_away o.cell o.mail (may_block o.cell o.mail)
-
-    leave_seat : (o : Option Seat) → leave_at away b o ≡ step_with_cell a c (leave_at s b o)
-    leave_seat None = refl
-    leave_seat (Some o) = leave_away (may_leave o.cell o.mail)
+    -- who acts is read in its own place
+    seat_away : (may : Cell → List Letter → Bool) (one other : Cell → List Letter → Step State) → ((d : Cell) (mail : List Letter) → one d mail ≡ step_with_cell a c (other d mail))
+        → acting may one (seat_at away.actors b) ≡ step_with_cell a c (acting may other (seat_at s.actors b))
+    seat_away may one other same = ap (acting may one) (put_other s.actors b not) ∙ acting_away may one other same (seat_at s.actors b)
 
   -- ---- the detector's events
 
-  hear_away : (s : State) (notes : List Note) → hear_in (with_cell a c s) notes ≡ step_with_cell a c (hear_in s notes)
+  hear_away : (s : State) (notes : List Note) → hear (with_cell a c s) notes ≡ step_with_cell a c (hear s notes)
   hear_away s [] = refl
   hear_away s (n ∷ notes) = refl
 
-  scan_away : (s : State) → a < length s.actors → (closed : List ℕ) (news : Bool) → scan_in (with_cell a c s) closed news ≡ step_with_cell a c (scan_in s closed news)
-  scan_away s below closed false = refl
-  scan_away s below closed true = ap (λ actors. Goes (record s { actors = actors; detector = scanned s.detector closed })) (put_asked closed (suc s.detector.opened) s.actors below)
+  scan_away : (s : State) → a < length s.actors → (news : Bool) → (if news then scan (with_cell a c s) else NotEnabled) ≡ step_with_cell a c (if news then scan s else NotEnabled)
+  scan_away s below false = refl
+  scan_away s below true =
+      let closed = closed_set s.detector in
+      ap (λ actors. Goes (record s { actors = actors; detector = scanned s.detector closed })) (put_asked closed (suc s.detector.opened) s.actors below)
 
-  reap_away : (s : State) → a < length s.actors → (t : Token) (acked : Bool) → has t.members a ≡ false → reap_in (with_cell a c s) t acked ≡ step_with_cell a c (reap_in s t acked)
-  reap_away s below t false out = refl
-  reap_away s below t true out = ap (λ actors. Goes (record s { actors = actors; detector = close_token t s.detector })) (put_reaped t.members t.members [] s.actors below out)
-
-  found_away : (s : State) → a < length s.actors → (found : Option Token) → ((t : Token) → found ≡ Some t → has t.members a ≡ false) → reap_found (with_cell a c s) found ≡ step_with_cell a c (reap_found s found)
-  found_away s below None out = refl
-  found_away s below (Some t) out = reap_away s below t (all_acked t) (out t refl)
+  reap_away : (s : State) → a < length s.actors → (found : Option Token) → ((t : Token) → found ≡ Some t → has t.members a ≡ false)
+      → option_map_or (reap (with_cell a c s)) found NotEnabled ≡ step_with_cell a c (option_map_or (reap s) found NotEnabled)
+  reap_away s below None out = refl
+  reap_away s below (Some t) out =
+      ap (λ actors. Goes (record s { actors = actors; detector = close_token t s.detector })) (put_reaped t.members t.members [] s.actors below (out t refl))
 
 other_than : (a b : ℕ) → (Some b ≡ Some a → ⊥) → b ≢ a
 other_than a b h e = h (ap Some e)
 
 pub cells_away : CellsCanBeAway
-cells_away s a c (Take b) apart = let not = other_than a b apart.others in ap (take_at (with_cell a c s) b) (put_other a c s.actors b not) ∙ take_seat a c s apart.made b not (seat_at s.actors b)
-cells_away s a c (Go b) apart = let not = other_than a b apart.others in ap (go_at s.options.trace (with_cell a c s) b) (put_other a c s.actors b not) ∙ go_seat a c s apart.made b not (seat_at s.actors b)
-cells_away s a c (Collect b) apart = let not = other_than a b apart.others in ap (collect_at s.options.trace (with_cell a c s) b) (put_other a c s.actors b not) ∙ collect_seat a c s apart.made b not (seat_at s.actors b)
-cells_away s a c (Leave b) apart = let not = other_than a b apart.others in ap (leave_at (with_cell a c s) b) (put_other a c s.actors b not) ∙ leave_seat a c s apart.made b not (seat_at s.actors b)
-cells_away s a c (Block b) apart = let not = other_than a b apart.others in ap (block_at (with_cell a c s) b) (put_other a c s.actors b not) ∙ block_seat a c s apart.made b not (seat_at s.actors b)
+cells_away s a c (Take b) apart =
+    let not = other_than a b apart.others in
+    seat_away a c s apart.made b not may_take _ (take s b) (take_away a c s apart.made b not)
+cells_away s a c (Go b) apart =
+    let not = other_than a b apart.others in
+    let trace = s.options.trace in
+    seat_away a c s apart.made b not may_go _ (go trace s b) (λ d mail. turn_away a c s apart.made b not trace d mail d.frame)
+cells_away s a c (Collect b) apart =
+    let not = other_than a b apart.others in
+    seat_away a c s apart.made b not may_collect _ (collect s.options.trace s b) (collect_away a c s apart.made b not s.options.trace)
+cells_away s a c (Leave b) apart =
+    let not = other_than a b apart.others in
+    seat_away a c s apart.made b not may_leave _ (leave s b) (leave_away a c s apart.made b not)
+cells_away s a c (Block b) apart =
+    let not = other_than a b apart.others in
+    seat_away a c s apart.made b not may_block _ (block s b) (block_away a c s apart.made b not)
 cells_away s a c Hear apart = hear_away a c s s.notes
-cells_away s a c Scan apart = scan_away a c s apart.made (closed_set s.detector) s.detector.news
-cells_away s a c (Reap number) apart = found_away a c s apart.made (token_numbered number s.detector) (λ t found. apart.spared number t refl found)
+cells_away s a c Scan apart = scan_away a c s apart.made s.detector.news
+cells_away s a c (Reap number) apart =
+    reap_away a c s apart.made (acked_token number s.detector) (λ t found. apart.spared number t refl (acked_open number s.detector t found).0)

@@ -7,7 +7,9 @@ use Rattle.letter_kinds.specs.Counting.{Amount, by_owner, given_back}
 use Rattle.letter_kinds.specs.Detector.{closed_set, has}
 use Rattle.letter_kinds.specs.declared.letter.Letter.{Letter}
 use Rattle.letter_kinds.specs.declared.letter.Letter.TheVariants.{Confirm, Dec}
-use Rattle.machine_rules.proofs.Cases.{Cases, each_next}
+use Rattle.machine_rules.proofs.Stepping.{step_of}
+use Rattle.machine_rules.specs.Rules.{IsStep, kept, later_frame}
+use Rattle.machine_rules.specs.Rules as rule
 use Rattle.machine_rules.proofs.Enabling.{enabled_exactly}
 use Rattle.count_laws.proofs.events.Every.{push_none, set_none}
 use Rattle.count_laws.proofs.balance.Makes.{more_other}
@@ -19,7 +21,8 @@ use Rattle.count_laws.specs.Apart.{IsApart, KeepsEnabled, LeavesCell, OthersKeep
 use Rattle.machine_rules.specs.Cell.{Cell}
 use Rattle.machine_rules.specs.Collect.{is_marked, without_unused}
 use Rattle.machine_rules.specs.Detect.{ask_all, held_outside, reaped}
-use Rattle.machine_rules.specs.Enabled.{CanHappen, MayReport}
+use Rattle.machine_rules.specs.Enabled.{CanHappen}
+use Rattle.machine_rules.proofs.Guards.{MayReport, acked_open, leaver, may_leave-none, may_report, may_take-some, reporter, taker}
 use Rattle.event_rule.specs.Runs.{IsEnabled}
 use Rattle.machine_rules.specs.Next.{next}
 use Rattle.machine_rules.specs.Options.{Trace}
@@ -98,26 +101,25 @@ Leaves s e t = (a : ℕ) → IsApart s a e → Adds s.actors t.actors a
 pub alone_spared : (a b : ℕ) → b ≢ a → has (a ∷ []) b ≡ false
 alone_spared a b not = rw (ne_eqb a b (λ e. not (sym e))) refl
 
-leaves : (trace : Trace) → Cases trace Leaves
-leaves trace = record {
-  taking = λ s b c l mail at is a apart. adds_other s.actors b a _ (not_mine a b apart.others);
-  ending = λ s b c mail f going a apart. adds_other s.actors b a _ (not_mine a b apart.others);
-  printing = λ s b c mail f v going a apart. adds_other s.actors b a _ (not_mine a b apart.others);
-  making = λ s b c mail f g kind going room a apart. adds_made s.actors b a _ _ (not_mine a b apart.others) apart.made;
-  posting = λ s b c mail f to behaviour args going none a apart. adds_trans s.actors (set s.actors b _) _ a (adds_other s.actors b a _ (not_mine a b apart.others)) (adds_push _ to _ a);
-  minting = λ s b c mail f args e lacked going is a apart. adds_trans s.actors (set s.actors b _) _ a (adds_other s.actors b a _ (not_mine a b apart.others)) (adds_push _ _ _ a);
-  getting = λ s b c mail f x going a apart. adds_trans s.actors (set s.actors b _) _ a (adds_other s.actors b a _ (not_mine a b apart.others)) (adds_push _ _ _ a);
-  collecting = λ s b c mail at is did a apart. adds_trans s.actors (set s.actors b _) _ a (adds_other s.actors b a _ (not_mine a b apart.others))
-      (adds_decs (by_owner (given_back (is_marked trace b c) (without_unused trace b c).holdings)) _ a);
-  leaving = λ s b c mail at may a apart. adds_reaped (b ∷ []) (b ∷ []) [] s.actors a (alone_spared b a (not_mine a b apart.others));
-  blocking = λ s b c mail at may a apart. adds_other s.actors b a _ (not_mine a b apart.others);
-  hearing = λ s note later is a apart. adds_same s.actors s.actors a refl;
-  scanning = λ s news a apart. adds_asked (closed_set s.detector) (suc s.detector.opened) s.actors a;
-  reaping = λ s number token is acked a apart. adds_reaped token.members token.members [] s.actors a (apart.spared number token refl is);
-}
+leaves : (trace : Trace) (s : State) {e : Event} {t : State} → IsStep trace s e t → Leaves s e t
+leaves trace s (rule.takes b c l mail at is) a apart = adds_other s.actors b a _ (not_mine a b apart.others)
+leaves trace s (rule.ends b c mail f stops) a apart = adds_other s.actors b a _ (not_mine a b apart.others)
+leaves trace s (rule.prints b c mail f v stops) a apart = adds_other s.actors b a _ (not_mine a b apart.others)
+leaves trace s (rule.makes b c mail f kind register stops room) a apart = adds_made s.actors b a _ _ (not_mine a b apart.others) apart.made
+leaves trace s (rule.posts b c mail f to behaviour args stops none) a apart = adds_trans s.actors (set s.actors b _) _ a (adds_other s.actors b a _ (not_mine a b apart.others)) (adds_push _ to _ a)
+leaves trace s (rule.mints b c mail f to behaviour args e lacked stops is) a apart = adds_trans s.actors (set s.actors b _) _ a (adds_other s.actors b a _ (not_mine a b apart.others)) (adds_push _ _ _ a)
+leaves trace s (rule.gets b c mail f x going need) a apart = adds_trans s.actors (set s.actors b _) _ a (adds_other s.actors b a _ (not_mine a b apart.others)) (adds_push _ _ _ a)
+leaves trace s (rule.collects b c mail at may) a apart =
+    adds_trans s.actors (set s.actors b _) _ a (adds_other s.actors b a _ (not_mine a b apart.others))
+    (adds_decs (by_owner (given_back (is_marked trace b c) (without_unused trace b c).holdings)) _ a)
+leaves trace s (rule.leaves b c mail at may) a apart = adds_reaped (b ∷ []) (b ∷ []) [] s.actors a (alone_spared b a (not_mine a b apart.others))
+leaves trace s (rule.blocks b c mail at may) a apart = adds_other s.actors b a _ (not_mine a b apart.others)
+leaves trace s (rule.hears note later is) a apart = adds_same s.actors s.actors a refl
+leaves trace s (rule.scans news) a apart = adds_asked (closed_set s.detector) (suc s.detector.opened) s.actors a
+leaves trace s (rule.reaps number token is) a apart = adds_reaped token.members token.members [] s.actors a (apart.spared number token refl (acked_open number s.detector token is).0)
 
 pub others_leave : OthersLeaveTheCell
-others_leave s t a e apart goes = let z = each_next Leaves leaves s t e goes a apart in record { cell = z.cell; come = z.come; mail = z.mail }
+others_leave s t a e apart goes = let z = leaves s.options.trace s (step_of s t e goes) a apart in record { cell = z.cell; come = z.come; mail = z.mail }
 
 -- ---- what is enabled of the actor
 
@@ -159,13 +161,12 @@ module _ (s t : State) (a : ℕ) (adds : LeavesCell s t a) where
 
   keeps_enabled : KeepsEnabled s t a
   keeps_enabled = record {
-    take = still (Take a) (λ can. let at = after can.0 can.1 can.2 in (can.0, can.1 ++ adds.come, at, (can.3.0, push_not_empty can.1 adds.come can.3.1)));
-    no_more = λ same. was (Take a) (λ can. (
-      can.0,
-      mail_at s.actors a,
-      (before can.0 can.1 can.2).0,
-      (can.3.0, λ empty. can.3.1 (ap letters_of (sym can.2) ∙ (same ∙ empty))),
-    ));
+    take = still (Take a) (λ can.
+        let z = taker can.0 can.1 can.3 in
+        (can.0, can.1 ++ adds.come, after can.0 can.1 can.2, may_take-some can.0 (can.1 ++ adds.come) z.0 (push_not_empty can.1 adds.come z.1)));
+    no_more = λ same. was (Take a) (λ can.
+        let z = taker can.0 can.1 can.3 in
+        (can.0, mail_at s.actors a, (before can.0 can.1 can.2).0, may_take-some can.0 (mail_at s.actors a) z.0 (λ empty. z.1 (ap letters_of (sym can.2) ∙ (same ∙ empty)))));
     go = (
       was (Go a) (λ can. (can.0, mail_at s.actors a, (before can.0 can.1 can.2).0, can.3)),
       still (Go a) (λ can. (can.0, can.1 ++ adds.come, after can.0 can.1 can.2, can.3)),
@@ -176,17 +177,23 @@ module _ (s t : State) (a : ℕ) (adds : LeavesCell s t a) where
     );
     leave = (
       λ on. (
-        was (Leave a) (λ can. (can.0, mail_at s.actors a, (before can.0 can.1 can.2).0, (rests_before can.0 can.1 can.2 can.3.0, can.3.1))) on,
-        (let can = (enabled_exactly t (Leave a)).0 on in ap letters_of can.2 ∙ can.3.0.rest.empty),
+        was (Leave a) (λ can.
+            let z = leaver can.0 can.1 can.3 in
+            (can.0, mail_at s.actors a, (before can.0 can.1 can.2).0, may_leave-none can.0 (mail_at s.actors a) (rests_before can.0 can.1 can.2 z.0) z.1)) on,
+        (let can = (enabled_exactly t (Leave a)).0 on in ap letters_of can.2 ∙ (leaver can.0 can.1 can.3).0.rest.empty),
       ),
-      λ both. still (Leave a) (λ can. (can.0, can.1 ++ adds.come, after can.0 can.1 can.2, (rests_after can.0 can.1 can.2 both.1 can.3.0, can.3.1))) both.0,
+      λ both. still (Leave a) (λ can.
+          let z = leaver can.0 can.1 can.3 in
+          (can.0, can.1 ++ adds.come, after can.0 can.1 can.2, may_leave-none can.0 (can.1 ++ adds.come) (rests_after can.0 can.1 can.2 both.1 z.0) z.1)) both.0,
     );
     block = (
       λ on. (
-        was (Block a) (λ can. (can.0, mail_at s.actors a, (before can.0 can.1 can.2).0, rests_before can.0 can.1 can.2 can.3)) on,
-        (let can = (enabled_exactly t (Block a)).0 on in ap letters_of can.2 ∙ can.3.rest.empty),
+        was (Block a) (λ can.
+            (can.0, mail_at s.actors a, (before can.0 can.1 can.2).0, reporter can.0 (mail_at s.actors a) (rests_before can.0 can.1 can.2 (may_report can.0 can.1 can.3)))) on,
+        (let can = (enabled_exactly t (Block a)).0 on in ap letters_of can.2 ∙ (may_report can.0 can.1 can.3).rest.empty),
       ),
-      λ both. still (Block a) (λ can. (can.0, can.1 ++ adds.come, after can.0 can.1 can.2, rests_after can.0 can.1 can.2 both.1 can.3)) both.0,
+      λ both. still (Block a) (λ can.
+          (can.0, can.1 ++ adds.come, after can.0 can.1 can.2, reporter can.0 (can.1 ++ adds.come) (rests_after can.0 can.1 can.2 both.1 (may_report can.0 can.1 can.3)))) both.0,
     );
   }
 

@@ -28,7 +28,9 @@ use Rattle.letter_kinds.specs.declared.letter.Letter.{Letter}
 use Rattle.letter_kinds.specs.declared.letter.Letter.TheVariants.{App, Inc, Dec, Confirm}
 use Rattle.letter_kinds.specs.declared.note.Note.{Note}
 use Rattle.letter_kinds.specs.declared.note.Note.TheVariants.{Block, Unblock, Ack}
-use Rattle.machine_rules.proofs.Cases.{Cases, each_next, kept}
+use Rattle.machine_rules.proofs.Stepping.{step_of}
+use Rattle.machine_rules.specs.Rules.{IsStep, kept, later_frame}
+use Rattle.machine_rules.specs.Rules as rule
 use Rattle.count_laws.proofs.events.Every.{length-decs, length-push, push_none, set_none}
 use Rattle.count_laws.proofs.balance.Makes.{more_last, more_other}
 use Rattle.count_laws.proofs.letters.Once.{load_once, minted_once, needed_once}
@@ -49,7 +51,7 @@ use Rattle.machine_rules.specs.Go.{load_from, make, mint, post, rows_from, to_ne
 use Rattle.event_rule.specs.Runs.{Leads, Goes}
 use Rattle.machine_rules.specs.Next.{next}
 use Rattle.machine_rules.specs.Options.{Options, Trace}
-use Rattle.plain_rules.specs.Machine.{stopped_at}
+use Rattle.plain_rules.specs.Machine.{stopped_at, with_name}
 use Rattle.machine_rules.specs.State.{State, first_state, start_letters}
 use Rattle.machine_rules.specs.Take.{cell_after}
 
@@ -197,39 +199,37 @@ Raises s e t = 0 < s.options.weight → (x : Thing) → counted x t.actors ≤ c
 at_most : (n k w : ℕ) → n ≤ k → n ≤ k + w
 at_most n k w h = omega arith
 
-raises : (trace : Trace) → Cases trace Raises
-raises trace = record {
-  taking = λ s a c l mail at is pos x.
-      let z : counted x (set s.actors a (seat (cell_after s.program a l c) mail)) ≤ counted x s.actors + 0
-      = counted-set s.actors a (seat c (l ∷ mail)) (seat (cell_after s.program a l c) mail) (present_below s.actors a _ at) at 0 x
-      (λ o. let k = taken_counts s.program a x c l o in
-      omega (arith, seat_counts-seat x c (l ∷ mail), seat_counts-seat x (cell_after s.program a l c) mail, sum_by-cons (inc_of x) l mail)) in
-      omega arith;
-  ending = λ s a c mail f going pos x. at_most _ _ _ (turned_counts s.actors a c mail going.0 (turn_of_cell trace s.program a c f) None true x);
-  printing = λ s a c mail f v going pos x.
-      at_most _ _ _ (turned_counts s.actors a c mail going.0 (turn_of_cell trace s.program a c f) (Some (stopped_at f (turn_of_cell trace s.program a c f))) c.dirty x);
-  making = λ s a c mail f g kind going room pos x. made_counts s.actors a c mail going.0 s.options.weight (turn_of_cell trace s.program a c f) g s.program kind x;
-  posting = λ s a c mail f to behaviour args going none pos x.
-      let z = posted_counts s.actors a c mail going.0 trace (turn_of_cell trace s.program a c f) (Some (stopped_at f (turn_of_cell trace s.program a c f))) c.dirty
-      to behaviour args (rows_from trace a (kept trace s a c f) args) x in omega arith;
-  minting = λ s a c mail f args e lacked going is pos x.
-      minted_counts s.actors a c mail going.0 s.options.weight (owner_of e.0) (to_mint s.options.weight (owner_of e.0) (e ∷ lacked)) x
-      (minted_once trace s.options.weight a (owner_of e.0) (kept trace s a c f).holdings args x (e ∷ lacked) is);
-  getting = λ s a c mail f y going pos x.
-      minted_counts s.actors a c mail going.0 s.options.weight (owner_of y) (to_need s.options.weight a c.holdings y) x (needed_once s.options.weight a c.holdings y x);
-  collecting = λ s a c mail at is did pos x.
-      at_most _ _ _ (collected_counts s.actors a c mail at (is_marked trace a c) (without_unused trace a c) (same_holdings trace a c) x);
-  leaving = λ s a c mail at may pos x. at_most _ _ _ (counted-reaped (a ∷ []) (a ∷ []) [] s.actors x);
-  blocking = λ s a c mail at may pos x.
-      let z : counted x (set s.actors a (seat (record c { reported = true }) mail)) ≤ counted x s.actors + 0
-      = counted-cell s.actors a c (record c { reported = true }) mail at 0 x (λ o. omega arith) in omega arith;
-  hearing = λ s note later is pos x. omega arith;
-  scanning = λ s news pos x. at_most _ _ _ (counted-asked (closed_set s.detector) (suc s.detector.opened) s.actors x);
-  reaping = λ s number token is acked pos x. at_most _ _ _ (counted-reaped token.members token.members [] s.actors x);
-}
+raises : (trace : Trace) (s : State) {e : Event} {t : State} → IsStep trace s e t → Raises s e t
+raises trace s (rule.takes a c l mail at is) pos x =
+    let z : counted x (set s.actors a (seat (cell_after s.program a l c) mail)) ≤ counted x s.actors + 0
+    = counted-set s.actors a (seat c (l ∷ mail)) (seat (cell_after s.program a l c) mail) (present_below s.actors a _ at) at 0 x
+    (λ o. let k = taken_counts s.program a x c l o in
+    omega (arith, seat_counts-seat x c (l ∷ mail), seat_counts-seat x (cell_after s.program a l c) mail, sum_by-cons (inc_of x) l mail)) in
+    omega arith
+raises trace s (rule.ends a c mail f stops) pos x = at_most _ _ _ (turned_counts s.actors a c mail stops.going.present (turn_of_cell trace s.program a c f) None true x)
+raises trace s (rule.prints a c mail f v stops) pos x =
+    at_most _ _ _ (turned_counts s.actors a c mail stops.going.present (turn_of_cell trace s.program a c f) (Some (stopped_at f (turn_of_cell trace s.program a c f))) c.dirty x)
+raises trace s (rule.makes a c mail f kind register stops room) pos x = made_counts s.actors a c mail stops.going.present s.options.weight (turn_of_cell trace s.program a c f) (with_name (later_frame trace s a c f) register (length s.actors)) s.program kind x
+raises trace s (rule.posts a c mail f to behaviour args stops none) pos x =
+    let z = posted_counts s.actors a c mail stops.going.present trace (turn_of_cell trace s.program a c f) (Some (stopped_at f (turn_of_cell trace s.program a c f))) c.dirty
+    to behaviour args (rows_from trace a (kept trace s a c f) args) x in omega arith
+raises trace s (rule.mints a c mail f to behaviour args e lacked stops is) pos x =
+    minted_counts s.actors a c mail stops.going.present s.options.weight (owner_of e.0) (to_mint s.options.weight (owner_of e.0) (e ∷ lacked)) x
+    (minted_once trace s.options.weight a (owner_of e.0) (kept trace s a c f).holdings args x (e ∷ lacked) is)
+raises trace s (rule.gets a c mail f y going need) pos x =
+    minted_counts s.actors a c mail going.present s.options.weight (owner_of y) (to_need s.options.weight a c.holdings y) x (needed_once s.options.weight a c.holdings y x)
+raises trace s (rule.collects a c mail at may) pos x =
+    at_most _ _ _ (collected_counts s.actors a c mail at (is_marked trace a c) (without_unused trace a c) (same_holdings trace a c) x)
+raises trace s (rule.leaves a c mail at may) pos x = at_most _ _ _ (counted-reaped (a ∷ []) (a ∷ []) [] s.actors x)
+raises trace s (rule.blocks a c mail at may) pos x =
+    let z : counted x (set s.actors a (seat (record c { reported = true }) mail)) ≤ counted x s.actors + 0
+    = counted-cell s.actors a c (record c { reported = true }) mail at 0 x (λ o. omega arith) in omega arith
+raises trace s (rule.hears note later is) pos x = omega arith
+raises trace s (rule.scans news) pos x = at_most _ _ _ (counted-asked (closed_set s.detector) (suc s.detector.opened) s.actors x)
+raises trace s (rule.reaps number token is) pos x = at_most _ _ _ (counted-reaped token.members token.members [] s.actors x)
 
 pub events_raise : EventsRaiseByTheWeight
-events_raise s t e pos goes = each_next Raises raises s t e goes pos
+events_raise s t e pos goes = raises s.options.trace s (step_of s t e goes) pos
 
 -- ---- tokens
 
@@ -245,25 +245,23 @@ heard_opened (Ack number a) d = refl
 abbrev Opens : State → Event → State → Type 0
 Opens s e t = t.detector.opened ≤ suc s.detector.opened
 
-opens : (trace : Trace) → Cases trace Opens
-opens trace = record {
-  taking = λ s a c l mail at is. omega arith;
-  ending = λ s a c mail f going. omega arith;
-  printing = λ s a c mail f v going. omega arith;
-  making = λ s a c mail f g kind going room. omega arith;
-  posting = λ s a c mail f to behaviour args going none. omega arith;
-  minting = λ s a c mail f args e lacked going is. omega arith;
-  getting = λ s a c mail f y going. omega arith;
-  collecting = λ s a c mail at is did. omega arith;
-  leaving = λ s a c mail at may. omega arith;
-  blocking = λ s a c mail at may. omega arith;
-  hearing = λ s note later is. let z = heard_opened note s.detector in omega arith;
-  scanning = λ s news. scanned_opened s.detector (closed_set s.detector);
-  reaping = λ s number token is acked. omega arith;
-}
+opens : (trace : Trace) (s : State) {e : Event} {t : State} → IsStep trace s e t → Opens s e t
+opens trace s (rule.takes a c l mail at is) = omega arith
+opens trace s (rule.ends a c mail f stops) = omega arith
+opens trace s (rule.prints a c mail f v stops) = omega arith
+opens trace s (rule.makes a c mail f kind register stops room) = omega arith
+opens trace s (rule.posts a c mail f to behaviour args stops none) = omega arith
+opens trace s (rule.mints a c mail f to behaviour args e lacked stops is) = omega arith
+opens trace s (rule.gets a c mail f y going need) = omega arith
+opens trace s (rule.collects a c mail at may) = omega arith
+opens trace s (rule.leaves a c mail at may) = omega arith
+opens trace s (rule.blocks a c mail at may) = omega arith
+opens trace s (rule.hears note later is) = let z = heard_opened note s.detector in omega arith
+opens trace s (rule.scans news) = scanned_opened s.detector (closed_set s.detector)
+opens trace s (rule.reaps number token is) = omega arith
 
 pub events_open : EventsOpenOneToken
-events_open s t e goes = each_next Opens opens s t e goes
+events_open s t e goes = opens s.options.trace s (step_of s t e goes)
 
 -- ---- actors
 
@@ -283,30 +281,28 @@ push_room s b l h = let k = length-push b l s in omega arith
 more_room : (s : Actors) (a : ℕ) (o new : Option Seat) → length s < 65536 → length (set s a o ++ new ∷ []) ≤ 65536
 more_room s a o new h = let l = length-set s a o in let k = length-append (set s a o) (new ∷ []) in omega arith
 
-room_in : (trace : Trace) → Cases trace Room
-room_in trace = record {
-  taking = λ s a c l mail at is h. set_room s.actors a _ h;
-  ending = λ s a c mail f going h. set_room s.actors a _ h;
-  printing = λ s a c mail f v going h. set_room s.actors a _ h;
-  making = λ s a c mail f g kind going room h. more_room s.actors a _ _ room;
-  posting = λ s a c mail f to behaviour args going none h. push_room _ to _ (set_room s.actors a _ h);
-  minting = λ s a c mail f args e lacked going is h. push_room _ _ _ (set_room s.actors a _ h);
-  getting = λ s a c mail f x going h. push_room _ _ _ (set_room s.actors a _ h);
-  collecting = λ s a c mail at is did h.
-      let k = length-decs (by_owner (given_back (is_marked trace a c) (without_unused trace a c).holdings))
-      (set s.actors a (seat (record (without_unused trace a c) { holdings = sweep (is_marked trace a c) a (without_unused trace a c).holdings; dirty = false }) mail)) in
-      let l = length-set s.actors a (seat (record (without_unused trace a c) { holdings = sweep (is_marked trace a c) a (without_unused trace a c).holdings; dirty = false }) mail) in
-      omega arith;
-  leaving = λ s a c mail at may h. let l = length-reap (a ∷ []) (a ∷ []) [] s.actors in omega arith;
-  blocking = λ s a c mail at may h. set_room s.actors a _ h;
-  hearing = λ s note later is h. h;
-  scanning = λ s news h. let l = length-asked (closed_set s.detector) (suc s.detector.opened) s.actors in omega arith;
-  reaping = λ s number token is acked h. let l = length-reap token.members token.members [] s.actors in omega arith;
-}
+room_in : (trace : Trace) (s : State) {e : Event} {t : State} → IsStep trace s e t → Room s e t
+room_in trace s (rule.takes a c l mail at is) h = set_room s.actors a _ h
+room_in trace s (rule.ends a c mail f stops) h = set_room s.actors a _ h
+room_in trace s (rule.prints a c mail f v stops) h = set_room s.actors a _ h
+room_in trace s (rule.makes a c mail f kind register stops room) h = more_room s.actors a _ _ room
+room_in trace s (rule.posts a c mail f to behaviour args stops none) h = push_room _ to _ (set_room s.actors a _ h)
+room_in trace s (rule.mints a c mail f to behaviour args e lacked stops is) h = push_room _ _ _ (set_room s.actors a _ h)
+room_in trace s (rule.gets a c mail f x going need) h = push_room _ _ _ (set_room s.actors a _ h)
+room_in trace s (rule.collects a c mail at may) h =
+    let k = length-decs (by_owner (given_back (is_marked trace a c) (without_unused trace a c).holdings))
+    (set s.actors a (seat (record (without_unused trace a c) { holdings = sweep (is_marked trace a c) a (without_unused trace a c).holdings; dirty = false }) mail)) in
+    let l = length-set s.actors a (seat (record (without_unused trace a c) { holdings = sweep (is_marked trace a c) a (without_unused trace a c).holdings; dirty = false }) mail) in
+    omega arith
+room_in trace s (rule.leaves a c mail at may) h = let l = length-reap (a ∷ []) (a ∷ []) [] s.actors in omega arith
+room_in trace s (rule.blocks a c mail at may) h = set_room s.actors a _ h
+room_in trace s (rule.hears note later is) h = h
+room_in trace s (rule.scans news) h = let l = length-asked (closed_set s.detector) (suc s.detector.opened) s.actors in omega arith
+room_in trace s (rule.reaps number token is) h = let l = length-reap token.members token.members [] s.actors in omega arith
 
 pub leads_room : (book : List Event) (s t : State) → Leads next s book t → length s.actors ≤ 65536 → length t.actors ≤ 65536
 leads_room [] s t same h = subst (λ (u : State). length u.actors ≤ 65536) same h
-leads_room (e ∷ book) s t (u, goes, leads) h = leads_room book u t leads (each_next Room room_in s u e goes h)
+leads_room (e ∷ book) s t (u, goes, leads) h = leads_room book u t leads (room_in s.options.trace s (step_of s u e goes) h)
 
 pub runs_make_few : RunsMakeFewActors
 runs_make_few program options book t run = leads_room book (first_state program options) t run (omega arith)
@@ -316,25 +312,23 @@ runs_make_few program options book t run = leads_room book (first_state program 
 abbrev Stays : State → Event → State → Type 0
 Stays s e t = t.options ≡ s.options
 
-stays : (trace : Trace) → Cases trace Stays
-stays trace = record {
-  taking = λ s a c l mail at is. refl;
-  ending = λ s a c mail f going. refl;
-  printing = λ s a c mail f v going. refl;
-  making = λ s a c mail f g kind going room. refl;
-  posting = λ s a c mail f to behaviour args going none. refl;
-  minting = λ s a c mail f args e lacked going is. refl;
-  getting = λ s a c mail f y going. refl;
-  collecting = λ s a c mail at is did. refl;
-  leaving = λ s a c mail at may. refl;
-  blocking = λ s a c mail at may. refl;
-  hearing = λ s note later is. refl;
-  scanning = λ s news. refl;
-  reaping = λ s number token is acked. refl;
-}
+stays : (trace : Trace) (s : State) {e : Event} {t : State} → IsStep trace s e t → Stays s e t
+stays trace s (rule.takes a c l mail at is) = refl
+stays trace s (rule.ends a c mail f stops) = refl
+stays trace s (rule.prints a c mail f v stops) = refl
+stays trace s (rule.makes a c mail f kind register stops room) = refl
+stays trace s (rule.posts a c mail f to behaviour args stops none) = refl
+stays trace s (rule.mints a c mail f to behaviour args e lacked stops is) = refl
+stays trace s (rule.gets a c mail f y going need) = refl
+stays trace s (rule.collects a c mail at may) = refl
+stays trace s (rule.leaves a c mail at may) = refl
+stays trace s (rule.blocks a c mail at may) = refl
+stays trace s (rule.hears note later is) = refl
+stays trace s (rule.scans news) = refl
+stays trace s (rule.reaps number token is) = refl
 
 pub options_stay : (s t : State) (e : Event) → next s e ≡ Goes t → t.options ≡ s.options
-options_stay s t e goes = each_next Stays stays s t e goes
+options_stay s t e goes = stays s.options.trace s (step_of s t e goes)
 
 -- ---- runs
 

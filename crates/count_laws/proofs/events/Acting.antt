@@ -4,8 +4,7 @@ use Rattle.event_rule.specs.declared.event.Event.{Event}
 use Rattle.event_rule.specs.declared.event.Event.TheVariants.{Take, Go}
 use Rattle.count_laws.proofs.local.Cleaning.{clean-first, clean-next}
 use Rattle.count_laws.proofs.agreement.Following.{Follows}
-use Rattle.count_laws.proofs.agreement.Follows.{collect_kept, go_kept, take_kept}
-use Rattle.count_laws.proofs.events.Leave.{leave_kept}
+use Rattle.count_laws.proofs.agreement.Follows.{collect_kept, go_kept, leave_beside, take_kept}
 use Rattle.count_laws.proofs.local.NoSelf.{no_self-first, no_self-next}
 use Rattle.machine_rules.specs.Options.{Trace}
 use Rattle.count_laws.specs.Facts.{Facts}
@@ -33,7 +32,7 @@ pub collects_keep : CollectsKeepFacts
 collects_keep a trace p s t facts goes = (p, refl, collect_kept trace p s facts t a goes)
 
 pub leaves_keep : LeavesKeepFacts
-leaves_keep a trace p s t facts goes = (p, refl, leave_kept trace p s facts t a goes)
+leaves_keep a trace p s t facts goes = (p, refl, leave_beside trace p s facts t a goes)
 
 pub clean_stay_swept : CleanStaySwept
 clean_stay_swept = (clean-first, clean-next)

@@ -11,7 +11,6 @@ use Rattle.letter_kinds.specs.Detector.{has}
 use Rattle.letter_kinds.specs.Holdings.{Row, held_in, own_in}
 use Rattle.letter_kinds.specs.Sums.{inc_of, load_count}
 use Rattle.letter_kinds.specs.declared.letter.Letter.{Letter}
-use Rattle.machine_rules.proofs.Enabling.{may_go}
 use Rattle.count_laws.proofs.events.EitherMode.{reap_keeps}
 use Rattle.count_laws.proofs.events.Reap.{Sealed}
 use Rattle.count_laws.proofs.balance.SeatReads.{incs_at-seat, loads_at-seat, own_at-seat}
@@ -23,13 +22,14 @@ use Rattle.machine_rules.specs.Actors.{Actors, Seat, seat, seat_at}
 use Rattle.count_laws.specs.Agreement.{Person, app_letters, people_of}
 use Rattle.machine_rules.specs.Balance.{held_sum, incs_at, load_sum, loads_at, own_at}
 use Rattle.machine_rules.specs.Cell.{Cell}
-use Rattle.machine_rules.specs.Enabled.{MayReport}
 use Rattle.count_laws.specs.Facts.{Facts, KeepsCounts}
-use Rattle.machine_rules.specs.Leave.{leave_at, leave_in, may_leave}
 use Rattle.event_rule.specs.Runs.{Goes}
 use Rattle.machine_rules.specs.Next.{next}
 use Rattle.plain_rules.specs.Machine.{PlainState, plain_row}
+use Rattle.machine_rules.specs.Detect.{reap_members}
 use Rattle.machine_rules.specs.State.{State}
+use Rattle.machine_rules.proofs.Guards.{MayReport, leaver}
+use Rattle.machine_rules.specs.Guards.{may_go, may_leave}
 
 -- the one member of a set of one
 no_sum : (f : Letter → ℕ) (ls : List Letter) → ls ≡ [] → sum_by f ls ≡ 0
@@ -70,25 +70,20 @@ module _ (trace : Trace) (all : Thing → Option Row) (ps : List Person) (s : Ac
     quiet = λ x. no_sum (load_count x) ls may.rest.empty;
   }
 
-module _ (trace : Trace) (p : PlainState) (s : State) (facts : Facts trace p s) (t : State) where
-  leaves : (a : ℕ) (c : Cell) (ls : List Letter) (q : Bool) → may_leave c ls ≡ q → seat_at s.actors a ≡ seat c ls → leave_in s a q ≡ Goes t → Facts trace p t
-  leaves a c ls false may at e = absurd (not_enabled t e)
-  leaves a c ls true may at e =
-      let able = may_go c ls may in
-      subst (Facts trace p) (goes_to _ t e) (record {
-        counts = reap_keeps trace (thing_row (plain_row p.actors)) (people_of p.actors) s.actors facts.counts (a ∷ []) (is_member a, tt)
-            (sealed trace (thing_row (plain_row p.actors)) (people_of p.actors) s.actors facts.counts a c ls at able.0 able.1, tt)
-            (alone trace (thing_row (plain_row p.actors)) (people_of p.actors) s.actors facts.counts a c ls at able.0 able.1);
-        program = facts.program;
-        prints = facts.prints;
-        objects = facts.objects;
-        weight = facts.weight;
-        mode = facts.mode;
-      })
-
-  leave_seat : (a : ℕ) (o : Option Seat) → seat_at s.actors a ≡ o → leave_at s a o ≡ Goes t → Facts trace p t
-  leave_seat a None at e = absurd (not_enabled t e)
-  leave_seat a (Some o) at e = leaves a o.cell o.mail (may_leave o.cell o.mail) refl at e
-
-  pub leave_kept : (a : ℕ) → next s (Leave a) ≡ Goes t → Facts trace p t
-  leave_kept a e = leave_seat a (seat_at s.actors a) refl e
+-- an actor that may leaves
+pub leave_kept : (trace : Trace) (p : PlainState) (s : State) → Facts trace p s → (a : ℕ) (c : Cell) (ls : List Letter) → seat_at s.actors a ≡ seat c ls → may_leave c ls ≡ true
+    → Facts trace p (record s { actors = reap_members (a ∷ []) s.actors })
+leave_kept trace p s facts a c ls at may =
+    let able = leaver c ls may in
+    let all = thing_row (plain_row p.actors) in
+    let people = people_of p.actors in
+    record {
+      counts = reap_keeps trace all people s.actors facts.counts (a ∷ []) (is_member a, tt)
+          (sealed trace all people s.actors facts.counts a c ls at able.0 able.1, tt)
+          (alone trace all people s.actors facts.counts a c ls at able.0 able.1);
+      program = facts.program;
+      prints = facts.prints;
+      objects = facts.objects;
+      weight = facts.weight;
+      mode = facts.mode;
+    }

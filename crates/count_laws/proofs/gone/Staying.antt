@@ -17,7 +17,9 @@ use Rattle.letter_kinds.specs.Detector.{closed_set}
 use Rattle.letter_kinds.specs.Holdings.{Holdings, Row, has_own, with_made}
 use Rattle.letter_kinds.specs.declared.letter.Letter.{Letter}
 use Rattle.letter_kinds.specs.declared.letter.Letter.TheVariants.{App, Inc, Dec, Confirm}
-use Rattle.machine_rules.proofs.Cases.{Cases, each_next, kept}
+use Rattle.machine_rules.proofs.Stepping.{step_of}
+use Rattle.machine_rules.specs.Rules.{IsStep, kept, later_frame}
+use Rattle.machine_rules.specs.Rules as rule
 use Rattle.count_laws.proofs.events.Every.{push_none, set_none}
 use Rattle.count_laws.proofs.balance.Makes.{more_other}
 use Rattle.count_laws.proofs.events.Post.{next_mint, next_send}
@@ -38,7 +40,7 @@ use Rattle.count_laws.specs.Gone.{GoneStaysGone, HasName, NamesStayGiven}
 use Rattle.machine_rules.specs.Options.{Trace}
 use Rattle.event_rule.specs.Runs.{Leads}
 use Rattle.machine_rules.specs.Next.{next}
-use Rattle.plain_rules.specs.Machine.{stopped_at}
+use Rattle.plain_rules.specs.Machine.{stopped_at, with_name}
 use Rattle.machine_rules.specs.Left.{IsLeft}
 use Rattle.machine_rules.specs.State.{State}
 use Rattle.machine_rules.specs.Take.{cell_after}
@@ -226,27 +228,26 @@ module _ (s : Actors) (a : ℕ) (c : Cell) (mail : List Letter) (at : seat_at s 
 abbrev StaysAfter : State → Event → State → Type 0
 StaysAfter s e t = Stays s.actors t.actors
 
-stays : (trace : Trace) → Cases trace StaysAfter
-stays trace = record {
-  taking = λ s a c l mail at is. stays_cell s.actors a c (cell_after s.program a l c) (l ∷ mail) mail at (keeps_taken s.program a l c);
-  ending = λ s a c mail f going. stays_turned s.actors a c mail going.0 (turn_of_cell trace s.program a c f) None true;
-  printing = λ s a c mail f v going. stays_turned s.actors a c mail going.0 (turn_of_cell trace s.program a c f) (Some (stopped_at f (turn_of_cell trace s.program a c f))) c.dirty;
-  making = λ s a c mail f g kind going room. stays_made s.actors a c mail going.0 s.options.weight (turn_of_cell trace s.program a c f) g (fresh_cell s.options.weight s.program kind);
-  posting = λ s a c mail f to behaviour args going none. stays_posted s.actors a c mail going.0 (turn_of_cell trace s.program a c f) (Some (stopped_at f (turn_of_cell trace s.program a c f))) c.dirty
-      to behaviour args (load_from trace a (kept trace s a c f).holdings args) (rows_from trace a (kept trace s a c f) args);
-  minting = λ s a c mail f args e lacked going is. stays_minted s.actors a c mail going.0 _ _;
-  getting = λ s a c mail f x going. stays_minted s.actors a c mail going.0 _ _;
-  collecting = λ s a c mail at is did. stays_collected s.actors a c mail at (is_marked trace a c) (without_unused trace a c) (same_holdings trace a c);
-  leaving = λ s a c mail at may. stays_reaped (a ∷ []) (a ∷ []) [] s.actors;
-  blocking = λ s a c mail at may. stays_cell s.actors a c (record c { reported = true }) mail mail at (keeps_self c.holdings);
-  hearing = λ s note later is. stays_self s.actors;
-  scanning = λ s news. stays_asked (closed_set s.detector) (suc s.detector.opened) s.actors;
-  reaping = λ s number token is acked. stays_reaped token.members token.members [] s.actors;
-}
+stays : (trace : Trace) (s : State) {e : Event} {t : State} → IsStep trace s e t → StaysAfter s e t
+stays trace s (rule.takes a c l mail at is) = stays_cell s.actors a c (cell_after s.program a l c) (l ∷ mail) mail at (keeps_taken s.program a l c)
+stays trace s (rule.ends a c mail f stops) = stays_turned s.actors a c mail stops.going.present (turn_of_cell trace s.program a c f) None true
+stays trace s (rule.prints a c mail f v stops) = stays_turned s.actors a c mail stops.going.present (turn_of_cell trace s.program a c f) (Some (stopped_at f (turn_of_cell trace s.program a c f))) c.dirty
+stays trace s (rule.makes a c mail f kind register stops room) = stays_made s.actors a c mail stops.going.present s.options.weight (turn_of_cell trace s.program a c f) (with_name (later_frame trace s a c f) register (length s.actors)) (fresh_cell s.options.weight s.program kind)
+stays trace s (rule.posts a c mail f to behaviour args stops none) =
+    stays_posted s.actors a c mail stops.going.present (turn_of_cell trace s.program a c f) (Some (stopped_at f (turn_of_cell trace s.program a c f))) c.dirty
+    to behaviour args (load_from trace a (kept trace s a c f).holdings args) (rows_from trace a (kept trace s a c f) args)
+stays trace s (rule.mints a c mail f to behaviour args e lacked stops is) = stays_minted s.actors a c mail stops.going.present _ _
+stays trace s (rule.gets a c mail f x going need) = stays_minted s.actors a c mail going.present _ _
+stays trace s (rule.collects a c mail at may) = stays_collected s.actors a c mail at (is_marked trace a c) (without_unused trace a c) (same_holdings trace a c)
+stays trace s (rule.leaves a c mail at may) = stays_reaped (a ∷ []) (a ∷ []) [] s.actors
+stays trace s (rule.blocks a c mail at may) = stays_cell s.actors a c (record c { reported = true }) mail mail at (keeps_self c.holdings)
+stays trace s (rule.hears note later is) = stays_self s.actors
+stays trace s (rule.scans news) = stays_asked (closed_set s.detector) (suc s.detector.opened) s.actors
+stays trace s (rule.reaps number token is) = stays_reaped token.members token.members [] s.actors
 
 leads_stay : (book : List Event) (s t : State) → Leads next s book t → Stays s.actors t.actors
 leads_stay [] s t same = subst (λ (u : State). Stays s.actors u.actors) same (stays_self s.actors)
-leads_stay (e ∷ book) s t (u, goes, leads) = stays_trans s.actors u.actors t.actors (each_next StaysAfter stays s u e goes) (leads_stay book u t leads)
+leads_stay (e ∷ book) s t (u, goes, leads) = stays_trans s.actors u.actors t.actors (stays s.options.trace s (step_of s u e goes)) (leads_stay book u t leads)
 
 pub names_stay : NamesStayGiven
 names_stay book s t leads x named = (leads_stay book s t leads x named).0

@@ -15,7 +15,9 @@ use Rattle.letter_kinds.specs.Detector.{closed_set, has}
 use Rattle.letter_kinds.specs.Sums.{amount_of, dec_of, inc_of}
 use Rattle.letter_kinds.specs.declared.letter.Letter.{Letter}
 use Rattle.letter_kinds.specs.declared.letter.Letter.TheVariants.{App, Inc, Dec, Confirm}
-use Rattle.machine_rules.proofs.Cases.{Cases, each_next, kept}
+use Rattle.machine_rules.proofs.Stepping.{step_of}
+use Rattle.machine_rules.specs.Rules.{IsStep, kept, later_frame}
+use Rattle.machine_rules.specs.Rules as rule
 use Rattle.count_laws.proofs.events.Every.{every_more, every_set, push_none, set_none}
 use Rattle.count_laws.proofs.events.Reap.{every_none}
 use Rattle.count_laws.proofs.balance.SeatReads.{letter_App, letter_Confirm, letter_Dec, letter_Inc}
@@ -83,29 +85,30 @@ own_cell s a c d mail later at new own = every_set OwnMail s a d later (present_
 abbrev KeepsOwn : State → Event → State → Type 0
 KeepsOwn s e t = LettersNameTheirOwn s.actors → LettersNameTheirOwn t.actors
 
-owned : (trace : Trace) → Cases trace KeepsOwn
-owned trace = record {
-  taking = λ s a c l mail at is own. own_cell s.actors a c (cell_after s.program a l c) (l ∷ mail) mail at (own a c (l ∷ mail) at).1 own;
-  ending = λ s a c mail f going own. own_cell s.actors a c _ mail mail going.0 (own a c mail going.0) own;
-  printing = λ s a c mail f v going own. own_cell s.actors a c _ mail mail going.0 (own a c mail going.0) own;
-  making = λ s a c mail f g kind going room own. every_more OwnMail _ (fresh_cell s.options.weight s.program kind) [] tt (own_cell s.actors a c _ mail mail going.0 (own a c mail going.0) own);
-  posting = λ s a c mail f to behaviour args going none own. own_push _ to (App behaviour args _ _) tt (own_cell s.actors a c _ mail mail going.0 (own a c mail going.0) own);
-  minting = λ s a c mail f args e lacked going is own. own_push _ (owner_of e.0) (Inc (to_mint s.options.weight (owner_of e.0) (e ∷ lacked)))
-      (mint_is_for trace s.options.weight a (owner_of e.0) (kept trace s a c f).holdings args (e ∷ lacked) is)
-      (own_cell s.actors a c _ mail mail going.0 (own a c mail going.0) own);
-  getting = λ s a c mail f x going own. own_push _ (owner_of x) (Inc (to_need s.options.weight a c.holdings x)) (need_is_for s.options.weight a c.holdings x)
-      (own_cell s.actors a c _ mail mail going.0 (own a c mail going.0) own);
-  collecting = λ s a c mail at is did own. own_decs (by_owner (given_back (is_marked trace a c) (without_unused trace a c).holdings)) _
-      (back_is_for (is_marked trace a c) (without_unused trace a c).holdings) (own_cell s.actors a c _ mail mail at (own a c mail at) own);
-  leaving = λ s a c mail at may own. own_reaped (a ∷ []) (a ∷ []) [] s.actors tt own;
-  blocking = λ s a c mail at may own. own_cell s.actors a c _ mail mail at (own a c mail at) own;
-  hearing = λ s note later is own. own;
-  scanning = λ s news own. own_asked (closed_set s.detector) (suc s.detector.opened) s.actors own;
-  reaping = λ s number token is acked own. own_reaped token.members token.members [] s.actors tt own;
-}
+owned : (trace : Trace) (s : State) {e : Event} {t : State} → IsStep trace s e t → KeepsOwn s e t
+owned trace s (rule.takes a c l mail at is) own = own_cell s.actors a c (cell_after s.program a l c) (l ∷ mail) mail at (own a c (l ∷ mail) at).1 own
+owned trace s (rule.ends a c mail f stops) own = own_cell s.actors a c _ mail mail stops.going.present (own a c mail stops.going.present) own
+owned trace s (rule.prints a c mail f v stops) own = own_cell s.actors a c _ mail mail stops.going.present (own a c mail stops.going.present) own
+owned trace s (rule.makes a c mail f kind register stops room) own = every_more OwnMail _ (fresh_cell s.options.weight s.program kind) [] tt (own_cell s.actors a c _ mail mail stops.going.present (own a c mail stops.going.present) own)
+owned trace s (rule.posts a c mail f to behaviour args stops none) own = own_push _ to (App behaviour args _ _) tt (own_cell s.actors a c _ mail mail stops.going.present (own a c mail stops.going.present) own)
+owned trace s (rule.mints a c mail f to behaviour args e lacked stops is) own =
+    own_push _ (owner_of e.0) (Inc (to_mint s.options.weight (owner_of e.0) (e ∷ lacked)))
+    (mint_is_for trace s.options.weight a (owner_of e.0) (kept trace s a c f).holdings args (e ∷ lacked) is)
+    (own_cell s.actors a c _ mail mail stops.going.present (own a c mail stops.going.present) own)
+owned trace s (rule.gets a c mail f x going need) own =
+    own_push _ (owner_of x) (Inc (to_need s.options.weight a c.holdings x)) (need_is_for s.options.weight a c.holdings x)
+    (own_cell s.actors a c _ mail mail going.present (own a c mail going.present) own)
+owned trace s (rule.collects a c mail at may) own =
+    own_decs (by_owner (given_back (is_marked trace a c) (without_unused trace a c).holdings)) _
+    (back_is_for (is_marked trace a c) (without_unused trace a c).holdings) (own_cell s.actors a c _ mail mail at (own a c mail at) own)
+owned trace s (rule.leaves a c mail at may) own = own_reaped (a ∷ []) (a ∷ []) [] s.actors tt own
+owned trace s (rule.blocks a c mail at may) own = own_cell s.actors a c _ mail mail at (own a c mail at) own
+owned trace s (rule.hears note later is) own = own
+owned trace s (rule.scans news) own = own_asked (closed_set s.detector) (suc s.detector.opened) s.actors own
+owned trace s (rule.reaps number token is) own = own_reaped token.members token.members [] s.actors tt own
 
 pub events_keep_own : EventsKeepNamesOwn
-events_keep_own s t e goes own = each_next KeepsOwn owned s t e goes own
+events_keep_own s t e goes own = owned s.options.trace s (step_of s t e goes) own
 
 start_mail : (found : Option ℕ) (a : ℕ) → AllByRecursion (NamesOwn a) (option_map_or (λ name. App name [] [] [] ∷ []) found [])
 start_mail None a = tt

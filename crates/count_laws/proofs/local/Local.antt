@@ -8,7 +8,6 @@ use Rattle.turn_rules.specs.declared.act.Frame.{Frame}
 use Rattle.letter_kinds.specs.declared.letter.Letter.{Letter}
 use Rattle.letter_kinds.specs.Counting.{Amount, Loaded, gain, mint_all, send, sweep}
 use Rattle.letter_kinds.specs.Sums.{amount_of}
-use Rattle.machine_rules.specs.Block.{may_block}
 use Rattle.machine_rules.specs.Cell.{Cell, first_cell, fresh_cell}
 use Rattle.machine_rules.specs.Collect.{is_marked, without_unused}
 use Rattle.machine_rules.specs.Go.{turn_of_cell, turned}
@@ -16,6 +15,7 @@ use Rattle.machine_rules.specs.Options.{Trace}
 use Rattle.plain_rules.specs.Machine.{stopped_at}
 use Rattle.machine_rules.specs.State.{start_letters}
 use Rattle.machine_rules.specs.Take.{cell_after}
+use Rattle.machine_rules.specs.Guards.{may_block}
 
 pub record Local (trace : Trace) (Q : ℕ → Cell → List Letter → Type 0) : Type 0 where
   -- at the start, and where the actor was just made
