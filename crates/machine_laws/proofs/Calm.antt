@@ -8,11 +8,20 @@ use Rattle.letter_kinds.specs.Detector.{Token, token_numbered}
 use Rattle.event_rule.proofs.Steps.{not_enabled}
 use Rattle.machine_rules.specs.Actors.{seat_at}
 use Rattle.event_rule.specs.Runs.{Step, NotEnabled, IsFull, Goes}
-use Rattle.machine_rules.specs.Next.{next}
+use Rattle.machine_rules.specs.Next.{next, acting}
 use Rattle.machine_rules.specs.Run.{is_choice}
 use Rattle.machine_rules.specs.State.{State}
 use Rattle.detector_laws.proofs.Named.{numbered_is_open}
 use Rattle.detector_laws.specs.Members.{In}
+use Rattle.std.specs.Option.{option_map_or}
+use Rattle.machine_rules.specs.Block.{block}
+use Rattle.machine_rules.specs.Collect.{collect}
+use Rattle.machine_rules.specs.Detect.{acked_token, reap}
+use Rattle.machine_rules.specs.Go.{go}
+use Rattle.machine_rules.specs.Guards.{may_block, may_collect, may_go, may_leave, may_take}
+use Rattle.machine_rules.specs.Leave.{leave}
+use Rattle.machine_rules.specs.Take.{take}
+use Rattle.machine_rules.proofs.Guards.{acked_open}
 
 -- the event leads to a state, and is no choice
 abbrev pub IsCalm : State → Event → Type 0
@@ -52,11 +61,11 @@ module _ (s : State) where
   none_past : (a : ℕ) → length s.actors ≤ a → NoneOfActor a
   none_past a past =
       let nobody : seat_at s.actors a ≡ None = get_or_past s.actors a None past in (
-        λ k. not_enabled k.0 (sym (ap (take_at s a) nobody) ∙ k.1),
-        λ k. not_enabled k.0 (sym (ap (go_at s.options.trace s a) nobody) ∙ k.1),
-        λ k. not_enabled k.0 (sym (ap (collect_at s.options.trace s a) nobody) ∙ k.1),
-        λ k. not_enabled k.0 (sym (ap (leave_at s a) nobody) ∙ k.1),
-        λ k. not_enabled k.0 (sym (ap (block_at s a) nobody) ∙ k.1),
+        λ k. not_enabled k.0 (sym (ap (acting may_take (take s a)) nobody) ∙ k.1),
+        λ k. not_enabled k.0 (sym (ap (acting may_go (go s.options.trace s a)) nobody) ∙ k.1),
+        λ k. not_enabled k.0 (sym (ap (acting may_collect (collect s.options.trace s a)) nobody) ∙ k.1),
+        λ k. not_enabled k.0 (sym (ap (acting may_leave (leave s a)) nobody) ∙ k.1),
+        λ k. not_enabled k.0 (sym (ap (acting may_block (block s a)) nobody) ∙ k.1),
       )
 
   none_of : ((a : ℕ) → a < length s.actors → NoneOfActor a) → (a : ℕ) → NoneOfActor a
@@ -71,11 +80,13 @@ module _ (s : State) where
 
   -- only an open token is reaped
   no_reap : ((t : Token) → In t s.detector.tokens → IsCalm s (Reap t.number) → ⊥) → (number : ℕ) → IsCalm s (Reap number) → ⊥
-  no_reap none number k = by_found (token_numbered number s.detector) refl
+  no_reap none number k = by_found (acked_token number s.detector) refl
     where
-      by_found : (found : Option Token) → token_numbered number s.detector ≡ found → ⊥
-      by_found None at = not_enabled k.0 (sym (ap (reap_found s) at) ∙ k.1)
-      by_found (Some t) at = let open_token = numbered_is_open s.detector number t at in none t open_token.0 (subst (λ i. IsCalm s (Reap i)) (sym open_token.1) k)
+      by_found : (found : Option Token) → acked_token number s.detector ≡ found → ⊥
+      by_found None at = not_enabled k.0 (sym (ap (λ found. option_map_or (reap s) found NotEnabled) at) ∙ k.1)
+      by_found (Some t) at =
+          let is_open = numbered_is_open s.detector number t (acked_open number s.detector t at).0 in
+          none t is_open.0 (subst (λ i. IsCalm s (Reap i)) (sym is_open.1) k)
 
   -- ---- all events
 

@@ -17,7 +17,7 @@ use Rattle.machine_laws.specs.Work.{work_left}
 
 pub event_leaves_less : EventsLeaveLess
 event_leaves_less trace p s t e facts goes calm =
-    let less = leaves_less (length s.actors) s t facts.beside.weight (few_asked s.actors s.detector s.notes facts.detector.rising facts.detector.reports) e goes calm in
+    let less = leaves_less (length s.actors) s facts.beside.weight (few_asked s.actors s.detector s.notes facts.detector.rising facts.detector.reports) t e goes calm in
     let after = event_keeps trace p s t e facts goes in
     let still : p ≡ after.0 = subst (λ choice. PlainFollows choice p e after.0) calm after.1 in
     let long : length t.actors ≡ length s.actors = sym after.2.beside.counts.long ∙ (ap (λ (q : PlainState). length (people_of q.actors)) (sym still) ∙ facts.beside.counts.long) in

@@ -22,6 +22,8 @@ use Rattle.detector_laws.specs.Reports.{IsBlocked}
 use Rattle.machine_laws.proofs.Seen.{world}
 use Rattle.machine_laws.proofs.WholeRuns.{run_has_facts}
 use Rattle.machine_laws.specs.Reaps.{IsDone, ReapsTakeTheDone, RunsReapTheDone}
+use Rattle.machine_rules.proofs.Guards.{acked_open, collector, framed, leaver, may_report, taker}
+use Rattle.turn_rules.specs.declared.act.Frame.{Frame}
 
 -- what can't happen is not enabled
 off : (s : State) (e : Event) → (CanHappen s e → ⊥) → next s e ≡ NotEnabled
@@ -32,20 +34,27 @@ off s e never = by_step (next s e) (λ on. never ((enabled_exactly s e).0 on))
     by_step IsFull h = absurd (h (λ e. cc))
     by_step (Goes t) h = absurd (h (λ e. cc))
 
+none_some : (f : Frame) → None ≡ Some f → ⊥
+none_some f e = cc
+
 module _ (s : State) (a : ℕ) (c : Cell) (at : seat_at s.actors a ≡ seat c []) (reported : c.reported ≡ true) (idle : c.frame ≡ None) (clean : c.dirty ≡ false) where
   -- who is present with this cell and these letters is that one
   there : (d : Cell) (mail : List Letter) → seat_at s.actors a ≡ seat d mail → (c ≡ d) × ([] ≡ mail)
   there d mail now = some_seat c d [] mail (sym at ∙ now)
 
   never : (e : Event) → actor_of e ≡ Some a → CanHappen s e → ⊥
-  never (Take b) mine (d, mail, now, (f, some)) = let same : b ≡ a = cc in some (sym (there d mail (ap (seat_at s.actors) (sym same) ∙ now)).1)
-  never (Go b) mine (d, mail, now, some) = let same : b ≡ a = cc in some (ap (λ (q : Cell). q.frame) (sym (there d mail (ap (seat_at s.actors) (sym same) ∙ now)).0) ∙ idle)
-  never (Collect b) mine (d, mail, now, (f, did)) =
-      let same : b ≡ a = cc in false≢true (sym clean ∙ (ap (λ (q : Cell). q.dirty) (there d mail (ap (seat_at s.actors) (sym same) ∙ now)).0 ∙ did))
-  never (Leave b) mine (d, mail, now, (may, none)) =
-      let same : b ≡ a = cc in false≢true (sym may.unreported ∙ (ap (λ (q : Cell). q.reported) (sym (there d mail (ap (seat_at s.actors) (sym same) ∙ now)).0) ∙ reported))
+  never (Take b) mine (d, mail, now, may) =
+      let same : b ≡ a = cc in (taker d mail may).1 (sym (there d mail (ap (seat_at s.actors) (sym same) ∙ now)).1)
+  never (Go b) mine (d, mail, now, may) =
+      let same : b ≡ a = cc in
+      let f = framed d mail may in
+      none_some f.0 (sym idle ∙ ap (λ (q : Cell). q.frame) (there d mail (ap (seat_at s.actors) (sym same) ∙ now)).0 ∙ f.1)
+  never (Collect b) mine (d, mail, now, may) =
+      let same : b ≡ a = cc in false≢true (sym clean ∙ (ap (λ (q : Cell). q.dirty) (there d mail (ap (seat_at s.actors) (sym same) ∙ now)).0 ∙ (collector d mail may).1))
+  never (Leave b) mine (d, mail, now, may) =
+      let same : b ≡ a = cc in false≢true (sym (leaver d mail may).0.unreported ∙ (ap (λ (q : Cell). q.reported) (sym (there d mail (ap (seat_at s.actors) (sym same) ∙ now)).0) ∙ reported))
   never (Block b) mine (d, mail, now, may) =
-      let same : b ≡ a = cc in false≢true (sym may.unreported ∙ (ap (λ (q : Cell). q.reported) (sym (there d mail (ap (seat_at s.actors) (sym same) ∙ now)).0) ∙ reported))
+      let same : b ≡ a = cc in false≢true (sym (may_report d mail may).unreported ∙ (ap (λ (q : Cell). q.reported) (sym (there d mail (ap (seat_at s.actors) (sym same) ∙ now)).0) ∙ reported))
   never Hear mine can = cc
   never Scan mine can = cc
   never (Reap token) mine can = cc
@@ -75,13 +84,14 @@ pub reaps_take_the_done : ReapsTakeTheDone
 reaps_take_the_done trace p s facts number on =
     let can = (enabled_exactly s (Reap number)).0 on in
     let t : Token = can.0 in
-    let is_open = (numbered_is_open s.detector number t can.1).0 in
-    let sealed = acked_sealed (world s) t facts.detector.tokens is_open can.2 in
+    let found = acked_open number s.detector t can.1 in
+    let is_open = (numbered_is_open s.detector number t found.0).0 in
+    let sealed = acked_sealed (world s) t facts.detector.tokens is_open found.1 in
     record {
       token = t;
-      is_open = can.1;
+      is_open = found.0;
       sealed = sealed;
-      done = λ a member. done s a (seat_at s.actors a) refl (sealed a member).blocked (acked_bare (world s) t facts.detector.tokens is_open can.2 a member);
+      done = λ a member. done s a (seat_at s.actors a) refl (sealed a member).blocked (acked_bare (world s) t facts.detector.tokens is_open found.1 a member);
     }
 
 pub runs_reap_the_done : RunsReapTheDone

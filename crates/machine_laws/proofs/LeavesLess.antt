@@ -24,7 +24,6 @@ use Rattle.letter_kinds.specs.declared.letter.Letter.{Letter}
 use Rattle.letter_kinds.specs.declared.letter.Letter.TheVariants.{App, Inc, Dec, Confirm}
 use Rattle.letter_kinds.specs.declared.note.Note.{Note}
 use Rattle.letter_kinds.specs.declared.note.Note.TheVariants as notes
-use Rattle.machine_rules.proofs.Enabling.{may_go}
 use Rattle.count_laws.proofs.balance.InHand.{AllCounted}
 use Rattle.count_laws.proofs.knowledge.Lacking.{counted_mint, to_mint_theirs}
 use Rattle.machine_rules.proofs.Present.{present_below}
@@ -41,7 +40,7 @@ use Rattle.event_rule.specs.Runs.{Goes}
 use Rattle.machine_rules.specs.Next.{next}
 use Rattle.machine_rules.specs.Options.{Trace, Deep, Roots}
 use Rattle.plain_rules.specs.Machine.{stopped_at}
-use Rattle.machine_rules.specs.Run.{act_is_choice, go_is_choice, go_is_choice_at, is_choice, take_is_choice_at}
+use Rattle.machine_rules.specs.Run.{act_is_choice, go_is_choice, go_is_choice_at, is_choice, take_is_choice_at, starts_with_app}
 use Rattle.machine_rules.specs.State.{State}
 use Rattle.machine_rules.specs.Take.{cell_after, note_of, notes_after}
 use Rattle.detector_laws.proofs.Named.{numbered_is_open}
@@ -52,8 +51,11 @@ use Rattle.machine_laws.proofs.GetsWork.{asks-gets, decs-gets, gets, idle-gets, 
 use Rattle.machine_laws.proofs.Going.{held_made}
 use Rattle.machine_laws.proofs.TableWork.{by_owner-length, mint_all-more, mint_first-work, sweep-work}
 use Rattle.machine_laws.specs.Work.{actors_work, count_work, detector_work, entry_work, get_work, gets_left, letter_work, news_work, note_work, seat_work, silence_work, table_work}
-use Rattle.machine_rules.proofs.Guards.{may_report}
+use Rattle.machine_rules.proofs.Guards.{may_report, acked_open, collector, leaver}
 use Rattle.machine_rules.specs.Guards.{may_block, may_leave}
+use Rattle.machine_rules.specs.Rules as rule
+use Rattle.machine_rules.proofs.Choices.{stopping_is, taking_is}
+use Rattle.machine_rules.proofs.Stepping.{step_of}
 
 -- what a filter lets through first passes
 first_passes : {A : Type 0} (p : A → Bool) (xs : List A) (y : A) (ys : List A) → filter p xs ≡ y ∷ ys → p y ≡ true
@@ -107,7 +109,7 @@ module _ (n : ℕ) where
 
   -- ---- one event
 
-  module _ (s t : State) (heavy : 0 < s.options.weight) where
+  module _ (s : State) (heavy : 0 < s.options.weight) where
     abbrev tracing : Trace
     tracing = s.options.trace
 
@@ -116,9 +118,6 @@ module _ (n : ℕ) where
 
     abbrev Less : State → Type 0
     Less u = work_of u < work_of s
-
-    arrived : (u : State) → Goes u ≡ Goes t → Less u → Less t
-    arrived u e less = subst Less (goes_to u t e) less
 
     abbrev so : Actors → Detector → List Note → State
     so actors detector told = record s { actors = actors; detector = detector; notes = told }
@@ -170,13 +169,12 @@ module _ (n : ℕ) where
             both (set s.actors a (seat c ls)) s.detector (notes_after false (notes.Ack token a) s.notes) (omega (arith, ap (seat_work n) at, sum_by-cons (letter_work n) (Confirm token) ls, set-work n s.actors a (seat c ls) (present_below s.actors a _ at)))
             (idle-gets tracing s.program s.actors a c ls idle)
 
-    takes : (a : ℕ) (c : Cell) (f : Option Frame) (ls : List Letter) → c.frame ≡ f → seat_at s.actors a ≡ seat c ls → take_is_choice_at (seat c ls) ≡ false → take_in s a c f ls ≡ Goes t → Less t
-    takes a c (Some f) ls idle at calm e = absurd (not_enabled t e)
-    takes a c None [] idle at calm e = absurd (not_enabled t e)
-    takes a c None (App behaviour args load rows ∷ ls) idle at calm e = absurd (false≢true (sym calm))
-    takes a c None (Inc es ∷ ls) idle at calm e = arrived _ e (counts a c (cell_after s.program a (Inc es) c) (Inc es) ls at refl refl (alike_raise a es c.holdings).foreign refl refl idle)
-    takes a c None (Dec es ∷ ls) idle at calm e = arrived _ e (counts a c (cell_after s.program a (Dec es) c) (Dec es) ls at refl refl (alike_lower a es c.holdings).foreign refl refl idle)
-    takes a c None (Confirm token ∷ ls) idle at calm e = arrived _ e (confirm a token c ls idle at)
+    takes-less : (a : ℕ) (c : Cell) (l : Letter) (ls : List Letter) → c.frame ≡ None → seat_at s.actors a ≡ seat c (l ∷ ls) → starts_with_app (l ∷ ls) ≡ false
+        → Less (record s { actors = set s.actors a (seat (cell_after s.program a l c) ls); notes = notes_after c.reported (note_of a l) s.notes })
+    takes-less a c (App behaviour args load rows) ls idle at calm = absurd (false≢true (sym calm))
+    takes-less a c (Inc es) ls idle at calm = counts a c (cell_after s.program a (Inc es) c) (Inc es) ls at refl refl (alike_raise a es c.holdings).foreign refl refl idle
+    takes-less a c (Dec es) ls idle at calm = counts a c (cell_after s.program a (Dec es) c) (Dec es) ls at refl refl (alike_lower a es c.holdings).foreign refl refl idle
+    takes-less a c (Confirm token) ls idle at calm = confirm a token c ls idle at
 
     -- ---- collect
 
@@ -198,20 +196,19 @@ module _ (n : ℕ) where
         ))
         (omega (arith, decs-gets tracing s.program (by_owner back) (set s.actors a (seat after ls)), idle-gets tracing s.program s.actors a after ls idle))
 
-    collects : (a : ℕ) (c : Cell) (f : Option Frame) (q : Bool) (ls : List Letter) → c.frame ≡ f → c.dirty ≡ q → seat_at s.actors a ≡ seat c ls → collect_in tracing s a c f q ls ≡ Goes t → Less t
-    collects a c (Some f) q ls idle is at e = absurd (not_enabled t e)
-    collects a c None false ls idle is at e = absurd (not_enabled t e)
-    collects a c None true ls idle is at e =
+    collects-less : (a : ℕ) (c : Cell) (ls : List Letter) → c.frame ≡ None → c.dirty ≡ true → seat_at s.actors a ≡ seat c ls
+        → Less (record s { actors = collected (is_marked tracing a c) a (without_unused tracing a c) ls s.actors })
+    collects-less a c ls idle is at =
         let kept = with_known tracing a c in
-        arrived _ e (subst (λ d. Less (record s { actors = collected (is_marked tracing a c) a d ls s.actors })) (sym kept.1) (swept a c ls idle is at (is_marked tracing a c) kept.0))
+        subst (λ d. Less (record s { actors = collected (is_marked tracing a c) a d ls s.actors })) (sym kept.1) (swept a c ls idle is at (is_marked tracing a c) kept.0)
 
     -- ---- block
 
-    blocks : (a : ℕ) (c : Cell) (ls : List Letter) (q : Bool) → may_block c ls ≡ q → seat_at s.actors a ≡ seat c ls → block_in s a c ls q ≡ Goes t → Less t
-    blocks a c ls false may at e = absurd (not_enabled t e)
-    blocks a c ls true may at e =
+    blocks-less : (a : ℕ) (c : Cell) (ls : List Letter) → may_block c ls ≡ true → seat_at s.actors a ≡ seat c ls
+        → Less (record s { actors = set s.actors a (seat (reporting c) ls); notes = s.notes ++ notes.Block a c.holdings.count (held_actors c.holdings) ∷ [] })
+    blocks-less a c ls may at =
         let quiet = (may_report c ls may).unreported in
-        arrived _ e (both (set s.actors a (seat (reporting c) ls)) s.detector (s.notes ++ notes.Block a c.holdings.count (held_actors c.holdings) ∷ [])
+        both (set s.actors a (seat (reporting c) ls)) s.detector (s.notes ++ notes.Block a c.holdings.count (held_actors c.holdings) ∷ [])
         (omega (
           arith,
           set-work n s.actors a (seat (reporting c) ls) (present_below s.actors a _ at),
@@ -219,11 +216,11 @@ module _ (n : ℕ) where
           seat_is c ls c.dirty false refl quiet,
           sum_by_push (note_work n) s.notes (notes.Block a c.holdings.count (held_actors c.holdings)),
         ))
-        (idle-gets tracing s.program s.actors a (reporting c) ls (may_report c ls may).rest.idle))
+        (idle-gets tracing s.program s.actors a (reporting c) ls (may_report c ls may).rest.idle)
 
-    leaves : (a : ℕ) (o : Seat) (q : Bool) → may_leave o.cell o.mail ≡ q → seat_at s.actors a ≡ Some o → leave_in s a q ≡ Goes t → Less t
-    leaves a o false may at e = absurd (not_enabled t e)
-    leaves a o true may at e = arrived _ e (both (reap_members (a ∷ []) s.actors) s.detector s.notes (omega (arith, leave-work n s.actors a o at (may_go o.cell o.mail may).0.unreported)) (reaped-gets tracing s.program (a ∷ []) (a ∷ []) [] s.actors))
+    leaves-less : (a : ℕ) (c : Cell) (ls : List Letter) → may_leave c ls ≡ true → seat_at s.actors a ≡ seat c ls → Less (record s { actors = reap_members (a ∷ []) s.actors })
+    leaves-less a c ls may at =
+        both (reap_members (a ∷ []) s.actors) s.detector s.notes (omega (arith, leave-work n s.actors a _ at (leaver c ls may).0.unreported)) (reaped-gets tracing s.program (a ∷ []) (a ∷ []) [] s.actors)
 
     -- ---- a go that mints
 
@@ -243,11 +240,6 @@ module _ (n : ℕ) where
         both (mint a c ls owner things s.actors) s.detector s.notes (omega (arith, table, push-work n owner (Inc things) (set s.actors a (seat minted ls)), set-work n s.actors a (seat minted ls) (present_below s.actors a _ at), ap (seat_work n) at))
         (omega (arith, push-gets tracing s.program owner (Inc things) (set s.actors a (seat minted ls)), mint-gets tracing s.program s.actors a c ls at things))
 
-    posts : (a : ℕ) (c : Cell) (ls : List Letter) (stop : Stop) → seat_at s.actors a ≡ seat c ls → (after : Cell) (to behaviour : ℕ) (args : List Value) (load rows lack : List Loaded) → lacking a (with_made stop.turn.made c.holdings) load ≡ lack
-        → is_empty lack ≡ false → Less (post_or_mint s a c after ls stop to behaviour args load rows lack)
-    posts a c ls stop at after to behaviour args load rows [] lacks some = absurd (false≢true (sym some))
-    posts a c ls stop at after to behaviour args load rows (e ∷ es) lacks some = mints a c ls stop at load e es lacks
-
     -- ---- a go that mints for what the turn gets
 
     needs-less : (a : ℕ) (c : Cell) (ls : List Letter) (f : Frame) → c.frame ≡ Some f → seat_at s.actors a ≡ seat c ls → (x : Thing) → needed tracing s.program a c f ≡ Some x
@@ -261,85 +253,48 @@ module _ (n : ℕ) where
         (omega (arith, mint_all-more n things c.holdings, few, push-work n (owner_of x) (Inc things) (set s.actors a (seat minted ls)), set-work n s.actors a (seat minted ls) within, ap (seat_work n) at))
         (omega (arith, push-gets tracing s.program (owner_of x) (Inc things) (set s.actors a (seat minted ls)), need_mint-gets tracing s.program s.actors a c ls at s.options.weight heavy f x within is found))
 
-    acts : (a : ℕ) (c : Cell) (ls : List Letter) (f : Frame) (stop : Stop) → seat_at s.actors a ≡ seat c ls → (act : Act) → act_is_choice tracing a (with_made stop.turn.made c.holdings) act ≡ false
-        → act_in tracing s a c ls f stop act ≡ Goes t → Less t
-    acts a c ls f stop at End calm e = absurd (false≢true (sym calm))
-    acts a c ls f stop at (Print v) calm e = absurd (false≢true (sym calm))
-    acts a c ls f stop at (New kind register) calm e = absurd (false≢true (sym calm))
-    acts a c ls f stop at (Post to behaviour args) calm e =
-        let h = with_made stop.turn.made c.holdings in
-        arrived _ e (posts a c ls stop at (turned stop (Some f) c.dirty c) to behaviour args (load_from tracing a h args) (rows_from tracing a (turned stop (Some f) c.dirty c) args) (lacking_from tracing a h args) refl calm)
-
-    goes : (a : ℕ) (c : Cell) (f : Option Frame) (ls : List Letter) → c.frame ≡ f → seat_at s.actors a ≡ seat c ls → go_is_choice tracing s.program a c f ≡ false → go_in tracing s a c f ls ≡ Goes t → Less t
-    goes a c None ls is at calm e = absurd (not_enabled t e)
-    goes a c (Some f) ls is at calm e = by_found (needed tracing s.program a c f) refl calm e
-      where
-        stop : Stop
-        stop = turn_of_cell tracing s.program a c f
-
-        by_found : (found : Option Thing) → needed tracing s.program a c f ≡ found → (is_none found && act_is_choice tracing a (with_made stop.turn.made c.holdings) stop.act) ≡ false
-            → needing s a c ls found (act_in tracing s a c ls (stopped_at f stop) stop stop.act) ≡ Goes t → Less t
-        by_found None found calm e = acts a c ls (stopped_at f stop) stop at stop.act calm e
-        by_found (Some x) found calm e = arrived _ e (needs-less a c ls f is at x found)
-
     -- ---- the detector's events
 
-    hears : (ns : List Note) → s.notes ≡ ns → hear_in s ns ≡ Goes t → Less t
-    hears [] is e = absurd (not_enabled t e)
-    hears (notes.Block a count held ∷ ns) is e =
-        arrived _ e (both s.actors (heard (notes.Block a count held) s.detector) ns (omega (arith, ap (sum_by (note_work n)) is, sum_by-cons (note_work n) (notes.Block a count held) ns)) (omega arith))
-    hears (notes.Unblock a ∷ ns) is e =
-        arrived _ e (both s.actors (heard (notes.Unblock a) s.detector) ns (omega (arith, ap (sum_by (note_work n)) is, sum_by-cons (note_work n) (notes.Unblock a) ns, length-filter_le (λ (u : Token). not (has u.members a)) s.detector.tokens)) (omega arith))
-    hears (notes.Ack token a ∷ ns) is e =
-        arrived _ e (both s.actors (heard (notes.Ack token a) s.detector) ns (omega (arith, ap (sum_by (note_work n)) is, sum_by-cons (note_work n) (notes.Ack token a) ns, length-map s.detector.tokens (note_ack token a))) (omega arith))
+    hears-less : (note : Note) (ns : List Note) → s.notes ≡ note ∷ ns → Less (record s { detector = heard note s.detector; notes = ns })
+    hears-less (notes.Block a count held) ns is =
+        both s.actors (heard (notes.Block a count held) s.detector) ns (omega (arith, ap (sum_by (note_work n)) is, sum_by-cons (note_work n) (notes.Block a count held) ns)) (omega arith)
+    hears-less (notes.Unblock a) ns is =
+        both s.actors (heard (notes.Unblock a) s.detector) ns (omega (arith, ap (sum_by (note_work n)) is, sum_by-cons (note_work n) (notes.Unblock a) ns, length-filter_le (λ (u : Token). not (has u.members a)) s.detector.tokens)) (omega arith)
+    hears-less (notes.Ack token a) ns is =
+        both s.actors (heard (notes.Ack token a) s.detector) ns (omega (arith, ap (sum_by (note_work n)) is, sum_by-cons (note_work n) (notes.Ack token a) ns, length-map s.detector.tokens (note_ack token a))) (omega arith)
 
     scanned-work : (d : Detector) (members : List ℕ) → d.news ≡ true → length members ≤ n → detector_work n (scanned d members) + 2 * length members < detector_work n d
     scanned-work d [] news few = rw news (omega arith)
     scanned-work d (a ∷ members) news few = rw news (omega (arith, few, length-append d.tokens (record { number = suc d.opened; members = a ∷ members; acked = [] } ∷ [])))
 
-    scans : length (closed_set s.detector) ≤ n → (news : Bool) → s.detector.news ≡ news → scan_in s (closed_set s.detector) news ≡ Goes t → Less t
-    scans few false is e = absurd (not_enabled t e)
-    scans few true is e =
-        arrived _ e (both (ask_all (closed_set s.detector) (suc s.detector.opened) s.actors) (scanned s.detector (closed_set s.detector)) s.notes (omega (arith, scanned-work s.detector (closed_set s.detector) is few, asks-work n (closed_set s.detector) (suc s.detector.opened) s.actors))
-        (asks-gets tracing s.program (closed_set s.detector) (suc s.detector.opened) s.actors))
+    scans-less : length (closed_set s.detector) ≤ n → s.detector.news ≡ true
+        → Less (record s { actors = ask_all (closed_set s.detector) (suc s.detector.opened) s.actors; detector = scanned s.detector (closed_set s.detector) })
+    scans-less few is =
+        both (ask_all (closed_set s.detector) (suc s.detector.opened) s.actors) (scanned s.detector (closed_set s.detector)) s.notes (omega (arith, scanned-work s.detector (closed_set s.detector) is few, asks-work n (closed_set s.detector) (suc s.detector.opened) s.actors))
+        (asks-gets tracing s.program (closed_set s.detector) (suc s.detector.opened) s.actors)
 
-    reaps_one : (token : Token) → In token s.detector.tokens → (q : Bool) → reap_in s token q ≡ Goes t → Less t
-    reaps_one token listed false e = absurd (not_enabled t e)
-    reaps_one token listed true e =
-        arrived _ e (both (reap_members token.members s.actors) (close_token token s.detector) s.notes (omega (arith, closed-work token s.detector.tokens listed, reaped-work n token.members token.members [] s.actors)) (reaped-gets tracing s.program token.members token.members [] s.actors))
+    reaps-less : (token : Token) → In token s.detector.tokens → Less (record s { actors = reap_members token.members s.actors; detector = close_token token s.detector })
+    reaps-less token listed =
+        both (reap_members token.members s.actors) (close_token token s.detector) s.notes (omega (arith, closed-work token s.detector.tokens listed, reaped-work n token.members token.members [] s.actors)) (reaped-gets tracing s.program token.members token.members [] s.actors)
 
-    reaps : (number : ℕ) (found : Option Token) → token_numbered number s.detector ≡ found → reap_found s found ≡ Goes t → Less t
-    reaps number None at e = absurd (not_enabled t e)
-    reaps number (Some token) at e = reaps_one token (numbered_is_open s.detector number token at).0 (all_acked token) e
+    -- ---- each rule that is no choice
 
-    -- ---- all events
+    rule_less : length (closed_set s.detector) ≤ n → {e : Event} {t : State} → rule.IsStep tracing s e t → is_choice s e ≡ false → Less t
+    rule_less few (rule.takes a c l ls at idle) calm = takes-less a c l ls idle at (sym (taking_is s a c l ls at) ∙ calm)
+    rule_less few (rule.ends a c ls f stops) calm = absurd (false≢true (sym calm ∙ stopping_is tracing s refl a c ls f _ stops))
+    rule_less few (rule.prints a c ls f v stops) calm = absurd (false≢true (sym calm ∙ stopping_is tracing s refl a c ls f _ stops))
+    rule_less few (rule.makes a c ls f kind register stops room) calm = absurd (false≢true (sym calm ∙ stopping_is tracing s refl a c ls f _ stops))
+    rule_less few (rule.posts a c ls f to behaviour args stops lacked) calm = absurd (false≢true (sym calm ∙ stopping_is tracing s refl a c ls f _ stops ∙ ap is_empty lacked))
+    rule_less few (rule.mints a c ls f to behaviour args e es stops lacked) calm =
+        let stop = turn_of_cell tracing s.program a c f in
+        mints a c ls stop stops.going.present (load_from tracing a (with_made stop.turn.made c.holdings) args) e es lacked
+    rule_less few (rule.gets a c ls f x going need) calm = needs-less a c ls f going.framed going.present x need
+    rule_less few (rule.collects a c ls at may) calm = let z = collector c ls may in collects-less a c ls z.0 z.1 at
+    rule_less few (rule.leaves a c ls at may) calm = leaves-less a c ls may at
+    rule_less few (rule.blocks a c ls at may) calm = blocks-less a c ls may at
+    rule_less few (rule.hears note later is) calm = hears-less note later is
+    rule_less few (rule.scans is) calm = scans-less few is
+    rule_less few (rule.reaps number token is) calm = reaps-less token (numbered_is_open s.detector number token (acked_open number s.detector token is).0).0
 
-    pub leaves_less : length (closed_set s.detector) ≤ n → (e : Event) → next s e ≡ Goes t → is_choice s e ≡ false → Less t
-    leaves_less few (Take a) e calm = by_seat (seat_at s.actors a) refl e calm
-      where
-        by_seat : (o : Option Seat) → seat_at s.actors a ≡ o → take_at s a o ≡ Goes t → take_is_choice_at o ≡ false → Less t
-        by_seat None at e calm = absurd (not_enabled t e)
-        by_seat (Some o) at e calm = takes a o.cell o.cell.frame o.mail refl at calm e
-    leaves_less few (Go a) e calm = by_seat (seat_at s.actors a) refl e calm
-      where
-        by_seat : (o : Option Seat) → seat_at s.actors a ≡ o → go_at tracing s a o ≡ Goes t → go_is_choice_at tracing s.program a o ≡ false → Less t
-        by_seat None at e calm = absurd (not_enabled t e)
-        by_seat (Some o) at e calm = goes a o.cell o.cell.frame o.mail refl at calm e
-    leaves_less few (Collect a) e calm = by_seat (seat_at s.actors a) refl e
-      where
-        by_seat : (o : Option Seat) → seat_at s.actors a ≡ o → collect_at tracing s a o ≡ Goes t → Less t
-        by_seat None at e = absurd (not_enabled t e)
-        by_seat (Some o) at e = collects a o.cell o.cell.frame o.cell.dirty o.mail refl refl at e
-    leaves_less few (Leave a) e calm = by_seat (seat_at s.actors a) refl e
-      where
-        by_seat : (o : Option Seat) → seat_at s.actors a ≡ o → leave_at s a o ≡ Goes t → Less t
-        by_seat None at e = absurd (not_enabled t e)
-        by_seat (Some o) at e = leaves a o (may_leave o.cell o.mail) refl at e
-    leaves_less few (Block a) e calm = by_seat (seat_at s.actors a) refl e
-      where
-        by_seat : (o : Option Seat) → seat_at s.actors a ≡ o → block_at s a o ≡ Goes t → Less t
-        by_seat None at e = absurd (not_enabled t e)
-        by_seat (Some o) at e = blocks a o.cell o.mail (may_block o.cell o.mail) refl at e
-    leaves_less few Hear e calm = hears s.notes refl e
-    leaves_less few Scan e calm = scans few s.detector.news refl e
-    leaves_less few (Reap number) e calm = reaps number (token_numbered number s.detector) refl e
+    pub leaves_less : length (closed_set s.detector) ≤ n → (t : State) (e : Event) → next s e ≡ Goes t → is_choice s e ≡ false → Less t
+    leaves_less few t e goes calm = rule_less few (step_of s t e goes) calm

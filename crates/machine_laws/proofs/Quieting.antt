@@ -30,6 +30,7 @@ use Rattle.detector_laws.specs.Quiet as view
 use Rattle.detector_laws.specs.World.{FactsHold}
 use Rattle.machine_laws.proofs.Balancing.{balanced}
 use Rattle.machine_laws.proofs.Seen.{world}
+use Rattle.machine_rules.proofs.Guards.{acked_is}
 
 module _ (s : State) (quiet : IsQuiet next s) where
   in_world : (a : ℕ) (P : Cell → List Letter → Type 0) → ((c : Cell) (mail : List Letter) → seat_at s.actors a ≡ seat c mail → P c mail) → (c : Cell) → cell_at s.actors a ≡ Some c → P c (mail_at s.actors a)
@@ -67,7 +68,7 @@ quiet_world s quiet facts = record {
       let found = find_some s.detector.tokens t i in
       let open_found = numbered_is_open s.detector t.number found.0 found.1 in
       let same : found.0 ≡ t = facts.tokens.unique found.0 t open_found.0 i open_found.1 in
-      none_can s quiet (Reap t.number) (t, found.1 ∙ ap (λ (u : Token). Some u) same, acked);
+      none_can s quiet (Reap t.number) (t, acked_is t.number s.detector t (found.1 ∙ ap (λ (u : Token). Some u) same) acked);
   unloaded = λ a. sum-zero (loads_at (Actor a)) s.actors None (λ b. no_loads s quiet (Actor a) b (seat_at s.actors b) refl);
   rest = λ a. in_world s quiet a IsAtRest (quiet_rest s quiet a);
   told = λ a. in_world s quiet a (λ c mail. c.fields.pinned ≡ false → c.reported ≡ true) (quiet_told s quiet a);

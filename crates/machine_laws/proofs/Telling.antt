@@ -14,7 +14,9 @@ use Rattle.letter_kinds.specs.declared.letter.Letter.TheVariants.{App, Inc, Dec,
 use Rattle.letter_kinds.specs.declared.note.Note.{Note}
 use Rattle.letter_kinds.specs.declared.note.Note.TheVariants.{Block, Unblock, Ack}
 use Rattle.letter_kinds.specs.declared.note.Report.{Report}
-use Rattle.machine_rules.proofs.Cases.{Cases, each_next}
+use Rattle.machine_rules.proofs.Stepping.{step_of}
+use Rattle.machine_rules.specs.Rules.{IsStep}
+use Rattle.machine_rules.specs.Rules as rule
 use Rattle.machine_rules.specs.Actors.{seat, seat_at}
 use Rattle.machine_rules.specs.Block.{held_actors}
 use Rattle.machine_rules.specs.Cell.{Cell}
@@ -79,33 +81,31 @@ module _ (P : ℕ → Type 0) where
   abbrev Tells : State → Event → State → Type 0
   Tells s e t = Counts s → OfTold P s → OfTold P t
 
-  tells : (trace : Trace) → Cases trace Tells
-  tells trace = record {
-    taking = λ s a c l mail at is counts h. record { notes = told_after c.reported (note_of a l) s.notes (told_note a l) h.notes; kept = h.kept };
-    ending = λ s a c mail f going counts h. record { notes = h.notes; kept = h.kept };
-    printing = λ s a c mail f v going counts h. record { notes = h.notes; kept = h.kept };
-    making = λ s a c mail f g kind going room counts h. record { notes = h.notes; kept = h.kept };
-    posting = λ s a c mail f to behaviour args going none counts h. record { notes = h.notes; kept = h.kept };
-    minting = λ s a c mail f args e lacked going is counts h. record { notes = h.notes; kept = h.kept };
-    getting = λ s a c mail f x going counts h. record { notes = h.notes; kept = h.kept };
-    collecting = λ s a c mail at is did counts h. record { notes = h.notes; kept = h.kept };
-    leaving = λ s a c mail at may counts h. record { notes = h.notes; kept = h.kept };
-    blocking = λ s a c mail at may counts h.
-        let z = counts a c mail at in
-        record {
-          notes = all_push s.notes (Block a c.holdings.count (held_actors c.holdings)) h.notes
-              (record { count = z.0; held = λ x. subst P (sym (count_on-held_actors c.holdings x)) (z.1 x) });
-          kept = h.kept;
-        };
-    hearing = λ s note later is counts h.
-        let ns : AllByRecursion (OfNote P) (note ∷ later) = subst (AllByRecursion (OfNote P)) is h.notes in
-        record { notes = ns.1; kept = told_heard note s.detector ns.0 h.kept };
-    scanning = λ s news counts h. record { notes = h.notes; kept = told_scanned s.detector (closed_set s.detector) h.kept };
-    reaping = λ s number token is acked counts h. record { notes = h.notes; kept = all_filter (λ r. not (has token.members r.actor)) s.detector.kept h.kept };
-  }
+  tells : (trace : Trace) (s : State) {e : Event} {t : State} → IsStep trace s e t → Tells s e t
+  tells trace s (rule.takes a c l mail at is) counts h = record { notes = told_after c.reported (note_of a l) s.notes (told_note a l) h.notes; kept = h.kept }
+  tells trace s (rule.ends a c mail f stops) counts h = record { notes = h.notes; kept = h.kept }
+  tells trace s (rule.prints a c mail f v stops) counts h = record { notes = h.notes; kept = h.kept }
+  tells trace s (rule.makes a c mail f kind register stops room) counts h = record { notes = h.notes; kept = h.kept }
+  tells trace s (rule.posts a c mail f to behaviour args stops none) counts h = record { notes = h.notes; kept = h.kept }
+  tells trace s (rule.mints a c mail f to behaviour args e lacked stops is) counts h = record { notes = h.notes; kept = h.kept }
+  tells trace s (rule.gets a c mail f x going need) counts h = record { notes = h.notes; kept = h.kept }
+  tells trace s (rule.collects a c mail at may) counts h = record { notes = h.notes; kept = h.kept }
+  tells trace s (rule.leaves a c mail at may) counts h = record { notes = h.notes; kept = h.kept }
+  tells trace s (rule.blocks a c mail at may) counts h =
+      let z = counts a c mail at in
+      record {
+        notes = all_push s.notes (Block a c.holdings.count (held_actors c.holdings)) h.notes
+            (record { count = z.0; held = λ x. subst P (sym (count_on-held_actors c.holdings x)) (z.1 x) });
+        kept = h.kept;
+      }
+  tells trace s (rule.hears note later is) counts h =
+      let ns : AllByRecursion (OfNote P) (note ∷ later) = subst (AllByRecursion (OfNote P)) is h.notes in
+      record { notes = ns.1; kept = told_heard note s.detector ns.0 h.kept }
+  tells trace s (rule.scans news) counts h = record { notes = h.notes; kept = told_scanned s.detector (closed_set s.detector) h.kept }
+  tells trace s (rule.reaps number token is) counts h = record { notes = h.notes; kept = all_filter (λ r. not (has token.members r.actor)) s.detector.kept h.kept }
 
   pub event_tells : (s t : State) (e : Event) → next s e ≡ Goes t → Counts s → OfTold P s → OfTold P t
-  event_tells s t e goes = each_next Tells tells s t e goes
+  event_tells s t e goes = tells s.options.trace s (step_of s t e goes)
 
 -- ---- a weaker claim
 

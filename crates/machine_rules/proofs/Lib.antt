@@ -1,4 +1,5 @@
 pub mod Acting
+pub mod Choices
 pub mod Enabling
 pub mod Firsts
 pub mod Guards

@@ -20,6 +20,7 @@ use Rattle.machine_rules.specs.Rules.{IsGoing, IsStep, StopsAt}
 use Rattle.machine_rules.specs.Rules as rule
 use Rattle.machine_rules.specs.Run.{act_is_choice, go_is_choice, go_is_choice_at, is_choice, take_is_choice_at}
 use Rattle.machine_rules.specs.State.{State}
+use Rattle.machine_rules.proofs.Choices.{going_is, stopping_is, taking_is}
 use Rattle.machine_rules.proofs.Guards.{collector}
 use Rattle.machine_rules.proofs.Stepping.{is_step}
 use Rattle.count_laws.specs.Agreement.{people_of}
@@ -30,19 +31,6 @@ use Rattle.count_laws.proofs.events.EitherMode.{collect_keeps}
 use Rattle.count_laws.proofs.events.Leave.{leave_kept}
 
 module _ (trace : Trace) (p : PlainState) (s : State) (facts : Facts trace p s) where
-  -- ---- which goes are choices
-
-  going_is : (a : ℕ) (c : Cell) (ls : List Letter) (f : Frame) → IsGoing s a c ls f → is_choice s (Go a) ≡ go_is_choice trace s.program a c (Some f)
-  going_is a c ls f going =
-      ap (λ q. go_is_choice_at q s.program a (seat_at s.actors a)) facts.mode ∙ ap (go_is_choice_at trace s.program a) going.present ∙ ap (go_is_choice trace s.program a c) going.framed
-
-  stopping_is : (a : ℕ) (c : Cell) (ls : List Letter) (f : Frame) (act : Act) → StopsAt trace s a c ls f act
-      → is_choice s (Go a) ≡ act_is_choice trace a (with_made (turn_of_cell trace s.program a c f).turn.made c.holdings) act
-  stopping_is a c ls f act stops =
-      let stop = turn_of_cell trace s.program a c f in
-      let h = with_made stop.turn.made c.holdings in
-      going_is a c ls f stops.going ∙ ap (λ n. is_none n && act_is_choice trace a h stop.act) stops.held ∙ ap (act_is_choice trace a h) stops.stop
-
   chosen : (a : ℕ) (choice : Bool) (t : State) → is_choice s (Go a) ≡ choice → Follows trace choice (plain_go p a) p t → Follows trace (is_choice s (Go a)) (plain_go p a) p t
   chosen a choice t is h = subst (λ q. Follows trace q (plain_go p a) p t) (sym is) h
 
@@ -50,22 +38,22 @@ module _ (trace : Trace) (p : PlainState) (s : State) (facts : Facts trace p s) 
 
   take_step : {a : ℕ} {t : State} → IsStep trace s (Take a) t → Follows trace (is_choice s (Take a)) (plain_next p (Take a)) p t
   take_step (rule.takes a c l ls at idle) =
-      subst (λ q. Follows trace q (plain_next p (Take a)) p (after_take trace p s facts a c idle l ls)) (sym (ap take_is_choice_at at)) (take_follows trace p s facts a c idle l ls at)
+      subst (λ q. Follows trace q (plain_next p (Take a)) p (after_take trace p s facts a c idle l ls)) (sym (taking_is s a c l ls at)) (take_follows trace p s facts a c idle l ls at)
 
   go_step : {a : ℕ} {t : State} → IsStep trace s (Go a) t → Follows trace (is_choice s (Go a)) (plain_next p (Go a)) p t
   go_step (rule.ends a c ls f stops) =
-      chosen a true _ (stopping_is a c ls f _ stops) (ends_follow trace p s facts a c ls stops.going.present f stops.going.framed stops.held stops.stop)
+      chosen a true _ (stopping_is trace s facts.mode a c ls f _ stops) (ends_follow trace p s facts a c ls stops.going.present f stops.going.framed stops.held stops.stop)
   go_step (rule.prints a c ls f v stops) =
-      chosen a true _ (stopping_is a c ls f _ stops) (prints_follow trace p s facts a c ls stops.going.present f stops.going.framed stops.held v stops.stop)
+      chosen a true _ (stopping_is trace s facts.mode a c ls f _ stops) (prints_follow trace p s facts a c ls stops.going.present f stops.going.framed stops.held v stops.stop)
   go_step (rule.makes a c ls f kind register stops room) =
-      chosen a true _ (stopping_is a c ls f _ stops) (makes_follow trace p s facts a c ls stops.going.present f stops.going.framed stops.held kind register stops.stop room)
+      chosen a true _ (stopping_is trace s facts.mode a c ls f _ stops) (makes_follow trace p s facts a c ls stops.going.present f stops.going.framed stops.held kind register stops.stop room)
   go_step (rule.posts a c ls f to b args stops lacked) =
-      chosen a true _ (stopping_is a c ls f _ stops ∙ ap is_empty lacked) (posts_follow trace p s facts a c ls stops.going.present f stops.going.framed stops.held to b args stops.stop lacked)
+      chosen a true _ (stopping_is trace s facts.mode a c ls f _ stops ∙ ap is_empty lacked) (posts_follow trace p s facts a c ls stops.going.present f stops.going.framed stops.held to b args stops.stop lacked)
   go_step (rule.mints a c ls f to b args e es stops lacked) =
-      chosen a false _ (stopping_is a c ls f _ stops ∙ ap is_empty lacked) (mints_follow trace p s facts a c ls stops.going.present f stops.going.framed stops.held to b args stops.stop e es lacked)
+      chosen a false _ (stopping_is trace s facts.mode a c ls f _ stops ∙ ap is_empty lacked) (mints_follow trace p s facts a c ls stops.going.present f stops.going.framed stops.held to b args stops.stop e es lacked)
   go_step (rule.gets a c ls f x going need) =
       let stop = turn_of_cell trace s.program a c f in
-      chosen a false _ (going_is a c ls f going ∙ ap (λ n. is_none n && act_is_choice trace a (with_made stop.turn.made c.holdings) stop.act) need)
+      chosen a false _ (going_is trace s facts.mode a c ls f going ∙ ap (λ n. is_none n && act_is_choice trace a (with_made stop.turn.made c.holdings) stop.act) need)
       (gets_follow trace p s facts a c ls going.present f going.framed x need)
 
   collect_step : {a : ℕ} {t : State} → IsStep trace s (Collect a) t → Facts trace p t
