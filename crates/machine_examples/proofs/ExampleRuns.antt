@@ -1,9 +1,9 @@
 -- Concrete books are runs, by computation, and nothing that is not needed is left after them.
-use Rattle.std.proofs.Common.{◌≡◌, ◌↔◌, ℕ, zero, suc, ◌++◌, ◌==◌, ◌&&◌, ◌||◌, not, true, false, List, [], ◌∷◌, Option, Some, None, is_some, refl, ap, sym, ◌∙◌, subst}
+use Rattle.std.proofs.Common.{◌≡◌, ◌↔◌, ℕ, zero, suc, ◌++◌, ◌==◌, ◌&&◌, ◌||◌, not, true, false, List, [], ◌∷◌, Option, Some, None, is_some, refl, ap, sym, ◌∙◌, subst, Bool}
 use Rattle.std.specs.FinMap as m
 use Rattle.std.specs.List.{find}
 use Rattle.std.specs.Ordering.{nat_cmp}
-use Rattle.std.specs.Prelude.{is_none}
+use Rattle.std.specs.Prelude.{is_none, if◌then◌else◌, option_and_then}
 use Rattle.orca_names.specs.Names.{owner_of}
 use Rattle.orca_names.specs.declared.names.Thing.{Thing}
 use Rattle.orca_names.specs.declared.names.Thing.TheVariants.{Actor, Obj}
@@ -11,7 +11,7 @@ use Rattle.event_rule.specs.declared.event.Event.{Event}
 use Rattle.event_rule.specs.declared.event.Event.TheVariants.{Take, Go, Collect, Leave, Block, Hear, Scan, Reap}
 use Rattle.reach_walk.specs.Marks.{led_to, marks_of}
 use Rattle.letter_kinds.specs.Counting.{by_owner}
-use Rattle.letter_kinds.specs.Detector.{closed_set}
+use Rattle.letter_kinds.specs.Detector.{closed_set, Token, all_acked}
 use Rattle.letter_kinds.specs.Holdings.{has_own}
 use Rattle.machine_examples.proofs.LedgerSteps.{Page, first_page, after_all, after_all-leads, state_told}
 use Rattle.machine_examples.proofs.Places.{seats_told}
@@ -19,10 +19,20 @@ use Rattle.machine_rules.specs.Actors.{Actors, Seat, seat_at}
 use Rattle.machine_examples.specs.Examples.{usual, two_hold_each_other, two_up_to_the_ping, two_to_the_end, TwoHoldEachOtherAndGo, passes_an_object_on, passing_book, AnObjectIsPassedOnAndGoes}
 use Rattle.machine_rules.specs.Left.{IsLeft}
 use Rattle.plain_list.specs.Lists.{is_empty}
-use Rattle.event_rule.specs.Runs.{IsQuiet, Leads, NotEnabled}
-use Rattle.machine_rules.specs.Next.{next}
+use Rattle.event_rule.specs.Runs.{IsQuiet, Leads, NotEnabled, Step}
+use Rattle.machine_rules.specs.Next.{next, acting}
 use Rattle.machine_rules.specs.Run.{IsRun}
 use Rattle.machine_rules.specs.State.{State, first_state}
+use Rattle.std.specs.Option.{option_map_or}
+use Rattle.machine_rules.specs.Block.{block}
+use Rattle.machine_rules.specs.Collect.{collect}
+use Rattle.machine_rules.specs.Detect.{acked_token, hear, reap, scan}
+use Rattle.machine_rules.specs.Go.{go}
+use Rattle.machine_rules.specs.Guards.{may_block, may_collect, may_go, may_leave, may_take}
+use Rattle.machine_rules.specs.Leave.{leave}
+use Rattle.machine_rules.specs.Take.{take}
+use Rattle.machine_rules.specs.Cell.{Cell}
+use Rattle.letter_kinds.specs.declared.letter.Letter.{Letter}
 
 -- what is there, or else the page that is given
 abbrev pub page_or : Page → Option Page → Page
@@ -40,37 +50,37 @@ abbrev pub IsStill : Option Seat → Type 0
 IsStill None = Unit {0}
 IsStill (Some o) = (o.cell.frame ≡ None) × (o.mail ≡ []) × (o.cell.dirty ≡ false) × ((o.cell.fields.pinned || o.cell.reported) ≡ true)
 
-take_still : (s : State) (a : ℕ) (o : Option Seat) → IsStill o → take_at s a o ≡ NotEnabled
-take_still s a None still = refl
-take_still s a (Some o) still = λ i. take_in s a o.cell (still.0 i) (still.1 i)
+-- it may not do anything
+acting_still : (may : Cell → List Letter → Bool) (act : Cell → List Letter → Step State) (o : Option Seat)
+    → ((seat : Seat) → IsStill (Some seat) → may seat.cell seat.mail ≡ false) → IsStill o → acting may act o ≡ NotEnabled
+acting_still may act None never still = refl
+acting_still may act (Some o) never still = ap (λ q. if q then act o.cell o.mail else NotEnabled) (never o still)
 
-go_still : (s : State) (a : ℕ) (o : Option Seat) → IsStill o → go_at s.options.trace s a o ≡ NotEnabled
-go_still s a None still = refl
-go_still s a (Some o) still = λ i. go_in s.options.trace s a o.cell (still.0 i) o.mail
+no_take : (o : Seat) → IsStill (Some o) → may_take o.cell o.mail ≡ false
+no_take o still = λ i. is_none (still.0 i) && not (is_empty (still.1 i))
 
-collect_still : (s : State) (a : ℕ) (o : Option Seat) → IsStill o → collect_at s.options.trace s a o ≡ NotEnabled
-collect_still s a None still = refl
-collect_still s a (Some o) still = λ i. collect_in s.options.trace s a o.cell (still.0 i) (still.2 i) o.mail
+no_go : (o : Seat) → IsStill (Some o) → may_go o.cell o.mail ≡ false
+no_go o still = ap is_some still.0
 
-block_still : (s : State) (a : ℕ) (o : Option Seat) → IsStill o → block_at s a o ≡ NotEnabled
-block_still s a None still = refl
-block_still s a (Some o) still =
-    λ i. block_in s a o.cell o.mail (is_none (still.0 i) && (is_empty (still.1 i) && not (still.2 i || still.3 i)))
+no_collect : (o : Seat) → IsStill (Some o) → may_collect o.cell o.mail ≡ false
+no_collect o still = λ i. is_none (still.0 i) && still.2 i
 
-leave_still : (s : State) (a : ℕ) (o : Option Seat) → IsStill o → leave_at s a o ≡ NotEnabled
-leave_still s a None still = refl
-leave_still s a (Some o) still =
-    λ i. leave_in s a ((is_none (still.0 i) && (is_empty (still.1 i) && not (still.2 i || still.3 i))) && (o.cell.holdings.count == 0))
+no_block : (o : Seat) → IsStill (Some o) → may_block o.cell o.mail ≡ false
+no_block o still = λ i. is_none (still.0 i) && (is_empty (still.1 i) && not (still.2 i || still.3 i))
+
+no_leave : (o : Seat) → IsStill (Some o) → may_leave o.cell o.mail ≡ false
+no_leave o still = ap (λ q. q && (o.cell.holdings.count == 0)) (no_block o still)
 
 pub still_quiet : (s : State) → ((a : ℕ) → IsStill (seat_at s.actors a)) → s.notes ≡ [] → s.detector.tokens ≡ [] → s.detector.news ≡ false → IsQuiet next s
-still_quiet s still notes tokens news (Take a) = take_still s a (seat_at s.actors a) (still a)
-still_quiet s still notes tokens news (Go a) = go_still s a (seat_at s.actors a) (still a)
-still_quiet s still notes tokens news (Collect a) = collect_still s a (seat_at s.actors a) (still a)
-still_quiet s still notes tokens news (Leave a) = leave_still s a (seat_at s.actors a) (still a)
-still_quiet s still notes tokens news (Block a) = block_still s a (seat_at s.actors a) (still a)
-still_quiet s still notes tokens news Hear = ap (hear_in s) notes
-still_quiet s still notes tokens news Scan = ap (scan_in s (closed_set s.detector)) news
-still_quiet s still notes tokens news (Reap token) = ap (λ tokens. reap_found s (find (λ t. t.number == token) tokens)) tokens
+still_quiet s still notes tokens news (Take a) = acting_still may_take (take s a) (seat_at s.actors a) no_take (still a)
+still_quiet s still notes tokens news (Go a) = acting_still may_go (go s.options.trace s a) (seat_at s.actors a) no_go (still a)
+still_quiet s still notes tokens news (Collect a) = acting_still may_collect (collect s.options.trace s a) (seat_at s.actors a) no_collect (still a)
+still_quiet s still notes tokens news (Leave a) = acting_still may_leave (leave s a) (seat_at s.actors a) no_leave (still a)
+still_quiet s still notes tokens news (Block a) = acting_still may_block (block s a) (seat_at s.actors a) no_block (still a)
+still_quiet s still notes tokens news Hear = ap (hear s) notes
+still_quiet s still notes tokens news Scan = ap (λ q. if q then scan s else NotEnabled) news
+still_quiet s still notes tokens news (Reap number) =
+    ap (λ tokens. option_map_or (reap s) (option_and_then (λ t. if all_acked t then Some t else None) (find (λ (t : Token). t.number == number) tokens)) NotEnabled) tokens
 
 -- ---- two peers that hold each other
 

@@ -28,17 +28,20 @@ use Rattle.machine_examples.proofs.Brought.{Brought, cell_with, learn_told, lear
 use Rattle.machine_examples.proofs.Ledgers.{Ledger, told, empty_ledger, row_told, row_of-told, objects_told, known_objects-told, actors_told, held_actors-told, change_held, set_held-told, take_load, receive-told, give_load, send-told, raise_told, raise_all-told, lower_told, lower_all-told, mint_told, mint_all-told, lacking_told, lacking-told, make_told, with_made-told, sweep_told, sweep-told, back_told, given_back-told}
 use Rattle.machine_rules.specs.Actors.{Seat, push_decs, push_letter, seat, seat_at}
 use Rattle.machine_rules.specs.Cell.{Cell, first_cell, fresh_cell, row_by}
-use Rattle.machine_rules.specs.Collect.{collected, is_marked, is_marked_deep, without_unused}
-use Rattle.machine_rules.specs.Detect.{held_outside, reaped}
-use Rattle.machine_rules.specs.Go.{act_in, load_from, needed, needing, mint, post_or_mint, rows_from, setting_of, turn_of_cell, turned}
-use Rattle.event_rule.specs.Runs.{Leads, Step, IsFull, Goes}
-use Rattle.machine_rules.specs.Next.{next}
+use Rattle.machine_rules.specs.Collect.{collected, is_marked, is_marked_deep, without_unused, collect}
+use Rattle.machine_rules.specs.Detect.{held_outside, reaped, acked_token, hear, reap, scan}
+use Rattle.machine_rules.specs.Go.{act_in, load_from, needed, needing, mint, post_or_mint, rows_from, setting_of, turn_of_cell, turned, go, turn_in}
+use Rattle.event_rule.specs.Runs.{Leads, Step, IsFull, Goes, NotEnabled}
+use Rattle.machine_rules.specs.Next.{next, acting}
 use Rattle.machine_rules.specs.Options.{Trace, Deep, Roots, Options}
 use Rattle.plain_rules.specs.Machine.{stopped_at, with_name}
 use Rattle.machine_rules.specs.State.{State, first_state, start_letters}
-use Rattle.machine_rules.specs.Take.{cell_after, note_of, notes_after}
+use Rattle.machine_rules.specs.Take.{cell_after, note_of, notes_after, take}
 use Rattle.machine_examples.proofs.Places.{Place, Places, seats_told, cell_told, seat_told, place, place_at, seat_at-told, set-told, push_told, push_letter-told, decs_told, push_decs-told, asked_told, ask_all-told}
-use Rattle.machine_rules.specs.Guards.{may_block}
+use Rattle.machine_rules.specs.Guards.{may_block, may_collect, may_go, may_leave, may_take}
+use Rattle.machine_rules.specs.Block.{block}
+use Rattle.machine_rules.specs.Leave.{leave}
+use Rattle.std.specs.Prelude.{if◌then◌else◌}
 
 -- ---- states
 
@@ -63,7 +66,7 @@ abbrev traced : Page → Trace
 traced b = b.state.options.trace
 
 -- the step goes to the state of the page, if there is one
-abbrev Follows : Option Page → Step State → Type 0
+abbrev pub Follows : Option Page → Step State → Type 0
 Follows None step = Unit {0}
 Follows (Some b) step = step ≡ Goes (state_told b)
 
@@ -87,10 +90,9 @@ abbrev place_after : Program → ℕ → Letter → Place → List Letter → Op
 place_after program a letter o mail = place (cell_after program a letter o.cell) (ledger_after a letter o.ledger) (brought_after a letter o.known) mail
 
 -- after a take
-abbrev taken_in : Page → ℕ → Place → Option Frame → List Letter → Option Page
-taken_in b a o (Some frame) mail = None
-taken_in b a o None [] = None
-taken_in b a o None (letter ∷ mail) = Some (record {
+abbrev taken_in : Page → ℕ → Place → List Letter → Option Page
+taken_in b a o [] = None
+taken_in b a o (letter ∷ mail) = Some (record {
   state = record b.state { notes = notes_after o.cell.reported (note_of a letter) b.state.notes };
   places = set b.places a (place_after b.state.program a letter o mail);
 })
@@ -103,10 +105,9 @@ after_letter-told program a (Inc things) o mail = ap (λ h. seat (record (cell_a
 after_letter-told program a (Dec things) o mail = ap (λ h. seat (record (cell_after program a (Dec things) (cell_told o)) { holdings = h }) mail) (lower_all-told a things o.ledger)
 after_letter-told program a (Confirm token) o mail = refl
 
-take-follows : (b : Page) (a : ℕ) (o : Place) (frame : Option Frame) (mail : List Letter) → Follows (taken_in b a o frame mail) (take_in (state_told b) a (cell_told o) frame mail)
-take-follows b a o (Some frame) mail = tt
-take-follows b a o None [] = tt
-take-follows b a o None (letter ∷ mail) =
+take-follows : (b : Page) (a : ℕ) (o : Place) (mail : List Letter) → Follows (taken_in b a o mail) (take (state_told b) a (cell_told o) mail)
+take-follows b a o [] = tt
+take-follows b a o (letter ∷ mail) =
     ap (λ actors. Goes (record (state_told b) { actors = actors; notes = notes_after o.cell.reported (note_of a letter) b.state.notes }))
     (set-told b.places a _ (place_after b.state.program a letter o mail) (after_letter-told b.state.program a letter o mail))
 
@@ -321,7 +322,8 @@ gone_in b a o (Some frame) =
     let stop = turn_told (traced b) b.state.program a o frame in
     needing_told b a o (needed_told (traced b) b.state.program a o frame) (acted b a o (stopped_at frame stop) stop stop.act)
 
-go-follows : (b : Page) (a : ℕ) (o : Place) (frame : Option Frame) → Follows (gone_in b a o frame) (go_in (traced b) (state_told b) a (cell_told o) frame o.mail)
+go-follows : (b : Page) (a : ℕ) (o : Place) (frame : Option Frame)
+    → Follows (gone_in b a o frame) (option_map_or (turn_in (traced b) (state_told b) a (cell_told o) o.mail) frame NotEnabled)
 go-follows b a o None = tt
 go-follows b a o (Some frame) =
     let stop = turn_told (traced b) b.state.program a o frame in
@@ -374,49 +376,47 @@ collected-told trace a o places =
     ∙ push_decs-told (by_owner (back_told (marked_told trace a o) o.ledger)) (set places a (Some (place_swept trace a o)))
 
 -- after a collection
-abbrev collected_in : Page → ℕ → Place → Option Frame → Bool → Option Page
-collected_in b a o (Some frame) dirty = None
-collected_in b a o None false = None
-collected_in b a o None true = Some (record b { places = places_collected (traced b) a o b.places })
+abbrev collected_in : Page → ℕ → Place → Page
+collected_in b a o = record b { places = places_collected (traced b) a o b.places }
 
-collect-follows : (b : Page) (a : ℕ) (o : Place) (frame : Option Frame) (dirty : Bool)
-    → Follows (collected_in b a o frame dirty) (collect_in (traced b) (state_told b) a (cell_told o) frame dirty o.mail)
-collect-follows b a o (Some frame) dirty = tt
-collect-follows b a o None false = tt
-collect-follows b a o None true = ap (λ actors. Goes (record (state_told b) { actors = actors })) (collected-told (traced b) a o b.places)
+collect-follows : (b : Page) (a : ℕ) (o : Place) → Follows (Some (collected_in b a o)) (collect (traced b) (state_told b) a (cell_told o) o.mail)
+collect-follows b a o = ap (λ actors. Goes (record (state_told b) { actors = actors })) (collected-told (traced b) a o b.places)
 
 -- ---- block
 
 -- after a report
-abbrev blocked_in : Page → ℕ → Place → Bool → Option Page
-blocked_in b a o false = None
-blocked_in b a o true = Some (record {
+abbrev blocked_in : Page → ℕ → Place → Page
+blocked_in b a o = record {
   state = record b.state { notes = b.state.notes ++ notes.Block a o.ledger.count (actors_told o.ledger) ∷ [] };
   places = set b.places a (place (record o.cell { reported = true }) o.ledger o.known o.mail);
-})
+}
 
-block-follows : (b : Page) (a : ℕ) (o : Place) (may : Bool) → Follows (blocked_in b a o may) (block_in (state_told b) a (cell_told o) o.mail may)
-block-follows b a o false = tt
-block-follows b a o true = λ i. Goes (record (state_told b) {
+block-follows : (b : Page) (a : ℕ) (o : Place) → Follows (Some (blocked_in b a o)) (block (state_told b) a (cell_told o) o.mail)
+block-follows b a o = λ i. Goes (record (state_told b) {
   actors = set-told b.places a _ (place (record o.cell { reported = true }) o.ledger o.known o.mail) refl i;
   notes = b.state.notes ++ notes.Block a o.ledger.count (held_actors-told o.ledger i) ∷ [];
 })
 
 -- ---- an event of an actor
 
--- what the actor at the place does, if it is present
-abbrev of_place : (Place → Option Page) → Option Place → Option Page
-of_place does None = None
-of_place does (Some o) = does o
+-- what the actor at the place does, if it is present and may
+abbrev acting_told : (Cell → List Letter → Bool) → (Place → Option Page) → Option Place → Option Page
+acting_told may does None = None
+acting_told may does (Some o) = if may (cell_told o) o.mail then does o else None
 
 -- an event of an actor follows where it follows of each place
-place-follows : (b : Page) (a : ℕ) (does : Place → Option Page) (step : Option Seat → Step State)
-    → ((o : Place) → Follows (does o) (step (seat_told (Some o)))) → Follows (of_place does (place_at b.places a)) (step (seat_at (seats_told b.places) a))
-place-follows b a does step follows = subst (λ o. Follows (of_place does (place_at b.places a)) (step o)) (sym (seat_at-told b.places a)) (cases (place_at b.places a))
+acting-follows : (b : Page) (a : ℕ) (may : Cell → List Letter → Bool) (does : Place → Option Page) (act : Cell → List Letter → Step State)
+    → ((o : Place) → Follows (does o) (act (cell_told o) o.mail)) → Follows (acting_told may does (place_at b.places a)) (acting may act (seat_at (seats_told b.places) a))
+acting-follows b a may does act follows =
+    subst (λ o. Follows (acting_told may does (place_at b.places a)) (acting may act o)) (sym (seat_at-told b.places a)) (cases (place_at b.places a))
   where
-    cases : (o : Option Place) → Follows (of_place does o) (step (seat_told o))
+    by_test : (o : Place) (q : Bool) → Follows (if q then does o else None) (if q then act (cell_told o) o.mail else NotEnabled)
+    by_test o false = tt
+    by_test o true = follows o
+
+    cases : (o : Option Place) → Follows (acting_told may does o) (acting may act (seat_told o))
     cases None = tt
-    cases (Some o) = follows o
+    cases (Some o) = by_test o (may (cell_told o) o.mail)
 
 -- ---- the detector
 
@@ -425,21 +425,24 @@ abbrev heard_in : Page → List Note → Option Page
 heard_in b [] = None
 heard_in b (note ∷ notes) = Some (record b { state = record b.state { detector = heard note b.state.detector; notes = notes } })
 
-hear-follows : (b : Page) (notes : List Note) → Follows (heard_in b notes) (hear_in (state_told b) notes)
+hear-follows : (b : Page) (notes : List Note) → Follows (heard_in b notes) (hear (state_told b) notes)
 hear-follows b [] = tt
 hear-follows b (note ∷ notes) = refl
 
--- after a scan
-abbrev scanned_in : Page → List ℕ → Bool → Option Page
-scanned_in b closed false = None
-scanned_in b closed true = Some (record {
-  state = record b.state { detector = scanned b.state.detector closed };
-  places = asked_told closed (suc b.state.detector.opened) b.places;
-})
+-- after a scan, where there is news
+abbrev scanned_in : Page → Bool → Option Page
+scanned_in b false = None
+scanned_in b true =
+    let closed = closed_set b.state.detector in
+    Some (record {
+      state = record b.state { detector = scanned b.state.detector closed };
+      places = asked_told closed (suc b.state.detector.opened) b.places;
+    })
 
-scan-follows : (b : Page) (closed : List ℕ) (news : Bool) → Follows (scanned_in b closed news) (scan_in (state_told b) closed news)
-scan-follows b closed false = tt
-scan-follows b closed true =
+scan-follows : (b : Page) (news : Bool) → Follows (scanned_in b news) (if news then scan (state_told b) else NotEnabled)
+scan-follows b false = tt
+scan-follows b true =
+    let closed = closed_set b.state.detector in
     ap (λ actors. Goes (record (state_told b) { actors = actors; detector = scanned b.state.detector closed })) (ask_all-told closed (suc b.state.detector.opened) b.places)
 
 -- what a member held on things whose owners are not in the set
@@ -465,65 +468,50 @@ reaped-told members (a ∷ rest) decs places =
     (set-told places a None None refl i))
     ∙ reaped-told members rest _ _
 
--- after a reap of the token, if all acknowledged it
-abbrev reaped_in : Page → Token → Bool → Option Page
-reaped_in b token false = None
-reaped_in b token true = Some (record {
+-- after a reap of the token that is found
+abbrev reaped_in : Page → Option Token → Option Page
+reaped_in b None = None
+reaped_in b (Some token) = Some (record {
   state = record b.state { detector = close_token token b.state.detector };
   places = reaped_told token.members token.members [] b.places;
 })
 
--- the token that is found is reaped
-abbrev reaped_found : Page → Option Token → Option Page
-reaped_found b None = None
-reaped_found b (Some token) = reaped_in b token (all_acked token)
-
-reap-follows : (b : Page) (token : Token) (all : Bool) → Follows (reaped_in b token all) (reap_in (state_told b) token all)
-reap-follows b token false = tt
-reap-follows b token true =
+reap-follows : (b : Page) (found : Option Token) → Follows (reaped_in b found) (option_map_or (reap (state_told b)) found NotEnabled)
+reap-follows b None = tt
+reap-follows b (Some token) =
     ap (λ actors. Goes (record (state_told b) { actors = actors; detector = close_token token b.state.detector })) (reaped-told token.members token.members [] b.places)
-
-found-follows : (b : Page) (found : Option Token) → Follows (reaped_found b found) (reap_found (state_told b) found)
-found-follows b None = tt
-found-follows b (Some token) = reap-follows b token (all_acked token)
 
 -- ---- leave
 
--- whether the actor may leave
-abbrev may_leave_told : Place → Bool
-may_leave_told o = may_block o.cell o.mail && (o.ledger.count == 0)
-
 -- after a leave
-abbrev left_in : Page → ℕ → Bool → Option Page
-left_in b a false = None
-left_in b a true = Some (record b { places = reaped_told (a ∷ []) (a ∷ []) [] b.places })
+abbrev left_in : Page → ℕ → Page
+left_in b a = record b { places = reaped_told (a ∷ []) (a ∷ []) [] b.places }
 
-leave-follows : (b : Page) (a : ℕ) (may : Bool) → Follows (left_in b a may) (leave_in (state_told b) a may)
-leave-follows b a false = tt
-leave-follows b a true = ap (λ actors. Goes (record (state_told b) { actors = actors })) (reaped-told (a ∷ []) (a ∷ []) [] b.places)
+leave-follows : (b : Page) (a : ℕ) (o : Place) → Follows (Some (left_in b a)) (leave (state_told b) a (cell_told o) o.mail)
+leave-follows b a o = ap (λ actors. Goes (record (state_told b) { actors = actors })) (reaped-told (a ∷ []) (a ∷ []) [] b.places)
 
 -- ---- an event
 
 -- after an event, if it is enabled
-abbrev next_page : Page → Event → Option Page
-next_page b (Take a) = of_place (λ o. taken_in b a o o.cell.frame o.mail) (place_at b.places a)
-next_page b (Go a) = of_place (λ o. gone_in b a o o.cell.frame) (place_at b.places a)
-next_page b (Collect a) = of_place (λ o. collected_in b a o o.cell.frame o.cell.dirty) (place_at b.places a)
-next_page b (Leave a) = of_place (λ o. left_in b a (may_leave_told o)) (place_at b.places a)
-next_page b (Block a) = of_place (λ o. blocked_in b a o (may_block o.cell o.mail)) (place_at b.places a)
+abbrev pub next_page : Page → Event → Option Page
+next_page b (Take a) = acting_told may_take (λ o. taken_in b a o o.mail) (place_at b.places a)
+next_page b (Go a) = acting_told may_go (λ o. gone_in b a o o.cell.frame) (place_at b.places a)
+next_page b (Collect a) = acting_told may_collect (λ o. Some (collected_in b a o)) (place_at b.places a)
+next_page b (Leave a) = acting_told may_leave (λ o. Some (left_in b a)) (place_at b.places a)
+next_page b (Block a) = acting_told may_block (λ o. Some (blocked_in b a o)) (place_at b.places a)
 next_page b Hear = heard_in b b.state.notes
-next_page b Scan = scanned_in b (closed_set b.state.detector) b.state.detector.news
-next_page b (Reap token) = reaped_found b (token_numbered token b.state.detector)
+next_page b Scan = scanned_in b b.state.detector.news
+next_page b (Reap number) = reaped_in b (acked_token number b.state.detector)
 
-next-follows : (b : Page) (e : Event) → Follows (next_page b e) (next (state_told b) e)
-next-follows b (Take a) = place-follows b a _ (take_at (state_told b) a) (λ o. take-follows b a o o.cell.frame o.mail)
-next-follows b (Go a) = place-follows b a _ (go_at (traced b) (state_told b) a) (λ o. go-follows b a o o.cell.frame)
-next-follows b (Collect a) = place-follows b a _ (collect_at (traced b) (state_told b) a) (λ o. collect-follows b a o o.cell.frame o.cell.dirty)
-next-follows b (Leave a) = place-follows b a _ (leave_at (state_told b) a) (λ o. leave-follows b a (may_leave_told o))
-next-follows b (Block a) = place-follows b a _ (block_at (state_told b) a) (λ o. block-follows b a o (may_block o.cell o.mail))
+pub next-follows : (b : Page) (e : Event) → Follows (next_page b e) (next (state_told b) e)
+next-follows b (Take a) = acting-follows b a may_take _ (take (state_told b) a) (λ o. take-follows b a o o.mail)
+next-follows b (Go a) = acting-follows b a may_go _ (go (traced b) (state_told b) a) (λ o. go-follows b a o o.cell.frame)
+next-follows b (Collect a) = acting-follows b a may_collect _ (collect (traced b) (state_told b) a) (collect-follows b a)
+next-follows b (Leave a) = acting-follows b a may_leave _ (leave (state_told b) a) (leave-follows b a)
+next-follows b (Block a) = acting-follows b a may_block _ (block (state_told b) a) (block-follows b a)
 next-follows b Hear = hear-follows b b.state.notes
-next-follows b Scan = scan-follows b (closed_set b.state.detector) b.state.detector.news
-next-follows b (Reap token) = found-follows b (token_numbered token b.state.detector)
+next-follows b Scan = scan-follows b b.state.detector.news
+next-follows b (Reap number) = reap-follows b (acked_token number b.state.detector)
 
 -- ---- the events of a run
 
