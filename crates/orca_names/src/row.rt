@@ -98,6 +98,17 @@ impl Args {
         places[i as usize]
     }
 
+    /// The value at a place, counted from 0, or `None` past the last.
+    pub fn get(&self, i: u64) -> Option<Value>
+        ensures { result ≡ slice_get self.now i }
+    {
+        if i < self.len() {
+            Some(self.at(i))
+        } else {
+            None
+        }
+    }
+
     /// Writes the value at a place, counted from 0.
     pub fn set(&mut self, i: u64, value: Value)
         requires { i < length self.old }
@@ -161,6 +172,13 @@ impl Row {
         ensures { slice_get self.now i ≡ Some result }
     {
         self.values.at(i)
+    }
+
+    /// The value at a place, counted from 0, or `None` past the last.
+    pub fn get(&self, i: u64) -> Option<Value>
+        ensures { result ≡ slice_get self.now i }
+    {
+        self.values.get(i)
     }
 }
 
