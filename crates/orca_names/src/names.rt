@@ -11,7 +11,7 @@ use std::cmp::Ordering;
 use std::marker::Model;
 
 /// An actor, named by the number of actors that were made before it. A name is never used again.
-#[derive(Clone, Copy, Debug, PartialEq, Eq, PartialOrd, Ord)]
+#[derive(Clone, Copy, Debug, PartialEq, Eq, PartialOrd, Ord, Hash)]
 pub struct ActorName(pub u32);
 
 impl Model for ActorName {
@@ -26,7 +26,7 @@ impl Model for ActorName {
 
 /// The number of an object among those of its owner, seen as that number. It is kept in two halves,
 /// so that a name takes twelve bytes and a value sixteen.
-#[derive(Clone, Copy, Debug)]
+#[derive(Clone, Copy, Debug, Hash)]
 pub struct Serial {
     high: u32,
     low: u32,
@@ -82,14 +82,14 @@ impl Eq for Serial {
 
 /// An object, named by its owner, which is the actor that made it, and by the number of objects
 /// that this owner made before it. A name is never used again.
-#[derive(Clone, Copy, Debug, PartialEq, Eq)]
+#[derive(Clone, Copy, Debug, PartialEq, Eq, Hash)]
 pub struct ObjName {
     pub owner: ActorName,
     pub serial: Serial,
 }
 
 /// What is counted and collected: an actor or an object.
-#[derive(Clone, Copy, Debug, PartialEq, Eq)]
+#[derive(Clone, Copy, Debug, PartialEq, Eq, Hash)]
 pub enum Thing {
     Actor(ActorName),
     Obj(ObjName),
@@ -145,7 +145,7 @@ impl PartialOrd for Thing {
 }
 
 /// What a register, a field, an argument or a place of a row holds.
-#[derive(Clone, Copy, Debug, PartialEq, Eq)]
+#[derive(Clone, Copy, Debug, PartialEq, Eq, Hash)]
 pub enum Value {
     Null,
     /// A whole number of 64 bits.

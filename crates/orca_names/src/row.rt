@@ -8,7 +8,7 @@ use crate::names::Value;
 use std::marker::Model;
 
 /// The arguments of a letter, or the values of an actor's fields: 0 to 8 values, seen as a list.
-#[derive(Clone, Copy, Debug)]
+#[derive(Clone, Copy, Debug, PartialEq, Eq)]
 pub struct Args {
     places: [Value; VALUES_LIMIT],
     used: usize,
@@ -120,7 +120,7 @@ impl Args {
 }
 
 /// An object's content, which never changes: 1 to 8 values, seen as a list.
-#[derive(Clone, Copy, Debug)]
+#[derive(Clone, Copy, Debug, PartialEq, Eq)]
 pub struct Row {
     values: Args,
 }
@@ -185,7 +185,7 @@ impl Row {
 /// What an actor keeps from one behaviour to the next: its fields, and whether it is pinned.
 ///
 /// A pinned actor is a root: it stands for one that waits for events of the outside.
-#[derive(Clone, Copy, Debug)]
+#[derive(Clone, Copy, Debug, PartialEq, Eq)]
 pub struct Fields {
     pub values: Args,
     pub pinned: bool,
