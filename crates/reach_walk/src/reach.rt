@@ -38,12 +38,13 @@ pub(crate) fn push_named(things: &mut Vec<Thing>, values: &[Value]) -> Result<()
 
 // Where a walk goes on from a thing. The first buffer is for the values of its edges.
 fn find_next<E: Edges>(
-    graph: &E,
+    graph: &mut E,
     thing: Thing,
     values: &mut Vec<Value>,
     next: &mut Vec<Thing>,
 ) -> Result<(), NoMemory>
-    ensures { OnOk result (next.new.items ≡ next_of (E.edges graph.now) thing) }
+    ensures ok { OnOk result (next.new.items ≡ next_of (E.edges graph.old) thing) }
+    ensures kept { E.kept graph.new ≡ E.kept graph.old }
 {
     values.clear();
     graph.push_edges(thing, values)?;
@@ -56,9 +57,10 @@ fn find_next<E: Edges>(
 ///
 /// # Errors
 /// `NoMemory` where memory was refused.
-pub fn walk<E: Edges>(alloc: Global, roots: &[Thing], graph: &E) -> Result<Vec<Thing>, NoMemory>
-    ensures exact { IfOk result (λ found. (x : thing) → Contains found.items x ↔ Reaches (E.edges graph.now) roots.now x) }
+pub fn walk<E: Edges>(alloc: Global, roots: &[Thing], graph: &mut E) -> Result<Vec<Thing>, NoMemory>
+    ensures exact { IfOk result (λ found. (x : thing) → Contains found.items x ↔ Reaches (E.edges graph.old) roots.now x) }
     ensures rising { IfOk result (λ found. IsStrictlySortedBy thing_cmp found.items) }
+    ensures kept { E.kept graph.new ≡ E.kept graph.old }
 {
     let mut seen = Seen::new(alloc);
     let mut values = Vec::new(alloc);
