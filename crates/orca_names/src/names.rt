@@ -5,7 +5,7 @@ ghost use Rattle.std.proofs.Common.{rules};
 ghost use Rattle.std.specs.Cmp.{partial_order_from_own_ties};
 ghost use Rattle.std.specs.Cmp.Rules.{comparing};
 ghost use Rattle.std.specs.Ordering.{as_partial_cmp};
-ghost use Rattle.orca_names.specs.Names.{owner_of, serial_of, thing_cmp};
+ghost use Rattle.orca_names.specs.Names.{owner_of, serial_of, thing_cmp, thing_of};
 
 use std::cmp::Ordering;
 use std::marker::Model;
@@ -152,4 +152,18 @@ pub enum Value {
     Num(u64),
     Actor(ActorName),
     Obj(ObjName),
+}
+
+impl Value {
+    /// The actor or object that the value is, `None` where it is neither.
+    pub fn thing(&self) -> Option<Thing>
+        ensures { result ≡ thing_of self.now }
+    {
+        match self {
+            Value::Null => None,
+            Value::Num(_) => None,
+            Value::Actor(a) => Some(Thing::Actor(*a)),
+            Value::Obj(n) => Some(Thing::Obj(*n)),
+        }
+    }
 }

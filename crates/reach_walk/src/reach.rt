@@ -4,7 +4,7 @@ ghost use Rattle.std.specs.Prelude.{◌≡◌, ◌↔◌, ◌++◌, Contains, If
 ghost use Rattle.std.specs.List.Sorted.{IsStrictlySortedBy};
 ghost use Rattle.orca_names.specs.Names.{thing_cmp};
 ghost use Rattle.orca_names.specs.declared.names.Thing.{Thing as thing};
-ghost use Rattle.reach_walk.specs.Reach.{named_by, thing_of, Reaches};
+ghost use Rattle.reach_walk.specs.Reach.{named_by, Reaches};
 ghost use Rattle.reach_walk.specs.Walk.{next_of};
 
 use crate::edges::Edges;
@@ -12,24 +12,12 @@ use crate::seen::Seen;
 use orca_names::{NoMemory, Thing, Value};
 use std::alloc::Global;
 
-// The thing that a value names.
-fn named(value: Value) -> Option<Thing>
-    ensures { result ≡ thing_of value }
-{
-    match value {
-        Value::Null => None,
-        Value::Num(_) => None,
-        Value::Actor(a) => Some(Thing::Actor(a)),
-        Value::Obj(n) => Some(Thing::Obj(n)),
-    }
-}
-
 /// Appends the things that the values name.
 pub(crate) fn push_named(things: &mut Vec<Thing>, values: &[Value]) -> Result<(), NoMemory>
     ensures { OnOk result (things.new.items ≡ things.old.items ++ named_by values.now) }
 {
     for value in values {
-        if let Some(thing) = named(*value) {
+        if let Some(thing) = value.thing() {
             things.push(thing)?;
         }
     }

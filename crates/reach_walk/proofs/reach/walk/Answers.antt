@@ -1,4 +1,4 @@
-use Rattle.std.proofs.Common.{◌≤◌, ◌∙◌, length, Contains, refl, ap, subst, arith}
+use Rattle.std.proofs.Common.{◌≡◌, ◌≤◌, ◌∙◌, length, Contains, refl, ap, subst, arith}
 use Rattle.std.proofs.lemmas.Result.{IfOk-weaker}
 use Rattle.orca_names.specs.declared.names.Thing.{Thing}
 use Rattle.reach_walk.specs.Reach.{Reaches}
@@ -26,7 +26,9 @@ loop-at-smaller g c =
 pub loop-at-preserved : goal.loop-at-preserved
 loop-at-preserved g c =
     let same = g.met.E.Edges.same_edges c.args.graph.now c.loop-at.graph c.loop-at.invariant.kept in
-    let found = c.as_slice.ensures.value ∙ c.in_ok-find_next.ensures.ok ∙ ap (λ edges. next_of edges c.at.result) same in
+    let found : c.as_slice.result.now ≡ next_of (g.E.Edges.edges c.args.graph.now) c.at.result =
+        c.as_slice.ensures.value ∙ (c.in_ok-find_next.ensures.ok ∙ ap (λ edges. next_of edges c.at.result) same)
+    in
     record {
       kept = c.find_next.ensures.kept ∙ c.loop-at.invariant.kept;
       walks = goes_on (g.E.Edges.edges c.args.graph.now) c.args.roots.now c.loop-at.seen c.see_all-in-loop-at.new.self c.loop-at.at c.at.result c.loop-at.invariant.walks c.at.ensures
