@@ -149,6 +149,14 @@ impl Row {
         }
     }
 
+    /// A row of these values.
+    pub fn from_args(values: Args) -> Row
+        requires { 1 ≤ length values }
+        ensures { result ≡ values }
+    {
+        Row { values }
+    }
+
     /// The number of values.
     pub fn len(&self) -> u64
         ensures count { result ≡ length self.now }
