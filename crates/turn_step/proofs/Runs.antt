@@ -29,7 +29,6 @@ place_or_null (Some values) i = unwrap_or-slice_get values i Null
 module _ {A : Type 0} (go : List Instr → Option ℕ → ℕ → Turn → A) (t : Turn)
     (stops : (name i : ℕ) → go [] (Some name) i t ≡ go [] None i t)
     (passes : (name i : ℕ) (x : Instr) (xs : List Instr) → go (x ∷ xs) (Some name) i t ≡ go xs (cond (is_label name x) None (Some name)) (i + 1) t) where
-
   from_part : (body : List Instr) (name : ℕ) (xs : List Instr) (i : ℕ) → xs ≡ drop i body → go xs (Some name) i t ≡ go (drop (place_after name xs i) body) None (place_after name xs i) t
   from_part body name [] i e = stops name i ∙ ap (λ ys. go ys None i t) e
   from_part body name (x ∷ xs) i e =
@@ -49,7 +48,6 @@ first_needed-append held xs ys none =
 
 module _ (p : Setting) (held : Thing → Bool) (body : List Instr) (i place label : ℕ) (d : Instr) (t u : Turn) (inside : i < length body) (at : d ≡ get_or body i d)
     (leads : LeadsTo (first_needed held (got_by p d t)) (step_of p d t) t (Leap label) u) (found : place ≡ place_after label (drop (i + 1) body) (i + 1)) where
-
   -- a leap goes on behind the label
   pub run_from-leap : run_from p (drop place body) None place u ≡ run_from p (drop i body) None i t
   run_from-leap =

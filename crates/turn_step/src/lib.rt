@@ -8,15 +8,14 @@ mod deed;
 mod effects;
 mod held;
 mod run;
-
 mod setting;
 mod step;
 mod turn;
 
 pub use act::Act;
+pub use answer::{segment, segment_held};
 pub use deed::{Deed, Halt, Stopped};
 pub use run::{segment_at, segment_held_at};
-pub use answer::{segment, segment_held};
 pub use setting::Setting;
 pub use turn::Turn;
 pub use turn_rules::{Frame, RegisterFile};

@@ -85,21 +85,13 @@ fn get<R: RowReader, H: HeldTest>(
 }
 
 /// The value at a place of the row of a register's object, null where there is none.
-fn place<R: RowReader>(
-    setting: &Setting<'_>,
-    rows: &mut R,
-    turn: &Turn,
-    s: u64,
-    i: u64,
-) -> Value
+fn place<R: RowReader>(setting: &Setting<'_>, rows: &mut R, turn: &Turn, s: u64, i: u64) -> Value
     ensures value { let p = setting_of setting.now (R.rows rows.old) in
         result ≡ place_of p turn.now (value_at turn.now s) i }
     ensures same { (R.rows rows.new ≡ R.rows rows.old) × (R.all rows.new ≡ R.all rows.old) }
 {
     match turn.value(s) {
-        Value::Obj(n) => setting
-            .look(rows, turn.made(), n, i)
-            .unwrap_or(Value::Null),
+        Value::Obj(n) => setting.look(rows, turn.made(), n, i).unwrap_or(Value::Null),
         _ => Value::Null,
     }
 }
