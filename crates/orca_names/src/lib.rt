@@ -3,19 +3,23 @@
 //! No call here takes memory.
 #![tactic(auto)]
 
+mod held;
 mod limits;
 mod memory;
 mod names;
+mod reader;
 mod row;
 mod rows;
 mod tally;
 
+pub use held::HeldTest;
 pub use limits::{
     ACTORS_LIMIT, BEHAVIOURS_LIMIT, BODY_LIMIT, BOOK_LIMIT, FIELDS_LIMIT, KINDS_LIMIT, LINE_LIMIT,
     NAME_LIMIT, REGISTERS, TEXT_LIMIT, VALUES_LIMIT, WORKERS_LIMIT,
 };
 pub use memory::NoMemory;
 pub use names::{ActorName, ObjName, Serial, Thing, Value};
+pub use reader::{Reading, RowReader};
 pub use row::{Args, Fields, Row};
 pub use rows::Rows;
 pub use tally::{Sums, Tally};

@@ -5,13 +5,13 @@ ghost use Rattle.std.proofs.Common.{rules};
 ghost use Rattle.std.specs.Cmp.{partial_order_from_own_ties};
 ghost use Rattle.std.specs.Cmp.Rules.{comparing};
 ghost use Rattle.std.specs.Ordering.{as_partial_cmp};
-ghost use Rattle.orca_names.specs.Names.{owner_of, serial_of, thing_cmp};
+ghost use Rattle.orca_names.specs.Names.{owner_of, serial_of, thing_cmp, thing_of};
 
 use std::cmp::Ordering;
 use std::marker::Model;
 
 /// An actor, named by the number of actors that were made before it. A name is never used again.
-#[derive(Clone, Copy, Debug, PartialEq, Eq, PartialOrd, Ord)]
+#[derive(Clone, Copy, Debug, PartialEq, Eq, PartialOrd, Ord, Hash)]
 pub struct ActorName(pub u32);
 
 impl Model for ActorName {
@@ -26,7 +26,7 @@ impl Model for ActorName {
 
 /// The number of an object among those of its owner, seen as that number. It is kept in two halves,
 /// so that a name takes twelve bytes and a value sixteen.
-#[derive(Clone, Copy, Debug)]
+#[derive(Clone, Copy, Debug, Hash)]
 pub struct Serial {
     high: u32,
     low: u32,
@@ -82,14 +82,14 @@ impl Eq for Serial {
 
 /// An object, named by its owner, which is the actor that made it, and by the number of objects
 /// that this owner made before it. A name is never used again.
-#[derive(Clone, Copy, Debug, PartialEq, Eq)]
+#[derive(Clone, Copy, Debug, PartialEq, Eq, Hash)]
 pub struct ObjName {
     pub owner: ActorName,
     pub serial: Serial,
 }
 
 /// What is counted and collected: an actor or an object.
-#[derive(Clone, Copy, Debug, PartialEq, Eq)]
+#[derive(Clone, Copy, Debug, PartialEq, Eq, Hash)]
 pub enum Thing {
     Actor(ActorName),
     Obj(ObjName),
@@ -145,11 +145,25 @@ impl PartialOrd for Thing {
 }
 
 /// What a register, a field, an argument or a place of a row holds.
-#[derive(Clone, Copy, Debug, PartialEq, Eq)]
+#[derive(Clone, Copy, Debug, PartialEq, Eq, Hash)]
 pub enum Value {
     Null,
     /// A whole number of 64 bits.
     Num(u64),
     Actor(ActorName),
     Obj(ObjName),
+}
+
+impl Value {
+    /// The actor or object that the value is, `None` where it is neither.
+    pub fn thing(&self) -> Option<Thing>
+        ensures { result ≡ thing_of self.now }
+    {
+        match self {
+            Value::Null => None,
+            Value::Num(_) => None,
+            Value::Actor(a) => Some(Thing::Actor(*a)),
+            Value::Obj(n) => Some(Thing::Obj(*n)),
+        }
+    }
 }

@@ -8,7 +8,7 @@ use crate::names::Value;
 use std::marker::Model;
 
 /// The arguments of a letter, or the values of an actor's fields: 0 to 8 values, seen as a list.
-#[derive(Clone, Copy, Debug)]
+#[derive(Clone, Copy, Debug, PartialEq, Eq)]
 pub struct Args {
     places: [Value; VALUES_LIMIT],
     used: usize,
@@ -98,6 +98,17 @@ impl Args {
         places[i as usize]
     }
 
+    /// The value at a place, counted from 0, or `None` past the last.
+    pub fn get(&self, i: u64) -> Option<Value>
+        ensures { result ≡ slice_get self.now i }
+    {
+        if i < self.len() {
+            Some(self.at(i))
+        } else {
+            None
+        }
+    }
+
     /// Writes the value at a place, counted from 0.
     pub fn set(&mut self, i: u64, value: Value)
         requires { i < length self.old }
@@ -109,7 +120,7 @@ impl Args {
 }
 
 /// An object's content, which never changes: 1 to 8 values, seen as a list.
-#[derive(Clone, Copy, Debug)]
+#[derive(Clone, Copy, Debug, PartialEq, Eq)]
 pub struct Row {
     values: Args,
 }
@@ -138,6 +149,14 @@ impl Row {
         }
     }
 
+    /// A row of these values.
+    pub fn from_args(values: Args) -> Row
+        requires { 1 ≤ length values }
+        ensures { result ≡ values }
+    {
+        Row { values }
+    }
+
     /// The number of values.
     pub fn len(&self) -> u64
         ensures count { result ≡ length self.now }
@@ -162,12 +181,19 @@ impl Row {
     {
         self.values.at(i)
     }
+
+    /// The value at a place, counted from 0, or `None` past the last.
+    pub fn get(&self, i: u64) -> Option<Value>
+        ensures { result ≡ slice_get self.now i }
+    {
+        self.values.get(i)
+    }
 }
 
 /// What an actor keeps from one behaviour to the next: its fields, and whether it is pinned.
 ///
 /// A pinned actor is a root: it stands for one that waits for events of the outside.
-#[derive(Clone, Copy, Debug)]
+#[derive(Clone, Copy, Debug, PartialEq, Eq)]
 pub struct Fields {
     pub values: Args,
     pub pinned: bool,

@@ -3,7 +3,7 @@ use Rattle.std.specs.Prelude.{ℕ, ◌≡◌, ◌++◌, List, length, take, Opti
 use Rattle.orca_names.specs.declared.names.Value.{Value}
 use Rattle.orca_names.specs.declared.row.Fields.{Fields}
 use Rattle.turn_rules.specs.declared.act.Frame.{Frame}
-use Rattle.turn_step.specs.declared.scratch.Scratch.{Scratch}
+use Rattle.turn_rules.specs.Segment.{Turn}
 use Rattle.plain_rules.specs.declared.PlainActor.{PlainActor}
 use Rattle.plain_rules.specs.Machine.{with_changed}
 use Rattle.plain_machine.specs.declared.acts.Stand.{Stand}
@@ -13,7 +13,7 @@ abbrev pub has_rows : Stand → PlainActor → Type 0
 has_rows stand x = stand.rows ≡ length x.rows
 
 -- the frame that goes on, with the registers that the turn left
-abbrev pub frame_left : Stand → Scratch → Frame
+abbrev pub frame_left : Stand → Turn → Frame
 frame_left stand turn = record { kind = stand.kind; behaviour = stand.behaviour; place = stand.place; registers = turn.registers }
 
 -- the actors, one of which has more rows

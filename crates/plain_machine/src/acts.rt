@@ -9,9 +9,9 @@ use crate::actor::fresh_actor;
 use crate::table::Table;
 use behaviour_code::Program;
 use plain_rules::PlainLetter;
-use orca_names::{ActorName, Fields, NoMemory, Row, Value};
+use orca_names::{ActorName, NoMemory, Value};
 use std::alloc::Global;
-use turn_step::Scratch;
+use turn_step::Turn;
 
 /// The behaviour that runs, the place behind its act, and how many rows its actor had before.
 #[derive(Clone, Copy, Debug)]
@@ -22,18 +22,13 @@ pub(crate) struct Stand {
     pub rows: usize,
 }
 
-pub(crate) fn end(
-    actors: &mut Table,
-    a: ActorName,
-    fields: &Fields,
-    made: &[Row],
-) -> Result<(), NoMemory>
+pub(crate) fn end(actors: &mut Table, a: ActorName, turn: &Turn) -> Result<(), NoMemory>
     requires { a < length actors.old }
-    ensures ok { OnOk result (actors.new ≡ with_turn actors.old a None fields.now made.now) }
+    ensures ok { OnOk result (actors.new ≡ with_turn actors.old a None turn.now.fields turn.now.made) }
     ensures err { OnErr result (actors.new ≡ actors.old) }
 {
-    actors.add_rows(a, made)?;
-    actors.end_turn(a, fields);
+    actors.add_rows(a, turn.made())?;
+    actors.end_turn(a, turn.fields());
     Ok(())
 }
 
@@ -41,17 +36,16 @@ pub(crate) fn send(
     actors: &mut Table,
     a: ActorName,
     stand: &Stand,
-    turn: &Scratch,
-    made: &[Row],
+    turn: &Turn,
     to: ActorName,
     letter: PlainLetter,
 ) -> Result<(), NoMemory>
     requires there { a < length actors.old }
     requires rows { IfSome (slice_get actors.old a) (has_rows stand.now) }
-    ensures ok { OnOk result (actors.new ≡ with_letter (with_turn actors.old a (Some (frame_left stand.now turn.now)) turn.now.fields made.now) to letter) }
+    ensures ok { OnOk result (actors.new ≡ with_letter (with_turn actors.old a (Some (frame_left stand.now turn.now)) turn.now.fields turn.now.made) to letter) }
     ensures err { OnErr result (actors.new ≡ actors.old) }
 {
-    actors.add_rows(a, made)?;
+    actors.add_rows(a, turn.made())?;
     match actors.post(to, letter) {
         Ok(()) => {
             actors.keep_turn(a, stand, turn);
@@ -69,18 +63,17 @@ pub(crate) fn print(
     prints: &mut Vec<Value>,
     a: ActorName,
     stand: &Stand,
-    turn: &Scratch,
-    made: &[Row],
+    turn: &Turn,
     value: Value,
 ) -> Result<(), NoMemory>
     requires there { a < length actors.old }
     requires rows { IfSome (slice_get actors.old a) (has_rows stand.now) }
-    ensures ok { OnOk result (actors.new ≡ with_turn actors.old a (Some (frame_left stand.now turn.now)) turn.now.fields made.now) }
+    ensures ok { OnOk result (actors.new ≡ with_turn actors.old a (Some (frame_left stand.now turn.now)) turn.now.fields turn.now.made) }
     ensures prints { OnOk result (prints.new.items ≡ prints.old.items ++ value ∷ []) }
     ensures err { OnErr result (actors.new ≡ actors.old) }
     ensures err_prints { OnErr result (prints.new.items ≡ prints.old.items) }
 {
-    actors.add_rows(a, made)?;
+    actors.add_rows(a, turn.made())?;
     match prints.push(value) {
         Ok(()) => {
             actors.keep_turn(a, stand, turn);
@@ -99,18 +92,17 @@ pub(crate) fn make(
     actors: &mut Table,
     a: ActorName,
     stand: &Stand,
-    turn: &Scratch,
-    made: &[Row],
+    turn: &Turn,
     kind: u32,
 ) -> Result<(), NoMemory>
     requires good { ProgramIsGood program.now }
     requires few { length actors.old < 65536 }
     requires there { a < length actors.old }
     requires rows { IfSome (slice_get actors.old a) (has_rows stand.now) }
-    ensures ok { OnOk result (actors.new ≡ with_turn actors.old a (Some (frame_left stand.now turn.now)) turn.now.fields made.now ++ the_fresh program.now kind ∷ []) }
+    ensures ok { OnOk result (actors.new ≡ with_turn actors.old a (Some (frame_left stand.now turn.now)) turn.now.fields turn.now.made ++ the_fresh program.now kind ∷ []) }
     ensures err { OnErr result (actors.new ≡ actors.old) }
 {
-    actors.add_rows(a, made)?;
+    actors.add_rows(a, turn.made())?;
     match actors.push(fresh_actor(alloc, program, kind)) {
         Ok(()) => {
             actors.keep_turn(a, stand, turn);

@@ -1,14 +1,14 @@
 // Running up to the next act.
 
-ghost use Rattle.std.specs.Prelude.{◌≡◌, ℕ, ◌+◌, ◌<◌, length, map, slice_get, slice_index_or, IsOk, IsErr, IfSome, IfErr, OnOk, OnErr};
-ghost use Rattle.orca_names.specs.declared.names.Value.TheVariants.{Null};
+ghost use Rattle.std.specs.Prelude.{◌≡◌, ℕ, ◌+◌, ◌<◌, length, map, slice_get, IsOk, IsErr, IfSome, IfErr, OnOk, OnErr};
 ghost use Rattle.behaviour_code.specs.Good.{ProgramIsGood};
 ghost use Rattle.event_rule.specs.Runs.{Goes};
 ghost use Rattle.plain_rules.specs.Machine.{after_act, plain_go};
 ghost use Rattle.plain_machine.specs.Faults.{Faulted};
 ghost use Rattle.plain_machine.specs.State.{state_of};
 ghost use Rattle.plain_machine.specs.Undo.{frame_left, has_rows};
-ghost use Rattle.turn_step.specs.Scratch.{act_of};
+ghost use Rattle.turn_rules.specs.Segment.{value_at};
+ghost use Rattle.turn_step.specs.Turns.{act_of};
 
 use crate::acts::{Stand, end, make, print, send};
 use crate::machine::PlainFault;
@@ -16,9 +16,9 @@ use crate::table::{AllRows, Table, actor_at};
 use behaviour_check::Checked;
 use behaviour_code::{Name, Program, Registers};
 use plain_rules::PlainLetter;
-use orca_names::{ACTORS_LIMIT, ActorName, NoMemory, Row, Value};
+use orca_names::{ACTORS_LIMIT, ActorName, NoMemory, Reading, Value};
 use std::alloc::Global;
-use turn_step::{Deed, RegisterFile, Scratch, gather, segment_at};
+use turn_step::{Deed, Setting, Turn, segment_at};
 
 fn outcome(done: Result<(), NoMemory>) -> Result<(), PlainFault>
     ensures ok { OnOk result (IsOk done) }
@@ -31,12 +31,12 @@ fn outcome(done: Result<(), NoMemory>) -> Result<(), PlainFault>
 }
 
 /// A letter with the values of these registers.
-fn letter_of(registers: &RegisterFile, behaviour: Name, values: &Registers) -> PlainLetter
-    ensures { result ≡ record { behaviour = behaviour; args = map (λ r. slice_index_or registers.now r Null) values.now } }
+fn letter_of(turn: &Turn, behaviour: Name, values: &Registers) -> PlainLetter
+    ensures { result ≡ record { behaviour = behaviour; args = map (value_at turn.now) values.now } }
 {
     PlainLetter {
         behaviour,
-        args: gather(registers, values.as_slice()),
+        args: turn.gather(values.as_slice()),
     }
 }
 
@@ -48,15 +48,14 @@ fn commit(
     prints: &mut Vec<Value>,
     a: ActorName,
     stand: &Stand,
-    turn: &mut Scratch,
-    made: &[Row],
+    turn: &mut Turn,
     deed: &Deed<'_>,
 ) -> Result<(), PlainFault>
     requires good { ProgramIsGood program.now }
     requires there { a < length actors.old }
     requires rows { IfSome (slice_get actors.old a) (has_rows stand.now) }
     requires gone { (steps : ℕ) → plain_go (state_of program.now actors.old prints.old.items steps) a
-        ≡ after_act (state_of program.now actors.old prints.old.items steps) a (frame_left stand.now turn.old) turn.old.fields made.now (act_of deed.now turn.old.registers) }
+        ≡ after_act (state_of program.now actors.old prints.old.items steps) a (frame_left stand.now turn.old) turn.old.fields turn.old.made (act_of deed.now turn.old) }
     ensures ok { OnOk result ((steps : ℕ) → plain_go (state_of program.now actors.old prints.old.items steps) a
         ≡ Goes (state_of program.now actors.new prints.new.items (steps + 1))) }
     ensures fault { IfErr result (λ e. (steps : ℕ) → Faulted (plain_go (state_of program.now actors.old prints.old.items steps) a) a e) }
@@ -64,26 +63,26 @@ fn commit(
     ensures same_prints { OnErr result (prints.new.items ≡ prints.old.items) }
 {
     match *deed {
-        Deed::End => outcome(end(actors, a, &turn.fields, made)),
+        Deed::End => outcome(end(actors, a, turn)),
         Deed::Print { register } => {
-            let value = turn.registers.read(register);
-            outcome(print(actors, prints, a, stand, turn, made, value))
+            let value = turn.value(register);
+            outcome(print(actors, prints, a, stand, turn, value))
         }
         Deed::Post {
             to,
             behaviour,
             values,
         } => {
-            let letter = letter_of(&turn.registers, behaviour, values);
-            outcome(send(actors, a, stand, turn, made, to, letter))
+            let letter = letter_of(turn, behaviour, values);
+            outcome(send(actors, a, stand, turn, to, letter))
         }
         Deed::New { kind, into } => {
             if actors.len() >= ACTORS_LIMIT {
                 return Err(PlainFault::ActorsFull { actor: a });
             }
             let name = ActorName(actors.len() as u32);
-            turn.registers.write(into, Value::Actor(name));
-            outcome(make(alloc, program, actors, a, stand, turn, made, kind))
+            turn.put(into, Value::Actor(name));
+            outcome(make(alloc, program, actors, a, stand, turn, kind))
         }
     }
 }
@@ -94,8 +93,7 @@ pub(crate) fn go_in(
     code: &Checked,
     actors: &mut Table,
     prints: &mut Vec<Value>,
-    turn: &mut Scratch,
-    made: &mut Vec<Row>,
+    turn: &mut Turn,
     a: ActorName,
 ) -> Result<(), PlainFault>
     ensures ok { OnOk result ((steps : ℕ) → plain_go (state_of code.now actors.old prints.old.items steps) a
@@ -110,30 +108,27 @@ pub(crate) fn go_in(
     let Some(start) = actor.frame.get() else {
         return Err(PlainFault::NotReady);
     };
-    let kind = start.kind;
-    let behaviour = start.behaviour;
     let rows = actor.rows.as_slice().len();
-    turn.registers = start.registers;
-    turn.fields = actor.fields;
-    made.clear();
-    let done = segment_at(
+    let setting = Setting {
         code,
-        a,
-        kind,
-        behaviour,
-        start.place,
+        me: a,
+        base: rows as u64,
+    };
+    let all = AllRows {
+        actors: actors.as_slice(),
+    };
+    let done = segment_at(
+        &setting,
+        start,
+        &actor.fields,
+        &mut Reading { rows: &all },
         turn,
-        &AllRows {
-            actors: actors.as_slice(),
-        },
-        rows as u64,
-        made,
     );
     match done {
         Ok(stop) => {
             let stand = Stand {
-                kind,
-                behaviour,
+                kind: start.kind,
+                behaviour: start.behaviour,
                 place: stop.place,
                 rows,
             };
@@ -145,7 +140,6 @@ pub(crate) fn go_in(
                 a,
                 &stand,
                 turn,
-                made.as_slice(),
                 &stop.deed,
             )
         }

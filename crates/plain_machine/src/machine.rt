@@ -16,11 +16,11 @@ use crate::reach::reached;
 use crate::table::{Table, count_objects};
 use behaviour_check::Checked;
 use event_rule::Event;
-use orca_names::{ActorName, NoMemory, Row, Thing, Value};
+use orca_names::{ActorName, NoMemory, Thing, Value};
 use std::alloc::Global;
 use std::marker::Model;
 use thiserror::Error;
-use turn_step::Scratch;
+use turn_step::Turn;
 
 /// Why the plain machine refused an event.
 #[derive(Clone, Copy, Debug, PartialEq, Eq, Error)]
@@ -37,15 +37,14 @@ pub enum PlainFault {
 }
 
 /// The machine that frees nothing, seen by contracts as its state: all actors ever made, with their
-/// rows, and what was printed. It keeps room for a turn and for its new rows.
+/// rows, and what was printed. It keeps room for a turn.
 #[derive(Drop)]
 pub struct Plain<'a> {
     code: &'a Checked,
     actors: Table,
     prints: Vec<Value>,
     steps: u64,
-    turn: Scratch,
-    made: Vec<Row>,
+    turn: Turn,
 }
 
 impl<'a> Model for Plain<'a> {
@@ -74,8 +73,7 @@ impl<'a> Plain<'a> {
             actors,
             prints: Vec::new(alloc),
             steps: 0,
-            turn: Scratch::new(),
-            made: Vec::new(alloc),
+            turn: Turn::new(alloc),
         })
     }
 
@@ -116,7 +114,6 @@ impl<'a> Plain<'a> {
             &mut self.actors,
             &mut self.prints,
             &mut self.turn,
-            &mut self.made,
             a,
         ) {
             Ok(()) => {

@@ -1,11 +1,13 @@
 // What is reachable.
 
-ghost use Rattle.std.specs.Prelude.{◌≡◌, ◌↔◌, ◌≤◌, [], ◌++◌, Contains, IfOk, OnOk, flat_map, length};
+ghost use Rattle.std.specs.Prelude.{◌≡◌, ◌↔◌, ◌≤◌, List, [], ◌++◌, Contains, IfOk, OnOk, flat_map, length};
+ghost use Rattle.std.proofs.Common.{ap};
 ghost use Rattle.std.specs.List.Sorted.{IsStrictlySortedBy};
 ghost use Rattle.std.specs.Option.{option_map_or};
 ghost use Rattle.orca_names.specs.Names.{thing_cmp};
 ghost use Rattle.orca_names.specs.declared.names.Thing.{Thing as thing};
 ghost use Rattle.reach_walk.specs.Reach.{Reaches};
+ghost use Rattle.plain_rules.specs.declared.PlainActor.{PlainActor as plain_actor};
 ghost use Rattle.plain_rules.specs.Reach.{is_root, plain_edges, roots_from, values_of};
 ghost use Rattle.plain_machine.specs.Things.{all_things, edges_are_listed};
 
@@ -28,7 +30,11 @@ impl Edges for PlainGraph<'_> {
 
     ghost all = { λ g. all_things g.actors.now };
 
-    fn push_edges(&self, thing: Thing, found: &mut Vec<Value>) -> Result<(), NoMemory> {
+    ghost Kept = { List plain_actor };
+
+    ghost kept = { λ g. g.actors.now };
+
+    fn push_edges(&mut self, thing: Thing, found: &mut Vec<Value>) -> Result<(), NoMemory> {
         match thing {
             Thing::Actor(a) => match actor_at(self.actors, a) {
                 Some(actor) => push_values(actor, found),
@@ -47,6 +53,8 @@ impl Edges for PlainGraph<'_> {
     }
 
     ghost within = { λ g t leads. edges_are_listed g.actors.now t leads };
+
+    ghost same_edges = { λ _ _ same. ap plain_edges same };
 }
 
 fn push_all(values: &[Value], found: &mut Vec<Value>) -> Result<(), NoMemory>
@@ -112,5 +120,5 @@ pub(crate) fn reached(alloc: Global, actors: &[PlainActor]) -> Result<Vec<Thing>
     ensures rising { IfOk result (λ found. IsStrictlySortedBy thing_cmp found.items) }
 {
     let roots = roots(alloc, actors)?;
-    walk(alloc, roots.as_slice(), &PlainGraph { actors })
+    walk(alloc, roots.as_slice(), &mut PlainGraph { actors })
 }

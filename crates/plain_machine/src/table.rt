@@ -21,7 +21,7 @@ use orca_names::{ActorName, Fields, NoMemory, ObjName, Row, Rows};
 use ready_set::ReadySet;
 use std::alloc::Global;
 use std::marker::Model;
-use turn_step::Scratch;
+use turn_step::Turn;
 
 /// The rows of all objects ever made.
 #[derive(Clone, Copy)]
@@ -192,15 +192,15 @@ impl Table {
     }
 
     /// Puts the registers and fields of a turn that goes on into its actor.
-    pub fn keep_turn(&mut self, a: ActorName, stand: &Stand, turn: &Scratch)
+    pub fn keep_turn(&mut self, a: ActorName, stand: &Stand, turn: &Turn)
         requires { a < length self.old }
         ensures { self.new ≡ with_kept self.old a (Some (frame_left stand.now turn.now)) turn.now.fields }
     {
         let actor = &mut self.actors[a.0 as usize];
         actor
             .frame
-            .keep(stand.kind, stand.behaviour, stand.place, &turn.registers);
-        actor.fields = turn.fields;
+            .keep(stand.kind, stand.behaviour, stand.place, turn.registers());
+        actor.fields = *turn.fields();
         self.ready.put(a.0, can_act(actor));
     }
 

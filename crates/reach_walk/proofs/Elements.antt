@@ -1,7 +1,7 @@
 -- Elements of lists.
 use Rattle.std.proofs.Common.{◌≡◌, ℕ, zero, suc, ◌<◌, ◌⊎◌, inl, inr, List, [], ◌∷◌, ◌++◌, length, get_or, map, Contains, refl, sym, subst, arith}
 use Rattle.std.specs.List.{flat_map}
-use Rattle.std.proofs.lemmas.List.Elements.{Contains-append_left, Contains-append_right}
+use Rattle.std.proofs.lemmas.List.Elements.{Contains-append_left, Contains-append_right, Contains-append_cases}
 
 module _ {X : Type 0} where
   pub Contains-head : (x : X) (xs : List X) → Contains (x ∷ xs) x
@@ -29,6 +29,13 @@ module _ {X Y : Type 0} where
   Contains-from_map f (x ∷ xs) y c = elim (Contains-cons_cases (f x) (map f xs) y c) as (λ _. (z : X) × Contains (x ∷ xs) z × (f z ≡ y)) [
     | inl e ↦ (x, Contains-head x xs, e)
     | inr d ↦ let from = Contains-from_map f xs y d in (from.0, Contains-later x xs from.0 from.1, from.2)
+  ]
+
+  pub Contains-from_flat_map : (f : X → List Y) (xs : List X) (y : Y) → Contains (flat_map f xs) y → (x : X) × Contains xs x × Contains (f x) y
+  Contains-from_flat_map f [] y c = none_in_nil y _ c
+  Contains-from_flat_map f (x ∷ xs) y c = elim (Contains-append_cases (f x) (flat_map f xs) y c) as (λ _. (z : X) × Contains (x ∷ xs) z × Contains (f z) y) [
+    | inl d ↦ (x, Contains-head x xs, d)
+    | inr d ↦ let from = Contains-from_flat_map f xs y d in (from.0, Contains-later x xs from.0 from.1, from.2)
   ]
 
   pub Contains-flat_map : (f : X → List Y) (xs : List X) (x : X) (y : Y) → Contains xs x → Contains (f x) y → Contains (flat_map f xs) y

@@ -16,6 +16,15 @@ owners things = map (λ x. Actor (owner_of x)) things
 pub with_owners-keeps : (things : List Thing) (x : Thing) → Contains things x → Contains (with_owners things) x
 with_owners-keeps things x c = Contains-append_left things (owners things) x c
 
+-- what has all of the things has their owners
+pub with_owners-more : (things more : List Thing) → ((x : Thing) → Contains things x → Contains more x) → (x : Thing) → Contains (with_owners things) x → Contains (with_owners more) x
+with_owners-more things more has x c = elim (Contains-append_cases things (owners things) x c) as (λ _. Contains (with_owners more) x) [
+  | inl d ↦ Contains-append_left more (owners more) x (has x d)
+  | inr d ↦
+      let from = Contains-from_map (λ y. Actor (owner_of y)) things x d in
+      subst (Contains (with_owners more)) from.2 (Contains-append_right more (owners more) (Actor (owner_of from.0)) (Contains-map (λ y. Actor (owner_of y)) more from.0 (has from.0 from.1)))
+]
+
 -- they have the owner of each
 pub with_owners-owner : (things : List Thing) (x : Thing) → Contains (with_owners things) x → Contains (with_owners things) (Actor (owner_of x))
 with_owners-owner things x c = elim (Contains-append_cases things (owners things) x c) as (λ _. Contains (with_owners things) (Actor (owner_of x))) [

@@ -1,8 +1,8 @@
 -- Marks and loads: what values reach through finitely many rows, as lists.
-use Rattle.std.specs.Prelude.{◌≡◌, if◌then◌else◌, List, [], ◌∷◌, ◌++◌, Option, Some, None, Contains, map}
+use Rattle.std.specs.Prelude.{ℕ, zero, suc, ◌≡◌, List, [], ◌∷◌, ◌++◌, Option, Some, None, Contains, length, map}
 use Rattle.std.specs.FinMap.Entries.{by_order}
-use Rattle.std.specs.List.{list_any}
-use Rattle.orca_names.specs.Names.{owner_of, thing_cmp, is_thing}
+use Rattle.std.specs.List.{flat_map}
+use Rattle.orca_names.specs.Names.{owner_of, thing_cmp}
 use Rattle.orca_names.specs.declared.names.ObjName.{ObjName}
 use Rattle.orca_names.specs.declared.names.Thing.{Thing}
 use Rattle.orca_names.specs.declared.names.Thing.TheVariants.{Actor, Obj}
@@ -12,14 +12,6 @@ use Rattle.reach_walk.specs.Reach.{named_by, row_edges, thing_row}
 -- every object that has a row is listed
 abbrev pub Covers : List ObjName → (ObjName → Option (List Value)) → Type 0
 Covers all rows = (n : ObjName) (row : List Value) → rows n ≡ Some row → Contains all n
-
--- where things lead when the rows of the listed objects alone are followed: one object more adds
--- where its row leads, if the others lead to it
-unfoldable pub led_to : (ObjName → Option (List Value)) → List ObjName → List Thing → List Thing
-led_to rows [] things = things
-led_to rows (n ∷ names) things =
-    let found = led_to rows names things in
-    if list_any (is_thing (Obj n)) found then found ++ led_to rows names (named_by (row_edges rows (Obj n))) else found
 
 -- things and their owners
 abbrev pub with_owners : List Thing → List Thing
@@ -34,6 +26,19 @@ put_in_order x (y ∷ ys) = by_order (thing_cmp x y) (x ∷ y ∷ ys) (y ∷ ys)
 abbrev pub in_order : List Thing → List Thing
 in_order [] = []
 in_order (x ∷ xs) = put_in_order x (in_order xs)
+
+-- things, and what the rows of the objects among them name
+abbrev pub with_next : (ObjName → Option (List Value)) → List Thing → List Thing
+with_next rows things = in_order (things ++ flat_map (λ x. named_by (row_edges rows x)) things)
+
+-- things, and what they lead to over at most so many rows
+abbrev pub led_over : (ObjName → Option (List Value)) → ℕ → List Thing → List Thing
+led_over rows zero things = things
+led_over rows (suc n) things = led_over rows n (with_next rows things)
+
+-- things, and what they lead to: no shortest way takes a row twice, so it takes at most as many as are listed
+unfoldable pub led_to : (ObjName → Option (List Value)) → List ObjName → List Thing → List Thing
+led_to rows all things = led_over rows (length all) things
 
 -- the marks of values: what they reach through rows, and the owners of what they reach
 unfoldable pub marks_of : (ObjName → Option (List Value)) → List ObjName → List Value → List Thing

@@ -5,14 +5,7 @@ use Rattle.orca_names.specs.declared.names.ObjName.{ObjName}
 use Rattle.orca_names.specs.declared.names.Thing.{Thing}
 use Rattle.orca_names.specs.declared.names.Thing.TheVariants as things
 use Rattle.orca_names.specs.declared.names.Value.{Value}
-use Rattle.orca_names.specs.declared.names.Value.TheVariants.{Null, Num, Actor, Obj}
-
--- the thing that a value names
-abbrev pub thing_of : Value → Option Thing
-thing_of Null = None
-thing_of (Num n) = None
-thing_of (Actor a) = Some (things.Actor a)
-thing_of (Obj n) = Some (things.Obj n)
+pub use Rattle.orca_names.specs.Names.{thing_of}
 
 -- the things that values name, in their order
 abbrev pub named_by : List Value → List Thing

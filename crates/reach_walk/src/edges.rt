@@ -14,13 +14,21 @@ pub trait Edges {
     /// All things that lead on: there are finitely many, so that a walk ends.
     ghost all: { Self → List thing };
 
+    ghost Kept: { Type 0 };
+
+    /// What a walk leaves as it was; the edges are part of it.
+    ghost kept: { Self → Kept };
+
     /// Appends the values that a thing leads to.
     ///
     /// # Errors
     /// `NoMemory` where memory was refused; what `found` holds then is left open.
-    fn push_edges(&self, thing: Thing, found: &mut Vec<Value>) -> Result<(), NoMemory>
-        ensures { OnOk result (found.new.items ≡ found.old.items ++ edges self.now thing) };
+    fn push_edges(&mut self, thing: Thing, found: &mut Vec<Value>) -> Result<(), NoMemory>
+        ensures ok { OnOk result (found.new.items ≡ found.old.items ++ edges self.old thing) }
+        ensures kept { kept self.new ≡ kept self.old };
 
     /// What leads on is among all.
     ghost within: { (s : Self) (t : thing) → edges s t ≢ [] → Contains (all s) t };
+
+    ghost same_edges: { (s t : Self) → kept t ≡ kept s → edges t ≡ edges s };
 }

@@ -4,7 +4,7 @@ ghost use Rattle.std.specs.Prelude.{◌≡◌, ◌↔◌, ◌++◌, Contains, If
 ghost use Rattle.std.specs.List.Sorted.{IsStrictlySortedBy};
 ghost use Rattle.orca_names.specs.Names.{thing_cmp};
 ghost use Rattle.orca_names.specs.declared.names.Thing.{Thing as thing};
-ghost use Rattle.reach_walk.specs.Reach.{named_by, thing_of, Reaches};
+ghost use Rattle.reach_walk.specs.Reach.{named_by, Reaches};
 ghost use Rattle.reach_walk.specs.Walk.{next_of};
 
 use crate::edges::Edges;
@@ -12,24 +12,12 @@ use crate::seen::Seen;
 use orca_names::{NoMemory, Thing, Value};
 use std::alloc::Global;
 
-// The thing that a value names.
-fn named(value: Value) -> Option<Thing>
-    ensures { result ≡ thing_of value }
-{
-    match value {
-        Value::Null => None,
-        Value::Num(_) => None,
-        Value::Actor(a) => Some(Thing::Actor(a)),
-        Value::Obj(n) => Some(Thing::Obj(n)),
-    }
-}
-
 /// Appends the things that the values name.
 pub(crate) fn push_named(things: &mut Vec<Thing>, values: &[Value]) -> Result<(), NoMemory>
     ensures { OnOk result (things.new.items ≡ things.old.items ++ named_by values.now) }
 {
     for value in values {
-        if let Some(thing) = named(*value) {
+        if let Some(thing) = value.thing() {
             things.push(thing)?;
         }
     }
@@ -38,12 +26,13 @@ pub(crate) fn push_named(things: &mut Vec<Thing>, values: &[Value]) -> Result<()
 
 // Where a walk goes on from a thing. The first buffer is for the values of its edges.
 fn find_next<E: Edges>(
-    graph: &E,
+    graph: &mut E,
     thing: Thing,
     values: &mut Vec<Value>,
     next: &mut Vec<Thing>,
 ) -> Result<(), NoMemory>
-    ensures { OnOk result (next.new.items ≡ next_of (E.edges graph.now) thing) }
+    ensures ok { OnOk result (next.new.items ≡ next_of (E.edges graph.old) thing) }
+    ensures kept { E.kept graph.new ≡ E.kept graph.old }
 {
     values.clear();
     graph.push_edges(thing, values)?;
@@ -56,9 +45,10 @@ fn find_next<E: Edges>(
 ///
 /// # Errors
 /// `NoMemory` where memory was refused.
-pub fn walk<E: Edges>(alloc: Global, roots: &[Thing], graph: &E) -> Result<Vec<Thing>, NoMemory>
-    ensures exact { IfOk result (λ found. (x : thing) → Contains found.items x ↔ Reaches (E.edges graph.now) roots.now x) }
+pub fn walk<E: Edges>(alloc: Global, roots: &[Thing], graph: &mut E) -> Result<Vec<Thing>, NoMemory>
+    ensures exact { IfOk result (λ found. (x : thing) → Contains found.items x ↔ Reaches (E.edges graph.old) roots.now x) }
     ensures rising { IfOk result (λ found. IsStrictlySortedBy thing_cmp found.items) }
+    ensures kept { E.kept graph.new ≡ E.kept graph.old }
 {
     let mut seen = Seen::new(alloc);
     let mut values = Vec::new(alloc);

@@ -10,7 +10,7 @@ ghost use Rattle.std.proofs.lemmas.Option.{none-some, slice_get_within};
 ghost use Rattle.orca_names.specs.declared.names.ObjName.{ObjName as object_name};
 
 use crate::{Edges, mark, walk};
-use orca_names::{ActorName, NoMemory, ObjName, Row, Rows, Serial, Thing, Value};
+use orca_names::{ActorName, NoMemory, ObjName, Reading, Row, Rows, Serial, Thing, Value};
 use std::test::Fail;
 
 const fn object(owner: u32, serial: u64) -> ObjName {
@@ -61,11 +61,17 @@ impl Edges for Nowhere {
 
     ghost all = { λ _. [] };
 
-    fn push_edges(&self, _: Thing, _: &mut Vec<Value>) -> Result<(), NoMemory> {
+    ghost Kept = { Unit {0} };
+
+    ghost kept = { λ _. tt };
+
+    fn push_edges(&mut self, _: Thing, _: &mut Vec<Value>) -> Result<(), NoMemory> {
         Ok(())
     }
 
     ghost within = { λ _ _ leads. absurd (leads refl) };
+
+    ghost same_edges = { λ _ _ _. refl };
 }
 
 #[test]
@@ -81,6 +87,7 @@ fn marks_are_what_rows_reach(rt: HostRuntime) -> Result<(), Fail> {
     let shelf = Shelf {
         rows: rows.to_vec(alloc)?,
     };
+    let mut rows = Reading { rows: &shelf };
     let roots = [
         Value::Obj(object(0, 2)),
         Value::Null,
@@ -97,11 +104,11 @@ fn marks_are_what_rows_reach(rt: HostRuntime) -> Result<(), Fail> {
         Thing::Obj(object(4, 9)),
         Thing::Actor(ActorName(7)),
     ];
-    assert_eq!(rt; mark(alloc, &roots, &shelf)?.as_slice(), reached.as_slice());
+    assert_eq!(rt; mark(alloc, &roots, &mut rows)?.as_slice(), reached.as_slice());
     let ring = [Thing::Actor(ActorName(0)), Thing::Obj(object(0, 4))];
     let root = [Value::Obj(object(0, 4))];
-    assert_eq!(rt; mark(alloc, &root, &shelf)?.as_slice(), ring.as_slice());
-    assert_eq!(rt; mark(alloc, &[Value::Num(3)], &shelf)?.len(), 0);
+    assert_eq!(rt; mark(alloc, &root, &mut rows)?.as_slice(), ring.as_slice());
+    assert_eq!(rt; mark(alloc, &[Value::Num(3)], &mut rows)?.len(), 0);
     Ok(())
 }
 
@@ -118,7 +125,7 @@ fn walks_begin_at_their_roots(rt: HostRuntime) -> Result<(), Fail> {
         Thing::Obj(object(6, 1)),
     ];
     assert_eq!(rt;
-        walk(rt.alloc(), &roots, &Nowhere)?.as_slice(),
+        walk(rt.alloc(), &roots, &mut Nowhere)?.as_slice(),
         reached.as_slice()
     );
     Ok(())

@@ -13,7 +13,7 @@ use Rattle.turn_rules.specs.declared.act.Frame.{Frame}
 use Rattle.turn_rules.specs.Segment.{Setting, Turn, Stop, run_from, on_effect, segment_of, step_of, value_at}
 
 -- an instruction makes at most one row
-step_makes : (p : Setting) (i : Instr) (t : Turn) → length (step_of p i t).1.made ≤ length t.made + 1
+pub step_makes : (p : Setting) (i : Instr) (t : Turn) → length (step_of p i t).1.made ≤ length t.made + 1
 step_makes p (I.Row d values) t = omega (arith, length-append t.made (map (value_at t) values ∷ []))
 step_makes p (I.Drop d) t = omega arith
 step_makes p (I.Int d n) t = omega arith

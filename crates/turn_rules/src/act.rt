@@ -1,10 +1,10 @@
-// Acts, effects and frames.
+// Acts and effects, of which the definition of a segment speaks, and frames.
 
 use crate::registers::RegisterFile;
 use behaviour_code::Name;
 use orca_names::{ActorName, Args, Value};
 
-/// What a turn does to others, and where it stops.
+/// What a turn does to others, and where it stops, as the definition has it.
 #[derive(Clone, Copy, Debug)]
 pub enum Act {
     /// Sends the actor a letter for a behaviour, with these arguments.
@@ -26,7 +26,7 @@ pub enum Act {
     End,
 }
 
-/// Where one instruction leads.
+/// Where one instruction leads, as the definition has it.
 #[derive(Clone, Copy, Debug)]
 pub enum Effect {
     /// To the next instruction.
@@ -39,7 +39,7 @@ pub enum Effect {
 
 /// A behaviour that runs: its kind and its place among the kind's behaviours, the place of its next
 /// instruction, and its registers.
-#[derive(Clone, Copy, Debug)]
+#[derive(Clone, Copy, Debug, PartialEq, Eq)]
 pub struct Frame {
     pub kind: u32,
     pub behaviour: u8,

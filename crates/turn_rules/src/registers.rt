@@ -7,7 +7,7 @@ use orca_names::{Args, REGISTERS, Value};
 use std::marker::Model;
 
 /// The sixteen registers of a frame, seen as a list.
-#[derive(Clone, Copy, Debug)]
+#[derive(Clone, Copy, Debug, PartialEq, Eq)]
 pub struct RegisterFile {
     places: [Value; REGISTERS],
 }

@@ -1,37 +1,67 @@
 -- A turn goes on by one instruction, or to a label.
-use Rattle.std.proofs.Common.{◌≡◌, ℕ, ◌+◌, ◌<◌, cond, true, false, List, [], ◌∷◌, length, drop, get_or, None, Some, refl, sym, ap, ◌∙◌}
+use Rattle.std.proofs.Common.{◌≡◌, ℕ, ◌+◌, ◌<◌, cond, true, false, List, [], ◌∷◌, ◌++◌, length, drop, get_or, Option, None, Some, Bool, refl, sym, ap, ◌∙◌}
+use Rattle.std.specs.Prelude.{option_and_then, slice_get, slice_index_or, unwrap_or}
+use Rattle.std.specs.List.{find}
+use Rattle.std.specs.Option.{option_map_or, option_or}
 use Rattle.std.proofs.lemmas.List.{at_drop_more, drop-drop}
+use Rattle.std.proofs.lemmas.List.Elements.{filter_map-append}
+use Rattle.std.proofs.lemmas.List.Folds.{find-append}
+use Rattle.std.proofs.lemmas.Option.{unwrap_or-slice_get}
+use Rattle.orca_names.specs.Names.{thing_of}
+use Rattle.orca_names.specs.declared.names.Thing.{Thing}
+use Rattle.orca_names.specs.declared.names.Value.{Value}
+use Rattle.orca_names.specs.declared.names.Value.TheVariants.{Null}
 use Rattle.behaviour_code.specs.declared.instr.Instr.{Instr}
 use Rattle.behaviour_code.specs.Find.{is_label}
+use Rattle.reach_walk.specs.Reach.{named_by}
 use Rattle.turn_rules.specs.declared.act.Effect.{Effect}
-use Rattle.turn_rules.specs.declared.act.Effect.TheVariants.{Leap}
-use Rattle.turn_rules.specs.Segment.{Setting, Turn, Stop, run_from, on_effect, step_of}
-use Rattle.turn_step.specs.Scratch.{place_after}
+use Rattle.turn_rules.specs.Segment.{Setting, Turn, Stop, got_by, gets_from, gets_on, run_from, on_effect, step_of}
+use Rattle.turn_step.specs.declared.deed.Lead.TheVariants.{Leap}
+use Rattle.turn_step.specs.Held.{first_needed, is_needed}
+use Rattle.turn_step.specs.Turns.{LeadsTo, place_after}
 
--- one instruction more
-pub run_from-next : (p : Setting) (body : List Instr) (i : ℕ) (d : Instr) (t : Turn) → i < length body → run_from p (drop i body) None i t ≡ on_effect (run_from p (drop (i + 1) body)) i (step_of p (get_or body i d) t)
-run_from-next p body i d t h = at_drop_more (λ xs. run_from p xs None i t) body i d h
+-- the value at a place of a row, null where there is none
+pub place_or_null : (row : Option (List Value)) (i : ℕ) → unwrap_or (option_and_then (λ values. slice_get values i) row) Null ≡ option_map_or (λ values. slice_index_or values i Null) row Null
+place_or_null None i = refl
+place_or_null (Some values) i = unwrap_or-slice_get values i Null
 
--- what is sought is found at the place behind the label
-from_part : (p : Setting) (body : List Instr) (name : ℕ) (xs : List Instr) (i : ℕ) (t : Turn) → xs ≡ drop i body → run_from p xs (Some name) i t ≡ run_from p (drop (place_after name xs i) body) None (place_after name xs i) t
-from_part p body name [] i t e = ap (λ ys. run_from p ys None i t) e
-from_part p body name (x ∷ xs) i t e =
-    let rest : xs ≡ drop (i + 1) body = ap (drop 1) e ∙ drop-drop 1 i body in
-    elim (is_label name x) as (λ b. run_from p xs (cond b None (Some name)) (i + 1) t ≡ run_from p (drop (cond b (i + 1) (place_after name xs (i + 1))) body) None (cond b (i + 1) (place_after name xs (i + 1))) t) [
-      | true ↦ ap (λ ys. run_from p ys None (i + 1) t) rest
-      | false ↦ from_part p body name xs (i + 1) t rest
-    ]
+-- what passes all instructions but a label, and stops at none, goes on behind the label, or stops behind all
+module _ {A : Type 0} (go : List Instr → Option ℕ → ℕ → Turn → A) (t : Turn)
+    (stops : (name i : ℕ) → go [] (Some name) i t ≡ go [] None i t)
+    (passes : (name i : ℕ) (x : Instr) (xs : List Instr) → go (x ∷ xs) (Some name) i t ≡ go xs (cond (is_label name x) None (Some name)) (i + 1) t) where
+  from_part : (body : List Instr) (name : ℕ) (xs : List Instr) (i : ℕ) → xs ≡ drop i body → go xs (Some name) i t ≡ go (drop (place_after name xs i) body) None (place_after name xs i) t
+  from_part body name [] i e = stops name i ∙ ap (λ ys. go ys None i t) e
+  from_part body name (x ∷ xs) i e =
+      let rest : xs ≡ drop (i + 1) body = ap (drop 1) e ∙ drop-drop 1 i body in
+      passes name i x xs ∙ (elim (is_label name x) as (λ b. go xs (cond b None (Some name)) (i + 1) t ≡ go (drop (cond b (i + 1) (place_after name xs (i + 1))) body) None (cond b (i + 1) (place_after name xs (i + 1))) t) [
+        | true ↦ ap (λ ys. go ys None (i + 1) t) rest
+        | false ↦ from_part body name xs (i + 1) rest
+      ])
 
-pub run_from-label : (p : Setting) (body : List Instr) (name : ℕ) (i : ℕ) (t : Turn) → run_from p (drop i body) (Some name) i t ≡ run_from p (drop (place_after name (drop i body) i) body) None (place_after name (drop i body) i) t
-run_from-label p body name i t = from_part p body name (drop i body) i t refl
+  to_label : (body : List Instr) (name i place : ℕ) → place ≡ place_after name (drop i body) i → go (drop place body) None place t ≡ go (drop i body) (Some name) i t
+  to_label body name i place e = ap (λ (n : ℕ). go (drop n body) None n t) e ∙ sym (from_part body name (drop i body) i refl)
 
--- a leap goes on behind the label
-pub run_from-leap : (p : Setting) (body : List Instr) (i place label : ℕ) (d : Instr) (effect : Effect) (t u : Turn) (stop : Stop) → i < length body → d ≡ get_or body i d → step_of p d t ≡ (effect, u) → effect ≡ Leap label
-    → place ≡ place_after label (drop (i + 1) body) (i + 1) → run_from p (drop i body) None i t ≡ stop → run_from p (drop place body) None place u ≡ stop
-run_from-leap p body i place label d effect t u stop inside at stepped leaps found before =
-    let go_on : Effect × Turn → Stop = on_effect (run_from p (drop (i + 1) body)) i in
-    let sought : Stop = run_from p (drop (i + 1) body) (Some label) (i + 1) u in
-    let at_label : run_from p (drop place body) None place u ≡ sought = ap (λ (n : ℕ). run_from p (drop n body) None n u) found ∙ sym (run_from-label p body label (i + 1) u) in
-    let at_step : go_on (step_of p d t) ≡ sought = ap go_on (stepped ∙ ap (λ (e : Effect). (e, u)) leaps) in
-    let at_instr : run_from p (drop i body) None i t ≡ go_on (step_of p d t) = run_from-next p body i d t inside ∙ ap (λ (x : Instr). go_on (step_of p x t)) (sym at) in
-    at_label ∙ sym at_step ∙ sym at_instr ∙ before
+-- where the first values name nothing that is needed, the others count
+first_needed-append : (held : Thing → Bool) (xs ys : List Value) → first_needed held xs ≡ None → first_needed held (xs ++ ys) ≡ first_needed held ys
+first_needed-append held xs ys none =
+    ap (find (is_needed held)) (filter_map-append thing_of xs ys) ∙ find-append (is_needed held) (named_by xs) (named_by ys) ∙ ap (λ o. option_or o (first_needed held ys)) none
+
+module _ (p : Setting) (held : Thing → Bool) (body : List Instr) (i place label : ℕ) (d : Instr) (t u : Turn) (inside : i < length body) (at : d ≡ get_or body i d)
+    (leads : LeadsTo (first_needed held (got_by p d t)) (step_of p d t) t (Leap label) u) (found : place ≡ place_after label (drop (i + 1) body) (i + 1)) where
+  -- a leap goes on behind the label
+  pub run_from-leap : run_from p (drop place body) None place u ≡ run_from p (drop i body) None i t
+  run_from-leap =
+      let go_on : Effect × Turn → Stop = on_effect (run_from p (drop (i + 1) body)) i in
+      to_label (run_from p) u (λ name k. refl) (λ name k x xs. refl) body label (i + 1) place found
+      ∙ sym (ap go_on leads.1)
+      ∙ ap (λ (x : Instr). go_on (step_of p x t)) at
+      ∙ sym (at_drop_more (λ xs. run_from p xs None i t) body i d inside)
+
+  -- so do the values that it gets
+  pub gets_from-leap : first_needed held (gets_from p (drop place body) None place u) ≡ first_needed held (gets_from p (drop i body) None i t)
+  gets_from-leap =
+      let go_on : Effect × Turn → List Value = gets_on (gets_from p (drop (i + 1) body)) i in
+      ap (first_needed held) (to_label (gets_from p) u (λ name k. refl) (λ name k x xs. refl) body label (i + 1) place found ∙ sym (ap go_on leads.1))
+      ∙ sym (first_needed-append held (got_by p d t) (go_on (step_of p d t)) leads.0)
+      ∙ ap (λ (x : Instr). first_needed held (got_by p x t ++ go_on (step_of p x t))) at
+      ∙ sym (ap (first_needed held) (at_drop_more (λ xs. gets_from p xs None i t) body i d inside))

@@ -1,12 +1,12 @@
 // Where an instruction leads, small enough to be handed on: what an act names stays in the registers.
 
-ghost use Rattle.std.specs.Prelude.{◌≡◌, ◌≤◌, length};
-ghost use Rattle.turn_step.specs.Scratch.{act_of};
+ghost use Rattle.std.specs.Prelude.{◌≡◌};
+ghost use Rattle.turn_step.specs.Turns.{act_of, answer_of};
 
-use crate::parts::gather;
+use crate::act::Act;
+use crate::turn::Turn;
 use behaviour_code::{Name, Registers};
-use orca_names::ActorName;
-use turn_rules::{Act, RegisterFile};
+use orca_names::{ActorName, Thing};
 
 /// What a turn does to others, and where it stops: an act whose values stand in registers.
 #[derive(Clone, Copy, Debug)]
@@ -39,11 +39,29 @@ pub(crate) enum Lead<'p> {
     Leap(Name),
     /// Out of the turn, by a deed.
     Does(Deed<'p>),
+    /// Out of the turn, since it gets a thing that the actor needs.
+    Needs(Thing),
+}
+
+/// What a turn stopped with: its deed, and the place behind it.
+#[derive(Clone, Copy, Debug)]
+pub struct Stopped<'p> {
+    pub deed: Deed<'p>,
+    pub place: u32,
+}
+
+/// How a turn ends.
+#[derive(Clone, Copy, Debug)]
+pub enum Halt<'p> {
+    /// By a deed.
+    Stops(Stopped<'p>),
+    /// By no deed: it gets this thing from a row, which the actor does not hold, or not its owner.
+    Needs(Thing),
 }
 
 /// The act of a deed.
-pub(crate) fn act_of(deed: &Deed<'_>, registers: &RegisterFile) -> Act
-    ensures { result ≡ act_of deed.now registers.now }
+pub(crate) fn act_of(deed: &Deed<'_>, turn: &Turn) -> Act
+    ensures { result ≡ answer_of (act_of deed.now turn.now) }
 {
     match *deed {
         Deed::Post {
@@ -53,11 +71,11 @@ pub(crate) fn act_of(deed: &Deed<'_>, registers: &RegisterFile) -> Act
         } => Act::Post {
             to,
             behaviour,
-            args: gather(registers, values.as_slice()),
+            args: turn.gather(values.as_slice()),
         },
         Deed::New { kind, into } => Act::New { kind, into },
         Deed::Print { register } => Act::Print {
-            value: registers.read(register),
+            value: turn.value(register),
         },
         Deed::End => Act::End,
     }

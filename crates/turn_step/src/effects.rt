@@ -1,22 +1,22 @@
 // Where an instruction leads: leaps and acts.
 
-ghost use Rattle.std.specs.Prelude.{◌≡◌, ◌≤◌, List, length, map, slice_index_or};
+ghost use Rattle.std.specs.Prelude.{◌≡◌, None, map};
 ghost use Rattle.std.specs.Option.{option_map_or};
-ghost use Rattle.orca_names.specs.declared.names.Value.TheVariants.{Null};
 ghost use Rattle.behaviour_code.specs.Find.{kind_named};
-ghost use Rattle.turn_rules.specs.Segment.{leap_if_zero, post_to};
-ghost use Rattle.orca_names.specs.declared.names.Value as names;
-ghost use Rattle.turn_step.specs.Scratch.{effect_of};
+ghost use Rattle.turn_rules.specs.declared.act.Act.TheVariants as A;
+ghost use Rattle.turn_rules.specs.declared.act.Effect.TheVariants as E;
+ghost use Rattle.turn_rules.specs.Segment.{Turn as turn_state, leap_if_zero, post_to, value_at};
+ghost use Rattle.turn_step.specs.Turns.{LeadsTo};
 
 use crate::deed::{Deed, Lead};
-use crate::parts::find_kind;
-use crate::scratch::Scratch;
-use behaviour_code::{Name, Program, Registers};
+use crate::setting::Setting;
+use crate::turn::Turn;
+use behaviour_code::{Name, Registers};
 use orca_names::Value;
 
 /// Leaps to a label where the number is 0.
 pub(crate) fn leap_if_zero(number: u64, label: Name) -> Lead<'static>
-    ensures { (registers : List names.Value) → effect_of result registers ≡ leap_if_zero number label }
+    ensures { (t : turn_state) → LeadsTo None (leap_if_zero number label, t) t result t }
 {
     if number == 0 {
         Lead::Leap(label)
@@ -26,21 +26,20 @@ pub(crate) fn leap_if_zero(number: u64, label: Name) -> Lead<'static>
 }
 
 /// Makes an actor of the kind of this name; an unknown kind makes nothing.
-pub(crate) fn new_actor(program: &Program, kind: Name, into: u64) -> Lead<'static>
-    requires { length program.now.kinds ≤ 256 }
-    ensures { let known = kind_named program.now kind in
-        result ≡ option_map_or (λ k. Lead.Does (Deed.New k into)) known Lead.Next }
+pub(crate) fn new_actor(setting: &Setting<'_>, kind: Name, into: u64) -> Lead<'static>
+    ensures { let known = kind_named setting.now.code.now kind in
+        (t : turn_state) → LeadsTo None (option_map_or (λ k. E.Acts (A.New k into)) known E.Next, t) t result t }
 {
-    match find_kind(program, kind) {
+    match setting.find_kind(kind) {
         Some(kind) => Lead::Does(Deed::New { kind, into }),
         None => Lead::Next,
     }
 }
 
 /// Sends the values of so many registers to a register's actor; what is no actor gets nothing.
-pub(crate) fn post<'p>(turn: &Scratch, to: u64, behaviour: Name, values: &'p Registers) -> Lead<'p>
-    ensures { effect_of result turn.now.registers ≡ post_to (slice_index_or turn.now.registers to Null) behaviour
-        (map (λ r. slice_index_or turn.now.registers r Null) values.now) }
+pub(crate) fn post<'p>(turn: &Turn, to: u64, behaviour: Name, values: &'p Registers) -> Lead<'p>
+    ensures { let args = map (value_at turn.now) values.now in
+        LeadsTo None (post_to (value_at turn.now to) behaviour args, turn.now) turn.now result turn.now }
 {
     match turn.value(to) {
         Value::Actor(to) => Lead::Does(Deed::Post {

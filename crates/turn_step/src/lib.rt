@@ -1,19 +1,24 @@
 //! One turn of an actor: a frame runs up to and with its next act.
 #![tactic(auto)]
 
+mod act;
+mod answer;
 mod arithmetic;
 mod deed;
 mod effects;
-mod parts;
+mod held;
 mod run;
-mod scratch;
+mod setting;
 mod step;
+mod turn;
 
-pub use deed::Deed;
-pub use parts::gather;
-pub use run::{Stopped, segment, segment_at};
-pub use scratch::Scratch;
-pub use turn_rules::{Act, Frame, RegisterFile};
+pub use act::Act;
+pub use answer::{segment, segment_held};
+pub use deed::{Deed, Halt, Stopped};
+pub use run::{segment_at, segment_held_at};
+pub use setting::Setting;
+pub use turn::Turn;
+pub use turn_rules::{Frame, RegisterFile};
 
 #[cfg(test)]
 mod tests;

@@ -1,17 +1,19 @@
-// A turn, up to its next act.
+// A turn in place, up to its next act.
 
-ghost use Rattle.std.specs.Prelude.{◌≡◌, ◌+◌, ◌<◌, ◌≤◌, ◌^◌, length, drop, max, None, [], IfOk, OnErr};
-ghost use Rattle.behaviour_code.specs.Find.{body_of, is_label};
-ghost use Rattle.turn_rules.specs.Segment.{Setting, Stop, run_from, segment_of};
-ghost use Rattle.turn_step.specs.Scratch.{act_of, turn_of, place_after};
+ghost use Rattle.std.specs.Prelude.{◌≡◌, ◌+◌, ◌≤◌, length, drop, None, IfOk, OnOk};
+ghost use Rattle.behaviour_code.specs.Find.{is_label};
+ghost use Rattle.turn_rules.specs.Segment.{gets_from, run_from, segment_of};
+ghost use Rattle.turn_step.specs.Held.{first_needed, needed_in};
+ghost use Rattle.turn_step.specs.Turns.{HaltsAt, act_of, place_after, setting_of};
 
-use crate::deed::{Deed, Lead, act_of};
-use crate::scratch::Scratch;
+use crate::deed::{Deed, Halt, Lead, Stopped};
+use crate::held::AllHeld;
+use crate::setting::Setting;
 use crate::step::step;
-use behaviour_check::Checked;
-use behaviour_code::{Instr, Name, Program};
-use orca_names::{ActorName, Fields, NoMemory, Row, Rows};
-use turn_rules::{Act, Frame};
+use crate::turn::Turn;
+use behaviour_code::{Instr, Name};
+use orca_names::{Fields, HeldTest, NoMemory, RowReader};
+use turn_rules::Frame;
 
 fn is_label(instr: &Instr, name: Name) -> bool
     ensures { result ≡ is_label name instr.now }
@@ -39,129 +41,95 @@ fn after_label(body: &[Instr], from: usize, name: Name) -> usize
     at
 }
 
-/// What a turn ended with: its deed, and the place behind it.
-#[derive(Clone, Copy, Debug)]
-pub struct Stopped<'p> {
-    pub deed: Deed<'p>,
-    pub place: u32,
-}
-
-/// Runs a body from a place up to its next act, and answers its deed and the place behind it.
-fn run<'p, R: Rows>(
-    program: &Program,
-    me: ActorName,
-    base: u64,
-    rows: &R,
+/// Runs a body from a place on, until its next act or until it gets what is needed.
+fn run<'p, R: RowReader, H: HeldTest>(
+    setting: &Setting<'_>,
+    rows: &mut R,
+    held: &H,
     body: &'p [Instr],
-    place: usize,
-    turn: &mut Scratch,
-    made: &mut Vec<Row>,
-) -> Result<(Deed<'p>, usize), NoMemory>
-    requires kinds { length program.now.kinds ≤ 256 }
-    requires room { base + length made.old.items + length body.now < 2 ^ 64 }
-    ensures ok { IfOk result (λ r. run_from (record { program = program.now; me = me; base = base; rows = R.rows rows.now }) (drop place body.now) None place (turn_of turn.old made.old.items) ≡ record { act = act_of r.0 turn.new.registers; place = r.1; turn = turn_of turn.new made.new.items }) }
-    ensures within { IfOk result (λ r. r.1 ≤ max place (length body.now)) }
-    ensures few { length made.new.items ≤ length made.old.items + length body.now }
+    place: u32,
+    turn: &mut Turn,
+) -> Result<Halt<'p>, NoMemory>
+    requires { length turn.old.made + length body.now ≤ 1024 }
+    ensures ok { let p = setting_of setting.now (R.rows rows.old) in
+        let rest = drop place body.now in
+        let needed = first_needed (H.held held.now) (gets_from p rest None place turn.old) in
+        IfOk result (λ halt. HaltsAt needed (run_from p rest None place turn.old) halt turn.new) }
+    ensures few { OnOk result (length turn.new.made ≤ length turn.old.made + length body.now) }
+    ensures same { (R.rows rows.new ≡ R.rows rows.old) × (R.all rows.new ≡ R.all rows.old) }
 {
-    let mut at = place;
+    let mut at = place as usize;
     while at < body.len() {
-        let done = step(program, me, base, rows, &body[at], turn, made);
+        let done = step(setting, rows, held, &body[at], turn);
         at += 1;
         match done {
             Ok(lead) => match lead {
                 Lead::Next => {}
                 Lead::Leap(label) => at = after_label(body, at, label),
-                Lead::Does(deed) => return Ok((deed, at)),
+                Lead::Does(deed) => return Ok(Halt::Stops(Stopped {
+                    deed,
+                    place: at as u32,
+                })),
+                Lead::Needs(thing) => return Ok(Halt::Needs(thing)),
             },
             Err(e) => return Err(e),
         }
     }
-    Ok((Deed::End, at))
+    Ok(Halt::Stops(Stopped {
+        deed: Deed::End,
+        place: at as u32,
+    }))
 }
 
-/// Runs a behaviour of an actor from a place up to and with its next act, in place. The rows that it
-/// makes are named from serial `base` on; they stand in `made`.
+/// Runs a frame of an actor up to and with its next act, in place, by a test of what the actor holds.
+/// The turn begins with the frame's registers and with these fields. The rows that it makes are named
+/// from the setting's serial on.
 ///
 /// # Errors
-/// Where memory is refused, `made` is empty again; what `turn` holds then is left open.
-pub fn segment_at<'p, R: Rows>(
-    code: &'p Checked,
-    me: ActorName,
-    kind: u32,
-    behaviour: u8,
-    place: u32,
-    turn: &mut Scratch,
-    rows: &R,
-    base: u64,
-    made: &mut Vec<Row>,
+/// `NoMemory` where memory was refused. What the turn holds then, and where it halts at a thing that
+/// is needed, is left open.
+pub fn segment_held_at<'p, R: RowReader, H: HeldTest>(
+    setting: &Setting<'p>,
+    frame: &Frame,
+    fields: &Fields,
+    rows: &mut R,
+    held: &H,
+    turn: &mut Turn,
+) -> Result<Halt<'p>, NoMemory>
+    ensures ok { let p = setting_of setting.now (R.rows rows.old) in
+        let needed = needed_in (H.held held.now) p frame.now fields.now in
+        IfOk result (λ halt. HaltsAt needed (segment_of p frame.now fields.now) halt turn.new) }
+    ensures few { OnOk result (length turn.new.made ≤ 1024) }
+    ensures same { (R.rows rows.new ≡ R.rows rows.old) × (R.all rows.new ≡ R.all rows.old) }
+{
+    turn.begin(&frame.registers, fields);
+    let body = setting.code.program().body(frame.kind, frame.behaviour);
+    run(setting, rows, held, body, frame.place, turn)
+}
+
+/// Runs a frame of an actor up to and with its next act, in place. The turn begins with the frame's
+/// registers and with these fields. The rows that it makes are named from the setting's serial on.
+///
+/// # Errors
+/// `NoMemory` where memory was refused; what the turn holds then is left open.
+pub fn segment_at<'p, R: RowReader>(
+    setting: &Setting<'p>,
+    frame: &Frame,
+    fields: &Fields,
+    rows: &mut R,
+    turn: &mut Turn,
 ) -> Result<Stopped<'p>, NoMemory>
-    requires room { base + 1024 < 2 ^ 64 }
-    requires fresh { made.old.items ≡ [] }
-    ensures ok { IfOk result (λ stop. segment_of (record { program = code.now; me = me; base = base; rows = R.rows rows.now }) (record { kind = kind; behaviour = behaviour; place = place; registers = turn.old.registers }) turn.old.fields
-        ≡ record { act = act_of stop.deed turn.new.registers; place = stop.place; turn = turn_of turn.new made.new.items }) }
-    ensures few { length made.new.items ≤ 1024 }
-    ensures made { OnErr result (made.new.items ≡ made.old.items) }
+    ensures ok { let p = setting_of setting.now (R.rows rows.old) in
+        IfOk result (λ stop. segment_of p frame.now fields.now
+        ≡ record { act = act_of stop.deed turn.new; place = stop.place; turn = turn.new }) }
+    ensures few { OnOk result (length turn.new.made ≤ 1024) }
+    ensures same { (R.rows rows.new ≡ R.rows rows.old) × (R.all rows.new ≡ R.all rows.old) }
 {
-    let program = code.program();
-    let body = program.body(kind, behaviour);
-    match run(program, me, base, rows, body, place as usize, turn, made) {
-        Ok((deed, stop)) => Ok(Stopped {
-            deed,
-            place: stop as u32,
-        }),
-        Err(e) => {
-            made.clear();
-            Err(e)
-        }
-    }
-}
-
-/// Runs the frame of an actor up to and with its next act. The rows that it makes are named from
-/// serial `base` on; they stand in `made`.
-///
-/// # Errors
-/// Where memory is refused, nothing changes.
-pub fn segment<R: Rows>(
-    code: &Checked,
-    me: ActorName,
-    frame: &mut Frame,
-    fields: &mut Fields,
-    rows: &R,
-    base: u64,
-    made: &mut Vec<Row>,
-) -> Result<Act, NoMemory>
-    requires room { base + 1024 < 2 ^ 64 }
-    requires fresh { made.old.items ≡ [] }
-    ensures ok { IfOk result (λ act. segment_of (record { program = code.now; me = me; base = base; rows = R.rows rows.now }) frame.old fields.old
-        ≡ record { act = act; place = frame.new.place; turn = record { registers = frame.new.registers; fields = fields.new; made = made.new.items } }) }
-    ensures kind { frame.new.kind ≡ frame.old.kind }
-    ensures behaviour { frame.new.behaviour ≡ frame.old.behaviour }
-    ensures few { length made.new.items ≤ 1024 }
-    ensures frame { OnErr result (frame.new ≡ frame.old) }
-    ensures fields { OnErr result (fields.new ≡ fields.old) }
-    ensures made { OnErr result (made.new.items ≡ made.old.items) }
-{
-    let mut turn = Scratch {
-        registers: frame.registers,
-        fields: *fields,
-    };
-    match segment_at(
-        code,
-        me,
-        frame.kind,
-        frame.behaviour,
-        frame.place,
-        &mut turn,
-        rows,
-        base,
-        made,
-    ) {
-        Ok(stop) => {
-            frame.place = stop.place;
-            frame.registers = turn.registers;
-            *fields = turn.fields;
-            Ok(act_of(&stop.deed, &turn.registers))
-        }
+    match segment_held_at(setting, frame, fields, rows, &AllHeld, turn) {
+        Ok(halt) => match halt {
+            Halt::Stops(stop) => Ok(stop),
+            Halt::Needs(_) => unreachable!(),
+        },
         Err(e) => Err(e),
     }
 }

@@ -1,15 +1,18 @@
 // Examples from outside of the contracts: each instruction, the edges of what it reads, and the acts.
 
-ghost use Rattle.std.specs.Prelude.{◌≡◌, ◌∷◌, ◌&&◌, ◌==◌, ◌<◌, ◌≤◌, [], true, false, None, Some, Contains, if◌then◌else◌, length, IfOk, IfSome};
+ghost use Rattle.std.specs.Prelude.{◌≡◌, ◌∷◌, ◌&&◌, not, ◌==◌, ◌<◌, ◌≤◌, [], true, false, None, Some, Contains, if◌then◌else◌, length, IfOk, IfSome};
 ghost use Rattle.std.proofs.Common.{refl, sym, arith};
 ghost use Rattle.std.proofs.lemmas.Bool.{and_parts, eqb-true};
 ghost use Rattle.std.proofs.lemmas.Option.{none-some};
+ghost use Rattle.orca_names.specs.Names.{is_thing};
 ghost use Rattle.behaviour_code.specs.Good.{Each, InstrFits, ProgramIsGood, name_in};
 
-use crate::{Act, Frame, RegisterFile, segment};
-use behaviour_check::{CheckFault, check};
+use crate::{Act, Frame, RegisterFile, segment, segment_held};
+use behaviour_check::{CheckFault, Checked, check};
 use behaviour_code::{Behaviour, Instr, Kind, Name, Names, Program, Registers, RowRegisters};
-use orca_names::{ActorName, Args, Fields, ObjName, Row, Rows, Serial, Value};
+use orca_names::{
+    ActorName, Args, Fields, HeldTest, ObjName, Reading, Row, Rows, Serial, Thing, Value,
+};
 use plain_list::Listed;
 use std::alloc::{AllocError, Global};
 use std::test::Fail;
@@ -93,21 +96,32 @@ fn program(alloc: Global, body: Vec<Instr>) -> Result<Program, AllocError>
     })
 }
 
-// What a turn leaves, and what it made.
+// What an actor holds that lacks one thing.
 #[derive(Drop)]
-struct Left {
-    act: Act,
-    frame: Frame,
-    fields: Fields,
-    made: Vec<Row>,
+struct AllBut(Thing);
+
+impl HeldTest for AllBut {
+    ghost held = { λ s x. not (is_thing x s.0) };
+
+    fn holds(&self, thing: Thing) -> bool {
+        thing.cmp(&self.0).is_ne()
+    }
 }
 
-// A turn of actor 4 from a place of the body on, over the row of its object 2; its next object is 3.
-fn turn(alloc: Global, body: Vec<Instr>, place: u32) -> Result<Left, Fail>
+// Where a turn of actor 4 starts, over the row of its object 2.
+#[derive(Drop)]
+struct Start {
+    code: Checked,
+    frame: Frame,
+    fields: Fields,
+    rows: OneRow,
+}
+
+// At a place of the body.
+fn start_at(alloc: Global, body: Vec<Instr>, place: u32) -> Result<Start, Fail>
     requires short { length body.items ≤ 1024 }
     requires good { Each (λ i. InstrFits i × IfSome (name_in i) (λ n. n < 2)) body.items }
 {
-    let code = check(program(alloc, body)?)?;
     let values = [
         Value::Num(7),
         Value::Num(18_446_744_073_709_551_615),
@@ -118,25 +132,83 @@ fn turn(alloc: Global, body: Vec<Instr>, place: u32) -> Result<Left, Fail>
         Value::Num(0),
         object(ME, 2),
     ];
-    let mut frame = Frame {
-        kind: 0,
-        behaviour: 0,
-        place,
-        registers: RegisterFile::of(&Args::of(&values)),
-    };
-    let mut fields = Fields {
-        values: Args::of(&[Value::Num(3), Value::Null]),
-        pinned: false,
-    };
-    let rows = OneRow {
-        name: ObjName {
-            owner: ME,
-            serial: Serial::of(2),
+    Ok(Start {
+        code: check(program(alloc, body)?)?,
+        frame: Frame {
+            kind: 0,
+            behaviour: 0,
+            place,
+            registers: RegisterFile::of(&Args::of(&values)),
         },
-        row: Row::of(&[Value::Num(5), Value::Actor(OTHER)]),
-    };
+        fields: Fields {
+            values: Args::of(&[Value::Num(3), Value::Null]),
+            pinned: false,
+        },
+        rows: OneRow {
+            name: ObjName {
+                owner: ME,
+                serial: Serial::of(2),
+            },
+            row: Row::of(&[Value::Num(5), Value::Actor(OTHER)]),
+        },
+    })
+}
+
+// What a turn leaves, and what it made.
+#[derive(Drop)]
+struct Left {
+    act: Act,
+    frame: Frame,
+    fields: Fields,
+    made: Vec<Row>,
+}
+
+// What the turn leaves; the actor's next object is 3.
+fn turn(alloc: Global, body: Vec<Instr>, place: u32) -> Result<Left, Fail>
+    requires short { length body.items ≤ 1024 }
+    requires good { Each (λ i. InstrFits i × IfSome (name_in i) (λ n. n < 2)) body.items }
+{
+    let Start {
+        code,
+        mut frame,
+        mut fields,
+        rows,
+    } = start_at(alloc, body, place)?;
+    let mut rows = Reading { rows: &rows };
     let mut made = Vec::new(alloc);
-    let act = segment(&code, ME, &mut frame, &mut fields, &rows, 3, &mut made)?;
+    let act = segment(&code, ME, &mut frame, &mut fields, &mut rows, 3, &mut made)?;
+    Ok(Left {
+        act,
+        frame,
+        fields,
+        made,
+    })
+}
+
+// What the turn leaves where the actor lacks a thing.
+fn turn_without(alloc: Global, body: Vec<Instr>, lacked: Thing) -> Result<Left, Fail>
+    requires short { length body.items ≤ 1024 }
+    requires good { Each (λ i. InstrFits i × IfSome (name_in i) (λ n. n < 2)) body.items }
+{
+    let Start {
+        code,
+        mut frame,
+        mut fields,
+        rows,
+    } = start_at(alloc, body, 0)?;
+    let mut rows = Reading { rows: &rows };
+    let held = AllBut(lacked);
+    let mut made = Vec::new(alloc);
+    let act = segment_held(
+        &code,
+        ME,
+        &mut frame,
+        &mut fields,
+        &mut rows,
+        &held,
+        3,
+        &mut made,
+    )?;
     Ok(Left {
         act,
         frame,
@@ -271,7 +343,7 @@ fn jumps(rt: HostRuntime) -> Result<(), Fail> {
     let left = turn(alloc, jumps, 0)?;
     let want = [Value::Num(1), Value::Null, Value::Null, Value::Num(1)];
     assert_eq!(rt; &left.frame.registers.as_slice()[8..12], want.as_slice());
-    assert!(rt; matches!(left.act, Act::End));
+    assert_eq!(rt; left.act, Act::End);
     assert_eq!(rt; left.frame.place, 8);
     Ok(())
 }
@@ -288,20 +360,17 @@ fn acts(rt: HostRuntime) -> Result<(), Fail> {
         Instr::Print(1),
     ]?;
     let left = turn(alloc, prints, 0)?;
-    let act = left.act;
-    match act {
-        Act::Print { value } => assert_eq!(rt; value, Value::Num(7)),
-        _ => assert!(rt; false, "no print"),
-    }
+    assert_eq!(rt;
+        left.act,
+        Act::Print {
+            value: Value::Num(7)
+        }
+    );
     assert_eq!(rt; left.frame.place, 5);
 
     let makes = vec![in alloc; Instr::Print(0), Instr::New(8, START), Instr::Int(8, 1)]?;
     let left = turn(alloc, makes, 1)?;
-    let act = left.act;
-    match act {
-        Act::New { kind, into } => assert_eq!(rt; (kind, into), (1, 8)),
-        _ => assert!(rt; false, "no new actor"),
-    }
+    assert_eq!(rt; left.act, Act::New { kind: 1, into: 8 });
     assert_eq!(rt; left.frame.place, 2);
 
     let sends = vec![in alloc;
@@ -310,19 +379,49 @@ fn acts(rt: HostRuntime) -> Result<(), Fail> {
         Instr::Int(8, 2),
     ]?;
     let left = turn(alloc, sends, 0)?;
-    let act = left.act;
-    match act {
-        Act::Post {
-            to,
-            behaviour,
-            args,
-        } => {
-            assert_eq!(rt; (to, behaviour), (OTHER, MAIN));
-            assert_eq!(rt; args.as_slice(), [Value::Num(1), object(ME, 2)].as_slice());
-        }
-        _ => assert!(rt; false, "no post"),
-    }
+    let post = Act::Post {
+        to: OTHER,
+        behaviour: MAIN,
+        args: Args::of(&[Value::Num(1), object(ME, 2)]),
+    };
+    assert_eq!(rt; left.act, post);
     assert_eq!(rt; left.frame.place, 2);
+    Ok(())
+}
+
+// The second get is of an actor that is lacked, the third of an object whose owner it is.
+fn gets(alloc: Global) -> Result<Vec<Instr>, AllocError>
+    ensures short { IfOk result (λ body. length body.items ≤ 1024) }
+    ensures good { IfOk result (λ body. Each (λ i. InstrFits i × IfSome (name_in i) (λ n. n < 2)) body.items) }
+{
+    let body = vec![in alloc;
+        Instr::Row(8, RowRegisters::of(vec![in alloc; 4, 5]?)),
+        Instr::Store(0, 8),
+        Instr::Get(9, 8, 0),
+        Instr::Get(10, 9, 1),
+        Instr::Get(11, 8, 1),
+        Instr::Print(11),
+    ]?;
+    Ok(body)
+}
+
+#[test]
+fn needs(rt: HostRuntime) -> Result<(), Fail> {
+    let alloc = rt.alloc();
+    let other = Thing::Actor(OTHER);
+    let left = turn_without(alloc, gets(alloc)?, other)?;
+    assert_eq!(rt; left.act, Act::Need { thing: other });
+    let first = start_at(alloc, gets(alloc)?, 0)?;
+    assert_eq!(rt; left.frame, first.frame);
+    assert_eq!(rt; left.fields, first.fields);
+    assert!(rt; left.made.is_empty());
+
+    let held = turn_without(alloc, gets(alloc)?, Thing::Actor(ActorName(77)))?;
+    let left = turn(alloc, gets(alloc)?, 0)?;
+    assert_eq!(rt; held.act, left.act);
+    assert_eq!(rt; held.frame, left.frame);
+    assert_eq!(rt; held.fields, left.fields);
+    assert_eq!(rt; held.made.as_slice(), left.made.as_slice());
     Ok(())
 }
 

@@ -1,8 +1,8 @@
 use Rattle.std.proofs.Common.{ap, length, refl, slice_get, sym, ◌∙◌}
-use Rattle.plain_rules.specs.Machine.{PlainState, after_act, plain_row, turn_of_actor}
+use Rattle.plain_rules.specs.Machine.{PlainState, plain_row, turn_of_actor}
 use Rattle.turn_rules.specs.declared.act.Frame.{Frame}
 use Rattle.turn_rules.specs.Segment.{Setting, segment_of}
-use Rattle.turn_step.specs.Scratch.{act_of}
+use Rattle.turn_step.specs.Turns.{act_of, setting_in}
 use Rattle.plain_machine.specs.State.{state_of}
 use Rattle.plain_machine.proofs.Going.{plain_go-turn}
 use Rattle.plain_machine.proofs.events.go_in.Goals as goal
@@ -15,13 +15,12 @@ commit-requires-clause-gone c = λ steps.
     let x = c.in-Some.actor.now in
     let start = c.in-Some-get.start.now in
     let turn = c.segment_at-done.new.turn in
-    let act = act_of c.in-Ok.stop.deed turn.registers in
+    let act = act_of c.in-Ok.stop.deed turn in
     let frame : Frame = record { kind = start.kind; behaviour = start.behaviour; place = c.in-Ok.stop.place; registers = turn.registers } in
-    plain_go-turn s c.args.a x start frame turn.fields c.segment_at-done.new.made.items act
+    plain_go-turn s c.args.a x start frame turn.fields turn.made act
     (ap (λ xs. slice_get xs c.args.a) (sym c.as_slice.ensures) ∙ sym c.in-Some.ensures) (sym c.in-Some-get.ensures)
     (ap (λ p. turn_of_actor (state_of p c.args.actors.now prints steps) c.args.a x start) c.program.ensures.value
     ∙ ap (λ xs. turn_of_actor (state_of c.args.code.now xs prints steps) c.args.a x start) (sym c.as_slice-2.ensures)
-    ∙ ap (λ rows. let p : Setting = record { program = c.args.code.now; me = c.args.a; base = length rows; rows = plain_row c.as_slice-2.result.now } in segment_of p start x.fields) (sym c.as_slice-rows.ensures)
+    ∙ ap (λ rows. let p : Setting = setting_in c.args.code.now c.args.a (length rows) (plain_row c.as_slice-2.result.now) in segment_of p start x.fields) (sym c.as_slice-rows.ensures)
     ∙ c.in-Ok.ensures.ok)
     refl refl
-    ∙ ap (λ rows. after_act s c.args.a frame turn.fields rows act) (sym c.as_slice-in-Ok.ensures.value)

@@ -7,7 +7,7 @@ use Rattle.reach_walk.proofs.marks.mark.Goals as goal
 
 pub returns-clause-exact : goal.returns-clause-exact
 returns-clause-exact g c =
-    let edges = row_edges (g.R.Rows.rows c.args.rows.now) in
+    let edges = row_edges (g.R.RowReader.rows c.args.rows.now) in
     let named : c.as_slice.result.now ≡ named_by c.args.roots.now =
     from_nothing c.new-things.result.items c.push_named.new.things.items c.as_slice.result.now (named_by c.args.roots.now) c.new-things.ensures.items c.in_ok-push_named.ensures c.as_slice.ensures.value
     in
@@ -16,4 +16,4 @@ returns-clause-exact g c =
 pub returns-clause-list : goal.returns-clause-list
 returns-clause-list g c =
     let rows = c.args.rows.now in
-    marks-found (g.R.Rows.rows rows) (g.R.Rows.all rows) c.args.roots.now (g.met.R.Rows.within rows) c.walk.result (λ found. found.items) (returns-clause-exact g c) c.walk.ensures.rising
+    marks-found (g.R.RowReader.rows rows) (g.R.RowReader.all rows) c.args.roots.now (g.met.R.RowReader.within rows) c.walk.result (λ found. found.items) (returns-clause-exact g c) c.walk.ensures.rising

@@ -1,20 +1,33 @@
-use Rattle.std.proofs.Common.{drop, None, arith, ap}
-use Rattle.turn_rules.specs.Segment.{Setting, Turn, Stop, run_from}
+use Rattle.std.proofs.Common.{◌∙◌, length, arith, ap, subst}
+use Rattle.orca_names.specs.declared.names.Value.{Value}
+use Rattle.turn_rules.specs.Segment.{Turn, got_by, step_of}
+use Rattle.turn_rules.proofs.Bounds.{step_makes}
 use Rattle.turn_step.specs.declared.deed.Lead.{Lead}
-use Rattle.turn_step.specs.Scratch.{effect_of, turn_of}
-use Rattle.turn_step.proofs.Runs.{run_from-leap}
+use Rattle.turn_step.specs.declared.deed.Lead.TheVariants.{Leap}
+use Rattle.turn_step.specs.Held.{first_needed}
+use Rattle.turn_step.specs.Turns.{LeadsTo, setting_of}
+use Rattle.turn_step.proofs.Runs.{run_from-leap, gets_from-leap}
 use Rattle.turn_step.proofs.run.run.Goals as goal
 
 pub loop-at-preserved : goal.loop-at-preserved
 loop-at-preserved g c =
-    let p : Setting = record { program = c.args.program.now; me = c.args.me; base = c.args.base; rows = g.R.Rows.rows c.args.rows.now } in
-    let t : Turn = turn_of c.loop-at.turn c.loop-at.made.items in
-    let u : Turn = turn_of c.step-done.new.turn c.step-done.new.made.items in
-    let stop : Stop = run_from p (drop c.args.place c.args.body.now) None c.args.place (turn_of c.args.turn.now c.args.made.now.items) in
+    let s = c.args.setting.now in
+    let p = setting_of s (g.R.RowReader.rows c.args.rows.now) in
+    let held = g.H.HeldTest.held c.args.held.now in
+    let body = c.args.body.now in
+    let i = c.loop-at.at in
+    let instr = c.index-body-at.result in
+    let t : Turn = c.loop-at.turn in
+    let u : Turn = c.step-done.new.turn in
+    let led = subst (λ lead. LeadsTo (first_needed held (got_by p instr t)) (step_of p instr t) t lead u) c.in-Leap.is
+    (subst (λ rows. let q = setting_of s rows in LeadsTo (first_needed held (got_by q instr t)) (step_of q instr t) t c.in-Ok.lead u) c.loop-at.invariant.rows c.in-Ok.ensures.ok)
+    in
     record {
       above = omega (arith, c.after_label-at.ensures.above);
       within = omega (arith, c.after_label-at.ensures.within);
-      few = omega (arith, c.after_label-at.ensures.above, c.step-done.ensures.rows);
-      rest = run_from-leap p c.args.body.now c.loop-at.at c.after_label-at.result c.in-Leap.label c.index-body-at.result (effect_of c.in-Ok.lead u.registers) t u stop
-          c.loop-at-test.true c.index-body-at.is c.in-Ok.ensures.ok (ap (λ (l : Lead). effect_of l u.registers) c.in-Leap.is) c.after_label-at.ensures.place c.loop-at.invariant.rest;
+      few = omega (arith, c.after_label-at.ensures.above, step_makes p instr t, ap (λ s. length s.1.made) led.1);
+      rest = run_from-leap p held body i c.after_label-at.result c.in-Leap.label instr t u c.loop-at-test.true c.index-body-at.is led c.after_label-at.ensures.place ∙ c.loop-at.invariant.rest;
+      gets = gets_from-leap p held body i c.after_label-at.result c.in-Leap.label instr t u c.loop-at-test.true c.index-body-at.is led c.after_label-at.ensures.place ∙ c.loop-at.invariant.gets;
+      rows = c.step-done.ensures.same.0 ∙ c.loop-at.invariant.rows;
+      names = c.step-done.ensures.same.1 ∙ c.loop-at.invariant.names;
     }

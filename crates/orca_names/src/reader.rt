@@ -1,0 +1,64 @@
+// Reading rows one at a time.
+
+ghost use Rattle.std.specs.Prelude.{◌≡◌, List, Option, Some, Contains, option_and_then, slice_get};
+ghost use Rattle.orca_names.specs.declared.names.ObjName.{ObjName as object_name};
+ghost use Rattle.orca_names.specs.declared.names.Value as names;
+
+use crate::names::{ObjName, Value};
+use crate::row::Row;
+use crate::rows::Rows;
+
+/// Finitely many rows, read one at a time by the names of their objects. A read may use the reader
+/// up to its own ends, as one does that reads shared memory, but the rows stay as they are.
+pub trait RowReader {
+    /// The row at each name, if there is one.
+    ghost rows: { Self → object_name → Option (List names.Value) };
+
+    /// All names that have a row: there are finitely many, so that a walk through rows ends.
+    ghost all: { Self → List object_name };
+
+    /// The row of an object; `None` exactly where it is not there.
+    fn read_row(&mut self, n: ObjName) -> Option<Row>
+        ensures row { result ≡ rows self.old n }
+        ensures same { (rows self.new ≡ rows self.old) × (all self.new ≡ all self.old) };
+
+    /// The value at a place of an object's row, counted from 0; `None` exactly where there is no
+    /// such row or place.
+    fn read_place(&mut self, n: ObjName, i: u64) -> Option<Value>
+        ensures value { result ≡ option_and_then (λ row. slice_get row i) (rows self.old n) }
+        ensures same { (rows self.new ≡ rows self.old) × (all self.new ≡ all self.old) }
+    {
+        match self.read_row(n) {
+            Some(row) => row.get(i),
+            None => None,
+        }
+    }
+
+    /// What has a row is among all names.
+    ghost within: { (s : Self) (n : object_name) (row : List names.Value) → rows s n ≡ Some row → Contains (all s) n };
+}
+
+/// Rows that stand where they can be looked up, as a reader of them.
+#[derive(Clone, Copy)]
+pub struct Reading<'a, R> {
+    pub rows: &'a R,
+}
+
+impl<R: Rows> RowReader for Reading<'_, R> {
+    ghost rows = { λ s. R.rows s.rows.now };
+
+    ghost all = { λ s. R.all s.rows.now };
+
+    fn read_row(&mut self, n: ObjName) -> Option<Row> {
+        self.rows.row_of(n).copied()
+    }
+
+    fn read_place(&mut self, n: ObjName, i: u64) -> Option<Value> {
+        match self.rows.row_of(n) {
+            Some(row) => row.get(i),
+            None => None,
+        }
+    }
+
+    ghost within = { λ s n row e. R.within s.rows.now n row e };
+}
