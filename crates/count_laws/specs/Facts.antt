@@ -13,7 +13,8 @@ use Rattle.count_laws.specs.Prefixes.{NeverOverdraws}
 use Rattle.machine_rules.specs.Cell.{Cell}
 use Rattle.count_laws.specs.Known.{IsSoundAt}
 use Rattle.count_laws.specs.KnownByRoots.{IsRootsAt}
-use Rattle.machine_rules.specs.Options.{Trace, Deep, Roots}
+use Rattle.orca_names.specs.declared.trace.Trace.{Trace}
+use Rattle.orca_names.specs.declared.trace.Trace.TheVariants.{Deep, Roots}
 use Rattle.plain_rules.specs.Machine.{PlainState, objects_made, plain_row}
 use Rattle.machine_rules.specs.State.{State}
 

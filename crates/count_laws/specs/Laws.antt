@@ -9,7 +9,9 @@ use Rattle.machine_rules.specs.Enabled.{CanHappen, IsRefusedAsFull}
 use Rattle.event_rule.specs.Runs.{Ending, EndsAs, IsEnabled, Goes, IsFull}
 use Rattle.count_laws.specs.Facts.{Facts}
 use Rattle.machine_rules.specs.Next.{next}
-use Rattle.machine_rules.specs.Options.{Deep, Options, Trace}
+use Rattle.orca_names.specs.declared.trace.Trace.{Trace}
+use Rattle.orca_names.specs.declared.trace.Trace.TheVariants.{Deep}
+use Rattle.machine_rules.specs.Options.{Options}
 use Rattle.plain_rules.specs.Machine.{PlainState, start_of}
 use Rattle.machine_rules.specs.Run.{IsRun, PlainFollows, is_choice}
 use Rattle.machine_rules.specs.State.{State, first_state}

@@ -6,7 +6,8 @@ use Rattle.letter_kinds.specs.Holdings.{own_in}
 use Rattle.letter_kinds.specs.Sums.{dec_of, inc_of, load_count}
 use Rattle.machine_rules.specs.Actors.{Actors, Seat}
 use Rattle.machine_rules.specs.Balance.{owner_seat}
-use Rattle.machine_rules.specs.Options.{Trace, Deep, Roots}
+use Rattle.orca_names.specs.declared.trace.Trace.{Trace}
+use Rattle.orca_names.specs.declared.trace.Trace.TheVariants.{Deep, Roots}
 
 -- what is left where an increment still waits
 abbrev pub spare : Trace → ℕ

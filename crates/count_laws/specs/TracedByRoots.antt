@@ -9,7 +9,7 @@ use Rattle.machine_rules.specs.Balance.{held_sum, load_sum}
 use Rattle.count_laws.specs.Prefixes.{NeverOverdraws}
 use Rattle.count_laws.specs.Clean.{IsCleanByRootsAt}
 use Rattle.count_laws.specs.KnownByRoots.{IsBacked, IsKnownWithOwner, IsNamedIn}
-use Rattle.machine_rules.specs.Options.{Roots}
+use Rattle.orca_names.specs.declared.trace.Trace.TheVariants.{Roots}
 
 -- somebody holds it, or a letter that is none of the first k of its owner's loads it, or an Inc for it
 -- stands behind them

@@ -21,7 +21,7 @@ use Rattle.machine_examples.proofs.Ledgers.{Ledger, entries-in_order, held_in-to
 use Rattle.machine_rules.specs.Cell.{Cell, listed_objects, object_name, own_row_of, row_by_roots}
 use Rattle.machine_rules.specs.Collect.{is_in_use, is_marked_by_roots, start_of_marks, without_unused}
 use Rattle.machine_rules.specs.Go.{lacks, needs, to_need}
-use Rattle.machine_rules.specs.Options.{Roots}
+use Rattle.orca_names.specs.declared.trace.Trace.TheVariants.{Roots}
 use Rattle.machine_rules.specs.Take.{learn}
 
 -- objects of others, with their rows

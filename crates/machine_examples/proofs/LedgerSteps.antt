@@ -33,7 +33,9 @@ use Rattle.machine_rules.specs.Detect.{held_outside, reaped, acked_token, hear, 
 use Rattle.machine_rules.specs.Go.{act_in, load_from, needed, needing, mint, post_or_mint, rows_from, setting_of, turn_of_cell, turned, go, turn_in}
 use Rattle.event_rule.specs.Runs.{Leads, Step, IsFull, Goes, NotEnabled}
 use Rattle.machine_rules.specs.Next.{next, acting}
-use Rattle.machine_rules.specs.Options.{Trace, Deep, Roots, Options}
+use Rattle.orca_names.specs.declared.trace.Trace.{Trace}
+use Rattle.orca_names.specs.declared.trace.Trace.TheVariants.{Deep, Roots}
+use Rattle.machine_rules.specs.Options.{Options}
 use Rattle.plain_rules.specs.Machine.{stopped_at, with_name}
 use Rattle.machine_rules.specs.State.{State, first_state, start_letters}
 use Rattle.machine_rules.specs.Take.{cell_after, note_of, notes_after, take}

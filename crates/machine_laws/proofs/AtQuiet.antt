@@ -24,8 +24,9 @@ use Rattle.event_rule.specs.Runs.{IsQuiet}
 use Rattle.machine_rules.specs.Next.{next}
 use Rattle.plain_rules.specs.Reach.{IsReachable}
 use Rattle.plain_rules.specs.Machine.{PlainState, plain_row}
-use Rattle.machine_rules.specs.Options.{Deep, Trace}
-use Rattle.machine_rules.specs.Options as trace
+use Rattle.orca_names.specs.declared.trace.Trace.{Trace}
+use Rattle.orca_names.specs.declared.trace.Trace.TheVariants.{Deep}
+use Rattle.orca_names.specs.declared.trace.Trace.TheVariants as trace
 use Rattle.machine_rules.specs.State.{State}
 use Rattle.detector_laws.proofs.Cells.{same_some, some_not_none}
 use Rattle.detector_laws.proofs.Quiet.{no_token}

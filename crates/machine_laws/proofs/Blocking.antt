@@ -20,8 +20,9 @@ use Rattle.count_laws.proofs.balance.InHand.{in_hand, none, out_of_hand}
 use Rattle.machine_rules.proofs.Present.{present_below}
 use Rattle.count_laws.proofs.balance.Sends.{cell_balanced, cell_prefix}
 use Rattle.count_laws.proofs.events.Take.{alike_closed, alike_self}
-use Rattle.machine_rules.specs.Options.{Deep, Trace}
-use Rattle.machine_rules.specs.Options as options
+use Rattle.orca_names.specs.declared.trace.Trace.{Trace}
+use Rattle.orca_names.specs.declared.trace.Trace.TheVariants.{Deep}
+use Rattle.orca_names.specs.declared.trace.Trace.TheVariants as options
 use Rattle.machine_rules.specs.Actors.{Actors, cell_at, cell_of, letters_of, mail_at, seat, seat_at, Every}
 use Rattle.count_laws.specs.Agreement.{Person}
 use Rattle.machine_rules.specs.Balance.{load_sum}

@@ -6,7 +6,7 @@ use Rattle.event_rule.specs.Runs.{Leads}
 use Rattle.machine_rules.specs.Next.{next}
 use Rattle.plain_rules.specs.Machine.{PlainState}
 use Rattle.machine_rules.specs.Run.{PlainFollows, choices, choices_after, is_choice}
-use Rattle.machine_rules.specs.Options.{Trace}
+use Rattle.orca_names.specs.declared.trace.Trace.{Trace}
 use Rattle.machine_rules.specs.State.{State}
 use Rattle.machine_laws.proofs.LeavesLess.{leaves_less, work_of}
 use Rattle.machine_laws.proofs.Scanning.{few_asked}

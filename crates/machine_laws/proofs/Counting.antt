@@ -22,7 +22,8 @@ use Rattle.machine_rules.specs.Balance.{IsBalanced, decs_at, held_at, held_sum, 
 use Rattle.count_laws.specs.Bounds.{counted}
 use Rattle.machine_rules.specs.Cell.{Cell}
 use Rattle.count_laws.specs.Letters.{LettersNameTheirOwn}
-use Rattle.machine_rules.specs.Options.{Options, Trace}
+use Rattle.orca_names.specs.declared.trace.Trace.{Trace}
+use Rattle.machine_rules.specs.Options.{Options}
 use Rattle.event_rule.specs.Runs.{Leads}
 use Rattle.machine_rules.specs.Next.{next}
 use Rattle.plain_rules.specs.Machine.{PlainState, start_of}

@@ -27,7 +27,8 @@ use Rattle.machine_rules.specs.Actors.{Actors, Seat, push_decs, push_letter, sea
 use Rattle.machine_rules.specs.Cell.{Cell, row_by_roots}
 use Rattle.machine_rules.specs.Detect.{ask_all, held_outside, reaped}
 use Rattle.machine_rules.specs.Go.{lacks, needed, needs, setting_of, to_need}
-use Rattle.machine_rules.specs.Options.{Trace, Deep, Roots}
+use Rattle.orca_names.specs.declared.trace.Trace.{Trace}
+use Rattle.orca_names.specs.declared.trace.Trace.TheVariants.{Deep, Roots}
 use Rattle.machine_laws.specs.Laws.{DeepNeedsNoGet}
 use Rattle.machine_laws.specs.Work.{needed_at, needed_gets, sum_at}
 

@@ -11,8 +11,9 @@ use Rattle.machine_rules.specs.Go.{needed, turn_of_cell}
 use Rattle.event_rule.specs.Runs.{IsQuiet, Leads, Step, NotEnabled, IsFull, Goes}
 use Rattle.plain_rules.specs.Run.{plain_next}
 use Rattle.machine_rules.specs.Next.{next}
-use Rattle.machine_rules.specs.Options.{Deep, Trace}
-use Rattle.machine_rules.specs.Options as trace
+use Rattle.orca_names.specs.declared.trace.Trace.{Trace}
+use Rattle.orca_names.specs.declared.trace.Trace.TheVariants.{Deep}
+use Rattle.orca_names.specs.declared.trace.Trace.TheVariants as trace
 use Rattle.plain_rules.specs.Machine.{PlainState, after_act, stopped_at}
 use Rattle.machine_rules.specs.Run.{PlainFollows, act_is_choice, choices, choices_after, go_is_choice, go_is_choice_at, is_choice}
 use Rattle.machine_rules.specs.State.{State}

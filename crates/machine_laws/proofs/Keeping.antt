@@ -10,7 +10,7 @@ use Rattle.letter_kinds.specs.Holdings.{Row}
 use Rattle.letter_kinds.specs.declared.letter.Letter.{Letter}
 use Rattle.letter_kinds.specs.declared.note.Note.{Note}
 use Rattle.event_rule.proofs.Steps.{goes_to, not_enabled}
-use Rattle.machine_rules.specs.Options.{Trace}
+use Rattle.orca_names.specs.declared.trace.Trace.{Trace}
 use Rattle.machine_rules.specs.Actors.{Seat, cell_at, mail_at, seat, seat_at, Every}
 use Rattle.count_laws.specs.Agreement.{Person, people_of}
 use Rattle.machine_rules.specs.Balance.{load_sum}

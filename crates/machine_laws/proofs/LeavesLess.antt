@@ -38,7 +38,8 @@ use Rattle.machine_rules.specs.Go.{act_in, lacking_from, load_from, mint, needed
 use Rattle.plain_list.specs.Lists.{is_empty}
 use Rattle.event_rule.specs.Runs.{Goes}
 use Rattle.machine_rules.specs.Next.{next}
-use Rattle.machine_rules.specs.Options.{Trace, Deep, Roots}
+use Rattle.orca_names.specs.declared.trace.Trace.{Trace}
+use Rattle.orca_names.specs.declared.trace.Trace.TheVariants.{Deep, Roots}
 use Rattle.plain_rules.specs.Machine.{stopped_at}
 use Rattle.machine_rules.specs.Run.{act_is_choice, go_is_choice, go_is_choice_at, is_choice, take_is_choice_at, starts_with_app}
 use Rattle.machine_rules.specs.State.{State}

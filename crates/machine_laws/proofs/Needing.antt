@@ -27,8 +27,9 @@ use Rattle.machine_rules.specs.Go.{mint, needed, to_need}
 use Rattle.count_laws.specs.Known.{IsKnown, Names, Reaches}
 use Rattle.count_laws.specs.KnownByRoots.{WalkRoots, by_row, held, mine, named}
 use Rattle.machine_rules.specs.Left.{IsLeft}
-use Rattle.machine_rules.specs.Options.{Trace, Deep}
-use Rattle.machine_rules.specs.Options as options
+use Rattle.orca_names.specs.declared.trace.Trace.{Trace}
+use Rattle.orca_names.specs.declared.trace.Trace.TheVariants.{Deep}
+use Rattle.orca_names.specs.declared.trace.Trace.TheVariants as options
 use Rattle.detector_laws.specs.Events.{IsApart, Moves}
 use Rattle.machine_laws.proofs.Collecting.{same_loads}
 use Rattle.machine_laws.proofs.Moving.{adds_push, moves_apart, not_same, push_loads, push_other, unheld}

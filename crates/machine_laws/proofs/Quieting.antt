@@ -12,7 +12,7 @@ use Rattle.letter_kinds.specs.Sums.{load_count}
 use Rattle.letter_kinds.specs.declared.letter.Letter.{Letter}
 use Rattle.machine_rules.proofs.Rest.{is_nil, none_can, quiet_rest, quiet_told}
 use Rattle.count_laws.proofs.balance.SeatReads.{loads_at-none, loads_at-seat}
-use Rattle.machine_rules.specs.Options.{Trace}
+use Rattle.orca_names.specs.declared.trace.Trace.{Trace}
 use Rattle.machine_rules.specs.Actors.{Seat, cell_at, cell_of, letters_of, mail_at, seat, seat_at, Every}
 use Rattle.count_laws.specs.Agreement.{Person}
 use Rattle.machine_rules.specs.Balance.{loads_at}

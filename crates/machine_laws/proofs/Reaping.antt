@@ -18,7 +18,7 @@ use Rattle.count_laws.proofs.balance.Reaps.{AllIn}
 use Rattle.count_laws.proofs.balance.SeatReads.{loads_at-none}
 use Rattle.count_laws.proofs.balance.Sweeping.{amount-given_back, firm_counted}
 use Rattle.count_laws.proofs.balance.Sweeps.{owed, owed-groups, firm_groups}
-use Rattle.machine_rules.specs.Options.{Trace}
+use Rattle.orca_names.specs.declared.trace.Trace.{Trace}
 use Rattle.machine_rules.specs.Actors.{Actors, cell_at, Seat, cell_of, letters_of, mail_at, push_decs, push_letter, seat_at, with_letter_more, Every}
 use Rattle.count_laws.specs.Agreement.{Person}
 use Rattle.machine_rules.specs.Balance.{loads_at, load_sum}

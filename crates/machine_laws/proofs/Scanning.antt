@@ -28,8 +28,9 @@ use Rattle.count_laws.proofs.balance.Posting.{push_balanced}
 use Rattle.count_laws.proofs.balance.SeatReads.{letter_Confirm}
 use Rattle.count_laws.proofs.balance.Sends.{push_prefix, cond_zero}
 use Rattle.machine_rules.specs.Cell.{Cell}
-use Rattle.machine_rules.specs.Options.{Deep, Trace}
-use Rattle.machine_rules.specs.Options as options
+use Rattle.orca_names.specs.declared.trace.Trace.{Trace}
+use Rattle.orca_names.specs.declared.trace.Trace.TheVariants.{Deep}
+use Rattle.orca_names.specs.declared.trace.Trace.TheVariants as options
 use Rattle.machine_rules.specs.Actors.{Actors, cell_at, Seat, cell_of, letters_of, mail_at, push_letter, seat_at, with_letter_more}
 use Rattle.count_laws.specs.Agreement.{Person}
 use Rattle.machine_rules.specs.Balance.{load_sum}

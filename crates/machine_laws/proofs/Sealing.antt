@@ -16,7 +16,7 @@ use Rattle.count_laws.proofs.events.EitherMode.{reap_keeps}
 use Rattle.count_laws.proofs.events.Reap.{AllSealed, Sealed}
 use Rattle.count_laws.proofs.balance.SeatReads.{loads_at-seat, letter_Confirm}
 use Rattle.machine_rules.proofs.Present.{present_below}
-use Rattle.machine_rules.specs.Options.{Trace}
+use Rattle.orca_names.specs.declared.trace.Trace.{Trace}
 use Rattle.machine_rules.specs.Actors.{Actors, cell_at, Seat, cell_of, letters_of, mail_at, seat, seat_at}
 use Rattle.count_laws.specs.Agreement.{app_letters, Person}
 use Rattle.machine_rules.specs.Balance.{loads_at, load_sum}

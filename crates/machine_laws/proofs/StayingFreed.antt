@@ -18,7 +18,8 @@ use Rattle.machine_rules.specs.Cell.{Cell, own_row_of}
 use Rattle.count_laws.specs.Facts.{IsSound}
 use Rattle.count_laws.specs.Gone.{IsGone, HasName}
 use Rattle.machine_rules.specs.Left.{IsFreed, IsLeft, IsMade}
-use Rattle.machine_rules.specs.Options.{Trace, Deep, Roots}
+use Rattle.orca_names.specs.declared.trace.Trace.{Trace}
+use Rattle.orca_names.specs.declared.trace.Trace.TheVariants.{Deep, Roots}
 use Rattle.event_rule.specs.Runs.{Leads, Step, Goes}
 use Rattle.plain_rules.specs.Run.{plain_next}
 use Rattle.machine_rules.specs.Next.{next}

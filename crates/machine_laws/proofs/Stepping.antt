@@ -35,7 +35,7 @@ use Rattle.count_laws.specs.Facts.{Facts, IsFirm}
 use Rattle.machine_rules.specs.Go.{act_in, load_from, make, needed, needing, post_or_mint, rows_from, turn_of_cell, turned, lacking_from, mint, post}
 use Rattle.event_rule.specs.Runs.{Goes}
 use Rattle.machine_rules.specs.Next.{next}
-use Rattle.machine_rules.specs.Options.{Trace}
+use Rattle.orca_names.specs.declared.trace.Trace.{Trace}
 use Rattle.plain_rules.specs.Machine.{PlainState, plain_row, stopped_at, with_name}
 use Rattle.machine_rules.specs.State.{State}
 use Rattle.detector_laws.proofs.Cells.{same_some}

@@ -22,7 +22,7 @@ use Rattle.machine_rules.specs.Block.{held_actors}
 use Rattle.machine_rules.specs.Cell.{Cell}
 use Rattle.event_rule.specs.Runs.{Goes}
 use Rattle.machine_rules.specs.Next.{next}
-use Rattle.machine_rules.specs.Options.{Trace}
+use Rattle.orca_names.specs.declared.trace.Trace.{Trace}
 use Rattle.machine_rules.specs.State.{State}
 use Rattle.machine_rules.specs.Take.{note_of, notes_after}
 use Rattle.machine_laws.proofs.HeldActors.{count_on-held_actors}

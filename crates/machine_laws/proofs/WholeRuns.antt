@@ -20,7 +20,9 @@ use Rattle.machine_rules.specs.Left.{IsLeft}
 use Rattle.event_rule.specs.Runs.{Leads, Step, Goes}
 use Rattle.plain_rules.specs.Run.{plain_next}
 use Rattle.machine_rules.specs.Next.{next}
-use Rattle.machine_rules.specs.Options.{Deep, Options, Roots, Trace}
+use Rattle.orca_names.specs.declared.trace.Trace.{Trace}
+use Rattle.orca_names.specs.declared.trace.Trace.TheVariants.{Deep, Roots}
+use Rattle.machine_rules.specs.Options.{Options}
 use Rattle.plain_rules.specs.Machine.{PlainState, plain_row, start_of}
 use Rattle.plain_rules.specs.Reach.{IsReachable}
 use Rattle.machine_rules.specs.Run.{IsPlainBeside, IsRun, PlainFollows, choices, choices_after, is_choice}

@@ -1,7 +1,8 @@
 -- All that holds in each state of a run, beside the machine that frees nothing.
 use Rattle.std.specs.Prelude.{◌≡◌, length}
 use Rattle.orca_names.specs.declared.names.Thing.TheVariants.{Actor}
-use Rattle.machine_rules.specs.Options.{Trace, Deep, Roots}
+use Rattle.orca_names.specs.declared.trace.Trace.{Trace}
+use Rattle.orca_names.specs.declared.trace.Trace.TheVariants.{Deep, Roots}
 use Rattle.machine_rules.specs.Actors.{cell_at, mail_at, Every}
 use Rattle.machine_rules.specs.Balance.{load_sum}
 use Rattle.count_laws.specs.Clean.{CleanAreSwept, IsCleanByRootsAt, NoneHoldsItsOwn}

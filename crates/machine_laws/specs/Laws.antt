@@ -16,7 +16,9 @@ use Rattle.count_laws.specs.LeftByRoots.{IsReachedOrHeld}
 use Rattle.event_rule.specs.Runs.{IsEnabled, IsQuiet, Leads, Goes}
 use Rattle.plain_rules.specs.Run.{plain_next}
 use Rattle.machine_rules.specs.Next.{next}
-use Rattle.machine_rules.specs.Options.{Deep, Options, Roots, Trace}
+use Rattle.orca_names.specs.declared.trace.Trace.{Trace}
+use Rattle.orca_names.specs.declared.trace.Trace.TheVariants.{Deep, Roots}
+use Rattle.machine_rules.specs.Options.{Options}
 use Rattle.plain_rules.specs.Machine.{PlainState, start_of}
 use Rattle.plain_rules.specs.Reach.{IsReachable}
 use Rattle.machine_rules.specs.Run.{IsPlainBeside, IsRun, PlainFollows, choices, is_choice}

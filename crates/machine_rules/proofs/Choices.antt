@@ -8,7 +8,7 @@ use Rattle.letter_kinds.specs.Holdings.{with_made}
 use Rattle.machine_rules.specs.Actors.{seat, seat_at}
 use Rattle.machine_rules.specs.Cell.{Cell}
 use Rattle.machine_rules.specs.Go.{turn_of_cell}
-use Rattle.machine_rules.specs.Options.{Trace}
+use Rattle.orca_names.specs.declared.trace.Trace.{Trace}
 use Rattle.machine_rules.specs.Rules.{IsGoing, StopsAt}
 use Rattle.machine_rules.specs.Run.{act_is_choice, go_is_choice, go_is_choice_at, is_choice, starts_with_app, take_is_choice_at}
 use Rattle.machine_rules.specs.State.{State}

@@ -26,7 +26,7 @@ use Rattle.machine_rules.specs.Guards.{may_block, may_collect, may_go, may_leave
 use Rattle.machine_rules.specs.Laws.{EnabledExactly, FullExactly}
 use Rattle.machine_rules.specs.Leave.{leave}
 use Rattle.machine_rules.specs.Next.{acting, next}
-use Rattle.machine_rules.specs.Options.{Trace}
+use Rattle.orca_names.specs.declared.trace.Trace.{Trace}
 use Rattle.machine_rules.specs.State.{State}
 use Rattle.machine_rules.specs.Take.{take}
 use Rattle.machine_rules.proofs.Acting.{Acts, acting-is, acts}

@@ -27,7 +27,7 @@ use Rattle.machine_rules.specs.Go.{act_in, go, lacking_from, load_from, make, ne
 use Rattle.machine_rules.specs.Guards.{may_block, may_collect, may_go, may_leave, may_take}
 use Rattle.machine_rules.specs.Leave.{leave}
 use Rattle.machine_rules.specs.Next.{acting, next, next_by}
-use Rattle.machine_rules.specs.Options.{Trace}
+use Rattle.orca_names.specs.declared.trace.Trace.{Trace}
 use Rattle.machine_rules.specs.Rules.{IsGoing, IsStep, StopsAt, blocks, collects, ends, gets, hears, kept, kept_in, later_frame, leaves, makes, mints, posts, prints, reaps, scans, takes}
 use Rattle.machine_rules.specs.State.{State}
 use Rattle.machine_rules.specs.Take.{take}

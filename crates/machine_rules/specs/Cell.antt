@@ -11,7 +11,8 @@ use Rattle.orca_names.specs.declared.row.Fields.{Fields}
 use Rattle.behaviour_code.specs.declared.code.Program.{Program}
 use Rattle.behaviour_code.specs.Find.{field_count}
 use Rattle.turn_rules.specs.declared.act.Frame.{Frame}
-use Rattle.machine_rules.specs.Options.{Trace, Deep, Roots}
+use Rattle.orca_names.specs.declared.trace.Trace.{Trace}
+use Rattle.orca_names.specs.declared.trace.Trace.TheVariants.{Deep, Roots}
 use Rattle.letter_kinds.specs.Holdings.{Holdings, Row, nothing_held, row_of}
 
 pub record Cell : Type 0 where

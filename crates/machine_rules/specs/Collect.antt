@@ -13,7 +13,8 @@ use Rattle.letter_kinds.specs.Holdings.{row_of}
 use Rattle.letter_kinds.specs.Counting.{by_owner, given_back, sweep}
 use Rattle.machine_rules.specs.Actors.{Actors, Seat, push_decs, seat}
 use Rattle.machine_rules.specs.Cell.{Cell, known_objects, listed_objects, own_row_of, row_by_roots}
-use Rattle.machine_rules.specs.Options.{Trace, Deep, Roots}
+use Rattle.orca_names.specs.declared.trace.Trace.{Trace}
+use Rattle.orca_names.specs.declared.trace.Trace.TheVariants.{Deep, Roots}
 use Rattle.event_rule.specs.Runs.{Step, NotEnabled, Goes}
 use Rattle.machine_rules.specs.State.{State}
 

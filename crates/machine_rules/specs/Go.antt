@@ -19,7 +19,8 @@ use Rattle.letter_kinds.specs.Holdings.{Holdings, held_in, row_of, with_made}
 use Rattle.letter_kinds.specs.Counting.{Amount, Loaded, gain, lacking, mint_all, send, to_mint}
 use Rattle.machine_rules.specs.Actors.{Actors, Seat, push_letter, seat}
 use Rattle.machine_rules.specs.Cell.{Cell, fresh_cell, known_objects, listed_objects, row_by, row_by_roots}
-use Rattle.machine_rules.specs.Options.{Trace, Deep, Roots}
+use Rattle.orca_names.specs.declared.trace.Trace.{Trace}
+use Rattle.orca_names.specs.declared.trace.Trace.TheVariants.{Deep, Roots}
 use Rattle.event_rule.specs.Runs.{Step, NotEnabled, IsFull, Goes}
 use Rattle.plain_rules.specs.Machine.{stopped_at, with_name}
 use Rattle.machine_rules.specs.State.{State}

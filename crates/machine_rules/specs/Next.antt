@@ -13,7 +13,7 @@ use Rattle.machine_rules.specs.Detect.{acked_token, hear, scan, reap}
 use Rattle.machine_rules.specs.Go.{go}
 use Rattle.machine_rules.specs.Guards.{may_block, may_collect, may_go, may_leave, may_take}
 use Rattle.machine_rules.specs.Leave.{leave}
-use Rattle.machine_rules.specs.Options.{Trace}
+use Rattle.orca_names.specs.declared.trace.Trace.{Trace}
 use Rattle.machine_rules.specs.State.{State}
 use Rattle.machine_rules.specs.Take.{take}
 

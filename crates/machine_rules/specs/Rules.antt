@@ -21,7 +21,7 @@ use Rattle.machine_rules.specs.Collect.{collected, is_marked, without_unused}
 use Rattle.machine_rules.specs.Detect.{acked_token, ask_all, reap_members}
 use Rattle.machine_rules.specs.Go.{lacking_from, load_from, make, mint, needed, post, rows_from, to_need, turn_of_cell, turned, with_turn_kept}
 use Rattle.machine_rules.specs.Guards.{may_block, may_collect, may_leave}
-use Rattle.machine_rules.specs.Options.{Trace}
+use Rattle.orca_names.specs.declared.trace.Trace.{Trace}
 use Rattle.machine_rules.specs.State.{State}
 use Rattle.machine_rules.specs.Take.{cell_after, note_of, notes_after}
 

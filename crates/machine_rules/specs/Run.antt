@@ -16,7 +16,8 @@ use Rattle.plain_list.specs.Lists.{is_empty}
 use Rattle.plain_rules.specs.Run.{plain_next}
 use Rattle.event_rule.specs.Runs.{Step, NotEnabled, IsFull, Goes, Leads}
 use Rattle.machine_rules.specs.Next.{next}
-use Rattle.machine_rules.specs.Options.{Options, Trace}
+use Rattle.orca_names.specs.declared.trace.Trace.{Trace}
+use Rattle.machine_rules.specs.Options.{Options}
 use Rattle.plain_rules.specs.Machine.{PlainState, start_of}
 use Rattle.machine_rules.specs.State.{State, first_state}
 

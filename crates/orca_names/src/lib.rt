@@ -11,6 +11,7 @@ mod reader;
 mod row;
 mod rows;
 mod tally;
+mod trace;
 
 pub use held::HeldTest;
 pub use limits::{
@@ -23,6 +24,7 @@ pub use reader::{Reading, RowReader};
 pub use row::{Args, Fields, Row};
 pub use rows::Rows;
 pub use tally::{Sums, Tally};
+pub use trace::Trace;
 
 #[cfg(test)]
 mod tests;

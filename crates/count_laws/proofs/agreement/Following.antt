@@ -16,7 +16,7 @@ use Rattle.count_laws.proofs.balance.InHand.{take_letter}
 use Rattle.count_laws.proofs.events.Take.{next_receive}
 use Rattle.count_laws.proofs.agreement.PlainSide.{StandsAt, objects_kept, people-set, rows_kept, same_rows, stands_beside}
 use Rattle.event_rule.proofs.Steps.{goes_to}
-use Rattle.machine_rules.specs.Options.{Trace}
+use Rattle.orca_names.specs.declared.trace.Trace.{Trace}
 use Rattle.machine_rules.specs.Actors.{seat, seat_at}
 use Rattle.count_laws.specs.Agreement.{Person, app_letters, people_of, person_of, person_of_plain}
 use Rattle.machine_rules.specs.Cell.{Cell}

@@ -38,7 +38,7 @@ use Rattle.count_laws.specs.Agreement.{Person, people_of, person_at, person_of, 
 use Rattle.machine_rules.specs.Cell.{Cell, fresh_cell}
 use Rattle.count_laws.specs.Facts.{Facts, KeepsCounts}
 use Rattle.machine_rules.specs.Go.{act_in, load_from, make, mint, needed, needing, post, post_or_mint, rows_from, turn_of_cell, turned, with_turn_kept, lacking_from, to_need}
-use Rattle.machine_rules.specs.Options.{Trace}
+use Rattle.orca_names.specs.declared.trace.Trace.{Trace}
 use Rattle.count_laws.specs.Known.{InFrame, IsKnown, Names, Roots, in_fields, in_frame, in_table}
 use Rattle.plain_list.specs.Lists.{is_empty}
 use Rattle.event_rule.specs.Runs.{IsFull, Goes, NotEnabled}

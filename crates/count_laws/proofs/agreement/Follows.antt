@@ -15,7 +15,7 @@ use Rattle.machine_rules.specs.Actors.{seat, seat_at}
 use Rattle.machine_rules.specs.Cell.{Cell}
 use Rattle.machine_rules.specs.Go.{needed, turn_of_cell}
 use Rattle.machine_rules.specs.Next.{next, next_by}
-use Rattle.machine_rules.specs.Options.{Trace}
+use Rattle.orca_names.specs.declared.trace.Trace.{Trace}
 use Rattle.machine_rules.specs.Rules.{IsGoing, IsStep, StopsAt}
 use Rattle.machine_rules.specs.Rules as rule
 use Rattle.machine_rules.specs.Run.{act_is_choice, go_is_choice, go_is_choice_at, is_choice, take_is_choice_at}

@@ -15,7 +15,7 @@ use Rattle.count_laws.proofs.knowledge.Going.{Grows}
 use Rattle.machine_rules.proofs.Present.{present_below}
 use Rattle.count_laws.proofs.knowledge.Segments.{Made}
 use Rattle.count_laws.proofs.agreement.Slices.{slice_append_below, slice_append_past, slice_past, slice_push_last, slice_push_other, slice_read, slice_set_other, slice_set_same}
-use Rattle.machine_rules.specs.Options.{Trace}
+use Rattle.orca_names.specs.declared.trace.Trace.{Trace}
 use Rattle.machine_rules.specs.Actors.{Actors, seat, seat_at}
 use Rattle.count_laws.specs.Agreement.{Person, people_of, person_at, person_of, person_of_plain}
 use Rattle.machine_rules.specs.Cell.{Cell}

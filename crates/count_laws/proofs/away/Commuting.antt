@@ -28,7 +28,7 @@ use Rattle.machine_rules.specs.Cell.{Cell, fresh_cell}
 use Rattle.machine_rules.specs.Collect.{is_marked, without_unused, collect}
 use Rattle.machine_rules.specs.Detect.{ask_all, held_outside, reaped, acked_token, hear, reap, scan}
 use Rattle.machine_rules.specs.Go.{act_in, needed, needing, post_or_mint, turn_of_cell, turned, with_turn_kept, go, turn_in}
-use Rattle.machine_rules.specs.Options.{Trace}
+use Rattle.orca_names.specs.declared.trace.Trace.{Trace}
 use Rattle.event_rule.specs.Runs.{Step, IsFull, Goes, NotEnabled}
 use Rattle.plain_rules.specs.Machine.{stopped_at, with_name}
 use Rattle.machine_rules.specs.State.{State}

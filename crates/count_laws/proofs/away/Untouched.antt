@@ -25,7 +25,7 @@ use Rattle.machine_rules.specs.Enabled.{CanHappen}
 use Rattle.machine_rules.proofs.Guards.{MayReport, acked_open, leaver, may_leave-none, may_report, may_take-some, reporter, taker}
 use Rattle.event_rule.specs.Runs.{IsEnabled}
 use Rattle.machine_rules.specs.Next.{next}
-use Rattle.machine_rules.specs.Options.{Trace}
+use Rattle.orca_names.specs.declared.trace.Trace.{Trace}
 use Rattle.machine_rules.specs.State.{State}
 
 -- ---- the seat of an actor gets letters

@@ -15,7 +15,7 @@ use Rattle.letter_kinds.specs.Holdings.{Holdings, own_in, held_in}
 use Rattle.letter_kinds.specs.Sums.{inc_of, dec_of, load_count}
 use Rattle.letter_kinds.specs.declared.letter.Letter.{Letter}
 use Rattle.count_laws.proofs.balance.InHand.{BalancedWith, none, Balanced}
-use Rattle.machine_rules.specs.Options.{Trace}
+use Rattle.orca_names.specs.declared.trace.Trace.{Trace}
 use Rattle.machine_rules.specs.Actors.{Seat, Actors, seat_at, seat}
 use Rattle.machine_rules.specs.Balance.{own_at, incs_at, decs_at, held_at, loads_at}
 use Rattle.count_laws.specs.Prefixes.{IsCoveredAt, NeverOverdraws}

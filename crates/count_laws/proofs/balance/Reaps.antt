@@ -12,7 +12,7 @@ use Rattle.count_laws.proofs.balance.Sweeping.{amount-given_back}
 use Rattle.letter_kinds.specs.Counting.{given_back, by_owner}
 use Rattle.letter_kinds.specs.Detector.{has}
 use Rattle.count_laws.proofs.balance.InHand.{BalancedWith, none, AllCounted, Balanced}
-use Rattle.machine_rules.specs.Options.{Trace}
+use Rattle.orca_names.specs.declared.trace.Trace.{Trace}
 use Rattle.machine_rules.specs.Actors.{Seat, Actors, seat_at}
 use Rattle.machine_rules.specs.Balance.{own_at, incs_at, decs_at, held_at, loads_at}
 use Rattle.count_laws.specs.Prefixes.{NeverOverdraws}

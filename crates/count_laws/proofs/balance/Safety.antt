@@ -7,7 +7,8 @@ use Rattle.letter_kinds.proofs.Sums.{sum-nil}
 use Rattle.count_laws.proofs.balance.Seats.{at_same, at_other}
 use Rattle.letter_kinds.specs.Sums.{inc_of, dec_of, load_count}
 use Rattle.letter_kinds.specs.declared.letter.Letter.{Letter}
-use Rattle.machine_rules.specs.Options.{Trace, Deep, Roots}
+use Rattle.orca_names.specs.declared.trace.Trace.{Trace}
+use Rattle.orca_names.specs.declared.trace.Trace.TheVariants.{Deep, Roots}
 use Rattle.machine_rules.specs.Actors.{Seat, Actors, seat_at}
 use Rattle.count_laws.specs.Prefixes.{IsCovered, IsCoveredAt, NeverOverdraws, spare}
 use Rattle.orca_names.specs.Names.{owner_of}

@@ -16,7 +16,8 @@ use Rattle.letter_kinds.specs.Sums.{amount_of, times_loaded, inc_of, dec_of, loa
 use Rattle.letter_kinds.specs.declared.letter.Letter.{Letter}
 use Rattle.letter_kinds.specs.declared.letter.Letter.TheVariants.{App, Inc}
 use Rattle.count_laws.proofs.balance.InHand.{BalancedWith, credit, debit, none, Balanced}
-use Rattle.machine_rules.specs.Options.{Trace, Deep}
+use Rattle.orca_names.specs.declared.trace.Trace.{Trace}
+use Rattle.orca_names.specs.declared.trace.Trace.TheVariants.{Deep}
 use Rattle.machine_rules.specs.Actors.{Seat, Actors, seat_at, with_letter_more, push_letter, seat}
 use Rattle.machine_rules.specs.Balance.{own_at, incs_at, held_at, loads_at, held_sum, load_sum, owner_seat}
 use Rattle.count_laws.specs.Prefixes.{NeverOverdraws}

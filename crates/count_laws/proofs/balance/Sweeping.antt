@@ -20,8 +20,9 @@ use Rattle.count_laws.proofs.knowledge.Receiving.{own_row}
 use Rattle.machine_rules.specs.Cell.{Cell}
 use Rattle.machine_rules.specs.Collect.{without_unused}
 use Rattle.count_laws.specs.Facts.{IsFirm}
-use Rattle.machine_rules.specs.Options.{Deep, Trace}
-use Rattle.machine_rules.specs.Options as options
+use Rattle.orca_names.specs.declared.trace.Trace.{Trace}
+use Rattle.orca_names.specs.declared.trace.Trace.TheVariants.{Deep}
+use Rattle.orca_names.specs.declared.trace.Trace.TheVariants as options
 use Rattle.count_laws.specs.Known.{Names, Reaches, row_at, IsKnown, InFrame, Roots, in_fields, in_frame, in_table, IsClosedAt, RowsAreAt}
 
 -- ---- what letters brought does not matter to the counts

@@ -14,7 +14,7 @@ use Rattle.letter_kinds.specs.declared.letter.Letter.{Letter}
 use Rattle.letter_kinds.specs.declared.letter.Letter.TheVariants.{Dec}
 use Rattle.count_laws.proofs.balance.InHand.{BalancedWith, debit, none, AllCounted, Balanced}
 use Rattle.count_laws.proofs.balance.Seats.{IsPresent}
-use Rattle.machine_rules.specs.Options.{Trace}
+use Rattle.orca_names.specs.declared.trace.Trace.{Trace}
 use Rattle.machine_rules.specs.Actors.{Actors, seat_at, push_letter, push_decs, seat}
 use Rattle.count_laws.specs.Prefixes.{NeverOverdraws}
 use Rattle.machine_rules.specs.Cell.{Cell}

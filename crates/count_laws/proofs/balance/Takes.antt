@@ -12,7 +12,7 @@ use Rattle.letter_kinds.specs.Sums.{inc_of, dec_of, load_count}
 use Rattle.letter_kinds.specs.declared.letter.Letter.{Letter}
 use Rattle.letter_kinds.specs.declared.letter.Letter.TheVariants.{App, Inc, Dec, Confirm}
 use Rattle.count_laws.proofs.balance.InHand.{none, take_letter, Balanced}
-use Rattle.machine_rules.specs.Options.{Trace}
+use Rattle.orca_names.specs.declared.trace.Trace.{Trace}
 use Rattle.machine_rules.specs.Actors.{Actors, seat_at, seat}
 use Rattle.count_laws.specs.Prefixes.{IsCovered, IsCoveredAt, NeverOverdraws}
 use Rattle.machine_rules.specs.Cell.{Cell}

@@ -50,7 +50,8 @@ use Rattle.machine_rules.specs.Detect.{ask_all, held_outside, reaped}
 use Rattle.machine_rules.specs.Go.{load_from, make, mint, post, rows_from, to_need, turn_of_cell, turned}
 use Rattle.event_rule.specs.Runs.{Leads, Goes}
 use Rattle.machine_rules.specs.Next.{next}
-use Rattle.machine_rules.specs.Options.{Options, Trace}
+use Rattle.orca_names.specs.declared.trace.Trace.{Trace}
+use Rattle.machine_rules.specs.Options.{Options}
 use Rattle.plain_rules.specs.Machine.{stopped_at, with_name}
 use Rattle.machine_rules.specs.State.{State, first_state, start_letters}
 use Rattle.machine_rules.specs.Take.{cell_after}

@@ -6,7 +6,7 @@ use Rattle.count_laws.proofs.local.Cleaning.{clean-first, clean-next}
 use Rattle.count_laws.proofs.agreement.Following.{Follows}
 use Rattle.count_laws.proofs.agreement.Follows.{collect_kept, go_kept, leave_beside, take_kept}
 use Rattle.count_laws.proofs.local.NoSelf.{no_self-first, no_self-next}
-use Rattle.machine_rules.specs.Options.{Trace}
+use Rattle.orca_names.specs.declared.trace.Trace.{Trace}
 use Rattle.count_laws.specs.Facts.{Facts}
 use Rattle.count_laws.specs.Laws.{CleanStaySwept, CollectsKeepFacts, GoesKeepFacts, LeavesKeepFacts, NoneGetsItsOwn, TakesKeepFacts}
 use Rattle.plain_rules.specs.Run.{plain_next}

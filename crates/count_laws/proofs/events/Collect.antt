@@ -12,7 +12,8 @@ use Rattle.count_laws.proofs.balance.InHand.{Balanced, in_hand, out_of_hand}
 use Rattle.machine_rules.proofs.Present.{present_below}
 use Rattle.count_laws.proofs.balance.Sweeping.{collect_closed, collect_rows, firm_counted, firm_sweep, next-sweep}
 use Rattle.count_laws.proofs.balance.Sweeps.{collect_keeps}
-use Rattle.machine_rules.specs.Options.{Deep, Trace}
+use Rattle.orca_names.specs.declared.trace.Trace.{Trace}
+use Rattle.orca_names.specs.declared.trace.Trace.TheVariants.{Deep}
 use Rattle.machine_rules.specs.Actors.{Actors, seat, seat_at, Every}
 use Rattle.count_laws.specs.Agreement.{Person, person_of}
 use Rattle.count_laws.specs.Prefixes.{NeverOverdraws}

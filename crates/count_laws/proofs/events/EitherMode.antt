@@ -54,8 +54,9 @@ use Rattle.machine_rules.specs.Go.{load_from, make, mint, needed, post, rows_fro
 use Rattle.count_laws.specs.Known.{InFrame, IsKnown, Names, Reaches, Roots, in_fields, in_frame, in_table}
 use Rattle.count_laws.specs.KnownByRoots.{IsKnownWithOwner, IsRootOf, WalkRoots, by_field, by_frame, held, mine, owns, stands}
 use Rattle.machine_rules.specs.Left.{IsLeft}
-use Rattle.machine_rules.specs.Options.{Trace, Deep}
-use Rattle.machine_rules.specs.Options as options
+use Rattle.orca_names.specs.declared.trace.Trace.{Trace}
+use Rattle.orca_names.specs.declared.trace.Trace.TheVariants.{Deep}
+use Rattle.orca_names.specs.declared.trace.Trace.TheVariants as options
 use Rattle.plain_rules.specs.Machine.{with_name}
 
 -- ---- what is counted or known is left

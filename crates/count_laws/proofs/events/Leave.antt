@@ -17,7 +17,7 @@ use Rattle.count_laws.proofs.balance.SeatReads.{incs_at-seat, loads_at-seat, own
 use Rattle.machine_rules.proofs.Present.{present_below}
 use Rattle.count_laws.proofs.balance.Sends.{held_below}
 use Rattle.event_rule.proofs.Steps.{goes_to, not_enabled}
-use Rattle.machine_rules.specs.Options.{Trace}
+use Rattle.orca_names.specs.declared.trace.Trace.{Trace}
 use Rattle.machine_rules.specs.Actors.{Actors, Seat, seat, seat_at}
 use Rattle.count_laws.specs.Agreement.{Person, app_letters, people_of}
 use Rattle.machine_rules.specs.Balance.{held_sum, incs_at, load_sum, loads_at, own_at}

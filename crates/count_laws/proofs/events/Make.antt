@@ -23,7 +23,8 @@ use Rattle.count_laws.proofs.knowledge.Paths.{along_row, reach_into}
 use Rattle.count_laws.proofs.knowledge.Receiving.{row_set_held_other}
 use Rattle.count_laws.proofs.balance.Seats.{some_seat}
 use Rattle.machine_rules.proofs.Present.{present_below}
-use Rattle.machine_rules.specs.Options.{Deep, Trace}
+use Rattle.orca_names.specs.declared.trace.Trace.{Trace}
+use Rattle.orca_names.specs.declared.trace.Trace.TheVariants.{Deep}
 use Rattle.machine_rules.specs.Actors.{Actors, seat, seat_at, Every}
 use Rattle.count_laws.specs.Agreement.{Agrees, IsRootPerson, Person, nobody, person_at, person_of}
 use Rattle.machine_rules.specs.Cell.{Cell}

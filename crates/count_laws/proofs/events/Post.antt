@@ -25,7 +25,8 @@ use Rattle.count_laws.proofs.balance.Seats.{IsPresent}
 use Rattle.machine_rules.proofs.Present.{present_below}
 use Rattle.count_laws.proofs.knowledge.Sending.{send_closed, send_rows}
 use Rattle.count_laws.proofs.balance.Sends.{cell_present, mint_balanced, mint_prefix, post_balanced, post_prefix}
-use Rattle.machine_rules.specs.Options.{Deep, Trace}
+use Rattle.orca_names.specs.declared.trace.Trace.{Trace}
+use Rattle.orca_names.specs.declared.trace.Trace.TheVariants.{Deep}
 use Rattle.machine_rules.specs.Actors.{Actors, seat, seat_at, Every}
 use Rattle.count_laws.specs.Agreement.{Person, person_at, person_of}
 use Rattle.machine_rules.specs.Cell.{Cell}

@@ -17,7 +17,8 @@ use Rattle.letter_kinds.specs.Sums.{load_count}
 use Rattle.letter_kinds.specs.declared.letter.Letter.{Letter}
 use Rattle.letter_kinds.specs.declared.letter.Letter.TheVariants.{Dec}
 use Rattle.count_laws.proofs.balance.InHand.{in_hand, out_of_hand, none}
-use Rattle.machine_rules.specs.Options.{Deep, Trace}
+use Rattle.orca_names.specs.declared.trace.Trace.{Trace}
+use Rattle.orca_names.specs.declared.trace.Trace.TheVariants.{Deep}
 use Rattle.machine_rules.specs.Actors.{Seat, Actors, seat_at, seat, Every}
 use Rattle.count_laws.specs.Agreement.{Person, person_at, person_of, IsRootPerson, Agrees, app_letters}
 use Rattle.machine_rules.specs.Balance.{held_at, loads_at}

@@ -35,8 +35,10 @@ use Rattle.count_laws.specs.Facts.{Facts, IsSound, KeepsCounts}
 use Rattle.count_laws.specs.Known.{AreExactLetters, IsSoundAt, Names, Reaches, Roots, in_fields, in_frame, in_table, row_at}
 use Rattle.count_laws.specs.KnownByRoots.{AreRootLetters, IsNamedIn, IsRootsAt, by_field, by_frame, by_row}
 use Rattle.plain_rules.specs.Machine.{first_actor, plain_row, start_of}
-use Rattle.machine_rules.specs.Options.{Deep, Options, Trace}
-use Rattle.machine_rules.specs.Options as options
+use Rattle.orca_names.specs.declared.trace.Trace.{Trace}
+use Rattle.orca_names.specs.declared.trace.Trace.TheVariants.{Deep}
+use Rattle.machine_rules.specs.Options.{Options}
+use Rattle.orca_names.specs.declared.trace.Trace.TheVariants as options
 use Rattle.machine_rules.specs.State.{first_state}
 use Rattle.plain_rules.specs.declared.PlainLetter.{PlainLetter}
 

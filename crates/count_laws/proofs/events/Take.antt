@@ -21,7 +21,8 @@ use Rattle.machine_rules.specs.Actors.{Actors, seat_at, seat}
 use Rattle.count_laws.specs.Agreement.{Person, person_of, Agrees, app_letters}
 use Rattle.count_laws.specs.Prefixes.{IsCoveredAt}
 use Rattle.machine_rules.specs.Cell.{Cell}
-use Rattle.machine_rules.specs.Options.{Deep, Trace}
+use Rattle.orca_names.specs.declared.trace.Trace.{Trace}
+use Rattle.orca_names.specs.declared.trace.Trace.TheVariants.{Deep}
 use Rattle.count_laws.specs.Facts.{IsFirm, IsFirmAt, IsPastRows, KeepsCounts, IsSound}
 use Rattle.count_laws.specs.Known.{Names, IsKnown, InFrame, Roots, in_fields, in_frame, in_table, IsClosedAt, RowsAreAt, row_at, IsSoundAt}
 use Rattle.plain_rules.specs.Machine.{frame_of, registers_of}

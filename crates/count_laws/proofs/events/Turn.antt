@@ -16,7 +16,8 @@ use Rattle.count_laws.proofs.knowledge.Going.{Grows, after, closed_after, held_a
 use Rattle.count_laws.proofs.balance.InHand.{in_hand, none, out_of_hand}
 use Rattle.machine_rules.proofs.Present.{present_below}
 use Rattle.count_laws.proofs.balance.Sends.{cell_balanced, cell_prefix}
-use Rattle.machine_rules.specs.Options.{Deep, Trace}
+use Rattle.orca_names.specs.declared.trace.Trace.{Trace}
+use Rattle.orca_names.specs.declared.trace.Trace.TheVariants.{Deep}
 use Rattle.machine_rules.specs.Actors.{Actors, seat, seat_at, Every}
 use Rattle.count_laws.specs.Agreement.{Person, person_of}
 use Rattle.machine_rules.specs.Cell.{Cell}

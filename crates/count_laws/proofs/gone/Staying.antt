@@ -37,7 +37,7 @@ use Rattle.machine_rules.specs.Collect.{collected, is_marked, without_unused}
 use Rattle.machine_rules.specs.Detect.{ask_all, held_outside, reaped}
 use Rattle.machine_rules.specs.Go.{load_from, make, mint, post, rows_from, turn_of_cell, turned}
 use Rattle.count_laws.specs.Gone.{GoneStaysGone, HasName, NamesStayGiven}
-use Rattle.machine_rules.specs.Options.{Trace}
+use Rattle.orca_names.specs.declared.trace.Trace.{Trace}
 use Rattle.event_rule.specs.Runs.{Leads}
 use Rattle.machine_rules.specs.Next.{next}
 use Rattle.plain_rules.specs.Machine.{stopped_at, with_name}

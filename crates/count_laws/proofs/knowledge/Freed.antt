@@ -14,7 +14,7 @@ use Rattle.letter_kinds.specs.declared.letter.Letter.TheVariants.{App, Inc, Dec,
 use Rattle.count_laws.proofs.balance.InHand.{Sound, Balanced}
 use Rattle.count_laws.proofs.knowledge.Living.{Letters, here, later, Holds, Lives, stands, holds, row, owner}
 use Rattle.count_laws.proofs.knowledge.Paths.{along_row}
-use Rattle.machine_rules.specs.Options.{Deep}
+use Rattle.orca_names.specs.declared.trace.Trace.TheVariants.{Deep}
 use Rattle.machine_rules.specs.Actors.{Seat, Actors, seat_at, seat}
 use Rattle.count_laws.specs.Agreement.{Person, person_at, person_of, IsRootPerson, app_letters, Agrees}
 use Rattle.machine_rules.specs.Balance.{own_at, incs_at, loads_at, held_sum, load_sum, owner_seat}

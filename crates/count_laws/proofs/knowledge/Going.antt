@@ -32,7 +32,7 @@ use Rattle.count_laws.specs.Facts.{KeepsCounts}
 use Rattle.machine_rules.specs.Go.{turn_of_cell, turned}
 use Rattle.count_laws.specs.Known.{InFrame, IsClosedAt, IsKnown, IsLoadOf, IsSoundAt, Names, Reaches, Roots, RowsAreAt, RowsAreIn, in_fields, in_frame, row_at}
 use Rattle.machine_rules.specs.Left.{IsLeft}
-use Rattle.machine_rules.specs.Options.{Deep}
+use Rattle.orca_names.specs.declared.trace.Trace.TheVariants.{Deep}
 
 -- an object by its owner and its serial
 abbrev pub object : ℕ → ℕ → Thing

@@ -19,7 +19,7 @@ use Rattle.count_laws.proofs.knowledge.Turns.{along_edges, along_rows}
 use Rattle.machine_rules.specs.Cell.{Cell, known_objects}
 use Rattle.machine_rules.specs.Collect.{is_marked_deep}
 use Rattle.machine_rules.specs.Go.{load_from}
-use Rattle.machine_rules.specs.Options.{Deep}
+use Rattle.orca_names.specs.declared.trace.Trace.TheVariants.{Deep}
 use Rattle.count_laws.specs.Known.{Names, Reaches, row_at, RowsAreIn, IsLoadOf}
 
 -- ---- loads

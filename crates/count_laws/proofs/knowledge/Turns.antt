@@ -20,7 +20,7 @@ use Rattle.letter_kinds.specs.Holdings.{Row, row_of}
 use Rattle.count_laws.proofs.knowledge.Segments.{MadeIn}
 use Rattle.machine_rules.specs.Cell.{Cell}
 use Rattle.machine_rules.specs.Go.{turn_of_cell}
-use Rattle.machine_rules.specs.Options.{Deep}
+use Rattle.orca_names.specs.declared.trace.Trace.TheVariants.{Deep}
 use Rattle.count_laws.specs.Known.{Names, Reaches, row_at, row_values}
 
 -- ---- paths through rows of objects are paths through rows of things

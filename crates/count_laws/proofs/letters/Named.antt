@@ -9,7 +9,7 @@ use Rattle.letter_kinds.specs.declared.letter.Letter.{Letter}
 use Rattle.count_laws.proofs.events.EitherMode.{counted_at, loaded_left, root_left}
 use Rattle.count_laws.proofs.letters.OwnLetters.{decs_own, incs_own}
 use Rattle.count_laws.proofs.balance.SeatReads.{decs_at-seat, incs_at-seat}
-use Rattle.machine_rules.specs.Options.{Trace}
+use Rattle.orca_names.specs.declared.trace.Trace.{Trace}
 use Rattle.machine_rules.specs.Actors.{Actors, seat, seat_at}
 use Rattle.count_laws.specs.Agreement.{Person}
 use Rattle.machine_rules.specs.Balance.{decs_at, incs_at, own_at, owner_seat}

@@ -18,7 +18,8 @@ use Rattle.letter_kinds.specs.Holdings.{Holdings}
 use Rattle.letter_kinds.specs.Sums.{amount_of, times_loaded}
 use Rattle.count_laws.proofs.knowledge.Loads.{load_exact, load_from-exact}
 use Rattle.machine_rules.specs.Go.{lacking_from, lacks, load_from, to_need}
-use Rattle.machine_rules.specs.Options.{Trace, Deep, Roots}
+use Rattle.orca_names.specs.declared.trace.Trace.{Trace}
+use Rattle.orca_names.specs.declared.trace.Trace.TheVariants.{Deep, Roots}
 
 -- ---- things in order stand once
 

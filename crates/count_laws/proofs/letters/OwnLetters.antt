@@ -30,7 +30,7 @@ use Rattle.machine_rules.specs.Collect.{is_marked, without_unused}
 use Rattle.machine_rules.specs.Detect.{ask_all, held_outside, reaped}
 use Rattle.machine_rules.specs.Go.{to_need}
 use Rattle.count_laws.specs.Letters.{AreFor, EventsKeepNamesOwn, LettersNameTheirOwn, NamesOwn, RunsNameOwn, StartNamesOwn}
-use Rattle.machine_rules.specs.Options.{Trace}
+use Rattle.orca_names.specs.declared.trace.Trace.{Trace}
 use Rattle.event_rule.specs.Runs.{Leads}
 use Rattle.machine_rules.specs.Next.{next}
 use Rattle.machine_rules.specs.State.{State, first_state, start_letters}

@@ -24,7 +24,7 @@ use Rattle.count_laws.proofs.letters.Once.{load_once, none_more, sorted_once, ti
 use Rattle.count_laws.proofs.balance.Sweeping.{both_true, not_above}
 use Rattle.machine_rules.specs.Go.{lacking_from, lacks, load_from, to_need}
 use Rattle.count_laws.specs.Letters.{AreFor}
-use Rattle.machine_rules.specs.Options.{Trace}
+use Rattle.orca_names.specs.declared.trace.Trace.{Trace}
 
 -- ---- one more
 

@@ -11,7 +11,7 @@ use Rattle.letter_kinds.specs.Sums.{amount_of}
 use Rattle.machine_rules.specs.Cell.{Cell, first_cell, fresh_cell}
 use Rattle.machine_rules.specs.Collect.{is_marked, without_unused}
 use Rattle.machine_rules.specs.Go.{turn_of_cell, turned}
-use Rattle.machine_rules.specs.Options.{Trace}
+use Rattle.orca_names.specs.declared.trace.Trace.{Trace}
 use Rattle.plain_rules.specs.Machine.{stopped_at}
 use Rattle.machine_rules.specs.State.{start_letters}
 use Rattle.machine_rules.specs.Take.{cell_after}

@@ -25,7 +25,8 @@ use Rattle.machine_rules.specs.Detect.{ask_all}
 use Rattle.machine_rules.specs.Go.{act_in, load_from, make, needed, needing, post_or_mint, rows_from, to_need, turn_of_cell, turned, with_turn_kept, mint}
 use Rattle.event_rule.specs.Runs.{NotEnabled, IsFull, Goes}
 use Rattle.machine_rules.specs.Next.{next, next_by}
-use Rattle.machine_rules.specs.Options.{Options, Trace}
+use Rattle.orca_names.specs.declared.trace.Trace.{Trace}
+use Rattle.machine_rules.specs.Options.{Options}
 use Rattle.plain_rules.specs.Machine.{stopped_at, with_name}
 use Rattle.machine_rules.specs.State.{State, first_state}
 use Rattle.machine_rules.specs.Take.{cell_after}

@@ -19,7 +19,9 @@ use Rattle.count_laws.specs.Clean.{HoldsNoOwnAt, NoneHoldsItsOwn}
 use Rattle.machine_rules.specs.Go.{turn_of_cell}
 use Rattle.event_rule.specs.Runs.{Goes}
 use Rattle.machine_rules.specs.Next.{next}
-use Rattle.machine_rules.specs.Options.{Deep, Options, Trace}
+use Rattle.orca_names.specs.declared.trace.Trace.{Trace}
+use Rattle.orca_names.specs.declared.trace.Trace.TheVariants.{Deep}
+use Rattle.machine_rules.specs.Options.{Options}
 use Rattle.machine_rules.specs.State.{State, first_state}
 
 held-with_made : (made : List Row) (h : Holdings) (x : Thing) → held_in (with_made made h) x ≡ held_in h x

@@ -10,7 +10,7 @@ use Rattle.count_laws.proofs.knowledge.Living.{Lives, stands}
 use Rattle.count_laws.proofs.rest.ObjectsAtQuiet.{by_rows, exactly_left, held_reached, over_all}
 use Rattle.count_laws.proofs.agreement.Reachable.{reachable_lives, lives_reachable}
 use Rattle.machine_rules.proofs.Rest.{AtRest}
-use Rattle.machine_rules.specs.Options.{Deep}
+use Rattle.orca_names.specs.declared.trace.Trace.TheVariants.{Deep}
 use Rattle.machine_rules.specs.Actors.{Actors, seat, seat_at, Every}
 use Rattle.count_laws.specs.Agreement.{Person, IsRootPerson, people_of}
 use Rattle.machine_rules.specs.Cell.{Cell}

@@ -19,7 +19,7 @@ use Rattle.count_laws.proofs.knowledge.Living.{Holds, Lives, holds, row, owner}
 use Rattle.count_laws.proofs.knowledge.Paths.{along_row, reach_into, reach_more}
 use Rattle.machine_rules.proofs.Rest.{AtRest}
 use Rattle.count_laws.proofs.balance.SeatReads.{own_at-seat, held_at-seat, incs_at-seat, decs_at-seat, loads_at-seat, held_at-none, loads_at-none}
-use Rattle.machine_rules.specs.Options.{Deep}
+use Rattle.orca_names.specs.declared.trace.Trace.TheVariants.{Deep}
 use Rattle.machine_rules.specs.Actors.{Actors, Seat, seat, seat_at, Every}
 use Rattle.count_laws.specs.Agreement.{Person}
 use Rattle.machine_rules.specs.Balance.{IsBalanced, decs_at, incs_at, held_at, held_sum, loads_at}

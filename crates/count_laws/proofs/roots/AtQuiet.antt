@@ -29,7 +29,7 @@ use Rattle.count_laws.specs.Facts.{KeepsCounts}
 use Rattle.count_laws.specs.Known.{Names}
 use Rattle.machine_rules.specs.Left.{IsLeft}
 use Rattle.count_laws.specs.LeftByRoots.{IsReachedOrHeld, by_edge, from_root, to_held, to_owner}
-use Rattle.machine_rules.specs.Options as options
+use Rattle.orca_names.specs.declared.trace.Trace.TheVariants as options
 use Rattle.plain_rules.specs.Machine.{PlainState, plain_row}
 use Rattle.plain_rules.specs.Reach.{plain_edges, roots_from}
 

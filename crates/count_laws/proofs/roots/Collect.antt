@@ -45,7 +45,7 @@ use Rattle.machine_rules.specs.Collect.{collected, is_in_use, is_marked_by_roots
 use Rattle.count_laws.specs.Facts.{KeepsCounts}
 use Rattle.count_laws.specs.Known.{InFrame, IsKnown, Names, Reaches}
 use Rattle.count_laws.specs.KnownByRoots.{IsBacked, IsKnownWithOwner, IsNamedIn, IsRootsAt, WalkRoots, by_field, by_frame, by_row, held, mine, named}
-use Rattle.machine_rules.specs.Options as options
+use Rattle.orca_names.specs.declared.trace.Trace.TheVariants as options
 
 -- ---- marks, as a test
 

@@ -38,7 +38,7 @@ use Rattle.machine_rules.specs.Go.{lacks, mint, needed, needs, setting_of, to_ne
 use Rattle.count_laws.specs.Known.{IsKnown, Names, Reaches}
 use Rattle.count_laws.specs.KnownByRoots.{IsBacked, IsKnownWithOwner, IsRootsAt, WalkRoots, by_row, held, mine, named}
 use Rattle.machine_rules.specs.Left.{IsLeft}
-use Rattle.machine_rules.specs.Options as options
+use Rattle.orca_names.specs.declared.trace.Trace.TheVariants as options
 
 -- ---- what is minted for a thing
 

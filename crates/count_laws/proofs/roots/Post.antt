@@ -48,7 +48,7 @@ use Rattle.count_laws.specs.Facts.{KeepsCounts}
 use Rattle.machine_rules.specs.Go.{make, mint, post}
 use Rattle.count_laws.specs.Known.{InFrame, IsKnown, Names, Reaches, Roots, in_fields, in_frame}
 use Rattle.count_laws.specs.KnownByRoots.{AreRootLetters, IsBacked, IsKnownWithOwner, IsNamedIn, IsRootLetter, IsRootOf, IsRootsAt, WalkRoots, by_field, by_frame, by_row, held, mine, named, stands, owns}
-use Rattle.machine_rules.specs.Options as options
+use Rattle.orca_names.specs.declared.trace.Trace.TheVariants as options
 use Rattle.plain_rules.specs.Machine.{with_name}
 
 -- one seat gets a letter

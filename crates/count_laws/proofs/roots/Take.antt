@@ -36,7 +36,7 @@ use Rattle.machine_rules.specs.Cell.{Cell, own_row_of}
 use Rattle.count_laws.specs.Facts.{KeepsCounts}
 use Rattle.count_laws.specs.Known.{InFrame, IsKnown, Names, Reaches, RowsAreIn}
 use Rattle.count_laws.specs.KnownByRoots.{AreRootLetters, IsBacked, IsKnownWithOwner, IsRootLetter, IsRootOf, IsRootsAt, WalkRoots, stands, owns}
-use Rattle.machine_rules.specs.Options as options
+use Rattle.orca_names.specs.declared.trace.Trace.TheVariants as options
 use Rattle.plain_rules.specs.Machine.{frame_of}
 use Rattle.machine_rules.specs.Take.{cell_after, learn}
 use Rattle.plain_rules.specs.declared.PlainLetter.{PlainLetter}

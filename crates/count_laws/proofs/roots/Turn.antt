@@ -46,7 +46,7 @@ use Rattle.machine_rules.specs.Go.{lacks, needed, needs, setting_of, turn_of_cel
 use Rattle.count_laws.specs.Known.{InFrame, IsKnown, Names, Reaches, RowsAreIn}
 use Rattle.count_laws.specs.KnownByRoots.{AreRootLetters, IsKnownWithOwner, IsNamedIn, IsRootLetter, IsRootsAt, WalkRoots, by_field, by_frame, by_row, held, mine, named, stands}
 use Rattle.machine_rules.specs.Left.{IsLeft}
-use Rattle.machine_rules.specs.Options as options
+use Rattle.orca_names.specs.declared.trace.Trace.TheVariants as options
 
 -- an object of the actor from a serial on
 abbrev pub MadeAny : ℕ → ℕ → Thing → Type 0
