@@ -64,7 +64,7 @@ abbrev traced : Page → Trace
 traced b = b.state.options.trace
 
 -- the step goes to the state of the page, if there is one
-abbrev Follows : Option Page → Step → Type 0
+abbrev pub Follows : Option Page → Step → Type 0
 Follows None step = Unit {0}
 Follows (Some b) step = step ≡ Goes (state_told b)
 
@@ -506,7 +506,7 @@ leave-follows b a true = ap (λ actors. Goes (record (state_told b) { actors = a
 -- ---- an event
 
 -- after an event, if it is enabled
-abbrev next_page : Page → Event → Option Page
+abbrev pub next_page : Page → Event → Option Page
 next_page b (Take a) = of_place (λ o. taken_in b a o o.cell.frame o.mail) (place_at b.places a)
 next_page b (Go a) = of_place (λ o. gone_in b a o o.cell.frame) (place_at b.places a)
 next_page b (Collect a) = of_place (λ o. collected_in b a o o.cell.frame o.cell.dirty) (place_at b.places a)
@@ -516,7 +516,7 @@ next_page b Hear = heard_in b b.state.notes
 next_page b Scan = scanned_in b (closed_set b.state.detector) b.state.detector.news
 next_page b (Reap token) = reaped_found b (token_numbered token b.state.detector)
 
-next-follows : (b : Page) (e : Event) → Follows (next_page b e) (next (state_told b) e)
+pub next-follows : (b : Page) (e : Event) → Follows (next_page b e) (next (state_told b) e)
 next-follows b (Take a) = place-follows b a _ (take_at (state_told b) a) (λ o. take-follows b a o o.cell.frame o.mail)
 next-follows b (Go a) = place-follows b a _ (go_at (traced b) (state_told b) a) (λ o. go-follows b a o o.cell.frame)
 next-follows b (Collect a) = place-follows b a _ (collect_at (traced b) (state_told b) a) (λ o. collect-follows b a o o.cell.frame o.cell.dirty)
