@@ -1,6 +1,7 @@
 pub mod AtQuiet
 pub mod Clean
 pub mod Collect
+pub mod KeptRows
 pub mod Left
 pub mod Need
 pub mod Post

@@ -74,7 +74,7 @@ counted_is me (y ∷ es) x n = by_count (is_counted y) refl n (counted_is me es 
     by_count false t n rest = more (rest n)
 
 -- where marks begin
-starts : (me : ℕ) (c : Cell) (x : Thing) → Names (start_of_marks me c) x → StartsMarks me c x
+pub starts : (me : ℕ) (c : Cell) (x : Thing) → Names (start_of_marks me c) x → StartsMarks me c x
 unfolding start_of_marks own_in
 starts me c x n = ⊎_elim
     (λ field. of_field field)

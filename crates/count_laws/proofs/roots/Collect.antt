@@ -120,6 +120,10 @@ module _ (a : ℕ) (c : Cell) where
   unfolding is_in_use
   use_whole x h = reached_any (row_by_roots a c) (listed_objects a c) (start_of_marks a c) (listed-cover a c) x h
 
+  pub use_sound : (x : Thing) → is_in_use a c x ≡ true → Reaches (thing_row (row_by_roots a c)) (Names (start_of_marks a c)) x
+  unfolding is_in_use
+  use_sound x e = any_reached (row_by_roots a c) (listed_objects a c) (start_of_marks a c) x e
+
 -- ---- own rows through a sweep
 
 module _ (marked : Thing → Bool) (me : ℕ) (h : Holdings) where
@@ -206,10 +210,10 @@ module _ (all : Thing → Option Row) (ps : List Person) (s : Actors) (inv : Kee
 
   -- ---- rows that letters brought stay where they are in use
 
-  abbrev IsUsed : Thing → Type 0
+  abbrev pub IsUsed : Thing → Type 0
   IsUsed x = Reaches (thing_row (row_by_roots a c)) (Names (start_of_marks a c)) x
 
-  marked_used : {x : Thing} → IsMarked a c x → IsUsed x
+  pub marked_used : {x : Thing} → IsMarked a c x → IsUsed x
   marked_used h = reach_into (thing_row (own_row_of a c.holdings)) IsUsed (λ x n. root n) (λ x y r p e n. along_row (thing_row (row_by_roots a c)) p (up_row x r e) n) (λ n p. owned p) h
     where
       up_row : (x : Thing) (r : Row) → thing_row (own_row_of a c.holdings) x ≡ Some r → thing_row (row_by_roots a c) x ≡ Some r
@@ -261,7 +265,7 @@ module _ (all : Thing → Option Row) (ps : List Person) (s : Actors) (inv : Kee
 
   -- ---- what is backed stays
 
-  abbrev IsKept : Thing → Type 0
+  abbrev pub IsKept : Thing → Type 0
   IsKept x = IsMarked a c x ⊎ (x ≡ Actor a)
 
   -- own rows lead from what is kept to what is kept
@@ -277,10 +281,13 @@ module _ (all : Thing → Option Row) (ps : List Person) (s : Actors) (inv : Kee
   counted_kept (Actor i) o h = inr (ap Actor o)
   counted_kept (Obj n) o h = inl (root (starts_counted a c n o h))
 
-  waiting_kept : (x : Thing) → owner_of x ≡ a → 0 < sum_by (inc_of x) ls → IsKept x
-  waiting_kept x o h =
-      let b = here.backed x 0 o h in
+  -- what is backed now is kept
+  pub backed_kept : (x : Thing) → IsBacked a c ls 0 x → IsKept x
+  backed_kept x b =
       leads_kept (λ y e. subst IsKept (sym e) (counted_kept b.from b.own (let w = b.counted in omega (arith, sum-nil (dec_of b.from), sum-nil (load_count b.from), sum-nil (inc_of b.from))))) b.leads
+
+  waiting_kept : (x : Thing) → owner_of x ≡ a → 0 < sum_by (inc_of x) ls → IsKept x
+  waiting_kept x o h = backed_kept x (here.backed x 0 o h)
 
   after_kept : (k : ℕ) (x : Thing) → owner_of x ≡ a → 0 < own_in c.holdings x + sum_by (inc_of x) (take k ls) → IsKept x
   after_kept k x o h = either (own_in c.holdings x) refl
