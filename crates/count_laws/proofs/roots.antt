@@ -7,5 +7,6 @@ pub mod Need
 pub mod Post
 pub mod Rows
 pub mod Same
+pub mod Starts
 pub mod Take
 pub mod Turn

@@ -33,7 +33,9 @@ pub fn every_run_is_traced_by_roots()
 
 /// Nothing is reclaimed too early (Orca, OOPSLA 2017; MAC, OOPSLA 2013): after each prefix of each
 /// run, whatever the order of its events, nothing that was freed is reachable in the machine that
-/// frees nothing, which makes the same choices and prints the same; and counts balance.
+/// frees nothing, which makes the same choices and prints the same; and counts balance. No actor and no
+/// letter names what was freed, and none reaches it through its rows; with root-only tracing, not even a
+/// row that a letter brought is of it.
 pub fn never_too_early()
     ensures { NeverTooEarly }
 {}

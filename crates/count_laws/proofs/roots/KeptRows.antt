@@ -27,8 +27,7 @@ use Rattle.count_laws.proofs.balance.InHand.{Balanced, in_hand}
 use Rattle.count_laws.proofs.balance.Seats.{at_same}
 use Rattle.count_laws.proofs.balance.Sends.{held_below}
 use Rattle.count_laws.proofs.knowledge.Paths.{along_row, reach_into, reach_more}
-use Rattle.count_laws.proofs.roots.Clean.{starts}
-use Rattle.count_laws.proofs.roots.Collect.{IsKept, IsMarked, IsUsed, backed_kept, marked_used, own_row-stayed, starts_counted, starts_field, use_sound, use_whole}
+use Rattle.count_laws.proofs.roots.Collect.{IsKept, IsMarked, IsUsed, backed_kept, marked_used, own_row-stayed, use_sound, use_whole}
 use Rattle.count_laws.proofs.roots.Left.{held_backed, reached_left}
 use Rattle.count_laws.proofs.roots.Rows.{by_brought, by_own, rows_sound}
 use Rattle.count_laws.proofs.roots.Same.{has_own_row}
@@ -39,6 +38,7 @@ use Rattle.count_laws.specs.KeptRows.{KeepsWhatMarkedReach, KnownRowsStayWhereMa
 use Rattle.count_laws.specs.Known.{IsKnown, Names, Reaches}
 use Rattle.count_laws.specs.KnownByRoots.{IsRootsAt, WalkRoots, by_field, by_row, mine, named}
 use Rattle.plain_rules.specs.Machine.{plain_row}
+use Rattle.count_laws.proofs.roots.Starts.{starts, starts_counted, starts_field}
 
 -- ---- what is marked, in the words and by the walk
 
