@@ -4,6 +4,7 @@ ghost use Rattle.machine_laws.specs.Bounds.{RunsCountAtMost, RunsCountInFewBits}
 ghost use Rattle.machine_laws.specs.Freed.{FreedStaysFreed};
 ghost use Rattle.machine_laws.specs.Laws.{StartHasAllFacts, EventsKeepAllFacts, RunsHaveAllFacts, NeverTooEarly, ExactlyAtQuiet, ExactlyAtQuietByRoots, RunsAreTracedByRoots, DetectorRestsAtQuiet, EventsLeaveLess, DeepNeedsNoGet, RestsBetweenChoices, RunsCanRest, GarbageIsGone, GarbageIsGoneByRoots};
 ghost use Rattle.machine_laws.specs.Reaps.{ReapsTakeTheDone, RunsReapTheDone};
+ghost use Rattle.machine_laws.specs.Untold.{ReapsLeaveNoneTold, RunsTellNoneOfTheReaped, UntoldStaysUntold};
 
 /// Where a run begins, all facts hold: the machine agrees with the one that frees nothing, counts
 /// balance and are never overdrawn, each actor knows what it reaches (with root-only tracing, what its fields,
@@ -94,4 +95,12 @@ pub fn freed_stays_freed()
 pub fn reaps_take_the_done()
     ensures state { ReapsTakeTheDone }
     ensures run { RunsReapTheDone }
+{}
+
+/// Nothing is told of a reaped actor: no report of it is kept, and no note that it is blocked, or is so no
+/// more, is on its way, after the reap or at any time later.
+pub fn nothing_is_told_of_the_reaped()
+    ensures reap { ReapsLeaveNoneTold }
+    ensures stays { UntoldStaysUntold }
+    ensures run { RunsTellNoneOfTheReaped }
 {}
