@@ -56,7 +56,7 @@ pub fn gone_stays_gone()
 {}
 
 /// Letters name only their own: an increment or a decrement that waits for an actor names things of this
-/// actor alone, each once.
+/// actor alone, each once, in the order of things.
 pub fn letters_name_their_own()
     ensures start { StartNamesOwn }
     ensures event { EventsKeepNamesOwn }
