@@ -1,4 +1,5 @@
 pub mod Named
 pub mod Once
 pub mod OwnLetters
+pub mod Reached
 pub mod Shares

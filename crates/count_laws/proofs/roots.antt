@@ -1,10 +1,12 @@
 pub mod AtQuiet
 pub mod Clean
 pub mod Collect
+pub mod KeptRows
 pub mod Left
 pub mod Need
 pub mod Post
 pub mod Rows
 pub mod Same
+pub mod Starts
 pub mod Take
 pub mod Turn

@@ -1,7 +1,8 @@
 -- What increments and decrements name.
-use Rattle.std.specs.Prelude.{ℕ, ◌<◌, ◌≤◌, ◌≡◌, List}
+use Rattle.std.specs.Prelude.{ℕ, ◌<◌, ◌≤◌, ◌≡◌, List, map}
 use Rattle.std.specs.List.{AllByRecursion}
-use Rattle.orca_names.specs.Names.{owner_of, times_among}
+use Rattle.std.specs.List.Sorted.{IsStrictlySortedBy}
+use Rattle.orca_names.specs.Names.{owner_of, thing_cmp, times_among}
 use Rattle.orca_names.specs.declared.names.Thing.{Thing}
 use Rattle.behaviour_code.specs.declared.code.Program.{Program}
 use Rattle.event_rule.specs.declared.event.Event.{Event}
@@ -15,10 +16,11 @@ use Rattle.machine_rules.specs.Options.{Options}
 use Rattle.machine_rules.specs.Run.{IsRun}
 use Rattle.machine_rules.specs.State.{State, first_state}
 
--- these are amounts for things of this actor alone, one for each
+-- these are amounts for things of this actor alone, one for each, in the order of things
 pub record AreFor (a : ℕ) (things : List Amount) : Type 0 where
   pub own : (x : Thing) → 0 < times_among x things → owner_of x ≡ a
   pub once : (x : Thing) → times_among x things ≤ 1
+  pub rising : IsStrictlySortedBy thing_cmp (map (λ e. e.0) things)
 
 -- an increment or a decrement that waits for this actor is for its own things
 abbrev pub NamesOwn : ℕ → Letter → Type 0

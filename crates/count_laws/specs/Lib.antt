@@ -4,6 +4,7 @@ pub mod Bounds
 pub mod Clean
 pub mod Facts
 pub mod Gone
+pub mod KeptRows
 pub mod Known
 pub mod KnownByRoots
 pub mod Laws

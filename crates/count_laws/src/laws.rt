@@ -3,6 +3,7 @@
 ghost use Rattle.count_laws.specs.Apart.{CellsCanBeAway, OthersKeepEnabled, OthersLeaveTheCell};
 ghost use Rattle.count_laws.specs.Bounds.{EventsOpenOneToken, EventsRaiseByTheWeight, RunsCountByTheWeight, RunsMakeFewActors, RunsOpenNoMoreTokens};
 ghost use Rattle.count_laws.specs.Gone.{ForgottenStaysForgotten, GoneStaysGone, NamesStayGiven};
+ghost use Rattle.count_laws.specs.KeptRows.{KnownRowsStayWhereMarkedReach};
 ghost use Rattle.count_laws.specs.Laws.{StartHasFacts, TakesKeepFacts, GoesKeepFacts, CollectsKeepFacts, LeavesKeepFacts, CleanStaySwept, NoneGetsItsOwn};
 ghost use Rattle.count_laws.specs.Letters.{EventsKeepNamesOwn, RunsNameOwn, StartNamesOwn};
 
@@ -55,7 +56,7 @@ pub fn gone_stays_gone()
 {}
 
 /// Letters name only their own: an increment or a decrement that waits for an actor names things of this
-/// actor alone, each once.
+/// actor alone, each once, in the order of things.
 pub fn letters_name_their_own()
     ensures start { StartNamesOwn }
     ensures event { EventsKeepNamesOwn }
@@ -74,4 +75,10 @@ pub fn cells_can_be_away()
 /// No run makes more than 65,536 actors.
 pub fn runs_make_few_actors()
     ensures { RunsMakeFewActors }
+{}
+
+/// With root-only tracing the rows that letters brought stay at a collection exactly where marked things
+/// reach them, whether through the rows that the actor had before or through those that it still has.
+pub fn known_rows_stay_where_marked_reach()
+    ensures { KnownRowsStayWhereMarkedReach }
 {}

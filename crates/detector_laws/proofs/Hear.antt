@@ -50,7 +50,7 @@ told_of-heard w (Unblock b) ns a h =
     (unblock_step (w.cell a) a ns (b == a) (report_of w.detector.kept a) h)
 told_of-heard w (Ack t b) ns a h = h
 
-unmade-heard : (w : World) (n : Note) (ns : List Note) (a : ℕ) → (report_of w.detector.kept a ≡ None) × IsSilentOn a (n ∷ ns) → (report_of (heard n w.detector).kept a ≡ None) × IsSilentOn a ns
+pub unmade-heard : (w : World) (n : Note) (ns : List Note) (a : ℕ) → (report_of w.detector.kept a ≡ None) × IsSilentOn a (n ∷ ns) → (report_of (heard n w.detector).kept a ≡ None) × IsSilentOn a ns
 unmade-heard w (Block b count held) ns a h = (grind (arith, nat_tests, report_of-keep (report_told b count held) w.detector.kept a), h.1.1)
 unmade-heard w (Unblock b) ns a h = (grind (arith, nat_tests, report_of-drop b w.detector.kept a), h.1.1)
 unmade-heard w (Ack t b) ns a h = h

@@ -21,14 +21,14 @@ use Rattle.detector_laws.specs.Reports.{with_notes, told_by_kept, told_of, IsSil
 use Rattle.detector_laws.specs.Tokens.{IsSealedMember, IsSealed, IsSpoiled, SoundTokens}
 use Rattle.detector_laws.specs.World.{World, ReportsAreExact, TokensAreSound}
 
-report_of-out : (ms : List ℕ) (ks : List Report) (a : ℕ) → has ms a ≡ true → report_of (filter (λ k. not (has ms k.actor)) ks) a ≡ None
+pub report_of-out : (ms : List ℕ) (ks : List Report) (a : ℕ) → has ms a ≡ true → report_of (filter (λ k. not (has ms k.actor)) ks) a ≡ None
 report_of-out ms [] a h = refl
 report_of-out ms (k ∷ ks) a h = ⊎_elim
     (λ (e : k.actor ≡ a). let t : has ms k.actor ≡ true = ap (has ms) e ∙ h in grind (arith, report_of-out ms ks a h))
     (λ (ne : k.actor ≢ a). grind (arith, nat_tests, report_of-out ms ks a h))
     (cases_eq k.actor a)
 
-report_of-in : (ms : List ℕ) (ks : List Report) (a : ℕ) → has ms a ≡ false → report_of (filter (λ k. not (has ms k.actor)) ks) a ≡ report_of ks a
+pub report_of-in : (ms : List ℕ) (ks : List Report) (a : ℕ) → has ms a ≡ false → report_of (filter (λ k. not (has ms k.actor)) ks) a ≡ report_of ks a
 report_of-in ms [] a h = refl
 report_of-in ms (k ∷ ks) a h = ⊎_elim
     (λ (e : k.actor ≡ a). let t : has ms k.actor ≡ false = ap (has ms) e ∙ h in grind (arith, report_of-in ms ks a h))

@@ -1,7 +1,9 @@
 pub mod Brought
 pub mod ExampleRuns
+pub mod InOrder
 pub mod LedgerSteps
 pub mod Ledgers
+pub mod OneWorker
 pub mod Places
 pub mod RootsRuns
 pub mod SmallRuns

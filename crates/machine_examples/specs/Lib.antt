@@ -1,3 +1,4 @@
 pub mod Examples
+pub mod InOrder
 pub mod RootsExamples
 pub mod SmallExamples

@@ -1,6 +1,7 @@
 // Programs and books that are runs of them.
 
 ghost use Rattle.machine_examples.specs.Examples.{AnObjectIsPassedOnAndGoes, TwoHoldEachOtherAndGo};
+ghost use Rattle.machine_examples.specs.InOrder.{GetsByRoots, HoldsByRoots, HoldsDeep, LeavesAtOnce, PassesOn};
 ghost use Rattle.machine_examples.specs.RootsExamples.{ABroughtRowStays, AGotObjectIsMinted, AHeldObjectStays};
 ghost use Rattle.machine_examples.specs.SmallExamples.{AReapGivesBackByOwners, AnUnblockCancelsItsOwn, MintsAreForTheLowestFirst, TheFirstLeavesAtOnce};
 
@@ -55,4 +56,14 @@ pub fn a_got_object_is_minted()
 /// owner, of whichever it holds none.
 pub fn a_brought_row_stays()
     ensures { ABroughtRowStays }
+{}
+
+/// One worker writes these books: each event is the first that is enabled, up to where none is. The
+/// other books here are of runs that several workers may have.
+pub fn one_worker_writes_these_books()
+    ensures leaving { LeavesAtOnce }
+    ensures passing { PassesOn }
+    ensures holding { HoldsDeep }
+    ensures holding_by_roots { HoldsByRoots }
+    ensures getting_by_roots { GetsByRoots }
 {}

@@ -58,7 +58,7 @@ unfolding incs_at decs_at
 no_incs_at x None h = (refl, refl)
 no_incs_at x (Some o) h = no_amounts x o.mail h
 
-present_below : (s : Actors) (b : ℕ) (c : Cell) → cell_at s b ≡ Some c → b < length s
+pub present_below : (s : Actors) (b : ℕ) (c : Cell) → cell_at s b ≡ Some c → b < length s
 present_below s b c here = ⊎_elim (λ lt. lt) (λ ge. absurd (some_not_none here (ap cell_of (get_or_past s b None ge)))) (cases_lt b (length s))
 
 own_of : (b : ℕ) (o : Option Seat) → ((c : Cell) (ls : List Letter) → o ≡ seat c ls → HoldsNoOwnAt b c ls) → held_on (cell_of o) b ≡ 0

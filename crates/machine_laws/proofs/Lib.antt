@@ -27,4 +27,5 @@ pub mod Stepping
 pub mod TableWork
 pub mod Taking
 pub mod Telling
+pub mod Untold
 pub mod WholeRuns

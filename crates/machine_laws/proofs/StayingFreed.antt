@@ -31,7 +31,7 @@ use Rattle.machine_laws.proofs.WholeRuns.{leads_on, reachable_left, run_has_fact
 use Rattle.machine_laws.specs.AllFacts.{AllFacts}
 use Rattle.machine_laws.specs.Freed.{FreedStaysFreed}
 
-split_leads : (book later : List Event) (s t : State) → Leads next s (book ++ later) t → (u : State) × Leads next s book u × Leads next u later t
+pub split_leads : (book later : List Event) (s t : State) → Leads next s (book ++ later) t → (u : State) × Leads next s book u × Leads next u later t
 split_leads [] later s t leads = (s, refl, leads)
 split_leads (e ∷ book) later s t leads = let rest = split_leads book later leads.0 t leads.2 in (rest.0, (leads.0, leads.1, rest.1), rest.2)
 

@@ -9,7 +9,9 @@ use Rattle.event_rule.specs.declared.event.Event.TheVariants.{Take, Go, Collect,
 use Rattle.count_laws.proofs.events.Acting.{Beside, collects_keep, goes_keep, leaves_keep, takes_keep}
 use Rattle.count_laws.proofs.local.Cleaning.{clean-first, clean-next}
 use Rattle.count_laws.proofs.events.EitherMode.{lives_left}
+use Rattle.count_laws.specs.Facts.{KeepsCounts}
 use Rattle.count_laws.proofs.letters.Named.{named_left}
+use Rattle.count_laws.proofs.letters.Reached.{reached_left, rows_left}
 use Rattle.count_laws.proofs.local.NoSelf.{no_self-first, no_self-next}
 use Rattle.count_laws.proofs.letters.OwnLetters.{runs_name_own}
 use Rattle.count_laws.proofs.agreement.Reachable.{reachable_lives}
@@ -119,6 +121,9 @@ never_early program options heavy book s run =
       left = reachable_left options.trace facts.0 s facts.2;
       freed = λ x gone r. gone.1 (reachable_left options.trace facts.0 s facts.2 x r);
       named = named_left options.trace (thing_row (plain_row facts.0.actors)) (people_of facts.0.actors) s.actors facts.2.beside.counts (runs_name_own program options book s run);
+      reached = reached_left options.trace (thing_row (plain_row facts.0.actors)) (people_of facts.0.actors) s.actors facts.2.beside.counts;
+      rows = λ roots. rows_left (thing_row (plain_row facts.0.actors)) (people_of facts.0.actors) s.actors
+          (subst (λ trace. KeepsCounts trace (thing_row (plain_row facts.0.actors)) (people_of facts.0.actors) s.actors) roots facts.2.beside.counts);
     }
 
 pub never_too_early : NeverTooEarly

@@ -11,7 +11,7 @@ use Rattle.machine_rules.specs.Balance.{IsBalanced}
 use Rattle.count_laws.specs.Prefixes.{NeverOverdraws}
 use Rattle.machine_rules.specs.Cell.{Cell}
 use Rattle.machine_rules.specs.Left.{IsFreed, IsLeft}
-use Rattle.count_laws.specs.Named.{NamesNothingFreed}
+use Rattle.count_laws.specs.Named.{NamesNothingFreed, ReachesNothingFreed, RowsNameNothingFreed}
 use Rattle.count_laws.specs.LeftByRoots.{IsReachedOrHeld}
 use Rattle.event_rule.specs.Runs.{IsEnabled, IsQuiet, Leads, Goes}
 use Rattle.plain_rules.specs.Run.{plain_next}
@@ -60,8 +60,11 @@ pub record IsNeverTooEarly (program : Program) (options : Options) (book : List 
   -- what is reachable is left, and nothing freed is reachable
   pub left : (x : Thing) → IsReachable plain x → IsLeft s.actors x
   pub freed : (x : Thing) → IsFreed plain.actors s.actors x → IsReachable plain x → ⊥
-  -- no actor and no letter names what was freed
+  -- no actor and no letter names what was freed, and no actor reaches it through the rows that it has
   pub named : NamesNothingFreed s.actors
+  pub reached : ReachesNothingFreed options.trace s.actors
+  -- with root-only tracing, no row that an actor has or a letter brings is of what was freed, or names it
+  pub rows : options.trace ≡ Roots → RowsNameNothingFreed s.actors
 
 -- each prefix of a run is a run, and it is never too early
 abbrev pub NeverTooEarly : Type 0

@@ -3,4 +3,5 @@ pub mod Bounds
 pub mod Freed
 pub mod Laws
 pub mod Reaps
+pub mod Untold
 pub mod Work

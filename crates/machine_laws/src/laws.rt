@@ -4,6 +4,7 @@ ghost use Rattle.machine_laws.specs.Bounds.{RunsCountAtMost, RunsCountInFewBits}
 ghost use Rattle.machine_laws.specs.Freed.{FreedStaysFreed};
 ghost use Rattle.machine_laws.specs.Laws.{StartHasAllFacts, EventsKeepAllFacts, RunsHaveAllFacts, NeverTooEarly, ExactlyAtQuiet, ExactlyAtQuietByRoots, RunsAreTracedByRoots, DetectorRestsAtQuiet, EventsLeaveLess, DeepNeedsNoGet, RestsBetweenChoices, RunsCanRest, GarbageIsGone, GarbageIsGoneByRoots};
 ghost use Rattle.machine_laws.specs.Reaps.{ReapsTakeTheDone, RunsReapTheDone};
+ghost use Rattle.machine_laws.specs.Untold.{ReapsLeaveNoneTold, RunsTellNoneOfTheReaped, UntoldStaysUntold};
 
 /// Where a run begins, all facts hold: the machine agrees with the one that frees nothing, counts
 /// balance and are never overdrawn, each actor knows what it reaches (with root-only tracing, what its fields,
@@ -33,7 +34,9 @@ pub fn every_run_is_traced_by_roots()
 
 /// Nothing is reclaimed too early (Orca, OOPSLA 2017; MAC, OOPSLA 2013): after each prefix of each
 /// run, whatever the order of its events, nothing that was freed is reachable in the machine that
-/// frees nothing, which makes the same choices and prints the same; and counts balance.
+/// frees nothing, which makes the same choices and prints the same; and counts balance. No actor and no
+/// letter names what was freed, and none reaches it through its rows; with root-only tracing, not even a
+/// row that a letter brought is of it.
 pub fn never_too_early()
     ensures { NeverTooEarly }
 {}
@@ -92,4 +95,12 @@ pub fn freed_stays_freed()
 pub fn reaps_take_the_done()
     ensures state { ReapsTakeTheDone }
     ensures run { RunsReapTheDone }
+{}
+
+/// Nothing is told of a reaped actor: no report of it is kept, and no note that it is blocked, or is so no
+/// more, is on its way, after the reap or at any time later.
+pub fn nothing_is_told_of_the_reaped()
+    ensures reap { ReapsLeaveNoneTold }
+    ensures stays { UntoldStaysUntold }
+    ensures run { RunsTellNoneOfTheReaped }
 {}

@@ -19,7 +19,7 @@ use Rattle.reach_walk.proofs.Elements.{Contains-head, Contains-later, Contains-c
 pub first_less : (x : Thing) (xs : List Thing) → IsStrictlySortedBy thing_cmp (x ∷ xs) → (y : Thing) → Contains xs y → thing_cmp x y ≡ Less
 first_less x xs sorted y c = All-contains (λ z. thing_cmp x z ≡ Less) xs y (All-from_recursion (λ z. thing_cmp x z ≡ Less) xs (sorted_head thing_cmp x xs sorted)) c
 
-sorted_cons : (x : Thing) (xs : List Thing) → ((y : Thing) → Contains xs y → thing_cmp x y ≡ Less) → IsStrictlySortedBy thing_cmp xs → IsStrictlySortedBy thing_cmp (x ∷ xs)
+pub sorted_cons : (x : Thing) (xs : List Thing) → ((y : Thing) → Contains xs y → thing_cmp x y ≡ Less) → IsStrictlySortedBy thing_cmp xs → IsStrictlySortedBy thing_cmp (x ∷ xs)
 unfolding IsStrictlySortedBy
 sorted_cons x xs less sorted = (recursion_from_All (λ y. thing_cmp x y ≡ Less) xs (All-weaker (Contains xs) (λ y. thing_cmp x y ≡ Less) less xs (All-contains_itself xs)), sorted)
 
@@ -95,7 +95,7 @@ in_order-only (y ∷ ys) x c = elim (put-only y (in_order ys) x c) as (λ _. Con
   | inr d ↦ Contains-later y ys x (in_order-only ys x d)
 ]
 
-sorted_nil : IsStrictlySortedBy thing_cmp []
+pub sorted_nil : IsStrictlySortedBy thing_cmp []
 unfolding IsStrictlySortedBy
 sorted_nil = tt
 

@@ -103,7 +103,7 @@ in_letters [] x h = elim h [ ]
 in_letters (l ∷ letters) x (here n) = names_left l.args (flat_map (λ l. l.args) letters) x n
 in_letters (l ∷ letters) x (later h) = names_right l.args (flat_map (λ l. l.args) letters) x (in_letters letters x h)
 
-letters_in : (letters : List PlainLetter) (x : Thing) → Names (flat_map (λ l. l.args) letters) x → Letters letters x
+pub letters_in : (letters : List PlainLetter) (x : Thing) → Names (flat_map (λ l. l.args) letters) x → Letters letters x
 letters_in [] x n = no_names x _ n
 letters_in (l ∷ letters) x n = ⊎_elim (λ m. here m) (λ m. later (letters_in letters x m)) (names_cases l.args (flat_map (λ l. l.args) letters) x n)
 

@@ -61,7 +61,7 @@ adds_push s b l a = by_seat (seat_at s b) refl
         (λ not. adds_other s b a (with_letter_more l (Some o)) not)
         (cases_eq a b))
 
-adds_decs : (gs : List (ℕ × List Amount)) (s : Actors) (a : ℕ) → Adds s (push_decs gs s) a
+pub adds_decs : (gs : List (ℕ × List Amount)) (s : Actors) (a : ℕ) → Adds s (push_decs gs s) a
 unfolding push_decs
 adds_decs [] s a = adds_same s s a refl
 adds_decs (g ∷ gs) s a = adds_trans s (push_letter g.0 (Dec g.1) s) _ a (adds_push s g.0 (Dec g.1) a) (adds_decs gs (push_letter g.0 (Dec g.1) s) a)

@@ -188,6 +188,7 @@ module _ (program : Program) (found : Option ℕ) where
     mine = λ n row e. absurd (no_own_row n row e);
     right = λ n row got. absurd (let z = m.get-empty {X = Row} thing_cmp (Obj n) in none_row row (sym z ∙ got));
     brought = λ n row out h is. absurd (none_row row (sym (no_rows (Obj n)) ∙ is));
+    led = λ n row got. absurd (let z = m.get-empty {X = Row} thing_cmp (Obj n) in none_row row (sym z ∙ got));
     letters = letters_rooted found;
     backed = λ x k o h. absurd (let z = letters_say found x in omega (arith, z.0, sum-parts (inc_of x) k (letters found)));
   }

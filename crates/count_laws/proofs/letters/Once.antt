@@ -54,7 +54,7 @@ pub load_once : (trace : Trace) (me : ℕ) (h : Holdings) (args : List Value) (x
 load_once Deep me h args x = (load_from-exact me h args).once x
 load_once Roots me h args x = roots_once args x
 
-pub times_all : (x : Thing) (es : List Loaded) → times_in (λ (e : Loaded). e.0) x es ≡ times_loaded x es
+times_all : (x : Thing) (es : List Loaded) → times_in (λ (e : Loaded). e.0) x es ≡ times_loaded x es
 unfolding times_loaded
 times_all x es = refl
 

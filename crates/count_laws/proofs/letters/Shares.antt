@@ -1,81 +1,51 @@
--- How often a thing stands in what is minted and in what goes back, owner by owner.
-use Rattle.std.proofs.Common.{◌≡◌, ◌≢◌, ℕ, ◌+◌, ◌<◌, ◌≤◌, ◌==◌, not, cond, Bool, true, false, T, Option, List, [], ◌∷◌, Contains, filter, map, refl, ap, sym, ◌∙◌, arith, subst, ⊎_elim, eq-eqb, ne_eqb, eqb-true}
+-- What is minted, and what goes back to each owner, is for that owner alone, each thing once, in the order of things.
+use Rattle.std.proofs.Common.{◌≡◌, ℕ, ◌<◌, ◌==◌, not, cond, Bool, true, false, T, Option, None, List, [], ◌∷◌, Contains, filter, map, refl, ap, sym, ◌∙◌, arith, subst, ⊎_elim, eq-eqb, ne_eqb, eqb-true}
 use Rattle.std.specs.FinMap as m
 use Rattle.std.specs.FinMap.Entries.{below_all}
 use Rattle.std.specs.List.{AllByRecursion}
-use Rattle.std.specs.Prelude.{if◌then◌else◌, sum_by}
+use Rattle.std.specs.List.Sorted.{IsStrictlySortedBy}
+use Rattle.std.specs.Ordering.{is_lt}
+use Rattle.std.specs.Prelude.{if◌then◌else◌}
+use Rattle.std.specs.declared.cmp.Ordering.{Ordering}
+use Rattle.std.specs.declared.cmp.Ordering.TheVariants.{Less, Equal, Greater}
 use Rattle.std.proofs.lemmas.Bool.{cases_eq}
+use Rattle.std.proofs.lemmas.List.{map-id}
+use Rattle.std.proofs.lemmas.List.Elements.{All-contains, filter_passes}
+use Rattle.std.proofs.lemmas.Map.Keys.{sorted_tail}
+use Rattle.std.proofs.lemmas.List.Kept.{IsStrictlySortedBy-filter}
 use Rattle.std.proofs.lemmas.List.Sums.{sum_by-cons}
-use Rattle.orca_names.proofs.ThingOrder.{cases_thing, is_eq_true, is_ne_false}
+use Rattle.orca_names.proofs.ThingOrder.{cases_thing, is_eq_true}
 use Rattle.orca_names.specs.Names.{is_thing, owner_of, thing_cmp, times_among}
 use Rattle.orca_names.specs.declared.names.Thing.{Thing}
 use Rattle.orca_names.specs.declared.names.Thing.TheVariants.{Actor}
 use Rattle.orca_names.specs.declared.names.Value.{Value}
 use Rattle.reach_walk.proofs.Elements.{Contains-cons_cases, Contains-head, Contains-later, none_in_nil}
-use Rattle.reach_walk.proofs.InOrder.{in_order-only, in_order-sorted}
+use Rattle.reach_walk.proofs.InOrder.{first_less, in_order-only, in_order-sorted, sorted_cons, sorted_nil}
 use Rattle.reach_walk.specs.Marks.{in_order, with_owners}
 use Rattle.letter_kinds.proofs.Counts.{amount-nil, amount-other}
-use Rattle.letter_kinds.proofs.Filters.{sum_by-filter_le}
 use Rattle.letter_kinds.proofs.Raising.{times_in}
 use Rattle.letter_kinds.specs.Counting.{Amount, Loaded, by_owner, given_back, is_lacking, join_owner, to_mint}
 use Rattle.letter_kinds.specs.Holdings.{Holdings, Row}
 use Rattle.letter_kinds.specs.Sums.{amount_of}
-use Rattle.count_laws.proofs.letters.Once.{load_once, none_more, sorted_once, times_all}
-use Rattle.count_laws.proofs.balance.Sweeping.{both_true, not_above}
+use Rattle.count_laws.proofs.balance.Sweeping.{both_true}
+use Rattle.count_laws.proofs.knowledge.Loads.{load_exact, load_from-exact}
+use Rattle.count_laws.proofs.letters.Once.{none_more, sorted_once}
 use Rattle.machine_rules.specs.Go.{lacking_from, lacks, load_from, to_need}
 use Rattle.count_laws.specs.Letters.{AreFor}
 use Rattle.orca_names.specs.declared.trace.Trace.{Trace}
+use Rattle.orca_names.specs.declared.trace.Trace.TheVariants.{Deep, Roots}
 
--- ---- one more
+-- ---- the things that stand in pairs, and those that a filter keeps
 
-among_same : {A : Type 0} (x : Thing) (e : Thing × A) (es : List (Thing × A)) → x ≡ e.0 → times_among x (e ∷ es) ≡ 1 + times_among x es
-among_same x e es is = sum_by-cons (λ f. if is_thing x f.0 then 1 else 0) e es ∙ rw (is_eq_true x e.0 is) refl
+abbrev things_of : {A : Type 0} → List (Thing × A) → List Thing
+things_of es = map (λ e. e.0) es
 
-among_other : {A : Type 0} (x : Thing) (e : Thing × A) (es : List (Thing × A)) → x ≢ e.0 → times_among x (e ∷ es) ≡ times_among x es
-among_other x e es not = sum_by-cons (λ f. if is_thing x f.0 then 1 else 0) e es ∙ rw (is_ne_false x e.0 not) (omega arith)
+abbrev IsRising : List Thing → Type 0
+IsRising xs = IsStrictlySortedBy thing_cmp xs
 
--- ---- of a list some stay, each with an amount
-
-module _ {A : Type 0} (thing : A → Thing) (value : A → ℕ) (x : Thing) where
-  in_cons : (e : A) (es : List A) → times_in thing x (e ∷ es) ≡ (if is_thing x (thing e) then 1 else 0) + times_in thing x es
-  in_cons e es = sum_by-cons (λ e. if is_thing x (thing e) then 1 else 0) e es
-
-  among_more : (e : A) (es later : List A) (b : Bool) → times_among x (map (λ e. (thing e, value e)) later) ≤ times_in thing x es
-      → times_among x (map (λ e. (thing e, value e)) (cond b (e ∷ later) later)) ≤ times_in thing x (e ∷ es)
-  among_more e es later false le = let z = in_cons e es in omega arith
-  among_more e es later true le = ⊎_elim
-      (λ is. let t = among_same x (thing e, value e) (map (λ e. (thing e, value e)) later) is in rw (in_cons e es, is_eq_true x (thing e) is) (omega arith))
-      (λ not. let t = among_other x (thing e, value e) (map (λ e. (thing e, value e)) later) not in rw (in_cons e es, is_ne_false x (thing e) not) (omega arith))
-      (cases_thing x (thing e))
-
-  pub among_le : (keep : A → Bool) (es : List A) → times_among x (map (λ e. (thing e, value e)) (filter keep es)) ≤ times_in thing x es
-  among_le keep [] = omega arith
-  among_le keep (e ∷ es) = among_more e es (filter keep es) (keep e) (among_le keep es)
-
-  -- who stays passed
-  pub among_passes : (p : Thing → Bool) (es : List A) → 0 < times_among x (map (λ e. (thing e, value e)) (filter (λ e. p (thing e)) es)) → p x ≡ true
-  among_passes p [] h = absurd (omega arith)
-  among_passes p (e ∷ es) h = elim (p (thing e)) as (λ b. p (thing e) ≡ b → 0 < times_among x (map (λ e. (thing e, value e)) (cond b (e ∷ filter (λ e. p (thing e)) es) (filter (λ e. p (thing e)) es))) → p x ≡ true) [
-    | true ↦ λ yes h. ⊎_elim
-        (λ is. ap p is ∙ yes)
-        (λ not. among_passes p es (let t = among_other x (thing e, value e) (map (λ e. (thing e, value e)) (filter (λ e. p (thing e)) es)) not in omega arith))
-        (cases_thing x (thing e))
-    | false ↦ λ no h. among_passes p es h
-  ] refl h
-
--- ---- what is minted
-
-pub mint_is_for : (trace : Trace) (w me b : ℕ) (h : Holdings) (args : List Value) (lacked : List Loaded) → lacking_from trace me h args ≡ lacked → AreFor b (to_mint w b lacked)
-mint_is_for trace w me b h args lacked is = record {
-  own = λ x some. eqb-true (owner_of x) b (among_passes (λ (e : Loaded). e.0) (λ e. w) x (λ y. owner_of y == b) lacked some);
-  once = λ x.
-      let most : times_in (λ (e : Loaded). e.0) x (lacking_from trace me h args) ≤ times_in (λ (e : Loaded). e.0) x (load_from trace me h args)
-      = sum_by-filter_le (λ e. if is_thing x e.0 then 1 else 0) (λ e. is_lacking me h e.0) (load_from trace me h args) in
-      let one = load_once trace me h args x in
-      let all = times_all x (load_from trace me h args) in
-      let k = among_le (λ (e : Loaded). e.0) (λ e. w) x (λ e. owner_of e.0 == b) lacked in
-      let n = ap (times_in (λ (e : Loaded). e.0) x) is in omega arith;
-}
+times_of : {A : Type 0} (x : Thing) (es : List (Thing × A)) → times_among x es ≡ times_in (λ y. y) x (things_of es)
+times_of x [] = refl
+times_of x (e ∷ es) = omega (arith, times_of x es, sum_by-cons (λ f. if is_thing x f.0 then 1 else 0) e es, sum_by-cons (λ y. if is_thing x y then 1 else 0) e.0 (things_of es))
 
 some_in : (x : Thing) (ys : List Thing) → 0 < times_in (λ y. y) x ys → Contains ys x
 some_in x [] h = absurd (omega arith)
@@ -84,26 +54,75 @@ some_in x (y ∷ ys) h = ⊎_elim
     (λ not. Contains-later y ys x (some_in x ys (let t = none_more x y ys not in omega arith)))
     (cases_thing x y)
 
-pub need_is_for : (w me : ℕ) (h : Holdings) (x : Thing) → AreFor (owner_of x) (to_need w me h x)
-need_is_for w me h x = record {
-  own = λ y some.
-      let k = among_le (λ (z : Thing). z) (λ z. w) y (lacks me h) (in_order (with_owners (x ∷ []))) in
-      let c = in_order-only (with_owners (x ∷ [])) y (some_in y (in_order (with_owners (x ∷ []))) (omega arith)) in
-      ⊎_elim
-      (λ same. ap owner_of (sym same))
-      (λ later. ⊎_elim (λ same. ap owner_of (sym same)) (λ none. none_in_nil y _ none) (Contains-cons_cases (Actor (owner_of x)) [] y later))
-      (Contains-cons_cases x (Actor (owner_of x) ∷ []) y c);
-  once = λ y.
-      let k = among_le (λ (z : Thing). z) (λ z. w) y (lacks me h) (in_order (with_owners (x ∷ []))) in
-      let o = sorted_once y _ (in_order-sorted (with_owners (x ∷ []))) in omega arith;
+-- things of one owner that rise
+are_for : (a : ℕ) (es : List Amount) → ((x : Thing) → Contains (things_of es) x → owner_of x ≡ a) → IsRising (things_of es) → AreFor a es
+are_for a es own rising = record {
+  own = λ x some. own x (some_in x (things_of es) (let t = times_of x es in omega arith));
+  once = λ x. let t = times_of x es in let o = sorted_once x (things_of es) rising in omega arith;
+  rising = rising;
 }
+
+module _ {A : Type 0} (thing : A → Thing) where
+  kept_things : (p : Thing → Bool) (es : List A) → map thing (filter (λ e. p (thing e)) es) ≡ filter p (map thing es)
+  kept_things p [] = refl
+  kept_things p (e ∷ es) = elim (p (thing e)) as (λ b. map thing (cond b (e ∷ filter (λ e. p (thing e)) es) (filter (λ e. p (thing e)) es)) ≡ cond b (thing e ∷ filter p (map thing es)) (filter p (map thing es))) [
+    | true ↦ ap (λ ys. thing e ∷ ys) (kept_things p es)
+    | false ↦ kept_things p es
+  ]
+
+  things_with : (value : A → ℕ) (es : List A) → things_of (map (λ e. (thing e, value e)) es) ≡ map thing es
+  things_with value [] = refl
+  things_with value (e ∷ es) = ap (λ ys. thing e ∷ ys) (things_with value es)
+
+  -- with amounts
+  kept_with : (value : A → ℕ) (p : Thing → Bool) (es : List A) → things_of (map (λ e. (thing e, value e)) (filter (λ e. p (thing e)) es)) ≡ filter p (map thing es)
+  kept_with value p es = things_with value (filter (λ e. p (thing e)) es) ∙ kept_things p es
+
+passes : (p : Thing → Bool) (xs : List Thing) (x : Thing) → Contains (filter p xs) x → p x ≡ true
+passes p xs x c = All-contains (λ y. p y ≡ true) (filter p xs) x (filter_passes p xs) c
+
+was_there : (p : Thing → Bool) (xs : List Thing) (x : Thing) → Contains (filter p xs) x → Contains xs x
+was_there p [] x c = c
+was_there p (y ∷ ys) x c = elim (p y) as (λ b. Contains (cond b (y ∷ filter p ys) (filter p ys)) x → Contains (y ∷ ys) x) [
+  | true ↦ λ c. ⊎_elim
+      (λ is. subst (Contains (y ∷ ys)) is (Contains-head y ys))
+      (λ later. Contains-later y ys x (was_there p ys x later))
+      (Contains-cons_cases y (filter p ys) x c)
+  | false ↦ λ c. Contains-later y ys x (was_there p ys x c)
+] c
+
+-- ---- what is minted
+
+load_rising : (trace : Trace) (me : ℕ) (h : Holdings) (args : List Value) → IsRising (things_of (load_from trace me h args))
+load_rising Deep me h args = (load_from-exact me h args).rising
+load_rising Roots me h args = (load_exact (λ n. None) [] args (λ n row e. cc)).rising
+
+pub mint_is_for : (trace : Trace) (w me b : ℕ) (h : Holdings) (args : List Value) (lacked : List Loaded) → lacking_from trace me h args ≡ lacked → AreFor b (to_mint w b lacked)
+mint_is_for trace w me b h args lacked is =
+    let lacks : things_of lacked ≡ filter (is_lacking me h) (things_of (load_from trace me h args)) = ap things_of (sym is) ∙ kept_things (λ (e : Loaded). e.0) (is_lacking me h) (load_from trace me h args) in
+    let minted : things_of (to_mint w b lacked) ≡ filter (λ y. owner_of y == b) (things_of lacked) = kept_with (λ (e : Loaded). e.0) (λ e. w) (λ y. owner_of y == b) lacked in
+    are_for b (to_mint w b lacked)
+    (λ x c. eqb-true (owner_of x) b (passes (λ y. owner_of y == b) (things_of lacked) x (subst (λ ys. Contains ys x) minted c)))
+    (subst IsRising (sym minted) (IsStrictlySortedBy-filter thing_cmp (λ y. owner_of y == b) (things_of lacked)
+    (subst IsRising (sym lacks) (IsStrictlySortedBy-filter thing_cmp (is_lacking me h) (things_of (load_from trace me h args)) (load_rising trace me h args)))))
+
+pub need_is_for : (w me : ℕ) (h : Holdings) (x : Thing) → AreFor (owner_of x) (to_need w me h x)
+need_is_for w me h x =
+    let pair = in_order (with_owners (x ∷ [])) in
+    let needed : things_of (to_need w me h x) ≡ filter (lacks me h) pair = kept_with (λ (y : Thing). y) (λ y. w) (lacks me h) pair ∙ ap (filter (lacks me h)) (map-id pair) in
+    are_for (owner_of x) (to_need w me h x)
+    (λ y c. ⊎_elim
+    (λ same. ap owner_of (sym same))
+    (λ later. ⊎_elim (λ same. ap owner_of (sym same)) (λ none. none_in_nil y _ none) (Contains-cons_cases (Actor (owner_of x)) [] y later))
+    (Contains-cons_cases x (Actor (owner_of x) ∷ []) y (in_order-only (with_owners (x ∷ [])) y (was_there (lacks me h) pair y (subst (λ ys. Contains ys y) needed c)))))
+    (subst IsRising (sym needed) (IsStrictlySortedBy-filter thing_cmp (lacks me h) pair (in_order-sorted (with_owners (x ∷ [])))))
 
 -- what has an amount stands there
 pub among_some : (x : Thing) (things : List Amount) → 0 < amount_of x things → 0 < times_among x things
 among_some x [] some = absurd (let z = amount-nil x in omega arith)
 among_some x (e ∷ es) some = ⊎_elim
-    (λ is. let t = among_same x e es is in omega arith)
-    (λ not. let t = among_other x e es not in let a = amount-other x e es not in let more = among_some x es (omega arith) in omega arith)
+    (λ is. rw (sum_by-cons (λ f. if is_thing x f.0 then 1 else 0) e es, is_eq_true x e.0 is) (omega arith))
+    (λ not. let t = sum_by-cons (λ f. if is_thing x f.0 then 1 else 0) e es in let a = amount-other x e es not in let more = among_some x es (omega arith) in omega arith)
     (cases_thing x e.0)
 
 -- ---- what goes back
@@ -111,95 +130,78 @@ among_some x (e ∷ es) some = ⊎_elim
 abbrev Entry : Type 0
 Entry = Thing × (ℕ × Option Row)
 
-above_none : (x : Thing) (es : List Entry) → T (below_all thing_cmp x es) → times_in (λ (e : Entry). e.0) x es ≡ 0
-above_none x [] h = refl
-above_none x (e ∷ es) h =
+is_less : (o : Ordering) → T (is_lt o) → o ≡ Less
+is_less Less h = refl
+is_less Equal h = absurd h
+is_less Greater h = absurd h
+
+below_all_less : (x : Thing) (es : List Entry) → T (below_all thing_cmp x es) → (y : Thing) → Contains (things_of es) y → thing_cmp x y ≡ Less
+below_all_less x [] h y c = none_in_nil y _ c
+below_all_less x (e ∷ es) h y c =
     let parts = both_true _ _ h in
-    let z = above_none x es parts.1 in
-    let t = sum_by-cons (λ (f : Entry). if is_thing x f.0 then 1 else 0) e es in
-    t ∙ rw (is_ne_false x e.0 (not_above x e.0 parts.0)) (omega arith)
-
-entries_once : (x : Thing) (es : List Entry) → T (m.is_sorted thing_cmp es) → times_in (λ (e : Entry). e.0) x es ≤ 1
-entries_once x [] h = omega arith
-entries_once x (e ∷ es) h =
-    let parts : T (below_all thing_cmp e.0 es) × T (m.is_sorted thing_cmp es) = both_true _ _ h in
     ⊎_elim
-    (λ is. let z : times_in (λ (e : Entry). e.0) x es ≡ 0 = above_none x es (rw is parts.0) in rw (sum_by-cons (λ (f : Entry). if is_thing x f.0 then 1 else 0) e es, is_eq_true x e.0 is) (omega arith))
-    (λ not. let z = entries_once x es parts.1 in rw (sum_by-cons (λ (f : Entry). if is_thing x f.0 then 1 else 0) e es, is_ne_false x e.0 not) (omega arith))
-    (cases_thing x e.0)
+    (λ is. subst (λ z. thing_cmp x z ≡ Less) is (is_less (thing_cmp x e.0) parts.0))
+    (λ later. below_all_less x es parts.1 y later)
+    (Contains-cons_cases e.0 (things_of es) y c)
 
-back_once : (marked : Thing → Bool) (h : Holdings) (x : Thing) → times_among x (given_back marked h) ≤ 1
+entries_rise : (es : List Entry) → T (m.is_sorted thing_cmp es) → IsRising (things_of es)
+entries_rise [] h = sorted_nil
+entries_rise (e ∷ es) h = let parts = both_true _ _ h in sorted_cons e.0 (things_of es) (below_all_less e.0 es parts.0) (entries_rise es parts.1)
+
+back_rises : (marked : Thing → Bool) (h : Holdings) → IsRising (things_of (given_back marked h))
 unfolding given_back
-back_once marked h x =
-    let k = among_le (λ (e : Entry). e.0) (λ e. e.1.0) x (λ e. not (marked e.0)) (m.entries h.foreign) in
-    let o = entries_once x (m.entries h.foreign) (m.entries_sorted h.foreign) in omega arith
+back_rises marked h =
+    subst IsRising (sym (kept_with (λ (e : Entry). e.0) (λ e. e.1.0) (λ y. not (marked y)) (m.entries h.foreign)))
+    (IsStrictlySortedBy-filter thing_cmp (λ y. not (marked y)) (things_of (m.entries h.foreign)) (entries_rise (m.entries h.foreign) (m.entries_sorted h.foreign)))
 
 -- ---- by owner
 
 abbrev Group : Type 0
 Group = ℕ × List Amount
 
-abbrev in_groups : Thing → List Group → ℕ
-in_groups x groups = sum_by (λ (g : Group). times_among x g.1) groups
+-- the group has some of these, its owner's, which rise
+record IsShare (es : List Amount) (g : Group) : Type 0 where
+  own : (x : Thing) → Contains (things_of g.1) x → owner_of x ≡ g.0
+  among : (x : Thing) → Contains (things_of g.1) x → Contains (things_of es) x
+  rising : IsRising (things_of g.1)
 
-abbrev IsOwned : Group → Type 0
-IsOwned g = (x : Thing) → 0 < times_among x g.1 → owner_of x ≡ g.0
+shares_later : (e : Amount) (es : List Amount) (gs : List Group) → AllByRecursion (IsShare es) gs → AllByRecursion (IsShare (e ∷ es)) gs
+shares_later e es [] h = tt
+shares_later e es (g ∷ gs) h = (record { own = h.0.own; among = λ x c. Contains-later e.0 (things_of es) x (h.0.among x c); rising = h.0.rising }, shares_later e es gs h.1)
 
-groups_join : (e : Amount) (gs : List Group) (x : Thing) → in_groups x (join_owner e gs) ≡ times_among x (e ∷ []) + in_groups x gs
-groups_join e [] x = sum_by-cons (λ (g : Group). times_among x g.1) (owner_of e.0, e ∷ []) []
-groups_join e (g ∷ gs) x = ⊎_elim
-    (λ same. rw (eq-eqb (owner_of e.0) g.0 same) (omega (
-      arith,
-      sum_by-cons (λ (g : Group). times_among x g.1) (g.0, e ∷ g.1) gs,
-      sum_by-cons (λ (g : Group). times_among x g.1) g gs,
-      sum_by-cons (λ f. if is_thing x f.0 then 1 else 0) e g.1,
-      sum_by-cons (λ f. if is_thing x f.0 then 1 else 0) e [],
-    )))
-    (λ other. rw (ne_eqb (owner_of e.0) g.0 other) (sum_by-cons (λ (g : Group). times_among x g.1) (owner_of e.0, e ∷ []) (g ∷ gs)))
+-- one more in front
+share_more : (e : Amount) (es : List Amount) (b : ℕ) (things : List Amount) → IsRising (things_of (e ∷ es)) → owner_of e.0 ≡ b → IsShare es (b, things) → IsShare (e ∷ es) (b, e ∷ things)
+share_more e es b things rises mine q = record {
+  own = λ x c. ⊎_elim (λ is. ap owner_of (sym is) ∙ mine) (λ later. q.own x later) (Contains-cons_cases e.0 (things_of things) x c);
+  among = λ x c. ⊎_elim
+      (λ is. subst (Contains (things_of (e ∷ es))) is (Contains-head e.0 (things_of es)))
+      (λ later. Contains-later e.0 (things_of es) x (q.among x later))
+      (Contains-cons_cases e.0 (things_of things) x c);
+  rising = sorted_cons e.0 (things_of things) (λ y c. first_less e.0 (things_of es) rises y (q.among y c)) q.rising;
+}
+
+share_none : (es : List Amount) (b : ℕ) → IsShare es (b, [])
+share_none es b = record { own = λ x c. none_in_nil x _ c; among = λ x c. none_in_nil x _ c; rising = sorted_nil }
+
+shares_join : (e : Amount) (es : List Amount) (gs : List Group) → IsRising (things_of (e ∷ es)) → AllByRecursion (IsShare es) gs → AllByRecursion (IsShare (e ∷ es)) (join_owner e gs)
+shares_join e es [] rises h = (share_more e es (owner_of e.0) [] rises refl (share_none es (owner_of e.0)), tt)
+shares_join e es (g ∷ gs) rises h = ⊎_elim
+    (λ same. rw (eq-eqb (owner_of e.0) g.0 same) (share_more e es g.0 g.1 rises same h.0, shares_later e es gs h.1))
+    (λ other. rw (ne_eqb (owner_of e.0) g.0 other) (share_more e es (owner_of e.0) [] rises refl (share_none es (owner_of e.0)), shares_later e es (g ∷ gs) h))
     (cases_eq (owner_of e.0) g.0)
 
-groups_all : (es : List Amount) (x : Thing) → in_groups x (by_owner es) ≡ times_among x es
+shares : (es : List Amount) → IsRising (things_of es) → AllByRecursion (IsShare es) (by_owner es)
 unfolding by_owner
-groups_all [] x = refl
-groups_all (e ∷ es) x = omega (
-  arith,
-  groups_join e (by_owner es) x,
-  groups_all es x,
-  sum_by-cons (λ f. if is_thing x f.0 then 1 else 0) e es,
-  sum_by-cons (λ f. if is_thing x f.0 then 1 else 0) e [],
-)
-
-owned_one : (e : Amount) (b : ℕ) (things : List Amount) → owner_of e.0 ≡ b → IsOwned (b, things) → IsOwned (b, e ∷ things)
-owned_one e b things mine owned x some = ⊎_elim
-    (λ is. ap owner_of is ∙ mine)
-    (λ not. owned x (let t = among_other x e things not in omega arith))
-    (cases_thing x e.0)
-
-owned_none : (b : ℕ) → IsOwned (b, [])
-owned_none b x some = absurd (omega arith)
-
-owned_join : (e : Amount) (gs : List Group) → AllByRecursion IsOwned gs → AllByRecursion IsOwned (join_owner e gs)
-owned_join e [] h = (owned_one e (owner_of e.0) [] refl (owned_none (owner_of e.0)), tt)
-owned_join e (g ∷ gs) h = ⊎_elim
-    (λ same. rw (eq-eqb (owner_of e.0) g.0 same) (owned_one e g.0 g.1 same h.0, h.1))
-    (λ other. rw (ne_eqb (owner_of e.0) g.0 other) (owned_one e (owner_of e.0) [] refl (owned_none (owner_of e.0)), h))
-    (cases_eq (owner_of e.0) g.0)
-
-owned_groups : (es : List Amount) → AllByRecursion IsOwned (by_owner es)
-unfolding by_owner
-owned_groups [] = tt
-owned_groups (e ∷ es) = owned_join e (by_owner es) (owned_groups es)
+shares [] rises = tt
+shares (e ∷ es) rises = shares_join e es (by_owner es) rises (shares es (sorted_tail thing_cmp e.0 (things_of es) rises))
 
 -- each group is for its owner
 abbrev pub AreForOwners : List (ℕ × List Amount) → Type 0
 AreForOwners groups = AllByRecursion (λ g. AreFor g.0 g.1) groups
 
-groups_for : (gs : List Group) → AllByRecursion IsOwned gs → ((x : Thing) → in_groups x gs ≤ 1) → AreForOwners gs
-groups_for [] owned once = tt
-groups_for (g ∷ gs) owned once = (
-  record { own = owned.0; once = λ x. let z = once x in omega (arith, sum_by-cons (λ (g : Group). times_among x g.1) g gs) },
-  groups_for gs owned.1 (λ x. let z = once x in omega (arith, sum_by-cons (λ (g : Group). times_among x g.1) g gs)),
-)
+groups_for : (es : List Amount) (gs : List Group) → AllByRecursion (IsShare es) gs → AreForOwners gs
+groups_for es [] h = tt
+groups_for es (g ∷ gs) h = (are_for g.0 g.1 h.0.own h.0.rising, groups_for es gs h.1)
 
 pub back_is_for : (marked : Thing → Bool) (h : Holdings) → AreForOwners (by_owner (given_back marked h))
-back_is_for marked h = groups_for (by_owner (given_back marked h)) (owned_groups (given_back marked h)) (λ x. let z = groups_all (given_back marked h) x in let o = back_once marked h x in omega arith)
+back_is_for marked h = groups_for (given_back marked h) (by_owner (given_back marked h)) (shares (given_back marked h) (back_rises marked h))

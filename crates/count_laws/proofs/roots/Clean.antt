@@ -1,89 +1,35 @@
 -- With root-only tracing, an idle actor that did nothing since it collected has just what is marked, after every event.
-use Rattle.std.proofs.Common.{◌≡◌, ◌≢◌, ℕ, ◌<◌, ◌==◌, not, cond, Bool, true, false, T, is_some, Option, Some, None, List, [], ◌∷◌, map, filter, refl, sym, ap, subst, ◌∙◌, arith, ⊎_elim, eq-eqb, ne_eqb}
-use Rattle.std.proofs.lemmas.Bool.{cases_eq}
-use Rattle.std.proofs.lemmas.Cmp.{nat_cmp_total, tied_itself}
-use Rattle.std.proofs.lemmas.List.Elements.{Contains-append_cases, filter_map-append}
-use Rattle.std.specs.Cmp.{unsigned_tied}
+use Rattle.std.proofs.Common.{◌≡◌, ℕ, cond, Bool, true, false, is_some, Option, Some, None, List, refl, sym, ◌∙◌, arith, ⊎_elim}
 use Rattle.std.specs.FinMap as m
-use Rattle.std.specs.FinMap.Entries.{below_all}
-use Rattle.std.specs.Ordering.{is_lt, nat_cmp}
-use Rattle.std.specs.Prelude.{Contains}
+use Rattle.std.specs.Ordering.{nat_cmp}
 use Rattle.orca_names.specs.Names.{thing_cmp}
 use Rattle.orca_names.specs.declared.names.Thing.{Thing}
 use Rattle.orca_names.specs.declared.names.Thing.TheVariants.{Actor, Obj}
 use Rattle.behaviour_code.specs.declared.code.Program.{Program}
 use Rattle.turn_rules.specs.declared.act.Frame.{Frame}
 use Rattle.event_rule.specs.declared.event.Event.{Event}
-use Rattle.reach_walk.proofs.Elements.{Contains-cons_cases, Contains-head, Contains-later, none_in_nil}
-use Rattle.reach_walk.specs.Reach.{named_by, root, owned, thing_of, thing_row}
+use Rattle.reach_walk.specs.Reach.{root, owned, thing_row}
 use Rattle.letter_kinds.specs.Counting.{sweep}
-use Rattle.letter_kinds.specs.Holdings.{Row, has_own, nothing_held, own_in, row_count}
+use Rattle.letter_kinds.specs.Holdings.{Row, has_own, nothing_held}
 use Rattle.letter_kinds.specs.declared.letter.Letter.{Letter}
 use Rattle.letter_kinds.specs.declared.letter.Letter.TheVariants.{App, Inc, Dec, Confirm}
 use Rattle.count_laws.proofs.local.Local.{Local}
 use Rattle.count_laws.proofs.local.Locals.{every_first, every_next}
 use Rattle.count_laws.proofs.knowledge.Paths.{along_row, reach_into}
-use Rattle.count_laws.proofs.roots.Collect.{IsMarked, counted_values, is_counted, marks_sound, marks_whole, own_row-marked, own_row-stayed, own_value, starts_counted}
+use Rattle.count_laws.proofs.roots.Collect.{IsMarked, marks_sound, marks_whole, own_row-marked, own_row-stayed}
 use Rattle.count_laws.proofs.roots.Same.{has_own_row}
-use Rattle.count_laws.proofs.balance.Sweeping.{both_true, get_entry-sweep, own-sweep}
+use Rattle.count_laws.proofs.balance.Sweeping.{get_entry-sweep, own-sweep}
 use Rattle.machine_rules.specs.Cell.{Cell, clean_cell, own_row_of}
 use Rattle.count_laws.specs.Clean.{IsCleanByRootsAt, IsInOwnReach, IsSweptByRootsAt, StartsMarks, of_count, of_field}
-use Rattle.machine_rules.specs.Collect.{is_marked_by_roots, start_of_marks, without_unused}
+use Rattle.machine_rules.specs.Collect.{is_marked_by_roots, without_unused}
 use Rattle.machine_rules.specs.Actors.{Every}
-use Rattle.count_laws.specs.Known.{Names}
 use Rattle.event_rule.specs.Runs.{Goes}
 use Rattle.machine_rules.specs.Next.{next}
 use Rattle.machine_rules.specs.Options.{Options}
 use Rattle.orca_names.specs.declared.trace.Trace.TheVariants as options
 use Rattle.machine_rules.specs.State.{State, first_state}
 use Rattle.machine_rules.specs.Take.{cell_after}
-
--- ---- what stands among sorted entries is found
-
-abbrev Entry : Type 0
-Entry = ℕ × (Row × ℕ)
-
-below : (k : ℕ) (es : List Entry) → T (below_all nat_cmp k es) → (e : Entry) → Contains es e → T (is_lt (nat_cmp k e.0))
-below k [] h e c = none_in_nil e _ c
-below k (y ∷ es) h e c = let p = both_true _ _ h in ⊎_elim (λ same. subst (λ (z : Entry). T (is_lt (nat_cmp k z.0))) same p.0) (λ later. below k es p.1 e later) (Contains-cons_cases y es e c)
-
-apart : (k j : ℕ) → T (is_lt (nat_cmp k j)) → j ≢ k
-apart k j h e = absurd (subst (λ o. T (is_lt o)) (ap (nat_cmp k) e ∙ tied_itself nat_cmp_total k) h)
-
-found_in : (es : List Entry) → T (m.is_sorted nat_cmp es) → (e : Entry) → Contains es e → m.find nat_cmp e.0 es ≡ Some e.1
-found_in [] s e c = none_in_nil e _ c
-found_in (y ∷ es) s e c = let p = both_true _ _ s in ⊎_elim
-    (λ (same : y ≡ e). let key : e.0 ≡ y.0 = ap (λ (z : Entry). z.0) (sym same) in let row : Some y.1 ≡ Some e.1 = ap (λ (z : Entry). Some z.1) same in rw (unsigned_tied e.0 y.0, eq-eqb e.0 y.0 key) row)
-    (λ later. rw (unsigned_tied e.0 y.0, ne_eqb e.0 y.0 (apart y.0 e.0 (below y.0 es p.0 e later))) (found_in es p.1 e later))
-    (Contains-cons_cases y es e c)
-
-counted_is : (me : ℕ) (es : List Entry) (x : Thing) → Names (map (own_value me) (filter is_counted es)) x → (e : Entry) × Contains es e × (0 < e.1.1) × (Obj (record { owner = me; serial = e.0 }) ≡ x)
-counted_is me [] x n = none_in_nil x _ n
-counted_is me (y ∷ es) x n = by_count (is_counted y) refl n (counted_is me es x)
-  where
-    more : (e : Entry) × Contains es e × (0 < e.1.1) × (Obj (record { owner = me; serial = e.0 }) ≡ x) → (e : Entry) × Contains (y ∷ es) e × (0 < e.1.1) × (Obj (record { owner = me; serial = e.0 }) ≡ x)
-    more z = (z.0, Contains-later y es z.0 z.1, z.2, z.3)
-
-    some : not (y.1.1 == 0) ≡ true → 0 < y.1.1
-    some t = ⊎_elim (λ z. absurd (let w = rw (eq-eqb y.1.1 0 z) at t in cc)) (λ ne. omega arith) (cases_eq y.1.1 0)
-
-    by_count : (b : Bool) → is_counted y ≡ b → Names (map (own_value me) (cond b (y ∷ filter is_counted es) (filter is_counted es))) x → (Names (map (own_value me) (filter is_counted es)) x → (e : Entry) × Contains es e × (0 < e.1.1) × (Obj (record { owner = me; serial = e.0 }) ≡ x)) → (e : Entry) × Contains (y ∷ es) e × (0 < e.1.1) × (Obj (record { owner = me; serial = e.0 }) ≡ x)
-    by_count true t n rest = ⊎_elim
-        (λ same. (y, Contains-head y es, some t, same))
-        (λ later. more (rest later))
-        (Contains-cons_cases (Obj (record { owner = me; serial = y.0 })) (named_by (map (own_value me) (filter is_counted es))) x n)
-    by_count false t n rest = more (rest n)
-
--- where marks begin
-starts : (me : ℕ) (c : Cell) (x : Thing) → Names (start_of_marks me c) x → StartsMarks me c x
-unfolding start_of_marks own_in
-starts me c x n = ⊎_elim
-    (λ field. of_field field)
-    (λ counted.
-    let z = counted_is me (m.entries c.holdings.rows) x counted in
-    let got : m.get c.holdings.rows z.0.0 ≡ Some z.0.1 = m.get-entries c.holdings.rows z.0.0 ∙ found_in (m.entries c.holdings.rows) (m.entries_sorted c.holdings.rows) z.0 z.1 in
-    subst (StartsMarks me c) z.3 (of_count {n = record { owner = me; serial = z.0.0 }} refl (subst (λ (o : Option (Row × ℕ)). 0 < row_count o) (sym got) z.2)))
-    (Contains-append_cases (named_by c.fields.values) (named_by (counted_values me c)) x (subst (λ xs. Contains xs x) (filter_map-append thing_of c.fields.values (counted_values me c)) n))
+use Rattle.count_laws.proofs.roots.Starts.{starts, starts_counted}
 
 -- ---- a collection
 

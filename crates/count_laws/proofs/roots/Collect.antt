@@ -1,13 +1,10 @@
 -- With root-only tracing: a collection keeps the facts, and nothing that is backed goes.
-use Rattle.std.proofs.Common.{◌≡◌, ◌≢◌, ◌⊎◌, ℕ, zero, suc, ◌+◌, ◌<◌, ◌==◌, ◌||◌, not, cond, Bool, true, false, Option, Some, None, List, [], ◌∷◌, ◌++◌, map, filter, set, take, refl, sym, ◌∙◌, ap, arith, subst, inl, inr, ⊎_elim, eq-eqb, ne_eqb, eqb-true}
-use Rattle.std.specs.Prelude.{Contains, sum_by}
+use Rattle.std.proofs.Common.{◌≡◌, ◌≢◌, ◌⊎◌, ℕ, zero, suc, ◌+◌, ◌<◌, ◌==◌, ◌||◌, not, cond, Bool, true, false, Option, Some, None, List, set, take, refl, sym, ◌∙◌, ap, arith, subst, inl, inr, ⊎_elim, eq-eqb, ne_eqb}
+use Rattle.std.specs.Prelude.{sum_by}
 use Rattle.std.specs.FinMap as m
 use Rattle.std.specs.List.{list_any}
-use Rattle.std.specs.Ordering.{nat_cmp, eq_by_cmp}
-use Rattle.std.specs.Cmp.{unsigned_tied}
 use Rattle.std.proofs.lemmas.Bool.{cases_eq}
 use Rattle.std.proofs.lemmas.Cmp.{eq_by_cmp_equiv}
-use Rattle.std.proofs.lemmas.List.Elements.{Contains-append_left, Contains-append_right, filter_map-append}
 use Rattle.std.proofs.lemmas.Map.Views.{Contains-from_any, list_any-from_Contains}
 use Rattle.orca_names.proofs.ThingOrder.{is_same, thing_exact, thing_total}
 use Rattle.orca_names.specs.Names.{is_thing, owner_of}
@@ -15,11 +12,10 @@ use Rattle.orca_names.specs.declared.names.ObjName.{ObjName}
 use Rattle.orca_names.specs.declared.names.Thing.{Thing}
 use Rattle.orca_names.specs.declared.names.Thing.TheVariants.{Actor, Obj}
 use Rattle.orca_names.specs.declared.names.Value.{Value}
-use Rattle.orca_names.specs.declared.names.Value.TheVariants as values
-use Rattle.reach_walk.proofs.Elements.{Contains-head, Contains-later}
 use Rattle.reach_walk.proofs.MarkLaws.{marks-reached, reached-marks}
 use Rattle.reach_walk.specs.Marks.{Covers, marks_of}
-use Rattle.reach_walk.specs.Reach.{named_by, root, owned, thing_of, thing_row}
+use Rattle.reach_walk.specs.Reach.{root, owned, thing_row}
+use Rattle.letter_kinds.proofs.Counts.{counted_has}
 use Rattle.letter_kinds.proofs.Sums.{sum-nil}
 use Rattle.letter_kinds.specs.Counting.{by_owner, given_back, sweep}
 use Rattle.letter_kinds.specs.Holdings.{Holdings, Row, held_in, own_in, row_count}
@@ -31,7 +27,7 @@ use Rattle.count_laws.proofs.events.Every.{every_decs, every_set}
 use Rattle.count_laws.proofs.balance.InHand.{Balanced, in_hand}
 use Rattle.count_laws.proofs.knowledge.Paths.{along_row, reach_into}
 use Rattle.count_laws.proofs.knowledge.Receiving.{own_row}
-use Rattle.count_laws.proofs.roots.Rows.{by_own, listed-cover, rows_agree}
+use Rattle.count_laws.proofs.roots.Rows.{by_own, listed-cover, rows_agree, rows_sound}
 use Rattle.count_laws.proofs.roots.Same.{has_own_row, own_is_none, own_row_has, roots_push}
 use Rattle.count_laws.proofs.balance.Safety.{sum-parts}
 use Rattle.count_laws.proofs.balance.SeatReads.{letter_Dec}
@@ -46,6 +42,8 @@ use Rattle.count_laws.specs.Facts.{KeepsCounts}
 use Rattle.count_laws.specs.Known.{InFrame, IsKnown, Names, Reaches}
 use Rattle.count_laws.specs.KnownByRoots.{IsBacked, IsKnownWithOwner, IsNamedIn, IsRootsAt, WalkRoots, by_field, by_frame, by_row, held, mine, named}
 use Rattle.orca_names.specs.declared.trace.Trace.TheVariants as options
+use Rattle.count_laws.proofs.roots.Starts.{starts, starts_counted, starts_field}
+use Rattle.count_laws.specs.Clean.{StartsMarks, of_count, of_field}
 
 -- ---- marks, as a test
 
@@ -55,49 +53,6 @@ module _ (rows : ObjName → Option Row) (all : List ObjName) (roots : List Valu
 
   reached_any : Covers all rows → (x : Thing) → Reaches (thing_row rows) (Names roots) x → list_any (is_thing x) (marks_of rows all roots) ≡ true
   reached_any covers x r = list_any-from_Contains (eq_by_cmp_equiv thing_total) x (marks_of rows all roots) (reached-marks rows all roots covers x (along_edges rows (λ y n. n) r))
-
--- ---- where the walk starts
-
-abbrev pub own_value : ℕ → ℕ × (Row × ℕ) → Value
-own_value me e = values.Obj (record { owner = me; serial = e.0 })
-
-abbrev pub is_counted : ℕ × (Row × ℕ) → Bool
-is_counted e = not (e.1.1 == 0)
-
-counted_found : (me k : ℕ) (es : List (ℕ × (Row × ℕ))) (r : Row × ℕ) → m.find nat_cmp k es ≡ Some r → 0 < r.1 → Names (map (own_value me) (filter is_counted es)) (Obj (record { owner = me; serial = k }))
-counted_found me k [] r h some = cc
-counted_found me k (e ∷ es) r h some = elim (eq_by_cmp nat_cmp k e.0) as
-    (λ t. eq_by_cmp nat_cmp k e.0 ≡ t → cond t (Some e.1) (m.find nat_cmp k es) ≡ Some r → Names (map (own_value me) (filter is_counted (e ∷ es))) (Obj (record { owner = me; serial = k }))) [
-      | true ↦ λ t h.
-          let same : k ≡ e.0 = eqb-true k e.0 (sym (unsigned_tied k e.0) ∙ t) in
-          let is : e.1 ≡ r = cc in
-          let other : e.1.1 ≢ 0 = λ z. let w = ap (λ (p : Row × ℕ). p.1) is in omega arith in
-          rw (ne_eqb e.1.1 0 other) (subst (λ i. Contains (Obj (record { owner = me; serial = e.0 }) ∷ named_by (map (own_value me) (filter is_counted es))) (Obj (record { owner = me; serial = i }))) (sym same) (Contains-head _ _))
-      | false ↦ λ t h. later (is_counted e) (counted_found me k es r h some)
-    ] refl h
-  where
-    later : (b : Bool) → Names (map (own_value me) (filter is_counted es)) (Obj (record { owner = me; serial = k })) → Names (map (own_value me) (cond b (e ∷ filter is_counted es) (filter is_counted es))) (Obj (record { owner = me; serial = k }))
-    later true c = Contains-later _ _ _ c
-    later false c = c
-
-abbrev pub counted_values : ℕ → Cell → List Value
-counted_values me c = map (own_value me) (filter is_counted (m.entries c.holdings.rows))
-
-pub starts_counted : (me : ℕ) (c : Cell) (n : ObjName) → n.owner ≡ me → 0 < own_in c.holdings (Obj n) → Names (start_of_marks me c) (Obj n)
-unfolding start_of_marks own_in
-starts_counted me c n o some = by_row (m.get c.holdings.rows n.serial) refl some
-  where
-    by_row : (r : Option (Row × ℕ)) → m.get c.holdings.rows n.serial ≡ r → 0 < row_count r → Names (c.fields.values ++ counted_values me c) (Obj n)
-    by_row None e h = absurd (omega arith)
-    by_row (Some r) e h = subst (λ xs. Contains xs (Obj n)) (sym (filter_map-append thing_of c.fields.values (counted_values me c)))
-        (Contains-append_right (named_by c.fields.values) (named_by (counted_values me c)) (Obj n)
-        (subst (λ i. Names (counted_values me c) (Obj (record { owner = i; serial = n.serial }))) (sym o)
-        (counted_found me n.serial (m.entries c.holdings.rows) r (sym (m.get-entries c.holdings.rows n.serial) ∙ e) h)))
-
-pub starts_field : (me : ℕ) (c : Cell) (x : Thing) → Names c.fields.values x → Names (start_of_marks me c) x
-unfolding start_of_marks
-starts_field me c x h =
-    subst (λ xs. Contains xs x) (sym (filter_map-append thing_of c.fields.values (counted_values me c))) (Contains-append_left (named_by c.fields.values) (named_by (counted_values me c)) x h)
 
 -- ---- the marks of an actor
 
@@ -119,6 +74,10 @@ module _ (a : ℕ) (c : Cell) where
   pub use_whole : (x : Thing) → Reaches (thing_row (row_by_roots a c)) (Names (start_of_marks a c)) x → is_in_use a c x ≡ true
   unfolding is_in_use
   use_whole x h = reached_any (row_by_roots a c) (listed_objects a c) (start_of_marks a c) (listed-cover a c) x h
+
+  pub use_sound : (x : Thing) → is_in_use a c x ≡ true → Reaches (thing_row (row_by_roots a c)) (Names (start_of_marks a c)) x
+  unfolding is_in_use
+  use_sound x e = any_reached (row_by_roots a c) (listed_objects a c) (start_of_marks a c) x e
 
 -- ---- own rows through a sweep
 
@@ -206,10 +165,10 @@ module _ (all : Thing → Option Row) (ps : List Person) (s : Actors) (inv : Kee
 
   -- ---- rows that letters brought stay where they are in use
 
-  abbrev IsUsed : Thing → Type 0
+  abbrev pub IsUsed : Thing → Type 0
   IsUsed x = Reaches (thing_row (row_by_roots a c)) (Names (start_of_marks a c)) x
 
-  marked_used : {x : Thing} → IsMarked a c x → IsUsed x
+  pub marked_used : {x : Thing} → IsMarked a c x → IsUsed x
   marked_used h = reach_into (thing_row (own_row_of a c.holdings)) IsUsed (λ x n. root n) (λ x y r p e n. along_row (thing_row (row_by_roots a c)) p (up_row x r e) n) (λ n p. owned p) h
     where
       up_row : (x : Thing) (r : Row) → thing_row (own_row_of a c.holdings) x ≡ Some r → thing_row (row_by_roots a c) x ≡ Some r
@@ -259,9 +218,27 @@ module _ (all : Thing → Option Row) (ps : List Person) (s : Actors) (inv : Kee
       obj_actor : (n : ObjName) → Obj n ≡ Actor a → ⊥
       obj_actor n e = cc
 
+  -- what is in use is led to by what is marked, which is known still
+  used_led : {x : Thing} → IsUsed x → Reaches all (IsKnown a d.holdings) x
+  used_led h = reach_into (thing_row (row_by_roots a c)) (Reaches all (IsKnown a d.holdings)) start (λ x y r p e n. along_row all p (rows_sound all a c ls here x r e) n) (λ n p. owned p) h
+    where
+      known_start : (x : Thing) → StartsMarks a c x → IsKnown a c.holdings x
+      known_start x (of_field n) = (here.named x (by_field n)).0
+      known_start y (of_count {n = n} o some) = inl (o, counted_has c.holdings (Obj n) some)
+
+      start : (x : Thing) → Names (start_of_marks a c) x → Reaches all (IsKnown a d.holdings) x
+      start x n = root (known-marked marked a c.holdings x (marks_whole a c x (root n)) (known_start x (starts a c x n)))
+
+  led_after : (n : ObjName) (row : Row) → m.get d.known (Obj n) ≡ Some row → Reaches all (IsKnown a d.holdings) (Obj n)
+  led_after n row got = used_led (use_sound a c (Obj n) (by_use (is_in_use a c (Obj n)) (sym (m.get-retain_keys c.known (is_in_use a c) (Obj n) (λ y t. ap (is_in_use a c) (sym (thing_exact (Obj n) y t)))) ∙ got)))
+    where
+      by_use : (b : Bool) → cond b (m.get c.known (Obj n)) None ≡ Some row → b ≡ true
+      by_use true e = refl
+      by_use false e = cc
+
   -- ---- what is backed stays
 
-  abbrev IsKept : Thing → Type 0
+  abbrev pub IsKept : Thing → Type 0
   IsKept x = IsMarked a c x ⊎ (x ≡ Actor a)
 
   -- own rows lead from what is kept to what is kept
@@ -277,10 +254,13 @@ module _ (all : Thing → Option Row) (ps : List Person) (s : Actors) (inv : Kee
   counted_kept (Actor i) o h = inr (ap Actor o)
   counted_kept (Obj n) o h = inl (root (starts_counted a c n o h))
 
-  waiting_kept : (x : Thing) → owner_of x ≡ a → 0 < sum_by (inc_of x) ls → IsKept x
-  waiting_kept x o h =
-      let b = here.backed x 0 o h in
+  -- what is backed now is kept
+  pub backed_kept : (x : Thing) → IsBacked a c ls 0 x → IsKept x
+  backed_kept x b =
       leads_kept (λ y e. subst IsKept (sym e) (counted_kept b.from b.own (let w = b.counted in omega (arith, sum-nil (dec_of b.from), sum-nil (load_count b.from), sum-nil (inc_of b.from))))) b.leads
+
+  waiting_kept : (x : Thing) → owner_of x ≡ a → 0 < sum_by (inc_of x) ls → IsKept x
+  waiting_kept x o h = backed_kept x (here.backed x 0 o h)
 
   after_kept : (k : ℕ) (x : Thing) → owner_of x ≡ a → 0 < own_in c.holdings x + sum_by (inc_of x) (take k ls) → IsKept x
   after_kept k x o h = either (own_in c.holdings x) refl
@@ -317,6 +297,7 @@ module _ (all : Thing → Option Row) (ps : List Person) (s : Actors) (inv : Kee
     mine = λ n row e. here.mine n row (row_marked n row e).0;
     right = λ n row e. here.right n row (known_kept n row e);
     brought = brought_after;
+    led = led_after;
     letters = here.letters;
     backed = λ x k o h. backed_after x k (here.backed x k o h);
   }

@@ -28,13 +28,14 @@ use Rattle.count_laws.proofs.balance.InHand.{AllCounted, Balanced, in_hand}
 use Rattle.count_laws.proofs.events.Make.{make_put}
 use Rattle.count_laws.proofs.balance.Makes.{IsFresh, fresh_held, given_other, held_given}
 use Rattle.count_laws.proofs.knowledge.Naming.{set_names}
+use Rattle.reach_walk.specs.Reach.{root}
 use Rattle.count_laws.proofs.knowledge.Paths.{reach_into, reach_more}
 use Rattle.count_laws.proofs.events.Post.{known_enough, known_has, mint_put, post_put}
 use Rattle.count_laws.proofs.events.Reap.{AllSealed, every_reap, reap_put}
 use Rattle.count_laws.proofs.balance.Reaps.{AllIn}
 use Rattle.count_laws.proofs.roots.Left.{known_left}
 use Rattle.count_laws.proofs.roots.Rows.{letter_exact}
-use Rattle.count_laws.proofs.roots.Same.{SameOwn, backed_more, backed_push, carried_mine, carried_named, carried_owners, letters_push, own_gained, own_minted, own_row_has, own_sent, roots_push, same_rows_more, walks}
+use Rattle.count_laws.proofs.roots.Same.{still_known, SameOwn, backed_more, backed_push, carried_mine, carried_named, carried_owners, letters_push, own_gained, own_minted, own_row_has, own_sent, roots_push, same_rows_more, walks}
 use Rattle.count_laws.proofs.roots.Take.{owner_root, still_roots}
 use Rattle.count_laws.proofs.balance.SeatReads.{letter_App, letter_Confirm, letter_Dec, letter_Inc}
 use Rattle.count_laws.proofs.balance.Seats.{IsPresent, at_other}
@@ -153,6 +154,9 @@ module _ (all : Thing → Option Row) (ps : List Person) (s : Actors) (inv : Kee
   mint_new : (x : Thing) → New x → IsKnownWithOwner a minter.holdings x
   mint_new x n = (inr ((λ same. other (sym (theirs x n) ∙ same)), let z = held-mint_all x es c.holdings in omega arith), owner_known x n)
 
+  minted : (x : Thing) → IsKnown a c.holdings x → IsKnown a minter.holdings x
+  minted x k = still_known all a c minter ls mint_here (own_minted a es c.holdings) mint_kept New (λ x n. inl n) (λ x n. inl n) mint_holds mint_new x k
+
   minter_roots : IsRootsAt all a minter ls
   minter_roots =
       let same = own_minted a es c.holdings in
@@ -163,6 +167,7 @@ module _ (all : Thing → Option Row) (ps : List Person) (s : Actors) (inv : Kee
         right = mint_here.right;
         brought = λ n row out h is. mint_here.brought n row out
             (⊎_elim (λ old. old) (λ new. reach_more all (λ x r. walk x r) new) (walks all a c minter ls mint_here same mint_kept New (λ x n. inl n) (λ x n. inl n) mint_holds mint_new (Obj n) h)) is;
+        led = λ n row got. reach_more all (λ x k. root (minted x k)) (mint_here.led n row got);
         letters = mint_here.letters;
         backed = λ x k own h. backed_more a c minter ls k x (λ y own. let z = own-mint_all y es c.holdings in omega arith) (same_rows_more a c.holdings minter.holdings same) (mint_here.backed x k own h);
       }
@@ -180,6 +185,7 @@ module _ (all : Thing → Option Row) (ps : List Person) (s : Actors) (inv : Kee
         mine = q.mine;
         right = q.right;
         brought = q.brought;
+        led = q.led;
         letters = letters_push all o.mail (Inc es) tt q.letters;
         backed = backed_push b o.cell o.mail (Inc es) q.backed (λ x k own some. backs x k own (let z = (letter_Inc x es).0 in omega arith));
       })
@@ -246,6 +252,7 @@ module _ (wt : ℕ) (heavy : 0 < wt) (all : Thing → Option Row) (ps : List Per
     right = make_here.right;
     brought = λ q row out h is. make_here.brought q row out
         (⊎_elim (λ old. old) (λ new. absurd (obj_actor q (no_object (Obj q) new))) (walks all a c maker ls make_here make_same make_kept NewActor (λ x n. inl n) make_frame make_holds make_new (Obj q) h)) is;
+    led = λ q row got. reach_more all (λ x k. root (still_known all a c maker ls make_here make_same make_kept NewActor (λ x n. inl n) make_frame make_holds make_new x k)) (make_here.led q row got);
     letters = make_here.letters;
     backed = λ x k own h. backed_more a c maker ls k x (λ y own. let z = own_set_held (λ h. h + wt) y (Actor n) None c.holdings in omega arith) (same_rows_more a c.holdings maker.holdings make_same) (make_here.backed x k own h);
   }
@@ -288,6 +295,7 @@ module _ (wt : ℕ) (heavy : 0 < wt) (all : Thing → Option Row) (ps : List Per
     mine = λ q row e. absurd (no_own i q row e);
     right = λ q row got. absurd (let z = unlearned (Obj q) in cc);
     brought = λ q row out h is. absurd (obj_actor q (fresh_walk i (Obj q) h));
+    led = λ q row got. absurd (let z = unlearned (Obj q) in cc);
     letters = tt;
     backed = λ x k own h. absurd (nothing x k h);
   }

@@ -208,6 +208,7 @@ roots_push all l ok none a c ls q = record {
   mine = q.mine;
   right = q.right;
   brought = q.brought;
+  led = q.led;
   letters = letters_push all ls l ok q.letters;
   backed = backed_push a c ls l q.backed (λ x k o h. absurd (let z = none x in omega arith));
 }

@@ -14,7 +14,7 @@ use Rattle.orca_names.specs.declared.names.Value.{Value}
 use Rattle.behaviour_code.specs.declared.code.Program.{Program}
 use Rattle.turn_rules.specs.declared.act.Frame.{Frame}
 use Rattle.reach_walk.specs.Reach.{root, owned, thing_row}
-use Rattle.letter_kinds.proofs.Counts.{held-receive, held-receive_own, loaded-nil, loaded-other}
+use Rattle.letter_kinds.proofs.Counts.{held-receive, held-receive_own, loaded-nil, loaded-other, loaded-same, loaded_more}
 use Rattle.letter_kinds.specs.Counting.{Loaded, receive}
 use Rattle.letter_kinds.specs.Holdings.{Holdings, Row, has_own, held_in, own_in}
 use Rattle.letter_kinds.specs.Sums.{dec_of, inc_of, load_count, times_loaded}
@@ -74,6 +74,18 @@ module _ (all : Thing → Option Row) (me : ℕ) where
       (λ row is other n r got. ⊎_elim
       (λ same. ap all same ∙ (sym ins.0 ∙ (is ∙ (sym (get_added known e.0 (Obj n) row same) ∙ got))))
       (λ apart. right n r (sym (get_other known e.0 (Obj n) row apart) ∙ got))
+      (cases_thing (Obj n) e.0)))
+
+  -- of whatever a row is learnt, it stood among those that came, or the row was there
+  pub learn_only : (P : Thing → Type 0) (es : List Loaded) (known : KnownRows) → ((x : Thing) → 0 < times_loaded x es → P x) → ((n : ObjName) (row : Row) → m.get known (Obj n) ≡ Some row → P (Obj n))
+      → (n : ObjName) (row : Row) → m.get (learn me es known) (Obj n) ≡ Some row → P (Obj n)
+  unfolding learn
+  learn_only P [] known came was = was
+  learn_only P (e ∷ es) known came was = learn_only P es _ (λ x some. came x (loaded_more x e es some))
+      (added (λ k. (n : ObjName) (row : Row) → m.get k (Obj n) ≡ Some row → P (Obj n)) e known was
+      (λ row is other n r got. ⊎_elim
+      (λ same. came (Obj n) (let z = loaded-same (Obj n) e es same in omega arith))
+      (λ apart. was n r (sym (get_other known e.0 (Obj n) row apart) ∙ got))
       (cases_thing (Obj n) e.0)))
 
   pub learn_keeps : (es : List Loaded) (known : KnownRows) → RowsAreIn all es → (x : Thing) (row : Row) → all x ≡ Some row → m.get known x ≡ Some row → m.get (learn me es known) x ≡ Some row
@@ -149,6 +161,10 @@ module _ (all : Thing → Option Row) (bare : (b : ℕ) → all (Actor b) ≡ No
   new_known : (x : Thing) → New x → IsKnownWithOwner a after.holdings x
   new_known x n = (loaded_known x (ok.whole x n), loaded_known (Actor (owner_of x)) (ok.whole (Actor (owner_of x)) (owner_root args x n)))
 
+  still : (x : Thing) → IsKnown a c.holdings x → IsKnown a after.holdings x
+  still x (inl own) = inl (own.0, same.has x ∙ own.1)
+  still x (inr other) = inr (other.0, kept x other.1)
+
   frames : (x : Thing) → InFrame after.frame x → InFrame c.frame x ⊎ New x
   frames x n = inr (stands (starts x n))
 
@@ -165,6 +181,9 @@ module _ (all : Thing → Option Row) (bare : (b : ℕ) → all (Actor b) ≡ No
     mine = carried_mine all a c after mail here same kept New (λ x n. inl n) frames holds new_known;
     right = learn_right all a rows c.known ok.rows.rows here.right;
     brought = brought;
+    led = learn_only all a (λ x. Reaches all (IsKnown a after.holdings) x) rows c.known
+        (λ x some. reach_more all (λ y n. root (new_known y (stands n)).0) (ok.rows.reached x some))
+        (λ n row got. reach_more all (λ y k. root (still y k)) (here.led n row got));
     letters = letters;
     backed = backed;
   }
@@ -191,6 +210,10 @@ module _ (all : Thing → Option Row) (a : ℕ) (c d : Cell) (mail : List Letter
   same_walk x h = ⊎_elim (λ old. old) (λ new. absurd (reach_into all (λ x. ⊥) (λ x e. e) (λ x y r p e n. p) (λ n p. p) new))
       (walks all a c d mail here same kept' (λ x. ⊥) fields' frame' holds' no_new x h)
 
+  still' : (x : Thing) → IsKnown a c.holdings x → IsKnown a d.holdings x
+  still' x (inl own) = inl (own.0, same.has x ∙ own.1)
+  still' x (inr other) = inr (other.0, kept' x other.1)
+
   pub still_roots : (ls : List Letter) → AreRootLetters all ls → ((x : Thing) (k : ℕ) → owner_of x ≡ a → 0 < sum_by (inc_of x) (drop k ls) → IsBacked a d ls k x) → IsRootsAt all a d ls
   still_roots ls letters backed = record {
     named = carried_named all a c d mail here same kept' (λ x. ⊥) fields' frame' holds' no_new;
@@ -198,6 +221,7 @@ module _ (all : Thing → Option Row) (a : ℕ) (c d : Cell) (mail : List Letter
     mine = carried_mine all a c d mail here same kept' (λ x. ⊥) fields' frame' holds' no_new;
     right = λ n row got. here.right n row (sym (ap (λ k. m.get k (Obj n)) known) ∙ got);
     brought = λ n row other h is. ap (λ k. m.get k (Obj n)) known ∙ here.brought n row other (same_walk (Obj n) h) is;
+    led = λ n row got. reach_more all (λ x k. root (still' x k)) (here.led n row (sym (ap (λ k. m.get k (Obj n)) known) ∙ got));
     letters = letters;
     backed = backed;
   }

@@ -27,7 +27,7 @@ use Rattle.letter_kinds.specs.declared.letter.Letter.TheVariants.{App, Inc, Dec,
 use Rattle.count_laws.proofs.events.Every.{every_but}
 use Rattle.count_laws.proofs.knowledge.Going.{Grows, object}
 use Rattle.count_laws.proofs.balance.InHand.{Balanced, in_hand}
-use Rattle.count_laws.proofs.knowledge.Paths.{along_row, reach_into}
+use Rattle.count_laws.proofs.knowledge.Paths.{along_row, reach_into, reach_more}
 use Rattle.count_laws.proofs.knowledge.Receiving.{own_row}
 use Rattle.count_laws.proofs.roots.Left.{along_left, loaded_left, owner_left, reached_left, root_left, walk_left}
 use Rattle.count_laws.proofs.roots.Rows.{rows_agree, rows_sound}
@@ -380,6 +380,7 @@ module _ (program : Program) (all all' : Thing → Option Row) (ps : List Person
                 let from = λ (x : Thing) (r : WalkRoots b d x). root_left all s bal inv.sound inv.bare b d ms is x r in
                 let old = shrunk from h in
                 q.brought n row out old (sym (left_same (Obj n) (reached_left all s bal inv.sound inv.bare b d ms is old)) ∙ full);
+            led = λ n row got. grown (q.led n row got);
             letters = letters_grown ms (λ x h. loaded_left all s bal inv.sound b d ms x is h) q.letters;
             backed = q.backed;
           }
@@ -391,6 +392,7 @@ module _ (program : Program) (all all' : Thing → Option Row) (ps : List Person
         mine = mine_after;
         right = λ n row got. not_made n row (here.right n row got);
         brought = brought_after;
+        led = λ n row got. grown (reach_more all (λ x k. root (still x k)) (here.led n row got));
         letters = letters_grown ls (λ x h. loaded_left all s bal inv.sound a c ls x at h) here.letters;
         backed = λ x k own h. backed_more a c c1 ls k x (λ y o. let z = same_own y in omega arith) (own_row_kept a made c.holdings fresh) (here.backed x k own h);
       }
