@@ -1,25 +1,31 @@
 // Standard input and output, the trusted edge: what a terminal, file or pipe gives or gets is told
 // by no contract. So a source and a sink are told over every reader and writer, and are used at these.
 
-ghost use Rattle.std.specs.Prelude.{◌≡◌};
+ghost use Rattle.std.specs.Prelude.{◌≡◌, false};
 
 use crate::device::{Failed, Sink, Source};
 use std::io::{Read, Stdin, Stdout, Write};
 
-/// A source over a reader, which counts its failures.
+/// A source over a reader, which counts its failures and keeps whether it has answered 0.
 #[derive(Drop)]
 pub struct ReadSource<R> {
     input: R,
     faults: u64,
+    ended: bool,
 }
 
 impl<R> ReadSource<R> {
-    /// A source over this reader that has not failed yet.
+    /// A source over this reader that has neither failed nor ended yet.
     pub fn new(input: R) -> ReadSource<R>
         ensures input { result.input ≡ input }
         ensures faults { result.faults ≡ 0 }
+        ensures ended { result.ended ≡ false }
     {
-        ReadSource { input, faults: 0 }
+        ReadSource {
+            input,
+            faults: 0,
+            ended: false,
+        }
     }
 }
 
@@ -28,9 +34,14 @@ impl<R: Read> Source for ReadSource<R> {
 
     ghost faults = { λ s. s.faults };
 
+    ghost ended = { λ s. s.ended };
+
     fn read(&mut self, buf: &mut [u8]) -> Result<usize, Failed> {
         match self.input.read(buf) {
-            Ok(count) => Ok(count),
+            Ok(count) => {
+                self.ended = count == 0;
+                Ok(count)
+            }
             Err(_) => {
                 self.faults = self.faults.saturating_add(1);
                 Err(Failed)

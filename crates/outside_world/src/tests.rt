@@ -1,7 +1,15 @@
 // Devices at their edges: chosen failures in mid-stream, a sink that is full, and the streams of the
 // process, of which no contract tells the bytes.
 
-use crate::{Failed, MemSink, MemSource, Sink, Source, StdSink, StdSource, SureSink, SureSource};
+ghost use Rattle.std.specs.Prelude.{◌≤◌, IfOk};
+
+use crate::{
+    Failed, Gate, MemSink, MemSource, OpenGate, ReadSource, Sink, Source, StdSink, StdSource,
+    SureSink, SureSource, WriteSink,
+};
+use orca_names::ActorName;
+use std::io;
+use std::io::{Read, Write};
 use std::test::Fail;
 
 #[test]
@@ -45,4 +53,80 @@ fn standard_input_is_read(rt: HostRuntime) {
 fn standard_output_takes_bytes(rt: HostRuntime) {
     let mut sink = StdSink::new(rt.stdout());
     assert_eq!(rt; sink.write(b"\n"), Ok(1));
+}
+
+/// A device that notes how many bytes each call offers. The second call fails, and each other one
+/// moves a byte.
+#[derive(Drop)]
+struct Noted {
+    offers: Vec<usize>,
+}
+
+impl Noted {
+    fn call(&mut self, offer: usize) -> io::Result<usize>
+        ensures { IfOk result (λ moved. moved ≤ offer) }
+    {
+        let _ = self.offers.push(offer);
+        if self.offers.len() == 2 {
+            return Err(io::Error::from(io::ErrorKind::Other));
+        }
+        Ok(offer.min(1))
+    }
+}
+
+impl Read for Noted {
+    fn read(&mut self, buf: &mut [u8]) -> io::Result<usize> {
+        self.call(buf.len())
+    }
+}
+
+impl Write for Noted {
+    fn write(&mut self, buf: &[u8]) -> io::Result<usize> {
+        self.call(buf.len())
+    }
+
+    fn flush(&mut self) -> io::Result<()> {
+        Ok(())
+    }
+}
+
+#[test]
+fn a_source_asks_its_reader_once_each_time(rt: HostRuntime) -> Result<(), Fail> {
+    let mut reader = Noted {
+        offers: Vec::new(rt.alloc()),
+    };
+    let mut source = ReadSource::new(&mut reader);
+    let mut buf = [0u8; 5000];
+    assert_eq!(rt; source.read(&mut buf), Ok(1));
+    assert_eq!(rt; source.read(&mut buf[..9]), Err(Failed));
+    assert_eq!(rt; source.read(&mut buf[..1]), Ok(1));
+    drop(source);
+    assert_eq!(rt; reader.offers.as_slice(), [5000, 9, 1].as_slice());
+    Ok(())
+}
+
+#[test]
+fn a_sink_asks_its_writer_once_each_time(rt: HostRuntime) -> Result<(), Fail> {
+    let mut writer = Noted {
+        offers: Vec::new(rt.alloc()),
+    };
+    let mut sink = WriteSink::new(&mut writer);
+    assert_eq!(rt; sink.write(&[7u8; 5000]), Ok(1));
+    assert_eq!(rt; sink.write(b"seven"), Err(Failed));
+    assert_eq!(rt; sink.write(b"7"), Ok(1));
+    drop(sink);
+    assert_eq!(rt; writer.offers.as_slice(), [5000, 5, 1].as_slice());
+    Ok(())
+}
+
+#[test]
+fn an_open_gate_holds_nobody_up(rt: HostRuntime) {
+    assert_eq!(rt; OpenGate.enter(&rt, ActorName(1), 7), ());
+}
+
+#[test]
+fn a_failure_has_its_text(rt: HostRuntime) -> Result<(), Fail> {
+    let text = format!(in rt.alloc(); "{Failed}")?;
+    assert_eq!(rt; text.as_str(), "the device failed");
+    Ok(())
 }

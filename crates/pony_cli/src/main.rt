@@ -2,18 +2,32 @@
 //! output.
 #![tactic(auto)]
 
-ghost use Rattle.std.specs.Prelude.{◌≡◌, drop, map, string_bytes, IfOk};
+ghost use Rattle.std.specs.Prelude.{◌≡◌, ◌≢◌, [], ◌∷◌, drop, false, map, string_bytes, IfErr, IfOk};
+ghost use Rattle.std.specs.IoError.{error_kind};
 ghost use Rattle.std.specs.Process.{exit_status};
-ghost use Rattle.pony_cli.specs.Calls.{Exits};
+ghost use Rattle.std.specs.Vec.Iter.{into_iter_items};
+ghost use Rattle.pony_run.specs.Streams.{sides};
+ghost use Rattle.pony_cli.specs.Calls.{Exits, ExitsStarved, ExitsUnlessStarved};
 
-use outside_world::{OpenGate, StdSink, StdSource};
+use outside_world::{OpenGate, Sink, Source, StdSink, StdSource};
 use pony_run::{Status, run_words};
 use std::alloc::{AllocError, Global};
+use std::env::Args;
+use std::io::ErrorKind;
 use std::process::ExitCode;
 use std::{env, io};
 
+#[cfg(test)]
+mod tests;
+
 /// A word that no reading has: it stands for arguments that are no text.
 const NO_TEXT: &str = "";
+
+fn list_of(alloc: Global, arguments: Args) -> Result<Vec<String>, AllocError>
+    ensures { IfOk result (λ list. list.items ≡ into_iter_items arguments) }
+{
+    arguments.collect(alloc)
+}
 
 fn texts_of<'a>(alloc: Global, arguments: &'a [String]) -> Result<Vec<&'a str>, AllocError>
     ensures { IfOk result (λ words. map (λ word. word.now) words.items ≡ map string_bytes arguments.now) }
@@ -35,13 +49,17 @@ fn words_of<'a>(alloc: Global, arguments: &'a [String]) -> Result<Vec<&'a str>, 
     }
 }
 
-/// The call over standard input and output, and its exit code.
-fn call(rt: &HostRuntime, words: &[&str]) -> ExitCode
-    ensures { Exits (map (λ word. word.now) words.entry.now) (exit_status result) }
+/// The call with these words over this source and this sink, and its exit code.
+fn call_over<R: AllocGlobal, S: Source, K: Sink>(
+    rt: &R,
+    words: &[&str],
+    source: &mut S,
+    sink: &mut K,
+) -> ExitCode
+    requires { S.ended source.old ≡ false }
+    ensures { Exits (map (λ word. word.now) words.entry.now) (sides S.left S.faults source.old source.new) (sides K.written K.faults sink.old sink.new) (exit_status result) }
 {
-    let mut source = StdSource::new(rt.stdin());
-    let mut sink = StdSink::new(rt.stdout());
-    let outcome = run_words(rt, words, &mut source, &mut sink, &OpenGate);
+    let outcome = run_words(rt, words, source, sink, &OpenGate);
     ExitCode::from(outcome.status.code())
 }
 
@@ -52,17 +70,35 @@ fn starved() -> ExitCode
     ExitCode::from(Status::NoMemory.code())
 }
 
-fn main(rt: HostRuntime) -> ExitCode {
-    let arguments = match env::args(&rt) {
+/// The call with the program's arguments, of which the first is its own name, and its exit code.
+/// Arguments that are no text are refused as words.
+fn answer<R: AllocGlobal, S: Source, K: Sink>(
+    rt: &R,
+    arguments: io::Result<Args>,
+    source: &mut S,
+    sink: &mut K,
+) -> ExitCode
+    requires { S.ended source.old ≡ false }
+    ensures text { IfOk arguments (λ a. ExitsUnlessStarved (drop 1 (map string_bytes (into_iter_items a))) (sides S.left S.faults source.old source.new) (sides K.written K.faults sink.old sink.new) (exit_status result)) }
+    ensures no_text { IfErr arguments (λ e. error_kind e ≢ ErrorKind.OutOfMemory → Exits ([] ∷ []) (sides S.left S.faults source.old source.new) (sides K.written K.faults sink.old sink.new) (exit_status result)) }
+    ensures no_memory { IfErr arguments (λ e. error_kind e ≡ ErrorKind.OutOfMemory → ExitsStarved (sides S.left S.faults source.old source.new) (sides K.written K.faults sink.old sink.new) (exit_status result)) }
+{
+    let arguments = match arguments {
         Ok(arguments) => arguments,
-        Err(error) if error.kind() == io::ErrorKind::OutOfMemory => return starved(),
-        Err(_) => return call(&rt, &[NO_TEXT]),
+        Err(error) if error.kind() == ErrorKind::OutOfMemory => return starved(),
+        Err(_) => return call_over(rt, &[NO_TEXT], source, sink),
     };
-    let Ok(arguments) = arguments.collect::<Vec<String>>(rt.alloc()) else {
+    let Ok(arguments) = list_of(rt.alloc(), arguments) else {
         return starved();
     };
     match words_of(rt.alloc(), arguments.as_slice()) {
-        Ok(words) => call(&rt, words.as_slice()),
+        Ok(words) => call_over(rt, words.as_slice(), source, sink),
         Err(_) => starved(),
     }
+}
+
+fn main(rt: HostRuntime) -> ExitCode {
+    let mut source = StdSource::new(rt.stdin());
+    let mut sink = StdSink::new(rt.stdout());
+    answer(&rt, env::args(&rt), &mut source, &mut sink)
 }

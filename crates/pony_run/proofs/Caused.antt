@@ -5,6 +5,7 @@ use Rattle.std.proofs.lemmas.Grind.{common_steps}
 use Rattle.event_rule.specs.declared.event.Event.{Event}
 use Rattle.word_line.specs.declared.order.Order.{Order}
 use Rattle.report_text.specs.Ends.{IsEnd}
+use Rattle.report_text.specs.Refusals.{HasRefusal}
 use Rattle.report_text.specs.declared.status.Status.{Status}
 use Rattle.report_text.specs.declared.status.Status.TheVariants as status
 use Rattle.behaviour_code.specs.Good.{ProgramIsGood}
@@ -17,8 +18,9 @@ use Rattle.behaviour_check.specs.declared.checked.CheckFault.{CheckFault}
 use Rattle.plain_rules.specs.Machine.{PlainState}
 use Rattle.pony_run.specs.Causes.{Causes, IsGiven, IsProgramOf, IsUnlessMemory, OrderCauses}
 use Rattle.pony_run.specs.Ends.{EndsAs, RunsTo}
-use Rattle.pony_run.specs.Headline.{Answers, BadWords, Ends, HasInput, HasOrder, Means, MeansInput, MeansProgram, MeansRun, MeansSource, MeansText, RunsOrder, Work}
-use Rattle.pony_run.specs.Streams.{HasFailed, Sides, TakesAll, most_bytes}
+use Rattle.pony_run.specs.Headline.{Answers, BadWords, HasOrder, Means, MeansInput, MeansProgram, MeansRun, MeansSource, MeansText, RunsOrder, Work}
+use Rattle.pony_run.specs.Streams.{CountsFault, CountsNoFault, HasFailed, Sides, TakesAll, most_bytes}
+use Rattle.pony_run.proofs.Failing.{Ended, ended, sink_failed, sink_failed_in_all, source_failed}
 use Rattle.pony_run.proofs.Opening.{Opened, open_input, open_program, open_run, open_source, open_text, open_words}
 
 -- the first bytes of what was left, or all where there are fewer
@@ -140,25 +142,17 @@ module _ (order : Order) (source : Sides) (answer : Status) (w : Work) (all : (a
 
 module _ (order : Order) (source : Sides) (w : Work) (input : List ℕ) (program : Program) (given : IsGiven source input) (is : IsProgramOf input program) where
   -- the program that was read is the one that was given
-  read_program : {answer : Status} (h : HasInput answer w order source) (p : Program) → IsText h.input p → ProgramIsGood p → p ≡ program
-  read_program h p text good = one_program input program p is.text is.good (subst (λ i. IsText i p) (read_is source input h.input given h.taken) text) good
-
-  run_of : {end : Status} (p : Program) → p ≡ program → Ends end w order p → (state : PlainState) × RunsTo program order.budget w.book state × EndsAs end state w.book order.budget
-  run_of p same ends = (ends.state, subst (λ q. RunsTo q order.budget w.book ends.state) same ends.run, ends.ends)
+  read_program : (read : List ℕ) → TakesAll source.before source.after read → (p : Program) → IsText read p → ProgramIsGood p → p ≡ program
+  read_program read taken p text good = one_program input program p is.text is.good (subst (λ i. IsText i p) (read_is source input read given taken) text) good
 
   end_of_run : (answer : Status) → MeansSource answer w order source → IsEnd answer → (state : PlainState) × RunsTo program order.budget w.book state × EndsAs answer state w.book order.budget
-  end_of_run status.Quiet h end = let found = h.means.means in run_of found.program (read_program h found.program found.text found.good) found.means.means
-  end_of_run status.Budget h end = let found = h.means.means in run_of found.program (read_program h found.program found.text found.good) found.means.means
-  end_of_run (status.ActorsFull a) h end = let found = h.means.means in run_of found.program (read_program h found.program found.text found.good) found.means.means
-  end_of_run status.BadWords h end = absurd end
-  end_of_run (status.BadText l k) h end = absurd end
-  end_of_run (status.BadProgram k b s r) h end = absurd end
-  end_of_run status.ReadFault h end = absurd end
-  end_of_run status.WriteFault h end = absurd end
-  end_of_run status.NoMemory h end = absurd end
-  end_of_run status.TooLong h end = absurd end
+  end_of_run answer h end =
+      let found = ended answer w order source h end in
+      let same = read_program found.input found.taken found.program found.text found.good in
+      (found.ends.state, subst (λ q. RunsTo q order.budget w.book found.ends.state) same found.ends.run, found.ends.ends)
 
-module _ (order : Order) (source sink : Sides) (answer : Status) (w : Work) (same_sink : w.sink ≡ sink) (all : (answer ≡ status.NoMemory) ⊎ MeansSource answer w order source) where
+module _ (order : Order) (source sink : Sides) (answer : Status) (w : Work) (same_sink : w.sink ≡ sink) (all : (answer ≡ status.NoMemory) ⊎ MeansSource answer w order source)
+    (fails : CountsFault w.sink → (answer ≡ status.WriteFault) ⊎ HasRefusal answer) where
   -- what this answer means, which is not want of memory
   at : {a : Status} → a ≢ status.NoMemory → answer ≡ a → MeansSource a w order source
   at {a} other e = elim all as (λ _. MeansSource a w order source) [ inl none ↦ absurd (other (sym e ∙ none)) | inr h ↦ subst (λ x. MeansSource x w order source) e h ]
@@ -170,6 +164,10 @@ module _ (order : Order) (source sink : Sides) (answer : Status) (w : Work) (sam
     | inr h ↦ end_of_run order source w input program given is answer h end
   ]
 
+  -- a run that ended is no want of memory
+  at_end : IsEnd answer → Ended answer w order source
+  at_end end = elim all as (λ _. Ended answer w order source) [ inl none ↦ absurd (subst IsEnd none end) | inr h ↦ ended answer w order source h end ]
+
   pub order_caused : OrderCauses order source sink answer w.book
   order_caused = record {
     only = record {
@@ -180,21 +178,25 @@ module _ (order : Order) (source sink : Sides) (answer : Status) (w : Work) (sam
       bad_program = λ input program kind behaviour step rule given is e.
           let h = at (λ f. cc) e in
           let found = h.means.means in
-          ap first_broken (sym (read_program order source w input program given is h found.program found.text found.good)) ∙ found.means.first;
+          ap first_broken (sym (read_program order source w input program given is h.input h.taken found.program found.text found.good)) ∙ found.means.first;
       end = of_end;
+      sound = λ end. ((at_end end).well, subst CountsNoFault same_sink (at_end end).ends.well);
       write_fault = λ e. subst HasFailed same_sink (at (λ f. cc) e).means.means.means.means.cut.failed;
     };
     wherever = record {
+      read_fault = λ fault. elim all as (λ _. IsUnlessMemory answer status.ReadFault) [ inl none ↦ inr none | inr h ↦ source_failed answer w order source h fault ];
       too_long = when_too_long order source answer w all;
       bad_text = when_bad_text order source answer w all;
       bad_program = when_bad_program order source answer w all;
       end = λ input program given sound able is kept. when_it_ends order source answer w all input program given sound (λ failed. able (subst HasFailed same_sink failed)) is kept;
+      write_fault = λ fault. fails (subst CountsFault (sym same_sink) fault);
     };
   }
 
 pub single_caused : (order : Order) (source sink : Sides) (answer : Status) (book : List Event) → RunsOrder order source sink answer book → OrderCauses order source sink answer book
 single_caused order source sink answer book h =
     order_caused order source sink answer (record { sink = sink; written = h.writes.written; book = book }) refl (inr h.writes.means)
+    (sink_failed answer (record { sink = sink; written = h.writes.written; book = book }) order source h.writes.means)
 
 pub caused : (words : List (List ℕ)) (source sink : Sides) (answer : Status) (book : List Event) → Answers words source sink answer book → Causes words source sink answer book
 caused words source sink answer book h = record {
@@ -212,7 +214,7 @@ caused words source sink answer book h = record {
           let same : found.order ≡ order = cc in
           inr (subst (λ o. MeansSource answer work o source) same found.means)
     ]
-  ]);
+  ]) (sink_failed_in_all answer work words source h.writes.means);
 }
   where
     work : Work

@@ -10,7 +10,7 @@ use Rattle.behaviour_code.specs.declared.code.Program.{Program}
 use Rattle.plain_rules.specs.Machine.{PlainState, start_of}
 use Rattle.pony_run.specs.Ends.{EndsAs, IsReport, RunsTo}
 use Rattle.pony_run.specs.Headline.{MeansReport, MeansRun, Work, Writes}
-use Rattle.pony_run.specs.Streams.{Sides}
+use Rattle.pony_run.specs.Streams.{CountsNoFault, Sides}
 
 -- what holds of all that is written
 pub writes_map : {M N : Work → Type 0} (sink : Sides) (book : List Event) → ((w : Work) → w.book ≡ book → M w → N w) → Writes sink book M → Writes sink book N
@@ -23,20 +23,20 @@ writes_map sink book f h = record {
 
 module _ (order : Order) (program : Program) (state : PlainState) (w : Work) (run : RunsTo program order.budget w.book state) where
   -- the report of a run that ended so was written whole
-  whole : (end : Status) → EndsAs end state w.book order.budget → IsReport end state w.written → MeansRun end w order program
-  whole status.Quiet ends report = record { state = state; run = run; ends = ends; report = report }
-  whole status.Budget ends report = record { state = state; run = run; ends = ends; report = report }
-  whole (status.ActorsFull a) ends report = record { state = state; run = run; ends = ends; report = report }
-  whole status.BadWords ends report = absurd ends
-  whole (status.BadText l k) ends report = absurd ends
-  whole (status.BadProgram k b s r) ends report = absurd ends
-  whole status.ReadFault ends report = absurd ends
-  whole status.WriteFault ends report = absurd ends
-  whole status.NoMemory ends report = absurd ends
-  whole status.TooLong ends report = absurd ends
+  whole : (end : Status) → EndsAs end state w.book order.budget → IsReport end state w.written → CountsNoFault w.sink → MeansRun end w order program
+  whole status.Quiet ends report well = record { state = state; run = run; ends = ends; report = report; well = well }
+  whole status.Budget ends report well = record { state = state; run = run; ends = ends; report = report; well = well }
+  whole (status.ActorsFull a) ends report well = record { state = state; run = run; ends = ends; report = report; well = well }
+  whole status.BadWords ends report well = absurd ends
+  whole (status.BadText l k) ends report well = absurd ends
+  whole (status.BadProgram k b s r) ends report well = absurd ends
+  whole status.ReadFault ends report well = absurd ends
+  whole status.WriteFault ends report well = absurd ends
+  whole status.NoMemory ends report well = absurd ends
+  whole status.TooLong ends report well = absurd ends
 
   pub report_means_run : (end answer : Status) → EndsAs end state w.book order.budget → MeansReport end state answer w → MeansRun answer w order program
-  report_means_run end answer ends (inl (same, report)) = subst (λ a. MeansRun a w order program) (sym same) (whole end ends report)
+  report_means_run end answer ends (inl (same, report, well)) = subst (λ a. MeansRun a w order program) (sym same) (whole end ends report well)
   report_means_run end answer ends (inr (inl (same, (text, report, cut)))) =
       subst (λ a. MeansRun a w order program) (sym same) (record { end = end; state = state; run = run; ends = ends; text = text; report = report; cut = cut })
   report_means_run end answer ends (inr (inr (same, none))) =
@@ -57,5 +57,5 @@ run_is_starved order program told faults book answer starved empty = rw (starved
   written = [];
   gives = Appends-nil told;
   stays = omega arith;
-  means = record { state = start_of program; run = record { run = refl; within = omega arith }; written = refl };
+  means = record { state = start_of program; run = record { run = refl; within = omega arith }; written = record { well = refl; all = refl } };
 })

@@ -5,6 +5,7 @@ use Rattle.event_rule.specs.declared.event.Event.{Event}
 use Rattle.word_line.specs.Orders.{order_of}
 use Rattle.word_line.specs.declared.order.Order.{Order}
 use Rattle.report_text.specs.Ends.{IsEnd}
+use Rattle.report_text.specs.Refusals.{HasRefusal}
 use Rattle.report_text.specs.declared.status.Status.{Status}
 use Rattle.report_text.specs.declared.status.Status.TheVariants as status
 use Rattle.behaviour_code.specs.Good.{ProgramIsGood}
@@ -14,7 +15,7 @@ use Rattle.behaviour_text.specs.Text.{IsText}
 use Rattle.behaviour_check.specs.Rules.{broken, first_broken}
 use Rattle.plain_rules.specs.Machine.{PlainState}
 use Rattle.pony_run.specs.Ends.{EndsAs, RunsTo}
-use Rattle.pony_run.specs.Streams.{HasFailed, Sides, most_bytes}
+use Rattle.pony_run.specs.Streams.{CountsFault, CountsNoFault, HasFailed, Sides, most_bytes}
 
 -- this answer, or want of memory
 abbrev pub IsUnlessMemory : Status → Status → Type 0
@@ -42,10 +43,13 @@ pub record ComesOnly (order : Order) (source sink : Sides) (answer : Status) (bo
       answer ≡ status.BadProgram kind behaviour step rule → first_broken program ≡ Some (broken kind behaviour step rule)
   pub end : (input : List ℕ) (program : Program) → IsGiven source input → IsProgramOf input program → IsEnd answer →
       (state : PlainState) × RunsTo program order.budget book state × EndsAs answer state book order.budget
+  -- a run's end comes only where no read and no write failed
+  pub sound : IsEnd answer → CountsNoFault source × CountsNoFault sink
   pub write_fault : answer ≡ status.WriteFault → HasFailed sink
 
 -- where a cause is there and none before it, its answer comes, unless memory was refused
 pub record ComesWherever (source sink : Sides) (answer : Status) : Type 0 where
+  pub read_fault : CountsFault source → IsUnlessMemory answer status.ReadFault
   pub too_long : (input : List ℕ) → IsGiven source input → (HasFailed source → ⊥) → length input ≡ most_bytes → IsUnlessMemory answer status.TooLong
   pub bad_text : (input : List ℕ) (line kind : ℕ) → IsGiven source input → (HasFailed source → ⊥) → length input < most_bytes →
       first_fault input ≡ Some (line, kind) → IsUnlessMemory answer (status.BadText line kind)
@@ -53,6 +57,8 @@ pub record ComesWherever (source sink : Sides) (answer : Status) : Type 0 where
       first_broken program ≡ Some (broken kind behaviour step rule) → IsUnlessMemory answer (status.BadProgram kind behaviour step rule)
   pub end : (input : List ℕ) (program : Program) → IsGiven source input → (HasFailed source → ⊥) → (HasFailed sink → ⊥) → IsProgramOf input program →
       first_broken program ≡ None → IsEnd answer ⊎ (answer ≡ status.NoMemory)
+  -- where the sink failed, it was at a report, or at the line of a refusal, which stands
+  pub write_fault : CountsFault sink → (answer ≡ status.WriteFault) ⊎ HasRefusal answer
 
 -- when each answer to an order comes
 pub record OrderCauses (order : Order) (source sink : Sides) (answer : Status) (book : List Event) : Type 0 where

@@ -20,7 +20,7 @@ use Rattle.behaviour_text.specs.Text.{IsText}
 use Rattle.behaviour_check.specs.Rules.{broken, first_broken}
 use Rattle.plain_rules.specs.Machine.{PlainState}
 use Rattle.pony_run.specs.Ends.{EndsAs, IsReport, RunsTo}
-use Rattle.pony_run.specs.Streams.{HasFailed, IsUntouched, Sides, TakesAll, TakesPart, most_bytes}
+use Rattle.pony_run.specs.Streams.{CountsNoFault, HasFailed, IsUntouched, Sides, TakesAll, TakesPart, most_bytes}
 
 -- what a call wrote to its sink, and the run book that it answers
 pub record Work : Type 0 where
@@ -28,22 +28,27 @@ pub record Work : Type 0 where
   pub written : List ℕ
   pub book : List Event
 
--- a front of the text was written, and the sink failed
+-- the text was written, and no write failed
+pub record IsWhole (w : Work) (text : List ℕ) : Type 0 where
+  pub well : CountsNoFault w.sink
+  pub all : w.written ≡ text
+
+-- the sink failed, and a front of the text was written, but not all of it
 pub record IsCut (w : Work) (text : List ℕ) : Type 0 where
   pub failed : HasFailed w.sink
   pub count : ℕ
-  pub within : count ≤ length text
+  pub short : count < length text
   pub front : w.written ≡ take count text
 
 -- no run began, and the refusal's line was written as far as the sink took it
 pub record IsRefused (w : Work) (answer : Status) : Type 0 where
   pub book : w.book ≡ []
-  pub written : (w.written ≡ refusal_of answer) ⊎ IsCut w (refusal_of answer)
+  pub written : IsWhole w (refusal_of answer) ⊎ IsCut w (refusal_of answer)
 
 -- memory was refused before a run began: nothing was written
 pub record IsStarved (w : Work) : Type 0 where
   pub book : w.book ≡ []
-  pub written : w.written ≡ []
+  pub written : IsWhole w []
 
 -- the refusal was answered, or else want of memory for its line
 abbrev pub IsRefusedAs : Status → Status → Work → Type 0
@@ -57,6 +62,7 @@ pub record Ends (end : Status) (w : Work) (order : Order) (program : Program) : 
   pub run : RunsTo program order.budget w.book state
   pub ends : EndsAs end state w.book order.budget
   pub report : IsReport end state w.written
+  pub well : CountsNoFault w.sink
 
 -- it ended, and the sink failed while its report was written
 pub record EndsCut (w : Work) (order : Order) (program : Program) : Type 0 where
@@ -72,7 +78,7 @@ pub record EndsCut (w : Work) (order : Order) (program : Program) : Type 0 where
 pub record EndsStarved (w : Work) (order : Order) (program : Program) : Type 0 where
   pub state : PlainState
   pub run : RunsTo program order.budget w.book state
-  pub written : w.written ≡ []
+  pub written : IsWhole w []
 
 abbrev pub MeansRun : Status → Work → Order → Program → Type 0
 MeansRun status.Quiet w order program = Ends status.Quiet w order program
@@ -137,6 +143,7 @@ pub record ReadFault (w : Work) (source : Sides) : Type 0 where
   pub refused : IsRefused w status.ReadFault
 
 pub record HasInput (answer : Status) (w : Work) (order : Order) (source : Sides) : Type 0 where
+  pub well : CountsNoFault source
   pub input : List ℕ
   pub taken : TakesAll source.before source.after input
   pub means : MeansInput answer w order input
@@ -169,9 +176,9 @@ Means answer w words source = HasOrder answer w words source
 -- all where memory was refused
 abbrev pub MeansReport : Status → PlainState → Status → Work → Type 0
 MeansReport end state answer w =
-    ((answer ≡ end) × IsReport end state w.written)
+    ((answer ≡ end) × IsReport end state w.written × CountsNoFault w.sink)
     ⊎ (((answer ≡ status.WriteFault) × ((text : List ℕ) × IsReport end state text × IsCut w text))
-    ⊎ ((answer ≡ status.NoMemory) × (w.written ≡ [])))
+    ⊎ ((answer ≡ status.NoMemory) × IsWhole w []))
 
 -- some text was appended to what the sink was given, its count of faults did not fall, and M holds of
 -- what was written

@@ -18,13 +18,21 @@ pub record Sides : Type 0 where
 abbrev pub sides : {D : Type 0} → (D → Option (List ℕ)) → (D → ℕ) → D → D → Sides
 sides told faults old new = record { before = told old; after = told new; faults_before = faults old; faults_after = faults new }
 
--- the device failed in this call
+-- the device's count of faults rose in this call, or stands at the end of its 64 bits
 abbrev pub HasFailed : Sides → Type 0
 HasFailed device = Rose device.faults_before device.faults_after
 
--- the source was not touched
+-- its count of faults is greater than before
+abbrev pub CountsFault : Sides → Type 0
+CountsFault device = device.faults_before < device.faults_after
+
+-- its count of faults is as before
+abbrev pub CountsNoFault : Sides → Type 0
+CountsNoFault device = device.faults_after ≡ device.faults_before
+
+-- the device was not touched
 abbrev pub IsUntouched : Sides → Type 0
-IsUntouched source = source.after ≡ source.before
+IsUntouched device = (device.after ≡ device.before) × CountsNoFault device
 
 -- the bytes are all that was left, or the first of them where there are more than a text may have
 pub record TakesAll (before after : Option (List ℕ)) (bytes : List ℕ) : Type 0 where
@@ -44,8 +52,8 @@ pub record TakesMore (before after : Option (List ℕ)) (old new : List ℕ) (co
   pub added : new ≡ old ++ bytes
   pub size : length bytes ≡ count
 
--- a front of the bytes was written
+-- a front of the bytes was written, and not all of them
 pub record GivesPart (before after : Option (List ℕ)) (bytes : List ℕ) : Type 0 where
   pub count : ℕ
-  pub within : count ≤ length bytes
+  pub short : count < length bytes
   pub front : Appends before after (take count bytes)

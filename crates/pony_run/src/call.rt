@@ -1,6 +1,6 @@
 // The top call, one function a cause.
 
-ghost use Rattle.std.specs.Prelude.{◌≡◌, ◌<◌, ◌≤◌, [], length, map};
+ghost use Rattle.std.specs.Prelude.{◌≡◌, ◌<◌, ◌≤◌, [], false, length, map};
 ghost use Rattle.report_text.specs.Ends.{IsEnd};
 ghost use Rattle.report_text.specs.Refusals.{HasRefusal};
 ghost use Rattle.word_line.specs.Orders.{IsInRange};
@@ -148,7 +148,8 @@ pub fn run_single<S: Source, K: Sink>(
     source: &mut S,
     sink: &mut K,
 ) -> Outcome
-    requires { IsInRange order.now }
+    requires order { IsInRange order.now }
+    requires goes_on { S.ended source.old ≡ false }
     ensures runs { RunsOrder order.now (sides S.left S.faults source.old source.new) (sides K.written K.faults sink.old sink.new) result.status result.book.entries }
     ensures causes { OrderCauses order.now (sides S.left S.faults source.old source.new) (sides K.written K.faults sink.old sink.new) result.status result.book.entries }
 {
@@ -162,7 +163,8 @@ fn run_job<S: Source, K: Sink>(
     source: &mut S,
     sink: &mut K,
 ) -> Outcome
-    requires { IsInRange order.now }
+    requires order { IsInRange order.now }
+    requires goes_on { S.ended source.old ≡ false }
     ensures { RunsOrder order.now (sides S.left S.faults source.old source.new) (sides K.written K.faults sink.old sink.new) result.status result.book.entries }
 {
     match order.job {
@@ -181,6 +183,7 @@ fn run_all<R: AllocGlobal, S: Source, K: Sink>(
     source: &mut S,
     sink: &mut K,
 ) -> Outcome
+    requires { S.ended source.old ≡ false }
     ensures { Answers (map (λ word. word.now) words.entry.now) (sides S.left S.faults source.old source.new) (sides K.written K.faults sink.old sink.new) result.status result.book.entries }
 {
     match read_words(rt.alloc(), words) {
@@ -203,6 +206,7 @@ pub fn run_words<R: AllocGlobal, S: Source, K: Sink, G: Gate>(
     sink: &mut K,
     _gate: &G,
 ) -> Outcome
+    requires { S.ended source.old ≡ false }
     ensures answers { Answers (map (λ word. word.now) words.entry.now) (sides S.left S.faults source.old source.new) (sides K.written K.faults sink.old sink.new) result.status result.book.entries }
     ensures causes { Causes (map (λ word. word.now) words.entry.now) (sides S.left S.faults source.old source.new) (sides K.written K.faults sink.old sink.new) result.status result.book.entries }
 {

@@ -12,6 +12,8 @@ pub use report_text::Status;
 pub use word_line::{Job, Order};
 
 #[cfg(test)]
+mod device_tests;
+#[cfg(test)]
 mod machine_tests;
 #[cfg(test)]
 mod tests;

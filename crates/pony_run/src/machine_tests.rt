@@ -12,16 +12,19 @@ const MAIN: ActorName = ActorName(0);
 
 const CELL: ActorName = ActorName(1);
 
-const ROW: ObjName = ObjName {
-    owner: MAIN,
-    serial: Serial::of(0),
-};
-
 const SEVEN: &str = "kind Main 0\non start 0\nint r0 7\nprint r0\nend\n";
 
 // Two letters to a cell, which keeps the object of the first one and prints what came.
 const TWO_LETTERS: &str =
     "kind Main 0\non start 0\nint r0 4\nrow r1 r0\nrow r2 r1\nnew r3 Cell\nsend r3 keep r1 r0\nsend r3 keep r0 r3\nend\nkind Cell 1\non keep 2\nstore f0 r0\nprint r0\nprint r1\nend\n";
+
+/// The first object of the first actor.
+fn first_object() -> ObjName {
+    ObjName {
+        owner: MAIN,
+        serial: Serial::of(0),
+    }
+}
 
 fn checked(alloc: Global, text: &str) -> Result<Checked, Fail> {
     if text.len() > 4096 {
@@ -112,7 +115,11 @@ fn events_that_are_not_enabled_change_nothing(rt: HostRuntime) -> Result<(), Fai
 fn letters_hold_what_they_bring(rt: HostRuntime) -> Result<(), Fail> {
     let (things, _, counts) = after(rt.alloc(), TWO_LETTERS, 5)?;
     // The turn has ended; the letters hold the cell, the object and by it its owner.
-    let held = [Thing::Actor(MAIN), Thing::Obj(ROW), Thing::Actor(CELL)];
+    let held = [
+        Thing::Actor(MAIN),
+        Thing::Obj(first_object()),
+        Thing::Actor(CELL),
+    ];
     assert!(rt; things.as_slice() == held.as_slice() && counts == [5, 2, 2]);
     Ok(())
 }
@@ -121,7 +128,7 @@ fn letters_hold_what_they_bring(rt: HostRuntime) -> Result<(), Fail> {
 fn letters_come_in_their_order(rt: HostRuntime) -> Result<(), Fail> {
     let (things, prints, counts) = after(rt.alloc(), TWO_LETTERS, 99)?;
     let want = [
-        Value::Obj(ROW),
+        Value::Obj(first_object()),
         Value::Num(4),
         Value::Num(4),
         Value::Actor(CELL),

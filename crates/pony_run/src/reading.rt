@@ -1,6 +1,6 @@
 // Reading all that a source has left.
 
-ghost use Rattle.std.specs.Prelude.{◌≡◌, ◌<◌, ◌≤◌, ◌+◌, IfOk, OnErr, IsErrOf, vec_len};
+ghost use Rattle.std.specs.Prelude.{◌≡◌, ◌<◌, ◌≤◌, ◌+◌, ◌==◌, false, nat_lt, IfOk, OnErr, OnOk, IsErrOf, vec_len};
 ghost use Rattle.std.specs.Io.KnownBytes.{IsAtEnd};
 ghost use Rattle.outside_world.specs.Device.{Rose};
 ghost use Rattle.pony_run.specs.Streams.{TakesAll, TakesMore, TakesPart, most_bytes};
@@ -45,12 +45,15 @@ impl From<AllocError> for ReadErr {
 /// One turn: asks for 4,096 bytes, or for what is missing to the most, and answers how many came; 0
 /// is the end.
 fn read_more<S: Source>(source: &mut S, bytes: &mut Vec<u8>) -> Result<usize, ReadErr>
-    requires { vec_len bytes.old < most_bytes }
+    requires room { vec_len bytes.old < most_bytes }
+    requires goes_on { S.ended source.old ≡ false }
     ensures more { IfOk result (λ count. TakesMore (S.left source.old) (S.left source.new) bytes.old.items bytes.new.items count) }
-    ensures room { IfOk result (λ count. vec_len bytes.old + count ≤ most_bytes) }
+    ensures fits { IfOk result (λ count. vec_len bytes.old + count ≤ most_bytes) }
     ensures end { IfOk result (λ count. count ≡ 0 → IsAtEnd (S.left source.new)) }
+    ensures ended { IfOk result (λ count. S.ended source.new ≡ (count == 0)) }
     ensures part { OnErr result (TakesPart (S.left source.old) (S.left source.new)) }
     ensures stays { S.faults source.old ≤ S.faults source.new }
+    ensures well { OnOk result (S.faults source.new ≡ S.faults source.old) }
     ensures failed { IsErrOf result ReadErr.Failed → Rose (S.faults source.old) (S.faults source.new) }
 {
     let mut piece = [0u8; PIECE];
@@ -63,9 +66,12 @@ fn read_more<S: Source>(source: &mut S, bytes: &mut Vec<u8>) -> Result<usize, Re
 /// Reads until the source answers that nothing is left, or has given the most bytes.
 #[tactic(auto, using(crate::proofs::Parts::takes_after))]
 pub(crate) fn read_all<S: Source>(alloc: Global, source: &mut S) -> Result<Vec<u8>, ReadErr>
+    requires { S.ended source.old ≡ false }
     ensures all { IfOk result (λ bytes. TakesAll (S.left source.old) (S.left source.new) bytes.items) }
+    ensures ended { IfOk result (λ bytes. S.ended source.new ≡ nat_lt (vec_len bytes) most_bytes) }
     ensures part { OnErr result (TakesPart (S.left source.old) (S.left source.new)) }
     ensures stays { S.faults source.old ≤ S.faults source.new }
+    ensures well { OnOk result (S.faults source.new ≡ S.faults source.old) }
     ensures failed { IsErrOf result ReadErr.Failed → Rose (S.faults source.old) (S.faults source.new) }
 {
     let mut bytes = Vec::new(alloc);

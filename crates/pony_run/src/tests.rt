@@ -1,9 +1,13 @@
 // The whole call from outside of the contracts: programs and their reports, inputs and their refusals,
 // and devices that fail at each call in turn.
 
+ghost use Rattle.std.specs.Prelude.{◌≡◌, IfOk, false};
+
+use crate::reading::ReadErr;
 use crate::{Job, Order, Outcome, Status, run_single, run_words};
-use orca_names::ActorName;
+use orca_names::{ActorName, NoMemory};
 use outside_world::{MemSink, MemSource, OpenGate};
+use plain_machine::PlainFault;
 use std::alloc::Global;
 use std::test::Fail;
 
@@ -111,7 +115,9 @@ fn fails(alloc: Global, device: Device) -> Result<Vec<u64>, Fail> {
     Ok(numbers)
 }
 
-fn source(alloc: Global, input: &[u8], device: Device) -> Result<MemSource, Fail> {
+fn source(alloc: Global, input: &[u8], device: Device) -> Result<MemSource, Fail>
+    ensures { IfOk result (λ source. source.ended ≡ false) }
+{
     let piece = device.piece.max(1);
     Ok(MemSource::new(input.to_vec(alloc)?, piece, fails(alloc, device)?))
 }
@@ -315,5 +321,35 @@ fn book_of<R: AllocGlobal>(rt: &R, input: &[u8]) -> Result<Vec<u8>, Fail> {
 fn a_run_has_its_book(rt: HostRuntime) -> Result<(), Fail> {
     let book = book_of(&rt, SEVEN.as_bytes())?;
     assert_eq!(rt; book.as_slice(), "book 1\ntake 0\ngo 0\ngo 0\n".as_bytes());
+    Ok(())
+}
+
+#[test]
+fn errors_have_their_texts(rt: HostRuntime) -> Result<(), Fail> {
+    let alloc = rt.alloc();
+    let actor = ActorName(3);
+    let texts = [
+        (
+            format!(in alloc; "{}", ReadErr::Failed)?,
+            "the source failed",
+        ),
+        (format!(in alloc; "{}", ReadErr::NoMemory)?, "out of memory"),
+        (format!(in alloc; "{NoMemory}")?, "out of memory"),
+        (
+            format!(in alloc; "{}", PlainFault::NotReady)?,
+            "the event is not enabled",
+        ),
+        (
+            format!(in alloc; "{}", PlainFault::ActorsFull { actor })?,
+            "all actors are made",
+        ),
+        (
+            format!(in alloc; "{}", PlainFault::NoMemory)?,
+            "out of memory",
+        ),
+    ];
+    for (text, want) in &texts {
+        assert_eq!(rt; text.as_str(), *want);
+    }
     Ok(())
 }

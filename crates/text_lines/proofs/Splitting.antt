@@ -5,7 +5,7 @@ use Rattle.std.proofs.lemmas.List.Elements.{All-from_get_or}
 use Rattle.std.specs.List.{slice_split}
 use Rattle.std.proofs.lemmas.List.Splits.{slice_split_at, slice_split_none, length-slice_split}
 use Rattle.std.proofs.lemmas.List.{map-append}
-use Rattle.text_lines.specs.Lines.{lines_of, without_empty_last, tested, line_at, line_fault}
+use Rattle.text_lines.specs.Lines.{FollowFrom, lines_of, without_empty_last, tested, line_at, line_fault}
 use Rattle.text_lines.specs.declared.LineSpan.{LineSpan}
 use Rattle.text_lines.specs.declared.LineKind.{LineKind}
 
@@ -80,3 +80,7 @@ pub span_tested : (bytes : List ℕ) (from m n : ℕ) (fault : Option LineKind) 
 span_tested bytes from m n fault e h =
     subst (λ (k : ℕ). (take m (drop from bytes), fault) ≡ tested (take k (drop from bytes))) e
     (ap (λ (x : Option LineKind). (take m (drop from bytes), x)) h)
+
+-- one more span has followed
+pub followed_more : (spans more rest : List LineSpan) (span : LineSpan) → more ≡ spans ++ span ∷ [] → FollowFrom 0 (spans ++ span ∷ rest) → FollowFrom 0 (more ++ rest)
+followed_more spans more rest span e h = rw e (rw append_assoc h)

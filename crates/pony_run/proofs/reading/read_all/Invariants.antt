@@ -1,4 +1,4 @@
-use Rattle.std.proofs.Common.{◌≤◌, ◌-◌, vec_len}
+use Rattle.std.proofs.Common.{◌≡◌, ◌≤◌, ◌-◌, false, vec_len}
 use Rattle.std.specs.Io.KnownBytes.{Consumes}
 use Rattle.pony_run.specs.Streams.{most_bytes}
 use Rattle.pony_run.proofs.reading.read_all.Given as goal
@@ -7,7 +7,8 @@ abbrev pub invariant-loop-source : goal.invariant-loop-source
 invariant-loop-source g l = record {
   front : Consumes (g.S.Source.left l.initial.source) (g.S.Source.left l.source) l.bytes.items;
   bounded : vec_len l.bytes ≤ most_bytes;
-  stays : g.S.Source.faults l.initial.source ≤ g.S.Source.faults l.source;
+  well : g.S.Source.faults l.source ≡ g.S.Source.faults l.initial.source;
+  goes_on : g.S.Source.ended l.source ≡ false;
 }
 
 abbrev pub decreases-loop-source : goal.decreases-loop-source
