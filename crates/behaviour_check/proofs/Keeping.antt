@@ -175,7 +175,7 @@ none_first [] h = refl
 none_first (x ∷ xs) h = cc
 
 keeps : (p : Program) → first_broken p ≡ None → KeepsRules p
-unfolding faults
+unfolding first_broken
 keeps p h = record {
   start = start_is_there p.names (behaviours_of p 0)
       (started (is_some (start_name p)) (no_rule 0 0 0 _ parts.first));
@@ -215,7 +215,7 @@ keeps p h = record {
     step n k found m b has = ((kind n k found).behaviours m b has).steps
 
 accepted : (p : Program) → KeepsRules p → first_broken p ≡ None
-unfolding faults
+unfolding first_broken
 accepted p h = ap (λ (xs : List CheckFault). slice_get xs 0) (empty_append _ _ (record {
   first = no_fault 0 0 0 _ (ap rule_one (finds_the_start p.names (behaviours_of p 0) h.start));
   second = all_give_nothing (kind_faults p.kinds) 1 p.kinds

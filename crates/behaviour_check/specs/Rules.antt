@@ -90,11 +90,11 @@ kind_faults kinds (k, kind) =
     ++ flat_map (behaviour_faults kinds (k, kind)) (numbered kind.behaviours)
 
 -- all faults of a program, in the order of their places
-unfoldable pub faults : Program → List CheckFault
+abbrev pub faults : Program → List CheckFault
 faults p = at_place 0 0 0 (start_rule p) ++ flat_map (kind_faults p.kinds) (numbered p.kinds)
 
 -- the first place where a rule fails, with the lowest rule there
-abbrev pub first_broken : Program → Option CheckFault
+unfoldable pub first_broken : Program → Option CheckFault
 first_broken p = slice_get (faults p) 0
 
 -- a program that some text gives, and that keeps the rules

@@ -82,7 +82,7 @@ fn kinds_fault(kinds: &[Kind]) -> Option<CheckFault>
 }
 
 /// What fails first in a program.
-#[tactic(auto, unfolding(crate::specs::Rules::faults))]
+#[tactic(auto, unfolding(crate::specs::Rules::first_broken))]
 pub(crate) fn first_fault(program: &Program) -> Option<CheckFault>
     ensures { result ≡ first_broken program.now }
 {
