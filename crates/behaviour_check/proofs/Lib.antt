@@ -1,2 +1,4 @@
-pub mod Cut
-pub mod StepLemmas
+pub mod FaultLists
+pub mod Keeping
+pub mod Places
+pub mod RuleWords

@@ -1,2 +1,3 @@
+pub mod Keeps
+pub mod Operands
 pub mod Rules
-pub mod Steps

@@ -1,143 +1,81 @@
 // The first place where a rule fails.
 
-ghost use Rattle.std.specs.Prelude.{◌≡◌, if◌then◌else◌, ◌+◌, ◌<◌, Some, None, IfOk, IfErr, length, option_map};
-ghost use Rattle.std.specs.Option.{option_or};
+ghost use Rattle.std.specs.Prelude.{◌≡◌, Some, None, IfOk, IfErr, slice_get};
+ghost use Rattle.std.specs.List.{flat_map};
 ghost use Rattle.behaviour_code.specs.Good.{ProgramIsGood};
-ghost use Rattle.behaviour_check.specs.Rules.{broken, first_broken};
-ghost use Rattle.behaviour_check.specs.Steps.{body_at, behaviours_at, kinds_at};
+ghost use Rattle.behaviour_check.specs.Rules.{behaviour_faults, first_broken, kind_faults, numbered, step_faults};
 
 use crate::checked::{CheckFault, Checked};
 use crate::rules::{has_behaviour, has_kind, instr_rule};
-use behaviour_code::{Behaviour, Instr, Kind, Program};
+use behaviour_code::{Behaviour, Kind, Program};
 
-/// Where a body stands: its kind's number and fields, and its behaviour's number.
-#[derive(Clone, Copy, Debug)]
-struct Spot {
-    kind: u64,
-    fields: u8,
-    behaviour: u64,
-}
-
-/// The fault of a rule that fails at a step.
-fn at_step(spot: Spot, step: u64, rule: Option<u8>) -> Option<CheckFault>
-    ensures { result ≡ option_map (broken spot.kind spot.behaviour step) rule }
+/// What fails first at the instructions of a behaviour of a kind, both with their numbers.
+fn body_fault(
+    kinds: &[Kind],
+    kind_number: u64,
+    kind: &Kind,
+    number: u64,
+    behaviour: &Behaviour,
+) -> Option<CheckFault>
+    ensures { let f = step_faults kinds.now (kind_number, kind.now) (number, behaviour.now) in
+        result ≡ slice_get (flat_map f (numbered behaviour.now.body)) 0 }
 {
-    match rule {
-        None => None,
-        Some(rule) => Some(CheckFault {
-            kind: spot.kind,
-            behaviour: spot.behaviour,
-            step,
-            rule,
-        }),
-    }
-}
-
-/// The fault of a name that was given before.
-fn given_twice(given: bool, kind: u64, behaviour: u64) -> Option<CheckFault>
-    ensures { result ≡ (if given then Some (broken kind behaviour 0 2) else None) }
-{
-    if given {
-        Some(CheckFault {
-            kind,
-            behaviour,
-            step: 0,
-            rule: 2,
-        })
-    } else {
-        None
-    }
-}
-
-/// What fails at a step of a body, counted from 0.
-fn step_fault(kinds: &[Kind], spot: Spot, body: &[Instr], i: usize) -> Option<CheckFault>
-    requires { i < length body.now }
-    ensures { body_at kinds.now spot body.now i ≡ option_or result (body_at kinds.now spot body.now (i + 1)) }
-{
-    let (before, rest) = body.split_at(i);
-    let Some((instr, after)) = rest.split_first() else {
-        return None;
-    };
-    let rule = instr_rule(kinds, spot.fields, before, instr, after);
-    at_step(spot, i as u64 + 1, rule)
-}
-
-/// What fails first in a body.
-fn body_fault(kinds: &[Kind], spot: Spot, body: &[Instr]) -> Option<CheckFault>
-    ensures { result ≡ body_at kinds.now spot body.now 0 }
-{
-    for i in 0..body.len() {
-        if let Some(fault) = step_fault(kinds, spot, body, i) {
-            return Some(fault);
+    let body = behaviour.body.as_slice();
+    for (i, instr) in body.iter().enumerate() {
+        let rule = instr_rule(kinds, kind.fields, &body[..i], instr, &body[i + 1..]);
+        if let Some(rule) = rule {
+            return Some(CheckFault {
+                kind: kind_number,
+                behaviour: number,
+                step: i as u64 + 1,
+                rule,
+            });
         }
     }
     None
 }
 
-/// What fails first at a behaviour of a kind, counted from 0.
-fn behaviour_fault(
-    kinds: &[Kind],
-    kind: u64,
-    fields: u8,
-    behaviours: &[Behaviour],
-    i: usize,
-) -> Option<CheckFault>
-    requires { i < length behaviours.now }
-    ensures { behaviours_at kinds.now fields kind behaviours.now i
-        ≡ option_or result (behaviours_at kinds.now fields kind behaviours.now (i + 1)) }
+/// What fails first in the behaviours of a kind with its number.
+fn behaviours_fault(kinds: &[Kind], kind_number: u64, kind: &Kind) -> Option<CheckFault>
+    ensures { let f = behaviour_faults kinds.now (kind_number, kind.now) in
+        result ≡ slice_get (flat_map f (numbered kind.now.behaviours)) 0 }
 {
-    let (before, rest) = behaviours.split_at(i);
-    let Some((behaviour, _)) = rest.split_first() else {
-        return None;
-    };
-    let number = i as u64 + 1;
-    let twice = given_twice(has_behaviour(before, behaviour.name), kind, number);
-    let spot = Spot {
-        kind,
-        fields,
-        behaviour: number,
-    };
-    twice.or(body_fault(kinds, spot, behaviour.body.as_slice()))
-}
-
-/// What fails first in the behaviours of a kind.
-fn behaviours_fault(
-    kinds: &[Kind],
-    kind: u64,
-    fields: u8,
-    behaviours: &[Behaviour],
-) -> Option<CheckFault>
-    ensures { result ≡ behaviours_at kinds.now fields kind behaviours.now 0 }
-{
-    for i in 0..behaviours.len() {
-        if let Some(fault) = behaviour_fault(kinds, kind, fields, behaviours, i) {
-            return Some(fault);
+    let behaviours = kind.behaviours.as_slice();
+    for (i, behaviour) in behaviours.iter().enumerate() {
+        let number = i as u64 + 1;
+        if has_behaviour(&behaviours[..i], behaviour.name) {
+            return Some(CheckFault {
+                kind: kind_number,
+                behaviour: number,
+                step: 0,
+                rule: 2,
+            });
+        }
+        let fault = body_fault(kinds, kind_number, kind, number, behaviour);
+        if fault.is_some() {
+            return fault;
         }
     }
     None
-}
-
-/// What fails first at a kind, counted from 0.
-fn kind_fault(kinds: &[Kind], i: usize) -> Option<CheckFault>
-    requires { i < length kinds.now }
-    ensures { kinds_at kinds.now i ≡ option_or result (kinds_at kinds.now (i + 1)) }
-{
-    let (before, rest) = kinds.split_at(i);
-    let Some((kind, _)) = rest.split_first() else {
-        return None;
-    };
-    let number = i as u64 + 1;
-    let twice = given_twice(has_kind(before, kind.name), number, 0);
-    twice.or(behaviours_fault(kinds, number, kind.fields, kind.behaviours.as_slice()))
 }
 
 /// What fails first among the kinds.
 fn kinds_fault(kinds: &[Kind]) -> Option<CheckFault>
-    ensures { result ≡ kinds_at kinds.now 0 }
+    ensures { result ≡ slice_get (flat_map (kind_faults kinds.now) (numbered kinds.now)) 0 }
 {
-    for i in 0..kinds.len() {
-        if let Some(fault) = kind_fault(kinds, i) {
-            return Some(fault);
+    for (i, kind) in kinds.iter().enumerate() {
+        let number = i as u64 + 1;
+        if has_kind(&kinds[..i], kind.name) {
+            return Some(CheckFault {
+                kind: number,
+                behaviour: 0,
+                step: 0,
+                rule: 2,
+            });
+        }
+        let fault = behaviours_fault(kinds, number, kind);
+        if fault.is_some() {
+            return fault;
         }
     }
     None

@@ -3,10 +3,12 @@
 
 mod checked;
 mod faults;
+mod laws;
 mod rules;
 
 pub use checked::{CheckFault, Checked};
 pub use faults::check;
+pub use laws::rules_are_kept_exactly;
 
 #[cfg(test)]
 mod tests;

@@ -1,11 +1,12 @@
 // Whether a rule fails at one place.
 
-ghost use Rattle.std.specs.Prelude.{◌≡◌};
+ghost use Rattle.std.specs.Prelude.{◌≡◌, ◌==◌, nat_le};
 ghost use Rattle.std.specs.List.{list_any};
 ghost use Rattle.behaviour_code.specs.Find.{is_kind, is_label};
-ghost use Rattle.behaviour_check.specs.Rules.{is_behaviour, repeats_label, makes_unknown, jumps_nowhere, is_past, has_register_past, has_field_past, instr_rule};
+ghost use Rattle.behaviour_check.specs.Rules.{repeats_label, makes_unknown, jumps_nowhere, has_register_past, has_field_past, instr_rule};
 
 use behaviour_code::{Behaviour, Instr, Kind, Name};
+use orca_names::REGISTERS;
 
 /// Whether a kind has the name.
 pub(crate) fn has_kind(kinds: &[Kind], name: Name) -> bool
@@ -16,7 +17,7 @@ pub(crate) fn has_kind(kinds: &[Kind], name: Name) -> bool
 
 /// Whether a behaviour has the name.
 pub(crate) fn has_behaviour(behaviours: &[Behaviour], name: Name) -> bool
-    ensures { result ≡ list_any (is_behaviour name) behaviours.now }
+    ensures { result ≡ list_any (λ b. b.name == name) behaviours.now }
 {
     behaviours.iter().any(|behaviour| behaviour.name == name)
 }
@@ -36,11 +37,11 @@ fn has_label(instrs: &[Instr], name: Name) -> bool
     instrs.iter().any(|instr| is_label(name, instr))
 }
 
-fn repeats_label(before: &[Instr], instr: &Instr) -> bool
-    ensures { result ≡ repeats_label before.now instr.now }
+fn repeats_label(earlier: &[Instr], instr: &Instr) -> bool
+    ensures { result ≡ repeats_label earlier.now instr.now }
 {
     match instr {
-        Instr::Label(label) => has_label(before, *label),
+        Instr::Label(label) => has_label(earlier, *label),
         _ => false,
     }
 }
@@ -54,23 +55,23 @@ fn makes_unknown(kinds: &[Kind], instr: &Instr) -> bool
     }
 }
 
-fn jumps_nowhere(after: &[Instr], instr: &Instr) -> bool
-    ensures { result ≡ jumps_nowhere after.now instr.now }
+fn jumps_nowhere(later: &[Instr], instr: &Instr) -> bool
+    ensures { result ≡ jumps_nowhere later.now instr.now }
 {
     match instr {
-        Instr::Jump(label) | Instr::JumpZero(_, label) => !has_label(after, *label),
+        Instr::Jump(label) | Instr::JumpZero(_, label) => !has_label(later, *label),
         _ => false,
     }
 }
 
 fn is_past(register: u64) -> bool
-    ensures { result ≡ is_past register }
+    ensures { result ≡ nat_le REGISTERS register }
 {
-    15 < register
+    REGISTERS as u64 <= register
 }
 
 fn some_past(registers: &[u64]) -> bool
-    ensures { result ≡ list_any is_past registers.now }
+    ensures { result ≡ list_any (nat_le REGISTERS) registers.now }
 {
     registers.iter().any(|register| is_past(*register))
 }
@@ -108,22 +109,22 @@ fn has_field_past(fields: u8, instr: &Instr) -> bool
     }
 }
 
-/// The lowest rule that fails at an instruction between those before and those after it.
+/// The lowest rule that fails at an instruction between earlier and later ones.
 #[tactic(auto, unfolding(crate::specs::Rules::instr_rule))]
 pub(crate) fn instr_rule(
     kinds: &[Kind],
     fields: u8,
-    before: &[Instr],
+    earlier: &[Instr],
     instr: &Instr,
-    after: &[Instr],
+    later: &[Instr],
 ) -> Option<u8>
-    ensures { result ≡ instr_rule kinds.now fields before.now instr.now after.now }
+    ensures { result ≡ instr_rule kinds.now fields earlier.now instr.now later.now }
 {
-    if repeats_label(before, instr) {
+    if repeats_label(earlier, instr) {
         Some(2)
     } else if makes_unknown(kinds, instr) {
         Some(3)
-    } else if jumps_nowhere(after, instr) {
+    } else if jumps_nowhere(later, instr) {
         Some(4)
     } else if has_register_past(instr) {
         Some(5)

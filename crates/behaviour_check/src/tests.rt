@@ -175,3 +175,16 @@ fn a_program_without_kinds_is_refused(rt: HostRuntime) {
     };
     assert!(rt; matches!(check(program), Err(fault) if fault == want));
 }
+
+#[test]
+fn a_fault_tells_its_rule_and_its_place(rt: HostRuntime) -> Result<(), Fail> {
+    let fault = CheckFault {
+        kind: 1,
+        behaviour: 2,
+        step: 3,
+        rule: 4,
+    };
+    let text = "rule 4 fails at kind 1, behaviour 2, step 3";
+    assert_eq!(rt; fault.to_string(rt.alloc())?.as_str(), text);
+    Ok(())
+}

@@ -12,7 +12,7 @@ use std::cmp::Ordering;
 use std::fmt;
 
 /// One atomic step of the collector, as the run book lists it.
-#[derive(Clone, Copy, Debug, PartialEq, Eq)]
+#[derive(Clone, Copy, Debug, PartialEq, Eq, Hash)]
 pub enum Event {
     /// The actor takes the first of its letters.
     Take(ActorName),
@@ -29,7 +29,7 @@ pub enum Event {
     /// The detector looks for the largest closed set of reported actors.
     Scan,
     /// The actors of this token go, with all that they own.
-    Reap(u32),
+    Reap(u64),
 }
 
 impl Event {
@@ -47,12 +47,12 @@ impl Event {
     }
 
     /// The number of its actor or token, 0 where it has none.
-    fn number(&self) -> u32
+    fn number(&self) -> u64
         ensures { result ≡ number_of self.now }
     {
         match self {
-            Event::Take(a) | Event::Go(a) | Event::Collect(a) | Event::Leave(a) | Event::Block(a) =>
-                a.0,
+            Event::Take(a) | Event::Go(a) => u64::from(a.0),
+            Event::Collect(a) | Event::Leave(a) | Event::Block(a) => u64::from(a.0),
             Event::Hear | Event::Scan => 0,
             Event::Reap(token) => *token,
         }

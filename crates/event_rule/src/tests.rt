@@ -20,6 +20,7 @@ fn events_rise_as_one_worker_does_them(rt: HostRuntime) -> Result<(), Fail> {
         (Event::Scan, "scan"),
         (Event::Reap(1), "reap 1"),
         (Event::Reap(2), "reap 2"),
+        (Event::Reap(u64::MAX), "reap 18446744073709551615"),
     ];
     for pair in rising.windows(2) {
         if let [first, second] = pair {

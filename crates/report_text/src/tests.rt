@@ -12,10 +12,13 @@ const NONE: Numbers = Numbers { made: 0, left: 0 };
 
 const MAIN: ActorName = ActorName(0);
 
-const ROW: ObjName = ObjName {
-    owner: MAIN,
-    serial: Serial::of(0),
-};
+/// An object of the first actor.
+fn object(serial: u64) -> ObjName {
+    ObjName {
+        owner: MAIN,
+        serial: Serial::of(serial),
+    }
+}
 
 const fn sums(thing: Thing, count: u64, held: u64, letters: u64) -> Sums {
     Sums {
@@ -85,14 +88,10 @@ fn a_program_that_prints_seven(rt: HostRuntime) -> Result<(), Fail> {
 #[test]
 fn counts_of_what_is_left(rt: HostRuntime) -> Result<(), Fail> {
     let alloc = rt.alloc();
-    let second = ObjName {
-        owner: MAIN,
-        serial: Serial::of(1),
-    };
     let lines = [
         sums(Thing::Actor(MAIN), 1, 0, 1),
-        sums(Thing::Obj(ROW), 1, 0, 1),
-        sums(Thing::Obj(second), 1, 0, 1),
+        sums(Thing::Obj(object(0)), 1, 0, 1),
+        sums(Thing::Obj(object(1)), 1, 0, 1),
         sums(Thing::Actor(ActorName(1)), 256, 256, 0),
     ];
     let tally = Tally {
@@ -111,7 +110,7 @@ fn counts_of_what_is_left(rt: HostRuntime) -> Result<(), Fail> {
 fn prints_of_each_kind(rt: HostRuntime) -> Result<(), Fail> {
     let prints = [
         Value::Actor(MAIN),
-        Value::Obj(ROW),
+        Value::Obj(object(0)),
         Value::Null,
         Value::Num(u64::MAX),
     ];
