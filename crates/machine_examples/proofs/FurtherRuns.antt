@@ -11,7 +11,8 @@ use Rattle.machine_examples.specs.FurtherExamples.{AnUnblockOutlivesItsActor, Ge
 use Rattle.machine_examples.specs.RootsExamples.{by_roots}
 use Rattle.machine_examples.specs.SmallExamples.{by_five, makes_one, up_to_no_token}
 use Rattle.machine_rules.specs.Actors.{seat_at}
-use Rattle.machine_rules.specs.Run.{Leads}
+use Rattle.event_rule.specs.Runs.{Leads}
+use Rattle.machine_rules.specs.Next.{next}
 
 -- ---- the first get counts
 
@@ -43,15 +44,15 @@ last_goes : is_some (after_all (Go 1 ∷ []) (Some gets_twice)) ≡ true
 unfolding gets_computed
 last_goes = refl
 
-once_run : Leads (state_told gets_first) up_to_the_first_get (state_told gets_once)
+once_run : Leads next (state_told gets_first) up_to_the_first_get (state_told gets_once)
 unfolding gets_once
 once_run = turned_leads up_to_the_first_get gets_first once_goes
 
-twice_run : Leads (state_told gets_once) (Go 1 ∷ []) (state_told gets_twice)
+twice_run : Leads next (state_told gets_once) (Go 1 ∷ []) (state_told gets_twice)
 unfolding gets_twice
 twice_run = turned_leads (Go 1 ∷ []) gets_once twice_goes
 
-last_run : Leads (state_told gets_twice) (Go 1 ∷ []) (state_told gets_last)
+last_run : Leads next (state_told gets_twice) (Go 1 ∷ []) (state_told gets_last)
 unfolding gets_last
 last_run = turned_leads (Go 1 ∷ []) gets_twice last_goes
 
@@ -107,19 +108,19 @@ end_goes : is_some (after_all (Leave 0 ∷ Scan ∷ []) (Some one_heard)) ≡ tr
 unfolding one_computed
 end_goes = refl
 
-told_run : Leads (state_told one_first) up_to_no_token (state_told one_told)
+told_run : Leads next (state_told one_first) up_to_no_token (state_told one_told)
 unfolding one_told
 told_run = turned_leads up_to_no_token one_first told_goes
 
-gone_run : Leads (state_told one_told) up_to_the_leave (state_told one_gone)
+gone_run : Leads next (state_told one_told) up_to_the_leave (state_told one_gone)
 unfolding one_gone
 gone_run = turned_leads up_to_the_leave one_told gone_goes
 
-heard_run : Leads (state_told one_gone) (Hear ∷ []) (state_told one_heard)
+heard_run : Leads next (state_told one_gone) (Hear ∷ []) (state_told one_heard)
 unfolding one_heard
 heard_run = turned_leads (Hear ∷ []) one_gone heard_goes
 
-end_run : Leads (state_told one_heard) (Leave 0 ∷ Scan ∷ []) (state_told one_last)
+end_run : Leads next (state_told one_heard) (Leave 0 ∷ Scan ∷ []) (state_told one_last)
 unfolding one_last
 end_run = turned_leads (Leave 0 ∷ Scan ∷ []) one_heard end_goes
 

@@ -14,8 +14,9 @@ use Rattle.machine_examples.specs.RootsExamples.{by_roots, first_object, second_
 use Rattle.machine_examples.specs.SmallExamples.{by_five, makes_one, up_to_no_token}
 use Rattle.machine_rules.specs.Actors.{mail_at}
 use Rattle.machine_rules.specs.Left.{IsLeft}
-use Rattle.machine_rules.specs.Next.{IsQuiet}
-use Rattle.machine_rules.specs.Run.{IsRun, Leads}
+use Rattle.event_rule.specs.Runs.{IsQuiet, Leads}
+use Rattle.machine_rules.specs.Next.{next}
+use Rattle.machine_rules.specs.Run.{IsRun}
 use Rattle.machine_rules.specs.State.{State}
 
 -- ---- with root-only tracing the first get counts
@@ -48,11 +49,11 @@ pub record GetsAreMintedInOrder : Type 0 where
   pub to_the_first : IsRun gets_two_objects by_roots up_to_the_first_get once
   pub first : mail_at once.actors 0 ≡ Inc ((first_object, 256) ∷ []) ∷ []
   pub twice : State
-  pub to_the_second : Leads once (Go 1 ∷ []) twice
+  pub to_the_second : Leads next once (Go 1 ∷ []) twice
   pub second : mail_at twice.actors 0 ≡ Inc ((first_object, 256) ∷ []) ∷ Inc ((second_object, 256) ∷ []) ∷ []
   pub prints_none : twice.prints ≡ []
   pub last : State
-  pub to_the_print : Leads twice (Go 1 ∷ []) last
+  pub to_the_print : Leads next twice (Go 1 ∷ []) last
   pub prints : last.prints ≡ values.Obj (record { owner = 0; serial = 0 }) ∷ []
 
 -- ---- an Unblock outlives its actor
@@ -66,13 +67,13 @@ pub record AnUnblockOutlivesItsActor : Type 0 where
   pub told : State
   pub to_the_report : IsRun makes_one by_five up_to_no_token told
   pub gone : State
-  pub to_the_leave : Leads told up_to_the_leave gone
+  pub to_the_leave : Leads next told up_to_the_leave gone
   pub waits : gone.notes ≡ Unblock 1 ∷ []
   pub kept : gone.detector.kept ≡ report_told 1 5 [] ∷ []
   pub heard : State
-  pub to_the_unblock : Leads gone (Hear ∷ []) heard
+  pub to_the_unblock : Leads next gone (Hear ∷ []) heard
   pub withdrawn : heard.detector.kept ≡ []
   pub last : State
-  pub to_the_end : Leads heard (Leave 0 ∷ Scan ∷ []) last
+  pub to_the_end : Leads next heard (Leave 0 ∷ Scan ∷ []) last
   pub nothing_left : (x : Thing) → IsLeft last.actors x → ⊥
-  pub quiet : IsQuiet last
+  pub quiet : IsQuiet next last
