@@ -1,7 +1,7 @@
 // A turn, up to its next act.
 
 ghost use Rattle.std.specs.Prelude.{◌≡◌, ◌+◌, ◌<◌, ◌≤◌, ◌^◌, length, drop, max, None, [], IfOk, OnErr};
-ghost use Rattle.behaviour_code.specs.Find.{body_of, is_label};
+ghost use Rattle.behaviour_code.specs.Find.{body_of};
 ghost use Rattle.turn_rules.specs.Segment.{Setting, Stop, run_from, segment_of};
 ghost use Rattle.turn_step.specs.Scratch.{act_of, turn_of, place_after};
 
@@ -13,15 +13,6 @@ use behaviour_code::{Instr, Name, Program};
 use orca_names::{ActorName, Fields, NoMemory, Row, Rows};
 use turn_rules::{Act, Frame};
 
-fn is_label(instr: &Instr, name: Name) -> bool
-    ensures { result ≡ is_label name instr.now }
-{
-    match instr {
-        Instr::Label(label) => *label == name,
-        _ => false,
-    }
-}
-
 /// The place behind the next label of this name, or behind the body.
 fn after_label(body: &[Instr], from: usize, name: Name) -> usize
     requires { from ≤ length body.now }
@@ -32,7 +23,7 @@ fn after_label(body: &[Instr], from: usize, name: Name) -> usize
     let mut at = from;
     while at < body.len() {
         at += 1;
-        if is_label(&body[at - 1], name) {
+        if body[at - 1].is_label(name) {
             return at;
         }
     }
