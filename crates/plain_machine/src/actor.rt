@@ -38,7 +38,7 @@ pub(crate) fn first_actor(alloc: Global, program: &Program) -> Result<PlainActor
 {
     let mut actor = fresh_actor(alloc, program, 0);
     if let Some(behaviour) = program.start_name() {
-        actor.letters.push(PlainLetter {
+        actor.letters.push_back(PlainLetter {
             behaviour,
             args: Args::new(),
         })?;
@@ -72,10 +72,13 @@ pub(crate) fn take_letter(program: &Program, actor: &mut PlainActor) -> bool
     ensures done { OnTrue result (actor_after_take program.now actor.old ≡ Some actor.new) }
     ensures not_ready { OnFalse result ((actor_after_take program.now actor.old ≡ None) × (actor.new ≡ actor.old)) }
 {
-    if actor.frame.is_some() || actor.letters.is_empty() {
+    if actor.frame.is_some() {
         return false;
     }
-    start_frame(program, actor.kind, actor.letters.at(0), &mut actor.frame);
+    let Some(letter) = actor.letters.front() else {
+        return false;
+    };
+    start_frame(program, actor.kind, letter, &mut actor.frame);
     actor.letters.drop_first();
     true
 }
