@@ -3,6 +3,7 @@ pub mod Cells
 pub mod Confirms
 pub mod Events
 pub mod Facts
+pub mod Laws
 pub mod Members
 pub mod News
 pub mod Quiet

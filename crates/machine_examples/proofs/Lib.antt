@@ -1,5 +1,6 @@
 pub mod Brought
 pub mod ExampleRuns
+pub mod FurtherRuns
 pub mod InOrder
 pub mod LedgerSteps
 pub mod Ledgers

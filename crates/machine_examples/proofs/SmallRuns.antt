@@ -24,7 +24,7 @@ pub turned_leads : (book : List Event) (b : Page) → is_some (after_all book (S
 turned_leads book b goes = after_all-leads book b (turned book b) (page_there b _ goes)
 
 -- where all actors are gone nothing is left
-none_left : (actors : Actors) → ((a : ℕ) → seat_at actors a ≡ None) → (x : Thing) → IsLeft actors x → ⊥
+pub none_left : (actors : Actors) → ((a : ℕ) → seat_at actors a ≡ None) → (x : Thing) → IsLeft actors x → ⊥
 none_left actors gone x left = let e = gone (owner_of x) in let p = left.present in cc
 
 -- ---- the first actor leaves at once

@@ -1,6 +1,7 @@
 // Programs and books that are runs of them.
 
 ghost use Rattle.machine_examples.specs.Examples.{AnObjectIsPassedOnAndGoes, TwoHoldEachOtherAndGo};
+ghost use Rattle.machine_examples.specs.FurtherExamples.{AnUnblockOutlivesItsActor, GetsAreMintedInOrder};
 ghost use Rattle.machine_examples.specs.InOrder.{GetsByRoots, HoldsByRoots, HoldsDeep, LeavesAtOnce, PassesOn};
 ghost use Rattle.machine_examples.specs.RootsExamples.{ABroughtRowStays, AGotObjectIsMinted, AHeldObjectStays};
 ghost use Rattle.machine_examples.specs.SmallExamples.{AReapGivesBackByOwners, AnUnblockCancelsItsOwn, MintsAreForTheLowestFirst, TheFirstLeavesAtOnce};
@@ -56,6 +57,17 @@ pub fn a_got_object_is_minted()
 /// owner, of whichever it holds none.
 pub fn a_brought_row_stays()
     ensures { ABroughtRowStays }
+{}
+
+/// With root-only tracing, where a turn gets two objects that its actor needs, the actor mints for the first
+/// before it mints for the second.
+pub fn gets_are_minted_in_order()
+    ensures { GetsAreMintedInOrder }
+{}
+
+/// An Unblock outlives its actor: the report of one that left is kept until its Unblock is heard.
+pub fn an_unblock_outlives_its_actor()
+    ensures { AnUnblockOutlivesItsActor }
 {}
 
 /// One worker writes these books: each event is the first that is enabled, up to where none is. The

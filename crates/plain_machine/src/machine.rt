@@ -5,7 +5,6 @@ ghost use Rattle.std.specs.List.Sorted.{IsStrictlySortedBy};
 ghost use Rattle.orca_names.specs.Names.{thing_cmp};
 ghost use Rattle.orca_names.specs.declared.names.Thing.{Thing as thing};
 ghost use Rattle.event_rule.specs.Runs.{Goes, NotEnabled, IsFirst, IsQuiet};
-use Rattle.event_rule.specs.Runs.{Goes, NotEnabled}
 ghost use Rattle.plain_rules.specs.Run.{plain_next};
 ghost use Rattle.plain_rules.specs.Machine.{objects_made, plain_take, plain_go, start_of};
 ghost use Rattle.plain_rules.specs.Reach.{IsReachable};

@@ -17,7 +17,7 @@ use Rattle.behaviour_check.specs.Rules.{broken, first_broken}
 use Rattle.behaviour_check.specs.declared.checked.CheckFault.{CheckFault}
 use Rattle.plain_rules.specs.Machine.{PlainState}
 use Rattle.pony_run.specs.Causes.{Causes, IsGiven, IsProgramOf, IsUnlessMemory, OrderCauses}
-use Rattle.pony_run.specs.Ends.{EndsAs, RunsTo}
+use Rattle.pony_run.specs.Ends.{EndsWith, RunsTo}
 use Rattle.pony_run.specs.Headline.{Answers, BadWords, HasOrder, Means, MeansInput, MeansProgram, MeansRun, MeansSource, MeansText, RunsOrder, Work}
 use Rattle.pony_run.specs.Streams.{CountsFault, CountsNoFault, HasFailed, Sides, TakesAll, most_bytes}
 use Rattle.pony_run.proofs.Failing.{Ended, ended, sink_failed, sink_failed_in_all, source_failed}
@@ -145,7 +145,7 @@ module _ (order : Order) (source : Sides) (w : Work) (input : List ℕ) (program
   read_program : (read : List ℕ) → TakesAll source.before source.after read → (p : Program) → IsText read p → ProgramIsGood p → p ≡ program
   read_program read taken p text good = one_program input program p is.text is.good (subst (λ i. IsText i p) (read_is source input read given taken) text) good
 
-  end_of_run : (answer : Status) → MeansSource answer w order source → IsEnd answer → (state : PlainState) × RunsTo program order.budget w.book state × EndsAs answer state w.book order.budget
+  end_of_run : (answer : Status) → MeansSource answer w order source → IsEnd answer → (state : PlainState) × RunsTo program order.budget w.book state × EndsWith answer state w.book order.budget
   end_of_run answer h end =
       let found = ended answer w order source h end in
       let same = read_program found.input found.taken found.program found.text found.good in
@@ -158,8 +158,8 @@ module _ (order : Order) (source sink : Sides) (answer : Status) (w : Work) (sam
   at {a} other e = elim all as (λ _. MeansSource a w order source) [ inl none ↦ absurd (other (sym e ∙ none)) | inr h ↦ subst (λ x. MeansSource x w order source) e h ]
 
   of_end : (input : List ℕ) (program : Program) → IsGiven source input → IsProgramOf input program → IsEnd answer →
-      (state : PlainState) × RunsTo program order.budget w.book state × EndsAs answer state w.book order.budget
-  of_end input program given is end = elim all as (λ _. (state : PlainState) × RunsTo program order.budget w.book state × EndsAs answer state w.book order.budget) [
+      (state : PlainState) × RunsTo program order.budget w.book state × EndsWith answer state w.book order.budget
+  of_end input program given is end = elim all as (λ _. (state : PlainState) × RunsTo program order.budget w.book state × EndsWith answer state w.book order.budget) [
     | inl none ↦ absurd (subst IsEnd none end)
     | inr h ↦ end_of_run order source w input program given is answer h end
   ]

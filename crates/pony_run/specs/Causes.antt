@@ -14,7 +14,7 @@ use Rattle.behaviour_text.specs.Faults.{first_fault}
 use Rattle.behaviour_text.specs.Text.{IsText}
 use Rattle.behaviour_check.specs.Rules.{broken, first_broken}
 use Rattle.plain_rules.specs.Machine.{PlainState}
-use Rattle.pony_run.specs.Ends.{EndsAs, RunsTo}
+use Rattle.pony_run.specs.Ends.{EndsWith, RunsTo}
 use Rattle.pony_run.specs.Streams.{CountsFault, CountsNoFault, HasFailed, Sides, most_bytes}
 
 -- this answer, or want of memory
@@ -42,7 +42,7 @@ pub record ComesOnly (order : Order) (source sink : Sides) (answer : Status) (bo
   pub bad_program : (input : List ℕ) (program : Program) (kind behaviour step rule : ℕ) → IsGiven source input → IsProgramOf input program →
       answer ≡ status.BadProgram kind behaviour step rule → first_broken program ≡ Some (broken kind behaviour step rule)
   pub end : (input : List ℕ) (program : Program) → IsGiven source input → IsProgramOf input program → IsEnd answer →
-      (state : PlainState) × RunsTo program order.budget book state × EndsAs answer state book order.budget
+      (state : PlainState) × RunsTo program order.budget book state × EndsWith answer state book order.budget
   -- a run's end comes only where no read and no write failed
   pub sound : IsEnd answer → CountsNoFault source × CountsNoFault sink
   pub write_fault : answer ≡ status.WriteFault → HasFailed sink

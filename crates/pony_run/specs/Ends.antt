@@ -1,19 +1,18 @@
 -- How a run of the plain machine ends, and what is left.
-use Rattle.std.specs.Prelude.{◌≡◌, ◌↔◌, ℕ, ◌<◌, ◌≤◌, Bool, true, false, not, List, None, Contains, count_by, length}
+use Rattle.std.specs.Prelude.{◌≡◌, ◌↔◌, ℕ, ◌≤◌, Bool, true, false, not, List, None, Contains, count_by, length}
 use Rattle.std.specs.List.Sorted.{IsStrictlySortedBy}
 use Rattle.orca_names.specs.Names.{thing_cmp}
 use Rattle.orca_names.specs.declared.names.Thing.{Thing}
 use Rattle.orca_names.specs.declared.names.Thing.TheVariants.{Actor, Obj}
 use Rattle.event_rule.specs.declared.event.Event.{Event}
-use Rattle.event_rule.specs.declared.event.Event.TheVariants.{Go}
 use Rattle.report_text.specs.Reports.{report_of}
 use Rattle.report_text.specs.declared.numbers.Numbers.{Numbers}
 use Rattle.report_text.specs.declared.status.Status.{Status}
 use Rattle.report_text.specs.declared.status.Status.TheVariants as status
 use Rattle.behaviour_code.specs.declared.code.Program.{Program}
-use Rattle.event_rule.specs.Runs.{IsFull, IsFirst, IsQuiet, LeadsInOrder}
+use Rattle.event_rule.specs.Runs.{ActorsFull, Budget, EndsAs, LeadsInOrder, Quiet}
 use Rattle.plain_rules.specs.Run.{plain_next}
-use Rattle.plain_rules.specs.Machine.{PlainState, objects_made, plain_go, start_of}
+use Rattle.plain_rules.specs.Machine.{PlainState, objects_made, start_of}
 use Rattle.plain_rules.specs.Reach.{IsReachable}
 
 -- the book is a run of the program in the one-worker order, within the budget, and leads to t
@@ -21,24 +20,12 @@ pub record RunsTo (program : Program) (budget : ℕ) (book : List Event) (t : Pl
   pub run : LeadsInOrder plain_next (start_of program) book t
   pub within : length book ≤ budget
 
--- the run ends by the budget: the book is as long, and an event is enabled
-pub record IsSpent (t : PlainState) (book : List Event) (budget : ℕ) : Type 0 where
-  pub spent : length book ≡ budget
-  pub next : Event
-  pub enabled : IsFirst plain_next t next
-
--- the run ends at an actor that would make one more than may be made
-pub record IsFullAt (actor : ℕ) (t : PlainState) (book : List Event) (budget : ℕ) : Type 0 where
-  pub room : length book < budget
-  pub next : IsFirst plain_next t (Go actor)
-  pub full : plain_go t actor ≡ IsFull
-
--- how a run ends: no event is enabled, or else by the budget, or else at a full machine
-abbrev pub EndsAs : Status → PlainState → List Event → ℕ → Type 0
-EndsAs status.Quiet t book budget = IsQuiet plain_next t
-EndsAs status.Budget t book budget = IsSpent t book budget
-EndsAs (status.ActorsFull actor) t book budget = IsFullAt actor t book budget
-EndsAs other t book budget = ⊥
+-- how the run ends that this status tells: quiet, or else by the budget, or else at a full machine
+abbrev pub EndsWith : Status → PlainState → List Event → ℕ → Type 0
+EndsWith status.Quiet t book budget = EndsAs plain_next Quiet t (length book) budget
+EndsWith status.Budget t book budget = EndsAs plain_next Budget t (length book) budget
+EndsWith (status.ActorsFull actor) t book budget = EndsAs plain_next (ActorsFull actor) t (length book) budget
+EndsWith other t book budget = ⊥
 
 abbrev pub is_actor : Thing → Bool
 is_actor (Actor a) = true

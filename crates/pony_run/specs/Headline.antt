@@ -19,7 +19,7 @@ use Rattle.behaviour_text.specs.Faults.{first_fault}
 use Rattle.behaviour_text.specs.Text.{IsText}
 use Rattle.behaviour_check.specs.Rules.{broken, first_broken}
 use Rattle.plain_rules.specs.Machine.{PlainState}
-use Rattle.pony_run.specs.Ends.{EndsAs, IsReport, RunsTo}
+use Rattle.pony_run.specs.Ends.{EndsWith, IsReport, RunsTo}
 use Rattle.pony_run.specs.Streams.{CountsNoFault, HasFailed, IsUntouched, Sides, TakesAll, TakesPart, most_bytes}
 
 -- what a call wrote to its sink, and the run book that it answers
@@ -60,7 +60,7 @@ IsRefusedAs refusal answer w = ((answer ≡ refusal) × IsRefused w refusal) ⊎
 pub record Ends (end : Status) (w : Work) (order : Order) (program : Program) : Type 0 where
   pub state : PlainState
   pub run : RunsTo program order.budget w.book state
-  pub ends : EndsAs end state w.book order.budget
+  pub ends : EndsWith end state w.book order.budget
   pub report : IsReport end state w.written
   pub well : CountsNoFault w.sink
 
@@ -69,7 +69,7 @@ pub record EndsCut (w : Work) (order : Order) (program : Program) : Type 0 where
   pub end : Status
   pub state : PlainState
   pub run : RunsTo program order.budget w.book state
-  pub ends : EndsAs end state w.book order.budget
+  pub ends : EndsWith end state w.book order.budget
   pub text : List ℕ
   pub report : IsReport end state text
   pub cut : IsCut w text

@@ -3,7 +3,7 @@
 ghost use Rattle.std.specs.Prelude.{◌≡◌, ◌<◌, ◌≤◌, ◌++◌, ◌∷◌, [], length, IfErr, IfOk, OnErr, OnOk};
 ghost use Rattle.event_rule.specs.Runs.{Goes, IsFirst, LeadsInOrder};
 ghost use Rattle.plain_rules.specs.Run.{plain_next};
-ghost use Rattle.pony_run.specs.Ends.{EndsAs};
+ghost use Rattle.pony_run.specs.Ends.{EndsWith};
 ghost use Rattle.pony_run.specs.Steps.{IsEndOf, Stops};
 
 use event_rule::Event;
@@ -66,7 +66,7 @@ pub(crate) fn finish(
     requires most { budget ≤ 100000000 }
     ensures run { LeadsInOrder plain_next machine.old book.new.entries machine.new }
     ensures within { length book.new.entries ≤ budget }
-    ensures end { IfOk result (λ end. EndsAs end machine.new book.new.entries budget) }
+    ensures end { IfOk result (λ end. EndsWith end machine.new book.new.entries budget) }
 {
     loop {
         let Some(event) = machine.first_enabled() else {
