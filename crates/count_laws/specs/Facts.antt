@@ -1,8 +1,8 @@
 -- The facts that every event of the machine that collects keeps, beside the plain machine.
-use Rattle.std.specs.Prelude.{ℕ, ◌<◌, ◌≤◌, ◌≡◌, List, length, Option, Some, None}
+use Rattle.std.specs.Prelude.{ℕ, ◌<◌, ◌≡◌, List, length, Option, Some, None}
 use Rattle.std.specs.FinMap as m
 use Rattle.orca_names.specs.declared.names.Thing.{Thing}
-use Rattle.orca_names.specs.declared.names.Thing.TheVariants.{Actor, Obj}
+use Rattle.orca_names.specs.declared.names.Thing.TheVariants.{Actor}
 use Rattle.reach_walk.specs.Reach.{thing_row}
 use Rattle.letter_kinds.specs.declared.letter.Letter.{Letter}
 use Rattle.letter_kinds.specs.Holdings.{Holdings, Row}
@@ -17,10 +17,6 @@ use Rattle.orca_names.specs.declared.trace.Trace.{Trace}
 use Rattle.orca_names.specs.declared.trace.Trace.TheVariants.{Deep, Roots}
 use Rattle.plain_rules.specs.Machine.{PlainState, objects_made, plain_row}
 use Rattle.machine_rules.specs.State.{State}
-
--- nothing has a row from its owner's next serial on
-abbrev pub IsPastRows : (Thing → Option Row) → ℕ → Cell → List Letter → Type 0
-IsPastRows all a c mail = (k : ℕ) → c.holdings.next ≤ k → all (Obj (record { owner = a; serial = k })) ≡ None
 
 -- at least 1 is held of each thing in the table
 abbrev pub IsFirm : Holdings → Type 0
@@ -40,10 +36,9 @@ pub record KeepsCounts (trace : Trace) (all : Thing → Option Row) (people : Li
   pub prefixes : NeverOverdraws trace actors
   pub sound : Every (IsSound trace all) actors
   pub agrees : Agrees people actors
+  -- an actor has no row
   pub bare : (a : ℕ) → all (Actor a) ≡ None
-  pub serials : Every (IsPastRows all) actors
   pub long : length people ≡ length actors
-  pub unmade : (a : ℕ) → length actors ≤ a → (k : ℕ) → all (Obj (record { owner = a; serial = k })) ≡ None
   pub firm : Every IsFirmAt actors
 
 -- the facts: the counts are kept beside the plain machine, which runs the same program, printed the

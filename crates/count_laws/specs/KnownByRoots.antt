@@ -81,7 +81,8 @@ pub record IsRootsAt (all : Thing → Option Row) (a : ℕ) (c : Cell) (mail : L
   -- of others' objects that its walks reach it has the row
   pub brought : (n : ObjName) (row : Row) → n.owner ≢ a → Reaches all (WalkRoots a c) (Obj n) → all (Obj n) ≡ Some row → m.get c.known (Obj n) ≡ Some row
   -- what it owns or holds leads to each object of which letters brought the row
-  pub led : (n : ObjName) (row : Row) → m.get c.known (Obj n) ≡ Some row → Reaches all (IsKnown a c.holdings) (Obj n)
+  pub led : (n : ObjName) (row : Row) → m.get c.known (Obj n) ≡ Some row
+      → Reaches all (IsKnown a c.holdings) (Obj n)
   pub letters : AreRootLetters all mail
   -- where an Inc for a thing still waits behind a prefix of its letters, the thing is backed after that
   pub backed : (x : Thing) (k : ℕ) → owner_of x ≡ a → 0 < sum_by (inc_of x) (drop k mail) → IsBacked a c mail k x

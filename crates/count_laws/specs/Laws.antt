@@ -1,20 +1,18 @@
--- What take, go and collect keep, what every event keeps of each actor, when events are enabled,
--- and that runs and ends are one.
-use Rattle.std.specs.Prelude.{ℕ, ◌<◌, ◌≡◌, ◌↔◌, List}
+-- What take, go, collect and leave keep, and what every event keeps of each actor.
+use Rattle.std.specs.Prelude.{ℕ, ◌<◌, ◌≡◌}
 use Rattle.behaviour_code.specs.declared.code.Program.{Program}
 use Rattle.event_rule.specs.declared.event.Event.{Event}
 use Rattle.event_rule.specs.declared.event.Event.TheVariants.{Take, Go, Collect, Leave}
 use Rattle.count_laws.specs.Clean.{CleanAreSwept, NoneHoldsItsOwn}
-use Rattle.machine_rules.specs.Enabled.{CanHappen, IsRefusedAsFull}
-use Rattle.event_rule.specs.Runs.{Ending, EndsAs, IsEnabled, Goes, IsFull}
 use Rattle.count_laws.specs.Facts.{Facts}
+use Rattle.event_rule.specs.Runs.{Goes}
 use Rattle.machine_rules.specs.Next.{next}
+use Rattle.machine_rules.specs.Options.{Options}
+use Rattle.machine_rules.specs.Run.{PlainFollows, is_choice}
+use Rattle.machine_rules.specs.State.{State, first_state}
 use Rattle.orca_names.specs.declared.trace.Trace.{Trace}
 use Rattle.orca_names.specs.declared.trace.Trace.TheVariants.{Deep}
-use Rattle.machine_rules.specs.Options.{Options}
 use Rattle.plain_rules.specs.Machine.{PlainState, start_of}
-use Rattle.machine_rules.specs.Run.{IsRun, PlainFollows, is_choice}
-use Rattle.machine_rules.specs.State.{State, first_state}
 
 abbrev pub StartHasFacts : Type 0
 StartHasFacts = (program : Program) (options : Options) → 0 < options.weight → Facts options.trace (start_of program) (first_state program options)

@@ -31,7 +31,8 @@ NamesNothingFreed actors = Every (λ a c mail. (x : Thing) → IsNamedBy a c mai
 
 -- so is all that they reach from their fields, registers and tables through the rows that they have
 abbrev pub ReachesNothingFreed : Trace → Actors → Type 0
-ReachesNothingFreed trace actors = Every (λ a c mail. (x : Thing) → Reaches (thing_row (row_by trace a c)) (Roots c) x → IsLeft actors x) actors
+ReachesNothingFreed trace actors =
+    Every (λ a c mail. (x : Thing) → Reaches (thing_row (row_by trace a c)) (Roots c) x → IsLeft actors x) actors
 
 -- ---- root-only tracing: all rows that actors have, and those that letters bring
 
@@ -43,13 +44,17 @@ brought_by (Inc things ∷ mail) = brought_by mail
 brought_by (Dec things ∷ mail) = brought_by mail
 brought_by (Confirm token ∷ mail) = brought_by mail
 
--- a present actor has the row of it, or a row that names it; or a waiting letter brings it, or a row that names it
+-- a present actor has the row of it, or a row that names it; or a waiting letter brings it, or a row that
+-- names it
 pub data IsInRowsOf (a : ℕ) (c : Cell) (mail : List Letter) : Thing → Type 0 where
   has_row : (n : ObjName) (row : Row) → row_by_roots a c n ≡ Some row → IsInRowsOf a c mail (Obj n)
-  in_row : {x : Thing} (n : ObjName) (row : Row) → row_by_roots a c n ≡ Some row → Names row x → IsInRowsOf a c mail x
+  in_row : {x : Thing} (n : ObjName) (row : Row) → row_by_roots a c n ≡ Some row → Names row x
+      → IsInRowsOf a c mail x
   brought : {x : Thing} (row : Option Row) → Contains (brought_by mail) (x, row) → IsInRowsOf a c mail x
-  in_brought : {x : Thing} (y : Thing) (row : Row) → Contains (brought_by mail) (y, Some row) → Names row x → IsInRowsOf a c mail x
+  in_brought : {x : Thing} (y : Thing) (row : Row) → Contains (brought_by mail) (y, Some row) → Names row x
+      → IsInRowsOf a c mail x
 
 -- all that is left; so no row that an actor keeps or a letter brings is of what was freed, or names it
 abbrev pub RowsNameNothingFreed : Actors → Type 0
-RowsNameNothingFreed actors = Every (λ a c mail. (x : Thing) → IsInRowsOf a c mail x → IsLeft actors x) actors
+RowsNameNothingFreed actors =
+    Every (λ a c mail. (x : Thing) → IsInRowsOf a c mail x → IsLeft actors x) actors

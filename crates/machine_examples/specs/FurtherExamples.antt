@@ -26,7 +26,9 @@ abbrev pub start_of_two_gets : Behaviour
 start_of_two_gets = record {
   name = 1;
   parameters = 0;
-  body = I.Pin ∷ I.New 0 2 ∷ I.Int 1 4 ∷ I.Row 2 (1 ∷ []) ∷ I.Row 3 (1 ∷ []) ∷ I.Row 4 (2 ∷ 3 ∷ []) ∷ I.Send 0 3 (4 ∷ []) ∷ [];
+  body =
+      I.Pin ∷ I.New 0 2 ∷ I.Int 1 4 ∷ I.Row 2 (1 ∷ []) ∷ I.Row 3 (1 ∷ []) ∷ I.Row 4 (2 ∷ 3 ∷ []) ∷
+      I.Send 0 3 (4 ∷ []) ∷ [];
 }
 
 -- gets both, and prints the first
@@ -35,7 +37,10 @@ open_both = record { name = 3; parameters = 1; body = I.Get 1 0 0 ∷ I.Get 2 0 
 
 abbrev pub gets_two_objects : Program
 gets_two_objects = record {
-  kinds = record { name = 0; fields = 0; behaviours = start_of_two_gets ∷ [] } ∷ record { name = 2; fields = 0; behaviours = open_both ∷ [] } ∷ [];
+  kinds =
+      record { name = 0; fields = 0; behaviours = start_of_two_gets ∷ [] }
+      ∷ record { name = 2; fields = 0; behaviours = open_both ∷ [] }
+      ∷ [];
   names = codes "Main" ∷ codes "start" ∷ codes "A" ∷ codes "open" ∷ [];
 }
 
@@ -50,7 +55,8 @@ pub record GetsAreMintedInOrder : Type 0 where
   pub first : mail_at once.actors 0 ≡ Inc ((first_object, 256) ∷ []) ∷ []
   pub twice : State
   pub to_the_second : Leads next once (Go 1 ∷ []) twice
-  pub second : mail_at twice.actors 0 ≡ Inc ((first_object, 256) ∷ []) ∷ Inc ((second_object, 256) ∷ []) ∷ []
+  pub second : mail_at twice.actors 0
+      ≡ Inc ((first_object, 256) ∷ []) ∷ Inc ((second_object, 256) ∷ []) ∷ []
   pub prints_none : twice.prints ≡ []
   pub last : State
   pub to_the_print : Leads next twice (Go 1 ∷ []) last

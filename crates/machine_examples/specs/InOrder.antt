@@ -1,4 +1,4 @@
--- Books that one worker writes: each event is the first that is enabled in its turn, up to where none is.
+-- Books that one worker writes: each event is the first that is enabled, up to where none is.
 use Rattle.std.specs.Prelude.{◌≡◌, List, [], ◌∷◌, ◌++◌}
 use Rattle.orca_names.specs.declared.names.Value.{Value}
 use Rattle.orca_names.specs.declared.names.Value.TheVariants.{Num}
@@ -29,8 +29,9 @@ LeavesAtOnce = OneWorkerWrites starts_nothing usual (Leave 0 ∷ []) []
 -- the object is passed on; who had it leaves by itself
 abbrev pub passing_in_order : List Event
 passing_in_order =
-    Take 0 ∷ Go 0 ∷ Go 0 ∷ Go 0 ∷ Go 0 ∷ Take 1 ∷ Go 1 ∷ Take 0 ∷ Go 1 ∷ Go 1 ∷ Take 2 ∷ Go 2 ∷ Go 2 ∷
-    Collect 0 ∷ Take 1 ∷ Take 2 ∷ Collect 1 ∷ Take 0 ∷ Take 2 ∷ Collect 0 ∷ Leave 1 ∷ Collect 2 ∷ Take 0 ∷ Collect 0 ∷ Leave 2 ∷ []
+    Take 0 ∷ Go 0 ∷ Go 0 ∷ Go 0 ∷ Go 0 ∷ Take 1 ∷ Go 1 ∷ Take 0 ∷ Go 1 ∷ Go 1 ∷
+    Take 2 ∷ Go 2 ∷ Go 2 ∷ Collect 0 ∷ Take 1 ∷ Take 2 ∷ Collect 1 ∷ Take 0 ∷ Take 2 ∷
+    Collect 0 ∷ Leave 1 ∷ Collect 2 ∷ Take 0 ∷ Collect 0 ∷ Leave 2 ∷ []
 
 abbrev pub PassesOn : Type 0
 PassesOn = OneWorkerWrites passes_an_object_on usual passing_in_order (Num 9 ∷ [])
@@ -44,4 +45,5 @@ HoldsByRoots = OneWorkerWrites is_held_by_its_own by_roots (up_to_the_object ++ 
 
 -- an object is got from another
 abbrev pub GetsByRoots : Type 0
-GetsByRoots = OneWorkerWrites gets_an_object by_roots (up_to_the_turn ++ (Go 1 ∷ []) ++ from_the_mint) (Num 4 ∷ [])
+GetsByRoots =
+    OneWorkerWrites gets_an_object by_roots (up_to_the_turn ++ (Go 1 ∷ []) ++ from_the_mint) (Num 4 ∷ [])

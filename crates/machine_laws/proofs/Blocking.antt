@@ -28,7 +28,7 @@ use Rattle.count_laws.specs.Agreement.{Person}
 use Rattle.machine_rules.specs.Balance.{load_sum}
 use Rattle.machine_rules.specs.Block.{held_actors}
 use Rattle.machine_rules.specs.Cell.{Cell}
-use Rattle.count_laws.specs.Facts.{IsFirmAt, IsPastRows, KeepsCounts, IsSound}
+use Rattle.count_laws.specs.Facts.{IsFirmAt, KeepsCounts, IsSound}
 use Rattle.count_laws.specs.Known.{IsSoundAt}
 use Rattle.detector_laws.specs.Events.{CanBlock}
 use Rattle.detector_laws.specs.World as view
@@ -58,9 +58,7 @@ module _ (s : Actors) (a : ℕ) (c : Cell) (ls : List Letter) (at : seat_at s a 
     sound = sound;
     agrees = agrees_same ps s a c (reporting c) ls ls at refl keeps.agrees;
     bare = keeps.bare;
-    serials = every_set (IsPastRows all) s a (reporting c) ls within (keeps.serials a c ls at) keeps.serials;
     long = keeps.long ∙ sym (length-set s a (seat (reporting c) ls));
-    unmade = λ b h k. keeps.unmade b (let w = length-set s a (seat (reporting c) ls) in omega arith) k;
     firm = every_set IsFirmAt s a (reporting c) ls within (keeps.firm a c ls at) keeps.firm;
   }
 

@@ -35,7 +35,7 @@ use Rattle.machine_rules.specs.Actors.{Actors, cell_at, Seat, cell_of, letters_o
 use Rattle.count_laws.specs.Agreement.{Person}
 use Rattle.machine_rules.specs.Balance.{load_sum}
 use Rattle.machine_rules.specs.Detect.{ask_all}
-use Rattle.count_laws.specs.Facts.{IsFirmAt, IsPastRows, KeepsCounts, IsSound}
+use Rattle.count_laws.specs.Facts.{IsFirmAt, KeepsCounts, IsSound}
 use Rattle.detector_laws.proofs.Cells.{some_not_none}
 use Rattle.detector_laws.proofs.Members.{In_each, each_In}
 use Rattle.detector_laws.proofs.Names.{name_In, names, named}
@@ -96,9 +96,7 @@ module _ (s : Actors) (b t : ℕ) where
         sound = every_push (IsSound trace all) l (λ i c ms q. confirm t i c ms q) s b keeps.sound;
         agrees = agrees_push_other ps s b l o.0 o.1 refl keeps.agrees;
         bare = keeps.bare;
-        serials = every_push (IsPastRows all) l (λ i c ms q. q) s b keeps.serials;
         long = keeps.long ∙ sym (length-push b l s);
-        unmade = λ i h k. keeps.unmade i (let w = length-push b l s in omega arith) k;
         firm = every_push IsFirmAt l (λ i c ms q. q) s b keeps.firm;
       }
 

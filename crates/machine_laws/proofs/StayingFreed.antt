@@ -1,7 +1,6 @@
 -- What the events of a book freed is freed after later ones too, and is not reached then.
-use Rattle.std.proofs.Common.{◌≡◌, ℕ, suc, Bool, true, false, is_some, option_map, Option, Some, None, inl, ◌∙◌, eq-eqb, List, [], ◌∷◌, ◌++◌, length, refl, sym, ap, subst, arith, ⊎_elim}
+use Rattle.std.proofs.Common.{◌≡◌, ℕ, Bool, true, false, is_some, option_map, Option, Some, None, inl, ◌∙◌, eq-eqb, List, [], ◌∷◌, ◌++◌, length, refl, sym, ap, subst, arith}
 use Rattle.std.specs.Prelude.{if◌then◌else◌}
-use Rattle.std.proofs.lemmas.Bool.{cases_lt}
 use Rattle.std.specs.FinMap as m
 use Rattle.orca_names.specs.declared.names.ObjName.{ObjName}
 use Rattle.orca_names.specs.declared.names.Thing.{Thing}
@@ -10,10 +9,12 @@ use Rattle.event_rule.specs.declared.event.Event.{Event}
 use Rattle.letter_kinds.specs.Holdings.{Holdings, Row, has_own, row_of}
 use Rattle.count_laws.proofs.agreement.Forgotten.{forgotten_stays}
 use Rattle.machine_rules.proofs.Present.{present_below}
+use Rattle.count_laws.proofs.agreement.PlainSide.{length-people, made_within, stands_beside}
 use Rattle.count_laws.proofs.gone.Staying.{gone_stays}
 use Rattle.letter_kinds.specs.declared.letter.Letter.{Letter}
 use Rattle.reach_walk.specs.Reach.{thing_row}
-use Rattle.count_laws.specs.Agreement.{people_of}
+use Rattle.count_laws.specs.Agreement.{Person}
+use Rattle.std.proofs.lemmas.Option.{slice_get_within}
 use Rattle.machine_rules.specs.Cell.{Cell, own_row_of}
 use Rattle.count_laws.specs.Facts.{IsSound}
 use Rattle.count_laws.specs.Gone.{IsGone, HasName}
@@ -55,25 +56,18 @@ beside_on (e ∷ book) later s u q r (v, goes, leads) beside p first =
 
 -- ---- what was made has a name
 
-length-people : (actors : List PlainActor) → length (people_of actors) ≡ length actors
-length-people [] = refl
-length-people (x ∷ xs) = ap suc (length-people xs)
-
 made_named : (trace : Trace) (p : PlainState) (s : State) → AllFacts trace p s → (x : Thing) → IsMade p.actors x → HasName s.actors x
 made_named trace p s facts (Actor a) made = let l = facts.beside.counts.long in omega (arith, length-people p.actors)
-made_named trace p s facts (Obj n) made = (
-  ⊎_elim
-      (λ below. below)
-      (λ past. absurd (no_row (facts.beside.counts.unmade n.owner past n.serial)))
-      (cases_lt n.owner (length s.actors)),
-  λ seat at. ⊎_elim
-      (λ below. below)
-      (λ past. absurd (no_row (facts.beside.counts.serials n.owner seat.cell seat.mail at n.serial past)))
-      (cases_lt n.serial seat.cell.holdings.next),
-)
-  where
-    no_row : plain_row p.actors n ≡ None → ⊥
-    no_row none = let w = ap is_some none in cc
+made_named trace p s facts (Obj n) made =
+    let counts = facts.beside.counts in
+    let within = made_within p.actors n made in (
+      (let l = counts.long in omega (arith, length-people p.actors, slice_get_within p.actors n.owner within.0 within.1)),
+      λ seat at.
+          let beside = stands_beside (thing_row (plain_row p.actors)) p.actors s.actors counts n.owner seat.cell seat.mail at in
+          let one : within.0 ≡ beside.actor = let there = beside.there in let is = within.1 in cc in
+          let rows : length within.0.rows ≡ seat.cell.holdings.next = ap (λ (x : PlainActor). length x.rows) one ∙ ap (λ (q : Person). q.serial) beside.same in
+          let below = within.2 in omega arith,
+    )
 
 freed_gone : (trace : Trace) (p : PlainState) (s : State) → AllFacts trace p s → (x : Thing) → IsFreed p.actors s.actors x → IsGone s.actors x
 freed_gone trace p s facts x freed = (made_named trace p s facts x freed.0, freed.1)

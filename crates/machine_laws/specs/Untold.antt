@@ -22,7 +22,7 @@ pub record IsUntold (s : State) (a : ℕ) : Type 0 where
   pub unkept : report_of s.detector.kept a ≡ None
   pub silent : IsSilentOn a s.notes
 
--- the token of this number is open in s, and in t its members are gone, and nothing is told of them
+-- the token of this number is open in s; in t its members are gone, and nothing is told of them
 pub record TellsNoneOf (number : ℕ) (s t : State) : Type 0 where
   pub token : Token
   pub is_open : token_numbered number s.detector ≡ Some token
@@ -31,13 +31,19 @@ pub record TellsNoneOf (number : ℕ) (s t : State) : Type 0 where
 
 -- so it is after a reap
 abbrev pub ReapsLeaveNoneTold : Type 0
-ReapsLeaveNoneTold = (trace : Trace) (p : PlainState) (s t : State) (number : ℕ) → AllFacts trace p s → next s (Reap number) ≡ Goes t → TellsNoneOf number s t
+ReapsLeaveNoneTold =
+    (trace : Trace) (p : PlainState) (s t : State) (number : ℕ) → AllFacts trace p s
+    → next s (Reap number) ≡ Goes t → TellsNoneOf number s t
 
 -- and of an actor that is gone and untold nothing is ever told again
 abbrev pub UntoldStaysUntold : Type 0
-UntoldStaysUntold = (book : List Event) (s t : State) (a : ℕ) → Leads next s book t → IsGone s.actors (Actor a) → IsUntold s a → IsUntold t a
+UntoldStaysUntold =
+    (book : List Event) (s t : State) (a : ℕ) → Leads next s book t
+    → IsGone s.actors (Actor a) → IsUntold s a → IsUntold t a
 
 -- so in each run nothing is told of those whom it reaped
 abbrev pub RunsTellNoneOfTheReaped : Type 0
-RunsTellNoneOfTheReaped = (program : Program) (options : Options) → 0 < options.weight → (book later : List Event) (number : ℕ) (t : State) → IsRun program options (book ++ Reap number ∷ later) t →
-    (s : State) × IsRun program options book s × TellsNoneOf number s t
+RunsTellNoneOfTheReaped =
+    (program : Program) (options : Options) → 0 < options.weight
+    → (book later : List Event) (number : ℕ) (t : State) → IsRun program options (book ++ Reap number ∷ later) t
+    → (s : State) × IsRun program options book s × TellsNoneOf number s t

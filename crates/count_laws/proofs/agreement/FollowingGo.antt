@@ -182,7 +182,7 @@ module _ (trace : Trace) (p : PlainState) (s : State) (facts : Facts trace p s) 
       (made_by register (length s.actors) (fresh_cell s.options.weight s.program kind) s.actors)
   made_kept kind register =
       let fresh = fresh_cell s.options.weight s.program kind in
-      let one = make_keeps trace s.options.weight facts.weight all' (set (people_of p.actors) a (person_of c1 ls)) s1 kept1 a c1 ls at1 stopped refl register fresh (fresh_is s.options.weight s.program kind) (fresh_blank s.options.weight s.program kind) refl (λ x. m.get-empty thing_cmp x) in
+      let one = make_keeps trace s.options.weight facts.weight all' (set (people_of p.actors) a (person_of c1 ls)) s1 kept1 a c1 ls at1 stopped refl register fresh (fresh_is s.options.weight s.program kind) (fresh_blank s.options.weight s.program kind) (λ x. m.get-empty thing_cmp x) in
       let two : KeepsCounts trace all' (set (set (people_of p.actors) a (person_of c1 ls)) a (person_of (maker register (length s.actors)) ls) ++ person_of fresh [] ∷ []) (made_by register (length s.actors) fresh s1) =
       subst (λ n. KeepsCounts trace all' (set (set (people_of p.actors) a (person_of c1 ls)) a (person_of (maker register n) ls) ++ person_of fresh [] ∷ []) (made_by register n fresh s1)) (length-set s.actors a (seat c1 ls)) one in
       let three : KeepsCounts trace all' (set (people_of p.actors) a (person_of (maker register (length s.actors)) ls) ++ person_of fresh [] ∷ []) (made_by register (length s.actors) fresh s1) =

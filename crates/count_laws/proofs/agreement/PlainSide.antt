@@ -1,5 +1,5 @@
 -- The plain machine's actors and rows, where one actor is changed or one more is made.
-use Rattle.std.proofs.Common.{◌≡◌, ◌≢◌, ◌⊎◌, ℕ, zero, suc, ◌+◌, ◌-◌, ◌<◌, ◌≤◌, Option, Some, List, [], ◌∷◌, ◌++◌, length, length-append, set, get_or, refl, sym, ◌∙◌, ap, arith, subst, inl, inr, ⊎_elim, option_and_then}
+use Rattle.std.proofs.Common.{◌≡◌, ◌≢◌, ◌⊎◌, ℕ, zero, suc, ◌+◌, ◌-◌, ◌<◌, ◌≤◌, Option, Some, List, [], ◌∷◌, ◌++◌, length, length-append, set, get_or, refl, sym, ◌∙◌, ap, arith, subst, inl, inr, ⊎_elim, is_some, true, None, option_and_then}
 use Rattle.std.specs.Prelude.{slice_get}
 use Rattle.std.proofs.lemmas.Bool.{cases_eq, cases_lt}
 use Rattle.std.proofs.lemmas.List.{map-set}
@@ -36,7 +36,7 @@ stands_at [] a person h e = absurd (omega arith)
 stands_at (x ∷ xs) zero person h e = record { actor = x; there = refl; same = e }
 stands_at (x ∷ xs) (suc a) person h e = let z = stands_at xs a person (omega arith) e in record { actor = z.actor; there = z.there; same = z.same }
 
-length-people : (actors : List PlainActor) → length (people_of actors) ≡ length actors
+pub length-people : (actors : List PlainActor) → length (people_of actors) ≡ length actors
 length-people [] = refl
 length-people (x ∷ xs) = ap suc (length-people xs)
 
@@ -44,6 +44,19 @@ pub stands_beside : {trace : Trace} (all : Thing → Option Row) (actors : List 
     → StandsAt actors a (person_of c ls)
 stands_beside all actors s kept a c ls at =
     stands_at actors a (person_of c ls) (omega (arith, length-people actors, kept.long, present_below s a _ at)) (kept.agrees.present a c ls at)
+
+-- whose row was made: its owner stands there, and has so many rows
+pub made_within : (actors : List PlainActor) (n : ObjName) → is_some (plain_row actors n) ≡ true → (x : PlainActor) × (slice_get actors n.owner ≡ Some x) × (n.serial < length x.rows)
+made_within actors n made = by_actor (slice_get actors n.owner) refl made
+  where
+    by_row : (x : PlainActor) (row : Option Row) → slice_get x.rows n.serial ≡ row → is_some row ≡ true → n.serial < length x.rows
+    by_row x None is made = cc
+    by_row x (Some row) is made = slice_get_within x.rows n.serial row is
+
+    by_actor : (o : Option PlainActor) → slice_get actors n.owner ≡ o → is_some (option_and_then (λ (x : PlainActor). slice_get x.rows n.serial) o) ≡ true
+        → (x : PlainActor) × (slice_get actors n.owner ≡ Some x) × (n.serial < length x.rows)
+    by_actor None is made = cc
+    by_actor (Some x) is made = (x, is, by_row x (slice_get x.rows n.serial) refl made)
 
 pub people-set : (actors : List PlainActor) (a : ℕ) (y : PlainActor) → people_of (set actors a y) ≡ set (people_of actors) a (person_of_plain y)
 people-set actors a y = map-set person_of_plain actors a y
@@ -124,6 +137,7 @@ module _ (actors : List PlainActor) (a : ℕ) (x : PlainActor) (there : slice_ge
       bare = λ b. refl;
       news = made_row;
       only = row_only;
+      past = λ k h. row_there (record { owner = a; serial = k }) refl ∙ slice_past x.rows k h;
     }
 
     pub objects_grow : objects_made (set actors a y) ≡ objects_made actors + length made

@@ -1,7 +1,6 @@
 -- One seat of the actors is changed: what is owed is said of that seat alone.
 use Rattle.std.proofs.Common.{◌≡◌, ◌≢◌, ℕ, ◌+◌, ◌<◌, Option, Some, None, List, length, set, ap, arith, ⊎_elim, get_or-set_same, get_or-set_other}
-use Rattle.std.proofs.lemmas.List.{get_or_past}
-use Rattle.std.proofs.lemmas.Bool.{cases_eq, cases_lt}
+use Rattle.std.proofs.lemmas.Bool.{cases_eq}
 use Rattle.std.proofs.lemmas.List.Sums.{sum_by-set}
 use Rattle.letter_kinds.specs.declared.letter.Letter.{Letter}
 use Rattle.count_laws.proofs.balance.InHand.{BalancedWith}

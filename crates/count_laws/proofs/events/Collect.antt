@@ -1,8 +1,8 @@
 -- A collection keeps all that is kept of the counts.
-use Rattle.std.proofs.Common.{◌≡◌, ap, subst, refl, ℕ, ◌<◌, Bool, true, false, Option, None, List, length, set, sym, ◌∙◌, arith, length-set}
+use Rattle.std.proofs.Common.{◌≡◌, subst, refl, ℕ, ◌<◌, Bool, true, false, Option, None, List, length, set, sym, ◌∙◌, length-set}
 use Rattle.orca_names.specs.declared.names.Thing.{Thing}
 use Rattle.letter_kinds.specs.Counting.{by_owner, given_back, sweep}
-use Rattle.letter_kinds.specs.Holdings.{Holdings, Row}
+use Rattle.letter_kinds.specs.Holdings.{Row}
 use Rattle.letter_kinds.specs.declared.letter.Letter.{Letter}
 use Rattle.letter_kinds.specs.declared.letter.Letter.TheVariants.{Dec}
 use Rattle.count_laws.proofs.agreement.Agreeing.{agrees_same}
@@ -19,7 +19,7 @@ use Rattle.count_laws.specs.Agreement.{Person, person_of}
 use Rattle.count_laws.specs.Prefixes.{NeverOverdraws}
 use Rattle.machine_rules.specs.Cell.{Cell}
 use Rattle.machine_rules.specs.Collect.{after_collect}
-use Rattle.count_laws.specs.Facts.{IsFirmAt, IsPastRows, KeepsCounts, IsSound, IsFirm}
+use Rattle.count_laws.specs.Facts.{IsFirmAt, KeepsCounts, IsSound, IsFirm}
 use Rattle.count_laws.specs.Known.{IsSoundAt, Names, Reaches, row_at}
 
 module _ (trace : Trace) (all : Thing → Option Row) (ps : List Person) (s : Actors) (inv : KeepsCounts trace all ps s)
@@ -49,10 +49,7 @@ module _ (trace : Trace) (all : Thing → Option Row) (ps : List Person) (s : Ac
         sound = sound;
         agrees = agrees_decs ps decs after (agrees_same ps s a c swept ls ls at same_person inv.agrees);
         bare = inv.bare;
-        serials = every_decs (IsPastRows all) (λ es b d ms q. q) decs after
-            (every_set (IsPastRows all) s a swept ls within (λ k h. inv.serials a c ls at k (let z = next-sweep marked a d.holdings in let y = ap (λ (h : Holdings). h.next) same in omega arith)) inv.serials);
         long = inv.long ∙ sym (length-decs decs after ∙ length-set s a _);
-        unmade = λ b h k. inv.unmade b (let z = length-decs decs after in let w = length-set s a (seat swept ls) in omega arith) k;
         firm = every_decs IsFirmAt (λ es b d ms q. q) decs after
             (every_set IsFirmAt s a swept ls within (firm_sweep marked a d.holdings (subst IsFirm (sym same) (inv.firm a c ls at))) inv.firm);
       }

@@ -1,5 +1,5 @@
 -- A leave keeps the facts: nobody holds the actor, by the balance, so it goes as a sealed set does.
-use Rattle.std.proofs.Common.{◌≡◌, ℕ, Bool, true, false, ◌||◌, Option, Some, None, List, [], ◌∷◌, refl, ◌∙◌, ap, arith, subst, eqb-true, eq-eqb}
+use Rattle.std.proofs.Common.{◌≡◌, ℕ, Bool, true, false, Option, Some, None, List, [], ◌∷◌, refl, ◌∙◌, ap, arith, subst}
 use Rattle.std.specs.Prelude.{sum_by}
 use Rattle.orca_names.specs.declared.names.Thing.{Thing}
 use Rattle.orca_names.specs.declared.names.Thing.TheVariants.{Actor}

@@ -16,7 +16,7 @@ use Rattle.letter_kinds.specs.declared.letter.Letter.{Letter}
 use Rattle.count_laws.proofs.agreement.Agreeing.{agrees_set, apart}
 use Rattle.count_laws.proofs.events.Every.{every_more, every_set}
 use Rattle.count_laws.proofs.balance.InHand.{in_hand, out_of_hand}
-use Rattle.count_laws.proofs.events.Take.{firm_set_held, next_held}
+use Rattle.count_laws.proofs.events.Take.{firm_set_held}
 use Rattle.count_laws.proofs.balance.Makes.{IsFresh, fresh_held, given, given_other, held_given, make_balanced, make_prefix, more_last, more_other}
 use Rattle.count_laws.proofs.knowledge.Naming.{set_names}
 use Rattle.count_laws.proofs.knowledge.Paths.{along_row, reach_into}
@@ -28,7 +28,7 @@ use Rattle.orca_names.specs.declared.trace.Trace.TheVariants.{Deep}
 use Rattle.machine_rules.specs.Actors.{Actors, seat, seat_at, Every}
 use Rattle.count_laws.specs.Agreement.{Agrees, IsRootPerson, Person, nobody, person_at, person_of}
 use Rattle.machine_rules.specs.Cell.{Cell}
-use Rattle.count_laws.specs.Facts.{IsFirm, IsFirmAt, IsPastRows, KeepsCounts, IsSound}
+use Rattle.count_laws.specs.Facts.{IsFirm, IsFirmAt, KeepsCounts, IsSound}
 use Rattle.machine_rules.specs.Go.{make}
 use Rattle.count_laws.specs.Known.{InFrame, IsClosedAt, IsKnown, IsSoundAt, Reaches, Roots, RowsAreAt, in_fields, in_frame, in_table, row_at}
 use Rattle.plain_rules.specs.Machine.{with_name}
@@ -80,7 +80,7 @@ given_self w n = rw (is_self (Actor n)) refl
 
 module _ (trace : Trace) (wt : ℕ) (heavy : 0 < wt) (all : Thing → Option Row) (ps : List Person) (s : Actors) (inv : KeepsCounts trace all ps s)
     (a : ℕ) (c : Cell) (ls : List Letter) (at : seat_at s a ≡ seat c ls) (g : Frame)
-    (fresh : Cell) (is_fresh : IsFresh wt fresh.holdings) (zero_serial : fresh.holdings.next ≡ 0) where
+    (fresh : Cell) (is_fresh : IsFresh wt fresh.holdings) where
   abbrev d1 : Cell
   d1 = record c { frame = Some g }
 
@@ -89,9 +89,6 @@ module _ (trace : Trace) (wt : ℕ) (heavy : 0 < wt) (all : Thing → Option Row
 
   maker_within : a < length s
   maker_within = present_below s a _ at
-
-  serial-d2 : d2.holdings.next ≡ c.holdings.next
-  serial-d2 = next_held (λ h. h + wt) (Actor (length s)) None c.holdings
 
   firm-d2 : IsFirm d2.holdings
   firm-d2 = firm_set_held (λ h. h + wt) (Actor (length s)) None c.holdings (omega arith) (inv.firm a c ls at)
@@ -110,17 +107,14 @@ module _ (trace : Trace) (wt : ℕ) (heavy : 0 < wt) (all : Thing → Option Row
     agrees = agrees_more (set ps a (person_of d2 ls)) first fresh [] (length-set ps a _ ∙ inv.long ∙ sym wide)
         (agrees_set ps s a c d2 ls ls at (let w = inv.long in let z = maker_within in omega arith) inv.agrees);
     bare = inv.bare;
-    serials = every_more (IsPastRows all) first fresh [] (λ k h. inv.unmade (length first) (let w = wide in omega arith) k)
-        (every_set (IsPastRows all) s a d2 ls maker_within (λ k h. inv.serials a c ls at k (let z = serial-d2 in omega arith)) inv.serials);
     long = let x = length-append (set ps a (person_of d2 ls)) (person_of fresh [] ∷ []) in let y = length-append first (seat fresh [] ∷ []) in let z = length-set ps a (person_of d2 ls) in let w = wide in let l = inv.long in omega arith;
-    unmade = λ i h k. inv.unmade i (let y = length-append first (seat fresh [] ∷ []) in let w = wide in omega arith) k;
     firm = every_more IsFirmAt first fresh [] (λ x e is. absurd (none_some' e (sym (is_fresh.2 x) ∙ is)))
         (every_set IsFirmAt s a d2 ls maker_within firm-d2 inv.firm);
   }
 
 module _ (wt : ℕ) (heavy : 0 < wt) (all : Thing → Option Row) (ps : List Person) (s : Actors) (inv : KeepsCounts Deep all ps s)
     (a : ℕ) (c : Cell) (ls : List Letter) (at : seat_at s a ≡ seat c ls) (f : Frame) (frame : c.frame ≡ Some f) (into : ℕ)
-    (fresh : Cell) (is_fresh : IsFresh wt fresh.holdings) (blank : (x : Thing) → Roots fresh x → ⊥) (zero_serial : fresh.holdings.next ≡ 0) where
+    (fresh : Cell) (is_fresh : IsFresh wt fresh.holdings) (blank : (x : Thing) → Roots fresh x → ⊥) where
   abbrev n : ℕ
   n = length s
 
@@ -203,6 +197,6 @@ module _ (wt : ℕ) (heavy : 0 < wt) (all : Thing → Option Row) (ps : List Per
   wide' = length-set s a _
 
   pub make_keeps_counts : KeepsCounts Deep all (set ps a (person_of c2 ls) ++ person_of fresh [] ∷ []) (make wt a c1 ls fresh s)
-  make_keeps_counts = make_put Deep wt heavy all ps s inv a c ls at (with_name f into n) fresh is_fresh zero_serial
+  make_keeps_counts = make_put Deep wt heavy all ps s inv a c ls at (with_name f into n) fresh is_fresh
       (every_more (IsSoundAt all) first' fresh [] (rw wide' (record { closed = closed-fresh; rows = rows-fresh; loads = tt }))
       (every_set (IsSoundAt all) s a c2 ls within (record { closed = closed-c2; rows = rows-c2; loads = (inv.sound a c ls at).loads }) inv.sound))

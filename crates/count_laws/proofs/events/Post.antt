@@ -30,7 +30,7 @@ use Rattle.orca_names.specs.declared.trace.Trace.TheVariants.{Deep}
 use Rattle.machine_rules.specs.Actors.{Actors, seat, seat_at, Every}
 use Rattle.count_laws.specs.Agreement.{Person, person_at, person_of}
 use Rattle.machine_rules.specs.Cell.{Cell}
-use Rattle.count_laws.specs.Facts.{IsFirm, IsFirmAt, IsPastRows, KeepsCounts, IsSound}
+use Rattle.count_laws.specs.Facts.{IsFirm, IsFirmAt, KeepsCounts, IsSound}
 use Rattle.machine_rules.specs.Go.{mint, post}
 use Rattle.count_laws.specs.Known.{IsKnown, IsLoadOf}
 
@@ -91,10 +91,7 @@ module _ (trace : Trace) (all : Thing → Option Row) (ps : List Person) (s : Ac
         (let w = present_below sent to there.0 there.1 in let l = length-set ps a (person_of sender ls) in let k = length-set s a (seat sender ls) in let i = inv.long in omega arith)
         (agrees_set ps s a c sender ls ls at (let w = inv.long in let z = within in omega arith) inv.agrees);
     bare = inv.bare;
-    serials = every_push (IsPastRows all) (App b args load rows) (λ i d ms q. q) sent to
-        (every_set (IsPastRows all) s a sender ls within (λ k h. inv.serials a c ls at k (let z = next_send a load c.holdings in omega arith)) inv.serials);
     long = length-set people to _ ∙ length-set ps a _ ∙ inv.long ∙ sym (length-push to (App b args load rows) sent ∙ length-set s a _);
-    unmade = λ i h k. inv.unmade i (let z = length-push to (App b args load rows) sent in let w = length-set s a (seat sender ls) in omega arith) k;
     firm = every_push IsFirmAt (App b args load rows) (λ i d ms q. q) sent to
         (every_set IsFirmAt s a sender ls within (firm_send a load c.holdings enough (inv.firm a c ls at)) inv.firm);
   }
@@ -177,10 +174,7 @@ module _ (trace : Trace) (all : Thing → Option Row) (ps : List Person) (s : Ac
     sound = sound;
     agrees = agrees_push_other ps minted b (Inc es) in_b.0 in_b.1 refl (agrees_same ps s a c minter ls ls at same_person inv.agrees);
     bare = inv.bare;
-    serials = every_push (IsPastRows all) (Inc es) (λ i d ms q. q) minted b
-        (every_set (IsPastRows all) s a minter ls inside (λ k h. inv.serials a c ls at k (let z = next_mint es c.holdings in omega arith)) inv.serials);
     long = inv.long ∙ sym (length-push b (Inc es) minted ∙ length-set s a _);
-    unmade = λ i h k. inv.unmade i (let z = length-push b (Inc es) minted in let w = length-set s a (seat minter ls) in omega arith) k;
     firm = every_push IsFirmAt (Inc es) (λ i d ms q. q) minted b
         (every_set IsFirmAt s a minter ls inside (firm_mint es c.holdings pos (inv.firm a c ls at)) inv.firm);
   }

@@ -24,7 +24,7 @@ use Rattle.count_laws.specs.Agreement.{Person, person_at, person_of, IsRootPerso
 use Rattle.machine_rules.specs.Balance.{held_at, loads_at}
 use Rattle.machine_rules.specs.Cell.{Cell}
 use Rattle.machine_rules.specs.Detect.{reap_members, reap_in_turn}
-use Rattle.count_laws.specs.Facts.{IsFirmAt, IsPastRows, KeepsCounts, IsSound}
+use Rattle.count_laws.specs.Facts.{IsFirmAt, KeepsCounts, IsSound}
 use Rattle.count_laws.specs.Known.{Reaches, IsKnown, in_table, IsSoundAt}
 use Rattle.orca_names.specs.Names.{owner_of}
 use Rattle.orca_names.specs.declared.names.Thing.{Thing}
@@ -151,9 +151,7 @@ module _ (trace : Trace) (all : Thing → Option Row) (ps : List Person) (s : Ac
         sound = sound;
         agrees = agrees_reap ps ms ms [] s (idle_all ms is_sealed) inv.agrees;
         bare = inv.bare;
-        serials = every_reap (IsPastRows all) (λ es b d ks q. q) ms ms [] s inv.serials;
         long = inv.long ∙ sym (length-reap ms ms [] s);
-        unmade = λ b h k. inv.unmade b (let z = length-reap ms ms [] s in omega arith) k;
         firm = every_reap IsFirmAt (λ es b d ks q. q) ms ms [] s inv.firm;
       }
 

@@ -221,9 +221,7 @@ module _ (program : Program) (found : Option ℕ) where
       absent = absent;
     };
     bare = λ a. refl;
-    serials = λ a d ms at k h. no_rows (Obj (record { owner = a; serial = k }));
     long = refl;
-    unmade = λ a h k. no_rows (Obj (record { owner = a; serial = k }));
     firm = λ a d ms at x e is. let z = only_seat a d ms at in
         absurd (none_some e (sym (m.get-empty {X = ℕ × Option Row} thing_cmp x) ∙ (ap (λ (d : Cell). m.get d.holdings.foreign x) z.1.0 ∙ is)));
   }

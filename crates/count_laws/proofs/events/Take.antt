@@ -23,7 +23,7 @@ use Rattle.count_laws.specs.Prefixes.{IsCoveredAt}
 use Rattle.machine_rules.specs.Cell.{Cell}
 use Rattle.orca_names.specs.declared.trace.Trace.{Trace}
 use Rattle.orca_names.specs.declared.trace.Trace.TheVariants.{Deep}
-use Rattle.count_laws.specs.Facts.{IsFirm, IsFirmAt, IsPastRows, KeepsCounts, IsSound}
+use Rattle.count_laws.specs.Facts.{IsFirm, IsFirmAt, KeepsCounts, IsSound}
 use Rattle.count_laws.specs.Known.{Names, IsKnown, InFrame, Roots, in_fields, in_frame, in_table, IsClosedAt, RowsAreAt, row_at, IsSoundAt}
 use Rattle.plain_rules.specs.Machine.{frame_of, registers_of}
 use Rattle.machine_rules.specs.Take.{cell_after, learn}
@@ -171,9 +171,7 @@ module _ (trace : Trace) (program : Program) (all : Thing → Option Row) (ps : 
     sound = every_set (IsSound trace all) s a next ls within sound inv.sound;
     agrees = agrees;
     bare = inv.bare;
-    serials = every_set (IsPastRows all) s a next ls within (λ k h. inv.serials a c (l ∷ ls) at k (omega arith)) inv.serials;
     long = long ∙ inv.long ∙ sym (length-set s a _);
-    unmade = λ b h k. inv.unmade b (let w = length-set s a (seat next ls) in omega arith) k;
     firm = every_set IsFirmAt s a next ls within firm inv.firm;
   }
 

@@ -1,8 +1,6 @@
 -- A turn keeps all that is kept of the counts, with the rows that it makes.
-use Rattle.std.proofs.Common.{◌≡◌, ℕ, ◌+◌, ◌<◌, ◌≤◌, Bool, Option, Some, None, List, length, set, refl, sym, ◌∙◌, ap, arith, ⊎_elim, length-set}
+use Rattle.std.proofs.Common.{◌≡◌, ℕ, ◌<◌, Bool, Option, Some, List, length, set, refl, sym, ◌∙◌, ap, arith, length-set}
 use Rattle.std.specs.FinMap as m
-use Rattle.std.specs.Prelude.{unwrap_or}
-use Rattle.orca_names.specs.Names.{owner_of, serial_of}
 use Rattle.orca_names.specs.declared.names.Thing.{Thing}
 use Rattle.behaviour_code.specs.declared.code.Program.{Program}
 use Rattle.turn_rules.specs.Segment.{Stop}
@@ -10,9 +8,9 @@ use Rattle.turn_rules.specs.declared.act.Frame.{Frame}
 use Rattle.letter_kinds.specs.Holdings.{Row, held_in, own_in}
 use Rattle.letter_kinds.specs.declared.letter.Letter.{Letter}
 use Rattle.count_laws.proofs.agreement.Agreeing.{agrees_set}
-use Rattle.count_laws.proofs.events.Every.{every_but, every_set}
+use Rattle.count_laws.proofs.events.Every.{every_set}
 use Rattle.count_laws.proofs.knowledge.Global.{sound_set}
-use Rattle.count_laws.proofs.knowledge.Going.{Grows, after, closed_after, held_after, object, own_after, rows_after, sound_after, turn}
+use Rattle.count_laws.proofs.knowledge.Going.{Grows, after, closed_after, held_after, own_after, rows_after, sound_after, turn}
 use Rattle.count_laws.proofs.balance.InHand.{in_hand, none, out_of_hand}
 use Rattle.machine_rules.proofs.Present.{present_below}
 use Rattle.count_laws.proofs.balance.Sends.{cell_balanced, cell_prefix}
@@ -21,25 +19,16 @@ use Rattle.orca_names.specs.declared.trace.Trace.TheVariants.{Deep}
 use Rattle.machine_rules.specs.Actors.{Actors, seat, seat_at, Every}
 use Rattle.count_laws.specs.Agreement.{Person, person_of}
 use Rattle.machine_rules.specs.Cell.{Cell}
-use Rattle.count_laws.specs.Facts.{IsFirmAt, IsPastRows, KeepsCounts, IsSound}
+use Rattle.count_laws.specs.Facts.{IsFirmAt, KeepsCounts, IsSound}
 use Rattle.count_laws.specs.Known.{InFrame, Names}
-
-same_serial : (a b j k : ℕ) → object b k ≡ object a j → k ≡ j
-same_serial a b j k e = ap (λ x. unwrap_or (serial_of x) 0) e
 
 -- an actor's cell after rows were made, which counts and holds as before
 module _ (trace : Trace) (all all' : Thing → Option Row) (ps : List Person) (s : Actors) (inv : KeepsCounts trace all ps s)
     (a : ℕ) (c c1 : Cell) (ls : List Letter) (at : seat_at s a ≡ seat c ls) (made : List Row) (grows : Grows all all' a c.holdings.next made)
-    (serial_after : c1.holdings.next ≡ c.holdings.next + length made) (foreign_after : c1.holdings.foreign ≡ c.holdings.foreign)
+    (foreign_after : c1.holdings.foreign ≡ c.holdings.foreign)
     (own_same : (x : Thing) → own_in c1.holdings x ≡ own_in c.holdings x) (held_same : (x : Thing) → held_in c1.holdings x ≡ held_in c.holdings x) where
   within : a < length s
   within = present_below s a _ at
-
-  past_made : (b k : ℕ) → (b ≡ a → c.holdings.next + length made ≤ k) → all (object b k) ≡ None → all' (object b k) ≡ None
-  past_made b k past n = ⊎_elim
-      (λ same. same ∙ n)
-      (λ new. absurd (let q = new.2 in let w = new.1 in let o : b ≡ a = ap owner_of q in let h = past o in let i : k ≡ c.holdings.next + new.0 = same_serial a b (c.holdings.next + new.0) k q in omega arith))
-      (grows.only (object b k))
 
   pub turn_put : Every (IsSound trace all') (set s a (seat c1 ls)) → KeepsCounts trace all' (set ps a (person_of c1 ls)) (set s a (seat c1 ls))
   turn_put sound = record {
@@ -51,11 +40,7 @@ module _ (trace : Trace) (all all' : Thing → Option Row) (ps : List Person) (s
     sound = sound;
     agrees = agrees_set ps s a c c1 ls ls at (let w = inv.long in let z = within in omega arith) inv.agrees;
     bare = grows.bare;
-    serials = every_but (IsPastRows all') s a c1 ls within
-        (λ k h. past_made a k (λ _. let z = serial_after in omega arith) (inv.serials a c ls at k (let z = serial_after in omega arith)))
-        (λ b d ms other is k h. past_made b k (λ same. absurd (other same)) (inv.serials b d ms is k h));
     long = length-set ps a _ ∙ inv.long ∙ sym (length-set s a _);
-    unmade = λ b h k. past_made b k (λ same. absurd (let w = length-set s a (seat c1 ls) in let z = within in omega arith)) (inv.unmade b (let w = length-set s a (seat c1 ls) in omega arith) k);
     firm = every_set IsFirmAt s a c1 ls within (λ x e is. inv.firm a c ls at x e (ap (λ q. m.get q x) (sym foreign_after) ∙ is)) inv.firm;
   }
 
@@ -68,16 +53,12 @@ module _ (program : Program) (all all' : Thing → Option Row) (ps : List Person
     abbrev c1 : Cell
     c1 = after program all all' ps s inv a c ls at f frame grows nf nd names_nf
 
-    serial : c1.holdings.next ≡ c.holdings.next + length t.turn.made
-    unfolding after
-    serial = refl
-
     foreign : c1.holdings.foreign ≡ c.holdings.foreign
     unfolding after
     foreign = refl
 
     pub turn_keeps_counts : KeepsCounts Deep all' (set ps a (person_of c1 ls)) (set s a (seat c1 ls))
-    turn_keeps_counts = turn_put Deep all all' ps s inv a c c1 ls at t.turn.made grows serial foreign
+    turn_keeps_counts = turn_put Deep all all' ps s inv a c c1 ls at t.turn.made grows foreign
         (own_after program all all' ps s inv a c ls at f frame grows nf nd names_nf) (held_after program all all' ps s inv a c ls at f frame grows nf nd names_nf)
         (sound_set all' s a (seat c ls) c1 ls (present_below s a _ at) at
         (record {

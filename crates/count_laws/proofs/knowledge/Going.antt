@@ -43,6 +43,8 @@ pub record Grows (all all' : Thing → Option Row) (me base : ℕ) (made : List 
   pub bare : NoActorRows all'
   pub news : (i : ℕ) → i < length made → all' (object me (base + i)) ≡ Some (get_or made i [])
   pub only : (x : Thing) → (all' x ≡ all x) ⊎ Made me base made x
+  -- none of them had a row before
+  pub past : (k : ℕ) → base ≤ k → all (object me k) ≡ None
 
 row_there : (a k : ℕ) (c : Holdings) (e : Row × ℕ) → m.get c.rows k ≡ Some e → row_at a c (object a k) ≡ Some e.0
 unfolding row_of
@@ -76,9 +78,6 @@ module _ (program : Program) (all all' : Thing → Option Row) (ps : List Person
   here : IsSoundAt all a c ls
   here = inv.sound a c ls at
 
-  fresh : (k : ℕ) → c.holdings.next ≤ k → m.get c.holdings.rows k ≡ None
-  fresh k h = lacks all a k c.holdings (m.get c.holdings.rows k) refl here.rows (inv.serials a c ls at k h)
-
   given_roots : (x : Thing) → Given f c.fields x → Roots c x
   given_roots x (inl n) = in_frame (subst (λ o. InFrame o x) (sym frame) n)
   given_roots x (inr n) = in_fields n
@@ -98,6 +97,9 @@ module _ (program : Program) (all all' : Thing → Option Row) (ps : List Person
   source x (inr q) = inr q
 
   module _ (grows : Grows all all' a c.holdings.next turn.turn.made) (nf : Option Frame) (nd : Bool) (names_nf : (x : Thing) → InFrame nf x → Names turn.turn.registers x) where
+    fresh : (k : ℕ) → c.holdings.next ≤ k → m.get c.holdings.rows k ≡ None
+    fresh k h = lacks all a k c.holdings (m.get c.holdings.rows k) refl here.rows (grows.past k h)
+
     unfoldable pub after : Cell
     after = cell_after_turn turn nf nd c
 
@@ -147,7 +149,7 @@ module _ (program : Program) (all all' : Thing → Option Row) (ps : List Person
         (λ x r new e. bare_new x r new e) inv.sound
       where
         bare_new : (x : Thing) (r : Row) → Made a c.holdings.next turn.turn.made x → all x ≡ Some r → ⊥
-        bare_new x r new e = let z = inv.serials a c ls at (c.holdings.next + new.0) (omega arith) in let q = new.2 in let w = ap all q in cc
+        bare_new x r new e = let z = grows.past (c.holdings.next + new.0) (omega arith) in let q = new.2 in let w = ap all q in cc
         -- a load that is exact over the actor's own rows is exact over all
 
     module _ (to b : ℕ) (args : List Value) (act : turn.act ≡ Post to b args) (load : List Loaded) (is : IsLoadOf (row_at a after.holdings) args load) where

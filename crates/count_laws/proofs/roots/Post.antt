@@ -195,7 +195,7 @@ module _ (all : Thing → Option Row) (ps : List Person) (s : Actors) (inv : Kee
 
 module _ (wt : ℕ) (heavy : 0 < wt) (all : Thing → Option Row) (ps : List Person) (s : Actors) (inv : KeepsCounts options.Roots all ps s)
     (a : ℕ) (c : Cell) (ls : List Letter) (at : seat_at s a ≡ seat c ls) (f : Frame) (frame : c.frame ≡ Some f) (into : ℕ)
-    (fresh : Cell) (is_fresh : IsFresh wt fresh.holdings) (blank : (x : Thing) → Roots fresh x → ⊥) (zero_serial : fresh.holdings.next ≡ 0) (unlearned : (x : Thing) → m.get fresh.known x ≡ None) where
+    (fresh : Cell) (is_fresh : IsFresh wt fresh.holdings) (blank : (x : Thing) → Roots fresh x → ⊥) (unlearned : (x : Thing) → m.get fresh.known x ≡ None) where
   abbrev n : ℕ
   n = length s
 
@@ -308,7 +308,7 @@ module _ (wt : ℕ) (heavy : 0 < wt) (all : Thing → Option Row) (ps : List Per
       nothing x (suc k) h = absurd (omega (arith, sum-nil (inc_of x)))
 
   pub make_keeps_roots : KeepsCounts options.Roots all (set ps a (person_of maker ls) ++ person_of fresh [] ∷ []) (make wt a (record c { frame = Some (with_name f into n) }) ls fresh s)
-  make_keeps_roots = make_put options.Roots wt heavy all ps s inv a c ls at (with_name f into n) fresh is_fresh zero_serial
+  make_keeps_roots = make_put options.Roots wt heavy all ps s inv a c ls at (with_name f into n) fresh is_fresh
       (every_more (IsRootsAt all) (set s a (seat maker ls)) fresh [] (fresh_roots (length (set s a (seat maker ls))))
       (every_set (IsRootsAt all) s a maker ls within maker_roots inv.sound))
 

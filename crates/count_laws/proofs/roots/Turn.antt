@@ -138,26 +138,6 @@ module _ (program : Program) (all all' : Thing → Option Row) (ps : List Person
   here : IsRootsAt all a c ls
   here = inv.sound a c ls at
 
-  fresh : (k : ℕ) → c.holdings.next ≤ k → m.get c.holdings.rows k ≡ None
-  unfolding own_row_of
-  fresh k past = by_entry (m.get c.holdings.rows k) refl
-    where
-      by_entry : (o : Option (Row × ℕ)) → m.get c.holdings.rows k ≡ o → m.get c.holdings.rows k ≡ None
-      by_entry None e = e
-      by_entry (Some q) e = absurd (let z = here.mine (record { owner = a; serial = k }) q.0 (rw (eq-eqb a a refl) (ap own_row e)) in let w = inv.serials a c ls at k past in cc)
-
-  -- a thing that was made now was not reached
-  unborn : (x : Thing) → IsLeft s x → MadeAny a c.holdings.next x → ⊥
-  unfolding has_own
-  unborn x left (i, e) = not_left i (subst (IsLeft s) e left)
-    where
-      not_left : (i : ℕ) → IsLeft s (object a (c.holdings.next + i)) → ⊥
-      not_left i left =
-          let z = some_seat c left.seat.cell ls left.seat.mail (sym at ∙ left.present) in
-          let n = fresh (c.holdings.next + i) (omega arith) in
-          let has : is_some (m.get c.holdings.rows (c.holdings.next + i)) ≡ true = subst (λ (d : Cell). is_some (m.get d.holdings.rows (c.holdings.next + i)) ≡ true) (sym z.0) left.kept in
-          gone _ n has
-
   -- ---- what the turn names
 
   given_root : (x : Thing) → Given f c.fields x → WalkRoots a c x
@@ -217,13 +197,33 @@ module _ (program : Program) (all all' : Thing → Option Row) (ps : List Person
     abbrev Final : Thing → Type 0
     Final x = IsKnownWithOwner a c.holdings x ⊎ ((x ≡ Actor a) ⊎ Made a c.holdings.next made x)
 
-    final : (x : Thing) → May x → Source x → Final x
-    final x (inl known) source = inl known
-    final x (inr (inl self)) source = inr (inl self)
-    final x (inr (inr any)) (inl reached) = absurd (unborn x (reached_left all s bal inv.sound inv.bare a c ls at reached) any)
-    final x (inr (inr any)) (inr q) = inr q
-
     module _ (grows : Grows all all' a c.holdings.next made) (nf : Option Frame) (nd : Bool) (names_nf : (x : Thing) → InFrame nf x → Names stop.turn.registers x) where
+      fresh : (k : ℕ) → c.holdings.next ≤ k → m.get c.holdings.rows k ≡ None
+      unfolding own_row_of
+      fresh k past = by_entry (m.get c.holdings.rows k) refl
+        where
+          by_entry : (o : Option (Row × ℕ)) → m.get c.holdings.rows k ≡ o → m.get c.holdings.rows k ≡ None
+          by_entry None e = e
+          by_entry (Some q) e = absurd (let z = here.mine (record { owner = a; serial = k }) q.0 (rw (eq-eqb a a refl) (ap own_row e)) in let w = grows.past k past in cc)
+
+      -- a thing that was made now was not reached
+      unborn : (x : Thing) → IsLeft s x → MadeAny a c.holdings.next x → ⊥
+      unfolding has_own
+      unborn x left (i, e) = not_left i (subst (IsLeft s) e left)
+        where
+          not_left : (i : ℕ) → IsLeft s (object a (c.holdings.next + i)) → ⊥
+          not_left i left =
+              let z = some_seat c left.seat.cell ls left.seat.mail (sym at ∙ left.present) in
+              let n = fresh (c.holdings.next + i) (omega arith) in
+              let has : is_some (m.get c.holdings.rows (c.holdings.next + i)) ≡ true = subst (λ (d : Cell). is_some (m.get d.holdings.rows (c.holdings.next + i)) ≡ true) (sym z.0) left.kept in
+              gone _ n has
+
+      final : (x : Thing) → May x → Source x → Final x
+      final x (inl known) source = inl known
+      final x (inr (inl self)) source = inr (inl self)
+      final x (inr (inr any)) (inl reached) = absurd (unborn x (reached_left all s bal inv.sound inv.bare a c ls at reached) any)
+      final x (inr (inr any)) (inr q) = inr q
+
       abbrev c1 : Cell
       c1 = cell_after_turn stop nf nd c
 
@@ -267,7 +267,7 @@ module _ (program : Program) (all all' : Thing → Option Row) (ps : List Person
       not_made : (n : ObjName) (row : Row) → all (Obj n) ≡ Some row → all' (Obj n) ≡ Some row
       not_made n row e = ⊎_elim
           (λ same. same ∙ e)
-          (λ new. absurd (let z = inv.serials a c ls at (c.holdings.next + new.0) (omega arith) in let w = ap all new.2 in cc))
+          (λ new. absurd (let z = grows.past (c.holdings.next + new.0) (omega arith) in let w = ap all new.2 in cc))
           (grows.only (Obj n))
 
       mine_after : (n : ObjName) (row : Row) → own_row_of a c1.holdings n ≡ Some row → all' (Obj n) ≡ Some row
@@ -398,7 +398,7 @@ module _ (program : Program) (all all' : Thing → Option Row) (ps : List Person
       }
 
       pub turn_keeps_roots : KeepsCounts options.Roots all' (set ps a (person_of c1 ls)) (set s a (seat c1 ls))
-      turn_keeps_roots = turn_put options.Roots all all' ps s inv a c c1 ls at made grows refl refl same_own same_held
+      turn_keeps_roots = turn_put options.Roots all all' ps s inv a c c1 ls at made grows refl same_own same_held
           (every_but (IsRootsAt all') s a c1 ls (present_below s a _ at) turned_roots (λ b d ms other is. others b d ms is))
 
       -- ---- a letter's arguments
