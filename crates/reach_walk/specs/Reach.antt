@@ -1,5 +1,5 @@
 -- What is reached from roots, along edges.
-use Rattle.std.specs.Prelude.{◌↔◌, List, [], Option, Some, None, Contains, unwrap_or}
+use Rattle.std.specs.Prelude.{◌↔◌, List, [], Option, None, Contains, unwrap_or}
 use Rattle.std.specs.List.{filter_map}
 use Rattle.orca_names.specs.declared.names.ObjName.{ObjName}
 use Rattle.orca_names.specs.declared.names.Thing.{Thing}
