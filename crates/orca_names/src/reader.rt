@@ -28,14 +28,13 @@ pub trait RowReader {
         ensures value { result ≡ option_and_then (λ row. slice_get row i) (rows self.old n) }
         ensures same { (rows self.new ≡ rows self.old) × (all self.new ≡ all self.old) }
     {
-        match self.read_row(n) {
-            Some(row) => row.get(i),
-            None => None,
-        }
+        let row = self.read_row(n)?;
+        row.get(i)
     }
 
     /// What has a row is among all names.
-    ghost within: { (s : Self) (n : object_name) (row : List names.Value) → rows s n ≡ Some row → Contains (all s) n };
+    ghost within: { (s : Self) (n : object_name) (row : List names.Value) →
+        rows s n ≡ Some row → Contains (all s) n };
 }
 
 /// Rows that stand where they can be looked up, as a reader of them.
@@ -54,10 +53,7 @@ impl<R: Rows> RowReader for Reading<'_, R> {
     }
 
     fn read_place(&mut self, n: ObjName, i: u64) -> Option<Value> {
-        match self.rows.row_of(n) {
-            Some(row) => row.get(i),
-            None => None,
-        }
+        self.rows.row_of(n)?.get(i)
     }
 
     ghost within = { λ s n row e. R.within s.rows.now n row e };

@@ -21,5 +21,6 @@ pub trait Rows {
         ensures { option_copied result ≡ rows self.now n };
 
     /// What has a row is among all names.
-    ghost within: { (s : Self) (n : object_name) (row : List names.Value) → rows s n ≡ Some row → Contains (all s) n };
+    ghost within: { (s : Self) (n : object_name) (row : List names.Value) →
+        rows s n ≡ Some row → Contains (all s) n };
 }

@@ -1,5 +1,5 @@
 -- What things lead to through rows: all that they reach, but for owners.
-use Rattle.std.proofs.Common.{◌≡◌, ◌≢◌, ℕ, zero, suc, ◌≤◌, ◌⊎◌, inl, inr, List, [], ◌∷◌, ◌++◌, length, map, Option, Contains, refl, sym, ap, subst, ◌∙◌, arith}
+use Rattle.std.proofs.Common.{◌≡◌, ℕ, zero, suc, ◌≤◌, ◌⊎◌, inl, inr, List, [], ◌∷◌, ◌++◌, length, map, Option, Contains, refl, sym, ap, subst, ◌∙◌, arith}
 use Rattle.std.specs.List.{flat_map, list_any}
 use Rattle.std.proofs.lemmas.Bool.{cases_Bool, true≢false}
 use Rattle.std.proofs.lemmas.Cmp.{eq_by_cmp_equiv}
@@ -40,19 +40,19 @@ met (y ∷ ys) things = elim (cases_Bool (list_any (is_thing y) things)) as (λ 
   | inl e ↦ inl (record { one = y; there = Contains-from_any is_same y things e; rest = ys; fewer = refl; others = Contains-cons_cases y ys })
   | inr e ↦ elim (met ys things) as (λ _. Met (y ∷ ys) things ⊎ ((t : Thing) → Contains (y ∷ ys) t → Contains things t → ⊥)) [
     | inl m ↦ inl (record {
-        one = m.one;
-        there = m.there;
-        rest = y ∷ m.rest;
-        fewer = ap suc m.fewer;
-        others = λ t c. elim (Contains-cons_cases y ys t c) as (λ _. (m.one ≡ t) ⊎ Contains (y ∷ m.rest) t) [
-          | inl same ↦ inr (subst (Contains (y ∷ m.rest)) same (Contains-head y m.rest))
-          | inr later ↦ elim (m.others t later) as (λ _. (m.one ≡ t) ⊎ Contains (y ∷ m.rest) t) [ inl it ↦ inl it | inr d ↦ inr (Contains-later y m.rest t d) ]
-        ];
-      })
+      one = m.one;
+      there = m.there;
+      rest = y ∷ m.rest;
+      fewer = ap suc m.fewer;
+      others = λ t c. elim (Contains-cons_cases y ys t c) as (λ _. (m.one ≡ t) ⊎ Contains (y ∷ m.rest) t) [
+        | inl same ↦ inr (subst (Contains (y ∷ m.rest)) same (Contains-head y m.rest))
+        | inr later ↦ elim (m.others t later) as (λ _. (m.one ≡ t) ⊎ Contains (y ∷ m.rest) t) [ inl it ↦ inl it | inr d ↦ inr (Contains-later y m.rest t d) ]
+      ];
+    })
     | inr none ↦ inr (λ t c d. elim (Contains-cons_cases y ys t c) as (λ _. ⊥) [
-        | inl same ↦ true≢false (sym (list_any-from_Contains (eq_by_cmp_equiv thing_total) y things (subst (Contains things) (sym same) d)) ∙ e)
-        | inr later ↦ none t later d
-      ])
+      | inl same ↦ true≢false (sym (list_any-from_Contains (eq_by_cmp_equiv thing_total) y things (subst (Contains things) (sym same) d)) ∙ e)
+      | inr later ↦ none t later d
+    ])
   ]
 ]
 

@@ -1,16 +1,16 @@
 -- What holds of marks and of loads.
-use Rattle.std.specs.Prelude.{◌≡◌, ◌↔◌, List, Option, Contains, All}
+use Rattle.std.specs.Prelude.{◌≡◌, List, Option, All}
 use Rattle.std.specs.List.Sorted.{IsStrictlySortedBy}
 use Rattle.orca_names.specs.Names.{thing_cmp, times_among}
 use Rattle.orca_names.specs.declared.names.ObjName.{ObjName}
 use Rattle.orca_names.specs.declared.names.Thing.{Thing}
 use Rattle.orca_names.specs.declared.names.Value.{Value}
 use Rattle.reach_walk.specs.Marks.{Covers, marks_of, load_of}
-use Rattle.reach_walk.specs.Reach.{named_by, row_edges, Reaches, thing_row}
+use Rattle.reach_walk.specs.Reach.{named_by, row_edges, AreReached, Reaches, thing_row}
 
 -- the things that the values reach through rows, no others, in the order of things, each once
 pub record AreMarks (rows : ObjName → Option (List Value)) (roots : List Value) (things : List Thing) : Type 0 where
-  pub exact : (x : Thing) → Contains things x ↔ Reaches (row_edges rows) (named_by roots) x
+  pub exact : AreReached (row_edges rows) (named_by roots) things
   pub rising : IsStrictlySortedBy thing_cmp things
 
 -- the marks are such a list

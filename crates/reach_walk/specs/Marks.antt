@@ -5,7 +5,7 @@ use Rattle.std.specs.List.{flat_map}
 use Rattle.orca_names.specs.Names.{owner_of, thing_cmp}
 use Rattle.orca_names.specs.declared.names.ObjName.{ObjName}
 use Rattle.orca_names.specs.declared.names.Thing.{Thing}
-use Rattle.orca_names.specs.declared.names.Thing.TheVariants.{Actor, Obj}
+use Rattle.orca_names.specs.declared.names.Thing.TheVariants.{Actor}
 use Rattle.orca_names.specs.declared.names.Value.{Value}
 use Rattle.reach_walk.specs.Reach.{named_by, row_edges, thing_row}
 

@@ -1,5 +1,5 @@
 -- What is reached from roots, along edges.
-use Rattle.std.specs.Prelude.{List, [], Option, Some, None, Contains, unwrap_or}
+use Rattle.std.specs.Prelude.{◌↔◌, List, [], Option, None, Contains, unwrap_or}
 use Rattle.std.specs.List.{filter_map}
 use Rattle.orca_names.specs.declared.names.ObjName.{ObjName}
 use Rattle.orca_names.specs.declared.names.Thing.{Thing}
@@ -21,6 +21,10 @@ pub data ReachesFrom (edges : Thing → List Value) (IsRoot : Thing → Type 0) 
 -- what is reached from the things of a list
 abbrev pub Reaches : (Thing → List Value) → List Thing → Thing → Type 0
 Reaches edges roots x = ReachesFrom edges (Contains roots) x
+
+-- the list has exactly these
+abbrev pub AreReached : (Thing → List Value) → List Thing → List Thing → Type 0
+AreReached edges roots things = (x : Thing) → Contains things x ↔ Reaches edges roots x
 
 -- the row of a thing: an actor has none
 abbrev pub thing_row : (ObjName → Option (List Value)) → Thing → Option (List Value)

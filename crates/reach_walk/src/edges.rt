@@ -14,9 +14,9 @@ pub trait Edges {
     /// All things that lead on: there are finitely many, so that a walk ends.
     ghost all: { Self → List thing };
 
+    /// What a look at edges leaves as it was, with all edges.
     ghost Kept: { Type 0 };
 
-    /// What a walk leaves as it was; the edges are part of it.
     ghost kept: { Self → Kept };
 
     /// Appends the values that a thing leads to.
@@ -30,5 +30,6 @@ pub trait Edges {
     /// What leads on is among all.
     ghost within: { (s : Self) (t : thing) → edges s t ≢ [] → Contains (all s) t };
 
+    /// The edges stay with what is kept.
     ghost same_edges: { (s t : Self) → kept t ≡ kept s → edges t ≡ edges s };
 }

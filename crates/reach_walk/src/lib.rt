@@ -1,4 +1,4 @@
-//! What is reached: the one walk along edges, the marks through the rows of objects, and their laws.
+//! What is reached: the one walk along edges, the marks through rows of objects, and their laws.
 #![tactic(auto)]
 
 mod edges;

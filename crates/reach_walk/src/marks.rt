@@ -9,7 +9,7 @@ ghost use Rattle.orca_names.specs.Names.{thing_cmp};
 ghost use Rattle.orca_names.specs.declared.names.Thing.{Thing as thing};
 ghost use Rattle.orca_names.specs.declared.names.Thing.TheVariants.{Obj as object};
 ghost use Rattle.reach_walk.specs.Marks.{marks_of};
-ghost use Rattle.reach_walk.specs.Reach.{named_by, row_edges, Reaches};
+ghost use Rattle.reach_walk.specs.Reach.{named_by, row_edges, AreReached};
 ghost use Rattle.reach_walk.specs.Rows.{row_edges-within};
 
 use crate::edges::Edges;
@@ -41,7 +41,8 @@ impl<R: RowReader> Edges for RowEdges<'_, R> {
         Ok(())
     }
 
-    ghost within = { λ s t leads. row_edges-within (R.rows s.rows.now) (R.all s.rows.now) (R.within s.rows.now) t leads };
+    ghost within = { λ s t leads.
+        let rows = s.rows.now in row_edges-within (R.rows rows) (R.all rows) (R.within rows) t leads };
 
     ghost same_edges = { λ s t e. ap (λ k. row_edges k.1.0) e };
 }
@@ -54,14 +55,11 @@ pub type Marks = Vec<Thing>;
 ///
 /// # Errors
 /// `NoMemory` where memory was refused.
-pub fn mark<R: RowReader>(
-    alloc: Global,
-    roots: &[Value],
-    rows: &mut R,
-) -> Result<Marks, NoMemory>
-    ensures exact { IfOk result (λ found. (x : thing) → Contains found.items x ↔ Reaches (row_edges (R.rows rows.old)) (named_by roots.now) x) }
+pub fn mark<R: RowReader>(alloc: Global, roots: &[Value], rows: &mut R) -> Result<Marks, NoMemory>
+    ensures exact { IfOk result (λ found. AreReached (row_edges (R.rows rows.old)) (named_by roots.now) found.items) }
     ensures rising { IfOk result (λ found. IsStrictlySortedBy thing_cmp found.items) }
-    ensures list { IfOk result (λ found. found.items ≡ marks_of (R.rows rows.old) (R.all rows.old) roots.now) }
+    ensures list { let marks = marks_of (R.rows rows.old) (R.all rows.old) roots.now in
+        IfOk result (λ found. found.items ≡ marks) }
     ensures same { (R.rows rows.new ≡ R.rows rows.old) × (R.all rows.new ≡ R.all rows.old) }
 {
     let mut things = Vec::new(alloc);

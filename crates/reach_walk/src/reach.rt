@@ -4,7 +4,7 @@ ghost use Rattle.std.specs.Prelude.{◌≡◌, ◌↔◌, ◌++◌, Contains, If
 ghost use Rattle.std.specs.List.Sorted.{IsStrictlySortedBy};
 ghost use Rattle.orca_names.specs.Names.{thing_cmp};
 ghost use Rattle.orca_names.specs.declared.names.Thing.{Thing as thing};
-ghost use Rattle.reach_walk.specs.Reach.{named_by, Reaches};
+ghost use Rattle.reach_walk.specs.Reach.{named_by, AreReached};
 ghost use Rattle.reach_walk.specs.Walk.{next_of};
 
 use crate::edges::Edges;
@@ -46,7 +46,7 @@ fn find_next<E: Edges>(
 /// # Errors
 /// `NoMemory` where memory was refused.
 pub fn walk<E: Edges>(alloc: Global, roots: &[Thing], graph: &mut E) -> Result<Vec<Thing>, NoMemory>
-    ensures exact { IfOk result (λ found. (x : thing) → Contains found.items x ↔ Reaches (E.edges graph.old) roots.now x) }
+    ensures exact { IfOk result (λ found. AreReached (E.edges graph.old) roots.now found.items) }
     ensures rising { IfOk result (λ found. IsStrictlySortedBy thing_cmp found.items) }
     ensures kept { E.kept graph.new ≡ E.kept graph.old }
 {

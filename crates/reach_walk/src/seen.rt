@@ -47,7 +47,8 @@ impl Seen {
         ensures count { result ≡ length self.now }
 
         // Each is there once: no list that has them all is shorter.
-        ensures once { (cover : List thing) → ((x : thing) → Contains self.now x → Contains cover x) → result ≤ length cover }
+        ensures once { (cover : List thing) →
+            ((x : thing) → Contains self.now x → Contains cover x) → result ≤ length cover }
     {
         self.things.len()
     }

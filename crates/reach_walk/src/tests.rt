@@ -104,7 +104,10 @@ fn marks_are_what_rows_reach(rt: HostRuntime) -> Result<(), Fail> {
         Thing::Obj(object(4, 9)),
         Thing::Actor(ActorName(7)),
     ];
-    assert_eq!(rt; mark(alloc, &roots, &mut rows)?.as_slice(), reached.as_slice());
+    assert_eq!(rt;
+        mark(alloc, &roots, &mut rows)?.as_slice(),
+        reached.as_slice()
+    );
     let ring = [Thing::Actor(ActorName(0)), Thing::Obj(object(0, 4))];
     let root = [Value::Obj(object(0, 4))];
     assert_eq!(rt; mark(alloc, &root, &mut rows)?.as_slice(), ring.as_slice());

@@ -1,7 +1,6 @@
 -- What a segment gets from rows is known, and what it leaves names only what it was given, got or made.
-use Rattle.std.proofs.Common.{◌≡◌, ◌⊎◌, inl, inr, ℕ, zero, suc, ◌+◌, ◌<◌, ◌≤◌, cond, true, false, List, [], ◌∷◌, ◌++◌, length, drop, map, Contains, Option, None, Some, refl, sym, subst, arith, length-append, ⊎_elim}
+use Rattle.std.proofs.Common.{◌⊎◌, ℕ, ◌+◌, ◌<◌, ◌≤◌, cond, List, [], ◌∷◌, ◌++◌, length, drop, map, Contains, Option, None, Some, sym, subst, arith, length-append, ⊎_elim}
 use Rattle.std.specs.Prelude.{slice_index_or, slice_set}
-use Rattle.std.specs.Option.{option_map_or}
 use Rattle.std.proofs.lemmas.List.Elements.{Contains-append_cases, Contains-append_left, Contains-append_right, filter_map-append}
 use Rattle.orca_names.specs.declared.names.Thing.{Thing}
 use Rattle.orca_names.specs.declared.names.Thing.TheVariants as things
@@ -11,7 +10,6 @@ use Rattle.orca_names.specs.declared.row.Fields.{Fields}
 use Rattle.behaviour_code.specs.declared.instr.Instr.{Instr}
 use Rattle.behaviour_code.specs.declared.instr.Instr.TheVariants as I
 use Rattle.behaviour_code.specs.Find.{body_of, is_label, kind_named}
-use Rattle.behaviour_code.specs.Good.{Each}
 use Rattle.reach_walk.specs.Reach.{named_by, thing_of}
 use Rattle.turn_rules.specs.declared.act.Effect.{Effect}
 use Rattle.turn_rules.specs.declared.act.Effect.TheVariants.{Next, Leap, Acts}
@@ -19,7 +17,7 @@ use Rattle.turn_rules.specs.declared.act.Frame.{Frame}
 use Rattle.turn_rules.specs.Segment.{Setting, Turn, Stop, got_by, gets_from, gets_of, gets_on, value_at, place_of, step_of, on_effect, run_from, segment_of}
 use Rattle.turn_rules.specs.Laws.{IsKnown, act_values}
 use Rattle.turn_rules.proofs.Known.{KnowsValue, Knows, KnowsTurn, Knows-from_named, named_is_known, row_is_known, Knows-at, Knows-map, Knows-set, Each-push, KnowsTurn-more, Knows-more}
-use Rattle.turn_rules.proofs.Names.{Known, KnowsEffect, KnowsEffect-leap, KnowsEffect-post, KnowsEffect-new, StepKnown, TurnKnown, first_known, first_turn, known_more, place_known, step_known}
+use Rattle.turn_rules.proofs.Names.{Known, KnowsEffect, KnowsEffect-leap, KnowsEffect-post, KnowsEffect-new, StepKnown, TurnKnown, first_known, first_turn, place_known, step_known}
 
 named_cases : (vs ws : List Value) (x : Thing) → Contains (named_by (vs ++ ws)) x → Contains (named_by vs) x ⊎ Contains (named_by ws) x
 named_cases vs ws x c = Contains-append_cases (named_by vs) (named_by ws) x (subst (λ ts. Contains ts x) (filter_map-append thing_of vs ws) c)

@@ -1,8 +1,9 @@
 //! What one turn of an actor is: the definition of a segment, which runs a behaviour up to its next
 //! act, and the data that it speaks of.
 //!
-//! The definitions stand in `specs/Segment.antt`; the code that meets them is the crate `turn_step`.
-//! What holds of every segment stands in `specs/Laws.antt`, and is proved of the functions of `laws`.
+//! The definitions stand in `specs/Segment.antt`; the code that meets them is the crate
+//! `turn_step`. What holds of every segment stands in `specs/Laws.antt`, and is proved of the
+//! functions of `laws`.
 #![tactic(auto)]
 
 mod act;

@@ -57,7 +57,7 @@ impl RegisterFile {
         }
     }
 
-    /// The registers with which a behaviour starts, in place: its arguments, and null in all others.
+    /// The registers with which a behaviour starts, in place: its arguments, then nulls.
     pub fn start(&mut self, args: &Args)
         ensures { self.new ≡ args.now ++ replicate (16 - length args.now) Null }
     {

@@ -58,7 +58,8 @@ impl FrameRoom {
 
     /// A behaviour starts with these arguments.
     pub fn start(&mut self, kind: u32, behaviour: u8, args: &Args)
-        ensures { self.new ≡ Some (record { kind = kind; behaviour = behaviour; place = 0; registers = args.now ++ replicate (16 - length args.now) Null }) }
+        ensures { let registers = args.now ++ replicate (16 - length args.now) Null in
+            self.new ≡ Some (record { kind = kind; behaviour = behaviour; place = 0; registers = registers }) }
     {
         let frame = &mut self.frame;
         frame.kind = kind;
@@ -70,7 +71,8 @@ impl FrameRoom {
 
     /// The frame stands at this place, with these registers.
     pub fn keep(&mut self, kind: u32, behaviour: u8, place: u32, registers: &RegisterFile)
-        ensures { self.new ≡ Some (record { kind = kind; behaviour = behaviour; place = place; registers = registers.now }) }
+        ensures { let values = registers.now in
+            self.new ≡ Some (record { kind = kind; behaviour = behaviour; place = place; registers = values }) }
     {
         let frame = &mut self.frame;
         frame.kind = kind;

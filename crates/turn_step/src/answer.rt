@@ -15,10 +15,10 @@ use behaviour_check::Checked;
 use orca_names::{ActorName, Fields, HeldTest, NoMemory, Row, RowReader};
 use turn_rules::Frame;
 
-/// Runs the frame of an actor up to and with its next act, by a test of what the actor holds. The rows
-/// that it makes are named from serial `base` on; they stand in `made`. Where it would get a thing
-/// from a row that the actor does not hold, or not its owner, it answers the first such thing, and
-/// nothing changes.
+/// Runs the frame of an actor up to and with its next act, by a test of what the actor holds. The
+/// rows that it makes are named from serial `base` on; they stand in `made`. Where it would get a
+/// thing from a row that the actor does not hold, or not its owner, it answers the first such thing,
+/// and nothing changes.
 ///
 /// # Errors
 /// Where memory is refused, nothing changes.
@@ -36,7 +36,8 @@ pub fn segment_held<R: RowReader, H: HeldTest>(
     requires fresh { made.old.items ≡ [] }
     ensures ok { let p = setting_in code.now me base (R.rows rows.old) in
         let needed = needed_in (H.held held.now) p frame.old fields.old in
-        IfOk result (λ act. turn_answer needed (segment_of p frame.old fields.old) frame.old fields.old
+        let stop = segment_of p frame.old fields.old in
+        IfOk result (λ act. turn_answer needed stop frame.old fields.old
         ≡ record { act = act; frame = frame.new; fields = fields.new; made = made.new.items }) }
     ensures few { length made.new.items ≤ 1024 }
     ensures frame { OnErr result (frame.new ≡ frame.old) }
@@ -79,7 +80,8 @@ pub fn segment<R: RowReader>(
     requires room { base + 1024 < 2 ^ 64 }
     requires fresh { made.old.items ≡ [] }
     ensures ok { let p = setting_in code.now me base (R.rows rows.old) in
-        IfOk result (λ act. turn_answer None (segment_of p frame.old fields.old) frame.old fields.old
+        let stop = segment_of p frame.old fields.old in
+        IfOk result (λ act. turn_answer None stop frame.old fields.old
         ≡ record { act = act; frame = frame.new; fields = fields.new; made = made.new.items }) }
     ensures few { length made.new.items ≤ 1024 }
     ensures frame { OnErr result (frame.new ≡ frame.old) }

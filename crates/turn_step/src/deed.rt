@@ -1,4 +1,4 @@
-// Where an instruction leads, small enough to be handed on: what an act names stays in the registers.
+// Where an instruction leads, small enough to be handed on: what an act names stays in registers.
 
 ghost use Rattle.std.specs.Prelude.{◌≡◌};
 ghost use Rattle.turn_step.specs.Turns.{act_of, answer_of};

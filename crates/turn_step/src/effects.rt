@@ -28,7 +28,8 @@ pub(crate) fn leap_if_zero(number: u64, label: Name) -> Lead<'static>
 /// Makes an actor of the kind of this name; an unknown kind makes nothing.
 pub(crate) fn new_actor(setting: &Setting<'_>, kind: Name, into: u64) -> Lead<'static>
     ensures { let known = kind_named setting.now.code.now kind in
-        (t : turn_state) → LeadsTo None (option_map_or (λ k. E.Acts (A.New k into)) known E.Next, t) t result t }
+        let effect = option_map_or (λ k. E.Acts (A.New k into)) known E.Next in
+        (t : turn_state) → LeadsTo None (effect, t) t result t }
 {
     match setting.find_kind(kind) {
         Some(kind) => Lead::Does(Deed::New { kind, into }),
@@ -38,8 +39,9 @@ pub(crate) fn new_actor(setting: &Setting<'_>, kind: Name, into: u64) -> Lead<'s
 
 /// Sends the values of so many registers to a register's actor; what is no actor gets nothing.
 pub(crate) fn post<'p>(turn: &Turn, to: u64, behaviour: Name, values: &'p Registers) -> Lead<'p>
-    ensures { let args = map (value_at turn.now) values.now in
-        LeadsTo None (post_to (value_at turn.now to) behaviour args, turn.now) turn.now result turn.now }
+    ensures { let t = turn.now in
+        let effect = post_to (value_at t to) behaviour (map (value_at t) values.now) in
+        LeadsTo None (effect, t) t result t }
 {
     match turn.value(to) {
         Value::Actor(to) => Lead::Does(Deed::Post {

@@ -71,13 +71,13 @@ fn run<'p, R: RowReader, H: HeldTest>(
     }))
 }
 
-/// Runs a frame of an actor up to and with its next act, in place, by a test of what the actor holds.
-/// The turn begins with the frame's registers and with these fields. The rows that it makes are named
-/// from the setting's serial on.
+/// Runs a frame of an actor up to and with its next act, in place, by a test of what the actor
+/// holds. The turn begins with the frame's registers and with these fields. The rows that it makes
+/// are named from the setting's serial on.
 ///
 /// # Errors
-/// `NoMemory` where memory was refused. What the turn holds then, and where it halts at a thing that
-/// is needed, is left open.
+/// `NoMemory` where memory was refused. What the turn holds then, and where it halts at a thing
+/// that is needed, is left open.
 pub fn segment_held_at<'p, R: RowReader, H: HeldTest>(
     setting: &Setting<'p>,
     frame: &Frame,

@@ -28,7 +28,8 @@ impl Model for Turn {
 
     ghost Value = { segment.Turn };
 
-    ghost view = { λ t. record { registers = t.registers; fields = t.fields; made = t.made.items } };
+    ghost view = { λ t.
+        record { registers = t.registers; fields = t.fields; made = t.made.items } };
 }
 
 impl Turn {
@@ -150,7 +151,8 @@ impl Turn {
         values: &RowRegisters,
     ) -> Result<(), NoMemory>
         requires { length self.old.made < 1024 }
-        ensures ok { OnOk result ((rows : object_name → Option (List names.Value)) → self.new ≡ with_row (setting_of setting.now rows) self.old d values.now) }
+        ensures ok { OnOk result ((rows : object_name → Option (List names.Value)) →
+            self.new ≡ with_row (setting_of setting.now rows) self.old d values.now) }
         ensures err { OnErr result (self.new ≡ self.old) }
     {
         let serial = setting.base + self.made.len() as u64;

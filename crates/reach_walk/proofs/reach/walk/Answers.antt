@@ -27,7 +27,7 @@ pub loop-at-preserved : goal.loop-at-preserved
 loop-at-preserved g c =
     let same = g.met.E.Edges.same_edges c.args.graph.now c.loop-at.graph c.loop-at.invariant.kept in
     let found : c.as_slice.result.now ≡ next_of (g.E.Edges.edges c.args.graph.now) c.at.result =
-        c.as_slice.ensures.value ∙ (c.in_ok-find_next.ensures.ok ∙ ap (λ edges. next_of edges c.at.result) same)
+    c.as_slice.ensures.value ∙ (c.in_ok-find_next.ensures.ok ∙ ap (λ edges. next_of edges c.at.result) same)
     in
     record {
       kept = c.find_next.ensures.kept ∙ c.loop-at.invariant.kept;
