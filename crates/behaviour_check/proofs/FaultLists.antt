@@ -5,7 +5,7 @@ use Rattle.std.specs.Option.{option_or}
 use Rattle.behaviour_code.specs.Find.{is_kind}
 use Rattle.behaviour_code.specs.declared.code.Behaviour.{Behaviour}
 use Rattle.behaviour_code.specs.declared.code.Kind.{Kind}
-use Rattle.behaviour_check.specs.Rules.{at_place, before, behaviour_faults, broken, kind_faults, name_rule, numbered, step_faults}
+use Rattle.behaviour_check.specs.Rules.{at_place, before, behaviour_faults, fault_at, kind_faults, name_rule, numbered, step_faults}
 use Rattle.behaviour_check.specs.declared.checked.CheckFault.{CheckFault}
 
 -- the first of two lists together
@@ -33,7 +33,7 @@ named_next : {X : Type 0} (f : ℕ × X → List CheckFault) (xs : List X) (i : 
     i < length xs → x ≡ get_or xs i x → again ≡ list_any test (take i xs) →
     f (i + 1, x) ≡ at_place k b 0 (name_rule (list_any test (before (i + 1) xs))) ++ rest →
     first_from f xs i
-    ≡ (if again then Some (broken k b 0 2) else option_or (slice_get rest 0) (first_from f xs (i + 1)))
+    ≡ (if again then Some (fault_at k b 0 2) else option_or (slice_get rest 0) (first_from f xs (i + 1)))
 named_next {X} f xs i x k b test again rest h e told gives =
     first_from-next f xs i x h e
     ∙ ap (λ (ys : List CheckFault). option_or (slice_get ys 0) (first_from f xs (i + 1)))
@@ -48,7 +48,7 @@ named_next {X} f xs i x k b test again rest h e told gives =
 
     cases : (a : Bool) →
         option_or (slice_get (at_place k b 0 (name_rule a) ++ rest) 0) (first_from f xs (i + 1))
-        ≡ (if a then Some (broken k b 0 2) else option_or (slice_get rest 0) (first_from f xs (i + 1)))
+        ≡ (if a then Some (fault_at k b 0 2) else option_or (slice_get rest 0) (first_from f xs (i + 1)))
     cases true = refl
     cases false = refl
 
@@ -57,7 +57,7 @@ pub behaviours_next : (kinds : List Kind) (k : ℕ) (kind : Kind) (bs : List Beh
     bs ≡ kind.behaviours → i < length bs → x ≡ get_or bs i x →
     again ≡ list_any (λ c. c.name == x.name) (take i bs) →
     first_from (behaviour_faults kinds (k, kind)) kind.behaviours i
-    ≡ (if again then Some (broken k (i + 1) 0 2)
+    ≡ (if again then Some (fault_at k (i + 1) 0 2)
     else option_or (slice_get (flat_map (step_faults kinds (k, kind) (i + 1, x)) (numbered x.body)) 0)
     (first_from (behaviour_faults kinds (k, kind)) kind.behaviours (i + 1)))
 behaviours_next kinds k kind bs i x again same h e told =
@@ -69,7 +69,7 @@ behaviours_next kinds k kind bs i x again same h e told =
 pub kinds_next : (kinds : List Kind) (i : ℕ) (x : Kind) (again : Bool) →
     i < length kinds → x ≡ get_or kinds i x → again ≡ list_any (is_kind x.name) (take i kinds) →
     first_from (kind_faults kinds) kinds i
-    ≡ (if again then Some (broken (i + 1) 0 0 2)
+    ≡ (if again then Some (fault_at (i + 1) 0 0 2)
     else option_or (slice_get (flat_map (behaviour_faults kinds (i + 1, x)) (numbered x.behaviours)) 0)
     (first_from (kind_faults kinds) kinds (i + 1)))
 kinds_next kinds i x again h e told = named_next (kind_faults kinds) kinds i x (i + 1) 0

@@ -65,12 +65,12 @@ instr_rule kinds fields earlier i later =
     else (if has_field_past fields i then Some 6 else None))))
 
 -- a rule that fails at this place
-abbrev pub broken : ℕ → ℕ → ℕ → ℕ → CheckFault
-broken kind behaviour step rule = record { kind = kind; behaviour = behaviour; step = step; rule = rule }
+abbrev pub fault_at : ℕ → ℕ → ℕ → ℕ → CheckFault
+fault_at kind behaviour step rule = record { kind = kind; behaviour = behaviour; step = step; rule = rule }
 
 -- the fault of a place, none where no rule fails there
 abbrev pub at_place : ℕ → ℕ → ℕ → Option ℕ → List CheckFault
-at_place kind behaviour step rule = option_to_list (option_map (broken kind behaviour step) rule)
+at_place kind behaviour step rule = option_to_list (option_map (fault_at kind behaviour step) rule)
 
 -- the fault of an instruction
 abbrev pub step_faults : List Kind → ℕ × Kind → ℕ × Behaviour → ℕ × Instr → List CheckFault

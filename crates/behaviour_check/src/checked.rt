@@ -21,7 +21,7 @@ pub struct CheckFault {
 }
 
 /// A program that keeps the limits and the rules, seen by contracts as that program.
-#[derive(Drop)]
+#[derive(Debug, Drop)]
 pub struct Checked {
     pub(crate) program: Program,
 }

@@ -22,19 +22,10 @@ pub(crate) fn has_behaviour(behaviours: &[Behaviour], name: Name) -> bool
     behaviours.iter().any(|behaviour| behaviour.name == name)
 }
 
-fn is_label(name: Name, instr: &Instr) -> bool
-    ensures { result ≡ is_label name instr.now }
-{
-    match instr {
-        Instr::Label(label) => *label == name,
-        _ => false,
-    }
-}
-
 fn has_label(instrs: &[Instr], name: Name) -> bool
     ensures { result ≡ list_any (is_label name) instrs.now }
 {
-    instrs.iter().any(|instr| is_label(name, instr))
+    instrs.iter().any(|instr| instr.is_label(name))
 }
 
 fn repeats_label(earlier: &[Instr], instr: &Instr) -> bool

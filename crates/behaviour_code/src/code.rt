@@ -8,7 +8,7 @@ use crate::names::{Name, Names};
 use plain_list::Listed;
 
 /// A behaviour: what an actor does with a letter of this name.
-#[derive(Debug, Drop)]
+#[derive(Clone, Debug, PartialEq, Eq, Drop)]
 pub struct Behaviour {
     pub name: Name,
     pub parameters: u8,
@@ -16,7 +16,7 @@ pub struct Behaviour {
 }
 
 /// A kind of actor.
-#[derive(Debug, Drop)]
+#[derive(Clone, Debug, PartialEq, Eq, Drop)]
 pub struct Kind {
     pub name: Name,
     pub fields: u8,
@@ -24,7 +24,7 @@ pub struct Kind {
 }
 
 /// A program: its kinds, of which the first makes the first actor, and the texts of its names.
-#[derive(Drop)]
+#[derive(Debug, Drop)]
 pub struct Program {
     pub kinds: Listed<Kind>,
     pub names: Names,
@@ -85,6 +85,6 @@ impl Program {
         requires { name < length self.now.names }
         ensures { slice_get self.now.names name ≡ Some result.now }
     {
-        self.names.text(name)
+        self.names.text_or_empty(name)
     }
 }

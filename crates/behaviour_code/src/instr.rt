@@ -1,13 +1,14 @@
 // Instructions.
 
 ghost use Rattle.std.specs.Prelude.{◌≡◌, ◌≤◌, length};
+ghost use Rattle.behaviour_code.specs.Find.{is_label};
 
 use crate::names::Name;
 use plain_list::Listed;
 use std::marker::Model;
 
 /// The registers of a letter's arguments: 0 to 8 numbers, seen as a list.
-#[derive(Debug, Drop)]
+#[derive(Clone, Debug, PartialEq, Eq, Drop)]
 pub struct Registers {
     numbers: Listed<u64>,
 }
@@ -20,6 +21,8 @@ impl Model for Registers {
     ghost view = { λ r. r.numbers };
 
     ghost invariant = { λ r. length r.numbers ≤ 8 };
+
+    ghost inverse = { λ numbers. record { numbers = numbers } };
 }
 
 impl Registers {
@@ -29,7 +32,7 @@ impl Registers {
         ensures { result ≡ numbers.items }
     {
         Registers {
-            numbers: Listed::of(numbers),
+            numbers: Listed::from(numbers),
         }
     }
 
@@ -44,7 +47,7 @@ impl Registers {
 }
 
 /// The registers of a row's values: 1 to 8 numbers, seen as a list.
-#[derive(Debug, Drop)]
+#[derive(Clone, Debug, PartialEq, Eq, Drop)]
 pub struct RowRegisters {
     numbers: Registers,
 }
@@ -57,6 +60,8 @@ impl Model for RowRegisters {
     ghost view = { λ r. r.numbers };
 
     ghost invariant = { λ r. (1 ≤ length r.numbers) × (length r.numbers ≤ 8) };
+
+    ghost inverse = { λ numbers. record { numbers = numbers } };
 }
 
 impl RowRegisters {
@@ -82,7 +87,7 @@ impl RowRegisters {
 
 /// One instruction, with its operands in the order of its line: registers, fields and numbers by
 /// their numbers, labels, kinds and behaviours by their names.
-#[derive(Debug, Drop)]
+#[derive(Clone, Debug, PartialEq, Eq, Drop)]
 pub enum Instr {
     /// `drop rD`: rD becomes null.
     Drop(u64),
@@ -126,4 +131,16 @@ pub enum Instr {
     Send(u64, Name, Registers),
     /// `print rA`: prints what rA holds.
     Print(u64),
+}
+
+impl Instr {
+    /// Whether it is the label of this name.
+    pub fn is_label(&self, name: Name) -> bool
+        ensures { result ≡ is_label name self.now }
+    {
+        match self {
+            Instr::Label(label) => *label == name,
+            _ => false,
+        }
+    }
 }

@@ -1,6 +1,6 @@
 // Names, by their places among the names of a program.
 
-ghost use Rattle.std.specs.Prelude.{◌≡◌, ◌<◌, ◌^◌, [], length, slice_get, slice_index_or, Some, IfOk, OnErr};
+ghost use Rattle.std.specs.Prelude.{◌≡◌, ◌<◌, ◌^◌, [], length, slice_index_or, IfOk, OnErr};
 ghost use Rattle.behaviour_code.specs.Names.{interned};
 
 use indexmap::IndexSet;
@@ -8,7 +8,7 @@ use std::alloc::{AllocError, Global};
 use std::marker::Model;
 
 /// A name, as its place among the names of its program, counted from 0.
-#[derive(Clone, Copy, Debug, PartialEq, Eq, PartialOrd, Ord)]
+#[derive(Clone, Copy, Debug, PartialEq, Eq, PartialOrd, Ord, Hash)]
 pub struct Name(pub u32);
 
 impl Model for Name {
@@ -22,7 +22,7 @@ impl Model for Name {
 }
 
 /// The texts of a program's names, each once, in the order in which they came.
-#[derive(Drop)]
+#[derive(Debug, Drop)]
 pub struct Names {
     texts: IndexSet<String>,
 }
@@ -61,20 +61,12 @@ impl Names {
         ensures ok { IfOk result (λ name. interned self.old text.now ≡ (name, self.new)) }
         ensures err { OnErr result (self.new ≡ self.old) }
     {
+        if let Some(place) = self.texts.get_index_of(text) {
+            return Ok(Name(place as u32));
+        }
         let owned = String::from_str(*self.texts.allocator(), text)?;
         let (place, _) = self.texts.insert_full(owned)?;
         Ok(Name(place as u32))
-    }
-
-    /// The text of a name.
-    pub fn text(&self, name: Name) -> &str
-        requires { name < length self.now }
-        ensures { slice_get self.now name ≡ Some result.now }
-    {
-        match self.texts.get_index(name.0 as usize) {
-            Some(text) => text.as_str(),
-            None => unreachable!(),
-        }
     }
 
     /// The text of a name, empty where it has none.

@@ -30,16 +30,17 @@ fn a_start_has_no_parameters(rt: HostRuntime) -> Result<(), Fail> {
         let behaviour = Behaviour {
             name: start,
             parameters,
-            body: Listed::of(vec![in alloc; Instr::Pin]?),
+            body: Listed::from(vec![in alloc; Instr::Pin]?),
         };
         let kind = Kind {
             name: Name(0),
             fields: 3,
-            behaviours: Listed::of(vec![in alloc; behaviour]?),
+            behaviours: Listed::from(vec![in alloc; behaviour]?),
         };
-        let kinds = Listed::of(vec![in alloc; kind]?);
+        let kinds = Listed::from(vec![in alloc; kind]?);
         let program = Program { kinds, names };
         assert_eq!(rt; program.start_name(), want, "{parameters}");
+        assert!(rt; program.names.len() == 1 && program.name_text(Name(0)) == "start");
         assert_eq!(rt; (program.field_count(0), program.field_count(1)), (3, 0));
         assert_eq!(rt;
             (program.body(0, 0).len(), program.body(0, 1).len()),

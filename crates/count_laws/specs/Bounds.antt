@@ -12,17 +12,17 @@ use Rattle.machine_rules.specs.Run.{IsRun}
 use Rattle.machine_rules.specs.State.{State}
 
 -- what the owner counts of a thing, with the increments under way
-abbrev pub counted : Thing → Actors → ℕ
-counted x actors = own_at x (owner_seat actors x) + incs_at x (owner_seat actors x)
+abbrev pub owner_count : Thing → Actors → ℕ
+owner_count x actors = own_at x (owner_seat actors x) + incs_at x (owner_seat actors x)
 
 -- an event raises this by the weight at most, whatever the thing
 abbrev pub EventsRaiseByTheWeight : Type 0
-EventsRaiseByTheWeight = (s t : State) (e : Event) → 0 < s.options.weight → next s e ≡ Goes t → (x : Thing) → counted x t.actors ≤ counted x s.actors + s.options.weight
+EventsRaiseByTheWeight = (s t : State) (e : Event) → 0 < s.options.weight → next s e ≡ Goes t → (x : Thing) → owner_count x t.actors ≤ owner_count x s.actors + s.options.weight
 
 -- so after a run it is the weight at most, for each event
 abbrev pub RunsCountByTheWeight : Type 0
 RunsCountByTheWeight = (program : Program) (options : Options) → 0 < options.weight → (book : List Event) (t : State) → IsRun program options book t →
-    (x : Thing) → counted x t.actors ≤ length book * options.weight
+    (x : Thing) → owner_count x t.actors ≤ length book * options.weight
 
 -- an event opens one token at most
 abbrev pub EventsOpenOneToken : Type 0

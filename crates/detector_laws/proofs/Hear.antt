@@ -1,7 +1,7 @@
 -- Hearing a note keeps what holds of reports.
 use Rattle.std.proofs.Common.{◌≡◌, ℕ, ◌==◌, Bool, true, false, if◌then◌else◌, List, [], ◌∷◌, Option, Some, None, arith, refl, sym, subst}
 use Rattle.std.proofs.lemmas.Bool.Decides.{nat_tests}
-use Rattle.letter_kinds.specs.Detector.{heard}
+use Rattle.letter_kinds.specs.Detector.{hear_note}
 use Rattle.letter_kinds.specs.Reports.{report_told, report_of, keep_report, drop_report}
 use Rattle.letter_kinds.specs.declared.note.Note.{Note}
 use Rattle.letter_kinds.specs.declared.note.Note.TheVariants.{Block, Unblock, Ack}
@@ -40,7 +40,7 @@ unblock_step c a ns true (Some q) h = h
 unblock_step c a ns false o h = h
 
 -- hearing the first note leaves what all the notes tell
-told_of-heard : (w : World) (n : Note) (ns : List Note) (a : ℕ) → IsAsTold (w.cell a) a (told_of a w.detector.kept (n ∷ ns)) → IsAsTold (w.cell a) a (told_of a (heard n w.detector).kept ns)
+told_of-heard : (w : World) (n : Note) (ns : List Note) (a : ℕ) → IsAsTold (w.cell a) a (told_of a w.detector.kept (n ∷ ns)) → IsAsTold (w.cell a) a (told_of a (hear_note n w.detector).kept ns)
 told_of-heard w (Block b count held) ns a h =
     let r = report_told b count held in
     subst (λ o. IsAsTold (w.cell a) a (with_notes a (told_by_kept o) ns)) (sym (report_of-keep r w.detector.kept a))
@@ -50,7 +50,7 @@ told_of-heard w (Unblock b) ns a h =
     (unblock_step (w.cell a) a ns (b == a) (report_of w.detector.kept a) h)
 told_of-heard w (Ack t b) ns a h = h
 
-pub unmade-heard : (w : World) (n : Note) (ns : List Note) (a : ℕ) → (report_of w.detector.kept a ≡ None) × IsSilentOn a (n ∷ ns) → (report_of (heard n w.detector).kept a ≡ None) × IsSilentOn a ns
+pub unmade-heard : (w : World) (n : Note) (ns : List Note) (a : ℕ) → (report_of w.detector.kept a ≡ None) × IsSilentOn a (n ∷ ns) → (report_of (hear_note n w.detector).kept a ≡ None) × IsSilentOn a ns
 unmade-heard w (Block b count held) ns a h = (grind (arith, nat_tests, report_of-keep (report_told b count held) w.detector.kept a), h.1.1)
 unmade-heard w (Unblock b) ns a h = (grind (arith, nat_tests, report_of-drop b w.detector.kept a), h.1.1)
 unmade-heard w (Ack t b) ns a h = h

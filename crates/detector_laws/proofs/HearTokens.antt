@@ -2,7 +2,7 @@
 use Rattle.std.proofs.Common.{◌≡◌, ℕ, ◌≤◌, ◌<◌, ◌≢◌, ◌==◌, not, Bool, true, false, if◌then◌else◌, ◌&&◌, ◌||◌, ◌⊎◌, inl, inr, ⊎_elim, List, [], ◌∷◌, filter, map, Option, Some, None, arith, refl, ap, sym, subst, ◌∙◌}
 use Rattle.std.proofs.lemmas.Bool.{cond_both}
 use Rattle.std.proofs.lemmas.Bool.Decides.{nat_tests}
-use Rattle.letter_kinds.specs.Detector.{Token, Detector, has, note_ack, heard}
+use Rattle.letter_kinds.specs.Detector.{Token, Detector, has, note_ack, hear_note}
 use Rattle.letter_kinds.specs.Reports.{report_told, block_note, report_of, drop_report}
 use Rattle.letter_kinds.specs.declared.letter.Letter.{Letter}
 use Rattle.letter_kinds.specs.declared.note.Note.{Note}
@@ -49,7 +49,7 @@ unblocks_before_ack-ack u a t m ns h k = rw (has_acked u a t m) (grind (arith, n
 unnoted_ack : (u a : ℕ) (t : Token) (m : ℕ) (mail : List Letter) (ns : List Note) → 0 < confirm_count t.number mail → trace_count t m mail (Ack u a ∷ ns) ≤ 1 → has t.acked m ≡ false → has (note_ack u a t).acked m ≡ false
 unnoted_ack u a t m mail ns h k e = rw (has_acked u a t m) (grind (arith, nat_tests))
 
-block_heard : (cell : ℕ → Option Cell) (mail : ℕ → List Letter) (loaded : ℕ → ℕ) (d : Detector) (r : Report) (ns : List Note) → SoundTokens d cell mail loaded (block_note r ∷ ns) → SoundTokens (heard (block_note r) d) cell mail loaded ns
+block_heard : (cell : ℕ → Option Cell) (mail : ℕ → List Letter) (loaded : ℕ → ℕ) (d : Detector) (r : Report) (ns : List Note) → SoundTokens d cell mail loaded (block_note r ∷ ns) → SoundTokens (hear_note (block_note r) d) cell mail loaded ns
 block_heard cell mail loaded d r ns k = record {
   apart = k.apart;
   kept = λ t i m j. let (q, e) = k.kept t i m j in subst (λ o. (s : Report) × (o ≡ Some s)) (sym (report_of-keep r d.kept m))
@@ -75,7 +75,7 @@ unblocks_before_ack-other t a m ns ne h = grind (arith, nat_tests)
 dropped_other : (a m : ℕ) (o p : Option Report) (r : Report) → a ≢ m → o ≡ (if a == m then None else p) → p ≡ Some r → o ≡ Some r
 dropped_other a m o p r ne e f = grind (arith, nat_tests)
 
-unblock_heard : (cell : ℕ → Option Cell) (mail : ℕ → List Letter) (loaded : ℕ → ℕ) (d : Detector) (a : ℕ) (ns : List Note) → SoundTokens d cell mail loaded (Unblock a ∷ ns) → SoundTokens (heard (Unblock a) d) cell mail loaded ns
+unblock_heard : (cell : ℕ → Option Cell) (mail : ℕ → List Letter) (loaded : ℕ → ℕ) (d : Detector) (a : ℕ) (ns : List Note) → SoundTokens d cell mail loaded (Unblock a ∷ ns) → SoundTokens (hear_note (Unblock a) d) cell mail loaded ns
 unblock_heard cell mail loaded d a ns k =
     let is = λ (t : Token) (i : In t (filter (λ u. not (has u.members a)) d.tokens)). In-filter (λ u. not (has u.members a)) t d.tokens i in
     record {
@@ -100,7 +100,7 @@ unblock_heard cell mail loaded d a ns k =
           (k.state t (is t i).0);
     }
 
-ack_heard : (cell : ℕ → Option Cell) (mail : ℕ → List Letter) (loaded : ℕ → ℕ) (d : Detector) (u a : ℕ) (ns : List Note) → SoundTokens d cell mail loaded (Ack u a ∷ ns) → SoundTokens (heard (Ack u a) d) cell mail loaded ns
+ack_heard : (cell : ℕ → Option Cell) (mail : ℕ → List Letter) (loaded : ℕ → ℕ) (d : Detector) (u a : ℕ) (ns : List Note) → SoundTokens d cell mail loaded (Ack u a ∷ ns) → SoundTokens (hear_note (Ack u a) d) cell mail loaded ns
 ack_heard cell mail loaded d u a ns k =
     let from = λ (t : Token) (i : In t (map (note_ack u a) d.tokens)). In-map (note_ack u a) t d.tokens i in
     record {
@@ -129,7 +129,7 @@ ack_heard cell mail loaded d u a ns k =
           (k.state t' i'));
     }
 
-heard_tokens : (cell : ℕ → Option Cell) (mail : ℕ → List Letter) (loaded : ℕ → ℕ) (d : Detector) (n : Note) (ns : List Note) → SoundTokens d cell mail loaded (n ∷ ns) → SoundTokens (heard n d) cell mail loaded ns
+heard_tokens : (cell : ℕ → Option Cell) (mail : ℕ → List Letter) (loaded : ℕ → ℕ) (d : Detector) (n : Note) (ns : List Note) → SoundTokens d cell mail loaded (n ∷ ns) → SoundTokens (hear_note n d) cell mail loaded ns
 heard_tokens cell mail loaded d (Block b count held) ns k = block_heard cell mail loaded d (report_told b count held) ns k
 heard_tokens cell mail loaded d (Unblock a) ns k = unblock_heard cell mail loaded d a ns k
 heard_tokens cell mail loaded d (Ack u a) ns k = ack_heard cell mail loaded d u a ns k

@@ -5,7 +5,7 @@ use Rattle.std.proofs.lemmas.Bool.Decides.{nat_tests}
 use Rattle.letter_kinds.proofs.Filters.{filter_twice}
 use Rattle.letter_kinds.proofs.Rounds.{largest_by_rounds}
 use Rattle.letter_kinds.specs.Closed.{IsClosed, largest_closed}
-use Rattle.letter_kinds.specs.Detector.{Token, Detector, has, note_ack, heard, in_token, candidates, closed_set, open_token, quieted, scanned, close_token}
+use Rattle.letter_kinds.specs.Detector.{Token, Detector, has, note_ack, hear_note, in_token, candidates, closed_set, open_token, without_news, after_scan, close_token}
 use Rattle.letter_kinds.specs.Reports.{report_told}
 use Rattle.letter_kinds.specs.declared.note.Note.{Note}
 use Rattle.letter_kinds.specs.declared.note.Note.TheVariants.{Block, Unblock, Ack}
@@ -28,7 +28,7 @@ in_token_ack : (u a : ℕ) (ts : List Token) (m : ℕ) → in_token (map (note_a
 in_token_ack u a [] m = refl
 in_token_ack u a (t ∷ ts) m = ap (λ b. has t.members m || b) (in_token_ack u a ts m)
 
-pub hear_news : (n : Note) (d : Detector) → NoNewsNoClosedSet d → NoNewsNoClosedSet (heard n d)
+pub hear_news : (n : Note) (d : Detector) → NoNewsNoClosedSet d → NoNewsNoClosedSet (hear_note n d)
 hear_news (Block b count held) d h = λ e. absurd (false≢true (sym e))
 hear_news (Unblock a) d h = λ e. absurd (false≢true (sym e))
 hear_news (Ack u a) d h = λ e. subst (λ rs. largest_closed rs ≡ [])
@@ -54,12 +54,12 @@ none_left cs q h =
     let is : largest_closed (filter q cs) ≡ filter both cs = e ∙ filter_twice kept q cs in
     is ∙ (sym (big.all both (subst IsClosed is rest.closed)) ∙ none_pass both (largest_closed cs) (λ r i. ap (λ b. cond b (kept r) false) (h r i)))
 
-opened_news : (d : Detector) → largest_closed (candidates (open_token (closed_set d) (quieted d))) ≡ []
+opened_news : (d : Detector) → largest_closed (candidates (open_token (closed_set d) (without_news d))) ≡ []
 opened_news d =
     let free = λ (r : Report). not (in_token d.tokens r.actor) in
     let new : Token = record { number = suc d.opened; members = closed_set d; acked = [] } in
     let rest = λ (r : Report). not (has (closed_set d) r.actor) in
-    let is : candidates (open_token (closed_set d) (quieted d)) ≡ filter rest (candidates d) =
+    let is : candidates (open_token (closed_set d) (without_news d)) ≡ filter rest (candidates d) =
     same_filter (λ r. not (in_token (d.tokens ++ new ∷ []) r.actor)) (λ r. cond (free r) (rest r) false) d.kept (λ r. tests (in_token (d.tokens ++ new ∷ []) r.actor) (has (closed_set d) r.actor) (in_token d.tokens r.actor) (in_token-append d.tokens new r.actor)) ∙ sym (filter_twice rest free d.kept) in
     subst (λ rs. largest_closed rs ≡ []) (sym is) (none_left (candidates d) rest (λ r i. ap not (name_In (largest_closed (candidates d)) r i)))
   where
@@ -73,11 +73,11 @@ empty_names : (rs : List Report) → names rs ≡ [] → rs ≡ []
 empty_names [] e = refl
 empty_names (r ∷ rs) e = absurd (cc)
 
-scanned_news : (d : Detector) (set : List ℕ) → closed_set d ≡ set → NoNewsNoClosedSet (scanned d set)
+scanned_news : (d : Detector) (set : List ℕ) → closed_set d ≡ set → NoNewsNoClosedSet (after_scan d set)
 scanned_news d [] e = λ _. empty_names (largest_closed (candidates d)) e
-scanned_news d (x ∷ xs) e = λ _. subst (λ s. largest_closed (candidates (open_token s (quieted d))) ≡ []) e (opened_news d)
+scanned_news d (x ∷ xs) e = λ _. subst (λ s. largest_closed (candidates (open_token s (without_news d))) ≡ []) e (opened_news d)
 
-pub scan_news : (d : Detector) → NoNewsNoClosedSet (scanned d (closed_set d))
+pub scan_news : (d : Detector) → NoNewsNoClosedSet (after_scan d (closed_set d))
 scan_news d = scanned_news d (closed_set d) refl
 
 -- a reap
@@ -103,7 +103,7 @@ reap_news d t i unique h e =
 
 -- the order of reports
 
-pub heard_rising : (n : Note) (d : Detector) → IsRising d.kept → IsRising (heard n d).kept
+pub heard_rising : (n : Note) (d : Detector) → IsRising d.kept → IsRising (hear_note n d).kept
 heard_rising (Block b count held) d h = keep_rising (report_told b count held) d.kept h
 heard_rising (Unblock a) d h = filter_rising (λ k. not (k.actor == a)) d.kept h
 heard_rising (Ack u a) d h = h

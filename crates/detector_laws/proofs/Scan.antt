@@ -6,7 +6,7 @@ use Rattle.std.proofs.lemmas.List.Sums.{sum_by-cons}
 use Rattle.std.specs.List.{AllByRecursion}
 use Rattle.letter_kinds.proofs.Rounds.{largest_by_rounds}
 use Rattle.letter_kinds.specs.Closed.{IsClosed, largest_closed}
-use Rattle.letter_kinds.specs.Detector.{Token, Detector, has, in_token, candidates, closed_set, open_token, quieted, scanned}
+use Rattle.letter_kinds.specs.Detector.{Token, Detector, has, in_token, candidates, closed_set, open_token, without_news, after_scan}
 use Rattle.letter_kinds.specs.Reports.{count_on, told_on, told_on_by, report_of}
 use Rattle.letter_kinds.specs.declared.letter.Letter.{Letter}
 use Rattle.letter_kinds.specs.declared.letter.Letter.TheVariants.{Confirm}
@@ -26,7 +26,7 @@ use Rattle.detector_laws.specs.Confirms.{confirm_count, other_before_confirm}
 use Rattle.detector_laws.specs.Members.{In}
 use Rattle.detector_laws.specs.Reports.{with_notes, told_by_kept, IsAsTold, ExactReports, IsRising}
 use Rattle.detector_laws.specs.Tokens.{ack_count, trace_count, IsSealedMember, IsSealed, IsSpoiledMember, IsSpoiled, SoundTokens}
-use Rattle.detector_laws.specs.World.{World, confirmed, scan, ReportsAreExact, TokensAreSound}
+use Rattle.detector_laws.specs.World.{World, confirms_of, scan, ReportsAreExact, TokensAreSound}
 
 all_or_one : (A B : Report → Type 0) (rs : List Report) → AllByRecursion (λ r. A r ⊎ B r) rs → AllByRecursion A rs ⊎ ((r : Report) × In r rs × B r)
 all_or_one A B [] h = inl tt
@@ -70,10 +70,10 @@ holds_all w bal rs closed rising ready r i =
 
 -- what is opened
 
-confirmed_in : (set : List ℕ) (n : ℕ) (cell : ℕ → Option Cell) (mail : ℕ → List Letter) (m : ℕ) → has set m ≡ true → is_some (cell m) ≡ true → confirmed set n cell mail m ≡ mail m ++ Confirm n ∷ []
+confirmed_in : (set : List ℕ) (n : ℕ) (cell : ℕ → Option Cell) (mail : ℕ → List Letter) (m : ℕ) → has set m ≡ true → is_some (cell m) ≡ true → confirms_of set n cell mail m ≡ mail m ++ Confirm n ∷ []
 confirmed_in set n cell mail m h here = rw (h, here) refl
 
-confirmed_out : (set : List ℕ) (n : ℕ) (cell : ℕ → Option Cell) (mail : ℕ → List Letter) (m : ℕ) → has set m ≡ false → confirmed set n cell mail m ≡ mail m
+confirmed_out : (set : List ℕ) (n : ℕ) (cell : ℕ → Option Cell) (mail : ℕ → List Letter) (m : ℕ) → has set m ≡ false → confirms_of set n cell mail m ≡ mail m
 confirmed_out set n cell mail m h = rw h refl
 
 -- who has a report out is present
@@ -114,7 +114,7 @@ free_member w rs ch t i m h = ⊎_elim
     (cases_Bool (has (names rs) m))
 
 fresh_state : (w : World) → ActorsAreBalanced w → ReportsAreExact w → TokensAreSound w → (rs : List Report) → IsChosen w rs
-    → IsSealed w.cell (confirmed (names rs) (suc w.detector.opened) w.cell w.mail) w.loaded w.notes (fresh_token w rs) ⊎ IsSpoiled w.cell (confirmed (names rs) (suc w.detector.opened) w.cell w.mail) w.notes (fresh_token w rs)
+    → IsSealed w.cell (confirms_of (names rs) (suc w.detector.opened) w.cell w.mail) w.loaded w.notes (fresh_token w rs) ⊎ IsSpoiled w.cell (confirms_of (names rs) (suc w.detector.opened) w.cell w.mail) w.notes (fresh_token w rs)
 fresh_state w bal h k rs ch =
     let n = suc w.detector.opened in
     let each : AllByRecursion (λ r. IsReady w.cell w.mail w.notes r ⊎ Spoils w.cell w.mail w.notes n r) rs =
@@ -126,7 +126,7 @@ fresh_state w bal h k rs ch =
     (λ (ready : AllByRecursion (IsReady w.cell w.mail w.notes) rs). inl (λ m i. let (r, j, e) = named rs m i in
     let mine = each_In (IsReady w.cell w.mail w.notes) rs ready r j in
     let all = holds_all w bal rs ch.closed ch.rising ready r j in
-    subst (λ x. IsSealedMember (fresh_token w rs) x w.cell (confirmed (names rs) n w.cell w.mail x) (w.loaded x) w.notes) e
+    subst (λ x. IsSealedMember (fresh_token w rs) x w.cell (confirms_of (names rs) n w.cell w.mail x) (w.loaded x) w.notes) e
     (subst (λ l. IsSealedMember (fresh_token w rs) r.actor w.cell l (w.loaded r.actor) w.notes) (sym (confirmed_in (names rs) n w.cell w.mail r.actor (subst (λ x. has (names rs) x ≡ true) (sym e) i) (here_if (w.cell r.actor) (blocked_reports mine.told.0))))
     record {
       blocked = mine.told.0;
@@ -151,10 +151,10 @@ fresh_state w bal h k rs ch =
     (all_or_one (IsReady w.cell w.mail w.notes) (Spoils w.cell w.mail w.notes n) rs each)
 
 opened_tokens : (w : World) → ActorsAreBalanced w → ReportsAreExact w → TokensAreSound w → (rs : List Report) → IsChosen w rs
-    → SoundTokens (open_token (names rs) (quieted w.detector)) w.cell (confirmed (names rs) (suc w.detector.opened) w.cell w.mail) w.loaded w.notes
+    → SoundTokens (open_token (names rs) (without_news w.detector)) w.cell (confirms_of (names rs) (suc w.detector.opened) w.cell w.mail) w.loaded w.notes
 opened_tokens w bal h k rs ch =
     let n = suc w.detector.opened in
-    let mail' = confirmed (names rs) n w.cell w.mail in
+    let mail' = confirms_of (names rs) n w.cell w.mail in
     let old = w.detector.tokens in
     let new = fresh_token w rs in
     let free = free_member w rs ch in
@@ -237,8 +237,8 @@ largest_chosen w rising =
       kept = In_each (λ r. report_of d.kept r.actor ≡ Some r) (largest_closed cs) (λ r i. In_report_of d.kept r rising (from r i).0);
     }
 
-scanned_tokens : (w : World) (set : List ℕ) → TokensAreSound w → SoundTokens (open_token set (quieted w.detector)) w.cell (confirmed set (suc w.detector.opened) w.cell w.mail) w.loaded w.notes
-    → SoundTokens (scanned w.detector set) w.cell (confirmed set (suc w.detector.opened) w.cell w.mail) w.loaded w.notes
+scanned_tokens : (w : World) (set : List ℕ) → TokensAreSound w → SoundTokens (open_token set (without_news w.detector)) w.cell (confirms_of set (suc w.detector.opened) w.cell w.mail) w.loaded w.notes
+    → SoundTokens (after_scan w.detector set) w.cell (confirms_of set (suc w.detector.opened) w.cell w.mail) w.loaded w.notes
 scanned_tokens w [] k new = record { apart = k.apart; kept = k.kept; unique = k.unique; numbers = k.numbers; letters = k.letters; heard = k.heard; once = k.once; state = k.state }
 scanned_tokens w (x ∷ xs) k new = new
 
@@ -246,7 +246,7 @@ pub scan_tokens : (w : World) → ActorsAreBalanced w → IsRising w.detector.ke
 scan_tokens w bal rising h k =
     scanned_tokens w (closed_set w.detector) k (opened_tokens w bal h k (largest_closed (candidates w.detector)) (largest_chosen w rising))
 
-pub scanned_kept : (d : Detector) (set : List ℕ) → (scanned d set).kept ≡ d.kept
+pub scanned_kept : (d : Detector) (set : List ℕ) → (after_scan d set).kept ≡ d.kept
 scanned_kept d [] = refl
 scanned_kept d (x ∷ xs) = refl
 

@@ -12,7 +12,7 @@ use Rattle.letter_kinds.specs.declared.letter.Letter.{Letter}
 use Rattle.letter_kinds.specs.declared.letter.Letter.TheVariants.{Confirm}
 use Rattle.letter_kinds.specs.declared.note.Note.{Note}
 use Rattle.letter_kinds.specs.declared.note.Report.{Report}
-use Rattle.letter_kinds.specs.Detector.{all_acked, close_token, closed_set, Detector, has, heard, scanned, Token, token_numbered}
+use Rattle.letter_kinds.specs.Detector.{all_acked, close_token, closed_set, Detector, has, hear_note, after_scan, Token, token_numbered}
 use Rattle.machine_rules.specs.Cell.{Cell}
 use Rattle.std.specs.Prelude.{[], List, Some, true, ℕ, ◌∷◌, ◌≡◌, ◌≢◌}
 
@@ -90,11 +90,11 @@ ReapKeepsTokens =
 
 -- after a note there is news, or no closed set as before
 abbrev pub HearKeepsNoNews : Type 0
-HearKeepsNoNews = (n : Note) (d : Detector) → NoNewsNoClosedSet d → NoNewsNoClosedSet (heard n d)
+HearKeepsNoNews = (n : Note) (d : Detector) → NoNewsNoClosedSet d → NoNewsNoClosedSet (hear_note n d)
 
 -- a scan leaves no closed set
 abbrev pub ScanLeavesNoSet : Type 0
-ScanLeavesNoSet = (d : Detector) → NoNewsNoClosedSet (scanned d (closed_set d))
+ScanLeavesNoSet = (d : Detector) → NoNewsNoClosedSet (after_scan d (closed_set d))
 
 -- nor does a reap bring one about without news
 abbrev pub ReapKeepsNoNews : Type 0
@@ -105,7 +105,7 @@ ReapKeepsNoNews =
 
 -- kept reports stay in the order of their actors
 abbrev pub HearKeepsOrder : Type 0
-HearKeepsOrder = (n : Note) (d : Detector) → IsRising d.kept → IsRising (heard n d).kept
+HearKeepsOrder = (n : Note) (d : Detector) → IsRising d.kept → IsRising (hear_note n d).kept
 
 -- at a reap too
 abbrev pub ReapKeepsOrder : Type 0

@@ -1,6 +1,6 @@
 -- All that an event may change of what the detector's facts speak of.
 use Rattle.std.specs.Prelude.{ℕ, suc, ◌==◌, if◌then◌else◌, ◌&&◌, is_some, true, List, [], ◌∷◌, ◌++◌, Option, Some}
-use Rattle.letter_kinds.specs.Detector.{Detector, has, heard, closed_set, scanned}
+use Rattle.letter_kinds.specs.Detector.{Detector, has, hear_note, closed_set, after_scan}
 use Rattle.letter_kinds.specs.Reports.{block_note}
 use Rattle.letter_kinds.specs.declared.letter.Letter.{Letter}
 use Rattle.letter_kinds.specs.declared.letter.Letter.TheVariants.{Confirm}
@@ -42,18 +42,18 @@ FactsHold w = DetectorFacts w.made w.detector w.cell w.mail w.loaded w.notes
 
 -- it hears a note; these are left
 abbrev pub hear : World → Note → List Note → World
-hear w note notes = record w { detector = heard note w.detector; notes = notes }
+hear w note notes = record w { detector = hear_note note w.detector; notes = notes }
 
 -- the letters, where each member that is present gets a Confirm
-abbrev pub confirmed : List ℕ → ℕ → (ℕ → Option Cell) → (ℕ → List Letter) → ℕ → List Letter
-confirmed members token cell mail a = if has members a && is_some (cell a) then mail a ++ Confirm token ∷ [] else mail a
+abbrev pub confirms_of : List ℕ → ℕ → (ℕ → Option Cell) → (ℕ → List Letter) → ℕ → List Letter
+confirms_of members token cell mail a = if has members a && is_some (cell a) then mail a ++ Confirm token ∷ [] else mail a
 
 -- it looks for the largest closed set, and asks its members
 abbrev pub scan : World → World
 scan w =
     record w {
-      detector = scanned w.detector (closed_set w.detector);
-      mail = confirmed (closed_set w.detector) (suc w.detector.opened) w.cell w.mail;
+      detector = after_scan w.detector (closed_set w.detector);
+      mail = confirms_of (closed_set w.detector) (suc w.detector.opened) w.cell w.mail;
     }
 
 -- ---- events of an actor that only the detector sees

@@ -1,7 +1,7 @@
 -- A scan leaves no news.
 use Rattle.std.proofs.Common.{◌≡◌, ℕ, false, List, [], ◌∷◌, refl}
-use Rattle.letter_kinds.specs.Detector.{Detector, scanned}
+use Rattle.letter_kinds.specs.Detector.{Detector, after_scan}
 
-pub no_news : (d : Detector) (found : List ℕ) → (scanned d found).news ≡ false
+pub no_news : (d : Detector) (found : List ℕ) → (after_scan d found).news ≡ false
 no_news d [] = refl
 no_news d (a ∷ found) = refl

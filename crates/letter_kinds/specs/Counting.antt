@@ -79,8 +79,8 @@ lower_all me (e ∷ things) h = lower_all me things (if owner_of e.0 == me then 
 abbrev pub is_lacking : ℕ → Holdings → Thing → Bool
 is_lacking me h x = not (owner_of x == me) && (held_in h x == 1)
 
-abbrev pub lacking : ℕ → Holdings → List Loaded → List Loaded
-lacking me h load = filter (λ e. is_lacking me h e.0) load
+abbrev pub lacking_of : ℕ → Holdings → List Loaded → List Loaded
+lacking_of me h load = filter (λ e. is_lacking me h e.0) load
 
 -- those of one owner, with the amount by which the counts rise
 abbrev pub to_mint : ℕ → ℕ → List Loaded → List Amount

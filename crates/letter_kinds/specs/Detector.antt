@@ -41,10 +41,10 @@ note_ack number a t =
 
 -- a report is kept; an actor that has work again loses its report, and cancels each token of which it
 -- is a member; an acknowledgement is noted if its token is open
-abbrev pub heard : Note → Detector → Detector
-heard (Block a count held) d = record d { kept = keep_report (report_told a count held) d.kept; news = true }
-heard (Unblock a) d = record d { kept = drop_report a d.kept; tokens = filter (λ t. not (has t.members a)) d.tokens; news = true }
-heard (Ack number a) d = record d { tokens = map (note_ack number a) d.tokens }
+abbrev pub hear_note : Note → Detector → Detector
+hear_note (Block a count held) d = record d { kept = keep_report (report_told a count held) d.kept; news = true }
+hear_note (Unblock a) d = record d { kept = drop_report a d.kept; tokens = filter (λ t. not (has t.members a)) d.tokens; news = true }
+hear_note (Ack number a) d = record d { tokens = map (note_ack number a) d.tokens }
 
 -- ---- scan: the largest closed set becomes a token
 
@@ -66,13 +66,13 @@ open_token members d =
     record d { tokens = d.tokens ++ record { number = suc d.opened; members = members; acked = [] } ∷ []; opened = suc d.opened }
 
 -- with no news
-abbrev pub quieted : Detector → Detector
-quieted d = record d { news = false }
+abbrev pub without_news : Detector → Detector
+without_news d = record d { news = false }
 
 -- after a scan that found this closed set: a token is opened where there are members
-abbrev pub scanned : Detector → List ℕ → Detector
-scanned d [] = quieted d
-scanned d (m ∷ ms) = open_token (m ∷ ms) (quieted d)
+abbrev pub after_scan : Detector → List ℕ → Detector
+after_scan d [] = without_news d
+after_scan d (m ∷ ms) = open_token (m ∷ ms) (without_news d)
 
 -- ---- reap: a token that all members acknowledged is closed
 

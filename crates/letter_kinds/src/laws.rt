@@ -2,7 +2,7 @@
 
 ghost use Rattle.letter_kinds.specs.Closed.{IsClosed, IsLargest, largest_closed};
 ghost use Rattle.letter_kinds.specs.declared.note.Report.{Report};
-ghost use Rattle.letter_kinds.specs.Detector.{all_acked, Detector, has, scanned, Token};
+ghost use Rattle.letter_kinds.specs.Detector.{all_acked, Detector, has, after_scan, Token};
 ghost use Rattle.std.specs.Prelude.{Bool, false, filter, List, true, ℕ, ◌||◌, ◌≡◌};
 
 /// Removal by rounds gives the largest closed set.
@@ -28,5 +28,5 @@ pub fn acked_by_all_is_by_each()
 
 /// A scan leaves no news, whatever it found: it is not enabled again before a note is heard.
 pub fn a_scan_leaves_no_news()
-    ensures { (d : Detector) (found : List ℕ) → (scanned d found).news ≡ false }
+    ensures { (d : Detector) (found : List ℕ) → (after_scan d found).news ≡ false }
 {}

@@ -17,8 +17,8 @@ use Rattle.turn_rules.specs.Segment.{Setting, Stop, gets_of, segment_of}
 use Rattle.turn_rules.specs.declared.act.Act.{Act}
 use Rattle.turn_rules.specs.declared.act.Act.TheVariants.{Post, New, Print, End}
 use Rattle.turn_rules.specs.declared.act.Frame.{Frame}
-use Rattle.letter_kinds.specs.Counting.{Amount, Loaded, by_owner, gain, lacking, to_mint}
-use Rattle.letter_kinds.specs.Detector.{Token, all_acked, close_token, closed_set, has, heard, scanned, token_numbered}
+use Rattle.letter_kinds.specs.Counting.{Amount, Loaded, by_owner, gain, lacking_of, to_mint}
+use Rattle.letter_kinds.specs.Detector.{Token, all_acked, close_token, closed_set, has, hear_note, after_scan, token_numbered}
 use Rattle.letter_kinds.specs.Holdings.{Row}
 use Rattle.letter_kinds.specs.declared.letter.Letter.{Letter}
 use Rattle.letter_kinds.specs.declared.letter.Letter.TheVariants.{App, Inc, Dec, Confirm}
@@ -28,9 +28,9 @@ use Rattle.machine_examples.proofs.Brought.{Brought, cell_with, learn_told, lear
 use Rattle.machine_examples.proofs.Ledgers.{Ledger, told, empty_ledger, row_told, row_of-told, objects_told, known_objects-told, actors_told, held_actors-told, change_held, set_held-told, take_load, receive-told, give_load, send-told, raise_told, raise_all-told, lower_told, lower_all-told, mint_told, mint_all-told, lacking_told, lacking-told, make_told, with_made-told, sweep_told, sweep-told, back_told, given_back-told}
 use Rattle.machine_rules.specs.Actors.{Seat, push_decs, push_letter, seat, seat_at}
 use Rattle.machine_rules.specs.Cell.{Cell, first_cell, fresh_cell, row_by}
-use Rattle.machine_rules.specs.Collect.{collected, is_marked, is_marked_deep, without_unused, collect}
-use Rattle.machine_rules.specs.Detect.{held_outside, reaped, acked_token, hear, reap, scan}
-use Rattle.machine_rules.specs.Go.{act_in, load_from, needed, needing, mint, post_or_mint, rows_from, setting_of, turn_of_cell, turned, go, turn_in}
+use Rattle.machine_rules.specs.Collect.{after_collect, is_marked, is_marked_deep, without_unused, collect}
+use Rattle.machine_rules.specs.Detect.{held_outside, reap_in_turn, acked_token, hear, reap, scan}
+use Rattle.machine_rules.specs.Go.{act_in, load_from, needed, needing, mint, post_or_mint, rows_from, setting_of, turn_of_cell, cell_after_turn, go, turn_in}
 use Rattle.event_rule.specs.Runs.{Leads, Step, IsFull, Goes, NotEnabled}
 use Rattle.machine_rules.specs.Next.{next, acting}
 use Rattle.orca_names.specs.declared.trace.Trace.{Trace}
@@ -148,10 +148,10 @@ needed-told Roots program a o frame = λ i. find (λ x. needs-told a o.ledger x 
 
 -- the actor after a turn
 abbrev place_turned : Stop → Option Frame → Bool → Place → Place
-place_turned stop frame dirty o = record o { cell = turned stop frame dirty o.cell; ledger = make_told stop.turn.made o.ledger }
+place_turned stop frame dirty o = record o { cell = cell_after_turn stop frame dirty o.cell; ledger = make_told stop.turn.made o.ledger }
 
-turned-told : (stop : Stop) (frame : Option Frame) (dirty : Bool) (o : Place) → turned stop frame dirty (cell_told o) ≡ cell_told (place_turned stop frame dirty o)
-turned-told stop frame dirty o = ap (λ h. record (turned stop frame dirty (cell_told o)) { holdings = h }) (with_made-told stop.turn.made o.ledger)
+turned-told : (stop : Stop) (frame : Option Frame) (dirty : Bool) (o : Place) → cell_after_turn stop frame dirty (cell_told o) ≡ cell_told (place_turned stop frame dirty o)
+turned-told stop frame dirty o = ap (λ h. record (cell_after_turn stop frame dirty (cell_told o)) { holdings = h }) (with_made-told stop.turn.made o.ledger)
 
 -- what a letter counts
 abbrev load_told : Trace → ℕ → Ledger → List Value → List Loaded
@@ -243,8 +243,8 @@ act-follows b a o frame stop (New kind register) =
         if nat_lt n 65536
         then Goes (record (state_told b) {
           actors = set (seats_told b.places) a
-              (seat (record (turned stop (Some (with_name frame register n)) o.cell.dirty (cell_told o)) {
-                holdings = gain b.state.options.weight (things.Actor n) None (turned stop (Some (with_name frame register n)) o.cell.dirty (cell_told o)).holdings;
+              (seat (record (cell_after_turn stop (Some (with_name frame register n)) o.cell.dirty (cell_told o)) {
+                holdings = gain b.state.options.weight (things.Actor n) None (cell_after_turn stop (Some (with_name frame register n)) o.cell.dirty (cell_told o)).holdings;
               }) o.mail)
               ++ seat (fresh_cell b.state.options.weight b.state.program kind) [] ∷ [];
           objects = b.state.objects + length stop.turn.made;
@@ -261,7 +261,7 @@ act-follows b a o frame stop (New kind register) =
     fresh = place (fresh_cell b.state.options.weight b.state.program kind) (empty_ledger b.state.options.weight) [] []
 
     before : Cell
-    before = turned stop (Some (with_name frame register (length b.places))) o.cell.dirty (cell_told o)
+    before = cell_after_turn stop (Some (with_name frame register (length b.places))) o.cell.dirty (cell_told o)
 
     goes : Goes (record (state_told b) {
       actors = set (seats_told b.places) a (seat (record before { holdings = gain b.state.options.weight (things.Actor (length b.places)) None before.holdings }) o.mail)
@@ -294,10 +294,10 @@ act-follows b a o frame stop (Post to behaviour args) =
     load = load_told (traced b) a after.ledger args
 
     with_load : Cell → List Loaded → List Loaded → State
-    with_load c load rows = post_or_mint (state_told b) a (cell_told o) c o.mail stop to behaviour args load rows (lacking a c.holdings load)
+    with_load c load rows = post_or_mint (state_told b) a (cell_told o) c o.mail stop to behaviour args load rows (lacking_of a c.holdings load)
 
-    posted : with_load (turned stop (Some frame) o.cell.dirty (cell_told o)) (load_from (traced b) a (turned stop (Some frame) o.cell.dirty (cell_told o)).holdings args)
-        (rows_from (traced b) a (turned stop (Some frame) o.cell.dirty (cell_told o)) args)
+    posted : with_load (cell_after_turn stop (Some frame) o.cell.dirty (cell_told o)) (load_from (traced b) a (cell_after_turn stop (Some frame) o.cell.dirty (cell_told o)).holdings args)
+        (rows_from (traced b) a (cell_after_turn stop (Some frame) o.cell.dirty (cell_told o)) args)
         ≡ post_or_mint (state_told b) a (cell_told o) (cell_told after) o.mail stop to behaviour args load (rows_sent (traced b) a after args) (lacking_told a after.ledger load)
     posted =
         ap (λ c. with_load c (load_from (traced b) a c.holdings args) (rows_from (traced b) a c args)) (turned-told stop (Some frame) o.cell.dirty o)
@@ -369,9 +369,9 @@ abbrev places_collected : Trace → ℕ → Place → Places → Places
 places_collected trace a o places = decs_told (by_owner (back_told (marked_told trace a o) o.ledger)) (set places a (Some (place_swept trace a o)))
 
 collected-told : (trace : Trace) (a : ℕ) (o : Place) (places : Places)
-    → collected (is_marked trace a (cell_told o)) a (without_unused trace a (cell_told o)) o.mail (seats_told places) ≡ seats_told (places_collected trace a o places)
+    → after_collect (is_marked trace a (cell_told o)) a (without_unused trace a (cell_told o)) o.mail (seats_told places) ≡ seats_told (places_collected trace a o places)
 collected-told trace a o places =
-    (λ i. collected (is_marked-told trace a o i) a (kept-told trace a o i) o.mail (seats_told places))
+    (λ i. after_collect (is_marked-told trace a o i) a (kept-told trace a o i) o.mail (seats_told places))
     ∙ (λ i. push_decs (by_owner (given_back-told (marked_told trace a o) o.ledger i))
     (set-told places a _ (Some (place_swept trace a o))
     (ap (λ h. seat (record (cell_with o.cell o.ledger (kept_told trace a o)) { holdings = h; dirty = false }) o.mail) (sweep-told (marked_told trace a o) a o.ledger)) i))
@@ -425,7 +425,7 @@ acting-follows b a may does act follows =
 -- after the detector took a note
 abbrev heard_in : Page → List Note → Option Page
 heard_in b [] = None
-heard_in b (note ∷ notes) = Some (record b { state = record b.state { detector = heard note b.state.detector; notes = notes } })
+heard_in b (note ∷ notes) = Some (record b { state = record b.state { detector = hear_note note b.state.detector; notes = notes } })
 
 hear-follows : (b : Page) (notes : List Note) → Follows (heard_in b notes) (hear (state_told b) notes)
 hear-follows b [] = tt
@@ -437,7 +437,7 @@ scanned_in b false = None
 scanned_in b true =
     let closed = closed_set b.state.detector in
     Some (record {
-      state = record b.state { detector = scanned b.state.detector closed };
+      state = record b.state { detector = after_scan b.state.detector closed };
       places = asked_told closed (suc b.state.detector.opened) b.places;
     })
 
@@ -445,7 +445,7 @@ scan-follows : (b : Page) (news : Bool) → Follows (scanned_in b news) (if news
 scan-follows b false = tt
 scan-follows b true =
     let closed = closed_set b.state.detector in
-    ap (λ actors. Goes (record (state_told b) { actors = actors; detector = scanned b.state.detector closed })) (ask_all-told closed (suc b.state.detector.opened) b.places)
+    ap (λ actors. Goes (record (state_told b) { actors = actors; detector = after_scan b.state.detector closed })) (ask_all-told closed (suc b.state.detector.opened) b.places)
 
 -- what a member held on things whose owners are not in the set
 abbrev outside_told : List ℕ → Option Place → List Amount
@@ -462,11 +462,11 @@ reaped_told members [] decs places = decs_told decs places
 reaped_told members (a ∷ rest) decs places = reaped_told members rest (decs ++ by_owner (outside_told members (place_at places a))) (set places a None)
 
 reaped-told : (members rest : List ℕ) (decs : List (ℕ × List Amount)) (places : Places)
-    → reaped members rest decs (seats_told places) ≡ seats_told (reaped_told members rest decs places)
-unfolding reaped
+    → reap_in_turn members rest decs (seats_told places) ≡ seats_told (reaped_told members rest decs places)
+unfolding reap_in_turn
 reaped-told members [] decs places = push_decs-told decs places
 reaped-told members (a ∷ rest) decs places =
-    (λ i. reaped members rest (decs ++ by_owner ((ap (held_outside members) (seat_at-told places a) ∙ held_outside-told members (place_at places a)) i))
+    (λ i. reap_in_turn members rest (decs ++ by_owner ((ap (held_outside members) (seat_at-told places a) ∙ held_outside-told members (place_at places a)) i))
     (set-told places a None None refl i))
     ∙ reaped-told members rest _ _
 

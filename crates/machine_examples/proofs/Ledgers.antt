@@ -14,7 +14,7 @@ use Rattle.orca_names.specs.declared.names.ObjName.{ObjName}
 use Rattle.orca_names.specs.declared.names.Thing.{Thing}
 use Rattle.orca_names.specs.declared.names.Thing.TheVariants.{Actor, Obj}
 use Rattle.letter_kinds.specs.Holdings.{Row, Holdings, row_count, entry_count, entry_row, held_in, row_of, add_rows, with_made}
-use Rattle.letter_kinds.specs.Counting.{Amount, Loaded, with_row_count, set_own, set_held, receive, send, raise_all, lower_all, lacking, mint_all, sweep, given_back}
+use Rattle.letter_kinds.specs.Counting.{Amount, Loaded, with_row_count, set_own, set_held, receive, send, raise_all, lower_all, lacking_of, mint_all, sweep, given_back}
 use Rattle.machine_rules.specs.Block.{actor_entry, held_actors}
 use Rattle.machine_rules.specs.Cell.{known_objects, object_name}
 
@@ -212,7 +212,7 @@ mint_all-told (e ∷ things) l = ap (mint_all things) (keep_row-told (λ n. n + 
 abbrev pub lacking_told : ℕ → Ledger → List Loaded → List Loaded
 lacking_told me l load = filter (λ e. not (owner_of e.0 == me) && (held_told l e.0 == 1)) load
 
-pub lacking-told : (me : ℕ) (l : Ledger) (load : List Loaded) → lacking me (told l) load ≡ lacking_told me l load
+pub lacking-told : (me : ℕ) (l : Ledger) (load : List Loaded) → lacking_of me (told l) load ≡ lacking_told me l load
 lacking-told me l load i = filter (λ e. not (owner_of e.0 == me) && (held_in-told l e.0 i == 1)) load
 
 -- ---- new objects

@@ -11,7 +11,7 @@ use Rattle.letter_kinds.specs.Detector.{has}
 use Rattle.letter_kinds.specs.declared.letter.Letter.{Letter}
 use Rattle.letter_kinds.specs.declared.letter.Letter.TheVariants.{Confirm, Dec}
 use Rattle.machine_rules.specs.Actors.{Actors, Seat, push_decs, push_letter, seat_at, with_letter_more}
-use Rattle.machine_rules.specs.Detect.{ask_all, held_outside, reap_members, reaped}
+use Rattle.machine_rules.specs.Detect.{ask_all, held_outside, reap_members, reap_in_turn}
 use Rattle.machine_laws.proofs.Moving.{sum_by-set_past}
 use Rattle.machine_laws.proofs.TableWork.{by_owner-length, sweep-work}
 use Rattle.machine_laws.specs.Work.{actors_work, count_work, letter_work, seat_work, silence_work, table_work}
@@ -81,8 +81,8 @@ module _ (n : ℕ) where
   member-work members None = omega arith
   member-work members (Some o) = omega (arith, table_covers members o)
 
-  pub reaped-work : (members rest : List ℕ) (decs : List (ℕ × List Amount)) (s : Actors) → actors_work n (reaped members rest decs s) ≤ actors_work n s + length decs * count_work n
-  unfolding reaped
+  pub reaped-work : (members rest : List ℕ) (decs : List (ℕ × List Amount)) (s : Actors) → actors_work n (reap_in_turn members rest decs s) ≤ actors_work n s + length decs * count_work n
+  unfolding reap_in_turn
   reaped-work members [] decs s = decs-work decs s
   reaped-work members (a ∷ rest) decs s =
       let more = by_owner (held_outside members (seat_at s a)) in
@@ -91,7 +91,7 @@ module _ (n : ℕ) where
 
   -- who leaves had no report out
   pub leave-work : (s : Actors) (a : ℕ) (o : Seat) → seat_at s a ≡ Some o → o.cell.reported ≡ false → actors_work n (reap_members (a ∷ []) s) + silence_work n ≤ actors_work n s
-  unfolding reaped
+  unfolding reap_in_turn
   leave-work s a o at quiet =
       let decs = decs-work (by_owner (held_outside (a ∷ []) (seat_at s a))) (set s a None) in
       let mine : seat_work n (Some o) ≡ table_work n o.cell.holdings + sum_by (letter_work n) o.mail + (if o.cell.dirty then 1 else 0) + silence_work n =

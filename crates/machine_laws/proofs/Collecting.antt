@@ -18,7 +18,7 @@ use Rattle.count_laws.proofs.balance.Sweeps.{owed, owed-groups, Firm, firm_group
 use Rattle.machine_rules.specs.Actors.{Actors, letters_of, push_decs, push_letter, seat, seat_at}
 use Rattle.machine_rules.specs.Balance.{load_sum}
 use Rattle.machine_rules.specs.Cell.{Cell}
-use Rattle.machine_rules.specs.Collect.{collected}
+use Rattle.machine_rules.specs.Collect.{after_collect}
 use Rattle.count_laws.specs.Facts.{IsFirm}
 use Rattle.count_laws.specs.Known.{IsKnown}
 use Rattle.detector_laws.specs.Events.{Moves}
@@ -73,7 +73,7 @@ same_loads s a c c' ls at x = omega (arith, load_sum-set s a (seat c ls) (seat c
 
 -- the cell that is swept may lack rows that letters brought
 pub collect_moves : (marked : Thing → Bool) (s : Actors) (d : Detector) (ns : List Note) (a : ℕ) (c c0 : Cell) (ls : List Letter) → seat_at s a ≡ seat c ls → c0.holdings ≡ c.holdings → c0.reported ≡ c.reported
-    → c.dirty ≡ true → c.reported ≡ false → IsFirm c.holdings → HoldsOwners a c → Moves (world_of s d ns) a (world_of (collected marked a c0 ls s) d (noted a c ns))
+    → c.dirty ≡ true → c.reported ≡ false → IsFirm c.holdings → HoldsOwners a c → Moves (world_of s d ns) a (world_of (after_collect marked a c0 ls s) d (noted a c ns))
 collect_moves marked s d ns a c c0 ls at same still dirty awake firm owners =
     let gs = by_owner (given_back marked c0.holdings) in
     let s1 = set s a (seat (swept marked a c0) ls) in

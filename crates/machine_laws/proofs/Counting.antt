@@ -19,7 +19,7 @@ use Rattle.count_laws.proofs.letters.OwnLetters.{decs_own, events_keep_own, incs
 use Rattle.count_laws.proofs.balance.SeatReads.{decs_at-none, decs_at-seat, held_at-none, held_at-seat, incs_at-none, incs_at-seat, own_at-seat}
 use Rattle.machine_rules.specs.Actors.{Actors, Seat, cell_at, seat, seat_at}
 use Rattle.machine_rules.specs.Balance.{IsBalanced, decs_at, held_at, held_sum, incs_at, own_at, owner_seat}
-use Rattle.count_laws.specs.Bounds.{counted}
+use Rattle.count_laws.specs.Bounds.{owner_count}
 use Rattle.machine_rules.specs.Cell.{Cell}
 use Rattle.count_laws.specs.Letters.{LettersNameTheirOwn}
 use Rattle.orca_names.specs.declared.trace.Trace.{Trace}
@@ -71,7 +71,7 @@ weaker P Q s f h = record {
 }
 
 -- where the owners count so much at most, so does everyone
-each_count : (s : Actors) (bound : ℕ) → IsBalanced s → LettersNameTheirOwn s → ((x : Thing) → counted x s ≤ bound) → OfEachCount (λ n. n ≤ bound) s
+each_count : (s : Actors) (bound : ℕ) → IsBalanced s → LettersNameTheirOwn s → ((x : Thing) → owner_count x s ≤ bound) → OfEachCount (λ n. n ≤ bound) s
 each_count s bound balanced own most = record {
   own = λ x. let m = most x in omega arith;
   incs = λ x a. let m = most x in let l = (letters_part s own x a).0 in omega arith;
@@ -97,14 +97,14 @@ cells_count s bound each a c mail at = (
 )
 
 -- with each event what is counted, and so what is told, rises by the weight at most
-leads_tell : (trace : Trace) (book : List Event) (p : PlainState) (s t : State) (bound : ℕ) → AllFacts trace p s → LettersNameTheirOwn s.actors → ((x : Thing) → counted x s.actors ≤ bound) → OfTold (λ n. n ≤ bound) s
+leads_tell : (trace : Trace) (book : List Event) (p : PlainState) (s t : State) (bound : ℕ) → AllFacts trace p s → LettersNameTheirOwn s.actors → ((x : Thing) → owner_count x s.actors ≤ bound) → OfTold (λ n. n ≤ bound) s
     → Leads next s book t → OfTold (λ n. n ≤ bound + length book * s.options.weight) t
 leads_tell trace [] p s t bound facts own most told same = subst (OfTold (λ n. n ≤ bound + 0 * s.options.weight)) same (told_weaker (λ n. n ≤ bound) (λ n. n ≤ bound + 0 * s.options.weight) s (λ n h. omega arith) told)
 leads_tell trace (e ∷ book) p s t bound facts own most told (u, goes, leads) =
     let w = s.options.weight in
     let next_facts = event_keeps trace p s u e facts goes in
     let now = event_tells (λ n. n ≤ bound) s u e goes (cells_count s bound (each_count s.actors bound facts.beside.counts.balanced own most)) told in
-    let up : (x : Thing) → counted x u.actors ≤ bound + w = λ x. let one = events_raise s u e facts.beside.weight goes x in let m = most x in omega arith in
+    let up : (x : Thing) → owner_count x u.actors ≤ bound + w = λ x. let one = events_raise s u e facts.beside.weight goes x in let m = most x in omega arith in
     let later = leads_tell trace book next_facts.0 u t (bound + w) next_facts.2 (events_keep_own s u e goes own) up (told_weaker (λ n. n ≤ bound) (λ n. n ≤ bound + w) u (λ n h. omega arith) now) leads in
     let same : u.options.weight ≡ w = ap (λ (o : Options). o.weight) (options_stay s u e goes) in
     told_weaker (λ n. n ≤ bound + w + length book * u.options.weight) (λ n. n ≤ bound + length (e ∷ book) * w) t (λ n h. let h' : n ≤ bound + w + length book * w = rw same at h in omega arith) later

@@ -25,7 +25,7 @@ use Rattle.machine_rules.proofs.Present.{present_below}
 use Rattle.machine_rules.specs.Actors.{Actors, cell_at, cell_of, letters_of, mail_at, push_letter, seat, seat_at}
 use Rattle.machine_rules.specs.Balance.{loads_at}
 use Rattle.machine_rules.specs.Cell.{Cell}
-use Rattle.machine_rules.specs.Go.{post, mint, make, turned}
+use Rattle.machine_rules.specs.Go.{post, mint, make, cell_after_turn}
 use Rattle.count_laws.specs.Known.{IsKnown}
 use Rattle.detector_laws.specs.Events.{Moves}
 use Rattle.machine_laws.proofs.Collecting.{HoldsOwners, owner_held, same_loads}
@@ -40,9 +40,9 @@ held_made made h x = refl
 
 module _ (s : Actors) (d : Detector) (ns : List Note) (a : ℕ) (c : Cell) (ls : List Letter) (at : seat_at s a ≡ seat c ls) (running : is_some c.frame ≡ true) (awake : c.reported ≡ false) where
   -- the segment alone: Print and End
-  pub turn_moves : (stop : Stop) (f : Option Frame) (q : Bool) → Moves (world_of s d ns) a (world_of (set s a (seat (turned stop f q c) ls)) d (noted a c ns))
+  pub turn_moves : (stop : Stop) (f : Option Frame) (q : Bool) → Moves (world_of s d ns) a (world_of (set s a (seat (cell_after_turn stop f q c) ls)) d (noted a c ns))
   turn_moves stop f q =
-      let c1 : Cell = turned stop f q c in
+      let c1 : Cell = cell_after_turn stop f q c in
       let s1 = set s a (seat c1 ls) in
       moves s s1 d ns a c c1 ls ls at (adds_none s1) [] refl awake (inl running)
       (λ b n h. ap letters_of (get_or-set_other s a b (seat c1 ls) None n))

@@ -16,8 +16,8 @@ use Rattle.turn_rules.specs.declared.act.Act.{Act}
 use Rattle.turn_rules.specs.declared.act.Act.TheVariants.{Post, New, Print, End}
 use Rattle.turn_rules.specs.declared.act.Frame.{Frame}
 use Rattle.letter_kinds.proofs.Filters.{length-filter_le}
-use Rattle.letter_kinds.specs.Counting.{Loaded, by_owner, given_back, is_lacking, lacking, mint_all, sweep, to_mint}
-use Rattle.letter_kinds.specs.Detector.{Detector, Token, all_acked, close_token, closed_set, has, heard, note_ack, scanned, token_numbered}
+use Rattle.letter_kinds.specs.Counting.{Loaded, by_owner, given_back, is_lacking, lacking_of, mint_all, sweep, to_mint}
+use Rattle.letter_kinds.specs.Detector.{Detector, Token, all_acked, close_token, closed_set, has, hear_note, note_ack, after_scan, token_numbered}
 use Rattle.letter_kinds.specs.Holdings.{Holdings, Row, held_in, with_made}
 use Rattle.letter_kinds.specs.Sums.{amount_of}
 use Rattle.letter_kinds.specs.declared.letter.Letter.{Letter}
@@ -32,9 +32,9 @@ use Rattle.count_laws.proofs.events.Take.{alike_lower, alike_raise}
 use Rattle.machine_rules.specs.Actors.{Actors, Seat, seat, seat_at}
 use Rattle.machine_rules.specs.Block.{held_actors}
 use Rattle.machine_rules.specs.Cell.{Cell}
-use Rattle.machine_rules.specs.Collect.{collected, is_in_use, is_marked, without_unused}
+use Rattle.machine_rules.specs.Collect.{after_collect, is_in_use, is_marked, without_unused}
 use Rattle.machine_rules.specs.Detect.{ask_all, reap_members}
-use Rattle.machine_rules.specs.Go.{act_in, lacking_from, load_from, mint, needed, needing, post_or_mint, rows_from, to_need, turn_of_cell, turned}
+use Rattle.machine_rules.specs.Go.{act_in, lacking_from, load_from, mint, needed, needing, post_or_mint, rows_from, to_need, turn_of_cell, cell_after_turn}
 use Rattle.plain_list.specs.Lists.{is_empty}
 use Rattle.event_rule.specs.Runs.{Goes}
 use Rattle.machine_rules.specs.Next.{next}
@@ -181,11 +181,11 @@ module _ (n : ℕ) where
 
     -- the rows that letters brought count for nothing
     swept : (a : ℕ) (c : Cell) (ls : List Letter) → c.frame ≡ None → c.dirty ≡ true → seat_at s.actors a ≡ seat c ls → (marked : Thing → Bool) (known : m.FinMap thing_cmp Row)
-        → Less (record s { actors = collected marked a (record c { known = known }) ls s.actors })
+        → Less (record s { actors = after_collect marked a (record c { known = known }) ls s.actors })
     swept a c ls idle is at marked known =
         let back = given_back marked c.holdings in
         let after : Cell = record c { holdings = sweep marked a c.holdings; dirty = false; known = known } in
-        both (collected marked a (record c { known = known }) ls s.actors) s.detector s.notes
+        both (after_collect marked a (record c { known = known }) ls s.actors) s.detector s.notes
         (omega (
           arith,
           decs-work n (by_owner back) (set s.actors a (seat after ls)),
@@ -198,10 +198,10 @@ module _ (n : ℕ) where
         (omega (arith, decs-gets tracing s.program (by_owner back) (set s.actors a (seat after ls)), idle-gets tracing s.program s.actors a after ls idle))
 
     collects-less : (a : ℕ) (c : Cell) (ls : List Letter) → c.frame ≡ None → c.dirty ≡ true → seat_at s.actors a ≡ seat c ls
-        → Less (record s { actors = collected (is_marked tracing a c) a (without_unused tracing a c) ls s.actors })
+        → Less (record s { actors = after_collect (is_marked tracing a c) a (without_unused tracing a c) ls s.actors })
     collects-less a c ls idle is at =
         let kept = with_known tracing a c in
-        subst (λ d. Less (record s { actors = collected (is_marked tracing a c) a d ls s.actors })) (sym kept.1) (swept a c ls idle is at (is_marked tracing a c) kept.0)
+        subst (λ d. Less (record s { actors = after_collect (is_marked tracing a c) a d ls s.actors })) (sym kept.1) (swept a c ls idle is at (is_marked tracing a c) kept.0)
 
     -- ---- block
 
@@ -225,7 +225,7 @@ module _ (n : ℕ) where
 
     -- ---- a go that mints
 
-    mints : (a : ℕ) (c : Cell) (ls : List Letter) (stop : Stop) → seat_at s.actors a ≡ seat c ls → (load : List Loaded) (e : Loaded) (es : List Loaded) → lacking a (with_made stop.turn.made c.holdings) load ≡ e ∷ es
+    mints : (a : ℕ) (c : Cell) (ls : List Letter) (stop : Stop) → seat_at s.actors a ≡ seat c ls → (load : List Loaded) (e : Loaded) (es : List Loaded) → lacking_of a (with_made stop.turn.made c.holdings) load ≡ e ∷ es
         → Less (record s { actors = mint a c ls (owner_of e.0) (to_mint s.options.weight (owner_of e.0) (e ∷ es)) s.actors })
     mints a c ls stop at load e es lacks =
         let owner = owner_of e.0 in
@@ -256,22 +256,22 @@ module _ (n : ℕ) where
 
     -- ---- the detector's events
 
-    hears-less : (note : Note) (ns : List Note) → s.notes ≡ note ∷ ns → Less (record s { detector = heard note s.detector; notes = ns })
+    hears-less : (note : Note) (ns : List Note) → s.notes ≡ note ∷ ns → Less (record s { detector = hear_note note s.detector; notes = ns })
     hears-less (notes.Block a count held) ns is =
-        both s.actors (heard (notes.Block a count held) s.detector) ns (omega (arith, ap (sum_by (note_work n)) is, sum_by-cons (note_work n) (notes.Block a count held) ns)) (omega arith)
+        both s.actors (hear_note (notes.Block a count held) s.detector) ns (omega (arith, ap (sum_by (note_work n)) is, sum_by-cons (note_work n) (notes.Block a count held) ns)) (omega arith)
     hears-less (notes.Unblock a) ns is =
-        both s.actors (heard (notes.Unblock a) s.detector) ns (omega (arith, ap (sum_by (note_work n)) is, sum_by-cons (note_work n) (notes.Unblock a) ns, length-filter_le (λ (u : Token). not (has u.members a)) s.detector.tokens)) (omega arith)
+        both s.actors (hear_note (notes.Unblock a) s.detector) ns (omega (arith, ap (sum_by (note_work n)) is, sum_by-cons (note_work n) (notes.Unblock a) ns, length-filter_le (λ (u : Token). not (has u.members a)) s.detector.tokens)) (omega arith)
     hears-less (notes.Ack token a) ns is =
-        both s.actors (heard (notes.Ack token a) s.detector) ns (omega (arith, ap (sum_by (note_work n)) is, sum_by-cons (note_work n) (notes.Ack token a) ns, length-map s.detector.tokens (note_ack token a))) (omega arith)
+        both s.actors (hear_note (notes.Ack token a) s.detector) ns (omega (arith, ap (sum_by (note_work n)) is, sum_by-cons (note_work n) (notes.Ack token a) ns, length-map s.detector.tokens (note_ack token a))) (omega arith)
 
-    scanned-work : (d : Detector) (members : List ℕ) → d.news ≡ true → length members ≤ n → detector_work n (scanned d members) + 2 * length members < detector_work n d
+    scanned-work : (d : Detector) (members : List ℕ) → d.news ≡ true → length members ≤ n → detector_work n (after_scan d members) + 2 * length members < detector_work n d
     scanned-work d [] news few = rw news (omega arith)
     scanned-work d (a ∷ members) news few = rw news (omega (arith, few, length-append d.tokens (record { number = suc d.opened; members = a ∷ members; acked = [] } ∷ [])))
 
     scans-less : length (closed_set s.detector) ≤ n → s.detector.news ≡ true
-        → Less (record s { actors = ask_all (closed_set s.detector) (suc s.detector.opened) s.actors; detector = scanned s.detector (closed_set s.detector) })
+        → Less (record s { actors = ask_all (closed_set s.detector) (suc s.detector.opened) s.actors; detector = after_scan s.detector (closed_set s.detector) })
     scans-less few is =
-        both (ask_all (closed_set s.detector) (suc s.detector.opened) s.actors) (scanned s.detector (closed_set s.detector)) s.notes (omega (arith, scanned-work s.detector (closed_set s.detector) is few, asks-work n (closed_set s.detector) (suc s.detector.opened) s.actors))
+        both (ask_all (closed_set s.detector) (suc s.detector.opened) s.actors) (after_scan s.detector (closed_set s.detector)) s.notes (omega (arith, scanned-work s.detector (closed_set s.detector) is few, asks-work n (closed_set s.detector) (suc s.detector.opened) s.actors))
         (asks-gets tracing s.program (closed_set s.detector) (suc s.detector.opened) s.actors)
 
     reaps-less : (token : Token) → In token s.detector.tokens → Less (record s { actors = reap_members token.members s.actors; detector = close_token token s.detector })

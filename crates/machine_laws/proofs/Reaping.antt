@@ -23,7 +23,7 @@ use Rattle.machine_rules.specs.Actors.{Actors, cell_at, Seat, cell_of, letters_o
 use Rattle.count_laws.specs.Agreement.{Person}
 use Rattle.machine_rules.specs.Balance.{loads_at, load_sum}
 use Rattle.machine_rules.specs.Cell.{Cell}
-use Rattle.machine_rules.specs.Detect.{held_outside, reap_members, reaped}
+use Rattle.machine_rules.specs.Detect.{held_outside, reap_members, reap_in_turn}
 use Rattle.count_laws.specs.Facts.{KeepsCounts}
 use Rattle.detector_laws.proofs.Members.{each_has}
 use Rattle.detector_laws.specs.Cells.{held_on}
@@ -56,13 +56,13 @@ unfolding push_decs
 decs_none [] s i e = e
 decs_none (g ∷ gs) s i e = decs_none gs (push_letter g.0 (Dec g.1) s) i (push_none s g.0 i (Dec g.1) e)
 
-reap_none : (all ms : List ℕ) (gs : List (ℕ × List (Thing × ℕ))) (s : Actors) (i : ℕ) → seat_at s i ≡ None → seat_at (reaped all ms gs s) i ≡ None
-unfolding reaped
+reap_none : (all ms : List ℕ) (gs : List (ℕ × List (Thing × ℕ))) (s : Actors) (i : ℕ) → seat_at s i ≡ None → seat_at (reap_in_turn all ms gs s) i ≡ None
+unfolding reap_in_turn
 reap_none all [] gs s i e = decs_none gs s i e
 reap_none all (m ∷ ms) gs s i e = reap_none all ms _ (set s m None) i (still_none s m i e)
 
-reap_gone : (all ms : List ℕ) (gs : List (ℕ × List (Thing × ℕ))) (s : Actors) (i : ℕ) → has ms i ≡ true → seat_at (reaped all ms gs s) i ≡ None
-unfolding reaped
+reap_gone : (all ms : List ℕ) (gs : List (ℕ × List (Thing × ℕ))) (s : Actors) (i : ℕ) → has ms i ≡ true → seat_at (reap_in_turn all ms gs s) i ≡ None
+unfolding reap_in_turn
 reap_gone all [] gs s i h = absurd (false≢true h)
 reap_gone all (m ∷ ms) gs s i h = ⊎_elim
     (λ same. reap_none all ms _ (set s m None) i (ap (seat_at (set s m None)) same ∙ set_clears s m))
@@ -74,8 +74,8 @@ reap_gone all (m ∷ ms) gs s i h = ⊎_elim
 abbrev AddsAt : Actors → Actors → ℕ → Type 0
 AddsAt s s' b = (cell_at s' b ≡ cell_at s b) × ((come : List Letter) × (mail_at s' b ≡ mail_at s b ++ come) × NoConfirms come)
 
-reap_adds : (all ms : List ℕ) (gs : List (ℕ × List (Thing × ℕ))) (s : Actors) (b : ℕ) → has ms b ≡ false → AddsAt s (reaped all ms gs s) b
-unfolding reaped
+reap_adds : (all ms : List ℕ) (gs : List (ℕ × List (Thing × ℕ))) (s : Actors) (b : ℕ) → has ms b ≡ false → AddsAt s (reap_in_turn all ms gs s) b
+unfolding reap_in_turn
 reap_adds all [] gs s b out = let z = decs_adds gs s in (z.cell b, z.mail b)
 reap_adds all (m ∷ ms) gs s b out = ⊎_elim
     (λ same. absurd (let z = eq-eqb m b (sym same) in false≢true (sym out ∙ rw z refl)))
@@ -98,8 +98,8 @@ unfolding by_owner
 spared all b m s None e ins every = tt
 spared all b m s (Some o) e ins every = every m o.cell o.mail e ins
 
-reap_quiet : (all ms : List ℕ) (gs : List (ℕ × List (Thing × ℕ))) (s : Actors) (b : ℕ) → AllIn all ms → has ms b ≡ false → NotTo b gs → Every (Spares all b) s → seat_at (reaped all ms gs s) b ≡ seat_at s b
-unfolding reaped
+reap_quiet : (all ms : List ℕ) (gs : List (ℕ × List (Thing × ℕ))) (s : Actors) (b : ℕ) → AllIn all ms → has ms b ≡ false → NotTo b gs → Every (Spares all b) s → seat_at (reap_in_turn all ms gs s) b ≡ seat_at s b
+unfolding reap_in_turn
 reap_quiet all [] gs s b ins out none every = decs_quiet b gs s none
 reap_quiet all (m ∷ ms) gs s b ins out none every = ⊎_elim
     (λ same. absurd (let z = eq-eqb m b (sym same) in false≢true (sym out ∙ rw z refl)))
@@ -117,8 +117,8 @@ clear_loads x s m = ⊎_elim
     (λ ge. omega (arith, sum_by-set_past (loads_at x) s m None ge))
     (cases_lt m (length s))
 
-reap_loads : (x : Thing) (all ms : List ℕ) (gs : List (ℕ × List (Thing × ℕ))) (s : Actors) → load_sum x (reaped all ms gs s) ≤ load_sum x s
-unfolding reaped
+reap_loads : (x : Thing) (all ms : List ℕ) (gs : List (ℕ × List (Thing × ℕ))) (s : Actors) → load_sum x (reap_in_turn all ms gs s) ≤ load_sum x s
+unfolding reap_in_turn
 reap_loads x all [] gs s = decs_loads x gs s
 reap_loads x all (m ∷ ms) gs s = omega (arith, reap_loads x all ms (gs ++ by_owner (held_outside all (seat_at s m))) (set s m None), clear_loads x s m)
 

@@ -11,7 +11,7 @@ use Rattle.orca_names.specs.declared.names.Thing.{Thing}
 use Rattle.orca_names.specs.declared.names.Thing.TheVariants.{Actor}
 use Rattle.letter_kinds.proofs.Sums.{sum-nil}
 use Rattle.letter_kinds.specs.Closed.{largest_closed}
-use Rattle.letter_kinds.specs.Detector.{Detector, scanned, has, closed_set, candidates}
+use Rattle.letter_kinds.specs.Detector.{Detector, after_scan, has, closed_set, candidates}
 use Rattle.letter_kinds.specs.Holdings.{Row}
 use Rattle.letter_kinds.specs.Reports.{report_of}
 use Rattle.letter_kinds.specs.Sums.{inc_of, dec_of}
@@ -196,11 +196,11 @@ module _ (s : Actors) (d : Detector) (ns : List Note) (rising : IsRising d.kept)
   pub scan_keeps : (trace : Trace) (all : Thing → Option Row) (confirm : Confirming trace all) (ps : List Person) → KeepsCounts trace all ps s → KeepsCounts trace all ps (ask_all (closed_set d) (suc d.opened) s)
   scan_keeps trace all confirm ps keeps = asks_keep trace all confirm (closed_set d) (suc d.opened) s ps keeps
 
-  pub scan_is : world_of (ask_all (closed_set d) (suc d.opened) s) (scanned d (closed_set d)) ns ≡ view.scan (world_of s d ns)
+  pub scan_is : world_of (ask_all (closed_set d) (suc d.opened) s) (after_scan d (closed_set d)) ns ≡ view.scan (world_of s d ns)
   scan_is =
       let t = suc d.opened in
       let made : length (ask_all (closed_set d) (suc d.opened) s) ≡ length s = asks_length (closed_set d) t s in
       let cell : cell_at (ask_all (closed_set d) t s) ≡ cell_at s = fun_ext (λ b. asks_cell (closed_set d) t s b) in
-      let mail : mail_at (ask_all (closed_set d) t s) ≡ view.confirmed (closed_set d) t (cell_at s) (mail_at s) = fun_ext (λ b. asks_mail (closed_set d) t s distinct b) in
+      let mail : mail_at (ask_all (closed_set d) t s) ≡ view.confirms_of (closed_set d) t (cell_at s) (mail_at s) = fun_ext (λ b. asks_mail (closed_set d) t s distinct b) in
       let loaded : (λ x. load_sum (Actor x) (ask_all (closed_set d) t s)) ≡ (λ x. load_sum (Actor x) s) = fun_ext (λ x. asks_loads (closed_set d) t s (Actor x)) in
-      λ i. record { made = made i; cell = cell i; mail = mail i; loaded = loaded i; detector = scanned d (closed_set d); notes = ns }
+      λ i. record { made = made i; cell = cell i; mail = mail i; loaded = loaded i; detector = after_scan d (closed_set d); notes = ns }

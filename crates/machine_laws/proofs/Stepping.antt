@@ -13,7 +13,7 @@ use Rattle.turn_rules.specs.Segment.{Stop}
 use Rattle.turn_rules.specs.declared.act.Act.{Act}
 use Rattle.turn_rules.specs.declared.act.Act.TheVariants.{Post, New, Print, End}
 use Rattle.turn_rules.specs.declared.act.Frame.{Frame}
-use Rattle.letter_kinds.specs.Counting.{Loaded, lacking, to_mint}
+use Rattle.letter_kinds.specs.Counting.{Loaded, lacking_of, to_mint}
 use Rattle.letter_kinds.specs.Detector.{Token, all_acked, closed_set, token_numbered}
 use Rattle.letter_kinds.specs.Holdings.{Row}
 use Rattle.letter_kinds.specs.Sums.{amount_of}
@@ -32,7 +32,7 @@ use Rattle.count_laws.specs.Agreement.{people_of}
 use Rattle.machine_rules.specs.Cell.{Cell, fresh_cell}
 use Rattle.machine_rules.specs.Collect.{is_marked, without_unused}
 use Rattle.count_laws.specs.Facts.{Facts, IsFirm}
-use Rattle.machine_rules.specs.Go.{act_in, load_from, make, needed, needing, post_or_mint, rows_from, turn_of_cell, turned, lacking_from, mint, post}
+use Rattle.machine_rules.specs.Go.{act_in, load_from, make, needed, needing, post_or_mint, rows_from, turn_of_cell, cell_after_turn, lacking_from, mint, post}
 use Rattle.event_rule.specs.Runs.{Goes}
 use Rattle.machine_rules.specs.Next.{next}
 use Rattle.orca_names.specs.declared.trace.Trace.{Trace}
@@ -56,7 +56,7 @@ use Rattle.machine_laws.proofs.Taking.{confirm_is, take_moves}
 use Rattle.machine_rules.proofs.Guards.{may_report, acked_open, collector, leaver}
 use Rattle.machine_rules.specs.Guards.{may_block, may_leave}
 use Rattle.machine_rules.specs.Rules as rule
-use Rattle.machine_rules.specs.Rules.{IsGoing, StopsAt, kept, kept_in, later_frame}
+use Rattle.machine_rules.specs.Rules.{IsGoing, StopsAt, cell_kept, cell_kept_in, later_frame}
 use Rattle.machine_rules.specs.Take.{cell_after, note_of, notes_after}
 use Rattle.count_laws.proofs.agreement.Follows.{step_here}
 
@@ -100,7 +100,7 @@ module _ (trace : Trace) (p : PlainState) (s : State) (beside : Facts trace p s)
     stop = turn_of_cell trace s.program a c f
 
     abbrev after : Cell
-    after = kept trace s a c f
+    after = cell_kept trace s a c f
 
     running : is_some c.frame ≡ true
     running = ap is_some going.framed
@@ -108,7 +108,7 @@ module _ (trace : Trace) (p : PlainState) (s : State) (beside : Facts trace p s)
     up : c.reported ≡ false
     up = awake a c ls going.present (inl running)
 
-    turned_steps : (frame : Option Frame) (dirty : Bool) → IsStep (world s) (world_of (set s.actors a (seat (turned stop frame dirty c) ls)) s.detector s.notes)
+    turned_steps : (frame : Option Frame) (dirty : Bool) → IsStep (world s) (world_of (set s.actors a (seat (cell_after_turn stop frame dirty c) ls)) s.detector s.notes)
     turned_steps frame dirty = unnoted a c _ up (turn_moves s.actors s.detector s.notes a c ls going.present running up stop frame dirty)
 
     posts_steps : (to behaviour : ℕ) (args : List Value) → StopsAt trace s a c ls f (Post to behaviour args)
@@ -127,10 +127,10 @@ module _ (trace : Trace) (p : PlainState) (s : State) (beside : Facts trace p s)
         e.0 refl (first_minted s.options.weight beside.weight e es))
 
     makes_steps : (kind register : ℕ)
-        → IsStep (world s) (world_of (make s.options.weight a (kept_in trace s a c f (with_name (later_frame trace s a c f) register (length s.actors))) ls (fresh_cell s.options.weight s.program kind) s.actors) s.detector s.notes)
+        → IsStep (world s) (world_of (make s.options.weight a (cell_kept_in trace s a c f (with_name (later_frame trace s a c f) register (length s.actors))) ls (fresh_cell s.options.weight s.program kind) s.actors) s.detector s.notes)
     makes_steps kind register =
         let fresh = fresh_cell s.options.weight s.program kind in
-        unnoted a c _ up (make_moves s.actors s.detector s.notes a c ls going.present running up s.options.weight (kept_in trace s a c f (with_name (later_frame trace s a c f) register (length s.actors))) refl (held_made stop.turn.made c.holdings)
+        unnoted a c _ up (make_moves s.actors s.detector s.notes a c ls going.present running up s.options.weight (cell_kept_in trace s a c f (with_name (later_frame trace s a c f) register (length s.actors))) refl (held_made stop.turn.made c.holdings)
         fresh refl (fresh_held s.options.weight fresh.holdings (refl, (λ k. m.get-empty nat_cmp k), (λ y. m.get-empty thing_cmp y))))
 
   -- ---- take

@@ -6,7 +6,7 @@ use Rattle.std.proofs.lemmas.List.Sums.{sum_by-cons}
 use Rattle.orca_names.specs.declared.names.Thing.TheVariants.{Actor}
 use Rattle.event_rule.specs.declared.event.Event.{Event}
 use Rattle.letter_kinds.proofs.Sums.{sum-nil}
-use Rattle.letter_kinds.specs.Detector.{Detector, closed_set, has, heard, scanned}
+use Rattle.letter_kinds.specs.Detector.{Detector, closed_set, has, hear_note, after_scan}
 use Rattle.letter_kinds.specs.Holdings.{held_in}
 use Rattle.letter_kinds.specs.Reports.{count_on, keep_report, report_told, told_on, told_on_by}
 use Rattle.letter_kinds.specs.declared.letter.Letter.{Letter}
@@ -54,12 +54,12 @@ module _ (P : ℕ → Type 0) where
 
   -- ---- what the detector makes of it
 
-  told_heard : (n : Note) (d : Detector) → OfNote P n → AllByRecursion (OfEachTold P) d.kept → AllByRecursion (OfEachTold P) (heard n d).kept
+  told_heard : (n : Note) (d : Detector) → OfNote P n → AllByRecursion (OfEachTold P) d.kept → AllByRecursion (OfEachTold P) (hear_note n d).kept
   told_heard (Block a count held) d new h = all_kept (report_told a count held) d.kept new h
   told_heard (Unblock a) d new h = all_filter (λ k. not (k.actor == a)) d.kept h
   told_heard (Ack number a) d new h = h
 
-  told_scanned : (d : Detector) (found : List ℕ) → AllByRecursion (OfEachTold P) d.kept → AllByRecursion (OfEachTold P) (scanned d found).kept
+  told_scanned : (d : Detector) (found : List ℕ) → AllByRecursion (OfEachTold P) d.kept → AllByRecursion (OfEachTold P) (after_scan d found).kept
   told_scanned d [] h = h
   told_scanned d (a ∷ found) h = h
 

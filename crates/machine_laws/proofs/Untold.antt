@@ -5,14 +5,14 @@ use Rattle.orca_names.specs.declared.names.Thing.TheVariants.{Actor}
 use Rattle.event_rule.specs.declared.event.Event.{Event}
 use Rattle.event_rule.specs.declared.event.Event.TheVariants.{Reap}
 use Rattle.letter_kinds.proofs.Counts.{has_actor}
-use Rattle.letter_kinds.specs.Detector.{Token, closed_set, has, heard}
+use Rattle.letter_kinds.specs.Detector.{Token, closed_set, has, hear_note}
 use Rattle.letter_kinds.specs.declared.letter.Letter.{Letter}
 use Rattle.letter_kinds.specs.declared.letter.Letter.TheVariants.{App, Inc, Dec, Confirm}
 use Rattle.letter_kinds.specs.declared.note.Note.{Note}
 use Rattle.letter_kinds.specs.declared.note.Note.TheVariants.{Block}
 use Rattle.letter_kinds.specs.declared.note.Report.{Report}
 use Rattle.machine_rules.proofs.Stepping.{step_of}
-use Rattle.machine_rules.specs.Rules.{IsStep, kept, later_frame}
+use Rattle.machine_rules.specs.Rules.{IsStep}
 use Rattle.machine_rules.specs.Rules as rule
 use Rattle.machine_rules.proofs.Guards.{acked_open}
 use Rattle.count_laws.proofs.agreement.Follows.{step_here}
@@ -89,7 +89,7 @@ silent_after a false note notes says silent = silent
 same : (s t : State) (a : ℕ) → report_of t.detector.kept a ≡ report_of s.detector.kept a → IsSilentOn a t.notes → IsUntold s a → IsUntold t a
 same s t a kept silent un = record { unkept = kept ∙ un.unkept; silent = silent }
 
-heard_after : (s : State) (a : ℕ) (note : Note) (later : List Note) → s.notes ≡ note ∷ later → IsUntold s a → (report_of (heard note s.detector).kept a ≡ None) × IsSilentOn a later
+heard_after : (s : State) (a : ℕ) (note : Note) (later : List Note) → s.notes ≡ note ∷ later → IsUntold s a → (report_of (hear_note note s.detector).kept a ≡ None) × IsSilentOn a later
 heard_after s a note later is un = unmade-heard (world s) note later a (un.unkept, subst (IsSilentOn a) is un.silent)
 
 without_members : (members : List ℕ) (kept : List Report) (a : ℕ) → report_of kept a ≡ None → report_of (filter (λ r. not (has members r.actor)) kept) a ≡ None

@@ -10,7 +10,7 @@ use Rattle.letter_kinds.specs.declared.note.Note.TheVariants.{Block, Unblock, Ac
 use Rattle.letter_kinds.specs.declared.note.Report.{Report}
 use Rattle.machine_rules.specs.Actors.{Actors, seat_at}
 use Rattle.machine_rules.specs.Balance.{decs_at, held_at, held_sum, incs_at, load_sum, own_at, owner_seat}
-use Rattle.count_laws.specs.Bounds.{counted}
+use Rattle.count_laws.specs.Bounds.{owner_count}
 use Rattle.machine_rules.specs.Options.{Options}
 use Rattle.machine_rules.specs.Run.{IsRun}
 use Rattle.machine_rules.specs.State.{State}
@@ -20,7 +20,7 @@ pub record OfEachCount (P : ℕ → Type 0) (actors : Actors) : Type 0 where
   -- what the owner counts, the increments among any actor's letters, and both for the owner
   pub own : (x : Thing) → P (own_at x (owner_seat actors x))
   pub incs : (x : Thing) (a : ℕ) → P (incs_at x (seat_at actors a))
-  pub counted : (x : Thing) → P (counted x actors)
+  pub counted : (x : Thing) → P (owner_count x actors)
   -- what one actor holds, and what all hold
   pub held : (x : Thing) (a : ℕ) → P (held_at x (seat_at actors a))
   pub held_by_all : (x : Thing) → P (held_sum x actors)

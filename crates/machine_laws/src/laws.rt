@@ -65,13 +65,17 @@ pub fn the_machine_comes_to_rest()
     ensures deep { DeepNeedsNoGet }
 {}
 
-/// Garbage goes: each run can go on, without a choice, to a state in which only choices are enabled.
-/// Where the program has come to its end in such a state, which is where the machine that frees nothing
-/// is quiet, no event is enabled, and exactly what is reachable is left; with root-only tracing, what the
-/// law at quiet says.
+/// A run that has come so far can rest: it can go on, without a choice, to a state in which only choices
+/// are enabled.
+pub fn runs_can_rest()
+    ensures { RunsCanRest }
+{}
+
+/// Garbage goes: where only choices are enabled, and the program has come to its end, which is where the
+/// machine that frees nothing is quiet, no event is enabled, and exactly what is reachable is left; with
+/// root-only tracing, what the law at quiet says.
 pub fn garbage_goes()
-    ensures rest { RunsCanRest }
-    ensures gone { GarbageIsGone }
+    ensures deep { GarbageIsGone }
     ensures roots { GarbageIsGoneByRoots }
 {}
 

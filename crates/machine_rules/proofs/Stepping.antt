@@ -28,7 +28,7 @@ use Rattle.machine_rules.specs.Guards.{may_block, may_collect, may_go, may_leave
 use Rattle.machine_rules.specs.Leave.{leave}
 use Rattle.machine_rules.specs.Next.{acting, next, next_by}
 use Rattle.orca_names.specs.declared.trace.Trace.{Trace}
-use Rattle.machine_rules.specs.Rules.{IsGoing, IsStep, StopsAt, blocks, collects, ends, gets, hears, kept, kept_in, later_frame, leaves, makes, mints, posts, prints, reaps, scans, takes}
+use Rattle.machine_rules.specs.Rules.{IsGoing, IsStep, StopsAt, blocks, collects, ends, gets, hears, cell_kept, cell_kept_in, later_frame, leaves, makes, mints, posts, prints, reaps, scans, takes}
 use Rattle.machine_rules.specs.State.{State}
 use Rattle.machine_rules.specs.Take.{take}
 use Rattle.machine_rules.proofs.Acting.{Acts, acts}
@@ -57,7 +57,7 @@ module _ (trace : Trace) (s t : State) where
     stop = turn_of_cell trace s.program a c f
 
     abbrev after : Cell
-    after = kept trace s a c f
+    after = cell_kept trace s a c f
 
     on_post : (to behaviour : ℕ) (args : List Value) → stop.act ≡ Post to behaviour args → (lacked : List Loaded) → lacking_from trace a after.holdings args ≡ lacked
         → Steps (Go a) (post_or_mint s a c after mail stop to behaviour args (load_from trace a after.holdings args) (rows_from trace a after args) lacked)
@@ -66,7 +66,7 @@ module _ (trace : Trace) (s t : State) where
 
     on_new : (kind register : ℕ) → stop.act ≡ New kind register → (room : Bool) → nat_lt (length s.actors) 65536 ≡ room
         → (if room
-          then Goes (with_turn_kept s stop (make s.options.weight a (kept_in trace s a c f (with_name (later_frame trace s a c f) register (length s.actors))) mail (fresh_cell s.options.weight s.program kind) s.actors))
+          then Goes (with_turn_kept s stop (make s.options.weight a (cell_kept_in trace s a c f (with_name (later_frame trace s a c f) register (length s.actors))) mail (fresh_cell s.options.weight s.program kind) s.actors))
           else IsFull) ≡ Goes t → Steps (Go a) t
     on_new kind register is true room e =
         arrived (Go a) _ e (makes a c mail f kind register (record { going = going; held = held; stop = is }) (ltb-true (length s.actors) 65536 room))

@@ -45,9 +45,9 @@ without_unused Deep a c = c
 without_unused Roots a c = record c { known = m.retain_keys c.known (is_in_use a c) }
 
 -- the actor without what is not marked, and to each owner a Dec with what was held
-abbrev pub collected : (Thing → Bool) → ℕ → Cell → List Letter → Actors → Actors
-collected marked a c mail actors =
+abbrev pub after_collect : (Thing → Bool) → ℕ → Cell → List Letter → Actors → Actors
+after_collect marked a c mail actors =
     push_decs (by_owner (given_back marked c.holdings)) (set actors a (seat (record c { holdings = sweep marked a c.holdings; dirty = false }) mail))
 
 abbrev pub collect : Trace → State → ℕ → Cell → List Letter → Step State
-collect trace s a c mail = Goes (record s { actors = collected (is_marked trace a c) a (without_unused trace a c) mail s.actors })
+collect trace s a c mail = Goes (record s { actors = after_collect (is_marked trace a c) a (without_unused trace a c) mail s.actors })

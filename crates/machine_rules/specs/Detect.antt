@@ -4,7 +4,7 @@ use Rattle.orca_names.specs.Names.{owner_of}
 use Rattle.letter_kinds.specs.declared.letter.Letter.TheVariants.{Confirm}
 use Rattle.letter_kinds.specs.declared.note.Note.{Note}
 use Rattle.letter_kinds.specs.Counting.{Amount, by_owner, given_back}
-use Rattle.letter_kinds.specs.Detector.{Detector, Token, all_acked, close_token, closed_set, has, heard, scanned, token_numbered}
+use Rattle.letter_kinds.specs.Detector.{Detector, Token, all_acked, close_token, closed_set, has, hear_note, after_scan, token_numbered}
 use Rattle.machine_rules.specs.Actors.{Actors, Seat, push_decs, push_letter, seat_at}
 use Rattle.event_rule.specs.Runs.{Step, NotEnabled, Goes}
 use Rattle.machine_rules.specs.State.{State}
@@ -13,7 +13,7 @@ use Rattle.machine_rules.specs.State.{State}
 
 abbrev pub hear : State → List Note → Step State
 hear s [] = NotEnabled
-hear s (note ∷ notes) = Goes (record s { detector = heard note s.detector; notes = notes })
+hear s (note ∷ notes) = Goes (record s { detector = hear_note note s.detector; notes = notes })
 
 -- ---- scan: where there is news, the largest closed set becomes a token, and its members are asked
 
@@ -25,7 +25,7 @@ ask_all (a ∷ members) token actors = ask_all members token (push_letter a (Con
 abbrev pub scan : State → Step State
 scan s =
     let closed = closed_set s.detector in
-    Goes (record s { actors = ask_all closed (suc s.detector.opened) s.actors; detector = scanned s.detector closed })
+    Goes (record s { actors = ask_all closed (suc s.detector.opened) s.actors; detector = after_scan s.detector closed })
 
 -- ---- reap: the members of a token that all acknowledged go, with all that they own
 
@@ -36,13 +36,13 @@ held_outside members (Some o) = given_back (λ x. has members (owner_of x)) o.ce
 
 -- of the set of members the rest go, one after another; then the Decs go out that return what each
 -- held outside of the set
-unfoldable pub reaped : List ℕ → List ℕ → List (ℕ × List Amount) → Actors → Actors
-reaped members [] decs actors = push_decs decs actors
-reaped members (a ∷ rest) decs actors = reaped members rest (decs ++ by_owner (held_outside members (seat_at actors a))) (set actors a None)
+unfoldable pub reap_in_turn : List ℕ → List ℕ → List (ℕ × List Amount) → Actors → Actors
+reap_in_turn members [] decs actors = push_decs decs actors
+reap_in_turn members (a ∷ rest) decs actors = reap_in_turn members rest (decs ++ by_owner (held_outside members (seat_at actors a))) (set actors a None)
 
 -- the members of a set go, and Decs return what they held outside of it
 abbrev pub reap_members : List ℕ → Actors → Actors
-reap_members members actors = reaped members members [] actors
+reap_members members actors = reap_in_turn members members [] actors
 
 -- the open token of this number, if all its members acknowledged
 abbrev pub acked_token : ℕ → Detector → Option Token

@@ -16,7 +16,7 @@ use Rattle.reach_walk.specs.Reach.{named_by}
 use Rattle.letter_kinds.specs.declared.letter.Letter.{Letter}
 use Rattle.letter_kinds.specs.declared.letter.Letter.TheVariants.{App, Inc}
 use Rattle.letter_kinds.specs.Holdings.{Holdings, held_in, row_of, with_made}
-use Rattle.letter_kinds.specs.Counting.{Amount, Loaded, gain, lacking, mint_all, send, to_mint}
+use Rattle.letter_kinds.specs.Counting.{Amount, Loaded, gain, lacking_of, mint_all, send, to_mint}
 use Rattle.machine_rules.specs.Actors.{Actors, Seat, push_letter, seat}
 use Rattle.machine_rules.specs.Cell.{Cell, fresh_cell, known_objects, listed_objects, row_by, row_by_roots}
 use Rattle.orca_names.specs.declared.trace.Trace.{Trace}
@@ -34,8 +34,8 @@ abbrev pub turn_of_cell : Trace → Program → ℕ → Cell → Frame → Stop
 turn_of_cell trace program a c frame = segment_of (setting_of trace program a c) frame c.fields
 
 -- the actor after a turn, with this frame
-abbrev pub turned : Stop → Option Frame → Bool → Cell → Cell
-turned stop frame dirty c = record c { fields = stop.turn.fields; frame = frame; dirty = dirty; holdings = with_made stop.turn.made c.holdings }
+abbrev pub cell_after_turn : Stop → Option Frame → Bool → Cell → Cell
+cell_after_turn stop frame dirty c = record c { fields = stop.turn.fields; frame = frame; dirty = dirty; holdings = with_made stop.turn.made c.holdings }
 
 -- what a letter counts: all that the arguments reach, as far as the actor knows; or what stands in them,
 -- and the owners of that
@@ -50,7 +50,7 @@ rows_from Roots me c args = load_of (row_by_roots me c) (listed_objects me c) ar
 
 -- what the actor lacks of a letter's load
 abbrev pub lacking_from : Trace → ℕ → Holdings → List Value → List Loaded
-lacking_from trace me h args = lacking me h (load_from trace me h args)
+lacking_from trace me h args = lacking_of me h (load_from trace me h args)
 
 -- ---- what a turn gets
 
@@ -100,15 +100,15 @@ post_or_mint s a before after mail stop to behaviour args load rows (e ∷ lacke
     record s { actors = mint a before mail (owner_of e.0) (to_mint s.options.weight (owner_of e.0) (e ∷ lacked)) s.actors }
 
 abbrev pub act_in : Trace → State → ℕ → Cell → List Letter → Frame → Stop → Act → Step State
-act_in trace s a c mail frame stop End = Goes (with_turn_kept s stop (set s.actors a (seat (turned stop None true c) mail)))
+act_in trace s a c mail frame stop End = Goes (with_turn_kept s stop (set s.actors a (seat (cell_after_turn stop None true c) mail)))
 act_in trace s a c mail frame stop (Print value) =
-    Goes (record (with_turn_kept s stop (set s.actors a (seat (turned stop (Some frame) c.dirty c) mail))) { prints = s.prints ++ value ∷ [] })
+    Goes (record (with_turn_kept s stop (set s.actors a (seat (cell_after_turn stop (Some frame) c.dirty c) mail))) { prints = s.prints ++ value ∷ [] })
 act_in trace s a c mail frame stop (New kind register) =
     if nat_lt (length s.actors) 65536
-    then Goes (with_turn_kept s stop (make s.options.weight a (turned stop (Some (with_name frame register (length s.actors))) c.dirty c) mail (fresh_cell s.options.weight s.program kind) s.actors))
+    then Goes (with_turn_kept s stop (make s.options.weight a (cell_after_turn stop (Some (with_name frame register (length s.actors))) c.dirty c) mail (fresh_cell s.options.weight s.program kind) s.actors))
     else IsFull
 act_in trace s a c mail frame stop (Post to behaviour args) =
-    let after = turned stop (Some frame) c.dirty c in
+    let after = cell_after_turn stop (Some frame) c.dirty c in
     Goes (post_or_mint s a c after mail stop to behaviour args (load_from trace a after.holdings args) (rows_from trace a after args) (lacking_from trace a after.holdings args))
 
 -- ---- the event

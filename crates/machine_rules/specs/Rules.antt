@@ -13,14 +13,14 @@ use Rattle.letter_kinds.specs.declared.letter.Letter.{Letter}
 use Rattle.letter_kinds.specs.declared.note.Note.{Note}
 use Rattle.letter_kinds.specs.declared.note.Note.TheVariants as notes
 use Rattle.letter_kinds.specs.Counting.{Loaded, to_mint}
-use Rattle.letter_kinds.specs.Detector.{Token, close_token, closed_set, heard, scanned}
+use Rattle.letter_kinds.specs.Detector.{Token, close_token, closed_set, hear_note, after_scan}
 use Rattle.plain_rules.specs.Machine.{stopped_at, with_name}
 use Rattle.machine_rules.specs.Actors.{Actors, seat, seat_at}
 use Rattle.machine_rules.specs.Block.{held_actors}
 use Rattle.machine_rules.specs.Cell.{Cell, fresh_cell}
-use Rattle.machine_rules.specs.Collect.{collected, is_marked, without_unused}
+use Rattle.machine_rules.specs.Collect.{after_collect, is_marked, without_unused}
 use Rattle.machine_rules.specs.Detect.{acked_token, ask_all, reap_members}
-use Rattle.machine_rules.specs.Go.{lacking_from, load_from, make, mint, needed, post, rows_from, to_need, turn_of_cell, turned, with_turn_kept}
+use Rattle.machine_rules.specs.Go.{lacking_from, load_from, make, mint, needed, post, rows_from, to_need, turn_of_cell, cell_after_turn, with_turn_kept}
 use Rattle.machine_rules.specs.Guards.{may_block, may_collect, may_leave}
 use Rattle.orca_names.specs.declared.trace.Trace.{Trace}
 use Rattle.machine_rules.specs.State.{State}
@@ -37,15 +37,15 @@ abbrev pub later_frame : Trace → State → ℕ → Cell → Frame → Frame
 later_frame trace s a c frame = stopped_at frame (stop_of trace s a c frame)
 
 -- the actor after the turn, where it stands in this frame
-abbrev pub kept_in : Trace → State → ℕ → Cell → Frame → Frame → Cell
-kept_in trace s a c frame later = turned (stop_of trace s a c frame) (Some later) c.dirty c
+abbrev pub cell_kept_in : Trace → State → ℕ → Cell → Frame → Frame → Cell
+cell_kept_in trace s a c frame later = cell_after_turn (stop_of trace s a c frame) (Some later) c.dirty c
 
-abbrev pub kept : Trace → State → ℕ → Cell → Frame → Cell
-kept trace s a c frame = kept_in trace s a c frame (later_frame trace s a c frame)
+abbrev pub cell_kept : Trace → State → ℕ → Cell → Frame → Cell
+cell_kept trace s a c frame = cell_kept_in trace s a c frame (later_frame trace s a c frame)
 
 -- the state after the turn, with these actors
-abbrev pub keeping : Trace → State → ℕ → Cell → Frame → Actors → State
-keeping trace s a c frame actors = with_turn_kept s (stop_of trace s a c frame) actors
+abbrev pub state_kept : Trace → State → ℕ → Cell → Frame → Actors → State
+state_kept trace s a c frame actors = with_turn_kept s (stop_of trace s a c frame) actors
 
 -- ---- when a rule applies
 
@@ -72,33 +72,33 @@ pub data IsStep (trace : Trace) (s : State) : Event → State → Type 0 where
       })
   -- a behaviour ends
   ends : (a : ℕ) (c : Cell) (mail : List Letter) (frame : Frame) → StopsAt trace s a c mail frame act.End
-      → IsStep trace s (Go a) (keeping trace s a c frame
-        (set s.actors a (seat (turned (stop_of trace s a c frame) None true c) mail)))
+      → IsStep trace s (Go a) (state_kept trace s a c frame
+        (set s.actors a (seat (cell_after_turn (stop_of trace s a c frame) None true c) mail)))
   -- it prints
   prints : (a : ℕ) (c : Cell) (mail : List Letter) (frame : Frame) (value : Value)
       → StopsAt trace s a c mail frame (act.Print value)
-      → IsStep trace s (Go a) (record (keeping trace s a c frame
-        (set s.actors a (seat (kept trace s a c frame) mail))) { prints = s.prints ++ value ∷ [] })
+      → IsStep trace s (Go a) (record (state_kept trace s a c frame
+        (set s.actors a (seat (cell_kept trace s a c frame) mail))) { prints = s.prints ++ value ∷ [] })
   -- it makes an actor, where there is room
   makes : (a : ℕ) (c : Cell) (mail : List Letter) (frame : Frame) (kind register : ℕ)
       → StopsAt trace s a c mail frame (act.New kind register) → length s.actors < 65536
-      → IsStep trace s (Go a) (keeping trace s a c frame
+      → IsStep trace s (Go a) (state_kept trace s a c frame
         (make s.options.weight a
-        (kept_in trace s a c frame (with_name (later_frame trace s a c frame) register (length s.actors)))
+        (cell_kept_in trace s a c frame (with_name (later_frame trace s a c frame) register (length s.actors)))
         mail (fresh_cell s.options.weight s.program kind) s.actors))
   -- it posts a letter, and lacks nothing of its load
   posts : (a : ℕ) (c : Cell) (mail : List Letter) (frame : Frame) (to behaviour : ℕ) (args : List Value)
       → StopsAt trace s a c mail frame (act.Post to behaviour args)
-      → lacking_from trace a (kept trace s a c frame).holdings args ≡ []
-      → IsStep trace s (Go a) (keeping trace s a c frame
-        (post a (kept trace s a c frame) mail to behaviour args
-        (load_from trace a (kept trace s a c frame).holdings args)
-        (rows_from trace a (kept trace s a c frame) args) s.actors))
+      → lacking_from trace a (cell_kept trace s a c frame).holdings args ≡ []
+      → IsStep trace s (Go a) (state_kept trace s a c frame
+        (post a (cell_kept trace s a c frame) mail to behaviour args
+        (load_from trace a (cell_kept trace s a c frame).holdings args)
+        (rows_from trace a (cell_kept trace s a c frame) args) s.actors))
   -- it mints for what it lacks of a load; nothing of the turn is kept
   mints : (a : ℕ) (c : Cell) (mail : List Letter) (frame : Frame) (to behaviour : ℕ) (args : List Value)
       (e : Loaded) (lacked : List Loaded)
       → StopsAt trace s a c mail frame (act.Post to behaviour args)
-      → lacking_from trace a (kept trace s a c frame).holdings args ≡ e ∷ lacked
+      → lacking_from trace a (cell_kept trace s a c frame).holdings args ≡ e ∷ lacked
       → IsStep trace s (Go a) (record s {
         actors = mint a c mail (owner_of e.0) (to_mint s.options.weight (owner_of e.0) (e ∷ lacked)) s.actors;
       })
@@ -112,7 +112,7 @@ pub data IsStep (trace : Trace) (s : State) : Event → State → Type 0 where
   collects : (a : ℕ) (c : Cell) (mail : List Letter)
       → seat_at s.actors a ≡ seat c mail → may_collect c mail ≡ true
       → IsStep trace s (Collect a) (record s {
-        actors = collected (is_marked trace a c) a (without_unused trace a c) mail s.actors;
+        actors = after_collect (is_marked trace a c) a (without_unused trace a c) mail s.actors;
       })
   -- an actor that nobody holds goes
   leaves : (a : ℕ) (c : Cell) (mail : List Letter)
@@ -127,12 +127,12 @@ pub data IsStep (trace : Trace) (s : State) : Event → State → Type 0 where
       })
   -- the detector takes the first of its notes
   hears : (note : Note) (later : List Note) → s.notes ≡ note ∷ later
-      → IsStep trace s Hear (record s { detector = heard note s.detector; notes = later })
+      → IsStep trace s Hear (record s { detector = hear_note note s.detector; notes = later })
   -- where there is news, the largest closed set becomes a token, and its members are asked
   scans : s.detector.news ≡ true
       → IsStep trace s Scan (record s {
         actors = ask_all (closed_set s.detector) (suc s.detector.opened) s.actors;
-        detector = scanned s.detector (closed_set s.detector);
+        detector = after_scan s.detector (closed_set s.detector);
       })
   -- the members of a token that all acknowledged go
   reaps : (number : ℕ) (token : Token) → acked_token number s.detector ≡ Some token

@@ -1,10 +1,13 @@
 // A `Vec`, seen as the list of its elements.
 
 ghost use Rattle.std.specs.Prelude.{◌≡◌, ◌++◌, ◌∷◌, [], length, take, slice_get, OnOk, OnErr};
+ghost use Rattle.std.specs.Cmp.Lexicographic.{lists_equiv, lists_per, pointwise};
+ghost use Rattle.std.specs.List.{AllZip};
 ghost use Rattle.std.specs.Option.{option_copied};
 
 use std::alloc::{AllocError, Global};
 use std::marker::Model;
+use std::ops::DerefSlice;
 
 /// A `Vec` that contracts see as the list of its elements.
 #[derive(Debug, Drop)]
@@ -31,13 +34,6 @@ impl<T> Listed<T> {
         Listed {
             items: Vec::new(alloc),
         }
-    }
-
-    /// The list of a `Vec`, which it keeps. It takes no memory.
-    pub fn of(items: Vec<T>) -> Listed<T>
-        ensures { result ≡ items.items }
-    {
-        Listed { items }
     }
 
     /// The number of elements.
@@ -88,4 +84,48 @@ impl<T: Copy> Listed<T> {
     {
         self.items.extend_from_slice(items)
     }
+}
+
+/// The list of a `Vec`, which it keeps. It takes no memory.
+impl<T> From<Vec<T>> for Listed<T> {
+    ghost from_gives = { λ v l. l ≡ v.items };
+
+    fn from(items: Vec<T>) -> Listed<T> {
+        Listed { items }
+    }
+}
+
+/// The elements as a slice, with all that slices can do.
+impl<T> DerefSlice for Listed<T> {
+    type Elem = T;
+
+    ghost deref_gives = { λ l xs. xs ≡ l };
+
+    fn deref(&self) -> &[T] {
+        self.items.as_slice()
+    }
+}
+
+impl<T: Clone> Clone for Listed<T> {
+    ghost is_clone = { AllZip T.is_clone };
+
+    fn clone(&self) -> Result<Listed<T>, AllocError> {
+        Ok(Listed {
+            items: self.items.clone()?,
+        })
+    }
+}
+
+impl<T: PartialEq> PartialEq for Listed<T> {
+    ghost eq = { pointwise T.eq };
+
+    ghost laws = { lists_per T.laws };
+
+    fn eq(&self, other: &Listed<T>) -> bool {
+        self.items == other.items
+    }
+}
+
+impl<T: Eq> Eq for Listed<T> {
+    ghost laws = { lists_equiv T.Eq.laws };
 }

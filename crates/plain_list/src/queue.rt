@@ -1,9 +1,13 @@
 // A `VecDeque`, seen as the list of its elements.
 
-ghost use Rattle.std.specs.Prelude.{◌≡◌, ◌<◌, ◌↔◌, ◌++◌, ◌∷◌, [], drop, length, slice_get, IsTrue, Some, IfSome, IfNone, OnOk, OnErr};
+ghost use Rattle.std.specs.Prelude.{◌≡◌, ◌↔◌, ◌++◌, ◌∷◌, [], drop, length, slice_get, IsTrue, OnOk, OnErr};
+ghost use Rattle.std.specs.Iterator.Runs.{YieldsRefsInOrder};
+ghost use Rattle.std.specs.Option.{option_copied};
+ghost use Rattle.std.specs.VecDeque.Iter.{deque_iter_rest, deque_iter_steps};
 
 use std::alloc::{AllocError, Global};
 use std::collections::VecDeque;
+use std::collections::vec_deque::Iter;
 use std::marker::Model;
 
 /// A list that is filled at its end and emptied at its front, seen by contracts as that list.
@@ -40,14 +44,6 @@ impl<T> Queue<T> {
         self.items.len()
     }
 
-    /// The element at a place, counted from 0 at the front.
-    pub fn at(&self, i: usize) -> &T
-        requires { i < length self.now }
-        ensures { slice_get self.now i ≡ Some result.now }
-    {
-        &self.items[i]
-    }
-
     /// Whether there is no element.
     pub fn is_empty(&self) -> bool
         ensures { IsTrue result ↔ (self.now ≡ []) }
@@ -55,12 +51,19 @@ impl<T> Queue<T> {
         self.items.is_empty()
     }
 
-    /// The first element, which leaves the queue; `None` exactly where there is none.
-    pub fn pop(&mut self) -> Option<T>
-        ensures some { IfSome result (λ first. self.old ≡ first ∷ self.new) }
-        ensures none { IfNone result ((self.old ≡ []) × (self.new ≡ [])) }
+    /// The first element, or `None` where there is none.
+    pub fn front(&self) -> Option<&T>
+        ensures { option_copied result ≡ slice_get self.now 0 }
     {
-        self.items.pop_front()
+        self.items.front()
+    }
+
+    /// The elements, from the front on.
+    pub fn iter(&self) -> Iter<'_, T>
+        ensures rest { deque_iter_rest result ≡ self.now }
+        ensures runs { YieldsRefsInOrder (deque_iter_steps {X = T}) deque_iter_rest }
+    {
+        self.items.iter()
     }
 }
 
@@ -73,7 +76,7 @@ impl<T: Drop> Queue<T> {
     }
 
     /// One element more, at the end. Where memory is refused, the queue stays as it was.
-    pub fn push(&mut self, item: T) -> Result<(), AllocError>
+    pub fn push_back(&mut self, item: T) -> Result<(), AllocError>
         ensures ok { OnOk result (self.new ≡ self.old ++ item ∷ []) }
         ensures err { OnErr result (self.new ≡ self.old) }
     {

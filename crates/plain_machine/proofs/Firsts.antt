@@ -19,7 +19,7 @@ use Rattle.plain_rules.specs.declared.PlainActor.{PlainActor}
 use Rattle.plain_rules.specs.declared.PlainLetter.{PlainLetter}
 use Rattle.event_rule.specs.Runs.{Step, NotEnabled, IsFull, Goes, IsEnabled, IsFirst, IsQuiet}
 use Rattle.plain_rules.specs.Run.{plain_next}
-use Rattle.plain_rules.specs.Machine.{PlainState, after_act, after_letter, after_turn, fresh_actor, next_state, plain_go, plain_take, stopped_at, taken, turn_of_actor, with_name, with_turn}
+use Rattle.plain_rules.specs.Machine.{PlainState, after_act, after_letter, after_turn, fresh_actor, next_state, plain_go, plain_take, stopped_at, actor_after_take, turn_of_actor, with_name, with_turn}
 use Rattle.plain_machine.specs.First.{ComesFirst, IsIdle, event_of, event_with}
 
 -- an actor of the table can do the event
@@ -42,9 +42,9 @@ plain_go-at : (s : PlainState) (a : ℕ) (found : Option PlainActor) → slice_g
 unfolding gone
 plain_go-at s a found e = ap (λ (o : Option PlainActor). option_map_or (λ x. option_map_or (λ f. after_turn s a f (turn_of_actor s a x f)) x.frame NotEnabled) o NotEnabled) e
 
-plain_take-at : (s : PlainState) (a : ℕ) (found : Option PlainActor) → slice_get s.actors a ≡ found → plain_take s a ≡ took s a (option_and_then (taken s.program) found)
+plain_take-at : (s : PlainState) (a : ℕ) (found : Option PlainActor) → slice_get s.actors a ≡ found → plain_take s a ≡ took s a (option_and_then (actor_after_take s.program) found)
 unfolding took
-plain_take-at s a found e = ap (λ (o : Option PlainActor). option_map_or (λ x. Goes (next_state s (slice_set s.actors a x) s.prints)) (option_and_then (taken s.program) o) NotEnabled) e
+plain_take-at s a found e = ap (λ (o : Option PlainActor). option_map_or (λ x. Goes (next_state s (slice_set s.actors a x) s.prints)) (option_and_then (actor_after_take s.program) o) NotEnabled) e
 
 going : (s : PlainState) (a : ℕ) → IsEnabled plain_next s (Go a) → CanDo s (Go a)
 unfolding gone

@@ -1,4 +1,3 @@
-pub mod Arguments
 pub mod Firsts
 pub mod Going
 pub mod Indexing

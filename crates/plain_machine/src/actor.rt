@@ -4,7 +4,7 @@ ghost use Rattle.std.specs.Prelude.{◌≡◌, ◌<◌, ◌≤◌, length, Some,
 ghost use Rattle.std.specs.Bool.{OnTrue, OnFalse};
 ghost use Rattle.behaviour_code.specs.Good.{ProgramIsGood};
 ghost use Rattle.behaviour_code.specs.Find.{behaviours_of, takes_call};
-ghost use Rattle.plain_rules.specs.Machine.{taken, frame_of, fresh_actor, first_actor as the_first};
+ghost use Rattle.plain_rules.specs.Machine.{actor_after_take, frame_of, fresh_actor, first_actor as the_first};
 
 use behaviour_code::{Behaviour, Program};
 use plain_rules::{PlainActor, PlainLetter};
@@ -38,7 +38,7 @@ pub(crate) fn first_actor(alloc: Global, program: &Program) -> Result<PlainActor
 {
     let mut actor = fresh_actor(alloc, program, 0);
     if let Some(behaviour) = program.start_name() {
-        actor.letters.push(PlainLetter {
+        actor.letters.push_back(PlainLetter {
             behaviour,
             args: Args::new(),
         })?;
@@ -69,13 +69,16 @@ fn start_frame(program: &Program, kind: u32, letter: &PlainLetter, frame: &mut F
 /// Takes the first letter, where there is one and no frame.
 pub(crate) fn take_letter(program: &Program, actor: &mut PlainActor) -> bool
     requires { length (behaviours_of program.now actor.old.kind) ≤ 64 }
-    ensures done { OnTrue result (taken program.now actor.old ≡ Some actor.new) }
-    ensures not_ready { OnFalse result ((taken program.now actor.old ≡ None) × (actor.new ≡ actor.old)) }
+    ensures done { OnTrue result (actor_after_take program.now actor.old ≡ Some actor.new) }
+    ensures not_ready { OnFalse result ((actor_after_take program.now actor.old ≡ None) × (actor.new ≡ actor.old)) }
 {
-    if actor.frame.is_some() || actor.letters.is_empty() {
+    if actor.frame.is_some() {
         return false;
     }
-    start_frame(program, actor.kind, actor.letters.at(0), &mut actor.frame);
+    let Some(letter) = actor.letters.front() else {
+        return false;
+    };
+    start_frame(program, actor.kind, letter, &mut actor.frame);
     actor.letters.drop_first();
     true
 }

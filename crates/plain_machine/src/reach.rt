@@ -87,8 +87,8 @@ fn push_values(actor: &PlainActor, found: &mut Vec<Value>) -> Result<(), NoMemor
 fn push_arguments(letters: &Queue<PlainLetter>, found: &mut Vec<Value>) -> Result<(), NoMemory>
     ensures { OnOk result (found.new.items ≡ found.old.items ++ flat_map (λ l. l.args) letters.now) }
 {
-    for i in 0..letters.len() {
-        push_all(letters.at(i).args.as_slice(), found)?;
+    for letter in letters.iter() {
+        push_all(letter.args.as_slice(), found)?;
     }
     Ok(())
 }

@@ -223,7 +223,7 @@ impl Table {
         let place = to.0 as usize;
         if place < self.actors.len() {
             let actor = &mut self.actors[place];
-            actor.letters.push(letter)?;
+            actor.letters.push_back(letter)?;
             self.ready.put(to.0, can_act(actor));
         }
         Ok(())

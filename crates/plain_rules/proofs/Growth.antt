@@ -16,7 +16,7 @@ use Rattle.turn_rules.proofs.Bounds.{segment_makes}
 use Rattle.plain_rules.specs.declared.PlainActor.{PlainActor}
 use Rattle.plain_rules.specs.declared.PlainLetter.{PlainLetter}
 use Rattle.event_rule.specs.Runs.{Step, NotEnabled, IsFull, Goes}
-use Rattle.plain_rules.specs.Machine.{PlainState, after_act, after_letter, after_turn, fresh_actor, frame_of, next_state, objects_made, plain_go, plain_row, plain_take, stopped_at, taken, turn_of_actor, with_letter, with_name, with_turn}
+use Rattle.plain_rules.specs.Machine.{PlainState, after_act, after_letter, after_turn, fresh_actor, frame_of, next_state, objects_made, plain_go, plain_row, plain_take, stopped_at, actor_after_take, turn_of_actor, with_letter, with_name, with_turn}
 use Rattle.plain_rules.specs.Limits.{IsWithinLimits, OnGoes}
 use Rattle.plain_rules.proofs.Changing.{changing_makes, length-with_changed}
 
@@ -103,7 +103,7 @@ plain_take_is_within s a within = of_actor (slice_get s.actors a) refl
     took : PlainActor → Step PlainState
     took y = Goes (next_state s (set s.actors a y) s.prints)
 
-    of_taken : (x : PlainActor) → slice_get s.actors a ≡ Some x → (result : Option PlainActor) → taken s.program x ≡ result → OnGoes IsWithinLimits (option_map_or took result NotEnabled)
+    of_taken : (x : PlainActor) → slice_get s.actors a ≡ Some x → (result : Option PlainActor) → actor_after_take s.program x ≡ result → OnGoes IsWithinLimits (option_map_or took result NotEnabled)
     of_taken x there None e = tt
     of_taken x there (Some y) e =
         next_is_within s (set s.actors a y) s.prints within (omega (arith, within.actors, length-set s.actors a y))
@@ -114,6 +114,6 @@ plain_take_is_within s a within = of_actor (slice_get s.actors a) refl
           ap length (taking_keeps_rows s.program x y x.frame x.letters e),
         ))
 
-    of_actor : (found : Option PlainActor) → slice_get s.actors a ≡ found → OnGoes IsWithinLimits (option_map_or took (option_and_then (taken s.program) found) NotEnabled)
+    of_actor : (found : Option PlainActor) → slice_get s.actors a ≡ found → OnGoes IsWithinLimits (option_map_or took (option_and_then (actor_after_take s.program) found) NotEnabled)
     of_actor None e = tt
-    of_actor (Some x) e = of_taken x e (taken s.program x) refl
+    of_actor (Some x) e = of_taken x e (actor_after_take s.program x) refl

@@ -11,7 +11,7 @@ use Rattle.turn_rules.specs.declared.act.Frame.{Frame}
 use Rattle.plain_rules.specs.declared.PlainActor.{PlainActor}
 use Rattle.event_rule.specs.Runs.{Step, NotEnabled, IsFull, Goes, IsFirst, LeadsInOrder}
 use Rattle.plain_rules.specs.Run.{plain_next}
-use Rattle.plain_rules.specs.Machine.{PlainState, after_act, after_turn, fresh_actor, next_state, plain_go, plain_take, stopped_at, taken, turn_of_actor, with_name, with_turn}
+use Rattle.plain_rules.specs.Machine.{PlainState, after_act, after_turn, fresh_actor, next_state, plain_go, plain_take, stopped_at, actor_after_take, turn_of_actor, with_name, with_turn}
 use Rattle.plain_rules.specs.Limits.{OnGoes}
 
 pub run_goes_on : (s t u : PlainState) (book : List Event) (e : Event) → LeadsInOrder plain_next s book t → IsFirst plain_next t e → plain_next t e ≡ Goes u →
@@ -56,7 +56,7 @@ go_is_next s a = of_actor (slice_get s.actors a)
     of_actor (Some x) = of_frame x x.frame
 
 take_is_next : (s : PlainState) (a : ℕ) → OnGoes (IsNext s) (plain_take s a)
-take_is_next s a = cases (option_and_then (taken s.program) (slice_get s.actors a))
+take_is_next s a = cases (option_and_then (actor_after_take s.program) (slice_get s.actors a))
   where
     cases : (found : Option PlainActor) → OnGoes (IsNext s) (option_map_or (λ x. Goes (next_state s (slice_set s.actors a x) s.prints)) found NotEnabled)
     cases None = tt

@@ -75,8 +75,8 @@ after_letter program x (Some frame) letters = None
 after_letter program x None [] = None
 after_letter program x None (letter ∷ letters) = Some (record x { frame = frame_of program x.kind letter; letters = letters })
 
-abbrev pub taken : Program → PlainActor → Option PlainActor
-taken program x = after_letter program x x.frame x.letters
+abbrev pub actor_after_take : Program → PlainActor → Option PlainActor
+actor_after_take program x = after_letter program x x.frame x.letters
 
 abbrev pub next_state : PlainState → List PlainActor → List Value → PlainState
 next_state s actors prints = record { program = s.program; actors = actors; prints = prints; steps = s.steps + 1 }
@@ -84,7 +84,7 @@ next_state s actors prints = record { program = s.program; actors = actors; prin
 abbrev pub plain_take : PlainState → ℕ → Step PlainState
 plain_take s a =
     option_map_or (λ x. Goes (next_state s (slice_set s.actors a x) s.prints))
-    (option_and_then (taken s.program) (slice_get s.actors a)) NotEnabled
+    (option_and_then (actor_after_take s.program) (slice_get s.actors a)) NotEnabled
 
 -- ---- go: an actor's frame runs up to its next act
 

@@ -13,7 +13,7 @@ use Rattle.behaviour_code.specs.declared.code.Program.{Program}
 use Rattle.behaviour_text.specs.Faults.{first_fault}
 use Rattle.behaviour_text.specs.Text.{IsText}
 use Rattle.behaviour_text.proofs.Again.{again, no_fault_read}
-use Rattle.behaviour_check.specs.Rules.{broken, first_broken}
+use Rattle.behaviour_check.specs.Rules.{fault_at, first_broken}
 use Rattle.behaviour_check.specs.declared.checked.CheckFault.{CheckFault}
 use Rattle.plain_rules.specs.Machine.{PlainState}
 use Rattle.pony_run.specs.Causes.{Causes, IsGiven, IsProgramOf, IsUnlessMemory, OrderCauses}
@@ -112,14 +112,14 @@ module _ (order : Order) (source : Sides) (answer : Status) (w : Work) (all : (a
   ]
 
   when_bad_program : (input : List ℕ) (program : Program) (kind behaviour step rule : ℕ) → IsGiven source input → (HasFailed source → ⊥) → IsProgramOf input program →
-      first_broken program ≡ Some (broken kind behaviour step rule) → IsUnlessMemory answer (status.BadProgram kind behaviour step rule)
+      first_broken program ≡ Some (fault_at kind behaviour step rule) → IsUnlessMemory answer (status.BadProgram kind behaviour step rule)
   when_bad_program input program kind behaviour step rule given sound is fault =
       elim (to_program input program given sound is) as (λ _. IsUnlessMemory answer (status.BadProgram kind behaviour step rule)) [
         | inl none ↦ inr none
         | inr means ↦ elim (open_program answer w order program means) as (λ _. IsUnlessMemory answer (status.BadProgram kind behaviour step rule)) [
           | inl h ↦
-              let both : ◌≡◌ {A = Option CheckFault} (Some (broken h.0 h.1 h.2 h.3)) (Some (broken kind behaviour step rule)) = sym h.5.first ∙ fault in
-              let same : broken h.0 h.1 h.2 h.3 ≡ broken kind behaviour step rule = cc in
+              let both : ◌≡◌ {A = Option CheckFault} (Some (fault_at h.0 h.1 h.2 h.3)) (Some (fault_at kind behaviour step rule)) = sym h.5.first ∙ fault in
+              let same : fault_at h.0 h.1 h.2 h.3 ≡ fault_at kind behaviour step rule = cc in
               inl (h.4 ∙ ap (λ (f : CheckFault). status.BadProgram f.kind f.behaviour f.step f.rule) same)
           | inr rest ↦ elim rest as (λ _. IsUnlessMemory answer (status.BadProgram kind behaviour step rule)) [
             | inl none ↦ inr none

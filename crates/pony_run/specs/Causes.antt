@@ -12,7 +12,7 @@ use Rattle.behaviour_code.specs.Good.{ProgramIsGood}
 use Rattle.behaviour_code.specs.declared.code.Program.{Program}
 use Rattle.behaviour_text.specs.Faults.{first_fault}
 use Rattle.behaviour_text.specs.Text.{IsText}
-use Rattle.behaviour_check.specs.Rules.{broken, first_broken}
+use Rattle.behaviour_check.specs.Rules.{fault_at, first_broken}
 use Rattle.plain_rules.specs.Machine.{PlainState}
 use Rattle.pony_run.specs.Ends.{EndsWith, RunsTo}
 use Rattle.pony_run.specs.Streams.{CountsFault, CountsNoFault, HasFailed, Sides, most_bytes}
@@ -40,7 +40,7 @@ pub record ComesOnly (order : Order) (source sink : Sides) (answer : Status) (bo
   pub too_long : (input : List ℕ) → IsGiven source input → answer ≡ status.TooLong → length input ≡ most_bytes
   pub bad_text : (input : List ℕ) (line kind : ℕ) → IsGiven source input → answer ≡ status.BadText line kind → first_fault input ≡ Some (line, kind)
   pub bad_program : (input : List ℕ) (program : Program) (kind behaviour step rule : ℕ) → IsGiven source input → IsProgramOf input program →
-      answer ≡ status.BadProgram kind behaviour step rule → first_broken program ≡ Some (broken kind behaviour step rule)
+      answer ≡ status.BadProgram kind behaviour step rule → first_broken program ≡ Some (fault_at kind behaviour step rule)
   pub end : (input : List ℕ) (program : Program) → IsGiven source input → IsProgramOf input program → IsEnd answer →
       (state : PlainState) × RunsTo program order.budget book state × EndsWith answer state book order.budget
   -- a run's end comes only where no read and no write failed
@@ -54,7 +54,7 @@ pub record ComesWherever (source sink : Sides) (answer : Status) : Type 0 where
   pub bad_text : (input : List ℕ) (line kind : ℕ) → IsGiven source input → (HasFailed source → ⊥) → length input < most_bytes →
       first_fault input ≡ Some (line, kind) → IsUnlessMemory answer (status.BadText line kind)
   pub bad_program : (input : List ℕ) (program : Program) (kind behaviour step rule : ℕ) → IsGiven source input → (HasFailed source → ⊥) → IsProgramOf input program →
-      first_broken program ≡ Some (broken kind behaviour step rule) → IsUnlessMemory answer (status.BadProgram kind behaviour step rule)
+      first_broken program ≡ Some (fault_at kind behaviour step rule) → IsUnlessMemory answer (status.BadProgram kind behaviour step rule)
   pub end : (input : List ℕ) (program : Program) → IsGiven source input → (HasFailed source → ⊥) → (HasFailed sink → ⊥) → IsProgramOf input program →
       first_broken program ≡ None → IsEnd answer ⊎ (answer ≡ status.NoMemory)
   -- where the sink failed, it was at a report, or at the line of a refusal, which stands

@@ -17,7 +17,7 @@ use Rattle.behaviour_code.specs.Good.{ProgramIsGood}
 use Rattle.behaviour_code.specs.declared.code.Program.{Program}
 use Rattle.behaviour_text.specs.Faults.{first_fault}
 use Rattle.behaviour_text.specs.Text.{IsText}
-use Rattle.behaviour_check.specs.Rules.{broken, first_broken}
+use Rattle.behaviour_check.specs.Rules.{fault_at, first_broken}
 use Rattle.plain_rules.specs.Machine.{PlainState}
 use Rattle.pony_run.specs.Ends.{EndsWith, IsReport, RunsTo}
 use Rattle.pony_run.specs.Streams.{CountsNoFault, HasFailed, IsUntouched, Sides, TakesAll, TakesPart, most_bytes}
@@ -91,7 +91,7 @@ MeansRun other w order program = ⊥
 -- ---- the rules of the program
 
 pub record BadProgram (kind behaviour step rule : ℕ) (w : Work) (program : Program) : Type 0 where
-  pub first : first_broken program ≡ Some (broken kind behaviour step rule)
+  pub first : first_broken program ≡ Some (fault_at kind behaviour step rule)
   pub refused : IsRefused w (status.BadProgram kind behaviour step rule)
 
 pub record HasChecked (answer : Status) (w : Work) (order : Order) (program : Program) : Type 0 where

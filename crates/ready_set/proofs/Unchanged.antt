@@ -1,5 +1,5 @@
 -- Writing what stands there changes nothing.
-use Rattle.std.proofs.Common.{◌≡◌, ℕ, zero, suc, Bool, true, false, List, [], ◌∷◌, Some, None, slice_get, set, refl, ap, sym}
+use Rattle.std.proofs.Common.{◌≡◌, ℕ, zero, suc, Bool, true, false, List, [], ◌∷◌, Some, slice_get, set, refl, ap}
 use Rattle.std.proofs.Math.Bool.{beq, not}
 
 pub set_what_is_there : (xs : List Bool) (a : ℕ) (on : Bool) → slice_get xs a ≡ Some on → set xs a on ≡ xs

@@ -82,19 +82,19 @@ impl ReadySet {
     }
 
     /// Whether the number is in the set.
-    pub fn has(&self, a: u32) -> bool
+    pub fn contains(&self, a: u32) -> bool
         requires { a < length self.now }
         ensures { slice_get self.now a ≡ Some result }
     {
         has_bit(self.words[(a / 64) as usize], a % 64)
     }
 
-    /// Puts the number into the set, or takes it out. It takes no memory.
+    /// Puts the number into the set where it is `on`, else takes it out. It takes no memory.
     pub fn put(&mut self, a: u32, on: bool)
         requires { a < length self.old }
         ensures { self.new ≡ slice_set self.old a on }
     {
-        if self.has(a) != on {
+        if self.contains(a) != on {
             self.change(a, on);
         }
     }

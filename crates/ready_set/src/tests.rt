@@ -30,7 +30,7 @@ fn the_least_is_found(rt: HostRuntime) -> Result<(), Fail> {
     for (a, on, first) in steps {
         assert!(rt; (a as usize) < set.len());
         set.put(a, on);
-        assert_eq!(rt; (set.has(a), set.first()), (on, first));
+        assert_eq!(rt; (set.contains(a), set.first()), (on, first));
     }
     Ok(())
 }

@@ -95,7 +95,7 @@ fn counts_of_what_is_left(rt: HostRuntime) -> Result<(), Fail> {
         sums(Thing::Actor(ActorName(1)), 256, 256, 0),
     ];
     let tally = Tally {
-        sums: Listed::of(lines.to_vec(alloc)?),
+        sums: Listed::from(lines.to_vec(alloc)?),
     };
     let two = Numbers { made: 2, left: 2 };
     let bytes = report(alloc, &Status::Budget, &[], two, two, Some(&tally), None)?;

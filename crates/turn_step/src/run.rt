@@ -1,7 +1,6 @@
 // A turn in place, up to its next act.
 
 ghost use Rattle.std.specs.Prelude.{◌≡◌, ◌+◌, ◌≤◌, length, drop, None, IfOk, OnOk};
-ghost use Rattle.behaviour_code.specs.Find.{is_label};
 ghost use Rattle.turn_rules.specs.Segment.{gets_from, run_from, segment_of};
 ghost use Rattle.turn_step.specs.Held.{first_needed, needed_in};
 ghost use Rattle.turn_step.specs.Turns.{HaltsAt, act_of, place_after, setting_of};
@@ -15,15 +14,6 @@ use behaviour_code::{Instr, Name};
 use orca_names::{Fields, HeldTest, NoMemory, RowReader};
 use turn_rules::Frame;
 
-fn is_label(instr: &Instr, name: Name) -> bool
-    ensures { result ≡ is_label name instr.now }
-{
-    match instr {
-        Instr::Label(label) => *label == name,
-        _ => false,
-    }
-}
-
 /// The place behind the next label of this name, or behind the body.
 fn after_label(body: &[Instr], from: usize, name: Name) -> usize
     requires { from ≤ length body.now }
@@ -34,7 +24,7 @@ fn after_label(body: &[Instr], from: usize, name: Name) -> usize
     let mut at = from;
     while at < body.len() {
         at += 1;
-        if is_label(&body[at - 1], name) {
+        if body[at - 1].is_label(name) {
             return at;
         }
     }

@@ -78,12 +78,12 @@ fn program(alloc: Global, body: Vec<Instr>) -> Result<Program, AllocError>
     let behaviour = Behaviour {
         name: start,
         parameters: 0,
-        body: Listed::of(body),
+        body: Listed::from(body),
     };
     let first = Kind {
         name: main,
         fields: 2,
-        behaviours: Listed::of(vec![in alloc; behaviour]?),
+        behaviours: Listed::from(vec![in alloc; behaviour]?),
     };
     let second = Kind {
         name: start,
@@ -91,7 +91,7 @@ fn program(alloc: Global, body: Vec<Instr>) -> Result<Program, AllocError>
         behaviours: Listed::new(alloc),
     };
     Ok(Program {
-        kinds: Listed::of(vec![in alloc; first, second]?),
+        kinds: Listed::from(vec![in alloc; first, second]?),
         names,
     })
 }

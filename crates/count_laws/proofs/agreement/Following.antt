@@ -22,7 +22,7 @@ use Rattle.count_laws.specs.Agreement.{Person, app_letters, people_of, person_of
 use Rattle.machine_rules.specs.Cell.{Cell}
 use Rattle.count_laws.specs.Facts.{Facts, KeepsCounts}
 use Rattle.event_rule.specs.Runs.{Step, Goes, NotEnabled}
-use Rattle.plain_rules.specs.Machine.{PlainState, after_letter, frame_of, next_state, plain_row, plain_take, taken}
+use Rattle.plain_rules.specs.Machine.{PlainState, after_letter, frame_of, next_state, plain_row, plain_take, actor_after_take}
 use Rattle.machine_rules.specs.Run.{starts_with_app}
 use Rattle.machine_rules.specs.State.{State}
 use Rattle.machine_rules.specs.Take.{cell_after, note_of, notes_after}
@@ -42,7 +42,7 @@ same_person x y k f r l n i = record { kind = k i; fields = f i; frame = r i; le
 took : (p : PlainState) (a : ℕ) (x : PlainActor) (l : PlainLetter) (ls : List PlainLetter) → slice_get p.actors a ≡ Some x → x.frame ≡ None → x.letters ≡ l ∷ ls
     → plain_take p a ≡ Goes (next_state p (set p.actors a (record x { frame = frame_of p.program x.kind l; letters = ls })) p.prints)
 took p a x l ls there idle mail =
-    ap (λ found. option_map_or after (option_and_then (taken p.program) found) NotEnabled) there
+    ap (λ found. option_map_or after (option_and_then (actor_after_take p.program) found) NotEnabled) there
     ∙ ap (λ f. option_map_or after (after_letter p.program x f x.letters) NotEnabled) idle
     ∙ ap (λ m. option_map_or after (after_letter p.program x None m) NotEnabled) mail
   where

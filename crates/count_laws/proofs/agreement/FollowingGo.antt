@@ -15,7 +15,7 @@ use Rattle.turn_rules.specs.Segment.{Stop, segment_of}
 use Rattle.turn_rules.specs.declared.act.Act.{Act}
 use Rattle.turn_rules.specs.declared.act.Act.TheVariants.{End, New, Post, Print}
 use Rattle.turn_rules.specs.declared.act.Frame.{Frame}
-use Rattle.letter_kinds.specs.Counting.{Loaded, gain, lacking, send, to_mint}
+use Rattle.letter_kinds.specs.Counting.{Loaded, gain, lacking_of, send, to_mint}
 use Rattle.letter_kinds.specs.Holdings.{Row, held_in, with_made}
 use Rattle.letter_kinds.specs.Sums.{amount_of, times_loaded}
 use Rattle.letter_kinds.specs.declared.letter.Letter.{Letter}
@@ -37,7 +37,7 @@ use Rattle.machine_rules.specs.Actors.{Actors, push_letter, seat, seat_at}
 use Rattle.count_laws.specs.Agreement.{Person, people_of, person_at, person_of, person_of_plain}
 use Rattle.machine_rules.specs.Cell.{Cell, fresh_cell}
 use Rattle.count_laws.specs.Facts.{Facts, KeepsCounts}
-use Rattle.machine_rules.specs.Go.{act_in, load_from, make, mint, needed, needing, post, post_or_mint, rows_from, turn_of_cell, turned, with_turn_kept, lacking_from, to_need}
+use Rattle.machine_rules.specs.Go.{act_in, load_from, make, mint, needed, needing, post, post_or_mint, rows_from, turn_of_cell, cell_after_turn, with_turn_kept, lacking_from, to_need}
 use Rattle.orca_names.specs.declared.trace.Trace.{Trace}
 use Rattle.count_laws.specs.Known.{InFrame, IsKnown, Names, Roots, in_fields, in_frame, in_table}
 use Rattle.plain_list.specs.Lists.{is_empty}
@@ -119,8 +119,8 @@ module _ (trace : Trace) (p : PlainState) (s : State) (facts : Facts trace p s) 
   grows : Grows all all' a c.holdings.next stop.turn.made
   grows = subst (λ base. Grows all all' a base stop.turn.made) serial (rows_grow p.actors a x beside.there (y None) stop.turn.made refl)
 
-  same_y : (nf : Option Frame) (nd : Bool) → person_of_plain (y nf) ≡ person_of (turned stop nf nd c) ls
-  same_y nf nd = same_person (person_of_plain (y nf)) (person_of (turned stop nf nd c) ls) (ap (λ (q : Person). q.kind) beside.same) refl refl (ap (λ (q : Person). q.letters) beside.same)
+  same_y : (nf : Option Frame) (nd : Bool) → person_of_plain (y nf) ≡ person_of (cell_after_turn stop nf nd c) ls
+  same_y nf nd = same_person (person_of_plain (y nf)) (person_of (cell_after_turn stop nf nd c) ls) (ap (λ (q : Person). q.kind) beside.same) refl refl (ap (λ (q : Person). q.letters) beside.same)
       (omega (arith, length_more x.rows stop.turn.made, serial))
     where
       length_more : (rows made : List Row) → length (rows ++ made) ≡ length rows + length made
@@ -128,7 +128,7 @@ module _ (trace : Trace) (p : PlainState) (s : State) (facts : Facts trace p s) 
       length_more (r ∷ rows) made = omega (arith, length_more rows made)
 
   turned_kept : (nf : Option Frame) (nd : Bool) → ((z : Thing) → InFrame nf z → Names stop.turn.registers z)
-      → KeepsCounts trace all' (set (people_of p.actors) a (person_of (turned stop nf nd c) ls)) (set s.actors a (seat (turned stop nf nd c) ls))
+      → KeepsCounts trace all' (set (people_of p.actors) a (person_of (cell_after_turn stop nf nd c) ls)) (set s.actors a (seat (cell_after_turn stop nf nd c) ls))
   turned_kept nf nd names = turn_keeps trace s.program all all' (people_of p.actors) s.actors facts.counts a c ls at f is held_all grows nf nd names
 
   -- the rows do not depend on the frame
@@ -136,9 +136,9 @@ module _ (trace : Trace) (p : PlainState) (s : State) (facts : Facts trace p s) 
   rows_of nf = rows_alike p.actors a (y None) (y nf) refl
 
   beside_kept : (nf : Option Frame) (nd : Bool) → ((z : Thing) → InFrame nf z → Names stop.turn.registers z)
-      → KeepsCounts trace (thing_row (plain_row (set p.actors a (y nf)))) (people_of (set p.actors a (y nf))) (set s.actors a (seat (turned stop nf nd c) ls))
+      → KeepsCounts trace (thing_row (plain_row (set p.actors a (y nf)))) (people_of (set p.actors a (y nf))) (set s.actors a (seat (cell_after_turn stop nf nd c) ls))
   beside_kept nf nd names =
-      subst (λ people. KeepsCounts trace (thing_row (plain_row (set p.actors a (y nf)))) people (set s.actors a (seat (turned stop nf nd c) ls)))
+      subst (λ people. KeepsCounts trace (thing_row (plain_row (set p.actors a (y nf)))) people (set s.actors a (seat (cell_after_turn stop nf nd c) ls)))
       (ap (set (people_of p.actors) a) (sym (same_y nf nd)) ∙ sym (people-set p.actors a (y nf)))
       (same_rows all' (thing_row (plain_row (set p.actors a (y nf)))) _ _ (rows_of nf) (turned_kept nf nd names))
 
@@ -148,15 +148,15 @@ module _ (trace : Trace) (p : PlainState) (s : State) (facts : Facts trace p s) 
   -- an end or a print: the turn, and what was printed
   turn_follows : (nf : Option Frame) (nd : Bool) (printed : List Value) → ((z : Thing) → InFrame nf z → Names stop.turn.registers z)
       → Facts trace (next_state p (with_turn p.actors a nf stop.turn.fields stop.turn.made) (p.prints ++ printed))
-      (record (with_turn_kept s stop (set s.actors a (seat (turned stop nf nd c) ls))) { prints = s.prints ++ printed })
+      (record (with_turn_kept s stop (set s.actors a (seat (cell_after_turn stop nf nd c) ls))) { prints = s.prints ++ printed })
   turn_follows nf nd printed names =
-      subst (λ actors. Facts trace (next_state p actors (p.prints ++ printed)) (record (with_turn_kept s stop (set s.actors a (seat (turned stop nf nd c) ls))) { prints = s.prints ++ printed })) (sym (turned_actors nf))
+      subst (λ actors. Facts trace (next_state p actors (p.prints ++ printed)) (record (with_turn_kept s stop (set s.actors a (seat (cell_after_turn stop nf nd c) ls))) { prints = s.prints ++ printed })) (sym (turned_actors nf))
       (record { counts = beside_kept nf nd names; program = facts.program; prints = ap (λ vs. vs ++ printed) facts.prints; objects = objects_more nf; weight = facts.weight; mode = facts.mode })
 
   -- ---- one actor more
 
   abbrev c1 : Cell
-  c1 = turned stop (Some stopped) c.dirty c
+  c1 = cell_after_turn stop (Some stopped) c.dirty c
 
   abbrev s1 : Actors
   s1 = set s.actors a (seat c1 ls)
@@ -201,7 +201,7 @@ module _ (trace : Trace) (p : PlainState) (s : State) (facts : Facts trace p s) 
       length_people (z ∷ xs) = ap suc (length_people xs)
 
   make_follows : (kind register : ℕ) → Facts trace (next_state p (with_turn p.actors a (Some (with_name stopped register (length p.actors))) stop.turn.fields stop.turn.made ++ fresh_actor p.program kind ∷ []) p.prints)
-      (with_turn_kept s stop (make s.options.weight a (turned stop (Some (with_name stopped register (length s.actors))) c.dirty c) ls (fresh_cell s.options.weight s.program kind) s.actors))
+      (with_turn_kept s stop (make s.options.weight a (cell_after_turn stop (Some (with_name stopped register (length s.actors))) c.dirty c) ls (fresh_cell s.options.weight s.program kind) s.actors))
   make_follows kind register =
       let nf = Some (with_name stopped register (length s.actors)) in
       let fresh = fresh_cell s.options.weight s.program kind in
@@ -212,7 +212,7 @@ module _ (trace : Trace) (p : PlainState) (s : State) (facts : Facts trace p s) 
       let rows : (z : Thing) → all' z ≡ thing_row (plain_row (actors ++ mine ∷ [])) z = λ z. rows_of nf z ∙ rows_pushed actors mine refl z in
       let plain_actors : with_turn p.actors a (Some (with_name stopped register (length p.actors))) stop.turn.fields stop.turn.made ++ mine ∷ [] ≡ actors ++ mine ∷ [] =
       ap (λ n. with_turn p.actors a (Some (with_name stopped register n)) stop.turn.fields stop.turn.made ++ mine ∷ []) long ∙ ap (λ xs. xs ++ mine ∷ []) (turned_actors nf) in
-      subst (λ xs. Facts trace (next_state p xs p.prints) (with_turn_kept s stop (make s.options.weight a (turned stop nf c.dirty c) ls fresh s.actors))) (sym plain_actors)
+      subst (λ xs. Facts trace (next_state p xs p.prints) (with_turn_kept s stop (make s.options.weight a (cell_after_turn stop nf c.dirty c) ls fresh s.actors))) (sym plain_actors)
       (record {
         counts = subst (λ ps. KeepsCounts trace (thing_row (plain_row (actors ++ mine ∷ []))) ps (made_by register (length s.actors) fresh s.actors)) (sym people)
             (same_rows all' (thing_row (plain_row (actors ++ mine ∷ []))) _ _ rows (made_kept kind register));
@@ -247,7 +247,7 @@ module _ (trace : Trace) (p : PlainState) (s : State) (facts : Facts trace p s) 
     abbrev turned_people : List Person
     turned_people = set (people_of p.actors) a (person_of c1 ls)
 
-    posted_kept : lacking a c1.holdings load ≡ [] → KeepsCounts trace all' (set turned_people to (with_letter b args (person_at turned_people to))) (post a c1 ls to b args load came s.actors)
+    posted_kept : lacking_of a c1.holdings load ≡ [] → KeepsCounts trace all' (set turned_people to (with_letter b args (person_at turned_people to))) (post a c1 ls to b args load came s.actors)
     posted_kept full =
         let one = posted_keeps trace s.program all all' (people_of p.actors) s.actors facts.counts a c ls at f is held_all grows (Some stopped) c.dirty (λ z h. h) to b args act at1 full in
         let same : set turned_people a (person_of sender ls) ≡ turned_people =
@@ -270,7 +270,7 @@ module _ (trace : Trace) (p : PlainState) (s : State) (facts : Facts trace p s) 
     abbrev lettered : PlainActor
     lettered = record receiver.actor { letters = receiver.actor.letters ++ letter ∷ [] }
 
-    post_follows : lacking a c1.holdings load ≡ []
+    post_follows : lacking_of a c1.holdings load ≡ []
         → Facts trace (next_state p (with_plain_letter (with_turn p.actors a (Some stopped) stop.turn.fields stop.turn.made) to letter) p.prints)
         (with_turn_kept s stop (post a c1 ls to b args load came s.actors))
     post_follows full =
@@ -299,7 +299,7 @@ module _ (trace : Trace) (p : PlainState) (s : State) (facts : Facts trace p s) 
     unfolding held_in
     held1 z = refl
 
-    pub theirs : (e : Loaded) (es : List Loaded) → lacking a c1.holdings load ≡ e ∷ es → (z : Thing) → 0 < amount_of z (to_mint s.options.weight (owner_of e.0) (e ∷ es)) → (owner_of z ≡ owner_of e.0) × (0 < held_in c.holdings z)
+    pub theirs : (e : Loaded) (es : List Loaded) → lacking_of a c1.holdings load ≡ e ∷ es → (z : Thing) → 0 < amount_of z (to_mint s.options.weight (owner_of e.0) (e ∷ es)) → (owner_of z ≡ owner_of e.0) × (0 < held_in c.holdings z)
     theirs e es l z some =
         let w = to_mint_theirs s.options.weight a (owner_of e.0) c1.holdings load z (subst (λ q. 0 < amount_of z (to_mint s.options.weight (owner_of e.0) q)) (sym l) some) in
         (w.0, subst (λ n. 0 < n) (held1 z) w.1)
@@ -307,11 +307,11 @@ module _ (trace : Trace) (p : PlainState) (s : State) (facts : Facts trace p s) 
     held_present : (z : Thing) → 0 < held_in c.holdings z → IsPresent s.actors (owner_of z)
     held_present z h = let left = counted_left trace all (people_of p.actors) s.actors facts.counts z (let w = held_below z s.actors a c ls at in omega arith) in (left.seat, left.present)
 
-    not_own : (e : Loaded) (es : List Loaded) → lacking a c1.holdings load ≡ e ∷ es → owner_of e.0 ≢ a
+    not_own : (e : Loaded) (es : List Loaded) → lacking_of a c1.holdings load ≡ e ∷ es → owner_of e.0 ≢ a
     not_own e es l = (to_mint_theirs s.options.weight a (owner_of e.0) c1.holdings load e.0
         (subst (λ q. 0 < amount_of e.0 (to_mint s.options.weight (owner_of e.0) q)) (sym l) (first_minted s.options.weight facts.weight e es))).2
 
-    mint_follows : (e : Loaded) (es : List Loaded) → lacking a c1.holdings load ≡ e ∷ es → Facts trace p (record s { actors = mint a c ls (owner_of e.0) (to_mint s.options.weight (owner_of e.0) (e ∷ es)) s.actors })
+    mint_follows : (e : Loaded) (es : List Loaded) → lacking_of a c1.holdings load ≡ e ∷ es → Facts trace p (record s { actors = mint a c ls (owner_of e.0) (to_mint s.options.weight (owner_of e.0) (e ∷ es)) s.actors })
     mint_follows e es l = record {
       counts = mint_keeps trace all (people_of p.actors) s.actors facts.counts a c ls at (owner_of e.0) (to_mint s.options.weight (owner_of e.0) (e ∷ es)) (theirs e es l) (not_own e es l) (counted_mint s.options.weight facts.weight (owner_of e.0) (e ∷ es))
           (held_present e.0 (theirs e es l e.0 (first_minted s.options.weight facts.weight e es)).1);
@@ -322,7 +322,7 @@ module _ (trace : Trace) (p : PlainState) (s : State) (facts : Facts trace p s) 
       mode = facts.mode;
     }
 
-    letter_follows : lacking a c1.holdings load ≡ [] → Follows trace true (after_act p a stopped stop.turn.fields stop.turn.made (Post to b args)) p (with_turn_kept s stop (post a c1 ls to b args load came s.actors))
+    letter_follows : lacking_of a c1.holdings load ≡ [] → Follows trace true (after_act p a stopped stop.turn.fields stop.turn.made (Post to b args)) p (with_turn_kept s stop (post a c1 ls to b args load came s.actors))
     letter_follows l = (next_state p (with_plain_letter (with_turn p.actors a (Some stopped) stop.turn.fields stop.turn.made) to letter) p.prints, refl, post_follows l)
 
   -- ---- every act
@@ -331,10 +331,10 @@ module _ (trace : Trace) (p : PlainState) (s : State) (facts : Facts trace p s) 
   nothing_printed [] = refl
   nothing_printed (v ∷ prints) = ap (λ r. v ∷ r) (nothing_printed prints)
 
-  end_follows : Facts trace (next_state p (with_turn p.actors a None stop.turn.fields stop.turn.made) p.prints) (with_turn_kept s stop (set s.actors a (seat (turned stop None true c) ls)))
+  end_follows : Facts trace (next_state p (with_turn p.actors a None stop.turn.fields stop.turn.made) p.prints) (with_turn_kept s stop (set s.actors a (seat (cell_after_turn stop None true c) ls)))
   end_follows =
-      subst (λ prints. Facts trace (next_state p (with_turn p.actors a None stop.turn.fields stop.turn.made) prints) (with_turn_kept s stop (set s.actors a (seat (turned stop None true c) ls)))) (nothing_printed p.prints)
-      (subst (λ prints. Facts trace (next_state p (with_turn p.actors a None stop.turn.fields stop.turn.made) (p.prints ++ [])) (record (with_turn_kept s stop (set s.actors a (seat (turned stop None true c) ls))) { prints = prints })) (nothing_printed s.prints)
+      subst (λ prints. Facts trace (next_state p (with_turn p.actors a None stop.turn.fields stop.turn.made) prints) (with_turn_kept s stop (set s.actors a (seat (cell_after_turn stop None true c) ls)))) (nothing_printed p.prints)
+      (subst (λ prints. Facts trace (next_state p (with_turn p.actors a None stop.turn.fields stop.turn.made) (p.prints ++ [])) (record (with_turn_kept s stop (set s.actors a (seat (cell_after_turn stop None true c) ls))) { prints = prints })) (nothing_printed s.prints)
       (turn_follows None true [] (λ z h. absurd h)))
 
   -- where the turn stops at this act, the plain machine's go does so too
@@ -342,14 +342,14 @@ module _ (trace : Trace) (p : PlainState) (s : State) (facts : Facts trace p s) 
   stops_too choice act t stops h =
       subst (λ goes. Follows trace choice goes p t) (sym (plain_went ∙ ap (after_act p a stopped stop.turn.fields stop.turn.made) stops)) h
 
-  pub ends_follow : stop.act ≡ End → Follows trace true (plain_go p a) p (with_turn_kept s stop (set s.actors a (seat (turned stop None true c) ls)))
+  pub ends_follow : stop.act ≡ End → Follows trace true (plain_go p a) p (with_turn_kept s stop (set s.actors a (seat (cell_after_turn stop None true c) ls)))
   ends_follow stops = stops_too true End _ stops (_, refl, end_follows)
 
   pub prints_follow : (v : Value) → stop.act ≡ Print v → Follows trace true (plain_go p a) p (record (with_turn_kept s stop (set s.actors a (seat c1 ls))) { prints = s.prints ++ v ∷ [] })
   prints_follow v stops = stops_too true (Print v) _ stops (_, refl, turn_follows (Some stopped) c.dirty (v ∷ []) (λ z h. h))
 
   pub makes_follow : (kind register : ℕ) → stop.act ≡ New kind register → length s.actors < 65536
-      → Follows trace true (plain_go p a) p (with_turn_kept s stop (make s.options.weight a (turned stop (Some (with_name stopped register (length s.actors))) c.dirty c) ls (fresh_cell s.options.weight s.program kind) s.actors))
+      → Follows trace true (plain_go p a) p (with_turn_kept s stop (make s.options.weight a (cell_after_turn stop (Some (with_name stopped register (length s.actors))) c.dirty c) ls (fresh_cell s.options.weight s.program kind) s.actors))
   makes_follow kind register stops room = stops_too true (New kind register) _ stops (plain_made, ap (λ q. if q then Goes plain_made else IsFull) (ap (λ n. nat_lt n 65536) long ∙ lt-ltb (length s.actors) 65536 room), make_follows kind register)
     where
       plain_made : PlainState

@@ -13,7 +13,7 @@ use Rattle.turn_rules.specs.declared.act.Act.TheVariants.{Post, New, Print, End}
 use Rattle.turn_rules.specs.declared.act.Frame.{Frame}
 use Rattle.event_rule.specs.declared.event.Event.TheVariants.{Take, Go, Collect, Leave, Block, Hear, Scan, Reap}
 use Rattle.letter_kinds.specs.Counting.{Amount, Loaded, by_owner, gain, given_back, sweep}
-use Rattle.letter_kinds.specs.Detector.{Token, all_acked, close_token, closed_set, has, scanned, token_numbered}
+use Rattle.letter_kinds.specs.Detector.{Token, all_acked, close_token, closed_set, has, after_scan, token_numbered}
 use Rattle.letter_kinds.specs.Holdings.{with_made}
 use Rattle.letter_kinds.specs.declared.letter.Letter.{Letter}
 use Rattle.letter_kinds.specs.declared.letter.Letter.TheVariants.{Confirm, Dec}
@@ -26,8 +26,8 @@ use Rattle.count_laws.specs.Apart.{CellsCanBeAway, put_cell, step_with_cell, wit
 use Rattle.machine_rules.specs.Block.{held_actors, block}
 use Rattle.machine_rules.specs.Cell.{Cell, fresh_cell}
 use Rattle.machine_rules.specs.Collect.{is_marked, without_unused, collect}
-use Rattle.machine_rules.specs.Detect.{ask_all, held_outside, reaped, acked_token, hear, reap, scan}
-use Rattle.machine_rules.specs.Go.{act_in, needed, needing, post_or_mint, turn_of_cell, turned, with_turn_kept, go, turn_in}
+use Rattle.machine_rules.specs.Detect.{ask_all, held_outside, reap_in_turn, acked_token, hear, reap, scan}
+use Rattle.machine_rules.specs.Go.{act_in, needed, needing, post_or_mint, turn_of_cell, cell_after_turn, with_turn_kept, go, turn_in}
 use Rattle.orca_names.specs.declared.trace.Trace.{Trace}
 use Rattle.event_rule.specs.Runs.{Step, IsFull, Goes, NotEnabled}
 use Rattle.plain_rules.specs.Machine.{stopped_at, with_name}
@@ -103,14 +103,14 @@ module _ (a : ℕ) (c : Cell) where
   put_asked (b ∷ members) token s below =
       ap (ask_all members token) (put_push s b (Confirm token) below) ∙ put_asked members token (push_letter b (Confirm token) s) (let l = length-push b (Confirm token) s in omega arith)
 
-  put_reaped : (all members : List ℕ) (gs : List (ℕ × List Amount)) (s : Actors) → a < length s → has members a ≡ false → reaped all members gs (put_cell a c s) ≡ put_cell a c (reaped all members gs s)
-  unfolding reaped
+  put_reaped : (all members : List ℕ) (gs : List (ℕ × List Amount)) (s : Actors) → a < length s → has members a ≡ false → reap_in_turn all members gs (put_cell a c s) ≡ put_cell a c (reap_in_turn all members gs s)
+  unfolding reap_in_turn
   put_reaped all [] gs s below out = put_decs gs s below
   put_reaped all (m ∷ members) gs s below out =
       let z = spared_first m members a out in
       let not : m ≢ a = λ e. z.0 (sym e) in
-      ap (λ q. reaped all members (gs ++ by_owner (held_outside all q)) (set (put_cell a c s) m None)) (put_other s m not)
-      ∙ ap (reaped all members (gs ++ by_owner (held_outside all (seat_at s m)))) (put_set s m None not)
+      ap (λ q. reap_in_turn all members (gs ++ by_owner (held_outside all q)) (set (put_cell a c s) m None)) (put_other s m not)
+      ∙ ap (reap_in_turn all members (gs ++ by_owner (held_outside all (seat_at s m)))) (put_set s m None not)
       ∙ put_reaped all members (gs ++ by_owner (held_outside all (seat_at s m))) (set s m None) (let l = length-set s m None in omega arith) z.1
 
   -- ---- an event of another actor
@@ -156,7 +156,7 @@ module _ (a : ℕ) (c : Cell) where
 
       abbrev made : ℕ → ℕ → ℕ → Actors → Actors
       made kind register n actors =
-          set actors b (seat (record (turned stop (Some (with_name f register n)) d.dirty d) { holdings = gain s.options.weight (Actor n) None (with_made stop.turn.made d.holdings) }) mail)
+          set actors b (seat (record (cell_after_turn stop (Some (with_name f register n)) d.dirty d) { holdings = gain s.options.weight (Actor n) None (with_made stop.turn.made d.holdings) }) mail)
           ++ seat (fresh_cell s.options.weight s.program kind) [] ∷ []
 
       abbrev made_in : ℕ → ℕ → ℕ → Bool → Actors → Step State
@@ -165,7 +165,7 @@ module _ (a : ℕ) (c : Cell) where
       made_away : (kind register n : ℕ) (room : Bool) → made_in kind register n room (put_cell a c s.actors) ≡ step_with_cell a c (made_in kind register n room s.actors)
       made_away kind register n false = refl
       made_away kind register n true =
-          let maker = seat (record (turned stop (Some (with_name f register n)) d.dirty d) { holdings = gain s.options.weight (Actor n) None (with_made stop.turn.made d.holdings) }) mail in
+          let maker = seat (record (cell_after_turn stop (Some (with_name f register n)) d.dirty d) { holdings = gain s.options.weight (Actor n) None (with_made stop.turn.made d.holdings) }) mail in
           let fresh = seat (fresh_cell s.options.weight s.program kind) [] in
           ap (λ actors. Goes (with_turn_kept s stop (actors ++ fresh ∷ []))) (put_set s.actors b maker not)
           ∙ ap (λ actors. Goes (with_turn_kept s stop actors)) (put_more (set s.actors b maker) fresh (let l = length-set s.actors b maker in omega arith))
@@ -215,7 +215,7 @@ module _ (a : ℕ) (c : Cell) where
   scan_away s below false = refl
   scan_away s below true =
       let closed = closed_set s.detector in
-      ap (λ actors. Goes (record s { actors = actors; detector = scanned s.detector closed })) (put_asked closed (suc s.detector.opened) s.actors below)
+      ap (λ actors. Goes (record s { actors = actors; detector = after_scan s.detector closed })) (put_asked closed (suc s.detector.opened) s.actors below)
 
   reap_away : (s : State) → a < length s.actors → (found : Option Token) → ((t : Token) → found ≡ Some t → has t.members a ≡ false)
       → option_map_or (reap (with_cell a c s)) found NotEnabled ≡ step_with_cell a c (option_map_or (reap s) found NotEnabled)

@@ -8,7 +8,7 @@ use Rattle.letter_kinds.specs.Detector.{closed_set, has}
 use Rattle.letter_kinds.specs.declared.letter.Letter.{Letter}
 use Rattle.letter_kinds.specs.declared.letter.Letter.TheVariants.{Confirm, Dec}
 use Rattle.machine_rules.proofs.Stepping.{step_of}
-use Rattle.machine_rules.specs.Rules.{IsStep, kept, later_frame}
+use Rattle.machine_rules.specs.Rules.{IsStep, cell_kept, later_frame}
 use Rattle.machine_rules.specs.Rules as rule
 use Rattle.machine_rules.proofs.Enabling.{enabled_exactly}
 use Rattle.count_laws.proofs.events.Every.{push_none, set_none}
@@ -20,7 +20,7 @@ use Rattle.machine_rules.specs.Actors.{Actors, Seat, cell_at, cell_of, letters_o
 use Rattle.count_laws.specs.Apart.{IsApart, KeepsEnabled, LeavesCell, OthersKeepEnabled, OthersLeaveTheCell}
 use Rattle.machine_rules.specs.Cell.{Cell}
 use Rattle.machine_rules.specs.Collect.{is_marked, without_unused}
-use Rattle.machine_rules.specs.Detect.{ask_all, held_outside, reaped}
+use Rattle.machine_rules.specs.Detect.{ask_all, held_outside, reap_in_turn}
 use Rattle.machine_rules.specs.Enabled.{CanHappen}
 use Rattle.machine_rules.proofs.Guards.{MayReport, acked_open, leaver, may_leave-none, may_report, may_take-some, reporter, taker}
 use Rattle.event_rule.specs.Runs.{IsEnabled}
@@ -77,8 +77,8 @@ spared_first m members a out = ⊎_elim
     (λ other. ((λ e. other (sym e)), rw (ne_eqb m a other) at out))
     (cases_eq m a)
 
-adds_reaped : (all members : List ℕ) (gs : List (ℕ × List Amount)) (s : Actors) (a : ℕ) → has members a ≡ false → Adds s (reaped all members gs s) a
-unfolding reaped
+adds_reaped : (all members : List ℕ) (gs : List (ℕ × List Amount)) (s : Actors) (a : ℕ) → has members a ≡ false → Adds s (reap_in_turn all members gs s) a
+unfolding reap_in_turn
 adds_reaped all [] gs s a out = adds_decs gs s a
 adds_reaped all (m ∷ members) gs s a out =
     let z = spared_first m members a out in

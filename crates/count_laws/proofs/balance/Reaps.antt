@@ -16,7 +16,7 @@ use Rattle.orca_names.specs.declared.trace.Trace.{Trace}
 use Rattle.machine_rules.specs.Actors.{Seat, Actors, seat_at}
 use Rattle.machine_rules.specs.Balance.{own_at, incs_at, decs_at, held_at, loads_at}
 use Rattle.count_laws.specs.Prefixes.{NeverOverdraws}
-use Rattle.machine_rules.specs.Detect.{held_outside, reaped}
+use Rattle.machine_rules.specs.Detect.{held_outside, reap_in_turn}
 use Rattle.orca_names.specs.Names.{owner_of}
 use Rattle.orca_names.specs.declared.names.Thing.{Thing}
 
@@ -151,8 +151,8 @@ abbrev pub AllIn : List ℕ → List ℕ → Type 0
 AllIn all ms = AllByRecursion (λ m. has all m ≡ true) ms
 
 pub reap_keeps : (trace : Trace) (all ms : List ℕ) (gs : List (ℕ × List (Thing × ℕ))) (s : Actors) (d e : Thing → ℕ) → AllIn all ms → AllReady all ms s → Under trace all ms gs s d e
-    → Balanced (reaped all ms gs s) × NeverOverdraws trace (reaped all ms gs s)
-unfolding reaped
+    → Balanced (reap_in_turn all ms gs s) × NeverOverdraws trace (reap_in_turn all ms gs s)
+unfolding reap_in_turn
 reap_keeps trace all [] gs s d e ins ready u = decs_keep trace gs s u.firm (done trace all gs s d e u) u.prefix
 reap_keeps trace all (m ∷ ms) gs s d e ins ready u = reap_keeps trace all ms _ (set s m None) _ _ ins.1
     (all_ready_later all s m ms ready.0.within ready.1)

@@ -18,7 +18,7 @@ use Rattle.orca_names.specs.declared.trace.Trace.{Trace}
 use Rattle.machine_rules.specs.Actors.{Actors, seat_at, push_letter, push_decs, seat}
 use Rattle.count_laws.specs.Prefixes.{NeverOverdraws}
 use Rattle.machine_rules.specs.Cell.{Cell}
-use Rattle.machine_rules.specs.Collect.{collected}
+use Rattle.machine_rules.specs.Collect.{after_collect}
 use Rattle.orca_names.specs.Names.{owner_of, is_thing}
 use Rattle.orca_names.specs.declared.names.Thing.{Thing}
 
@@ -97,7 +97,7 @@ module _ (marked : Thing → Bool) (s : Actors) (a : ℕ) (c0 c : Cell) (mail : 
   abbrev after : Cell
   after = record c { holdings = sweep marked a c.holdings; dirty = false }
 
-  pub collect_keeps : (trace : Trace) → Balanced s → NeverOverdraws trace s → Balanced (collected marked a c mail s) × NeverOverdraws trace (collected marked a c mail s)
+  pub collect_keeps : (trace : Trace) → Balanced s → NeverOverdraws trace s → Balanced (after_collect marked a c mail s) × NeverOverdraws trace (after_collect marked a c mail s)
   collect_keeps trace bal p = decs_keep trace (by_owner (given_back marked c.holdings)) (set s a (seat after mail)) (firm_groups _ counted)
       (cell_balanced s a c0 after mail at none none none (owed (by_owner (given_back marked c.holdings)))
       (λ x is. let o = own-sweep marked a c.holdings x in let e = gone x in let p = own_same x in let q = held_same x in omega arith)

@@ -21,7 +21,7 @@ use Rattle.letter_kinds.proofs.Counts.{own-receive, own_set_held}
 use Rattle.letter_kinds.proofs.Raising.{own_le-raise_all, own_le-send, own_le-with_made}
 use Rattle.letter_kinds.proofs.Sums.{sum-nil}
 use Rattle.letter_kinds.specs.Counting.{Amount, Loaded, by_owner, gain, given_back, mint_all, send, sweep, to_mint}
-use Rattle.letter_kinds.specs.Detector.{Detector, closed_set, heard, scanned}
+use Rattle.letter_kinds.specs.Detector.{Detector, closed_set, hear_note, after_scan}
 use Rattle.letter_kinds.specs.Holdings.{Holdings, Row, own_in, with_made}
 use Rattle.letter_kinds.specs.Sums.{amount_of, inc_of}
 use Rattle.letter_kinds.specs.declared.letter.Letter.{Letter}
@@ -29,7 +29,7 @@ use Rattle.letter_kinds.specs.declared.letter.Letter.TheVariants.{App, Inc, Dec,
 use Rattle.letter_kinds.specs.declared.note.Note.{Note}
 use Rattle.letter_kinds.specs.declared.note.Note.TheVariants.{Block, Unblock, Ack}
 use Rattle.machine_rules.proofs.Stepping.{step_of}
-use Rattle.machine_rules.specs.Rules.{IsStep, kept, later_frame}
+use Rattle.machine_rules.specs.Rules.{IsStep, cell_kept, later_frame}
 use Rattle.machine_rules.specs.Rules as rule
 use Rattle.count_laws.proofs.events.Every.{length-decs, length-push, push_none, set_none}
 use Rattle.count_laws.proofs.balance.Makes.{more_last, more_other}
@@ -43,11 +43,11 @@ use Rattle.count_laws.proofs.balance.Sends.{push_is}
 use Rattle.count_laws.proofs.balance.Sweeping.{own-sweep, same_holdings}
 use Rattle.machine_rules.specs.Actors.{Actors, Seat, push_decs, push_letter, seat, seat_at, with_letter_more}
 use Rattle.machine_rules.specs.Balance.{incs_at, own_at}
-use Rattle.count_laws.specs.Bounds.{EventsOpenOneToken, EventsRaiseByTheWeight, RunsCountByTheWeight, RunsMakeFewActors, RunsOpenNoMoreTokens, counted}
+use Rattle.count_laws.specs.Bounds.{EventsOpenOneToken, EventsRaiseByTheWeight, RunsCountByTheWeight, RunsMakeFewActors, RunsOpenNoMoreTokens, owner_count}
 use Rattle.machine_rules.specs.Cell.{Cell, first_cell, fresh_cell}
-use Rattle.machine_rules.specs.Collect.{collected, is_marked, without_unused}
-use Rattle.machine_rules.specs.Detect.{ask_all, held_outside, reaped}
-use Rattle.machine_rules.specs.Go.{load_from, make, mint, post, rows_from, to_need, turn_of_cell, turned}
+use Rattle.machine_rules.specs.Collect.{after_collect, is_marked, without_unused}
+use Rattle.machine_rules.specs.Detect.{ask_all, held_outside, reap_in_turn}
+use Rattle.machine_rules.specs.Go.{load_from, make, mint, post, rows_from, to_need, turn_of_cell, cell_after_turn}
 use Rattle.event_rule.specs.Runs.{Leads, Goes}
 use Rattle.machine_rules.specs.Next.{next}
 use Rattle.orca_names.specs.declared.trace.Trace.{Trace}
@@ -70,7 +70,7 @@ seat_counts-seat x c mail = omega (arith, own_at-seat x c mail, incs_at-seat x c
 -- ---- one seat is changed, one letter comes, one actor goes
 
 counted-set : (s : Actors) (b : ℕ) (old new : Option Seat) → b < length s → seat_at s b ≡ old → (k : ℕ) (x : Thing)
-    → (owner_of x ≡ b → seat_counts x new ≤ seat_counts x old + k) → counted x (set s b new) ≤ counted x s + k
+    → (owner_of x ≡ b → seat_counts x new ≤ seat_counts x old + k) → owner_count x (set s b new) ≤ owner_count x s + k
 counted-set s b old new within at k x h = ⊎_elim
     (λ is. rw (at_same s b old new within at (owner_of x) is) (let z : seat_at s (owner_of x) ≡ old = rw is at in rw z (h is)))
     (λ not. rw (at_other s b old new within at (owner_of x) not) (omega arith))
@@ -78,19 +78,19 @@ counted-set s b old new within at k x h = ⊎_elim
 
 -- a cell is changed, and its letters stay
 counted-cell : (s : Actors) (b : ℕ) (old new : Cell) (mail : List Letter) → seat_at s b ≡ seat old mail → (k : ℕ) (x : Thing)
-    → (owner_of x ≡ b → own_in new.holdings x ≤ own_in old.holdings x + k) → counted x (set s b (seat new mail)) ≤ counted x s + k
+    → (owner_of x ≡ b → own_in new.holdings x ≤ own_in old.holdings x + k) → owner_count x (set s b (seat new mail)) ≤ owner_count x s + k
 counted-cell s b old new mail at k x h = counted-set s b (seat old mail) (seat new mail) (present_below s b _ at) at k x
     (λ is. let z = h is in omega (arith, seat_counts-seat x old mail, seat_counts-seat x new mail))
 
-counted-push : (s : Actors) (b : ℕ) (l : Letter) (x : Thing) → counted x (push_letter b l s) ≤ counted x s + inc_of x l
+counted-push : (s : Actors) (b : ℕ) (l : Letter) (x : Thing) → owner_count x (push_letter b l s) ≤ owner_count x s + inc_of x l
 counted-push s b l x = by_seat (seat_at s b) refl
   where
-    by_seat : (o : Option Seat) → seat_at s b ≡ o → counted x (push_letter b l s) ≤ counted x s + inc_of x l
+    by_seat : (o : Option Seat) → seat_at s b ≡ o → owner_count x (push_letter b l s) ≤ owner_count x s + inc_of x l
     by_seat None at = rw (push_none s b l at) (rw (set_none s b (owner_of x) at) (omega arith))
     by_seat (Some o) at = rw (push_is s b l o at) (counted-set s b (Some o) (with_letter_more l (Some o)) (present_below s b o at) at (inc_of x l) x
         (λ is. omega (arith, own_at_push x o l, incs_at_push x o l)))
 
-counted-decs : (gs : List (ℕ × List Amount)) (s : Actors) (x : Thing) → counted x (push_decs gs s) ≤ counted x s
+counted-decs : (gs : List (ℕ × List Amount)) (s : Actors) (x : Thing) → owner_count x (push_decs gs s) ≤ owner_count x s
 unfolding push_decs
 counted-decs [] s x = omega arith
 counted-decs (g ∷ gs) s x =
@@ -98,21 +98,21 @@ counted-decs (g ∷ gs) s x =
     let one = counted-push s g.0 (Dec g.1) x in
     let z = (letter_Dec x g.1).0 in omega arith
 
-counted-asked : (members : List ℕ) (token : ℕ) (s : Actors) (x : Thing) → counted x (ask_all members token s) ≤ counted x s
+counted-asked : (members : List ℕ) (token : ℕ) (s : Actors) (x : Thing) → owner_count x (ask_all members token s) ≤ owner_count x s
 counted-asked [] token s x = omega arith
 counted-asked (a ∷ members) token s x =
     let later = counted-asked members token (push_letter a (Confirm token) s) x in
     let one = counted-push s a (Confirm token) x in
     let z = (letter_Confirm x token).0 in omega arith
 
-counted-clear : (s : Actors) (b : ℕ) (x : Thing) → counted x (set s b None) ≤ counted x s
+counted-clear : (s : Actors) (b : ℕ) (x : Thing) → owner_count x (set s b None) ≤ owner_count x s
 counted-clear s b x = ⊎_elim
     (λ within. let z = counted-set s b (seat_at s b) None within refl 0 x (λ is. let n = seat_counts-none x in omega arith) in omega arith)
     (λ past. rw (set_none s b (owner_of x) (get_or_past s b None past)) (omega arith))
     (cases_lt b (length s))
 
-counted-reaped : (all members : List ℕ) (gs : List (ℕ × List Amount)) (s : Actors) (x : Thing) → counted x (reaped all members gs s) ≤ counted x s
-unfolding reaped
+counted-reaped : (all members : List ℕ) (gs : List (ℕ × List Amount)) (s : Actors) (x : Thing) → owner_count x (reap_in_turn all members gs s) ≤ owner_count x s
+unfolding reap_in_turn
 counted-reaped all [] gs s x = counted-decs gs s x
 counted-reaped all (a ∷ members) gs s x =
     let one = counted-clear s a x in
@@ -125,7 +125,7 @@ unfolding own_in
 fresh_counts w program kind (Actor a) = omega arith
 fresh_counts w program kind (Obj n) = rw (m.get-empty {X = Row × ℕ} nat_cmp n.serial) (omega arith)
 
-counted-more : (s : Actors) (new : Option Seat) (k : ℕ) (x : Thing) → (owner_of x ≡ length s → seat_counts x new ≤ k) → counted x (s ++ new ∷ []) ≤ counted x s + k
+counted-more : (s : Actors) (new : Option Seat) (k : ℕ) (x : Thing) → (owner_of x ≡ length s → seat_counts x new ≤ k) → owner_count x (s ++ new ∷ []) ≤ owner_count x s + k
 counted-more s new k x h = ⊎_elim
     (λ is. rw (more_last s new (owner_of x) is) (let z = h is in omega arith))
     (λ not. rw (more_other s new (owner_of x) not) (omega arith))
@@ -142,17 +142,17 @@ taken_counts program me x c (Confirm token) o = omega arith
 -- ---- an actor goes on
 
 module _ (s : Actors) (a : ℕ) (c : Cell) (mail : List Letter) (at : seat_at s a ≡ seat c mail) where
-  turned_counts : (stop : Stop) (frame : Option Frame) (dirty : Bool) (x : Thing) → counted x (set s a (seat (turned stop frame dirty c) mail)) ≤ counted x s
+  turned_counts : (stop : Stop) (frame : Option Frame) (dirty : Bool) (x : Thing) → owner_count x (set s a (seat (cell_after_turn stop frame dirty c) mail)) ≤ owner_count x s
   turned_counts stop frame dirty x =
-      let z : counted x (set s a (seat (turned stop frame dirty c) mail)) ≤ counted x s + 0
-      = counted-cell s a c (turned stop frame dirty c) mail at 0 x (λ o. let k = own_le-with_made stop.turn.made c.holdings x in omega arith) in
+      let z : owner_count x (set s a (seat (cell_after_turn stop frame dirty c) mail)) ≤ owner_count x s + 0
+      = counted-cell s a c (cell_after_turn stop frame dirty c) mail at 0 x (λ o. let k = own_le-with_made stop.turn.made c.holdings x in omega arith) in
       omega arith
 
   made_counts : (w : ℕ) (stop : Stop) (g : Frame) (program : Program) (kind : ℕ) (x : Thing)
-      → counted x (make w a (turned stop (Some g) c.dirty c) mail (fresh_cell w program kind) s) ≤ counted x s + w
+      → owner_count x (make w a (cell_after_turn stop (Some g) c.dirty c) mail (fresh_cell w program kind) s) ≤ owner_count x s + w
   made_counts w stop g program kind x =
-      let maker : Cell = record (turned stop (Some g) c.dirty c) { holdings = gain w (Actor (length s)) None (with_made stop.turn.made c.holdings) } in
-      let one : counted x (set s a (seat maker mail)) ≤ counted x s + 0
+      let maker : Cell = record (cell_after_turn stop (Some g) c.dirty c) { holdings = gain w (Actor (length s)) None (with_made stop.turn.made c.holdings) } in
+      let one : owner_count x (set s a (seat maker mail)) ≤ owner_count x s + 0
       = counted-cell s a c maker mail at 0 x (λ o.
       let k = own_le-with_made stop.turn.made c.holdings x in
       let q = own_set_held (λ h. h + w) x (Actor (length s)) None (with_made stop.turn.made c.holdings) in omega arith) in
@@ -161,12 +161,12 @@ module _ (s : Actors) (a : ℕ) (c : Cell) (mail : List Letter) (at : seat_at s 
       omega arith
 
   posted_counts : (trace : Trace) (stop : Stop) (frame : Option Frame) (dirty : Bool) (to behaviour : ℕ) (args : List Value) (rows : List Loaded) (x : Thing)
-      → counted x (post a (turned stop frame dirty c) mail to behaviour args (load_from trace a (with_made stop.turn.made c.holdings) args) rows s) ≤ counted x s + 1
+      → owner_count x (post a (cell_after_turn stop frame dirty c) mail to behaviour args (load_from trace a (with_made stop.turn.made c.holdings) args) rows s) ≤ owner_count x s + 1
   posted_counts trace stop frame dirty to behaviour args rows x =
       let h : Holdings = with_made stop.turn.made c.holdings in
       let load = load_from trace a h args in
-      let sender : Cell = record (turned stop frame dirty c) { holdings = send a load h } in
-      let one : counted x (set s a (seat sender mail)) ≤ counted x s + 1
+      let sender : Cell = record (cell_after_turn stop frame dirty c) { holdings = send a load h } in
+      let one : owner_count x (set s a (seat sender mail)) ≤ owner_count x s + 1
       = counted-cell s a c sender mail at 1 x (λ o.
       let k = own_le-with_made stop.turn.made c.holdings x in
       let q = own_le-send a x load h o in
@@ -175,19 +175,19 @@ module _ (s : Actors) (a : ℕ) (c : Cell) (mail : List Letter) (at : seat_at s 
       let z = (letter_App x behaviour args load rows).0 in
       omega arith
 
-  minted_counts : (w b : ℕ) (things : List Amount) (x : Thing) → amount_of x things ≤ w → counted x (mint a c mail b things s) ≤ counted x s + w
+  minted_counts : (w b : ℕ) (things : List Amount) (x : Thing) → amount_of x things ≤ w → owner_count x (mint a c mail b things s) ≤ owner_count x s + w
   minted_counts w b things x le =
       let minter : Cell = record c { holdings = mint_all things c.holdings } in
-      let one : counted x (set s a (seat minter mail)) ≤ counted x s + 0
+      let one : owner_count x (set s a (seat minter mail)) ≤ owner_count x s + 0
       = counted-cell s a c minter mail at 0 x (λ o. let q = own-mint_all x things c.holdings in omega arith) in
       let two = counted-push (set s a (seat minter mail)) b (Inc things) x in
       let z = (letter_Inc x things).0 in
       omega arith
 
-  collected_counts : (marked : Thing → Bool) (d : Cell) → d.holdings ≡ c.holdings → (x : Thing) → counted x (collected marked a d mail s) ≤ counted x s
+  collected_counts : (marked : Thing → Bool) (d : Cell) → d.holdings ≡ c.holdings → (x : Thing) → owner_count x (after_collect marked a d mail s) ≤ owner_count x s
   collected_counts marked d same x =
       let swept : Cell = record d { holdings = sweep marked a d.holdings; dirty = false } in
-      let one : counted x (set s a (seat swept mail)) ≤ counted x s + 0
+      let one : owner_count x (set s a (seat swept mail)) ≤ owner_count x s + 0
       = counted-cell s a c swept mail at 0 x (λ o. let q = own-sweep marked a d.holdings x in let w = ap (λ h. own_in h x) same in omega arith) in
       let two = counted-decs (by_owner (given_back marked d.holdings)) (set s a (seat swept mail)) x in
       omega arith
@@ -195,14 +195,14 @@ module _ (s : Actors) (a : ℕ) (c : Cell) (mail : List Letter) (at : seat_at s 
 -- ---- each event
 
 abbrev Raises : State → Event → State → Type 0
-Raises s e t = 0 < s.options.weight → (x : Thing) → counted x t.actors ≤ counted x s.actors + s.options.weight
+Raises s e t = 0 < s.options.weight → (x : Thing) → owner_count x t.actors ≤ owner_count x s.actors + s.options.weight
 
 at_most : (n k w : ℕ) → n ≤ k → n ≤ k + w
 at_most n k w h = omega arith
 
 raises : (trace : Trace) (s : State) {e : Event} {t : State} → IsStep trace s e t → Raises s e t
 raises trace s (rule.takes a c l mail at is) pos x =
-    let z : counted x (set s.actors a (seat (cell_after s.program a l c) mail)) ≤ counted x s.actors + 0
+    let z : owner_count x (set s.actors a (seat (cell_after s.program a l c) mail)) ≤ owner_count x s.actors + 0
     = counted-set s.actors a (seat c (l ∷ mail)) (seat (cell_after s.program a l c) mail) (present_below s.actors a _ at) at 0 x
     (λ o. let k = taken_counts s.program a x c l o in
     omega (arith, seat_counts-seat x c (l ∷ mail), seat_counts-seat x (cell_after s.program a l c) mail, sum_by-cons (inc_of x) l mail)) in
@@ -213,17 +213,17 @@ raises trace s (rule.prints a c mail f v stops) pos x =
 raises trace s (rule.makes a c mail f kind register stops room) pos x = made_counts s.actors a c mail stops.going.present s.options.weight (turn_of_cell trace s.program a c f) (with_name (later_frame trace s a c f) register (length s.actors)) s.program kind x
 raises trace s (rule.posts a c mail f to behaviour args stops none) pos x =
     let z = posted_counts s.actors a c mail stops.going.present trace (turn_of_cell trace s.program a c f) (Some (stopped_at f (turn_of_cell trace s.program a c f))) c.dirty
-    to behaviour args (rows_from trace a (kept trace s a c f) args) x in omega arith
+    to behaviour args (rows_from trace a (cell_kept trace s a c f) args) x in omega arith
 raises trace s (rule.mints a c mail f to behaviour args e lacked stops is) pos x =
     minted_counts s.actors a c mail stops.going.present s.options.weight (owner_of e.0) (to_mint s.options.weight (owner_of e.0) (e ∷ lacked)) x
-    (minted_once trace s.options.weight a (owner_of e.0) (kept trace s a c f).holdings args x (e ∷ lacked) is)
+    (minted_once trace s.options.weight a (owner_of e.0) (cell_kept trace s a c f).holdings args x (e ∷ lacked) is)
 raises trace s (rule.gets a c mail f y going need) pos x =
     minted_counts s.actors a c mail going.present s.options.weight (owner_of y) (to_need s.options.weight a c.holdings y) x (needed_once s.options.weight a c.holdings y x)
 raises trace s (rule.collects a c mail at may) pos x =
     at_most _ _ _ (collected_counts s.actors a c mail at (is_marked trace a c) (without_unused trace a c) (same_holdings trace a c) x)
 raises trace s (rule.leaves a c mail at may) pos x = at_most _ _ _ (counted-reaped (a ∷ []) (a ∷ []) [] s.actors x)
 raises trace s (rule.blocks a c mail at may) pos x =
-    let z : counted x (set s.actors a (seat (record c { reported = true }) mail)) ≤ counted x s.actors + 0
+    let z : owner_count x (set s.actors a (seat (record c { reported = true }) mail)) ≤ owner_count x s.actors + 0
     = counted-cell s.actors a c (record c { reported = true }) mail at 0 x (λ o. omega arith) in omega arith
 raises trace s (rule.hears note later is) pos x = omega arith
 raises trace s (rule.scans news) pos x = at_most _ _ _ (counted-asked (closed_set s.detector) (suc s.detector.opened) s.actors x)
@@ -234,11 +234,11 @@ events_raise s t e pos goes = raises s.options.trace s (step_of s t e goes) pos
 
 -- ---- tokens
 
-scanned_opened : (d : Detector) (found : List ℕ) → (scanned d found).opened ≤ suc d.opened
+scanned_opened : (d : Detector) (found : List ℕ) → (after_scan d found).opened ≤ suc d.opened
 scanned_opened d [] = omega arith
 scanned_opened d (a ∷ members) = omega arith
 
-heard_opened : (note : Note) (d : Detector) → (heard note d).opened ≡ d.opened
+heard_opened : (note : Note) (d : Detector) → (hear_note note d).opened ≡ d.opened
 heard_opened (Block a count held) d = refl
 heard_opened (Unblock a) d = refl
 heard_opened (Ack number a) d = refl
@@ -333,13 +333,13 @@ options_stay s t e goes = stays s.options.trace s (step_of s t e goes)
 
 -- ---- runs
 
-leads_count : (book : List Event) (s t : State) → 0 < s.options.weight → Leads next s book t → (x : Thing) → counted x t.actors ≤ counted x s.actors + length book * s.options.weight
-leads_count [] s t pos leads x = let z = ap (λ (u : State). counted x u.actors) leads in omega arith
+leads_count : (book : List Event) (s t : State) → 0 < s.options.weight → Leads next s book t → (x : Thing) → owner_count x t.actors ≤ owner_count x s.actors + length book * s.options.weight
+leads_count [] s t pos leads x = let z = ap (λ (u : State). owner_count x u.actors) leads in omega arith
 leads_count (e ∷ book) s t pos (u, goes, leads) x =
     let one = events_raise s u e pos goes x in
     let w : u.options.weight ≡ s.options.weight = ap (λ (o : Options). o.weight) (options_stay s u e goes) in
-    let later : counted x t.actors ≤ counted x u.actors + length book * u.options.weight = leads_count book u t (omega arith) leads x in
-    let later' : counted x t.actors ≤ counted x u.actors + length book * s.options.weight = rw w at later in
+    let later : owner_count x t.actors ≤ owner_count x u.actors + length book * u.options.weight = leads_count book u t (omega arith) leads x in
+    let later' : owner_count x t.actors ≤ owner_count x u.actors + length book * s.options.weight = rw w at later in
     omega arith
 
 leads_open : (book : List Event) (s t : State) → Leads next s book t → t.detector.opened ≤ s.detector.opened + length book
@@ -354,7 +354,7 @@ start_incs : (found : Option ℕ) (x : Thing) → sum_by (inc_of x) (option_map_
 start_incs None x = sum-nil (inc_of x)
 start_incs (Some name) x = omega (arith, sum_by-cons (inc_of x) (App name [] [] []) [], (letter_App x name [] [] []).0, sum-nil (inc_of x))
 
-start_counts : (program : Program) (options : Options) (x : Thing) → counted x (first_state program options).actors ≡ 0
+start_counts : (program : Program) (options : Options) (x : Thing) → owner_count x (first_state program options).actors ≡ 0
 start_counts program options x = by_owner (owner_of x)
   where
     by_owner : (i : ℕ) → seat_counts x (seat_at (first_state program options).actors i) ≡ 0

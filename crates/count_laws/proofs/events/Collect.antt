@@ -18,7 +18,7 @@ use Rattle.machine_rules.specs.Actors.{Actors, seat, seat_at, Every}
 use Rattle.count_laws.specs.Agreement.{Person, person_of}
 use Rattle.count_laws.specs.Prefixes.{NeverOverdraws}
 use Rattle.machine_rules.specs.Cell.{Cell}
-use Rattle.machine_rules.specs.Collect.{collected}
+use Rattle.machine_rules.specs.Collect.{after_collect}
 use Rattle.count_laws.specs.Facts.{IsFirmAt, IsPastRows, KeepsCounts, IsSound, IsFirm}
 use Rattle.count_laws.specs.Known.{IsSoundAt, Names, Reaches, row_at}
 
@@ -34,13 +34,13 @@ module _ (trace : Trace) (all : Thing → Option Row) (ps : List Person) (s : Ac
   within : a < length s
   within = present_below s a _ at
 
-  both : Balanced (collected marked a d ls s) × NeverOverdraws trace (collected marked a d ls s)
+  both : Balanced (after_collect marked a d ls s) × NeverOverdraws trace (after_collect marked a d ls s)
   both = collect_keeps marked s a c d ls at same (firm_counted marked d.holdings (subst IsFirm (sym same) (inv.firm a c ls at))) trace (in_hand s inv.balanced) inv.prefixes
 
   same_person : person_of c ls ≡ person_of swept ls
   same_person = person ∙ (λ i. record (person_of d ls) { serial = sym (next-sweep marked a d.holdings) i })
 
-  pub collect_put : Every (IsSound trace all) (collected marked a d ls s) → KeepsCounts trace all ps (collected marked a d ls s)
+  pub collect_put : Every (IsSound trace all) (after_collect marked a d ls s) → KeepsCounts trace all ps (after_collect marked a d ls s)
   collect_put sound =
       let decs = by_owner (given_back marked d.holdings) in
       record {
@@ -61,7 +61,7 @@ module _ (all : Thing → Option Row) (ps : List Person) (s : Actors) (inv : Kee
     (a : ℕ) (c : Cell) (ls : List Letter) (at : seat_at s a ≡ seat c ls) (idle : c.frame ≡ None) (marked : Thing → Bool)
     (sound : (x : Thing) → marked x ≡ true → Reaches (row_at a c.holdings) (Names c.fields.values) x)
     (whole : (x : Thing) → Reaches (row_at a c.holdings) (Names c.fields.values) x → marked x ≡ true) where
-  pub collect_keeps_counts : KeepsCounts Deep all ps (collected marked a c ls s)
+  pub collect_keeps_counts : KeepsCounts Deep all ps (after_collect marked a c ls s)
   collect_keeps_counts =
       let here = inv.sound a c ls at in
       let swept' : Cell = record c { holdings = sweep marked a c.holdings; dirty = false } in

@@ -13,7 +13,7 @@ use Rattle.turn_rules.specs.Segment.{segment_of}
 use Rattle.turn_rules.specs.declared.act.Act.TheVariants.{Post}
 use Rattle.turn_rules.specs.declared.act.Frame.{Frame}
 use Rattle.letter_kinds.proofs.Amounts.{held-mint_all}
-use Rattle.letter_kinds.specs.Counting.{Amount, gain, lacking, mint_all, send}
+use Rattle.letter_kinds.specs.Counting.{Amount, gain, lacking_of, mint_all, send}
 use Rattle.letter_kinds.specs.Detector.{has}
 use Rattle.letter_kinds.specs.Holdings.{Row, held_in}
 use Rattle.letter_kinds.specs.Sums.{amount_of, load_count, times_loaded}
@@ -47,10 +47,10 @@ use Rattle.machine_rules.specs.Actors.{Actors, seat, seat_at}
 use Rattle.count_laws.specs.Agreement.{Person, person_at, person_of}
 use Rattle.machine_rules.specs.Balance.{held_sum, incs_at, load_sum, own_at, owner_seat}
 use Rattle.machine_rules.specs.Cell.{Cell}
-use Rattle.machine_rules.specs.Collect.{collected, is_marked, without_unused}
+use Rattle.machine_rules.specs.Collect.{after_collect, is_marked, without_unused}
 use Rattle.machine_rules.specs.Detect.{reap_members}
 use Rattle.count_laws.specs.Facts.{KeepsCounts}
-use Rattle.machine_rules.specs.Go.{load_from, make, mint, needed, post, rows_from, to_need, turn_of_cell, turned}
+use Rattle.machine_rules.specs.Go.{load_from, make, mint, needed, post, rows_from, to_need, turn_of_cell, cell_after_turn}
 use Rattle.count_laws.specs.Known.{InFrame, IsKnown, Names, Reaches, Roots, in_fields, in_frame, in_table}
 use Rattle.count_laws.specs.KnownByRoots.{IsKnownWithOwner, IsRootOf, WalkRoots, by_field, by_frame, held, mine, owns, stands}
 use Rattle.machine_rules.specs.Left.{IsLeft}
@@ -107,7 +107,7 @@ take_keeps Deep = take_keeps_counts
 take_keeps options.Roots = take_keeps_roots
 
 pub collect_keeps : (trace : Trace) (all : Thing → Option Row) (ps : List Person) (s : Actors) (inv : KeepsCounts trace all ps s)
-    (a : ℕ) (c : Cell) (ls : List Letter) (at : seat_at s a ≡ seat c ls) (idle : c.frame ≡ None) → KeepsCounts trace all ps (collected (is_marked trace a c) a (without_unused trace a c) ls s)
+    (a : ℕ) (c : Cell) (ls : List Letter) (at : seat_at s a ≡ seat c ls) (idle : c.frame ≡ None) → KeepsCounts trace all ps (after_collect (is_marked trace a c) a (without_unused trace a c) ls s)
 collect_keeps Deep all ps s inv a c ls at idle = collect_keeps_counts all ps s inv a c ls at idle (is_marked Deep a c) (marked_reached a c) (reached_marked a c)
 collect_keeps options.Roots all ps s inv a c ls at idle = collect_keeps_roots all ps s inv a c ls at idle
 
@@ -168,7 +168,7 @@ same_turn options.Roots program all ps s inv a c ls at f frame rows are = same_t
 pub turn_keeps : (trace : Trace) (program : Program) (all all' : Thing → Option Row) (ps : List Person) (s : Actors) (inv : KeepsCounts trace all ps s)
     (a : ℕ) (c : Cell) (ls : List Letter) (at : seat_at s a ≡ seat c ls) (f : Frame) (frame : c.frame ≡ Some f) (held_all : needed trace program a c f ≡ None)
     (grows : Grows all all' a c.holdings.next (turn_of_cell trace program a c f).turn.made) (nf : Option Frame) (nd : Bool) (names_nf : (x : Thing) → InFrame nf x → Names (turn_of_cell trace program a c f).turn.registers x)
-    → KeepsCounts trace all' (set ps a (person_of (turned (turn_of_cell trace program a c f) nf nd c) ls)) (set s a (seat (turned (turn_of_cell trace program a c f) nf nd c) ls))
+    → KeepsCounts trace all' (set ps a (person_of (cell_after_turn (turn_of_cell trace program a c f) nf nd c) ls)) (set s a (seat (cell_after_turn (turn_of_cell trace program a c f) nf nd c) ls))
 unfolding turn after
 turn_keeps Deep program all all' ps s inv a c ls at f frame held_all grows nf nd names = turn_keeps_counts program all all' ps s inv a c ls at f frame grows nf nd names
 turn_keeps options.Roots program all all' ps s inv a c ls at f frame held_all grows nf nd names = turn_keeps_roots program all all' ps s inv a c ls at f frame held_all grows nf nd names
@@ -180,7 +180,7 @@ module _ (program : Program) (all all' : Thing → Option Row) (ps : List Person
     (grows : Grows all all' a c.holdings.next (turn_of_cell Deep program a c f).turn.made) (nf : Option Frame) (nd : Bool) (names_nf : (x : Thing) → InFrame nf x → Names (turn_of_cell Deep program a c f).turn.registers x)
     (to b : ℕ) (args : List Value) (act : (turn_of_cell Deep program a c f).act ≡ Post to b args) where
   abbrev deep : Cell
-  deep = turned (turn_of_cell Deep program a c f) nf nd c
+  deep = cell_after_turn (turn_of_cell Deep program a c f) nf nd c
 
   deep_target : IsKnown a deep.holdings (Actor to)
   unfolding turn after
@@ -190,7 +190,7 @@ module _ (program : Program) (all all' : Thing → Option Row) (ps : List Person
   unfolding turn after
   deep_load = known_load program all all' ps s inv a c ls at f frame grows nf nd names_nf to b args act (load_from Deep a deep.holdings args) (load_from-exact a deep.holdings args)
 
-  deep_posted : (ps1 : List Person) (s1 : Actors) (kept : KeepsCounts Deep all' ps1 s1) (at1 : seat_at s1 a ≡ seat deep ls) → lacking a deep.holdings (load_from Deep a deep.holdings args) ≡ []
+  deep_posted : (ps1 : List Person) (s1 : Actors) (kept : KeepsCounts Deep all' ps1 s1) (at1 : seat_at s1 a ≡ seat deep ls) → lacking_of a deep.holdings (load_from Deep a deep.holdings args) ≡ []
       → KeepsCounts Deep all' (set (set ps1 a (person_of (record deep { holdings = send a (load_from Deep a deep.holdings args) deep.holdings }) ls)) to
       (with_letter b args (person_at (set ps1 a (person_of (record deep { holdings = send a (load_from Deep a deep.holdings args) deep.holdings }) ls)) to)))
       (post a deep ls to b args (load_from Deep a deep.holdings args) (rows_from Deep a deep args) s1)
@@ -205,7 +205,7 @@ module _ (program : Program) (all all' : Thing → Option Row) (ps : List Person
     (grows : Grows all all' a c.holdings.next (turn_of_cell options.Roots program a c f).turn.made) (nf : Option Frame) (nd : Bool) (names_nf : (x : Thing) → InFrame nf x → Names (turn_of_cell options.Roots program a c f).turn.registers x)
     (to b : ℕ) (args : List Value) (act : (turn_of_cell options.Roots program a c f).act ≡ Post to b args) where
   abbrev flat : Cell
-  flat = turned (turn_of_cell options.Roots program a c f) nf nd c
+  flat = cell_after_turn (turn_of_cell options.Roots program a c f) nf nd c
 
   flat_args : (x : Thing) → Names args x → IsKnownWithOwner a flat.holdings x
   flat_args x n = args_known program all all' ps s inv a c ls at f frame held_all grows nf nd names_nf x (rw act (names_args to args x n))
@@ -216,7 +216,7 @@ module _ (program : Program) (all all' : Thing → Option Row) (ps : List Person
   flat_walk : (x : Thing) → Names args x → Reaches all' (WalkRoots a flat) x
   flat_walk x n = ⊎_elim (λ own. root (mine own.0 own.1)) (λ far. root (held far.1)) (flat_args x n).0
 
-  flat_posted : (ps1 : List Person) (s1 : Actors) (kept : KeepsCounts options.Roots all' ps1 s1) (at1 : seat_at s1 a ≡ seat flat ls) → lacking a flat.holdings (load_from options.Roots a flat.holdings args) ≡ []
+  flat_posted : (ps1 : List Person) (s1 : Actors) (kept : KeepsCounts options.Roots all' ps1 s1) (at1 : seat_at s1 a ≡ seat flat ls) → lacking_of a flat.holdings (load_from options.Roots a flat.holdings args) ≡ []
       → KeepsCounts options.Roots all' (set (set ps1 a (person_of (record flat { holdings = send a (load_from options.Roots a flat.holdings args) flat.holdings }) ls)) to
       (with_letter b args (person_at (set ps1 a (person_of (record flat { holdings = send a (load_from options.Roots a flat.holdings args) flat.holdings }) ls)) to)))
       (post a flat ls to b args (load_from options.Roots a flat.holdings args) (rows_from options.Roots a flat args) s1)
@@ -232,7 +232,7 @@ module _ (program : Program) (all all' : Thing → Option Row) (ps : List Person
 pub target_known : (trace : Trace) (program : Program) (all all' : Thing → Option Row) (ps : List Person) (s : Actors) (inv : KeepsCounts trace all ps s)
     (a : ℕ) (c : Cell) (ls : List Letter) (at : seat_at s a ≡ seat c ls) (f : Frame) (frame : c.frame ≡ Some f) (held_all : needed trace program a c f ≡ None)
     (grows : Grows all all' a c.holdings.next (turn_of_cell trace program a c f).turn.made) (nf : Option Frame) (nd : Bool) (names_nf : (x : Thing) → InFrame nf x → Names (turn_of_cell trace program a c f).turn.registers x)
-    (to b : ℕ) (args : List Value) (act : (turn_of_cell trace program a c f).act ≡ Post to b args) → IsKnown a (turned (turn_of_cell trace program a c f) nf nd c).holdings (Actor to)
+    (to b : ℕ) (args : List Value) (act : (turn_of_cell trace program a c f).act ≡ Post to b args) → IsKnown a (cell_after_turn (turn_of_cell trace program a c f) nf nd c).holdings (Actor to)
 target_known Deep program all all' ps s inv a c ls at f frame held_all grows nf nd names to b args act = deep_target program all all' ps s inv a c ls at f frame grows nf nd names to b args act
 target_known options.Roots program all all' ps s inv a c ls at f frame held_all grows nf nd names to b args act = flat_target program all all' ps s inv a c ls at f frame held_all grows nf nd names to b args act
 
@@ -240,12 +240,12 @@ pub posted_keeps : (trace : Trace) (program : Program) (all all' : Thing → Opt
     (a : ℕ) (c : Cell) (ls : List Letter) (at : seat_at s a ≡ seat c ls) (f : Frame) (frame : c.frame ≡ Some f) (held_all : needed trace program a c f ≡ None)
     (grows : Grows all all' a c.holdings.next (turn_of_cell trace program a c f).turn.made) (nf : Option Frame) (nd : Bool) (names_nf : (x : Thing) → InFrame nf x → Names (turn_of_cell trace program a c f).turn.registers x)
     (to b : ℕ) (args : List Value) (act : (turn_of_cell trace program a c f).act ≡ Post to b args)
-    → (let after = turned (turn_of_cell trace program a c f) nf nd c in
+    → (let after = cell_after_turn (turn_of_cell trace program a c f) nf nd c in
     let load = load_from trace a after.holdings args in
     let ps1 = set ps a (person_of after ls) in
     let s1 = set s a (seat after ls) in
     let ps2 = set ps1 a (person_of (record after { holdings = send a load after.holdings }) ls) in
-    seat_at s1 a ≡ seat after ls → lacking a after.holdings load ≡ []
+    seat_at s1 a ≡ seat after ls → lacking_of a after.holdings load ≡ []
     → KeepsCounts trace all' (set ps2 to (with_letter b args (person_at ps2 to))) (post a after ls to b args load (rows_from trace a after args) s1))
 posted_keeps Deep program all all' ps s inv a c ls at f frame held_all grows nf nd names to b args act at1 full =
     deep_posted program all all' ps s inv a c ls at f frame grows nf nd names to b args act _ _ (turn_keeps Deep program all all' ps s inv a c ls at f frame held_all grows nf nd names) at1 full
@@ -256,7 +256,7 @@ pub loaded_known : (trace : Trace) (program : Program) (all all' : Thing → Opt
     (a : ℕ) (c : Cell) (ls : List Letter) (at : seat_at s a ≡ seat c ls) (f : Frame) (frame : c.frame ≡ Some f) (held_all : needed trace program a c f ≡ None)
     (grows : Grows all all' a c.holdings.next (turn_of_cell trace program a c f).turn.made) (nf : Option Frame) (nd : Bool) (names_nf : (x : Thing) → InFrame nf x → Names (turn_of_cell trace program a c f).turn.registers x)
     (to b : ℕ) (args : List Value) (act : (turn_of_cell trace program a c f).act ≡ Post to b args)
-    → (let after = turned (turn_of_cell trace program a c f) nf nd c in
+    → (let after = cell_after_turn (turn_of_cell trace program a c f) nf nd c in
     seat_at (set s a (seat after ls)) a ≡ seat after ls → (x : Thing) → 0 < times_loaded x (load_from trace a after.holdings args) → IsKnown a after.holdings x)
 loaded_known Deep program all all' ps s inv a c ls at f frame held_all grows nf nd names to b args act at1 = deep_load program all all' ps s inv a c ls at f frame grows nf nd names to b args act
 loaded_known options.Roots program all all' ps s inv a c ls at f frame held_all grows nf nd names to b args act at1 =

@@ -7,7 +7,7 @@ use Rattle.orca_names.specs.declared.names.Thing.{Thing}
 use Rattle.orca_names.specs.declared.names.Thing.TheVariants.{Actor}
 use Rattle.orca_names.specs.declared.names.Value.{Value}
 use Rattle.letter_kinds.proofs.Counts.{cond_eq, cond_ne, held_one_sent, loaded-same, loaded_more}
-use Rattle.letter_kinds.specs.Counting.{Amount, Loaded, is_lacking, lacking, mint_all, mint_one, raise, send, send_one, spend}
+use Rattle.letter_kinds.specs.Counting.{Amount, Loaded, is_lacking, lacking_of, mint_all, mint_one, raise, send, send_one, spend}
 use Rattle.letter_kinds.specs.Holdings.{Holdings, Row, entry_row, has_own, held_in}
 use Rattle.letter_kinds.specs.Sums.{amount_of, times_loaded}
 use Rattle.letter_kinds.specs.declared.letter.Letter.{Letter}
@@ -101,7 +101,7 @@ module _ (trace : Trace) (all : Thing → Option Row) (ps : List Person) (s : Ac
 
 -- who knows what is loaded and lacks nothing of it has enough
 module _ (a : ℕ) (h : Holdings) (load : List Loaded) (once : (x : Thing) → times_loaded x load ≤ 1)
-    (known : (x : Thing) → 0 < times_loaded x load → IsKnown a h x) (full : lacking a h load ≡ []) where
+    (known : (x : Thing) → 0 < times_loaded x load → IsKnown a h x) (full : lacking_of a h load ≡ []) where
   held_load : (x : Thing) → owner_of x ≢ a → 0 < times_loaded x load → 0 < held_in h x
   held_load x o some = ⊎_elim (λ own. absurd (o own.0)) (λ other. other.1) (known x some)
 
@@ -114,7 +114,7 @@ module _ (a : ℕ) (h : Holdings) (load : List Loaded) (once : (x : Thing) → t
 module _ (all : Thing → Option Row) (ps : List Person) (s : Actors) (inv : KeepsCounts Deep all ps s)
     (a : ℕ) (c : Cell) (ls : List Letter) (at : seat_at s a ≡ seat c ls)
     (to b : ℕ) (args : List Value) (load rows : List Loaded) (exact : IsLoadOf all args load)
-    (known : (x : Thing) → 0 < times_loaded x load → IsKnown a c.holdings x) (known_to : IsKnown a c.holdings (Actor to)) (full : lacking a c.holdings load ≡ []) where
+    (known : (x : Thing) → 0 < times_loaded x load → IsKnown a c.holdings x) (known_to : IsKnown a c.holdings (Actor to)) (full : lacking_of a c.holdings load ≡ []) where
   enough : Enough a load c.holdings
   enough = known_enough a c.holdings load exact.once known full
 

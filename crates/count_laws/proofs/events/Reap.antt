@@ -23,7 +23,7 @@ use Rattle.machine_rules.specs.Actors.{Seat, Actors, seat_at, seat, Every}
 use Rattle.count_laws.specs.Agreement.{Person, person_at, person_of, IsRootPerson, Agrees, app_letters}
 use Rattle.machine_rules.specs.Balance.{held_at, loads_at}
 use Rattle.machine_rules.specs.Cell.{Cell}
-use Rattle.machine_rules.specs.Detect.{reap_members, reaped}
+use Rattle.machine_rules.specs.Detect.{reap_members, reap_in_turn}
 use Rattle.count_laws.specs.Facts.{IsFirmAt, IsPastRows, KeepsCounts, IsSound}
 use Rattle.count_laws.specs.Known.{Reaches, IsKnown, in_table, IsSoundAt}
 use Rattle.orca_names.specs.Names.{owner_of}
@@ -51,8 +51,8 @@ every_none Q s m every a c ls at = ⊎_elim
     apart c ls e = cc
 
 pub every_reap : (Q : ℕ → Cell → List Letter → Type 0) → ((es : List (Thing × ℕ)) (a : ℕ) (c : Cell) (ls : List Letter) → Q a c ls → Q a c (ls ++ Dec es ∷ []))
-    → (all ms : List ℕ) (gs : List (ℕ × List (Thing × ℕ))) (s : Actors) → Every Q s → Every Q (reaped all ms gs s)
-unfolding reaped
+    → (all ms : List ℕ) (gs : List (ℕ × List (Thing × ℕ))) (s : Actors) → Every Q s → Every Q (reap_in_turn all ms gs s)
+unfolding reap_in_turn
 every_reap Q stable all [] gs s every = every_decs Q stable gs s every
 every_reap Q stable all (m ∷ ms) gs s every = every_reap Q stable all ms _ (set s m None) (every_none Q s m every)
 
@@ -69,13 +69,13 @@ abbrev Idle : List Person → List ℕ → Type 0
 Idle ps [] = Unit {0}
 Idle ps (m ∷ ms) = (IsRootPerson (person_at ps m) → ⊥) × Idle ps ms
 
-agrees_reap : (ps : List Person) (all ms : List ℕ) (gs : List (ℕ × List (Thing × ℕ))) (s : Actors) → Idle ps ms → Agrees ps s → Agrees ps (reaped all ms gs s)
-unfolding reaped
+agrees_reap : (ps : List Person) (all ms : List ℕ) (gs : List (ℕ × List (Thing × ℕ))) (s : Actors) → Idle ps ms → Agrees ps s → Agrees ps (reap_in_turn all ms gs s)
+unfolding reap_in_turn
 agrees_reap ps all [] gs s idle ag = agrees_decs ps gs s ag
 agrees_reap ps all (m ∷ ms) gs s idle ag = agrees_reap ps all ms _ (set s m None) idle.1 (agrees_none ps s m idle.0 ag)
 
-pub length-reap : (all ms : List ℕ) (gs : List (ℕ × List (Thing × ℕ))) (s : Actors) → length (reaped all ms gs s) ≡ length s
-unfolding reaped
+pub length-reap : (all ms : List ℕ) (gs : List (ℕ × List (Thing × ℕ))) (s : Actors) → length (reap_in_turn all ms gs s) ≡ length s
+unfolding reap_in_turn
 length-reap all [] gs s = length-decs gs s
 length-reap all (m ∷ ms) gs s = length-reap all ms _ (set s m None) ∙ length-set s m None
 

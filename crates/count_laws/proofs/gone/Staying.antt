@@ -18,7 +18,7 @@ use Rattle.letter_kinds.specs.Holdings.{Holdings, Row, has_own, with_made}
 use Rattle.letter_kinds.specs.declared.letter.Letter.{Letter}
 use Rattle.letter_kinds.specs.declared.letter.Letter.TheVariants.{App, Inc, Dec, Confirm}
 use Rattle.machine_rules.proofs.Stepping.{step_of}
-use Rattle.machine_rules.specs.Rules.{IsStep, kept, later_frame}
+use Rattle.machine_rules.specs.Rules.{IsStep, cell_kept, later_frame}
 use Rattle.machine_rules.specs.Rules as rule
 use Rattle.count_laws.proofs.events.Every.{push_none, set_none}
 use Rattle.count_laws.proofs.balance.Makes.{more_other}
@@ -33,9 +33,9 @@ use Rattle.count_laws.proofs.balance.Sweeping.{has-sweep, next-sweep, same_holdi
 use Rattle.count_laws.proofs.events.Take.{next_held, next_own, next_receive}
 use Rattle.machine_rules.specs.Actors.{Actors, Seat, push_decs, push_letter, seat, seat_at}
 use Rattle.machine_rules.specs.Cell.{Cell, fresh_cell}
-use Rattle.machine_rules.specs.Collect.{collected, is_marked, without_unused}
-use Rattle.machine_rules.specs.Detect.{ask_all, held_outside, reaped}
-use Rattle.machine_rules.specs.Go.{load_from, make, mint, post, rows_from, turn_of_cell, turned}
+use Rattle.machine_rules.specs.Collect.{after_collect, is_marked, without_unused}
+use Rattle.machine_rules.specs.Detect.{ask_all, held_outside, reap_in_turn}
+use Rattle.machine_rules.specs.Go.{load_from, make, mint, post, rows_from, turn_of_cell, cell_after_turn}
 use Rattle.count_laws.specs.Gone.{GoneStaysGone, HasName, NamesStayGiven}
 use Rattle.orca_names.specs.declared.trace.Trace.{Trace}
 use Rattle.event_rule.specs.Runs.{Leads}
@@ -174,8 +174,8 @@ stays_clear s b = stays_by s (set s b None) (let l = length-set s b None in omeg
     (cases_lt b (length s)))
     (cases_eq i b))
 
-stays_reaped : (all members : List ℕ) (gs : List (ℕ × List Amount)) (s : Actors) → Stays s (reaped all members gs s)
-unfolding reaped
+stays_reaped : (all members : List ℕ) (gs : List (ℕ × List Amount)) (s : Actors) → Stays s (reap_in_turn all members gs s)
+unfolding reap_in_turn
 stays_reaped all [] gs s x named = stays_decs gs s x named
 stays_reaped all (a ∷ members) gs s x named = stays_trans s (set s a None) _ (stays_clear s a) (stays_reaped all members (gs ++ by_owner (held_outside all (seat_at s a))) (set s a None)) x named
 
@@ -185,22 +185,22 @@ stays_more s new = stays_read s (s ++ new ∷ []) (let l = length-append s (new 
 -- ---- an actor goes on
 
 module _ (s : Actors) (a : ℕ) (c : Cell) (mail : List Letter) (at : seat_at s a ≡ seat c mail) where
-  stays_turned : (stop : Stop) (frame : Option Frame) (dirty : Bool) → Stays s (set s a (seat (turned stop frame dirty c) mail))
-  stays_turned stop frame dirty = stays_cell s a c (turned stop frame dirty c) mail mail at (keeps_made stop.turn.made c.holdings)
+  stays_turned : (stop : Stop) (frame : Option Frame) (dirty : Bool) → Stays s (set s a (seat (cell_after_turn stop frame dirty c) mail))
+  stays_turned stop frame dirty = stays_cell s a c (cell_after_turn stop frame dirty c) mail mail at (keeps_made stop.turn.made c.holdings)
 
-  stays_made : (w : ℕ) (stop : Stop) (g : Frame) (fresh : Cell) → Stays s (make w a (turned stop (Some g) c.dirty c) mail fresh s)
+  stays_made : (w : ℕ) (stop : Stop) (g : Frame) (fresh : Cell) → Stays s (make w a (cell_after_turn stop (Some g) c.dirty c) mail fresh s)
   stays_made w stop g fresh =
       let h : Holdings = with_made stop.turn.made c.holdings in
-      let maker : Cell = record (turned stop (Some g) c.dirty c) { holdings = gain w (Actor (length s)) None h } in
+      let maker : Cell = record (cell_after_turn stop (Some g) c.dirty c) { holdings = gain w (Actor (length s)) None h } in
       stays_trans s (set s a (seat maker mail)) _
       (stays_cell s a c maker mail mail at (keeps_trans c.holdings h maker.holdings (keeps_made stop.turn.made c.holdings)
       (keeps_same h maker.holdings (next_held (λ k. k + w) (Actor (length s)) None h) (λ x. has_set_held (λ k. k + w) x (Actor (length s)) None h))))
       (stays_more (set s a (seat maker mail)) (seat fresh []))
 
-  stays_posted : (stop : Stop) (frame : Option Frame) (dirty : Bool) (to behaviour : ℕ) (args : List Value) (load rows : List Loaded) → Stays s (post a (turned stop frame dirty c) mail to behaviour args load rows s)
+  stays_posted : (stop : Stop) (frame : Option Frame) (dirty : Bool) (to behaviour : ℕ) (args : List Value) (load rows : List Loaded) → Stays s (post a (cell_after_turn stop frame dirty c) mail to behaviour args load rows s)
   stays_posted stop frame dirty to behaviour args load rows =
       let h : Holdings = with_made stop.turn.made c.holdings in
-      let sender : Cell = record (turned stop frame dirty c) { holdings = send a load h } in
+      let sender : Cell = record (cell_after_turn stop frame dirty c) { holdings = send a load h } in
       stays_trans s (set s a (seat sender mail)) _
       (stays_cell s a c sender mail mail at (keeps_trans c.holdings h sender.holdings (keeps_made stop.turn.made c.holdings)
       (keeps_same h sender.holdings (next_send a load h) (λ x. has-send a x load h))))
@@ -213,7 +213,7 @@ module _ (s : Actors) (a : ℕ) (c : Cell) (mail : List Letter) (at : seat_at s 
       (stays_cell s a c minter mail mail at (keeps_same c.holdings minter.holdings (next_mint things c.holdings) (λ x. has-mint_all x things c.holdings)))
       (stays_push (set s a (seat minter mail)) b (Inc things))
 
-  stays_collected : (marked : Thing → Bool) (d : Cell) → d.holdings ≡ c.holdings → Stays s (collected marked a d mail s)
+  stays_collected : (marked : Thing → Bool) (d : Cell) → d.holdings ≡ c.holdings → Stays s (after_collect marked a d mail s)
   stays_collected marked d same =
       let swept : Cell = record d { holdings = sweep marked a d.holdings; dirty = false } in
       stays_trans s (set s a (seat swept mail)) _
@@ -235,7 +235,7 @@ stays trace s (rule.prints a c mail f v stops) = stays_turned s.actors a c mail 
 stays trace s (rule.makes a c mail f kind register stops room) = stays_made s.actors a c mail stops.going.present s.options.weight (turn_of_cell trace s.program a c f) (with_name (later_frame trace s a c f) register (length s.actors)) (fresh_cell s.options.weight s.program kind)
 stays trace s (rule.posts a c mail f to behaviour args stops none) =
     stays_posted s.actors a c mail stops.going.present (turn_of_cell trace s.program a c f) (Some (stopped_at f (turn_of_cell trace s.program a c f))) c.dirty
-    to behaviour args (load_from trace a (kept trace s a c f).holdings args) (rows_from trace a (kept trace s a c f) args)
+    to behaviour args (load_from trace a (cell_kept trace s a c f).holdings args) (rows_from trace a (cell_kept trace s a c f) args)
 stays trace s (rule.mints a c mail f to behaviour args e lacked stops is) = stays_minted s.actors a c mail stops.going.present _ _
 stays trace s (rule.gets a c mail f x going need) = stays_minted s.actors a c mail going.present _ _
 stays trace s (rule.collects a c mail at may) = stays_collected s.actors a c mail at (is_marked trace a c) (without_unused trace a c) (same_holdings trace a c)

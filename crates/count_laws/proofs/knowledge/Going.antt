@@ -29,7 +29,7 @@ use Rattle.machine_rules.specs.Actors.{Actors, seat, seat_at}
 use Rattle.count_laws.specs.Agreement.{Person}
 use Rattle.machine_rules.specs.Cell.{Cell}
 use Rattle.count_laws.specs.Facts.{KeepsCounts}
-use Rattle.machine_rules.specs.Go.{turn_of_cell, turned}
+use Rattle.machine_rules.specs.Go.{turn_of_cell, cell_after_turn}
 use Rattle.count_laws.specs.Known.{InFrame, IsClosedAt, IsKnown, IsLoadOf, IsSoundAt, Names, Reaches, Roots, RowsAreAt, RowsAreIn, in_fields, in_frame, row_at}
 use Rattle.machine_rules.specs.Left.{IsLeft}
 use Rattle.orca_names.specs.declared.trace.Trace.TheVariants.{Deep}
@@ -99,7 +99,7 @@ module _ (program : Program) (all all' : Thing → Option Row) (ps : List Person
 
   module _ (grows : Grows all all' a c.holdings.next turn.turn.made) (nf : Option Frame) (nd : Bool) (names_nf : (x : Thing) → InFrame nf x → Names turn.turn.registers x) where
     unfoldable pub after : Cell
-    after = turned turn nf nd c
+    after = cell_after_turn turn nf nd c
 
     pub closed_after : IsClosedAt all' a after
     unfolding after

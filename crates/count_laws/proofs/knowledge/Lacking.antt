@@ -6,7 +6,7 @@ use Rattle.orca_names.proofs.ThingOrder.{cases_thing}
 use Rattle.orca_names.specs.Names.{owner_of}
 use Rattle.orca_names.specs.declared.names.Thing.{Thing}
 use Rattle.letter_kinds.proofs.Counts.{amount-nil, amount-same, amount-other, loaded-nil, loaded-other}
-use Rattle.letter_kinds.specs.Counting.{Loaded, is_lacking, lacking, to_mint}
+use Rattle.letter_kinds.specs.Counting.{Loaded, is_lacking, lacking_of, to_mint}
 use Rattle.letter_kinds.specs.Holdings.{Holdings, Row, held_in}
 use Rattle.letter_kinds.specs.Sums.{amount_of, times_loaded}
 use Rattle.reach_walk.specs.Marks.{in_order, with_owners}
@@ -53,7 +53,7 @@ minted_in w x q p (y ∷ es) h = elim (p y.0) as (λ b. p y.0 ≡ b → 0 < amou
   | false ↦ λ pf h. minted_in w x q p es h
 ] refl h
 
-pub to_mint_theirs : (w a b : ℕ) (c : Holdings) (es : List (Thing × Option Row)) (x : Thing) → 0 < amount_of x (to_mint w b (lacking a c es)) → (owner_of x ≡ b) × (0 < held_in c x) × (owner_of x ≢ a)
+pub to_mint_theirs : (w a b : ℕ) (c : Holdings) (es : List (Thing × Option Row)) (x : Thing) → 0 < amount_of x (to_mint w b (lacking_of a c es)) → (owner_of x ≡ b) × (0 < held_in c x) × (owner_of x ≢ a)
 to_mint_theirs w a b c es x h =
     let z = minted_in w x (λ y. owner_of y == b) (is_lacking a c) es h in
     let o = eqb-true (owner_of x) b z.0 in

@@ -16,7 +16,7 @@ use Rattle.letter_kinds.specs.Sums.{amount_of, dec_of, inc_of}
 use Rattle.letter_kinds.specs.declared.letter.Letter.{Letter}
 use Rattle.letter_kinds.specs.declared.letter.Letter.TheVariants.{App, Inc, Dec, Confirm}
 use Rattle.machine_rules.proofs.Stepping.{step_of}
-use Rattle.machine_rules.specs.Rules.{IsStep, kept, later_frame}
+use Rattle.machine_rules.specs.Rules.{IsStep, cell_kept, later_frame}
 use Rattle.machine_rules.specs.Rules as rule
 use Rattle.count_laws.proofs.events.Every.{every_more, every_set, push_none, set_none}
 use Rattle.count_laws.proofs.events.Reap.{every_none}
@@ -27,7 +27,7 @@ use Rattle.count_laws.proofs.letters.Shares.{AreForOwners, among_some, back_is_f
 use Rattle.machine_rules.specs.Actors.{Actors, Seat, push_decs, push_letter, seat, seat_at}
 use Rattle.machine_rules.specs.Cell.{Cell, first_cell, fresh_cell}
 use Rattle.machine_rules.specs.Collect.{is_marked, without_unused}
-use Rattle.machine_rules.specs.Detect.{ask_all, held_outside, reaped}
+use Rattle.machine_rules.specs.Detect.{ask_all, held_outside, reap_in_turn}
 use Rattle.machine_rules.specs.Go.{to_need}
 use Rattle.count_laws.specs.Letters.{AreFor, EventsKeepNamesOwn, LettersNameTheirOwn, NamesOwn, RunsNameOwn, StartNamesOwn}
 use Rattle.orca_names.specs.declared.trace.Trace.{Trace}
@@ -70,8 +70,8 @@ unfolding by_owner
 outside_for all None = tt
 outside_for all (Some o) = back_is_for (λ x. has all (owner_of x)) o.cell.holdings
 
-own_reaped : (all members : List ℕ) (gs : List (ℕ × List Amount)) (s : Actors) → AreForOwners gs → LettersNameTheirOwn s → LettersNameTheirOwn (reaped all members gs s)
-unfolding reaped
+own_reaped : (all members : List ℕ) (gs : List (ℕ × List Amount)) (s : Actors) → AreForOwners gs → LettersNameTheirOwn s → LettersNameTheirOwn (reap_in_turn all members gs s)
+unfolding reap_in_turn
 own_reaped all [] gs s are own = own_decs gs s are own
 own_reaped all (a ∷ members) gs s are own = own_reaped all members (gs ++ by_owner (held_outside all (seat_at s a))) (set s a None)
     (owners_append gs (by_owner (held_outside all (seat_at s a))) are (outside_for all (seat_at s a))) (every_none OwnMail s a own)
@@ -93,7 +93,7 @@ owned trace s (rule.makes a c mail f kind register stops room) own = every_more 
 owned trace s (rule.posts a c mail f to behaviour args stops none) own = own_push _ to (App behaviour args _ _) tt (own_cell s.actors a c _ mail mail stops.going.present (own a c mail stops.going.present) own)
 owned trace s (rule.mints a c mail f to behaviour args e lacked stops is) own =
     own_push _ (owner_of e.0) (Inc (to_mint s.options.weight (owner_of e.0) (e ∷ lacked)))
-    (mint_is_for trace s.options.weight a (owner_of e.0) (kept trace s a c f).holdings args (e ∷ lacked) is)
+    (mint_is_for trace s.options.weight a (owner_of e.0) (cell_kept trace s a c f).holdings args (e ∷ lacked) is)
     (own_cell s.actors a c _ mail mail stops.going.present (own a c mail stops.going.present) own)
 owned trace s (rule.gets a c mail f x going need) own =
     own_push _ (owner_of x) (Inc (to_need s.options.weight a c.holdings x)) (need_is_for s.options.weight a c.holdings x)

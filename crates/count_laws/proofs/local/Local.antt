@@ -10,7 +10,7 @@ use Rattle.letter_kinds.specs.Counting.{Amount, Loaded, gain, mint_all, send, sw
 use Rattle.letter_kinds.specs.Sums.{amount_of}
 use Rattle.machine_rules.specs.Cell.{Cell, first_cell, fresh_cell}
 use Rattle.machine_rules.specs.Collect.{is_marked, without_unused}
-use Rattle.machine_rules.specs.Go.{turn_of_cell, turned}
+use Rattle.machine_rules.specs.Go.{turn_of_cell, cell_after_turn}
 use Rattle.orca_names.specs.declared.trace.Trace.{Trace}
 use Rattle.plain_rules.specs.Machine.{stopped_at}
 use Rattle.machine_rules.specs.State.{start_letters}
@@ -30,9 +30,9 @@ pub record Local (trace : Trace) (Q : ℕ → Cell → List Letter → Type 0) :
   pub block : (a : ℕ) (c : Cell) (mail : List Letter) → may_block c mail ≡ true → Q a c mail → Q a (record c { reported = true }) mail
   -- it runs up to an act, or to the end of its behaviour
   pub turn : (program : Program) (a : ℕ) (c : Cell) (mail : List Letter) (f : Frame) → c.frame ≡ Some f → Q a c mail
-      → Q a (turned (turn_of_cell trace program a c f) (Some (stopped_at f (turn_of_cell trace program a c f))) c.dirty c) mail
+      → Q a (cell_after_turn (turn_of_cell trace program a c f) (Some (stopped_at f (turn_of_cell trace program a c f))) c.dirty c) mail
   pub end : (program : Program) (a : ℕ) (c : Cell) (mail : List Letter) (f : Frame) → c.frame ≡ Some f → Q a c mail
-      → Q a (turned (turn_of_cell trace program a c f) None true c) mail
+      → Q a (cell_after_turn (turn_of_cell trace program a c f) None true c) mail
   -- then it makes an actor, or sends; or it mints instead of the turn
   pub make : (weight a n : ℕ) (c : Cell) (mail : List Letter) (f g : Frame) → a < n → c.frame ≡ Some f → Q a c mail
       → Q a (record c { frame = Some g; holdings = gain weight (Actor n) None c.holdings }) mail

@@ -15,14 +15,14 @@ use Rattle.event_rule.specs.declared.event.Event.TheVariants.{Take, Go, Collect,
 use Rattle.letter_kinds.specs.declared.letter.Letter.{Letter}
 use Rattle.letter_kinds.specs.declared.letter.Letter.TheVariants.{App, Inc, Dec, Confirm}
 use Rattle.letter_kinds.specs.declared.note.Note.{Note}
-use Rattle.letter_kinds.specs.Counting.{Loaded, by_owner, gain, given_back, lacking, mint_all, send, sweep, to_mint, Amount}
+use Rattle.letter_kinds.specs.Counting.{Loaded, by_owner, gain, given_back, lacking_of, mint_all, send, sweep, to_mint, Amount}
 use Rattle.letter_kinds.specs.Detector.{Token, all_acked, closed_set, token_numbered}
 use Rattle.letter_kinds.specs.Sums.{amount_of}
 use Rattle.machine_rules.specs.Actors.{Actors, Seat, seat, seat_at, push_letter, Every}
 use Rattle.machine_rules.specs.Cell.{Cell, fresh_cell}
 use Rattle.machine_rules.specs.Collect.{is_marked, without_unused}
 use Rattle.machine_rules.specs.Detect.{ask_all}
-use Rattle.machine_rules.specs.Go.{act_in, load_from, make, needed, needing, post_or_mint, rows_from, to_need, turn_of_cell, turned, with_turn_kept, mint}
+use Rattle.machine_rules.specs.Go.{act_in, load_from, make, needed, needing, post_or_mint, rows_from, to_need, turn_of_cell, cell_after_turn, with_turn_kept, mint}
 use Rattle.event_rule.specs.Runs.{NotEnabled, IsFull, Goes}
 use Rattle.machine_rules.specs.Next.{next, next_by}
 use Rattle.orca_names.specs.declared.trace.Trace.{Trace}
@@ -35,7 +35,7 @@ use Rattle.count_laws.proofs.knowledge.Lacking.{to_mint_theirs, to_need_lacks}
 use Rattle.count_laws.proofs.events.Reap.{every_reap}
 use Rattle.count_laws.proofs.local.Local.{Local}
 use Rattle.machine_rules.proofs.Present.{present_below}
-use Rattle.machine_rules.specs.Rules.{IsStep, IsGoing, takes, kept, kept_in, ends, later_frame, prints, makes, posts, mints, gets, collects, leaves, blocks, hears, scans, reaps}
+use Rattle.machine_rules.specs.Rules.{IsStep, IsGoing, takes, cell_kept, cell_kept_in, ends, later_frame, prints, makes, posts, mints, gets, collects, leaves, blocks, hears, scans, reaps}
 use Rattle.machine_rules.proofs.Stepping.{is_step}
 use Rattle.machine_rules.proofs.Guards.{collector}
 
@@ -57,13 +57,13 @@ module _ (trace : Trace) (Q : ℕ → Cell → List Letter → Type 0) (local : 
 
   module _ (a : ℕ) (c : Cell) (mail : List Letter) (f : Frame) (s : State) (going : IsGoing s a c mail f) where
     abbrev after : Cell
-    after = kept trace s a c f
+    after = cell_kept trace s a c f
 
     here : Every Q s.actors → Q a after mail
     here h = local.turn s.program a c mail f going.framed (h a c mail going.present)
 
     on_new : (kind register : ℕ) → Every Q s.actors
-        → Every Q (make s.options.weight a (kept_in trace s a c f (with_name (later_frame trace s a c f) register (length s.actors))) mail (fresh_cell s.options.weight s.program kind) s.actors)
+        → Every Q (make s.options.weight a (cell_kept_in trace s a c f (with_name (later_frame trace s a c f) register (length s.actors))) mail (fresh_cell s.options.weight s.program kind) s.actors)
     on_new kind register h =
         let n = length s.actors in
         let g = with_name (later_frame trace s a c f) register n in
@@ -81,16 +81,16 @@ module _ (trace : Trace) (Q : ℕ → Cell → List Letter → Type 0) (local : 
   every_step : (s : State) {e : Event} {t : State} → IsStep trace s e t → Every Q s.actors → Every Q t.actors
   every_step s (takes a c l mail at idle) h = every_here s.actors a _ (cell_after s.program a l c) mail at (local.take s.program a c l mail idle (h a c (l ∷ mail) at)) h
   every_step s (ends a c mail f stops) h =
-      every_here s.actors a _ (turned (turn_of_cell trace s.program a c f) None true c) mail stops.going.present (local.end s.program a c mail f stops.going.framed (h a c mail stops.going.present)) h
-  every_step s (prints a c mail f v stops) h = every_here s.actors a _ (kept trace s a c f) mail stops.going.present (here a c mail f s stops.going h) h
+      every_here s.actors a _ (cell_after_turn (turn_of_cell trace s.program a c f) None true c) mail stops.going.present (local.end s.program a c mail f stops.going.framed (h a c mail stops.going.present)) h
+  every_step s (prints a c mail f v stops) h = every_here s.actors a _ (cell_kept trace s a c f) mail stops.going.present (here a c mail f s stops.going h) h
   every_step s (makes a c mail f kind register stops room) h = on_new a c mail f s stops.going kind register h
   every_step s (posts a c mail f to behaviour args stops lacked) h =
-      let after = kept trace s a c f in
+      let after = cell_kept trace s a c f in
       let load = load_from trace a after.holdings args in
       every_letter _ to (App behaviour args load (rows_from trace a after args))
       (every_here s.actors a _ (record after { holdings = send a load after.holdings }) mail stops.going.present (local.send a after mail (later_frame trace s a c f) load refl (here a c mail f s stops.going h)) h)
   every_step s (mints a c mail f to behaviour args y ys stops lacked) h =
-      let h2 = (kept trace s a c f).holdings in
+      let h2 = (cell_kept trace s a c f).holdings in
       let w = s.options.weight in
       on_mint a c mail f s stops.going (owner_of y.0) (to_mint w (owner_of y.0) (y ∷ ys))
       (λ x some. (to_mint_theirs w a (owner_of y.0) h2 (load_from trace a h2 args) x (subst (λ q. 0 < amount_of x (to_mint w (owner_of y.0) q)) (sym lacked) some)).2) h

@@ -37,7 +37,7 @@ use Rattle.count_laws.proofs.knowledge.Turns.{along_edges, along_rows}
 use Rattle.machine_rules.specs.Actors.{Actors, seat, seat_at}
 use Rattle.count_laws.specs.Agreement.{Person}
 use Rattle.machine_rules.specs.Cell.{Cell, listed_objects, own_row_of, row_by_roots}
-use Rattle.machine_rules.specs.Collect.{collected, is_in_use, is_marked_by_roots, start_of_marks, without_unused}
+use Rattle.machine_rules.specs.Collect.{after_collect, is_in_use, is_marked_by_roots, start_of_marks, without_unused}
 use Rattle.count_laws.specs.Facts.{KeepsCounts}
 use Rattle.count_laws.specs.Known.{InFrame, IsKnown, Names, Reaches}
 use Rattle.count_laws.specs.KnownByRoots.{IsBacked, IsKnownWithOwner, IsNamedIn, IsRootsAt, WalkRoots, by_field, by_frame, by_row, held, mine, named}
@@ -302,7 +302,7 @@ module _ (all : Thing → Option Row) (ps : List Person) (s : Actors) (inv : Kee
     backed = λ x k o h. backed_after x k (here.backed x k o h);
   }
 
-  pub collect_keeps_roots : KeepsCounts options.Roots all ps (collected (is_marked_by_roots a c) a (without_unused options.Roots a c) ls s)
+  pub collect_keeps_roots : KeepsCounts options.Roots all ps (after_collect (is_marked_by_roots a c) a (without_unused options.Roots a c) ls s)
   collect_keeps_roots = collect_put options.Roots all ps s inv a c (without_unused options.Roots a c) ls at marked refl refl
       (every_decs (IsRootsAt all) (λ es. roots_push all (Dec es) tt (λ x. (letter_Dec x es).0)) (by_owner (given_back marked c.holdings)) (set s a (seat d ls))
       (every_set (IsRootsAt all) s a d ls (present_below s a _ at) swept_roots inv.sound))

@@ -18,7 +18,7 @@ use Rattle.machine_rules.proofs.Present.{present_below}
 use Rattle.event_rule.proofs.Steps.{goes_to}
 use Rattle.machine_rules.specs.Actors.{Actors, cell_at, cell_of, seat, seat_at}
 use Rattle.machine_rules.specs.Cell.{Cell, own_row_of, row_by_roots}
-use Rattle.machine_rules.specs.Collect.{collected, is_in_use, is_marked, is_marked_by_roots, start_of_marks, without_unused}
+use Rattle.machine_rules.specs.Collect.{after_collect, is_in_use, is_marked, is_marked_by_roots, start_of_marks, without_unused}
 use Rattle.orca_names.specs.declared.trace.Trace.TheVariants as options
 use Rattle.event_rule.specs.Runs.{Goes}
 use Rattle.machine_rules.specs.Next.{next}
@@ -177,7 +177,7 @@ module _ (all : Thing → Option Row) (ps : List Person) (s : Actors) (inv : Kee
   was_reached : {x : Thing} → MarkedReach a c d x → MarkedReach a c c x
   was_reached h = reach_into (thing_row (row_by_roots a d)) (MarkedReach a c c) (λ x m. root m) (λ x y r p e n. along_row (thing_row (row_by_roots a c)) p (row_before x r e) n) (λ n p. owned p) h
 
-  pub keeps_reached : (t : State) → t.actors ≡ collected (is_marked_by_roots a c) a (without_unused options.Roots a c) ls s → (before : State) → before.actors ≡ s → KeepsWhatMarkedReach before t a
+  pub keeps_reached : (t : State) → t.actors ≡ after_collect (is_marked_by_roots a c) a (without_unused options.Roots a c) ls s → (before : State) → before.actors ≡ s → KeepsWhatMarkedReach before t a
   keeps_reached t is before was = record {
     before = c;
     had = ap (λ actors. cell_at actors a) was ∙ ap cell_of at;

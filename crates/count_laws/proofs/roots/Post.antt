@@ -16,7 +16,7 @@ use Rattle.reach_walk.specs.Marks.{load_of, load_roots}
 use Rattle.letter_kinds.proofs.Amounts.{held-mint_all, own-mint_all}
 use Rattle.letter_kinds.proofs.Counts.{held-send, held-send_own, held_set_same, own-send, own_set_held}
 use Rattle.letter_kinds.proofs.Sums.{sum-nil}
-use Rattle.letter_kinds.specs.Counting.{Amount, Loaded, gain, lacking, mint_all, send}
+use Rattle.letter_kinds.specs.Counting.{Amount, Loaded, gain, lacking_of, mint_all, send}
 use Rattle.letter_kinds.specs.Detector.{has}
 use Rattle.letter_kinds.specs.Holdings.{Row, has_own, held_in, own_in}
 use Rattle.letter_kinds.specs.Sums.{amount_of, inc_of, load_count, times_loaded}
@@ -61,7 +61,7 @@ every_pushed Q s b l o at new every = rw (push_is s b l o at) (every_set Q s b o
 module _ (all : Thing → Option Row) (ps : List Person) (s : Actors) (inv : KeepsCounts options.Roots all ps s)
     (a : ℕ) (c : Cell) (ls : List Letter) (at : seat_at s a ≡ seat c ls) (to b : ℕ) (args : List Value)
     (known_args : (x : Thing) → Names args x → IsKnownWithOwner a c.holdings x) (walk : (x : Thing) → Names args x → Reaches all (WalkRoots a c) x)
-    (known_to : IsKnown a c.holdings (Actor to)) (full : lacking a c.holdings (load_roots args) ≡ []) where
+    (known_to : IsKnown a c.holdings (Actor to)) (full : lacking_of a c.holdings (load_roots args) ≡ []) where
   abbrev load : List Loaded
   load = load_roots args
 

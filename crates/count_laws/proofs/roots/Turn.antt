@@ -42,7 +42,7 @@ use Rattle.machine_rules.specs.Actors.{Actors, seat, seat_at}
 use Rattle.count_laws.specs.Agreement.{Person, person_of}
 use Rattle.machine_rules.specs.Cell.{Cell, own_row_of, row_by_roots}
 use Rattle.count_laws.specs.Facts.{KeepsCounts}
-use Rattle.machine_rules.specs.Go.{lacks, needed, needs, setting_of, turn_of_cell, turned}
+use Rattle.machine_rules.specs.Go.{lacks, needed, needs, setting_of, turn_of_cell, cell_after_turn}
 use Rattle.count_laws.specs.Known.{InFrame, IsKnown, Names, Reaches, RowsAreIn}
 use Rattle.count_laws.specs.KnownByRoots.{AreRootLetters, IsKnownWithOwner, IsNamedIn, IsRootLetter, IsRootsAt, WalkRoots, by_field, by_frame, by_row, held, mine, named, stands}
 use Rattle.machine_rules.specs.Left.{IsLeft}
@@ -225,7 +225,7 @@ module _ (program : Program) (all all' : Thing → Option Row) (ps : List Person
 
     module _ (grows : Grows all all' a c.holdings.next made) (nf : Option Frame) (nd : Bool) (names_nf : (x : Thing) → InFrame nf x → Names stop.turn.registers x) where
       abbrev c1 : Cell
-      c1 = turned stop nf nd c
+      c1 = cell_after_turn stop nf nd c
 
       same_held : (x : Thing) → held_in c1.holdings x ≡ held_in c.holdings x
       same_held x = held-made a c.holdings.next made c.holdings fresh x

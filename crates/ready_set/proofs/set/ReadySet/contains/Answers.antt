@@ -3,7 +3,7 @@ use Rattle.std.specs.Int.{bit_at}
 use Rattle.std.proofs.lemmas.List.{get_or_read}
 use Rattle.std.proofs.lemmas.Option.{slice_get-get_or}
 use Rattle.ready_set.proofs.Words.{length-places, get_or-places}
-use Rattle.ready_set.proofs.set.ReadySet.has.Goals as goal
+use Rattle.ready_set.proofs.set.ReadySet.contains.Goals as goal
 
 pub index-requires : goal.index-requires
 index-requires c = omega (arith, length-places c.self.inside.words.items, ap length c.self.view_is, c.self.inside.words.ok.0)
