@@ -11,149 +11,142 @@ use behaviour_code::{Behaviour, Instr, Kind, Names, Program};
 use orca_names::NoMemory;
 use std::alloc::{AllocError, Global};
 
-/// Ends a line with registers.
-fn with_registers(alloc: Global, head: String, registers: &[u64]) -> Result<String, AllocError>
-    ensures { IfOk result (λ line. string_bytes line ≡ string_bytes head ++ rest_of_line (map register registers.now)) }
+/// The registers that end a line, and its line feed.
+fn push_registers(out: &mut String, registers: &[u64]) -> Result<(), AllocError>
+    ensures { OnOk result (string_bytes out.new ≡ string_bytes out.old ++ rest_of_line (map register registers.now)) }
 {
-    let mut line = head;
     for number in registers {
-        let word = format!(in alloc; " r{number}")?;
-        line.push_str(&word)?;
+        write!(out, " r{number}")?;
     }
-    line.push('\n')?;
-    Ok(line)
+    out.push('\n')
 }
 
-fn row_line(alloc: Global, into: u64, values: &[u64]) -> Result<String, AllocError>
-    ensures { IfOk result (λ line. string_bytes line ≡ line_of (codes "row" ∷ register into ∷ map register values.now)) }
+fn push_row(out: &mut String, into: u64, values: &[u64]) -> Result<(), AllocError>
+    ensures { OnOk result (string_bytes out.new
+        ≡ string_bytes out.old ++ line_of (codes "row" ∷ register into ∷ map register values.now)) }
 {
-    let head = format!(in alloc; "row r{into}")?;
-    with_registers(alloc, head, values)
+    write!(out, "row r{into}")?;
+    push_registers(out, values)
 }
 
-fn send_line(alloc: Global, to: u64, name: &str, values: &[u64]) -> Result<String, AllocError>
-    ensures { IfOk result (λ line. string_bytes line ≡ line_of (codes "send" ∷ register to ∷ name.now ∷ map register values.now)) }
+fn push_send(out: &mut String, to: u64, name: &str, values: &[u64]) -> Result<(), AllocError>
+    ensures { OnOk result (string_bytes out.new
+        ≡ string_bytes out.old ++ line_of (codes "send" ∷ register to ∷ name.now ∷ map register values.now)) }
 {
-    let head = format!(in alloc; "send r{to} {name}")?;
-    with_registers(alloc, head, values)
+    write!(out, "send r{to} {name}")?;
+    push_registers(out, values)
 }
 
-fn instr_line(alloc: Global, names: &Names, instr: &Instr) -> Result<String, AllocError>
-    ensures { IfOk result (λ line. string_bytes line ≡ line_of (instr_words (text_of names.now) instr.now)) }
+/// The line of an instruction.
+fn push_instr(out: &mut String, names: &Names, instr: &Instr) -> Result<(), AllocError>
+    ensures { OnOk result (string_bytes out.new ≡ string_bytes out.old ++ line_of (instr_words (text_of names.now) instr.now)) }
 {
     match instr {
-        Instr::Drop(d) => format!(in alloc; "drop r{d}\n"),
-        Instr::Int(d, n) => format!(in alloc; "int r{d} {n}\n"),
-        Instr::Own(d) => format!(in alloc; "self r{d}\n"),
-        Instr::Copy(d, s) => format!(in alloc; "copy r{d} r{s}\n"),
-        Instr::Add(d, a, b) => format!(in alloc; "add r{d} r{a} r{b}\n"),
-        Instr::Sub(d, a, b) => format!(in alloc; "sub r{d} r{a} r{b}\n"),
-        Instr::Mul(d, a, b) => format!(in alloc; "mul r{d} r{a} r{b}\n"),
-        Instr::Less(d, a, b) => format!(in alloc; "less r{d} r{a} r{b}\n"),
-        Instr::Same(d, a, b) => format!(in alloc; "same r{d} r{a} r{b}\n"),
-        Instr::Row(d, values) => row_line(alloc, *d, values.as_slice()),
-        Instr::Get(d, s, n) => format!(in alloc; "get r{d} r{s} {n}\n"),
-        Instr::Load(d, f) => format!(in alloc; "load r{d} f{f}\n"),
-        Instr::Store(f, s) => format!(in alloc; "store f{f} r{s}\n"),
-        Instr::Jump(l) => named_line(alloc, "jump", names.text_or_empty(*l)),
-        Instr::JumpZero(a, l) => numbered_line(alloc, "jzero", *a, names.text_or_empty(*l)),
-        Instr::Label(l) => named_line(alloc, "label", names.text_or_empty(*l)),
-        Instr::Pin => format!(in alloc; "pin\n"),
-        Instr::Unpin => format!(in alloc; "unpin\n"),
-        Instr::New(d, k) => numbered_line(alloc, "new", *d, names.text_or_empty(*k)),
+        Instr::Drop(d) => write!(out, "drop r{d}\n"),
+        Instr::Int(d, n) => write!(out, "int r{d} {n}\n"),
+        Instr::Own(d) => write!(out, "self r{d}\n"),
+        Instr::Copy(d, s) => write!(out, "copy r{d} r{s}\n"),
+        Instr::Add(d, a, b) => write!(out, "add r{d} r{a} r{b}\n"),
+        Instr::Sub(d, a, b) => write!(out, "sub r{d} r{a} r{b}\n"),
+        Instr::Mul(d, a, b) => write!(out, "mul r{d} r{a} r{b}\n"),
+        Instr::Less(d, a, b) => write!(out, "less r{d} r{a} r{b}\n"),
+        Instr::Same(d, a, b) => write!(out, "same r{d} r{a} r{b}\n"),
+        Instr::Row(d, values) => push_row(out, *d, values.as_slice()),
+        Instr::Get(d, s, n) => write!(out, "get r{d} r{s} {n}\n"),
+        Instr::Load(d, f) => write!(out, "load r{d} f{f}\n"),
+        Instr::Store(f, s) => write!(out, "store f{f} r{s}\n"),
+        Instr::Jump(l) => push_named(out, "jump", names.text_or_empty(*l)),
+        Instr::JumpZero(a, l) => push_numbered(out, "jzero", *a, names.text_or_empty(*l)),
+        Instr::Label(l) => push_named(out, "label", names.text_or_empty(*l)),
+        Instr::Pin => write!(out, "pin\n"),
+        Instr::Unpin => write!(out, "unpin\n"),
+        Instr::New(d, k) => push_numbered(out, "new", *d, names.text_or_empty(*k)),
         Instr::Send(t, b, values) => {
-            send_line(alloc, *t, names.text_or_empty(*b), values.as_slice())
+            push_send(out, *t, names.text_or_empty(*b), values.as_slice())
         }
-        Instr::Print(a) => format!(in alloc; "print r{a}\n"),
+        Instr::Print(a) => write!(out, "print r{a}\n"),
     }
 }
 
-fn named_line(alloc: Global, word: &str, name: &str) -> Result<String, AllocError>
-    ensures { IfOk result (λ line. string_bytes line ≡ line_of (word.now ∷ name.now ∷ [])) }
+fn push_named(out: &mut String, word: &str, name: &str) -> Result<(), AllocError>
+    ensures { OnOk result (string_bytes out.new ≡ string_bytes out.old ++ line_of (word.now ∷ name.now ∷ [])) }
 {
-    format!(in alloc; "{word} {name}\n")
+    write!(out, "{word} {name}\n")
 }
 
-fn numbered_line(alloc: Global, word: &str, number: u64, name: &str) -> Result<String, AllocError>
-    ensures { IfOk result (λ line. string_bytes line ≡ line_of (word.now ∷ register number ∷ name.now ∷ [])) }
+fn push_numbered(out: &mut String, word: &str, number: u64, name: &str) -> Result<(), AllocError>
+    ensures { OnOk result (string_bytes out.new
+        ≡ string_bytes out.old ++ line_of (word.now ∷ register number ∷ name.now ∷ [])) }
 {
-    format!(in alloc; "{word} r{number} {name}\n")
+    write!(out, "{word} r{number} {name}\n")
 }
 
 /// The line that begins a kind or a behaviour.
-fn begin_line(alloc: Global, word: &str, name: &str, number: u8) -> Result<String, AllocError>
-    ensures { IfOk result (λ line. string_bytes line ≡ line_of (word.now ∷ name.now ∷ decimal number ∷ [])) }
+fn push_begin(out: &mut String, word: &str, name: &str, number: u8) -> Result<(), AllocError>
+    ensures { OnOk result (string_bytes out.new
+        ≡ string_bytes out.old ++ line_of (word.now ∷ name.now ∷ decimal number ∷ [])) }
 {
-    format!(in alloc; "{word} {name} {number}\n")
+    write!(out, "{word} {name} {number}\n")
 }
 
-fn put(out: &mut Vec<u8>, line: &str) -> Result<(), AllocError>
-    ensures { OnOk result (out.new.items ≡ out.old.items ++ line.now) }
-{
-    out.extend_from_slice(line.as_bytes())
-}
-
-fn put_body(
-    alloc: Global,
-    out: &mut Vec<u8>,
-    names: &Names,
-    body: &[Instr],
-) -> Result<(), AllocError>
-    ensures { OnOk result (out.new.items ≡ out.old.items ++ flat_map line_of (map (instr_words (text_of names.now)) body.now)) }
+fn push_body(out: &mut String, names: &Names, body: &[Instr]) -> Result<(), AllocError>
+    ensures { OnOk result (string_bytes out.new
+        ≡ string_bytes out.old ++ flat_map line_of (map (instr_words (text_of names.now)) body.now)) }
 {
     for instr in body {
-        let line = instr_line(alloc, names, instr)?;
-        put(out, &line)?;
+        push_instr(out, names, instr)?;
     }
     Ok(())
 }
 
-fn put_behaviour(
-    alloc: Global,
-    out: &mut Vec<u8>,
-    names: &Names,
-    behaviour: &Behaviour,
-) -> Result<(), AllocError>
-    ensures { OnOk result (out.new.items ≡ out.old.items ++ flat_map line_of (behaviour_lines (text_of names.now) behaviour.now)) }
+fn push_behaviour(out: &mut String, names: &Names, behaviour: &Behaviour) -> Result<(), AllocError>
+    ensures { OnOk result (string_bytes out.new
+        ≡ string_bytes out.old ++ flat_map line_of (behaviour_lines (text_of names.now) behaviour.now)) }
 {
-    let text = names.text_or_empty(behaviour.name);
-    let begin = begin_line(alloc, "on", text, behaviour.parameters)?;
-    put(out, &begin)?;
-    put_body(alloc, out, names, behaviour.body.as_slice())?;
-    put(out, "end\n")
+    let name = names.text_or_empty(behaviour.name);
+    push_begin(out, "on", name, behaviour.parameters)?;
+    push_body(out, names, &behaviour.body)?;
+    out.push_str("end\n")
 }
 
-fn put_behaviours(
-    alloc: Global,
-    out: &mut Vec<u8>,
+fn push_behaviours(
+    out: &mut String,
     names: &Names,
     behaviours: &[Behaviour],
 ) -> Result<(), AllocError>
-    ensures { OnOk result (out.new.items ≡ out.old.items ++ flat_map line_of (flat_map (behaviour_lines (text_of names.now)) behaviours.now)) }
+    ensures { OnOk result (string_bytes out.new
+        ≡ string_bytes out.old ++ flat_map line_of (flat_map (behaviour_lines (text_of names.now)) behaviours.now)) }
 {
     for behaviour in behaviours {
-        put_behaviour(alloc, out, names, behaviour)?;
+        push_behaviour(out, names, behaviour)?;
     }
     Ok(())
 }
 
-fn put_kind(alloc: Global, out: &mut Vec<u8>, names: &Names, kind: &Kind) -> Result<(), AllocError>
-    ensures { OnOk result (out.new.items ≡ out.old.items ++ flat_map line_of (kind_lines (text_of names.now) kind.now)) }
+fn push_kind(out: &mut String, names: &Names, kind: &Kind) -> Result<(), AllocError>
+    ensures { OnOk result (string_bytes out.new
+        ≡ string_bytes out.old ++ flat_map line_of (kind_lines (text_of names.now) kind.now)) }
 {
-    let text = names.text_or_empty(kind.name);
-    let begin = begin_line(alloc, "kind", text, kind.fields)?;
-    put(out, &begin)?;
-    put_behaviours(alloc, out, names, kind.behaviours.as_slice())
+    let name = names.text_or_empty(kind.name);
+    push_begin(out, "kind", name, kind.fields)?;
+    push_behaviours(out, names, &kind.behaviours)
+}
+
+/// The canonical text as a string.
+fn canonical_string(alloc: Global, program: &Program) -> Result<String, AllocError>
+    ensures { IfOk result (λ text. string_bytes text ≡ canonical program.now) }
+{
+    let mut out = String::new(alloc);
+    for kind in program.kinds.iter() {
+        push_kind(&mut out, &program.names, kind)?;
+    }
+    Ok(out)
 }
 
 fn canonical_bytes(alloc: Global, program: &Program) -> Result<Vec<u8>, AllocError>
     ensures { IfOk result (λ bytes. bytes.items ≡ canonical program.now) }
 {
-    let mut out = Vec::new(alloc);
-    for kind in program.kinds.as_slice() {
-        put_kind(alloc, &mut out, &program.names, kind)?;
-    }
-    Ok(out)
+    Ok(canonical_string(alloc, program)?.into_bytes())
 }
 
 /// The canonical text of a program: a line for each kind, behaviour and instruction, with no leading

@@ -4,6 +4,7 @@ use Rattle.std.specs.declared.option.Option.{Option}
 use Rattle.std.specs.Option.{option_map_or}
 use Rattle.std.specs.Str.{bytes_eq}
 use Rattle.std.specs.Str.Parse.{digits_value, without_leading_plus}
+use Rattle.orca_names.specs.declared.limits.TheConstants.{BOOK_LIMIT, WORKERS_LIMIT}
 use Rattle.clap.specs.Words.{Row, Text, fault_of, first_of, subcommand_of}
 use Rattle.clap.specs.Walk.{is_empty}
 use Rattle.clap.specs.ValueTests.{accepts}
@@ -23,7 +24,7 @@ option_in most default name rows = option_map_or (number_in 1 most) (first_of na
 -- the order that the options of `run` give
 abbrev pub order_with : List Row → Option Order
 order_with rows = option_and_then (λ workers. option_map (λ budget. record { job = Run; workers = workers; budget = budget })
-    (option_in 100000000 1000000 (codes "budget") rows)) (option_in 16 2 (codes "workers") rows)
+    (option_in BOOK_LIMIT 1000000 (codes "budget") rows)) (option_in WORKERS_LIMIT 2 (codes "workers") rows)
 
 -- the order that the subcommand gives
 abbrev pub order_in : Option (Text × List Row) → Option Order
@@ -41,5 +42,5 @@ order_of words = if is_empty words then Some default_order
 
 -- the values of an order are in their ranges
 pub record IsInRange (order : Order) : Type 0 where
-  pub workers : (1 ≤ order.workers) × (order.workers ≤ 16)
-  pub budget : (1 ≤ order.budget) × (order.budget ≤ 100000000)
+  pub workers : (1 ≤ order.workers) × (order.workers ≤ WORKERS_LIMIT)
+  pub budget : (1 ≤ order.budget) × (order.budget ≤ BOOK_LIMIT)

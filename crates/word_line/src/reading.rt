@@ -6,17 +6,11 @@ ghost use Rattle.word_line.specs.Orders.{IsInRange, number_in, option_in, order_
 ghost use Rattle.word_line.specs.declared.order.WordErr.TheVariants.{BadWords};
 
 use crate::command::command;
-use crate::order::{Job, Order, WordErr};
+use crate::order::{Order, WordErr};
 use clap::ArgMatches;
 use clap::error::ErrorKind;
 use orca_names::{BOOK_LIMIT, WORKERS_LIMIT};
 use std::alloc::Global;
-
-const DEFAULT: Order = Order {
-    job: Job::Run,
-    workers: 2,
-    budget: 1_000_000,
-};
 
 /// The number that the text is, where it is from `least` to `most`.
 fn number_in(text: &str, least: u64, most: u64) -> Option<u64>
@@ -59,13 +53,14 @@ fn order_with(matches: &ArgMatches<'_>) -> Option<Order>
     ensures order { result ≡ order_with (rows_of (found_of matches.now)) }
     ensures range { IfSome result IsInRange }
 {
+    let order = Order::default();
     let most = u64::from(WORKERS_LIMIT);
-    let workers = option_in(matches, "workers", most, u64::from(DEFAULT.workers))?;
-    let budget = option_in(matches, "budget", BOOK_LIMIT, DEFAULT.budget)?;
+    let workers = option_in(matches, "workers", most, u64::from(order.workers))?;
+    let budget = option_in(matches, "budget", BOOK_LIMIT, order.budget)?;
     Some(Order {
-        job: Job::Run,
         workers: workers as u32,
         budget,
+        ..order
     })
 }
 
@@ -88,7 +83,7 @@ fn read_list<'a>(alloc: Global, words: &'a [&'a str]) -> Result<Order, WordErr>
     ensures range { IfOk result IsInRange }
 {
     if words.is_empty() {
-        return Ok(DEFAULT);
+        return Ok(Order::default());
     }
     let Ok(command) = command(alloc) else {
         return Err(WordErr::NoMemory);

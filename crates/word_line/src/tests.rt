@@ -66,3 +66,14 @@ fn words_without_a_reading(rt: HostRuntime) -> Result<(), Fail> {
     assert!(rt; read_words(rt.alloc(), &[""]) == Err(WordErr::BadWords));
     Ok(())
 }
+
+#[test]
+fn errors_as_texts(rt: HostRuntime) -> Result<(), Fail> {
+    for (error, text) in [
+        (WordErr::BadWords, "the words have no reading"),
+        (WordErr::NoMemory, "out of memory"),
+    ] {
+        assert_eq!(rt; error.to_string(rt.alloc())?.as_str(), text);
+    }
+    Ok(())
+}
