@@ -7,9 +7,9 @@ ghost use Rattle.behaviour_code.specs.Find.{behaviours_of, takes_call};
 ghost use Rattle.plain_rules.specs.Machine.{actor_after_take, frame_of, fresh_actor, first_actor as the_first};
 
 use behaviour_code::{Behaviour, Program};
-use plain_rules::{PlainActor, PlainLetter};
 use orca_names::{Args, Fields, NoMemory};
 use plain_list::{Listed, Queue};
+use plain_rules::{PlainActor, PlainLetter};
 use std::alloc::Global;
 use turn_rules::FrameRoom;
 

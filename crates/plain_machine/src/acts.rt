@@ -8,8 +8,8 @@ ghost use Rattle.plain_machine.specs.Undo.{has_rows, frame_left};
 use crate::actor::fresh_actor;
 use crate::table::Table;
 use behaviour_code::Program;
-use plain_rules::PlainLetter;
 use orca_names::{ActorName, NoMemory, Value};
+use plain_rules::PlainLetter;
 use std::alloc::Global;
 use turn_step::Turn;
 

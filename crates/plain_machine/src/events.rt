@@ -15,8 +15,8 @@ use crate::machine::PlainFault;
 use crate::table::{AllRows, Table, actor_at};
 use behaviour_check::Checked;
 use behaviour_code::{Name, Program, Registers};
-use plain_rules::PlainLetter;
 use orca_names::{ACTORS_LIMIT, ActorName, NoMemory, Reading, Value};
+use plain_rules::PlainLetter;
 use std::alloc::Global;
 use turn_step::{Deed, Setting, Turn, segment_at};
 

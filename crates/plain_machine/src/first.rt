@@ -5,8 +5,8 @@ ghost use Rattle.plain_machine.specs.First.{ComesFirst, IsIdle, event_of};
 ghost use Rattle.plain_machine.specs.Ready.{IsIndex, can_act as acts};
 
 use event_rule::Event;
-use plain_rules::PlainActor;
 use orca_names::ActorName;
+use plain_rules::PlainActor;
 use ready_set::ReadySet;
 
 /// Whether the actor can do something: it has a frame or a letter.

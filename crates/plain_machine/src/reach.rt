@@ -12,9 +12,9 @@ ghost use Rattle.plain_rules.specs.Reach.{is_root, plain_edges, roots_from, valu
 ghost use Rattle.plain_machine.specs.Things.{all_things, edges_are_listed};
 
 use crate::table::{AllRows, actor_at};
-use plain_rules::{PlainActor, PlainLetter};
 use orca_names::{ActorName, NoMemory, Rows, Thing, Value};
 use plain_list::Queue;
+use plain_rules::{PlainActor, PlainLetter};
 use reach_walk::{Edges, walk};
 use std::alloc::Global;
 use turn_rules::FrameRoom;

@@ -10,7 +10,11 @@ fn books_are_filled_and_written(rt: HostRuntime) -> Result<(), Fail> {
     let alloc = rt.alloc();
     let mut book = Book::new(alloc);
     assert_eq!(rt; book.text(alloc)?.as_slice(), b"book 1\n".as_slice());
-    let entries = [Event::Take(ActorName(0)), Event::Hear, Event::Reap(u64::MAX)];
+    let entries = [
+        Event::Take(ActorName(0)),
+        Event::Hear,
+        Event::Reap(u64::MAX),
+    ];
     book.reserve(3)?;
     for entry in entries {
         book.reserve(1)?;
