@@ -24,11 +24,14 @@ LabelsDiffer body = (name : ℕ) → AllPairs (AreNotBoth (I.Label name)) body
 
 -- an actor is made of a kind that there is
 abbrev pub MakesKnown : List Kind → List Instr → Type 0
-MakesKnown kinds body = (register name : ℕ) → Contains body (I.New register name) → Contains (map (λ k. k.name) kinds) name
+MakesKnown kinds body =
+    (register name : ℕ) → Contains body (I.New register name)
+    → Contains (map (λ k. k.name) kinds) name
 
 -- where an instruction jumps to a label, that label stands later
 abbrev pub JumpsAhead : List Instr → Type 0
-JumpsAhead body = (place label : ℕ) (i : Instr) → slice_get body place ≡ Some i → target_of i ≡ Some label →
+JumpsAhead body =
+    (place label : ℕ) (i : Instr) → slice_get body place ≡ Some i → target_of i ≡ Some label →
     (later : ℕ) × (place < later) × (slice_get body later ≡ Some (I.Label label))
 
 -- its registers are those of a frame

@@ -66,7 +66,8 @@ instr_rule kinds fields earlier i later =
 
 -- a rule that fails at this place
 abbrev pub fault_at : ℕ → ℕ → ℕ → ℕ → CheckFault
-fault_at kind behaviour step rule = record { kind = kind; behaviour = behaviour; step = step; rule = rule }
+fault_at kind behaviour step rule =
+    record { kind = kind; behaviour = behaviour; step = step; rule = rule }
 
 -- the fault of a place, none where no rule fails there
 abbrev pub at_place : ℕ → ℕ → ℕ → Option ℕ → List CheckFault

@@ -18,7 +18,8 @@ behaviours_of program kind = option_map_or (λ k. k.behaviours) (slice_get progr
 
 -- the instructions of a behaviour, none where there is no such behaviour
 abbrev pub body_of : Program → ℕ → ℕ → List Instr
-body_of program kind behaviour = option_map_or (λ b. b.body) (slice_get (behaviours_of program kind) behaviour) []
+body_of program kind behaviour =
+    option_map_or (λ b. b.body) (slice_get (behaviours_of program kind) behaviour) []
 
 -- a kind of the name
 abbrev pub is_kind : ℕ → Kind → Bool
@@ -34,7 +35,8 @@ is_start texts b = bytes_eq (text_of texts b.name) (codes "start") && (b.paramet
 
 -- the name of the first kind's behaviour `start` without parameters, with which a run begins
 abbrev pub start_name : Program → Option ℕ
-start_name program = option_map (λ b. b.name) (find (is_start program.names) (behaviours_of program 0))
+start_name program =
+    option_map (λ b. b.name) (find (is_start program.names) (behaviours_of program 0))
 
 -- a label of the name
 abbrev pub is_label : ℕ → Instr → Bool

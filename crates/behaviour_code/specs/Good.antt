@@ -51,7 +51,8 @@ name_in _ = None
 
 -- each text has one name
 pub record AreApart (texts : List (List ℕ)) : Type 0 where
-  pub apart : (m n : ℕ) → m < length texts → n < length texts → text_of texts m ≡ text_of texts n → m ≡ n
+  pub apart : (m n : ℕ) → m < length texts → n < length texts → text_of texts m ≡ text_of texts n
+      → m ≡ n
 
 -- the name has a text, which has a name's form
 pub record NameFits (texts : List (List ℕ)) (name : ℕ) : Type 0 where
@@ -70,11 +71,13 @@ body_names text texts (i ∷ is) = body_names text (instr_names text texts (name
 
 abbrev pub behaviours_names : (ℕ → List ℕ) → List (List ℕ) → List Behaviour → List (List ℕ)
 behaviours_names text texts [] = texts
-behaviours_names text texts (b ∷ bs) = behaviours_names text (body_names text (with_text texts (text b.name)) b.body) bs
+behaviours_names text texts (b ∷ bs) =
+    behaviours_names text (body_names text (with_text texts (text b.name)) b.body) bs
 
 abbrev pub kinds_names : (ℕ → List ℕ) → List (List ℕ) → List Kind → List (List ℕ)
 kinds_names text texts [] = texts
-kinds_names text texts (k ∷ ks) = kinds_names text (behaviours_names text (with_text texts (text k.name)) k.behaviours) ks
+kinds_names text texts (k ∷ ks) =
+    kinds_names text (behaviours_names text (with_text texts (text k.name)) k.behaviours) ks
 
 pub record InstrIsGood (texts : List (List ℕ)) (i : Instr) : Type 0 where
   pub fits : InstrFits i

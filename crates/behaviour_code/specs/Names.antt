@@ -4,7 +4,9 @@ use Rattle.std.specs.List.{list_all, list_any, position_or_len}
 
 -- a letter, a digit or _
 abbrev pub is_name_byte : ℕ → Bool
-is_name_byte b = (nat_le 48 b && nat_le b 57) || (nat_le 65 b && nat_le b 90) || (b == 95) || (nat_le 97 b && nat_le b 122)
+is_name_byte b =
+    (nat_le 48 b && nat_le b 57) || (nat_le 65 b && nat_le b 90) || (b == 95)
+    || (nat_le 97 b && nat_le b 122)
 
 -- 1 to 32 letters, digits or _
 abbrev pub is_name : List ℕ → Bool

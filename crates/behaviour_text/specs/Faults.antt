@@ -27,7 +27,8 @@ kind_fault stage kinds fields = if nat_lt 255 kinds || nat_lt 8 fields then Some
 abbrev pub on_fault : Stage → ℕ → ℕ → Option ℕ
 on_fault Start behaviours parameters = Some 7
 on_fault InBehaviour behaviours parameters = Some 8
-on_fault InKind behaviours parameters = if nat_lt 63 behaviours || nat_lt 8 parameters then Some 9 else None
+on_fault InKind behaviours parameters =
+    if nat_lt 63 behaviours || nat_lt 8 parameters then Some 9 else None
 
 -- a line that stands within a behaviour alone: 7 elsewhere
 abbrev pub inside_fault : Stage → Option ℕ → Option ℕ
@@ -48,12 +49,14 @@ place_fault place (W.Instr opcode) operands = inside_fault place.stage (body_fau
 -- the lowest fault of a line with this first word: 3 to 9
 abbrev pub word_fault : Place → Option LineWord → List (List ℕ) → Option ℕ
 word_fault place None operands = Some 3
-word_fault place (Some word) operands = option_or (shape_fault word operands) (place_fault place word operands)
+word_fault place (Some word) operands =
+    option_or (shape_fault word operands) (place_fault place word operands)
 
 -- the same of its words; a line without words and a comment have none
 unfoldable pub words_fault : Place → List (List ℕ) → Option ℕ
 words_fault place [] = None
-words_fault place (word ∷ operands) = if starts_with 35 word then None else word_fault place (line_word word) operands
+words_fault place (word ∷ operands) =
+    if starts_with 35 word then None else word_fault place (line_word word) operands
 
 -- 1 for a byte that is not allowed, 2 for more than 256 bytes
 abbrev pub kind_number : LineKind → ℕ
@@ -62,19 +65,25 @@ kind_number LongLine = 2
 
 -- the lowest fault of a line at its place: 1 to 9
 unfoldable pub lowest_fault : Place → List ℕ → Option ℕ
-lowest_fault place line = option_or (option_map kind_number (line_fault line)) (words_fault place (words_of line))
+lowest_fault place line =
+    option_or (option_map kind_number (line_fault line)) (words_fault place (words_of line))
 
 -- the place behind a line with this first word
 abbrev pub behind_word : Place → LineWord → Place
 behind_word place W.Kind = record place { stage = InKind; kinds = place.kinds + 1; behaviours = 0 }
 behind_word place W.On = record place { stage = InBehaviour; instructions = 0 }
-behind_word place W.End = record place { stage = InKind; behaviours = place.behaviours + 1; instructions = 0 }
+behind_word place W.End = record place {
+  stage = InKind;
+  behaviours = place.behaviours + 1;
+  instructions = 0;
+}
 behind_word place (W.Instr opcode) = record place { instructions = place.instructions + 1 }
 
 -- the place behind a line of these words
 unfoldable pub place_after : Place → List (List ℕ) → Place
 place_after place [] = place
-place_after place (word ∷ operands) = if starts_with 35 word then place else option_map_or (behind_word place) (line_word word) place
+place_after place (word ∷ operands) =
+    if starts_with 35 word then place else option_map_or (behind_word place) (line_word word) place
 
 -- 8 at the last line where the text ends within a behaviour
 abbrev pub end_fault : ℕ → Stage → Option (ℕ × ℕ)
@@ -85,7 +94,8 @@ end_fault line stage = None
 unfoldable pub first_from : ℕ → Place → List (List ℕ) → Option (ℕ × ℕ)
 first_from n place [] = end_fault n place.stage
 first_from n place (line ∷ lines) =
-    option_or (option_map (λ kind. (n + 1, kind)) (lowest_fault place line)) (first_from (n + 1) (place_after place (words_of line)) lines)
+    option_or (option_map (λ kind. (n + 1, kind)) (lowest_fault place line))
+    (first_from (n + 1) (place_after place (words_of line)) lines)
 
 -- the first fault of a text: its line, counted from 1, and its kind
 unfoldable pub first_fault : List ℕ → Option (ℕ × ℕ)

@@ -38,7 +38,12 @@ kinds_begun stage n = n + 1
 
 -- the place of the next line
 abbrev pub place_of : Reader → Place
-place_of r = record { stage = r.stage; kinds = kinds_begun r.stage (length r.kinds); behaviours = length r.behaviours; instructions = length r.body }
+place_of r = record {
+  stage = r.stage;
+  kinds = kinds_begun r.stage (length r.kinds);
+  behaviours = length r.behaviours;
+  instructions = length r.body;
+}
 
 -- the last kind is put to the others
 abbrev pub closed_at : Stage → Reader → Reader
@@ -53,17 +58,32 @@ closed r = closed_at r.stage r
 
 -- a kind is begun
 unfoldable pub with_kind : Reader → ℕ → ℕ → Reader
-with_kind r name fields = record (closed r) { stage = InKind; kind_name = name; fields = fields; behaviours = [] }
+with_kind r name fields = record (closed r) {
+  stage = InKind;
+  kind_name = name;
+  fields = fields;
+  behaviours = [];
+}
 
 -- a behaviour is begun
 unfoldable pub with_on : Reader → ℕ → ℕ → Reader
-with_on r name parameters = record r { stage = InBehaviour; behaviour_name = name; parameters = parameters; body = [] }
+with_on r name parameters = record r {
+  stage = InBehaviour;
+  behaviour_name = name;
+  parameters = parameters;
+  body = [];
+}
 
 -- the behaviour is ended
 unfoldable pub with_end : Reader → Reader
 with_end r = record r {
   stage = InKind;
-  behaviours = r.behaviours ++ record { name = r.behaviour_name; parameters = r.parameters; body = r.body } ∷ [];
+  behaviours =
+      r.behaviours ++ record {
+        name = r.behaviour_name;
+        parameters = r.parameters;
+        body = r.body;
+      } ∷ [];
   body = [];
 }
 
@@ -93,16 +113,19 @@ with_named r word (name, texts) operands = with_item (record r { names = texts }
 
 abbrev pub with_word : Reader → Option LineWord → List (List ℕ) → Reader
 with_word r None operands = r
-with_word r (Some word) operands = with_named r word (named r.names (name_place word) operands) operands
+with_word r (Some word) operands =
+    with_named r word (named r.names (name_place word) operands) operands
 
 -- what was read after a line of these words
 unfoldable pub with_words : Reader → List (List ℕ) → Reader
 with_words r [] = r
-with_words r (word ∷ operands) = if starts_with 35 word then r else with_word r (line_word word) operands
+with_words r (word ∷ operands) =
+    if starts_with 35 word then r else with_word r (line_word word) operands
 
 -- `new` is what `old` is after a line without a fault
 pub record LineTaken (old new : Reader) (line : List ℕ) (fault : Option LineKind) : Type 0 where
-  pub clean : option_or (option_map kind_number fault) (words_fault (place_of old) (words_of line)) ≡ None
+  pub clean : option_or (option_map kind_number fault) (words_fault (place_of old) (words_of line))
+      ≡ None
   pub next : new ≡ with_words old (words_of line)
 
 -- what was read at the end, unless the text ends within a behaviour
@@ -118,7 +141,9 @@ unless_fault line (Some kind) rest = Err (line, kind)
 -- what was read after the lines, n of which came before; or the first fault
 unfoldable pub read_from : ℕ → Reader → List (List ℕ) → Result Reader (ℕ × ℕ)
 read_from n r [] = read_end n r r.stage
-read_from n r (line ∷ lines) = unless_fault (n + 1) (lowest_fault (place_of r) line) (read_from (n + 1) (with_words r (words_of line)) lines)
+read_from n r (line ∷ lines) =
+    unless_fault (n + 1) (lowest_fault (place_of r) line)
+    (read_from (n + 1) (with_words r (words_of line)) lines)
 
 -- the program of what was read
 abbrev pub finished : Reader → Program

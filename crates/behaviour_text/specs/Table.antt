@@ -36,7 +36,12 @@ spelling (W.Instr C.Send) = codes "send"
 spelling (W.Instr C.Print) = codes "print"
 
 abbrev pub all_words : List LineWord
-all_words = W.Kind ∷ W.On ∷ W.End ∷ W.Instr C.Drop ∷ W.Instr C.Int ∷ W.Instr C.Own ∷ W.Instr C.Copy ∷ W.Instr C.Add ∷ W.Instr C.Sub ∷ W.Instr C.Mul ∷ W.Instr C.Less ∷ W.Instr C.Same ∷ W.Instr C.Row ∷ W.Instr C.Get ∷ W.Instr C.Load ∷ W.Instr C.Store ∷ W.Instr C.Jump ∷ W.Instr C.JumpZero ∷ W.Instr C.Label ∷ W.Instr C.Pin ∷ W.Instr C.Unpin ∷ W.Instr C.New ∷ W.Instr C.Send ∷ W.Instr C.Print ∷ []
+all_words =
+    W.Kind ∷ W.On ∷ W.End ∷ W.Instr C.Drop ∷ W.Instr C.Int ∷ W.Instr C.Own ∷ W.Instr C.Copy
+    ∷ W.Instr C.Add ∷ W.Instr C.Sub ∷ W.Instr C.Mul ∷ W.Instr C.Less ∷ W.Instr C.Same
+    ∷ W.Instr C.Row ∷ W.Instr C.Get ∷ W.Instr C.Load ∷ W.Instr C.Store ∷ W.Instr C.Jump
+    ∷ W.Instr C.JumpZero ∷ W.Instr C.Label ∷ W.Instr C.Pin ∷ W.Instr C.Unpin ∷ W.Instr C.New
+    ∷ W.Instr C.Send ∷ W.Instr C.Print ∷ []
 
 -- what a first word says
 unfoldable pub line_word : List ℕ → Option LineWord
@@ -82,7 +87,8 @@ starts_with letter (b ∷ bs) = b == letter
 -- a letter, and a numeral behind it; else 4 where the letter is missing, 5 where the numeral is
 abbrev pub lettered_fault : ℕ → List ℕ → Option ℕ
 lettered_fault letter word =
-    if starts_with letter word then (if is_some (numeral (drop 1 word)) then None else Some 5) else Some 4
+    if starts_with letter word then (if is_some (numeral (drop 1 word)) then None else Some 5)
+    else Some 4
 
 -- the lowest fault of one operand: 4, 5 or 6; the letters are r and f
 abbrev pub operand_fault : Operand → List ℕ → Option ℕ
@@ -101,11 +107,14 @@ lowest (Some a) (Some b) = Some (min a b)
 abbrev pub operands_fault : List Operand → List (List ℕ) → Option ℕ
 operands_fault operands [] = None
 operands_fault [] (word ∷ words) = lowest (operand_fault P.Register word) (operands_fault [] words)
-operands_fault (operand ∷ operands) (word ∷ words) = lowest (operand_fault operand word) (operands_fault operands words)
+operands_fault (operand ∷ operands) (word ∷ words) =
+    lowest (operand_fault operand word) (operands_fault operands words)
 
 abbrev pub fits_count : LineWord → ℕ → Bool
-fits_count word n = nat_le (length (operands_of word)) n && nat_le n (length (operands_of word) + most_further word)
+fits_count word n =
+    nat_le (length (operands_of word)) n && nat_le n (length (operands_of word) + most_further word)
 
 -- the lowest fault of the operands of a line: 4 where they are too few or too many
 unfoldable pub shape_fault : LineWord → List (List ℕ) → Option ℕ
-shape_fault word operands = if fits_count word (length operands) then operands_fault (operands_of word) operands else Some 4
+shape_fault word operands =
+    if fits_count word (length operands) then operands_fault (operands_of word) operands else Some 4

@@ -55,7 +55,8 @@ kind_begin text name fields = codes "kind" ∷ text name ∷ decimal fields ∷ 
 
 -- the lines of a behaviour, of a kind, of a program, each as its words
 abbrev pub behaviour_lines : (ℕ → List ℕ) → Behaviour → List (List (List ℕ))
-behaviour_lines text b = behaviour_begin text b.name b.parameters ∷ (map (instr_words text) b.body ++ behaviour_end ∷ [])
+behaviour_lines text b =
+    behaviour_begin text b.name b.parameters ∷ (map (instr_words text) b.body ++ behaviour_end ∷ [])
 
 abbrev pub kind_lines : (ℕ → List ℕ) → Kind → List (List (List ℕ))
 kind_lines text k = kind_begin text k.name k.fields ∷ flat_map (behaviour_lines text) k.behaviours
@@ -76,7 +77,8 @@ said_lines lines = filter speaks (map words_of lines)
 abbrev pub AreClean : List (List ℕ) → Type 0
 AreClean lines = All (λ line. line_fault line ≡ None) lines
 
--- the bytes are a text of the program: their lines are its kinds, behaviours and instructions, in order
+-- the bytes are a text of the program: their lines are its kinds, behaviours and instructions, in
+-- order
 pub record IsText (bytes : List ℕ) (p : Program) : Type 0 where
   pub clean : AreClean (lines_of bytes)
   pub lines : said_lines (lines_of bytes) ≡ program_lines p

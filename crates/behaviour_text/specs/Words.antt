@@ -23,7 +23,9 @@ has_numeral_form (d ∷ e ∷ ds) = not (d == 48) && list_all is_digit (d ∷ e 
 
 -- the number of a numeral, which has 64 bits
 abbrev pub numeral : List ℕ → Option ℕ
-numeral word = if has_numeral_form word && nat_lt (digits_value 10 word) (2 ^ 64) then Some (digits_value 10 word) else None
+numeral word =
+    if has_numeral_form word && nat_lt (digits_value 10 word) (2 ^ 64)
+    then Some (digits_value 10 word) else None
 
 -- the word at a place, empty where there is none
 abbrev pub word_at : List (List ℕ) → ℕ → List ℕ

@@ -33,7 +33,8 @@ pub(crate) fn small_at(words: &[&[u8]], i: usize) -> u8
 }
 
 fn registers_of(alloc: Global, words: &[&[u8]]) -> Result<Vec<u64>, AllocError>
-    ensures { IfOk result (λ registers. registers.items ≡ map register_of (map (λ w. w.now) words.now)) }
+    ensures { IfOk result (λ registers. registers.items
+        ≡ map register_of (map (λ w. w.now) words.now)) }
 {
     let mut registers = Vec::new(alloc);
     for word in words {
@@ -44,7 +45,9 @@ fn registers_of(alloc: Global, words: &[&[u8]]) -> Result<Vec<u64>, AllocError>
 
 fn row_of(alloc: Global, words: &[&[u8]]) -> Result<Instr, AllocError>
     requires { (2 ≤ length words.now) × (length words.now ≤ 9) }
-    ensures { IfOk result (λ i. i ≡ Instr.Row (register_at (map (λ w. w.now) words.now) 0) (map register_of (drop 1 (map (λ w. w.now) words.now)))) }
+    ensures { IfOk result (λ i. i
+        ≡ Instr.Row (register_at (map (λ w. w.now) words.now) 0)
+        (map register_of (drop 1 (map (λ w. w.now) words.now)))) }
 {
     match words {
         [into, values @ ..] => {
@@ -57,7 +60,8 @@ fn row_of(alloc: Global, words: &[&[u8]]) -> Result<Instr, AllocError>
 
 fn send_of(alloc: Global, name: Name, words: &[&[u8]]) -> Result<Instr, AllocError>
     requires { (2 ≤ length words.now) × (length words.now ≤ 10) }
-    ensures { IfOk result (λ i. i ≡ Instr.Send (register_at (map (λ w. w.now) words.now) 0) name (map register_of (drop 2 (map (λ w. w.now) words.now)))) }
+    ensures { IfOk result (λ i. i ≡ Instr.Send (register_at (map (λ w. w.now) words.now) 0) name
+        (map register_of (drop 2 (map (λ w. w.now) words.now)))) }
 {
     match words {
         [to, _, values @ ..] => {

@@ -13,7 +13,8 @@ use std::alloc::{AllocError, Global};
 
 /// The registers that end a line, and its line feed.
 fn push_registers(out: &mut String, registers: &[u64]) -> Result<(), AllocError>
-    ensures { OnOk result (string_bytes out.new ≡ string_bytes out.old ++ rest_of_line (map register registers.now)) }
+    ensures { OnOk result (string_bytes out.new ≡ string_bytes out.old
+        ++ rest_of_line (map register registers.now)) }
 {
     for number in registers {
         write!(out, " r{number}")?;
@@ -39,7 +40,8 @@ fn push_send(out: &mut String, to: u64, name: &str, values: &[u64]) -> Result<()
 
 /// The line of an instruction.
 fn push_instr(out: &mut String, names: &Names, instr: &Instr) -> Result<(), AllocError>
-    ensures { OnOk result (string_bytes out.new ≡ string_bytes out.old ++ line_of (instr_words (text_of names.now) instr.now)) }
+    ensures { OnOk result (string_bytes out.new ≡ string_bytes out.old
+        ++ line_of (instr_words (text_of names.now) instr.now)) }
 {
     match instr {
         Instr::Drop(d) => write!(out, "drop r{d}\n"),
@@ -69,7 +71,8 @@ fn push_instr(out: &mut String, names: &Names, instr: &Instr) -> Result<(), Allo
 }
 
 fn push_named(out: &mut String, word: &str, name: &str) -> Result<(), AllocError>
-    ensures { OnOk result (string_bytes out.new ≡ string_bytes out.old ++ line_of (word.now ∷ name.now ∷ [])) }
+    ensures { OnOk result (string_bytes out.new ≡ string_bytes out.old
+        ++ line_of (word.now ∷ name.now ∷ [])) }
 {
     write!(out, "{word} {name}\n")
 }
@@ -101,7 +104,8 @@ fn push_body(out: &mut String, names: &Names, body: &[Instr]) -> Result<(), Allo
 
 fn push_behaviour(out: &mut String, names: &Names, behaviour: &Behaviour) -> Result<(), AllocError>
     ensures { OnOk result (string_bytes out.new
-        ≡ string_bytes out.old ++ flat_map line_of (behaviour_lines (text_of names.now) behaviour.now)) }
+        ≡ string_bytes out.old
+        ++ flat_map line_of (behaviour_lines (text_of names.now) behaviour.now)) }
 {
     let name = names.text_or_empty(behaviour.name);
     push_begin(out, "on", name, behaviour.parameters)?;
@@ -115,7 +119,8 @@ fn push_behaviours(
     behaviours: &[Behaviour],
 ) -> Result<(), AllocError>
     ensures { OnOk result (string_bytes out.new
-        ≡ string_bytes out.old ++ flat_map line_of (flat_map (behaviour_lines (text_of names.now)) behaviours.now)) }
+        ≡ string_bytes out.old
+        ++ flat_map line_of (flat_map (behaviour_lines (text_of names.now)) behaviours.now)) }
 {
     for behaviour in behaviours {
         push_behaviour(out, names, behaviour)?;
@@ -160,8 +165,11 @@ pub fn print(alloc: Global, program: &Program) -> Result<Vec<u8>, NoMemory>
     // It is a text of the program, if some text gives the program; it has no fault, and it is a text
     // of no other program: reading it gives the program back.
     ensures text { ProgramIsGood program.now → IfOk result (λ bytes. IsText bytes.items program.now) }
-    ensures sound { ProgramIsGood program.now → IfOk result (λ bytes. first_fault bytes.items ≡ None) }
-    ensures only { ProgramIsGood program.now → IfOk result (λ bytes. (p : Program) → IsText bytes.items p → ProgramIsGood p → p ≡ program.now) }
+    ensures sound { ProgramIsGood program.now
+        → IfOk result (λ bytes. first_fault bytes.items ≡ None) }
+    ensures only { ProgramIsGood program.now
+        → IfOk result (λ bytes. (p : Program) → IsText bytes.items p → ProgramIsGood p
+        → p ≡ program.now) }
 {
     Ok(canonical_bytes(alloc, program)?)
 }

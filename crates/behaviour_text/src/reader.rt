@@ -133,7 +133,9 @@ impl Reader {
     fn name_of(&mut self, word: LineWord, operands: &[&[u8]]) -> Result<Name, AllocError>
         requires few { length self.old.names < 2 ^ 32 }
         requires fits { shape_fault word (map (λ w. w.now) operands.now) ≡ None }
-        ensures { IfOk result (λ name. IsNamed self.old self.new (named self.old.names (name_place word) (map (λ w. w.now) operands.now)) name) }
+        ensures { IfOk result
+            (λ name. IsNamed self.old self.new
+            (named self.old.names (name_place word) (map (λ w. w.now) operands.now)) name) }
     {
         match name_place(word) {
             Some(place) => {
@@ -152,7 +154,8 @@ impl Reader {
         operands: &[&[u8]],
     ) -> Result<(), AllocError>
         requires { fits_count word (length operands.now) ≡ true }
-        ensures { OnOk result (self.new ≡ with_item self.old word name (map (λ w. w.now) operands.now)) }
+        ensures { OnOk result (self.new
+            ≡ with_item self.old word name (map (λ w. w.now) operands.now)) }
     {
         match word {
             LineWord::Kind => self.begin_kind(alloc, name, small_at(operands, 1)),

@@ -29,7 +29,9 @@ fn kind_number(fault: LineKind) -> u8
 
 /// The lowest fault of a line, of which the fault by itself is known.
 fn line_fault(reader: &Reader, fault: Option<LineKind>, words: &[&[u8]]) -> Option<u8>
-    ensures { result ≡ option_or (option_map kind_number fault) (words_fault (place_of reader.now) (map (λ w. w.now) words.now)) }
+    ensures { result
+        ≡ option_or (option_map kind_number fault)
+        (words_fault (place_of reader.now) (map (λ w. w.now) words.now)) }
 {
     match fault {
         Some(fault) => Some(kind_number(fault)),
@@ -47,7 +49,10 @@ fn take_line(
 ) -> Result<(), TextErr>
     requires { length reader.old.names < 2 ^ 32 }
     ensures ok { OnOk result (LineTaken reader.old reader.new line.now fault) }
-    ensures fault { IfErr result (Tells (option_map (λ kind. (number, kind)) (option_or (option_map kind_number fault) (words_fault (place_of reader.old) (words_of line.now))))) }
+    ensures fault { IfErr result
+        (Tells (option_map (λ kind. (number, kind))
+        (option_or (option_map kind_number fault)
+        (words_fault (place_of reader.old) (words_of line.now))))) }
 {
     let words = words_of(alloc, line)?;
     match line_fault(reader, fault, &words) {
@@ -122,10 +127,12 @@ pub fn parse(alloc: Global, bytes: &[u8]) -> Result<Program, TextErr>
     // The text says this program, which keeps the limits; of such programs it says no other.
     ensures text { IfOk result (IsText bytes.now) }
     ensures good { IfOk result ProgramIsGood }
-    ensures only { (p : Program) → IsText bytes.now p → ProgramIsGood p → IfOk result (λ found. found ≡ p) }
+    ensures only { (p : Program) → IsText bytes.now p → ProgramIsGood p
+        → IfOk result (λ found. found ≡ p) }
 
     // It is refused exactly where it says no such program, for its first fault.
-    ensures none { IfErr result (λ e. IsFault e → (p : Program) → IsText bytes.now p → ProgramIsGood p → ⊥) }
+    ensures none { IfErr result (λ e. IsFault e → (p : Program) → IsText bytes.now p
+        → ProgramIsGood p → ⊥) }
     ensures sound { OnOk result (first_fault bytes.now ≡ None) }
     ensures fault { IfErr result (Tells (first_fault bytes.now)) }
 {

@@ -21,7 +21,8 @@ HasNoEvent s a = (e : Event) → actor_of e ≡ Some a → next s e ≡ NotEnabl
 pub record IsApart (s : State) (a : ℕ) (e : Event) : Type 0 where
   pub made : a < length s.actors
   pub others : actor_of e ≢ Some a
-  pub spared : (number : ℕ) (t : Token) → e ≡ Reap number → token_numbered number s.detector ≡ Some t → has t.members a ≡ false
+  pub spared : (number : ℕ) (t : Token) → e ≡ Reap number
+      → token_numbered number s.detector ≡ Some t → has t.members a ≡ false
 
 -- ---- another cell
 
@@ -45,7 +46,9 @@ step_with_cell a c (Goes t) = Goes (with_cell a c t)
 
 -- an event apart from the actor is the same whether the cell is changed before it or after
 abbrev pub CellsCanBeAway : Type 0
-CellsCanBeAway = (s : State) (a : ℕ) (c : Cell) (e : Event) → IsApart s a e → next (with_cell a c s) e ≡ step_with_cell a c (next s e)
+CellsCanBeAway =
+    (s : State) (a : ℕ) (c : Cell) (e : Event) → IsApart s a e
+    → next (with_cell a c s) e ≡ step_with_cell a c (next s e)
 
 -- ---- what such an event leaves
 
@@ -55,18 +58,21 @@ pub record LeavesCell (s t : State) (a : ℕ) : Type 0 where
   pub come : List Letter
   pub mail : mail_at t.actors a ≡ mail_at s.actors a ++ come
 
--- a letter that comes can enable the actor's take, and ends its leave and its block; nothing else of the
--- actor's is enabled by the event, or ended
+-- a letter that comes can enable the actor's take, and ends its leave and its block; nothing else
+-- of the actor's is enabled by the event, or ended
 pub record KeepsEnabled (s t : State) (a : ℕ) : Type 0 where
   pub take : IsEnabled next s (Take a) → IsEnabled next t (Take a)
-  pub no_more : mail_at t.actors a ≡ mail_at s.actors a → IsEnabled next t (Take a) → IsEnabled next s (Take a)
+  pub no_more : mail_at t.actors a ≡ mail_at s.actors a → IsEnabled next t (Take a)
+      → IsEnabled next s (Take a)
   pub go : IsEnabled next t (Go a) ↔ IsEnabled next s (Go a)
   pub collect : IsEnabled next t (Collect a) ↔ IsEnabled next s (Collect a)
   pub leave : IsEnabled next t (Leave a) ↔ IsEnabled next s (Leave a) × (mail_at t.actors a ≡ [])
   pub block : IsEnabled next t (Block a) ↔ IsEnabled next s (Block a) × (mail_at t.actors a ≡ [])
 
 abbrev pub OthersLeaveTheCell : Type 0
-OthersLeaveTheCell = (s t : State) (a : ℕ) (e : Event) → IsApart s a e → next s e ≡ Goes t → LeavesCell s t a
+OthersLeaveTheCell =
+    (s t : State) (a : ℕ) (e : Event) → IsApart s a e → next s e ≡ Goes t → LeavesCell s t a
 
 abbrev pub OthersKeepEnabled : Type 0
-OthersKeepEnabled = (s t : State) (a : ℕ) (e : Event) → IsApart s a e → next s e ≡ Goes t → KeepsEnabled s t a
+OthersKeepEnabled =
+    (s t : State) (a : ℕ) (e : Event) → IsApart s a e → next s e ≡ Goes t → KeepsEnabled s t a

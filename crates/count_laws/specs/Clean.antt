@@ -19,10 +19,12 @@ IsInReach a c x = Reaches (row_at a c.holdings) (Names c.fields.values) x
 -- nothing is left that a collection would give back or free
 pub record IsSweptAt (a : ℕ) (c : Cell) : Type 0 where
   -- each thing in its table is reached
-  pub foreign : (x : Thing) (e : ℕ × Option Row) → m.get c.holdings.foreign x ≡ Some e → IsInReach a c x
+  pub foreign : (x : Thing) (e : ℕ × Option Row) → m.get c.holdings.foreign x ≡ Some e
+      → IsInReach a c x
   -- each own object is reached, or counted
   pub own : (k : ℕ) → has_own c.holdings (Obj (record { owner = a; serial = k })) ≡ true
-      → IsInReach a c (Obj (record { owner = a; serial = k })) ⊎ (0 < own_in c.holdings (Obj (record { owner = a; serial = k })))
+      → IsInReach a c (Obj (record { owner = a; serial = k }))
+      ⊎ (0 < own_in c.holdings (Obj (record { owner = a; serial = k })))
 
 -- an idle actor that did nothing since it collected is swept
 abbrev pub IsCleanAt : ℕ → Cell → List Letter → Type 0
@@ -43,7 +45,8 @@ abbrev pub IsInOwnReach : ℕ → Cell → Thing → Type 0
 IsInOwnReach a c x = Reaches (thing_row (own_row_of a c.holdings)) (StartsMarks a c) x
 
 pub record IsSweptByRootsAt (a : ℕ) (c : Cell) : Type 0 where
-  pub foreign : (x : Thing) (e : ℕ × Option Row) → m.get c.holdings.foreign x ≡ Some e → IsInOwnReach a c x
+  pub foreign : (x : Thing) (e : ℕ × Option Row) → m.get c.holdings.foreign x ≡ Some e
+      → IsInOwnReach a c x
   pub own : (n : ObjName) → n.owner ≡ a → has_own c.holdings (Obj n) ≡ true → IsInOwnReach a c (Obj n)
 
 abbrev pub IsCleanByRootsAt : ℕ → Cell → List Letter → Type 0

@@ -31,7 +31,8 @@ IsSound Deep all a c mail = IsSoundAt all a c mail
 IsSound Roots all a c mail = IsRootsAt all a c mail
 
 -- what the actors keep, beside these persons and the map of all rows ever made
-pub record KeepsCounts (trace : Trace) (all : Thing → Option Row) (people : List Person) (actors : Actors) : Type 0 where
+pub record KeepsCounts (trace : Trace) (all : Thing → Option Row) (people : List Person)
+    (actors : Actors) : Type 0 where
   pub balanced : IsBalanced actors
   pub prefixes : NeverOverdraws trace actors
   pub sound : Every (IsSound trace all) actors

@@ -20,18 +20,25 @@ IsForgotten p x = IsMade p.actors x × (IsReachable p x → ⊥)
 
 -- that stays so, whatever events follow
 abbrev pub ForgottenStaysForgotten : Type 0
-ForgottenStaysForgotten = (events : List Event) (p q : PlainState) → Leads plain_next p events q → (x : Thing) → IsForgotten p x → IsForgotten q x
+ForgottenStaysForgotten =
+    (events : List Event) (p q : PlainState) → Leads plain_next p events q → (x : Thing)
+    → IsForgotten p x → IsForgotten q x
 
 -- ---- in the machine that collects
 
--- its name was given: the actor was made; or the owner was made and, where it is present, is past the serial
+-- its name was given: the actor was made; or the owner was made and, where it is present, is past
+-- the serial
 abbrev pub HasName : Actors → Thing → Type 0
 HasName actors (Actor a) = a < length actors
-HasName actors (Obj n) = (n.owner < length actors) × ((seat : Seat) → seat_at actors n.owner ≡ Some seat → n.serial < seat.cell.holdings.next)
+HasName actors (Obj n) =
+    (n.owner < length actors) × ((seat : Seat) → seat_at actors n.owner ≡ Some seat
+    → n.serial < seat.cell.holdings.next)
 
 -- a name that was given stays so, whatever events follow
 abbrev pub NamesStayGiven : Type 0
-NamesStayGiven = (book : List Event) (s t : State) → Leads next s book t → (x : Thing) → HasName s.actors x → HasName t.actors x
+NamesStayGiven =
+    (book : List Event) (s t : State) → Leads next s book t → (x : Thing) → HasName s.actors x
+    → HasName t.actors x
 
 -- its name was given, and it is not there
 abbrev pub IsGone : Actors → Thing → Type 0
@@ -39,4 +46,6 @@ IsGone actors x = HasName actors x × (IsLeft actors x → ⊥)
 
 -- that stays so, whatever events follow: a name is never given again
 abbrev pub GoneStaysGone : Type 0
-GoneStaysGone = (book : List Event) (s t : State) → Leads next s book t → (x : Thing) → IsGone s.actors x → IsGone t.actors x
+GoneStaysGone =
+    (book : List Event) (s t : State) → Leads next s book t → (x : Thing) → IsGone s.actors x
+    → IsGone t.actors x

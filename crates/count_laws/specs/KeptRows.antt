@@ -16,19 +16,21 @@ use Rattle.count_laws.specs.Clean.{IsInOwnReach}
 use Rattle.count_laws.specs.Facts.{Facts}
 use Rattle.count_laws.specs.Known.{Reaches}
 
--- something that is marked of the first cell leads to it, through own rows and known rows of the second
+-- something that is marked of the first cell leads to it, through own rows and known rows of the
+-- second
 abbrev pub MarkedReach : ℕ → Cell → Cell → Thing → Type 0
 MarkedReach a marked having x = Reaches (thing_row (row_by_roots a having)) (IsInOwnReach a marked) x
 
--- of the actor's known rows those stay that marked things reach: through the rows that it had before, or,
--- which is the same, through those that it has afterwards
+-- of the actor's known rows those stay that marked things reach: through the rows that it had
+-- before, or, which is the same, through those that it has afterwards
 pub record KeepsWhatMarkedReach (s t : State) (a : ℕ) : Type 0 where
   pub before : Cell
   pub had : cell_at s.actors a ≡ Some before
   pub after : Cell
   pub has : cell_at t.actors a ≡ Some after
   pub stays : (x : Thing) (row : Row)
-      → m.get after.known x ≡ Some row ↔ (m.get before.known x ≡ Some row) × MarkedReach a before before x
+      → m.get after.known x ≡ Some row ↔ (m.get before.known x ≡ Some row)
+      × MarkedReach a before before x
   pub same : (x : Thing) → MarkedReach a before before x ↔ MarkedReach a before after x
 
 -- so it is at each collection

@@ -74,7 +74,8 @@ abbrev pub AreExactLetters : (Thing → Option Row) → List Letter → Type 0
 AreExactLetters all [] = Unit {0}
 AreExactLetters all (letter ∷ mail) = IsExactLetter all letter × AreExactLetters all mail
 
--- of an actor that is present: it knows what it reaches, with the rows, and its letters' loads are exact
+-- of an actor that is present: it knows what it reaches, with the rows, and its letters' loads are
+-- exact
 pub record IsSoundAt (all : Thing → Option Row) (a : ℕ) (c : Cell) (mail : List Letter) : Type 0 where
   pub closed : IsClosedAt all a c
   pub rows : RowsAreAt all a c.holdings

@@ -20,13 +20,15 @@ use Rattle.count_laws.specs.Known.{InFrame, IsKnown, IsLoadOf, Names, Reaches}
 pub data IsNamedIn (a : ℕ) (c : Cell) : Thing → Type 0 where
   by_field : {x : Thing} → Names c.fields.values x → IsNamedIn a c x
   by_frame : {x : Thing} → InFrame c.frame x → IsNamedIn a c x
-  by_row : {x : Thing} (n : ObjName) (row : Row) → own_row_of a c.holdings n ≡ Some row → Names row x → IsNamedIn a c x
+  by_row : {x : Thing} (n : ObjName) (row : Row) → own_row_of a c.holdings n ≡ Some row
+      → Names row x → IsNamedIn a c x
 
 -- it knows the thing and its owner
 abbrev pub IsKnownWithOwner : ℕ → Holdings → Thing → Type 0
 IsKnownWithOwner a h x = IsKnown a h x × IsKnown a h (Actor (owner_of x))
 
--- where its walks through the rows ever made begin: what is named so, what it holds, and its own objects
+-- where its walks through the rows ever made begin: what is named so, what it holds, and its own
+-- objects
 pub data WalkRoots (a : ℕ) (c : Cell) : Thing → Type 0 where
   named : {x : Thing} → IsNamedIn a c x → WalkRoots a c x
   held : {x : Thing} → 0 < held_in c.holdings x → WalkRoots a c x
@@ -39,8 +41,10 @@ pub data IsRootOf (args : List Value) : Thing → Type 0 where
   stands : {x : Thing} → Names args x → IsRootOf args x
   owns : {x : Thing} → Names args x → IsRootOf args (Actor (owner_of x))
 
--- the load is that, each thing once, in the order of things; and the rows are those that the arguments reach
-pub record IsRootLetter (all : Thing → Option Row) (args : List Value) (load brought : List Loaded) : Type 0 where
+-- the load is that, each thing once, in the order of things; and the rows are those that the
+-- arguments reach
+pub record IsRootLetter (all : Thing → Option Row) (args : List Value)
+    (load brought : List Loaded) : Type 0 where
   pub once : (x : Thing) → times_loaded x load ≤ 1
   pub rising : IsStrictlySortedBy thing_cmp (map (λ e. e.0) load)
   pub only : (x : Thing) → 0 < times_loaded x load → IsRootOf args x
@@ -49,7 +53,8 @@ pub record IsRootLetter (all : Thing → Option Row) (args : List Value) (load b
 
 abbrev pub AreRootLetters : (Thing → Option Row) → List Letter → Type 0
 AreRootLetters all [] = Unit {0}
-AreRootLetters all (App behaviour args load rows ∷ mail) = IsRootLetter all args load rows × AreRootLetters all mail
+AreRootLetters all (App behaviour args load rows ∷ mail) =
+    IsRootLetter all args load rows × AreRootLetters all mail
 AreRootLetters all (Inc things ∷ mail) = AreRootLetters all mail
 AreRootLetters all (Dec things ∷ mail) = AreRootLetters all mail
 AreRootLetters all (Confirm token ∷ mail) = AreRootLetters all mail
@@ -59,7 +64,8 @@ AreRootLetters all (Confirm token ∷ mail) = AreRootLetters all mail
 -- after the first k letters are taken, the count of y is at least 1
 abbrev pub IsCountedAfter : Cell → List Letter → ℕ → Thing → Type 0
 IsCountedAfter c mail k y =
-    sum_by (dec_of y) (take k mail) + sum_by (load_count y) (take k mail) < own_in c.holdings y + sum_by (inc_of y) (take k mail)
+    sum_by (dec_of y) (take k mail) + sum_by (load_count y) (take k mail) < own_in c.holdings y
+    + sum_by (inc_of y) (take k mail)
 
 -- then it or an own thing that leads to it through own rows is counted
 pub record IsBacked (a : ℕ) (c : Cell) (mail : List Letter) (k : ℕ) (x : Thing) : Type 0 where
@@ -79,10 +85,13 @@ pub record IsRootsAt (all : Thing → Option Row) (a : ℕ) (c : Cell) (mail : L
   pub mine : (n : ObjName) (row : Row) → own_row_of a c.holdings n ≡ Some row → all (Obj n) ≡ Some row
   pub right : (n : ObjName) (row : Row) → m.get c.known (Obj n) ≡ Some row → all (Obj n) ≡ Some row
   -- of others' objects that its walks reach it has the row
-  pub brought : (n : ObjName) (row : Row) → n.owner ≢ a → Reaches all (WalkRoots a c) (Obj n) → all (Obj n) ≡ Some row → m.get c.known (Obj n) ≡ Some row
+  pub brought : (n : ObjName) (row : Row) → n.owner ≢ a → Reaches all (WalkRoots a c) (Obj n)
+      → all (Obj n) ≡ Some row → m.get c.known (Obj n) ≡ Some row
   -- what it owns or holds leads to each object of which letters brought the row
   pub led : (n : ObjName) (row : Row) → m.get c.known (Obj n) ≡ Some row
       → Reaches all (IsKnown a c.holdings) (Obj n)
   pub letters : AreRootLetters all mail
-  -- where an Inc for a thing still waits behind a prefix of its letters, the thing is backed after that
-  pub backed : (x : Thing) (k : ℕ) → owner_of x ≡ a → 0 < sum_by (inc_of x) (drop k mail) → IsBacked a c mail k x
+  -- where an Inc for a thing still waits behind a prefix of its letters, the thing is backed after
+  -- that
+  pub backed : (x : Thing) (k : ℕ) → owner_of x ≡ a → 0 < sum_by (inc_of x) (drop k mail)
+      → IsBacked a c mail k x

@@ -15,11 +15,15 @@ use Rattle.orca_names.specs.declared.trace.Trace.TheVariants.{Deep}
 use Rattle.plain_rules.specs.Machine.{PlainState, start_of}
 
 abbrev pub StartHasFacts : Type 0
-StartHasFacts = (program : Program) (options : Options) → 0 < options.weight → Facts options.trace (start_of program) (first_state program options)
+StartHasFacts =
+    (program : Program) (options : Options) → 0 < options.weight
+    → Facts options.trace (start_of program) (first_state program options)
 
 -- with either tracing, the event keeps the facts, beside the plain machine that makes the same choice
 abbrev pub KeepsFacts : Event → Type 0
-KeepsFacts e = (trace : Trace) (p : PlainState) (s t : State) → Facts trace p s → next s e ≡ Goes t → (q : PlainState) × PlainFollows (is_choice s e) p e q × Facts trace q t
+KeepsFacts e =
+    (trace : Trace) (p : PlainState) (s t : State) → Facts trace p s → next s e ≡ Goes t
+    → (q : PlainState) × PlainFollows (is_choice s e) p e q × Facts trace q t
 
 abbrev pub TakesKeepFacts : Type 0
 TakesKeepFacts = (a : ℕ) → KeepsFacts (Take a)
@@ -35,10 +39,14 @@ LeavesKeepFacts = (a : ℕ) → KeepsFacts (Leave a)
 
 -- with deep tracing, at the start and after every event, clean cells are swept
 abbrev pub CleanStaySwept : Type 0
-CleanStaySwept = ((program : Program) (options : Options) → CleanAreSwept (first_state program options).actors)
-    × ((s t : State) (e : Event) → s.options.trace ≡ Deep → next s e ≡ Goes t → CleanAreSwept s.actors → CleanAreSwept t.actors)
+CleanStaySwept =
+    ((program : Program) (options : Options) → CleanAreSwept (first_state program options).actors)
+    × ((s t : State) (e : Event) → s.options.trace ≡ Deep → next s e ≡ Goes t
+    → CleanAreSwept s.actors → CleanAreSwept t.actors)
 
 -- at the start and after every event, no actor holds a count on a thing of its own
 abbrev pub NoneGetsItsOwn : Type 0
-NoneGetsItsOwn = ((program : Program) (options : Options) → NoneHoldsItsOwn (first_state program options).actors)
-    × ((s t : State) (e : Event) → next s e ≡ Goes t → NoneHoldsItsOwn s.actors → NoneHoldsItsOwn t.actors)
+NoneGetsItsOwn =
+    ((program : Program) (options : Options) → NoneHoldsItsOwn (first_state program options).actors)
+    × ((s t : State) (e : Event) → next s e ≡ Goes t → NoneHoldsItsOwn s.actors
+    → NoneHoldsItsOwn t.actors)

@@ -34,10 +34,15 @@ abbrev pub LettersNameTheirOwn : Actors → Type 0
 LettersNameTheirOwn actors = Every (λ a c mail. AllByRecursion (NamesOwn a) mail) actors
 
 abbrev pub StartNamesOwn : Type 0
-StartNamesOwn = (program : Program) (options : Options) → LettersNameTheirOwn (first_state program options).actors
+StartNamesOwn =
+    (program : Program) (options : Options) → LettersNameTheirOwn (first_state program options).actors
 
 abbrev pub EventsKeepNamesOwn : Type 0
-EventsKeepNamesOwn = (s t : State) (e : Event) → next s e ≡ Goes t → LettersNameTheirOwn s.actors → LettersNameTheirOwn t.actors
+EventsKeepNamesOwn =
+    (s t : State) (e : Event) → next s e ≡ Goes t → LettersNameTheirOwn s.actors
+    → LettersNameTheirOwn t.actors
 
 abbrev pub RunsNameOwn : Type 0
-RunsNameOwn = (program : Program) (options : Options) (book : List Event) (t : State) → IsRun program options book t → LettersNameTheirOwn t.actors
+RunsNameOwn =
+    (program : Program) (options : Options) (book : List Event) (t : State)
+    → IsRun program options book t → LettersNameTheirOwn t.actors

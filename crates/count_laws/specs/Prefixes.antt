@@ -14,11 +14,12 @@ abbrev pub spare : Trace → ℕ
 spare Deep = 1
 spare Roots = 0
 
--- however many letters are taken, what they take from a count of n is there, and with deep tracing, where
--- an increment still waits behind them, one is left
+-- however many letters are taken, what they take from a count of n is there, and with deep tracing,
+-- where an increment still waits behind them, one is left
 unfoldable pub IsCovered : Trace → Thing → ℕ → List Letter → Type 0
 IsCovered trace x n mail = (k : ℕ) →
-    sum_by (dec_of x) (take k mail) + sum_by (load_count x) (take k mail) + min (spare trace) (sum_by (inc_of x) (drop k mail)) ≤ n + sum_by (inc_of x) (take k mail)
+    sum_by (dec_of x) (take k mail) + sum_by (load_count x) (take k mail)
+    + min (spare trace) (sum_by (inc_of x) (drop k mail)) ≤ n + sum_by (inc_of x) (take k mail)
 
 abbrev pub IsCoveredAt : Trace → Thing → Option Seat → Type 0
 IsCoveredAt trace x None = Unit {0}

@@ -11,10 +11,12 @@ use Rattle.count_laws.specs.Clean.{IsCleanByRootsAt}
 use Rattle.count_laws.specs.KnownByRoots.{IsBacked, IsKnownWithOwner, IsNamedIn}
 use Rattle.orca_names.specs.declared.trace.Trace.TheVariants.{Roots}
 
--- somebody holds it, or a letter that is none of the first k of its owner's loads it, or an Inc for it
--- stands behind them
+-- somebody holds it, or a letter that is none of the first k of its owner's loads it, or an Inc for
+-- it stands behind them
 abbrev pub CountsFor : Actors → List Letter → ℕ → Thing → Type 0
-CountsFor actors mail k x = (sum_by (load_count x) (take k mail) < held_sum x actors + load_sum x actors) ⊎ (0 < sum_by (inc_of x) (drop k mail))
+CountsFor actors mail k x =
+    (sum_by (load_count x) (take k mail) < held_sum x actors + load_sum x actors)
+    ⊎ (0 < sum_by (inc_of x) (drop k mail))
 
 pub record AreTracedByRoots (actors : Actors) : Type 0 where
   -- no letter takes from a count what is not there
@@ -22,6 +24,9 @@ pub record AreTracedByRoots (actors : Actors) : Type 0 where
   -- an idle actor that did nothing since it collected has just what is marked
   pub marked : Every IsCleanByRootsAt actors
   -- fields, registers and rows of own objects name own or held things, and with an object its owner
-  pub named : Every (λ a c mail. (x : Thing) → IsNamedIn a c x → IsKnownWithOwner a c.holdings x) actors
-  -- after each prefix that counts for a thing, it or an own thing that leads to it through own rows is counted
-  pub backed : Every (λ a c mail. (x : Thing) (k : ℕ) → owner_of x ≡ a → CountsFor actors mail k x → IsBacked a c mail k x) actors
+  pub named : Every (λ a c mail. (x : Thing) → IsNamedIn a c x
+      → IsKnownWithOwner a c.holdings x) actors
+  -- after each prefix that counts for a thing, it or an own thing that leads to it through own rows
+  -- is counted
+  pub backed : Every (λ a c mail. (x : Thing) (k : ℕ) → owner_of x ≡ a → CountsFor actors mail k x
+      → IsBacked a c mail k x) actors

@@ -13,7 +13,8 @@ sum_below (suc n) f = f n + sum_below n f
 -- an actor's count is what all hold on it and what letters load. An actor whose letters are all
 -- Confirms has no Inc and no Dec under way
 pub record ActorsAreBalanced (w : World) : Type 0 where
-  pub full : (x : ℕ) (c : Cell) → w.cell x ≡ Some c → OnlyConfirms (w.mail x) → c.holdings.count ≡ sum_below w.made (λ b. held_on (w.cell b) x) + w.loaded x
+  pub full : (x : ℕ) (c : Cell) → w.cell x ≡ Some c → OnlyConfirms (w.mail x)
+      → c.holdings.count ≡ sum_below w.made (λ b. held_on (w.cell b) x) + w.loaded x
   pub made : (b : ℕ) (c : Cell) → w.cell b ≡ Some c → b < w.made
   -- no actor holds a count on itself
   pub own : (b : ℕ) → held_on (w.cell b) b ≡ 0

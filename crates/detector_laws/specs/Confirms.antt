@@ -24,7 +24,8 @@ confirms token (Confirm other) = other == token
 -- how many are Confirms of the token
 abbrev pub confirm_count : ℕ → List Letter → ℕ
 confirm_count token [] = 0
-confirm_count token (letter ∷ mail) = (if confirms token letter then 1 else 0) + confirm_count token mail
+confirm_count token (letter ∷ mail) =
+    (if confirms token letter then 1 else 0) + confirm_count token mail
 
 -- a Confirm of the token is among them
 abbrev pub has_confirm : ℕ → List Letter → Bool
@@ -35,7 +36,9 @@ has_confirm token (letter ∷ mail) = confirms token letter || has_confirm token
 abbrev pub other_before_confirm : ℕ → List Letter → Bool
 other_before_confirm token [] = false
 other_before_confirm token (letter ∷ mail) =
-    if is_confirm letter then (if confirms token letter then false else other_before_confirm token mail) else has_confirm token mail
+    if is_confirm letter
+    then (if confirms token letter then false else other_before_confirm token mail)
+    else has_confirm token mail
 
 -- all are Confirms
 abbrev pub OnlyConfirms : List Letter → Type 0
@@ -51,4 +54,5 @@ NoConfirms (letter ∷ mail) = (is_confirm letter ≡ false) × NoConfirms mail
 abbrev pub EndsInConfirm : ℕ → List Letter → Type 0
 EndsInConfirm token [] = Unit {0}
 EndsInConfirm token (letter ∷ []) = confirms token letter ≡ true
-EndsInConfirm token (letter ∷ (later ∷ mail)) = (is_confirm letter ≡ true) × EndsInConfirm token (later ∷ mail)
+EndsInConfirm token (letter ∷ (later ∷ mail)) =
+    (is_confirm letter ≡ true) × EndsInConfirm token (later ∷ mail)

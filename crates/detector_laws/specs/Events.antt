@@ -37,7 +37,9 @@ pub record IsFresh (before after : Option Cell) : Type 0 where
 
 -- the members are there, no letter loads one, and none but members holds one
 abbrev pub IsApart : World → List ℕ → Type 0
-IsApart w ms = (m : ℕ) → has ms m ≡ true → (w.cell m ≢ None) × (w.loaded m ≡ 0) × ((b : ℕ) → has ms b ≡ false → held_on (w.cell b) m ≡ 0)
+IsApart w ms =
+    (m : ℕ) → has ms m ≡ true → (w.cell m ≢ None) × (w.loaded m ≡ 0)
+    × ((b : ℕ) → has ms b ≡ false → held_on (w.cell b) m ≡ 0)
 
 -- what an actor's take of a letter other than a Confirm, its go or its collect may change
 pub record Moves (w : World) (a : ℕ) (after : World) : Type 0 where
@@ -50,16 +52,21 @@ pub record Moves (w : World) (a : ℕ) (after : World) : Type 0 where
   pub made : a < w.made
   pub grows : w.made ≤ after.made
   -- it had a frame, was dirty, or had such a letter
-  pub cause : (is_some old.frame ≡ true) ⊎ (old.dirty ≡ true) ⊎ ((letter : Letter) × (mail : List Letter) × (w.mail a ≡ letter ∷ mail) × (is_confirm letter ≡ false))
+  pub cause : (is_some old.frame ≡ true) ⊎ (old.dirty ≡ true)
+      ⊎ ((letter : Letter) × (mail : List Letter) × (w.mail a ≡ letter ∷ mail)
+      × (is_confirm letter ≡ false))
   pub detector : after.detector ≡ w.detector
   -- it withdraws its report if one is out
   pub notes : after.notes ≡ (if old.reported then w.notes ++ Unblock a ∷ [] else w.notes)
   -- each other cell stays, or is that of a new actor
   pub others : (b : ℕ) → b ≢ a → (after.cell b ≡ w.cell b) ⊎ IsFresh (w.cell b) (after.cell b)
   -- of its own letters the first ones may go, and others may come
-  pub own : (gone rest come : List Letter) × (w.mail a ≡ gone ++ rest) × (after.mail a ≡ rest ++ come) × NoConfirms come
-  pub sends : (b : ℕ) → b ≢ a → (come : List Letter) × (after.mail b ≡ w.mail b ++ come) × NoConfirms come
-  -- to the members of a set that is apart, and that it is none of, it sends nothing, and it neither loads nor holds one
+  pub own : (gone rest come : List Letter) × (w.mail a ≡ gone ++ rest)
+      × (after.mail a ≡ rest ++ come) × NoConfirms come
+  pub sends : (b : ℕ) → b ≢ a → (come : List Letter) × (after.mail b ≡ w.mail b ++ come)
+      × NoConfirms come
+  -- to the members of a set that is apart, and that it is none of, it sends nothing, and it neither
+  -- loads nor holds one
   pub apart : (ms : List ℕ) → IsApart w ms → has ms a ≡ false → (m : ℕ) → has ms m ≡ true
       → (after.mail m ≡ w.mail m) × (after.loaded m ≡ 0) × (held_in new.holdings (Actor m) ≡ 0)
 
@@ -73,8 +80,10 @@ pub record Departs (w : World) (gone : List ℕ) (after : World) : Type 0 where
   pub clears : (m : ℕ) → has gone m ≡ true → (after.cell m ≡ None) × (after.mail m ≡ [])
   pub stays : (b : ℕ) → has gone b ≡ false → after.cell b ≡ w.cell b
   -- Decs go to those on whom one of them held
-  pub sends : (b : ℕ) → has gone b ≡ false → (come : List Letter) × (after.mail b ≡ w.mail b ++ come) × NoConfirms come
-  pub sends_held : (b : ℕ) → has gone b ≡ false → ((m : ℕ) → has gone m ≡ true → held_on (w.cell m) b ≡ 0) → after.mail b ≡ w.mail b
+  pub sends : (b : ℕ) → has gone b ≡ false → (come : List Letter)
+      × (after.mail b ≡ w.mail b ++ come) × NoConfirms come
+  pub sends_held : (b : ℕ) → has gone b ≡ false
+      → ((m : ℕ) → has gone m ≡ true → held_on (w.cell m) b ≡ 0) → after.mail b ≡ w.mail b
   pub unloaded : (b : ℕ) → w.loaded b ≡ 0 → after.loaded b ≡ 0
 
 -- what the reap of a token may change

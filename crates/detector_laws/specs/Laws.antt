@@ -59,7 +59,8 @@ ConfirmKeepsTokens =
 
 -- who does anything else
 abbrev pub MovesKeepTokens : Type 0
-MovesKeepTokens = (w after : World) (a : ℕ) → Moves w a after → TokensAreSound w → TokensAreSound after
+MovesKeepTokens =
+    (w after : World) (a : ℕ) → Moves w a after → TokensAreSound w → TokensAreSound after
 
 -- and a note that is heard
 abbrev pub HearKeepsTokens : Type 0
@@ -152,5 +153,6 @@ AckedIsSealed =
 -- and no letter waits for a member
 abbrev pub AckedIsBare : Type 0
 AckedIsBare =
-    (w : World) (t : Token) → TokensAreSound w → In t w.detector.tokens → all_acked t ≡ true → (m : ℕ) →
+    (w : World) (t : Token) → TokensAreSound w → In t w.detector.tokens → all_acked t ≡ true
+    → (m : ℕ) →
     has t.members m ≡ true → w.mail m ≡ []

@@ -31,7 +31,8 @@ with_unblock Contradictory = Contradictory
 
 -- what is told of an actor after a further note
 abbrev pub with_note : ℕ → Told → Note → Told
-with_note a told (Block b count held) = if b == a then with_block told (report_told b count held) else told
+with_note a told (Block b count held) =
+    if b == a then with_block told (report_told b count held) else told
 with_note a told (Unblock b) = if b == a then with_unblock told else told
 with_note a told (Ack token b) = told
 
@@ -81,7 +82,8 @@ IsAsTold actor a Contradictory = ⊥
 
 -- each actor is as it was last told: of one that left, what was told was withdrawn; where so many
 -- actors were made, nothing is told of any other
-pub record ExactReports (made : ℕ) (cell : ℕ → Option Cell) (kept : List Report) (notes : List Note) : Type 0 where
+pub record ExactReports (made : ℕ) (cell : ℕ → Option Cell) (kept : List Report)
+    (notes : List Note) : Type 0 where
   pub last : (a : ℕ) → IsAsTold (cell a) a (told_of a kept notes)
   pub unmade : (a : ℕ) → made ≤ a → (report_of kept a ≡ None) × IsSilentOn a notes
 

@@ -26,7 +26,8 @@ pub data IsStep (w : World) : World → Type 0 where
   ReapsOne : {t : Token} {after : World} → Reaps w t after → IsStep w after
   LeavesOne : {a : ℕ} {after : World} → Leaves w a after → IsStep w after
   Blocks : {a : ℕ} {c : Cell} {r : Report} → CanBlock w a c r → IsStep w (block w a c r)
-  TakesConfirm : {a token : ℕ} {mail : List Letter} → w.mail a ≡ Confirm token ∷ mail → IsStep w (take_confirm w a token mail)
+  TakesConfirm : {a token : ℕ} {mail : List Letter} → w.mail a ≡ Confirm token ∷ mail
+      → IsStep w (take_confirm w a token mail)
   MovesOne : {a : ℕ} {after : World} → Moves w a after → IsStep w after
 
 -- events lead from the world to another, and before each of them the counts balance

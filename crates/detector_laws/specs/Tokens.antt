@@ -1,4 +1,5 @@
--- Each open token is sealed, so that its members never act again, or spoiled, so that it is never reaped.
+-- Each open token is sealed, so that its members never act again, or spoiled, so that it is never
+-- reaped.
 use Rattle.std.specs.Prelude.{ℕ, ◌+◌, ◌≡◌, ◌≤◌, ◌<◌, ◌==◌, ◌&&◌, ◌||◌, ◌⊎◌, if◌then◌else◌, Bool, true, false, List, [], ◌∷◌, Option, Some}
 use Rattle.letter_kinds.specs.Detector.{Token, Detector, has}
 use Rattle.letter_kinds.specs.Reports.{report_of}
@@ -19,7 +20,8 @@ abbrev pub ack_count : ℕ → ℕ → List Note → ℕ
 ack_count token a [] = 0
 ack_count token a (Block b count held ∷ notes) = ack_count token a notes
 ack_count token a (Unblock b ∷ notes) = ack_count token a notes
-ack_count token a (Ack other b ∷ notes) = (if (other == token) && (b == a) then 1 else 0) + ack_count token a notes
+ack_count token a (Ack other b ∷ notes) =
+    (if (other == token) && (b == a) then 1 else 0) + ack_count token a notes
 
 -- for a member: its Confirms that wait, its Acks under way, and its acknowledgement that was noted
 abbrev pub trace_count : Token → ℕ → List Letter → List Note → ℕ
@@ -29,7 +31,8 @@ trace_count t m mail notes =
 -- ---- sealed
 
 -- the member is blocked and stays so: only members hold it, and it has no letter but Confirms
-pub record IsSealedMember (t : Token) (m : ℕ) (cell : ℕ → Option Cell) (mail : List Letter) (loaded : ℕ) (notes : List Note) : Type 0 where
+pub record IsSealedMember (t : Token) (m : ℕ) (cell : ℕ → Option Cell) (mail : List Letter)
+    (loaded : ℕ) (notes : List Note) : Type 0 where
   pub blocked : IsBlocked (cell m)
   pub letters : EndsInConfirm t.number mail
   pub silent : IsSilentOn m notes
@@ -40,7 +43,8 @@ pub record IsSealedMember (t : Token) (m : ℕ) (cell : ℕ → Option Cell) (ma
 
 -- all members are so
 abbrev pub IsSealed : (ℕ → Option Cell) → (ℕ → List Letter) → (ℕ → ℕ) → List Note → Token → Type 0
-IsSealed cell mail loaded notes t = (m : ℕ) → has t.members m ≡ true → IsSealedMember t m cell (mail m) (loaded m) notes
+IsSealed cell mail loaded notes t =
+    (m : ℕ) → has t.members m ≡ true → IsSealedMember t m cell (mail m) (loaded m) notes
 
 -- ---- spoiled
 
@@ -53,22 +57,28 @@ unblocks_before_ack token a (Ack other b ∷ notes) =
     if (other == token) && (b == a) then false else unblocks_before_ack token a notes
 
 -- the member has not acknowledged, and its Unblock comes before its Ack or will come
-pub record IsSpoiledMember (t : Token) (m : ℕ) (reported : Bool) (mail : List Letter) (notes : List Note) : Type 0 where
+pub record IsSpoiledMember (t : Token) (m : ℕ) (reported : Bool) (mail : List Letter)
+    (notes : List Note) : Type 0 where
   pub unnoted : has t.acked m ≡ false
-  pub cause : (unblocks_before_ack t.number m notes ≡ true) ⊎ ((reported ≡ true) × (other_before_confirm t.number mail ≡ true))
+  pub cause : (unblocks_before_ack t.number m notes ≡ true)
+      ⊎ ((reported ≡ true) × (other_before_confirm t.number mail ≡ true))
 
 -- some member is so
 abbrev pub IsSpoiled : (ℕ → Option Cell) → (ℕ → List Letter) → List Note → Token → Type 0
-IsSpoiled cell mail notes t = (m : ℕ) × (has t.members m ≡ true) × IsSpoiledMember t m (is_reporting (cell m)) (mail m) notes
+IsSpoiled cell mail notes t =
+    (m : ℕ) × (has t.members m ≡ true) × IsSpoiledMember t m (is_reporting (cell m)) (mail m) notes
 
 -- ---- all open tokens
 
 -- what holds of all open tokens
-pub record SoundTokens (d : Detector) (cell : ℕ → Option Cell) (mail : ℕ → List Letter) (loaded : ℕ → ℕ) (notes : List Note) : Type 0 where
+pub record SoundTokens (d : Detector) (cell : ℕ → Option Cell) (mail : ℕ → List Letter) (loaded : ℕ
+    → ℕ) (notes : List Note) : Type 0 where
   -- two tokens have no member in common
-  pub apart : (t u : Token) → In t d.tokens → In u d.tokens → (m : ℕ) → has t.members m ≡ true → has u.members m ≡ true → t.number ≡ u.number
+  pub apart : (t u : Token) → In t d.tokens → In u d.tokens → (m : ℕ) → has t.members m ≡ true
+      → has u.members m ≡ true → t.number ≡ u.number
   -- of each member a report is kept
-  pub kept : (t : Token) → In t d.tokens → (m : ℕ) → has t.members m ≡ true → (r : Report) × (report_of d.kept m ≡ Some r)
+  pub kept : (t : Token) → In t d.tokens → (m : ℕ) → has t.members m ≡ true
+      → (r : Report) × (report_of d.kept m ≡ Some r)
   -- numbers are used once
   pub unique : (t u : Token) → In t d.tokens → In u d.tokens → t.number ≡ u.number → t ≡ u
   pub numbers : (t : Token) → In t d.tokens → t.number ≤ d.opened
@@ -76,5 +86,7 @@ pub record SoundTokens (d : Detector) (cell : ℕ → Option Cell) (mail : ℕ �
   pub letters : (a n : ℕ) → d.opened < n → confirm_count n (mail a) ≡ 0
   pub heard : (a n : ℕ) → d.opened < n → ack_count n a notes ≡ 0
   -- a member has at most one of these: the Confirm, its Ack under way, its acknowledgement
-  pub once : (t : Token) → In t d.tokens → (m : ℕ) → has t.members m ≡ true → trace_count t m (mail m) notes ≤ 1
-  pub state : (t : Token) → In t d.tokens → IsSealed cell mail loaded notes t ⊎ IsSpoiled cell mail notes t
+  pub once : (t : Token) → In t d.tokens → (m : ℕ) → has t.members m ≡ true
+      → trace_count t m (mail m) notes ≤ 1
+  pub state : (t : Token) → In t d.tokens → IsSealed cell mail loaded notes t
+      ⊎ IsSpoiled cell mail notes t

@@ -46,7 +46,8 @@ hear w note notes = record w { detector = hear_note note w.detector; notes = not
 
 -- the letters, where each member that is present gets a Confirm
 abbrev pub confirms_of : List ℕ → ℕ → (ℕ → Option Cell) → (ℕ → List Letter) → ℕ → List Letter
-confirms_of members token cell mail a = if has members a && is_some (cell a) then mail a ++ Confirm token ∷ [] else mail a
+confirms_of members token cell mail a =
+    if has members a && is_some (cell a) then mail a ++ Confirm token ∷ [] else mail a
 
 -- it looks for the largest closed set, and asks its members
 abbrev pub scan : World → World
@@ -64,7 +65,10 @@ at f a v x = if x == a then v else f x
 
 -- the actor with this cell reports that it is blocked
 abbrev pub block : World → ℕ → Cell → Report → World
-block w a c r = record w { cell = at w.cell a (Some (record c { reported = true })); notes = w.notes ++ block_note r ∷ [] }
+block w a c r = record w {
+  cell = at w.cell a (Some (record c { reported = true }));
+  notes = w.notes ++ block_note r ∷ [];
+}
 
 -- the actor takes a Confirm, which it acknowledges while its report is out; these letters are left
 abbrev pub take_confirm : World → ℕ → ℕ → List Letter → World

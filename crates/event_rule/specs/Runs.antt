@@ -6,7 +6,8 @@ use Rattle.event_rule.specs.Events.{event_cmp}
 use Rattle.event_rule.specs.declared.event.Event.{Event}
 use Rattle.event_rule.specs.declared.event.Event.TheVariants.{Go}
 
--- what an event leads to: it is not enabled, or it would make an actor too many, or there is a state after it
+-- what an event leads to: it is not enabled, or it would make an actor too many, or there is a
+-- state after it
 pub data Step (S : Type 0) : Type 0 where
   NotEnabled : Step S
   IsFull : Step S
@@ -38,7 +39,8 @@ Leads next s (e ∷ book) t = (u : _) × (next s e ≡ Goes u) × Leads next u b
 -- and each is the first that is enabled in its turn
 abbrev pub LeadsInOrder : {S : Type 0} → Machine S → S → List Event → S → Type 0
 LeadsInOrder next s [] t = s ≡ t
-LeadsInOrder next s (e ∷ book) t = IsFirst next s e × ((u : _) × (next s e ≡ Goes u) × LeadsInOrder next u book t)
+LeadsInOrder next s (e ∷ book) t =
+    IsFirst next s e × ((u : _) × (next s e ≡ Goes u) × LeadsInOrder next u book t)
 
 -- ---- ends
 
@@ -54,7 +56,8 @@ pub record IsSpent {S : Type 0} (machine : Machine S) (s : S) (entries budget : 
   pub enabled : IsFirst machine s next
 
 -- the first event would make one actor more than may be made
-pub record IsFullAt {S : Type 0} (machine : Machine S) (actor : ℕ) (s : S) (entries budget : ℕ) : Type 0 where
+pub record IsFullAt {S : Type 0} (machine : Machine S) (actor : ℕ) (s : S)
+    (entries budget : ℕ) : Type 0 where
   pub room : entries < budget
   pub first : IsFirst machine s (Go actor)
   pub full : machine s (Go actor) ≡ IsFull
@@ -88,12 +91,17 @@ NoneIsFirstAtQuiet next = (s : _) (e : Event) → IsQuiet next s → IsFirst nex
 
 -- a book leads to one state
 abbrev pub LeadsToOneState : {S : Type 0} → Machine S → Type 0
-LeadsToOneState next = (book : List Event) (r s t : _) → Leads next r book s → Leads next r book t → s ≡ t
+LeadsToOneState next =
+    (book : List Event) (r s t : _) → Leads next r book s → Leads next r book t → s ≡ t
 
 -- a run ends in one way
 abbrev pub EndsInOneWay : {S : Type 0} → Machine S → Type 0
-EndsInOneWay next = (one other : Ending) (s : _) (entries budget : ℕ) → EndsAs next one s entries budget → EndsAs next other s entries budget → one ≡ other
+EndsInOneWay next =
+    (one other : Ending) (s : _) (entries budget : ℕ) → EndsAs next one s entries budget
+    → EndsAs next other s entries budget → one ≡ other
 
 -- a run within its budget goes on by its first event, or ends in one of these ways
 abbrev pub GoesOnOrEnds : {S : Type 0} → Machine S → Type 0
-GoesOnOrEnds next = (s : _) (entries budget : ℕ) → entries ≤ budget → GoesOn next s entries budget ⊎ ((ending : Ending) × EndsAs next ending s entries budget)
+GoesOnOrEnds next =
+    (s : _) (entries budget : ℕ) → entries ≤ budget → GoesOn next s entries budget
+    ⊎ ((ending : Ending) × EndsAs next ending s entries budget)

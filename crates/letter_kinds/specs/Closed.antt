@@ -12,7 +12,8 @@ IsClosed members = AllByRecursion (λ r. r.count ≤ told_on_by r.actor members)
 pub record IsLargest (reports members : List Report) : Type 0 where
   pub among : (kept : Report → Bool) × (members ≡ filter kept reports)
   pub closed : IsClosed members
-  pub all : (set : Report → Bool) → IsClosed (filter set reports) → filter set members ≡ filter set reports
+  pub all : (set : Report → Bool) → IsClosed (filter set reports)
+      → filter set members ≡ filter set reports
 
 -- ---- the largest closed set, by rounds
 

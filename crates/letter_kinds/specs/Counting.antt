@@ -20,11 +20,14 @@ Amount = Thing × ℕ
 
 -- an own object's count is changed, where the object is there
 abbrev pub with_row_count : OwnRows → ℕ → (ℕ → ℕ) → Option (Row × ℕ) → OwnRows
-with_row_count rows serial change found = option_map_or (λ e. m.insert rows serial (e.0, change e.1)) found rows
+with_row_count rows serial change found =
+    option_map_or (λ e. m.insert rows serial (e.0, change e.1)) found rows
 
 unfoldable pub set_own : (ℕ → ℕ) → Thing → Holdings → Holdings
 set_own change (Actor a) h = record h { count = change h.count }
-set_own change (Obj n) h = record h { rows = with_row_count h.rows n.serial change (m.get h.rows n.serial) }
+set_own change (Obj n) h = record h {
+  rows = with_row_count h.rows n.serial change (m.get h.rows n.serial);
+}
 
 abbrev pub raise : ℕ → Thing → Holdings → Holdings
 raise amount x h = set_own (λ count. count + amount) x h
@@ -98,7 +101,9 @@ mint_all (e ∷ things) h = mint_all things (mint_one e h)
 -- what is not marked goes; an own object stays where it is counted
 unfoldable pub sweep : (Thing → Bool) → ℕ → Holdings → Holdings
 sweep marked me h = record h {
-  rows = m.retain_keys h.rows (λ serial. marked (Obj (record { owner = me; serial = serial })) || not (row_count (m.get h.rows serial) == 0));
+  rows =
+      m.retain_keys h.rows (λ serial. marked (Obj (record { owner = me; serial = serial }))
+      || not (row_count (m.get h.rows serial) == 0));
   foreign = m.retain_keys h.foreign marked;
 }
 
@@ -110,7 +115,8 @@ given_back marked h = map (λ e. (e.0, e.1.0)) (filter (λ e. not (marked e.0)) 
 abbrev pub join_owner : Amount → List (ℕ × List Amount) → List (ℕ × List Amount)
 join_owner e [] = (owner_of e.0, e ∷ []) ∷ []
 join_owner e (group ∷ groups) =
-    if owner_of e.0 == group.0 then (group.0, e ∷ group.1) ∷ groups else (owner_of e.0, e ∷ []) ∷ group ∷ groups
+    if owner_of e.0 == group.0 then (group.0, e ∷ group.1) ∷ groups else (owner_of e.0, e ∷ [])
+    ∷ group ∷ groups
 
 unfoldable pub by_owner : List Amount → List (ℕ × List Amount)
 by_owner [] = []

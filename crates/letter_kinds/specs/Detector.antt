@@ -1,4 +1,5 @@
--- The detector of blocked actors: the reports that it keeps, its open tokens, and what it makes of notes.
+-- The detector of blocked actors: the reports that it keeps, its open tokens, and what it makes of
+-- notes.
 use Rattle.std.specs.Prelude.{ℕ, suc, ◌==◌, ◌||◌, not, if◌then◌else◌, Bool, true, false, List, [], ◌∷◌, ◌++◌, filter, map, Option}
 use Rattle.std.specs.List.{list_all, list_any, find}
 use Rattle.letter_kinds.specs.declared.note.Note.{Note}
@@ -7,13 +8,15 @@ use Rattle.letter_kinds.specs.declared.note.Report.{Report}
 use Rattle.letter_kinds.specs.Closed.{largest_closed}
 use Rattle.letter_kinds.specs.Reports.{report_told, keep_report, drop_report}
 
--- a closed set that was found: its members are asked, and some acknowledged that they are still blocked
+-- a closed set that was found: its members are asked, and some acknowledged that they are still
+-- blocked
 pub record Token : Type 0 where
   pub number : ℕ
   pub members : List ℕ
   pub acked : List ℕ
 
--- kept reports, open tokens, how many tokens were ever opened, and whether there is news since the last scan
+-- kept reports, open tokens, how many tokens were ever opened, and whether there is news since the
+-- last scan
 pub record Detector : Type 0 where
   pub kept : List Report
   pub tokens : List Token
@@ -37,13 +40,21 @@ token_numbered number d = find (λ t. t.number == number) d.tokens
 -- the actor acknowledged the token of this number; of members alone this is noted, in their order
 abbrev pub note_ack : ℕ → ℕ → Token → Token
 note_ack number a t =
-    record t { acked = if number == t.number then filter (λ m. has t.acked m || (m == a)) t.members else t.acked }
+    record t {
+      acked = if number == t.number then filter (λ m. has t.acked m || (m == a)) t.members
+          else t.acked;
+    }
 
 -- a report is kept; an actor that has work again loses its report, and cancels each token of which it
 -- is a member; an acknowledgement is noted if its token is open
 abbrev pub hear_note : Note → Detector → Detector
-hear_note (Block a count held) d = record d { kept = keep_report (report_told a count held) d.kept; news = true }
-hear_note (Unblock a) d = record d { kept = drop_report a d.kept; tokens = filter (λ t. not (has t.members a)) d.tokens; news = true }
+hear_note (Block a count held) d =
+    record d { kept = keep_report (report_told a count held) d.kept; news = true }
+hear_note (Unblock a) d = record d {
+  kept = drop_report a d.kept;
+  tokens = filter (λ t. not (has t.members a)) d.tokens;
+  news = true;
+}
 hear_note (Ack number a) d = record d { tokens = map (note_ack number a) d.tokens }
 
 -- ---- scan: the largest closed set becomes a token
@@ -63,7 +74,10 @@ closed_set d = map (λ r. r.actor) (largest_closed (candidates d))
 -- with a further token, of these members
 abbrev pub open_token : List ℕ → Detector → Detector
 open_token members d =
-    record d { tokens = d.tokens ++ record { number = suc d.opened; members = members; acked = [] } ∷ []; opened = suc d.opened }
+    record d {
+      tokens = d.tokens ++ record { number = suc d.opened; members = members; acked = [] } ∷ [];
+      opened = suc d.opened;
+    }
 
 -- with no news
 abbrev pub without_news : Detector → Detector

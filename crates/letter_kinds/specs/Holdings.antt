@@ -61,7 +61,9 @@ has_own h (Obj n) = is_some (m.get h.rows n.serial)
 
 -- the row that an actor has of an object, its own or another's
 unfoldable pub row_of : ℕ → Holdings → ObjName → Option Row
-row_of me h n = if n.owner == me then option_map (λ e. e.0) (m.get h.rows n.serial) else entry_row (m.get h.foreign (Obj n))
+row_of me h n =
+    if n.owner == me then option_map (λ e. e.0) (m.get h.rows n.serial)
+    else entry_row (m.get h.foreign (Obj n))
 
 -- ---- new objects
 

@@ -39,7 +39,8 @@ report_of (r ∷ rs) a = if r.actor == a then Some r else report_of rs a
 abbrev pub keep_report : Report → List Report → List Report
 keep_report r [] = r ∷ []
 keep_report r (k ∷ ks) =
-    if r.actor == k.actor then r ∷ ks else (if nat_lt r.actor k.actor then r ∷ (k ∷ ks) else k ∷ keep_report r ks)
+    if r.actor == k.actor then r ∷ ks
+    else (if nat_lt r.actor k.actor then r ∷ (k ∷ ks) else k ∷ keep_report r ks)
 
 -- without the report of an actor
 abbrev pub drop_report : ℕ → List Report → List Report

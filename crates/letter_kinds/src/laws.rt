@@ -17,13 +17,16 @@ pub fn one_largest()
 
 /// The union of two closed sets is closed.
 pub fn union_is_closed()
-    ensures { (reports : List Report) (one other : Report → Bool) → IsClosed (filter one reports) → IsClosed (filter other reports) → IsClosed (filter (λ r. one r || other r) reports) }
+    ensures { (reports : List Report) (one other : Report → Bool) → IsClosed (filter one reports)
+        → IsClosed (filter other reports) → IsClosed (filter (λ r. one r || other r) reports) }
 {}
 
 /// All members of a token acknowledged it exactly where each of them did.
 pub fn acked_by_all_is_by_each()
-    ensures each { (t : Token) → all_acked t ≡ true → (m : ℕ) → has t.members m ≡ true → has t.acked m ≡ true }
-    ensures all { (t : Token) → ((m : ℕ) → has t.members m ≡ true → has t.acked m ≡ true) → all_acked t ≡ true }
+    ensures each { (t : Token) → all_acked t ≡ true → (m : ℕ) → has t.members m ≡ true
+        → has t.acked m ≡ true }
+    ensures all { (t : Token) → ((m : ℕ) → has t.members m ≡ true → has t.acked m ≡ true)
+        → all_acked t ≡ true }
 {}
 
 /// A scan leaves no news, whatever it found: it is not enabled again before a note is heard.

@@ -50,7 +50,11 @@ ping = record { name = 5; parameters = 0; body = I.Int 0 1 ∷ I.Print 0 ∷ [] 
 -- the first actor makes two peers that keep each other
 abbrev pub two_hold_each_other : Program
 two_hold_each_other = record {
-  kinds = record { name = 0; fields = 0; behaviours = start_of_two ∷ [] } ∷ record { name = 2; fields = 1; behaviours = meet ∷ poke ∷ ping ∷ [] } ∷ [];
+  kinds = record {
+    name = 0;
+    fields = 0;
+    behaviours = start_of_two ∷ [];
+  } ∷ record { name = 2; fields = 1; behaviours = meet ∷ poke ∷ ping ∷ [] } ∷ [];
   names = names_of_two;
 }
 
@@ -65,11 +69,12 @@ two_up_to_the_ping =
 -- from there to the end
 abbrev pub two_to_the_end : List Event
 two_to_the_end =
-    Go 2 ∷ Go 2 ∷ Take 2 ∷ Collect 2 ∷ Block 2 ∷ Hear ∷ Scan ∷ Take 1 ∷ Take 2 ∷ Hear ∷ Hear ∷ Reap 2 ∷
+    Go 2 ∷ Go 2 ∷ Take 2 ∷ Collect 2 ∷ Block 2 ∷ Hear ∷ Scan ∷ Take 1 ∷ Take 2 ∷ Hear ∷ Hear
+    ∷ Reap 2 ∷
     Block 0 ∷ Hear ∷ Scan ∷ Take 0 ∷ Hear ∷ Reap 3 ∷ []
 
--- the book is a run of the program. At the ping a token was opened, and none is open; at the end 1 was
--- printed, three actors were made, nothing is left, and no event is enabled
+-- the book is a run of the program. At the ping a token was opened, and none is open; at the end 1
+-- was printed, three actors were made, nothing is left, and no event is enabled
 pub record TwoHoldEachOtherAndGo : Type 0 where
   pub ping : State
   pub up_to_the_ping : IsRun two_hold_each_other usual two_up_to_the_ping ping
@@ -120,7 +125,8 @@ passes_an_object_on = record {
 abbrev pub passing_book : List Event
 passing_book =
     Take 0 ∷ Go 0 ∷ Go 0 ∷ Go 0 ∷ Go 0 ∷ Take 1 ∷ Go 1 ∷ Take 0 ∷ Go 1 ∷ Go 1 ∷ Take 2 ∷ Go 2 ∷ Go 2 ∷
-    Collect 0 ∷ Take 1 ∷ Take 2 ∷ Collect 1 ∷ Take 0 ∷ Take 2 ∷ Collect 0 ∷ Block 1 ∷ Collect 2 ∷ Take 0 ∷ Collect 0 ∷ Block 2 ∷
+    Collect 0 ∷ Take 1 ∷ Take 2 ∷ Collect 1 ∷ Take 0 ∷ Take 2 ∷ Collect 0 ∷ Block 1 ∷ Collect 2
+    ∷ Take 0 ∷ Collect 0 ∷ Block 2 ∷
     Hear ∷ Hear ∷ Scan ∷ Take 1 ∷ Take 2 ∷ Hear ∷ Hear ∷ Reap 1 ∷ []
 
 -- the book is a run of the program. At the end 9 was printed, three actors and one object were made,

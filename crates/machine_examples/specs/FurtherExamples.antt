@@ -47,8 +47,8 @@ gets_two_objects = record {
 abbrev pub up_to_the_first_get : List Event
 up_to_the_first_get = Take 0 ∷ Go 0 ∷ Go 0 ∷ Go 0 ∷ Take 1 ∷ Go 1 ∷ []
 
--- the turn gets two objects that the actor needs: it mints for the first of them, at the next go for the
--- second, and only then prints
+-- the turn gets two objects that the actor needs: it mints for the first of them, at the next go
+-- for the second, and only then prints
 pub record GetsAreMintedInOrder : Type 0 where
   pub once : State
   pub to_the_first : IsRun gets_two_objects by_roots up_to_the_first_get once
@@ -68,7 +68,8 @@ pub record GetsAreMintedInOrder : Type 0 where
 abbrev pub up_to_the_leave : List Event
 up_to_the_leave = Go 0 ∷ Collect 0 ∷ Take 1 ∷ Collect 1 ∷ Leave 1 ∷ []
 
--- the actor is gone while its report is kept and its Unblock waits; when that is heard, the report goes
+-- the actor is gone while its report is kept and its Unblock waits; when that is heard, the report
+-- goes
 pub record AnUnblockOutlivesItsActor : Type 0 where
   pub told : State
   pub to_the_report : IsRun makes_one by_five up_to_no_token told

@@ -14,7 +14,8 @@ use Rattle.machine_rules.specs.Options.{Options}
 use Rattle.machine_rules.specs.State.{State, first_state}
 
 -- one worker's whole run of the program has this book, and prints this
-pub record OneWorkerWrites (program : Program) (options : Options) (book : List Event) (prints : List Value) : Type 0 where
+pub record OneWorkerWrites (program : Program) (options : Options) (book : List Event)
+    (prints : List Value) : Type 0 where
   pub last : State
   pub run : LeadsInOrder next (first_state program options) book last
   pub printed : last.prints ≡ prints
@@ -46,4 +47,5 @@ HoldsByRoots = OneWorkerWrites is_held_by_its_own by_roots (up_to_the_object ++ 
 -- an object is got from another
 abbrev pub GetsByRoots : Type 0
 GetsByRoots =
-    OneWorkerWrites gets_an_object by_roots (up_to_the_turn ++ (Go 1 ∷ []) ++ from_the_mint) (Num 4 ∷ [])
+    OneWorkerWrites gets_an_object by_roots (up_to_the_turn ++ (Go 1 ∷ []) ++ from_the_mint)
+    (Num 4 ∷ [])

@@ -25,8 +25,8 @@ use Rattle.machine_rules.specs.State.{State}
 abbrev pub by_roots : Options
 by_roots = record { weight = 256; trace = Roots }
 
--- what is counted of a thing: by its owner, by the increments and decrements that wait for the owner, by
--- all that hold it, and by the letters that load it
+-- what is counted of a thing: by its owner, by the increments and decrements that wait for the
+-- owner, by all that hold it, and by the letters that load it
 pub record Tally : Type 0 where
   pub count : ℕ
   pub incs : ℕ
@@ -51,11 +51,19 @@ frame_at actors a = option_map (λ (c : Cell). c.frame) (cell_at actors a)
 
 -- Main 0, start 1, J 2, K 3, make 4, keep 5: makes the two, and tells the first of the second
 abbrev pub start_of_holding : Behaviour
-start_of_holding = record { name = 1; parameters = 0; body = I.New 0 2 ∷ I.New 1 3 ∷ I.Send 0 4 (1 ∷ []) ∷ [] }
+start_of_holding = record {
+  name = 1;
+  parameters = 0;
+  body = I.New 0 2 ∷ I.New 1 3 ∷ I.Send 0 4 (1 ∷ []) ∷ [];
+}
 
 -- stays, makes an object that names the other, and sends it there
 abbrev pub make_and_send : Behaviour
-make_and_send = record { name = 4; parameters = 1; body = I.Pin ∷ I.Row 1 (0 ∷ []) ∷ I.Send 0 5 (1 ∷ []) ∷ [] }
+make_and_send = record {
+  name = 4;
+  parameters = 1;
+  body = I.Pin ∷ I.Row 1 (0 ∷ []) ∷ I.Send 0 5 (1 ∷ []) ∷ [];
+}
 
 -- keeps it
 abbrev pub keep_it : Behaviour
@@ -78,17 +86,20 @@ abbrev pub up_to_the_object : List Event
 up_to_the_object = Take 0 ∷ Go 0 ∷ Go 0 ∷ Go 0 ∷ Go 0 ∷ Take 1 ∷ Go 1 ∷ []
 
 abbrev pub from_the_object : List Event
-from_the_object = Go 1 ∷ Take 2 ∷ Go 2 ∷ Collect 0 ∷ Take 1 ∷ Take 2 ∷ Leave 0 ∷ Collect 1 ∷ Collect 2 ∷ Block 2 ∷ Hear ∷ Scan ∷ []
+from_the_object =
+    Go 1 ∷ Take 2 ∷ Go 2 ∷ Collect 0 ∷ Take 1 ∷ Take 2 ∷ Leave 0 ∷ Collect 1 ∷ Collect 2 ∷ Block 2
+    ∷ Hear ∷ Scan ∷ []
 
 -- the same with deep tracing
 abbrev pub holding_deep : List Event
 holding_deep =
-    Take 0 ∷ Go 0 ∷ Go 0 ∷ Go 0 ∷ Go 0 ∷ Take 1 ∷ Go 1 ∷ Go 1 ∷ Go 1 ∷ Take 2 ∷ Take 2 ∷ Go 2 ∷ Collect 0 ∷ Take 1 ∷ Take 2 ∷ Leave 0 ∷
+    Take 0 ∷ Go 0 ∷ Go 0 ∷ Go 0 ∷ Go 0 ∷ Take 1 ∷ Go 1 ∷ Go 1 ∷ Go 1 ∷ Take 2 ∷ Take 2 ∷ Go 2
+    ∷ Collect 0 ∷ Take 1 ∷ Take 2 ∷ Leave 0 ∷
     Collect 1 ∷ Take 2 ∷ Collect 2 ∷ Leave 2 ∷ Take 1 ∷ Collect 1 ∷ []
 
--- the letter counts the object and its owner, and brings the row of the object, which names the receiver.
--- At the end the object is counted, so its owner keeps it and, through its row, holds the one that holds
--- it; with deep tracing both go
+-- the letter counts the object and its owner, and brings the row of the object, which names the
+-- receiver. At the end the object is counted, so its owner keeps it and, through its row, holds the
+-- one that holds it; with deep tracing both go
 pub record AHeldObjectStays : Type 0 where
   pub sent : State
   pub to_the_object : IsRun is_held_by_its_own by_roots up_to_the_object sent
@@ -102,9 +113,27 @@ pub record AHeldObjectStays : Type 0 where
   pub prints : last.prints ≡ []
   pub made : length last.actors ≡ 3
   pub objects : last.objects ≡ 1
-  pub owner : tally_of last.actors (Actor 1) ≡ record { count = 1; incs = 0; decs = 0; held = 1; letters = 0 }
-  pub object : tally_of last.actors the_object ≡ record { count = 1; incs = 0; decs = 0; held = 1; letters = 0 }
-  pub holder : tally_of last.actors (Actor 2) ≡ record { count = 1; incs = 0; decs = 0; held = 1; letters = 0 }
+  pub owner : tally_of last.actors (Actor 1) ≡ record {
+    count = 1;
+    incs = 0;
+    decs = 0;
+    held = 1;
+    letters = 0;
+  }
+  pub object : tally_of last.actors the_object ≡ record {
+    count = 1;
+    incs = 0;
+    decs = 0;
+    held = 1;
+    letters = 0;
+  }
+  pub holder : tally_of last.actors (Actor 2) ≡ record {
+    count = 1;
+    incs = 0;
+    decs = 0;
+    held = 1;
+    letters = 0;
+  }
   pub left : (x : Thing) → IsLeft last.actors x ↔ (x ≡ Actor 1) ⊎ ((x ≡ Actor 2) ⊎ (x ≡ the_object))
   pub quiet : IsQuiet next last
   pub deep : State
@@ -114,9 +143,15 @@ pub record AHeldObjectStays : Type 0 where
 
 -- ---- an object is got from another
 
--- Main 0, start 1, A 2, open 3: stays, makes an actor, and gives it an object that has an object that has 4
+-- Main 0, start 1, A 2, open 3: stays, makes an actor, and gives it an object that has an object
+-- that has 4
 abbrev pub start_of_opening : Behaviour
-start_of_opening = record { name = 1; parameters = 0; body = I.Pin ∷ I.New 0 2 ∷ I.Int 1 4 ∷ I.Row 2 (1 ∷ []) ∷ I.Row 3 (2 ∷ []) ∷ I.Send 0 3 (3 ∷ []) ∷ [] }
+start_of_opening = record {
+  name = 1;
+  parameters = 0;
+  body = I.Pin ∷ I.New 0 2 ∷ I.Int 1 4 ∷ I.Row 2 (1 ∷ []) ∷ I.Row 3 (2 ∷ []) ∷ I.Send 0 3 (3 ∷ [])
+      ∷ [];
+}
 
 -- gets the object, and prints what it gets from that
 abbrev pub open_it : Behaviour
@@ -124,7 +159,11 @@ open_it = record { name = 3; parameters = 1; body = I.Get 1 0 0 ∷ I.Get 2 1 0 
 
 abbrev pub gets_an_object : Program
 gets_an_object = record {
-  kinds = record { name = 0; fields = 0; behaviours = start_of_opening ∷ [] } ∷ record { name = 2; fields = 0; behaviours = open_it ∷ [] } ∷ [];
+  kinds = record {
+    name = 0;
+    fields = 0;
+    behaviours = start_of_opening ∷ [];
+  } ∷ record { name = 2; fields = 0; behaviours = open_it ∷ [] } ∷ [];
   names = codes "Main" ∷ codes "start" ∷ codes "A" ∷ codes "open" ∷ [];
 }
 
@@ -138,10 +177,12 @@ abbrev pub up_to_the_turn : List Event
 up_to_the_turn = Take 0 ∷ Go 0 ∷ Go 0 ∷ Go 0 ∷ Take 1 ∷ []
 
 abbrev pub from_the_mint : List Event
-from_the_mint = Take 0 ∷ Go 1 ∷ Go 1 ∷ Collect 0 ∷ Take 1 ∷ Collect 1 ∷ Take 0 ∷ Collect 0 ∷ Leave 1 ∷ []
+from_the_mint =
+    Take 0 ∷ Go 1 ∷ Go 1 ∷ Collect 0 ∷ Take 1 ∷ Collect 1 ∷ Take 0 ∷ Collect 0 ∷ Leave 1 ∷ []
 
--- where the turn gets the inner object, which the actor does not hold, though it has the row, it mints for
--- that, and its frame stays where it was; at the next go the turn prints. At the end both objects are gone
+-- where the turn gets the inner object, which the actor does not hold, though it has the row, it
+-- mints for that, and its frame stays where it was; at the next go the turn prints. At the end both
+-- objects are gone
 pub record AGotObjectIsMinted : Type 0 where
   pub taken : State
   pub to_the_turn : IsRun gets_an_object by_roots up_to_the_turn taken
@@ -150,10 +191,34 @@ pub record AGotObjectIsMinted : Type 0 where
   pub frame : frame_at minted.actors 1 ≡ frame_at taken.actors 1
   pub letter : mail_at minted.actors 0 ≡ Inc ((first_object, 256) ∷ []) ∷ []
   pub prints_none : minted.prints ≡ []
-  pub first : tally_of minted.actors (Actor 0) ≡ record { count = 1; incs = 0; decs = 0; held = 1; letters = 0 }
-  pub inner : tally_of minted.actors first_object ≡ record { count = 0; incs = 256; decs = 0; held = 256; letters = 0 }
-  pub outer : tally_of minted.actors second_object ≡ record { count = 1; incs = 0; decs = 0; held = 1; letters = 0 }
-  pub other : tally_of minted.actors (Actor 1) ≡ record { count = 256; incs = 0; decs = 0; held = 256; letters = 0 }
+  pub first : tally_of minted.actors (Actor 0) ≡ record {
+    count = 1;
+    incs = 0;
+    decs = 0;
+    held = 1;
+    letters = 0;
+  }
+  pub inner : tally_of minted.actors first_object ≡ record {
+    count = 0;
+    incs = 256;
+    decs = 0;
+    held = 256;
+    letters = 0;
+  }
+  pub outer : tally_of minted.actors second_object ≡ record {
+    count = 1;
+    incs = 0;
+    decs = 0;
+    held = 1;
+    letters = 0;
+  }
+  pub other : tally_of minted.actors (Actor 1) ≡ record {
+    count = 256;
+    incs = 0;
+    decs = 0;
+    held = 256;
+    letters = 0;
+  }
   pub last : State
   pub to_the_end : Leads next minted from_the_mint last
   pub prints : last.prints ≡ values.Num 4 ∷ []
@@ -168,9 +233,14 @@ pub record AGotObjectIsMinted : Type 0 where
 abbrev pub by_roots_and_five : Options
 by_roots_and_five = record { weight = 5; trace = Roots }
 
--- Main 0, start 1, B 2, A 3, make 4, pass 5, open 6, look 7: stays, makes the two, and tells the first of itself and of the second
+-- Main 0, start 1, B 2, A 3, make 4, pass 5, open 6, look 7: stays, makes the two, and tells the
+-- first of itself and of the second
 abbrev pub start_of_passing_on : Behaviour
-start_of_passing_on = record { name = 1; parameters = 0; body = I.Pin ∷ I.New 0 2 ∷ I.New 1 3 ∷ I.Own 2 ∷ I.Send 0 4 (2 ∷ 1 ∷ []) ∷ [] }
+start_of_passing_on = record {
+  name = 1;
+  parameters = 0;
+  body = I.Pin ∷ I.New 0 2 ∷ I.New 1 3 ∷ I.Own 2 ∷ I.Send 0 4 (2 ∷ 1 ∷ []) ∷ [];
+}
 
 -- sends an object of its own that has the one that it got
 abbrev pub pass_on : Behaviour
@@ -178,7 +248,11 @@ pass_on = record { name = 5; parameters = 2; body = I.Row 2 (0 ∷ []) ∷ I.Sen
 
 -- sends an object that has 7
 abbrev pub make_seven : Behaviour
-make_seven = record { name = 4; parameters = 2; body = I.Int 2 7 ∷ I.Row 3 (2 ∷ []) ∷ I.Send 0 5 (3 ∷ 1 ∷ []) ∷ [] }
+make_seven = record {
+  name = 4;
+  parameters = 2;
+  body = I.Int 2 7 ∷ I.Row 3 (2 ∷ []) ∷ I.Send 0 5 (3 ∷ 1 ∷ []) ∷ [];
+}
 
 -- keeps the object, and looks at it later
 abbrev pub keep_and_look : Behaviour
@@ -186,7 +260,11 @@ keep_and_look = record { name = 6; parameters = 1; body = I.Store 0 0 ∷ I.Own 
 
 -- prints what the object in it has
 abbrev pub look_inside : Behaviour
-look_inside = record { name = 7; parameters = 0; body = I.Load 0 0 ∷ I.Get 1 0 0 ∷ I.Get 2 1 0 ∷ I.Print 2 ∷ [] }
+look_inside = record {
+  name = 7;
+  parameters = 0;
+  body = I.Load 0 0 ∷ I.Get 1 0 0 ∷ I.Get 2 1 0 ∷ I.Print 2 ∷ [];
+}
 
 abbrev pub looks_later : Program
 looks_later = record {
@@ -201,24 +279,57 @@ looks_later = record {
 -- the one that looks collects first
 abbrev pub up_to_the_look : List Event
 up_to_the_look =
-    Take 0 ∷ Go 0 ∷ Go 0 ∷ Go 0 ∷ Go 0 ∷ Take 1 ∷ Go 1 ∷ Go 1 ∷ Take 0 ∷ Go 0 ∷ Go 0 ∷ Go 1 ∷ Take 2 ∷ Take 2 ∷ Go 2 ∷ Go 2 ∷ Collect 2 ∷ Take 2 ∷ Go 2 ∷ []
+    Take 0 ∷ Go 0 ∷ Go 0 ∷ Go 0 ∷ Go 0 ∷ Take 1 ∷ Go 1 ∷ Go 1 ∷ Take 0 ∷ Go 0 ∷ Go 0 ∷ Go 1
+    ∷ Take 2 ∷ Take 2 ∷ Go 2 ∷ Go 2 ∷ Collect 2 ∷ Take 2 ∷ Go 2 ∷ []
 
 abbrev pub from_the_look : List Event
 from_the_look =
-    Take 1 ∷ Go 2 ∷ Go 2 ∷ Collect 0 ∷ Take 2 ∷ Collect 1 ∷ Take 0 ∷ Take 2 ∷ Collect 0 ∷ Block 1 ∷ Collect 2 ∷ Take 1 ∷ Collect 1 ∷ Block 1 ∷ Leave 2 ∷
+    Take 1 ∷ Go 2 ∷ Go 2 ∷ Collect 0 ∷ Take 2 ∷ Collect 1 ∷ Take 0 ∷ Take 2 ∷ Collect 0 ∷ Block 1
+    ∷ Collect 2 ∷ Take 1 ∷ Collect 1 ∷ Block 1 ∷ Leave 2 ∷
     Take 0 ∷ Collect 0 ∷ Take 1 ∷ Collect 1 ∷ Leave 1 ∷ Hear ∷ Hear ∷ Hear ∷ Hear ∷ Scan ∷ []
 
--- the actor that looks holds the outer object, and neither the inner one nor its owner: it mints for both. The
--- row of the inner object, which a letter brought, is still there after the collection, so 7 is printed
+-- the actor that looks holds the outer object, and neither the inner one nor its owner: it mints
+-- for both. The row of the inner object, which a letter brought, is still there after the
+-- collection, so 7 is printed
 pub record ABroughtRowStays : Type 0 where
   pub asked : State
   pub to_the_look : IsRun looks_later by_roots_and_five up_to_the_look asked
   pub letter : mail_at asked.actors 1 ≡ Inc ((Actor 1, 5) ∷ (the_object, 5) ∷ []) ∷ []
-  pub first : tally_of asked.actors (Actor 0) ≡ record { count = 2; incs = 0; decs = 0; held = 2; letters = 0 }
-  pub outer : tally_of asked.actors first_object ≡ record { count = 1; incs = 0; decs = 0; held = 1; letters = 0 }
-  pub owner : tally_of asked.actors (Actor 1) ≡ record { count = 6; incs = 5; decs = 0; held = 11; letters = 0 }
-  pub inner : tally_of asked.actors the_object ≡ record { count = 1; incs = 5; decs = 0; held = 6; letters = 0 }
-  pub looker : tally_of asked.actors (Actor 2) ≡ record { count = 10; incs = 0; decs = 0; held = 10; letters = 0 }
+  pub first : tally_of asked.actors (Actor 0) ≡ record {
+    count = 2;
+    incs = 0;
+    decs = 0;
+    held = 2;
+    letters = 0;
+  }
+  pub outer : tally_of asked.actors first_object ≡ record {
+    count = 1;
+    incs = 0;
+    decs = 0;
+    held = 1;
+    letters = 0;
+  }
+  pub owner : tally_of asked.actors (Actor 1) ≡ record {
+    count = 6;
+    incs = 5;
+    decs = 0;
+    held = 11;
+    letters = 0;
+  }
+  pub inner : tally_of asked.actors the_object ≡ record {
+    count = 1;
+    incs = 5;
+    decs = 0;
+    held = 6;
+    letters = 0;
+  }
+  pub looker : tally_of asked.actors (Actor 2) ≡ record {
+    count = 10;
+    incs = 0;
+    decs = 0;
+    held = 10;
+    letters = 0;
+  }
   pub last : State
   pub to_the_end : Leads next asked from_the_look last
   pub prints : last.prints ≡ values.Num 7 ∷ []

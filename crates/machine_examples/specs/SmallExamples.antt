@@ -30,7 +30,8 @@ by_five = record { weight = 5; trace = Deep }
 abbrev pub starts_nothing : Program
 starts_nothing = record { kinds = record { name = 0; fields = 0; behaviours = [] } ∷ []; names = codes "Main" ∷ [] }
 
--- the first actor, to which no letter comes, leaves at once; then nothing is left, and no event is enabled
+-- the first actor, to which no letter comes, leaves at once; then nothing is left, and no event is
+-- enabled
 pub record TheFirstLeavesAtOnce : Type 0 where
   pub last : State
   pub run : IsRun starts_nothing usual (Leave 0 ∷ []) last
@@ -45,7 +46,11 @@ start_of_one = record { name = 1; parameters = 0; body = I.New 0 2 ∷ [] }
 
 abbrev pub makes_one : Program
 makes_one = record {
-  kinds = record { name = 0; fields = 0; behaviours = start_of_one ∷ [] } ∷ record { name = 2; fields = 0; behaviours = [] } ∷ [];
+  kinds = record {
+    name = 0;
+    fields = 0;
+    behaviours = start_of_one ∷ [];
+  } ∷ record { name = 2; fields = 0; behaviours = [] } ∷ [];
   names = codes "Main" ∷ codes "start" ∷ codes "A" ∷ [];
 }
 
@@ -53,7 +58,8 @@ makes_one = record {
 abbrev pub up_to_no_token : List Event
 up_to_no_token = Take 0 ∷ Go 0 ∷ Block 1 ∷ Hear ∷ Scan ∷ []
 
--- its maker gives the counts back and reports, and is asked; the other takes the Dec, which withdraws its report
+-- its maker gives the counts back and reports, and is asked; the other takes the Dec, which
+-- withdraws its report
 abbrev pub up_to_the_unblock : List Event
 up_to_the_unblock = Go 0 ∷ Collect 0 ∷ Block 0 ∷ Hear ∷ Scan ∷ Take 1 ∷ Hear ∷ []
 
@@ -61,8 +67,8 @@ up_to_the_unblock = Go 0 ∷ Collect 0 ∷ Block 0 ∷ Hear ∷ Scan ∷ Take 1 
 abbrev pub both_go : List Event
 both_go = Take 0 ∷ Hear ∷ Reap 1 ∷ Collect 1 ∷ Leave 1 ∷ Scan ∷ []
 
--- at the first scan the count of the new actor is told, the weight, and no token is opened. At the second
--- one is opened for the maker alone, and the Unblock of the other does not cancel it
+-- at the first scan the count of the new actor is told, the weight, and no token is opened. At the
+-- second one is opened for the maker alone, and the Unblock of the other does not cancel it
 pub record AnUnblockCancelsItsOwn : Type 0 where
   pub scanned : State
   pub to_no_token : IsRun makes_one by_five up_to_no_token scanned
@@ -80,9 +86,14 @@ pub record AnUnblockCancelsItsOwn : Type 0 where
 
 -- ---- a mint is for the lowest owner first; an increment makes its taker dirty
 
--- Main 0, start 1, A 2, C 3, give 4, got 5: makes two actors of one kind and one of another, and tells the last of the two
+-- Main 0, start 1, A 2, C 3, give 4, got 5: makes two actors of one kind and one of another, and
+-- tells the last of the two
 abbrev pub start_of_two_owners : Behaviour
-start_of_two_owners = record { name = 1; parameters = 0; body = I.New 0 2 ∷ I.New 1 2 ∷ I.New 2 3 ∷ I.Send 2 4 (0 ∷ 1 ∷ []) ∷ [] }
+start_of_two_owners = record {
+  name = 1;
+  parameters = 0;
+  body = I.New 0 2 ∷ I.New 1 2 ∷ I.New 2 3 ∷ I.Send 2 4 (0 ∷ 1 ∷ []) ∷ [];
+}
 
 -- tells the first of both
 abbrev pub give_both : Behaviour
@@ -101,8 +112,8 @@ tells_of_two = record {
 abbrev pub up_to_one_mint : List Event
 up_to_one_mint = Take 0 ∷ Go 0 ∷ Go 0 ∷ Go 0 ∷ Go 0 ∷ Take 3 ∷ Go 3 ∷ []
 
--- actor 3 holds 1 of each of two actors, and mints for the lower one; only then for the other. The taker
--- of an increment, which was clean, collects
+-- actor 3 holds 1 of each of two actors, and mints for the lower one; only then for the other. The
+-- taker of an increment, which was clean, collects
 pub record MintsAreForTheLowestFirst : Type 0 where
   pub once : State
   pub to_one_mint : IsRun tells_of_two by_five up_to_one_mint once
@@ -118,7 +129,11 @@ pub record MintsAreForTheLowestFirst : Type 0 where
 
 -- Main 0, start 1, K 2, keep 3: stays, makes an actor, and gives it an object
 abbrev pub start_of_giving : Behaviour
-start_of_giving = record { name = 1; parameters = 0; body = I.Pin ∷ I.New 0 2 ∷ I.Int 1 9 ∷ I.Row 2 (1 ∷ []) ∷ I.Send 0 3 (2 ∷ []) ∷ [] }
+start_of_giving = record {
+  name = 1;
+  parameters = 0;
+  body = I.Pin ∷ I.New 0 2 ∷ I.Int 1 9 ∷ I.Row 2 (1 ∷ []) ∷ I.Send 0 3 (2 ∷ []) ∷ [];
+}
 
 -- keeps it
 abbrev pub keep_it : Behaviour
@@ -126,16 +141,23 @@ keep_it = record { name = 3; parameters = 1; body = I.Store 0 0 ∷ [] }
 
 abbrev pub gives_an_object : Program
 gives_an_object = record {
-  kinds = record { name = 0; fields = 0; behaviours = start_of_giving ∷ [] } ∷ record { name = 2; fields = 1; behaviours = keep_it ∷ [] } ∷ [];
+  kinds = record {
+    name = 0;
+    fields = 0;
+    behaviours = start_of_giving ∷ [];
+  } ∷ record { name = 2; fields = 1; behaviours = keep_it ∷ [] } ∷ [];
   names = codes "Main" ∷ codes "start" ∷ codes "K" ∷ codes "keep" ∷ [];
 }
 
 abbrev pub giving_book : List Event
 giving_book =
-    Take 0 ∷ Go 0 ∷ Go 0 ∷ Go 0 ∷ Collect 0 ∷ Take 1 ∷ Go 1 ∷ Take 1 ∷ Collect 1 ∷ Block 1 ∷ Hear ∷ Scan ∷ Take 1 ∷ Hear ∷ Reap 1 ∷ []
+    Take 0 ∷ Go 0 ∷ Go 0 ∷ Go 0 ∷ Collect 0 ∷ Take 1 ∷ Go 1 ∷ Take 1 ∷ Collect 1 ∷ Block 1 ∷ Hear
+    ∷ Scan ∷ Take 1 ∷ Hear ∷ Reap 1 ∷ []
 
--- the one that keeps the object is reaped, and gives back what it held on the object and on its owner in one Dec
+-- the one that keeps the object is reaped, and gives back what it held on the object and on its
+-- owner in one Dec
 pub record AReapGivesBackByOwners : Type 0 where
   pub last : State
   pub run : IsRun gives_an_object usual giving_book last
-  pub back : mail_at last.actors 0 ≡ Dec ((Actor 0, 1) ∷ (Obj (record { owner = 0; serial = 0 }), 1) ∷ []) ∷ []
+  pub back : mail_at last.actors 0
+      ≡ Dec ((Actor 0, 1) ∷ (Obj (record { owner = 0; serial = 0 }), 1) ∷ []) ∷ []

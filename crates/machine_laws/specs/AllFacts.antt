@@ -21,4 +21,5 @@ pub record AllFacts (trace : Trace) (p : PlainState) (s : State) : Type 0 where
   -- with root-only tracing, they have just what is marked
   pub marked : trace ≡ Roots → Every IsCleanByRootsAt s.actors
   -- reports, tokens and news
-  pub detector : DetectorFacts (length s.actors) s.detector (cell_at s.actors) (mail_at s.actors) (λ x. load_sum (Actor x) s.actors) s.notes
+  pub detector : DetectorFacts (length s.actors) s.detector (cell_at s.actors) (mail_at s.actors)
+      (λ x. load_sum (Actor x) s.actors) s.notes

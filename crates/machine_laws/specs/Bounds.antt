@@ -43,16 +43,23 @@ pub record OfTold (P : ℕ → Type 0) (s : State) : Type 0 where
   pub notes : AllByRecursion (OfNote P) s.notes
   pub kept : AllByRecursion (OfEachTold P) s.detector.kept
 
--- after a run none is more than the weight for each event, and what all kept reports tell on one actor is
--- no more than that for each actor
+-- after a run none is more than the weight for each event, and what all kept reports tell on one
+-- actor is no more than that for each actor
 abbrev pub RunsCountAtMost : Type 0
-RunsCountAtMost = (program : Program) (options : Options) → 0 < options.weight → (book : List Event) (t : State) → IsRun program options book t →
-    OfEachCount (λ n. n ≤ length book * options.weight) t.actors × OfTold (λ n. n ≤ length book * options.weight) t
+RunsCountAtMost =
+    (program : Program) (options : Options) → 0 < options.weight → (book : List Event) (t : State)
+    → IsRun program options book t →
+    OfEachCount (λ n. n ≤ length book * options.weight) t.actors
+    × OfTold (λ n. n ≤ length book * options.weight) t
     × ((x : ℕ) → told_on_by x t.detector.kept ≤ length t.actors * (length book * options.weight))
 
--- so where a run has no more events than a book may have, and the weight is none above 65,536, each is
--- below 2 ^ 43, and so is the number of tokens that were opened; and what all reports tell is below 2 ^ 59
+-- so where a run has no more events than a book may have, and the weight is none above 65,536, each
+-- is below 2 ^ 43, and so is the number of tokens that were opened; and what all reports tell is
+-- below 2 ^ 59
 abbrev pub RunsCountInFewBits : Type 0
-RunsCountInFewBits = (program : Program) (options : Options) → 0 < options.weight → (book : List Event) (t : State) → IsRun program options book t →
+RunsCountInFewBits =
+    (program : Program) (options : Options) → 0 < options.weight → (book : List Event) (t : State)
+    → IsRun program options book t →
     length book ≤ 100000000 → options.weight ≤ 65536 →
-    OfEachCount (λ n. n < 2 ^ 43) t.actors × OfTold (λ n. n < 2 ^ 43) t × (t.detector.opened < 2 ^ 43) × ((x : ℕ) → told_on_by x t.detector.kept < 2 ^ 59)
+    OfEachCount (λ n. n < 2 ^ 43) t.actors × OfTold (λ n. n < 2 ^ 43) t
+    × (t.detector.opened < 2 ^ 43) × ((x : ℕ) → told_on_by x t.detector.kept < 2 ^ 59)

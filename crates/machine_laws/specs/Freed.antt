@@ -12,7 +12,8 @@ use Rattle.machine_rules.specs.State.{State}
 
 -- what the events of the book freed is freed after the later ones too, and the machine that frees
 -- nothing does not reach it then
-pub record StaysFreed (program : Program) (options : Options) (book later : List Event) (t : State) : Type 0 where
+pub record StaysFreed (program : Program) (options : Options) (book later : List Event)
+    (t : State) : Type 0 where
   pub mid : State
   pub run : IsRun program options book mid
   -- the machine that frees nothing, beside the book and beside the whole run
@@ -27,5 +28,7 @@ pub record StaysFreed (program : Program) (options : Options) (book later : List
 
 -- so it is for each prefix of each run
 abbrev pub FreedStaysFreed : Type 0
-FreedStaysFreed = (program : Program) (options : Options) → 0 < options.weight → (book later : List Event) (t : State) → IsRun program options (book ++ later) t →
+FreedStaysFreed =
+    (program : Program) (options : Options) → 0 < options.weight
+    → (book later : List Event) (t : State) → IsRun program options (book ++ later) t →
     StaysFreed program options book later t

@@ -31,26 +31,35 @@ use Rattle.machine_laws.specs.Work.{gets_left, work_left}
 -- ---- the facts hold
 
 abbrev pub StartHasAllFacts : Type 0
-StartHasAllFacts = (program : Program) (options : Options) → 0 < options.weight → AllFacts options.trace (start_of program) (first_state program options)
+StartHasAllFacts =
+    (program : Program) (options : Options) → 0 < options.weight
+    → AllFacts options.trace (start_of program) (first_state program options)
 
 -- each event keeps all facts together
 abbrev pub EventsKeepAllFacts : Type 0
-EventsKeepAllFacts = (trace : Trace) (p : PlainState) (s t : State) (e : Event) → AllFacts trace p s → next s e ≡ Goes t →
+EventsKeepAllFacts =
+    (trace : Trace) (p : PlainState) (s t : State) (e : Event) → AllFacts trace p s
+    → next s e ≡ Goes t →
     (q : PlainState) × PlainFollows (is_choice s e) p e q × AllFacts trace q t
 
 -- so they hold after each run
 abbrev pub RunsHaveAllFacts : Type 0
-RunsHaveAllFacts = (program : Program) (options : Options) → 0 < options.weight → (book : List Event) (t : State) → IsRun program options book t →
+RunsHaveAllFacts =
+    (program : Program) (options : Options) → 0 < options.weight → (book : List Event) (t : State)
+    → IsRun program options book t →
     (p : PlainState) × IsPlainBeside program options book p × AllFacts options.trace p t
 
 -- with root-only tracing these, in place of what is known with deep tracing
 abbrev pub RunsAreTracedByRoots : Type 0
-RunsAreTracedByRoots = (program : Program) (options : Options) → 0 < options.weight → options.trace ≡ Roots → (book : List Event) (t : State) → IsRun program options book t → AreTracedByRoots t.actors
+RunsAreTracedByRoots =
+    (program : Program) (options : Options) → 0 < options.weight → options.trace ≡ Roots
+    → (book : List Event) (t : State) → IsRun program options book t → AreTracedByRoots t.actors
 
 -- ---- never too early
 
 -- after this book nothing was freed that the machine that frees nothing still reaches
-pub record IsNeverTooEarly (program : Program) (options : Options) (book : List Event) (s : State) : Type 0 where
+pub record IsNeverTooEarly (program : Program) (options : Options) (book : List Event)
+    (s : State) : Type 0 where
   pub plain : PlainState
   -- the choices of the book are enabled there in their turn, and lead to this state
   pub follows : IsPlainBeside program options book plain
@@ -63,26 +72,35 @@ pub record IsNeverTooEarly (program : Program) (options : Options) (book : List 
   -- no actor and no letter names what was freed, and no actor reaches it through the rows that it has
   pub named : NamesNothingFreed s.actors
   pub reached : ReachesNothingFreed options.trace s.actors
-  -- with root-only tracing, no row that an actor has or a letter brings is of what was freed, or names it
+  -- with root-only tracing, no row that an actor has or a letter brings is of what was freed, or
+  -- names it
   pub rows : options.trace ≡ Roots → RowsNameNothingFreed s.actors
 
 -- each prefix of a run is a run, and it is never too early
 abbrev pub NeverTooEarly : Type 0
-NeverTooEarly = (program : Program) (options : Options) → 0 < options.weight → (book later : List Event) (t : State) → IsRun program options (book ++ later) t →
+NeverTooEarly =
+    (program : Program) (options : Options) → 0 < options.weight
+    → (book later : List Event) (t : State) → IsRun program options (book ++ later) t →
     (s : State) × IsRun program options book s × IsNeverTooEarly program options book s
 
 -- ---- at quiet
 
 -- where no event is enabled, exactly what is reachable is left, cycles of actors and objects included
 abbrev pub ExactlyAtQuiet : Type 0
-ExactlyAtQuiet = (program : Program) (options : Options) → 0 < options.weight → options.trace ≡ Deep → (book : List Event) (t : State) → IsRun program options book t → IsQuiet next t →
-    (p : PlainState) × IsPlainBeside program options book p × ((x : Thing) → IsLeft t.actors x ↔ IsReachable p x)
+ExactlyAtQuiet =
+    (program : Program) (options : Options) → 0 < options.weight → options.trace ≡ Deep
+    → (book : List Event) (t : State) → IsRun program options book t → IsQuiet next t →
+    (p : PlainState) × IsPlainBeside program options book p
+    × ((x : Thing) → IsLeft t.actors x ↔ IsReachable p x)
 
--- with root-only tracing, what is reached from the roots is left, where an actor leads to its own objects
--- that some actor that is left holds as well
+-- with root-only tracing, what is reached from the roots is left, where an actor leads to its own
+-- objects that some actor that is left holds as well
 abbrev pub ExactlyAtQuietByRoots : Type 0
-ExactlyAtQuietByRoots = (program : Program) (options : Options) → 0 < options.weight → options.trace ≡ Roots → (book : List Event) (t : State) → IsRun program options book t → IsQuiet next t →
-    (p : PlainState) × IsPlainBeside program options book p × ((x : Thing) → IsLeft t.actors x ↔ IsReachedOrHeld p t.actors x)
+ExactlyAtQuietByRoots =
+    (program : Program) (options : Options) → 0 < options.weight → options.trace ≡ Roots
+    → (book : List Event) (t : State) → IsRun program options book t → IsQuiet next t →
+    (p : PlainState) × IsPlainBeside program options book p
+    × ((x : Thing) → IsLeft t.actors x ↔ IsReachedOrHeld p t.actors x)
 
 -- nothing is on its way to the detector, no token is open, and of each actor that is present and not
 -- pinned an exact report is kept
@@ -90,17 +108,22 @@ pub record DetectorRests (s : State) : Type 0 where
   pub notes : s.notes ≡ []
   pub news : s.detector.news ≡ false
   pub tokens : s.detector.tokens ≡ []
-  pub reports : (a : ℕ) (c : Cell) (mail : List Letter) → seat_at s.actors a ≡ seat c mail → c.fields.pinned ≡ false →
+  pub reports : (a : ℕ) (c : Cell) (mail : List Letter) → seat_at s.actors a ≡ seat c mail
+      → c.fields.pinned ≡ false →
       (r : Report) × (report_of s.detector.kept a ≡ Some r) × IsReportOf a c r
 
 abbrev pub DetectorRestsAtQuiet : Type 0
-DetectorRestsAtQuiet = (program : Program) (options : Options) → 0 < options.weight → (book : List Event) (t : State) → IsRun program options book t → IsQuiet next t → DetectorRests t
+DetectorRestsAtQuiet =
+    (program : Program) (options : Options) → 0 < options.weight → (book : List Event) (t : State)
+    → IsRun program options book t → IsQuiet next t → DetectorRests t
 
 -- ---- the machine comes to rest
 
 -- each event that is no choice leaves less to do
 abbrev pub EventsLeaveLess : Type 0
-EventsLeaveLess = (trace : Trace) (p : PlainState) (s t : State) (e : Event) → AllFacts trace p s → next s e ≡ Goes t → is_choice s e ≡ false → work_left t < work_left s
+EventsLeaveLess =
+    (trace : Trace) (p : PlainState) (s t : State) (e : Event) → AllFacts trace p s
+    → next s e ≡ Goes t → is_choice s e ≡ false → work_left t < work_left s
 
 -- with deep tracing, for what turns get there is nothing to do
 abbrev pub DeepNeedsNoGet : Type 0
@@ -108,7 +131,10 @@ DeepNeedsNoGet = (s : State) → s.options.trace ≡ Deep → gets_left s ≡ 0
 
 -- so, after each prefix of a run, no more events follow without a choice than there is work left
 abbrev pub RestsBetweenChoices : Type 0
-RestsBetweenChoices = (program : Program) (options : Options) → 0 < options.weight → (book later : List Event) (s t : State) → IsRun program options book s → Leads next s later t → choices later s ≡ [] →
+RestsBetweenChoices =
+    (program : Program) (options : Options) → 0 < options.weight
+    → (book later : List Event) (s t : State) → IsRun program options book s → Leads next s later t
+    → choices later s ≡ [] →
     length later + work_left t ≤ work_left s
 
 -- whatever is enabled is a choice
@@ -125,15 +151,25 @@ pub record CanRest (s : State) : Type 0 where
 
 -- each run can go on so
 abbrev pub RunsCanRest : Type 0
-RunsCanRest = (program : Program) (options : Options) → 0 < options.weight → (book : List Event) (s : State) → IsRun program options book s → CanRest s
+RunsCanRest =
+    (program : Program) (options : Options) → 0 < options.weight → (book : List Event) (s : State)
+    → IsRun program options book s → CanRest s
 
--- where only choices are enabled, and the machine that frees nothing is quiet, nothing is enabled, and
--- exactly what is reachable is left
+-- where only choices are enabled, and the machine that frees nothing is quiet, nothing is enabled,
+-- and exactly what is reachable is left
 abbrev pub GarbageIsGone : Type 0
-GarbageIsGone = (program : Program) (options : Options) → 0 < options.weight → options.trace ≡ Deep → (book : List Event) (t : State) → IsRun program options book t → AwaitsChoices t →
-    (p : PlainState) × IsPlainBeside program options book p × (IsQuiet plain_next p → IsQuiet next t × ((x : Thing) → IsLeft t.actors x ↔ IsReachable p x))
+GarbageIsGone =
+    (program : Program) (options : Options) → 0 < options.weight → options.trace ≡ Deep
+    → (book : List Event) (t : State) → IsRun program options book t → AwaitsChoices t →
+    (p : PlainState) × IsPlainBeside program options book p
+    × (IsQuiet plain_next p
+    → IsQuiet next t × ((x : Thing) → IsLeft t.actors x ↔ IsReachable p x))
 
 -- with root-only tracing, exactly what is reached or held
 abbrev pub GarbageIsGoneByRoots : Type 0
-GarbageIsGoneByRoots = (program : Program) (options : Options) → 0 < options.weight → options.trace ≡ Roots → (book : List Event) (t : State) → IsRun program options book t → AwaitsChoices t →
-    (p : PlainState) × IsPlainBeside program options book p × (IsQuiet plain_next p → IsQuiet next t × ((x : Thing) → IsLeft t.actors x ↔ IsReachedOrHeld p t.actors x))
+GarbageIsGoneByRoots =
+    (program : Program) (options : Options) → 0 < options.weight → options.trace ≡ Roots
+    → (book : List Event) (t : State) → IsRun program options book t → AwaitsChoices t →
+    (p : PlainState) × IsPlainBeside program options book p
+    × (IsQuiet plain_next p
+    → IsQuiet next t × ((x : Thing) → IsLeft t.actors x ↔ IsReachedOrHeld p t.actors x))

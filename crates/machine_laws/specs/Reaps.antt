@@ -34,14 +34,19 @@ pub record IsDone (s : State) (a : ℕ) : Type 0 where
 pub record TakesTheDone (s : State) (number : ℕ) : Type 0 where
   pub token : Token
   pub is_open : token_numbered number s.detector ≡ Some token
-  pub sealed : IsSealed (cell_at s.actors) (mail_at s.actors) (λ x. load_sum (Actor x) s.actors) s.notes token
+  pub sealed : IsSealed (cell_at s.actors) (mail_at s.actors)
+      (λ x. load_sum (Actor x) s.actors) s.notes token
   pub done : (a : ℕ) → has token.members a ≡ true → IsDone s a
 
 -- a reap is enabled only there
 abbrev pub ReapsTakeTheDone : Type 0
-ReapsTakeTheDone = (trace : Trace) (p : PlainState) (s : State) → AllFacts trace p s → (number : ℕ) → IsEnabled next s (Reap number) → TakesTheDone s number
+ReapsTakeTheDone =
+    (trace : Trace) (p : PlainState) (s : State) → AllFacts trace p s → (number : ℕ)
+    → IsEnabled next s (Reap number) → TakesTheDone s number
 
 -- in each run too
 abbrev pub RunsReapTheDone : Type 0
-RunsReapTheDone = (program : Program) (options : Options) → 0 < options.weight → (book : List Event) (s : State) → IsRun program options book s →
+RunsReapTheDone =
+    (program : Program) (options : Options) → 0 < options.weight → (book : List Event) (s : State)
+    → IsRun program options book s →
     (number : ℕ) → IsEnabled next s (Reap number) → TakesTheDone s number

@@ -45,5 +45,6 @@ UntoldStaysUntold =
 abbrev pub RunsTellNoneOfTheReaped : Type 0
 RunsTellNoneOfTheReaped =
     (program : Program) (options : Options) → 0 < options.weight
-    → (book later : List Event) (number : ℕ) (t : State) → IsRun program options (book ++ Reap number ∷ later) t
+    → (book later : List Event) (number : ℕ) (t : State)
+    → IsRun program options (book ++ Reap number ∷ later) t
     → (s : State) × IsRun program options book s × TellsNoneOf number s t

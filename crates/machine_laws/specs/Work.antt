@@ -21,7 +21,8 @@ use Rattle.machine_rules.specs.State.{State}
 
 -- ---- one thing to do, where n actors were made
 
--- news leads to a scan: it opens a token, which counts 1 until it is reaped, and asks at most n actors
+-- news leads to a scan: it opens a token, which counts 1 until it is reaped, and asks at most n
+-- actors
 abbrev pub news_work : ℕ → ℕ
 news_work n = 2 + 2 * n
 
@@ -51,8 +52,8 @@ letter_work n (Confirm token) = 2
 abbrev pub entry_work : ℕ → ℕ → ℕ
 entry_work n count = count_work n + (if count == 1 then suc (count_work n) else 0)
 
--- with root-only tracing a value that a turn gets may be needed: the mint makes at most two entries more, and
--- sends an Inc
+-- with root-only tracing a value that a turn gets may be needed: the mint makes at most two entries
+-- more, and sends an Inc
 abbrev pub get_work : ℕ → ℕ
 get_work n = 3 + 5 * count_work n
 
@@ -65,7 +66,8 @@ table_work n h = sum_by (λ e. entry_work n e.1.0) (m.entries h.foreign)
 abbrev pub seat_work : ℕ → Option Seat → ℕ
 seat_work n None = 0
 seat_work n (Some o) =
-    table_work n o.cell.holdings + sum_by (letter_work n) o.mail + (if o.cell.dirty then 1 else 0) + (if o.cell.reported then 0 else silence_work n)
+    table_work n o.cell.holdings + sum_by (letter_work n) o.mail + (if o.cell.dirty then 1 else 0)
+    + (if o.cell.reported then 0 else silence_work n)
 
 abbrev pub actors_work : ℕ → Actors → ℕ
 actors_work n actors = sum_by (seat_work n) actors
@@ -78,7 +80,9 @@ detector_work n d = length d.tokens + (if d.news then news_work n else 0)
 abbrev pub needed_gets : Trace → Program → ℕ → Cell → Option Frame → ℕ
 needed_gets Deep program a c frame = 0
 needed_gets Roots program a c None = 0
-needed_gets Roots program a c (Some frame) = length (filter (needs a c.holdings) (named_by (gets_of (setting_of Roots program a c) frame c.fields)))
+needed_gets Roots program a c (Some frame) =
+    length (filter (needs a c.holdings)
+    (named_by (gets_of (setting_of Roots program a c) frame c.fields)))
 
 abbrev pub needed_at : Trace → Program → ℕ → Option Seat → ℕ
 needed_at trace program a None = 0
@@ -95,4 +99,5 @@ gets_left s = sum_at (needed_at s.options.trace s.program) s.actors
 abbrev pub work_left : State → ℕ
 work_left s =
     let n = length s.actors in
-    actors_work n s.actors + detector_work n s.detector + sum_by (note_work n) s.notes + gets_left s * get_work n
+    actors_work n s.actors + detector_work n s.detector + sum_by (note_work n) s.notes
+    + gets_left s * get_work n

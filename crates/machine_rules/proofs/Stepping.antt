@@ -66,8 +66,8 @@ module _ (trace : Trace) (s t : State) where
 
     on_new : (kind register : ℕ) → stop.act ≡ New kind register → (room : Bool) → nat_lt (length s.actors) 65536 ≡ room
         → (if room
-          then Goes (with_turn_kept s stop (make s.options.weight a (cell_kept_in trace s a c f (with_name (later_frame trace s a c f) register (length s.actors))) mail (fresh_cell s.options.weight s.program kind) s.actors))
-          else IsFull) ≡ Goes t → Steps (Go a) t
+        then Goes (with_turn_kept s stop (make s.options.weight a (cell_kept_in trace s a c f (with_name (later_frame trace s a c f) register (length s.actors))) mail (fresh_cell s.options.weight s.program kind) s.actors))
+        else IsFull) ≡ Goes t → Steps (Go a) t
     on_new kind register is true room e =
         arrived (Go a) _ e (makes a c mail f kind register (record { going = going; held = held; stop = is }) (ltb-true (length s.actors) 65536 room))
     on_new kind register is false full e = absurd (not_full t e)

@@ -49,4 +49,5 @@ load_sum x actors = sum_by (loads_at x) actors
 -- the counts of each thing balance
 abbrev pub IsBalanced : Actors → Type 0
 IsBalanced actors = (x : Thing) →
-    own_at x (owner_seat actors x) + incs_at x (owner_seat actors x) ≡ held_sum x actors + load_sum x actors + decs_at x (owner_seat actors x)
+    own_at x (owner_seat actors x) + incs_at x (owner_seat actors x)
+    ≡ held_sum x actors + load_sum x actors + decs_at x (owner_seat actors x)

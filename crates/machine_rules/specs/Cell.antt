@@ -56,13 +56,16 @@ object_name (things.Obj n) = Some n
 -- the objects of which an actor may have a row: its own, and those that it holds
 unfoldable pub known_objects : ℕ → Holdings → List ObjName
 known_objects me h =
-    map (λ e. record { owner = me; serial = e.0 }) (m.entries h.rows) ++ filter_map (λ e. object_name e.0) (m.entries h.foreign)
+    map (λ e. record { owner = me; serial = e.0 }) (m.entries h.rows)
+    ++ filter_map (λ e. object_name e.0) (m.entries h.foreign)
 
 -- ---- root-only tracing
 
 -- the row of an object: its own, or one that a letter brought
 unfoldable pub row_by_roots : ℕ → Cell → ObjName → Option Row
-row_by_roots me c n = if n.owner == me then option_map (λ e. e.0) (m.get c.holdings.rows n.serial) else m.get c.known (things.Obj n)
+row_by_roots me c n =
+    if n.owner == me then option_map (λ e. e.0) (m.get c.holdings.rows n.serial)
+    else m.get c.known (things.Obj n)
 
 -- the row of an own object
 unfoldable pub own_row_of : ℕ → Holdings → ObjName → Option Row
@@ -71,7 +74,8 @@ own_row_of me h n = if n.owner == me then option_map (λ e. e.0) (m.get h.rows n
 -- its own objects, and those of which letters brought the rows
 unfoldable pub listed_objects : ℕ → Cell → List ObjName
 listed_objects me c =
-    map (λ e. record { owner = me; serial = e.0 }) (m.entries c.holdings.rows) ++ filter_map (λ e. object_name e.0) (m.entries c.known)
+    map (λ e. record { owner = me; serial = e.0 }) (m.entries c.holdings.rows)
+    ++ filter_map (λ e. object_name e.0) (m.entries c.known)
 
 -- ---- the rows that an actor has, by the mode
 

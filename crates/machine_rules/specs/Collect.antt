@@ -20,20 +20,26 @@ use Rattle.machine_rules.specs.State.{State}
 
 -- what the actor's fields reach, as far as it knows
 unfoldable pub is_marked_deep : ℕ → Cell → Thing → Bool
-is_marked_deep a c x = list_any (is_thing x) (marks_of (row_of a c.holdings) (known_objects a c.holdings) c.fields.values)
+is_marked_deep a c x =
+    list_any (is_thing x)
+    (marks_of (row_of a c.holdings) (known_objects a c.holdings) c.fields.values)
 
 -- its fields, and its own objects that are counted
 unfoldable pub start_of_marks : ℕ → Cell → List Value
 start_of_marks a c =
-    c.fields.values ++ map (λ e. values.Obj (record { owner = a; serial = e.0 })) (filter (λ e. not (e.1.1 == 0)) (m.entries c.holdings.rows))
+    c.fields.values ++ map (λ e. values.Obj (record { owner = a; serial = e.0 }))
+    (filter (λ e. not (e.1.1 == 0)) (m.entries c.holdings.rows))
 
 -- what they reach through own rows alone
 unfoldable pub is_marked_by_roots : ℕ → Cell → Thing → Bool
-is_marked_by_roots a c x = list_any (is_thing x) (marks_of (own_row_of a c.holdings) (listed_objects a c) (start_of_marks a c))
+is_marked_by_roots a c x =
+    list_any (is_thing x)
+    (marks_of (own_row_of a c.holdings) (listed_objects a c) (start_of_marks a c))
 
 -- what they reach through all rows that it has: the rows of these objects stay
 unfoldable pub is_in_use : ℕ → Cell → Thing → Bool
-is_in_use a c x = list_any (is_thing x) (marks_of (row_by_roots a c) (listed_objects a c) (start_of_marks a c))
+is_in_use a c x =
+    list_any (is_thing x) (marks_of (row_by_roots a c) (listed_objects a c) (start_of_marks a c))
 
 abbrev pub is_marked : Trace → ℕ → Cell → Thing → Bool
 is_marked Deep a c = is_marked_deep a c
@@ -47,7 +53,13 @@ without_unused Roots a c = record c { known = m.retain_keys c.known (is_in_use a
 -- the actor without what is not marked, and to each owner a Dec with what was held
 abbrev pub after_collect : (Thing → Bool) → ℕ → Cell → List Letter → Actors → Actors
 after_collect marked a c mail actors =
-    push_decs (by_owner (given_back marked c.holdings)) (set actors a (seat (record c { holdings = sweep marked a c.holdings; dirty = false }) mail))
+    push_decs (by_owner (given_back marked c.holdings)) (set actors a (seat (record c {
+      holdings = sweep marked a c.holdings;
+      dirty = false;
+    }) mail))
 
 abbrev pub collect : Trace → State → ℕ → Cell → List Letter → Step State
-collect trace s a c mail = Goes (record s { actors = after_collect (is_marked trace a c) a (without_unused trace a c) mail s.actors })
+collect trace s a c mail =
+    Goes (record s {
+      actors = after_collect (is_marked trace a c) a (without_unused trace a c) mail s.actors;
+    })

@@ -25,7 +25,10 @@ ask_all (a ∷ members) token actors = ask_all members token (push_letter a (Con
 abbrev pub scan : State → Step State
 scan s =
     let closed = closed_set s.detector in
-    Goes (record s { actors = ask_all closed (suc s.detector.opened) s.actors; detector = after_scan s.detector closed })
+    Goes (record s {
+      actors = ask_all closed (suc s.detector.opened) s.actors;
+      detector = after_scan s.detector closed;
+    })
 
 -- ---- reap: the members of a token that all acknowledged go, with all that they own
 
@@ -38,7 +41,9 @@ held_outside members (Some o) = given_back (λ x. has members (owner_of x)) o.ce
 -- held outside of the set
 unfoldable pub reap_in_turn : List ℕ → List ℕ → List (ℕ × List Amount) → Actors → Actors
 reap_in_turn members [] decs actors = push_decs decs actors
-reap_in_turn members (a ∷ rest) decs actors = reap_in_turn members rest (decs ++ by_owner (held_outside members (seat_at actors a))) (set actors a None)
+reap_in_turn members (a ∷ rest) decs actors =
+    reap_in_turn members rest (decs ++ by_owner (held_outside members (seat_at actors a)))
+    (set actors a None)
 
 -- the members of a set go, and Decs return what they held outside of it
 abbrev pub reap_members : List ℕ → Actors → Actors
@@ -46,7 +51,12 @@ reap_members members actors = reap_in_turn members members [] actors
 
 -- the open token of this number, if all its members acknowledged
 abbrev pub acked_token : ℕ → Detector → Option Token
-acked_token number d = option_and_then (λ t. if all_acked t then Some t else None) (token_numbered number d)
+acked_token number d =
+    option_and_then (λ t. if all_acked t then Some t else None) (token_numbered number d)
 
 abbrev pub reap : State → Token → Step State
-reap s token = Goes (record s { actors = reap_members token.members s.actors; detector = close_token token s.detector })
+reap s token =
+    Goes (record s {
+      actors = reap_members token.members s.actors;
+      detector = close_token token s.detector;
+    })

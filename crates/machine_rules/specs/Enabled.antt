@@ -15,7 +15,8 @@ use Rattle.machine_rules.specs.State.{State}
 
 -- the actor is present, and its cell and its letters are so
 abbrev pub IsPresentWith : State → ℕ → (Cell → List Letter → Type 0) → Type 0
-IsPresentWith s a Q = (c : Cell) × (mail : List Letter) × (seat_at s.actors a ≡ seat c mail) × Q c mail
+IsPresentWith s a Q =
+    (c : Cell) × (mail : List Letter) × (seat_at s.actors a ≡ seat c mail) × Q c mail
 
 abbrev pub CanHappen : State → Event → Type 0
 CanHappen s (Take a) = IsPresentWith s a (λ c mail. may_take c mail ≡ true)

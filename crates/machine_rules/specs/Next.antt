@@ -18,7 +18,8 @@ use Rattle.machine_rules.specs.State.{State}
 use Rattle.machine_rules.specs.Take.{take}
 
 -- an actor that is present, and may, acts
-abbrev pub acting : (Cell → List Letter → Bool) → (Cell → List Letter → Step State) → Option Seat → Step State
+abbrev pub acting : (Cell → List Letter → Bool) → (Cell → List Letter → Step State) → Option Seat
+    → Step State
 acting may act None = NotEnabled
 acting may act (Some o) = if may o.cell o.mail then act o.cell o.mail else NotEnabled
 

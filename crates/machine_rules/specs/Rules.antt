@@ -38,7 +38,8 @@ later_frame trace s a c frame = stopped_at frame (stop_of trace s a c frame)
 
 -- the actor after the turn, where it stands in this frame
 abbrev pub cell_kept_in : Trace → State → ℕ → Cell → Frame → Frame → Cell
-cell_kept_in trace s a c frame later = cell_after_turn (stop_of trace s a c frame) (Some later) c.dirty c
+cell_kept_in trace s a c frame later =
+    cell_after_turn (stop_of trace s a c frame) (Some later) c.dirty c
 
 abbrev pub cell_kept : Trace → State → ℕ → Cell → Frame → Cell
 cell_kept trace s a c frame = cell_kept_in trace s a c frame (later_frame trace s a c frame)
@@ -55,7 +56,8 @@ pub record IsGoing (s : State) (a : ℕ) (c : Cell) (mail : List Letter) (frame 
   pub framed : c.frame ≡ Some frame
 
 -- what its turn gets is held, and it stops at this act
-pub record StopsAt (trace : Trace) (s : State) (a : ℕ) (c : Cell) (mail : List Letter) (frame : Frame) (stops : Act) : Type 0 where
+pub record StopsAt (trace : Trace) (s : State) (a : ℕ) (c : Cell) (mail : List Letter)
+    (frame : Frame) (stops : Act) : Type 0 where
   pub going : IsGoing s a c mail frame
   pub held : needed trace s.program a c frame ≡ None
   pub stop : (stop_of trace s a c frame).act ≡ stops
@@ -71,36 +73,45 @@ pub data IsStep (trace : Trace) (s : State) : Event → State → Type 0 where
         notes = notes_after c.reported (note_of a letter) s.notes;
       })
   -- a behaviour ends
-  ends : (a : ℕ) (c : Cell) (mail : List Letter) (frame : Frame) → StopsAt trace s a c mail frame act.End
+  ends : (a : ℕ) (c : Cell) (mail : List Letter) (frame : Frame)
+      → StopsAt trace s a c mail frame act.End
       → IsStep trace s (Go a) (state_kept trace s a c frame
-        (set s.actors a (seat (cell_after_turn (stop_of trace s a c frame) None true c) mail)))
+      (set s.actors a (seat (cell_after_turn (stop_of trace s a c frame) None true c) mail)))
   -- it prints
   prints : (a : ℕ) (c : Cell) (mail : List Letter) (frame : Frame) (value : Value)
       → StopsAt trace s a c mail frame (act.Print value)
       → IsStep trace s (Go a) (record (state_kept trace s a c frame
-        (set s.actors a (seat (cell_kept trace s a c frame) mail))) { prints = s.prints ++ value ∷ [] })
+      (set s.actors a (seat (cell_kept trace s a c frame) mail))) {
+        prints =
+            s.prints ++ value ∷ [];
+      })
   -- it makes an actor, where there is room
   makes : (a : ℕ) (c : Cell) (mail : List Letter) (frame : Frame) (kind register : ℕ)
       → StopsAt trace s a c mail frame (act.New kind register) → length s.actors < 65536
       → IsStep trace s (Go a) (state_kept trace s a c frame
-        (make s.options.weight a
-        (cell_kept_in trace s a c frame (with_name (later_frame trace s a c frame) register (length s.actors)))
-        mail (fresh_cell s.options.weight s.program kind) s.actors))
+      (make s.options.weight a
+      (cell_kept_in trace s a c frame
+      (with_name (later_frame trace s a c frame) register (length s.actors)))
+      mail (fresh_cell s.options.weight s.program kind) s.actors))
   -- it posts a letter, and lacks nothing of its load
-  posts : (a : ℕ) (c : Cell) (mail : List Letter) (frame : Frame) (to behaviour : ℕ) (args : List Value)
+  posts : (a : ℕ) (c : Cell) (mail : List Letter) (frame : Frame) (to behaviour : ℕ)
+      (args : List Value)
       → StopsAt trace s a c mail frame (act.Post to behaviour args)
       → lacking_from trace a (cell_kept trace s a c frame).holdings args ≡ []
       → IsStep trace s (Go a) (state_kept trace s a c frame
-        (post a (cell_kept trace s a c frame) mail to behaviour args
-        (load_from trace a (cell_kept trace s a c frame).holdings args)
-        (rows_from trace a (cell_kept trace s a c frame) args) s.actors))
+      (post a (cell_kept trace s a c frame) mail to behaviour args
+      (load_from trace a (cell_kept trace s a c frame).holdings args)
+      (rows_from trace a (cell_kept trace s a c frame) args) s.actors))
   -- it mints for what it lacks of a load; nothing of the turn is kept
-  mints : (a : ℕ) (c : Cell) (mail : List Letter) (frame : Frame) (to behaviour : ℕ) (args : List Value)
+  mints : (a : ℕ) (c : Cell) (mail : List Letter) (frame : Frame) (to behaviour : ℕ)
+      (args : List Value)
       (e : Loaded) (lacked : List Loaded)
       → StopsAt trace s a c mail frame (act.Post to behaviour args)
       → lacking_from trace a (cell_kept trace s a c frame).holdings args ≡ e ∷ lacked
       → IsStep trace s (Go a) (record s {
-        actors = mint a c mail (owner_of e.0) (to_mint s.options.weight (owner_of e.0) (e ∷ lacked)) s.actors;
+        actors =
+            mint a c mail (owner_of e.0)
+            (to_mint s.options.weight (owner_of e.0) (e ∷ lacked)) s.actors;
       })
   -- it mints for what its turn gets; nothing of the turn is kept
   gets : (a : ℕ) (c : Cell) (mail : List Letter) (frame : Frame) (x : Thing)

@@ -46,7 +46,8 @@ abbrev pub go_is_choice : Trace → Program → ℕ → Cell → Option Frame �
 go_is_choice trace program a c None = false
 go_is_choice trace program a c (Some frame) =
     let stop = turn_of_cell trace program a c frame in
-    is_none (needed trace program a c frame) && act_is_choice trace a (with_made stop.turn.made c.holdings) stop.act
+    is_none (needed trace program a c frame)
+    && act_is_choice trace a (with_made stop.turn.made c.holdings) stop.act
 
 abbrev pub take_is_choice_at : Option Seat → Bool
 take_is_choice_at None = false
@@ -75,13 +76,16 @@ choices_after later (Goes t) = later t
 -- the choices of a book, from a state on
 abbrev pub choices : List Event → State → List Event
 choices [] s = []
-choices (e ∷ book) s = if is_choice s e then e ∷ choices_after (choices book) (next s e) else choices_after (choices book) (next s e)
+choices (e ∷ book) s =
+    if is_choice s e then e ∷ choices_after (choices book) (next s e)
+    else choices_after (choices book) (next s e)
 
 -- ---- the plain machine beside a run
 
 -- p is the state of the machine that frees nothing, after the choices of the book
 abbrev pub IsPlainBeside : Program → Options → List Event → PlainState → Type 0
-IsPlainBeside program options book p = Leads plain_next (start_of program) (choices book (first_state program options)) p
+IsPlainBeside program options book p =
+    Leads plain_next (start_of program) (choices book (first_state program options)) p
 
 -- the plain machine makes a choice too, and stays at any other event
 abbrev pub PlainFollows : Bool → PlainState → Event → PlainState → Type 0

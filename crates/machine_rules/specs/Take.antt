@@ -20,7 +20,9 @@ use Rattle.machine_rules.specs.State.{State}
 -- the rows of others' objects are kept
 unfoldable pub learn : ℕ → List Loaded → m.FinMap thing_cmp Row → m.FinMap thing_cmp Row
 learn me [] known = known
-learn me (e ∷ rows) known = learn me rows (option_map_or (λ row. if owner_of e.0 == me then known else m.insert known e.0 row) e.1 known)
+learn me (e ∷ rows) known =
+    learn me rows
+    (option_map_or (λ row. if owner_of e.0 == me then known else m.insert known e.0 row) e.1 known)
 
 -- the idle actor after it took the letter; a Confirm changes nothing of it
 abbrev pub cell_after : Program → ℕ → Letter → Cell → Cell
@@ -31,8 +33,10 @@ cell_after program me (App behaviour args load rows) c = record c {
   dirty = true;
   reported = false;
 }
-cell_after program me (Inc things) c = record c { holdings = raise_all me things c.holdings; dirty = true; reported = false }
-cell_after program me (Dec things) c = record c { holdings = lower_all me things c.holdings; dirty = true; reported = false }
+cell_after program me (Inc things) c =
+    record c { holdings = raise_all me things c.holdings; dirty = true; reported = false }
+cell_after program me (Dec things) c =
+    record c { holdings = lower_all me things c.holdings; dirty = true; reported = false }
 cell_after program me (Confirm token) c = c
 
 -- what an actor that has a report out tells the detector when it takes the letter
@@ -49,4 +53,7 @@ notes_after reported note notes = if reported then notes ++ note ∷ [] else not
 abbrev pub take : State → ℕ → Cell → List Letter → Step State
 take s a c [] = NotEnabled
 take s a c (letter ∷ mail) =
-    Goes (record s { actors = set s.actors a (seat (cell_after s.program a letter c) mail); notes = notes_after c.reported (note_of a letter) s.notes })
+    Goes (record s {
+      actors = set s.actors a (seat (cell_after s.program a letter c) mail);
+      notes = notes_after c.reported (note_of a letter) s.notes;
+    })

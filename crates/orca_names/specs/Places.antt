@@ -15,5 +15,7 @@ pub record UsesPlaces (used : ℕ) (places : List Value) : Type 0 where
   pub eight : length places ≡ 8
   pub rest : places ≡ padded (take used places)
 
-pub length-take-used : (used : ℕ) (places : List Value) → UsesPlaces used places → length (take used places) ≡ used
-length-take-used used places kept = length-take-le used places (omega (arith, kept.within, kept.eight))
+pub length-take-used : (used : ℕ) (places : List Value) → UsesPlaces used places
+    → length (take used places) ≡ used
+length-take-used used places kept =
+    length-take-le used places (omega (arith, kept.within, kept.eight))

@@ -27,5 +27,7 @@ abbrev pub TakesSome : {E : Type 0} → Result ℕ E → List ℕ → Type 0
 TakesSome result piece = IfOk result (λ n. (1 ≤ n) × (n ≤ length piece))
 
 -- at `Ok(n)` the first n bytes of the piece were appended; at `Err` nothing was
-abbrev pub WritesFront : {E : Type 0} → Option (List ℕ) → Option (List ℕ) → Result ℕ E → List ℕ → Type 0
-WritesFront old new result piece = MatchResult result (λ n. Appends old new (take n piece)) (λ _. Keeps old new)
+abbrev pub WritesFront : {E : Type 0} → Option (List ℕ) → Option (List ℕ) → Result ℕ E → List ℕ
+    → Type 0
+WritesFront old new result piece =
+    MatchResult result (λ n. Appends old new (take n piece)) (λ _. Keeps old new)

@@ -26,9 +26,17 @@ impl Model for MemSink {
 
     ghost Value = { MemoryWritten };
 
-    ghost view = { λ m. record { written = m.held.items; room = m.room; piece = m.piece; fails = m.fails.items; calls = m.calls; faults = m.faults } };
+    ghost view = { λ m. record {
+      written = m.held.items;
+      room = m.room;
+      piece = m.piece;
+      fails = m.fails.items;
+      calls = m.calls;
+      faults = m.faults;
+    } };
 
-    ghost invariant = { λ m. (0 < m.piece) × (vec_len m.held ≤ m.room) × (m.room ≤ vec_capacity m.held) };
+    ghost invariant = { λ m. (0 < m.piece) × (vec_len m.held ≤ m.room)
+        × (m.room ≤ vec_capacity m.held) };
 }
 
 impl MemSink {
@@ -45,7 +53,15 @@ impl MemSink {
         fails: Vec<u64>,
     ) -> Result<MemSink, NoMemory>
         requires { 0 < piece }
-        ensures { IfOk result (λ sink. sink ≡ record { written = []; room = room; piece = piece; fails = fails.items; calls = 0; faults = 0 }) }
+        ensures { IfOk result (λ sink. sink
+            ≡ record {
+              written = [];
+              room = room;
+              piece = piece;
+              fails = fails.items;
+              calls = 0;
+              faults = 0;
+            }) }
     {
         Ok(MemSink {
             held: Vec::with_capacity(alloc, room)?,
@@ -78,8 +94,11 @@ impl Sink for MemSink {
 
         // It fails exactly at the calls that were named and where it is full, and else takes all
         // that it may.
-        ensures fails { IsErr result ↔ (Contains self.old.fails (one_more self.old.calls) ⊎ (self.old.room ≤ length self.old.written)) }
-        ensures count { IfOk result (λ n. n ≡ min (min (length piece.now) self.old.piece) (self.old.room - length self.old.written)) }
+        ensures fails { IsErr result
+            ↔ (Contains self.old.fails (one_more self.old.calls)
+            ⊎ (self.old.room ≤ length self.old.written)) }
+        ensures count { IfOk result (λ n. n
+            ≡ min (min (length piece.now) self.old.piece) (self.old.room - length self.old.written)) }
         ensures ok { IfOk result (λ n. self.new ≡ after_write self.old (take n piece.now)) }
         ensures err { OnErr result (self.new ≡ after_failed_write self.old) }
     {

@@ -42,7 +42,14 @@ impl Model for MemSource {
 
     ghost Value = { MemoryLeft };
 
-    ghost view = { λ m. record { left = drop m.at m.bytes.items; piece = m.piece; fails = m.fails.items; calls = m.calls; faults = m.faults; ended = m.ended } };
+    ghost view = { λ m. record {
+      left = drop m.at m.bytes.items;
+      piece = m.piece;
+      fails = m.fails.items;
+      calls = m.calls;
+      faults = m.faults;
+      ended = m.ended;
+    } };
 
     ghost invariant = { λ m. (0 < m.piece) × (m.at ≤ length m.bytes.items) };
 }
@@ -52,7 +59,14 @@ impl MemSource {
     /// counted from 1, are among `fails` fail.
     pub fn new(bytes: Vec<u8>, piece: usize, fails: Vec<u64>) -> MemSource
         requires { 0 < piece }
-        ensures { result ≡ record { left = bytes.items; piece = piece; fails = fails.items; calls = 0; faults = 0; ended = false } }
+        ensures { result ≡ record {
+          left = bytes.items;
+          piece = piece;
+          fails = fails.items;
+          calls = 0;
+          faults = 0;
+          ended = false;
+        } }
     {
         MemSource {
             bytes,
@@ -83,7 +97,8 @@ impl Source for MemSource {
 
         // It fails exactly at the calls that were named, and else gives all that it may.
         ensures fails { IsErr result ↔ Contains self.old.fails (one_more self.old.calls) }
-        ensures count { IfOk result (λ n. n ≡ min (min (length buf.old) self.old.piece) (length self.old.left)) }
+        ensures count { IfOk result (λ n. n
+            ≡ min (min (length buf.old) self.old.piece) (length self.old.left)) }
         ensures ok { IfOk result (λ n. self.new ≡ after_read self.old n) }
         ensures err { OnErr result (self.new ≡ after_failed_read self.old) }
         ensures same { OnErr result (buf.new ≡ buf.old) }

@@ -8,7 +8,8 @@ use Rattle.plain_list.specs.Lists.{is_empty}
 abbrev pub can_act : PlainActor → Bool
 can_act x = is_some x.frame || not (is_empty x.letters)
 
--- each actor has a place, which is on exactly where the actor can do something; the places past the last actor are off
+-- each actor has a place, which is on exactly where the actor can do something; the places past the
+-- last actor are off
 pub record IsIndex (ready : List Bool) (actors : List PlainActor) : Type 0 where
   pub room : length actors ≤ length ready
   pub at : (a : ℕ) → slice_index_or ready a false ≡ option_map_or can_act (slice_get actors a) false

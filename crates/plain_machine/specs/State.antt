@@ -14,4 +14,5 @@ pub record IsSound (s : PlainState) : Type 0 where
   pub early : s.steps ≤ 100000000
 
 abbrev pub state_of : Program → List PlainActor → List Value → ℕ → PlainState
-state_of program actors prints steps = record { program = program; actors = actors; prints = prints; steps = steps }
+state_of program actors prints steps =
+    record { program = program; actors = actors; prints = prints; steps = steps }

@@ -22,7 +22,8 @@ actors_from a (x ∷ xs) = Actor a ∷ actors_from (a + 1) xs
 abbrev pub all_things : List PlainActor → List Thing
 all_things actors = actors_from 0 actors ++ map Obj (all_objects 0 actors)
 
-actor_is_among : (a k : ℕ) (xs : List PlainActor) → k < length xs → Contains (actors_from a xs) (Actor (a + k))
+actor_is_among : (a k : ℕ) (xs : List PlainActor) → k < length xs
+    → Contains (actors_from a xs) (Actor (a + k))
 actor_is_among a k [] h = absurd (omega arith)
 actor_is_among a zero (x ∷ xs) h =
     let e : a ≡ a + 0 = omega arith in
@@ -30,21 +31,26 @@ actor_is_among a zero (x ∷ xs) h =
 actor_is_among a (suc k) (x ∷ xs) h =
     let e : a + 1 + k ≡ a + suc k = omega arith in
     subst (λ m. Contains (actors_from a (x ∷ xs)) (Actor m)) e
-    (in_tail (Actor a) (actors_from (a + 1) xs) (Actor (a + 1 + k)) (actor_is_among (a + 1) k xs (omega arith)))
+    (in_tail (Actor a) (actors_from (a + 1) xs) (Actor (a + 1 + k))
+    (actor_is_among (a + 1) k xs (omega arith)))
 
 -- what leads on is among all things
-pub edges_are_listed : (actors : List PlainActor) (t : Thing) → plain_edges actors t ≢ [] → Contains (all_things actors) t
+pub edges_are_listed : (actors : List PlainActor) (t : Thing) → plain_edges actors t ≢ []
+    → Contains (all_things actors) t
 edges_are_listed actors (Actor a) leads = cases (slice_get actors a) refl leads
   where
-    cases : (found : Option PlainActor) → slice_get actors a ≡ found → option_map_or values_of found [] ≢ [] → Contains (all_things actors) (Actor a)
+    cases : (found : Option PlainActor) → slice_get actors a ≡ found
+        → option_map_or values_of found [] ≢ [] → Contains (all_things actors) (Actor a)
     cases None e h = absurd (h refl)
     cases (Some x) e h =
         let z : 0 + a ≡ a = omega arith in
         Contains-append_left (actors_from 0 actors) (map Obj (all_objects 0 actors)) (Actor a)
-        (subst (λ m. Contains (actors_from 0 actors) (Actor m)) z (actor_is_among 0 a actors (slice_get_within actors a x e)))
+        (subst (λ m. Contains (actors_from 0 actors) (Actor m)) z
+        (actor_is_among 0 a actors (slice_get_within actors a x e)))
 edges_are_listed actors (Obj n) leads = cases (plain_row actors n) refl leads
   where
-    cases : (found : Option (List Value)) → plain_row actors n ≡ found → unwrap_or found [] ≢ [] → Contains (all_things actors) (Obj n)
+    cases : (found : Option (List Value)) → plain_row actors n ≡ found → unwrap_or found [] ≢ []
+        → Contains (all_things actors) (Obj n)
     cases None e h = absurd (h refl)
     cases (Some row) e h =
         Contains-append_right (actors_from 0 actors) (map Obj (all_objects 0 actors)) (Obj n)

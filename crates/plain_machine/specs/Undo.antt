@@ -14,7 +14,12 @@ has_rows stand x = stand.rows ≡ length x.rows
 
 -- the frame that goes on, with the registers that the turn left
 abbrev pub frame_left : Stand → Turn → Frame
-frame_left stand turn = record { kind = stand.kind; behaviour = stand.behaviour; place = stand.place; registers = turn.registers }
+frame_left stand turn = record {
+  kind = stand.kind;
+  behaviour = stand.behaviour;
+  place = stand.place;
+  registers = turn.registers;
+}
 
 -- the actors, one of which has more rows
 abbrev pub with_rows : List PlainActor → ℕ → List (List Value) → List PlainActor
@@ -26,4 +31,5 @@ with_first_rows actors a rows = with_changed actors a (λ x. record x { rows = t
 
 -- the actors, one of which has this frame and these fields
 abbrev pub with_kept : List PlainActor → ℕ → Option Frame → Fields → List PlainActor
-with_kept actors a frame fields = with_changed actors a (λ x. record x { frame = frame; fields = fields })
+with_kept actors a frame fields =
+    with_changed actors a (λ x. record x { frame = frame; fields = fields })

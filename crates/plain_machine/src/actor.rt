@@ -47,7 +47,8 @@ pub(crate) fn first_actor(alloc: Global, program: &Program) -> Result<PlainActor
 }
 
 fn behaviour_place(behaviours: &[Behaviour], letter: &PlainLetter) -> Option<usize>
-    ensures value { result ≡ position (takes_call letter.now.behaviour (length letter.now.args)) behaviours.now }
+    ensures value { result
+        ≡ position (takes_call letter.now.behaviour (length letter.now.args)) behaviours.now }
     ensures within { IfSome result (λ i. i < length behaviours.now) }
 {
     behaviours.iter().position(|b| b.name == letter.behaviour
@@ -70,7 +71,8 @@ fn start_frame(program: &Program, kind: u32, letter: &PlainLetter, frame: &mut F
 pub(crate) fn take_letter(program: &Program, actor: &mut PlainActor) -> bool
     requires { length (behaviours_of program.now actor.old.kind) ≤ 64 }
     ensures done { OnTrue result (actor_after_take program.now actor.old ≡ Some actor.new) }
-    ensures not_ready { OnFalse result ((actor_after_take program.now actor.old ≡ None) × (actor.new ≡ actor.old)) }
+    ensures not_ready { OnFalse result ((actor_after_take program.now actor.old ≡ None)
+        × (actor.new ≡ actor.old)) }
 {
     if actor.frame.is_some() {
         return false;

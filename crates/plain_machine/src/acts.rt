@@ -24,7 +24,8 @@ pub(crate) struct Stand {
 
 pub(crate) fn end(actors: &mut Table, a: ActorName, turn: &Turn) -> Result<(), NoMemory>
     requires { a < length actors.old }
-    ensures ok { OnOk result (actors.new ≡ with_turn actors.old a None turn.now.fields turn.now.made) }
+    ensures ok { OnOk result (actors.new
+        ≡ with_turn actors.old a None turn.now.fields turn.now.made) }
     ensures err { OnErr result (actors.new ≡ actors.old) }
 {
     actors.add_rows(a, turn.made())?;
@@ -42,7 +43,10 @@ pub(crate) fn send(
 ) -> Result<(), NoMemory>
     requires there { a < length actors.old }
     requires rows { IfSome (slice_get actors.old a) (has_rows stand.now) }
-    ensures ok { OnOk result (actors.new ≡ with_letter (with_turn actors.old a (Some (frame_left stand.now turn.now)) turn.now.fields turn.now.made) to letter) }
+    ensures ok { OnOk result (actors.new
+        ≡ with_letter
+        (with_turn actors.old a
+        (Some (frame_left stand.now turn.now)) turn.now.fields turn.now.made) to letter) }
     ensures err { OnErr result (actors.new ≡ actors.old) }
 {
     actors.add_rows(a, turn.made())?;
@@ -68,7 +72,9 @@ pub(crate) fn print(
 ) -> Result<(), NoMemory>
     requires there { a < length actors.old }
     requires rows { IfSome (slice_get actors.old a) (has_rows stand.now) }
-    ensures ok { OnOk result (actors.new ≡ with_turn actors.old a (Some (frame_left stand.now turn.now)) turn.now.fields turn.now.made) }
+    ensures ok { OnOk result (actors.new
+        ≡ with_turn actors.old a
+        (Some (frame_left stand.now turn.now)) turn.now.fields turn.now.made) }
     ensures prints { OnOk result (prints.new.items ≡ prints.old.items ++ value ∷ []) }
     ensures err { OnErr result (actors.new ≡ actors.old) }
     ensures err_prints { OnErr result (prints.new.items ≡ prints.old.items) }
@@ -99,7 +105,10 @@ pub(crate) fn make(
     requires few { length actors.old < 65536 }
     requires there { a < length actors.old }
     requires rows { IfSome (slice_get actors.old a) (has_rows stand.now) }
-    ensures ok { OnOk result (actors.new ≡ with_turn actors.old a (Some (frame_left stand.now turn.now)) turn.now.fields turn.now.made ++ the_fresh program.now kind ∷ []) }
+    ensures ok { OnOk result (actors.new
+        ≡ with_turn actors.old a
+        (Some (frame_left stand.now turn.now)) turn.now.fields turn.now.made
+        ++ the_fresh program.now kind ∷ []) }
     ensures err { OnErr result (actors.new ≡ actors.old) }
 {
     actors.add_rows(a, turn.made())?;

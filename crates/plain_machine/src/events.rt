@@ -55,10 +55,13 @@ fn commit(
     requires there { a < length actors.old }
     requires rows { IfSome (slice_get actors.old a) (has_rows stand.now) }
     requires gone { (steps : ℕ) → plain_go (state_of program.now actors.old prints.old.items steps) a
-        ≡ after_act (state_of program.now actors.old prints.old.items steps) a (frame_left stand.now turn.old) turn.old.fields turn.old.made (act_of deed.now turn.old) }
-    ensures ok { OnOk result ((steps : ℕ) → plain_go (state_of program.now actors.old prints.old.items steps) a
+        ≡ after_act (state_of program.now actors.old prints.old.items steps) a
+        (frame_left stand.now turn.old) turn.old.fields turn.old.made (act_of deed.now turn.old) }
+    ensures ok { OnOk result ((steps : ℕ)
+        → plain_go (state_of program.now actors.old prints.old.items steps) a
         ≡ Goes (state_of program.now actors.new prints.new.items (steps + 1))) }
-    ensures fault { IfErr result (λ e. (steps : ℕ) → Faulted (plain_go (state_of program.now actors.old prints.old.items steps) a) a e) }
+    ensures fault { IfErr result (λ e. (steps : ℕ)
+        → Faulted (plain_go (state_of program.now actors.old prints.old.items steps) a) a e) }
     ensures same { OnErr result (actors.new ≡ actors.old) }
     ensures same_prints { OnErr result (prints.new.items ≡ prints.old.items) }
 {
@@ -96,9 +99,11 @@ pub(crate) fn go_in(
     turn: &mut Turn,
     a: ActorName,
 ) -> Result<(), PlainFault>
-    ensures ok { OnOk result ((steps : ℕ) → plain_go (state_of code.now actors.old prints.old.items steps) a
+    ensures ok { OnOk result ((steps : ℕ)
+        → plain_go (state_of code.now actors.old prints.old.items steps) a
         ≡ Goes (state_of code.now actors.new prints.new.items (steps + 1))) }
-    ensures fault { IfErr result (λ e. (steps : ℕ) → Faulted (plain_go (state_of code.now actors.old prints.old.items steps) a) a e) }
+    ensures fault { IfErr result (λ e. (steps : ℕ)
+        → Faulted (plain_go (state_of code.now actors.old prints.old.items steps) a) a e) }
     ensures same { OnErr result (actors.new ≡ actors.old) }
     ensures same_prints { OnErr result (prints.new.items ≡ prints.old.items) }
 {

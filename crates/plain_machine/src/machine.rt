@@ -85,7 +85,8 @@ impl<'a> Plain<'a> {
     pub fn take(&mut self, a: ActorName) -> Result<(), PlainFault>
         requires { self.old.steps < 100000000 }
         ensures ok { OnOk result (plain_take self.old a ≡ Goes self.new) }
-        ensures fault { IfErr result (λ e. (e ≡ PlainFault.NotReady) × (plain_take self.old a ≡ NotEnabled)) }
+        ensures fault { IfErr result (λ e. (e ≡ PlainFault.NotReady)
+            × (plain_take self.old a ≡ NotEnabled)) }
         ensures same { OnErr result (self.new ≡ self.old) }
     {
         if self.actors.take(self.code, a) {
@@ -159,7 +160,8 @@ impl<'a> Plain<'a> {
     /// # Errors
     /// `NoMemory` where memory was refused.
     pub fn reach(&self, alloc: Global) -> Result<Vec<Thing>, NoMemory>
-        ensures exact { IfOk result (λ found. (x : thing) → Contains found.items x ↔ IsReachable self.now x) }
+        ensures exact { IfOk result (λ found. (x : thing) → Contains found.items x
+            ↔ IsReachable self.now x) }
         ensures rising { IfOk result (λ found. IsStrictlySortedBy thing_cmp found.items) }
     {
         reached(alloc, self.actors.as_slice())

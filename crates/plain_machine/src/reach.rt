@@ -116,7 +116,8 @@ fn roots(alloc: Global, actors: &[PlainActor]) -> Result<Vec<Thing>, NoMemory>
 /// All that is reachable from these actors, in the order of things.
 pub(crate) fn reached(alloc: Global, actors: &[PlainActor]) -> Result<Vec<Thing>, NoMemory>
     requires { length actors.now ≤ 65536 }
-    ensures exact { IfOk result (λ found. (x : thing) → Contains found.items x ↔ Reaches (plain_edges actors.now) (roots_from 0 actors.now) x) }
+    ensures exact { IfOk result (λ found. (x : thing) → Contains found.items x
+        ↔ Reaches (plain_edges actors.now) (roots_from 0 actors.now) x) }
     ensures rising { IfOk result (λ found. IsStrictlySortedBy thing_cmp found.items) }
 {
     let roots = roots(alloc, actors)?;

@@ -194,7 +194,8 @@ impl Table {
     /// Puts the registers and fields of a turn that goes on into its actor.
     pub fn keep_turn(&mut self, a: ActorName, stand: &Stand, turn: &Turn)
         requires { a < length self.old }
-        ensures { self.new ≡ with_kept self.old a (Some (frame_left stand.now turn.now)) turn.now.fields }
+        ensures { self.new
+            ≡ with_kept self.old a (Some (frame_left stand.now turn.now)) turn.now.fields }
     {
         let actor = &mut self.actors[a.0 as usize];
         actor

@@ -20,7 +20,9 @@ roots_from a (x ∷ xs) = if is_root x then Actor a ∷ roots_from (a + 1) xs el
 
 -- an actor leads to each value in its fields, its registers and its letters' arguments
 abbrev pub values_of : PlainActor → List Value
-values_of x = x.fields.values ++ (option_map_or (λ f. f.registers) x.frame [] ++ flat_map (λ l. l.args) x.letters)
+values_of x =
+    x.fields.values
+    ++ (option_map_or (λ f. f.registers) x.frame [] ++ flat_map (λ l. l.args) x.letters)
 
 -- an object leads to each value of its row
 abbrev pub plain_edges : List PlainActor → Thing → List Value

@@ -24,4 +24,5 @@ pub record ExitsStarved (source sink : Sides) (code : ℕ) : Type 0 where
 
 -- there was the call, or memory was refused before it
 abbrev pub ExitsUnlessStarved : List (List ℕ) → Sides → Sides → ℕ → Type 0
-ExitsUnlessStarved words source sink code = Exits words source sink code ⊎ ExitsStarved source sink code
+ExitsUnlessStarved words source sink code =
+    Exits words source sink code ⊎ ExitsStarved source sink code

@@ -30,7 +30,8 @@ fn list_of(alloc: Global, arguments: Args) -> Result<Vec<String>, AllocError>
 }
 
 fn texts_of<'a>(alloc: Global, arguments: &'a [String]) -> Result<Vec<&'a str>, AllocError>
-    ensures { IfOk result (λ words. map (λ word. word.now) words.items ≡ map string_bytes arguments.now) }
+    ensures { IfOk result (λ words. map (λ word. word.now) words.items
+        ≡ map string_bytes arguments.now) }
 {
     let mut words = Vec::new(alloc);
     for argument in arguments {
@@ -41,7 +42,8 @@ fn texts_of<'a>(alloc: Global, arguments: &'a [String]) -> Result<Vec<&'a str>, 
 
 /// The words after the program's own name.
 fn words_of<'a>(alloc: Global, arguments: &'a [String]) -> Result<Vec<&'a str>, AllocError>
-    ensures { IfOk result (λ words. map (λ word. word.now) words.items ≡ drop 1 (map string_bytes arguments.now)) }
+    ensures { IfOk result (λ words. map (λ word. word.now) words.items
+        ≡ drop 1 (map string_bytes arguments.now)) }
 {
     match arguments {
         [] => Ok(Vec::new(alloc)),
@@ -57,7 +59,9 @@ fn call_over<R: AllocGlobal, S: Source, K: Sink>(
     sink: &mut K,
 ) -> ExitCode
     requires { S.ended source.old ≡ false }
-    ensures { Exits (map (λ word. word.now) words.entry.now) (sides S.left S.faults source.old source.new) (sides K.written K.faults sink.old sink.new) (exit_status result) }
+    ensures { Exits (map (λ word. word.now) words.entry.now)
+        (sides S.left S.faults source.old source.new) (sides K.written K.faults sink.old sink.new)
+        (exit_status result) }
 {
     let outcome = run_words(rt, words, source, sink, &OpenGate);
     ExitCode::from(outcome.status.code())
@@ -79,9 +83,16 @@ fn answer<R: AllocGlobal, S: Source, K: Sink>(
     sink: &mut K,
 ) -> ExitCode
     requires { S.ended source.old ≡ false }
-    ensures text { IfOk arguments (λ a. ExitsUnlessStarved (drop 1 (map string_bytes (into_iter_items a))) (sides S.left S.faults source.old source.new) (sides K.written K.faults sink.old sink.new) (exit_status result)) }
-    ensures no_text { IfErr arguments (λ e. error_kind e ≢ ErrorKind.OutOfMemory → Exits ([] ∷ []) (sides S.left S.faults source.old source.new) (sides K.written K.faults sink.old sink.new) (exit_status result)) }
-    ensures no_memory { IfErr arguments (λ e. error_kind e ≡ ErrorKind.OutOfMemory → ExitsStarved (sides S.left S.faults source.old source.new) (sides K.written K.faults sink.old sink.new) (exit_status result)) }
+    ensures text { IfOk arguments
+        (λ a. ExitsUnlessStarved (drop 1 (map string_bytes (into_iter_items a)))
+        (sides S.left S.faults source.old source.new) (sides K.written K.faults sink.old sink.new)
+        (exit_status result)) }
+    ensures no_text { IfErr arguments (λ e. error_kind e ≢ ErrorKind.OutOfMemory
+        → Exits ([] ∷ []) (sides S.left S.faults source.old source.new)
+        (sides K.written K.faults sink.old sink.new) (exit_status result)) }
+    ensures no_memory { IfErr arguments (λ e. error_kind e ≡ ErrorKind.OutOfMemory
+        → ExitsStarved (sides S.left S.faults source.old source.new)
+        (sides K.written K.faults sink.old sink.new) (exit_status result)) }
 {
     let arguments = match arguments {
         Ok(arguments) => arguments,

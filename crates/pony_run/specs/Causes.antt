@@ -34,15 +34,22 @@ pub record IsProgramOf (input : List ℕ) (program : Program) : Type 0 where
   pub good : ProgramIsGood program
 
 -- each answer to an order comes only where its cause is there
-pub record ComesOnly (order : Order) (source sink : Sides) (answer : Status) (book : List Event) : Type 0 where
+pub record ComesOnly (order : Order) (source sink : Sides) (answer : Status)
+    (book : List Event) : Type 0 where
   pub bad_words : answer ≢ status.BadWords
   pub read_fault : answer ≡ status.ReadFault → HasFailed source
-  pub too_long : (input : List ℕ) → IsGiven source input → answer ≡ status.TooLong → length input ≡ most_bytes
-  pub bad_text : (input : List ℕ) (line kind : ℕ) → IsGiven source input → answer ≡ status.BadText line kind → first_fault input ≡ Some (line, kind)
-  pub bad_program : (input : List ℕ) (program : Program) (kind behaviour step rule : ℕ) → IsGiven source input → IsProgramOf input program →
-      answer ≡ status.BadProgram kind behaviour step rule → first_broken program ≡ Some (fault_at kind behaviour step rule)
-  pub end : (input : List ℕ) (program : Program) → IsGiven source input → IsProgramOf input program → IsEnd answer →
-      (state : PlainState) × RunsTo program order.budget book state × EndsWith answer state book order.budget
+  pub too_long : (input : List ℕ) → IsGiven source input → answer ≡ status.TooLong
+      → length input ≡ most_bytes
+  pub bad_text : (input : List ℕ) (line kind : ℕ) → IsGiven source input
+      → answer ≡ status.BadText line kind → first_fault input ≡ Some (line, kind)
+  pub bad_program : (input : List ℕ) (program : Program) (kind behaviour step rule : ℕ)
+      → IsGiven source input → IsProgramOf input program →
+      answer ≡ status.BadProgram kind behaviour step rule
+      → first_broken program ≡ Some (fault_at kind behaviour step rule)
+  pub end : (input : List ℕ) (program : Program) → IsGiven source input → IsProgramOf input program
+      → IsEnd answer →
+      (state : PlainState) × RunsTo program order.budget book state
+      × EndsWith answer state book order.budget
   -- a run's end comes only where no read and no write failed
   pub sound : IsEnd answer → CountsNoFault source × CountsNoFault sink
   pub write_fault : answer ≡ status.WriteFault → HasFailed sink
@@ -50,23 +57,31 @@ pub record ComesOnly (order : Order) (source sink : Sides) (answer : Status) (bo
 -- where a cause is there and none before it, its answer comes, unless memory was refused
 pub record ComesWherever (source sink : Sides) (answer : Status) : Type 0 where
   pub read_fault : CountsFault source → IsUnlessMemory answer status.ReadFault
-  pub too_long : (input : List ℕ) → IsGiven source input → (HasFailed source → ⊥) → length input ≡ most_bytes → IsUnlessMemory answer status.TooLong
-  pub bad_text : (input : List ℕ) (line kind : ℕ) → IsGiven source input → (HasFailed source → ⊥) → length input < most_bytes →
+  pub too_long : (input : List ℕ) → IsGiven source input → (HasFailed source → ⊥)
+      → length input ≡ most_bytes → IsUnlessMemory answer status.TooLong
+  pub bad_text : (input : List ℕ) (line kind : ℕ) → IsGiven source input → (HasFailed source → ⊥)
+      → length input < most_bytes →
       first_fault input ≡ Some (line, kind) → IsUnlessMemory answer (status.BadText line kind)
-  pub bad_program : (input : List ℕ) (program : Program) (kind behaviour step rule : ℕ) → IsGiven source input → (HasFailed source → ⊥) → IsProgramOf input program →
-      first_broken program ≡ Some (fault_at kind behaviour step rule) → IsUnlessMemory answer (status.BadProgram kind behaviour step rule)
-  pub end : (input : List ℕ) (program : Program) → IsGiven source input → (HasFailed source → ⊥) → (HasFailed sink → ⊥) → IsProgramOf input program →
+  pub bad_program : (input : List ℕ) (program : Program) (kind behaviour step rule : ℕ)
+      → IsGiven source input → (HasFailed source → ⊥) → IsProgramOf input program →
+      first_broken program ≡ Some (fault_at kind behaviour step rule)
+      → IsUnlessMemory answer (status.BadProgram kind behaviour step rule)
+  pub end : (input : List ℕ) (program : Program) → IsGiven source input → (HasFailed source → ⊥)
+      → (HasFailed sink → ⊥) → IsProgramOf input program →
       first_broken program ≡ None → IsEnd answer ⊎ (answer ≡ status.NoMemory)
   -- where the sink failed, it was at a report, or at the line of a refusal, which stands
   pub write_fault : CountsFault sink → (answer ≡ status.WriteFault) ⊎ HasRefusal answer
 
 -- when each answer to an order comes
-pub record OrderCauses (order : Order) (source sink : Sides) (answer : Status) (book : List Event) : Type 0 where
+pub record OrderCauses (order : Order) (source sink : Sides) (answer : Status)
+    (book : List Event) : Type 0 where
   pub only : ComesOnly order source sink answer book
   pub wherever : ComesWherever source sink answer
 
 -- when each answer to words comes
-pub record Causes (words : List (List ℕ)) (source sink : Sides) (answer : Status) (book : List Event) : Type 0 where
+pub record Causes (words : List (List ℕ)) (source sink : Sides) (answer : Status)
+    (book : List Event) : Type 0 where
   pub bad_words : order_of words ≡ None → IsUnlessMemory answer status.BadWords
   pub bad_words_only : answer ≡ status.BadWords → order_of words ≡ None
-  pub ordered : (order : Order) → order_of words ≡ Some order → OrderCauses order source sink answer book
+  pub ordered : (order : Order) → order_of words ≡ Some order
+      → OrderCauses order source sink answer book

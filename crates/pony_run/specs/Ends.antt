@@ -24,7 +24,8 @@ pub record RunsTo (program : Program) (budget : ℕ) (book : List Event) (t : Pl
 abbrev pub EndsWith : Status → PlainState → List Event → ℕ → Type 0
 EndsWith status.Quiet t book budget = EndsAs plain_next Quiet t (length book) budget
 EndsWith status.Budget t book budget = EndsAs plain_next Budget t (length book) budget
-EndsWith (status.ActorsFull actor) t book budget = EndsAs plain_next (ActorsFull actor) t (length book) budget
+EndsWith (status.ActorsFull actor) t book budget =
+    EndsAs plain_next (ActorsFull actor) t (length book) budget
 EndsWith other t book budget = ⊥
 
 abbrev pub is_actor : Thing → Bool

@@ -52,7 +52,8 @@ pub record IsStarved (w : Work) : Type 0 where
 
 -- the refusal was answered, or else want of memory for its line
 abbrev pub IsRefusedAs : Status → Status → Work → Type 0
-IsRefusedAs refusal answer w = ((answer ≡ refusal) × IsRefused w refusal) ⊎ ((answer ≡ status.NoMemory) × IsStarved w)
+IsRefusedAs refusal answer w =
+    ((answer ≡ refusal) × IsRefused w refusal) ⊎ ((answer ≡ status.NoMemory) × IsStarved w)
 
 -- ---- the run
 
@@ -99,8 +100,10 @@ pub record HasChecked (answer : Status) (w : Work) (order : Order) (program : Pr
   pub means : MeansRun answer w order program
 
 abbrev pub MeansProgram : Status → Work → Order → Program → Type 0
-MeansProgram (status.BadProgram kind behaviour step rule) w order program = BadProgram kind behaviour step rule w program
-MeansProgram status.NoMemory w order program = IsStarved w ⊎ HasChecked status.NoMemory w order program
+MeansProgram (status.BadProgram kind behaviour step rule) w order program =
+    BadProgram kind behaviour step rule w program
+MeansProgram status.NoMemory w order program =
+    IsStarved w ⊎ HasChecked status.NoMemory w order program
 MeansProgram answer w order program = HasChecked answer w order program
 
 -- ---- the text
@@ -160,7 +163,8 @@ pub record BadWords (w : Work) (words : List (List ℕ)) (source : Sides) : Type
   pub untouched : IsUntouched source
   pub refused : IsRefused w status.BadWords
 
-pub record HasOrder (answer : Status) (w : Work) (words : List (List ℕ)) (source : Sides) : Type 0 where
+pub record HasOrder (answer : Status) (w : Work) (words : List (List ℕ))
+    (source : Sides) : Type 0 where
   pub order : Order
   pub reading : order_of words ≡ Some order
   pub means : MeansSource answer w order source
@@ -190,7 +194,8 @@ pub record Writes (sink : Sides) (book : List Event) (M : Work → Type 0) : Typ
 
 -- what writing a report does, whatever the book is
 abbrev pub WritesReport : Sides → Status → PlainState → Status → Type 0
-WritesReport sink end state answer = (book : List Event) → Writes sink book (MeansReport end state answer)
+WritesReport sink end state answer =
+    (book : List Event) → Writes sink book (MeansReport end state answer)
 
 -- a part of what the source had left was taken, and its count of faults did not fall
 pub record Reads (source : Sides) : Type 0 where
@@ -198,11 +203,13 @@ pub record Reads (source : Sides) : Type 0 where
   pub stays : source.faults_before ≤ source.faults_after
 
 -- what a call with this order does
-pub record RunsOrder (order : Order) (source sink : Sides) (answer : Status) (book : List Event) : Type 0 where
+pub record RunsOrder (order : Order) (source sink : Sides) (answer : Status)
+    (book : List Event) : Type 0 where
   pub reads : Reads source
   pub writes : Writes sink book (λ w. MeansSource answer w order source)
 
 -- what a call with these words does
-pub record Answers (words : List (List ℕ)) (source sink : Sides) (answer : Status) (book : List Event) : Type 0 where
+pub record Answers (words : List (List ℕ)) (source sink : Sides) (answer : Status)
+    (book : List Event) : Type 0 where
   pub reads : Reads source
   pub writes : Writes sink book (λ w. Means answer w words source)

@@ -16,7 +16,12 @@ pub record Sides : Type 0 where
   pub faults_after : ℕ
 
 abbrev pub sides : {D : Type 0} → (D → Option (List ℕ)) → (D → ℕ) → D → D → Sides
-sides told faults old new = record { before = told old; after = told new; faults_before = faults old; faults_after = faults new }
+sides told faults old new = record {
+  before = told old;
+  after = told new;
+  faults_before = faults old;
+  faults_after = faults new;
+}
 
 -- the device's count of faults rose in this call, or stands at the end of its 64 bits
 abbrev pub HasFailed : Sides → Type 0

@@ -46,7 +46,8 @@ fn idle(alloc: Global, status: Status) -> Outcome
 fn refuse<K: Sink>(alloc: Global, refusal: Status, sink: &mut K) -> Outcome
     requires { HasRefusal refusal }
     ensures book { result.book.entries ≡ [] }
-    ensures writes { Writes (sides K.written K.faults sink.old sink.new) [] (IsRefusedAs refusal result.status) }
+    ensures writes { Writes (sides K.written K.faults sink.old sink.new) []
+        (IsRefusedAs refusal result.status) }
 {
     match refusal_line(alloc, &refusal) {
         Ok(line) => {
@@ -75,7 +76,8 @@ fn write_report<K: Sink>(alloc: Global, machine: &Plain<'_>, end: Status, sink: 
 /// Runs a checked program, and writes its report.
 fn run_checked<K: Sink>(alloc: Global, order: &Order, code: &Checked, sink: &mut K) -> Outcome
     requires { IsInRange order.now }
-    ensures { Writes (sides K.written K.faults sink.old sink.new) result.book.entries (λ w. MeansRun result.status w order.now code.now) }
+    ensures { Writes (sides K.written K.faults sink.old sink.new) result.book.entries
+        (λ w. MeansRun result.status w order.now code.now) }
 {
     let Ok(mut machine) = Plain::start(alloc, code) else {
         return idle(alloc, Status::NoMemory);
@@ -97,7 +99,8 @@ fn run_checked<K: Sink>(alloc: Global, order: &Order, code: &Checked, sink: &mut
 fn run_program<K: Sink>(alloc: Global, order: &Order, program: Program, sink: &mut K) -> Outcome
     requires order { IsInRange order.now }
     requires good { ProgramIsGood program }
-    ensures { Writes (sides K.written K.faults sink.old sink.new) result.book.entries (λ w. MeansProgram result.status w order.now program) }
+    ensures { Writes (sides K.written K.faults sink.old sink.new) result.book.entries
+        (λ w. MeansProgram result.status w order.now program) }
 {
     match check(program) {
         Ok(code) => run_checked(alloc, order, &code, sink),
@@ -118,7 +121,8 @@ fn run_program<K: Sink>(alloc: Global, order: &Order, program: Program, sink: &m
 fn run_text<K: Sink>(alloc: Global, order: &Order, text: &[u8], sink: &mut K) -> Outcome
     requires order { IsInRange order.now }
     requires short { length text.now < most_bytes }
-    ensures { Writes (sides K.written K.faults sink.old sink.new) result.book.entries (λ w. MeansText result.status w order.now text.now) }
+    ensures { Writes (sides K.written K.faults sink.old sink.new) result.book.entries
+        (λ w. MeansText result.status w order.now text.now) }
 {
     match parse(alloc, text) {
         Ok(program) => run_program(alloc, order, program, sink),
@@ -131,7 +135,8 @@ fn run_text<K: Sink>(alloc: Global, order: &Order, text: &[u8], sink: &mut K) ->
 fn run_input<K: Sink>(alloc: Global, order: &Order, input: &[u8], sink: &mut K) -> Outcome
     requires order { IsInRange order.now }
     requires bounded { length input.now ≤ most_bytes }
-    ensures { Writes (sides K.written K.faults sink.old sink.new) result.book.entries (λ w. MeansInput result.status w order.now input.now) }
+    ensures { Writes (sides K.written K.faults sink.old sink.new) result.book.entries
+        (λ w. MeansInput result.status w order.now input.now) }
 {
     if input.len() < MOST_BYTES {
         run_text(alloc, order, input, sink)
@@ -150,8 +155,10 @@ pub fn run_single<S: Source, K: Sink>(
 ) -> Outcome
     requires order { IsInRange order.now }
     requires goes_on { S.ended source.old ≡ false }
-    ensures runs { RunsOrder order.now (sides S.left S.faults source.old source.new) (sides K.written K.faults sink.old sink.new) result.status result.book.entries }
-    ensures causes { OrderCauses order.now (sides S.left S.faults source.old source.new) (sides K.written K.faults sink.old sink.new) result.status result.book.entries }
+    ensures runs { RunsOrder order.now (sides S.left S.faults source.old source.new)
+        (sides K.written K.faults sink.old sink.new) result.status result.book.entries }
+    ensures causes { OrderCauses order.now (sides S.left S.faults source.old source.new)
+        (sides K.written K.faults sink.old sink.new) result.status result.book.entries }
 {
     run_job(alloc, order, source, sink)
 }
@@ -165,7 +172,8 @@ fn run_job<S: Source, K: Sink>(
 ) -> Outcome
     requires order { IsInRange order.now }
     requires goes_on { S.ended source.old ≡ false }
-    ensures { RunsOrder order.now (sides S.left S.faults source.old source.new) (sides K.written K.faults sink.old sink.new) result.status result.book.entries }
+    ensures { RunsOrder order.now (sides S.left S.faults source.old source.new)
+        (sides K.written K.faults sink.old sink.new) result.status result.book.entries }
 {
     match order.job {
         Job::Run => match read_all(alloc, source) {
@@ -184,7 +192,9 @@ fn run_all<R: AllocGlobal, S: Source, K: Sink>(
     sink: &mut K,
 ) -> Outcome
     requires { S.ended source.old ≡ false }
-    ensures { Answers (map (λ word. word.now) words.entry.now) (sides S.left S.faults source.old source.new) (sides K.written K.faults sink.old sink.new) result.status result.book.entries }
+    ensures { Answers (map (λ word. word.now) words.entry.now)
+        (sides S.left S.faults source.old source.new)
+        (sides K.written K.faults sink.old sink.new) result.status result.book.entries }
 {
     match read_words(rt.alloc(), words) {
         Ok(order) => run_job(rt.alloc(), &order, source, sink),
@@ -207,8 +217,12 @@ pub fn run_words<R: AllocGlobal, S: Source, K: Sink, G: Gate>(
     _gate: &G,
 ) -> Outcome
     requires { S.ended source.old ≡ false }
-    ensures answers { Answers (map (λ word. word.now) words.entry.now) (sides S.left S.faults source.old source.new) (sides K.written K.faults sink.old sink.new) result.status result.book.entries }
-    ensures causes { Causes (map (λ word. word.now) words.entry.now) (sides S.left S.faults source.old source.new) (sides K.written K.faults sink.old sink.new) result.status result.book.entries }
+    ensures answers { Answers (map (λ word. word.now) words.entry.now)
+        (sides S.left S.faults source.old source.new)
+        (sides K.written K.faults sink.old sink.new) result.status result.book.entries }
+    ensures causes { Causes (map (λ word. word.now) words.entry.now)
+        (sides S.left S.faults source.old source.new)
+        (sides K.written K.faults sink.old sink.new) result.status result.book.entries }
 {
     run_all(rt, words, source, sink)
 }

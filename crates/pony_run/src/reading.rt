@@ -47,14 +47,17 @@ impl From<AllocError> for ReadErr {
 fn read_more<S: Source>(source: &mut S, bytes: &mut Vec<u8>) -> Result<usize, ReadErr>
     requires room { vec_len bytes.old < most_bytes }
     requires goes_on { S.ended source.old ≡ false }
-    ensures more { IfOk result (λ count. TakesMore (S.left source.old) (S.left source.new) bytes.old.items bytes.new.items count) }
+    ensures more { IfOk result
+        (λ count. TakesMore (S.left source.old)
+        (S.left source.new) bytes.old.items bytes.new.items count) }
     ensures fits { IfOk result (λ count. vec_len bytes.old + count ≤ most_bytes) }
     ensures end { IfOk result (λ count. count ≡ 0 → IsAtEnd (S.left source.new)) }
     ensures ended { IfOk result (λ count. S.ended source.new ≡ (count == 0)) }
     ensures part { OnErr result (TakesPart (S.left source.old) (S.left source.new)) }
     ensures stays { S.faults source.old ≤ S.faults source.new }
     ensures well { OnOk result (S.faults source.new ≡ S.faults source.old) }
-    ensures failed { IsErrOf result ReadErr.Failed → Rose (S.faults source.old) (S.faults source.new) }
+    ensures failed { IsErrOf result ReadErr.Failed
+        → Rose (S.faults source.old) (S.faults source.new) }
 {
     let mut piece = [0u8; PIECE];
     let room = (MOST_BYTES - bytes.len()).min(PIECE);
@@ -67,12 +70,14 @@ fn read_more<S: Source>(source: &mut S, bytes: &mut Vec<u8>) -> Result<usize, Re
 #[tactic(auto, using(crate::proofs::Parts::takes_after))]
 pub(crate) fn read_all<S: Source>(alloc: Global, source: &mut S) -> Result<Vec<u8>, ReadErr>
     requires { S.ended source.old ≡ false }
-    ensures all { IfOk result (λ bytes. TakesAll (S.left source.old) (S.left source.new) bytes.items) }
+    ensures all { IfOk result
+        (λ bytes. TakesAll (S.left source.old) (S.left source.new) bytes.items) }
     ensures ended { IfOk result (λ bytes. S.ended source.new ≡ nat_lt (vec_len bytes) most_bytes) }
     ensures part { OnErr result (TakesPart (S.left source.old) (S.left source.new)) }
     ensures stays { S.faults source.old ≤ S.faults source.new }
     ensures well { OnOk result (S.faults source.new ≡ S.faults source.old) }
-    ensures failed { IsErrOf result ReadErr.Failed → Rose (S.faults source.old) (S.faults source.new) }
+    ensures failed { IsErrOf result ReadErr.Failed
+        → Rose (S.faults source.old) (S.faults source.new) }
 {
     let mut bytes = Vec::new(alloc);
     while bytes.len() < MOST_BYTES {

@@ -36,7 +36,8 @@ abbrev pub led_over : (ObjName → Option (List Value)) → ℕ → List Thing �
 led_over rows zero things = things
 led_over rows (suc n) things = led_over rows n (with_next rows things)
 
--- things, and what they lead to: no shortest way takes a row twice, so it takes at most as many as are listed
+-- things, and what they lead to: no shortest way takes a row twice, so it takes at most as many as
+-- are listed
 unfoldable pub led_to : (ObjName → Option (List Value)) → List ObjName → List Thing → List Thing
 led_to rows all things = led_over rows (length all) things
 
@@ -45,7 +46,8 @@ unfoldable pub marks_of : (ObjName → Option (List Value)) → List ObjName →
 marks_of rows all roots = in_order (with_owners (led_to rows all (named_by roots)))
 
 -- the load of a letter: each mark of its arguments, with its row
-abbrev pub load_of : (ObjName → Option (List Value)) → List ObjName → List Value → List (Thing × Option (List Value))
+abbrev pub load_of : (ObjName → Option (List Value)) → List ObjName → List Value
+    → List (Thing × Option (List Value))
 load_of rows all args = map (λ x. (x, thing_row rows x)) (marks_of rows all args)
 
 -- the load of a letter with root-only tracing: what its arguments reach over no rows

@@ -15,8 +15,10 @@ named_by values = filter_map thing_of values
 -- the owner of a reached object
 pub data ReachesFrom (edges : Thing → List Value) (IsRoot : Thing → Type 0) : Thing → Type 0 where
   root : {x : Thing} → IsRoot x → ReachesFrom edges IsRoot x
-  step : {t x : Thing} → ReachesFrom edges IsRoot t → Contains (named_by (edges t)) x → ReachesFrom edges IsRoot x
-  owned : {n : ObjName} → ReachesFrom edges IsRoot (things.Obj n) → ReachesFrom edges IsRoot (things.Actor n.owner)
+  step : {t x : Thing} → ReachesFrom edges IsRoot t → Contains (named_by (edges t)) x
+      → ReachesFrom edges IsRoot x
+  owned : {n : ObjName} → ReachesFrom edges IsRoot (things.Obj n)
+      → ReachesFrom edges IsRoot (things.Actor n.owner)
 
 -- what is reached from the things of a list
 abbrev pub Reaches : (Thing → List Value) → List Thing → Thing → Type 0

@@ -56,7 +56,8 @@ pub type Marks = Vec<Thing>;
 /// # Errors
 /// `NoMemory` where memory was refused.
 pub fn mark<R: RowReader>(alloc: Global, roots: &[Value], rows: &mut R) -> Result<Marks, NoMemory>
-    ensures exact { IfOk result (λ found. AreReached (row_edges (R.rows rows.old)) (named_by roots.now) found.items) }
+    ensures exact { IfOk result
+        (λ found. AreReached (row_edges (R.rows rows.old)) (named_by roots.now) found.items) }
     ensures rising { IfOk result (λ found. IsStrictlySortedBy thing_cmp found.items) }
     ensures list { let marks = marks_of (R.rows rows.old) (R.all rows.old) roots.now in
         IfOk result (λ found. found.items ≡ marks) }

@@ -84,7 +84,8 @@ impl Seen {
 
     /// All of them, in the order of things. The list's memory serves again.
     pub(crate) fn into_sorted(self) -> Result<Vec<Thing>, NoMemory>
-        ensures same { IfOk result (λ sorted. (x : thing) → Contains sorted.items x ↔ Contains self x) }
+        ensures same { IfOk result (λ sorted. (x : thing) → Contains sorted.items x
+            ↔ Contains self x) }
         ensures rising { IfOk result (λ sorted. IsStrictlySortedBy thing_cmp sorted.items) }
     {
         let Seen { mut things, set } = self;

@@ -38,7 +38,8 @@ fn reserve_bit(summary: &mut Vec<u64>, words: usize) -> Result<(), NoMemory>
     requires few { words < 4096 }
     requires room { words ≤ vec_len summary.old * 64 }
     requires level { vec_len summary.old ≤ 64 }
-    ensures levels { (words : List ℕ) (top : ℕ) → AreLevels words summary.old.items top → AreLevels words summary.new.items top }
+    ensures levels { (words : List ℕ) (top : ℕ) → AreLevels words summary.old.items top
+        → AreLevels words summary.new.items top }
     ensures ok { OnOk result (words + 1 ≤ length summary.new.items * 64) }
 {
     if words == 64 * summary.len() {

@@ -28,7 +28,8 @@ count_line s =
 
 -- the prints, how the run ended, what was made and is left, and where they are asked for, the
 -- counts and the book
-abbrev pub report_of : Status → List Value → Numbers → Numbers → Option (List Sums) → Option (List Event) → List ℕ
+abbrev pub report_of : Status → List Value → Numbers → Numbers → Option (List Sums)
+    → Option (List Event) → List ℕ
 report_of status prints actors objects counts book =
     flat_map print_line prints
     ++ codes "--\n"

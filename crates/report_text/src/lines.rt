@@ -38,14 +38,16 @@ pub(crate) fn push_print(out: &mut String, value: &Value) -> Result<(), AllocErr
 
 /// A name and its number, each after a space.
 fn push_amount(out: &mut String, name: &str, amount: u64) -> Result<(), AllocError>
-    ensures { OnOk result (string_bytes out.new ≡ string_bytes out.old ++ amount_text name.now amount) }
+    ensures { OnOk result (string_bytes out.new ≡ string_bytes out.old
+        ++ amount_text name.now amount) }
 {
     write!(out, " {name} {amount}")
 }
 
 /// The line of what was made and is left.
 pub(crate) fn push_numbers(out: &mut String, what: &str, numbers: Numbers) -> Result<(), AllocError>
-    ensures { OnOk result (string_bytes out.new ≡ string_bytes out.old ++ number_line what.now numbers) }
+    ensures { OnOk result (string_bytes out.new ≡ string_bytes out.old
+        ++ number_line what.now numbers) }
 {
     out.push_str(what)?;
     push_amount(out, "made", numbers.made)?;

@@ -13,7 +13,8 @@ use run_book::Book;
 use std::alloc::{AllocError, Global};
 
 fn push_prints(out: &mut String, prints: &[Value]) -> Result<(), AllocError>
-    ensures { OnOk result (string_bytes out.new ≡ string_bytes out.old ++ flat_map print_line prints.now) }
+    ensures { OnOk result (string_bytes out.new ≡ string_bytes out.old
+        ++ flat_map print_line prints.now) }
 {
     for value in prints {
         push_print(out, value)?;
@@ -22,7 +23,8 @@ fn push_prints(out: &mut String, prints: &[Value]) -> Result<(), AllocError>
 }
 
 fn push_counts(out: &mut String, counts: &[Sums]) -> Result<(), AllocError>
-    ensures { OnOk result (string_bytes out.new ≡ string_bytes out.old ++ flat_map count_line counts.now) }
+    ensures { OnOk result (string_bytes out.new ≡ string_bytes out.old
+        ++ flat_map count_line counts.now) }
 {
     for sums in counts {
         push_sums(out, sums)?;

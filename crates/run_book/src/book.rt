@@ -22,7 +22,10 @@ impl Model for Book {
 
     ghost Value = { BookValue };
 
-    ghost view = { λ b. record { entries = b.entries.items; spare = vec_capacity b.entries - vec_len b.entries } };
+    ghost view = { λ b. record {
+      entries = b.entries.items;
+      spare = vec_capacity b.entries - vec_len b.entries;
+    } };
 }
 
 impl Book {

@@ -80,10 +80,12 @@ fn line_end(rest: &[u8]) -> usize
 /// # Errors
 /// Where memory is refused, and only there.
 pub fn lines(alloc: Global, bytes: &[u8]) -> Result<Vec<LineSpan>, NoMemory>
-    ensures lines { IfOk result (λ spans. map (line_at bytes.now) spans.items ≡ map tested (lines_of bytes.now)) }
+    ensures lines { IfOk result (λ spans. map (line_at bytes.now) spans.items
+        ≡ map tested (lines_of bytes.now)) }
     ensures follow { IfOk result (λ spans. FollowFrom 0 spans.items) }
     ensures count { IfOk result (λ spans. length spans.items ≤ length bytes.now) }
-    ensures within { IfOk result (λ spans. All (λ s. (s.from ≤ s.to) × (s.to ≤ length bytes.now)) spans.items) }
+    ensures within { IfOk result
+        (λ spans. All (λ s. (s.from ≤ s.to) × (s.to ≤ length bytes.now)) spans.items) }
 {
     let mut spans = Vec::new(alloc);
     let mut from = 0;

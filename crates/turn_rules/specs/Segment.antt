@@ -41,7 +41,9 @@ abbrev pub with_register : Turn → ℕ → Value → Turn
 with_register t r v = record t { registers = slice_set t.registers r v }
 
 abbrev pub with_field : Turn → ℕ → Value → Turn
-with_field t f v = record t { fields = record { values = slice_set t.fields.values f v; pinned = t.fields.pinned } }
+with_field t f v = record t {
+  fields = record { values = slice_set t.fields.values f v; pinned = t.fields.pinned };
+}
 
 abbrev pub with_pinned : Turn → Bool → Turn
 with_pinned t pinned = record t { fields = record { values = t.fields.values; pinned = pinned } }
@@ -70,7 +72,9 @@ value_eq _ _ = false
 
 -- the row of an object: made in this turn, or one of before
 abbrev pub row_in : Setting → List (List Value) → ObjName → Option (List Value)
-row_in p made n = if (n.owner == p.me) && nat_le p.base n.serial then slice_get made (n.serial - p.base) else p.rows n
+row_in p made n =
+    if (n.owner == p.me) && nat_le p.base n.serial then slice_get made (n.serial - p.base)
+    else p.rows n
 
 -- the value at a place of an object's row
 abbrev pub place_of : Setting → Turn → Value → ℕ → Value
@@ -80,7 +84,8 @@ place_of p t _ i = Null
 -- one row more, of the values of so many registers; its object is put into a register
 abbrev pub with_row : Setting → Turn → ℕ → List ℕ → Turn
 with_row p t d values = record {
-  registers = slice_set t.registers d (Obj (record { owner = p.me; serial = p.base + length t.made }));
+  registers =
+      slice_set t.registers d (Obj (record { owner = p.me; serial = p.base + length t.made }));
   fields = t.fields;
   made = t.made ++ map (value_at t) values ∷ [];
 }
@@ -101,10 +106,13 @@ step_of p (I.Int d n) t = (Next, with_register t d (Num n))
 step_of p (I.Own d) t = (Next, with_register t d (Actor p.me))
 step_of p (I.Copy d s) t = (Next, with_register t d (value_at t s))
 step_of p (I.Add d a b) t = (Next, with_register t d (Num ((number_at t a + number_at t b) % 2 ^ 64)))
-step_of p (I.Sub d a b) t = (Next, with_register t d (Num ((number_at t a + 2 ^ 64 - number_at t b) % 2 ^ 64)))
+step_of p (I.Sub d a b) t =
+    (Next, with_register t d (Num ((number_at t a + 2 ^ 64 - number_at t b) % 2 ^ 64)))
 step_of p (I.Mul d a b) t = (Next, with_register t d (Num ((number_at t a * number_at t b) % 2 ^ 64)))
-step_of p (I.Less d a b) t = (Next, with_register t d (Num (one_if (nat_lt (number_at t a) (number_at t b)))))
-step_of p (I.Same d a b) t = (Next, with_register t d (Num (one_if (value_eq (value_at t a) (value_at t b)))))
+step_of p (I.Less d a b) t =
+    (Next, with_register t d (Num (one_if (nat_lt (number_at t a) (number_at t b)))))
+step_of p (I.Same d a b) t =
+    (Next, with_register t d (Num (one_if (value_eq (value_at t a) (value_at t b)))))
 step_of p (I.Row d values) t = (Next, with_row p t d values)
 step_of p (I.Get d s i) t = (Next, with_register t d (place_of p t (value_at t s) i))
 step_of p (I.Load d f) t = (Next, with_register t d (slice_index_or t.fields.values f Null))
@@ -115,7 +123,8 @@ step_of p (I.Label l) t = (Next, t)
 step_of p I.Pin t = (Next, with_pinned t true)
 step_of p I.Unpin t = (Next, with_pinned t false)
 step_of p (I.New d kind) t = (option_map_or (λ k. Acts (New k d)) (kind_named p.program kind) Next, t)
-step_of p (I.Send to behaviour values) t = (post_to (value_at t to) behaviour (map (value_at t) values), t)
+step_of p (I.Send to behaviour values) t =
+    (post_to (value_at t to) behaviour (map (value_at t) values), t)
 step_of p (I.Print a) t = (Acts (Print (value_at t a)), t)
 
 -- ---- up to the next act
@@ -137,12 +146,18 @@ on_effect go_on place (Acts act, t) = record { act = act; place = place + 1; tur
 abbrev pub run_from : Setting → List Instr → Option ℕ → ℕ → Turn → Stop
 run_from p [] sought place t = record { act = End; place = place; turn = t }
 run_from p (i ∷ rest) None place t = on_effect (run_from p rest) place (step_of p i t)
-run_from p (i ∷ rest) (Some label) place t = run_from p rest (if is_label label i then None else Some label) (place + 1) t
+run_from p (i ∷ rest) (Some label) place t =
+    run_from p rest (if is_label label i then None else Some label) (place + 1) t
 
 -- the segment of a frame: from its place up to and with the next act
 abbrev pub segment_of : Setting → Frame → Fields → Stop
 segment_of p frame fields =
-    run_from p (drop frame.place (body_of p.program frame.kind frame.behaviour)) None frame.place (record { registers = frame.registers; fields = fields; made = [] })
+    run_from p (drop frame.place (body_of p.program frame.kind frame.behaviour)) None frame.place
+    (record {
+      registers = frame.registers;
+      fields = fields;
+      made = [];
+    })
 
 -- ---- what a segment gets from rows
 
@@ -159,9 +174,15 @@ gets_on go_on place (Acts act, t) = []
 abbrev pub gets_from : Setting → List Instr → Option ℕ → ℕ → Turn → List Value
 gets_from p [] sought place t = []
 gets_from p (i ∷ rest) None place t = got_by p i t ++ gets_on (gets_from p rest) place (step_of p i t)
-gets_from p (i ∷ rest) (Some label) place t = gets_from p rest (if is_label label i then None else Some label) (place + 1) t
+gets_from p (i ∷ rest) (Some label) place t =
+    gets_from p rest (if is_label label i then None else Some label) (place + 1) t
 
 -- the values that a frame's segment reads from rows, in their order
 abbrev pub gets_of : Setting → Frame → Fields → List Value
 gets_of p frame fields =
-    gets_from p (drop frame.place (body_of p.program frame.kind frame.behaviour)) None frame.place (record { registers = frame.registers; fields = fields; made = [] })
+    gets_from p (drop frame.place (body_of p.program frame.kind frame.behaviour)) None frame.place
+    (record {
+      registers = frame.registers;
+      fields = fields;
+      made = [];
+    })

@@ -38,17 +38,20 @@ act_of (New kind into) t = A.New kind into
 act_of (Print register) t = A.Print (value_at t register)
 act_of End t = A.End
 
--- where an instruction leads: where it gets a needed thing, to that, with nothing changed; else as its effect says
+-- where an instruction leads: where it gets a needed thing, to that, with nothing changed; else as
+-- its effect says
 abbrev pub LeadsTo : Option Thing → Effect × Turn → Turn → Lead → Turn → Type 0
 LeadsTo first step before Next after = (first ≡ None) × (step ≡ (E.Next, after))
 LeadsTo first step before (Leap label) after = (first ≡ None) × (step ≡ (E.Leap label, after))
-LeadsTo first step before (Does deed) after = (first ≡ None) × (step ≡ (E.Acts (act_of deed after), after))
+LeadsTo first step before (Does deed) after =
+    (first ≡ None) × (step ≡ (E.Acts (act_of deed after), after))
 LeadsTo first step before (Needs x) after = (first ≡ Some x) × (after ≡ before)
 
 -- how a turn ends: at the first needed thing that it gets, if there is one; else as its segment stops
 abbrev pub HaltsAt : Option Thing → Stop → Halt → Turn → Type 0
 HaltsAt first stop (halts.Needs x) t = first ≡ Some x
-HaltsAt first stop (halts.Stops s) t = (first ≡ None) × (stop ≡ record { act = act_of s.deed t; place = s.place; turn = t })
+HaltsAt first stop (halts.Stops s) t =
+    (first ≡ None) × (stop ≡ record { act = act_of s.deed t; place = s.place; turn = t })
 
 -- an act, as a turn answers it
 abbrev pub answer_of : rules.Act → Act
@@ -66,7 +69,8 @@ pub record Answer : Type 0 where
 
 -- where a turn gets a needed thing, it answers that and leaves all as it was; else it is its segment
 abbrev pub turn_answer : Option Thing → Stop → Frame → Fields → Answer
-turn_answer (Some x) stop frame fields = record { act = answers.Need x; frame = frame; fields = fields; made = [] }
+turn_answer (Some x) stop frame fields =
+    record { act = answers.Need x; frame = frame; fields = fields; made = [] }
 turn_answer None stop frame fields = record {
   act = answer_of stop.act;
   frame = record frame { place = stop.place; registers = stop.turn.registers };
@@ -77,4 +81,5 @@ turn_answer None stop frame fields = record {
 -- the place behind the first label of the name, or behind all instructions
 abbrev pub place_after : ℕ → List Instr → ℕ → ℕ
 place_after name [] place = place
-place_after name (i ∷ rest) place = if is_label name i then place + 1 else place_after name rest (place + 1)
+place_after name (i ∷ rest) place =
+    if is_label name i then place + 1 else place_after name rest (place + 1)

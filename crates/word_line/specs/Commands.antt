@@ -11,7 +11,13 @@ option_rule name = record (new_rule name) { long = Some name; action = Some Set 
 -- no help
 abbrev pub base_line : App
 base_line = let a = new_app (codes "pony_cli") in
-    record a { top = record a.top { no_binary_name = true; disable_help_flag = true; disable_help_subcommand = true } }
+    record a {
+      top = record a.top {
+        no_binary_name = true;
+        disable_help_flag = true;
+        disable_help_subcommand = true;
+      };
+    }
 
 -- `run` and its options
 abbrev pub run_line : App

@@ -31,7 +31,8 @@ fn number_in(text: &str, least: u64, most: u64) -> Option<u64>
 
 /// The text of an option.
 fn text_of<'a>(matches: &ArgMatches<'a>, name: &str) -> Option<&'a str>
-    ensures { option_map (λ text. text.now) result ≡ first_of name.now (rows_of (found_of matches.now)) }
+    ensures { option_map (λ text. text.now) result
+        ≡ first_of name.now (rows_of (found_of matches.now)) }
 {
     matches.get_str(name)
 }
@@ -78,8 +79,10 @@ fn order_in(matches: &ArgMatches<'_>) -> Option<Order>
 /// As `read_words`, at words that live as long as their list.
 #[tactic(auto, unfolding(crate::specs::Orders::order_of))]
 fn read_list<'a>(alloc: Global, words: &'a [&'a str]) -> Result<Order, WordErr>
-    ensures order { IfOk result (λ order. order_of (map (λ word. word.now) words.entry.now) ≡ Some order) }
-    ensures bad { IfErr result (λ e. e ≡ BadWords → order_of (map (λ word. word.now) words.entry.now) ≡ None) }
+    ensures order { IfOk result (λ order. order_of (map (λ word. word.now) words.entry.now)
+        ≡ Some order) }
+    ensures bad { IfErr result (λ e. e ≡ BadWords
+        → order_of (map (λ word. word.now) words.entry.now) ≡ None) }
     ensures range { IfOk result IsInRange }
 {
     if words.is_empty() {
@@ -103,8 +106,10 @@ fn read_list<'a>(alloc: Global, words: &'a [&'a str]) -> Result<Order, WordErr>
 /// `BadWords` exactly where the words have no reading and memory was not refused, `NoMemory` where
 /// it was refused.
 pub fn read_words(alloc: Global, words: &[&str]) -> Result<Order, WordErr>
-    ensures order { IfOk result (λ order. order_of (map (λ word. word.now) words.entry.now) ≡ Some order) }
-    ensures bad { IfErr result (λ e. e ≡ BadWords → order_of (map (λ word. word.now) words.entry.now) ≡ None) }
+    ensures order { IfOk result (λ order. order_of (map (λ word. word.now) words.entry.now)
+        ≡ Some order) }
+    ensures bad { IfErr result (λ e. e ≡ BadWords
+        → order_of (map (λ word. word.now) words.entry.now) ≡ None) }
     ensures range { IfOk result IsInRange }
 {
     read_list(alloc, words)
