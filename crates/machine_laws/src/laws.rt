@@ -110,9 +110,9 @@ pub fn nothing_is_told_of_the_reaped()
     ensures run { RunsTellNoneOfTheReaped }
 {}
 
-/// Members alone acknowledge a token: after each run, of each open token, no Confirm waits for an actor that
-/// is no member, and no acknowledgement by one is on its way. So each that is heard of an open token is
-/// a member's.
+/// Members alone acknowledge a token: after each run, of each open token, no Confirm waits for an actor
+/// that is no member, and no acknowledgement by one is on its way. So each that is heard of an open
+/// token is a member's.
 pub fn members_alone_acknowledge()
     ensures asked { InRunsMembersAloneAreAsked }
     ensures heard { InRunsMembersAloneAcknowledge }
