@@ -83,14 +83,14 @@ acked_notes w a u reported = if reported then w.notes ++ Ack u a ∷ [] else w.n
 same_test : (t : Token) (u a : ℕ) → ack_count t.number a (Ack u a ∷ []) ≡ (if u == t.number then 1 else 0)
 same_test t u a = grind (arith, nat_tests)
 
-other_test : (t : Token) (u a b : ℕ) → b ≢ a → ack_count t.number b (Ack u a ∷ []) ≡ 0
+pub other_test : (t : Token) (u a b : ℕ) → b ≢ a → ack_count t.number b (Ack u a ∷ []) ≡ 0
 other_test t u a b ne = grind (arith, nat_tests)
 
-wrong_number : (n u a b : ℕ) → n ≢ u → ack_count n b (Ack u a ∷ []) ≡ 0
+pub wrong_number : (n u a b : ℕ) → n ≢ u → ack_count n b (Ack u a ∷ []) ≡ 0
 wrong_number n u a b ne = grind (arith, nat_tests)
 
 -- a Confirm of n that waits counts
-not_counted : (n u : ℕ) (ls : List Letter) → confirm_count n (Confirm u ∷ ls) ≡ 0 → n ≡ u → ⊥
+pub not_counted : (n u : ℕ) (ls : List Letter) → confirm_count n (Confirm u ∷ ls) ≡ 0 → n ≡ u → ⊥
 not_counted n u ls e same = grind (arith, nat_tests)
 
 confirm_once : (w : World) (a u : ℕ) (ls : List Letter) (reported : Bool) (t : Token) (m : ℕ) → w.mail a ≡ Confirm u ∷ ls
@@ -147,7 +147,7 @@ confirm_spoiled w a u ls e t (m, i, s) = (
   },
 )
 
-confirm_count-tail : (n u : ℕ) (ls : List Letter) → confirm_count n (Confirm u ∷ ls) ≡ 0 → confirm_count n ls ≡ 0
+pub confirm_count-tail : (n u : ℕ) (ls : List Letter) → confirm_count n (Confirm u ∷ ls) ≡ 0 → confirm_count n ls ≡ 0
 confirm_count-tail n u ls h = omega arith
 
 pub confirm_tokens : (w : World) (a t : ℕ) (ls : List Letter) → w.mail a ≡ Confirm t ∷ ls → TokensAreSound w → TokensAreSound (take_confirm w a t ls)
@@ -232,11 +232,11 @@ moved_spoiled w w' a mv t once (m, i, s) = (
   },
 )
 
-moved_acks : (w w' : World) (a : ℕ) → Moves w a w' → (n b : ℕ) → ack_count n b w'.notes ≡ ack_count n b w.notes
+pub moved_acks : (w w' : World) (a : ℕ) → Moves w a w' → (n b : ℕ) → ack_count n b w'.notes ≡ ack_count n b w.notes
 moved_acks w w' a mv n b = subst (λ ns. ack_count n b ns ≡ ack_count n b w.notes) (sym mv.notes)
     (cond_both mv.old.reported (w.notes ++ Unblock a ∷ []) w.notes (λ ns. ack_count n b ns ≡ ack_count n b w.notes) (λ _. omega (arith, ack_count-append n b w.notes (Unblock a ∷ []))) (λ _. refl))
 
-moved_confirms : (w w' : World) (a : ℕ) → Moves w a w' → (n b : ℕ) → confirm_count n (w'.mail b) ≤ confirm_count n (w.mail b)
+pub moved_confirms : (w w' : World) (a : ℕ) → Moves w a w' → (n b : ℕ) → confirm_count n (w'.mail b) ≤ confirm_count n (w.mail b)
 moved_confirms w w' a mv n b = ⊎_elim
     (λ (e : b ≡ a). subst (λ x. confirm_count n (w'.mail x) ≤ confirm_count n (w.mail x)) (sym e)
     (let (gone, rest, come, was, is, plain) = mv.own in

@@ -18,7 +18,7 @@ use Rattle.detector_laws.specs.Reports.{IsSilentOn}
 use Rattle.detector_laws.specs.Tokens.{ack_count, trace_count, IsSealed, unblocks_before_ack, IsSpoiled, SoundTokens}
 use Rattle.detector_laws.specs.World.{World, hear, TokensAreSound}
 
-tail_acks : (t a : ℕ) (n : Note) (ns : List Note) → ack_count t a ns ≤ ack_count t a (n ∷ ns)
+pub tail_acks : (t a : ℕ) (n : Note) (ns : List Note) → ack_count t a ns ≤ ack_count t a (n ∷ ns)
 tail_acks t a (Block b count held) ns = omega arith
 tail_acks t a (Unblock b) ns = omega arith
 tail_acks t a (Ack u b) ns = omega arith

@@ -1,4 +1,5 @@
 pub mod Acked
+pub mod Acknowledged
 pub mod ActorReports
 pub mod ActorTokens
 pub mod Cells

@@ -76,7 +76,7 @@ apart_from w t u k i j ne m h = ⊎_elim
     not_same : (a b : ℕ) → not (a == b) ≡ true → (a == b) ≡ false
     not_same a b h = not-true (a == b) h
 
-reaped_confirms : (w w' : World) (gone : List ℕ) → Departs w gone w' → (n b : ℕ) → confirm_count n (w'.mail b) ≤ confirm_count n (w.mail b)
+pub reaped_confirms : (w w' : World) (gone : List ℕ) → Departs w gone w' → (n b : ℕ) → confirm_count n (w'.mail b) ≤ confirm_count n (w.mail b)
 reaped_confirms w w' gone r n b = ⊎_elim
     (λ (i : has gone b ≡ true). omega (arith, ap (confirm_count n) (r.clears b i).1))
     (λ (o : has gone b ≡ false). let (come, grown, plain) = r.sends b o in

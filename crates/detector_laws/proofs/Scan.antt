@@ -73,7 +73,7 @@ holds_all w bal rs closed rising ready r i =
 confirmed_in : (set : List ℕ) (n : ℕ) (cell : ℕ → Option Cell) (mail : ℕ → List Letter) (m : ℕ) → has set m ≡ true → is_some (cell m) ≡ true → confirms_of set n cell mail m ≡ mail m ++ Confirm n ∷ []
 confirmed_in set n cell mail m h here = rw (h, here) refl
 
-confirmed_out : (set : List ℕ) (n : ℕ) (cell : ℕ → Option Cell) (mail : ℕ → List Letter) (m : ℕ) → has set m ≡ false → confirms_of set n cell mail m ≡ mail m
+pub confirmed_out : (set : List ℕ) (n : ℕ) (cell : ℕ → Option Cell) (mail : ℕ → List Letter) (m : ℕ) → has set m ≡ false → confirms_of set n cell mail m ≡ mail m
 confirmed_out set n cell mail m h = rw h refl
 
 -- who has a report out is present
@@ -87,7 +87,7 @@ in_token_from (u ∷ ts) t m i h = ⊎_elim
     (λ e. or_left (has u.members m) (in_token ts m) (subst (λ v. has v.members m ≡ true) e h))
     (λ j. or_right (has u.members m) (in_token ts m) (in_token_from ts t m j h)) i
 
-other_confirm : (c n : ℕ) → (c ≡ n → ⊥) → confirm_count c (Confirm n ∷ []) ≡ 0
+pub other_confirm : (c n : ℕ) → (c ≡ n → ⊥) → confirm_count c (Confirm n ∷ []) ≡ 0
 other_confirm c n ne = grind (arith, nat_tests)
 
 one_confirm : (n : ℕ) → confirm_count n (Confirm n ∷ []) ≡ 1

@@ -2,11 +2,12 @@
 use Rattle.std.proofs.Common.{sym, subst, refl, []}
 use Rattle.letter_kinds.specs.Detector.{Detector, fresh_detector}
 use Rattle.detector_laws.proofs.Letters.{confirm_count-none}
+use Rattle.detector_laws.specs.Acknowledged.{OnlyMembersAcknowledge}
 use Rattle.detector_laws.specs.News.{NoNewsNoClosedSet}
 use Rattle.detector_laws.specs.Reports.{ExactReports, IsRising}
 use Rattle.detector_laws.specs.Run.{IsStart}
 use Rattle.detector_laws.specs.Tokens.{SoundTokens}
-use Rattle.detector_laws.specs.World.{World, ReportsAreExact, TokensAreSound, FactsHold}
+use Rattle.detector_laws.specs.World.{World, ReportsAreExact, TokensAreSound, MembersAcknowledge, FactsHold}
 
 start_reports : (w : World) → IsStart w → ReportsAreExact w
 start_reports w s =
@@ -28,10 +29,16 @@ start_tokens w s =
       state = λ t i. absurd i;
     })
 
+start_members : (w : World) → IsStart w → MembersAcknowledge w
+start_members w s =
+    subst (λ d. OnlyMembersAcknowledge d w.mail w.notes) (sym s.detector)
+    record { asked = λ t i. absurd i; acks = λ t i. absurd i }
+
 pub start_facts : (w : World) → IsStart w → FactsHold w
 start_facts w s = record {
   reports = start_reports w s;
   tokens = start_tokens w s;
+  members = start_members w s;
   news = subst NoNewsNoClosedSet (sym s.detector) (λ e. refl);
   rising = subst (λ (d : Detector). IsRising d.kept) (sym s.detector) tt;
 }

@@ -4,6 +4,7 @@ use Rattle.letter_kinds.specs.Detector.{Detector}
 use Rattle.letter_kinds.specs.declared.letter.Letter.{Letter}
 use Rattle.letter_kinds.specs.declared.note.Note.{Note}
 use Rattle.machine_rules.specs.Cell.{Cell}
+use Rattle.detector_laws.specs.Acknowledged.{OnlyMembersAcknowledge}
 use Rattle.detector_laws.specs.News.{NoNewsNoClosedSet}
 use Rattle.detector_laws.specs.Reports.{ExactReports, IsRising}
 use Rattle.detector_laws.specs.Tokens.{SoundTokens}
@@ -15,5 +16,6 @@ pub record DetectorFacts (made : ℕ) (d : Detector) (cell : ℕ → Option Cell
     → List Letter) (loaded : ℕ → ℕ) (notes : List Note) : Type 0 where
   pub reports : ExactReports made cell d.kept notes
   pub tokens : SoundTokens d cell mail loaded notes
+  pub members : OnlyMembersAcknowledge d mail notes
   pub news : NoNewsNoClosedSet d
   pub rising : IsRising d.kept

@@ -11,6 +11,7 @@ use Rattle.detector_laws.specs.World.{block, FactsHold, hear, ReportsAreExact, s
 use Rattle.letter_kinds.specs.declared.letter.Letter.{Letter}
 use Rattle.letter_kinds.specs.declared.letter.Letter.TheVariants.{Confirm}
 use Rattle.letter_kinds.specs.declared.note.Note.{Note}
+use Rattle.letter_kinds.specs.declared.note.Note.TheVariants.{Ack}
 use Rattle.letter_kinds.specs.declared.note.Report.{Report}
 use Rattle.letter_kinds.specs.Detector.{all_acked, close_token, closed_set, Detector, has, hear_note, after_scan, Token, token_numbered}
 use Rattle.machine_rules.specs.Cell.{Cell}
@@ -156,3 +157,9 @@ AckedIsBare =
     (w : World) (t : Token) → TokensAreSound w → In t w.detector.tokens → all_acked t ≡ true
     → (m : ℕ) →
     has t.members m ≡ true → w.mail m ≡ []
+
+-- of an open token, whoever's acknowledgement is heard next is a member
+abbrev pub MembersAloneAcknowledge : Type 0
+MembersAloneAcknowledge =
+    (w : World) (number a : ℕ) (later : List Note) → FactsHold w → w.notes ≡ Ack number a ∷ later →
+    (t : Token) → In t w.detector.tokens → t.number ≡ number → has t.members a ≡ true

@@ -1,3 +1,4 @@
+pub mod Acknowledged
 pub mod Balance
 pub mod Cells
 pub mod Confirms

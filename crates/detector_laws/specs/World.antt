@@ -8,6 +8,7 @@ use Rattle.letter_kinds.specs.declared.note.Note.{Note}
 use Rattle.letter_kinds.specs.declared.note.Note.TheVariants.{Ack}
 use Rattle.letter_kinds.specs.declared.note.Report.{Report}
 use Rattle.machine_rules.specs.Cell.{Cell}
+use Rattle.detector_laws.specs.Acknowledged.{OnlyMembersAcknowledge}
 use Rattle.detector_laws.specs.Cells.{is_reporting}
 use Rattle.detector_laws.specs.Facts.{DetectorFacts}
 use Rattle.detector_laws.specs.Reports.{ExactReports}
@@ -34,6 +35,9 @@ ReportsAreExact w = ExactReports w.made w.cell w.detector.kept w.notes
 
 abbrev pub TokensAreSound : World → Type 0
 TokensAreSound w = SoundTokens w.detector w.cell w.mail w.loaded w.notes
+
+abbrev pub MembersAcknowledge : World → Type 0
+MembersAcknowledge w = OnlyMembersAcknowledge w.detector w.mail w.notes
 
 abbrev pub FactsHold : World → Type 0
 FactsHold w = DetectorFacts w.made w.detector w.cell w.mail w.loaded w.notes

@@ -84,3 +84,9 @@ pub fn acked_is_sealed()
     ensures sealed { law.AckedIsSealed }
     ensures bare { law.AckedIsBare }
 {}
+
+/// Members alone acknowledge: of a token that is open, whoever's acknowledgement the detector hears is
+/// a member.
+pub fn members_alone_acknowledge()
+    ensures { law.MembersAloneAcknowledge }
+{}

@@ -10,6 +10,6 @@ mod laws;
 
 pub use laws::{
     acked_is_sealed, actors_keep_reports, actors_keep_tokens, detector_keeps, exact_at_quiet,
-    hear_keeps_reports, numbered_is_open, quiet_is_exact, reap_keeps, reaps_the_unneeded,
-    runs_keep, scan_keeps, start_has_facts, steps_keep,
+    hear_keeps_reports, members_alone_acknowledge, numbered_is_open, quiet_is_exact, reap_keeps,
+    reaps_the_unneeded, runs_keep, scan_keeps, start_has_facts, steps_keep,
 };

@@ -1,3 +1,4 @@
+pub mod Acknowledged
 pub mod ActorsWork
 pub mod AtQuiet
 pub mod Balancing

@@ -1,3 +1,4 @@
+pub mod Acknowledged
 pub mod AllFacts
 pub mod Bounds
 pub mod Freed

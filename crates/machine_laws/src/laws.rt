@@ -1,5 +1,6 @@
 // What holds of every program, every run and each of its prefixes.
 
+ghost use Rattle.machine_laws.specs.Acknowledged.{InRunsMembersAloneAcknowledge, InRunsMembersAloneAreAsked};
 ghost use Rattle.machine_laws.specs.Bounds.{RunsCountAtMost, RunsCountInFewBits};
 ghost use Rattle.machine_laws.specs.Freed.{FreedStaysFreed};
 ghost use Rattle.machine_laws.specs.Laws.{StartHasAllFacts, EventsKeepAllFacts, RunsHaveAllFacts, NeverTooEarly, ExactlyAtQuiet, ExactlyAtQuietByRoots, RunsAreTracedByRoots, DetectorRestsAtQuiet, EventsLeaveLess, DeepNeedsNoGet, RestsBetweenChoices, RunsCanRest, GarbageIsGone, GarbageIsGoneByRoots};
@@ -107,4 +108,12 @@ pub fn nothing_is_told_of_the_reaped()
     ensures reap { ReapsLeaveNoneTold }
     ensures stays { UntoldStaysUntold }
     ensures run { RunsTellNoneOfTheReaped }
+{}
+
+/// Members alone acknowledge a token: after each run, of each open token, no Confirm waits for an actor
+/// that is no member, and no acknowledgement by one is on its way. So each that is heard of an open
+/// token is a member's.
+pub fn members_alone_acknowledge()
+    ensures asked { InRunsMembersAloneAreAsked }
+    ensures heard { InRunsMembersAloneAcknowledge }
 {}
