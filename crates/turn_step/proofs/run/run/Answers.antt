@@ -1,9 +1,6 @@
 use Rattle.std.proofs.Common.{◌∙◌, length, arith, ap, subst}
-use Rattle.orca_names.specs.declared.names.Value.{Value}
 use Rattle.turn_rules.specs.Segment.{Turn, got_by, step_of}
 use Rattle.turn_rules.proofs.Bounds.{step_makes}
-use Rattle.turn_step.specs.declared.deed.Lead.{Lead}
-use Rattle.turn_step.specs.declared.deed.Lead.TheVariants.{Leap}
 use Rattle.turn_step.specs.Held.{first_needed}
 use Rattle.turn_step.specs.Turns.{LeadsTo, setting_of}
 use Rattle.turn_step.proofs.Runs.{run_from-leap, gets_from-leap}
