@@ -146,7 +146,7 @@ fn run_input<K: Sink>(alloc: Global, order: &Order, input: &[u8], sink: &mut K) 
 }
 
 /// The call with one worker, once the words are read: no thread, no lock, and the book is in the
-/// one-worker order, whatever the order says of workers.
+/// one-worker order, whatever the order says of workers. The source has not answered its end yet.
 pub fn run_single<S: Source, K: Sink>(
     alloc: Global,
     order: &Order,
@@ -204,7 +204,7 @@ fn run_all<R: AllocGlobal, S: Source, K: Sink>(
 }
 
 /// The program's whole work: reads the words after its name and the source, runs what they give, and
-/// writes to the sink. The gate is not entered by one worker.
+/// writes to the sink. The source has not answered its end yet. The gate is not entered by one worker.
 ///
 /// The first clause says what the call did for the status that it answers, the second one when each
 /// status comes. `NoMemory` alone is free: it comes where memory was refused, and nothing is written

@@ -8,6 +8,7 @@ ghost use Rattle.pony_run.specs.Streams.{GivesPart};
 use outside_world::{Failed, Sink};
 
 /// Writes all the bytes. Each write offers all that is left.
+#[tactic(auto, using(crate::proofs::Parts::gives_after))]
 pub(crate) fn write_all<K: Sink>(sink: &mut K, bytes: &[u8]) -> Result<(), Failed>
     ensures all { OnOk result (Appends (K.written sink.old) (K.written sink.new) bytes.now) }
     ensures part { OnErr result (GivesPart (K.written sink.old) (K.written sink.new) bytes.now) }
