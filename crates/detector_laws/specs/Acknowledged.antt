@@ -8,7 +8,8 @@ use Rattle.detector_laws.specs.Members.{In}
 use Rattle.detector_laws.specs.Tokens.{ack_count}
 
 -- of each open token, no Confirm waits for an actor that is no member, and no Ack by one is under way
-pub record OnlyMembersAcknowledge (d : Detector) (mail : ℕ → List Letter) (notes : List Note) : Type 0 where
+pub record OnlyMembersAcknowledge (d : Detector) (mail : ℕ
+    → List Letter) (notes : List Note) : Type 0 where
   pub asked : (t : Token) → In t d.tokens → (a : ℕ) → has t.members a ≡ false
       → confirm_count t.number (mail a) ≡ 0
   pub acks : (t : Token) → In t d.tokens → (a : ℕ) → has t.members a ≡ false

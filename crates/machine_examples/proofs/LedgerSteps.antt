@@ -29,7 +29,7 @@ use Rattle.machine_examples.proofs.Ledgers.{Ledger, told, empty_ledger, row_told
 use Rattle.machine_rules.specs.Actors.{Seat, push_decs, push_letter, seat, seat_at}
 use Rattle.machine_rules.specs.Cell.{Cell, first_cell, fresh_cell, row_by}
 use Rattle.machine_rules.specs.Collect.{after_collect, is_marked, is_marked_deep, without_unused, collect}
-use Rattle.machine_rules.specs.Detect.{held_outside, reap_in_turn, acked_token, hear, reap, scan}
+use Rattle.machine_rules.specs.Detect.{empty_seats, held_outside, reap_decs, reap_members, acked_token, hear, reap, scan}
 use Rattle.machine_rules.specs.Go.{act_in, load_from, needed, needing, mint, post_or_mint, rows_from, setting_of, turn_of_cell, cell_after_turn, go, turn_in}
 use Rattle.event_rule.specs.Runs.{Leads, Step, IsFull, Goes, NotEnabled}
 use Rattle.machine_rules.specs.Next.{next, acting}
@@ -456,41 +456,59 @@ held_outside-told : (members : List ℕ) (o : Option Place) → held_outside mem
 held_outside-told members None = refl
 held_outside-told members (Some o) = given_back-told (λ x. has members (owner_of x)) o.ledger
 
--- without these members, and with the Decs that go out
-abbrev reaped_told : List ℕ → List ℕ → List (ℕ × List Amount) → Places → Places
-reaped_told members [] decs places = decs_told decs places
-reaped_told members (a ∷ rest) decs places = reaped_told members rest (decs ++ by_owner (outside_told members (place_at places a))) (set places a None)
+-- without these
+abbrev emptied_told : List ℕ → Places → Places
+emptied_told [] places = places
+emptied_told (a ∷ rest) places = emptied_told rest (set places a None)
 
-reaped-told : (members rest : List ℕ) (decs : List (ℕ × List Amount)) (places : Places)
-    → reap_in_turn members rest decs (seats_told places) ≡ seats_told (reaped_told members rest decs places)
-unfolding reap_in_turn
-reaped-told members [] decs places = push_decs-told decs places
-reaped-told members (a ∷ rest) decs places =
-    (λ i. reap_in_turn members rest (decs ++ by_owner ((ap (held_outside members) (seat_at-told places a) ∙ held_outside-told members (place_at places a)) i))
-    (set-told places a None None refl i))
-    ∙ reaped-told members rest _ _
+empty_seats-told : (members : List ℕ) (places : Places) → empty_seats members (seats_told places) ≡ seats_told (emptied_told members places)
+unfolding empty_seats
+empty_seats-told [] places = refl
+empty_seats-told (a ∷ rest) places = ap (empty_seats rest) (set-told places a None None refl) ∙ empty_seats-told rest (set places a None)
+
+-- the Decs that go out for the rest
+abbrev reap_decs_told : List ℕ → List ℕ → Places → List (ℕ × List Amount)
+reap_decs_told members [] places = []
+reap_decs_told members (a ∷ rest) places = by_owner (outside_told members (place_at places a)) ++ reap_decs_told members rest (set places a None)
+
+reap_decs-told : (members rest : List ℕ) (places : Places) → reap_decs members rest (seats_told places) ≡ reap_decs_told members rest places
+unfolding reap_decs
+reap_decs-told members [] places = refl
+reap_decs-told members (a ∷ rest) places =
+    (λ i. by_owner ((ap (held_outside members) (seat_at-told places a) ∙ held_outside-told members (place_at places a)) i)
+    ++ reap_decs members rest (set-told places a None None refl i))
+    ∙ ap (λ decs. by_owner (outside_told members (place_at places a)) ++ decs) (reap_decs-told members rest (set places a None))
+
+-- without these members, and with the Decs that go out
+abbrev reaped_told : List ℕ → Places → Places
+reaped_told members places = decs_told (reap_decs_told members members places) (emptied_told members places)
+
+reaped-told : (members : List ℕ) (places : Places) → reap_members members (seats_told places) ≡ seats_told (reaped_told members places)
+reaped-told members places =
+    (λ i. push_decs (reap_decs-told members members places i) (empty_seats-told members places i))
+    ∙ push_decs-told (reap_decs_told members members places) (emptied_told members places)
 
 -- after a reap of the token that is found
 abbrev reaped_in : Page → Option Token → Option Page
 reaped_in b None = None
 reaped_in b (Some token) = Some (record {
   state = record b.state { detector = close_token token b.state.detector };
-  places = reaped_told token.members token.members [] b.places;
+  places = reaped_told token.members b.places;
 })
 
 reap-follows : (b : Page) (found : Option Token) → Follows (reaped_in b found) (option_map_or (reap (state_told b)) found NotEnabled)
 reap-follows b None = tt
 reap-follows b (Some token) =
-    ap (λ actors. Goes (record (state_told b) { actors = actors; detector = close_token token b.state.detector })) (reaped-told token.members token.members [] b.places)
+    ap (λ actors. Goes (record (state_told b) { actors = actors; detector = close_token token b.state.detector })) (reaped-told token.members b.places)
 
 -- ---- leave
 
 -- after a leave
 abbrev left_in : Page → ℕ → Page
-left_in b a = record b { places = reaped_told (a ∷ []) (a ∷ []) [] b.places }
+left_in b a = record b { places = reaped_told (a ∷ []) b.places }
 
 leave-follows : (b : Page) (a : ℕ) (o : Place) → Follows (Some (left_in b a)) (leave (state_told b) a (cell_told o) o.mail)
-leave-follows b a o = ap (λ actors. Goes (record (state_told b) { actors = actors })) (reaped-told (a ∷ []) (a ∷ []) [] b.places)
+leave-follows b a o = ap (λ actors. Goes (record (state_told b) { actors = actors })) (reaped-told (a ∷ []) b.places)
 
 -- ---- an event
 

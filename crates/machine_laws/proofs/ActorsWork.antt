@@ -1,5 +1,5 @@
 -- How much work is left in all actors, where a seat changes, letters come, and members are reaped.
-use Rattle.std.proofs.Common.{◌≡◌, ℕ, zero, suc, ◌+◌, ◌*◌, ◌≤◌, ◌<◌, Bool, false, if◌then◌else◌, Option, Some, None, List, [], ◌∷◌, ◌++◌, length, set, ap, length-append, arith, ⊎_elim}
+use Rattle.std.proofs.Common.{◌≡◌, ℕ, zero, suc, ◌+◌, ◌*◌, ◌≤◌, ◌<◌, Bool, false, if◌then◌else◌, Option, Some, None, List, [], ◌∷◌, ◌++◌, length, set, ap, append-nil, length-append, arith, ⊎_elim}
 use Rattle.std.proofs.Math.Nat.{suc-mul}
 use Rattle.std.proofs.lemmas.Bool.{cases_lt}
 use Rattle.std.proofs.lemmas.List.{get_or_past}
@@ -11,7 +11,7 @@ use Rattle.letter_kinds.specs.Detector.{has}
 use Rattle.letter_kinds.specs.declared.letter.Letter.{Letter}
 use Rattle.letter_kinds.specs.declared.letter.Letter.TheVariants.{Confirm, Dec}
 use Rattle.machine_rules.specs.Actors.{Actors, Seat, push_decs, push_letter, seat_at, with_letter_more}
-use Rattle.machine_rules.specs.Detect.{ask_all, held_outside, reap_members, reap_in_turn}
+use Rattle.machine_rules.specs.Detect.{ask_all, empty_seats, held_outside, reap_decs, reap_members}
 use Rattle.machine_laws.proofs.Moving.{sum_by-set_past}
 use Rattle.machine_laws.proofs.TableWork.{by_owner-length, sweep-work}
 use Rattle.machine_laws.specs.Work.{actors_work, count_work, letter_work, seat_work, silence_work, table_work}
@@ -81,20 +81,26 @@ module _ (n : ℕ) where
   member-work members None = omega arith
   member-work members (Some o) = omega (arith, table_covers members o)
 
-  pub reaped-work : (members rest : List ℕ) (decs : List (ℕ × List Amount)) (s : Actors) → actors_work n (reap_in_turn members rest decs s) ≤ actors_work n s + length decs * count_work n
-  unfolding reap_in_turn
-  reaped-work members [] decs s = decs-work decs s
-  reaped-work members (a ∷ rest) decs s =
-      let more = by_owner (held_outside members (seat_at s a)) in
-      let later = reaped-work members rest (decs ++ more) (set s a None) in
+  -- the Decs of all who go count no more than their seats did
+  emptied-work : (members rest : List ℕ) (s : Actors) → actors_work n (empty_seats rest s) + length (reap_decs members rest s) * count_work n ≤ actors_work n s
+  unfolding empty_seats reap_decs
+  emptied-work members [] s = omega arith
+  emptied-work members (a ∷ rest) s =
+      let decs = by_owner (held_outside members (seat_at s a)) in
+      let more = reap_decs members rest (set s a None) in
+      let later = emptied-work members rest (set s a None) in
       omega (arith, later, ap (λ (l : ℕ). l * count_work n) (length-append decs more), both_times (length decs) (length more) (count_work n), member-work members (seat_at s a), clear-work s a)
+
+  pub reaped-work : (members : List ℕ) (s : Actors) → actors_work n (reap_members members s) ≤ actors_work n s
+  reaped-work members s = omega (arith, decs-work (reap_decs members members s) (empty_seats members s), emptied-work members members s)
 
   -- who leaves had no report out
   pub leave-work : (s : Actors) (a : ℕ) (o : Seat) → seat_at s a ≡ Some o → o.cell.reported ≡ false → actors_work n (reap_members (a ∷ []) s) + silence_work n ≤ actors_work n s
-  unfolding reap_in_turn
+  unfolding empty_seats reap_decs
   leave-work s a o at quiet =
-      let decs = decs-work (by_owner (held_outside (a ∷ []) (seat_at s a))) (set s a None) in
+      let decs = decs-work (reap_decs (a ∷ []) (a ∷ []) s) (set s a None) in
+      let same = ap (λ (groups : List (ℕ × List Amount)). length groups * count_work n) (append-nil (by_owner (held_outside (a ∷ []) (seat_at s a)))) in
       let mine : seat_work n (Some o) ≡ table_work n o.cell.holdings + sum_by (letter_work n) o.mail + (if o.cell.dirty then 1 else 0) + silence_work n =
       ap (λ (q : Bool). table_work n o.cell.holdings + sum_by (letter_work n) o.mail + (if o.cell.dirty then 1 else 0) + (if q then 0 else silence_work n)) quiet in
       let few : length (by_owner (held_outside (a ∷ []) (seat_at s a))) * count_work n ≤ table_work n o.cell.holdings = rw at (table_covers (a ∷ []) o) in
-      omega (arith, decs, few, mine, clear-work s a, ap (seat_work n) at)
+      omega (arith, decs, same, few, mine, clear-work s a, ap (seat_work n) at)

@@ -25,7 +25,7 @@ use Rattle.letter_kinds.specs.declared.letter.Letter.TheVariants.{Confirm, Dec}
 use Rattle.count_laws.proofs.roots.Need.{itself_minted, owner_minted}
 use Rattle.machine_rules.specs.Actors.{Actors, Seat, push_decs, push_letter, seat, seat_at, with_letter_more}
 use Rattle.machine_rules.specs.Cell.{Cell, row_by_roots}
-use Rattle.machine_rules.specs.Detect.{ask_all, held_outside, reap_in_turn}
+use Rattle.machine_rules.specs.Detect.{ask_all, empty_seats, reap_decs, reap_members}
 use Rattle.machine_rules.specs.Go.{lacks, needed, needs, setting_of, to_need}
 use Rattle.orca_names.specs.declared.trace.Trace.{Trace}
 use Rattle.orca_names.specs.declared.trace.Trace.TheVariants.{Deep, Roots}
@@ -75,11 +75,13 @@ module _ (trace : Trace) (program : Program) where
   asks-gets [] token s = omega arith
   asks-gets (a ∷ members) token s = omega (arith, asks-gets members token (push_letter a (Confirm token) s), push-gets a (Confirm token) s)
 
-  pub reaped-gets : (members rest : List ℕ) (decs : List (ℕ × List Amount)) (s : Actors) → gets (reap_in_turn members rest decs s) ≤ gets s
-  unfolding reap_in_turn
-  reaped-gets members [] decs s = decs-gets decs s
-  reaped-gets members (a ∷ rest) decs s =
-      omega (arith, reaped-gets members rest (decs ++ by_owner (held_outside members (seat_at s a))) (set s a None), sum_at-set (needed_at trace program) s a None (omega arith))
+  emptied-gets : (members : List ℕ) (s : Actors) → gets (empty_seats members s) ≤ gets s
+  unfolding empty_seats
+  emptied-gets [] s = omega arith
+  emptied-gets (a ∷ members) s = omega (arith, emptied-gets members (set s a None), sum_at-set (needed_at trace program) s a None (omega arith))
+
+  pub reaped-gets : (members : List ℕ) (s : Actors) → gets (reap_members members s) ≤ gets s
+  reaped-gets members s = omega (arith, decs-gets (reap_decs members members s) (empty_seats members s), emptied-gets members s)
 
 -- ---- with deep tracing
 

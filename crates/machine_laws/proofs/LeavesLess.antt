@@ -221,7 +221,7 @@ module _ (n : ℕ) where
 
     leaves-less : (a : ℕ) (c : Cell) (ls : List Letter) → may_leave c ls ≡ true → seat_at s.actors a ≡ seat c ls → Less (record s { actors = reap_members (a ∷ []) s.actors })
     leaves-less a c ls may at =
-        both (reap_members (a ∷ []) s.actors) s.detector s.notes (omega (arith, leave-work n s.actors a _ at (leaver c ls may).0.unreported)) (reaped-gets tracing s.program (a ∷ []) (a ∷ []) [] s.actors)
+        both (reap_members (a ∷ []) s.actors) s.detector s.notes (omega (arith, leave-work n s.actors a _ at (leaver c ls may).0.unreported)) (reaped-gets tracing s.program (a ∷ []) s.actors)
 
     -- ---- a go that mints
 
@@ -276,7 +276,7 @@ module _ (n : ℕ) where
 
     reaps-less : (token : Token) → In token s.detector.tokens → Less (record s { actors = reap_members token.members s.actors; detector = close_token token s.detector })
     reaps-less token listed =
-        both (reap_members token.members s.actors) (close_token token s.detector) s.notes (omega (arith, closed-work token s.detector.tokens listed, reaped-work n token.members token.members [] s.actors)) (reaped-gets tracing s.program token.members token.members [] s.actors)
+        both (reap_members token.members s.actors) (close_token token s.detector) s.notes (omega (arith, closed-work token s.detector.tokens listed, reaped-work n token.members s.actors)) (reaped-gets tracing s.program token.members s.actors)
 
     -- ---- each rule that is no choice
 

@@ -12,6 +12,7 @@ use Rattle.letter_kinds.specs.Holdings.{Row, held_in}
 use Rattle.letter_kinds.specs.declared.letter.Letter.{Letter}
 use Rattle.letter_kinds.specs.declared.letter.Letter.TheVariants.{Dec}
 use Rattle.letter_kinds.specs.declared.note.Note.{Note}
+use Rattle.count_laws.proofs.away.Untouched.{emptied_other}
 use Rattle.count_laws.proofs.events.EitherMode.{held_owner}
 use Rattle.count_laws.proofs.events.Reap.{every_none, length-reap}
 use Rattle.count_laws.proofs.balance.Reaps.{AllIn}
@@ -23,7 +24,7 @@ use Rattle.machine_rules.specs.Actors.{Actors, cell_at, Seat, cell_of, letters_o
 use Rattle.count_laws.specs.Agreement.{Person}
 use Rattle.machine_rules.specs.Balance.{loads_at, load_sum}
 use Rattle.machine_rules.specs.Cell.{Cell}
-use Rattle.machine_rules.specs.Detect.{held_outside, reap_members, reap_in_turn}
+use Rattle.machine_rules.specs.Detect.{empty_seats, held_outside, reap_decs, reap_members}
 use Rattle.count_laws.specs.Facts.{KeepsCounts}
 use Rattle.detector_laws.proofs.Members.{each_has}
 use Rattle.detector_laws.specs.Cells.{held_on}
@@ -56,17 +57,17 @@ unfolding push_decs
 decs_none [] s i e = e
 decs_none (g ∷ gs) s i e = decs_none gs (push_letter g.0 (Dec g.1) s) i (push_none s g.0 i (Dec g.1) e)
 
-reap_none : (all ms : List ℕ) (gs : List (ℕ × List (Thing × ℕ))) (s : Actors) (i : ℕ) → seat_at s i ≡ None → seat_at (reap_in_turn all ms gs s) i ≡ None
-unfolding reap_in_turn
-reap_none all [] gs s i e = decs_none gs s i e
-reap_none all (m ∷ ms) gs s i e = reap_none all ms _ (set s m None) i (still_none s m i e)
+emptied_none : (ms : List ℕ) (s : Actors) (i : ℕ) → seat_at s i ≡ None → seat_at (empty_seats ms s) i ≡ None
+unfolding empty_seats
+emptied_none [] s i e = e
+emptied_none (m ∷ ms) s i e = emptied_none ms (set s m None) i (still_none s m i e)
 
-reap_gone : (all ms : List ℕ) (gs : List (ℕ × List (Thing × ℕ))) (s : Actors) (i : ℕ) → has ms i ≡ true → seat_at (reap_in_turn all ms gs s) i ≡ None
-unfolding reap_in_turn
-reap_gone all [] gs s i h = absurd (false≢true h)
-reap_gone all (m ∷ ms) gs s i h = ⊎_elim
-    (λ same. reap_none all ms _ (set s m None) i (ap (seat_at (set s m None)) same ∙ set_clears s m))
-    (λ other. reap_gone all ms _ (set s m None) i (rw (ne_eqb m i (λ e. other (sym e))) at h))
+emptied_gone : (ms : List ℕ) (s : Actors) (i : ℕ) → has ms i ≡ true → seat_at (empty_seats ms s) i ≡ None
+unfolding empty_seats
+emptied_gone [] s i h = absurd (false≢true h)
+emptied_gone (m ∷ ms) s i h = ⊎_elim
+    (λ same. emptied_none ms (set s m None) i (ap (seat_at (set s m None)) same ∙ set_clears s m))
+    (λ other. emptied_gone ms (set s m None) i (rw (ne_eqb m i (λ e. other (sym e))) at h))
     (cases_eq i m)
 
 -- ---- the others stay, and get Decs
@@ -74,16 +75,12 @@ reap_gone all (m ∷ ms) gs s i h = ⊎_elim
 abbrev AddsAt : Actors → Actors → ℕ → Type 0
 AddsAt s s' b = (cell_at s' b ≡ cell_at s b) × ((come : List Letter) × (mail_at s' b ≡ mail_at s b ++ come) × NoConfirms come)
 
-reap_adds : (all ms : List ℕ) (gs : List (ℕ × List (Thing × ℕ))) (s : Actors) (b : ℕ) → has ms b ≡ false → AddsAt s (reap_in_turn all ms gs s) b
-unfolding reap_in_turn
-reap_adds all [] gs s b out = let z = decs_adds gs s in (z.cell b, z.mail b)
-reap_adds all (m ∷ ms) gs s b out = ⊎_elim
-    (λ same. absurd (let z = eq-eqb m b (sym same) in false≢true (sym out ∙ rw z refl)))
-    (λ other.
-    let rest = reap_adds all ms (gs ++ by_owner (held_outside all (seat_at s m))) (set s m None) b (rw (ne_eqb m b (λ e. other (sym e))) at out) in
-    let there = get_or-set_other s m b None None other in
-    (rest.0 ∙ ap cell_of there, (rest.1.0, rest.1.1 ∙ ap (λ (o : Option Seat). letters_of o ++ rest.1.0) there, rest.1.2)))
-    (cases_eq b m)
+reap_adds : (ms : List ℕ) (s : Actors) (b : ℕ) → has ms b ≡ false → AddsAt s (reap_members ms s) b
+reap_adds ms s b out =
+    let z = decs_adds (reap_decs ms ms s) (empty_seats ms s) in
+    let come = z.mail b in
+    let there = emptied_other ms s b out in
+    (z.cell b ∙ ap cell_of there, (come.0, come.1 ∙ ap (λ (o : Option Seat). letters_of o ++ come.0) there, come.2))
 
 not_to_append : (b : ℕ) (gs hs : List (ℕ × List (Thing × ℕ))) → NotTo b gs → NotTo b hs → NotTo b (gs ++ hs)
 not_to_append b [] hs h k = k
@@ -98,16 +95,14 @@ unfolding by_owner
 spared all b m s None e ins every = tt
 spared all b m s (Some o) e ins every = every m o.cell o.mail e ins
 
-reap_quiet : (all ms : List ℕ) (gs : List (ℕ × List (Thing × ℕ))) (s : Actors) (b : ℕ) → AllIn all ms → has ms b ≡ false → NotTo b gs → Every (Spares all b) s → seat_at (reap_in_turn all ms gs s) b ≡ seat_at s b
-unfolding reap_in_turn
-reap_quiet all [] gs s b ins out none every = decs_quiet b gs s none
-reap_quiet all (m ∷ ms) gs s b ins out none every = ⊎_elim
-    (λ same. absurd (let z = eq-eqb m b (sym same) in false≢true (sym out ∙ rw z refl)))
-    (λ other.
-    reap_quiet all ms (gs ++ by_owner (held_outside all (seat_at s m))) (set s m None) b ins.1 (rw (ne_eqb m b (λ e. other (sym e))) at out)
-    (not_to_append b gs (by_owner (held_outside all (seat_at s m))) none (spared all b m s (seat_at s m) refl ins.0 every)) (every_none (Spares all b) s m every)
-    ∙ get_or-set_other s m b None None other)
-    (cases_eq b m)
+reap_decs_spare : (all ms : List ℕ) (s : Actors) (b : ℕ) → AllIn all ms → Every (Spares all b) s → NotTo b (reap_decs all ms s)
+unfolding reap_decs
+reap_decs_spare all [] s b ins every = tt
+reap_decs_spare all (m ∷ ms) s b ins every = not_to_append b (by_owner (held_outside all (seat_at s m))) (reap_decs all ms (set s m None))
+    (spared all b m s (seat_at s m) refl ins.0 every) (reap_decs_spare all ms (set s m None) b ins.1 (every_none (Spares all b) s m every))
+
+reap_quiet : (ms : List ℕ) (s : Actors) (b : ℕ) → AllIn ms ms → has ms b ≡ false → Every (Spares ms b) s → seat_at (reap_members ms s) b ≡ seat_at s b
+reap_quiet ms s b ins out every = decs_quiet b (reap_decs ms ms s) (empty_seats ms s) (reap_decs_spare ms ms s b ins every) ∙ emptied_other ms s b out
 
 -- ---- loads
 
@@ -117,14 +112,17 @@ clear_loads x s m = ⊎_elim
     (λ ge. omega (arith, sum_by-set_past (loads_at x) s m None ge))
     (cases_lt m (length s))
 
-reap_loads : (x : Thing) (all ms : List ℕ) (gs : List (ℕ × List (Thing × ℕ))) (s : Actors) → load_sum x (reap_in_turn all ms gs s) ≤ load_sum x s
-unfolding reap_in_turn
-reap_loads x all [] gs s = decs_loads x gs s
-reap_loads x all (m ∷ ms) gs s = omega (arith, reap_loads x all ms (gs ++ by_owner (held_outside all (seat_at s m))) (set s m None), clear_loads x s m)
+emptied_loads : (x : Thing) (ms : List ℕ) (s : Actors) → load_sum x (empty_seats ms s) ≤ load_sum x s
+unfolding empty_seats
+emptied_loads x [] s = omega arith
+emptied_loads x (m ∷ ms) s = omega (arith, emptied_loads x ms (set s m None), clear_loads x s m)
+
+reap_loads : (x : Thing) (ms : List ℕ) (s : Actors) → load_sum x (reap_members ms s) ≤ load_sum x s
+reap_loads x ms s = omega (arith, decs_loads x (reap_decs ms ms s) (empty_seats ms s), emptied_loads x ms s)
 
 module _ (s : Actors) (d after : Detector) (ns : List Note) (ms : List ℕ) (trace : Trace) (all : Thing → Option Row) (ps : List Person) (keeps : KeepsCounts trace all ps s) where
   gone_at : (m : ℕ) → has ms m ≡ true → seat_at (reap_members ms s) m ≡ None
-  gone_at m h = reap_gone ms ms [] s m h
+  gone_at m h = decs_none (reap_decs ms ms s) (empty_seats ms s) m (emptied_gone ms s m h)
 
   spares : (i : ℕ) → has ms i ≡ false → ((m : ℕ) → has ms m ≡ true → held_on (cell_at s m) i ≡ 0) → Every (Spares ms i) s
   spares i out free m c ls at ins = not_to i (by_owner (given_back marked c.holdings)) (firm_groups _ (firm_counted marked c.holdings (keeps.firm m c ls at))) unowed
@@ -146,13 +144,13 @@ module _ (s : Actors) (d after : Detector) (ns : List Note) (ms : List ℕ) (tra
 
   pub departs : Departs (world_of s d ns) ms (world_of (reap_members ms s) after ns)
   departs = record {
-    made = length-reap ms ms [] s;
+    made = length-reap ms s;
     notes = refl;
     clears = λ m h. let e = gone_at m h in (ap cell_of e, ap letters_of e);
-    stays = λ i out. (reap_adds ms ms [] s i out).0;
-    sends = λ i out. (reap_adds ms ms [] s i out).1;
-    sends_held = λ i out free. ap letters_of (reap_quiet ms ms [] s i (each_has _ ms (λ m h. h)) out tt (spares i out free));
-    unloaded = λ x h. omega (arith, h, reap_loads (Actor x) ms ms [] s);
+    stays = λ i out. (reap_adds ms s i out).0;
+    sends = λ i out. (reap_adds ms s i out).1;
+    sends_held = λ i out free. ap letters_of (reap_quiet ms s i (each_has _ ms (λ m h. h)) out (spares i out free));
+    unloaded = λ x h. omega (arith, h, reap_loads (Actor x) ms s);
   }
 
 module _ (s : Actors) (d : Detector) (ns : List Note) (t : Token) (trace : Trace) (all : Thing → Option Row) (ps : List Person) (keeps : KeepsCounts trace all ps s) (opened : In t d.tokens) (acked : all_acked t ≡ true) where

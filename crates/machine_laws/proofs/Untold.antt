@@ -57,7 +57,7 @@ module _ (trace : Trace) (p : PlainState) (s : State) (facts : AllFacts trace p 
         token = token;
         is_open = found.0;
         gone = λ a member. (
-          (let b = (sealed a member).blocked in let below = present_below s.actors a b.cell b.here in let l = length-reap token.members token.members [] s.actors in omega arith),
+          (let b = (sealed a member).blocked in let below = present_below s.actors a b.cell b.here in let l = length-reap token.members s.actors in omega arith),
           λ left. some_not_none (ap cell_of left.present) (clears a member).0,
         );
         untold = λ a member. record { unkept = report_of-out token.members s.detector.kept a member; silent = (sealed a member).silent };

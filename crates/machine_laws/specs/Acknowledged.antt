@@ -11,8 +11,8 @@ use Rattle.machine_rules.specs.Run.{IsRun}
 use Rattle.machine_rules.specs.State.{State}
 use Rattle.detector_laws.specs.Acknowledged.{OnlyMembersAcknowledge}
 
--- after each run, of each open token, no Confirm waits for one that is no member, and no Ack by one is
--- under way
+-- after each run, of each open token, no Confirm waits for one that is no member, and no Ack by one
+-- is under way
 abbrev pub InRunsMembersAloneAreAsked : Type 0
 InRunsMembersAloneAreAsked =
     (program : Program) (options : Options) → 0 < options.weight

@@ -37,17 +37,21 @@ abbrev pub held_outside : List ℕ → Option Seat → List Amount
 held_outside members None = []
 held_outside members (Some o) = given_back (λ x. has members (owner_of x)) o.cell.holdings
 
--- of the set of members the rest go, one after another; then the Decs go out that return what each
--- held outside of the set
-unfoldable pub reap_in_turn : List ℕ → List ℕ → List (ℕ × List Amount) → Actors → Actors
-reap_in_turn members [] decs actors = push_decs decs actors
-reap_in_turn members (a ∷ rest) decs actors =
-    reap_in_turn members rest (decs ++ by_owner (held_outside members (seat_at actors a)))
-    (set actors a None)
+-- the seats of these are emptied
+unfoldable pub empty_seats : List ℕ → Actors → Actors
+empty_seats [] actors = actors
+empty_seats (a ∷ rest) actors = empty_seats rest (set actors a None)
+
+-- the Decs that return what each of the rest held outside of the set, one after another
+unfoldable pub reap_decs : List ℕ → List ℕ → Actors → List (ℕ × List Amount)
+reap_decs members [] actors = []
+reap_decs members (a ∷ rest) actors =
+    by_owner (held_outside members (seat_at actors a)) ++ reap_decs members rest (set actors a None)
 
 -- the members of a set go, and Decs return what they held outside of it
 abbrev pub reap_members : List ℕ → Actors → Actors
-reap_members members actors = reap_in_turn members members [] actors
+reap_members members actors =
+    push_decs (reap_decs members members actors) (empty_seats members actors)
 
 -- the open token of this number, if all its members acknowledged
 abbrev pub acked_token : ℕ → Detector → Option Token

@@ -20,13 +20,14 @@ use Rattle.letter_kinds.specs.declared.letter.Letter.TheVariants.{Confirm, Dec}
 use Rattle.letter_kinds.specs.declared.note.Note.{Note}
 use Rattle.letter_kinds.specs.declared.note.Note.TheVariants as notes
 use Rattle.count_laws.proofs.events.Every.{length-push}
+use Rattle.count_laws.proofs.events.Reap.{length-emptied}
 use Rattle.count_laws.proofs.away.Untouched.{alone_spared, spared_first}
 use Rattle.machine_rules.specs.Actors.{Actors, Seat, push_decs, push_letter, seat, seat_at, with_letter_more}
 use Rattle.count_laws.specs.Apart.{CellsCanBeAway, put_cell, step_with_cell, with_cell, with_cell_in}
 use Rattle.machine_rules.specs.Block.{held_actors, block}
 use Rattle.machine_rules.specs.Cell.{Cell, fresh_cell}
 use Rattle.machine_rules.specs.Collect.{is_marked, without_unused, collect}
-use Rattle.machine_rules.specs.Detect.{ask_all, held_outside, reap_in_turn, acked_token, hear, reap, scan}
+use Rattle.machine_rules.specs.Detect.{ask_all, empty_seats, held_outside, reap_decs, reap_members, acked_token, hear, reap, scan}
 use Rattle.machine_rules.specs.Go.{act_in, needed, needing, post_or_mint, turn_of_cell, cell_after_turn, with_turn_kept, go, turn_in}
 use Rattle.orca_names.specs.declared.trace.Trace.{Trace}
 use Rattle.event_rule.specs.Runs.{Step, IsFull, Goes, NotEnabled}
@@ -103,15 +104,28 @@ module _ (a : ℕ) (c : Cell) where
   put_asked (b ∷ members) token s below =
       ap (ask_all members token) (put_push s b (Confirm token) below) ∙ put_asked members token (push_letter b (Confirm token) s) (let l = length-push b (Confirm token) s in omega arith)
 
-  put_reaped : (all members : List ℕ) (gs : List (ℕ × List Amount)) (s : Actors) → a < length s → has members a ≡ false → reap_in_turn all members gs (put_cell a c s) ≡ put_cell a c (reap_in_turn all members gs s)
-  unfolding reap_in_turn
-  put_reaped all [] gs s below out = put_decs gs s below
-  put_reaped all (m ∷ members) gs s below out =
+  put_emptied : (members : List ℕ) (s : Actors) → has members a ≡ false → empty_seats members (put_cell a c s) ≡ put_cell a c (empty_seats members s)
+  unfolding empty_seats
+  put_emptied [] s out = refl
+  put_emptied (m ∷ members) s out =
+      let z = spared_first m members a out in
+      ap (empty_seats members) (put_set s m None (λ e. z.0 (sym e))) ∙ put_emptied members (set s m None) z.1
+
+  reap_decs_away : (all members : List ℕ) (s : Actors) → has members a ≡ false → reap_decs all members (put_cell a c s) ≡ reap_decs all members s
+  unfolding reap_decs
+  reap_decs_away all [] s out = refl
+  reap_decs_away all (m ∷ members) s out =
       let z = spared_first m members a out in
       let not : m ≢ a = λ e. z.0 (sym e) in
-      ap (λ q. reap_in_turn all members (gs ++ by_owner (held_outside all q)) (set (put_cell a c s) m None)) (put_other s m not)
-      ∙ ap (reap_in_turn all members (gs ++ by_owner (held_outside all (seat_at s m)))) (put_set s m None not)
-      ∙ put_reaped all members (gs ++ by_owner (held_outside all (seat_at s m))) (set s m None) (let l = length-set s m None in omega arith) z.1
+      ap (λ q. by_owner (held_outside all q) ++ reap_decs all members (set (put_cell a c s) m None)) (put_other s m not)
+      ∙ ap (λ t. by_owner (held_outside all (seat_at s m)) ++ reap_decs all members t) (put_set s m None not)
+      ∙ ap (λ decs. by_owner (held_outside all (seat_at s m)) ++ decs) (reap_decs_away all members (set s m None) z.1)
+
+  put_reaped : (members : List ℕ) (s : Actors) → a < length s → has members a ≡ false → reap_members members (put_cell a c s) ≡ put_cell a c (reap_members members s)
+  put_reaped members s below out =
+      ap (λ decs. push_decs decs (empty_seats members (put_cell a c s))) (reap_decs_away members members s out)
+      ∙ ap (push_decs (reap_decs members members s)) (put_emptied members s out)
+      ∙ put_decs (reap_decs members members s) (empty_seats members s) (let l = length-emptied members s in omega arith)
 
   -- ---- an event of another actor
 
@@ -133,7 +147,7 @@ module _ (a : ℕ) (c : Cell) where
     alone = alone_spared b a (λ e. not (sym e))
 
     leave_away : (d : Cell) (mail : List Letter) → leave away b d mail ≡ step_with_cell a c (leave s b d mail)
-    leave_away d mail = ap (λ actors. Goes (record s { actors = actors })) (put_reaped (b ∷ []) (b ∷ []) [] s.actors below alone)
+    leave_away d mail = ap (λ actors. Goes (record s { actors = actors })) (put_reaped (b ∷ []) s.actors below alone)
 
     collect_away : (trace : Trace) (d : Cell) (mail : List Letter) → collect trace away b d mail ≡ step_with_cell a c (collect trace s b d mail)
     collect_away trace d mail =
@@ -221,7 +235,7 @@ module _ (a : ℕ) (c : Cell) where
       → option_map_or (reap (with_cell a c s)) found NotEnabled ≡ step_with_cell a c (option_map_or (reap s) found NotEnabled)
   reap_away s below None out = refl
   reap_away s below (Some t) out =
-      ap (λ actors. Goes (record s { actors = actors; detector = close_token t s.detector })) (put_reaped t.members t.members [] s.actors below (out t refl))
+      ap (λ actors. Goes (record s { actors = actors; detector = close_token t s.detector })) (put_reaped t.members s.actors below (out t refl))
 
 other_than : (a b : ℕ) → (Some b ≡ Some a → ⊥) → b ≢ a
 other_than a b h e = h (ap Some e)

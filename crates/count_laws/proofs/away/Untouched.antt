@@ -20,7 +20,7 @@ use Rattle.machine_rules.specs.Actors.{Actors, Seat, cell_at, cell_of, letters_o
 use Rattle.count_laws.specs.Apart.{IsApart, KeepsEnabled, LeavesCell, OthersKeepEnabled, OthersLeaveTheCell}
 use Rattle.machine_rules.specs.Cell.{Cell}
 use Rattle.machine_rules.specs.Collect.{is_marked, without_unused}
-use Rattle.machine_rules.specs.Detect.{ask_all, held_outside, reap_in_turn}
+use Rattle.machine_rules.specs.Detect.{ask_all, empty_seats, reap_decs, reap_members}
 use Rattle.machine_rules.specs.Enabled.{CanHappen}
 use Rattle.machine_rules.proofs.Guards.{MayReport, acked_open, leaver, may_leave-none, may_report, may_take-some, reporter, taker}
 use Rattle.event_rule.specs.Runs.{IsEnabled}
@@ -77,12 +77,17 @@ spared_first m members a out = ⊎_elim
     (λ other. ((λ e. other (sym e)), rw (ne_eqb m a other) at out))
     (cases_eq m a)
 
-adds_reaped : (all members : List ℕ) (gs : List (ℕ × List Amount)) (s : Actors) (a : ℕ) → has members a ≡ false → Adds s (reap_in_turn all members gs s) a
-unfolding reap_in_turn
-adds_reaped all [] gs s a out = adds_decs gs s a
-adds_reaped all (m ∷ members) gs s a out =
+pub emptied_other : (members : List ℕ) (s : Actors) (a : ℕ) → has members a ≡ false → seat_at (empty_seats members s) a ≡ seat_at s a
+unfolding empty_seats
+emptied_other [] s a out = refl
+emptied_other (m ∷ members) s a out =
     let z = spared_first m members a out in
-    adds_trans s (set s m None) _ a (adds_other s m a None z.0) (adds_reaped all members (gs ++ by_owner (held_outside all (seat_at s m))) (set s m None) a z.1)
+    emptied_other members (set s m None) a z.1 ∙ get_or-set_other s m a None None z.0
+
+adds_reaped : (members : List ℕ) (s : Actors) (a : ℕ) → has members a ≡ false → Adds s (reap_members members s) a
+adds_reaped members s a out =
+    adds_trans s (empty_seats members s) _ a (adds_same s (empty_seats members s) a (emptied_other members s a out))
+    (adds_decs (reap_decs members members s) (empty_seats members s) a)
 
 adds_more : (s : Actors) (o : Option Seat) (a : ℕ) → a < length s → Adds s (s ++ o ∷ []) a
 adds_more s o a below = adds_same s (s ++ o ∷ []) a (more_other s o a (omega arith))
@@ -112,11 +117,11 @@ leaves trace s (rule.gets b c mail f x going need) a apart = adds_trans s.actors
 leaves trace s (rule.collects b c mail at may) a apart =
     adds_trans s.actors (set s.actors b _) _ a (adds_other s.actors b a _ (not_mine a b apart.others))
     (adds_decs (by_owner (given_back (is_marked trace b c) (without_unused trace b c).holdings)) _ a)
-leaves trace s (rule.leaves b c mail at may) a apart = adds_reaped (b ∷ []) (b ∷ []) [] s.actors a (alone_spared b a (not_mine a b apart.others))
+leaves trace s (rule.leaves b c mail at may) a apart = adds_reaped (b ∷ []) s.actors a (alone_spared b a (not_mine a b apart.others))
 leaves trace s (rule.blocks b c mail at may) a apart = adds_other s.actors b a _ (not_mine a b apart.others)
 leaves trace s (rule.hears note later is) a apart = adds_same s.actors s.actors a refl
 leaves trace s (rule.scans news) a apart = adds_asked (closed_set s.detector) (suc s.detector.opened) s.actors a
-leaves trace s (rule.reaps number token is) a apart = adds_reaped token.members token.members [] s.actors a (apart.spared number token refl (acked_open number s.detector token is).0)
+leaves trace s (rule.reaps number token is) a apart = adds_reaped token.members s.actors a (apart.spared number token refl (acked_open number s.detector token is).0)
 
 pub others_leave : OthersLeaveTheCell
 others_leave s t a e apart goes = let z = leaves s.options.trace s (step_of s t e goes) a apart in record { cell = z.cell; come = z.come; mail = z.mail }

@@ -1,5 +1,5 @@
 -- A reap keeps the balance and the prefixes: what the members held outside goes back in Decs.
-use Rattle.std.proofs.Common.{◌≡◌, ◌≢◌, ◌⊎◌, ℕ, ◌+◌, ◌<◌, ◌==◌, cond, true, false, Option, Some, None, List, [], ◌∷◌, ◌++◌, length, set, refl, sym, ◌∙◌, ap, arith, inl, inr, ⊎_elim, ne_eqb, length-set}
+use Rattle.std.proofs.Common.{◌≡◌, ◌≢◌, ◌⊎◌, ℕ, ◌+◌, ◌<◌, ◌==◌, cond, true, false, Option, Some, None, List, [], ◌∷◌, ◌++◌, length, set, refl, sym, ◌∙◌, ap, arith, subst, append_assoc, append-nil, inl, inr, ⊎_elim, ne_eqb, length-set}
 use Rattle.std.specs.List.{AllByRecursion}
 use Rattle.std.proofs.lemmas.Bool.{cases_Bool, cases_eq}
 use Rattle.letter_kinds.proofs.Sums.{sum-zero}
@@ -13,10 +13,10 @@ use Rattle.letter_kinds.specs.Counting.{given_back, by_owner}
 use Rattle.letter_kinds.specs.Detector.{has}
 use Rattle.count_laws.proofs.balance.InHand.{BalancedWith, none, AllCounted, Balanced}
 use Rattle.orca_names.specs.declared.trace.Trace.{Trace}
-use Rattle.machine_rules.specs.Actors.{Seat, Actors, seat_at}
+use Rattle.machine_rules.specs.Actors.{Seat, Actors, push_decs, seat_at}
 use Rattle.machine_rules.specs.Balance.{own_at, incs_at, decs_at, held_at, loads_at}
 use Rattle.count_laws.specs.Prefixes.{NeverOverdraws}
-use Rattle.machine_rules.specs.Detect.{held_outside, reap_in_turn}
+use Rattle.machine_rules.specs.Detect.{empty_seats, held_outside, reap_decs}
 use Rattle.orca_names.specs.Names.{owner_of}
 use Rattle.orca_names.specs.declared.names.Thing.{Thing}
 
@@ -150,10 +150,18 @@ one_more trace all ms m gs s d e member r u = record {
 abbrev pub AllIn : List ℕ → List ℕ → Type 0
 AllIn all ms = AllByRecursion (λ m. has all m ≡ true) ms
 
+-- once these Decs are out
+abbrev StaysBalanced : Trace → List (ℕ × List (Thing × ℕ)) → Actors → Type 0
+StaysBalanced trace decs s = Balanced (push_decs decs s) × NeverOverdraws trace (push_decs decs s)
+
 pub reap_keeps : (trace : Trace) (all ms : List ℕ) (gs : List (ℕ × List (Thing × ℕ))) (s : Actors) (d e : Thing → ℕ) → AllIn all ms → AllReady all ms s → Under trace all ms gs s d e
-    → Balanced (reap_in_turn all ms gs s) × NeverOverdraws trace (reap_in_turn all ms gs s)
-unfolding reap_in_turn
-reap_keeps trace all [] gs s d e ins ready u = decs_keep trace gs s u.firm (done trace all gs s d e u) u.prefix
-reap_keeps trace all (m ∷ ms) gs s d e ins ready u = reap_keeps trace all ms _ (set s m None) _ _ ins.1
+    → StaysBalanced trace (gs ++ reap_decs all ms s) (empty_seats ms s)
+unfolding empty_seats reap_decs
+reap_keeps trace all [] gs s d e ins ready u = subst (λ decs. StaysBalanced trace decs s) (sym (append-nil gs)) (decs_keep trace gs s u.firm (done trace all gs s d e u) u.prefix)
+reap_keeps trace all (m ∷ ms) gs s d e ins ready u =
+    let cleared = set s m None in
+    let more = by_owner (held_outside all (seat_at s m)) in
+    subst (λ decs. StaysBalanced trace decs (empty_seats ms cleared)) (append_assoc gs more (reap_decs all ms cleared))
+    (reap_keeps trace all ms (gs ++ more) cleared _ _ ins.1
     (all_ready_later all s m ms ready.0.within ready.1)
-    (one_more trace all ms m gs s d e ins.0 ready.0 u)
+    (one_more trace all ms m gs s d e ins.0 ready.0 u))

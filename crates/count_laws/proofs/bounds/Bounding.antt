@@ -46,7 +46,7 @@ use Rattle.machine_rules.specs.Balance.{incs_at, own_at}
 use Rattle.count_laws.specs.Bounds.{EventsOpenOneToken, EventsRaiseByTheWeight, RunsCountByTheWeight, RunsMakeFewActors, RunsOpenNoMoreTokens, owner_count}
 use Rattle.machine_rules.specs.Cell.{Cell, first_cell, fresh_cell}
 use Rattle.machine_rules.specs.Collect.{after_collect, is_marked, without_unused}
-use Rattle.machine_rules.specs.Detect.{ask_all, held_outside, reap_in_turn}
+use Rattle.machine_rules.specs.Detect.{ask_all, empty_seats, reap_decs, reap_members}
 use Rattle.machine_rules.specs.Go.{load_from, make, mint, post, rows_from, to_need, turn_of_cell, cell_after_turn}
 use Rattle.event_rule.specs.Runs.{Leads, Goes}
 use Rattle.machine_rules.specs.Next.{next}
@@ -111,12 +111,17 @@ counted-clear s b x = ⊎_elim
     (λ past. rw (set_none s b (owner_of x) (get_or_past s b None past)) (omega arith))
     (cases_lt b (length s))
 
-counted-reaped : (all members : List ℕ) (gs : List (ℕ × List Amount)) (s : Actors) (x : Thing) → owner_count x (reap_in_turn all members gs s) ≤ owner_count x s
-unfolding reap_in_turn
-counted-reaped all [] gs s x = counted-decs gs s x
-counted-reaped all (a ∷ members) gs s x =
+counted-emptied : (members : List ℕ) (s : Actors) (x : Thing) → owner_count x (empty_seats members s) ≤ owner_count x s
+unfolding empty_seats
+counted-emptied [] s x = omega arith
+counted-emptied (a ∷ members) s x =
     let one = counted-clear s a x in
-    let later = counted-reaped all members (gs ++ by_owner (held_outside all (seat_at s a))) (set s a None) x in omega arith
+    let later = counted-emptied members (set s a None) x in omega arith
+
+counted-reaped : (members : List ℕ) (s : Actors) (x : Thing) → owner_count x (reap_members members s) ≤ owner_count x s
+counted-reaped members s x =
+    let emptied = counted-emptied members s x in
+    let later = counted-decs (reap_decs members members s) (empty_seats members s) x in omega arith
 
 -- ---- one actor more
 
@@ -221,13 +226,13 @@ raises trace s (rule.gets a c mail f y going need) pos x =
     minted_counts s.actors a c mail going.present s.options.weight (owner_of y) (to_need s.options.weight a c.holdings y) x (needed_once s.options.weight a c.holdings y x)
 raises trace s (rule.collects a c mail at may) pos x =
     at_most _ _ _ (collected_counts s.actors a c mail at (is_marked trace a c) (without_unused trace a c) (same_holdings trace a c) x)
-raises trace s (rule.leaves a c mail at may) pos x = at_most _ _ _ (counted-reaped (a ∷ []) (a ∷ []) [] s.actors x)
+raises trace s (rule.leaves a c mail at may) pos x = at_most _ _ _ (counted-reaped (a ∷ []) s.actors x)
 raises trace s (rule.blocks a c mail at may) pos x =
     let z : owner_count x (set s.actors a (seat (record c { reported = true }) mail)) ≤ owner_count x s.actors + 0
     = counted-cell s.actors a c (record c { reported = true }) mail at 0 x (λ o. omega arith) in omega arith
 raises trace s (rule.hears note later is) pos x = omega arith
 raises trace s (rule.scans news) pos x = at_most _ _ _ (counted-asked (closed_set s.detector) (suc s.detector.opened) s.actors x)
-raises trace s (rule.reaps number token is) pos x = at_most _ _ _ (counted-reaped token.members token.members [] s.actors x)
+raises trace s (rule.reaps number token is) pos x = at_most _ _ _ (counted-reaped token.members s.actors x)
 
 pub events_raise : EventsRaiseByTheWeight
 events_raise s t e pos goes = raises s.options.trace s (step_of s t e goes) pos
@@ -295,11 +300,11 @@ room_in trace s (rule.collects a c mail at may) h =
     (set s.actors a (seat (record (without_unused trace a c) { holdings = sweep (is_marked trace a c) a (without_unused trace a c).holdings; dirty = false }) mail)) in
     let l = length-set s.actors a (seat (record (without_unused trace a c) { holdings = sweep (is_marked trace a c) a (without_unused trace a c).holdings; dirty = false }) mail) in
     omega arith
-room_in trace s (rule.leaves a c mail at may) h = let l = length-reap (a ∷ []) (a ∷ []) [] s.actors in omega arith
+room_in trace s (rule.leaves a c mail at may) h = let l = length-reap (a ∷ []) s.actors in omega arith
 room_in trace s (rule.blocks a c mail at may) h = set_room s.actors a _ h
 room_in trace s (rule.hears note later is) h = h
 room_in trace s (rule.scans news) h = let l = length-asked (closed_set s.detector) (suc s.detector.opened) s.actors in omega arith
-room_in trace s (rule.reaps number token is) h = let l = length-reap token.members token.members [] s.actors in omega arith
+room_in trace s (rule.reaps number token is) h = let l = length-reap token.members s.actors in omega arith
 
 pub leads_room : (book : List Event) (s t : State) → Leads next s book t → length s.actors ≤ 65536 → length t.actors ≤ 65536
 leads_room [] s t same h = subst (λ (u : State). length u.actors ≤ 65536) same h

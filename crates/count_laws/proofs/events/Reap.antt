@@ -23,7 +23,7 @@ use Rattle.machine_rules.specs.Actors.{Seat, Actors, seat_at, seat, Every}
 use Rattle.count_laws.specs.Agreement.{Person, person_at, person_of, IsRootPerson, Agrees, app_letters}
 use Rattle.machine_rules.specs.Balance.{held_at, loads_at}
 use Rattle.machine_rules.specs.Cell.{Cell}
-use Rattle.machine_rules.specs.Detect.{reap_members, reap_in_turn}
+use Rattle.machine_rules.specs.Detect.{empty_seats, reap_decs, reap_members}
 use Rattle.count_laws.specs.Facts.{IsFirmAt, KeepsCounts, IsSound}
 use Rattle.count_laws.specs.Known.{Reaches, IsKnown, in_table, IsSoundAt}
 use Rattle.orca_names.specs.Names.{owner_of}
@@ -50,11 +50,14 @@ every_none Q s m every a c ls at = ⊎_elim
     apart : (c : Cell) (ls : List Letter) → None ≡ seat c ls → ⊥
     apart c ls e = cc
 
+pub every_emptied : (Q : ℕ → Cell → List Letter → Type 0) (ms : List ℕ) (s : Actors) → Every Q s → Every Q (empty_seats ms s)
+unfolding empty_seats
+every_emptied Q [] s every = every
+every_emptied Q (m ∷ ms) s every = every_emptied Q ms (set s m None) (every_none Q s m every)
+
 pub every_reap : (Q : ℕ → Cell → List Letter → Type 0) → ((es : List (Thing × ℕ)) (a : ℕ) (c : Cell) (ls : List Letter) → Q a c ls → Q a c (ls ++ Dec es ∷ []))
-    → (all ms : List ℕ) (gs : List (ℕ × List (Thing × ℕ))) (s : Actors) → Every Q s → Every Q (reap_in_turn all ms gs s)
-unfolding reap_in_turn
-every_reap Q stable all [] gs s every = every_decs Q stable gs s every
-every_reap Q stable all (m ∷ ms) gs s every = every_reap Q stable all ms _ (set s m None) (every_none Q s m every)
+    → (ms : List ℕ) (s : Actors) → Every Q s → Every Q (reap_members ms s)
+every_reap Q stable ms s every = every_decs Q stable (reap_decs ms ms s) (empty_seats ms s) (every_emptied Q ms s every)
 
 agrees_none : (ps : List Person) (s : Actors) (m : ℕ) → (IsRootPerson (person_at ps m) → ⊥) → Agrees ps s → Agrees ps (set s m None)
 agrees_none ps s m idle ag = record {
@@ -69,15 +72,21 @@ abbrev Idle : List Person → List ℕ → Type 0
 Idle ps [] = Unit {0}
 Idle ps (m ∷ ms) = (IsRootPerson (person_at ps m) → ⊥) × Idle ps ms
 
-agrees_reap : (ps : List Person) (all ms : List ℕ) (gs : List (ℕ × List (Thing × ℕ))) (s : Actors) → Idle ps ms → Agrees ps s → Agrees ps (reap_in_turn all ms gs s)
-unfolding reap_in_turn
-agrees_reap ps all [] gs s idle ag = agrees_decs ps gs s ag
-agrees_reap ps all (m ∷ ms) gs s idle ag = agrees_reap ps all ms _ (set s m None) idle.1 (agrees_none ps s m idle.0 ag)
+agrees_emptied : (ps : List Person) (ms : List ℕ) (s : Actors) → Idle ps ms → Agrees ps s → Agrees ps (empty_seats ms s)
+unfolding empty_seats
+agrees_emptied ps [] s idle ag = ag
+agrees_emptied ps (m ∷ ms) s idle ag = agrees_emptied ps ms (set s m None) idle.1 (agrees_none ps s m idle.0 ag)
 
-pub length-reap : (all ms : List ℕ) (gs : List (ℕ × List (Thing × ℕ))) (s : Actors) → length (reap_in_turn all ms gs s) ≡ length s
-unfolding reap_in_turn
-length-reap all [] gs s = length-decs gs s
-length-reap all (m ∷ ms) gs s = length-reap all ms _ (set s m None) ∙ length-set s m None
+agrees_reap : (ps : List Person) (ms : List ℕ) (s : Actors) → Idle ps ms → Agrees ps s → Agrees ps (reap_members ms s)
+agrees_reap ps ms s idle ag = agrees_decs ps (reap_decs ms ms s) (empty_seats ms s) (agrees_emptied ps ms s idle ag)
+
+pub length-emptied : (ms : List ℕ) (s : Actors) → length (empty_seats ms s) ≡ length s
+unfolding empty_seats
+length-emptied [] s = refl
+length-emptied (m ∷ ms) s = length-emptied ms (set s m None) ∙ length-set s m None
+
+pub length-reap : (ms : List ℕ) (s : Actors) → length (reap_members ms s) ≡ length s
+length-reap ms s = length-decs (reap_decs ms ms s) (empty_seats ms s) ∙ length-emptied ms s
 
 -- a member of the set: present, without a root, no letter that loads
 pub record Sealed (s : Actors) (m : ℕ) : Type 0 where
@@ -149,10 +158,10 @@ module _ (trace : Trace) (all : Thing → Option Row) (ps : List Person) (s : Ac
         balanced = out_of_hand _ both.0;
         prefixes = both.1;
         sound = sound;
-        agrees = agrees_reap ps ms ms [] s (idle_all ms is_sealed) inv.agrees;
+        agrees = agrees_reap ps ms s (idle_all ms is_sealed) inv.agrees;
         bare = inv.bare;
-        long = inv.long ∙ sym (length-reap ms ms [] s);
-        firm = every_reap IsFirmAt (λ es b d ks q. q) ms ms [] s inv.firm;
+        long = inv.long ∙ sym (length-reap ms s);
+        firm = every_reap IsFirmAt (λ es b d ks q. q) ms s inv.firm;
       }
 
 module _ (all : Thing → Option Row) (ps : List Person) (s : Actors) (inv : KeepsCounts Deep all ps s) (ms : List ℕ)
@@ -180,4 +189,4 @@ module _ (all : Thing → Option Row) (ps : List Person) (s : Actors) (inv : Kee
 
   pub reap_keeps_counts : KeepsCounts Deep all ps (reap_members ms s)
   reap_keeps_counts = reap_put Deep all ps s inv ms ins is_sealed held_none loads_none
-      (every_reap (IsSoundAt all) (λ es b d ks q. record { closed = q.closed; rows = q.rows; loads = mail_push all ks (Dec es) tt q.loads }) ms ms [] s inv.sound)
+      (every_reap (IsSoundAt all) (λ es b d ks q. record { closed = q.closed; rows = q.rows; loads = mail_push all ks (Dec es) tt q.loads }) ms s inv.sound)

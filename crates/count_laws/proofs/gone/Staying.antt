@@ -34,7 +34,7 @@ use Rattle.count_laws.proofs.events.Take.{next_held, next_own, next_receive}
 use Rattle.machine_rules.specs.Actors.{Actors, Seat, push_decs, push_letter, seat, seat_at}
 use Rattle.machine_rules.specs.Cell.{Cell, fresh_cell}
 use Rattle.machine_rules.specs.Collect.{after_collect, is_marked, without_unused}
-use Rattle.machine_rules.specs.Detect.{ask_all, held_outside, reap_in_turn}
+use Rattle.machine_rules.specs.Detect.{ask_all, empty_seats, reap_decs, reap_members}
 use Rattle.machine_rules.specs.Go.{load_from, make, mint, post, rows_from, turn_of_cell, cell_after_turn}
 use Rattle.count_laws.specs.Gone.{GoneStaysGone, HasName, NamesStayGiven}
 use Rattle.orca_names.specs.declared.trace.Trace.{Trace}
@@ -174,10 +174,13 @@ stays_clear s b = stays_by s (set s b None) (let l = length-set s b None in omeg
     (cases_lt b (length s)))
     (cases_eq i b))
 
-stays_reaped : (all members : List ℕ) (gs : List (ℕ × List Amount)) (s : Actors) → Stays s (reap_in_turn all members gs s)
-unfolding reap_in_turn
-stays_reaped all [] gs s x named = stays_decs gs s x named
-stays_reaped all (a ∷ members) gs s x named = stays_trans s (set s a None) _ (stays_clear s a) (stays_reaped all members (gs ++ by_owner (held_outside all (seat_at s a))) (set s a None)) x named
+stays_emptied : (members : List ℕ) (s : Actors) → Stays s (empty_seats members s)
+unfolding empty_seats
+stays_emptied [] s x named = (named, λ left. left)
+stays_emptied (a ∷ members) s x named = stays_trans s (set s a None) _ (stays_clear s a) (stays_emptied members (set s a None)) x named
+
+stays_reaped : (members : List ℕ) (s : Actors) → Stays s (reap_members members s)
+stays_reaped members s = stays_trans s (empty_seats members s) _ (stays_emptied members s) (stays_decs (reap_decs members members s) (empty_seats members s))
 
 stays_more : (s : Actors) (new : Option Seat) → Stays s (s ++ new ∷ [])
 stays_more s new = stays_read s (s ++ new ∷ []) (let l = length-append s (new ∷ []) in omega arith) (λ i below. more_other s new i (omega arith))
@@ -239,11 +242,11 @@ stays trace s (rule.posts a c mail f to behaviour args stops none) =
 stays trace s (rule.mints a c mail f to behaviour args e lacked stops is) = stays_minted s.actors a c mail stops.going.present _ _
 stays trace s (rule.gets a c mail f x going need) = stays_minted s.actors a c mail going.present _ _
 stays trace s (rule.collects a c mail at may) = stays_collected s.actors a c mail at (is_marked trace a c) (without_unused trace a c) (same_holdings trace a c)
-stays trace s (rule.leaves a c mail at may) = stays_reaped (a ∷ []) (a ∷ []) [] s.actors
+stays trace s (rule.leaves a c mail at may) = stays_reaped (a ∷ []) s.actors
 stays trace s (rule.blocks a c mail at may) = stays_cell s.actors a c (record c { reported = true }) mail mail at (keeps_self c.holdings)
 stays trace s (rule.hears note later is) = stays_self s.actors
 stays trace s (rule.scans news) = stays_asked (closed_set s.detector) (suc s.detector.opened) s.actors
-stays trace s (rule.reaps number token is) = stays_reaped token.members token.members [] s.actors
+stays trace s (rule.reaps number token is) = stays_reaped token.members s.actors
 
 leads_stay : (book : List Event) (s t : State) → Leads next s book t → Stays s.actors t.actors
 leads_stay [] s t same = subst (λ (u : State). Stays s.actors u.actors) same (stays_self s.actors)

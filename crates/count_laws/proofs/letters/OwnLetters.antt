@@ -19,7 +19,7 @@ use Rattle.machine_rules.proofs.Stepping.{step_of}
 use Rattle.machine_rules.specs.Rules.{IsStep, cell_kept, later_frame}
 use Rattle.machine_rules.specs.Rules as rule
 use Rattle.count_laws.proofs.events.Every.{every_more, every_set, push_none, set_none}
-use Rattle.count_laws.proofs.events.Reap.{every_none}
+use Rattle.count_laws.proofs.events.Reap.{every_emptied}
 use Rattle.count_laws.proofs.balance.SeatReads.{letter_App, letter_Confirm, letter_Dec, letter_Inc}
 use Rattle.machine_rules.proofs.Present.{present_below}
 use Rattle.count_laws.proofs.balance.Sends.{push_is}
@@ -27,7 +27,7 @@ use Rattle.count_laws.proofs.letters.Shares.{AreForOwners, among_some, back_is_f
 use Rattle.machine_rules.specs.Actors.{Actors, Seat, push_decs, push_letter, seat, seat_at}
 use Rattle.machine_rules.specs.Cell.{Cell, first_cell, fresh_cell}
 use Rattle.machine_rules.specs.Collect.{is_marked, without_unused}
-use Rattle.machine_rules.specs.Detect.{ask_all, held_outside, reap_in_turn}
+use Rattle.machine_rules.specs.Detect.{ask_all, empty_seats, held_outside, reap_decs, reap_members}
 use Rattle.machine_rules.specs.Go.{to_need}
 use Rattle.count_laws.specs.Letters.{AreFor, EventsKeepNamesOwn, LettersNameTheirOwn, NamesOwn, RunsNameOwn, StartNamesOwn}
 use Rattle.orca_names.specs.declared.trace.Trace.{Trace}
@@ -70,11 +70,14 @@ unfolding by_owner
 outside_for all None = tt
 outside_for all (Some o) = back_is_for (λ x. has all (owner_of x)) o.cell.holdings
 
-own_reaped : (all members : List ℕ) (gs : List (ℕ × List Amount)) (s : Actors) → AreForOwners gs → LettersNameTheirOwn s → LettersNameTheirOwn (reap_in_turn all members gs s)
-unfolding reap_in_turn
-own_reaped all [] gs s are own = own_decs gs s are own
-own_reaped all (a ∷ members) gs s are own = own_reaped all members (gs ++ by_owner (held_outside all (seat_at s a))) (set s a None)
-    (owners_append gs (by_owner (held_outside all (seat_at s a))) are (outside_for all (seat_at s a))) (every_none OwnMail s a own)
+reap_decs_for : (all members : List ℕ) (s : Actors) → AreForOwners (reap_decs all members s)
+unfolding reap_decs
+reap_decs_for all [] s = tt
+reap_decs_for all (a ∷ members) s = owners_append (by_owner (held_outside all (seat_at s a))) (reap_decs all members (set s a None))
+    (outside_for all (seat_at s a)) (reap_decs_for all members (set s a None))
+
+own_reaped : (members : List ℕ) (s : Actors) → LettersNameTheirOwn s → LettersNameTheirOwn (reap_members members s)
+own_reaped members s own = own_decs (reap_decs members members s) (empty_seats members s) (reap_decs_for members members s) (every_emptied OwnMail members s own)
 
 -- ---- each event
 
@@ -101,11 +104,11 @@ owned trace s (rule.gets a c mail f x going need) own =
 owned trace s (rule.collects a c mail at may) own =
     own_decs (by_owner (given_back (is_marked trace a c) (without_unused trace a c).holdings)) _
     (back_is_for (is_marked trace a c) (without_unused trace a c).holdings) (own_cell s.actors a c _ mail mail at (own a c mail at) own)
-owned trace s (rule.leaves a c mail at may) own = own_reaped (a ∷ []) (a ∷ []) [] s.actors tt own
+owned trace s (rule.leaves a c mail at may) own = own_reaped (a ∷ []) s.actors own
 owned trace s (rule.blocks a c mail at may) own = own_cell s.actors a c _ mail mail at (own a c mail at) own
 owned trace s (rule.hears note later is) own = own
 owned trace s (rule.scans news) own = own_asked (closed_set s.detector) (suc s.detector.opened) s.actors own
-owned trace s (rule.reaps number token is) own = own_reaped token.members token.members [] s.actors tt own
+owned trace s (rule.reaps number token is) own = own_reaped token.members s.actors own
 
 pub events_keep_own : EventsKeepNamesOwn
 events_keep_own s t e goes own = owned s.options.trace s (step_of s t e goes) own

@@ -100,11 +100,11 @@ module _ (trace : Trace) (Q : ℕ → Cell → List Letter → Type 0) (local : 
       let z = collector c mail may in
       every_decs Q (λ things. local.letter (Dec things)) (by_owner (given_back (is_marked trace a c) (without_unused trace a c).holdings)) _
       (every_here s.actors a _ (record (without_unused trace a c) { holdings = sweep (is_marked trace a c) a (without_unused trace a c).holdings; dirty = false }) mail at (local.collect a c mail z.0 z.1 (h a c mail at)) h)
-  every_step s (leaves a c mail at may) h = every_reap Q (λ things. local.letter (Dec things)) (a ∷ []) (a ∷ []) [] s.actors h
+  every_step s (leaves a c mail at may) h = every_reap Q (λ things. local.letter (Dec things)) (a ∷ []) s.actors h
   every_step s (blocks a c mail at may) h = every_here s.actors a _ (record c { reported = true }) mail at (local.block a c mail may (h a c mail at)) h
   every_step s (hears note later is) h = h
   every_step s (scans is) h = every_asked (closed_set s.detector) _ s.actors h
-  every_step s (reaps number token is) h = every_reap Q (λ things. local.letter (Dec things)) token.members token.members [] s.actors h
+  every_step s (reaps number token is) h = every_reap Q (λ things. local.letter (Dec things)) token.members s.actors h
 
   -- where the state has this mode
   pub every_next : (s t : State) (e : Event) → s.options.trace ≡ trace → next s e ≡ Goes t → Every Q s.actors → Every Q t.actors

@@ -358,4 +358,4 @@ module _ (all : Thing → Option Row) (ps : List Person) (s : Actors) (inv : Kee
 
   pub reap_keeps_roots : KeepsCounts options.Roots all ps (reap_members ms s)
   reap_keeps_roots = reap_put options.Roots all ps s inv ms ins is_sealed held_none loads_none
-      (every_reap (IsRootsAt all) (λ es. roots_push all (Dec es) tt (λ x. (letter_Dec x es).0)) ms ms [] s inv.sound)
+      (every_reap (IsRootsAt all) (λ es. roots_push all (Dec es) tt (λ x. (letter_Dec x es).0)) ms s inv.sound)
