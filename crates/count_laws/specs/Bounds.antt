@@ -10,6 +10,7 @@ use Rattle.machine_rules.specs.Next.{next}
 use Rattle.machine_rules.specs.Options.{Options}
 use Rattle.machine_rules.specs.Run.{IsRun}
 use Rattle.machine_rules.specs.State.{State}
+use Rattle.orca_names.specs.declared.limits.TheConstants.{ACTORS_LIMIT}
 
 -- what the owner counts of a thing, with the increments under way
 abbrev pub owner_count : Thing → Actors → ℕ
@@ -43,4 +44,4 @@ RunsOpenNoMoreTokens =
 abbrev pub RunsMakeFewActors : Type 0
 RunsMakeFewActors =
     (program : Program) (options : Options) (book : List Event) (t : State)
-    → IsRun program options book t → length t.actors ≤ 65536
+    → IsRun program options book t → length t.actors ≤ ACTORS_LIMIT

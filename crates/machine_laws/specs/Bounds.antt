@@ -14,6 +14,7 @@ use Rattle.count_laws.specs.Bounds.{owner_count}
 use Rattle.machine_rules.specs.Options.{Options}
 use Rattle.machine_rules.specs.Run.{IsRun}
 use Rattle.machine_rules.specs.State.{State}
+use Rattle.orca_names.specs.declared.limits.TheConstants.{BOOK_LIMIT}
 
 -- something holds of each count and of each sum of the balance
 pub record OfEachCount (P : ℕ → Type 0) (actors : Actors) : Type 0 where
@@ -60,6 +61,6 @@ abbrev pub RunsCountInFewBits : Type 0
 RunsCountInFewBits =
     (program : Program) (options : Options) → 0 < options.weight → (book : List Event) (t : State)
     → IsRun program options book t →
-    length book ≤ 100000000 → options.weight ≤ 65536 →
+    length book ≤ BOOK_LIMIT → options.weight ≤ 65536 →
     OfEachCount (λ n. n < 2 ^ 43) t.actors × OfTold (λ n. n < 2 ^ 43) t
     × (t.detector.opened < 2 ^ 43) × ((x : ℕ) → told_on_by x t.detector.kept < 2 ^ 59)

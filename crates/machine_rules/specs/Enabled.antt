@@ -12,6 +12,7 @@ use Rattle.machine_rules.specs.Detect.{acked_token}
 use Rattle.machine_rules.specs.Go.{needed, turn_of_cell}
 use Rattle.machine_rules.specs.Guards.{may_block, may_collect, may_go, may_leave, may_take}
 use Rattle.machine_rules.specs.State.{State}
+use Rattle.orca_names.specs.declared.limits.TheConstants.{ACTORS_LIMIT}
 
 -- the actor is present, and its cell and its letters are so
 abbrev pub IsPresentWith : State → ℕ → (Cell → List Letter → Type 0) → Type 0
@@ -41,4 +42,4 @@ pub record IsRefusedAsFull (s : State) (e : Event) : Type 0 where
   pub register : ℕ
   pub held : needed s.options.trace s.program actor cell frame ≡ None
   pub makes : (turn_of_cell s.options.trace s.program actor cell frame).act ≡ New kind register
-  pub made : 65536 ≤ length s.actors
+  pub made : ACTORS_LIMIT ≤ length s.actors

@@ -24,6 +24,7 @@ use Rattle.orca_names.specs.declared.trace.Trace.TheVariants.{Deep, Roots}
 use Rattle.event_rule.specs.Runs.{Step, NotEnabled, IsFull, Goes}
 use Rattle.plain_rules.specs.Machine.{stopped_at, with_name}
 use Rattle.machine_rules.specs.State.{State}
+use Rattle.orca_names.specs.declared.limits.TheConstants.{ACTORS_LIMIT}
 
 -- what a turn reads, over the rows that the actor has
 abbrev pub setting_of : Trace → Program → ℕ → Cell → Setting
@@ -131,7 +132,7 @@ act_in trace s a c mail frame stop (Print value) =
           ∷ [];
     })
 act_in trace s a c mail frame stop (New kind register) =
-    if nat_lt (length s.actors) 65536
+    if nat_lt (length s.actors) ACTORS_LIMIT
     then Goes
     (with_turn_kept s stop
     (make s.options.weight a

@@ -25,6 +25,7 @@ use Rattle.machine_rules.specs.Guards.{may_block, may_collect, may_leave}
 use Rattle.orca_names.specs.declared.trace.Trace.{Trace}
 use Rattle.machine_rules.specs.State.{State}
 use Rattle.machine_rules.specs.Take.{cell_after, note_of, notes_after}
+use Rattle.orca_names.specs.declared.limits.TheConstants.{ACTORS_LIMIT}
 
 -- ---- a turn
 
@@ -87,7 +88,7 @@ pub data IsStep (trace : Trace) (s : State) : Event → State → Type 0 where
       })
   -- it makes an actor, where there is room
   makes : (a : ℕ) (c : Cell) (mail : List Letter) (frame : Frame) (kind register : ℕ)
-      → StopsAt trace s a c mail frame (act.New kind register) → length s.actors < 65536
+      → StopsAt trace s a c mail frame (act.New kind register) → length s.actors < ACTORS_LIMIT
       → IsStep trace s (Go a) (state_kept trace s a c frame
       (make s.options.weight a
       (cell_kept_in trace s a c frame

@@ -14,6 +14,7 @@ use Rattle.turn_rules.specs.Segment.{Stop, segment_of}
 use Rattle.event_rule.specs.Runs.{Step, NotEnabled, IsFull, Goes}
 use Rattle.plain_rules.specs.declared.PlainActor.{PlainActor}
 use Rattle.plain_rules.specs.declared.PlainLetter.{PlainLetter}
+use Rattle.orca_names.specs.declared.limits.TheConstants.{ACTORS_LIMIT}
 
 -- all actors ever made, by number; what was printed; and the events so far
 pub record PlainState : Type 0 where
@@ -133,7 +134,7 @@ after_act s a frame fields made (Post to behaviour args) =
     (with_letter (with_turn s.actors a (Some frame) fields made) to
     (record { behaviour = behaviour; args = args })) s.prints)
 after_act s a frame fields made (New kind register) =
-    if nat_lt (length s.actors) 65536
+    if nat_lt (length s.actors) ACTORS_LIMIT
     then Goes
     (next_state s
     (with_turn s.actors a (Some (with_name frame register (length s.actors))) fields made
