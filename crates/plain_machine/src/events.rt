@@ -2,7 +2,7 @@
 
 ghost use Rattle.std.specs.Prelude.{◌≡◌, ℕ, ◌+◌, ◌<◌, length, map, slice_get, slice_index_or, IsOk, IsErr, IfSome, IfErr, OnOk, OnErr};
 ghost use Rattle.orca_names.specs.declared.names.Value.TheVariants.{Null};
-ghost use Rattle.behaviour_code.specs.Good.{ProgramIsGood};
+ghost use Rattle.behaviour_code.specs.WellFormed.{IsWellFormed};
 ghost use Rattle.machine_rules.specs.Plain.{Goes, after_act, plain_go};
 ghost use Rattle.plain_machine.specs.Faults.{Faulted};
 ghost use Rattle.plain_machine.specs.State.{state_of};
@@ -51,7 +51,7 @@ fn commit(
     made: &[Row],
     deed: &Deed<'_>,
 ) -> Result<(), PlainFault>
-    requires good { ProgramIsGood program.now }
+    requires good { IsWellFormed program.now }
     requires there { a < length actors.old }
     requires rows { IfSome (slice_get actors.old a) (has_rows stand.now) }
     requires gone { (steps : ℕ) → plain_go (state_of program.now actors.old prints.old.items steps) a

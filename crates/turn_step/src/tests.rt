@@ -1,10 +1,11 @@
 // Examples from outside of the contracts: each instruction, the edges of what it reads, and the acts.
 
 ghost use Rattle.std.specs.Prelude.{◌≡◌, ◌∷◌, ◌&&◌, ◌==◌, ◌<◌, ◌≤◌, [], true, false, None, Some, Contains, if◌then◌else◌, length, IfOk, IfSome};
+ghost use Rattle.std.specs.List.{AllByRecursion};
 ghost use Rattle.std.proofs.Common.{refl, sym, arith};
 ghost use Rattle.std.proofs.lemmas.Bool.{and_parts, eqb-true};
 ghost use Rattle.std.proofs.lemmas.Option.{none-some};
-ghost use Rattle.behaviour_code.specs.Good.{Each, InstrFits, ProgramIsGood, name_in};
+ghost use Rattle.behaviour_code.specs.WellFormed.{InstrFits, IsWellFormed, name_in};
 
 use crate::{Act, Frame, RegisterFile, segment};
 use behaviour_check::{CheckFault, check};
@@ -66,8 +67,8 @@ impl Rows for OneRow {
 // second kind has nothing.
 fn program(alloc: Global, body: Vec<Instr>) -> Result<Program, AllocError>
     requires short { length body.items ≤ 1024 }
-    requires good { Each (λ i. InstrFits i × IfSome (name_in i) (λ n. n < 2)) body.items }
-    ensures { IfOk result ProgramIsGood }
+    requires good { AllByRecursion (λ i. InstrFits i × IfSome (name_in i) (λ n. n < 2)) body.items }
+    ensures { IfOk result IsWellFormed }
 {
     let mut names = Names::new(alloc);
     let main = names.intern("Main")?;
@@ -105,7 +106,7 @@ struct Left {
 // A turn of actor 4 from a place of the body on, over the row of its object 2; its next object is 3.
 fn turn(alloc: Global, body: Vec<Instr>, place: u32) -> Result<Left, Fail>
     requires short { length body.items ≤ 1024 }
-    requires good { Each (λ i. InstrFits i × IfSome (name_in i) (λ n. n < 2)) body.items }
+    requires good { AllByRecursion (λ i. InstrFits i × IfSome (name_in i) (λ n. n < 2)) body.items }
 {
     let code = check(program(alloc, body)?)?;
     let values = [
