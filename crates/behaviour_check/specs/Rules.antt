@@ -4,7 +4,7 @@ use Rattle.std.specs.List.{enumerate_from, flat_map, list_any}
 use Rattle.std.specs.Option.{option_map_or, option_to_list}
 use Rattle.orca_names.specs.declared.limits.TheConstants.{REGISTERS}
 use Rattle.behaviour_code.specs.Find.{is_kind, is_label, start_name}
-use Rattle.behaviour_code.specs.Good.{ProgramIsGood}
+use Rattle.behaviour_code.specs.WellFormed.{IsWellFormed}
 use Rattle.behaviour_code.specs.declared.instr.Instr.{Instr}
 use Rattle.behaviour_code.specs.declared.instr.Instr.TheVariants as I
 use Rattle.behaviour_code.specs.declared.code.Behaviour.{Behaviour}
@@ -100,5 +100,5 @@ first_broken p = slice_get (faults p) 0
 
 -- a program that some text gives, and that keeps the rules
 pub record IsChecked (p : Program) : Type 0 where
-  pub good : ProgramIsGood p
+  pub good : IsWellFormed p
   pub kept : first_broken p ≡ None

@@ -2,7 +2,7 @@
 
 ghost use Rattle.std.specs.Prelude.{◌≡◌, Some, None, IfOk, IfErr, slice_get};
 ghost use Rattle.std.specs.List.{flat_map};
-ghost use Rattle.behaviour_code.specs.Good.{ProgramIsGood};
+ghost use Rattle.behaviour_code.specs.WellFormed.{IsWellFormed};
 ghost use Rattle.behaviour_check.specs.Rules.{behaviour_faults, first_broken, kind_faults, numbered, step_faults};
 
 use crate::checked::{CheckFault, Checked};
@@ -103,7 +103,7 @@ pub(crate) fn first_fault(program: &Program) -> Option<CheckFault>
 /// # Errors
 /// Exactly where a rule fails: the first place, and at it the lowest rule. The program is dropped.
 pub fn check(program: Program) -> Result<Checked, CheckFault>
-    requires { ProgramIsGood program }
+    requires { IsWellFormed program }
     ensures ok { IfOk result (λ checked. (checked ≡ program) × (first_broken program ≡ None)) }
     ensures fault { IfErr result (λ fault. first_broken program ≡ Some fault) }
 {

@@ -1,3 +1,3 @@
 pub mod Find
-pub mod Good
 pub mod Names
+pub mod WellFormed

@@ -1,16 +1,16 @@
 -- Names and their texts.
 use Rattle.std.specs.Prelude.{ℕ, List, [], ◌∷◌, ◌++◌, ◌||◌, ◌&&◌, ◌==◌, Bool, if◌then◌else◌, bytes_eq, length, nat_le, slice_index_or}
+use Rattle.std.specs.Char.{is_ascii_alphanumeric}
 use Rattle.std.specs.List.{list_all, list_any, position_or_len}
+use Rattle.orca_names.specs.declared.limits.TheConstants.{NAME_LIMIT}
 
 -- a letter, a digit or _
 abbrev pub is_name_byte : ℕ → Bool
-is_name_byte b =
-    (nat_le 48 b && nat_le b 57) || (nat_le 65 b && nat_le b 90) || (b == 95)
-    || (nat_le 97 b && nat_le b 122)
+is_name_byte b = is_ascii_alphanumeric b || (b == 95)
 
 -- 1 to 32 letters, digits or _
 abbrev pub is_name : List ℕ → Bool
-is_name text = nat_le 1 (length text) && nat_le (length text) 32 && list_all is_name_byte text
+is_name text = nat_le 1 (length text) && nat_le (length text) NAME_LIMIT && list_all is_name_byte text
 
 -- the text of a name, empty where it has none
 abbrev pub text_of : List (List ℕ) → ℕ → List ℕ

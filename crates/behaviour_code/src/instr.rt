@@ -4,6 +4,7 @@ ghost use Rattle.std.specs.Prelude.{◌≡◌, ◌≤◌, length};
 ghost use Rattle.behaviour_code.specs.Find.{is_label};
 
 use crate::names::Name;
+use orca_names::VALUES_LIMIT;
 use plain_list::Listed;
 use std::marker::Model;
 
@@ -15,12 +16,13 @@ pub struct Registers {
 
 impl Model for Registers {
     ghost use Rattle.std.specs.Prelude.{◌≤◌, List, ℕ, length};
+    ghost use Rattle.orca_names.specs.declared.limits.TheConstants.{VALUES_LIMIT};
 
     ghost Value = { List ℕ };
 
     ghost view = { λ r. r.numbers };
 
-    ghost invariant = { λ r. length r.numbers ≤ 8 };
+    ghost invariant = { λ r. length r.numbers ≤ VALUES_LIMIT };
 
     ghost inverse = { λ numbers. record { numbers = numbers } };
 }
@@ -28,7 +30,7 @@ impl Model for Registers {
 impl Registers {
     /// The registers of these numbers. It takes no memory.
     pub fn of(numbers: Vec<u64>) -> Registers
-        requires { length numbers.items ≤ 8 }
+        requires { length numbers.items ≤ VALUES_LIMIT }
         ensures { result ≡ numbers.items }
     {
         Registers {
@@ -39,7 +41,7 @@ impl Registers {
     /// The numbers, in their order.
     pub fn as_slice(&self) -> &[u64]
         ensures value { result.now ≡ self.now }
-        ensures room { length result.now ≤ 8 }
+        ensures room { length result.now ≤ VALUES_LIMIT }
     {
         let numbers = &self.numbers;
         numbers.as_slice()
@@ -54,12 +56,13 @@ pub struct RowRegisters {
 
 impl Model for RowRegisters {
     ghost use Rattle.std.specs.Prelude.{◌≤◌, List, ℕ, length};
+    ghost use Rattle.orca_names.specs.declared.limits.TheConstants.{VALUES_LIMIT};
 
     ghost Value = { List ℕ };
 
     ghost view = { λ r. r.numbers };
 
-    ghost invariant = { λ r. (1 ≤ length r.numbers) × (length r.numbers ≤ 8) };
+    ghost invariant = { λ r. (1 ≤ length r.numbers) × (length r.numbers ≤ VALUES_LIMIT) };
 
     ghost inverse = { λ numbers. record { numbers = numbers } };
 }
@@ -67,7 +70,7 @@ impl Model for RowRegisters {
 impl RowRegisters {
     /// The registers of these numbers. It takes no memory.
     pub fn of(numbers: Vec<u64>) -> RowRegisters
-        requires { (1 ≤ length numbers.items) × (length numbers.items ≤ 8) }
+        requires { (1 ≤ length numbers.items) × (length numbers.items ≤ VALUES_LIMIT) }
         ensures { result ≡ numbers.items }
     {
         RowRegisters {
@@ -78,7 +81,7 @@ impl RowRegisters {
     /// The numbers, in their order.
     pub fn as_slice(&self) -> &[u64]
         ensures value { result.now ≡ self.now }
-        ensures room { (1 ≤ length result.now) × (length result.now ≤ 8) }
+        ensures room { (1 ≤ length result.now) × (length result.now ≤ VALUES_LIMIT) }
     {
         let numbers = &self.numbers;
         numbers.as_slice()

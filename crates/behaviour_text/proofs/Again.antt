@@ -1,5 +1,6 @@
 -- A text of a program is read as that program.
 use Rattle.std.proofs.Common.{option_map, ◌≡◌, ℕ, ◌+◌, ◌<◌, ◌≤◌, ◌^◌, ◌||◌, Bool, true, false, cond, not, List, [], ◌∷◌, ◌++◌, length, map, flat_map, refl, ap, ap₂, sym, ◌∙◌, subst, arith, Option, Some, None, Result, Ok, Err, if◌then◌else◌, le-ltb, min, decimal, append-nil, append_assoc, length-append, zero, suc, IfOk, IfErr, OnOk}
+use Rattle.std.specs.List.{AllByRecursion}
 use Rattle.text_lines.specs.Lines.{line_fault, lines_of}
 use Rattle.text_lines.specs.declared.LineKind.{LineKind}
 use Rattle.behaviour_text.proofs.Sound.{text_sound}
@@ -8,7 +9,7 @@ use Rattle.behaviour_text.proofs.Said.{Lines}
 use Rattle.behaviour_text.proofs.Reread.{number_read, numeral_fits, name_fits, nones}
 use Rattle.behaviour_text.proofs.Whole.{IsFront, front_before, number_found, Takes, takes_word, instr_takes}
 use Rattle.std.specs.Option.{option_or}
-use Rattle.behaviour_code.specs.Good.{Each, name_in, AreApart, NameFits, instr_names, body_names, behaviours_names, kinds_names, InstrIsGood, BehaviourIsGood, KindIsGood, ProgramIsGood}
+use Rattle.behaviour_code.specs.WellFormed.{name_in, AreApart, NameFits, instr_names, body_names, behaviours_names, kinds_names, InstrIsWellFormed, BehaviourIsWellFormed, KindIsWellFormed, IsWellFormed}
 use Rattle.behaviour_code.specs.Names.{is_name, text_of, with_text, interned}
 use Rattle.behaviour_code.specs.declared.code.Behaviour.{Behaviour}
 use Rattle.behaviour_code.specs.declared.code.Kind.{Kind}
@@ -106,7 +107,7 @@ front_kinds all names text [] h = h
 front_kinds all names text (k ∷ ks) h =
     front_before names all (text k.name) (front_behaviours all (with_text names (text k.name)) text k.behaviours (front_kinds all (behaviours_names text (with_text names (text k.name)) k.behaviours) text ks h))
 
-body_reads : (all : List (List ℕ)) (r : Reader) (is : List Instr) → AreApart all → r.stage ≡ InBehaviour → length r.body + length is ≤ 1024 → Each (InstrIsGood all) is →
+body_reads : (all : List (List ℕ)) (r : Reader) (is : List Instr) → AreApart all → r.stage ≡ InBehaviour → length r.body + length is ≤ 1024 → AllByRecursion (InstrIsWellFormed all) is →
     IsFront (body_names (text_of all) r.names is) all →
     ReadsTo r (map (instr_words (text_of all)) is) (record r { names = body_names (text_of all) r.names is; body = r.body ++ is })
 body_reads all r [] apart stage few good front = ap (λ (b : List Instr). let s : Reader = record r { body = b } in s) (sym (append-nil r.body))
@@ -128,7 +129,7 @@ pub record Adds (r s : Reader) (names : List (List ℕ)) (bs : List Behaviour) :
   pub fields_are : s.fields ≡ r.fields
   pub behaviours_are : s.behaviours ≡ r.behaviours ++ bs
 
-behaviour_reads : (all : List (List ℕ)) (r : Reader) (b : Behaviour) → AreApart all → r.stage ≡ InKind → length r.behaviours < 64 → BehaviourIsGood all b →
+behaviour_reads : (all : List (List ℕ)) (r : Reader) (b : Behaviour) → AreApart all → r.stage ≡ InKind → length r.behaviours < 64 → BehaviourIsWellFormed all b →
     IsFront (body_names (text_of all) (with_text r.names (text_of all b.name)) b.body) all →
     (s : Reader) × ReadsTo r (behaviour_lines (text_of all) b) s × Adds r s (body_names (text_of all) (with_text r.names (text_of all b.name)) b.body) (b ∷ [])
 unfolding with_on with_end
@@ -148,7 +149,7 @@ behaviour_reads all r b apart stage few good front =
       record { names_are = refl; kinds_are = refl; stage_is = refl; name_is = refl; fields_are = refl; behaviours_are = refl },
     )
 
-behaviours_read : (all : List (List ℕ)) (r : Reader) (bs : List Behaviour) → AreApart all → r.stage ≡ InKind → length r.behaviours + length bs ≤ 64 → Each (BehaviourIsGood all) bs →
+behaviours_read : (all : List (List ℕ)) (r : Reader) (bs : List Behaviour) → AreApart all → r.stage ≡ InKind → length r.behaviours + length bs ≤ 64 → AllByRecursion (BehaviourIsWellFormed all) bs →
     IsFront (behaviours_names (text_of all) r.names bs) all →
     (s : Reader) × ReadsTo r (flat_map (behaviour_lines (text_of all)) bs) s × Adds r s (behaviours_names (text_of all) r.names bs) bs
 behaviours_read all r [] apart stage few good front =
@@ -194,7 +195,7 @@ kind_same s k e f b =
     ap (λ (n : ℕ). let x : Kind = record { name = n; fields = s.fields; behaviours = s.behaviours } in x) e
     ∙ ap₂ (λ (n : ℕ) (bs : List Behaviour). let x : Kind = record { name = k.name; fields = n; behaviours = bs } in x) f b
 
-kind_read : (all : List (List ℕ)) (r : Reader) (k : Kind) → AreApart all → (r.stage ≡ InBehaviour → ⊥) → length (closed_at r.stage r).kinds < 256 → KindIsGood all k →
+kind_read : (all : List (List ℕ)) (r : Reader) (k : Kind) → AreApart all → (r.stage ≡ InBehaviour → ⊥) → length (closed_at r.stage r).kinds < 256 → KindIsWellFormed all k →
     IsFront (behaviours_names (text_of all) (with_text r.names (text_of all k.name)) k.behaviours) all →
     (s : Reader) × ReadsTo r (kind_lines (text_of all) k) s × AddsKinds r s (behaviours_names (text_of all) (with_text r.names (text_of all k.name)) k.behaviours) (k ∷ [])
 unfolding with_kind closed
@@ -228,7 +229,7 @@ kind_read all r k apart away few good front =
         by_stage InKind = refl
         by_stage InBehaviour = refl
 
-kinds_read : (all : List (List ℕ)) (r : Reader) (ks : List Kind) → AreApart all → (r.stage ≡ InBehaviour → ⊥) → length (closed_at r.stage r).kinds + length ks ≤ 256 → Each (KindIsGood all) ks →
+kinds_read : (all : List (List ℕ)) (r : Reader) (ks : List Kind) → AreApart all → (r.stage ≡ InBehaviour → ⊥) → length (closed_at r.stage r).kinds + length ks ≤ 256 → AllByRecursion (KindIsWellFormed all) ks →
     IsFront (kinds_names (text_of all) r.names ks) all →
     (s : Reader) × ReadsTo r (flat_map (kind_lines (text_of all)) ks) s × AddsKinds r s (kinds_names (text_of all) r.names ks) ks
 kinds_read all r [] apart away few good front = (r, refl, record { names_are = refl; ended = away; kinds_are = sym (append-nil (closed_at r.stage r).kinds) })
@@ -271,7 +272,7 @@ ended_ok n r Start away = refl
 ended_ok n r InKind away = refl
 ended_ok n r InBehaviour away = absurd (away refl)
 
-pub read_back : (n : ℕ) (r s : Reader) (lines : List (List ℕ)) → Each (λ line. line_fault line ≡ None) lines → ReadsTo r (said_lines lines) s → (s.stage ≡ InBehaviour → ⊥) → read_from n r lines ≡ Ok s
+pub read_back : (n : ℕ) (r s : Reader) (lines : List (List ℕ)) → AllByRecursion (λ line. line_fault line ≡ None) lines → ReadsTo r (said_lines lines) s → (s.stage ≡ InBehaviour → ⊥) → read_from n r lines ≡ Ok s
 unfolding read_from lowest_fault
 read_back n r s [] clean e away = ap (λ (x : Reader). read_end n x x.stage) e ∙ ended_ok n s s.stage away
 read_back n r s (line ∷ lines) clean h away =
@@ -280,7 +281,7 @@ read_back n r s (line ∷ lines) clean h away =
     ∙ read_back (n + 1) (with_words r (words_of line)) s lines clean.1 step.goes_on away
 
 -- a text of a program is read as that program
-pub text_again : (bytes : List ℕ) (p : Program) → Each (λ line. line_fault line ≡ None) (lines_of bytes) → said_lines (lines_of bytes) ≡ program_lines p → ProgramIsGood p → read_text bytes ≡ Ok p
+pub text_again : (bytes : List ℕ) (p : Program) → AllByRecursion (λ line. line_fault line ≡ None) (lines_of bytes) → said_lines (lines_of bytes) ≡ program_lines p → IsWellFormed p → read_text bytes ≡ Ok p
 unfolding read_text start closed
 text_again bytes p clean lines good =
     let whole : IsFront (kinds_names (text_of p.names) [] p.kinds) p.names =
@@ -291,24 +292,24 @@ text_again bytes p clean lines good =
     ap finish (read_back 0 start s (lines_of bytes) clean said read.2.ended)
     ∙ ap₂ (λ (ks : List Kind) (ns : List (List ℕ)). let x : Result Program (ℕ × ℕ) = Ok (record { kinds = ks; names = ns }) in x) read.2.kinds_are (read.2.names_are ∙ good.in_order)
 
-all_each : (lines : List (List ℕ)) → AreClean lines → Each (λ line. line_fault line ≡ None) lines
+all_each : (lines : List (List ℕ)) → AreClean lines → AllByRecursion (λ line. line_fault line ≡ None) lines
 all_each [] h = tt
 all_each (l ∷ ls) h = (h zero [] (omega arith), all_each ls (λ i d k. h (suc i) d (omega arith)))
 
-pub again : (bytes : List ℕ) (p : Program) → IsText bytes p → ProgramIsGood p → read_text bytes ≡ Ok p
+pub again : (bytes : List ℕ) (p : Program) → IsText bytes p → IsWellFormed p → read_text bytes ≡ Ok p
 again bytes p text good = text_again bytes p (all_each (lines_of bytes) text.clean) text.lines good
 
 -- a program is the only one that a text says
-pub only_one : (bytes : List ℕ) (r : Result Program TextErr) → IfOk r (λ p. read_text bytes ≡ Ok p) → (p : Program) → IsText bytes p → ProgramIsGood p → IfOk r (λ found. found ≡ p)
+pub only_one : (bytes : List ℕ) (r : Result Program TextErr) → IfOk r (λ p. read_text bytes ≡ Ok p) → (p : Program) → IsText bytes p → IsWellFormed p → IfOk r (λ found. found ≡ p)
 only_one bytes (Ok found) ok p text good = let same : Ok found ≡ Ok p = sym ok ∙ again bytes p text good in cc
 only_one bytes (Err e) ok p text good = tt
 
-refused : (bytes : List ℕ) (e : TextErr) → Tells (fault_of (read_text bytes)) e → IsFault e → (p : Program) → IsText bytes p → ProgramIsGood p → ⊥
+refused : (bytes : List ℕ) (e : TextErr) → Tells (fault_of (read_text bytes)) e → IsFault e → (p : Program) → IsText bytes p → IsWellFormed p → ⊥
 refused bytes (E.Fault line kind) h f p text good = let none = ap fault_of (again bytes p text good) in cc
 refused bytes E.NoMemory h f p text good = f
 
 pub no_program : (bytes : List ℕ) (r : Result Program TextErr) → IfErr r (Tells (fault_of (read_text bytes))) →
-    IfErr r (λ e. IsFault e → (p : Program) → IsText bytes p → ProgramIsGood p → ⊥)
+    IfErr r (λ e. IsFault e → (p : Program) → IsText bytes p → IsWellFormed p → ⊥)
 no_program bytes (Ok p) h = tt
 no_program bytes (Err e) h = refused bytes e h
 

@@ -1,8 +1,9 @@
 -- The canonical text of a program is a text of it.
 use Rattle.behaviour_text.proofs.Choices.{both, and_true, either, neither, or_right, or_false, each_append}
+use Rattle.std.specs.Char.{is_ascii_alphanumeric, is_ascii_digit}
 use Rattle.std.proofs.Common.{◌≡◌, ℕ, ◌+◌, ◌*◌, ◌<◌, ◌≤◌, ◌^◌, ◌||◌, ◌&&◌, ◌==◌, Bool, true, false, cond, not, List, [], ◌∷◌, ◌++◌, length, map, flat_map, filter, refl, ap, ap₂, sym, ◌∙◌, subst, arith, Option, Some, None, if◌then◌else◌, nat_le, leb-true, le-leb, le-ltb, eqb-true, ne_eqb, append-nil, append_assoc, length-append, decimal, zero, suc, All, inl, inr, Ok}
 use Rattle.behaviour_text.proofs.Again.{again}
-use Rattle.std.specs.List.{slice_split, list_any, list_all}
+use Rattle.std.specs.List.{AllByRecursion, slice_split, list_any, list_all}
 use Rattle.std.proofs.lemmas.List.Splits.{slice_split_at, slice_split_none, length-slice_split}
 use Rattle.std.proofs.lemmas.Fmt.{digits_decimal, decimal_nonempty, length-decimal-le}
 use Rattle.text_lines.specs.Lines.{lines_of, without_empty_last, line_fault, is_space, is_allowed}
@@ -10,7 +11,7 @@ use Rattle.text_lines.specs.declared.LineKind.{LineKind}
 use Rattle.text_lines.specs.declared.LineKind.TheVariants.{NotAscii, LongLine}
 use Rattle.text_lines.proofs.Splitting.{more_pieces}
 use Rattle.behaviour_text.proofs.Numerals.{own}
-use Rattle.behaviour_code.specs.Good.{Each, Fits64, NameFits, InstrIsGood, BehaviourIsGood, KindIsGood, ProgramIsGood}
+use Rattle.behaviour_code.specs.WellFormed.{Fits64, NameFits, InstrIsWellFormed, BehaviourIsWellFormed, KindIsWellFormed, IsWellFormed}
 use Rattle.behaviour_code.specs.Names.{is_name_byte, is_name, text_of}
 use Rattle.behaviour_code.specs.declared.code.Behaviour.{Behaviour}
 use Rattle.behaviour_code.specs.declared.code.Kind.{Kind}
@@ -18,7 +19,7 @@ use Rattle.behaviour_code.specs.declared.code.Program.{Program}
 use Rattle.behaviour_code.specs.declared.instr.Instr.{Instr}
 use Rattle.behaviour_text.specs.Reading.{read_text}
 use Rattle.behaviour_text.specs.Text.{register, field, instr_words, behaviour_begin, behaviour_end, kind_begin, behaviour_lines, kind_lines, program_lines, speaks, said_lines, AreClean, IsText, rest_of_line, line_of, canonical}
-use Rattle.behaviour_text.specs.Words.{words_of, is_digit, is_word}
+use Rattle.behaviour_text.specs.Words.{words_of, is_word}
 use Rattle.behaviour_code.specs.declared.instr.Instr.TheVariants as I
 
 abbrev is_visible : ℕ → Bool
@@ -73,7 +74,7 @@ some_kept : (w : List ℕ) → 0 < length w → is_word w ≡ true
 some_kept [] h = absurd (omega arith)
 some_kept (b ∷ bs) h = ap not (ne_eqb (length (b ∷ bs)) 0 (λ e. omega arith))
 
-words_back : (w : List ℕ) (ws : List (List ℕ)) → Word w → Each Word ws → filter is_word (slice_split is_space (w ++ rest_plain ws)) ≡ w ∷ ws
+words_back : (w : List ℕ) (ws : List (List ℕ)) → Word w → AllByRecursion Word ws → filter is_word (slice_split is_space (w ++ rest_plain ws)) ≡ w ∷ ws
 words_back w [] v vs =
     ap (filter is_word) (ap (slice_split is_space) (append-nil w) ∙ slice_split_none is_space w (no_spaces w v.seen))
     ∙ ap (λ (b : Bool). cond b (w ∷ []) []) (some_kept w v.some)
@@ -81,7 +82,7 @@ words_back w (x ∷ xs) v vs =
     ap (filter is_word) (slice_split_at is_space w 32 (x ++ rest_plain xs) (no_spaces w v.seen) refl)
     ∙ ap₂ (λ (b : Bool) (t : List (List ℕ)). cond b (w ∷ t) t) (some_kept w v.some) (words_back x xs vs.0 vs.1)
 
-words_plain : (ws : List (List ℕ)) → Each Word ws → words_of (plain ws) ≡ ws
+words_plain : (ws : List (List ℕ)) → AllByRecursion Word ws → words_of (plain ws) ≡ ws
 words_plain [] h = refl
 words_plain (w ∷ ws) h = words_back w ws h.0 h.1
 
@@ -94,11 +95,11 @@ none_in : (p : ℕ → Bool) (w : List ℕ) → ((b : ℕ) → is_visible b ≡ 
 none_in p [] f h = refl
 none_in p (b ∷ bs) f h = or_false (p b) (list_any p bs) (f b (both _ _ h).0) (none_in p bs f (both _ _ h).1)
 
-none_in_rest : (p : ℕ → Bool) (ws : List (List ℕ)) → p 32 ≡ false → ((b : ℕ) → is_visible b ≡ true → p b ≡ false) → Each Word ws → list_any p (rest_plain ws) ≡ false
+none_in_rest : (p : ℕ → Bool) (ws : List (List ℕ)) → p 32 ≡ false → ((b : ℕ) → is_visible b ≡ true → p b ≡ false) → AllByRecursion Word ws → list_any p (rest_plain ws) ≡ false
 none_in_rest p [] s f h = refl
 none_in_rest p (w ∷ ws) s f h = or_false (p 32) (list_any p (w ++ rest_plain ws)) s (any_append p w (rest_plain ws) (none_in p w f h.0.seen) (none_in_rest p ws s f h.1))
 
-none_in_line : (p : ℕ → Bool) (ws : List (List ℕ)) → p 32 ≡ false → ((b : ℕ) → is_visible b ≡ true → p b ≡ false) → Each Word ws → list_any p (plain ws) ≡ false
+none_in_line : (p : ℕ → Bool) (ws : List (List ℕ)) → p 32 ≡ false → ((b : ℕ) → is_visible b ≡ true → p b ≡ false) → AllByRecursion Word ws → list_any p (plain ws) ≡ false
 none_in_line p [] s f h = refl
 none_in_line p (w ∷ ws) s f h = any_append p w (rest_plain ws) (none_in p w f h.0.seen) (none_in_rest p ws s f h.1)
 
@@ -122,7 +123,7 @@ plain_length (w ∷ ws) = let r = rest_length ws in omega (arith, length-append 
 
 -- a line of a program
 record Line (ws : List (List ℕ)) : Type 0 where
-  words : Each Word ws
+  words : AllByRecursion Word ws
   short : room ws ≤ 256
   speaks : speaks ws ≡ true
 
@@ -136,7 +137,7 @@ line_clean ws h =
 no_feed : (b : ℕ) → is_visible b ≡ true → (b == 10) ≡ false
 no_feed b h = let low = (seen b h).low in ne_eqb b 10 (λ e. omega arith)
 
-lines_back : (lss : List (List (List ℕ))) → Each Line lss → lines_of (flat_map line_of lss) ≡ map plain lss
+lines_back : (lss : List (List (List ℕ))) → AllByRecursion Line lss → lines_of (flat_map line_of lss) ≡ map plain lss
 lines_back [] h = refl
 lines_back (ws ∷ lss) h =
     let rest = flat_map line_of lss in
@@ -146,19 +147,19 @@ lines_back (ws ∷ lss) h =
     ∙ more_pieces (plain ws) (slice_split (λ b. b == 10) rest) (omega (arith, length-slice_split (λ b. b == 10) rest))
     ∙ ap (λ (t : List (List ℕ)). plain ws ∷ t) (lines_back lss h.1)
 
-said_back : (lss : List (List (List ℕ))) → Each Line lss → said_lines (map plain lss) ≡ lss
+said_back : (lss : List (List (List ℕ))) → AllByRecursion Line lss → said_lines (map plain lss) ≡ lss
 said_back [] h = refl
 said_back (ws ∷ lss) h =
     ap₂ (λ (x : List (List ℕ)) (t : List (List (List ℕ))). cond (speaks x) (x ∷ t) t) (words_plain ws h.0.words) (said_back lss h.1)
     ∙ ap (λ (b : Bool). cond b (ws ∷ lss) lss) h.0.speaks
 
-clean_back : (lss : List (List (List ℕ))) → Each Line lss → AreClean (map plain lss)
+clean_back : (lss : List (List (List ℕ))) → AllByRecursion Line lss → AreClean (map plain lss)
 clean_back [] h i d k = absurd (omega arith)
 clean_back (ws ∷ lss) h zero d k = line_clean ws h.0
 clean_back (ws ∷ lss) h (suc i) d k = clean_back lss h.1 i d (omega arith)
 
 -- the words of a program
-seen_digits : (ds : List ℕ) → list_all is_digit ds ≡ true → list_all is_visible ds ≡ true
+seen_digits : (ds : List ℕ) → list_all is_ascii_digit ds ≡ true → list_all is_visible ds ≡ true
 seen_digits [] h = refl
 seen_digits (d ∷ ds) h =
     let p = both (nat_le 48 d) (nat_le d 57) (both _ _ h).0 in
@@ -180,15 +181,15 @@ field_word n h = record { some = omega arith; seen = (decimal_word n h).seen }
 
 seen_name_byte : (b : ℕ) → is_name_byte b ≡ true → is_visible b ≡ true
 seen_name_byte b h =
-    elim (either (((nat_le 48 b && nat_le b 57) || (nat_le 65 b && nat_le b 90)) || (b == 95)) (nat_le 97 b && nat_le b 122) h) [
-      | inl front ↦ elim (either ((nat_le 48 b && nat_le b 57) || (nat_le 65 b && nat_le b 90)) (b == 95) front) [
-        | inl letters ↦ elim (either (nat_le 48 b && nat_le b 57) (nat_le 65 b && nat_le b 90) letters) [
+    elim (either (is_ascii_alphanumeric b) (b == 95) h) [
+      | inl front ↦ elim (either ((nat_le 48 b && nat_le b 57) || (nat_le 65 b && nat_le b 90)) (nat_le 97 b && nat_le b 122) front) [
+        | inl first ↦ elim (either (nat_le 48 b && nat_le b 57) (nat_le 65 b && nat_le b 90) first) [
           | inl digit ↦ within 48 57 digit (omega arith) (omega arith)
           | inr capital ↦ within 65 90 capital (omega arith) (omega arith)
         ]
-        | inr under ↦ let same : b ≡ 95 = eqb-true b 95 under in visible_from b (omega arith) (omega arith)
+        | inr letter ↦ within 97 122 letter (omega arith) (omega arith)
       ]
-      | inr letter ↦ within 97 122 letter (omega arith) (omega arith)
+      | inr under ↦ let same : b ≡ 95 = eqb-true b 95 under in visible_from b (omega arith) (omega arith)
     ]
   where
     within : (low high : ℕ) → (nat_le low b && nat_le b high) ≡ true → 33 ≤ low → high ≤ 126 → is_visible b ≡ true
@@ -213,7 +214,7 @@ name_word w h =
     let some : 1 ≤ length w = leb-true 1 (length w) b.0 in
     record { word = record { some = omega arith; seen = seen_name w a.1 }; short = leb-true (length w) 32 b.1 }
 
-registers_words : (ns : List ℕ) → All Fits64 ns → Each Word (map register ns)
+registers_words : (ns : List ℕ) → All Fits64 ns → AllByRecursion Word (map register ns)
 registers_words [] h = tt
 registers_words (n ∷ ns) h = (register_word n (h zero 0 (omega arith)), registers_words ns (λ i d k. h (suc i) d (omega arith)))
 
@@ -224,7 +225,7 @@ registers_room (n ∷ ns) h =
     let s = decimal_short n (h zero 0 (omega arith)) in
     omega arith
 
-instr_line : (all : List (List ℕ)) (i : Instr) → InstrIsGood all i → Line (instr_words (text_of all) i)
+instr_line : (all : List (List ℕ)) (i : Instr) → InstrIsWellFormed all i → Line (instr_words (text_of all) i)
 instr_line all (I.Drop d) g = let s_d = decimal_short d g.fits in record { words = (record { some = omega arith; seen = refl }, (register_word d g.fits, tt)); short = omega arith; speaks = refl }
 instr_line all (I.Int d n) g = let s_d = decimal_short d g.fits.0 in let s_n = decimal_short n g.fits.1 in record { words = (record { some = omega arith; seen = refl }, (register_word d g.fits.0, (decimal_word n g.fits.1, tt))); short = omega arith; speaks = refl }
 instr_line all (I.Own d) g = let s_d = decimal_short d g.fits in record { words = (record { some = omega arith; seen = refl }, (register_word d g.fits, tt)); short = omega arith; speaks = refl }
@@ -250,7 +251,7 @@ instr_line all (I.Print a) g = let s_a = decimal_short a g.fits in record { word
 end_line : Line behaviour_end
 end_line = record { words = (record { some = omega arith; seen = refl }, tt); short = omega arith; speaks = refl }
 
-body_lines : (all : List (List ℕ)) (is : List Instr) → Each (InstrIsGood all) is → Each Line (map (instr_words (text_of all)) is)
+body_lines : (all : List (List ℕ)) (is : List Instr) → AllByRecursion (InstrIsWellFormed all) is → AllByRecursion Line (map (instr_words (text_of all)) is)
 body_lines all [] h = tt
 body_lines all (i ∷ is) h = (instr_line all i h.0, body_lines all is h.1)
 
@@ -268,21 +269,21 @@ begin_kind all name n fits small =
     let d = decimal_short n (omega arith) in
     record { words = (record { some = omega arith; seen = refl }, (w.word, (decimal_word n (omega arith), tt))); short = omega arith; speaks = refl }
 
-behaviours_lines : (all : List (List ℕ)) (bs : List Behaviour) → Each (BehaviourIsGood all) bs → Each Line (flat_map (behaviour_lines (text_of all)) bs)
+behaviours_lines : (all : List (List ℕ)) (bs : List Behaviour) → AllByRecursion (BehaviourIsWellFormed all) bs → AllByRecursion Line (flat_map (behaviour_lines (text_of all)) bs)
 behaviours_lines all [] h = tt
 behaviours_lines all (b ∷ bs) h =
     each_append Line (behaviour_lines (text_of all) b) (flat_map (behaviour_lines (text_of all)) bs)
     (begin_on all b.name b.parameters h.0.named h.0.parameters, each_append Line (map (instr_words (text_of all)) b.body) (behaviour_end ∷ []) (body_lines all b.body h.0.body) (end_line, tt))
     (behaviours_lines all bs h.1)
 
-kinds_lines : (all : List (List ℕ)) (ks : List Kind) → Each (KindIsGood all) ks → Each Line (flat_map (kind_lines (text_of all)) ks)
+kinds_lines : (all : List (List ℕ)) (ks : List Kind) → AllByRecursion (KindIsWellFormed all) ks → AllByRecursion Line (flat_map (kind_lines (text_of all)) ks)
 kinds_lines all [] h = tt
 kinds_lines all (k ∷ ks) h =
     each_append Line (kind_lines (text_of all) k) (flat_map (kind_lines (text_of all)) ks)
     (begin_kind all k.name k.fields h.0.named h.0.fields, behaviours_lines all k.behaviours h.0.behaviours) (kinds_lines all ks h.1)
 
 -- the canonical text of a program is a text of it
-pub canonical_text : (p : Program) → ProgramIsGood p → IsText (canonical p) p
+pub canonical_text : (p : Program) → IsWellFormed p → IsText (canonical p) p
 canonical_text p good =
     let lines = kinds_lines p.names p.kinds good.kinds in
     let same = lines_back (program_lines p) lines in
@@ -292,9 +293,9 @@ canonical_text p good =
     }
 
 -- its text is read as that program
-pub canonical_read : (p : Program) → ProgramIsGood p → read_text (canonical p) ≡ Ok p
+pub canonical_read : (p : Program) → IsWellFormed p → read_text (canonical p) ≡ Ok p
 canonical_read p good = again (canonical p) p (canonical_text p good) good
 
 -- the text of no other program
-pub canonical_only : (p q : Program) → ProgramIsGood p → IsText (canonical p) q → ProgramIsGood q → q ≡ p
+pub canonical_only : (p q : Program) → IsWellFormed p → IsText (canonical p) q → IsWellFormed q → q ≡ p
 canonical_only p q good text other = let same : Ok q ≡ Ok p = sym (again (canonical p) q text other) ∙ canonical_read p good in cc

@@ -1,12 +1,13 @@
 -- What is read is a program that has a text.
 use Rattle.std.proofs.Common.{◌≡◌, ℕ, ◌<◌, true, List, [], ◌∷◌, length, flat_map, refl, ap, sym, ◌∙◌, subst, arith, IfSome, Result, Ok, Err, IfOk, slice_index_or, zero, suc}
+use Rattle.std.specs.List.{AllByRecursion}
 use Rattle.text_lines.specs.Lines.{lines_of}
 use Rattle.behaviour_text.proofs.Known.{InstrKnown, BehaviourKnown, KindKnown}
 use Rattle.behaviour_text.proofs.Said.{closed_said}
 use Rattle.behaviour_text.proofs.Sound.{read_sound, closed_known}
 use Rattle.behaviour_text.proofs.Limits.{BehaviourSmall, KindSmall, read_small, closed_small, closed_count}
 use Rattle.behaviour_text.proofs.Named.{NamesOk, read_adds, kinds_same, lines_names}
-use Rattle.behaviour_code.specs.Good.{Each, InstrFits, name_in, NameFits, kinds_names, InstrIsGood, BehaviourIsGood, KindIsGood, ProgramIsGood}
+use Rattle.behaviour_code.specs.WellFormed.{InstrFits, name_in, NameFits, kinds_names, InstrIsWellFormed, BehaviourIsWellFormed, KindIsWellFormed, IsWellFormed}
 use Rattle.behaviour_code.specs.Names.{is_name, text_of}
 use Rattle.behaviour_code.specs.declared.code.Behaviour.{Behaviour}
 use Rattle.behaviour_code.specs.declared.code.Kind.{Kind}
@@ -18,7 +19,7 @@ use Rattle.behaviour_text.specs.declared.errors.TextErr.{TextErr}
 use Rattle.behaviour_text.specs.declared.reader.Reader.{Reader}
 use Rattle.behaviour_code.specs.declared.instr.Instr.TheVariants as I
 
-name_at : (names : List (List ℕ)) (i : ℕ) → Each (λ w. is_name w ≡ true) names → i < length names → is_name (slice_index_or names i []) ≡ true
+name_at : (names : List (List ℕ)) (i : ℕ) → AllByRecursion (λ w. is_name w ≡ true) names → i < length names → is_name (slice_index_or names i []) ≡ true
 name_at [] i h k = absurd (omega arith)
 name_at (n ∷ ns) zero h k = h.0
 name_at (n ∷ ns) (suc i) h k = name_at ns i h.1 (omega arith)
@@ -34,18 +35,18 @@ instr_name names (I.New d k) ok h = name_fits names k ok h
 instr_name names (I.Send to b values) ok h = name_fits names b ok h
 instr_name names _ ok h = tt
 
-instrs_good : (names : List (List ℕ)) (is : List Instr) → NamesOk names → Each (InstrKnown (length names)) is → Each InstrFits is → Each (InstrIsGood names) is
+instrs_good : (names : List (List ℕ)) (is : List Instr) → NamesOk names → AllByRecursion (InstrKnown (length names)) is → AllByRecursion InstrFits is → AllByRecursion (InstrIsWellFormed names) is
 instrs_good names [] ok k s = tt
 instrs_good names (i ∷ is) ok k s = (record { fits = s.0; named = instr_name names i ok k.0 }, instrs_good names is ok k.1 s.1)
 
-behaviours_good : (names : List (List ℕ)) (bs : List Behaviour) → NamesOk names → Each (BehaviourKnown (length names)) bs → Each BehaviourSmall bs → Each (BehaviourIsGood names) bs
+behaviours_good : (names : List (List ℕ)) (bs : List Behaviour) → NamesOk names → AllByRecursion (BehaviourKnown (length names)) bs → AllByRecursion BehaviourSmall bs → AllByRecursion (BehaviourIsWellFormed names) bs
 behaviours_good names [] ok k s = tt
 behaviours_good names (b ∷ bs) ok k s = (
   record { named = name_fits names b.name ok k.0.name; parameters = s.0.few; short = s.0.short; body = instrs_good names b.body ok k.0.body s.0.instrs },
   behaviours_good names bs ok k.1 s.1,
 )
 
-kinds_good : (names : List (List ℕ)) (ks : List Kind) → NamesOk names → Each (KindKnown (length names)) ks → Each KindSmall ks → Each (KindIsGood names) ks
+kinds_good : (names : List (List ℕ)) (ks : List Kind) → NamesOk names → AllByRecursion (KindKnown (length names)) ks → AllByRecursion KindSmall ks → AllByRecursion (KindIsWellFormed names) ks
 kinds_good names [] ok k s = tt
 kinds_good names (x ∷ xs) ok k s = (
   record { named = name_fits names x.name ok k.0.name; fields = s.0.few; few = s.0.short; behaviours = behaviours_good names x.behaviours ok k.0.behaviours s.0.each },
@@ -55,7 +56,7 @@ kinds_good names (x ∷ xs) ok k s = (
 none_ok : NamesOk []
 none_ok = record { each = tt; apart = record { apart = λ m n h k e. absurd (omega arith) } }
 
-done_good : (bytes : List ℕ) (p : Program) (read : Result Reader (ℕ × ℕ)) → read_from 0 start (lines_of bytes) ≡ read → finish read ≡ Ok p → ProgramIsGood p
+done_good : (bytes : List ℕ) (p : Program) (read : Result Reader (ℕ × ℕ)) → read_from 0 start (lines_of bytes) ≡ read → finish read ≡ Ok p → IsWellFormed p
 unfolding start closed
 done_good bytes p (Err e) told h = cc
 done_good bytes p (Ok s) told h =
@@ -69,7 +70,7 @@ done_good bytes p (Ok s) told h =
     let order : kinds_names (text_of s.names) [] kinds ≡ s.names =
     sym (kinds_same (text_of s.names) [] kinds) ∙ ap (lines_names []) said ∙ sym adds.order in
     let same : finished s ≡ p = cc in
-    subst ProgramIsGood same (record {
+    subst IsWellFormed same (record {
       few = closed_count s s.stage small;
       kinds = kinds_good s.names kinds ok (closed_known (length s.names) s s.stage reads.says.known) (closed_small s s.stage small);
       apart = ok.apart;
@@ -77,10 +78,10 @@ done_good bytes p (Ok s) told h =
     })
 
 -- what is read has a text
-pub read_good : (bytes : List ℕ) (p : Program) → read_text bytes ≡ Ok p → ProgramIsGood p
+pub read_good : (bytes : List ℕ) (p : Program) → read_text bytes ≡ Ok p → IsWellFormed p
 unfolding read_text
 read_good bytes p h = done_good bytes p (read_from 0 start (lines_of bytes)) refl h
 
-pub goods : (bytes : List ℕ) (r : Result Program TextErr) → IfOk r (λ p. read_text bytes ≡ Ok p) → IfOk r ProgramIsGood
+pub goods : (bytes : List ℕ) (r : Result Program TextErr) → IfOk r (λ p. read_text bytes ≡ Ok p) → IfOk r IsWellFormed
 goods bytes (Ok p) h = read_good bytes p h
 goods bytes (Err e) h = tt

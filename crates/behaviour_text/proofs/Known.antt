@@ -1,9 +1,8 @@
 -- The names that were read so far keep their texts.
 use Rattle.std.proofs.Common.{◌≡◌, ℕ, ◌+◌, ◌<◌, Bool, true, false, cond, not, List, [], ◌∷◌, ◌++◌, ◌||◌, length, map, flat_map, refl, ap, ap₂, sym, arith, if◌then◌else◌, bytes_eq, zero, suc, slice_index_or, one-add}
-use Rattle.std.specs.List.{list_any, position_or_len}
+use Rattle.std.specs.List.{AllByRecursion, list_any, position_or_len}
 use Rattle.std.proofs.lemmas.Slice.Eq.{bytes_eq-Decides}
 use Rattle.behaviour_text.proofs.Said.{Lines, so_far_at, open_lines, in_kind, in_behaviour}
-use Rattle.behaviour_code.specs.Good.{Each}
 use Rattle.behaviour_code.specs.Names.{text_of, with_text, interned}
 use Rattle.behaviour_code.specs.declared.code.Behaviour.{Behaviour}
 use Rattle.behaviour_code.specs.declared.code.Kind.{Kind}
@@ -14,11 +13,11 @@ use Rattle.behaviour_text.specs.declared.place.Stage.TheVariants.{Start, InKind,
 use Rattle.behaviour_text.specs.declared.reader.Reader.{Reader}
 use Rattle.behaviour_code.specs.declared.instr.Instr.TheVariants as I
 
-map_same : {X Y : Type 0} (P : X → Type 0) (f g : X → Y) (xs : List X) → ((x : X) → P x → f x ≡ g x) → Each P xs → map f xs ≡ map g xs
+map_same : {X Y : Type 0} (P : X → Type 0) (f g : X → Y) (xs : List X) → ((x : X) → P x → f x ≡ g x) → AllByRecursion P xs → map f xs ≡ map g xs
 map_same P f g [] h e = refl
 map_same P f g (x ∷ xs) h e = ap₂ (λ a b. a ∷ b) (h x e.0) (map_same P f g xs h e.1)
 
-flat_same : {X Y : Type 0} (P : X → Type 0) (f g : X → List Y) (xs : List X) → ((x : X) → P x → f x ≡ g x) → Each P xs → flat_map f xs ≡ flat_map g xs
+flat_same : {X Y : Type 0} (P : X → Type 0) (f g : X → List Y) (xs : List X) → ((x : X) → P x → f x ≡ g x) → AllByRecursion P xs → flat_map f xs ≡ flat_map g xs
 flat_same P f g [] h e = refl
 flat_same P f g (x ∷ xs) h e = ap₂ (λ a b. a ++ b) (h x e.0) (flat_same P f g xs h e.1)
 
@@ -32,19 +31,19 @@ InstrKnown m _ = Unit {0}
 
 pub record BehaviourKnown (m : ℕ) (b : Behaviour) : Type 0 where
   pub name : b.name < m
-  pub body : Each (InstrKnown m) b.body
+  pub body : AllByRecursion (InstrKnown m) b.body
 
 pub record KindKnown (m : ℕ) (k : Kind) : Type 0 where
   pub name : k.name < m
-  pub behaviours : Each (BehaviourKnown m) k.behaviours
+  pub behaviours : AllByRecursion (BehaviourKnown m) k.behaviours
 
 pub record InKindKnown (m : ℕ) (r : Reader) : Type 0 where
   pub name : r.kind_name < m
-  pub behaviours : Each (BehaviourKnown m) r.behaviours
+  pub behaviours : AllByRecursion (BehaviourKnown m) r.behaviours
 
 pub record InBehaviourKnown (m : ℕ) (r : Reader) : Type 0 where
   pub name : r.behaviour_name < m
-  pub body : Each (InstrKnown m) r.body
+  pub body : AllByRecursion (InstrKnown m) r.body
 
 abbrev pub OpenKnown : ℕ → Reader → Stage → Type 0
 OpenKnown m r Start = Unit {0}
@@ -52,7 +51,7 @@ OpenKnown m r InKind = InKindKnown m r
 OpenKnown m r InBehaviour = InKindKnown m r × InBehaviourKnown m r
 
 abbrev pub KnownAt : ℕ → Reader → Stage → Type 0
-KnownAt m r stage = Each (KindKnown m) r.kinds × OpenKnown m r stage
+KnownAt m r stage = AllByRecursion (KindKnown m) r.kinds × OpenKnown m r stage
 
 abbrev Agree : ℕ → (ℕ → List ℕ) → (ℕ → List ℕ) → Type 0
 Agree m f g = (n : ℕ) → n < m → f n ≡ g n

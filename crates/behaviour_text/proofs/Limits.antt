@@ -2,13 +2,14 @@
 use Rattle.behaviour_text.proofs.Steps.{end_read, line_read}
 use Rattle.behaviour_text.proofs.Choices.{both, neither, option_or_none, no_fault, each_push}
 use Rattle.std.proofs.Common.{◌≡◌, ℕ, ◌+◌, ◌<◌, ◌≤◌, ◌^◌, ◌&&◌, Bool, true, false, List, [], ◌∷◌, ◌++◌, length, drop, map, refl, sym, subst, arith, Option, Some, None, if◌then◌else◌, nat_lt, ltb-true, ltb-false, length-append, length-drop, zero, suc, All, Result, Ok, Err}
+use Rattle.std.specs.List.{AllByRecursion}
 use Rattle.text_lines.specs.Lines.{lines_of}
 use Rattle.std.specs.Str.Parse.{digits_value}
 use Rattle.std.proofs.lemmas.List.{length-map}
 use Rattle.behaviour_text.proofs.Shapes.{fits, enough}
 use Rattle.behaviour_text.proofs.Said.{on_place, inside_place}
 use Rattle.std.specs.Option.{unwrap_or}
-use Rattle.behaviour_code.specs.Good.{Each, Fits64, InstrFits}
+use Rattle.behaviour_code.specs.WellFormed.{Fits64, InstrFits}
 use Rattle.behaviour_code.specs.declared.code.Behaviour.{Behaviour}
 use Rattle.behaviour_code.specs.declared.code.Kind.{Kind}
 use Rattle.behaviour_code.specs.declared.code.Program.{Program}
@@ -72,23 +73,23 @@ instr_small C.Print name ws h = number_small (drop 1 (word_at ws 0))
 pub record BehaviourSmall (b : Behaviour) : Type 0 where
   pub few : b.parameters ≤ 8
   pub short : length b.body ≤ 1024
-  pub instrs : Each InstrFits b.body
+  pub instrs : AllByRecursion InstrFits b.body
 
 pub record KindSmall (k : Kind) : Type 0 where
   pub few : k.fields ≤ 8
   pub short : length k.behaviours ≤ 64
-  pub each : Each BehaviourSmall k.behaviours
+  pub each : AllByRecursion BehaviourSmall k.behaviours
 
 pub record InKindSmall (r : Reader) (most : ℕ) : Type 0 where
   pub few : r.fields ≤ 8
   pub short : length r.behaviours ≤ most
-  pub each : Each BehaviourSmall r.behaviours
+  pub each : AllByRecursion BehaviourSmall r.behaviours
   pub room : length r.kinds ≤ 255
 
 pub record InBehaviourSmall (r : Reader) : Type 0 where
   pub few : r.parameters ≤ 8
   pub short : length r.body ≤ 1024
-  pub instrs : Each InstrFits r.body
+  pub instrs : AllByRecursion InstrFits r.body
 
 abbrev pub OpenSmall : Reader → Stage → Type 0
 OpenSmall r Start = length r.kinds ≤ 255
@@ -96,9 +97,9 @@ OpenSmall r InKind = InKindSmall r 64
 OpenSmall r InBehaviour = InKindSmall r 63 × InBehaviourSmall r
 
 abbrev pub SmallAt : Reader → Stage → Type 0
-SmallAt r stage = Each KindSmall r.kinds × OpenSmall r stage
+SmallAt r stage = AllByRecursion KindSmall r.kinds × OpenSmall r stage
 
-pub closed_small : (r : Reader) (stage : Stage) → SmallAt r stage → Each KindSmall (closed_at stage r).kinds
+pub closed_small : (r : Reader) (stage : Stage) → SmallAt r stage → AllByRecursion KindSmall (closed_at stage r).kinds
 closed_small r Start h = h.0
 closed_small r InKind h = each_push KindSmall r.kinds _ h.0 (record { few = h.1.few; short = h.1.short; each = h.1.each })
 closed_small r InBehaviour h = each_push KindSmall r.kinds _ h.0 (record { few = h.1.0.few; short = let s = h.1.0.short in omega arith; each = h.1.0.each })
@@ -188,7 +189,7 @@ closed_count r InBehaviour h = let room = h.1.0.room in omega (arith, length-app
 -- the limits that a program keeps
 pub record Limits (p : Program) : Type 0 where
   pub few : length p.kinds ≤ 256
-  pub each : Each KindSmall p.kinds
+  pub each : AllByRecursion KindSmall p.kinds
 
 done_small : (bytes : List ℕ) (p : Program) (read : Result Reader (ℕ × ℕ)) → read_from 0 start (lines_of bytes) ≡ read → finish read ≡ Ok p → Limits p
 unfolding start closed

@@ -2,12 +2,12 @@
 use Rattle.behaviour_text.proofs.Steps.{kept, end_read, line_read}
 use Rattle.behaviour_text.proofs.Choices.{or_right, option_or_none, filter_first, each_push}
 use Rattle.std.proofs.Common.{◌≡◌, ℕ, ◌+◌, ◌<◌, ◌||◌, Bool, true, false, cond, not, List, [], ◌∷◌, ◌++◌, length, map, flat_map, filter, refl, ap, sym, ◌∙◌, subst, arith, Option, Some, None, IfSome, Ok, if◌then◌else◌, bytes_eq, slice_index_or, length-append, zero, suc, option_map, inl, inr}
-use Rattle.std.specs.List.{list_any}
+use Rattle.std.specs.List.{AllByRecursion, list_any}
 use Rattle.std.proofs.lemmas.Bool.{cases_lt}
 use Rattle.std.proofs.lemmas.Slice.Eq.{bytes_eq-Decides}
 use Rattle.behaviour_text.proofs.Shapes.{names_are}
 use Rattle.behaviour_text.proofs.Reread.{opcode_for, operands_for, words_for, spelled_word}
-use Rattle.behaviour_code.specs.Good.{Each, name_in, AreApart, instr_names, body_names, behaviours_names, kinds_names}
+use Rattle.behaviour_code.specs.WellFormed.{name_in, AreApart, instr_names, body_names, behaviours_names, kinds_names}
 use Rattle.behaviour_code.specs.Names.{is_name, with_text}
 use Rattle.behaviour_code.specs.declared.code.Behaviour.{Behaviour}
 use Rattle.behaviour_code.specs.declared.code.Kind.{Kind}
@@ -41,7 +41,7 @@ front_is (n ∷ ns) text (suc i) h = front_is ns text i (omega arith)
 
 -- names that are names, each once
 pub record NamesOk (names : List (List ℕ)) : Type 0 where
-  pub each : Each (λ w. is_name w ≡ true) names
+  pub each : AllByRecursion (λ w. is_name w ≡ true) names
   pub apart : AreApart names
 
 new_apart : (names : List (List ℕ)) (text : List ℕ) → AreApart names → list_any (bytes_eq text) names ≡ false → AreApart (names ++ text ∷ [])

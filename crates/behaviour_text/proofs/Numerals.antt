@@ -5,16 +5,16 @@ use denote.Ref.{Bor}
 use Rattle.std.specs.List.{list_all}
 use Rattle.std.specs.Result.{OkIff, result_ok}
 use Rattle.std.specs.Str.Parse.{ParsesUnsigned, digits_value}
-use Rattle.std.specs.Char.{digit_value}
+use Rattle.std.specs.Char.{is_ascii_digit, digit_value}
 use Rattle.std.proofs.lemmas.Str.{digit_value_digit}
 use Rattle.std.specs.Prelude.{◌-◌, ◌*◌, ◌+◌, ◌==◌, not}
 use Rattle.std.specs.Int.{IsInRange}
 use Rattle.std.proofs.lemmas.Str.Parse.{IsDigitsTest, IsNumeralModel, numerals_by_value, parse_digits}
 use borrow.Author.Rules.{rules}
-use Rattle.behaviour_text.specs.Words.{has_numeral_form, numeral, is_digit, is_word}
+use Rattle.behaviour_text.specs.Words.{has_numeral_form, numeral, is_word}
 
 abbrev AreDigits : List ℕ → Type 0
-AreDigits ds = list_all is_digit ds ≡ true
+AreDigits ds = list_all is_ascii_digit ds ≡ true
 
 digits_test : IsDigitsTest AreDigits
 digits_test = search rules
@@ -27,7 +27,7 @@ digits_form [] h = cc
 digits_form (d ∷ []) h = (ap (λ (b : Bool). b && true) h, omega arith)
 digits_form (d ∷ e ∷ ds) h = ((both _ _ h).1, omega arith)
 
-small_digit : (d : ℕ) → is_digit d ≡ true → d < 128
+small_digit : (d : ℕ) → is_ascii_digit d ≡ true → d < 128
 small_digit d h = let small : d ≤ 57 = leb-true d 57 (both (nat_le 48 d) (nat_le d 57) h).1 in omega arith
 
 pub ascii_digits : (bs : List ℕ) → AreDigits bs → IsAscii bs
@@ -69,19 +69,19 @@ words_now (w ∷ ws) =
 
 -- ---- numerals of one digit and of two
 
-in_range : (d : ℕ) → is_digit d ≡ true → IsInRange 48 57 d
+in_range : (d : ℕ) → is_ascii_digit d ≡ true → IsInRange 48 57 d
 in_range d h = (leb-true 48 d (both (nat_le 48 d) (nat_le d 57) h).0, leb-true d 57 (both (nat_le 48 d) (nat_le d 57) h).1)
 
-pub one_digit_is : (d : ℕ) → is_digit d ≡ true → Some (d - 48) ≡ numeral (d ∷ [])
+pub one_digit_is : (d : ℕ) → is_ascii_digit d ≡ true → Some (d - 48) ≡ numeral (d ∷ [])
 one_digit_is d h =
     let range = in_range d h in
     let value : d - 48 ≡ 0 * 10 + digit_value d = omega (arith, digit_value_digit d range) in
-    ap Some value ∙ bounded (is_digit d) (0 * 10 + digit_value d) h (omega (arith, digit_value_digit d range, range.1))
+    ap Some value ∙ bounded (is_ascii_digit d) (0 * 10 + digit_value d) h (omega (arith, digit_value_digit d range, range.1))
 
-pub two_digits_are : (d e : ℕ) → not (d == 48) ≡ true → is_digit d ≡ true → is_digit e ≡ true → Some (10 * (d - 48) + (e - 48)) ≡ numeral (d ∷ e ∷ [])
+pub two_digits_are : (d e : ℕ) → not (d == 48) ≡ true → is_ascii_digit d ≡ true → is_ascii_digit e ≡ true → Some (10 * (d - 48) + (e - 48)) ≡ numeral (d ∷ e ∷ [])
 two_digits_are d e n h k =
     let r = in_range d h in
     let q = in_range e k in
     let value : 10 * (d - 48) + (e - 48) ≡ (0 * 10 + digit_value d) * 10 + digit_value e = omega (arith, digit_value_digit d r, digit_value_digit e q) in
-    let form : (not (d == 48) && (is_digit d && (is_digit e && true))) ≡ true = and_true _ _ n (and_true _ _ h (and_true _ _ k refl)) in
-    ap Some value ∙ bounded (not (d == 48) && (is_digit d && (is_digit e && true))) ((0 * 10 + digit_value d) * 10 + digit_value e) form (omega (arith, digit_value_digit d r, digit_value_digit e q, r.1, q.1))
+    let form : (not (d == 48) && (is_ascii_digit d && (is_ascii_digit e && true))) ≡ true = and_true _ _ n (and_true _ _ h (and_true _ _ k refl)) in
+    ap Some value ∙ bounded (not (d == 48) && (is_ascii_digit d && (is_ascii_digit e && true))) ((0 * 10 + digit_value d) * 10 + digit_value e) form (omega (arith, digit_value_digit d r, digit_value_digit e q, r.1, q.1))

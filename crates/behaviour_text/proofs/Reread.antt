@@ -1,5 +1,6 @@
 -- What an instruction is spelled as is read as that instruction.
 use Rattle.behaviour_text.proofs.Choices.{both, and_true}
+use Rattle.std.specs.Char.{is_ascii_digit}
 use Rattle.std.proofs.Common.{◌≡◌, ℕ, ◌+◌, ◌<◌, ◌≤◌, ◌^◌, Bool, true, List, [], ◌∷◌, ◌==◌, ◌&&◌, length, map, refl, ap, ap₂, sym, ◌∙◌, subst, arith, Option, Some, None, IfSome, if◌then◌else◌, is_some, nat_lt, decimal, get_or, not, All, le-leb, lt-ltb, ne_eqb, ◌⊎◌, inl, inr, zero, suc}
 use Rattle.std.specs.List.{list_all}
 use Rattle.std.specs.Str.Parse.{digits_value}
@@ -8,14 +9,14 @@ use Rattle.std.proofs.lemmas.Bool.{cases_lt}
 use Rattle.std.proofs.lemmas.List.{length-map}
 use Rattle.behaviour_text.proofs.Numerals.{own}
 use Rattle.std.specs.Option.{unwrap_or}
-use Rattle.behaviour_code.specs.Good.{Fits64, InstrFits, name_in}
+use Rattle.behaviour_code.specs.WellFormed.{Fits64, InstrFits, name_in}
 use Rattle.behaviour_code.specs.Names.{is_name}
 use Rattle.behaviour_code.specs.declared.instr.Instr.{Instr}
 use Rattle.behaviour_text.specs.Items.{register_of, instr_of}
 use Rattle.behaviour_text.specs.Reading.{named}
 use Rattle.behaviour_text.specs.Table.{spelling, line_word, operands_of, most_further, lettered_fault, operand_fault, operands_fault, lowest, fits_count, shape_fault}
 use Rattle.behaviour_text.specs.Text.{register, field, instr_words}
-use Rattle.behaviour_text.specs.Words.{has_numeral_form, numeral, is_digit, number_of}
+use Rattle.behaviour_text.specs.Words.{has_numeral_form, numeral, number_of}
 use Rattle.behaviour_text.specs.declared.table.LineWord.{LineWord}
 use Rattle.behaviour_text.specs.declared.table.Opcode.{Opcode}
 use Rattle.behaviour_text.specs.declared.table.LineWord.TheVariants as W
@@ -23,11 +24,11 @@ use Rattle.behaviour_text.specs.declared.table.Opcode.TheVariants as C
 use Rattle.behaviour_text.specs.declared.table.Operand.TheVariants as P
 use Rattle.behaviour_code.specs.declared.instr.Instr.TheVariants as I
 
-form_of : (ds : List ℕ) → list_all is_digit ds ≡ true → 0 < length ds → ((length ds ≡ 1) ⊎ (48 < get_or ds 0 0)) → has_numeral_form ds ≡ true
+form_of : (ds : List ℕ) → list_all is_ascii_digit ds ≡ true → 0 < length ds → ((length ds ≡ 1) ⊎ (48 < get_or ds 0 0)) → has_numeral_form ds ≡ true
 form_of [] h some k = absurd (omega arith)
-form_of (d ∷ []) h some k = (both (is_digit d) true h).0
+form_of (d ∷ []) h some k = (both (is_ascii_digit d) true h).0
 form_of (d ∷ e ∷ ds) h some (inl one) = absurd (omega arith)
-form_of (d ∷ e ∷ ds) h some (inr first) = and_true (not (d == 48)) (list_all is_digit (d ∷ e ∷ ds)) (ap not (ne_eqb d 48 (λ same. omega arith))) h
+form_of (d ∷ e ∷ ds) h some (inr first) = and_true (not (d == 48)) (list_all is_ascii_digit (d ∷ e ∷ ds)) (ap not (ne_eqb d 48 (λ same. omega arith))) h
 
 one_or_more : (n : ℕ) → n < 2 ^ 64 → (length (decimal n) ≡ 1) ⊎ (48 < get_or (decimal n) 0 0)
 one_or_more n h =

@@ -1,5 +1,6 @@
 -- What a line without a fault in its operands is like.
 use Rattle.behaviour_text.proofs.Choices.{both, either, option_or_none, chosen_none}
+use Rattle.std.specs.Char.{is_ascii_alphanumeric}
 use Rattle.std.proofs.Common.{◌≡◌, ℕ, ◌+◌, ◌<◌, ◌≤◌, Bool, true, false, List, [], ◌∷◌, length, refl, arith, Option, Some, None, IfSome, if◌then◌else◌, ◌&&◌, leb-true, IsUtf8, nat_le, ◌||◌, ◌==◌, inl, inr, eqb-true, IsAscii, zero, suc, map, subst}
 use Rattle.std.specs.List.{list_all}
 use Rattle.std.proofs.lemmas.Str.{IsUtf8-from_ascii}
@@ -60,15 +61,15 @@ names_are _ ws h = tt
 
 small_name_byte : (b : ℕ) → is_name_byte b ≡ true → b < 128
 small_name_byte b h =
-    elim (either (((nat_le 48 b && nat_le b 57) || (nat_le 65 b && nat_le b 90)) || (b == 95)) (nat_le 97 b && nat_le b 122) h) [
-      | inl front ↦ elim (either ((nat_le 48 b && nat_le b 57) || (nat_le 65 b && nat_le b 90)) (b == 95) front) [
-        | inl letters ↦ elim (either (nat_le 48 b && nat_le b 57) (nat_le 65 b && nat_le b 90) letters) [
+    elim (either (is_ascii_alphanumeric b) (b == 95) h) [
+      | inl front ↦ elim (either ((nat_le 48 b && nat_le b 57) || (nat_le 65 b && nat_le b 90)) (nat_le 97 b && nat_le b 122) front) [
+        | inl first ↦ elim (either (nat_le 48 b && nat_le b 57) (nat_le 65 b && nat_le b 90) first) [
           | inl digit ↦ let small : b ≤ 57 = leb-true b 57 (both (nat_le 48 b) (nat_le b 57) digit).1 in omega arith
           | inr capital ↦ let small : b ≤ 90 = leb-true b 90 (both (nat_le 65 b) (nat_le b 90) capital).1 in omega arith
         ]
-        | inr under ↦ let same : b ≡ 95 = eqb-true b 95 under in omega arith
+        | inr letter ↦ let small : b ≤ 122 = leb-true b 122 (both (nat_le 97 b) (nat_le b 122) letter).1 in omega arith
       ]
-      | inr letter ↦ let small : b ≤ 122 = leb-true b 122 (both (nat_le 97 b) (nat_le b 122) letter).1 in omega arith
+      | inr under ↦ let same : b ≡ 95 = eqb-true b 95 under in omega arith
     ]
 
 ascii_name : (bs : List ℕ) → list_all is_name_byte bs ≡ true → IsAscii bs

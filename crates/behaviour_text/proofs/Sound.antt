@@ -2,11 +2,10 @@
 use Rattle.behaviour_text.proofs.Steps.{kept, end_read, line_read}
 use Rattle.behaviour_text.proofs.Choices.{option_or_none, filter_first, push_grows, each_push, each_weaker}
 use Rattle.std.proofs.Common.{◌≡◌, ℕ, ◌+◌, ◌<◌, ◌≤◌, Bool, true, false, cond, not, List, [], ◌∷◌, ◌++◌, length, map, filter, refl, ap, sym, ◌∙◌, subst, arith, Option, Some, None, IfSome, Result, Ok, Err, if◌then◌else◌, bytes_eq, slice_index_or, append_assoc, append-nil, zero, suc}
-use Rattle.std.specs.List.{list_any}
+use Rattle.std.specs.List.{AllByRecursion, list_any}
 use Rattle.text_lines.specs.Lines.{line_fault, lines_of}
 use Rattle.behaviour_text.proofs.Said.{closed_said, Lines, so_far, so_far_at, item_said, on_place, inside_place}
 use Rattle.behaviour_text.proofs.Known.{InstrKnown, BehaviourKnown, KindKnown, InKindKnown, InBehaviourKnown, OpenKnown, KnownAt, said_same, texts_kept, finds}
-use Rattle.behaviour_code.specs.Good.{Each}
 use Rattle.behaviour_code.specs.Names.{text_of}
 use Rattle.behaviour_code.specs.declared.code.Behaviour.{Behaviour}
 use Rattle.behaviour_code.specs.declared.code.Kind.{Kind}
@@ -38,7 +37,7 @@ instr_weaker m n le _ h = tt
 behaviour_weaker : (m n : ℕ) → m ≤ n → (b : Behaviour) → BehaviourKnown m b → BehaviourKnown n b
 behaviour_weaker m n le b h = record { name = let a = h.name in omega arith; body = each_weaker (InstrKnown m) (InstrKnown n) b.body (instr_weaker m n le) h.body }
 
-behaviours_weaker : (m n : ℕ) → m ≤ n → (bs : List Behaviour) → Each (BehaviourKnown m) bs → Each (BehaviourKnown n) bs
+behaviours_weaker : (m n : ℕ) → m ≤ n → (bs : List Behaviour) → AllByRecursion (BehaviourKnown m) bs → AllByRecursion (BehaviourKnown n) bs
 behaviours_weaker m n le bs h = each_weaker (BehaviourKnown m) (BehaviourKnown n) bs (behaviour_weaker m n le) h
 
 kind_weaker : (m n : ℕ) → m ≤ n → (k : Kind) → KindKnown m k → KindKnown n k
@@ -59,7 +58,7 @@ known_weaker : (m n : ℕ) → m ≤ n → (r : Reader) → KnownAt m r r.stage 
 known_weaker m n le r h = (each_weaker (KindKnown m) (KindKnown n) r.kinds (kind_weaker m n le) h.0, open_weaker m n le r r.stage h.1)
 
 -- the names of an item are known
-pub closed_known : (m : ℕ) (r : Reader) (stage : Stage) → KnownAt m r stage → Each (KindKnown m) (closed_at stage r).kinds
+pub closed_known : (m : ℕ) (r : Reader) (stage : Stage) → KnownAt m r stage → AllByRecursion (KindKnown m) (closed_at stage r).kinds
 closed_known m r Start h = h.0
 closed_known m r InKind h = each_push (KindKnown m) r.kinds _ h.0 (record { name = h.1.name; behaviours = h.1.behaviours })
 closed_known m r InBehaviour h = each_push (KindKnown m) r.kinds _ h.0 (record { name = h.1.0.name; behaviours = h.1.0.behaviours })
@@ -167,7 +166,7 @@ words_sound r (w ∷ ws) fault h = spoken r (starts_with 35 w) w ws fault h
 -- what is left at the end
 pub record Reads (r s : Reader) (lines : List (List ℕ)) : Type 0 where
   pub says : Says r s (said_lines lines)
-  pub clean : Each (λ line. line_fault line ≡ None) lines
+  pub clean : AllByRecursion (λ line. line_fault line ≡ None) lines
   pub ended : s.stage ≡ InBehaviour → ⊥
 
 pub read_sound : (n : ℕ) (r s : Reader) (lines : List (List ℕ)) → KnownAt (length r.names) r r.stage → read_from n r lines ≡ Ok s → Reads r s lines
@@ -194,7 +193,7 @@ read_sound n r s (line ∷ lines) h e =
       ended = rest.ended;
     }
 
-each_all : (lines : List (List ℕ)) → Each (λ line. line_fault line ≡ None) lines → AreClean lines
+each_all : (lines : List (List ℕ)) → AllByRecursion (λ line. line_fault line ≡ None) lines → AreClean lines
 each_all [] h i d k = absurd (omega arith)
 each_all (l ∷ ls) h zero d k = h.0
 each_all (l ∷ ls) h (suc i) d k = each_all ls h.1 i d (omega arith)

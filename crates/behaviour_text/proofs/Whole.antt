@@ -5,7 +5,7 @@ use Rattle.std.specs.List.{list_any}
 use Rattle.behaviour_text.proofs.Known.{finds, texts_kept}
 use Rattle.behaviour_text.proofs.Reread.{opcode_for, operands_for, words_for, shape_read, instr_read, spelled_word}
 use Rattle.std.specs.Option.{option_or, unwrap_or}
-use Rattle.behaviour_code.specs.Good.{InstrFits, name_in, AreApart, NameFits, instr_names}
+use Rattle.behaviour_code.specs.WellFormed.{InstrFits, name_in, AreApart, NameFits, instr_names}
 use Rattle.behaviour_code.specs.Names.{is_name, text_of, with_text, interned}
 use Rattle.behaviour_code.specs.declared.instr.Instr.{Instr}
 use Rattle.behaviour_text.specs.Faults.{inside_fault, body_fault, place_fault, word_fault, words_fault}

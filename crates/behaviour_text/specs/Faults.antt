@@ -1,6 +1,7 @@
 -- The first fault of a text: the first line that has one, and the lowest kind of fault there.
-use Rattle.std.specs.Prelude.{ℕ, ◌≡◌, ◌+◌, ◌||◌, List, [], ◌∷◌, Option, Some, None, nat_lt, if◌then◌else◌, option_map}
+use Rattle.std.specs.Prelude.{ℕ, ◌≡◌, ◌+◌, ◌||◌, List, [], ◌∷◌, Option, Some, None, nat_le, nat_lt, if◌then◌else◌, option_map}
 use Rattle.std.specs.Option.{option_or, option_map_or}
+use Rattle.orca_names.specs.declared.limits.TheConstants.{BEHAVIOURS_LIMIT, BODY_LIMIT, FIELDS_LIMIT, KINDS_LIMIT, VALUES_LIMIT}
 use Rattle.text_lines.specs.Lines.{line_fault, lines_of}
 use Rattle.text_lines.specs.declared.LineKind.{LineKind}
 use Rattle.text_lines.specs.declared.LineKind.TheVariants.{NotAscii, LongLine}
@@ -11,6 +12,7 @@ use Rattle.behaviour_text.specs.declared.errors.TextErr.TheVariants as E
 use Rattle.behaviour_text.specs.declared.place.Place.{Place}
 use Rattle.behaviour_text.specs.declared.place.Stage.{Stage}
 use Rattle.behaviour_text.specs.declared.place.Stage.TheVariants.{Start, InKind, InBehaviour}
+use Rattle.behaviour_text.specs.declared.table.TheConstants.{COMMENT_MARK}
 use Rattle.behaviour_text.specs.declared.table.LineWord.{LineWord}
 use Rattle.behaviour_text.specs.declared.table.LineWord.TheVariants as W
 
@@ -21,14 +23,15 @@ beginning = record { stage = Start; kinds = 0; behaviours = 0; instructions = 0 
 -- `kind`: 8 within a behaviour; 9 for the 257th kind, or more than 8 fields
 abbrev pub kind_fault : Stage → ℕ → ℕ → Option ℕ
 kind_fault InBehaviour kinds fields = Some 8
-kind_fault stage kinds fields = if nat_lt 255 kinds || nat_lt 8 fields then Some 9 else None
+kind_fault stage kinds fields =
+    if nat_le KINDS_LIMIT kinds || nat_lt FIELDS_LIMIT fields then Some 9 else None
 
 -- `on`: 7 before any kind; 8 within a behaviour; 9 for the 65th behaviour, or more than 8 parameters
 abbrev pub on_fault : Stage → ℕ → ℕ → Option ℕ
 on_fault Start behaviours parameters = Some 7
 on_fault InBehaviour behaviours parameters = Some 8
 on_fault InKind behaviours parameters =
-    if nat_lt 63 behaviours || nat_lt 8 parameters then Some 9 else None
+    if nat_le BEHAVIOURS_LIMIT behaviours || nat_lt VALUES_LIMIT parameters then Some 9 else None
 
 -- a line that stands within a behaviour alone: 7 elsewhere
 abbrev pub inside_fault : Stage → Option ℕ → Option ℕ
@@ -37,7 +40,7 @@ inside_fault stage fault = Some 7
 
 -- 9 for the 1,025th instruction
 abbrev pub body_fault : ℕ → Option ℕ
-body_fault instructions = if nat_lt 1023 instructions then Some 9 else None
+body_fault instructions = if nat_le BODY_LIMIT instructions then Some 9 else None
 
 -- the lowest fault of a line's place: 7, 8 or 9
 abbrev pub place_fault : Place → LineWord → List (List ℕ) → Option ℕ
@@ -56,7 +59,7 @@ word_fault place (Some word) operands =
 unfoldable pub words_fault : Place → List (List ℕ) → Option ℕ
 words_fault place [] = None
 words_fault place (word ∷ operands) =
-    if starts_with 35 word then None else word_fault place (line_word word) operands
+    if starts_with COMMENT_MARK word then None else word_fault place (line_word word) operands
 
 -- 1 for a byte that is not allowed, 2 for more than 256 bytes
 abbrev pub kind_number : LineKind → ℕ
@@ -83,7 +86,8 @@ behind_word place (W.Instr opcode) = record place { instructions = place.instruc
 unfoldable pub place_after : Place → List (List ℕ) → Place
 place_after place [] = place
 place_after place (word ∷ operands) =
-    if starts_with 35 word then place else option_map_or (behind_word place) (line_word word) place
+    if starts_with COMMENT_MARK word then place
+    else option_map_or (behind_word place) (line_word word) place
 
 -- 8 at the last line where the text ends within a behaviour
 abbrev pub end_fault : ℕ → Stage → Option (ℕ × ℕ)

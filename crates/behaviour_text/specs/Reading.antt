@@ -14,6 +14,7 @@ use Rattle.behaviour_text.specs.declared.place.Place.{Place}
 use Rattle.behaviour_text.specs.declared.place.Stage.{Stage}
 use Rattle.behaviour_text.specs.declared.place.Stage.TheVariants.{Start, InKind, InBehaviour}
 use Rattle.behaviour_text.specs.declared.reader.Reader.{Reader}
+use Rattle.behaviour_text.specs.declared.table.TheConstants.{COMMENT_MARK}
 use Rattle.behaviour_text.specs.declared.table.LineWord.{LineWord}
 use Rattle.behaviour_text.specs.declared.table.LineWord.TheVariants as W
 
@@ -120,7 +121,7 @@ with_word r (Some word) operands =
 unfoldable pub with_words : Reader → List (List ℕ) → Reader
 with_words r [] = r
 with_words r (word ∷ operands) =
-    if starts_with 35 word then r else with_word r (line_word word) operands
+    if starts_with COMMENT_MARK word then r else with_word r (line_word word) operands
 
 -- `new` is what `old` is after a line without a fault
 pub record LineTaken (old new : Reader) (line : List ℕ) (fault : Option LineKind) : Type 0 where

@@ -2,6 +2,7 @@
 use Rattle.std.specs.Prelude.{ℕ, ◌+◌, Bool, false, List, [], ◌∷◌, ◌==◌, ◌&&◌, Option, Some, None, nat_le, is_some, if◌then◌else◌, length, drop, find, bytes_eq, codes, min}
 use Rattle.behaviour_code.specs.Names.{is_name}
 use Rattle.behaviour_text.specs.Words.{numeral}
+use Rattle.behaviour_text.specs.declared.table.TheConstants.{FIELD_LETTER, REGISTER_LETTER}
 use Rattle.behaviour_text.specs.declared.table.LineWord.{LineWord}
 use Rattle.behaviour_text.specs.declared.table.LineWord.TheVariants as W
 use Rattle.behaviour_text.specs.declared.table.Opcode.TheVariants as C
@@ -90,10 +91,10 @@ lettered_fault letter word =
     if starts_with letter word then (if is_some (numeral (drop 1 word)) then None else Some 5)
     else Some 4
 
--- the lowest fault of one operand: 4, 5 or 6; the letters are r and f
+-- the lowest fault of one operand: 4, 5 or 6
 abbrev pub operand_fault : Operand → List ℕ → Option ℕ
-operand_fault P.Register word = lettered_fault 114 word
-operand_fault P.Field word = lettered_fault 102 word
+operand_fault P.Register word = lettered_fault REGISTER_LETTER word
+operand_fault P.Field word = lettered_fault FIELD_LETTER word
 operand_fault P.Number word = if is_some (numeral word) then None else Some 5
 operand_fault P.Name word = if is_name word then None else Some 6
 

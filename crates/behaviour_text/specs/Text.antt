@@ -9,14 +9,15 @@ use Rattle.behaviour_code.specs.declared.code.Kind.{Kind}
 use Rattle.behaviour_code.specs.declared.code.Program.{Program}
 use Rattle.behaviour_text.specs.Words.{words_of}
 use Rattle.behaviour_text.specs.Table.{starts_with}
+use Rattle.behaviour_text.specs.declared.table.TheConstants.{COMMENT_MARK, FIELD_LETTER, REGISTER_LETTER}
 
 -- r and a number
 abbrev pub register : ℕ → List ℕ
-register n = 114 ∷ decimal n
+register n = REGISTER_LETTER ∷ decimal n
 
 -- f and a number
 abbrev pub field : ℕ → List ℕ
-field n = 102 ∷ decimal n
+field n = FIELD_LETTER ∷ decimal n
 
 -- the words of an instruction, whose names have their texts by `text`
 abbrev pub instr_words : (ℕ → List ℕ) → Instr → List (List ℕ)
@@ -67,7 +68,7 @@ program_lines p = flat_map (kind_lines (text_of p.names)) p.kinds
 -- a line that has words, the first of which does not begin with #
 abbrev pub speaks : List (List ℕ) → Bool
 speaks [] = false
-speaks (word ∷ words) = not (starts_with 35 word)
+speaks (word ∷ words) = not (starts_with COMMENT_MARK word)
 
 -- the lines that say something, each as its words
 abbrev pub said_lines : List (List ℕ) → List (List (List ℕ))

@@ -1,5 +1,6 @@
 -- Words and numerals.
-use Rattle.std.specs.Prelude.{ℕ, ◌^◌, Bool, false, List, [], ◌∷◌, ◌==◌, ◌&&◌, Option, Some, None, nat_lt, nat_le, not, if◌then◌else◌, length, filter, slice_index_or}
+use Rattle.std.specs.Prelude.{ℕ, ◌^◌, Bool, false, List, [], ◌∷◌, ◌==◌, ◌&&◌, Option, Some, None, nat_lt, not, if◌then◌else◌, length, filter, slice_index_or}
+use Rattle.std.specs.Char.{is_ascii_digit}
 use Rattle.std.specs.List.{slice_split, list_all}
 use Rattle.std.specs.Option.{unwrap_or}
 use Rattle.std.specs.Str.Parse.{digits_value}
@@ -12,14 +13,11 @@ is_word piece = not (length piece == 0)
 abbrev pub words_of : List ℕ → List (List ℕ)
 words_of line = filter is_word (slice_split is_space line)
 
-abbrev pub is_digit : ℕ → Bool
-is_digit b = nat_le 48 b && nat_le b 57
-
 -- 0, or digits that do not begin with 0
 abbrev pub has_numeral_form : List ℕ → Bool
 has_numeral_form [] = false
-has_numeral_form (d ∷ []) = is_digit d
-has_numeral_form (d ∷ e ∷ ds) = not (d == 48) && list_all is_digit (d ∷ e ∷ ds)
+has_numeral_form (d ∷ []) = is_ascii_digit d
+has_numeral_form (d ∷ e ∷ ds) = not (d == 48) && list_all is_ascii_digit (d ∷ e ∷ ds)
 
 -- the number of a numeral, which has 64 bits
 abbrev pub numeral : List ℕ → Option ℕ

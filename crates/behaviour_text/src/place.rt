@@ -3,7 +3,7 @@
 ghost use Rattle.std.specs.Prelude.{◌≡◌, map};
 ghost use Rattle.behaviour_text.specs.Faults.{kind_fault, on_fault, inside_fault, body_fault, place_fault, word_fault, words_fault};
 
-use crate::table::{LineWord, line_word, shape_fault, starts_with};
+use crate::table::{COMMENT_MARK, LineWord, line_word, shape_fault, starts_with};
 use crate::words::number_at;
 use orca_names::{BEHAVIOURS_LIMIT, BODY_LIMIT, FIELDS_LIMIT, KINDS_LIMIT, VALUES_LIMIT};
 
@@ -104,7 +104,7 @@ pub(crate) fn words_fault(place: Place, words: &[&[u8]]) -> Option<u8>
     match words {
         [] => None,
         [first, operands @ ..] => {
-            if starts_with(b'#', first) {
+            if starts_with(COMMENT_MARK, first) {
                 None
             } else {
                 word_fault(place, line_word(first), operands)

@@ -1,7 +1,7 @@
 // The canonical text of a program.
 
 ghost use Rattle.std.specs.Prelude.{◌≡◌, ◌++◌, ◌∷◌, [], IfOk, OnOk, None, map, flat_map, string_bytes, codes, decimal};
-ghost use Rattle.behaviour_code.specs.Good.{ProgramIsGood};
+ghost use Rattle.behaviour_code.specs.WellFormed.{IsWellFormed};
 ghost use Rattle.behaviour_code.specs.Names.{text_of};
 ghost use Rattle.behaviour_code.specs.declared.code.Program.{Program};
 ghost use Rattle.behaviour_text.specs.Text.{instr_words, behaviour_lines, kind_lines, line_of, rest_of_line, register, canonical, IsText};
@@ -164,11 +164,10 @@ pub fn print(alloc: Global, program: &Program) -> Result<Vec<u8>, NoMemory>
 
     // It is a text of the program, if some text gives the program; it has no fault, and it is a text
     // of no other program: reading it gives the program back.
-    ensures text { ProgramIsGood program.now → IfOk result (λ bytes. IsText bytes.items program.now) }
-    ensures sound { ProgramIsGood program.now
-        → IfOk result (λ bytes. first_fault bytes.items ≡ None) }
-    ensures only { ProgramIsGood program.now
-        → IfOk result (λ bytes. (p : Program) → IsText bytes.items p → ProgramIsGood p
+    ensures text { IsWellFormed program.now → IfOk result (λ bytes. IsText bytes.items program.now) }
+    ensures sound { IsWellFormed program.now → IfOk result (λ bytes. first_fault bytes.items ≡ None) }
+    ensures only { IsWellFormed program.now
+        → IfOk result (λ bytes. (p : Program) → IsText bytes.items p → IsWellFormed p
         → p ≡ program.now) }
 {
     Ok(canonical_bytes(alloc, program)?)

@@ -9,7 +9,7 @@ ghost use Rattle.behaviour_text.specs.Table.{shape_fault, fits_count};
 
 use crate::items::{instruction, name_place, small_at};
 use crate::place::{Place, Stage};
-use crate::table::{LineWord, line_word, starts_with};
+use crate::table::{COMMENT_MARK, LineWord, line_word, starts_with};
 use crate::words::word_at;
 use behaviour_code::{Behaviour, Instr, Kind, Name, Names};
 use plain_list::Listed;
@@ -198,7 +198,7 @@ impl Reader {
         match words {
             [] => Ok(()),
             [first, operands @ ..] => {
-                if starts_with(b'#', first) {
+                if starts_with(COMMENT_MARK, first) {
                     Ok(())
                 } else {
                     self.take_word(alloc, line_word(first), operands)

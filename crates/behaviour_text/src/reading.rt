@@ -3,7 +3,7 @@
 ghost use Rattle.std.specs.Prelude.{◌≡◌, ◌<◌, ◌≤◌, ◌^◌, OnOk, IfOk, IfErr, None, Ok, map, option_map, length, All};
 ghost use Rattle.std.specs.Option.{option_or};
 ghost use Rattle.text_lines.specs.Lines.{lines_of, line_at, tested};
-ghost use Rattle.behaviour_code.specs.Good.{ProgramIsGood};
+ghost use Rattle.behaviour_code.specs.WellFormed.{IsWellFormed};
 ghost use Rattle.behaviour_code.specs.declared.code.Program.{Program};
 ghost use Rattle.behaviour_text.specs.Faults.{kind_number, words_fault, first_fault, IsFault, Tells};
 ghost use Rattle.behaviour_text.specs.Reading.{start, place_of, read_from, read_text, read_end, fault_of, LineTaken};
@@ -126,13 +126,13 @@ pub fn parse(alloc: Global, bytes: &[u8]) -> Result<Program, TextErr>
 
     // The text says this program, which keeps the limits; of such programs it says no other.
     ensures text { IfOk result (IsText bytes.now) }
-    ensures good { IfOk result ProgramIsGood }
-    ensures only { (p : Program) → IsText bytes.now p → ProgramIsGood p
+    ensures good { IfOk result IsWellFormed }
+    ensures only { (p : Program) → IsText bytes.now p → IsWellFormed p
         → IfOk result (λ found. found ≡ p) }
 
     // It is refused exactly where it says no such program, for its first fault.
     ensures none { IfErr result (λ e. IsFault e → (p : Program) → IsText bytes.now p
-        → ProgramIsGood p → ⊥) }
+        → IsWellFormed p → ⊥) }
     ensures sound { OnOk result (first_fault bytes.now ≡ None) }
     ensures fault { IfErr result (Tells (first_fault bytes.now)) }
 {

@@ -5,6 +5,15 @@ ghost use Rattle.behaviour_text.specs.Table.{spelling, line_word, operands_of, m
 
 use crate::words::{is_name, numeral};
 
+/// The first byte of a comment.
+pub(crate) const COMMENT_MARK: u8 = b'#';
+
+/// The first byte of a register.
+pub(crate) const REGISTER_LETTER: u8 = b'r';
+
+/// The first byte of a field.
+pub(crate) const FIELD_LETTER: u8 = b'f';
+
 /// The first word of an instruction.
 #[derive(Clone, Copy, Debug, PartialEq, Eq)]
 pub(crate) enum Opcode {
@@ -241,8 +250,8 @@ fn operand_fault(operand: Operand, word: &[u8]) -> Option<u8>
     ensures { result ≡ operand_fault operand word.now }
 {
     match operand {
-        Operand::Register => lettered_fault(b'r', word),
-        Operand::Field => lettered_fault(b'f', word),
+        Operand::Register => lettered_fault(REGISTER_LETTER, word),
+        Operand::Field => lettered_fault(FIELD_LETTER, word),
         Operand::Number => if numeral(word).is_some() {
             None
         } else {
@@ -277,7 +286,10 @@ fn operands_fault(operands: &[Operand], words: &[&[u8]]) -> Option<u8>
     match words {
         [] => None,
         [word, words @ ..] => match operands {
-            [] => lowest(lettered_fault(b'r', word), operands_fault(operands, words)),
+            [] => lowest(
+                lettered_fault(REGISTER_LETTER, word),
+                operands_fault(operands, words),
+            ),
             [operand, operands @ ..] => {
                 lowest(
                     operand_fault(*operand, word),

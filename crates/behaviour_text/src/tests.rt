@@ -339,3 +339,15 @@ fn programs_are_printed_as_their_canonical_texts(rt: HostRuntime) -> Result<(), 
     assert_eq!(rt; again.as_slice(), all.as_slice());
     Ok(())
 }
+
+#[test]
+fn errors_as_texts(rt: HostRuntime) -> Result<(), Fail> {
+    let fault = TextErr::Fault { line: 3, kind: 9 };
+    for (error, text) in [
+        (fault, "line 3 has a fault of kind 9"),
+        (TextErr::NoMemory, "out of memory"),
+    ] {
+        assert_eq!(rt; error.to_string(rt.alloc())?.as_str(), text);
+    }
+    Ok(())
+}

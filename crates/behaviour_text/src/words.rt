@@ -1,10 +1,11 @@
 // Words, numerals and names.
 
 ghost use Rattle.std.specs.Prelude.{◌≡◌, [], ◌∷◌, map, IfOk};
+ghost use Rattle.std.specs.Char.{is_ascii_digit};
 ghost use Rattle.std.specs.List.{list_all, slice_split};
 ghost use Rattle.text_lines.specs.Lines.{is_space};
 ghost use Rattle.behaviour_code.specs.Names.{is_name, is_name_byte};
-ghost use Rattle.behaviour_text.specs.Words.{words_of, has_numeral_form, numeral, is_digit, word_at, number_of, number_at};
+ghost use Rattle.behaviour_text.specs.Words.{words_of, has_numeral_form, numeral, word_at, number_of, number_at};
 
 use orca_names::NAME_LIMIT;
 use std::alloc::{AllocError, Global};
@@ -27,16 +28,10 @@ pub(crate) fn words_of(alloc: Global, line: &[u8]) -> Result<Vec<&[u8]>, AllocEr
     Ok(words)
 }
 
-fn is_digit(byte: u8) -> bool
-    ensures { result ≡ is_digit byte }
-{
-    b'0' <= byte && byte <= b'9'
-}
-
 fn are_digits(word: &[u8]) -> bool
-    ensures { result ≡ list_all is_digit word.now }
+    ensures { result ≡ list_all is_ascii_digit word.now }
 {
-    word.iter().all(|byte| is_digit(*byte))
+    word.iter().all(|byte| byte.is_ascii_digit())
 }
 
 fn has_numeral_form(word: &[u8]) -> bool
@@ -44,7 +39,7 @@ fn has_numeral_form(word: &[u8]) -> bool
 {
     match word {
         [] => false,
-        [digit] => is_digit(*digit),
+        [digit] => digit.is_ascii_digit(),
         [first, ..] => *first != b'0' && are_digits(word),
     }
 }
@@ -53,7 +48,7 @@ fn has_numeral_form(word: &[u8]) -> bool
 fn one_digit(digit: u8) -> Option<u64>
     ensures { result ≡ numeral (digit ∷ []) }
 {
-    if is_digit(digit) {
+    if digit.is_ascii_digit() {
         Some(u64::from(digit - b'0'))
     } else {
         None
@@ -64,7 +59,7 @@ fn one_digit(digit: u8) -> Option<u64>
 fn two_digits(first: u8, second: u8) -> Option<u64>
     ensures { result ≡ numeral (first ∷ second ∷ []) }
 {
-    if first != b'0' && is_digit(first) && is_digit(second) {
+    if first != b'0' && first.is_ascii_digit() && second.is_ascii_digit() {
         Some(10 * u64::from(first - b'0') + u64::from(second - b'0'))
     } else {
         None
@@ -97,10 +92,7 @@ pub(crate) fn numeral(word: &[u8]) -> Option<u64>
 fn is_name_byte(byte: u8) -> bool
     ensures { result ≡ is_name_byte byte }
 {
-    (b'0' <= byte && byte <= b'9')
-        || (b'A' <= byte && byte <= b'Z')
-        || byte == b'_'
-        || (b'a' <= byte && byte <= b'z')
+    byte.is_ascii_alphanumeric() || byte == b'_'
 }
 
 fn are_name_bytes(word: &[u8]) -> bool

@@ -10,7 +10,6 @@ mod laws;
 pub use laws::{
     counts_stay_small, every_event_keeps_all_facts, every_run_has_all_facts,
     every_run_is_traced_by_roots, exactly_at_quiet, freed_stays_freed, garbage_goes,
-    members_alone_acknowledge, never_too_early, nothing_is_told_of_the_reaped,
-    reaps_take_the_done, runs_can_rest, the_detector_at_quiet, the_machine_comes_to_rest,
-    the_start_has_all_facts,
+    members_alone_acknowledge, never_too_early, nothing_is_told_of_the_reaped, reaps_take_the_done,
+    runs_can_rest, the_detector_at_quiet, the_machine_comes_to_rest, the_start_has_all_facts,
 };

@@ -2,7 +2,7 @@
 
 ghost use Rattle.std.specs.Prelude.{◌≡◌, ◌<◌, ◌≤◌, length, Some, None, IfOk, IfSome, position};
 ghost use Rattle.std.specs.Bool.{OnTrue, OnFalse};
-ghost use Rattle.behaviour_code.specs.Good.{ProgramIsGood};
+ghost use Rattle.behaviour_code.specs.WellFormed.{IsWellFormed};
 ghost use Rattle.behaviour_code.specs.Find.{behaviours_of, takes_call};
 ghost use Rattle.plain_rules.specs.Machine.{actor_after_take, frame_of, fresh_actor, first_actor as the_first};
 
@@ -16,7 +16,7 @@ use turn_rules::FrameRoom;
 /// An actor of a kind that is just made. It takes no memory.
 #[inline(always)]
 pub(crate) fn fresh_actor(alloc: Global, program: &Program, kind: u32) -> PlainActor
-    requires { ProgramIsGood program.now }
+    requires { IsWellFormed program.now }
     ensures { result ≡ fresh_actor program.now kind }
 {
     PlainActor {
@@ -33,7 +33,7 @@ pub(crate) fn fresh_actor(alloc: Global, program: &Program, kind: u32) -> PlainA
 
 /// The first actor, with the letter `start`.
 pub(crate) fn first_actor(alloc: Global, program: &Program) -> Result<PlainActor, NoMemory>
-    requires { ProgramIsGood program.now }
+    requires { IsWellFormed program.now }
     ensures { IfOk result (λ x. x ≡ the_first program.now) }
 {
     let mut actor = fresh_actor(alloc, program, 0);

@@ -1,7 +1,7 @@
 // What an act does to the table, with the turn that it ends. Where memory is refused, nothing changes.
 
 ghost use Rattle.std.specs.Prelude.{◌≡◌, ◌<◌, [], ◌∷◌, ◌++◌, length, slice_get, None, Some, IfSome, OnOk, OnErr};
-ghost use Rattle.behaviour_code.specs.Good.{ProgramIsGood};
+ghost use Rattle.behaviour_code.specs.WellFormed.{IsWellFormed};
 ghost use Rattle.plain_rules.specs.Machine.{fresh_actor as the_fresh, with_turn, with_letter};
 ghost use Rattle.plain_machine.specs.Undo.{has_rows, frame_left};
 
@@ -101,7 +101,7 @@ pub(crate) fn make(
     turn: &Turn,
     kind: u32,
 ) -> Result<(), NoMemory>
-    requires good { ProgramIsGood program.now }
+    requires good { IsWellFormed program.now }
     requires few { length actors.old < 65536 }
     requires there { a < length actors.old }
     requires rows { IfSome (slice_get actors.old a) (has_rows stand.now) }

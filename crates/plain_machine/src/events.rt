@@ -1,7 +1,7 @@
 // Running up to the next act.
 
 ghost use Rattle.std.specs.Prelude.{◌≡◌, ℕ, ◌+◌, ◌<◌, length, map, slice_get, IsOk, IsErr, IfSome, IfErr, OnOk, OnErr};
-ghost use Rattle.behaviour_code.specs.Good.{ProgramIsGood};
+ghost use Rattle.behaviour_code.specs.WellFormed.{IsWellFormed};
 ghost use Rattle.event_rule.specs.Runs.{Goes};
 ghost use Rattle.plain_rules.specs.Machine.{after_act, plain_go};
 ghost use Rattle.plain_machine.specs.Faults.{Faulted};
@@ -51,7 +51,7 @@ fn commit(
     turn: &mut Turn,
     deed: &Deed<'_>,
 ) -> Result<(), PlainFault>
-    requires good { ProgramIsGood program.now }
+    requires good { IsWellFormed program.now }
     requires there { a < length actors.old }
     requires rows { IfSome (slice_get actors.old a) (has_rows stand.now) }
     requires gone { (steps : ℕ) → plain_go (state_of program.now actors.old prints.old.items steps) a

@@ -8,7 +8,7 @@ use Rattle.std.proofs.lemmas.Option.{get_or_from_slice_get, slice_get_within}
 use Rattle.orca_names.specs.declared.names.Value.{Value}
 use Rattle.orca_names.specs.declared.row.Fields.{Fields}
 use Rattle.behaviour_code.specs.declared.code.Program.{Program}
-use Rattle.behaviour_code.specs.Good.{ProgramIsGood}
+use Rattle.behaviour_code.specs.WellFormed.{IsWellFormed}
 use Rattle.turn_rules.specs.declared.act.Act.{Act}
 use Rattle.turn_rules.specs.declared.act.Act.TheVariants.{Post, New, Print, End}
 use Rattle.turn_rules.specs.declared.act.Frame.{Frame}
@@ -72,7 +72,7 @@ after_act_is_within s a frame fields made (New kind register) within few = cases
         (omega (arith, ltb-true (length s.actors) 65536 e, length-append actors (fresh ∷ []), length-with_turn s.actors a (Some named) fields made))
         (omega (arith, sum_by-append (λ x. length x.rows) actors (fresh ∷ []), turn_makes s.actors a (Some named) fields made few))
 
-pub plain_go_is_within : (s : PlainState) (a : ℕ) → ProgramIsGood s.program → IsWithinLimits s → OnGoes IsWithinLimits (plain_go s a)
+pub plain_go_is_within : (s : PlainState) (a : ℕ) → IsWellFormed s.program → IsWithinLimits s → OnGoes IsWithinLimits (plain_go s a)
 plain_go_is_within s a good within = of_actor (slice_get s.actors a)
   where
     gone : PlainActor → Frame → Step PlainState

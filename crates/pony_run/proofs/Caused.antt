@@ -8,7 +8,7 @@ use Rattle.report_text.specs.Ends.{IsEnd}
 use Rattle.report_text.specs.Refusals.{HasRefusal}
 use Rattle.report_text.specs.declared.status.Status.{Status}
 use Rattle.report_text.specs.declared.status.Status.TheVariants as status
-use Rattle.behaviour_code.specs.Good.{ProgramIsGood}
+use Rattle.behaviour_code.specs.WellFormed.{IsWellFormed}
 use Rattle.behaviour_code.specs.declared.code.Program.{Program}
 use Rattle.behaviour_text.specs.Faults.{first_fault}
 use Rattle.behaviour_text.specs.Text.{IsText}
@@ -37,7 +37,7 @@ read_is source input read given taken =
     sym (given.taken ∙ taken_is source.after given.all read (subst (λ (b : Option (List ℕ)). TakesAll b source.after read) given.told taken))
 
 -- a text is of one program
-one_program : (input : List ℕ) (p q : Program) → IsText input p → ProgramIsGood p → IsText input q → ProgramIsGood q → q ≡ p
+one_program : (input : List ℕ) (p q : Program) → IsText input p → IsWellFormed p → IsText input q → IsWellFormed q → q ≡ p
 one_program input p q p_text p_good q_text q_good = let same : Ok q ≡ Ok p = sym (again input q q_text q_good) ∙ again input p p_text p_good in cc
 
 module _ (order : Order) (source : Sides) (answer : Status) (w : Work) (all : (answer ≡ status.NoMemory) ⊎ MeansSource answer w order source) where
@@ -142,7 +142,7 @@ module _ (order : Order) (source : Sides) (answer : Status) (w : Work) (all : (a
 
 module _ (order : Order) (source : Sides) (w : Work) (input : List ℕ) (program : Program) (given : IsGiven source input) (is : IsProgramOf input program) where
   -- the program that was read is the one that was given
-  read_program : (read : List ℕ) → TakesAll source.before source.after read → (p : Program) → IsText read p → ProgramIsGood p → p ≡ program
+  read_program : (read : List ℕ) → TakesAll source.before source.after read → (p : Program) → IsText read p → IsWellFormed p → p ≡ program
   read_program read taken p text good = one_program input program p is.text is.good (subst (λ i. IsText i p) (read_is source input read given taken) text) good
 
   end_of_run : (answer : Status) → MeansSource answer w order source → IsEnd answer → (state : PlainState) × RunsTo program order.budget w.book state × EndsWith answer state w.book order.budget

@@ -5,7 +5,7 @@ use Rattle.report_text.specs.Ends.{IsEnd}
 use Rattle.report_text.specs.Refusals.{HasRefusal}
 use Rattle.report_text.specs.declared.status.Status.{Status}
 use Rattle.report_text.specs.declared.status.Status.TheVariants as status
-use Rattle.behaviour_code.specs.Good.{ProgramIsGood}
+use Rattle.behaviour_code.specs.WellFormed.{IsWellFormed}
 use Rattle.behaviour_code.specs.declared.code.Program.{Program}
 use Rattle.behaviour_text.specs.Text.{IsText}
 use Rattle.pony_run.specs.Causes.{IsUnlessMemory}
@@ -20,7 +20,7 @@ pub record Ended (end : Status) (w : Work) (order : Order) (source : Sides) : Ty
   pub taken : TakesAll source.before source.after input
   pub program : Program
   pub text : IsText input program
-  pub good : ProgramIsGood program
+  pub good : IsWellFormed program
   pub ends : Ends end w order program
 
 pub ended : (answer : Status) (w : Work) (order : Order) (source : Sides) → MeansSource answer w order source → IsEnd answer → Ended answer w order source

@@ -8,7 +8,7 @@ use Rattle.report_text.specs.Ends.{IsEnd}
 use Rattle.report_text.specs.Refusals.{HasRefusal}
 use Rattle.report_text.specs.declared.status.Status.{Status}
 use Rattle.report_text.specs.declared.status.Status.TheVariants as status
-use Rattle.behaviour_code.specs.Good.{ProgramIsGood}
+use Rattle.behaviour_code.specs.WellFormed.{IsWellFormed}
 use Rattle.behaviour_code.specs.declared.code.Program.{Program}
 use Rattle.behaviour_text.specs.Faults.{first_fault}
 use Rattle.behaviour_text.specs.Text.{IsText}
@@ -31,7 +31,7 @@ pub record IsGiven (source : Sides) (input : List ℕ) : Type 0 where
 pub record IsProgramOf (input : List ℕ) (program : Program) : Type 0 where
   pub short : length input < most_bytes
   pub text : IsText input program
-  pub good : ProgramIsGood program
+  pub good : IsWellFormed program
 
 -- each answer to an order comes only where its cause is there
 pub record ComesOnly (order : Order) (source sink : Sides) (answer : Status)

@@ -13,7 +13,7 @@ use Rattle.word_line.specs.declared.order.Order.{Order}
 use Rattle.report_text.specs.Refusals.{refusal_of}
 use Rattle.report_text.specs.declared.status.Status.{Status}
 use Rattle.report_text.specs.declared.status.Status.TheVariants as status
-use Rattle.behaviour_code.specs.Good.{ProgramIsGood}
+use Rattle.behaviour_code.specs.WellFormed.{IsWellFormed}
 use Rattle.behaviour_code.specs.declared.code.Program.{Program}
 use Rattle.behaviour_text.specs.Faults.{first_fault}
 use Rattle.behaviour_text.specs.Text.{IsText}
@@ -110,13 +110,13 @@ MeansProgram answer w order program = HasChecked answer w order program
 
 pub record BadText (line kind : ℕ) (w : Work) (input : List ℕ) : Type 0 where
   pub first : first_fault input ≡ Some (line, kind)
-  pub no_program : (program : Program) → IsText input program → ProgramIsGood program → ⊥
+  pub no_program : (program : Program) → IsText input program → IsWellFormed program → ⊥
   pub refused : IsRefused w (status.BadText line kind)
 
 pub record HasProgram (answer : Status) (w : Work) (order : Order) (input : List ℕ) : Type 0 where
   pub program : Program
   pub text : IsText input program
-  pub good : ProgramIsGood program
+  pub good : IsWellFormed program
   pub means : MeansProgram answer w order program
 
 abbrev pub MeansText : Status → Work → Order → List ℕ → Type 0

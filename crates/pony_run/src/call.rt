@@ -4,7 +4,7 @@ ghost use Rattle.std.specs.Prelude.{◌≡◌, ◌<◌, ◌≤◌, [], false, le
 ghost use Rattle.report_text.specs.Ends.{IsEnd};
 ghost use Rattle.report_text.specs.Refusals.{HasRefusal};
 ghost use Rattle.word_line.specs.Orders.{IsInRange};
-ghost use Rattle.behaviour_code.specs.Good.{ProgramIsGood};
+ghost use Rattle.behaviour_code.specs.WellFormed.{IsWellFormed};
 ghost use Rattle.pony_run.specs.Causes.{Causes, OrderCauses};
 ghost use Rattle.pony_run.specs.Headline.{Answers, IsRefusedAs, MeansInput, MeansProgram, MeansRun, MeansText, RunsOrder, Writes, WritesReport};
 ghost use Rattle.pony_run.specs.Streams.{most_bytes, sides};
@@ -98,7 +98,7 @@ fn run_checked<K: Sink>(alloc: Global, order: &Order, code: &Checked, sink: &mut
 /// Runs the program of a text, if it keeps the rules.
 fn run_program<K: Sink>(alloc: Global, order: &Order, program: Program, sink: &mut K) -> Outcome
     requires order { IsInRange order.now }
-    requires good { ProgramIsGood program }
+    requires good { IsWellFormed program }
     ensures { Writes (sides K.written K.faults sink.old sink.new) result.book.entries
         (λ w. MeansProgram result.status w order.now program) }
 {

@@ -5,7 +5,7 @@ use Rattle.orca_names.specs.declared.row.Fields.{Fields}
 use Rattle.behaviour_code.specs.declared.instr.Instr.{Instr}
 use Rattle.behaviour_code.specs.declared.instr.Instr.TheVariants as I
 use Rattle.behaviour_code.specs.Find.{body_of, is_label}
-use Rattle.behaviour_code.specs.Good.{ProgramIsGood}
+use Rattle.behaviour_code.specs.WellFormed.{IsWellFormed}
 use Rattle.behaviour_code.proofs.Limits.{body_is_short}
 use Rattle.turn_rules.specs.declared.act.Effect.{Effect}
 use Rattle.turn_rules.specs.declared.act.Effect.TheVariants.{Next, Leap, Acts}
@@ -51,7 +51,7 @@ run_makes p (i ∷ rest) (Some label) place t =
     omega (arith, run_makes p rest (cond (is_label label i) None (Some label)) (place + 1) t)
 
 -- a segment makes at most 1,024 rows
-pub segment_makes : (p : Setting) (frame : Frame) (fields : Fields) → ProgramIsGood p.program → length (segment_of p frame fields).turn.made ≤ 1024
+pub segment_makes : (p : Setting) (frame : Frame) (fields : Fields) → IsWellFormed p.program → length (segment_of p frame fields).turn.made ≤ 1024
 segment_makes p frame fields good =
     let body = body_of p.program frame.kind frame.behaviour in
     omega (

@@ -16,7 +16,7 @@ use Rattle.turn_rules.specs.declared.act.Effect.TheVariants.{Next, Leap, Acts}
 use Rattle.turn_rules.specs.declared.act.Frame.{Frame}
 use Rattle.turn_rules.specs.Segment.{Setting, Turn, Stop, got_by, gets_from, gets_of, gets_on, value_at, place_of, step_of, on_effect, run_from, segment_of}
 use Rattle.turn_rules.specs.Laws.{IsKnown, act_values}
-use Rattle.turn_rules.proofs.Known.{KnowsValue, Knows, KnowsTurn, Knows-from_named, named_is_known, row_is_known, Knows-at, Knows-map, Knows-set, Each-push, KnowsTurn-more, Knows-more}
+use Rattle.turn_rules.proofs.Known.{KnowsValue, Knows, KnowsTurn, Knows-from_named, named_is_known, row_is_known, Knows-at, Knows-map, Knows-set, AllByRecursion-push, KnowsTurn-more, Knows-more}
 use Rattle.turn_rules.proofs.Names.{Known, KnowsEffect, KnowsEffect-leap, KnowsEffect-post, KnowsEffect-new, StepKnown, TurnKnown, first_known, first_turn, place_known, step_known}
 
 named_cases : (vs ws : List Value) (x : Thing) → Contains (named_by (vs ++ ws)) x → Contains (named_by vs) x ⊎ Contains (named_by ws) x
@@ -103,7 +103,7 @@ module _ (p : Setting) (K : ℕ → Thing → Type 0) (more : (m n : ℕ) → m 
       record {
         registers = Knows-set L t.registers d (Obj (record { owner = p.me; serial = p.base + length t.made })) old.registers (own (length t.made) (length (t.made ++ row ∷ [])) longer);
         fields = old.fields;
-        made = Each-push L t.made row old.made (Knows-more M L up row k);
+        made = AllByRecursion-push L t.made row old.made (Knows-more M L up row k);
       }
 
   steps : (i : Instr) (t : Turn) → Turns t → Knows (K (length t.made)) (got_by p i t) → Steps (step_of p i t)

@@ -1,11 +1,11 @@
 -- Values that name only what is known: reading and writing them keeps that.
 use Rattle.std.proofs.Common.{◌≡◌, ℕ, zero, suc, inl, inr, List, [], ◌∷◌, ◌++◌, map, Contains, Option, None, Some, subst, sym, refl}
+use Rattle.std.specs.List.{AllByRecursion}
 use Rattle.std.specs.Prelude.{IfSome, slice_get, slice_index_or, slice_set, unwrap_or}
 use Rattle.std.specs.Option.{option_map_or}
 use Rattle.orca_names.specs.declared.names.Thing.{Thing}
 use Rattle.orca_names.specs.declared.names.Value.{Value}
 use Rattle.orca_names.specs.declared.names.Value.TheVariants.{Null, Num, Actor, Obj}
-use Rattle.behaviour_code.specs.Good.{Each}
 use Rattle.reach_walk.specs.Reach.{thing_of, named_by}
 use Rattle.reach_walk.proofs.Elements.{Contains-head, Contains-later, Contains-cons_cases, none_in_nil}
 use Rattle.turn_rules.specs.Segment.{Turn, value_at}
@@ -15,7 +15,7 @@ abbrev pub KnowsValue : (Thing → Type 0) → Value → Type 0
 KnowsValue K v = IfSome (thing_of v) K
 
 abbrev pub Knows : (Thing → Type 0) → List Value → Type 0
-Knows K values = Each (KnowsValue K) values
+Knows K values = AllByRecursion (KnowsValue K) values
 
 abbrev pub KnowsRow : (Thing → Type 0) → Option (List Value) → Type 0
 KnowsRow K row = IfSome row (Knows K)
@@ -23,7 +23,7 @@ KnowsRow K row = IfSome row (Knows K)
 pub record KnowsTurn (K : Thing → Type 0) (t : Turn) : Type 0 where
   pub registers : Knows K t.registers
   pub fields : Knows K t.fields.values
-  pub made : Each (Knows K) t.made
+  pub made : AllByRecursion (Knows K) t.made
 
 -- one value more names a thing more, or none
 named_first : (v : Value) (vs : List Value) (x : Thing) → thing_of v ≡ Some x → Contains (named_by (v ∷ vs)) x
@@ -60,7 +60,7 @@ module _ (K : Thing → Type 0) where
   named_is_known (Actor a ∷ vs) h x c = first_or_later _ vs x h.0 (named_is_known vs h.1) c
   named_is_known (Obj n ∷ vs) h x c = first_or_later _ vs x h.0 (named_is_known vs h.1) c
 
-  pub row_is_known : (rows : List (List Value)) → Each (Knows K) rows → (row : List Value) → Contains rows row → Knows K row
+  pub row_is_known : (rows : List (List Value)) → AllByRecursion (Knows K) rows → (row : List Value) → Contains rows row → Knows K row
   row_is_known [] h row c = none_in_nil row (Knows K row) c
   row_is_known (r ∷ rows) h row c = elim (Contains-cons_cases r rows row c) as (λ _. Knows K row) [ inl e ↦ subst (Knows K) e h.0 | inr d ↦ row_is_known rows h.1 row d ]
 
@@ -75,7 +75,7 @@ module _ (K : Thing → Type 0) where
   Knows-map t h [] = tt
   Knows-map t h (r ∷ numbers) = (Knows-at t.registers r h, Knows-map t h numbers)
 
-  pub KnowsRow-get : (rows : List (List Value)) (i : ℕ) → Each (Knows K) rows → KnowsRow K (slice_get rows i)
+  pub KnowsRow-get : (rows : List (List Value)) (i : ℕ) → AllByRecursion (Knows K) rows → KnowsRow K (slice_get rows i)
   KnowsRow-get [] i h = tt
   KnowsRow-get (r ∷ rows) zero h = h.0
   KnowsRow-get (r ∷ rows) (suc i) h = KnowsRow-get rows i h.1
@@ -95,9 +95,9 @@ module _ (K : Thing → Type 0) where
   Knows-set (x ∷ vs) zero v h k = (k, h.1)
   Knows-set (x ∷ vs) (suc i) v h k = (h.0, Knows-set vs i v h.1 k)
 
-  pub Each-push : (rows : List (List Value)) (row : List Value) → Each (Knows K) rows → Knows K row → Each (Knows K) (rows ++ row ∷ [])
-  Each-push [] row h k = (k, tt)
-  Each-push (r ∷ rows) row h k = (h.0, Each-push rows row h.1 k)
+  pub AllByRecursion-push : (rows : List (List Value)) (row : List Value) → AllByRecursion (Knows K) rows → Knows K row → AllByRecursion (Knows K) (rows ++ row ∷ [])
+  AllByRecursion-push [] row h k = (k, tt)
+  AllByRecursion-push (r ∷ rows) row h k = (h.0, AllByRecursion-push rows row h.1 k)
 
 -- what knows more
 module _ (K L : Thing → Type 0) (more : (x : Thing) → K x → L x) where
@@ -111,7 +111,7 @@ module _ (K L : Thing → Type 0) (more : (x : Thing) → K x → L x) where
   Knows-more [] h = tt
   Knows-more (v ∷ vs) h = (value_more v h.0, Knows-more vs h.1)
 
-  pub rows_more : (rows : List (List Value)) → Each (Knows K) rows → Each (Knows L) rows
+  pub rows_more : (rows : List (List Value)) → AllByRecursion (Knows K) rows → AllByRecursion (Knows L) rows
   rows_more [] h = tt
   rows_more (r ∷ rows) h = (Knows-more r h.0, rows_more rows h.1)
 

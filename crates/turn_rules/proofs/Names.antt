@@ -1,5 +1,6 @@
 -- Proves that what a segment leaves names only what the actor knows.
 use Rattle.std.proofs.Common.{◌≡◌, ℕ, zero, suc, ◌+◌, ◌-◌, ◌<◌, ◌≤◌, ◌&&◌, ◌==◌, cond, Bool, true, false, List, [], ◌∷◌, ◌++◌, length, drop, map, Contains, Option, None, Some, refl, sym, ap₂, subst, eq-eqb, arith, length-append}
+use Rattle.std.specs.List.{AllByRecursion}
 use Rattle.std.specs.Prelude.{nat_le, slice_get, slice_index_or, slice_set, unwrap_or}
 use Rattle.std.specs.Option.{option_map_or}
 use Rattle.std.proofs.lemmas.Bool.{le-leb}
@@ -13,7 +14,6 @@ use Rattle.orca_names.specs.declared.row.Fields.{Fields}
 use Rattle.behaviour_code.specs.declared.instr.Instr.{Instr}
 use Rattle.behaviour_code.specs.declared.instr.Instr.TheVariants as I
 use Rattle.behaviour_code.specs.Find.{body_of, is_label, kind_named}
-use Rattle.behaviour_code.specs.Good.{Each}
 use Rattle.reach_walk.specs.Reach.{named_by, thing_of, root, step}
 use Rattle.turn_rules.specs.declared.act.Act.TheVariants.{New}
 use Rattle.turn_rules.specs.declared.act.Effect.{Effect}
@@ -21,7 +21,7 @@ use Rattle.turn_rules.specs.declared.act.Effect.TheVariants.{Next, Leap, Acts}
 use Rattle.turn_rules.specs.declared.act.Frame.{Frame}
 use Rattle.turn_rules.specs.Segment.{Setting, Turn, Stop, value_at, row_in, place_of, leap_if_zero, post_to, step_of, on_effect, run_from, segment_of}
 use Rattle.turn_rules.specs.Laws.{IsKnown, reached, itself, own, NamesOnlyKnown, act_values}
-use Rattle.turn_rules.proofs.Known.{KnowsValue, Knows, KnowsRow, KnowsTurn, Knows-from_named, named_is_known, row_is_known, Knows-at, Knows-map, KnowsRow-get, KnowsRow-from, KnowsValue-in_row, Knows-set, Each-push, KnowsTurn-more, Knows-more}
+use Rattle.turn_rules.proofs.Known.{KnowsValue, Knows, KnowsRow, KnowsTurn, Knows-from_named, named_is_known, row_is_known, Knows-at, Knows-map, KnowsRow-get, KnowsRow-from, KnowsValue-in_row, Knows-set, AllByRecursion-push, KnowsTurn-more, Knows-more}
 
 -- whether an object is one that the actor makes in this turn
 abbrev pub is_made : Setting → ObjName → Bool
@@ -66,7 +66,7 @@ module _ (p : Setting) (frame : Frame) (fields : Fields) where
   row_before made n old (itself e) = cc
   row_before made n old (own i l e) = let same : n ≡ record { owner = p.me; serial = p.base + i } = cc in let yes = is_made-own p n i same in cc
 
-  row_known : (made : ℕ) (rows : List (List Value)) (n : ObjName) → Each (Knows (Known made)) rows → Known made (things.Obj n) → KnowsRow (Known made) (row_in p rows n)
+  row_known : (made : ℕ) (rows : List (List Value)) (n : ObjName) → AllByRecursion (Knows (Known made)) rows → Known made (things.Obj n) → KnowsRow (Known made) (row_in p rows n)
   row_known made rows n h k = cases (is_made p n) refl
     where
       cases : (b : Bool) → is_made p n ≡ b → KnowsRow (Known made) (cond b (slice_get rows (n.serial - p.base)) (p.rows n))
@@ -104,7 +104,7 @@ module _ (p : Setting) (frame : Frame) (fields : Fields) where
       record {
         registers = Knows-set L t.registers d (Obj (record { owner = p.me; serial = p.base + length t.made })) old.registers (own (length t.made) longer refl);
         fields = old.fields;
-        made = Each-push L t.made row old.made (Knows-more K L more row k);
+        made = AllByRecursion-push L t.made row old.made (Knows-more K L more row k);
       }
 
   pub step_known : (i : Instr) (t : Turn) → TurnKnown t → StepKnown (step_of p i t)

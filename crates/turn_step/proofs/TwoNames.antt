@@ -1,7 +1,8 @@
 -- The program of the tests is one that some text gives.
 use Rattle.std.proofs.Common.{◌≡◌, ℕ, zero, suc, ◌<◌, ◌≤◌, List, [], ◌∷◌, length, Option, None, Some, codes, refl, sym, ap, subst, ◌∙◌, arith}
+use Rattle.std.specs.List.{AllByRecursion}
 use Rattle.std.specs.Prelude.{IfSome, slice_index_or}
-use Rattle.behaviour_code.specs.Good.{Each, InstrFits, InstrIsGood, NameFits, ProgramIsGood, body_names, instr_names, name_in}
+use Rattle.behaviour_code.specs.WellFormed.{InstrFits, InstrIsWellFormed, NameFits, IsWellFormed, body_names, instr_names, name_in}
 use Rattle.behaviour_code.specs.Names.{interned, text_of, with_text}
 use Rattle.behaviour_code.specs.declared.code.Behaviour.{Behaviour}
 use Rattle.behaviour_code.specs.declared.code.Kind.{Kind}
@@ -48,15 +49,15 @@ instr_names-known : (name : Option ℕ) → IfSome name (λ n. n < 2) → instr_
 instr_names-known None l = refl
 instr_names-known (Some n) l = with_text-known n l
 
-body_names-known : (body : List Instr) → Each IsOfTwo body → body_names (text_of texts) texts body ≡ texts
+body_names-known : (body : List Instr) → AllByRecursion IsOfTwo body → body_names (text_of texts) texts body ≡ texts
 body_names-known [] h = refl
 body_names-known (i ∷ body) h = ap (λ (ts : List (List ℕ)). body_names (text_of texts) ts body) (instr_names-known (name_in i) h.0.1) ∙ body_names-known body h.1
 
-body_is_good : (body : List Instr) → Each IsOfTwo body → Each (InstrIsGood texts) body
+body_is_good : (body : List Instr) → AllByRecursion IsOfTwo body → AllByRecursion (InstrIsWellFormed texts) body
 body_is_good [] h = tt
 body_is_good (i ∷ body) h = (record { fits = h.0.0; named = names_fit (name_in i) h.0.1 }, body_is_good body h.1)
 
-program_is_good : (body : List Instr) → length body ≤ 1024 → Each IsOfTwo body → ProgramIsGood (program_of body)
+program_is_good : (body : List Instr) → length body ≤ 1024 → AllByRecursion IsOfTwo body → IsWellFormed (program_of body)
 program_is_good body short h = record {
   few = omega arith;
   kinds = (
@@ -73,11 +74,11 @@ program_is_good body short h = record {
 }
 
 -- the same where names and lists are made one after another
-pub made_is_good : (empty one two : List (List ℕ)) (main start : ℕ) (body listed : List Instr) (behaviours none : List Behaviour) (kinds : List Kind) → length body ≤ 1024 → Each IsOfTwo body
+pub made_is_good : (empty one two : List (List ℕ)) (main start : ℕ) (body listed : List Instr) (behaviours none : List Behaviour) (kinds : List Kind) → length body ≤ 1024 → AllByRecursion IsOfTwo body
     → empty ≡ [] → interned empty (codes "Main") ≡ (main, one) → interned one (codes "start") ≡ (start, two)
     → listed ≡ body → behaviours ≡ record { name = start; parameters = 0; body = listed } ∷ [] → none ≡ []
     → kinds ≡ record { name = main; fields = 2; behaviours = behaviours } ∷ record { name = start; fields = 0; behaviours = none } ∷ []
-    → ProgramIsGood (record { kinds = kinds; names = two })
+    → IsWellFormed (record { kinds = kinds; names = two })
 made_is_good empty one two main start body listed behaviours none kinds short h no_names first second of_body of_behaviours of_none of_kinds =
     let at_first : ◌≡◌ {A = ℕ × List (List ℕ)} (0, codes "Main" ∷ []) (main, one) = subst (λ (ns : List (List ℕ)). interned ns (codes "Main") ≡ (main, one)) no_names first in
     let one_is : codes "Main" ∷ [] ≡ one = ap (λ (p : ℕ × List (List ℕ)). p.1) at_first in
@@ -86,4 +87,4 @@ made_is_good empty one two main start body listed behaviours none kinds short h 
     let start_is : 1 ≡ start = ap (λ (p : ℕ × List (List ℕ)). p.0) at_second in
     let two_is : texts ≡ two = ap (λ (p : ℕ × List (List ℕ)). p.1) at_second in
     let same : program_of body ≡ record { kinds = kinds; names = two } = cc in
-    subst ProgramIsGood same (program_is_good body short h)
+    subst IsWellFormed same (program_is_good body short h)

@@ -5,7 +5,8 @@ ghost use Rattle.std.proofs.Common.{refl, sym, arith};
 ghost use Rattle.std.proofs.lemmas.Bool.{and_parts, eqb-true};
 ghost use Rattle.std.proofs.lemmas.Option.{none-some};
 ghost use Rattle.orca_names.specs.Names.{is_thing};
-ghost use Rattle.behaviour_code.specs.Good.{Each, InstrFits, ProgramIsGood, name_in};
+ghost use Rattle.std.specs.List.{AllByRecursion};
+ghost use Rattle.behaviour_code.specs.WellFormed.{InstrFits, IsWellFormed, name_in};
 
 use crate::{Act, Frame, RegisterFile, segment, segment_held};
 use behaviour_check::{CheckFault, Checked, check};
@@ -69,8 +70,8 @@ impl Rows for OneRow {
 // second kind has nothing.
 fn program(alloc: Global, body: Vec<Instr>) -> Result<Program, AllocError>
     requires short { length body.items ≤ 1024 }
-    requires good { Each (λ i. InstrFits i × IfSome (name_in i) (λ n. n < 2)) body.items }
-    ensures { IfOk result ProgramIsGood }
+    requires good { AllByRecursion (λ i. InstrFits i × IfSome (name_in i) (λ n. n < 2)) body.items }
+    ensures { IfOk result IsWellFormed }
 {
     let mut names = Names::new(alloc);
     let main = names.intern("Main")?;
@@ -120,7 +121,7 @@ struct Start {
 // At a place of the body.
 fn start_at(alloc: Global, body: Vec<Instr>, place: u32) -> Result<Start, Fail>
     requires short { length body.items ≤ 1024 }
-    requires good { Each (λ i. InstrFits i × IfSome (name_in i) (λ n. n < 2)) body.items }
+    requires good { AllByRecursion (λ i. InstrFits i × IfSome (name_in i) (λ n. n < 2)) body.items }
 {
     let values = [
         Value::Num(7),
@@ -166,7 +167,7 @@ struct Left {
 // What the turn leaves; the actor's next object is 3.
 fn turn(alloc: Global, body: Vec<Instr>, place: u32) -> Result<Left, Fail>
     requires short { length body.items ≤ 1024 }
-    requires good { Each (λ i. InstrFits i × IfSome (name_in i) (λ n. n < 2)) body.items }
+    requires good { AllByRecursion (λ i. InstrFits i × IfSome (name_in i) (λ n. n < 2)) body.items }
 {
     let Start {
         code,
@@ -188,7 +189,7 @@ fn turn(alloc: Global, body: Vec<Instr>, place: u32) -> Result<Left, Fail>
 // What the turn leaves where the actor lacks a thing.
 fn turn_without(alloc: Global, body: Vec<Instr>, lacked: Thing) -> Result<Left, Fail>
     requires short { length body.items ≤ 1024 }
-    requires good { Each (λ i. InstrFits i × IfSome (name_in i) (λ n. n < 2)) body.items }
+    requires good { AllByRecursion (λ i. InstrFits i × IfSome (name_in i) (λ n. n < 2)) body.items }
 {
     let Start {
         code,
@@ -392,7 +393,7 @@ fn acts(rt: HostRuntime) -> Result<(), Fail> {
 // The second get is of an actor that is lacked, the third of an object whose owner it is.
 fn gets(alloc: Global) -> Result<Vec<Instr>, AllocError>
     ensures short { IfOk result (λ body. length body.items ≤ 1024) }
-    ensures good { IfOk result (λ body. Each (λ i. InstrFits i × IfSome (name_in i) (λ n. n < 2)) body.items) }
+    ensures good { IfOk result (λ body. AllByRecursion (λ i. InstrFits i × IfSome (name_in i) (λ n. n < 2)) body.items) }
 {
     let body = vec![in alloc;
         Instr::Row(8, RowRegisters::of(vec![in alloc; 4, 5]?)),

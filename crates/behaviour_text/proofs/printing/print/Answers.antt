@@ -1,5 +1,5 @@
 use Rattle.std.proofs.Common.{◌≡◌, None, List, ℕ, subst, sym}
-use Rattle.behaviour_code.specs.Good.{ProgramIsGood}
+use Rattle.behaviour_code.specs.WellFormed.{IsWellFormed}
 use Rattle.behaviour_code.specs.declared.code.Program.{Program}
 use Rattle.behaviour_text.specs.Faults.{first_fault}
 use Rattle.behaviour_text.specs.Text.{canonical, IsText}
@@ -16,5 +16,5 @@ returns-clause-sound c good =
 
 pub returns-clause-only : goal.returns-clause-only
 returns-clause-only c good =
-    subst (λ (t : List ℕ). (p : Program) → IsText t p → ProgramIsGood p → p ≡ c.args.program.now) (sym c.in_ok-canonical_bytes.ensures)
+    subst (λ (t : List ℕ). (p : Program) → IsText t p → IsWellFormed p → p ≡ c.args.program.now) (sym c.in_ok-canonical_bytes.ensures)
     (λ p text other. canonical_only c.args.program.now p good text other)

@@ -1,16 +1,13 @@
--- What a program is like that some text gives.
+-- Well-formed programs: those that some text gives.
 use Rattle.std.specs.Prelude.{ℕ, ◌≡◌, ◌<◌, ◌≤◌, ◌^◌, List, [], ◌∷◌, Option, Some, None, All, IfSome, length, true}
+use Rattle.std.specs.List.{AllByRecursion}
+use Rattle.orca_names.specs.declared.limits.TheConstants.{BEHAVIOURS_LIMIT, BODY_LIMIT, FIELDS_LIMIT, KINDS_LIMIT, VALUES_LIMIT}
 use Rattle.behaviour_code.specs.Names.{is_name, text_of, with_text}
 use Rattle.behaviour_code.specs.declared.instr.Instr.{Instr}
 use Rattle.behaviour_code.specs.declared.instr.Instr.TheVariants as I
 use Rattle.behaviour_code.specs.declared.code.Behaviour.{Behaviour}
 use Rattle.behaviour_code.specs.declared.code.Kind.{Kind}
 use Rattle.behaviour_code.specs.declared.code.Program.{Program}
-
--- a fact of each element, one after the other
-abbrev pub Each : {X : Type 0} → (X → Type 0) → List X → Type 0
-Each P [] = Unit {0}
-Each P (x ∷ xs) = P x × Each P xs
 
 -- the number has 64 bits
 abbrev pub Fits64 : ℕ → Type 0
@@ -27,7 +24,8 @@ InstrFits (I.Sub d a b) = Fits64 d × Fits64 a × Fits64 b
 InstrFits (I.Mul d a b) = Fits64 d × Fits64 a × Fits64 b
 InstrFits (I.Less d a b) = Fits64 d × Fits64 a × Fits64 b
 InstrFits (I.Same d a b) = Fits64 d × Fits64 a × Fits64 b
-InstrFits (I.Row d values) = Fits64 d × (1 ≤ length values) × (length values ≤ 8) × All Fits64 values
+InstrFits (I.Row d values) =
+    Fits64 d × (1 ≤ length values) × (length values ≤ VALUES_LIMIT) × All Fits64 values
 InstrFits (I.Get d s n) = Fits64 d × Fits64 s × Fits64 n
 InstrFits (I.Load d f) = Fits64 d × Fits64 f
 InstrFits (I.Store f s) = Fits64 f × Fits64 s
@@ -37,7 +35,8 @@ InstrFits (I.Label l) = Unit {0}
 InstrFits I.Pin = Unit {0}
 InstrFits I.Unpin = Unit {0}
 InstrFits (I.New d kind) = Fits64 d
-InstrFits (I.Send to behaviour values) = Fits64 to × (length values ≤ 8) × All Fits64 values
+InstrFits (I.Send to behaviour values) =
+    Fits64 to × (length values ≤ VALUES_LIMIT) × All Fits64 values
 InstrFits (I.Print a) = Fits64 a
 
 -- the name in an instruction
@@ -79,26 +78,26 @@ kinds_names text texts [] = texts
 kinds_names text texts (k ∷ ks) =
     kinds_names text (behaviours_names text (with_text texts (text k.name)) k.behaviours) ks
 
-pub record InstrIsGood (texts : List (List ℕ)) (i : Instr) : Type 0 where
+pub record InstrIsWellFormed (texts : List (List ℕ)) (i : Instr) : Type 0 where
   pub fits : InstrFits i
   pub named : IfSome (name_in i) (NameFits texts)
 
-pub record BehaviourIsGood (texts : List (List ℕ)) (b : Behaviour) : Type 0 where
+pub record BehaviourIsWellFormed (texts : List (List ℕ)) (b : Behaviour) : Type 0 where
   pub named : NameFits texts b.name
-  pub parameters : b.parameters ≤ 8
-  pub short : length b.body ≤ 1024
-  pub body : Each (InstrIsGood texts) b.body
+  pub parameters : b.parameters ≤ VALUES_LIMIT
+  pub short : length b.body ≤ BODY_LIMIT
+  pub body : AllByRecursion (InstrIsWellFormed texts) b.body
 
-pub record KindIsGood (texts : List (List ℕ)) (k : Kind) : Type 0 where
+pub record KindIsWellFormed (texts : List (List ℕ)) (k : Kind) : Type 0 where
   pub named : NameFits texts k.name
-  pub fields : k.fields ≤ 8
-  pub few : length k.behaviours ≤ 64
-  pub behaviours : Each (BehaviourIsGood texts) k.behaviours
+  pub fields : k.fields ≤ FIELDS_LIMIT
+  pub few : length k.behaviours ≤ BEHAVIOURS_LIMIT
+  pub behaviours : AllByRecursion (BehaviourIsWellFormed texts) k.behaviours
 
--- the program keeps the limits, its names have texts, each text once, and they stand in the order in
+-- it keeps the limits, its names have texts, each text once, and they stand in the order in
 -- which they come first
-pub record ProgramIsGood (p : Program) : Type 0 where
-  pub few : length p.kinds ≤ 256
-  pub kinds : Each (KindIsGood p.names) p.kinds
+pub record IsWellFormed (p : Program) : Type 0 where
+  pub few : length p.kinds ≤ KINDS_LIMIT
+  pub kinds : AllByRecursion (KindIsWellFormed p.names) p.kinds
   pub apart : AreApart p.names
   pub in_order : kinds_names (text_of p.names) [] p.kinds ≡ p.names
