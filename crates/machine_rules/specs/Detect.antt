@@ -42,7 +42,8 @@ empty_seats (a ∷ rest) actors = empty_seats rest (set actors a None)
 -- the Decs that return what each of the rest held outside of the set, one after another
 unfoldable pub reap_decs : List ℕ → List ℕ → Actors → List (ℕ × List Amount)
 reap_decs members [] actors = []
-reap_decs members (a ∷ rest) actors = by_owner (held_outside members (seat_at actors a)) ++ reap_decs members rest (set actors a None)
+reap_decs members (a ∷ rest) actors =
+    by_owner (held_outside members (seat_at actors a)) ++ reap_decs members rest (set actors a None)
 
 -- the members of a set go, and Decs return what they held outside of it
 abbrev pub reap_members : List ℕ → Actors → Actors
