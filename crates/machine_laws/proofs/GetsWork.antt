@@ -1,5 +1,5 @@
 -- How many values a turn gets and its actor needs, where seats change, and where it mints for the first of them.
-use Rattle.std.proofs.Common.{◌≡◌, ℕ, zero, suc, ◌≤◌, ◌<◌, ◌==◌, ◌&&◌, ◌||◌, not, Bool, true, false, cond, Option, Some, None, List, [], ◌∷◌, ◌++◌, length, filter, set, refl, ap, sym, ◌∙◌, arith, eq-eqb, eqb-true}
+use Rattle.std.proofs.Common.{◌≡◌, ℕ, zero, suc, ◌≤◌, ◌<◌, ◌==◌, ◌&&◌, ◌||◌, not, Bool, true, false, cond, Option, Some, None, List, [], ◌∷◌, length, filter, set, refl, ap, sym, ◌∙◌, arith, eq-eqb, eqb-true}
 use Rattle.std.specs.FinMap.Entries.{by_order}
 use Rattle.std.specs.List.{find}
 use Rattle.std.specs.declared.cmp.Ordering.{Ordering}
@@ -17,7 +17,7 @@ use Rattle.turn_rules.specs.Segment.{gets_of}
 use Rattle.turn_rules.specs.declared.act.Frame.{Frame}
 use Rattle.letter_kinds.proofs.Amounts.{held-mint_all}
 use Rattle.letter_kinds.proofs.Filters.{length-filter_le}
-use Rattle.letter_kinds.specs.Counting.{Amount, by_owner, mint_all, mint_one, set_held}
+use Rattle.letter_kinds.specs.Counting.{Amount, mint_all, mint_one, set_held}
 use Rattle.letter_kinds.specs.Holdings.{Holdings, held_in}
 use Rattle.letter_kinds.specs.Sums.{amount_of}
 use Rattle.letter_kinds.specs.declared.letter.Letter.{Letter}
