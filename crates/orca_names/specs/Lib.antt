@@ -1,3 +1,4 @@
+pub mod Codes
 pub mod Halves
 pub mod Names
 pub mod Places

@@ -5,7 +5,7 @@ ghost use Rattle.std.proofs.Common.{rules};
 ghost use Rattle.std.specs.Cmp.{partial_order_from_own_ties};
 ghost use Rattle.std.specs.Cmp.Rules.{comparing};
 ghost use Rattle.std.specs.Ordering.{as_partial_cmp};
-ghost use Rattle.orca_names.specs.Names.{owner_of, serial_of, thing_cmp, thing_of};
+ghost use Rattle.orca_names.specs.Names.{owner_of, thing_cmp, thing_of};
 
 use std::cmp::Ordering;
 use std::marker::Model;
@@ -105,16 +105,6 @@ impl Thing {
             Thing::Obj(n) => n.owner,
         }
     }
-
-    /// The serial of an object, `None` for an actor.
-    fn serial(&self) -> Option<u64>
-        ensures { result ≡ serial_of self.now }
-    {
-        match self {
-            Thing::Actor(_) => None,
-            Thing::Obj(n) => Some(n.serial.get()),
-        }
-    }
 }
 
 /// By owner; the actor itself comes before its objects, these by serial.
@@ -128,9 +118,24 @@ impl Ord for Thing {
     ghost matches_eq = { Prim.search (comparing, rules) };
 
     fn cmp(&self, other: &Thing) -> Ordering {
-        self.owner()
-            .cmp(&other.owner())
-            .then(self.serial().cmp(&other.serial()))
+        let mine = self.owner().0;
+        let others = other.owner().0;
+        if mine < others {
+            return Ordering::Less;
+        }
+        if others < mine {
+            return Ordering::Greater;
+        }
+        match self {
+            Thing::Actor(_) => match other {
+                Thing::Actor(_) => Ordering::Equal,
+                Thing::Obj(_) => Ordering::Less,
+            },
+            Thing::Obj(n) => match other {
+                Thing::Actor(_) => Ordering::Greater,
+                Thing::Obj(m) => n.serial.get().cmp(&m.serial.get()),
+            },
+        }
     }
 }
 
