@@ -1,0 +1,10 @@
+use Rattle.std.proofs.Common.{sym, subst, ◌∙◌, None, ◌≡◌}
+use Rattle.std.specs.Prelude.{◌==◌}
+use Rattle.std.specs.List.{find}
+use Rattle.letter_kinds.specs.Detector.{Token}
+use Rattle.cycle_detect.proofs.Indexing.{none_numbered}
+use Rattle.cycle_detect.proofs.tokens.Tokens.take.Goals as goal
+
+pub returns-in-None-clause-others : goal.returns-in-None-clause-others
+returns-in-None-clause-others c =
+    sym (none_numbered c.args.self.now c.args.number (subst (λ ts. find (λ (t : Token). t.number == c.args.number) ts ≡ None) (c.deref.ensures.value ∙ c.self.view_is) c.in-None.ensures.none))
