@@ -8,15 +8,11 @@ use Rattle.std.specs.Option.{option_map_or}
 use Rattle.letter_kinds.specs.Detector.{Detector, Token, all_acked, close_token, has, note_ack, token_numbered}
 use Rattle.letter_kinds.specs.Reports.{drop_report}
 use Rattle.letter_kinds.specs.declared.note.Report.{Report}
-use Rattle.cycle_detect.specs.Open.{first_acked, numbers}
+use Rattle.cycle_detect.specs.Open.{acked_by_all, first_acked, IsLowestAcked, numbers}
 use Rattle.cycle_detect.specs.Rising.{AllAbove, Rising}
 use Rattle.cycle_detect.proofs.OpenLemmas.{first-above}
 
 -- no number is above that of the last token that was opened
-pub opened-filter : (p : Token → Bool) (n : ℕ) (ts : List Token) → AllByRecursion (λ t. t.number ≤ n) ts → AllByRecursion (λ t. t.number ≤ n) (filter p ts)
-opened-filter p n [] h = tt
-opened-filter p n (t ∷ ts) h = cond_both (p t) (t ∷ filter p ts) (filter p ts) (AllByRecursion (λ u. u.number ≤ n)) (λ _. (h.0, opened-filter p n ts h.1)) (λ _. opened-filter p n ts h.1)
-
 pub opened-acks : (m a n : ℕ) (ts : List Token) → AllByRecursion (λ t. t.number ≤ n) ts → AllByRecursion (λ t. t.number ≤ n) (map (note_ack m a) ts)
 opened-acks m a n [] h = tt
 opened-acks m a n (t ∷ ts) h = (h.0, opened-acks m a n ts h.1)
@@ -46,7 +42,7 @@ first-on t ts on = rw on refl
 first-off : (t : Token) (ts : List Token) → all_acked t ≡ false → first_acked (t ∷ ts) ≡ first_acked ts
 first-off t ts off = rw off refl
 
-pub first_lowest : (ts : List Token) → Rising (numbers ts) → IfSome (first_acked ts) (λ n. AllByRecursion (λ t. all_acked t ≡ true → n ≤ t.number) ts)
+first_lowest : (ts : List Token) → Rising (numbers ts) → IfSome (first_acked ts) (λ n. AllByRecursion (λ t. all_acked t ≡ true → n ≤ t.number) ts)
 first_lowest [] h = tt
 first_lowest (t ∷ ts) h =
     let P = λ (o : Option ℕ). IfSome o (λ n. AllByRecursion (λ (u : Token). all_acked u ≡ true → n ≤ u.number) (t ∷ ts)) in
@@ -60,7 +56,7 @@ acked_more : (t : Token) (ts : List Token) (o : Option ℕ) → IfSome o (λ n. 
 acked_more t ts None lt h = tt
 acked_more t ts (Some n) lt h = grind (arith, nat_tests)
 
-pub first_is_acked : (ts : List Token) → Rising (numbers ts) → IfSome (first_acked ts) (λ n. option_map_or all_acked (find (λ t. t.number == n) ts) false ≡ true)
+first_is_acked : (ts : List Token) → Rising (numbers ts) → IfSome (first_acked ts) (λ n. option_map_or all_acked (find (λ t. t.number == n) ts) false ≡ true)
 first_is_acked [] h = tt
 first_is_acked (t ∷ ts) h =
     let P = λ (o : Option ℕ). IfSome o (λ n. option_map_or all_acked (find (λ (u : Token). u.number == n) (t ∷ ts)) false ≡ true) in
@@ -68,6 +64,13 @@ first_is_acked (t ∷ ts) h =
     (λ (on : all_acked t ≡ true). subst P (sym (first-on t ts on)) (rw (eq-eqb t.number t.number refl) on))
     (λ (off : all_acked t ≡ false). subst P (sym (first-off t ts off)) (acked_more t ts (first_acked ts) (first-above t.number ts h.0) (first_is_acked ts h.1)))
     (cases_Bool (all_acked t))
+
+pub lowest_acked : (d : Detector) → Rising (numbers d.tokens) → IfSome (first_acked d.tokens) (IsLowestAcked d)
+lowest_acked d h = both (first_acked d.tokens) (first_is_acked d.tokens h) (first_lowest d.tokens h)
+  where
+    both : (o : Option ℕ) → IfSome o (λ n. acked_by_all d n ≡ true) → IfSome o (λ n. AllByRecursion (λ t. all_acked t ≡ true → n ≤ t.number) d.tokens) → IfSome o (IsLowestAcked d)
+    both None one two = tt
+    both (Some n) one two = record { acked = one; lowest = two }
 
 -- ---- reports go, one after another
 

@@ -6,7 +6,7 @@ use Rattle.std.specs.List.{AllByRecursion, find, remove}
 use Rattle.letter_kinds.specs.Detector.{Token, has, in_token, note_ack, all_acked}
 use Rattle.cycle_detect.specs.Open.{first_acked, AreIndexed, HasMemberAt, IsNumberedAt, IsTold, first_with, lower_of, numbers}
 use Rattle.cycle_detect.specs.Rising.{Rising}
-use Rattle.cycle_detect.proofs.OpenLemmas.{acks_at, cancel-one, first-filter, first-pending, first-push, first-ready, numbered-filter, numbered-push, numbers-acks, remove-numbered, told-acks, told-filter, told-push, told_number}
+use Rattle.cycle_detect.proofs.OpenLemmas.{acks_at, cancel-one, first-filter, first-pending, first-push, first-ready, numbered-filter, numbered-push, numbers-acks, remove-numbered, told-acks, told-push, told-wider, each-filter}
 
 -- the token at the place, after the acknowledgement
 noted : (ts : List Token) (n a i : ℕ) (t u : Token) → IsNumberedAt ts n i → t ≡ get_or ts i t → u ≡ note_ack t.number a t → u ≡ note_ack n a (get_or ts i t)
@@ -44,25 +44,16 @@ pending_index ts told ready n a i t u k at is e off =
 pub taken : (ts us : List Token) (told : ℕ → Option ℕ) (ready : Option ℕ) (i : ℕ) (t : Token) → AreIndexed ts told ready → i < length ts → t ≡ get_or ts i t → us ≡ remove ts i → us ≡ filter (λ u. not (u.number == t.number)) ts
 taken ts us told ready i t k lt is e = e ∙ remove-numbered ts t.number i t k.numbered lt (sym (ap (λ (x : Token). x.number) is))
 
-taken_told : (ts us : List Token) (told later : ℕ → Option ℕ) (ready : Option ℕ) (i : ℕ) (t : Token) → AreIndexed ts told ready → i < length ts → t ≡ get_or ts i t → us ≡ remove ts i
-    → ((m : ℕ) → has t.members m ≡ false → later m ≡ told m) → AllByRecursion (IsTold later) us
-taken_told ts us told later ready i t k lt is e same =
-    subst (AllByRecursion (IsTold later)) (sym (taken ts us told ready i t k lt is e))
-    (told-filter told later t.number t.members ts
-    (λ m h. told_number told m ts i t k.members lt (ap (λ (x : Token). has x.members m) (sym is) ∙ h) ∙ ap (λ (x : Token). Some x.number) (sym is))
-    same k.members)
-
-taken_numbered : (ts us : List Token) (told : ℕ → Option ℕ) (ready : Option ℕ) (i : ℕ) (t : Token) → AreIndexed ts told ready → i < length ts → t ≡ get_or ts i t → us ≡ remove ts i → Rising (numbers us)
-taken_numbered ts us told ready i t k lt is e =
-    subst (λ us. Rising (numbers us)) (sym (taken ts us told ready i t k lt is e)) (numbered-filter (λ u. not (u.number == t.number)) ts k.numbered)
-
-pub taken_index : (ts us : List Token) (told later : ℕ → Option ℕ) (ready : Option ℕ) (i : ℕ) (t : Token) → AreIndexed ts told ready → i < length ts → t ≡ get_or ts i t → us ≡ remove ts i
-    → ((m : ℕ) → has t.members m ≡ false → later m ≡ told m) → (first : Option ℕ) → first ≡ first_acked us → AreIndexed us later first
-taken_index ts us told later ready i t k lt is e same first f = record {
-  numbered = taken_numbered ts us told ready i t k lt is e;
-  members = taken_told ts us told later ready i t k lt is e same;
-  first = f;
-}
+pub taken_index : (ts us : List Token) (told : ℕ → Option ℕ) (ready first : Option ℕ) (i : ℕ) (t : Token) → AreIndexed ts told ready → i < length ts → t ≡ get_or ts i t → us ≡ remove ts i
+    → first ≡ first_acked us → AreIndexed us told first
+taken_index ts us told ready first i t k lt is e f =
+    let all = taken ts us told ready i t k lt is e in
+    let other : Token → Bool = λ u. not (u.number == t.number) in
+    record {
+      numbered = subst (λ us. Rising (numbers us)) (sym all) (numbered-filter other ts k.numbered);
+      members = subst (AllByRecursion (IsTold told)) (sym all) (each-filter (IsTold told) other ts k.members);
+      first = f;
+    }
 
 pub first_stays : (ts us : List Token) (told : ℕ → Option ℕ) (ready : Option ℕ) (i : ℕ) (t : Token) → AreIndexed ts told ready → i < length ts → t ≡ get_or ts i t → us ≡ remove ts i → ready ≢ Some t.number → ready ≡ first_acked us
 first_stays ts us told ready i t k lt is e other =
@@ -80,27 +71,25 @@ cancels ts told ready a i t k at got =
 
 -- ---- one comes
 
-pub pushed_index : (ts us : List Token) (told later : ℕ → Option ℕ) (ready : Option ℕ) (n : ℕ) (ms : List ℕ) (t : Token) → AreIndexed ts told ready → AllByRecursion (λ (u : Token). u.number < n) ts → t ≡ record { number = n; members = ms; acked = [] }
-    → ((m : ℕ) → has ms m ≡ true → in_token ts m ≡ false) → ((m : ℕ) → has ms m ≡ true → later m ≡ Some n) → ((m : ℕ) → has ms m ≡ false → later m ≡ told m) → us ≡ ts ++ t ∷ [] → AreIndexed us later (first_with ready t)
-pushed_index ts us told later ready n ms t k below is apart new same e =
-    let out : (m : ℕ) → in_token ts m ≡ true → has ms m ≡ false = λ m h. grind (arith, apart m) in
-    subst (λ us. AreIndexed us later (first_with ready t)) (sym e) record {
-      numbered = numbered-push ts t (subst (λ (x : Token). AllByRecursion (λ (u : Token). u.number < x.number) ts) (sym is) below) k.numbered;
-      members = told-push told later t ts (λ m h. same m (out m h)) (λ m h. new m (ap (λ (x : Token). has x.members m) (sym is) ∙ h) ∙ ap (λ (x : Token). Some x.number) (sym is)) k.members;
+pub pushed_index : (ts : List Token) (told later : ℕ → Option ℕ) (ready : Option ℕ) (t : Token) → AreIndexed ts told ready
+    → AllByRecursion (λ (u : Token). u.number < t.number) ts → ((m : ℕ) → has t.members m ≡ true → in_token ts m ≡ false)
+    → ((m : ℕ) → has t.members m ≡ true → later m ≡ Some t.number) → ((m : ℕ) → has t.members m ≡ false → later m ≡ told m)
+    → AreIndexed (ts ++ t ∷ []) later (first_with ready t)
+pushed_index ts told later ready t k below apart new same =
+    let out : (m : ℕ) → in_token ts m ≡ true → has t.members m ≡ false = λ m h. grind (arith, apart m) in
+    record {
+      numbered = numbered-push ts t below k.numbered;
+      members = told-push told later t ts (λ m h. same m (out m h)) new k.members;
       first = ap (λ o. first_with o t) k.first ∙ sym (first-push ts t);
     }
 
--- what is told of others changes nothing
-pub told_others : (ts : List Token) (told later : ℕ → Option ℕ) (ready : Option ℕ) (ms : List ℕ) → AreIndexed ts told ready → ((m : ℕ) → has ms m ≡ true → in_token ts m ≡ false) → ((m : ℕ) → has ms m ≡ false → later m ≡ told m) → AreIndexed ts later ready
-told_others ts told later ready ms k apart same = record {
+-- there is room to tell more
+pub wider_index : (ts : List Token) (told later : ℕ → Option ℕ) (ready : Option ℕ) → AreIndexed ts told ready → ((a n : ℕ) → told a ≡ Some n → later a ≡ Some n) → AreIndexed ts later ready
+wider_index ts told later ready k kept = record {
   numbered = k.numbered;
-  members = each ts apart k.members;
+  members = told-wider told later ts kept k.members;
   first = k.first;
 }
-  where
-    each : (us : List Token) → ((m : ℕ) → has ms m ≡ true → in_token us m ≡ false) → AllByRecursion (IsTold told) us → AllByRecursion (IsTold later) us
-    each [] out h = tt
-    each (u ∷ us) out h = (λ m i. same m (grind (arith, out m)) ∙ h.0 m i, each us (λ m i. grind (arith, out m i)) h.1)
 
 pub other_ready : (ready : Option ℕ) (n : ℕ) → option_eq eqb ready (Some n) ≡ false → ready ≢ Some n
 other_ready ready n off e = false≢true (sym off ∙ (ap (λ o. option_eq eqb o (Some n)) e ∙ eq-eqb n n refl))

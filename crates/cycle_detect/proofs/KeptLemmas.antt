@@ -75,21 +75,23 @@ pub actors-entries : (es : List (ℕ × Report)) → Named es → keys_of es ≡
 actors-entries [] h = refl
 actors-entries (e ∷ es) h = cc (h.0, actors-entries es h.1)
 
--- ---- the reports of some actors, one after another
+-- ---- what a function gives of some actors, one after another
 
-reported_next : (f : ℕ → Option Report) (xs : List ℕ) (i d : ℕ) → i < length xs → filter_map f (take (suc i) xs) ≡ filter_map f (take i xs) ++ cons_option (f (get_or xs i d)) []
-reported_next f [] i d lt = absurd (omega arith)
-reported_next f (x ∷ xs) zero d lt = refl
-reported_next f (x ∷ xs) (suc i) d lt = rw (reported_next f xs i d (omega arith)) (by_head (f x))
+mapped_next : {X : Type 0} (f : ℕ → Option X) (xs : List ℕ) (i d : ℕ) → i < length xs → filter_map f (take (suc i) xs) ≡ filter_map f (take i xs) ++ cons_option (f (get_or xs i d)) []
+mapped_next f [] i d lt = absurd (omega arith)
+mapped_next f (x ∷ xs) zero d lt = refl
+mapped_next {X = X} f (x ∷ xs) (suc i) d lt = rw (mapped_next f xs i d (omega arith)) (by_head (f x))
   where
-    by_head : (o : Option Report) → cons_option o (filter_map f (take i xs) ++ cons_option (f (get_or xs i d)) []) ≡ cons_option o (filter_map f (take i xs)) ++ cons_option (f (get_or xs i d)) []
+    by_head : (o : Option X) → cons_option o (filter_map f (take i xs) ++ cons_option (f (get_or xs i d)) []) ≡ cons_option o (filter_map f (take i xs)) ++ cons_option (f (get_or xs i d)) []
     by_head None = refl
     by_head (Some r) = refl
 
-pub reported_more : (f : ℕ → Option Report) (xs : List ℕ) (i a : ℕ) (r : Report) (found later : List Report) → i < length xs → a ≡ get_or xs i a → f a ≡ Some r → found ≡ filter_map f (take i xs) → later ≡ found ++ r ∷ [] → later ≡ filter_map f (take (i + 1) xs)
-reported_more f xs i a r found later lt is gives was now =
-    rw add-one (now ∙ (ap (λ rs. rs ++ r ∷ []) was ∙ sym (reported_next f xs i a lt ∙ ap (λ o. filter_map f (take i xs) ++ cons_option o []) (ap f (sym is) ∙ gives))))
+pub mapped_more : {X : Type 0} (f : ℕ → Option X) (xs : List ℕ) (i a : ℕ) (r : X) (found later : List X) → i < length xs → a ≡ get_or xs i a → f a ≡ Some r → found ≡ filter_map f (take i xs) → later ≡ found ++ r ∷ []
+    → later ≡ filter_map f (take (i + 1) xs)
+mapped_more {X = X} f xs i a r found later lt is gives was now =
+    rw add-one (now ∙ (ap (λ (rs : List X). rs ++ r ∷ []) was ∙ sym (mapped_next f xs i a lt ∙ ap (λ o. filter_map f (take i xs) ++ cons_option o []) (ap f (sym is) ∙ gives))))
 
-pub reported_none : (f : ℕ → Option Report) (xs : List ℕ) (i a : ℕ) (found later : List Report) → i < length xs → a ≡ get_or xs i a → f a ≡ None → found ≡ filter_map f (take i xs) → later ≡ found → later ≡ filter_map f (take (i + 1) xs)
-reported_none f xs i a found later lt is gives was now =
-    rw add-one (now ∙ (was ∙ sym (reported_next f xs i a lt ∙ (ap (λ o. filter_map f (take i xs) ++ cons_option o []) (ap f (sym is) ∙ gives) ∙ append-nil (filter_map f (take i xs))))))
+pub mapped_none : {X : Type 0} (f : ℕ → Option X) (xs : List ℕ) (i a : ℕ) (found later : List X) → i < length xs → a ≡ get_or xs i a → f a ≡ None → found ≡ filter_map f (take i xs) → later ≡ found
+    → later ≡ filter_map f (take (i + 1) xs)
+mapped_none f xs i a found later lt is gives was now =
+    rw add-one (now ∙ (was ∙ sym (mapped_next f xs i a lt ∙ (ap (λ o. filter_map f (take i xs) ++ cons_option o []) (ap f (sym is) ∙ gives) ∙ append-nil (filter_map f (take i xs))))))

@@ -7,4 +7,5 @@ pub mod MarksSteps
 pub mod OpenLemmas
 pub mod RisingLemmas
 pub mod Sums
+pub mod Telling
 pub mod Work

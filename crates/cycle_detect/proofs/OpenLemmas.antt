@@ -268,22 +268,19 @@ cancel-one told a (t ∷ ts) (suc i) d up h lt e =
     (λ (off : has t.members a ≡ false). grind (arith, nat_tests))
     (cases_Bool (has t.members a))
 
--- what is told of the members that are left
-pub told-filter : (told later : ℕ → Option ℕ) (n : ℕ) (ms : List ℕ) (ts : List Token) → ((m : ℕ) → has ms m ≡ true → told m ≡ Some n) → ((m : ℕ) → has ms m ≡ false → later m ≡ told m)
-    → AllByRecursion (IsTold told) ts → AllByRecursion (IsTold later) (filter (λ u. not (u.number == n)) ts)
-told-filter told later n ms [] gone same h = tt
-told-filter told later n ms (t ∷ ts) gone same h = ⊎_elim
-    (λ (on : (t.number == n) ≡ true). rw on (told-filter told later n ms ts gone same h.1))
-    (λ (off : (t.number == n) ≡ false). rw off (λ m i. same m (apart t off m (h.0 m i)) ∙ h.0 m i, told-filter told later n ms ts gone same h.1))
-    (cases_Bool (t.number == n))
-  where
-    apart : (t : Token) → (t.number == n) ≡ false → (m : ℕ) → told m ≡ Some t.number → has ms m ≡ false
-    apart t off m e = ⊎_elim
-        (λ (on : has ms m ≡ true). absurd (let one : Some t.number ≡ Some n = sym e ∙ gone m on in let eq : t.number ≡ n = cc in false≢true (sym off ∙ eq-eqb t.number n eq)))
-        (λ out. out)
-        (cases_Bool (has ms m))
+-- what holds of all holds of some
+pub each-filter : (P : Token → Type 0) (p : Token → Bool) (ts : List Token) → AllByRecursion P ts → AllByRecursion P (filter p ts)
+each-filter P p [] h = tt
+each-filter P p (t ∷ ts) h = cond_both (p t) (t ∷ filter p ts) (filter p ts) (AllByRecursion P)
+    (λ _. (h.0, each-filter P p ts h.1)) (λ _. each-filter P p ts h.1)
 
--- and of those of a further token
+-- what is told once there is room for more
+pub told-wider : (told later : ℕ → Option ℕ) (ts : List Token) → ((a n : ℕ) → told a ≡ Some n → later a ≡ Some n)
+    → AllByRecursion (IsTold told) ts → AllByRecursion (IsTold later) ts
+told-wider told later [] kept h = tt
+told-wider told later (t ∷ ts) kept h = (λ m i. kept m t.number (h.0 m i), told-wider told later ts kept h.1)
+
+-- what is told of the members of a further token
 pub told-push : (told later : ℕ → Option ℕ) (t : Token) (ts : List Token) → ((m : ℕ) → in_token ts m ≡ true → later m ≡ told m) → ((m : ℕ) → has t.members m ≡ true → later m ≡ Some t.number)
     → AllByRecursion (IsTold told) ts → AllByRecursion (IsTold later) (ts ++ t ∷ [])
 told-push told later t [] same new h = (new, tt)

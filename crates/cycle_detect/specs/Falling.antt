@@ -1,5 +1,5 @@
 -- Reports that fall, since the others do not cover them.
-use Rattle.std.specs.Prelude.{ℕ, zero, suc, ◌≡◌, ◌+◌, ◌<◌, ◌≤◌, ◌⊎◌, ◌==◌, if◌then◌else◌, not, Bool, true, false, List, [], ◌∷◌, filter, length, slice_index, slice_index_or, sum_by}
+use Rattle.std.specs.Prelude.{ℕ, zero, suc, ◌≡◌, ◌+◌, ◌*◌, ◌<◌, ◌≤◌, ◌⊎◌, ◌==◌, if◌then◌else◌, not, Bool, true, false, List, [], ◌∷◌, filter, length, slice_index, slice_index_or, sum_by}
 use Rattle.std.specs.List.{AllByRecursion}
 use Rattle.letter_kinds.specs.Closed.{IsClosed}
 use Rattle.letter_kinds.specs.Detector.{has}
@@ -11,6 +11,10 @@ use Rattle.cycle_detect.specs.Marks.{mark_of}
 -- how many counts these reports tell
 abbrev pub held_count : List Report → ℕ
 held_count reports = sum_by (λ r. length r.held) reports
+
+-- the most steps in which the largest closed set among these reports is found
+abbrev pub step_bound : List Report → ℕ
+step_bound reports = 6 * (length reports + held_count reports + 1)
 
 -- what an entry of a teller's report tells on an actor
 abbrev pub told_in : ℕ × ℕ → ℕ → ℕ → ℕ

@@ -4,3 +4,4 @@ pub mod Marks
 pub mod Notes
 pub mod Open
 pub mod Rising
+pub mod Room

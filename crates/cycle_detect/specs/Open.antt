@@ -1,9 +1,8 @@
 -- Open tokens, in rising order of their numbers.
-use Rattle.std.specs.Prelude.{ℕ, ◌≡◌, ◌<◌, ◌==◌, true, false, List, map, length, Option, Some, None, min, slice_get, slice_index_or, option_map, if◌then◌else◌}
-use Rattle.std.specs.BTreeMap.{BTreeMap, get}
+use Rattle.std.specs.Prelude.{ℕ, ◌≡◌, ◌<◌, ◌==◌, true, false, List, map, length, Option, Some, None, min, slice_get, slice_index_or, option_map, if◌then◌else◌, suc, [], ◌≤◌, Bool}
 use Rattle.std.specs.List.{AllByRecursion, find}
-use Rattle.std.specs.Ordering.{nat_cmp}
-use Rattle.letter_kinds.specs.Detector.{Detector, Token, all_acked, has, in_token}
+use Rattle.std.specs.Option.{option_map_or}
+use Rattle.letter_kinds.specs.Detector.{Detector, Token, all_acked, has, in_token, token_numbered}
 use Rattle.cycle_detect.specs.Rising.{Rising}
 
 abbrev pub numbers : List Token → List ℕ
@@ -29,7 +28,7 @@ abbrev pub lower_of : Option ℕ → ℕ → ℕ
 lower_of None n = n
 lower_of (Some k) n = min k n
 
--- of each member the number of its token is told
+-- each member is told the token's number
 abbrev pub IsTold : (ℕ → Option ℕ) → Token → Type 0
 IsTold told t = (m : ℕ) → has t.members m ≡ true → told m ≡ Some t.number
 
@@ -38,10 +37,6 @@ pub record AreIndexed (tokens : List Token) (told : ℕ → Option ℕ) (ready :
   pub numbered : Rising (numbers tokens)
   pub members : AllByRecursion (IsTold told) tokens
   pub first : ready ≡ first_acked tokens
-
--- of each member of these tokens the map tells its token's number
-abbrev pub AreToldIn : BTreeMap ℕ ℕ → List Token → Type 0
-AreToldIn told tokens = AllByRecursion (IsTold (get nat_cmp told)) tokens
 
 -- the actor is a member of the token at this place
 pub record HasMemberAt (tokens : List Token) (actor i : ℕ) : Type 0 where
@@ -52,3 +47,16 @@ pub record HasMemberAt (tokens : List Token) (actor i : ℕ) : Type 0 where
 pub record CanOpen (members : List ℕ) (d : Detector) : Type 0 where
   pub rising : Rising members
   pub apart : (m : ℕ) → has members m ≡ true → in_token d.tokens m ≡ false
+
+-- the token that is opened next, with these members
+abbrev pub new_token : List ℕ → Detector → Token
+new_token members d = record { number = suc d.opened; members = members; acked = [] }
+
+-- the token of this number is open, and all its members acknowledged
+abbrev pub acked_by_all : Detector → ℕ → Bool
+acked_by_all d number = option_map_or all_acked (token_numbered number d) false
+
+-- it is, and no token of a lower number
+pub record IsLowestAcked (d : Detector) (number : ℕ) : Type 0 where
+  pub acked : acked_by_all d number ≡ true
+  pub lowest : AllByRecursion (λ t. all_acked t ≡ true → number ≤ t.number) d.tokens

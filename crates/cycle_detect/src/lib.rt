@@ -7,9 +7,11 @@ mod names;
 mod reports;
 mod scan;
 mod token;
+mod told;
 mod tokens;
 
 pub use detector::{Detector, TOKENS_LIMIT};
+pub use token::Token;
 
 #[cfg(test)]
 mod tests;

@@ -1,15 +1,14 @@
 // The reports that are kept.
 
 ghost use Rattle.std.specs.Prelude.{◌≡◌, [], filter, not, OnOk, OnErr, IfErr, IfOk};
-ghost use Rattle.std.specs.List.{filter_map};
 ghost use Rattle.std.specs.Option.{option_copied};
 ghost use Rattle.letter_kinds.specs.Detector.{has};
-ghost use Rattle.cycle_detect.specs.Kept.{actors_of};
+ghost use Rattle.cycle_detect.specs.Kept.{actors_of, handed_out, reports_of};
 ghost use Rattle.cycle_detect.specs.Rising.{Rising};
 ghost use Rattle.letter_kinds.specs.Reports.{drop_report, keep_report, report_of};
 
 use letter_kinds::Report;
-use orca_names::{ActorName, NoMemory};
+use orca_names::{ActorName, KeptReport, NoMemory};
 use plain_list::Listed;
 use std::alloc::Global;
 use std::collections::BTreeMap;
@@ -89,30 +88,33 @@ impl Reports {
     }
 
     /// The reports of these actors, in their order.
+    ///
+    /// # Errors
+    /// `NoMemory` where memory was refused.
     pub(crate) fn of_all(
         &self,
         alloc: Global,
         actors: &[ActorName],
-    ) -> Result<Listed<Report>, NoMemory>
-        ensures { IfOk result (λ found. found ≡ filter_map (report_of self.now) actors.now) }
+    ) -> Result<Vec<KeptReport>, NoMemory>
+        ensures { IfOk result (λ found. found.items ≡ reports_of self.now actors.now) }
     {
-        let mut found = Listed::new(alloc);
+        let mut found = Vec::new(alloc);
         for actor in actors {
             if let Some(report) = self.get(*actor) {
-                found.push(copy_of(alloc, report)?)?;
+                found.push(handed_out(alloc, report)?)?;
             }
         }
         Ok(found)
     }
 }
 
-/// A report like this one.
-fn copy_of(alloc: Global, report: &Report) -> Result<Report, NoMemory>
-    ensures { IfOk result (λ copy. copy ≡ report.now) }
+/// A copy of the report, to be handed out.
+fn handed_out(alloc: Global, report: &Report) -> Result<KeptReport, NoMemory>
+    ensures { IfOk result (λ copy. copy ≡ handed_out report.now) }
 {
     let mut held = Listed::new(alloc);
     held.extend_from_slice(report.held.as_slice())?;
-    Ok(Report {
+    Ok(KeptReport {
         actor: report.actor,
         count: report.count,
         held,

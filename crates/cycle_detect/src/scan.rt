@@ -5,7 +5,7 @@ ghost use Rattle.letter_kinds.specs.Closed.{largest_closed};
 ghost use Rattle.letter_kinds.specs.Detector.{has, in_token};
 ghost use Rattle.letter_kinds.specs.Reports.{told_on, told_on_by};
 ghost use Rattle.letter_kinds.specs.declared.note.Report.{Report as Told};
-ghost use Rattle.cycle_detect.specs.Falling.{AreFalling, held_count, held_left, is_unmarked, told_in, told_without};
+ghost use Rattle.cycle_detect.specs.Falling.{AreFalling, held_count, held_left, is_unmarked, step_bound, told_in, told_without};
 ghost use Rattle.cycle_detect.specs.Kept.{actors_of};
 ghost use Rattle.cycle_detect.specs.Marks.{mark_of, off_count};
 ghost use Rattle.cycle_detect.specs.Rising.{Rising};
@@ -26,7 +26,7 @@ fn candidates<'a, L: Ledger>(
     tokens: &Tokens,
     steps: &mut Steps<L>,
 ) -> Result<Vec<&'a Report>, NoMemory>
-    ensures found { IfOk result (λ v. map (λ r. r.now) v.items ≡ filter (λ r. not (in_token tokens.now r.actor)) reports.now) }
+    ensures found { IfOk result (λ v. map (λ r. r.now) v.items ≡ filter (λ r. not (in_token tokens.now.list r.actor)) reports.now) }
     ensures rising { Rising (actors_of reports.now) }
     ensures cost { steps.new ≤ steps.old + length reports.now }
 {
@@ -349,9 +349,9 @@ pub(crate) fn closed_set<L: Ledger>(
     tokens: &Tokens,
     steps: &mut Steps<L>,
 ) -> Result<Vec<ActorName>, NoMemory>
-    ensures found { IfOk result (λ v. v.items ≡ actors_of (largest_closed (filter (λ r. not (in_token tokens.now r.actor)) reports.now))) }
-    ensures apart { IfOk result (λ v. (Rising v.items) × ((m : ℕ) → has v.items m ≡ true → in_token tokens.now m ≡ false)) }
-    ensures cost { steps.new ≤ steps.old + 6 * (length reports.now + held_count reports.now + 1) }
+    ensures found { IfOk result (λ v. v.items ≡ actors_of (largest_closed (filter (λ r. not (in_token tokens.now.list r.actor)) reports.now))) }
+    ensures apart { IfOk result (λ v. (Rising v.items) × ((m : ℕ) → has v.items m ≡ true → in_token tokens.now.list m ≡ false)) }
+    ensures cost { steps.new ≤ steps.old + step_bound reports.now }
 {
     let candidates = candidates(alloc, reports, tokens, steps)?;
     let names = actors(alloc, &candidates, steps)?;

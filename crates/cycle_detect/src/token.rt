@@ -11,7 +11,7 @@ use std::marker::Model;
 
 /// A closed set of actors that are asked whether they are still blocked.
 #[derive(Debug, Drop)]
-pub(crate) struct Token {
+pub struct Token {
     number: u64,
     members: Vec<ActorName>,
     /// For each member, whether it acknowledged.
@@ -33,7 +33,7 @@ impl Model for Token {
 
 impl Token {
     /// A token of these members, of which none acknowledged.
-    pub fn new(alloc: Global, number: u64, members: &[ActorName]) -> Result<Token, NoMemory>
+    pub(crate) fn new(alloc: Global, number: u64, members: &[ActorName]) -> Result<Token, NoMemory>
         requires { Rising members.now }
         ensures { IfOk result (λ t. t ≡ record { number = number; members = members.now; acked = [] }) }
     {
@@ -45,6 +45,7 @@ impl Token {
         })
     }
 
+    /// The number, which no other token has or will have.
     pub fn number(&self) -> u64
         ensures { result ≡ self.now.number }
     {
@@ -60,21 +61,21 @@ impl Token {
     }
 
     /// Whether the actor is a member.
-    pub fn has(&self, actor: ActorName) -> bool
+    pub(crate) fn has(&self, actor: ActorName) -> bool
         ensures { result ≡ has self.now.members actor }
     {
         place_of(&self.members, actor).is_some()
     }
 
     /// Whether all members acknowledged.
-    pub fn is_acked(&self) -> bool
+    pub(crate) fn is_acked(&self) -> bool
         ensures { result ≡ all_acked self.now }
     {
         self.missing == 0
     }
 
     /// Notes that the actor acknowledged, if it is a member.
-    pub fn note_ack(&mut self, actor: ActorName)
+    pub(crate) fn note_ack(&mut self, actor: ActorName)
         ensures { self.new ≡ note_ack self.old.number actor self.old }
     {
         if let Some(i) = place_of(&self.members, actor) {

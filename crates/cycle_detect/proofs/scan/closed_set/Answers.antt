@@ -11,7 +11,7 @@ use Rattle.cycle_detect.proofs.scan.closed_set.Goals as goal
 pub returns-in_err-names-clause-cost : goal.returns-in_err-names-clause-cost
 returns-in_err-names-clause-cost g c =
     let found = ap (map (λ r. r.now)) c.deref.ensures.value ∙ c.in_ok-candidates.ensures.found in
-    let less = few (λ r. r.now) c.deref.result.now (λ (r : Report). not (in_token c.args.tokens.now r.actor)) c.args.reports.now found in
+    let less = few (λ r. r.now) c.deref.result.now (λ (r : Report). not (in_token c.args.tokens.now.list r.actor)) c.args.reports.now found in
     let a = c.candidates.ensures.cost in
     let b = c.actors.ensures.cost in
     omega arith
@@ -20,22 +20,22 @@ pub largest_among-requires-clause-rising : goal.largest_among-requires-clause-ri
 largest_among-requires-clause-rising g c =
     let found = ap (map (λ r. r.now)) c.deref.ensures.value ∙ c.in_ok-candidates.ensures.found in
     subst Rising (sym (c.deref-2.ensures.value ∙ (c.in_ok-names.ensures.found ∙ ap actors_of found)))
-    (rising_some (λ (r : Report). not (in_token c.args.tokens.now r.actor)) c.args.reports.now c.candidates.ensures.rising)
+    (rising_some (λ (r : Report). not (in_token c.args.tokens.now.list r.actor)) c.args.reports.now c.candidates.ensures.rising)
 
 pub returns-clause-apart : goal.returns-clause-apart
 returns-clause-apart g c =
     let found = ap (map (λ r. r.now)) c.deref-3.ensures.value ∙ c.in_ok-candidates.ensures.found in
     if_ok_one c.largest_among.result _ _ (λ v f.
-    let is : v.items ≡ actors_of (largest_closed (filter (λ (r : Report). not (in_token c.args.tokens.now r.actor)) c.args.reports.now)) = f ∙ ap (λ (rs : List Report). actors_of (largest_closed rs)) found in (
-      subst Rising (sym is) (largest_rises _ (rising_some (λ (r : Report). not (in_token c.args.tokens.now r.actor)) c.args.reports.now c.candidates.ensures.rising)),
-      λ m h. not_true (in_token c.args.tokens.now m) (largest_free (λ a. not (in_token c.args.tokens.now a)) c.args.reports.now m (ap (λ xs. has xs m) (sym is) ∙ h)),
+    let is : v.items ≡ actors_of (largest_closed (filter (λ (r : Report). not (in_token c.args.tokens.now.list r.actor)) c.args.reports.now)) = f ∙ ap (λ (rs : List Report). actors_of (largest_closed rs)) found in (
+      subst Rising (sym is) (largest_rises _ (rising_some (λ (r : Report). not (in_token c.args.tokens.now.list r.actor)) c.args.reports.now c.candidates.ensures.rising)),
+      λ m h. not_true (in_token c.args.tokens.now.list m) (largest_free (λ a. not (in_token c.args.tokens.now.list a)) c.args.reports.now m (ap (λ xs. has xs m) (sym is) ∙ h)),
     ))
     c.largest_among.ensures.found
 
 pub returns-clause-cost : goal.returns-clause-cost
 returns-clause-cost g c =
     let found = ap (map (λ r. r.now)) c.deref.ensures.value ∙ c.in_ok-candidates.ensures.found in
-    let less = few (λ r. r.now) c.deref.result.now (λ (r : Report). not (in_token c.args.tokens.now r.actor)) c.args.reports.now found in
+    let less = few (λ r. r.now) c.deref.result.now (λ (r : Report). not (in_token c.args.tokens.now.list r.actor)) c.args.reports.now found in
     let same = c.deref-3.ensures.value ∙ sym c.deref.ensures.value in
     let long = length-names (λ r. r.now) c.deref.result.now c.deref-2.result.now (c.deref-2.ensures.value ∙ c.in_ok-names.ensures.found) in
     let a = c.candidates.ensures.cost in
