@@ -451,8 +451,8 @@ pub not_true : (b : Bool) → not b ≡ true → b ≡ false
 not_true b e = grind arith
 
 -- the steps of all walks together
-pub steps_settled : (n m h l o w s0 s1 s2 s3 : ℕ) → s1 ≤ s0 + m + 2 * h → s2 ≤ s1 + n → o + w ≡ n → s3 ≤ s2 + o + w + 2 * l → l ≡ h → n ≡ m → s3 ≤ s0 + 4 * n + 4 * h
-steps_settled n m h l o w s0 s1 s2 s3 told first size settle left long = omega arith
+pub steps_settled : (n m h l u s0 s1 s2 s3 : ℕ) → s1 ≤ s0 + m + 2 * h → s2 ≤ s1 + n → u ≡ n → s3 ≤ s2 + u + 2 * l → l ≡ h → n ≡ m → s3 ≤ s0 + 4 * n + 4 * h
+steps_settled n m h l u s0 s1 s2 s3 told first size settle left long = omega arith
 
-pub steps_all : (n m h l o w s0 s1 s2 s3 s4 : ℕ) → s1 ≤ s0 + m + 2 * h → s2 ≤ s1 + n → o + w ≡ n → s3 ≤ s2 + o + w + 2 * l → l ≡ h → n ≡ m → s4 ≤ s3 + n → s4 ≤ s0 + 4 * n + 4 * h
-steps_all n m h l o w s0 s1 s2 s3 s4 told first size settle left long last = omega arith
+pub steps_all : (n m h l u s0 s1 s2 s3 s4 : ℕ) → s1 ≤ s0 + m + 2 * h → s2 ≤ s1 + n → u ≡ n → s3 ≤ s2 + u + 2 * l → l ≡ h → n ≡ m → s4 ≤ s3 + n → s4 ≤ s0 + 4 * n + 4 * h
+steps_all n m h l u s0 s1 s2 s3 s4 told first size settle left long last = omega arith

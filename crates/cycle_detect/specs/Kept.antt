@@ -1,5 +1,6 @@
 -- Reports by their actors.
 use Rattle.std.specs.Prelude.{ℕ, ◌≡◌, List, map, Option, option_map}
+use Rattle.std.specs.Borrow.{Bor}
 use Rattle.std.specs.List.{AllByRecursion, filter_map}
 use Rattle.std.specs.Map.{keys_of, values_of}
 use Rattle.letter_kinds.specs.Reports.{report_of}
@@ -15,6 +16,10 @@ reports_in entries = values_of entries
 pub record AreByActor (entries : List (ℕ × Report)) : Type 0 where
   pub named : AllByRecursion (λ e. e.0 ≡ e.1.actor) entries
   pub rising : Rising (keys_of entries)
+
+-- the reports behind these references
+abbrev pub reports_at : List (Bor Report) → List Report
+reports_at references = map (λ r. r.now) references
 
 -- the actors of reports
 abbrev pub actors_of : List Report → List ℕ

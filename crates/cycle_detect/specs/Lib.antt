@@ -5,3 +5,5 @@ pub mod Notes
 pub mod Open
 pub mod Rising
 pub mod Room
+pub mod Sums
+pub mod Worklist

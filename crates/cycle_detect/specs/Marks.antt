@@ -1,5 +1,5 @@
 -- Marks beside names, one for each.
-use Rattle.std.specs.Prelude.{ℕ, zero, suc, ◌≡◌, ◌==◌, Bool, false, if◌then◌else◌, List, [], ◌∷◌, length}
+use Rattle.std.specs.Prelude.{ℕ, zero, suc, ◌≡◌, ◌==◌, Bool, false, if◌then◌else◌, List, [], ◌∷◌, length, filter, not}
 use Rattle.cycle_detect.specs.Rising.{Rising}
 
 -- those of the names whose mark is on
@@ -18,6 +18,10 @@ abbrev pub mark_of : List ℕ → List Bool → ℕ → Bool
 mark_of [] marks a = false
 mark_of (x ∷ xs) [] a = false
 mark_of (x ∷ xs) (b ∷ bs) a = if x == a then b else mark_of xs bs a
+
+-- the names whose mark is off
+abbrev pub unmarked_names : List ℕ → List Bool → List ℕ
+unmarked_names names marks = filter (λ a. not (mark_of names marks a)) names
 
 -- each name has a mark, and so many are off
 pub record AreMarks (names : List ℕ) (marks : List Bool) (missing : ℕ) : Type 0 where

@@ -1,14 +1,15 @@
 // The largest closed set: reports that the others do not cover fall, one after another.
 
-ghost use Rattle.std.specs.Prelude.{◌≡◌, ℕ, ◌+◌, ◌*◌, ◌<◌, ◌≤◌, ◌⊎◌, ◌++◌, ◌∷◌, [], Bool, List, false, true, IfOk, OnOk, filter, length, map, not, replicate, slice_index, slice_index_or, slice_set, sum_by, vec_len};
+ghost use Rattle.std.specs.Prelude.{◌≡◌, ℕ, ◌+◌, ◌*◌, ◌<◌, ◌≤◌, ◌++◌, ◌∷◌, [], false, true, IfOk, OnOk, length, replicate};
 ghost use Rattle.letter_kinds.specs.Closed.{largest_closed};
 ghost use Rattle.letter_kinds.specs.Detector.{has, in_token};
 ghost use Rattle.letter_kinds.specs.Reports.{told_on, told_on_by};
-ghost use Rattle.letter_kinds.specs.declared.note.Report.{Report as Told};
-ghost use Rattle.cycle_detect.specs.Falling.{AreFalling, held_count, held_left, is_unmarked, step_bound, told_in, told_without};
-ghost use Rattle.cycle_detect.specs.Kept.{actors_of};
-ghost use Rattle.cycle_detect.specs.Marks.{mark_of, off_count};
+ghost use Rattle.cycle_detect.specs.Falling.{free_reports, held_count, held_left, step_bound, those_left, told_in, told_without};
+ghost use Rattle.cycle_detect.specs.Kept.{actors_of, reports_at};
+ghost use Rattle.cycle_detect.specs.Marks.{unmarked_names};
 ghost use Rattle.cycle_detect.specs.Rising.{Rising};
+ghost use Rattle.cycle_detect.specs.Sums.{AreEnough, AreLowered, AreRaised, AreSums};
+ghost use Rattle.cycle_detect.specs.Worklist.{Falls, IsFalling, IsLong, StayFalling, Stays, unsettled};
 
 use crate::names::place_of;
 use crate::reports::Reports;
@@ -26,7 +27,7 @@ fn candidates<'a, L: Ledger>(
     tokens: &Tokens,
     steps: &mut Steps<L>,
 ) -> Result<Vec<&'a Report>, NoMemory>
-    ensures found { IfOk result (λ v. map (λ r. r.now) v.items ≡ filter (λ r. not (in_token tokens.now.list r.actor)) reports.now) }
+    ensures found { IfOk result (λ v. reports_at v.items ≡ free_reports tokens.now.list reports.now) }
     ensures rising { Rising (actors_of reports.now) }
     ensures cost { steps.new ≤ steps.old + length reports.now }
 {
@@ -46,7 +47,7 @@ fn actors<L: Ledger>(
     reports: &[&Report],
     steps: &mut Steps<L>,
 ) -> Result<Vec<ActorName>, NoMemory>
-    ensures found { IfOk result (λ v. v.items ≡ actors_of (map (λ r. r.now) reports.now)) }
+    ensures found { IfOk result (λ v. v.items ≡ actors_of (reports_at reports.now)) }
     ensures cost { steps.new ≤ steps.old + length reports.now }
 {
     let mut found = Vec::new(alloc);
@@ -68,7 +69,7 @@ fn add_entry<L: Ledger>(
 ) -> Result<(), NoMemory>
     requires rising { Rising names.now }
     requires long { length told.old ≡ length names.now }
-    ensures added { OnOk result ((k : ℕ) → k < length names.now → slice_index told.new k ≡ slice_index told.old k + told_in entry teller (slice_index names.now k)) }
+    ensures added { OnOk result (AreRaised names.now (told_in entry teller) told.old told.new) }
     ensures cost { steps.new ≤ steps.old + 2 }
 {
     steps.tick();
@@ -95,7 +96,7 @@ fn add_told<L: Ledger>(
 ) -> Result<(), NoMemory>
     requires rising { Rising names.now }
     requires long { length told.old ≡ length names.now }
-    ensures added { OnOk result ((k : ℕ) → k < length names.now → slice_index told.new k ≡ slice_index told.old k + told_on (slice_index names.now k) report.now) }
+    ensures added { OnOk result (AreRaised names.now (λ x. told_on x report.now) told.old told.new) }
     ensures cost { steps.new ≤ steps.old + 2 * length report.now.held }
 {
     for entry in report.held.as_slice() {
@@ -113,8 +114,10 @@ fn add_all<L: Ledger>(
 ) -> Result<(), NoMemory>
     requires rising { Rising names.now }
     requires long { length told.old ≡ length names.now }
-    ensures added { OnOk result ((k : ℕ) → k < length names.now → slice_index told.new k ≡ slice_index told.old k + told_on_by (slice_index names.now k) (map (λ r. r.now) reports.now)) }
-    ensures cost { steps.new ≤ steps.old + length reports.now + 2 * held_count (map (λ r. r.now) reports.now) }
+    ensures added { OnOk result (AreRaised names.now
+        (λ x. told_on_by x (reports_at reports.now)) told.old told.new) }
+    ensures cost { steps.new ≤ steps.old + length reports.now
+        + 2 * held_count (reports_at reports.now) }
 {
     for report in reports {
         steps.tick();
@@ -131,8 +134,11 @@ fn sums_told<L: Ledger>(
     steps: &mut Steps<L>,
 ) -> Result<Vec<u128>, NoMemory>
     requires rising { Rising names.now }
-    ensures told { IfOk result (λ v. (length v.items ≡ length names.now) × ((k : ℕ) → k < length names.now → slice_index v.items k ≡ told_on_by (slice_index names.now k) (map (λ r. r.now) reports.now))) }
-    ensures cost { steps.new ≤ steps.old + length reports.now + 2 * held_count (map (λ r. r.now) reports.now) }
+    ensures long { IfOk result (λ v. length v.items ≡ length names.now) }
+    ensures told { IfOk result (λ v. AreSums names.now
+        (λ x. told_on_by x (reports_at reports.now)) v.items) }
+    ensures cost { steps.new ≤ steps.old + length reports.now
+        + 2 * held_count (reports_at reports.now) }
 {
     let mut told = vec![in alloc; 0; names.len()]?;
     add_all(names, reports, &mut told, steps)?;
@@ -156,8 +162,8 @@ fn check(k: usize, count: u64, standing: &mut Standing) -> Result<(), NoMemory>
     requires out { k < length standing.old.out.items }
     ensures told { standing.new.told.items ≡ standing.old.told.items }
     ensures long { length standing.new.out.items ≡ length standing.old.out.items }
-    ensures stays { OnOk result ((slice_index_or standing.old.out.items k false ≡ true) ⊎ (count ≤ slice_index standing.old.told.items k) → (standing.new.out.items ≡ standing.old.out.items) × (standing.new.work.items ≡ standing.old.work.items)) }
-    ensures falls { OnOk result (slice_index_or standing.old.out.items k false ≡ false → slice_index standing.old.told.items k < count → (standing.new.out.items ≡ slice_set standing.old.out.items k true) × (standing.new.work.items ≡ standing.old.work.items ++ k ∷ [])) }
+    ensures stays { OnOk result (Stays k count standing.old standing.new) }
+    ensures falls { OnOk result (Falls k count standing.old standing.new) }
 {
     if !standing.out[k] && standing.told[k] < u128::from(count) {
         standing.work.push(k)?;
@@ -176,13 +182,15 @@ fn take_entry<L: Ledger>(
     steps: &mut Steps<L>,
 ) -> Result<(), NoMemory>
     requires rising { Rising names.now }
-    requires names { names.now ≡ actors_of (map (λ r. r.now) reports.now) }
-    requires long { (length standing.old.told.items ≡ length names.now) × (length standing.old.out.items ≡ length names.now) }
-    requires enough { (k : ℕ) → k < length names.now → told_in entry teller (slice_index names.now k) ≤ slice_index standing.old.told.items k }
-    ensures long { (length standing.new.told.items ≡ length names.now) × (length standing.new.out.items ≡ length names.now) }
-    ensures lowered { OnOk result ((k : ℕ) → k < length names.now → slice_index standing.new.told.items k + told_in entry teller (slice_index names.now k) ≡ slice_index standing.old.told.items k) }
-    ensures falling { OnOk result ((off : List Bool) → AreFalling (map (λ r. r.now) reports.now) (length names.now) off standing.old.out.items standing.old.told.items standing.old.work.items → ((k : ℕ) → k < length names.now → told_without (map (λ r. r.now) reports.now) off (slice_index names.now k) + told_in entry teller (slice_index names.now k) ≤ slice_index standing.old.told.items k) → AreFalling (map (λ r. r.now) reports.now) (length names.now) off standing.new.out.items standing.new.told.items standing.new.work.items) }
-    ensures size { OnOk result (off_count standing.new.out.items + length standing.new.work.items ≡ off_count standing.old.out.items + length standing.old.work.items) }
+    requires names { names.now ≡ actors_of (reports_at reports.now) }
+    requires long { IsLong (length names.now) standing.old }
+    requires enough { AreEnough names.now (told_in entry teller) standing.old.told.items }
+    ensures long { IsLong (length names.now) standing.new }
+    ensures lowered { OnOk result (AreLowered names.now (told_in entry teller)
+        standing.old.told.items standing.new.told.items) }
+    ensures falling { OnOk result (StayFalling (reports_at reports.now) names.now
+        (told_in entry teller) standing.old standing.new) }
+    ensures size { OnOk result (unsettled standing.new ≡ unsettled standing.old) }
     ensures cost { steps.new ≤ steps.old + 2 }
 {
     steps.tick();
@@ -206,13 +214,15 @@ fn take_told<L: Ledger>(
     steps: &mut Steps<L>,
 ) -> Result<(), NoMemory>
     requires rising { Rising names.now }
-    requires names { names.now ≡ actors_of (map (λ r. r.now) reports.now) }
-    requires long { (length standing.old.told.items ≡ length names.now) × (length standing.old.out.items ≡ length names.now) }
-    requires enough { (k : ℕ) → k < length names.now → told_on (slice_index names.now k) report.now ≤ slice_index standing.old.told.items k }
-    ensures long { OnOk result ((length standing.new.told.items ≡ length names.now) × (length standing.new.out.items ≡ length names.now)) }
-    ensures lowered { OnOk result ((k : ℕ) → k < length names.now → slice_index standing.new.told.items k + told_on (slice_index names.now k) report.now ≡ slice_index standing.old.told.items k) }
-    ensures falling { OnOk result ((off : List Bool) → AreFalling (map (λ r. r.now) reports.now) (length names.now) off standing.old.out.items standing.old.told.items standing.old.work.items → ((k : ℕ) → k < length names.now → told_without (map (λ r. r.now) reports.now) off (slice_index names.now k) + told_on (slice_index names.now k) report.now ≤ slice_index standing.old.told.items k) → AreFalling (map (λ r. r.now) reports.now) (length names.now) off standing.new.out.items standing.new.told.items standing.new.work.items) }
-    ensures size { OnOk result (off_count standing.new.out.items + length standing.new.work.items ≡ off_count standing.old.out.items + length standing.old.work.items) }
+    requires names { names.now ≡ actors_of (reports_at reports.now) }
+    requires long { IsLong (length names.now) standing.old }
+    requires enough { AreEnough names.now (λ x. told_on x report.now) standing.old.told.items }
+    ensures long { OnOk result (IsLong (length names.now) standing.new) }
+    ensures lowered { OnOk result (AreLowered names.now (λ x. told_on x report.now)
+        standing.old.told.items standing.new.told.items) }
+    ensures falling { OnOk result (StayFalling (reports_at reports.now) names.now
+        (λ x. told_on x report.now) standing.old standing.new) }
+    ensures size { OnOk result (unsettled standing.new ≡ unsettled standing.old) }
     ensures cost { steps.new ≤ steps.old + 2 * length report.now.held }
 {
     for entry in report.held.as_slice() {
@@ -231,14 +241,19 @@ fn take_off<L: Ledger>(
     steps: &mut Steps<L>,
 ) -> Result<(), NoMemory>
     requires rising { Rising names.now }
-    requires names { names.now ≡ actors_of (map (λ r. r.now) reports.now) }
+    requires names { names.now ≡ actors_of (reports_at reports.now) }
     requires place { (i < length names.now) × (length off.old ≡ length names.now) }
-    requires falling { AreFalling (map (λ r. r.now) reports.now) (length names.now) off.old standing.old.out.items standing.old.told.items (standing.old.work.items ++ i ∷ []) }
-    requires told { (k : ℕ) → k < length names.now → slice_index standing.old.told.items k ≡ told_without (map (λ r. r.now) reports.now) off.old (slice_index names.now k) }
-    ensures falling { OnOk result (AreFalling (map (λ r. r.now) reports.now) (length names.now) off.new standing.new.out.items standing.new.told.items standing.new.work.items) }
-    ensures told { OnOk result ((k : ℕ) → k < length names.now → slice_index standing.new.told.items k ≡ told_without (map (λ r. r.now) reports.now) off.new (slice_index names.now k)) }
-    ensures size { OnOk result (off_count standing.new.out.items + length standing.new.work.items ≡ off_count standing.old.out.items + length standing.old.work.items) }
-    ensures cost { steps.new + 2 * held_left (map (λ r. r.now) reports.now) off.new ≤ steps.old + 2 * held_left (map (λ r. r.now) reports.now) off.old }
+    requires falling { IsFalling (reports_at reports.now) (length names.now) off.old standing.old
+        (standing.old.work.items ++ i ∷ []) }
+    requires told { AreSums names.now (told_without (reports_at reports.now) off.old)
+        standing.old.told.items }
+    ensures falling { OnOk result (IsFalling (reports_at reports.now) (length names.now) off.new
+        standing.new standing.new.work.items) }
+    ensures told { OnOk result (AreSums names.now (told_without (reports_at reports.now) off.new)
+        standing.new.told.items) }
+    ensures size { OnOk result (unsettled standing.new ≡ unsettled standing.old) }
+    ensures cost { steps.new + 2 * held_left (reports_at reports.now) off.new
+        ≤ steps.old + 2 * held_left (reports_at reports.now) off.old }
 {
     if off[i] {
         return Ok(());
@@ -255,13 +270,16 @@ fn first_falls<L: Ledger>(
     steps: &mut Steps<L>,
 ) -> Result<(), NoMemory>
     requires rising { Rising names.now }
-    requires names { names.now ≡ actors_of (map (λ r. r.now) reports.now) }
+    requires names { names.now ≡ actors_of (reports_at reports.now) }
     requires long { length standing.old.told.items ≡ length names.now }
-    requires told { (k : ℕ) → k < length names.now → slice_index standing.old.told.items k ≡ told_on_by (slice_index names.now k) (map (λ r. r.now) reports.now) }
-    requires none { (standing.old.out.items ≡ replicate (length names.now) false) × (standing.old.work.items ≡ []) }
+    requires told { AreSums names.now (λ x. told_on_by x (reports_at reports.now))
+        standing.old.told.items }
+    requires none { standing.old.out.items ≡ replicate (length names.now) false }
+    requires no_work { standing.old.work.items ≡ [] }
     ensures told { standing.new.told.items ≡ standing.old.told.items }
-    ensures falling { OnOk result (AreFalling (map (λ r. r.now) reports.now) (length names.now) (replicate (length names.now) false) standing.new.out.items standing.new.told.items standing.new.work.items) }
-    ensures size { OnOk result (off_count standing.new.out.items + length standing.new.work.items ≡ length names.now) }
+    ensures falling { OnOk result (IsFalling (reports_at reports.now) (length names.now)
+        (replicate (length names.now) false) standing.new standing.new.work.items) }
+    ensures size { OnOk result (unsettled standing.new ≡ length names.now) }
     ensures cost { steps.new ≤ steps.old + length names.now }
 {
     for k in 0..reports.len() {
@@ -280,13 +298,17 @@ fn settle<L: Ledger>(
     steps: &mut Steps<L>,
 ) -> Result<(), NoMemory>
     requires rising { Rising names.now }
-    requires names { names.now ≡ actors_of (map (λ r. r.now) reports.now) }
+    requires names { names.now ≡ actors_of (reports_at reports.now) }
     requires long { length off.old ≡ length names.now }
-    requires falling { AreFalling (map (λ r. r.now) reports.now) (length names.now) off.old standing.old.out.items standing.old.told.items standing.old.work.items }
-    requires told { (k : ℕ) → k < length names.now → slice_index standing.old.told.items k ≡ told_without (map (λ r. r.now) reports.now) off.old (slice_index names.now k) }
+    requires falling { IsFalling (reports_at reports.now) (length names.now) off.old standing.old
+        standing.old.work.items }
+    requires told { AreSums names.now (told_without (reports_at reports.now) off.old)
+        standing.old.told.items }
     ensures long { OnOk result (length standing.new.out.items ≡ length names.now) }
-    ensures settled { OnOk result (filter (is_unmarked (map (λ r. r.now) reports.now) standing.new.out.items) (map (λ r. r.now) reports.now) ≡ largest_closed (map (λ r. r.now) reports.now)) }
-    ensures cost { steps.new ≤ steps.old + off_count standing.old.out.items + length standing.old.work.items + 2 * held_left (map (λ r. r.now) reports.now) off.old }
+    ensures settled { OnOk result (those_left (reports_at reports.now) standing.new.out.items
+        ≡ largest_closed (reports_at reports.now)) }
+    ensures cost { steps.new ≤ steps.old + unsettled standing.old
+        + 2 * held_left (reports_at reports.now) off.old }
 {
     while let Some(i) = standing.work.pop() {
         steps.tick();
@@ -304,7 +326,7 @@ fn unmarked<L: Ledger>(
 ) -> Result<Vec<ActorName>, NoMemory>
     requires rising { Rising names.now }
     requires long { length marks.now ≡ length names.now }
-    ensures found { IfOk result (λ v. v.items ≡ filter (λ a. not (mark_of names.now marks.now a)) names.now) }
+    ensures found { IfOk result (λ v. v.items ≡ unmarked_names names.now marks.now) }
     ensures cost { steps.new ≤ steps.old + length names.now }
 {
     let mut found = Vec::new(alloc);
@@ -325,9 +347,11 @@ fn largest_among<L: Ledger>(
     steps: &mut Steps<L>,
 ) -> Result<Vec<ActorName>, NoMemory>
     requires rising { Rising names.now }
-    requires names { names.now ≡ actors_of (map (λ r. r.now) reports.now) }
-    ensures found { IfOk result (λ v. v.items ≡ actors_of (largest_closed (map (λ r. r.now) reports.now))) }
-    ensures cost { steps.new ≤ steps.old + 4 * length names.now + 4 * held_count (map (λ r. r.now) reports.now) }
+    requires names { names.now ≡ actors_of (reports_at reports.now) }
+    ensures found { IfOk result (λ v. v.items
+        ≡ actors_of (largest_closed (reports_at reports.now))) }
+    ensures cost { steps.new ≤ steps.old + 4 * length names.now
+        + 4 * held_count (reports_at reports.now) }
 {
     let told = sums_told(alloc, names, reports, steps)?;
     let out = vec![in alloc; false; names.len()]?;
@@ -349,8 +373,11 @@ pub(crate) fn closed_set<L: Ledger>(
     tokens: &Tokens,
     steps: &mut Steps<L>,
 ) -> Result<Vec<ActorName>, NoMemory>
-    ensures found { IfOk result (λ v. v.items ≡ actors_of (largest_closed (filter (λ r. not (in_token tokens.now.list r.actor)) reports.now))) }
-    ensures apart { IfOk result (λ v. (Rising v.items) × ((m : ℕ) → has v.items m ≡ true → in_token tokens.now.list m ≡ false)) }
+    ensures found { IfOk result (λ v. v.items
+        ≡ actors_of (largest_closed (free_reports tokens.now.list reports.now))) }
+    ensures rising { IfOk result (λ v. Rising v.items) }
+    ensures apart { IfOk result (λ v. (m : ℕ) → has v.items m ≡ true
+        → in_token tokens.now.list m ≡ false) }
     ensures cost { steps.new ≤ steps.old + step_bound reports.now }
 {
     let candidates = candidates(alloc, reports, tokens, steps)?;

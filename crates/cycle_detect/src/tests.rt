@@ -2,9 +2,10 @@ use crate::Detector;
 use letter_kinds::Note;
 use orca_names::ActorName;
 use plain_list::Listed;
-use std::alloc::Global;
+use std::alloc::{AllocError, Global};
 use std::test::Fail;
 
+/// The note of a blocked actor with this count, which holds 1 on each of these.
 fn block(alloc: Global, actor: u32, count: u64, on: &[u32]) -> Result<Note, Fail> {
     let mut held = Listed::new(alloc);
     for other in on {
@@ -24,26 +25,53 @@ fn ack(token: u64, actor: u32) -> Note {
     }
 }
 
+fn hear(detector: &mut Detector, note: Note) -> Result<(), Fail> {
+    match detector.hear(note) {
+        Ok(()) => Ok(()),
+        Err(_) => Err(Fail::from(AllocError)),
+    }
+}
+
+/// A detector that heard of two actors that hold each other, with a token of both.
+fn asked(alloc: Global) -> Result<Detector, Fail> {
+    let mut detector = Detector::new(alloc);
+    hear(&mut detector, block(alloc, 2, 1, &[1])?)?;
+    hear(&mut detector, block(alloc, 1, 1, &[2])?)?;
+    let set = detector.largest_closed(alloc)?;
+    let token = detector.prepare_token(alloc, &set)?;
+    detector.open_prepared(token);
+    Ok(detector)
+}
+
+/// Reports of so many actors, each holding 1 on the next; in a ring the last holds 1 on the first.
+fn row(alloc: Global, actors: u32, ring: bool) -> Result<Detector, Fail>
+    requires { 0 < actors }
+{
+    let mut detector = Detector::new(alloc);
+    for actor in 1..actors {
+        hear(&mut detector, block(alloc, actor - 1, 1, &[actor])?)?;
+    }
+    let last = if ring {
+        block(alloc, actors - 1, 1, &[0])?
+    } else {
+        block(alloc, actors - 1, 1, &[])?
+    };
+    hear(&mut detector, last)?;
+    Ok(detector)
+}
+
 #[test]
 fn two_hold_each_other(rt: HostRuntime) -> Result<(), Fail> {
     let alloc = rt.alloc();
     let mut detector = Detector::new(alloc);
-    let mut held = Listed::new(alloc);
-    held.push((ActorName(2), 1))?;
-    assert!(rt;
-        detector
-            .hear(Note::Block {
-                actor: ActorName(1),
-                count: 1,
-                held
-            })
-            .is_ok()
-    );
-    assert!(rt; detector.hear(block(alloc, 2, 1, &[1])?).is_ok());
-    assert!(rt; detector.hear(block(alloc, 3, 1, &[])?).is_ok());
+    hear(&mut detector, block(alloc, 1, 1, &[2])?)?;
+    hear(&mut detector, block(alloc, 2, 1, &[1])?)?;
+    hear(&mut detector, block(alloc, 3, 1, &[])?)?;
     assert!(rt; detector.news());
     let set = detector.largest_closed(alloc)?;
     assert!(rt; set.as_slice() == &[ActorName(1), ActorName(2)][..]);
+    let token = detector.open_token(alloc, &set)?;
+    assert!(rt; token == 1);
     Ok(())
 }
 
@@ -51,32 +79,45 @@ fn two_hold_each_other(rt: HostRuntime) -> Result<(), Fail> {
 fn one_more_count_leaves_none(rt: HostRuntime) -> Result<(), Fail> {
     let alloc = rt.alloc();
     let mut detector = Detector::new(alloc);
-    assert!(rt; detector.hear(block(alloc, 1, 2, &[2])?).is_ok());
-    assert!(rt; detector.hear(block(alloc, 2, 1, &[1])?).is_ok());
-    assert!(rt; detector.hear(block(alloc, 3, 1, &[1])?).is_ok());
+    hear(&mut detector, block(alloc, 1, 2, &[2])?)?;
+    hear(&mut detector, block(alloc, 2, 1, &[1])?)?;
+    hear(&mut detector, block(alloc, 3, 1, &[1])?)?;
     assert!(rt; detector.largest_closed(alloc)?.is_empty());
     Ok(())
 }
 
 #[test]
-fn acknowledged_and_closed(rt: HostRuntime) -> Result<(), Fail> {
-    let alloc = rt.alloc();
-    let mut detector = Detector::new(alloc);
-    assert!(rt; detector.hear(block(alloc, 2, 1, &[1])?).is_ok());
-    assert!(rt; detector.hear(block(alloc, 1, 1, &[2])?).is_ok());
-    let set = detector.largest_closed(alloc)?;
-    detector.clear_news();
-    let token = detector.open_token(alloc, &set)?;
-    assert!(rt; token == 1);
-    assert!(rt; detector.largest_closed(alloc)?.is_empty());
-    assert!(rt; detector.hear(ack(1, 1)).is_ok());
+fn both_acknowledge(rt: HostRuntime) -> Result<(), Fail> {
+    let mut detector = asked(rt.alloc())?;
+    hear(&mut detector, ack(1, 1))?;
     assert!(rt; detector.ready() == None);
-    assert!(rt; detector.hear(ack(1, 2)).is_ok());
+    hear(&mut detector, ack(1, 2))?;
     assert!(rt; detector.ready() == Some(1));
     assert!(rt; detector.acked(1));
-    assert!(rt; !detector.news());
-    let reports = detector.token_reports(alloc, 1)?;
-    assert!(rt; reports.is_some());
+    Ok(())
+}
+
+#[test]
+fn cancelled_between(rt: HostRuntime) -> Result<(), Fail> {
+    let mut detector = asked(rt.alloc())?;
+    hear(&mut detector, ack(1, 1))?;
+    hear(
+        &mut detector,
+        Note::Unblock {
+            actor: ActorName(2),
+        },
+    )?;
+    assert!(rt; detector.ready() == None);
+    hear(&mut detector, ack(1, 2))?;
+    assert!(rt; detector.ready() == None);
+    assert!(rt; detector.members(1).is_none());
+    Ok(())
+}
+
+#[test]
+fn closed_with_its_reports(rt: HostRuntime) -> Result<(), Fail> {
+    let alloc = rt.alloc();
+    let mut detector = asked(alloc)?;
     if detector.members(1).is_some() {
         detector.close(1);
     }
@@ -86,45 +127,18 @@ fn acknowledged_and_closed(rt: HostRuntime) -> Result<(), Fail> {
 }
 
 #[test]
-fn cancelled_between(rt: HostRuntime) -> Result<(), Fail> {
+fn hands_out_reports(rt: HostRuntime) -> Result<(), Fail> {
     let alloc = rt.alloc();
-    let mut detector = Detector::new(alloc);
-    assert!(rt; detector.hear(block(alloc, 1, 1, &[2])?).is_ok());
-    assert!(rt; detector.hear(block(alloc, 2, 1, &[1])?).is_ok());
-    let set = detector.largest_closed(alloc)?;
-    let token = detector.open_token(alloc, &set)?;
-    assert!(rt; detector.hear(ack(token, 1)).is_ok());
-    assert!(rt;
-        detector
-            .hear(Note::Unblock {
-                actor: ActorName(2)
-            })
-            .is_ok()
-    );
-    assert!(rt; detector.ready() == None);
-    assert!(rt; detector.hear(ack(token, 2)).is_ok());
-    assert!(rt; detector.ready() == None);
-    assert!(rt; detector.members(token).is_none());
-    Ok(())
-}
-
-/// Reports of so many actors, each holding 1 on the next; where they are a ring, the last holds 1 on the
-/// first.
-fn row(alloc: Global, actors: u32, ring: bool) -> Result<Detector, Fail> {
-    let mut detector = Detector::new(alloc);
-    for actor in 0..actors {
-        let note = if actor < actors - 1 {
-            block(alloc, actor, 1, &[actor + 1])?
-        } else if ring {
-            block(alloc, actor, 1, &[0])?
-        } else {
-            block(alloc, actor, 1, &[])?
-        };
-        if detector.hear(note).is_err() {
-            return Err(Fail::from(std::alloc::AllocError));
-        }
+    let detector = asked(alloc)?;
+    assert!(rt; detector.token_reports(alloc, 2)?.is_none());
+    let Some(reports) = detector.token_reports(alloc, 1)? else {
+        return Err(Fail::from(AllocError));
+    };
+    assert!(rt; reports.len() == 2);
+    for report in &reports {
+        assert!(rt; report.count == 1 && report.held.len() == 1);
     }
-    Ok(detector)
+    Ok(())
 }
 
 #[test]

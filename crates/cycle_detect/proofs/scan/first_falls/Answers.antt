@@ -8,8 +8,8 @@ loop-k-init g c =
     let names-long = ap length c.requires.names ∙ length-actors _ in
     record {
       told = refl;
-      falling = none_falling _ (length c.args.names.now) c.args.standing.now.out.items c.args.standing.now.told.items c.args.standing.now.work.items (c.requires.long ∙ names-long) names-long c.requires.none.0 c.requires.none.1;
-      size = none_size (length c.args.names.now) c.args.standing.now.out.items c.args.standing.now.work.items c.requires.none.0 c.requires.none.1;
+      falling = none_falling _ (length c.args.names.now) c.args.standing.now.out.items c.args.standing.now.told.items c.args.standing.now.work.items (c.requires.long ∙ names-long) names-long c.requires.none c.requires.no_work;
+      size = none_size (length c.args.names.now) c.args.standing.now.out.items c.args.standing.now.work.items c.requires.none c.requires.no_work;
       cost = omega arith;
     }
 
