@@ -1,4 +1,4 @@
-//! What a blocked actor reports to the detector (MAC, OOPSLA 2013).
+//! What a blocked actor reports to the detector of blocked actors (MAC, OOPSLA 2013).
 #![tactic(auto)]
 
 ghost use Rattle.std.specs.Prelude.{◌≡◌, IfOk};
@@ -9,7 +9,8 @@ use orca_names::{ActorName, NoMemory};
 use plain_list::Listed;
 use std::alloc::Global;
 
-/// The note that the actor is blocked, with this count of its own and these counts on other actors.
+/// The note that the actor is blocked, with its own count and the counts that it holds on other
+/// actors, in their order.
 ///
 /// # Errors
 /// `NoMemory` where memory was refused.
@@ -31,16 +32,4 @@ pub fn report(
 }
 
 #[cfg(test)]
-mod tests {
-    use super::*;
-    use std::test::Fail;
-
-    #[test]
-    fn tells_all(rt: HostRuntime) -> Result<(), Fail> {
-        let note = report(rt.alloc(), ActorName(3), 7, &[(ActorName(1), 256)])?;
-        assert!(rt;
-            matches!(&note, Note::Block { actor, count: 7, held } if actor.0 == 3 && held.len() == 1)
-        );
-        Ok(())
-    }
-}
+mod tests;

@@ -7,8 +7,8 @@ mod names;
 mod reports;
 mod scan;
 mod token;
-mod told;
 mod tokens;
+mod told;
 
 pub use detector::{Detector, TOKENS_LIMIT};
 pub use token::Token;

@@ -1,3 +1,5 @@
+ghost use Rattle.std.specs.Prelude.{◌≡◌, OnOk};
+
 use crate::Detector;
 use letter_kinds::Note;
 use orca_names::ActorName;
@@ -5,17 +7,29 @@ use plain_list::Listed;
 use std::alloc::{AllocError, Global};
 use std::test::Fail;
 
-/// The note of a blocked actor with this count, which holds 1 on each of these.
-fn block(alloc: Global, actor: u32, count: u64, on: &[u32]) -> Result<Note, Fail> {
+/// Hears that the actor is blocked with this count, and holds 1 on each of these.
+fn hear_block(
+    detector: &mut Detector,
+    alloc: Global,
+    actor: u32,
+    count: u64,
+    on: &[u32],
+) -> Result<(), Fail>
+    ensures { OnOk result (detector.new.state.opened ≡ detector.old.state.opened) }
+{
     let mut held = Listed::new(alloc);
     for other in on {
         held.push((ActorName(*other), 1))?;
     }
-    Ok(Note::Block {
+    let note = Note::Block {
         actor: ActorName(actor),
         count,
         held,
-    })
+    };
+    if detector.hear(note).is_err() {
+        return Err(Fail::from(AllocError));
+    }
+    Ok(())
 }
 
 fn ack(token: u64, actor: u32) -> Note {
@@ -25,38 +39,29 @@ fn ack(token: u64, actor: u32) -> Note {
     }
 }
 
-fn hear(detector: &mut Detector, note: Note) -> Result<(), Fail> {
-    match detector.hear(note) {
-        Ok(()) => Ok(()),
-        Err(_) => Err(Fail::from(AllocError)),
-    }
-}
-
 /// A detector that heard of two actors that hold each other, with a token of both.
 fn asked(alloc: Global) -> Result<Detector, Fail> {
     let mut detector = Detector::new(alloc);
-    hear(&mut detector, block(alloc, 2, 1, &[1])?)?;
-    hear(&mut detector, block(alloc, 1, 1, &[2])?)?;
+    hear_block(&mut detector, alloc, 2, 1, &[1])?;
+    hear_block(&mut detector, alloc, 1, 1, &[2])?;
     let set = detector.largest_closed(alloc)?;
     let token = detector.prepare_token(alloc, &set)?;
     detector.open_prepared(token);
     Ok(detector)
 }
 
-/// Reports of so many actors, each holding 1 on the next; in a ring the last holds 1 on the first.
-fn row(alloc: Global, actors: u32, ring: bool) -> Result<Detector, Fail>
-    requires { 0 < actors }
-{
+/// Reports of the actors up to this one, each holding 1 on the next; in a ring the last holds 1 on
+/// the first.
+fn row(alloc: Global, last: u32, ring: bool) -> Result<Detector, Fail> {
     let mut detector = Detector::new(alloc);
-    for actor in 1..actors {
-        hear(&mut detector, block(alloc, actor - 1, 1, &[actor])?)?;
+    for actor in 0..last {
+        hear_block(&mut detector, alloc, actor, 1, &[actor + 1])?;
     }
-    let last = if ring {
-        block(alloc, actors - 1, 1, &[0])?
+    if ring {
+        hear_block(&mut detector, alloc, last, 1, &[0])?;
     } else {
-        block(alloc, actors - 1, 1, &[])?
-    };
-    hear(&mut detector, last)?;
+        hear_block(&mut detector, alloc, last, 1, &[])?;
+    }
     Ok(detector)
 }
 
@@ -64,9 +69,9 @@ fn row(alloc: Global, actors: u32, ring: bool) -> Result<Detector, Fail>
 fn two_hold_each_other(rt: HostRuntime) -> Result<(), Fail> {
     let alloc = rt.alloc();
     let mut detector = Detector::new(alloc);
-    hear(&mut detector, block(alloc, 1, 1, &[2])?)?;
-    hear(&mut detector, block(alloc, 2, 1, &[1])?)?;
-    hear(&mut detector, block(alloc, 3, 1, &[])?)?;
+    hear_block(&mut detector, alloc, 1, 1, &[2])?;
+    hear_block(&mut detector, alloc, 2, 1, &[1])?;
+    hear_block(&mut detector, alloc, 3, 1, &[])?;
     assert!(rt; detector.news());
     let set = detector.largest_closed(alloc)?;
     assert!(rt; set.as_slice() == &[ActorName(1), ActorName(2)][..]);
@@ -79,9 +84,9 @@ fn two_hold_each_other(rt: HostRuntime) -> Result<(), Fail> {
 fn one_more_count_leaves_none(rt: HostRuntime) -> Result<(), Fail> {
     let alloc = rt.alloc();
     let mut detector = Detector::new(alloc);
-    hear(&mut detector, block(alloc, 1, 2, &[2])?)?;
-    hear(&mut detector, block(alloc, 2, 1, &[1])?)?;
-    hear(&mut detector, block(alloc, 3, 1, &[1])?)?;
+    hear_block(&mut detector, alloc, 1, 2, &[2])?;
+    hear_block(&mut detector, alloc, 2, 1, &[1])?;
+    hear_block(&mut detector, alloc, 3, 1, &[1])?;
     assert!(rt; detector.largest_closed(alloc)?.is_empty());
     Ok(())
 }
@@ -89,9 +94,9 @@ fn one_more_count_leaves_none(rt: HostRuntime) -> Result<(), Fail> {
 #[test]
 fn both_acknowledge(rt: HostRuntime) -> Result<(), Fail> {
     let mut detector = asked(rt.alloc())?;
-    hear(&mut detector, ack(1, 1))?;
+    assert!(rt; detector.hear(ack(1, 1)).is_ok());
     assert!(rt; detector.ready() == None);
-    hear(&mut detector, ack(1, 2))?;
+    assert!(rt; detector.hear(ack(1, 2)).is_ok());
     assert!(rt; detector.ready() == Some(1));
     assert!(rt; detector.acked(1));
     Ok(())
@@ -100,15 +105,13 @@ fn both_acknowledge(rt: HostRuntime) -> Result<(), Fail> {
 #[test]
 fn cancelled_between(rt: HostRuntime) -> Result<(), Fail> {
     let mut detector = asked(rt.alloc())?;
-    hear(&mut detector, ack(1, 1))?;
-    hear(
-        &mut detector,
-        Note::Unblock {
-            actor: ActorName(2),
-        },
-    )?;
+    assert!(rt; detector.hear(ack(1, 1)).is_ok());
+    let unblock = Note::Unblock {
+        actor: ActorName(2),
+    };
+    assert!(rt; detector.hear(unblock).is_ok());
     assert!(rt; detector.ready() == None);
-    hear(&mut detector, ack(1, 2))?;
+    assert!(rt; detector.hear(ack(1, 2)).is_ok());
     assert!(rt; detector.ready() == None);
     assert!(rt; detector.members(1).is_none());
     Ok(())
@@ -144,7 +147,7 @@ fn hands_out_reports(rt: HostRuntime) -> Result<(), Fail> {
 #[test]
 fn chain_falls(rt: HostRuntime) -> Result<(), Fail> {
     let alloc = rt.alloc();
-    let detector = row(alloc, 1000, false)?;
+    let detector = row(alloc, 999, false)?;
     assert!(rt; detector.largest_closed(alloc)?.is_empty());
     Ok(())
 }
@@ -152,7 +155,7 @@ fn chain_falls(rt: HostRuntime) -> Result<(), Fail> {
 #[test]
 fn ring_stands(rt: HostRuntime) -> Result<(), Fail> {
     let alloc = rt.alloc();
-    let detector = row(alloc, 1000, true)?;
+    let detector = row(alloc, 999, true)?;
     assert!(rt; detector.largest_closed(alloc)?.len() == 1000);
     Ok(())
 }
