@@ -4,6 +4,7 @@
 #![tactic(auto)]
 
 mod held;
+mod kept_report;
 mod limits;
 mod memory;
 mod names;
@@ -14,6 +15,7 @@ mod tally;
 mod trace;
 
 pub use held::HeldTest;
+pub use kept_report::KeptReport;
 pub use limits::{
     ACTORS_LIMIT, BEHAVIOURS_LIMIT, BODY_LIMIT, BOOK_LIMIT, FIELDS_LIMIT, KINDS_LIMIT, LINE_LIMIT,
     NAME_LIMIT, REGISTERS, TEXT_LIMIT, VALUES_LIMIT, WORKERS_LIMIT,

@@ -1,0 +1,17 @@
+//! The detector of blocked actors: the reports that it keeps, the closed sets that it finds among them, and
+//! the tokens by which it asks their members (MAC, OOPSLA 2013).
+#![tactic(auto)]
+
+mod detector;
+mod names;
+mod reports;
+mod scan;
+mod token;
+mod tokens;
+mod told;
+
+pub use detector::{Detector, TOKENS_LIMIT};
+pub use token::Token;
+
+#[cfg(test)]
+mod tests;
