@@ -10,13 +10,13 @@ use Rattle.behaviour_text.proofs.Reread.{number_read, numeral_fits, name_fits, n
 use Rattle.behaviour_text.proofs.Whole.{IsFront, front_before, number_found, Takes, takes_word, instr_takes}
 use Rattle.std.specs.Option.{option_or}
 use Rattle.behaviour_code.specs.WellFormed.{name_in, AreApart, NameFits, instr_names, body_names, behaviours_names, kinds_names, InstrIsWellFormed, BehaviourIsWellFormed, KindIsWellFormed, IsWellFormed}
-use Rattle.behaviour_code.specs.Names.{is_name, text_of, with_text, interned}
+use Rattle.behaviour_code.specs.Names.{is_name, text_of, with_text, intern}
 use Rattle.behaviour_code.specs.declared.code.Behaviour.{Behaviour}
 use Rattle.behaviour_code.specs.declared.code.Kind.{Kind}
 use Rattle.behaviour_code.specs.declared.code.Program.{Program}
 use Rattle.behaviour_code.specs.declared.instr.Instr.{Instr}
 use Rattle.behaviour_text.specs.Faults.{kind_fault, on_fault, inside_fault, word_fault, words_fault, kind_number, lowest_fault, first_fault, IsFault, Tells}
-use Rattle.behaviour_text.specs.Reading.{start, kinds_begun, place_of, closed_at, closed, with_kind, with_on, with_end, with_word, with_words, read_end, unless_fault, read_from, finish, read_text, fault_of}
+use Rattle.behaviour_text.specs.Reading.{start, kinds_begun, place_of, close_kind_at, close_kind, with_kind, with_on, with_end, with_word, with_words, read_end, unless_fault, read_from, finish, read_text, fault_of}
 use Rattle.behaviour_text.specs.Table.{line_word, starts_with, operands_fault, shape_fault}
 use Rattle.behaviour_text.specs.Text.{instr_words, behaviour_begin, behaviour_end, kind_begin, behaviour_lines, kind_lines, program_lines, speaks, said_lines, AreClean, IsText}
 use Rattle.behaviour_text.specs.Words.{words_of, number_of}
@@ -53,7 +53,7 @@ kind_place_read InKind kinds n away few h =
     ∙ ap₂ (λ (a b : Bool). if◌then◌else◌ {A = Option ℕ} (a || b) (Some 9) None) (le-ltb 255 kinds (omega arith)) (le-ltb 8 n h)
 
 one_name : (all : List (List ℕ)) (names : List (List ℕ)) (n : ℕ) → AreApart all → NameFits all n → IsFront (with_text names (text_of all n)) all →
-    (interned names (text_of all n)).0 ≡ n
+    (intern names (text_of all n)).0 ≡ n
 one_name all names n apart fits front = number_found names all n apart fits.within front
 
 on_takes : (all : List (List ℕ)) (r : Reader) (name : ℕ) (n : ℕ) → AreApart all → r.stage ≡ InKind → length r.behaviours < 64 → n ≤ 8 → NameFits all name →
@@ -174,12 +174,12 @@ behaviours_read all r (b ∷ bs) apart stage few good front =
       },
     )
 
-closed_renamed : (r : Reader) (names : List (List ℕ)) (stage : Stage) → (closed_at stage (record r { names = names })).kinds ≡ (closed_at stage r).kinds
+closed_renamed : (r : Reader) (names : List (List ℕ)) (stage : Stage) → (close_kind_at stage (record r { names = names })).kinds ≡ (close_kind_at stage r).kinds
 closed_renamed r names Start = refl
 closed_renamed r names InKind = refl
 closed_renamed r names InBehaviour = refl
 
-begun_is : (r : Reader) (stage : Stage) → kinds_begun stage (length r.kinds) ≡ length (closed_at stage r).kinds
+begun_is : (r : Reader) (stage : Stage) → kinds_begun stage (length r.kinds) ≡ length (close_kind_at stage r).kinds
 begun_is r Start = refl
 begun_is r InKind = sym (length-append r.kinds _)
 begun_is r InBehaviour = sym (length-append r.kinds _)
@@ -188,17 +188,17 @@ begun_is r InBehaviour = sym (length-append r.kinds _)
 pub record AddsKinds (r s : Reader) (names : List (List ℕ)) (ks : List Kind) : Type 0 where
   pub names_are : s.names ≡ names
   pub ended : s.stage ≡ InBehaviour → ⊥
-  pub kinds_are : (closed_at s.stage s).kinds ≡ (closed_at r.stage r).kinds ++ ks
+  pub kinds_are : (close_kind_at s.stage s).kinds ≡ (close_kind_at r.stage r).kinds ++ ks
 
 kind_same : (s : Reader) (k : Kind) → s.kind_name ≡ k.name → s.fields ≡ k.fields → s.behaviours ≡ k.behaviours → record { name = s.kind_name; fields = s.fields; behaviours = s.behaviours } ≡ k
 kind_same s k e f b =
     ap (λ (n : ℕ). let x : Kind = record { name = n; fields = s.fields; behaviours = s.behaviours } in x) e
     ∙ ap₂ (λ (n : ℕ) (bs : List Behaviour). let x : Kind = record { name = k.name; fields = n; behaviours = bs } in x) f b
 
-kind_read : (all : List (List ℕ)) (r : Reader) (k : Kind) → AreApart all → (r.stage ≡ InBehaviour → ⊥) → length (closed_at r.stage r).kinds < 256 → KindIsWellFormed all k →
+kind_read : (all : List (List ℕ)) (r : Reader) (k : Kind) → AreApart all → (r.stage ≡ InBehaviour → ⊥) → length (close_kind_at r.stage r).kinds < 256 → KindIsWellFormed all k →
     IsFront (behaviours_names (text_of all) (with_text r.names (text_of all k.name)) k.behaviours) all →
     (s : Reader) × ReadsTo r (kind_lines (text_of all) k) s × AddsKinds r s (behaviours_names (text_of all) (with_text r.names (text_of all k.name)) k.behaviours) (k ∷ [])
-unfolding with_kind closed
+unfolding with_kind close_kind
 kind_read all r k apart away few good front =
     let text = text_of all in
     let names = with_text r.names (text k.name) in
@@ -212,7 +212,7 @@ kind_read all r k apart away few good front =
       record {
         names_are = a.names_are;
         ended = λ e. in_kind_only s.stage a.stage_is e;
-        kinds_are = ap (λ (x : Stage). (closed_at x s).kinds) a.stage_is
+        kinds_are = ap (λ (x : Stage). (close_kind_at x s).kinds) a.stage_is
             ∙ ap₂ (λ (xs : List Kind) (x : Kind). xs ++ x ∷ []) (a.kinds_are ∙ closed_renamed r names r.stage) (kind_same s k a.name_is a.fields_are a.behaviours_are);
       },
     )
@@ -223,22 +223,22 @@ kind_read all r k apart away few good front =
     kept_names : (r : Reader) (names : List (List ℕ)) (name : ℕ) (n : ℕ) → record (with_kind (record r { names = names }) name n) { names = names } ≡ with_kind (record r { names = names }) name n
     kept_names r names name n = by_stage r.stage
       where
-        by_stage : (stage : Stage) → record (record (closed_at stage (record r { names = names })) { stage = InKind; kind_name = name; fields = n; behaviours = [] }) { names = names }
-            ≡ record (closed_at stage (record r { names = names })) { stage = InKind; kind_name = name; fields = n; behaviours = [] }
+        by_stage : (stage : Stage) → record (record (close_kind_at stage (record r { names = names })) { stage = InKind; kind_name = name; fields = n; behaviours = [] }) { names = names }
+            ≡ record (close_kind_at stage (record r { names = names })) { stage = InKind; kind_name = name; fields = n; behaviours = [] }
         by_stage Start = refl
         by_stage InKind = refl
         by_stage InBehaviour = refl
 
-kinds_read : (all : List (List ℕ)) (r : Reader) (ks : List Kind) → AreApart all → (r.stage ≡ InBehaviour → ⊥) → length (closed_at r.stage r).kinds + length ks ≤ 256 → AllByRecursion (KindIsWellFormed all) ks →
+kinds_read : (all : List (List ℕ)) (r : Reader) (ks : List Kind) → AreApart all → (r.stage ≡ InBehaviour → ⊥) → length (close_kind_at r.stage r).kinds + length ks ≤ 256 → AllByRecursion (KindIsWellFormed all) ks →
     IsFront (kinds_names (text_of all) r.names ks) all →
     (s : Reader) × ReadsTo r (flat_map (kind_lines (text_of all)) ks) s × AddsKinds r s (kinds_names (text_of all) r.names ks) ks
-kinds_read all r [] apart away few good front = (r, refl, record { names_are = refl; ended = away; kinds_are = sym (append-nil (closed_at r.stage r).kinds) })
+kinds_read all r [] apart away few good front = (r, refl, record { names_are = refl; ended = away; kinds_are = sym (append-nil (close_kind_at r.stage r).kinds) })
 kinds_read all r (k ∷ ks) apart away few good front =
     let text = text_of all in
     let names = behaviours_names text (with_text r.names (text k.name)) k.behaviours in
     let first = kind_read all r k apart away (omega arith) good.0 (front_kinds all names text ks front) in
     let a = first.2 in
-    let rest = kinds_read all first.0 ks apart a.ended (omega (arith, ap length a.kinds_are, length-append (closed_at r.stage r).kinds (k ∷ []))) good.1
+    let rest = kinds_read all first.0 ks apart a.ended (omega (arith, ap length a.kinds_are, length-append (close_kind_at r.stage r).kinds (k ∷ []))) good.1
     (subst (λ (ns : List (List ℕ)). IsFront (kinds_names text ns ks) all) (sym a.names_are) front) in
     let c = rest.2 in (
       rest.0,
@@ -246,7 +246,7 @@ kinds_read all r (k ∷ ks) apart away few good front =
       record {
         names_are = c.names_are ∙ ap (λ (ns : List (List ℕ)). kinds_names text ns ks) a.names_are;
         ended = c.ended;
-        kinds_are = c.kinds_are ∙ ap (λ (xs : List Kind). xs ++ ks) a.kinds_are ∙ append_assoc (closed_at r.stage r).kinds (k ∷ []) ks;
+        kinds_are = c.kinds_are ∙ ap (λ (xs : List Kind). xs ++ ks) a.kinds_are ∙ append_assoc (close_kind_at r.stage r).kinds (k ∷ []) ks;
       },
     )
 
@@ -282,7 +282,7 @@ read_back n r s (line ∷ lines) clean h away =
 
 -- a text of a program is read as that program
 pub text_again : (bytes : List ℕ) (p : Program) → AllByRecursion (λ line. line_fault line ≡ None) (lines_of bytes) → said_lines (lines_of bytes) ≡ program_lines p → IsWellFormed p → read_text bytes ≡ Ok p
-unfolding read_text start closed
+unfolding read_text start close_kind
 text_again bytes p clean lines good =
     let whole : IsFront (kinds_names (text_of p.names) [] p.kinds) p.names =
     subst (λ (ns : List (List ℕ)). IsFront ns p.names) (sym good.in_order) (record { same = λ n k. refl; short = omega arith }) in

@@ -3,7 +3,7 @@ use Rattle.std.proofs.Common.{◌≡◌, ℕ, ◌+◌, ◌<◌, Bool, true, fals
 use Rattle.std.specs.List.{AllByRecursion, list_any, position_or_len}
 use Rattle.std.proofs.lemmas.Slice.Eq.{bytes_eq-Decides}
 use Rattle.behaviour_text.proofs.Said.{Lines, so_far_at, open_lines, in_kind, in_behaviour}
-use Rattle.behaviour_code.specs.Names.{text_of, with_text, interned}
+use Rattle.behaviour_code.specs.Names.{text_of, with_text, intern}
 use Rattle.behaviour_code.specs.declared.code.Behaviour.{Behaviour}
 use Rattle.behaviour_code.specs.declared.code.Kind.{Kind}
 use Rattle.behaviour_code.specs.declared.instr.Instr.{Instr}
@@ -124,6 +124,6 @@ found_first false n ns text e rest = later (list_any (bytes_eq text) ns) (positi
     later true p f = record { said = rw one-add f.said; within = omega (arith, f.within) }
     later false p f = record { said = rw one-add f.said; within = omega (arith, f.within) }
 
-pub finds : (names : List (List ℕ)) (text : List ℕ) → Finds names text (interned names text).0 (interned names text).1
+pub finds : (names : List (List ℕ)) (text : List ℕ) → Finds names text (intern names text).0 (intern names text).1
 finds [] text = record { said = refl; within = omega arith }
 finds (n ∷ ns) text = found_first (bytes_eq text n) n ns text refl (finds ns text)

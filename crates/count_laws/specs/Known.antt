@@ -26,14 +26,14 @@ unfoldable pub row_values : (Thing → Option Row) → Thing → List Value
 row_values all x = unwrap_or (all x) []
 
 -- what a path through the rows leads to from a root
-abbrev pub Reaches : (Thing → Option Row) → (Thing → Type 0) → Thing → Type 0
-Reaches all roots x = ReachesFrom (row_values all) roots x
+abbrev pub ReachesThrough : (Thing → Option Row) → (Thing → Type 0) → Thing → Type 0
+ReachesThrough all roots x = ReachesFrom (row_values all) roots x
 
 -- where an actor's walks begin: its fields, its registers, and what it holds
-pub data Roots (c : Cell) : Thing → Type 0 where
-  in_fields : {x : Thing} → Names c.fields.values x → Roots c x
-  in_frame : {x : Thing} → InFrame c.frame x → Roots c x
-  in_table : {x : Thing} → 0 < held_in c.holdings x → Roots c x
+pub data StartsWalks (c : Cell) : Thing → Type 0 where
+  in_fields : {x : Thing} → Names c.fields.values x → StartsWalks c x
+  in_frame : {x : Thing} → InFrame c.frame x → StartsWalks c x
+  in_table : {x : Thing} → 0 < held_in c.holdings x → StartsWalks c x
 
 -- an actor knows a thing: its own, which is there, or another's, on which it holds a count
 abbrev pub IsKnown : ℕ → Holdings → Thing → Type 0
@@ -45,7 +45,7 @@ row_at me h = thing_row (row_of me h)
 
 -- it knows all that it reaches through the rows ever made
 abbrev pub IsClosedAt : (Thing → Option Row) → ℕ → Cell → Type 0
-IsClosedAt all me c = (x : Thing) → Reaches all (Roots c) x → IsKnown me c.holdings x
+IsClosedAt all me c = (x : Thing) → ReachesThrough all (StartsWalks c) x → IsKnown me c.holdings x
 
 -- the rows that it has are those that were made
 abbrev pub RowsAreAt : (Thing → Option Row) → ℕ → Holdings → Type 0
@@ -60,8 +60,8 @@ RowsAreIn all (e ∷ load) = (e.1 ≡ all e.0) × RowsAreIn all load
 pub record IsLoadOf (all : Thing → Option Row) (args : List Value) (load : List Loaded) : Type 0 where
   pub once : (x : Thing) → times_loaded x load ≤ 1
   pub rising : IsStrictlySortedBy thing_cmp (map (λ e. e.0) load)
-  pub reached : (x : Thing) → 0 < times_loaded x load → Reaches all (Names args) x
-  pub whole : (x : Thing) → Reaches all (Names args) x → 0 < times_loaded x load
+  pub reached : (x : Thing) → 0 < times_loaded x load → ReachesThrough all (Names args) x
+  pub whole : (x : Thing) → ReachesThrough all (Names args) x → 0 < times_loaded x load
   pub rows : RowsAreIn all load
 
 abbrev pub IsExactLetter : (Thing → Option Row) → Letter → Type 0

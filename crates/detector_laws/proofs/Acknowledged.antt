@@ -24,7 +24,7 @@ use Rattle.detector_laws.specs.Events.{Departs, Leaves, Moves, Reaps}
 use Rattle.detector_laws.specs.Laws.{MembersAloneAcknowledge}
 use Rattle.detector_laws.specs.Members.{In}
 use Rattle.detector_laws.specs.Tokens.{ack_count}
-use Rattle.detector_laws.specs.World.{MembersAcknowledge, TokensAreSound, World, confirms_of, hear, scan, take_confirm}
+use Rattle.detector_laws.specs.World.{MembersAcknowledge, TokensAreSound, World, confirms_of, hear_in_world, scan_in_world, take_confirm}
 
 -- ---- no further tokens, Confirms and Acks
 
@@ -55,7 +55,7 @@ heard_open (Unblock b) d = λ t i. (t, (In-filter (λ u. not (has u.members b)) 
 heard_open (Ack number b) d = λ t i. let (u, j, e) = In-map (note_ack number b) t d.tokens i in
     (u, j, ap (λ (x : Token). x.number) e, ap (λ (x : Token). x.members) e)
 
-pub hear_members : (w : World) (n : Note) (ns : List Note) → w.notes ≡ n ∷ ns → MembersAcknowledge w → MembersAcknowledge (hear w n ns)
+pub hear_members : (w : World) (n : Note) (ns : List Note) → w.notes ≡ n ∷ ns → MembersAcknowledge w → MembersAcknowledge (hear_in_world w n ns)
 hear_members w n ns e k =
     fewer w.detector (hear_note n w.detector) w.mail w.mail w.notes ns k (heard_open n w.detector) (λ t a. omega arith)
     (λ t a. omega (arith, tail_acks t a n ns, ap (ack_count t a) e))
@@ -86,7 +86,7 @@ scanned_members w (x ∷ xs) sound k =
           (split t i);
     }
 
-pub scan_members : (w : World) → TokensAreSound w → MembersAcknowledge w → MembersAcknowledge (scan w)
+pub scan_members : (w : World) → TokensAreSound w → MembersAcknowledge w → MembersAcknowledge (scan_in_world w)
 scan_members w = scanned_members w (closed_set w.detector)
 
 departed_acks : (w w' : World) (gone : List ℕ) → Departs w gone w' → (n a : ℕ) → ack_count n a w'.notes ≤ ack_count n a w.notes

@@ -19,7 +19,7 @@ use Rattle.detector_laws.specs.Confirms.{EndsInConfirm, confirm_count, other_bef
 use Rattle.detector_laws.specs.Events.{CanBlock, IsFresh, Moves}
 use Rattle.detector_laws.specs.Reports.{IsSilentOn, IsBlocked}
 use Rattle.detector_laws.specs.Tokens.{ack_count, trace_count, IsSealedMember, IsSealed, unblocks_before_ack, IsSpoiled, SoundTokens}
-use Rattle.detector_laws.specs.World.{World, at, block, take_confirm, TokensAreSound}
+use Rattle.detector_laws.specs.World.{World, at, block_in_world, take_confirm, TokensAreSound}
 
 -- a member of a sealed token, where nothing of it changes and a note comes that says nothing of it
 pub sealed_stays : (t : Token) (m : ℕ) (cell cell' : ℕ → Option Cell) (mail : List Letter) (loaded loaded' : ℕ) (notes more : List Note)
@@ -40,19 +40,19 @@ sealed_stays t m cell cell' mail loaded loaded' notes more s same held none sile
 not_blocking : (w : World) (a : ℕ) (c : Cell) (r : Report) → CanBlock w a c r → (m : ℕ) → is_reporting (w.cell m) ≡ true → m ≢ a
 not_blocking w a c r can m out e = false≢true (sym can.quiet ∙ (ap is_reporting (sym can.here ∙ ap w.cell (sym e)) ∙ out))
 
-block_sealed : (w : World) (a : ℕ) (c : Cell) (r : Report) → CanBlock w a c r → (t : Token) → IsSealed w.cell w.mail w.loaded w.notes t → IsSealed (block w a c r).cell w.mail w.loaded (block w a c r).notes t
+block_sealed : (w : World) (a : ℕ) (c : Cell) (r : Report) → CanBlock w a c r → (t : Token) → IsSealed w.cell w.mail w.loaded w.notes t → IsSealed (block_in_world w a c r).cell w.mail w.loaded (block_in_world w a c r).notes t
 block_sealed w a c r can t s m i =
     let seal = s m i in
     let now : Cell = record c { reported = true } in
     let ne = not_blocking w a c r can m (blocked_reports seal.blocked) in
-    sealed_stays t m w.cell (block w a c r).cell (w.mail m) (w.loaded m) (w.loaded m) w.notes (block_note r ∷ []) seal
+    sealed_stays t m w.cell (block_in_world w a c r).cell (w.mail m) (w.loaded m) (w.loaded m) w.notes (block_note r ∷ []) seal
     (at_other w.cell a (Some now) m ne)
     (at_cases (λ b o. has t.members b ≡ false → held_on o m ≡ 0) w.cell a (Some now) (λ out. ap (λ o. held_on o m) (sym can.here) ∙ seal.held a out) (λ b _. seal.held b))
     seal.unloaded
     (IsSilentOn-push m w.notes (block_note r) seal.silent (λ e. ne (sym e ∙ can.exact.actor)))
     refl
 
-block_spoiled : (w : World) (a : ℕ) (c : Cell) (r : Report) → CanBlock w a c r → (t : Token) → IsSpoiled w.cell w.mail w.notes t → IsSpoiled (block w a c r).cell w.mail (block w a c r).notes t
+block_spoiled : (w : World) (a : ℕ) (c : Cell) (r : Report) → CanBlock w a c r → (t : Token) → IsSpoiled w.cell w.mail w.notes t → IsSpoiled (block_in_world w a c r).cell w.mail (block_in_world w a c r).notes t
 block_spoiled w a c r can t (m, i, s) = (
   m,
   i,
@@ -63,7 +63,7 @@ block_spoiled w a c r can t (m, i, s) = (
   },
 )
 
-pub block_tokens : (w : World) (a : ℕ) (c : Cell) (r : Report) → CanBlock w a c r → TokensAreSound w → TokensAreSound (block w a c r)
+pub block_tokens : (w : World) (a : ℕ) (c : Cell) (r : Report) → CanBlock w a c r → TokensAreSound w → TokensAreSound (block_in_world w a c r)
 block_tokens w a c r can k = record {
   apart = k.apart;
   kept = k.kept;

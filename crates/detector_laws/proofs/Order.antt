@@ -2,7 +2,7 @@
 use Rattle.std.proofs.Common.{◌≡◌, ℕ, ◌≤◌, ◌<◌, ◌==◌, nat_lt, Bool, if◌then◌else◌, ⊎_elim, List, [], ◌∷◌, filter, Some, arith, sym, subst, ◌∙◌, eqb-true}
 use Rattle.std.proofs.lemmas.Bool.{cond_both, eqb-false, ltb-true, ltb-false}
 use Rattle.std.proofs.lemmas.Bool.Decides.{nat_tests}
-use Rattle.letter_kinds.specs.Reports.{report_of, keep_report}
+use Rattle.letter_kinds.specs.Reports.{kept_report, keep_report}
 use Rattle.letter_kinds.specs.declared.note.Report.{Report}
 use Rattle.detector_laws.specs.Members.{In}
 use Rattle.detector_laws.specs.Reports.{AllAbove, IsRising}
@@ -20,16 +20,16 @@ above_In a [] r h i = absurd i
 above_In a (q ∷ rs) r h i = ⊎_elim (λ e. subst (λ (x : Report). a < x.actor) (sym e) h.0) (λ j. above_In a rs r h.1 j) i
 
 -- a report that is kept is found
-pub In_report_of : (rs : List Report) (r : Report) → IsRising rs → In r rs → report_of rs r.actor ≡ Some r
+pub In_report_of : (rs : List Report) (r : Report) → IsRising rs → In r rs → kept_report rs r.actor ≡ Some r
 In_report_of [] r h i = absurd i
 In_report_of (q ∷ rs) r h i = ⊎_elim
-    (λ (e : r ≡ q). subst (λ x. report_of (q ∷ rs) x.actor ≡ Some x) (sym e) (found q rs))
+    (λ (e : r ≡ q). subst (λ x. kept_report (q ∷ rs) x.actor ≡ Some x) (sym e) (found q rs))
     (λ j. later q rs r.actor (above_In q.actor rs r h.0 j) ∙ In_report_of rs r h.1 j) i
   where
-    found : (q : Report) (rs : List Report) → report_of (q ∷ rs) q.actor ≡ Some q
+    found : (q : Report) (rs : List Report) → kept_report (q ∷ rs) q.actor ≡ Some q
     found q rs = grind (arith, nat_tests)
 
-    later : (q : Report) (rs : List Report) (a : ℕ) → q.actor < a → report_of (q ∷ rs) a ≡ report_of rs a
+    later : (q : Report) (rs : List Report) (a : ℕ) → q.actor < a → kept_report (q ∷ rs) a ≡ kept_report rs a
     later q rs a lt = grind (arith, nat_tests)
 
 above_keep : (r : Report) (a : ℕ) (ks : List Report) → a < r.actor → AllAbove a ks → AllAbove a (keep_report r ks)

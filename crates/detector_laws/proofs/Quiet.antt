@@ -9,7 +9,7 @@ use Rattle.letter_kinds.proofs.Filters.{filter_full, all_filter, filter_twice, f
 use Rattle.letter_kinds.proofs.Rounds.{largest_by_rounds}
 use Rattle.letter_kinds.specs.Closed.{IsClosed, largest_closed}
 use Rattle.letter_kinds.specs.Detector.{Token, has, in_token, candidates}
-use Rattle.letter_kinds.specs.Reports.{count_on, told_on, told_on_by, report_of}
+use Rattle.letter_kinds.specs.Reports.{count_on, told_on, told_on_by, kept_report}
 use Rattle.letter_kinds.specs.declared.note.Report.{Report}
 use Rattle.machine_rules.specs.Cell.{Cell}
 use Rattle.detector_laws.proofs.Cells.{IsTrue, holder_present, reporter_present, true_holds}
@@ -63,7 +63,7 @@ kept_exact w q h rising r i =
     subst (λ o. IsAsTold (w.cell r.actor) r.actor (told_by_kept o)) (In_report_of w.detector.kept r rising i)
     (subst (λ ns. IsAsTold (w.cell r.actor) r.actor (told_of r.actor w.detector.kept ns)) q.heard (h.last r.actor))
 
-no_report : (rs : List Report) (a : ℕ) → has (names rs) a ≡ false → report_of rs a ≡ None
+no_report : (rs : List Report) (a : ℕ) → has (names rs) a ≡ false → kept_report rs a ≡ None
 no_report [] a h = refl
 no_report (r ∷ rs) a h = let two = or_parts (r.actor == a) (has (names rs) a) h in grind (arith, two.0, no_report rs a two.1)
 

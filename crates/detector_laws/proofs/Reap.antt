@@ -4,7 +4,7 @@ use Rattle.std.proofs.lemmas.Bool.{cases_eq, cases_Bool, false≢true, not-true,
 use Rattle.std.proofs.lemmas.Bool.Decides.{nat_tests}
 use Rattle.letter_kinds.proofs.Acked.{acked_each}
 use Rattle.letter_kinds.specs.Detector.{Detector, Token, has, close_token}
-use Rattle.letter_kinds.specs.Reports.{report_of}
+use Rattle.letter_kinds.specs.Reports.{kept_report}
 use Rattle.letter_kinds.specs.declared.note.Report.{Report}
 use Rattle.letter_kinds.proofs.Members.{only_member}
 use Rattle.machine_rules.specs.Cell.{Cell}
@@ -21,18 +21,18 @@ use Rattle.detector_laws.specs.Reports.{with_notes, told_by_kept, told_of, IsSil
 use Rattle.detector_laws.specs.Tokens.{IsSealedMember, IsSealed, IsSpoiled, SoundTokens}
 use Rattle.detector_laws.specs.World.{World, ReportsAreExact, TokensAreSound}
 
-pub report_of-out : (ms : List ℕ) (ks : List Report) (a : ℕ) → has ms a ≡ true → report_of (filter (λ k. not (has ms k.actor)) ks) a ≡ None
-report_of-out ms [] a h = refl
-report_of-out ms (k ∷ ks) a h = ⊎_elim
-    (λ (e : k.actor ≡ a). let t : has ms k.actor ≡ true = ap (has ms) e ∙ h in grind (arith, report_of-out ms ks a h))
-    (λ (ne : k.actor ≢ a). grind (arith, nat_tests, report_of-out ms ks a h))
+pub kept_report-out : (ms : List ℕ) (ks : List Report) (a : ℕ) → has ms a ≡ true → kept_report (filter (λ k. not (has ms k.actor)) ks) a ≡ None
+kept_report-out ms [] a h = refl
+kept_report-out ms (k ∷ ks) a h = ⊎_elim
+    (λ (e : k.actor ≡ a). let t : has ms k.actor ≡ true = ap (has ms) e ∙ h in grind (arith, kept_report-out ms ks a h))
+    (λ (ne : k.actor ≢ a). grind (arith, nat_tests, kept_report-out ms ks a h))
     (cases_eq k.actor a)
 
-pub report_of-in : (ms : List ℕ) (ks : List Report) (a : ℕ) → has ms a ≡ false → report_of (filter (λ k. not (has ms k.actor)) ks) a ≡ report_of ks a
-report_of-in ms [] a h = refl
-report_of-in ms (k ∷ ks) a h = ⊎_elim
-    (λ (e : k.actor ≡ a). let t : has ms k.actor ≡ false = ap (has ms) e ∙ h in grind (arith, report_of-in ms ks a h))
-    (λ (ne : k.actor ≢ a). grind (arith, nat_tests, report_of-in ms ks a h))
+pub kept_report-in : (ms : List ℕ) (ks : List Report) (a : ℕ) → has ms a ≡ false → kept_report (filter (λ k. not (has ms k.actor)) ks) a ≡ kept_report ks a
+kept_report-in ms [] a h = refl
+kept_report-in ms (k ∷ ks) a h = ⊎_elim
+    (λ (e : k.actor ≡ a). let t : has ms k.actor ≡ false = ap (has ms) e ∙ h in grind (arith, kept_report-in ms ks a h))
+    (λ (ne : k.actor ≢ a). grind (arith, nat_tests, kept_report-in ms ks a h))
     (cases_eq k.actor a)
 
 -- only a sealed token is reaped
@@ -45,18 +45,18 @@ reaped_sealed w w' t r k = ⊎_elim
 reaped_last : (w w' : World) (t : Token) → Reaps w t w' → ReportsAreExact w → IsSealed w.cell w.mail w.loaded w.notes t → (a : ℕ) → IsAsTold (w'.cell a) a (told_of a (close_token t w.detector).kept w.notes)
 reaped_last w w' t r h s a = ⊎_elim
     (λ (i : has t.members a ≡ true).
-    subst (IsAsTold (w'.cell a) a) (sym (with_notes-silent a (told_by_kept (report_of (close_token t w.detector).kept a)) w.notes (s a i).silent ∙ ap told_by_kept (report_of-out t.members w.detector.kept a i))) (ap is_reporting (r.departs.clears a i).0))
+    subst (IsAsTold (w'.cell a) a) (sym (with_notes-silent a (told_by_kept (kept_report (close_token t w.detector).kept a)) w.notes (s a i).silent ∙ ap told_by_kept (kept_report-out t.members w.detector.kept a i))) (ap is_reporting (r.departs.clears a i).0))
     (λ (o : has t.members a ≡ false).
-    subst (λ q. IsAsTold (w'.cell a) a (with_notes a (told_by_kept q) w.notes)) (sym (report_of-in t.members w.detector.kept a o))
+    subst (λ q. IsAsTold (w'.cell a) a (with_notes a (told_by_kept q) w.notes)) (sym (kept_report-in t.members w.detector.kept a o))
     (subst (λ c. IsAsTold c a (told_of a w.detector.kept w.notes)) (sym (r.departs.stays a o)) (h.last a)))
     (cases_Bool (has t.members a))
 
 reaped_unmade : (w w' : World) (t : Token) → Reaps w t w' → ReportsAreExact w → IsSealed w.cell w.mail w.loaded w.notes t → (a : ℕ) → w'.made ≤ a
-    → (report_of (close_token t w.detector).kept a ≡ None) × IsSilentOn a w.notes
+    → (kept_report (close_token t w.detector).kept a ≡ None) × IsSilentOn a w.notes
 reaped_unmade w w' t r h s a past = ⊎_elim
-    (λ (i : has t.members a ≡ true). (report_of-out t.members w.detector.kept a i, (s a i).silent))
+    (λ (i : has t.members a ≡ true). (kept_report-out t.members w.detector.kept a i, (s a i).silent))
     (λ (o : has t.members a ≡ false). let before = h.unmade a (let z = r.departs.made in omega arith) in
-    (report_of-in t.members w.detector.kept a o ∙ before.0, before.1))
+    (kept_report-in t.members w.detector.kept a o ∙ before.0, before.1))
     (cases_Bool (has t.members a))
 
 pub reap_reports : (w w' : World) (t : Token) → Reaps w t w' → ReportsAreExact w → TokensAreSound w → ReportsAreExact w'
@@ -127,7 +127,7 @@ reap_tokens w w' t r k =
     (subst (λ ns. SoundTokens (close_token t w.detector) w'.cell w'.mail w'.loaded ns) (sym r.departs.notes)
     record {
       apart = λ u v i j. k.apart u v (is u i).0 (is v j).0;
-      kept = λ u i m h. let (q, e) = k.kept u (is u i).0 m h in (q, report_of-in t.members w.detector.kept m (out u i m h) ∙ e);
+      kept = λ u i m h. let (q, e) = k.kept u (is u i).0 m h in (q, kept_report-in t.members w.detector.kept m (out u i m h) ∙ e);
       unique = λ u v i j. k.unique u v (is u i).0 (is v j).0;
       numbers = λ u i. k.numbers u (is u i).0;
       letters = λ b n lt. omega (arith, k.letters b n lt, reaped_confirms w w' t.members r.departs n b);

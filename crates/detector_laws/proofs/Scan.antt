@@ -7,7 +7,7 @@ use Rattle.std.specs.List.{AllByRecursion}
 use Rattle.letter_kinds.proofs.Rounds.{largest_by_rounds}
 use Rattle.letter_kinds.specs.Closed.{IsClosed, largest_closed}
 use Rattle.letter_kinds.specs.Detector.{Token, Detector, has, in_token, candidates, closed_set, open_token, without_news, after_scan}
-use Rattle.letter_kinds.specs.Reports.{count_on, told_on, told_on_by, report_of}
+use Rattle.letter_kinds.specs.Reports.{count_on, told_on, told_on_by, kept_report}
 use Rattle.letter_kinds.specs.declared.letter.Letter.{Letter}
 use Rattle.letter_kinds.specs.declared.letter.Letter.TheVariants.{Confirm}
 use Rattle.letter_kinds.specs.declared.note.Note.{Note}
@@ -26,7 +26,7 @@ use Rattle.detector_laws.specs.Confirms.{confirm_count, other_before_confirm}
 use Rattle.detector_laws.specs.Members.{In}
 use Rattle.detector_laws.specs.Reports.{with_notes, told_by_kept, IsAsTold, ExactReports, IsRising}
 use Rattle.detector_laws.specs.Tokens.{ack_count, trace_count, IsSealedMember, IsSealed, IsSpoiledMember, IsSpoiled, SoundTokens}
-use Rattle.detector_laws.specs.World.{World, confirms_of, scan, ReportsAreExact, TokensAreSound}
+use Rattle.detector_laws.specs.World.{World, confirms_of, scan_in_world, ReportsAreExact, TokensAreSound}
 
 all_or_one : (A B : Report → Type 0) (rs : List Report) → AllByRecursion (λ r. A r ⊎ B r) rs → AllByRecursion A rs ⊎ ((r : Report) × In r rs × B r)
 all_or_one A B [] h = inl tt
@@ -101,7 +101,7 @@ pub record IsChosen (w : World) (rs : List Report) : Type 0 where
   pub closed : IsClosed rs
   pub rising : IsRising rs
   pub free : AllByRecursion (λ r. in_token w.detector.tokens r.actor ≡ false) rs
-  pub kept : AllByRecursion (λ r. report_of w.detector.kept r.actor ≡ Some r) rs
+  pub kept : AllByRecursion (λ r. kept_report w.detector.kept r.actor ≡ Some r) rs
 
 abbrev fresh_token : World → List Report → Token
 fresh_token w rs = record { number = suc w.detector.opened; members = names rs; acked = [] }
@@ -120,7 +120,7 @@ fresh_state w bal h k rs ch =
     let each : AllByRecursion (λ r. IsReady w.cell w.mail w.notes r ⊎ Spoils w.cell w.mail w.notes n r) rs =
     In_each (λ r. IsReady w.cell w.mail w.notes r ⊎ Spoils w.cell w.mail w.notes n r) rs
     (λ r i. ready_or_spoils w.cell w.mail w.notes n r
-    (subst (λ o. IsAsTold (w.cell r.actor) r.actor (with_notes r.actor (told_by_kept o) w.notes)) (each_In (λ q. report_of w.detector.kept q.actor ≡ Some q) rs ch.kept r i) (h.last r.actor))
+    (subst (λ o. IsAsTold (w.cell r.actor) r.actor (with_notes r.actor (told_by_kept o) w.notes)) (each_In (λ q. kept_report w.detector.kept q.actor ≡ Some q) rs ch.kept r i) (h.last r.actor))
     (k.heard r.actor n (omega arith)) (k.letters r.actor n (omega arith))) in
     ⊎_elim
     (λ (ready : AllByRecursion (IsReady w.cell w.mail w.notes) rs). inl (λ m i. let (r, j, e) = named rs m i in
@@ -176,7 +176,7 @@ opened_tokens w bal h k rs ch =
           (λ i'. k.kept t i' m a)
           (λ i'. ⊎_elim
           (λ e. let (r, j, f) = named rs m (subst (λ x. has x.members m ≡ true) e a) in
-          (r, ap (report_of w.detector.kept) (sym f) ∙ each_In (λ q. report_of w.detector.kept q.actor ≡ Some q) rs ch.kept r j))
+          (r, ap (kept_report w.detector.kept) (sym f) ∙ each_In (λ q. kept_report w.detector.kept q.actor ≡ Some q) rs ch.kept r j))
           (λ z. absurd z) i')
           (split t i);
       unique = λ t u i j same. ⊎_elim
@@ -234,7 +234,7 @@ largest_chosen w rising =
       closed = big.closed;
       rising = subst IsRising (sym e) (filter_rising kept cs (filter_rising free d.kept rising));
       free = In_each (λ r. in_token d.tokens r.actor ≡ false) (largest_closed cs) (λ r i. (from r i).1);
-      kept = In_each (λ r. report_of d.kept r.actor ≡ Some r) (largest_closed cs) (λ r i. In_report_of d.kept r rising (from r i).0);
+      kept = In_each (λ r. kept_report d.kept r.actor ≡ Some r) (largest_closed cs) (λ r i. In_report_of d.kept r rising (from r i).0);
     }
 
 scanned_tokens : (w : World) (set : List ℕ) → TokensAreSound w → SoundTokens (open_token set (without_news w.detector)) w.cell (confirms_of set (suc w.detector.opened) w.cell w.mail) w.loaded w.notes
@@ -242,7 +242,7 @@ scanned_tokens : (w : World) (set : List ℕ) → TokensAreSound w → SoundToke
 scanned_tokens w [] k new = record { apart = k.apart; kept = k.kept; unique = k.unique; numbers = k.numbers; letters = k.letters; heard = k.heard; once = k.once; state = k.state }
 scanned_tokens w (x ∷ xs) k new = new
 
-pub scan_tokens : (w : World) → ActorsAreBalanced w → IsRising w.detector.kept → ReportsAreExact w → TokensAreSound w → TokensAreSound (scan w)
+pub scan_tokens : (w : World) → ActorsAreBalanced w → IsRising w.detector.kept → ReportsAreExact w → TokensAreSound w → TokensAreSound (scan_in_world w)
 scan_tokens w bal rising h k =
     scanned_tokens w (closed_set w.detector) k (opened_tokens w bal h k (largest_closed (candidates w.detector)) (largest_chosen w rising))
 
@@ -250,5 +250,5 @@ pub scanned_kept : (d : Detector) (set : List ℕ) → (after_scan d set).kept �
 scanned_kept d [] = refl
 scanned_kept d (x ∷ xs) = refl
 
-pub scan_reports : (w : World) → ReportsAreExact w → ReportsAreExact (scan w)
+pub scan_reports : (w : World) → ReportsAreExact w → ReportsAreExact (scan_in_world w)
 scan_reports w h = subst (λ kept. ExactReports w.made w.cell kept w.notes) (sym (scanned_kept w.detector (closed_set w.detector))) h

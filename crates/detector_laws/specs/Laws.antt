@@ -7,7 +7,7 @@ use Rattle.detector_laws.specs.Quiet.{IsNeeded, IsQuiet, IsReached}
 use Rattle.detector_laws.specs.Reports.{IsRising}
 use Rattle.detector_laws.specs.Run.{IsRun, IsStart, IsStep}
 use Rattle.detector_laws.specs.Tokens.{IsSealed}
-use Rattle.detector_laws.specs.World.{block, FactsHold, hear, ReportsAreExact, scan, take_confirm, TokensAreSound, World}
+use Rattle.detector_laws.specs.World.{block_in_world, FactsHold, hear_in_world, ReportsAreExact, scan_in_world, take_confirm, TokensAreSound, World}
 use Rattle.letter_kinds.specs.declared.letter.Letter.{Letter}
 use Rattle.letter_kinds.specs.declared.letter.Letter.TheVariants.{Confirm}
 use Rattle.letter_kinds.specs.declared.note.Note.{Note}
@@ -27,13 +27,13 @@ NumberedIsOpen =
 abbrev pub HearKeepsReports : Type 0
 HearKeepsReports =
     (w : World) (n : Note) (ns : List Note) → w.notes ≡ n ∷ ns → ReportsAreExact w →
-    ReportsAreExact (hear w n ns)
+    ReportsAreExact (hear_in_world w n ns)
 
 -- so does an actor that reports
 abbrev pub BlockKeepsReports : Type 0
 BlockKeepsReports =
     (w : World) (a : ℕ) (c : Cell) (r : Report) → CanBlock w a c r → ReportsAreExact w →
-    ReportsAreExact (block w a c r)
+    ReportsAreExact (block_in_world w a c r)
 
 -- who takes a Confirm
 abbrev pub ConfirmKeepsReports : Type 0
@@ -50,7 +50,7 @@ MovesKeepReports =
 abbrev pub BlockKeepsTokens : Type 0
 BlockKeepsTokens =
     (w : World) (a : ℕ) (c : Cell) (r : Report) → CanBlock w a c r → TokensAreSound w →
-    TokensAreSound (block w a c r)
+    TokensAreSound (block_in_world w a c r)
 
 -- so does who takes a Confirm
 abbrev pub ConfirmKeepsTokens : Type 0
@@ -67,17 +67,17 @@ MovesKeepTokens =
 abbrev pub HearKeepsTokens : Type 0
 HearKeepsTokens =
     (w : World) (n : Note) (ns : List Note) → w.notes ≡ n ∷ ns → TokensAreSound w →
-    TokensAreSound (hear w n ns)
+    TokensAreSound (hear_in_world w n ns)
 
 -- a scan leaves what is told of each actor true
 abbrev pub ScanKeepsReports : Type 0
-ScanKeepsReports = (w : World) → ReportsAreExact w → ReportsAreExact (scan w)
+ScanKeepsReports = (w : World) → ReportsAreExact w → ReportsAreExact (scan_in_world w)
 
 -- where counts balance and reports are true, the token that it opens is sealed or spoiled too
 abbrev pub ScanKeepsTokens : Type 0
 ScanKeepsTokens =
     (w : World) → ActorsAreBalanced w → IsRising w.detector.kept → ReportsAreExact w →
-    TokensAreSound w → TokensAreSound (scan w)
+    TokensAreSound w → TokensAreSound (scan_in_world w)
 
 -- a reap leaves what is told of each actor true
 abbrev pub ReapKeepsReports : Type 0

@@ -2,7 +2,7 @@
 use Rattle.std.specs.Prelude.{ℕ, ◌≡◌, ◌≢◌, ◌<◌, ◌≤◌, ◌==◌, if◌then◌else◌, true, false, List, [], ◌∷◌, Option, Some, None}
 use Rattle.orca_names.specs.declared.names.Thing.TheVariants.{Actor}
 use Rattle.letter_kinds.specs.Holdings.{held_in}
-use Rattle.letter_kinds.specs.Reports.{count_on, report_of, report_told}
+use Rattle.letter_kinds.specs.Reports.{count_on, kept_report, report_told}
 use Rattle.letter_kinds.specs.declared.note.Note.{Note}
 use Rattle.letter_kinds.specs.declared.note.Note.TheVariants.{Block, Unblock, Ack}
 use Rattle.letter_kinds.specs.declared.note.Report.{Report}
@@ -48,7 +48,7 @@ told_by_kept (Some r) = Reported r
 
 -- what the kept reports and then the notes tell of an actor
 abbrev pub told_of : ℕ → List Report → List Note → Told
-told_of a kept notes = with_notes a (told_by_kept (report_of kept a)) notes
+told_of a kept notes = with_notes a (told_by_kept (kept_report kept a)) notes
 
 -- no Block and no Unblock of the actor is among the notes
 abbrev pub IsSilentOn : ℕ → List Note → Type 0
@@ -85,7 +85,7 @@ IsAsTold actor a Contradictory = ⊥
 pub record ExactReports (made : ℕ) (cell : ℕ → Option Cell) (kept : List Report)
     (notes : List Note) : Type 0 where
   pub last : (a : ℕ) → IsAsTold (cell a) a (told_of a kept notes)
-  pub unmade : (a : ℕ) → made ≤ a → (report_of kept a ≡ None) × IsSilentOn a notes
+  pub unmade : (a : ℕ) → made ≤ a → (kept_report kept a ≡ None) × IsSilentOn a notes
 
 -- ---- their order
 

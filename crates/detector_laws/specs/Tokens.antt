@@ -2,7 +2,7 @@
 -- reaped.
 use Rattle.std.specs.Prelude.{ℕ, ◌+◌, ◌≡◌, ◌≤◌, ◌<◌, ◌==◌, ◌&&◌, ◌||◌, ◌⊎◌, if◌then◌else◌, Bool, true, false, List, [], ◌∷◌, Option, Some}
 use Rattle.letter_kinds.specs.Detector.{Token, Detector, has}
-use Rattle.letter_kinds.specs.Reports.{report_of}
+use Rattle.letter_kinds.specs.Reports.{kept_report}
 use Rattle.letter_kinds.specs.declared.letter.Letter.{Letter}
 use Rattle.letter_kinds.specs.declared.note.Note.{Note}
 use Rattle.letter_kinds.specs.declared.note.Note.TheVariants.{Block, Unblock, Ack}
@@ -78,7 +78,7 @@ pub record SoundTokens (d : Detector) (cell : ℕ → Option Cell) (mail : ℕ �
       → has u.members m ≡ true → t.number ≡ u.number
   -- of each member a report is kept
   pub kept : (t : Token) → In t d.tokens → (m : ℕ) → has t.members m ≡ true
-      → (r : Report) × (report_of d.kept m ≡ Some r)
+      → (r : Report) × (kept_report d.kept m ≡ Some r)
   -- numbers are used once
   pub unique : (t u : Token) → In t d.tokens → In u d.tokens → t.number ≡ u.number → t ≡ u
   pub numbers : (t : Token) → In t d.tokens → t.number ≤ d.opened

@@ -92,7 +92,7 @@ module _ (s : Actors) (a : ℕ) (c : Cell) (ls : List Letter) (at : seat_at s a 
   mine = get_or-set_same s a (seat (reporting c) ls) None within
 
   pub block_is : (d : Detector) (ns : List Note)
-      → world_of (set s a (seat (reporting c) ls)) d (ns ++ Block a c.holdings.count (held_actors c.holdings) ∷ []) ≡ view.block (world_of s d ns) a c (report_of_cell a c)
+      → world_of (set s a (seat (reporting c) ls)) d (ns ++ Block a c.holdings.count (held_actors c.holdings) ∷ []) ≡ view.block_in_world (world_of s d ns) a c (report_of_cell a c)
   block_is d ns =
       let s1 = set s a (seat (reporting c) ls) in
       let made : length s1 ≡ length s = length-set s a (seat (reporting c) ls) in

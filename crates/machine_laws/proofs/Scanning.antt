@@ -13,7 +13,7 @@ use Rattle.letter_kinds.proofs.Sums.{sum-nil}
 use Rattle.letter_kinds.specs.Closed.{largest_closed}
 use Rattle.letter_kinds.specs.Detector.{Detector, after_scan, has, closed_set, candidates}
 use Rattle.letter_kinds.specs.Holdings.{Row}
-use Rattle.letter_kinds.specs.Reports.{report_of}
+use Rattle.letter_kinds.specs.Reports.{kept_report}
 use Rattle.letter_kinds.specs.Sums.{inc_of, dec_of}
 use Rattle.letter_kinds.specs.declared.letter.Letter.{Letter}
 use Rattle.letter_kinds.specs.declared.letter.Letter.TheVariants.{Confirm}
@@ -179,9 +179,9 @@ module _ (s : Actors) (d : Detector) (ns : List Note) (rising : IsRising d.kept)
       (λ below. below)
       (λ past.
       let q = named (largest_closed (candidates d)) m h in
-      let some = each_In (λ (r : Report). report_of d.kept r.actor ≡ Some r) (largest_closed (candidates d)) chosen.kept q.0 q.1 in
+      let some = each_In (λ (r : Report). kept_report d.kept r.actor ≡ Some r) (largest_closed (candidates d)) chosen.kept q.0 q.1 in
       let none = (kept.unmade m past).0 in
-      absurd (some_not_none (ap (report_of d.kept) (sym q.2) ∙ some) none))
+      absurd (some_not_none (ap (kept_report d.kept) (sym q.2) ∙ some) none))
       (cases_lt m (length s))
 
   -- no more are asked than there are actors
@@ -194,7 +194,7 @@ module _ (s : Actors) (d : Detector) (ns : List Note) (rising : IsRising d.kept)
   pub scan_keeps : (trace : Trace) (all : Thing → Option Row) (confirm : Confirming trace all) (ps : List Person) → KeepsCounts trace all ps s → KeepsCounts trace all ps (ask_all (closed_set d) (suc d.opened) s)
   scan_keeps trace all confirm ps keeps = asks_keep trace all confirm (closed_set d) (suc d.opened) s ps keeps
 
-  pub scan_is : world_of (ask_all (closed_set d) (suc d.opened) s) (after_scan d (closed_set d)) ns ≡ view.scan (world_of s d ns)
+  pub scan_is : world_of (ask_all (closed_set d) (suc d.opened) s) (after_scan d (closed_set d)) ns ≡ view.scan_in_world (world_of s d ns)
   scan_is =
       let t = suc d.opened in
       let made : length (ask_all (closed_set d) (suc d.opened) s) ≡ length s = asks_length (closed_set d) t s in

@@ -3,7 +3,7 @@ use Rattle.std.specs.Prelude.{ℕ, ◌≡◌, ◌↔◌, true, false, List, [], 
 use Rattle.orca_names.specs.declared.names.Thing.{Thing}
 use Rattle.behaviour_code.specs.declared.code.Program.{Program}
 use Rattle.event_rule.specs.declared.event.Event.{Event}
-use Rattle.letter_kinds.specs.Reports.{report_of}
+use Rattle.letter_kinds.specs.Reports.{kept_report}
 use Rattle.letter_kinds.specs.declared.letter.Letter.{Letter}
 use Rattle.letter_kinds.specs.declared.note.Report.{Report}
 use Rattle.machine_rules.specs.Actors.{seat, seat_at}
@@ -110,7 +110,7 @@ pub record DetectorRests (s : State) : Type 0 where
   pub tokens : s.detector.tokens ≡ []
   pub reports : (a : ℕ) (c : Cell) (mail : List Letter) → seat_at s.actors a ≡ seat c mail
       → c.fields.pinned ≡ false →
-      (r : Report) × (report_of s.detector.kept a ≡ Some r) × IsReportOf a c r
+      (r : Report) × (kept_report s.detector.kept a ≡ Some r) × IsReportOf a c r
 
 abbrev pub DetectorRestsAtQuiet : Type 0
 DetectorRestsAtQuiet =

@@ -31,8 +31,8 @@ line_fault line =
     else (if nat_lt 256 (length line) then Some LongLine else None)
 
 -- a line, with its fault
-abbrev pub tested : List ℕ → List ℕ × Option LineKind
-tested line = (line, line_fault line)
+abbrev pub with_fault : List ℕ → List ℕ × Option LineKind
+with_fault line = (line, line_fault line)
 
 -- the line at a span, with the fault that the span tells
 abbrev pub line_at : List ℕ → LineSpan → List ℕ × Option LineKind

@@ -1,7 +1,7 @@
 // One instruction.
 
 ghost use Rattle.std.specs.Prelude.{◌≡◌, ◌<◌, length, IfOk, OnErr};
-ghost use Rattle.turn_rules.specs.Segment.{got_by, place_of, step_of, value_at};
+ghost use Rattle.turn_rules.specs.Segment.{got_by, value_at_place, step_of, value_at};
 ghost use Rattle.turn_step.specs.Held.{first_needed};
 ghost use Rattle.turn_step.specs.Turns.{LeadsTo, setting_of};
 
@@ -87,7 +87,7 @@ fn get<R: RowReader, H: HeldTest>(
 /// The value at a place of the row of a register's object, null where there is none.
 fn place<R: RowReader>(setting: &Setting<'_>, rows: &mut R, turn: &Turn, s: u64, i: u64) -> Value
     ensures value { let p = setting_of setting.now (R.rows rows.old) in
-        result ≡ place_of p turn.now (value_at turn.now s) i }
+        result ≡ value_at_place p turn.now (value_at turn.now s) i }
     ensures same { (R.rows rows.new ≡ R.rows rows.old) × (R.all rows.new ≡ R.all rows.old) }
 {
     match turn.value(s) {

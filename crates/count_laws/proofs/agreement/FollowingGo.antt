@@ -39,7 +39,7 @@ use Rattle.machine_rules.specs.Cell.{Cell, fresh_cell}
 use Rattle.count_laws.specs.Facts.{Facts, KeepsCounts}
 use Rattle.machine_rules.specs.Go.{act_in, load_from, make, mint, needed, needing, post, post_or_mint, rows_from, turn_of_cell, cell_after_turn, with_turn_kept, lacking_from, to_need}
 use Rattle.orca_names.specs.declared.trace.Trace.{Trace}
-use Rattle.count_laws.specs.Known.{InFrame, IsKnown, Names, Roots, in_fields, in_frame, in_table}
+use Rattle.count_laws.specs.Known.{InFrame, IsKnown, Names, StartsWalks, in_fields, in_frame, in_table}
 use Rattle.plain_list.specs.Lists.{is_empty}
 use Rattle.event_rule.specs.Runs.{IsFull, Goes, NotEnabled}
 use Rattle.plain_rules.specs.Machine.{PlainState, after_act, after_turn, fresh_actor, next_state, objects_made, plain_go, plain_row, stopped_at, turn_of_actor, with_name, with_turn, with_letter as with_plain_letter, with_changed}
@@ -74,7 +74,7 @@ rows_alike xs a y z same (things.Obj n) = read xs a n.owner
 pub fresh_is : (w : ℕ) (program : Program) (kind : ℕ) → IsFresh w (fresh_cell w program kind).holdings
 fresh_is w program kind = (refl, (λ k. m.get-empty nat_cmp k), (λ x. m.get-empty thing_cmp x))
 
-pub fresh_blank : (w : ℕ) (program : Program) (kind : ℕ) (x : Thing) → Roots (fresh_cell w program kind) x → ⊥
+pub fresh_blank : (w : ℕ) (program : Program) (kind : ℕ) (x : Thing) → StartsWalks (fresh_cell w program kind) x → ⊥
 fresh_blank w program kind x (in_fields h) = nulls_name_nothing (field_count program kind) x h
 fresh_blank w program kind x (in_frame h) = h
 fresh_blank w program kind x (in_table h) = absurd (let z = fresh_held w (fresh_cell w program kind).holdings (fresh_is w program kind) x in omega arith)

@@ -25,7 +25,7 @@ use Rattle.machine_rules.specs.Balance.{held_at, loads_at}
 use Rattle.machine_rules.specs.Cell.{Cell}
 use Rattle.machine_rules.specs.Detect.{empty_seats, reap_decs, reap_members}
 use Rattle.count_laws.specs.Facts.{IsFirmAt, KeepsCounts, IsSound}
-use Rattle.count_laws.specs.Known.{Reaches, IsKnown, in_table, IsSoundAt}
+use Rattle.count_laws.specs.Known.{ReachesThrough, IsKnown, in_table, IsSoundAt}
 use Rattle.orca_names.specs.Names.{owner_of}
 use Rattle.orca_names.specs.declared.names.Thing.{Thing}
 use Rattle.orca_names.specs.declared.names.Thing.TheVariants.{Actor, Obj}
@@ -33,7 +33,7 @@ use Rattle.reach_walk.specs.Reach.{root, owned}
 use Rattle.std.specs.Prelude.{sum_by}
 
 -- who reaches a thing reaches its owner
-owner_reached : (all : Thing → Option Row) {roots : Thing → Type 0} (x : Thing) → Reaches all roots x → Reaches all roots (Actor (owner_of x))
+owner_reached : (all : Thing → Option Row) {roots : Thing → Type 0} (x : Thing) → ReachesThrough all roots x → ReachesThrough all roots (Actor (owner_of x))
 owner_reached all (Actor a) h = h
 owner_reached all (Obj n) h = owned h
 

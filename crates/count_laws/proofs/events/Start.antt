@@ -32,7 +32,7 @@ use Rattle.machine_rules.specs.Balance.{IsBalanced, decs_at, held_at, incs_at, l
 use Rattle.count_laws.specs.Prefixes.{IsCovered, IsCoveredAt}
 use Rattle.machine_rules.specs.Cell.{Cell, first_cell, own_row_of}
 use Rattle.count_laws.specs.Facts.{Facts, IsSound, KeepsCounts}
-use Rattle.count_laws.specs.Known.{AreExactLetters, IsSoundAt, Names, Reaches, Roots, in_fields, in_frame, in_table, row_at}
+use Rattle.count_laws.specs.Known.{AreExactLetters, IsSoundAt, Names, ReachesThrough, StartsWalks, in_fields, in_frame, in_table, row_at}
 use Rattle.count_laws.specs.KnownByRoots.{AreRootLetters, IsNamedIn, IsRootsAt, by_field, by_frame, by_row}
 use Rattle.plain_rules.specs.Machine.{first_actor, plain_row, start_of}
 use Rattle.orca_names.specs.declared.trace.Trace.{Trace}
@@ -59,7 +59,7 @@ letters_say (Some name) x =
       omega (arith, sum_by-cons (load_count x) (App name [] [] []) [], w.2, loaded-nil x),
     )
 
-no_values : (all : Thing → Option Row) (x : Thing) → Reaches all (Names []) x → ⊥
+no_values : (all : Thing → Option Row) (x : Thing) → ReachesThrough all (Names []) x → ⊥
 no_values all x h = reach_into all (λ x. ⊥) (λ x n. none_in_nil x _ n) (λ x y r p e n. p) (λ n p. p) h
 
 letters_exact : (all : Thing → Option Row) (found : Option ℕ) → AreExactLetters all (letters found)
@@ -115,7 +115,7 @@ module _ (program : Program) (found : Option ℕ) where
       either_none true = refl
       either_none false = refl
 
-  blank : (x : Thing) → Roots c x → ⊥
+  blank : (x : Thing) → StartsWalks c x → ⊥
   blank x (in_fields h) = nulls_name_nothing (field_count program 0) x h
   blank x (in_frame h) = h
   blank x (in_table h) = absurd (let z = held_zero x in omega arith)

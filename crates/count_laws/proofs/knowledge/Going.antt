@@ -30,7 +30,7 @@ use Rattle.count_laws.specs.Agreement.{Person}
 use Rattle.machine_rules.specs.Cell.{Cell}
 use Rattle.count_laws.specs.Facts.{KeepsCounts}
 use Rattle.machine_rules.specs.Go.{turn_of_cell, cell_after_turn}
-use Rattle.count_laws.specs.Known.{InFrame, IsClosedAt, IsKnown, IsLoadOf, IsSoundAt, Names, Reaches, Roots, RowsAreAt, RowsAreIn, in_fields, in_frame, row_at}
+use Rattle.count_laws.specs.Known.{InFrame, IsClosedAt, IsKnown, IsLoadOf, IsSoundAt, Names, ReachesThrough, StartsWalks, RowsAreAt, RowsAreIn, in_fields, in_frame, row_at}
 use Rattle.machine_rules.specs.Left.{IsLeft}
 use Rattle.orca_names.specs.declared.trace.Trace.TheVariants.{Deep}
 
@@ -78,13 +78,13 @@ module _ (program : Program) (all all' : Thing → Option Row) (ps : List Person
   here : IsSoundAt all a c ls
   here = inv.sound a c ls at
 
-  given_roots : (x : Thing) → Given f c.fields x → Roots c x
+  given_roots : (x : Thing) → Given f c.fields x → StartsWalks c x
   given_roots x (inl n) = in_frame (subst (λ o. InFrame o x) (sym frame) n)
   given_roots x (inr n) = in_fields n
 
   -- over its own rows the actor reaches what it reaches over all
-  own_to_all : (x : Thing) → Reaches (row_at a c.holdings) (Given f c.fields) x → Reaches all (Roots c) x
-  own_to_all x h = reach_into _ (Reaches all (Roots c)) (λ x n. root (given_roots x n))
+  own_to_all : (x : Thing) → ReachesThrough (row_at a c.holdings) (Given f c.fields) x → ReachesThrough all (StartsWalks c) x
+  own_to_all x h = reach_into _ (ReachesThrough all (StartsWalks c)) (λ x n. root (given_roots x n))
       (λ x y r p e n. along_row _ p (sym (here.rows x (here.closed x p)) ∙ e) n)
       (λ n p. owned p) h
 
@@ -119,7 +119,7 @@ module _ (program : Program) (all all' : Thing → Option Row) (ps : List Person
         (λ x n. source x (seg.in_fields x n)) (λ x n. source x (seg.in_registers x (names_nf x n))) (λ i x h n. source x (seg.in_made i x h n)) here.closed here.rows
 
     -- what a posted letter's arguments reach
-    args_source : (args : List Value) → ((x : Thing) → Names args x → Names (act_values turn.act) x) → (x : Thing) → Reaches all' (Names args) x → Source all a c c.holdings.next turn.turn.made x
+    args_source : (args : List Value) → ((x : Thing) → Names args x → Names (act_values turn.act) x) → (x : Thing) → ReachesThrough all' (Names args) x → Source all a c c.holdings.next turn.turn.made x
     args_source args posted x h = reach_into _ (Source all a c c.holdings.next turn.turn.made) (λ x n. source x (seg.in_act x (posted x n)))
         (along all all' grows.bare a c.holdings.next turn.turn.made c fresh grows.news grows.only turn.turn.fields nf nd
         (λ x n. source x (seg.in_fields x n)) (λ x n. source x (seg.in_registers x (names_nf x n))) (λ i x h n. source x (seg.in_made i x h n)) here.closed here.rows)
@@ -158,7 +158,7 @@ module _ (program : Program) (all all' : Thing → Option Row) (ps : List Person
 
       pub exact : IsLoadOf all' args load
       exact =
-          let known : (x : Thing) → Reaches all' (Names args) x → IsKnown a after.holdings x = λ x h. known_after x (args_source args posted x h) in
+          let known : (x : Thing) → ReachesThrough all' (Names args) x → IsKnown a after.holdings x = λ x h. known_after x (args_source args posted x h) in
           record {
             once = is.once;
             rising = is.rising;
@@ -178,5 +178,5 @@ module _ (program : Program) (all all' : Thing → Option Row) (ps : List Person
   unfolding turn
   same_turn rows are = turn_local program a c f rows (λ x h. here.rows x (here.closed x (over rows are x h)) ∙ sym (are x))
     where
-      over : (rows : ObjName → Option Row) → ((x : Thing) → thing_row rows x ≡ all x) → (x : Thing) → Reaches (thing_row rows) (Given f c.fields) x → Reaches all (Roots c) x
-      over rows are x h = reach_into _ (Reaches all (Roots c)) (λ x n. root (given_roots x n)) (λ x y r p e n. along_row _ p (sym (are x) ∙ e) n) (λ n p. owned p) h
+      over : (rows : ObjName → Option Row) → ((x : Thing) → thing_row rows x ≡ all x) → (x : Thing) → ReachesThrough (thing_row rows) (Given f c.fields) x → ReachesThrough all (StartsWalks c) x
+      over rows are x h = reach_into _ (ReachesThrough all (StartsWalks c)) (λ x n. root (given_roots x n)) (λ x y r p e n. along_row _ p (sym (are x) ∙ e) n) (λ n p. owned p) h

@@ -47,7 +47,7 @@ use Rattle.machine_rules.specs.Cell.{Cell, listed_objects, own_row_of, row_by_ro
 use Rattle.machine_rules.specs.Detect.{reap_members}
 use Rattle.count_laws.specs.Facts.{KeepsCounts}
 use Rattle.machine_rules.specs.Go.{make, mint, post}
-use Rattle.count_laws.specs.Known.{InFrame, IsKnown, Names, Reaches, Roots, in_fields, in_frame}
+use Rattle.count_laws.specs.Known.{InFrame, IsKnown, Names, ReachesThrough, StartsWalks, in_fields, in_frame}
 use Rattle.count_laws.specs.KnownByRoots.{AreRootLetters, IsBacked, IsKnownWithOwner, IsNamedIn, IsRootLetter, IsRootOf, IsRootsAt, WalkRoots, by_field, by_frame, by_row, held, mine, named, stands, owns}
 use Rattle.orca_names.specs.declared.trace.Trace.TheVariants as options
 use Rattle.plain_rules.specs.Machine.{with_name}
@@ -60,7 +60,7 @@ every_pushed Q s b l o at new every = rw (push_is s b l o at) (every_set Q s b o
 
 module _ (all : Thing → Option Row) (ps : List Person) (s : Actors) (inv : KeepsCounts options.Roots all ps s)
     (a : ℕ) (c : Cell) (ls : List Letter) (at : seat_at s a ≡ seat c ls) (to b : ℕ) (args : List Value)
-    (known_args : (x : Thing) → Names args x → IsKnownWithOwner a c.holdings x) (walk : (x : Thing) → Names args x → Reaches all (WalkRoots a c) x)
+    (known_args : (x : Thing) → Names args x → IsKnownWithOwner a c.holdings x) (walk : (x : Thing) → Names args x → ReachesThrough all (WalkRoots a c) x)
     (known_to : IsKnown a c.holdings (Actor to)) (full : lacking_of a c.holdings (load_roots args) ≡ []) where
   abbrev load : List Loaded
   load = load_roots args
@@ -130,7 +130,7 @@ module _ (all : Thing → Option Row) (ps : List Person) (s : Actors) (inv : Kee
     (a : ℕ) (c : Cell) (ls : List Letter) (at : seat_at s a ≡ seat c ls)
     (b : ℕ) (es : List Amount) (theirs : (x : Thing) → 0 < amount_of x es → owner_of x ≡ b) (other : b ≢ a) (pos : AllCounted es)
     (owner_known : (x : Thing) → 0 < amount_of x es → IsKnown a (mint_all es c.holdings) (Actor (owner_of x)))
-    (walk : (x : Thing) → 0 < amount_of x es → Reaches all (WalkRoots a c) x)
+    (walk : (x : Thing) → 0 < amount_of x es → ReachesThrough all (WalkRoots a c) x)
     (o : Seat) (there : seat_at s b ≡ Some o) (backs : (x : Thing) (k : ℕ) → owner_of x ≡ b → 0 < amount_of x es → IsBacked b o.cell o.mail k x) where
   abbrev minter : Cell
   minter = record c { holdings = mint_all es c.holdings }
@@ -195,7 +195,7 @@ module _ (all : Thing → Option Row) (ps : List Person) (s : Actors) (inv : Kee
 
 module _ (wt : ℕ) (heavy : 0 < wt) (all : Thing → Option Row) (ps : List Person) (s : Actors) (inv : KeepsCounts options.Roots all ps s)
     (a : ℕ) (c : Cell) (ls : List Letter) (at : seat_at s a ≡ seat c ls) (f : Frame) (frame : c.frame ≡ Some f) (into : ℕ)
-    (fresh : Cell) (is_fresh : IsFresh wt fresh.holdings) (blank : (x : Thing) → Roots fresh x → ⊥) (unlearned : (x : Thing) → m.get fresh.known x ≡ None) where
+    (fresh : Cell) (is_fresh : IsFresh wt fresh.holdings) (blank : (x : Thing) → StartsWalks fresh x → ⊥) (unlearned : (x : Thing) → m.get fresh.known x ≡ None) where
   abbrev n : ℕ
   n = length s
 
@@ -235,7 +235,7 @@ module _ (wt : ℕ) (heavy : 0 < wt) (all : Thing → Option Row) (ps : List Per
   make_new : (x : Thing) → NewActor x → IsKnownWithOwner a maker.holdings x
   make_new x e = subst (IsKnownWithOwner a maker.holdings) (sym e) (known_new, known_new)
 
-  no_object : (x : Thing) → Reaches all NewActor x → x ≡ Actor n
+  no_object : (x : Thing) → ReachesThrough all NewActor x → x ≡ Actor n
   no_object x h = reach_into all NewActor (λ x e. e) (λ x y r e f nm. absurd (let z = inv.bare n in let w = ap all e in none_some r (sym f ∙ w ∙ z))) (λ q e. absurd (obj_actor q e)) h
     where
       none_some : (r : Row) → Some r ≡ None → ⊥
@@ -274,7 +274,7 @@ module _ (wt : ℕ) (heavy : 0 < wt) (all : Thing → Option Row) (ps : List Per
   only_itself i (Actor j) o h = ap Actor o
   only_itself i (Obj q) o h = absurd (let w = is_fresh.1 q.serial in cc)
 
-  fresh_walk : (i : ℕ) (x : Thing) → Reaches all (WalkRoots i fresh) x → x ≡ Actor i
+  fresh_walk : (i : ℕ) (x : Thing) → ReachesThrough all (WalkRoots i fresh) x → x ≡ Actor i
   fresh_walk i x h = reach_into all (λ x. x ≡ Actor i) from (λ x y r e f nm. absurd (let z = inv.bare i in let w = ap all e in none_some r (sym f ∙ w ∙ z))) (λ q e. absurd (obj_actor q e)) h
     where
       none_some : (r : Row) → Some r ≡ None → ⊥
