@@ -185,16 +185,3 @@ pub closed_count : (r : Reader) (stage : Stage) → SmallAt r stage → length (
 closed_count r Start h = let room = h.1 in omega arith
 closed_count r InKind h = let room = h.1.room in omega (arith, length-append r.kinds (record { name = r.kind_name; fields = r.fields; behaviours = r.behaviours } ∷ []))
 closed_count r InBehaviour h = let room = h.1.0.room in omega (arith, length-append r.kinds (record { name = r.kind_name; fields = r.fields; behaviours = r.behaviours } ∷ []))
-
--- the limits that a program keeps
-pub record Limits (p : Program) : Type 0 where
-  pub few : length p.kinds ≤ 256
-  pub each : AllByRecursion KindSmall p.kinds
-
-done_small : (bytes : List ℕ) (p : Program) (read : Result Reader (ℕ × ℕ)) → read_from 0 start (lines_of bytes) ≡ read → finish read ≡ Ok p → Limits p
-unfolding start close_kind
-done_small bytes p (Err e) told h = cc
-done_small bytes p (Ok s) told h =
-    let small = read_small 0 start s (lines_of bytes) (tt, omega arith) told in
-    let same : program_of s ≡ p = cc in
-    subst Limits same (record { few = closed_count s s.stage small; each = closed_small s s.stage small })

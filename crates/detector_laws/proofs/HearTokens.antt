@@ -37,11 +37,6 @@ noted_le u a t m mail ns = rw (has_acked u a t m) (grind (arith, nat_tests))
 noted_one : (u a : ℕ) (t : Token) (m : ℕ) (mail : List Letter) (ns : List Note) → has t.members m ≡ true → trace_count t m mail (Ack u a ∷ ns) ≡ 1 → trace_count (note_ack u a t) m mail ns ≡ 1
 noted_one u a t m mail ns member h = rw (has_acked u a t m) (grind (arith, nat_tests))
 
-silent_tail : (m : ℕ) (n : Note) (ns : List Note) → IsSilentOn m (n ∷ ns) → IsSilentOn m ns
-silent_tail m (Block b count held) ns h = h.1
-silent_tail m (Unblock b) ns h = h.1
-silent_tail m (Ack u b) ns h = h
-
 unblocks_before_ack-ack : (u a : ℕ) (t : Token) (m : ℕ) (ns : List Note) → unblocks_before_ack t.number m (Ack u a ∷ ns) ≡ true → has t.acked m ≡ false → (unblocks_before_ack t.number m ns ≡ true) × (has (note_ack u a t).acked m ≡ false)
 unblocks_before_ack-ack u a t m ns h k = rw (has_acked u a t m) (grind (arith, nat_tests))
 

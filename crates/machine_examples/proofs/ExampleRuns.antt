@@ -13,7 +13,8 @@ use Rattle.reach_walk.specs.Marks.{led_to, marks_of}
 use Rattle.letter_kinds.specs.Counting.{by_owner}
 use Rattle.letter_kinds.specs.Detector.{closed_set, Token, all_acked}
 use Rattle.letter_kinds.specs.Holdings.{has_own}
-use Rattle.machine_examples.proofs.LedgerSteps.{Page, first_page, after_all, after_all-leads, state_told}
+use Rattle.machine_examples.proofs.LedgerSteps.{after_all, after_all-leads}
+use Rattle.machine_examples.proofs.Pages.{Page, first_page, state_told}
 use Rattle.machine_examples.proofs.Places.{seats_told}
 use Rattle.machine_rules.specs.Actors.{Actors, Seat, seat_at}
 use Rattle.machine_examples.specs.Examples.{usual, two_hold_each_other, two_up_to_the_ping, two_to_the_end, TwoHoldEachOtherAndGo, passes_an_object_on, passing_book, AnObjectIsPassedOnAndGoes}

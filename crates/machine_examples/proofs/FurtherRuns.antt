@@ -4,7 +4,8 @@ use Rattle.event_rule.specs.declared.event.Event.TheVariants.{Go, Hear, Leave, S
 use Rattle.reach_walk.specs.Marks.{led_to, marks_of}
 use Rattle.letter_kinds.specs.Counting.{by_owner}
 use Rattle.machine_examples.proofs.ExampleRuns.{IsStill, still_quiet}
-use Rattle.machine_examples.proofs.LedgerSteps.{Page, after_all, first_page, state_told}
+use Rattle.machine_examples.proofs.LedgerSteps.{after_all}
+use Rattle.machine_examples.proofs.Pages.{Page, first_page, state_told}
 use Rattle.machine_examples.proofs.Places.{seats_told}
 use Rattle.machine_examples.proofs.SmallRuns.{none_left, turned, turned_leads}
 use Rattle.machine_examples.specs.FurtherExamples.{AnUnblockOutlivesItsActor, GetsAreMintedInOrder, gets_two_objects, up_to_the_first_get, up_to_the_leave}

@@ -15,7 +15,8 @@ use Rattle.event_rule.specs.declared.event.Event.{Event}
 use Rattle.event_rule.specs.declared.event.Event.TheVariants.{Take, Go, Collect, Leave, Block, Hear, Scan, Reap}
 use Rattle.letter_kinds.specs.Detector.{Token, all_acked, token_numbered}
 use Rattle.machine_examples.proofs.ExampleRuns.{page_or, page_there}
-use Rattle.machine_examples.proofs.LedgerSteps.{Page, Follows, first_page, next_page, next-follows, state_told}
+use Rattle.machine_examples.proofs.LedgerSteps.{next_page, next-follows}
+use Rattle.machine_examples.proofs.Pages.{Page, Follows, first_page, state_told}
 use Rattle.machine_examples.specs.InOrder.{OneWorkerWrites}
 use Rattle.machine_rules.proofs.Enabling.{enabled_exactly}
 use Rattle.machine_rules.proofs.Present.{present_below}

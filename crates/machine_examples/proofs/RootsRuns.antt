@@ -12,7 +12,8 @@ use Rattle.reach_walk.specs.Marks.{led_to, marks_of}
 use Rattle.letter_kinds.specs.Counting.{by_owner}
 use Rattle.letter_kinds.specs.Sums.{amount_of, dec_of, inc_of, load_count, times_loaded}
 use Rattle.machine_examples.proofs.ExampleRuns.{IsStill, still_quiet}
-use Rattle.machine_examples.proofs.LedgerSteps.{Page, after_all, first_page, state_told}
+use Rattle.machine_examples.proofs.LedgerSteps.{after_all}
+use Rattle.machine_examples.proofs.Pages.{Page, first_page, state_told}
 use Rattle.machine_examples.proofs.Places.{Places, seats_told}
 use Rattle.machine_examples.proofs.SmallRuns.{turned, turned_leads}
 use Rattle.machine_examples.proofs.Telling.{is_left_told, left-told, tally-told}

@@ -7,7 +7,8 @@ use Rattle.event_rule.specs.declared.event.Event.TheVariants.{Take, Go, Collect,
 use Rattle.reach_walk.specs.Marks.{led_to, marks_of}
 use Rattle.letter_kinds.specs.Counting.{by_owner}
 use Rattle.machine_examples.proofs.ExampleRuns.{IsStill, page_or, page_there, still_quiet}
-use Rattle.machine_examples.proofs.LedgerSteps.{Page, first_page, after_all, after_all-leads, state_told}
+use Rattle.machine_examples.proofs.LedgerSteps.{after_all, after_all-leads}
+use Rattle.machine_examples.proofs.Pages.{Page, first_page, state_told}
 use Rattle.machine_examples.proofs.Places.{seats_told}
 use Rattle.machine_rules.specs.Actors.{Actors, seat_at}
 use Rattle.machine_examples.specs.Examples.{usual}

@@ -26,7 +26,7 @@ use Rattle.count_laws.proofs.agreement.FollowingGo.{load_known, target_known}
 use Rattle.count_laws.proofs.knowledge.Lacking.{first_minted, to_mint_theirs}
 use Rattle.count_laws.proofs.balance.Makes.{fresh_held}
 use Rattle.count_laws.proofs.balance.Sweeping.{same_holdings, same_reported}
-use Rattle.event_rule.proofs.Steps.{goes_if, goes_to, not_enabled}
+use Rattle.event_rule.proofs.Steps.{goes_to, not_enabled}
 use Rattle.machine_rules.specs.Actors.{Actors, Seat, cell_of, letters_of, seat, seat_at}
 use Rattle.count_laws.specs.Agreement.{people_of}
 use Rattle.machine_rules.specs.Cell.{Cell, fresh_cell}
