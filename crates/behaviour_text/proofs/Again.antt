@@ -1,5 +1,5 @@
 -- A text of a program is read as that program.
-use Rattle.std.proofs.Common.{option_map, ◌≡◌, ℕ, ◌+◌, ◌<◌, ◌≤◌, ◌^◌, ◌||◌, Bool, true, false, cond, not, List, [], ◌∷◌, ◌++◌, length, map, flat_map, refl, ap, ap₂, sym, ◌∙◌, subst, arith, Option, Some, None, Result, Ok, Err, if◌then◌else◌, le-ltb, min, decimal, append-nil, append_assoc, length-append, zero, suc, IfOk, IfErr, OnOk}
+use Rattle.std.proofs.Common.{option_map, ◌≡◌, ◌≢◌, ℕ, ◌+◌, ◌<◌, ◌≤◌, ◌^◌, ◌||◌, Bool, true, false, cond, not, List, [], ◌∷◌, ◌++◌, length, map, flat_map, refl, ap, ap₂, sym, ◌∙◌, subst, arith, Option, Some, None, Result, Ok, Err, if◌then◌else◌, le-ltb, min, decimal, append-nil, append_assoc, length-append, zero, suc, IfOk, IfErr, OnOk}
 use Rattle.std.specs.List.{AllByRecursion}
 use Rattle.text_lines.specs.Lines.{line_fault, lines_of}
 use Rattle.text_lines.specs.declared.LineKind.{LineKind}
@@ -43,7 +43,7 @@ on_place_read stage behaviours n e few h =
     ap₂ (λ (s : Stage) (k : ℕ). on_fault s behaviours k) e (number_read n (small_number n h))
     ∙ ap₂ (λ (a b : Bool). if◌then◌else◌ {A = Option ℕ} (a || b) (Some 9) None) (le-ltb 63 behaviours (omega arith)) (le-ltb 8 n h)
 
-kind_place_read : (stage : Stage) (kinds n : ℕ) → (stage ≡ InBehaviour → ⊥) → kinds < 256 → n ≤ 8 → kind_fault stage kinds (number_of (decimal n)) ≡ None
+kind_place_read : (stage : Stage) (kinds n : ℕ) → stage ≢ InBehaviour → kinds < 256 → n ≤ 8 → kind_fault stage kinds (number_of (decimal n)) ≡ None
 kind_place_read InBehaviour kinds n away few h = absurd (away refl)
 kind_place_read Start kinds n away few h =
     ap (kind_fault Start kinds) (number_read n (small_number n h))
@@ -66,7 +66,7 @@ on_takes all r name n apart stage few small fits front =
     (on_place_read r.stage (length r.behaviours) n stage few small)
     (ap₂ (with_on renamed) (one_name all r.names name apart fits front) (smaller n small))
 
-kind_takes : (all : List (List ℕ)) (r : Reader) (name : ℕ) (n : ℕ) → AreApart all → (r.stage ≡ InBehaviour → ⊥) → kinds_begun r.stage (length r.kinds) < 256 → n ≤ 8 → NameFits all name →
+kind_takes : (all : List (List ℕ)) (r : Reader) (name : ℕ) (n : ℕ) → AreApart all → r.stage ≢ InBehaviour → kinds_begun r.stage (length r.kinds) < 256 → n ≤ 8 → NameFits all name →
     IsFront (with_text r.names (text_of all name)) all →
     Takes r (with_kind (record r { names = with_text r.names (text_of all name) }) name n) (kind_begin (text_of all) name n)
 unfolding shape_fault
@@ -187,7 +187,7 @@ begun_is r InBehaviour = sym (length-append r.kinds _)
 -- what kinds leave
 pub record AddsKinds (r s : Reader) (names : List (List ℕ)) (ks : List Kind) : Type 0 where
   pub names_are : s.names ≡ names
-  pub ended : s.stage ≡ InBehaviour → ⊥
+  pub ended : s.stage ≢ InBehaviour
   pub kinds_are : (close_kind_at s.stage s).kinds ≡ (close_kind_at r.stage r).kinds ++ ks
 
 kind_same : (s : Reader) (k : Kind) → s.kind_name ≡ k.name → s.fields ≡ k.fields → s.behaviours ≡ k.behaviours → record { name = s.kind_name; fields = s.fields; behaviours = s.behaviours } ≡ k
@@ -195,7 +195,7 @@ kind_same s k e f b =
     ap (λ (n : ℕ). let x : Kind = record { name = n; fields = s.fields; behaviours = s.behaviours } in x) e
     ∙ ap₂ (λ (n : ℕ) (bs : List Behaviour). let x : Kind = record { name = k.name; fields = n; behaviours = bs } in x) f b
 
-kind_read : (all : List (List ℕ)) (r : Reader) (k : Kind) → AreApart all → (r.stage ≡ InBehaviour → ⊥) → length (close_kind_at r.stage r).kinds < 256 → KindIsWellFormed all k →
+kind_read : (all : List (List ℕ)) (r : Reader) (k : Kind) → AreApart all → r.stage ≢ InBehaviour → length (close_kind_at r.stage r).kinds < 256 → KindIsWellFormed all k →
     IsFront (behaviours_names (text_of all) (with_text r.names (text_of all k.name)) k.behaviours) all →
     (s : Reader) × ReadsTo r (kind_lines (text_of all) k) s × AddsKinds r s (behaviours_names (text_of all) (with_text r.names (text_of all k.name)) k.behaviours) (k ∷ [])
 unfolding with_kind close_kind
@@ -217,7 +217,7 @@ kind_read all r k apart away few good front =
       },
     )
   where
-    in_kind_only : (stage : Stage) → stage ≡ InKind → stage ≡ InBehaviour → ⊥
+    in_kind_only : (stage : Stage) → stage ≡ InKind → stage ≢ InBehaviour
     in_kind_only stage e h = cc
 
     kept_names : (r : Reader) (names : List (List ℕ)) (name : ℕ) (n : ℕ) → record (with_kind (record r { names = names }) name n) { names = names } ≡ with_kind (record r { names = names }) name n
@@ -229,7 +229,7 @@ kind_read all r k apart away few good front =
         by_stage InKind = refl
         by_stage InBehaviour = refl
 
-kinds_read : (all : List (List ℕ)) (r : Reader) (ks : List Kind) → AreApart all → (r.stage ≡ InBehaviour → ⊥) → length (close_kind_at r.stage r).kinds + length ks ≤ 256 → AllByRecursion (KindIsWellFormed all) ks →
+kinds_read : (all : List (List ℕ)) (r : Reader) (ks : List Kind) → AreApart all → r.stage ≢ InBehaviour → length (close_kind_at r.stage r).kinds + length ks ≤ 256 → AllByRecursion (KindIsWellFormed all) ks →
     IsFront (kinds_names (text_of all) r.names ks) all →
     (s : Reader) × ReadsTo r (flat_map (kind_lines (text_of all)) ks) s × AddsKinds r s (kinds_names (text_of all) r.names ks) ks
 kinds_read all r [] apart away few good front = (r, refl, record { names_are = refl; ended = away; kinds_are = sym (append-nil (close_kind_at r.stage r).kinds) })
@@ -267,12 +267,12 @@ line_back r s (w ∷ ws) rest h = by_mark (starts_with 35 w) refl h
     }
     by_mark false e (t, takes, more) = record { clean = takes.clean; goes_on = subst (λ (x : Reader). ReadsTo x rest s) (sym takes.next) more }
 
-ended_ok : (n : ℕ) (r : Reader) (stage : Stage) → (stage ≡ InBehaviour → ⊥) → read_end n r stage ≡ Ok r
+ended_ok : (n : ℕ) (r : Reader) (stage : Stage) → stage ≢ InBehaviour → read_end n r stage ≡ Ok r
 ended_ok n r Start away = refl
 ended_ok n r InKind away = refl
 ended_ok n r InBehaviour away = absurd (away refl)
 
-pub read_back : (n : ℕ) (r s : Reader) (lines : List (List ℕ)) → AllByRecursion (λ line. line_fault line ≡ None) lines → ReadsTo r (said_lines lines) s → (s.stage ≡ InBehaviour → ⊥) → read_from n r lines ≡ Ok s
+pub read_back : (n : ℕ) (r s : Reader) (lines : List (List ℕ)) → AllByRecursion (λ line. line_fault line ≡ None) lines → ReadsTo r (said_lines lines) s → s.stage ≢ InBehaviour → read_from n r lines ≡ Ok s
 unfolding read_from lowest_fault
 read_back n r s [] clean e away = ap (λ (x : Reader). read_end n x x.stage) e ∙ ended_ok n s s.stage away
 read_back n r s (line ∷ lines) clean h away =
@@ -304,12 +304,12 @@ pub only_one : (bytes : List ℕ) (r : Result Program TextErr) → IfOk r (λ p.
 only_one bytes (Ok found) ok p text good = let same : Ok found ≡ Ok p = sym ok ∙ again bytes p text good in cc
 only_one bytes (Err e) ok p text good = tt
 
-refused : (bytes : List ℕ) (e : TextErr) → Tells (fault_of (read_text bytes)) e → IsFault e → (p : Program) → IsText bytes p → IsWellFormed p → ⊥
+refused : (bytes : List ℕ) (e : TextErr) → Tells (fault_of (read_text bytes)) e → IsFault e → (p : Program) → IsText bytes p → ¬ IsWellFormed p
 refused bytes (E.Fault line kind) h f p text good = let none = ap fault_of (again bytes p text good) in cc
 refused bytes E.NoMemory h f p text good = f
 
 pub no_program : (bytes : List ℕ) (r : Result Program TextErr) → IfErr r (Tells (fault_of (read_text bytes))) →
-    IfErr r (λ e. IsFault e → (p : Program) → IsText bytes p → IsWellFormed p → ⊥)
+    IfErr r (λ e. IsFault e → (p : Program) → IsText bytes p → ¬ IsWellFormed p)
 no_program bytes (Ok p) h = tt
 no_program bytes (Err e) h = refused bytes e h
 

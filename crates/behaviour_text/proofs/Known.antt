@@ -1,5 +1,6 @@
 -- The names that were read so far keep their texts.
 use Rattle.std.proofs.Common.{◌≡◌, ℕ, ◌+◌, ◌<◌, Bool, true, false, cond, not, List, [], ◌∷◌, ◌++◌, ◌||◌, length, map, flat_map, refl, ap, ap₂, sym, arith, if◌then◌else◌, bytes_eq, zero, suc, slice_index_or, one-add}
+use Rattle.std.specs.Prelude.{⊤}
 use Rattle.std.specs.List.{AllByRecursion, list_any, position_or_len}
 use Rattle.std.proofs.lemmas.Slice.Eq.{bytes_eq-Decides}
 use Rattle.behaviour_text.proofs.Said.{Lines, so_far_at, open_lines, in_kind, in_behaviour}
@@ -27,7 +28,7 @@ InstrKnown m (I.JumpZero a l) = l < m
 InstrKnown m (I.Label l) = l < m
 InstrKnown m (I.New d k) = k < m
 InstrKnown m (I.Send t b values) = b < m
-InstrKnown m _ = Unit {0}
+InstrKnown m _ = ⊤
 
 pub record BehaviourKnown (m : ℕ) (b : Behaviour) : Type 0 where
   pub name : b.name < m
@@ -46,7 +47,7 @@ pub record InBehaviourKnown (m : ℕ) (r : Reader) : Type 0 where
   pub body : AllByRecursion (InstrKnown m) r.body
 
 abbrev pub OpenKnown : ℕ → Reader → Stage → Type 0
-OpenKnown m r Start = Unit {0}
+OpenKnown m r Start = ⊤
 OpenKnown m r InKind = InKindKnown m r
 OpenKnown m r InBehaviour = InKindKnown m r × InBehaviourKnown m r
 

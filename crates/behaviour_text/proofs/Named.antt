@@ -1,7 +1,7 @@
 -- What is read has its names in order, each once.
 use Rattle.behaviour_text.proofs.Steps.{kept, end_read, line_read}
 use Rattle.behaviour_text.proofs.Choices.{or_right, option_or_none, filter_first, each_push}
-use Rattle.std.proofs.Common.{◌≡◌, ℕ, ◌+◌, ◌<◌, ◌||◌, Bool, true, false, cond, not, List, [], ◌∷◌, ◌++◌, length, map, flat_map, filter, refl, ap, sym, ◌∙◌, subst, arith, Option, Some, None, IfSome, Ok, if◌then◌else◌, bytes_eq, slice_index_or, length-append, zero, suc, option_map, inl, inr}
+use Rattle.std.proofs.Common.{◌≡◌, ◌≢◌, ℕ, ◌+◌, ◌<◌, ◌||◌, Bool, true, false, cond, not, List, [], ◌∷◌, ◌++◌, length, map, flat_map, filter, refl, ap, sym, ◌∙◌, subst, arith, Option, Some, None, IfSome, Ok, if◌then◌else◌, bytes_eq, slice_index_or, length-append, zero, suc, option_map, inl, inr}
 use Rattle.std.specs.List.{AllByRecursion, list_any}
 use Rattle.std.proofs.lemmas.Bool.{cases_lt}
 use Rattle.std.proofs.lemmas.Slice.Eq.{bytes_eq-Decides}
@@ -59,7 +59,7 @@ new_apart names text h fresh = record {
       ];
 }
   where
-    clash : (i : ℕ) → i < length names → slice_index_or names i [] ≡ text → ⊥
+    clash : (i : ℕ) → i < length names → slice_index_or names i [] ≢ text
     clash i k same = let found = any_at text names i k same in cc
 
 text_ok : (names : List (List ℕ)) (text : List ℕ) (b : Bool) → list_any (bytes_eq text) names ≡ b → NamesOk names → is_name text ≡ true → NamesOk (if b then names else names ++ text ∷ [])

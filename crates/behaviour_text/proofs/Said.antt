@@ -1,6 +1,6 @@
 -- What was read so far says what was in the lines.
 use Rattle.behaviour_text.proofs.Choices.{neither, no_fault}
-use Rattle.std.proofs.Common.{◌≡◌, ℕ, false, List, [], ◌∷◌, ◌++◌, length, map, flat_map, refl, ap, sym, ◌∙◌, Option, Some, None, IfSome, nat_lt, append_assoc, append-nil, min}
+use Rattle.std.proofs.Common.{◌≡◌, ◌≢◌, ℕ, false, List, [], ◌∷◌, ◌++◌, length, map, flat_map, refl, ap, sym, ◌∙◌, Option, Some, None, IfSome, nat_lt, append_assoc, append-nil, min}
 use Rattle.std.proofs.lemmas.List.{map-append}
 use Rattle.std.proofs.lemmas.List.Concat.{flat_map-append}
 use Rattle.behaviour_text.proofs.Spelling.{instr_again, begin_again, end_again}
@@ -47,12 +47,12 @@ one_behaviour : (text : ℕ → List ℕ) (bs : List Behaviour) (b : Behaviour) 
 one_behaviour text bs b = flat_map-append (behaviour_lines text) bs (b ∷ []) ∙ ap (λ (t : Lines). flat_map (behaviour_lines text) bs ++ t) (append-nil (behaviour_lines text b))
 
 -- closing a kind says nothing new
-pub closed_said : (text : ℕ → List ℕ) (r : Reader) (stage : Stage) → (stage ≡ InBehaviour → ⊥) → flat_map (kind_lines text) (close_kind_at stage r).kinds ≡ so_far_at text r stage
+pub closed_said : (text : ℕ → List ℕ) (r : Reader) (stage : Stage) → stage ≢ InBehaviour → flat_map (kind_lines text) (close_kind_at stage r).kinds ≡ so_far_at text r stage
 closed_said text r Start away = sym (append-nil (flat_map (kind_lines text) r.kinds))
 closed_said text r InKind away = one_line text r.kinds (record { name = r.kind_name; fields = r.fields; behaviours = r.behaviours })
 closed_said text r InBehaviour away = absurd (away refl)
 
-kind_place : (stage : Stage) (kinds fields : ℕ) → kind_fault stage kinds fields ≡ None → (stage ≡ InBehaviour → ⊥) × (nat_lt 8 fields ≡ false)
+kind_place : (stage : Stage) (kinds fields : ℕ) → kind_fault stage kinds fields ≡ None → (stage ≢ InBehaviour) × (nat_lt 8 fields ≡ false)
 kind_place InBehaviour kinds fields h = cc
 kind_place Start kinds fields h = (λ e. cc, (neither (nat_lt 255 kinds) (nat_lt 8 fields) (no_fault _ 9 h)).1)
 kind_place InKind kinds fields h = (λ e. cc, (neither (nat_lt 255 kinds) (nat_lt 8 fields) (no_fault _ 9 h)).1)
@@ -67,7 +67,7 @@ inside_place InBehaviour more h = refl
 inside_place Start more h = cc
 inside_place InKind more h = cc
 
-kind_said : (text : ℕ → List ℕ) (r : Reader) (name : ℕ) (fields : ℕ) → (r.stage ≡ InBehaviour → ⊥) →
+kind_said : (text : ℕ → List ℕ) (r : Reader) (name : ℕ) (fields : ℕ) → r.stage ≢ InBehaviour →
     so_far text (with_kind r name fields) ≡ so_far text r ++ kind_begin text name fields ∷ []
 unfolding with_kind close_kind
 kind_said text r name fields away = ap (λ (t : Lines). t ++ kind_begin text name fields ∷ []) (closed_said text r r.stage away)

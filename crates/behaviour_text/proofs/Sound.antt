@@ -1,7 +1,7 @@
 -- What is read without a fault is what the lines say.
 use Rattle.behaviour_text.proofs.Steps.{kept, end_read, line_read}
 use Rattle.behaviour_text.proofs.Choices.{option_or_none, filter_first, push_grows, each_push, each_weaker}
-use Rattle.std.proofs.Common.{◌≡◌, ℕ, ◌+◌, ◌<◌, ◌≤◌, Bool, true, false, cond, not, List, [], ◌∷◌, ◌++◌, length, map, filter, refl, ap, sym, ◌∙◌, subst, arith, Option, Some, None, IfSome, Result, Ok, Err, if◌then◌else◌, bytes_eq, slice_index_or, append_assoc, append-nil, zero, suc}
+use Rattle.std.proofs.Common.{◌≡◌, ◌≢◌, ℕ, ◌+◌, ◌<◌, ◌≤◌, Bool, true, false, cond, not, List, [], ◌∷◌, ◌++◌, length, map, filter, refl, ap, sym, ◌∙◌, subst, arith, Option, Some, None, IfSome, Result, Ok, Err, if◌then◌else◌, bytes_eq, slice_index_or, append_assoc, append-nil, zero, suc}
 use Rattle.std.specs.List.{AllByRecursion, list_any}
 use Rattle.text_lines.specs.Lines.{line_fault, lines_of}
 use Rattle.behaviour_text.proofs.Said.{closed_said, Lines, so_far, so_far_at, item_said, on_place, inside_place}
@@ -167,7 +167,7 @@ words_sound r (w ∷ ws) fault h = spoken r (starts_with 35 w) w ws fault h
 pub record Reads (r s : Reader) (lines : List (List ℕ)) : Type 0 where
   pub says : Says r s (said_lines lines)
   pub clean : AllByRecursion (λ line. line_fault line ≡ None) lines
-  pub ended : s.stage ≡ InBehaviour → ⊥
+  pub ended : s.stage ≢ InBehaviour
 
 pub read_sound : (n : ℕ) (r s : Reader) (lines : List (List ℕ)) → KnownAt (length r.names) r r.stage → read_from n r lines ≡ Ok s → Reads r s lines
 read_sound n r s [] h e =
@@ -175,7 +175,7 @@ read_sound n r s [] h e =
     record {
       says = subst (λ (x : Reader). Says r x []) end.1 (silent r h);
       clean = tt;
-      ended = subst (λ (x : Reader). x.stage ≡ InBehaviour → ⊥) end.1 end.0;
+      ended = subst (λ (x : Reader). x.stage ≢ InBehaviour) end.1 end.0;
     }
 read_sound n r s (line ∷ lines) h e =
     let read = line_read n r s line lines e in

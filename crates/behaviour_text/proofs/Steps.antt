@@ -1,6 +1,6 @@
 -- One line more.
 use Rattle.behaviour_text.proofs.Choices.{option_or_none}
-use Rattle.std.proofs.Common.{option_map, ◌≡◌, ℕ, ◌+◌, ◌<◌, ◌≤◌, Bool, true, false, List, [], ◌∷◌, ◌++◌, length, drop, get_or, map, refl, ap, sym, ◌∙◌, subst, arith, Option, Some, None, Result, Ok, Err, if◌then◌else◌, bytes_eq, slice_range, zero, suc, length-append, add-one, drop_of_length-le}
+use Rattle.std.proofs.Common.{option_map, ◌≡◌, ◌≢◌, ℕ, ◌+◌, ◌<◌, ◌≤◌, Bool, true, false, List, [], ◌∷◌, ◌++◌, length, drop, get_or, map, refl, ap, sym, ◌∙◌, subst, arith, Option, Some, None, Result, Ok, Err, if◌then◌else◌, bytes_eq, slice_range, zero, suc, length-append, add-one, drop_of_length-le}
 use Rattle.std.specs.List.{list_any}
 use Rattle.std.proofs.lemmas.List.{length-map}
 use Rattle.text_lines.specs.Lines.{lines_of, line_at, with_fault, line_fault}
@@ -138,13 +138,13 @@ pub parsed : (bytes : List ℕ) (r s : Reader) → read_from 0 start (lines_of b
 unfolding read_text
 parsed bytes r s told e = ap finish told ∙ ap (λ (p : Program). Ok p) (closed_program r s e)
 
-end_at : (n : ℕ) (r s : Reader) (stage : Stage) → read_end n r stage ≡ Ok s → (stage ≡ InBehaviour → ⊥) × (r ≡ s)
+end_at : (n : ℕ) (r s : Reader) (stage : Stage) → read_end n r stage ≡ Ok s → (stage ≢ InBehaviour) × (r ≡ s)
 end_at n r s InBehaviour h = cc
 end_at n r s Start h = (λ k. cc, cc)
 end_at n r s InKind h = (λ k. cc, cc)
 
 -- the last line is read
-pub end_read : (n : ℕ) (r s : Reader) → read_from n r [] ≡ Ok s → (r.stage ≡ InBehaviour → ⊥) × (r ≡ s)
+pub end_read : (n : ℕ) (r s : Reader) → read_from n r [] ≡ Ok s → (r.stage ≢ InBehaviour) × (r ≡ s)
 unfolding read_from
 end_read n r s h = end_at n r s r.stage h
 

@@ -132,7 +132,7 @@ pub fn parse(alloc: Global, bytes: &[u8]) -> Result<Program, TextErr>
 
     // It is refused exactly where it says no such program, for its first fault.
     ensures none { IfErr result (λ e. IsFault e → (p : Program) → IsText bytes.now p
-        → IsWellFormed p → ⊥) }
+        → ¬ IsWellFormed p) }
     ensures sound { OnOk result (first_fault bytes.now ≡ None) }
     ensures fault { IfErr result (Tells (first_fault bytes.now)) }
 {

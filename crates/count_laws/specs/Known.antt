@@ -1,5 +1,5 @@
 -- What an actor knows, and what the letters that wait for it load.
-use Rattle.std.specs.Prelude.{ℕ, ◌<◌, ◌≤◌, ◌≡◌, ◌≢◌, ◌⊎◌, true, List, [], ◌∷◌, Contains, map, Option, Some, None, unwrap_or}
+use Rattle.std.specs.Prelude.{ℕ, ◌<◌, ◌≤◌, ◌≡◌, ◌≢◌, ◌⊎◌, true, List, [], ◌∷◌, Contains, map, Option, Some, None, unwrap_or, ⊤}
 use Rattle.std.specs.List.Sorted.{IsStrictlySortedBy}
 use Rattle.orca_names.specs.Names.{owner_of, thing_cmp}
 use Rattle.orca_names.specs.declared.names.Thing.{Thing}
@@ -53,7 +53,7 @@ RowsAreAt all me h = (x : Thing) → IsKnown me h x → row_at me h x ≡ all x
 
 -- each row of a load is the one that was made
 abbrev pub RowsAreIn : (Thing → Option Row) → List Loaded → Type 0
-RowsAreIn all [] = Unit {0}
+RowsAreIn all [] = ⊤
 RowsAreIn all (e ∷ load) = (e.1 ≡ all e.0) × RowsAreIn all load
 
 -- a load is exactly what its letter's arguments reach: each thing once, in the order of things
@@ -66,12 +66,12 @@ pub record IsLoadOf (all : Thing → Option Row) (args : List Value) (load : Lis
 
 abbrev pub IsExactLetter : (Thing → Option Row) → Letter → Type 0
 IsExactLetter all (App behaviour args load rows) = IsLoadOf all args load
-IsExactLetter all (Inc things) = Unit {0}
-IsExactLetter all (Dec things) = Unit {0}
-IsExactLetter all (Confirm token) = Unit {0}
+IsExactLetter all (Inc things) = ⊤
+IsExactLetter all (Dec things) = ⊤
+IsExactLetter all (Confirm token) = ⊤
 
 abbrev pub AreExactLetters : (Thing → Option Row) → List Letter → Type 0
-AreExactLetters all [] = Unit {0}
+AreExactLetters all [] = ⊤
 AreExactLetters all (letter ∷ mail) = IsExactLetter all letter × AreExactLetters all mail
 
 -- of an actor that is present: it knows what it reaches, with the rows, and its letters' loads are

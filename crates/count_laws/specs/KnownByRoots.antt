@@ -1,5 +1,5 @@
 -- What an actor knows with root-only tracing, and what the letters that wait for it load.
-use Rattle.std.specs.Prelude.{ℕ, ◌+◌, ◌<◌, ◌≤◌, ◌≡◌, ◌≢◌, drop, map, take, true, List, [], ◌∷◌, Option, Some, sum_by}
+use Rattle.std.specs.Prelude.{ℕ, ◌+◌, ◌<◌, ◌≤◌, ◌≡◌, ◌≢◌, drop, map, take, true, List, [], ◌∷◌, Option, Some, sum_by, ⊤}
 use Rattle.std.specs.FinMap as m
 use Rattle.std.specs.List.Sorted.{IsStrictlySortedBy}
 use Rattle.orca_names.specs.Names.{owner_of, thing_cmp}
@@ -52,7 +52,7 @@ pub record IsRootLetter (all : Thing → Option Row) (args : List Value)
   pub rows : IsLoadOf all args brought
 
 abbrev pub AreRootLetters : (Thing → Option Row) → List Letter → Type 0
-AreRootLetters all [] = Unit {0}
+AreRootLetters all [] = ⊤
 AreRootLetters all (App behaviour args load rows ∷ mail) =
     IsRootLetter all args load rows × AreRootLetters all mail
 AreRootLetters all (Inc things ∷ mail) = AreRootLetters all mail

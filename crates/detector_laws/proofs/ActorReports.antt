@@ -10,6 +10,7 @@ use Rattle.letter_kinds.specs.declared.note.Note.{Note}
 use Rattle.letter_kinds.specs.declared.note.Note.TheVariants.{Unblock, Ack}
 use Rattle.letter_kinds.specs.declared.note.Report.{Report}
 use Rattle.machine_rules.specs.Cell.{Cell}
+use Rattle.machine_rules.proofs.Guards.{may_report}
 use Rattle.detector_laws.proofs.Cells.{blocked_reports}
 use Rattle.detector_laws.proofs.Maps.{at_cases}
 use Rattle.detector_laws.proofs.Notes.{with_notes-push, with_note-other_block, with_note-other_unblock, IsSilentOn-push}
@@ -39,11 +40,12 @@ pub block_reports : (w : World) (a : ℕ) (c : Cell) (r : Report) → CanBlock w
 block_reports w a c r can h =
     let c' : Cell = record c { reported = true } in
     let kept = w.detector.kept in
+    let may = may_report c [] can.may in
     let ends = λ (b : ℕ). with_notes-push b (told_by_kept (kept_report kept b)) w.notes (block_note r) in
-    let was : told_of a kept w.notes ≡ Unreported = off (w.cell a) a (told_of a kept w.notes) (h.last a) (ap is_reporting can.here ∙ can.quiet) in
+    let was : told_of a kept w.notes ≡ Unreported = off (w.cell a) a (told_of a kept w.notes) (h.last a) (ap is_reporting can.here ∙ may.unreported) in
     let is : told_of a kept (w.notes ++ block_note r ∷ []) ≡ Reported r = ends a ∙ (ap (λ s. with_note a s (block_note r)) was ∙ told_block a r can.exact.actor) in
     let mine : IsAsTold (Some c') a (Reported r) = (
-      record { cell = c'; here = refl; reported = refl; unpinned = can.unpinned; clean = can.clean; idle = can.idle },
+      record { cell = c'; here = refl; reported = refl; unpinned = may.unpinned; clean = may.rest.clean; idle = may.rest.idle },
       record { actor = can.exact.actor; count = can.exact.count; held = can.exact.held },
     ) in
     record {

@@ -10,6 +10,7 @@ use Rattle.letter_kinds.specs.declared.note.Note.{Note}
 use Rattle.letter_kinds.specs.declared.note.Note.TheVariants.{Unblock, Ack}
 use Rattle.letter_kinds.specs.declared.note.Report.{Report}
 use Rattle.machine_rules.specs.Cell.{Cell}
+use Rattle.machine_rules.proofs.Guards.{may_report}
 use Rattle.detector_laws.proofs.Cells.{blocked_reports, reporter_present, same_some, some_not_none}
 use Rattle.detector_laws.proofs.Letters.{confirm_count-append, confirm_count-none, other_before_confirm-append, other_before_confirm-some, EndsInConfirm-only, EndsInConfirm-tail}
 use Rattle.detector_laws.proofs.Maps.{at_cases, at_same, at_other}
@@ -38,7 +39,7 @@ sealed_stays t m cell cell' mail loaded loaded' notes more s same held none sile
 
 -- a member that has a report out is not the one that blocks
 not_blocking : (w : World) (a : ℕ) (c : Cell) (r : Report) → CanBlock w a c r → (m : ℕ) → is_reporting (w.cell m) ≡ true → m ≢ a
-not_blocking w a c r can m out e = false≢true (sym can.quiet ∙ (ap is_reporting (sym can.here ∙ ap w.cell (sym e)) ∙ out))
+not_blocking w a c r can m out e = false≢true (sym (may_report c [] can.may).unreported ∙ (ap is_reporting (sym can.here ∙ ap w.cell (sym e)) ∙ out))
 
 block_sealed : (w : World) (a : ℕ) (c : Cell) (r : Report) → CanBlock w a c r → (t : Token) → IsSealed w.cell w.mail w.loaded w.notes t → IsSealed (block_in_world w a c r).cell w.mail w.loaded (block_in_world w a c r).notes t
 block_sealed w a c r can t s m i =
@@ -90,7 +91,7 @@ pub wrong_number : (n u a b : ℕ) → n ≢ u → ack_count n b (Ack u a ∷ []
 wrong_number n u a b ne = grind (arith, nat_tests)
 
 -- a Confirm of n that waits counts
-pub not_counted : (n u : ℕ) (ls : List Letter) → confirm_count n (Confirm u ∷ ls) ≡ 0 → n ≡ u → ⊥
+pub not_counted : (n u : ℕ) (ls : List Letter) → confirm_count n (Confirm u ∷ ls) ≡ 0 → n ≢ u
 not_counted n u ls e same = grind (arith, nat_tests)
 
 confirm_once : (w : World) (a u : ℕ) (ls : List Letter) (reported : Bool) (t : Token) (m : ℕ) → w.mail a ≡ Confirm u ∷ ls
@@ -167,11 +168,11 @@ confirm_tokens w a u ls e k = record {
 
 -- an actor's other events
 
-not_member : (t : Token) (a : ℕ) → (has t.members a ≡ true → ⊥) → has t.members a ≡ false
+not_member : (t : Token) (a : ℕ) → has t.members a ≢ true → has t.members a ≡ false
 not_member t a h = false_from_ne_true (has t.members a) h
 
 -- no member of a sealed token moves
-member_stays : (w w' : World) (a : ℕ) → Moves w a w' → (t : Token) → IsSealed w.cell w.mail w.loaded w.notes t → has t.members a ≡ true → ⊥
+member_stays : (w w' : World) (a : ℕ) → Moves w a w' → (t : Token) → IsSealed w.cell w.mail w.loaded w.notes t → has t.members a ≢ true
 member_stays w w' a mv t s i =
     let seal = s a i in
     let same = same_some seal.blocked.here mv.here in

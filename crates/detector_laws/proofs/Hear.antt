@@ -24,7 +24,7 @@ with_notes-contradictory a (Block b count held ∷ ns) = grind (arith, with_note
 with_notes-contradictory a (Unblock b ∷ ns) = grind (arith, with_notes-contradictory a ns)
 with_notes-contradictory a (Ack t b ∷ ns) = with_notes-contradictory a ns
 
-not_wrong : (c : Option Cell) (a : ℕ) (ns : List Note) → IsAsTold c a (with_notes a Contradictory ns) → ⊥
+not_wrong : (c : Option Cell) (a : ℕ) (ns : List Note) → ¬ IsAsTold c a (with_notes a Contradictory ns)
 not_wrong c a ns h = subst (IsAsTold c a) (with_notes-contradictory a ns) h
 
 block_step : (c : Option Cell) (a : ℕ) (r : Report) (ns : List Note) (b : Bool) (o : Option Report)

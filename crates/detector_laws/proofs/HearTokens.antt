@@ -1,5 +1,5 @@
 -- Hearing a note keeps what holds of tokens.
-use Rattle.std.proofs.Common.{◌≡◌, ℕ, ◌≤◌, ◌<◌, ◌≢◌, ◌==◌, not, Bool, true, false, if◌then◌else◌, ◌&&◌, ◌||◌, ◌⊎◌, inl, inr, ⊎_elim, List, [], ◌∷◌, filter, map, Option, Some, None, arith, refl, ap, sym, subst, ◌∙◌}
+use Rattle.std.proofs.Common.{◌≡◌, ℕ, ◌≤◌, ◌<◌, ◌≢◌, ◌==◌, not, Bool, true, false, if◌then◌else◌, ◌&&◌, ◌||◌, ◌⊎◌, inl, inr, ⊎_elim, List, [], ◌∷◌, filter, map, Option, Some, None, arith, refl, ap, sym, subst, ◌∙◌, Contains}
 use Rattle.std.proofs.lemmas.Bool.{cond_both}
 use Rattle.std.proofs.lemmas.Bool.Decides.{nat_tests}
 use Rattle.letter_kinds.specs.Detector.{Token, Detector, has, note_ack, hear_note}
@@ -11,9 +11,9 @@ use Rattle.letter_kinds.specs.declared.note.Report.{Report}
 use Rattle.machine_rules.specs.Cell.{Cell}
 use Rattle.detector_laws.proofs.Hear.{kept_report-keep, kept_report-drop}
 use Rattle.detector_laws.proofs.Letters.{other_before_confirm-some}
-use Rattle.detector_laws.proofs.Members.{In-filter, In-map}
+use Rattle.reach_walk.proofs.Elements.{Contains-from_map}
+use Rattle.detector_laws.proofs.Members.{Contains-from_filter}
 use Rattle.detector_laws.specs.Confirms.{confirm_count}
-use Rattle.detector_laws.specs.Members.{In}
 use Rattle.detector_laws.specs.Reports.{IsSilentOn}
 use Rattle.detector_laws.specs.Tokens.{ack_count, trace_count, IsSealed, unblocks_before_ack, IsSpoiled, SoundTokens}
 use Rattle.detector_laws.specs.World.{World, hear_in_world, TokensAreSound}
@@ -72,7 +72,7 @@ dropped_other a m o p r ne e f = grind (arith, nat_tests)
 
 unblock_heard : (cell : ℕ → Option Cell) (mail : ℕ → List Letter) (loaded : ℕ → ℕ) (d : Detector) (a : ℕ) (ns : List Note) → SoundTokens d cell mail loaded (Unblock a ∷ ns) → SoundTokens (hear_note (Unblock a) d) cell mail loaded ns
 unblock_heard cell mail loaded d a ns k =
-    let is = λ (t : Token) (i : In t (filter (λ u. not (has u.members a)) d.tokens)). In-filter (λ u. not (has u.members a)) t d.tokens i in
+    let is = λ (t : Token) (i : Contains (filter (λ u. not (has u.members a)) d.tokens) t). Contains-from_filter (λ u. not (has u.members a)) t d.tokens i in
     record {
       apart = λ t u i j. k.apart t u (is t i).0 (is u j).0;
       kept = λ t i m j. let (r, e) = k.kept t (is t i).0 m j in
@@ -97,7 +97,7 @@ unblock_heard cell mail loaded d a ns k =
 
 ack_heard : (cell : ℕ → Option Cell) (mail : ℕ → List Letter) (loaded : ℕ → ℕ) (d : Detector) (u a : ℕ) (ns : List Note) → SoundTokens d cell mail loaded (Ack u a ∷ ns) → SoundTokens (hear_note (Ack u a) d) cell mail loaded ns
 ack_heard cell mail loaded d u a ns k =
-    let from = λ (t : Token) (i : In t (map (note_ack u a) d.tokens)). In-map (note_ack u a) t d.tokens i in
+    let from = λ (t : Token) (i : Contains (map (note_ack u a) d.tokens) t). let (v, j, e) = Contains-from_map (note_ack u a) d.tokens t i in (v, j, sym e) in
     record {
       apart = λ t v i j m. let (t', i', e) = from t i in let (v', j', f) = from v j in
           subst (λ x. has x.members m ≡ true → has v.members m ≡ true → x.number ≡ v.number) (sym e)

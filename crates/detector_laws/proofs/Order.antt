@@ -1,10 +1,9 @@
 -- Reports in rising order, and reports that are found in it.
-use Rattle.std.proofs.Common.{◌≡◌, ℕ, ◌≤◌, ◌<◌, ◌==◌, nat_lt, Bool, if◌then◌else◌, ⊎_elim, List, [], ◌∷◌, filter, Some, arith, sym, subst, ◌∙◌, eqb-true}
+use Rattle.std.proofs.Common.{◌≡◌, ℕ, ◌≤◌, ◌<◌, ◌==◌, nat_lt, Bool, if◌then◌else◌, ⊎_elim, List, [], ◌∷◌, filter, Some, arith, sym, subst, ◌∙◌, eqb-true, Contains}
 use Rattle.std.proofs.lemmas.Bool.{cond_both, eqb-false, ltb-true, ltb-false}
 use Rattle.std.proofs.lemmas.Bool.Decides.{nat_tests}
 use Rattle.letter_kinds.specs.Reports.{kept_report, keep_report}
 use Rattle.letter_kinds.specs.declared.note.Report.{Report}
-use Rattle.detector_laws.specs.Members.{In}
 use Rattle.detector_laws.specs.Reports.{AllAbove, IsRising}
 
 filter_above : (p : Report → Bool) (a : ℕ) (rs : List Report) → AllAbove a rs → AllAbove a (filter p rs)
@@ -15,16 +14,16 @@ pub filter_rising : (p : Report → Bool) (rs : List Report) → IsRising rs →
 filter_rising p [] h = tt
 filter_rising p (r ∷ rs) h = cond_both (p r) (r ∷ filter p rs) (filter p rs) IsRising (λ _. (filter_above p r.actor rs h.0, filter_rising p rs h.1)) (λ _. filter_rising p rs h.1)
 
-above_In : (a : ℕ) (rs : List Report) (r : Report) → AllAbove a rs → In r rs → a < r.actor
-above_In a [] r h i = absurd i
-above_In a (q ∷ rs) r h i = ⊎_elim (λ e. subst (λ (x : Report). a < x.actor) (sym e) h.0) (λ j. above_In a rs r h.1 j) i
+above_contained : (a : ℕ) (rs : List Report) (r : Report) → AllAbove a rs → Contains rs r → a < r.actor
+above_contained a [] r h i = absurd i
+above_contained a (q ∷ rs) r h i = ⊎_elim (λ e. subst (λ (x : Report). a < x.actor) (sym e) h.0) (λ j. above_contained a rs r h.1 j) i
 
 -- a report that is kept is found
-pub In_report_of : (rs : List Report) (r : Report) → IsRising rs → In r rs → kept_report rs r.actor ≡ Some r
-In_report_of [] r h i = absurd i
-In_report_of (q ∷ rs) r h i = ⊎_elim
+pub kept_report-contained : (rs : List Report) (r : Report) → IsRising rs → Contains rs r → kept_report rs r.actor ≡ Some r
+kept_report-contained [] r h i = absurd i
+kept_report-contained (q ∷ rs) r h i = ⊎_elim
     (λ (e : r ≡ q). subst (λ x. kept_report (q ∷ rs) x.actor ≡ Some x) (sym e) (found q rs))
-    (λ j. later q rs r.actor (above_In q.actor rs r h.0 j) ∙ In_report_of rs r h.1 j) i
+    (λ j. later q rs r.actor (above_contained q.actor rs r h.0 j) ∙ kept_report-contained rs r h.1 j) i
   where
     found : (q : Report) (rs : List Report) → kept_report (q ∷ rs) q.actor ≡ Some q
     found q rs = grind (arith, nat_tests)

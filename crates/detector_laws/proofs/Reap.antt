@@ -1,5 +1,5 @@
 -- A reap takes a sealed token, and keeps what holds of reports and of the other tokens.
-use Rattle.std.proofs.Common.{◌≡◌, ℕ, ◌≤◌, ◌≢◌, ◌==◌, not, true, false, inl, inr, ⊎_elim, List, [], ◌∷◌, filter, None, arith, refl, ap, sym, subst, ◌∙◌, eq-eqb, ne_eqb, Option}
+use Rattle.std.proofs.Common.{◌≡◌, ℕ, ◌≤◌, ◌≢◌, ◌==◌, not, true, false, inl, inr, ⊎_elim, List, [], ◌∷◌, filter, None, arith, refl, ap, sym, subst, ◌∙◌, eq-eqb, ne_eqb, Option, Contains}
 use Rattle.std.proofs.lemmas.Bool.{cases_eq, cases_Bool, false≢true, not-true, false_from_ne_true}
 use Rattle.std.proofs.lemmas.Bool.Decides.{nat_tests}
 use Rattle.letter_kinds.proofs.Acked.{acked_each}
@@ -11,12 +11,11 @@ use Rattle.machine_rules.specs.Cell.{Cell}
 use Rattle.detector_laws.proofs.ActorReports.{off}
 use Rattle.detector_laws.proofs.Cells.{blocked_reports}
 use Rattle.detector_laws.proofs.Letters.{confirm_count-append, confirm_count-none, other_before_confirm-append}
-use Rattle.detector_laws.proofs.Members.{In-filter}
+use Rattle.detector_laws.proofs.Members.{Contains-from_filter}
 use Rattle.detector_laws.proofs.Notes.{with_notes-silent}
 use Rattle.detector_laws.specs.Cells.{held_on, is_reporting}
 use Rattle.detector_laws.specs.Confirms.{confirm_count, other_before_confirm}
 use Rattle.detector_laws.specs.Events.{Departs, Leaves, Reaps}
-use Rattle.detector_laws.specs.Members.{In}
 use Rattle.detector_laws.specs.Reports.{with_notes, told_by_kept, told_of, IsSilentOn, IsBlocked, IsAsTold, ExactReports, Told}
 use Rattle.detector_laws.specs.Tokens.{IsSealedMember, IsSealed, IsSpoiled, SoundTokens}
 use Rattle.detector_laws.specs.World.{World, ReportsAreExact, TokensAreSound}
@@ -67,7 +66,7 @@ reap_reports w w' t r h k =
     record { last = reaped_last w w' t r h s; unmade = reaped_unmade w w' t r h s })
 
 -- a token that stays has no member of the reaped one
-apart_from : (w : World) (t u : Token) → TokensAreSound w → In t w.detector.tokens → In u w.detector.tokens → not (u.number == t.number) ≡ true → (m : ℕ) → has u.members m ≡ true → has t.members m ≡ false
+apart_from : (w : World) (t u : Token) → TokensAreSound w → Contains w.detector.tokens t → Contains w.detector.tokens u → not (u.number == t.number) ≡ true → (m : ℕ) → has u.members m ≡ true → has t.members m ≡ false
 apart_from w t u k i j ne m h = ⊎_elim
     (λ (y : has t.members m ≡ true). absurd (false≢true (sym (not_same u.number t.number ne) ∙ eq-eqb u.number t.number (k.apart u t j i m h y))))
     (λ f. f)
@@ -100,7 +99,7 @@ stayed_sealed w w' gone u r out s m i =
       one = seal.one;
     }
   where
-    other_of : (u : Token) (b : ℕ) → (has u.members b ≡ true → ⊥) → has u.members b ≡ false
+    other_of : (u : Token) (b : ℕ) → has u.members b ≢ true → has u.members b ≡ false
     other_of u b h = false_from_ne_true (has u.members b) h
 
 -- who goes has no report out
@@ -121,8 +120,8 @@ stayed_spoiled w w' gone u r out (m, i, p) = (
 
 pub reap_tokens : (w w' : World) (t : Token) → Reaps w t w' → TokensAreSound w → TokensAreSound w'
 reap_tokens w w' t r k =
-    let is = λ (u : Token) (i : In u (close_token t w.detector).tokens). In-filter (λ v. not (v.number == t.number)) u w.detector.tokens i in
-    let out = λ (u : Token) (i : In u (close_token t w.detector).tokens). apart_from w t u k r.is_open (is u i).0 (is u i).1 in
+    let is = λ (u : Token) (i : Contains (close_token t w.detector).tokens u). Contains-from_filter (λ v. not (v.number == t.number)) u w.detector.tokens i in
+    let out = λ (u : Token) (i : Contains (close_token t w.detector).tokens u). apart_from w t u k r.is_open (is u i).0 (is u i).1 in
     subst (λ d. SoundTokens d w'.cell w'.mail w'.loaded w'.notes) (sym r.detector)
     (subst (λ ns. SoundTokens (close_token t w.detector) w'.cell w'.mail w'.loaded ns) (sym r.departs.notes)
     record {

@@ -1,7 +1,6 @@
 -- The statements of the laws on the detector.
 use Rattle.detector_laws.specs.Balance.{ActorsAreBalanced}
 use Rattle.detector_laws.specs.Events.{CanBlock, Moves, Reaps}
-use Rattle.detector_laws.specs.Members.{In}
 use Rattle.detector_laws.specs.News.{NoNewsNoClosedSet}
 use Rattle.detector_laws.specs.Quiet.{IsNeeded, IsQuiet, IsReached}
 use Rattle.detector_laws.specs.Reports.{IsRising}
@@ -15,13 +14,13 @@ use Rattle.letter_kinds.specs.declared.note.Note.TheVariants.{Ack}
 use Rattle.letter_kinds.specs.declared.note.Report.{Report}
 use Rattle.letter_kinds.specs.Detector.{all_acked, close_token, closed_set, Detector, has, hear_note, after_scan, Token, token_numbered}
 use Rattle.machine_rules.specs.Cell.{Cell}
-use Rattle.std.specs.Prelude.{[], List, Some, true, ℕ, ◌∷◌, ◌≡◌, ◌≢◌}
+use Rattle.std.specs.Prelude.{[], List, Some, true, ℕ, ◌∷◌, ◌≡◌, ◌≢◌, Contains}
 
 -- the token that a number finds is open, and has that number
 abbrev pub NumberedIsOpen : Type 0
 NumberedIsOpen =
     (d : Detector) (number : ℕ) (t : Token) → token_numbered number d ≡ Some t →
-    In t d.tokens × (t.number ≡ number)
+    Contains d.tokens t × (t.number ≡ number)
 
 -- a note that is heard leaves what is told of each actor true
 abbrev pub HearKeepsReports : Type 0
@@ -101,8 +100,8 @@ ScanLeavesNoSet = (d : Detector) → NoNewsNoClosedSet (after_scan d (closed_set
 -- nor does a reap bring one about without news
 abbrev pub ReapKeepsNoNews : Type 0
 ReapKeepsNoNews =
-    (d : Detector) (t : Token) → In t d.tokens →
-    ((u : Token) → In u d.tokens → u.number ≡ t.number → u ≡ t) → NoNewsNoClosedSet d →
+    (d : Detector) (t : Token) → Contains d.tokens t →
+    ((u : Token) → Contains d.tokens u → u.number ≡ t.number → u ≡ t) → NoNewsNoClosedSet d →
     NoNewsNoClosedSet (close_token t d)
 
 -- kept reports stay in the order of their actors
@@ -148,13 +147,13 @@ ReapsTheUnneeded =
 -- a token that all members acknowledged is sealed
 abbrev pub AckedIsSealed : Type 0
 AckedIsSealed =
-    (w : World) (t : Token) → TokensAreSound w → In t w.detector.tokens → all_acked t ≡ true →
+    (w : World) (t : Token) → TokensAreSound w → Contains w.detector.tokens t → all_acked t ≡ true →
     IsSealed w.cell w.mail w.loaded w.notes t
 
 -- and no letter waits for a member
 abbrev pub AckedIsBare : Type 0
 AckedIsBare =
-    (w : World) (t : Token) → TokensAreSound w → In t w.detector.tokens → all_acked t ≡ true
+    (w : World) (t : Token) → TokensAreSound w → Contains w.detector.tokens t → all_acked t ≡ true
     → (m : ℕ) →
     has t.members m ≡ true → w.mail m ≡ []
 
@@ -162,4 +161,4 @@ AckedIsBare =
 abbrev pub MembersAloneAcknowledge : Type 0
 MembersAloneAcknowledge =
     (w : World) (number a : ℕ) (later : List Note) → FactsHold w → w.notes ≡ Ack number a ∷ later →
-    (t : Token) → In t w.detector.tokens → t.number ≡ number → has t.members a ≡ true
+    (t : Token) → Contains w.detector.tokens t → t.number ≡ number → has t.members a ≡ true

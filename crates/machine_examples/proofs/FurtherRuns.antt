@@ -1,5 +1,6 @@
 -- These books are runs too, by computation.
 use Rattle.std.proofs.Common.{◌≡◌, ℕ, zero, suc, true, [], ◌∷◌, Some, None, is_some, refl, sym, subst}
+use Rattle.std.specs.Prelude.{⊤}
 use Rattle.event_rule.specs.declared.event.Event.TheVariants.{Go, Hear, Leave, Scan}
 use Rattle.reach_walk.specs.Marks.{led_to, marks_of}
 use Rattle.letter_kinds.specs.Counting.{by_owner}
@@ -29,7 +30,7 @@ gets_twice = turned (Go 1 ∷ []) gets_once
 gets_last : Page
 gets_last = turned (Go 1 ∷ []) gets_twice
 
-gets_computed : Unit {0}
+gets_computed : ⊤
 unfolding led_to marks_of by_owner gets_first gets_once gets_twice gets_last
 gets_computed = tt
 
@@ -89,7 +90,7 @@ one_heard = turned (Hear ∷ []) one_gone
 one_last : Page
 one_last = turned (Leave 0 ∷ Scan ∷ []) one_heard
 
-one_computed : Unit {0}
+one_computed : ⊤
 unfolding led_to marks_of by_owner one_first one_told one_gone one_heard one_last
 one_computed = tt
 

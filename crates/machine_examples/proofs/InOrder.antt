@@ -161,7 +161,7 @@ is_quiet s = list_all (λ f. not (is_on s f)) (all_events s)
 quiet_computed : (s : State) → is_quiet s ≡ true → IsQuiet next s
 quiet_computed s test f = by_step (next s f) refl
   where
-    off : CanHappen s f → ⊥
+    off : ¬ CanHappen s f
     off can =
         let on = can_on s f can in
         let no = pass_all (λ f. not (is_on s f)) s test f can in
@@ -180,7 +180,7 @@ in_order_after [] b = b
 in_order_after (e ∷ events) None = None
 in_order_after (e ∷ events) (Some b) = if is_first (state_told b) e then in_order_after events (next_page b e) else None
 
-none_in_order : (events : List Event) (c : Page) → in_order_after events None ≡ Some c → ⊥
+none_in_order : (events : List Event) (c : Page) → in_order_after events None ≢ Some c
 none_in_order [] c h = cc
 none_in_order (e ∷ events) c h = cc
 

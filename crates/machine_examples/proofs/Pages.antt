@@ -8,7 +8,7 @@ use Rattle.orca_names.specs.declared.trace.Trace.{Trace}
 use Rattle.machine_rules.specs.Options.{Options}
 use Rattle.machine_rules.specs.State.{State, first_state, start_letters}
 use Rattle.machine_examples.proofs.Places.{Places, seats_told, place}
-use Rattle.std.specs.Prelude.{if◌then◌else◌}
+use Rattle.std.specs.Prelude.{if◌then◌else◌, ⊤}
 
 -- a state whose actors stand in the places; those of the state count for nothing
 pub record Page : Type 0 where
@@ -32,5 +32,5 @@ traced b = b.state.options.trace
 
 -- the step goes to the state of the page, if there is one
 abbrev pub Follows : Option Page → Step State → Type 0
-Follows None step = Unit {0}
+Follows None step = ⊤
 Follows (Some b) step = step ≡ Goes (state_told b)

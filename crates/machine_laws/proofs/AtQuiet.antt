@@ -1,5 +1,5 @@
 -- Where a run ends quiet, exactly what is reachable is left, and the detector rests.
-use Rattle.std.specs.Prelude.{◌↔◌}
+use Rattle.std.specs.Prelude.{◌↔◌, Contains}
 use Rattle.std.proofs.Common.{◌≡◌, ◌≢◌, ℕ, zero, suc, ◌<◌, true, Option, Some, None, List, [], ◌∷◌, refl, sym, ap, subst, ◌∙◌, arith, inl}
 use Rattle.std.proofs.lemmas.Bool.{false≢true}
 use Rattle.orca_names.specs.declared.names.Thing.{Thing}
@@ -28,10 +28,10 @@ use Rattle.orca_names.specs.declared.trace.Trace.{Trace}
 use Rattle.orca_names.specs.declared.trace.Trace.TheVariants.{Deep}
 use Rattle.orca_names.specs.declared.trace.Trace.TheVariants as trace
 use Rattle.machine_rules.specs.State.{State}
+use Rattle.reach_walk.proofs.Elements.{Contains-head}
 use Rattle.detector_laws.proofs.Cells.{same_some, some_not_none}
 use Rattle.detector_laws.proofs.Quiet.{no_token}
 use Rattle.detector_laws.specs.Cells.{held_on}
-use Rattle.detector_laws.specs.Members.{In}
 use Rattle.detector_laws.specs.Quiet as view
 use Rattle.detector_laws.specs.Reports.{IsAsTold, IsReportOf, told_by_kept, told_of}
 use Rattle.machine_laws.proofs.Quieting.{quiet_reached, quiet_world}
@@ -91,9 +91,9 @@ quiet_by_roots program options heavy roots book t run quiet =
 
 -- ---- the detector
 
-none_open : (tokens : List Token) → ((t : Token) → In t tokens → ⊥) → tokens ≡ []
+none_open : (tokens : List Token) → ((t : Token) → ¬ Contains tokens t) → tokens ≡ []
 none_open [] none = refl
-none_open (t ∷ tokens) none = absurd (none t (inl refl))
+none_open (t ∷ tokens) none = absurd (none t (Contains-head t tokens))
 
 module _ (trace : Trace) (s : State) (p : PlainState) (facts : AllFacts trace p s) (quiet : IsQuiet next s) where
   rests : view.IsQuiet (world s)

@@ -1,5 +1,6 @@
 -- A collect, as the detector's laws see it.
 use Rattle.std.proofs.Common.{◌≡◌, ◌≢◌, ℕ, ◌<◌, ◌≤◌, Bool, true, false, cond, ◌==◌, eq-eqb, None, List, [], ◌∷◌, set, refl, ap, sym, subst, ◌∙◌, arith, inl, inr, ⊎_elim, get_or-set_other}
+use Rattle.std.specs.Prelude.{⊤}
 use Rattle.orca_names.specs.Names.{owner_of}
 use Rattle.orca_names.specs.declared.names.Thing.{Thing}
 use Rattle.orca_names.specs.declared.names.Thing.TheVariants.{Actor}
@@ -35,10 +36,10 @@ pub owner_held : (a : ℕ) (c : Cell) → HoldsOwners a c → (x : Thing) → 0 
 owner_held a c owners x h n = ⊎_elim (λ own. absurd (n own.0)) (λ held. held.1) (owners x h)
 
 abbrev pub NotTo : ℕ → List (ℕ × List (Thing × ℕ)) → Type 0
-NotTo b [] = Unit {0}
+NotTo b [] = ⊤
 NotTo b (g ∷ gs) = (b ≢ g.0) × NotTo b gs
 
-pub not_to : (b : ℕ) (gs : List (ℕ × List (Thing × ℕ))) → Firm gs → ((x : Thing) → owner_of x ≡ b → 0 < owed gs x → ⊥) → NotTo b gs
+pub not_to : (b : ℕ) (gs : List (ℕ × List (Thing × ℕ))) → Firm gs → ((x : Thing) → owner_of x ≡ b → ¬ (0 < owed gs x)) → NotTo b gs
 unfolding owed
 not_to b [] f h = tt
 not_to b (g ∷ gs) f h = (
@@ -90,7 +91,7 @@ collect_moves marked s d ns a c c0 ls at same still dirty awake firm owners =
     some true n h = absurd (omega arith)
     some false n h = h
 
-    unowed : (b : ℕ) → b ≢ a → held_in c.holdings (Actor b) ≡ 0 → (x : Thing) → owner_of x ≡ b → 0 < amount_of x (given_back marked c0.holdings) → ⊥
+    unowed : (b : ℕ) → b ≢ a → held_in c.holdings (Actor b) ≡ 0 → (x : Thing) → owner_of x ≡ b → ¬ (0 < amount_of x (given_back marked c0.holdings))
     unowed b n h x o p =
         let held = some (marked x) (held_in c0.holdings x) (subst (λ (k : ℕ). 0 < k) (amount-given_back marked c0.holdings x) p) in
         let up : 0 < held_in c.holdings (Actor (owner_of x)) = owner_held a c owners x (subst (λ k. 0 < held_in k x) same held) (λ e. n (sym o ∙ e)) in

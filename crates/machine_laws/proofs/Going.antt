@@ -125,10 +125,10 @@ module _ (s : Actors) (d : Detector) (ns : List Note) (a : ℕ) (c : Cell) (ls :
       (λ b n z u. omega (arith, u, push_loads s1 to (App h args load rows) (Actor b), same_loads s a c c2 ls at (Actor b), (letter_App (Actor b) h args load rows).2, unloaded b n z))
       (λ b n z u. omega (arith, held-send a (Actor b) load c1.holdings n, same (Actor b), z))
     where
-      away : (b : ℕ) → b ≢ a → held_in c.holdings (Actor b) ≡ 0 → IsKnown a c1.holdings (Actor b) → ⊥
+      away : (b : ℕ) → b ≢ a → held_in c.holdings (Actor b) ≡ 0 → ¬ IsKnown a c1.holdings (Actor b)
       away b n z k = ⊎_elim (λ own. n own.0) (λ held. let w = same (Actor b) in let v = held.1 in absurd (omega arith)) k
 
-      zero_if : (n : ℕ) → (0 < n → ⊥) → n ≡ 0
+      zero_if : (n : ℕ) → ¬ (0 < n) → n ≡ 0
       zero_if zero h = refl
       zero_if (suc n) h = absurd (h (omega arith))
 
@@ -147,13 +147,13 @@ module _ (s : Actors) (d : Detector) (ns : List Note) (a : ℕ) (c : Cell) (ls :
       (λ b n z u. omega (arith, u, push_loads s1 to (Inc es) (Actor b), same_loads s a c c2 ls at (Actor b), (letter_Inc (Actor b) es).2))
       (λ b n z u. omega (arith, held-mint_all (Actor b) es c.holdings, unminted b z, z))
     where
-      away : (b : ℕ) → b ≢ a → held_in c.holdings (Actor b) ≡ 0 → b ≡ to → ⊥
+      away : (b : ℕ) → b ≢ a → held_in c.holdings (Actor b) ≡ 0 → b ≢ to
       away b n z e =
           let up : 0 < held_in c.holdings (Actor (owner_of x)) = owner_held a c owners x (held x p) (λ q. n (e ∙ sym o ∙ q)) in
           let w = ap (λ (i : ℕ). held_in c.holdings (Actor i)) (o ∙ sym e) in
           omega arith
 
-      zero_if : (n : ℕ) → (0 < n → ⊥) → n ≡ 0
+      zero_if : (n : ℕ) → ¬ (0 < n) → n ≡ 0
       zero_if zero h = refl
       zero_if (suc n) h = absurd (h (omega arith))
 

@@ -1,5 +1,5 @@
 -- Each event that is no choice leaves less to do.
-use Rattle.std.proofs.Common.{◌≡◌, ℕ, suc, ◌+◌, ◌*◌, ◌≤◌, ◌<◌, ◌==◌, ◌&&◌, not, Bool, true, false, cond, if◌then◌else◌, Option, Some, None, List, [], ◌∷◌, ◌++◌, length, filter, set, length-append, refl, ap, sym, subst, ◌∙◌, arith, ⊎_elim, eq-eqb, eqb-true}
+use Rattle.std.proofs.Common.{◌≡◌, ℕ, suc, ◌+◌, ◌*◌, ◌≤◌, ◌<◌, ◌==◌, ◌&&◌, not, Bool, true, false, cond, if◌then◌else◌, Option, Some, None, List, [], ◌∷◌, ◌++◌, length, filter, set, length-append, refl, ap, sym, subst, ◌∙◌, arith, ⊎_elim, eq-eqb, eqb-true, Contains}
 use Rattle.std.specs.Prelude.{is_none, sum_by}
 use Rattle.std.specs.FinMap as m
 use Rattle.std.proofs.Math.Nat.{suc-mul}
@@ -44,8 +44,8 @@ use Rattle.plain_rules.specs.Machine.{stopped_at}
 use Rattle.machine_rules.specs.Run.{act_is_choice, go_is_choice, go_is_choice_at, is_choice, take_is_choice_at, starts_with_app}
 use Rattle.machine_rules.specs.State.{State}
 use Rattle.machine_rules.specs.Take.{cell_after, note_of, notes_after}
+use Rattle.detector_laws.proofs.Members.{first_or_later, none_in_empty}
 use Rattle.detector_laws.proofs.Named.{numbered_is_open}
-use Rattle.detector_laws.specs.Members.{In}
 use Rattle.machine_laws.proofs.ActorsWork.{asks-work, decs-work, leave-work, more_times, push-work, reaped-work, set-work}
 use Rattle.machine_laws.proofs.Blocking.{reporting}
 use Rattle.machine_laws.proofs.GetsWork.{asks-gets, decs-gets, gets, idle-gets, mint-gets, need-length, need_mint-gets, push-gets, reaped-gets}
@@ -96,12 +96,12 @@ module _ (n : ℕ) where
   told-work false note told = omega arith
 
   -- fewer tokens
-  closed-work : (t : Token) (tokens : List Token) → In t tokens → length (filter (λ u. not (u.number == t.number)) tokens) < length tokens
-  closed-work t [] i = absurd i
+  closed-work : (t : Token) (tokens : List Token) → Contains tokens t → length (filter (λ u. not (u.number == t.number)) tokens) < length tokens
+  closed-work t [] i = absurd (none_in_empty t i)
   closed-work t (u ∷ tokens) i = ⊎_elim
       (λ (same : t ≡ u). let test = eq-eqb u.number t.number (ap (λ (x : Token). x.number) (sym same)) in rw test (omega (arith, length-filter_le (λ (v : Token). not (v.number == t.number)) tokens)))
       (λ later. by_test (closed-work t tokens later) (not (u.number == t.number)))
-      i
+      (first_or_later u tokens t i)
     where
       by_test : length (filter (λ u. not (u.number == t.number)) tokens) < length tokens → (b : Bool)
           → length (cond b (u ∷ filter (λ u. not (u.number == t.number)) tokens) (filter (λ u. not (u.number == t.number)) tokens)) < suc (length tokens)
@@ -274,7 +274,7 @@ module _ (n : ℕ) where
         both (ask_all (closed_set s.detector) (suc s.detector.opened) s.actors) (after_scan s.detector (closed_set s.detector)) s.notes (omega (arith, scanned-work s.detector (closed_set s.detector) is few, asks-work n (closed_set s.detector) (suc s.detector.opened) s.actors))
         (asks-gets tracing s.program (closed_set s.detector) (suc s.detector.opened) s.actors)
 
-    reaps-less : (token : Token) → In token s.detector.tokens → Less (record s { actors = reap_members token.members s.actors; detector = close_token token s.detector })
+    reaps-less : (token : Token) → Contains s.detector.tokens token → Less (record s { actors = reap_members token.members s.actors; detector = close_token token s.detector })
     reaps-less token listed =
         both (reap_members token.members s.actors) (close_token token s.detector) s.notes (omega (arith, closed-work token s.detector.tokens listed, reaped-work n token.members s.actors)) (reaped-gets tracing s.program token.members s.actors)
 

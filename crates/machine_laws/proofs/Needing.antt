@@ -75,7 +75,7 @@ module _ (all : Thing → Option Row) (ps : List Person) (s : Actors) (inv : Kee
     unminted : (m : ℕ) → m ≢ owner_of x → amount_of (Actor m) es ≡ 0
     unminted m other = zero_if (amount_of (Actor m) es) (λ some. ⊎_elim (λ e. other (ap owner_of e)) (λ e. other (ap owner_of e)) (is_pair wt a c.holdings x (Actor m) some))
       where
-        zero_if : (n : ℕ) → (0 < n → ⊥) → n ≡ 0
+        zero_if : (n : ℕ) → ¬ (0 < n) → n ≡ 0
         zero_if zero h = refl
         zero_if (suc n) h = absurd (h (omega arith))
 

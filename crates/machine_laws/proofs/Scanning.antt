@@ -2,7 +2,7 @@
 use Rattle.std.proofs.Common.{◌≡◌, ℕ, suc, ◌≤◌, ◌==◌, true, false, if◌then◌else◌, ◌&&◌, is_some, get_or, set, subst, Option, Some, None, List, [], ◌∷◌, ◌++◌, length, refl, ap, sym, ◌∙◌, arith, ⊎_elim, eq-eqb, ne_eqb, zero, ◌<◌}
 use Rattle.std.proofs.lemmas.Bool.{cases_eq, cases_lt, false≢true}
 use Rattle.std.specs.List.{AllByRecursion}
-use Rattle.std.specs.Prelude.{sum_by}
+use Rattle.std.specs.Prelude.{sum_by, ⊤}
 use Rattle.std.proofs.lemmas.List.{length-map}
 use Rattle.std.proofs.lemmas.List.Sums.{sum_by-cons}
 use mathlib.Core.Path.{fun_ext}
@@ -37,8 +37,8 @@ use Rattle.machine_rules.specs.Balance.{load_sum}
 use Rattle.machine_rules.specs.Detect.{ask_all}
 use Rattle.count_laws.specs.Facts.{IsFirmAt, KeepsCounts, IsSound}
 use Rattle.detector_laws.proofs.Cells.{some_not_none}
-use Rattle.detector_laws.proofs.Members.{In_each, each_In}
-use Rattle.detector_laws.proofs.Names.{name_In, names, named}
+use Rattle.detector_laws.proofs.Members.{contained_each, each_contained}
+use Rattle.detector_laws.proofs.Names.{has_name, names, named}
 use Rattle.detector_laws.proofs.Scan.{IsChosen, largest_chosen}
 use Rattle.detector_laws.proofs.Sums.{some_le_all}
 use Rattle.detector_laws.specs.Balance.{sum_below}
@@ -129,7 +129,7 @@ asks_keep trace all confirm [] t s ps keeps = keeps
 asks_keep trace all confirm (m ∷ ms) t s ps keeps = asks_keep trace all confirm ms t (push_letter m (Confirm t) s) ps (ask_keeps s m t trace all ps confirm keeps)
 
 abbrev Distinct : List ℕ → Type 0
-Distinct [] = Unit {0}
+Distinct [] = ⊤
 Distinct (m ∷ ms) = (has ms m ≡ false) × Distinct ms
 
 asks_other : (ms : List ℕ) (t : ℕ) (s : Actors) (b : ℕ) → has ms b ≡ false → mail_at (ask_all ms t s) b ≡ mail_at s b
@@ -179,7 +179,7 @@ module _ (s : Actors) (d : Detector) (ns : List Note) (rising : IsRising d.kept)
       (λ below. below)
       (λ past.
       let q = named (largest_closed (candidates d)) m h in
-      let some = each_In (λ (r : Report). kept_report d.kept r.actor ≡ Some r) (largest_closed (candidates d)) chosen.kept q.0 q.1 in
+      let some = each_contained (λ (r : Report). kept_report d.kept r.actor ≡ Some r) (largest_closed (candidates d)) chosen.kept q.0 q.1 in
       let none = (kept.unmade m past).0 in
       absurd (some_not_none (ap (kept_report d.kept) (sym q.2) ∙ some) none))
       (cases_lt m (length s))
@@ -188,7 +188,7 @@ module _ (s : Actors) (d : Detector) (ns : List Note) (rising : IsRising d.kept)
   pub few_asked : length (closed_set d) ≤ length s
   few_asked =
       let asked = largest_closed (candidates d) in
-      let within : AllByRecursion (λ r. r.actor < length s) asked = In_each (λ r. r.actor < length s) asked (λ r i. all_made r.actor (name_In asked r i)) in
+      let within : AllByRecursion (λ r. r.actor < length s) asked = contained_each (λ r. r.actor < length s) asked (λ r i. all_made r.actor (has_name asked r i)) in
       omega (arith, some_le_all (length s) (λ b. 1) asked chosen.rising within, ones asked, ones_below (length s), length-map asked (λ r. r.actor))
 
   pub scan_keeps : (trace : Trace) (all : Thing → Option Row) (confirm : Confirming trace all) (ps : List Person) → KeepsCounts trace all ps s → KeepsCounts trace all ps (ask_all (closed_set d) (suc d.opened) s)

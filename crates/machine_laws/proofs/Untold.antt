@@ -1,5 +1,5 @@
 -- Nothing is told of a reaped actor, and it stays so.
-use Rattle.std.proofs.Common.{◌≡◌, ℕ, not, filter, Bool, true, false, Some, None, List, [], ◌∷◌, refl, ap, sym, ◌∙◌, subst, arith, ⊎_elim}
+use Rattle.std.proofs.Common.{◌≡◌, ◌≢◌, ℕ, not, filter, Bool, true, false, Some, None, List, [], ◌∷◌, refl, ap, sym, ◌∙◌, subst, arith, ⊎_elim}
 use Rattle.std.proofs.lemmas.Bool.{cases_Bool}
 use Rattle.orca_names.specs.declared.names.Thing.TheVariants.{Actor}
 use Rattle.event_rule.specs.declared.event.Event.{Event}
@@ -72,10 +72,10 @@ abbrev Stays : State → Event → State → Type 0
 Stays s e t = (a : ℕ) → IsGone s.actors (Actor a) → IsUntold s a → IsUntold t a
 
 -- who is present is another
-other : (s : State) (a b : ℕ) (o : Seat) → IsGone s.actors (Actor a) → seat_at s.actors b ≡ Some o → b ≡ a → ⊥
+other : (s : State) (a b : ℕ) (o : Seat) → IsGone s.actors (Actor a) → seat_at s.actors b ≡ Some o → b ≢ a
 other s a b o gone at same = gone.1 (record { seat = o; present = ap (seat_at s.actors) (sym same) ∙ at; kept = has_actor o.cell.holdings a })
 
-note_of_other : (a b : ℕ) (l : Letter) → (b ≡ a → ⊥) → SaysNothing a (note_of b l)
+note_of_other : (a b : ℕ) (l : Letter) → b ≢ a → SaysNothing a (note_of b l)
 note_of_other a b (App behaviour args load rows) apart = apart
 note_of_other a b (Inc things) apart = apart
 note_of_other a b (Dec things) apart = apart

@@ -68,7 +68,7 @@ pub record IsNeverTooEarly (program : Program) (options : Options) (book : List 
   pub covered : NeverOverdraws options.trace s.actors
   -- what is reachable is left, and nothing freed is reachable
   pub left : (x : Thing) → IsReachable plain x → IsLeft s.actors x
-  pub freed : (x : Thing) → IsFreed plain.actors s.actors x → IsReachable plain x → ⊥
+  pub freed : (x : Thing) → IsFreed plain.actors s.actors x → ¬ IsReachable plain x
   -- no actor and no letter names what was freed, and no actor reaches it through the rows that it has
   pub named : NamesNothingFreed s.actors
   pub reached : ReachesNothingFreed options.trace s.actors

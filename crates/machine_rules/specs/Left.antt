@@ -21,4 +21,4 @@ IsMade actors (Obj n) = is_some (plain_row actors n) ≡ true
 
 -- it was made and is no longer there
 abbrev pub IsFreed : List PlainActor → Actors → Thing → Type 0
-IsFreed made actors x = IsMade made x × (IsLeft actors x → ⊥)
+IsFreed made actors x = IsMade made x × (¬ IsLeft actors x)

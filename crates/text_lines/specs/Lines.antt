@@ -1,5 +1,5 @@
 -- The lines of a text, and what may be wrong with a line by itself.
-use Rattle.std.specs.Prelude.{ℕ, ◌+◌, ◌≡◌, Bool, List, [], ◌∷◌, ◌==◌, ◌||◌, ◌&&◌, Option, Some, None, nat_lt, nat_le, not, if◌then◌else◌, length, slice_range}
+use Rattle.std.specs.Prelude.{ℕ, ◌+◌, ◌≡◌, Bool, List, [], ◌∷◌, ◌==◌, ◌||◌, ◌&&◌, Option, Some, None, nat_lt, nat_le, not, if◌then◌else◌, length, slice_range, ⊤}
 use Rattle.std.specs.List.{slice_split, list_any}
 use Rattle.text_lines.specs.declared.LineKind.{LineKind}
 use Rattle.text_lines.specs.declared.LineKind.TheVariants.{NotAscii, LongLine}
@@ -40,5 +40,5 @@ line_at bytes span = (slice_range bytes span.from span.to, span.fault)
 
 -- the first span begins at this place, and each next one behind the line feed of the one before it
 abbrev pub FollowFrom : ℕ → List LineSpan → Type 0
-FollowFrom place [] = Unit {0}
+FollowFrom place [] = ⊤
 FollowFrom place (span ∷ spans) = (span.from ≡ place) × FollowFrom (span.to + 1) spans

@@ -1,7 +1,7 @@
 -- Proves that what a segment leaves names only what the actor knows.
 use Rattle.std.proofs.Common.{◌≡◌, ℕ, zero, suc, ◌+◌, ◌-◌, ◌<◌, ◌≤◌, ◌&&◌, ◌==◌, cond, Bool, true, false, List, [], ◌∷◌, ◌++◌, length, drop, map, Contains, Option, None, Some, refl, sym, ap₂, subst, eq-eqb, arith, length-append}
 use Rattle.std.specs.List.{AllByRecursion}
-use Rattle.std.specs.Prelude.{nat_le, slice_get, slice_index_or, slice_set, unwrap_or}
+use Rattle.std.specs.Prelude.{nat_le, slice_get, slice_index_or, slice_set, unwrap_or, ⊤}
 use Rattle.std.specs.Option.{option_map_or}
 use Rattle.std.proofs.lemmas.Bool.{le-leb}
 use Rattle.std.proofs.lemmas.List.Elements.{Contains-append_left, Contains-append_right, filter_map-append}
@@ -33,8 +33,8 @@ is_made-own p n i e =
 
 -- what an effect gives away is known
 abbrev pub KnowsEffect : (Thing → Type 0) → Effect → Type 0
-KnowsEffect K Next = Unit {0}
-KnowsEffect K (Leap label) = Unit {0}
+KnowsEffect K Next = ⊤
+KnowsEffect K (Leap label) = ⊤
 KnowsEffect K (Acts act) = Knows K (act_values act)
 
 pub KnowsEffect-leap : (K : Thing → Type 0) (n label : ℕ) → KnowsEffect K (leap_if_zero n label)

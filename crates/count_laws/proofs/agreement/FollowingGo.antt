@@ -74,7 +74,7 @@ rows_alike xs a y z same (things.Obj n) = read xs a n.owner
 pub fresh_is : (w : ℕ) (program : Program) (kind : ℕ) → IsFresh w (fresh_cell w program kind).holdings
 fresh_is w program kind = (refl, (λ k. m.get-empty nat_cmp k), (λ x. m.get-empty thing_cmp x))
 
-pub fresh_blank : (w : ℕ) (program : Program) (kind : ℕ) (x : Thing) → StartsWalks (fresh_cell w program kind) x → ⊥
+pub fresh_blank : (w : ℕ) (program : Program) (kind : ℕ) (x : Thing) → ¬ StartsWalks (fresh_cell w program kind) x
 fresh_blank w program kind x (in_fields h) = nulls_name_nothing (field_count program kind) x h
 fresh_blank w program kind x (in_frame h) = h
 fresh_blank w program kind x (in_table h) = absurd (let z = fresh_held w (fresh_cell w program kind).holdings (fresh_is w program kind) x in omega arith)

@@ -316,12 +316,12 @@ module _ (p : PlainState) where
           abbrev grown : List PlainActor
           grown = turned ++ fresh_actor program kind ∷ []
 
-          not_root : IsRootPerson (person_of_plain (fresh_actor program kind)) → ⊥
+          not_root : ¬ IsRootPerson (person_of_plain (fresh_actor program kind))
           not_root (inl e) = cc
           not_root (inr (inl f)) = f refl
           not_root (inr (inr f)) = f refl
 
-          holds_nothing : (z : Thing) → Holds (person_of_plain (fresh_actor program kind)) z → ⊥
+          holds_nothing : (z : Thing) → ¬ Holds (person_of_plain (fresh_actor program kind)) z
           holds_nothing z (inl n) = nulls_name_nothing (field_count program kind) z n
           holds_nothing z (inr (inl h)) = h
           holds_nothing z (inr (inr h)) = elim h [ ]
@@ -386,7 +386,7 @@ module _ (p : PlainState) where
           by_room false e = cc
 
       -- what was made before is not new
-      not_fresh : (z : Thing) → IsMade p.actors z → Fresh z → ⊥
+      not_fresh : (z : Thing) → IsMade p.actors z → ¬ Fresh z
       not_fresh (Actor b) made new = let e = fresh_actor_is b new in omega arith
       not_fresh (Obj n) made (inl bad) = cc
       not_fresh (Obj n) made (inr (i, below, is)) =

@@ -237,7 +237,7 @@ module _ (a : ℕ) (c : Cell) where
   reap_away s below (Some t) out =
       ap (λ actors. Goes (record s { actors = actors; detector = close_token t s.detector })) (put_reaped t.members s.actors below (out t refl))
 
-other_than : (a b : ℕ) → (Some b ≡ Some a → ⊥) → b ≢ a
+other_than : (a b : ℕ) → Some b ≢ Some a → b ≢ a
 other_than a b h e = h (ap Some e)
 
 pub cells_away : CellsCanBeAway

@@ -121,7 +121,7 @@ reap_keeps options.Roots = reap_keeps_roots
 
 pub make_keeps : (trace : Trace) (wt : ℕ) (heavy : 0 < wt) (all : Thing → Option Row) (ps : List Person) (s : Actors) (inv : KeepsCounts trace all ps s)
     (a : ℕ) (c : Cell) (ls : List Letter) (at : seat_at s a ≡ seat c ls) (f : Frame) (frame : c.frame ≡ Some f) (into : ℕ)
-    (fresh : Cell) (is_fresh : IsFresh wt fresh.holdings) (blank : (x : Thing) → StartsWalks fresh x → ⊥) (unlearned : (x : Thing) → m.get fresh.known x ≡ None)
+    (fresh : Cell) (is_fresh : IsFresh wt fresh.holdings) (blank : (x : Thing) → ¬ StartsWalks fresh x) (unlearned : (x : Thing) → m.get fresh.known x ≡ None)
     → KeepsCounts trace all (set ps a (person_of (record c { frame = Some (with_name f into (length s)); holdings = gain wt (Actor (length s)) None c.holdings }) ls) ++ person_of fresh [] ∷ [])
     (make wt a (record c { frame = Some (with_name f into (length s)) }) ls fresh s)
 make_keeps Deep wt heavy all ps s inv a c ls at f frame into fresh is_fresh blank unlearned = make_keeps_counts wt heavy all ps s inv a c ls at f frame into fresh is_fresh blank

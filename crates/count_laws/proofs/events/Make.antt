@@ -59,16 +59,16 @@ agrees_more ps s c ls long ag = record {
         (λ past. get_or_past (ps ++ person_of c ls ∷ []) i nobody (let z = length-append ps (person_of c ls ∷ []) in omega arith) ∙ sym (get_or_past ps i nobody (omega arith)))
         (cases_lt i (length s))
 
-none_some : (r : Row) → Some r ≡ None → ⊥
+none_some : (r : Row) → Some r ≢ None
 none_some r e = cc
 
-none_some' : (r : ℕ × Option Row) → None ≡ Some r → ⊥
+none_some' : (r : ℕ × Option Row) → None ≢ Some r
 none_some' r e = cc
 
-obj_actor : (q : ObjName) (n : ℕ) → Obj q ≡ Actor n → ⊥
+obj_actor : (q : ObjName) (n : ℕ) → Obj q ≢ Actor n
 obj_actor q n e = cc
 
-no_way : false ≡ true → ⊥
+no_way : false ≢ true
 no_way e = cc
 
 fresh_has : (w : ℕ) (q : ObjName) (c : Holdings) → IsFresh w c → has_own c (Obj q) ≡ false
@@ -114,7 +114,7 @@ module _ (trace : Trace) (wt : ℕ) (heavy : 0 < wt) (all : Thing → Option Row
 
 module _ (wt : ℕ) (heavy : 0 < wt) (all : Thing → Option Row) (ps : List Person) (s : Actors) (inv : KeepsCounts Deep all ps s)
     (a : ℕ) (c : Cell) (ls : List Letter) (at : seat_at s a ≡ seat c ls) (f : Frame) (frame : c.frame ≡ Some f) (into : ℕ)
-    (fresh : Cell) (is_fresh : IsFresh wt fresh.holdings) (blank : (x : Thing) → StartsWalks fresh x → ⊥) where
+    (fresh : Cell) (is_fresh : IsFresh wt fresh.holdings) (blank : (x : Thing) → ¬ StartsWalks fresh x) where
   abbrev n : ℕ
   n = length s
 

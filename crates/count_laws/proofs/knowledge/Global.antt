@@ -1,5 +1,5 @@
 -- What each actor knows stays so where a seat changes, a letter is pushed, an actor is made or the map of all rows grows.
-use Rattle.std.proofs.Common.{◌≡◌, ◌⊎◌, ℕ, ◌<◌, Option, Some, List, [], ◌∷◌, ◌++◌, length, set, refl, sym, ◌∙◌, arith, ⊎_elim}
+use Rattle.std.proofs.Common.{◌≡◌, ◌≢◌, ◌⊎◌, ℕ, ◌<◌, Option, Some, List, [], ◌∷◌, ◌++◌, length, set, refl, sym, ◌∙◌, arith, ⊎_elim}
 use Rattle.std.proofs.lemmas.Bool.{cases_eq}
 use Rattle.std.proofs.lemmas.List.Sums.{sum_by-cons}
 use Rattle.letter_kinds.proofs.Counts.{loaded-same, loaded_more}
@@ -46,7 +46,7 @@ sound_push all s b l o at ok sound = rw (push_is s b l o at)
 
 -- the map of all rows grows by things that are not left
 module _ (all all' : Thing → Option Row) (New : Thing → Type 0) (only : (x : Thing) → (all' x ≡ all x) ⊎ New x)
-    (s : Actors) (bal : Balanced s) (p : NeverOverdraws Deep s) (unborn : (x : Thing) → New x → IsLeft s x → ⊥) (bare : (x : Thing) (r : Row) → New x → all x ≡ Some r → ⊥) where
+    (s : Actors) (bal : Balanced s) (p : NeverOverdraws Deep s) (unborn : (x : Thing) → New x → ¬ IsLeft s x) (bare : (x : Thing) (r : Row) → New x → all x ≢ Some r) where
   still : (x : Thing) → IsLeft s x → all' x ≡ all x
   still x left = ⊎_elim (λ e. e) (λ new. absurd (unborn x new left)) (only x)
 

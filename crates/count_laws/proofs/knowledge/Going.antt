@@ -1,5 +1,5 @@
 -- A turn of an actor: what it knows afterwards, and that the plain machine takes the same turn.
-use Rattle.std.proofs.Common.{◌≡◌, ◌⊎◌, ℕ, ◌+◌, ◌<◌, ◌≤◌, Bool, true, false, Option, Some, None, is_some, List, [], ◌∷◌, length, get_or, refl, sym, ◌∙◌, ap, arith, subst, inl, inr, eq-eqb}
+use Rattle.std.proofs.Common.{◌≡◌, ◌≢◌, ◌⊎◌, ℕ, ◌+◌, ◌<◌, ◌≤◌, Bool, true, false, Option, Some, None, is_some, List, [], ◌∷◌, length, get_or, refl, sym, ◌∙◌, ap, arith, subst, inl, inr, eq-eqb}
 use Rattle.std.specs.FinMap as m
 use Rattle.std.specs.Prelude.{option_map}
 use Rattle.orca_names.specs.declared.names.ObjName.{ObjName}
@@ -135,10 +135,10 @@ module _ (program : Program) (all all' : Thing → Option Row) (ps : List Person
     held_after x = held-made a c.holdings.next turn.turn.made c.holdings fresh x
 
     -- the rows made are not left before
-    unborn : (x : Thing) → Made a c.holdings.next turn.turn.made x → IsLeft s x → ⊥
+    unborn : (x : Thing) → Made a c.holdings.next turn.turn.made x → ¬ IsLeft s x
     unborn x (i, h, e) left = not_left i (subst (IsLeft s) e left)
       where
-        not_left : (i : ℕ) → IsLeft s (object a (c.holdings.next + i)) → ⊥
+        not_left : (i : ℕ) → ¬ IsLeft s (object a (c.holdings.next + i))
         not_left i left =
             let z = some_seat c left.seat.cell ls left.seat.mail (sym at ∙ left.present) in
             let n = has_none a (c.holdings.next + i) c.holdings (fresh (c.holdings.next + i) (omega arith)) in
@@ -148,7 +148,7 @@ module _ (program : Program) (all all' : Thing → Option Row) (ps : List Person
     sound_after = sound_grown all all' (Made a c.holdings.next turn.turn.made) grows.only s (in_hand s inv.balanced) inv.prefixes unborn
         (λ x r new e. bare_new x r new e) inv.sound
       where
-        bare_new : (x : Thing) (r : Row) → Made a c.holdings.next turn.turn.made x → all x ≡ Some r → ⊥
+        bare_new : (x : Thing) (r : Row) → Made a c.holdings.next turn.turn.made x → all x ≢ Some r
         bare_new x r new e = let z = grows.past (c.holdings.next + new.0) (omega arith) in let q = new.2 in let w = ap all q in cc
         -- a load that is exact over the actor's own rows is exact over all
 

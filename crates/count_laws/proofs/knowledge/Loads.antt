@@ -35,7 +35,7 @@ things_of row (x ∷ xs) = ap (λ ys. x ∷ ys) (things_of row xs)
 module _ (rows : ObjName → Option Row) (all : List ObjName) (args : List Value) (covers : Covers all rows) where
   -- a thing is reached and loaded once, or is neither
   once_or_not : (x : Thing) → (ReachesThrough (thing_row rows) (Names args) x × (times_loaded x (load_of rows all args) ≡ 1))
-      ⊎ ((ReachesThrough (thing_row rows) (Names args) x → ⊥) × (times_loaded x (load_of rows all args) ≡ 0))
+      ⊎ ((¬ ReachesThrough (thing_row rows) (Names args) x) × (times_loaded x (load_of rows all args) ≡ 0))
   unfolding times_loaded
   once_or_not x = let exact = loads-exact rows all args covers in ⊎_elim
       (λ r. inl (along_rows rows (λ y n. n) r, exact.once x r))

@@ -129,10 +129,10 @@ module _ (all all' : Thing → Option Row) (none : NoActorRows all') (me base : 
   after = record c { fields = fields; frame = frame; dirty = dirty; holdings = made_from base made c.holdings }
 
   -- a thing that was known is none of those made
-  pub known_not_made : (x : Thing) → IsKnown me c.holdings x → Made me base made x → ⊥
+  pub known_not_made : (x : Thing) → IsKnown me c.holdings x → ¬ Made me base made x
   known_not_made x k (i, h, e) = known_not i h (subst (IsKnown me c.holdings) e k)
     where
-      known_not : (i : ℕ) → i < length made → IsKnown me c.holdings (Obj (record { owner = me; serial = base + i })) → ⊥
+      known_not : (i : ℕ) → i < length made → ¬ IsKnown me c.holdings (Obj (record { owner = me; serial = base + i }))
       known_not i h (inl own) = let b = old_below me base made c.holdings fresh (record { owner = me; serial = base + i }) own.1 in absurd (omega arith)
       known_not i h (inr other) = other.0 refl
 

@@ -1,5 +1,5 @@
 -- An idle actor that did nothing since it collected is swept, after every event.
-use Rattle.std.proofs.Common.{◌≡◌, ◌⊎◌, ℕ, ◌<◌, ◌==◌, ◌||◌, not, cond, Bool, true, false, is_some, Option, Some, None, List, refl, sym, ap, subst, ◌∙◌, arith, inl, inr, ⊎_elim, eq-eqb, ne_eqb}
+use Rattle.std.proofs.Common.{◌≡◌, ◌≢◌, ◌⊎◌, ℕ, ◌<◌, ◌==◌, ◌||◌, not, cond, Bool, true, false, is_some, Option, Some, None, List, refl, sym, ap, subst, ◌∙◌, arith, inl, inr, ⊎_elim, eq-eqb, ne_eqb}
 use Rattle.std.proofs.lemmas.Bool.{cases_eq}
 use Rattle.std.specs.FinMap as m
 use Rattle.std.specs.Ordering.{nat_cmp}
@@ -91,11 +91,11 @@ module _ (marked : Thing → Bool) (me : ℕ) (c : Cell)
 
 -- ---- an actor that was just made has nothing to sweep
 
-none_there : (o : Option (Row × ℕ)) → o ≡ None → is_some o ≡ true → ⊥
+none_there : (o : Option (Row × ℕ)) → o ≡ None → is_some o ≢ true
 none_there None e h = cc
 none_there (Some r) e h = cc
 
-no_entry : (o : Option (ℕ × Option Row)) (e : ℕ × Option Row) → o ≡ None → o ≡ Some e → ⊥
+no_entry : (o : Option (ℕ × Option Row)) (e : ℕ × Option Row) → o ≡ None → o ≢ Some e
 no_entry None e n is = cc
 no_entry (Some r) e n is = cc
 

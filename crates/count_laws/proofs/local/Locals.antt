@@ -1,5 +1,5 @@
 -- A fact that speaks of one actor alone, and is kept as `Local` says, holds of every actor after every event.
-use Rattle.std.proofs.Common.{◌≡◌, ℕ, ◌<◌, nat_lt, Bool, true, false, Option, Some, None, List, [], ◌∷◌, length, set, refl, ap, sym, ◌∙◌, subst}
+use Rattle.std.proofs.Common.{◌≡◌, ◌≢◌, ℕ, ◌<◌, nat_lt, Bool, true, false, Option, Some, None, List, [], ◌∷◌, length, set, refl, ap, sym, ◌∙◌, subst}
 use Rattle.std.specs.Prelude.{if◌then◌else◌}
 use Rattle.orca_names.specs.Names.{owner_of, is_thing}
 use Rattle.orca_names.specs.declared.names.Thing.{Thing}
@@ -71,7 +71,7 @@ module _ (trace : Trace) (Q : ℕ → Cell → List Letter → Type 0) (local : 
         every_more Q (set s.actors a (seat maker mail)) (fresh_cell s.options.weight s.program kind) [] (local.fresh s.options.weight s.program _ kind)
         (every_here s.actors a _ maker mail going.present (local.make s.options.weight a n after mail (later_frame trace s a c f) g (present_below s.actors a _ going.present) refl (here h)) h)
 
-    on_mint : (owner : ℕ) (things : List Amount) → ((x : Thing) → 0 < amount_of x things → ((owner_of x ≡ a) → ⊥)) → Every Q s.actors → Every Q (mint a c mail owner things s.actors)
+    on_mint : (owner : ℕ) (things : List Amount) → ((x : Thing) → 0 < amount_of x things → (owner_of x ≢ a)) → Every Q s.actors → Every Q (mint a c mail owner things s.actors)
     on_mint owner things others h = every_letter _ owner (Inc things)
         (every_here s.actors a _ (record c { holdings = mint_all things c.holdings }) mail going.present
         (local.mint a c mail f things going.framed others (h a c mail going.present)) h)
@@ -113,5 +113,5 @@ module _ (trace : Trace) (Q : ℕ → Cell → List Letter → Type 0) (local : 
   pub every_first : (program : Program) (options : Options) → Every Q (first_state program options).actors
   every_first program options = every_more Q [] _ _ (local.start program) (λ a c mail at. absurd (nowhere a c mail at))
     where
-      nowhere : (a : ℕ) (c : Cell) (mail : List Letter) → seat_at [] a ≡ seat c mail → ⊥
+      nowhere : (a : ℕ) (c : Cell) (mail : List Letter) → seat_at [] a ≢ seat c mail
       nowhere a c mail at = cc

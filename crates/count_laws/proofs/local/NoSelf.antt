@@ -36,7 +36,7 @@ swept_none : (b : Bool) (n : ℕ) → n ≡ 0 → cond b n 0 ≡ 0
 swept_none true n e = e
 swept_none false n e = refl
 
-none_minted : (n k : ℕ) → n ≡ 0 → (0 < k → ⊥) → n + k ≡ 0
+none_minted : (n k : ℕ) → n ≡ 0 → ¬ (0 < k) → n + k ≡ 0
 none_minted n zero e f = omega arith
 none_minted n (suc k) e f = absurd (f (omega arith))
 

@@ -1,6 +1,6 @@
 -- Where every actor is at rest, each object that is left is reached from the fields of an actor that is
 -- present; and if each present actor lives in the plain machine, just what lives there is left.
-use Rattle.std.proofs.Common.{◌≡◌, ◌↔◌, ℕ, zero, suc, ◌<◌, Option, Some, None, List, [], ◌∷◌, get_or, refl, sym, ◌∙◌, arith, subst, inl, ⊎_elim}
+use Rattle.std.proofs.Common.{◌≡◌, ◌≢◌, ◌↔◌, ℕ, zero, suc, ◌<◌, Option, Some, None, List, [], ◌∷◌, get_or, refl, sym, ◌∙◌, arith, subst, inl, ⊎_elim}
 use Rattle.std.specs.FinMap as m
 use Rattle.std.specs.Prelude.{sum_by}
 use Rattle.std.proofs.lemmas.List.Sums.{sum_by-cons}
@@ -137,7 +137,7 @@ module _ (all : Thing → Option Row) (people : List Person) (s : Actors) (inv :
       row_on : (x y : Thing) (r : Row) → Lives all people x → all x ≡ Some r → Names r y → Lives all people y
       row_on (Actor d) y r p e n = absurd (none_some r (sym (inv.bare d) ∙ e))
         where
-          none_some : (r : Row) → None ≡ Some r → ⊥
+          none_some : (r : Row) → None ≢ Some r
           none_some r e = cc
       row_on (Obj o) y r p e n = row p e n
 

@@ -1,5 +1,5 @@
 -- With root-only tracing, an idle actor that did nothing since it collected has just what is marked, after every event.
-use Rattle.std.proofs.Common.{◌≡◌, ℕ, cond, Bool, true, false, is_some, Option, Some, None, List, refl, sym, ◌∙◌, arith, ⊎_elim}
+use Rattle.std.proofs.Common.{◌≡◌, ◌≢◌, ℕ, cond, Bool, true, false, is_some, Option, Some, None, List, refl, sym, ◌∙◌, arith, ⊎_elim}
 use Rattle.std.specs.FinMap as m
 use Rattle.std.specs.Ordering.{nat_cmp}
 use Rattle.orca_names.specs.Names.{thing_cmp}
@@ -69,11 +69,11 @@ module _ (a : ℕ) (c : Cell) where
 
 -- ---- all events
 
-no_row : (o : Option (Row × ℕ)) → o ≡ None → is_some o ≡ true → ⊥
+no_row : (o : Option (Row × ℕ)) → o ≡ None → is_some o ≢ true
 no_row None e h = cc
 no_row (Some r) e h = cc
 
-no_entry : (o : Option (ℕ × Option Row)) (e : ℕ × Option Row) → o ≡ None → o ≡ Some e → ⊥
+no_entry : (o : Option (ℕ × Option Row)) (e : ℕ × Option Row) → o ≡ None → o ≢ Some e
 no_entry None e n is = cc
 no_entry (Some r) e n is = cc
 

@@ -87,7 +87,7 @@ module _ (marked : Thing → Bool) (me : ℕ) (h : Holdings) where
   stayed false None row e = cc
   stayed false (Some r) row e = ⊎_elim (λ z. absurd (let w = rw (eq-eqb r.1 0 z) at e in none_some row w)) (λ n. (rw (ne_eqb r.1 0 n) at e, inr (omega arith))) (cases_eq r.1 0)
     where
-      none_some : (row : Row) → None ≡ Some row → ⊥
+      none_some : (row : Row) → None ≢ Some row
       none_some row e = cc
 
   pub own_row-stayed : (n : ObjName) (row : Row) → own_row_of me (sweep marked me h) n ≡ Some row → (own_row_of me h n ≡ Some row) × ((marked (Obj n) ≡ true) ⊎ (0 < own_in h (Obj n)))
@@ -99,7 +99,7 @@ module _ (marked : Thing → Bool) (me : ℕ) (h : Holdings) where
       (λ o. absurd (none_some row (rw (ne_eqb n.owner me o) at e)))
       (cases_eq n.owner me)
     where
-      none_some : (row : Row) → None ≡ Some row → ⊥
+      none_some : (row : Row) → None ≢ Some row
       none_some row e = cc
 
   pub own_row-marked : (n : ObjName) (row : Row) → marked (Obj n) ≡ true → own_row_of me h n ≡ Some row → own_row_of me (sweep marked me h) n ≡ Some row
@@ -111,7 +111,7 @@ module _ (marked : Thing → Bool) (me : ℕ) (h : Holdings) where
       (λ o. absurd (let z = own_is_none me h n o in none_some row (sym z ∙ e)))
       (cases_eq n.owner me)
     where
-      none_some : (row : Row) → None ≡ Some row → ⊥
+      none_some : (row : Row) → None ≢ Some row
       none_some row e = cc
 
 -- ---- a collection
@@ -130,7 +130,7 @@ module _ (all : Thing → Option Row) (ps : List Person) (s : Actors) (inv : Kee
   here : IsRootsAt all a c ls
   here = inv.sound a c ls at
 
-  none_some : (row : Row) → None ≡ Some row → ⊥
+  none_some : (row : Row) → None ≢ Some row
   none_some row e = cc
 
   -- what an own row that stays names is marked
@@ -150,7 +150,7 @@ module _ (all : Thing → Option Row) (ps : List Person) (s : Actors) (inv : Kee
   name_marked x (by_field n) = (by_field n, root (starts_field a c x n))
   name_marked x (by_frame n) = absurd (no_frame (subst (λ o. InFrame o x) idle n))
     where
-      no_frame : InFrame None x → ⊥
+      no_frame : ¬ InFrame None x
       no_frame h = elim h [ ]
   name_marked x (by_row n row e nm) =
       let z = row_marked n row e in (by_row n row z.0 nm, along_row (thing_row (own_row_of a c.holdings)) z.1 z.0 nm)
@@ -196,7 +196,7 @@ module _ (all : Thing → Option Row) (ps : List Person) (s : Actors) (inv : Kee
       ))
       (λ n p. (owned p.0, ⊎_elim (λ used. inl (owned used)) (λ self. absurd (obj_actor n self)) p.1)) h
     where
-      obj_actor : (n : ObjName) → Obj n ≡ Actor a → ⊥
+      obj_actor : (n : ObjName) → Obj n ≢ Actor a
       obj_actor n e = cc
 
   known_kept : (n : ObjName) (row : Row) → m.get d.known (Obj n) ≡ Some row → m.get c.known (Obj n) ≡ Some row
@@ -215,7 +215,7 @@ module _ (all : Thing → Option Row) (ps : List Person) (s : Actors) (inv : Kee
       let z = walk_used (Obj n) h in
       known_stays n (⊎_elim (λ used. used) (λ self. absurd (obj_actor n self)) z.1) ∙ here.brought n row out z.0 is
     where
-      obj_actor : (n : ObjName) → Obj n ≡ Actor a → ⊥
+      obj_actor : (n : ObjName) → Obj n ≢ Actor a
       obj_actor n e = cc
 
   -- what is in use is led to by what is marked, which is known still
@@ -247,7 +247,7 @@ module _ (all : Thing → Option Row) (ps : List Person) (s : Actors) (inv : Kee
       (λ x y r p e n. inl (⊎_elim (λ k. along_row (thing_row (own_row_of a c.holdings)) k e n) (λ self. absurd (none_some r (ap (thing_row (own_row_of a c.holdings)) (sym self) ∙ e))) p))
       (λ n p. ⊎_elim (λ k. inl (owned k)) (λ self. absurd (obj_actor n self)) p) h
     where
-      obj_actor : (n : ObjName) → Obj n ≡ Actor a → ⊥
+      obj_actor : (n : ObjName) → Obj n ≢ Actor a
       obj_actor n e = cc
 
   counted_kept : (x : Thing) → owner_of x ≡ a → 0 < own_in c.holdings x → IsKept x
@@ -280,7 +280,7 @@ module _ (all : Thing → Option Row) (ps : List Person) (s : Actors) (inv : Kee
         (λ n p. (⊎_elim (λ k. inl (owned k)) (λ self. absurd (obj_actor n self)) p.0, owned p.1)) b.leads).1;
   }
     where
-      obj_actor : (n : ObjName) → Obj n ≡ Actor a → ⊥
+      obj_actor : (n : ObjName) → Obj n ≢ Actor a
       obj_actor n e = cc
 
       from_kept : IsKept b.from

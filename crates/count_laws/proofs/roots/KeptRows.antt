@@ -129,7 +129,7 @@ module _ (all : Thing → Option Row) (ps : List Person) (s : Actors) (inv : Kee
   up : (n : ObjName) → Along (Obj n) → Along (Actor n.owner)
   up n p = record { walks = owned p.walks; used = owned p.used; own = λ o. inr (ap Actor o); after = owned p.after }
 
-  not_actor : (n : ObjName) → Obj n ≡ Actor a → ⊥
+  not_actor : (n : ObjName) → Obj n ≢ Actor a
   not_actor n e = cc
 
   -- an own thing that another's object names is held by that other, so the counted lead to it

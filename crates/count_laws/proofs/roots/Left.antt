@@ -1,5 +1,5 @@
 -- With root-only tracing: what is held, loaded or named is left, and so is all that it leads to.
-use Rattle.std.proofs.Common.{◌≡◌, ◌⊎◌, ℕ, zero, suc, ◌+◌, ◌<◌, true, Option, Some, None, List, [], ◌∷◌, drop, take, refl, sym, ◌∙◌, ap, arith, subst, inl, inr, ⊎_elim}
+use Rattle.std.proofs.Common.{◌≡◌, ◌≢◌, ◌⊎◌, ℕ, zero, suc, ◌+◌, ◌<◌, true, Option, Some, None, List, [], ◌∷◌, drop, take, refl, sym, ◌∙◌, ap, arith, subst, inl, inr, ⊎_elim}
 use Rattle.std.specs.Prelude.{sum_by}
 use Rattle.std.proofs.lemmas.Bool.{cases_eq}
 use Rattle.std.proofs.lemmas.List.Sums.{sum_by-cons}
@@ -86,7 +86,7 @@ module _ (all : Thing → Option Row) (s : Actors) (bal : Balanced s) (sound : E
       (let w = sum-at (loads_at x) s a None (present_below s a _ at) in let w' = rw at at w in let l = loads_at-seat x c ls in omega arith)
 
   -- what is left leads to what is left
-  pub row_left : (x y : Thing) (r : Row) → IsLeft s x → all x ≡ Some r → Names r y → (Actor (owner_of x) ≡ x → ⊥) → IsLeft s y
+  pub row_left : (x y : Thing) (r : Row) → IsLeft s x → all x ≡ Some r → Names r y → Actor (owner_of x) ≢ x → IsLeft s y
   row_left (Actor i) y r left e n object = absurd (object refl)
   row_left (Obj n) y r left e nm object =
       let q = sound n.owner left.seat.cell left.seat.mail left.present in

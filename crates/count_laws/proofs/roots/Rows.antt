@@ -138,7 +138,7 @@ module _ (all : Thing → Option Row) (s : Actors) (bal : Balanced s) (sound : E
         bare_root : (args : List Value) (x : Thing) → ReachesThrough (thing_row (λ n. None)) (Names args) x → IsRootOf args x
         bare_root args x h = reach_into (thing_row (λ n. None)) (IsRootOf args) (λ x n. stands n) (λ x y r p e n. absurd (no_row x r e)) (λ n p. owner_root args (Obj n) p) h
           where
-            no_row : (x : Thing) (r : Row) → thing_row (λ n. None) x ≡ Some r → ⊥
+            no_row : (x : Thing) (r : Row) → thing_row (λ n. None) x ≢ Some r
             no_row (Actor b) r e = cc
             no_row (Obj n) r e = cc
 

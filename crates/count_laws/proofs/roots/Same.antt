@@ -52,7 +52,7 @@ own_row_has me h n row e = ⊎_elim
     (λ other. absurd (let z = rw (ne_eqb n.owner me other) at e in no_row row z))
     (cases_eq n.owner me)
   where
-    no_row : (row : Row) → None ≡ Some row → ⊥
+    no_row : (row : Row) → None ≢ Some row
     no_row row e = cc
 
 pub has_own_row : (me : ℕ) (h : Holdings) (n : ObjName) → n.owner ≡ me → has_own h (Obj n) ≡ true → (row : Row) × (own_row_of me h n ≡ Some row)

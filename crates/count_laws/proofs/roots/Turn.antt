@@ -70,7 +70,7 @@ find_some p (y ∷ ys) x e = by_test (p y) refl e (find_some p ys x)
     by_test true t e rest = let same : y ≡ x = cc in (subst (Contains (y ∷ ys)) same (Contains-head y ys), ap p (sym same) ∙ t)
     by_test false t e rest = let z = rest e in (Contains-later y ys x z.0, z.1)
 
-gone : (o : Option (Row × ℕ)) → o ≡ None → is_some o ≡ true → ⊥
+gone : (o : Option (Row × ℕ)) → o ≡ None → is_some o ≢ true
 gone None e f = cc
 gone (Some q) e f = cc
 
@@ -102,7 +102,7 @@ module _ (a : ℕ) (made : List Row) (h : Holdings) (fresh : (k : ℕ) → h.nex
       (λ o. absurd (no_row row (sym (own_is_none a after_made n o) ∙ (own_spelled n ∙ e))))
       (cases_eq n.owner a)
     where
-      no_row : (row : Row) → None ≡ Some row → ⊥
+      no_row : (row : Row) → None ≢ Some row
       no_row row e = cc
 
       same_row : (o : Option (Row × ℕ)) (r row : Row) → o ≡ Some (r, 0) → own_row o ≡ Some row → row ≡ r
@@ -207,11 +207,11 @@ module _ (program : Program) (all all' : Thing → Option Row) (ps : List Person
           by_entry (Some q) e = absurd (let z = here.mine (record { owner = a; serial = k }) q.0 (rw (eq-eqb a a refl) (ap own_row e)) in let w = grows.past k past in cc)
 
       -- a thing that was made now was not reached
-      unborn : (x : Thing) → IsLeft s x → MadeAny a c.holdings.next x → ⊥
+      unborn : (x : Thing) → IsLeft s x → ¬ MadeAny a c.holdings.next x
       unfolding has_own
       unborn x left (i, e) = not_left i (subst (IsLeft s) e left)
         where
-          not_left : (i : ℕ) → IsLeft s (object a (c.holdings.next + i)) → ⊥
+          not_left : (i : ℕ) → ¬ IsLeft s (object a (c.holdings.next + i))
           not_left i left =
               let z = some_seat c left.seat.cell ls left.seat.mail (sym at ∙ left.present) in
               let n = fresh (c.holdings.next + i) (omega arith) in
