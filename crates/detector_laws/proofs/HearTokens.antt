@@ -97,7 +97,8 @@ unblock_heard cell mail loaded d a ns k =
 
 ack_heard : (cell : ℕ → Option Cell) (mail : ℕ → List Letter) (loaded : ℕ → ℕ) (d : Detector) (u a : ℕ) (ns : List Note) → SoundTokens d cell mail loaded (Ack u a ∷ ns) → SoundTokens (hear_note (Ack u a) d) cell mail loaded ns
 ack_heard cell mail loaded d u a ns k =
-    let from = λ (t : Token) (i : Contains (map (note_ack u a) d.tokens) t). let (v, j, e) = Contains-from_map (note_ack u a) d.tokens t i in (v, j, sym e) in
+    let from : (t : Token) → Contains (map (note_ack u a) d.tokens) t → (v : Token) × Contains d.tokens v × (t ≡ note_ack u a v) = λ t i.
+    let (v, j, e) = Contains-from_map (note_ack u a) d.tokens t i in (v, j, sym e) in
     record {
       apart = λ t v i j m. let (t', i', e) = from t i in let (v', j', f) = from v j in
           subst (λ x. has x.members m ≡ true → has v.members m ≡ true → x.number ≡ v.number) (sym e)

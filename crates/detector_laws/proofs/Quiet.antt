@@ -17,7 +17,7 @@ use Rattle.detector_laws.proofs.Maps.{at_same, at_other}
 use Rattle.reach_walk.proofs.Elements.{Contains-head}
 use Rattle.detector_laws.proofs.Members.{Contains-filter, Contains-from_filter, each_contained, contained_each}
 use Rattle.detector_laws.proofs.Names.{names, named, has_name}
-use Rattle.detector_laws.proofs.Order.{filter_rising, kept_report-contained}
+use Rattle.detector_laws.proofs.Order.{filter_rising, kept_report-contained, rising_parts}
 use Rattle.detector_laws.proofs.Sums.{sum_below_same, sum_below_at, above_same}
 use Rattle.detector_laws.specs.Balance.{sum_below, ActorsAreBalanced}
 use Rattle.detector_laws.specs.Cells.{held_on, is_reporting}
@@ -169,12 +169,13 @@ told_on-ge m r k h z = ⊎_elim (λ (e : r.actor ≡ m). grind (arith, nat_tests
 all_le_some : (n : ℕ) (f : ℕ → ℕ) (rs : List Report) → AllByRecursion (λ r. r.actor < n) rs → IsRising rs → ((b : ℕ) → b < n → has (names rs) b ≡ false → f b ≡ 0) → sum_below n f ≤ sum_by (λ r. f r.actor) rs
 all_le_some n f [] k h z = omega (arith, sum_below_same n f (λ b. 0) (λ b lt. z b lt refl), zeros n)
 all_le_some n f (r ∷ rs) k h z =
+    let (above, rest) = rising_parts r rs h in
     omega (
       arith,
       sum_by-cons (λ q. f q.actor) r rs,
-      above_same r.actor f rs h.0,
+      above_same r.actor f rs above,
       sum_below_at n r.actor f k.0,
-      all_le_some n (at f r.actor 0) rs k.1 h.1 (λ b lt out. ⊎_elim
+      all_le_some n (at f r.actor 0) rs k.1 rest (λ b lt out. ⊎_elim
           (λ (e : b ≡ r.actor). subst (λ x. at f r.actor 0 x ≡ 0) (sym e) (at_same f r.actor 0))
           (λ (ne : b ≢ r.actor). at_other f r.actor 0 b ne ∙ z b lt (not_head r rs b ne out))
           (cases_eq b r.actor)),

@@ -29,8 +29,8 @@ use Rattle.machine_rules.specs.Next.{next}
 use Rattle.plain_rules.specs.Machine.{PlainState, start_of}
 use Rattle.machine_rules.specs.State.{State, first_state}
 use Rattle.detector_laws.proofs.Members.{contained_each}
-use Rattle.detector_laws.proofs.Order.{kept_report-contained}
-use Rattle.detector_laws.specs.Reports.{AllAbove, ExactReports, IsRising}
+use Rattle.detector_laws.proofs.Order.{AllAbove, kept_report-contained, rising_parts}
+use Rattle.detector_laws.specs.Reports.{ExactReports, IsRising}
 use Rattle.machine_laws.proofs.Telling.{event_tells, told_by_all, told_weaker}
 use Rattle.machine_laws.proofs.WholeRuns.{event_keeps, run_has_facts, start_all}
 use Rattle.machine_laws.specs.AllFacts.{AllFacts}
@@ -122,7 +122,8 @@ rising_length : (low made : ℕ) (rs : List Report) → low ≤ made → AllByRe
 rising_length low made [] fits above below rising = omega arith
 rising_length low made (r ∷ rs) fits above below rising =
     let here = above.0 in let there = below.0 in
-    let later = rising_length (suc r.actor) made rs (omega arith) (higher r.actor rs rising.0) below.1 rising.1 in
+    let (first, rest) = rising_parts r rs rising in
+    let later = rising_length (suc r.actor) made rs (omega arith) (higher r.actor rs first) below.1 rest in
     omega arith
   where
     higher : (a : ℕ) (ks : List Report) → AllAbove a ks → AllByRecursion (λ k. suc a ≤ k.actor) ks

@@ -42,7 +42,8 @@ use Rattle.detector_laws.proofs.Names.{has_name, names, named}
 use Rattle.detector_laws.proofs.Scan.{IsChosen, largest_chosen}
 use Rattle.detector_laws.proofs.Sums.{some_le_all}
 use Rattle.detector_laws.specs.Balance.{sum_below}
-use Rattle.detector_laws.specs.Reports.{IsRising, AllAbove}
+use Rattle.detector_laws.proofs.Order.{AllAbove, rising_parts}
+use Rattle.detector_laws.specs.Reports.{IsRising}
 use Rattle.detector_laws.specs.World as view
 use Rattle.detector_laws.specs.World.{World, ReportsAreExact}
 use Rattle.machine_laws.proofs.Moving.{push_here, push_other, added_cell, push_loads_same}
@@ -156,7 +157,8 @@ above_out a b (r ∷ rs) le h = rw (ne_eqb r.actor b (λ e. let q = h.0 in absur
 
 rising_distinct : (rs : List Report) → IsRising rs → Distinct (names rs)
 rising_distinct [] h = tt
-rising_distinct (r ∷ rs) h = (above_out r.actor r.actor rs (omega arith) h.0, rising_distinct rs h.1)
+rising_distinct (r ∷ rs) h =
+    let (above, rest) = rising_parts r rs h in (above_out r.actor r.actor rs (omega arith) above, rising_distinct rs rest)
 
 ones : (rs : List Report) → sum_by (λ r. 1) rs ≡ length rs
 ones [] = sum-nil (λ (r : Report). 1)

@@ -4,6 +4,7 @@ ghost use Rattle.std.specs.Prelude.{◌≡◌, ◌<◌, length, IfOk, OnErr};
 ghost use Rattle.turn_rules.specs.Segment.{got_by, value_at_place, step_of, value_at};
 ghost use Rattle.turn_step.specs.Held.{first_needed};
 ghost use Rattle.turn_step.specs.Turns.{LeadsTo, setting_of};
+ghost use Rattle.orca_names.specs.declared.limits.TheConstants.{BODY_LIMIT};
 
 use crate::arithmetic::{difference, is_less, is_same, number, product, sum};
 use crate::deed::{Deed, Lead};
@@ -25,7 +26,7 @@ pub(crate) fn step<'p, R: RowReader, H: HeldTest>(
     instr: &'p Instr,
     turn: &mut Turn,
 ) -> Result<Lead<'p>, NoMemory>
-    requires { length turn.old.made < 1024 }
+    requires { length turn.old.made < BODY_LIMIT }
     ensures ok { let p = setting_of setting.now (R.rows rows.old) in
         let needed = first_needed (H.held held.now) (got_by p instr.now turn.old) in
         IfOk result (λ lead. LeadsTo needed (step_of p instr.now turn.old) turn.old lead turn.new) }
