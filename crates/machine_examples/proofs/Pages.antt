@@ -1,5 +1,5 @@
 -- States whose actors stand in places.
-use Rattle.std.proofs.Common.{◌≡◌, if◌then◌else◌, ◌∷◌, Option, Some, None}
+use Rattle.std.proofs.Common.{◌≡◌, if◌then◌else◌, [], ◌∷◌, Option, Some, None}
 use Rattle.behaviour_code.specs.declared.code.Program.{Program}
 use Rattle.machine_examples.proofs.Ledgers.{empty_ledger}
 use Rattle.machine_rules.specs.Cell.{first_cell}
