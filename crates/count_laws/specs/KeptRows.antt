@@ -19,7 +19,8 @@ use Rattle.count_laws.specs.Known.{ReachesThrough}
 -- something that is marked of the first cell leads to it, through own rows and known rows of the
 -- second
 abbrev pub MarkedReach : ℕ → Cell → Cell → Thing → Type 0
-MarkedReach a marked having x = ReachesThrough (thing_row (row_by_roots a having)) (IsInOwnReach a marked) x
+MarkedReach a marked having x =
+    ReachesThrough (thing_row (row_by_roots a having)) (IsInOwnReach a marked) x
 
 -- of the actor's known rows those stay that marked things reach: through the rows that it had
 -- before, or, which is the same, through those that it has afterwards

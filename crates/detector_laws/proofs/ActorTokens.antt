@@ -168,9 +168,6 @@ confirm_tokens w a u ls e k = record {
 
 -- an actor's other events
 
-not_member : (t : Token) (a : ℕ) → has t.members a ≢ true → has t.members a ≡ false
-not_member t a h = false_from_ne_true (has t.members a) h
-
 -- no member of a sealed token moves
 member_stays : (w w' : World) (a : ℕ) → Moves w a w' → (t : Token) → IsSealed w.cell w.mail w.loaded w.notes t → has t.members a ≢ true
 member_stays w w' a mv t s i =
@@ -190,7 +187,7 @@ moved_sealed : (w w' : World) (a : ℕ) → Moves w a w' → (t : Token) → IsS
 moved_sealed w w' a mv t s m i =
     let seal = s m i in
     let ne : m ≢ a = λ e. member_stays w w' a mv t s (subst (λ x. has t.members x ≡ true) e i) in
-    let outside : has t.members a ≡ false = not_member t a (member_stays w w' a mv t s) in
+    let outside : has t.members a ≡ false = false_from_ne_true (has t.members a) (member_stays w w' a mv t s) in
     let away = mv.apart t.members (λ k j. (some_not_none (s k j).blocked.here, (s k j).unloaded, (s k j).held)) outside m i in
     let here = some_not_none seal.blocked.here in
     let same : w'.cell m ≡ w.cell m = ⊎_elim (λ e. e) (λ (new : IsFresh (w.cell m) (w'.cell m)). absurd (here new.absent)) (mv.others m ne) in

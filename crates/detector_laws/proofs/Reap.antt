@@ -85,7 +85,7 @@ reaped_confirms w w' gone r n b = ⊎_elim
 stayed_sealed : (w w' : World) (gone : List ℕ) (u : Token) → Departs w gone w' → ((m : ℕ) → has u.members m ≡ true → has gone m ≡ false) → IsSealed w.cell w.mail w.loaded w.notes u → IsSealed w'.cell w'.mail w'.loaded w.notes u
 stayed_sealed w w' gone u r out s m i =
     let seal = s m i in
-    let unheld = λ (b : ℕ) (j : has gone b ≡ true). seal.held b (other_of u b (λ y. false≢true (sym (out b y) ∙ j))) in
+    let unheld = λ (b : ℕ) (j : has gone b ≡ true). seal.held b (false_from_ne_true (has u.members b) (λ y. false≢true (sym (out b y) ∙ j))) in
     subst (λ l. IsSealedMember u m w'.cell l (w'.loaded m) w.notes) (sym (r.sends_held m (out m i) unheld))
     record {
       blocked = subst IsBlocked (sym (r.stays m (out m i))) seal.blocked;
@@ -98,9 +98,6 @@ stayed_sealed w w' gone u r out s m i =
       unloaded = r.unloaded m seal.unloaded;
       one = seal.one;
     }
-  where
-    other_of : (u : Token) (b : ℕ) → has u.members b ≢ true → has u.members b ≡ false
-    other_of u b h = false_from_ne_true (has u.members b) h
 
 -- who goes has no report out
 stayed_spoiled : (w w' : World) (gone : List ℕ) (u : Token) → Departs w gone w' → ((m : ℕ) → has u.members m ≡ true → is_reporting (w.cell m) ≡ true → has gone m ≡ false)

@@ -15,7 +15,8 @@ use Rattle.detector_laws.specs.World.{World}
 
 -- ---- block
 
--- the actor with this cell may report that it is blocked, whatever letters wait, and this is its report
+-- the actor with this cell may report that it is blocked, but for letters that may wait, and this is
+-- its report
 pub record CanBlock (w : World) (a : ℕ) (c : Cell) (r : Report) : Type 0 where
   pub here : w.cell a ≡ Some c
   pub made : a < w.made

@@ -73,13 +73,14 @@ IsSpoiled cell mail notes t =
 pub record SoundTokens (d : Detector) (cell : ℕ → Option Cell) (mail : ℕ → List Letter) (loaded : ℕ
     → ℕ) (notes : List Note) : Type 0 where
   -- two tokens have no member in common
-  pub apart : (t u : Token) → Contains d.tokens t → Contains d.tokens u → (m : ℕ) → has t.members m ≡ true
-      → has u.members m ≡ true → t.number ≡ u.number
+  pub apart : (t u : Token) → Contains d.tokens t → Contains d.tokens u
+      → (m : ℕ) → has t.members m ≡ true → has u.members m ≡ true → t.number ≡ u.number
   -- of each member a report is kept
   pub kept : (t : Token) → Contains d.tokens t → (m : ℕ) → has t.members m ≡ true
       → (r : Report) × (kept_report d.kept m ≡ Some r)
   -- numbers are used once
-  pub unique : (t u : Token) → Contains d.tokens t → Contains d.tokens u → t.number ≡ u.number → t ≡ u
+  pub unique : (t u : Token) → Contains d.tokens t → Contains d.tokens u → t.number ≡ u.number
+      → t ≡ u
   pub numbers : (t : Token) → Contains d.tokens t → t.number ≤ d.opened
   -- no Confirm and no Ack of a token that is not opened yet
   pub letters : (a n : ℕ) → d.opened < n → confirm_count n (mail a) ≡ 0

@@ -42,7 +42,8 @@ turn_in_round (Reap token) = 0
 
 -- the one-worker order: by round, then by number, then by turn
 abbrev pub event_cmp : Event → Event → Ordering
-event_cmp = then_cmp (then_cmp (on round_of nat_cmp) (on actor_or_token nat_cmp)) (on turn_in_round nat_cmp)
+event_cmp =
+    then_cmp (then_cmp (on round_of nat_cmp) (on actor_or_token nat_cmp)) (on turn_in_round nat_cmp)
 
 -- as the run book writes it, without the line feed
 abbrev pub event_text : Event → List ℕ

@@ -26,6 +26,7 @@ use Rattle.detector_laws.specs.Events.{Moves}
 use Rattle.machine_laws.proofs.Moving.{Adds, adds_none, adds_then, adds_push, push_other, push_loads, moves}
 use Rattle.machine_laws.proofs.Noted.{noted}
 use Rattle.machine_laws.proofs.Seen.{world_of}
+use Rattle.count_laws.proofs.balance.Sends.{cond_zero}
 
 -- who holds a thing knows its owner
 abbrev pub HoldsOwners : ℕ → Cell → Type 0
@@ -81,12 +82,8 @@ collect_moves marked s d ns a c c0 ls at same still dirty awake firm owners =
     moves s (push_decs gs s1) d ns a c (swept marked a c0) ls ls at (decs_adds gs s1) [] refl (still ∙ awake) (inr (inl dirty))
     (λ b n h. ap letters_of (decs_quiet b gs s1 (not_to b gs (firm_groups _ (firm_counted marked c0.holdings (subst IsFirm (sym same) firm))) (λ x o p. unowed b n h x o (omega (arith, owed-groups (given_back marked c0.holdings) x)))) ∙ get_or-set_other s a b (seat (swept marked a c0) ls) None n))
     (λ b n h u. omega (arith, u, decs_loads (Actor b) gs s1, same_loads s a c (swept marked a c0) ls at (Actor b)))
-    (λ b n h u. held-sweep marked a c0.holdings (Actor b) ∙ none (marked (Actor b)) (held_in c0.holdings (Actor b)) (ap (λ k. held_in k (Actor b)) same ∙ h))
+    (λ b n h u. held-sweep marked a c0.holdings (Actor b) ∙ cond_zero (marked (Actor b)) (held_in c0.holdings (Actor b)) (ap (λ k. held_in k (Actor b)) same ∙ h))
   where
-    none : (q : Bool) (n : ℕ) → n ≡ 0 → cond q n 0 ≡ 0
-    none true n h = h
-    none false n h = refl
-
     some : (q : Bool) (n : ℕ) → 0 < cond q 0 n → 0 < n
     some true n h = absurd (omega arith)
     some false n h = h

@@ -32,11 +32,7 @@ use Rattle.machine_laws.proofs.Collecting.{HoldsOwners, owner_held, same_loads}
 use Rattle.machine_laws.proofs.Moving.{not_same, unheld, adds_none, adds_push, push_other, push_loads, moves}
 use Rattle.machine_laws.proofs.Noted.{noted}
 use Rattle.machine_laws.proofs.Seen.{world_of}
-
--- a turn holds what it held before
-pub held_made : (made : List Row) (h : Holdings) (x : Thing) → held_in (with_made made h) x ≡ held_in h x
-unfolding held_in
-held_made made h x = refl
+use Rattle.count_laws.proofs.local.NoSelf.{held-with_made}
 
 module _ (s : Actors) (d : Detector) (ns : List Note) (a : ℕ) (c : Cell) (ls : List Letter) (at : seat_at s a ≡ seat c ls) (running : is_some c.frame ≡ true) (awake : c.reported ≡ false) where
   -- the segment alone: Print and End
@@ -47,7 +43,7 @@ module _ (s : Actors) (d : Detector) (ns : List Note) (a : ℕ) (c : Cell) (ls :
       moves s s1 d ns a c c1 ls ls at (adds_none s1) [] refl awake (inl running)
       (λ b n h. ap letters_of (get_or-set_other s a b (seat c1 ls) None n))
       (λ b n h u. same_loads s a c c1 ls at (Actor b) ∙ u)
-      (λ b n h u. held_made stop.turn.made c.holdings (Actor b) ∙ h)
+      (λ b n h u. held-with_made stop.turn.made c.holdings (Actor b) ∙ h)
 
   -- a new actor
   pub make_moves : (w : ℕ) (c1 : Cell) → c1.reported ≡ c.reported → ((x : Thing) → held_in c1.holdings x ≡ held_in c.holdings x) → (fresh : Cell) → fresh.reported ≡ false → ((x : Thing) → held_in fresh.holdings x ≡ 0)

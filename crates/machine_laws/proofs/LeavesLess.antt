@@ -49,7 +49,6 @@ use Rattle.detector_laws.proofs.Named.{numbered_is_open}
 use Rattle.machine_laws.proofs.ActorsWork.{asks-work, decs-work, leave-work, more_times, push-work, reaped-work, set-work}
 use Rattle.machine_laws.proofs.Blocking.{reporting}
 use Rattle.machine_laws.proofs.GetsWork.{asks-gets, decs-gets, gets, idle-gets, mint-gets, need-length, need_mint-gets, push-gets, reaped-gets}
-use Rattle.machine_laws.proofs.Going.{held_made}
 use Rattle.machine_laws.proofs.TableWork.{by_owner-length, mint_all-more, mint_first-work, sweep-work}
 use Rattle.machine_laws.specs.Work.{actors_work, count_work, detector_work, entry_work, get_work, gets_left, letter_work, news_work, note_work, seat_work, silence_work, table_work}
 use Rattle.machine_rules.proofs.Guards.{may_report, acked_open, collector, leaver}
@@ -57,6 +56,7 @@ use Rattle.machine_rules.specs.Guards.{may_block, may_leave}
 use Rattle.machine_rules.specs.Rules as rule
 use Rattle.machine_rules.proofs.Choices.{stopping_is, taking_is}
 use Rattle.machine_rules.proofs.Stepping.{step_of}
+use Rattle.count_laws.proofs.local.NoSelf.{held-with_made}
 
 -- what a filter lets through first passes
 first_passes : {A : Type 0} (p : A → Bool) (xs : List A) (y : A) (ys : List A) → filter p xs ≡ y ∷ ys → p y ≡ true
@@ -230,7 +230,7 @@ module _ (n : ℕ) where
     mints a c ls stop at load e es lacks =
         let owner = owner_of e.0 in
         let things = to_mint s.options.weight owner (e ∷ es) in
-        let held = held_made stop.turn.made c.holdings in
+        let held = held-with_made stop.turn.made c.holdings in
         let first : things ≡ (e.0, s.options.weight) ∷ to_mint s.options.weight owner es = rw (eq-eqb owner owner refl) refl in
         let one : held_in c.holdings e.0 ≡ 1 = sym (held e.0) ∙ eqb-true _ 1 (and_parts (not (owner == a)) _ (first_passes (λ x. is_lacking a (with_made stop.turn.made c.holdings) x.0) load e es lacks)).1 in
         let known = λ (x : Thing) (some : 0 < amount_of x things).

@@ -48,6 +48,7 @@ use Rattle.detector_laws.specs.World as view
 use Rattle.detector_laws.specs.World.{World, ReportsAreExact}
 use Rattle.machine_laws.proofs.Moving.{push_here, push_other, added_cell, push_loads_same}
 use Rattle.machine_laws.proofs.Seen.{world_of}
+use Rattle.count_laws.proofs.bounds.Bounding.{length-asked}
 
 -- what an actor knows does not hang on Confirms
 abbrev pub Confirming : Trace → (Thing → Option Row) → Type 0
@@ -116,10 +117,6 @@ module _ (s : Actors) (b t : ℕ) where
 asks_cell : (ms : List ℕ) (t : ℕ) (s : Actors) (b : ℕ) → cell_at (ask_all ms t s) b ≡ cell_at s b
 asks_cell [] t s b = refl
 asks_cell (m ∷ ms) t s b = asks_cell ms t (push_letter m (Confirm t) s) b ∙ ask_cell s m t b
-
-asks_length : (ms : List ℕ) (t : ℕ) (s : Actors) → length (ask_all ms t s) ≡ length s
-asks_length [] t s = refl
-asks_length (m ∷ ms) t s = asks_length ms t (push_letter m (Confirm t) s) ∙ length-push m (Confirm t) s
 
 asks_loads : (ms : List ℕ) (t : ℕ) (s : Actors) (x : Thing) → load_sum x (ask_all ms t s) ≡ load_sum x s
 asks_loads [] t s x = refl
@@ -199,7 +196,7 @@ module _ (s : Actors) (d : Detector) (ns : List Note) (rising : IsRising d.kept)
   pub scan_is : world_of (ask_all (closed_set d) (suc d.opened) s) (after_scan d (closed_set d)) ns ≡ view.scan_in_world (world_of s d ns)
   scan_is =
       let t = suc d.opened in
-      let made : length (ask_all (closed_set d) (suc d.opened) s) ≡ length s = asks_length (closed_set d) t s in
+      let made : length (ask_all (closed_set d) (suc d.opened) s) ≡ length s = length-asked (closed_set d) t s in
       let cell : cell_at (ask_all (closed_set d) t s) ≡ cell_at s = fun_ext (λ b. asks_cell (closed_set d) t s b) in
       let mail : mail_at (ask_all (closed_set d) t s) ≡ view.confirms_of (closed_set d) t (cell_at s) (mail_at s) = fun_ext (λ b. asks_mail (closed_set d) t s distinct b) in
       let loaded : (λ x. load_sum (Actor x) (ask_all (closed_set d) t s)) ≡ (λ x. load_sum (Actor x) s) = fun_ext (λ x. asks_loads (closed_set d) t s (Actor x)) in

@@ -46,7 +46,7 @@ use Rattle.detector_laws.specs.Run.{IsStep, Hears, Scans, ReapsOne, LeavesOne, B
 use Rattle.detector_laws.specs.World.{FactsHold}
 use Rattle.machine_laws.proofs.Blocking.{block_is, can_block}
 use Rattle.machine_laws.proofs.Collecting.{HoldsOwners, collect_moves}
-use Rattle.machine_laws.proofs.Going.{held_made, make_moves, mint_moves, post_moves, turn_moves}
+use Rattle.machine_laws.proofs.Going.{make_moves, mint_moves, post_moves, turn_moves}
 use Rattle.machine_laws.proofs.Needing.{need_moves}
 use Rattle.machine_laws.proofs.Noted.{noted}
 use Rattle.machine_laws.proofs.Reaping.{departs, reap_reaps}
@@ -59,6 +59,7 @@ use Rattle.machine_rules.specs.Rules as rule
 use Rattle.machine_rules.specs.Rules.{IsGoing, StopsAt, cell_kept, cell_kept_in, later_frame}
 use Rattle.machine_rules.specs.Take.{cell_after, note_of, notes_after}
 use Rattle.count_laws.proofs.agreement.Follows.{step_here}
+use Rattle.count_laws.proofs.local.NoSelf.{held-with_made}
 
 -- ---- who runs or is dirty has no report out
 
@@ -114,7 +115,7 @@ module _ (trace : Trace) (p : PlainState) (s : State) (beside : Facts trace p s)
     posts_steps : (to behaviour : ℕ) (args : List Value) → StopsAt trace s a c ls f (Post to behaviour args)
         → IsStep (world s) (world_of (post a after ls to behaviour args (load_from trace a after.holdings args) (rows_from trace a after args) s.actors) s.detector s.notes)
     posts_steps to behaviour args stops =
-        unnoted a c _ up (post_moves s.actors s.detector s.notes a c ls going.present running up after refl (held_made stop.turn.made c.holdings) to behaviour args (load_from trace a after.holdings args) (rows_from trace a after args)
+        unnoted a c _ up (post_moves s.actors s.detector s.notes a c ls going.present running up after refl (held-with_made stop.turn.made c.holdings) to behaviour args (load_from trace a after.holdings args) (rows_from trace a after args)
         (target_known trace p s beside a c ls going.present f going.framed stops.held to behaviour args stops.stop) (load_known trace p s beside a c ls going.present f going.framed stops.held to behaviour args stops.stop))
 
     mints_steps : (args : List Value) (e : Loaded) (es : List Loaded) → lacking_from trace a after.holdings args ≡ e ∷ es
@@ -123,14 +124,14 @@ module _ (trace : Trace) (p : PlainState) (s : State) (beside : Facts trace p s)
         unnoted a c _ up (mint_moves s.actors s.detector s.notes a c ls going.present running up (owners_at a c ls going.present) (owner_of e.0) (to_mint s.options.weight (owner_of e.0) (e ∷ es))
         (λ x some.
         let theirs = to_mint_theirs s.options.weight a (owner_of e.0) after.holdings (load_from trace a after.holdings args) x (subst (λ q. 0 < amount_of x (to_mint s.options.weight (owner_of e.0) q)) (sym l) some) in
-        subst (λ n. 0 < n) (held_made stop.turn.made c.holdings x) theirs.1)
+        subst (λ n. 0 < n) (held-with_made stop.turn.made c.holdings x) theirs.1)
         e.0 refl (first_minted s.options.weight beside.weight e es))
 
     makes_steps : (kind register : ℕ)
         → IsStep (world s) (world_of (make s.options.weight a (cell_kept_in trace s a c f (with_name (later_frame trace s a c f) register (length s.actors))) ls (fresh_cell s.options.weight s.program kind) s.actors) s.detector s.notes)
     makes_steps kind register =
         let fresh = fresh_cell s.options.weight s.program kind in
-        unnoted a c _ up (make_moves s.actors s.detector s.notes a c ls going.present running up s.options.weight (cell_kept_in trace s a c f (with_name (later_frame trace s a c f) register (length s.actors))) refl (held_made stop.turn.made c.holdings)
+        unnoted a c _ up (make_moves s.actors s.detector s.notes a c ls going.present running up s.options.weight (cell_kept_in trace s a c f (with_name (later_frame trace s a c f) register (length s.actors))) refl (held-with_made stop.turn.made c.holdings)
         fresh refl (fresh_held s.options.weight fresh.holdings (refl, (λ k. m.get-empty nat_cmp k), (λ y. m.get-empty thing_cmp y))))
 
   -- ---- take

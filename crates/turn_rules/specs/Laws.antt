@@ -36,7 +36,8 @@ SegmentIsLocal =
 
 -- what an actor knows that made so many rows in its turn: what was reached before, itself, and the
 -- objects of these rows
-pub data IsReachedOrMade (p : Setting) (frame : Frame) (fields : Fields) (made : ℕ) (x : Thing) : Type 0 where
+pub data IsReachedOrMade (p : Setting) (frame : Frame) (fields : Fields) (made : ℕ) (x : Thing)
+    : Type 0 where
   reached : IsReached p.rows frame fields x → IsReachedOrMade p frame fields made x
   itself : x ≡ things.Actor p.me → IsReachedOrMade p frame fields made x
   own : (i : ℕ) → i < made → x ≡ things.Obj (record { owner = p.me; serial = p.base + i })

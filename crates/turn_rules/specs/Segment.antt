@@ -78,7 +78,8 @@ row_in p made n =
 
 -- the value at a place of an object's row
 abbrev pub value_at_place : Setting → Turn → Value → ℕ → Value
-value_at_place p t (Obj n) i = option_map_or (λ row. slice_index_or row i Null) (row_in p t.made n) Null
+value_at_place p t (Obj n) i =
+    option_map_or (λ row. slice_index_or row i Null) (row_in p t.made n) Null
 value_at_place p t _ i = Null
 
 -- one row more, of the values of so many registers; its object is put into a register

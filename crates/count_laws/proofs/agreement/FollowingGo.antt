@@ -29,7 +29,7 @@ use Rattle.count_laws.proofs.events.Take.{next_held}
 use Rattle.count_laws.proofs.knowledge.Lacking.{counted_mint, first_minted, to_mint_theirs}
 use Rattle.count_laws.proofs.balance.Makes.{IsFresh, fresh_held}
 use Rattle.count_laws.proofs.knowledge.Naming.{nulls_name_nothing}
-use Rattle.count_laws.proofs.agreement.PlainSide.{StandsAt, objects_grow, objects_kept, objects_pushed, people-push, people-set, rows_grow, rows_kept, rows_pushed, same_rows, stands_at, stands_beside}
+use Rattle.count_laws.proofs.agreement.PlainSide.{StandsAt, objects_grow, objects_kept, objects_pushed, people-push, people-set, rows_grow, rows_kept, rows_pushed, same_rows, stands_at, stands_beside, length-people}
 use Rattle.count_laws.proofs.balance.Seats.{IsPresent, at_same}
 use Rattle.machine_rules.proofs.Present.{present_below}
 use Rattle.count_laws.proofs.balance.Sends.{held_below}
@@ -194,11 +194,7 @@ module _ (trace : Trace) (p : PlainState) (s : State) (facts : Facts trace p s) 
   same_maker register n = same_y (Some (with_name stopped register n)) c.dirty ∙ ap (λ next. record (person_of (maker register n) ls) { serial = next }) (sym (next_held (λ h. h + s.options.weight) (things.Actor n) None c1.holdings))
 
   long : length p.actors ≡ length s.actors
-  long = omega (arith, length_people p.actors, facts.counts.long)
-    where
-      length_people : (xs : List PlainActor) → length (people_of xs) ≡ length xs
-      length_people [] = refl
-      length_people (z ∷ xs) = ap suc (length_people xs)
+  long = omega (arith, length-people p.actors, facts.counts.long)
 
   make_follows : (kind register : ℕ) → Facts trace (next_state p (with_turn p.actors a (Some (with_name stopped register (length p.actors))) stop.turn.fields stop.turn.made ++ fresh_actor p.program kind ∷ []) p.prints)
       (with_turn_kept s stop (make s.options.weight a (cell_after_turn stop (Some (with_name stopped register (length s.actors))) c.dirty c) ls (fresh_cell s.options.weight s.program kind) s.actors))

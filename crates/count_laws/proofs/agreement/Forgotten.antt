@@ -23,7 +23,7 @@ use Rattle.plain_rules.proofs.Changing.{length-with_changed}
 use Rattle.count_laws.proofs.knowledge.Living.{Holds, Letters, Lives, here, holds, later, owner, row, stands}
 use Rattle.count_laws.proofs.knowledge.Naming.{nulls_name_nothing, set_names}
 use Rattle.count_laws.proofs.knowledge.Paths.{reach_into}
-use Rattle.count_laws.proofs.agreement.PlainSide.{people-push, people-set, rows_grow, rows_kept, rows_pushed}
+use Rattle.count_laws.proofs.agreement.PlainSide.{people-push, people-set, rows_grow, rows_kept, rows_pushed, length-people}
 use Rattle.count_laws.proofs.agreement.Reachable.{lives_reachable, nobody_holds, person_read, reachable_lives}
 use Rattle.count_laws.proofs.knowledge.Segments.{Made}
 use Rattle.count_laws.proofs.agreement.Slices.{slice_past, slice_set_other, slice_set_same}
@@ -86,10 +86,6 @@ letters_more [] l x (here n) = inr n
 letters_more [] l x (later h) = elim h [ ]
 letters_more (k ∷ ls) l x (here n) = inl (here n)
 letters_more (k ∷ ls) l x (later h) = ⊎_elim (λ m. inl (later m)) (λ n. inr n) (letters_more ls l x h)
-
-length-people : (actors : List PlainActor) → length (people_of actors) ≡ length actors
-length-people [] = refl
-length-people (x ∷ xs) = ap suc (length-people xs)
 
 module _ (p : PlainState) where
   abbrev all : Thing → Option Row

@@ -75,7 +75,7 @@ unfolding lower_all
 alike_lower me [] c = alike_self me c
 alike_lower me (e ∷ es) c = alike_then me c _ _ (alike_if me (owner_of e.0 == me) (λ h. h - e.1) e.0 c) (alike_lower me es _)
 
-held_alike : (me : ℕ) (c d : Holdings) → Alike me c d → (x : Thing) → held_in d x ≡ held_in c x
+pub held_alike : (me : ℕ) (c d : Holdings) → Alike me c d → (x : Thing) → held_in d x ≡ held_in c x
 unfolding held_in
 held_alike me c d p x = ap (λ (t : Entries). entry_count (m.get t x)) p.foreign
 

@@ -27,7 +27,7 @@ use Rattle.count_laws.proofs.roots.Left.{inc_there}
 use Rattle.count_laws.proofs.roots.Same.{SameOwn, carried_mine, carried_named, carried_owners, own_alike, own_received, walks}
 use Rattle.count_laws.proofs.balance.SeatReads.{letter_App}
 use Rattle.machine_rules.proofs.Present.{present_below}
-use Rattle.count_laws.proofs.events.Take.{Alike, alike_lower, alike_put, alike_raise, alike_self, firm_receive, load_there, next_receive, people_after, starts_named, take_put}
+use Rattle.count_laws.proofs.events.Take.{Alike, alike_lower, alike_put, alike_raise, alike_self, firm_receive, load_there, next_receive, people_after, starts_named, take_put, held_alike}
 use Rattle.count_laws.proofs.balance.Takes.{own-taken}
 use Rattle.machine_rules.specs.Actors.{Actors, seat, seat_at}
 use Rattle.count_laws.specs.Agreement.{Person, app_letters}
@@ -233,10 +233,6 @@ same_roots all a c d mail here same held_same fields frame known ls letters back
     still_roots all a c d mail here same (λ x h. let z = held_same x in omega arith) (λ x h. let z = held_same x in omega arith) fields frame known ls letters backed
 
 -- ---- take
-
-held_alike : (me : ℕ) (h k : Holdings) → Alike me h k → (x : Thing) → held_in k x ≡ held_in h x
-unfolding held_in
-held_alike me h k p x = ap (λ (t : m.FinMap thing_cmp (ℕ × Option Row)). option_map_or (λ e. e.0) (m.get t x) 0) p.foreign
 
 -- what the first letter takes from a count of an own thing, it takes
 taken_backed : (a : ℕ) (c d : Cell) (l : Letter) (ls : List Letter) → ((y : Thing) → owner_of y ≡ a → own_in d.holdings y + load_count y l + dec_of y l ≡ own_in c.holdings y + inc_of y l)
