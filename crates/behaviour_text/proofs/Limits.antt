@@ -1,9 +1,8 @@
 -- What is read keeps the limits.
 use Rattle.behaviour_text.proofs.Steps.{end_read, line_read}
 use Rattle.behaviour_text.proofs.Choices.{both, neither, option_or_none, no_fault, each_push}
-use Rattle.std.proofs.Common.{◌≡◌, ℕ, ◌+◌, ◌<◌, ◌≤◌, ◌^◌, ◌&&◌, Bool, true, false, List, [], ◌∷◌, ◌++◌, length, drop, map, refl, sym, subst, arith, Option, Some, None, if◌then◌else◌, nat_lt, ltb-true, ltb-false, length-append, length-drop, zero, suc, All, Result, Ok, Err}
+use Rattle.std.proofs.Common.{◌≡◌, ℕ, ◌+◌, ◌<◌, ◌≤◌, ◌^◌, ◌&&◌, Bool, true, false, List, [], ◌∷◌, ◌++◌, length, drop, map, refl, sym, subst, arith, Option, Some, None, if◌then◌else◌, nat_lt, ltb-true, ltb-false, length-append, length-drop, zero, suc, All, Ok}
 use Rattle.std.specs.List.{AllByRecursion}
-use Rattle.text_lines.specs.Lines.{lines_of}
 use Rattle.std.specs.Str.Parse.{digits_value}
 use Rattle.std.proofs.lemmas.List.{length-map}
 use Rattle.behaviour_text.proofs.Shapes.{fits, enough}
@@ -12,11 +11,10 @@ use Rattle.std.specs.Option.{unwrap_or}
 use Rattle.behaviour_code.specs.WellFormed.{Fits64, InstrFits}
 use Rattle.behaviour_code.specs.declared.code.Behaviour.{Behaviour}
 use Rattle.behaviour_code.specs.declared.code.Kind.{Kind}
-use Rattle.behaviour_code.specs.declared.code.Program.{Program}
 use Rattle.behaviour_code.specs.declared.instr.Instr.{Instr}
 use Rattle.behaviour_text.specs.Faults.{kind_fault, on_fault, inside_fault, body_fault, place_fault, word_fault, words_fault}
 use Rattle.behaviour_text.specs.Items.{register_of, instr_of, name_place}
-use Rattle.behaviour_text.specs.Reading.{start, kinds_begun, place_of, close_kind_at, close_kind, with_kind, with_on, with_end, with_instr, intern_name, with_item, with_word, with_words, read_from, program_of, finish}
+use Rattle.behaviour_text.specs.Reading.{kinds_begun, place_of, close_kind_at, close_kind, with_kind, with_on, with_end, with_instr, intern_name, with_item, with_word, with_words, read_from}
 use Rattle.behaviour_text.specs.Table.{line_word, starts_with, fits_count, shape_fault}
 use Rattle.behaviour_text.specs.Words.{words_of, has_numeral_form, word_at, number_of, number_at}
 use Rattle.behaviour_text.specs.declared.place.Stage.{Stage}

@@ -14,7 +14,6 @@ use Rattle.detector_laws.proofs.Letters.{other_before_confirm-some}
 use Rattle.reach_walk.proofs.Elements.{Contains-from_map}
 use Rattle.detector_laws.proofs.Members.{Contains-from_filter}
 use Rattle.detector_laws.specs.Confirms.{confirm_count}
-use Rattle.detector_laws.specs.Reports.{IsSilentOn}
 use Rattle.detector_laws.specs.Tokens.{ack_count, trace_count, IsSealed, unblocks_before_ack, IsSpoiled, SoundTokens}
 use Rattle.detector_laws.specs.World.{World, hear_in_world, TokensAreSound}
 

@@ -1,5 +1,5 @@
 -- The names of the actors of some reports.
-use Rattle.std.proofs.Common.{◌≡◌, ℕ, ◌≢◌, ◌==◌, true, false, inl, inr, ⊎_elim, List, [], ◌∷◌, map, refl, ap, sym, eqb-true, eq-eqb, Contains}
+use Rattle.std.proofs.Common.{◌≡◌, ℕ, ◌≢◌, ◌==◌, true, false, ⊎_elim, List, [], ◌∷◌, map, ap, sym, eqb-true, eq-eqb, Contains}
 use Rattle.std.proofs.lemmas.Bool.{or_cases, or_left, or_right, or_parts, eqb-false}
 use Rattle.std.specs.List.{AllByRecursion}
 use Rattle.letter_kinds.specs.Detector.{has}

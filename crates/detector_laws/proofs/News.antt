@@ -1,5 +1,5 @@
 -- Where there is no news, nothing is closed among the candidates; and the reports are kept in order.
-use Rattle.std.proofs.Common.{◌≡◌, ℕ, suc, ◌≢◌, ◌==◌, not, Bool, true, false, cond, ◌||◌, inl, inr, ⊎_elim, List, [], ◌∷◌, ◌++◌, filter, map, arith, refl, ap, sym, subst, ◌∙◌, eq-eqb, Contains}
+use Rattle.std.proofs.Common.{◌≡◌, ℕ, suc, ◌≢◌, ◌==◌, not, Bool, true, false, cond, ◌||◌, ⊎_elim, List, [], ◌∷◌, ◌++◌, filter, map, arith, refl, ap, sym, subst, ◌∙◌, eq-eqb, Contains}
 use Rattle.std.proofs.lemmas.Bool.{cases_eq, cases_Bool, false≢true}
 use Rattle.std.proofs.lemmas.Bool.Decides.{nat_tests}
 use Rattle.letter_kinds.proofs.Filters.{filter_twice}

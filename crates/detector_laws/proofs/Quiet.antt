@@ -1,6 +1,6 @@
 -- Where no event is enabled, each present actor is reached.
-use Rattle.std.proofs.Common.{◌≡◌, ℕ, zero, suc, ◌+◌, ◌≤◌, ◌<◌, ◌≢◌, ◌==◌, not, Bool, true, false, cond, if◌then◌else◌, inl, inr, ⊎_elim, List, [], ◌∷◌, length, filter, Some, None, sum_by, arith, refl, ap, sym, subst, ◌∙◌, eqb-true, Contains}
-use Rattle.std.proofs.lemmas.Bool.{cases_eq, cases_Bool, cases_lt, cond_both, cond-true, false≢true, or_parts, eqb-false}
+use Rattle.std.proofs.Common.{◌≡◌, ℕ, zero, suc, ◌+◌, ◌≤◌, ◌<◌, ◌≢◌, ◌==◌, not, Bool, true, false, cond, if◌then◌else◌, ⊎_elim, List, [], ◌∷◌, length, filter, Some, None, sum_by, arith, refl, ap, sym, subst, ◌∙◌, eqb-true, Contains}
+use Rattle.std.proofs.lemmas.Bool.{cases_eq, cases_Bool, cases_lt, false≢true, or_parts, eqb-false}
 use Rattle.std.proofs.lemmas.Bool.Decides.{nat_tests}
 use Rattle.std.proofs.lemmas.List.Sums.{sum_by-cons}
 use Rattle.std.specs.List.{AllByRecursion}

@@ -1,9 +1,8 @@
 -- A book leads to one state, one event is first, and a run ends in one way.
-use Rattle.std.proofs.Common.{◌≡◌, ◌≢◌, ℕ, ◌<◌, List, [], ◌∷◌, refl, sym, ◌∙◌, ap, subst, arith}
+use Rattle.std.proofs.Common.{◌≡◌, ◌≢◌, ℕ, [], ◌∷◌, refl, sym, ◌∙◌, ap, subst, arith}
 use Rattle.event_rule.proofs.Ordered.{upto_both}
 use Rattle.event_rule.proofs.Steps.{goes_to}
-use Rattle.event_rule.specs.Runs.{ActorsFull, Budget, EndsInOneWay, Goes, IsFirst, IsFull, IsFullAt, IsQuiet, IsSpent, Leads, LeadsToOneState, Machine, NoneIsFirstAtQuiet, NotEnabled, OneIsFirst, Quiet}
-use Rattle.event_rule.specs.declared.event.Event.{Event}
+use Rattle.event_rule.specs.Runs.{ActorsFull, Budget, EndsInOneWay, IsFull, IsFullAt, IsQuiet, IsSpent, Leads, LeadsToOneState, Machine, NoneIsFirstAtQuiet, NotEnabled, OneIsFirst, Quiet}
 use Rattle.event_rule.specs.declared.event.Event.TheVariants.{Go}
 
 pub leads_to_one : {S : Type 0} (next : Machine S) → LeadsToOneState next

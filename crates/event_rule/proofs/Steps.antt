@@ -1,6 +1,6 @@
 -- What a step leads to is one state.
 use Rattle.std.proofs.Common.{◌≡◌, ◌≢◌}
-use Rattle.event_rule.specs.Runs.{Step, NotEnabled, IsFull, Goes}
+use Rattle.event_rule.specs.Runs.{NotEnabled, IsFull, Goes}
 
 pub goes_to : {S : Type 0} (s t : S) → Goes s ≡ Goes t → s ≡ t
 goes_to s t e = cc

@@ -8,7 +8,6 @@ use Rattle.letter_kinds.specs.declared.note.Note.{Note}
 use Rattle.machine_examples.proofs.Ledgers.{back_told, given_back-told}
 use Rattle.machine_rules.specs.Actors.{push_decs}
 use Rattle.machine_rules.specs.Detect.{empty_seats, held_outside, reap_decs, reap_members, hear, reap, scan}
-use Rattle.machine_rules.specs.Go.{go}
 use Rattle.event_rule.specs.Runs.{Goes, NotEnabled}
 use Rattle.machine_examples.proofs.Places.{Place, Places, seats_told, seat_told, place_at, seat_at-told, set-told, decs_told, push_decs-told, asked_told, ask_all-told}
 use Rattle.std.specs.Prelude.{if◌then◌else◌}

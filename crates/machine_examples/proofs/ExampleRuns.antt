@@ -11,7 +11,7 @@ use Rattle.event_rule.specs.declared.event.Event.{Event}
 use Rattle.event_rule.specs.declared.event.Event.TheVariants.{Take, Go, Collect, Leave, Block, Hear, Scan, Reap}
 use Rattle.reach_walk.specs.Marks.{led_to, marks_of}
 use Rattle.letter_kinds.specs.Counting.{by_owner}
-use Rattle.letter_kinds.specs.Detector.{closed_set, Token, all_acked}
+use Rattle.letter_kinds.specs.Detector.{Token, all_acked}
 use Rattle.letter_kinds.specs.Holdings.{has_own}
 use Rattle.machine_examples.proofs.LedgerSteps.{after_all, after_all-leads}
 use Rattle.machine_examples.proofs.Pages.{Page, first_page, state_told}
@@ -27,7 +27,7 @@ use Rattle.machine_rules.specs.State.{State, first_state}
 use Rattle.std.specs.Option.{option_map_or}
 use Rattle.machine_rules.specs.Block.{block}
 use Rattle.machine_rules.specs.Collect.{collect}
-use Rattle.machine_rules.specs.Detect.{acked_token, hear, reap, scan}
+use Rattle.machine_rules.specs.Detect.{hear, reap, scan}
 use Rattle.machine_rules.specs.Go.{go}
 use Rattle.machine_rules.specs.Guards.{may_block, may_collect, may_go, may_leave, may_take}
 use Rattle.machine_rules.specs.Leave.{leave}

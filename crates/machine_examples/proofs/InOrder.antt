@@ -1,6 +1,5 @@
 -- Whether an event is the first that is enabled is computed, and so is whether a state is quiet.
-use Rattle.std.proofs.Common.{◌≡◌, ◌≢◌, ℕ, zero, suc, ◌<◌, ◌==◌, ◌&&◌, ◌||◌, not, Bool, true, false, if◌then◌else◌, List, [], ◌∷◌, ◌++◌, length, map, Option, Some, None, is_some, refl, ap, sym, ◌∙◌, subst, arith, ⊎_elim, eqb-true}
-use Rattle.std.specs.Prelude.{is_none}
+use Rattle.std.proofs.Common.{◌≡◌, ◌≢◌, ℕ, zero, suc, ◌<◌, ◌==◌, ◌||◌, not, Bool, true, false, if◌then◌else◌, List, [], ◌∷◌, ◌++◌, length, map, Option, Some, None, is_some, refl, ap, sym, ◌∙◌, subst, arith, ⊎_elim, eqb-true}
 use Rattle.std.specs.List.{find, list_all}
 use Rattle.std.specs.Option.{option_map_or}
 use Rattle.std.specs.Ordering.{is_gt}
@@ -13,7 +12,7 @@ use Rattle.behaviour_code.specs.declared.code.Program.{Program}
 use Rattle.event_rule.specs.Events.{actor_of, event_cmp}
 use Rattle.event_rule.specs.declared.event.Event.{Event}
 use Rattle.event_rule.specs.declared.event.Event.TheVariants.{Take, Go, Collect, Leave, Block, Hear, Scan, Reap}
-use Rattle.letter_kinds.specs.Detector.{Token, all_acked, token_numbered}
+use Rattle.letter_kinds.specs.Detector.{Token}
 use Rattle.machine_examples.proofs.ExampleRuns.{page_or, page_there}
 use Rattle.machine_examples.proofs.LedgerSteps.{next_page, next-follows}
 use Rattle.machine_examples.proofs.Pages.{Page, Follows, first_page, state_told}
@@ -21,16 +20,14 @@ use Rattle.machine_examples.specs.InOrder.{OneWorkerWrites}
 use Rattle.machine_rules.proofs.Enabling.{enabled_exactly}
 use Rattle.machine_rules.proofs.Present.{present_below}
 use Rattle.machine_rules.specs.Actors.{Seat, seat_at}
-use Rattle.machine_rules.specs.Cell.{Cell}
 use Rattle.machine_rules.specs.Enabled.{CanHappen}
 use Rattle.event_rule.specs.Runs.{IsEnabled, IsFirst, IsQuiet, Step, NotEnabled, IsFull, Goes, LeadsInOrder}
 use Rattle.machine_rules.specs.Next.{next}
 use Rattle.machine_rules.specs.Options.{Options}
 use Rattle.machine_rules.specs.State.{State}
-use Rattle.letter_kinds.specs.declared.letter.Letter.{Letter}
 use Rattle.plain_list.specs.Lists.{is_empty}
 use Rattle.machine_rules.specs.Guards.{may_block, may_leave, may_collect, may_go, may_take}
-use Rattle.machine_rules.proofs.Guards.{MayReport, acked_open}
+use Rattle.machine_rules.proofs.Guards.{acked_open}
 use Rattle.machine_rules.specs.Detect.{acked_token}
 
 -- ---- whether an event is enabled

@@ -1,5 +1,5 @@
 -- States whose actors stand in places.
-use Rattle.std.proofs.Common.{◌≡◌, if◌then◌else◌, [], ◌∷◌, Option, Some, None}
+use Rattle.std.proofs.Common.{◌≡◌, [], ◌∷◌, Option, Some, None}
 use Rattle.behaviour_code.specs.declared.code.Program.{Program}
 use Rattle.machine_examples.proofs.Ledgers.{empty_ledger}
 use Rattle.machine_rules.specs.Cell.{first_cell}
@@ -8,7 +8,7 @@ use Rattle.orca_names.specs.declared.trace.Trace.{Trace}
 use Rattle.machine_rules.specs.Options.{Options}
 use Rattle.machine_rules.specs.State.{State, first_state, start_letters}
 use Rattle.machine_examples.proofs.Places.{Places, seats_told, place}
-use Rattle.std.specs.Prelude.{if◌then◌else◌, ⊤}
+use Rattle.std.specs.Prelude.{⊤}
 
 -- a state whose actors stand in the places; those of the state count for nothing
 pub record Page : Type 0 where

@@ -4,7 +4,7 @@ use Rattle.std.proofs.lemmas.Bool.{cases_eq, cases_lt, false≢true}
 use Rattle.std.proofs.lemmas.List.{get_or_past}
 use Rattle.event_rule.specs.declared.event.Event.{Event}
 use Rattle.event_rule.specs.declared.event.Event.TheVariants.{Take, Go, Collect, Leave, Block, Hear, Scan, Reap}
-use Rattle.letter_kinds.specs.Detector.{Token, token_numbered}
+use Rattle.letter_kinds.specs.Detector.{Token}
 use Rattle.event_rule.proofs.Steps.{not_enabled}
 use Rattle.machine_rules.specs.Actors.{seat_at}
 use Rattle.event_rule.specs.Runs.{Step, NotEnabled, IsFull, Goes}

@@ -14,7 +14,7 @@ use Rattle.letter_kinds.proofs.Counts.{held-send, held_set_other}
 use Rattle.letter_kinds.proofs.Sums.{sum-nil}
 use Rattle.letter_kinds.specs.Counting.{send, mint_all, gain}
 use Rattle.letter_kinds.specs.Detector.{Detector}
-use Rattle.letter_kinds.specs.Holdings.{Holdings, Row, held_in, with_made}
+use Rattle.letter_kinds.specs.Holdings.{Row, held_in}
 use Rattle.letter_kinds.specs.Sums.{amount_of, times_loaded, load_count}
 use Rattle.letter_kinds.specs.declared.letter.Letter.{Letter}
 use Rattle.letter_kinds.specs.declared.letter.Letter.TheVariants.{App, Inc}

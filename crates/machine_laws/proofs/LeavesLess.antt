@@ -1,6 +1,6 @@
 -- Each event that is no choice leaves less to do.
-use Rattle.std.proofs.Common.{◌≡◌, ℕ, suc, ◌+◌, ◌*◌, ◌≤◌, ◌<◌, ◌==◌, ◌&&◌, not, Bool, true, false, cond, if◌then◌else◌, Option, Some, None, List, [], ◌∷◌, ◌++◌, length, filter, set, length-append, refl, ap, sym, subst, ◌∙◌, arith, ⊎_elim, eq-eqb, eqb-true, Contains}
-use Rattle.std.specs.Prelude.{is_none, sum_by}
+use Rattle.std.proofs.Common.{◌≡◌, ℕ, suc, ◌+◌, ◌*◌, ◌≤◌, ◌<◌, ◌==◌, not, Bool, true, false, cond, if◌then◌else◌, Some, None, List, [], ◌∷◌, ◌++◌, length, filter, set, length-append, refl, ap, sym, subst, ◌∙◌, arith, ⊎_elim, eq-eqb, eqb-true, Contains}
+use Rattle.std.specs.Prelude.{sum_by}
 use Rattle.std.specs.FinMap as m
 use Rattle.std.proofs.Math.Nat.{suc-mul}
 use Rattle.std.proofs.lemmas.Bool.{and_parts, false≢true}
@@ -8,16 +8,12 @@ use Rattle.std.proofs.lemmas.List.{length-map}
 use Rattle.std.proofs.lemmas.List.Sums.{sum_by-cons, sum_by_push}
 use Rattle.orca_names.specs.Names.{owner_of, thing_cmp}
 use Rattle.orca_names.specs.declared.names.Thing.{Thing}
-use Rattle.orca_names.specs.declared.names.Value.{Value}
 use Rattle.event_rule.specs.declared.event.Event.{Event}
-use Rattle.event_rule.specs.declared.event.Event.TheVariants.{Take, Go, Collect, Leave, Block, Hear, Scan, Reap}
 use Rattle.turn_rules.specs.Segment.{Stop}
-use Rattle.turn_rules.specs.declared.act.Act.{Act}
-use Rattle.turn_rules.specs.declared.act.Act.TheVariants.{Post, New, Print, End}
 use Rattle.turn_rules.specs.declared.act.Frame.{Frame}
 use Rattle.letter_kinds.proofs.Filters.{length-filter_le}
 use Rattle.letter_kinds.specs.Counting.{Loaded, by_owner, given_back, is_lacking, lacking_of, mint_all, sweep, to_mint}
-use Rattle.letter_kinds.specs.Detector.{Detector, Token, all_acked, close_token, closed_set, has, hear_note, note_ack, after_scan, token_numbered}
+use Rattle.letter_kinds.specs.Detector.{Detector, Token, close_token, closed_set, has, hear_note, note_ack, after_scan}
 use Rattle.letter_kinds.specs.Holdings.{Holdings, Row, held_in, with_made}
 use Rattle.letter_kinds.specs.Sums.{amount_of}
 use Rattle.letter_kinds.specs.declared.letter.Letter.{Letter}
@@ -27,21 +23,19 @@ use Rattle.letter_kinds.specs.declared.note.Note.TheVariants as notes
 use Rattle.count_laws.proofs.balance.InHand.{AllCounted}
 use Rattle.count_laws.proofs.knowledge.Lacking.{counted_mint, to_mint_theirs}
 use Rattle.machine_rules.proofs.Present.{present_below}
-use Rattle.event_rule.proofs.Steps.{goes_to, not_enabled}
 use Rattle.count_laws.proofs.events.Take.{alike_lower, alike_raise}
-use Rattle.machine_rules.specs.Actors.{Actors, Seat, seat, seat_at}
+use Rattle.machine_rules.specs.Actors.{Actors, seat, seat_at}
 use Rattle.machine_rules.specs.Block.{held_actors}
 use Rattle.machine_rules.specs.Cell.{Cell}
 use Rattle.machine_rules.specs.Collect.{after_collect, is_in_use, is_marked, without_unused}
 use Rattle.machine_rules.specs.Detect.{ask_all, reap_members}
-use Rattle.machine_rules.specs.Go.{act_in, lacking_from, load_from, mint, needed, needing, post_or_mint, rows_from, to_need, turn_of_cell, cell_after_turn}
+use Rattle.machine_rules.specs.Go.{load_from, mint, needed, to_need, turn_of_cell}
 use Rattle.plain_list.specs.Lists.{is_empty}
 use Rattle.event_rule.specs.Runs.{Goes}
 use Rattle.machine_rules.specs.Next.{next}
 use Rattle.orca_names.specs.declared.trace.Trace.{Trace}
 use Rattle.orca_names.specs.declared.trace.Trace.TheVariants.{Deep, Roots}
-use Rattle.plain_rules.specs.Machine.{stopped_at}
-use Rattle.machine_rules.specs.Run.{act_is_choice, go_is_choice, go_is_choice_at, is_choice, take_is_choice_at, starts_with_app}
+use Rattle.machine_rules.specs.Run.{is_choice, starts_with_app}
 use Rattle.machine_rules.specs.State.{State}
 use Rattle.machine_rules.specs.Take.{cell_after, note_of, notes_after}
 use Rattle.detector_laws.proofs.Members.{first_or_later, none_in_empty}

@@ -1,5 +1,5 @@
 -- Where no event is enabled, the detector's laws see a quiet world, and each actor that is present is reached.
-use Rattle.std.proofs.Common.{◌≡◌, ◌⊎◌, ℕ, ◌==◌, Bool, true, false, cond, Option, Some, None, List, [], ◌∷◌, find, refl, ap, sym, subst, ◌∙◌, ⊎_elim, eq-eqb, Contains}
+use Rattle.std.proofs.Common.{◌≡◌, ℕ, ◌==◌, Bool, true, false, cond, Option, Some, None, List, [], ◌∷◌, find, refl, ap, sym, subst, ◌∙◌, ⊎_elim, eq-eqb, Contains}
 use Rattle.std.specs.Prelude.{sum_by}
 use Rattle.std.proofs.lemmas.Bool.{false_from_ne_true, false≢true}
 use Rattle.orca_names.specs.declared.names.Thing.{Thing}

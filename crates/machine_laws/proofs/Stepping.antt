@@ -1,5 +1,5 @@
 -- Each event is a step of the world that the detector's laws speak of.
-use Rattle.std.proofs.Common.{◌≡◌, ◌⊎◌, ℕ, ◌<◌, nat_lt, Bool, true, false, if◌then◌else◌, Option, Some, None, is_some, List, [], ◌∷◌, ◌++◌, length, refl, ap, sym, subst, ◌∙◌, inl, inr, ⊎_elim, set}
+use Rattle.std.proofs.Common.{◌≡◌, ◌⊎◌, ℕ, ◌<◌, Bool, true, false, if◌then◌else◌, Option, Some, None, is_some, List, [], ◌∷◌, ◌++◌, length, refl, ap, sym, subst, ◌∙◌, inl, inr, ⊎_elim, set}
 use Rattle.std.specs.FinMap as m
 use Rattle.std.specs.Ordering.{nat_cmp}
 use Rattle.std.proofs.lemmas.Bool.{false≢true}
@@ -8,35 +8,30 @@ use Rattle.orca_names.specs.declared.names.Thing.{Thing}
 use Rattle.orca_names.specs.declared.names.Value.{Value}
 use Rattle.reach_walk.specs.Reach.{thing_row}
 use Rattle.event_rule.specs.declared.event.Event.{Event}
-use Rattle.event_rule.specs.declared.event.Event.TheVariants.{Take, Go, Collect, Leave, Block, Hear, Scan, Reap}
 use Rattle.turn_rules.specs.Segment.{Stop}
-use Rattle.turn_rules.specs.declared.act.Act.{Act}
-use Rattle.turn_rules.specs.declared.act.Act.TheVariants.{Post, New, Print, End}
+use Rattle.turn_rules.specs.declared.act.Act.TheVariants.{Post}
 use Rattle.turn_rules.specs.declared.act.Frame.{Frame}
-use Rattle.letter_kinds.specs.Counting.{Loaded, lacking_of, to_mint}
-use Rattle.letter_kinds.specs.Detector.{Token, all_acked, closed_set, token_numbered}
+use Rattle.letter_kinds.specs.Counting.{Loaded, to_mint}
 use Rattle.letter_kinds.specs.Holdings.{Row}
 use Rattle.letter_kinds.specs.Sums.{amount_of}
 use Rattle.letter_kinds.specs.declared.letter.Letter.{Letter}
 use Rattle.letter_kinds.specs.declared.letter.Letter.TheVariants.{App, Inc, Dec, Confirm}
-use Rattle.letter_kinds.specs.declared.note.Note.{Note}
 use Rattle.letter_kinds.specs.declared.note.Note.TheVariants.{Unblock}
 use Rattle.count_laws.proofs.events.EitherMode.{held_owner}
 use Rattle.count_laws.proofs.agreement.FollowingGo.{load_known, target_known}
 use Rattle.count_laws.proofs.knowledge.Lacking.{first_minted, to_mint_theirs}
 use Rattle.count_laws.proofs.balance.Makes.{fresh_held}
 use Rattle.count_laws.proofs.balance.Sweeping.{same_holdings, same_reported}
-use Rattle.event_rule.proofs.Steps.{goes_to, not_enabled}
-use Rattle.machine_rules.specs.Actors.{Actors, Seat, cell_of, letters_of, seat, seat_at}
+use Rattle.machine_rules.specs.Actors.{Actors, cell_of, letters_of, seat, seat_at}
 use Rattle.count_laws.specs.Agreement.{people_of}
 use Rattle.machine_rules.specs.Cell.{Cell, fresh_cell}
 use Rattle.machine_rules.specs.Collect.{is_marked, without_unused}
 use Rattle.count_laws.specs.Facts.{Facts, IsFirm}
-use Rattle.machine_rules.specs.Go.{act_in, load_from, make, needed, needing, post_or_mint, rows_from, turn_of_cell, cell_after_turn, lacking_from, mint, post}
+use Rattle.machine_rules.specs.Go.{load_from, make, rows_from, turn_of_cell, cell_after_turn, lacking_from, mint, post}
 use Rattle.event_rule.specs.Runs.{Goes}
 use Rattle.machine_rules.specs.Next.{next}
 use Rattle.orca_names.specs.declared.trace.Trace.{Trace}
-use Rattle.plain_rules.specs.Machine.{PlainState, plain_row, stopped_at, with_name}
+use Rattle.plain_rules.specs.Machine.{PlainState, plain_row, with_name}
 use Rattle.machine_rules.specs.State.{State}
 use Rattle.detector_laws.proofs.Cells.{same_some}
 use Rattle.detector_laws.proofs.Named.{numbered_is_open}
@@ -54,7 +49,6 @@ use Rattle.machine_laws.proofs.Scanning.{scan_is}
 use Rattle.machine_laws.proofs.Seen.{world, world_of}
 use Rattle.machine_laws.proofs.Taking.{confirm_is, take_moves}
 use Rattle.machine_rules.proofs.Guards.{may_report, acked_open, collector, leaver}
-use Rattle.machine_rules.specs.Guards.{may_block, may_leave}
 use Rattle.machine_rules.specs.Rules as rule
 use Rattle.machine_rules.specs.Rules.{IsGoing, StopsAt, cell_kept, cell_kept_in, later_frame}
 use Rattle.machine_rules.specs.Take.{cell_after, note_of, notes_after}

@@ -5,7 +5,7 @@ use Rattle.orca_names.specs.declared.names.Thing.TheVariants.{Actor}
 use Rattle.event_rule.specs.declared.event.Event.{Event}
 use Rattle.event_rule.specs.declared.event.Event.TheVariants.{Reap}
 use Rattle.letter_kinds.proofs.Counts.{has_actor}
-use Rattle.letter_kinds.specs.Detector.{Token, closed_set, has, hear_note}
+use Rattle.letter_kinds.specs.Detector.{closed_set, has, hear_note}
 use Rattle.letter_kinds.specs.declared.letter.Letter.{Letter}
 use Rattle.letter_kinds.specs.declared.letter.Letter.TheVariants.{App, Inc, Dec, Confirm}
 use Rattle.letter_kinds.specs.declared.note.Note.{Note}
@@ -20,7 +20,6 @@ use Rattle.plain_rules.specs.Machine.{PlainState, plain_row}
 use Rattle.machine_laws.specs.AllFacts.{AllFacts}
 use Rattle.machine_rules.specs.Actors.{Seat, cell_of, seat_at}
 use Rattle.machine_rules.specs.Block.{held_actors}
-use Rattle.machine_rules.specs.Next.{next}
 use Rattle.orca_names.specs.declared.trace.Trace.{Trace}
 use Rattle.machine_rules.specs.State.{State, first_state}
 use Rattle.machine_rules.specs.Take.{note_of, notes_after}

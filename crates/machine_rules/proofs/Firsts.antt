@@ -7,12 +7,12 @@ use Rattle.event_rule.specs.declared.event.Event.{Event}
 use Rattle.event_rule.specs.declared.event.Event.TheVariants.{Take, Go, Collect, Leave, Block, Hear, Scan, Reap}
 use Rattle.letter_kinds.specs.Detector.{Token}
 use Rattle.machine_rules.proofs.Enabling.{enabled_exactly, full_exactly}
-use Rattle.event_rule.proofs.Ordered.{Upto, upto_both, upto_or, upto_trans}
+use Rattle.event_rule.proofs.Ordered.{Upto, upto_or, upto_trans}
 use Rattle.machine_rules.proofs.Guards.{acked_open}
 use Rattle.machine_rules.proofs.Present.{present_below}
 use Rattle.event_rule.specs.Events.{actor_of}
 use Rattle.machine_rules.specs.Enabled.{CanHappen}
-use Rattle.event_rule.specs.Runs.{ActorsFull, Budget, Ending, EndsAs, GoesOn, Quiet, GoesOnOrEnds, NoneIsFirstAtQuiet, OneIsFirst, QuietOrFirst, IsEnabled, IsFirst, IsQuiet, Step, NotEnabled, IsFull, Goes}
+use Rattle.event_rule.specs.Runs.{ActorsFull, Budget, Ending, EndsAs, GoesOn, Quiet, GoesOnOrEnds, QuietOrFirst, IsEnabled, IsFirst, IsQuiet, Step, NotEnabled, IsFull, Goes}
 use Rattle.machine_rules.specs.Next.{next}
 use Rattle.machine_rules.specs.State.{State}
 

@@ -1,5 +1,5 @@
 -- What is left in the machine that collects, and what was freed.
-use Rattle.std.specs.Prelude.{ℕ, ◌<◌, ◌≡◌, true, List, length, is_some, sum_by, Some}
+use Rattle.std.specs.Prelude.{◌<◌, ◌≡◌, true, List, length, is_some, Some}
 use Rattle.orca_names.specs.Names.{owner_of}
 use Rattle.orca_names.specs.declared.names.Thing.{Thing}
 use Rattle.orca_names.specs.declared.names.Thing.TheVariants.{Actor, Obj}

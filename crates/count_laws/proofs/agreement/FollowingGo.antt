@@ -1,5 +1,5 @@
 -- How the plain machine follows a go: it takes the same turn, but for a go that mints.
-use Rattle.std.proofs.Common.{◌≡◌, ◌≢◌, ◌&&◌, is_none, ℕ, zero, suc, ◌+◌, ◌<◌, nat_lt, Bool, true, false, Option, Some, None, List, [], ◌∷◌, ◌++◌, length, length-set, set, set-set, refl, sym, ◌∙◌, ap, subst, arith, option_and_then, lt-ltb}
+use Rattle.std.proofs.Common.{◌≡◌, ◌≢◌, ℕ, zero, suc, ◌+◌, ◌<◌, nat_lt, Bool, true, Option, Some, None, List, [], ◌∷◌, ◌++◌, length, length-set, set, set-set, refl, sym, ◌∙◌, ap, subst, arith, option_and_then, lt-ltb}
 use Rattle.std.specs.Prelude.{if◌then◌else◌, slice_get}
 use Rattle.std.specs.FinMap as m
 use Rattle.std.specs.Option.{option_map_or}
@@ -16,7 +16,7 @@ use Rattle.turn_rules.specs.declared.act.Act.{Act}
 use Rattle.turn_rules.specs.declared.act.Act.TheVariants.{End, New, Post, Print}
 use Rattle.turn_rules.specs.declared.act.Frame.{Frame}
 use Rattle.letter_kinds.specs.Counting.{Loaded, gain, lacking_of, send, to_mint}
-use Rattle.letter_kinds.specs.Holdings.{Row, held_in, with_made}
+use Rattle.letter_kinds.specs.Holdings.{Row, held_in}
 use Rattle.letter_kinds.specs.Sums.{amount_of, times_loaded}
 use Rattle.letter_kinds.specs.declared.letter.Letter.{Letter}
 use Rattle.letter_kinds.specs.declared.letter.Letter.TheVariants.{App}
@@ -37,13 +37,11 @@ use Rattle.machine_rules.specs.Actors.{Actors, push_letter, seat, seat_at}
 use Rattle.count_laws.specs.Agreement.{Person, people_of, person_at, person_of, person_of_plain}
 use Rattle.machine_rules.specs.Cell.{Cell, fresh_cell}
 use Rattle.count_laws.specs.Facts.{Facts, KeepsCounts}
-use Rattle.machine_rules.specs.Go.{act_in, load_from, make, mint, needed, needing, post, post_or_mint, rows_from, turn_of_cell, cell_after_turn, with_turn_kept, lacking_from, to_need}
+use Rattle.machine_rules.specs.Go.{load_from, make, mint, needed, post, rows_from, turn_of_cell, cell_after_turn, with_turn_kept, lacking_from, to_need}
 use Rattle.orca_names.specs.declared.trace.Trace.{Trace}
 use Rattle.count_laws.specs.Known.{InFrame, IsKnown, Names, StartsWalks, in_fields, in_frame, in_table}
-use Rattle.plain_list.specs.Lists.{is_empty}
 use Rattle.event_rule.specs.Runs.{IsFull, Goes, NotEnabled}
 use Rattle.plain_rules.specs.Machine.{PlainState, after_act, after_turn, fresh_actor, next_state, objects_made, plain_go, plain_row, stopped_at, turn_of_actor, with_name, with_turn, with_letter as with_plain_letter, with_changed}
-use Rattle.machine_rules.specs.Run.{act_is_choice, go_is_choice}
 use Rattle.machine_rules.specs.State.{State}
 use Rattle.plain_rules.specs.declared.PlainActor.{PlainActor}
 use Rattle.plain_rules.specs.declared.PlainLetter.{PlainLetter}

@@ -1,5 +1,5 @@
 -- No actor ever holds a count on a thing of its own.
-use Rattle.std.proofs.Common.{◌≡◌, ◌≢◌, ℕ, zero, suc, ◌+◌, ◌<◌, cond, Bool, true, false, List, refl, ap, ◌∙◌, arith}
+use Rattle.std.proofs.Common.{◌≡◌, ◌≢◌, ℕ, zero, suc, ◌+◌, ◌<◌, List, refl, ap, ◌∙◌, arith}
 use Rattle.std.specs.FinMap as m
 use Rattle.orca_names.specs.Names.{owner_of, thing_cmp}
 use Rattle.orca_names.specs.declared.names.Thing.{Thing}

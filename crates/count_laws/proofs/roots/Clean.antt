@@ -1,5 +1,5 @@
 -- With root-only tracing, an idle actor that did nothing since it collected has just what is marked, after every event.
-use Rattle.std.proofs.Common.{◌≡◌, ◌≢◌, ℕ, cond, Bool, true, false, is_some, Option, Some, None, List, refl, sym, ◌∙◌, arith, ⊎_elim}
+use Rattle.std.proofs.Common.{◌≡◌, ℕ, true, false, Some, List, refl, sym, ◌∙◌, arith, ⊎_elim}
 use Rattle.std.specs.FinMap as m
 use Rattle.std.specs.Ordering.{nat_cmp}
 use Rattle.orca_names.specs.Names.{thing_cmp}

@@ -13,15 +13,11 @@ use Rattle.letter_kinds.proofs.Counts.{counted_has}
 use Rattle.letter_kinds.specs.Counting.{by_owner, given_back, sweep}
 use Rattle.letter_kinds.specs.Holdings.{Row, held_in}
 use Rattle.letter_kinds.specs.declared.letter.Letter.{Letter}
-use Rattle.machine_rules.proofs.Enabling.{enabled_exactly}
 use Rattle.machine_rules.proofs.Present.{present_below}
-use Rattle.event_rule.proofs.Steps.{goes_to}
 use Rattle.machine_rules.specs.Actors.{Actors, cell_at, cell_of, seat, seat_at}
 use Rattle.machine_rules.specs.Cell.{Cell, own_row_of, row_by_roots}
-use Rattle.machine_rules.specs.Collect.{after_collect, is_in_use, is_marked, is_marked_by_roots, start_of_marks, without_unused}
+use Rattle.machine_rules.specs.Collect.{after_collect, is_in_use, is_marked_by_roots, start_of_marks, without_unused}
 use Rattle.orca_names.specs.declared.trace.Trace.TheVariants as options
-use Rattle.event_rule.specs.Runs.{Goes}
-use Rattle.machine_rules.specs.Next.{next}
 use Rattle.machine_rules.specs.State.{State}
 use Rattle.count_laws.proofs.away.Untouched.{adds_decs}
 use Rattle.count_laws.proofs.balance.InHand.{Balanced, in_hand}
@@ -40,7 +36,6 @@ use Rattle.count_laws.specs.Known.{IsKnown, Names, ReachesThrough}
 use Rattle.count_laws.specs.KnownByRoots.{IsRootsAt, WalkRoots, by_field, by_row, mine, named}
 use Rattle.plain_rules.specs.Machine.{plain_row, PlainState}
 use Rattle.count_laws.proofs.roots.Starts.{starts, starts_counted, starts_field}
-use Rattle.orca_names.specs.declared.trace.Trace.{Trace}
 use Rattle.machine_rules.specs.Rules.{IsStep}
 use Rattle.machine_rules.specs.Rules as rule
 use Rattle.machine_rules.proofs.Guards.{collector}
