@@ -21,5 +21,5 @@ abbrev pub with_text : List (List ℕ) → List ℕ → List (List ℕ)
 with_text texts text = if list_any (bytes_eq text) texts then texts else texts ++ text ∷ []
 
 -- the name of a text, and the texts after it: the place where it stands, or else the next
-abbrev pub interned : List (List ℕ) → List ℕ → ℕ × List (List ℕ)
-interned texts text = (position_or_len (bytes_eq text) texts, with_text texts text)
+abbrev pub intern : List (List ℕ) → List ℕ → ℕ × List (List ℕ)
+intern texts text = (position_or_len (bytes_eq text) texts, with_text texts text)

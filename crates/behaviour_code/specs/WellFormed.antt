@@ -1,5 +1,5 @@
 -- Well-formed programs: those that some text gives.
-use Rattle.std.specs.Prelude.{ℕ, ◌≡◌, ◌<◌, ◌≤◌, ◌^◌, List, [], ◌∷◌, Option, Some, None, All, IfSome, length, true}
+use Rattle.std.specs.Prelude.{ℕ, ◌≡◌, ◌<◌, ◌≤◌, ◌^◌, List, [], ◌∷◌, Option, Some, None, All, IfSome, length, true, ⊤}
 use Rattle.std.specs.List.{AllByRecursion}
 use Rattle.orca_names.specs.declared.limits.TheConstants.{BEHAVIOURS_LIMIT, BODY_LIMIT, FIELDS_LIMIT, KINDS_LIMIT, VALUES_LIMIT}
 use Rattle.behaviour_code.specs.Names.{is_name, text_of, with_text}
@@ -29,11 +29,11 @@ InstrFits (I.Row d values) =
 InstrFits (I.Get d s n) = Fits64 d × Fits64 s × Fits64 n
 InstrFits (I.Load d f) = Fits64 d × Fits64 f
 InstrFits (I.Store f s) = Fits64 f × Fits64 s
-InstrFits (I.Jump l) = Unit {0}
+InstrFits (I.Jump l) = ⊤
 InstrFits (I.JumpZero a l) = Fits64 a
-InstrFits (I.Label l) = Unit {0}
-InstrFits I.Pin = Unit {0}
-InstrFits I.Unpin = Unit {0}
+InstrFits (I.Label l) = ⊤
+InstrFits I.Pin = ⊤
+InstrFits I.Unpin = ⊤
 InstrFits (I.New d kind) = Fits64 d
 InstrFits (I.Send to behaviour values) =
     Fits64 to × (length values ≤ VALUES_LIMIT) × All Fits64 values

@@ -72,12 +72,10 @@ impl Program {
     pub fn start_name(&self) -> Option<Name>
         ensures { result ≡ start_name self.now }
     {
-        for behaviour in self.behaviours(0) {
-            if is_start(&self.names, behaviour) {
-                return Some(behaviour.name);
-            }
-        }
-        None
+        self.behaviours(0)
+            .iter()
+            .find(|behaviour| is_start(&self.names, behaviour))
+            .map(|behaviour| behaviour.name)
     }
 
     /// The text of a name.

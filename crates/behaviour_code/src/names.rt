@@ -1,7 +1,7 @@
 // Names, by their places among the names of a program.
 
 ghost use Rattle.std.specs.Prelude.{◌≡◌, ◌<◌, ◌^◌, [], length, slice_index_or, IfOk, OnErr};
-ghost use Rattle.behaviour_code.specs.Names.{interned};
+ghost use Rattle.behaviour_code.specs.Names.{intern};
 
 use indexmap::IndexSet;
 use std::alloc::{AllocError, Global};
@@ -58,7 +58,7 @@ impl Names {
     /// Where memory is refused, nothing changes.
     pub fn intern(&mut self, text: &str) -> Result<Name, AllocError>
         requires { length self.old < 2 ^ 32 }
-        ensures ok { IfOk result (λ name. interned self.old text.now ≡ (name, self.new)) }
+        ensures ok { IfOk result (λ name. intern self.old text.now ≡ (name, self.new)) }
         ensures err { OnErr result (self.new ≡ self.old) }
     {
         if let Some(place) = self.texts.get_index_of(text) {

@@ -1,5 +1,5 @@
 -- A text of a program is read as that program.
-use Rattle.std.proofs.Common.{option_map, ◌≡◌, ℕ, ◌+◌, ◌<◌, ◌≤◌, ◌^◌, ◌||◌, Bool, true, false, cond, not, List, [], ◌∷◌, ◌++◌, length, map, flat_map, refl, ap, ap₂, sym, ◌∙◌, subst, arith, Option, Some, None, Result, Ok, Err, if◌then◌else◌, le-ltb, min, decimal, append-nil, append_assoc, length-append, zero, suc, IfOk, IfErr, OnOk}
+use Rattle.std.proofs.Common.{option_map, ◌≡◌, ◌≢◌, ℕ, ◌+◌, ◌<◌, ◌≤◌, ◌^◌, ◌||◌, Bool, true, false, cond, not, List, [], ◌∷◌, ◌++◌, length, map, flat_map, refl, ap, ap₂, sym, ◌∙◌, subst, arith, Option, Some, None, Result, Ok, Err, if◌then◌else◌, le-ltb, min, decimal, append-nil, append_assoc, length-append, zero, suc, IfOk, IfErr, OnOk}
 use Rattle.std.specs.List.{AllByRecursion}
 use Rattle.text_lines.specs.Lines.{line_fault, lines_of}
 use Rattle.text_lines.specs.declared.LineKind.{LineKind}
@@ -10,13 +10,13 @@ use Rattle.behaviour_text.proofs.Reread.{number_read, numeral_fits, name_fits, n
 use Rattle.behaviour_text.proofs.Whole.{IsFront, front_before, number_found, Takes, takes_word, instr_takes}
 use Rattle.std.specs.Option.{option_or}
 use Rattle.behaviour_code.specs.WellFormed.{name_in, AreApart, NameFits, instr_names, body_names, behaviours_names, kinds_names, InstrIsWellFormed, BehaviourIsWellFormed, KindIsWellFormed, IsWellFormed}
-use Rattle.behaviour_code.specs.Names.{is_name, text_of, with_text, interned}
+use Rattle.behaviour_code.specs.Names.{is_name, text_of, with_text, intern}
 use Rattle.behaviour_code.specs.declared.code.Behaviour.{Behaviour}
 use Rattle.behaviour_code.specs.declared.code.Kind.{Kind}
 use Rattle.behaviour_code.specs.declared.code.Program.{Program}
 use Rattle.behaviour_code.specs.declared.instr.Instr.{Instr}
 use Rattle.behaviour_text.specs.Faults.{kind_fault, on_fault, inside_fault, word_fault, words_fault, kind_number, lowest_fault, first_fault, IsFault, Tells}
-use Rattle.behaviour_text.specs.Reading.{start, kinds_begun, place_of, closed_at, closed, with_kind, with_on, with_end, with_word, with_words, read_end, unless_fault, read_from, finish, read_text, fault_of}
+use Rattle.behaviour_text.specs.Reading.{start, kinds_begun, place_of, close_kind_at, close_kind, with_kind, with_on, with_end, with_word, with_words, read_end, unless_fault, read_from, finish, read_text, fault_of}
 use Rattle.behaviour_text.specs.Table.{line_word, starts_with, operands_fault, shape_fault}
 use Rattle.behaviour_text.specs.Text.{instr_words, behaviour_begin, behaviour_end, kind_begin, behaviour_lines, kind_lines, program_lines, speaks, said_lines, AreClean, IsText}
 use Rattle.behaviour_text.specs.Words.{words_of, number_of}
@@ -43,7 +43,7 @@ on_place_read stage behaviours n e few h =
     ap₂ (λ (s : Stage) (k : ℕ). on_fault s behaviours k) e (number_read n (small_number n h))
     ∙ ap₂ (λ (a b : Bool). if◌then◌else◌ {A = Option ℕ} (a || b) (Some 9) None) (le-ltb 63 behaviours (omega arith)) (le-ltb 8 n h)
 
-kind_place_read : (stage : Stage) (kinds n : ℕ) → (stage ≡ InBehaviour → ⊥) → kinds < 256 → n ≤ 8 → kind_fault stage kinds (number_of (decimal n)) ≡ None
+kind_place_read : (stage : Stage) (kinds n : ℕ) → stage ≢ InBehaviour → kinds < 256 → n ≤ 8 → kind_fault stage kinds (number_of (decimal n)) ≡ None
 kind_place_read InBehaviour kinds n away few h = absurd (away refl)
 kind_place_read Start kinds n away few h =
     ap (kind_fault Start kinds) (number_read n (small_number n h))
@@ -53,7 +53,7 @@ kind_place_read InKind kinds n away few h =
     ∙ ap₂ (λ (a b : Bool). if◌then◌else◌ {A = Option ℕ} (a || b) (Some 9) None) (le-ltb 255 kinds (omega arith)) (le-ltb 8 n h)
 
 one_name : (all : List (List ℕ)) (names : List (List ℕ)) (n : ℕ) → AreApart all → NameFits all n → IsFront (with_text names (text_of all n)) all →
-    (interned names (text_of all n)).0 ≡ n
+    (intern names (text_of all n)).0 ≡ n
 one_name all names n apart fits front = number_found names all n apart fits.within front
 
 on_takes : (all : List (List ℕ)) (r : Reader) (name : ℕ) (n : ℕ) → AreApart all → r.stage ≡ InKind → length r.behaviours < 64 → n ≤ 8 → NameFits all name →
@@ -66,7 +66,7 @@ on_takes all r name n apart stage few small fits front =
     (on_place_read r.stage (length r.behaviours) n stage few small)
     (ap₂ (with_on renamed) (one_name all r.names name apart fits front) (smaller n small))
 
-kind_takes : (all : List (List ℕ)) (r : Reader) (name : ℕ) (n : ℕ) → AreApart all → (r.stage ≡ InBehaviour → ⊥) → kinds_begun r.stage (length r.kinds) < 256 → n ≤ 8 → NameFits all name →
+kind_takes : (all : List (List ℕ)) (r : Reader) (name : ℕ) (n : ℕ) → AreApart all → r.stage ≢ InBehaviour → kinds_begun r.stage (length r.kinds) < 256 → n ≤ 8 → NameFits all name →
     IsFront (with_text r.names (text_of all name)) all →
     Takes r (with_kind (record r { names = with_text r.names (text_of all name) }) name n) (kind_begin (text_of all) name n)
 unfolding shape_fault
@@ -174,12 +174,12 @@ behaviours_read all r (b ∷ bs) apart stage few good front =
       },
     )
 
-closed_renamed : (r : Reader) (names : List (List ℕ)) (stage : Stage) → (closed_at stage (record r { names = names })).kinds ≡ (closed_at stage r).kinds
+closed_renamed : (r : Reader) (names : List (List ℕ)) (stage : Stage) → (close_kind_at stage (record r { names = names })).kinds ≡ (close_kind_at stage r).kinds
 closed_renamed r names Start = refl
 closed_renamed r names InKind = refl
 closed_renamed r names InBehaviour = refl
 
-begun_is : (r : Reader) (stage : Stage) → kinds_begun stage (length r.kinds) ≡ length (closed_at stage r).kinds
+begun_is : (r : Reader) (stage : Stage) → kinds_begun stage (length r.kinds) ≡ length (close_kind_at stage r).kinds
 begun_is r Start = refl
 begun_is r InKind = sym (length-append r.kinds _)
 begun_is r InBehaviour = sym (length-append r.kinds _)
@@ -187,18 +187,18 @@ begun_is r InBehaviour = sym (length-append r.kinds _)
 -- what kinds leave
 pub record AddsKinds (r s : Reader) (names : List (List ℕ)) (ks : List Kind) : Type 0 where
   pub names_are : s.names ≡ names
-  pub ended : s.stage ≡ InBehaviour → ⊥
-  pub kinds_are : (closed_at s.stage s).kinds ≡ (closed_at r.stage r).kinds ++ ks
+  pub ended : s.stage ≢ InBehaviour
+  pub kinds_are : (close_kind_at s.stage s).kinds ≡ (close_kind_at r.stage r).kinds ++ ks
 
 kind_same : (s : Reader) (k : Kind) → s.kind_name ≡ k.name → s.fields ≡ k.fields → s.behaviours ≡ k.behaviours → record { name = s.kind_name; fields = s.fields; behaviours = s.behaviours } ≡ k
 kind_same s k e f b =
     ap (λ (n : ℕ). let x : Kind = record { name = n; fields = s.fields; behaviours = s.behaviours } in x) e
     ∙ ap₂ (λ (n : ℕ) (bs : List Behaviour). let x : Kind = record { name = k.name; fields = n; behaviours = bs } in x) f b
 
-kind_read : (all : List (List ℕ)) (r : Reader) (k : Kind) → AreApart all → (r.stage ≡ InBehaviour → ⊥) → length (closed_at r.stage r).kinds < 256 → KindIsWellFormed all k →
+kind_read : (all : List (List ℕ)) (r : Reader) (k : Kind) → AreApart all → r.stage ≢ InBehaviour → length (close_kind_at r.stage r).kinds < 256 → KindIsWellFormed all k →
     IsFront (behaviours_names (text_of all) (with_text r.names (text_of all k.name)) k.behaviours) all →
     (s : Reader) × ReadsTo r (kind_lines (text_of all) k) s × AddsKinds r s (behaviours_names (text_of all) (with_text r.names (text_of all k.name)) k.behaviours) (k ∷ [])
-unfolding with_kind closed
+unfolding with_kind close_kind
 kind_read all r k apart away few good front =
     let text = text_of all in
     let names = with_text r.names (text k.name) in
@@ -212,33 +212,33 @@ kind_read all r k apart away few good front =
       record {
         names_are = a.names_are;
         ended = λ e. in_kind_only s.stage a.stage_is e;
-        kinds_are = ap (λ (x : Stage). (closed_at x s).kinds) a.stage_is
+        kinds_are = ap (λ (x : Stage). (close_kind_at x s).kinds) a.stage_is
             ∙ ap₂ (λ (xs : List Kind) (x : Kind). xs ++ x ∷ []) (a.kinds_are ∙ closed_renamed r names r.stage) (kind_same s k a.name_is a.fields_are a.behaviours_are);
       },
     )
   where
-    in_kind_only : (stage : Stage) → stage ≡ InKind → stage ≡ InBehaviour → ⊥
+    in_kind_only : (stage : Stage) → stage ≡ InKind → stage ≢ InBehaviour
     in_kind_only stage e h = cc
 
     kept_names : (r : Reader) (names : List (List ℕ)) (name : ℕ) (n : ℕ) → record (with_kind (record r { names = names }) name n) { names = names } ≡ with_kind (record r { names = names }) name n
     kept_names r names name n = by_stage r.stage
       where
-        by_stage : (stage : Stage) → record (record (closed_at stage (record r { names = names })) { stage = InKind; kind_name = name; fields = n; behaviours = [] }) { names = names }
-            ≡ record (closed_at stage (record r { names = names })) { stage = InKind; kind_name = name; fields = n; behaviours = [] }
+        by_stage : (stage : Stage) → record (record (close_kind_at stage (record r { names = names })) { stage = InKind; kind_name = name; fields = n; behaviours = [] }) { names = names }
+            ≡ record (close_kind_at stage (record r { names = names })) { stage = InKind; kind_name = name; fields = n; behaviours = [] }
         by_stage Start = refl
         by_stage InKind = refl
         by_stage InBehaviour = refl
 
-kinds_read : (all : List (List ℕ)) (r : Reader) (ks : List Kind) → AreApart all → (r.stage ≡ InBehaviour → ⊥) → length (closed_at r.stage r).kinds + length ks ≤ 256 → AllByRecursion (KindIsWellFormed all) ks →
+kinds_read : (all : List (List ℕ)) (r : Reader) (ks : List Kind) → AreApart all → r.stage ≢ InBehaviour → length (close_kind_at r.stage r).kinds + length ks ≤ 256 → AllByRecursion (KindIsWellFormed all) ks →
     IsFront (kinds_names (text_of all) r.names ks) all →
     (s : Reader) × ReadsTo r (flat_map (kind_lines (text_of all)) ks) s × AddsKinds r s (kinds_names (text_of all) r.names ks) ks
-kinds_read all r [] apart away few good front = (r, refl, record { names_are = refl; ended = away; kinds_are = sym (append-nil (closed_at r.stage r).kinds) })
+kinds_read all r [] apart away few good front = (r, refl, record { names_are = refl; ended = away; kinds_are = sym (append-nil (close_kind_at r.stage r).kinds) })
 kinds_read all r (k ∷ ks) apart away few good front =
     let text = text_of all in
     let names = behaviours_names text (with_text r.names (text k.name)) k.behaviours in
     let first = kind_read all r k apart away (omega arith) good.0 (front_kinds all names text ks front) in
     let a = first.2 in
-    let rest = kinds_read all first.0 ks apart a.ended (omega (arith, ap length a.kinds_are, length-append (closed_at r.stage r).kinds (k ∷ []))) good.1
+    let rest = kinds_read all first.0 ks apart a.ended (omega (arith, ap length a.kinds_are, length-append (close_kind_at r.stage r).kinds (k ∷ []))) good.1
     (subst (λ (ns : List (List ℕ)). IsFront (kinds_names text ns ks) all) (sym a.names_are) front) in
     let c = rest.2 in (
       rest.0,
@@ -246,7 +246,7 @@ kinds_read all r (k ∷ ks) apart away few good front =
       record {
         names_are = c.names_are ∙ ap (λ (ns : List (List ℕ)). kinds_names text ns ks) a.names_are;
         ended = c.ended;
-        kinds_are = c.kinds_are ∙ ap (λ (xs : List Kind). xs ++ ks) a.kinds_are ∙ append_assoc (closed_at r.stage r).kinds (k ∷ []) ks;
+        kinds_are = c.kinds_are ∙ ap (λ (xs : List Kind). xs ++ ks) a.kinds_are ∙ append_assoc (close_kind_at r.stage r).kinds (k ∷ []) ks;
       },
     )
 
@@ -267,12 +267,12 @@ line_back r s (w ∷ ws) rest h = by_mark (starts_with 35 w) refl h
     }
     by_mark false e (t, takes, more) = record { clean = takes.clean; goes_on = subst (λ (x : Reader). ReadsTo x rest s) (sym takes.next) more }
 
-ended_ok : (n : ℕ) (r : Reader) (stage : Stage) → (stage ≡ InBehaviour → ⊥) → read_end n r stage ≡ Ok r
+ended_ok : (n : ℕ) (r : Reader) (stage : Stage) → stage ≢ InBehaviour → read_end n r stage ≡ Ok r
 ended_ok n r Start away = refl
 ended_ok n r InKind away = refl
 ended_ok n r InBehaviour away = absurd (away refl)
 
-pub read_back : (n : ℕ) (r s : Reader) (lines : List (List ℕ)) → AllByRecursion (λ line. line_fault line ≡ None) lines → ReadsTo r (said_lines lines) s → (s.stage ≡ InBehaviour → ⊥) → read_from n r lines ≡ Ok s
+pub read_back : (n : ℕ) (r s : Reader) (lines : List (List ℕ)) → AllByRecursion (λ line. line_fault line ≡ None) lines → ReadsTo r (said_lines lines) s → s.stage ≢ InBehaviour → read_from n r lines ≡ Ok s
 unfolding read_from lowest_fault
 read_back n r s [] clean e away = ap (λ (x : Reader). read_end n x x.stage) e ∙ ended_ok n s s.stage away
 read_back n r s (line ∷ lines) clean h away =
@@ -282,7 +282,7 @@ read_back n r s (line ∷ lines) clean h away =
 
 -- a text of a program is read as that program
 pub text_again : (bytes : List ℕ) (p : Program) → AllByRecursion (λ line. line_fault line ≡ None) (lines_of bytes) → said_lines (lines_of bytes) ≡ program_lines p → IsWellFormed p → read_text bytes ≡ Ok p
-unfolding read_text start closed
+unfolding read_text start close_kind
 text_again bytes p clean lines good =
     let whole : IsFront (kinds_names (text_of p.names) [] p.kinds) p.names =
     subst (λ (ns : List (List ℕ)). IsFront ns p.names) (sym good.in_order) (record { same = λ n k. refl; short = omega arith }) in
@@ -304,12 +304,12 @@ pub only_one : (bytes : List ℕ) (r : Result Program TextErr) → IfOk r (λ p.
 only_one bytes (Ok found) ok p text good = let same : Ok found ≡ Ok p = sym ok ∙ again bytes p text good in cc
 only_one bytes (Err e) ok p text good = tt
 
-refused : (bytes : List ℕ) (e : TextErr) → Tells (fault_of (read_text bytes)) e → IsFault e → (p : Program) → IsText bytes p → IsWellFormed p → ⊥
+refused : (bytes : List ℕ) (e : TextErr) → Tells (fault_of (read_text bytes)) e → IsFault e → (p : Program) → IsText bytes p → ¬ IsWellFormed p
 refused bytes (E.Fault line kind) h f p text good = let none = ap fault_of (again bytes p text good) in cc
 refused bytes E.NoMemory h f p text good = f
 
 pub no_program : (bytes : List ℕ) (r : Result Program TextErr) → IfErr r (Tells (fault_of (read_text bytes))) →
-    IfErr r (λ e. IsFault e → (p : Program) → IsText bytes p → IsWellFormed p → ⊥)
+    IfErr r (λ e. IsFault e → (p : Program) → IsText bytes p → ¬ IsWellFormed p)
 no_program bytes (Ok p) h = tt
 no_program bytes (Err e) h = refused bytes e h
 

@@ -13,7 +13,7 @@ use Rattle.behaviour_code.specs.declared.code.Behaviour.{Behaviour}
 use Rattle.behaviour_code.specs.declared.code.Kind.{Kind}
 use Rattle.behaviour_code.specs.declared.code.Program.{Program}
 use Rattle.behaviour_code.specs.declared.instr.Instr.{Instr}
-use Rattle.behaviour_text.specs.Reading.{start, closed_at, closed, read_from, finished, finish, read_text}
+use Rattle.behaviour_text.specs.Reading.{start, close_kind_at, close_kind, read_from, program_of, finish, read_text}
 use Rattle.behaviour_text.specs.Text.{kind_lines, said_lines}
 use Rattle.behaviour_text.specs.declared.errors.TextErr.{TextErr}
 use Rattle.behaviour_text.specs.declared.reader.Reader.{Reader}
@@ -57,7 +57,7 @@ none_ok : NamesOk []
 none_ok = record { each = tt; apart = record { apart = λ m n h k e. absurd (omega arith) } }
 
 done_good : (bytes : List ℕ) (p : Program) (read : Result Reader (ℕ × ℕ)) → read_from 0 start (lines_of bytes) ≡ read → finish read ≡ Ok p → IsWellFormed p
-unfolding start closed
+unfolding start close_kind
 done_good bytes p (Err e) told h = cc
 done_good bytes p (Ok s) told h =
     let lines = lines_of bytes in
@@ -65,11 +65,11 @@ done_good bytes p (Ok s) told h =
     let small = read_small 0 start s lines (tt, omega arith) told in
     let adds = read_adds 0 start s lines told in
     let ok = adds.ok none_ok in
-    let kinds = (closed_at s.stage s).kinds in
+    let kinds = (close_kind_at s.stage s).kinds in
     let said : flat_map (kind_lines (text_of s.names)) kinds ≡ said_lines lines = closed_said (text_of s.names) s s.stage reads.ended ∙ reads.says.said in
     let order : kinds_names (text_of s.names) [] kinds ≡ s.names =
     sym (kinds_same (text_of s.names) [] kinds) ∙ ap (lines_names []) said ∙ sym adds.order in
-    let same : finished s ≡ p = cc in
+    let same : program_of s ≡ p = cc in
     subst IsWellFormed same (record {
       few = closed_count s s.stage small;
       kinds = kinds_good s.names kinds ok (closed_known (length s.names) s s.stage reads.says.known) (closed_small s s.stage small);

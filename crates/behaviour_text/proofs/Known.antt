@@ -1,9 +1,10 @@
 -- The names that were read so far keep their texts.
 use Rattle.std.proofs.Common.{◌≡◌, ℕ, ◌+◌, ◌<◌, Bool, true, false, cond, not, List, [], ◌∷◌, ◌++◌, ◌||◌, length, map, flat_map, refl, ap, ap₂, sym, arith, if◌then◌else◌, bytes_eq, zero, suc, slice_index_or, one-add}
+use Rattle.std.specs.Prelude.{⊤}
 use Rattle.std.specs.List.{AllByRecursion, list_any, position_or_len}
 use Rattle.std.proofs.lemmas.Slice.Eq.{bytes_eq-Decides}
 use Rattle.behaviour_text.proofs.Said.{Lines, so_far_at, open_lines, in_kind, in_behaviour}
-use Rattle.behaviour_code.specs.Names.{text_of, with_text, interned}
+use Rattle.behaviour_code.specs.Names.{text_of, with_text, intern}
 use Rattle.behaviour_code.specs.declared.code.Behaviour.{Behaviour}
 use Rattle.behaviour_code.specs.declared.code.Kind.{Kind}
 use Rattle.behaviour_code.specs.declared.instr.Instr.{Instr}
@@ -27,7 +28,7 @@ InstrKnown m (I.JumpZero a l) = l < m
 InstrKnown m (I.Label l) = l < m
 InstrKnown m (I.New d k) = k < m
 InstrKnown m (I.Send t b values) = b < m
-InstrKnown m _ = Unit {0}
+InstrKnown m _ = ⊤
 
 pub record BehaviourKnown (m : ℕ) (b : Behaviour) : Type 0 where
   pub name : b.name < m
@@ -46,7 +47,7 @@ pub record InBehaviourKnown (m : ℕ) (r : Reader) : Type 0 where
   pub body : AllByRecursion (InstrKnown m) r.body
 
 abbrev pub OpenKnown : ℕ → Reader → Stage → Type 0
-OpenKnown m r Start = Unit {0}
+OpenKnown m r Start = ⊤
 OpenKnown m r InKind = InKindKnown m r
 OpenKnown m r InBehaviour = InKindKnown m r × InBehaviourKnown m r
 
@@ -124,6 +125,6 @@ found_first false n ns text e rest = later (list_any (bytes_eq text) ns) (positi
     later true p f = record { said = rw one-add f.said; within = omega (arith, f.within) }
     later false p f = record { said = rw one-add f.said; within = omega (arith, f.within) }
 
-pub finds : (names : List (List ℕ)) (text : List ℕ) → Finds names text (interned names text).0 (interned names text).1
+pub finds : (names : List (List ℕ)) (text : List ℕ) → Finds names text (intern names text).0 (intern names text).1
 finds [] text = record { said = refl; within = omega arith }
 finds (n ∷ ns) text = found_first (bytes_eq text n) n ns text refl (finds ns text)

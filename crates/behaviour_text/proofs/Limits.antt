@@ -1,9 +1,8 @@
 -- What is read keeps the limits.
 use Rattle.behaviour_text.proofs.Steps.{end_read, line_read}
 use Rattle.behaviour_text.proofs.Choices.{both, neither, option_or_none, no_fault, each_push}
-use Rattle.std.proofs.Common.{◌≡◌, ℕ, ◌+◌, ◌<◌, ◌≤◌, ◌^◌, ◌&&◌, Bool, true, false, List, [], ◌∷◌, ◌++◌, length, drop, map, refl, sym, subst, arith, Option, Some, None, if◌then◌else◌, nat_lt, ltb-true, ltb-false, length-append, length-drop, zero, suc, All, Result, Ok, Err}
+use Rattle.std.proofs.Common.{◌≡◌, ℕ, ◌+◌, ◌<◌, ◌≤◌, ◌^◌, ◌&&◌, Bool, true, false, List, [], ◌∷◌, ◌++◌, length, drop, map, refl, sym, subst, arith, Option, Some, None, if◌then◌else◌, nat_lt, ltb-true, ltb-false, length-append, length-drop, zero, suc, All, Ok}
 use Rattle.std.specs.List.{AllByRecursion}
-use Rattle.text_lines.specs.Lines.{lines_of}
 use Rattle.std.specs.Str.Parse.{digits_value}
 use Rattle.std.proofs.lemmas.List.{length-map}
 use Rattle.behaviour_text.proofs.Shapes.{fits, enough}
@@ -12,11 +11,10 @@ use Rattle.std.specs.Option.{unwrap_or}
 use Rattle.behaviour_code.specs.WellFormed.{Fits64, InstrFits}
 use Rattle.behaviour_code.specs.declared.code.Behaviour.{Behaviour}
 use Rattle.behaviour_code.specs.declared.code.Kind.{Kind}
-use Rattle.behaviour_code.specs.declared.code.Program.{Program}
 use Rattle.behaviour_code.specs.declared.instr.Instr.{Instr}
 use Rattle.behaviour_text.specs.Faults.{kind_fault, on_fault, inside_fault, body_fault, place_fault, word_fault, words_fault}
 use Rattle.behaviour_text.specs.Items.{register_of, instr_of, name_place}
-use Rattle.behaviour_text.specs.Reading.{start, kinds_begun, place_of, closed_at, closed, with_kind, with_on, with_end, with_instr, named, with_item, with_word, with_words, read_from, finished, finish}
+use Rattle.behaviour_text.specs.Reading.{kinds_begun, place_of, close_kind_at, close_kind, with_kind, with_on, with_end, with_instr, intern_name, with_item, with_word, with_words, read_from}
 use Rattle.behaviour_text.specs.Table.{line_word, starts_with, fits_count, shape_fault}
 use Rattle.behaviour_text.specs.Words.{words_of, has_numeral_form, word_at, number_of, number_at}
 use Rattle.behaviour_text.specs.declared.place.Stage.{Stage}
@@ -99,12 +97,12 @@ OpenSmall r InBehaviour = InKindSmall r 63 × InBehaviourSmall r
 abbrev pub SmallAt : Reader → Stage → Type 0
 SmallAt r stage = AllByRecursion KindSmall r.kinds × OpenSmall r stage
 
-pub closed_small : (r : Reader) (stage : Stage) → SmallAt r stage → AllByRecursion KindSmall (closed_at stage r).kinds
+pub closed_small : (r : Reader) (stage : Stage) → SmallAt r stage → AllByRecursion KindSmall (close_kind_at stage r).kinds
 closed_small r Start h = h.0
 closed_small r InKind h = each_push KindSmall r.kinds _ h.0 (record { few = h.1.few; short = h.1.short; each = h.1.each })
 closed_small r InBehaviour h = each_push KindSmall r.kinds _ h.0 (record { few = h.1.0.few; short = let s = h.1.0.short in omega arith; each = h.1.0.each })
 
-closed_room : (r : Reader) (stage : Stage) (fields : ℕ) → kind_fault stage (kinds_begun stage (length r.kinds)) fields ≡ None → length (closed_at stage r).kinds ≤ 255
+closed_room : (r : Reader) (stage : Stage) (fields : ℕ) → kind_fault stage (kinds_begun stage (length r.kinds)) fields ≡ None → length (close_kind_at stage r).kinds ≤ 255
 closed_room r InBehaviour fields h = cc
 closed_room r Start fields h = ltb-false 255 (length r.kinds) (neither (nat_lt 255 (length r.kinds)) (nat_lt 8 fields) (no_fault _ 9 h)).0
 closed_room r InKind fields h =
@@ -136,7 +134,7 @@ with_instr_small r i e few fits h =
 
 pub item_small : (r : Reader) (word : LineWord) (name : ℕ) (ws : List (List ℕ)) → shape_fault word ws ≡ None → place_fault (place_of r) word ws ≡ None → SmallAt r r.stage →
     SmallAt (with_item r word name ws) (with_item r word name ws).stage
-unfolding with_kind with_on with_end closed
+unfolding with_kind with_on with_end close_kind
 item_small r W.Kind name ws shape place h =
     (closed_small r r.stage h, record { few = omega arith; short = omega arith; each = tt; room = closed_room r r.stage (number_at ws 1) place })
 item_small r W.On name ws shape place h =
@@ -162,7 +160,7 @@ word_small : (r : Reader) (word : Option LineWord) (ws : List (List ℕ)) → wo
 word_small r None ws fault h = cc
 word_small r (Some word) ws fault h =
     let parts = option_or_none (shape_fault word ws) (place_fault (place_of r) word ws) fault in
-    let found = named r.names (name_place word) ws in
+    let found = intern_name r.names (name_place word) ws in
     item_small (record r { names = found.1 }) word found.0 ws parts.0 parts.1 (small_renamed r found.1 r.stage h)
 
 spoken_small : (r : Reader) (b : Bool) (word : Option LineWord) (ws : List (List ℕ)) → (if b then None else word_fault (place_of r) word ws) ≡ None → SmallAt r r.stage →
@@ -181,20 +179,7 @@ read_small n r s (line ∷ lines) h e =
     let read = line_read n r s line lines e in
     read_small (n + 1) (with_words r (words_of line)) s lines (words_small r (words_of line) read.words h) read.rest
 
-pub closed_count : (r : Reader) (stage : Stage) → SmallAt r stage → length (closed_at stage r).kinds ≤ 256
+pub closed_count : (r : Reader) (stage : Stage) → SmallAt r stage → length (close_kind_at stage r).kinds ≤ 256
 closed_count r Start h = let room = h.1 in omega arith
 closed_count r InKind h = let room = h.1.room in omega (arith, length-append r.kinds (record { name = r.kind_name; fields = r.fields; behaviours = r.behaviours } ∷ []))
 closed_count r InBehaviour h = let room = h.1.0.room in omega (arith, length-append r.kinds (record { name = r.kind_name; fields = r.fields; behaviours = r.behaviours } ∷ []))
-
--- the limits that a program keeps
-pub record Limits (p : Program) : Type 0 where
-  pub few : length p.kinds ≤ 256
-  pub each : AllByRecursion KindSmall p.kinds
-
-done_small : (bytes : List ℕ) (p : Program) (read : Result Reader (ℕ × ℕ)) → read_from 0 start (lines_of bytes) ≡ read → finish read ≡ Ok p → Limits p
-unfolding start closed
-done_small bytes p (Err e) told h = cc
-done_small bytes p (Ok s) told h =
-    let small = read_small 0 start s (lines_of bytes) (tt, omega arith) told in
-    let same : finished s ≡ p = cc in
-    subst Limits same (record { few = closed_count s s.stage small; each = closed_small s s.stage small })

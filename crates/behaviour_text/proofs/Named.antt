@@ -1,7 +1,7 @@
 -- What is read has its names in order, each once.
 use Rattle.behaviour_text.proofs.Steps.{kept, end_read, line_read}
 use Rattle.behaviour_text.proofs.Choices.{or_right, option_or_none, filter_first, each_push}
-use Rattle.std.proofs.Common.{◌≡◌, ℕ, ◌+◌, ◌<◌, ◌||◌, Bool, true, false, cond, not, List, [], ◌∷◌, ◌++◌, length, map, flat_map, filter, refl, ap, sym, ◌∙◌, subst, arith, Option, Some, None, IfSome, Ok, if◌then◌else◌, bytes_eq, slice_index_or, length-append, zero, suc, option_map, inl, inr}
+use Rattle.std.proofs.Common.{◌≡◌, ◌≢◌, ℕ, ◌+◌, ◌<◌, ◌||◌, Bool, true, false, cond, not, List, [], ◌∷◌, ◌++◌, length, map, flat_map, filter, refl, ap, sym, ◌∙◌, subst, arith, Option, Some, None, IfSome, Ok, if◌then◌else◌, bytes_eq, slice_index_or, length-append, zero, suc, option_map, inl, inr}
 use Rattle.std.specs.List.{AllByRecursion, list_any}
 use Rattle.std.proofs.lemmas.Bool.{cases_lt}
 use Rattle.std.proofs.lemmas.Slice.Eq.{bytes_eq-Decides}
@@ -14,7 +14,7 @@ use Rattle.behaviour_code.specs.declared.code.Kind.{Kind}
 use Rattle.behaviour_code.specs.declared.instr.Instr.{Instr}
 use Rattle.behaviour_text.specs.Faults.{place_fault, word_fault, words_fault}
 use Rattle.behaviour_text.specs.Items.{name_place}
-use Rattle.behaviour_text.specs.Reading.{place_of, named, with_named, with_word, with_words, read_from}
+use Rattle.behaviour_text.specs.Reading.{place_of, intern_name, with_named, with_word, with_words, read_from}
 use Rattle.behaviour_text.specs.Table.{line_word, starts_with, shape_fault}
 use Rattle.behaviour_text.specs.Text.{instr_words, behaviour_lines, kind_lines, speaks, said_lines}
 use Rattle.behaviour_text.specs.Words.{words_of, word_at}
@@ -59,7 +59,7 @@ new_apart names text h fresh = record {
       ];
 }
   where
-    clash : (i : ℕ) → i < length names → slice_index_or names i [] ≡ text → ⊥
+    clash : (i : ℕ) → i < length names → slice_index_or names i [] ≢ text
     clash i k same = let found = any_at text names i k same in cc
 
 text_ok : (names : List (List ℕ)) (text : List ℕ) (b : Bool) → list_any (bytes_eq text) names ≡ b → NamesOk names → is_name text ≡ true → NamesOk (if b then names else names ++ text ∷ [])
@@ -92,11 +92,11 @@ pub record Adds (names after : List (List ℕ)) (lss : List (List (List ℕ))) :
   pub order : after ≡ lines_names names lss
   pub ok : NamesOk names → NamesOk after
 
-named_same : (names : List (List ℕ)) (o : Option ℕ) (ws : List (List ℕ)) → (named names o ws).1 ≡ with_line names (option_map (word_at ws) o)
+named_same : (names : List (List ℕ)) (o : Option ℕ) (ws : List (List ℕ)) → (intern_name names o ws).1 ≡ with_line names (option_map (word_at ws) o)
 named_same names None ws = refl
 named_same names (Some p) ws = refl
 
-named_ok : (names : List (List ℕ)) (o : Option ℕ) (ws : List (List ℕ)) → IfSome o (λ p. is_name (word_at ws p) ≡ true) → NamesOk names → NamesOk (named names o ws).1
+named_ok : (names : List (List ℕ)) (o : Option ℕ) (ws : List (List ℕ)) → IfSome o (λ p. is_name (word_at ws p) ≡ true) → NamesOk names → NamesOk (intern_name names o ws).1
 named_ok names None ws n h = h
 named_ok names (Some p) ws n h = text_ok names (word_at ws p) (list_any (bytes_eq (word_at ws p)) names) refl h n
 
@@ -104,7 +104,7 @@ word_adds : (r : Reader) (word : Option LineWord) (w : List ℕ) (ws : List (Lis
 word_adds r None w ws e fault = cc
 word_adds r (Some word) w ws e fault =
     let parts = option_or_none (shape_fault word ws) (place_fault (place_of r) word ws) fault in
-    let found = named r.names (name_place word) ws in
+    let found = intern_name r.names (name_place word) ws in
     let names : (with_named r word found ws).names ≡ found.1 = kept (record r { names = found.1 }) word found.0 ws in
     record {
       order = names ∙ named_same r.names (name_place word) ws ∙ ap (λ (o : Option LineWord). with_line r.names (named_word o ws)) (sym e);

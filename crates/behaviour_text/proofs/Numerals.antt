@@ -42,7 +42,7 @@ and_false false c h = refl
 bounded : (b : Bool) (n : ℕ) → b ≡ true → n < 2 ^ 64 → Some n ≡ (if b && nat_lt n (2 ^ 64) then Some n else None)
 bounded b n e h = ap (λ (x : Bool). if x then Some n else None) (sym (and_true b (nat_lt n (2 ^ 64)) e (lt-ltb n (2 ^ 64) h)))
 
-unbounded : (b : Bool) (n : ℕ) → (n < 2 ^ 64 → ⊥) → None ≡ (if b && nat_lt n (2 ^ 64) then Some n else None)
+unbounded : (b : Bool) (n : ℕ) → ¬ (n < 2 ^ 64) → None ≡ (if b && nat_lt n (2 ^ 64) then Some n else None)
 unbounded b n h = ap (λ (x : Bool). if x then Some n else None) (sym (and_false b (nat_lt n (2 ^ 64)) (le-ltb n (2 ^ 64) (omega arith))))
 
 read : {E : Type 0} (bs : List ℕ) (r : Result ℕ E) → OkIff r ((0 < length bs) × (digits_value 10 bs < 2 ^ 64)) (digits_value 10 bs) →

@@ -6,7 +6,7 @@ use Rattle.behaviour_text.proofs.Said.{on_place, inside_place}
 use Rattle.std.specs.Option.{option_or, option_map_or}
 use Rattle.behaviour_text.specs.Faults.{place_fault, word_fault, words_fault, kind_number, lowest_fault, behind_word, place_after, end_fault, first_from, first_fault}
 use Rattle.behaviour_text.specs.Items.{name_place}
-use Rattle.behaviour_text.specs.Reading.{start, kinds_begun, place_of, closed_at, closed, with_kind, with_on, with_end, with_instr, named, with_item, with_word, with_words, read_end, unless_fault, read_from, finish, read_text, fault_of}
+use Rattle.behaviour_text.specs.Reading.{start, kinds_begun, place_of, close_kind_at, close_kind, with_kind, with_on, with_end, with_instr, intern_name, with_item, with_word, with_words, read_end, unless_fault, read_from, finish, read_text, fault_of}
 use Rattle.behaviour_text.specs.Table.{line_word, starts_with, shape_fault}
 use Rattle.behaviour_text.specs.Words.{words_of, number_at}
 use Rattle.behaviour_text.specs.declared.place.Place.{Place}
@@ -17,7 +17,7 @@ use Rattle.behaviour_text.specs.declared.table.LineWord.{LineWord}
 use Rattle.behaviour_text.specs.declared.table.LineWord.TheVariants as W
 
 kind_begun : (r : Reader) (stage : Stage) (name n : ℕ) →
-    place_of (record (closed_at stage r) { stage = InKind; kind_name = name; fields = n; behaviours = [] })
+    place_of (record (close_kind_at stage r) { stage = InKind; kind_name = name; fields = n; behaviours = [] })
     ≡ record (place_of r) { stage = InKind; kinds = kinds_begun stage (length r.kinds) + 1; behaviours = 0 }
 kind_begun r Start name n = refl
 kind_begun r InKind name n =
@@ -28,7 +28,7 @@ kind_begun r InBehaviour name n =
 -- an item moves the place
 item_place : (r : Reader) (word : LineWord) (name : ℕ) (ws : List (List ℕ)) → place_fault (place_of r) word ws ≡ None →
     place_of (with_item r word name ws) ≡ behind_word (place_of r) word
-unfolding with_kind with_on with_end with_instr closed
+unfolding with_kind with_on with_end with_instr close_kind
 item_place r W.Kind name ws h = kind_begun r r.stage name (min (number_at ws 1) 8)
 item_place r W.On name ws h =
     ap (λ (stage : Stage). let p : Place = record { stage = InBehaviour; kinds = kinds_begun stage (length r.kinds); behaviours = length r.behaviours; instructions = 0 } in p)
@@ -44,7 +44,7 @@ word_place : (r : Reader) (word : Option LineWord) (ws : List (List ℕ)) → wo
     place_of (with_word r word ws) ≡ option_map_or (behind_word (place_of r)) word (place_of r)
 word_place r None ws h = refl
 word_place r (Some word) ws h =
-    let found = named r.names (name_place word) ws in
+    let found = intern_name r.names (name_place word) ws in
     item_place (record r { names = found.1 }) word found.0 ws (option_or_none (shape_fault word ws) (place_fault (place_of r) word ws) h).1
 
 spoken_place : (r : Reader) (b : Bool) (word : Option LineWord) (ws : List (List ℕ)) → (if b then None else word_fault (place_of r) word ws) ≡ None →

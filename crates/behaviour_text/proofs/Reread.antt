@@ -13,7 +13,7 @@ use Rattle.behaviour_code.specs.WellFormed.{Fits64, InstrFits, name_in}
 use Rattle.behaviour_code.specs.Names.{is_name}
 use Rattle.behaviour_code.specs.declared.instr.Instr.{Instr}
 use Rattle.behaviour_text.specs.Items.{register_of, instr_of}
-use Rattle.behaviour_text.specs.Reading.{named}
+use Rattle.behaviour_text.specs.Reading.{intern_name}
 use Rattle.behaviour_text.specs.Table.{spelling, line_word, operands_of, most_further, lettered_fault, operand_fault, operands_fault, lowest, fits_count, shape_fault}
 use Rattle.behaviour_text.specs.Text.{register, field, instr_words}
 use Rattle.behaviour_text.specs.Words.{has_numeral_form, numeral, number_of}
@@ -182,35 +182,35 @@ counted word n rest least most h =
 -- the operands of an instruction have no fault
 pub shape_read : (text : ℕ → List ℕ) (i : Instr) → InstrFits i → IfSome (name_in i) (λ name. is_name (text name) ≡ true) → shape_fault (W.Instr (opcode_for i)) (operands_for text i) ≡ None
 unfolding shape_fault
-shape_read text (I.Drop d) h named = (nones _ _ (register_fits d h) refl)
-shape_read text (I.Int d n) h named = (nones _ _ (register_fits d h.0) (nones _ _ (numeral_fits n h.1) refl))
-shape_read text (I.Own d) h named = (nones _ _ (register_fits d h) refl)
-shape_read text (I.Copy d s) h named = (nones _ _ (register_fits d h.0) (nones _ _ (register_fits s h.1) refl))
-shape_read text (I.Add d a b) h named = (nones _ _ (register_fits d h.0) (nones _ _ (register_fits a h.1) (nones _ _ (register_fits b h.2) refl)))
-shape_read text (I.Sub d a b) h named = (nones _ _ (register_fits d h.0) (nones _ _ (register_fits a h.1) (nones _ _ (register_fits b h.2) refl)))
-shape_read text (I.Mul d a b) h named = (nones _ _ (register_fits d h.0) (nones _ _ (register_fits a h.1) (nones _ _ (register_fits b h.2) refl)))
-shape_read text (I.Less d a b) h named = (nones _ _ (register_fits d h.0) (nones _ _ (register_fits a h.1) (nones _ _ (register_fits b h.2) refl)))
-shape_read text (I.Same d a b) h named = (nones _ _ (register_fits d h.0) (nones _ _ (register_fits a h.1) (nones _ _ (register_fits b h.2) refl)))
-shape_read text (I.Row d values) h named = row values h.1 h.2 h.3
+shape_read text (I.Drop d) h intern_name = (nones _ _ (register_fits d h) refl)
+shape_read text (I.Int d n) h intern_name = (nones _ _ (register_fits d h.0) (nones _ _ (numeral_fits n h.1) refl))
+shape_read text (I.Own d) h intern_name = (nones _ _ (register_fits d h) refl)
+shape_read text (I.Copy d s) h intern_name = (nones _ _ (register_fits d h.0) (nones _ _ (register_fits s h.1) refl))
+shape_read text (I.Add d a b) h intern_name = (nones _ _ (register_fits d h.0) (nones _ _ (register_fits a h.1) (nones _ _ (register_fits b h.2) refl)))
+shape_read text (I.Sub d a b) h intern_name = (nones _ _ (register_fits d h.0) (nones _ _ (register_fits a h.1) (nones _ _ (register_fits b h.2) refl)))
+shape_read text (I.Mul d a b) h intern_name = (nones _ _ (register_fits d h.0) (nones _ _ (register_fits a h.1) (nones _ _ (register_fits b h.2) refl)))
+shape_read text (I.Less d a b) h intern_name = (nones _ _ (register_fits d h.0) (nones _ _ (register_fits a h.1) (nones _ _ (register_fits b h.2) refl)))
+shape_read text (I.Same d a b) h intern_name = (nones _ _ (register_fits d h.0) (nones _ _ (register_fits a h.1) (nones _ _ (register_fits b h.2) refl)))
+shape_read text (I.Row d values) h intern_name = row values h.1 h.2 h.3
   where
     row : (values : List ℕ) → 1 ≤ length values → length values ≤ 8 → All Fits64 values → (if fits_count (W.Instr C.Row) (length (register d ∷ map register values)) then operands_fault (operands_of (W.Instr C.Row)) (register d ∷ map register values) else Some 4) ≡ None
     row [] least most all = absurd (omega arith)
     row (v ∷ vs) least most all =
         counted (W.Instr C.Row) (length (register d ∷ register v ∷ map register vs)) (operands_fault (operands_of (W.Instr C.Row)) (register d ∷ register v ∷ map register vs)) (omega arith) (omega (arith, length-map vs register))
         (nones _ _ (register_fits d h.0) (nones _ _ (register_fits v (all zero 0 (omega arith))) (registers_fit vs (λ i x k. all (suc i) x (omega arith)))))
-shape_read text (I.Get d s n) h named = (nones _ _ (register_fits d h.0) (nones _ _ (register_fits s h.1) (nones _ _ (numeral_fits n h.2) refl)))
-shape_read text (I.Load d f) h named = (nones _ _ (register_fits d h.0) (nones _ _ (field_fits f h.1) refl))
-shape_read text (I.Store f s) h named = (nones _ _ (field_fits f h.0) (nones _ _ (register_fits s h.1) refl))
-shape_read text (I.Jump l) h named = (nones _ _ (name_fits (text l) named) refl)
-shape_read text (I.JumpZero a l) h named = (nones _ _ (register_fits a h) (nones _ _ (name_fits (text l) named) refl))
-shape_read text (I.Label l) h named = (nones _ _ (name_fits (text l) named) refl)
-shape_read text I.Pin h named = refl
-shape_read text I.Unpin h named = refl
-shape_read text (I.New d k) h named = (nones _ _ (register_fits d h) (nones _ _ (name_fits (text k) named) refl))
-shape_read text (I.Send to b values) h named =
+shape_read text (I.Get d s n) h intern_name = (nones _ _ (register_fits d h.0) (nones _ _ (register_fits s h.1) (nones _ _ (numeral_fits n h.2) refl)))
+shape_read text (I.Load d f) h intern_name = (nones _ _ (register_fits d h.0) (nones _ _ (field_fits f h.1) refl))
+shape_read text (I.Store f s) h intern_name = (nones _ _ (field_fits f h.0) (nones _ _ (register_fits s h.1) refl))
+shape_read text (I.Jump l) h intern_name = (nones _ _ (name_fits (text l) intern_name) refl)
+shape_read text (I.JumpZero a l) h intern_name = (nones _ _ (register_fits a h) (nones _ _ (name_fits (text l) intern_name) refl))
+shape_read text (I.Label l) h intern_name = (nones _ _ (name_fits (text l) intern_name) refl)
+shape_read text I.Pin h intern_name = refl
+shape_read text I.Unpin h intern_name = refl
+shape_read text (I.New d k) h intern_name = (nones _ _ (register_fits d h) (nones _ _ (name_fits (text k) intern_name) refl))
+shape_read text (I.Send to b values) h intern_name =
     counted (W.Instr C.Send) (length (register to ∷ text b ∷ map register values)) (operands_fault (operands_of (W.Instr C.Send)) (register to ∷ text b ∷ map register values)) (omega arith) (omega (arith, length-map values register))
-    (nones _ _ (register_fits to h.0) (nones _ _ (name_fits (text b) named) (registers_fit values h.2)))
-shape_read text (I.Print a) h named = (nones _ _ (register_fits a h) refl)
+    (nones _ _ (register_fits to h.0) (nones _ _ (name_fits (text b) intern_name) (registers_fit values h.2)))
+shape_read text (I.Print a) h intern_name = (nones _ _ (register_fits a h) refl)
 
 -- an instruction is read again
 pub instr_read : (text : ℕ → List ℕ) (i : Instr) (name : ℕ) → InstrFits i → instr_of (opcode_for i) (unwrap_or (name_in i) name) (operands_for text i) ≡ i

@@ -1,7 +1,7 @@
 -- What is read without a fault is what the lines say.
 use Rattle.behaviour_text.proofs.Steps.{kept, end_read, line_read}
 use Rattle.behaviour_text.proofs.Choices.{option_or_none, filter_first, push_grows, each_push, each_weaker}
-use Rattle.std.proofs.Common.{◌≡◌, ℕ, ◌+◌, ◌<◌, ◌≤◌, Bool, true, false, cond, not, List, [], ◌∷◌, ◌++◌, length, map, filter, refl, ap, sym, ◌∙◌, subst, arith, Option, Some, None, IfSome, Result, Ok, Err, if◌then◌else◌, bytes_eq, slice_index_or, append_assoc, append-nil, zero, suc}
+use Rattle.std.proofs.Common.{◌≡◌, ◌≢◌, ℕ, ◌+◌, ◌<◌, ◌≤◌, Bool, true, false, cond, not, List, [], ◌∷◌, ◌++◌, length, map, filter, refl, ap, sym, ◌∙◌, subst, arith, Option, Some, None, IfSome, Result, Ok, Err, if◌then◌else◌, bytes_eq, slice_index_or, append_assoc, append-nil, zero, suc}
 use Rattle.std.specs.List.{AllByRecursion, list_any}
 use Rattle.text_lines.specs.Lines.{line_fault, lines_of}
 use Rattle.behaviour_text.proofs.Said.{closed_said, Lines, so_far, so_far_at, item_said, on_place, inside_place}
@@ -13,7 +13,7 @@ use Rattle.behaviour_code.specs.declared.code.Program.{Program}
 use Rattle.behaviour_code.specs.declared.instr.Instr.{Instr}
 use Rattle.behaviour_text.specs.Faults.{body_fault, place_fault, word_fault, words_fault}
 use Rattle.behaviour_text.specs.Items.{instr_of, name_place}
-use Rattle.behaviour_text.specs.Reading.{start, place_of, closed_at, closed, with_kind, with_on, with_end, with_instr, named, with_item, with_named, with_word, with_words, read_from, finished, finish, read_text}
+use Rattle.behaviour_text.specs.Reading.{start, place_of, close_kind_at, close_kind, with_kind, with_on, with_end, with_instr, intern_name, with_item, with_named, with_word, with_words, read_from, program_of, finish, read_text}
 use Rattle.behaviour_text.specs.Table.{line_word, starts_with, shape_fault}
 use Rattle.behaviour_text.specs.Text.{speaks, said_lines, AreClean, IsText}
 use Rattle.behaviour_text.specs.Words.{words_of, word_at, number_at}
@@ -58,7 +58,7 @@ known_weaker : (m n : ℕ) → m ≤ n → (r : Reader) → KnownAt m r r.stage 
 known_weaker m n le r h = (each_weaker (KindKnown m) (KindKnown n) r.kinds (kind_weaker m n le) h.0, open_weaker m n le r r.stage h.1)
 
 -- the names of an item are known
-pub closed_known : (m : ℕ) (r : Reader) (stage : Stage) → KnownAt m r stage → AllByRecursion (KindKnown m) (closed_at stage r).kinds
+pub closed_known : (m : ℕ) (r : Reader) (stage : Stage) → KnownAt m r stage → AllByRecursion (KindKnown m) (close_kind_at stage r).kinds
 closed_known m r Start h = h.0
 closed_known m r InKind h = each_push (KindKnown m) r.kinds _ h.0 (record { name = h.1.name; behaviours = h.1.behaviours })
 closed_known m r InBehaviour h = each_push (KindKnown m) r.kinds _ h.0 (record { name = h.1.0.name; behaviours = h.1.0.behaviours })
@@ -82,7 +82,7 @@ with_instr_known m r i e h k =
 
 item_known : (m : ℕ) (r : Reader) (word : LineWord) (name : ℕ) (ws : List (List ℕ)) → IfSome (name_place word) (λ place. name < m) → place_fault (place_of r) word ws ≡ None →
     KnownAt m r r.stage → KnownAt m (with_item r word name ws) (with_item r word name ws).stage
-unfolding with_kind with_on with_end closed
+unfolding with_kind with_on with_end close_kind
 item_known m r W.Kind name ws n place h = (closed_known m r r.stage h, record { name = n; behaviours = tt })
 item_known m r W.On name ws n place h =
     let at = subst (KnownAt m r) (on_place r.stage (length r.behaviours) (number_at ws 1) place).0 h in
@@ -100,7 +100,7 @@ record Numbers (names : List (List ℕ)) (place : Option ℕ) (ws : List (List �
   there : IfSome place (λ p. slice_index_or found.1 found.0 [] ≡ word_at ws p)
   within : IfSome place (λ p. found.0 < length found.1)
 
-numbers : (names : List (List ℕ)) (place : Option ℕ) (ws : List (List ℕ)) → Numbers names place ws (named names place ws)
+numbers : (names : List (List ℕ)) (place : Option ℕ) (ws : List (List ℕ)) → Numbers names place ws (intern_name names place ws)
 numbers names None ws = record { same = λ n h. refl; grown = omega arith; there = tt; within = tt }
 numbers names (Some p) ws =
     let f = finds names (word_at ws p) in
@@ -128,9 +128,9 @@ pub record Says (r s : Reader) (lines : Lines) : Type 0 where
   pub said : so_far (text_of s.names) s ≡ so_far (text_of r.names) r ++ lines
 
 word_sound : (r : Reader) (word : LineWord) (w : List ℕ) (ws : List (List ℕ)) → line_word w ≡ Some word → shape_fault word ws ≡ None → place_fault (place_of r) word ws ≡ None → KnownAt (length r.names) r r.stage →
-    Says r (with_named r word (named r.names (name_place word) ws) ws) ((w ∷ ws) ∷ [])
+    Says r (with_named r word (intern_name r.names (name_place word) ws) ws) ((w ∷ ws) ∷ [])
 word_sound r word w ws e shape place h =
-    let found = named r.names (name_place word) ws in
+    let found = intern_name r.names (name_place word) ws in
     let n = numbers r.names (name_place word) ws in
     let renamed : Reader = record r { names = found.1 } in
     let names : (with_item renamed word found.0 ws).names ≡ found.1 = kept renamed word found.0 ws in
@@ -167,7 +167,7 @@ words_sound r (w ∷ ws) fault h = spoken r (starts_with 35 w) w ws fault h
 pub record Reads (r s : Reader) (lines : List (List ℕ)) : Type 0 where
   pub says : Says r s (said_lines lines)
   pub clean : AllByRecursion (λ line. line_fault line ≡ None) lines
-  pub ended : s.stage ≡ InBehaviour → ⊥
+  pub ended : s.stage ≢ InBehaviour
 
 pub read_sound : (n : ℕ) (r s : Reader) (lines : List (List ℕ)) → KnownAt (length r.names) r r.stage → read_from n r lines ≡ Ok s → Reads r s lines
 read_sound n r s [] h e =
@@ -175,7 +175,7 @@ read_sound n r s [] h e =
     record {
       says = subst (λ (x : Reader). Says r x []) end.1 (silent r h);
       clean = tt;
-      ended = subst (λ (x : Reader). x.stage ≡ InBehaviour → ⊥) end.1 end.0;
+      ended = subst (λ (x : Reader). x.stage ≢ InBehaviour) end.1 end.0;
     }
 read_sound n r s (line ∷ lines) h e =
     let read = line_read n r s line lines e in
@@ -199,11 +199,11 @@ each_all (l ∷ ls) h zero d k = h.0
 each_all (l ∷ ls) h (suc i) d k = each_all ls h.1 i d (omega arith)
 
 read_done : (bytes : List ℕ) (p : Program) (read : Result Reader (ℕ × ℕ)) → read_from 0 start (lines_of bytes) ≡ read → finish read ≡ Ok p → IsText bytes p
-unfolding start closed
+unfolding start close_kind
 read_done bytes p (Err e) told h = cc
 read_done bytes p (Ok s) told h =
     let reads = read_sound 0 start s (lines_of bytes) (tt, tt) told in
-    let same : finished s ≡ p = cc in
+    let same : program_of s ≡ p = cc in
     subst (IsText bytes) same (record {
       clean = each_all (lines_of bytes) reads.clean;
       lines = sym (closed_said (text_of s.names) s s.stage reads.ended ∙ reads.says.said);

@@ -1,16 +1,16 @@
 -- One line more.
 use Rattle.behaviour_text.proofs.Choices.{option_or_none}
-use Rattle.std.proofs.Common.{option_map, ◌≡◌, ℕ, ◌+◌, ◌<◌, ◌≤◌, Bool, true, false, List, [], ◌∷◌, ◌++◌, length, drop, get_or, map, refl, ap, sym, ◌∙◌, subst, arith, Option, Some, None, Result, Ok, Err, if◌then◌else◌, bytes_eq, slice_range, zero, suc, length-append, add-one, drop_of_length-le}
+use Rattle.std.proofs.Common.{option_map, ◌≡◌, ◌≢◌, ℕ, ◌+◌, ◌<◌, ◌≤◌, Bool, true, false, List, [], ◌∷◌, ◌++◌, length, drop, get_or, map, refl, ap, sym, ◌∙◌, subst, arith, Option, Some, None, Result, Ok, Err, if◌then◌else◌, bytes_eq, slice_range, zero, suc, length-append, add-one, drop_of_length-le}
 use Rattle.std.specs.List.{list_any}
 use Rattle.std.proofs.lemmas.List.{length-map}
-use Rattle.text_lines.specs.Lines.{lines_of, line_at, tested, line_fault}
+use Rattle.text_lines.specs.Lines.{lines_of, line_at, with_fault, line_fault}
 use Rattle.text_lines.specs.declared.LineSpan.{LineSpan}
 use Rattle.text_lines.specs.declared.LineKind.{LineKind}
 use Rattle.std.specs.Option.{option_or}
 use Rattle.behaviour_code.specs.declared.code.Program.{Program}
 use Rattle.behaviour_text.specs.Faults.{words_fault, kind_number, lowest_fault, Tells}
 use Rattle.behaviour_text.specs.Items.{name_place}
-use Rattle.behaviour_text.specs.Reading.{start, place_of, closed_at, closed, with_kind, with_on, with_end, with_instr, named, with_item, with_word, with_words, LineTaken, read_end, unless_fault, read_from, finished, finish, read_text, fault_of}
+use Rattle.behaviour_text.specs.Reading.{start, place_of, close_kind_at, close_kind, with_kind, with_on, with_end, with_instr, intern_name, with_item, with_word, with_words, LineTaken, read_end, unless_fault, read_from, program_of, finish, read_text, fault_of}
 use Rattle.behaviour_text.specs.Table.{line_word, starts_with}
 use Rattle.behaviour_text.specs.Words.{words_of, word_at}
 use Rattle.behaviour_text.specs.declared.errors.TextErr.{TextErr}
@@ -21,13 +21,13 @@ use Rattle.behaviour_text.specs.declared.table.LineWord.{LineWord}
 use Rattle.behaviour_text.specs.declared.table.LineWord.TheVariants as W
 use Rattle.behaviour_text.specs.declared.errors.TextErr.TheVariants as E
 
-kept_at : (s : Stage) (r : Reader) → (closed_at s r).names ≡ r.names
+kept_at : (s : Stage) (r : Reader) → (close_kind_at s r).names ≡ r.names
 kept_at Start r = refl
 kept_at InKind r = refl
 kept_at InBehaviour r = refl
 
 pub kept : (r : Reader) (word : LineWord) (name : ℕ) (ws : List (List ℕ)) → (with_item r word name ws).names ≡ r.names
-unfolding with_kind with_on with_end with_instr closed
+unfolding with_kind with_on with_end with_instr close_kind
 kept r W.Kind name ws = kept_at r.stage r
 kept r W.On name ws = refl
 kept r W.End name ws = refl
@@ -37,14 +37,14 @@ one_more : (b : Bool) (names : List (List ℕ)) (text : List ℕ) → length (if
 one_more true names text = omega arith
 one_more false names text = omega (arith, length-append names (text ∷ []))
 
-named_few : (names : List (List ℕ)) (place : Option ℕ) (ws : List (List ℕ)) → length (named names place ws).1 ≤ length names + 1
+named_few : (names : List (List ℕ)) (place : Option ℕ) (ws : List (List ℕ)) → length (intern_name names place ws).1 ≤ length names + 1
 named_few names None ws = omega arith
 named_few names (Some p) ws = one_more (list_any (bytes_eq (word_at ws p)) names) names (word_at ws p)
 
 word_few : (r : Reader) (word : Option LineWord) (ws : List (List ℕ)) → length (with_word r word ws).names ≤ length r.names + 1
 word_few r None ws = omega arith
 word_few r (Some word) ws =
-    let n = named r.names (name_place word) ws in
+    let n = intern_name r.names (name_place word) ws in
     omega (arith, named_few r.names (name_place word) ws, ap length (kept (record r { names = n.1 }) word n.0 ws))
 
 chosen_few : (b : Bool) (r s : Reader) → length s.names ≤ length r.names + 1 → length (if b then r else s).names ≤ length r.names + 1
@@ -72,7 +72,7 @@ pub record IsNext (bytes : List ℕ) (lines : List (List ℕ)) (i : ℕ) (span :
   pub fault : span.fault ≡ line_fault (slice_range bytes span.from span.to)
 
 pub next_at : (bytes : List ℕ) (spans : List LineSpan) (lines : List (List ℕ)) (i : ℕ) (d : LineSpan) →
-    map (line_at bytes) spans ≡ map tested lines → i < length spans → IsNext bytes lines i (get_or spans i d)
+    map (line_at bytes) spans ≡ map with_fault lines → i < length spans → IsNext bytes lines i (get_or spans i d)
 next_at bytes [] lines i d e h = absurd (omega arith)
 next_at bytes (s ∷ ss) [] i d e h = cc
 next_at bytes (s ∷ ss) (l ∷ ls) zero d e h =
@@ -81,7 +81,7 @@ next_at bytes (s ∷ ss) (l ∷ ls) zero d e h =
     let fault : s.fault ≡ line_fault l = ap (λ (p : List ℕ × Option LineKind). p.1) head in
     record { line = ap (λ (x : List ℕ). x ∷ ls) (sym line); fault = fault ∙ ap line_fault (sym line) }
 next_at bytes (s ∷ ss) (l ∷ ls) (suc i) d e h =
-    let tail : map (line_at bytes) ss ≡ map tested ls = cc in
+    let tail : map (line_at bytes) ss ≡ map with_fault ls = cc in
     let next = next_at bytes ss ls i d tail (omega arith) in
     record { line = next.line ∙ ap (λ (t : List (List ℕ)). slice_range bytes (get_or ss i d).from (get_or ss i d).to ∷ t) (rw (add-one, add-one) refl); fault = next.fault }
 
@@ -91,7 +91,7 @@ unfolding lowest_fault
 fault_there r line fault e = ap (λ (f : Option LineKind). option_or (option_map kind_number f) (words_fault (place_of r) (words_of line))) (sym e)
 
 pub step_taken : (bytes : List ℕ) (spans : List LineSpan) (lines : List (List ℕ)) (i : ℕ) (d : LineSpan) (r s : Reader) (whole : Result Reader (ℕ × ℕ)) →
-    map (line_at bytes) spans ≡ map tested lines → i < length spans →
+    map (line_at bytes) spans ≡ map with_fault lines → i < length spans →
     LineTaken r s (slice_range bytes (get_or spans i d).from (get_or spans i d).to) (get_or spans i d).fault →
     read_from i r (drop i lines) ≡ whole → read_from (i + 1) s (drop (i + 1) lines) ≡ whole
 step_taken bytes spans lines i d r s whole e h taken_line told =
@@ -109,7 +109,7 @@ fault_told read n (Some found) (E.Fault line kind) refuse h = ap fault_of (refus
 fault_told read n fault E.NoMemory refuse h = tt
 
 pub step_refused : (bytes : List ℕ) (spans : List LineSpan) (lines : List (List ℕ)) (i number : ℕ) (d : LineSpan) (r : Reader) (whole : Result Reader (ℕ × ℕ)) (e : TextErr) →
-    map (line_at bytes) spans ≡ map tested lines → i < length spans → number ≡ i + 1 →
+    map (line_at bytes) spans ≡ map with_fault lines → i < length spans → number ≡ i + 1 →
     Tells (option_map (λ kind. (number, kind)) (option_or (option_map kind_number (get_or spans i d).fault) (words_fault (place_of r) (words_of (slice_range bytes (get_or spans i d).from (get_or spans i d).to))))) e →
     read_from i r (drop i lines) ≡ whole → Tells (fault_of whole) e
 step_refused bytes spans lines i number d r whole e same h at fault told =
@@ -123,28 +123,28 @@ step_refused bytes spans lines i number d r whole e same h at fault told =
 
 -- all lines are read
 pub all_read : (bytes : List ℕ) (spans : List LineSpan) (lines : List (List ℕ)) (i number : ℕ) (r : Reader) (whole : Result Reader (ℕ × ℕ)) →
-    map (line_at bytes) spans ≡ map tested lines → length spans ≤ i → number ≡ i → read_from i r (drop i lines) ≡ whole → read_end number r r.stage ≡ whole
+    map (line_at bytes) spans ≡ map with_fault lines → length spans ≤ i → number ≡ i → read_from i r (drop i lines) ≡ whole → read_end number r r.stage ≡ whole
 unfolding read_from
 all_read bytes spans lines i number r whole e h at told =
-    let same : length spans ≡ length lines = sym (length-map spans (line_at bytes)) ∙ ap length e ∙ length-map lines tested in
+    let same : length spans ≡ length lines = sym (length-map spans (line_at bytes)) ∙ ap length e ∙ length-map lines with_fault in
     let none : drop i lines ≡ [] = drop_of_length-le lines (omega arith) in
     ap (λ (k : ℕ). read_end k r r.stage) at ∙ ap (read_from i r) (sym none) ∙ told
 
-closed_program : (r s : Reader) → s ≡ closed r → finished r ≡ record { kinds = s.kinds; names = s.names }
-unfolding closed
+closed_program : (r s : Reader) → s ≡ close_kind r → program_of r ≡ record { kinds = s.kinds; names = s.names }
+unfolding close_kind
 closed_program r s e = cc (kept_at r.stage r)
 
-pub parsed : (bytes : List ℕ) (r s : Reader) → read_from 0 start (lines_of bytes) ≡ Ok r → s ≡ closed r → read_text bytes ≡ Ok (record { kinds = s.kinds; names = s.names })
+pub parsed : (bytes : List ℕ) (r s : Reader) → read_from 0 start (lines_of bytes) ≡ Ok r → s ≡ close_kind r → read_text bytes ≡ Ok (record { kinds = s.kinds; names = s.names })
 unfolding read_text
 parsed bytes r s told e = ap finish told ∙ ap (λ (p : Program). Ok p) (closed_program r s e)
 
-end_at : (n : ℕ) (r s : Reader) (stage : Stage) → read_end n r stage ≡ Ok s → (stage ≡ InBehaviour → ⊥) × (r ≡ s)
+end_at : (n : ℕ) (r s : Reader) (stage : Stage) → read_end n r stage ≡ Ok s → (stage ≢ InBehaviour) × (r ≡ s)
 end_at n r s InBehaviour h = cc
 end_at n r s Start h = (λ k. cc, cc)
 end_at n r s InKind h = (λ k. cc, cc)
 
 -- the last line is read
-pub end_read : (n : ℕ) (r s : Reader) → read_from n r [] ≡ Ok s → (r.stage ≡ InBehaviour → ⊥) × (r ≡ s)
+pub end_read : (n : ℕ) (r s : Reader) → read_from n r [] ≡ Ok s → (r.stage ≢ InBehaviour) × (r ≡ s)
 unfolding read_from
 end_read n r s h = end_at n r s r.stage h
 

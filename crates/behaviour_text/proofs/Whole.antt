@@ -6,11 +6,11 @@ use Rattle.behaviour_text.proofs.Known.{finds, texts_kept}
 use Rattle.behaviour_text.proofs.Reread.{opcode_for, operands_for, words_for, shape_read, instr_read, spelled_word}
 use Rattle.std.specs.Option.{option_or, unwrap_or}
 use Rattle.behaviour_code.specs.WellFormed.{InstrFits, name_in, AreApart, NameFits, instr_names}
-use Rattle.behaviour_code.specs.Names.{is_name, text_of, with_text, interned}
+use Rattle.behaviour_code.specs.Names.{is_name, text_of, with_text, intern}
 use Rattle.behaviour_code.specs.declared.instr.Instr.{Instr}
 use Rattle.behaviour_text.specs.Faults.{inside_fault, body_fault, place_fault, word_fault, words_fault}
 use Rattle.behaviour_text.specs.Items.{instr_of, name_place}
-use Rattle.behaviour_text.specs.Reading.{place_of, with_instr, named, with_named, with_word, with_words}
+use Rattle.behaviour_text.specs.Reading.{place_of, with_instr, intern_name, with_named, with_word, with_words}
 use Rattle.behaviour_text.specs.Table.{spelling, starts_with, shape_fault}
 use Rattle.behaviour_text.specs.Text.{instr_words}
 use Rattle.behaviour_text.specs.declared.place.Stage.TheVariants.{InBehaviour}
@@ -32,10 +32,10 @@ front_before names all text h =
     record { same = λ n k. texts_kept names text n k ∙ h.same n (omega arith); short = omega arith }
 
 -- a name's text is given its number
-pub number_found : (names all : List (List ℕ)) (n : ℕ) → AreApart all → n < length all → IsFront (with_text names (text_of all n)) all → (interned names (text_of all n)).0 ≡ n
+pub number_found : (names all : List (List ℕ)) (n : ℕ) → AreApart all → n < length all → IsFront (with_text names (text_of all n)) all → (intern names (text_of all n)).0 ≡ n
 number_found names all n apart within front =
     let f = finds names (text_of all n) in
-    let p : ℕ = (interned names (text_of all n)).0 in
+    let p : ℕ = (intern names (text_of all n)).0 in
     let short = front.short in
     let inside = f.within in
     apart.apart p n (omega arith) within (sym (front.same p inside) ∙ f.said)
@@ -43,13 +43,13 @@ number_found names all n apart within front =
 -- the name in an instruction, 0 where it has none, and the texts after it
 abbrev instr_named : List (List ℕ) → (ℕ → List ℕ) → Option ℕ → ℕ × List (List ℕ)
 instr_named names text None = (0, names)
-instr_named names text (Some name) = interned names (text name)
+instr_named names text (Some name) = intern names (text name)
 
 instr_named-texts : (names : List (List ℕ)) (text : ℕ → List ℕ) (o : Option ℕ) → (instr_named names text o).1 ≡ instr_names text names o
 instr_named-texts names text None = refl
 instr_named-texts names text (Some name) = refl
 
-named_for : (names : List (List ℕ)) (text : ℕ → List ℕ) (i : Instr) → named names (name_place (W.Instr (opcode_for i))) (operands_for text i) ≡ instr_named names text (name_in i)
+named_for : (names : List (List ℕ)) (text : ℕ → List ℕ) (i : Instr) → intern_name names (name_place (W.Instr (opcode_for i))) (operands_for text i) ≡ instr_named names text (name_in i)
 named_for names text (I.Drop d) = refl
 named_for names text (I.Int d n) = refl
 named_for names text (I.Own d) = refl
@@ -116,7 +116,7 @@ pub record Takes (r s : Reader) (ws : List (List ℕ)) : Type 0 where
   pub next : with_words r ws ≡ s
 
 -- what an operation with its operands leaves
-pub takes_word : (r s : Reader) (word : LineWord) (ws : List (List ℕ)) → shape_fault word ws ≡ None → place_fault (place_of r) word ws ≡ None → with_named r word (named r.names (name_place word) ws) ws ≡ s → Takes r s (spelling word ∷ ws)
+pub takes_word : (r s : Reader) (word : LineWord) (ws : List (List ℕ)) → shape_fault word ws ≡ None → place_fault (place_of r) word ws ≡ None → with_named r word (intern_name r.names (name_place word) ws) ws ≡ s → Takes r s (spelling word ∷ ws)
 unfolding words_fault with_words
 takes_word r s word ws shape place next = record {
   clean = ap₂ (λ (b : Bool) (o : Option LineWord). if◌then◌else◌ {A = Option ℕ} b None (word_fault (place_of r) o ws)) (no_hash word) (spelled_word word) ∙ ap₂ option_or shape place;
@@ -136,7 +136,7 @@ instr_takes all r i apart stage few fits name front =
     let place : place_fault (place_of r) word ws ≡ None = ap₂ inside_fault stage (few_enough (length r.body) few) in
     let read : instr_of (opcode_for i) found.0 ws ≡ i =
     ap (λ (n : ℕ). instr_of (opcode_for i) n ws) (name_found r.names all (name_in i) apart name front) ∙ instr_read text i 0 fits in
-    let next : with_named r word (named r.names (name_place word) ws) ws ≡ with_instr renamed i =
+    let next : with_named r word (intern_name r.names (name_place word) ws) ws ≡ with_instr renamed i =
     ap (λ (f : ℕ × List (List ℕ)). with_named r word f ws) (named_for r.names text i) ∙ ap (with_instr renamed) read in
     let takes : Takes r (with_instr renamed i) (instr_words text i) =
     subst (Takes r (with_instr renamed i)) (sym (words_for text i)) (takes_word r (with_instr renamed i) word ws (shape_read text i fits (name_good all (name_in i) name)) place next) in

@@ -1,5 +1,5 @@
 -- The first fault of a text: the first line that has one, and the lowest kind of fault there.
-use Rattle.std.specs.Prelude.{ℕ, ◌≡◌, ◌+◌, ◌||◌, List, [], ◌∷◌, Option, Some, None, nat_le, nat_lt, if◌then◌else◌, option_map}
+use Rattle.std.specs.Prelude.{ℕ, ◌≡◌, ◌+◌, ◌||◌, List, [], ◌∷◌, Option, Some, None, nat_le, nat_lt, if◌then◌else◌, option_map, ⊤}
 use Rattle.std.specs.Option.{option_or, option_map_or}
 use Rattle.orca_names.specs.declared.limits.TheConstants.{BEHAVIOURS_LIMIT, BODY_LIMIT, FIELDS_LIMIT, KINDS_LIMIT, VALUES_LIMIT}
 use Rattle.text_lines.specs.Lines.{line_fault, lines_of}
@@ -107,10 +107,10 @@ first_fault bytes = first_from 0 beginning (lines_of bytes)
 
 -- a text was refused for a fault, and not for want of memory
 abbrev pub IsFault : TextErr → Type 0
-IsFault (E.Fault line kind) = Unit {0}
+IsFault (E.Fault line kind) = ⊤
 IsFault E.NoMemory = ⊥
 
 -- the error tells this fault, if it is not want of memory
 abbrev pub Tells : Option (ℕ × ℕ) → TextErr → Type 0
 Tells fault (E.Fault line kind) = fault ≡ Some (line, kind)
-Tells fault E.NoMemory = Unit {0}
+Tells fault E.NoMemory = ⊤

@@ -3,7 +3,7 @@ use Rattle.std.specs.Prelude.{ℕ, ◌≡◌, ◌+◌, List, [], ◌∷◌, ◌+
 use Rattle.std.specs.Option.{option_or}
 use Rattle.text_lines.specs.Lines.{lines_of}
 use Rattle.text_lines.specs.declared.LineKind.{LineKind}
-use Rattle.behaviour_code.specs.Names.{interned}
+use Rattle.behaviour_code.specs.Names.{intern}
 use Rattle.behaviour_code.specs.declared.instr.Instr.{Instr}
 use Rattle.behaviour_code.specs.declared.code.Program.{Program}
 use Rattle.behaviour_text.specs.Words.{words_of, word_at, number_at}
@@ -47,19 +47,19 @@ place_of r = record {
 }
 
 -- the last kind is put to the others
-abbrev pub closed_at : Stage → Reader → Reader
-closed_at Start r = r
-closed_at stage r = record r {
+abbrev pub close_kind_at : Stage → Reader → Reader
+close_kind_at Start r = r
+close_kind_at stage r = record r {
   kinds = r.kinds ++ record { name = r.kind_name; fields = r.fields; behaviours = r.behaviours } ∷ [];
   behaviours = [];
 }
 
-unfoldable pub closed : Reader → Reader
-closed r = closed_at r.stage r
+unfoldable pub close_kind : Reader → Reader
+close_kind r = close_kind_at r.stage r
 
 -- a kind is begun
 unfoldable pub with_kind : Reader → ℕ → ℕ → Reader
-with_kind r name fields = record (closed r) {
+with_kind r name fields = record (close_kind r) {
   stage = InKind;
   kind_name = name;
   fields = fields;
@@ -93,9 +93,9 @@ unfoldable pub with_instr : Reader → Instr → Reader
 with_instr r i = record r { body = r.body ++ i ∷ [] }
 
 -- the name of a line, 0 where it has none, and the texts of names after it
-abbrev pub named : List (List ℕ) → Option ℕ → List (List ℕ) → ℕ × List (List ℕ)
-named texts None operands = (0, texts)
-named texts (Some place) operands = interned texts (word_at operands place)
+abbrev pub intern_name : List (List ℕ) → Option ℕ → List (List ℕ) → ℕ × List (List ℕ)
+intern_name texts None operands = (0, texts)
+intern_name texts (Some place) operands = intern texts (word_at operands place)
 
 -- the name of a line was found, and `new` has its text too
 pub record IsNamed (old new : Reader) (found : ℕ × List (List ℕ)) (name : ℕ) : Type 0 where
@@ -115,7 +115,7 @@ with_named r word (name, texts) operands = with_item (record r { names = texts }
 abbrev pub with_word : Reader → Option LineWord → List (List ℕ) → Reader
 with_word r None operands = r
 with_word r (Some word) operands =
-    with_named r word (named r.names (name_place word) operands) operands
+    with_named r word (intern_name r.names (name_place word) operands) operands
 
 -- what was read after a line of these words
 unfoldable pub with_words : Reader → List (List ℕ) → Reader
@@ -147,11 +147,11 @@ read_from n r (line ∷ lines) =
     (read_from (n + 1) (with_words r (words_of line)) lines)
 
 -- the program of what was read
-abbrev pub finished : Reader → Program
-finished r = record { kinds = (closed r).kinds; names = r.names }
+abbrev pub program_of : Reader → Program
+program_of r = record { kinds = (close_kind r).kinds; names = r.names }
 
 abbrev pub finish : Result Reader (ℕ × ℕ) → Result Program (ℕ × ℕ)
-finish (Ok r) = Ok (finished r)
+finish (Ok r) = Ok (program_of r)
 finish (Err fault) = Err fault
 
 -- the program that a text gives, or its first fault

@@ -4,7 +4,7 @@ ghost use Rattle.std.specs.Prelude.{◌≡◌, ◌<◌, ◌^◌, OnOk, IfOk, Non
 ghost use Rattle.behaviour_code.specs.Names.{is_name};
 ghost use Rattle.behaviour_text.specs.Faults.{words_fault, word_fault};
 ghost use Rattle.behaviour_text.specs.Items.{name_place};
-ghost use Rattle.behaviour_text.specs.Reading.{start, place_of, kinds_begun, closed, with_kind, with_on, with_end, with_instr, with_item, with_word, with_words, named, IsNamed};
+ghost use Rattle.behaviour_text.specs.Reading.{start, place_of, kinds_begun, close_kind, with_kind, with_on, with_end, with_instr, with_item, with_word, with_words, intern_name, IsNamed};
 ghost use Rattle.behaviour_text.specs.Table.{shape_fault, fits_count};
 
 use crate::items::{instruction, name_place, small_at};
@@ -72,9 +72,9 @@ impl Reader {
     }
 
     /// Puts the last kind to the others.
-    #[tactic(auto, unfolding(crate::specs::Reading::closed))]
+    #[tactic(auto, unfolding(crate::specs::Reading::close_kind))]
     pub(crate) fn close_kind(&mut self, alloc: Global) -> Result<(), AllocError>
-        ensures { OnOk result (self.new ≡ closed self.old) }
+        ensures { OnOk result (self.new ≡ close_kind self.old) }
     {
         if self.stage == Stage::Start {
             return Ok(());
@@ -135,7 +135,7 @@ impl Reader {
         requires fits { shape_fault word (map (λ w. w.now) operands.now) ≡ None }
         ensures { IfOk result
             (λ name. IsNamed self.old self.new
-            (named self.old.names (name_place word) (map (λ w. w.now) operands.now)) name) }
+            (intern_name self.old.names (name_place word) (map (λ w. w.now) operands.now)) name) }
     {
         match name_place(word) {
             Some(place) => {

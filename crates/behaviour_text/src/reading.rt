@@ -2,7 +2,7 @@
 
 ghost use Rattle.std.specs.Prelude.{◌≡◌, ◌<◌, ◌≤◌, ◌^◌, OnOk, IfOk, IfErr, None, Ok, map, option_map, length, All};
 ghost use Rattle.std.specs.Option.{option_or};
-ghost use Rattle.text_lines.specs.Lines.{lines_of, line_at, tested};
+ghost use Rattle.text_lines.specs.Lines.{lines_of, line_at, with_fault};
 ghost use Rattle.behaviour_code.specs.WellFormed.{IsWellFormed};
 ghost use Rattle.behaviour_code.specs.declared.code.Program.{Program};
 ghost use Rattle.behaviour_text.specs.Faults.{kind_number, words_fault, first_fault, IsFault, Tells};
@@ -83,7 +83,7 @@ fn read_lines(
     spans: &[LineSpan],
 ) -> Result<(), TextErr>
     requires begun { reader.old ≡ start }
-    requires lines { map (line_at bytes.now) spans.now ≡ map tested (lines_of bytes.now) }
+    requires lines { map (line_at bytes.now) spans.now ≡ map with_fault (lines_of bytes.now) }
     requires within { All (λ s. (s.from ≤ s.to) × (s.to ≤ length bytes.now)) spans.now }
     requires few { length spans.now < 2 ^ 32 }
     ensures ok { OnOk result (read_from 0 start (lines_of bytes.now) ≡ Ok reader.new) }
@@ -132,7 +132,7 @@ pub fn parse(alloc: Global, bytes: &[u8]) -> Result<Program, TextErr>
 
     // It is refused exactly where it says no such program, for its first fault.
     ensures none { IfErr result (λ e. IsFault e → (p : Program) → IsText bytes.now p
-        → IsWellFormed p → ⊥) }
+        → ¬ IsWellFormed p) }
     ensures sound { OnOk result (first_fault bytes.now ≡ None) }
     ensures fault { IfErr result (Tells (first_fault bytes.now)) }
 {

@@ -1,5 +1,5 @@
 -- The two machines agree: an actor that is present is the same in both.
-use Rattle.std.specs.Prelude.{ℕ, ◌≡◌, ◌⊎◌, false, true, List, [], ◌∷◌, get_or, length, map, Option, None}
+use Rattle.std.specs.Prelude.{ℕ, ◌≡◌, ◌≢◌, ◌⊎◌, false, true, List, [], ◌∷◌, get_or, length, map, Option, None}
 use Rattle.orca_names.specs.declared.row.Fields.{Fields}
 use Rattle.turn_rules.specs.declared.act.Frame.{Frame}
 use Rattle.letter_kinds.specs.declared.letter.Letter.{Letter}
@@ -63,10 +63,10 @@ person_of c mail = record {
 
 -- a root is pinned, has a frame or has a letter
 abbrev pub IsRootPerson : Person → Type 0
-IsRootPerson p = (p.fields.pinned ≡ true) ⊎ ((p.frame ≡ None → ⊥) ⊎ (p.letters ≡ [] → ⊥))
+IsRootPerson p = (p.fields.pinned ≡ true) ⊎ ((p.frame ≢ None) ⊎ (p.letters ≢ []))
 
 -- who is present is the same in both machines; who is gone is no root of the plain one
 pub record Agrees (people : List Person) (actors : Actors) : Type 0 where
   pub present : (a : ℕ) (c : Cell) (mail : List Letter) → seat_at actors a ≡ seat c mail
       → person_at people a ≡ person_of c mail
-  pub absent : (a : ℕ) → seat_at actors a ≡ None → IsRootPerson (person_at people a) → ⊥
+  pub absent : (a : ℕ) → seat_at actors a ≡ None → ¬ IsRootPerson (person_at people a)

@@ -10,11 +10,11 @@ use Rattle.letter_kinds.specs.declared.letter.Letter.{Letter}
 use Rattle.letter_kinds.specs.Holdings.{Row, has_own, held_in, own_in}
 use Rattle.machine_rules.specs.Actors.{Actors, Every}
 use Rattle.machine_rules.specs.Cell.{Cell, own_row_of}
-use Rattle.count_laws.specs.Known.{Names, Reaches, row_at}
+use Rattle.count_laws.specs.Known.{Names, ReachesThrough, row_at}
 
 -- what an actor reaches from its fields through the rows that it has
 abbrev pub IsInReach : ℕ → Cell → Thing → Type 0
-IsInReach a c x = Reaches (row_at a c.holdings) (Names c.fields.values) x
+IsInReach a c x = ReachesThrough (row_at a c.holdings) (Names c.fields.values) x
 
 -- nothing is left that a collection would give back or free
 pub record IsSweptAt (a : ℕ) (c : Cell) : Type 0 where
@@ -42,7 +42,7 @@ pub data StartsMarks (a : ℕ) (c : Cell) : Thing → Type 0 where
 
 -- what they lead to through own rows
 abbrev pub IsInOwnReach : ℕ → Cell → Thing → Type 0
-IsInOwnReach a c x = Reaches (thing_row (own_row_of a c.holdings)) (StartsMarks a c) x
+IsInOwnReach a c x = ReachesThrough (thing_row (own_row_of a c.holdings)) (StartsMarks a c) x
 
 pub record IsSweptByRootsAt (a : ℕ) (c : Cell) : Type 0 where
   pub foreign : (x : Thing) (e : ℕ × Option Row) → m.get c.holdings.foreign x ≡ Some e

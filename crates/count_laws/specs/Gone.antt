@@ -16,7 +16,7 @@ use Rattle.machine_rules.specs.State.{State}
 
 -- it was made, and nothing leads to it any more
 abbrev pub IsForgotten : PlainState → Thing → Type 0
-IsForgotten p x = IsMade p.actors x × (IsReachable p x → ⊥)
+IsForgotten p x = IsMade p.actors x × (¬ IsReachable p x)
 
 -- that stays so, whatever events follow
 abbrev pub ForgottenStaysForgotten : Type 0
@@ -42,7 +42,7 @@ NamesStayGiven =
 
 -- its name was given, and it is not there
 abbrev pub IsGone : Actors → Thing → Type 0
-IsGone actors x = HasName actors x × (IsLeft actors x → ⊥)
+IsGone actors x = HasName actors x × (¬ IsLeft actors x)
 
 -- that stays so, whatever events follow: a name is never given again
 abbrev pub GoneStaysGone : Type 0

@@ -14,12 +14,13 @@ use Rattle.machine_rules.specs.State.{State}
 use Rattle.plain_rules.specs.Machine.{PlainState}
 use Rattle.count_laws.specs.Clean.{IsInOwnReach}
 use Rattle.count_laws.specs.Facts.{Facts}
-use Rattle.count_laws.specs.Known.{Reaches}
+use Rattle.count_laws.specs.Known.{ReachesThrough}
 
 -- something that is marked of the first cell leads to it, through own rows and known rows of the
 -- second
 abbrev pub MarkedReach : ℕ → Cell → Cell → Thing → Type 0
-MarkedReach a marked having x = Reaches (thing_row (row_by_roots a having)) (IsInOwnReach a marked) x
+MarkedReach a marked having x =
+    ReachesThrough (thing_row (row_by_roots a having)) (IsInOwnReach a marked) x
 
 -- of the actor's known rows those stay that marked things reach: through the rows that it had
 -- before, or, which is the same, through those that it has afterwards

@@ -1,5 +1,5 @@
 -- What an actor knows, and what the letters that wait for it load.
-use Rattle.std.specs.Prelude.{ℕ, ◌<◌, ◌≤◌, ◌≡◌, ◌≢◌, ◌⊎◌, true, List, [], ◌∷◌, Contains, map, Option, Some, None, unwrap_or}
+use Rattle.std.specs.Prelude.{ℕ, ◌<◌, ◌≤◌, ◌≡◌, ◌≢◌, ◌⊎◌, true, List, [], ◌∷◌, Contains, map, Option, Some, None, unwrap_or, ⊤}
 use Rattle.std.specs.List.Sorted.{IsStrictlySortedBy}
 use Rattle.orca_names.specs.Names.{owner_of, thing_cmp}
 use Rattle.orca_names.specs.declared.names.Thing.{Thing}
@@ -26,14 +26,14 @@ unfoldable pub row_values : (Thing → Option Row) → Thing → List Value
 row_values all x = unwrap_or (all x) []
 
 -- what a path through the rows leads to from a root
-abbrev pub Reaches : (Thing → Option Row) → (Thing → Type 0) → Thing → Type 0
-Reaches all roots x = ReachesFrom (row_values all) roots x
+abbrev pub ReachesThrough : (Thing → Option Row) → (Thing → Type 0) → Thing → Type 0
+ReachesThrough all roots x = ReachesFrom (row_values all) roots x
 
 -- where an actor's walks begin: its fields, its registers, and what it holds
-pub data Roots (c : Cell) : Thing → Type 0 where
-  in_fields : {x : Thing} → Names c.fields.values x → Roots c x
-  in_frame : {x : Thing} → InFrame c.frame x → Roots c x
-  in_table : {x : Thing} → 0 < held_in c.holdings x → Roots c x
+pub data StartsWalks (c : Cell) : Thing → Type 0 where
+  in_fields : {x : Thing} → Names c.fields.values x → StartsWalks c x
+  in_frame : {x : Thing} → InFrame c.frame x → StartsWalks c x
+  in_table : {x : Thing} → 0 < held_in c.holdings x → StartsWalks c x
 
 -- an actor knows a thing: its own, which is there, or another's, on which it holds a count
 abbrev pub IsKnown : ℕ → Holdings → Thing → Type 0
@@ -45,7 +45,7 @@ row_at me h = thing_row (row_of me h)
 
 -- it knows all that it reaches through the rows ever made
 abbrev pub IsClosedAt : (Thing → Option Row) → ℕ → Cell → Type 0
-IsClosedAt all me c = (x : Thing) → Reaches all (Roots c) x → IsKnown me c.holdings x
+IsClosedAt all me c = (x : Thing) → ReachesThrough all (StartsWalks c) x → IsKnown me c.holdings x
 
 -- the rows that it has are those that were made
 abbrev pub RowsAreAt : (Thing → Option Row) → ℕ → Holdings → Type 0
@@ -53,25 +53,25 @@ RowsAreAt all me h = (x : Thing) → IsKnown me h x → row_at me h x ≡ all x
 
 -- each row of a load is the one that was made
 abbrev pub RowsAreIn : (Thing → Option Row) → List Loaded → Type 0
-RowsAreIn all [] = Unit {0}
+RowsAreIn all [] = ⊤
 RowsAreIn all (e ∷ load) = (e.1 ≡ all e.0) × RowsAreIn all load
 
 -- a load is exactly what its letter's arguments reach: each thing once, in the order of things
 pub record IsLoadOf (all : Thing → Option Row) (args : List Value) (load : List Loaded) : Type 0 where
   pub once : (x : Thing) → times_loaded x load ≤ 1
   pub rising : IsStrictlySortedBy thing_cmp (map (λ e. e.0) load)
-  pub reached : (x : Thing) → 0 < times_loaded x load → Reaches all (Names args) x
-  pub whole : (x : Thing) → Reaches all (Names args) x → 0 < times_loaded x load
+  pub reached : (x : Thing) → 0 < times_loaded x load → ReachesThrough all (Names args) x
+  pub whole : (x : Thing) → ReachesThrough all (Names args) x → 0 < times_loaded x load
   pub rows : RowsAreIn all load
 
 abbrev pub IsExactLetter : (Thing → Option Row) → Letter → Type 0
 IsExactLetter all (App behaviour args load rows) = IsLoadOf all args load
-IsExactLetter all (Inc things) = Unit {0}
-IsExactLetter all (Dec things) = Unit {0}
-IsExactLetter all (Confirm token) = Unit {0}
+IsExactLetter all (Inc things) = ⊤
+IsExactLetter all (Dec things) = ⊤
+IsExactLetter all (Confirm token) = ⊤
 
 abbrev pub AreExactLetters : (Thing → Option Row) → List Letter → Type 0
-AreExactLetters all [] = Unit {0}
+AreExactLetters all [] = ⊤
 AreExactLetters all (letter ∷ mail) = IsExactLetter all letter × AreExactLetters all mail
 
 -- of an actor that is present: it knows what it reaches, with the rows, and its letters' loads are

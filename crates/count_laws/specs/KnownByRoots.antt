@@ -1,5 +1,5 @@
 -- What an actor knows with root-only tracing, and what the letters that wait for it load.
-use Rattle.std.specs.Prelude.{ℕ, ◌+◌, ◌<◌, ◌≤◌, ◌≡◌, ◌≢◌, drop, map, take, true, List, [], ◌∷◌, Option, Some, sum_by}
+use Rattle.std.specs.Prelude.{ℕ, ◌+◌, ◌<◌, ◌≤◌, ◌≡◌, ◌≢◌, drop, map, take, true, List, [], ◌∷◌, Option, Some, sum_by, ⊤}
 use Rattle.std.specs.FinMap as m
 use Rattle.std.specs.List.Sorted.{IsStrictlySortedBy}
 use Rattle.orca_names.specs.Names.{owner_of, thing_cmp}
@@ -14,7 +14,7 @@ use Rattle.letter_kinds.specs.Sums.{dec_of, inc_of, load_count, times_loaded}
 use Rattle.letter_kinds.specs.declared.letter.Letter.{Letter}
 use Rattle.letter_kinds.specs.declared.letter.Letter.TheVariants.{App, Inc, Dec, Confirm}
 use Rattle.machine_rules.specs.Cell.{Cell, own_row_of}
-use Rattle.count_laws.specs.Known.{InFrame, IsKnown, IsLoadOf, Names, Reaches}
+use Rattle.count_laws.specs.Known.{InFrame, IsKnown, IsLoadOf, Names, ReachesThrough}
 
 -- its fields, its registers or the row of an own object name the thing
 pub data IsNamedIn (a : ℕ) (c : Cell) : Thing → Type 0 where
@@ -52,7 +52,7 @@ pub record IsRootLetter (all : Thing → Option Row) (args : List Value)
   pub rows : IsLoadOf all args brought
 
 abbrev pub AreRootLetters : (Thing → Option Row) → List Letter → Type 0
-AreRootLetters all [] = Unit {0}
+AreRootLetters all [] = ⊤
 AreRootLetters all (App behaviour args load rows ∷ mail) =
     IsRootLetter all args load rows × AreRootLetters all mail
 AreRootLetters all (Inc things ∷ mail) = AreRootLetters all mail
@@ -72,7 +72,7 @@ pub record IsBacked (a : ℕ) (c : Cell) (mail : List Letter) (k : ℕ) (x : Thi
   pub from : Thing
   pub own : owner_of from ≡ a
   pub counted : IsCountedAfter c mail k from
-  pub leads : Reaches (thing_row (own_row_of a c.holdings)) (λ y. y ≡ from) x
+  pub leads : ReachesThrough (thing_row (own_row_of a c.holdings)) (λ y. y ≡ from) x
 
 -- ---- all of it
 
@@ -85,11 +85,11 @@ pub record IsRootsAt (all : Thing → Option Row) (a : ℕ) (c : Cell) (mail : L
   pub mine : (n : ObjName) (row : Row) → own_row_of a c.holdings n ≡ Some row → all (Obj n) ≡ Some row
   pub right : (n : ObjName) (row : Row) → m.get c.known (Obj n) ≡ Some row → all (Obj n) ≡ Some row
   -- of others' objects that its walks reach it has the row
-  pub brought : (n : ObjName) (row : Row) → n.owner ≢ a → Reaches all (WalkRoots a c) (Obj n)
+  pub brought : (n : ObjName) (row : Row) → n.owner ≢ a → ReachesThrough all (WalkRoots a c) (Obj n)
       → all (Obj n) ≡ Some row → m.get c.known (Obj n) ≡ Some row
   -- what it owns or holds leads to each object of which letters brought the row
   pub led : (n : ObjName) (row : Row) → m.get c.known (Obj n) ≡ Some row
-      → Reaches all (IsKnown a c.holdings) (Obj n)
+      → ReachesThrough all (IsKnown a c.holdings) (Obj n)
   pub letters : AreRootLetters all mail
   -- where an Inc for a thing still waits behind a prefix of its letters, the thing is backed after
   -- that

@@ -1,5 +1,5 @@
 -- What increments and decrements name.
-use Rattle.std.specs.Prelude.{ℕ, ◌<◌, ◌≤◌, ◌≡◌, List, map}
+use Rattle.std.specs.Prelude.{ℕ, ◌<◌, ◌≤◌, ◌≡◌, List, map, ⊤}
 use Rattle.std.specs.List.{AllByRecursion}
 use Rattle.std.specs.List.Sorted.{IsStrictlySortedBy}
 use Rattle.orca_names.specs.Names.{owner_of, thing_cmp, times_among}
@@ -24,10 +24,10 @@ pub record AreFor (a : ℕ) (things : List Amount) : Type 0 where
 
 -- an increment or a decrement that waits for this actor is for its own things
 abbrev pub NamesOwn : ℕ → Letter → Type 0
-NamesOwn a (App behaviour args load rows) = Unit {0}
+NamesOwn a (App behaviour args load rows) = ⊤
 NamesOwn a (Inc things) = AreFor a things
 NamesOwn a (Dec things) = AreFor a things
-NamesOwn a (Confirm token) = Unit {0}
+NamesOwn a (Confirm token) = ⊤
 
 -- so are all
 abbrev pub LettersNameTheirOwn : Actors → Type 0

@@ -14,12 +14,12 @@ use Rattle.machine_rules.specs.Cell.{Cell, row_by, row_by_roots}
 use Rattle.machine_rules.specs.Left.{IsLeft}
 use Rattle.orca_names.specs.declared.trace.Trace.{Trace}
 use Rattle.count_laws.specs.Agreement.{app_letters}
-use Rattle.count_laws.specs.Known.{Names, Reaches, Roots}
+use Rattle.count_laws.specs.Known.{Names, ReachesThrough, StartsWalks}
 
 -- a present actor names it: in its fields, its registers or its table; in a waiting letter's
 -- arguments or in what it loads; or in an Inc or a Dec
 pub data IsNamedBy (a : ℕ) (c : Cell) (mail : List Letter) (x : Thing) : Type 0 where
-  by_root : Roots c x → IsNamedBy a c mail x
+  by_root : StartsWalks c x → IsNamedBy a c mail x
   by_argument : Names (flat_map (λ l. l.args) (app_letters mail)) x → IsNamedBy a c mail x
   by_load : 0 < sum_by (load_count x) mail → IsNamedBy a c mail x
   by_inc : 0 < sum_by (inc_of x) mail → IsNamedBy a c mail x
@@ -33,7 +33,7 @@ NamesNothingFreed actors =
 -- so is all that they reach from their fields, registers and tables through the rows that they have
 abbrev pub ReachesNothingFreed : Trace → Actors → Type 0
 ReachesNothingFreed trace actors =
-    Every (λ a c mail. (x : Thing) → Reaches (thing_row (row_by trace a c)) (Roots c) x
+    Every (λ a c mail. (x : Thing) → ReachesThrough (thing_row (row_by trace a c)) (StartsWalks c) x
     → IsLeft actors x) actors
 
 -- ---- root-only tracing: all rows that actors have, and those that letters bring

@@ -1,5 +1,5 @@
 -- Prefixes of an actor's letters never take from a count what is not there.
-use Rattle.std.specs.Prelude.{ℕ, ◌+◌, ◌≤◌, min, drop, take, List, Option, Some, None, sum_by}
+use Rattle.std.specs.Prelude.{ℕ, ◌+◌, ◌≤◌, min, drop, take, List, Option, Some, None, sum_by, ⊤}
 use Rattle.orca_names.specs.declared.names.Thing.{Thing}
 use Rattle.letter_kinds.specs.declared.letter.Letter.{Letter}
 use Rattle.letter_kinds.specs.Holdings.{own_in}
@@ -22,7 +22,7 @@ IsCovered trace x n mail = (k : ℕ) →
     + min (spare trace) (sum_by (inc_of x) (drop k mail)) ≤ n + sum_by (inc_of x) (take k mail)
 
 abbrev pub IsCoveredAt : Trace → Thing → Option Seat → Type 0
-IsCoveredAt trace x None = Unit {0}
+IsCoveredAt trace x None = ⊤
 IsCoveredAt trace x (Some o) = IsCovered trace x (own_in o.cell.holdings x) o.mail
 
 -- no letter takes from a count what is not there

@@ -1,15 +1,14 @@
 -- A token that all members acknowledged is sealed, and no letter waits for a member.
-use Rattle.std.proofs.Common.{◌≡◌, ℕ, ◌+◌, ◌<◌, true, List, [], ◌∷◌, refl, sym, ◌∙◌, arith, ⊎_elim}
+use Rattle.std.proofs.Common.{◌≡◌, ℕ, ◌+◌, ◌<◌, true, List, [], ◌∷◌, refl, sym, ◌∙◌, arith, ⊎_elim, Contains}
 use Rattle.std.proofs.lemmas.Bool.{false≢true}
 use Rattle.letter_kinds.proofs.Acked.{acked_each}
 use Rattle.letter_kinds.specs.Detector.{Token, all_acked, has}
 use Rattle.letter_kinds.specs.declared.letter.Letter.{Letter}
 use Rattle.detector_laws.specs.Confirms.{EndsInConfirm, confirm_count}
-use Rattle.detector_laws.specs.Members.{In}
 use Rattle.detector_laws.specs.Tokens.{IsSealed, ack_count}
 use Rattle.detector_laws.specs.World.{TokensAreSound, World}
 
-pub acked_sealed : (w : World) (t : Token) → TokensAreSound w → In t w.detector.tokens → all_acked t ≡ true → IsSealed w.cell w.mail w.loaded w.notes t
+pub acked_sealed : (w : World) (t : Token) → TokensAreSound w → Contains w.detector.tokens t → all_acked t ≡ true → IsSealed w.cell w.mail w.loaded w.notes t
 acked_sealed w t sound is acked = ⊎_elim
     (λ s. s)
     (λ s. absurd (false≢true (sym s.2.unnoted ∙ acked_each t acked s.0 s.1)))
@@ -24,7 +23,7 @@ ends_none : (n : ℕ) (ls : List Letter) → EndsInConfirm n ls → confirm_coun
 ends_none n [] h none = refl
 ends_none n (l ∷ ls) h none = absurd (let z = ends_some n l ls h in omega arith)
 
-pub acked_bare : (w : World) (t : Token) → TokensAreSound w → In t w.detector.tokens → all_acked t ≡ true → (m : ℕ) → has t.members m ≡ true → w.mail m ≡ []
+pub acked_bare : (w : World) (t : Token) → TokensAreSound w → Contains w.detector.tokens t → all_acked t ≡ true → (m : ℕ) → has t.members m ≡ true → w.mail m ≡ []
 acked_bare w t sound is acked m member =
     let seal = acked_sealed w t sound is acked m member in
     let noted : has t.acked m ≡ true = acked_each t acked m member in

@@ -1,5 +1,5 @@
 -- Every event keeps that members alone are asked and acknowledge.
-use Rattle.std.proofs.Common.{◌≡◌, ℕ, suc, ◌≤◌, ◌≢◌, ◌==◌, not, ◌&&◌, is_some, true, false, ⊎_elim, List, [], ◌∷◌, ◌++◌, arith, refl, ap, sym, subst, ◌∙◌}
+use Rattle.std.proofs.Common.{◌≡◌, ℕ, suc, ◌≤◌, ◌≢◌, ◌==◌, not, ◌&&◌, is_some, true, false, ⊎_elim, List, [], ◌∷◌, ◌++◌, arith, refl, ap, sym, subst, ◌∙◌, Contains}
 use Rattle.std.proofs.lemmas.Bool.{cases_Bool, cases_eq, cond_both}
 use Rattle.std.proofs.lemmas.Bool.Decides.{nat_tests}
 use Rattle.letter_kinds.specs.Detector.{Detector, Token, after_scan, closed_set, has, hear_note, note_ack}
@@ -13,7 +13,8 @@ use Rattle.detector_laws.proofs.ActorTokens.{confirm_count-tail, moved_acks, mov
 use Rattle.detector_laws.proofs.HearTokens.{tail_acks}
 use Rattle.detector_laws.proofs.Letters.{confirm_count-append}
 use Rattle.detector_laws.proofs.Maps.{at_cases}
-use Rattle.detector_laws.proofs.Members.{In-append, In-filter, In-map}
+use Rattle.reach_walk.proofs.Elements.{Contains-from_map}
+use Rattle.detector_laws.proofs.Members.{Contains-from_filter, earlier_or_last}
 use Rattle.detector_laws.proofs.Notes.{ack_count-append}
 use Rattle.detector_laws.proofs.Reap.{reaped_confirms}
 use Rattle.detector_laws.proofs.Scan.{confirmed_out, other_confirm}
@@ -22,15 +23,14 @@ use Rattle.detector_laws.specs.Cells.{is_reporting}
 use Rattle.detector_laws.specs.Confirms.{confirm_count}
 use Rattle.detector_laws.specs.Events.{Departs, Leaves, Moves, Reaps}
 use Rattle.detector_laws.specs.Laws.{MembersAloneAcknowledge}
-use Rattle.detector_laws.specs.Members.{In}
 use Rattle.detector_laws.specs.Tokens.{ack_count}
-use Rattle.detector_laws.specs.World.{MembersAcknowledge, TokensAreSound, World, confirms_of, hear, scan, take_confirm}
+use Rattle.detector_laws.specs.World.{MembersAcknowledge, TokensAreSound, World, confirms_of, hear_in_world, scan_in_world, take_confirm}
 
 -- ---- no further tokens, Confirms and Acks
 
 -- each of the tokens was open, with the same number and members
 abbrev WereOpen : List Token → List Token → Type 0
-WereOpen before after = (t : Token) → In t after → (u : Token) × In u before × (t.number ≡ u.number) × (t.members ≡ u.members)
+WereOpen before after = (t : Token) → Contains after t → (u : Token) × Contains before u × (t.number ≡ u.number) × (t.members ≡ u.members)
 
 still_open : (tokens : List Token) → WereOpen tokens tokens
 still_open tokens t i = (t, i, refl, refl)
@@ -51,11 +51,11 @@ fewer d e mail mail' notes notes' k were letters heard = record {
 
 heard_open : (n : Note) (d : Detector) → WereOpen d.tokens (hear_note n d).tokens
 heard_open (Block b count held) d = still_open d.tokens
-heard_open (Unblock b) d = λ t i. (t, (In-filter (λ u. not (has u.members b)) t d.tokens i).0, refl, refl)
-heard_open (Ack number b) d = λ t i. let (u, j, e) = In-map (note_ack number b) t d.tokens i in
-    (u, j, ap (λ (x : Token). x.number) e, ap (λ (x : Token). x.members) e)
+heard_open (Unblock b) d = λ t i. (t, (Contains-from_filter (λ u. not (has u.members b)) t d.tokens i).0, refl, refl)
+heard_open (Ack number b) d = λ t i. let (u, j, e) = Contains-from_map (note_ack number b) d.tokens t i in
+    (u, j, ap (λ (x : Token). x.number) (sym e), ap (λ (x : Token). x.members) (sym e))
 
-pub hear_members : (w : World) (n : Note) (ns : List Note) → w.notes ≡ n ∷ ns → MembersAcknowledge w → MembersAcknowledge (hear w n ns)
+pub hear_members : (w : World) (n : Note) (ns : List Note) → w.notes ≡ n ∷ ns → MembersAcknowledge w → MembersAcknowledge (hear_in_world w n ns)
 hear_members w n ns e k =
     fewer w.detector (hear_note n w.detector) w.mail w.mail w.notes ns k (heard_open n w.detector) (λ t a. omega arith)
     (λ t a. omega (arith, tail_acks t a n ns, ap (ack_count t a) e))
@@ -68,25 +68,23 @@ scanned_members w (x ∷ xs) sound k =
     let n = suc w.detector.opened in
     let set = x ∷ xs in
     let new : Token = record { number = n; members = set; acked = [] } in
-    let split = λ (t : Token) (i : In t (w.detector.tokens ++ new ∷ [])). In-append t w.detector.tokens (new ∷ []) i in
+    let split = earlier_or_last w.detector.tokens new in
     record {
       asked = λ t i a out. ⊎_elim
           (λ old. cond_both (has set a && is_some (w.cell a)) (w.mail a ++ Confirm n ∷ []) (w.mail a) (λ l. confirm_count t.number l ≡ 0)
           (λ _. let le : t.number ≤ w.detector.opened = sound.numbers t old in
           omega (arith, confirm_count-append t.number (w.mail a) (Confirm n ∷ []), k.asked t old a out, other_confirm t.number n (λ e. omega arith)))
           (λ _. k.asked t old a out))
-          (λ i'. ⊎_elim
           (λ e. subst (λ u. has u.members a ≡ false → confirm_count u.number (confirms_of set n w.cell w.mail a) ≡ 0) (sym e)
           (λ none. ap (confirm_count n) (confirmed_out set n w.cell w.mail a none) ∙ sound.letters a n (omega arith)) out)
-          (λ z. absurd z) i')
           (split t i);
       acks = λ t i a out. ⊎_elim
           (λ old. k.acks t old a out)
-          (λ i'. ⊎_elim (λ e. subst (λ u. ack_count u.number a w.notes ≡ 0) (sym e) (sound.heard a n (omega arith))) (λ z. absurd z) i')
+          (λ e. subst (λ u. ack_count u.number a w.notes ≡ 0) (sym e) (sound.heard a n (omega arith)))
           (split t i);
     }
 
-pub scan_members : (w : World) → TokensAreSound w → MembersAcknowledge w → MembersAcknowledge (scan w)
+pub scan_members : (w : World) → TokensAreSound w → MembersAcknowledge w → MembersAcknowledge (scan_in_world w)
 scan_members w = scanned_members w (closed_set w.detector)
 
 departed_acks : (w w' : World) (gone : List ℕ) → Departs w gone w' → (n a : ℕ) → ack_count n a w'.notes ≤ ack_count n a w.notes
@@ -96,7 +94,7 @@ pub reap_members : (w w' : World) (t : Token) → Reaps w t w' → MembersAcknow
 reap_members w w' t r k =
     fewer w.detector w'.detector w.mail w'.mail w.notes w'.notes k
     (subst (λ (d : Detector). WereOpen w.detector.tokens d.tokens) (sym r.detector)
-    (λ u i. (u, (In-filter (λ v. not (v.number == t.number)) u w.detector.tokens i).0, refl, refl)))
+    (λ u i. (u, (Contains-from_filter (λ v. not (v.number == t.number)) u w.detector.tokens i).0, refl, refl)))
     (reaped_confirms w w' t.members r.departs) (departed_acks w w' t.members r.departs)
 
 -- ---- events of actors
@@ -129,7 +127,7 @@ taken_ack t u a b ls unasked out = ⊎_elim
 
 pub confirm_members : (w : World) (a u : ℕ) (ls : List Letter) → w.mail a ≡ Confirm u ∷ ls → MembersAcknowledge w → MembersAcknowledge (take_confirm w a u ls)
 confirm_members w a u ls e k =
-    let unasked = λ (t : Token) (i : In t w.detector.tokens) (out : has t.members a ≡ false). ap (confirm_count t.number) (sym e) ∙ k.asked t i a out in
+    let unasked = λ (t : Token) (i : Contains w.detector.tokens t) (out : has t.members a ≡ false). ap (confirm_count t.number) (sym e) ∙ k.asked t i a out in
     record {
       asked = λ t i. at_cases (λ b l. has t.members b ≡ false → confirm_count t.number l ≡ 0) w.mail a ls
           (λ out. confirm_count-tail t.number u ls (unasked t i out)) (λ b _. k.asked t i b);
@@ -140,7 +138,7 @@ confirm_members w a u ls e k =
 
 -- ---- what is heard
 
-first_counts : (n u a : ℕ) (ns : List Note) → ack_count n a (Ack u a ∷ ns) ≡ 0 → n ≡ u → ⊥
+first_counts : (n u a : ℕ) (ns : List Note) → ack_count n a (Ack u a ∷ ns) ≡ 0 → n ≢ u
 first_counts n u a ns e same = grind (arith, nat_tests)
 
 pub members_alone : MembersAloneAcknowledge

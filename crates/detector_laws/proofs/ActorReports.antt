@@ -3,20 +3,21 @@ use Rattle.std.proofs.Common.{◌≡◌, ℕ, ◌≢◌, ◌≤◌, Bool, true, 
 use Rattle.std.proofs.lemmas.Bool.{cases_eq, cond_both, false≢true}
 use Rattle.std.proofs.lemmas.Bool.Decides.{nat_tests}
 use Rattle.letter_kinds.specs.Detector.{Detector}
-use Rattle.letter_kinds.specs.Reports.{block_note, report_of}
+use Rattle.letter_kinds.specs.Reports.{block_note, kept_report}
 use Rattle.letter_kinds.specs.declared.letter.Letter.{Letter}
 use Rattle.letter_kinds.specs.declared.letter.Letter.TheVariants.{Confirm}
 use Rattle.letter_kinds.specs.declared.note.Note.{Note}
 use Rattle.letter_kinds.specs.declared.note.Note.TheVariants.{Unblock, Ack}
 use Rattle.letter_kinds.specs.declared.note.Report.{Report}
 use Rattle.machine_rules.specs.Cell.{Cell}
+use Rattle.machine_rules.proofs.Guards.{may_report}
 use Rattle.detector_laws.proofs.Cells.{blocked_reports}
 use Rattle.detector_laws.proofs.Maps.{at_cases}
 use Rattle.detector_laws.proofs.Notes.{with_notes-push, with_note-other_block, with_note-other_unblock, IsSilentOn-push}
 use Rattle.detector_laws.specs.Cells.{is_reporting}
 use Rattle.detector_laws.specs.Events.{CanBlock, IsFresh, Moves}
 use Rattle.detector_laws.specs.Reports.{Told, Unreported, Reported, Contradictory, with_unblock, with_note, told_by_kept, told_of, IsSilentOn, IsAsTold, ExactReports}
-use Rattle.detector_laws.specs.World.{World, block, take_confirm, ReportsAreExact}
+use Rattle.detector_laws.specs.World.{World, block_in_world, take_confirm, ReportsAreExact}
 
 -- an actor with no report out is last told of as such
 pub off : (c : Option Cell) (a : ℕ) (s : Told) → IsAsTold c a s → is_reporting c ≡ false → s ≡ Unreported
@@ -35,15 +36,16 @@ told_block a r e = grind (arith, nat_tests)
 told_unblock : (a : ℕ) (s : Told) → with_unblock s ≡ Unreported → with_note a s (Unblock a) ≡ Unreported
 told_unblock a s e = grind (arith, nat_tests)
 
-pub block_reports : (w : World) (a : ℕ) (c : Cell) (r : Report) → CanBlock w a c r → ReportsAreExact w → ReportsAreExact (block w a c r)
+pub block_reports : (w : World) (a : ℕ) (c : Cell) (r : Report) → CanBlock w a c r → ReportsAreExact w → ReportsAreExact (block_in_world w a c r)
 block_reports w a c r can h =
     let c' : Cell = record c { reported = true } in
     let kept = w.detector.kept in
-    let ends = λ (b : ℕ). with_notes-push b (told_by_kept (report_of kept b)) w.notes (block_note r) in
-    let was : told_of a kept w.notes ≡ Unreported = off (w.cell a) a (told_of a kept w.notes) (h.last a) (ap is_reporting can.here ∙ can.quiet) in
+    let may = may_report c [] can.may in
+    let ends = λ (b : ℕ). with_notes-push b (told_by_kept (kept_report kept b)) w.notes (block_note r) in
+    let was : told_of a kept w.notes ≡ Unreported = off (w.cell a) a (told_of a kept w.notes) (h.last a) (ap is_reporting can.here ∙ may.unreported) in
     let is : told_of a kept (w.notes ++ block_note r ∷ []) ≡ Reported r = ends a ∙ (ap (λ s. with_note a s (block_note r)) was ∙ told_block a r can.exact.actor) in
     let mine : IsAsTold (Some c') a (Reported r) = (
-      record { cell = c'; here = refl; reported = refl; unpinned = can.unpinned; clean = can.clean; idle = can.idle },
+      record { cell = c'; here = refl; reported = refl; unpinned = may.unpinned; clean = may.rest.clean; idle = may.rest.idle },
       record { actor = can.exact.actor; count = can.exact.count; held = can.exact.held },
     ) in
     record {
@@ -56,7 +58,7 @@ block_reports w a c r can h =
 
 confirm_notes : (made : ℕ) (cell : ℕ → Option Cell) (kept : List Report) (notes : List Note) (a t : ℕ) → ExactReports made cell kept notes → ExactReports made cell kept (notes ++ Ack t a ∷ [])
 confirm_notes made cell kept notes a t h = record {
-  last = λ b. subst (IsAsTold (cell b) b) (sym (with_notes-push b (told_by_kept (report_of kept b)) notes (Ack t a))) (h.last b);
+  last = λ b. subst (IsAsTold (cell b) b) (sym (with_notes-push b (told_by_kept (kept_report kept b)) notes (Ack t a))) (h.last b);
   unmade = λ b past. let before = h.unmade b past in (before.0, IsSilentOn-push b notes (Ack t a) before.1 tt);
 }
 
@@ -70,12 +72,12 @@ confirm_reports w a t ls e h =
 woken_told : (w : World) (a : ℕ) → ReportsAreExact w → (reported : Bool) → is_reporting (w.cell a) ≡ reported → told_of a w.detector.kept (if reported then w.notes ++ Unblock a ∷ [] else w.notes) ≡ Unreported
 woken_told w a h true e =
     let s = told_of a w.detector.kept w.notes in
-    with_notes-push a (told_by_kept (report_of w.detector.kept a)) w.notes (Unblock a) ∙ told_unblock a s (on_cases (w.cell a) a s (h.last a) e)
+    with_notes-push a (told_by_kept (kept_report w.detector.kept a)) w.notes (Unblock a) ∙ told_unblock a s (on_cases (w.cell a) a s (h.last a) e)
 woken_told w a h false e = off (w.cell a) a (told_of a w.detector.kept w.notes) (h.last a) e
 
 other_told : (w : World) (a b : ℕ) → b ≢ a → (reported : Bool) → told_of b w.detector.kept (if reported then w.notes ++ Unblock a ∷ [] else w.notes) ≡ told_of b w.detector.kept w.notes
 other_told w a b ne true =
-    with_notes-push b (told_by_kept (report_of w.detector.kept b)) w.notes (Unblock a) ∙ with_note-other_unblock b (told_of b w.detector.kept w.notes) a (λ e. ne (sym e))
+    with_notes-push b (told_by_kept (kept_report w.detector.kept b)) w.notes (Unblock a) ∙ with_note-other_unblock b (told_of b w.detector.kept w.notes) a (λ e. ne (sym e))
 other_told w a b ne false = refl
 
 other_silent : (w : World) (a b : ℕ) → b ≢ a → (reported : Bool) → IsSilentOn b w.notes → IsSilentOn b (if reported then w.notes ++ Unblock a ∷ [] else w.notes)
@@ -97,7 +99,7 @@ moved_last w w' a m h b =
     (m.others b ne))))
     (cases_eq b a)
 
-moved_unmade : (w w' : World) (a : ℕ) → Moves w a w' → ReportsAreExact w → (b : ℕ) → w'.made ≤ b → (report_of w.detector.kept b ≡ None) × IsSilentOn b w'.notes
+moved_unmade : (w w' : World) (a : ℕ) → Moves w a w' → ReportsAreExact w → (b : ℕ) → w'.made ≤ b → (kept_report w.detector.kept b ≡ None) × IsSilentOn b w'.notes
 moved_unmade w w' a m h b past =
     let grows = m.grows in
     let below = m.made in

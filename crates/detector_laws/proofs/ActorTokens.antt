@@ -10,6 +10,7 @@ use Rattle.letter_kinds.specs.declared.note.Note.{Note}
 use Rattle.letter_kinds.specs.declared.note.Note.TheVariants.{Unblock, Ack}
 use Rattle.letter_kinds.specs.declared.note.Report.{Report}
 use Rattle.machine_rules.specs.Cell.{Cell}
+use Rattle.machine_rules.proofs.Guards.{may_report}
 use Rattle.detector_laws.proofs.Cells.{blocked_reports, reporter_present, same_some, some_not_none}
 use Rattle.detector_laws.proofs.Letters.{confirm_count-append, confirm_count-none, other_before_confirm-append, other_before_confirm-some, EndsInConfirm-only, EndsInConfirm-tail}
 use Rattle.detector_laws.proofs.Maps.{at_cases, at_same, at_other}
@@ -19,7 +20,7 @@ use Rattle.detector_laws.specs.Confirms.{EndsInConfirm, confirm_count, other_bef
 use Rattle.detector_laws.specs.Events.{CanBlock, IsFresh, Moves}
 use Rattle.detector_laws.specs.Reports.{IsSilentOn, IsBlocked}
 use Rattle.detector_laws.specs.Tokens.{ack_count, trace_count, IsSealedMember, IsSealed, unblocks_before_ack, IsSpoiled, SoundTokens}
-use Rattle.detector_laws.specs.World.{World, at, block, take_confirm, TokensAreSound}
+use Rattle.detector_laws.specs.World.{World, at, block_in_world, take_confirm, TokensAreSound}
 
 -- a member of a sealed token, where nothing of it changes and a note comes that says nothing of it
 pub sealed_stays : (t : Token) (m : ℕ) (cell cell' : ℕ → Option Cell) (mail : List Letter) (loaded loaded' : ℕ) (notes more : List Note)
@@ -38,21 +39,21 @@ sealed_stays t m cell cell' mail loaded loaded' notes more s same held none sile
 
 -- a member that has a report out is not the one that blocks
 not_blocking : (w : World) (a : ℕ) (c : Cell) (r : Report) → CanBlock w a c r → (m : ℕ) → is_reporting (w.cell m) ≡ true → m ≢ a
-not_blocking w a c r can m out e = false≢true (sym can.quiet ∙ (ap is_reporting (sym can.here ∙ ap w.cell (sym e)) ∙ out))
+not_blocking w a c r can m out e = false≢true (sym (may_report c [] can.may).unreported ∙ (ap is_reporting (sym can.here ∙ ap w.cell (sym e)) ∙ out))
 
-block_sealed : (w : World) (a : ℕ) (c : Cell) (r : Report) → CanBlock w a c r → (t : Token) → IsSealed w.cell w.mail w.loaded w.notes t → IsSealed (block w a c r).cell w.mail w.loaded (block w a c r).notes t
+block_sealed : (w : World) (a : ℕ) (c : Cell) (r : Report) → CanBlock w a c r → (t : Token) → IsSealed w.cell w.mail w.loaded w.notes t → IsSealed (block_in_world w a c r).cell w.mail w.loaded (block_in_world w a c r).notes t
 block_sealed w a c r can t s m i =
     let seal = s m i in
     let now : Cell = record c { reported = true } in
     let ne = not_blocking w a c r can m (blocked_reports seal.blocked) in
-    sealed_stays t m w.cell (block w a c r).cell (w.mail m) (w.loaded m) (w.loaded m) w.notes (block_note r ∷ []) seal
+    sealed_stays t m w.cell (block_in_world w a c r).cell (w.mail m) (w.loaded m) (w.loaded m) w.notes (block_note r ∷ []) seal
     (at_other w.cell a (Some now) m ne)
     (at_cases (λ b o. has t.members b ≡ false → held_on o m ≡ 0) w.cell a (Some now) (λ out. ap (λ o. held_on o m) (sym can.here) ∙ seal.held a out) (λ b _. seal.held b))
     seal.unloaded
     (IsSilentOn-push m w.notes (block_note r) seal.silent (λ e. ne (sym e ∙ can.exact.actor)))
     refl
 
-block_spoiled : (w : World) (a : ℕ) (c : Cell) (r : Report) → CanBlock w a c r → (t : Token) → IsSpoiled w.cell w.mail w.notes t → IsSpoiled (block w a c r).cell w.mail (block w a c r).notes t
+block_spoiled : (w : World) (a : ℕ) (c : Cell) (r : Report) → CanBlock w a c r → (t : Token) → IsSpoiled w.cell w.mail w.notes t → IsSpoiled (block_in_world w a c r).cell w.mail (block_in_world w a c r).notes t
 block_spoiled w a c r can t (m, i, s) = (
   m,
   i,
@@ -63,7 +64,7 @@ block_spoiled w a c r can t (m, i, s) = (
   },
 )
 
-pub block_tokens : (w : World) (a : ℕ) (c : Cell) (r : Report) → CanBlock w a c r → TokensAreSound w → TokensAreSound (block w a c r)
+pub block_tokens : (w : World) (a : ℕ) (c : Cell) (r : Report) → CanBlock w a c r → TokensAreSound w → TokensAreSound (block_in_world w a c r)
 block_tokens w a c r can k = record {
   apart = k.apart;
   kept = k.kept;
@@ -90,7 +91,7 @@ pub wrong_number : (n u a b : ℕ) → n ≢ u → ack_count n b (Ack u a ∷ []
 wrong_number n u a b ne = grind (arith, nat_tests)
 
 -- a Confirm of n that waits counts
-pub not_counted : (n u : ℕ) (ls : List Letter) → confirm_count n (Confirm u ∷ ls) ≡ 0 → n ≡ u → ⊥
+pub not_counted : (n u : ℕ) (ls : List Letter) → confirm_count n (Confirm u ∷ ls) ≡ 0 → n ≢ u
 not_counted n u ls e same = grind (arith, nat_tests)
 
 confirm_once : (w : World) (a u : ℕ) (ls : List Letter) (reported : Bool) (t : Token) (m : ℕ) → w.mail a ≡ Confirm u ∷ ls
@@ -167,11 +168,8 @@ confirm_tokens w a u ls e k = record {
 
 -- an actor's other events
 
-not_member : (t : Token) (a : ℕ) → (has t.members a ≡ true → ⊥) → has t.members a ≡ false
-not_member t a h = false_from_ne_true (has t.members a) h
-
 -- no member of a sealed token moves
-member_stays : (w w' : World) (a : ℕ) → Moves w a w' → (t : Token) → IsSealed w.cell w.mail w.loaded w.notes t → has t.members a ≡ true → ⊥
+member_stays : (w w' : World) (a : ℕ) → Moves w a w' → (t : Token) → IsSealed w.cell w.mail w.loaded w.notes t → has t.members a ≢ true
 member_stays w w' a mv t s i =
     let seal = s a i in
     let same = same_some seal.blocked.here mv.here in
@@ -189,7 +187,7 @@ moved_sealed : (w w' : World) (a : ℕ) → Moves w a w' → (t : Token) → IsS
 moved_sealed w w' a mv t s m i =
     let seal = s m i in
     let ne : m ≢ a = λ e. member_stays w w' a mv t s (subst (λ x. has t.members x ≡ true) e i) in
-    let outside : has t.members a ≡ false = not_member t a (member_stays w w' a mv t s) in
+    let outside : has t.members a ≡ false = false_from_ne_true (has t.members a) (member_stays w w' a mv t s) in
     let away = mv.apart t.members (λ k j. (some_not_none (s k j).blocked.here, (s k j).unloaded, (s k j).held)) outside m i in
     let here = some_not_none seal.blocked.here in
     let same : w'.cell m ≡ w.cell m = ⊎_elim (λ e. e) (λ (new : IsFresh (w.cell m) (w'.cell m)). absurd (here new.absent)) (mv.others m ne) in

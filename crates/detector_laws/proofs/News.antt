@@ -1,5 +1,5 @@
 -- Where there is no news, nothing is closed among the candidates; and the reports are kept in order.
-use Rattle.std.proofs.Common.{◌≡◌, ℕ, suc, ◌≢◌, ◌==◌, not, Bool, true, false, cond, ◌||◌, inl, inr, ⊎_elim, List, [], ◌∷◌, ◌++◌, filter, map, arith, refl, ap, sym, subst, ◌∙◌, eq-eqb}
+use Rattle.std.proofs.Common.{◌≡◌, ℕ, suc, ◌≢◌, ◌==◌, not, Bool, true, false, cond, ◌||◌, ⊎_elim, List, [], ◌∷◌, ◌++◌, filter, map, arith, refl, ap, sym, subst, ◌∙◌, eq-eqb, Contains}
 use Rattle.std.proofs.lemmas.Bool.{cases_eq, cases_Bool, false≢true}
 use Rattle.std.proofs.lemmas.Bool.Decides.{nat_tests}
 use Rattle.letter_kinds.proofs.Filters.{filter_twice}
@@ -10,10 +10,10 @@ use Rattle.letter_kinds.specs.Reports.{report_told}
 use Rattle.letter_kinds.specs.declared.note.Note.{Note}
 use Rattle.letter_kinds.specs.declared.note.Note.TheVariants.{Block, Unblock, Ack}
 use Rattle.letter_kinds.specs.declared.note.Report.{Report}
-use Rattle.detector_laws.proofs.Names.{names, name_In}
+use Rattle.reach_walk.proofs.Elements.{Contains-head, Contains-later}
+use Rattle.detector_laws.proofs.Names.{names, has_name}
 use Rattle.detector_laws.proofs.Order.{filter_rising, keep_rising}
 use Rattle.detector_laws.proofs.Scan.{in_token_from}
-use Rattle.detector_laws.specs.Members.{In}
 use Rattle.detector_laws.specs.News.{NoNewsNoClosedSet}
 use Rattle.detector_laws.specs.Reports.{IsRising}
 
@@ -40,12 +40,12 @@ in_token-append : (ts : List Token) (u : Token) (m : ℕ) → in_token (ts ++ u 
 in_token-append [] u m = refl
 in_token-append (t ∷ ts) u m = grind (arith, in_token-append ts u m)
 
-none_pass : (p : Report → Bool) (rs : List Report) → ((r : Report) → In r rs → p r ≡ false) → filter p rs ≡ []
+none_pass : (p : Report → Bool) (rs : List Report) → ((r : Report) → Contains rs r → p r ≡ false) → filter p rs ≡ []
 none_pass p [] h = refl
-none_pass p (r ∷ rs) h = grind (arith, h r (inl refl), none_pass p rs (λ q i. h q (inr i)))
+none_pass p (r ∷ rs) h = grind (arith, h r (Contains-head r rs), none_pass p rs (λ q i. h q (Contains-later r rs q i)))
 
 -- once the largest closed set is set apart, nothing is closed among the rest
-none_left : (cs : List Report) (q : Report → Bool) → ((r : Report) → In r (largest_closed cs) → q r ≡ false) → largest_closed (filter q cs) ≡ []
+none_left : (cs : List Report) (q : Report → Bool) → ((r : Report) → Contains (largest_closed cs) r → q r ≡ false) → largest_closed (filter q cs) ≡ []
 none_left cs q h =
     let big = largest_by_rounds cs in
     let rest = largest_by_rounds (filter q cs) in
@@ -61,7 +61,7 @@ opened_news d =
     let rest = λ (r : Report). not (has (closed_set d) r.actor) in
     let is : candidates (open_token (closed_set d) (without_news d)) ≡ filter rest (candidates d) =
     same_filter (λ r. not (in_token (d.tokens ++ new ∷ []) r.actor)) (λ r. cond (free r) (rest r) false) d.kept (λ r. tests (in_token (d.tokens ++ new ∷ []) r.actor) (has (closed_set d) r.actor) (in_token d.tokens r.actor) (in_token-append d.tokens new r.actor)) ∙ sym (filter_twice rest free d.kept) in
-    subst (λ rs. largest_closed rs ≡ []) (sym is) (none_left (candidates d) rest (λ r i. ap not (name_In (largest_closed (candidates d)) r i)))
+    subst (λ rs. largest_closed rs ≡ []) (sym is) (none_left (candidates d) rest (λ r i. ap not (has_name (largest_closed (candidates d)) r i)))
   where
     tests : (a b c : Bool) → a ≡ (b || c) → not a ≡ cond (not c) (not b) false
     tests a true true e = ap not e
@@ -82,14 +82,14 @@ scan_news d = scanned_news d (closed_set d) refl
 
 -- a reap
 
-in_token_closed : (ts : List Token) (n : ℕ) (m : ℕ) → ((u : Token) → In u ts → u.number ≡ n → has u.members m ≡ false) → in_token (filter (λ u. not (u.number == n)) ts) m ≡ in_token ts m
+in_token_closed : (ts : List Token) (n : ℕ) (m : ℕ) → ((u : Token) → Contains ts u → u.number ≡ n → has u.members m ≡ false) → in_token (filter (λ u. not (u.number == n)) ts) m ≡ in_token ts m
 in_token_closed [] n m h = refl
 in_token_closed (t ∷ ts) n m h = ⊎_elim
-    (λ (e : t.number ≡ n). let f : has t.members m ≡ false = h t (inl refl) e in let same : (t.number == n) ≡ true = eq-eqb t.number n e in grind (arith, in_token_closed ts n m (λ u i. h u (inr i))))
-    (λ (ne : t.number ≢ n). grind (arith, nat_tests, in_token_closed ts n m (λ u i. h u (inr i))))
+    (λ (e : t.number ≡ n). let f : has t.members m ≡ false = h t (Contains-head t ts) e in let same : (t.number == n) ≡ true = eq-eqb t.number n e in grind (arith, in_token_closed ts n m (λ u i. h u (Contains-later t ts u i))))
+    (λ (ne : t.number ≢ n). grind (arith, nat_tests, in_token_closed ts n m (λ u i. h u (Contains-later t ts u i))))
     (cases_eq t.number n)
 
-pub reap_news : (d : Detector) (t : Token) → In t d.tokens → ((u : Token) → In u d.tokens → u.number ≡ t.number → u ≡ t) → NoNewsNoClosedSet d → NoNewsNoClosedSet (close_token t d)
+pub reap_news : (d : Detector) (t : Token) → Contains d.tokens t → ((u : Token) → Contains d.tokens u → u.number ≡ t.number → u ≡ t) → NoNewsNoClosedSet d → NoNewsNoClosedSet (close_token t d)
 reap_news d t i unique h e =
     let remaining = (close_token t d).tokens in
     subst (λ rs. largest_closed rs ≡ [])

@@ -1,5 +1,6 @@
 -- What lists of notes tell, and which Acks and Unblocks they have.
 use Rattle.std.proofs.Common.{◌≡◌, ℕ, ◌+◌, ◌≢◌, true, List, [], ◌∷◌, ◌++◌, arith, refl}
+use Rattle.std.specs.Prelude.{⊤}
 use Rattle.std.proofs.lemmas.Bool.Decides.{nat_tests}
 use Rattle.letter_kinds.specs.declared.note.Note.{Note}
 use Rattle.letter_kinds.specs.declared.note.Note.TheVariants.{Block, Unblock, Ack}
@@ -11,10 +12,10 @@ with_notes-push a s [] n = refl
 with_notes-push a s (m ∷ ns) n = with_notes-push a (with_note a s m) ns n
 
 -- two that tell nothing of a
-pub with_note-other_block : (a : ℕ) (s : Told) (b count : ℕ) (held : List (ℕ × ℕ)) → (b ≡ a → ⊥) → with_note a s (Block b count held) ≡ s
+pub with_note-other_block : (a : ℕ) (s : Told) (b count : ℕ) (held : List (ℕ × ℕ)) → b ≢ a → with_note a s (Block b count held) ≡ s
 with_note-other_block a s b count held ne = grind (arith, nat_tests)
 
-pub with_note-other_unblock : (a : ℕ) (s : Told) (b : ℕ) → (b ≡ a → ⊥) → with_note a s (Unblock b) ≡ s
+pub with_note-other_unblock : (a : ℕ) (s : Told) (b : ℕ) → b ≢ a → with_note a s (Unblock b) ≡ s
 with_note-other_unblock a s b ne = grind (arith, nat_tests)
 
 pub with_notes-silent : (a : ℕ) (s : Told) (ns : List Note) → IsSilentOn a ns → with_notes a s ns ≡ s
@@ -27,7 +28,7 @@ with_notes-silent a s (Ack t b ∷ ns) h = with_notes-silent a s ns h
 abbrev pub SaysNothing : ℕ → Note → Type 0
 SaysNothing a (Block b count held) = b ≢ a
 SaysNothing a (Unblock b) = b ≢ a
-SaysNothing a (Ack t b) = Unit {0}
+SaysNothing a (Ack t b) = ⊤
 
 pub IsSilentOn-push : (a : ℕ) (ns : List Note) (n : Note) → IsSilentOn a ns → SaysNothing a n → IsSilentOn a (ns ++ n ∷ [])
 IsSilentOn-push a [] (Block b count held) h k = (k, tt)

@@ -1,6 +1,6 @@
 -- Where no event is enabled, each present actor is reached.
-use Rattle.std.proofs.Common.{◌≡◌, ℕ, zero, suc, ◌+◌, ◌≤◌, ◌<◌, ◌≢◌, ◌==◌, not, Bool, true, false, cond, if◌then◌else◌, inl, inr, ⊎_elim, List, [], ◌∷◌, length, filter, Some, None, sum_by, arith, refl, ap, sym, subst, ◌∙◌, eqb-true}
-use Rattle.std.proofs.lemmas.Bool.{cases_eq, cases_Bool, cases_lt, cond_both, cond-true, false≢true, or_parts, eqb-false}
+use Rattle.std.proofs.Common.{◌≡◌, ℕ, zero, suc, ◌+◌, ◌≤◌, ◌<◌, ◌≢◌, ◌==◌, not, Bool, true, false, cond, if◌then◌else◌, ⊎_elim, List, [], ◌∷◌, length, filter, Some, None, sum_by, arith, refl, ap, sym, subst, ◌∙◌, eqb-true, Contains}
+use Rattle.std.proofs.lemmas.Bool.{cases_eq, cases_Bool, cases_lt, false≢true, or_parts, eqb-false}
 use Rattle.std.proofs.lemmas.Bool.Decides.{nat_tests}
 use Rattle.std.proofs.lemmas.List.Sums.{sum_by-cons}
 use Rattle.std.specs.List.{AllByRecursion}
@@ -9,19 +9,19 @@ use Rattle.letter_kinds.proofs.Filters.{filter_full, all_filter, filter_twice, f
 use Rattle.letter_kinds.proofs.Rounds.{largest_by_rounds}
 use Rattle.letter_kinds.specs.Closed.{IsClosed, largest_closed}
 use Rattle.letter_kinds.specs.Detector.{Token, has, in_token, candidates}
-use Rattle.letter_kinds.specs.Reports.{count_on, told_on, told_on_by, report_of}
+use Rattle.letter_kinds.specs.Reports.{count_on, told_on, told_on_by, kept_report}
 use Rattle.letter_kinds.specs.declared.note.Report.{Report}
 use Rattle.machine_rules.specs.Cell.{Cell}
 use Rattle.detector_laws.proofs.Cells.{IsTrue, holder_present, reporter_present, true_holds}
 use Rattle.detector_laws.proofs.Maps.{at_same, at_other}
-use Rattle.detector_laws.proofs.Members.{In-filter, each_In, In_each}
-use Rattle.detector_laws.proofs.Names.{names, named, name_In}
-use Rattle.detector_laws.proofs.Order.{filter_rising, In_report_of}
+use Rattle.reach_walk.proofs.Elements.{Contains-head}
+use Rattle.detector_laws.proofs.Members.{Contains-filter, Contains-from_filter, each_contained, contained_each}
+use Rattle.detector_laws.proofs.Names.{names, named, has_name}
+use Rattle.detector_laws.proofs.Order.{filter_rising, kept_report-contained, rising_parts}
 use Rattle.detector_laws.proofs.Sums.{sum_below_same, sum_below_at, above_same}
 use Rattle.detector_laws.specs.Balance.{sum_below, ActorsAreBalanced}
 use Rattle.detector_laws.specs.Cells.{held_on, is_reporting}
 use Rattle.detector_laws.specs.Confirms.{OnlyConfirms, other_before_confirm}
-use Rattle.detector_laws.specs.Members.{In}
 use Rattle.detector_laws.specs.News.{NoNewsNoClosedSet}
 use Rattle.detector_laws.specs.Quiet.{IsQuiet, IsReached, root, edge}
 use Rattle.detector_laws.specs.Reports.{told_by_kept, told_of, IsAsTold, IsRising}
@@ -43,27 +43,27 @@ sealed_acked w q t s m i =
     last_place true e = refl
     last_place false e = absurd (omega arith)
 
-none_spoiled : (w : World) → IsQuiet w → (t : Token) → IsSpoiled w.cell w.mail w.notes t → ⊥
+none_spoiled : (w : World) → IsQuiet w → (t : Token) → ¬ IsSpoiled w.cell w.mail w.notes t
 none_spoiled w q t (m, i, p) = ⊎_elim
     (λ l. false≢true (subst (λ ns. unblocks_before_ack t.number m ns ≡ true) q.heard l))
     (λ l. false≢true (subst (λ ls. other_before_confirm t.number ls ≡ true) (let c = reporter_present (w.cell m) l.0 in (q.rest m c.0 c.1).empty) l.1))
     p.cause
 
-pub no_token : (w : World) → IsQuiet w → TokensAreSound w → (t : Token) → In t w.detector.tokens → ⊥
+pub no_token : (w : World) → IsQuiet w → TokensAreSound w → (t : Token) → ¬ Contains w.detector.tokens t
 no_token w q k t i = ⊎_elim (λ s. q.unacked t i (each_acked t (sealed_acked w q t s))) (λ s. none_spoiled w q t s) (k.state t i)
 
-none_in_token : (ts : List Token) → ((t : Token) → In t ts → ⊥) → (m : ℕ) → in_token ts m ≡ false
+none_in_token : (ts : List Token) → ((t : Token) → ¬ Contains ts t) → (m : ℕ) → in_token ts m ≡ false
 none_in_token [] h m = refl
-none_in_token (t ∷ ts) h m = absurd (h t (inl refl))
+none_in_token (t ∷ ts) h m = absurd (h t (Contains-head t ts))
 
 -- each report that is kept is exact
 
-kept_exact : (w : World) → IsQuiet w → ReportsAreExact w → IsRising w.detector.kept → (r : Report) → In r w.detector.kept → IsTrue w.cell r
+kept_exact : (w : World) → IsQuiet w → ReportsAreExact w → IsRising w.detector.kept → (r : Report) → Contains w.detector.kept r → IsTrue w.cell r
 kept_exact w q h rising r i =
-    subst (λ o. IsAsTold (w.cell r.actor) r.actor (told_by_kept o)) (In_report_of w.detector.kept r rising i)
+    subst (λ o. IsAsTold (w.cell r.actor) r.actor (told_by_kept o)) (kept_report-contained w.detector.kept r rising i)
     (subst (λ ns. IsAsTold (w.cell r.actor) r.actor (told_of r.actor w.detector.kept ns)) q.heard (h.last r.actor))
 
-no_report : (rs : List Report) (a : ℕ) → has (names rs) a ≡ false → report_of rs a ≡ None
+no_report : (rs : List Report) (a : ℕ) → has (names rs) a ≡ false → kept_report rs a ≡ None
 no_report [] a h = refl
 no_report (r ∷ rs) a h = let two = or_parts (r.actor == a) (has (names rs) a) h in grind (arith, two.0, no_report rs a two.1)
 
@@ -126,16 +126,10 @@ held_from_outside w rs x h =
     parts true k ne = absurd (ne refl)
     parts false k ne = (refl, ne)
 
-In-stays : (p : Report → Bool) (rs : List Report) (r : Report) → In r rs → p r ≡ true → In r (filter p rs)
-In-stays p [] r i t = absurd i
-In-stays p (q ∷ rs) r i t = ⊎_elim
-    (λ (e : r ≡ q). let t' : p q ≡ true = ap p (sym e) ∙ t in subst (λ ys. In r ys) (sym (cond-true (p q) (q ∷ filter p rs) (filter p rs) t')) (inl e))
-    (λ j. cond_both (p q) (q ∷ filter p rs) (filter p rs) (In r) (λ _. inr (In-stays p rs r j t)) (λ _. In-stays p rs r j t)) i
-
-removed : (p : Report → Bool) (rs : List Report) (a : ℕ) → has (names rs) a ≡ true → has (names (filter p rs)) a ≡ false → (r : Report) × In r rs × (r.actor ≡ a) × (p r ≡ false)
+removed : (p : Report → Bool) (rs : List Report) (a : ℕ) → has (names rs) a ≡ true → has (names (filter p rs)) a ≡ false → (r : Report) × Contains rs r × (r.actor ≡ a) × (p r ≡ false)
 removed p rs a i out =
     let (r, j, e) = named rs a i in
-    (r, j, e, ⊎_elim (λ (t : p r ≡ true). absurd (false≢true (sym out ∙ (ap (has (names (filter p rs))) (sym e) ∙ name_In (filter p rs) r (In-stays p rs r j t))))) (λ f. f) (cases_Bool (p r)))
+    (r, j, e, ⊎_elim (λ (t : p r ≡ true). absurd (false≢true (sym out ∙ (ap (has (names (filter p rs))) (sym e) ∙ has_name (filter p rs) r (Contains-filter p r rs j t))))) (λ f. f) (cases_Bool (p r)))
 
 reached_step : (w : World) (rs : List Report) → ((a : ℕ) → IsPresent w a → has (names rs) a ≡ false → IsReached w a)
     → (a : ℕ) → IsPresent w a → has (names (filter (unheld w rs) rs)) a ≡ false → IsReached w a
@@ -175,12 +169,13 @@ told_on-ge m r k h z = ⊎_elim (λ (e : r.actor ≡ m). grind (arith, nat_tests
 all_le_some : (n : ℕ) (f : ℕ → ℕ) (rs : List Report) → AllByRecursion (λ r. r.actor < n) rs → IsRising rs → ((b : ℕ) → b < n → has (names rs) b ≡ false → f b ≡ 0) → sum_below n f ≤ sum_by (λ r. f r.actor) rs
 all_le_some n f [] k h z = omega (arith, sum_below_same n f (λ b. 0) (λ b lt. z b lt refl), zeros n)
 all_le_some n f (r ∷ rs) k h z =
+    let (above, rest) = rising_parts r rs h in
     omega (
       arith,
       sum_by-cons (λ q. f q.actor) r rs,
-      above_same r.actor f rs h.0,
+      above_same r.actor f rs above,
       sum_below_at n r.actor f k.0,
-      all_le_some n (at f r.actor 0) rs k.1 h.1 (λ b lt out. ⊎_elim
+      all_le_some n (at f r.actor 0) rs k.1 rest (λ b lt out. ⊎_elim
           (λ (e : b ≡ r.actor). subst (λ x. at f r.actor 0 x ≡ 0) (sym e) (at_same f r.actor 0))
           (λ (ne : b ≢ r.actor). at_other f r.actor 0 b ne ∙ z b lt (not_head r rs b ne out))
           (cases_eq b r.actor)),
@@ -191,15 +186,15 @@ told_on_by-ge w bal m [] h = omega arith
 told_on_by-ge w bal m (r ∷ rs) h =
     omega (arith, sum_by-cons (told_on m) r rs, sum_by-cons (λ q. held_on (w.cell q.actor) m) r rs, told_on-ge m r (held_on (w.cell r.actor) m) (true_holds w.cell r h.0 m) (λ e. subst (λ x. held_on (w.cell r.actor) x ≡ 0) e (bal.own r.actor)), told_on_by-ge w bal m rs h.1)
 
-stay_closed : (w : World) → IsQuiet w → ActorsAreBalanced w → (rs : List Report) → IsRising rs → ((r : Report) → In r rs → IsTrue w.cell r)
+stay_closed : (w : World) → IsQuiet w → ActorsAreBalanced w → (rs : List Report) → IsRising rs → ((r : Report) → Contains rs r → IsTrue w.cell r)
     → filter (unheld w rs) rs ≡ rs → IsClosed rs
 stay_closed w q bal rs rising exact fixed =
     let stays = all_filter (unheld w rs) rs fixed in
-    let few : AllByRecursion (λ r. r.actor < w.made) rs = In_each (λ r. r.actor < w.made) rs (λ r i. let member = (exact r i).0 in bal.made r.actor member.cell member.here) in
-    let exacts : AllByRecursion (IsTrue w.cell) rs = In_each (IsTrue w.cell) rs exact in
-    In_each (λ r. r.count ≤ told_on_by r.actor rs) rs (λ r i.
+    let few : AllByRecursion (λ r. r.actor < w.made) rs = contained_each (λ r. r.actor < w.made) rs (λ r i. let member = (exact r i).0 in bal.made r.actor member.cell member.here) in
+    let exacts : AllByRecursion (IsTrue w.cell) rs = contained_each (IsTrue w.cell) rs exact in
+    contained_each (λ r. r.count ≤ told_on_by r.actor rs) rs (λ r i.
     let f = λ (b : ℕ). held_on (w.cell b) r.actor in
-    let none : outside w rs r.actor ≡ 0 = eqb-true (outside w rs r.actor) 0 (each_In (λ x. unheld w rs x ≡ true) rs stays r i) in
+    let none : outside w rs r.actor ≡ 0 = eqb-true (outside w rs r.actor) 0 (each_contained (λ x. unheld w rs x ≡ true) rs stays r i) in
     let member = (exact r i).0 in
     let full : member.cell.holdings.count ≡ sum_below w.made f + w.loaded r.actor = bal.full r.actor member.cell member.here (subst OnlyConfirms (sym (q.rest r.actor member.cell member.here).empty) tt) in
     let count : r.count ≡ member.cell.holdings.count = (exact r i).1.count in
@@ -221,7 +216,7 @@ quiet_all_reached w q h k news bal rising a c here =
     let cs : candidates w.detector ≡ kept = all_free (λ r. not (in_token w.detector.tokens r.actor)) kept (λ r. ap not (none_in_token w.detector.tokens (no_token w q k) r.actor)) in
     let none : largest_closed kept ≡ [] = subst (λ rs. largest_closed rs ≡ []) cs (news q.scanned) in
     let closed : IsClosed left = stay_closed w q bal left (subst IsRising (sym e) (filter_rising test kept rising))
-    (λ r i. kept_exact w q h rising r (In-filter test r kept (subst (In r) e i)).0)
+    (λ r i. kept_exact w q h rising r (Contains-from_filter test r kept (subst (λ ys. Contains ys r) e i)).0)
     (settle_end w (length kept) kept (omega arith)) in
     let gone : left ≡ [] = e ∙ (sym ((largest_by_rounds kept).all test (subst IsClosed e closed)) ∙ ap (filter test) none) in
     reached_outside w (length kept) kept (λ b there out. root there.1 (unkept_pinned w q h b there.0 there.1 out)) a (c, here)

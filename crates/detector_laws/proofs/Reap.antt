@@ -1,38 +1,37 @@
 -- A reap takes a sealed token, and keeps what holds of reports and of the other tokens.
-use Rattle.std.proofs.Common.{◌≡◌, ℕ, ◌≤◌, ◌≢◌, ◌==◌, not, true, false, inl, inr, ⊎_elim, List, [], ◌∷◌, filter, None, arith, refl, ap, sym, subst, ◌∙◌, eq-eqb, ne_eqb, Option}
+use Rattle.std.proofs.Common.{◌≡◌, ℕ, ◌≤◌, ◌≢◌, ◌==◌, not, true, false, inl, inr, ⊎_elim, List, [], ◌∷◌, filter, None, arith, refl, ap, sym, subst, ◌∙◌, eq-eqb, ne_eqb, Option, Contains}
 use Rattle.std.proofs.lemmas.Bool.{cases_eq, cases_Bool, false≢true, not-true, false_from_ne_true}
 use Rattle.std.proofs.lemmas.Bool.Decides.{nat_tests}
 use Rattle.letter_kinds.proofs.Acked.{acked_each}
 use Rattle.letter_kinds.specs.Detector.{Detector, Token, has, close_token}
-use Rattle.letter_kinds.specs.Reports.{report_of}
+use Rattle.letter_kinds.specs.Reports.{kept_report}
 use Rattle.letter_kinds.specs.declared.note.Report.{Report}
 use Rattle.letter_kinds.proofs.Members.{only_member}
 use Rattle.machine_rules.specs.Cell.{Cell}
 use Rattle.detector_laws.proofs.ActorReports.{off}
 use Rattle.detector_laws.proofs.Cells.{blocked_reports}
 use Rattle.detector_laws.proofs.Letters.{confirm_count-append, confirm_count-none, other_before_confirm-append}
-use Rattle.detector_laws.proofs.Members.{In-filter}
+use Rattle.detector_laws.proofs.Members.{Contains-from_filter}
 use Rattle.detector_laws.proofs.Notes.{with_notes-silent}
 use Rattle.detector_laws.specs.Cells.{held_on, is_reporting}
 use Rattle.detector_laws.specs.Confirms.{confirm_count, other_before_confirm}
 use Rattle.detector_laws.specs.Events.{Departs, Leaves, Reaps}
-use Rattle.detector_laws.specs.Members.{In}
 use Rattle.detector_laws.specs.Reports.{with_notes, told_by_kept, told_of, IsSilentOn, IsBlocked, IsAsTold, ExactReports, Told}
 use Rattle.detector_laws.specs.Tokens.{IsSealedMember, IsSealed, IsSpoiled, SoundTokens}
 use Rattle.detector_laws.specs.World.{World, ReportsAreExact, TokensAreSound}
 
-pub report_of-out : (ms : List ℕ) (ks : List Report) (a : ℕ) → has ms a ≡ true → report_of (filter (λ k. not (has ms k.actor)) ks) a ≡ None
-report_of-out ms [] a h = refl
-report_of-out ms (k ∷ ks) a h = ⊎_elim
-    (λ (e : k.actor ≡ a). let t : has ms k.actor ≡ true = ap (has ms) e ∙ h in grind (arith, report_of-out ms ks a h))
-    (λ (ne : k.actor ≢ a). grind (arith, nat_tests, report_of-out ms ks a h))
+pub kept_report-out : (ms : List ℕ) (ks : List Report) (a : ℕ) → has ms a ≡ true → kept_report (filter (λ k. not (has ms k.actor)) ks) a ≡ None
+kept_report-out ms [] a h = refl
+kept_report-out ms (k ∷ ks) a h = ⊎_elim
+    (λ (e : k.actor ≡ a). let t : has ms k.actor ≡ true = ap (has ms) e ∙ h in grind (arith, kept_report-out ms ks a h))
+    (λ (ne : k.actor ≢ a). grind (arith, nat_tests, kept_report-out ms ks a h))
     (cases_eq k.actor a)
 
-pub report_of-in : (ms : List ℕ) (ks : List Report) (a : ℕ) → has ms a ≡ false → report_of (filter (λ k. not (has ms k.actor)) ks) a ≡ report_of ks a
-report_of-in ms [] a h = refl
-report_of-in ms (k ∷ ks) a h = ⊎_elim
-    (λ (e : k.actor ≡ a). let t : has ms k.actor ≡ false = ap (has ms) e ∙ h in grind (arith, report_of-in ms ks a h))
-    (λ (ne : k.actor ≢ a). grind (arith, nat_tests, report_of-in ms ks a h))
+pub kept_report-in : (ms : List ℕ) (ks : List Report) (a : ℕ) → has ms a ≡ false → kept_report (filter (λ k. not (has ms k.actor)) ks) a ≡ kept_report ks a
+kept_report-in ms [] a h = refl
+kept_report-in ms (k ∷ ks) a h = ⊎_elim
+    (λ (e : k.actor ≡ a). let t : has ms k.actor ≡ false = ap (has ms) e ∙ h in grind (arith, kept_report-in ms ks a h))
+    (λ (ne : k.actor ≢ a). grind (arith, nat_tests, kept_report-in ms ks a h))
     (cases_eq k.actor a)
 
 -- only a sealed token is reaped
@@ -45,18 +44,18 @@ reaped_sealed w w' t r k = ⊎_elim
 reaped_last : (w w' : World) (t : Token) → Reaps w t w' → ReportsAreExact w → IsSealed w.cell w.mail w.loaded w.notes t → (a : ℕ) → IsAsTold (w'.cell a) a (told_of a (close_token t w.detector).kept w.notes)
 reaped_last w w' t r h s a = ⊎_elim
     (λ (i : has t.members a ≡ true).
-    subst (IsAsTold (w'.cell a) a) (sym (with_notes-silent a (told_by_kept (report_of (close_token t w.detector).kept a)) w.notes (s a i).silent ∙ ap told_by_kept (report_of-out t.members w.detector.kept a i))) (ap is_reporting (r.departs.clears a i).0))
+    subst (IsAsTold (w'.cell a) a) (sym (with_notes-silent a (told_by_kept (kept_report (close_token t w.detector).kept a)) w.notes (s a i).silent ∙ ap told_by_kept (kept_report-out t.members w.detector.kept a i))) (ap is_reporting (r.departs.clears a i).0))
     (λ (o : has t.members a ≡ false).
-    subst (λ q. IsAsTold (w'.cell a) a (with_notes a (told_by_kept q) w.notes)) (sym (report_of-in t.members w.detector.kept a o))
+    subst (λ q. IsAsTold (w'.cell a) a (with_notes a (told_by_kept q) w.notes)) (sym (kept_report-in t.members w.detector.kept a o))
     (subst (λ c. IsAsTold c a (told_of a w.detector.kept w.notes)) (sym (r.departs.stays a o)) (h.last a)))
     (cases_Bool (has t.members a))
 
 reaped_unmade : (w w' : World) (t : Token) → Reaps w t w' → ReportsAreExact w → IsSealed w.cell w.mail w.loaded w.notes t → (a : ℕ) → w'.made ≤ a
-    → (report_of (close_token t w.detector).kept a ≡ None) × IsSilentOn a w.notes
+    → (kept_report (close_token t w.detector).kept a ≡ None) × IsSilentOn a w.notes
 reaped_unmade w w' t r h s a past = ⊎_elim
-    (λ (i : has t.members a ≡ true). (report_of-out t.members w.detector.kept a i, (s a i).silent))
+    (λ (i : has t.members a ≡ true). (kept_report-out t.members w.detector.kept a i, (s a i).silent))
     (λ (o : has t.members a ≡ false). let before = h.unmade a (let z = r.departs.made in omega arith) in
-    (report_of-in t.members w.detector.kept a o ∙ before.0, before.1))
+    (kept_report-in t.members w.detector.kept a o ∙ before.0, before.1))
     (cases_Bool (has t.members a))
 
 pub reap_reports : (w w' : World) (t : Token) → Reaps w t w' → ReportsAreExact w → TokensAreSound w → ReportsAreExact w'
@@ -67,7 +66,7 @@ reap_reports w w' t r h k =
     record { last = reaped_last w w' t r h s; unmade = reaped_unmade w w' t r h s })
 
 -- a token that stays has no member of the reaped one
-apart_from : (w : World) (t u : Token) → TokensAreSound w → In t w.detector.tokens → In u w.detector.tokens → not (u.number == t.number) ≡ true → (m : ℕ) → has u.members m ≡ true → has t.members m ≡ false
+apart_from : (w : World) (t u : Token) → TokensAreSound w → Contains w.detector.tokens t → Contains w.detector.tokens u → not (u.number == t.number) ≡ true → (m : ℕ) → has u.members m ≡ true → has t.members m ≡ false
 apart_from w t u k i j ne m h = ⊎_elim
     (λ (y : has t.members m ≡ true). absurd (false≢true (sym (not_same u.number t.number ne) ∙ eq-eqb u.number t.number (k.apart u t j i m h y))))
     (λ f. f)
@@ -86,7 +85,7 @@ reaped_confirms w w' gone r n b = ⊎_elim
 stayed_sealed : (w w' : World) (gone : List ℕ) (u : Token) → Departs w gone w' → ((m : ℕ) → has u.members m ≡ true → has gone m ≡ false) → IsSealed w.cell w.mail w.loaded w.notes u → IsSealed w'.cell w'.mail w'.loaded w.notes u
 stayed_sealed w w' gone u r out s m i =
     let seal = s m i in
-    let unheld = λ (b : ℕ) (j : has gone b ≡ true). seal.held b (other_of u b (λ y. false≢true (sym (out b y) ∙ j))) in
+    let unheld = λ (b : ℕ) (j : has gone b ≡ true). seal.held b (false_from_ne_true (has u.members b) (λ y. false≢true (sym (out b y) ∙ j))) in
     subst (λ l. IsSealedMember u m w'.cell l (w'.loaded m) w.notes) (sym (r.sends_held m (out m i) unheld))
     record {
       blocked = subst IsBlocked (sym (r.stays m (out m i))) seal.blocked;
@@ -99,9 +98,6 @@ stayed_sealed w w' gone u r out s m i =
       unloaded = r.unloaded m seal.unloaded;
       one = seal.one;
     }
-  where
-    other_of : (u : Token) (b : ℕ) → (has u.members b ≡ true → ⊥) → has u.members b ≡ false
-    other_of u b h = false_from_ne_true (has u.members b) h
 
 -- who goes has no report out
 stayed_spoiled : (w w' : World) (gone : List ℕ) (u : Token) → Departs w gone w' → ((m : ℕ) → has u.members m ≡ true → is_reporting (w.cell m) ≡ true → has gone m ≡ false)
@@ -121,13 +117,13 @@ stayed_spoiled w w' gone u r out (m, i, p) = (
 
 pub reap_tokens : (w w' : World) (t : Token) → Reaps w t w' → TokensAreSound w → TokensAreSound w'
 reap_tokens w w' t r k =
-    let is = λ (u : Token) (i : In u (close_token t w.detector).tokens). In-filter (λ v. not (v.number == t.number)) u w.detector.tokens i in
-    let out = λ (u : Token) (i : In u (close_token t w.detector).tokens). apart_from w t u k r.is_open (is u i).0 (is u i).1 in
+    let is = λ (u : Token) (i : Contains (close_token t w.detector).tokens u). Contains-from_filter (λ v. not (v.number == t.number)) u w.detector.tokens i in
+    let out = λ (u : Token) (i : Contains (close_token t w.detector).tokens u). apart_from w t u k r.is_open (is u i).0 (is u i).1 in
     subst (λ d. SoundTokens d w'.cell w'.mail w'.loaded w'.notes) (sym r.detector)
     (subst (λ ns. SoundTokens (close_token t w.detector) w'.cell w'.mail w'.loaded ns) (sym r.departs.notes)
     record {
       apart = λ u v i j. k.apart u v (is u i).0 (is v j).0;
-      kept = λ u i m h. let (q, e) = k.kept u (is u i).0 m h in (q, report_of-in t.members w.detector.kept m (out u i m h) ∙ e);
+      kept = λ u i m h. let (q, e) = k.kept u (is u i).0 m h in (q, kept_report-in t.members w.detector.kept m (out u i m h) ∙ e);
       unique = λ u v i j. k.unique u v (is u i).0 (is v j).0;
       numbers = λ u i. k.numbers u (is u i).0;
       letters = λ b n lt. omega (arith, k.letters b n lt, reaped_confirms w w' t.members r.departs n b);

@@ -2,6 +2,8 @@
 use Rattle.std.proofs.Common.{sym, subst, refl, []}
 use Rattle.letter_kinds.specs.Detector.{Detector, fresh_detector}
 use Rattle.detector_laws.proofs.Letters.{confirm_count-none}
+use Rattle.detector_laws.proofs.Members.{none_in_empty}
+use Rattle.detector_laws.proofs.Order.{rising_none}
 use Rattle.detector_laws.specs.Acknowledged.{OnlyMembersAcknowledge}
 use Rattle.detector_laws.specs.News.{NoNewsNoClosedSet}
 use Rattle.detector_laws.specs.Reports.{ExactReports, IsRising}
@@ -19,20 +21,20 @@ start_tokens w s =
     subst (λ d. SoundTokens d w.cell w.mail w.loaded w.notes) (sym s.detector)
     (subst (λ ns. SoundTokens fresh_detector w.cell w.mail w.loaded ns) (sym s.notes)
     record {
-      apart = λ t u i. absurd i;
-      kept = λ t i. absurd i;
-      unique = λ t u i. absurd i;
-      numbers = λ t i. absurd i;
+      apart = λ t u i. absurd (none_in_empty t i);
+      kept = λ t i. absurd (none_in_empty t i);
+      unique = λ t u i. absurd (none_in_empty t i);
+      numbers = λ t i. absurd (none_in_empty t i);
       letters = λ a n lt. confirm_count-none n (w.mail a) (s.unasked a);
       heard = λ a n lt. refl;
-      once = λ t i. absurd i;
-      state = λ t i. absurd i;
+      once = λ t i. absurd (none_in_empty t i);
+      state = λ t i. absurd (none_in_empty t i);
     })
 
 start_members : (w : World) → IsStart w → MembersAcknowledge w
 start_members w s =
     subst (λ d. OnlyMembersAcknowledge d w.mail w.notes) (sym s.detector)
-    record { asked = λ t i. absurd i; acks = λ t i. absurd i }
+    record { asked = λ t i. absurd (none_in_empty t i); acks = λ t i. absurd (none_in_empty t i) }
 
 pub start_facts : (w : World) → IsStart w → FactsHold w
 start_facts w s = record {
@@ -40,5 +42,5 @@ start_facts w s = record {
   tokens = start_tokens w s;
   members = start_members w s;
   news = subst NoNewsNoClosedSet (sym s.detector) (λ e. refl);
-  rising = subst (λ (d : Detector). IsRising d.kept) (sym s.detector) tt;
+  rising = subst (λ (d : Detector). IsRising d.kept) (sym s.detector) rising_none;
 }

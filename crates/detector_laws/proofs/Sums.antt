@@ -6,7 +6,8 @@ use Rattle.std.specs.List.{AllByRecursion}
 use Rattle.letter_kinds.specs.declared.note.Report.{Report}
 use Rattle.detector_laws.proofs.Maps.{at_same, at_other}
 use Rattle.detector_laws.specs.Balance.{sum_below}
-use Rattle.detector_laws.specs.Reports.{AllAbove, IsRising}
+use Rattle.detector_laws.proofs.Order.{AllAbove, rising_parts}
+use Rattle.detector_laws.specs.Reports.{IsRising}
 use Rattle.detector_laws.specs.World.{at}
 
 pub sum_below_same : (n : ℕ) (f g : ℕ → ℕ) → ((b : ℕ) → b < n → f b ≡ g b) → sum_below n f ≡ sum_below n g
@@ -28,17 +29,19 @@ above_same a f (r ∷ rs) h =
 pub some_le_all : (n : ℕ) (f : ℕ → ℕ) (rs : List Report) → IsRising rs → AllByRecursion (λ r. r.actor < n) rs → sum_by (λ r. f r.actor) rs ≤ sum_below n f
 some_le_all n f [] h k = omega arith
 some_le_all n f (r ∷ rs) h k =
-    omega (arith, sum_by-cons (λ q. f q.actor) r rs, above_same r.actor f rs h.0, sum_below_at n r.actor f k.0, some_le_all n (at f r.actor 0) rs h.1 k.1)
+    let (above, rest) = rising_parts r rs h in
+    omega (arith, sum_by-cons (λ q. f q.actor) r rs, above_same r.actor f rs above, sum_below_at n r.actor f k.0, some_le_all n (at f r.actor 0) rs rest k.1)
 
 -- and one more, which is none of them
 pub some_and_one : (n : ℕ) (f : ℕ → ℕ) (b : ℕ) (rs : List Report) → b < n → IsRising rs → AllByRecursion (λ r. r.actor < n) rs → AllByRecursion (λ r. r.actor ≢ b) rs → sum_by (λ r. f r.actor) rs + f b ≤ sum_below n f
 some_and_one n f b [] lt h k ne = omega (arith, sum_below_at n b f lt)
 some_and_one n f b (r ∷ rs) lt h k ne =
+    let (above, rest) = rising_parts r rs h in
     omega (
       arith,
       sum_by-cons (λ q. f q.actor) r rs,
-      above_same r.actor f rs h.0,
+      above_same r.actor f rs above,
       sum_below_at n r.actor f k.0,
-      some_and_one n (at f r.actor 0) b rs lt h.1 k.1 ne.1,
+      some_and_one n (at f r.actor 0) b rs lt rest k.1 ne.1,
       at_other f r.actor 0 b (λ e. ne.0 (sym e)),
     )

@@ -1,5 +1,5 @@
 -- Confirms among the letters that wait for an actor.
-use Rattle.std.specs.Prelude.{ℕ, ◌+◌, ◌≡◌, ◌==◌, ◌||◌, if◌then◌else◌, Bool, true, false, List, [], ◌∷◌}
+use Rattle.std.specs.Prelude.{ℕ, ◌+◌, ◌≡◌, ◌==◌, ◌||◌, if◌then◌else◌, Bool, true, false, List, [], ◌∷◌, ⊤}
 use Rattle.letter_kinds.specs.declared.letter.Letter.{Letter}
 use Rattle.letter_kinds.specs.declared.letter.Letter.TheVariants.{App, Inc, Dec, Confirm}
 
@@ -42,17 +42,17 @@ other_before_confirm token (letter ∷ mail) =
 
 -- all are Confirms
 abbrev pub OnlyConfirms : List Letter → Type 0
-OnlyConfirms [] = Unit {0}
+OnlyConfirms [] = ⊤
 OnlyConfirms (letter ∷ mail) = (is_confirm letter ≡ true) × OnlyConfirms mail
 
 -- none is a Confirm
 abbrev pub NoConfirms : List Letter → Type 0
-NoConfirms [] = Unit {0}
+NoConfirms [] = ⊤
 NoConfirms (letter ∷ mail) = (is_confirm letter ≡ false) × NoConfirms mail
 
 -- all are Confirms, and the last of them is the token's
 abbrev pub EndsInConfirm : ℕ → List Letter → Type 0
-EndsInConfirm token [] = Unit {0}
+EndsInConfirm token [] = ⊤
 EndsInConfirm token (letter ∷ []) = confirms token letter ≡ true
 EndsInConfirm token (letter ∷ (later ∷ mail)) =
     (is_confirm letter ≡ true) × EndsInConfirm token (later ∷ mail)

@@ -1,5 +1,5 @@
 -- What each event of the machine may change of what the detector's laws speak of.
-use Rattle.std.specs.Prelude.{ℕ, ◌<◌, ◌≤◌, ◌≡◌, ◌≢◌, ◌⊎◌, if◌then◌else◌, true, false, List, [], ◌∷◌, ◌++◌, Option, None, Some, is_some}
+use Rattle.std.specs.Prelude.{ℕ, ◌<◌, ◌≤◌, ◌≡◌, ◌≢◌, ◌⊎◌, if◌then◌else◌, true, false, List, [], ◌∷◌, ◌++◌, Option, None, Some, is_some, Contains}
 use Rattle.orca_names.specs.declared.names.Thing.TheVariants.{Actor}
 use Rattle.letter_kinds.specs.Detector.{Token, has, all_acked, close_token}
 use Rattle.letter_kinds.specs.Holdings.{held_in}
@@ -7,22 +7,20 @@ use Rattle.letter_kinds.specs.declared.letter.Letter.{Letter}
 use Rattle.letter_kinds.specs.declared.note.Note.TheVariants.{Unblock}
 use Rattle.letter_kinds.specs.declared.note.Report.{Report}
 use Rattle.machine_rules.specs.Cell.{Cell}
+use Rattle.machine_rules.specs.Guards.{may_block}
 use Rattle.detector_laws.specs.Cells.{held_on}
 use Rattle.detector_laws.specs.Confirms.{NoConfirms, is_confirm}
-use Rattle.detector_laws.specs.Members.{In}
 use Rattle.detector_laws.specs.Reports.{IsReportOf}
 use Rattle.detector_laws.specs.World.{World}
 
 -- ---- block
 
--- the actor with this cell may report that it is blocked, and this is its report
+-- the actor with this cell may report that it is blocked, but for letters that may wait, and this is
+-- its report
 pub record CanBlock (w : World) (a : ℕ) (c : Cell) (r : Report) : Type 0 where
   pub here : w.cell a ≡ Some c
   pub made : a < w.made
-  pub quiet : c.reported ≡ false
-  pub unpinned : c.fields.pinned ≡ false
-  pub clean : c.dirty ≡ false
-  pub idle : c.frame ≡ None
+  pub may : may_block c [] ≡ true
   pub exact : IsReportOf a c r
 
 -- ---- take of a letter other than a Confirm, go, collect
@@ -88,7 +86,7 @@ pub record Departs (w : World) (gone : List ℕ) (after : World) : Type 0 where
 
 -- what the reap of a token may change
 pub record Reaps (w : World) (t : Token) (after : World) : Type 0 where
-  pub is_open : In t w.detector.tokens
+  pub is_open : Contains w.detector.tokens t
   pub acked : all_acked t ≡ true
   pub detector : after.detector ≡ close_token t w.detector
   pub departs : Departs w t.members after

@@ -1,13 +1,12 @@
 -- The statements of the laws on the detector.
 use Rattle.detector_laws.specs.Balance.{ActorsAreBalanced}
 use Rattle.detector_laws.specs.Events.{CanBlock, Moves, Reaps}
-use Rattle.detector_laws.specs.Members.{In}
 use Rattle.detector_laws.specs.News.{NoNewsNoClosedSet}
 use Rattle.detector_laws.specs.Quiet.{IsNeeded, IsQuiet, IsReached}
 use Rattle.detector_laws.specs.Reports.{IsRising}
 use Rattle.detector_laws.specs.Run.{IsRun, IsStart, IsStep}
 use Rattle.detector_laws.specs.Tokens.{IsSealed}
-use Rattle.detector_laws.specs.World.{block, FactsHold, hear, ReportsAreExact, scan, take_confirm, TokensAreSound, World}
+use Rattle.detector_laws.specs.World.{block_in_world, FactsHold, hear_in_world, ReportsAreExact, scan_in_world, take_confirm, TokensAreSound, World}
 use Rattle.letter_kinds.specs.declared.letter.Letter.{Letter}
 use Rattle.letter_kinds.specs.declared.letter.Letter.TheVariants.{Confirm}
 use Rattle.letter_kinds.specs.declared.note.Note.{Note}
@@ -15,25 +14,25 @@ use Rattle.letter_kinds.specs.declared.note.Note.TheVariants.{Ack}
 use Rattle.letter_kinds.specs.declared.note.Report.{Report}
 use Rattle.letter_kinds.specs.Detector.{all_acked, close_token, closed_set, Detector, has, hear_note, after_scan, Token, token_numbered}
 use Rattle.machine_rules.specs.Cell.{Cell}
-use Rattle.std.specs.Prelude.{[], List, Some, true, ℕ, ◌∷◌, ◌≡◌, ◌≢◌}
+use Rattle.std.specs.Prelude.{[], List, Some, true, ℕ, ◌∷◌, ◌≡◌, ◌≢◌, Contains}
 
 -- the token that a number finds is open, and has that number
 abbrev pub NumberedIsOpen : Type 0
 NumberedIsOpen =
     (d : Detector) (number : ℕ) (t : Token) → token_numbered number d ≡ Some t →
-    In t d.tokens × (t.number ≡ number)
+    Contains d.tokens t × (t.number ≡ number)
 
 -- a note that is heard leaves what is told of each actor true
 abbrev pub HearKeepsReports : Type 0
 HearKeepsReports =
     (w : World) (n : Note) (ns : List Note) → w.notes ≡ n ∷ ns → ReportsAreExact w →
-    ReportsAreExact (hear w n ns)
+    ReportsAreExact (hear_in_world w n ns)
 
 -- so does an actor that reports
 abbrev pub BlockKeepsReports : Type 0
 BlockKeepsReports =
     (w : World) (a : ℕ) (c : Cell) (r : Report) → CanBlock w a c r → ReportsAreExact w →
-    ReportsAreExact (block w a c r)
+    ReportsAreExact (block_in_world w a c r)
 
 -- who takes a Confirm
 abbrev pub ConfirmKeepsReports : Type 0
@@ -50,7 +49,7 @@ MovesKeepReports =
 abbrev pub BlockKeepsTokens : Type 0
 BlockKeepsTokens =
     (w : World) (a : ℕ) (c : Cell) (r : Report) → CanBlock w a c r → TokensAreSound w →
-    TokensAreSound (block w a c r)
+    TokensAreSound (block_in_world w a c r)
 
 -- so does who takes a Confirm
 abbrev pub ConfirmKeepsTokens : Type 0
@@ -67,17 +66,17 @@ MovesKeepTokens =
 abbrev pub HearKeepsTokens : Type 0
 HearKeepsTokens =
     (w : World) (n : Note) (ns : List Note) → w.notes ≡ n ∷ ns → TokensAreSound w →
-    TokensAreSound (hear w n ns)
+    TokensAreSound (hear_in_world w n ns)
 
 -- a scan leaves what is told of each actor true
 abbrev pub ScanKeepsReports : Type 0
-ScanKeepsReports = (w : World) → ReportsAreExact w → ReportsAreExact (scan w)
+ScanKeepsReports = (w : World) → ReportsAreExact w → ReportsAreExact (scan_in_world w)
 
 -- where counts balance and reports are true, the token that it opens is sealed or spoiled too
 abbrev pub ScanKeepsTokens : Type 0
 ScanKeepsTokens =
     (w : World) → ActorsAreBalanced w → IsRising w.detector.kept → ReportsAreExact w →
-    TokensAreSound w → TokensAreSound (scan w)
+    TokensAreSound w → TokensAreSound (scan_in_world w)
 
 -- a reap leaves what is told of each actor true
 abbrev pub ReapKeepsReports : Type 0
@@ -101,8 +100,8 @@ ScanLeavesNoSet = (d : Detector) → NoNewsNoClosedSet (after_scan d (closed_set
 -- nor does a reap bring one about without news
 abbrev pub ReapKeepsNoNews : Type 0
 ReapKeepsNoNews =
-    (d : Detector) (t : Token) → In t d.tokens →
-    ((u : Token) → In u d.tokens → u.number ≡ t.number → u ≡ t) → NoNewsNoClosedSet d →
+    (d : Detector) (t : Token) → Contains d.tokens t →
+    ((u : Token) → Contains d.tokens u → u.number ≡ t.number → u ≡ t) → NoNewsNoClosedSet d →
     NoNewsNoClosedSet (close_token t d)
 
 -- kept reports stay in the order of their actors
@@ -148,13 +147,13 @@ ReapsTheUnneeded =
 -- a token that all members acknowledged is sealed
 abbrev pub AckedIsSealed : Type 0
 AckedIsSealed =
-    (w : World) (t : Token) → TokensAreSound w → In t w.detector.tokens → all_acked t ≡ true →
+    (w : World) (t : Token) → TokensAreSound w → Contains w.detector.tokens t → all_acked t ≡ true →
     IsSealed w.cell w.mail w.loaded w.notes t
 
 -- and no letter waits for a member
 abbrev pub AckedIsBare : Type 0
 AckedIsBare =
-    (w : World) (t : Token) → TokensAreSound w → In t w.detector.tokens → all_acked t ≡ true
+    (w : World) (t : Token) → TokensAreSound w → Contains w.detector.tokens t → all_acked t ≡ true
     → (m : ℕ) →
     has t.members m ≡ true → w.mail m ≡ []
 
@@ -162,4 +161,4 @@ AckedIsBare =
 abbrev pub MembersAloneAcknowledge : Type 0
 MembersAloneAcknowledge =
     (w : World) (number a : ℕ) (later : List Note) → FactsHold w → w.notes ≡ Ack number a ∷ later →
-    (t : Token) → In t w.detector.tokens → t.number ≡ number → has t.members a ≡ true
+    (t : Token) → Contains w.detector.tokens t → t.number ≡ number → has t.members a ≡ true

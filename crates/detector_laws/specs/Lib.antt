@@ -5,7 +5,6 @@ pub mod Confirms
 pub mod Events
 pub mod Facts
 pub mod Laws
-pub mod Members
 pub mod News
 pub mod Quiet
 pub mod Reports

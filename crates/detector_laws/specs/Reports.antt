@@ -1,8 +1,10 @@
 -- What kept reports and notes tell of each actor is what its cell is.
-use Rattle.std.specs.Prelude.{ℕ, ◌≡◌, ◌≢◌, ◌<◌, ◌≤◌, ◌==◌, if◌then◌else◌, true, false, List, [], ◌∷◌, Option, Some, None}
+use Rattle.std.specs.Prelude.{ℕ, ◌≡◌, ◌≢◌, ◌≤◌, ◌==◌, if◌then◌else◌, true, false, List, [], ◌∷◌, Option, Some, None, ⊤}
+use Rattle.std.specs.List.Sorted.{IsStrictlySortedBy}
+use Rattle.std.specs.Ordering.{nat_cmp, on}
 use Rattle.orca_names.specs.declared.names.Thing.TheVariants.{Actor}
 use Rattle.letter_kinds.specs.Holdings.{held_in}
-use Rattle.letter_kinds.specs.Reports.{count_on, report_of, report_told}
+use Rattle.letter_kinds.specs.Reports.{count_on, kept_report, report_told}
 use Rattle.letter_kinds.specs.declared.note.Note.{Note}
 use Rattle.letter_kinds.specs.declared.note.Note.TheVariants.{Block, Unblock, Ack}
 use Rattle.letter_kinds.specs.declared.note.Report.{Report}
@@ -48,11 +50,11 @@ told_by_kept (Some r) = Reported r
 
 -- what the kept reports and then the notes tell of an actor
 abbrev pub told_of : ℕ → List Report → List Note → Told
-told_of a kept notes = with_notes a (told_by_kept (report_of kept a)) notes
+told_of a kept notes = with_notes a (told_by_kept (kept_report kept a)) notes
 
 -- no Block and no Unblock of the actor is among the notes
 abbrev pub IsSilentOn : ℕ → List Note → Type 0
-IsSilentOn a [] = Unit {0}
+IsSilentOn a [] = ⊤
 IsSilentOn a (Block b count held ∷ notes) = (b ≢ a) × IsSilentOn a notes
 IsSilentOn a (Unblock b ∷ notes) = (b ≢ a) × IsSilentOn a notes
 IsSilentOn a (Ack token b ∷ notes) = IsSilentOn a notes
@@ -85,16 +87,10 @@ IsAsTold actor a Contradictory = ⊥
 pub record ExactReports (made : ℕ) (cell : ℕ → Option Cell) (kept : List Report)
     (notes : List Note) : Type 0 where
   pub last : (a : ℕ) → IsAsTold (cell a) a (told_of a kept notes)
-  pub unmade : (a : ℕ) → made ≤ a → (report_of kept a ≡ None) × IsSilentOn a notes
+  pub unmade : (a : ℕ) → made ≤ a → (kept_report kept a ≡ None) × IsSilentOn a notes
 
 -- ---- their order
 
--- these are reports of actors with higher numbers
-abbrev pub AllAbove : ℕ → List Report → Type 0
-AllAbove a [] = Unit {0}
-AllAbove a (r ∷ rs) = (a < r.actor) × AllAbove a rs
-
 -- one report an actor, in rising order of actors
 abbrev pub IsRising : List Report → Type 0
-IsRising [] = Unit {0}
-IsRising (r ∷ rs) = AllAbove r.actor rs × IsRising rs
+IsRising reports = IsStrictlySortedBy (on (λ r. r.actor) nat_cmp) reports

@@ -10,7 +10,7 @@ use Rattle.detector_laws.specs.Balance.{ActorsAreBalanced}
 use Rattle.detector_laws.specs.Cells.{is_reporting}
 use Rattle.detector_laws.specs.Confirms.{NoConfirms}
 use Rattle.detector_laws.specs.Events.{CanBlock, Leaves, Moves, Reaps}
-use Rattle.detector_laws.specs.World.{World, hear, scan, block, take_confirm}
+use Rattle.detector_laws.specs.World.{World, hear_in_world, scan_in_world, block_in_world, take_confirm}
 
 -- nothing was reported yet, and no Confirm waits
 pub record IsStart (w : World) : Type 0 where
@@ -21,11 +21,11 @@ pub record IsStart (w : World) : Type 0 where
 
 -- one event leads from the world to another
 pub data IsStep (w : World) : World → Type 0 where
-  Hears : {n : Note} {ns : List Note} → w.notes ≡ n ∷ ns → IsStep w (hear w n ns)
-  Scans : w.detector.news ≡ true → IsStep w (scan w)
+  Hears : {n : Note} {ns : List Note} → w.notes ≡ n ∷ ns → IsStep w (hear_in_world w n ns)
+  Scans : w.detector.news ≡ true → IsStep w (scan_in_world w)
   ReapsOne : {t : Token} {after : World} → Reaps w t after → IsStep w after
   LeavesOne : {a : ℕ} {after : World} → Leaves w a after → IsStep w after
-  Blocks : {a : ℕ} {c : Cell} {r : Report} → CanBlock w a c r → IsStep w (block w a c r)
+  Blocks : {a : ℕ} {c : Cell} {r : Report} → CanBlock w a c r → IsStep w (block_in_world w a c r)
   TakesConfirm : {a token : ℕ} {mail : List Letter} → w.mail a ≡ Confirm token ∷ mail
       → IsStep w (take_confirm w a token mail)
   MovesOne : {a : ℕ} {after : World} → Moves w a after → IsStep w after

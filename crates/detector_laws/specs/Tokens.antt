@@ -1,8 +1,8 @@
 -- Each open token is sealed, so that its members never act again, or spoiled, so that it is never
 -- reaped.
-use Rattle.std.specs.Prelude.{ℕ, ◌+◌, ◌≡◌, ◌≤◌, ◌<◌, ◌==◌, ◌&&◌, ◌||◌, ◌⊎◌, if◌then◌else◌, Bool, true, false, List, [], ◌∷◌, Option, Some}
+use Rattle.std.specs.Prelude.{ℕ, ◌+◌, ◌≡◌, ◌≤◌, ◌<◌, ◌==◌, ◌&&◌, ◌||◌, ◌⊎◌, if◌then◌else◌, Bool, true, false, List, [], ◌∷◌, Option, Some, Contains}
 use Rattle.letter_kinds.specs.Detector.{Token, Detector, has}
-use Rattle.letter_kinds.specs.Reports.{report_of}
+use Rattle.letter_kinds.specs.Reports.{kept_report}
 use Rattle.letter_kinds.specs.declared.letter.Letter.{Letter}
 use Rattle.letter_kinds.specs.declared.note.Note.{Note}
 use Rattle.letter_kinds.specs.declared.note.Note.TheVariants.{Block, Unblock, Ack}
@@ -10,7 +10,6 @@ use Rattle.letter_kinds.specs.declared.note.Report.{Report}
 use Rattle.machine_rules.specs.Cell.{Cell}
 use Rattle.detector_laws.specs.Cells.{held_on, is_reporting}
 use Rattle.detector_laws.specs.Confirms.{EndsInConfirm, confirm_count, other_before_confirm}
-use Rattle.detector_laws.specs.Members.{In}
 use Rattle.detector_laws.specs.Reports.{IsBlocked, IsSilentOn}
 
 -- ---- where the acknowledgement of a member is
@@ -74,19 +73,20 @@ IsSpoiled cell mail notes t =
 pub record SoundTokens (d : Detector) (cell : ℕ → Option Cell) (mail : ℕ → List Letter) (loaded : ℕ
     → ℕ) (notes : List Note) : Type 0 where
   -- two tokens have no member in common
-  pub apart : (t u : Token) → In t d.tokens → In u d.tokens → (m : ℕ) → has t.members m ≡ true
-      → has u.members m ≡ true → t.number ≡ u.number
+  pub apart : (t u : Token) → Contains d.tokens t → Contains d.tokens u
+      → (m : ℕ) → has t.members m ≡ true → has u.members m ≡ true → t.number ≡ u.number
   -- of each member a report is kept
-  pub kept : (t : Token) → In t d.tokens → (m : ℕ) → has t.members m ≡ true
-      → (r : Report) × (report_of d.kept m ≡ Some r)
+  pub kept : (t : Token) → Contains d.tokens t → (m : ℕ) → has t.members m ≡ true
+      → (r : Report) × (kept_report d.kept m ≡ Some r)
   -- numbers are used once
-  pub unique : (t u : Token) → In t d.tokens → In u d.tokens → t.number ≡ u.number → t ≡ u
-  pub numbers : (t : Token) → In t d.tokens → t.number ≤ d.opened
+  pub unique : (t u : Token) → Contains d.tokens t → Contains d.tokens u → t.number ≡ u.number
+      → t ≡ u
+  pub numbers : (t : Token) → Contains d.tokens t → t.number ≤ d.opened
   -- no Confirm and no Ack of a token that is not opened yet
   pub letters : (a n : ℕ) → d.opened < n → confirm_count n (mail a) ≡ 0
   pub heard : (a n : ℕ) → d.opened < n → ack_count n a notes ≡ 0
   -- a member has at most one of these: the Confirm, its Ack under way, its acknowledgement
-  pub once : (t : Token) → In t d.tokens → (m : ℕ) → has t.members m ≡ true
+  pub once : (t : Token) → Contains d.tokens t → (m : ℕ) → has t.members m ≡ true
       → trace_count t m (mail m) notes ≤ 1
-  pub state : (t : Token) → In t d.tokens → IsSealed cell mail loaded notes t
+  pub state : (t : Token) → Contains d.tokens t → IsSealed cell mail loaded notes t
       ⊎ IsSpoiled cell mail notes t

@@ -45,8 +45,8 @@ FactsHold w = DetectorFacts w.made w.detector w.cell w.mail w.loaded w.notes
 -- ---- events of the detector
 
 -- it hears a note; these are left
-abbrev pub hear : World → Note → List Note → World
-hear w note notes = record w { detector = hear_note note w.detector; notes = notes }
+abbrev pub hear_in_world : World → Note → List Note → World
+hear_in_world w note notes = record w { detector = hear_note note w.detector; notes = notes }
 
 -- the letters, where each member that is present gets a Confirm
 abbrev pub confirms_of : List ℕ → ℕ → (ℕ → Option Cell) → (ℕ → List Letter) → ℕ → List Letter
@@ -54,8 +54,8 @@ confirms_of members token cell mail a =
     if has members a && is_some (cell a) then mail a ++ Confirm token ∷ [] else mail a
 
 -- it looks for the largest closed set, and asks its members
-abbrev pub scan : World → World
-scan w =
+abbrev pub scan_in_world : World → World
+scan_in_world w =
     record w {
       detector = after_scan w.detector (closed_set w.detector);
       mail = confirms_of (closed_set w.detector) (suc w.detector.opened) w.cell w.mail;
@@ -68,8 +68,8 @@ abbrev pub at : {A : Type 0} → (ℕ → A) → ℕ → A → ℕ → A
 at f a v x = if x == a then v else f x
 
 -- the actor with this cell reports that it is blocked
-abbrev pub block : World → ℕ → Cell → Report → World
-block w a c r = record w {
+abbrev pub block_in_world : World → ℕ → Cell → Report → World
+block_in_world w a c r = record w {
   cell = at w.cell a (Some (record c { reported = true }));
   notes = w.notes ++ block_note r ∷ [];
 }

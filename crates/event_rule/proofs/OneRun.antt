@@ -1,9 +1,8 @@
 -- A book leads to one state, one event is first, and a run ends in one way.
-use Rattle.std.proofs.Common.{◌≡◌, ℕ, ◌<◌, List, [], ◌∷◌, refl, sym, ◌∙◌, ap, subst, arith}
+use Rattle.std.proofs.Common.{◌≡◌, ◌≢◌, ℕ, [], ◌∷◌, refl, sym, ◌∙◌, ap, subst, arith}
 use Rattle.event_rule.proofs.Ordered.{upto_both}
 use Rattle.event_rule.proofs.Steps.{goes_to}
-use Rattle.event_rule.specs.Runs.{ActorsFull, Budget, EndsInOneWay, Goes, IsFirst, IsFull, IsFullAt, IsQuiet, IsSpent, Leads, LeadsToOneState, Machine, NoneIsFirstAtQuiet, NotEnabled, OneIsFirst, Quiet}
-use Rattle.event_rule.specs.declared.event.Event.{Event}
+use Rattle.event_rule.specs.Runs.{ActorsFull, Budget, EndsInOneWay, IsFull, IsFullAt, IsQuiet, IsSpent, Leads, LeadsToOneState, Machine, NoneIsFirstAtQuiet, NotEnabled, OneIsFirst, Quiet}
 use Rattle.event_rule.specs.declared.event.Event.TheVariants.{Go}
 
 pub leads_to_one : {S : Type 0} (next : Machine S) → LeadsToOneState next
@@ -22,10 +21,10 @@ none_at_quiet next s e quiet first = first.enabled (quiet e)
 same_actor : (a b : ℕ) → Go a ≡ Go b → a ≡ b
 same_actor a b e = cc
 
-full_is_enabled : {S : Type 0} (next : Machine S) (s : S) (a : ℕ) → IsQuiet next s → next s (Go a) ≡ IsFull → ⊥
+full_is_enabled : {S : Type 0} (next : Machine S) (s : S) (a : ℕ) → IsQuiet next s → next s (Go a) ≢ IsFull
 full_is_enabled next s a quiet full = let e : NotEnabled ≡ IsFull = sym (quiet (Go a)) ∙ full in cc
 
-spent_or_room : {S : Type 0} (next : Machine S) (s : S) (actor entries budget : ℕ) → IsSpent next s entries budget → IsFullAt next actor s entries budget → ⊥
+spent_or_room : {S : Type 0} (next : Machine S) (s : S) (actor entries budget : ℕ) → IsSpent next s entries budget → ¬ IsFullAt next actor s entries budget
 spent_or_room next s actor entries budget spent full = let e = spent.spent in let r = full.room in omega arith
 
 pub one_ending : {S : Type 0} (next : Machine S) → EndsInOneWay next

@@ -4,12 +4,12 @@ use Rattle.std.specs.Ordering.{nat_cmp, ordering_reverse, ordering_then}
 use Rattle.std.specs.declared.cmp.Ordering.{Ordering}
 use Rattle.std.specs.declared.cmp.Ordering.TheVariants.{Less, Equal, Greater}
 use Rattle.std.specs.Cmp.{IsTotalOrder, on_total, then_total, nat_cmp_total, ranked}
-use Rattle.event_rule.specs.Events.{event_cmp, number_of, round_of, turn_of}
+use Rattle.event_rule.specs.Events.{event_cmp, actor_or_token, round_of, turn_in_round}
 use Rattle.event_rule.specs.declared.event.Event.{Event}
 use Rattle.event_rule.specs.declared.event.Event.TheVariants.{Take, Go, Collect, Leave, Block, Hear, Scan, Reap}
 
 event_total : IsTotalOrder event_cmp
-event_total = then_total (then_total (on_total round_of nat_cmp_total) (on_total number_of nat_cmp_total)) (on_total turn_of nat_cmp_total)
+event_total = then_total (then_total (on_total round_of nat_cmp_total) (on_total actor_or_token nat_cmp_total)) (on_total turn_in_round nat_cmp_total)
 
 -- ---- at most
 
@@ -53,7 +53,7 @@ event_at (suc (suc zero)) a turn = Hear
 event_at (suc (suc (suc zero))) a turn = Scan
 event_at (suc (suc (suc (suc n)))) a turn = Reap a
 
-event_back : (e : Event) → event_at (round_of e) (number_of e) (turn_of e) ≡ e
+event_back : (e : Event) → event_at (round_of e) (actor_or_token e) (turn_in_round e) ≡ e
 event_back (Take a) = refl
 event_back (Go a) = refl
 event_back (Collect a) = refl
@@ -70,11 +70,11 @@ both_equal Greater p e = cc
 
 tied_same : (e f : Event) → event_cmp e f ≡ Equal → e ≡ f
 tied_same e f tied =
-    let outer = both_equal (ordering_then (nat_cmp (round_of e) (round_of f)) (nat_cmp (number_of e) (number_of f))) (nat_cmp (turn_of e) (turn_of f)) tied in
-    let inner = both_equal (nat_cmp (round_of e) (round_of f)) (nat_cmp (number_of e) (number_of f)) outer.0 in
+    let outer = both_equal (ordering_then (nat_cmp (round_of e) (round_of f)) (nat_cmp (actor_or_token e) (actor_or_token f))) (nat_cmp (turn_in_round e) (turn_in_round f)) tied in
+    let inner = both_equal (nat_cmp (round_of e) (round_of f)) (nat_cmp (actor_or_token e) (actor_or_token f)) outer.0 in
     let r : round_of e ≡ round_of f = ranked (round_of e) (round_of f) Equal (sym inner.0) in
-    let n : number_of e ≡ number_of f = ranked (number_of e) (number_of f) Equal (sym inner.1) in
-    let t : turn_of e ≡ turn_of f = ranked (turn_of e) (turn_of f) Equal (sym outer.1) in
+    let n : actor_or_token e ≡ actor_or_token f = ranked (actor_or_token e) (actor_or_token f) Equal (sym inner.1) in
+    let t : turn_in_round e ≡ turn_in_round f = ranked (turn_in_round e) (turn_in_round f) Equal (sym outer.1) in
     sym (event_back e) ∙ (λ i. event_at (r i) (n i) (t i)) ∙ event_back f
 
 pub upto_both : (e f : Event) → Upto e f → Upto f e → e ≡ f

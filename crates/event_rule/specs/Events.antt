@@ -19,30 +19,31 @@ round_of Scan = 3
 round_of (Reap token) = 4
 
 -- the number of its actor or token, 0 where it has none
-abbrev pub number_of : Event → ℕ
-number_of (Go a) = a
-number_of (Take a) = a
-number_of (Collect a) = a
-number_of (Leave a) = a
-number_of (Block a) = a
-number_of Hear = 0
-number_of Scan = 0
-number_of (Reap token) = token
+abbrev pub actor_or_token : Event → ℕ
+actor_or_token (Go a) = a
+actor_or_token (Take a) = a
+actor_or_token (Collect a) = a
+actor_or_token (Leave a) = a
+actor_or_token (Block a) = a
+actor_or_token Hear = 0
+actor_or_token Scan = 0
+actor_or_token (Reap token) = token
 
 -- in a round an actor goes before it takes, and collects before it leaves or blocks
-abbrev pub turn_of : Event → ℕ
-turn_of (Go a) = 0
-turn_of (Take a) = 1
-turn_of (Collect a) = 0
-turn_of (Leave a) = 1
-turn_of (Block a) = 2
-turn_of Hear = 0
-turn_of Scan = 0
-turn_of (Reap token) = 0
+abbrev pub turn_in_round : Event → ℕ
+turn_in_round (Go a) = 0
+turn_in_round (Take a) = 1
+turn_in_round (Collect a) = 0
+turn_in_round (Leave a) = 1
+turn_in_round (Block a) = 2
+turn_in_round Hear = 0
+turn_in_round Scan = 0
+turn_in_round (Reap token) = 0
 
 -- the one-worker order: by round, then by number, then by turn
 abbrev pub event_cmp : Event → Event → Ordering
-event_cmp = then_cmp (then_cmp (on round_of nat_cmp) (on number_of nat_cmp)) (on turn_of nat_cmp)
+event_cmp =
+    then_cmp (then_cmp (on round_of nat_cmp) (on actor_or_token nat_cmp)) (on turn_in_round nat_cmp)
 
 -- as the run book writes it, without the line feed
 abbrev pub event_text : Event → List ℕ

@@ -87,7 +87,7 @@ abbrev pub OneIsFirst : {S : Type 0} → Machine S → Type 0
 OneIsFirst next = (s : _) (e f : Event) → IsFirst next s e → IsFirst next s f → e ≡ f
 
 abbrev pub NoneIsFirstAtQuiet : {S : Type 0} → Machine S → Type 0
-NoneIsFirstAtQuiet next = (s : _) (e : Event) → IsQuiet next s → IsFirst next s e → ⊥
+NoneIsFirstAtQuiet next = (s : _) (e : Event) → IsQuiet next s → ¬ IsFirst next s e
 
 -- a book leads to one state
 abbrev pub LeadsToOneState : {S : Type 0} → Machine S → Type 0

@@ -5,7 +5,7 @@ ghost use Rattle.std.proofs.Common.{rules};
 ghost use Rattle.std.specs.Cmp.{partial_order_from_own_ties};
 ghost use Rattle.std.specs.Cmp.Rules.{comparing};
 ghost use Rattle.std.specs.Ordering.{as_partial_cmp};
-ghost use Rattle.event_rule.specs.Events.{event_cmp, event_text, number_of, round_of, turn_of};
+ghost use Rattle.event_rule.specs.Events.{event_cmp, event_text, actor_or_token, round_of, turn_in_round};
 
 use orca_names::ActorName;
 use std::cmp::Ordering;
@@ -48,7 +48,7 @@ impl Event {
 
     /// The number of its actor or token, 0 where it has none.
     fn number(&self) -> u64
-        ensures { result ≡ number_of self.now }
+        ensures { result ≡ actor_or_token self.now }
     {
         match self {
             Event::Take(a) | Event::Go(a) => u64::from(a.0),
@@ -60,7 +60,7 @@ impl Event {
 
     /// Its place among the events that an actor has in a round.
     fn turn(&self) -> u8
-        ensures { result ≡ turn_of self.now }
+        ensures { result ≡ turn_in_round self.now }
     {
         match self {
             Event::Take(_) | Event::Leave(_) => 1,

@@ -1,5 +1,5 @@
 -- Filters of lists.
-use Rattle.std.proofs.Common.{◌≡◌, ℕ, ◌≤◌, Bool, true, false, cond, List, [], ◌∷◌, length, filter, sum_by, arith, refl, ap}
+use Rattle.std.proofs.Common.{◌≡◌, ◌≢◌, ℕ, ◌≤◌, Bool, true, false, cond, List, [], ◌∷◌, length, filter, sum_by, arith, refl, ap}
 use Rattle.std.specs.List.{AllByRecursion}
 use Rattle.std.proofs.lemmas.List.Sums.{sum_by-cons}
 
@@ -16,7 +16,7 @@ filter_all p [] h = refl
 filter_all p (x ∷ xs) h = rw (h.0) (ap (λ ys. x ∷ ys) (filter_all p xs h.1))
 
 -- dropping one leaves too few
-too_few : {A : Type 0} (p : A → Bool) (x : A) (xs : List A) → filter p xs ≡ x ∷ xs → ⊥
+too_few : {A : Type 0} (p : A → Bool) (x : A) (xs : List A) → filter p xs ≢ x ∷ xs
 too_few p x xs h = omega (arith, length-filter_le p xs, ap length h)
 
 all_cons : {A : Type 0} (p : A → Bool) (x : A) (xs : List A) → (filter p xs ≡ xs → AllByRecursion (λ y. p y ≡ true) xs) → filter p (x ∷ xs) ≡ x ∷ xs → (p x ≡ true) × AllByRecursion (λ y. p y ≡ true) xs

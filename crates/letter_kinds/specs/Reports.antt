@@ -31,9 +31,9 @@ told_on_by x reports = sum_by (told_on x) reports
 -- ---- kept reports, in rising order of their actors
 
 -- the kept report of an actor
-abbrev pub report_of : List Report → ℕ → Option Report
-report_of [] a = None
-report_of (r ∷ rs) a = if r.actor == a then Some r else report_of rs a
+abbrev pub kept_report : List Report → ℕ → Option Report
+kept_report [] a = None
+kept_report (r ∷ rs) a = if r.actor == a then Some r else kept_report rs a
 
 -- with this report, which takes the place of an older one of its actor
 abbrev pub keep_report : Report → List Report → List Report

@@ -1,9 +1,9 @@
 -- Concrete books are runs, by computation, and nothing that is not needed is left after them.
-use Rattle.std.proofs.Common.{◌≡◌, ◌↔◌, ℕ, zero, suc, ◌++◌, ◌==◌, ◌&&◌, ◌||◌, not, true, false, List, [], ◌∷◌, Option, Some, None, is_some, refl, ap, sym, ◌∙◌, subst, Bool}
+use Rattle.std.proofs.Common.{◌≡◌, ◌≢◌, ◌↔◌, ℕ, zero, suc, ◌++◌, ◌==◌, ◌&&◌, ◌||◌, not, true, false, List, [], ◌∷◌, Option, Some, None, is_some, refl, ap, sym, ◌∙◌, subst, Bool}
 use Rattle.std.specs.FinMap as m
 use Rattle.std.specs.List.{find}
 use Rattle.std.specs.Ordering.{nat_cmp}
-use Rattle.std.specs.Prelude.{is_none, if◌then◌else◌, option_and_then}
+use Rattle.std.specs.Prelude.{is_none, if◌then◌else◌, option_and_then, ⊤}
 use Rattle.orca_names.specs.Names.{owner_of}
 use Rattle.orca_names.specs.declared.names.Thing.{Thing}
 use Rattle.orca_names.specs.declared.names.Thing.TheVariants.{Actor, Obj}
@@ -11,9 +11,10 @@ use Rattle.event_rule.specs.declared.event.Event.{Event}
 use Rattle.event_rule.specs.declared.event.Event.TheVariants.{Take, Go, Collect, Leave, Block, Hear, Scan, Reap}
 use Rattle.reach_walk.specs.Marks.{led_to, marks_of}
 use Rattle.letter_kinds.specs.Counting.{by_owner}
-use Rattle.letter_kinds.specs.Detector.{closed_set, Token, all_acked}
+use Rattle.letter_kinds.specs.Detector.{Token, all_acked}
 use Rattle.letter_kinds.specs.Holdings.{has_own}
-use Rattle.machine_examples.proofs.LedgerSteps.{Page, first_page, after_all, after_all-leads, state_told}
+use Rattle.machine_examples.proofs.LedgerSteps.{after_all, after_all-leads}
+use Rattle.machine_examples.proofs.Pages.{Page, first_page, state_told}
 use Rattle.machine_examples.proofs.Places.{seats_told}
 use Rattle.machine_rules.specs.Actors.{Actors, Seat, seat_at}
 use Rattle.machine_examples.specs.Examples.{usual, two_hold_each_other, two_up_to_the_ping, two_to_the_end, TwoHoldEachOtherAndGo, passes_an_object_on, passing_book, AnObjectIsPassedOnAndGoes}
@@ -26,7 +27,7 @@ use Rattle.machine_rules.specs.State.{State, first_state}
 use Rattle.std.specs.Option.{option_map_or}
 use Rattle.machine_rules.specs.Block.{block}
 use Rattle.machine_rules.specs.Collect.{collect}
-use Rattle.machine_rules.specs.Detect.{acked_token, hear, reap, scan}
+use Rattle.machine_rules.specs.Detect.{hear, reap, scan}
 use Rattle.machine_rules.specs.Go.{go}
 use Rattle.machine_rules.specs.Guards.{may_block, may_collect, may_go, may_leave, may_take}
 use Rattle.machine_rules.specs.Leave.{leave}
@@ -47,7 +48,7 @@ page_there b (Some c) h = refl
 
 -- an actor that is pinned or told that it is blocked, and has nothing to do, or none
 abbrev pub IsStill : Option Seat → Type 0
-IsStill None = Unit {0}
+IsStill None = ⊤
 IsStill (Some o) = (o.cell.frame ≡ None) × (o.mail ≡ []) × (o.cell.dirty ≡ false) × ((o.cell.fields.pinned || o.cell.reported) ≡ true)
 
 -- it may not do anything
@@ -94,7 +95,7 @@ two_last : Page
 two_last = page_or two_first (after_all two_to_the_end (Some two_at_the_ping))
 
 -- what these pages compute with
-two_computed : Unit {0}
+two_computed : ⊤
 unfolding led_to marks_of by_owner two_first two_at_the_ping two_last
 two_computed = tt
 
@@ -159,7 +160,7 @@ passing_last : Page
 passing_last = page_or passing_first (after_all passing_book (Some passing_first))
 
 -- what this page computes with
-passing_computed : Unit {0}
+passing_computed : ⊤
 unfolding led_to marks_of by_owner passing_first passing_last
 passing_computed = tt
 
@@ -204,7 +205,7 @@ only_main actors main others x = (of_thing x, λ e. subst (IsLeft actors) (sym e
     itself (Some o) e h = record { seat = o; present = e; kept = refl }
 
     -- it has no object
-    no_object : (serial : ℕ) (o : Seat) (found : Option Seat) → IsMain found → found ≡ Some o → (owner : ℕ) → has_own o.cell.holdings (Obj (record { owner = owner; serial = serial })) ≡ true → ⊥
+    no_object : (serial : ℕ) (o : Seat) (found : Option Seat) → IsMain found → found ≡ Some o → (owner : ℕ) → has_own o.cell.holdings (Obj (record { owner = owner; serial = serial })) ≢ true
     no_object serial o None h e owner kept = cc
     no_object serial o (Some p) h e owner kept =
         let same : p ≡ o = cc in
@@ -212,7 +213,7 @@ only_main actors main others x = (of_thing x, λ e. subst (IsLeft actors) (sym e
         let none : is_some (m.get o.cell.holdings.rows serial) ≡ false = ap (λ rows. is_some (m.get rows serial)) rows ∙ ap is_some (m.get-empty nat_cmp serial) in
         cc
 
-    of_object : (owner serial : ℕ) → IsLeft actors (Obj (record { owner = owner; serial = serial })) → ⊥
+    of_object : (owner serial : ℕ) → ¬ IsLeft actors (Obj (record { owner = owner; serial = serial }))
     of_object zero serial left = no_object serial left.seat (seat_at actors 0) main left.present 0 left.kept
     of_object (suc a) serial left = let e = others a in let p = left.present in cc
 

@@ -1,10 +1,12 @@
 -- These books are runs too, by computation.
 use Rattle.std.proofs.Common.{◌≡◌, ℕ, zero, suc, true, [], ◌∷◌, Some, None, is_some, refl, sym, subst}
+use Rattle.std.specs.Prelude.{⊤}
 use Rattle.event_rule.specs.declared.event.Event.TheVariants.{Go, Hear, Leave, Scan}
 use Rattle.reach_walk.specs.Marks.{led_to, marks_of}
 use Rattle.letter_kinds.specs.Counting.{by_owner}
 use Rattle.machine_examples.proofs.ExampleRuns.{IsStill, still_quiet}
-use Rattle.machine_examples.proofs.LedgerSteps.{Page, after_all, first_page, state_told}
+use Rattle.machine_examples.proofs.LedgerSteps.{after_all}
+use Rattle.machine_examples.proofs.Pages.{Page, first_page, state_told}
 use Rattle.machine_examples.proofs.Places.{seats_told}
 use Rattle.machine_examples.proofs.SmallRuns.{none_left, turned, turned_leads}
 use Rattle.machine_examples.specs.FurtherExamples.{AnUnblockOutlivesItsActor, GetsAreMintedInOrder, gets_two_objects, up_to_the_first_get, up_to_the_leave}
@@ -28,7 +30,7 @@ gets_twice = turned (Go 1 ∷ []) gets_once
 gets_last : Page
 gets_last = turned (Go 1 ∷ []) gets_twice
 
-gets_computed : Unit {0}
+gets_computed : ⊤
 unfolding led_to marks_of by_owner gets_first gets_once gets_twice gets_last
 gets_computed = tt
 
@@ -88,7 +90,7 @@ one_heard = turned (Hear ∷ []) one_gone
 one_last : Page
 one_last = turned (Leave 0 ∷ Scan ∷ []) one_heard
 
-one_computed : Unit {0}
+one_computed : ⊤
 unfolding led_to marks_of by_owner one_first one_told one_gone one_heard one_last
 one_computed = tt
 

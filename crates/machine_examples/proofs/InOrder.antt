@@ -1,6 +1,5 @@
 -- Whether an event is the first that is enabled is computed, and so is whether a state is quiet.
-use Rattle.std.proofs.Common.{◌≡◌, ◌≢◌, ℕ, zero, suc, ◌<◌, ◌==◌, ◌&&◌, ◌||◌, not, Bool, true, false, if◌then◌else◌, List, [], ◌∷◌, ◌++◌, length, map, Option, Some, None, is_some, refl, ap, sym, ◌∙◌, subst, arith, ⊎_elim, eqb-true}
-use Rattle.std.specs.Prelude.{is_none}
+use Rattle.std.proofs.Common.{◌≡◌, ◌≢◌, ℕ, zero, suc, ◌<◌, ◌==◌, ◌||◌, not, Bool, true, false, if◌then◌else◌, List, [], ◌∷◌, ◌++◌, length, map, Option, Some, None, is_some, refl, ap, sym, ◌∙◌, subst, arith, ⊎_elim, eqb-true}
 use Rattle.std.specs.List.{find, list_all}
 use Rattle.std.specs.Option.{option_map_or}
 use Rattle.std.specs.Ordering.{is_gt}
@@ -13,23 +12,22 @@ use Rattle.behaviour_code.specs.declared.code.Program.{Program}
 use Rattle.event_rule.specs.Events.{actor_of, event_cmp}
 use Rattle.event_rule.specs.declared.event.Event.{Event}
 use Rattle.event_rule.specs.declared.event.Event.TheVariants.{Take, Go, Collect, Leave, Block, Hear, Scan, Reap}
-use Rattle.letter_kinds.specs.Detector.{Token, all_acked, token_numbered}
+use Rattle.letter_kinds.specs.Detector.{Token}
 use Rattle.machine_examples.proofs.ExampleRuns.{page_or, page_there}
-use Rattle.machine_examples.proofs.LedgerSteps.{Page, Follows, first_page, next_page, next-follows, state_told}
+use Rattle.machine_examples.proofs.LedgerSteps.{next_page, next-follows}
+use Rattle.machine_examples.proofs.Pages.{Page, Follows, first_page, state_told}
 use Rattle.machine_examples.specs.InOrder.{OneWorkerWrites}
 use Rattle.machine_rules.proofs.Enabling.{enabled_exactly}
 use Rattle.machine_rules.proofs.Present.{present_below}
 use Rattle.machine_rules.specs.Actors.{Seat, seat_at}
-use Rattle.machine_rules.specs.Cell.{Cell}
 use Rattle.machine_rules.specs.Enabled.{CanHappen}
 use Rattle.event_rule.specs.Runs.{IsEnabled, IsFirst, IsQuiet, Step, NotEnabled, IsFull, Goes, LeadsInOrder}
 use Rattle.machine_rules.specs.Next.{next}
 use Rattle.machine_rules.specs.Options.{Options}
 use Rattle.machine_rules.specs.State.{State}
-use Rattle.letter_kinds.specs.declared.letter.Letter.{Letter}
 use Rattle.plain_list.specs.Lists.{is_empty}
 use Rattle.machine_rules.specs.Guards.{may_block, may_leave, may_collect, may_go, may_take}
-use Rattle.machine_rules.proofs.Guards.{MayReport, acked_open}
+use Rattle.machine_rules.proofs.Guards.{acked_open}
 use Rattle.machine_rules.specs.Detect.{acked_token}
 
 -- ---- whether an event is enabled
@@ -160,7 +158,7 @@ is_quiet s = list_all (λ f. not (is_on s f)) (all_events s)
 quiet_computed : (s : State) → is_quiet s ≡ true → IsQuiet next s
 quiet_computed s test f = by_step (next s f) refl
   where
-    off : CanHappen s f → ⊥
+    off : ¬ CanHappen s f
     off can =
         let on = can_on s f can in
         let no = pass_all (λ f. not (is_on s f)) s test f can in
@@ -179,7 +177,7 @@ in_order_after [] b = b
 in_order_after (e ∷ events) None = None
 in_order_after (e ∷ events) (Some b) = if is_first (state_told b) e then in_order_after events (next_page b e) else None
 
-none_in_order : (events : List Event) (c : Page) → in_order_after events None ≡ Some c → ⊥
+none_in_order : (events : List Event) (c : Page) → in_order_after events None ≢ Some c
 none_in_order [] c h = cc
 none_in_order (e ∷ events) c h = cc
 

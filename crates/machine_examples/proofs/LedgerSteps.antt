@@ -1,5 +1,5 @@
 -- The machine on ledgers leads where the machine leads.
-use Rattle.std.proofs.Common.{◌≡◌, ℕ, suc, ◌==◌, ◌&&◌, ◌+◌, Bool, true, false, if◌then◌else◌, List, [], ◌∷◌, ◌++◌, length, set, nat_lt, Option, Some, None, refl, ap, sym, ◌∙◌, subst}
+use Rattle.std.proofs.Common.{◌≡◌, ◌≢◌, ℕ, ◌+◌, Bool, true, false, if◌then◌else◌, List, [], ◌∷◌, ◌++◌, length, set, nat_lt, Option, Some, None, refl, ap, sym, ◌∙◌, subst}
 use Rattle.std.proofs.lemmas.List.{length-map, map-append}
 use Rattle.std.specs.List.{find, list_any}
 use Rattle.std.specs.Option.{option_map_or}
@@ -18,59 +18,31 @@ use Rattle.turn_rules.specs.declared.act.Act.{Act}
 use Rattle.turn_rules.specs.declared.act.Act.TheVariants.{Post, New, Print, End}
 use Rattle.turn_rules.specs.declared.act.Frame.{Frame}
 use Rattle.letter_kinds.specs.Counting.{Amount, Loaded, by_owner, gain, lacking_of, to_mint}
-use Rattle.letter_kinds.specs.Detector.{Token, all_acked, close_token, closed_set, has, hear_note, after_scan, token_numbered}
 use Rattle.letter_kinds.specs.Holdings.{Row}
 use Rattle.letter_kinds.specs.declared.letter.Letter.{Letter}
 use Rattle.letter_kinds.specs.declared.letter.Letter.TheVariants.{App, Inc, Dec, Confirm}
-use Rattle.letter_kinds.specs.declared.note.Note.{Note}
 use Rattle.letter_kinds.specs.declared.note.Note.TheVariants as notes
 use Rattle.machine_examples.proofs.Brought.{Brought, cell_with, learn_told, learn-told, listed_told, listed-told, marked_by_roots_told, marked_by_roots-told, need_told, need-told, needs_told, needs-told, row_brought, row_brought-told, used_told, used-told}
 use Rattle.machine_examples.proofs.Ledgers.{Ledger, told, empty_ledger, row_told, row_of-told, objects_told, known_objects-told, actors_told, held_actors-told, change_held, set_held-told, take_load, receive-told, give_load, send-told, raise_told, raise_all-told, lower_told, lower_all-told, mint_told, mint_all-told, lacking_told, lacking-told, make_told, with_made-told, sweep_told, sweep-told, back_told, given_back-told}
-use Rattle.machine_rules.specs.Actors.{Seat, push_decs, push_letter, seat, seat_at}
-use Rattle.machine_rules.specs.Cell.{Cell, first_cell, fresh_cell, row_by}
+use Rattle.machine_rules.specs.Actors.{push_decs, push_letter, seat, seat_at}
+use Rattle.machine_rules.specs.Cell.{Cell, fresh_cell, row_by}
 use Rattle.machine_rules.specs.Collect.{after_collect, is_marked, is_marked_deep, without_unused, collect}
-use Rattle.machine_rules.specs.Detect.{empty_seats, held_outside, reap_decs, reap_members, acked_token, hear, reap, scan}
+use Rattle.machine_rules.specs.Detect.{acked_token}
 use Rattle.machine_rules.specs.Go.{act_in, load_from, needed, needing, mint, post_or_mint, rows_from, setting_of, turn_of_cell, cell_after_turn, go, turn_in}
 use Rattle.event_rule.specs.Runs.{Leads, Step, IsFull, Goes, NotEnabled}
 use Rattle.machine_rules.specs.Next.{next, acting}
 use Rattle.orca_names.specs.declared.trace.Trace.{Trace}
 use Rattle.orca_names.specs.declared.trace.Trace.TheVariants.{Deep, Roots}
-use Rattle.machine_rules.specs.Options.{Options}
 use Rattle.plain_rules.specs.Machine.{stopped_at, with_name}
-use Rattle.machine_rules.specs.State.{State, first_state, start_letters}
+use Rattle.machine_rules.specs.State.{State}
 use Rattle.machine_rules.specs.Take.{cell_after, note_of, notes_after, take}
-use Rattle.machine_examples.proofs.Places.{Place, Places, seats_told, cell_told, seat_told, place, place_at, seat_at-told, set-told, push_told, push_letter-told, decs_told, push_decs-told, asked_told, ask_all-told}
+use Rattle.machine_examples.proofs.Places.{Place, Places, seats_told, cell_told, seat_told, place, place_at, seat_at-told, set-told, push_told, push_letter-told, decs_told, push_decs-told}
 use Rattle.machine_rules.specs.Guards.{may_block, may_collect, may_go, may_leave, may_take}
 use Rattle.machine_rules.specs.Block.{block}
 use Rattle.machine_rules.specs.Leave.{leave}
 use Rattle.std.specs.Prelude.{if◌then◌else◌}
-
--- ---- states
-
--- a state whose actors stand in the places; those of the state count for nothing
-pub record Page : Type 0 where
-  pub state : State
-  pub places : Places
-
--- the state with the actors of the places
-abbrev pub state_told : Page → State
-state_told b = record b.state { actors = seats_told b.places }
-
--- before the first event
-abbrev pub first_page : Program → Options → Page
-first_page program options = record {
-  state = record (first_state program options) { actors = [] };
-  places = place (first_cell program) (empty_ledger 0) [] (start_letters program) ∷ [];
-}
-
--- with this tracing
-abbrev traced : Page → Trace
-traced b = b.state.options.trace
-
--- the step goes to the state of the page, if there is one
-abbrev pub Follows : Option Page → Step State → Type 0
-Follows None step = Unit {0}
-Follows (Some b) step = step ≡ Goes (state_told b)
+use Rattle.machine_examples.proofs.Pages.{Follows, Page, state_told, traced}
+use Rattle.machine_examples.proofs.DetectorSteps.{hear-follows, heard_in, reap-follows, reaped-told, reaped_in, reaped_told, scan-follows, scanned_in}
 
 -- ---- take
 
@@ -420,87 +392,6 @@ acting-follows b a may does act follows =
     cases None = tt
     cases (Some o) = by_test o (may (cell_told o) o.mail)
 
--- ---- the detector
-
--- after the detector took a note
-abbrev heard_in : Page → List Note → Option Page
-heard_in b [] = None
-heard_in b (note ∷ notes) = Some (record b { state = record b.state { detector = hear_note note b.state.detector; notes = notes } })
-
-hear-follows : (b : Page) (notes : List Note) → Follows (heard_in b notes) (hear (state_told b) notes)
-hear-follows b [] = tt
-hear-follows b (note ∷ notes) = refl
-
--- after a scan, where there is news
-abbrev scanned_in : Page → Bool → Option Page
-scanned_in b false = None
-scanned_in b true =
-    let closed = closed_set b.state.detector in
-    Some (record {
-      state = record b.state { detector = after_scan b.state.detector closed };
-      places = asked_told closed (suc b.state.detector.opened) b.places;
-    })
-
-scan-follows : (b : Page) (news : Bool) → Follows (scanned_in b news) (if news then scan (state_told b) else NotEnabled)
-scan-follows b false = tt
-scan-follows b true =
-    let closed = closed_set b.state.detector in
-    ap (λ actors. Goes (record (state_told b) { actors = actors; detector = after_scan b.state.detector closed })) (ask_all-told closed (suc b.state.detector.opened) b.places)
-
--- what a member held on things whose owners are not in the set
-abbrev outside_told : List ℕ → Option Place → List Amount
-outside_told members None = []
-outside_told members (Some o) = back_told (λ x. has members (owner_of x)) o.ledger
-
-held_outside-told : (members : List ℕ) (o : Option Place) → held_outside members (seat_told o) ≡ outside_told members o
-held_outside-told members None = refl
-held_outside-told members (Some o) = given_back-told (λ x. has members (owner_of x)) o.ledger
-
--- without these
-abbrev emptied_told : List ℕ → Places → Places
-emptied_told [] places = places
-emptied_told (a ∷ rest) places = emptied_told rest (set places a None)
-
-empty_seats-told : (members : List ℕ) (places : Places) → empty_seats members (seats_told places) ≡ seats_told (emptied_told members places)
-unfolding empty_seats
-empty_seats-told [] places = refl
-empty_seats-told (a ∷ rest) places = ap (empty_seats rest) (set-told places a None None refl) ∙ empty_seats-told rest (set places a None)
-
--- the Decs that go out for the rest
-abbrev reap_decs_told : List ℕ → List ℕ → Places → List (ℕ × List Amount)
-reap_decs_told members [] places = []
-reap_decs_told members (a ∷ rest) places = by_owner (outside_told members (place_at places a)) ++ reap_decs_told members rest (set places a None)
-
-reap_decs-told : (members rest : List ℕ) (places : Places) → reap_decs members rest (seats_told places) ≡ reap_decs_told members rest places
-unfolding reap_decs
-reap_decs-told members [] places = refl
-reap_decs-told members (a ∷ rest) places =
-    (λ i. by_owner ((ap (held_outside members) (seat_at-told places a) ∙ held_outside-told members (place_at places a)) i)
-    ++ reap_decs members rest (set-told places a None None refl i))
-    ∙ ap (λ decs. by_owner (outside_told members (place_at places a)) ++ decs) (reap_decs-told members rest (set places a None))
-
--- without these members, and with the Decs that go out
-abbrev reaped_told : List ℕ → Places → Places
-reaped_told members places = decs_told (reap_decs_told members members places) (emptied_told members places)
-
-reaped-told : (members : List ℕ) (places : Places) → reap_members members (seats_told places) ≡ seats_told (reaped_told members places)
-reaped-told members places =
-    (λ i. push_decs (reap_decs-told members members places i) (empty_seats-told members places i))
-    ∙ push_decs-told (reap_decs_told members members places) (emptied_told members places)
-
--- after a reap of the token that is found
-abbrev reaped_in : Page → Option Token → Option Page
-reaped_in b None = None
-reaped_in b (Some token) = Some (record {
-  state = record b.state { detector = close_token token b.state.detector };
-  places = reaped_told token.members b.places;
-})
-
-reap-follows : (b : Page) (found : Option Token) → Follows (reaped_in b found) (option_map_or (reap (state_told b)) found NotEnabled)
-reap-follows b None = tt
-reap-follows b (Some token) =
-    ap (λ actors. Goes (record (state_told b) { actors = actors; detector = close_token token b.state.detector })) (reaped-told token.members b.places)
-
 -- ---- leave
 
 -- after a leave
@@ -541,7 +432,7 @@ after_all [] b = b
 after_all (e ∷ events) None = None
 after_all (e ∷ events) (Some b) = after_all events (next_page b e)
 
-none_after : (events : List Event) (c : Page) → after_all events None ≡ Some c → ⊥
+none_after : (events : List Event) (c : Page) → after_all events None ≢ Some c
 none_after [] c h = cc
 none_after (e ∷ events) c h = cc
 

@@ -1,10 +1,12 @@
 pub mod Brought
+pub mod DetectorSteps
 pub mod ExampleRuns
 pub mod FurtherRuns
 pub mod InOrder
 pub mod LedgerSteps
 pub mod Ledgers
 pub mod OneWorker
+pub mod Pages
 pub mod Places
 pub mod RootsRuns
 pub mod SmallRuns

@@ -1,5 +1,6 @@
 -- The books with root-only tracing are runs, by computation.
 use Rattle.std.proofs.Common.{◌≡◌, ◌↔◌, ◌⊎◌, ℕ, zero, suc, cond, true, false, [], ◌∷◌, Some, None, is_some, inl, inr, refl, ap, sym, ◌∙◌, subst, arith}
+use Rattle.std.specs.Prelude.{⊤}
 use Rattle.std.proofs.lemmas.Bool.{false≢true}
 use Rattle.std.specs.Cmp.{nat_cmp_is}
 use Rattle.std.specs.FinMap as m
@@ -12,7 +13,8 @@ use Rattle.reach_walk.specs.Marks.{led_to, marks_of}
 use Rattle.letter_kinds.specs.Counting.{by_owner}
 use Rattle.letter_kinds.specs.Sums.{amount_of, dec_of, inc_of, load_count, times_loaded}
 use Rattle.machine_examples.proofs.ExampleRuns.{IsStill, still_quiet}
-use Rattle.machine_examples.proofs.LedgerSteps.{Page, after_all, first_page, state_told}
+use Rattle.machine_examples.proofs.LedgerSteps.{after_all}
+use Rattle.machine_examples.proofs.Pages.{Page, first_page, state_told}
 use Rattle.machine_examples.proofs.Places.{Places, seats_told}
 use Rattle.machine_examples.proofs.SmallRuns.{turned, turned_leads}
 use Rattle.machine_examples.proofs.Telling.{is_left_told, left-told, tally-told}
@@ -44,7 +46,7 @@ deep_first = first_page is_held_by_its_own usual
 deep_last : Page
 deep_last = turned holding_deep deep_first
 
-holding_computed : Unit {0}
+holding_computed : ⊤
 unfolding led_to marks_of by_owner amount_of times_loaded inc_of dec_of load_count holding_first holding_sent holding_last deep_first deep_last
 holding_computed = tt
 
@@ -173,7 +175,7 @@ getting_minted = turned (Go 1 ∷ []) getting_taken
 getting_last : Page
 getting_last = turned from_the_mint getting_minted
 
-getting_computed : Unit {0}
+getting_computed : ⊤
 unfolding led_to marks_of by_owner amount_of times_loaded inc_of dec_of load_count getting_first getting_taken getting_minted getting_last
 getting_computed = tt
 
@@ -258,7 +260,7 @@ looking_asked = turned up_to_the_look looking_first
 looking_last : Page
 looking_last = turned from_the_look looking_asked
 
-looking_computed : Unit {0}
+looking_computed : ⊤
 unfolding led_to marks_of by_owner amount_of times_loaded inc_of dec_of load_count looking_first looking_asked looking_last
 looking_computed = tt
 

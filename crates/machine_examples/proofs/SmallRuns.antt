@@ -1,5 +1,6 @@
 -- The small books are runs, by computation.
 use Rattle.std.proofs.Common.{◌≡◌, ℕ, zero, suc, true, List, [], ◌∷◌, Some, None, is_some, refl, sym, subst}
+use Rattle.std.specs.Prelude.{⊤}
 use Rattle.orca_names.specs.Names.{owner_of}
 use Rattle.orca_names.specs.declared.names.Thing.{Thing}
 use Rattle.event_rule.specs.declared.event.Event.{Event}
@@ -7,7 +8,8 @@ use Rattle.event_rule.specs.declared.event.Event.TheVariants.{Take, Go, Collect,
 use Rattle.reach_walk.specs.Marks.{led_to, marks_of}
 use Rattle.letter_kinds.specs.Counting.{by_owner}
 use Rattle.machine_examples.proofs.ExampleRuns.{IsStill, page_or, page_there, still_quiet}
-use Rattle.machine_examples.proofs.LedgerSteps.{Page, first_page, after_all, after_all-leads, state_told}
+use Rattle.machine_examples.proofs.LedgerSteps.{after_all, after_all-leads}
+use Rattle.machine_examples.proofs.Pages.{Page, first_page, state_told}
 use Rattle.machine_examples.proofs.Places.{seats_told}
 use Rattle.machine_rules.specs.Actors.{Actors, seat_at}
 use Rattle.machine_examples.specs.Examples.{usual}
@@ -24,7 +26,7 @@ pub turned_leads : (book : List Event) (b : Page) → is_some (after_all book (S
 turned_leads book b goes = after_all-leads book b (turned book b) (page_there b _ goes)
 
 -- where all actors are gone nothing is left
-pub none_left : (actors : Actors) → ((a : ℕ) → seat_at actors a ≡ None) → (x : Thing) → IsLeft actors x → ⊥
+pub none_left : (actors : Actors) → ((a : ℕ) → seat_at actors a ≡ None) → (x : Thing) → ¬ IsLeft actors x
 none_left actors gone x left = let e = gone (owner_of x) in let p = left.present in cc
 
 -- ---- the first actor leaves at once
@@ -35,7 +37,7 @@ nothing_first = first_page starts_nothing usual
 nothing_last : Page
 nothing_last = turned (Leave 0 ∷ []) nothing_first
 
-nothing_computed : Unit {0}
+nothing_computed : ⊤
 unfolding led_to marks_of by_owner nothing_first nothing_last
 nothing_computed = tt
 
@@ -75,7 +77,7 @@ one_heard = turned up_to_the_unblock one_scanned
 one_last : Page
 one_last = turned both_go one_heard
 
-one_computed : Unit {0}
+one_computed : ⊤
 unfolding led_to marks_of by_owner one_first one_scanned one_heard one_last
 one_computed = tt
 
@@ -141,7 +143,7 @@ two_twice = turned (Go 3 ∷ []) two_once
 two_last : Page
 two_last = turned (Take 1 ∷ Collect 1 ∷ Go 3 ∷ []) two_twice
 
-two_computed : Unit {0}
+two_computed : ⊤
 unfolding led_to marks_of by_owner two_first two_once two_twice two_last
 two_computed = tt
 
@@ -191,7 +193,7 @@ giving_first = first_page gives_an_object usual
 giving_last : Page
 giving_last = turned giving_book giving_first
 
-giving_computed : Unit {0}
+giving_computed : ⊤
 unfolding led_to marks_of by_owner giving_first giving_last
 giving_computed = tt
 

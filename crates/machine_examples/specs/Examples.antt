@@ -85,7 +85,7 @@ pub record TwoHoldEachOtherAndGo : Type 0 where
   pub run : IsRun two_hold_each_other usual (two_up_to_the_ping ++ two_to_the_end) last
   pub prints : last.prints ≡ Num 1 ∷ []
   pub made : length last.actors ≡ 3
-  pub nothing_left : (x : Thing) → IsLeft last.actors x → ⊥
+  pub nothing_left : (x : Thing) → ¬ IsLeft last.actors x
   pub quiet : IsQuiet next last
 
 -- ---- an object is passed on

@@ -82,5 +82,5 @@ pub record AnUnblockOutlivesItsActor : Type 0 where
   pub withdrawn : heard.detector.kept ≡ []
   pub last : State
   pub to_the_end : Leads next heard (Leave 0 ∷ Scan ∷ []) last
-  pub nothing_left : (x : Thing) → IsLeft last.actors x → ⊥
+  pub nothing_left : (x : Thing) → ¬ IsLeft last.actors x
   pub quiet : IsQuiet next last

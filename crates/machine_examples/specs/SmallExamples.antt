@@ -35,7 +35,7 @@ starts_nothing = record { kinds = record { name = 0; fields = 0; behaviours = []
 pub record TheFirstLeavesAtOnce : Type 0 where
   pub last : State
   pub run : IsRun starts_nothing usual (Leave 0 ∷ []) last
-  pub nothing_left : (x : Thing) → IsLeft last.actors x → ⊥
+  pub nothing_left : (x : Thing) → ¬ IsLeft last.actors x
   pub quiet : IsQuiet next last
 
 -- ---- a fresh actor begins clean; a scan may find nothing; an Unblock cancels its own tokens alone
@@ -81,7 +81,7 @@ pub record AnUnblockCancelsItsOwn : Type 0 where
   pub token : heard.detector.tokens ≡ record { number = 1; members = 0 ∷ []; acked = [] } ∷ []
   pub last : State
   pub to_the_end : Leads next heard both_go last
-  pub nothing_left : (x : Thing) → IsLeft last.actors x → ⊥
+  pub nothing_left : (x : Thing) → ¬ IsLeft last.actors x
   pub quiet : IsQuiet next last
 
 -- ---- a mint is for the lowest owner first; an increment makes its taker dirty

@@ -1,13 +1,13 @@
 -- Where a run ends quiet, exactly what is reachable is left, and the detector rests.
-use Rattle.std.specs.Prelude.{◌↔◌}
-use Rattle.std.proofs.Common.{◌≡◌, ◌≢◌, ℕ, zero, suc, ◌<◌, true, Option, Some, None, List, [], ◌∷◌, refl, sym, ap, subst, ◌∙◌, arith, inl}
+use Rattle.std.specs.Prelude.{◌↔◌, Contains}
+use Rattle.std.proofs.Common.{◌≡◌, ◌≢◌, ℕ, zero, suc, ◌<◌, true, Option, Some, None, List, [], ◌∷◌, refl, sym, ap, subst, ◌∙◌, arith}
 use Rattle.std.proofs.lemmas.Bool.{false≢true}
 use Rattle.orca_names.specs.declared.names.Thing.{Thing}
 use Rattle.orca_names.specs.declared.names.Thing.TheVariants.{Actor}
 use Rattle.reach_walk.specs.Reach.{thing_row}
 use Rattle.letter_kinds.specs.Detector.{Token}
 use Rattle.letter_kinds.specs.Holdings.{held_in}
-use Rattle.letter_kinds.specs.Reports.{report_of}
+use Rattle.letter_kinds.specs.Reports.{kept_report}
 use Rattle.letter_kinds.specs.declared.letter.Letter.{Letter}
 use Rattle.letter_kinds.specs.declared.note.Report.{Report}
 use Rattle.count_laws.proofs.rest.Needs.{AllNeeded, IsNeeded, is_held, is_pinned, left_is_exact}
@@ -28,10 +28,10 @@ use Rattle.orca_names.specs.declared.trace.Trace.{Trace}
 use Rattle.orca_names.specs.declared.trace.Trace.TheVariants.{Deep}
 use Rattle.orca_names.specs.declared.trace.Trace.TheVariants as trace
 use Rattle.machine_rules.specs.State.{State}
+use Rattle.reach_walk.proofs.Elements.{Contains-head}
 use Rattle.detector_laws.proofs.Cells.{same_some, some_not_none}
 use Rattle.detector_laws.proofs.Quiet.{no_token}
 use Rattle.detector_laws.specs.Cells.{held_on}
-use Rattle.detector_laws.specs.Members.{In}
 use Rattle.detector_laws.specs.Quiet as view
 use Rattle.detector_laws.specs.Reports.{IsAsTold, IsReportOf, told_by_kept, told_of}
 use Rattle.machine_laws.proofs.Quieting.{quiet_reached, quiet_world}
@@ -91,21 +91,21 @@ quiet_by_roots program options heavy roots book t run quiet =
 
 -- ---- the detector
 
-none_open : (tokens : List Token) → ((t : Token) → In t tokens → ⊥) → tokens ≡ []
+none_open : (tokens : List Token) → ((t : Token) → ¬ Contains tokens t) → tokens ≡ []
 none_open [] none = refl
-none_open (t ∷ tokens) none = absurd (none t (inl refl))
+none_open (t ∷ tokens) none = absurd (none t (Contains-head t tokens))
 
 module _ (trace : Trace) (s : State) (p : PlainState) (facts : AllFacts trace p s) (quiet : IsQuiet next s) where
   rests : view.IsQuiet (world s)
   rests = quiet_world s quiet facts.detector
 
-  told : (a : ℕ) (c : Cell) (mail : List Letter) → seat_at s.actors a ≡ seat c mail → IsAsTold (Some c) a (told_by_kept (report_of s.detector.kept a))
+  told : (a : ℕ) (c : Cell) (mail : List Letter) → seat_at s.actors a ≡ seat c mail → IsAsTold (Some c) a (told_by_kept (kept_report s.detector.kept a))
   told a c mail at =
-      subst (λ o. IsAsTold (cell_of o) a (told_by_kept (report_of s.detector.kept a))) at
+      subst (λ o. IsAsTold (cell_of o) a (told_by_kept (kept_report s.detector.kept a))) at
       (subst (λ notes. IsAsTold (cell_at s.actors a) a (told_of a s.detector.kept notes)) rests.heard (facts.detector.reports.last a))
 
-  kept : (a : ℕ) (c : Cell) → c.reported ≡ true → (found : Option Report) → report_of s.detector.kept a ≡ found → IsAsTold (Some c) a (told_by_kept found)
-      → (r : Report) × (report_of s.detector.kept a ≡ Some r) × IsReportOf a c r
+  kept : (a : ℕ) (c : Cell) → c.reported ≡ true → (found : Option Report) → kept_report s.detector.kept a ≡ found → IsAsTold (Some c) a (told_by_kept found)
+      → (r : Report) × (kept_report s.detector.kept a ≡ Some r) × IsReportOf a c r
   kept a c out None is unreported = absurd (false≢true (sym unreported ∙ out))
   kept a c out (Some r) is (blocked, exact) = (r, is, subst (λ c. IsReportOf a c r) (same_some blocked.here refl) exact)
 
@@ -114,7 +114,7 @@ module _ (trace : Trace) (s : State) (p : PlainState) (facts : AllFacts trace p 
     notes = rests.heard;
     news = rests.scanned;
     tokens = none_open s.detector.tokens (no_token (world s) rests facts.detector.tokens);
-    reports = λ a c mail at free. kept a c (rests.told a c (ap cell_of at) free) (report_of s.detector.kept a) refl (told a c mail at);
+    reports = λ a c mail at free. kept a c (rests.told a c (ap cell_of at) free) (kept_report s.detector.kept a) refl (told a c mail at);
   }
 
 pub detector_at_quiet : DetectorRestsAtQuiet

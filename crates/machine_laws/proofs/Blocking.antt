@@ -35,7 +35,7 @@ use Rattle.detector_laws.specs.World as view
 use Rattle.machine_laws.proofs.Collecting.{same_loads}
 use Rattle.machine_laws.proofs.HeldActors.{count_on-held_actors}
 use Rattle.machine_laws.proofs.Seen.{world_of}
-use Rattle.machine_rules.proofs.Guards.{MayReport}
+use Rattle.machine_rules.proofs.Guards.{MayReport, reporter}
 
 -- the actor has its report out
 abbrev pub reporting : Cell → Cell
@@ -78,10 +78,7 @@ module _ (s : Actors) (a : ℕ) (c : Cell) (ls : List Letter) (at : seat_at s a 
   can_block d ns may = record {
     here = ap cell_of at;
     made = within;
-    quiet = may.unreported;
-    unpinned = may.unpinned;
-    clean = may.rest.clean;
-    idle = may.rest.idle;
+    may = reporter c [] (record { rest = record { idle = may.rest.idle; clean = may.rest.clean; empty = refl }; unpinned = may.unpinned; unreported = may.unreported });
     exact = record { actor = refl; count = refl; held = count_on-held_actors c.holdings };
   }
 
@@ -92,7 +89,7 @@ module _ (s : Actors) (a : ℕ) (c : Cell) (ls : List Letter) (at : seat_at s a 
   mine = get_or-set_same s a (seat (reporting c) ls) None within
 
   pub block_is : (d : Detector) (ns : List Note)
-      → world_of (set s a (seat (reporting c) ls)) d (ns ++ Block a c.holdings.count (held_actors c.holdings) ∷ []) ≡ view.block (world_of s d ns) a c (report_of_cell a c)
+      → world_of (set s a (seat (reporting c) ls)) d (ns ++ Block a c.holdings.count (held_actors c.holdings) ∷ []) ≡ view.block_in_world (world_of s d ns) a c (report_of_cell a c)
   block_is d ns =
       let s1 = set s a (seat (reporting c) ls) in
       let made : length s1 ≡ length s = length-set s a (seat (reporting c) ls) in

@@ -1,18 +1,18 @@
 -- Whether an event that is no choice is enabled can be found out.
-use Rattle.std.proofs.Common.{◌≡◌, ◌⊎◌, ℕ, zero, suc, ◌≤◌, ◌<◌, Bool, true, false, Option, Some, None, List, [], ◌∷◌, length, refl, ap, sym, subst, ◌∙◌, arith, inl, inr, ⊎_elim}
+use Rattle.std.proofs.Common.{◌≡◌, ◌≢◌, ◌⊎◌, ℕ, zero, suc, ◌≤◌, ◌<◌, Bool, true, false, Option, Some, None, List, [], ◌∷◌, length, refl, ap, sym, subst, ◌∙◌, arith, inl, inr, ⊎_elim, Contains}
 use Rattle.std.proofs.lemmas.Bool.{cases_eq, cases_lt, false≢true}
 use Rattle.std.proofs.lemmas.List.{get_or_past}
 use Rattle.event_rule.specs.declared.event.Event.{Event}
 use Rattle.event_rule.specs.declared.event.Event.TheVariants.{Take, Go, Collect, Leave, Block, Hear, Scan, Reap}
-use Rattle.letter_kinds.specs.Detector.{Token, token_numbered}
+use Rattle.letter_kinds.specs.Detector.{Token}
 use Rattle.event_rule.proofs.Steps.{not_enabled}
 use Rattle.machine_rules.specs.Actors.{seat_at}
 use Rattle.event_rule.specs.Runs.{Step, NotEnabled, IsFull, Goes}
 use Rattle.machine_rules.specs.Next.{next, acting}
 use Rattle.machine_rules.specs.Run.{is_choice}
 use Rattle.machine_rules.specs.State.{State}
+use Rattle.detector_laws.proofs.Members.{first_or_later, none_in_empty}
 use Rattle.detector_laws.proofs.Named.{numbered_is_open}
-use Rattle.detector_laws.specs.Members.{In}
 use Rattle.std.specs.Option.{option_map_or}
 use Rattle.machine_rules.specs.Block.{block}
 use Rattle.machine_rules.specs.Collect.{collect}
@@ -33,10 +33,10 @@ module _ (s : State) where
 
   -- ---- one event
 
-  calm_or_not : (e : Event) → SomeCalm ⊎ (IsCalm s e → ⊥)
+  calm_or_not : (e : Event) → SomeCalm ⊎ (¬ IsCalm s e)
   calm_or_not e = by_step (next s e) (is_choice s e) refl refl
     where
-      by_step : (step : Step State) (choice : Bool) → next s e ≡ step → is_choice s e ≡ choice → SomeCalm ⊎ (IsCalm s e → ⊥)
+      by_step : (step : Step State) (choice : Bool) → next s e ≡ step → is_choice s e ≡ choice → SomeCalm ⊎ (¬ IsCalm s e)
       by_step (Goes t) false goes calm = inl (e, (t, goes, calm))
       by_step (Goes t) true goes chosen = inr (λ k. false≢true (sym k.2 ∙ chosen))
       by_step NotEnabled choice off is = inr (λ k. not_enabled k.0 (sym off ∙ k.1))
@@ -45,7 +45,7 @@ module _ (s : State) where
   -- ---- the events of an actor
 
   abbrev NoneOfActor : ℕ → Type 0
-  NoneOfActor a = (IsCalm s (Take a) → ⊥) × (IsCalm s (Go a) → ⊥) × (IsCalm s (Collect a) → ⊥) × (IsCalm s (Leave a) → ⊥) × (IsCalm s (Block a) → ⊥)
+  NoneOfActor a = (¬ IsCalm s (Take a)) × (¬ IsCalm s (Go a)) × (¬ IsCalm s (Collect a)) × (¬ IsCalm s (Leave a)) × (¬ IsCalm s (Block a))
 
   of_actor : (a : ℕ) → SomeCalm ⊎ NoneOfActor a
   of_actor a =
@@ -73,16 +73,16 @@ module _ (s : State) where
 
   -- ---- reaps
 
-  of_tokens : (tokens : List Token) → SomeCalm ⊎ ((t : Token) → In t tokens → IsCalm s (Reap t.number) → ⊥)
-  of_tokens [] = inr (λ t i. absurd i)
+  of_tokens : (tokens : List Token) → SomeCalm ⊎ ((t : Token) → Contains tokens t → ¬ IsCalm s (Reap t.number))
+  of_tokens [] = inr (λ t i. absurd (none_in_empty t i))
   of_tokens (u ∷ tokens) =
-      ⊎_elim inl (λ first. ⊎_elim inl (λ later. inr (λ t i. ⊎_elim (λ same. subst (λ (x : Token). IsCalm s (Reap x.number) → ⊥) (sym same) first) (later t) i)) (of_tokens tokens)) (calm_or_not (Reap u.number))
+      ⊎_elim inl (λ first. ⊎_elim inl (λ later. inr (λ t i. ⊎_elim (λ same. subst (λ (x : Token). ¬ IsCalm s (Reap x.number)) (sym same) first) (later t) (first_or_later u tokens t i))) (of_tokens tokens)) (calm_or_not (Reap u.number))
 
   -- only an open token is reaped
-  no_reap : ((t : Token) → In t s.detector.tokens → IsCalm s (Reap t.number) → ⊥) → (number : ℕ) → IsCalm s (Reap number) → ⊥
+  no_reap : ((t : Token) → Contains s.detector.tokens t → ¬ IsCalm s (Reap t.number)) → (number : ℕ) → ¬ IsCalm s (Reap number)
   no_reap none number k = by_found (acked_token number s.detector) refl
     where
-      by_found : (found : Option Token) → acked_token number s.detector ≡ found → ⊥
+      by_found : (found : Option Token) → acked_token number s.detector ≢ found
       by_found None at = not_enabled k.0 (sym (ap (λ found. option_map_or (reap s) found NotEnabled) at) ∙ k.1)
       by_found (Some t) at =
           let is_open = numbered_is_open s.detector number t (acked_open number s.detector t at).0 in
@@ -90,7 +90,7 @@ module _ (s : State) where
 
   -- ---- all events
 
-  none_left : ((a : ℕ) → NoneOfActor a) → (IsCalm s Hear → ⊥) → (IsCalm s Scan → ⊥) → ((number : ℕ) → IsCalm s (Reap number) → ⊥) → (e : Event) → IsCalm s e → ⊥
+  none_left : ((a : ℕ) → NoneOfActor a) → ¬ IsCalm s Hear → ¬ IsCalm s Scan → ((number : ℕ) → ¬ IsCalm s (Reap number)) → (e : Event) → ¬ IsCalm s e
   none_left actors hears scans reaps (Take a) = (actors a).0
   none_left actors hears scans reaps (Go a) = (actors a).1
   none_left actors hears scans reaps (Collect a) = (actors a).2
@@ -100,7 +100,7 @@ module _ (s : State) where
   none_left actors hears scans reaps Scan = scans
   none_left actors hears scans reaps (Reap number) = reaps number
 
-  pub some_or_none : ((e : Event) × IsCalm s e) ⊎ ((e : Event) → IsCalm s e → ⊥)
+  pub some_or_none : ((e : Event) × IsCalm s e) ⊎ ((e : Event) → ¬ IsCalm s e)
   some_or_none =
       ⊎_elim inl (λ actors. ⊎_elim inl (λ hears. ⊎_elim inl (λ scans. ⊎_elim inl (λ tokens. inr (none_left (none_of actors) hears scans (no_reap tokens)))
       (of_tokens s.detector.tokens)) (calm_or_not Scan)) (calm_or_not Hear)) (of_actors (length s.actors))

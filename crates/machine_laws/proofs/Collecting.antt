@@ -1,5 +1,6 @@
 -- A collect, as the detector's laws see it.
 use Rattle.std.proofs.Common.{◌≡◌, ◌≢◌, ℕ, ◌<◌, ◌≤◌, Bool, true, false, cond, ◌==◌, eq-eqb, None, List, [], ◌∷◌, set, refl, ap, sym, subst, ◌∙◌, arith, inl, inr, ⊎_elim, get_or-set_other}
+use Rattle.std.specs.Prelude.{⊤}
 use Rattle.orca_names.specs.Names.{owner_of}
 use Rattle.orca_names.specs.declared.names.Thing.{Thing}
 use Rattle.orca_names.specs.declared.names.Thing.TheVariants.{Actor}
@@ -25,6 +26,7 @@ use Rattle.detector_laws.specs.Events.{Moves}
 use Rattle.machine_laws.proofs.Moving.{Adds, adds_none, adds_then, adds_push, push_other, push_loads, moves}
 use Rattle.machine_laws.proofs.Noted.{noted}
 use Rattle.machine_laws.proofs.Seen.{world_of}
+use Rattle.count_laws.proofs.balance.Sends.{cond_zero}
 
 -- who holds a thing knows its owner
 abbrev pub HoldsOwners : ℕ → Cell → Type 0
@@ -35,10 +37,10 @@ pub owner_held : (a : ℕ) (c : Cell) → HoldsOwners a c → (x : Thing) → 0 
 owner_held a c owners x h n = ⊎_elim (λ own. absurd (n own.0)) (λ held. held.1) (owners x h)
 
 abbrev pub NotTo : ℕ → List (ℕ × List (Thing × ℕ)) → Type 0
-NotTo b [] = Unit {0}
+NotTo b [] = ⊤
 NotTo b (g ∷ gs) = (b ≢ g.0) × NotTo b gs
 
-pub not_to : (b : ℕ) (gs : List (ℕ × List (Thing × ℕ))) → Firm gs → ((x : Thing) → owner_of x ≡ b → 0 < owed gs x → ⊥) → NotTo b gs
+pub not_to : (b : ℕ) (gs : List (ℕ × List (Thing × ℕ))) → Firm gs → ((x : Thing) → owner_of x ≡ b → ¬ (0 < owed gs x)) → NotTo b gs
 unfolding owed
 not_to b [] f h = tt
 not_to b (g ∷ gs) f h = (
@@ -80,17 +82,13 @@ collect_moves marked s d ns a c c0 ls at same still dirty awake firm owners =
     moves s (push_decs gs s1) d ns a c (swept marked a c0) ls ls at (decs_adds gs s1) [] refl (still ∙ awake) (inr (inl dirty))
     (λ b n h. ap letters_of (decs_quiet b gs s1 (not_to b gs (firm_groups _ (firm_counted marked c0.holdings (subst IsFirm (sym same) firm))) (λ x o p. unowed b n h x o (omega (arith, owed-groups (given_back marked c0.holdings) x)))) ∙ get_or-set_other s a b (seat (swept marked a c0) ls) None n))
     (λ b n h u. omega (arith, u, decs_loads (Actor b) gs s1, same_loads s a c (swept marked a c0) ls at (Actor b)))
-    (λ b n h u. held-sweep marked a c0.holdings (Actor b) ∙ none (marked (Actor b)) (held_in c0.holdings (Actor b)) (ap (λ k. held_in k (Actor b)) same ∙ h))
+    (λ b n h u. held-sweep marked a c0.holdings (Actor b) ∙ cond_zero (marked (Actor b)) (held_in c0.holdings (Actor b)) (ap (λ k. held_in k (Actor b)) same ∙ h))
   where
-    none : (q : Bool) (n : ℕ) → n ≡ 0 → cond q n 0 ≡ 0
-    none true n h = h
-    none false n h = refl
-
     some : (q : Bool) (n : ℕ) → 0 < cond q 0 n → 0 < n
     some true n h = absurd (omega arith)
     some false n h = h
 
-    unowed : (b : ℕ) → b ≢ a → held_in c.holdings (Actor b) ≡ 0 → (x : Thing) → owner_of x ≡ b → 0 < amount_of x (given_back marked c0.holdings) → ⊥
+    unowed : (b : ℕ) → b ≢ a → held_in c.holdings (Actor b) ≡ 0 → (x : Thing) → owner_of x ≡ b → ¬ (0 < amount_of x (given_back marked c0.holdings))
     unowed b n h x o p =
         let held = some (marked x) (held_in c0.holdings x) (subst (λ (k : ℕ). 0 < k) (amount-given_back marked c0.holdings x) p) in
         let up : 0 < held_in c.holdings (Actor (owner_of x)) = owner_held a c owners x (subst (λ k. 0 < held_in k x) same held) (λ e. n (sym o ∙ e)) in

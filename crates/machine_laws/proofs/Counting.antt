@@ -28,9 +28,9 @@ use Rattle.event_rule.specs.Runs.{Leads}
 use Rattle.machine_rules.specs.Next.{next}
 use Rattle.plain_rules.specs.Machine.{PlainState, start_of}
 use Rattle.machine_rules.specs.State.{State, first_state}
-use Rattle.detector_laws.proofs.Members.{In_each}
-use Rattle.detector_laws.proofs.Order.{In_report_of}
-use Rattle.detector_laws.specs.Reports.{AllAbove, ExactReports, IsRising}
+use Rattle.detector_laws.proofs.Members.{contained_each}
+use Rattle.detector_laws.proofs.Order.{AllAbove, kept_report-contained, rising_parts}
+use Rattle.detector_laws.specs.Reports.{ExactReports, IsRising}
 use Rattle.machine_laws.proofs.Telling.{event_tells, told_by_all, told_weaker}
 use Rattle.machine_laws.proofs.WholeRuns.{event_keeps, run_has_facts, start_all}
 use Rattle.machine_laws.specs.AllFacts.{AllFacts}
@@ -113,16 +113,17 @@ leads_tell trace (e ∷ book) p s t bound facts own most told (u, goes, leads) =
 
 -- a report that is kept is of an actor that was made
 made_all : (made : ℕ) (cell : ℕ → Option Cell) (kept : List Report) (notes : List Note) → ExactReports made cell kept notes → IsRising kept → AllByRecursion (λ r. r.actor < made) kept
-made_all made cell kept notes exact rising = In_each (λ r. r.actor < made) kept (λ r is. ⊎_elim
+made_all made cell kept notes exact rising = contained_each (λ r. r.actor < made) kept (λ r is. ⊎_elim
     (λ below. below)
-    (λ past. let none = (exact.unmade r.actor past).0 in let some = In_report_of kept r rising is in cc)
+    (λ past. let none = (exact.unmade r.actor past).0 in let some = kept_report-contained kept r rising is in cc)
     (cases_lt r.actor made))
 
 rising_length : (low made : ℕ) (rs : List Report) → low ≤ made → AllByRecursion (λ r. low ≤ r.actor) rs → AllByRecursion (λ r. r.actor < made) rs → IsRising rs → low + length rs ≤ made
 rising_length low made [] fits above below rising = omega arith
 rising_length low made (r ∷ rs) fits above below rising =
     let here = above.0 in let there = below.0 in
-    let later = rising_length (suc r.actor) made rs (omega arith) (higher r.actor rs rising.0) below.1 rising.1 in
+    let (first, rest) = rising_parts r rs rising in
+    let later = rising_length (suc r.actor) made rs (omega arith) (higher r.actor rs first) below.1 rest in
     omega arith
   where
     higher : (a : ℕ) (ks : List Report) → AllAbove a ks → AllByRecursion (λ k. suc a ≤ k.actor) ks

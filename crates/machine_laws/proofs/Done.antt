@@ -26,15 +26,15 @@ use Rattle.machine_rules.proofs.Guards.{acked_open, collector, framed, leaver, m
 use Rattle.turn_rules.specs.declared.act.Frame.{Frame}
 
 -- what can't happen is not enabled
-off : (s : State) (e : Event) → (CanHappen s e → ⊥) → next s e ≡ NotEnabled
+off : (s : State) (e : Event) → ¬ CanHappen s e → next s e ≡ NotEnabled
 off s e never = by_step (next s e) (λ on. never ((enabled_exactly s e).0 on))
   where
-    by_step : (step : Step State) → (step ≢ NotEnabled → ⊥) → step ≡ NotEnabled
+    by_step : (step : Step State) → ¬ (step ≢ NotEnabled) → step ≡ NotEnabled
     by_step NotEnabled h = refl
     by_step IsFull h = absurd (h (λ e. cc))
     by_step (Goes t) h = absurd (h (λ e. cc))
 
-none_some : (f : Frame) → None ≡ Some f → ⊥
+none_some : (f : Frame) → None ≢ Some f
 none_some f e = cc
 
 module _ (s : State) (a : ℕ) (c : Cell) (at : seat_at s.actors a ≡ seat c []) (reported : c.reported ≡ true) (idle : c.frame ≡ None) (clean : c.dirty ≡ false) where
@@ -42,7 +42,7 @@ module _ (s : State) (a : ℕ) (c : Cell) (at : seat_at s.actors a ≡ seat c []
   there : (d : Cell) (mail : List Letter) → seat_at s.actors a ≡ seat d mail → (c ≡ d) × ([] ≡ mail)
   there d mail now = some_seat c d [] mail (sym at ∙ now)
 
-  never : (e : Event) → actor_of e ≡ Some a → CanHappen s e → ⊥
+  never : (e : Event) → actor_of e ≡ Some a → ¬ CanHappen s e
   never (Take b) mine (d, mail, now, may) =
       let same : b ≡ a = cc in (taker d mail may).1 (sym (there d mail (ap (seat_at s.actors) (sym same) ∙ now)).1)
   never (Go b) mine (d, mail, now, may) =

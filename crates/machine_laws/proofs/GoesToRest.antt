@@ -1,5 +1,5 @@
 -- A run can go on to where only choices are enabled, and is quiet there if the plain machine is.
-use Rattle.std.proofs.Common.{◌≡◌, ◌&&◌, ℕ, zero, suc, ◌≤◌, nat_lt, Bool, true, false, if◌then◌else◌, List, [], ◌∷◌, length, refl, ap, sym, subst, ◌∙◌, arith, ⊎_elim}
+use Rattle.std.proofs.Common.{◌≡◌, ◌≢◌, ◌&&◌, ℕ, zero, suc, ◌≤◌, nat_lt, Bool, true, false, if◌then◌else◌, List, [], ◌∷◌, length, refl, ap, sym, subst, ◌∙◌, arith, ⊎_elim}
 use Rattle.std.proofs.lemmas.Bool.{cases_Bool}
 use Rattle.std.specs.Prelude.{is_none}
 use Rattle.event_rule.specs.declared.event.Event.{Event}
@@ -33,7 +33,7 @@ no_choices e later s t calm goes none =
 
 -- at the end no event is calm
 abbrev GoesOn : State → Type 0
-GoesOn s = (later : List Event) × (t : State) × Leads next s later t × (choices later s ≡ []) × ((e : Event) → IsCalm t e → ⊥)
+GoesOn s = (later : List Event) × (t : State) × Leads next s later t × (choices later s ≡ []) × ((e : Event) → ¬ IsCalm t e)
 
 goes_on : (trace : Trace) (work : ℕ) (p : PlainState) (s : State) → AllFacts trace p s → work_left s ≤ work → GoesOn s
 goes_on trace zero p s facts enough = ⊎_elim
@@ -58,7 +58,7 @@ full_is_choice s e r =
     ∙ (λ i. is_none (r.held i)
     && act_is_choice s.options.trace r.actor (with_made (turn_of_cell s.options.trace s.program r.actor r.cell r.frame).turn.made r.cell.holdings) (r.makes i))))
 
-waits : (s : State) → ((e : Event) → IsCalm s e → ⊥) → AwaitsChoices s
+waits : (s : State) → ((e : Event) → ¬ IsCalm s e) → AwaitsChoices s
 waits s none e enabled = by_step (next s e) refl
   where
     by_step : (step : Step State) → next s e ≡ step → is_choice s e ≡ true
@@ -69,14 +69,14 @@ waits s none e enabled = by_step (next s e) refl
 -- ---- where the plain machine is quiet
 
 -- it could go too, where a go is refused as full
-plain_refused : (trace : Trace) (p : PlainState) (s : State) (e : Event) → AllFacts trace p s → IsRefusedAsFull s e → plain_next p e ≡ NotEnabled → ⊥
+plain_refused : (trace : Trace) (p : PlainState) (s : State) (e : Event) → AllFacts trace p s → IsRefusedAsFull s e → plain_next p e ≢ NotEnabled
 plain_refused trace p s e facts r off =
     let stop = turn_of_cell trace s.program r.actor r.cell r.frame in
     let went = plain_went trace p s facts.beside r.actor r.cell r.mail r.present r.frame r.framed (sym (ap (λ q. needed q s.program r.actor r.cell r.frame) facts.beside.mode) ∙ r.held) in
     let act = ap (after_act p r.actor (stopped_at r.frame stop) stop.turn.fields stop.turn.made) (sym (ap (λ q. (turn_of_cell q s.program r.actor r.cell r.frame).act) facts.beside.mode) ∙ r.makes) in
     not_off _ (nat_lt (length p.actors) 65536) (sym (went ∙ act) ∙ (ap (plain_next p) (sym r.is_go) ∙ off))
   where
-    not_off : (u : PlainState) (room : Bool) → (if room then Goes u else IsFull) ≡ NotEnabled → ⊥
+    not_off : (u : PlainState) (room : Bool) → (if room then Goes u else IsFull) ≢ NotEnabled
     not_off u true e = cc
     not_off u false e = cc
 

@@ -14,7 +14,7 @@ use Rattle.letter_kinds.proofs.Counts.{held-send, held_set_other}
 use Rattle.letter_kinds.proofs.Sums.{sum-nil}
 use Rattle.letter_kinds.specs.Counting.{send, mint_all, gain}
 use Rattle.letter_kinds.specs.Detector.{Detector}
-use Rattle.letter_kinds.specs.Holdings.{Holdings, Row, held_in, with_made}
+use Rattle.letter_kinds.specs.Holdings.{Row, held_in}
 use Rattle.letter_kinds.specs.Sums.{amount_of, times_loaded, load_count}
 use Rattle.letter_kinds.specs.declared.letter.Letter.{Letter}
 use Rattle.letter_kinds.specs.declared.letter.Letter.TheVariants.{App, Inc}
@@ -32,11 +32,7 @@ use Rattle.machine_laws.proofs.Collecting.{HoldsOwners, owner_held, same_loads}
 use Rattle.machine_laws.proofs.Moving.{not_same, unheld, adds_none, adds_push, push_other, push_loads, moves}
 use Rattle.machine_laws.proofs.Noted.{noted}
 use Rattle.machine_laws.proofs.Seen.{world_of}
-
--- a turn holds what it held before
-pub held_made : (made : List Row) (h : Holdings) (x : Thing) → held_in (with_made made h) x ≡ held_in h x
-unfolding held_in
-held_made made h x = refl
+use Rattle.count_laws.proofs.local.NoSelf.{held-with_made}
 
 module _ (s : Actors) (d : Detector) (ns : List Note) (a : ℕ) (c : Cell) (ls : List Letter) (at : seat_at s a ≡ seat c ls) (running : is_some c.frame ≡ true) (awake : c.reported ≡ false) where
   -- the segment alone: Print and End
@@ -47,7 +43,7 @@ module _ (s : Actors) (d : Detector) (ns : List Note) (a : ℕ) (c : Cell) (ls :
       moves s s1 d ns a c c1 ls ls at (adds_none s1) [] refl awake (inl running)
       (λ b n h. ap letters_of (get_or-set_other s a b (seat c1 ls) None n))
       (λ b n h u. same_loads s a c c1 ls at (Actor b) ∙ u)
-      (λ b n h u. held_made stop.turn.made c.holdings (Actor b) ∙ h)
+      (λ b n h u. held-with_made stop.turn.made c.holdings (Actor b) ∙ h)
 
   -- a new actor
   pub make_moves : (w : ℕ) (c1 : Cell) → c1.reported ≡ c.reported → ((x : Thing) → held_in c1.holdings x ≡ held_in c.holdings x) → (fresh : Cell) → fresh.reported ≡ false → ((x : Thing) → held_in fresh.holdings x ≡ 0)
@@ -125,10 +121,10 @@ module _ (s : Actors) (d : Detector) (ns : List Note) (a : ℕ) (c : Cell) (ls :
       (λ b n z u. omega (arith, u, push_loads s1 to (App h args load rows) (Actor b), same_loads s a c c2 ls at (Actor b), (letter_App (Actor b) h args load rows).2, unloaded b n z))
       (λ b n z u. omega (arith, held-send a (Actor b) load c1.holdings n, same (Actor b), z))
     where
-      away : (b : ℕ) → b ≢ a → held_in c.holdings (Actor b) ≡ 0 → IsKnown a c1.holdings (Actor b) → ⊥
+      away : (b : ℕ) → b ≢ a → held_in c.holdings (Actor b) ≡ 0 → ¬ IsKnown a c1.holdings (Actor b)
       away b n z k = ⊎_elim (λ own. n own.0) (λ held. let w = same (Actor b) in let v = held.1 in absurd (omega arith)) k
 
-      zero_if : (n : ℕ) → (0 < n → ⊥) → n ≡ 0
+      zero_if : (n : ℕ) → ¬ (0 < n) → n ≡ 0
       zero_if zero h = refl
       zero_if (suc n) h = absurd (h (omega arith))
 
@@ -147,13 +143,13 @@ module _ (s : Actors) (d : Detector) (ns : List Note) (a : ℕ) (c : Cell) (ls :
       (λ b n z u. omega (arith, u, push_loads s1 to (Inc es) (Actor b), same_loads s a c c2 ls at (Actor b), (letter_Inc (Actor b) es).2))
       (λ b n z u. omega (arith, held-mint_all (Actor b) es c.holdings, unminted b z, z))
     where
-      away : (b : ℕ) → b ≢ a → held_in c.holdings (Actor b) ≡ 0 → b ≡ to → ⊥
+      away : (b : ℕ) → b ≢ a → held_in c.holdings (Actor b) ≡ 0 → b ≢ to
       away b n z e =
           let up : 0 < held_in c.holdings (Actor (owner_of x)) = owner_held a c owners x (held x p) (λ q. n (e ∙ sym o ∙ q)) in
           let w = ap (λ (i : ℕ). held_in c.holdings (Actor i)) (o ∙ sym e) in
           omega arith
 
-      zero_if : (n : ℕ) → (0 < n → ⊥) → n ≡ 0
+      zero_if : (n : ℕ) → ¬ (0 < n) → n ≡ 0
       zero_if zero h = refl
       zero_if (suc n) h = absurd (h (omega arith))
 

@@ -1,20 +1,16 @@
 -- Each event keeps what holds of the detector; those that the plain machine does not do keep what is kept of the counts.
-use Rattle.std.proofs.Common.{◌≡◌, ℕ, Bool, true, false, Option, Some, None, List, [], ◌∷◌, refl, subst}
+use Rattle.std.proofs.Common.{◌≡◌, ℕ, true, Option, Some, List}
 use Rattle.orca_names.specs.declared.names.Thing.{Thing}
 use Rattle.orca_names.specs.declared.names.Thing.TheVariants.{Actor}
 use Rattle.reach_walk.specs.Reach.{thing_row}
 use Rattle.event_rule.specs.declared.event.Event.{Event}
 use Rattle.event_rule.specs.declared.event.Event.TheVariants.{Block, Hear, Scan, Reap}
-use Rattle.letter_kinds.specs.Detector.{Token, all_acked, closed_set, token_numbered}
+use Rattle.letter_kinds.specs.Detector.{Token, all_acked, token_numbered}
 use Rattle.letter_kinds.specs.Holdings.{Row}
-use Rattle.letter_kinds.specs.declared.letter.Letter.{Letter}
-use Rattle.letter_kinds.specs.declared.note.Note.{Note}
-use Rattle.event_rule.proofs.Steps.{goes_to, not_enabled}
 use Rattle.orca_names.specs.declared.trace.Trace.{Trace}
-use Rattle.machine_rules.specs.Actors.{Seat, cell_at, mail_at, seat, seat_at, Every}
+use Rattle.machine_rules.specs.Actors.{cell_at, mail_at, Every}
 use Rattle.count_laws.specs.Agreement.{Person, people_of}
 use Rattle.machine_rules.specs.Balance.{load_sum}
-use Rattle.machine_rules.specs.Cell.{Cell}
 use Rattle.count_laws.specs.Clean.{HoldsNoOwnAt}
 use Rattle.count_laws.specs.Facts.{Facts}
 use Rattle.event_rule.specs.Runs.{Goes}
@@ -33,7 +29,6 @@ use Rattle.machine_laws.proofs.Scanning.{confirms_all, scan_keeps}
 use Rattle.machine_laws.proofs.Sealing.{members_keep}
 use Rattle.machine_laws.proofs.Seen.{world}
 use Rattle.machine_laws.proofs.Stepping.{next_steps}
-use Rattle.machine_rules.specs.Guards.{may_block}
 use Rattle.machine_rules.specs.Rules as rule
 use Rattle.machine_rules.proofs.Guards.{acked_open}
 use Rattle.count_laws.proofs.agreement.Follows.{step_here}

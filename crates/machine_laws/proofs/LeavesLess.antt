@@ -1,6 +1,6 @@
 -- Each event that is no choice leaves less to do.
-use Rattle.std.proofs.Common.{◌≡◌, ℕ, suc, ◌+◌, ◌*◌, ◌≤◌, ◌<◌, ◌==◌, ◌&&◌, not, Bool, true, false, cond, if◌then◌else◌, Option, Some, None, List, [], ◌∷◌, ◌++◌, length, filter, set, length-append, refl, ap, sym, subst, ◌∙◌, arith, ⊎_elim, eq-eqb, eqb-true}
-use Rattle.std.specs.Prelude.{is_none, sum_by}
+use Rattle.std.proofs.Common.{◌≡◌, ℕ, suc, ◌+◌, ◌*◌, ◌≤◌, ◌<◌, ◌==◌, not, Bool, true, false, cond, if◌then◌else◌, Some, None, List, [], ◌∷◌, ◌++◌, length, filter, set, length-append, refl, ap, sym, subst, ◌∙◌, arith, ⊎_elim, eq-eqb, eqb-true, Contains}
+use Rattle.std.specs.Prelude.{sum_by}
 use Rattle.std.specs.FinMap as m
 use Rattle.std.proofs.Math.Nat.{suc-mul}
 use Rattle.std.proofs.lemmas.Bool.{and_parts, false≢true}
@@ -8,16 +8,12 @@ use Rattle.std.proofs.lemmas.List.{length-map}
 use Rattle.std.proofs.lemmas.List.Sums.{sum_by-cons, sum_by_push}
 use Rattle.orca_names.specs.Names.{owner_of, thing_cmp}
 use Rattle.orca_names.specs.declared.names.Thing.{Thing}
-use Rattle.orca_names.specs.declared.names.Value.{Value}
 use Rattle.event_rule.specs.declared.event.Event.{Event}
-use Rattle.event_rule.specs.declared.event.Event.TheVariants.{Take, Go, Collect, Leave, Block, Hear, Scan, Reap}
 use Rattle.turn_rules.specs.Segment.{Stop}
-use Rattle.turn_rules.specs.declared.act.Act.{Act}
-use Rattle.turn_rules.specs.declared.act.Act.TheVariants.{Post, New, Print, End}
 use Rattle.turn_rules.specs.declared.act.Frame.{Frame}
 use Rattle.letter_kinds.proofs.Filters.{length-filter_le}
 use Rattle.letter_kinds.specs.Counting.{Loaded, by_owner, given_back, is_lacking, lacking_of, mint_all, sweep, to_mint}
-use Rattle.letter_kinds.specs.Detector.{Detector, Token, all_acked, close_token, closed_set, has, hear_note, note_ack, after_scan, token_numbered}
+use Rattle.letter_kinds.specs.Detector.{Detector, Token, close_token, closed_set, has, hear_note, note_ack, after_scan}
 use Rattle.letter_kinds.specs.Holdings.{Holdings, Row, held_in, with_made}
 use Rattle.letter_kinds.specs.Sums.{amount_of}
 use Rattle.letter_kinds.specs.declared.letter.Letter.{Letter}
@@ -27,29 +23,26 @@ use Rattle.letter_kinds.specs.declared.note.Note.TheVariants as notes
 use Rattle.count_laws.proofs.balance.InHand.{AllCounted}
 use Rattle.count_laws.proofs.knowledge.Lacking.{counted_mint, to_mint_theirs}
 use Rattle.machine_rules.proofs.Present.{present_below}
-use Rattle.event_rule.proofs.Steps.{goes_to, not_enabled}
 use Rattle.count_laws.proofs.events.Take.{alike_lower, alike_raise}
-use Rattle.machine_rules.specs.Actors.{Actors, Seat, seat, seat_at}
+use Rattle.machine_rules.specs.Actors.{Actors, seat, seat_at}
 use Rattle.machine_rules.specs.Block.{held_actors}
 use Rattle.machine_rules.specs.Cell.{Cell}
 use Rattle.machine_rules.specs.Collect.{after_collect, is_in_use, is_marked, without_unused}
 use Rattle.machine_rules.specs.Detect.{ask_all, reap_members}
-use Rattle.machine_rules.specs.Go.{act_in, lacking_from, load_from, mint, needed, needing, post_or_mint, rows_from, to_need, turn_of_cell, cell_after_turn}
+use Rattle.machine_rules.specs.Go.{load_from, mint, needed, to_need, turn_of_cell}
 use Rattle.plain_list.specs.Lists.{is_empty}
 use Rattle.event_rule.specs.Runs.{Goes}
 use Rattle.machine_rules.specs.Next.{next}
 use Rattle.orca_names.specs.declared.trace.Trace.{Trace}
 use Rattle.orca_names.specs.declared.trace.Trace.TheVariants.{Deep, Roots}
-use Rattle.plain_rules.specs.Machine.{stopped_at}
-use Rattle.machine_rules.specs.Run.{act_is_choice, go_is_choice, go_is_choice_at, is_choice, take_is_choice_at, starts_with_app}
+use Rattle.machine_rules.specs.Run.{is_choice, starts_with_app}
 use Rattle.machine_rules.specs.State.{State}
 use Rattle.machine_rules.specs.Take.{cell_after, note_of, notes_after}
+use Rattle.detector_laws.proofs.Members.{first_or_later, none_in_empty}
 use Rattle.detector_laws.proofs.Named.{numbered_is_open}
-use Rattle.detector_laws.specs.Members.{In}
 use Rattle.machine_laws.proofs.ActorsWork.{asks-work, decs-work, leave-work, more_times, push-work, reaped-work, set-work}
 use Rattle.machine_laws.proofs.Blocking.{reporting}
 use Rattle.machine_laws.proofs.GetsWork.{asks-gets, decs-gets, gets, idle-gets, mint-gets, need-length, need_mint-gets, push-gets, reaped-gets}
-use Rattle.machine_laws.proofs.Going.{held_made}
 use Rattle.machine_laws.proofs.TableWork.{by_owner-length, mint_all-more, mint_first-work, sweep-work}
 use Rattle.machine_laws.specs.Work.{actors_work, count_work, detector_work, entry_work, get_work, gets_left, letter_work, news_work, note_work, seat_work, silence_work, table_work}
 use Rattle.machine_rules.proofs.Guards.{may_report, acked_open, collector, leaver}
@@ -57,6 +50,7 @@ use Rattle.machine_rules.specs.Guards.{may_block, may_leave}
 use Rattle.machine_rules.specs.Rules as rule
 use Rattle.machine_rules.proofs.Choices.{stopping_is, taking_is}
 use Rattle.machine_rules.proofs.Stepping.{step_of}
+use Rattle.count_laws.proofs.local.NoSelf.{held-with_made}
 
 -- what a filter lets through first passes
 first_passes : {A : Type 0} (p : A → Bool) (xs : List A) (y : A) (ys : List A) → filter p xs ≡ y ∷ ys → p y ≡ true
@@ -96,12 +90,12 @@ module _ (n : ℕ) where
   told-work false note told = omega arith
 
   -- fewer tokens
-  closed-work : (t : Token) (tokens : List Token) → In t tokens → length (filter (λ u. not (u.number == t.number)) tokens) < length tokens
-  closed-work t [] i = absurd i
+  closed-work : (t : Token) (tokens : List Token) → Contains tokens t → length (filter (λ u. not (u.number == t.number)) tokens) < length tokens
+  closed-work t [] i = absurd (none_in_empty t i)
   closed-work t (u ∷ tokens) i = ⊎_elim
       (λ (same : t ≡ u). let test = eq-eqb u.number t.number (ap (λ (x : Token). x.number) (sym same)) in rw test (omega (arith, length-filter_le (λ (v : Token). not (v.number == t.number)) tokens)))
       (λ later. by_test (closed-work t tokens later) (not (u.number == t.number)))
-      i
+      (first_or_later u tokens t i)
     where
       by_test : length (filter (λ u. not (u.number == t.number)) tokens) < length tokens → (b : Bool)
           → length (cond b (u ∷ filter (λ u. not (u.number == t.number)) tokens) (filter (λ u. not (u.number == t.number)) tokens)) < suc (length tokens)
@@ -230,7 +224,7 @@ module _ (n : ℕ) where
     mints a c ls stop at load e es lacks =
         let owner = owner_of e.0 in
         let things = to_mint s.options.weight owner (e ∷ es) in
-        let held = held_made stop.turn.made c.holdings in
+        let held = held-with_made stop.turn.made c.holdings in
         let first : things ≡ (e.0, s.options.weight) ∷ to_mint s.options.weight owner es = rw (eq-eqb owner owner refl) refl in
         let one : held_in c.holdings e.0 ≡ 1 = sym (held e.0) ∙ eqb-true _ 1 (and_parts (not (owner == a)) _ (first_passes (λ x. is_lacking a (with_made stop.turn.made c.holdings) x.0) load e es lacks)).1 in
         let known = λ (x : Thing) (some : 0 < amount_of x things).
@@ -274,7 +268,7 @@ module _ (n : ℕ) where
         both (ask_all (closed_set s.detector) (suc s.detector.opened) s.actors) (after_scan s.detector (closed_set s.detector)) s.notes (omega (arith, scanned-work s.detector (closed_set s.detector) is few, asks-work n (closed_set s.detector) (suc s.detector.opened) s.actors))
         (asks-gets tracing s.program (closed_set s.detector) (suc s.detector.opened) s.actors)
 
-    reaps-less : (token : Token) → In token s.detector.tokens → Less (record s { actors = reap_members token.members s.actors; detector = close_token token s.detector })
+    reaps-less : (token : Token) → Contains s.detector.tokens token → Less (record s { actors = reap_members token.members s.actors; detector = close_token token s.detector })
     reaps-less token listed =
         both (reap_members token.members s.actors) (close_token token s.detector) s.notes (omega (arith, closed-work token s.detector.tokens listed, reaped-work n token.members s.actors)) (reaped-gets tracing s.program token.members s.actors)
 

@@ -24,7 +24,7 @@ use Rattle.count_laws.specs.Agreement.{Person}
 use Rattle.machine_rules.specs.Cell.{Cell}
 use Rattle.count_laws.specs.Facts.{KeepsCounts}
 use Rattle.machine_rules.specs.Go.{mint, needed, to_need}
-use Rattle.count_laws.specs.Known.{IsKnown, Names, Reaches}
+use Rattle.count_laws.specs.Known.{IsKnown, Names, ReachesThrough}
 use Rattle.count_laws.specs.KnownByRoots.{WalkRoots, by_row, held, mine, named}
 use Rattle.machine_rules.specs.Left.{IsLeft}
 use Rattle.orca_names.specs.declared.trace.Trace.{Trace}
@@ -62,7 +62,7 @@ module _ (all : Thing → Option Row) (ps : List Person) (s : Actors) (inv : Kee
         by_knower y n.owner p.0.seat.cell p.0.seat.mail p.0.present p.1 (q.named y (by_row n own.0 own.1 (subst (λ r. Names r y) (sym same) nm))).1
 
     -- so its walks reach none
-    reached_away : {x : Thing} → Reaches all (WalkRoots a c) x → has ms (owner_of x) ≡ false
+    reached_away : {x : Thing} → ReachesThrough all (WalkRoots a c) x → has ms (owner_of x) ≡ false
     reached_away h = (reach_into all (λ x. IsLeft s x × (has ms (owner_of x) ≡ false))
         (λ x r. (root_left all s (in_hand s inv.balanced) inv.sound inv.bare a c ls at x r, from_root x r))
         (λ x y r p e n. (along_left all s (in_hand s inv.balanced) inv.sound inv.bare x y r p.0 e n, along x y r p e n))
@@ -75,7 +75,7 @@ module _ (all : Thing → Option Row) (ps : List Person) (s : Actors) (inv : Kee
     unminted : (m : ℕ) → m ≢ owner_of x → amount_of (Actor m) es ≡ 0
     unminted m other = zero_if (amount_of (Actor m) es) (λ some. ⊎_elim (λ e. other (ap owner_of e)) (λ e. other (ap owner_of e)) (is_pair wt a c.holdings x (Actor m) some))
       where
-        zero_if : (n : ℕ) → (0 < n → ⊥) → n ≡ 0
+        zero_if : (n : ℕ) → ¬ (0 < n) → n ≡ 0
         zero_if zero h = refl
         zero_if (suc n) h = absurd (h (omega arith))
 

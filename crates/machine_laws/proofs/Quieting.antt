@@ -1,5 +1,5 @@
 -- Where no event is enabled, the detector's laws see a quiet world, and each actor that is present is reached.
-use Rattle.std.proofs.Common.{◌≡◌, ◌⊎◌, ℕ, ◌==◌, Bool, true, false, cond, Option, Some, None, List, [], ◌∷◌, find, refl, ap, sym, subst, ◌∙◌, ⊎_elim, eq-eqb}
+use Rattle.std.proofs.Common.{◌≡◌, ℕ, ◌==◌, Bool, true, false, cond, Option, Some, None, List, [], ◌∷◌, find, refl, ap, sym, subst, ◌∙◌, ⊎_elim, eq-eqb, Contains}
 use Rattle.std.specs.Prelude.{sum_by}
 use Rattle.std.proofs.lemmas.Bool.{false_from_ne_true, false≢true}
 use Rattle.orca_names.specs.declared.names.Thing.{Thing}
@@ -22,10 +22,10 @@ use Rattle.count_laws.specs.Facts.{KeepsCounts}
 use Rattle.event_rule.specs.Runs.{IsQuiet}
 use Rattle.machine_rules.specs.Next.{IsAtRest, next}
 use Rattle.machine_rules.specs.State.{State}
+use Rattle.detector_laws.proofs.Members.{first_or_later, none_in_empty}
 use Rattle.detector_laws.proofs.Cells.{some_not_none}
 use Rattle.detector_laws.proofs.Named.{numbered_is_open}
 use Rattle.detector_laws.proofs.Quiet.{quiet_all_reached}
-use Rattle.detector_laws.specs.Members.{In}
 use Rattle.detector_laws.specs.Quiet as view
 use Rattle.detector_laws.specs.World.{FactsHold}
 use Rattle.machine_laws.proofs.Balancing.{balanced}
@@ -48,16 +48,16 @@ module _ (s : State) (quiet : IsQuiet next s) where
 abbrev Found : Token → List Token → Type 0
 Found t ts = (u : Token) × (find (λ (v : Token). v.number == t.number) ts ≡ Some u)
 
-find_first : (v t : Token) (ts : List Token) → (In t ts → Found t ts) → (q : Bool) → (v.number == t.number) ≡ q → (t ≡ v) ⊎ In t ts
+find_first : (v t : Token) (ts : List Token) → (Contains ts t → Found t ts) → (q : Bool) → (v.number == t.number) ≡ q → Contains (v ∷ ts) t
     → (u : Token) × (cond q (Some v) (find (λ (v : Token). v.number == t.number) ts) ≡ Some u)
 find_first v t ts later true e i = (v, refl)
 find_first v t ts later false e i = ⊎_elim
     (λ same. absurd (false≢true (sym e ∙ eq-eqb v.number t.number (ap (λ (w : Token). w.number) (sym same)))))
     (λ j. later j)
-    i
+    (first_or_later v ts t i)
 
-find_some : (ts : List Token) (t : Token) → In t ts → Found t ts
-find_some [] t i = absurd i
+find_some : (ts : List Token) (t : Token) → Contains ts t → Found t ts
+find_some [] t i = absurd (none_in_empty t i)
 find_some (v ∷ ts) t i = find_first v t ts (find_some ts t) (v.number == t.number) refl i
 
 pub quiet_world : (s : State) → IsQuiet next s → FactsHold (world s) → view.IsQuiet (world s)

@@ -1,5 +1,5 @@
 -- A reap, as the detector's laws see it.
-use Rattle.std.proofs.Common.{◌≡◌, ℕ, ◌<◌, ◌≤◌, Bool, true, false, cond, Option, Some, None, List, [], ◌∷◌, ◌++◌, length, set, refl, ap, sym, subst, ◌∙◌, arith, ⊎_elim, get_or-set_same, get_or-set_other, length-set, ne_eqb}
+use Rattle.std.proofs.Common.{◌≡◌, ℕ, ◌<◌, ◌≤◌, Bool, true, false, cond, Option, Some, None, List, [], ◌∷◌, ◌++◌, length, set, refl, ap, sym, subst, ◌∙◌, arith, ⊎_elim, get_or-set_same, get_or-set_other, length-set, ne_eqb, Contains}
 use Rattle.std.proofs.lemmas.Bool.{cases_eq, cases_lt, false≢true}
 use Rattle.std.proofs.lemmas.List.{get_or_past}
 use Rattle.std.proofs.lemmas.List.Sums.{sum_by-set}
@@ -30,7 +30,6 @@ use Rattle.detector_laws.proofs.Members.{each_has}
 use Rattle.detector_laws.specs.Cells.{held_on}
 use Rattle.detector_laws.specs.Confirms.{NoConfirms}
 use Rattle.detector_laws.specs.Events.{Departs, Reaps}
-use Rattle.detector_laws.specs.Members.{In}
 use Rattle.machine_laws.proofs.Collecting.{owner_held, NotTo, not_to, decs_quiet, decs_adds, decs_loads}
 use Rattle.machine_laws.proofs.Moving.{push_other, push_here, sum_by-set_past}
 use Rattle.machine_laws.proofs.Seen.{world_of}
@@ -134,7 +133,7 @@ module _ (s : Actors) (d after : Detector) (ns : List Note) (ms : List ℕ) (tra
       some true n h = absurd (omega arith)
       some false n h = h
 
-      unowed : (x : Thing) → owner_of x ≡ i → 0 < owed (by_owner (given_back marked c.holdings)) x → ⊥
+      unowed : (x : Thing) → owner_of x ≡ i → ¬ (0 < owed (by_owner (given_back marked c.holdings)) x)
       unowed x o p =
           let held = some (marked x) (held_in c.holdings x) (subst (λ (k : ℕ). 0 < k) (owed-groups (given_back marked c.holdings) x ∙ amount-given_back marked c.holdings x) p) in
           let up : 0 < held_in c.holdings (Actor (owner_of x)) = owner_held m c (held_owner trace all ps s keeps m c ls at) x held (λ e. false≢true (sym out ∙ ap (has ms) (sym o ∙ e) ∙ ins)) in
@@ -153,6 +152,6 @@ module _ (s : Actors) (d after : Detector) (ns : List Note) (ms : List ℕ) (tra
     unloaded = λ x h. omega (arith, h, reap_loads (Actor x) ms s);
   }
 
-module _ (s : Actors) (d : Detector) (ns : List Note) (t : Token) (trace : Trace) (all : Thing → Option Row) (ps : List Person) (keeps : KeepsCounts trace all ps s) (opened : In t d.tokens) (acked : all_acked t ≡ true) where
+module _ (s : Actors) (d : Detector) (ns : List Note) (t : Token) (trace : Trace) (all : Thing → Option Row) (ps : List Person) (keeps : KeepsCounts trace all ps s) (opened : Contains d.tokens t) (acked : all_acked t ≡ true) where
   pub reap_reaps : Reaps (world_of s d ns) t (world_of (reap_members t.members s) (close_token t d) ns)
   reap_reaps = record { is_open = opened; acked = acked; detector = refl; departs = departs s d (close_token t d) ns t.members trace all ps keeps }

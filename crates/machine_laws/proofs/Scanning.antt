@@ -2,7 +2,7 @@
 use Rattle.std.proofs.Common.{◌≡◌, ℕ, suc, ◌≤◌, ◌==◌, true, false, if◌then◌else◌, ◌&&◌, is_some, get_or, set, subst, Option, Some, None, List, [], ◌∷◌, ◌++◌, length, refl, ap, sym, ◌∙◌, arith, ⊎_elim, eq-eqb, ne_eqb, zero, ◌<◌}
 use Rattle.std.proofs.lemmas.Bool.{cases_eq, cases_lt, false≢true}
 use Rattle.std.specs.List.{AllByRecursion}
-use Rattle.std.specs.Prelude.{sum_by}
+use Rattle.std.specs.Prelude.{sum_by, ⊤}
 use Rattle.std.proofs.lemmas.List.{length-map}
 use Rattle.std.proofs.lemmas.List.Sums.{sum_by-cons}
 use mathlib.Core.Path.{fun_ext}
@@ -13,7 +13,7 @@ use Rattle.letter_kinds.proofs.Sums.{sum-nil}
 use Rattle.letter_kinds.specs.Closed.{largest_closed}
 use Rattle.letter_kinds.specs.Detector.{Detector, after_scan, has, closed_set, candidates}
 use Rattle.letter_kinds.specs.Holdings.{Row}
-use Rattle.letter_kinds.specs.Reports.{report_of}
+use Rattle.letter_kinds.specs.Reports.{kept_report}
 use Rattle.letter_kinds.specs.Sums.{inc_of, dec_of}
 use Rattle.letter_kinds.specs.declared.letter.Letter.{Letter}
 use Rattle.letter_kinds.specs.declared.letter.Letter.TheVariants.{Confirm}
@@ -37,16 +37,18 @@ use Rattle.machine_rules.specs.Balance.{load_sum}
 use Rattle.machine_rules.specs.Detect.{ask_all}
 use Rattle.count_laws.specs.Facts.{IsFirmAt, KeepsCounts, IsSound}
 use Rattle.detector_laws.proofs.Cells.{some_not_none}
-use Rattle.detector_laws.proofs.Members.{In_each, each_In}
-use Rattle.detector_laws.proofs.Names.{name_In, names, named}
+use Rattle.detector_laws.proofs.Members.{contained_each, each_contained}
+use Rattle.detector_laws.proofs.Names.{has_name, names, named}
 use Rattle.detector_laws.proofs.Scan.{IsChosen, largest_chosen}
 use Rattle.detector_laws.proofs.Sums.{some_le_all}
 use Rattle.detector_laws.specs.Balance.{sum_below}
-use Rattle.detector_laws.specs.Reports.{IsRising, AllAbove}
+use Rattle.detector_laws.proofs.Order.{AllAbove, rising_parts}
+use Rattle.detector_laws.specs.Reports.{IsRising}
 use Rattle.detector_laws.specs.World as view
 use Rattle.detector_laws.specs.World.{World, ReportsAreExact}
 use Rattle.machine_laws.proofs.Moving.{push_here, push_other, added_cell, push_loads_same}
 use Rattle.machine_laws.proofs.Seen.{world_of}
+use Rattle.count_laws.proofs.bounds.Bounding.{length-asked}
 
 -- what an actor knows does not hang on Confirms
 abbrev pub Confirming : Trace → (Thing → Option Row) → Type 0
@@ -116,10 +118,6 @@ asks_cell : (ms : List ℕ) (t : ℕ) (s : Actors) (b : ℕ) → cell_at (ask_al
 asks_cell [] t s b = refl
 asks_cell (m ∷ ms) t s b = asks_cell ms t (push_letter m (Confirm t) s) b ∙ ask_cell s m t b
 
-asks_length : (ms : List ℕ) (t : ℕ) (s : Actors) → length (ask_all ms t s) ≡ length s
-asks_length [] t s = refl
-asks_length (m ∷ ms) t s = asks_length ms t (push_letter m (Confirm t) s) ∙ length-push m (Confirm t) s
-
 asks_loads : (ms : List ℕ) (t : ℕ) (s : Actors) (x : Thing) → load_sum x (ask_all ms t s) ≡ load_sum x s
 asks_loads [] t s x = refl
 asks_loads (m ∷ ms) t s x = asks_loads ms t (push_letter m (Confirm t) s) x ∙ ask_loads s m t x
@@ -129,7 +127,7 @@ asks_keep trace all confirm [] t s ps keeps = keeps
 asks_keep trace all confirm (m ∷ ms) t s ps keeps = asks_keep trace all confirm ms t (push_letter m (Confirm t) s) ps (ask_keeps s m t trace all ps confirm keeps)
 
 abbrev Distinct : List ℕ → Type 0
-Distinct [] = Unit {0}
+Distinct [] = ⊤
 Distinct (m ∷ ms) = (has ms m ≡ false) × Distinct ms
 
 asks_other : (ms : List ℕ) (t : ℕ) (s : Actors) (b : ℕ) → has ms b ≡ false → mail_at (ask_all ms t s) b ≡ mail_at s b
@@ -156,7 +154,8 @@ above_out a b (r ∷ rs) le h = rw (ne_eqb r.actor b (λ e. let q = h.0 in absur
 
 rising_distinct : (rs : List Report) → IsRising rs → Distinct (names rs)
 rising_distinct [] h = tt
-rising_distinct (r ∷ rs) h = (above_out r.actor r.actor rs (omega arith) h.0, rising_distinct rs h.1)
+rising_distinct (r ∷ rs) h =
+    let (above, rest) = rising_parts r rs h in (above_out r.actor r.actor rs (omega arith) above, rising_distinct rs rest)
 
 ones : (rs : List Report) → sum_by (λ r. 1) rs ≡ length rs
 ones [] = sum-nil (λ (r : Report). 1)
@@ -179,25 +178,25 @@ module _ (s : Actors) (d : Detector) (ns : List Note) (rising : IsRising d.kept)
       (λ below. below)
       (λ past.
       let q = named (largest_closed (candidates d)) m h in
-      let some = each_In (λ (r : Report). report_of d.kept r.actor ≡ Some r) (largest_closed (candidates d)) chosen.kept q.0 q.1 in
+      let some = each_contained (λ (r : Report). kept_report d.kept r.actor ≡ Some r) (largest_closed (candidates d)) chosen.kept q.0 q.1 in
       let none = (kept.unmade m past).0 in
-      absurd (some_not_none (ap (report_of d.kept) (sym q.2) ∙ some) none))
+      absurd (some_not_none (ap (kept_report d.kept) (sym q.2) ∙ some) none))
       (cases_lt m (length s))
 
   -- no more are asked than there are actors
   pub few_asked : length (closed_set d) ≤ length s
   few_asked =
       let asked = largest_closed (candidates d) in
-      let within : AllByRecursion (λ r. r.actor < length s) asked = In_each (λ r. r.actor < length s) asked (λ r i. all_made r.actor (name_In asked r i)) in
+      let within : AllByRecursion (λ r. r.actor < length s) asked = contained_each (λ r. r.actor < length s) asked (λ r i. all_made r.actor (has_name asked r i)) in
       omega (arith, some_le_all (length s) (λ b. 1) asked chosen.rising within, ones asked, ones_below (length s), length-map asked (λ r. r.actor))
 
   pub scan_keeps : (trace : Trace) (all : Thing → Option Row) (confirm : Confirming trace all) (ps : List Person) → KeepsCounts trace all ps s → KeepsCounts trace all ps (ask_all (closed_set d) (suc d.opened) s)
   scan_keeps trace all confirm ps keeps = asks_keep trace all confirm (closed_set d) (suc d.opened) s ps keeps
 
-  pub scan_is : world_of (ask_all (closed_set d) (suc d.opened) s) (after_scan d (closed_set d)) ns ≡ view.scan (world_of s d ns)
+  pub scan_is : world_of (ask_all (closed_set d) (suc d.opened) s) (after_scan d (closed_set d)) ns ≡ view.scan_in_world (world_of s d ns)
   scan_is =
       let t = suc d.opened in
-      let made : length (ask_all (closed_set d) (suc d.opened) s) ≡ length s = asks_length (closed_set d) t s in
+      let made : length (ask_all (closed_set d) (suc d.opened) s) ≡ length s = length-asked (closed_set d) t s in
       let cell : cell_at (ask_all (closed_set d) t s) ≡ cell_at s = fun_ext (λ b. asks_cell (closed_set d) t s b) in
       let mail : mail_at (ask_all (closed_set d) t s) ≡ view.confirms_of (closed_set d) t (cell_at s) (mail_at s) = fun_ext (λ b. asks_mail (closed_set d) t s distinct b) in
       let loaded : (λ x. load_sum (Actor x) (ask_all (closed_set d) t s)) ≡ (λ x. load_sum (Actor x) s) = fun_ext (λ x. asks_loads (closed_set d) t s (Actor x)) in

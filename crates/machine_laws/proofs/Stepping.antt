@@ -1,5 +1,5 @@
 -- Each event is a step of the world that the detector's laws speak of.
-use Rattle.std.proofs.Common.{◌≡◌, ◌⊎◌, ℕ, ◌<◌, nat_lt, Bool, true, false, if◌then◌else◌, Option, Some, None, is_some, List, [], ◌∷◌, ◌++◌, length, refl, ap, sym, subst, ◌∙◌, inl, inr, ⊎_elim, set}
+use Rattle.std.proofs.Common.{◌≡◌, ◌⊎◌, ℕ, ◌<◌, Bool, true, false, if◌then◌else◌, Option, Some, None, is_some, List, [], ◌∷◌, ◌++◌, length, refl, ap, sym, subst, ◌∙◌, inl, inr, ⊎_elim, set}
 use Rattle.std.specs.FinMap as m
 use Rattle.std.specs.Ordering.{nat_cmp}
 use Rattle.std.proofs.lemmas.Bool.{false≢true}
@@ -8,35 +8,30 @@ use Rattle.orca_names.specs.declared.names.Thing.{Thing}
 use Rattle.orca_names.specs.declared.names.Value.{Value}
 use Rattle.reach_walk.specs.Reach.{thing_row}
 use Rattle.event_rule.specs.declared.event.Event.{Event}
-use Rattle.event_rule.specs.declared.event.Event.TheVariants.{Take, Go, Collect, Leave, Block, Hear, Scan, Reap}
 use Rattle.turn_rules.specs.Segment.{Stop}
-use Rattle.turn_rules.specs.declared.act.Act.{Act}
-use Rattle.turn_rules.specs.declared.act.Act.TheVariants.{Post, New, Print, End}
+use Rattle.turn_rules.specs.declared.act.Act.TheVariants.{Post}
 use Rattle.turn_rules.specs.declared.act.Frame.{Frame}
-use Rattle.letter_kinds.specs.Counting.{Loaded, lacking_of, to_mint}
-use Rattle.letter_kinds.specs.Detector.{Token, all_acked, closed_set, token_numbered}
+use Rattle.letter_kinds.specs.Counting.{Loaded, to_mint}
 use Rattle.letter_kinds.specs.Holdings.{Row}
 use Rattle.letter_kinds.specs.Sums.{amount_of}
 use Rattle.letter_kinds.specs.declared.letter.Letter.{Letter}
 use Rattle.letter_kinds.specs.declared.letter.Letter.TheVariants.{App, Inc, Dec, Confirm}
-use Rattle.letter_kinds.specs.declared.note.Note.{Note}
 use Rattle.letter_kinds.specs.declared.note.Note.TheVariants.{Unblock}
 use Rattle.count_laws.proofs.events.EitherMode.{held_owner}
 use Rattle.count_laws.proofs.agreement.FollowingGo.{load_known, target_known}
 use Rattle.count_laws.proofs.knowledge.Lacking.{first_minted, to_mint_theirs}
 use Rattle.count_laws.proofs.balance.Makes.{fresh_held}
 use Rattle.count_laws.proofs.balance.Sweeping.{same_holdings, same_reported}
-use Rattle.event_rule.proofs.Steps.{goes_if, goes_to, not_enabled}
-use Rattle.machine_rules.specs.Actors.{Actors, Seat, cell_of, letters_of, seat, seat_at}
+use Rattle.machine_rules.specs.Actors.{Actors, cell_of, letters_of, seat, seat_at}
 use Rattle.count_laws.specs.Agreement.{people_of}
 use Rattle.machine_rules.specs.Cell.{Cell, fresh_cell}
 use Rattle.machine_rules.specs.Collect.{is_marked, without_unused}
 use Rattle.count_laws.specs.Facts.{Facts, IsFirm}
-use Rattle.machine_rules.specs.Go.{act_in, load_from, make, needed, needing, post_or_mint, rows_from, turn_of_cell, cell_after_turn, lacking_from, mint, post}
+use Rattle.machine_rules.specs.Go.{load_from, make, rows_from, turn_of_cell, cell_after_turn, lacking_from, mint, post}
 use Rattle.event_rule.specs.Runs.{Goes}
 use Rattle.machine_rules.specs.Next.{next}
 use Rattle.orca_names.specs.declared.trace.Trace.{Trace}
-use Rattle.plain_rules.specs.Machine.{PlainState, plain_row, stopped_at, with_name}
+use Rattle.plain_rules.specs.Machine.{PlainState, plain_row, with_name}
 use Rattle.machine_rules.specs.State.{State}
 use Rattle.detector_laws.proofs.Cells.{same_some}
 use Rattle.detector_laws.proofs.Named.{numbered_is_open}
@@ -46,7 +41,7 @@ use Rattle.detector_laws.specs.Run.{IsStep, Hears, Scans, ReapsOne, LeavesOne, B
 use Rattle.detector_laws.specs.World.{FactsHold}
 use Rattle.machine_laws.proofs.Blocking.{block_is, can_block}
 use Rattle.machine_laws.proofs.Collecting.{HoldsOwners, collect_moves}
-use Rattle.machine_laws.proofs.Going.{held_made, make_moves, mint_moves, post_moves, turn_moves}
+use Rattle.machine_laws.proofs.Going.{make_moves, mint_moves, post_moves, turn_moves}
 use Rattle.machine_laws.proofs.Needing.{need_moves}
 use Rattle.machine_laws.proofs.Noted.{noted}
 use Rattle.machine_laws.proofs.Reaping.{departs, reap_reaps}
@@ -54,11 +49,11 @@ use Rattle.machine_laws.proofs.Scanning.{scan_is}
 use Rattle.machine_laws.proofs.Seen.{world, world_of}
 use Rattle.machine_laws.proofs.Taking.{confirm_is, take_moves}
 use Rattle.machine_rules.proofs.Guards.{may_report, acked_open, collector, leaver}
-use Rattle.machine_rules.specs.Guards.{may_block, may_leave}
 use Rattle.machine_rules.specs.Rules as rule
 use Rattle.machine_rules.specs.Rules.{IsGoing, StopsAt, cell_kept, cell_kept_in, later_frame}
 use Rattle.machine_rules.specs.Take.{cell_after, note_of, notes_after}
 use Rattle.count_laws.proofs.agreement.Follows.{step_here}
+use Rattle.count_laws.proofs.local.NoSelf.{held-with_made}
 
 -- ---- who runs or is dirty has no report out
 
@@ -114,7 +109,7 @@ module _ (trace : Trace) (p : PlainState) (s : State) (beside : Facts trace p s)
     posts_steps : (to behaviour : ℕ) (args : List Value) → StopsAt trace s a c ls f (Post to behaviour args)
         → IsStep (world s) (world_of (post a after ls to behaviour args (load_from trace a after.holdings args) (rows_from trace a after args) s.actors) s.detector s.notes)
     posts_steps to behaviour args stops =
-        unnoted a c _ up (post_moves s.actors s.detector s.notes a c ls going.present running up after refl (held_made stop.turn.made c.holdings) to behaviour args (load_from trace a after.holdings args) (rows_from trace a after args)
+        unnoted a c _ up (post_moves s.actors s.detector s.notes a c ls going.present running up after refl (held-with_made stop.turn.made c.holdings) to behaviour args (load_from trace a after.holdings args) (rows_from trace a after args)
         (target_known trace p s beside a c ls going.present f going.framed stops.held to behaviour args stops.stop) (load_known trace p s beside a c ls going.present f going.framed stops.held to behaviour args stops.stop))
 
     mints_steps : (args : List Value) (e : Loaded) (es : List Loaded) → lacking_from trace a after.holdings args ≡ e ∷ es
@@ -123,14 +118,14 @@ module _ (trace : Trace) (p : PlainState) (s : State) (beside : Facts trace p s)
         unnoted a c _ up (mint_moves s.actors s.detector s.notes a c ls going.present running up (owners_at a c ls going.present) (owner_of e.0) (to_mint s.options.weight (owner_of e.0) (e ∷ es))
         (λ x some.
         let theirs = to_mint_theirs s.options.weight a (owner_of e.0) after.holdings (load_from trace a after.holdings args) x (subst (λ q. 0 < amount_of x (to_mint s.options.weight (owner_of e.0) q)) (sym l) some) in
-        subst (λ n. 0 < n) (held_made stop.turn.made c.holdings x) theirs.1)
+        subst (λ n. 0 < n) (held-with_made stop.turn.made c.holdings x) theirs.1)
         e.0 refl (first_minted s.options.weight beside.weight e es))
 
     makes_steps : (kind register : ℕ)
         → IsStep (world s) (world_of (make s.options.weight a (cell_kept_in trace s a c f (with_name (later_frame trace s a c f) register (length s.actors))) ls (fresh_cell s.options.weight s.program kind) s.actors) s.detector s.notes)
     makes_steps kind register =
         let fresh = fresh_cell s.options.weight s.program kind in
-        unnoted a c _ up (make_moves s.actors s.detector s.notes a c ls going.present running up s.options.weight (cell_kept_in trace s a c f (with_name (later_frame trace s a c f) register (length s.actors))) refl (held_made stop.turn.made c.holdings)
+        unnoted a c _ up (make_moves s.actors s.detector s.notes a c ls going.present running up s.options.weight (cell_kept_in trace s a c f (with_name (later_frame trace s a c f) register (length s.actors))) refl (held-with_made stop.turn.made c.holdings)
         fresh refl (fresh_held s.options.weight fresh.holdings (refl, (λ k. m.get-empty nat_cmp k), (λ y. m.get-empty thing_cmp y))))
 
   -- ---- take

@@ -3,7 +3,7 @@ use Rattle.std.proofs.Common.{◌≡◌, ℕ, suc, ◌+◌, ◌*◌, ◌≤◌, 
 use Rattle.std.specs.Prelude.{sum_by}
 use Rattle.std.specs.FinMap as m
 use Rattle.std.specs.FinMap.Entries.{below_all, by_order, find-where_key, is_sorted-where_key, where_key}
-use Rattle.std.specs.Ordering.{is_eq, is_lt}
+use Rattle.std.specs.Ordering.{is_eq}
 use Rattle.std.specs.declared.cmp.Ordering.{Ordering}
 use Rattle.std.specs.declared.cmp.Ordering.TheVariants.{Less, Equal, Greater}
 use Rattle.std.proofs.Math.Nat.{suc-mul}
@@ -21,19 +21,15 @@ use Rattle.letter_kinds.specs.Sums.{amount_of}
 use Rattle.count_laws.proofs.balance.InHand.{AllCounted}
 use Rattle.count_laws.proofs.balance.Sweeping.{both_true, find_above}
 use Rattle.machine_laws.specs.Work.{count_work, entry_work, table_work}
+use Rattle.count_laws.proofs.letters.Shares.{is_less}
 
 -- ---- one entry of a table gets another value
-
-less_is : (r : Ordering) → T (is_lt r) → r ≡ Less
-less_is Less h = refl
-less_is Equal h = absurd h
-less_is Greater h = absurd h
 
 below_less : {X : Type 0} (x y : Thing) (es : List (Thing × X)) → thing_cmp x y ≡ Less → T (below_all thing_cmp y es) → T (below_all thing_cmp x es)
 below_less x y [] less h = tt
 below_less x y (e ∷ es) less h =
     let parts = both_true _ _ h in
-    rw (thing_total.trans x y e.0 less (less_is (thing_cmp y e.0) parts.0)) (below_less x y es less parts.1)
+    rw (thing_total.trans x y e.0 less (is_less (thing_cmp y e.0) parts.0)) (below_less x y es less parts.1)
 
 -- a count with a row
 abbrev Entry : Type 0

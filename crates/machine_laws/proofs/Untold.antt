@@ -1,11 +1,11 @@
 -- Nothing is told of a reaped actor, and it stays so.
-use Rattle.std.proofs.Common.{◌≡◌, ℕ, not, filter, Bool, true, false, Some, None, List, [], ◌∷◌, refl, ap, sym, ◌∙◌, subst, arith, ⊎_elim}
+use Rattle.std.proofs.Common.{◌≡◌, ◌≢◌, ℕ, not, filter, Bool, true, false, Some, None, List, [], ◌∷◌, refl, ap, sym, ◌∙◌, subst, arith, ⊎_elim}
 use Rattle.std.proofs.lemmas.Bool.{cases_Bool}
 use Rattle.orca_names.specs.declared.names.Thing.TheVariants.{Actor}
 use Rattle.event_rule.specs.declared.event.Event.{Event}
 use Rattle.event_rule.specs.declared.event.Event.TheVariants.{Reap}
 use Rattle.letter_kinds.proofs.Counts.{has_actor}
-use Rattle.letter_kinds.specs.Detector.{Token, closed_set, has, hear_note}
+use Rattle.letter_kinds.specs.Detector.{closed_set, has, hear_note}
 use Rattle.letter_kinds.specs.declared.letter.Letter.{Letter}
 use Rattle.letter_kinds.specs.declared.letter.Letter.TheVariants.{App, Inc, Dec, Confirm}
 use Rattle.letter_kinds.specs.declared.note.Note.{Note}
@@ -20,7 +20,6 @@ use Rattle.plain_rules.specs.Machine.{PlainState, plain_row}
 use Rattle.machine_laws.specs.AllFacts.{AllFacts}
 use Rattle.machine_rules.specs.Actors.{Seat, cell_of, seat_at}
 use Rattle.machine_rules.specs.Block.{held_actors}
-use Rattle.machine_rules.specs.Next.{next}
 use Rattle.orca_names.specs.declared.trace.Trace.{Trace}
 use Rattle.machine_rules.specs.State.{State, first_state}
 use Rattle.machine_rules.specs.Take.{note_of, notes_after}
@@ -34,10 +33,10 @@ use Rattle.detector_laws.proofs.Cells.{some_not_none}
 use Rattle.detector_laws.proofs.Hear.{unmade-heard}
 use Rattle.detector_laws.proofs.Named.{numbered_is_open}
 use Rattle.detector_laws.proofs.Notes.{IsSilentOn-push, SaysNothing}
-use Rattle.detector_laws.proofs.Reap.{report_of-in, report_of-out}
+use Rattle.detector_laws.proofs.Reap.{kept_report-in, kept_report-out}
 use Rattle.detector_laws.proofs.Scan.{scanned_kept}
 use Rattle.detector_laws.specs.Reports.{IsSilentOn}
-use Rattle.letter_kinds.specs.Reports.{report_of}
+use Rattle.letter_kinds.specs.Reports.{kept_report}
 use Rattle.machine_laws.proofs.Balancing.{present_below}
 use Rattle.machine_laws.proofs.Reaping.{departs}
 use Rattle.machine_laws.proofs.Seen.{world}
@@ -60,7 +59,7 @@ module _ (trace : Trace) (p : PlainState) (s : State) (facts : AllFacts trace p 
           (let b = (sealed a member).blocked in let below = present_below s.actors a b.cell b.here in let l = length-reap token.members s.actors in omega arith),
           λ left. some_not_none (ap cell_of left.present) (clears a member).0,
         );
-        untold = λ a member. record { unkept = report_of-out token.members s.detector.kept a member; silent = (sealed a member).silent };
+        untold = λ a member. record { unkept = kept_report-out token.members s.detector.kept a member; silent = (sealed a member).silent };
       }
 
 pub reaps_leave_none_told : ReapsLeaveNoneTold
@@ -72,10 +71,10 @@ abbrev Stays : State → Event → State → Type 0
 Stays s e t = (a : ℕ) → IsGone s.actors (Actor a) → IsUntold s a → IsUntold t a
 
 -- who is present is another
-other : (s : State) (a b : ℕ) (o : Seat) → IsGone s.actors (Actor a) → seat_at s.actors b ≡ Some o → b ≡ a → ⊥
+other : (s : State) (a b : ℕ) (o : Seat) → IsGone s.actors (Actor a) → seat_at s.actors b ≡ Some o → b ≢ a
 other s a b o gone at same = gone.1 (record { seat = o; present = ap (seat_at s.actors) (sym same) ∙ at; kept = has_actor o.cell.holdings a })
 
-note_of_other : (a b : ℕ) (l : Letter) → (b ≡ a → ⊥) → SaysNothing a (note_of b l)
+note_of_other : (a b : ℕ) (l : Letter) → b ≢ a → SaysNothing a (note_of b l)
 note_of_other a b (App behaviour args load rows) apart = apart
 note_of_other a b (Inc things) apart = apart
 note_of_other a b (Dec things) apart = apart
@@ -86,16 +85,16 @@ silent_after a true note notes says silent = IsSilentOn-push a notes note silent
 silent_after a false note notes says silent = silent
 
 -- the same reports and notes
-same : (s t : State) (a : ℕ) → report_of t.detector.kept a ≡ report_of s.detector.kept a → IsSilentOn a t.notes → IsUntold s a → IsUntold t a
+same : (s t : State) (a : ℕ) → kept_report t.detector.kept a ≡ kept_report s.detector.kept a → IsSilentOn a t.notes → IsUntold s a → IsUntold t a
 same s t a kept silent un = record { unkept = kept ∙ un.unkept; silent = silent }
 
-heard_after : (s : State) (a : ℕ) (note : Note) (later : List Note) → s.notes ≡ note ∷ later → IsUntold s a → (report_of (hear_note note s.detector).kept a ≡ None) × IsSilentOn a later
+heard_after : (s : State) (a : ℕ) (note : Note) (later : List Note) → s.notes ≡ note ∷ later → IsUntold s a → (kept_report (hear_note note s.detector).kept a ≡ None) × IsSilentOn a later
 heard_after s a note later is un = unmade-heard (world s) note later a (un.unkept, subst (IsSilentOn a) is un.silent)
 
-without_members : (members : List ℕ) (kept : List Report) (a : ℕ) → report_of kept a ≡ None → report_of (filter (λ r. not (has members r.actor)) kept) a ≡ None
+without_members : (members : List ℕ) (kept : List Report) (a : ℕ) → kept_report kept a ≡ None → kept_report (filter (λ r. not (has members r.actor)) kept) a ≡ None
 without_members members kept a none = ⊎_elim
-    (λ (member : has members a ≡ true). report_of-out members kept a member)
-    (λ apart. report_of-in members kept a apart ∙ none)
+    (λ (member : has members a ≡ true). kept_report-out members kept a member)
+    (λ apart. kept_report-in members kept a apart ∙ none)
     (cases_Bool (has members a))
 
 stays : (trace : Trace) (s : State) {e : Event} {t : State} → IsStep trace s e t → Stays s e t
@@ -110,7 +109,7 @@ stays trace s (rule.collects b c mail at may) a gone un = same s _ a refl un.sil
 stays trace s (rule.leaves b c mail at may) a gone un = same s _ a refl un.silent un
 stays trace s (rule.blocks b c mail at may) a gone un = same s _ a refl (IsSilentOn-push a s.notes (Block b c.holdings.count (held_actors c.holdings)) un.silent (other s a b _ gone at)) un
 stays trace s (rule.hears note later is) a gone un = let z = heard_after s a note later is un in record { unkept = z.0; silent = z.1 }
-stays trace s (rule.scans news) a gone un = same s _ a (ap (λ kept. report_of kept a) (scanned_kept s.detector (closed_set s.detector))) un.silent un
+stays trace s (rule.scans news) a gone un = same s _ a (ap (λ kept. kept_report kept a) (scanned_kept s.detector (closed_set s.detector))) un.silent un
 stays trace s (rule.reaps number token is) a gone un = record { unkept = without_members token.members s.detector.kept a un.unkept; silent = un.silent }
 
 pub untold_stays : UntoldStaysUntold

@@ -1,5 +1,5 @@
 -- How large the counts of a run can get.
-use Rattle.std.specs.Prelude.{ℕ, ◌*◌, ◌^◌, ◌<◌, ◌≤◌, List, length}
+use Rattle.std.specs.Prelude.{ℕ, ◌*◌, ◌^◌, ◌<◌, ◌≤◌, List, length, ⊤}
 use Rattle.std.specs.List.{AllByRecursion}
 use Rattle.orca_names.specs.declared.names.Thing.{Thing}
 use Rattle.behaviour_code.specs.declared.code.Program.{Program}
@@ -36,8 +36,8 @@ pub record OfEachTold (P : ℕ → Type 0) (r : Report) : Type 0 where
 
 abbrev pub OfNote : (ℕ → Type 0) → Note → Type 0
 OfNote P (Block a count held) = OfEachTold P (report_told a count held)
-OfNote P (Unblock a) = Unit {0}
-OfNote P (Ack token a) = Unit {0}
+OfNote P (Unblock a) = ⊤
+OfNote P (Ack token a) = ⊤
 
 -- something holds of each count that a note or a kept report tells
 pub record OfTold (P : ℕ → Type 0) (s : State) : Type 0 where

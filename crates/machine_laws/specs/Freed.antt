@@ -24,7 +24,7 @@ pub record StaysFreed (program : Program) (options : Options) (book later : List
   -- what is left was made; so what was left and is not left any more was freed
   pub made : (x : Thing) → IsLeft mid.actors x → IsMade before.actors x
   pub freed : (x : Thing) → IsFreed before.actors mid.actors x → IsFreed after.actors t.actors x
-  pub unreached : (x : Thing) → IsFreed before.actors mid.actors x → IsReachable after x → ⊥
+  pub unreached : (x : Thing) → IsFreed before.actors mid.actors x → ¬ IsReachable after x
 
 -- so it is for each prefix of each run
 abbrev pub FreedStaysFreed : Type 0

@@ -3,7 +3,7 @@ use Rattle.std.specs.Prelude.{ℕ, ◌≡◌, ◌↔◌, true, false, List, [], 
 use Rattle.orca_names.specs.declared.names.Thing.{Thing}
 use Rattle.behaviour_code.specs.declared.code.Program.{Program}
 use Rattle.event_rule.specs.declared.event.Event.{Event}
-use Rattle.letter_kinds.specs.Reports.{report_of}
+use Rattle.letter_kinds.specs.Reports.{kept_report}
 use Rattle.letter_kinds.specs.declared.letter.Letter.{Letter}
 use Rattle.letter_kinds.specs.declared.note.Report.{Report}
 use Rattle.machine_rules.specs.Actors.{seat, seat_at}
@@ -68,7 +68,7 @@ pub record IsNeverTooEarly (program : Program) (options : Options) (book : List 
   pub covered : NeverOverdraws options.trace s.actors
   -- what is reachable is left, and nothing freed is reachable
   pub left : (x : Thing) → IsReachable plain x → IsLeft s.actors x
-  pub freed : (x : Thing) → IsFreed plain.actors s.actors x → IsReachable plain x → ⊥
+  pub freed : (x : Thing) → IsFreed plain.actors s.actors x → ¬ IsReachable plain x
   -- no actor and no letter names what was freed, and no actor reaches it through the rows that it has
   pub named : NamesNothingFreed s.actors
   pub reached : ReachesNothingFreed options.trace s.actors
@@ -110,7 +110,7 @@ pub record DetectorRests (s : State) : Type 0 where
   pub tokens : s.detector.tokens ≡ []
   pub reports : (a : ℕ) (c : Cell) (mail : List Letter) → seat_at s.actors a ≡ seat c mail
       → c.fields.pinned ≡ false →
-      (r : Report) × (report_of s.detector.kept a ≡ Some r) × IsReportOf a c r
+      (r : Report) × (kept_report s.detector.kept a ≡ Some r) × IsReportOf a c r
 
 abbrev pub DetectorRestsAtQuiet : Type 0
 DetectorRestsAtQuiet =

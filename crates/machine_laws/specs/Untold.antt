@@ -5,7 +5,7 @@ use Rattle.behaviour_code.specs.declared.code.Program.{Program}
 use Rattle.event_rule.specs.declared.event.Event.{Event}
 use Rattle.event_rule.specs.declared.event.Event.TheVariants.{Reap}
 use Rattle.letter_kinds.specs.Detector.{Token, has, token_numbered}
-use Rattle.letter_kinds.specs.Reports.{report_of}
+use Rattle.letter_kinds.specs.Reports.{kept_report}
 use Rattle.event_rule.specs.Runs.{Leads, Goes}
 use Rattle.machine_rules.specs.Next.{next}
 use Rattle.orca_names.specs.declared.trace.Trace.{Trace}
@@ -19,7 +19,7 @@ use Rattle.machine_laws.specs.AllFacts.{AllFacts}
 
 -- no report of the actor is kept, and no Block and no Unblock of it is among the notes
 pub record IsUntold (s : State) (a : ℕ) : Type 0 where
-  pub unkept : report_of s.detector.kept a ≡ None
+  pub unkept : kept_report s.detector.kept a ≡ None
   pub silent : IsSilentOn a s.notes
 
 -- the token of this number is open in s; in t its members are gone, and nothing is told of them

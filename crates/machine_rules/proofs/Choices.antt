@@ -1,5 +1,5 @@
 -- Which takes and goes are choices, by the rule.
-use Rattle.std.proofs.Common.{◌≡◌, ◌&&◌, ℕ, Bool, Option, Some, None, is_none, List, ◌∷◌, ap, ◌∙◌}
+use Rattle.std.proofs.Common.{◌≡◌, ◌&&◌, ℕ, Some, is_none, List, ◌∷◌, ap, ◌∙◌}
 use Rattle.turn_rules.specs.declared.act.Act.{Act}
 use Rattle.turn_rules.specs.declared.act.Frame.{Frame}
 use Rattle.event_rule.specs.declared.event.Event.TheVariants.{Take, Go}

@@ -63,30 +63,30 @@ module _ (s : State) where
 
 -- ---- what is enabled, from what can be
 
-room_enables : (t : State) (room : Bool) → (if room then Goes t else IsFull) ≡ NotEnabled → ⊥
+room_enables : (t : State) (room : Bool) → (if room then Goes t else IsFull) ≢ NotEnabled
 room_enables t true e = cc
 room_enables t false e = cc
 
-act_enables : (trace : Trace) (s : State) (a : ℕ) (c : Cell) (mail : List Letter) (f : Frame) (stop : Stop) (act : Act) → act_in trace s a c mail f stop act ≡ NotEnabled → ⊥
+act_enables : (trace : Trace) (s : State) (a : ℕ) (c : Cell) (mail : List Letter) (f : Frame) (stop : Stop) (act : Act) → act_in trace s a c mail f stop act ≢ NotEnabled
 act_enables trace s a c mail f stop End e = cc
 act_enables trace s a c mail f stop (Print v) e = cc
 act_enables trace s a c mail f stop (New kind register) e = room_enables _ (nat_lt (length s.actors) 65536) e
 act_enables trace s a c mail f stop (Post to behaviour args) e = cc
 
-take_enables : (s : State) (a : ℕ) (c : Cell) (mail : List Letter) → mail ≢ [] → take s a c mail ≡ NotEnabled → ⊥
+take_enables : (s : State) (a : ℕ) (c : Cell) (mail : List Letter) → mail ≢ [] → take s a c mail ≢ NotEnabled
 take_enables s a c [] some e = some refl
 take_enables s a c (l ∷ mail) some e = cc
 
 turn_enables : (trace : Trace) (s : State) (a : ℕ) (c : Cell) (mail : List Letter) (f : Frame) (need : Option Thing)
-    → needing s a c mail need (act_in trace s a c mail (stopped_at f (turn_of_cell trace s.program a c f)) (turn_of_cell trace s.program a c f) (turn_of_cell trace s.program a c f).act) ≡ NotEnabled → ⊥
+    → needing s a c mail need (act_in trace s a c mail (stopped_at f (turn_of_cell trace s.program a c f)) (turn_of_cell trace s.program a c f) (turn_of_cell trace s.program a c f).act) ≢ NotEnabled
 turn_enables trace s a c mail f None e = let stop = turn_of_cell trace s.program a c f in act_enables trace s a c mail (stopped_at f stop) stop stop.act e
 turn_enables trace s a c mail f (Some x) e = cc
 
-go_enables : (trace : Trace) (s : State) (a : ℕ) (c : Cell) (mail : List Letter) (f : Frame) → c.frame ≡ Some f → go trace s a c mail ≡ NotEnabled → ⊥
+go_enables : (trace : Trace) (s : State) (a : ℕ) (c : Cell) (mail : List Letter) (f : Frame) → c.frame ≡ Some f → go trace s a c mail ≢ NotEnabled
 go_enables trace s a c mail f is e =
     turn_enables trace s a c mail f (needed trace s.program a c f) (sym (ap (λ g. option_map_or (turn_in trace s a c mail) g NotEnabled) is) ∙ e)
 
-hear_enables : (s : State) (later : List Note) → later ≢ [] → hear s later ≡ NotEnabled → ⊥
+hear_enables : (s : State) (later : List Note) → later ≢ [] → hear s later ≢ NotEnabled
 hear_enables s [] some e = some refl
 hear_enables s (n ∷ later) some e = cc
 
@@ -110,7 +110,7 @@ enabled_exactly s e = (can s e, enabled s e)
 room_left : (t : State) (n : ℕ) → (if nat_lt n 65536 then Goes t else IsFull) ≡ IsFull → 65536 ≤ n
 room_left t n e = ⊎_elim (λ below. absurd (has_room (nat_lt n 65536) (lt-ltb n 65536 below) e)) (λ from. from) (cases_lt n 65536)
   where
-    has_room : (room : Bool) → room ≡ true → (if room then Goes t else IsFull) ≡ IsFull → ⊥
+    has_room : (room : Bool) → room ≡ true → (if room then Goes t else IsFull) ≢ IsFull
     has_room true is e = cc
     has_room false is e = cc
 
@@ -165,19 +165,19 @@ module _ (s : State) (a : ℕ) (c : Cell) (mail : List Letter) (at : seat_at s.a
 on : (step : Step State) → step ≡ IsFull → step ≢ NotEnabled
 on step full off = let e : NotEnabled ≡ IsFull = sym off ∙ full in cc
 
-take_not_full : (s : State) (a : ℕ) (c : Cell) (mail : List Letter) → take s a c mail ≡ IsFull → ⊥
+take_not_full : (s : State) (a : ℕ) (c : Cell) (mail : List Letter) → take s a c mail ≢ IsFull
 take_not_full s a c [] e = cc
 take_not_full s a c (l ∷ mail) e = cc
 
-hear_not_full : (s : State) (later : List Note) → hear s later ≡ IsFull → ⊥
+hear_not_full : (s : State) (later : List Note) → hear s later ≢ IsFull
 hear_not_full s [] e = cc
 hear_not_full s (n ∷ later) e = cc
 
-scan_not_full : (s : State) (news : Bool) → (if news then scan s else NotEnabled) ≡ IsFull → ⊥
+scan_not_full : (s : State) (news : Bool) → (if news then scan s else NotEnabled) ≢ IsFull
 scan_not_full s false e = cc
 scan_not_full s true e = cc
 
-reap_not_full : (s : State) (found : Option Token) → option_map_or (reap s) found NotEnabled ≡ IsFull → ⊥
+reap_not_full : (s : State) (found : Option Token) → option_map_or (reap s) found NotEnabled ≢ IsFull
 reap_not_full s None e = cc
 reap_not_full s (Some t) e = cc
 

@@ -1,18 +1,18 @@
 -- Where a state is not quiet, one event is the first of those that are enabled.
 use Rattle.std.proofs.Common.{◌≡◌, ◌⊎◌, ℕ, zero, suc, ◌<◌, ◌==◌, true, false, Some, List, [], ◌∷◌, length, refl, ap, sym, subst, ◌∙◌, arith, inl, inr, ⊎_elim, eqb-true}
 use Rattle.std.specs.List.{find}
-use Rattle.std.specs.Prelude.{if◌then◌else◌}
+use Rattle.std.specs.Prelude.{if◌then◌else◌, ⊤}
 use Rattle.std.proofs.lemmas.Bool.{cases_eq, cases_lt}
 use Rattle.event_rule.specs.declared.event.Event.{Event}
 use Rattle.event_rule.specs.declared.event.Event.TheVariants.{Take, Go, Collect, Leave, Block, Hear, Scan, Reap}
 use Rattle.letter_kinds.specs.Detector.{Token}
 use Rattle.machine_rules.proofs.Enabling.{enabled_exactly, full_exactly}
-use Rattle.event_rule.proofs.Ordered.{Upto, upto_both, upto_or, upto_trans}
+use Rattle.event_rule.proofs.Ordered.{Upto, upto_or, upto_trans}
 use Rattle.machine_rules.proofs.Guards.{acked_open}
 use Rattle.machine_rules.proofs.Present.{present_below}
 use Rattle.event_rule.specs.Events.{actor_of}
 use Rattle.machine_rules.specs.Enabled.{CanHappen}
-use Rattle.event_rule.specs.Runs.{ActorsFull, Budget, Ending, EndsAs, GoesOn, Quiet, GoesOnOrEnds, NoneIsFirstAtQuiet, OneIsFirst, QuietOrFirst, IsEnabled, IsFirst, IsQuiet, Step, NotEnabled, IsFull, Goes}
+use Rattle.event_rule.specs.Runs.{ActorsFull, Budget, Ending, EndsAs, GoesOn, Quiet, GoesOnOrEnds, QuietOrFirst, IsEnabled, IsFirst, IsQuiet, Step, NotEnabled, IsFull, Goes}
 use Rattle.machine_rules.specs.Next.{next}
 use Rattle.machine_rules.specs.State.{State}
 
@@ -25,7 +25,7 @@ module _ (s : State) where
     pub least : (f : Event) → P f → IsEnabled next s f → Upto event f
 
   abbrev Best : (Event → Type 0) → Type 0
-  Best P = IsBest P ⊎ ((f : Event) → P f → IsEnabled next s f → ⊥)
+  Best P = IsBest P ⊎ ((f : Event) → P f → ¬ IsEnabled next s f)
 
   enabled_or_not : (e : Event) → IsEnabled next s e ⊎ (next s e ≡ NotEnabled)
   enabled_or_not e = by_step (next s e) refl
@@ -128,11 +128,11 @@ module _ (s : State) where
   any Scan can = inr (inr (inl refl))
   any (Reap number) can = inr (inr (inr (number, refl, found_among number s.detector.tokens can.0 (acked_open number s.detector can.0 can.1).0)))
 
-  best : Best (λ f. Unit {0})
-  best = best_of Any (λ f. Unit {0}) (λ f h mark. any f ((enabled_exactly s f).0 h))
+  best : Best (λ f. ⊤)
+  best = best_of Any (λ f. ⊤) (λ f h mark. any f ((enabled_exactly s f).0 h))
       (best_both _ _ (of_actors (length s.actors)) (best_both _ _ (best_one Hear) (best_both _ _ (best_one Scan) (of_tokens s.detector.tokens))))
 
-  none_quiet : ((f : Event) → Unit {0} → IsEnabled next s f → ⊥) → IsQuiet next s
+  none_quiet : ((f : Event) → ⊤ → ¬ IsEnabled next s f) → IsQuiet next s
   none_quiet none f = ⊎_elim (λ on. absurd (none f tt on)) (λ off. off) (enabled_or_not f)
 
 pub quiet_or_first : QuietOrFirst next

@@ -17,19 +17,19 @@ use Rattle.machine_rules.specs.State.{State}
 abbrev pub AtRest : Actors → Type 0
 AtRest actors = Every (λ a c mail. IsAtRest c mail) actors
 
-no_frame : {A : Type 0} (o : Option A) → (is_some o ≡ true → ⊥) → o ≡ None
+no_frame : {A : Type 0} (o : Option A) → is_some o ≢ true → o ≡ None
 no_frame None h = refl
 no_frame (Some x) h = absurd (h refl)
 
-no_letter : (c : Cell) (mail : List Letter) → c.frame ≡ None → (may_take c mail ≡ true → ⊥) → mail ≡ []
+no_letter : (c : Cell) (mail : List Letter) → c.frame ≡ None → may_take c mail ≢ true → mail ≡ []
 no_letter c [] idle h = refl
 no_letter c (l ∷ mail) idle h = absurd (h (may_take-first c l mail idle))
 
-pub is_nil : {A : Type 0} (xs : List A) → (xs ≢ [] → ⊥) → xs ≡ []
+pub is_nil : {A : Type 0} (xs : List A) → ¬ (xs ≢ []) → xs ≡ []
 is_nil [] h = refl
 is_nil (x ∷ xs) h = absurd (h (λ e. cc))
 
-pub none_can : (s : State) → IsQuiet next s → (e : Event) → CanHappen s e → ⊥
+pub none_can : (s : State) → IsQuiet next s → (e : Event) → ¬ CanHappen s e
 none_can s quiet e can = enabled s e can (quiet e)
 
 pub quiet_rest : (s : State) → IsQuiet next s → AtRest s.actors

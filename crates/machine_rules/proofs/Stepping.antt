@@ -1,8 +1,7 @@
 -- Each event that leads to a state does so by one of the rules.
-use Rattle.std.proofs.Common.{◌≡◌, ◌≢◌, ℕ, ◌<◌, nat_lt, Bool, true, false, Option, Some, None, List, [], ◌∷◌, length, ltb-true, refl, sym, ◌∙◌, subst}
+use Rattle.std.proofs.Common.{◌≡◌, ◌≢◌, ℕ, nat_lt, Bool, true, false, Option, Some, None, List, [], ◌∷◌, length, ltb-true, refl, sym, ◌∙◌, subst}
 use Rattle.std.specs.Option.{option_map_or}
 use Rattle.std.specs.Prelude.{if◌then◌else◌}
-use Rattle.orca_names.specs.Names.{owner_of}
 use Rattle.orca_names.specs.declared.names.Thing.{Thing}
 use Rattle.orca_names.specs.declared.names.Value.{Value}
 use Rattle.turn_rules.specs.declared.act.Act.{Act}
@@ -18,7 +17,7 @@ use Rattle.letter_kinds.specs.declared.note.Note.{Note}
 use Rattle.letter_kinds.specs.Counting.{Loaded}
 use Rattle.letter_kinds.specs.Detector.{Token}
 use Rattle.plain_rules.specs.Machine.{with_name}
-use Rattle.machine_rules.specs.Actors.{Seat, seat, seat_at}
+use Rattle.machine_rules.specs.Actors.{seat, seat_at}
 use Rattle.machine_rules.specs.Block.{block}
 use Rattle.machine_rules.specs.Cell.{Cell, fresh_cell}
 use Rattle.machine_rules.specs.Collect.{collect}
@@ -28,11 +27,11 @@ use Rattle.machine_rules.specs.Guards.{may_block, may_collect, may_go, may_leave
 use Rattle.machine_rules.specs.Leave.{leave}
 use Rattle.machine_rules.specs.Next.{acting, next, next_by}
 use Rattle.orca_names.specs.declared.trace.Trace.{Trace}
-use Rattle.machine_rules.specs.Rules.{IsGoing, IsStep, StopsAt, blocks, collects, ends, gets, hears, cell_kept, cell_kept_in, later_frame, leaves, makes, mints, posts, prints, reaps, scans, takes}
+use Rattle.machine_rules.specs.Rules.{IsGoing, IsStep, blocks, collects, ends, gets, hears, cell_kept, cell_kept_in, later_frame, leaves, makes, mints, posts, prints, reaps, scans, takes}
 use Rattle.machine_rules.specs.State.{State}
 use Rattle.machine_rules.specs.Take.{take}
 use Rattle.machine_rules.proofs.Acting.{Acts, acts}
-use Rattle.machine_rules.proofs.Guards.{framed, taker}
+use Rattle.machine_rules.proofs.Guards.{taker}
 
 module _ (trace : Trace) (s t : State) where
   abbrev Steps : Event → State → Type 0

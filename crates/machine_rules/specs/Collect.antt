@@ -1,21 +1,20 @@
 -- Collect: an idle actor that did something frees what its fields do not reach (Orca, OOPSLA 2017).
-use Rattle.std.specs.Prelude.{ℕ, ◌==◌, not, true, false, Bool, List, ◌++◌, filter, map, set, Option, Some, None}
+use Rattle.std.specs.Prelude.{ℕ, ◌==◌, not, false, Bool, List, ◌++◌, filter, map, set}
 use Rattle.std.specs.List.{list_any}
 use Rattle.std.specs.FinMap as m
 use Rattle.orca_names.specs.Names.{is_thing}
 use Rattle.orca_names.specs.declared.names.Thing.{Thing}
 use Rattle.orca_names.specs.declared.names.Value.{Value}
 use Rattle.orca_names.specs.declared.names.Value.TheVariants as values
-use Rattle.turn_rules.specs.declared.act.Frame.{Frame}
 use Rattle.reach_walk.specs.Marks.{marks_of}
 use Rattle.letter_kinds.specs.declared.letter.Letter.{Letter}
 use Rattle.letter_kinds.specs.Holdings.{row_of}
 use Rattle.letter_kinds.specs.Counting.{by_owner, given_back, sweep}
-use Rattle.machine_rules.specs.Actors.{Actors, Seat, push_decs, seat}
+use Rattle.machine_rules.specs.Actors.{Actors, push_decs, seat}
 use Rattle.machine_rules.specs.Cell.{Cell, known_objects, listed_objects, own_row_of, row_by_roots}
 use Rattle.orca_names.specs.declared.trace.Trace.{Trace}
 use Rattle.orca_names.specs.declared.trace.Trace.TheVariants.{Deep, Roots}
-use Rattle.event_rule.specs.Runs.{Step, NotEnabled, Goes}
+use Rattle.event_rule.specs.Runs.{Step, Goes}
 use Rattle.machine_rules.specs.State.{State}
 
 -- what the actor's fields reach, as far as it knows

@@ -1,5 +1,5 @@
 -- What is left in the machine that collects, and what was freed.
-use Rattle.std.specs.Prelude.{ℕ, ◌<◌, ◌≡◌, true, List, length, is_some, sum_by, Some}
+use Rattle.std.specs.Prelude.{◌<◌, ◌≡◌, true, List, length, is_some, Some}
 use Rattle.orca_names.specs.Names.{owner_of}
 use Rattle.orca_names.specs.declared.names.Thing.{Thing}
 use Rattle.orca_names.specs.declared.names.Thing.TheVariants.{Actor, Obj}
@@ -21,4 +21,4 @@ IsMade actors (Obj n) = is_some (plain_row actors n) ≡ true
 
 -- it was made and is no longer there
 abbrev pub IsFreed : List PlainActor → Actors → Thing → Type 0
-IsFreed made actors x = IsMade made x × (IsLeft actors x → ⊥)
+IsFreed made actors x = IsMade made x × (¬ IsLeft actors x)

@@ -1,5 +1,5 @@
 -- The events of the machine that collects: what each leads to.
-use Rattle.std.specs.Prelude.{◌≡◌, Bool, false, if◌then◌else◌, List, [], ℕ, Option, None, Some}
+use Rattle.std.specs.Prelude.{◌≡◌, Bool, false, if◌then◌else◌, List, [], Option, None, Some}
 use Rattle.std.specs.Option.{option_map_or}
 use Rattle.event_rule.specs.Runs.{Step, NotEnabled}
 use Rattle.event_rule.specs.declared.event.Event.{Event}

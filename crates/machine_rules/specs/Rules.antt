@@ -1,5 +1,5 @@
 -- The rules of the machine that collects, one by one: which events lead from a state to which state.
-use Rattle.std.specs.Prelude.{ℕ, suc, ◌≡◌, ◌<◌, true, List, [], ◌∷◌, ◌++◌, length, set, Option, Some, None}
+use Rattle.std.specs.Prelude.{ℕ, suc, ◌≡◌, ◌<◌, true, List, [], ◌∷◌, ◌++◌, length, set, Some, None}
 use Rattle.orca_names.specs.Names.{owner_of}
 use Rattle.orca_names.specs.declared.names.Thing.{Thing}
 use Rattle.orca_names.specs.declared.names.Value.{Value}

@@ -1,17 +1,16 @@
 -- Take: an actor without a frame takes the first of its letters.
-use Rattle.std.specs.Prelude.{ℕ, true, false, Bool, ◌==◌, if◌then◌else◌, List, [], ◌∷◌, ◌++◌, set, Option, Some, None}
+use Rattle.std.specs.Prelude.{ℕ, true, false, Bool, ◌==◌, if◌then◌else◌, List, [], ◌∷◌, ◌++◌, set}
 use Rattle.std.specs.FinMap as m
 use Rattle.std.specs.Option.{option_map_or}
 use Rattle.orca_names.specs.Names.{owner_of, thing_cmp}
 use Rattle.behaviour_code.specs.declared.code.Program.{Program}
-use Rattle.turn_rules.specs.declared.act.Frame.{Frame}
 use Rattle.letter_kinds.specs.declared.letter.Letter.{Letter}
 use Rattle.letter_kinds.specs.declared.letter.Letter.TheVariants.{App, Inc, Dec, Confirm}
 use Rattle.letter_kinds.specs.declared.note.Note.{Note}
 use Rattle.letter_kinds.specs.declared.note.Note.TheVariants.{Unblock, Ack}
 use Rattle.letter_kinds.specs.Counting.{Loaded, lower_all, raise_all, receive}
 use Rattle.letter_kinds.specs.Holdings.{Row}
-use Rattle.machine_rules.specs.Actors.{Seat, seat, seat_at}
+use Rattle.machine_rules.specs.Actors.{seat}
 use Rattle.machine_rules.specs.Cell.{Cell}
 use Rattle.event_rule.specs.Runs.{Step, NotEnabled, Goes}
 use Rattle.plain_rules.specs.Machine.{frame_of}

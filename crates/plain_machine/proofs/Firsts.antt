@@ -92,7 +92,7 @@ act_leads_on s a frame fields made (New kind register) e = cases (nat_lt (length
     next : PlainState
     next = next_state s (with_turn s.actors a (Some (with_name frame register (length s.actors))) fields made ++ fresh_actor s.program kind ∷ []) s.prints
 
-    cases : (room : Bool) → (if room then Goes next else IsFull) ≡ NotEnabled → ⊥
+    cases : (room : Bool) → (if room then Goes next else IsFull) ≢ NotEnabled
     cases true e = cc
     cases false e = cc
 
@@ -170,13 +170,13 @@ idle_has_none a x idle = by_parts x.frame x.letters refl refl
     by_parts None [] f l = ap₂ (event_with a) f l
 
 -- an actor among those that are idle can do nothing
-idle_can_not : (actors : List PlainActor) (a : ℕ) (x : PlainActor) (e : Event) → All IsIdle actors → slice_get actors a ≡ Some x → event_of a x ≡ Some e → ⊥
+idle_can_not : (actors : List PlainActor) (a : ℕ) (x : PlainActor) (e : Event) → All IsIdle actors → slice_get actors a ≡ Some x → event_of a x ≢ Some e
 idle_can_not actors a x e idle there event =
     let it : IsIdle x = subst IsIdle (get_or_from_slice_get actors a x x there) (idle a x (slice_get_within actors a x there)) in
     let none = idle_has_none a x it in
     cc
 
-before_can_not : (actors : List PlainActor) (n a : ℕ) (x : PlainActor) (e : Event) → n ≤ length actors → a < n → All IsIdle (take n actors) → slice_get actors a ≡ Some x → event_of a x ≡ Some e → ⊥
+before_can_not : (actors : List PlainActor) (n a : ℕ) (x : PlainActor) (e : Event) → n ≤ length actors → a < n → All IsIdle (take n actors) → slice_get actors a ≡ Some x → event_of a x ≢ Some e
 before_can_not actors n a x e within h idle there event =
     let at = get_or-take n actors a x h ∙ get_or_from_slice_get actors a x x there in
     let it : IsIdle x = subst IsIdle at (idle a x (omega (arith, length-take-le n actors within))) in
@@ -211,7 +211,7 @@ comes_first_is_first s e first = record {
 idle_is_quiet : (s : PlainState) → All IsIdle s.actors → IsQuiet plain_next s
 idle_is_quiet s idle e = cases (plain_next s e) refl
   where
-    can_not : IsEnabled plain_next s e → ⊥
+    can_not : ¬ IsEnabled plain_next s e
     can_not enabled = let can = enabled_can_do s e enabled in idle_can_not s.actors can.place can.actor e idle can.there can.event
 
     cases : (o : Step PlainState) → plain_next s e ≡ o → plain_next s e ≡ NotEnabled

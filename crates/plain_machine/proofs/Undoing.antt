@@ -7,13 +7,9 @@ use Rattle.turn_rules.specs.declared.act.Frame.{Frame}
 use Rattle.plain_rules.specs.declared.PlainActor.{PlainActor}
 use Rattle.plain_rules.specs.declared.PlainLetter.{PlainLetter}
 use Rattle.plain_rules.specs.Machine.{with_changed, with_letter, with_turn}
+use Rattle.plain_rules.proofs.Changing.{with_changed-cons}
 use Rattle.plain_machine.specs.declared.acts.Stand.{Stand}
 use Rattle.plain_machine.specs.Undo.{has_rows, with_first_rows, with_kept, with_rows}
-use Rattle.std.specs.Option.{option_map_or}
-
-with_changed-cons : (x : PlainActor) (xs : List PlainActor) (a : ℕ) (change : PlainActor → PlainActor) → with_changed (x ∷ xs) (suc a) change ≡ x ∷ with_changed xs a change
-with_changed-cons x xs a change =
-    elim (slice_get xs a) as (λ o. option_map_or (λ y. x ∷ set xs a (change y)) o (x ∷ xs) ≡ x ∷ option_map_or (λ y. set xs a (change y)) o xs) [ None ↦ refl | Some y ↦ refl ]
 
 -- two changes of one actor, one after the other
 pub with_changed-twice : (actors : List PlainActor) (a : ℕ) (f g : PlainActor → PlainActor) → with_changed (with_changed actors a f) a g ≡ with_changed actors a (λ x. g (f x))

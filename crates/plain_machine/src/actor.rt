@@ -5,6 +5,7 @@ ghost use Rattle.std.specs.Bool.{OnTrue, OnFalse};
 ghost use Rattle.behaviour_code.specs.WellFormed.{IsWellFormed};
 ghost use Rattle.behaviour_code.specs.Find.{behaviours_of, takes_call};
 ghost use Rattle.plain_rules.specs.Machine.{actor_after_take, frame_of, fresh_actor, first_actor as the_first};
+ghost use Rattle.orca_names.specs.declared.limits.TheConstants.{BEHAVIOURS_LIMIT};
 
 use behaviour_code::{Behaviour, Program};
 use orca_names::{Args, Fields, NoMemory};
@@ -57,7 +58,7 @@ fn behaviour_place(behaviours: &[Behaviour], letter: &PlainLetter) -> Option<usi
 
 /// Starts the frame of a letter, if the kind has its behaviour with as many parameters.
 fn start_frame(program: &Program, kind: u32, letter: &PlainLetter, frame: &mut FrameRoom)
-    requires few { length (behaviours_of program.now kind) ≤ 64 }
+    requires few { length (behaviours_of program.now kind) ≤ BEHAVIOURS_LIMIT }
     requires idle { frame.old ≡ None }
     ensures { frame.new ≡ frame_of program.now kind letter.now }
 {
@@ -69,7 +70,7 @@ fn start_frame(program: &Program, kind: u32, letter: &PlainLetter, frame: &mut F
 
 /// Takes the first letter, where there is one and no frame.
 pub(crate) fn take_letter(program: &Program, actor: &mut PlainActor) -> bool
-    requires { length (behaviours_of program.now actor.old.kind) ≤ 64 }
+    requires { length (behaviours_of program.now actor.old.kind) ≤ BEHAVIOURS_LIMIT }
     ensures done { OnTrue result (actor_after_take program.now actor.old ≡ Some actor.new) }
     ensures not_ready { OnFalse result ((actor_after_take program.now actor.old ≡ None)
         × (actor.new ≡ actor.old)) }

@@ -4,6 +4,7 @@ ghost use Rattle.std.specs.Prelude.{◌≡◌, ◌<◌, [], ◌∷◌, ◌++◌,
 ghost use Rattle.behaviour_code.specs.WellFormed.{IsWellFormed};
 ghost use Rattle.plain_rules.specs.Machine.{fresh_actor as the_fresh, with_turn, with_letter};
 ghost use Rattle.plain_machine.specs.Undo.{has_rows, frame_left};
+ghost use Rattle.orca_names.specs.declared.limits.TheConstants.{ACTORS_LIMIT};
 
 use crate::actor::fresh_actor;
 use crate::table::Table;
@@ -102,7 +103,7 @@ pub(crate) fn make(
     kind: u32,
 ) -> Result<(), NoMemory>
     requires good { IsWellFormed program.now }
-    requires few { length actors.old < 65536 }
+    requires few { length actors.old < ACTORS_LIMIT }
     requires there { a < length actors.old }
     requires rows { IfSome (slice_get actors.old a) (has_rows stand.now) }
     ensures ok { OnOk result (actors.new

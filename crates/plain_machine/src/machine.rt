@@ -9,6 +9,7 @@ ghost use Rattle.plain_rules.specs.Run.{plain_next};
 ghost use Rattle.plain_rules.specs.Machine.{objects_made, plain_take, plain_go, start_of};
 ghost use Rattle.plain_rules.specs.Reach.{IsReachable};
 ghost use Rattle.plain_machine.specs.Faults.{Faulted};
+ghost use Rattle.orca_names.specs.declared.limits.TheConstants.{BOOK_LIMIT};
 
 use crate::actor::first_actor;
 use crate::events::go_in;
@@ -83,7 +84,7 @@ impl<'a> Plain<'a> {
     /// `NotReady` exactly where the actor was not made, has a frame or has no letter; nothing
     /// changes then. It takes no memory.
     pub fn take(&mut self, a: ActorName) -> Result<(), PlainFault>
-        requires { self.old.steps < 100000000 }
+        requires { self.old.steps < BOOK_LIMIT }
         ensures ok { OnOk result (plain_take self.old a ≡ Goes self.new) }
         ensures fault { IfErr result (λ e. (e ≡ PlainFault.NotReady)
             × (plain_take self.old a ≡ NotEnabled)) }
@@ -104,7 +105,7 @@ impl<'a> Plain<'a> {
     /// its act would make an actor and 65,536 are made; `NoMemory` where memory was refused. Nothing
     /// changes then.
     pub fn go(&mut self, alloc: Global, a: ActorName) -> Result<(), PlainFault>
-        requires { self.old.steps < 100000000 }
+        requires { self.old.steps < BOOK_LIMIT }
         ensures ok { OnOk result (plain_go self.old a ≡ Goes self.new) }
         ensures fault { IfErr result (Faulted (plain_go self.old a) a) }
         ensures same { OnErr result (self.new ≡ self.old) }

@@ -10,6 +10,7 @@ ghost use Rattle.reach_walk.specs.Reach.{Reaches};
 ghost use Rattle.plain_rules.specs.declared.PlainActor.{PlainActor as plain_actor};
 ghost use Rattle.plain_rules.specs.Reach.{is_root, plain_edges, roots_from, values_of};
 ghost use Rattle.plain_machine.specs.Things.{all_things, edges_are_listed};
+ghost use Rattle.orca_names.specs.declared.limits.TheConstants.{ACTORS_LIMIT};
 
 use crate::table::{AllRows, actor_at};
 use orca_names::{ActorName, NoMemory, Rows, Thing, Value};
@@ -101,7 +102,7 @@ fn is_root(actor: &PlainActor) -> bool
 
 /// The actors that are pinned, have a frame or have a letter.
 fn roots(alloc: Global, actors: &[PlainActor]) -> Result<Vec<Thing>, NoMemory>
-    requires { length actors.now ≤ 65536 }
+    requires { length actors.now ≤ ACTORS_LIMIT }
     ensures { IfOk result (λ roots. roots.items ≡ roots_from 0 actors.now) }
 {
     let mut roots = Vec::new(alloc);
@@ -115,7 +116,7 @@ fn roots(alloc: Global, actors: &[PlainActor]) -> Result<Vec<Thing>, NoMemory>
 
 /// All that is reachable from these actors, in the order of things.
 pub(crate) fn reached(alloc: Global, actors: &[PlainActor]) -> Result<Vec<Thing>, NoMemory>
-    requires { length actors.now ≤ 65536 }
+    requires { length actors.now ≤ ACTORS_LIMIT }
     ensures exact { IfOk result (λ found. (x : thing) → Contains found.items x
         ↔ Reaches (plain_edges actors.now) (roots_from 0 actors.now) x) }
     ensures rising { IfOk result (λ found. IsStrictlySortedBy thing_cmp found.items) }

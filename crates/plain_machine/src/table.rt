@@ -10,6 +10,7 @@ ghost use Rattle.plain_machine.specs.First.{ComesFirst, IsIdle};
 ghost use Rattle.plain_machine.specs.Ready.{IsIndex};
 ghost use Rattle.plain_machine.specs.State.{state_of};
 ghost use Rattle.plain_machine.specs.Undo.{frame_left, with_first_rows, with_kept, with_rows};
+ghost use Rattle.orca_names.specs.declared.limits.TheConstants.{ACTORS_LIMIT};
 
 use crate::actor::take_letter;
 use crate::acts::Stand;
@@ -86,7 +87,7 @@ impl Model for Table {
 /// Makes sure that the index has a place for one actor more.
 #[tactic(auto, using(crate::proofs::Indexing::index_after_grow))]
 fn reserve_place(ready: &mut ReadySet, actors: &[PlainActor]) -> Result<(), NoMemory>
-    requires few { length actors.now < 65536 }
+    requires few { length actors.now < ACTORS_LIMIT }
     requires index { IsIndex ready.old actors.now }
     ensures index { IsIndex ready.new actors.now }
     ensures ok { OnOk result (length actors.now < length ready.new) }
@@ -133,7 +134,7 @@ impl Table {
     /// One actor more.
     #[inline(always)]
     pub fn push(&mut self, actor: PlainActor) -> Result<(), NoMemory>
-        requires { length self.old < 65536 }
+        requires { length self.old < ACTORS_LIMIT }
         ensures ok { OnOk result (self.new ≡ self.old ++ actor ∷ []) }
         ensures err { OnErr result (self.new ≡ self.old) }
     {

@@ -1,5 +1,5 @@
 -- How large a state of the plain machine may be.
-use Rattle.std.specs.Prelude.{◌*◌, ◌≤◌, length}
+use Rattle.std.specs.Prelude.{◌*◌, ◌≤◌, length, ⊤}
 use Rattle.event_rule.specs.Runs.{Step, NotEnabled, IsFull, Goes}
 use Rattle.plain_rules.specs.Machine.{PlainState, objects_made}
 use Rattle.orca_names.specs.declared.limits.TheConstants.{ACTORS_LIMIT, BODY_LIMIT}
@@ -11,6 +11,6 @@ pub record IsWithinLimits (s : PlainState) : Type 0 where
 
 -- what holds of the state that an event leads to, if it leads to one
 abbrev pub OnGoes : (PlainState → Type 0) → Step PlainState → Type 0
-OnGoes P NotEnabled = Unit {0}
-OnGoes P IsFull = Unit {0}
+OnGoes P NotEnabled = ⊤
+OnGoes P IsFull = ⊤
 OnGoes P (Goes s) = P s

@@ -43,7 +43,7 @@ one_program input p q p_text p_good q_text q_good = let same : Ok q ≡ Ok p = s
 module _ (order : Order) (source : Sides) (answer : Status) (w : Work) (all : (answer ≡ status.NoMemory) ⊎ MeansSource answer w order source) where
   -- ---- down the layers, where a cause is absent
 
-  to_input : (input : List ℕ) → IsGiven source input → (HasFailed source → ⊥) → (answer ≡ status.NoMemory) ⊎ MeansInput answer w order input
+  to_input : (input : List ℕ) → IsGiven source input → ¬ HasFailed source → (answer ≡ status.NoMemory) ⊎ MeansInput answer w order input
   to_input input given sound = elim all as (λ _. (answer ≡ status.NoMemory) ⊎ MeansInput answer w order input) [
     | inl none ↦ inl none
     | inr means ↦ elim (open_source answer w order source means) as (λ _. (answer ≡ status.NoMemory) ⊎ MeansInput answer w order input) [
@@ -55,7 +55,7 @@ module _ (order : Order) (source : Sides) (answer : Status) (w : Work) (all : (a
     ]
   ]
 
-  to_text : (input : List ℕ) → IsGiven source input → (HasFailed source → ⊥) → length input < most_bytes → (answer ≡ status.NoMemory) ⊎ MeansText answer w order input
+  to_text : (input : List ℕ) → IsGiven source input → ¬ HasFailed source → length input < most_bytes → (answer ≡ status.NoMemory) ⊎ MeansText answer w order input
   to_text input given sound short = elim (to_input input given sound) as (λ _. (answer ≡ status.NoMemory) ⊎ MeansText answer w order input) [
     | inl none ↦ inl none
     | inr means ↦ elim (open_input answer w order input means) as (λ _. (answer ≡ status.NoMemory) ⊎ MeansText answer w order input) [
@@ -64,7 +64,7 @@ module _ (order : Order) (source : Sides) (answer : Status) (w : Work) (all : (a
     ]
   ]
 
-  to_program : (input : List ℕ) (program : Program) → IsGiven source input → (HasFailed source → ⊥) → IsProgramOf input program → (answer ≡ status.NoMemory) ⊎ MeansProgram answer w order program
+  to_program : (input : List ℕ) (program : Program) → IsGiven source input → ¬ HasFailed source → IsProgramOf input program → (answer ≡ status.NoMemory) ⊎ MeansProgram answer w order program
   to_program input program given sound is = elim (to_text input given sound is.short) as (λ _. (answer ≡ status.NoMemory) ⊎ MeansProgram answer w order program) [
     | inl none ↦ inl none
     | inr means ↦ elim (open_text answer w order input means) as (λ _. (answer ≡ status.NoMemory) ⊎ MeansProgram answer w order program) [
@@ -76,7 +76,7 @@ module _ (order : Order) (source : Sides) (answer : Status) (w : Work) (all : (a
     ]
   ]
 
-  to_run : (input : List ℕ) (program : Program) → IsGiven source input → (HasFailed source → ⊥) → IsProgramOf input program → first_broken program ≡ None → (answer ≡ status.NoMemory) ⊎ MeansRun answer w order program
+  to_run : (input : List ℕ) (program : Program) → IsGiven source input → ¬ HasFailed source → IsProgramOf input program → first_broken program ≡ None → (answer ≡ status.NoMemory) ⊎ MeansRun answer w order program
   to_run input program given sound is kept = elim (to_program input program given sound is) as (λ _. (answer ≡ status.NoMemory) ⊎ MeansRun answer w order program) [
     | inl none ↦ inl none
     | inr means ↦ elim (open_program answer w order program means) as (λ _. (answer ≡ status.NoMemory) ⊎ MeansRun answer w order program) [
@@ -87,7 +87,7 @@ module _ (order : Order) (source : Sides) (answer : Status) (w : Work) (all : (a
 
   -- ---- where a cause is there, its answer comes
 
-  when_too_long : (input : List ℕ) → IsGiven source input → (HasFailed source → ⊥) → length input ≡ most_bytes → IsUnlessMemory answer status.TooLong
+  when_too_long : (input : List ℕ) → IsGiven source input → ¬ HasFailed source → length input ≡ most_bytes → IsUnlessMemory answer status.TooLong
   when_too_long input given sound long = elim (to_input input given sound) as (λ _. IsUnlessMemory answer status.TooLong) [
     | inl none ↦ inr none
     | inr means ↦ elim (open_input answer w order input means) as (λ _. IsUnlessMemory answer status.TooLong) [
@@ -96,7 +96,7 @@ module _ (order : Order) (source : Sides) (answer : Status) (w : Work) (all : (a
     ]
   ]
 
-  when_bad_text : (input : List ℕ) (line kind : ℕ) → IsGiven source input → (HasFailed source → ⊥) → length input < most_bytes → first_fault input ≡ Some (line, kind) → IsUnlessMemory answer (status.BadText line kind)
+  when_bad_text : (input : List ℕ) (line kind : ℕ) → IsGiven source input → ¬ HasFailed source → length input < most_bytes → first_fault input ≡ Some (line, kind) → IsUnlessMemory answer (status.BadText line kind)
   when_bad_text input line kind given sound short fault = elim (to_text input given sound short) as (λ _. IsUnlessMemory answer (status.BadText line kind)) [
     | inl none ↦ inr none
     | inr means ↦ elim (open_text answer w order input means) as (λ _. IsUnlessMemory answer (status.BadText line kind)) [
@@ -111,7 +111,7 @@ module _ (order : Order) (source : Sides) (answer : Status) (w : Work) (all : (a
     ]
   ]
 
-  when_bad_program : (input : List ℕ) (program : Program) (kind behaviour step rule : ℕ) → IsGiven source input → (HasFailed source → ⊥) → IsProgramOf input program →
+  when_bad_program : (input : List ℕ) (program : Program) (kind behaviour step rule : ℕ) → IsGiven source input → ¬ HasFailed source → IsProgramOf input program →
       first_broken program ≡ Some (fault_at kind behaviour step rule) → IsUnlessMemory answer (status.BadProgram kind behaviour step rule)
   when_bad_program input program kind behaviour step rule given sound is fault =
       elim (to_program input program given sound is) as (λ _. IsUnlessMemory answer (status.BadProgram kind behaviour step rule)) [
@@ -128,7 +128,7 @@ module _ (order : Order) (source : Sides) (answer : Status) (w : Work) (all : (a
         ]
       ]
 
-  when_it_ends : (input : List ℕ) (program : Program) → IsGiven source input → (HasFailed source → ⊥) → (HasFailed w.sink → ⊥) → IsProgramOf input program → first_broken program ≡ None →
+  when_it_ends : (input : List ℕ) (program : Program) → IsGiven source input → ¬ HasFailed source → ¬ HasFailed w.sink → IsProgramOf input program → first_broken program ≡ None →
       IsEnd answer ⊎ (answer ≡ status.NoMemory)
   when_it_ends input program given sound able is kept = elim (to_run input program given sound is kept) as (λ _. IsEnd answer ⊎ (answer ≡ status.NoMemory)) [
     | inl none ↦ inr none

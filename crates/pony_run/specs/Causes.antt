@@ -57,17 +57,17 @@ pub record ComesOnly (order : Order) (source sink : Sides) (answer : Status)
 -- where a cause is there and none before it, its answer comes, unless memory was refused
 pub record ComesWherever (source sink : Sides) (answer : Status) : Type 0 where
   pub read_fault : CountsFault source → IsUnlessMemory answer status.ReadFault
-  pub too_long : (input : List ℕ) → IsGiven source input → (HasFailed source → ⊥)
+  pub too_long : (input : List ℕ) → IsGiven source input → ¬ HasFailed source
       → length input ≡ most_bytes → IsUnlessMemory answer status.TooLong
-  pub bad_text : (input : List ℕ) (line kind : ℕ) → IsGiven source input → (HasFailed source → ⊥)
+  pub bad_text : (input : List ℕ) (line kind : ℕ) → IsGiven source input → ¬ HasFailed source
       → length input < most_bytes →
       first_fault input ≡ Some (line, kind) → IsUnlessMemory answer (status.BadText line kind)
   pub bad_program : (input : List ℕ) (program : Program) (kind behaviour step rule : ℕ)
-      → IsGiven source input → (HasFailed source → ⊥) → IsProgramOf input program →
+      → IsGiven source input → ¬ HasFailed source → IsProgramOf input program →
       first_broken program ≡ Some (fault_at kind behaviour step rule)
       → IsUnlessMemory answer (status.BadProgram kind behaviour step rule)
-  pub end : (input : List ℕ) (program : Program) → IsGiven source input → (HasFailed source → ⊥)
-      → (HasFailed sink → ⊥) → IsProgramOf input program →
+  pub end : (input : List ℕ) (program : Program) → IsGiven source input → ¬ HasFailed source
+      → ¬ HasFailed sink → IsProgramOf input program →
       first_broken program ≡ None → IsEnd answer ⊎ (answer ≡ status.NoMemory)
   -- where the sink failed, it was at a report, or at the line of a refusal, which stands
   pub write_fault : CountsFault sink → (answer ≡ status.WriteFault) ⊎ HasRefusal answer

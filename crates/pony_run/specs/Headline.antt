@@ -110,7 +110,7 @@ MeansProgram answer w order program = HasChecked answer w order program
 
 pub record BadText (line kind : ℕ) (w : Work) (input : List ℕ) : Type 0 where
   pub first : first_fault input ≡ Some (line, kind)
-  pub no_program : (program : Program) → IsText input program → IsWellFormed program → ⊥
+  pub no_program : (program : Program) → IsText input program → ¬ IsWellFormed program
   pub refused : IsRefused w (status.BadText line kind)
 
 pub record HasProgram (answer : Status) (w : Work) (order : Order) (input : List ℕ) : Type 0 where

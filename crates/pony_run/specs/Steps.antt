@@ -1,5 +1,5 @@
 -- Why the first enabled event is not done.
-use Rattle.std.specs.Prelude.{◌≡◌}
+use Rattle.std.specs.Prelude.{◌≡◌, ⊤}
 use Rattle.event_rule.specs.declared.event.Event.{Event}
 use Rattle.event_rule.specs.declared.event.Event.TheVariants.{Go}
 use Rattle.event_rule.specs.Runs.{IsFull}
@@ -13,7 +13,7 @@ use Rattle.plain_machine.specs.declared.machine.PlainFault.TheVariants.{NotReady
 abbrev pub Stops : PlainState → Event → PlainFault → Type 0
 Stops s event NotReady = ⊥
 Stops s event (ActorsFull a) = (event ≡ Go a) × (plain_go s a ≡ IsFull)
-Stops s event NoMemory = Unit {0}
+Stops s event NoMemory = ⊤
 
 -- the end that this fault makes
 abbrev pub IsEndOf : PlainFault → Status → Type 0

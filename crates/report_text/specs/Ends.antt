@@ -1,5 +1,5 @@
 -- How a call ends: its exit code, and the word for the end of a run.
-use Rattle.std.specs.Prelude.{ℕ, List, [], codes}
+use Rattle.std.specs.Prelude.{ℕ, List, [], codes, ⊤}
 use Rattle.report_text.specs.declared.status.Status.{Status}
 use Rattle.report_text.specs.declared.status.Status.TheVariants.{Quiet, BadWords, BadText, BadProgram, Budget, ActorsFull, ReadFault, WriteFault, NoMemory, TooLong}
 
@@ -18,9 +18,9 @@ code_of TooLong = 10
 
 -- a run ended so: there is a report
 abbrev pub IsEnd : Status → Type 0
-IsEnd Quiet = Unit {0}
-IsEnd Budget = Unit {0}
-IsEnd (ActorsFull actor) = Unit {0}
+IsEnd Quiet = ⊤
+IsEnd Budget = ⊤
+IsEnd (ActorsFull actor) = ⊤
 IsEnd other = ⊥
 
 -- the word for the end of a run

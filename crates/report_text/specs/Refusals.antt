@@ -1,16 +1,16 @@
 -- What is written of a refusal.
-use Rattle.std.specs.Prelude.{ℕ, List, [], ◌++◌, codes}
+use Rattle.std.specs.Prelude.{ℕ, List, [], ◌++◌, codes, ⊤}
 use Rattle.std.specs.Fmt.{decimal}
 use Rattle.report_text.specs.declared.status.Status.{Status}
 use Rattle.report_text.specs.declared.status.Status.TheVariants.{BadWords, BadText, BadProgram, ReadFault, TooLong}
 
 -- the words, the source or its bytes were refused: there is a refusal line
 abbrev pub HasRefusal : Status → Type 0
-HasRefusal BadWords = Unit {0}
-HasRefusal ReadFault = Unit {0}
-HasRefusal TooLong = Unit {0}
-HasRefusal (BadText line kind) = Unit {0}
-HasRefusal (BadProgram kind behaviour step rule) = Unit {0}
+HasRefusal BadWords = ⊤
+HasRefusal ReadFault = ⊤
+HasRefusal TooLong = ⊤
+HasRefusal (BadText line kind) = ⊤
+HasRefusal (BadProgram kind behaviour step rule) = ⊤
 HasRefusal other = ⊥
 
 -- the line of a refusal; nothing for any other status

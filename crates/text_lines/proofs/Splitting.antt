@@ -5,7 +5,7 @@ use Rattle.std.proofs.lemmas.List.Elements.{All-from_get_or}
 use Rattle.std.specs.List.{slice_split}
 use Rattle.std.proofs.lemmas.List.Splits.{slice_split_at, slice_split_none, length-slice_split}
 use Rattle.std.proofs.lemmas.List.{map-append}
-use Rattle.text_lines.specs.Lines.{FollowFrom, lines_of, without_empty_last, tested, line_at, line_fault}
+use Rattle.text_lines.specs.Lines.{FollowFrom, lines_of, without_empty_last, with_fault, line_at, line_fault}
 use Rattle.text_lines.specs.declared.LineSpan.{LineSpan}
 use Rattle.text_lines.specs.declared.LineKind.{LineKind}
 
@@ -68,17 +68,17 @@ next_line_at xs i n inside within before found =
 
 -- one more line is told
 pub told_more : (bytes : List ℕ) (spans more : List LineSpan) (span : LineSpan) (line : List ℕ) (rest all : List (List ℕ)) (whole : List (List ℕ × Option LineKind)) →
-    more ≡ spans ++ span ∷ [] → line_at bytes span ≡ tested line → all ≡ line ∷ rest →
-    map (line_at bytes) spans ++ map tested all ≡ whole → map (line_at bytes) more ++ map tested rest ≡ whole
+    more ≡ spans ++ span ∷ [] → line_at bytes span ≡ with_fault line → all ≡ line ∷ rest →
+    map (line_at bytes) spans ++ map with_fault all ≡ whole → map (line_at bytes) more ++ map with_fault rest ≡ whole
 told_more bytes spans more span line rest all whole e same parts told =
-    let first : map (line_at bytes) spans ++ (tested line ∷ map tested rest) ≡ whole =
-    subst (λ (ls : List (List ℕ)). map (line_at bytes) spans ++ map tested ls ≡ whole) parts told in
-    rw e (simp (map-append, append_assoc) (subst (λ (x : List ℕ × Option LineKind). map (line_at bytes) spans ++ (x ∷ map tested rest) ≡ whole) (sym same) first))
+    let first : map (line_at bytes) spans ++ (with_fault line ∷ map with_fault rest) ≡ whole =
+    subst (λ (ls : List (List ℕ)). map (line_at bytes) spans ++ map with_fault ls ≡ whole) parts told in
+    rw e (simp (map-append, append_assoc) (subst (λ (x : List ℕ × Option LineKind). map (line_at bytes) spans ++ (x ∷ map with_fault rest) ≡ whole) (sym same) first))
 
 pub span_tested : (bytes : List ℕ) (from m n : ℕ) (fault : Option LineKind) → m ≡ n → fault ≡ line_fault (take m (drop from bytes)) →
-    (take m (drop from bytes), fault) ≡ tested (take n (drop from bytes))
+    (take m (drop from bytes), fault) ≡ with_fault (take n (drop from bytes))
 span_tested bytes from m n fault e h =
-    subst (λ (k : ℕ). (take m (drop from bytes), fault) ≡ tested (take k (drop from bytes))) e
+    subst (λ (k : ℕ). (take m (drop from bytes), fault) ≡ with_fault (take k (drop from bytes))) e
     (ap (λ (x : Option LineKind). (take m (drop from bytes), x)) h)
 
 -- one more span has followed

@@ -1,6 +1,7 @@
 -- The lines of a text, and what may be wrong with a line by itself.
-use Rattle.std.specs.Prelude.{ℕ, ◌+◌, ◌≡◌, Bool, List, [], ◌∷◌, ◌==◌, ◌||◌, ◌&&◌, Option, Some, None, nat_lt, nat_le, not, if◌then◌else◌, length, slice_range}
+use Rattle.std.specs.Prelude.{ℕ, ◌+◌, ◌≡◌, Bool, List, [], ◌∷◌, ◌==◌, ◌||◌, ◌&&◌, Option, Some, None, nat_lt, nat_le, not, if◌then◌else◌, length, slice_range, ⊤}
 use Rattle.std.specs.List.{slice_split, list_any}
+use Rattle.orca_names.specs.declared.limits.TheConstants.{LINE_LIMIT}
 use Rattle.text_lines.specs.declared.LineKind.{LineKind}
 use Rattle.text_lines.specs.declared.LineKind.TheVariants.{NotAscii, LongLine}
 use Rattle.text_lines.specs.declared.LineSpan.{LineSpan}
@@ -24,15 +25,15 @@ is_space b = (b == 9) || (b == 13) || (b == 32)
 abbrev pub is_allowed : ℕ → Bool
 is_allowed b = is_space b || (nat_le 33 b && nat_le b 126)
 
--- the lowest fault of a line by itself: a byte that is not allowed, then more than 256 bytes
+-- the lowest fault of a line by itself: a byte that is not allowed, then too many bytes
 abbrev pub line_fault : List ℕ → Option LineKind
 line_fault line =
     if list_any (λ b. not (is_allowed b)) line then Some NotAscii
-    else (if nat_lt 256 (length line) then Some LongLine else None)
+    else (if nat_lt LINE_LIMIT (length line) then Some LongLine else None)
 
 -- a line, with its fault
-abbrev pub tested : List ℕ → List ℕ × Option LineKind
-tested line = (line, line_fault line)
+abbrev pub with_fault : List ℕ → List ℕ × Option LineKind
+with_fault line = (line, line_fault line)
 
 -- the line at a span, with the fault that the span tells
 abbrev pub line_at : List ℕ → LineSpan → List ℕ × Option LineKind
@@ -40,5 +41,5 @@ line_at bytes span = (slice_range bytes span.from span.to, span.fault)
 
 -- the first span begins at this place, and each next one behind the line feed of the one before it
 abbrev pub FollowFrom : ℕ → List LineSpan → Type 0
-FollowFrom place [] = Unit {0}
+FollowFrom place [] = ⊤
 FollowFrom place (span ∷ spans) = (span.from ≡ place) × FollowFrom (span.to + 1) spans

@@ -3,7 +3,7 @@
 
 ghost use Rattle.std.specs.Prelude.{◌≡◌, ◌<◌, ◌≤◌, ◌≢◌, ℕ, not, IfOk, All, map, length, slice_index};
 ghost use Rattle.std.specs.List.{list_any};
-ghost use Rattle.text_lines.specs.Lines.{FollowFrom, is_space, is_allowed, line_fault, line_at, lines_of, tested};
+ghost use Rattle.text_lines.specs.Lines.{FollowFrom, is_space, is_allowed, line_fault, line_at, lines_of, with_fault};
 
 use orca_names::{LINE_LIMIT, NoMemory};
 use std::alloc::Global;
@@ -81,7 +81,7 @@ fn line_end(rest: &[u8]) -> usize
 /// Where memory is refused, and only there.
 pub fn lines(alloc: Global, bytes: &[u8]) -> Result<Vec<LineSpan>, NoMemory>
     ensures lines { IfOk result (λ spans. map (line_at bytes.now) spans.items
-        ≡ map tested (lines_of bytes.now)) }
+        ≡ map with_fault (lines_of bytes.now)) }
     ensures follow { IfOk result (λ spans. FollowFrom 0 spans.items) }
     ensures count { IfOk result (λ spans. length spans.items ≤ length bytes.now) }
     ensures within { IfOk result

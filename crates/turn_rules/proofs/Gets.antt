@@ -14,8 +14,8 @@ use Rattle.reach_walk.specs.Reach.{named_by, thing_of}
 use Rattle.turn_rules.specs.declared.act.Effect.{Effect}
 use Rattle.turn_rules.specs.declared.act.Effect.TheVariants.{Next, Leap, Acts}
 use Rattle.turn_rules.specs.declared.act.Frame.{Frame}
-use Rattle.turn_rules.specs.Segment.{Setting, Turn, Stop, got_by, gets_from, gets_of, gets_on, value_at, place_of, step_of, on_effect, run_from, segment_of}
-use Rattle.turn_rules.specs.Laws.{IsKnown, act_values}
+use Rattle.turn_rules.specs.Segment.{Setting, Turn, Stop, got_by, gets_from, gets_of, gets_on, value_at, value_at_place, step_of, on_effect, run_from, segment_of}
+use Rattle.turn_rules.specs.Laws.{IsReachedOrMade, act_values}
 use Rattle.turn_rules.proofs.Known.{KnowsValue, Knows, KnowsTurn, Knows-from_named, named_is_known, row_is_known, Knows-at, Knows-map, Knows-set, AllByRecursion-push, KnowsTurn-more, Knows-more}
 use Rattle.turn_rules.proofs.Names.{Known, KnowsEffect, KnowsEffect-leap, KnowsEffect-post, KnowsEffect-new, StepKnown, TurnKnown, first_known, first_turn, place_known, step_known}
 
@@ -74,7 +74,7 @@ module _ (p : Setting) (frame : Frame) (fields : Fields) where
       (named_cases (got_by p i t) (gets_on (gets_from p rest) place (step_of p i t)) x c)
   gets_found (i ∷ rest) (Some label) place t h = gets_found rest (cond (is_label label i) None (Some label)) (place + 1) t h
 
-  pub gets_known : (x : Thing) → Contains (named_by (gets_of p frame fields)) x → (n : ℕ) × IsKnown p frame fields n x
+  pub gets_known : (x : Thing) → Contains (named_by (gets_of p frame fields)) x → (n : ℕ) × IsReachedOrMade p frame fields n x
   gets_known = gets_found (drop frame.place (body_of p.program frame.kind frame.behaviour)) None frame.place (first_turn p frame fields) (first_known p frame fields)
 
 -- ---- what a segment leaves names only what it was given, got or made
@@ -117,7 +117,7 @@ module _ (p : Setting) (K : ℕ → Thing → Type 0) (more : (m n : ℕ) → m 
   steps (I.Less d a b) t h g = put t d _ h tt
   steps (I.Same d a b) t h g = put t d _ h tt
   steps (I.Row d values) t h g = record { effect = tt; turn = put_row t d (map (value_at t) values) h (Knows-map (K (length t.made)) t h.registers values) }
-  steps (I.Get d s i) t h g = put t d (place_of p t (value_at t s) i) h g.0
+  steps (I.Get d s i) t h g = put t d (value_at_place p t (value_at t s) i) h g.0
   steps (I.Load d f) t h g = put t d (slice_index_or t.fields.values f Null) h (Knows-at (K (length t.made)) t.fields.values f h.fields)
   steps (I.Store f s) t h g =
       let M = K (length t.made) in

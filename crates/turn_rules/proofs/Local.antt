@@ -13,7 +13,7 @@ use Rattle.behaviour_code.specs.Find.{body_of, is_label}
 use Rattle.turn_rules.specs.declared.act.Effect.{Effect}
 use Rattle.turn_rules.specs.declared.act.Effect.TheVariants.{Next, Leap, Acts}
 use Rattle.turn_rules.specs.declared.act.Frame.{Frame}
-use Rattle.turn_rules.specs.Segment.{Setting, Turn, Stop, value_at, row_in, place_of, step_of, on_effect, run_from, segment_of}
+use Rattle.turn_rules.specs.Segment.{Setting, Turn, Stop, value_at, row_in, value_at_place, step_of, on_effect, run_from, segment_of}
 use Rattle.turn_rules.specs.Laws.{AgreeOnReached, reached, itself, own}
 use Rattle.turn_rules.proofs.Known.{KnowsValue, Knows-at}
 use Rattle.turn_rules.proofs.Names.{is_made, is_made-own, Known, TurnKnown, StepKnown, step_known, first_turn, first_known}
@@ -32,7 +32,7 @@ module _ (p : Setting) (others : ObjName → Option (List Value)) (frame : Frame
       let row = slice_get rows (n.serial - p.base) in
       ap (λ (b : Bool). cond b row (p.rows n)) yes ∙ sym (ap (λ (b : Bool). cond b row (others n)) yes)
 
-  same_place : (made : ℕ) (t : Turn) (v : Value) (i : ℕ) → KnowsValue (Known p frame fields made) v → place_of p t v i ≡ place_of q t v i
+  same_place : (made : ℕ) (t : Turn) (v : Value) (i : ℕ) → KnowsValue (Known p frame fields made) v → value_at_place p t v i ≡ value_at_place q t v i
   same_place made t Null i k = refl
   same_place made t (Num n) i k = refl
   same_place made t (Actor a) i k = refl

@@ -1,7 +1,7 @@
 -- Proves that what a segment leaves names only what the actor knows.
 use Rattle.std.proofs.Common.{◌≡◌, ℕ, zero, suc, ◌+◌, ◌-◌, ◌<◌, ◌≤◌, ◌&&◌, ◌==◌, cond, Bool, true, false, List, [], ◌∷◌, ◌++◌, length, drop, map, Contains, Option, None, Some, refl, sym, ap₂, subst, eq-eqb, arith, length-append}
 use Rattle.std.specs.List.{AllByRecursion}
-use Rattle.std.specs.Prelude.{nat_le, slice_get, slice_index_or, slice_set, unwrap_or}
+use Rattle.std.specs.Prelude.{nat_le, slice_get, slice_index_or, slice_set, unwrap_or, ⊤}
 use Rattle.std.specs.Option.{option_map_or}
 use Rattle.std.proofs.lemmas.Bool.{le-leb}
 use Rattle.std.proofs.lemmas.List.Elements.{Contains-append_left, Contains-append_right, filter_map-append}
@@ -19,8 +19,8 @@ use Rattle.turn_rules.specs.declared.act.Act.TheVariants.{New}
 use Rattle.turn_rules.specs.declared.act.Effect.{Effect}
 use Rattle.turn_rules.specs.declared.act.Effect.TheVariants.{Next, Leap, Acts}
 use Rattle.turn_rules.specs.declared.act.Frame.{Frame}
-use Rattle.turn_rules.specs.Segment.{Setting, Turn, Stop, value_at, row_in, place_of, leap_if_zero, post_to, step_of, on_effect, run_from, segment_of}
-use Rattle.turn_rules.specs.Laws.{IsKnown, reached, itself, own, NamesOnlyKnown, act_values}
+use Rattle.turn_rules.specs.Segment.{Setting, Turn, Stop, value_at, row_in, value_at_place, leap_if_zero, post_to, step_of, on_effect, run_from, segment_of}
+use Rattle.turn_rules.specs.Laws.{IsReachedOrMade, reached, itself, own, NamesOnlyKnown, act_values}
 use Rattle.turn_rules.proofs.Known.{KnowsValue, Knows, KnowsRow, KnowsTurn, Knows-from_named, named_is_known, row_is_known, Knows-at, Knows-map, KnowsRow-get, KnowsRow-from, KnowsValue-in_row, Knows-set, AllByRecursion-push, KnowsTurn-more, Knows-more}
 
 -- whether an object is one that the actor makes in this turn
@@ -33,8 +33,8 @@ is_made-own p n i e =
 
 -- what an effect gives away is known
 abbrev pub KnowsEffect : (Thing → Type 0) → Effect → Type 0
-KnowsEffect K Next = Unit {0}
-KnowsEffect K (Leap label) = Unit {0}
+KnowsEffect K Next = ⊤
+KnowsEffect K (Leap label) = ⊤
 KnowsEffect K (Acts act) = Knows K (act_values act)
 
 pub KnowsEffect-leap : (K : Thing → Type 0) (n label : ℕ) → KnowsEffect K (leap_if_zero n label)
@@ -53,7 +53,7 @@ KnowsEffect-new K (Some k) d = tt
 
 module _ (p : Setting) (frame : Frame) (fields : Fields) where
   abbrev pub Known : ℕ → Thing → Type 0
-  Known made x = IsKnown p frame fields made x
+  Known made x = IsReachedOrMade p frame fields made x
 
   pub known_more : (m n : ℕ) → m ≤ n → (x : Thing) → Known m x → Known n x
   known_more m n le x (reached r) = reached r
@@ -73,7 +73,7 @@ module _ (p : Setting) (frame : Frame) (fields : Fields) where
       cases true e = KnowsRow-get (Known made) rows (n.serial - p.base) h
       cases false e = row_before made n e k
 
-  pub place_known : (made : ℕ) (t : Turn) (v : Value) (i : ℕ) → KnowsTurn (Known made) t → KnowsValue (Known made) v → KnowsValue (Known made) (place_of p t v i)
+  pub place_known : (made : ℕ) (t : Turn) (v : Value) (i : ℕ) → KnowsTurn (Known made) t → KnowsValue (Known made) v → KnowsValue (Known made) (value_at_place p t v i)
   place_known made t Null i h k = tt
   place_known made t (Num n) i h k = tt
   place_known made t (Actor a) i h k = tt
@@ -118,7 +118,7 @@ module _ (p : Setting) (frame : Frame) (fields : Fields) where
   step_known (I.Less d a b) t h = written t d _ h tt
   step_known (I.Same d a b) t h = written t d _ h tt
   step_known (I.Row d values) t h = record { effect = tt; turn = with_row_known t d (map (value_at t) values) h (Knows-map (Known (length t.made)) t h.registers values) }
-  step_known (I.Get d s i) t h = written t d (place_of p t (value_at t s) i) h (place_known (length t.made) t (value_at t s) i h (Knows-at (Known (length t.made)) t.registers s h.registers))
+  step_known (I.Get d s i) t h = written t d (value_at_place p t (value_at t s) i) h (place_known (length t.made) t (value_at t s) i h (Knows-at (Known (length t.made)) t.registers s h.registers))
   step_known (I.Load d f) t h = written t d (slice_index_or t.fields.values f Null) h (Knows-at (Known (length t.made)) t.fields.values f h.fields)
   step_known (I.Store f s) t h =
       let K = Known (length t.made) in

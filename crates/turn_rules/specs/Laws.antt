@@ -36,11 +36,12 @@ SegmentIsLocal =
 
 -- what an actor knows that made so many rows in its turn: what was reached before, itself, and the
 -- objects of these rows
-pub data IsKnown (p : Setting) (frame : Frame) (fields : Fields) (made : ℕ) (x : Thing) : Type 0 where
-  reached : IsReached p.rows frame fields x → IsKnown p frame fields made x
-  itself : x ≡ things.Actor p.me → IsKnown p frame fields made x
+pub data IsReachedOrMade (p : Setting) (frame : Frame) (fields : Fields) (made : ℕ) (x : Thing)
+    : Type 0 where
+  reached : IsReached p.rows frame fields x → IsReachedOrMade p frame fields made x
+  itself : x ≡ things.Actor p.me → IsReachedOrMade p frame fields made x
   own : (i : ℕ) → i < made → x ≡ things.Obj (record { owner = p.me; serial = p.base + i })
-      → IsKnown p frame fields made x
+      → IsReachedOrMade p frame fields made x
 
 -- the values that an act posts or prints, with the actor to which it posts
 abbrev pub act_values : Act → List Value
@@ -52,13 +53,13 @@ act_values End = []
 -- what a turn leaves where it stops names only what the actor knows
 pub record NamesOnlyKnown (p : Setting) (frame : Frame) (fields : Fields) (stop : Stop) : Type 0 where
   pub in_registers : (x : Thing) → Contains (named_by stop.turn.registers) x
-      → IsKnown p frame fields (length stop.turn.made) x
+      → IsReachedOrMade p frame fields (length stop.turn.made) x
   pub in_fields : (x : Thing) → Contains (named_by stop.turn.fields.values) x
-      → IsKnown p frame fields (length stop.turn.made) x
+      → IsReachedOrMade p frame fields (length stop.turn.made) x
   pub in_rows : (row : List Value) (x : Thing) → Contains stop.turn.made row
-      → Contains (named_by row) x → IsKnown p frame fields (length stop.turn.made) x
+      → Contains (named_by row) x → IsReachedOrMade p frame fields (length stop.turn.made) x
   pub in_act : (x : Thing) → Contains (named_by (act_values stop.act)) x
-      → IsKnown p frame fields (length stop.turn.made) x
+      → IsReachedOrMade p frame fields (length stop.turn.made) x
 
 -- so does each segment
 abbrev pub SegmentNamesOnlyKnown : Type 0

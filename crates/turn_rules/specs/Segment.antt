@@ -77,9 +77,10 @@ row_in p made n =
     else p.rows n
 
 -- the value at a place of an object's row
-abbrev pub place_of : Setting → Turn → Value → ℕ → Value
-place_of p t (Obj n) i = option_map_or (λ row. slice_index_or row i Null) (row_in p t.made n) Null
-place_of p t _ i = Null
+abbrev pub value_at_place : Setting → Turn → Value → ℕ → Value
+value_at_place p t (Obj n) i =
+    option_map_or (λ row. slice_index_or row i Null) (row_in p t.made n) Null
+value_at_place p t _ i = Null
 
 -- one row more, of the values of so many registers; its object is put into a register
 abbrev pub with_row : Setting → Turn → ℕ → List ℕ → Turn
@@ -114,7 +115,7 @@ step_of p (I.Less d a b) t =
 step_of p (I.Same d a b) t =
     (Next, with_register t d (Num (one_if (value_eq (value_at t a) (value_at t b)))))
 step_of p (I.Row d values) t = (Next, with_row p t d values)
-step_of p (I.Get d s i) t = (Next, with_register t d (place_of p t (value_at t s) i))
+step_of p (I.Get d s i) t = (Next, with_register t d (value_at_place p t (value_at t s) i))
 step_of p (I.Load d f) t = (Next, with_register t d (slice_index_or t.fields.values f Null))
 step_of p (I.Store f s) t = (Next, with_field t f (value_at t s))
 step_of p (I.Jump l) t = (Leap l, t)
@@ -163,7 +164,7 @@ segment_of p frame fields =
 
 -- what the instruction reads from a row
 abbrev pub got_by : Setting → Instr → Turn → List Value
-got_by p (I.Get d s i) t = place_of p t (value_at t s) i ∷ []
+got_by p (I.Get d s i) t = value_at_place p t (value_at t s) i ∷ []
 got_by p _ t = []
 
 abbrev pub gets_on : (Option ℕ → ℕ → Turn → List Value) → ℕ → Effect × Turn → List Value

@@ -3,7 +3,7 @@ use Rattle.std.proofs.Common.{◌≡◌, ℕ, zero, suc, ◌<◌, ◌≤◌, Lis
 use Rattle.std.specs.List.{AllByRecursion}
 use Rattle.std.specs.Prelude.{IfSome, slice_index_or}
 use Rattle.behaviour_code.specs.WellFormed.{InstrFits, InstrIsWellFormed, NameFits, IsWellFormed, body_names, instr_names, name_in}
-use Rattle.behaviour_code.specs.Names.{interned, text_of, with_text}
+use Rattle.behaviour_code.specs.Names.{intern, text_of, with_text}
 use Rattle.behaviour_code.specs.declared.code.Behaviour.{Behaviour}
 use Rattle.behaviour_code.specs.declared.code.Kind.{Kind}
 use Rattle.behaviour_code.specs.declared.code.Program.{Program}
@@ -75,14 +75,14 @@ program_is_good body short h = record {
 
 -- the same where names and lists are made one after another
 pub made_is_good : (empty one two : List (List ℕ)) (main start : ℕ) (body listed : List Instr) (behaviours none : List Behaviour) (kinds : List Kind) → length body ≤ 1024 → AllByRecursion IsOfTwo body
-    → empty ≡ [] → interned empty (codes "Main") ≡ (main, one) → interned one (codes "start") ≡ (start, two)
+    → empty ≡ [] → intern empty (codes "Main") ≡ (main, one) → intern one (codes "start") ≡ (start, two)
     → listed ≡ body → behaviours ≡ record { name = start; parameters = 0; body = listed } ∷ [] → none ≡ []
     → kinds ≡ record { name = main; fields = 2; behaviours = behaviours } ∷ record { name = start; fields = 0; behaviours = none } ∷ []
     → IsWellFormed (record { kinds = kinds; names = two })
 made_is_good empty one two main start body listed behaviours none kinds short h no_names first second of_body of_behaviours of_none of_kinds =
-    let at_first : ◌≡◌ {A = ℕ × List (List ℕ)} (0, codes "Main" ∷ []) (main, one) = subst (λ (ns : List (List ℕ)). interned ns (codes "Main") ≡ (main, one)) no_names first in
+    let at_first : ◌≡◌ {A = ℕ × List (List ℕ)} (0, codes "Main" ∷ []) (main, one) = subst (λ (ns : List (List ℕ)). intern ns (codes "Main") ≡ (main, one)) no_names first in
     let one_is : codes "Main" ∷ [] ≡ one = ap (λ (p : ℕ × List (List ℕ)). p.1) at_first in
-    let at_second : ◌≡◌ {A = ℕ × List (List ℕ)} (1, texts) (start, two) = subst (λ (ns : List (List ℕ)). interned ns (codes "start") ≡ (start, two)) (sym one_is) second in
+    let at_second : ◌≡◌ {A = ℕ × List (List ℕ)} (1, texts) (start, two) = subst (λ (ns : List (List ℕ)). intern ns (codes "start") ≡ (start, two)) (sym one_is) second in
     let main_is : 0 ≡ main = ap (λ (p : ℕ × List (List ℕ)). p.0) at_first in
     let start_is : 1 ≡ start = ap (λ (p : ℕ × List (List ℕ)). p.0) at_second in
     let two_is : texts ≡ two = ap (λ (p : ℕ × List (List ℕ)). p.1) at_second in

@@ -4,6 +4,7 @@ ghost use Rattle.std.specs.Prelude.{◌≡◌, ◌+◌, ◌<◌, ◌≤◌, ◌^
 ghost use Rattle.turn_rules.specs.Segment.{segment_of};
 ghost use Rattle.turn_step.specs.Held.{needed_in};
 ghost use Rattle.turn_step.specs.Turns.{setting_in, turn_answer};
+ghost use Rattle.orca_names.specs.declared.limits.TheConstants.{BODY_LIMIT};
 
 use crate::act::Act;
 use crate::deed::{Halt, act_of};
@@ -39,7 +40,7 @@ pub fn segment_held<R: RowReader, H: HeldTest>(
         let stop = segment_of p frame.old fields.old in
         IfOk result (λ act. turn_answer needed stop frame.old fields.old
         ≡ record { act = act; frame = frame.new; fields = fields.new; made = made.new.items }) }
-    ensures few { length made.new.items ≤ 1024 }
+    ensures few { length made.new.items ≤ BODY_LIMIT }
     ensures frame { OnErr result (frame.new ≡ frame.old) }
     ensures fields { OnErr result (fields.new ≡ fields.old) }
     ensures made { OnErr result (made.new.items ≡ made.old.items) }
@@ -83,7 +84,7 @@ pub fn segment<R: RowReader>(
         let stop = segment_of p frame.old fields.old in
         IfOk result (λ act. turn_answer None stop frame.old fields.old
         ≡ record { act = act; frame = frame.new; fields = fields.new; made = made.new.items }) }
-    ensures few { length made.new.items ≤ 1024 }
+    ensures few { length made.new.items ≤ BODY_LIMIT }
     ensures frame { OnErr result (frame.new ≡ frame.old) }
     ensures fields { OnErr result (fields.new ≡ fields.old) }
     ensures made { OnErr result (made.new.items ≡ made.old.items) }

@@ -4,6 +4,7 @@ ghost use Rattle.std.specs.Prelude.{◌≡◌, ◌+◌, ◌≤◌, length, drop,
 ghost use Rattle.turn_rules.specs.Segment.{gets_from, run_from, segment_of};
 ghost use Rattle.turn_step.specs.Held.{first_needed, needed_in};
 ghost use Rattle.turn_step.specs.Turns.{HaltsAt, act_of, place_after, setting_of};
+ghost use Rattle.orca_names.specs.declared.limits.TheConstants.{BODY_LIMIT};
 
 use crate::deed::{Deed, Halt, Lead, Stopped};
 use crate::held::AllHeld;
@@ -40,7 +41,7 @@ fn run<'p, R: RowReader, H: HeldTest>(
     place: u32,
     turn: &mut Turn,
 ) -> Result<Halt<'p>, NoMemory>
-    requires { length turn.old.made + length body.now ≤ 1024 }
+    requires { length turn.old.made + length body.now ≤ BODY_LIMIT }
     ensures ok { let p = setting_of setting.now (R.rows rows.old) in
         let rest = drop place body.now in
         let needed = first_needed (H.held held.now) (gets_from p rest None place turn.old) in
@@ -89,7 +90,7 @@ pub fn segment_held_at<'p, R: RowReader, H: HeldTest>(
     ensures ok { let p = setting_of setting.now (R.rows rows.old) in
         let needed = needed_in (H.held held.now) p frame.now fields.now in
         IfOk result (λ halt. HaltsAt needed (segment_of p frame.now fields.now) halt turn.new) }
-    ensures few { OnOk result (length turn.new.made ≤ 1024) }
+    ensures few { OnOk result (length turn.new.made ≤ BODY_LIMIT) }
     ensures same { (R.rows rows.new ≡ R.rows rows.old) × (R.all rows.new ≡ R.all rows.old) }
 {
     turn.begin(&frame.registers, fields);
@@ -112,7 +113,7 @@ pub fn segment_at<'p, R: RowReader>(
     ensures ok { let p = setting_of setting.now (R.rows rows.old) in
         IfOk result (λ stop. segment_of p frame.now fields.now
         ≡ record { act = act_of stop.deed turn.new; place = stop.place; turn = turn.new }) }
-    ensures few { OnOk result (length turn.new.made ≤ 1024) }
+    ensures few { OnOk result (length turn.new.made ≤ BODY_LIMIT) }
     ensures same { (R.rows rows.new ≡ R.rows rows.old) × (R.all rows.new ≡ R.all rows.old) }
 {
     match segment_held_at(setting, frame, fields, rows, &AllHeld, turn) {

@@ -1,9 +1,10 @@
 // One instruction.
 
 ghost use Rattle.std.specs.Prelude.{◌≡◌, ◌<◌, length, IfOk, OnErr};
-ghost use Rattle.turn_rules.specs.Segment.{got_by, place_of, step_of, value_at};
+ghost use Rattle.turn_rules.specs.Segment.{got_by, value_at_place, step_of, value_at};
 ghost use Rattle.turn_step.specs.Held.{first_needed};
 ghost use Rattle.turn_step.specs.Turns.{LeadsTo, setting_of};
+ghost use Rattle.orca_names.specs.declared.limits.TheConstants.{BODY_LIMIT};
 
 use crate::arithmetic::{difference, is_less, is_same, number, product, sum};
 use crate::deed::{Deed, Lead};
@@ -25,7 +26,7 @@ pub(crate) fn step<'p, R: RowReader, H: HeldTest>(
     instr: &'p Instr,
     turn: &mut Turn,
 ) -> Result<Lead<'p>, NoMemory>
-    requires { length turn.old.made < 1024 }
+    requires { length turn.old.made < BODY_LIMIT }
     ensures ok { let p = setting_of setting.now (R.rows rows.old) in
         let needed = first_needed (H.held held.now) (got_by p instr.now turn.old) in
         IfOk result (λ lead. LeadsTo needed (step_of p instr.now turn.old) turn.old lead turn.new) }
@@ -87,7 +88,7 @@ fn get<R: RowReader, H: HeldTest>(
 /// The value at a place of the row of a register's object, null where there is none.
 fn place<R: RowReader>(setting: &Setting<'_>, rows: &mut R, turn: &Turn, s: u64, i: u64) -> Value
     ensures value { let p = setting_of setting.now (R.rows rows.old) in
-        result ≡ place_of p turn.now (value_at turn.now s) i }
+        result ≡ value_at_place p turn.now (value_at turn.now s) i }
     ensures same { (R.rows rows.new ≡ R.rows rows.old) × (R.all rows.new ≡ R.all rows.old) }
 {
     match turn.value(s) {

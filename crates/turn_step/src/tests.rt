@@ -7,6 +7,7 @@ ghost use Rattle.std.proofs.lemmas.Option.{none-some};
 ghost use Rattle.orca_names.specs.Names.{is_thing};
 ghost use Rattle.std.specs.List.{AllByRecursion};
 ghost use Rattle.behaviour_code.specs.WellFormed.{InstrFits, IsWellFormed, name_in};
+ghost use Rattle.orca_names.specs.declared.limits.TheConstants.{BODY_LIMIT};
 
 use crate::{Act, Frame, RegisterFile, segment, segment_held};
 use behaviour_check::{CheckFault, Checked, check};
@@ -69,7 +70,7 @@ impl Rows for OneRow {
 // The program whose first kind has two fields and the behaviour `start` of this body, and whose
 // second kind has nothing.
 fn program(alloc: Global, body: Vec<Instr>) -> Result<Program, AllocError>
-    requires short { length body.items ≤ 1024 }
+    requires short { length body.items ≤ BODY_LIMIT }
     requires good { AllByRecursion (λ i. InstrFits i × IfSome (name_in i) (λ n. n < 2)) body.items }
     ensures { IfOk result IsWellFormed }
 {
@@ -120,7 +121,7 @@ struct Start {
 
 // At a place of the body.
 fn start_at(alloc: Global, body: Vec<Instr>, place: u32) -> Result<Start, Fail>
-    requires short { length body.items ≤ 1024 }
+    requires short { length body.items ≤ BODY_LIMIT }
     requires good { AllByRecursion (λ i. InstrFits i × IfSome (name_in i) (λ n. n < 2)) body.items }
 {
     let values = [
@@ -166,7 +167,7 @@ struct Left {
 
 // What the turn leaves; the actor's next object is 3.
 fn turn(alloc: Global, body: Vec<Instr>, place: u32) -> Result<Left, Fail>
-    requires short { length body.items ≤ 1024 }
+    requires short { length body.items ≤ BODY_LIMIT }
     requires good { AllByRecursion (λ i. InstrFits i × IfSome (name_in i) (λ n. n < 2)) body.items }
 {
     let Start {
@@ -188,7 +189,7 @@ fn turn(alloc: Global, body: Vec<Instr>, place: u32) -> Result<Left, Fail>
 
 // What the turn leaves where the actor lacks a thing.
 fn turn_without(alloc: Global, body: Vec<Instr>, lacked: Thing) -> Result<Left, Fail>
-    requires short { length body.items ≤ 1024 }
+    requires short { length body.items ≤ BODY_LIMIT }
     requires good { AllByRecursion (λ i. InstrFits i × IfSome (name_in i) (λ n. n < 2)) body.items }
 {
     let Start {
@@ -392,7 +393,7 @@ fn acts(rt: HostRuntime) -> Result<(), Fail> {
 
 // The second get is of an actor that is lacked, the third of an object whose owner it is.
 fn gets(alloc: Global) -> Result<Vec<Instr>, AllocError>
-    ensures short { IfOk result (λ body. length body.items ≤ 1024) }
+    ensures short { IfOk result (λ body. length body.items ≤ BODY_LIMIT) }
     ensures good { IfOk result (λ body. AllByRecursion (λ i. InstrFits i × IfSome (name_in i) (λ n. n < 2)) body.items) }
 {
     let body = vec![in alloc;

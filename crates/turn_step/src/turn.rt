@@ -6,6 +6,7 @@ ghost use Rattle.orca_names.specs.declared.names.Value as names;
 ghost use Rattle.orca_names.specs.declared.names.Value.TheVariants.{Null};
 ghost use Rattle.turn_rules.specs.Segment.{number_at, value_at, with_field, with_pinned, with_register, with_row};
 ghost use Rattle.turn_step.specs.Turns.{setting_of};
+ghost use Rattle.orca_names.specs.declared.limits.TheConstants.{BODY_LIMIT};
 
 use crate::setting::Setting;
 use behaviour_code::RowRegisters;
@@ -150,7 +151,7 @@ impl Turn {
         d: u64,
         values: &RowRegisters,
     ) -> Result<(), NoMemory>
-        requires { length self.old.made < 1024 }
+        requires { length self.old.made < BODY_LIMIT }
         ensures ok { OnOk result ((rows : object_name → Option (List names.Value)) →
             self.new ≡ with_row (setting_of setting.now rows) self.old d values.now) }
         ensures err { OnErr result (self.new ≡ self.old) }

@@ -1,5 +1,5 @@
 -- The command that reads the words, and when the words have no reading.
-use Rattle.std.proofs.Common.{◌≡◌, ℕ, ◌==◌, Bor, List, [], ◌∷◌, length, map, Bool, true, false, Option, Some, None, IfOk, IfErr, if◌then◌else◌, ap, subst, sym, ◌∙◌, refl, inl, inr, rules, arith}
+use Rattle.std.proofs.Common.{◌≡◌, ◌≢◌, ℕ, ◌==◌, Bor, List, [], ◌∷◌, length, map, Bool, true, false, Option, Some, None, IfOk, IfErr, if◌then◌else◌, ap, subst, sym, ◌∙◌, refl, inl, inr, rules, arith}
 use Rattle.std.specs.declared.result.Result.{Result}
 use Rattle.std.specs.Option.{ok_or}
 use Rattle.std.proofs.lemmas.List.{length-map}
@@ -33,7 +33,7 @@ last_of_three false true d o e f = cc
 last_of_three false false d o e f = refl
 
 -- an error for another cause than memory is a fault of the words
-has_fault : (kinds : Kinds) (e : Error) → HasKind kinds e → (kind_of e ≡ OutOfMemory → ⊥) → is_empty kinds ≡ false
+has_fault : (kinds : Kinds) (e : Error) → HasKind kinds e → kind_of e ≢ OutOfMemory → is_empty kinds ≡ false
 has_fault [] e (inl h) other = absurd (other h)
 has_fault [] e (inr h) other = absurd h
 has_fault (k ∷ ks) e h other = search (rules, arith)
@@ -53,7 +53,7 @@ order_of-taken words a found line some none rows =
 
 -- words with a fault have no reading
 pub order_of-fault : (words : List Text) (a : App) (e : Error) → a ≡ command_line → is_empty words ≡ false → HasKind (fault_of a words) e
-    → (kind_of e ≡ OutOfMemory → ⊥) → order_of words ≡ None
+    → kind_of e ≢ OutOfMemory → order_of words ≡ None
 unfolding order_of
 order_of-fault words a e line some fails other =
     last_of_three (is_empty words) (is_empty (fault_of command_line words)) (Some default_order) (order_in (subcommand_of command_line words)) some

@@ -1,5 +1,5 @@
 -- A number that std reads is the number that `clap` takes.
-use Rattle.std.proofs.Common.{◌≡◌, ℕ, ◌≤◌, ◌||◌, List, Bool, true, false, Some, None, Ok, Err, if◌then◌else◌, ap, ◌∙◌, refl, arith}
+use Rattle.std.proofs.Common.{◌≡◌, ◌≢◌, ℕ, ◌≤◌, ◌||◌, List, Bool, true, false, Some, None, Ok, Err, if◌then◌else◌, ap, ◌∙◌, refl, arith}
 use Rattle.std.specs.declared.result.Result.{Result}
 use Rattle.std.specs.Str.Parse.{ParsesUnsigned, digits_value, without_leading_plus}
 use Rattle.std.proofs.lemmas.Result.{OkIff-at_ok, OkIff-at_err}
@@ -12,7 +12,7 @@ some_where : (b : Bool) (v : ℕ) → b ≡ true → Some v ≡ (if b then Some 
 some_where true v e = refl
 some_where false v e = cc
 
-none_where_not : (b : Bool) (v : ℕ) → (b ≡ true → ⊥) → None ≡ (if b then Some v else None)
+none_where_not : (b : Bool) (v : ℕ) → b ≢ true → None ≡ (if b then Some v else None)
 none_where_not true v e = absurd (e refl)
 none_where_not false v e = refl
 

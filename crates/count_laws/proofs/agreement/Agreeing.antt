@@ -1,5 +1,5 @@
 -- Events keep the agreement of the two machines.
-use Rattle.std.proofs.Common.{◌≡◌, ℕ, ◌<◌, Option, Some, None, List, [], ◌∷◌, ◌++◌, length, set, refl, sym, ◌∙◌, ap, subst, ⊎_elim, get_or-set_same, get_or-set_other}
+use Rattle.std.proofs.Common.{◌≡◌, ◌≢◌, ℕ, ◌<◌, Option, Some, None, List, [], ◌∷◌, ◌++◌, length, set, refl, sym, ◌∙◌, ap, subst, ⊎_elim, get_or-set_same, get_or-set_other}
 use Rattle.std.proofs.lemmas.Bool.{cases_eq}
 use Rattle.count_laws.proofs.balance.Seats.{at_same, at_other, some_seat}
 use Rattle.machine_rules.proofs.Present.{present_below}
@@ -13,7 +13,7 @@ use Rattle.machine_rules.specs.Cell.{Cell}
 use Rattle.orca_names.specs.declared.names.Thing.{Thing}
 use Rattle.orca_names.specs.declared.names.Value.{Value}
 
-pub apart : (c : Cell) (ls : List Letter) → seat c ls ≡ None → ⊥
+pub apart : (c : Cell) (ls : List Letter) → seat c ls ≢ None
 apart c ls e = cc
 
 -- both machines change one actor

@@ -1,11 +1,10 @@
 -- What it is for the plain machine to follow an event, and how it follows a take.
-use Rattle.std.proofs.Common.{◌≡◌, ℕ, Bool, true, false, Option, Some, None, List, [], ◌∷◌, set, refl, sym, ◌∙◌, ap, subst, option_and_then}
+use Rattle.std.proofs.Common.{◌≡◌, ℕ, Bool, true, false, Option, Some, None, List, ◌∷◌, set, refl, sym, ◌∙◌, ap, subst, option_and_then}
 use Rattle.std.specs.Prelude.{slice_get}
 use Rattle.std.specs.Option.{option_map_or}
 use Rattle.orca_names.specs.declared.names.Thing.{Thing}
 use Rattle.orca_names.specs.declared.names.Value.{Value}
 use Rattle.reach_walk.specs.Reach.{thing_row}
-use Rattle.turn_rules.specs.declared.act.Frame.{Frame}
 use Rattle.letter_kinds.specs.Counting.{Loaded}
 use Rattle.letter_kinds.specs.Holdings.{Row}
 use Rattle.letter_kinds.specs.declared.letter.Letter.{Letter}
@@ -15,7 +14,6 @@ use Rattle.count_laws.proofs.events.EitherMode.{take_keeps}
 use Rattle.count_laws.proofs.balance.InHand.{take_letter}
 use Rattle.count_laws.proofs.events.Take.{next_receive}
 use Rattle.count_laws.proofs.agreement.PlainSide.{StandsAt, objects_kept, people-set, rows_kept, same_rows, stands_beside}
-use Rattle.event_rule.proofs.Steps.{goes_to}
 use Rattle.orca_names.specs.declared.trace.Trace.{Trace}
 use Rattle.machine_rules.specs.Actors.{seat, seat_at}
 use Rattle.count_laws.specs.Agreement.{Person, app_letters, people_of, person_of, person_of_plain}

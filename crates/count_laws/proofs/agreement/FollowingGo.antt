@@ -1,5 +1,5 @@
 -- How the plain machine follows a go: it takes the same turn, but for a go that mints.
-use Rattle.std.proofs.Common.{◌≡◌, ◌≢◌, ◌&&◌, is_none, ℕ, zero, suc, ◌+◌, ◌<◌, nat_lt, Bool, true, false, Option, Some, None, List, [], ◌∷◌, ◌++◌, length, length-set, set, set-set, refl, sym, ◌∙◌, ap, subst, arith, option_and_then, lt-ltb}
+use Rattle.std.proofs.Common.{◌≡◌, ◌≢◌, ℕ, zero, suc, ◌+◌, ◌<◌, nat_lt, Bool, true, Option, Some, None, List, [], ◌∷◌, ◌++◌, length, length-set, set, set-set, refl, sym, ◌∙◌, ap, subst, arith, option_and_then, lt-ltb}
 use Rattle.std.specs.Prelude.{if◌then◌else◌, slice_get}
 use Rattle.std.specs.FinMap as m
 use Rattle.std.specs.Option.{option_map_or}
@@ -16,7 +16,7 @@ use Rattle.turn_rules.specs.declared.act.Act.{Act}
 use Rattle.turn_rules.specs.declared.act.Act.TheVariants.{End, New, Post, Print}
 use Rattle.turn_rules.specs.declared.act.Frame.{Frame}
 use Rattle.letter_kinds.specs.Counting.{Loaded, gain, lacking_of, send, to_mint}
-use Rattle.letter_kinds.specs.Holdings.{Row, held_in, with_made}
+use Rattle.letter_kinds.specs.Holdings.{Row, held_in}
 use Rattle.letter_kinds.specs.Sums.{amount_of, times_loaded}
 use Rattle.letter_kinds.specs.declared.letter.Letter.{Letter}
 use Rattle.letter_kinds.specs.declared.letter.Letter.TheVariants.{App}
@@ -29,7 +29,7 @@ use Rattle.count_laws.proofs.events.Take.{next_held}
 use Rattle.count_laws.proofs.knowledge.Lacking.{counted_mint, first_minted, to_mint_theirs}
 use Rattle.count_laws.proofs.balance.Makes.{IsFresh, fresh_held}
 use Rattle.count_laws.proofs.knowledge.Naming.{nulls_name_nothing}
-use Rattle.count_laws.proofs.agreement.PlainSide.{StandsAt, objects_grow, objects_kept, objects_pushed, people-push, people-set, rows_grow, rows_kept, rows_pushed, same_rows, stands_at, stands_beside}
+use Rattle.count_laws.proofs.agreement.PlainSide.{StandsAt, objects_grow, objects_kept, objects_pushed, people-push, people-set, rows_grow, rows_kept, rows_pushed, same_rows, stands_at, stands_beside, length-people}
 use Rattle.count_laws.proofs.balance.Seats.{IsPresent, at_same}
 use Rattle.machine_rules.proofs.Present.{present_below}
 use Rattle.count_laws.proofs.balance.Sends.{held_below}
@@ -37,13 +37,11 @@ use Rattle.machine_rules.specs.Actors.{Actors, push_letter, seat, seat_at}
 use Rattle.count_laws.specs.Agreement.{Person, people_of, person_at, person_of, person_of_plain}
 use Rattle.machine_rules.specs.Cell.{Cell, fresh_cell}
 use Rattle.count_laws.specs.Facts.{Facts, KeepsCounts}
-use Rattle.machine_rules.specs.Go.{act_in, load_from, make, mint, needed, needing, post, post_or_mint, rows_from, turn_of_cell, cell_after_turn, with_turn_kept, lacking_from, to_need}
+use Rattle.machine_rules.specs.Go.{load_from, make, mint, needed, post, rows_from, turn_of_cell, cell_after_turn, with_turn_kept, lacking_from, to_need}
 use Rattle.orca_names.specs.declared.trace.Trace.{Trace}
-use Rattle.count_laws.specs.Known.{InFrame, IsKnown, Names, Roots, in_fields, in_frame, in_table}
-use Rattle.plain_list.specs.Lists.{is_empty}
+use Rattle.count_laws.specs.Known.{InFrame, IsKnown, Names, StartsWalks, in_fields, in_frame, in_table}
 use Rattle.event_rule.specs.Runs.{IsFull, Goes, NotEnabled}
 use Rattle.plain_rules.specs.Machine.{PlainState, after_act, after_turn, fresh_actor, next_state, objects_made, plain_go, plain_row, stopped_at, turn_of_actor, with_name, with_turn, with_letter as with_plain_letter, with_changed}
-use Rattle.machine_rules.specs.Run.{act_is_choice, go_is_choice}
 use Rattle.machine_rules.specs.State.{State}
 use Rattle.plain_rules.specs.declared.PlainActor.{PlainActor}
 use Rattle.plain_rules.specs.declared.PlainLetter.{PlainLetter}
@@ -74,7 +72,7 @@ rows_alike xs a y z same (things.Obj n) = read xs a n.owner
 pub fresh_is : (w : ℕ) (program : Program) (kind : ℕ) → IsFresh w (fresh_cell w program kind).holdings
 fresh_is w program kind = (refl, (λ k. m.get-empty nat_cmp k), (λ x. m.get-empty thing_cmp x))
 
-pub fresh_blank : (w : ℕ) (program : Program) (kind : ℕ) (x : Thing) → Roots (fresh_cell w program kind) x → ⊥
+pub fresh_blank : (w : ℕ) (program : Program) (kind : ℕ) (x : Thing) → ¬ StartsWalks (fresh_cell w program kind) x
 fresh_blank w program kind x (in_fields h) = nulls_name_nothing (field_count program kind) x h
 fresh_blank w program kind x (in_frame h) = h
 fresh_blank w program kind x (in_table h) = absurd (let z = fresh_held w (fresh_cell w program kind).holdings (fresh_is w program kind) x in omega arith)
@@ -194,11 +192,7 @@ module _ (trace : Trace) (p : PlainState) (s : State) (facts : Facts trace p s) 
   same_maker register n = same_y (Some (with_name stopped register n)) c.dirty ∙ ap (λ next. record (person_of (maker register n) ls) { serial = next }) (sym (next_held (λ h. h + s.options.weight) (things.Actor n) None c1.holdings))
 
   long : length p.actors ≡ length s.actors
-  long = omega (arith, length_people p.actors, facts.counts.long)
-    where
-      length_people : (xs : List PlainActor) → length (people_of xs) ≡ length xs
-      length_people [] = refl
-      length_people (z ∷ xs) = ap suc (length_people xs)
+  long = omega (arith, length-people p.actors, facts.counts.long)
 
   make_follows : (kind register : ℕ) → Facts trace (next_state p (with_turn p.actors a (Some (with_name stopped register (length p.actors))) stop.turn.fields stop.turn.made ++ fresh_actor p.program kind ∷ []) p.prints)
       (with_turn_kept s stop (make s.options.weight a (cell_after_turn stop (Some (with_name stopped register (length s.actors))) c.dirty c) ls (fresh_cell s.options.weight s.program kind) s.actors))

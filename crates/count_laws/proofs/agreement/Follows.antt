@@ -1,24 +1,19 @@
 -- Take, go and collect keep the facts, and the plain machine follows them.
-use Rattle.std.proofs.Common.{◌≡◌, ◌&&◌, ℕ, Bool, true, false, Option, Some, None, is_none, List, [], ◌∷◌, refl, ap, sym, ◌∙◌, subst}
+use Rattle.std.proofs.Common.{◌≡◌, ◌&&◌, ℕ, Bool, true, false, is_none, ap, sym, ◌∙◌, subst}
 use Rattle.reach_walk.specs.Reach.{thing_row}
-use Rattle.turn_rules.specs.declared.act.Act.{Act}
-use Rattle.turn_rules.specs.declared.act.Frame.{Frame}
 use Rattle.event_rule.specs.Runs.{Goes}
 use Rattle.event_rule.specs.declared.event.Event.{Event}
 use Rattle.event_rule.specs.declared.event.Event.TheVariants.{Take, Go, Collect, Leave}
-use Rattle.letter_kinds.specs.declared.letter.Letter.{Letter}
 use Rattle.letter_kinds.specs.Holdings.{with_made}
 use Rattle.plain_list.specs.Lists.{is_empty}
 use Rattle.plain_rules.specs.Machine.{PlainState, plain_go, plain_row}
 use Rattle.plain_rules.specs.Run.{plain_next}
-use Rattle.machine_rules.specs.Actors.{seat, seat_at}
-use Rattle.machine_rules.specs.Cell.{Cell}
-use Rattle.machine_rules.specs.Go.{needed, turn_of_cell}
+use Rattle.machine_rules.specs.Go.{turn_of_cell}
 use Rattle.machine_rules.specs.Next.{next, next_by}
 use Rattle.orca_names.specs.declared.trace.Trace.{Trace}
 use Rattle.machine_rules.specs.Rules.{IsGoing, IsStep, StopsAt}
 use Rattle.machine_rules.specs.Rules as rule
-use Rattle.machine_rules.specs.Run.{act_is_choice, go_is_choice, go_is_choice_at, is_choice, take_is_choice_at}
+use Rattle.machine_rules.specs.Run.{act_is_choice, is_choice}
 use Rattle.machine_rules.specs.State.{State}
 use Rattle.machine_rules.proofs.Choices.{going_is, stopping_is, taking_is}
 use Rattle.machine_rules.proofs.Guards.{collector}

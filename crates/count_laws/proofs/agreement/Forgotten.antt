@@ -1,5 +1,5 @@
 -- In the plain machine what was made and is not reachable is never reachable again.
-use Rattle.std.proofs.Common.{◌≡◌, ◌≢◌, ◌⊎◌, ℕ, suc, ◌+◌, ◌<◌, nat_lt, Bool, true, false, Option, Some, None, is_some, option_and_then, List, [], ◌∷◌, ◌++◌, length, length-set, set, get_or, get_or-set_same, get_or-set_other, refl, sym, ◌∙◌, ap, subst, arith, inl, inr, ⊎_elim}
+use Rattle.std.proofs.Common.{◌≡◌, ◌≢◌, ◌⊎◌, ℕ, ◌+◌, ◌<◌, nat_lt, Bool, true, false, Option, Some, None, is_some, option_and_then, List, [], ◌∷◌, ◌++◌, length, length-set, set, get_or, get_or-set_same, get_or-set_other, refl, sym, ◌∙◌, ap, subst, arith, inl, inr, ⊎_elim}
 use Rattle.std.specs.Prelude.{if◌then◌else◌, slice_get}
 use Rattle.std.specs.Option.{option_map_or}
 use Rattle.std.proofs.lemmas.Bool.{cases_eq, cases_lt}
@@ -23,7 +23,7 @@ use Rattle.plain_rules.proofs.Changing.{length-with_changed}
 use Rattle.count_laws.proofs.knowledge.Living.{Holds, Letters, Lives, here, holds, later, owner, row, stands}
 use Rattle.count_laws.proofs.knowledge.Naming.{nulls_name_nothing, set_names}
 use Rattle.count_laws.proofs.knowledge.Paths.{reach_into}
-use Rattle.count_laws.proofs.agreement.PlainSide.{people-push, people-set, rows_grow, rows_kept, rows_pushed}
+use Rattle.count_laws.proofs.agreement.PlainSide.{people-push, people-set, rows_grow, rows_kept, rows_pushed, length-people}
 use Rattle.count_laws.proofs.agreement.Reachable.{lives_reachable, nobody_holds, person_read, reachable_lives}
 use Rattle.count_laws.proofs.knowledge.Segments.{Made}
 use Rattle.count_laws.proofs.agreement.Slices.{slice_past, slice_set_other, slice_set_same}
@@ -86,10 +86,6 @@ letters_more [] l x (here n) = inr n
 letters_more [] l x (later h) = elim h [ ]
 letters_more (k ∷ ls) l x (here n) = inl (here n)
 letters_more (k ∷ ls) l x (later h) = ⊎_elim (λ m. inl (later m)) (λ n. inr n) (letters_more ls l x h)
-
-length-people : (actors : List PlainActor) → length (people_of actors) ≡ length actors
-length-people [] = refl
-length-people (x ∷ xs) = ap suc (length-people xs)
 
 module _ (p : PlainState) where
   abbrev all : Thing → Option Row
@@ -316,12 +312,12 @@ module _ (p : PlainState) where
           abbrev grown : List PlainActor
           grown = turned ++ fresh_actor program kind ∷ []
 
-          not_root : IsRootPerson (person_of_plain (fresh_actor program kind)) → ⊥
+          not_root : ¬ IsRootPerson (person_of_plain (fresh_actor program kind))
           not_root (inl e) = cc
           not_root (inr (inl f)) = f refl
           not_root (inr (inr f)) = f refl
 
-          holds_nothing : (z : Thing) → Holds (person_of_plain (fresh_actor program kind)) z → ⊥
+          holds_nothing : (z : Thing) → ¬ Holds (person_of_plain (fresh_actor program kind)) z
           holds_nothing z (inl n) = nulls_name_nothing (field_count program kind) z n
           holds_nothing z (inr (inl h)) = h
           holds_nothing z (inr (inr h)) = elim h [ ]
@@ -386,7 +382,7 @@ module _ (p : PlainState) where
           by_room false e = cc
 
       -- what was made before is not new
-      not_fresh : (z : Thing) → IsMade p.actors z → Fresh z → ⊥
+      not_fresh : (z : Thing) → IsMade p.actors z → ¬ Fresh z
       not_fresh (Actor b) made new = let e = fresh_actor_is b new in omega arith
       not_fresh (Obj n) made (inl bad) = cc
       not_fresh (Obj n) made (inr (i, below, is)) =

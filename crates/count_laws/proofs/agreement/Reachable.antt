@@ -1,5 +1,5 @@
 -- What is reachable in the plain machine is what lives there.
-use Rattle.std.proofs.Common.{◌≡◌, ◌⊎◌, ℕ, zero, suc, ◌+◌, ◌||◌, Bool, true, false, is_some, Contains, Option, Some, None, List, [], ◌∷◌, ◌++◌, refl, sym, ap, subst, ◌∙◌, arith, inl, inr, ⊎_elim}
+use Rattle.std.proofs.Common.{◌≡◌, ◌≢◌, ◌⊎◌, ℕ, zero, suc, ◌+◌, ◌||◌, Bool, true, false, is_some, Contains, Option, Some, None, List, [], ◌∷◌, ◌++◌, refl, sym, ap, subst, ◌∙◌, arith, inl, inr, ⊎_elim}
 use Rattle.std.specs.Prelude.{flat_map, not, slice_get, if◌then◌else◌}
 use Rattle.std.specs.Option.{option_map_or}
 use Rattle.std.proofs.lemmas.List.Elements.{Contains-append_left, Contains-append_right, Contains-append_cases, filter_map-append}
@@ -42,13 +42,13 @@ person_read (x ∷ actors) (suc a) = person_read actors a
 -- ---- roots
 
 root_parts : (pinned : Bool) (frame : Option Frame) (letters : List PlainLetter) → (pinned || is_some frame || not (is_empty letters)) ≡ true
-    → (pinned ≡ true) ⊎ ((frame ≡ None → ⊥) ⊎ (letters ≡ [] → ⊥))
+    → (pinned ≡ true) ⊎ ((frame ≢ None) ⊎ (letters ≢ []))
 root_parts true frame letters e = inl refl
 root_parts false (Some f) letters e = inr (inl (λ z. cc))
 root_parts false None (l ∷ letters) e = inr (inr (λ z. cc))
 root_parts false None [] e = cc
 
-parts_root : (pinned : Bool) (frame : Option Frame) (letters : List PlainLetter) → (pinned ≡ true) ⊎ ((frame ≡ None → ⊥) ⊎ (letters ≡ [] → ⊥))
+parts_root : (pinned : Bool) (frame : Option Frame) (letters : List PlainLetter) → (pinned ≡ true) ⊎ ((frame ≢ None) ⊎ (letters ≢ []))
     → (pinned || is_some frame || not (is_empty letters)) ≡ true
 parts_root true frame letters r = refl
 parts_root false (Some f) letters r = refl
@@ -63,7 +63,7 @@ root_person x e = root_parts x.fields.pinned x.frame x.letters e
 person_root : (x : PlainActor) → IsRootPerson (person_of_plain x) → is_root x ≡ true
 person_root x r = parts_root x.fields.pinned x.frame x.letters r
 
-pub nobody_stands : IsRootPerson nobody → ⊥
+pub nobody_stands : ¬ IsRootPerson nobody
 nobody_stands (inl e) = cc
 nobody_stands (inr (inl f)) = f refl
 nobody_stands (inr (inr f)) = f refl

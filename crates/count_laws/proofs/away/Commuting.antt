@@ -13,7 +13,7 @@ use Rattle.turn_rules.specs.declared.act.Act.TheVariants.{Post, New, Print, End}
 use Rattle.turn_rules.specs.declared.act.Frame.{Frame}
 use Rattle.event_rule.specs.declared.event.Event.TheVariants.{Take, Go, Collect, Leave, Block, Hear, Scan, Reap}
 use Rattle.letter_kinds.specs.Counting.{Amount, Loaded, by_owner, gain, given_back, sweep}
-use Rattle.letter_kinds.specs.Detector.{Token, all_acked, close_token, closed_set, has, after_scan, token_numbered}
+use Rattle.letter_kinds.specs.Detector.{Token, close_token, closed_set, has, after_scan}
 use Rattle.letter_kinds.specs.Holdings.{with_made}
 use Rattle.letter_kinds.specs.declared.letter.Letter.{Letter}
 use Rattle.letter_kinds.specs.declared.letter.Letter.TheVariants.{Confirm, Dec}
@@ -237,7 +237,7 @@ module _ (a : ℕ) (c : Cell) where
   reap_away s below (Some t) out =
       ap (λ actors. Goes (record s { actors = actors; detector = close_token t s.detector })) (put_reaped t.members s.actors below (out t refl))
 
-other_than : (a b : ℕ) → (Some b ≡ Some a → ⊥) → b ≢ a
+other_than : (a b : ℕ) → Some b ≢ Some a → b ≢ a
 other_than a b h e = h (ap Some e)
 
 pub cells_away : CellsCanBeAway

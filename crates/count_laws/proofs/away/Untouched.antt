@@ -97,7 +97,7 @@ adds_made s b a o new not below = adds_trans s (set s b o) (set s b o ++ new ∷
 
 -- ---- each event
 
-not_mine : (a b : ℕ) → (Some b ≡ Some a → ⊥) → a ≢ b
+not_mine : (a b : ℕ) → Some b ≢ Some a → a ≢ b
 not_mine a b h e = h (ap Some (sym e))
 
 abbrev Leaves : State → Event → State → Type 0

@@ -1,5 +1,6 @@
 -- The balance with something in the hand: what was taken from one list and is not yet in another.
 use Rattle.std.proofs.Common.{◌≡◌, ℕ, ◌+◌, ◌<◌, ◌==◌, cond, Option, List, [], ◌∷◌, set, arith}
+use Rattle.std.specs.Prelude.{⊤}
 use Rattle.orca_names.specs.Names.{owner_of}
 use Rattle.orca_names.specs.declared.names.Thing.{Thing}
 use Rattle.behaviour_code.specs.declared.code.Program.{Program}
@@ -41,7 +42,7 @@ out_of_hand s bal x = omega (arith, bal x)
 
 -- each amount is at least 1
 abbrev pub AllCounted : List Amount → Type 0
-AllCounted [] = Unit {0}
+AllCounted [] = ⊤
 AllCounted (e ∷ things) = (0 < e.1) × AllCounted things
 
 abbrev pub Sound : (Thing → Option Row) → Actors → Type 0

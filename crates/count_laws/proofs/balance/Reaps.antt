@@ -1,5 +1,6 @@
 -- A reap keeps the balance and the prefixes: what the members held outside goes back in Decs.
 use Rattle.std.proofs.Common.{◌≡◌, ◌≢◌, ◌⊎◌, ℕ, ◌+◌, ◌<◌, ◌==◌, cond, true, false, Option, Some, None, List, [], ◌∷◌, ◌++◌, length, set, refl, sym, ◌∙◌, ap, arith, subst, append_assoc, append-nil, inl, inr, ⊎_elim, ne_eqb, length-set}
+use Rattle.std.specs.Prelude.{⊤}
 use Rattle.std.specs.List.{AllByRecursion}
 use Rattle.std.proofs.lemmas.Bool.{cases_Bool, cases_eq}
 use Rattle.letter_kinds.proofs.Sums.{sum-zero}
@@ -67,7 +68,7 @@ owed_in all (Some o) x out = owed-groups (given_back (λ x. has all (owner_of x)
 
 -- one member after another
 abbrev pub AllReady : List ℕ → List ℕ → Actors → Type 0
-AllReady all [] s = Unit {0}
+AllReady all [] s = ⊤
 AllReady all (m ∷ ms) s = Ready all s m × AllReady all ms s
 
 ready_later : (all : List ℕ) (s : Actors) (k m : ℕ) → k < length s → Ready all s m → Ready all (set s k None) m

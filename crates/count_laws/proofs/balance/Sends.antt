@@ -154,7 +154,7 @@ module _ (s : Actors) (a : ℕ) (c0 c : Cell) (mail : List Letter) (at : seat_at
       (λ deep x is some. absurd (let l = letter_App x behaviour args load rows in omega (arith, l.0)))
       (cell_prefix s a c0 (sent c) mail at trace (λ x is. let q = own-send a x load c.holdings is (has x is) in let os = own_same x is in omega arith) p)
 
-none_of : (n : ℕ) → (0 < n → ⊥) → 0 ≡ n
+none_of : (n : ℕ) → ¬ (0 < n) → 0 ≡ n
 none_of zero h = refl
 none_of (suc n) h = absurd (h (omega arith))
 

@@ -23,7 +23,7 @@ use Rattle.count_laws.specs.Facts.{IsFirm}
 use Rattle.orca_names.specs.declared.trace.Trace.{Trace}
 use Rattle.orca_names.specs.declared.trace.Trace.TheVariants.{Deep}
 use Rattle.orca_names.specs.declared.trace.Trace.TheVariants as options
-use Rattle.count_laws.specs.Known.{Names, Reaches, row_at, IsKnown, InFrame, Roots, in_fields, in_frame, in_table, IsClosedAt, RowsAreAt}
+use Rattle.count_laws.specs.Known.{Names, ReachesThrough, row_at, IsKnown, InFrame, StartsWalks, in_fields, in_frame, in_table, IsClosedAt, RowsAreAt}
 
 -- ---- what letters brought does not matter to the counts
 
@@ -225,19 +225,19 @@ module _ (marked : Thing → Bool) (me : ℕ) (c : Holdings) where
 
 module _ (all : Thing → Option Row) (marked : Thing → Bool) (me : ℕ) (c : Cell)
     (idle : c.frame ≡ None)
-    (sound : (x : Thing) → marked x ≡ true → Reaches (row_at me c.holdings) (Names c.fields.values) x)
-    (whole : (x : Thing) → Reaches (row_at me c.holdings) (Names c.fields.values) x → marked x ≡ true)
+    (sound : (x : Thing) → marked x ≡ true → ReachesThrough (row_at me c.holdings) (Names c.fields.values) x)
+    (whole : (x : Thing) → ReachesThrough (row_at me c.holdings) (Names c.fields.values) x → marked x ≡ true)
     (closed : IsClosedAt all me c) (rows : RowsAreAt all me c.holdings) where
   abbrev swept : Cell
   swept = record c { holdings = sweep marked me c.holdings; dirty = false }
 
-  swept_root : (x : Thing) → Roots swept x → Reaches all (Roots c) x × (marked x ≡ true)
+  swept_root : (x : Thing) → StartsWalks swept x → ReachesThrough all (StartsWalks c) x × (marked x ≡ true)
   swept_root x (in_fields h) = (root (in_fields h), whole x (root h))
   swept_root x (in_frame h) = absurd (subst (λ f. InFrame f x) idle h)
   swept_root x (in_table h) = let k = held_before marked me c.holdings x h in (root (in_table k.1), k.0)
 
-  reached_marked : (x : Thing) → Reaches all (Roots swept) x → Reaches all (Roots c) x × (marked x ≡ true)
-  reached_marked x h = reach_into all (λ x. Reaches all (Roots c) x × (marked x ≡ true)) swept_root
+  reached_marked : (x : Thing) → ReachesThrough all (StartsWalks swept) x → ReachesThrough all (StartsWalks c) x × (marked x ≡ true)
+  reached_marked x h = reach_into all (λ x. ReachesThrough all (StartsWalks c) x × (marked x ≡ true)) swept_root
       (λ x y r p e n. (along_row all p.0 e n, whole y (along_row (row_at me c.holdings) (sound x p.1) (rows x (closed x p.0) ∙ e) n)))
       (λ n p. (owned p.0, whole (Actor n.owner) (owned (sound (Obj n) p.1)))) h
 

@@ -1,5 +1,6 @@
 -- Collecting keeps the balance and the prefixes: what is swept from the table goes back in Decs.
 use Rattle.std.proofs.Common.{◌≡◌, ℕ, ◌+◌, ◌<◌, ◌==◌, cond, Bool, true, false, List, [], ◌∷◌, set, refl, sym, ◌∙◌, ap, arith, subst, ⊎_elim, eq-eqb, ne_eqb}
+use Rattle.std.specs.Prelude.{⊤}
 use Rattle.std.proofs.lemmas.Bool.{cases_eq}
 use Rattle.orca_names.proofs.ThingOrder.{cases_thing, is_eq_true, is_ne_false}
 use Rattle.letter_kinds.proofs.Counts.{amount-nil, amount-same, amount-other, cond_eq}
@@ -58,7 +59,7 @@ owed-groups (e ∷ es) x = owed-join e (by_owner es) x ∙ ⊎_elim
 
 -- each group is of something, of its owner, that is counted
 abbrev pub Firm : List (ℕ × List (Thing × ℕ)) → Type 0
-Firm [] = Unit {0}
+Firm [] = ⊤
 Firm (g ∷ gs) = ((x : Thing) × (owner_of x ≡ g.0) × (0 < amount_of x g.1)) × Firm gs
 
 firm_join : (e : Thing × ℕ) (gs : List (ℕ × List (Thing × ℕ))) → 0 < e.1 → Firm gs → Firm (join_owner e gs)

@@ -271,7 +271,7 @@ events_open s t e goes = opens s.options.trace s (step_of s t e goes)
 
 -- ---- actors
 
-length-asked : (members : List ℕ) (token : ℕ) (s : Actors) → length (ask_all members token s) ≡ length s
+pub length-asked : (members : List ℕ) (token : ℕ) (s : Actors) → length (ask_all members token s) ≡ length s
 length-asked [] token s = refl
 length-asked (a ∷ members) token s = length-asked members token (push_letter a (Confirm token) s) ∙ length-push a (Confirm token) s
 

@@ -20,7 +20,7 @@ use Rattle.count_laws.specs.Prefixes.{NeverOverdraws}
 use Rattle.machine_rules.specs.Cell.{Cell}
 use Rattle.machine_rules.specs.Collect.{after_collect}
 use Rattle.count_laws.specs.Facts.{IsFirmAt, KeepsCounts, IsSound, IsFirm}
-use Rattle.count_laws.specs.Known.{IsSoundAt, Names, Reaches, row_at}
+use Rattle.count_laws.specs.Known.{IsSoundAt, Names, ReachesThrough, row_at}
 
 module _ (trace : Trace) (all : Thing → Option Row) (ps : List Person) (s : Actors) (inv : KeepsCounts trace all ps s)
     (a : ℕ) (c d : Cell) (ls : List Letter) (at : seat_at s a ≡ seat c ls) (marked : Thing → Bool)
@@ -56,8 +56,8 @@ module _ (trace : Trace) (all : Thing → Option Row) (ps : List Person) (s : Ac
 
 module _ (all : Thing → Option Row) (ps : List Person) (s : Actors) (inv : KeepsCounts Deep all ps s)
     (a : ℕ) (c : Cell) (ls : List Letter) (at : seat_at s a ≡ seat c ls) (idle : c.frame ≡ None) (marked : Thing → Bool)
-    (sound : (x : Thing) → marked x ≡ true → Reaches (row_at a c.holdings) (Names c.fields.values) x)
-    (whole : (x : Thing) → Reaches (row_at a c.holdings) (Names c.fields.values) x → marked x ≡ true) where
+    (sound : (x : Thing) → marked x ≡ true → ReachesThrough (row_at a c.holdings) (Names c.fields.values) x)
+    (whole : (x : Thing) → ReachesThrough (row_at a c.holdings) (Names c.fields.values) x → marked x ≡ true) where
   pub collect_keeps_counts : KeepsCounts Deep all ps (after_collect marked a c ls s)
   collect_keeps_counts =
       let here = inv.sound a c ls at in

@@ -51,7 +51,7 @@ use Rattle.machine_rules.specs.Collect.{after_collect, is_marked, without_unused
 use Rattle.machine_rules.specs.Detect.{reap_members}
 use Rattle.count_laws.specs.Facts.{KeepsCounts}
 use Rattle.machine_rules.specs.Go.{load_from, make, mint, needed, post, rows_from, to_need, turn_of_cell, cell_after_turn}
-use Rattle.count_laws.specs.Known.{InFrame, IsKnown, Names, Reaches, Roots, in_fields, in_frame, in_table}
+use Rattle.count_laws.specs.Known.{InFrame, IsKnown, Names, ReachesThrough, StartsWalks, in_fields, in_frame, in_table}
 use Rattle.count_laws.specs.KnownByRoots.{IsKnownWithOwner, IsRootOf, WalkRoots, by_field, by_frame, held, mine, owns, stands}
 use Rattle.machine_rules.specs.Left.{IsLeft}
 use Rattle.orca_names.specs.declared.trace.Trace.{Trace}
@@ -76,7 +76,7 @@ loaded_left options.Roots all ps s inv a c ls x at h = rooted.loaded_left all s 
 
 -- what fields, registers and tables name is left
 pub root_left : (trace : Trace) (all : Thing → Option Row) (ps : List Person) (s : Actors) → KeepsCounts trace all ps s
-    → (a : ℕ) (c : Cell) (ls : List Letter) (x : Thing) → seat_at s a ≡ seat c ls → Roots c x → IsLeft s x
+    → (a : ℕ) (c : Cell) (ls : List Letter) (x : Thing) → seat_at s a ≡ seat c ls → StartsWalks c x → IsLeft s x
 root_left Deep all ps s inv a c ls x at r = freed.known_left s (in_hand s inv.balanced) inv.prefixes a c ls x at ((inv.sound a c ls at).closed x (root r))
 root_left options.Roots all ps s inv a c ls x at (in_fields n) = rooted.known_left all s (in_hand s inv.balanced) inv.sound a c ls x at ((inv.sound a c ls at).named x (by_field n)).0
 root_left options.Roots all ps s inv a c ls x at (in_frame n) = rooted.known_left all s (in_hand s inv.balanced) inv.sound a c ls x at ((inv.sound a c ls at).named x (by_frame n)).0
@@ -121,7 +121,7 @@ reap_keeps options.Roots = reap_keeps_roots
 
 pub make_keeps : (trace : Trace) (wt : ℕ) (heavy : 0 < wt) (all : Thing → Option Row) (ps : List Person) (s : Actors) (inv : KeepsCounts trace all ps s)
     (a : ℕ) (c : Cell) (ls : List Letter) (at : seat_at s a ≡ seat c ls) (f : Frame) (frame : c.frame ≡ Some f) (into : ℕ)
-    (fresh : Cell) (is_fresh : IsFresh wt fresh.holdings) (blank : (x : Thing) → Roots fresh x → ⊥) (unlearned : (x : Thing) → m.get fresh.known x ≡ None)
+    (fresh : Cell) (is_fresh : IsFresh wt fresh.holdings) (blank : (x : Thing) → ¬ StartsWalks fresh x) (unlearned : (x : Thing) → m.get fresh.known x ≡ None)
     → KeepsCounts trace all (set ps a (person_of (record c { frame = Some (with_name f into (length s)); holdings = gain wt (Actor (length s)) None c.holdings }) ls) ++ person_of fresh [] ∷ [])
     (make wt a (record c { frame = Some (with_name f into (length s)) }) ls fresh s)
 make_keeps Deep wt heavy all ps s inv a c ls at f frame into fresh is_fresh blank unlearned = make_keeps_counts wt heavy all ps s inv a c ls at f frame into fresh is_fresh blank
@@ -213,7 +213,7 @@ module _ (program : Program) (all all' : Thing → Option Row) (ps : List Person
   flat_target : IsKnown a flat.holdings (Actor to)
   flat_target = (args_known program all all' ps s inv a c ls at f frame held_all grows nf nd names_nf (Actor to) (rw act (names_target to args))).0
 
-  flat_walk : (x : Thing) → Names args x → Reaches all' (WalkRoots a flat) x
+  flat_walk : (x : Thing) → Names args x → ReachesThrough all' (WalkRoots a flat) x
   flat_walk x n = ⊎_elim (λ own. root (mine own.0 own.1)) (λ far. root (held far.1)) (flat_args x n).0
 
   flat_posted : (ps1 : List Person) (s1 : Actors) (kept : KeepsCounts options.Roots all' ps1 s1) (at1 : seat_at s1 a ≡ seat flat ls) → lacking_of a flat.holdings (load_from options.Roots a flat.holdings args) ≡ []

@@ -1,10 +1,9 @@
 -- A leave keeps the facts: nobody holds the actor, by the balance, so it goes as a sealed set does.
-use Rattle.std.proofs.Common.{◌≡◌, ℕ, Bool, true, false, Option, Some, None, List, [], ◌∷◌, refl, ◌∙◌, ap, arith, subst}
+use Rattle.std.proofs.Common.{◌≡◌, ℕ, true, false, Option, None, List, [], ◌∷◌, ◌∙◌, ap, arith, subst}
 use Rattle.std.specs.Prelude.{sum_by}
 use Rattle.orca_names.specs.declared.names.Thing.{Thing}
 use Rattle.orca_names.specs.declared.names.Thing.TheVariants.{Actor}
 use Rattle.reach_walk.specs.Reach.{thing_row}
-use Rattle.event_rule.specs.declared.event.Event.TheVariants.{Leave}
 use Rattle.letter_kinds.proofs.Members.{is_member, only_member}
 use Rattle.letter_kinds.proofs.Sums.{sum-at, sum-nil}
 use Rattle.letter_kinds.specs.Detector.{has}
@@ -16,20 +15,17 @@ use Rattle.count_laws.proofs.events.Reap.{Sealed}
 use Rattle.count_laws.proofs.balance.SeatReads.{incs_at-seat, loads_at-seat, own_at-seat}
 use Rattle.machine_rules.proofs.Present.{present_below}
 use Rattle.count_laws.proofs.balance.Sends.{held_below}
-use Rattle.event_rule.proofs.Steps.{goes_to, not_enabled}
 use Rattle.orca_names.specs.declared.trace.Trace.{Trace}
-use Rattle.machine_rules.specs.Actors.{Actors, Seat, seat, seat_at}
+use Rattle.machine_rules.specs.Actors.{Actors, seat, seat_at}
 use Rattle.count_laws.specs.Agreement.{Person, app_letters, people_of}
 use Rattle.machine_rules.specs.Balance.{held_sum, incs_at, load_sum, loads_at, own_at}
 use Rattle.machine_rules.specs.Cell.{Cell}
 use Rattle.count_laws.specs.Facts.{Facts, KeepsCounts}
-use Rattle.event_rule.specs.Runs.{Goes}
-use Rattle.machine_rules.specs.Next.{next}
 use Rattle.plain_rules.specs.Machine.{PlainState, plain_row}
 use Rattle.machine_rules.specs.Detect.{reap_members}
 use Rattle.machine_rules.specs.State.{State}
 use Rattle.machine_rules.proofs.Guards.{MayReport, leaver}
-use Rattle.machine_rules.specs.Guards.{may_go, may_leave}
+use Rattle.machine_rules.specs.Guards.{may_leave}
 
 -- the one member of a set of one
 no_sum : (f : Letter → ℕ) (ls : List Letter) → ls ≡ [] → sum_by f ls ≡ 0

@@ -30,7 +30,7 @@ use Rattle.count_laws.specs.Agreement.{Agrees, IsRootPerson, Person, nobody, per
 use Rattle.machine_rules.specs.Cell.{Cell}
 use Rattle.count_laws.specs.Facts.{IsFirm, IsFirmAt, KeepsCounts, IsSound}
 use Rattle.machine_rules.specs.Go.{make}
-use Rattle.count_laws.specs.Known.{InFrame, IsClosedAt, IsKnown, IsSoundAt, Reaches, Roots, RowsAreAt, in_fields, in_frame, in_table, row_at}
+use Rattle.count_laws.specs.Known.{InFrame, IsClosedAt, IsKnown, IsSoundAt, ReachesThrough, StartsWalks, RowsAreAt, in_fields, in_frame, in_table, row_at}
 use Rattle.plain_rules.specs.Machine.{with_name}
 
 agrees_more : (ps : List Person) (s : Actors) (c : Cell) (ls : List Letter) → length ps ≡ length s → Agrees ps s → Agrees (ps ++ person_of c ls ∷ []) (s ++ seat c ls ∷ [])
@@ -59,16 +59,16 @@ agrees_more ps s c ls long ag = record {
         (λ past. get_or_past (ps ++ person_of c ls ∷ []) i nobody (let z = length-append ps (person_of c ls ∷ []) in omega arith) ∙ sym (get_or_past ps i nobody (omega arith)))
         (cases_lt i (length s))
 
-none_some : (r : Row) → Some r ≡ None → ⊥
+none_some : (r : Row) → Some r ≢ None
 none_some r e = cc
 
-none_some' : (r : ℕ × Option Row) → None ≡ Some r → ⊥
+none_some' : (r : ℕ × Option Row) → None ≢ Some r
 none_some' r e = cc
 
-obj_actor : (q : ObjName) (n : ℕ) → Obj q ≡ Actor n → ⊥
+obj_actor : (q : ObjName) (n : ℕ) → Obj q ≢ Actor n
 obj_actor q n e = cc
 
-no_way : false ≡ true → ⊥
+no_way : false ≢ true
 no_way e = cc
 
 fresh_has : (w : ℕ) (q : ObjName) (c : Holdings) → IsFresh w c → has_own c (Obj q) ≡ false
@@ -114,7 +114,7 @@ module _ (trace : Trace) (wt : ℕ) (heavy : 0 < wt) (all : Thing → Option Row
 
 module _ (wt : ℕ) (heavy : 0 < wt) (all : Thing → Option Row) (ps : List Person) (s : Actors) (inv : KeepsCounts Deep all ps s)
     (a : ℕ) (c : Cell) (ls : List Letter) (at : seat_at s a ≡ seat c ls) (f : Frame) (frame : c.frame ≡ Some f) (into : ℕ)
-    (fresh : Cell) (is_fresh : IsFresh wt fresh.holdings) (blank : (x : Thing) → Roots fresh x → ⊥) where
+    (fresh : Cell) (is_fresh : IsFresh wt fresh.holdings) (blank : (x : Thing) → ¬ StartsWalks fresh x) where
   abbrev n : ℕ
   n = length s
 
@@ -136,7 +136,7 @@ module _ (wt : ℕ) (heavy : 0 < wt) (all : Thing → Option Row) (ps : List Per
   given_or : (x : Thing) → 0 < given wt n x → x ≡ Actor n
   given_or x h = ⊎_elim (λ same. same) (λ other. absurd (let z = given_other wt n x other in omega arith)) (cases_thing x (Actor n))
 
-  roots-c2 : (x : Thing) → Roots c2 x → Reaches all (Roots c) x ⊎ (x ≡ Actor n)
+  roots-c2 : (x : Thing) → StartsWalks c2 x → ReachesThrough all (StartsWalks c) x ⊎ (x ≡ Actor n)
   roots-c2 x (in_fields h) = inl (root (in_fields h))
   roots-c2 x (in_frame h) = ⊎_elim
       (λ old. inl (root (in_frame (subst (λ o. InFrame o x) (sym frame) old))))
@@ -154,8 +154,8 @@ module _ (wt : ℕ) (heavy : 0 < wt) (all : Thing → Option Row) (ps : List Per
       either zero q h = inr (omega arith)
       either (suc p) q h = inl (omega arith)
 
-  reached-c2 : (x : Thing) → Reaches all (Roots c2) x → Reaches all (Roots c) x ⊎ (x ≡ Actor n)
-  reached-c2 x h = reach_into _ (λ x. Reaches all (Roots c) x ⊎ (x ≡ Actor n)) roots-c2
+  reached-c2 : (x : Thing) → ReachesThrough all (StartsWalks c2) x → ReachesThrough all (StartsWalks c) x ⊎ (x ≡ Actor n)
+  reached-c2 x h = reach_into _ (λ x. ReachesThrough all (StartsWalks c) x ⊎ (x ≡ Actor n)) roots-c2
       (λ x y r p e nm. ⊎_elim (λ old. inl (along_row _ old e nm)) (λ new. absurd (let z = inv.bare n in let w = ap all new in none_some r (sym e ∙ w ∙ z))) p)
       (λ q p. ⊎_elim (λ old. inl (owned old)) (λ new. absurd (obj_actor q n new)) p) h
 

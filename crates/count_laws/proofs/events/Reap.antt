@@ -1,5 +1,5 @@
 -- A reap of sealed members keeps all that is kept of the counts.
-use Rattle.std.proofs.Common.{◌≡◌, ◌⊎◌, ℕ, zero, suc, ◌<◌, true, false, Option, Some, None, List, [], ◌∷◌, ◌++◌, length, set, refl, sym, ◌∙◌, ap, arith, subst, inl, inr, ⊎_elim, length-set, get_or-set_same, get_or-set_other}
+use Rattle.std.proofs.Common.{◌≡◌, ◌≢◌, ◌⊎◌, ℕ, zero, suc, ◌<◌, true, false, Option, Some, None, List, [], ◌∷◌, ◌++◌, length, set, refl, sym, ◌∙◌, ap, arith, subst, inl, inr, ⊎_elim, length-set, get_or-set_same, get_or-set_other}
 use Rattle.std.specs.List.{AllByRecursion}
 use Rattle.std.proofs.lemmas.Bool.{cases_eq, cases_lt}
 use Rattle.std.proofs.lemmas.List.{get_or_past}
@@ -25,15 +25,15 @@ use Rattle.machine_rules.specs.Balance.{held_at, loads_at}
 use Rattle.machine_rules.specs.Cell.{Cell}
 use Rattle.machine_rules.specs.Detect.{empty_seats, reap_decs, reap_members}
 use Rattle.count_laws.specs.Facts.{IsFirmAt, KeepsCounts, IsSound}
-use Rattle.count_laws.specs.Known.{Reaches, IsKnown, in_table, IsSoundAt}
+use Rattle.count_laws.specs.Known.{ReachesThrough, IsKnown, in_table, IsSoundAt}
 use Rattle.orca_names.specs.Names.{owner_of}
 use Rattle.orca_names.specs.declared.names.Thing.{Thing}
 use Rattle.orca_names.specs.declared.names.Thing.TheVariants.{Actor, Obj}
 use Rattle.reach_walk.specs.Reach.{root, owned}
-use Rattle.std.specs.Prelude.{sum_by}
+use Rattle.std.specs.Prelude.{sum_by, ⊤}
 
 -- who reaches a thing reaches its owner
-owner_reached : (all : Thing → Option Row) {roots : Thing → Type 0} (x : Thing) → Reaches all roots x → Reaches all roots (Actor (owner_of x))
+owner_reached : (all : Thing → Option Row) {roots : Thing → Type 0} (x : Thing) → ReachesThrough all roots x → ReachesThrough all roots (Actor (owner_of x))
 owner_reached all (Actor a) h = h
 owner_reached all (Obj n) h = owned h
 
@@ -47,7 +47,7 @@ every_none Q s m every a c ls at = ⊎_elim
     (λ other. every a c ls (sym (get_or-set_other s m a None None other) ∙ at))
     (cases_eq a m)
   where
-    apart : (c : Cell) (ls : List Letter) → None ≡ seat c ls → ⊥
+    apart : (c : Cell) (ls : List Letter) → None ≢ seat c ls
     apart c ls e = cc
 
 pub every_emptied : (Q : ℕ → Cell → List Letter → Type 0) (ms : List ℕ) (s : Actors) → Every Q s → Every Q (empty_seats ms s)
@@ -59,7 +59,7 @@ pub every_reap : (Q : ℕ → Cell → List Letter → Type 0) → ((es : List (
     → (ms : List ℕ) (s : Actors) → Every Q s → Every Q (reap_members ms s)
 every_reap Q stable ms s every = every_decs Q stable (reap_decs ms ms s) (empty_seats ms s) (every_emptied Q ms s every)
 
-agrees_none : (ps : List Person) (s : Actors) (m : ℕ) → (IsRootPerson (person_at ps m) → ⊥) → Agrees ps s → Agrees ps (set s m None)
+agrees_none : (ps : List Person) (s : Actors) (m : ℕ) → ¬ IsRootPerson (person_at ps m) → Agrees ps s → Agrees ps (set s m None)
 agrees_none ps s m idle ag = record {
   present = every_none (λ a c ls. person_at ps a ≡ person_of c ls) s m ag.present;
   absent = λ a at r. ⊎_elim
@@ -69,8 +69,8 @@ agrees_none ps s m idle ag = record {
 }
 
 abbrev Idle : List Person → List ℕ → Type 0
-Idle ps [] = Unit {0}
-Idle ps (m ∷ ms) = (IsRootPerson (person_at ps m) → ⊥) × Idle ps ms
+Idle ps [] = ⊤
+Idle ps (m ∷ ms) = (¬ IsRootPerson (person_at ps m)) × Idle ps ms
 
 agrees_emptied : (ps : List Person) (ms : List ℕ) (s : Actors) → Idle ps ms → Agrees ps s → Agrees ps (empty_seats ms s)
 unfolding empty_seats
@@ -123,10 +123,10 @@ module _ (trace : Trace) (all : Thing → Option Row) (ps : List Person) (s : Ac
   ready_all [] h = tt
   ready_all (m ∷ ks) h = (ready_one m h.0, ready_all ks h.1)
 
-  idle_one : (m : ℕ) → Sealed s m → IsRootPerson (person_at ps m) → ⊥
+  idle_one : (m : ℕ) → Sealed s m → ¬ IsRootPerson (person_at ps m)
   idle_one m q r = by_person (subst IsRootPerson (inv.agrees.present m q.cell q.mail q.at) r)
     where
-      by_person : IsRootPerson (person_of q.cell q.mail) → ⊥
+      by_person : ¬ IsRootPerson (person_of q.cell q.mail)
       by_person (inl e) = let z = q.free in cc
       by_person (inr (inl f)) = f q.idle
       by_person (inr (inr f)) = f q.bare
@@ -177,7 +177,7 @@ module _ (all : Thing → Option Row) (ps : List Person) (s : Actors) (inv : Kee
       (λ some. absurd (by_known ((inv.sound i c ls at).closed (Actor (owner_of x)) (owner_reached all x (root (in_table some))))))
       (zero_or (held_in c.holdings x))
     where
-      by_known : IsKnown i c.holdings (Actor (owner_of x)) → ⊥
+      by_known : ¬ IsKnown i c.holdings (Actor (owner_of x))
       by_known (inl own) = let z = ap (has ms) own.0 in cc
       by_known (inr other) = let z = (alone (owner_of x) i c ls inside out at).0 in let w = other.1 in absurd (omega arith)
 

@@ -1,5 +1,5 @@
 -- The start has the facts: the first actor holds nothing, and its letter names nothing.
-use Rattle.std.proofs.Common.{◌≡◌, ◌<◌, ◌==◌, ℕ, Bool, if◌then◌else◌, zero, suc, ◌+◌, false, true, Option, Some, None, List, [], ◌∷◌, refl, sym, ◌∙◌, ap, arith, inl, inr}
+use Rattle.std.proofs.Common.{◌≡◌, ◌≢◌, ◌<◌, ◌==◌, ℕ, Bool, if◌then◌else◌, zero, suc, ◌+◌, false, true, Option, Some, None, List, [], ◌∷◌, refl, sym, ◌∙◌, ap, arith, inl, inr}
 use Rattle.std.specs.FinMap as m
 use Rattle.std.specs.Ordering.{nat_cmp}
 use Rattle.std.specs.Option.{option_map_or}
@@ -32,7 +32,7 @@ use Rattle.machine_rules.specs.Balance.{IsBalanced, decs_at, held_at, incs_at, l
 use Rattle.count_laws.specs.Prefixes.{IsCovered, IsCoveredAt}
 use Rattle.machine_rules.specs.Cell.{Cell, first_cell, own_row_of}
 use Rattle.count_laws.specs.Facts.{Facts, IsSound, KeepsCounts}
-use Rattle.count_laws.specs.Known.{AreExactLetters, IsSoundAt, Names, Reaches, Roots, in_fields, in_frame, in_table, row_at}
+use Rattle.count_laws.specs.Known.{AreExactLetters, IsSoundAt, Names, ReachesThrough, StartsWalks, in_fields, in_frame, in_table, row_at}
 use Rattle.count_laws.specs.KnownByRoots.{AreRootLetters, IsNamedIn, IsRootsAt, by_field, by_frame, by_row}
 use Rattle.plain_rules.specs.Machine.{first_actor, plain_row, start_of}
 use Rattle.orca_names.specs.declared.trace.Trace.{Trace}
@@ -59,7 +59,7 @@ letters_say (Some name) x =
       omega (arith, sum_by-cons (load_count x) (App name [] [] []) [], w.2, loaded-nil x),
     )
 
-no_values : (all : Thing → Option Row) (x : Thing) → Reaches all (Names []) x → ⊥
+no_values : (all : Thing → Option Row) (x : Thing) → ¬ ReachesThrough all (Names []) x
 no_values all x h = reach_into all (λ x. ⊥) (λ x n. none_in_nil x _ n) (λ x y r p e n. p) (λ n p. p) h
 
 letters_exact : (all : Thing → Option Row) (found : Option ℕ) → AreExactLetters all (letters found)
@@ -115,7 +115,7 @@ module _ (program : Program) (found : Option ℕ) where
       either_none true = refl
       either_none false = refl
 
-  blank : (x : Thing) → Roots c x → ⊥
+  blank : (x : Thing) → ¬ StartsWalks c x
   blank x (in_fields h) = nulls_name_nothing (field_count program 0) x h
   blank x (in_frame h) = h
   blank x (in_table h) = absurd (let z = held_zero x in omega arith)
@@ -159,11 +159,11 @@ module _ (program : Program) (found : Option ℕ) where
     loads = letters_exact all found;
   }
 
-  no_own_row : (n : ObjName) (row : Row) → own_row_of 0 c.holdings n ≡ Some row → ⊥
+  no_own_row : (n : ObjName) (row : Row) → own_row_of 0 c.holdings n ≢ Some row
   unfolding has_own
   no_own_row n row e = let z = (own_row_has 0 c.holdings n row e).1 in let w = m.get-empty {X = Row × ℕ} nat_cmp n.serial in cc
 
-  no_names : (x : Thing) → IsNamedIn 0 c x → ⊥
+  no_names : (x : Thing) → ¬ IsNamedIn 0 c x
   no_names x (by_field n) = blank x (in_fields n)
   no_names x (by_frame n) = blank x (in_frame n)
   no_names x (by_row n row e nm) = no_own_row n row e
@@ -193,14 +193,14 @@ module _ (program : Program) (found : Option ℕ) where
     backed = λ x k o h. absurd (let z = letters_say found x in omega (arith, z.0, sum-parts (inc_of x) k (letters found)));
   }
     where
-      none_row : (row : Row) → None ≡ Some row → ⊥
+      none_row : (row : Row) → None ≢ Some row
       none_row row e = cc
 
   sound_at : (trace : Trace) → IsSound trace all 0 c (letters found)
   sound_at Deep = start_sound
   sound_at options.Roots = start_roots
 
-  nobody_stands : IsRootPerson nobody → ⊥
+  nobody_stands : ¬ IsRootPerson nobody
   nobody_stands (inl e) = cc
   nobody_stands (inr (inl f)) = f refl
   nobody_stands (inr (inr f)) = f refl
@@ -226,10 +226,10 @@ module _ (program : Program) (found : Option ℕ) where
         absurd (none_some e (sym (m.get-empty {X = ℕ × Option Row} thing_cmp x) ∙ (ap (λ (d : Cell). m.get d.holdings.foreign x) z.1.0 ∙ is)));
   }
     where
-      none_some : (e : ℕ × Option Row) → None ≡ Some e → ⊥
+      none_some : (e : ℕ × Option Row) → None ≢ Some e
       none_some e h = cc
 
-      absent : (a : ℕ) → seat_at s a ≡ None → IsRootPerson (person_at people a) → ⊥
+      absent : (a : ℕ) → seat_at s a ≡ None → ¬ IsRootPerson (person_at people a)
       absent zero e r = cc
       absent (suc i) e r = nobody_stands r
 

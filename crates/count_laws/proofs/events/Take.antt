@@ -24,7 +24,7 @@ use Rattle.machine_rules.specs.Cell.{Cell}
 use Rattle.orca_names.specs.declared.trace.Trace.{Trace}
 use Rattle.orca_names.specs.declared.trace.Trace.TheVariants.{Deep}
 use Rattle.count_laws.specs.Facts.{IsFirm, IsFirmAt, KeepsCounts, IsSound}
-use Rattle.count_laws.specs.Known.{Names, IsKnown, InFrame, Roots, in_fields, in_frame, in_table, IsClosedAt, RowsAreAt, row_at, IsSoundAt}
+use Rattle.count_laws.specs.Known.{Names, IsKnown, InFrame, StartsWalks, in_fields, in_frame, in_table, IsClosedAt, RowsAreAt, row_at, IsSoundAt}
 use Rattle.plain_rules.specs.Machine.{frame_of, registers_of}
 use Rattle.machine_rules.specs.Take.{cell_after, learn}
 use Rattle.plain_rules.specs.declared.PlainLetter.{PlainLetter}
@@ -75,7 +75,7 @@ unfolding lower_all
 alike_lower me [] c = alike_self me c
 alike_lower me (e ∷ es) c = alike_then me c _ _ (alike_if me (owner_of e.0 == me) (λ h. h - e.1) e.0 c) (alike_lower me es _)
 
-held_alike : (me : ℕ) (c d : Holdings) → Alike me c d → (x : Thing) → held_in d x ≡ held_in c x
+pub held_alike : (me : ℕ) (c d : Holdings) → Alike me c d → (x : Thing) → held_in d x ≡ held_in c x
 unfolding held_in
 held_alike me c d p x = ap (λ (t : Entries). entry_count (m.get t x)) p.foreign
 
@@ -91,7 +91,7 @@ module _ (all : Thing → Option Row) (me : ℕ) (c : Cell) (h : Holdings) (dirt
   alike_on x (inl own) = inl (own.0, alike.has x ∙ own.1)
   alike_on x (inr other) = inr (other.0, subst (λ n. 0 < n) (sym (held_alike me c.holdings h alike x)) other.1)
 
-  alike_root : (x : Thing) → Roots changed x → Roots c x
+  alike_root : (x : Thing) → StartsWalks changed x → StartsWalks c x
   alike_root x (in_fields k) = in_fields k
   alike_root x (in_frame k) = in_frame k
   alike_root x (in_table k) = in_table (subst (λ n. 0 < n) (held_alike me c.holdings h alike x) k)

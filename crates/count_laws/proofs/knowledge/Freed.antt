@@ -20,7 +20,7 @@ use Rattle.count_laws.specs.Agreement.{Person, person_at, person_of, IsRootPerso
 use Rattle.machine_rules.specs.Balance.{own_at, incs_at, loads_at, held_sum, load_sum, owner_seat}
 use Rattle.count_laws.specs.Prefixes.{IsCoveredAt, NeverOverdraws}
 use Rattle.machine_rules.specs.Cell.{Cell}
-use Rattle.count_laws.specs.Known.{Names, Reaches, IsKnown, Roots, in_fields, in_frame, IsLoadOf, AreExactLetters}
+use Rattle.count_laws.specs.Known.{Names, ReachesThrough, IsKnown, StartsWalks, in_fields, in_frame, IsLoadOf, AreExactLetters}
 use Rattle.machine_rules.specs.Left.{IsLeft}
 use Rattle.orca_names.specs.Names.{owner_of}
 use Rattle.orca_names.specs.declared.names.ObjName.{ObjName}
@@ -88,9 +88,9 @@ module _ (all : Thing → Option Row) (ps : List Person) (s : Actors) (bal : Bal
     cell : Cell
     mail : List Letter
     at : seat_at s by ≡ seat cell mail
-    how : (x ≡ Actor by) ⊎ (Reaches all (Roots cell) x ⊎ (0 < sum_by (load_count x) mail))
+    how : (x ≡ Actor by) ⊎ (ReachesThrough all (StartsWalks cell) x ⊎ (0 < sum_by (load_count x) mail))
 
-  how_left : (x : Thing) (g : Grasp x) → (x ≡ Actor g.by) ⊎ (Reaches all (Roots g.cell) x ⊎ (0 < sum_by (load_count x) g.mail)) → IsLeft s x
+  how_left : (x : Thing) (g : Grasp x) → (x ≡ Actor g.by) ⊎ (ReachesThrough all (StartsWalks g.cell) x ⊎ (0 < sum_by (load_count x) g.mail)) → IsLeft s x
   how_left x g (inl self) = record {
     seat = record { cell = g.cell; mail = g.mail };
     present = ap (λ y. seat_at s (owner_of y)) self ∙ g.at;
@@ -102,7 +102,7 @@ module _ (all : Thing → Option Row) (ps : List Person) (s : Actors) (bal : Bal
   grasp_left : (x : Thing) → Grasp x → IsLeft s x
   grasp_left x g = how_left x g g.how
 
-  grasped : (a : ℕ) (c : Cell) (ls : List Letter) (x : Thing) → seat_at s a ≡ seat c ls → (x ≡ Actor a) ⊎ (Reaches all (Roots c) x ⊎ (0 < sum_by (load_count x) ls)) → Grasp x
+  grasped : (a : ℕ) (c : Cell) (ls : List Letter) (x : Thing) → seat_at s a ≡ seat c ls → (x ≡ Actor a) ⊎ (ReachesThrough all (StartsWalks c) x ⊎ (0 < sum_by (load_count x) ls)) → Grasp x
   grasped a c ls x at how = record { by = a; cell = c; mail = ls; at = at; how = how }
 
   held_grasped : (a : ℕ) (x : Thing) → IsLeft s (Actor a) → Holds (person_at ps a) x → Grasp x
@@ -113,13 +113,13 @@ module _ (all : Thing → Option Row) (ps : List Person) (s : Actors) (bal : Bal
       by_person c ls at (inr (inl n)) = grasped a c ls x at (inr (inl (root (in_frame n))))
       by_person c ls at (inr (inr l)) = grasped a c ls x at (inr (inr (args_loaded all x ls (sound a c ls at).loads l)))
 
-  row_grasped : (n : ObjName) (x : Thing) (r : Row) → all (Obj n) ≡ Some r → Names r x → (g : Grasp (Obj n)) → (Obj n ≡ Actor g.by) ⊎ (Reaches all (Roots g.cell) (Obj n) ⊎ (0 < sum_by (load_count (Obj n)) g.mail)) → Grasp x
+  row_grasped : (n : ObjName) (x : Thing) (r : Row) → all (Obj n) ≡ Some r → Names r x → (g : Grasp (Obj n)) → (Obj n ≡ Actor g.by) ⊎ (ReachesThrough all (StartsWalks g.cell) (Obj n) ⊎ (0 < sum_by (load_count (Obj n)) g.mail)) → Grasp x
   row_grasped n x r e named g (inl self) = cc
   row_grasped n x r e named g (inr (inl reached)) = grasped g.by g.cell g.mail x g.at (inr (inl (along_row _ reached e named)))
   row_grasped n x r e named g (inr (inr load)) = grasped g.by g.cell g.mail x g.at (inr (inr (load_into all (Obj n) x g.mail (sound g.by g.cell g.mail g.at).loads
       (λ args load is h. is.whole x (along_row _ (is.reached (Obj n) h) e named)) load)))
 
-  owner_grasped : (n : ObjName) (g : Grasp (Obj n)) → (Obj n ≡ Actor g.by) ⊎ (Reaches all (Roots g.cell) (Obj n) ⊎ (0 < sum_by (load_count (Obj n)) g.mail)) → Grasp (Actor n.owner)
+  owner_grasped : (n : ObjName) (g : Grasp (Obj n)) → (Obj n ≡ Actor g.by) ⊎ (ReachesThrough all (StartsWalks g.cell) (Obj n) ⊎ (0 < sum_by (load_count (Obj n)) g.mail)) → Grasp (Actor n.owner)
   owner_grasped n g (inl self) = cc
   owner_grasped n g (inr (inl reached)) = grasped g.by g.cell g.mail (Actor n.owner) g.at (inr (inl (owned reached)))
   owner_grasped n g (inr (inr load)) = grasped g.by g.cell g.mail (Actor n.owner) g.at (inr (inr (load_into all (Obj n) (Actor n.owner) g.mail (sound g.by g.cell g.mail g.at).loads

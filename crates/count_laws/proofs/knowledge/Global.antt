@@ -1,5 +1,5 @@
 -- What each actor knows stays so where a seat changes, a letter is pushed, an actor is made or the map of all rows grows.
-use Rattle.std.proofs.Common.{◌≡◌, ◌⊎◌, ℕ, ◌<◌, Option, Some, List, [], ◌∷◌, ◌++◌, length, set, refl, sym, ◌∙◌, arith, ⊎_elim}
+use Rattle.std.proofs.Common.{◌≡◌, ◌≢◌, ◌⊎◌, ℕ, ◌<◌, Option, Some, List, [], ◌∷◌, ◌++◌, length, set, refl, sym, ◌∙◌, arith, ⊎_elim}
 use Rattle.std.proofs.lemmas.Bool.{cases_eq}
 use Rattle.std.proofs.lemmas.List.Sums.{sum_by-cons}
 use Rattle.letter_kinds.proofs.Counts.{loaded-same, loaded_more}
@@ -18,7 +18,7 @@ use Rattle.orca_names.specs.declared.trace.Trace.TheVariants.{Deep}
 use Rattle.machine_rules.specs.Actors.{Seat, Actors, seat_at, push_letter, seat}
 use Rattle.count_laws.specs.Prefixes.{NeverOverdraws}
 use Rattle.machine_rules.specs.Cell.{Cell}
-use Rattle.count_laws.specs.Known.{Names, Reaches, Roots, RowsAreIn, IsExactLetter, AreExactLetters, IsSoundAt}
+use Rattle.count_laws.specs.Known.{Names, ReachesThrough, StartsWalks, RowsAreIn, IsExactLetter, AreExactLetters, IsSoundAt}
 use Rattle.machine_rules.specs.Left.{IsLeft}
 use Rattle.orca_names.specs.declared.names.Thing.{Thing}
 use Rattle.reach_walk.specs.Reach.{root, owned}
@@ -46,17 +46,17 @@ sound_push all s b l o at ok sound = rw (push_is s b l o at)
 
 -- the map of all rows grows by things that are not left
 module _ (all all' : Thing → Option Row) (New : Thing → Type 0) (only : (x : Thing) → (all' x ≡ all x) ⊎ New x)
-    (s : Actors) (bal : Balanced s) (p : NeverOverdraws Deep s) (unborn : (x : Thing) → New x → IsLeft s x → ⊥) (bare : (x : Thing) (r : Row) → New x → all x ≡ Some r → ⊥) where
+    (s : Actors) (bal : Balanced s) (p : NeverOverdraws Deep s) (unborn : (x : Thing) → New x → ¬ IsLeft s x) (bare : (x : Thing) (r : Row) → New x → all x ≢ Some r) where
   still : (x : Thing) → IsLeft s x → all' x ≡ all x
   still x left = ⊎_elim (λ e. e) (λ new. absurd (unborn x new left)) (only x)
 
-  grown : (roots : Thing → Type 0) (x : Thing) → Reaches all roots x → Reaches all' roots x
-  grown roots x h = reach_into _ (Reaches all' roots) (λ x r. root r)
+  grown : (roots : Thing → Type 0) (x : Thing) → ReachesThrough all roots x → ReachesThrough all' roots x
+  grown roots x h = reach_into _ (ReachesThrough all' roots) (λ x r. root r)
       (λ x y r q e n. along_row _ q (⊎_elim (λ same. same ∙ e) (λ new. absurd (bare x r new e)) (only x)) n)
       (λ n q. owned q) h
 
-  shrunk : (roots : Thing → Type 0) → ((x : Thing) → Reaches all roots x → IsLeft s x) → (x : Thing) → Reaches all' roots x → Reaches all roots x
-  shrunk roots left x h = reach_into _ (Reaches all roots) (λ x r. root r)
+  shrunk : (roots : Thing → Type 0) → ((x : Thing) → ReachesThrough all roots x → IsLeft s x) → (x : Thing) → ReachesThrough all' roots x → ReachesThrough all roots x
+  shrunk roots left x h = reach_into _ (ReachesThrough all roots) (λ x r. root r)
       (λ x y r q e n. along_row _ q (sym (still x (left x q)) ∙ e) n)
       (λ n q. owned q) h
 
@@ -92,7 +92,7 @@ module _ (all all' : Thing → Option Row) (New : Thing → Type 0) (only : (x :
   sound_grown sound a c ls at =
       let z = sound a c ls at in
       record {
-        closed = λ x h. z.closed x (shrunk (Roots c) (λ x q. known_left s bal p a c ls x at (z.closed x q)) x h);
+        closed = λ x h. z.closed x (shrunk (StartsWalks c) (λ x q. known_left s bal p a c ls x at (z.closed x q)) x h);
         rows = λ x k. z.rows x k ∙ sym (still x (known_left s bal p a c ls x at k));
         loads = mail_grown ls (λ x h. loaded_left s bal p a c ls x at h) z.loads;
       }

@@ -1,5 +1,5 @@
 -- A turn of an actor: what it knows afterwards, and that the plain machine takes the same turn.
-use Rattle.std.proofs.Common.{◌≡◌, ◌⊎◌, ℕ, ◌+◌, ◌<◌, ◌≤◌, Bool, true, false, Option, Some, None, is_some, List, [], ◌∷◌, length, get_or, refl, sym, ◌∙◌, ap, arith, subst, inl, inr, eq-eqb}
+use Rattle.std.proofs.Common.{◌≡◌, ◌≢◌, ◌⊎◌, ℕ, ◌+◌, ◌<◌, ◌≤◌, Bool, true, false, Option, Some, None, is_some, List, [], ◌∷◌, length, get_or, refl, sym, ◌∙◌, ap, arith, subst, inl, inr, eq-eqb}
 use Rattle.std.specs.FinMap as m
 use Rattle.std.specs.Prelude.{option_map}
 use Rattle.orca_names.specs.declared.names.ObjName.{ObjName}
@@ -30,7 +30,7 @@ use Rattle.count_laws.specs.Agreement.{Person}
 use Rattle.machine_rules.specs.Cell.{Cell}
 use Rattle.count_laws.specs.Facts.{KeepsCounts}
 use Rattle.machine_rules.specs.Go.{turn_of_cell, cell_after_turn}
-use Rattle.count_laws.specs.Known.{InFrame, IsClosedAt, IsKnown, IsLoadOf, IsSoundAt, Names, Reaches, Roots, RowsAreAt, RowsAreIn, in_fields, in_frame, row_at}
+use Rattle.count_laws.specs.Known.{InFrame, IsClosedAt, IsKnown, IsLoadOf, IsSoundAt, Names, ReachesThrough, StartsWalks, RowsAreAt, RowsAreIn, in_fields, in_frame, row_at}
 use Rattle.machine_rules.specs.Left.{IsLeft}
 use Rattle.orca_names.specs.declared.trace.Trace.TheVariants.{Deep}
 
@@ -78,13 +78,13 @@ module _ (program : Program) (all all' : Thing → Option Row) (ps : List Person
   here : IsSoundAt all a c ls
   here = inv.sound a c ls at
 
-  given_roots : (x : Thing) → Given f c.fields x → Roots c x
+  given_roots : (x : Thing) → Given f c.fields x → StartsWalks c x
   given_roots x (inl n) = in_frame (subst (λ o. InFrame o x) (sym frame) n)
   given_roots x (inr n) = in_fields n
 
   -- over its own rows the actor reaches what it reaches over all
-  own_to_all : (x : Thing) → Reaches (row_at a c.holdings) (Given f c.fields) x → Reaches all (Roots c) x
-  own_to_all x h = reach_into _ (Reaches all (Roots c)) (λ x n. root (given_roots x n))
+  own_to_all : (x : Thing) → ReachesThrough (row_at a c.holdings) (Given f c.fields) x → ReachesThrough all (StartsWalks c) x
+  own_to_all x h = reach_into _ (ReachesThrough all (StartsWalks c)) (λ x n. root (given_roots x n))
       (λ x y r p e n. along_row _ p (sym (here.rows x (here.closed x p)) ∙ e) n)
       (λ n p. owned p) h
 
@@ -119,7 +119,7 @@ module _ (program : Program) (all all' : Thing → Option Row) (ps : List Person
         (λ x n. source x (seg.in_fields x n)) (λ x n. source x (seg.in_registers x (names_nf x n))) (λ i x h n. source x (seg.in_made i x h n)) here.closed here.rows
 
     -- what a posted letter's arguments reach
-    args_source : (args : List Value) → ((x : Thing) → Names args x → Names (act_values turn.act) x) → (x : Thing) → Reaches all' (Names args) x → Source all a c c.holdings.next turn.turn.made x
+    args_source : (args : List Value) → ((x : Thing) → Names args x → Names (act_values turn.act) x) → (x : Thing) → ReachesThrough all' (Names args) x → Source all a c c.holdings.next turn.turn.made x
     args_source args posted x h = reach_into _ (Source all a c c.holdings.next turn.turn.made) (λ x n. source x (seg.in_act x (posted x n)))
         (along all all' grows.bare a c.holdings.next turn.turn.made c fresh grows.news grows.only turn.turn.fields nf nd
         (λ x n. source x (seg.in_fields x n)) (λ x n. source x (seg.in_registers x (names_nf x n))) (λ i x h n. source x (seg.in_made i x h n)) here.closed here.rows)
@@ -135,10 +135,10 @@ module _ (program : Program) (all all' : Thing → Option Row) (ps : List Person
     held_after x = held-made a c.holdings.next turn.turn.made c.holdings fresh x
 
     -- the rows made are not left before
-    unborn : (x : Thing) → Made a c.holdings.next turn.turn.made x → IsLeft s x → ⊥
+    unborn : (x : Thing) → Made a c.holdings.next turn.turn.made x → ¬ IsLeft s x
     unborn x (i, h, e) left = not_left i (subst (IsLeft s) e left)
       where
-        not_left : (i : ℕ) → IsLeft s (object a (c.holdings.next + i)) → ⊥
+        not_left : (i : ℕ) → ¬ IsLeft s (object a (c.holdings.next + i))
         not_left i left =
             let z = some_seat c left.seat.cell ls left.seat.mail (sym at ∙ left.present) in
             let n = has_none a (c.holdings.next + i) c.holdings (fresh (c.holdings.next + i) (omega arith)) in
@@ -148,7 +148,7 @@ module _ (program : Program) (all all' : Thing → Option Row) (ps : List Person
     sound_after = sound_grown all all' (Made a c.holdings.next turn.turn.made) grows.only s (in_hand s inv.balanced) inv.prefixes unborn
         (λ x r new e. bare_new x r new e) inv.sound
       where
-        bare_new : (x : Thing) (r : Row) → Made a c.holdings.next turn.turn.made x → all x ≡ Some r → ⊥
+        bare_new : (x : Thing) (r : Row) → Made a c.holdings.next turn.turn.made x → all x ≢ Some r
         bare_new x r new e = let z = grows.past (c.holdings.next + new.0) (omega arith) in let q = new.2 in let w = ap all q in cc
         -- a load that is exact over the actor's own rows is exact over all
 
@@ -158,7 +158,7 @@ module _ (program : Program) (all all' : Thing → Option Row) (ps : List Person
 
       pub exact : IsLoadOf all' args load
       exact =
-          let known : (x : Thing) → Reaches all' (Names args) x → IsKnown a after.holdings x = λ x h. known_after x (args_source args posted x h) in
+          let known : (x : Thing) → ReachesThrough all' (Names args) x → IsKnown a after.holdings x = λ x h. known_after x (args_source args posted x h) in
           record {
             once = is.once;
             rising = is.rising;
@@ -178,5 +178,5 @@ module _ (program : Program) (all all' : Thing → Option Row) (ps : List Person
   unfolding turn
   same_turn rows are = turn_local program a c f rows (λ x h. here.rows x (here.closed x (over rows are x h)) ∙ sym (are x))
     where
-      over : (rows : ObjName → Option Row) → ((x : Thing) → thing_row rows x ≡ all x) → (x : Thing) → Reaches (thing_row rows) (Given f c.fields) x → Reaches all (Roots c) x
-      over rows are x h = reach_into _ (Reaches all (Roots c)) (λ x n. root (given_roots x n)) (λ x y r p e n. along_row _ p (sym (are x) ∙ e) n) (λ n p. owned p) h
+      over : (rows : ObjName → Option Row) → ((x : Thing) → thing_row rows x ≡ all x) → (x : Thing) → ReachesThrough (thing_row rows) (Given f c.fields) x → ReachesThrough all (StartsWalks c) x
+      over rows are x h = reach_into _ (ReachesThrough all (StartsWalks c)) (λ x n. root (given_roots x n)) (λ x y r p e n. along_row _ p (sym (are x) ∙ e) n) (λ n p. owned p) h

@@ -26,7 +26,7 @@ filter_none p x (y ∷ es) e h = elim (p y.0) as (λ b. p y.0 ≡ b → cond b (
 pub one_or_more : (a : ℕ) (c : Holdings) (x : Thing) → owner_of x ≢ a → is_lacking a c x ≡ false → held_in c x ≢ 1
 one_or_more a c x other lack is = let n = ne_eqb (owner_of x) a other in let o = eq-eqb (held_in c x) 1 is in lies (owner_of x == a) (held_in c x == 1) n o lack
   where
-    lies : (p q : Bool) → p ≡ false → q ≡ true → (not p && q) ≡ false → ⊥
+    lies : (p q : Bool) → p ≡ false → q ≡ true → (not p && q) ≢ false
     lies true q n o l = cc
     lies false true n o l = cc
     lies false false n o l = cc

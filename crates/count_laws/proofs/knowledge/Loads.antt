@@ -20,7 +20,7 @@ use Rattle.machine_rules.specs.Cell.{Cell, known_objects}
 use Rattle.machine_rules.specs.Collect.{is_marked_deep}
 use Rattle.machine_rules.specs.Go.{load_from}
 use Rattle.orca_names.specs.declared.trace.Trace.TheVariants.{Deep}
-use Rattle.count_laws.specs.Known.{Names, Reaches, row_at, RowsAreIn, IsLoadOf}
+use Rattle.count_laws.specs.Known.{Names, ReachesThrough, row_at, RowsAreIn, IsLoadOf}
 
 -- ---- loads
 
@@ -34,8 +34,8 @@ things_of row (x ∷ xs) = ap (λ ys. x ∷ ys) (things_of row xs)
 
 module _ (rows : ObjName → Option Row) (all : List ObjName) (args : List Value) (covers : Covers all rows) where
   -- a thing is reached and loaded once, or is neither
-  once_or_not : (x : Thing) → (Reaches (thing_row rows) (Names args) x × (times_loaded x (load_of rows all args) ≡ 1))
-      ⊎ ((Reaches (thing_row rows) (Names args) x → ⊥) × (times_loaded x (load_of rows all args) ≡ 0))
+  once_or_not : (x : Thing) → (ReachesThrough (thing_row rows) (Names args) x × (times_loaded x (load_of rows all args) ≡ 1))
+      ⊎ ((¬ ReachesThrough (thing_row rows) (Names args) x) × (times_loaded x (load_of rows all args) ≡ 0))
   unfolding times_loaded
   once_or_not x = let exact = loads-exact rows all args covers in ⊎_elim
       (λ r. inl (along_rows rows (λ y n. n) r, exact.once x r))
@@ -62,13 +62,13 @@ module _ (me : ℕ) (h : Holdings) (args : List Value) where
 -- ---- marks
 
 module _ (a : ℕ) (c : Cell) where
-  pub marked_reached : (x : Thing) → is_marked_deep a c x ≡ true → Reaches (row_at a c.holdings) (Names c.fields.values) x
+  pub marked_reached : (x : Thing) → is_marked_deep a c x ≡ true → ReachesThrough (row_at a c.holdings) (Names c.fields.values) x
   unfolding is_marked_deep
   marked_reached x e =
       let marks = marks_of (row_of a c.holdings) (known_objects a c.holdings) c.fields.values in
       along_rows (row_of a c.holdings) (λ y n. n) (marks-reached (row_of a c.holdings) (known_objects a c.holdings) c.fields.values x (Contains-from_any is_same x marks e))
 
-  pub reached_marked : (x : Thing) → Reaches (row_at a c.holdings) (Names c.fields.values) x → is_marked_deep a c x ≡ true
+  pub reached_marked : (x : Thing) → ReachesThrough (row_at a c.holdings) (Names c.fields.values) x → is_marked_deep a c x ≡ true
   unfolding is_marked_deep
   reached_marked x r =
       let marks = marks_of (row_of a c.holdings) (known_objects a c.holdings) c.fields.values in

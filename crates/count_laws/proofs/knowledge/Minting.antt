@@ -9,7 +9,7 @@ use Rattle.letter_kinds.specs.Sums.{amount_of}
 use Rattle.count_laws.proofs.knowledge.Paths.{reach_more}
 use Rattle.count_laws.proofs.knowledge.Sending.{row-mint_all, has-mint_all}
 use Rattle.machine_rules.specs.Cell.{Cell}
-use Rattle.count_laws.specs.Known.{IsKnown, Roots, in_fields, in_frame, in_table, IsClosedAt, RowsAreAt}
+use Rattle.count_laws.specs.Known.{IsKnown, StartsWalks, in_fields, in_frame, in_table, IsClosedAt, RowsAreAt}
 
 module _ (all : Thing → Option Row) (me : ℕ) (c : Cell) (es : List (Thing × ℕ)) (has : (x : Thing) → 0 < amount_of x es → 0 < held_in c.holdings x)
     (closed : IsClosedAt all me c) (rows : RowsAreAt all me c.holdings) where
@@ -31,7 +31,7 @@ module _ (all : Thing → Option Row) (me : ℕ) (c : Cell) (es : List (Thing ×
   minted_on x (inl own) = inl (own.0, has-mint_all x es c.holdings ∙ own.1)
   minted_on x (inr other) = inr (other.0, let z = held-mint_all x es c.holdings in let o = other.1 in omega arith)
 
-  minted_root : (x : Thing) → Roots minted x → Roots c x
+  minted_root : (x : Thing) → StartsWalks minted x → StartsWalks c x
   minted_root x (in_fields h) = in_fields h
   minted_root x (in_frame h) = in_frame h
   minted_root x (in_table h) = in_table (minted_held x h)

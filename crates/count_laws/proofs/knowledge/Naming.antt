@@ -23,7 +23,7 @@ padded_names args n x h =
     let K : Thing → Type 0 = Names args in
     named_is_known K (args ++ replicate n Null) (knows_append K args (replicate n Null) (Knows-from_named K args (λ y c. c)) (knows_nulls K n)) x h
 
-pub nulls_name_nothing : (n : ℕ) (x : Thing) → Names (replicate n Null) x → ⊥
+pub nulls_name_nothing : (n : ℕ) (x : Thing) → ¬ Names (replicate n Null) x
 nulls_name_nothing n x h = named_is_known (λ y. ⊥) (replicate n Null) (knows_nulls (λ y. ⊥) n) x h
 
 -- ---- one value is set

@@ -20,7 +20,7 @@ use Rattle.letter_kinds.specs.Holdings.{Row, Holdings, held_in, has_own, row_of,
 use Rattle.letter_kinds.specs.Sums.{times_loaded}
 use Rattle.count_laws.proofs.knowledge.Paths.{along_row, reach_into}
 use Rattle.machine_rules.specs.Cell.{Cell}
-use Rattle.count_laws.specs.Known.{Names, Reaches, row_at, IsKnown, InFrame, Roots, in_fields, in_frame, in_table, IsClosedAt, RowsAreAt, RowsAreIn, IsLoadOf}
+use Rattle.count_laws.specs.Known.{Names, ReachesThrough, row_at, IsKnown, InFrame, StartsWalks, in_fields, in_frame, in_table, IsClosedAt, RowsAreAt, RowsAreIn, IsLoadOf}
 
 -- the row of an own object
 abbrev pub own_row : Option (Row × ℕ) → Option Row
@@ -123,13 +123,13 @@ module _ (all : Thing → Option Row) (none : NoActorRows all) (me : ℕ) (c : C
       either zero n h = inr (omega arith)
       either (suc m) n h = inl (omega arith)
 
-  from_root : (x : Thing) → Roots after x → Reaches all (Roots c) x ⊎ (0 < times_loaded x load)
+  from_root : (x : Thing) → StartsWalks after x → ReachesThrough all (StartsWalks c) x ⊎ (0 < times_loaded x load)
   from_root x (in_fields h) = inl (root (in_fields h))
   from_root x (in_frame h) = inr (exact.whole x (root (starts x h)))
   from_root x (in_table h) = ⊎_elim (λ old. inl (root (in_table old))) (λ new. inr new) (held-after x h)
 
-  either_reached : (x : Thing) → Reaches all (Roots after) x → Reaches all (Roots c) x ⊎ (0 < times_loaded x load)
-  either_reached x h = reach_into all (λ x. Reaches all (Roots c) x ⊎ (0 < times_loaded x load)) from_root
+  either_reached : (x : Thing) → ReachesThrough all (StartsWalks after) x → ReachesThrough all (StartsWalks c) x ⊎ (0 < times_loaded x load)
+  either_reached x h = reach_into all (λ x. ReachesThrough all (StartsWalks c) x ⊎ (0 < times_loaded x load)) from_root
       (λ x y r p e n. ⊎_elim (λ old. inl (along_row all old e n)) (λ new. inr (exact.whole y (along_row all (exact.reached x new) e n))) p)
       (λ q p. ⊎_elim (λ old. inl (owned old)) (λ new. inr (exact.whole (Actor q.owner) (owned (exact.reached (Obj q) new)))) p) h
 

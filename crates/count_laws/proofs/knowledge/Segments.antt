@@ -17,7 +17,7 @@ use Rattle.letter_kinds.specs.Holdings.{Row, Holdings, own_in, held_in, has_own,
 use Rattle.count_laws.proofs.knowledge.Paths.{along_row, reach_into}
 use Rattle.count_laws.proofs.knowledge.Receiving.{own_row, NoActorRows}
 use Rattle.machine_rules.specs.Cell.{Cell}
-use Rattle.count_laws.specs.Known.{Names, Reaches, row_at, IsKnown, InFrame, Roots, in_fields, in_frame, in_table, IsClosedAt, RowsAreAt}
+use Rattle.count_laws.specs.Known.{Names, ReachesThrough, row_at, IsKnown, InFrame, StartsWalks, in_fields, in_frame, in_table, IsClosedAt, RowsAreAt}
 
 -- rows made from a serial on
 abbrev pub made_from : ℕ → List Row → Holdings → Holdings
@@ -114,7 +114,7 @@ module _ (me base : ℕ) (made : List Row) (c : Holdings) (fresh : (k : ℕ) →
 -- ---- a turn names nothing but what it could reach, the actor itself, and what it made
 
 abbrev pub Source : (Thing → Option Row) → ℕ → Cell → ℕ → List Row → Thing → Type 0
-Source all me c base made x = Reaches all (Roots c) x ⊎ ((x ≡ Actor me) ⊎ Made me base made x)
+Source all me c base made x = ReachesThrough all (StartsWalks c) x ⊎ ((x ≡ Actor me) ⊎ Made me base made x)
 
 module _ (all all' : Thing → Option Row) (none : NoActorRows all') (me base : ℕ) (made : List Row) (c : Cell)
     (fresh : (k : ℕ) → base ≤ k → m.get c.holdings.rows k ≡ None)
@@ -129,14 +129,14 @@ module _ (all all' : Thing → Option Row) (none : NoActorRows all') (me base : 
   after = record c { fields = fields; frame = frame; dirty = dirty; holdings = made_from base made c.holdings }
 
   -- a thing that was known is none of those made
-  pub known_not_made : (x : Thing) → IsKnown me c.holdings x → Made me base made x → ⊥
+  pub known_not_made : (x : Thing) → IsKnown me c.holdings x → ¬ Made me base made x
   known_not_made x k (i, h, e) = known_not i h (subst (IsKnown me c.holdings) e k)
     where
-      known_not : (i : ℕ) → i < length made → IsKnown me c.holdings (Obj (record { owner = me; serial = base + i })) → ⊥
+      known_not : (i : ℕ) → i < length made → ¬ IsKnown me c.holdings (Obj (record { owner = me; serial = base + i }))
       known_not i h (inl own) = let b = old_below me base made c.holdings fresh (record { owner = me; serial = base + i }) own.1 in absurd (omega arith)
       known_not i h (inr other) = other.0 refl
 
-  from_root : (x : Thing) → Roots after x → Source all me c base made x
+  from_root : (x : Thing) → StartsWalks after x → Source all me c base made x
   from_root x (in_fields h) = seg_fields x h
   from_root x (in_frame h) = seg_frame x h
   from_root x (in_table h) = inl (root (in_table (subst (λ n. 0 < n) (held-made me base made c.holdings fresh x) h)))
@@ -157,7 +157,7 @@ module _ (all all' : Thing → Option Row) (none : NoActorRows all') (me base : 
   up n (inr (inl self)) = cc
   up n (inr (inr new)) = inr (inl (let q = new.2 in cc))
 
-  pub reached_from : (x : Thing) → Reaches all' (Roots after) x → Source all me c base made x
+  pub reached_from : (x : Thing) → ReachesThrough all' (StartsWalks after) x → Source all me c base made x
   reached_from x h = reach_into all' (Source all me c base made) from_root along up h
 
   pub known_source : (x : Thing) → Source all me c base made x → IsKnown me after.holdings x

@@ -16,7 +16,7 @@ use Rattle.letter_kinds.specs.Sums.{times_loaded}
 use Rattle.count_laws.proofs.knowledge.Paths.{along_row, reach_into, reach_more}
 use Rattle.count_laws.proofs.knowledge.Receiving.{row_set_own, row_set_held_other, row_set_held_own, row_set_held_same}
 use Rattle.machine_rules.specs.Cell.{Cell}
-use Rattle.count_laws.specs.Known.{Names, Reaches, row_at, IsKnown, Roots, in_fields, in_frame, in_table, IsClosedAt, RowsAreAt}
+use Rattle.count_laws.specs.Known.{Names, ReachesThrough, row_at, IsKnown, StartsWalks, in_fields, in_frame, in_table, IsClosedAt, RowsAreAt}
 
 -- ---- a count is changed and the row stays
 
@@ -98,7 +98,7 @@ module _ (all : Thing → Option Row) (me : ℕ) (c : Cell) (load : List Loaded)
   known_off x (inl own) = inl (own.0, sym (has-send me x load c.holdings) ∙ own.1)
   known_off x (inr other) = inr (other.0, held_less x other.1)
 
-  send_root : (x : Thing) → Roots sent x → Reaches all (Roots c) x
+  send_root : (x : Thing) → StartsWalks sent x → ReachesThrough all (StartsWalks c) x
   send_root x (in_fields h) = root (in_fields h)
   send_root x (in_frame h) = root (in_frame h)
   send_root x (in_table h) = root (in_table (held_less x h))
@@ -112,14 +112,14 @@ module _ (all : Thing → Option Row) (me : ℕ) (c : Cell) (load : List Loaded)
 -- ---- what the arguments reach over the actor's own rows is what they reach over all rows
 
 module _ (all : Thing → Option Row) (me : ℕ) (c : Holdings) (args : List Value)
-    (known : (x : Thing) → Reaches all (Names args) x → IsKnown me c x) (rows : RowsAreAt all me c) where
-  pub over_own : (x : Thing) → Reaches all (Names args) x → Reaches (row_at me c) (Names args) x
-  over_own x h = (reach_into all (λ x. Reaches (row_at me c) (Names args) x × Reaches all (Names args) x)
+    (known : (x : Thing) → ReachesThrough all (Names args) x → IsKnown me c x) (rows : RowsAreAt all me c) where
+  pub over_own : (x : Thing) → ReachesThrough all (Names args) x → ReachesThrough (row_at me c) (Names args) x
+  over_own x h = (reach_into all (λ x. ReachesThrough (row_at me c) (Names args) x × ReachesThrough all (Names args) x)
       (λ x n. (root n, root n))
       (λ x y r p e n. (along_row (row_at me c) p.0 (rows x (known x p.1) ∙ e) n, along_row all p.1 e n))
       (λ q p. (owned p.0, owned p.1)) h).0
 
-  pub over_all : (x : Thing) → Reaches (row_at me c) (Names args) x → Reaches all (Names args) x
-  over_all x h = reach_into (row_at me c) (Reaches all (Names args)) (λ x n. root n)
+  pub over_all : (x : Thing) → ReachesThrough (row_at me c) (Names args) x → ReachesThrough all (Names args) x
+  over_all x h = reach_into (row_at me c) (ReachesThrough all (Names args)) (λ x n. root n)
       (λ x y r p e n. along_row all p (sym (rows x (known x p)) ∙ e) n)
       (λ q p. owned p) h

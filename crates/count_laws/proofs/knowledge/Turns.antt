@@ -21,7 +21,7 @@ use Rattle.count_laws.proofs.knowledge.Segments.{MadeIn}
 use Rattle.machine_rules.specs.Cell.{Cell}
 use Rattle.machine_rules.specs.Go.{turn_of_cell}
 use Rattle.orca_names.specs.declared.trace.Trace.TheVariants.{Deep}
-use Rattle.count_laws.specs.Known.{Names, Reaches, row_at, row_values}
+use Rattle.count_laws.specs.Known.{Names, ReachesThrough, row_at, row_values}
 
 -- ---- paths through rows of objects are paths through rows of things
 
@@ -30,12 +30,12 @@ module _ (rows : ObjName → Option Row) where
   unfolding row_values
   row_values-edges x = refl
 
-  pub along_edges : {roots roots' : Thing → Type 0} → ((x : Thing) → roots x → roots' x) → {x : Thing} → Reaches (thing_row rows) roots x → ReachesFrom (row_edges rows) roots' x
+  pub along_edges : {roots roots' : Thing → Type 0} → ((x : Thing) → roots x → roots' x) → {x : Thing} → ReachesThrough (thing_row rows) roots x → ReachesFrom (row_edges rows) roots' x
   along_edges at (root h) = root (at _ h)
   along_edges at (step {t = t} {x = x} h n) = step (along_edges at h) (subst (λ vs. Contains (named_by vs) x) (row_values-edges t) n)
   along_edges at (owned h) = owned (along_edges at h)
 
-  pub along_rows : {roots roots' : Thing → Type 0} → ((x : Thing) → roots x → roots' x) → {x : Thing} → ReachesFrom (row_edges rows) roots x → Reaches (thing_row rows) roots' x
+  pub along_rows : {roots roots' : Thing → Type 0} → ((x : Thing) → roots x → roots' x) → {x : Thing} → ReachesFrom (row_edges rows) roots x → ReachesThrough (thing_row rows) roots' x
   along_rows at (root h) = root (at _ h)
   along_rows at (step {t = t} {x = x} h n) = step (along_rows at h) (subst (λ vs. Contains (named_by vs) x) (sym (row_values-edges t)) n)
   along_rows at (owned h) = owned (along_rows at h)
@@ -53,7 +53,7 @@ named_given frame fields x n = Contains-append_cases (named_by frame.registers) 
 -- what a turn may name: what it reaches from what it is given, the actor itself, and so many objects
 -- that it made
 abbrev pub From : (Thing → Option Row) → ℕ → ℕ → Frame → Fields → ℕ → Thing → Type 0
-From rows me base frame fields made x = Reaches rows (Given frame fields) x ⊎ ((x ≡ things.Actor me) ⊎ MadeIn me base made x)
+From rows me base frame fields made x = ReachesThrough rows (Given frame fields) x ⊎ ((x ≡ things.Actor me) ⊎ MadeIn me base made x)
 
 -- so is all that is named where it stops
 pub record NamesOnlyFrom (rows : Thing → Option Row) (me base : ℕ) (frame : Frame) (fields : Fields) (stop : Stop) : Type 0 where
@@ -65,7 +65,7 @@ pub record NamesOnlyFrom (rows : Thing → Option Row) (me base : ℕ) (frame : 
 -- ---- of a segment
 
 module _ (p : Setting) (frame : Frame) (fields : Fields) where
-  from_known : (made : ℕ) (x : Thing) → laws.IsKnown p frame fields made x → From (thing_row p.rows) p.me p.base frame fields made x
+  from_known : (made : ℕ) (x : Thing) → laws.IsReachedOrMade p frame fields made x → From (thing_row p.rows) p.me p.base frame fields made x
   from_known made x (laws.reached r) = inl (along_rows p.rows (named_given frame fields) r)
   from_known made x (laws.itself e) = inr (inl e)
   from_known made x (laws.own i l e) = inr (inr (i, l, e))
@@ -83,7 +83,7 @@ module _ (p : Setting) (frame : Frame) (fields : Fields) where
       }
 
   -- two maps of rows that agree on what is reached give the same segment
-  pub segment_local : (others : ObjName → Option Row) → ((x : Thing) → Reaches (thing_row p.rows) (Given frame fields) x → thing_row p.rows x ≡ thing_row others x)
+  pub segment_local : (others : ObjName → Option Row) → ((x : Thing) → ReachesThrough (thing_row p.rows) (Given frame fields) x → thing_row p.rows x ≡ thing_row others x)
       → segment_of p frame fields ≡ segment_of (record p { rows = others }) frame fields
   segment_local others agree = segment_of-same p others frame fields (λ n r. agree (things.Obj n) (along_rows p.rows (named_given frame fields) r))
 
@@ -97,7 +97,7 @@ module _ (program : Program) (a : ℕ) (c : Cell) (frame : Frame) where
   pub turn_names : NamesOnlyFrom (row_at a c.holdings) a c.holdings.next frame c.fields (turn_of_cell Deep program a c frame)
   turn_names = segment_names (record { program = program; me = a; base = c.holdings.next; rows = row_of a c.holdings }) frame c.fields
 
-  pub turn_local : (rows : ObjName → Option Row) → ((x : Thing) → Reaches (thing_row rows) (Given frame c.fields) x → row_at a c.holdings x ≡ thing_row rows x)
+  pub turn_local : (rows : ObjName → Option Row) → ((x : Thing) → ReachesThrough (thing_row rows) (Given frame c.fields) x → row_at a c.holdings x ≡ thing_row rows x)
       → turn_of_cell Deep program a c frame ≡ turn_over rows
   turn_local rows agree = sym (segment_local (record { program = program; me = a; base = c.holdings.next; rows = rows }) frame c.fields (row_of a c.holdings) (λ x r. sym (agree x r)))
 

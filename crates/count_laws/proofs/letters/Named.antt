@@ -1,5 +1,5 @@
 -- What an actor or one of its letters names is left.
-use Rattle.std.proofs.Common.{◌≡◌, ℕ, ◌+◌, ◌<◌, List, [], Option, ap, sym, ◌∙◌, subst, arith, inr}
+use Rattle.std.proofs.Common.{◌≡◌, ◌≢◌, ℕ, ◌+◌, ◌<◌, List, [], Option, ap, sym, ◌∙◌, subst, arith, inr}
 use Rattle.std.specs.Prelude.{flat_map, sum_by}
 use Rattle.orca_names.specs.Names.{owner_of}
 use Rattle.orca_names.specs.declared.names.Thing.{Thing}
@@ -42,7 +42,7 @@ module _ (trace : Trace) (all : Thing → Option Row) (people : List Person) (s 
         let some : 0 < decs_at x (owner_seat s x) = subst (λ o. 0 < decs_at x o) (sym here) (let i = decs_at-seat x c mail in omega arith) in
         counted x (let b = counts.balanced x in omega arith)
 
-  waits : (letters : List PlainLetter) (x : Thing) → Letters letters x → letters ≡ [] → ⊥
+  waits : (letters : List PlainLetter) (x : Thing) → Letters letters x → letters ≢ []
   waits letters x (first n) e = cc
   waits letters x (later l) e = cc
 

@@ -1,5 +1,5 @@
 -- A load has each thing at most once, also with root-only tracing; so an Inc has the weight for each at most.
-use Rattle.std.proofs.Common.{◌≡◌, ◌==◌, ℕ, zero, suc, ◌+◌, ◌*◌, ◌≤◌, None, List, [], ◌∷◌, Contains, refl, sym, ◌∙◌, arith, subst, ⊎_elim}
+use Rattle.std.proofs.Common.{◌≡◌, ◌≢◌, ◌==◌, ℕ, zero, suc, ◌+◌, ◌*◌, ◌≤◌, None, List, [], ◌∷◌, Contains, refl, sym, ◌∙◌, arith, subst, ⊎_elim}
 use Rattle.std.specs.List.Sorted.{IsStrictlySortedBy}
 use Rattle.std.specs.Prelude.{if◌then◌else◌}
 use Rattle.std.proofs.lemmas.List.Sums.{sum_by-cons}
@@ -29,10 +29,10 @@ same y = y
 one_more : (x y : Thing) (ys : List Thing) → x ≡ y → times_in same x (y ∷ ys) ≡ 1 + times_in same x ys
 one_more x y ys is = sum_by-cons (λ e. if is_thing x e then 1 else 0) y ys ∙ rw (is_eq_true x y is) refl
 
-pub none_more : (x y : Thing) (ys : List Thing) → (x ≡ y → ⊥) → times_in same x (y ∷ ys) ≡ times_in same x ys
+pub none_more : (x y : Thing) (ys : List Thing) → x ≢ y → times_in same x (y ∷ ys) ≡ times_in same x ys
 none_more x y ys not = sum_by-cons (λ e. if is_thing x e then 1 else 0) y ys ∙ rw (is_ne_false x y not) (omega arith)
 
-absent_none : (x : Thing) (ys : List Thing) → (Contains ys x → ⊥) → times_in same x ys ≡ 0
+absent_none : (x : Thing) (ys : List Thing) → ¬ Contains ys x → times_in same x ys ≡ 0
 absent_none x [] absent = refl
 absent_none x (y ∷ ys) absent =
     none_more x y ys (λ is. absent (subst (Contains (y ∷ ys)) (sym is) (Contains-head y ys)))

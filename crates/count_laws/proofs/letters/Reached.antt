@@ -30,7 +30,7 @@ use Rattle.count_laws.proofs.roots.Rows.{by_brought, by_own, rows_sound}
 use Rattle.count_laws.proofs.roots.Same.{own_row_has}
 use Rattle.count_laws.specs.Agreement.{Person}
 use Rattle.count_laws.specs.Facts.{KeepsCounts}
-use Rattle.count_laws.specs.Known.{Names, Reaches, Roots, RowsAreIn, row_at}
+use Rattle.count_laws.specs.Known.{Names, ReachesThrough, StartsWalks, RowsAreIn, row_at}
 use Rattle.count_laws.specs.KnownByRoots.{AreRootLetters, IsRootsAt, stands}
 use Rattle.count_laws.specs.Named.{IsInRowsOf, ReachesNothingFreed, RowsNameNothingFreed, brought, brought_by, has_row, in_brought, in_row}
 
@@ -96,7 +96,7 @@ module _ (all : Thing → Option Row) (people : List Person) (s : Actors) (inv :
   in_rows_left (brought {x = x} row c') = (brought_left x row c').0
   in_rows_left (in_brought {x = x} y row c' nm) = let z = brought_left y (Some row) c' in on_left y x row z.0 (sym z.1) nm
 
-  walked_left : {x : Thing} → Reaches (thing_row (row_by_roots a c)) (Roots c) x → IsLeft s x
+  walked_left : {x : Thing} → ReachesThrough (thing_row (row_by_roots a c)) (StartsWalks c) x → IsLeft s x
   walked_left h = reach_into (thing_row (row_by_roots a c)) (IsLeft s) (λ x r. either.root_left options.Roots all people s inv a c mail x at r)
       (λ x y r left e n. on_left x y r left (rows_sound all a c mail mine x r e) n) (owner_left all s bal inv.sound) h
 
@@ -107,10 +107,10 @@ rows_left all people s inv a c mail at x h = in_rows_left all people s inv a c m
 
 module _ (all : Thing → Option Row) (people : List Person) (s : Actors) (inv : KeepsCounts Deep all people s)
     (a : ℕ) (c : Cell) (mail : List Letter) (at : seat_at s a ≡ seat c mail) where
-  deep_walk : {x : Thing} → Reaches (row_at a c.holdings) (Roots c) x → Reaches all (Roots c) x
+  deep_walk : {x : Thing} → ReachesThrough (row_at a c.holdings) (StartsWalks c) x → ReachesThrough all (StartsWalks c) x
   deep_walk h =
       let q = inv.sound a c mail at in
-      reach_into (row_at a c.holdings) (Reaches all (Roots c)) (λ x r. root r) (λ x y r p e n. along_row all p (sym (q.rows x (q.closed x p)) ∙ e) n) (λ n p. owned p) h
+      reach_into (row_at a c.holdings) (ReachesThrough all (StartsWalks c)) (λ x r. root r) (λ x y r p e n. along_row all p (sym (q.rows x (q.closed x p)) ∙ e) n) (λ n p. owned p) h
 
 pub reached_left : (trace : Trace) (all : Thing → Option Row) (people : List Person) (s : Actors) → KeepsCounts trace all people s → ReachesNothingFreed trace s
 reached_left Deep all people s inv a c mail at x h = either.known_left Deep all people s inv a c mail x at ((inv.sound a c mail at).closed x (deep_walk all people s inv a c mail at h))

@@ -130,7 +130,7 @@ among_some x (e ∷ es) some = ⊎_elim
 abbrev Entry : Type 0
 Entry = Thing × (ℕ × Option Row)
 
-is_less : (o : Ordering) → T (is_lt o) → o ≡ Less
+pub is_less : (o : Ordering) → T (is_lt o) → o ≡ Less
 is_less Less h = refl
 is_less Equal h = absurd h
 is_less Greater h = absurd h

@@ -1,5 +1,5 @@
 -- An idle actor that did nothing since it collected is swept, after every event.
-use Rattle.std.proofs.Common.{◌≡◌, ◌⊎◌, ℕ, ◌<◌, ◌==◌, ◌||◌, not, cond, Bool, true, false, is_some, Option, Some, None, List, refl, sym, ap, subst, ◌∙◌, arith, inl, inr, ⊎_elim, eq-eqb, ne_eqb}
+use Rattle.std.proofs.Common.{◌≡◌, ◌≢◌, ◌⊎◌, ℕ, ◌<◌, ◌==◌, ◌||◌, not, cond, Bool, true, false, is_some, Option, Some, None, List, refl, sym, ap, subst, ◌∙◌, arith, inl, inr, ⊎_elim, eq-eqb, ne_eqb}
 use Rattle.std.proofs.lemmas.Bool.{cases_eq}
 use Rattle.std.specs.FinMap as m
 use Rattle.std.specs.Ordering.{nat_cmp}
@@ -41,6 +41,11 @@ dirty a c mail is idle d = cc
 
 -- ---- a collection sweeps
 
+-- what is left of an entry is marked
+pub kept_entry : (b : Bool) (o : Option (ℕ × Option Row)) (e : ℕ × Option Row) → cond b o None ≡ Some e → b ≡ true
+kept_entry true o e h = refl
+kept_entry false o e h = cc
+
 module _ (marked : Thing → Bool) (me : ℕ) (c : Cell)
     (sound : (x : Thing) → marked x ≡ true → IsInReach me c x)
     (whole : (x : Thing) → IsInReach me c x → marked x ≡ true) where
@@ -67,10 +72,6 @@ module _ (marked : Thing → Bool) (me : ℕ) (c : Cell)
       (λ x y r p e n. (along_row (row_at me c.holdings) p.0 e n, along_row (row_at me after.holdings) p.1 (row_marked x (whole x p.0) ∙ e) n))
       (λ n p. (owned p.0, owned p.1)) h).1
 
-  kept_entry : (b : Bool) (o : Option (ℕ × Option Row)) (e : ℕ × Option Row) → cond b o None ≡ Some e → b ≡ true
-  kept_entry true o e h = refl
-  kept_entry false o e h = cc
-
   kept_row : (b : Bool) (o : Option (Row × ℕ)) → is_some (cond (b || not (row_count o == 0)) o None) ≡ true → (b ≡ true) ⊎ (0 < row_count o)
   kept_row true o h = inl refl
   kept_row false None h = cc
@@ -91,11 +92,11 @@ module _ (marked : Thing → Bool) (me : ℕ) (c : Cell)
 
 -- ---- an actor that was just made has nothing to sweep
 
-none_there : (o : Option (Row × ℕ)) → o ≡ None → is_some o ≡ true → ⊥
+pub none_there : (o : Option (Row × ℕ)) → o ≡ None → is_some o ≢ true
 none_there None e h = cc
 none_there (Some r) e h = cc
 
-no_entry : (o : Option (ℕ × Option Row)) (e : ℕ × Option Row) → o ≡ None → o ≡ Some e → ⊥
+pub no_entry : (o : Option (ℕ × Option Row)) (e : ℕ × Option Row) → o ≡ None → o ≢ Some e
 no_entry None e n is = cc
 no_entry (Some r) e n is = cc
 

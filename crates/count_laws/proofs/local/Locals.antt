@@ -1,33 +1,26 @@
 -- A fact that speaks of one actor alone, and is kept as `Local` says, holds of every actor after every event.
-use Rattle.std.proofs.Common.{◌≡◌, ℕ, ◌<◌, nat_lt, Bool, true, false, Option, Some, None, List, [], ◌∷◌, length, set, refl, ap, sym, ◌∙◌, subst}
-use Rattle.std.specs.Prelude.{if◌then◌else◌}
-use Rattle.orca_names.specs.Names.{owner_of, is_thing}
+use Rattle.std.proofs.Common.{◌≡◌, ◌≢◌, ℕ, ◌<◌, true, false, Some, None, List, [], ◌∷◌, length, set, refl, ap, sym, ◌∙◌, subst}
+use Rattle.orca_names.specs.Names.{owner_of}
 use Rattle.orca_names.specs.declared.names.Thing.{Thing}
 use Rattle.orca_names.specs.declared.names.Thing.TheVariants.{Actor}
-use Rattle.orca_names.specs.declared.names.Value.{Value}
 use Rattle.behaviour_code.specs.declared.code.Program.{Program}
-use Rattle.turn_rules.specs.declared.act.Act.{Act}
-use Rattle.turn_rules.specs.declared.act.Act.TheVariants.{Post, New, Print, End}
 use Rattle.turn_rules.specs.declared.act.Frame.{Frame}
-use Rattle.turn_rules.specs.Segment.{Stop}
 use Rattle.event_rule.specs.declared.event.Event.{Event}
-use Rattle.event_rule.specs.declared.event.Event.TheVariants.{Take, Go, Collect, Leave, Block, Hear, Scan, Reap}
 use Rattle.letter_kinds.specs.declared.letter.Letter.{Letter}
 use Rattle.letter_kinds.specs.declared.letter.Letter.TheVariants.{App, Inc, Dec, Confirm}
-use Rattle.letter_kinds.specs.declared.note.Note.{Note}
-use Rattle.letter_kinds.specs.Counting.{Loaded, by_owner, gain, given_back, lacking_of, mint_all, send, sweep, to_mint, Amount}
-use Rattle.letter_kinds.specs.Detector.{Token, all_acked, closed_set, token_numbered}
+use Rattle.letter_kinds.specs.Counting.{by_owner, gain, given_back, mint_all, send, sweep, to_mint, Amount}
+use Rattle.letter_kinds.specs.Detector.{closed_set}
 use Rattle.letter_kinds.specs.Sums.{amount_of}
 use Rattle.machine_rules.specs.Actors.{Actors, Seat, seat, seat_at, push_letter, Every}
 use Rattle.machine_rules.specs.Cell.{Cell, fresh_cell}
 use Rattle.machine_rules.specs.Collect.{is_marked, without_unused}
 use Rattle.machine_rules.specs.Detect.{ask_all}
-use Rattle.machine_rules.specs.Go.{act_in, load_from, make, needed, needing, post_or_mint, rows_from, to_need, turn_of_cell, cell_after_turn, with_turn_kept, mint}
-use Rattle.event_rule.specs.Runs.{NotEnabled, IsFull, Goes}
+use Rattle.machine_rules.specs.Go.{load_from, make, rows_from, to_need, turn_of_cell, cell_after_turn, mint}
+use Rattle.event_rule.specs.Runs.{Goes}
 use Rattle.machine_rules.specs.Next.{next, next_by}
 use Rattle.orca_names.specs.declared.trace.Trace.{Trace}
 use Rattle.machine_rules.specs.Options.{Options}
-use Rattle.plain_rules.specs.Machine.{stopped_at, with_name}
+use Rattle.plain_rules.specs.Machine.{with_name}
 use Rattle.machine_rules.specs.State.{State, first_state}
 use Rattle.machine_rules.specs.Take.{cell_after}
 use Rattle.count_laws.proofs.events.Every.{every_set, every_push, every_decs, every_more}
@@ -71,7 +64,7 @@ module _ (trace : Trace) (Q : ℕ → Cell → List Letter → Type 0) (local : 
         every_more Q (set s.actors a (seat maker mail)) (fresh_cell s.options.weight s.program kind) [] (local.fresh s.options.weight s.program _ kind)
         (every_here s.actors a _ maker mail going.present (local.make s.options.weight a n after mail (later_frame trace s a c f) g (present_below s.actors a _ going.present) refl (here h)) h)
 
-    on_mint : (owner : ℕ) (things : List Amount) → ((x : Thing) → 0 < amount_of x things → ((owner_of x ≡ a) → ⊥)) → Every Q s.actors → Every Q (mint a c mail owner things s.actors)
+    on_mint : (owner : ℕ) (things : List Amount) → ((x : Thing) → 0 < amount_of x things → (owner_of x ≢ a)) → Every Q s.actors → Every Q (mint a c mail owner things s.actors)
     on_mint owner things others h = every_letter _ owner (Inc things)
         (every_here s.actors a _ (record c { holdings = mint_all things c.holdings }) mail going.present
         (local.mint a c mail f things going.framed others (h a c mail going.present)) h)
@@ -113,5 +106,5 @@ module _ (trace : Trace) (Q : ℕ → Cell → List Letter → Type 0) (local : 
   pub every_first : (program : Program) (options : Options) → Every Q (first_state program options).actors
   every_first program options = every_more Q [] _ _ (local.start program) (λ a c mail at. absurd (nowhere a c mail at))
     where
-      nowhere : (a : ℕ) (c : Cell) (mail : List Letter) → seat_at [] a ≡ seat c mail → ⊥
+      nowhere : (a : ℕ) (c : Cell) (mail : List Letter) → seat_at [] a ≢ seat c mail
       nowhere a c mail at = cc

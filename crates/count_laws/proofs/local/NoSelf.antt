@@ -1,5 +1,5 @@
 -- No actor ever holds a count on a thing of its own.
-use Rattle.std.proofs.Common.{◌≡◌, ◌≢◌, ℕ, zero, suc, ◌+◌, ◌<◌, cond, Bool, true, false, List, refl, ap, ◌∙◌, arith}
+use Rattle.std.proofs.Common.{◌≡◌, ◌≢◌, ℕ, zero, suc, ◌+◌, ◌<◌, List, refl, ap, ◌∙◌, arith}
 use Rattle.std.specs.FinMap as m
 use Rattle.orca_names.specs.Names.{owner_of, thing_cmp}
 use Rattle.orca_names.specs.declared.names.Thing.{Thing}
@@ -23,8 +23,10 @@ use Rattle.orca_names.specs.declared.trace.Trace.{Trace}
 use Rattle.orca_names.specs.declared.trace.Trace.TheVariants.{Deep}
 use Rattle.machine_rules.specs.Options.{Options}
 use Rattle.machine_rules.specs.State.{State, first_state}
+use Rattle.count_laws.proofs.balance.Sends.{cond_zero}
 
-held-with_made : (made : List Row) (h : Holdings) (x : Thing) → held_in (with_made made h) x ≡ held_in h x
+-- a turn holds what it held before
+pub held-with_made : (made : List Row) (h : Holdings) (x : Thing) → held_in (with_made made h) x ≡ held_in h x
 unfolding held_in
 held-with_made made h x = refl
 
@@ -32,11 +34,7 @@ held-nothing : (count : ℕ) (x : Thing) → held_in (nothing_held count) x ≡ 
 unfolding held_in
 held-nothing count x = ap entry_count (m.get-empty thing_cmp x)
 
-swept_none : (b : Bool) (n : ℕ) → n ≡ 0 → cond b n 0 ≡ 0
-swept_none true n e = e
-swept_none false n e = refl
-
-none_minted : (n k : ℕ) → n ≡ 0 → (0 < k → ⊥) → n + k ≡ 0
+none_minted : (n k : ℕ) → n ≡ 0 → ¬ (0 < k) → n + k ≡ 0
 none_minted n zero e f = omega arith
 none_minted n (suc k) e f = absurd (f (omega arith))
 
@@ -46,7 +44,7 @@ no_self trace = record {
   fresh = λ weight program a kind x o. held-nothing weight x;
   letter = λ l a c mail q. q;
   take = λ program a c l mail idle q x o. held-taken_own program a x c mail l o ∙ q x o;
-  collect = λ a c mail idle d q x o. held-sweep _ a _ x ∙ swept_none _ _ (ap (λ h. held_in h x) (same_holdings trace a c) ∙ q x o);
+  collect = λ a c mail idle d q x o. held-sweep _ a _ x ∙ cond_zero _ _ (ap (λ h. held_in h x) (same_holdings trace a c) ∙ q x o);
   block = λ a c mail may q. q;
   turn = λ program a c mail f is q x o. held-with_made (turn_of_cell trace program a c f).turn.made c.holdings x ∙ q x o;
   end = λ program a c mail f is q x o. held-with_made (turn_of_cell trace program a c f).turn.made c.holdings x ∙ q x o;

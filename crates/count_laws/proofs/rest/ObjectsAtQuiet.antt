@@ -1,6 +1,6 @@
 -- Where every actor is at rest, each object that is left is reached from the fields of an actor that is
 -- present; and if each present actor lives in the plain machine, just what lives there is left.
-use Rattle.std.proofs.Common.{◌≡◌, ◌↔◌, ℕ, zero, suc, ◌<◌, Option, Some, None, List, [], ◌∷◌, get_or, refl, sym, ◌∙◌, arith, subst, inl, ⊎_elim}
+use Rattle.std.proofs.Common.{◌≡◌, ◌≢◌, ◌↔◌, ℕ, zero, suc, ◌<◌, Option, Some, None, List, [], ◌∷◌, get_or, refl, sym, ◌∙◌, arith, subst, inl, ⊎_elim}
 use Rattle.std.specs.FinMap as m
 use Rattle.std.specs.Prelude.{sum_by}
 use Rattle.std.proofs.lemmas.List.Sums.{sum_by-cons}
@@ -26,7 +26,7 @@ use Rattle.machine_rules.specs.Balance.{IsBalanced, decs_at, incs_at, held_at, h
 use Rattle.machine_rules.specs.Cell.{Cell}
 use Rattle.count_laws.specs.Clean.{CleanAreSwept, IsInReach}
 use Rattle.count_laws.specs.Facts.{KeepsCounts}
-use Rattle.count_laws.specs.Known.{Names, Reaches, in_fields, row_at, IsSoundAt}
+use Rattle.count_laws.specs.Known.{Names, ReachesThrough, in_fields, row_at, IsSoundAt}
 use Rattle.machine_rules.specs.Left.{IsLeft}
 use Rattle.letter_kinds.proofs.Amounts.{zero_or}
 
@@ -42,11 +42,11 @@ sum-some f (x ∷ xs) d h = ⊎_elim
 -- ---- through the rows that the actor has, and through the map of all rows, it reaches the same
 
 module _ (all : Thing → Option Row) (a : ℕ) (c : Cell) (mail : List Letter) (sound : IsSoundAt all a c mail) where
-  same_row : (x : Thing) → Reaches all (Names c.fields.values) x → row_at a c.holdings x ≡ all x
+  same_row : (x : Thing) → ReachesThrough all (Names c.fields.values) x → row_at a c.holdings x ≡ all x
   same_row x h = sound.rows x (sound.closed x (reach_more all (λ y n. root (in_fields n)) h))
 
-  pub over_all : (x : Thing) → IsInReach a c x → Reaches all (Names c.fields.values) x
-  over_all x h = reach_into (row_at a c.holdings) (Reaches all (Names c.fields.values))
+  pub over_all : (x : Thing) → IsInReach a c x → ReachesThrough all (Names c.fields.values) x
+  over_all x h = reach_into (row_at a c.holdings) (ReachesThrough all (Names c.fields.values))
       (λ y n. root n)
       (λ y z r p e n. along_row all p (sym (same_row y p) ∙ e) n)
       (λ n p. owned p) h
@@ -115,7 +115,7 @@ pub record IsHeld (all : Thing → Option Row) (s : Actors) (x : Thing) : Type 0
   pub cell : Cell
   pub mail : List Letter
   pub at : seat_at s by ≡ seat cell mail
-  pub reached : Reaches all (Names cell.fields.values) x
+  pub reached : ReachesThrough all (Names cell.fields.values) x
 
 -- each actor that is present lives in the plain machine
 abbrev pub ActorsLive : (Thing → Option Row) → List Person → Actors → Type 0
@@ -128,7 +128,7 @@ module _ (all : Thing → Option Row) (people : List Person) (s : Actors) (inv :
       record { by = h.by; cell = h.cell; mail = h.mail; at = h.at; reached = over_all all h.by h.cell h.mail (inv.sound h.by h.cell h.mail h.at) (Obj n) h.reached }
 
   -- where an actor lives, so does what its fields reach
-  pub by_rows : {x : Thing} (a : ℕ) (c : Cell) (mail : List Letter) → seat_at s a ≡ seat c mail → Lives all people (Actor a) → Reaches all (Names c.fields.values) x → Lives all people x
+  pub by_rows : {x : Thing} (a : ℕ) (c : Cell) (mail : List Letter) → seat_at s a ≡ seat c mail → Lives all people (Actor a) → ReachesThrough all (Names c.fields.values) x → Lives all people x
   by_rows a c mail at lives h = reach_into all (Lives all people)
       (λ x n. holds lives (subst (λ p. Holds p x) (sym (inv.agrees.present a c mail at)) (inl n)))
       (λ x y r p e n. row_on x y r p e n)
@@ -137,7 +137,7 @@ module _ (all : Thing → Option Row) (people : List Person) (s : Actors) (inv :
       row_on : (x y : Thing) (r : Row) → Lives all people x → all x ≡ Some r → Names r y → Lives all people y
       row_on (Actor d) y r p e n = absurd (none_some r (sym (inv.bare d) ∙ e))
         where
-          none_some : (r : Row) → None ≡ Some r → ⊥
+          none_some : (r : Row) → None ≢ Some r
           none_some r e = cc
       row_on (Obj o) y r p e n = row p e n
 

@@ -1,5 +1,5 @@
 -- With root-only tracing, an idle actor that did nothing since it collected has just what is marked, after every event.
-use Rattle.std.proofs.Common.{◌≡◌, ℕ, cond, Bool, true, false, is_some, Option, Some, None, List, refl, sym, ◌∙◌, arith, ⊎_elim}
+use Rattle.std.proofs.Common.{◌≡◌, ℕ, true, false, Some, List, refl, sym, ◌∙◌, arith, ⊎_elim}
 use Rattle.std.specs.FinMap as m
 use Rattle.std.specs.Ordering.{nat_cmp}
 use Rattle.orca_names.specs.Names.{thing_cmp}
@@ -30,6 +30,7 @@ use Rattle.orca_names.specs.declared.trace.Trace.TheVariants as options
 use Rattle.machine_rules.specs.State.{State, first_state}
 use Rattle.machine_rules.specs.Take.{cell_after}
 use Rattle.count_laws.proofs.roots.Starts.{starts, starts_counted}
+use Rattle.count_laws.proofs.local.Cleaning.{kept_entry, no_entry, none_there}
 
 -- ---- a collection
 
@@ -51,10 +52,6 @@ module _ (a : ℕ) (c : Cell) where
       row_on (Actor i) r h e = cc
       row_on (Obj n) r h e = own_row-marked (is_marked_by_roots a c) a c.holdings n r (marks_whole a c (Obj n) h) e
 
-  kept_entry : (b : Bool) (o : Option (ℕ × Option Row)) (e : ℕ × Option Row) → cond b o None ≡ Some e → b ≡ true
-  kept_entry true o e h = refl
-  kept_entry false o e h = cc
-
   swept_by_roots : IsSweptByRootsAt a d
   swept_by_roots = record {
     foreign = λ x e is. still_marked x (marks_sound a c x (kept_entry (is_marked_by_roots a c x) (m.get c.holdings.foreign x) e (sym (get_entry-sweep (is_marked_by_roots a c) a c.holdings x) ∙ is)));
@@ -69,21 +66,13 @@ module _ (a : ℕ) (c : Cell) where
 
 -- ---- all events
 
-no_row : (o : Option (Row × ℕ)) → o ≡ None → is_some o ≡ true → ⊥
-no_row None e h = cc
-no_row (Some r) e h = cc
-
-no_entry : (o : Option (ℕ × Option Row)) (e : ℕ × Option Row) → o ≡ None → o ≡ Some e → ⊥
-no_entry None e n is = cc
-no_entry (Some r) e n is = cc
-
 bare_swept : (program : Program) (me kind count : ℕ) → IsSweptByRootsAt me (clean_cell program kind count)
 unfolding has_own
 bare_swept program me kind count =
     let h = nothing_held count in
     record {
       foreign = λ x e is. absurd (no_entry (m.get h.foreign x) e (m.get-empty thing_cmp x) is);
-      own = λ n o has. absurd (no_row (m.get h.rows n.serial) (m.get-empty nat_cmp n.serial) has);
+      own = λ n o has. absurd (none_there (m.get h.rows n.serial) (m.get-empty nat_cmp n.serial) has);
     }
 
 told_swept : (me : ℕ) (c : Cell) → IsSweptByRootsAt me c → IsSweptByRootsAt me (record c { reported = true })

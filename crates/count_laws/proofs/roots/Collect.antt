@@ -39,7 +39,7 @@ use Rattle.count_laws.specs.Agreement.{Person}
 use Rattle.machine_rules.specs.Cell.{Cell, listed_objects, own_row_of, row_by_roots}
 use Rattle.machine_rules.specs.Collect.{after_collect, is_in_use, is_marked_by_roots, start_of_marks, without_unused}
 use Rattle.count_laws.specs.Facts.{KeepsCounts}
-use Rattle.count_laws.specs.Known.{InFrame, IsKnown, Names, Reaches}
+use Rattle.count_laws.specs.Known.{InFrame, IsKnown, Names, ReachesThrough}
 use Rattle.count_laws.specs.KnownByRoots.{IsBacked, IsKnownWithOwner, IsNamedIn, IsRootsAt, WalkRoots, by_field, by_frame, by_row, held, mine, named}
 use Rattle.orca_names.specs.declared.trace.Trace.TheVariants as options
 use Rattle.count_laws.proofs.roots.Starts.{starts, starts_counted, starts_field}
@@ -48,17 +48,17 @@ use Rattle.count_laws.specs.Clean.{StartsMarks, of_count, of_field}
 -- ---- marks, as a test
 
 module _ (rows : ObjName → Option Row) (all : List ObjName) (roots : List Value) where
-  any_reached : (x : Thing) → list_any (is_thing x) (marks_of rows all roots) ≡ true → Reaches (thing_row rows) (Names roots) x
+  any_reached : (x : Thing) → list_any (is_thing x) (marks_of rows all roots) ≡ true → ReachesThrough (thing_row rows) (Names roots) x
   any_reached x e = along_rows rows (λ y n. n) (marks-reached rows all roots x (Contains-from_any is_same x (marks_of rows all roots) e))
 
-  reached_any : Covers all rows → (x : Thing) → Reaches (thing_row rows) (Names roots) x → list_any (is_thing x) (marks_of rows all roots) ≡ true
+  reached_any : Covers all rows → (x : Thing) → ReachesThrough (thing_row rows) (Names roots) x → list_any (is_thing x) (marks_of rows all roots) ≡ true
   reached_any covers x r = list_any-from_Contains (eq_by_cmp_equiv thing_total) x (marks_of rows all roots) (reached-marks rows all roots covers x (along_edges rows (λ y n. n) r))
 
 -- ---- the marks of an actor
 
 module _ (a : ℕ) (c : Cell) where
   abbrev pub IsMarked : Thing → Type 0
-  IsMarked x = Reaches (thing_row (own_row_of a c.holdings)) (Names (start_of_marks a c)) x
+  IsMarked x = ReachesThrough (thing_row (own_row_of a c.holdings)) (Names (start_of_marks a c)) x
 
   own_cover : Covers (listed_objects a c) (own_row_of a c.holdings)
   own_cover n row e = listed-cover a c n row (by_own a c n (own_row_has a c.holdings n row e).0 ∙ e)
@@ -71,11 +71,11 @@ module _ (a : ℕ) (c : Cell) where
   unfolding is_marked_by_roots
   marks_whole x h = reached_any (own_row_of a c.holdings) (listed_objects a c) (start_of_marks a c) own_cover x h
 
-  pub use_whole : (x : Thing) → Reaches (thing_row (row_by_roots a c)) (Names (start_of_marks a c)) x → is_in_use a c x ≡ true
+  pub use_whole : (x : Thing) → ReachesThrough (thing_row (row_by_roots a c)) (Names (start_of_marks a c)) x → is_in_use a c x ≡ true
   unfolding is_in_use
   use_whole x h = reached_any (row_by_roots a c) (listed_objects a c) (start_of_marks a c) (listed-cover a c) x h
 
-  pub use_sound : (x : Thing) → is_in_use a c x ≡ true → Reaches (thing_row (row_by_roots a c)) (Names (start_of_marks a c)) x
+  pub use_sound : (x : Thing) → is_in_use a c x ≡ true → ReachesThrough (thing_row (row_by_roots a c)) (Names (start_of_marks a c)) x
   unfolding is_in_use
   use_sound x e = any_reached (row_by_roots a c) (listed_objects a c) (start_of_marks a c) x e
 
@@ -87,7 +87,7 @@ module _ (marked : Thing → Bool) (me : ℕ) (h : Holdings) where
   stayed false None row e = cc
   stayed false (Some r) row e = ⊎_elim (λ z. absurd (let w = rw (eq-eqb r.1 0 z) at e in none_some row w)) (λ n. (rw (ne_eqb r.1 0 n) at e, inr (omega arith))) (cases_eq r.1 0)
     where
-      none_some : (row : Row) → None ≡ Some row → ⊥
+      none_some : (row : Row) → None ≢ Some row
       none_some row e = cc
 
   pub own_row-stayed : (n : ObjName) (row : Row) → own_row_of me (sweep marked me h) n ≡ Some row → (own_row_of me h n ≡ Some row) × ((marked (Obj n) ≡ true) ⊎ (0 < own_in h (Obj n)))
@@ -99,7 +99,7 @@ module _ (marked : Thing → Bool) (me : ℕ) (h : Holdings) where
       (λ o. absurd (none_some row (rw (ne_eqb n.owner me o) at e)))
       (cases_eq n.owner me)
     where
-      none_some : (row : Row) → None ≡ Some row → ⊥
+      none_some : (row : Row) → None ≢ Some row
       none_some row e = cc
 
   pub own_row-marked : (n : ObjName) (row : Row) → marked (Obj n) ≡ true → own_row_of me h n ≡ Some row → own_row_of me (sweep marked me h) n ≡ Some row
@@ -111,7 +111,7 @@ module _ (marked : Thing → Bool) (me : ℕ) (h : Holdings) where
       (λ o. absurd (let z = own_is_none me h n o in none_some row (sym z ∙ e)))
       (cases_eq n.owner me)
     where
-      none_some : (row : Row) → None ≡ Some row → ⊥
+      none_some : (row : Row) → None ≢ Some row
       none_some row e = cc
 
 -- ---- a collection
@@ -130,7 +130,7 @@ module _ (all : Thing → Option Row) (ps : List Person) (s : Actors) (inv : Kee
   here : IsRootsAt all a c ls
   here = inv.sound a c ls at
 
-  none_some : (row : Row) → None ≡ Some row → ⊥
+  none_some : (row : Row) → None ≢ Some row
   none_some row e = cc
 
   -- what an own row that stays names is marked
@@ -150,7 +150,7 @@ module _ (all : Thing → Option Row) (ps : List Person) (s : Actors) (inv : Kee
   name_marked x (by_field n) = (by_field n, root (starts_field a c x n))
   name_marked x (by_frame n) = absurd (no_frame (subst (λ o. InFrame o x) idle n))
     where
-      no_frame : InFrame None x → ⊥
+      no_frame : ¬ InFrame None x
       no_frame h = elim h [ ]
   name_marked x (by_row n row e nm) =
       let z = row_marked n row e in (by_row n row z.0 nm, along_row (thing_row (own_row_of a c.holdings)) z.1 z.0 nm)
@@ -166,7 +166,7 @@ module _ (all : Thing → Option Row) (ps : List Person) (s : Actors) (inv : Kee
   -- ---- rows that letters brought stay where they are in use
 
   abbrev pub IsUsed : Thing → Type 0
-  IsUsed x = Reaches (thing_row (row_by_roots a c)) (Names (start_of_marks a c)) x
+  IsUsed x = ReachesThrough (thing_row (row_by_roots a c)) (Names (start_of_marks a c)) x
 
   pub marked_used : {x : Thing} → IsMarked a c x → IsUsed x
   marked_used h = reach_into (thing_row (own_row_of a c.holdings)) IsUsed (λ x n. root n) (λ x y r p e n. along_row (thing_row (row_by_roots a c)) p (up_row x r e) n) (λ n p. owned p) h
@@ -184,8 +184,8 @@ module _ (all : Thing → Option Row) (ps : List Person) (s : Actors) (inv : Kee
       let own = has_own_row a d.holdings n o has in
       (mine o (has-sweep marked a c.holdings (Obj n) has), inl (marked_used (row_marked n own.0 own.1).1))
 
-  walk_used : (x : Thing) → Reaches all (WalkRoots a d) x → Reaches all (WalkRoots a c) x × (IsUsed x ⊎ (x ≡ Actor a))
-  walk_used x h = reach_into all (λ x. Reaches all (WalkRoots a c) x × (IsUsed x ⊎ (x ≡ Actor a)))
+  walk_used : (x : Thing) → ReachesThrough all (WalkRoots a d) x → ReachesThrough all (WalkRoots a c) x × (IsUsed x ⊎ (x ≡ Actor a))
+  walk_used x h = reach_into all (λ x. ReachesThrough all (WalkRoots a c) x × (IsUsed x ⊎ (x ≡ Actor a)))
       (λ x r. let z = root_used x r in (root z.0, z.1))
       (λ x y r p e n. (
         along_row all p.0 e n,
@@ -196,7 +196,7 @@ module _ (all : Thing → Option Row) (ps : List Person) (s : Actors) (inv : Kee
       ))
       (λ n p. (owned p.0, ⊎_elim (λ used. inl (owned used)) (λ self. absurd (obj_actor n self)) p.1)) h
     where
-      obj_actor : (n : ObjName) → Obj n ≡ Actor a → ⊥
+      obj_actor : (n : ObjName) → Obj n ≢ Actor a
       obj_actor n e = cc
 
   known_kept : (n : ObjName) (row : Row) → m.get d.known (Obj n) ≡ Some row → m.get c.known (Obj n) ≡ Some row
@@ -210,26 +210,26 @@ module _ (all : Thing → Option Row) (ps : List Person) (s : Actors) (inv : Kee
   known_stays n used = m.get-retain_keys c.known (is_in_use a c) (Obj n) (λ y t. ap (is_in_use a c) (sym (thing_exact (Obj n) y t)))
       ∙ ap (λ b. cond b (m.get c.known (Obj n)) None) (use_whole a c (Obj n) used)
 
-  brought_after : (n : ObjName) (row : Row) → n.owner ≢ a → Reaches all (WalkRoots a d) (Obj n) → all (Obj n) ≡ Some row → m.get d.known (Obj n) ≡ Some row
+  brought_after : (n : ObjName) (row : Row) → n.owner ≢ a → ReachesThrough all (WalkRoots a d) (Obj n) → all (Obj n) ≡ Some row → m.get d.known (Obj n) ≡ Some row
   brought_after n row out h is =
       let z = walk_used (Obj n) h in
       known_stays n (⊎_elim (λ used. used) (λ self. absurd (obj_actor n self)) z.1) ∙ here.brought n row out z.0 is
     where
-      obj_actor : (n : ObjName) → Obj n ≡ Actor a → ⊥
+      obj_actor : (n : ObjName) → Obj n ≢ Actor a
       obj_actor n e = cc
 
   -- what is in use is led to by what is marked, which is known still
-  used_led : {x : Thing} → IsUsed x → Reaches all (IsKnown a d.holdings) x
-  used_led h = reach_into (thing_row (row_by_roots a c)) (Reaches all (IsKnown a d.holdings)) start (λ x y r p e n. along_row all p (rows_sound all a c ls here x r e) n) (λ n p. owned p) h
+  used_led : {x : Thing} → IsUsed x → ReachesThrough all (IsKnown a d.holdings) x
+  used_led h = reach_into (thing_row (row_by_roots a c)) (ReachesThrough all (IsKnown a d.holdings)) start (λ x y r p e n. along_row all p (rows_sound all a c ls here x r e) n) (λ n p. owned p) h
     where
       known_start : (x : Thing) → StartsMarks a c x → IsKnown a c.holdings x
       known_start x (of_field n) = (here.named x (by_field n)).0
       known_start y (of_count {n = n} o some) = inl (o, counted_has c.holdings (Obj n) some)
 
-      start : (x : Thing) → Names (start_of_marks a c) x → Reaches all (IsKnown a d.holdings) x
+      start : (x : Thing) → Names (start_of_marks a c) x → ReachesThrough all (IsKnown a d.holdings) x
       start x n = root (known-marked marked a c.holdings x (marks_whole a c x (root n)) (known_start x (starts a c x n)))
 
-  led_after : (n : ObjName) (row : Row) → m.get d.known (Obj n) ≡ Some row → Reaches all (IsKnown a d.holdings) (Obj n)
+  led_after : (n : ObjName) (row : Row) → m.get d.known (Obj n) ≡ Some row → ReachesThrough all (IsKnown a d.holdings) (Obj n)
   led_after n row got = used_led (use_sound a c (Obj n) (by_use (is_in_use a c (Obj n)) (sym (m.get-retain_keys c.known (is_in_use a c) (Obj n) (λ y t. ap (is_in_use a c) (sym (thing_exact (Obj n) y t)))) ∙ got)))
     where
       by_use : (b : Bool) → cond b (m.get c.known (Obj n)) None ≡ Some row → b ≡ true
@@ -242,12 +242,12 @@ module _ (all : Thing → Option Row) (ps : List Person) (s : Actors) (inv : Kee
   IsKept x = IsMarked a c x ⊎ (x ≡ Actor a)
 
   -- own rows lead from what is kept to what is kept
-  leads_kept : {roots : Thing → Type 0} → ((x : Thing) → roots x → IsKept x) → {x : Thing} → Reaches (thing_row (own_row_of a c.holdings)) roots x → IsKept x
+  leads_kept : {roots : Thing → Type 0} → ((x : Thing) → roots x → IsKept x) → {x : Thing} → ReachesThrough (thing_row (own_row_of a c.holdings)) roots x → IsKept x
   leads_kept from h = reach_into (thing_row (own_row_of a c.holdings)) IsKept from
       (λ x y r p e n. inl (⊎_elim (λ k. along_row (thing_row (own_row_of a c.holdings)) k e n) (λ self. absurd (none_some r (ap (thing_row (own_row_of a c.holdings)) (sym self) ∙ e))) p))
       (λ n p. ⊎_elim (λ k. inl (owned k)) (λ self. absurd (obj_actor n self)) p) h
     where
-      obj_actor : (n : ObjName) → Obj n ≡ Actor a → ⊥
+      obj_actor : (n : ObjName) → Obj n ≢ Actor a
       obj_actor n e = cc
 
   counted_kept : (x : Thing) → owner_of x ≡ a → 0 < own_in c.holdings x → IsKept x
@@ -274,13 +274,13 @@ module _ (all : Thing → Option Row) (ps : List Person) (s : Actors) (inv : Kee
     from = b.from;
     own = b.own;
     counted = let w = b.counted in let z = own-sweep marked a c.holdings b.from in omega arith;
-    leads = (reach_into (thing_row (own_row_of a c.holdings)) (λ y. IsKept y × Reaches (thing_row (own_row_of a d.holdings)) (λ y. y ≡ b.from) y)
+    leads = (reach_into (thing_row (own_row_of a c.holdings)) (λ y. IsKept y × ReachesThrough (thing_row (own_row_of a d.holdings)) (λ y. y ≡ b.from) y)
         (λ y e. (subst IsKept (sym e) from_kept, root e))
         (λ y z r p e n. (leads_kept {roots = λ q. q ≡ y} (λ q e. subst IsKept (sym e) p.0) (along_row (thing_row (own_row_of a c.holdings)) (root refl) e n), along_row (thing_row (own_row_of a d.holdings)) p.1 (row_on y r p.0 e) n))
         (λ n p. (⊎_elim (λ k. inl (owned k)) (λ self. absurd (obj_actor n self)) p.0, owned p.1)) b.leads).1;
   }
     where
-      obj_actor : (n : ObjName) → Obj n ≡ Actor a → ⊥
+      obj_actor : (n : ObjName) → Obj n ≢ Actor a
       obj_actor n e = cc
 
       from_kept : IsKept b.from

@@ -13,15 +13,11 @@ use Rattle.letter_kinds.proofs.Counts.{counted_has}
 use Rattle.letter_kinds.specs.Counting.{by_owner, given_back, sweep}
 use Rattle.letter_kinds.specs.Holdings.{Row, held_in}
 use Rattle.letter_kinds.specs.declared.letter.Letter.{Letter}
-use Rattle.machine_rules.proofs.Enabling.{enabled_exactly}
 use Rattle.machine_rules.proofs.Present.{present_below}
-use Rattle.event_rule.proofs.Steps.{goes_to}
 use Rattle.machine_rules.specs.Actors.{Actors, cell_at, cell_of, seat, seat_at}
 use Rattle.machine_rules.specs.Cell.{Cell, own_row_of, row_by_roots}
-use Rattle.machine_rules.specs.Collect.{after_collect, is_in_use, is_marked, is_marked_by_roots, start_of_marks, without_unused}
+use Rattle.machine_rules.specs.Collect.{after_collect, is_in_use, is_marked_by_roots, start_of_marks, without_unused}
 use Rattle.orca_names.specs.declared.trace.Trace.TheVariants as options
-use Rattle.event_rule.specs.Runs.{Goes}
-use Rattle.machine_rules.specs.Next.{next}
 use Rattle.machine_rules.specs.State.{State}
 use Rattle.count_laws.proofs.away.Untouched.{adds_decs}
 use Rattle.count_laws.proofs.balance.InHand.{Balanced, in_hand}
@@ -36,11 +32,10 @@ use Rattle.count_laws.specs.Agreement.{Person, people_of}
 use Rattle.count_laws.specs.Clean.{IsInOwnReach, StartsMarks, of_count, of_field}
 use Rattle.count_laws.specs.Facts.{KeepsCounts, Facts}
 use Rattle.count_laws.specs.KeptRows.{KeepsWhatMarkedReach, KnownRowsStayWhereMarkedReach, MarkedReach}
-use Rattle.count_laws.specs.Known.{IsKnown, Names, Reaches}
+use Rattle.count_laws.specs.Known.{IsKnown, Names, ReachesThrough}
 use Rattle.count_laws.specs.KnownByRoots.{IsRootsAt, WalkRoots, by_field, by_row, mine, named}
 use Rattle.plain_rules.specs.Machine.{plain_row, PlainState}
 use Rattle.count_laws.proofs.roots.Starts.{starts, starts_counted, starts_field}
-use Rattle.orca_names.specs.declared.trace.Trace.{Trace}
 use Rattle.machine_rules.specs.Rules.{IsStep}
 use Rattle.machine_rules.specs.Rules as rule
 use Rattle.machine_rules.proofs.Guards.{collector}
@@ -59,7 +54,7 @@ module _ (a : ℕ) (c : Cell) where
   marked_own : {x : Thing} → IsMarked a c x → IsInOwnReach a c x
   marked_own h = reach_more (thing_row (own_row_of a c.holdings)) (λ x n. root (starts a c x n)) h
 
-  used_marked : {x : Thing} → Reaches (thing_row (row_by_roots a c)) (Names (start_of_marks a c)) x → MarkedReach a c c x
+  used_marked : {x : Thing} → ReachesThrough (thing_row (row_by_roots a c)) (Names (start_of_marks a c)) x → MarkedReach a c c x
   used_marked h = reach_more (thing_row (row_by_roots a c)) (λ x n. root (root (starts a c x n))) h
 
 -- ---- a collection
@@ -103,17 +98,17 @@ module _ (all : Thing → Option Row) (ps : List Person) (s : Actors) (inv : Kee
   own_made (Actor i) r e = cc
   own_made (Obj n) r e = here.mine n r e
 
-  start_walked : (x : Thing) → StartsMarks a c x → Reaches all (WalkRoots a c) x
+  start_walked : (x : Thing) → StartsMarks a c x → ReachesThrough all (WalkRoots a c) x
   start_walked x (of_field n) = root (named (by_field n))
   start_walked y (of_count {n = n} o some) = root (mine o (counted_has c.holdings (Obj n) some))
 
-  own_walked : {x : Thing} → IsInOwnReach a c x → Reaches all (WalkRoots a c) x
-  own_walked h = reach_into (thing_row (own_row_of a c.holdings)) (Reaches all (WalkRoots a c)) start_walked (λ x y r p e n. along_row all p (own_made x r e) n) (λ n p. owned p) h
+  own_walked : {x : Thing} → IsInOwnReach a c x → ReachesThrough all (WalkRoots a c) x
+  own_walked h = reach_into (thing_row (own_row_of a c.holdings)) (ReachesThrough all (WalkRoots a c)) start_walked (λ x y r p e n. along_row all p (own_made x r e) n) (λ n p. owned p) h
 
   -- of what is reached: its walks reach it, it is in use, it is marked if it is the actor's own object, and it is
   -- reached through the rows that stay
   record Along (x : Thing) : Type 0 where
-    walks : Reaches all (WalkRoots a c) x
+    walks : ReachesThrough all (WalkRoots a c) x
     used : Used x
     own : owner_of x ≡ a → Kept x
     after : MarkedReach a c d x
@@ -129,11 +124,11 @@ module _ (all : Thing → Option Row) (ps : List Person) (s : Actors) (inv : Kee
   up : (n : ObjName) → Along (Obj n) → Along (Actor n.owner)
   up n p = record { walks = owned p.walks; used = owned p.used; own = λ o. inr (ap Actor o); after = owned p.after }
 
-  not_actor : (n : ObjName) → Obj n ≡ Actor a → ⊥
+  not_actor : (n : ObjName) → Obj n ≢ Actor a
   not_actor n e = cc
 
   -- an own thing that another's object names is held by that other, so the counted lead to it
-  named_there : (n : ObjName) (y : Thing) (r : Row) → n.owner ≢ a → Reaches all (WalkRoots a c) (Obj n) → all (Obj n) ≡ Some r → Names r y → owner_of y ≡ a → Kept y
+  named_there : (n : ObjName) (y : Thing) (r : Row) → n.owner ≢ a → ReachesThrough all (WalkRoots a c) (Obj n) → all (Obj n) ≡ Some r → Names r y → owner_of y ≡ a → Kept y
   named_there n y r out walks is nm o =
       let left = reached_left all s bal inv.sound inv.bare a c ls at walks in
       let q = inv.sound n.owner left.seat.cell left.seat.mail left.present in

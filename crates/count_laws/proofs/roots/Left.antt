@@ -1,5 +1,5 @@
 -- With root-only tracing: what is held, loaded or named is left, and so is all that it leads to.
-use Rattle.std.proofs.Common.{◌≡◌, ◌⊎◌, ℕ, zero, suc, ◌+◌, ◌<◌, true, Option, Some, None, List, [], ◌∷◌, drop, take, refl, sym, ◌∙◌, ap, arith, subst, inl, inr, ⊎_elim}
+use Rattle.std.proofs.Common.{◌≡◌, ◌≢◌, ◌⊎◌, ℕ, zero, suc, ◌+◌, ◌<◌, true, Option, Some, None, List, [], ◌∷◌, drop, take, refl, sym, ◌∙◌, ap, arith, subst, inl, inr, ⊎_elim}
 use Rattle.std.specs.Prelude.{sum_by}
 use Rattle.std.proofs.lemmas.Bool.{cases_eq}
 use Rattle.std.proofs.lemmas.List.Sums.{sum_by-cons}
@@ -26,7 +26,7 @@ use Rattle.machine_rules.specs.Actors.{Actors, Seat, seat, seat_at, Every}
 use Rattle.count_laws.specs.Agreement.{Agrees, IsRootPerson, Person, app_letters, person_at, person_of}
 use Rattle.machine_rules.specs.Balance.{held_sum, incs_at, load_sum, loads_at, own_at, owner_seat}
 use Rattle.machine_rules.specs.Cell.{Cell, own_row_of}
-use Rattle.count_laws.specs.Known.{IsKnown, Names, Reaches}
+use Rattle.count_laws.specs.Known.{IsKnown, Names, ReachesThrough}
 use Rattle.count_laws.specs.KnownByRoots.{AreRootLetters, IsBacked, IsKnownWithOwner, IsRootsAt, WalkRoots, by_field, by_frame, by_row, held, mine, named, stands as stands_in}
 use Rattle.machine_rules.specs.Left.{IsLeft}
 
@@ -41,7 +41,7 @@ module _ (all : Thing → Option Row) (a : ℕ) (c : Cell) (mail : List Letter) 
   row_known (Obj i) y r e n = q.named y (by_row i r e n)
 
   -- own rows lead from what is known with its owner to what is so
-  pub own_walk : {roots : Thing → Type 0} → ((x : Thing) → roots x → IsKnownWithOwner a c.holdings x) → {x : Thing} → Reaches (thing_row (own_row_of a c.holdings)) roots x → IsKnownWithOwner a c.holdings x
+  pub own_walk : {roots : Thing → Type 0} → ((x : Thing) → roots x → IsKnownWithOwner a c.holdings x) → {x : Thing} → ReachesThrough (thing_row (own_row_of a c.holdings)) roots x → IsKnownWithOwner a c.holdings x
   own_walk from h = reach_into (thing_row (own_row_of a c.holdings)) (IsKnownWithOwner a c.holdings) from (λ x y r p e n. row_known x y r e n) (λ n p. (p.1, p.1)) h
 
   -- what is backed now is there
@@ -86,7 +86,7 @@ module _ (all : Thing → Option Row) (s : Actors) (bal : Balanced s) (sound : E
       (let w = sum-at (loads_at x) s a None (present_below s a _ at) in let w' = rw at at w in let l = loads_at-seat x c ls in omega arith)
 
   -- what is left leads to what is left
-  pub row_left : (x y : Thing) (r : Row) → IsLeft s x → all x ≡ Some r → Names r y → (Actor (owner_of x) ≡ x → ⊥) → IsLeft s y
+  pub row_left : (x y : Thing) (r : Row) → IsLeft s x → all x ≡ Some r → Names r y → Actor (owner_of x) ≢ x → IsLeft s y
   row_left (Actor i) y r left e n object = absurd (object refl)
   row_left (Obj n) y r left e nm object =
       let q = sound n.owner left.seat.cell left.seat.mail left.present in
@@ -102,7 +102,7 @@ module _ (all : Thing → Option Row) (s : Actors) (bal : Balanced s) (sound : E
     along_left (Actor i) y r left e n = absurd (let z = bare i in cc)
     along_left (Obj n) y r left e nm = row_left (Obj n) y r left e nm (λ e. cc)
 
-    pub walk_left : {roots : Thing → Type 0} → ((x : Thing) → roots x → IsLeft s x) → {x : Thing} → Reaches all roots x → IsLeft s x
+    pub walk_left : {roots : Thing → Type 0} → ((x : Thing) → roots x → IsLeft s x) → {x : Thing} → ReachesThrough all roots x → IsLeft s x
     walk_left from h = reach_into all (IsLeft s) from along_left owner_left h
 
     pub root_left : (a : ℕ) (c : Cell) (ls : List Letter) → seat_at s a ≡ seat c ls → (x : Thing) → WalkRoots a c x → IsLeft s x
@@ -110,7 +110,7 @@ module _ (all : Thing → Option Row) (s : Actors) (bal : Balanced s) (sound : E
     root_left a c ls at x (held h) = held_left a c ls x at h
     root_left a c ls at x (mine o h) = known_left a c ls x at (inl (o, h))
 
-    pub reached_left : (a : ℕ) (c : Cell) (ls : List Letter) → seat_at s a ≡ seat c ls → {x : Thing} → Reaches all (WalkRoots a c) x → IsLeft s x
+    pub reached_left : (a : ℕ) (c : Cell) (ls : List Letter) → seat_at s a ≡ seat c ls → {x : Thing} → ReachesThrough all (WalkRoots a c) x → IsLeft s x
     reached_left a c ls at h = walk_left (root_left a c ls at) h
 
     -- ---- what lives in the plain machine is left

@@ -35,7 +35,7 @@ use Rattle.machine_rules.specs.Balance.{held_sum}
 use Rattle.machine_rules.specs.Cell.{Cell, own_row_of}
 use Rattle.count_laws.specs.Facts.{KeepsCounts}
 use Rattle.machine_rules.specs.Go.{lacks, mint, needed, needs, setting_of, to_need}
-use Rattle.count_laws.specs.Known.{IsKnown, Names, Reaches}
+use Rattle.count_laws.specs.Known.{IsKnown, Names, ReachesThrough}
 use Rattle.count_laws.specs.KnownByRoots.{IsBacked, IsKnownWithOwner, IsRootsAt, WalkRoots, by_row, held, mine, named}
 use Rattle.machine_rules.specs.Left.{IsLeft}
 use Rattle.orca_names.specs.declared.trace.Trace.TheVariants as options
@@ -160,7 +160,7 @@ module _ (all : Thing → Option Row) (ps : List Person) (s : Actors) (inv : Kee
   up : (n : ObjName) → Kept (Obj n) → Kept (Actor n.owner)
   up n kept = λ out. let z = kept out in (z.0, λ d ms is k. held_backed all s bal inv.sound inv.bare (Actor n.owner) n.owner d ms is refl z.0 k)
 
-  pub reached_kept : {x : Thing} → Reaches all (WalkRoots a c) x → Kept x
+  pub reached_kept : {x : Thing} → ReachesThrough all (WalkRoots a c) x → Kept x
   reached_kept h = (reach_into all (λ x. IsLeft s x × Kept x)
       (λ x r. (root_left all s bal inv.sound inv.bare a c ls at x r, from_root x r))
       (λ x y r p e n. (along_left all s bal inv.sound inv.bare x y r p.0 e n, along x y r p e n))
@@ -178,7 +178,7 @@ module _ (all : Thing → Option Row) (ps : List Person) (s : Actors) (inv : Kee
     pub foreign : owner_of x ≢ a
     foreign o = let t : needs a c.holdings x ≡ false = rw (eq-eqb (owner_of x) a o) refl in false≢true (sym t ∙ found.1)
 
-    pub reached : Reaches all (WalkRoots a c) x
+    pub reached : ReachesThrough all (WalkRoots a c) x
     reached = ⊎_elim
         (λ r. r)
         (λ p. ⊎_elim (λ self. absurd (foreign (ap owner_of self))) (λ (any : MadeAny a c.holdings.next x). absurd (foreign (ap owner_of any.1))) p)
@@ -187,14 +187,14 @@ module _ (all : Thing → Option Row) (ps : List Person) (s : Actors) (inv : Kee
     owner_is : (y : Thing) → 0 < amount_of y es → owner_of y ≡ owner_of x
     owner_is y some = ⊎_elim (λ e. ap owner_of e) (λ e. ap owner_of e) (is_pair wt a c.holdings x y some)
 
-    owner_reached : (x : Thing) → Reaches all (WalkRoots a c) x → Reaches all (WalkRoots a c) (Actor (owner_of x))
+    owner_reached : (x : Thing) → ReachesThrough all (WalkRoots a c) x → ReachesThrough all (WalkRoots a c) (Actor (owner_of x))
     owner_reached (Actor i) h = h
     owner_reached (Obj n) h = owned h
 
-    pub walk : (y : Thing) → 0 < amount_of y es → Reaches all (WalkRoots a c) y
+    pub walk : (y : Thing) → 0 < amount_of y es → ReachesThrough all (WalkRoots a c) y
     walk y some = ⊎_elim
-        (λ e. subst (λ y. Reaches all (WalkRoots a c) y) (sym e) reached)
-        (λ e. subst (λ y. Reaches all (WalkRoots a c) y) (sym e) (owner_reached x reached))
+        (λ e. subst (λ y. ReachesThrough all (WalkRoots a c) y) (sym e) reached)
+        (λ e. subst (λ y. ReachesThrough all (WalkRoots a c) y) (sym e) (owner_reached x reached))
         (is_pair wt a c.holdings x y some)
 
     owner_known : (y : Thing) → 0 < amount_of y es → IsKnown a (mint_all es c.holdings) (Actor (owner_of y))

@@ -47,7 +47,7 @@ use Rattle.machine_rules.specs.Cell.{Cell, listed_objects, own_row_of, row_by_ro
 use Rattle.machine_rules.specs.Detect.{reap_members}
 use Rattle.count_laws.specs.Facts.{KeepsCounts}
 use Rattle.machine_rules.specs.Go.{make, mint, post}
-use Rattle.count_laws.specs.Known.{InFrame, IsKnown, Names, Reaches, Roots, in_fields, in_frame}
+use Rattle.count_laws.specs.Known.{InFrame, IsKnown, Names, ReachesThrough, StartsWalks, in_fields, in_frame}
 use Rattle.count_laws.specs.KnownByRoots.{AreRootLetters, IsBacked, IsKnownWithOwner, IsNamedIn, IsRootLetter, IsRootOf, IsRootsAt, WalkRoots, by_field, by_frame, by_row, held, mine, named, stands, owns}
 use Rattle.orca_names.specs.declared.trace.Trace.TheVariants as options
 use Rattle.plain_rules.specs.Machine.{with_name}
@@ -60,7 +60,7 @@ every_pushed Q s b l o at new every = rw (push_is s b l o at) (every_set Q s b o
 
 module _ (all : Thing → Option Row) (ps : List Person) (s : Actors) (inv : KeepsCounts options.Roots all ps s)
     (a : ℕ) (c : Cell) (ls : List Letter) (at : seat_at s a ≡ seat c ls) (to b : ℕ) (args : List Value)
-    (known_args : (x : Thing) → Names args x → IsKnownWithOwner a c.holdings x) (walk : (x : Thing) → Names args x → Reaches all (WalkRoots a c) x)
+    (known_args : (x : Thing) → Names args x → IsKnownWithOwner a c.holdings x) (walk : (x : Thing) → Names args x → ReachesThrough all (WalkRoots a c) x)
     (known_to : IsKnown a c.holdings (Actor to)) (full : lacking_of a c.holdings (load_roots args) ≡ []) where
   abbrev load : List Loaded
   load = load_roots args
@@ -130,7 +130,7 @@ module _ (all : Thing → Option Row) (ps : List Person) (s : Actors) (inv : Kee
     (a : ℕ) (c : Cell) (ls : List Letter) (at : seat_at s a ≡ seat c ls)
     (b : ℕ) (es : List Amount) (theirs : (x : Thing) → 0 < amount_of x es → owner_of x ≡ b) (other : b ≢ a) (pos : AllCounted es)
     (owner_known : (x : Thing) → 0 < amount_of x es → IsKnown a (mint_all es c.holdings) (Actor (owner_of x)))
-    (walk : (x : Thing) → 0 < amount_of x es → Reaches all (WalkRoots a c) x)
+    (walk : (x : Thing) → 0 < amount_of x es → ReachesThrough all (WalkRoots a c) x)
     (o : Seat) (there : seat_at s b ≡ Some o) (backs : (x : Thing) (k : ℕ) → owner_of x ≡ b → 0 < amount_of x es → IsBacked b o.cell o.mail k x) where
   abbrev minter : Cell
   minter = record c { holdings = mint_all es c.holdings }
@@ -195,7 +195,7 @@ module _ (all : Thing → Option Row) (ps : List Person) (s : Actors) (inv : Kee
 
 module _ (wt : ℕ) (heavy : 0 < wt) (all : Thing → Option Row) (ps : List Person) (s : Actors) (inv : KeepsCounts options.Roots all ps s)
     (a : ℕ) (c : Cell) (ls : List Letter) (at : seat_at s a ≡ seat c ls) (f : Frame) (frame : c.frame ≡ Some f) (into : ℕ)
-    (fresh : Cell) (is_fresh : IsFresh wt fresh.holdings) (blank : (x : Thing) → Roots fresh x → ⊥) (unlearned : (x : Thing) → m.get fresh.known x ≡ None) where
+    (fresh : Cell) (is_fresh : IsFresh wt fresh.holdings) (blank : (x : Thing) → ¬ StartsWalks fresh x) (unlearned : (x : Thing) → m.get fresh.known x ≡ None) where
   abbrev n : ℕ
   n = length s
 
@@ -235,13 +235,13 @@ module _ (wt : ℕ) (heavy : 0 < wt) (all : Thing → Option Row) (ps : List Per
   make_new : (x : Thing) → NewActor x → IsKnownWithOwner a maker.holdings x
   make_new x e = subst (IsKnownWithOwner a maker.holdings) (sym e) (known_new, known_new)
 
-  no_object : (x : Thing) → Reaches all NewActor x → x ≡ Actor n
+  no_object : (x : Thing) → ReachesThrough all NewActor x → x ≡ Actor n
   no_object x h = reach_into all NewActor (λ x e. e) (λ x y r e f nm. absurd (let z = inv.bare n in let w = ap all e in none_some r (sym f ∙ w ∙ z))) (λ q e. absurd (obj_actor q e)) h
     where
-      none_some : (r : Row) → Some r ≡ None → ⊥
+      none_some : (r : Row) → Some r ≢ None
       none_some r e = cc
 
-      obj_actor : (q : ObjName) → Obj q ≡ Actor n → ⊥
+      obj_actor : (q : ObjName) → Obj q ≢ Actor n
       obj_actor q e = cc
 
   maker_roots : IsRootsAt all a maker ls
@@ -257,14 +257,14 @@ module _ (wt : ℕ) (heavy : 0 < wt) (all : Thing → Option Row) (ps : List Per
     backed = λ x k own h. backed_more a c maker ls k x (λ y own. let z = own_set_held (λ h. h + wt) y (Actor n) None c.holdings in omega arith) (same_rows_more a c.holdings maker.holdings make_same) (make_here.backed x k own h);
   }
     where
-      obj_actor : (q : ObjName) → Obj q ≡ Actor n → ⊥
+      obj_actor : (q : ObjName) → Obj q ≢ Actor n
       obj_actor q e = cc
 
-  no_own : (i : ℕ) (q : ObjName) (row : Row) → own_row_of i fresh.holdings q ≡ Some row → ⊥
+  no_own : (i : ℕ) (q : ObjName) (row : Row) → own_row_of i fresh.holdings q ≢ Some row
   unfolding has_own
   no_own i q row e = let z = (own_row_has i fresh.holdings q row e).1 in let w = is_fresh.1 q.serial in cc
 
-  fresh_named : (i : ℕ) (x : Thing) → IsNamedIn i fresh x → ⊥
+  fresh_named : (i : ℕ) (x : Thing) → ¬ IsNamedIn i fresh x
   fresh_named i x (by_field nm) = blank x (in_fields nm)
   fresh_named i x (by_frame nm) = blank x (in_frame nm)
   fresh_named i x (by_row q row e nm) = no_own i q row e
@@ -274,13 +274,13 @@ module _ (wt : ℕ) (heavy : 0 < wt) (all : Thing → Option Row) (ps : List Per
   only_itself i (Actor j) o h = ap Actor o
   only_itself i (Obj q) o h = absurd (let w = is_fresh.1 q.serial in cc)
 
-  fresh_walk : (i : ℕ) (x : Thing) → Reaches all (WalkRoots i fresh) x → x ≡ Actor i
+  fresh_walk : (i : ℕ) (x : Thing) → ReachesThrough all (WalkRoots i fresh) x → x ≡ Actor i
   fresh_walk i x h = reach_into all (λ x. x ≡ Actor i) from (λ x y r e f nm. absurd (let z = inv.bare i in let w = ap all e in none_some r (sym f ∙ w ∙ z))) (λ q e. absurd (obj_actor q e)) h
     where
-      none_some : (r : Row) → Some r ≡ None → ⊥
+      none_some : (r : Row) → Some r ≢ None
       none_some r e = cc
 
-      obj_actor : (q : ObjName) → Obj q ≡ Actor i → ⊥
+      obj_actor : (q : ObjName) → Obj q ≢ Actor i
       obj_actor q e = cc
 
       from : (x : Thing) → WalkRoots i fresh x → x ≡ Actor i
@@ -300,10 +300,10 @@ module _ (wt : ℕ) (heavy : 0 < wt) (all : Thing → Option Row) (ps : List Per
     backed = λ x k own h. absurd (nothing x k h);
   }
     where
-      obj_actor : (q : ObjName) → Obj q ≡ Actor i → ⊥
+      obj_actor : (q : ObjName) → Obj q ≢ Actor i
       obj_actor q e = cc
 
-      nothing : (x : Thing) (k : ℕ) → 0 < sum_by (inc_of x) (drop k []) → ⊥
+      nothing : (x : Thing) (k : ℕ) → ¬ (0 < sum_by (inc_of x) (drop k []))
       nothing x zero h = absurd (omega (arith, sum-nil (inc_of x)))
       nothing x (suc k) h = absurd (omega (arith, sum-nil (inc_of x)))
 
@@ -347,7 +347,7 @@ module _ (all : Thing → Option Row) (ps : List Person) (s : Actors) (inv : Kee
   held_none : (x : Thing) (i : ℕ) (c : Cell) (ls : List Letter) → has ms (owner_of x) ≡ true → has ms i ≡ false → seat_at s i ≡ seat c ls → held_in c.holdings x ≡ 0
   held_none x i c ls inside out at = ⊎_elim (λ z. z) (λ some. absurd (by_known ((inv.sound i c ls at).owners x some))) (some_or_none (held_in c.holdings x))
     where
-      by_known : IsKnown i c.holdings (Actor (owner_of x)) → ⊥
+      by_known : ¬ IsKnown i c.holdings (Actor (owner_of x))
       by_known (inl own) = let z = ap (has ms) own.0 in cc
       by_known (inr other) = let z = (alone (owner_of x) i c ls inside out at).0 in let w = other.1 in absurd (omega arith)
 

@@ -28,7 +28,7 @@ use Rattle.count_laws.proofs.roots.Take.{owner_root, root_reached}
 use Rattle.count_laws.proofs.balance.Seats.{some_seat}
 use Rattle.machine_rules.specs.Actors.{Actors, seat, seat_at, Every}
 use Rattle.machine_rules.specs.Cell.{Cell, listed_objects, object_name, own_row_of, row_by_roots}
-use Rattle.count_laws.specs.Known.{IsLoadOf, Names, Reaches, RowsAreIn}
+use Rattle.count_laws.specs.Known.{IsLoadOf, Names, ReachesThrough, RowsAreIn}
 use Rattle.count_laws.specs.KnownByRoots.{IsRootLetter, IsRootOf, IsRootsAt, WalkRoots, stands}
 
 -- ---- the rows that it has are listed
@@ -71,8 +71,8 @@ module _ (all : Thing → Option Row) (a : ℕ) (c : Cell) (mail : List Letter) 
       (λ o. here.right n r (sym (by_brought a c n o) ∙ e))
       (cases_eq n.owner a)
 
-  pub own_to_all : {roots : Thing → Type 0} {x : Thing} → Reaches (thing_row (row_by_roots a c)) roots x → Reaches all roots x
-  own_to_all {roots = roots} h = reach_into (thing_row (row_by_roots a c)) (Reaches all roots) (λ x r. root r) (λ x y r p e n. along_row all p (rows_sound x r e) n) (λ n p. owned p) h
+  pub own_to_all : {roots : Thing → Type 0} {x : Thing} → ReachesThrough (thing_row (row_by_roots a c)) roots x → ReachesThrough all roots x
+  own_to_all {roots = roots} h = reach_into (thing_row (row_by_roots a c)) (ReachesThrough all roots) (λ x r. root r) (λ x y r p e n. along_row all p (rows_sound x r e) n) (λ n p. owned p) h
 
 module _ (all : Thing → Option Row) (s : Actors) (bal : Balanced s) (sound : Every (IsRootsAt all) s) (bare : (b : ℕ) → all (Actor b) ≡ None)
     (a : ℕ) (c : Cell) (ls : List Letter) (at : seat_at s a ≡ seat c ls) where
@@ -80,7 +80,7 @@ module _ (all : Thing → Option Row) (s : Actors) (bal : Balanced s) (sound : E
   here = sound a c ls at
 
   -- of what its walks reach it has the rows
-  pub rows_agree : (x : Thing) → Reaches all (WalkRoots a c) x → thing_row (row_by_roots a c) x ≡ all x
+  pub rows_agree : (x : Thing) → ReachesThrough all (WalkRoots a c) x → thing_row (row_by_roots a c) x ≡ all x
   rows_agree (Actor b) h = sym (bare b)
   rows_agree (Obj n) h = ⊎_elim mine_case other_case (cases_eq n.owner a)
     where
@@ -99,19 +99,19 @@ module _ (all : Thing → Option Row) (s : Actors) (bal : Balanced s) (sound : E
           by_row None e None f = f ∙ sym e
           by_row None e (Some k) f = absurd (let z = here.right n k f in cc)
 
-  pub all_to_own : {roots : Thing → Type 0} → ((x : Thing) → roots x → Reaches all (WalkRoots a c) x) → {x : Thing} → Reaches all roots x → Reaches (thing_row (row_by_roots a c)) roots x
-  all_to_own {roots = roots} from h = (reach_into all (λ x. Reaches all (WalkRoots a c) x × Reaches (thing_row (row_by_roots a c)) roots x) (λ x r. (from x r, root r))
+  pub all_to_own : {roots : Thing → Type 0} → ((x : Thing) → roots x → ReachesThrough all (WalkRoots a c) x) → {x : Thing} → ReachesThrough all roots x → ReachesThrough (thing_row (row_by_roots a c)) roots x
+  all_to_own {roots = roots} from h = (reach_into all (λ x. ReachesThrough all (WalkRoots a c) x × ReachesThrough (thing_row (row_by_roots a c)) roots x) (λ x r. (from x r, root r))
       (λ x y r p e n. (along_row all p.0 e n, along_row _ p.1 (rows_agree x p.0 ∙ e) n)) (λ n p. (owned p.0, owned p.1)) h).1
 
   -- ---- a letter
 
-  module _ (args : List Value) (walk : (x : Thing) → Names args x → Reaches all (WalkRoots a c) x) where
+  module _ (args : List Value) (walk : (x : Thing) → Names args x → ReachesThrough all (WalkRoots a c) x) where
     rows_swap : (es : List Loaded) → ((x : Thing) → 0 < times_loaded x es → thing_row (row_by_roots a c) x ≡ all x) → RowsAreIn (thing_row (row_by_roots a c)) es → RowsAreIn all es
     rows_swap [] same h = tt
     rows_swap (e ∷ es) same h = (h.0 ∙ same e.0 (let z = loaded-same e.0 e es refl in omega arith), rows_swap es (λ x some. same x (loaded_more x e es some)) h.1)
 
-    walks_all : (x : Thing) → Reaches all (Names args) x → Reaches all (WalkRoots a c) x
-    walks_all x h = reach_into all (Reaches all (WalkRoots a c)) walk (λ x y r p e n. along_row all p e n) (λ n p. owned p) h
+    walks_all : (x : Thing) → ReachesThrough all (Names args) x → ReachesThrough all (WalkRoots a c) x
+    walks_all x h = reach_into all (ReachesThrough all (WalkRoots a c)) walk (λ x y r p e n. along_row all p e n) (λ n p. owned p) h
 
     rows_exact : IsLoadOf all args (load_of (row_by_roots a c) (listed_objects a c) args)
     rows_exact =
@@ -135,12 +135,12 @@ module _ (all : Thing → Option Row) (s : Actors) (bal : Balanced s) (sound : E
           rows = rows_exact;
         }
       where
-        bare_root : (args : List Value) (x : Thing) → Reaches (thing_row (λ n. None)) (Names args) x → IsRootOf args x
+        bare_root : (args : List Value) (x : Thing) → ReachesThrough (thing_row (λ n. None)) (Names args) x → IsRootOf args x
         bare_root args x h = reach_into (thing_row (λ n. None)) (IsRootOf args) (λ x n. stands n) (λ x y r p e n. absurd (no_row x r e)) (λ n p. owner_root args (Obj n) p) h
           where
-            no_row : (x : Thing) (r : Row) → thing_row (λ n. None) x ≡ Some r → ⊥
+            no_row : (x : Thing) (r : Row) → thing_row (λ n. None) x ≢ Some r
             no_row (Actor b) r e = cc
             no_row (Obj n) r e = cc
 
-        root_bare : (args : List Value) (x : Thing) → IsRootOf args x → Reaches (thing_row (λ n. None)) (Names args) x
+        root_bare : (args : List Value) (x : Thing) → IsRootOf args x → ReachesThrough (thing_row (λ n. None)) (Names args) x
         root_bare args x h = root_reached (thing_row (λ n. None)) args x h

@@ -23,7 +23,7 @@ use Rattle.count_laws.proofs.balance.Safety.{drop-push}
 use Rattle.count_laws.proofs.knowledge.Sending.{has-mint_all, has-send, row-mint_all, row-send}
 use Rattle.count_laws.proofs.events.Take.{Alike}
 use Rattle.machine_rules.specs.Cell.{Cell, own_row_of}
-use Rattle.count_laws.specs.Known.{InFrame, IsKnown, Names, Reaches, row_at}
+use Rattle.count_laws.specs.Known.{InFrame, IsKnown, Names, ReachesThrough, row_at}
 use Rattle.count_laws.specs.KnownByRoots.{AreRootLetters, IsBacked, IsKnownWithOwner, IsNamedIn, IsRootsAt, WalkRoots, by_field, by_frame, by_row, held, mine, named}
 
 -- ---- own rows
@@ -52,7 +52,7 @@ own_row_has me h n row e = ⊎_elim
     (λ other. absurd (let z = rw (ne_eqb n.owner me other) at e in no_row row z))
     (cases_eq n.owner me)
   where
-    no_row : (row : Row) → None ≡ Some row → ⊥
+    no_row : (row : Row) → None ≢ Some row
     no_row row e = cc
 
 pub has_own_row : (me : ℕ) (h : Holdings) (n : ObjName) → n.owner ≡ me → has_own h (Obj n) ≡ true → (row : Row) × (own_row_of me h n ≡ Some row)
@@ -131,13 +131,13 @@ module _ (all : Thing → Option Row) (a : ℕ) (c d : Cell) (mail : List Letter
   pub carried_mine : (n : ObjName) (row : Row) → own_row_of a d.holdings n ≡ Some row → all (Obj n) ≡ Some row
   carried_mine n row e = here.mine n row (sym (same.rows n) ∙ e)
 
-  walk_root : (x : Thing) → WalkRoots a d x → Reaches all (WalkRoots a c) x ⊎ Reaches all New x
+  walk_root : (x : Thing) → WalkRoots a d x → ReachesThrough all (WalkRoots a c) x ⊎ ReachesThrough all New x
   walk_root x (named n) = ⊎_elim (λ old. inl (root (named old))) (λ new. inr (root new)) (from_old x n)
   walk_root x (held h) = ⊎_elim (λ old. inl (root (held old))) (λ new. inr (root new)) (holds x h)
   walk_root x (mine o has) = inl (root (mine o (sym (same.has x) ∙ has)))
 
-  pub walks : (x : Thing) → Reaches all (WalkRoots a d) x → Reaches all (WalkRoots a c) x ⊎ Reaches all New x
-  walks x h = reach_into all (λ x. Reaches all (WalkRoots a c) x ⊎ Reaches all New x) walk_root
+  pub walks : (x : Thing) → ReachesThrough all (WalkRoots a d) x → ReachesThrough all (WalkRoots a c) x ⊎ ReachesThrough all New x
+  walks x h = reach_into all (λ x. ReachesThrough all (WalkRoots a c) x ⊎ ReachesThrough all New x) walk_root
       (λ x y r p e n. ⊎_elim (λ old. inl (along_row all old e n)) (λ new. inr (along_row all new e n)) p)
       (λ n p. ⊎_elim (λ old. inl (owned old)) (λ new. inr (owned new)) p) h
 
@@ -150,7 +150,7 @@ backed_more a c d mail k x up rows b = record {
   from = b.from;
   own = b.own;
   counted = let z = up b.from b.own in let w = b.counted in omega arith;
-  leads = reach_into (thing_row (own_row_of a c.holdings)) (Reaches (thing_row (own_row_of a d.holdings)) (λ y. y ≡ b.from)) (λ y e. root e)
+  leads = reach_into (thing_row (own_row_of a c.holdings)) (ReachesThrough (thing_row (own_row_of a d.holdings)) (λ y. y ≡ b.from)) (λ y e. root e)
       (λ y z r p e n. along_row _ p (grown y r e) n) (λ n p. owned p) b.leads;
 }
   where

@@ -27,14 +27,14 @@ use Rattle.count_laws.proofs.roots.Left.{inc_there}
 use Rattle.count_laws.proofs.roots.Same.{SameOwn, carried_mine, carried_named, carried_owners, own_alike, own_received, walks}
 use Rattle.count_laws.proofs.balance.SeatReads.{letter_App}
 use Rattle.machine_rules.proofs.Present.{present_below}
-use Rattle.count_laws.proofs.events.Take.{Alike, alike_lower, alike_put, alike_raise, alike_self, firm_receive, load_there, next_receive, people_after, starts_named, take_put}
+use Rattle.count_laws.proofs.events.Take.{Alike, alike_lower, alike_put, alike_raise, alike_self, firm_receive, load_there, next_receive, people_after, starts_named, take_put, held_alike}
 use Rattle.count_laws.proofs.balance.Takes.{own-taken}
 use Rattle.machine_rules.specs.Actors.{Actors, seat, seat_at}
 use Rattle.count_laws.specs.Agreement.{Person, app_letters}
 use Rattle.count_laws.specs.Prefixes.{IsCoveredAt}
 use Rattle.machine_rules.specs.Cell.{Cell, own_row_of}
 use Rattle.count_laws.specs.Facts.{KeepsCounts}
-use Rattle.count_laws.specs.Known.{InFrame, IsKnown, Names, Reaches, RowsAreIn}
+use Rattle.count_laws.specs.Known.{InFrame, IsKnown, Names, ReachesThrough, RowsAreIn}
 use Rattle.count_laws.specs.KnownByRoots.{AreRootLetters, IsBacked, IsKnownWithOwner, IsRootLetter, IsRootOf, IsRootsAt, WalkRoots, stands, owns}
 use Rattle.orca_names.specs.declared.trace.Trace.TheVariants as options
 use Rattle.plain_rules.specs.Machine.{frame_of}
@@ -110,11 +110,11 @@ module _ (all : Thing → Option Row) (me : ℕ) where
       (cases_thing x e.0)
 
 -- what comes with a letter is what its arguments reach
-pub root_reached : (all : Thing → Option Row) (args : List Value) (x : Thing) → IsRootOf args x → Reaches all (Names args) x
+pub root_reached : (all : Thing → Option Row) (args : List Value) (x : Thing) → IsRootOf args x → ReachesThrough all (Names args) x
 root_reached all args x (stands n) = root n
 root_reached all args y (owns {x = x} n) = up x (root n)
   where
-    up : (x : Thing) → Reaches all (Names args) x → Reaches all (Names args) (Actor (owner_of x))
+    up : (x : Thing) → ReachesThrough all (Names args) x → ReachesThrough all (Names args) (Actor (owner_of x))
     up (Actor b) h = h
     up (Obj n) h = owned h
 
@@ -168,7 +168,7 @@ module _ (all : Thing → Option Row) (bare : (b : ℕ) → all (Actor b) ≡ No
   frames : (x : Thing) → InFrame after.frame x → InFrame c.frame x ⊎ New x
   frames x n = inr (stands (starts x n))
 
-  brought : (n : ObjName) (row : Row) → n.owner ≢ a → Reaches all (WalkRoots a after) (Obj n) → all (Obj n) ≡ Some row → m.get after.known (Obj n) ≡ Some row
+  brought : (n : ObjName) (row : Row) → n.owner ≢ a → ReachesThrough all (WalkRoots a after) (Obj n) → all (Obj n) ≡ Some row → m.get after.known (Obj n) ≡ Some row
   brought n row other h is = ⊎_elim
       (λ old. learn_keeps all a rows c.known ok.rows.rows (Obj n) row is (here.brought n row other old is))
       (λ new. learn_new all a rows c.known ok.rows.rows (Obj n) row other (ok.rows.whole (Obj n) (reach_more all (λ x r. root_reached all args x r) new)) is)
@@ -181,7 +181,7 @@ module _ (all : Thing → Option Row) (bare : (b : ℕ) → all (Actor b) ≡ No
     mine = carried_mine all a c after mail here same kept New (λ x n. inl n) frames holds new_known;
     right = learn_right all a rows c.known ok.rows.rows here.right;
     brought = brought;
-    led = learn_only all a (λ x. Reaches all (IsKnown a after.holdings) x) rows c.known
+    led = learn_only all a (λ x. ReachesThrough all (IsKnown a after.holdings) x) rows c.known
         (λ x some. reach_more all (λ y n. root (new_known y (stands n)).0) (ok.rows.reached x some))
         (λ n row got. reach_more all (λ y k. root (still y k)) (here.led n row got));
     letters = letters;
@@ -206,7 +206,7 @@ module _ (all : Thing → Option Row) (a : ℕ) (c d : Cell) (mail : List Letter
   no_new : (x : Thing) → ⊥ → IsKnownWithOwner a d.holdings x
   no_new x e = absurd e
 
-  same_walk : (x : Thing) → Reaches all (WalkRoots a d) x → Reaches all (WalkRoots a c) x
+  same_walk : (x : Thing) → ReachesThrough all (WalkRoots a d) x → ReachesThrough all (WalkRoots a c) x
   same_walk x h = ⊎_elim (λ old. old) (λ new. absurd (reach_into all (λ x. ⊥) (λ x e. e) (λ x y r p e n. p) (λ n p. p) new))
       (walks all a c d mail here same kept' (λ x. ⊥) fields' frame' holds' no_new x h)
 
@@ -234,10 +234,6 @@ same_roots all a c d mail here same held_same fields frame known ls letters back
 
 -- ---- take
 
-held_alike : (me : ℕ) (h k : Holdings) → Alike me h k → (x : Thing) → held_in k x ≡ held_in h x
-unfolding held_in
-held_alike me h k p x = ap (λ (t : m.FinMap thing_cmp (ℕ × Option Row)). option_map_or (λ e. e.0) (m.get t x) 0) p.foreign
-
 -- what the first letter takes from a count of an own thing, it takes
 taken_backed : (a : ℕ) (c d : Cell) (l : Letter) (ls : List Letter) → ((y : Thing) → owner_of y ≡ a → own_in d.holdings y + load_count y l + dec_of y l ≡ own_in c.holdings y + inc_of y l)
     → SameOwn a c.holdings d.holdings → ((x : Thing) (k : ℕ) → owner_of x ≡ a → 0 < sum_by (inc_of x) (drop k (l ∷ ls)) → IsBacked a c (l ∷ ls) k x)
@@ -257,8 +253,8 @@ taken_backed a c d l ls took same old x k o h =
       leads = own_leads a c d same b.from x b.leads;
     }
   where
-    own_leads : (a : ℕ) (c d : Cell) → SameOwn a c.holdings d.holdings → (y x : Thing) → Reaches (thing_row (own_row_of a c.holdings)) (λ z. z ≡ y) x → Reaches (thing_row (own_row_of a d.holdings)) (λ z. z ≡ y) x
-    own_leads a c d same y x h = reach_into (thing_row (own_row_of a c.holdings)) (Reaches (thing_row (own_row_of a d.holdings)) (λ z. z ≡ y)) (λ z e. root e)
+    own_leads : (a : ℕ) (c d : Cell) → SameOwn a c.holdings d.holdings → (y x : Thing) → ReachesThrough (thing_row (own_row_of a c.holdings)) (λ z. z ≡ y) x → ReachesThrough (thing_row (own_row_of a d.holdings)) (λ z. z ≡ y) x
+    own_leads a c d same y x h = reach_into (thing_row (own_row_of a c.holdings)) (ReachesThrough (thing_row (own_row_of a d.holdings)) (λ z. z ≡ y)) (λ z e. root e)
         (λ z w r p e n. along_row _ p (grown a c d same z r e) n) (λ n p. owned p) h
       where
         grown : (a : ℕ) (c d : Cell) → SameOwn a c.holdings d.holdings → (z : Thing) (r : Row) → thing_row (own_row_of a c.holdings) z ≡ Some r → thing_row (own_row_of a d.holdings) z ≡ Some r

@@ -43,7 +43,7 @@ use Rattle.count_laws.specs.Agreement.{Person, person_of}
 use Rattle.machine_rules.specs.Cell.{Cell, own_row_of, row_by_roots}
 use Rattle.count_laws.specs.Facts.{KeepsCounts}
 use Rattle.machine_rules.specs.Go.{lacks, needed, needs, setting_of, turn_of_cell, cell_after_turn}
-use Rattle.count_laws.specs.Known.{InFrame, IsKnown, Names, Reaches, RowsAreIn}
+use Rattle.count_laws.specs.Known.{InFrame, IsKnown, Names, ReachesThrough, RowsAreIn}
 use Rattle.count_laws.specs.KnownByRoots.{AreRootLetters, IsKnownWithOwner, IsNamedIn, IsRootLetter, IsRootsAt, WalkRoots, by_field, by_frame, by_row, held, mine, named, stands}
 use Rattle.machine_rules.specs.Left.{IsLeft}
 use Rattle.orca_names.specs.declared.trace.Trace.TheVariants as options
@@ -70,7 +70,7 @@ find_some p (y ∷ ys) x e = by_test (p y) refl e (find_some p ys x)
     by_test true t e rest = let same : y ≡ x = cc in (subst (Contains (y ∷ ys)) same (Contains-head y ys), ap p (sym same) ∙ t)
     by_test false t e rest = let z = rest e in (Contains-later y ys x z.0, z.1)
 
-gone : (o : Option (Row × ℕ)) → o ≡ None → is_some o ≡ true → ⊥
+gone : (o : Option (Row × ℕ)) → o ≡ None → is_some o ≢ true
 gone None e f = cc
 gone (Some q) e f = cc
 
@@ -102,7 +102,7 @@ module _ (a : ℕ) (made : List Row) (h : Holdings) (fresh : (k : ℕ) → h.nex
       (λ o. absurd (no_row row (sym (own_is_none a after_made n o) ∙ (own_spelled n ∙ e))))
       (cases_eq n.owner a)
     where
-      no_row : (row : Row) → None ≡ Some row → ⊥
+      no_row : (row : Row) → None ≢ Some row
       no_row row e = cc
 
       same_row : (o : Option (Row × ℕ)) (r row : Row) → o ≡ Some (r, 0) → own_row o ≡ Some row → row ≡ r
@@ -144,18 +144,18 @@ module _ (program : Program) (all all' : Thing → Option Row) (ps : List Person
   given_root x (inl n) = named (by_frame (subst (λ o. InFrame o x) (sym frame) n))
   given_root x (inr n) = named (by_field n)
 
-  pub given_reached : (x : Thing) → Reaches (thing_row (row_by_roots a c)) (Given f c.fields) x → Reaches all (WalkRoots a c) x
-  given_reached x h = reach_into (thing_row (row_by_roots a c)) (Reaches all (WalkRoots a c)) (λ x n. root (given_root x n))
+  pub given_reached : (x : Thing) → ReachesThrough (thing_row (row_by_roots a c)) (Given f c.fields) x → ReachesThrough all (WalkRoots a c) x
+  given_reached x h = reach_into (thing_row (row_by_roots a c)) (ReachesThrough all (WalkRoots a c)) (λ x n. root (given_root x n))
       (λ x y r p e n. along_row all p (rows_sound all a c ls here x r e) n) (λ n p. owned p) h
 
   seg : NamesOnlyFrom (thing_row (row_by_roots a c)) a c.holdings.next f c.fields stop
   seg = segment_names (setting_of options.Roots program a c) f c.fields
 
   -- what it gets was reached, or is the actor itself, or was made in this turn
-  pub got_from : (x : Thing) → Names gets x → Reaches all (WalkRoots a c) x ⊎ ((x ≡ Actor a) ⊎ MadeAny a c.holdings.next x)
+  pub got_from : (x : Thing) → Names gets x → ReachesThrough all (WalkRoots a c) x ⊎ ((x ≡ Actor a) ⊎ MadeAny a c.holdings.next x)
   got_from x n = let z = gets_known (setting_of options.Roots program a c) f c.fields x n in by_cases z.0 z.1
     where
-      by_cases : (k : ℕ) → laws.IsKnown (setting_of options.Roots program a c) f c.fields k x → Reaches all (WalkRoots a c) x ⊎ ((x ≡ Actor a) ⊎ MadeAny a c.holdings.next x)
+      by_cases : (k : ℕ) → laws.IsReachedOrMade (setting_of options.Roots program a c) f c.fields k x → ReachesThrough all (WalkRoots a c) x ⊎ ((x ≡ Actor a) ⊎ MadeAny a c.holdings.next x)
       by_cases k (laws.reached r) = inl (given_reached x (along_rows (row_by_roots a c) (named_given f c.fields) r))
       by_cases k (laws.itself e) = inr (inl e)
       by_cases k (laws.own i l e) = inr (inr (i, e))
@@ -165,7 +165,7 @@ module _ (program : Program) (all all' : Thing → Option Row) (ps : List Person
   May x = IsKnownWithOwner a c.holdings x ⊎ ((x ≡ Actor a) ⊎ MadeAny a c.holdings.next x)
 
   module _ (held_all : needed options.Roots program a c f ≡ None) where
-    got_known : (x : Thing) → Reaches all (WalkRoots a c) x → needs a c.holdings x ≡ false → IsKnownWithOwner a c.holdings x
+    got_known : (x : Thing) → ReachesThrough all (WalkRoots a c) x → needs a c.holdings x ≡ false → IsKnownWithOwner a c.holdings x
     got_known x reached none =
         let both = or_parts (lacks a c.holdings x) (lacks a c.holdings (Actor (owner_of x))) none in
         let left = reached_left all s bal inv.sound inv.bare a c ls at reached in (
@@ -187,7 +187,7 @@ module _ (program : Program) (all all' : Thing → Option Row) (ps : List Person
 
     -- both together
     abbrev Source : Thing → Type 0
-    Source x = Reaches all (WalkRoots a c) x ⊎ ((x ≡ Actor a) ⊎ Made a c.holdings.next made x)
+    Source x = ReachesThrough all (WalkRoots a c) x ⊎ ((x ≡ Actor a) ⊎ Made a c.holdings.next made x)
 
     from_seg : (x : Thing) → From (thing_row (row_by_roots a c)) a c.holdings.next f c.fields (length made) x → Source x
     from_seg x (inl h) = inl (given_reached x h)
@@ -207,11 +207,11 @@ module _ (program : Program) (all all' : Thing → Option Row) (ps : List Person
           by_entry (Some q) e = absurd (let z = here.mine (record { owner = a; serial = k }) q.0 (rw (eq-eqb a a refl) (ap own_row e)) in let w = grows.past k past in cc)
 
       -- a thing that was made now was not reached
-      unborn : (x : Thing) → IsLeft s x → MadeAny a c.holdings.next x → ⊥
+      unborn : (x : Thing) → IsLeft s x → ¬ MadeAny a c.holdings.next x
       unfolding has_own
       unborn x left (i, e) = not_left i (subst (IsLeft s) e left)
         where
-          not_left : (i : ℕ) → IsLeft s (object a (c.holdings.next + i)) → ⊥
+          not_left : (i : ℕ) → ¬ IsLeft s (object a (c.holdings.next + i))
           not_left i left =
               let z = some_seat c left.seat.cell ls left.seat.mail (sym at ∙ left.present) in
               let n = fresh (c.holdings.next + i) (omega arith) in
@@ -305,7 +305,7 @@ module _ (program : Program) (all all' : Thing → Option Row) (ps : List Person
       source_up n (inr (inl self)) = cc
       source_up n (inr (inr new)) = inr (inl (let q = new.2 in cc))
 
-      brought_after : (n : ObjName) (row : Row) → n.owner ≢ a → Reaches all' (WalkRoots a c1) (Obj n) → all' (Obj n) ≡ Some row → m.get c1.known (Obj n) ≡ Some row
+      brought_after : (n : ObjName) (row : Row) → n.owner ≢ a → ReachesThrough all' (WalkRoots a c1) (Obj n) → all' (Obj n) ≡ Some row → m.get c1.known (Obj n) ≡ Some row
       brought_after n row out h is = by_source (reach_into all' Source walk_source source_along source_up h)
         where
           by_source : Source (Obj n) → m.get c.known (Obj n) ≡ Some row
@@ -321,16 +321,16 @@ module _ (program : Program) (all all' : Thing → Option Row) (ps : List Person
       left_same : (x : Thing) → IsLeft s x → all' x ≡ all x
       left_same x left = ⊎_elim (λ e. e) (λ new. absurd (unborn x left (new.0, new.2))) (grows.only x)
 
-      grown : {roots : Thing → Type 0} {x : Thing} → Reaches all roots x → Reaches all' roots x
-      grown {roots = roots} h = reach_into all (Reaches all' roots) (λ x r. root r)
+      grown : {roots : Thing → Type 0} {x : Thing} → ReachesThrough all roots x → ReachesThrough all' roots x
+      grown {roots = roots} h = reach_into all (ReachesThrough all' roots) (λ x r. root r)
           (λ x y r p e n. along_row all' p (grown_row x r e) n) (λ n p. owned p) h
         where
           grown_row : (x : Thing) (r : Row) → all x ≡ Some r → all' x ≡ Some r
           grown_row (Actor b) r e = let z = inv.bare b in cc
           grown_row (Obj n) r e = not_made n r e
 
-      shrunk : {roots : Thing → Type 0} → ((x : Thing) → roots x → IsLeft s x) → {x : Thing} → Reaches all' roots x → Reaches all roots x
-      shrunk {roots = roots} from h = (reach_into all' (λ x. Reaches all roots x × IsLeft s x) (λ x r. (root r, from x r))
+      shrunk : {roots : Thing → Type 0} → ((x : Thing) → roots x → IsLeft s x) → {x : Thing} → ReachesThrough all' roots x → ReachesThrough all roots x
+      shrunk {roots = roots} from h = (reach_into all' (λ x. ReachesThrough all roots x × IsLeft s x) (λ x r. (root r, from x r))
           (λ x y r p e n. let e' = sym (left_same x p.1) ∙ e in (along_row all p.0 e' n, along_left all s bal inv.sound inv.bare x y r p.1 e' n))
           (λ n p. (owned p.0, owner_left all s bal inv.sound n p.1)) h).0
 
@@ -412,5 +412,5 @@ module _ (program : Program) (all all' : Thing → Option Row) (ps : List Person
   same_turn rows are = sym (segment_local (record { program = program; me = a; base = c.holdings.next; rows = rows }) f c.fields (row_by_roots a c)
       (λ x h. are x ∙ sym (rows_agree all s bal inv.sound inv.bare a c ls at x (over x h))))
     where
-      over : (x : Thing) → Reaches (thing_row rows) (Given f c.fields) x → Reaches all (WalkRoots a c) x
-      over x h = reach_into _ (Reaches all (WalkRoots a c)) (λ x n. root (given_root x n)) (λ x y r p e n. along_row all p (sym (are x) ∙ e) n) (λ n p. owned p) h
+      over : (x : Thing) → ReachesThrough (thing_row rows) (Given f c.fields) x → ReachesThrough all (WalkRoots a c) x
+      over x h = reach_into _ (ReachesThrough all (WalkRoots a c)) (λ x n. root (given_root x n)) (λ x y r p e n. along_row all p (sym (are x) ∙ e) n) (λ n p. owned p) h
