@@ -10,7 +10,7 @@ use Rattle.std.specs.Ordering.{match_ordering, nat_cmp}
 use Rattle.std.specs.declared.cmp.Ordering.{Ordering}
 use Rattle.std.specs.declared.cmp.Ordering.TheVariants.{Less, Equal, Greater}
 use Rattle.letter_kinds.specs.declared.note.Report.{Report}
-use Rattle.letter_kinds.specs.Reports.{keep_report, drop_report, report_of}
+use Rattle.letter_kinds.specs.Reports.{keep_report, drop_report, kept_report}
 use Rattle.cycle_detect.specs.Kept.{actors_of, reports_in, AreByActor}
 use Rattle.cycle_detect.specs.Rising.{AllAbove, Rising}
 
@@ -67,9 +67,9 @@ reports-remove es a h = go es h.named h.rising
     go [] h up = refl
     go (e ∷ es) h up = grind (arith, nat_tests, h.0, go es h.1 up.1, none_above e.0 es h.1 up.0)
 
-pub report_of-lookup : (es : List (ℕ × Report)) (a : ℕ) → Named es → lookup (is_at (nat_cmp a)) es ≡ report_of (reports_in es) a
-report_of-lookup [] a h = refl
-report_of-lookup (e ∷ es) a h = grind (arith, nat_tests, h.0, report_of-lookup es a h.1)
+pub kept_report-lookup : (es : List (ℕ × Report)) (a : ℕ) → Named es → lookup (is_at (nat_cmp a)) es ≡ kept_report (reports_in es) a
+kept_report-lookup [] a h = refl
+kept_report-lookup (e ∷ es) a h = grind (arith, nat_tests, h.0, kept_report-lookup es a h.1)
 
 pub actors-entries : (es : List (ℕ × Report)) → Named es → keys_of es ≡ actors_of (reports_in es)
 actors-entries [] h = refl

@@ -3,7 +3,7 @@ use Rattle.std.specs.Prelude.{ℕ, ◌≡◌, List, map, Option, option_map}
 use Rattle.std.specs.Borrow.{Bor}
 use Rattle.std.specs.List.{AllByRecursion, filter_map}
 use Rattle.std.specs.Map.{keys_of, values_of}
-use Rattle.letter_kinds.specs.Reports.{report_of}
+use Rattle.letter_kinds.specs.Reports.{kept_report}
 use Rattle.letter_kinds.specs.declared.note.Report.{Report}
 use Rattle.orca_names.specs.declared.kept_report.KeptReport.{KeptReport}
 use Rattle.cycle_detect.specs.Rising.{Rising}
@@ -31,7 +31,7 @@ handed_out r = record { actor = r.actor; count = r.count; held = r.held }
 
 -- the report of an actor, as it is handed out
 abbrev pub handed_of : List Report → ℕ → Option KeptReport
-handed_of kept a = option_map handed_out (report_of kept a)
+handed_of kept a = option_map handed_out (kept_report kept a)
 
 -- the reports of these actors, in their order
 abbrev pub reports_of : List Report → List ℕ → List KeptReport

@@ -5,7 +5,7 @@ ghost use Rattle.std.specs.Option.{option_copied};
 ghost use Rattle.letter_kinds.specs.Detector.{has};
 ghost use Rattle.cycle_detect.specs.Kept.{actors_of, handed_out, reports_of};
 ghost use Rattle.cycle_detect.specs.Rising.{Rising};
-ghost use Rattle.letter_kinds.specs.Reports.{drop_report, keep_report, report_of};
+ghost use Rattle.letter_kinds.specs.Reports.{drop_report, keep_report, kept_report};
 
 use letter_kinds::Report;
 use orca_names::{ActorName, KeptReport, NoMemory};
@@ -45,7 +45,7 @@ impl Reports {
 
     /// The report of an actor.
     pub(crate) fn get(&self, actor: ActorName) -> Option<&Report>
-        ensures { option_copied result ≡ report_of self.now actor }
+        ensures { option_copied result ≡ kept_report self.now actor }
     {
         self.by_actor.get(&actor)
     }
