@@ -129,9 +129,6 @@ module _ (a : ℕ) (c : Cell) where
 
   -- ---- an event of another actor
 
-  abbrev Away : State → Step State → Step State → Type 0
-  Away s away step = away ≡ step_with_cell a c step
-
   module _ (s : State) (below : a < length s.actors) (b : ℕ) (not : b ≢ a) where
     abbrev away : State
     away = with_cell a c s

@@ -120,9 +120,6 @@ module _ (program : Program) (found : Option ℕ) where
   blank x (in_frame h) = h
   blank x (in_table h) = absurd (let z = held_zero x in omega arith)
 
-  past : (i : ℕ) → seat_at s (suc i) ≡ None
-  past i = refl
-
   only_seat : (a : ℕ) (d : Cell) (ms : List Letter) → seat_at s a ≡ seat d ms → (a ≡ 0) × ((c ≡ d) × (letters found ≡ ms))
   only_seat zero d ms at = (refl, some_seat c d (letters found) ms at)
   only_seat (suc i) d ms at = cc

@@ -33,9 +33,6 @@ use Rattle.machine_rules.proofs.Stepping.{is_step}
 use Rattle.machine_rules.proofs.Guards.{collector}
 
 module _ (trace : Trace) (Q : ℕ → Cell → List Letter → Type 0) (local : Local trace Q) where
-  abbrev Keeps : State → State → Type 0
-  Keeps s t = Every Q s.actors → Every Q t.actors
-
   every_here : (s : Actors) (a : ℕ) (o : Seat) (c : Cell) (mail : List Letter) → seat_at s a ≡ Some o → Q a c mail → Every Q s → Every Q (set s a (seat c mail))
   every_here s a o c mail at new h = every_set Q s a c mail (present_below s a o at) new h
 
