@@ -1,0 +1,4 @@
+pub mod Entries
+pub mod Gone
+pub mod Same
+pub mod Sides
