@@ -4,12 +4,14 @@
 mod edges;
 mod laws;
 mod marks;
+mod places;
 mod reach;
 mod seen;
 
 pub use edges::Edges;
 pub use laws::{loads_are_exact, marks_are_exact, marks_are_unique};
 pub use marks::{Marks, mark};
+pub use places::{PlacedRows, Places};
 pub use reach::walk;
 
 #[cfg(test)]

@@ -1,0 +1,2 @@
+pub mod BackLemmas
+pub mod Entries

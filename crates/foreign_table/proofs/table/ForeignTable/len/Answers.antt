@@ -1,0 +1,10 @@
+use Rattle.std.proofs.Common.{ap, arith}
+use Rattle.std.specs.FinMap as m
+use Rattle.foreign_table.proofs.Entries.{len_here}
+use Rattle.foreign_table.proofs.table.ForeignTable.len.Goals as goal
+
+pub returns : goal.returns
+returns c =
+    let e = len_here c.self.inside.held.items c.self.inside.rows.items c.self.invariant in
+    let f = ap (λ t. m.len t.entries) c.self.view_is in
+    omega (arith, c.self.inside.held.ok.0)

@@ -1,0 +1,26 @@
+-- Counts that go back to their owners.
+use Rattle.std.specs.Prelude.{ℕ, ◌+◌, ◌-◌, Bool, false, not, List, is_some, T}
+use Rattle.std.specs.Option.{option_map_or}
+use Rattle.std.specs.Ordering.{nat_cmp}
+use Rattle.std.specs.List.{list_all}
+use Rattle.std.specs.FinMap as m
+use Rattle.std.specs.FinMap.Entries.{find, is_sorted}
+use Rattle.orca_names.specs.Names.{owner_of, thing_cmp}
+use Rattle.orca_names.specs.declared.names.Thing.{Thing}
+use Rattle.letter_kinds.specs.Counting.{Amount}
+use Rattle.foreign_table.specs.Table.{Table}
+
+-- owners rise, and the things of each
+pub record BackRises (back : List (ℕ × List Amount)) : Type 0 where
+  pub owners : T (is_sorted nat_cmp back)
+  pub things : T (list_all (λ group. is_sorted thing_cmp group.1) back)
+
+-- the thing stands in the group of its owner
+abbrev pub goes_back : List (ℕ × List Amount) → Thing → Bool
+goes_back back x = option_map_or (λ things. is_some (find thing_cmp x things)) (find nat_cmp (owner_of x) back) false
+
+-- the others stay, and the places of these are room
+abbrev pub given_up : List (ℕ × List Amount) → Table → Table
+given_up back t =
+    let entries = m.retain_keys t.entries (λ x. not (goes_back back x)) in
+    record { spare = t.spare + (m.len t.entries - m.len entries); entries = entries }

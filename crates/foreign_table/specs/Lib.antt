@@ -1,0 +1,4 @@
+pub mod Back
+pub mod Entry
+pub mod Named
+pub mod Table

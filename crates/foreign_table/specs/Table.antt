@@ -1,0 +1,62 @@
+-- The table of an actor.
+use Rattle.std.specs.Prelude.{ℕ, ◌≡◌, ◌+◌, ◌-◌, if◌then◌else◌, is_some, List, [], ◌∷◌, Option, T, refl, length, map}
+use Rattle.std.specs.FinMap as m
+use Rattle.std.specs.FinMap.Entries.{is_sorted}
+use Rattle.std.specs.List.{zip}
+use Rattle.std.specs.Coded.{Coded, code_by, coded×, coded_ℕ, coded_option}
+use Rattle.orca_names.specs.Codes.{coded_thing, coded_row}
+use Rattle.orca_names.specs.Names.{thing_cmp}
+use Rattle.orca_names.specs.declared.names.ObjName.{ObjName}
+use Rattle.orca_names.specs.declared.names.Thing.{Thing}
+use Rattle.orca_names.specs.declared.names.Thing.TheVariants.{Actor, Obj}
+use Rattle.letter_kinds.specs.Holdings.{Entries, Row, entry_count, entry_row}
+use Rattle.foreign_table.specs.declared.search.Entry.{Entry}
+use Rattle.foreign_table.specs.Entry.{pair_of}
+
+-- the room for new entries, and the entries
+pub record Table : Type 0 where
+  pub spare : ℕ
+  pub entries : Entries
+
+abbrev pub coded_table : Coded Table
+coded_table = code_by (ℕ × Entries) (coded× coded_ℕ (m.code coded_thing (coded× coded_ℕ (coded_option coded_row))))
+    (λ t. (t.spare, t.entries)) (λ p. record { spare = p.0; entries = p.1 }) (λ _. refl)
+
+abbrev pub entries_in : List Entry → List (Option Row) → Entries
+entries_in held rows = m.from_sorted (map pair_of (zip held rows))
+
+-- each has a place for its row, and things rise
+pub record AreHeld (held : List Entry) (rows : List (Option Row)) : Type 0 where
+  pub long : length rows ≡ length held
+  pub sorted : T (is_sorted thing_cmp (map pair_of (zip held rows)))
+
+-- the count that is held on a thing
+abbrev pub count_on : Table → Thing → ℕ
+count_on t x = entry_count (m.get t.entries x)
+
+-- the row that is known of an object
+abbrev pub known_row : Table → ObjName → Option Row
+known_row t n = entry_row (m.get t.entries (Obj n))
+
+-- its count changed, its row as given; an entry that is new takes room
+abbrev pub entered : (ℕ → ℕ) → Thing → Option Row → Table → Table
+entered change x row t = record {
+  spare = t.spare - (if is_some (m.get t.entries x) then 0 else 1);
+  entries = m.insert t.entries x (change (count_on t x), row);
+}
+
+-- its count changed
+abbrev pub counted : (ℕ → ℕ) → Thing → Table → Table
+counted change x t = record t { entries = m.insert t.entries x (change (count_on t x), entry_row (m.get t.entries x)) }
+
+abbrev pub without : Thing → Table → Table
+without x t = record { spare = t.spare + 1; entries = m.remove t.entries x }
+
+abbrev on_actor : Thing → ℕ → List (ℕ × ℕ) → List (ℕ × ℕ)
+on_actor (Actor a) count rest = (a, count) ∷ rest
+on_actor (Obj n) count rest = rest
+
+-- the counts on actors, in their order
+abbrev pub on_actors : List (Thing × (ℕ × Option Row)) → List (ℕ × ℕ)
+on_actors [] = []
+on_actors (e ∷ es) = on_actor e.0 e.1.0 (on_actors es)

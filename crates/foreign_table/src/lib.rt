@@ -1,0 +1,9 @@
+//! What an actor holds of others: counts and rows by thing.
+#![tactic(auto)]
+
+mod back;
+mod keep;
+mod search;
+mod table;
+
+pub use table::ForeignTable;

@@ -1,0 +1,245 @@
+// The table.
+
+ghost use Rattle.std.specs.Prelude.{◌≡◌, ◌+◌, ◌-◌, ◌^◌, ◌<◌, ◌≤◌, Some, None, length, map, slice_get, slice_set, vec_len, vec_capacity, IfOk, OnOk, IsSome, option_map};
+ghost use Rattle.std.specs.List.{insert};
+ghost use Rattle.std.specs.Option.{option_copied};
+ghost use Rattle.std.specs.FinMap as m;
+ghost use Rattle.orca_names.specs.Names.{thing_cmp};
+ghost use Rattle.plain_list.specs.Rising.{IsAt};
+ghost use Rattle.foreign_table.specs.Back.{BackRises, given_up};
+ghost use Rattle.foreign_table.specs.Entry.{actors_among, key_of};
+ghost use Rattle.foreign_table.specs.Table.{AreHeld, Table, count_on, counted, entered, entries_in, known_row, on_actors, without};
+
+use crate::keep::keep_others;
+use crate::search::{Entry, place_of};
+use letter_kinds::Amounts;
+use orca_names::{ActorName, NoMemory, ObjName, Row, Thing};
+use ref_weights::Held;
+use std::alloc::Global;
+use std::marker::Model;
+
+/// The things of others that an actor holds, each with its count and, for an object, its row where
+/// that is known, and the room for new ones. Counts stand apart from rows.
+#[derive(Drop)]
+pub struct ForeignTable {
+    held: Vec<Entry>,
+    rows: Vec<Option<Row>>,
+}
+
+impl Model for ForeignTable {
+    ghost use Rattle.std.specs.Prelude.{◌-◌, min, vec_len, vec_capacity};
+    ghost use Rattle.foreign_table.specs.Table.{AreHeld, Table, coded_table, entries_in};
+
+    ghost Value = { Table };
+
+    ghost coded = { coded_table };
+
+    ghost view = { λ s. record { spare = min (vec_capacity s.held) (vec_capacity s.rows) - vec_len s.held; entries = entries_in s.held.items s.rows.items } };
+
+    ghost invariant = { λ s. AreHeld s.held.items s.rows.items };
+}
+
+// The place of a thing that is there.
+fn place_there(held: &[Entry], rows: &[Option<Row>], thing: Thing) -> usize
+    requires own { AreHeld held.now rows.now }
+    requires there { IsSome (m.get (entries_in held.now rows.now) thing) }
+    ensures { IsAt thing_cmp (map key_of held.now) thing result }
+{
+    match place_of(held, thing) {
+        Ok(i) => i,
+        Err(_) => unreachable!(),
+    }
+}
+
+fn row_at(rows: &[Option<Row>], i: usize) -> Option<&Row>
+    requires { i < length rows.now }
+    ensures { slice_get rows.now i ≡ Some (option_copied result) }
+{
+    rows[i].as_ref()
+}
+
+fn write_row(rows: &mut Vec<Option<Row>>, i: usize, row: &Option<Row>)
+    requires { i < vec_len rows.old }
+    ensures items { rows.new.items ≡ slice_set rows.old.items i row.now }
+    ensures len { vec_len rows.new ≡ vec_len rows.old }
+    ensures capacity { vec_capacity rows.new ≡ vec_capacity rows.old }
+{
+    let row = *row;
+    rows[i] = row;
+}
+
+// There is room.
+fn put_entry(held: &mut Vec<Entry>, i: usize, thing: &Thing, by: u64)
+    requires fits { by < 2 ^ 43 }
+    requires room { vec_len held.old < vec_capacity held.old }
+    requires within { i ≤ vec_len held.old }
+    ensures items { held.new.items ≡ insert held.old.items i (record { thing = thing.now; count = by }) }
+    ensures len { vec_len held.new ≡ vec_len held.old + 1 }
+    ensures capacity { vec_capacity held.new ≡ vec_capacity held.old }
+{
+    let count = Held::new(by);
+    let thing = *thing;
+    let _done = held.insert(i, Entry { thing, count }).is_ok();
+}
+
+// There is room.
+fn put_row(rows: &mut Vec<Option<Row>>, i: usize, row: &Option<Row>)
+    requires room { vec_len rows.old < vec_capacity rows.old }
+    requires within { i ≤ vec_len rows.old }
+    ensures items { rows.new.items ≡ insert rows.old.items i row.now }
+    ensures len { vec_len rows.new ≡ vec_len rows.old + 1 }
+    ensures capacity { vec_capacity rows.new ≡ vec_capacity rows.old }
+{
+    let _done = rows.insert(i, *row).is_ok();
+}
+
+fn actors_of(alloc: Global, held: &[Entry]) -> Result<Vec<(ActorName, u64)>, NoMemory>
+    ensures { IfOk result (λ found. found.items ≡ actors_among held.now) }
+{
+    let mut found = Vec::new(alloc);
+    for entry in held {
+        if let Thing::Actor(a) = entry.thing {
+            found.push((a, entry.count.get()))?;
+        }
+    }
+    Ok(found)
+}
+
+impl ForeignTable {
+    /// Nothing is held. It takes no memory.
+    pub fn new(alloc: Global) -> ForeignTable
+        ensures { result ≡ record { spare = 0; entries = m.empty } }
+    {
+        ForeignTable {
+            held: Vec::new(alloc),
+            rows: Vec::new(alloc),
+        }
+    }
+
+    /// Raises the room for new entries to at least this.
+    ///
+    /// # Errors
+    /// `NoMemory` where memory was refused.
+    pub fn reserve(&mut self, n: usize) -> Result<(), NoMemory>
+        ensures room { OnOk result (n ≤ self.new.spare) }
+        ensures more { self.old.spare ≤ self.new.spare }
+        ensures same { self.new ≡ record self.old { spare = self.new.spare } }
+    {
+        self.held.reserve(n)?;
+        self.rows.reserve(n)?;
+        Ok(())
+    }
+
+    /// The count on a thing rises, from 0 where nothing was held, and its row is this one. It takes
+    /// no memory.
+    pub fn gain(&mut self, thing: Thing, row: &Option<Row>, by: u64)
+        requires room { m.get self.old.entries thing ≡ None → 0 < self.old.spare }
+        requires fits { count_on self.old thing + by < 2 ^ 43 }
+        ensures { self.new ≡ entered (λ count. count + by) thing row.now self.old }
+    {
+        let place = place_of(self.held.as_slice(), thing);
+        match place {
+            Ok(i) => {
+                self.held[i].count.gain(by);
+                write_row(&mut self.rows, i, row);
+            }
+            Err(i) => {
+                put_row(&mut self.rows, i, row);
+                put_entry(&mut self.held, i, &thing, by);
+            }
+        }
+    }
+
+    /// The count that is held on a thing, 0 where there is none.
+    pub fn count(&self, thing: Thing) -> u64
+        ensures count { result ≡ count_on self.now thing }
+        ensures bound { result < 2 ^ 43 }
+    {
+        match place_of(self.held.as_slice(), thing) {
+            Ok(i) => self.held[i].count.get(),
+            Err(_) => 0,
+        }
+    }
+
+    /// The count on a thing falls by 1: a letter that loads it is sent.
+    pub fn spend(&mut self, thing: Thing)
+        requires there { IsSome (m.get self.old.entries thing) }
+        requires enough { 0 < count_on self.old thing }
+        ensures { self.new ≡ counted (λ count. count - 1) thing self.old }
+    {
+        let i = place_there(self.held.as_slice(), self.rows.as_slice(), thing);
+        self.held[i].count.spend();
+    }
+
+    /// The count on a thing rises: more of it is made, of which an increment tells its owner.
+    pub fn mint(&mut self, thing: Thing, by: u64)
+        requires there { IsSome (m.get self.old.entries thing) }
+        requires fits { count_on self.old thing + by < 2 ^ 43 }
+        ensures { self.new ≡ counted (λ count. count + by) thing self.old }
+    {
+        let i = place_there(self.held.as_slice(), self.rows.as_slice(), thing);
+        self.held[i].count.mint(by);
+    }
+
+    /// Takes an entry out, and tells its count.
+    pub fn take_out(&mut self, thing: Thing) -> u64
+        requires there { IsSome (m.get self.old.entries thing) }
+        ensures count { result ≡ count_on self.old thing }
+        ensures gone { self.new ≡ without thing self.old }
+    {
+        let i = place_there(self.held.as_slice(), self.rows.as_slice(), thing);
+        let count = self.held[i].count.give_back();
+        self.held.remove(i);
+        self.rows.remove(i);
+        count
+    }
+
+    /// Takes these entries out, whose owners and things rise, in one pass.
+    pub fn give_back(&mut self, back: &[(ActorName, Amounts)])
+        requires { BackRises back.now }
+        ensures { self.new ≡ given_up back.now self.old }
+    {
+        keep_others(&mut self.held, &mut self.rows, back);
+    }
+
+    /// The row that is known of an object.
+    pub fn row(&self, n: ObjName) -> Option<&Row>
+        ensures { option_copied result ≡ known_row self.now n }
+    {
+        match place_of(self.held.as_slice(), Thing::Obj(n)) {
+            Ok(i) => row_at(self.rows.as_slice(), i),
+            Err(_) => None,
+        }
+    }
+
+    /// How many things are held.
+    pub fn len(&self) -> u64
+        ensures { result ≡ m.len self.now.entries }
+    {
+        self.held.len() as u64
+    }
+
+    /// An entry by its place in the order of things: the thing, its count and its row.
+    pub fn at(&self, i: u64) -> (Thing, u64, Option<&Row>)
+        requires { i < m.len self.now.entries }
+        ensures entry { slice_get (m.entries self.now.entries) i ≡ Some (result.0, (result.1, option_copied result.2)) }
+        ensures bound { result.1 < 2 ^ 43 }
+    {
+        let entry = self.held[i as usize];
+        (
+            entry.thing,
+            entry.count.get(),
+            row_at(self.rows.as_slice(), i as usize),
+        )
+    }
+
+    /// The counts that are held on actors, in their order.
+    ///
+    /// # Errors
+    /// `NoMemory` where memory was refused.
+    pub fn held_actors(&self, alloc: Global) -> Result<Vec<(ActorName, u64)>, NoMemory>
+        ensures { IfOk result (λ found. found.items ≡ on_actors (m.entries self.now.entries)) }
+    {
+        actors_of(alloc, self.held.as_slice())
+    }
+}

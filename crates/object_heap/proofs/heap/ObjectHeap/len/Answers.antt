@@ -1,0 +1,10 @@
+use Rattle.std.proofs.Common.{ap, arith}
+use Rattle.std.specs.FinMap as m
+use Rattle.object_heap.proofs.Entries.{len_here}
+use Rattle.object_heap.proofs.heap.ObjectHeap.len.Goals as goal
+
+pub returns : goal.returns
+returns c =
+    let e = len_here c.self.inside.next c.self.inside.entries.items c.self.inside.rows.items c.self.invariant in
+    let f = ap (λ h. m.len h.rows) c.self.view_is in
+    omega (arith, c.self.inside.entries.ok.0)

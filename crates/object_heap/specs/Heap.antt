@@ -1,0 +1,53 @@
+-- The heap of an actor.
+use Rattle.std.specs.Prelude.{ℕ, ◌≡◌, ◌+◌, ◌-◌, ◌==◌, ◌≤◌, if◌then◌else◌, List, Option, None, T, refl, length, map, IsSome, option_map}
+use Rattle.std.specs.Ordering.{nat_cmp}
+use Rattle.std.specs.FinMap as m
+use Rattle.std.specs.FinMap.Entries.{is_sorted}
+use Rattle.std.specs.List.{zip}
+use Rattle.std.specs.Coded.{Coded, code_by, coded×, coded_ℕ}
+use Rattle.orca_names.specs.Codes.{coded_row}
+use Rattle.orca_names.specs.declared.names.ObjName.{ObjName}
+use Rattle.letter_kinds.specs.Counting.{with_row_count}
+use Rattle.letter_kinds.specs.Holdings.{OwnRows, Row, add_rows}
+use Rattle.object_heap.specs.declared.search.Own.{Own}
+use Rattle.object_heap.specs.Entry.{pair_of}
+
+-- whose it is, the serial of the next object, the room for new ones, and the objects
+pub record Heap : Type 0 where
+  pub owner : ℕ
+  pub next : ℕ
+  pub spare : ℕ
+  pub rows : OwnRows
+
+abbrev pub coded_heap : Coded Heap
+coded_heap = code_by (ℕ × (ℕ × (ℕ × OwnRows))) (coded× coded_ℕ (coded× coded_ℕ (coded× coded_ℕ (m.code coded_ℕ (coded× coded_row coded_ℕ)))))
+    (λ h. (h.owner, (h.next, (h.spare, h.rows)))) (λ p. record { owner = p.0; next = p.1.0; spare = p.1.1.0; rows = p.1.1.1 }) (λ _. refl)
+
+abbrev pub rows_in : List Own → List Row → OwnRows
+rows_in own rows = m.from_sorted (map pair_of (zip own rows))
+
+-- each has its row, serials rise, and none is the next or a later one
+pub record AreOwn (next : ℕ) (own : List Own) (rows : List Row) : Type 0 where
+  pub long : length rows ≡ length own
+  pub sorted : T (is_sorted nat_cmp (map pair_of (zip own rows)))
+  pub below : (k : ℕ) → next ≤ k → m.get (rows_in own rows) k ≡ None
+
+-- an object of this actor that is there
+pub record Has (h : Heap) (n : ObjName) : Type 0 where
+  pub owner : n.owner ≡ h.owner
+  pub there : IsSome (m.get h.rows n.serial)
+
+-- its count changed
+abbrev pub counted : (ℕ → ℕ) → ObjName → Heap → Heap
+counted change n h = record h { rows = with_row_count h.rows n.serial change (m.get h.rows n.serial) }
+
+-- objects more, each with count 0
+abbrev pub with_new : List Row → Heap → Heap
+with_new made h = record h { next = h.next + length made; spare = h.spare - length made; rows = add_rows h.next made h.rows }
+
+abbrev pub without : ObjName → Heap → Heap
+without n h = record h { spare = h.spare + 1; rows = m.remove h.rows n.serial }
+
+-- the row of an object of this actor
+abbrev pub own_row : Heap → ObjName → Option Row
+own_row h n = if n.owner == h.owner then option_map (λ e. e.0) (m.get h.rows n.serial) else None

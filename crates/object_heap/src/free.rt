@@ -1,0 +1,126 @@
+// Many objects freed in one pass.
+
+ghost use Rattle.std.specs.Prelude.{◌≡◌, ◌==◌, true, false, ◌+◌, ◌-◌, ◌<◌, ◌≤◌, List, length, slice_index_or, vec_len, vec_capacity, IsTrue};
+ghost use Rattle.std.specs.List.{filter, list_any, zip};
+ghost use Rattle.std.proofs.lemmas.List.Filters.{FiltersInPlace};
+ghost use Rattle.orca_names.specs.declared.names.ObjName.{ObjName as object_name};
+ghost use Rattle.object_heap.specs.Entry.{Item};
+ghost use Rattle.object_heap.specs.Free.{stays, SerialsRise};
+
+use crate::search::Own;
+use orca_names::{ObjName, Row};
+
+// Whether the one at this place has the serial.
+fn is_at(gone: &[ObjName], place: usize, serial: u64) -> bool
+    ensures { IsTrue result → false ≡ stays gone.now serial }
+{
+    if place >= gone.len() {
+        return false;
+    }
+    let name = &gone[place];
+    name.serial.get() == serial
+}
+
+// Whether the one before this place has a lower serial.
+fn is_past(gone: &[ObjName], place: usize, serial: u64) -> bool
+    requires { place ≤ length gone.now }
+    ensures { IsTrue result → 0 < place → (d : object_name) → (slice_index_or gone.now (place - 1) d).serial < serial }
+{
+    if place == 0 {
+        return true;
+    }
+    gone[place - 1].serial.get() < serial
+}
+
+// Whether the one at this place has a higher serial.
+fn is_ahead(gone: &[ObjName], place: usize, serial: u64) -> bool
+    ensures { IsTrue result → place < length gone.now → (d : object_name) → serial < (slice_index_or gone.now place d).serial }
+{
+    if place >= gone.len() {
+        return true;
+    }
+    serial < gone[place].serial.get()
+}
+
+// Whether the serial stands between two neighbours, so that it is none of them.
+fn is_between(gone: &[ObjName], place: usize, serial: u64) -> bool
+    requires { SerialsRise gone.now }
+    ensures { IsTrue result → true ≡ stays gone.now serial }
+{
+    if place > gone.len() {
+        return false;
+    }
+    if !is_past(gone, place, serial) {
+        return false;
+    }
+    is_ahead(gone, place, serial)
+}
+
+fn is_any_of(gone: &[ObjName], serial: u64) -> bool
+    ensures { result ≡ list_any (λ n. n.serial == serial) gone.now }
+{
+    gone.iter().any(|n| n.serial.get() == serial)
+}
+
+// Whether the serial is not among those that go. The place is a guess: how many of these are below
+// it. Where it is off, all are looked at.
+fn is_kept(gone: &[ObjName], near: usize, serial: u64) -> bool
+    requires { SerialsRise gone.now }
+    ensures { result ≡ stays gone.now serial }
+{
+    if is_at(gone, near, serial) {
+        return false;
+    }
+    if is_between(gone, near, serial) {
+        return true;
+    }
+    !is_any_of(gone, serial)
+}
+
+// The object at place i goes to place kept, if it stays. Before it went i - kept others.
+fn keep_one(
+    entries: &mut Vec<Own>,
+    rows: &mut Vec<Row>,
+    gone: &[ObjName],
+    kept: usize,
+    i: usize,
+) -> usize
+    requires rising { SerialsRise gone.now }
+    requires within { i < vec_len entries.old }
+    requires long { vec_len rows.old ≡ vec_len entries.old }
+    requires behind { kept ≤ i }
+    ensures filters { (xs : List Item) → FiltersInPlace (λ e. stays gone.now e.0.serial) xs (zip entries.old.items rows.old.items) kept i → FiltersInPlace (λ e. stays gone.now e.0.serial) xs (zip entries.new.items rows.new.items) result (i + 1) }
+    ensures behind { result ≤ i + 1 }
+    ensures len { (vec_len entries.new ≡ vec_len entries.old) × (vec_len rows.new ≡ vec_len rows.old) }
+    ensures capacity { (vec_capacity entries.new ≡ vec_capacity entries.old) × (vec_capacity rows.new ≡ vec_capacity rows.old) }
+{
+    let own = entries[i];
+    if !is_kept(gone, i - kept, own.serial) {
+        return kept;
+    }
+    if kept == i {
+        return kept + 1;
+    }
+    let row = rows[i];
+    entries[kept] = own;
+    rows[kept] = row;
+    kept + 1
+}
+
+/// Only the objects whose serials stay.
+pub(crate) fn keep_others(entries: &mut Vec<Own>, rows: &mut Vec<Row>, gone: &[ObjName])
+    requires rising { SerialsRise gone.now }
+    requires long { vec_len rows.old ≡ vec_len entries.old }
+    ensures items { zip entries.new.items rows.new.items ≡ filter (λ e. stays gone.now e.0.serial) (zip entries.old.items rows.old.items) }
+    ensures long { vec_len rows.new ≡ vec_len entries.new }
+    ensures shorter { vec_len entries.new ≤ vec_len entries.old }
+    ensures capacity { (vec_capacity entries.new ≡ vec_capacity entries.old) × (vec_capacity rows.new ≡ vec_capacity rows.old) }
+{
+    let mut kept = 0;
+    let count = entries.len();
+    for i in 0..count {
+        kept = keep_one(entries, rows, gone, kept, i);
+    }
+    entries.truncate(kept);
+    rows.truncate(kept);
+}

@@ -1,0 +1,237 @@
+// The heap.
+
+ghost use Rattle.std.specs.Prelude.{◌≡◌, ◌+◌, ◌-◌, ◌^◌, ◌<◌, ◌≤◌, Some, [], ◌∷◌, length, map, slice_get, vec_len, vec_capacity, OnOk, IsSome, IsTrue};
+ghost use Rattle.std.specs.Option.{option_copied};
+ghost use Rattle.std.specs.Ordering.{nat_cmp};
+ghost use Rattle.std.specs.FinMap as m;
+ghost use Rattle.plain_list.specs.Rising.{IsAt};
+ghost use Rattle.letter_kinds.specs.Holdings.{row_count};
+ghost use Rattle.object_heap.specs.Entry.{key_of};
+ghost use Rattle.object_heap.specs.Free.{SerialsRise, freed};
+ghost use Rattle.object_heap.specs.Heap.{AreOwn, Has, Heap, counted, own_row, rows_in, with_new, without};
+
+use crate::free::keep_others;
+use crate::search::{Own, place_of};
+use orca_names::{ActorName, NoMemory, ObjName, Row, Serial};
+use ref_weights::OwnCount;
+use std::alloc::Global;
+use std::marker::Model;
+
+/// The objects of an actor, each with its row and its count, the serial of the next one, and the
+/// room for new ones. Counts stand apart from rows, which never change.
+#[derive(Drop)]
+pub struct ObjectHeap {
+    owner: ActorName,
+    next: u64,
+    entries: Vec<Own>,
+    rows: Vec<Row>,
+}
+
+impl Model for ObjectHeap {
+    ghost use Rattle.std.specs.Prelude.{◌-◌, min, vec_len, vec_capacity};
+    ghost use Rattle.object_heap.specs.Heap.{Heap, AreOwn, coded_heap, rows_in};
+
+    ghost Value = { Heap };
+
+    ghost coded = { coded_heap };
+
+    ghost view = { λ s. record { owner = s.owner; next = s.next; spare = min (vec_capacity s.entries) (vec_capacity s.rows) - vec_len s.entries; rows = rows_in s.entries.items s.rows.items } };
+
+    ghost invariant = { λ s. AreOwn s.next s.entries.items s.rows.items };
+}
+
+// The place of an object that is there.
+fn place_there(next: u64, entries: &[Own], rows: &[Row], serial: Serial) -> usize
+    requires own { AreOwn next entries.now rows.now }
+    requires there { IsSome (m.get (rows_in entries.now rows.now) serial) }
+    ensures { IsAt nat_cmp (map key_of entries.now) serial result }
+{
+    match place_of(entries, serial) {
+        Ok(i) => i,
+        Err(_) => unreachable!(),
+    }
+}
+
+fn row_at(rows: &[Row], i: usize) -> Option<&Row>
+    ensures { option_copied result ≡ slice_get rows.now i }
+{
+    rows.get(i)
+}
+
+impl ObjectHeap {
+    /// No object yet. It takes no memory.
+    pub fn new(alloc: Global, owner: ActorName) -> ObjectHeap
+        ensures { result ≡ record { owner = owner; next = 0; spare = 0; rows = m.empty } }
+    {
+        ObjectHeap {
+            owner,
+            next: 0,
+            entries: Vec::new(alloc),
+            rows: Vec::new(alloc),
+        }
+    }
+
+    /// The actor whose objects these are.
+    pub fn owner(&self) -> ActorName
+        ensures { result ≡ self.now.owner }
+    {
+        self.owner
+    }
+
+    /// How many objects it ever made, which is the next serial.
+    pub fn made(&self) -> u64
+        ensures { result ≡ self.now.next }
+    {
+        self.next
+    }
+
+    /// Raises the room for new objects to at least this.
+    ///
+    /// # Errors
+    /// `NoMemory` where memory was refused.
+    pub fn reserve(&mut self, n: usize) -> Result<(), NoMemory>
+        ensures room { OnOk result (n ≤ self.new.spare) }
+        ensures more { self.old.spare ≤ self.new.spare }
+        ensures same { self.new ≡ record self.old { spare = self.new.spare } }
+    {
+        self.entries.reserve(n)?;
+        self.rows.reserve(n)?;
+        Ok(())
+    }
+
+    /// A new object, with count 0. It takes no memory.
+    pub fn make(&mut self, row: Row) -> ObjName
+        requires room { 0 < self.old.spare }
+        requires fits { self.old.next + 1 < 2 ^ 64 }
+        ensures name { result ≡ record { owner = self.old.owner; serial = self.old.next } }
+        ensures made { self.new ≡ with_new (row ∷ []) self.old }
+    {
+        let serial = self.next;
+        self.entries.push_reserved(Own {
+            serial,
+            count: OwnCount::new(),
+        });
+        self.rows.push_reserved(row);
+        self.next += 1;
+        ObjName {
+            owner: self.owner,
+            serial: Serial::of(serial),
+        }
+    }
+
+    /// The row of an object; `None` exactly where it is not there.
+    pub fn row(&self, n: ObjName) -> Option<&Row>
+        ensures { option_copied result ≡ own_row self.now n }
+    {
+        if n.owner != self.owner {
+            return None;
+        }
+        match place_of(self.entries.as_slice(), n.serial) {
+            Ok(i) => row_at(self.rows.as_slice(), i),
+            Err(_) => None,
+        }
+    }
+
+    /// Whether an object is there.
+    pub fn has(&self, n: ObjName) -> bool
+        ensures { IsTrue result → Has self.now n }
+    {
+        if n.owner != self.owner {
+            return false;
+        }
+        match place_of(self.entries.as_slice(), n.serial) {
+            Ok(_) => true,
+            Err(_) => false,
+        }
+    }
+
+    /// The count of an object that is there.
+    pub fn count(&self, n: ObjName) -> u64
+        requires { Has self.now n }
+        ensures count { result ≡ row_count (m.get self.now.rows n.serial) }
+        ensures bound { result < 2 ^ 43 }
+    {
+        let i = place_there(
+            self.next,
+            self.entries.as_slice(),
+            self.rows.as_slice(),
+            n.serial,
+        );
+        self.entries[i].count.get()
+    }
+
+    /// The count of an object rises.
+    pub fn raise(&mut self, n: ObjName, by: u64)
+        requires there { Has self.old n }
+        requires fits { row_count (m.get self.old.rows n.serial) + by < 2 ^ 43 }
+        ensures { self.new ≡ counted (λ count. count + by) n self.old }
+    {
+        let i = place_there(
+            self.next,
+            self.entries.as_slice(),
+            self.rows.as_slice(),
+            n.serial,
+        );
+        self.entries[i].count.raise(by);
+    }
+
+    /// The count of an object falls.
+    pub fn lower(&mut self, n: ObjName, by: u64)
+        requires there { Has self.old n }
+        requires enough { by ≤ row_count (m.get self.old.rows n.serial) }
+        ensures { self.new ≡ counted (λ count. count - by) n self.old }
+    {
+        let i = place_there(
+            self.next,
+            self.entries.as_slice(),
+            self.rows.as_slice(),
+            n.serial,
+        );
+        self.entries[i].count.lower(by);
+    }
+
+    /// Frees one object.
+    pub fn remove(&mut self, n: ObjName)
+        requires there { Has self.old n }
+        ensures { self.new ≡ without n self.old }
+    {
+        let i = place_there(
+            self.next,
+            self.entries.as_slice(),
+            self.rows.as_slice(),
+            n.serial,
+        );
+        self.entries.remove(i);
+        self.rows.remove(i);
+    }
+
+    /// Frees these objects, whose serials rise, in one pass.
+    pub fn free(&mut self, gone: &[ObjName])
+        requires { SerialsRise gone.now }
+        ensures { self.new ≡ freed gone.now self.old }
+    {
+        keep_others(&mut self.entries, &mut self.rows, gone);
+    }
+
+    /// How many objects there are.
+    pub fn len(&self) -> u64
+        ensures { result ≡ m.len self.now.rows }
+    {
+        self.entries.len() as u64
+    }
+
+    /// An object by its place in the order of serials: its name, its row and its count.
+    pub fn at(&self, i: u64) -> (ObjName, &Row, u64)
+        requires { i < m.len self.now.rows }
+        ensures owner { result.0.owner ≡ self.now.owner }
+        ensures entry { slice_get (m.entries self.now.rows) i ≡ Some (result.0.serial, (result.1.now, result.2)) }
+        ensures bound { result.2 < 2 ^ 43 }
+    {
+        let own = self.entries[i as usize];
+        let name = ObjName {
+            owner: self.owner,
+            serial: Serial::of(own.serial),
+        };
+        (name, &self.rows[i as usize], own.count.get())
+    }
+}
