@@ -4,6 +4,7 @@ use Rattle.std.specs.FinMap as m
 use Rattle.std.specs.Option.{option_map_or}
 use Rattle.orca_names.specs.Names.{owner_of, thing_cmp}
 use Rattle.behaviour_code.specs.declared.code.Program.{Program}
+use Rattle.turn_rules.specs.Frames.{frame_for}
 use Rattle.letter_kinds.specs.declared.letter.Letter.{Letter}
 use Rattle.letter_kinds.specs.declared.letter.Letter.TheVariants.{App, Inc, Dec, Confirm}
 use Rattle.letter_kinds.specs.declared.note.Note.{Note}
@@ -13,7 +14,6 @@ use Rattle.letter_kinds.specs.Holdings.{Row}
 use Rattle.machine_rules.specs.Actors.{seat}
 use Rattle.machine_rules.specs.Cell.{Cell}
 use Rattle.event_rule.specs.Runs.{Step, NotEnabled, Goes}
-use Rattle.plain_rules.specs.Machine.{frame_of}
 use Rattle.machine_rules.specs.State.{State}
 
 -- the rows of others' objects are kept
@@ -26,7 +26,7 @@ learn me (e ∷ rows) known =
 -- the idle actor after it took the letter; a Confirm changes nothing of it
 abbrev pub cell_after : Program → ℕ → Letter → Cell → Cell
 cell_after program me (App behaviour args load rows) c = record c {
-  frame = frame_of program c.kind (record { behaviour = behaviour; args = args });
+  frame = frame_for program c.kind behaviour args;
   holdings = receive me load c.holdings;
   known = learn me rows c.known;
   dirty = true;

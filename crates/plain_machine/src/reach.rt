@@ -12,6 +12,7 @@ ghost use Rattle.plain_rules.specs.Reach.{is_root, plain_edges, roots_from, valu
 ghost use Rattle.plain_machine.specs.Things.{all_things, edges_are_listed};
 ghost use Rattle.orca_names.specs.declared.limits.TheConstants.{ACTORS_LIMIT};
 
+use crate::first::can_act;
 use crate::table::{AllRows, actor_at};
 use orca_names::{ActorName, NoMemory, Rows, Thing, Value};
 use plain_list::Queue;
@@ -97,7 +98,7 @@ fn push_arguments(letters: &Queue<PlainLetter>, found: &mut Vec<Value>) -> Resul
 fn is_root(actor: &PlainActor) -> bool
     ensures { result ≡ is_root actor.now }
 {
-    actor.fields.pinned || actor.frame.is_some() || !actor.letters.is_empty()
+    actor.fields.pinned || can_act(actor)
 }
 
 /// The actors that are pinned, have a frame or have a letter.

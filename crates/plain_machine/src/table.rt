@@ -160,7 +160,7 @@ impl Table {
             return false;
         }
         let actor = &mut self.actors[place];
-        if take_letter(code.program(), actor) {
+        if take_letter(code, actor) {
             self.ready.put(a.0, can_act(actor));
             true
         } else {

@@ -1,15 +1,16 @@
 -- The plain machine: it frees nothing. What an actor takes and does, and what it prints.
-use Rattle.std.specs.Prelude.{ℕ, ◌+◌, ◌-◌, false, nat_lt, List, [], ◌∷◌, ◌++◌, length, position, replicate, slice_get, slice_set, sum_by, Option, Some, None, option_and_then, option_map, if◌then◌else◌}
+use Rattle.std.specs.Prelude.{ℕ, ◌+◌, false, nat_lt, List, [], ◌∷◌, ◌++◌, length, replicate, slice_get, slice_set, sum_by, Option, Some, None, option_and_then, option_map, if◌then◌else◌}
 use Rattle.std.specs.Option.{option_map_or}
 use Rattle.orca_names.specs.declared.names.ObjName.{ObjName}
 use Rattle.orca_names.specs.declared.names.Value.{Value}
 use Rattle.orca_names.specs.declared.names.Value.TheVariants.{Null, Actor}
 use Rattle.orca_names.specs.declared.row.Fields.{Fields}
 use Rattle.behaviour_code.specs.declared.code.Program.{Program}
-use Rattle.behaviour_code.specs.Find.{behaviours_of, field_count, start_name, takes_call}
+use Rattle.behaviour_code.specs.Find.{field_count, start_name}
 use Rattle.turn_rules.specs.declared.act.Act.{Act}
 use Rattle.turn_rules.specs.declared.act.Act.TheVariants.{Post, New, Print, End}
 use Rattle.turn_rules.specs.declared.act.Frame.{Frame}
+use Rattle.turn_rules.specs.Frames.{frame_for}
 use Rattle.turn_rules.specs.Segment.{Stop, segment_of}
 use Rattle.event_rule.specs.Runs.{Step, NotEnabled, IsFull, Goes}
 use Rattle.plain_rules.specs.declared.PlainActor.{PlainActor}
@@ -67,21 +68,10 @@ start_of program = record {
 
 -- ---- take: an actor without a frame takes its first letter
 
--- the registers with which a behaviour starts: its arguments, and null in all others
-abbrev pub registers_of : List Value → List Value
-registers_of args = args ++ replicate (16 - length args) Null
-
 -- the frame that a letter starts, if the kind has its behaviour with as many parameters as it has
 -- arguments
 abbrev pub frame_of : Program → ℕ → PlainLetter → Option Frame
-frame_of program kind letter =
-    option_map (λ b. record {
-      kind = kind;
-      behaviour = b;
-      place = 0;
-      registers = registers_of letter.args;
-    })
-    (position (takes_call letter.behaviour (length letter.args)) (behaviours_of program kind))
+frame_of program kind letter = frame_for program kind letter.behaviour letter.args
 
 -- the actor after it took the first of its letters; none where it has a frame or no letter
 abbrev pub after_letter : Program → PlainActor → Option Frame → List PlainLetter → Option PlainActor

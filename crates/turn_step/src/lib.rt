@@ -9,6 +9,7 @@ mod effects;
 mod held;
 mod run;
 mod setting;
+mod start;
 mod step;
 mod turn;
 
@@ -17,6 +18,7 @@ pub use answer::{segment, segment_held};
 pub use deed::{Deed, Halt, Stopped};
 pub use run::{segment_at, segment_held_at};
 pub use setting::Setting;
+pub use start::start_frame;
 pub use turn::Turn;
 pub use turn_rules::{Frame, RegisterFile};
 

@@ -25,7 +25,8 @@ use Rattle.orca_names.specs.declared.trace.Trace.{Trace}
 use Rattle.orca_names.specs.declared.trace.Trace.TheVariants.{Deep}
 use Rattle.count_laws.specs.Facts.{IsFirm, IsFirmAt, KeepsCounts, IsSound}
 use Rattle.count_laws.specs.Known.{Names, IsKnown, InFrame, StartsWalks, in_fields, in_frame, in_table, IsClosedAt, RowsAreAt, row_at, IsSoundAt}
-use Rattle.plain_rules.specs.Machine.{frame_of, registers_of}
+use Rattle.plain_rules.specs.Machine.{frame_of}
+use Rattle.turn_rules.specs.Frames.{registers_of}
 use Rattle.machine_rules.specs.Take.{cell_after, learn}
 use Rattle.plain_rules.specs.declared.PlainLetter.{PlainLetter}
 use Rattle.orca_names.proofs.ThingOrder.{is_eq_true, cases_thing, thing_total}
