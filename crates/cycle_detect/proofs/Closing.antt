@@ -1,5 +1,5 @@
 -- What the detector's calls do to its tokens and reports.
-use Rattle.std.proofs.Common.{◌≡◌, ℕ, ◌+◌, ◌<◌, ◌≤◌, ◌==◌, not, true, false, List, [], ◌∷◌, ◌++◌, filter, map, length, get_or, take, refl, ap, sym, subst, ◌∙◌, Option, Some, None, IfSome, ⊎_elim, arith, eq-eqb, eqb-true}
+use Rattle.std.proofs.Common.{◌≡◌, ℕ, ◌+◌, ◌<◌, ◌≤◌, ◌==◌, not, true, false, List, [], ◌∷◌, filter, map, length, get_or, take, refl, ap, sym, subst, ◌∙◌, Option, Some, None, IfSome, ⊎_elim, arith, eq-eqb, eqb-true}
 use Rattle.std.proofs.lemmas.Bool.{cases_Bool, false≢true}
 use Rattle.std.proofs.lemmas.Bool.Decides.{nat_tests}
 use Rattle.std.proofs.lemmas.List.Folds.{list_any_more}
@@ -17,16 +17,6 @@ pub opened-acks : (m a n : ℕ) (ts : List Token) → AllByRecursion (λ t. t.nu
     → AllByRecursion (λ t. t.number ≤ n) (map (note_ack m a) ts)
 opened-acks m a n [] h = tt
 opened-acks m a n (t ∷ ts) h = (h.0, opened-acks m a n ts h.1)
-
-pub opened_below : (n : ℕ) (ts : List Token) → AllByRecursion (λ t. t.number ≤ n) ts
-    → AllByRecursion (λ t. t.number < n + 1) ts
-opened_below n [] h = tt
-opened_below n (t ∷ ts) h = (omega (arith, h.0), opened_below n ts h.1)
-
-pub opened-push : (n : ℕ) (ts : List Token) (t : Token) → t.number ≡ n + 1
-    → AllByRecursion (λ t. t.number ≤ n) ts → AllByRecursion (λ t. t.number ≤ n + 1) (ts ++ t ∷ [])
-opened-push n [] t e h = (omega arith, tt)
-opened-push n (u ∷ us) t e h = (omega (arith, h.0), opened-push n us t e h.1)
 
 -- ---- the first that is acknowledged
 

@@ -193,21 +193,6 @@ check_size out out' work work' k count sum lt one two = ⊎_elim
     (cases_lt sum count))
     (cases_Bool (get_or out k false))
 
--- the sums may change where nobody is covered less
-pub same_sums : (rs : List Report) (limit : ℕ) (off out : List Bool) (told sums : List ℕ) (work : List ℕ)
-    → AreFalling rs limit off out told work → length sums ≡ length told
-    → ((k : ℕ) → k < length rs → get_or sums k 0 ≡ get_or told k 0)
-    → AreFalling rs limit off out sums work
-same_sums rs limit off out told sums work h long same = record {
-  long_sums = long ∙ h.long_sums;
-  long_out = h.long_out;
-  loses = h.loses;
-  covered = λ k in_range lt on. let le = h.covered k in_range lt on in let eq = same k lt in omega arith;
-  within = h.within;
-  pending = h.pending;
-  places = h.places;
-}
-
 -- ---- an entry of one that fell is taken off
 
 by_names : (rs : List Report) (e : ℕ × ℕ) (t k v : ℕ) (off out out' : List Bool) (told work work' : List ℕ) (count : ℕ)
@@ -248,16 +233,6 @@ places_front : (n : ℕ) (out : List Bool) (ws : List ℕ) (i : ℕ)
     → AllByRecursion (λ j. (j < n) × (get_or out j false ≡ true)) ws × (get_or out i false ≡ true)
 places_front n out [] i h = (tt, h.0.1)
 places_front n out (w ∷ ws) i h = let (a, b) = places_front n out ws i h.1 in ((h.0, a), b)
-
-pub places_last : (rs : List Report) (limit : ℕ) (off out : List Bool) (told ws : List ℕ) (i : ℕ)
-    → AreFalling rs limit off out told (ws ++ i ∷ []) → i < length rs
-places_last rs limit off out told ws i h = go ws h.places
-  where
-    go : (us : List ℕ)
-        → AllByRecursion (λ j. (j < length rs) × (get_or out j false ≡ true)) (us ++ i ∷ [])
-        → i < length rs
-    go [] p = p.0.0
-    go (u ∷ us) p = go us p.1
 
 pub popped_again : (rs : List Report) (limit : ℕ) (off out : List Bool) (told ws : List ℕ) (i : ℕ)
     → AreFalling rs limit off out told (ws ++ i ∷ []) → get_or off i false ≡ true

@@ -1,12 +1,12 @@
 -- What each change of the open tokens does to their index.
-use Rattle.std.proofs.Common.{◌≡◌, ◌≢◌, ℕ, zero, suc, ◌<◌, ◌==◌, not, Bool, true, false, cond, ⊎_elim, List, [], ◌∷◌, ◌++◌, filter, map, length, get_or, set, refl, ap, sym, subst, ◌∙◌, Option, Some, None, slice_get, arith, eqb, eq-eqb}
+use Rattle.std.proofs.Common.{◌≡◌, ◌≢◌, ℕ, zero, suc, ◌<◌, ◌==◌, not, Bool, true, false, List, [], ◌∷◌, ◌++◌, filter, map, length, get_or, set, refl, ap, sym, subst, ◌∙◌, Option, Some, None, slice_get, arith, eqb, eq-eqb}
 use Rattle.std.specs.Option.{option_eq}
-use Rattle.std.proofs.lemmas.Bool.{cases_Bool, false≢true}
+use Rattle.std.proofs.lemmas.Bool.{false≢true}
 use Rattle.std.specs.List.{AllByRecursion, find, remove}
 use Rattle.letter_kinds.specs.Detector.{Token, has, in_token, note_ack, all_acked}
 use Rattle.cycle_detect.specs.Open.{first_acked, AreIndexed, HasMemberAt, IsNumberedAt, IsTold, first_with, lower_of, numbers}
 use Rattle.cycle_detect.specs.Rising.{Rising}
-use Rattle.cycle_detect.proofs.OpenLemmas.{acks_at, cancel-one, first-filter, first-pending, first-push, first-ready, numbered-filter, numbered-push, numbers-acks, remove-numbered, told-acks, told-push, told-wider, each-filter}
+use Rattle.cycle_detect.proofs.OpenLemmas.{acks_at, cancel-one, first-filter, first-pending, first-push, first-ready, numbered-filter, numbered-push, numbers-acks, remove-numbered, told-acks, told-push, each-filter, none_first}
 
 -- the token at the place, after the acknowledgement
 noted : (ts : List Token) (n a i : ℕ) (t u : Token) → IsNumberedAt ts n i → t ≡ get_or ts i t
@@ -97,16 +97,6 @@ pushed_index ts told later ready t k below apart new same =
       first = ap (λ o. first_with o t) k.first ∙ sym (first-push ts t);
     }
 
--- there is room to tell more
-pub wider_index : (ts : List Token) (told later : ℕ → Option ℕ) (ready : Option ℕ)
-    → AreIndexed ts told ready → ((a n : ℕ) → told a ≡ Some n → later a ≡ Some n)
-    → AreIndexed ts later ready
-wider_index ts told later ready k kept = record {
-  numbered = k.numbered;
-  members = told-wider told later ts kept k.members;
-  first = k.first;
-}
-
 pub other_ready : (ready : Option ℕ) (n : ℕ) → option_eq eqb ready (Some n) ≡ false → ready ≢ Some n
 other_ready ready n off e = false≢true (sym off ∙ (ap (λ o. option_eq eqb o (Some n)) e ∙ eq-eqb n n refl))
 
@@ -119,16 +109,6 @@ place_gives (x ∷ xs) (suc i) t lt e = place_gives xs i t (omega arith) e
 pub none_numbered : (ts : List Token) (n : ℕ) → find (λ t. t.number == n) ts ≡ None
     → filter (λ t. not (t.number == n)) ts ≡ ts
 none_numbered [] n h = refl
-none_numbered (t ∷ ts) n h = ⊎_elim
-    (λ (on : (t.number == n) ≡ true). absurd (some_none t (find (λ u. u.number == n) ts) (t.number == n) on h))
-    (λ (off : (t.number == n) ≡ false). rw off (ap (λ us. t ∷ us) (none_numbered ts n (rw off at h))))
-    (cases_Bool (t.number == n))
-  where
-    some_none : (t : Token) (o : Option Token) (b : Bool) → b ≡ true → (cond b (Some t) o) ≡ None → ⊥
-    some_none t o true e h = cc
-    some_none t o false e h = cc
-
--- the token that was taken by its number
-pub number_taken : (ts : List Token) (n i : ℕ) (t : Token) → IsNumberedAt ts n i
-    → slice_get ts i ≡ Some t → (t.number ≡ n) × (Some t ≡ find (λ (u : Token). u.number == n) ts)
-number_taken ts n i t at got = (ap (λ (x : Token). x.number) (sym (at_place ts i t t got)) ∙ at.same t, sym got ∙ at.found)
+none_numbered (t ∷ ts) n h =
+    let (off, none) = none_first t ts n h in
+    rw off (ap (λ us. t ∷ us) (none_numbered ts n none))

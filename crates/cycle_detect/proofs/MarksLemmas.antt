@@ -6,10 +6,6 @@ use Rattle.letter_kinds.specs.Detector.{has}
 use Rattle.cycle_detect.specs.Marks.{picked, off_count, mark_of}
 use Rattle.cycle_detect.specs.Rising.{AllAbove, Rising}
 
-above_less : (a b : ℕ) (xs : List ℕ) → a ≤ b → AllAbove b xs → AllAbove a xs
-above_less a b [] le h = tt
-above_less a b (x ∷ xs) le h = (omega (arith, h.0), above_less a b xs le h.1)
-
 -- who is below all of them is not among them
 pub has-above : (a b : ℕ) (xs : List ℕ) → a ≤ b → AllAbove b xs → has xs a ≡ false
 has-above a b [] le h = refl

@@ -119,20 +119,24 @@ acks_above : (n a : ℕ) (ts : List Token) → AllAbove n (numbers ts) → map (
 acks_above n a [] h = refl
 acks_above n a (t ∷ ts) h = let same = other_ack n a t (λ e. let lt = h.0 in omega arith) in cc (acks_above n a ts h.1)
 
+-- where no token has the number, the first has another, and so have the rest
+pub none_first : (t : Token) (ts : List Token) (n : ℕ) → find (λ (u : Token). u.number == n) (t ∷ ts) ≡ None
+    → ((t.number == n) ≡ false) × (find (λ (u : Token). u.number == n) ts ≡ None)
+none_first t ts n h = by_head (t.number == n) h
+  where
+    by_head : (b : Bool) → cond b (Some t) (find (λ (u : Token). u.number == n) ts) ≡ None
+        → (b ≡ false) × (find (λ (u : Token). u.number == n) ts ≡ None)
+    by_head true e = absurd (cc)
+    by_head false e = (refl, e)
+
 pub acks_none : (n a : ℕ) (ts : List Token) → find (λ t. t.number == n) ts ≡ None
     → map (note_ack n a) ts ≡ ts
 acks_none n a [] h = refl
-acks_none n a (t ∷ ts) h = ⊎_elim
-    (λ (on : (t.number == n) ≡ true). absurd (some_none t (find (λ u. u.number == n) ts) (t.number == n) on h))
-    (λ (off : (t.number == n) ≡ false).
-    let rest = acks_none n a ts (rw off at h) in
+acks_none n a (t ∷ ts) h =
+    let (off, none) = none_first t ts n h in
+    let rest = acks_none n a ts none in
     let same = other_ack n a t (λ e. false≢true (sym off ∙ eq-eqb t.number n e)) in
-    cc (rest, same))
-    (cases_Bool (t.number == n))
-  where
-    some_none : (t : Token) (o : Option Token) (b : Bool) → b ≡ true → (cond b (Some t) o) ≡ None → ⊥
-    some_none t o true e h = cc
-    some_none t o false e h = cc
+    cc (rest, same)
 
 pub acks_at : (n a : ℕ) (ts : List Token) (i : ℕ) (d : Token) → Rising (numbers ts) → i < length ts
     → (get_or ts i d).number ≡ n → map (note_ack n a) ts ≡ set ts i (note_ack n a (get_or ts i d))
@@ -245,17 +249,13 @@ in-untold told a (t ∷ ts) e h = ⊎_elim
 pub in-closed : (told : ℕ → Option ℕ) (n a : ℕ) (ts : List Token) → told a ≡ Some n
     → find (λ t. t.number == n) ts ≡ None → AllByRecursion (IsTold told) ts → in_token ts a ≡ false
 in-closed told n a [] e f h = refl
-in-closed told n a (t ∷ ts) e f h = ⊎_elim
-    (λ (on : (t.number == n) ≡ true). absurd (some_none t (find (λ u. u.number == n) ts) (t.number == n) on f))
-    (λ (other : (t.number == n) ≡ false). ⊎_elim
-    (λ (on : has t.members a ≡ true). absurd (let same : Some n ≡ Some t.number = sym e ∙ h.0 a on in let eq : n ≡ t.number = cc in false≢true (sym other ∙ eq-eqb t.number n (sym eq))))
-    (λ (off : has t.members a ≡ false). rw off (in-closed told n a ts e (rw other at f) h.1))
-    (cases_Bool (has t.members a)))
-    (cases_Bool (t.number == n))
-  where
-    some_none : (t : Token) (o : Option Token) (b : Bool) → b ≡ true → (cond b (Some t) o) ≡ None → ⊥
-    some_none t o true e h = cc
-    some_none t o false e h = cc
+in-closed told n a (t ∷ ts) e f h =
+    let (other, none) = none_first t ts n f in
+    ⊎_elim
+    (λ (on : has t.members a ≡ true). absurd (let same : Some n ≡ Some t.number = sym e ∙ h.0 a on in let eq : n ≡ t.number = cc in
+    false≢true (sym other ∙ eq-eqb t.number n (sym eq))))
+    (λ (off : has t.members a ≡ false). rw off (in-closed told n a ts e none h.1))
+    (cases_Bool (has t.members a))
 
 pub told_number : (told : ℕ → Option ℕ) (a : ℕ) (ts : List Token) (i : ℕ) (d : Token)
     → AllByRecursion (IsTold told) ts → i < length ts → has (get_or ts i d).members a ≡ true
@@ -312,13 +312,6 @@ pub each-filter : (P : Token → Type 0) (p : Token → Bool) (ts : List Token) 
 each-filter P p [] h = tt
 each-filter P p (t ∷ ts) h = cond_both (p t) (t ∷ filter p ts) (filter p ts) (AllByRecursion P)
     (λ _. (h.0, each-filter P p ts h.1)) (λ _. each-filter P p ts h.1)
-
--- what is told once there is room for more
-pub told-wider : (told later : ℕ → Option ℕ) (ts : List Token)
-    → ((a n : ℕ) → told a ≡ Some n → later a ≡ Some n) → AllByRecursion (IsTold told) ts
-    → AllByRecursion (IsTold later) ts
-told-wider told later [] kept h = tt
-told-wider told later (t ∷ ts) kept h = (λ m i. kept m t.number (h.0 m i), told-wider told later ts kept h.1)
 
 -- what is told of the members of a further token
 pub told-push : (told later : ℕ → Option ℕ) (t : Token) (ts : List Token)

@@ -76,10 +76,6 @@ pub actors-filter : (p : ℕ → Bool) (rs : List Report)
 actors-filter p [] = refl
 actors-filter p (r ∷ rs) = grind (arith, actors-filter p rs)
 
-pub mark_of_place : (ns : List ℕ) (bs : List Bool) (k a : ℕ) → Rising ns → k < length ns
-    → a ≡ get_or ns k 0 → mark_of ns bs a ≡ get_or bs k false
-mark_of_place ns bs k a up lt e = ap (mark_of ns bs) e ∙ mark_at ns bs k up lt
-
 unmarked_here : (ns : List ℕ) (bs : List Bool) (k : ℕ) → Rising ns → k < length ns
     → not (mark_of ns bs (get_or ns k 0)) ≡ not (get_or bs k false)
 unmarked_here ns bs k up lt = ap not (mark_at ns bs k up lt)
