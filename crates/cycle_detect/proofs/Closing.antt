@@ -1,6 +1,6 @@
 -- What the detector's calls do to its tokens and reports.
-use Rattle.std.proofs.Common.{◌≡◌, ℕ, ◌+◌, ◌<◌, ◌≤◌, ◌==◌, not, Bool, true, false, List, [], ◌∷◌, ◌++◌, filter, map, length, get_or, take, refl, ap, sym, subst, ◌∙◌, Option, Some, None, IfSome, ⊎_elim, arith, eq-eqb, eqb-true}
-use Rattle.std.proofs.lemmas.Bool.{cases_Bool, cond_both, false≢true}
+use Rattle.std.proofs.Common.{◌≡◌, ℕ, ◌+◌, ◌<◌, ◌≤◌, ◌==◌, not, true, false, List, [], ◌∷◌, filter, map, length, get_or, take, refl, ap, sym, subst, ◌∙◌, Option, Some, None, IfSome, ⊎_elim, arith, eq-eqb, eqb-true}
+use Rattle.std.proofs.lemmas.Bool.{cases_Bool, false≢true}
 use Rattle.std.proofs.lemmas.Bool.Decides.{nat_tests}
 use Rattle.std.proofs.lemmas.List.Folds.{list_any_more}
 use Rattle.std.specs.List.{AllByRecursion, find}
@@ -13,25 +13,20 @@ use Rattle.cycle_detect.specs.Rising.{AllAbove, Rising}
 use Rattle.cycle_detect.proofs.OpenLemmas.{first-above}
 
 -- no number is above that of the last token that was opened
-pub opened-acks : (m a n : ℕ) (ts : List Token) → AllByRecursion (λ t. t.number ≤ n) ts → AllByRecursion (λ t. t.number ≤ n) (map (note_ack m a) ts)
+pub opened-acks : (m a n : ℕ) (ts : List Token) → AllByRecursion (λ t. t.number ≤ n) ts
+    → AllByRecursion (λ t. t.number ≤ n) (map (note_ack m a) ts)
 opened-acks m a n [] h = tt
 opened-acks m a n (t ∷ ts) h = (h.0, opened-acks m a n ts h.1)
 
-pub opened_below : (n : ℕ) (ts : List Token) → AllByRecursion (λ t. t.number ≤ n) ts → AllByRecursion (λ t. t.number < n + 1) ts
-opened_below n [] h = tt
-opened_below n (t ∷ ts) h = (omega (arith, h.0), opened_below n ts h.1)
-
-pub opened-push : (n : ℕ) (ts : List Token) (t : Token) → t.number ≡ n + 1 → AllByRecursion (λ t. t.number ≤ n) ts → AllByRecursion (λ t. t.number ≤ n + 1) (ts ++ t ∷ [])
-opened-push n [] t e h = (omega arith, tt)
-opened-push n (u ∷ us) t e h = (omega (arith, h.0), opened-push n us t e h.1)
-
 -- ---- the first that is acknowledged
 
-above_all : (n : ℕ) (ts : List Token) → AllAbove n (numbers ts) → AllByRecursion (λ t. all_acked t ≡ true → n ≤ t.number) ts
+above_all : (n : ℕ) (ts : List Token) → AllAbove n (numbers ts)
+    → AllByRecursion (λ t. all_acked t ≡ true → n ≤ t.number) ts
 above_all n [] h = tt
 above_all n (t ∷ ts) h = (λ _. omega (arith, h.0), above_all n ts h.1)
 
-lowest_more : (t : Token) (ts : List Token) (o : Option ℕ) → all_acked t ≡ false → IfSome o (λ n. AllByRecursion (λ u. all_acked u ≡ true → n ≤ u.number) ts)
+lowest_more : (t : Token) (ts : List Token) (o : Option ℕ) → all_acked t ≡ false
+    → IfSome o (λ n. AllByRecursion (λ u. all_acked u ≡ true → n ≤ u.number) ts)
     → IfSome o (λ n. AllByRecursion (λ u. all_acked u ≡ true → n ≤ u.number) (t ∷ ts))
 lowest_more t ts None off h = tt
 lowest_more t ts (Some n) off h = (λ on. absurd (false≢true (sym off ∙ on)), h)
@@ -42,7 +37,8 @@ first-on t ts on = rw on refl
 first-off : (t : Token) (ts : List Token) → all_acked t ≡ false → first_acked (t ∷ ts) ≡ first_acked ts
 first-off t ts off = rw off refl
 
-first_lowest : (ts : List Token) → Rising (numbers ts) → IfSome (first_acked ts) (λ n. AllByRecursion (λ t. all_acked t ≡ true → n ≤ t.number) ts)
+first_lowest : (ts : List Token) → Rising (numbers ts)
+    → IfSome (first_acked ts) (λ n. AllByRecursion (λ t. all_acked t ≡ true → n ≤ t.number) ts)
 first_lowest [] h = tt
 first_lowest (t ∷ ts) h =
     let P = λ (o : Option ℕ). IfSome o (λ n. AllByRecursion (λ (u : Token). all_acked u ≡ true → n ≤ u.number) (t ∷ ts)) in
@@ -51,12 +47,14 @@ first_lowest (t ∷ ts) h =
     (λ (off : all_acked t ≡ false). subst P (sym (first-off t ts off)) (lowest_more t ts (first_acked ts) off (first_lowest ts h.1)))
     (cases_Bool (all_acked t))
 
-acked_more : (t : Token) (ts : List Token) (o : Option ℕ) → IfSome o (λ n. t.number < n) → IfSome o (λ n. option_map_or all_acked (find (λ u. u.number == n) ts) false ≡ true)
+acked_more : (t : Token) (ts : List Token) (o : Option ℕ) → IfSome o (λ n. t.number < n)
+    → IfSome o (λ n. option_map_or all_acked (find (λ u. u.number == n) ts) false ≡ true)
     → IfSome o (λ n. option_map_or all_acked (find (λ u. u.number == n) (t ∷ ts)) false ≡ true)
 acked_more t ts None lt h = tt
 acked_more t ts (Some n) lt h = grind (arith, nat_tests)
 
-first_is_acked : (ts : List Token) → Rising (numbers ts) → IfSome (first_acked ts) (λ n. option_map_or all_acked (find (λ t. t.number == n) ts) false ≡ true)
+first_is_acked : (ts : List Token) → Rising (numbers ts)
+    → IfSome (first_acked ts) (λ n. option_map_or all_acked (find (λ t. t.number == n) ts) false ≡ true)
 first_is_acked [] h = tt
 first_is_acked (t ∷ ts) h =
     let P = λ (o : Option ℕ). IfSome o (λ n. option_map_or all_acked (find (λ (u : Token). u.number == n) (t ∷ ts)) false ≡ true) in
@@ -65,10 +63,13 @@ first_is_acked (t ∷ ts) h =
     (λ (off : all_acked t ≡ false). subst P (sym (first-off t ts off)) (acked_more t ts (first_acked ts) (first-above t.number ts h.0) (first_is_acked ts h.1)))
     (cases_Bool (all_acked t))
 
-pub lowest_acked : (d : Detector) → Rising (numbers d.tokens) → IfSome (first_acked d.tokens) (IsLowestAcked d)
+pub lowest_acked : (d : Detector) → Rising (numbers d.tokens)
+    → IfSome (first_acked d.tokens) (IsLowestAcked d)
 lowest_acked d h = both (first_acked d.tokens) (first_is_acked d.tokens h) (first_lowest d.tokens h)
   where
-    both : (o : Option ℕ) → IfSome o (λ n. acked_by_all d n ≡ true) → IfSome o (λ n. AllByRecursion (λ t. all_acked t ≡ true → n ≤ t.number) d.tokens) → IfSome o (IsLowestAcked d)
+    both : (o : Option ℕ) → IfSome o (λ n. acked_by_all d n ≡ true)
+        → IfSome o (λ n. AllByRecursion (λ t. all_acked t ≡ true → n ≤ t.number) d.tokens)
+        → IfSome o (IsLowestAcked d)
     both None one two = tt
     both (Some n) one two = record { acked = one; lowest = two }
 
@@ -78,20 +79,25 @@ pub dropped_none : (ks : List Report) → ks ≡ filter (λ r. not (has [] r.act
 dropped_none [] = refl
 dropped_none (k ∷ ks) = ap (λ rs. k ∷ rs) (dropped_none ks)
 
-pub dropped_more : (ks : List Report) (xs : List ℕ) (i d : ℕ) → i < length xs → drop_report (get_or xs i d) (filter (λ r. not (has (take i xs) r.actor)) ks) ≡ filter (λ r. not (has (take (i + 1) xs) r.actor)) ks
+pub dropped_more : (ks : List Report) (xs : List ℕ) (i d : ℕ) → i < length xs
+    → drop_report (get_or xs i d) (filter (λ r. not (has (take i xs) r.actor)) ks) ≡ filter (λ r. not (has (take (i + 1) xs) r.actor)) ks
 dropped_more [] xs i d lt = refl
 dropped_more (k ∷ ks) xs i d lt = grind (arith, nat_tests, list_any_more (λ y. y == k.actor) xs i d lt, dropped_more ks xs i d lt)
 
 -- ---- a token is closed
 
-found_number : (ts : List Token) (n : ℕ) (t : Token) → find (λ u. u.number == n) ts ≡ Some t → t.number ≡ n
+found_number : (ts : List Token) (n : ℕ) (t : Token) → find (λ u. u.number == n) ts ≡ Some t
+    → t.number ≡ n
 found_number [] n t e = absurd (cc)
 found_number (u ∷ us) n t e = ⊎_elim
     (λ (on : (u.number == n) ≡ true). let is : Some u ≡ Some t = rw on at e in let same : u ≡ t = cc in ap (λ (x : Token). x.number) (sym same) ∙ eqb-true u.number n on)
     (λ (off : (u.number == n) ≡ false). found_number us n t (rw off at e))
     (cases_Bool (u.number == n))
 
-pub closed_is : (d : Detector) (t : Token) (n : ℕ) (ms : List ℕ) (kept : List Report) (tokens : List Token) → token_numbered n d ≡ Some t → ms ≡ t.members → kept ≡ filter (λ r. not (has ms r.actor)) d.kept → tokens ≡ filter (λ u. not (u.number == n)) d.tokens
+pub closed_is : (d : Detector) (t : Token) (n : ℕ) (ms : List ℕ) (kept : List Report) (tokens : List Token)
+    → token_numbered n d ≡ Some t → ms ≡ t.members
+    → kept ≡ filter (λ r. not (has ms r.actor)) d.kept
+    → tokens ≡ filter (λ u. not (u.number == n)) d.tokens
     → record { kept = kept; tokens = tokens; opened = d.opened; news = d.news } ≡ close_token t d
 closed_is d t n ms kept tokens found same k ts =
     let kept_is : kept ≡ filter (λ r. not (has t.members r.actor)) d.kept = k ∙ ap (λ xs. filter (λ (r : Report). not (has xs r.actor)) d.kept) same in
@@ -102,5 +108,6 @@ closed_is d t n ms kept tokens found same k ts =
 pub if_found : (o : Option Token) (t : Token) (P : Token → Type 0) → o ≡ Some t → P t → IfSome o P
 if_found o t P e h = subst (λ x. IfSome x P) (sym e) h
 
-pub dropped_step : (ks : List Report) (xs : List ℕ) (i a : ℕ) → i < length xs → a ≡ get_or xs i a → drop_report a (filter (λ r. not (has (take i xs) r.actor)) ks) ≡ filter (λ r. not (has (take (i + 1) xs) r.actor)) ks
+pub dropped_step : (ks : List Report) (xs : List ℕ) (i a : ℕ) → i < length xs → a ≡ get_or xs i a
+    → drop_report a (filter (λ r. not (has (take i xs) r.actor)) ks) ≡ filter (λ r. not (has (take (i + 1) xs) r.actor)) ks
 dropped_step ks xs i a lt e = ap (λ x. drop_report x (filter (λ (r : Report). not (has (take i xs) r.actor)) ks)) e ∙ dropped_more ks xs i a lt

@@ -1,24 +1,21 @@
 -- Reports fall, one after another, until those that are left cover one another.
-use Rattle.std.proofs.Common.{◌≡◌, ◌≢◌, ℕ, zero, suc, ◌+◌, ◌*◌, ◌≤◌, ◌<◌, ◌==◌, not, Bool, true, false, cond, ◌||◌, ◌⊎◌, inl, inr, ⊎_elim, List, [], ◌∷◌, ◌++◌, length, length-set, length-append, append-nil, get_or, set, take, filter, map, replicate, arith, refl, ap, sym, subst, ◌∙◌, eq-eqb, Result, Ok, Err, OnOk, IfOk, Some, slice_get}
+use Rattle.std.proofs.Common.{◌≡◌, ◌≢◌, ℕ, zero, suc, ◌+◌, ◌≤◌, ◌<◌, ◌==◌, not, Bool, true, false, ◌||◌, ◌⊎◌, inl, inr, ⊎_elim, List, [], ◌∷◌, ◌++◌, length, length-set, length-append, get_or, set, filter, replicate, arith, refl, ap, sym, subst, ◌∙◌, eq-eqb, Result, Ok, Err, OnOk, Some, slice_get}
 use Rattle.std.specs.List.{AllByRecursion}
-use Rattle.std.proofs.lemmas.Bool.{cases_Bool, cases_eq, cases_lt, cond_both, false≢true, ne_eqb}
+use Rattle.std.proofs.lemmas.Bool.{cases_Bool, cases_eq, cases_lt, false≢true, ne_eqb}
 use Rattle.std.proofs.lemmas.Bool.Decides.{nat_tests}
 use Rattle.std.proofs.lemmas.List.{get_or-set_same, get_or-set_other, length-replicate}
-use Rattle.std.proofs.lemmas.List.Elements.{filter_more}
 use Rattle.std.proofs.lemmas.List.Sums.{sum_by-cons}
-use Rattle.letter_kinds.specs.Closed.{IsClosed, largest_closed}
 use Rattle.letter_kinds.specs.Detector.{has}
 use Rattle.letter_kinds.specs.Reports.{told_on, told_on_by}
 use Rattle.letter_kinds.specs.declared.note.Report.{Report}
-use Rattle.letter_kinds.proofs.Rounds.{largest_by_rounds, rounds_among, same_largest}
 use Rattle.cycle_detect.specs.Falling.{AreFalling, In, LosesNone, count_at, held_count, held_left, is_unmarked, told_in, told_without}
 use Rattle.cycle_detect.specs.Kept.{actors_of}
 use Rattle.cycle_detect.specs.Marks.{mark_of, off_count}
-use Rattle.cycle_detect.specs.Rising.{AllAbove, Rising}
+use Rattle.cycle_detect.specs.Rising.{Rising}
 use Rattle.cycle_detect.proofs.MarksLemmas.{mark_of-set, off_count-none, off_count-set}
 use Rattle.cycle_detect.proofs.RisingLemmas.{above-get, place_is}
-use Rattle.cycle_detect.proofs.Sums.{at_default, length-names, told_here}
-use Rattle.cycle_detect.proofs.Work.{less_kept, lowered, take_out, without, work_done}
+use Rattle.cycle_detect.proofs.Sums.{told_here}
+use Rattle.cycle_detect.proofs.Work.{less_kept, lowered, take_out, without}
 
 pub on_ok : {A E P : Type 0} (r : Result A E) → P → OnOk r P
 on_ok (Ok x) h = h
@@ -34,12 +31,14 @@ on_ok_two (Err x) f p q = tt
 
 -- ---- reports by their places
 
-actor_at : (rs : List Report) (k : ℕ) (d : Report) → k < length rs → get_or (actors_of rs) k 0 ≡ (get_or rs k d).actor
+pub actor_at : (rs : List Report) (k : ℕ) (d : Report) → k < length rs
+    → get_or (actors_of rs) k 0 ≡ (get_or rs k d).actor
 actor_at [] k d lt = absurd (omega arith)
 actor_at (r ∷ rs) zero d lt = refl
 actor_at (r ∷ rs) (suc k) d lt = actor_at rs k d (omega arith)
 
-pub count_is : (rs : List Report) (k : ℕ) (d : Report) → k < length rs → count_at rs k ≡ (get_or rs k d).count
+pub count_is : (rs : List Report) (k : ℕ) (d : Report) → k < length rs
+    → count_at rs k ≡ (get_or rs k d).count
 count_is [] k d lt = absurd (omega arith)
 count_is (r ∷ rs) zero d lt = refl
 count_is (r ∷ rs) (suc k) d lt = count_is rs k d (omega arith)
@@ -49,7 +48,7 @@ In_at [] k d lt = absurd (omega arith)
 In_at (r ∷ rs) zero d lt = inl refl
 In_at (r ∷ rs) (suc k) d lt = inr (In_at rs k d (omega arith))
 
-place_In : (rs : List Report) (q : Report) → In q rs → (k : ℕ) × ((k < length rs) × (get_or rs k q ≡ q))
+pub place_In : (rs : List Report) (q : Report) → In q rs → (k : ℕ) × ((k < length rs) × (get_or rs k q ≡ q))
 place_In [] q i = absurd i
 place_In (r ∷ rs) q i = ⊎_elim (λ e. (0, (omega arith, sym e))) (λ j. let (k, h) = place_In rs q j in (suc k, (let lt = h.0 in omega arith, h.1))) i
 
@@ -57,7 +56,8 @@ pub length-actors : (rs : List Report) → length (actors_of rs) ≡ length rs
 length-actors [] = refl
 length-actors (r ∷ rs) = ap suc (length-actors rs)
 
-pub mark_at : (ns : List ℕ) (bs : List Bool) (k : ℕ) → Rising ns → k < length ns → mark_of ns bs (get_or ns k 0) ≡ get_or bs k false
+pub mark_at : (ns : List ℕ) (bs : List Bool) (k : ℕ) → Rising ns → k < length ns
+    → mark_of ns bs (get_or ns k 0) ≡ get_or bs k false
 mark_at [] bs k h lt = absurd (omega arith)
 mark_at (x ∷ xs) [] k h lt = refl
 mark_at (x ∷ xs) (b ∷ bs) zero h lt = rw (eq-eqb x x refl) refl
@@ -65,7 +65,9 @@ mark_at (x ∷ xs) (b ∷ bs) (suc k) h lt =
     let above = above-get x xs k h.0 (omega arith) in
     rw (ne_eqb x (get_or xs k 0) (λ e. omega arith)) (mark_at xs bs k h.1 (omega arith))
 
-mark_within : (ns : List ℕ) (off out : List Bool) (a : ℕ) → length out ≡ length ns → ((k : ℕ) → get_or off k false ≡ true → get_or out k false ≡ true) → mark_of ns off a ≡ true → mark_of ns out a ≡ true
+mark_within : (ns : List ℕ) (off out : List Bool) (a : ℕ) → length out ≡ length ns
+    → ((k : ℕ) → get_or off k false ≡ true → get_or out k false ≡ true) → mark_of ns off a ≡ true
+    → mark_of ns out a ≡ true
 mark_within [] off out a l h e = absurd (cc)
 mark_within (x ∷ xs) [] out a l h e = absurd (cc)
 mark_within (x ∷ xs) (b ∷ bs) [] a l h e = absurd (omega arith)
@@ -73,24 +75,32 @@ mark_within (x ∷ xs) (b ∷ bs) (c ∷ cs) a l h e =
     grind (arith, nat_tests, h 0, mark_within xs bs cs a (omega arith) (λ k. h (suc k)))
 
 -- who is not out was not taken off
-unmarked_within : (rs : List Report) (off out : List Bool) → length out ≡ length rs → ((k : ℕ) → get_or off k false ≡ true → get_or out k false ≡ true) → (q : Report) → is_unmarked rs out q ≡ true → is_unmarked rs off q ≡ true
+unmarked_within : (rs : List Report) (off out : List Bool) → length out ≡ length rs
+    → ((k : ℕ) → get_or off k false ≡ true → get_or out k false ≡ true) → (q : Report)
+    → is_unmarked rs out q ≡ true → is_unmarked rs off q ≡ true
 unmarked_within rs off out l h q e =
     let within = mark_within (actors_of rs) off out q.actor (l ∙ sym (length-actors rs)) h in
     grind arith
 
-pub unmarked-set : (rs : List Report) (out : List Bool) (k : ℕ) (d : Report) → Rising (actors_of rs) → length out ≡ length rs → k < length rs → (q : Report) → is_unmarked rs (set out k true) q ≡ without (get_or rs k d).actor (is_unmarked rs out) q
+pub unmarked-set : (rs : List Report) (out : List Bool) (k : ℕ) (d : Report) → Rising (actors_of rs)
+    → length out ≡ length rs → k < length rs → (q : Report)
+    → is_unmarked rs (set out k true) q ≡ without (get_or rs k d).actor (is_unmarked rs out) q
 unmarked-set rs out k d up l lt q =
     let is = mark_of-set (actors_of rs) out k q.actor (get_or rs k d).actor (l ∙ sym (length-actors rs)) up (let e = length-actors rs in omega arith) (actor_at rs k d lt) in
     grind (arith)
 
-filter-alike : (p q : Report → Bool) (rs : List Report) → ((r : Report) → p r ≡ q r) → filter p rs ≡ filter q rs
+pub filter-alike : (p q : Report → Bool) (rs : List Report) → ((r : Report) → p r ≡ q r)
+    → filter p rs ≡ filter q rs
 filter-alike p q [] h = refl
 filter-alike p q (r ∷ rs) h = grind (arith, h r, filter-alike p q rs h)
 
 -- ---- one falls
 
-fell : (rs : List Report) (off out : List Bool) (k v : ℕ) (d : Report) → Rising (actors_of rs) → length out ≡ length rs → ((j : ℕ) → get_or off j false ≡ true → get_or out j false ≡ true) → LosesNone rs (is_unmarked rs out) → k < length rs
-    → told_without rs off (get_or (actors_of rs) k 0) ≤ v → v < count_at rs k → LosesNone rs (is_unmarked rs (set out k true))
+fell : (rs : List Report) (off out : List Bool) (k v : ℕ) (d : Report) → Rising (actors_of rs)
+    → length out ≡ length rs → ((j : ℕ) → get_or off j false ≡ true → get_or out j false ≡ true)
+    → LosesNone rs (is_unmarked rs out) → k < length rs
+    → told_without rs off (get_or (actors_of rs) k 0) ≤ v → v < count_at rs k
+    → LosesNone rs (is_unmarked rs (set out k true))
 fell rs off out k v d up l within loses lt le low =
     let r = get_or rs k d in
     let name = actor_at rs k d lt in
@@ -101,14 +111,19 @@ fell rs off out k v d up l within loses lt le low =
     let left = take_out rs (is_unmarked rs out) r up (In_at rs k d lt) (omega arith) loses in
     λ set' closed q i t. unmarked-set rs out k d up l lt q ∙ left set' closed q i t
 
-set_true : (bs : List Bool) (k j : ℕ) → k < length bs → get_or bs j false ≡ true → get_or (set bs k true) j false ≡ true
+set_true : (bs : List Bool) (k j : ℕ) → k < length bs → get_or bs j false ≡ true
+    → get_or (set bs k true) j false ≡ true
 set_true bs k j lt e = ⊎_elim (λ (s : j ≡ k). rw s (get_or-set_same bs k true false lt)) (λ n. get_or-set_other bs k j true false n ∙ e) (cases_eq j k)
 
-places_kept : (n k : ℕ) (out : List Bool) (ws : List ℕ) → k < length out → AllByRecursion (λ j. (j < n) × (get_or out j false ≡ true)) ws → AllByRecursion (λ j. (j < n) × (get_or (set out k true) j false ≡ true)) ws
+places_kept : (n k : ℕ) (out : List Bool) (ws : List ℕ) → k < length out
+    → AllByRecursion (λ j. (j < n) × (get_or out j false ≡ true)) ws
+    → AllByRecursion (λ j. (j < n) × (get_or (set out k true) j false ≡ true)) ws
 places_kept n k out [] lt h = tt
 places_kept n k out (w ∷ ws) lt h = ((h.0.0, set_true out k w lt h.0.1), places_kept n k out ws lt h.1)
 
-places_push : (n k : ℕ) (out : List Bool) (ws : List ℕ) → k < n → get_or out k false ≡ true → AllByRecursion (λ j. (j < n) × (get_or out j false ≡ true)) ws → AllByRecursion (λ j. (j < n) × (get_or out j false ≡ true)) (ws ++ k ∷ [])
+places_push : (n k : ℕ) (out : List Bool) (ws : List ℕ) → k < n → get_or out k false ≡ true
+    → AllByRecursion (λ j. (j < n) × (get_or out j false ≡ true)) ws
+    → AllByRecursion (λ j. (j < n) × (get_or out j false ≡ true)) (ws ++ k ∷ [])
 places_push n k out [] lt e h = ((lt, e), tt)
 places_push n k out (w ∷ ws) lt e h = (h.0, places_push n k out ws lt e h.1)
 
@@ -119,7 +134,8 @@ has-append (x ∷ xs) y a = grind (arith, has-append xs y a)
 module _ (rs : List Report) (up : Rising (actors_of rs)) (limit later : ℕ) (off out : List Bool) (told sums : List ℕ) (work : List ℕ) (k : ℕ)
     (h : AreFalling rs limit off out told work) (lt : k < length rs) (long : length sums ≡ length told) (same : (j : ℕ) → j ≢ k → get_or sums j 0 ≡ get_or told j 0)
     (upto : (j : ℕ) → j < later → j ≢ k → j < limit) where
-  stays : (get_or out k false ≡ true) ⊎ (count_at rs k ≤ get_or sums k 0) → AreFalling rs later off out sums work
+  stays : (get_or out k false ≡ true) ⊎ (count_at rs k ≤ get_or sums k 0)
+      → AreFalling rs later off out sums work
   stays why = record {
     long_sums = long ∙ h.long_sums;
     long_out = h.long_out;
@@ -133,7 +149,9 @@ module _ (rs : List Report) (up : Rising (actors_of rs)) (limit later : ℕ) (of
     places = h.places;
   }
 
-  falls : told_without rs off (get_or (actors_of rs) k 0) ≤ get_or sums k 0 → get_or sums k 0 < count_at rs k → (d : Report) → AreFalling rs later off (set out k true) sums (work ++ k ∷ [])
+  falls : told_without rs off (get_or (actors_of rs) k 0) ≤ get_or sums k 0
+      → get_or sums k 0 < count_at rs k → (d : Report)
+      → AreFalling rs later off (set out k true) sums (work ++ k ∷ [])
   falls le low d = let in_out : k < length out = (let l = h.long_out in omega arith) in record {
     long_sums = long ∙ h.long_sums;
     long_out = length-set out k true ∙ h.long_out;
@@ -150,8 +168,10 @@ module _ (rs : List Report) (up : Rising (actors_of rs)) (limit later : ℕ) (of
     places = places_push (length rs) k (set out k true) work lt (get_or-set_same out k true false in_out) (places_kept (length rs) k out work in_out h.places);
   }
 
-  pub after_check : (out' : List Bool) (work' : List ℕ) (count : ℕ) → count ≡ count_at rs k → told_without rs off (get_or (actors_of rs) k 0) ≤ get_or sums k 0
-      → ((get_or out k false ≡ true) ⊎ (count ≤ get_or sums k 0) → (out' ≡ out) × (work' ≡ work)) → (get_or out k false ≡ false → get_or sums k 0 < count → (out' ≡ set out k true) × (work' ≡ work ++ k ∷ []))
+  pub after_check : (out' : List Bool) (work' : List ℕ) (count : ℕ) → count ≡ count_at rs k
+      → told_without rs off (get_or (actors_of rs) k 0) ≤ get_or sums k 0
+      → ((get_or out k false ≡ true) ⊎ (count ≤ get_or sums k 0) → (out' ≡ out) × (work' ≡ work))
+      → (get_or out k false ≡ false → get_or sums k 0 < count → (out' ≡ set out k true) × (work' ≡ work ++ k ∷ []))
       → (d : Report) → AreFalling rs later off out' sums work'
   after_check out' work' count is le one two d = ⊎_elim
       (λ (on : get_or out k false ≡ true). let (a, b) = one (inl on) in rw (a, b) (stays (inl on)))
@@ -161,7 +181,9 @@ module _ (rs : List Report) (up : Rising (actors_of rs)) (limit later : ℕ) (of
       (cases_lt (get_or sums k 0) count))
       (cases_Bool (get_or out k false))
 
-pub check_size : (out out' : List Bool) (work work' : List ℕ) (k count sum : ℕ) → k < length out → ((get_or out k false ≡ true) ⊎ (count ≤ sum) → (out' ≡ out) × (work' ≡ work)) → (get_or out k false ≡ false → sum < count → (out' ≡ set out k true) × (work' ≡ work ++ k ∷ []))
+pub check_size : (out out' : List Bool) (work work' : List ℕ) (k count sum : ℕ) → k < length out
+    → ((get_or out k false ≡ true) ⊎ (count ≤ sum) → (out' ≡ out) × (work' ≡ work))
+    → (get_or out k false ≡ false → sum < count → (out' ≡ set out k true) × (work' ≡ work ++ k ∷ []))
     → off_count out' + length work' ≡ off_count out + length work
 check_size out out' work work' k count sum lt one two = ⊎_elim
     (λ (on : get_or out k false ≡ true). let (a, b) = one (inl on) in rw (a, b) refl)
@@ -171,23 +193,13 @@ check_size out out' work work' k count sum lt one two = ⊎_elim
     (cases_lt sum count))
     (cases_Bool (get_or out k false))
 
--- the sums may change where nobody is covered less
-pub same_sums : (rs : List Report) (limit : ℕ) (off out : List Bool) (told sums : List ℕ) (work : List ℕ) → AreFalling rs limit off out told work → length sums ≡ length told → ((k : ℕ) → k < length rs → get_or sums k 0 ≡ get_or told k 0) → AreFalling rs limit off out sums work
-same_sums rs limit off out told sums work h long same = record {
-  long_sums = long ∙ h.long_sums;
-  long_out = h.long_out;
-  loses = h.loses;
-  covered = λ k in_range lt on. let le = h.covered k in_range lt on in let eq = same k lt in omega arith;
-  within = h.within;
-  pending = h.pending;
-  places = h.places;
-}
-
 -- ---- an entry of one that fell is taken off
 
-by_names : (rs : List Report) (e : ℕ × ℕ) (t k v : ℕ) (off out out' : List Bool) (told work work' : List ℕ) (count : ℕ) → Rising (actors_of rs) → length told ≡ length (actors_of rs) → (e.0 == t) ≡ false → slice_get (actors_of rs) k ≡ Some e.0
-    → v + e.1 ≡ get_or told k 0 → count ≡ count_at rs k
-    → ((get_or out k false ≡ true) ⊎ (count ≤ get_or (set told k v) k 0) → (out' ≡ out) × (work' ≡ work)) → (get_or out k false ≡ false → get_or (set told k v) k 0 < count → (out' ≡ set out k true) × (work' ≡ work ++ k ∷ []))
+by_names : (rs : List Report) (e : ℕ × ℕ) (t k v : ℕ) (off out out' : List Bool) (told work work' : List ℕ) (count : ℕ)
+    → Rising (actors_of rs) → length told ≡ length (actors_of rs) → (e.0 == t) ≡ false
+    → slice_get (actors_of rs) k ≡ Some e.0 → v + e.1 ≡ get_or told k 0 → count ≡ count_at rs k
+    → ((get_or out k false ≡ true) ⊎ (count ≤ get_or (set told k v) k 0) → (out' ≡ out) × (work' ≡ work))
+    → (get_or out k false ≡ false → get_or (set told k v) k 0 < count → (out' ≡ set out k true) × (work' ≡ work ++ k ∷ []))
     → (d : Report) → AreFalling rs (length (actors_of rs)) off out told work
     → ((j : ℕ) → j < length (actors_of rs) → told_without rs off (get_or (actors_of rs) j 0) + told_in e t (get_or (actors_of rs) j 0) ≤ get_or told j 0)
     → AreFalling rs (length (actors_of rs)) off out' (set told k v) work'
@@ -199,9 +211,12 @@ by_names rs e t k v off out out' told work work' count up long other at left is 
     after_check rs up (length (actors_of rs)) (length (actors_of rs)) off out told (set told k v) work k h (let l = length-actors rs in omega arith) (length-set told k v) (λ j n. get_or-set_other told k j v 0 n) (λ j in_range n. in_range)
     out' work' count is (omega arith) one two d
 
-pub take_falls : (rs : List Report) (ns : List ℕ) → ns ≡ actors_of rs → (e : ℕ × ℕ) (t k v : ℕ) (off out out' : List Bool) (told work work' : List ℕ) (count : ℕ) → Rising ns → length told ≡ length ns → (e.0 == t) ≡ false → slice_get ns k ≡ Some e.0
+pub take_falls : (rs : List Report) (ns : List ℕ) → ns ≡ actors_of rs
+    → (e : ℕ × ℕ) (t k v : ℕ) (off out out' : List Bool) (told work work' : List ℕ) (count : ℕ)
+    → Rising ns → length told ≡ length ns → (e.0 == t) ≡ false → slice_get ns k ≡ Some e.0
     → v + e.1 ≡ get_or told k 0 → count ≡ count_at rs k
-    → ((get_or out k false ≡ true) ⊎ (count ≤ get_or (set told k v) k 0) → (out' ≡ out) × (work' ≡ work)) → (get_or out k false ≡ false → get_or (set told k v) k 0 < count → (out' ≡ set out k true) × (work' ≡ work ++ k ∷ []))
+    → ((get_or out k false ≡ true) ⊎ (count ≤ get_or (set told k v) k 0) → (out' ≡ out) × (work' ≡ work))
+    → (get_or out k false ≡ false → get_or (set told k v) k 0 < count → (out' ≡ set out k true) × (work' ≡ work ++ k ∷ []))
     → (d : Report) → AreFalling rs (length ns) off out told work
     → ((j : ℕ) → j < length ns → told_without rs off (get_or ns j 0) + told_in e t (get_or ns j 0) ≤ get_or told j 0)
     → AreFalling rs (length ns) off out' (set told k v) work'
@@ -213,18 +228,15 @@ take_falls rs ns same e t k v off out out' told work work' count =
 last_other : (ws : List ℕ) (i k : ℕ) → has (ws ++ i ∷ []) k ≡ true → k ≢ i → has ws k ≡ true
 last_other ws i k h n = let e = has-append ws i k in grind (arith, nat_tests)
 
-places_front : (n : ℕ) (out : List Bool) (ws : List ℕ) (i : ℕ) → AllByRecursion (λ j. (j < n) × (get_or out j false ≡ true)) (ws ++ i ∷ []) → AllByRecursion (λ j. (j < n) × (get_or out j false ≡ true)) ws × (get_or out i false ≡ true)
+places_front : (n : ℕ) (out : List Bool) (ws : List ℕ) (i : ℕ)
+    → AllByRecursion (λ j. (j < n) × (get_or out j false ≡ true)) (ws ++ i ∷ [])
+    → AllByRecursion (λ j. (j < n) × (get_or out j false ≡ true)) ws × (get_or out i false ≡ true)
 places_front n out [] i h = (tt, h.0.1)
 places_front n out (w ∷ ws) i h = let (a, b) = places_front n out ws i h.1 in ((h.0, a), b)
 
-pub places_last : (rs : List Report) (limit : ℕ) (off out : List Bool) (told ws : List ℕ) (i : ℕ) → AreFalling rs limit off out told (ws ++ i ∷ []) → i < length rs
-places_last rs limit off out told ws i h = go ws h.places
-  where
-    go : (us : List ℕ) → AllByRecursion (λ j. (j < length rs) × (get_or out j false ≡ true)) (us ++ i ∷ []) → i < length rs
-    go [] p = p.0.0
-    go (u ∷ us) p = go us p.1
-
-pub popped_again : (rs : List Report) (limit : ℕ) (off out : List Bool) (told ws : List ℕ) (i : ℕ) → AreFalling rs limit off out told (ws ++ i ∷ []) → get_or off i false ≡ true → AreFalling rs limit off out told ws
+pub popped_again : (rs : List Report) (limit : ℕ) (off out : List Bool) (told ws : List ℕ) (i : ℕ)
+    → AreFalling rs limit off out told (ws ++ i ∷ []) → get_or off i false ≡ true
+    → AreFalling rs limit off out told ws
 popped_again rs limit off out told ws i h on = record {
   long_sums = h.long_sums;
   long_out = h.long_out;
@@ -235,7 +247,9 @@ popped_again rs limit off out told ws i h on = record {
   places = (places_front (length rs) out ws i h.places).0;
 }
 
-pub popped_off : (rs : List Report) (limit : ℕ) (off out : List Bool) (told ws : List ℕ) (i : ℕ) → AreFalling rs limit off out told (ws ++ i ∷ []) → i < length off → AreFalling rs limit (set off i true) out told ws
+pub popped_off : (rs : List Report) (limit : ℕ) (off out : List Bool) (told ws : List ℕ) (i : ℕ)
+    → AreFalling rs limit off out told (ws ++ i ∷ []) → i < length off
+    → AreFalling rs limit (set off i true) out told ws
 popped_off rs limit off out told ws i h lt = record {
   long_sums = h.long_sums;
   long_out = h.long_out;
@@ -249,7 +263,9 @@ popped_off rs limit off out told ws i h lt = record {
   places = (places_front (length rs) out ws i h.places).0;
 }
 
-by_one : (rs : List Report) (off : List Bool) (i x : ℕ) (d : Report) → Rising (actors_of rs) → length off ≡ length rs → i < length rs → get_or off i false ≡ false → told_without rs (set off i true) x + told_on x (get_or rs i d) ≡ told_without rs off x
+by_one : (rs : List Report) (off : List Bool) (i x : ℕ) (d : Report) → Rising (actors_of rs)
+    → length off ≡ length rs → i < length rs → get_or off i false ≡ false
+    → told_without rs (set off i true) x + told_on x (get_or rs i d) ≡ told_without rs off x
 by_one rs off i x d up l lt on =
     let r = get_or rs i d in
     let stands : is_unmarked rs off r ≡ true = ap (λ y. not (mark_of (actors_of rs) off y)) (sym (actor_at rs i d lt)) ∙ ap not (mark_at (actors_of rs) off i up (let e = length-actors rs in omega arith) ∙ on) in
@@ -257,13 +273,18 @@ by_one rs off i x d up l lt on =
     ap (λ n. n + told_on x r) same ∙ lowered (told_on x) rs (is_unmarked rs off) r up (In_at rs i d lt) stands
 
 -- without one more, what it told is missing
-pub without_one : (rs : List Report) (ns : List ℕ) → ns ≡ actors_of rs → (off : List Bool) (i x : ℕ) (r : Report) → Rising ns → length off ≡ length ns → i < length ns → get_or off i false ≡ false → get_or rs i r ≡ r → told_without rs (set off i true) x + told_on x r ≡ told_without rs off x
+pub without_one : (rs : List Report) (ns : List ℕ) → ns ≡ actors_of rs
+    → (off : List Bool) (i x : ℕ) (r : Report) → Rising ns → length off ≡ length ns → i < length ns
+    → get_or off i false ≡ false → get_or rs i r ≡ r
+    → told_without rs (set off i true) x + told_on x r ≡ told_without rs off x
 without_one rs ns e off i x r up l lt on is =
     let long = length-actors rs in
     let same = ap length e in
     subst (λ q. told_without rs (set off i true) x + told_on x q ≡ told_without rs off x) is (by_one rs off i x r (subst Rising e up) (omega arith) (omega arith) on)
 
-pub held_left-set : (rs : List Report) (off : List Bool) (i : ℕ) (r : Report) → i < length rs → length off ≡ length rs → get_or off i false ≡ false → get_or rs i r ≡ r → held_left rs (set off i true) + length r.held ≡ held_left rs off
+pub held_left-set : (rs : List Report) (off : List Bool) (i : ℕ) (r : Report) → i < length rs
+    → length off ≡ length rs → get_or off i false ≡ false → get_or rs i r ≡ r
+    → held_left rs (set off i true) + length r.held ≡ held_left rs off
 held_left-set [] off i r lt l on is = absurd (omega arith)
 held_left-set (q ∷ rs) [] i r lt l on is = absurd (omega arith)
 held_left-set (q ∷ rs) (b ∷ bs) zero r lt l on is = rw is (grind arith)
@@ -293,7 +314,9 @@ filter_all p (r ∷ rs) h = grind (arith, h r, filter_all p rs h)
 pub none_without : (rs : List Report) (n x : ℕ) → told_without rs (replicate n false) x ≡ told_on_by x rs
 none_without rs n x = ap (told_on_by x) (filter_all (is_unmarked rs (replicate n false)) rs (λ r. ap not (none_marked (actors_of rs) n r.actor)))
 
-pub none_falling : (rs : List Report) (n : ℕ) (out : List Bool) (told work : List ℕ) → length told ≡ length rs → n ≡ length rs → out ≡ replicate n false → work ≡ [] → AreFalling rs 0 (replicate n false) out told work
+pub none_falling : (rs : List Report) (n : ℕ) (out : List Bool) (told work : List ℕ)
+    → length told ≡ length rs → n ≡ length rs → out ≡ replicate n false → work ≡ []
+    → AreFalling rs 0 (replicate n false) out told work
 none_falling rs n out told work l e o w = rw (o, w) record {
   long_sums = l;
   long_out = length-replicate n false ∙ e;
@@ -304,13 +327,17 @@ none_falling rs n out told work l e o w = rw (o, w) record {
   places = tt;
 }
 
-pub none_size : (n : ℕ) (out : List Bool) (work : List ℕ) → out ≡ replicate n false → work ≡ [] → off_count out + length work ≡ n
+pub none_size : (n : ℕ) (out : List Bool) (work : List ℕ) → out ≡ replicate n false → work ≡ []
+    → off_count out + length work ≡ n
 none_size n out work o w = rw (o, w) (omega (arith, off_count-none n))
 
 -- one look at a report that was not looked at
-pub looked : (rs : List Report) (ns : List ℕ) → ns ≡ actors_of rs → (k : ℕ) (off out out' : List Bool) (told sums work work' : List ℕ) (count : ℕ) → Rising ns → k < length ns → sums ≡ told → (off ≡ replicate (length ns) false) → count ≡ count_at rs k
+pub looked : (rs : List Report) (ns : List ℕ) → ns ≡ actors_of rs
+    → (k : ℕ) (off out out' : List Bool) (told sums work work' : List ℕ) (count : ℕ) → Rising ns
+    → k < length ns → sums ≡ told → (off ≡ replicate (length ns) false) → count ≡ count_at rs k
     → ((j : ℕ) → j < length ns → get_or told j 0 ≡ told_on_by (get_or ns j 0) rs)
-    → ((get_or out k false ≡ true) ⊎ (count ≤ get_or told k 0) → (out' ≡ out) × (work' ≡ work)) → (get_or out k false ≡ false → get_or told k 0 < count → (out' ≡ set out k true) × (work' ≡ work ++ k ∷ []))
+    → ((get_or out k false ≡ true) ⊎ (count ≤ get_or told k 0) → (out' ≡ out) × (work' ≡ work))
+    → (get_or out k false ≡ false → get_or told k 0 < count → (out' ≡ set out k true) × (work' ≡ work ++ k ∷ []))
     → (d : Report) → AreFalling rs k off out told work → AreFalling rs (k + 1) off out' sums work'
 looked rs ns e k off out out' told sums work work' count up lt same none is all one two d h =
     let long = length-actors rs in
@@ -319,140 +346,3 @@ looked rs ns e k off out out' told sums work work' count up lt same none is all 
     (after_check rs (subst Rising e up) k (k + 1) off out told told work k h (omega arith) refl (λ j n. refl) (λ j in_range n. omega arith) out' work' count is
     (subst (λ xs. told_without rs off (get_or xs k 0) ≤ get_or told k 0) e (let t = all k lt in let w = ap (λ o. told_without rs o (get_or ns k 0)) none ∙ none_without rs (length ns) (get_or ns k 0) in omega arith))
     one two d)
-
--- ---- at last
-
-each_filter : (P : Report → Type 0) (p : Report → Bool) (rs : List Report) → ((r : Report) → In r rs → p r ≡ true → P r) → AllByRecursion P (filter p rs)
-each_filter P p [] h = tt
-each_filter P p (r ∷ rs) h = cond_both (p r) (r ∷ filter p rs) (filter p rs) (AllByRecursion P)
-    (λ e. (h r (inl refl) e, each_filter P p rs (λ q i. h q (inr i)))) (λ _. each_filter P p rs (λ q i. h q (inr i)))
-
-marks_agree : (ns : List ℕ) (off out : List Bool) (a : ℕ) → length off ≡ length ns → length out ≡ length ns → ((k : ℕ) → get_or off k false ≡ get_or out k false) → mark_of ns off a ≡ mark_of ns out a
-marks_agree [] off out a l l' h = refl
-marks_agree (x ∷ xs) [] out a l l' h = absurd (omega arith)
-marks_agree (x ∷ xs) (b ∷ bs) [] a l l' h = absurd (omega arith)
-marks_agree (x ∷ xs) (b ∷ bs) (c ∷ cs) a l l' h = grind (arith, h 0, marks_agree xs bs cs a (omega arith) (omega arith) (λ k. h (suc k)))
-
-agree_at : (b c : Bool) → (b ≡ true → c ≡ true) → (c ≡ true → b ≡ false → ⊥) → b ≡ c
-agree_at b c f g = ⊎_elim (λ (on : b ≡ true). on ∙ sym (f on)) (λ (off : b ≡ false). ⊎_elim (λ (on : c ≡ true). absurd (g on off)) (λ (off' : c ≡ false). off ∙ sym off') (cases_Bool c)) (cases_Bool b)
-
-at_last : (rs : List Report) (off out : List Bool) (told : List ℕ) → Rising (actors_of rs) → length off ≡ length rs → AreFalling rs (length rs) off out told [] → ((k : ℕ) → k < length rs → get_or told k 0 ≡ told_without rs off (get_or (actors_of rs) k 0))
-    → filter (is_unmarked rs out) rs ≡ largest_closed rs
-at_last rs off out told up l h exact =
-    let long = length-actors rs in
-    let same : (k : ℕ) → get_or off k false ≡ get_or out k false = λ k. agree_at (get_or off k false) (get_or out k false) (h.within k) (λ on off'. false≢true (h.pending k on off')) in
-    let alike : filter (is_unmarked rs off) rs ≡ filter (is_unmarked rs out) rs = filter-alike (is_unmarked rs off) (is_unmarked rs out) rs (λ r. ap not (marks_agree (actors_of rs) off out r.actor (l ∙ sym long) (h.long_out ∙ sym long) same)) in
-    let closed : IsClosed (filter (is_unmarked rs out) rs) = each_filter (λ r. r.count ≤ told_on_by r.actor (filter (is_unmarked rs out) rs)) (is_unmarked rs out) rs (λ r i e.
-    let (k, at) = place_In rs r i in
-    let name : get_or (actors_of rs) k 0 ≡ r.actor = actor_at rs k r at.0 ∙ ap (λ (q : Report). q.actor) at.1 in
-    let count : count_at rs k ≡ r.count = count_is rs k r at.0 ∙ ap (λ (q : Report). q.count) at.1 in
-    let stands : get_or out k false ≡ false = not_not (get_or out k false) (ap not (sym (mark_at (actors_of rs) out k up (omega arith))) ∙ (ap (λ y. not (mark_of (actors_of rs) out y)) name ∙ e)) in
-    let le = h.covered k at.0 at.0 stands in
-    let told_is : get_or told k 0 ≡ told_on_by r.actor (filter (is_unmarked rs out) rs) = exact k at.0 ∙ (ap (told_without rs off) name ∙ ap (told_on_by r.actor) alike) in
-    omega arith) in
-    same_largest rs (filter (is_unmarked rs out) rs) (largest_closed rs) (work_done rs (is_unmarked rs out) h.loses closed) (largest_by_rounds rs)
-  where
-    not_not : (b : Bool) → not b ≡ true → b ≡ false
-    not_not b e = grind arith
-
--- once nothing waits, those that stand are the largest closed set
-pub settled : (rs : List Report) (ns : List ℕ) → ns ≡ actors_of rs → (off out : List Bool) (told work : List ℕ) → Rising ns → length off ≡ length ns → work ≡ [] → AreFalling rs (length ns) off out told work → ((k : ℕ) → k < length ns → get_or told k 0 ≡ told_without rs off (get_or ns k 0))
-    → filter (is_unmarked rs out) rs ≡ largest_closed rs
-settled rs ns e off out told work up l w h exact =
-    let long : length ns ≡ length rs = ap length e ∙ length-actors rs in
-    at_last rs off out told (subst Rising e up) (l ∙ long)
-    (subst (λ n. AreFalling rs n off out told []) long (subst (AreFalling rs (length ns) off out told) w h))
-    (λ k lt. exact k (omega arith) ∙ ap (λ xs. told_without rs off (get_or xs k 0)) e)
-
--- the actors of those that stand
-pub actors-filter : (p : ℕ → Bool) (rs : List Report) → actors_of (filter (λ r. p r.actor) rs) ≡ filter p (actors_of rs)
-actors-filter p [] = refl
-actors-filter p (r ∷ rs) = grind (arith, actors-filter p rs)
-
-pub mark_of_place : (ns : List ℕ) (bs : List Bool) (k a : ℕ) → Rising ns → k < length ns → a ≡ get_or ns k 0 → mark_of ns bs a ≡ get_or bs k false
-mark_of_place ns bs k a up lt e = ap (mark_of ns bs) e ∙ mark_at ns bs k up lt
-
-unmarked_here : (ns : List ℕ) (bs : List Bool) (k : ℕ) → Rising ns → k < length ns → not (mark_of ns bs (get_or ns k 0)) ≡ not (get_or bs k false)
-unmarked_here ns bs k up lt = ap not (mark_at ns bs k up lt)
-
-pub unmarked_more : (ns : List ℕ) (bs : List Bool) (k a : ℕ) (found later : List ℕ) → Rising ns → k < length ns → get_or bs k false ≡ false → a ≡ get_or ns k a → found ≡ filter (λ x. not (mark_of ns bs x)) (take k ns) → later ≡ found ++ a ∷ []
-    → later ≡ filter (λ x. not (mark_of ns bs x)) (take (k + 1) ns)
-unmarked_more ns bs k a found later up lt off is was now =
-    let name = at_default ns k a lt is in
-    let here : not (mark_of ns bs (get_or ns k 0)) ≡ true = unmarked_here ns bs k up lt ∙ ap not off in
-    now ∙ (ap (λ xs. xs ++ a ∷ []) was ∙ (ap (λ y. filter (λ x. not (mark_of ns bs x)) (take k ns) ++ y ∷ []) name
-    ∙ sym (filter_more (λ x. not (mark_of ns bs x)) ns k 0 lt ∙ ap (λ b. filter (λ x. not (mark_of ns bs x)) (take k ns) ++ (cond b (get_or ns k 0 ∷ []) [])) here)))
-
-pub unmarked_same : (ns : List ℕ) (bs : List Bool) (k : ℕ) (found later : List ℕ) → Rising ns → k < length ns → get_or bs k false ≡ true → found ≡ filter (λ x. not (mark_of ns bs x)) (take k ns) → later ≡ found
-    → later ≡ filter (λ x. not (mark_of ns bs x)) (take (k + 1) ns)
-unmarked_same ns bs k found later up lt on was now =
-    let here : not (mark_of ns bs (get_or ns k 0)) ≡ false = unmarked_here ns bs k up lt ∙ ap not on in
-    now ∙ (was ∙ sym (filter_more (λ x. not (mark_of ns bs x)) ns k 0 lt ∙ (ap (λ b. filter (λ x. not (mark_of ns bs x)) (take k ns) ++ (cond b (get_or ns k 0 ∷ []) [])) here ∙ append-nil (filter (λ x. not (mark_of ns bs x)) (take k ns)))))
-
--- ---- the whole
-
-pub if_ok_one : {A E : Type 0} (r : Result A E) (P Q : A → Type 0) → ((x : A) → P x → Q x) → IfOk r P → IfOk r Q
-if_ok_one (Ok x) P Q f h = f x h
-if_ok_one (Err e) P Q f h = tt
-
--- nothing was taken off yet
-pub told_at_first : (rs : List Report) (ns : List ℕ) (off : List Bool) (told sums : List ℕ) → off ≡ replicate (length ns) false → told ≡ sums → ((k : ℕ) → k < length ns → get_or sums k 0 ≡ told_on_by (get_or ns k 0) rs)
-    → (k : ℕ) → k < length ns → get_or told k 0 ≡ told_without rs off (get_or ns k 0)
-told_at_first rs ns off told sums o e h k lt =
-    ap (λ ss. get_or ss k 0) e ∙ (h k lt ∙ sym (ap (λ bs. told_without rs bs (get_or ns k 0)) o ∙ none_without rs (length ns) (get_or ns k 0)))
-
-pub standing_actors : (rs : List Report) (ns : List ℕ) (out : List Bool) (found : List ℕ) → ns ≡ actors_of rs → filter (is_unmarked rs out) rs ≡ largest_closed rs → found ≡ filter (λ a. not (mark_of ns out a)) ns → found ≡ actors_of (largest_closed rs)
-standing_actors rs ns out found e closed f =
-    f ∙ (ap (λ xs. filter (λ a. not (mark_of xs out a)) xs) e ∙ (sym (actors-filter (λ a. not (mark_of (actors_of rs) out a)) rs) ∙ ap actors_of closed))
-
-above_some : (n : ℕ) (p : Report → Bool) (rs : List Report) → AllAbove n (actors_of rs) → AllAbove n (actors_of (filter p rs))
-above_some n p [] h = tt
-above_some n p (r ∷ rs) h = cond_both (p r) (r ∷ filter p rs) (filter p rs) (λ qs. AllAbove n (actors_of qs)) (λ _. (h.0, above_some n p rs h.1)) (λ _. above_some n p rs h.1)
-
-pub rising_some : (p : Report → Bool) (rs : List Report) → Rising (actors_of rs) → Rising (actors_of (filter p rs))
-rising_some p [] h = tt
-rising_some p (r ∷ rs) h = cond_both (p r) (r ∷ filter p rs) (filter p rs) (λ qs. Rising (actors_of qs)) (λ _. (above_some r.actor p rs h.0, rising_some p rs h.1)) (λ _. rising_some p rs h.1)
-
-has_some : (p : Report → Bool) (rs : List Report) (m : ℕ) → has (actors_of (filter p rs)) m ≡ true → has (actors_of rs) m ≡ true
-has_some p [] m h = h
-has_some p (r ∷ rs) m h = grind (arith, has_some p rs m)
-
-free_only : (free : ℕ → Bool) (rs : List Report) (m : ℕ) → has (actors_of (filter (λ r. free r.actor) rs)) m ≡ true → free m ≡ true
-free_only free [] m h = absurd (cc)
-free_only free (r ∷ rs) m h = grind (arith, nat_tests, free_only free rs m)
-
--- the largest closed set among reports of free actors rises, and its members are free
-pub largest_rises : (rs : List Report) → Rising (actors_of rs) → Rising (actors_of (largest_closed rs))
-largest_rises rs up = let (p, e) = rounds_among (length rs) rs in subst (λ qs. Rising (actors_of qs)) (sym e) (rising_some p rs up)
-
-pub largest_free : (free : ℕ → Bool) (ks : List Report) (m : ℕ) → has (actors_of (largest_closed (filter (λ r. free r.actor) ks))) m ≡ true → free m ≡ true
-largest_free free ks m h =
-    let rs = filter (λ (r : Report). free r.actor) ks in
-    let (p, e) = rounds_among (length rs) rs in
-    free_only free ks m (has_some p rs m (ap (λ qs. has (actors_of qs) m) (sym e) ∙ h))
-
-pub length-some : (p : Report → Bool) (rs : List Report) → length (filter p rs) ≤ length rs
-length-some p [] = omega arith
-length-some p (r ∷ rs) = grind (arith, length-some p rs)
-
-pub held-some : (p : Report → Bool) (rs : List Report) → held_count (filter p rs) ≤ held_count rs
-held-some p [] = omega arith
-held-some p (r ∷ rs) = grind (arith, sum_by-cons (λ (q : Report). length q.held) r rs, sum_by-cons (λ (q : Report). length q.held) r (filter p rs), held-some p rs)
-
-pub few : {X : Type 0} (g : X → Report) (xs : List X) (p : Report → Bool) (ks : List Report) → map g xs ≡ filter p ks → (length xs ≤ length ks) × (held_count (map g xs) ≤ held_count ks)
-few g xs p ks e =
-    let a = length-names g xs (actors_of (map g xs)) refl in
-    let b = length-actors (map g xs) in
-    let c = ap length e in
-    let d = length-some p ks in
-    (omega arith, subst (λ rs. held_count rs ≤ held_count ks) (sym e) (held-some p ks))
-
-pub not_true : (b : Bool) → not b ≡ true → b ≡ false
-not_true b e = grind arith
-
--- the steps of all walks together
-pub steps_settled : (n m h l u s0 s1 s2 s3 : ℕ) → s1 ≤ s0 + m + 2 * h → s2 ≤ s1 + n → u ≡ n → s3 ≤ s2 + u + 2 * l → l ≡ h → n ≡ m → s3 ≤ s0 + 4 * n + 4 * h
-steps_settled n m h l u s0 s1 s2 s3 told first size settle left long = omega arith
-
-pub steps_all : (n m h l u s0 s1 s2 s3 s4 : ℕ) → s1 ≤ s0 + m + 2 * h → s2 ≤ s1 + n → u ≡ n → s3 ≤ s2 + u + 2 * l → l ≡ h → n ≡ m → s4 ≤ s3 + n → s4 ≤ s0 + 4 * n + 4 * h
-steps_all n m h l u s0 s1 s2 s3 s4 told first size settle left long last = omega arith

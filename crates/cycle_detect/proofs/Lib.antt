@@ -6,6 +6,7 @@ pub mod MarksLemmas
 pub mod MarksSteps
 pub mod OpenLemmas
 pub mod RisingLemmas
+pub mod Settled
 pub mod Sums
 pub mod Telling
 pub mod Work

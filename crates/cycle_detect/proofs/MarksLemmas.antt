@@ -6,10 +6,6 @@ use Rattle.letter_kinds.specs.Detector.{has}
 use Rattle.cycle_detect.specs.Marks.{picked, off_count, mark_of}
 use Rattle.cycle_detect.specs.Rising.{AllAbove, Rising}
 
-above_less : (a b : ℕ) (xs : List ℕ) → a ≤ b → AllAbove b xs → AllAbove a xs
-above_less a b [] le h = tt
-above_less a b (x ∷ xs) le h = (omega (arith, h.0), above_less a b xs le h.1)
-
 -- who is below all of them is not among them
 pub has-above : (a b : ℕ) (xs : List ℕ) → a ≤ b → AllAbove b xs → has xs a ≡ false
 has-above a b [] le h = refl
@@ -26,12 +22,14 @@ mark_of-above a (x ∷ xs) [] h = refl
 mark_of-above a (x ∷ xs) (b ∷ bs) h = grind (arith, nat_tests, h.0, mark_of-above a xs bs h.1)
 
 -- a name is picked where its mark is on
-pub has-picked : (xs : List ℕ) (bs : List Bool) (a : ℕ) → Rising xs → has (picked xs bs) a ≡ mark_of xs bs a
+pub has-picked : (xs : List ℕ) (bs : List Bool) (a : ℕ) → Rising xs
+    → has (picked xs bs) a ≡ mark_of xs bs a
 has-picked [] bs a h = refl
 has-picked (x ∷ xs) [] a h = refl
 has-picked (x ∷ xs) (b ∷ bs) a h = grind (arith, nat_tests, has-picked xs bs a h.1, picked-above x xs bs h.0, mark_of-above x xs bs h.0)
 
-filter-agree_above : (p q : ℕ → Bool) (a : ℕ) (xs : List ℕ) → ((x : ℕ) → a < x → p x ≡ q x) → AllAbove a xs → filter p xs ≡ filter q xs
+filter-agree_above : (p q : ℕ → Bool) (a : ℕ) (xs : List ℕ) → ((x : ℕ) → a < x → p x ≡ q x)
+    → AllAbove a xs → filter p xs ≡ filter q xs
 filter-agree_above p q a [] f h = refl
 filter-agree_above p q a (x ∷ xs) f h = grind (arith, f x h.0, filter-agree_above p q a xs f h.1)
 
@@ -40,7 +38,8 @@ filter-agree p q [] f = refl
 filter-agree p q (x ∷ xs) f = grind (arith, f x, filter-agree p q xs f)
 
 -- the marks pick what they mark
-pub filter-mark_of : (xs : List ℕ) (bs : List Bool) → length bs ≡ length xs → Rising xs → filter (mark_of xs bs) xs ≡ picked xs bs
+pub filter-mark_of : (xs : List ℕ) (bs : List Bool) → length bs ≡ length xs → Rising xs
+    → filter (mark_of xs bs) xs ≡ picked xs bs
 filter-mark_of [] bs l h = refl
 filter-mark_of (x ∷ xs) [] l h = absurd (omega arith)
 filter-mark_of (x ∷ xs) (b ∷ bs) l h =
@@ -48,7 +47,9 @@ filter-mark_of (x ∷ xs) (b ∷ bs) l h =
     grind (arith, nat_tests, filter-mark_of xs bs (omega arith) h.1)
 
 -- one mark is set
-pub mark_of-set : (xs : List ℕ) (bs : List Bool) (i a y : ℕ) → length bs ≡ length xs → Rising xs → i < length xs → get_or xs i 0 ≡ y → mark_of xs (set bs i true) a ≡ (mark_of xs bs a || (a == y))
+pub mark_of-set : (xs : List ℕ) (bs : List Bool) (i a y : ℕ) → length bs ≡ length xs → Rising xs
+    → i < length xs → get_or xs i 0 ≡ y
+    → mark_of xs (set bs i true) a ≡ (mark_of xs bs a || (a == y))
 mark_of-set [] bs i a y l h lt e = absurd (omega arith)
 mark_of-set (x ∷ xs) [] i a y l h lt e = absurd (omega arith)
 mark_of-set (x ∷ xs) (b ∷ bs) zero a y l h lt e = grind (arith, nat_tests)
@@ -62,20 +63,22 @@ mark_of-set (x ∷ xs) (b ∷ bs) (suc i) a y l h lt e =
     get-above x (y ∷ xs) (suc i) h lt = get-above x xs i h.1 (omega arith)
 
 -- who is acknowledged now: those before, and the member
-pub acked-set : (xs : List ℕ) (bs : List Bool) (i a : ℕ) → length bs ≡ length xs → Rising xs → i < length xs → get_or xs i 0 ≡ a
+pub acked-set : (xs : List ℕ) (bs : List Bool) (i a : ℕ) → length bs ≡ length xs → Rising xs
+    → i < length xs → get_or xs i 0 ≡ a
     → picked xs (set bs i true) ≡ filter (λ m. has (picked xs bs) m || (m == a)) xs
 acked-set xs bs i a l h lt e =
     sym (filter-mark_of xs (set bs i true) (simp length-set (omega arith)) h)
     ∙ filter-agree (mark_of xs (set bs i true)) (λ m. has (picked xs bs) m || (m == a)) xs
     (λ x. mark_of-set xs bs i x a l h lt e ∙ ap (λ c. c || (x == a)) (sym (has-picked xs bs x h)))
 
-filter-other : (p : ℕ → Bool) (a : ℕ) (xs : List ℕ) → has xs a ≡ false → filter (λ m. p m || (m == a)) xs ≡ filter p xs
+filter-other : (p : ℕ → Bool) (a : ℕ) (xs : List ℕ) → has xs a ≡ false
+    → filter (λ m. p m || (m == a)) xs ≡ filter p xs
 filter-other p a [] h = refl
 filter-other p a (x ∷ xs) h = grind (arith, nat_tests, filter-other p a xs)
 
 -- who is no member, or acknowledged before, changes nothing
-pub acked-other : (xs : List ℕ) (bs : List Bool) (a : ℕ) → length bs ≡ length xs → Rising xs → has xs a ≡ false
-    → picked xs bs ≡ filter (λ m. has (picked xs bs) m || (m == a)) xs
+pub acked-other : (xs : List ℕ) (bs : List Bool) (a : ℕ) → length bs ≡ length xs → Rising xs
+    → has xs a ≡ false → picked xs bs ≡ filter (λ m. has (picked xs bs) m || (m == a)) xs
 acked-other xs bs a l h n =
     sym (filter-mark_of xs bs l h) ∙ (filter-agree (mark_of xs bs) (has (picked xs bs)) xs (λ x. sym (has-picked xs bs x h))
     ∙ sym (filter-other (has (picked xs bs)) a xs n))
@@ -85,11 +88,13 @@ set-same [] i lt e = refl
 set-same (b ∷ bs) zero lt e = ap (λ c. c ∷ bs) (sym e)
 set-same (b ∷ bs) (suc i) lt e = ap (λ cs. b ∷ cs) (set-same bs i (omega arith) e)
 
-pub acked-again : (xs : List ℕ) (bs : List Bool) (i a : ℕ) → length bs ≡ length xs → Rising xs → i < length xs → get_or xs i 0 ≡ a → get_or bs i false ≡ true
+pub acked-again : (xs : List ℕ) (bs : List Bool) (i a : ℕ) → length bs ≡ length xs → Rising xs
+    → i < length xs → get_or xs i 0 ≡ a → get_or bs i false ≡ true
     → picked xs bs ≡ filter (λ m. has (picked xs bs) m || (m == a)) xs
 acked-again xs bs i a l h lt e on = ap (picked xs) (sym (set-same bs i (omega arith) on)) ∙ acked-set xs bs i a l h lt e
 
-pub off_count-set : (bs : List Bool) (i : ℕ) → i < length bs → get_or bs i false ≡ false → off_count (set bs i true) + 1 ≡ off_count bs
+pub off_count-set : (bs : List Bool) (i : ℕ) → i < length bs → get_or bs i false ≡ false
+    → off_count (set bs i true) + 1 ≡ off_count bs
 off_count-set [] i lt e = absurd (omega arith)
 off_count-set (b ∷ bs) zero lt e = grind arith
 off_count-set (b ∷ bs) (suc i) lt e = grind (arith, off_count-set bs i (omega arith) e)
@@ -104,7 +109,8 @@ off_count-none zero = refl
 off_count-none (suc n) = ap suc (off_count-none n)
 
 -- all are picked where no mark is off
-all_picked : (xs ys : List ℕ) (bs : List Bool) → length bs ≡ length xs → Rising xs → (p : ℕ → Bool) → ((x : ℕ) → has xs x ≡ true → p x ≡ mark_of xs bs x) → list_all p xs ≡ (off_count bs == 0)
+all_picked : (xs ys : List ℕ) (bs : List Bool) → length bs ≡ length xs → Rising xs → (p : ℕ → Bool)
+    → ((x : ℕ) → has xs x ≡ true → p x ≡ mark_of xs bs x) → list_all p xs ≡ (off_count bs == 0)
 all_picked [] ys [] l h p f = refl
 all_picked [] ys (b ∷ bs) l h p f = absurd (omega arith)
 all_picked (x ∷ xs) ys [] l h p f = absurd (omega arith)
@@ -114,5 +120,6 @@ all_picked (x ∷ xs) ys (b ∷ bs) l h p f =
     let rest = all_picked xs ys bs (omega arith) h.1 p (λ y i. f y (grind (arith, nat_tests)) ∙ grind (arith, nat_tests, none)) in
     grind (arith, nat_tests)
 
-pub acked_all : (xs : List ℕ) (bs : List Bool) → length bs ≡ length xs → Rising xs → list_all (has (picked xs bs)) xs ≡ (off_count bs == 0)
+pub acked_all : (xs : List ℕ) (bs : List Bool) → length bs ≡ length xs → Rising xs
+    → list_all (has (picked xs bs)) xs ≡ (off_count bs == 0)
 acked_all xs bs l h = all_picked xs xs bs l h (has (picked xs bs)) (λ x _. has-picked xs bs x h)

@@ -13,29 +13,35 @@ use Rattle.cycle_detect.specs.Rising.{AllAbove, Rising}
 
 -- ---- by number
 
-above_number : (n : ℕ) (ts : List Token) (i : ℕ) (d : Token) → AllAbove n (numbers ts) → i < length ts → n < (get_or ts i d).number
+above_number : (n : ℕ) (ts : List Token) (i : ℕ) (d : Token) → AllAbove n (numbers ts)
+    → i < length ts → n < (get_or ts i d).number
 above_number n [] i d h lt = absurd (omega arith)
 above_number n (t ∷ ts) zero d h lt = h.0
 above_number n (t ∷ ts) (suc i) d h lt = above_number n ts i d h.1 (omega arith)
 
-numbers_rise : (ts : List Token) → Rising (numbers ts) → (i j : ℕ) (d : Token) → i ≤ j → j < length ts → (get_or ts i d).number ≤ (get_or ts j d).number
+numbers_rise : (ts : List Token) → Rising (numbers ts) → (i j : ℕ) (d : Token) → i ≤ j
+    → j < length ts → (get_or ts i d).number ≤ (get_or ts j d).number
 numbers_rise [] h i j d le lt = absurd (omega arith)
 numbers_rise (t ∷ ts) h zero zero d le lt = omega arith
 numbers_rise (t ∷ ts) h zero (suc j) d le lt = omega (arith, above_number t.number ts j d h.0 (omega arith))
 numbers_rise (t ∷ ts) h (suc i) zero d le lt = absurd (omega arith)
 numbers_rise (t ∷ ts) h (suc i) (suc j) d le lt = numbers_rise ts h.1 i j d (omega arith) (omega arith)
 
-comparisons_rise : (ts : List Token) (n : ℕ) → Rising (numbers ts) → IsNonDecreasingBy (λ t. ordering_index (nat_cmp t.number n)) ts
+comparisons_rise : (ts : List Token) (n : ℕ) → Rising (numbers ts)
+    → IsNonDecreasingBy (λ t. ordering_index (nat_cmp t.number n)) ts
 comparisons_rise ts n h = λ i j d le lt. let rise = numbers_rise ts h i j d le lt in grind (arith, nat_tests)
 
-find_at : (ts : List Token) (n i : ℕ) (d : Token) → Rising (numbers ts) → i < length ts → (get_or ts i d).number ≡ n → slice_get ts i ≡ find (λ t. t.number == n) ts
+find_at : (ts : List Token) (n i : ℕ) (d : Token) → Rising (numbers ts) → i < length ts
+    → (get_or ts i d).number ≡ n → slice_get ts i ≡ find (λ t. t.number == n) ts
 find_at [] n i d h lt e = absurd (omega arith)
 find_at (t ∷ ts) n zero d h lt e = grind (arith, nat_tests)
 find_at (t ∷ ts) n (suc i) d h lt e =
     let above = above_number t.number ts i d h.0 (omega arith) in
     grind (arith, nat_tests, find_at ts n i d h.1 (omega arith) e)
 
-find_gap : (ts : List Token) (n i : ℕ) (d : Token) → ((k : ℕ) → k < i → (get_or ts k d).number < n) → ((k : ℕ) → i ≤ k → k < length ts → n < (get_or ts k d).number) → find (λ t. t.number == n) ts ≡ None
+find_gap : (ts : List Token) (n i : ℕ) (d : Token) → ((k : ℕ) → k < i → (get_or ts k d).number < n)
+    → ((k : ℕ) → i ≤ k → k < length ts → n < (get_or ts k d).number)
+    → find (λ t. t.number == n) ts ≡ None
 find_gap [] n i d below above = refl
 find_gap (t ∷ ts) n zero d below above =
     let first = above 0 (omega arith) (omega arith) in
@@ -47,7 +53,9 @@ find_gap (t ∷ ts) n (suc i) d below above =
 abbrev no_token : Token
 no_token = record { number = 0; members = []; acked = [] }
 
-pub number_found : (ts : List Token) (n : ℕ) (r : Result ℕ ℕ) → Rising (numbers ts) → IsSearchInRange r (length ts) → IsBinarySearchResult (λ t. nat_cmp t.number n) ts r → IfSome (result_ok r) (IsNumberedAt ts n)
+pub number_found : (ts : List Token) (n : ℕ) (r : Result ℕ ℕ) → Rising (numbers ts)
+    → IsSearchInRange r (length ts) → IsBinarySearchResult (λ t. nat_cmp t.number n) ts r
+    → IfSome (result_ok r) (IsNumberedAt ts n)
 number_found ts n (Ok i) h within s = record {
   within = within;
   same = λ d. ranked _ n _ (sym (s d));
@@ -55,7 +63,9 @@ number_found ts n (Ok i) h within s = record {
 }
 number_found ts n (Err i) h within s = tt
 
-pub number_absent : (ts : List Token) (n : ℕ) (r : Result ℕ ℕ) → Rising (numbers ts) → IsSearchInRange r (length ts) → IsBinarySearchResult (λ t. nat_cmp t.number n) ts r → IfNone (result_ok r) (find (λ (t : Token). t.number == n) ts ≡ None)
+pub number_absent : (ts : List Token) (n : ℕ) (r : Result ℕ ℕ) → Rising (numbers ts)
+    → IsSearchInRange r (length ts) → IsBinarySearchResult (λ t. nat_cmp t.number n) ts r
+    → IfNone (result_ok r) (find (λ (t : Token). t.number == n) ts ≡ None)
 number_absent ts n (Ok i) h within s = tt
 number_absent ts n (Err i) h within s =
     let parted = s (comparisons_rise ts n h) in
@@ -63,27 +73,32 @@ number_absent ts n (Err i) h within s =
 
 -- ---- one token goes
 
-number_kept : (n : ℕ) (ts : List Token) → AllAbove n (numbers ts) → filter (λ u. not (u.number == n)) ts ≡ ts
+number_kept : (n : ℕ) (ts : List Token) → AllAbove n (numbers ts)
+    → filter (λ u. not (u.number == n)) ts ≡ ts
 number_kept n [] h = refl
 number_kept n (t ∷ ts) h = grind (arith, nat_tests, h.0, number_kept n ts h.1)
 
-pub remove-numbered : (ts : List Token) (n i : ℕ) (d : Token) → Rising (numbers ts) → i < length ts → (get_or ts i d).number ≡ n → remove ts i ≡ filter (λ u. not (u.number == n)) ts
+pub remove-numbered : (ts : List Token) (n i : ℕ) (d : Token) → Rising (numbers ts) → i < length ts
+    → (get_or ts i d).number ≡ n → remove ts i ≡ filter (λ u. not (u.number == n)) ts
 remove-numbered [] n i d h lt e = absurd (omega arith)
 remove-numbered (t ∷ ts) n zero d h lt e = grind (arith, nat_tests, number_kept t.number ts h.0)
 remove-numbered (t ∷ ts) n (suc i) d h lt e =
     let above = above_number t.number ts i d h.0 (omega arith) in
     grind (arith, nat_tests, remove-numbered ts n i d h.1 (omega arith) e)
 
-above-filter : (n : ℕ) (p : Token → Bool) (ts : List Token) → AllAbove n (numbers ts) → AllAbove n (numbers (filter p ts))
+above-filter : (n : ℕ) (p : Token → Bool) (ts : List Token) → AllAbove n (numbers ts)
+    → AllAbove n (numbers (filter p ts))
 above-filter n p [] h = tt
 above-filter n p (t ∷ ts) h = cond_both (p t) (t ∷ filter p ts) (filter p ts) (λ us. AllAbove n (numbers us)) (λ _. (h.0, above-filter n p ts h.1)) (λ _. above-filter n p ts h.1)
 
-pub numbered-filter : (p : Token → Bool) (ts : List Token) → Rising (numbers ts) → Rising (numbers (filter p ts))
+pub numbered-filter : (p : Token → Bool) (ts : List Token) → Rising (numbers ts)
+    → Rising (numbers (filter p ts))
 numbered-filter p [] h = tt
 numbered-filter p (t ∷ ts) h = cond_both (p t) (t ∷ filter p ts) (filter p ts) (λ us. Rising (numbers us)) (λ _. (above-filter t.number p ts h.0, numbered-filter p ts h.1)) (λ _. numbered-filter p ts h.1)
 
 -- the first that is acknowledged stays the first while another goes
-pub first-filter : (n : ℕ) (ts : List Token) → first_acked ts ≢ Some n → first_acked (filter (λ u. not (u.number == n)) ts) ≡ first_acked ts
+pub first-filter : (n : ℕ) (ts : List Token) → first_acked ts ≢ Some n
+    → first_acked (filter (λ u. not (u.number == n)) ts) ≡ first_acked ts
 first-filter n [] h = refl
 first-filter n (t ∷ ts) h = ⊎_elim
     (λ (on : all_acked t ≡ true).
@@ -104,21 +119,27 @@ acks_above : (n a : ℕ) (ts : List Token) → AllAbove n (numbers ts) → map (
 acks_above n a [] h = refl
 acks_above n a (t ∷ ts) h = let same = other_ack n a t (λ e. let lt = h.0 in omega arith) in cc (acks_above n a ts h.1)
 
-pub acks_none : (n a : ℕ) (ts : List Token) → find (λ t. t.number == n) ts ≡ None → map (note_ack n a) ts ≡ ts
-acks_none n a [] h = refl
-acks_none n a (t ∷ ts) h = ⊎_elim
-    (λ (on : (t.number == n) ≡ true). absurd (some_none t (find (λ u. u.number == n) ts) (t.number == n) on h))
-    (λ (off : (t.number == n) ≡ false).
-    let rest = acks_none n a ts (rw off at h) in
-    let same = other_ack n a t (λ e. false≢true (sym off ∙ eq-eqb t.number n e)) in
-    cc (rest, same))
-    (cases_Bool (t.number == n))
+-- where no token has the number, the first has another, and so have the rest
+pub none_first : (t : Token) (ts : List Token) (n : ℕ) → find (λ (u : Token). u.number == n) (t ∷ ts) ≡ None
+    → ((t.number == n) ≡ false) × (find (λ (u : Token). u.number == n) ts ≡ None)
+none_first t ts n h = by_head (t.number == n) h
   where
-    some_none : (t : Token) (o : Option Token) (b : Bool) → b ≡ true → (cond b (Some t) o) ≡ None → ⊥
-    some_none t o true e h = cc
-    some_none t o false e h = cc
+    by_head : (b : Bool) → cond b (Some t) (find (λ (u : Token). u.number == n) ts) ≡ None
+        → (b ≡ false) × (find (λ (u : Token). u.number == n) ts ≡ None)
+    by_head true e = absurd (cc)
+    by_head false e = (refl, e)
 
-pub acks_at : (n a : ℕ) (ts : List Token) (i : ℕ) (d : Token) → Rising (numbers ts) → i < length ts → (get_or ts i d).number ≡ n → map (note_ack n a) ts ≡ set ts i (note_ack n a (get_or ts i d))
+pub acks_none : (n a : ℕ) (ts : List Token) → find (λ t. t.number == n) ts ≡ None
+    → map (note_ack n a) ts ≡ ts
+acks_none n a [] h = refl
+acks_none n a (t ∷ ts) h =
+    let (off, none) = none_first t ts n h in
+    let rest = acks_none n a ts none in
+    let same = other_ack n a t (λ e. false≢true (sym off ∙ eq-eqb t.number n e)) in
+    cc (rest, same)
+
+pub acks_at : (n a : ℕ) (ts : List Token) (i : ℕ) (d : Token) → Rising (numbers ts) → i < length ts
+    → (get_or ts i d).number ≡ n → map (note_ack n a) ts ≡ set ts i (note_ack n a (get_or ts i d))
 acks_at n a [] i d h lt e = absurd (omega arith)
 acks_at n a (t ∷ ts) zero d h lt e = ap (λ us. note_ack n a t ∷ us) (acks_above n a ts (subst (λ k. AllAbove k (numbers ts)) e h.0))
 acks_at n a (t ∷ ts) (suc i) d h lt e =
@@ -130,13 +151,15 @@ pub numbers-acks : (n a : ℕ) (ts : List Token) → numbers (map (note_ack n a)
 numbers-acks n a [] = refl
 numbers-acks n a (t ∷ ts) = ap (λ ns. t.number ∷ ns) (numbers-acks n a ts)
 
-pub told-acks : (told : ℕ → Option ℕ) (n a : ℕ) (ts : List Token) → AllByRecursion (IsTold told) ts → AllByRecursion (IsTold told) (map (note_ack n a) ts)
+pub told-acks : (told : ℕ → Option ℕ) (n a : ℕ) (ts : List Token) → AllByRecursion (IsTold told) ts
+    → AllByRecursion (IsTold told) (map (note_ack n a) ts)
 told-acks told n a [] h = tt
 told-acks told n a (t ∷ ts) h = (h.0, told-acks told n a ts h.1)
 
 -- ---- the first that is acknowledged
 
-pub first-above : (n : ℕ) (ts : List Token) → AllAbove n (numbers ts) → IfSome (first_acked ts) (λ k. n < k)
+pub first-above : (n : ℕ) (ts : List Token) → AllAbove n (numbers ts)
+    → IfSome (first_acked ts) (λ k. n < k)
 first-above n [] h = tt
 first-above n (t ∷ ts) h = ⊎_elim
     (λ (on : all_acked t ≡ true). rw on h.0)
@@ -144,11 +167,14 @@ first-above n (t ∷ ts) h = ⊎_elim
     (cases_Bool (all_acked t))
 
 -- who was acknowledged by all stays so
-picked-stays : (p : ℕ → Bool) (ms : List ℕ) (m : ℕ) → has ms m ≡ true → p m ≡ true → has (filter p ms) m ≡ true
+picked-stays : (p : ℕ → Bool) (ms : List ℕ) (m : ℕ) → has ms m ≡ true → p m ≡ true
+    → has (filter p ms) m ≡ true
 picked-stays p [] m h e = h
 picked-stays p (x ∷ ms) m h e = grind (arith, nat_tests, picked-stays p ms m)
 
-all-stays : (xs ms all : List ℕ) (a : ℕ) → ((m : ℕ) → has ms m ≡ true → has all m ≡ true) → list_all (has xs) ms ≡ true → list_all (has (filter (λ m. has xs m || (m == a)) all)) ms ≡ true
+all-stays : (xs ms all : List ℕ) (a : ℕ) → ((m : ℕ) → has ms m ≡ true → has all m ≡ true)
+    → list_all (has xs) ms ≡ true
+    → list_all (has (filter (λ m. has xs m || (m == a)) all)) ms ≡ true
 all-stays xs [] all a within h = refl
 all-stays xs (m ∷ ms) all a within h =
     let parts = and_parts (has xs m) (list_all (has xs) ms) h in
@@ -165,7 +191,9 @@ not_before : (n a : ℕ) (t : Token) → all_acked (note_ack n a t) ≡ false �
 not_before n a t h = ⊎_elim (λ on. absurd (false≢true (sym h ∙ acked_stays n a t on))) (λ off. off) (cases_Bool (all_acked t))
 
 -- while the token that was noted is not acknowledged by all, the first stays
-pub first-pending : (n a : ℕ) (ts : List Token) (i : ℕ) (d : Token) → i < length ts → all_acked (note_ack n a (get_or ts i d)) ≡ false → first_acked (set ts i (note_ack n a (get_or ts i d))) ≡ first_acked ts
+pub first-pending : (n a : ℕ) (ts : List Token) (i : ℕ) (d : Token) → i < length ts
+    → all_acked (note_ack n a (get_or ts i d)) ≡ false
+    → first_acked (set ts i (note_ack n a (get_or ts i d))) ≡ first_acked ts
 first-pending n a [] i d lt h = absurd (omega arith)
 first-pending n a (t ∷ ts) zero d lt h = rw (h, not_before n a t h) refl
 first-pending n a (t ∷ ts) (suc i) d lt h =
@@ -176,7 +204,9 @@ lower_above None n h = refl
 lower_above (Some k) n h = grind arith
 
 -- once it is, it may be the first
-pub first-ready : (n : ℕ) (u : Token) (ts : List Token) (i : ℕ) (d : Token) → Rising (numbers ts) → i < length ts → (get_or ts i d).number ≡ n → u.number ≡ n → all_acked u ≡ true → first_acked (set ts i u) ≡ Some (lower_of (first_acked ts) n)
+pub first-ready : (n : ℕ) (u : Token) (ts : List Token) (i : ℕ) (d : Token) → Rising (numbers ts)
+    → i < length ts → (get_or ts i d).number ≡ n → u.number ≡ n → all_acked u ≡ true
+    → first_acked (set ts i u) ≡ Some (lower_of (first_acked ts) n)
 first-ready n u [] i d h lt e f on = absurd (omega arith)
 first-ready n u (t ∷ ts) zero d h lt e f on =
     let above : AllAbove n (numbers ts) = subst (λ k. AllAbove k (numbers ts)) e h.0 in
@@ -192,20 +222,23 @@ first-ready n u (t ∷ ts) (suc i) d h lt e f on =
     (cases_Bool (all_acked t))
 
 -- a further token is the last
-pub first-push : (ts : List Token) (t : Token) → first_acked (ts ++ t ∷ []) ≡ first_with (first_acked ts) t
+pub first-push : (ts : List Token) (t : Token)
+    → first_acked (ts ++ t ∷ []) ≡ first_with (first_acked ts) t
 first-push [] t = grind arith
 first-push (u ∷ ts) t = ⊎_elim (λ (on : all_acked u ≡ true). rw on refl) (λ (off : all_acked u ≡ false). rw off (first-push ts t)) (cases_Bool (all_acked u))
 
 -- ---- by member
 
-told_above : (told : ℕ → Option ℕ) (n a : ℕ) (ts : List Token) → told a ≡ Some n → AllAbove n (numbers ts) → AllByRecursion (IsTold told) ts → in_token ts a ≡ false
+told_above : (told : ℕ → Option ℕ) (n a : ℕ) (ts : List Token) → told a ≡ Some n
+    → AllAbove n (numbers ts) → AllByRecursion (IsTold told) ts → in_token ts a ≡ false
 told_above told n a [] e up h = refl
 told_above told n a (t ∷ ts) e up h = ⊎_elim
     (λ (on : has t.members a ≡ true). absurd (let same : Some n ≡ Some t.number = sym e ∙ h.0 a on in let lt = up.0 in let eq : n ≡ t.number = cc in omega arith))
     (λ (off : has t.members a ≡ false). rw off (told_above told n a ts e up.1 h.1))
     (cases_Bool (has t.members a))
 
-pub in-untold : (told : ℕ → Option ℕ) (a : ℕ) (ts : List Token) → told a ≡ None → AllByRecursion (IsTold told) ts → in_token ts a ≡ false
+pub in-untold : (told : ℕ → Option ℕ) (a : ℕ) (ts : List Token) → told a ≡ None
+    → AllByRecursion (IsTold told) ts → in_token ts a ≡ false
 in-untold told a [] e h = refl
 in-untold told a (t ∷ ts) e h = ⊎_elim
     (λ (on : has t.members a ≡ true). absurd (let same : None ≡ Some t.number = sym e ∙ h.0 a on in cc))
@@ -213,26 +246,27 @@ in-untold told a (t ∷ ts) e h = ⊎_elim
     (cases_Bool (has t.members a))
 
 -- who is told a token that is not open, or of which it is no member, is in none
-pub in-closed : (told : ℕ → Option ℕ) (n a : ℕ) (ts : List Token) → told a ≡ Some n → find (λ t. t.number == n) ts ≡ None → AllByRecursion (IsTold told) ts → in_token ts a ≡ false
+pub in-closed : (told : ℕ → Option ℕ) (n a : ℕ) (ts : List Token) → told a ≡ Some n
+    → find (λ t. t.number == n) ts ≡ None → AllByRecursion (IsTold told) ts → in_token ts a ≡ false
 in-closed told n a [] e f h = refl
-in-closed told n a (t ∷ ts) e f h = ⊎_elim
-    (λ (on : (t.number == n) ≡ true). absurd (some_none t (find (λ u. u.number == n) ts) (t.number == n) on f))
-    (λ (other : (t.number == n) ≡ false). ⊎_elim
-    (λ (on : has t.members a ≡ true). absurd (let same : Some n ≡ Some t.number = sym e ∙ h.0 a on in let eq : n ≡ t.number = cc in false≢true (sym other ∙ eq-eqb t.number n (sym eq))))
-    (λ (off : has t.members a ≡ false). rw off (in-closed told n a ts e (rw other at f) h.1))
-    (cases_Bool (has t.members a)))
-    (cases_Bool (t.number == n))
-  where
-    some_none : (t : Token) (o : Option Token) (b : Bool) → b ≡ true → (cond b (Some t) o) ≡ None → ⊥
-    some_none t o true e h = cc
-    some_none t o false e h = cc
+in-closed told n a (t ∷ ts) e f h =
+    let (other, none) = none_first t ts n f in
+    ⊎_elim
+    (λ (on : has t.members a ≡ true). absurd (let same : Some n ≡ Some t.number = sym e ∙ h.0 a on in let eq : n ≡ t.number = cc in
+    false≢true (sym other ∙ eq-eqb t.number n (sym eq))))
+    (λ (off : has t.members a ≡ false). rw off (in-closed told n a ts e none h.1))
+    (cases_Bool (has t.members a))
 
-pub told_number : (told : ℕ → Option ℕ) (a : ℕ) (ts : List Token) (i : ℕ) (d : Token) → AllByRecursion (IsTold told) ts → i < length ts → has (get_or ts i d).members a ≡ true → told a ≡ Some (get_or ts i d).number
+pub told_number : (told : ℕ → Option ℕ) (a : ℕ) (ts : List Token) (i : ℕ) (d : Token)
+    → AllByRecursion (IsTold told) ts → i < length ts → has (get_or ts i d).members a ≡ true
+    → told a ≡ Some (get_or ts i d).number
 told_number told a [] i d h lt e = absurd (omega arith)
 told_number told a (t ∷ ts) zero d h lt e = h.0 a e
 told_number told a (t ∷ ts) (suc i) d h lt e = told_number told a ts i d h.1 (omega arith) e
 
-pub in-other : (told : ℕ → Option ℕ) (n a : ℕ) (ts : List Token) (i : ℕ) (d : Token) → told a ≡ Some n → Rising (numbers ts) → AllByRecursion (IsTold told) ts → i < length ts → (get_or ts i d).number ≡ n → has (get_or ts i d).members a ≡ false → in_token ts a ≡ false
+pub in-other : (told : ℕ → Option ℕ) (n a : ℕ) (ts : List Token) (i : ℕ) (d : Token)
+    → told a ≡ Some n → Rising (numbers ts) → AllByRecursion (IsTold told) ts → i < length ts
+    → (get_or ts i d).number ≡ n → has (get_or ts i d).members a ≡ false → in_token ts a ≡ false
 in-other told n a [] i d e up h lt same out = absurd (omega arith)
 in-other told n a (t ∷ ts) zero d e up h lt same out = rw out (told_above told n a ts e (subst (λ k. AllAbove k (numbers ts)) same up.0) h.1)
 in-other told n a (t ∷ ts) (suc i) d e up h lt same out =
@@ -242,17 +276,21 @@ in-other told n a (t ∷ ts) (suc i) d e up h lt same out =
     (λ (off : has t.members a ≡ false). rw off (in-other told n a ts i d e up.1 h.1 (omega arith) same out))
     (cases_Bool (has t.members a))
 
-pub in-at : (a : ℕ) (ts : List Token) (i : ℕ) (d : Token) → i < length ts → has (get_or ts i d).members a ≡ true → in_token ts a ≡ true
+pub in-at : (a : ℕ) (ts : List Token) (i : ℕ) (d : Token) → i < length ts
+    → has (get_or ts i d).members a ≡ true → in_token ts a ≡ true
 in-at a [] i d lt e = absurd (omega arith)
 in-at a (t ∷ ts) zero d lt e = rw e refl
 in-at a (t ∷ ts) (suc i) d lt e = or_right (has t.members a) (in_token ts a) (in-at a ts i d (omega arith) e)
 
-pub cancel-none : (a : ℕ) (ts : List Token) → in_token ts a ≡ false → filter (λ t. not (has t.members a)) ts ≡ ts
+pub cancel-none : (a : ℕ) (ts : List Token) → in_token ts a ≡ false
+    → filter (λ t. not (has t.members a)) ts ≡ ts
 cancel-none a [] h = refl
 cancel-none a (t ∷ ts) h = grind (arith, cancel-none a ts)
 
 -- a member's token is the only one that goes with it
-pub cancel-one : (told : ℕ → Option ℕ) (a : ℕ) (ts : List Token) (i : ℕ) (d : Token) → Rising (numbers ts) → AllByRecursion (IsTold told) ts → i < length ts → has (get_or ts i d).members a ≡ true
+pub cancel-one : (told : ℕ → Option ℕ) (a : ℕ) (ts : List Token) (i : ℕ) (d : Token)
+    → Rising (numbers ts) → AllByRecursion (IsTold told) ts → i < length ts
+    → has (get_or ts i d).members a ≡ true
     → filter (λ u. not (u.number == (get_or ts i d).number)) ts ≡ filter (λ t. not (has t.members a)) ts
 cancel-one told a [] i d up h lt e = absurd (omega arith)
 cancel-one told a (t ∷ ts) zero d up h lt e =
@@ -269,29 +307,28 @@ cancel-one told a (t ∷ ts) (suc i) d up h lt e =
     (cases_Bool (has t.members a))
 
 -- what holds of all holds of some
-pub each-filter : (P : Token → Type 0) (p : Token → Bool) (ts : List Token) → AllByRecursion P ts → AllByRecursion P (filter p ts)
+pub each-filter : (P : Token → Type 0) (p : Token → Bool) (ts : List Token) → AllByRecursion P ts
+    → AllByRecursion P (filter p ts)
 each-filter P p [] h = tt
 each-filter P p (t ∷ ts) h = cond_both (p t) (t ∷ filter p ts) (filter p ts) (AllByRecursion P)
     (λ _. (h.0, each-filter P p ts h.1)) (λ _. each-filter P p ts h.1)
 
--- what is told once there is room for more
-pub told-wider : (told later : ℕ → Option ℕ) (ts : List Token) → ((a n : ℕ) → told a ≡ Some n → later a ≡ Some n)
-    → AllByRecursion (IsTold told) ts → AllByRecursion (IsTold later) ts
-told-wider told later [] kept h = tt
-told-wider told later (t ∷ ts) kept h = (λ m i. kept m t.number (h.0 m i), told-wider told later ts kept h.1)
-
 -- what is told of the members of a further token
-pub told-push : (told later : ℕ → Option ℕ) (t : Token) (ts : List Token) → ((m : ℕ) → in_token ts m ≡ true → later m ≡ told m) → ((m : ℕ) → has t.members m ≡ true → later m ≡ Some t.number)
-    → AllByRecursion (IsTold told) ts → AllByRecursion (IsTold later) (ts ++ t ∷ [])
+pub told-push : (told later : ℕ → Option ℕ) (t : Token) (ts : List Token)
+    → ((m : ℕ) → in_token ts m ≡ true → later m ≡ told m)
+    → ((m : ℕ) → has t.members m ≡ true → later m ≡ Some t.number) → AllByRecursion (IsTold told) ts
+    → AllByRecursion (IsTold later) (ts ++ t ∷ [])
 told-push told later t [] same new h = (new, tt)
 told-push told later t (u ∷ us) same new h =
     (λ m i. same m (or_left (has u.members m) (in_token us m) i) ∙ h.0 m i, told-push told later t us (λ m i. same m (or_right (has u.members m) (in_token us m) i)) new h.1)
 
-above-push : (n m : ℕ) (ts : List Token) (t : Token) → n < t.number → AllAbove n (numbers ts) → AllAbove n (numbers (ts ++ t ∷ []))
+above-push : (n m : ℕ) (ts : List Token) (t : Token) → n < t.number → AllAbove n (numbers ts)
+    → AllAbove n (numbers (ts ++ t ∷ []))
 above-push n m [] t lt h = (lt, tt)
 above-push n m (u ∷ us) t lt h = (h.0, above-push n m us t lt h.1)
 
-pub numbered-push : (ts : List Token) (t : Token) → AllByRecursion (λ u. u.number < t.number) ts → Rising (numbers ts) → Rising (numbers (ts ++ t ∷ []))
+pub numbered-push : (ts : List Token) (t : Token) → AllByRecursion (λ u. u.number < t.number) ts
+    → Rising (numbers ts) → Rising (numbers (ts ++ t ∷ []))
 numbered-push [] t lt h = (tt, tt)
 numbered-push (u ∷ us) t lt h = (above-push u.number 0 us t lt.0 h.0, numbered-push us t lt.1 h.1)
 
@@ -299,6 +336,7 @@ pub if_none : {A P : Type 0} (o : Option A) → P → IfNone o P
 if_none None h = h
 if_none (Some x) h = tt
 
-pub member_found : (ts : List Token) (a : ℕ) (o : Option ℕ) → IfSome o (HasMemberAt ts a) → IfNone o (in_token ts a ≡ false) → is_some o ≡ in_token ts a
+pub member_found : (ts : List Token) (a : ℕ) (o : Option ℕ) → IfSome o (HasMemberAt ts a)
+    → IfNone o (in_token ts a ≡ false) → is_some o ≡ in_token ts a
 member_found ts a None some none = sym none
 member_found ts a (Some i) some none = sym (in-at a ts i no_token some.within (some.member no_token))

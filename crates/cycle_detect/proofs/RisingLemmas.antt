@@ -20,7 +20,8 @@ rises (x ∷ xs) h zero (suc j) le lt = omega (arith, above-get x xs j h.0 (omeg
 rises (x ∷ xs) h (suc i) zero le lt = absurd (omega arith)
 rises (x ∷ xs) h (suc i) (suc j) le lt = rises xs h.1 i j (omega arith) (omega arith)
 
-pub has-gap : (xs : List ℕ) (x i : ℕ) → ((k : ℕ) → k < i → get_or xs k 0 < x) → ((k : ℕ) → i ≤ k → k < length xs → x < get_or xs k 0) → has xs x ≡ false
+pub has-gap : (xs : List ℕ) (x i : ℕ) → ((k : ℕ) → k < i → get_or xs k 0 < x)
+    → ((k : ℕ) → i ≤ k → k < length xs → x < get_or xs k 0) → has xs x ≡ false
 has-gap [] x i below above = refl
 has-gap (y ∷ xs) x zero below above =
     let first = above 0 (omega arith) (omega arith) in
@@ -36,15 +37,19 @@ has-at (y ∷ xs) zero x e = grind (arith, nat_tests)
 has-at (y ∷ xs) (suc i) x e = grind (arith, nat_tests, has-at xs i x e)
 
 -- what a binary search says
-search_says : (xs : List ℕ) (x : ℕ) (r : Result ℕ ℕ) → MatchResult r (λ i. (i < length xs) × (get_or xs i 0 ≡ x)) (λ i. (i ≤ length xs) × ((k : ℕ) → k < i → get_or xs k 0 < x) × ((k : ℕ) → i ≤ k → k < length xs → x < get_or xs k 0)) → IfNone (result_ok r) (has xs x ≡ false)
+search_says : (xs : List ℕ) (x : ℕ) (r : Result ℕ ℕ)
+    → MatchResult r (λ i. (i < length xs) × (get_or xs i 0 ≡ x)) (λ i. (i ≤ length xs) × ((k : ℕ) → k < i → get_or xs k 0 < x) × ((k : ℕ) → i ≤ k → k < length xs → x < get_or xs k 0))
+    → IfNone (result_ok r) (has xs x ≡ false)
 search_says xs x (Ok i) h = tt
 search_says xs x (Err i) h = has-gap xs x i h.1 h.2
 
-pub not_found : (xs : List ℕ) (x : ℕ) (r : Result ℕ ℕ) → Rising xs → IsBinarySearchResult (λ y. nat_cmp y x) xs r → IfNone (result_ok r) (has xs x ≡ false)
+pub not_found : (xs : List ℕ) (x : ℕ) (r : Result ℕ ℕ) → Rising xs
+    → IsBinarySearchResult (λ y. nat_cmp y x) xs r → IfNone (result_ok r) (has xs x ≡ false)
 not_found xs x r h s = search_says xs x r (searched xs x r s (rises xs h))
 
 -- a place was found exactly where the name is among them
-pub found_is_has : (xs : List ℕ) (x : ℕ) (o : Option ℕ) → IfSome o (λ i. slice_get xs i ≡ Some x) → IfNone o (has xs x ≡ false) → is_some o ≡ has xs x
+pub found_is_has : (xs : List ℕ) (x : ℕ) (o : Option ℕ) → IfSome o (λ i. slice_get xs i ≡ Some x)
+    → IfNone o (has xs x ≡ false) → is_some o ≡ has xs x
 found_is_has xs x (Some i) some none = sym (has-at xs i x some)
 found_is_has xs x None some none = sym none
 

@@ -1,11 +1,11 @@
 -- Numbers that actors are told.
-use Rattle.std.proofs.Common.{◌≡◌, ◌≢◌, ℕ, zero, suc, ◌+◌, ◌-◌, ◌<◌, ◌≤◌, ◌==◌, Bool, true, false, List, [], ◌∷◌, ◌++◌, length, get_or, set, take, refl, sym, subst, ◌∙◌, ⊎_elim, arith, Option, Some, None, slice_get}
+use Rattle.std.proofs.Common.{◌≡◌, ◌≢◌, ℕ, zero, suc, ◌+◌, ◌-◌, ◌<◌, ◌≤◌, ◌==◌, true, false, List, [], ◌∷◌, length, get_or, set, take, refl, sym, subst, ◌∙◌, ⊎_elim, arith, Some, slice_get}
 use Rattle.std.proofs.lemmas.Bool.{cases_Bool, cases_eq, false≢true}
 use Rattle.std.proofs.lemmas.Bool.Decides.{nat_tests}
 use Rattle.std.proofs.lemmas.List.Folds.{list_any_more}
 use Rattle.std.proofs.lemmas.Option.{slice_get_read, slice_get_within}
 use Rattle.letter_kinds.specs.Detector.{has}
-use Rattle.cycle_detect.specs.Rising.{AllAbove, Rising}
+use Rattle.cycle_detect.specs.Rising.{Rising}
 use Rattle.cycle_detect.proofs.RisingLemmas.{has-at}
 
 get-set_same : (xs : List ℕ) (a n : ℕ) → a < length xs → slice_get (set xs a n) a ≡ Some n
@@ -26,17 +26,20 @@ actor_among xs i a lt is = has-at xs i a (slice_get_read xs (length xs) i a refl
 
 -- one more actor is told
 pub told_more : (told xs : List ℕ) (i a n : ℕ) → i < length xs → a ≡ get_or xs i a → a < length told
-    → ((b : ℕ) → has (take i xs) b ≡ true → slice_get told b ≡ Some n) → (b : ℕ) → has (take (i + 1) xs) b ≡ true → slice_get (set told a n) b ≡ Some n
+    → ((b : ℕ) → has (take i xs) b ≡ true → slice_get told b ≡ Some n) → (b : ℕ)
+    → has (take (i + 1) xs) b ≡ true → slice_get (set told a n) b ≡ Some n
 told_more told xs i a n lt is in_range before b h = ⊎_elim
     (λ (same : b ≡ a). subst (λ x. slice_get (set told a n) x ≡ Some n) (sym same) (get-set_same told a n in_range))
     (λ (other : b ≢ a). get-set_other told a b n other ∙ before b (grind (arith, nat_tests, list_any_more (λ x. x == b) xs i a lt)))
     (cases_eq b a)
 
-pub told_others : (told xs : List ℕ) (i a n : ℕ) → i < length xs → a ≡ get_or xs i a → (b : ℕ) → has xs b ≡ false → slice_get (set told a n) b ≡ slice_get told b
+pub told_others : (told xs : List ℕ) (i a n : ℕ) → i < length xs → a ≡ get_or xs i a → (b : ℕ)
+    → has xs b ≡ false → slice_get (set told a n) b ≡ slice_get told b
 told_others told xs i a n lt is b out =
     get-set_other told a b n (λ same. false≢true (sym out ∙ subst (λ x. has xs x ≡ true) (sym same) (actor_among xs i a lt is)))
 
-below_last : (xs : List ℕ) (n last : ℕ) → Rising xs → suc n ≡ length xs → slice_get xs n ≡ Some last → (a : ℕ) → has xs a ≡ true → a ≤ last
+below_last : (xs : List ℕ) (n last : ℕ) → Rising xs → suc n ≡ length xs → slice_get xs n ≡ Some last
+    → (a : ℕ) → has xs a ≡ true → a ≤ last
 below_last [] n last up long at a h = absurd (false≢true h)
 below_last (x ∷ []) zero last up long at a h = grind (arith, nat_tests)
 below_last (x ∷ []) (suc n) last up long at a h = absurd (omega arith)
@@ -51,7 +54,8 @@ below_last (x ∷ y ∷ ys) (suc n) last up long at a h =
     (cases_Bool (x == a))
 
 -- where the last of them has a place, all have
-pub room_for : (xs : List ℕ) (last total : ℕ) → Rising xs → slice_get xs (length xs - 1) ≡ Some last → last + 1 ≤ total → (a : ℕ) → has xs a ≡ true → a < total
+pub room_for : (xs : List ℕ) (last total : ℕ) → Rising xs → slice_get xs (length xs - 1) ≡ Some last
+    → last + 1 ≤ total → (a : ℕ) → has xs a ≡ true → a < total
 room_for xs last total up at le a h =
     let within = slice_get_within xs (length xs - 1) last at in
     let below = below_last xs (length xs - 1) last up (omega arith) at a h in

@@ -18,14 +18,16 @@ above_In : (a : ℕ) (rs : List Report) (r : Report) → AllAbove a (actors_of r
 above_In a [] r h i = absurd i
 above_In a (q ∷ rs) r h i = ⊎_elim (λ e. subst (λ (x : Report). a < x.actor) (sym e) h.0) (λ j. above_In a rs r h.1 j) i
 
-one_name : (rs : List Report) (r s : Report) → Rising (actors_of rs) → In r rs → In s rs → r.actor ≡ s.actor → r ≡ s
+one_name : (rs : List Report) (r s : Report) → Rising (actors_of rs) → In r rs → In s rs
+    → r.actor ≡ s.actor → r ≡ s
 one_name [] r s h i j e = absurd i
 one_name (q ∷ rs) r s h i j e = ⊎_elim
     (λ a. ⊎_elim (λ b. a ∙ sym b) (λ b. absurd (let lt = above_In q.actor rs s h.0 b in let is : r.actor ≡ q.actor = ap (λ (x : Report). x.actor) a in omega (arith, lt))) j)
     (λ a. ⊎_elim (λ b. absurd (let lt = above_In q.actor rs r h.0 a in let is : s.actor ≡ q.actor = ap (λ (x : Report). x.actor) b in omega (arith, lt))) (λ b. one_name rs r s h.1 a b e) j)
     i
 
-In-filter_from : (p : Report → Bool) (rs : List Report) (q : Report) → In q rs → p q ≡ true → In q (filter p rs)
+In-filter_from : (p : Report → Bool) (rs : List Report) (q : Report) → In q rs → p q ≡ true
+    → In q (filter p rs)
 In-filter_from p [] q i t = absurd i
 In-filter_from p (r ∷ rs) q i t = ⊎_elim
     (λ (e : q ≡ r). let t' : p r ≡ true = ap p (sym e) ∙ t in subst (λ b. In q (cond b (r ∷ filter p rs) (filter p rs))) (sym t') (inl e))
@@ -35,13 +37,17 @@ each_In : (P : Report → Type 0) (rs : List Report) → AllByRecursion P rs →
 each_In P [] h q i = absurd i
 each_In P (r ∷ rs) h q i = ⊎_elim (λ e. subst P (sym e) h.0) (λ j. each_In P rs h.1 q j) i
 
-pub less_kept : (f : Report → ℕ) (p q : Report → Bool) (rs : List Report) → ((r : Report) → In r rs → p r ≡ true → q r ≡ true) → sum_by f (filter p rs) ≤ sum_by f (filter q rs)
+pub less_kept : (f : Report → ℕ) (p q : Report → Bool) (rs : List Report)
+    → ((r : Report) → In r rs → p r ≡ true → q r ≡ true)
+    → sum_by f (filter p rs) ≤ sum_by f (filter q rs)
 less_kept f p q [] h = omega arith
 less_kept f p q (r ∷ rs) h =
     grind (arith, h r (inl refl), sum_by-cons f r (filter p rs), sum_by-cons f r (filter q rs), less_kept f p q rs (λ x i. h x (inr i)))
 
 -- whom the rest does not cover is in no closed set
-pub take_out : (rs : List Report) (alive : Report → Bool) (r : Report) → Rising (actors_of rs) → In r rs → told_on_by r.actor (filter alive rs) < r.count → LosesNone rs alive → LosesNone rs (without r.actor alive)
+pub take_out : (rs : List Report) (alive : Report → Bool) (r : Report) → Rising (actors_of rs)
+    → In r rs → told_on_by r.actor (filter alive rs) < r.count → LosesNone rs alive
+    → LosesNone rs (without r.actor alive)
 take_out rs alive r rising i low h = λ set closed q j t.
     let lives : alive q ≡ true = h set closed q j t in
     ⊎_elim
@@ -54,14 +60,17 @@ take_out rs alive r rising i low h = λ set closed q j t.
     (λ (n : (q.actor == r.actor) ≡ false). grind arith)
     (cases_Bool (q.actor == r.actor))
 
-above_rest : (a : ℕ) (alive : Report → Bool) (rs : List Report) → AllAbove a (actors_of rs) → filter (without a alive) rs ≡ filter alive rs
+above_rest : (a : ℕ) (alive : Report → Bool) (rs : List Report) → AllAbove a (actors_of rs)
+    → filter (without a alive) rs ≡ filter alive rs
 above_rest a alive [] h = refl
 above_rest a alive (r ∷ rs) h =
     let ne : (r.actor == a) ≡ false = ne_eqb r.actor a (λ e. let lt = h.0 in omega arith) in
     grind (arith, above_rest a alive rs h.1)
 
 -- what is taken out lowers each sum by what it told
-pub lowered : (f : Report → ℕ) (rs : List Report) (alive : Report → Bool) (r : Report) → Rising (actors_of rs) → In r rs → alive r ≡ true → sum_by f (filter (without r.actor alive) rs) + f r ≡ sum_by f (filter alive rs)
+pub lowered : (f : Report → ℕ) (rs : List Report) (alive : Report → Bool) (r : Report)
+    → Rising (actors_of rs) → In r rs → alive r ≡ true
+    → sum_by f (filter (without r.actor alive) rs) + f r ≡ sum_by f (filter alive rs)
 lowered f [] alive r h i t = absurd i
 lowered f (q ∷ rs) alive r h i t = ⊎_elim
     (λ (e : r ≡ q). subst (λ x. sum_by f (filter (without x.actor alive) (q ∷ rs)) + f x ≡ sum_by f (filter alive (q ∷ rs))) (sym e)
@@ -73,12 +82,15 @@ lowered f (q ∷ rs) alive r h i t = ⊎_elim
     grind (arith, lowered f rs alive r h.1 j t, sum_by-cons f q (filter alive rs), sum_by-cons f q (filter (without r.actor alive) rs)))
     i
 
-same_rest : (set alive : Report → Bool) (rs : List Report) → ((q : Report) → In q rs → set q ≡ true → alive q ≡ true) → filter set (filter alive rs) ≡ filter set rs
+same_rest : (set alive : Report → Bool) (rs : List Report)
+    → ((q : Report) → In q rs → set q ≡ true → alive q ≡ true)
+    → filter set (filter alive rs) ≡ filter set rs
 same_rest set alive [] h = refl
 same_rest set alive (r ∷ rs) h = grind (arith, h r (inl refl), same_rest set alive rs (λ q i. h q (inr i)))
 
 -- once the rest covers all that are left, they are the largest closed set
-pub work_done : (rs : List Report) (alive : Report → Bool) → LosesNone rs alive → IsClosed (filter alive rs) → IsLargest rs (filter alive rs)
+pub work_done : (rs : List Report) (alive : Report → Bool) → LosesNone rs alive
+    → IsClosed (filter alive rs) → IsLargest rs (filter alive rs)
 work_done rs alive h closed = record {
   among = (alive, refl);
   closed = closed;

@@ -1,6 +1,6 @@
 // The largest closed set: reports that the others do not cover fall, one after another.
 
-ghost use Rattle.std.specs.Prelude.{◌≡◌, ℕ, ◌+◌, ◌*◌, ◌<◌, ◌≤◌, ◌++◌, ◌∷◌, [], false, true, IfOk, OnOk, length, replicate};
+ghost use Rattle.std.specs.Prelude.{◌≡◌, ℕ, ◌+◌, ◌*◌, ◌<◌, ◌≤◌, ◌++◌, ◌∷◌, ◌==◌, [], false, true, Some, IfNone, IfOk, IfSome, OnOk, length, replicate, slice_get, slice_index};
 ghost use Rattle.letter_kinds.specs.Closed.{largest_closed};
 ghost use Rattle.letter_kinds.specs.Detector.{has, in_token};
 ghost use Rattle.letter_kinds.specs.Reports.{told_on, told_on_by};
@@ -58,6 +58,28 @@ fn actors<L: Ledger>(
     Ok(found)
 }
 
+/// Where the actor stands among these, on which another one tells.
+fn place_told<L: Ledger>(
+    names: &[ActorName],
+    teller: ActorName,
+    actor: ActorName,
+    steps: &mut Steps<L>,
+) -> Option<usize>
+    requires rising { Rising names.now }
+    ensures some { IfSome result (λ k. slice_get names.now k ≡ Some actor) }
+    ensures other { IfSome result (λ k. (actor == teller) ≡ false) }
+    ensures none { IfNone result ((count k : ℕ) → k < length names.now
+        → told_in (actor, count) teller (slice_index names.now k) ≡ 0) }
+    ensures cost { steps.new ≤ steps.old + 2 }
+{
+    steps.tick();
+    if actor == teller {
+        return None;
+    }
+    steps.tick();
+    place_of(names, actor)
+}
+
 /// Adds to an actor's sum what another one tells on it. A sum that does not fit is of more counts than memory
 /// holds.
 fn add_entry<L: Ledger>(
@@ -72,12 +94,7 @@ fn add_entry<L: Ledger>(
     ensures added { OnOk result (AreRaised names.now (told_in entry teller) told.old told.new) }
     ensures cost { steps.new ≤ steps.old + 2 }
 {
-    steps.tick();
-    if entry.0 == teller {
-        return Ok(());
-    }
-    steps.tick();
-    let Some(k) = place_of(names, entry.0) else {
+    let Some(k) = place_told(names, teller, entry.0, steps) else {
         return Ok(());
     };
     let Some(sum) = told[k].checked_add(u128::from(entry.1)) else {
@@ -193,12 +210,7 @@ fn take_entry<L: Ledger>(
     ensures size { OnOk result (unsettled standing.new ≡ unsettled standing.old) }
     ensures cost { steps.new ≤ steps.old + 2 }
 {
-    steps.tick();
-    if entry.0 == teller {
-        return Ok(());
-    }
-    steps.tick();
-    let Some(k) = place_of(names, entry.0) else {
+    let Some(k) = place_told(names, teller, entry.0, steps) else {
         return Ok(());
     };
     standing.told[k] -= u128::from(entry.1);

@@ -1,10 +1,10 @@
-use Rattle.std.proofs.Common.{◌≡◌, ◌∙◌, ap, sym, subst, arith, map, not, List, filter}
+use Rattle.std.proofs.Common.{◌∙◌, ap, sym, subst, arith, not, List}
 use Rattle.letter_kinds.specs.Closed.{largest_closed}
 use Rattle.letter_kinds.specs.Detector.{has, in_token}
 use Rattle.letter_kinds.specs.declared.note.Report.{Report}
 use Rattle.cycle_detect.specs.Kept.{actors_of, reports_at}
 use Rattle.cycle_detect.specs.Rising.{Rising}
-use Rattle.cycle_detect.proofs.Falls.{few, if_ok_one, largest_free, largest_rises, not_true, rising_some}
+use Rattle.cycle_detect.proofs.Settled.{few, if_ok_one, largest_free, largest_rises, not_true, rising_some}
 use Rattle.cycle_detect.proofs.Sums.{length-names}
 use Rattle.cycle_detect.proofs.scan.closed_set.Goals as goal
 

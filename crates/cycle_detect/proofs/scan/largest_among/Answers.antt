@@ -1,7 +1,8 @@
 use Rattle.std.proofs.Common.{◌∙◌, ap, length}
 use Rattle.cycle_detect.specs.Falling.{held_left}
 use Rattle.cycle_detect.specs.Kept.{reports_at}
-use Rattle.cycle_detect.proofs.Falls.{held_left-none, if_ok_one, standing_actors, steps_all, steps_settled, told_at_first}
+use Rattle.cycle_detect.proofs.Falls.{held_left-none}
+use Rattle.cycle_detect.proofs.Settled.{if_ok_one, standing_actors, steps_all, steps_settled, told_at_first}
 use Rattle.cycle_detect.proofs.Sums.{length-names}
 use Rattle.cycle_detect.proofs.scan.largest_among.Goals as goal
 

@@ -1,5 +1,5 @@
 use Rattle.std.proofs.Common.{◌∙◌, ◌-◌, ◌++◌, [], ap, take}
-use Rattle.cycle_detect.proofs.Falls.{settled}
+use Rattle.cycle_detect.proofs.Settled.{settled}
 use Rattle.cycle_detect.proofs.scan.settle.Goals as goal
 
 pub returns-clause-settled : goal.returns-clause-settled

@@ -1,5 +1,4 @@
-use Rattle.std.proofs.Common.{◌≡◌, ◌<◌, length, ◌∙◌, ap, sym, get_or, false, arith}
-use Rattle.std.specs.Prelude.{◌==◌}
+use Rattle.std.proofs.Common.{◌<◌, length, ap, get_or, arith}
 use Rattle.cycle_detect.proofs.Falls.{check_size, on_ok, on_ok_two, take_falls}
 use Rattle.cycle_detect.proofs.RisingLemmas.{place_is}
 use Rattle.cycle_detect.proofs.Sums.{count_of, entry_taken, left_value, length-names}
@@ -7,13 +6,13 @@ use Rattle.cycle_detect.proofs.scan.take_entry.Goals as goal
 
 pub returns-clause-lowered : goal.returns-clause-lowered
 returns-clause-lowered g c =
-    let other : (c.args.entry.0 == c.args.teller) ≡ false = sym c.eq.ensures ∙ c.if-eq.false in
+    let other = c.in-Some.ensures.other in
     let left = left_value c.args.names.now c.args.standing.now.told.items c.args.entry c.args.teller c.in-Some.k c.index_mut.result.now c.from.result c.requires.rising c.requires.long.0 other c.in-Some.ensures.some c.index_mut.ensures.value c.from.ensures c.requires.enough in
     on_ok c.check.result (rw c.check.ensures.told (entry_taken c.args.names.now c.args.standing.now.told.items c.args.entry c.args.teller c.in-Some.k _ c.requires.rising c.requires.long.0 other c.in-Some.ensures.some left))
 
 pub returns-clause-falling : goal.returns-clause-falling
 returns-clause-falling g c =
-    let other : (c.args.entry.0 == c.args.teller) ≡ false = sym c.eq.ensures ∙ c.if-eq.false in
+    let other = c.in-Some.ensures.other in
     let left = left_value c.args.names.now c.args.standing.now.told.items c.args.entry c.args.teller c.in-Some.k c.index_mut.result.now c.from.result c.requires.rising c.requires.long.0 other c.in-Some.ensures.some c.index_mut.ensures.value c.from.ensures c.requires.enough in
     let p = place_is c.args.names.now c.in-Some.k c.args.entry.0 c.in-Some.ensures.some in
     let within : c.in-Some.k < length c.args.reports.now = (let l = length-names (λ r. r.now) c.args.reports.now c.args.names.now c.requires.names in omega arith) in

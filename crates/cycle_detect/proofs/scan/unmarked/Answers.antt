@@ -1,5 +1,5 @@
 use Rattle.std.proofs.Common.{◌∙◌, ap, arith}
-use Rattle.cycle_detect.proofs.Falls.{unmarked_more, unmarked_same}
+use Rattle.cycle_detect.proofs.Settled.{unmarked_more, unmarked_same}
 use Rattle.cycle_detect.proofs.scan.unmarked.Goals.{then-not-marks-k+in_ok-push, else-not-marks-k}
 use Rattle.cycle_detect.proofs.scan.unmarked.Goals as goal
 

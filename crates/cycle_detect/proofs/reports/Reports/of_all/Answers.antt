@@ -1,6 +1,5 @@
 use Rattle.std.proofs.Common.{◌∙◌, ◌++◌, ◌∷◌, [], Vec, Global, ap, sym}
 use Rattle.std.specs.Option.{option_copied, option_map}
-use Rattle.letter_kinds.specs.declared.note.Report.{Report}
 use Rattle.orca_names.specs.declared.kept_report.KeptReport.{KeptReport}
 use Rattle.cycle_detect.specs.Kept.{handed_of, handed_out}
 use Rattle.cycle_detect.proofs.KeptLemmas.{mapped_more, mapped_none}

@@ -1,7 +1,6 @@
 use Rattle.std.proofs.Common.{◌≡◌, ◌∙◌, ◌<◌, ℕ, true, false, Some, ap, sym, subst, slice_get}
 use Rattle.std.specs.List.{AllByRecursion}
 use Rattle.letter_kinds.specs.Detector.{Token, has, in_token}
-use Rattle.cycle_detect.specs.Open.{AreIndexed}
 use Rattle.cycle_detect.specs.Room.{TokensValue}
 use Rattle.cycle_detect.proofs.Indexing.{pushed_index}
 use Rattle.cycle_detect.proofs.tokens.Tokens.push.Goals as goal

@@ -1,4 +1,4 @@
-use Rattle.std.proofs.Common.{arith, sym, ◌∙◌, ◌≡◌, ◌<◌, length, length-set, get_or, subst}
+use Rattle.std.proofs.Common.{arith, sym, ◌∙◌, ◌<◌, length-set, subst}
 use Rattle.cycle_detect.proofs.Telling.{actor_among, at_value, told_more, told_others}
 use Rattle.cycle_detect.proofs.told.Told.tell.Goals as goal
 
