@@ -1,0 +1,4 @@
+pub mod Can
+pub mod Cells
+pub mod Outs
+pub mod Takes
