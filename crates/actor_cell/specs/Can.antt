@@ -1,15 +1,16 @@
 -- When the counts of an actor allow an increment or a decrement: none becomes too large, and there is
 -- enough to lower.
-use Rattle.std.specs.Prelude.{ℕ, ◌≡◌, ◌+◌, ◌^◌, ◌<◌, ◌≤◌, List, [], ◌∷◌}
+use Rattle.std.specs.Prelude.{ℕ, ◌≡◌, ◌+◌, ◌<◌, ◌≤◌, List, [], ◌∷◌}
 use Rattle.orca_names.specs.Names.{owner_of}
 use Rattle.letter_kinds.specs.Counting.{Amount, lower_all, raise_all}
 use Rattle.letter_kinds.specs.Holdings.{Holdings, own_in}
+use Rattle.ref_weights.specs.Limit.{count_limit}
 
 -- what an increment names of one's own has room for the amount
 abbrev pub CanRaise : ℕ → List Amount → Holdings → Type 0
 CanRaise me [] h = Unit {0}
 CanRaise me (e ∷ things) h =
-    (owner_of e.0 ≡ me → own_in h e.0 + e.1 < 2 ^ 43) × CanRaise me things (raise_all me (e ∷ []) h)
+    (owner_of e.0 ≡ me → own_in h e.0 + e.1 < count_limit) × CanRaise me things (raise_all me (e ∷ []) h)
 
 -- what a decrement names of one's own has at least the amount
 abbrev pub CanLower : ℕ → List Amount → Holdings → Type 0

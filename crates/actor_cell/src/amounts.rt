@@ -1,12 +1,13 @@
 // Increments and decrements of own counts.
 
-ghost use Rattle.std.specs.Prelude.{◌≡◌, ◌+◌, ◌-◌, ◌^◌, ◌<◌, ◌≤◌, [], ◌∷◌};
+ghost use Rattle.std.specs.Prelude.{◌≡◌, ◌+◌, ◌-◌, ◌<◌, ◌≤◌, [], ◌∷◌};
 ghost use Rattle.std.specs.FinMap as m;
 ghost use Rattle.orca_names.specs.Names.{owner_of};
 ghost use Rattle.letter_kinds.specs.Counting.{lower_all, raise_all};
 ghost use Rattle.letter_kinds.specs.Holdings.{own_in, row_count};
 ghost use Rattle.object_heap.specs.Heap.{counted};
 ghost use Rattle.actor_cell.specs.Can.{CanLower, CanRaise};
+ghost use Rattle.ref_weights.specs.Limit.{count_limit};
 ghost use Rattle.actor_cell.specs.Cells.{as_cell};
 
 use crate::cell::Cell;
@@ -17,10 +18,10 @@ use orca_names::{ObjName, Thing};
 // The count of an object rises, if it is there.
 fn raise_object(heap: &mut ObjectHeap, n: &ObjName, by: u64)
     requires mine { n.now.owner ≡ heap.old.owner }
-    requires fits { row_count (m.get heap.old.rows n.now.serial) + by < 2 ^ 43 }
+    requires fits { row_count (m.get heap.old.rows n.now.serial) + by < count_limit }
     ensures { heap.new ≡ counted (λ count. count + by) n.now heap.old }
 {
-    if heap.row(*n).is_some() {
+    if heap.has(*n) {
         heap.raise(*n, by);
     }
 }
@@ -31,7 +32,7 @@ fn lower_object(heap: &mut ObjectHeap, n: &ObjName, by: u64)
     requires enough { by ≤ row_count (m.get heap.old.rows n.now.serial) }
     ensures { heap.new ≡ counted (λ count. count - by) n.now heap.old }
 {
-    if heap.row(*n).is_some() {
+    if heap.has(*n) {
         heap.lower(*n, by);
     }
 }
@@ -40,7 +41,7 @@ impl Cell {
     // The count of a thing of its own rises.
     fn raise_one(&mut self, amount: &(Thing, u64))
         requires { owner_of amount.now.0 ≡ self.old.heap.owner
-            → own_in (as_cell self.old).holdings amount.now.0 + amount.now.1 < 2 ^ 43 }
+            → own_in (as_cell self.old).holdings amount.now.0 + amount.now.1 < count_limit }
         ensures counts { as_cell self.new ≡ record (as_cell self.old) {
           holdings = raise_all self.old.heap.owner (amount.now ∷ []) (as_cell self.old).holdings;
         } }

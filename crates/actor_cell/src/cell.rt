@@ -1,10 +1,11 @@
 // The cell of an actor.
 
-ghost use Rattle.std.specs.Prelude.{◌≡◌, ◌+◌, ◌^◌, ◌<◌, IsSome, None};
+ghost use Rattle.std.specs.Prelude.{◌≡◌, ◌+◌, ◌<◌, IsSome, None};
 ghost use Rattle.std.specs.FinMap as m;
 ghost use Rattle.orca_names.specs.declared.names.Thing.TheVariants.{Actor as actor_thing};
 ghost use Rattle.foreign_table.specs.Table.{count_on};
 ghost use Rattle.machine_rules.specs.Cell.{clean_cell, first_cell};
+ghost use Rattle.ref_weights.specs.Limit.{count_limit};
 ghost use Rattle.actor_cell.specs.Cells.{as_cell, settled};
 
 use behaviour_check::Checked;
@@ -47,7 +48,7 @@ impl Cell {
     /// memory.
     #[inline(always)]
     pub fn fresh(alloc: Global, code: &Checked, me: ActorName, kind: u32, count: u64) -> Cell
-        requires { count < 2 ^ 43 }
+        requires { count < count_limit }
         ensures cell { as_cell result ≡ clean_cell code.now kind count }
         ensures owner { result.heap.owner ≡ me }
     {
@@ -73,7 +74,7 @@ impl Cell {
     pub fn settle_new(&mut self, register: u8, name: ActorName, weight: u32)
         requires running { IsSome self.old.frame }
         requires room { m.get self.old.foreign.entries (actor_thing name) ≡ None → 0 < self.old.foreign.spare }
-        requires fits { count_on self.old.foreign (actor_thing name) + weight < 2 ^ 43 }
+        requires fits { count_on self.old.foreign (actor_thing name) + weight < count_limit }
         ensures cell { as_cell self.new ≡ settled weight register name (as_cell self.old) }
         ensures owner { self.new.heap.owner ≡ self.old.heap.owner }
     {

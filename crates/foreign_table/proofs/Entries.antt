@@ -1,17 +1,18 @@
 -- The entries of a table, read and written.
 use Rattle.std.proofs.Common.{◌≡◌, ℕ, ◌-◌, ◌<◌, ◌≤◌, Bool, true, cond, List, [], ◌∷◌, length, get_or, map, set, slice_get, Option, Some, None, refl, sym, ap, subst, ◌∙◌, arith}
-use Rattle.std.specs.Prelude.{T, is_some}
+use Rattle.std.specs.Prelude.{T, is_some, option_map}
 use Rattle.std.specs.List.{insert, remove, filter, zip}
 use Rattle.std.specs.FinMap as m
 use Rattle.std.specs.FinMap.Entries.{is_sorted}
 use Rattle.std.proofs.lemmas.List.{length-map, get_or_default}
+use Rattle.std.proofs.lemmas.Option.{slice_get-map}
 use Rattle.std.proofs.lemmas.Slice.Zip.{get_or-zip}
 use Rattle.letter_kinds.specs.Holdings.{Row, entry_count, entry_row}
 use Rattle.orca_names.specs.Names.{thing_cmp}
 use Rattle.orca_names.specs.declared.names.Thing.{Thing}
 use Rattle.orca_names.specs.declared.names.Thing.TheVariants.{Actor, Obj}
 use Rattle.plain_list.specs.Rising.{IsAt, IsGap}
-use Rattle.plain_list.proofs.Rising.{get_gap, item_len, item_entry, item_get, item_key, item_set, item_insert, item_remove, item_filter, same_place, same_gap, same_rise}
+use Rattle.plain_list.proofs.Rising.{key_at_place, get_gap, item_len, item_entry, item_get, item_key, item_set, item_insert, item_remove, item_filter, same_place, same_gap, same_rise}
 use Rattle.plain_list.proofs.Sides.{zip-set_left, zip-set_both, zip-insert, zip-remove, length-sides}
 use Rattle.orca_names.proofs.ThingOrder.{thing_total, thing_exact}
 use Rattle.foreign_table.specs.declared.search.Entry.{Entry}
@@ -23,6 +24,10 @@ keys_alone : (es : List Entry) (rows : List (Option Row)) → length rows ≡ le
 keys_alone [] rows e = refl
 keys_alone (o ∷ es) [] e = absurd (omega arith)
 keys_alone (o ∷ es) (r ∷ rows) e = ap (λ ks. o.thing ∷ ks) (keys_alone es rows (omega arith))
+
+things_of : (es : List Entry) → map (λ (e : Thing × ℕ). e.0) (map key_of es) ≡ map (λ (e : Entry). e.thing) es
+things_of [] = refl
+things_of (e ∷ es) = ap (λ xs. e.thing ∷ xs) (things_of es)
 
 -- things rise among the entries alone
 pub held_rise : (es : List Entry) (rows : List (Option Row)) → AreHeld es rows → T (is_sorted thing_cmp (map key_of es))
@@ -53,8 +58,17 @@ module _ (es : List Entry) (rows : List (Option Row)) (h : AreHeld es rows) wher
   value_at x i e r p is row = item_get thing_total thing_exact pair_of (zip es rows) h.sorted x i (e, r) (beside es rows x i h p)
       (item_there es rows i e r h.long (place_within es x i p) is row)
 
+  pub is_there : (x : Thing) (i : ℕ) → IsAt thing_cmp (map key_of es) x i → is_some (m.get (entries_in es rows) x) ≡ true
+  is_there x i p =
+      let l = place_within es x i p in
+      let e : Entry = record { thing = x; count = 0 } in
+      ap is_some (value_at x i (get_or es i e) (get_or rows i None) p (get_or_default es i e (get_or es i e) l) (row_there rows i (omega (arith, h.long))))
+
   pub none_at : (x : Thing) (i : ℕ) → IsGap thing_cmp (map key_of es) x i → m.get (entries_in es rows) x ≡ None
   none_at x i p = get_gap thing_total thing_exact (map pair_of (zip es rows)) h.sorted x i (gap_beside es rows x i h p)
+
+  pub key_here : (x : Thing) (i : ℕ) → IsAt thing_cmp (map key_of es) x i → slice_get (m.keys (entries_in es rows)) i ≡ Some x
+  key_here x i p = key_at_place (map pair_of (zip es rows)) h.sorted x i (beside es rows x i h p)
 
   pub len_here : m.len (entries_in es rows) ≡ length es
   len_here = item_len thing_total thing_exact pair_of (zip es rows) h.sorted ∙ length-sides es rows h.long
@@ -62,8 +76,14 @@ module _ (es : List Entry) (rows : List (Option Row)) (h : AreHeld es rows) wher
   pub entry_here : (i : ℕ) (e : Entry) (r : Option Row) → i < length es → e ≡ get_or es i e → r ≡ get_or rows i r → slice_get (m.entries (entries_in es rows)) i ≡ Some (e.thing, (e.count, r))
   entry_here i e r l is row = item_entry thing_total thing_exact pair_of (zip es rows) h.sorted i (e, r) (omega (arith, length-sides es rows h.long)) (item_there es rows i e r h.long l is row)
 
+  pub key_there : (i : ℕ) (e : Entry) → i < length es → e ≡ get_or es i e → slice_get (m.keys (entries_in es rows)) i ≡ Some e.thing
+  key_there i e l is = slice_get-map (λ x. x.0) (m.entries (entries_in es rows)) i ∙ ap (option_map (λ x. x.0)) (entry_here i e (get_or rows i None) l is (row_there rows i (omega (arith, h.long))))
+
   pub all_entries : m.entries (entries_in es rows) ≡ map pair_of (zip es rows)
   all_entries = m.entries-from_sorted thing_cmp (map pair_of (zip es rows)) h.sorted
+
+  pub keys_here : m.keys (entries_in es rows) ≡ map (λ (e : Entry). e.thing) es
+  keys_here = ap (map (λ e. e.0)) all_entries ∙ keys_alone es rows h.long ∙ things_of es
 
 -- an entry is changed
 module _ (es : List Entry) (rows : List (Option Row)) (x : Thing) (i : ℕ) (e y : Entry) (h : AreHeld es rows) (p : IsAt thing_cmp (map key_of es) x i) (is : e ≡ get_or es i e) (same : y.thing ≡ e.thing) where

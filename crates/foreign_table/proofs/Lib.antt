@@ -1,2 +1,4 @@
 pub mod BackLemmas
 pub mod Entries
+pub mod Owners
+pub mod Same

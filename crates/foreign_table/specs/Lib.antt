@@ -1,4 +1,5 @@
 pub mod Back
 pub mod Entry
 pub mod Named
+pub mod Span
 pub mod Table

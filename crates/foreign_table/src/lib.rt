@@ -4,6 +4,7 @@
 mod back;
 mod keep;
 mod search;
+mod span;
 mod table;
 
 pub use table::ForeignTable;

@@ -13,7 +13,7 @@ use std::cmp::Ordering;
 
 /// A thing of another actor, and what is held on it. Its row stands at the same place in a list of
 /// rows.
-#[derive(Clone, Copy, Debug)]
+#[derive(Clone, Copy, Debug, PartialEq, Eq)]
 pub(crate) struct Entry {
     pub(crate) thing: Thing,
     pub(crate) count: Held,

@@ -1,6 +1,6 @@
 // The table.
 
-ghost use Rattle.std.specs.Prelude.{◌≡◌, ◌+◌, ◌-◌, ◌^◌, ◌<◌, ◌≤◌, Some, None, length, map, slice_get, slice_set, vec_len, vec_capacity, IfOk, OnOk, IsSome, option_map};
+ghost use Rattle.std.specs.Prelude.{◌≡◌, ◌↔◌, ◌+◌, ◌-◌, ◌<◌, ◌≤◌, Some, None, length, map, slice_get, slice_set, vec_len, vec_capacity, IfOk, IfSome, IsSome, IsTrue, MatchOption, OnOk, is_some, option_map};
 ghost use Rattle.std.specs.List.{insert};
 ghost use Rattle.std.specs.Option.{option_copied};
 ghost use Rattle.std.specs.FinMap as m;
@@ -8,10 +8,13 @@ ghost use Rattle.orca_names.specs.Names.{thing_cmp};
 ghost use Rattle.plain_list.specs.Rising.{IsAt};
 ghost use Rattle.foreign_table.specs.Back.{BackRises, given_up};
 ghost use Rattle.foreign_table.specs.Entry.{actors_among, key_of};
+ghost use Rattle.foreign_table.specs.Span.{IsSpan};
 ghost use Rattle.foreign_table.specs.Table.{AreHeld, Table, count_on, counted, entered, entries_in, known_row, on_actors, without};
+ghost use Rattle.ref_weights.specs.Limit.{count_limit};
 
 use crate::keep::keep_others;
 use crate::search::{Entry, place_of};
+use crate::span::span;
 use letter_kinds::Amounts;
 use orca_names::{ActorName, NoMemory, ObjName, Row, Thing};
 use ref_weights::Held;
@@ -28,13 +31,17 @@ pub struct ForeignTable {
 
 impl Model for ForeignTable {
     ghost use Rattle.std.specs.Prelude.{◌-◌, min, vec_len, vec_capacity};
-    ghost use Rattle.foreign_table.specs.Table.{AreHeld, Table, coded_table, entries_in};
+    ghost use Rattle.foreign_table.specs.Span.{IsSpan};
+ghost use Rattle.foreign_table.specs.Table.{AreHeld, Table, coded_table, entries_in};
 
     ghost Value = { Table };
 
     ghost coded = { coded_table };
 
-    ghost view = { λ s. record { spare = min (vec_capacity s.held) (vec_capacity s.rows) - vec_len s.held; entries = entries_in s.held.items s.rows.items } };
+    ghost view = { λ s. record {
+      spare = min (vec_capacity s.held) (vec_capacity s.rows) - vec_len s.held;
+      entries = entries_in s.held.items s.rows.items;
+    } };
 
     ghost invariant = { λ s. AreHeld s.held.items s.rows.items };
 }
@@ -70,7 +77,7 @@ fn write_row(rows: &mut Vec<Option<Row>>, i: usize, row: &Option<Row>)
 
 // There is room.
 fn put_entry(held: &mut Vec<Entry>, i: usize, thing: &Thing, by: u64)
-    requires fits { by < 2 ^ 43 }
+    requires fits { by < count_limit }
     requires room { vec_len held.old < vec_capacity held.old }
     requires within { i ≤ vec_len held.old }
     ensures items { held.new.items ≡ insert held.old.items i (record { thing = thing.now; count = by }) }
@@ -105,6 +112,18 @@ fn actors_of(alloc: Global, held: &[Entry]) -> Result<Vec<(ActorName, u64)>, NoM
     Ok(found)
 }
 
+fn same_counts(held: &[Entry], others: &[Entry]) -> bool
+    ensures { IsTrue result ↔ (held.now ≡ others.now) }
+{
+    held == others
+}
+
+fn same_rows(rows: &[Option<Row>], others: &[Option<Row>]) -> bool
+    ensures { IsTrue result ↔ (rows.now ≡ others.now) }
+{
+    rows == others
+}
+
 impl ForeignTable {
     /// Nothing is held. It takes no memory.
     pub fn new(alloc: Global) -> ForeignTable
@@ -134,7 +153,7 @@ impl ForeignTable {
     /// no memory.
     pub fn gain(&mut self, thing: Thing, row: &Option<Row>, by: u64)
         requires room { m.get self.old.entries thing ≡ None → 0 < self.old.spare }
-        requires fits { count_on self.old thing + by < 2 ^ 43 }
+        requires fits { count_on self.old thing + by < count_limit }
         ensures { self.new ≡ entered (λ count. count + by) thing row.now self.old }
     {
         let place = place_of(self.held.as_slice(), thing);
@@ -153,7 +172,7 @@ impl ForeignTable {
     /// The count that is held on a thing, 0 where there is none.
     pub fn count(&self, thing: Thing) -> u64
         ensures count { result ≡ count_on self.now thing }
-        ensures bound { result < 2 ^ 43 }
+        ensures bound { result < count_limit }
     {
         match place_of(self.held.as_slice(), thing) {
             Ok(i) => self.held[i].count.get(),
@@ -174,7 +193,7 @@ impl ForeignTable {
     /// The count on a thing rises: more of it is made, of which an increment tells its owner.
     pub fn mint(&mut self, thing: Thing, by: u64)
         requires there { IsSome (m.get self.old.entries thing) }
-        requires fits { count_on self.old thing + by < 2 ^ 43 }
+        requires fits { count_on self.old thing + by < count_limit }
         ensures { self.new ≡ counted (λ count. count + by) thing self.old }
     {
         let i = place_there(self.held.as_slice(), self.rows.as_slice(), thing);
@@ -213,24 +232,63 @@ impl ForeignTable {
     }
 
     /// How many things are held.
-    pub fn len(&self) -> u64
+    pub fn len(&self) -> usize
         ensures { result ≡ m.len self.now.entries }
     {
-        self.held.len() as u64
+        self.held.len()
     }
 
     /// An entry by its place in the order of things: the thing, its count and its row.
-    pub fn at(&self, i: u64) -> (Thing, u64, Option<&Row>)
+    pub fn at(&self, i: usize) -> (Thing, u64, Option<&Row>)
         requires { i < m.len self.now.entries }
-        ensures entry { slice_get (m.entries self.now.entries) i ≡ Some (result.0, (result.1, option_copied result.2)) }
-        ensures bound { result.1 < 2 ^ 43 }
+        ensures entry { slice_get (m.entries self.now.entries) i
+            ≡ Some (result.0, (result.1, option_copied result.2)) }
+        ensures bound { result.1 < count_limit }
     {
-        let entry = self.held[i as usize];
+        let entry = self.held[i];
         (
             entry.thing,
             entry.count.get(),
-            row_at(self.rows.as_slice(), i as usize),
+            row_at(self.rows.as_slice(), i),
         )
+    }
+
+    /// The thing at a place in the order of things.
+    pub fn thing_at(&self, i: usize) -> Thing
+        requires { i < m.len self.now.entries }
+        ensures { slice_get (m.keys self.now.entries) i ≡ Some result }
+    {
+        self.held[i].thing
+    }
+
+    /// The place of a thing in the order of things; `None` exactly where it is not held.
+    pub fn place(&self, thing: &Thing) -> Option<usize>
+        ensures key { IfSome result (λ i. slice_get (m.keys self.now.entries) i ≡ Some thing.now) }
+        ensures held { is_some result ≡ m.contains_key self.now.entries thing.now }
+    {
+        match place_of(self.held.as_slice(), *thing) {
+            Ok(i) => Some(i),
+            Err(_) => None,
+        }
+    }
+
+    /// The places of an owner's things: the first, and the first behind them.
+    pub fn span(&self, owner: ActorName) -> (usize, usize)
+        ensures { IsSpan owner (m.keys self.now.entries) result.0 result.1 }
+    {
+        span(self.held.as_slice(), owner)
+    }
+
+    /// What is held on a thing: its count and its row; `None` exactly where it is not held.
+    pub fn entry(&self, thing: &Thing) -> Option<(u64, Option<&Row>)>
+        ensures entry { MatchOption result (m.get self.now.entries thing.now ≡ None)
+            (λ e. m.get self.now.entries thing.now ≡ Some (e.0, option_copied e.1)) }
+        ensures bound { IfSome result (λ e. e.0 < count_limit) }
+    {
+        match place_of(self.held.as_slice(), *thing) {
+            Ok(i) => Some((self.held[i].count.get(), row_at(self.rows.as_slice(), i))),
+            Err(_) => None,
+        }
     }
 
     /// The counts that are held on actors, in their order.
@@ -241,5 +299,27 @@ impl ForeignTable {
         ensures { IfOk result (λ found. found.items ≡ on_actors (m.entries self.now.entries)) }
     {
         actors_of(alloc, self.held.as_slice())
+    }
+
+    /// The same entries.
+    ///
+    /// # Errors
+    /// `NoMemory` where memory was refused.
+    pub fn copy(&self, alloc: Global) -> Result<ForeignTable, NoMemory>
+        ensures { IfOk result (λ copied. copied ≡ record self.now { spare = copied.spare }) }
+    {
+        let held = self.held.as_slice().to_vec(alloc)?;
+        let rows = self.rows.as_slice().to_vec(alloc)?;
+        Ok(ForeignTable { held, rows })
+    }
+
+    /// Whether the entries are those of another table.
+    pub fn same(&self, other: &ForeignTable) -> bool
+        ensures { IsTrue result ↔ (self.now.entries ≡ other.now.entries) }
+    {
+        if !same_counts(self.held.as_slice(), other.held.as_slice()) {
+            return false;
+        }
+        same_rows(self.rows.as_slice(), other.rows.as_slice())
     }
 }

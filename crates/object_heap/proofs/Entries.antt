@@ -16,7 +16,7 @@ use Rattle.letter_kinds.specs.Counting.{with_row_count}
 use Rattle.letter_kinds.specs.Holdings.{OwnRows, Row, row_count, add_rows}
 use Rattle.orca_names.specs.declared.names.ObjName.{ObjName}
 use Rattle.plain_list.specs.Rising.{IsAt, IsGap}
-use Rattle.plain_list.proofs.Rising.{get_at, get_gap, item_len, item_entry, place_itself, item_get, item_key, item_set, item_insert, item_remove, item_filter, same_place, same_gap, same_rise}
+use Rattle.plain_list.proofs.Rising.{key_at_place, get_at, get_gap, item_len, item_entry, place_itself, item_get, item_key, item_set, item_insert, item_remove, item_filter, same_place, same_gap, same_rise}
 use Rattle.object_heap.specs.declared.search.Own.{Own}
 use Rattle.object_heap.specs.Entry.{Item, pair_of, key_of}
 use Rattle.object_heap.specs.Free.{stays}
@@ -50,6 +50,9 @@ module _ (next : ℕ) (es : List Own) (rows : List Row) (h : AreOwn next es rows
 
   pub none_at : (k i : ℕ) → IsGap nat_cmp (map key_of es) k i → m.get (rows_in es rows) k ≡ None
   none_at k i p = get_gap nat_cmp_total nat_cmp-IsAntisymmetric (map pair_of (zip es rows)) h.sorted k i (gap_beside next es rows k i h p)
+
+  pub key_here : (k i : ℕ) → IsAt nat_cmp (map key_of es) k i → slice_get (m.keys (rows_in es rows)) i ≡ Some k
+  key_here k i p = key_at_place (map pair_of (zip es rows)) h.sorted k i (beside next es rows k i h p)
 
   pub len_here : m.len (rows_in es rows) ≡ length es
   len_here = item_len nat_cmp_total nat_cmp-IsAntisymmetric pair_of (zip es rows) h.sorted ∙ length-sides es rows h.long

@@ -1,3 +1,4 @@
 pub mod Entries
 pub mod Gone
+pub mod Same
 pub mod Sides

@@ -51,3 +51,7 @@ without n h = record h { spare = h.spare + 1; rows = m.remove h.rows n.serial }
 -- the row of an object of this actor
 abbrev pub own_row : Heap → ObjName → Option Row
 own_row h n = if n.owner == h.owner then option_map (λ e. e.0) (m.get h.rows n.serial) else None
+
+-- all but the room for new objects is the same
+abbrev pub IsSame : Heap → Heap → Type 0
+IsSame g h = (g.owner ≡ h.owner) × (g.next ≡ h.next) × (g.rows ≡ h.rows)

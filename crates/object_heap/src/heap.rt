@@ -1,6 +1,6 @@
 // The heap.
 
-ghost use Rattle.std.specs.Prelude.{◌≡◌, ◌+◌, ◌-◌, ◌^◌, ◌<◌, ◌≤◌, Some, [], ◌∷◌, length, map, slice_get, vec_len, vec_capacity, OnOk, IsSome, IsTrue};
+ghost use Rattle.std.specs.Prelude.{◌≡◌, ◌↔◌, ◌+◌, ◌-◌, ◌^◌, ◌<◌, ◌≤◌, Some, [], ◌∷◌, length, map, slice_get, IfOk, IfSome, IsSome, IsTrue, OnOk};
 ghost use Rattle.std.specs.Option.{option_copied};
 ghost use Rattle.std.specs.Ordering.{nat_cmp};
 ghost use Rattle.std.specs.FinMap as m;
@@ -8,7 +8,8 @@ ghost use Rattle.plain_list.specs.Rising.{IsAt};
 ghost use Rattle.letter_kinds.specs.Holdings.{row_count};
 ghost use Rattle.object_heap.specs.Entry.{key_of};
 ghost use Rattle.object_heap.specs.Free.{SerialsRise, freed};
-ghost use Rattle.object_heap.specs.Heap.{AreOwn, Has, Heap, counted, own_row, rows_in, with_new, without};
+ghost use Rattle.object_heap.specs.Heap.{AreOwn, Has, Heap, IsSame, counted, own_row, rows_in, with_new, without};
+ghost use Rattle.ref_weights.specs.Limit.{count_limit};
 
 use crate::free::keep_others;
 use crate::search::{Own, place_of};
@@ -35,7 +36,12 @@ impl Model for ObjectHeap {
 
     ghost coded = { coded_heap };
 
-    ghost view = { λ s. record { owner = s.owner; next = s.next; spare = min (vec_capacity s.entries) (vec_capacity s.rows) - vec_len s.entries; rows = rows_in s.entries.items s.rows.items } };
+    ghost view = { λ s. record {
+      owner = s.owner;
+      next = s.next;
+      spare = min (vec_capacity s.entries) (vec_capacity s.rows) - vec_len s.entries;
+      rows = rows_in s.entries.items s.rows.items;
+    } };
 
     ghost invariant = { λ s. AreOwn s.next s.entries.items s.rows.items };
 }
@@ -56,6 +62,18 @@ fn row_at(rows: &[Row], i: usize) -> Option<&Row>
     ensures { option_copied result ≡ slice_get rows.now i }
 {
     rows.get(i)
+}
+
+fn same_objects(entries: &[Own], others: &[Own]) -> bool
+    ensures { IsTrue result ↔ (entries.now ≡ others.now) }
+{
+    entries == others
+}
+
+fn same_rows(rows: &[Row], others: &[Row]) -> bool
+    ensures { IsTrue result ↔ (rows.now ≡ others.now) }
+{
+    rows == others
 }
 
 impl ObjectHeap {
@@ -132,24 +150,32 @@ impl ObjectHeap {
         }
     }
 
-    /// Whether an object is there.
-    pub fn has(&self, n: ObjName) -> bool
-        ensures { IsTrue result → Has self.now n }
+    /// The place of an object in the order of serials; `None` exactly where it is not there.
+    pub fn place(&self, n: ObjName) -> Option<usize>
+        ensures key { IfSome result (λ i. slice_get (m.keys self.now.rows) i ≡ Some n.serial) }
+        ensures there { IsSome result ↔ Has self.now n }
     {
         if n.owner != self.owner {
-            return false;
+            return None;
         }
         match place_of(self.entries.as_slice(), n.serial) {
-            Ok(_) => true,
-            Err(_) => false,
+            Ok(i) => Some(i),
+            Err(_) => None,
         }
+    }
+
+    /// Whether an object is there.
+    pub fn has(&self, n: ObjName) -> bool
+        ensures { IsTrue result ↔ Has self.now n }
+    {
+        self.place(n).is_some()
     }
 
     /// The count of an object that is there.
     pub fn count(&self, n: ObjName) -> u64
         requires { Has self.now n }
         ensures count { result ≡ row_count (m.get self.now.rows n.serial) }
-        ensures bound { result < 2 ^ 43 }
+        ensures bound { result < count_limit }
     {
         let i = place_there(
             self.next,
@@ -163,7 +189,7 @@ impl ObjectHeap {
     /// The count of an object rises.
     pub fn raise(&mut self, n: ObjName, by: u64)
         requires there { Has self.old n }
-        requires fits { row_count (m.get self.old.rows n.serial) + by < 2 ^ 43 }
+        requires fits { row_count (m.get self.old.rows n.serial) + by < count_limit }
         ensures { self.new ≡ counted (λ count. count + by) n self.old }
     {
         let i = place_there(
@@ -214,24 +240,58 @@ impl ObjectHeap {
     }
 
     /// How many objects there are.
-    pub fn len(&self) -> u64
+    pub fn len(&self) -> usize
         ensures { result ≡ m.len self.now.rows }
     {
-        self.entries.len() as u64
+        self.entries.len()
     }
 
     /// An object by its place in the order of serials: its name, its row and its count.
-    pub fn at(&self, i: u64) -> (ObjName, &Row, u64)
+    pub fn at(&self, i: usize) -> (ObjName, &Row, u64)
         requires { i < m.len self.now.rows }
         ensures owner { result.0.owner ≡ self.now.owner }
-        ensures entry { slice_get (m.entries self.now.rows) i ≡ Some (result.0.serial, (result.1.now, result.2)) }
-        ensures bound { result.2 < 2 ^ 43 }
+        ensures entry { slice_get (m.entries self.now.rows) i
+            ≡ Some (result.0.serial, (result.1.now, result.2)) }
+        ensures bound { result.2 < count_limit }
     {
-        let own = self.entries[i as usize];
+        let own = self.entries[i];
         let name = ObjName {
             owner: self.owner,
             serial: Serial::of(own.serial),
         };
-        (name, &self.rows[i as usize], own.count.get())
+        (name, &self.rows[i], own.count.get())
+    }
+
+    /// The same objects, of the same owner.
+    ///
+    /// # Errors
+    /// `NoMemory` where memory was refused.
+    pub fn copy(&self, alloc: Global) -> Result<ObjectHeap, NoMemory>
+        ensures { IfOk result (λ copied. copied ≡ record self.now { spare = copied.spare }) }
+    {
+        let entries = self.entries.as_slice().to_vec(alloc)?;
+        let rows = self.rows.as_slice().to_vec(alloc)?;
+        Ok(ObjectHeap {
+            owner: self.owner,
+            next: self.next,
+            entries,
+            rows,
+        })
+    }
+
+    /// Whether owner, next serial and objects are those of another heap.
+    pub fn same(&self, other: &ObjectHeap) -> bool
+        ensures { IsTrue result ↔ IsSame self.now other.now }
+    {
+        if self.owner != other.owner {
+            return false;
+        }
+        if self.next != other.next {
+            return false;
+        }
+        if !same_objects(self.entries.as_slice(), other.entries.as_slice()) {
+            return false;
+        }
+        same_rows(self.rows.as_slice(), other.rows.as_slice())
     }
 }

@@ -12,7 +12,7 @@ use orca_names::Serial;
 use ref_weights::OwnCount;
 
 /// An own object: its serial and its count. Its row stands at the same place in a list of rows.
-#[derive(Clone, Copy, Debug)]
+#[derive(Clone, Copy, Debug, PartialEq, Eq)]
 pub(crate) struct Own {
     pub(crate) serial: u64,
     pub(crate) count: OwnCount,

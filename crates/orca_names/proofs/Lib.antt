@@ -1,2 +1,3 @@
+pub mod EqualRows
 pub mod PlacesLemmas
 pub mod ThingOrder

@@ -263,6 +263,14 @@ module _ {A K X : Type 0} {R : K → K → Ordering} (o : IsTotalOrder R) (exact
             ∙ ap (λ v. cond (p q) v None) (sym (get-from_sorted R (map f items) q h)) ∙ sym (m.get-retain_keys (from_sorted (map f items)) p q (alike q))),
       )
 
+-- the key at a place of the map
+pub key_at_place : {K X : Type 0} {R : K → K → Ordering} (es : List (K × X)) → T (is_sorted R es) → (q : K) (i : ℕ) → IsAt R es q i → slice_get (m.keys (from_sorted {R = R} es)) i ≡ Some q
+key_at_place [] h q i p = absurd (omega (arith, p.in_range))
+key_at_place {R = R} (e ∷ es) h q i p =
+    ap (λ xs. slice_get (map (λ x. x.0) xs) i) (entries-from_sorted R (e ∷ es) h)
+    ∙ slice_get-get_or (map (λ x. x.0) (e ∷ es)) i q (omega (arith, p.in_range, length-map es (λ x. x.0)))
+    ∙ ap Some (get_or-map (λ x. x.0) (e ∷ es) i e q p.in_range ∙ p.has_key e)
+
 -- places go by the keys alone
 module _ {K X Y : Type 0} (es : List (K × X)) (fs : List (K × Y)) (x : X) (same : map (λ e. e.0) es ≡ map (λ f. f.0) fs) where
   as_long : length es ≡ length fs

@@ -7,12 +7,14 @@ mod marks;
 mod places;
 mod reach;
 mod seen;
+mod unplaced;
 
 pub use edges::Edges;
 pub use laws::{loads_are_exact, marks_are_exact, marks_are_unique};
 pub use marks::{Marks, mark};
 pub use places::{PlacedRows, Places};
 pub use reach::walk;
+pub use unplaced::Unplaced;
 
 #[cfg(test)]
 mod tests;

@@ -1,12 +1,12 @@
 // Places of things, and rows that are read by place.
 
-ghost use Rattle.std.specs.Prelude.{◌≡◌, ◌<◌, ℕ, Option, Some};
+ghost use Rattle.std.specs.Prelude.{◌≡◌, ◌<◌, ℕ, if◌then◌else◌, Option, None, Some};
 ghost use Rattle.std.specs.Ordering.{nat_cmp};
 ghost use Rattle.orca_names.specs.Names.{thing_cmp};
 ghost use Rattle.orca_names.specs.declared.names.Thing.{Thing as thing};
-ghost use Rattle.reach_walk.specs.Reach.{row_edges};
+ghost use Rattle.reach_walk.specs.Reach.{thing_row};
 
-use orca_names::{Args, RowReader, Thing};
+use orca_names::{Row, RowReader, Thing};
 
 /// Places that many things have, as those in a table, in the order of things: what was seen of them
 /// is told by one bit a place. A thing without a place is allowed.
@@ -38,15 +38,15 @@ pub trait Places {
         place s x ≡ Some p → place s y ≡ Some q → thing_cmp x y ≡ nat_cmp p q };
 }
 
-/// Rows of things that have places, so that a thing is looked up once: its place, once it is known,
-/// leads to its row.
+/// Rows of things that have places: a thing is looked up once, and its place leads to its row.
 pub trait PlacedRows: RowReader + Places {
-    /// Writes the values of a thing's row, none where it has no row. The thing's place is given, if
-    /// it has one. A read may use the reader up to its own ends, but rows and places stay as they
-    /// are.
-    fn read_values(&mut self, thing: &Thing, at: Option<usize>, values: &mut Args)
+    /// Whether a thing has a row, which is then written to the last parameter. The thing's place is
+    /// given, if it has one. A read may use the reader up to its own ends, but rows and places stay
+    /// as they are.
+    fn read_at(&mut self, thing: &Thing, at: Option<usize>, row: &mut Row) -> bool
         requires { at ≡ Self.place self.old thing.now }
-        ensures values { values.new ≡ row_edges (Self.rows self.old) thing.now }
+        ensures row { thing_row (Self.rows self.old) thing.now
+            ≡ (if result then Some row.new else None) }
         ensures rows { Self.rows self.new ≡ Self.rows self.old }
         ensures all { Self.all self.new ≡ Self.all self.old }
         ensures places { Self.place self.new ≡ Self.place self.old }

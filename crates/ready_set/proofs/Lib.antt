@@ -1,4 +1,5 @@
 mod Unchanged
+pub mod NextBits
 pub mod Least
 pub mod Summaries
 pub mod Words

@@ -1,6 +1,7 @@
 // What an actor holds of another's thing.
 
-ghost use Rattle.std.specs.Prelude.{◌≡◌, ◌+◌, ◌-◌, ◌^◌, ◌<◌};
+ghost use Rattle.std.specs.Prelude.{◌≡◌, ◌+◌, ◌-◌, ◌<◌};
+ghost use Rattle.ref_weights.specs.Limit.{count_limit};
 
 use std::marker::Model;
 
@@ -11,13 +12,14 @@ pub struct Held {
 }
 
 impl Model for Held {
-    ghost use Rattle.std.specs.Prelude.{ℕ, ◌^◌, ◌<◌};
+    ghost use Rattle.std.specs.Prelude.{ℕ, ◌<◌};
+    ghost use Rattle.ref_weights.specs.Limit.{count_limit};
 
     ghost Value = { ℕ };
 
     ghost view = { λ h. h.count };
 
-    ghost invariant = { λ h. h.count < 2 ^ 43 };
+    ghost invariant = { λ h. h.count < count_limit };
 
     ghost inverse = { λ n. record { count = n } };
 }
@@ -25,7 +27,7 @@ impl Model for Held {
 impl Held {
     /// So much is held.
     pub fn new(n: u64) -> Held
-        requires { n < 2 ^ 43 }
+        requires { n < count_limit }
         ensures { result ≡ n }
     {
         Held { count: n }
@@ -34,7 +36,7 @@ impl Held {
     /// The count.
     pub fn get(&self) -> u64
         ensures count { result ≡ self.now }
-        ensures bound { result < 2 ^ 43 }
+        ensures bound { result < count_limit }
     {
         self.count
     }
@@ -49,7 +51,7 @@ impl Held {
 
     /// Letters that load the thing are taken.
     pub fn gain(&mut self, n: u64)
-        requires { self.old + n < 2 ^ 43 }
+        requires { self.old + n < count_limit }
         ensures { self.new ≡ self.old + n }
     {
         self.count += n;
@@ -57,7 +59,7 @@ impl Held {
 
     /// More is made, of which an increment tells the owner.
     pub fn mint(&mut self, n: u64)
-        requires { self.old + n < 2 ^ 43 }
+        requires { self.old + n < count_limit }
         ensures { self.new ≡ self.old + n }
     {
         self.count += n;
@@ -66,7 +68,7 @@ impl Held {
     /// All that was held, which a decrement takes back to the owner.
     pub fn give_back(self) -> u64
         ensures count { result ≡ self }
-        ensures bound { result < 2 ^ 43 }
+        ensures bound { result < count_limit }
     {
         self.count
     }

@@ -1,8 +1,8 @@
 //! One count of a thing: what its owner counts, and what another actor holds of it
 //! (Orca, OOPSLA 2017).
 //!
-//! No count reaches 2^43: a book has less than 2^27 entries, and none raises a count by more than
-//! 2^16. No call here takes memory.
+//! No sum of counts reaches 2^43: a run has fewer than 2^27 events, and none of them raises a count
+//! by more than 2^16. No call here takes memory.
 #![tactic(auto)]
 
 mod held;

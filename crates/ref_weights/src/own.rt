@@ -1,6 +1,7 @@
 // What an owner counts.
 
-ghost use Rattle.std.specs.Prelude.{◌≡◌, ◌+◌, ◌-◌, ◌^◌, ◌<◌, ◌≤◌};
+ghost use Rattle.std.specs.Prelude.{◌≡◌, ◌+◌, ◌-◌, ◌<◌, ◌≤◌};
+ghost use Rattle.ref_weights.specs.Limit.{count_limit};
 
 use std::marker::Model;
 
@@ -11,13 +12,14 @@ pub struct OwnCount {
 }
 
 impl Model for OwnCount {
-    ghost use Rattle.std.specs.Prelude.{ℕ, ◌^◌, ◌<◌};
+    ghost use Rattle.std.specs.Prelude.{ℕ, ◌<◌};
+    ghost use Rattle.ref_weights.specs.Limit.{count_limit};
 
     ghost Value = { ℕ };
 
     ghost view = { λ c. c.count };
 
-    ghost invariant = { λ c. c.count < 2 ^ 43 };
+    ghost invariant = { λ c. c.count < count_limit };
 
     ghost inverse = { λ n. record { count = n } };
 }
@@ -33,14 +35,14 @@ impl OwnCount {
     /// The count.
     pub fn get(&self) -> u64
         ensures count { result ≡ self.now }
-        ensures bound { result < 2 ^ 43 }
+        ensures bound { result < count_limit }
     {
         self.count
     }
 
     /// A letter that loads the thing is sent, or an increment is taken.
     pub fn raise(&mut self, n: u64)
-        requires { self.old + n < 2 ^ 43 }
+        requires { self.old + n < count_limit }
         ensures { self.new ≡ self.old + n }
     {
         self.count += n;

@@ -1,0 +1,4 @@
+pub mod Filtered
+pub mod Freed
+pub mod Groups
+pub mod GivenBack

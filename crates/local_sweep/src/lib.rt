@@ -1,0 +1,7 @@
+//! What a collection frees and gives back: its plan, and the sweep that the plan tells
+//! (Orca, OOPSLA 2017).
+#![tactic(auto)]
+
+mod sweep;
+
+pub use sweep::apply;

@@ -1,0 +1,106 @@
+// One level of words: the places alone.
+
+ghost use Rattle.std.specs.Prelude.{◌≡◌, ◌<◌, ◌≤◌, ◌∷◌, [], true, not, Some, length, slice_get, slice_set, IfOk};
+ghost use Rattle.ready_set.specs.Levels.{places};
+ghost use Rattle.ready_set.specs.Next.{AreOff, IsNext};
+
+use crate::bits::{has_bit, lowest_bit, put_bit};
+use orca_names::NoMemory;
+use std::alloc::Global;
+use std::marker::Model;
+
+// More places than memory has bytes for.
+const TOO_MANY: usize = 1 << 63;
+
+/// A set of numbers below a bound, seen by contracts as a list with a place for each of these
+/// numbers: the place is on where its number is in the set.
+#[derive(Drop)]
+pub struct PlaceSet {
+    words: Vec<u64>,
+}
+
+impl Model for PlaceSet {
+    ghost use Rattle.std.specs.Prelude.{Bool, List, length, ◌*◌, ◌≤◌, ◌^◌};
+    ghost use Rattle.ready_set.specs.Levels.{places};
+
+    ghost Value = { List Bool };
+
+    ghost view = { λ s. places s.words.items };
+
+    ghost invariant = { λ s. 64 * length s.words.items ≤ 2 ^ 63 };
+}
+
+// The first bit of a word that is set, from a bit on.
+fn next_bit(word: u64, from: u32) -> Option<u32>
+    requires { from < 64 }
+    ensures { IsNext (places (word ∷ [])) from result }
+{
+    let rest = word >> from;
+    if rest == 0 {
+        None
+    } else {
+        Some(from + lowest_bit(rest))
+    }
+}
+
+impl PlaceSet {
+    /// The empty set, with at least so many places. It takes no memory where these are none.
+    ///
+    /// # Errors
+    /// `NoMemory` where memory was refused.
+    pub fn with_places(alloc: Global, count: usize) -> Result<PlaceSet, NoMemory>
+        ensures off { IfOk result (λ set. AreOff set 0 (length set)) }
+        ensures room { IfOk result (λ set. count ≤ length set) }
+    {
+        if count >= TOO_MANY {
+            return Err(NoMemory);
+        }
+        let words = vec![in alloc; 0; count.div_ceil(64)]?;
+        Ok(PlaceSet { words })
+    }
+
+    /// The number of places: the bound of the numbers in the set.
+    pub fn len(&self) -> usize
+        ensures { result ≡ length self.now }
+    {
+        64 * self.words.len()
+    }
+
+    /// Whether the number is in the set.
+    pub fn contains(&self, at: usize) -> bool
+        requires { at < length self.now }
+        ensures { slice_get self.now at ≡ Some result }
+    {
+        has_bit(self.words[at / 64], (at % 64) as u32)
+    }
+
+    /// Puts the number into the set; whether it was not there. It takes no memory.
+    pub fn insert(&mut self, at: usize) -> bool
+        requires { at < length self.old }
+        ensures set { self.new ≡ slice_set self.old at true }
+        ensures was { slice_get self.old at ≡ Some (not result) }
+    {
+        let word = self.words[at / 64];
+        let bit = (at % 64) as u32;
+        if has_bit(word, bit) {
+            return false;
+        }
+        self.words[at / 64] = put_bit(word, bit, true);
+        true
+    }
+
+    /// The least number of the set from this one on; `None` exactly where there is none.
+    pub fn next(&self, from: usize) -> Option<usize>
+        ensures { IsNext self.now from result }
+    {
+        let mut at = from;
+        while at < self.len() {
+            let word = at / 64;
+            if let Some(k) = next_bit(self.words[word], (at % 64) as u32) {
+                return Some(64 * word + k as usize);
+            }
+            at = 64 * (word + 1);
+        }
+        None
+    }
+}
