@@ -1,2 +1,6 @@
+pub mod Known
+pub mod Parts
+pub mod Posting
 pub mod Raising
+pub mod Registers
 pub mod Reporting

@@ -1,5 +1,5 @@
 -- The cell of an actor, as the rules have it.
-use Rattle.std.specs.Prelude.{ℕ, None, option_map}
+use Rattle.std.specs.Prelude.{ℕ, ◌≡◌, None, option_map}
 use Rattle.std.specs.FinMap as m
 use Rattle.orca_names.specs.declared.names.Thing.TheVariants.{Actor}
 use Rattle.letter_kinds.specs.Counting.{gain}
@@ -26,3 +26,7 @@ settled weight register name c = record c {
   frame = option_map (λ f. with_name f register name) c.frame;
   holdings = gain weight (Actor name) None c.holdings;
 }
+
+-- the same, of the same actor
+abbrev pub IsSame : Cell → Cell → Type 0
+IsSame c d = (as_cell c ≡ as_cell d) × (c.heap.owner ≡ d.heap.owner)

@@ -7,8 +7,15 @@
 mod amounts;
 mod block;
 mod cell;
+mod copy;
+mod go;
+mod laws;
 mod out;
 mod take;
+mod turn_rows;
+mod turning;
 
 pub use cell::Cell;
+pub use laws::events_are_of_parts;
 pub use out::Out;
+pub use turning::{Move, Turned};
