@@ -1,6 +1,6 @@
 // The table.
 
-ghost use Rattle.std.specs.Prelude.{◌≡◌, ◌↔◌, ◌+◌, ◌-◌, ◌<◌, ◌≤◌, Some, None, length, map, slice_get, slice_set, vec_len, vec_capacity, IfOk, IfSome, IsSome, IsTrue, MatchOption, OnOk, is_some, option_map};
+ghost use Rattle.std.specs.Prelude.{◌≡◌, ◌↔◌, ◌+◌, ◌-◌, ◌^◌, ◌<◌, ◌≤◌, Some, None, length, map, slice_get, slice_set, vec_len, vec_capacity, IfOk, IfSome, IsSome, IsTrue, MatchOption, OnOk, is_some, option_map};
 ghost use Rattle.std.specs.List.{insert};
 ghost use Rattle.std.specs.Option.{option_copied};
 ghost use Rattle.std.specs.FinMap as m;
@@ -233,7 +233,8 @@ impl ForeignTable {
 
     /// How many things are held.
     pub fn len(&self) -> usize
-        ensures { result ≡ m.len self.now.entries }
+        ensures count { result ≡ m.len self.now.entries }
+        ensures bound { result < 2 ^ 63 }
     {
         self.held.len()
     }
@@ -259,6 +260,15 @@ impl ForeignTable {
         ensures { slice_get (m.keys self.now.entries) i ≡ Some result }
     {
         self.held[i].thing
+    }
+
+    /// The row at a place in the order of things, where it is known.
+    pub fn row_at(&self, i: usize) -> Option<&Row>
+        requires { i < m.len self.now.entries }
+        ensures { option_map (λ e. e.1.1) (slice_get (m.entries self.now.entries) i)
+            ≡ Some (option_copied result) }
+    {
+        row_at(self.rows.as_slice(), i)
     }
 
     /// The place of a thing in the order of things; `None` exactly where it is not held.

@@ -3,6 +3,8 @@
 
 mod known;
 mod laws;
+mod places;
 
 pub use known::KnownRows;
 pub use laws::rows_are_of_holdings;
+pub use places::KnownPlaces;

@@ -1,6 +1,6 @@
 // The heap.
 
-ghost use Rattle.std.specs.Prelude.{◌≡◌, ◌↔◌, ◌+◌, ◌-◌, ◌^◌, ◌<◌, ◌≤◌, Some, [], ◌∷◌, length, map, slice_get, IfOk, IfSome, IsSome, IsTrue, OnOk};
+ghost use Rattle.std.specs.Prelude.{◌≡◌, ◌↔◌, ◌+◌, ◌-◌, ◌^◌, ◌<◌, ◌≤◌, Some, [], ◌∷◌, length, map, slice_get, IfOk, IfSome, IsSome, IsTrue, OnOk, option_map};
 ghost use Rattle.std.specs.Option.{option_copied};
 ghost use Rattle.std.specs.Ordering.{nat_cmp};
 ghost use Rattle.std.specs.FinMap as m;
@@ -241,7 +241,8 @@ impl ObjectHeap {
 
     /// How many objects there are.
     pub fn len(&self) -> usize
-        ensures { result ≡ m.len self.now.rows }
+        ensures count { result ≡ m.len self.now.rows }
+        ensures bound { result < 2 ^ 63 }
     {
         self.entries.len()
     }
@@ -260,6 +261,14 @@ impl ObjectHeap {
             serial: Serial::of(own.serial),
         };
         (name, &self.rows[i], own.count.get())
+    }
+
+    /// The row of an object by its place in the order of serials.
+    pub fn row_at(&self, i: usize) -> &Row
+        requires { i < m.len self.now.rows }
+        ensures { option_map (λ e. e.1.0) (slice_get (m.entries self.now.rows) i) ≡ Some result.now }
+    {
+        &self.rows[i]
     }
 
     /// The same objects, of the same owner.
