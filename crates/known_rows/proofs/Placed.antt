@@ -16,7 +16,7 @@ use Rattle.orca_names.specs.declared.names.ObjName.{ObjName}
 use Rattle.orca_names.specs.declared.names.Thing.{Thing}
 use Rattle.orca_names.specs.declared.names.Thing.TheVariants.{Actor, Obj}
 use Rattle.orca_names.proofs.ThingOrder.{is_eq_true, is_ne_false, is_self, thing_total}
-use Rattle.object_heap.specs.Heap.{Heap}
+use Rattle.object_heap.specs.Heap.{Has, Heap}
 use Rattle.foreign_table.specs.Span.{IsSpan}
 use Rattle.foreign_table.specs.Table.{Table}
 use Rattle.known_rows.specs.InOrder.{AreInOrder}
@@ -80,6 +80,19 @@ lt_true a b l = is_below a b l
 lt_false : (a b : ℕ) → b ≤ a → nat_lt a b ≡ false
 lt_false a b l = grind (arith, nat_tests)
 
+pub keys_count : (foreign : Table) → length (m.keys foreign.entries) ≡ m.len foreign.entries
+keys_count foreign = length-map (m.entries foreign.entries) (λ e. e.0) ∙ sym (m.len-entries foreign.entries)
+
+pub serials_count : (heap : Heap) → length (m.keys heap.rows) ≡ m.len heap.rows
+serials_count heap = length-map (m.entries heap.rows) (λ e. e.0) ∙ sym (m.len-entries heap.rows)
+
+-- an object of the actor's that is not there is not in its map
+pub absent_own : (heap : Heap) (n : ObjName) → n.owner ≡ heap.owner → (Has heap n → ⊥) → m.contains_key heap.rows n.serial ≡ false
+absent_own heap n owner none = elim (m.contains_key heap.rows n.serial) as (λ b. m.contains_key heap.rows n.serial ≡ b → b ≡ false) [
+  | true ↦ λ e. absurd (none (record { owner = owner; there = e }))
+  | false ↦ λ _. refl
+] refl
+
 module _ (heap : Heap) (foreign : Table) (first end : ℕ) (span : IsSpan heap.owner (m.keys foreign.entries) first end) where
   abbrev keys : List Thing
   keys = m.keys foreign.entries
@@ -117,13 +130,10 @@ module _ (heap : Heap) (foreign : Table) (first end : ℕ) (span : IsSpan heap.o
   below_count = ap length below_is ∙ length-take-le first keys first_within
 
   own_count : length own ≡ 1 + m.len heap.rows
-  own_count = omega (arith, length-map (m.keys heap.rows) (λ (s : ℕ). Obj (record { owner = heap.owner; serial = s })), length-map (m.entries heap.rows) (λ e. e.0), m.len-entries heap.rows)
-
-  keys_count : length keys ≡ m.len foreign.entries
-  keys_count = length-map (m.entries foreign.entries) (λ e. e.0) ∙ sym (m.len-entries foreign.entries)
+  own_count = omega (arith, length-map (m.keys heap.rows) (λ (s : ℕ). Obj (record { owner = heap.owner; serial = s })), serials_count heap)
 
   above_count : length (held_above heap foreign) ≡ m.len foreign.entries - end
-  above_count = ap length above_is ∙ length-drop end keys ∙ ap (λ n. n - end) keys_count
+  above_count = ap length above_is ∙ length-drop end keys ∙ ap (λ n. n - end) (keys_count foreign)
 
   -- how many places there are
   pub count_is : length (placed_things heap foreign) ≡ first + 1 + m.len heap.rows + (m.len foreign.entries - end)
@@ -167,7 +177,7 @@ module _ (heap : Heap) (foreign : Table) (first end : ℕ) (span : IsSpan heap.o
   pub place_own : (i : ℕ) (serial : ℕ) → slice_get (m.keys heap.rows) i ≡ Some serial → place_in heap foreign (Obj (record { owner = heap.owner; serial = serial })) ≡ Some (first + 1 + i)
   place_own i serial e =
       let x : Thing = Obj (record { owner = heap.owner; serial = serial }) in
-      let inside : i < m.len heap.rows = omega (arith, slice_get_within (m.keys heap.rows) i serial e, length-map (m.entries heap.rows) (λ e. e.0), m.len-entries heap.rows) in
+      let inside : i < m.len heap.rows = omega (arith, slice_get_within (m.keys heap.rows) i serial e, serials_count heap) in
       let sum : first + 1 + i ≡ first + suc i = omega arith in
       place_there (placed_things heap foreign) x (first + 1 + i) (placed_in_order heap foreign) (omega (arith, count_is))
       (ap (λ k. get_or (placed_things heap foreign) k x) sum ∙ in_own (suc i) x (omega arith) ∙ own_at i serial x e)
@@ -176,8 +186,15 @@ module _ (heap : Heap) (foreign : Table) (first end : ℕ) (span : IsSpan heap.o
   place_above j x e l =
       let inside = slice_get_within keys j x e in
       let sum : end + (j - end) ≡ j = omega arith in
-      place_there (placed_things heap foreign) x (first + 1 + m.len heap.rows + (j - end)) (placed_in_order heap foreign) (omega (arith, count_is, keys_count))
+      place_there (placed_things heap foreign) x (first + 1 + m.len heap.rows + (j - end)) (placed_in_order heap foreign) (omega (arith, count_is, keys_count foreign))
       (in_above (j - end) x ∙ ap (λ k. get_or keys k x) sum ∙ get_or_from_slice_get keys j x x e)
+
+  -- an entry of another's that is not before the actor's own is behind them
+  pub stands_behind : (j : ℕ) (x : Thing) → slice_get keys j ≡ Some x → owner_of x ≢ heap.owner → first ≤ j → end ≤ j
+  stands_behind j x e other l = elim (cases_lt j end) as (λ _. end ≤ j) [
+    | inl n ↦ absurd (other (ap owner_of (sym (get_or_from_slice_get keys j x x e)) ∙ span.own j x l n))
+    | inr n ↦ n
+  ]
 
   -- ---- what has no place
 
@@ -196,7 +213,7 @@ module _ (heap : Heap) (foreign : Table) (first end : ℕ) (span : IsSpan heap.o
           | inr q ↦
               let i = k - (first + 1 + m.len heap.rows) in
               let sum : k ≡ first + 1 + m.len heap.rows + (k - (first + 1 + m.len heap.rows)) = omega arith in
-              let inside : end + i < length keys = omega (arith, count_is, keys_count) in
+              let inside : end + i < length keys = omega (arith, count_is, keys_count foreign) in
               held (end + i) inside (λ same. let high = span.above (end + i) x (omega arith) inside in omega arith) (e ∙ ap (λ j. get_or (placed_things heap foreign) j x) sum ∙ in_above i x)
         ]
       ]
