@@ -1,4 +1,3 @@
-pub mod Finite
 pub mod Freed
 pub mod Global
 pub mod Going

@@ -1,5 +1,5 @@
--- How a behaviour starts.
-use Rattle.std.specs.Prelude.{ℕ, ◌-◌, List, ◌++◌, length, replicate, position, Option, option_map}
+-- Frames: how a behaviour starts, and a value put into a register.
+use Rattle.std.specs.Prelude.{ℕ, ◌-◌, List, ◌++◌, length, replicate, position, slice_set, Option, option_map}
 use Rattle.orca_names.specs.declared.names.Value.{Value}
 use Rattle.orca_names.specs.declared.names.Value.TheVariants.{Null}
 use Rattle.behaviour_code.specs.declared.code.Program.{Program}
@@ -21,3 +21,8 @@ frame_for program kind behaviour args =
       registers = registers_of args;
     })
     (position (takes_call behaviour (length args)) (behaviours_of program kind))
+
+-- the frame with a value in a register; past the last nothing is put
+abbrev pub with_value : ℕ → Value → Frame → Frame
+with_value register value frame =
+    record frame { registers = slice_set frame.registers register value }

@@ -1,12 +1,13 @@
 // Room for a frame.
 
-ghost use Rattle.std.specs.Prelude.{◌≡◌, ◌-◌, ◌++◌, false, is_some, length, replicate, None, Some};
+ghost use Rattle.std.specs.Prelude.{◌≡◌, ◌-◌, ◌++◌, false, is_some, length, option_map, replicate, None, Some};
 ghost use Rattle.std.specs.Option.{option_copied};
 ghost use Rattle.orca_names.specs.declared.names.Value.TheVariants.{Null};
+ghost use Rattle.turn_rules.specs.Frames.{with_value};
 
 use crate::act::Frame;
 use crate::registers::RegisterFile;
-use orca_names::Args;
+use orca_names::{Args, Value};
 use std::marker::Model;
 
 /// Room for one frame, seen as the frame that runs, if one does. A frame is written in place: no
@@ -80,6 +81,13 @@ impl FrameRoom {
         frame.place = place;
         frame.registers = *registers;
         self.runs = true;
+    }
+
+    /// Writes a register of the frame that runs, in place; past the last nothing is written.
+    pub fn put(&mut self, register: u8, value: Value)
+        ensures { self.new ≡ option_map (with_value register value) self.old }
+    {
+        self.frame.registers.write(u64::from(register), value);
     }
 
     /// No frame runs any more.

@@ -14,7 +14,7 @@ use Rattle.reach_walk.specs.Reach.{thing_row}
 use Rattle.letter_kinds.specs.Counting.{Loaded}
 use Rattle.letter_kinds.specs.Holdings.{Row, Holdings, row_of}
 use Rattle.letter_kinds.specs.Sums.{times_loaded}
-use Rattle.count_laws.proofs.knowledge.Finite.{known_objects-cover}
+use Rattle.machine_rules.proofs.Finite.{known_objects-cover}
 use Rattle.count_laws.proofs.knowledge.Turns.{along_edges, along_rows}
 use Rattle.machine_rules.specs.Cell.{Cell, known_objects}
 use Rattle.machine_rules.specs.Collect.{is_marked_deep}

@@ -17,7 +17,7 @@ use Rattle.letter_kinds.specs.Counting.{Loaded}
 use Rattle.letter_kinds.specs.Holdings.{Row, has_own}
 use Rattle.letter_kinds.specs.Sums.{times_loaded}
 use Rattle.letter_kinds.specs.declared.letter.Letter.{Letter}
-use Rattle.count_laws.proofs.knowledge.Finite.{first_option, later_option, own_found}
+use Rattle.machine_rules.proofs.Finite.{first_option, later_option, own_found}
 use Rattle.count_laws.proofs.balance.InHand.{Balanced}
 use Rattle.count_laws.proofs.knowledge.Loads.{load_exact}
 use Rattle.count_laws.proofs.knowledge.Paths.{along_row, reach_into}

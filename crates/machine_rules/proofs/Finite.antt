@@ -1,5 +1,6 @@
 -- Every object of which an actor has a row is among those that it knows.
 use Rattle.std.proofs.Common.{◌≡◌, ℕ, cond, true, false, Option, Some, None, List, [], ◌∷◌, map, Contains, refl, ap, sym, ◌∙◌, subst, ⊎_elim, eqb-true, eq-eqb, ne_eqb}
+use Rattle.std.specs.Prelude.{option_map}
 use Rattle.std.specs.List.{cons_option, filter_map}
 use Rattle.std.proofs.lemmas.Bool.{cases_eq}
 use Rattle.std.proofs.lemmas.List.Elements.{Contains-append_left, Contains-append_right}
@@ -14,8 +15,11 @@ use Rattle.orca_names.specs.declared.names.Thing.TheVariants.{Obj}
 use Rattle.reach_walk.proofs.Elements.{Contains-head, Contains-later}
 use Rattle.reach_walk.specs.Marks.{Covers}
 use Rattle.letter_kinds.specs.Holdings.{Row, Holdings, row_of, entry_row}
-use Rattle.count_laws.proofs.knowledge.Receiving.{own_row}
 use Rattle.machine_rules.specs.Cell.{known_objects, object_name}
+
+-- the row of an own object
+abbrev pub own_row : Option (Row × ℕ) → Option Row
+own_row entry = option_map (λ e. e.0) entry
 
 -- the own objects of entries
 abbrev own_names : ℕ → List (ℕ × (Row × ℕ)) → List ObjName
