@@ -3,8 +3,12 @@ use Rattle.std.proofs.Common.{◌≡◌, ℕ, ◌+◌, ◌<◌, ◌⊎◌, inl, 
 use Rattle.std.proofs.lemmas.List.{append-nil, append_assoc, take_more}
 use Rattle.std.proofs.lemmas.List.Elements.{Contains-append_left, Contains-append_right, Contains-append_cases}
 use Rattle.orca_names.specs.declared.names.Thing.{Thing}
-use Rattle.reach_walk.specs.Walk.{Adds}
-use Rattle.reach_walk.proofs.Elements.{only_one}
+use Rattle.orca_names.specs.declared.names.Thing.TheVariants.{Actor}
+use Rattle.orca_names.specs.declared.names.Value.{Value}
+use Rattle.orca_names.specs.Names.{owner_of}
+use Rattle.reach_walk.specs.Reach.{named_by}
+use Rattle.reach_walk.specs.Walk.{Adds, next_of}
+use Rattle.reach_walk.proofs.Elements.{none_in_nil, only_one}
 
 pub Adds-known : (t : Thing) (old : List Thing) → Contains old t → Adds (t ∷ []) old old
 Adds-known t old there = record { behind = ([], sym (append-nil old)); added = λ x c. subst (Contains old) (only_one t x c) there; only = λ x c. inl c }
@@ -32,3 +36,11 @@ pub Adds-more : (xs : List Thing) (i : ℕ) (t : Thing) (a b c : List Thing) →
 Adds-more xs i t a b c l at f g =
     let more : take (i + 1) xs ≡ take i xs ++ t ∷ [] = take_more xs i t l ∙ ap (λ u. take i xs ++ u ∷ []) (sym at) in
     subst (λ ts. Adds ts a c) (sym more) (Adds-append (take i xs) (t ∷ []) a b c f g)
+
+pub Adds-none : (old : List Thing) → Adds [] old old
+Adds-none old = record { behind = ([], sym (append-nil old)); added = λ x c. none_in_nil x _ c; only = λ x c. inl c }
+
+-- the owner of a thing, and then what its row names
+pub Adds-next : (edges : Thing → List Value) (t u : Thing) (values : List Value) (a b c : List Thing) → u ≡ t → values ≡ edges t → Adds (Actor (owner_of u) ∷ []) a b → Adds (named_by values) b c → Adds (next_of edges t) a c
+Adds-next edges t u values a b c same row f g =
+    Adds-append (Actor (owner_of t) ∷ []) (named_by (edges t)) a b c (subst (λ w. Adds (Actor (owner_of w) ∷ []) a b) same f) (subst (λ vs. Adds (named_by vs) b c) row g)

@@ -1,11 +1,15 @@
 pub mod Added
 pub mod Covers
+pub mod Distinct
 pub mod Elements
+pub mod Found
 pub mod InOrder
 pub mod LedTo
 pub mod Loads
 pub mod MarkLaws
 pub mod Named
+pub mod Noting
 pub mod Owners
+pub mod Placed
 pub mod Sets
 pub mod Walking

@@ -28,3 +28,9 @@ push-none old things values i v inside at so_far named =
 -- what is appended to nothing
 pub from_nothing : (old new slice more : List Thing) → old ≡ [] → new ≡ old ++ more → slice ≡ new → slice ≡ more
 from_nothing old new slice more empty appended lent = lent ∙ appended ∙ ap (λ ts. ts ++ more) empty
+
+-- one value more, by itself
+pub named_by-push : (values : List Value) (i : ℕ) (v : Value) → i < length values → v ≡ get_or values i v → named_by (take (i + 1) values) ≡ named_by (take i values) ++ named_by (v ∷ [])
+named_by-push values i v inside at =
+    ap named_by (take_more values i v inside) ∙ filter_map-append thing_of (take i values) (get_or values i v ∷ [])
+    ∙ ap (λ u. named_by (take i values) ++ named_by (u ∷ [])) (sym at)

@@ -1,8 +1,8 @@
 -- Marks and loads: what values reach through finitely many rows, as lists.
-use Rattle.std.specs.Prelude.{ℕ, zero, suc, ◌≡◌, List, [], ◌∷◌, ◌++◌, Option, Some, None, Contains, length, map}
+use Rattle.std.specs.Prelude.{ℕ, zero, suc, ◌≡◌, Bool, false, List, [], ◌∷◌, ◌++◌, Option, Some, None, Contains, length, map, slice_index_or}
 use Rattle.std.specs.FinMap.Entries.{by_order}
-use Rattle.std.specs.List.{flat_map}
-use Rattle.orca_names.specs.Names.{owner_of, thing_cmp}
+use Rattle.std.specs.List.{flat_map, list_any}
+use Rattle.orca_names.specs.Names.{is_thing, owner_of, thing_cmp}
 use Rattle.orca_names.specs.declared.names.ObjName.{ObjName}
 use Rattle.orca_names.specs.declared.names.Thing.{Thing}
 use Rattle.orca_names.specs.declared.names.Thing.TheVariants.{Actor}
@@ -53,3 +53,8 @@ load_of rows all args = map (λ x. (x, thing_row rows x)) (marks_of rows all arg
 -- the load of a letter with root-only tracing: what its arguments reach over no rows
 abbrev pub load_roots : List Value → List (Thing × Option (List Value))
 load_roots args = load_of (λ n. None) [] args
+
+-- the bit of a place is on exactly where its thing is among the marks
+abbrev pub TellMarks : (Thing → Option ℕ) → List Bool → List Thing → Type 0
+TellMarks place bits marks =
+    (x : Thing) (p : ℕ) → place x ≡ Some p → slice_index_or bits p false ≡ list_any (is_thing x) marks

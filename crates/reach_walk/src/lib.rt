@@ -3,15 +3,21 @@
 
 mod edges;
 mod laws;
+mod listing;
+mod load;
+mod look;
 mod marks;
+mod noted;
 mod places;
 mod reach;
 mod seen;
 mod unplaced;
+mod walk_rows;
 
 pub use edges::Edges;
 pub use laws::{loads_are_exact, marks_are_exact, marks_are_unique};
-pub use marks::{Marks, mark};
+pub use load::{load_of, load_within};
+pub use marks::{Marks, mark, mark_bits, mark_within};
 pub use places::{PlacedRows, Places};
 pub use reach::walk;
 pub use unplaced::Unplaced;

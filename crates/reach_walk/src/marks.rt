@@ -1,69 +1,82 @@
 // Marks: what values reach through rows.
 
-ghost use Rattle.std.specs.Prelude.{◌≡◌, ◌↔◌, ℕ, List, Option, Contains, IfOk, map};
-ghost use Rattle.std.proofs.Common.{ap};
-ghost use Rattle.orca_names.specs.declared.names.ObjName.{ObjName as object_name};
-ghost use Rattle.orca_names.specs.declared.names.Value as names;
+ghost use Rattle.std.specs.Prelude.{◌≡◌, ◌+◌, ◌*◌, ◌≤◌, IfOk, length};
 ghost use Rattle.std.specs.List.Sorted.{IsStrictlySortedBy};
 ghost use Rattle.orca_names.specs.Names.{thing_cmp};
-ghost use Rattle.orca_names.specs.declared.names.Thing.{Thing as thing};
-ghost use Rattle.orca_names.specs.declared.names.Thing.TheVariants.{Obj as object};
-ghost use Rattle.reach_walk.specs.Marks.{marks_of};
+ghost use Rattle.reach_walk.specs.Marks.{marks_of, TellMarks};
 ghost use Rattle.reach_walk.specs.Reach.{named_by, row_edges, AreReached};
-ghost use Rattle.reach_walk.specs.Rows.{row_edges-within};
 
-use crate::edges::Edges;
-use crate::reach::{push_named, walk};
-use orca_names::{NoMemory, RowReader, Thing, Value};
+use crate::places::PlacedRows;
+use crate::seen::Seen;
+use crate::walk_rows::{walk_freely, walk_rows};
+use orca_names::{NoMemory, Thing, Value};
+use ready_set::PlaceSet;
 use std::alloc::Global;
-
-// Rows as edges: an object leads to the values of its row.
-#[derive(Drop)]
-struct RowEdges<'a, R> {
-    rows: &'a mut R,
-}
-
-impl<R: RowReader> Edges for RowEdges<'_, R> {
-    ghost edges = { λ s. row_edges (R.rows s.rows.now) };
-
-    ghost all = { λ s. map object (R.all s.rows.now) };
-
-    ghost Kept = { ℕ × ((object_name → Option (List names.Value)) × List object_name) };
-
-    ghost kept = { λ s. (s.rows.ghost_name, (R.rows s.rows.now, R.all s.rows.now)) };
-
-    fn push_edges(&mut self, thing: Thing, found: &mut Vec<Value>) -> Result<(), NoMemory> {
-        if let Thing::Obj(n) = thing {
-            if let Some(row) = self.rows.read_row(n) {
-                found.extend_from_slice(row.as_slice())?;
-            }
-        }
-        Ok(())
-    }
-
-    ghost within = { λ s t leads.
-        let rows = s.rows.now in row_edges-within (R.rows rows) (R.all rows) (R.within rows) t leads };
-
-    ghost same_edges = { λ s t e. ap (λ k. row_edges k.1.0) e };
-}
+use std::sync::ledger::Ledger;
+use step_count::Steps;
 
 /// What values reach through the rows of objects, with the owners of the objects: in the order of
 /// things, each once.
 pub type Marks = Vec<Thing>;
 
-/// The marks of the values.
+/// The marks of the values. A step is one thing taken from the worklist or one value looked at.
 ///
 /// # Errors
 /// `NoMemory` where memory was refused.
-pub fn mark<R: RowReader>(alloc: Global, roots: &[Value], rows: &mut R) -> Result<Marks, NoMemory>
+pub fn mark_within<R: PlacedRows, L: Ledger>(
+    alloc: Global,
+    roots: &[Value],
+    rows: &mut R,
+    steps: &mut Steps<L>,
+) -> Result<Marks, NoMemory>
     ensures exact { IfOk result
         (λ found. AreReached (row_edges (R.rows rows.old)) (named_by roots.now) found.items) }
     ensures rising { IfOk result (λ found. IsStrictlySortedBy thing_cmp found.items) }
     ensures list { let marks = marks_of (R.rows rows.old) (R.all rows.old) roots.now in
         IfOk result (λ found. found.items ≡ marks) }
-    ensures same { (R.rows rows.new ≡ R.rows rows.old) × (R.all rows.new ≡ R.all rows.old) }
+    ensures steps { IfOk result (λ found.
+        steps.new ≤ steps.old + (9 * length found.items + length roots.now)) }
+    ensures rows { (R.rows rows.new ≡ R.rows rows.old) × (R.all rows.new ≡ R.all rows.old) }
+    ensures places { (R.place rows.new ≡ R.place rows.old) × (R.count rows.new ≡ R.count rows.old) }
 {
-    let mut things = Vec::new(alloc);
-    push_named(&mut things, roots)?;
-    walk(alloc, things.as_slice(), &mut RowEdges { rows })
+    let mut seen = walk_rows(alloc, roots, rows, steps)?;
+    seen.sort(rows)?;
+    Ok(seen.things)
+}
+
+/// The marks of the values.
+///
+/// # Errors
+/// `NoMemory` where memory was refused.
+pub fn mark<R: PlacedRows>(alloc: Global, roots: &[Value], rows: &mut R) -> Result<Marks, NoMemory>
+    ensures exact { IfOk result
+        (λ found. AreReached (row_edges (R.rows rows.old)) (named_by roots.now) found.items) }
+    ensures rising { IfOk result (λ found. IsStrictlySortedBy thing_cmp found.items) }
+    ensures list { let marks = marks_of (R.rows rows.old) (R.all rows.old) roots.now in
+        IfOk result (λ found. found.items ≡ marks) }
+    ensures rows { (R.rows rows.new ≡ R.rows rows.old) × (R.all rows.new ≡ R.all rows.old) }
+    ensures places { (R.place rows.new ≡ R.place rows.old) × (R.count rows.new ≡ R.count rows.old) }
+{
+    let mut seen = walk_freely(alloc, roots, rows)?;
+    seen.sort(rows)?;
+    Ok(seen.things)
+}
+
+/// The marks of the values by place, as a sweep wants them: no list of them is made.
+///
+/// # Errors
+/// `NoMemory` where memory was refused.
+pub fn mark_bits<R: PlacedRows>(
+    alloc: Global,
+    roots: &[Value],
+    rows: &mut R,
+) -> Result<PlaceSet, NoMemory>
+    ensures marks { let marks = marks_of (R.rows rows.old) (R.all rows.old) roots.now in
+        IfOk result (λ bits. TellMarks (R.place rows.old) bits marks) }
+    ensures room { IfOk result (λ bits. R.count rows.old ≤ length bits) }
+    ensures rows { (R.rows rows.new ≡ R.rows rows.old) × (R.all rows.new ≡ R.all rows.old) }
+    ensures places { (R.place rows.new ≡ R.place rows.old) × (R.count rows.new ≡ R.count rows.old) }
+{
+    let Seen { noted, .. } = walk_freely(alloc, roots, rows)?;
+    Ok(noted.bits)
 }

@@ -9,6 +9,7 @@ ghost use Rattle.reach_walk.specs.Walk.{next_of};
 
 use crate::edges::Edges;
 use crate::seen::Seen;
+use crate::unplaced::Unplaced;
 use orca_names::{NoMemory, Thing, Value};
 use std::alloc::Global;
 
@@ -50,15 +51,17 @@ pub fn walk<E: Edges>(alloc: Global, roots: &[Thing], graph: &mut E) -> Result<V
     ensures rising { IfOk result (λ found. IsStrictlySortedBy thing_cmp found.items) }
     ensures kept { E.kept graph.new ≡ E.kept graph.old }
 {
-    let mut seen = Seen::new(alloc);
+    let nowhere = Unplaced { of: () };
+    let mut seen = Seen::new(alloc, &nowhere)?;
     let mut values = Vec::new(alloc);
     let mut next = Vec::new(alloc);
-    seen.see_all(roots)?;
+    seen.see_all(roots, &nowhere)?;
     let mut at = 0;
-    while at < seen.len() {
-        find_next(graph, seen.at(at), &mut values, &mut next)?;
-        seen.see_all(next.as_slice())?;
+    while at < seen.things.len() {
+        find_next(graph, seen.things[at], &mut values, &mut next)?;
+        seen.see_all(next.as_slice(), &nowhere)?;
         at += 1;
     }
-    seen.into_sorted()
+    seen.sort(&nowhere)?;
+    Ok(seen.things)
 }

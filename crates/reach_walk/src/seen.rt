@@ -1,98 +1,103 @@
 // What a walk has seen.
 
-ghost use Rattle.std.specs.Prelude.{◌≡◌, ◌≤◌, ◌<◌, ◌↔◌, ◌∷◌, [], List, Some, Contains, length, slice_get, IfOk, OnOk};
+ghost use Rattle.std.specs.Prelude.{◌≡◌, ◌<◌, ◌↔◌, ◌∷◌, ◌⊎◌, [], true, None, Contains, IfOk, OnOk, MatchOption, length, map, slice_index_or};
 ghost use Rattle.std.specs.List.Sorted.{IsStrictlySortedBy};
 ghost use Rattle.orca_names.specs.Names.{thing_cmp};
 ghost use Rattle.orca_names.specs.declared.names.Thing.{Thing as thing};
-ghost use Rattle.reach_walk.specs.Walk.{Adds};
+ghost use Rattle.orca_names.specs.declared.names.Thing.TheVariants.{Actor as actor};
+ghost use Rattle.reach_walk.specs.Walk.{Adds, AreNoted, IsSeen};
 
-use orca_names::{NoMemory, Thing};
+use crate::listing::{list_others, list_placed};
+use crate::noted::Noted;
+use crate::places::Places;
+use orca_names::{ActorName, NoMemory, Thing};
 use std::alloc::Global;
-use std::collections::BTreeSet;
-use std::marker::Model;
 
-/// The things that a walk has met, each once; contracts see them as a list, in the order in which
-/// they came. Whether a thing is among them is looked up in a set.
+/// The things that a walk has met, in the order in which they came, each once and with its place.
 #[derive(Drop)]
 pub(crate) struct Seen {
-    things: Vec<Thing>,
-    set: BTreeSet<Thing>,
-}
-
-impl Model for Seen {
-    ghost use Rattle.std.specs.Prelude.{List};
-    ghost use Rattle.orca_names.specs.declared.names.Thing as names;
-    ghost use Rattle.reach_walk.specs.Walk.{IsSetOf};
-
-    ghost Value = { List names.Thing };
-
-    ghost view = { λ seen. seen.things.items };
-
-    ghost invariant = { λ seen. IsSetOf seen.set.keys seen.things.items };
+    pub(crate) things: Vec<Thing>,
+    pub(crate) spots: Vec<Option<usize>>,
+    pub(crate) noted: Noted,
+    // The last owner that was seen: the next thing mostly has the same one.
+    pub(crate) owner: Option<ActorName>,
 }
 
 impl Seen {
-    /// Nothing was seen yet. It takes no memory.
-    pub(crate) fn new(alloc: Global) -> Seen
-        ensures { result ≡ [] }
+    /// Nothing was seen yet.
+    pub(crate) fn new<P: Places>(alloc: Global, places: &P) -> Result<Seen, NoMemory>
+        ensures none { IfOk result (λ seen. seen.things.items ≡ []) }
+        ensures seen { IfOk result (λ seen. IsSeen (P.place places.now) (P.count places.now) seen) }
     {
-        Seen {
+        Ok(Seen {
             things: Vec::new(alloc),
-            set: BTreeSet::new(alloc),
-        }
-    }
-
-    /// How many were seen.
-    pub(crate) fn len(&self) -> usize
-        ensures count { result ≡ length self.now }
-
-        // Each is there once: no list that has them all is shorter.
-        ensures once { (cover : List thing) →
-            ((x : thing) → Contains self.now x → Contains cover x) → result ≤ length cover }
-    {
-        self.things.len()
-    }
-
-    /// The thing at a place, counted from 0.
-    pub(crate) fn at(&self, i: usize) -> Thing
-        requires { i < length self.now }
-        ensures { slice_get self.now i ≡ Some result }
-    {
-        self.things[i]
+            spots: Vec::new(alloc),
+            noted: Noted::new(alloc, places)?,
+            owner: None,
+        })
     }
 
     /// Sees a thing, which comes last where it was not seen before.
-    fn see(&mut self, thing: &Thing) -> Result<(), NoMemory>
-        ensures { OnOk result (Adds (thing.now ∷ []) self.old self.new) }
+    pub(crate) fn see<P: Places>(&mut self, thing: &Thing, places: &P) -> Result<(), NoMemory>
+        requires { IsSeen (P.place places.now) (P.count places.now) self.old }
+        ensures adds { OnOk result
+            (Adds (thing.now ∷ []) self.old.things.items self.new.things.items) }
+        ensures seen { OnOk result (IsSeen (P.place places.now) (P.count places.now) self.new) }
     {
-        self.things.reserve(1)?;
-        if self.set.insert(*thing)? {
-            self.things.push_reserved(*thing);
+        let at = places.place_of(thing);
+        if self.noted.note(thing, at)? {
+            self.things.push(*thing)?;
+            self.spots.push(at)?;
         }
+        Ok(())
+    }
+
+    /// Sees an owner.
+    pub(crate) fn see_owner<P: Places>(
+        &mut self,
+        owner: ActorName,
+        places: &P,
+    ) -> Result<(), NoMemory>
+        requires { IsSeen (P.place places.now) (P.count places.now) self.old }
+        ensures adds { OnOk result
+            (Adds (actor owner ∷ []) self.old.things.items self.new.things.items) }
+        ensures seen { OnOk result (IsSeen (P.place places.now) (P.count places.now) self.new) }
+    {
+        if self.owner == Some(owner) {
+            return Ok(());
+        }
+        self.see(&Thing::Actor(owner), places)?;
+        self.owner = Some(owner);
         Ok(())
     }
 
     /// Sees these things.
-    pub(crate) fn see_all(&mut self, things: &[Thing]) -> Result<(), NoMemory>
-        ensures { OnOk result (Adds things.now self.old self.new) }
+    pub(crate) fn see_all<P: Places>(
+        &mut self,
+        things: &[Thing],
+        places: &P,
+    ) -> Result<(), NoMemory>
+        requires { IsSeen (P.place places.now) (P.count places.now) self.old }
+        ensures adds { OnOk result (Adds things.now self.old.things.items self.new.things.items) }
+        ensures seen { OnOk result (IsSeen (P.place places.now) (P.count places.now) self.new) }
     {
         for thing in things {
-            self.see(thing)?;
+            self.see(thing, places)?;
         }
         Ok(())
     }
 
-    /// All of them, in the order of things. The list's memory serves again.
-    pub(crate) fn into_sorted(self) -> Result<Vec<Thing>, NoMemory>
-        ensures same { IfOk result (λ sorted. (x : thing) → Contains sorted.items x
-            ↔ Contains self x) }
-        ensures rising { IfOk result (λ sorted. IsStrictlySortedBy thing_cmp sorted.items) }
+    /// Puts all of them in the order of things.
+    pub(crate) fn sort<P: Places>(&mut self, places: &P) -> Result<(), NoMemory>
+        requires { IsSeen (P.place places.now) (P.count places.now) self.old }
+        ensures same { OnOk result ((x : thing) → Contains self.new.things.items x
+            ↔ Contains self.old.things.items x) }
+        ensures rising { OnOk result (IsStrictlySortedBy thing_cmp self.new.things.items) }
+        ensures spots { OnOk result
+            (self.new.spots.items ≡ map (P.place places.now) self.new.things.items) }
     {
-        let Seen { mut things, set } = self;
-        things.clear();
-        for thing in &set {
-            things.push(*thing)?;
-        }
-        Ok(things)
+        let noted = &mut self.noted;
+        list_placed(&noted.bits, places, &mut self.things, &mut self.spots)?;
+        list_others(&mut noted.others, places, &mut self.things, &mut self.spots)
     }
 }

@@ -1,6 +1,6 @@
 // A small graph by hand: rows that are shared, absent or lead back, owners, roots named twice.
 
-ghost use Rattle.std.specs.Prelude.{◌≡◌, ◌<◌, ◌==◌, if◌then◌else◌, true, false, None, Some, Contains, ℕ, [], length, map, slice_get};
+ghost use Rattle.std.specs.Prelude.{◌≡◌, ◌<◌, ◌≤◌, ◌+◌, ◌==◌, IfOk, if◌then◌else◌, true, false, None, Some, Contains, ℕ, [], length, map, slice_get};
 ghost use Rattle.std.specs.List.{range_with_len};
 ghost use Rattle.std.proofs.Common.{refl, sym, subst, ◌∙◌, zero-add};
 ghost use Rattle.std.proofs.lemmas.Bool.{eqb-true};
@@ -9,9 +9,13 @@ ghost use Rattle.std.proofs.lemmas.List.FromFn.{length-range_with_len, get_or-ma
 ghost use Rattle.std.proofs.lemmas.Option.{none-some, slice_get_within};
 ghost use Rattle.orca_names.specs.declared.names.ObjName.{ObjName as object_name};
 
-use crate::{Edges, mark, walk};
-use orca_names::{ActorName, NoMemory, ObjName, Reading, Row, Rows, Serial, Thing, Value};
+use crate::{Edges, Unplaced, load_of, load_within, mark, mark_bits, mark_within, walk};
+use orca_names::{ActorName, Args, NoMemory, ObjName, Reading, Row, Rows, Serial, Thing, Value};
+use std::alloc::Global;
+use std::marker::Brand;
+use std::sync::ledger::{Blank, Ledger};
 use std::test::Fail;
+use step_count::Steps;
 
 const fn object(owner: u32, serial: u64) -> ObjName {
     ObjName {
@@ -87,7 +91,9 @@ fn marks_are_what_rows_reach(rt: HostRuntime) -> Result<(), Fail> {
     let shelf = Shelf {
         rows: rows.to_vec(alloc)?,
     };
-    let mut rows = Reading { rows: &shelf };
+    let mut rows = Unplaced {
+        of: Reading { rows: &shelf },
+    };
     let roots = [
         Value::Obj(object(0, 2)),
         Value::Null,
@@ -112,6 +118,82 @@ fn marks_are_what_rows_reach(rt: HostRuntime) -> Result<(), Fail> {
     let root = [Value::Obj(object(0, 4))];
     assert_eq!(rt; mark(alloc, &root, &mut rows)?.as_slice(), ring.as_slice());
     assert_eq!(rt; mark(alloc, &[Value::Num(3)], &mut rows)?.len(), 0);
+    Ok(())
+}
+
+#[test]
+fn loads_have_each_thing_with_its_row(rt: HostRuntime) -> Result<(), Fail> {
+    let alloc = rt.alloc();
+    let first = Row::of(&[Value::Num(4)]);
+    let second = Row::of(&[Value::Obj(object(0, 0))]);
+    let shelf = Shelf {
+        rows: [first, second].to_vec(alloc)?,
+    };
+    let mut rows = Unplaced {
+        of: Reading { rows: &shelf },
+    };
+    let args = Args::of(&[Value::Obj(object(0, 0)), Value::Obj(object(0, 1))]);
+    let load = [
+        (Thing::Actor(ActorName(0)), None),
+        (Thing::Obj(object(0, 0)), Some(first)),
+        (Thing::Obj(object(0, 1)), Some(second)),
+    ];
+    assert_eq!(rt;
+        load_of(alloc, &args, &mut rows)?.as_slice(),
+        load.as_slice()
+    );
+    let bits = mark_bits(alloc, args.as_slice(), &mut rows)?;
+    assert_eq!(rt; bits.len(), 0);
+    Ok(())
+}
+
+// A row that names an object of actor 0 twice.
+fn twice(serial: u64) -> Row {
+    Row::of(&[Value::Obj(object(0, serial)), Value::Obj(object(0, serial))])
+}
+
+// A chain of rows, each but the first naming the one before twice.
+fn chain(alloc: Global, count: u64) -> Result<Shelf, NoMemory> {
+    let mut rows = Vec::new(alloc);
+    rows.push(Row::of(&[Value::Null]))?;
+    for serial in 1..count {
+        rows.push(twice(serial - 1))?;
+    }
+    Ok(Shelf { rows })
+}
+
+// The load of the last of 40 rows; how many things it has.
+fn load_of_chain<L: Ledger>(alloc: Global, steps: &mut Steps<L>) -> Result<usize, NoMemory>
+    ensures { IfOk result (λ count. count ≡ 41 → steps.new ≤ steps.old + 378) }
+{
+    let shelf = chain(alloc, 40)?;
+    let mut rows = Unplaced {
+        of: Reading { rows: &shelf },
+    };
+    let args = Args::of(&[Value::Obj(object(0, 39))]);
+    let load = load_within(alloc, &args, &mut rows, steps)?;
+    Ok(load.len())
+}
+
+// The marks of the first row, and then that load, on one ledger.
+fn walk_chain<L: Ledger>(alloc: Global, blank: Blank) -> Result<(usize, usize), NoMemory>
+    requires name { blank.name ≡ L.name }
+    requires parts { blank.parts ≡ L.parts }
+    requires some { 0 < blank.parts }
+{
+    let shelf = chain(alloc, 1)?;
+    let mut rows = Unplaced {
+        of: Reading { rows: &shelf },
+    };
+    let mut steps: Steps<L> = Steps::none(blank);
+    let root = [Value::Obj(object(0, 0))];
+    let marks = mark_within(alloc, &root, &mut rows, &mut steps)?;
+    Ok((marks.len(), load_of_chain(alloc, &mut steps)?))
+}
+
+#[test]
+fn chains_are_walked_once(rt: HostRuntime) -> Result<(), Fail> {
+    assert_eq!(rt; walk_chain::<Brand>(rt.alloc(), Blank::new(1))?, (2, 41));
     Ok(())
 }
 

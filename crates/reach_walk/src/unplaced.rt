@@ -7,6 +7,7 @@ use crate::places::{PlacedRows, Places};
 use orca_names::{ActorName, ObjName, Row, RowReader, Thing};
 
 /// What knows no places, such as a reader of rows, as one in which no thing has a place.
+#[derive(Clone, Copy, Drop)]
 pub struct Unplaced<R> {
     pub of: R,
 }

@@ -1,17 +1,19 @@
-use Rattle.std.proofs.Common.{◌≡◌, ◌≤◌, ◌∙◌, length, Contains, refl, ap, subst, arith}
-use Rattle.std.proofs.lemmas.Result.{IfOk-weaker}
-use Rattle.orca_names.specs.declared.names.Thing.{Thing}
-use Rattle.reach_walk.specs.Reach.{Reaches}
+use Rattle.std.proofs.Common.{◌≡◌, ◌<◌, ◌≤◌, ◌∙◌, Some, length, refl, sym, ap, subst, arith}
+use Rattle.std.specs.Prelude.{slice_get}
+use Rattle.std.proofs.lemmas.Option.{slice_get-get_or}
 use Rattle.reach_walk.specs.Walk.{Adds, next_of}
 use Rattle.reach_walk.proofs.Covers.{cover_of, covers}
+use Rattle.reach_walk.proofs.Distinct.{length-le_cover}
+use Rattle.reach_walk.proofs.Found.{reached-same}
 use Rattle.reach_walk.proofs.Walking.{begins, goes_on, ends}
 use Rattle.reach_walk.proofs.reach.walk.Goals as goal
 
 pub loop-at-init : goal.loop-at-init
 loop-at-init g c = record {
   kept = refl;
-  walks = begins (g.E.Edges.edges c.args.graph.now) c.args.roots.now c.see_all.new.self
-      (subst (λ old. Adds c.args.roots.now old c.see_all.new.self) c.new-seen.ensures c.in_ok-see_all.ensures);
+  seen = c.in_ok-see_all.ensures.seen;
+  walks = begins (g.E.Edges.edges c.args.graph.now) c.args.roots.now c.see_all.new.self.things.items
+      (subst (λ old. Adds c.args.roots.now old c.see_all.new.self.things.items) c.in_ok-seen.ensures.none c.in_ok-see_all.ensures.adds);
 }
 
 pub loop-at-smaller : goal.loop-at-smaller
@@ -19,29 +21,30 @@ loop-at-smaller g c =
     let edges = g.E.Edges.edges c.args.graph.now in
     let all = g.E.Edges.all c.args.graph.now in
     let roots = c.args.roots.now in
-    let fits : c.len.result ≤ length (cover_of edges all roots) = c.len.ensures.once (cover_of edges all roots)
+    let things = c.loop-at.seen.things.items in
+    let fits : length things ≤ length (cover_of edges all roots) = length-le_cover things (cover_of edges all roots) c.loop-at.invariant.seen.once
     (λ x seen. covers edges all roots (g.met.E.Edges.within c.args.graph.now) x (c.loop-at.invariant.walks.reached x seen)) in
-    omega (arith, fits)
+    omega (arith, fits, c.len.ensures)
 
 pub loop-at-preserved : goal.loop-at-preserved
 loop-at-preserved g c =
+    let edges = g.E.Edges.edges c.args.graph.now in
+    let things = c.loop-at.seen.things.items in
+    let more = c.see_all-in-loop-at.new.self.things.items in
+    let t = c.index.result.now in
+    let inside : c.loop-at.at < length things = omega (arith, c.len.ensures) in
+    let at : slice_get things c.loop-at.at ≡ Some t = slice_get-get_or things c.loop-at.at t inside ∙ ap Some (sym c.index.ensures) in
     let same = g.met.E.Edges.same_edges c.args.graph.now c.loop-at.graph c.loop-at.invariant.kept in
-    let found : c.as_slice.result.now ≡ next_of (g.E.Edges.edges c.args.graph.now) c.at.result =
-    c.as_slice.ensures.value ∙ (c.in_ok-find_next.ensures.ok ∙ ap (λ edges. next_of edges c.at.result) same)
-    in
+    let found : c.as_slice.result.now ≡ next_of edges t = c.as_slice.ensures.value ∙ (c.in_ok-find_next.ensures.ok ∙ ap (λ e. next_of e t) same) in
     record {
       kept = c.find_next.ensures.kept ∙ c.loop-at.invariant.kept;
-      walks = goes_on (g.E.Edges.edges c.args.graph.now) c.args.roots.now c.loop-at.seen c.see_all-in-loop-at.new.self c.loop-at.at c.at.result c.loop-at.invariant.walks c.at.ensures
-          (subst (λ ts. Adds ts c.loop-at.seen c.see_all-in-loop-at.new.self) found c.in_ok-see_all-2.ensures);
+      seen = c.in_ok-see_all-2.ensures.seen;
+      walks = goes_on edges c.args.roots.now things more c.loop-at.at t c.loop-at.invariant.walks at (subst (λ ts. Adds ts things more) found c.in_ok-see_all-2.ensures.adds);
     }
 
 pub returns-clause-exact : goal.returns-clause-exact
 returns-clause-exact g c =
     let edges = g.E.Edges.edges c.args.graph.now in
-    let seen = c.loop-at.seen in
-    let all = ends edges c.args.roots.now seen c.loop-at.at (omega (arith, c.len.ensures.count)) c.loop-at.invariant.walks in
-    IfOk-weaker c.into_sorted.result
-    (λ found. (x : Thing) → (Contains found.items x → Contains seen x) × (Contains seen x → Contains found.items x))
-    (λ found. (x : Thing) → (Contains found.items x → Reaches edges c.args.roots.now x) × (Reaches edges c.args.roots.now x → Contains found.items x))
-    (λ found same x. (λ h. (all x).0 ((same x).0 h), λ r. (same x).1 ((all x).1 r)))
-    c.into_sorted.ensures.same
+    let things = c.loop-at.seen.things.items in
+    reached-same edges c.args.roots.now things c.sort.new.self.things.items
+    (ends edges c.args.roots.now things c.loop-at.at (omega (arith, c.len.ensures)) c.loop-at.invariant.walks) c.in_ok-sort.ensures.same

@@ -1,6 +1,9 @@
 use Rattle.std.proofs.Common.{take}
-use Rattle.reach_walk.specs.Walk.{Adds}
+use Rattle.reach_walk.specs.Walk.{Adds, IsSeen}
 use Rattle.reach_walk.proofs.seen.Seen.see_all.Given as goal
 
 abbrev pub invariant-loop-thing : goal.invariant-loop-thing
-invariant-loop-thing l = Adds (take l.thing-index l.things) l.fn.self l.self
+invariant-loop-thing g l = record {
+  adds : Adds (take l.thing-index l.things) l.fn.self.things.items l.self.things.items;
+  seen : IsSeen (g.P.Places.place l.places) (g.P.Places.count l.places) l.self;
+}

@@ -1,0 +1,36 @@
+use Rattle.std.proofs.Common.{◌≡◌, List, Option, length, map, ap, ◌∙◌, arith}
+use Rattle.std.proofs.lemmas.Result.{IfOk-weaker}
+use Rattle.orca_names.specs.declared.names.Thing.{Thing}
+use Rattle.orca_names.specs.declared.names.Value.{Value}
+use Rattle.reach_walk.specs.Marks.{marks_of, load_of}
+use Rattle.reach_walk.specs.Reach.{thing_row}
+use Rattle.std.proofs.lemmas.List.{length-map}
+use Rattle.reach_walk.proofs.Distinct.{length-in_order}
+use Rattle.reach_walk.proofs.Found.{marks-listed}
+use Rattle.reach_walk.proofs.load.load_within.Goals as goal
+
+pub returns-clause-load : goal.returns-clause-load
+returns-clause-load g c =
+    let rows = c.args.rows.now in
+    let its = g.R.RowReader.rows rows in
+    let all = g.R.RowReader.all rows in
+    let sorted = c.sort.new.self.things.items in
+    let marks : c.as_slice-2.result.now ≡ marks_of its all c.args.args.now =
+    c.as_slice-2.ensures.value
+    ∙ marks-listed its all c.as_slice.result.now (g.met.R.RowReader.within rows) c.in_ok-seen.seen.things.items sorted
+    c.in_ok-seen.ensures.reached c.in_ok-sort.ensures.same c.in_ok-sort.ensures.rising
+    ∙ ap (marks_of its all) c.as_slice.ensures.value
+    in
+    IfOk-weaker c.with_rows.result _ (λ load. load ≡ load_of its all c.args.args.now)
+    (λ load e. e ∙ (λ i. map (λ x. (x, thing_row (c.in_ok-seen.ensures.rows.0 i) x)) (marks i))) c.with_rows.ensures.load
+
+pub returns-clause-steps : goal.returns-clause-steps
+returns-clause-steps g c =
+    let things = c.in_ok-seen.seen.things.items in
+    let sorted = c.sort.new.self.things.items in
+    let same = c.in_ok-sort.ensures.same in
+    let many = length-in_order things sorted c.in_ok-seen.ensures.seen.once c.in_ok-sort.ensures.rising (λ x h. (same x).1 h) (λ x h. (same x).0 h) in
+    let slice : length c.as_slice-2.result.now ≡ length sorted = ap length c.as_slice-2.ensures.value in
+    IfOk-weaker c.with_rows.result _ _
+    (λ load e. omega (arith, ap length e, length-map {B = Thing × Option (List Value)} c.as_slice-2.result.now (λ x. (x, thing_row (g.R.RowReader.rows c.walk_rows.new.rows) x)), slice, many, c.in_ok-seen.ensures.steps, c.as_slice.ensures.room))
+    c.with_rows.ensures.load

@@ -1,0 +1,95 @@
+// Loads: what a letter's arguments reach, with the rows.
+
+ghost use Rattle.std.specs.Prelude.{◌≡◌, ◌+◌, ◌*◌, ◌<◌, ◌≤◌, IfOk, length, map};
+ghost use Rattle.reach_walk.specs.Marks.{load_of as its_load};
+ghost use Rattle.reach_walk.specs.Reach.{thing_row};
+
+use crate::places::PlacedRows;
+use crate::walk_rows::{walk_freely, walk_rows};
+use orca_names::{Args, NoMemory, Row, Thing, Value};
+use plain_list::Listed;
+use std::alloc::Global;
+use std::sync::ledger::Ledger;
+use step_count::Steps;
+
+// The row of a thing, if it has one. The buffer is for the row.
+fn row_at<R: PlacedRows>(
+    rows: &mut R,
+    thing: &Thing,
+    at: Option<usize>,
+    row: &mut Row,
+) -> Option<Row>
+    requires { at ≡ R.place rows.old thing.now }
+    ensures row { result ≡ thing_row (R.rows rows.old) thing.now }
+    ensures rows { (R.rows rows.new ≡ R.rows rows.old) × (R.all rows.new ≡ R.all rows.old) }
+    ensures places { (R.place rows.new ≡ R.place rows.old) × (R.count rows.new ≡ R.count rows.old) }
+{
+    if rows.read_at(thing, at, row) {
+        Some(*row)
+    } else {
+        None
+    }
+}
+
+// Each thing with its row.
+fn with_rows<R: PlacedRows>(
+    alloc: Global,
+    things: &[Thing],
+    spots: &[Option<usize>],
+    rows: &mut R,
+) -> Result<Listed<(Thing, Option<Row>)>, NoMemory>
+    requires { spots.now ≡ map (R.place rows.old) things.now }
+    ensures load { IfOk result (λ load.
+        load ≡ map (λ x. (x, thing_row (R.rows rows.old) x)) things.now) }
+    ensures rows { (R.rows rows.new ≡ R.rows rows.old) × (R.all rows.new ≡ R.all rows.old) }
+    ensures places { (R.place rows.new ≡ R.place rows.old) × (R.count rows.new ≡ R.count rows.old) }
+{
+    let mut load = Listed::new(alloc);
+    let mut row = Row::of(&[Value::Null]);
+    for (i, thing) in things.iter().enumerate() {
+        let found = row_at(rows, thing, spots[i], &mut row);
+        load.push((*thing, found))?;
+    }
+    Ok(load)
+}
+
+/// The load of a letter with these arguments: each thing that they reach, with its row. A step is
+/// one thing taken from the worklist or one value looked at.
+///
+/// # Errors
+/// `NoMemory` where memory was refused.
+pub fn load_within<R: PlacedRows, L: Ledger>(
+    alloc: Global,
+    args: &Args,
+    rows: &mut R,
+    steps: &mut Steps<L>,
+) -> Result<Listed<(Thing, Option<Row>)>, NoMemory>
+    ensures load { IfOk result (λ load.
+        load ≡ its_load (R.rows rows.old) (R.all rows.old) args.now) }
+    ensures steps { IfOk result (λ load. steps.new ≤ steps.old + (9 * length load + 9)) }
+    ensures rows { (R.rows rows.new ≡ R.rows rows.old) × (R.all rows.new ≡ R.all rows.old) }
+    ensures places { (R.place rows.new ≡ R.place rows.old) × (R.count rows.new ≡ R.count rows.old) }
+{
+    let mut seen = walk_rows(alloc, args.as_slice(), rows, steps)?;
+    seen.sort(rows)?;
+    with_rows(alloc, seen.things.as_slice(), seen.spots.as_slice(), rows)
+}
+
+/// The load of a letter with these arguments: each thing that they reach, with its row.
+///
+/// # Errors
+/// `NoMemory` where memory was refused.
+pub fn load_of<R: PlacedRows>(
+    alloc: Global,
+    args: &Args,
+    rows: &mut R,
+) -> Result<Listed<(Thing, Option<Row>)>, NoMemory>
+    ensures load { IfOk result (λ load.
+        load ≡ its_load (R.rows rows.old) (R.all rows.old) args.now) }
+    ensures rows { (R.rows rows.new ≡ R.rows rows.old) × (R.all rows.new ≡ R.all rows.old) }
+    ensures places { (R.place rows.new ≡ R.place rows.old) × (R.count rows.new ≡ R.count rows.old) }
+{
+    let mut seen = walk_freely(alloc, args.as_slice(), rows)?;
+    seen.sort(rows)?;
+    with_rows(alloc, seen.things.as_slice(), seen.spots.as_slice(), rows)
+}
