@@ -19,8 +19,8 @@ use Rattle.orca_names.proofs.ThingOrder.{thing_total}
 use Rattle.letter_kinds.specs.Holdings.{Row}
 use Rattle.object_heap.specs.Heap.{Heap}
 use Rattle.foreign_table.specs.Table.{Table}
-use Rattle.known_rows.specs.InOrder.{AreInOrder, append_in_order}
-use Rattle.known_rows.specs.Places.{held_above, held_below, own_things, placed_things}
+use Rattle.known_rows.specs.InOrder.{AreInOrder, append_in_order, order_of_places, thing_at_place}
+use Rattle.known_rows.specs.Places.{held_above, held_below, own_things, place_in, placed_things}
 
 -- ---- the keys that pass
 
@@ -126,3 +126,12 @@ module _ (heap : Heap) (foreign : Table) where
       let upper_part = passed_in_order (λ x. nat_lt heap.owner (owner_of x)) foreign in
       append_in_order (held_below heap foreign ++ own) (held_above heap foreign)
       (append_in_order (held_below heap foreign) own lower_part own_in_order below_then_own) upper_part own_then_above
+
+  -- places are below their number
+  pub places_below : (x : Thing) (p : ℕ) → place_in heap foreign x ≡ Some p → p < length (placed_things heap foreign)
+  places_below x p e = (thing_at_place (placed_things heap foreign) x p e).0
+
+  -- and go in the order of things
+  pub places_in_order : (x y : Thing) (p q : ℕ) → place_in heap foreign x ≡ Some p → place_in heap foreign y ≡ Some q → thing_cmp x y ≡ nat_cmp p q
+  places_in_order x y p q e f = order_of_places (placed_things heap foreign) placed_in_order x y p q
+      (thing_at_place (placed_things heap foreign) x p e).1 (thing_at_place (placed_things heap foreign) y q f).1

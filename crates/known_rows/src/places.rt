@@ -1,24 +1,42 @@
 // Places of what an actor knows.
 
-ghost use Rattle.std.specs.Prelude.{◌≡◌, Some, None};
+ghost use Rattle.std.specs.Prelude.{◌≡◌, ◌≢◌, ◌+◌, ◌-◌, ◌^◌, ◌<◌, Some, None, length};
 ghost use Rattle.std.specs.FinMap as m;
 ghost use Rattle.foreign_table.specs.Span.{IsSpan};
-ghost use Rattle.known_rows.specs.Places.{place_in};
+ghost use Rattle.known_rows.specs.Known.{row_known};
+ghost use Rattle.known_rows.specs.Places.{place_in, placed_things};
+ghost use Rattle.orca_names.specs.declared.names.ObjName.{ObjName as object_name};
+ghost use Rattle.std.specs.Option.{option_copied};
+ghost use Rattle.orca_names.specs.Names.{owner_of};
+ghost use Rattle.orca_names.specs.declared.names.Thing.TheVariants.{Obj as object};
 
 use crate::known::KnownRows;
 use foreign_table::ForeignTable;
 use object_heap::ObjectHeap;
-use orca_names::{ObjName, Row, RowReader, Rows, Thing};
+use orca_names::{ObjName, Row, RowReader, Rows, Thing, Value};
 use reach_walk::{PlacedRows, Places};
 
 /// The rows that an actor has in both of its tables, with places: first what it holds of actors
 /// with lower numbers, then the actor itself, its own objects, and what it holds of actors with
 /// higher numbers, each part in the order of things.
+#[derive(Clone, Copy)]
 pub struct KnownPlaces<'a> {
     rows: KnownRows<'a>,
+
+    // Where the entries of the actor's own number would stand among the held things, and where they
+    // would end.
     first: usize,
     end: usize,
+
+    // The first place of what it holds of actors with higher numbers.
+    above: usize,
+
+    // How many places there are.
+    count: usize,
     ghost span: { IsSpan rows.heap.now.owner (m.keys rows.foreign.now.entries) first end },
+    ghost start: { above ≡ first + 1 + m.len rows.heap.now.rows },
+    ghost size: { count ≡ above + (m.len rows.foreign.now.entries - end) },
+    ghost fits: { (count < 2 ^ 64) × (m.len rows.foreign.now.entries < 2 ^ 63) },
 }
 
 impl<'a> KnownPlaces<'a> {
@@ -28,24 +46,140 @@ impl<'a> KnownPlaces<'a> {
         ensures foreign { result.rows.foreign.now ≡ foreign.now }
     {
         let (first, end) = foreign.span(heap.owner());
+        let held = foreign.len();
+        let above = first + 1 + heap.len();
+        let count = above + (held - end);
         KnownPlaces {
             rows: KnownRows { heap, foreign },
             first,
             end,
+            above,
+            count,
         }
     }
 
-    fn place_of_own(&self, n: ObjName) -> Option<usize> {
-        let i = self.rows.heap.place(n)?;
-        Some(self.first + 1 + i)
-    }
-
-    fn place_of_held(&self, thing: &Thing) -> Option<usize> {
-        let j = self.rows.foreign.place(thing)?;
-        if j < self.first {
-            Some(j)
-        } else {
-            Some(self.first + 1 + self.rows.heap.len() + (j - self.end))
+    // The place of an object of the actor's own.
+    fn place_of_own(&self, n: ObjName) -> Option<usize>
+        requires { n.owner ≡ self.now.rows.heap.now.owner }
+        ensures { result ≡ place_in self.now.rows.heap.now self.now.rows.foreign.now (object n) }
+    {
+        match self.rows.heap.place(n) {
+            Some(i) => Some(self.first + 1 + i),
+            None => None,
         }
     }
+
+    // The place of another's thing.
+    fn place_of_held(&self, thing: &Thing) -> Option<usize>
+        requires { owner_of thing.now ≢ self.now.rows.heap.now.owner }
+        ensures { result ≡ place_in self.now.rows.heap.now self.now.rows.foreign.now thing.now }
+    {
+        match self.rows.foreign.place(thing) {
+            Some(j) if j < self.first => Some(j),
+            Some(j) => Some(self.above + (j - self.end)),
+            None => None,
+        }
+    }
+}
+
+impl KnownPlaces<'_> {
+    // The row of the object at a place.
+    fn row_by_place(&self, at: usize) -> Option<&Row>
+        requires { at < length (placed_things self.now.rows.heap.now self.now.rows.foreign.now) }
+        ensures { (n : object_name)
+            → place_in self.now.rows.heap.now self.now.rows.foreign.now (object n) ≡ Some at
+            → option_copied result ≡ row_known self.now.rows.heap.now self.now.rows.foreign.now n }
+    {
+        let foreign = self.rows.foreign;
+        if at < self.first {
+            return foreign.row_at(at);
+        }
+        if at == self.first {
+            return None;
+        }
+        if at < self.above {
+            let heap = self.rows.heap;
+            return Some(heap.row_at(at - self.first - 1));
+        }
+        foreign.row_at(at - self.above + self.end)
+    }
+}
+
+impl RowReader for KnownPlaces<'_> {
+    ghost use Rattle.known_rows.specs.Known.{row_known, names_known, row_known-within};
+
+    ghost rows = { λ s. row_known s.rows.heap.now s.rows.foreign.now };
+
+    ghost all = { λ s. names_known s.rows.heap.now s.rows.foreign.now };
+
+    fn read_row(&mut self, n: ObjName) -> Option<Row> {
+        self.rows.row_of(n).copied()
+    }
+
+    fn read_place(&mut self, n: ObjName, i: u64) -> Option<Value> {
+        self.rows.row_of(n)?.get(i)
+    }
+
+    ghost within = { λ s n row e. row_known-within s.rows.heap.now s.rows.foreign.now n row e };
+}
+
+impl PlacedRows for KnownPlaces<'_> {
+    fn read_at(&mut self, thing: &Thing, at: Option<usize>, row: &mut Row) -> bool {
+        if let Thing::Actor(_) = thing {
+            return false;
+        }
+        let Some(at) = at else {
+            return false;
+        };
+        match self.row_by_place(at) {
+            Some(found) => {
+                *row = *found;
+                true
+            }
+            None => false,
+        }
+    }
+}
+
+impl Places for KnownPlaces<'_> {
+    ghost use Rattle.std.specs.Prelude.{length};
+    ghost use Rattle.known_rows.specs.Places.{place_in, placed_things};
+    ghost use Rattle.known_rows.specs.PlaceLaws.{places_below, places_in_order};
+
+    ghost place = { λ s. place_in s.rows.heap.now s.rows.foreign.now };
+
+    ghost count = { λ s. length (placed_things s.rows.heap.now s.rows.foreign.now) };
+
+    fn places(&self) -> usize {
+        self.count
+    }
+
+    fn place_of(&self, thing: &Thing) -> Option<usize> {
+        let owner = self.rows.heap.owner();
+        if thing.owner() != owner {
+            return self.place_of_held(thing);
+        }
+        match thing {
+            Thing::Actor(_) => Some(self.first),
+            Thing::Obj(n) => self.place_of_own(*n),
+        }
+    }
+
+    fn thing_at(&self, at: usize) -> Thing {
+        if at < self.first {
+            return self.rows.foreign.thing_at(at);
+        }
+        if at == self.first {
+            return Thing::Actor(self.rows.heap.owner());
+        }
+        if at < self.above {
+            let (n, _, _) = self.rows.heap.at(at - self.first - 1);
+            return Thing::Obj(n);
+        }
+        self.rows.foreign.thing_at(at - self.above + self.end)
+    }
+
+    ghost below = { λ s x p e. places_below s.rows.heap.now s.rows.foreign.now x p e };
+
+    ghost in_order = { λ s x y p q e f. places_in_order s.rows.heap.now s.rows.foreign.now x y p q e f };
 }
