@@ -24,8 +24,8 @@ use step_count::Steps;
 /// The most tokens that may be opened.
 pub const TOKENS_LIMIT: u64 = 100_000_000;
 
-/// What is known of blocked actors, and the tokens that are open (MAC, OOPSLA 2013), seen by contracts
-/// as that state and the further tokens for which there is memory.
+/// What is known of blocked actors, and the tokens that are open (MAC, OOPSLA 2013), seen by
+/// contracts as that state and the further tokens for which there is memory.
 #[derive(Debug, Drop)]
 pub struct Detector {
     reports: Reports,

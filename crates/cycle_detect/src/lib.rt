@@ -1,5 +1,5 @@
-//! The detector of blocked actors: the reports that it keeps, the closed sets that it finds among them, and
-//! the tokens by which it asks their members (MAC, OOPSLA 2013).
+//! The detector of blocked actors: the reports that it keeps, the closed sets that it finds among
+//! them, and the tokens by which it asks their members (MAC, OOPSLA 2013).
 #![tactic(auto)]
 
 mod detector;

@@ -58,8 +58,10 @@ impl Reports {
         self.by_actor.values()
     }
 
-    /// With this report, which takes the place of an older one of its actor. It comes back where memory was
-    /// refused.
+    /// With this report, which takes the place of an older one of its actor.
+    ///
+    /// # Errors
+    /// The report comes back where memory was refused; the reports stay as they were.
     pub(crate) fn keep(&mut self, report: Report) -> Result<(), Report>
         ensures ok { OnOk result (self.new ≡ keep_report report self.old) }
         ensures err { OnErr result (self.new ≡ self.old) }

@@ -80,8 +80,10 @@ fn place_told<L: Ledger>(
     place_of(names, actor)
 }
 
-/// Adds to an actor's sum what another one tells on it. A sum that does not fit is of more counts than memory
-/// holds.
+/// Adds to an actor's sum what another one tells on it.
+///
+/// # Errors
+/// `NoMemory` where the sum does not fit: it is of more counts than memory holds.
 fn add_entry<L: Ledger>(
     names: &[ActorName],
     teller: ActorName,

@@ -26,7 +26,11 @@ impl Model for Token {
 
     ghost Value = { Told };
 
-    ghost view = { λ t. record { number = t.number; members = t.members.items; acked = picked t.members.items t.acked.items } };
+    ghost view = { λ t. record {
+      number = t.number;
+      members = t.members.items;
+      acked = picked t.members.items t.acked.items;
+    } };
 
     ghost invariant = { λ t. AreMarks t.members.items t.acked.items t.missing };
 }
