@@ -1,16 +1,19 @@
-//! What a blocked actor reports to the detector of blocked actors (MAC, OOPSLA 2013).
+//! What a blocked actor reports to the detector (MAC, OOPSLA 2013).
 #![tactic(auto)]
 
 ghost use Rattle.std.specs.Prelude.{◌≡◌, IfOk};
+ghost use Rattle.std.specs.FinMap as m;
+ghost use Rattle.foreign_table.specs.Table.{on_actors};
 ghost use Rattle.letter_kinds.specs.Reports.{block_note, report_told};
 
+use foreign_table::ForeignTable;
 use letter_kinds::Note;
 use orca_names::{ActorName, NoMemory};
 use plain_list::Listed;
 use std::alloc::Global;
 
-/// The note that the actor is blocked, with its own count and the counts that it holds on other
-/// actors, in their order.
+/// The note that the actor is blocked, with this count of its own and all counts that it holds on
+/// other actors.
 ///
 /// # Errors
 /// `NoMemory` where memory was refused.
@@ -18,16 +21,16 @@ pub fn report(
     alloc: Global,
     actor: ActorName,
     count: u64,
-    held: &[(ActorName, u64)],
+    foreign: &ForeignTable,
 ) -> Result<Note, NoMemory>
-    ensures { IfOk result (λ note. note ≡ block_note (report_told actor count held.now)) }
+    ensures { let held = on_actors (m.entries foreign.now.entries) in
+        IfOk result (λ note. note ≡ block_note (report_told actor count held)) }
 {
-    let mut told = Listed::new(alloc);
-    told.extend_from_slice(held)?;
+    let held = foreign.held_actors(alloc)?;
     Ok(Note::Block {
         actor,
         count,
-        held: told,
+        held: Listed::from(held),
     })
 }
 
