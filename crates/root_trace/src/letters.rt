@@ -25,11 +25,7 @@ pub fn load_roots(alloc: Global, args: &Args) -> Result<Load, NoMemory>
 ///
 /// # Errors
 /// `NoMemory` where memory was refused.
-pub fn rows_of<R: PlacedRows>(
-    alloc: Global,
-    args: &Args,
-    known: &mut R,
-) -> Result<Load, NoMemory>
+pub fn rows_of<R: PlacedRows>(alloc: Global, args: &Args, known: &mut R) -> Result<Load, NoMemory>
     ensures rows { IfOk result (λ rows.
         rows ≡ deep_load (R.rows known.old) (R.all known.old) args.now) }
     ensures same { (R.rows known.new ≡ R.rows known.old) × (R.all known.new ≡ R.all known.old) }

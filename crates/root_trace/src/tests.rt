@@ -30,7 +30,10 @@ fn loads_are_what_stands_in_letters(rt: HostRuntime) -> Result<(), Fail> {
     ];
     assert_eq!(rt; load_roots(alloc, &args)?.as_slice(), load.as_slice());
     let mut known = Unplaced { of: NoRows };
-    assert_eq!(rt; rows_of(alloc, &args, &mut known)?.as_slice(), load.as_slice());
+    assert_eq!(rt;
+        rows_of(alloc, &args, &mut known)?.as_slice(),
+        load.as_slice()
+    );
     Ok(())
 }
 
@@ -42,10 +45,18 @@ fn owners_are_lacked_too(rt: HostRuntime) -> Result<(), Fail> {
     let thing = Thing::Obj(object(1));
     let me = ActorName(1);
     let both = [owner, thing];
-    assert_eq!(rt; missing(alloc, &thing, me, &foreign)?.as_slice(), both.as_slice());
+    assert_eq!(rt;
+        missing(alloc, &thing, me, &foreign)?.as_slice(),
+        both.as_slice()
+    );
     foreign.reserve(1)?;
-    foreign.gain(owner, &None, 1);
-    assert_eq!(rt; missing(alloc, &thing, me, &foreign)?.as_slice(), [thing].as_slice());
+    if foreign.count(owner) == 0 {
+        foreign.gain(owner, &None, 1);
+    }
+    assert_eq!(rt;
+        missing(alloc, &thing, me, &foreign)?.as_slice(),
+        [thing].as_slice()
+    );
     assert_eq!(rt; missing(alloc, &thing, ActorName(0), &foreign)?.len(), 0);
     Ok(())
 }
