@@ -2,6 +2,9 @@
 //! (Orca, OOPSLA 2017).
 #![tactic(auto)]
 
+mod amounts;
+mod plans;
 mod sweep;
 
+pub use plans::{plan, plan_of_marks};
 pub use sweep::apply;

@@ -1,0 +1,14 @@
+//! Root-only tracing: what a letter loads, carries and lets its taker lack, and what a collection
+//! keeps, where counts are kept of what stands in letters alone and not of all that it reaches
+//! (after Orca, OOPSLA 2017, which traces deep).
+#![tactic(auto)]
+
+mod letters;
+mod needs;
+mod nowhere;
+
+pub use letters::{load_roots, rows_of};
+pub use needs::missing;
+
+#[cfg(test)]
+mod tests;

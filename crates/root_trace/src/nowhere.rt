@@ -1,0 +1,22 @@
+// No rows.
+
+ghost use Rattle.std.specs.Prelude.{◌≡◌, None, []};
+ghost use Rattle.std.proofs.lemmas.Option.{none-some};
+
+use orca_names::{ObjName, Row, RowReader};
+
+/// No object has a row.
+#[derive(Drop)]
+pub(crate) struct NoRows;
+
+impl RowReader for NoRows {
+    ghost rows = { λ _ _. None };
+
+    ghost all = { λ _. [] };
+
+    fn read_row(&mut self, _: ObjName) -> Option<Row> {
+        None
+    }
+
+    ghost within = { λ _ _ row e. absurd (none-some row e) };
+}
