@@ -1,3 +1,5 @@
+pub mod GoParts
+pub mod Going
 pub mod Known
 pub mod Parts
 pub mod Posting

@@ -50,10 +50,10 @@ unfolding lower_all
 lower_all-nil me h = refl
 
 -- what is left of the amounts begins with this one
-pub rest_of : (things : List Amount) (i : ℕ) (e : Amount) → i < length things → e ≡ get_or things i e → drop i things ≡ e ∷ drop (i + 1) things
+pub rest_of : {A : Type 0} (things : List A) (i : ℕ) (e : A) → i < length things → e ≡ get_or things i e → drop i things ≡ e ∷ drop (i + 1) things
 rest_of things i e inside is = drop_more things i e inside ∙ ap (λ f. f ∷ drop (i + 1) things) (sym is)
 
-pub drop_past : (i : ℕ) (things : List Amount) → length things ≤ i → drop i things ≡ []
+pub drop_past : {A : Type 0} (i : ℕ) (things : List A) → length things ≤ i → drop i things ≡ []
 drop_past zero [] l = refl
 drop_past zero (e ∷ things) l = absurd (omega arith)
 drop_past (suc i) [] l = refl

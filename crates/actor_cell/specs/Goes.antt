@@ -101,6 +101,14 @@ cell_by me c frame turn place (New kind register) =
 cell_by me c frame turn place (Print value) = cell_kept turn (Some (frame_left frame turn place)) c
 cell_by me c frame turn place End = record (cell_kept turn None c) { dirty = true }
 
+-- how many entries the table of what is held needs room for: a new actor gets one when it has its name
+abbrev pub new_entries : Move → ℕ
+new_entries (Post to letter) = 0
+new_entries (Mint owner things) = 0
+new_entries (New kind register) = 1
+new_entries (Print value) = 0
+new_entries End = 0
+
 -- ---- what it gives out
 
 abbrev pub out_of : Move → Out

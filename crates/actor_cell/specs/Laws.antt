@@ -1,6 +1,7 @@
 -- The events of the machine, by the parts of one actor.
 use Rattle.std.specs.Prelude.{ℕ, ◌≡◌, true, List, [], ◌∷◌}
-use Rattle.event_rule.specs.Runs.{Goes}
+use Rattle.std.specs.Option.{option_map_or}
+use Rattle.event_rule.specs.Runs.{Step, Goes, NotEnabled}
 use Rattle.orca_names.specs.declared.trace.Trace.TheVariants.{Deep}
 use Rattle.letter_kinds.specs.declared.letter.Letter.{Letter}
 use Rattle.letter_kinds.specs.Counting.{by_owner, given_back, sweep}
@@ -8,11 +9,13 @@ use Rattle.machine_rules.specs.Actors.{seat, seat_at}
 use Rattle.machine_rules.specs.Block.{block}
 use Rattle.machine_rules.specs.Cell.{Cell}
 use Rattle.machine_rules.specs.Collect.{collect, is_marked}
+use Rattle.machine_rules.specs.Go.{go}
 use Rattle.machine_rules.specs.Leave.{leave}
 use Rattle.machine_rules.specs.State.{State}
 use Rattle.machine_rules.specs.Take.{cell_after, note_of, notes_after, take}
+use Rattle.actor_cell.specs.Goes.{Gone, gone_of}
 use Rattle.actor_cell.specs.Outs.{left_behind, noting, report_of, returning}
-use Rattle.actor_cell.specs.Pushing.{pushed, with_cell, without_actor}
+use Rattle.actor_cell.specs.Pushing.{pushed, with_cell, with_made_actor, with_objects, without_actor}
 use Rattle.actor_cell.specs.Sweeps.{swept}
 
 -- a take leaves the cell after the letter, and notes what the detector is to hear
@@ -44,3 +47,16 @@ BlocksByParts =
     (s : State) (a : ℕ) (c : Cell) (mail : List Letter)
     → block s a c mail
     ≡ Goes (pushed (noting (report_of a c ∷ [])) (with_cell a (record c { reported = true }) mail s))
+
+-- the state after a go that leaves this cell and gives this out
+abbrev pub after_go : State → ℕ → Cell → List Letter → Gone → Step State
+after_go s a before mail g =
+    with_made_actor a g.cell mail g.out.made
+    (with_objects before g.cell (pushed g.out (with_cell a g.cell mail s)))
+
+-- a go leaves the cell of its part, and gives out what this gives out
+abbrev pub GoesByParts : Type 0
+GoesByParts =
+    (s : State) (a : ℕ) (c : Cell) (mail : List Letter)
+    → go Deep s a c mail
+    ≡ option_map_or (after_go s a c mail) (gone_of s.options.weight s.program a c) NotEnabled

@@ -5,8 +5,10 @@
 #![tactic(auto)]
 
 mod amounts;
+mod apply;
 mod block;
 mod cell;
+mod collect;
 mod copy;
 mod go;
 mod laws;

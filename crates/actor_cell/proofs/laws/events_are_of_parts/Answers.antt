@@ -1,3 +1,4 @@
+use Rattle.actor_cell.proofs.GoParts.{gone}
 use Rattle.actor_cell.proofs.Parts.{blocks, collects, leaves, takes}
 use Rattle.actor_cell.proofs.laws.events_are_of_parts.Goals as goal
 
@@ -12,3 +13,6 @@ returns-clause-leave c = leaves
 
 pub returns-clause-block : goal.returns-clause-block
 returns-clause-block c = blocks
+
+pub returns-clause-go : goal.returns-clause-go
+returns-clause-go c = gone
