@@ -1,12 +1,13 @@
 -- The rows that an actor has.
 use Rattle.std.specs.Prelude.{ℕ, ◌≡◌, ◌==◌, Bool, true, false, cond, if◌then◌else◌, List, ◌++◌, Option, Some, None, Contains, option_map, map, is_some, refl}
-use Rattle.std.proofs.Common.{sym, ap, ◌∙◌, subst, ◌<◌}
+use Rattle.std.proofs.Common.{arith, sym, ap, ◌∙◌, subst, ◌<◌}
 use Rattle.std.specs.Ordering.{nat_cmp, eq_by_cmp, is_eq}
 use Rattle.std.specs.declared.cmp.Ordering.{Ordering}
 use Rattle.std.specs.declared.cmp.Ordering.TheVariants.{Less, Equal, Greater}
 use Rattle.std.specs.FinMap as m
 use Rattle.std.specs.FinMap.{nat_cmp-IsAntisymmetric}
 use Rattle.std.proofs.lemmas.Bool.{eqb-true}
+use Rattle.std.proofs.lemmas.Bool.Decides.{nat_tests}
 use Rattle.std.proofs.lemmas.List.{get_or-map, length-map}
 use Rattle.std.proofs.lemmas.List.Elements.{Contains-append_left, Contains-append_right}
 use Rattle.std.proofs.lemmas.Map.Views.{Contains-from_any}
@@ -25,18 +26,20 @@ row_known heap foreign n = if n.owner == heap.owner then own_row heap n else kno
 abbrev pub names_known : Heap → Table → List ObjName
 names_known heap foreign = map (λ (serial : ℕ). record { owner = heap.owner; serial = serial }) (m.keys heap.rows) ++ objects foreign
 
-is_equal : (r : Ordering) → is_eq r ≡ true → r ≡ Equal
-is_equal Less e = cc
-is_equal Equal e = refl
-is_equal Greater e = cc
+same_number : (a b : ℕ) → eq_by_cmp nat_cmp a b ≡ true → a ≡ b
+same_number a b e = grind (arith, nat_tests)
 
-member : (rows : OwnRows) (k : ℕ) (e : Row × ℕ) → m.get rows k ≡ Some e → Contains (m.keys rows) k
-member rows k e f = Contains-from_any {eq = eq_by_cmp nat_cmp} (λ x y h. nat_cmp-IsAntisymmetric x y (is_equal (nat_cmp x y) h)) k (m.keys rows) (sym (m.contains_key-keys rows k) ∙ ap is_some f)
+-- a serial that has an entry is one of the keys
+pub own_key : (rows : OwnRows) (k : ℕ) (e : Row × ℕ) → m.get rows k ≡ Some e
+    → Contains (m.keys rows) k
+own_key rows k e f =
+    Contains-from_any {eq = eq_by_cmp nat_cmp} same_number k (m.keys rows)
+    (sym (m.contains_key-keys rows k) ∙ ap is_some f)
 
 from_own : (heap : Heap) (foreign : Table) (n : ObjName) (row : Row) (o : Option (Row × ℕ)) → n.owner ≡ heap.owner → m.get heap.rows n.serial ≡ o → option_map (λ e. e.0) o ≡ Some row → Contains (names_known heap foreign) n
 from_own heap foreign n row None owner e f = cc
 from_own heap foreign n row (Some v) owner e f =
-    let c = member heap.rows n.serial v e in
+    let c = own_key heap.rows n.serial v e in
     let name : ℕ → ObjName = λ serial. record { owner = heap.owner; serial = serial } in
     Contains-append_left (map name (m.keys heap.rows)) (objects foreign) n
     (c.0, subst (λ l. c.0 < l) (sym (length-map (m.keys heap.rows) name)) c.1, get_or-map name (m.keys heap.rows) c.0 n.serial n c.1 ∙ ap name c.2 ∙ (λ i. record { owner = sym owner i; serial = n.serial }))

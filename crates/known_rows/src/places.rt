@@ -1,17 +1,20 @@
 // Places of what an actor knows.
 
-ghost use Rattle.std.specs.Prelude.{◌≡◌, ◌≢◌, ◌+◌, ◌-◌, ◌^◌, ◌<◌, Some, None};
+ghost use Rattle.std.specs.Prelude.{◌≡◌, ◌≢◌, ◌+◌, ◌-◌, ◌^◌, ◌<◌, Some, None, length};
 ghost use Rattle.std.specs.FinMap as m;
 ghost use Rattle.foreign_table.specs.Span.{IsSpan};
-ghost use Rattle.known_rows.specs.Places.{place_in};
+ghost use Rattle.known_rows.specs.Known.{row_known};
+ghost use Rattle.known_rows.specs.Places.{place_in, placed_things};
+ghost use Rattle.orca_names.specs.declared.names.ObjName.{ObjName as object_name};
+ghost use Rattle.std.specs.Option.{option_copied};
 ghost use Rattle.orca_names.specs.Names.{owner_of};
 ghost use Rattle.orca_names.specs.declared.names.Thing.TheVariants.{Obj as object};
 
 use crate::known::KnownRows;
 use foreign_table::ForeignTable;
 use object_heap::ObjectHeap;
-use orca_names::{ObjName, Thing};
-use reach_walk::Places;
+use orca_names::{ObjName, Row, RowReader, Rows, Thing, Value};
+use reach_walk::{PlacedRows, Places};
 
 /// The rows that an actor has in both of its tables, with places: first what it holds of actors
 /// with lower numbers, then the actor itself, its own objects, and what it holds of actors with
@@ -75,6 +78,65 @@ impl<'a> KnownPlaces<'a> {
             Some(j) if j < self.first => Some(j),
             Some(j) => Some(self.above + (j - self.end)),
             None => None,
+        }
+    }
+}
+
+impl KnownPlaces<'_> {
+    // The row of the object at a place.
+    fn row_by_place(&self, at: usize) -> Option<&Row>
+        requires { at < length (placed_things self.now.rows.heap.now self.now.rows.foreign.now) }
+        ensures { (n : object_name)
+            → place_in self.now.rows.heap.now self.now.rows.foreign.now (object n) ≡ Some at
+            → option_copied result ≡ row_known self.now.rows.heap.now self.now.rows.foreign.now n }
+    {
+        let foreign = self.rows.foreign;
+        if at < self.first {
+            return foreign.row_at(at);
+        }
+        if at == self.first {
+            return None;
+        }
+        if at < self.above {
+            let heap = self.rows.heap;
+            return Some(heap.row_at(at - self.first - 1));
+        }
+        foreign.row_at(at - self.above + self.end)
+    }
+}
+
+impl RowReader for KnownPlaces<'_> {
+    ghost use Rattle.known_rows.specs.Known.{row_known, names_known, row_known-within};
+
+    ghost rows = { λ s. row_known s.rows.heap.now s.rows.foreign.now };
+
+    ghost all = { λ s. names_known s.rows.heap.now s.rows.foreign.now };
+
+    fn read_row(&mut self, n: ObjName) -> Option<Row> {
+        self.rows.row_of(n).copied()
+    }
+
+    fn read_place(&mut self, n: ObjName, i: u64) -> Option<Value> {
+        self.rows.row_of(n)?.get(i)
+    }
+
+    ghost within = { λ s n row e. row_known-within s.rows.heap.now s.rows.foreign.now n row e };
+}
+
+impl PlacedRows for KnownPlaces<'_> {
+    fn read_at(&mut self, thing: &Thing, at: Option<usize>, row: &mut Row) -> bool {
+        if let Thing::Actor(_) = thing {
+            return false;
+        }
+        let Some(at) = at else {
+            return false;
+        };
+        match self.row_by_place(at) {
+            Some(found) => {
+                *row = *found;
+                true
+            }
+            None => false,
         }
     }
 }

@@ -8,7 +8,7 @@ use Rattle.std.specs.Result.{MatchResult}
 use Rattle.std.proofs.lemmas.List.{get_or_default, length-map, get_or-map, map-set, map-append, drop-map}
 use Rattle.std.specs.List.{take-map}
 use Rattle.std.proofs.lemmas.Bool.{cases_lt}
-use Rattle.std.proofs.lemmas.Option.{slice_get-get_or}
+use Rattle.std.proofs.lemmas.Option.{get_or_from_slice_get, slice_get-get_or, slice_get_within}
 use Rattle.std.proofs.lemmas.List.Sorted.{searchable_from_sorted}
 use Rattle.std.specs.Ordering.{is_eq, is_lt, eq_by_cmp, ordering_reverse, ordering_index}
 use Rattle.std.specs.Cmp.{IsTotalOrder, tied_itself, alike_right, eq_by_cmp_equiv}
@@ -270,6 +270,12 @@ key_at_place {R = R} (e ∷ es) h q i p =
     ap (λ xs. slice_get (map (λ x. x.0) xs) i) (entries-from_sorted R (e ∷ es) h)
     ∙ slice_get-get_or (map (λ x. x.0) (e ∷ es)) i q (omega (arith, p.in_range, length-map es (λ x. x.0)))
     ∙ ap Some (get_or-map (λ x. x.0) (e ∷ es) i e q p.in_range ∙ p.has_key e)
+
+-- the value at the key of a place
+pub value_at_place : {K X : Type 0} {R : K → K → Ordering} (o : IsTotalOrder R) (map : m.FinMap R X) (i : ℕ) (e : K × X) → slice_get (m.entries map) i ≡ Some e → m.get map e.0 ≡ Some e.1
+value_at_place o map i e is =
+    let at = at_place o (m.entries map) (m.entries_sorted map) e.0 i (slice_get_within (m.entries map) i e is) (λ d. ap (λ x. x.0) (get_or_from_slice_get (m.entries map) i e d is)) in
+    m.get-entries map e.0 ∙ find_at o (m.entries map) e.0 i at e ∙ ap (λ x. Some x.1) (get_or_from_slice_get (m.entries map) i e e is)
 
 -- places go by the keys alone
 module _ {K X Y : Type 0} (es : List (K × X)) (fs : List (K × Y)) (x : X) (same : map (λ e. e.0) es ≡ map (λ f. f.0) fs) where

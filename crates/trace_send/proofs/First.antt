@@ -1,0 +1,56 @@
+-- The first thing that is lacked, and those of its owner.
+use Rattle.std.proofs.Common.{◌≡◌, ℕ, zero, suc, ◌<◌, ◌==◌, ◌&&◌, Bool, true, false, cond, List, [], ◌∷◌, length, get_or, take, map, Some, None, refl, sym, ap, ◌∙◌, arith}
+use Rattle.std.specs.Prelude.{slice_get, option_map}
+use Rattle.std.specs.List.{filter}
+use Rattle.orca_names.specs.Names.{owner_of}
+use Rattle.orca_names.specs.declared.names.Thing.{Thing}
+use Rattle.letter_kinds.specs.Counting.{Loaded, lacking_of}
+use Rattle.letter_kinds.specs.Holdings.{held_in}
+use Rattle.foreign_table.specs.Table.{Table}
+use Rattle.object_heap.specs.Heap.{Heap}
+use Rattle.known_rows.specs.Holdings.{holdings_of}
+use Rattle.trace_send.specs.Lacking.{lacked_by, of_first_owner}
+
+module _ {X : Type 0} (p : X → Bool) where
+  cons_not_nil : {A : Type 0} (x : X) (xs : List X) → x ∷ xs ≡ [] → A
+  cons_not_nil x xs e = cc
+
+  passes_first : (x : X) (xs : List X) (b : Bool) → p x ≡ b → cond b (x ∷ filter p xs) (filter p xs) ≡ [] → p x ≡ false
+  passes_first x xs true e h = cons_not_nil x (filter p xs) h
+  passes_first x xs false e h = e
+
+  -- what comes first is the first that passes
+  pub filter-first : (xs : List X) (i : ℕ) (x : X) → i < length xs → x ≡ get_or xs i x → filter p (take i xs) ≡ [] → p x ≡ true → slice_get (filter p xs) 0 ≡ Some x
+  filter-first [] i x l is none pass = absurd (omega arith)
+  filter-first (y ∷ ys) zero x l is none pass = ap (λ b. slice_get (cond b (y ∷ filter p ys) (filter p ys)) 0) (ap p (sym is) ∙ pass) ∙ ap Some (sym is)
+  filter-first (y ∷ ys) (suc i) x l is none pass =
+      let fails : p y ≡ false = passes_first y (take i ys) (p y) refl none in
+      let rest : filter p (take i ys) ≡ [] = ap (λ b. cond b (y ∷ filter p (take i ys)) (filter p (take i ys))) (sym fails) ∙ none in
+      ap (λ b. slice_get (cond b (y ∷ filter p ys) (filter p ys)) 0) fails ∙ filter-first ys i x (omega arith) is rest pass
+
+  -- two tests at once
+  pub filter-and : (q : X → Bool) (xs : List X) → filter (λ x. p x && q x) xs ≡ filter q (filter p xs)
+  filter-and q [] = refl
+  filter-and q (x ∷ xs) = by (p x) (filter-and q xs)
+    where
+      by : (b : Bool) → filter (λ y. p y && q y) xs ≡ filter q (filter p xs) → cond (b && q x) (x ∷ filter (λ y. p y && q y) xs) (filter (λ y. p y && q y) xs) ≡ filter q (cond b (x ∷ filter p xs) (filter p xs))
+      by true rest = ap (λ ys. cond (q x) (x ∷ ys) ys) rest
+      by false rest = rest
+
+same_owner : (a b : ℕ) → Some a ≡ Some b → a ≡ b
+same_owner a b e = cc
+
+pub answers_first : (lacked : List Loaded) (owner : ℕ) (things : List Thing) → Some owner ≡ option_map (λ (e : Loaded). owner_of e.0) (slice_get lacked 0) → things ≡ map (λ (e : Loaded). e.0) (filter (λ (e : Loaded). owner_of e.0 == owner) lacked) → Some (owner, things) ≡ of_first_owner lacked
+answers_first [] owner things e h = cc
+answers_first (l ∷ lacked) owner things e h =
+    let same = same_owner owner (owner_of l.0) e in
+    (λ i. Some (same i, h i)) ∙ ap (λ o. Some (owner_of l.0, map (λ (f : Loaded). f.0) (filter (λ (f : Loaded). owner_of f.0 == o) (l ∷ lacked)))) same
+
+pub answers_none : (lacked : List Loaded) → None ≡ option_map (λ (e : Loaded). owner_of e.0) (slice_get lacked 0) → None ≡ of_first_owner lacked
+answers_none [] e = refl
+answers_none (l ∷ lacked) e = cc
+
+-- what is lacked is that of the definition
+pub lacking-is : (me count : ℕ) (heap : Heap) (foreign : Table) (load : List Loaded) → lacked_by me foreign load ≡ lacking_of me (holdings_of count heap foreign) load
+unfolding held_in
+lacking-is me count heap foreign load = refl

@@ -1,0 +1,16 @@
+//! What a letter does to the counts of who sends it and of who takes it (Orca, OOPSLA 2017).
+#![tactic(auto)]
+
+mod laws;
+mod minting;
+mod receive;
+mod send;
+
+pub use laws::{loads_are_once, once_is_enough};
+pub use minting::lacking;
+pub use reach_walk::{load_of, load_within};
+pub use receive::receive_trace;
+pub use send::send_trace;
+
+#[cfg(test)]
+mod tests;

@@ -1,0 +1,96 @@
+// What a letter loads of others that its sender can't spend.
+
+ghost use Rattle.std.specs.Prelude.{◌≡◌, ℕ, ◌==◌, ◌&&◌, IfOk, filter, map, slice_get, option_map};
+ghost use Rattle.orca_names.specs.Names.{owner_of};
+ghost use Rattle.letter_kinds.specs.Counting.{lacking_of};
+ghost use Rattle.object_heap.specs.Heap.{Heap};
+ghost use Rattle.known_rows.specs.Holdings.{holdings_of};
+ghost use Rattle.trace_send.specs.Lacking.{is_lacked as is_short, lacked_by, of_first_owner};
+
+use foreign_table::ForeignTable;
+use letter_kinds::Load;
+use orca_names::{ActorName, NoMemory, Row, Thing};
+use plain_list::Listed;
+use std::alloc::Global;
+
+// Whether just one is held of another's thing.
+fn is_lacked(thing: &Thing, me: ActorName, foreign: &ForeignTable) -> bool
+    ensures { result ≡ is_short me foreign.now thing.now }
+{
+    if thing.owner() == me {
+        return false;
+    }
+    foreign.count(*thing) == 1
+}
+
+// The owner of the first thing that is lacked.
+fn first_owner(
+    load: &[(Thing, Option<Row>)],
+    me: ActorName,
+    foreign: &ForeignTable,
+) -> Option<ActorName>
+    ensures { let first = slice_get (lacked_by me foreign.now load.now) 0 in
+        result ≡ option_map (λ e. owner_of e.0) first }
+{
+    for loaded in load {
+        if is_lacked(&loaded.0, me, foreign) {
+            return Some(loaded.0.owner());
+        }
+    }
+    None
+}
+
+// Whether the thing is lacked, and this is its owner.
+fn is_lacked_of(thing: &Thing, me: ActorName, foreign: &ForeignTable, owner: ActorName) -> bool
+    ensures { result ≡ (is_short me foreign.now thing.now && (owner_of thing.now == owner)) }
+{
+    if thing.owner() != owner {
+        return false;
+    }
+    is_lacked(thing, me, foreign)
+}
+
+// Those things that are lacked and have this owner.
+fn lacked_of(
+    alloc: Global,
+    load: &[(Thing, Option<Row>)],
+    me: ActorName,
+    foreign: &ForeignTable,
+    owner: ActorName,
+) -> Result<Listed<Thing>, NoMemory>
+    ensures { let its = filter (λ e. is_short me foreign.now e.0 && (owner_of e.0 == owner)) load.now in
+        IfOk result (λ things. things ≡ map (λ e. e.0) its) }
+{
+    let mut things = Listed::new(alloc);
+    for loaded in load {
+        if is_lacked_of(&loaded.0, me, foreign, owner) {
+            things.push(loaded.0)?;
+        }
+    }
+    Ok(things)
+}
+
+/// What the sender of a letter with this load has to mint before it can send: of the owners whose
+/// things it lacks, the first one, which is the lowest, and those of its things. `None` exactly
+/// where it lacks none.
+///
+/// # Errors
+/// `NoMemory` where memory was refused.
+pub fn lacking(
+    alloc: Global,
+    load: &Load,
+    me: ActorName,
+    foreign: &ForeignTable,
+) -> Result<Option<(ActorName, Listed<Thing>)>, NoMemory>
+    ensures { (count : ℕ) (heap : Heap) →
+        let lacked = lacking_of me (holdings_of count heap foreign.now) load.now in
+        IfOk result (λ found. found ≡ of_first_owner lacked) }
+{
+    match first_owner(load.as_slice(), me, foreign) {
+        Some(owner) => {
+            let things = lacked_of(alloc, load.as_slice(), me, foreign, owner)?;
+            Ok(Some((owner, things)))
+        }
+        None => Ok(None),
+    }
+}

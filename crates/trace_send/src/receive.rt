@@ -1,0 +1,61 @@
+// Who takes a letter counts what it loads.
+
+ghost use Rattle.std.specs.Prelude.{◌≡◌, ◌+◌, ◌≤◌, length};
+ghost use Rattle.letter_kinds.specs.Counting.{receive, receive_one};
+ghost use Rattle.known_rows.specs.Holdings.{holdings_of};
+ghost use Rattle.trace_send.specs.Can.{CanReceive, CanReceiveOne};
+
+use foreign_table::ForeignTable;
+use letter_kinds::Load;
+use object_heap::ObjectHeap;
+use orca_names::{ActorName, Row, Thing};
+use ref_weights::OwnCount;
+
+// One less on a thing of its own, which the letter held so far; one more on another's.
+fn receive_thing(
+    loaded: &(Thing, Option<Row>),
+    me: ActorName,
+    own: &mut OwnCount,
+    heap: &mut ObjectHeap,
+    foreign: &mut ForeignTable,
+)
+    requires mine { heap.old.owner ≡ me }
+    requires can { CanReceiveOne me loaded.now (holdings_of own.old heap.old foreign.old) }
+    requires room { 1 ≤ foreign.old.spare }
+    ensures counts { holdings_of own.new heap.new foreign.new
+        ≡ receive_one me loaded.now (holdings_of own.old heap.old foreign.old) }
+    ensures heap { (heap.new.owner ≡ heap.old.owner) × (heap.new.spare ≡ heap.old.spare) }
+    ensures room { foreign.old.spare ≤ foreign.new.spare + 1 }
+{
+    let thing = &loaded.0;
+    if thing.owner() != me {
+        foreign.gain(*thing, &loaded.1, 1);
+        return;
+    }
+    match thing {
+        Thing::Actor(_) => own.lower(1),
+        Thing::Obj(n) => heap.lower(*n, 1),
+    }
+}
+
+/// The counts of an actor after it took a letter with this load: each own thing one less, each
+/// other's one more. It takes no memory.
+pub fn receive_trace(
+    load: &Load,
+    me: ActorName,
+    own: &mut OwnCount,
+    heap: &mut ObjectHeap,
+    foreign: &mut ForeignTable,
+)
+    requires mine { heap.old.owner ≡ me }
+    requires can { CanReceive me load.now (holdings_of own.old heap.old foreign.old) }
+    requires room { length load.now ≤ foreign.old.spare }
+    ensures counts { holdings_of own.new heap.new foreign.new
+        ≡ receive me load.now (holdings_of own.old heap.old foreign.old) }
+    ensures heap { (heap.new.owner ≡ heap.old.owner) × (heap.new.spare ≡ heap.old.spare) }
+    ensures room { foreign.old.spare ≤ foreign.new.spare + length load.now }
+{
+    for loaded in load.as_slice() {
+        receive_thing(loaded, me, own, heap, foreign);
+    }
+}

@@ -1,0 +1,59 @@
+// Who sends a letter counts what it loads, the other way round.
+
+ghost use Rattle.std.specs.Prelude.{◌≡◌};
+ghost use Rattle.letter_kinds.specs.Counting.{send, send_one};
+ghost use Rattle.known_rows.specs.Holdings.{holdings_of};
+ghost use Rattle.trace_send.specs.Can.{CanSend, CanSendOne};
+
+use foreign_table::ForeignTable;
+use letter_kinds::Load;
+use object_heap::ObjectHeap;
+use orca_names::{ActorName, Row, Thing};
+use ref_weights::OwnCount;
+
+// One more on a thing of its own, one less on another's.
+fn send_thing(
+    loaded: &(Thing, Option<Row>),
+    me: ActorName,
+    own: &mut OwnCount,
+    heap: &mut ObjectHeap,
+    foreign: &mut ForeignTable,
+)
+    requires mine { heap.old.owner ≡ me }
+    requires can { CanSendOne me loaded.now (holdings_of own.old heap.old foreign.old) }
+    ensures counts { holdings_of own.new heap.new foreign.new
+        ≡ send_one me loaded.now (holdings_of own.old heap.old foreign.old) }
+    ensures heap { (heap.new.owner ≡ heap.old.owner) × (heap.new.spare ≡ heap.old.spare) }
+    ensures room { foreign.new.spare ≡ foreign.old.spare }
+{
+    let thing = &loaded.0;
+    if thing.owner() != me {
+        foreign.spend(*thing);
+        return;
+    }
+    match thing {
+        Thing::Actor(_) => own.raise(1),
+        Thing::Obj(n) => heap.raise(*n, 1),
+    }
+}
+
+/// The counts of an actor after it sent a letter with this load: each own thing one more, each
+/// other's one less. It takes no memory.
+pub fn send_trace(
+    load: &Load,
+    me: ActorName,
+    own: &mut OwnCount,
+    heap: &mut ObjectHeap,
+    foreign: &mut ForeignTable,
+)
+    requires mine { heap.old.owner ≡ me }
+    requires can { CanSend me load.now (holdings_of own.old heap.old foreign.old) }
+    ensures counts { holdings_of own.new heap.new foreign.new
+        ≡ send me load.now (holdings_of own.old heap.old foreign.old) }
+    ensures heap { (heap.new.owner ≡ heap.old.owner) × (heap.new.spare ≡ heap.old.spare) }
+    ensures room { foreign.new.spare ≡ foreign.old.spare }
+{
+    for loaded in load.as_slice() {
+        send_thing(loaded, me, own, heap, foreign);
+    }
+}
