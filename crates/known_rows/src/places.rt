@@ -1,6 +1,6 @@
 // Places of what an actor knows.
 
-ghost use Rattle.std.specs.Prelude.{◌≡◌, ◌≢◌, ◌+◌, ◌-◌, ◌^◌, ◌<◌, Some, None, length};
+ghost use Rattle.std.specs.Prelude.{◌≡◌, ◌≢◌, ◌+◌, ◌-◌, ◌^◌, ◌<◌, ℕ, Some, None, length, slice_get};
 ghost use Rattle.std.specs.FinMap as m;
 ghost use Rattle.foreign_table.specs.Span.{IsSpan};
 ghost use Rattle.known_rows.specs.Known.{row_known};
@@ -8,6 +8,7 @@ ghost use Rattle.known_rows.specs.Places.{place_in, placed_things};
 ghost use Rattle.orca_names.specs.declared.names.ObjName.{ObjName as object_name};
 ghost use Rattle.std.specs.Option.{option_copied};
 ghost use Rattle.orca_names.specs.Names.{owner_of};
+ghost use Rattle.orca_names.specs.declared.names.Thing.{Thing as thing};
 ghost use Rattle.orca_names.specs.declared.names.Thing.TheVariants.{Obj as object};
 
 use crate::known::KnownRows;
@@ -21,7 +22,7 @@ use reach_walk::{PlacedRows, Places};
 /// higher numbers, each part in the order of things.
 #[derive(Clone, Copy)]
 pub struct KnownPlaces<'a> {
-    rows: KnownRows<'a>,
+    pub rows: KnownRows<'a>,
 
     // Where the entries of the actor's own number would stand among the held things, and where they
     // would end.
@@ -56,6 +57,33 @@ impl<'a> KnownPlaces<'a> {
             above,
             count,
         }
+    }
+
+    /// The place of an own object, by its place in the order of serials.
+    pub fn place_of_own_at(&self, i: usize) -> usize
+        requires { i < m.len self.now.rows.heap.now.rows }
+        ensures { (serial : ℕ) → slice_get (m.keys self.now.rows.heap.now.rows) i ≡ Some serial →
+            let own = object (record { owner = self.now.rows.heap.now.owner; serial = serial }) in
+            place_in self.now.rows.heap.now self.now.rows.foreign.now own ≡ Some result }
+    {
+        self.first + 1 + i
+    }
+
+    /// The place of a held thing, by its place among the held things. One of the actor's own, which
+    /// no run brings into the table, has the place of the own object, if that is there.
+    pub fn place_of_held_at(&self, j: usize) -> Option<usize>
+        requires { j < m.len self.now.rows.foreign.now.entries }
+        ensures { (x : thing) → slice_get (m.keys self.now.rows.foreign.now.entries) j ≡ Some x
+            → result ≡ place_in self.now.rows.heap.now self.now.rows.foreign.now x }
+    {
+        if j < self.first {
+            return Some(j);
+        }
+        if j >= self.end {
+            return Some(self.above + (j - self.end));
+        }
+        let foreign = self.rows.foreign;
+        self.place_of(&foreign.thing_at(j))
     }
 
     // The place of an object of the actor's own.

@@ -1,4 +1,5 @@
 pub mod Filtered
 pub mod Freed
 pub mod Groups
+pub mod LastGroup
 pub mod GivenBack

@@ -2,6 +2,8 @@
 //! (Orca, OOPSLA 2017).
 #![tactic(auto)]
 
+mod amounts;
+mod plans;
 mod sweep;
 
 pub use sweep::apply;
