@@ -1,5 +1,7 @@
 pub mod Filtered
 pub mod Freed
+pub mod Gathered
+pub mod GivenBack
 pub mod Groups
 pub mod LastGroup
-pub mod GivenBack
+pub mod SamePlan

@@ -1,6 +1,6 @@
 // What goes back, in groups of its owners.
 
-ghost use Rattle.std.specs.Prelude.{◌≡◌, ◌≢◌, ℕ, ◌-◌, ◌<◌, ◌++◌, ◌∷◌, [], List, length, slice_index_or, IsTrue, OnOk, OnTrue};
+ghost use Rattle.std.specs.Prelude.{◌≡◌, ◌≢◌, ℕ, ◌-◌, ◌<◌, ◌++◌, ◌∷◌, [], List, length, slice_index_or, IsTrue, OnOk};
 ghost use Rattle.std.specs.Bool.{OnFalse};
 ghost use Rattle.letter_kinds.specs.Counting.{Amount, by_owner};
 

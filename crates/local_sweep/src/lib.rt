@@ -6,4 +6,5 @@ mod amounts;
 mod plans;
 mod sweep;
 
+pub use plans::{plan, plan_of_marks};
 pub use sweep::apply;
