@@ -1,0 +1,80 @@
+-- What a go leads to, step by step.
+use Rattle.std.proofs.Common.{◌≡◌, ℕ, zero, suc, ◌+◌, ◌-◌, ◌<◌, ◌≤◌, Option, Some, None, IsSome, List, [], ◌∷◌, length, refl, sym, ap, ◌∙◌, subst, arith}
+use Rattle.std.specs.Prelude.{option_map, IsSomeAnd}
+use Rattle.turn_rules.specs.declared.act.Frame.{Frame}
+use Rattle.turn_rules.specs.Segment.{Turn}
+use Rattle.letter_kinds.specs.declared.letter.Letter.{Letter}
+use Rattle.letter_kinds.specs.Counting.{Amount, mint_all, mint_one, send}
+use Rattle.letter_kinds.specs.Holdings.{Holdings, Row, add_rows}
+use Rattle.object_heap.specs.Heap.{Heap, with_new}
+use Rattle.machine_rules.specs.Cell.{Cell}
+use Rattle.actor_cell.specs.declared.out.Out.{Out}
+use Rattle.actor_cell.specs.declared.turning.Move.{Move}
+use Rattle.actor_cell.specs.declared.turning.Move.TheVariants.{Post, Mint, New, Print, End}
+use Rattle.actor_cell.specs.Goes.{CanMove, Gone, Turned, cell_by, cell_kept, frame_left, gone_by, load_in, new_entries, out_of}
+
+-- ---- rows that were made, one by one
+
+pub with_new-nil : (h : Heap) → with_new [] h ≡ h
+unfolding add_rows
+with_new-nil h =
+    let next : h.next + 0 ≡ h.next = omega arith in
+    let spare : h.spare - 0 ≡ h.spare = omega arith in
+    λ i. record h { next = next i; spare = spare i }
+
+pub with_new-cons : (row : Row) (made : List Row) (h : Heap) → with_new made (with_new (row ∷ []) h) ≡ with_new (row ∷ made) h
+unfolding add_rows
+with_new-cons row made h =
+    let next : (h.next + 1) + length made ≡ h.next + suc (length made) = omega arith in
+    let spare : (h.spare - 1) - length made ≡ h.spare - suc (length made) = omega arith in
+    let first : h.next + 1 ≡ suc h.next = omega arith in
+    λ i. record h { next = next i; spare = spare i; rows = ap (λ n. add_rows n made (add_rows h.next (row ∷ []) h.rows)) first i }
+
+-- ---- mints, one by one
+
+pub mint_all-nil : (h : Holdings) → mint_all [] h ≡ h
+unfolding mint_all
+mint_all-nil h = refl
+
+pub mint_all-cons : (e : Amount) (things : List Amount) (h : Holdings) → mint_all (e ∷ things) h ≡ mint_all things (mint_one e h)
+unfolding mint_all
+mint_all-cons e things h = refl
+
+-- ---- what is done, step by step
+
+module _ (me : ℕ) (start kept stopped after : Cell) (frame : Frame) (turn : Turn) (place : ℕ) where
+  pub stops : kept ≡ cell_kept turn start.frame start → stopped ≡ record kept { frame = Some (frame_left frame turn place) }
+      → stopped ≡ cell_kept turn (Some (frame_left frame turn place)) start
+  stops keeps stop =
+      let there : Cell → Cell = λ k. record k { frame = Some (frame_left frame turn place) } in
+      stop ∙ ap there keeps
+
+  pub sends : (to : ℕ) (letter : Letter) → kept ≡ cell_kept turn start.frame start → stopped ≡ record kept { frame = Some (frame_left frame turn place) }
+      → after ≡ record stopped { holdings = send me (load_in letter) stopped.holdings } → after ≡ cell_by me start frame turn place (Post to letter)
+  sends to letter keeps stop send_it =
+      let sent : Cell → Cell = λ c. record c { holdings = send me (load_in letter) c.holdings } in
+      send_it ∙ ap sent (stops keeps stop)
+
+-- ---- together
+
+same_turned : (t u : Turned) → Some t ≡ Some u → t ≡ u
+same_turned t u e = cc
+
+pub gone_is : (T : Frame → Turned) (me : ℕ) (c : Cell) (o : Option Frame) (t : Turned) (after : Cell) (out : Out) → option_map T o ≡ Some t
+    → ((frame : Frame) → o ≡ Some frame → after ≡ cell_by me c frame t.turn t.place t.act) → out ≡ out_of t.act
+    → option_map (λ f. gone_by me c f (T f)) o ≡ Some (record { cell = after; out = out })
+gone_is T me c None t after out found cell out_is = cc
+gone_is T me c (Some f) t after out found cell out_is =
+    ap (λ u. Some (gone_by me c f u)) (same_turned (T f) t found) ∙ (λ i. Some (record { cell = sym (cell f refl) i; out = sym out_is i }))
+
+pub can_move : (T : Frame → Turned) (me : ℕ) (h : Holdings) (o : Option Frame) (t : Turned) → option_map T o ≡ Some t
+    → IsSomeAnd o (λ f. CanMove me h (T f).turn (T f).act) → CanMove me h t.turn t.act
+can_move T me h None t found can = cc
+can_move T me h (Some f) t found can = subst (λ u. CanMove me h u.turn u.act) (same_turned (T f) t found) can
+
+pub made_room : (act : Move) (spare : ℕ) → IsSome (out_of act).made → new_entries act ≤ spare → 0 < spare
+made_room (Post to letter) spare made room = cc
+made_room (Mint owner things) spare made room = cc
+made_room (New kind register) spare made room = omega arith
+made_room (Print value) spare made room = cc
+made_room End spare made room = cc

@@ -1,0 +1,15 @@
+use Rattle.std.proofs.Common.{◌≡◌, ◌+◌, None, sym, ap, ◌∙◌}
+use Rattle.orca_names.specs.declared.names.Thing.TheVariants.{Actor}
+use Rattle.foreign_table.specs.Table.{entered}
+use Rattle.known_rows.specs.Holdings.{holdings_of}
+use Rattle.trace_send.proofs.Steps.{set-held}
+use Rattle.actor_cell.specs.Cells.{as_cell}
+use Rattle.actor_cell.proofs.cell.Cell.settle_new.Goals as goal
+
+pub returns-clause-cell : goal.returns-clause-cell
+returns-clause-cell c =
+    let s = c.args.self.now in
+    let held : c.gain.new.self ≡ entered (λ n. n + c.args.weight) (Actor c.args.name) None s.foreign =
+        c.gain.ensures ∙ ap (λ w. entered (λ n. n + w) (Actor c.args.name) None s.foreign) c.from.ensures in
+    let counts = ap (holdings_of s.count s.heap) held ∙ sym (set-held s.count s.heap s.foreign (λ n. n + c.args.weight) (Actor c.args.name) None) in
+    λ i. record (as_cell s) { frame = c.put.ensures i; holdings = counts i }

@@ -1,0 +1,152 @@
+-- What a turn of an actor does, with deep tracing.
+use Rattle.std.specs.Prelude.{ℕ, ◌≡◌, ◌<◌, true, List, [], ◌∷◌, Option, Some, None, option_map, IsSomeAnd}
+use Rattle.orca_names.specs.Names.{owner_of}
+use Rattle.orca_names.specs.declared.trace.Trace.TheVariants.{Deep}
+use Rattle.orca_names.specs.declared.limits.TheConstants.{REGISTERS}
+use Rattle.orca_names.specs.declared.names.Value.{Value}
+use Rattle.behaviour_code.specs.declared.code.Program.{Program}
+use Rattle.turn_rules.specs.declared.act.Act.{Act}
+use Rattle.turn_rules.specs.declared.act.Act.TheVariants as act
+use Rattle.turn_rules.specs.declared.act.Frame.{Frame}
+use Rattle.turn_rules.specs.Segment.{Stop, Turn}
+use Rattle.letter_kinds.specs.declared.letter.Letter.{Letter}
+use Rattle.letter_kinds.specs.declared.letter.Letter.TheVariants.{App, Inc, Dec, Confirm}
+use Rattle.letter_kinds.specs.Counting.{Amount, Loaded, mint_all, send, to_mint}
+use Rattle.letter_kinds.specs.Holdings.{Holdings, with_made}
+use Rattle.trace_send.specs.Can.{CanSend}
+use Rattle.machine_rules.specs.Cell.{Cell}
+use Rattle.machine_rules.specs.Go.{lacking_from, load_from, turn_of_cell}
+use Rattle.actor_cell.specs.Can.{CanMint}
+use Rattle.actor_cell.specs.declared.out.Out.{Out}
+use Rattle.actor_cell.specs.declared.turning.Move.{Move}
+use Rattle.actor_cell.specs.declared.turning.Move.TheVariants.{Post, Mint, New, Print, End}
+
+-- ---- what is found
+
+-- the letter with its load; where the actor lacks some of this, what it mints first for the owner of
+-- the first that it lacks
+abbrev pub post_or_mint : ℕ → ℕ → ℕ → List Value → List Loaded → List Loaded → Move
+post_or_mint weight to behaviour args load [] = Post to (App behaviour args load [])
+post_or_mint weight to behaviour args load (e ∷ lacked) =
+    Mint (owner_of e.0) (to_mint weight (owner_of e.0) (e ∷ lacked))
+
+-- what is minted first for what is lacked: for the owner of the first
+abbrev pub minted_first : ℕ → List Loaded → Option (ℕ × List Amount)
+minted_first weight [] = None
+minted_first weight (e ∷ lacked) =
+    Some (owner_of e.0, to_mint weight (owner_of e.0) (e ∷ lacked))
+
+-- the register of a new actor is one of a frame
+abbrev pub FitsRegister : Act → Type 0
+FitsRegister (act.New kind register) = register < REGISTERS
+FitsRegister (act.Post to behaviour args) = Unit {0}
+FitsRegister (act.Print value) = Unit {0}
+FitsRegister act.End = Unit {0}
+
+-- what an actor with these holdings does by an act
+abbrev pub move_by : ℕ → ℕ → Holdings → Act → Move
+move_by weight me h (act.Post to behaviour args) =
+    post_or_mint weight to behaviour args (load_from Deep me h args) (lacking_from Deep me h args)
+move_by weight me h (act.New kind register) = New kind register
+move_by weight me h (act.Print value) = Print value
+move_by weight me h act.End = End
+
+-- what a turn left and where it stopped, and what the actor does there
+pub record Turned : Type 0 where
+  pub turn : Turn
+  pub place : ℕ
+  pub act : Move
+
+-- of the turn of an actor in this frame; it holds what it made in the turn
+abbrev pub turned_at : ℕ → ℕ → Cell → Stop → Turned
+turned_at weight me c stop = record {
+  turn = stop.turn;
+  place = stop.place;
+  act = move_by weight me (with_made stop.turn.made c.holdings) stop.act;
+}
+
+abbrev pub turned_in : ℕ → Program → ℕ → Cell → Frame → Turned
+turned_in weight program me c frame = turned_at weight me c (turn_of_cell Deep program me c frame)
+
+-- ---- what it changes
+
+abbrev pub load_in : Letter → List Loaded
+load_in (App behaviour args load rows) = load
+load_in (Inc things) = []
+load_in (Dec things) = []
+load_in (Confirm token) = []
+
+-- the frame stands where the turn stopped
+abbrev pub frame_left : Frame → Turn → ℕ → Frame
+frame_left frame turn place = record frame { place = place; registers = turn.registers }
+
+-- the cell after a turn that is kept, in this frame
+abbrev pub cell_kept : Turn → Option Frame → Cell → Cell
+cell_kept turn frame c = record c {
+  fields = turn.fields;
+  frame = frame;
+  holdings = with_made turn.made c.holdings;
+}
+
+-- the cell after what the actor does
+abbrev pub cell_by : ℕ → Cell → Frame → Turn → ℕ → Move → Cell
+cell_by me c frame turn place (Post to letter) =
+    record (cell_kept turn (Some (frame_left frame turn place)) c) {
+      holdings = send me (load_in letter) (with_made turn.made c.holdings);
+    }
+cell_by me c frame turn place (Mint owner things) =
+    record c { holdings = mint_all things c.holdings }
+cell_by me c frame turn place (New kind register) =
+    cell_kept turn (Some (frame_left frame turn place)) c
+cell_by me c frame turn place (Print value) = cell_kept turn (Some (frame_left frame turn place)) c
+cell_by me c frame turn place End = record (cell_kept turn None c) { dirty = true }
+
+-- how many entries the table of what is held needs room for: a new actor gets one when it has its name
+abbrev pub new_entries : Move → ℕ
+new_entries (Post to letter) = 0
+new_entries (Mint owner things) = 0
+new_entries (New kind register) = 1
+new_entries (Print value) = 0
+new_entries End = 0
+
+-- ---- what it gives out
+
+abbrev pub out_of : Move → Out
+out_of (Post to letter) = record { letters = (to, letter) ∷ []; notes = []; print = None; made = None }
+out_of (Mint owner things) =
+    record { letters = (owner, Inc things) ∷ []; notes = []; print = None; made = None }
+out_of (New kind register) =
+    record { letters = []; notes = []; print = None; made = Some (kind, register) }
+out_of (Print value) = record { letters = []; notes = []; print = Some value; made = None }
+out_of End = record { letters = []; notes = []; print = None; made = None }
+
+-- ---- together: what a go leads to, where there is a frame
+
+-- the cell after it, and what it gives out
+pub record Gone : Type 0 where
+  pub cell : Cell
+  pub out : Out
+
+abbrev pub gone_by : ℕ → Cell → Frame → Turned → Gone
+gone_by me c frame t =
+    record { cell = cell_by me c frame t.turn t.place t.act; out = out_of t.act }
+
+abbrev pub gone_of : ℕ → Program → ℕ → Cell → Option Gone
+gone_of weight program me c =
+    option_map (λ frame. gone_by me c frame (turned_in weight program me c frame)) c.frame
+
+-- ---- when it can be
+
+-- its counts allow what it does
+abbrev pub CanMove : ℕ → Holdings → Turn → Move → Type 0
+CanMove me h turn (Post to letter) = CanSend me (load_in letter) (with_made turn.made h)
+CanMove me h turn (Mint owner things) = CanMint things h
+CanMove me h turn (New kind register) = Unit {0}
+CanMove me h turn (Print value) = Unit {0}
+CanMove me h turn End = Unit {0}
+
+-- there is a frame, and what it does is allowed
+abbrev pub CanGo : ℕ → Program → ℕ → Cell → Type 0
+CanGo weight program me c =
+    IsSomeAnd c.frame (λ frame. let t = turned_in weight program me c frame in
+    CanMove me c.holdings t.turn t.act)

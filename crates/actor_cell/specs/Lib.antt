@@ -1,0 +1,9 @@
+pub mod Can
+pub mod Cells
+pub mod Goes
+pub mod InTurn
+pub mod Laws
+pub mod Outs
+pub mod Pushing
+pub mod Sweeps
+pub mod Takes

@@ -1,0 +1,32 @@
+-- What an event gives out.
+use Rattle.std.specs.Prelude.{ℕ, List, [], ◌∷◌, None, map}
+use Rattle.orca_names.specs.Names.{owner_of}
+use Rattle.letter_kinds.specs.declared.letter.Letter.TheVariants.{Dec}
+use Rattle.letter_kinds.specs.declared.note.Note.{Note}
+use Rattle.letter_kinds.specs.declared.note.Note.TheVariants.{Block}
+use Rattle.letter_kinds.specs.Counting.{Amount, by_owner, given_back}
+use Rattle.letter_kinds.specs.Detector.{has}
+use Rattle.machine_rules.specs.Block.{held_actors}
+use Rattle.machine_rules.specs.Cell.{Cell}
+use Rattle.actor_cell.specs.declared.out.Out.{Out}
+
+-- these notes, and nothing else
+abbrev pub noting : List Note → Out
+noting notes = record { letters = []; notes = notes; print = None; made = None }
+
+-- to each owner one Dec with its amounts, and nothing else
+abbrev pub returning : List (ℕ × List Amount) → Out
+returning groups = record {
+  letters = map (λ g. (g.0, Dec g.1)) groups;
+  notes = [];
+  print = None;
+  made = None;
+}
+
+-- what a blocked actor reports
+abbrev pub report_of : ℕ → Cell → Note
+report_of a c = Block a c.holdings.count (held_actors c.holdings)
+
+-- what an actor that leaves held on others' things
+abbrev pub left_behind : ℕ → Cell → List (ℕ × List Amount)
+left_behind a c = by_owner (given_back (λ x. has (a ∷ []) (owner_of x)) c.holdings)

@@ -1,0 +1,204 @@
+// What was found of a turn is done.
+
+ghost use Rattle.std.specs.Prelude.{◌≡◌, ◌+◌, ◌<◌, ◌≤◌, ◌^◌, IfOk, IsSome, OnErr, OnOk, Some, length};
+ghost use Rattle.std.specs.FinMap as m;
+ghost use Rattle.turn_rules.specs.declared.act.Frame.{Frame as frame_of_rules};
+ghost use Rattle.letter_kinds.specs.Counting.{mint_all, mint_one, send};
+ghost use Rattle.letter_kinds.specs.Holdings.{held_in};
+ghost use Rattle.object_heap.specs.Heap.{with_new};
+ghost use Rattle.ref_weights.specs.Limit.{count_limit};
+ghost use Rattle.trace_send.specs.Can.{CanSend};
+ghost use Rattle.actor_cell.specs.Can.{CanMint};
+ghost use Rattle.actor_cell.specs.Cells.{as_cell};
+ghost use Rattle.actor_cell.specs.Goes.{CanGo, CanMove, cell_by, cell_kept, frame_left, gone_of, load_in, new_entries};
+
+use crate::cell::Cell;
+use crate::out::Out;
+use crate::turning::{Move, Turned, letter_room};
+use behaviour_check::Checked;
+use letter_kinds::{Amounts, Letter};
+use object_heap::ObjectHeap;
+use orca_names::{NoMemory, Row, Thing};
+use std::alloc::Global;
+use trace_send::send_trace;
+use turn_step::Turn;
+
+// The rows that a turn made are own objects now.
+fn make_all(heap: &mut ObjectHeap, made: &[Row])
+    requires room { length made.now ≤ heap.old.spare }
+    requires serials { heap.old.next + length made.now < 2 ^ 64 }
+    ensures { heap.new ≡ with_new made.now heap.old }
+{
+    for row in made {
+        heap.make(*row);
+    }
+}
+
+// How many entries a move may bring into the table of what is held.
+fn new_entries(act: &Move) -> usize
+    ensures { result ≡ new_entries act.now }
+{
+    match act {
+        Move::New {
+            kind: _,
+            register: _,
+        } => 1,
+        _ => 0,
+    }
+}
+
+impl Cell {
+    // The count that it holds on a thing rises.
+    fn mint_one(&mut self, amount: &(Thing, u64))
+        requires there { IsSome (m.get self.old.foreign.entries amount.now.0) }
+        requires fits { held_in (as_cell self.old).holdings amount.now.0 + amount.now.1 < count_limit }
+        ensures counts { as_cell self.new ≡ record (as_cell self.old) {
+          holdings = mint_one amount.now (as_cell self.old).holdings;
+        } }
+        ensures owner { self.new.heap.owner ≡ self.old.heap.owner }
+    {
+        self.foreign.mint(amount.0, amount.1);
+    }
+
+    // The counts that it holds on these things rise.
+    fn mint_all(&mut self, things: &Amounts)
+        requires { CanMint things.now (as_cell self.old).holdings }
+        ensures counts { as_cell self.new ≡ record (as_cell self.old) {
+          holdings = mint_all things.now (as_cell self.old).holdings;
+        } }
+        ensures owner { self.new.heap.owner ≡ self.old.heap.owner }
+    {
+        for amount in things.as_slice() {
+            self.mint_one(amount);
+        }
+    }
+
+    // A letter is sent.
+    fn send(&mut self, letter: &Letter)
+        requires { CanSend self.old.heap.owner (load_in letter.now) (as_cell self.old).holdings }
+        ensures counts { as_cell self.new ≡ record (as_cell self.old) {
+          holdings = send self.old.heap.owner (load_in letter.now) (as_cell self.old).holdings;
+        } }
+        ensures owner { self.new.heap.owner ≡ self.old.heap.owner }
+    {
+        let me = self.heap.owner();
+        match letter {
+            Letter::App {
+                behaviour: _,
+                args: _,
+                load,
+                rows: _,
+            } => send_trace(
+                load,
+                me,
+                &mut self.count,
+                &mut self.heap,
+                &mut self.foreign,
+            ),
+            Letter::Inc { things: _ } => {}
+            Letter::Dec { things: _ } => {}
+            Letter::Confirm { token: _ } => {}
+        }
+    }
+
+    // The fields and the rows of a turn are its own now.
+    fn keep_turn(&mut self, turn: &Turn)
+        requires room { length turn.now.made ≤ self.old.heap.spare }
+        requires serials { self.old.heap.next + length turn.now.made < 2 ^ 64 }
+        ensures cell { as_cell self.new ≡ cell_kept turn.now self.old.frame (as_cell self.old) }
+        ensures owner { self.new.heap.owner ≡ self.old.heap.owner }
+        ensures foreign { self.new.foreign ≡ self.old.foreign }
+    {
+        make_all(&mut self.heap, turn.made());
+        self.fields = *turn.fields();
+    }
+
+    // Its frame stands where the turn stopped.
+    fn stop_at(&mut self, turn: &Turn, place: u32)
+        requires { IsSome self.old.frame }
+        ensures cell { (frame : frame_of_rules) → self.old.frame ≡ Some frame
+            → as_cell self.new ≡ record (as_cell self.old) { frame = Some (frame_left frame turn.now place) } }
+        ensures owner { self.new.heap.owner ≡ self.old.heap.owner }
+        ensures foreign { self.new.foreign ≡ self.old.foreign }
+    {
+        let Some(frame) = self.frame.get() else {
+            unreachable!();
+        };
+        let kind = frame.kind;
+        let behaviour = frame.behaviour;
+        self.frame.keep(kind, behaviour, place, turn.registers());
+    }
+
+    /// Takes the memory for what was found of its turn.
+    ///
+    /// # Errors
+    /// `NoMemory` where memory was refused.
+    pub fn reserve_go(&mut self, turn: &Turn, found: &Turned) -> Result<(), NoMemory>
+        ensures cell { as_cell self.new ≡ as_cell self.old }
+        ensures owner { self.new.heap.owner ≡ self.old.heap.owner }
+        ensures objects { OnOk result (length turn.now.made ≤ self.new.heap.spare) }
+        ensures entries { OnOk result (new_entries found.now.act ≤ self.new.foreign.spare) }
+    {
+        self.heap.reserve(turn.made().len())?;
+        self.foreign.reserve(new_entries(&found.act))
+    }
+
+    /// Does what was found of its turn. It takes no memory.
+    pub fn apply_go(&mut self, turn: &Turn, found: &Turned)
+        requires running { IsSome self.old.frame }
+        requires can { CanMove self.old.heap.owner (as_cell self.old).holdings turn.now found.now.act }
+        requires room { length turn.now.made ≤ self.old.heap.spare }
+        requires serials { self.old.heap.next + length turn.now.made < 2 ^ 64 }
+        ensures cell { (frame : frame_of_rules) → self.old.frame ≡ Some frame → as_cell self.new
+            ≡ cell_by self.old.heap.owner (as_cell self.old) frame turn.now found.now.place found.now.act }
+        ensures owner { self.new.heap.owner ≡ self.old.heap.owner }
+        ensures room { new_entries found.now.act ≤ self.old.foreign.spare → new_entries found.now.act ≤ self.new.foreign.spare }
+    {
+        match &found.act {
+            Move::Post { to: _, letter } => {
+                self.keep_turn(turn);
+                self.stop_at(turn, found.place);
+                self.send(letter);
+            }
+            Move::Mint { owner: _, things } => self.mint_all(things),
+            Move::New {
+                kind: _,
+                register: _,
+            } => {
+                self.keep_turn(turn);
+                self.stop_at(turn, found.place);
+            }
+            Move::Print { value: _ } => {
+                self.keep_turn(turn);
+                self.stop_at(turn, found.place);
+            }
+            Move::End => {
+                self.keep_turn(turn);
+                self.frame.end();
+                self.dirty = true;
+            }
+        }
+    }
+
+    /// It goes on in its frame, up to and with its next act.
+    ///
+    /// # Errors
+    /// `NoMemory` where memory was refused; the cell is then as it was.
+    pub fn go(&mut self, alloc: Global, code: &Checked, weight: u32) -> Result<Out, NoMemory>
+        requires can { CanGo weight code.now self.old.heap.owner (as_cell self.old) }
+        requires serials { self.old.heap.next + 1024 < 2 ^ 64 }
+        ensures gone { let me = self.old.heap.owner in
+            IfOk result (λ out. gone_of weight code.now me (as_cell self.old)
+            ≡ Some (record { cell = as_cell self.new; out = out })) }
+        ensures room { IfOk result (λ out. IsSome out.made → 0 < self.new.foreign.spare) }
+        ensures same { OnErr result (as_cell self.new ≡ as_cell self.old) }
+        ensures owner { self.new.heap.owner ≡ self.old.heap.owner }
+    {
+        let mut turn = Turn::new(alloc);
+        let found = self.found_go(alloc, code, weight, &mut turn)?;
+        let room = letter_room(alloc)?;
+        self.reserve_go(&turn, &found)?;
+        self.apply_go(&turn, &found);
+        Ok(found.act.into_out(alloc, room))
+    }
+}

@@ -1,0 +1,85 @@
+// The cell of an actor.
+
+ghost use Rattle.std.specs.Prelude.{◌≡◌, ◌+◌, ◌<◌, IsSome, None};
+ghost use Rattle.std.specs.FinMap as m;
+ghost use Rattle.orca_names.specs.declared.names.Thing.TheVariants.{Actor as actor_thing};
+ghost use Rattle.foreign_table.specs.Table.{count_on};
+ghost use Rattle.machine_rules.specs.Cell.{clean_cell, first_cell};
+ghost use Rattle.ref_weights.specs.Limit.{count_limit};
+ghost use Rattle.actor_cell.specs.Cells.{as_cell, settled};
+
+use behaviour_check::Checked;
+use foreign_table::ForeignTable;
+use object_heap::ObjectHeap;
+use orca_names::{ActorName, Args, Fields, Thing, Value};
+use ref_weights::OwnCount;
+use std::alloc::Global;
+use turn_rules::FrameRoom;
+
+/// What an actor keeps: its kind and fields, where it stands in a behaviour, and what it counts.
+#[derive(Drop)]
+pub struct Cell {
+    pub kind: u32,
+    pub fields: Fields,
+    pub frame: FrameRoom,
+    /// Its own objects. The heap tells whose cell this is.
+    pub heap: ObjectHeap,
+    /// The things of others that it holds.
+    pub foreign: ForeignTable,
+    /// How often the actor itself is held by others and loaded by letters, as far as it was told.
+    pub count: OwnCount,
+    /// It did something since it collected.
+    pub dirty: bool,
+    /// It told the detector that it is blocked.
+    pub reported: bool,
+}
+
+impl Cell {
+    /// The cell of the first actor, which nobody holds. It takes no memory.
+    #[inline(always)]
+    pub fn first(alloc: Global, code: &Checked) -> Cell
+        ensures cell { as_cell result ≡ first_cell code.now }
+        ensures owner { result.heap.owner ≡ 0 }
+    {
+        Cell::fresh(alloc, code, ActorName(0), 0, 0)
+    }
+
+    /// The cell of an actor of a kind that was just made, clean, and counted so often. It takes no
+    /// memory.
+    #[inline(always)]
+    pub fn fresh(alloc: Global, code: &Checked, me: ActorName, kind: u32, count: u64) -> Cell
+        requires { count < count_limit }
+        ensures cell { as_cell result ≡ clean_cell code.now kind count }
+        ensures owner { result.heap.owner ≡ me }
+    {
+        let mut own = OwnCount::new();
+        own.raise(count);
+        Cell {
+            kind,
+            fields: Fields {
+                values: Args::nulls(code.program().field_count(kind) as usize),
+                pinned: false,
+            },
+            frame: FrameRoom::new(),
+            heap: ObjectHeap::new(alloc, me),
+            foreign: ForeignTable::new(alloc),
+            count: own,
+            dirty: false,
+            reported: false,
+        }
+    }
+
+    /// The actor that the last turn made gets its name: it stands in the register, and is held with
+    /// the weight. It takes no memory.
+    pub fn settle_new(&mut self, register: u8, name: ActorName, weight: u32)
+        requires running { IsSome self.old.frame }
+        requires room { m.get self.old.foreign.entries (actor_thing name) ≡ None → 0 < self.old.foreign.spare }
+        requires fits { count_on self.old.foreign (actor_thing name) + weight < count_limit }
+        ensures cell { as_cell self.new ≡ settled weight register name (as_cell self.old) }
+        ensures owner { self.new.heap.owner ≡ self.old.heap.owner }
+    {
+        self.frame.put(register, Value::Actor(name));
+        self.foreign
+            .gain(Thing::Actor(name), &None, u64::from(weight));
+    }
+}

@@ -1,0 +1,23 @@
+//! One actor's part of every event of the machine that collects (Orca, OOPSLA 2017).
+//!
+//! What each call does to the cell, and what it gives out to be pushed, is that of the rules of
+//! `machine_rules`; the laws here tie the two.
+#![tactic(auto)]
+
+mod amounts;
+mod apply;
+mod block;
+mod cell;
+mod collect;
+mod copy;
+mod go;
+mod laws;
+mod out;
+mod take;
+mod turn_rows;
+mod turning;
+
+pub use cell::Cell;
+pub use laws::events_are_of_parts;
+pub use out::Out;
+pub use turning::{Move, Turned};

@@ -1,0 +1,153 @@
+// Take: an actor without a frame takes a letter.
+
+ghost use Rattle.std.specs.Prelude.{◌≡◌, ◌<◌, [], if◌then◌else◌, IfErr, IfOk, None, OnErr, OnOk, Some, false, true, vec_capacity};
+ghost use Rattle.letter_kinds.specs.declared.note.Note.TheVariants as notes;
+ghost use Rattle.machine_rules.specs.Take.{cell_after, note_of, notes_after};
+ghost use Rattle.actor_cell.specs.Cells.{as_cell};
+ghost use Rattle.actor_cell.specs.Outs.{noting};
+ghost use Rattle.actor_cell.specs.Takes.{CanTake, HasRoomFor};
+
+use crate::cell::Cell;
+use crate::out::Out;
+use behaviour_check::Checked;
+use letter_kinds::{Letter, Note};
+use orca_names::NoMemory;
+use plain_list::Listed;
+use std::alloc::{AllocError, Global};
+use trace_send::receive_trace;
+use turn_step::start_frame;
+
+// Room for one note, where one will come.
+fn note_room(alloc: Global, comes: bool) -> Result<Vec<Note>, AllocError>
+    ensures none { IfOk result (λ notes. notes.items ≡ []) }
+    ensures room { IfOk result (λ notes. comes ≡ true → 0 < vec_capacity notes) }
+{
+    let mut notes = Vec::new(alloc);
+    if comes {
+        notes.reserve(1)?;
+    }
+    Ok(notes)
+}
+
+impl Cell {
+    // It has something to do, and did not report that it is blocked.
+    fn wake(&mut self) -> Option<Note>
+        ensures cell { as_cell self.new ≡ record (as_cell self.old) { dirty = true; reported = false } }
+        ensures note { result ≡ (if self.old.reported then Some (notes.Unblock self.old.heap.owner) else None) }
+        ensures owner { self.new.heap.owner ≡ self.old.heap.owner }
+    {
+        self.dirty = true;
+        if !self.reported {
+            return None;
+        }
+        self.reported = false;
+        Some(Note::Unblock {
+            actor: self.heap.owner(),
+        })
+    }
+
+    // It is still blocked, if it reported that.
+    fn ack(&self, token: u64) -> Option<Note>
+        ensures { result ≡ (if self.now.reported then Some (notes.Ack token self.now.heap.owner) else None) }
+    {
+        if !self.reported {
+            return None;
+        }
+        Some(Note::Ack {
+            token,
+            actor: self.heap.owner(),
+        })
+    }
+
+    /// Takes the memory for what the letter brings.
+    ///
+    /// # Errors
+    /// `NoMemory` where memory was refused.
+    pub fn reserve_take(&mut self, letter: &Letter) -> Result<(), NoMemory>
+        ensures cell { as_cell self.new ≡ as_cell self.old }
+        ensures owner { self.new.heap.owner ≡ self.old.heap.owner }
+        ensures room { OnOk result (HasRoomFor letter.now self.new.foreign.spare) }
+    {
+        match letter {
+            Letter::App {
+                behaviour: _,
+                args: _,
+                load,
+                rows: _,
+            } => self.foreign.reserve(load.len()),
+            _ => Ok(()),
+        }
+    }
+
+    /// The idle actor takes the letter, and tells what the detector is to hear. It takes no memory.
+    pub fn apply_take(&mut self, code: &Checked, letter: &Letter) -> Option<Note>
+        requires idle { self.old.frame ≡ None }
+        requires can { CanTake self.old.heap.owner letter.now (as_cell self.old).holdings }
+        requires room { HasRoomFor letter.now self.old.foreign.spare }
+        ensures cell { as_cell self.new
+            ≡ cell_after code.now self.old.heap.owner letter.now (as_cell self.old) }
+        ensures note { result ≡ (if self.old.reported then Some (note_of self.old.heap.owner letter.now) else None) }
+        ensures owner { self.new.heap.owner ≡ self.old.heap.owner }
+    {
+        match letter {
+            Letter::App {
+                behaviour,
+                args,
+                load,
+                rows: _,
+            } => {
+                let me = self.heap.owner();
+                receive_trace(
+                    load,
+                    me,
+                    &mut self.count,
+                    &mut self.heap,
+                    &mut self.foreign,
+                );
+                start_frame(code, self.kind, *behaviour, args, &mut self.frame);
+                self.wake()
+            }
+            Letter::Inc { things } => {
+                self.raise_all(things);
+                self.wake()
+            }
+            Letter::Dec { things } => {
+                self.lower_all(things);
+                self.wake()
+            }
+            Letter::Confirm { token } => self.ack(*token),
+        }
+    }
+
+    /// The idle actor takes a letter.
+    ///
+    /// # Errors
+    /// The letter, where memory was refused; the cell is then as it was.
+    pub fn take(&mut self, alloc: Global, code: &Checked, letter: Letter) -> Result<Out, Letter>
+        requires idle { self.old.frame ≡ None }
+        requires can { CanTake self.old.heap.owner letter (as_cell self.old).holdings }
+        ensures out { let note = note_of self.old.heap.owner letter in
+            IfOk result (λ out. out ≡ noting (notes_after self.old.reported note [])) }
+        ensures cell { OnOk result (as_cell self.new
+            ≡ cell_after code.now self.old.heap.owner letter (as_cell self.old)) }
+        ensures back { IfErr result (λ back. back ≡ letter) }
+        ensures same { OnErr result (as_cell self.new ≡ as_cell self.old) }
+        ensures owner { self.new.heap.owner ≡ self.old.heap.owner }
+    {
+        let Ok(mut notes) = note_room(alloc, self.reported) else {
+            return Err(letter);
+        };
+        if self.reserve_take(&letter).is_err() {
+            return Err(letter);
+        }
+        if let Some(note) = self.apply_take(code, &letter) {
+            notes.push_reserved(note);
+        }
+        Ok(Out {
+            letters: Listed::new(alloc),
+            notes: Listed::from(notes),
+            print: None,
+            made: None,
+        })
+    }
+}
