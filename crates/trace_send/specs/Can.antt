@@ -1,6 +1,6 @@
 -- When the counts of an actor allow a load: there is enough to lower or spend, and no count becomes
 -- too large.
-use Rattle.std.specs.Prelude.{ℕ, ◌≡◌, ◌≢◌, ◌+◌, ◌<◌, ◌≤◌, true, All, List, [], ◌∷◌, Option}
+use Rattle.std.specs.Prelude.{ℕ, ◌≡◌, ◌≢◌, ◌+◌, ◌<◌, ◌≤◌, true, All, List, [], ◌∷◌, Option, ⊤}
 use Rattle.orca_names.specs.Names.{owner_of}
 use Rattle.orca_names.specs.declared.names.ObjName.{ObjName}
 use Rattle.orca_names.specs.declared.names.Thing.{Thing}
@@ -18,7 +18,7 @@ pub record CanReceiveOne (me : ℕ) (e : Loaded) (h : Holdings) : Type 0 where
 
 -- they allow each thing in its turn
 abbrev pub CanReceive : ℕ → List Loaded → Holdings → Type 0
-CanReceive me [] h = Unit {0}
+CanReceive me [] h = ⊤
 CanReceive me (e ∷ load) h = CanReceiveOne me e h × CanReceive me load (receive_one me e h)
 
 -- the sender's counts allow one thing: an own one is there, and another's can be spent
@@ -29,7 +29,7 @@ pub record CanSendOne (me : ℕ) (e : Loaded) (h : Holdings) : Type 0 where
 
 -- they allow each thing in its turn
 abbrev pub CanSend : ℕ → List Loaded → Holdings → Type 0
-CanSend me [] h = Unit {0}
+CanSend me [] h = ⊤
 CanSend me (e ∷ load) h = CanSendOne me e h × CanSend me load (send_one me e h)
 
 -- ---- in terms of the counts before the first thing
