@@ -32,7 +32,7 @@ pub struct ForeignTable {
 impl Model for ForeignTable {
     ghost use Rattle.std.specs.Prelude.{◌-◌, min, vec_len, vec_capacity};
     ghost use Rattle.foreign_table.specs.Span.{IsSpan};
-ghost use Rattle.foreign_table.specs.Table.{AreHeld, Table, coded_table, entries_in};
+    ghost use Rattle.foreign_table.specs.Table.{AreHeld, Table, coded_table, entries_in};
 
     ghost Value = { Table };
 

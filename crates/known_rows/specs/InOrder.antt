@@ -42,8 +42,8 @@ order_of_places xs h x y p q e f = elim (cases_lt p q) as (λ _. thing_cmp x y �
     | inr m ↦
         let same : p ≡ q = omega arith in
         let one : x ≡ y =
-            sym (get_or_from_slice_get xs p x x e) ∙ ap (λ i. get_or xs i x) same
-            ∙ get_or_from_slice_get xs q y x f in
+        sym (get_or_from_slice_get xs p x x e) ∙ ap (λ i. get_or xs i x) same
+        ∙ get_or_from_slice_get xs q y x f in
         ap (thing_cmp x) (sym one) ∙ tied_itself thing_total x
         ∙ sym (ap (nat_cmp p) (sym same) ∙ tied_itself nat_cmp_total p)
   ]

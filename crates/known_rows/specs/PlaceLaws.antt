@@ -83,7 +83,7 @@ module _ (heap : Heap) (foreign : Table) where
       let keys : ℕ × (Row × ℕ) → ℕ = λ e. e.0 in
       let k : j < length es = omega (arith, length-map (m.keys heap.rows) object, length-map es keys) in
       let serials : nat_cmp (get_or (m.keys heap.rows) i 0) (get_or (m.keys heap.rows) j 0) ≡ Less =
-          (λ t. nat_cmp (get_or-map keys es i (0, none) 0 (omega arith) t) (get_or-map keys es j (0, none) 0 k t)) ∙ rises nat_cmp_total es (m.entries_sorted heap.rows) i j (0, none) l k in
+      (λ t. nat_cmp (get_or-map keys es i (0, none) 0 (omega arith) t) (get_or-map keys es j (0, none) 0 k t)) ∙ rises nat_cmp_total es (m.entries_sorted heap.rows) i j (0, none) l k in
       (λ t. thing_cmp (object_at i d (omega arith) t) (object_at j d n t))
       ∙ ap (λ o. ordering_then o (nat_cmp (get_or (m.keys heap.rows) i 0) (get_or (m.keys heap.rows) j 0))) (tied_itself nat_cmp_total heap.owner) ∙ serials
 

@@ -20,13 +20,7 @@ fn behaviour_place(behaviours: &[Behaviour], name: Name, arguments: u64) -> Opti
 
 /// Starts the frame of a call, if the kind has a behaviour of this name with as many parameters as
 /// there are arguments.
-pub fn start_frame(
-    code: &Checked,
-    kind: u32,
-    behaviour: Name,
-    args: &Args,
-    frame: &mut FrameRoom,
-)
+pub fn start_frame(code: &Checked, kind: u32, behaviour: Name, args: &Args, frame: &mut FrameRoom)
     requires idle { frame.old ≡ None }
     ensures { frame.new ≡ frame_for code.now kind behaviour args.now }
 {

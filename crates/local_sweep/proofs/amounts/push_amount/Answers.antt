@@ -13,8 +13,8 @@ returns-then-ends_with c = λ given is.
     let some : 0 < length groups = omega (arith, c.ends_with.ensures.some c.if-ends_with.true, ap length c.as_slice.ensures.value) in
     let at : g ≡ get_or groups (length groups - 1) g = c.index_mut.ensures.value ∙ ap (λ n. get_or groups (n - 1) g) count in
     let own : g.0 ≡ owner_of e.0 =
-        ap (λ x. x.0) at ∙ ap (λ gs. (get_or gs (length gs - 1) g).0) (sym c.as_slice.ensures.value)
-        ∙ c.ends_with.ensures.own c.if-ends_with.true g ∙ c.owner-owner.ensures in
+    ap (λ x. x.0) at ∙ ap (λ gs. (get_or gs (length gs - 1) g).0) (sym c.as_slice.ensures.value)
+    ∙ c.ends_with.ensures.own c.if-ends_with.true g ∙ c.owner-owner.ensures in
     (λ j. set groups (count j - 1) (g.0, c.in_ok-push.ensures.ok j)) ∙ pushed_to_last given e groups g is some at own
 
 pub returns : goal.returns
@@ -23,5 +23,5 @@ returns c = λ given is.
     let groups : Groups = c.args.back.now.items in
     let things : c.push-2.new.self ≡ e ∷ [] = c.in_ok-push-2.ensures.ok ∙ ap (λ xs. xs ++ e ∷ []) c.new-things.ensures in
     let other : 0 < length groups → (d : ℕ × List Amount) → (get_or groups (length groups - 1) d).0 ≢ owner_of e.0 = λ l d same.
-        c.if-ends_with.ensures.other (omega (arith, ap length c.as_slice.ensures.value)) d (ap (λ gs. (get_or gs (length gs - 1) d).0) c.as_slice.ensures.value ∙ same ∙ sym c.owner-owner.ensures) in
+    c.if-ends_with.ensures.other (omega (arith, ap length c.as_slice.ensures.value)) d (ap (λ gs. (get_or gs (length gs - 1) d).0) c.as_slice.ensures.value ∙ same ∙ sym c.owner-owner.ensures) in
     c.in_ok-push-3.ensures.items ∙ (λ j. groups ++ (c.owner-owner.ensures j, things j) ∷ []) ∙ pushed_behind given e groups is other

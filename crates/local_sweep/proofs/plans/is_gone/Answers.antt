@@ -13,7 +13,7 @@ contains-requires c =
     let heap = c.args.known.now.rows.heap.now in
     let foreign = c.args.known.now.rows.foreign.now in
     let key : slice_get (m.keys heap.rows) c.args.i ≡ Some c.at-count.result.0.serial =
-        slice_get-map (λ e. e.0) (m.entries heap.rows) c.args.i ∙ ap (option_map (λ e. e.0)) c.at-count.ensures.entry in
+    slice_get-map (λ e. e.0) (m.entries heap.rows) c.args.i ∙ ap (option_map (λ e. e.0)) c.at-count.ensures.entry in
     let below = places_below heap foreign (Obj (object_named heap.owner c.at-count.result.0.serial)) c.place_of_own_at.result (c.place_of_own_at.ensures c.at-count.result.0.serial key) in
     omega (arith, c.requires.room)
 

@@ -22,11 +22,11 @@ returns c =
     let marks : Heap → Table → List Value → List Thing = λ h f values. marks_of (row_known h f) (names_known h f) values in
     let Told : Heap → Table → List Value → Type 0 = λ h f values. TellMarks (place_in h f) bits (marks h f values) in
     let tells : Told c.args.heap.now c.args.foreign.now c.args.fields.now.values =
-        subst (λ h. Told h c.args.foreign.now c.args.fields.now.values) heap
-        (subst (λ f. Told known.rows.heap.now f c.args.fields.now.values) foreign
-        (subst (Told known.rows.heap.now known.rows.foreign.now) c.as_slice.ensures.value c.in_ok-marks.ensures.marks)) in
+    subst (λ h. Told h c.args.foreign.now c.args.fields.now.values) heap
+    (subst (λ f. Told known.rows.heap.now f c.args.fields.now.values) foreign
+    (subst (Told known.rows.heap.now known.rows.foreign.now) c.as_slice.ensures.value c.in_ok-marks.ensures.marks)) in
     let span : IsSpan c.args.heap.now.owner (m.keys c.args.foreign.now.entries) known.first known.end =
-        subst (λ h. IsSpan h.owner (m.keys c.args.foreign.now.entries) known.first known.end) heap
-        (subst (λ f. IsSpan known.rows.heap.now.owner (m.keys f.entries) known.first known.end) foreign known.span) in
+    subst (λ h. IsSpan h.owner (m.keys c.args.foreign.now.entries) known.first known.end) heap
+    (subst (λ f. IsSpan known.rows.heap.now.owner (m.keys f.entries) known.first known.end) foreign known.span) in
     let same = plan_by_bits bits (marks c.args.heap.now c.args.foreign.now c.args.fields.now.values) c.args.heap.now c.args.foreign.now known.first known.end span c.requires tells in
     subst (λ p. IfOk c.plan_of_marks.result (λ plan. plan ≡ p)) same c.plan_of_marks.ensures

@@ -19,8 +19,7 @@ returns-then-not-same_counts c = (
 pub returns : goal.returns
 returns c =
     let s = c.self.inside in
-    let o = c.other.inside in
-    (
+    let o = c.other.inside in (
       λ t.
           let held = sym c.as_slice.ensures.value ∙ c.same_counts.ensures.0 c.if-not-same_counts.false ∙ c.as_slice-2.ensures.value in
           let rows = sym c.as_slice-3.ensures.value ∙ c.same_rows.ensures.0 t ∙ c.as_slice-4.ensures.value in

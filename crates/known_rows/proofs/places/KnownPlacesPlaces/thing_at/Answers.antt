@@ -27,7 +27,7 @@ returns-then-at-self-3 c =
     let s = c.args.self.now in
     let i = c.args.at - s.first - 1 in
     let key : slice_get (m.keys s.rows.heap.now.rows) (c.args.at - s.first - 1) ≡ Some c.at-n.result.0.serial =
-        slice_get-map (λ e. e.0) (m.entries s.rows.heap.now.rows) i ∙ ap (option_map (λ e. e.0)) c.at-n.ensures.entry in
+    slice_get-map (λ e. e.0) (m.entries s.rows.heap.now.rows) i ∙ ap (option_map (λ e. e.0)) c.at-n.ensures.entry in
     let back : s.first + 1 + (c.args.at - s.first - 1) ≡ c.args.at = omega arith in
     ap (place_in s.rows.heap.now s.rows.foreign.now) (λ j. Obj (record { owner = c.at-n.ensures.owner j; serial = c.at-n.result.0.serial }))
     ∙ place_own s.rows.heap.now s.rows.foreign.now s.first s.end s.span i c.at-n.result.0.serial key ∙ ap Some back

@@ -21,8 +21,7 @@ returns-in-Ok-clause-key c =
 pub returns-in-Ok-clause-there : goal.returns-in-Ok-clause-there
 returns-in-Ok-clause-there c =
     let s = c.self.inside in
-    let p = subst (λ es. IsAt nat_cmp (map key_of es) c.args.n.serial c.in-Ok.i) c.as_slice.ensures.value c.in-Ok.ensures in
-    (
+    let p = subst (λ es. IsAt nat_cmp (map key_of es) c.args.n.serial c.in-Ok.i) c.as_slice.ensures.value c.in-Ok.ensures in (
       λ _. record {
         owner = not_ne c.args.n.owner s.owner (sym c.ne.ensures ∙ c.if-ne.false) ∙ ap (λ h. h.owner) c.self.view_is;
         there = ap (λ h. is_some (m.get h.rows c.args.n.serial)) (sym c.self.view_is) ∙ is_there s.next s.entries.items s.rows.items c.args.n.serial c.in-Ok.i c.self.invariant p;

@@ -20,14 +20,12 @@ returns-then-not-same_objects c = (
 pub returns : goal.returns
 returns c =
     let s = c.self.inside in
-    let o = c.other.inside in
-    (
+    let o = c.other.inside in (
       λ t.
           let owner : s.owner ≡ o.owner = not_ne s.owner o.owner (sym c.ne.ensures ∙ c.if-ne.false) in
           let next : s.next ≡ o.next = c.if-self-other.false in
           let objects = sym c.as_slice.ensures.value ∙ c.same_objects.ensures.0 c.if-not-same_objects.false ∙ c.as_slice-2.ensures.value in
-          let rows = sym c.as_slice-3.ensures.value ∙ c.same_rows.ensures.0 t ∙ c.as_slice-4.ensures.value in
-          (
+          let rows = sym c.as_slice-3.ensures.value ∙ c.same_rows.ensures.0 t ∙ c.as_slice-4.ensures.value in (
             sym (ap (λ h. h.owner) c.self.view_is) ∙ owner ∙ ap (λ h. h.owner) c.other.view_is,
             sym (ap (λ h. h.next) c.self.view_is) ∙ next ∙ ap (λ h. h.next) c.other.view_is,
             sym (ap (λ h. h.rows) c.self.view_is) ∙ (λ j. rows_in (objects j) (rows j)) ∙ ap (λ h. h.rows) c.other.view_is,
