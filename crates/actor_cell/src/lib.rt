@@ -12,6 +12,7 @@ mod collect;
 mod copy;
 mod go;
 mod laws;
+mod leave;
 mod out;
 mod take;
 mod turn_rows;
