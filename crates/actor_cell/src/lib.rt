@@ -10,6 +10,7 @@ mod block;
 mod cell;
 mod collect;
 mod copy;
+mod found;
 mod go;
 mod laws;
 mod leave;
@@ -19,6 +20,7 @@ mod turn_rows;
 mod turning;
 
 pub use cell::Cell;
+pub use found::Found;
 pub use laws::events_are_of_parts;
 pub use out::Out;
 pub use turning::{Move, Turned};
