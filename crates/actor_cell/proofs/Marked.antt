@@ -4,7 +4,7 @@ use Rattle.orca_names.specs.declared.names.ObjName.{ObjName}
 use Rattle.orca_names.specs.declared.names.Value.{Value}
 use Rattle.reach_walk.specs.Marks.{Covers, marks_of}
 use Rattle.reach_walk.proofs.MarkLaws.{marks-exact, marks-unique}
-use Rattle.letter_kinds.specs.Counting.{Amount, by_owner, given_back}
+use Rattle.letter_kinds.specs.Counting.{by_owner, given_back}
 use Rattle.letter_kinds.specs.Holdings.{Row, row_of}
 use Rattle.object_heap.specs.Heap.{Heap}
 use Rattle.foreign_table.specs.Table.{Table}

@@ -16,14 +16,9 @@ use turn_step::Turn;
 #[derive(Debug, Drop)]
 pub enum Found {
     /// It goes on: what its turn leaves, and what it does where this stops.
-    Goes {
-        turn: Turn,
-        turned: Turned,
-    },
+    Goes { turn: Turn, turned: Turned },
     /// It collects: what this frees and gives back.
-    Collects {
-        plan: SweepPlan,
-    },
+    Collects { plan: SweepPlan },
     /// It has no frame, and did nothing since it collected.
     Nothing,
 }

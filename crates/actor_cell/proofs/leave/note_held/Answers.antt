@@ -3,9 +3,7 @@ use Rattle.std.specs.Prelude.{OnOk}
 use Rattle.std.specs.Option.{option_copied}
 use Rattle.std.proofs.lemmas.List.{append-nil}
 use Rattle.orca_names.specs.Names.{owner_of}
-use Rattle.orca_names.specs.declared.names.Thing.{Thing}
 use Rattle.letter_kinds.specs.Counting.{Amount, by_owner}
-use Rattle.letter_kinds.specs.Detector.{has}
 use Rattle.actor_cell.proofs.Owners.{has_other, has_same}
 use Rattle.actor_cell.proofs.leave.note_held.Goals as goal
 
@@ -27,8 +25,8 @@ returns c = λ e given is back.
     let thing : e.0 ≡ c.at-thing.result.0 = ap (λ x. x.0) same in
     let test : eqb c.owner.result c.args.me ≡ false = cc in
     let other : c.args.me ≢ owner_of e.0 = λ mine.
-        let t : eqb c.owner.result c.args.me ≡ true = eq-eqb c.owner.result c.args.me (c.owner.ensures ∙ ap owner_of (sym thing) ∙ sym mine) in
-        let u : true ≡ false = sym t ∙ test in cc in
+    let t : eqb c.owner.result c.args.me ≡ true = eq-eqb c.owner.result c.args.me (c.owner.ensures ∙ ap owner_of (sym thing) ∙ sym mine) in
+    let u : true ≡ false = sym t ∙ test in cc in
     let off = has_other c.args.me (owner_of e.0) other in
     let amount : (c.at-thing.result.0, c.at-thing.result.1) ≡ (e.0, e.1.0) = ap (λ x. (x.0, x.1.0)) (sym same) in
     let more = ap (λ x. x ∷ []) amount ∙ ap (λ b. cond {A = List Amount} (not b) ((e.0, e.1.0) ∷ []) []) (sym off) in

@@ -1,4 +1,4 @@
-use Rattle.std.proofs.Common.{◌≡◌, None, ap, ◌∙◌}
+use Rattle.std.proofs.Common.{None, ap, ◌∙◌}
 use Rattle.letter_kinds.specs.declared.plan.SweepPlan.{SweepPlan}
 use Rattle.machine_rules.specs.Collect.{is_marked}
 use Rattle.orca_names.specs.declared.trace.Trace.TheVariants.{Deep}
@@ -12,7 +12,7 @@ pub returns-clause-out : goal.returns-clause-out
 returns-clause-out c =
     let s = c.args.self.now in
     let back = c.as_slice.ensures ∙ ap (λ (plan : SweepPlan). plan.back) c.in_ok-plan.ensures
-        ∙ back_same s.count s.heap s.foreign (is_marked Deep s.heap.owner (as_cell s)) in
+    ∙ back_same s.count s.heap s.foreign (is_marked Deep s.heap.owner (as_cell s)) in
     let out : Out → Out = λ o. o in
     ap out (λ i. record { letters = c.in_ok-letters.ensures i; notes = c.new.ensures i; print = None; made = None })
     ∙ ap returning back

@@ -1,4 +1,4 @@
-use Rattle.std.proofs.Common.{◌≡◌, None, ap, ◌∙◌}
+use Rattle.std.proofs.Common.{None, ap, ◌∙◌}
 use Rattle.actor_cell.specs.declared.out.Out.{Out}
 use Rattle.actor_cell.specs.Outs.{returning}
 use Rattle.actor_cell.proofs.cell.Cell.leave.Goals as goal
