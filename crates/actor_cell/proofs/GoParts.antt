@@ -3,7 +3,7 @@ use Rattle.std.proofs.Common.{◌≡◌, ℕ, zero, suc, ◌+◌, ◌-◌, ◌==
 use Rattle.std.specs.Prelude.{option_map, if◌then◌else◌}
 use Rattle.std.specs.Option.{option_map_or}
 use Rattle.std.proofs.lemmas.List.{append-nil, length-set}
-use Rattle.event_rule.specs.Runs.{Step, Goes, IsFull, NotEnabled}
+use Rattle.event_rule.specs.Runs.{Goes, IsFull, NotEnabled}
 use Rattle.orca_names.specs.Names.{owner_of}
 use Rattle.orca_names.specs.declared.names.Thing.{Thing}
 use Rattle.orca_names.specs.declared.names.Thing.TheVariants.{Actor, Obj}
@@ -15,14 +15,14 @@ use Rattle.turn_rules.specs.declared.act.Act.{Act}
 use Rattle.turn_rules.specs.declared.act.Act.TheVariants as act
 use Rattle.turn_rules.specs.declared.act.Frame.{Frame}
 use Rattle.turn_rules.specs.Segment.{Stop}
-use Rattle.plain_rules.specs.Machine.{stopped_at, with_name}
+use Rattle.plain_rules.specs.Machine.{stopped_at}
 use Rattle.letter_kinds.specs.declared.letter.Letter.{Letter}
 use Rattle.letter_kinds.specs.declared.letter.Letter.TheVariants.{App, Inc}
 use Rattle.letter_kinds.specs.Counting.{Amount, Loaded, mint_all, mint_one, raise, send, send_one, set_held, set_own, spend, to_mint}
 use Rattle.letter_kinds.specs.Holdings.{Holdings, Row, entry_row, with_made}
 use Rattle.machine_rules.specs.Actors.{Seat, push_letter, seat}
 use Rattle.machine_rules.specs.Cell.{Cell, fresh_cell}
-use Rattle.machine_rules.specs.Go.{act_in, cell_after_turn, go, lacking_from, load_from, post_or_mint, turn_in, turn_of_cell}
+use Rattle.machine_rules.specs.Go.{act_in, cell_after_turn, lacking_from, load_from, post_or_mint, turn_in, turn_of_cell}
 use Rattle.machine_rules.specs.State.{State}
 use Rattle.actor_cell.specs.declared.turning.Move.{Move}
 use Rattle.actor_cell.specs.Cells.{settled}

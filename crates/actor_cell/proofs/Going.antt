@@ -1,5 +1,5 @@
 -- What a go leads to, step by step.
-use Rattle.std.proofs.Common.{◌≡◌, ℕ, zero, suc, ◌+◌, ◌-◌, ◌<◌, ◌≤◌, Option, Some, None, IsSome, List, [], ◌∷◌, length, refl, sym, ap, ◌∙◌, subst, arith}
+use Rattle.std.proofs.Common.{◌≡◌, ℕ, suc, ◌+◌, ◌-◌, ◌<◌, ◌≤◌, Option, Some, None, IsSome, List, [], ◌∷◌, length, refl, sym, ap, ◌∙◌, subst, arith}
 use Rattle.std.specs.Prelude.{option_map, IsSomeAnd}
 use Rattle.turn_rules.specs.declared.act.Frame.{Frame}
 use Rattle.turn_rules.specs.Segment.{Turn}
@@ -11,7 +11,7 @@ use Rattle.machine_rules.specs.Cell.{Cell}
 use Rattle.actor_cell.specs.declared.out.Out.{Out}
 use Rattle.actor_cell.specs.declared.turning.Move.{Move}
 use Rattle.actor_cell.specs.declared.turning.Move.TheVariants.{Post, Mint, New, Print, End}
-use Rattle.actor_cell.specs.Goes.{CanMove, Gone, Turned, cell_by, cell_kept, frame_left, gone_by, load_in, new_entries, out_of}
+use Rattle.actor_cell.specs.Goes.{CanMove, Turned, cell_by, cell_kept, frame_left, gone_by, load_in, new_entries, out_of}
 
 -- ---- rows that were made, one by one
 

@@ -1,6 +1,8 @@
 pub mod GoParts
 pub mod Going
 pub mod Known
+pub mod Marked
+pub mod Owners
 pub mod Parts
 pub mod Posting
 pub mod Raising

@@ -11,7 +11,6 @@ use Rattle.machine_rules.specs.Actors.{Actors, push_decs, push_letter, seat, sea
 use Rattle.machine_rules.specs.Cell.{Cell}
 use Rattle.machine_rules.specs.Collect.{is_marked}
 use Rattle.machine_rules.specs.Detect.{empty_seats, held_outside, reap_decs}
-use Rattle.machine_rules.specs.State.{State}
 use Rattle.machine_rules.specs.Take.{cell_after, note_of, notes_after}
 use Rattle.actor_cell.specs.Laws.{BlocksByParts, CollectsByParts, LeavesByParts, TakesByParts}
 use Rattle.actor_cell.specs.Outs.{left_behind}
@@ -51,8 +50,8 @@ one_emptied a actors = refl
 pub leaves : LeavesByParts
 leaves s a c mail at = λ i. Goes (record s {
   actors = (ap (λ groups. push_decs groups (empty_seats (a ∷ []) s.actors)) (one_reaped a c mail s.actors at)
-  ∙ ap (push_decs (left_behind a c)) (one_emptied a s.actors)
-  ∙ decs_pushed (left_behind a c) (set s.actors a None)) i;
+      ∙ ap (push_decs (left_behind a c)) (one_emptied a s.actors)
+      ∙ decs_pushed (left_behind a c) (set s.actors a None)) i;
   notes = sym (append-nil s.notes) i;
 })
 

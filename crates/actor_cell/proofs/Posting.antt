@@ -1,5 +1,5 @@
 -- What a letter loads, and what is minted first.
-use Rattle.std.proofs.Common.{◌≡◌, ℕ, Option, Some, None, List, [], ◌∷◌, ◌==◌, map, refl, sym, ap, ◌∙◌}
+use Rattle.std.proofs.Common.{◌≡◌, ℕ, Option, Some, None, List, [], ◌∷◌, ◌==◌, map, refl, ap, ◌∙◌}
 use Rattle.std.specs.List.{filter}
 use Rattle.orca_names.specs.Names.{owner_of}
 use Rattle.orca_names.specs.declared.names.Thing.{Thing}

@@ -1,5 +1,5 @@
 -- Increments and decrements, one thing at a time.
-use Rattle.std.proofs.Common.{◌≡◌, ◌≢◌, ℕ, zero, suc, ◌+◌, ◌-◌, ◌<◌, ◌≤◌, arith, List, [], ◌∷◌, length, get_or, drop, refl, sym, ap, ◌∙◌}
+use Rattle.std.proofs.Common.{◌≡◌, ◌≢◌, ℕ, zero, suc, ◌+◌, ◌<◌, ◌≤◌, arith, List, [], ◌∷◌, length, get_or, drop, refl, sym, ap, ◌∙◌}
 use Rattle.orca_names.specs.Names.{owner_of}
 use Rattle.letter_kinds.specs.Counting.{Amount, Loaded, lower, lower_all, raise, raise_all}
 use Rattle.orca_names.specs.declared.names.ObjName.{ObjName}

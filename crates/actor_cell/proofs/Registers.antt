@@ -11,10 +11,9 @@ use Rattle.orca_names.specs.declared.row.Fields.{Fields}
 use Rattle.behaviour_code.specs.Find.{behaviours_of, body_of, is_label, kind_named}
 use Rattle.behaviour_code.specs.declared.code.Behaviour.{Behaviour}
 use Rattle.behaviour_code.specs.declared.code.Kind.{Kind}
-use Rattle.behaviour_code.specs.declared.code.Program.{Program}
 use Rattle.behaviour_code.specs.declared.instr.Instr.{Instr}
 use Rattle.behaviour_code.specs.declared.instr.Instr.TheVariants as I
-use Rattle.behaviour_check.specs.Keeps.{HasRegisters, KeepsRules}
+use Rattle.behaviour_check.specs.Keeps.{HasRegisters}
 use Rattle.behaviour_check.specs.Rules.{IsChecked}
 use Rattle.behaviour_check.proofs.Keeping.{accepts_exactly}
 use Rattle.behaviour_check.proofs.Places.{All-slice_get}

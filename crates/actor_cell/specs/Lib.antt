@@ -1,5 +1,6 @@
 pub mod Can
 pub mod Cells
+pub mod Founds
 pub mod Goes
 pub mod InTurn
 pub mod Laws

@@ -88,13 +88,7 @@ impl Cell {
                 args: _,
                 load,
                 rows: _,
-            } => send_trace(
-                load,
-                me,
-                &mut self.count,
-                &mut self.heap,
-                &mut self.foreign,
-            ),
+            } => send_trace(load, me, &mut self.count, &mut self.heap, &mut self.foreign),
             Letter::Inc { things: _ } => {}
             Letter::Dec { things: _ } => {}
             Letter::Confirm { token: _ } => {}

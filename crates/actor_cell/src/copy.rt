@@ -28,8 +28,7 @@ fn same_values(values: &[Value], other: &[Value]) -> bool
 fn same_fields(fields: &Fields, other: &Fields) -> bool
     ensures { IsTrue result ↔ (fields.now ≡ other.now) }
 {
-    fields.pinned == other.pinned
-        && same_values(fields.values.as_slice(), other.values.as_slice())
+    fields.pinned == other.pinned && same_values(fields.values.as_slice(), other.values.as_slice())
 }
 
 fn same_frame(frame: &Frame, other: &Frame) -> bool

@@ -10,14 +10,17 @@ mod block;
 mod cell;
 mod collect;
 mod copy;
+mod found;
 mod go;
 mod laws;
+mod leave;
 mod out;
 mod take;
 mod turn_rows;
 mod turning;
 
 pub use cell::Cell;
+pub use found::Found;
 pub use laws::events_are_of_parts;
 pub use out::Out;
 pub use turning::{Move, Turned};

@@ -97,13 +97,7 @@ impl Cell {
                 rows: _,
             } => {
                 let me = self.heap.owner();
-                receive_trace(
-                    load,
-                    me,
-                    &mut self.count,
-                    &mut self.heap,
-                    &mut self.foreign,
-                );
+                receive_trace(load, me, &mut self.count, &mut self.heap, &mut self.foreign);
                 start_frame(code, self.kind, *behaviour, args, &mut self.frame);
                 self.wake()
             }

@@ -13,25 +13,14 @@ use std::alloc::Global;
 #[derive(Debug, Drop)]
 pub enum Move {
     /// It sends an actor this letter, with its load.
-    Post {
-        to: ActorName,
-        letter: Letter,
-    },
+    Post { to: ActorName, letter: Letter },
     /// It lacks some of what a letter would load: its counts of these things rise, and an increment
     /// tells their owner. Nothing of the turn is kept.
-    Mint {
-        owner: ActorName,
-        things: Amounts,
-    },
+    Mint { owner: ActorName, things: Amounts },
     /// It makes an actor of a kind, which the register becomes.
-    New {
-        kind: u32,
-        register: u8,
-    },
+    New { kind: u32, register: u8 },
     /// It prints a value.
-    Print {
-        value: Value,
-    },
+    Print { value: Value },
     /// Its behaviour ends.
     End,
 }

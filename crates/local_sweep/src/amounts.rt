@@ -24,7 +24,7 @@ fn ends_with(back: &[(ActorName, Amounts)], owner: ActorName) -> bool
 }
 
 /// One amount more, which comes behind the others in the order of things.
-pub(crate) fn push_amount(
+pub fn push_amount(
     alloc: Global,
     back: &mut Vec<(ActorName, Amounts)>,
     thing: &Thing,

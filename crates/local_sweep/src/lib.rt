@@ -6,5 +6,6 @@ mod amounts;
 mod plans;
 mod sweep;
 
+pub use amounts::push_amount;
 pub use plans::{plan, plan_of_marks};
 pub use sweep::apply;

@@ -1,4 +1,4 @@
-use Rattle.std.proofs.Common.{◌≡◌, ◌+◌, ◌-◌, ◌<◌, [], ◌∷◌, length, drop, sym, ap, ◌∙◌, arith}
+use Rattle.std.proofs.Common.{◌≡◌, ◌+◌, ◌-◌, drop, sym, ap, ◌∙◌, arith}
 use Rattle.object_heap.specs.Heap.{Heap, with_new}
 use Rattle.actor_cell.proofs.Going.{with_new-cons, with_new-nil}
 use Rattle.actor_cell.proofs.Raising.{drop_past, rest_of}

@@ -1,4 +1,4 @@
-use Rattle.std.proofs.Common.{◌≡◌, true, false, sym, ap, ◌∙◌, subst}
+use Rattle.std.proofs.Common.{true, false, sym, ap, ◌∙◌, subst}
 use Rattle.letter_kinds.specs.Counting.{receive}
 use Rattle.machine_rules.specs.Take.{cell_after}
 use Rattle.actor_cell.specs.Cells.{as_cell}

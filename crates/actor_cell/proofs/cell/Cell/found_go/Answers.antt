@@ -1,4 +1,4 @@
-use Rattle.std.proofs.Common.{◌≡◌, Some, sym, ap, ◌∙◌, subst}
+use Rattle.std.proofs.Common.{Some, sym, ap, ◌∙◌, subst}
 use Rattle.std.specs.Prelude.{option_map}
 use Rattle.turn_rules.specs.Segment.{segment_of, Stop}
 use Rattle.turn_step.specs.Turns.{act_of, setting_in}
@@ -26,7 +26,7 @@ returns-in-Ok-move_of-clause-found c =
     let act = act_of c.in-Ok.stop.deed turn in
     let stop : Stop = record { act = act; place = c.in-Ok.stop.place; turn = turn } in
     let is = (λ i. segment_of (setting_in code (sym c.owner.ensures i) (sym c.made.ensures i) (λ n. sym (known_is s.count s.heap s.foreign n) i)) frame s.fields)
-        ∙ c.in-Ok.ensures.ok in
+    ∙ c.in-Ok.ensures.ok in
     ap (option_map (turned_in c.args.weight code s.heap.owner (as_cell s))) (sym c.in-Some.ensures)
     ∙ ap (λ t. Some (turned_at c.args.weight s.heap.owner (as_cell s) t)) is
     ∙ (λ i. Some (record (turned_at c.args.weight s.heap.owner (as_cell s) stop) { act = sym c.in-Ok-move_of.ensures i }))

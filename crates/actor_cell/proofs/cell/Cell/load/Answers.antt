@@ -12,5 +12,5 @@ returns c =
     let s = c.args.self.now in
     let read = c.rows_with-rows.ensures in
     let same = (λ i. let h = with_made (read.2 i) (holdings_of 0 (read.0 i) (read.1 i)) in load_of (row_of (read.0 i).owner h) (known_objects (read.0 i).owner h) c.args.args.now)
-        ∙ load_same c.args.made.now s.count s.heap s.foreign c.args.args.now in
+    ∙ load_same c.args.made.now s.count s.heap s.foreign c.args.args.now in
     subst (λ it. IfOk c.load_of-load.result (λ load. load ≡ it)) same c.load_of-load.ensures.load

@@ -1,7 +1,5 @@
-use Rattle.std.proofs.Common.{◌≡◌, ◌≢◌, ◌+◌, ◌-◌, ◌<◌, ◌≤◌, ◌^◌, true, false, not, eqb, ap, ◌∙◌, arith}
+use Rattle.std.proofs.Common.{◌≡◌, ◌-◌, true, false, not, eqb, ap, ◌∙◌, arith}
 use Rattle.orca_names.specs.Names.{owner_of}
-use Rattle.letter_kinds.specs.Holdings.{row_count}
-use Rattle.std.specs.FinMap as m
 use Rattle.known_rows.specs.Holdings.{holdings_of}
 use Rattle.trace_send.proofs.Steps.{alike, apart, set-actor-at, set-object-at}
 use Rattle.actor_cell.specs.Cells.{as_cell}

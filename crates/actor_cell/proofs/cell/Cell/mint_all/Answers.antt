@@ -1,4 +1,4 @@
-use Rattle.std.proofs.Common.{◌≡◌, ◌+◌, ◌<◌, [], ◌∷◌, get_or, length, drop, sym, ap, ◌∙◌, subst, arith}
+use Rattle.std.proofs.Common.{◌≡◌, ◌+◌, ◌<◌, get_or, length, drop, sym, ap, ◌∙◌, subst, arith}
 use Rattle.letter_kinds.specs.Counting.{mint_all, mint_one}
 use Rattle.machine_rules.specs.Cell as rules
 use Rattle.actor_cell.specs.Can.{CanMint}

@@ -1,4 +1,4 @@
-use Rattle.std.proofs.Common.{◌≡◌, ◌+◌, ◌<◌, sym, ap, ◌∙◌, subst}
+use Rattle.std.proofs.Common.{◌+◌, ◌<◌, sym, ap, ◌∙◌, subst}
 use Rattle.known_rows.specs.Holdings.{holdings_of}
 use Rattle.ref_weights.specs.Limit.{count_limit}
 use Rattle.trace_send.proofs.Steps.{held-is, set-spent}

@@ -27,7 +27,7 @@ loop-amount-preserved c =
     let rest = rest_of things i e inside (c.amount-item.is ∙ ap (λ xs. get_or xs i e) c.as_slice-amount-items.ensures) in
     let can = subst (λ xs. CanRaise me xs before) rest c.loop-amount.invariant.can in
     let step : (as_cell c.raise_one.new.self).holdings ≡ raise_all me (e ∷ []) before =
-        ap (λ (k : rules.Cell). k.holdings) c.raise_one.ensures.counts ∙ ap (λ a. raise_all a (e ∷ []) before) c.loop-amount.invariant.owner in
+    ap (λ (k : rules.Cell). k.holdings) c.raise_one.ensures.counts ∙ ap (λ a. raise_all a (e ∷ []) before) c.loop-amount.invariant.owner in
     record {
       counts = ap (raise_all me (drop (i + 1) things)) step ∙ sym (raise_all-cons me e before (drop (i + 1) things))
           ∙ ap (λ xs. raise_all me xs before) (sym rest) ∙ c.loop-amount.invariant.counts;

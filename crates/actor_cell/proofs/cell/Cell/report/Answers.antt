@@ -1,4 +1,4 @@
-use Rattle.std.proofs.Common.{◌≡◌, ap, ◌∙◌}
+use Rattle.std.proofs.Common.{◌∙◌}
 use Rattle.std.specs.FinMap as m
 use Rattle.letter_kinds.specs.declared.note.Note.TheVariants.{Block}
 use Rattle.actor_cell.proofs.Reporting.{on_actors-is}

@@ -1,4 +1,4 @@
-use Rattle.std.proofs.Common.{◌≡◌, sym, ap, ◌∙◌}
+use Rattle.std.proofs.Common.{sym, ap, ◌∙◌}
 use Rattle.letter_kinds.specs.Counting.{send}
 use Rattle.trace_send.proofs.Steps.{send-nil}
 use Rattle.actor_cell.specs.Cells.{as_cell}

@@ -10,6 +10,6 @@ pub returns-clause-cell : goal.returns-clause-cell
 returns-clause-cell c =
     let s = c.args.self.now in
     let held : c.gain.new.self ≡ entered (λ n. n + c.args.weight) (Actor c.args.name) None s.foreign =
-        c.gain.ensures ∙ ap (λ w. entered (λ n. n + w) (Actor c.args.name) None s.foreign) c.from.ensures in
+    c.gain.ensures ∙ ap (λ w. entered (λ n. n + w) (Actor c.args.name) None s.foreign) c.from.ensures in
     let counts = ap (holdings_of s.count s.heap) held ∙ sym (set-held s.count s.heap s.foreign (λ n. n + c.args.weight) (Actor c.args.name) None) in
     λ i. record (as_cell s) { frame = c.put.ensures i; holdings = counts i }

@@ -1,4 +1,4 @@
-use Rattle.std.proofs.Common.{◌≡◌, Some, None, sym, ap, ◌∙◌}
+use Rattle.std.proofs.Common.{sym, ap, ◌∙◌}
 use Rattle.letter_kinds.specs.Holdings.{row_of}
 use Rattle.known_rows.specs.Holdings.{holdings_of}
 use Rattle.actor_cell.specs.InTurn.{made_in_turn}

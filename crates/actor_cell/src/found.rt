@@ -1,0 +1,47 @@
+// What an actor would do next of itself.
+
+ghost use Rattle.std.specs.Prelude.{◌+◌, ◌^◌, ◌<◌, IfOk};
+ghost use Rattle.local_sweep.specs.Plan.{HoldsOthersOnly};
+ghost use Rattle.actor_cell.specs.Founds.{IsFound};
+
+use crate::cell::Cell;
+use crate::turning::Turned;
+use behaviour_check::Checked;
+use letter_kinds::SweepPlan;
+use orca_names::NoMemory;
+use std::alloc::Global;
+use turn_step::Turn;
+
+/// What an actor would do next of itself, evaluated and not yet done.
+#[derive(Debug, Drop)]
+pub enum Found {
+    /// It goes on: what its turn leaves, and what it does where this stops.
+    Goes { turn: Turn, turned: Turned },
+    /// It collects: what this frees and gives back.
+    Collects { plan: SweepPlan },
+    /// It has no frame, and did nothing since it collected.
+    Nothing,
+}
+
+impl Cell {
+    /// Evaluates its turn where it has a frame, and else its collection where it is dirty.
+    ///
+    /// # Errors
+    /// `NoMemory` where memory was refused.
+    pub fn found(&self, alloc: Global, code: &Checked, weight: u32) -> Result<Found, NoMemory>
+        requires serials { self.now.heap.next + 1024 < 2 ^ 64 }
+        requires others { HoldsOthersOnly self.now.heap self.now.foreign }
+        ensures { IfOk result (IsFound weight code.now self.now) }
+    {
+        if self.frame.is_some() {
+            let mut turn = Turn::new(alloc);
+            let turned = self.found_go(alloc, code, weight, &mut turn)?;
+            return Ok(Found::Goes { turn, turned });
+        }
+        if self.dirty {
+            let plan = self.found_collect(alloc)?;
+            return Ok(Found::Collects { plan });
+        }
+        Ok(Found::Nothing)
+    }
+}
