@@ -111,7 +111,8 @@ impl Cell {
     fn stop_at(&mut self, turn: &Turn, place: u32)
         requires { IsSome self.old.frame }
         ensures cell { (frame : frame_of_rules) → self.old.frame ≡ Some frame
-            → as_cell self.new ≡ record (as_cell self.old) { frame = Some (frame_left frame turn.now place) } }
+            → as_cell self.new
+            ≡ record (as_cell self.old) { frame = Some (frame_left frame turn.now place) } }
         ensures owner { self.new.heap.owner ≡ self.old.heap.owner }
         ensures foreign { self.new.foreign ≡ self.old.foreign }
     {
@@ -146,7 +147,8 @@ impl Cell {
         ensures cell { (frame : frame_of_rules) → self.old.frame ≡ Some frame → as_cell self.new
             ≡ cell_by self.old.heap.owner (as_cell self.old) frame turn.now found.now.place found.now.act }
         ensures owner { self.new.heap.owner ≡ self.old.heap.owner }
-        ensures room { new_entries found.now.act ≤ self.old.foreign.spare → new_entries found.now.act ≤ self.new.foreign.spare }
+        ensures room { new_entries found.now.act ≤ self.old.foreign.spare
+            → new_entries found.now.act ≤ self.new.foreign.spare }
     {
         match &found.act {
             Move::Post { to: _, letter } => {

@@ -73,7 +73,8 @@ impl Cell {
     /// the weight. It takes no memory.
     pub fn settle_new(&mut self, register: u8, name: ActorName, weight: u32)
         requires running { IsSome self.old.frame }
-        requires room { m.get self.old.foreign.entries (actor_thing name) ≡ None → 0 < self.old.foreign.spare }
+        requires room { m.get self.old.foreign.entries (actor_thing name) ≡ None
+            → 0 < self.old.foreign.spare }
         requires fits { count_on self.old.foreign (actor_thing name) + weight < count_limit }
         ensures cell { as_cell self.new ≡ settled weight register name (as_cell self.old) }
         ensures owner { self.new.heap.owner ≡ self.old.heap.owner }

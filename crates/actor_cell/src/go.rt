@@ -37,7 +37,8 @@ fn amounts_of(alloc: Global, things: &[Thing], weight: u32) -> Result<Amounts, N
 impl Cell {
     // The rows that it has, with those that its turn made.
     fn rows_with<'a>(&'a self, made: &'a [Row]) -> TurnRows<'a>
-        ensures { (result.known.heap.now ≡ self.now.heap) × (result.known.foreign.now ≡ self.now.foreign) × (result.made.now ≡ made.now) }
+        ensures { (result.known.heap.now ≡ self.now.heap)
+            × (result.known.foreign.now ≡ self.now.foreign) × (result.made.now ≡ made.now) }
     {
         TurnRows {
             known: KnownRows {

@@ -33,7 +33,8 @@ impl Cell {
     // It has something to do, and did not report that it is blocked.
     fn wake(&mut self) -> Option<Note>
         ensures cell { as_cell self.new ≡ record (as_cell self.old) { dirty = true; reported = false } }
-        ensures note { result ≡ (if self.old.reported then Some (notes.Unblock self.old.heap.owner) else None) }
+        ensures note { let note = notes.Unblock self.old.heap.owner in
+            result ≡ (if self.old.reported then Some note else None) }
         ensures owner { self.new.heap.owner ≡ self.old.heap.owner }
     {
         self.dirty = true;
@@ -86,7 +87,8 @@ impl Cell {
         requires room { HasRoomFor letter.now self.old.foreign.spare }
         ensures cell { as_cell self.new
             ≡ cell_after code.now self.old.heap.owner letter.now (as_cell self.old) }
-        ensures note { result ≡ (if self.old.reported then Some (note_of self.old.heap.owner letter.now) else None) }
+        ensures note { let note = note_of self.old.heap.owner letter.now in
+            result ≡ (if self.old.reported then Some note else None) }
         ensures owner { self.new.heap.owner ≡ self.old.heap.owner }
     {
         match letter {
