@@ -18,7 +18,9 @@ pub record BackRises (back : List (ℕ × List Amount)) : Type 0 where
 
 -- the thing stands in the group of its owner
 abbrev pub goes_back : List (ℕ × List Amount) → Thing → Bool
-goes_back back x = option_map_or (λ things. is_some (find thing_cmp x things)) (find nat_cmp (owner_of x) back) false
+goes_back back x =
+    option_map_or (λ things. is_some (find thing_cmp x things)) (find nat_cmp (owner_of x) back)
+    false
 
 -- an entry that does not go back
 abbrev pub is_kept : List (ℕ × List Amount) → Item → Bool

@@ -10,9 +10,9 @@ ghost use Rattle.letter_kinds.specs.Counting.{Amount};
 ghost use Rattle.plain_list.specs.Rising.{IsAt, IsGap};
 ghost use Rattle.foreign_table.specs.Back.{BackRises, goes_back};
 
+use crate::search::is_below;
 use letter_kinds::Amounts;
 use orca_names::{ActorName, Thing};
-use std::cmp::Ordering;
 
 /// Where what goes back next is likely to stand: a group, and a place in it. It is a guess of a pass
 /// in the order of things, so it needs to be no more than often right.
@@ -42,16 +42,6 @@ impl Near {
     /// The next thing of the group.
     pub(crate) fn step(&mut self) {
         self.place = self.place.wrapping_add(1);
-    }
-}
-
-fn is_below(thing: &Thing, other: &Thing) -> bool
-    ensures { IsTrue result → thing_cmp thing.now other.now ≡ Less }
-{
-    match thing.cmp(other) {
-        Ordering::Less => true,
-        Ordering::Equal => false,
-        Ordering::Greater => false,
     }
 }
 
