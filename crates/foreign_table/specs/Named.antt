@@ -38,7 +38,7 @@ from_get : (t : Table) (n : ObjName) (row : Row) (o : Option (ℕ × Option Row)
 from_get t n row None f e = cc
 from_get t n row (Some v) f e =
     let c = Contains-from_any {eq = is_thing} is_same (Obj n) (m.keys t.entries)
-        (sym (m.contains_key-keys t.entries (Obj n)) ∙ ap is_some f) in
+    (sym (m.contains_key-keys t.entries (Obj n)) ∙ ap is_some f) in
     among_objects (m.keys t.entries) n c.0 c.1 c.2
 
 -- a row that is known is that of a held object

@@ -184,11 +184,7 @@ fn place_of_group(back: &[(ActorName, Amounts)], owner: ActorName) -> Result<usi
 }
 
 // The same, by a guess that is verified.
-fn group_near(
-    back: &[(ActorName, Amounts)],
-    near: usize,
-    owner: ActorName,
-) -> Result<usize, usize>
+fn group_near(back: &[(ActorName, Amounts)], near: usize, owner: ActorName) -> Result<usize, usize>
     requires { T (is_sorted nat_cmp back.now) }
     ensures { MatchResult result (IsAt nat_cmp back.now owner) (IsGap nat_cmp back.now owner) }
 {

@@ -78,14 +78,14 @@ fn all_that_is_held_goes_back(rt: HostRuntime) -> Result<(), Fail> {
     };
     let back = plan.back.as_slice();
     assert_eq!(rt; (plan.free.len(), back.len(), foreign.len()), (0, 2, 0));
-    let first = [
-        (Thing::Actor(ActorName(0)), 256),
-        (Thing::Obj(SHARED), 256),
-    ];
+    let first = [(Thing::Actor(ActorName(0)), 256), (Thing::Obj(SHARED), 256)];
     assert_eq!(rt; back[0].0, ActorName(0));
     assert_eq!(rt; back[0].1.as_slice(), first.as_slice());
     assert_eq!(rt; back[1].0, ActorName(2));
-    assert_eq!(rt; back[1].1.as_slice(), [(Thing::Actor(ActorName(2)), 1)].as_slice());
+    assert_eq!(rt;
+        back[1].1.as_slice(),
+        [(Thing::Actor(ActorName(2)), 1)].as_slice()
+    );
     Ok(())
 }
 

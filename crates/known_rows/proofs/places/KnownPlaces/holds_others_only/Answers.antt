@@ -7,8 +7,7 @@ pub returns : goal.returns
 returns c =
     let s = c.args.self.now in
     let heap = s.rows.heap.now in
-    let foreign = s.rows.foreign.now in
-    (
+    let foreign = s.rows.foreign.now in (
       λ t. others_only heap foreign s.first s.end s.span (eqb-true s.first s.end t),
       λ others. elim (eqb s.first s.end) as (λ b. eqb s.first s.end ≡ b → b ≡ true) [
         | true ↦ λ _. refl
