@@ -16,7 +16,7 @@ use Rattle.plain_list.proofs.Rising.{key_at_place, get_gap, item_len, item_entry
 use Rattle.plain_list.proofs.Sides.{zip-set_left, zip-set_both, zip-insert, zip-remove, length-sides}
 use Rattle.orca_names.proofs.ThingOrder.{thing_total, thing_exact}
 use Rattle.foreign_table.specs.declared.search.Entry.{Entry}
-use Rattle.foreign_table.specs.Entry.{Item, pair_of, key_of, actors_among}
+use Rattle.foreign_table.specs.Entry.{Item, pair_of, bare, key_of}
 use Rattle.foreign_table.specs.Table.{Table, AreHeld, entries_in, count_on, entered, on_actors}
 
 -- the keys are those of the entries alone
@@ -177,14 +177,14 @@ entered_absent change row x t e = ap (λ o. record { spare = t.spare - cond (is_
 
 -- ---- counts on actors
 
-actors_alone : (es : List Entry) (rows : List (Option Row)) → length rows ≡ length es → on_actors (map pair_of (zip es rows)) ≡ actors_among es
+actors_alone : (es : List Entry) (rows : List (Option Row)) → length rows ≡ length es → on_actors (map pair_of (zip es rows)) ≡ on_actors (map bare es)
 actors_alone [] rows e = refl
 actors_alone (o ∷ es) [] e = absurd (omega arith)
 actors_alone (o ∷ es) (r ∷ rows) e = by_thing o.thing (actors_alone es rows (omega arith))
   where
-    by_thing : (x : Thing) → on_actors (map pair_of (zip es rows)) ≡ actors_among es → on_actors ((x, (o.count, r)) ∷ map pair_of (zip es rows)) ≡ actors_among (record { thing = x; count = o.count } ∷ es)
+    by_thing : (x : Thing) → on_actors (map pair_of (zip es rows)) ≡ on_actors (map bare es) → on_actors ((x, (o.count, r)) ∷ map pair_of (zip es rows)) ≡ on_actors ((x, (o.count, None)) ∷ map bare es)
     by_thing (Actor a) same = ap (λ found. (a, o.count) ∷ found) same
     by_thing (Obj n) same = same
 
-pub on_actors-entries : (es : List Entry) (rows : List (Option Row)) → AreHeld es rows → actors_among es ≡ on_actors (m.entries (entries_in es rows))
+pub on_actors-entries : (es : List Entry) (rows : List (Option Row)) → AreHeld es rows → on_actors (map bare es) ≡ on_actors (m.entries (entries_in es rows))
 on_actors-entries es rows h = sym (actors_alone es rows h.long) ∙ ap on_actors (sym (all_entries es rows h))

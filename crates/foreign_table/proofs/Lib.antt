@@ -1,4 +1,6 @@
 pub mod BackLemmas
 pub mod Entries
+pub mod Found
+pub mod Near
 pub mod Owners
 pub mod Same

@@ -8,6 +8,7 @@ use Rattle.std.specs.FinMap.Entries.{find, is_sorted}
 use Rattle.orca_names.specs.Names.{owner_of, thing_cmp}
 use Rattle.orca_names.specs.declared.names.Thing.{Thing}
 use Rattle.letter_kinds.specs.Counting.{Amount}
+use Rattle.foreign_table.specs.Entry.{Item}
 use Rattle.foreign_table.specs.Table.{Table}
 
 -- owners rise, and the things of each
@@ -17,7 +18,13 @@ pub record BackRises (back : List (ℕ × List Amount)) : Type 0 where
 
 -- the thing stands in the group of its owner
 abbrev pub goes_back : List (ℕ × List Amount) → Thing → Bool
-goes_back back x = option_map_or (λ things. is_some (find thing_cmp x things)) (find nat_cmp (owner_of x) back) false
+goes_back back x =
+    option_map_or (λ things. is_some (find thing_cmp x things)) (find nat_cmp (owner_of x) back)
+    false
+
+-- an entry that does not go back
+abbrev pub is_kept : List (ℕ × List Amount) → Item → Bool
+is_kept back e = not (goes_back back e.0.thing)
 
 -- the others stay, and the places of these are room
 abbrev pub given_up : List (ℕ × List Amount) → Table → Table

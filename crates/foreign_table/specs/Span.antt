@@ -9,6 +9,7 @@ pub record IsSpan (owner : ℕ) (things : List Thing) (first end : ℕ) : Type 0
   pub first_within : first ≤ end
   pub end_within : end ≤ length things
   pub below : (k : ℕ) (d : Thing) → k < first → owner_of (slice_index_or things k d) < owner
-  pub own : (k : ℕ) (d : Thing) → first ≤ k → k < end → owner_of (slice_index_or things k d) ≡ owner
+  pub own : (k : ℕ) (d : Thing) → first ≤ k → k < end
+      → owner_of (slice_index_or things k d) ≡ owner
   pub above : (k : ℕ) (d : Thing) → end ≤ k → k < length things
       → owner < owner_of (slice_index_or things k d)

@@ -19,9 +19,11 @@ pub record Table : Type 0 where
   pub entries : Entries
 
 abbrev pub coded_table : Coded Table
-coded_table = code_by (ℕ × Entries) (coded× coded_ℕ (m.code coded_thing (coded× coded_ℕ (coded_option coded_row))))
+coded_table =
+    code_by (ℕ × Entries) (coded× coded_ℕ (m.code coded_thing (coded× coded_ℕ (coded_option coded_row))))
     (λ t. (t.spare, t.entries)) (λ p. record { spare = p.0; entries = p.1 }) (λ _. refl)
 
+-- the map of these entries with the rows beside them
 abbrev pub entries_in : List Entry → List (Option Row) → Entries
 entries_in held rows = m.from_sorted (map pair_of (zip held rows))
 
@@ -47,8 +49,10 @@ entered change x row t = record {
 
 -- its count changed
 abbrev pub counted : (ℕ → ℕ) → Thing → Table → Table
-counted change x t = record t { entries = m.insert t.entries x (change (count_on t x), entry_row (m.get t.entries x)) }
+counted change x t =
+    record t { entries = m.insert t.entries x (change (count_on t x), entry_row (m.get t.entries x)) }
 
+-- one entry less
 abbrev pub without : Thing → Table → Table
 without x t = record { spare = t.spare + 1; entries = m.remove t.entries x }
 

@@ -8,3 +8,6 @@ mod span;
 mod table;
 
 pub use table::ForeignTable;
+
+#[cfg(test)]
+mod tests;

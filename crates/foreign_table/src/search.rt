@@ -1,15 +1,18 @@
 // Where a thing stands among those that are held.
 
-ghost use Rattle.std.specs.Prelude.{map, T};
+ghost use Rattle.std.specs.Prelude.{◌≡◌, ◌≢◌, ◌↔◌, ◌-◌, ◌<◌, ◌≤◌, IsTrue, length, map, slice_index_or, T};
+ghost use Rattle.std.specs.Bool.{OnFalse};
 ghost use Rattle.std.specs.Result.{MatchResult};
+ghost use Rattle.std.specs.declared.cmp.Ordering.TheVariants.{Less};
 ghost use Rattle.std.specs.FinMap.Entries.{is_sorted};
 ghost use Rattle.orca_names.specs.Names.{thing_cmp};
+ghost use Rattle.orca_names.specs.declared.names.Thing.TheVariants.{Obj as object};
 ghost use Rattle.plain_list.specs.Rising.{IsAt, IsGap};
+ghost use Rattle.foreign_table.specs.declared.search.Entry.{Entry as entry};
 ghost use Rattle.foreign_table.specs.Entry.{key_of};
 
-use orca_names::Thing;
+use orca_names::{ObjName, Thing};
 use ref_weights::Held;
-use std::cmp::Ordering;
 
 /// A thing of another actor, and what is held on it. Its row stands at the same place in a list of
 /// rows.
@@ -19,21 +22,93 @@ pub(crate) struct Entry {
     pub(crate) count: Held,
 }
 
-/// The place of the thing, or the place where it would stand.
-pub(crate) fn place_of(held: &[Entry], thing: Thing) -> Result<usize, usize>
+/// Whether a thing comes before another.
+pub(crate) fn is_below(thing: &Thing, other: &Thing) -> bool
+    ensures { IsTrue result ↔ (thing_cmp thing.now other.now ≡ Less) }
+{
+    match thing {
+        Thing::Actor(a) => match other {
+            Thing::Actor(b) => a.0 < b.0,
+            Thing::Obj(n) => a.0 <= n.owner.0,
+        },
+        Thing::Obj(n) => match other {
+            Thing::Actor(b) => n.owner.0 < b.0,
+            Thing::Obj(m) => is_object_below(n, m),
+        },
+    }
+}
+
+fn is_object_below(n: &ObjName, m: &ObjName) -> bool
+    ensures { IsTrue result ↔ (thing_cmp (object n.now) (object m.now) ≡ Less) }
+{
+    if n.owner.0 == m.owner.0 {
+        return n.serial.get() < m.serial.get();
+    }
+    n.owner.0 < m.owner.0
+}
+
+// Whether the thing stands at this place.
+fn stands_at(held: &[Entry], place: usize, thing: &Thing) -> bool
+    ensures there { IsTrue result → (place < length held.now)
+        × ((d : entry) → (slice_index_or held.now place d).thing ≡ thing.now) }
+    ensures other { OnFalse result (place < length held.now
+        → (d : entry) → (slice_index_or held.now place d).thing ≢ thing.now) }
+{
+    if place >= held.len() {
+        return false;
+    }
+    held[place].thing == *thing
+}
+
+// Where an object of the last thing's owner stands if no serial between is missing.
+fn guess(held: &[Entry], n: &ObjName) -> usize {
+    let Some(last) = held.last() else {
+        return 0;
+    };
+    let Thing::Obj(m) = &last.thing else {
+        return 0;
+    };
+    let behind = m.serial.get().wrapping_sub(n.serial.get());
+    held.len().wrapping_sub(1).wrapping_sub(behind as usize)
+}
+
+// The first place whose thing does not come before this one, by halves.
+fn first_from(held: &[Entry], thing: &Thing) -> usize
     requires { T (is_sorted thing_cmp (map key_of held.now)) }
-    ensures { MatchResult result (IsAt thing_cmp (map key_of held.now) thing) (IsGap thing_cmp (map key_of held.now) thing) }
+    ensures within { result ≤ length held.now }
+    ensures below { 0 < result → (d : entry)
+        → thing_cmp (slice_index_or held.now (result - 1) d).thing thing.now ≡ Less }
+    ensures not_below { result < length held.now → (d : entry)
+        → thing_cmp (slice_index_or held.now result d).thing thing.now ≢ Less }
 {
     let mut low = 0;
     let mut high = held.len();
     while low < high {
         let middle = low + (high - low) / 2;
-        let entry = &held[middle];
-        match entry.thing.cmp(&thing) {
-            Ordering::Less => low = middle + 1,
-            Ordering::Equal => return Ok(middle),
-            Ordering::Greater => high = middle,
+        if is_below(&held[middle].thing, thing) {
+            low = middle + 1;
+        } else {
+            high = middle;
         }
     }
-    Err(low)
+    low
+}
+
+/// The place of the thing, or the place where it would stand.
+pub(crate) fn place_of(held: &[Entry], thing: Thing) -> Result<usize, usize>
+    requires { T (is_sorted thing_cmp (map key_of held.now)) }
+    ensures { MatchResult result (IsAt thing_cmp (map key_of held.now) thing)
+        (IsGap thing_cmp (map key_of held.now) thing) }
+{
+    if let Thing::Obj(n) = &thing {
+        let near = guess(held, n);
+        if stands_at(held, near, &thing) {
+            return Ok(near);
+        }
+    }
+    let place = first_from(held, &thing);
+    if stands_at(held, place, &thing) {
+        return Ok(place);
+    }
+    Err(place)
 }

@@ -7,7 +7,7 @@ ghost use Rattle.std.specs.FinMap as m;
 ghost use Rattle.orca_names.specs.Names.{thing_cmp};
 ghost use Rattle.plain_list.specs.Rising.{IsAt};
 ghost use Rattle.foreign_table.specs.Back.{BackRises, given_up};
-ghost use Rattle.foreign_table.specs.Entry.{actors_among, key_of};
+ghost use Rattle.foreign_table.specs.Entry.{bare, key_of};
 ghost use Rattle.foreign_table.specs.Span.{IsSpan};
 ghost use Rattle.foreign_table.specs.Table.{AreHeld, Table, count_on, counted, entered, entries_in, known_row, on_actors, without};
 ghost use Rattle.ref_weights.specs.Limit.{count_limit};
@@ -80,7 +80,8 @@ fn put_entry(held: &mut Vec<Entry>, i: usize, thing: &Thing, by: u64)
     requires fits { by < count_limit }
     requires room { vec_len held.old < vec_capacity held.old }
     requires within { i ≤ vec_len held.old }
-    ensures items { held.new.items ≡ insert held.old.items i (record { thing = thing.now; count = by }) }
+    ensures items { held.new.items
+        ≡ insert held.old.items i (record { thing = thing.now; count = by }) }
     ensures len { vec_len held.new ≡ vec_len held.old + 1 }
     ensures capacity { vec_capacity held.new ≡ vec_capacity held.old }
 {
@@ -101,7 +102,7 @@ fn put_row(rows: &mut Vec<Option<Row>>, i: usize, row: &Option<Row>)
 }
 
 fn actors_of(alloc: Global, held: &[Entry]) -> Result<Vec<(ActorName, u64)>, NoMemory>
-    ensures { IfOk result (λ found. found.items ≡ actors_among held.now) }
+    ensures { IfOk result (λ found. found.items ≡ on_actors (map bare held.now)) }
 {
     let mut found = Vec::new(alloc);
     for entry in held {

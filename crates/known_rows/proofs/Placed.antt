@@ -8,7 +8,7 @@ use Rattle.std.specs.declared.cmp.Ordering.TheVariants.{Less}
 use Rattle.std.specs.FinMap as m
 use Rattle.std.proofs.lemmas.Bool.{cases_lt, eq-eqb, eqb-true, false≢true, ne_eqb, or_right}
 use Rattle.std.proofs.lemmas.Bool.Decides.{nat_tests}
-use Rattle.std.proofs.lemmas.List.{get_or-append_right, get_or-drop, get_or-map, get_or-take, get_or_append_left, length-map, length-take-le, length-drop}
+use Rattle.std.proofs.lemmas.List.{get_or-append_right, get_or-drop, get_or-map, get_or-take, get_or_append_left, length-map, get_or_default, length-take-le, length-drop}
 use Rattle.std.proofs.lemmas.List.Sums.{position_or_len_is}
 use Rattle.std.proofs.lemmas.Option.{get_or_from_slice_get, none-some, slice_get-map, slice_get_read, slice_get_within}
 use Rattle.std.proofs.lemmas.Map.Views.{Contains-from_any}
@@ -25,7 +25,7 @@ use Rattle.foreign_table.specs.Table.{Table, known_row}
 use Rattle.known_rows.specs.InOrder.{AreInOrder, thing_at_place}
 use Rattle.known_rows.specs.Known.{own_key, row_known}
 use Rattle.known_rows.specs.PlaceLaws.{placed_in_order}
-use Rattle.known_rows.specs.Places.{held_above, held_below, own_things, place_in, placed_things}
+use Rattle.known_rows.specs.Places.{HoldsOthersOnly, held_above, held_below, own_things, place_in, placed_things}
 
 -- ---- places in a list
 
@@ -245,6 +245,23 @@ module _ (heap : Heap) (foreign : Table) (first end : ℕ) (span : IsSpan heap.o
           let same = same_serial n (record { owner = heap.owner; serial = get_or (m.keys heap.rows) i n.serial }) there in
           false≢true (sym absent ∙ m.contains_key-keys heap.rows n.serial
           ∙ found (eq_by_cmp nat_cmp) n.serial (m.keys heap.rows) i inside (ap is_eq (ap (nat_cmp n.serial) (sym same) ∙ tied_itself nat_cmp_total n.serial)))
+
+  -- ---- whether something of the actor's own is held
+
+  pub others_only : first ≡ end → HoldsOthersOnly heap foreign
+  others_only same x there own =
+      let key = Contains-from_any {eq = is_thing} is_same x keys (sym (m.contains_key-keys foreign.entries x) ∙ there) in
+      elim (cases_lt key.0 first) as (λ _. ⊥) [
+        | inl l ↦ let low = span.below key.0 x l in let at = ap owner_of key.2 in omega arith
+        | inr l ↦ let high = span.above key.0 x (omega arith) key.1 in let at = ap owner_of key.2 in omega arith
+      ]
+
+  pub not_others_only : first ≢ end → HoldsOthersOnly heap foreign → ⊥
+  not_others_only unequal others =
+      let l : first < end = omega (arith, span.first_within) in
+      let inside : first < length keys = omega (arith, span.end_within) in
+      let x = get_or keys first (Actor 0) in
+      others x (m.contains_key-keys foreign.entries x ∙ found is_thing x keys first inside (is_eq_true x (get_or keys first x) (get_or_default keys first (Actor 0) x inside))) (span.own first (Actor 0) (omega arith) l)
 
   -- ---- rows by place
 

@@ -1,11 +1,16 @@
 -- Places of the things that an actor knows: what it holds, itself, its own objects.
-use Rattle.std.specs.Prelude.{ℕ, nat_lt, List, ◌∷◌, ◌++◌, Option, filter, map, position}
+use Rattle.std.specs.Prelude.{ℕ, ◌≡◌, ◌≢◌, true, nat_lt, List, ◌∷◌, ◌++◌, Option, filter, map, position}
 use Rattle.std.specs.FinMap as m
 use Rattle.orca_names.specs.Names.{is_thing, owner_of}
 use Rattle.orca_names.specs.declared.names.Thing.{Thing}
 use Rattle.orca_names.specs.declared.names.Thing.TheVariants.{Actor, Obj}
 use Rattle.object_heap.specs.Heap.{Heap}
 use Rattle.foreign_table.specs.Table.{Table}
+
+-- each held thing is another's
+abbrev pub HoldsOthersOnly : Heap → Table → Type 0
+HoldsOthersOnly heap foreign =
+    (x : Thing) → m.contains_key foreign.entries x ≡ true → owner_of x ≢ heap.owner
 
 -- the own objects
 abbrev pub own_things : Heap → List Thing

@@ -1,10 +1,10 @@
 // Places of what an actor knows.
 
-ghost use Rattle.std.specs.Prelude.{◌≡◌, ◌≢◌, ◌+◌, ◌-◌, ◌^◌, ◌<◌, ℕ, Some, None, length, slice_get};
+ghost use Rattle.std.specs.Prelude.{◌≡◌, ◌≢◌, ◌↔◌, ◌+◌, ◌-◌, ◌^◌, ◌<◌, ℕ, Some, None, length, slice_get, IsTrue};
 ghost use Rattle.std.specs.FinMap as m;
 ghost use Rattle.foreign_table.specs.Span.{IsSpan};
 ghost use Rattle.known_rows.specs.Known.{row_known};
-ghost use Rattle.known_rows.specs.Places.{place_in, placed_things};
+ghost use Rattle.known_rows.specs.Places.{HoldsOthersOnly, place_in, placed_things};
 ghost use Rattle.orca_names.specs.declared.names.ObjName.{ObjName as object_name};
 ghost use Rattle.std.specs.Option.{option_copied};
 ghost use Rattle.orca_names.specs.Names.{owner_of};
@@ -57,6 +57,14 @@ impl<'a> KnownPlaces<'a> {
             above,
             count,
         }
+    }
+
+    /// Whether each held thing is another's, as in every run.
+    pub fn holds_others_only(&self) -> bool
+        ensures { IsTrue result
+            ↔ HoldsOthersOnly self.now.rows.heap.now self.now.rows.foreign.now }
+    {
+        self.first == self.end
     }
 
     /// The place of an own object, by its place in the order of serials.
@@ -171,7 +179,7 @@ impl PlacedRows for KnownPlaces<'_> {
 
 impl Places for KnownPlaces<'_> {
     ghost use Rattle.std.specs.Prelude.{length};
-    ghost use Rattle.known_rows.specs.Places.{place_in, placed_things};
+    ghost use Rattle.known_rows.specs.Places.{HoldsOthersOnly, place_in, placed_things};
     ghost use Rattle.known_rows.specs.PlaceLaws.{places_below, places_in_order};
 
     ghost place = { λ s. place_in s.rows.heap.now s.rows.foreign.now };

@@ -17,10 +17,10 @@ use Rattle.letter_kinds.specs.Holdings.{Row}
 use Rattle.object_heap.specs.Heap.{Heap}
 use Rattle.foreign_table.specs.Span.{IsSpan}
 use Rattle.foreign_table.specs.Table.{Table}
-use Rattle.known_rows.specs.Places.{place_in}
+use Rattle.known_rows.specs.Places.{HoldsOthersOnly, place_in}
 use Rattle.known_rows.proofs.Placed.{place_above, place_below, place_own, stands_behind}
 use Rattle.local_sweep.specs.Marked.{is_marked}
-use Rattle.local_sweep.specs.Plan.{HoldsOthersOnly, is_freed, object_named, plan_of}
+use Rattle.local_sweep.specs.Plan.{is_freed, object_named, plan_of}
 
 same_filter : {A : Type 0} (p q : A → Bool) (xs : List A) → ((i : ℕ) (x : A) → slice_get xs i ≡ Some x → p x ≡ q x) → filter p xs ≡ filter q xs
 same_filter p q [] h = refl

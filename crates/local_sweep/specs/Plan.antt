@@ -1,7 +1,6 @@
 -- What a sweep frees and gives back.
-use Rattle.std.specs.Prelude.{ℕ, ◌≡◌, ◌≢◌, ◌==◌, ◌||◌, Bool, true, not, List, filter, map}
+use Rattle.std.specs.Prelude.{ℕ, ◌≡◌, ◌==◌, ◌||◌, Bool, not, List, filter, map}
 use Rattle.std.specs.FinMap as m
-use Rattle.orca_names.specs.Names.{owner_of}
 use Rattle.orca_names.specs.declared.names.ObjName.{ObjName}
 use Rattle.orca_names.specs.declared.names.Thing.{Thing}
 use Rattle.orca_names.specs.declared.names.Thing.TheVariants.{Obj}
@@ -38,8 +37,3 @@ plan_of marked heap foreign =
 -- the plan is that of some marks
 abbrev pub IsPlan : Heap → Table → SweepPlan → Type 0
 IsPlan heap foreign plan = (marked : Thing → Bool) × (plan ≡ plan_of marked heap foreign)
-
--- each held thing is another's
-abbrev pub HoldsOthersOnly : Heap → Table → Type 0
-HoldsOthersOnly heap foreign =
-    (x : Thing) → m.contains_key foreign.entries x ≡ true → owner_of x ≢ heap.owner

@@ -8,3 +8,6 @@ mod sweep;
 
 pub use plans::{plan, plan_of_marks};
 pub use sweep::apply;
+
+#[cfg(test)]
+mod tests;

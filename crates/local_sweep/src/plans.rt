@@ -5,9 +5,9 @@ ghost use Rattle.std.specs.FinMap as m;
 ghost use Rattle.orca_names.specs.declared.names.Thing.{Thing as thing};
 ghost use Rattle.letter_kinds.specs.Counting.{Amount, by_owner};
 ghost use Rattle.letter_kinds.specs.Holdings.{Row};
-ghost use Rattle.known_rows.specs.Places.{placed_things};
+ghost use Rattle.known_rows.specs.Places.{HoldsOthersOnly, placed_things};
 ghost use Rattle.local_sweep.specs.Marked.{is_marked, is_reached};
-ghost use Rattle.local_sweep.specs.Plan.{HoldsOthersOnly, back_of, free_of, is_freed, object_named, plan_of};
+ghost use Rattle.local_sweep.specs.Plan.{back_of, free_of, is_freed, object_named, plan_of};
 
 use crate::amounts::push_amount;
 use foreign_table::ForeignTable;

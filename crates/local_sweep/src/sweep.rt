@@ -17,7 +17,8 @@ pub fn apply(plan: &SweepPlan, heap: &mut ObjectHeap, foreign: &mut ForeignTable
     requires { IsPlan heap.old foreign.old plan.now }
     ensures heap { heap.new ≡ freed plan.now.free heap.old }
     ensures foreign { foreign.new ≡ given_up plan.now.back foreign.old }
-    ensures swept { (marked : thing → Bool) (count : ℕ) → plan.now ≡ plan_of marked heap.old foreign.old
+    ensures swept { (marked : thing → Bool) (count : ℕ)
+        → plan.now ≡ plan_of marked heap.old foreign.old
         → holdings_of count heap.new foreign.new
         ≡ sweep marked heap.old.owner (holdings_of count heap.old foreign.old) }
 {

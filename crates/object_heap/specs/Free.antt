@@ -3,16 +3,24 @@ use Rattle.std.specs.Prelude.{ℕ, ◌==◌, ◌<◌, ◌+◌, ◌-◌, Bool, no
 use Rattle.std.specs.List.{list_any}
 use Rattle.std.specs.FinMap as m
 use Rattle.orca_names.specs.declared.names.ObjName.{ObjName}
+use Rattle.object_heap.specs.Entry.{Item}
 use Rattle.object_heap.specs.Heap.{Heap}
 
 -- each serial is below those behind it
 abbrev pub SerialsRise : List ObjName → Type 0
-SerialsRise names = (i j : ℕ) (d : ObjName) → i < j → j < length names → (slice_index_or names i d).serial < (slice_index_or names j d).serial
+SerialsRise names = (i j : ℕ) (d : ObjName) → i < j → j < length names
+    → (slice_index_or names i d).serial < (slice_index_or names j d).serial
 
 -- the serial is not among those that go
 abbrev pub stays : List ObjName → ℕ → Bool
 stays gone k = not (list_any (λ n. n.serial == k) gone)
 
+-- an object that is not among them
+abbrev pub is_kept : List ObjName → Item → Bool
+is_kept gone e = stays gone e.0.serial
+
 -- the others stay, and the places of these are room
 abbrev pub freed : List ObjName → Heap → Heap
-freed gone h = let rows = m.retain_keys h.rows (stays gone) in record h { spare = h.spare + (m.len h.rows - m.len rows); rows = rows }
+freed gone h =
+    let rows = m.retain_keys h.rows (stays gone) in
+    record h { spare = h.spare + (m.len h.rows - m.len rows); rows = rows }

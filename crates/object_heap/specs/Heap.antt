@@ -19,10 +19,17 @@ pub record Heap : Type 0 where
   pub spare : ℕ
   pub rows : OwnRows
 
-abbrev pub coded_heap : Coded Heap
-coded_heap = code_by (ℕ × (ℕ × (ℕ × OwnRows))) (coded× coded_ℕ (coded× coded_ℕ (coded× coded_ℕ (m.code coded_ℕ (coded× coded_row coded_ℕ)))))
-    (λ h. (h.owner, (h.next, (h.spare, h.rows)))) (λ p. record { owner = p.0; next = p.1.0; spare = p.1.1.0; rows = p.1.1.1 }) (λ _. refl)
+abbrev pub coded_rows : Coded OwnRows
+coded_rows = m.code coded_ℕ (coded× coded_row coded_ℕ)
 
+abbrev pub coded_heap : Coded Heap
+coded_heap =
+    code_by (ℕ × (ℕ × (ℕ × OwnRows)))
+    (coded× coded_ℕ (coded× coded_ℕ (coded× coded_ℕ coded_rows)))
+    (λ h. (h.owner, (h.next, (h.spare, h.rows))))
+    (λ p. record { owner = p.0; next = p.1.0; spare = p.1.1.0; rows = p.1.1.1 }) (λ _. refl)
+
+-- the map of these objects with the rows beside them
 abbrev pub rows_in : List Own → List Row → OwnRows
 rows_in own rows = m.from_sorted (map pair_of (zip own rows))
 
@@ -39,18 +46,26 @@ pub record Has (h : Heap) (n : ObjName) : Type 0 where
 
 -- its count changed
 abbrev pub counted : (ℕ → ℕ) → ObjName → Heap → Heap
-counted change n h = record h { rows = with_row_count h.rows n.serial change (m.get h.rows n.serial) }
+counted change n h =
+    record h { rows = with_row_count h.rows n.serial change (m.get h.rows n.serial) }
 
 -- objects more, each with count 0
 abbrev pub with_new : List Row → Heap → Heap
-with_new made h = record h { next = h.next + length made; spare = h.spare - length made; rows = add_rows h.next made h.rows }
+with_new made h =
+    record h {
+      next = h.next + length made;
+      spare = h.spare - length made;
+      rows = add_rows h.next made h.rows;
+    }
 
+-- one object less
 abbrev pub without : ObjName → Heap → Heap
 without n h = record h { spare = h.spare + 1; rows = m.remove h.rows n.serial }
 
 -- the row of an object of this actor
 abbrev pub own_row : Heap → ObjName → Option Row
-own_row h n = if n.owner == h.owner then option_map (λ e. e.0) (m.get h.rows n.serial) else None
+own_row h n =
+    if n.owner == h.owner then option_map (λ e. e.0) (m.get h.rows n.serial) else None
 
 -- all but the room for new objects is the same
 abbrev pub IsSame : Heap → Heap → Type 0

@@ -5,7 +5,7 @@ ghost use Rattle.std.specs.List.{filter, list_any, zip};
 ghost use Rattle.std.proofs.lemmas.List.Filters.{FiltersInPlace};
 ghost use Rattle.orca_names.specs.declared.names.ObjName.{ObjName as object_name};
 ghost use Rattle.object_heap.specs.Entry.{Item};
-ghost use Rattle.object_heap.specs.Free.{stays, SerialsRise};
+ghost use Rattle.object_heap.specs.Free.{SerialsRise, is_kept, stays};
 
 use crate::search::Own;
 use orca_names::{ObjName, Row};
@@ -24,7 +24,8 @@ fn is_at(gone: &[ObjName], place: usize, serial: u64) -> bool
 // Whether the one before this place has a lower serial.
 fn is_past(gone: &[ObjName], place: usize, serial: u64) -> bool
     requires { place ≤ length gone.now }
-    ensures { IsTrue result → 0 < place → (d : object_name) → (slice_index_or gone.now (place - 1) d).serial < serial }
+    ensures { IsTrue result → 0 < place
+        → (d : object_name) → (slice_index_or gone.now (place - 1) d).serial < serial }
 {
     if place == 0 {
         return true;
@@ -34,7 +35,8 @@ fn is_past(gone: &[ObjName], place: usize, serial: u64) -> bool
 
 // Whether the one at this place has a higher serial.
 fn is_ahead(gone: &[ObjName], place: usize, serial: u64) -> bool
-    ensures { IsTrue result → place < length gone.now → (d : object_name) → serial < (slice_index_or gone.now place d).serial }
+    ensures { IsTrue result → place < length gone.now
+        → (d : object_name) → serial < (slice_index_or gone.now place d).serial }
 {
     if place >= gone.len() {
         return true;
@@ -89,10 +91,15 @@ fn keep_one(
     requires within { i < vec_len entries.old }
     requires long { vec_len rows.old ≡ vec_len entries.old }
     requires behind { kept ≤ i }
-    ensures filters { (xs : List Item) → FiltersInPlace (λ e. stays gone.now e.0.serial) xs (zip entries.old.items rows.old.items) kept i → FiltersInPlace (λ e. stays gone.now e.0.serial) xs (zip entries.new.items rows.new.items) result (i + 1) }
+    ensures filters { (xs : List Item) → let before = zip entries.old.items rows.old.items in
+        let after = zip entries.new.items rows.new.items in
+        FiltersInPlace (is_kept gone.now) xs before kept i
+        → FiltersInPlace (is_kept gone.now) xs after result (i + 1) }
     ensures behind { result ≤ i + 1 }
-    ensures len { (vec_len entries.new ≡ vec_len entries.old) × (vec_len rows.new ≡ vec_len rows.old) }
-    ensures capacity { (vec_capacity entries.new ≡ vec_capacity entries.old) × (vec_capacity rows.new ≡ vec_capacity rows.old) }
+    ensures len { (vec_len entries.new ≡ vec_len entries.old)
+        × (vec_len rows.new ≡ vec_len rows.old) }
+    ensures capacity { (vec_capacity entries.new ≡ vec_capacity entries.old)
+        × (vec_capacity rows.new ≡ vec_capacity rows.old) }
 {
     let own = entries[i];
     if !is_kept(gone, i - kept, own.serial) {
@@ -111,10 +118,12 @@ fn keep_one(
 pub(crate) fn keep_others(entries: &mut Vec<Own>, rows: &mut Vec<Row>, gone: &[ObjName])
     requires rising { SerialsRise gone.now }
     requires long { vec_len rows.old ≡ vec_len entries.old }
-    ensures items { zip entries.new.items rows.new.items ≡ filter (λ e. stays gone.now e.0.serial) (zip entries.old.items rows.old.items) }
+    ensures items { zip entries.new.items rows.new.items
+        ≡ filter (is_kept gone.now) (zip entries.old.items rows.old.items) }
     ensures long { vec_len rows.new ≡ vec_len entries.new }
     ensures shorter { vec_len entries.new ≤ vec_len entries.old }
-    ensures capacity { (vec_capacity entries.new ≡ vec_capacity entries.old) × (vec_capacity rows.new ≡ vec_capacity rows.old) }
+    ensures capacity { (vec_capacity entries.new ≡ vec_capacity entries.old)
+        × (vec_capacity rows.new ≡ vec_capacity rows.old) }
 {
     let mut kept = 0;
     let count = entries.len();

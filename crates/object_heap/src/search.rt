@@ -20,7 +20,8 @@ pub(crate) struct Own {
 
 // Where it stands if no serial between is gone.
 fn guess(entries: &[Own], serial: u64) -> Option<usize>
-    ensures { IfSome result (λ i. (i < length entries.now) × ((d : own) → (slice_index_or entries.now i d).serial ≡ serial)) }
+    ensures { IfSome result (λ i. (i < length entries.now)
+        × ((d : own) → (slice_index_or entries.now i d).serial ≡ serial)) }
 {
     let first = entries.first()?.serial;
     if serial < first {
@@ -38,7 +39,8 @@ fn guess(entries: &[Own], serial: u64) -> Option<usize>
 
 fn search(entries: &[Own], serial: u64) -> Result<usize, usize>
     requires { T (is_sorted nat_cmp (map key_of entries.now)) }
-    ensures { MatchResult result (IsAt nat_cmp (map key_of entries.now) serial) (IsGap nat_cmp (map key_of entries.now) serial) }
+    ensures { MatchResult result (IsAt nat_cmp (map key_of entries.now) serial)
+        (IsGap nat_cmp (map key_of entries.now) serial) }
 {
     entries.binary_search_by_key(&serial, |e| e.serial)
 }
@@ -46,7 +48,8 @@ fn search(entries: &[Own], serial: u64) -> Result<usize, usize>
 /// The place of the serial, or the place where it would stand.
 pub(crate) fn place_of(entries: &[Own], serial: Serial) -> Result<usize, usize>
     requires { T (is_sorted nat_cmp (map key_of entries.now)) }
-    ensures { MatchResult result (IsAt nat_cmp (map key_of entries.now) serial) (IsGap nat_cmp (map key_of entries.now) serial) }
+    ensures { MatchResult result (IsAt nat_cmp (map key_of entries.now) serial)
+        (IsGap nat_cmp (map key_of entries.now) serial) }
 {
     let serial = serial.get();
     match guess(entries, serial) {

@@ -14,8 +14,8 @@ returns-then-goes-clause-filters c = λ xs w.
     let long : length rows ≡ length es = omega (arith, c.requires.long, c.args.held.now.ok.0, c.args.rows.now.ok.0) in
     let inside : c.args.i < length es = omega (arith, c.requires.within, c.args.held.now.ok.0) in
     let row = get_or rows c.args.i None in
-    FiltersInPlace-more_no {x = (c.index-entry.result.now, row)} w (omega (arith, length-sides es rows long)) (ap not (sym c.goes.ensures ∙ c.if-goes.true))
-    (item_there es rows c.args.i c.index-entry.result.now row long inside c.index-entry.ensures (get_or_default rows c.args.i None row (omega arith)))
+    FiltersInPlace-more_no {x = (c.index.result.now, row)} w (omega (arith, length-sides es rows long)) (ap not (sym c.goes.ensures ∙ c.if-goes.true))
+    (item_there es rows c.args.i c.index.result.now row long inside c.index.ensures (get_or_default rows c.args.i None row (omega arith)))
 
 pub returns-then-kept-i-clause-filters : goal.returns-then-kept-i-clause-filters
 returns-then-kept-i-clause-filters c = λ xs w.
@@ -24,8 +24,8 @@ returns-then-kept-i-clause-filters c = λ xs w.
     let long : length rows ≡ length es = omega (arith, c.requires.long, c.args.held.now.ok.0, c.args.rows.now.ok.0) in
     let inside : c.args.i < length es = omega (arith, c.requires.within, c.args.held.now.ok.0) in
     let row = get_or rows c.args.i None in
-    FiltersInPlace-more_here {x = (c.index-entry.result.now, row)} w (omega (arith, length-sides es rows long)) (ap not (sym c.goes.ensures ∙ c.if-goes.false))
-    (item_there es rows c.args.i c.index-entry.result.now row long inside c.index-entry.ensures (get_or_default rows c.args.i None row (omega arith))) c.if-kept-i.true
+    FiltersInPlace-more_here {x = (c.index.result.now, row)} w (omega (arith, length-sides es rows long)) (ap not (sym c.goes.ensures ∙ c.if-goes.false))
+    (item_there es rows c.args.i c.index.result.now row long inside c.index.ensures (get_or_default rows c.args.i None row (omega arith))) c.if-kept-i.true
 
 pub returns-clause-filters : goal.returns-clause-filters
 returns-clause-filters c = λ xs w.
@@ -34,6 +34,6 @@ returns-clause-filters c = λ xs w.
     let long : length rows ≡ length es = omega (arith, c.requires.long, c.args.held.now.ok.0, c.args.rows.now.ok.0) in
     let inside : c.args.i < length es = omega (arith, c.requires.within, c.args.held.now.ok.0) in
     subst (λ items. FiltersInPlace (λ (e : Item). not (goes_back c.args.back.now e.0.thing)) xs items (c.args.kept + 1) (c.args.i + 1))
-    (sym (zip-set_both es rows c.args.kept c.index-entry.result.now c.index-row.result.now))
-    (FiltersInPlace-more_set {x = (c.index-entry.result.now, c.index-row.result.now)} w (omega (arith, length-sides es rows long)) (ap not (sym c.goes.ensures ∙ c.if-goes.false))
-    (item_there es rows c.args.i c.index-entry.result.now c.index-row.result.now long inside c.index-entry.ensures c.index-row.ensures))
+    (sym (zip-set_both es rows c.args.kept c.index.result.now c.index-row.result.now))
+    (FiltersInPlace-more_set {x = (c.index.result.now, c.index-row.result.now)} w (omega (arith, length-sides es rows long)) (ap not (sym c.goes.ensures ∙ c.if-goes.false))
+    (item_there es rows c.args.i c.index.result.now c.index-row.result.now long inside c.index.ensures c.index-row.ensures))

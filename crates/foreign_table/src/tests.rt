@@ -1,0 +1,45 @@
+// A table through its calls that may want memory.
+
+use crate::ForeignTable;
+use orca_names::{ActorName, NoMemory, ObjName, Row, Serial, Thing, Value};
+use std::test::Fail;
+
+const fn object(owner: u32, serial: u64) -> Thing {
+    Thing::Obj(ObjName {
+        owner: ActorName(owner),
+        serial: Serial::of(serial),
+    })
+}
+
+fn gain(table: &mut ForeignTable, thing: &Thing, row: &Option<Row>) -> Result<(), NoMemory> {
+    table.reserve(1)?;
+    if table.count(*thing) < 1_000_000 {
+        table.gain(*thing, row, 256);
+    }
+    Ok(())
+}
+
+fn spend(table: &mut ForeignTable, thing: &Thing) {
+    if table.count(*thing) > 0 {
+        table.spend(*thing);
+    }
+}
+
+#[test]
+fn counts_are_held_and_copied(rt: HostRuntime) -> Result<(), Fail> {
+    let alloc = rt.alloc();
+    let mut table = ForeignTable::new(alloc);
+    let row = Some(Row::of(&[Value::Num(7)]));
+    gain(&mut table, &object(3, 0), &row)?;
+    gain(&mut table, &Thing::Actor(ActorName(5)), &None)?;
+    gain(&mut table, &Thing::Actor(ActorName(3)), &None)?;
+    gain(&mut table, &Thing::Actor(ActorName(3)), &None)?;
+    let before = table.copy(alloc)?;
+    assert!(rt; table.same(&before));
+    spend(&mut table, &Thing::Actor(ActorName(5)));
+    assert!(rt; !table.same(&before));
+    let held = [(ActorName(3), 512), (ActorName(5), 255)];
+    assert_eq!(rt; table.held_actors(alloc)?.as_slice(), held.as_slice());
+    assert_eq!(rt; (table.place(&object(3, 0)), table.len()), (Some(1), 3));
+    Ok(())
+}
