@@ -3,7 +3,8 @@
 ghost use Rattle.std.specs.Prelude.{◌≡◌, ◌<◌, ◌++◌, ◌==◌, ◌∷◌, [], ℕ, Some, if◌then◌else◌, not, slice_get, IfOk, OnOk};
 ghost use Rattle.std.specs.FinMap as m;
 ghost use Rattle.letter_kinds.specs.Holdings.{Row};
-ghost use Rattle.local_sweep.specs.Plan.{HoldsOthersOnly, plan_of};
+ghost use Rattle.known_rows.specs.Places.{HoldsOthersOnly};
+ghost use Rattle.local_sweep.specs.Plan.{plan_of};
 ghost use Rattle.machine_rules.specs.Cell.{Cell};
 ghost use Rattle.machine_rules.specs.Collect.{is_marked_by_roots};
 ghost use Rattle.root_trace.specs.Own.{object_root, roots_in};
