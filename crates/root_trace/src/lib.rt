@@ -6,9 +6,12 @@
 mod letters;
 mod needs;
 mod nowhere;
+mod own_rows;
+mod plans;
 
 pub use letters::{load_roots, rows_of};
 pub use needs::missing;
+pub use plans::plan_roots;
 
 #[cfg(test)]
 mod tests;

@@ -1,9 +1,10 @@
-// What letters load and carry, and what a thing that was got lets its taker lack.
+// What letters load and carry, what a thing that was got lets its taker lack, and what is freed.
 
 use crate::nowhere::NoRows;
-use crate::{load_roots, missing, rows_of};
+use crate::{load_roots, missing, plan_roots, rows_of};
 use foreign_table::ForeignTable;
-use orca_names::{ActorName, Args, ObjName, Serial, Thing, Value};
+use object_heap::ObjectHeap;
+use orca_names::{ActorName, Args, Fields, NoMemory, ObjName, Row, Serial, Thing, Value};
 use reach_walk::Unplaced;
 use std::test::Fail;
 
@@ -34,6 +35,32 @@ fn loads_are_what_stands_in_letters(rt: HostRuntime) -> Result<(), Fail> {
         rows_of(alloc, &args, &mut known)?.as_slice(),
         load.as_slice()
     );
+    Ok(())
+}
+
+// A new object with this row.
+fn make(heap: &mut ObjectHeap, row: Row) -> Result<(), NoMemory> {
+    heap.reserve(1)?;
+    if heap.made() < 9 {
+        heap.make(row);
+    }
+    Ok(())
+}
+
+#[test]
+fn what_own_rows_reach_stays(rt: HostRuntime) -> Result<(), Fail> {
+    let alloc = rt.alloc();
+    let mut heap = ObjectHeap::new(alloc, ActorName(0));
+    make(&mut heap, Row::of(&[Value::Num(4)]))?;
+    make(&mut heap, Row::of(&[Value::Null]))?;
+    make(&mut heap, Row::of(&[Value::Obj(object(0))]))?;
+    let fields = Fields {
+        values: Args::of(&[Value::Obj(object(2))]),
+        pinned: false,
+    };
+    let plan = plan_roots(alloc, &fields, &heap, &ForeignTable::new(alloc))?;
+    assert_eq!(rt; plan.free.as_slice(), [object(1)].as_slice());
+    assert_eq!(rt; plan.back.len(), 0);
     Ok(())
 }
 

@@ -1,0 +1,68 @@
+// The rows of an actor's own objects.
+
+ghost use Rattle.std.specs.Prelude.{◌≡◌, Some};
+ghost use Rattle.object_heap.specs.Heap.{own_row};
+
+use known_rows::KnownPlaces;
+use orca_names::{ObjName, Row, RowReader, Thing};
+use reach_walk::{PlacedRows, Places};
+
+/// The rows of the own objects alone, with the places of all that the actor knows.
+#[derive(Drop)]
+pub(crate) struct OwnRows<'a> {
+    pub(crate) known: KnownPlaces<'a>,
+}
+
+impl RowReader for OwnRows<'_> {
+    ghost use Rattle.object_heap.specs.Heap.{own_row};
+    ghost use Rattle.root_trace.specs.Own.{own_names, own_named};
+
+    ghost rows = { λ s. own_row s.known.rows.heap.now };
+
+    ghost all = { λ s. own_names s.known.rows.heap.now };
+
+    fn read_row(&mut self, n: ObjName) -> Option<Row> {
+        let heap = self.known.rows.heap;
+        heap.row(n).copied()
+    }
+
+    ghost within = { λ s n row e. own_named s.known.rows.heap.now n row e };
+}
+
+impl PlacedRows for OwnRows<'_> {
+    fn read_at(&mut self, thing: &Thing, at: Option<usize>, row: &mut Row) -> bool {
+        let heap = self.known.rows.heap;
+        if thing.owner() != heap.owner() {
+            return false;
+        }
+        let mut known = self.known;
+        known.read_at(thing, at, row)
+    }
+}
+
+impl Places for OwnRows<'_> {
+    ghost use Rattle.std.specs.Prelude.{length};
+    ghost use Rattle.known_rows.specs.Places.{place_in, placed_things};
+    ghost use Rattle.known_rows.specs.PlaceLaws.{places_below, places_in_order};
+
+    ghost place = { λ s. place_in s.known.rows.heap.now s.known.rows.foreign.now };
+
+    ghost count = { λ s. length (placed_things s.known.rows.heap.now s.known.rows.foreign.now) };
+
+    fn places(&self) -> usize {
+        self.known.places()
+    }
+
+    fn place_of(&self, thing: &Thing) -> Option<usize> {
+        self.known.place_of(thing)
+    }
+
+    fn thing_at(&self, at: usize) -> Thing {
+        self.known.thing_at(at)
+    }
+
+    ghost below = { λ s x p e. places_below s.known.rows.heap.now s.known.rows.foreign.now x p e };
+
+    ghost in_order = { λ s x y p q e f.
+        places_in_order s.known.rows.heap.now s.known.rows.foreign.now x y p q e f };
+}
