@@ -8,6 +8,7 @@ ghost use Rattle.actor_cell.specs.Outs.{noting, report_of};
 
 use crate::cell::Cell;
 use crate::out::Out;
+use block_report::report;
 use letter_kinds::Note;
 use orca_names::NoMemory;
 use plain_list::Listed;
@@ -21,12 +22,7 @@ impl Cell {
     pub fn report(&self, alloc: Global) -> Result<Note, NoMemory>
         ensures { IfOk result (λ note. note ≡ report_of self.now.heap.owner (as_cell self.now)) }
     {
-        let held = self.foreign.held_actors(alloc)?;
-        Ok(Note::Block {
-            actor: self.heap.owner(),
-            count: self.count.get(),
-            held: Listed::from(held),
-        })
+        report(alloc, self.heap.owner(), self.count.get(), &self.foreign)
     }
 
     /// It reported.
