@@ -119,6 +119,24 @@ impl<'a> KnownPlaces<'a> {
 }
 
 impl KnownPlaces<'_> {
+    // The thing at a place.
+    fn thing_of_place(&self, at: usize) -> Thing
+        requires { at < length (placed_things self.now.rows.heap.now self.now.rows.foreign.now) }
+        ensures { place_in self.now.rows.heap.now self.now.rows.foreign.now result ≡ Some at }
+    {
+        if at < self.first {
+            return self.rows.foreign.thing_at(at);
+        }
+        if at == self.first {
+            return Thing::Actor(self.rows.heap.owner());
+        }
+        if at < self.above {
+            let (n, _, _) = self.rows.heap.at(at - self.first - 1);
+            return Thing::Obj(n);
+        }
+        self.rows.foreign.thing_at(at - self.above + self.end)
+    }
+
     // The row of the object at a place.
     fn row_by_place(&self, at: usize) -> Option<&Row>
         requires { at < length (placed_things self.now.rows.heap.now self.now.rows.foreign.now) }
@@ -202,17 +220,11 @@ impl Places for KnownPlaces<'_> {
     }
 
     fn thing_at(&self, at: usize) -> Thing {
-        if at < self.first {
-            return self.rows.foreign.thing_at(at);
+        if at < self.places() {
+            self.thing_of_place(at)
+        } else {
+            Thing::Actor(self.rows.heap.owner())
         }
-        if at == self.first {
-            return Thing::Actor(self.rows.heap.owner());
-        }
-        if at < self.above {
-            let (n, _, _) = self.rows.heap.at(at - self.first - 1);
-            return Thing::Obj(n);
-        }
-        self.rows.foreign.thing_at(at - self.above + self.end)
     }
 
     ghost below = { λ s x p e. places_below s.rows.heap.now s.rows.foreign.now x p e };

@@ -25,10 +25,10 @@ pub trait Places {
     fn place_of(&self, thing: &Thing) -> Option<usize>
         ensures { result ≡ place self.now thing.now };
 
-    /// The thing at a place: each place has one.
+    /// The thing at a place: each place has one. What is answered where there is no such place means
+    /// nothing.
     fn thing_at(&self, at: usize) -> Thing
-        requires { at < count self.now }
-        ensures { place self.now result ≡ Some at };
+        ensures { at < count self.now → place self.now result ≡ Some at };
 
     /// Places are below their number.
     ghost below: { (s : Self) (x : thing) (p : ℕ) → place s x ≡ Some p → p < count s };

@@ -37,8 +37,8 @@ impl<R> Places for Unplaced<R> {
         None
     }
 
-    fn thing_at(&self, at: usize) -> Thing {
-        Thing::Actor(ActorName(at as u32))
+    fn thing_at(&self, _: usize) -> Thing {
+        Thing::Actor(ActorName(0))
     }
 
     ghost below = { λ _ _ p e. absurd (none-some p e) };

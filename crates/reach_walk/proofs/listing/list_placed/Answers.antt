@@ -18,12 +18,13 @@ loop-from-preserved g c =
     let things = c.loop-from.things.items in
     let t = c.thing_at.result in
     let at = c.in-Some.at in
+    let stands = c.thing_at.ensures (c.requires at c.in-Some.ensures.1) in
     let last : things ++ t ∷ [] ≡ c.push.new.self.items = sym c.in_ok-push-in-Some.ensures.items in
     record {
       listed = subst (ListsBelow place c.args.bits.now (at + 1)) last
-          (lists-next place c.args.bits.now (g.met.P.Places.in_order places) things c.loop-from.from at t c.loop-from.invariant.listed c.in-Some.ensures c.thing_at.ensures);
+          (lists-next place c.args.bits.now (g.met.P.Places.in_order places) things c.loop-from.from at t c.loop-from.invariant.listed c.in-Some.ensures stands);
       spots =
-          spots_more place things t (Some at) c.loop-from.spots.items _ c.loop-from.invariant.spots c.thing_at.ensures c.in_ok-push-in-Some-2.ensures.items
+          spots_more place things t (Some at) c.loop-from.spots.items _ c.loop-from.invariant.spots stands c.in_ok-push-in-Some-2.ensures.items
           ∙ ap (map place) last;
     }
 

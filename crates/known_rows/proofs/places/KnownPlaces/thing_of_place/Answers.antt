@@ -5,7 +5,7 @@ use Rattle.std.proofs.lemmas.Option.{slice_get-map}
 use Rattle.orca_names.specs.declared.names.Thing.TheVariants.{Actor, Obj}
 use Rattle.known_rows.specs.Places.{place_in, placed_things}
 use Rattle.known_rows.proofs.Placed.{count_is, keys_count, place_above, place_below, place_of_owner, place_own}
-use Rattle.known_rows.proofs.places.KnownPlacesPlaces.thing_at.Goals as goal
+use Rattle.known_rows.proofs.places.KnownPlaces.thing_of_place.Goals as goal
 
 pub thing_at-requires : goal.thing_at-requires
 thing_at-requires c =
