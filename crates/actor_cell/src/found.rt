@@ -1,7 +1,7 @@
 // What an actor would do next of itself.
 
 ghost use Rattle.std.specs.Prelude.{◌+◌, ◌^◌, ◌<◌, IfOk};
-ghost use Rattle.local_sweep.specs.Plan.{HoldsOthersOnly};
+ghost use Rattle.known_rows.specs.Places.{HoldsOthersOnly};
 ghost use Rattle.actor_cell.specs.Founds.{IsFound};
 
 use crate::cell::Cell;

@@ -12,12 +12,21 @@ fn make(heap: &mut ObjectHeap, number: u64) -> Result<Option<ObjName>, NoMemory>
     Ok(None)
 }
 
-fn raise(heap: &mut ObjectHeap, n: ObjName) {
-    if heap.has(n) {
-        if heap.count(n) < 1_000_000 {
-            heap.raise(n, 256);
+fn raise(heap: &mut ObjectHeap, n: &ObjName) {
+    if heap.has(*n) {
+        if heap.count(*n) < 1_000_000 {
+            heap.raise(*n, 256);
         }
     }
+}
+
+// The first value of an object, and its place.
+fn look(heap: &ObjectHeap, n: &ObjName) -> (Option<Value>, Option<usize>) {
+    let value = match heap.row(*n) {
+        Some(found) => found.get(0),
+        None => None,
+    };
+    (value, heap.place(*n))
 }
 
 #[test]
@@ -30,11 +39,9 @@ fn objects_are_made_and_copied(rt: HostRuntime) -> Result<(), Fail> {
     };
     let before = heap.copy(alloc)?;
     assert!(rt; heap.same(&before));
-    raise(&mut heap, n);
+    raise(&mut heap, &n);
     assert!(rt; !heap.same(&before));
     assert_eq!(rt; (heap.len(), heap.made(), before.len()), (2, 2, 2));
-    let row = heap.row(n).map(|found| found.at(0));
-    assert_eq!(rt; row, Some(Value::Num(8)));
-    assert_eq!(rt; heap.place(n), Some(1));
+    assert_eq!(rt; look(&heap, &n), (Some(Value::Num(8)), Some(1)));
     Ok(())
 }
