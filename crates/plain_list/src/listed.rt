@@ -50,6 +50,13 @@ impl<T> Listed<T> {
         self.items.as_slice()
     }
 
+    /// The elements themselves, in their order. It takes no memory.
+    pub fn into_vec(self) -> Vec<T>
+        ensures { result.items ≡ self }
+    {
+        self.items
+    }
+
     /// The element at a place, counted from 0, or `None` past the last.
     pub fn get(&self, i: usize) -> Option<&T>
         ensures { option_copied result ≡ slice_get self.now i }
