@@ -8,6 +8,7 @@ pub mod LedTo
 pub mod Loads
 pub mod MarkLaws
 pub mod Named
+pub mod Nothing
 pub mod Noting
 pub mod Owners
 pub mod Placed

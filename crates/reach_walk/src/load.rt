@@ -1,8 +1,8 @@
 // Loads: what a letter's arguments reach, with the rows.
 
-ghost use Rattle.std.specs.Prelude.{◌≡◌, ◌+◌, ◌*◌, ◌<◌, ◌≤◌, IfOk, length, map};
+ghost use Rattle.std.specs.Prelude.{◌≡◌, ◌+◌, ◌*◌, ◌<◌, ◌≤◌, [], IfOk, IsTrue, length, map};
 ghost use Rattle.reach_walk.specs.Marks.{load_of as its_load};
-ghost use Rattle.reach_walk.specs.Reach.{thing_row};
+ghost use Rattle.reach_walk.specs.Reach.{named_by, thing_row};
 
 use crate::places::PlacedRows;
 use crate::walk_rows::{walk_freely, walk_rows};
@@ -11,6 +11,18 @@ use plain_list::Listed;
 use std::alloc::Global;
 use std::sync::ledger::Ledger;
 use step_count::Steps;
+
+// Whether no value names a thing.
+fn names_nothing(values: &[Value]) -> bool
+    ensures { IsTrue result → named_by values.now ≡ [] }
+{
+    for value in values {
+        if value.thing().is_some() {
+            return false;
+        }
+    }
+    true
+}
 
 // The row of a thing, if it has one. The buffer is for the row.
 fn row_at<R: PlacedRows>(
@@ -54,7 +66,8 @@ fn with_rows<R: PlacedRows>(
 }
 
 /// The load of a letter with these arguments: each thing that they reach, with its row. A step is
-/// one thing taken from the worklist or one value looked at.
+/// one thing taken from the worklist or one value looked at. Where no argument names a thing, it
+/// takes no memory.
 ///
 /// # Errors
 /// `NoMemory` where memory was refused.
@@ -70,12 +83,16 @@ pub fn load_within<R: PlacedRows, L: Ledger>(
     ensures rows { (R.rows rows.new ≡ R.rows rows.old) × (R.all rows.new ≡ R.all rows.old) }
     ensures places { (R.place rows.new ≡ R.place rows.old) × (R.count rows.new ≡ R.count rows.old) }
 {
+    if names_nothing(args.as_slice()) {
+        return Ok(Listed::new(alloc));
+    }
     let mut seen = walk_rows(alloc, args.as_slice(), rows, steps)?;
     seen.sort(rows)?;
     with_rows(alloc, seen.things.as_slice(), seen.spots.as_slice(), rows)
 }
 
-/// The load of a letter with these arguments: each thing that they reach, with its row.
+/// The load of a letter with these arguments: each thing that they reach, with its row. Where no
+/// argument names a thing, it takes no memory.
 ///
 /// # Errors
 /// `NoMemory` where memory was refused.
@@ -89,6 +106,9 @@ pub fn load_of<R: PlacedRows>(
     ensures rows { (R.rows rows.new ≡ R.rows rows.old) × (R.all rows.new ≡ R.all rows.old) }
     ensures places { (R.place rows.new ≡ R.place rows.old) × (R.count rows.new ≡ R.count rows.old) }
 {
+    if names_nothing(args.as_slice()) {
+        return Ok(Listed::new(alloc));
+    }
     let mut seen = walk_freely(alloc, args.as_slice(), rows)?;
     seen.sort(rows)?;
     with_rows(alloc, seen.things.as_slice(), seen.spots.as_slice(), rows)

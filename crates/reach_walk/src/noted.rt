@@ -1,6 +1,6 @@
 // Which things a walk has met.
 
-ghost use Rattle.std.specs.Prelude.{◌≡◌, ◌<◌, [], None, IfOk, MatchOption, length};
+ghost use Rattle.std.specs.Prelude.{◌≡◌, ◌<◌, ⊤, [], None, IfOk, MatchOption, length};
 ghost use Rattle.orca_names.specs.declared.names.Thing.{Thing as thing};
 ghost use Rattle.reach_walk.specs.Walk.{AreNoted, Notes};
 
@@ -32,7 +32,7 @@ impl Noted {
 
     /// Notes a thing, at its place if it has one; whether it was not met before.
     pub(crate) fn note(&mut self, thing: &Thing, at: Option<usize>) -> Result<bool, NoMemory>
-        requires { MatchOption at (Unit {0}) (λ p. p < length self.old.bits) }
+        requires { MatchOption at ⊤ (λ p. p < length self.old.bits) }
         ensures { IfOk result (λ is_new. Notes at thing.now self.old self.new is_new) }
     {
         match at {

@@ -1,6 +1,6 @@
 // A small graph by hand: rows that are shared, absent or lead back, owners, roots named twice.
 
-ghost use Rattle.std.specs.Prelude.{◌≡◌, ◌<◌, ◌≤◌, ◌+◌, ◌==◌, IfOk, if◌then◌else◌, true, false, None, Some, Contains, ℕ, [], length, map, slice_get};
+ghost use Rattle.std.specs.Prelude.{◌≡◌, ◌<◌, ◌≤◌, ◌+◌, ◌==◌, ⊤, IfOk, if◌then◌else◌, true, false, None, Some, Contains, ℕ, [], length, map, slice_get};
 ghost use Rattle.std.specs.List.{range_with_len};
 ghost use Rattle.std.proofs.Common.{refl, sym, subst, ◌∙◌, zero-add};
 ghost use Rattle.std.proofs.lemmas.Bool.{eqb-true};
@@ -65,7 +65,7 @@ impl Edges for Nowhere {
 
     ghost all = { λ _. [] };
 
-    ghost Kept = { Unit {0} };
+    ghost Kept = { ⊤ };
 
     ghost kept = { λ _. tt };
 

@@ -1,8 +1,9 @@
-use Rattle.std.proofs.Common.{◌≡◌, map, ap, ◌∙◌}
+use Rattle.std.proofs.Common.{◌≡◌, map, ap, sym, ◌∙◌}
 use Rattle.std.proofs.lemmas.Result.{IfOk-weaker}
 use Rattle.reach_walk.specs.Marks.{marks_of, load_of}
-use Rattle.reach_walk.specs.Reach.{thing_row}
+use Rattle.reach_walk.specs.Reach.{named_by, thing_row}
 use Rattle.reach_walk.proofs.Found.{marks-listed}
+use Rattle.reach_walk.proofs.Nothing.{load_of-nothing}
 use Rattle.reach_walk.proofs.load.load_of.Goals as goal
 
 pub returns-clause-load : goal.returns-clause-load
@@ -11,11 +12,18 @@ returns-clause-load g c =
     let its = g.R.RowReader.rows rows in
     let all = g.R.RowReader.all rows in
     let sorted = c.sort.new.self.things.items in
-    let marks : c.as_slice-2.result.now ≡ marks_of its all c.args.args.now =
-    c.as_slice-2.ensures.value
-    ∙ marks-listed its all c.as_slice.result.now (g.met.R.RowReader.within rows) c.in_ok-seen.seen.things.items sorted
+    let marks : c.as_slice-3.result.now ≡ marks_of its all c.args.args.now =
+    c.as_slice-3.ensures.value
+    ∙ marks-listed its all c.as_slice-2.result.now (g.met.R.RowReader.within rows) c.in_ok-seen.seen.things.items sorted
     c.in_ok-seen.ensures.reached c.in_ok-sort.ensures.same c.in_ok-sort.ensures.rising
-    ∙ ap (marks_of its all) c.as_slice.ensures.value
+    ∙ ap (marks_of its all) c.as_slice-2.ensures.value
     in
     IfOk-weaker c.with_rows.result _ (λ load. load ≡ load_of its all c.args.args.now)
     (λ load e. e ∙ (λ i. map (λ x. (x, thing_row (c.in_ok-seen.ensures.rows.0 i) x)) (marks i))) c.with_rows.ensures.load
+
+pub returns-then-names_nothing-clause-load : goal.returns-then-names_nothing-clause-load
+returns-then-names_nothing-clause-load g c =
+    let none = ap named_by (sym c.as_slice.ensures.value) ∙ c.names_nothing.ensures c.if-names_nothing.true in
+    c.new.ensures
+    ∙ sym (load_of-nothing (g.R.RowReader.rows c.args.rows.now) (g.R.RowReader.all c.args.rows.now)
+    c.args.args.now none)

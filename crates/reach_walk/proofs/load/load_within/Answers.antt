@@ -1,12 +1,13 @@
-use Rattle.std.proofs.Common.{◌≡◌, List, Option, length, map, ap, ◌∙◌, arith}
+use Rattle.std.proofs.Common.{◌≡◌, List, Option, length, map, ap, sym, ◌∙◌, arith}
 use Rattle.std.proofs.lemmas.Result.{IfOk-weaker}
 use Rattle.orca_names.specs.declared.names.Thing.{Thing}
 use Rattle.orca_names.specs.declared.names.Value.{Value}
 use Rattle.reach_walk.specs.Marks.{marks_of, load_of}
-use Rattle.reach_walk.specs.Reach.{thing_row}
+use Rattle.reach_walk.specs.Reach.{named_by, thing_row}
 use Rattle.std.proofs.lemmas.List.{length-map}
 use Rattle.reach_walk.proofs.Distinct.{length-in_order}
 use Rattle.reach_walk.proofs.Found.{marks-listed}
+use Rattle.reach_walk.proofs.Nothing.{load_of-nothing}
 use Rattle.reach_walk.proofs.load.load_within.Goals as goal
 
 pub returns-clause-load : goal.returns-clause-load
@@ -15,11 +16,11 @@ returns-clause-load g c =
     let its = g.R.RowReader.rows rows in
     let all = g.R.RowReader.all rows in
     let sorted = c.sort.new.self.things.items in
-    let marks : c.as_slice-2.result.now ≡ marks_of its all c.args.args.now =
-    c.as_slice-2.ensures.value
-    ∙ marks-listed its all c.as_slice.result.now (g.met.R.RowReader.within rows) c.in_ok-seen.seen.things.items sorted
+    let marks : c.as_slice-3.result.now ≡ marks_of its all c.args.args.now =
+    c.as_slice-3.ensures.value
+    ∙ marks-listed its all c.as_slice-2.result.now (g.met.R.RowReader.within rows) c.in_ok-seen.seen.things.items sorted
     c.in_ok-seen.ensures.reached c.in_ok-sort.ensures.same c.in_ok-sort.ensures.rising
-    ∙ ap (marks_of its all) c.as_slice.ensures.value
+    ∙ ap (marks_of its all) c.as_slice-2.ensures.value
     in
     IfOk-weaker c.with_rows.result _ (λ load. load ≡ load_of its all c.args.args.now)
     (λ load e. e ∙ (λ i. map (λ x. (x, thing_row (c.in_ok-seen.ensures.rows.0 i) x)) (marks i))) c.with_rows.ensures.load
@@ -30,7 +31,14 @@ returns-clause-steps g c =
     let sorted = c.sort.new.self.things.items in
     let same = c.in_ok-sort.ensures.same in
     let many = length-in_order things sorted c.in_ok-seen.ensures.seen.once c.in_ok-sort.ensures.rising (λ x h. (same x).1 h) (λ x h. (same x).0 h) in
-    let slice : length c.as_slice-2.result.now ≡ length sorted = ap length c.as_slice-2.ensures.value in
+    let slice : length c.as_slice-3.result.now ≡ length sorted = ap length c.as_slice-3.ensures.value in
     IfOk-weaker c.with_rows.result _ _
-    (λ load e. omega (arith, ap length e, length-map {B = Thing × Option (List Value)} c.as_slice-2.result.now (λ x. (x, thing_row (g.R.RowReader.rows c.walk_rows.new.rows) x)), slice, many, c.in_ok-seen.ensures.steps, c.as_slice.ensures.room))
+    (λ load e. omega (arith, ap length e, length-map {B = Thing × Option (List Value)} c.as_slice-3.result.now (λ x. (x, thing_row (g.R.RowReader.rows c.walk_rows.new.rows) x)), slice, many, c.in_ok-seen.ensures.steps, c.as_slice-2.ensures.room))
     c.with_rows.ensures.load
+
+pub returns-then-names_nothing-clause-load : goal.returns-then-names_nothing-clause-load
+returns-then-names_nothing-clause-load g c =
+    let none = ap named_by (sym c.as_slice.ensures.value) ∙ c.names_nothing.ensures c.if-names_nothing.true in
+    c.new.ensures
+    ∙ sym (load_of-nothing (g.R.RowReader.rows c.args.rows.now) (g.R.RowReader.all c.args.rows.now)
+    c.args.args.now none)

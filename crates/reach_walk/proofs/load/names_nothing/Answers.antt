@@ -1,0 +1,14 @@
+use Rattle.std.proofs.Common.{◌≡◌, Option, None, Some, [], false, refl, sym, ◌∙◌, arith}
+use Rattle.std.specs.Prelude.{is_some}
+use Rattle.reach_walk.proofs.Named.{push-none}
+use Rattle.reach_walk.proofs.load.names_nothing.Goals as goal
+
+is_none : {X : Type 0} (o : Option X) → is_some o ≡ false → o ≡ None
+is_none None e = refl
+is_none (Some x) e = cc
+
+pub loop-value-preserved : goal.loop-value-preserved
+loop-value-preserved c =
+    let none = is_none c.thing.result (sym c.is_some.ensures ∙ c.if-is_some.false) in
+    sym (push-none [] [] c.args.values.now c.loop-value.value-index c.value-item.result
+    (omega arith) c.value-item.is (sym c.loop-value.invariant) (sym c.thing.ensures ∙ none))

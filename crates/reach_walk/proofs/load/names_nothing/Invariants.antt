@@ -1,0 +1,6 @@
+use Rattle.std.proofs.Common.{◌≡◌, take, []}
+use Rattle.reach_walk.specs.Reach.{named_by}
+use Rattle.reach_walk.proofs.load.names_nothing.Given as goal
+
+abbrev pub invariant-loop-value : goal.invariant-loop-value
+invariant-loop-value l = named_by (take l.value-index l.values) ≡ []
