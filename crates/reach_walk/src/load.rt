@@ -1,6 +1,6 @@
 // Loads: what a letter's arguments reach, with the rows.
 
-ghost use Rattle.std.specs.Prelude.{◌≡◌, ◌+◌, ◌*◌, ◌<◌, ◌≤◌, [], IfOk, IsTrue, length, map};
+ghost use Rattle.std.specs.Prelude.{◌≡◌, ◌↔◌, ◌+◌, ◌*◌, ◌<◌, ◌≤◌, [], IfOk, IsOk, IsTrue, length, map};
 ghost use Rattle.reach_walk.specs.Marks.{load_of as its_load};
 ghost use Rattle.reach_walk.specs.Reach.{named_by, thing_row};
 
@@ -14,7 +14,7 @@ use step_count::Steps;
 
 // Whether no value names a thing.
 fn names_nothing(values: &[Value]) -> bool
-    ensures { IsTrue result → named_by values.now ≡ [] }
+    ensures { IsTrue result ↔ (named_by values.now ≡ []) }
 {
     for value in values {
         if value.thing().is_some() {
@@ -79,6 +79,7 @@ pub fn load_within<R: PlacedRows, L: Ledger>(
 ) -> Result<Listed<(Thing, Option<Row>)>, NoMemory>
     ensures load { IfOk result (λ load.
         load ≡ its_load (R.rows rows.old) (R.all rows.old) args.now) }
+    ensures nothing { named_by args.now ≡ [] → IsOk result }
     ensures steps { IfOk result (λ load. steps.new ≤ steps.old + (9 * length load + 9)) }
     ensures rows { (R.rows rows.new ≡ R.rows rows.old) × (R.all rows.new ≡ R.all rows.old) }
     ensures places { (R.place rows.new ≡ R.place rows.old) × (R.count rows.new ≡ R.count rows.old) }
@@ -103,6 +104,7 @@ pub fn load_of<R: PlacedRows>(
 ) -> Result<Listed<(Thing, Option<Row>)>, NoMemory>
     ensures load { IfOk result (λ load.
         load ≡ its_load (R.rows rows.old) (R.all rows.old) args.now) }
+    ensures nothing { named_by args.now ≡ [] → IsOk result }
     ensures rows { (R.rows rows.new ≡ R.rows rows.old) × (R.all rows.new ≡ R.all rows.old) }
     ensures places { (R.place rows.new ≡ R.place rows.old) × (R.count rows.new ≡ R.count rows.old) }
 {

@@ -23,7 +23,13 @@ returns-clause-load g c =
 
 pub returns-then-names_nothing-clause-load : goal.returns-then-names_nothing-clause-load
 returns-then-names_nothing-clause-load g c =
-    let none = ap named_by (sym c.as_slice.ensures.value) ∙ c.names_nothing.ensures c.if-names_nothing.true in
+    let none = ap named_by (sym c.as_slice.ensures.value) ∙ c.names_nothing.ensures.0 c.if-names_nothing.true in
     c.new.ensures
     ∙ sym (load_of-nothing (g.R.RowReader.rows c.args.rows.now) (g.R.RowReader.all c.args.rows.now)
     c.args.args.now none)
+
+pub returns-clause-nothing : goal.returns-clause-nothing
+returns-clause-nothing g c = λ none.
+    let told = c.names_nothing.ensures.1 (ap named_by c.as_slice.ensures.value ∙ none) in
+    let not_told = c.if-names_nothing.false in
+    cc

@@ -1,6 +1,7 @@
-use Rattle.std.proofs.Common.{◌≡◌, Option, None, Some, [], false, refl, sym, ◌∙◌, arith}
+use Rattle.std.proofs.Common.{◌≡◌, Option, None, Some, [], false, refl, sym, ap, ◌∙◌, arith}
 use Rattle.std.specs.Prelude.{is_some}
 use Rattle.reach_walk.proofs.Named.{push-none}
+use Rattle.reach_walk.proofs.Nothing.{names_something}
 use Rattle.reach_walk.proofs.load.names_nothing.Goals as goal
 
 is_none : {X : Type 0} (o : Option X) → is_some o ≡ false → o ≡ None
@@ -12,3 +13,10 @@ loop-value-preserved c =
     let none = is_none c.thing.result (sym c.is_some.ensures ∙ c.if-is_some.false) in
     sym (push-none [] [] c.args.values.now c.loop-value.value-index c.value-item.result
     (omega arith) c.value-item.is (sym c.loop-value.invariant) (sym c.thing.ensures ∙ none))
+
+pub returns-then-is_some : goal.returns-then-is_some
+returns-then-is_some c =
+    let something = names_something c.args.values.now c.loop-value.value-index c.value-item.result
+    (omega arith) c.value-item.is
+    (ap is_some (sym c.thing.ensures) ∙ sym c.is_some.ensures ∙ c.if-is_some.true) in
+    (λ named. cc, λ none. absurd (something none))
