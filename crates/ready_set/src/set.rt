@@ -16,7 +16,7 @@ pub const PLACES_LIMIT: usize = 262_144;
 
 /// A set of numbers below a bound that can grow, seen by contracts as a list with a place for each
 /// of these numbers: the place is on where its number is in the set.
-#[derive(Drop)]
+#[derive(Debug, Drop)]
 pub struct ReadySet {
     words: Vec<u64>,
     summary: Vec<u64>,
