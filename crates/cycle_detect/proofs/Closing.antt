@@ -9,8 +9,10 @@ use Rattle.letter_kinds.specs.Detector.{Detector, Token, all_acked, close_token,
 use Rattle.letter_kinds.specs.Reports.{drop_report}
 use Rattle.letter_kinds.specs.declared.note.Report.{Report}
 use Rattle.cycle_detect.specs.Open.{acked_by_all, first_acked, IsLowestAcked, numbers}
-use Rattle.cycle_detect.specs.Rising.{AllAbove, Rising}
+use Rattle.std.specs.List.Sorted.{IsStrictlySortedBy}
+use Rattle.std.specs.Ordering.{nat_cmp}
 use Rattle.cycle_detect.proofs.OpenLemmas.{first-above}
+use Rattle.cycle_detect.proofs.RisingLemmas.{AllAbove, first_above, rest_rises}
 
 -- no number is above that of the last token that was opened
 pub opened-acks : (m a n : ℕ) (ts : List Token) → AllByRecursion (λ t. t.number ≤ n) ts
@@ -37,14 +39,14 @@ first-on t ts on = rw on refl
 first-off : (t : Token) (ts : List Token) → all_acked t ≡ false → first_acked (t ∷ ts) ≡ first_acked ts
 first-off t ts off = rw off refl
 
-first_lowest : (ts : List Token) → Rising (numbers ts)
+first_lowest : (ts : List Token) → IsStrictlySortedBy nat_cmp (numbers ts)
     → IfSome (first_acked ts) (λ n. AllByRecursion (λ t. all_acked t ≡ true → n ≤ t.number) ts)
 first_lowest [] h = tt
 first_lowest (t ∷ ts) h =
     let P = λ (o : Option ℕ). IfSome o (λ n. AllByRecursion (λ (u : Token). all_acked u ≡ true → n ≤ u.number) (t ∷ ts)) in
     ⊎_elim
-    (λ (on : all_acked t ≡ true). subst P (sym (first-on t ts on)) (λ _. omega arith, above_all t.number ts h.0))
-    (λ (off : all_acked t ≡ false). subst P (sym (first-off t ts off)) (lowest_more t ts (first_acked ts) off (first_lowest ts h.1)))
+    (λ (on : all_acked t ≡ true). subst P (sym (first-on t ts on)) (λ _. omega arith, above_all t.number ts (first_above t.number (numbers ts) h)))
+    (λ (off : all_acked t ≡ false). subst P (sym (first-off t ts off)) (lowest_more t ts (first_acked ts) off (first_lowest ts (rest_rises t.number (numbers ts) h))))
     (cases_Bool (all_acked t))
 
 acked_more : (t : Token) (ts : List Token) (o : Option ℕ) → IfSome o (λ n. t.number < n)
@@ -53,17 +55,17 @@ acked_more : (t : Token) (ts : List Token) (o : Option ℕ) → IfSome o (λ n. 
 acked_more t ts None lt h = tt
 acked_more t ts (Some n) lt h = grind (arith, nat_tests)
 
-first_is_acked : (ts : List Token) → Rising (numbers ts)
+first_is_acked : (ts : List Token) → IsStrictlySortedBy nat_cmp (numbers ts)
     → IfSome (first_acked ts) (λ n. option_map_or all_acked (find (λ t. t.number == n) ts) false ≡ true)
 first_is_acked [] h = tt
 first_is_acked (t ∷ ts) h =
     let P = λ (o : Option ℕ). IfSome o (λ n. option_map_or all_acked (find (λ (u : Token). u.number == n) (t ∷ ts)) false ≡ true) in
     ⊎_elim
     (λ (on : all_acked t ≡ true). subst P (sym (first-on t ts on)) (rw (eq-eqb t.number t.number refl) on))
-    (λ (off : all_acked t ≡ false). subst P (sym (first-off t ts off)) (acked_more t ts (first_acked ts) (first-above t.number ts h.0) (first_is_acked ts h.1)))
+    (λ (off : all_acked t ≡ false). subst P (sym (first-off t ts off)) (acked_more t ts (first_acked ts) (first-above t.number ts (first_above t.number (numbers ts) h)) (first_is_acked ts (rest_rises t.number (numbers ts) h))))
     (cases_Bool (all_acked t))
 
-pub lowest_acked : (d : Detector) → Rising (numbers d.tokens)
+pub lowest_acked : (d : Detector) → IsStrictlySortedBy nat_cmp (numbers d.tokens)
     → IfSome (first_acked d.tokens) (IsLowestAcked d)
 lowest_acked d h = both (first_acked d.tokens) (first_is_acked d.tokens h) (first_lowest d.tokens h)
   where

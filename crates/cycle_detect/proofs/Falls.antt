@@ -8,14 +8,15 @@ use Rattle.std.proofs.lemmas.List.Sums.{sum_by-cons}
 use Rattle.letter_kinds.specs.Detector.{has}
 use Rattle.letter_kinds.specs.Reports.{told_on, told_on_by}
 use Rattle.letter_kinds.specs.declared.note.Report.{Report}
-use Rattle.cycle_detect.specs.Falling.{AreFalling, In, LosesNone, count_at, held_count, held_left, is_unmarked, told_in, told_without}
+use Rattle.cycle_detect.specs.Falling.{AreFalling, LosesNone, count_at, held_count, held_left, is_unmarked, told_in, told_without}
 use Rattle.cycle_detect.specs.Kept.{actors_of}
 use Rattle.cycle_detect.specs.Marks.{mark_of, off_count}
-use Rattle.cycle_detect.specs.Rising.{Rising}
+use Rattle.std.specs.List.Sorted.{IsStrictlySortedBy}
+use Rattle.std.specs.Ordering.{nat_cmp}
 use Rattle.cycle_detect.proofs.MarksLemmas.{mark_of-set, off_count-none, off_count-set}
-use Rattle.cycle_detect.proofs.RisingLemmas.{above-get, place_is}
 use Rattle.cycle_detect.proofs.Sums.{told_here}
-use Rattle.cycle_detect.proofs.Work.{less_kept, lowered, take_out, without}
+use Rattle.cycle_detect.proofs.Work.{In, less_kept, lowered, take_out, without}
+use Rattle.cycle_detect.proofs.RisingLemmas.{above-get, first_above, place_is, rest_rises}
 
 pub on_ok : {A E P : Type 0} (r : Result A E) → P → OnOk r P
 on_ok (Ok x) h = h
@@ -48,22 +49,18 @@ In_at [] k d lt = absurd (omega arith)
 In_at (r ∷ rs) zero d lt = inl refl
 In_at (r ∷ rs) (suc k) d lt = inr (In_at rs k d (omega arith))
 
-pub place_In : (rs : List Report) (q : Report) → In q rs → (k : ℕ) × ((k < length rs) × (get_or rs k q ≡ q))
-place_In [] q i = absurd i
-place_In (r ∷ rs) q i = ⊎_elim (λ e. (0, (omega arith, sym e))) (λ j. let (k, h) = place_In rs q j in (suc k, (let lt = h.0 in omega arith, h.1))) i
-
 pub length-actors : (rs : List Report) → length (actors_of rs) ≡ length rs
 length-actors [] = refl
 length-actors (r ∷ rs) = ap suc (length-actors rs)
 
-pub mark_at : (ns : List ℕ) (bs : List Bool) (k : ℕ) → Rising ns → k < length ns
+pub mark_at : (ns : List ℕ) (bs : List Bool) (k : ℕ) → IsStrictlySortedBy nat_cmp ns → k < length ns
     → mark_of ns bs (get_or ns k 0) ≡ get_or bs k false
 mark_at [] bs k h lt = absurd (omega arith)
 mark_at (x ∷ xs) [] k h lt = refl
 mark_at (x ∷ xs) (b ∷ bs) zero h lt = rw (eq-eqb x x refl) refl
 mark_at (x ∷ xs) (b ∷ bs) (suc k) h lt =
-    let above = above-get x xs k h.0 (omega arith) in
-    rw (ne_eqb x (get_or xs k 0) (λ e. omega arith)) (mark_at xs bs k h.1 (omega arith))
+    let above = above-get x xs k (first_above x xs h) (omega arith) in
+    rw (ne_eqb x (get_or xs k 0) (λ e. omega arith)) (mark_at xs bs k (rest_rises x xs h) (omega arith))
 
 mark_within : (ns : List ℕ) (off out : List Bool) (a : ℕ) → length out ≡ length ns
     → ((k : ℕ) → get_or off k false ≡ true → get_or out k false ≡ true) → mark_of ns off a ≡ true
@@ -82,7 +79,7 @@ unmarked_within rs off out l h q e =
     let within = mark_within (actors_of rs) off out q.actor (l ∙ sym (length-actors rs)) h in
     grind arith
 
-pub unmarked-set : (rs : List Report) (out : List Bool) (k : ℕ) (d : Report) → Rising (actors_of rs)
+pub unmarked-set : (rs : List Report) (out : List Bool) (k : ℕ) (d : Report) → IsStrictlySortedBy nat_cmp (actors_of rs)
     → length out ≡ length rs → k < length rs → (q : Report)
     → is_unmarked rs (set out k true) q ≡ without (get_or rs k d).actor (is_unmarked rs out) q
 unmarked-set rs out k d up l lt q =
@@ -96,7 +93,7 @@ filter-alike p q (r ∷ rs) h = grind (arith, h r, filter-alike p q rs h)
 
 -- ---- one falls
 
-fell : (rs : List Report) (off out : List Bool) (k v : ℕ) (d : Report) → Rising (actors_of rs)
+fell : (rs : List Report) (off out : List Bool) (k v : ℕ) (d : Report) → IsStrictlySortedBy nat_cmp (actors_of rs)
     → length out ≡ length rs → ((j : ℕ) → get_or off j false ≡ true → get_or out j false ≡ true)
     → LosesNone rs (is_unmarked rs out) → k < length rs
     → told_without rs off (get_or (actors_of rs) k 0) ≤ v → v < count_at rs k
@@ -131,7 +128,7 @@ has-append : (xs : List ℕ) (y a : ℕ) → has (xs ++ y ∷ []) a ≡ (has xs 
 has-append [] y a = grind arith
 has-append (x ∷ xs) y a = grind (arith, has-append xs y a)
 
-module _ (rs : List Report) (up : Rising (actors_of rs)) (limit later : ℕ) (off out : List Bool) (told sums : List ℕ) (work : List ℕ) (k : ℕ)
+module _ (rs : List Report) (up : IsStrictlySortedBy nat_cmp (actors_of rs)) (limit later : ℕ) (off out : List Bool) (told sums : List ℕ) (work : List ℕ) (k : ℕ)
     (h : AreFalling rs limit off out told work) (lt : k < length rs) (long : length sums ≡ length told) (same : (j : ℕ) → j ≢ k → get_or sums j 0 ≡ get_or told j 0)
     (upto : (j : ℕ) → j < later → j ≢ k → j < limit) where
   stays : (get_or out k false ≡ true) ⊎ (count_at rs k ≤ get_or sums k 0)
@@ -196,7 +193,7 @@ check_size out out' work work' k count sum lt one two = ⊎_elim
 -- ---- an entry of one that fell is taken off
 
 by_names : (rs : List Report) (e : ℕ × ℕ) (t k v : ℕ) (off out out' : List Bool) (told work work' : List ℕ) (count : ℕ)
-    → Rising (actors_of rs) → length told ≡ length (actors_of rs) → (e.0 == t) ≡ false
+    → IsStrictlySortedBy nat_cmp (actors_of rs) → length told ≡ length (actors_of rs) → (e.0 == t) ≡ false
     → slice_get (actors_of rs) k ≡ Some e.0 → v + e.1 ≡ get_or told k 0 → count ≡ count_at rs k
     → ((get_or out k false ≡ true) ⊎ (count ≤ get_or (set told k v) k 0) → (out' ≡ out) × (work' ≡ work))
     → (get_or out k false ≡ false → get_or (set told k v) k 0 < count → (out' ≡ set out k true) × (work' ≡ work ++ k ∷ []))
@@ -213,7 +210,7 @@ by_names rs e t k v off out out' told work work' count up long other at left is 
 
 pub take_falls : (rs : List Report) (ns : List ℕ) → ns ≡ actors_of rs
     → (e : ℕ × ℕ) (t k v : ℕ) (off out out' : List Bool) (told work work' : List ℕ) (count : ℕ)
-    → Rising ns → length told ≡ length ns → (e.0 == t) ≡ false → slice_get ns k ≡ Some e.0
+    → IsStrictlySortedBy nat_cmp ns → length told ≡ length ns → (e.0 == t) ≡ false → slice_get ns k ≡ Some e.0
     → v + e.1 ≡ get_or told k 0 → count ≡ count_at rs k
     → ((get_or out k false ≡ true) ⊎ (count ≤ get_or (set told k v) k 0) → (out' ≡ out) × (work' ≡ work))
     → (get_or out k false ≡ false → get_or (set told k v) k 0 < count → (out' ≡ set out k true) × (work' ≡ work ++ k ∷ []))
@@ -263,7 +260,7 @@ popped_off rs limit off out told ws i h lt = record {
   places = (places_front (length rs) out ws i h.places).0;
 }
 
-by_one : (rs : List Report) (off : List Bool) (i x : ℕ) (d : Report) → Rising (actors_of rs)
+by_one : (rs : List Report) (off : List Bool) (i x : ℕ) (d : Report) → IsStrictlySortedBy nat_cmp (actors_of rs)
     → length off ≡ length rs → i < length rs → get_or off i false ≡ false
     → told_without rs (set off i true) x + told_on x (get_or rs i d) ≡ told_without rs off x
 by_one rs off i x d up l lt on =
@@ -274,13 +271,13 @@ by_one rs off i x d up l lt on =
 
 -- without one more, what it told is missing
 pub without_one : (rs : List Report) (ns : List ℕ) → ns ≡ actors_of rs
-    → (off : List Bool) (i x : ℕ) (r : Report) → Rising ns → length off ≡ length ns → i < length ns
+    → (off : List Bool) (i x : ℕ) (r : Report) → IsStrictlySortedBy nat_cmp ns → length off ≡ length ns → i < length ns
     → get_or off i false ≡ false → get_or rs i r ≡ r
     → told_without rs (set off i true) x + told_on x r ≡ told_without rs off x
 without_one rs ns e off i x r up l lt on is =
     let long = length-actors rs in
     let same = ap length e in
-    subst (λ q. told_without rs (set off i true) x + told_on x q ≡ told_without rs off x) is (by_one rs off i x r (subst Rising e up) (omega arith) (omega arith) on)
+    subst (λ q. told_without rs (set off i true) x + told_on x q ≡ told_without rs off x) is (by_one rs off i x r (subst (IsStrictlySortedBy nat_cmp) e up) (omega arith) (omega arith) on)
 
 pub held_left-set : (rs : List Report) (off : List Bool) (i : ℕ) (r : Report) → i < length rs
     → length off ≡ length rs → get_or off i false ≡ false → get_or rs i r ≡ r
@@ -333,7 +330,7 @@ none_size n out work o w = rw (o, w) (omega (arith, off_count-none n))
 
 -- one look at a report that was not looked at
 pub looked : (rs : List Report) (ns : List ℕ) → ns ≡ actors_of rs
-    → (k : ℕ) (off out out' : List Bool) (told sums work work' : List ℕ) (count : ℕ) → Rising ns
+    → (k : ℕ) (off out out' : List Bool) (told sums work work' : List ℕ) (count : ℕ) → IsStrictlySortedBy nat_cmp ns
     → k < length ns → sums ≡ told → (off ≡ replicate (length ns) false) → count ≡ count_at rs k
     → ((j : ℕ) → j < length ns → get_or told j 0 ≡ told_on_by (get_or ns j 0) rs)
     → ((get_or out k false ≡ true) ⊎ (count ≤ get_or told k 0) → (out' ≡ out) × (work' ≡ work))
@@ -343,6 +340,6 @@ looked rs ns e k off out out' told sums work work' count up lt same none is all 
     let long = length-actors rs in
     let names = ap length e in
     subst (λ ss. AreFalling rs (k + 1) off out' ss work') (sym same)
-    (after_check rs (subst Rising e up) k (k + 1) off out told told work k h (omega arith) refl (λ j n. refl) (λ j in_range n. omega arith) out' work' count is
+    (after_check rs (subst (IsStrictlySortedBy nat_cmp) e up) k (k + 1) off out told told work k h (omega arith) refl (λ j n. refl) (λ j in_range n. omega arith) out' work' count is
     (subst (λ xs. told_without rs off (get_or xs k 0) ≤ get_or told k 0) e (let t = all k lt in let w = ap (λ o. told_without rs o (get_or ns k 0)) none ∙ none_without rs (length ns) (get_or ns k 0) in omega arith))
     one two d)

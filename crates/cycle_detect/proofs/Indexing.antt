@@ -5,7 +5,8 @@ use Rattle.std.proofs.lemmas.Bool.{false≢true}
 use Rattle.std.specs.List.{AllByRecursion, find, remove}
 use Rattle.letter_kinds.specs.Detector.{Token, has, in_token, note_ack, all_acked}
 use Rattle.cycle_detect.specs.Open.{first_acked, AreIndexed, HasMemberAt, IsNumberedAt, IsTold, first_with, lower_of, numbers}
-use Rattle.cycle_detect.specs.Rising.{Rising}
+use Rattle.std.specs.List.Sorted.{IsStrictlySortedBy}
+use Rattle.std.specs.Ordering.{nat_cmp}
 use Rattle.cycle_detect.proofs.OpenLemmas.{acks_at, cancel-one, first-filter, first-pending, first-push, first-ready, numbered-filter, numbered-push, numbers-acks, remove-numbered, told-acks, told-push, each-filter, none_first}
 
 -- the token at the place, after the acknowledgement
@@ -27,7 +28,7 @@ acked_index ts told ready n a i t u k at is e on =
     let all = acks_all ts told ready n a i t u k at is e in
     let same : u.number ≡ n = ap (λ (x : Token). x.number) e ∙ (ap (λ (x : Token). x.number) is ∙ at.same t) in
     record {
-      numbered = subst (λ us. Rising (numbers us)) (sym all) (subst Rising (sym (numbers-acks n a ts)) k.numbered);
+      numbered = subst (λ us. IsStrictlySortedBy nat_cmp (numbers us)) (sym all) (subst (IsStrictlySortedBy nat_cmp) (sym (numbers-acks n a ts)) k.numbered);
       members = subst (AllByRecursion (IsTold told)) (sym all) (told-acks told n a ts k.members);
       first = ap (λ o. Some (lower_of o n)) k.first ∙ sym (first-ready n u ts i t k.numbered at.within (at.same t) same on);
     }
@@ -39,7 +40,7 @@ pending_index ts told ready n a i t u k at is e off =
     let all = acks_all ts told ready n a i t u k at is e in
     let now = noted ts n a i t u at is e in
     record {
-      numbered = subst (λ us. Rising (numbers us)) (sym all) (subst Rising (sym (numbers-acks n a ts)) k.numbered);
+      numbered = subst (λ us. IsStrictlySortedBy nat_cmp (numbers us)) (sym all) (subst (IsStrictlySortedBy nat_cmp) (sym (numbers-acks n a ts)) k.numbered);
       members = subst (AllByRecursion (IsTold told)) (sym all) (told-acks told n a ts k.members);
       first = k.first ∙ sym (ap (λ x. first_acked (set ts i x)) now ∙ first-pending n a ts i t at.within (sym (ap all_acked now) ∙ off));
     }
@@ -58,7 +59,7 @@ taken_index ts us told ready first i t k lt is e f =
     let all = taken ts us told ready i t k lt is e in
     let other : Token → Bool = λ u. not (u.number == t.number) in
     record {
-      numbered = subst (λ us. Rising (numbers us)) (sym all) (numbered-filter other ts k.numbered);
+      numbered = subst (λ us. IsStrictlySortedBy nat_cmp (numbers us)) (sym all) (numbered-filter other ts k.numbered);
       members = subst (AllByRecursion (IsTold told)) (sym all) (each-filter (IsTold told) other ts k.members);
       first = f;
     }

@@ -4,7 +4,9 @@ use Rattle.std.proofs.lemmas.Bool.Decides.{nat_tests}
 use Rattle.std.specs.List.{list_all}
 use Rattle.letter_kinds.specs.Detector.{has}
 use Rattle.cycle_detect.specs.Marks.{picked, off_count, mark_of}
-use Rattle.cycle_detect.specs.Rising.{AllAbove, Rising}
+use Rattle.std.specs.List.Sorted.{IsStrictlySortedBy}
+use Rattle.std.specs.Ordering.{nat_cmp}
+use Rattle.cycle_detect.proofs.RisingLemmas.{above-get, AllAbove, first_above, rest_rises}
 
 -- who is below all of them is not among them
 pub has-above : (a b : ℕ) (xs : List ℕ) → a ≤ b → AllAbove b xs → has xs a ≡ false
@@ -22,11 +24,11 @@ mark_of-above a (x ∷ xs) [] h = refl
 mark_of-above a (x ∷ xs) (b ∷ bs) h = grind (arith, nat_tests, h.0, mark_of-above a xs bs h.1)
 
 -- a name is picked where its mark is on
-pub has-picked : (xs : List ℕ) (bs : List Bool) (a : ℕ) → Rising xs
+pub has-picked : (xs : List ℕ) (bs : List Bool) (a : ℕ) → IsStrictlySortedBy nat_cmp xs
     → has (picked xs bs) a ≡ mark_of xs bs a
 has-picked [] bs a h = refl
 has-picked (x ∷ xs) [] a h = refl
-has-picked (x ∷ xs) (b ∷ bs) a h = grind (arith, nat_tests, has-picked xs bs a h.1, picked-above x xs bs h.0, mark_of-above x xs bs h.0)
+has-picked (x ∷ xs) (b ∷ bs) a h = grind (arith, nat_tests, has-picked xs bs a (rest_rises x xs h), picked-above x xs bs (first_above x xs h), mark_of-above x xs bs (first_above x xs h))
 
 filter-agree_above : (p q : ℕ → Bool) (a : ℕ) (xs : List ℕ) → ((x : ℕ) → a < x → p x ≡ q x)
     → AllAbove a xs → filter p xs ≡ filter q xs
@@ -38,32 +40,27 @@ filter-agree p q [] f = refl
 filter-agree p q (x ∷ xs) f = grind (arith, f x, filter-agree p q xs f)
 
 -- the marks pick what they mark
-pub filter-mark_of : (xs : List ℕ) (bs : List Bool) → length bs ≡ length xs → Rising xs
+pub filter-mark_of : (xs : List ℕ) (bs : List Bool) → length bs ≡ length xs → IsStrictlySortedBy nat_cmp xs
     → filter (mark_of xs bs) xs ≡ picked xs bs
 filter-mark_of [] bs l h = refl
 filter-mark_of (x ∷ xs) [] l h = absurd (omega arith)
 filter-mark_of (x ∷ xs) (b ∷ bs) l h =
-    let rest = filter-agree_above (mark_of (x ∷ xs) (b ∷ bs)) (mark_of xs bs) x xs (λ y lt. grind (arith, nat_tests)) h.0 in
-    grind (arith, nat_tests, filter-mark_of xs bs (omega arith) h.1)
+    let rest = filter-agree_above (mark_of (x ∷ xs) (b ∷ bs)) (mark_of xs bs) x xs (λ y lt. grind (arith, nat_tests)) (first_above x xs h) in
+    grind (arith, nat_tests, filter-mark_of xs bs (omega arith) (rest_rises x xs h))
 
 -- one mark is set
-pub mark_of-set : (xs : List ℕ) (bs : List Bool) (i a y : ℕ) → length bs ≡ length xs → Rising xs
+pub mark_of-set : (xs : List ℕ) (bs : List Bool) (i a y : ℕ) → length bs ≡ length xs → IsStrictlySortedBy nat_cmp xs
     → i < length xs → get_or xs i 0 ≡ y
     → mark_of xs (set bs i true) a ≡ (mark_of xs bs a || (a == y))
 mark_of-set [] bs i a y l h lt e = absurd (omega arith)
 mark_of-set (x ∷ xs) [] i a y l h lt e = absurd (omega arith)
 mark_of-set (x ∷ xs) (b ∷ bs) zero a y l h lt e = grind (arith, nat_tests)
 mark_of-set (x ∷ xs) (b ∷ bs) (suc i) a y l h lt e =
-    let above = get-above x xs i h.0 (omega arith) in
-    grind (arith, nat_tests, mark_of-set xs bs i a y (omega arith) h.1 (omega arith) e)
-  where
-    get-above : (x : ℕ) (xs : List ℕ) (i : ℕ) → AllAbove x xs → i < length xs → x < get_or xs i 0
-    get-above x [] i h lt = absurd (omega arith)
-    get-above x (y ∷ xs) zero h lt = h.0
-    get-above x (y ∷ xs) (suc i) h lt = get-above x xs i h.1 (omega arith)
+    let above = above-get x xs i (first_above x xs h) (omega arith) in
+    grind (arith, nat_tests, mark_of-set xs bs i a y (omega arith) (rest_rises x xs h) (omega arith) e)
 
 -- who is acknowledged now: those before, and the member
-pub acked-set : (xs : List ℕ) (bs : List Bool) (i a : ℕ) → length bs ≡ length xs → Rising xs
+pub acked-set : (xs : List ℕ) (bs : List Bool) (i a : ℕ) → length bs ≡ length xs → IsStrictlySortedBy nat_cmp xs
     → i < length xs → get_or xs i 0 ≡ a
     → picked xs (set bs i true) ≡ filter (λ m. has (picked xs bs) m || (m == a)) xs
 acked-set xs bs i a l h lt e =
@@ -77,7 +74,7 @@ filter-other p a [] h = refl
 filter-other p a (x ∷ xs) h = grind (arith, nat_tests, filter-other p a xs)
 
 -- who is no member, or acknowledged before, changes nothing
-pub acked-other : (xs : List ℕ) (bs : List Bool) (a : ℕ) → length bs ≡ length xs → Rising xs
+pub acked-other : (xs : List ℕ) (bs : List Bool) (a : ℕ) → length bs ≡ length xs → IsStrictlySortedBy nat_cmp xs
     → has xs a ≡ false → picked xs bs ≡ filter (λ m. has (picked xs bs) m || (m == a)) xs
 acked-other xs bs a l h n =
     sym (filter-mark_of xs bs l h) ∙ (filter-agree (mark_of xs bs) (has (picked xs bs)) xs (λ x. sym (has-picked xs bs x h))
@@ -88,7 +85,7 @@ set-same [] i lt e = refl
 set-same (b ∷ bs) zero lt e = ap (λ c. c ∷ bs) (sym e)
 set-same (b ∷ bs) (suc i) lt e = ap (λ cs. b ∷ cs) (set-same bs i (omega arith) e)
 
-pub acked-again : (xs : List ℕ) (bs : List Bool) (i a : ℕ) → length bs ≡ length xs → Rising xs
+pub acked-again : (xs : List ℕ) (bs : List Bool) (i a : ℕ) → length bs ≡ length xs → IsStrictlySortedBy nat_cmp xs
     → i < length xs → get_or xs i 0 ≡ a → get_or bs i false ≡ true
     → picked xs bs ≡ filter (λ m. has (picked xs bs) m || (m == a)) xs
 acked-again xs bs i a l h lt e on = ap (picked xs) (sym (set-same bs i (omega arith) on)) ∙ acked-set xs bs i a l h lt e
@@ -109,17 +106,17 @@ off_count-none zero = refl
 off_count-none (suc n) = ap suc (off_count-none n)
 
 -- all are picked where no mark is off
-all_picked : (xs ys : List ℕ) (bs : List Bool) → length bs ≡ length xs → Rising xs → (p : ℕ → Bool)
+all_picked : (xs ys : List ℕ) (bs : List Bool) → length bs ≡ length xs → IsStrictlySortedBy nat_cmp xs → (p : ℕ → Bool)
     → ((x : ℕ) → has xs x ≡ true → p x ≡ mark_of xs bs x) → list_all p xs ≡ (off_count bs == 0)
 all_picked [] ys [] l h p f = refl
 all_picked [] ys (b ∷ bs) l h p f = absurd (omega arith)
 all_picked (x ∷ xs) ys [] l h p f = absurd (omega arith)
 all_picked (x ∷ xs) ys (b ∷ bs) l h p f =
-    let none = has-above x x xs (omega arith) h.0 in
+    let none = has-above x x xs (omega arith) (first_above x xs h) in
     let head : p x ≡ b = f x (grind (arith, nat_tests)) ∙ grind (arith, nat_tests) in
-    let rest = all_picked xs ys bs (omega arith) h.1 p (λ y i. f y (grind (arith, nat_tests)) ∙ grind (arith, nat_tests, none)) in
+    let rest = all_picked xs ys bs (omega arith) (rest_rises x xs h) p (λ y i. f y (grind (arith, nat_tests)) ∙ grind (arith, nat_tests, none)) in
     grind (arith, nat_tests)
 
-pub acked_all : (xs : List ℕ) (bs : List Bool) → length bs ≡ length xs → Rising xs
+pub acked_all : (xs : List ℕ) (bs : List Bool) → length bs ≡ length xs → IsStrictlySortedBy nat_cmp xs
     → list_all (has (picked xs bs)) xs ≡ (off_count bs == 0)
 acked_all xs bs l h = all_picked xs xs bs l h (has (picked xs bs)) (λ x _. has-picked xs bs x h)

@@ -4,7 +4,8 @@ use Rattle.std.proofs.lemmas.List.{length-replicate}
 use Rattle.letter_kinds.specs.Detector.{Token, has, note_ack}
 use Rattle.cycle_detect.specs.Marks.{picked, AreMarks}
 use Rattle.cycle_detect.proofs.MarksLemmas.{acked-set, acked-again, acked-other, off_count-set, off_count-none, picked-none}
-use Rattle.cycle_detect.specs.Rising.{Rising}
+use Rattle.std.specs.List.Sorted.{IsStrictlySortedBy}
+use Rattle.std.specs.Ordering.{nat_cmp}
 use Rattle.cycle_detect.proofs.RisingLemmas.{place_is}
 
 abbrev token_told : ℕ → List ℕ → List Bool → Token
@@ -66,7 +67,7 @@ acks_other n ms bs missing a k out =
 
 -- a new token
 pub fresh_marks : (ms xs : List ℕ) (bs : List Bool) → xs ≡ ms → bs ≡ replicate (length ms) false
-    → Rising ms → AreMarks xs bs (length ms)
+    → IsStrictlySortedBy nat_cmp ms → AreMarks xs bs (length ms)
 fresh_marks ms xs bs e f h = rw (e, f) record { rising = h; long = length-replicate (length ms) false; count = sym (off_count-none (length ms)) }
 
 pub fresh_token : (n : ℕ) (ms xs : List ℕ) (bs : List Bool) → xs ≡ ms

@@ -4,12 +4,12 @@ use Rattle.std.proofs.lemmas.Bool.Decides.{nat_tests}
 use Rattle.std.proofs.lemmas.Bool.{and_from, and_parts, cases_Bool, cond_both, false≢true, or_left, or_right}
 use Rattle.std.proofs.lemmas.Cmp.{ranked}
 use Rattle.std.specs.List.{AllByRecursion, find, list_all, remove}
-use Rattle.std.specs.List.Sorted.{IsBinarySearchResult, IsNonDecreasingBy, IsSearchInRange}
+use Rattle.std.specs.List.Sorted.{IsBinarySearchResult, IsNonDecreasingBy, IsSearchInRange, IsStrictlySortedBy}
 use Rattle.std.specs.Ordering.{nat_cmp, ordering_index}
 use Rattle.std.specs.Result.{result_ok}
 use Rattle.letter_kinds.specs.Detector.{Token, has, in_token, note_ack, all_acked}
 use Rattle.cycle_detect.specs.Open.{first_acked, HasMemberAt, IsNumberedAt, IsTold, first_with, lower_of, numbers}
-use Rattle.cycle_detect.specs.Rising.{AllAbove, Rising}
+use Rattle.cycle_detect.proofs.RisingLemmas.{AllAbove, first_above, none_rise, rest_rises, rising-cons}
 
 -- ---- by number
 
@@ -19,25 +19,25 @@ above_number n [] i d h lt = absurd (omega arith)
 above_number n (t ∷ ts) zero d h lt = h.0
 above_number n (t ∷ ts) (suc i) d h lt = above_number n ts i d h.1 (omega arith)
 
-numbers_rise : (ts : List Token) → Rising (numbers ts) → (i j : ℕ) (d : Token) → i ≤ j
+numbers_rise : (ts : List Token) → IsStrictlySortedBy nat_cmp (numbers ts) → (i j : ℕ) (d : Token) → i ≤ j
     → j < length ts → (get_or ts i d).number ≤ (get_or ts j d).number
 numbers_rise [] h i j d le lt = absurd (omega arith)
 numbers_rise (t ∷ ts) h zero zero d le lt = omega arith
-numbers_rise (t ∷ ts) h zero (suc j) d le lt = omega (arith, above_number t.number ts j d h.0 (omega arith))
+numbers_rise (t ∷ ts) h zero (suc j) d le lt = omega (arith, above_number t.number ts j d (first_above t.number (numbers ts) h) (omega arith))
 numbers_rise (t ∷ ts) h (suc i) zero d le lt = absurd (omega arith)
-numbers_rise (t ∷ ts) h (suc i) (suc j) d le lt = numbers_rise ts h.1 i j d (omega arith) (omega arith)
+numbers_rise (t ∷ ts) h (suc i) (suc j) d le lt = numbers_rise ts (rest_rises t.number (numbers ts) h) i j d (omega arith) (omega arith)
 
-comparisons_rise : (ts : List Token) (n : ℕ) → Rising (numbers ts)
+comparisons_rise : (ts : List Token) (n : ℕ) → IsStrictlySortedBy nat_cmp (numbers ts)
     → IsNonDecreasingBy (λ t. ordering_index (nat_cmp t.number n)) ts
 comparisons_rise ts n h = λ i j d le lt. let rise = numbers_rise ts h i j d le lt in grind (arith, nat_tests)
 
-find_at : (ts : List Token) (n i : ℕ) (d : Token) → Rising (numbers ts) → i < length ts
+find_at : (ts : List Token) (n i : ℕ) (d : Token) → IsStrictlySortedBy nat_cmp (numbers ts) → i < length ts
     → (get_or ts i d).number ≡ n → slice_get ts i ≡ find (λ t. t.number == n) ts
 find_at [] n i d h lt e = absurd (omega arith)
 find_at (t ∷ ts) n zero d h lt e = grind (arith, nat_tests)
 find_at (t ∷ ts) n (suc i) d h lt e =
-    let above = above_number t.number ts i d h.0 (omega arith) in
-    grind (arith, nat_tests, find_at ts n i d h.1 (omega arith) e)
+    let above = above_number t.number ts i d (first_above t.number (numbers ts) h) (omega arith) in
+    grind (arith, nat_tests, find_at ts n i d (rest_rises t.number (numbers ts) h) (omega arith) e)
 
 find_gap : (ts : List Token) (n i : ℕ) (d : Token) → ((k : ℕ) → k < i → (get_or ts k d).number < n)
     → ((k : ℕ) → i ≤ k → k < length ts → n < (get_or ts k d).number)
@@ -53,7 +53,7 @@ find_gap (t ∷ ts) n (suc i) d below above =
 abbrev no_token : Token
 no_token = record { number = 0; members = []; acked = [] }
 
-pub number_found : (ts : List Token) (n : ℕ) (r : Result ℕ ℕ) → Rising (numbers ts)
+pub number_found : (ts : List Token) (n : ℕ) (r : Result ℕ ℕ) → IsStrictlySortedBy nat_cmp (numbers ts)
     → IsSearchInRange r (length ts) → IsBinarySearchResult (λ t. nat_cmp t.number n) ts r
     → IfSome (result_ok r) (IsNumberedAt ts n)
 number_found ts n (Ok i) h within s = record {
@@ -63,7 +63,7 @@ number_found ts n (Ok i) h within s = record {
 }
 number_found ts n (Err i) h within s = tt
 
-pub number_absent : (ts : List Token) (n : ℕ) (r : Result ℕ ℕ) → Rising (numbers ts)
+pub number_absent : (ts : List Token) (n : ℕ) (r : Result ℕ ℕ) → IsStrictlySortedBy nat_cmp (numbers ts)
     → IsSearchInRange r (length ts) → IsBinarySearchResult (λ t. nat_cmp t.number n) ts r
     → IfNone (result_ok r) (find (λ (t : Token). t.number == n) ts ≡ None)
 number_absent ts n (Ok i) h within s = tt
@@ -78,23 +78,23 @@ number_kept : (n : ℕ) (ts : List Token) → AllAbove n (numbers ts)
 number_kept n [] h = refl
 number_kept n (t ∷ ts) h = grind (arith, nat_tests, h.0, number_kept n ts h.1)
 
-pub remove-numbered : (ts : List Token) (n i : ℕ) (d : Token) → Rising (numbers ts) → i < length ts
+pub remove-numbered : (ts : List Token) (n i : ℕ) (d : Token) → IsStrictlySortedBy nat_cmp (numbers ts) → i < length ts
     → (get_or ts i d).number ≡ n → remove ts i ≡ filter (λ u. not (u.number == n)) ts
 remove-numbered [] n i d h lt e = absurd (omega arith)
-remove-numbered (t ∷ ts) n zero d h lt e = grind (arith, nat_tests, number_kept t.number ts h.0)
+remove-numbered (t ∷ ts) n zero d h lt e = grind (arith, nat_tests, number_kept t.number ts (first_above t.number (numbers ts) h))
 remove-numbered (t ∷ ts) n (suc i) d h lt e =
-    let above = above_number t.number ts i d h.0 (omega arith) in
-    grind (arith, nat_tests, remove-numbered ts n i d h.1 (omega arith) e)
+    let above = above_number t.number ts i d (first_above t.number (numbers ts) h) (omega arith) in
+    grind (arith, nat_tests, remove-numbered ts n i d (rest_rises t.number (numbers ts) h) (omega arith) e)
 
 above-filter : (n : ℕ) (p : Token → Bool) (ts : List Token) → AllAbove n (numbers ts)
     → AllAbove n (numbers (filter p ts))
 above-filter n p [] h = tt
 above-filter n p (t ∷ ts) h = cond_both (p t) (t ∷ filter p ts) (filter p ts) (λ us. AllAbove n (numbers us)) (λ _. (h.0, above-filter n p ts h.1)) (λ _. above-filter n p ts h.1)
 
-pub numbered-filter : (p : Token → Bool) (ts : List Token) → Rising (numbers ts)
-    → Rising (numbers (filter p ts))
-numbered-filter p [] h = tt
-numbered-filter p (t ∷ ts) h = cond_both (p t) (t ∷ filter p ts) (filter p ts) (λ us. Rising (numbers us)) (λ _. (above-filter t.number p ts h.0, numbered-filter p ts h.1)) (λ _. numbered-filter p ts h.1)
+pub numbered-filter : (p : Token → Bool) (ts : List Token) → IsStrictlySortedBy nat_cmp (numbers ts)
+    → IsStrictlySortedBy nat_cmp (numbers (filter p ts))
+numbered-filter p [] h = none_rise
+numbered-filter p (t ∷ ts) h = cond_both (p t) (t ∷ filter p ts) (filter p ts) (λ us. IsStrictlySortedBy nat_cmp (numbers us)) (λ _. rising-cons t.number (numbers (filter p ts)) (above-filter t.number p ts (first_above t.number (numbers ts) h)) (numbered-filter p ts (rest_rises t.number (numbers ts) h))) (λ _. numbered-filter p ts (rest_rises t.number (numbers ts) h))
 
 -- the first that is acknowledged stays the first while another goes
 pub first-filter : (n : ℕ) (ts : List Token) → first_acked ts ≢ Some n
@@ -138,14 +138,14 @@ acks_none n a (t ∷ ts) h =
     let same = other_ack n a t (λ e. false≢true (sym off ∙ eq-eqb t.number n e)) in
     cc (rest, same)
 
-pub acks_at : (n a : ℕ) (ts : List Token) (i : ℕ) (d : Token) → Rising (numbers ts) → i < length ts
+pub acks_at : (n a : ℕ) (ts : List Token) (i : ℕ) (d : Token) → IsStrictlySortedBy nat_cmp (numbers ts) → i < length ts
     → (get_or ts i d).number ≡ n → map (note_ack n a) ts ≡ set ts i (note_ack n a (get_or ts i d))
 acks_at n a [] i d h lt e = absurd (omega arith)
-acks_at n a (t ∷ ts) zero d h lt e = ap (λ us. note_ack n a t ∷ us) (acks_above n a ts (subst (λ k. AllAbove k (numbers ts)) e h.0))
+acks_at n a (t ∷ ts) zero d h lt e = ap (λ us. note_ack n a t ∷ us) (acks_above n a ts (subst (λ k. AllAbove k (numbers ts)) e (first_above t.number (numbers ts) h)))
 acks_at n a (t ∷ ts) (suc i) d h lt e =
-    let above = above_number t.number ts i d h.0 (omega arith) in
+    let above = above_number t.number ts i d (first_above t.number (numbers ts) h) (omega arith) in
     let same = other_ack n a t (λ e'. omega arith) in
-    cc (acks_at n a ts i d h.1 (omega arith) e, same)
+    cc (acks_at n a ts i d (rest_rises t.number (numbers ts) h) (omega arith) e, same)
 
 pub numbers-acks : (n a : ℕ) (ts : List Token) → numbers (map (note_ack n a) ts) ≡ numbers ts
 numbers-acks n a [] = refl
@@ -204,21 +204,21 @@ lower_above None n h = refl
 lower_above (Some k) n h = grind arith
 
 -- once it is, it may be the first
-pub first-ready : (n : ℕ) (u : Token) (ts : List Token) (i : ℕ) (d : Token) → Rising (numbers ts)
+pub first-ready : (n : ℕ) (u : Token) (ts : List Token) (i : ℕ) (d : Token) → IsStrictlySortedBy nat_cmp (numbers ts)
     → i < length ts → (get_or ts i d).number ≡ n → u.number ≡ n → all_acked u ≡ true
     → first_acked (set ts i u) ≡ Some (lower_of (first_acked ts) n)
 first-ready n u [] i d h lt e f on = absurd (omega arith)
 first-ready n u (t ∷ ts) zero d h lt e f on =
-    let above : AllAbove n (numbers ts) = subst (λ k. AllAbove k (numbers ts)) e h.0 in
+    let above : AllAbove n (numbers ts) = subst (λ k. AllAbove k (numbers ts)) e (first_above t.number (numbers ts) h) in
     ⊎_elim
     (λ (was : all_acked t ≡ true). rw (on, was) (grind arith))
     (λ (was : all_acked t ≡ false). rw (on, was) (ap (λ k. Some k) (f ∙ sym (lower_above (first_acked ts) n (first-above n ts above)))))
     (cases_Bool (all_acked t))
 first-ready n u (t ∷ ts) (suc i) d h lt e f on =
-    let above = above_number t.number ts i d h.0 (omega arith) in
+    let above = above_number t.number ts i d (first_above t.number (numbers ts) h) (omega arith) in
     ⊎_elim
     (λ (was : all_acked t ≡ true). rw was (grind arith))
-    (λ (was : all_acked t ≡ false). rw was (first-ready n u ts i d h.1 (omega arith) e f on))
+    (λ (was : all_acked t ≡ false). rw was (first-ready n u ts i d (rest_rises t.number (numbers ts) h) (omega arith) e f on))
     (cases_Bool (all_acked t))
 
 -- a further token is the last
@@ -265,15 +265,15 @@ told_number told a (t ∷ ts) zero d h lt e = h.0 a e
 told_number told a (t ∷ ts) (suc i) d h lt e = told_number told a ts i d h.1 (omega arith) e
 
 pub in-other : (told : ℕ → Option ℕ) (n a : ℕ) (ts : List Token) (i : ℕ) (d : Token)
-    → told a ≡ Some n → Rising (numbers ts) → AllByRecursion (IsTold told) ts → i < length ts
+    → told a ≡ Some n → IsStrictlySortedBy nat_cmp (numbers ts) → AllByRecursion (IsTold told) ts → i < length ts
     → (get_or ts i d).number ≡ n → has (get_or ts i d).members a ≡ false → in_token ts a ≡ false
 in-other told n a [] i d e up h lt same out = absurd (omega arith)
-in-other told n a (t ∷ ts) zero d e up h lt same out = rw out (told_above told n a ts e (subst (λ k. AllAbove k (numbers ts)) same up.0) h.1)
+in-other told n a (t ∷ ts) zero d e up h lt same out = rw out (told_above told n a ts e (subst (λ k. AllAbove k (numbers ts)) same (first_above t.number (numbers ts) up)) h.1)
 in-other told n a (t ∷ ts) (suc i) d e up h lt same out =
-    let above = above_number t.number ts i d up.0 (omega arith) in
+    let above = above_number t.number ts i d (first_above t.number (numbers ts) up) (omega arith) in
     ⊎_elim
     (λ (on : has t.members a ≡ true). absurd (let one : Some n ≡ Some t.number = sym e ∙ h.0 a on in let eq : n ≡ t.number = cc in omega arith))
-    (λ (off : has t.members a ≡ false). rw off (in-other told n a ts i d e up.1 h.1 (omega arith) same out))
+    (λ (off : has t.members a ≡ false). rw off (in-other told n a ts i d e (rest_rises t.number (numbers ts) up) h.1 (omega arith) same out))
     (cases_Bool (has t.members a))
 
 pub in-at : (a : ℕ) (ts : List Token) (i : ℕ) (d : Token) → i < length ts
@@ -289,18 +289,18 @@ cancel-none a (t ∷ ts) h = grind (arith, cancel-none a ts)
 
 -- a member's token is the only one that goes with it
 pub cancel-one : (told : ℕ → Option ℕ) (a : ℕ) (ts : List Token) (i : ℕ) (d : Token)
-    → Rising (numbers ts) → AllByRecursion (IsTold told) ts → i < length ts
+    → IsStrictlySortedBy nat_cmp (numbers ts) → AllByRecursion (IsTold told) ts → i < length ts
     → has (get_or ts i d).members a ≡ true
     → filter (λ u. not (u.number == (get_or ts i d).number)) ts ≡ filter (λ t. not (has t.members a)) ts
 cancel-one told a [] i d up h lt e = absurd (omega arith)
 cancel-one told a (t ∷ ts) zero d up h lt e =
-    let rest = number_kept t.number ts up.0 in
-    let out = cancel-none a ts (told_above told t.number a ts (h.0 a e) up.0 h.1) in
+    let rest = number_kept t.number ts (first_above t.number (numbers ts) up) in
+    let out = cancel-none a ts (told_above told t.number a ts (h.0 a e) (first_above t.number (numbers ts) up) h.1) in
     grind (arith, nat_tests)
 cancel-one told a (t ∷ ts) (suc i) d up h lt e =
-    let above = above_number t.number ts i d up.0 (omega arith) in
+    let above = above_number t.number ts i d (first_above t.number (numbers ts) up) (omega arith) in
     let is = told_number told a ts i d h.1 (omega arith) e in
-    let more = cancel-one told a ts i d up.1 h.1 (omega arith) e in
+    let more = cancel-one told a ts i d (rest_rises t.number (numbers ts) up) h.1 (omega arith) e in
     ⊎_elim
     (λ (on : has t.members a ≡ true). absurd (let one : Some (get_or ts i d).number ≡ Some t.number = sym is ∙ h.0 a on in let eq : (get_or ts i d).number ≡ t.number = cc in omega arith))
     (λ (off : has t.members a ≡ false). grind (arith, nat_tests))
@@ -328,9 +328,10 @@ above-push n m [] t lt h = (lt, tt)
 above-push n m (u ∷ us) t lt h = (h.0, above-push n m us t lt h.1)
 
 pub numbered-push : (ts : List Token) (t : Token) → AllByRecursion (λ u. u.number < t.number) ts
-    → Rising (numbers ts) → Rising (numbers (ts ++ t ∷ []))
-numbered-push [] t lt h = (tt, tt)
-numbered-push (u ∷ us) t lt h = (above-push u.number 0 us t lt.0 h.0, numbered-push us t lt.1 h.1)
+    → IsStrictlySortedBy nat_cmp (numbers ts) → IsStrictlySortedBy nat_cmp (numbers (ts ++ t ∷ []))
+numbered-push [] t lt h = rising-cons t.number [] tt none_rise
+numbered-push (u ∷ us) t lt h =
+    rising-cons u.number (numbers (us ++ t ∷ [])) (above-push u.number 0 us t lt.0 (first_above u.number (numbers us) h)) (numbered-push us t lt.1 (rest_rises u.number (numbers us) h))
 
 pub if_none : {A P : Type 0} (o : Option A) → P → IfNone o P
 if_none None h = h

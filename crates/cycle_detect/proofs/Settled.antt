@@ -10,13 +10,15 @@ use Rattle.letter_kinds.specs.Detector.{has}
 use Rattle.letter_kinds.specs.Reports.{told_on_by}
 use Rattle.letter_kinds.specs.declared.note.Report.{Report}
 use Rattle.letter_kinds.proofs.Rounds.{largest_by_rounds, rounds_among, same_largest}
-use Rattle.cycle_detect.specs.Falling.{AreFalling, In, count_at, held_count, is_unmarked, told_without}
+use Rattle.cycle_detect.specs.Falling.{AreFalling, count_at, held_count, is_unmarked, told_without}
 use Rattle.cycle_detect.specs.Kept.{actors_of}
 use Rattle.cycle_detect.specs.Marks.{mark_of}
-use Rattle.cycle_detect.specs.Rising.{AllAbove, Rising}
+use Rattle.std.specs.List.Sorted.{IsStrictlySortedBy}
+use Rattle.std.specs.Ordering.{nat_cmp}
 use Rattle.cycle_detect.proofs.Sums.{at_default, length-names}
-use Rattle.cycle_detect.proofs.Work.{work_done}
-use Rattle.cycle_detect.proofs.Falls.{actor_at, count_is, place_In, length-actors, mark_at, filter-alike, none_without}
+use Rattle.cycle_detect.proofs.Work.{In, place_In, work_done}
+use Rattle.cycle_detect.proofs.Falls.{actor_at, count_is, length-actors, mark_at, filter-alike, none_without}
+use Rattle.cycle_detect.proofs.RisingLemmas.{AllAbove, first_above, none_rise, rest_rises, rising-cons}
 
 -- ---- at last
 
@@ -37,7 +39,7 @@ marks_agree (x ∷ xs) (b ∷ bs) (c ∷ cs) a l l' h = grind (arith, h 0, marks
 agree_at : (b c : Bool) → (b ≡ true → c ≡ true) → (c ≡ true → b ≡ false → ⊥) → b ≡ c
 agree_at b c f g = ⊎_elim (λ (on : b ≡ true). on ∙ sym (f on)) (λ (off : b ≡ false). ⊎_elim (λ (on : c ≡ true). absurd (g on off)) (λ (off' : c ≡ false). off ∙ sym off') (cases_Bool c)) (cases_Bool b)
 
-at_last : (rs : List Report) (off out : List Bool) (told : List ℕ) → Rising (actors_of rs)
+at_last : (rs : List Report) (off out : List Bool) (told : List ℕ) → IsStrictlySortedBy nat_cmp (actors_of rs)
     → length off ≡ length rs → AreFalling rs (length rs) off out told []
     → ((k : ℕ) → k < length rs → get_or told k 0 ≡ told_without rs off (get_or (actors_of rs) k 0))
     → filter (is_unmarked rs out) rs ≡ largest_closed rs
@@ -46,12 +48,12 @@ at_last rs off out told up l h exact =
     let same : (k : ℕ) → get_or off k false ≡ get_or out k false = λ k. agree_at (get_or off k false) (get_or out k false) (h.within k) (λ on off'. false≢true (h.pending k on off')) in
     let alike : filter (is_unmarked rs off) rs ≡ filter (is_unmarked rs out) rs = filter-alike (is_unmarked rs off) (is_unmarked rs out) rs (λ r. ap not (marks_agree (actors_of rs) off out r.actor (l ∙ sym long) (h.long_out ∙ sym long) same)) in
     let closed : IsClosed (filter (is_unmarked rs out) rs) = each_filter (λ r. r.count ≤ told_on_by r.actor (filter (is_unmarked rs out) rs)) (is_unmarked rs out) rs (λ r i e.
-    let (k, at) = place_In rs r i in
-    let name : get_or (actors_of rs) k 0 ≡ r.actor = actor_at rs k r at.0 ∙ ap (λ (q : Report). q.actor) at.1 in
-    let count : count_at rs k ≡ r.count = count_is rs k r at.0 ∙ ap (λ (q : Report). q.count) at.1 in
+    let (k, lt, is) = place_In rs r i in
+    let name : get_or (actors_of rs) k 0 ≡ r.actor = actor_at rs k r lt ∙ ap (λ (q : Report). q.actor) is in
+    let count : count_at rs k ≡ r.count = count_is rs k r lt ∙ ap (λ (q : Report). q.count) is in
     let stands : get_or out k false ≡ false = not_not (get_or out k false) (ap not (sym (mark_at (actors_of rs) out k up (omega arith))) ∙ (ap (λ y. not (mark_of (actors_of rs) out y)) name ∙ e)) in
-    let le = h.covered k at.0 at.0 stands in
-    let told_is : get_or told k 0 ≡ told_on_by r.actor (filter (is_unmarked rs out) rs) = exact k at.0 ∙ (ap (told_without rs off) name ∙ ap (told_on_by r.actor) alike) in
+    let le = h.covered k lt lt stands in
+    let told_is : get_or told k 0 ≡ told_on_by r.actor (filter (is_unmarked rs out) rs) = exact k lt ∙ (ap (told_without rs off) name ∙ ap (told_on_by r.actor) alike) in
     omega arith) in
     same_largest rs (filter (is_unmarked rs out) rs) (largest_closed rs) (work_done rs (is_unmarked rs out) h.loses closed) (largest_by_rounds rs)
   where
@@ -60,13 +62,13 @@ at_last rs off out told up l h exact =
 
 -- once nothing waits, those that stand are the largest closed set
 pub settled : (rs : List Report) (ns : List ℕ) → ns ≡ actors_of rs
-    → (off out : List Bool) (told work : List ℕ) → Rising ns → length off ≡ length ns → work ≡ []
+    → (off out : List Bool) (told work : List ℕ) → IsStrictlySortedBy nat_cmp ns → length off ≡ length ns → work ≡ []
     → AreFalling rs (length ns) off out told work
     → ((k : ℕ) → k < length ns → get_or told k 0 ≡ told_without rs off (get_or ns k 0))
     → filter (is_unmarked rs out) rs ≡ largest_closed rs
 settled rs ns e off out told work up l w h exact =
     let long : length ns ≡ length rs = ap length e ∙ length-actors rs in
-    at_last rs off out told (subst Rising e up) (l ∙ long)
+    at_last rs off out told (subst (IsStrictlySortedBy nat_cmp) e up) (l ∙ long)
     (subst (λ n. AreFalling rs n off out told []) long (subst (AreFalling rs (length ns) off out told) w h))
     (λ k lt. exact k (omega arith) ∙ ap (λ xs. told_without rs off (get_or xs k 0)) e)
 
@@ -76,11 +78,11 @@ pub actors-filter : (p : ℕ → Bool) (rs : List Report)
 actors-filter p [] = refl
 actors-filter p (r ∷ rs) = grind (arith, actors-filter p rs)
 
-unmarked_here : (ns : List ℕ) (bs : List Bool) (k : ℕ) → Rising ns → k < length ns
+unmarked_here : (ns : List ℕ) (bs : List Bool) (k : ℕ) → IsStrictlySortedBy nat_cmp ns → k < length ns
     → not (mark_of ns bs (get_or ns k 0)) ≡ not (get_or bs k false)
 unmarked_here ns bs k up lt = ap not (mark_at ns bs k up lt)
 
-pub unmarked_more : (ns : List ℕ) (bs : List Bool) (k a : ℕ) (found later : List ℕ) → Rising ns
+pub unmarked_more : (ns : List ℕ) (bs : List Bool) (k a : ℕ) (found later : List ℕ) → IsStrictlySortedBy nat_cmp ns
     → k < length ns → get_or bs k false ≡ false → a ≡ get_or ns k a
     → found ≡ filter (λ x. not (mark_of ns bs x)) (take k ns) → later ≡ found ++ a ∷ []
     → later ≡ filter (λ x. not (mark_of ns bs x)) (take (k + 1) ns)
@@ -90,7 +92,7 @@ unmarked_more ns bs k a found later up lt off is was now =
     now ∙ (ap (λ xs. xs ++ a ∷ []) was ∙ (ap (λ y. filter (λ x. not (mark_of ns bs x)) (take k ns) ++ y ∷ []) name
     ∙ sym (filter_more (λ x. not (mark_of ns bs x)) ns k 0 lt ∙ ap (λ b. filter (λ x. not (mark_of ns bs x)) (take k ns) ++ (cond b (get_or ns k 0 ∷ []) [])) here)))
 
-pub unmarked_same : (ns : List ℕ) (bs : List Bool) (k : ℕ) (found later : List ℕ) → Rising ns
+pub unmarked_same : (ns : List ℕ) (bs : List Bool) (k : ℕ) (found later : List ℕ) → IsStrictlySortedBy nat_cmp ns
     → k < length ns → get_or bs k false ≡ true
     → found ≡ filter (λ x. not (mark_of ns bs x)) (take k ns) → later ≡ found
     → later ≡ filter (λ x. not (mark_of ns bs x)) (take (k + 1) ns)
@@ -124,10 +126,10 @@ above_some : (n : ℕ) (p : Report → Bool) (rs : List Report) → AllAbove n (
 above_some n p [] h = tt
 above_some n p (r ∷ rs) h = cond_both (p r) (r ∷ filter p rs) (filter p rs) (λ qs. AllAbove n (actors_of qs)) (λ _. (h.0, above_some n p rs h.1)) (λ _. above_some n p rs h.1)
 
-pub rising_some : (p : Report → Bool) (rs : List Report) → Rising (actors_of rs)
-    → Rising (actors_of (filter p rs))
-rising_some p [] h = tt
-rising_some p (r ∷ rs) h = cond_both (p r) (r ∷ filter p rs) (filter p rs) (λ qs. Rising (actors_of qs)) (λ _. (above_some r.actor p rs h.0, rising_some p rs h.1)) (λ _. rising_some p rs h.1)
+pub rising_some : (p : Report → Bool) (rs : List Report) → IsStrictlySortedBy nat_cmp (actors_of rs)
+    → IsStrictlySortedBy nat_cmp (actors_of (filter p rs))
+rising_some p [] h = none_rise
+rising_some p (r ∷ rs) h = cond_both (p r) (r ∷ filter p rs) (filter p rs) (λ qs. IsStrictlySortedBy nat_cmp (actors_of qs)) (λ _. rising-cons r.actor (actors_of (filter p rs)) (above_some r.actor p rs (first_above r.actor (actors_of rs) h)) (rising_some p rs (rest_rises r.actor (actors_of rs) h))) (λ _. rising_some p rs (rest_rises r.actor (actors_of rs) h))
 
 has_some : (p : Report → Bool) (rs : List Report) (m : ℕ) → has (actors_of (filter p rs)) m ≡ true
     → has (actors_of rs) m ≡ true
@@ -140,8 +142,8 @@ free_only free [] m h = absurd (cc)
 free_only free (r ∷ rs) m h = grind (arith, nat_tests, free_only free rs m)
 
 -- the largest closed set among reports of free actors rises, and its members are free
-pub largest_rises : (rs : List Report) → Rising (actors_of rs) → Rising (actors_of (largest_closed rs))
-largest_rises rs up = let (p, e) = rounds_among (length rs) rs in subst (λ qs. Rising (actors_of qs)) (sym e) (rising_some p rs up)
+pub largest_rises : (rs : List Report) → IsStrictlySortedBy nat_cmp (actors_of rs) → IsStrictlySortedBy nat_cmp (actors_of (largest_closed rs))
+largest_rises rs up = let (p, e) = rounds_among (length rs) rs in subst (λ qs. IsStrictlySortedBy nat_cmp (actors_of qs)) (sym e) (rising_some p rs up)
 
 pub largest_free : (free : ℕ → Bool) (ks : List Report) (m : ℕ)
     → has (actors_of (largest_closed (filter (λ r. free r.actor) ks))) m ≡ true → free m ≡ true

@@ -8,31 +8,32 @@ use Rattle.letter_kinds.specs.Reports.{told_on, report_told}
 use Rattle.letter_kinds.specs.declared.note.Report.{Report}
 use Rattle.cycle_detect.specs.Falling.{count_at, held_count, told_in}
 use Rattle.cycle_detect.specs.Kept.{actors_of}
-use Rattle.cycle_detect.specs.Rising.{Rising}
-use Rattle.cycle_detect.proofs.RisingLemmas.{above-get, place_is}
+use Rattle.std.specs.List.Sorted.{IsStrictlySortedBy}
+use Rattle.std.specs.Ordering.{nat_cmp}
+use Rattle.cycle_detect.proofs.RisingLemmas.{above-get, first_above, place_is, rest_rises}
 
 -- names at two places differ
-pub apart : (ns : List ℕ) (i j : ℕ) → Rising ns → i < length ns → j < length ns → i ≢ j
+pub apart : (ns : List ℕ) (i j : ℕ) → IsStrictlySortedBy nat_cmp ns → i < length ns → j < length ns → i ≢ j
     → get_or ns i 0 ≢ get_or ns j 0
 apart [] i j h lt lt' n = absurd (omega arith)
 apart (x ∷ xs) zero zero h lt lt' n = absurd (n refl)
-apart (x ∷ xs) zero (suc j) h lt lt' n = λ e. let above = above-get x xs j h.0 (omega arith) in omega arith
-apart (x ∷ xs) (suc i) zero h lt lt' n = λ e. let above = above-get x xs i h.0 (omega arith) in omega arith
-apart (x ∷ xs) (suc i) (suc j) h lt lt' n = apart xs i j h.1 (omega arith) (omega arith) (λ e. n (ap suc e))
+apart (x ∷ xs) zero (suc j) h lt lt' n = λ e. let above = above-get x xs j (first_above x xs h) (omega arith) in omega arith
+apart (x ∷ xs) (suc i) zero h lt lt' n = λ e. let above = above-get x xs i (first_above x xs h) (omega arith) in omega arith
+apart (x ∷ xs) (suc i) (suc j) h lt lt' n = apart xs i j (rest_rises x xs h) (omega arith) (omega arith) (λ e. n (ap suc e))
 
 -- the entry tells on the actor at one place, and on no other
 pub told_here : (ns : List ℕ) (e : ℕ × ℕ) (t k : ℕ) → (e.0 == t) ≡ false → slice_get ns k ≡ Some e.0
     → told_in e t (get_or ns k 0) ≡ e.1
 told_here ns e t k other at = let is : get_or ns k 0 ≡ e.0 = (place_is ns k e.0 at).1 in rw is (grind (arith, nat_tests))
 
-pub told_elsewhere : (ns : List ℕ) (e : ℕ × ℕ) (t k j : ℕ) → Rising ns → slice_get ns k ≡ Some e.0
+pub told_elsewhere : (ns : List ℕ) (e : ℕ × ℕ) (t k j : ℕ) → IsStrictlySortedBy nat_cmp ns → slice_get ns k ≡ Some e.0
     → j < length ns → j ≢ k → told_in e t (get_or ns j 0) ≡ 0
 told_elsewhere ns e t k j h at lt n =
     let p = place_is ns k e.0 at in
     let other : e.0 ≢ get_or ns j 0 = λ same. apart ns j k h lt p.0 n (sym same ∙ sym p.1) in
     grind (arith, nat_tests)
 
-pub entry_added : (ns told : List ℕ) (e : ℕ × ℕ) (t k v : ℕ) → Rising ns → length told ≡ length ns
+pub entry_added : (ns told : List ℕ) (e : ℕ × ℕ) (t k v : ℕ) → IsStrictlySortedBy nat_cmp ns → length told ≡ length ns
     → (e.0 == t) ≡ false → slice_get ns k ≡ Some e.0 → v ≡ get_or told k 0 + e.1 → (j : ℕ)
     → j < length ns → get_or (set told k v) j 0 ≡ get_or told j 0 + told_in e t (get_or ns j 0)
 entry_added ns told e t k v h long other at is j lt = ⊎_elim
@@ -41,7 +42,7 @@ entry_added ns told e t k v h long other at is j lt = ⊎_elim
     (λ (n : j ≢ k). get_or-set_other told k j v 0 n ∙ omega (arith, told_elsewhere ns e t k j h at lt n))
     (cases_eq j k)
 
-pub entry_taken : (ns told : List ℕ) (e : ℕ × ℕ) (t k v : ℕ) → Rising ns → length told ≡ length ns
+pub entry_taken : (ns told : List ℕ) (e : ℕ × ℕ) (t k v : ℕ) → IsStrictlySortedBy nat_cmp ns → length told ≡ length ns
     → (e.0 == t) ≡ false → slice_get ns k ≡ Some e.0 → v + e.1 ≡ get_or told k 0 → (j : ℕ)
     → j < length ns → get_or (set told k v) j 0 + told_in e t (get_or ns j 0) ≡ get_or told j 0
 entry_taken ns told e t k v h long other at is j lt = ⊎_elim
@@ -66,7 +67,7 @@ at_default [] k v lt e = absurd (omega arith)
 at_default (x ∷ xs) zero v lt e = e
 at_default (x ∷ xs) (suc k) v lt e = at_default xs k v (omega arith) e
 
-pub left_value : (ns told : List ℕ) (e : ℕ × ℕ) (t k w f : ℕ) → Rising ns → length told ≡ length ns
+pub left_value : (ns told : List ℕ) (e : ℕ × ℕ) (t k w f : ℕ) → IsStrictlySortedBy nat_cmp ns → length told ≡ length ns
     → (e.0 == t) ≡ false → slice_get ns k ≡ Some e.0 → w ≡ get_or told k w → f ≡ e.1
     → ((j : ℕ) → j < length ns → told_in e t (get_or ns j 0) ≤ get_or told j 0)
     → (w - f) + e.1 ≡ get_or told k 0

@@ -5,8 +5,9 @@ use Rattle.std.proofs.lemmas.Bool.Decides.{nat_tests}
 use Rattle.std.proofs.lemmas.List.Folds.{list_any_more}
 use Rattle.std.proofs.lemmas.Option.{slice_get_read, slice_get_within}
 use Rattle.letter_kinds.specs.Detector.{has}
-use Rattle.cycle_detect.specs.Rising.{Rising}
-use Rattle.cycle_detect.proofs.RisingLemmas.{has-at}
+use Rattle.std.specs.List.Sorted.{IsStrictlySortedBy}
+use Rattle.std.specs.Ordering.{nat_cmp}
+use Rattle.cycle_detect.proofs.RisingLemmas.{first_above, has-at, rest_rises}
 
 get-set_same : (xs : List ℕ) (a n : ℕ) → a < length xs → slice_get (set xs a n) a ≡ Some n
 get-set_same [] a n lt = absurd (omega arith)
@@ -38,15 +39,15 @@ pub told_others : (told xs : List ℕ) (i a n : ℕ) → i < length xs → a ≡
 told_others told xs i a n lt is b out =
     get-set_other told a b n (λ same. false≢true (sym out ∙ subst (λ x. has xs x ≡ true) (sym same) (actor_among xs i a lt is)))
 
-below_last : (xs : List ℕ) (n last : ℕ) → Rising xs → suc n ≡ length xs → slice_get xs n ≡ Some last
+below_last : (xs : List ℕ) (n last : ℕ) → IsStrictlySortedBy nat_cmp xs → suc n ≡ length xs → slice_get xs n ≡ Some last
     → (a : ℕ) → has xs a ≡ true → a ≤ last
 below_last [] n last up long at a h = absurd (false≢true h)
 below_last (x ∷ []) zero last up long at a h = grind (arith, nat_tests)
 below_last (x ∷ []) (suc n) last up long at a h = absurd (omega arith)
 below_last (x ∷ y ∷ ys) zero last up long at a h = absurd (omega arith)
 below_last (x ∷ y ∷ ys) (suc n) last up long at a h =
-    let rest = below_last (y ∷ ys) n last up.1 (omega arith) at in
-    let above : x < y = up.0.0 in
+    let rest = below_last (y ∷ ys) n last (rest_rises x (y ∷ ys) up) (omega arith) at in
+    let above : x < y = (first_above x (y ∷ ys) up).0 in
     let le = rest y (grind (arith, nat_tests)) in
     ⊎_elim
     (λ (on : (x == a) ≡ true). grind (arith, nat_tests))
@@ -54,7 +55,7 @@ below_last (x ∷ y ∷ ys) (suc n) last up long at a h =
     (cases_Bool (x == a))
 
 -- where the last of them has a place, all have
-pub room_for : (xs : List ℕ) (last total : ℕ) → Rising xs → slice_get xs (length xs - 1) ≡ Some last
+pub room_for : (xs : List ℕ) (last total : ℕ) → IsStrictlySortedBy nat_cmp xs → slice_get xs (length xs - 1) ≡ Some last
     → last + 1 ≤ total → (a : ℕ) → has xs a ≡ true → a < total
 room_for xs last total up at le a h =
     let within = slice_get_within xs (length xs - 1) last at in

@@ -1,6 +1,6 @@
 -- Reports that fall, since the others do not cover them.
-use Rattle.std.specs.Prelude.{ℕ, zero, suc, ◌≡◌, ◌+◌, ◌*◌, ◌<◌, ◌≤◌, ◌⊎◌, ◌==◌, if◌then◌else◌, not, Bool, true, false, List, [], ◌∷◌, filter, length, slice_index, slice_index_or, sum_by}
-use Rattle.std.specs.List.{AllByRecursion}
+use Rattle.std.specs.Prelude.{ℕ, zero, suc, ◌≡◌, ◌+◌, ◌*◌, ◌<◌, ◌≤◌, ◌==◌, if◌then◌else◌, not, Bool, true, false, List, [], ◌∷◌, filter, length, slice_index, slice_index_or, sum_by}
+use Rattle.std.specs.List.{AllByRecursion, Contains}
 use Rattle.letter_kinds.specs.Closed.{IsClosed}
 use Rattle.letter_kinds.specs.Detector.{Token, has, in_token}
 use Rattle.letter_kinds.specs.Reports.{told_on_by}
@@ -36,11 +36,6 @@ count_at [] k = 0
 count_at (r ∷ rs) zero = r.count
 count_at (r ∷ rs) (suc k) = count_at rs k
 
--- the report is among these
-abbrev pub In : Report → List Report → Type 0
-In q [] = ⊥
-In q (r ∷ rs) = (q ≡ r) ⊎ In q rs
-
 -- the report is of an actor whose mark is off
 abbrev pub is_unmarked : List Report → List Bool → Report → Bool
 is_unmarked reports marks r = not (mark_of (actors_of reports) marks r.actor)
@@ -56,7 +51,7 @@ told_without reports marks x = told_on_by x (those_left reports marks)
 -- no closed set has lost a member
 abbrev pub LosesNone : List Report → (Report → Bool) → Type 0
 LosesNone reports stands = (set : Report → Bool) → IsClosed (filter set reports)
-    → (q : Report) → In q reports → set q ≡ true → stands q ≡ true
+    → (q : Report) → Contains reports q → set q ≡ true → stands q ≡ true
 
 -- who is out is in no closed set, and what it told was taken off, or it waits; who is not out, up to
 -- a place, is covered

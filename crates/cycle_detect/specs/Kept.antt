@@ -1,21 +1,30 @@
 -- Reports by their actors.
-use Rattle.std.specs.Prelude.{ℕ, ◌≡◌, List, map, Option, option_map}
+use Rattle.std.specs.Prelude.{ℕ, suc, ◌≡◌, ◌≤◌, ⊤, Bool, false, List, [], ◌∷◌, IfSome, length, map, Option, None, is_some, option_map, slice_index_or}
 use Rattle.std.specs.Borrow.{Bor}
-use Rattle.std.specs.List.{AllByRecursion, filter_map}
-use Rattle.std.specs.Map.{keys_of, values_of}
+use Rattle.std.specs.List.{filter_map}
 use Rattle.letter_kinds.specs.Reports.{kept_report}
 use Rattle.letter_kinds.specs.declared.note.Report.{Report}
 use Rattle.orca_names.specs.declared.kept_report.KeptReport.{KeptReport}
-use Rattle.cycle_detect.specs.Rising.{Rising}
 
--- the reports of a map's entries
-abbrev pub reports_in : List (ℕ × Report) → List Report
-reports_in entries = values_of entries
+-- the reports in these slots
+abbrev pub reports_in : List (Option Report) → List Report
+reports_in slots = filter_map (λ slot. slot) slots
 
--- each report stands at its actor, and these rise
-pub record AreByActor (entries : List (ℕ × Report)) : Type 0 where
-  pub named : AllByRecursion (λ e. e.0 ≡ e.1.actor) entries
-  pub rising : Rising (keys_of entries)
+-- the report in a slot
+abbrev pub slot_at : List (Option Report) → ℕ → Option Report
+slot_at slots k = slice_index_or slots k None
+
+-- each report is in the slot of its actor; the first slot is that of actor n
+abbrev pub AreFrom : ℕ → List (Option Report) → Type 0
+AreFrom n [] = ⊤
+AreFrom n (slot ∷ slots) = IfSome slot (λ r. r.actor ≡ n) × AreFrom (suc n) slots
+
+-- each report is in the slot of its actor, and a place is on exactly where its slot has a report
+pub record AreByActor (slots : List (Option Report)) (kept : List Bool) : Type 0 where
+  pub named : AreFrom 0 slots
+  pub told : (k : ℕ) → slice_index_or kept k false ≡ is_some (slot_at slots k)
+  pub long : length slots ≤ length kept
+  pub few : length slots ≤ 262144
 
 -- the reports behind these references
 abbrev pub reports_at : List (Bor Report) → List Report

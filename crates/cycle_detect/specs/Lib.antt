@@ -3,7 +3,6 @@ pub mod Kept
 pub mod Marks
 pub mod Notes
 pub mod Open
-pub mod Rising
 pub mod Room
 pub mod Sums
 pub mod Worklist

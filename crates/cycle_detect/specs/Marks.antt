@@ -1,6 +1,7 @@
 -- Marks beside names, one for each.
 use Rattle.std.specs.Prelude.{ℕ, zero, suc, ◌≡◌, ◌==◌, Bool, false, if◌then◌else◌, List, [], ◌∷◌, length, filter, not}
-use Rattle.cycle_detect.specs.Rising.{Rising}
+use Rattle.std.specs.List.Sorted.{IsStrictlySortedBy}
+use Rattle.std.specs.Ordering.{nat_cmp}
 
 -- those of the names whose mark is on
 abbrev pub picked : List ℕ → List Bool → List ℕ
@@ -25,6 +26,6 @@ unmarked_names names marks = filter (λ a. not (mark_of names marks a)) names
 
 -- each name has a mark, and so many are off
 pub record AreMarks (names : List ℕ) (marks : List Bool) (missing : ℕ) : Type 0 where
-  pub rising : Rising names
+  pub rising : IsStrictlySortedBy nat_cmp names
   pub long : length marks ≡ length names
   pub count : missing ≡ off_count marks

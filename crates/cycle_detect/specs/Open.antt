@@ -1,9 +1,10 @@
 -- Open tokens, in rising order of their numbers.
-use Rattle.std.specs.Prelude.{ℕ, ◌≡◌, ◌<◌, ◌==◌, true, false, List, map, length, Option, Some, None, min, slice_get, slice_index_or, option_map, if◌then◌else◌, suc, [], ◌≤◌, Bool}
+use Rattle.std.specs.Prelude.{ℕ, ◌≡◌, ◌<◌, ◌==◌, true, false, List, map, length, Option, Some, None, min, slice_get, slice_index_or, option_and_then, option_map, if◌then◌else◌, suc, [], ◌≤◌, Bool}
 use Rattle.std.specs.List.{AllByRecursion, find}
 use Rattle.std.specs.Option.{option_map_or}
 use Rattle.letter_kinds.specs.Detector.{Detector, Token, all_acked, has, in_token, token_numbered}
-use Rattle.cycle_detect.specs.Rising.{Rising}
+use Rattle.std.specs.List.Sorted.{IsStrictlySortedBy}
+use Rattle.std.specs.Ordering.{nat_cmp}
 
 abbrev pub numbers : List Token → List ℕ
 numbers tokens = map (λ t. t.number) tokens
@@ -34,7 +35,7 @@ IsTold told t = (m : ℕ) → has t.members m ≡ true → told m ≡ Some t.num
 
 -- the numbers rise, each member is told, and so is the first that all its members acknowledged
 pub record AreIndexed (tokens : List Token) (told : ℕ → Option ℕ) (ready : Option ℕ) : Type 0 where
-  pub numbered : Rising (numbers tokens)
+  pub numbered : IsStrictlySortedBy nat_cmp (numbers tokens)
   pub members : AllByRecursion (IsTold told) tokens
   pub first : ready ≡ first_acked tokens
 
@@ -45,7 +46,7 @@ pub record HasMemberAt (tokens : List Token) (actor i : ℕ) : Type 0 where
 
 -- these may be the members of a further token: they rise, and none of them is in an open one
 pub record CanOpen (members : List ℕ) (d : Detector) : Type 0 where
-  pub rising : Rising members
+  pub rising : IsStrictlySortedBy nat_cmp members
   pub apart : (m : ℕ) → has members m ≡ true → in_token d.tokens m ≡ false
 
 -- the token that is opened next, with these members
@@ -55,6 +56,11 @@ new_token members d = record { number = suc d.opened; members = members; acked =
 -- the token of this number is open, and all its members acknowledged
 abbrev pub acked_by_all : Detector → ℕ → Bool
 acked_by_all d number = option_map_or all_acked (token_numbered number d) false
+
+-- the open token of this number, if all its members acknowledged
+abbrev pub acked_numbered : ℕ → Detector → Option Token
+acked_numbered number d =
+    option_and_then (λ t. if all_acked t then Some t else None) (token_numbered number d)
 
 -- it is, and no token of a lower number
 pub record IsLowestAcked (d : Detector) (number : ℕ) : Type 0 where

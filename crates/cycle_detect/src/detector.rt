@@ -1,14 +1,15 @@
 // What the detector makes of notes, and its tokens.
 
-ghost use Rattle.std.specs.Prelude.{◌≡◌, ◌+◌, ◌<◌, ◌≤◌, suc, IfErr, IfOk, IfSome, IsSome, OnErr, OnOk};
+ghost use Rattle.std.specs.Prelude.{◌≡◌, ◌+◌, ◌<◌, ◌≤◌, suc, IfErr, IfOk, IfSome, IsSome, is_some, OnErr, OnOk};
 ghost use Rattle.std.specs.Option.{option_map};
 ghost use Rattle.letter_kinds.specs.Detector.{close_token, closed_set, fresh_detector, hear_note, open_token, token_numbered, without_news};
 ghost use Rattle.cycle_detect.specs.Falling.{step_bound};
 ghost use Rattle.cycle_detect.specs.Kept.{reports_of};
 ghost use Rattle.cycle_detect.specs.Notes.{IsBlock};
-ghost use Rattle.cycle_detect.specs.Open.{acked_by_all, CanOpen, first_acked, IsLowestAcked, new_token};
-ghost use Rattle.cycle_detect.specs.Rising.{Rising};
-ghost use Rattle.cycle_detect.specs.Room.{Fits, with_state};
+ghost use Rattle.cycle_detect.specs.Open.{acked_by_all, acked_numbered, CanOpen, first_acked, IsLowestAcked, new_token};
+ghost use Rattle.std.specs.List.Sorted.{IsStrictlySortedBy};
+ghost use Rattle.std.specs.Ordering.{nat_cmp};
+ghost use Rattle.cycle_detect.specs.Room.{CanHear, Fits, KeepsRoom, with_state};
 
 use crate::reports::Reports;
 use crate::scan;
@@ -25,7 +26,8 @@ use step_count::Steps;
 pub const TOKENS_LIMIT: u64 = 100_000_000;
 
 /// What is known of blocked actors, and the tokens that are open (MAC, OOPSLA 2013), seen by
-/// contracts as that state and the further tokens for which there is memory.
+/// contracts as that state, the further tokens for which there is memory, and the number below which
+/// the reports of actors fit.
 #[derive(Debug, Drop)]
 pub struct Detector {
     reports: Reports,
@@ -42,8 +44,9 @@ impl Model for Detector {
     ghost Value = { DetectorValue };
 
     ghost view = { λ d. record {
-      state = record { kept = d.reports; tokens = d.tokens.list; opened = d.opened; news = d.news };
+      state = record { kept = d.reports.list; tokens = d.tokens.list; opened = d.opened; news = d.news };
       room = d.tokens.room;
+      reports = d.reports.actors;
     } };
 
     ghost invariant = { λ d. AllByRecursion (λ t. t.number ≤ d.opened) d.tokens.list };
@@ -92,37 +95,63 @@ impl Detector {
         self.news = false;
     }
 
-    /// Hears a note.
+    /// Takes the memory to hear this note. Nothing changes but room, and a block note alone wants any.
     ///
     /// # Errors
-    /// A block note comes back where memory was refused; the detector stays as it was. Other notes
-    /// take no memory.
-    pub fn hear(&mut self, note: Note) -> Result<(), Note>
-        ensures ok { OnOk result (self.new.state ≡ hear_note note self.old.state) }
+    /// `NoMemory` where memory was refused, and for a block note of an actor not below
+    /// `ready_set::PLACES_LIMIT`; nothing has changed then.
+    pub fn prepare_hear(&mut self, note: &Note) -> Result<(), NoMemory>
+        ensures state { self.new.state ≡ self.old.state }
+        ensures room { self.new.room ≡ self.old.room }
+        ensures reports { self.old.reports ≤ self.new.reports }
+        ensures ok { OnOk result (CanHear note.now self.new) }
         ensures err { OnErr result (self.new ≡ self.old) }
-        ensures back { IfErr result (λ n. (n ≡ note) × IsBlock n) }
+        ensures block { OnErr result (IsBlock note.now) }
     {
         match note {
-            Note::Block { actor, count, held } => match self
-                .reports
-                .keep(Report { actor, count, held })
-            {
-                Ok(()) => {
-                    self.news = true;
-                    Ok(())
-                }
-                Err(Report { actor, count, held }) => Err(Note::Block { actor, count, held }),
-            },
+            Note::Block { actor, .. } => self.reports.reserve(*actor),
+            Note::Unblock { .. } | Note::Ack { .. } => Ok(()),
+        }
+    }
+
+    /// Hears a note for which there is memory. It takes none, and no room is lost.
+    pub fn hear_prepared(&mut self, note: Note)
+        requires fits { CanHear note self.old }
+        ensures state { self.new.state ≡ hear_note note self.old.state }
+        ensures room { KeepsRoom self.old.room self.new.room }
+        ensures reports { self.new.reports ≡ self.old.reports }
+    {
+        match note {
+            Note::Block { actor, count, held } => {
+                self.reports.keep(Report { actor, count, held });
+                self.news = true;
+            }
             Note::Unblock { actor } => {
                 self.reports.drop_of(actor);
                 self.tokens.cancel(actor);
                 self.news = true;
+            }
+            Note::Ack { token, actor } => self.tokens.note_ack(token, actor),
+        }
+    }
+
+    /// Hears a note: it takes the memory, and then hears it.
+    ///
+    /// # Errors
+    /// A block note comes back where `prepare_hear` answers `NoMemory`; the detector stays as it was.
+    /// Other notes take no memory.
+    pub fn hear(&mut self, note: Note) -> Result<(), Note>
+        ensures ok { OnOk result (self.new.state ≡ hear_note note self.old.state) }
+        ensures err { OnErr result (self.new ≡ self.old) }
+        ensures back { IfErr result (λ n. (n ≡ note) × IsBlock n) }
+        ensures room { KeepsRoom self.old.room self.new.room }
+    {
+        match self.prepare_hear(&note) {
+            Ok(()) => {
+                self.hear_prepared(note);
                 Ok(())
             }
-            Note::Ack { token, actor } => {
-                self.tokens.note_ack(token, actor);
-                Ok(())
-            }
+            Err(NoMemory) => Err(note),
         }
     }
 
@@ -161,7 +190,7 @@ impl Detector {
     /// `NoMemory` where memory was refused.
     pub fn prepare_token(&mut self, alloc: Global, set: &[ActorName]) -> Result<Token, NoMemory>
         requires few { self.old.state.opened < TOKENS_LIMIT }
-        requires rising { Rising set.now }
+        requires rising { IsStrictlySortedBy nat_cmp set.now }
         ensures state { self.new.state ≡ self.old.state }
         ensures token { IfOk result (λ t. t ≡ new_token set.now self.old.state) }
         ensures fits { OnOk result (Fits set.now self.new.room) }
@@ -220,11 +249,25 @@ impl Detector {
     pub fn members(&self, token: u64) -> Option<&[ActorName]>
         ensures value { option_map (λ ms. ms.now) result
             ≡ option_map (λ t. t.members) (token_numbered token self.now.state) }
-        ensures rising { IfSome result (λ ms. Rising ms.now) }
+        ensures rising { IfSome result (λ ms. IsStrictlySortedBy nat_cmp ms.now) }
     {
         match self.tokens.get(token) {
             Some(open) => Some(open.members()),
             None => None,
+        }
+    }
+
+    /// The members of an open token that all of them acknowledged, rising; `None` exactly where it is
+    /// not open, or one of them did not.
+    pub fn acked_members(&self, token: u64) -> Option<&[ActorName]>
+        ensures value { option_map (λ ms. ms.now) result
+            ≡ option_map (λ t. t.members) (acked_numbered token self.now.state) }
+        ensures acked { is_some result ≡ acked_by_all self.now.state token }
+        ensures rising { IfSome result (λ ms. IsStrictlySortedBy nat_cmp ms.now) }
+    {
+        match self.tokens.get(token) {
+            Some(open) if open.is_acked() => Some(open.members()),
+            _ => None,
         }
     }
 

@@ -1,88 +1,164 @@
 // The reports that are kept.
 
-ghost use Rattle.std.specs.Prelude.{◌≡◌, [], filter, not, OnOk, OnErr, IfErr, IfOk};
+ghost use Rattle.std.specs.Prelude.{◌≡◌, ℕ, ◌-◌, ◌<◌, ◌≤◌, ◌++◌, [], None, false, filter, length, nat_le, not, OnOk, OnErr, IfOk, replicate, slice_index_or};
+ghost use Rattle.std.specs.List.{find};
+ghost use Rattle.std.specs.List.Sorted.{IsStrictlySortedBy};
 ghost use Rattle.std.specs.Option.{option_copied};
+ghost use Rattle.std.specs.Ordering.{nat_cmp};
 ghost use Rattle.letter_kinds.specs.Detector.{has};
 ghost use Rattle.cycle_detect.specs.Kept.{actors_of, handed_out, reports_of};
-ghost use Rattle.cycle_detect.specs.Rising.{Rising};
+ghost use Rattle.cycle_detect.specs.Room.{no_reports};
 ghost use Rattle.letter_kinds.specs.Reports.{drop_report, keep_report, kept_report};
 
+use crate::names::number_of;
 use letter_kinds::Report;
 use orca_names::{ActorName, KeptReport, NoMemory};
 use plain_list::Listed;
+use ready_set::{PLACES_LIMIT, ReadySet};
 use std::alloc::Global;
-use std::collections::BTreeMap;
-use std::collections::btree_map::Values;
 use std::marker::Model;
 
-/// The kept reports, at most one of each actor, seen as a list in rising order of their actors.
+/// The kept reports, at most one of each actor, seen as a list in rising order of their actors, and
+/// the number below which the reports of actors fit.
 #[derive(Debug, Drop)]
 pub(crate) struct Reports {
-    by_actor: BTreeMap<ActorName, Report>,
+    /// For each actor below a bound, its report.
+    slots: Vec<Option<Report>>,
+    /// Which actors have one.
+    kept: ReadySet,
 }
 
 impl Model for Reports {
-    ghost use Rattle.std.specs.Prelude.{List};
-    ghost use Rattle.letter_kinds.specs.declared.note.Report.{Report as Told};
+    ghost use Rattle.std.specs.Prelude.{length};
     ghost use Rattle.cycle_detect.specs.Kept.{reports_in, AreByActor};
+    ghost use Rattle.cycle_detect.specs.Room.{ReportsValue};
 
-    ghost Value = { List Told };
+    ghost Value = { ReportsValue };
 
-    ghost view = { λ r. reports_in r.by_actor.entries };
+    ghost view = { λ r. record { list = reports_in r.slots.items; actors = length r.slots.items } };
 
-    ghost invariant = { λ r. AreByActor r.by_actor.entries };
+    ghost invariant = { λ r. AreByActor r.slots.items r.kept };
+}
+
+/// Makes sure that the set has so many places; those that it gets are off.
+///
+/// # Errors
+/// `NoMemory` where memory was refused.
+fn widen(kept: &mut ReadySet, count: usize) -> Result<(), NoMemory>
+    requires { count ≤ 262144 }
+    ensures same { (k : ℕ) → slice_index_or kept.new k false ≡ slice_index_or kept.old k false }
+    ensures longer { length kept.old ≤ length kept.new }
+    ensures ok { OnOk result (count ≤ length kept.new) }
+{
+    while kept.len() < count {
+        kept.grow()?;
+    }
+    Ok(())
+}
+
+/// Makes so many slots, of which those that are new have no report.
+///
+/// # Errors
+/// `NoMemory` where memory was refused; the slots stay as they were.
+fn lengthen(slots: &mut Vec<Option<Report>>, count: usize) -> Result<(), NoMemory>
+    requires { length slots.old.items ≤ count }
+    ensures ok { OnOk result (slots.new.items
+        ≡ slots.old.items ++ replicate (count - length slots.old.items) None) }
+    ensures err { OnErr result (slots.new.items ≡ slots.old.items) }
+{
+    let more = count - slots.len();
+    slots.reserve(more)?;
+    for _ in 0..more {
+        slots.push_reserved(None);
+    }
+    Ok(())
 }
 
 impl Reports {
-    /// No report. It takes no memory.
+    /// No report, and no room. It takes no memory.
     pub(crate) fn new(alloc: Global) -> Reports
-        ensures { result ≡ [] }
+        ensures { result ≡ no_reports }
     {
         Reports {
-            by_actor: BTreeMap::new(alloc),
+            slots: Vec::new(alloc),
+            kept: ReadySet::new(alloc),
         }
     }
 
     /// The report of an actor.
     pub(crate) fn get(&self, actor: ActorName) -> Option<&Report>
-        ensures { option_copied result ≡ kept_report self.now actor }
+        ensures { option_copied result ≡ kept_report self.now.list actor }
     {
-        self.by_actor.get(&actor)
+        let number = number_of(actor) as usize;
+        if number >= self.slots.len() {
+            return None;
+        }
+        self.slots[number].as_ref()
     }
 
-    /// The reports, in rising order of their actors.
-    pub(crate) fn iter(&self) -> Values<'_, ActorName, Report>
-        ensures all { result ≡ self.now }
-        ensures rising { Rising (actors_of self.now) }
+    /// The report of the lowest actor that has one, from this number on.
+    pub(crate) fn next(&self, from: usize) -> Option<&Report>
+        ensures first { option_copied result ≡ find (λ r. nat_le from r.actor) self.now.list }
+        ensures rising { IsStrictlySortedBy nat_cmp (actors_of self.now.list) }
     {
-        self.by_actor.values()
+        if from >= self.slots.len() {
+            return None;
+        }
+        match self.kept.next(from as u32) {
+            Some(actor) => self.slots[actor as usize].as_ref(),
+            None => None,
+        }
     }
 
-    /// With this report, which takes the place of an older one of its actor.
+    /// Takes memory to keep a report of this actor.
     ///
     /// # Errors
-    /// The report comes back where memory was refused; the reports stay as they were.
-    pub(crate) fn keep(&mut self, report: Report) -> Result<(), Report>
-        ensures ok { OnOk result (self.new ≡ keep_report report self.old) }
+    /// `NoMemory` where memory was refused, and for an actor not below `PLACES_LIMIT`; nothing has
+    /// changed then.
+    pub(crate) fn reserve(&mut self, actor: ActorName) -> Result<(), NoMemory>
+        ensures list { self.new.list ≡ self.old.list }
+        ensures more { self.old.actors ≤ self.new.actors }
+        ensures ok { OnOk result (actor < self.new.actors) }
         ensures err { OnErr result (self.new ≡ self.old) }
-        ensures back { IfErr result (λ r. r ≡ report) }
     {
-        match self.by_actor.insert(report.actor, report) {
-            Ok(_) => Ok(()),
-            Err(refused) => Err(refused.value.1),
+        let count = number_of(actor) as usize + 1;
+        if count <= self.slots.len() {
+            return Ok(());
         }
+        if count > PLACES_LIMIT {
+            return Err(NoMemory);
+        }
+        widen(&mut self.kept, count)?;
+        lengthen(&mut self.slots, count)
+    }
+
+    /// With this report, which takes the place of an older one of its actor. It takes no memory.
+    pub(crate) fn keep(&mut self, report: Report)
+        requires { report.actor < self.old.actors }
+        ensures list { self.new.list ≡ keep_report report self.old.list }
+        ensures actors { self.new.actors ≡ self.old.actors }
+    {
+        let number = number_of(report.actor);
+        self.slots[number as usize] = Some(report);
+        self.kept.put(number, true);
     }
 
     /// Without the report of the actor.
     pub(crate) fn drop_of(&mut self, actor: ActorName)
-        ensures { self.new ≡ drop_report actor self.old }
+        ensures list { self.new.list ≡ drop_report actor self.old.list }
+        ensures actors { self.new.actors ≡ self.old.actors }
     {
-        self.by_actor.remove(&actor);
+        let number = number_of(actor);
+        if (number as usize) < self.slots.len() {
+            self.slots[number as usize] = None;
+            self.kept.put(number, false);
+        }
     }
 
     /// Without the reports of these actors.
     pub(crate) fn drop_all(&mut self, actors: &[ActorName])
-        ensures { self.new ≡ filter (λ r. not (has actors.now r.actor)) self.old }
+        ensures list { self.new.list ≡ filter (λ r. not (has actors.now r.actor)) self.old.list }
+        ensures actors { self.new.actors ≡ self.old.actors }
     {
         for actor in actors {
             self.drop_of(*actor);
@@ -98,7 +174,7 @@ impl Reports {
         alloc: Global,
         actors: &[ActorName],
     ) -> Result<Vec<KeptReport>, NoMemory>
-        ensures { IfOk result (λ found. found.items ≡ reports_of self.now actors.now) }
+        ensures { IfOk result (λ found. found.items ≡ reports_of self.now.list actors.now) }
     {
         let mut found = Vec::new(alloc);
         for actor in actors {

@@ -7,11 +7,12 @@ ghost use Rattle.letter_kinds.specs.Reports.{told_on, told_on_by};
 ghost use Rattle.cycle_detect.specs.Falling.{free_reports, held_count, held_left, step_bound, those_left, told_in, told_without};
 ghost use Rattle.cycle_detect.specs.Kept.{actors_of, reports_at};
 ghost use Rattle.cycle_detect.specs.Marks.{unmarked_names};
-ghost use Rattle.cycle_detect.specs.Rising.{Rising};
+ghost use Rattle.std.specs.List.Sorted.{IsStrictlySortedBy};
+ghost use Rattle.std.specs.Ordering.{nat_cmp};
 ghost use Rattle.cycle_detect.specs.Sums.{AreEnough, AreLowered, AreRaised, AreSums};
 ghost use Rattle.cycle_detect.specs.Worklist.{Falls, IsFalling, IsLong, StayFalling, Stays, unsettled};
 
-use crate::names::place_of;
+use crate::names::{number_of, place_of};
 use crate::reports::Reports;
 use crate::tokens::Tokens;
 use letter_kinds::Report;
@@ -27,13 +28,16 @@ fn candidates<'a, L: Ledger>(
     tokens: &Tokens,
     steps: &mut Steps<L>,
 ) -> Result<Vec<&'a Report>, NoMemory>
-    ensures found { IfOk result (λ v. reports_at v.items ≡ free_reports tokens.now.list reports.now) }
-    ensures rising { Rising (actors_of reports.now) }
-    ensures cost { steps.new ≤ steps.old + length reports.now }
+    ensures found { IfOk result (λ v. reports_at v.items
+        ≡ free_reports tokens.now.list reports.now.list) }
+    ensures rising { IsStrictlySortedBy nat_cmp (actors_of reports.now.list) }
+    ensures cost { steps.new ≤ steps.old + length reports.now.list }
 {
     let mut found = Vec::new(alloc);
-    for report in reports.iter() {
+    let mut from = 0;
+    while let Some(report) = reports.next(from) {
         steps.tick();
+        from = number_of(report.actor) as usize + 1;
         if !tokens.has_member(report.actor) {
             found.push(report)?;
         }
@@ -65,7 +69,7 @@ fn place_told<L: Ledger>(
     actor: ActorName,
     steps: &mut Steps<L>,
 ) -> Option<usize>
-    requires rising { Rising names.now }
+    requires rising { IsStrictlySortedBy nat_cmp names.now }
     ensures some { IfSome result (λ k. slice_get names.now k ≡ Some actor) }
     ensures other { IfSome result (λ k. (actor == teller) ≡ false) }
     ensures none { IfNone result ((count k : ℕ) → k < length names.now
@@ -91,7 +95,7 @@ fn add_entry<L: Ledger>(
     told: &mut [u128],
     steps: &mut Steps<L>,
 ) -> Result<(), NoMemory>
-    requires rising { Rising names.now }
+    requires rising { IsStrictlySortedBy nat_cmp names.now }
     requires long { length told.old ≡ length names.now }
     ensures added { OnOk result (AreRaised names.now (told_in entry teller) told.old told.new) }
     ensures cost { steps.new ≤ steps.old + 2 }
@@ -113,7 +117,7 @@ fn add_told<L: Ledger>(
     told: &mut [u128],
     steps: &mut Steps<L>,
 ) -> Result<(), NoMemory>
-    requires rising { Rising names.now }
+    requires rising { IsStrictlySortedBy nat_cmp names.now }
     requires long { length told.old ≡ length names.now }
     ensures added { OnOk result (AreRaised names.now (λ x. told_on x report.now) told.old told.new) }
     ensures cost { steps.new ≤ steps.old + 2 * length report.now.held }
@@ -131,7 +135,7 @@ fn add_all<L: Ledger>(
     told: &mut [u128],
     steps: &mut Steps<L>,
 ) -> Result<(), NoMemory>
-    requires rising { Rising names.now }
+    requires rising { IsStrictlySortedBy nat_cmp names.now }
     requires long { length told.old ≡ length names.now }
     ensures added { OnOk result (AreRaised names.now
         (λ x. told_on_by x (reports_at reports.now)) told.old told.new) }
@@ -152,7 +156,7 @@ fn sums_told<L: Ledger>(
     reports: &[&Report],
     steps: &mut Steps<L>,
 ) -> Result<Vec<u128>, NoMemory>
-    requires rising { Rising names.now }
+    requires rising { IsStrictlySortedBy nat_cmp names.now }
     ensures long { IfOk result (λ v. length v.items ≡ length names.now) }
     ensures told { IfOk result (λ v. AreSums names.now
         (λ x. told_on_by x (reports_at reports.now)) v.items) }
@@ -200,7 +204,7 @@ fn take_entry<L: Ledger>(
     standing: &mut Standing,
     steps: &mut Steps<L>,
 ) -> Result<(), NoMemory>
-    requires rising { Rising names.now }
+    requires rising { IsStrictlySortedBy nat_cmp names.now }
     requires names { names.now ≡ actors_of (reports_at reports.now) }
     requires long { IsLong (length names.now) standing.old }
     requires enough { AreEnough names.now (told_in entry teller) standing.old.told.items }
@@ -227,7 +231,7 @@ fn take_told<L: Ledger>(
     standing: &mut Standing,
     steps: &mut Steps<L>,
 ) -> Result<(), NoMemory>
-    requires rising { Rising names.now }
+    requires rising { IsStrictlySortedBy nat_cmp names.now }
     requires names { names.now ≡ actors_of (reports_at reports.now) }
     requires long { IsLong (length names.now) standing.old }
     requires enough { AreEnough names.now (λ x. told_on x report.now) standing.old.told.items }
@@ -254,7 +258,7 @@ fn take_off<L: Ledger>(
     standing: &mut Standing,
     steps: &mut Steps<L>,
 ) -> Result<(), NoMemory>
-    requires rising { Rising names.now }
+    requires rising { IsStrictlySortedBy nat_cmp names.now }
     requires names { names.now ≡ actors_of (reports_at reports.now) }
     requires place { (i < length names.now) × (length off.old ≡ length names.now) }
     requires falling { IsFalling (reports_at reports.now) (length names.now) off.old standing.old
@@ -283,7 +287,7 @@ fn first_falls<L: Ledger>(
     standing: &mut Standing,
     steps: &mut Steps<L>,
 ) -> Result<(), NoMemory>
-    requires rising { Rising names.now }
+    requires rising { IsStrictlySortedBy nat_cmp names.now }
     requires names { names.now ≡ actors_of (reports_at reports.now) }
     requires long { length standing.old.told.items ≡ length names.now }
     requires told { AreSums names.now (λ x. told_on_by x (reports_at reports.now))
@@ -311,7 +315,7 @@ fn settle<L: Ledger>(
     standing: &mut Standing,
     steps: &mut Steps<L>,
 ) -> Result<(), NoMemory>
-    requires rising { Rising names.now }
+    requires rising { IsStrictlySortedBy nat_cmp names.now }
     requires names { names.now ≡ actors_of (reports_at reports.now) }
     requires long { length off.old ≡ length names.now }
     requires falling { IsFalling (reports_at reports.now) (length names.now) off.old standing.old
@@ -338,7 +342,7 @@ fn unmarked<L: Ledger>(
     marks: &[bool],
     steps: &mut Steps<L>,
 ) -> Result<Vec<ActorName>, NoMemory>
-    requires rising { Rising names.now }
+    requires rising { IsStrictlySortedBy nat_cmp names.now }
     requires long { length marks.now ≡ length names.now }
     ensures found { IfOk result (λ v. v.items ≡ unmarked_names names.now marks.now) }
     ensures cost { steps.new ≤ steps.old + length names.now }
@@ -360,7 +364,7 @@ fn largest_among<L: Ledger>(
     reports: &[&Report],
     steps: &mut Steps<L>,
 ) -> Result<Vec<ActorName>, NoMemory>
-    requires rising { Rising names.now }
+    requires rising { IsStrictlySortedBy nat_cmp names.now }
     requires names { names.now ≡ actors_of (reports_at reports.now) }
     ensures found { IfOk result (λ v. v.items
         ≡ actors_of (largest_closed (reports_at reports.now))) }
@@ -388,11 +392,11 @@ pub(crate) fn closed_set<L: Ledger>(
     steps: &mut Steps<L>,
 ) -> Result<Vec<ActorName>, NoMemory>
     ensures found { IfOk result (λ v. v.items
-        ≡ actors_of (largest_closed (free_reports tokens.now.list reports.now))) }
-    ensures rising { IfOk result (λ v. Rising v.items) }
+        ≡ actors_of (largest_closed (free_reports tokens.now.list reports.now.list))) }
+    ensures rising { IfOk result (λ v. IsStrictlySortedBy nat_cmp v.items) }
     ensures apart { IfOk result (λ v. (m : ℕ) → has v.items m ≡ true
         → in_token tokens.now.list m ≡ false) }
-    ensures cost { steps.new ≤ steps.old + step_bound reports.now }
+    ensures cost { steps.new ≤ steps.old + step_bound reports.now.list }
 {
     let candidates = candidates(alloc, reports, tokens, steps)?;
     let names = actors(alloc, &candidates, steps)?;

@@ -1,11 +1,15 @@
-ghost use Rattle.std.specs.Prelude.{◌≡◌, OnOk};
+ghost use Rattle.std.specs.Prelude.{◌≡◌, ◌+◌, ◌<◌, ◌≤◌, OnOk, length};
+ghost use Rattle.cycle_detect.specs.Falling.{held_count};
 
 use crate::Detector;
 use letter_kinds::Note;
-use orca_names::ActorName;
+use orca_names::{ActorName, NoMemory};
 use plain_list::Listed;
 use std::alloc::{AllocError, Global};
+use std::marker::Brand;
+use std::sync::ledger::{Blank, Ledger};
 use std::test::Fail;
+use step_count::Steps;
 
 /// Hears that the actor is blocked with this count, and holds 1 on each of these.
 fn hear_block(
@@ -48,6 +52,35 @@ fn asked(alloc: Global) -> Result<Detector, Fail> {
     let token = detector.prepare_token(alloc, &set)?;
     detector.open_prepared(token);
     Ok(detector)
+}
+
+/// The largest closed set, with the steps that 1,000 reports may take which tell one count each, or
+/// all but one of them.
+fn closed_within<L: Ledger>(
+    alloc: Global,
+    detector: &Detector,
+    steps: &mut Steps<L>,
+) -> Result<Vec<ActorName>, NoMemory>
+    ensures chain { length detector.now.state.kept ≡ 1000 → held_count detector.now.state.kept ≡ 999
+        → steps.new ≤ steps.old + 12000 }
+    ensures ring { length detector.now.state.kept ≡ 1000 → held_count detector.now.state.kept ≡ 1000
+        → steps.new ≤ steps.old + 12006 }
+{
+    detector.largest_closed_within(alloc, steps)
+}
+
+/// How many members the largest closed set has.
+fn closed_count<L: Ledger>(
+    alloc: Global,
+    detector: &Detector,
+    blank: Blank,
+) -> Result<usize, NoMemory>
+    requires name { blank.name ≡ L.name }
+    requires parts { blank.parts ≡ L.parts }
+    requires some { 0 < blank.parts }
+{
+    let mut steps: Steps<L> = Steps::none(blank);
+    Ok(closed_within(alloc, detector, &mut steps)?.len())
 }
 
 /// Reports of the actors up to this one, each holding 1 on the next; in a ring the last holds 1 on
@@ -96,9 +129,11 @@ fn both_acknowledge(rt: HostRuntime) -> Result<(), Fail> {
     let mut detector = asked(rt.alloc())?;
     assert!(rt; detector.hear(ack(1, 1)).is_ok());
     assert!(rt; detector.ready() == None);
+    assert!(rt; detector.acked_members(1).is_none());
     assert!(rt; detector.hear(ack(1, 2)).is_ok());
     assert!(rt; detector.ready() == Some(1));
     assert!(rt; detector.acked(1));
+    assert!(rt; detector.acked_members(1) == Some(&[ActorName(1), ActorName(2)][..]));
     Ok(())
 }
 
@@ -148,7 +183,7 @@ fn hands_out_reports(rt: HostRuntime) -> Result<(), Fail> {
 fn chain_falls(rt: HostRuntime) -> Result<(), Fail> {
     let alloc = rt.alloc();
     let detector = row(alloc, 999, false)?;
-    assert!(rt; detector.largest_closed(alloc)?.is_empty());
+    assert!(rt; closed_count::<Brand>(alloc, &detector, Blank::new(1))? == 0);
     Ok(())
 }
 
@@ -156,6 +191,23 @@ fn chain_falls(rt: HostRuntime) -> Result<(), Fail> {
 fn ring_stands(rt: HostRuntime) -> Result<(), Fail> {
     let alloc = rt.alloc();
     let detector = row(alloc, 999, true)?;
-    assert!(rt; detector.largest_closed(alloc)?.len() == 1000);
+    assert!(rt; closed_count::<Brand>(alloc, &detector, Blank::new(1))? == 1000);
+    Ok(())
+}
+
+#[test]
+fn hears_what_was_prepared(rt: HostRuntime) -> Result<(), Fail> {
+    let alloc = rt.alloc();
+    let mut detector = Detector::new(alloc);
+    let note = Note::Block {
+        actor: ActorName(70),
+        count: 0,
+        held: Listed::new(alloc),
+    };
+    detector.prepare_hear(&note)?;
+    assert!(rt; !detector.news());
+    detector.hear_prepared(note);
+    assert!(rt; detector.news());
+    assert!(rt; detector.largest_closed(alloc)?.as_slice() == &[ActorName(70)][..]);
     Ok(())
 }

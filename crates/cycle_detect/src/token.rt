@@ -2,7 +2,8 @@
 
 ghost use Rattle.std.specs.Prelude.{◌≡◌, [], IfOk};
 ghost use Rattle.letter_kinds.specs.Detector.{all_acked, has, note_ack};
-ghost use Rattle.cycle_detect.specs.Rising.{Rising};
+ghost use Rattle.std.specs.List.Sorted.{IsStrictlySortedBy};
+ghost use Rattle.std.specs.Ordering.{nat_cmp};
 
 use crate::names::place_of;
 use orca_names::{ActorName, NoMemory};
@@ -38,7 +39,7 @@ impl Model for Token {
 impl Token {
     /// A token of these members, of which none acknowledged.
     pub(crate) fn new(alloc: Global, number: u64, members: &[ActorName]) -> Result<Token, NoMemory>
-        requires { Rising members.now }
+        requires { IsStrictlySortedBy nat_cmp members.now }
         ensures { IfOk result (λ t. t ≡ record { number = number; members = members.now; acked = [] }) }
     {
         Ok(Token {
@@ -59,7 +60,7 @@ impl Token {
     /// The members, rising.
     pub fn members(&self) -> &[ActorName]
         ensures value { result.now ≡ self.now.members }
-        ensures rising { Rising self.now.members }
+        ensures rising { IsStrictlySortedBy nat_cmp self.now.members }
     {
         &self.members
     }

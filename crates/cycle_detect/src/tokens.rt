@@ -5,8 +5,9 @@ ghost use Rattle.std.specs.List.{AllByRecursion, find};
 ghost use Rattle.std.specs.Option.{option_copied};
 ghost use Rattle.letter_kinds.specs.Detector.{has, in_token, note_ack};
 ghost use Rattle.cycle_detect.specs.Open.{first_acked, first_with, HasMemberAt, IsNumberedAt, IsTold, lower_of, numbers};
-ghost use Rattle.cycle_detect.specs.Rising.{Rising};
-ghost use Rattle.cycle_detect.specs.Room.{Fits, nothing_open};
+ghost use Rattle.std.specs.List.Sorted.{IsStrictlySortedBy};
+ghost use Rattle.std.specs.Ordering.{nat_cmp};
+ghost use Rattle.cycle_detect.specs.Room.{Fits, KeepsRoom, nothing_open};
 
 use crate::token::Token;
 use crate::told::Told;
@@ -16,7 +17,7 @@ use std::marker::Model;
 
 /// Where the token of this number stands.
 fn place_of_token(tokens: &[Token], number: u64) -> Option<usize>
-    requires { Rising (numbers tokens.now) }
+    requires { IsStrictlySortedBy nat_cmp (numbers tokens.now) }
     ensures some { IfSome result (IsNumberedAt tokens.now number) }
     ensures none { IfNone result (find (λ t. t.number == number) tokens.now ≡ None) }
 {
@@ -57,7 +58,7 @@ fn first_with(first: Option<u64>, token: &Token) -> Option<u64>
 
 /// Where the token stands of which the actor is a member, by the numbers that actors were told.
 fn place_of_member(tokens: &[Token], told: &Told, actor: ActorName) -> Option<usize>
-    requires numbered { Rising (numbers tokens.now) }
+    requires numbered { IsStrictlySortedBy nat_cmp (numbers tokens.now) }
     requires told { AllByRecursion (IsTold (slice_get told.now)) tokens.now }
     ensures some { IfSome result (HasMemberAt tokens.now actor) }
     ensures none { IfNone result (in_token tokens.now actor ≡ false) }
@@ -125,7 +126,7 @@ impl Tokens {
     /// The lowest number of a token that all its members acknowledged.
     pub(crate) fn first_acked(&self) -> Option<u64>
         ensures value { result ≡ first_acked self.now.list }
-        ensures numbered { Rising (numbers self.now.list) }
+        ensures numbered { IsStrictlySortedBy nat_cmp (numbers self.now.list) }
     {
         self.ready
     }
@@ -135,7 +136,7 @@ impl Tokens {
     /// # Errors
     /// `NoMemory` where memory was refused.
     pub(crate) fn reserve(&mut self, members: &[ActorName]) -> Result<(), NoMemory>
-        requires rising { Rising members.now }
+        requires rising { IsStrictlySortedBy nat_cmp members.now }
         ensures list { self.new.list ≡ self.old.list }
         ensures ok { OnOk result (Fits members.now self.new.room) }
     {
@@ -158,7 +159,8 @@ impl Tokens {
 
     /// The actor acknowledged the token of this number.
     pub(crate) fn note_ack(&mut self, number: u64, actor: ActorName)
-        ensures { self.new.list ≡ map (note_ack number actor) self.old.list }
+        ensures list { self.new.list ≡ map (note_ack number actor) self.old.list }
+        ensures room { KeepsRoom self.old.room self.new.room }
     {
         if let Some(i) = place_of_token(&self.open, number) {
             let token = &mut self.open[i];
@@ -174,6 +176,7 @@ impl Tokens {
         requires { i < length self.old.list }
         ensures token { slice_get self.old.list i ≡ Some result }
         ensures others { self.new.list ≡ filter (λ t. not (t.number == result.number)) self.old.list }
+        ensures room { KeepsRoom self.old.room self.new.room }
     {
         let token = self.open.remove(i);
         if self.ready == Some(token.number()) {
@@ -184,7 +187,8 @@ impl Tokens {
 
     /// Takes out the token of which the actor is a member.
     pub(crate) fn cancel(&mut self, actor: ActorName)
-        ensures { self.new.list ≡ filter (λ t. not (has t.members actor)) self.old.list }
+        ensures list { self.new.list ≡ filter (λ t. not (has t.members actor)) self.old.list }
+        ensures room { KeepsRoom self.old.room self.new.room }
     {
         if let Some(i) = place_of_member(&self.open, &self.told, actor) {
             self.take_at(i);

@@ -2,7 +2,8 @@
 
 ghost use Rattle.std.specs.Prelude.{◌≡◌, ℕ, ◌<◌, [], false, true, Some, OnOk, length, slice_get};
 ghost use Rattle.letter_kinds.specs.Detector.{has};
-ghost use Rattle.cycle_detect.specs.Rising.{Rising};
+ghost use Rattle.std.specs.List.Sorted.{IsStrictlySortedBy};
+ghost use Rattle.std.specs.Ordering.{nat_cmp};
 
 use orca_names::{ActorName, NoMemory};
 use std::alloc::Global;
@@ -44,7 +45,7 @@ impl Told {
     /// # Errors
     /// `NoMemory` where memory was refused.
     pub(crate) fn reserve(&mut self, actors: &[ActorName]) -> Result<(), NoMemory>
-        requires rising { Rising actors.now }
+        requires rising { IsStrictlySortedBy nat_cmp actors.now }
         ensures kept { (a n : ℕ) → slice_get self.old a ≡ Some n → slice_get self.new a ≡ Some n }
         ensures ok { OnOk result ((a : ℕ) → has actors.now a ≡ true → a < length self.new) }
     {

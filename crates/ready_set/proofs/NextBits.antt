@@ -16,7 +16,7 @@ pub place-bit : (words : List ℕ) (k word : ℕ) → get_or words (k / 64) 0 �
 place-bit words k word read = get_or-places words k ∙ ap (λ w. eqb (bit_at w (k % 64)) 1) read
 
 -- the only word's place
-one-place : (word k : ℕ) → k < 64 → get_or (places (word ∷ [])) k false ≡ eqb (bit_at word k) 1
+pub one-place : (word k : ℕ) → k < 64 → get_or (places (word ∷ [])) k false ≡ eqb (bit_at word k) 1
 one-place word k within =
     let first : k / 64 ≡ 0 = omega arith in
     let same : k % 64 ≡ k = omega arith in

@@ -30,8 +30,8 @@ impl Model for PlaceSet {
     ghost invariant = { λ s. 64 * length s.words.items ≤ 2 ^ 63 };
 }
 
-// The first bit of a word that is set, from a bit on.
-fn next_bit(word: u64, from: u32) -> Option<u32>
+/// The first bit of a word that is set, from a bit on.
+pub(crate) fn next_bit(word: u64, from: u32) -> Option<u32>
     requires { from < 64 }
     ensures { IsNext (places (word ∷ [])) from result }
 {

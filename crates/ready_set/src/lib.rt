@@ -4,6 +4,7 @@
 
 mod bits;
 mod flat;
+mod levels;
 mod set;
 
 pub use flat::PlaceSet;

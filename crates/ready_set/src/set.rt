@@ -3,8 +3,10 @@
 
 ghost use Rattle.std.specs.Prelude.{◌≡◌, ℕ, ◌+◌, ◌*◌, ◌<◌, ◌≤◌, vec_len, ◌++◌, [], false, List, Some, length, position, replicate, slice_get, slice_set, OnOk, OnErr};
 ghost use Rattle.ready_set.specs.Levels.{AreLevels};
+ghost use Rattle.ready_set.specs.Next.{IsNext};
 
 use crate::bits::{has_bit, lowest_bit, put_bit};
+use crate::levels::{first_in_word, next_in_word, next_word};
 use orca_names::NoMemory;
 use std::alloc::Global;
 use std::marker::Model;
@@ -14,7 +16,7 @@ pub const PLACES_LIMIT: usize = 262_144;
 
 /// A set of numbers below a bound that can grow, seen by contracts as a list with a place for each
 /// of these numbers: the place is on where its number is in the set.
-#[derive(Drop)]
+#[derive(Debug, Drop)]
 pub struct ReadySet {
     words: Vec<u64>,
     summary: Vec<u64>,
@@ -124,5 +126,21 @@ impl ReadySet {
         let c = lowest_bit(self.top);
         let b = 64 * c + lowest_bit(self.summary[c as usize]);
         Some(64 * b + lowest_bit(self.words[b as usize]))
+    }
+    /// The least number of the set from this one on; `None` exactly where there is none. At most five
+    /// words are looked at.
+    pub fn next(&self, from: u32) -> Option<u32>
+        ensures { IsNext self.now from result }
+    {
+        if from as usize >= self.len() {
+            return None;
+        }
+        if let Some(at) = next_in_word(&self.words, from) {
+            return Some(at);
+        }
+        match next_word(&self.summary, self.top, from / 64 + 1) {
+            Some(word) => Some(first_in_word(&self.words, word)),
+            None => None,
+        }
     }
 }

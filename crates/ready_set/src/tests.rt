@@ -34,3 +34,31 @@ fn the_least_is_found(rt: HostRuntime) -> Result<(), Fail> {
     }
     Ok(())
 }
+
+#[test]
+fn the_next_is_found(rt: HostRuntime) -> Result<(), Fail> {
+    let mut set = ReadySet::new(rt.alloc());
+    for _ in 0..1024 {
+        assert!(rt; set.len() < PLACES_LIMIT);
+        set.grow()?;
+    }
+    for a in [3, 70, 4095, 8200, 65_535] {
+        assert!(rt; (a as usize) < set.len());
+        set.put(a, true);
+    }
+    let steps = [
+        (0, Some(3)),
+        (3, Some(3)),
+        (4, Some(70)),
+        (71, Some(4095)),
+        (4096, Some(8200)),
+        (8201, Some(65_535)),
+        (65_535, Some(65_535)),
+        (65_536, None),
+        (u32::MAX, None),
+    ];
+    for (from, next) in steps {
+        assert_eq!(rt; set.next(from), next);
+    }
+    Ok(())
+}

@@ -1,15 +1,22 @@
-use Rattle.std.proofs.Common.{◌∙◌, ap}
-use Rattle.cycle_detect.specs.Kept.{reports_in}
+use Rattle.std.proofs.Common.{◌∙◌, ◌<◌, Some, true, ap, arith, length, refl, sym, subst, set}
 use Rattle.letter_kinds.specs.Reports.{keep_report}
-use Rattle.cycle_detect.proofs.KeptLemmas.{named_after, reports-insert, rising_of}
+use Rattle.cycle_detect.specs.Kept.{AreByActor}
+use Rattle.cycle_detect.specs.Room.{ReportsValue}
+use Rattle.cycle_detect.proofs.KeptLemmas.{by_actor-set, keep-slot}
 use Rattle.cycle_detect.proofs.reports.Reports.keep.Goals as goal
 
 pub invariant_of-self : goal.invariant_of-self
-invariant_of-self c = record {
-  named = named_after c.insert.result c.self.inside.by_actor.entries c.insert.new.self.entries c.args.report c.insert.ensures.entries c.insert.ensures.err c.self.invariant.named;
-  rising = rising_of _ c.insert.ensures.ordered;
-}
+invariant_of-self c =
+    let slots = c.self.inside.slots.items in
+    let n = c.number_of-number.result in
+    let within : n < length slots = omega (arith, c.requires, c.number_of-number.ensures, ap (λ (v : ReportsValue). v.actors) c.self.view_is) in
+    subst (AreByActor (set slots n (Some c.args.report))) (sym c.put.ensures)
+    (by_actor-set slots c.self.inside.kept n (Some c.args.report) true c.self.invariant within (sym c.number_of-number.ensures) refl)
 
-pub returns-in-Ok-clause-ok : goal.returns-in-Ok-clause-ok
-returns-in-Ok-clause-ok c =
-    ap reports_in c.in-Ok.ensures.entries ∙ (reports-insert c.self.inside.by_actor.entries c.args.report c.self.invariant.named ∙ ap (keep_report c.args.report) c.self.view_is)
+pub returns-clause-list : goal.returns-clause-list
+returns-clause-list c =
+    let slots = c.self.inside.slots.items in
+    let n = c.number_of-number.result in
+    let within : n < length slots = omega (arith, c.requires, c.number_of-number.ensures, ap (λ (v : ReportsValue). v.actors) c.self.view_is) in
+    keep-slot 0 n c.args.report slots c.self.invariant.named within (omega (arith, c.number_of-number.ensures))
+    ∙ ap (λ (v : ReportsValue). keep_report c.args.report v.list) c.self.view_is

@@ -3,4 +3,4 @@ use Rattle.cycle_detect.specs.Kept.{reports_of}
 use Rattle.cycle_detect.proofs.reports.Reports.of_all.Given as goal
 
 abbrev pub invariant-loop-actor : goal.invariant-loop-actor
-invariant-loop-actor l = l.found.items ≡ reports_of l.self (take l.actor-index l.actors)
+invariant-loop-actor l = l.found.items ≡ reports_of l.self.list (take l.actor-index l.actors)

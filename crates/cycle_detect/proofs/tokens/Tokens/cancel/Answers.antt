@@ -7,13 +7,13 @@ use Rattle.cycle_detect.proofs.Indexing.{cancels}
 use Rattle.cycle_detect.proofs.OpenLemmas.{cancel-none}
 use Rattle.cycle_detect.proofs.tokens.Tokens.cancel.Goals as goal
 
-pub returns-in-Some : goal.returns-in-Some
-returns-in-Some c =
+pub returns-in-Some-clause-list : goal.returns-in-Some-clause-list
+returns-in-Some-clause-list c =
     c.take_at.ensures.others ∙ cancels c.args.self.now.list (slice_get c.self.inside.told) c.self.inside.ready c.args.actor c.in-Some.i c.take_at.result
     (subst (λ ts. AreIndexed ts (slice_get c.self.inside.told) c.self.inside.ready) (ap (λ (v : TokensValue). v.list) c.self.view_is) c.self.invariant)
     (subst (λ ts. HasMemberAt ts c.args.actor c.in-Some.i) (c.deref.ensures.value ∙ ap (λ (v : TokensValue). v.list) c.self.view_is) c.in-Some.ensures.some)
     c.take_at.ensures.token
 
-pub returns-in_default : goal.returns-in_default
-returns-in_default c =
+pub returns-in_default-clause-list : goal.returns-in_default-clause-list
+returns-in_default-clause-list c =
     sym (cancel-none c.args.actor c.args.self.now.list (subst (λ ts. in_token ts c.args.actor ≡ false) (c.deref.ensures.value ∙ ap (λ (v : TokensValue). v.list) c.self.view_is) c.in_default.ensures.none))
