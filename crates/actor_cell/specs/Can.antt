@@ -1,5 +1,5 @@
--- When the counts of an actor allow an increment, a decrement or a mint: none becomes too large, and
--- there is enough to lower.
+-- When the counts of an actor allow an increment, a decrement or a mint: none becomes too large,
+-- and there is enough to lower.
 use Rattle.std.specs.Prelude.{ℕ, ◌≡◌, ◌+◌, ◌<◌, ◌≤◌, List, [], ◌∷◌, ⊤}
 use Rattle.orca_names.specs.Names.{owner_of}
 use Rattle.letter_kinds.specs.Counting.{Amount, lower_all, mint_one, raise_all}

@@ -24,9 +24,10 @@ use Rattle.actor_cell.specs.declared.turning.Move.TheVariants.{Post, Mint, New, 
 
 -- ---- what is found
 
--- the letter with its load; where the actor lacks some of this, what it mints first for the owner of
--- the first that it lacks
-abbrev pub post_or_mint : ℕ → ℕ → ℕ → List Value → List Loaded → List Loaded → List Loaded → Move
+-- the letter with its load and rows; where the actor lacks some of the load, what it mints first for
+-- the owner of the first that it lacks
+abbrev pub post_or_mint : ℕ → ℕ → ℕ → List Value → List Loaded → List Loaded → List Loaded
+    → Move
 post_or_mint weight to behaviour args load rows [] = Post to (App behaviour args load rows)
 post_or_mint weight to behaviour args load rows (e ∷ lacked) =
     Mint (owner_of e.0) (to_mint weight (owner_of e.0) (e ∷ lacked))
@@ -71,7 +72,8 @@ turned_at trace weight me c stop = record {
   act = move_by trace weight me (having_made stop.turn.made c) stop.act;
 }
 
--- where it got a thing that the actor needs, all is as before the turn, and the actor mints for that
+-- where it got a thing that the actor needs, all is as before the turn, and the actor mints for
+-- that
 abbrev pub turned_or_needs : Trace → ℕ → ℕ → Cell → Frame → Option Thing → Stop → Turned
 turned_or_needs trace weight me c frame None stop = turned_at trace weight me c stop
 turned_or_needs trace weight me c frame (Some x) stop = record {
@@ -118,8 +120,8 @@ cell_by me c frame turn place (New kind register) =
 cell_by me c frame turn place (Print value) = cell_kept turn (Some (frame_left frame turn place)) c
 cell_by me c frame turn place End = record (cell_kept turn None c) { dirty = true }
 
--- how many entries the table of what is held needs room for: what is minted may not be held yet, and a
--- new actor gets one when it has its name
+-- how many entries the table of what is held needs room for: what is minted may not be held yet,
+-- and a new actor gets one when it has its name
 abbrev pub new_entries : Move → ℕ
 new_entries (Post to letter) = 0
 new_entries (Mint owner things) = length things
@@ -130,7 +132,8 @@ new_entries End = 0
 -- ---- what it gives out
 
 abbrev pub out_of : Move → Out
-out_of (Post to letter) = record { letters = (to, letter) ∷ []; notes = []; print = None; made = None }
+out_of (Post to letter) =
+    record { letters = (to, letter) ∷ []; notes = []; print = None; made = None }
 out_of (Mint owner things) =
     record { letters = (owner, Inc things) ∷ []; notes = []; print = None; made = None }
 out_of (New kind register) =

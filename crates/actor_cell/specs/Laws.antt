@@ -46,7 +46,8 @@ abbrev pub BlocksByParts : Type 0
 BlocksByParts =
     (s : State) (a : ℕ) (c : Cell) (mail : List Letter)
     → block s a c mail
-    ≡ Goes (pushed (noting (report_of a c ∷ [])) (with_cell a (record c { reported = true }) mail s))
+    ≡ Goes (pushed (noting (report_of a c ∷ []))
+    (with_cell a (record c { reported = true }) mail s))
 
 -- the state after a go that leaves this cell and gives this out
 abbrev pub after_go : State → ℕ → Cell → List Letter → Gone → Step State

@@ -13,8 +13,8 @@ CanTake me (Inc things) h = CanRaise me things h
 CanTake me (Dec things) h = CanLower me things h
 CanTake me (Confirm token) h = ⊤
 
--- so much room suffices for what the letter brings: in the table of what is held, and in that of the
--- rows that letters bring uncounted
+-- so much room suffices for what the letter brings: in the table of what is held, and in that of
+-- the rows that letters bring uncounted
 abbrev pub HasRoomFor : Letter → ℕ → ℕ → Type 0
 HasRoomFor (App behaviour args load rows) held known = (length load ≤ held) × (length rows ≤ known)
 HasRoomFor (Inc things) held known = ⊤

@@ -51,7 +51,8 @@ impl Cell {
     // The count that it holds on a thing rises, from 0 where nothing was held.
     fn mint_one(&mut self, amount: &(Thing, u64))
         requires room { 0 < self.old.foreign.spare }
-        requires fits { held_in (as_cell self.old).holdings amount.now.0 + amount.now.1 < count_limit }
+        requires fits { let h = (as_cell self.old).holdings in
+            held_in h amount.now.0 + amount.now.1 < count_limit }
         ensures counts { as_cell self.new ≡ record (as_cell self.old) {
           holdings = mint_one amount.now (as_cell self.old).holdings;
         } }
@@ -147,12 +148,14 @@ impl Cell {
     /// Does what was found of its turn. It takes no memory.
     pub fn apply_go(&mut self, turn: &Turn, found: &Turned)
         requires running { IsSome self.old.frame }
-        requires can { CanMove self.old.heap.owner (as_cell self.old).holdings turn.now found.now.act }
+        requires can { let me = self.old.heap.owner in
+            CanMove me (as_cell self.old).holdings turn.now found.now.act }
         requires room { length turn.now.made ≤ self.old.heap.spare }
         requires entries { new_entries found.now.act ≤ self.old.foreign.spare }
         requires serials { self.old.heap.next + length turn.now.made < 2 ^ 64 }
-        ensures cell { (frame : frame_of_rules) → self.old.frame ≡ Some frame → as_cell self.new
-            ≡ cell_by self.old.heap.owner (as_cell self.old) frame turn.now found.now.place found.now.act }
+        ensures cell { let me = self.old.heap.owner in
+            (frame : frame_of_rules) → self.old.frame ≡ Some frame → as_cell self.new
+            ≡ cell_by me (as_cell self.old) frame turn.now found.now.place found.now.act }
         ensures owner { self.new.heap.owner ≡ self.old.heap.owner }
         ensures room { IsSome (out_of found.now.act).made → 0 < self.new.foreign.spare }
     {

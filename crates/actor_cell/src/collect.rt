@@ -95,14 +95,15 @@ impl Cell {
         self.dirty = false;
     }
 
-    /// The idle actor frees what is not marked, gives back what it holds no more, and forgets the rows
-    /// that letters brought and that are in use no more.
+    /// The idle actor frees what is not marked, gives back what it holds no more, and forgets the
+    /// rows that letters brought and that are in use no more.
     ///
     /// # Errors
     /// `NoMemory` where memory was refused; the cell is then as it was.
     pub fn collect(&mut self, alloc: Global, trace: Trace) -> Result<Out, NoMemory>
         requires { KnowsOthersOnly self.old }
-        ensures cell { OnOk result (as_cell self.new ≡ swept trace self.old.heap.owner (as_cell self.old)) }
+        ensures cell { let me = self.old.heap.owner in
+            OnOk result (as_cell self.new ≡ swept trace me (as_cell self.old)) }
         ensures out { let marked = is_marked trace self.old.heap.owner (as_cell self.old) in
             IfOk result (λ out. out
             ≡ returning (by_owner (given_back marked (as_cell self.old).holdings))) }

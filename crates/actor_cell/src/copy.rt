@@ -55,7 +55,8 @@ fn same_room(frame: &FrameRoom, other: &FrameRoom) -> bool
 impl Cell {
     // Kind, fields, frame and marks are those of another cell.
     fn same_but_counts(&self, other: &Cell) -> bool
-        ensures { IsTrue result ↔ ((self.now.kind ≡ other.now.kind) × (self.now.fields ≡ other.now.fields)
+        ensures { IsTrue result ↔ ((self.now.kind ≡ other.now.kind)
+            × (self.now.fields ≡ other.now.fields)
             × (self.now.frame ≡ other.now.frame) × (self.now.dirty ≡ other.now.dirty)
             × (self.now.reported ≡ other.now.reported)) }
     {

@@ -1,13 +1,8 @@
 // Go: a frame runs up to its next act.
 
-ghost use Rattle.std.specs.Prelude.{◌≡◌, ◌+◌, ◌<◌, ◌≤◌, ◌^◌, IfOk, IsSome, OnErr, OnOk, Some, length, map, option_map};
+ghost use Rattle.std.specs.Prelude.{◌≡◌, ◌+◌, ◌<◌, ◌≤◌, ◌^◌, IfOk, IsSome, OnOk, Some, length, map, option_map};
 ghost use Rattle.orca_names.specs.Names.{owner_of};
-ghost use Rattle.orca_names.specs.declared.trace.Trace.TheVariants.{Deep as deep, Roots as roots};
-ghost use Rattle.known_rows.specs.Holdings.{holdings_of};
-ghost use Rattle.reach_walk.specs.Marks.{load_of as its_load};
-ghost use Rattle.letter_kinds.specs.Holdings.{row_of, with_made};
 ghost use Rattle.letter_kinds.specs.Counting.{lacking_of};
-ghost use Rattle.machine_rules.specs.Cell.{known_objects};
 ghost use Rattle.machine_rules.specs.Go.{lacking_from, load_from, needed, rows_from, to_need, turn_of_cell};
 ghost use Rattle.turn_step.specs.Turns.{HaltsAt, act_of};
 ghost use Rattle.actor_cell.specs.declared.turning.Move.TheVariants.{Mint as mint};
@@ -17,7 +12,6 @@ ghost use Rattle.actor_cell.specs.InTurn.{table_by};
 
 use crate::cell::Cell;
 use crate::holding::Holding;
-use crate::turn_rows::TurnRows;
 use crate::turning::{Move, Turned};
 use behaviour_check::Checked;
 use behaviour_code::Name;
@@ -26,8 +20,7 @@ use known_rows::KnownRows;
 use letter_kinds::{Amounts, Letter, Load};
 use orca_names::{ActorName, Args, NoMemory, Reading, Row, Thing, Trace};
 use plain_list::Listed;
-use reach_walk::{Unplaced, load_of};
-use root_trace::{load_roots, missing, rows_of};
+use root_trace::missing;
 use std::alloc::Global;
 use trace_send::lacking;
 use turn_rules::Frame;
@@ -45,88 +38,6 @@ fn amounts_of(alloc: Global, things: &[Thing], weight: u32) -> Result<Amounts, N
 }
 
 impl Cell {
-    // The table in which it finds the rows of others' objects.
-    #[inline(always)]
-    fn table(&self, trace: Trace) -> &ForeignTable
-        ensures { result.now ≡ table_by trace self.now }
-    {
-        match trace {
-            Trace::Deep => &self.foreign,
-            Trace::Roots => self.known.held(),
-        }
-    }
-
-    // The rows that it has by this table, with those that its turn made.
-    fn rows_with<'a>(&'a self, table: &'a ForeignTable, made: &'a [Row]) -> TurnRows<'a>
-        ensures { (result.known.heap.now ≡ self.now.heap)
-            × (result.known.foreign.now ≡ table.now) × (result.made.now ≡ made.now) }
-    {
-        TurnRows {
-            known: KnownRows {
-                heap: &self.heap,
-                foreign: table,
-            },
-            made,
-        }
-    }
-
-    // All that these arguments reach, where the turn made these rows.
-    fn reached(&self, alloc: Global, made: &[Row], args: &Args) -> Result<Load, NoMemory>
-        ensures { let h = with_made made.now (as_cell self.now).holdings in
-            IfOk result (λ load. load ≡ load_from deep self.now.heap.owner h args.now) }
-    {
-        let rows = self.rows_with(&self.foreign, made);
-        let mut reader = Unplaced {
-            of: Reading { rows: &rows },
-        };
-        let load = load_of(alloc, args, &mut reader);
-        let Unplaced { of: _ } = reader;
-        load
-    }
-
-    // What a letter with these arguments loads, where the turn made these rows.
-    fn load(&self, alloc: Global, trace: Trace, made: &[Row], args: &Args) -> Result<Load, NoMemory>
-        ensures { let h = with_made made.now (as_cell self.now).holdings in
-            IfOk result (λ load. load ≡ load_from trace self.now.heap.owner h args.now) }
-    {
-        match trace {
-            Trace::Deep => self.reached(alloc, made, args),
-            Trace::Roots => load_roots(alloc, args),
-        }
-    }
-
-    // The rows that these arguments reach, its own and those that letters brought, where the turn made
-    // these.
-    fn brought(&self, alloc: Global, made: &[Row], args: &Args) -> Result<Load, NoMemory>
-        ensures { let c = having_made made.now (as_cell self.now) in
-            IfOk result (λ rows. rows ≡ rows_from roots self.now.heap.owner c args.now) }
-    {
-        let rows = self.rows_with(self.known.held(), made);
-        let mut reader = Unplaced {
-            of: Reading { rows: &rows },
-        };
-        let carried = rows_of(alloc, args, &mut reader);
-        let Unplaced { of: _ } = reader;
-        carried
-    }
-
-    // The rows that a letter with these arguments carries, where the turn made these.
-    fn carried(
-        &self,
-        alloc: Global,
-        trace: Trace,
-        made: &[Row],
-        args: &Args,
-    ) -> Result<Load, NoMemory>
-        ensures { let c = having_made made.now (as_cell self.now) in
-            IfOk result (λ rows. rows ≡ rows_from trace self.now.heap.owner c args.now) }
-    {
-        match trace {
-            Trace::Deep => Ok(Listed::new(alloc)),
-            Trace::Roots => self.brought(alloc, made, args),
-        }
-    }
-
     // What it mints before it can send a letter with this load.
     fn minting(
         &self,
@@ -134,8 +45,8 @@ impl Cell {
         weight: u32,
         load: &Load,
     ) -> Result<Option<(ActorName, Amounts)>, NoMemory>
-        ensures { IfOk result (λ found. found
-            ≡ minted_first weight (lacking_of self.now.heap.owner (as_cell self.now).holdings load.now)) }
+        ensures { let lacked = lacking_of self.now.heap.owner (as_cell self.now).holdings load.now in
+            IfOk result (λ found. found ≡ minted_first weight lacked) }
     {
         match lacking(alloc, load, self.heap.owner(), &self.foreign)? {
             Some(lacked) => {
@@ -220,7 +131,8 @@ impl Cell {
 
     // What it mints before its turn can get this thing.
     fn needing(&self, alloc: Global, weight: u32, thing: &Thing) -> Result<Move, NoMemory>
-        ensures { let things = to_need weight self.now.heap.owner (as_cell self.now).holdings thing.now in
+        ensures { let h = (as_cell self.now).holdings in
+            let things = to_need weight self.now.heap.owner h thing.now in
             IfOk result (λ act. act ≡ mint (owner_of thing.now) things) }
     {
         let lacked = missing(alloc, thing, self.heap.owner(), &self.foreign)?;
@@ -229,6 +141,17 @@ impl Cell {
             owner: thing.owner(),
             things,
         })
+    }
+
+    // The table in which it finds the rows of others' objects.
+    #[inline(always)]
+    fn table(&self, trace: Trace) -> &ForeignTable
+        ensures { result.now ≡ table_by trace self.now }
+    {
+        match trace {
+            Trace::Deep => &self.foreign,
+            Trace::Roots => self.known.held(),
+        }
     }
 
     // Runs its frame up to where its turn halts.
@@ -286,7 +209,8 @@ impl Cell {
         requires running { IsSome self.now.frame }
         requires serials { self.now.heap.next + 1024 < 2 ^ 64 }
         ensures found { let me = self.now.heap.owner in
-            IfOk result (λ found. option_map (turned_in trace weight code.now me (as_cell self.now)) self.now.frame
+            let its_turn = turned_in trace weight code.now me (as_cell self.now) in
+            IfOk result (λ found. option_map its_turn self.now.frame
             ≡ Some (record { turn = turn.new; place = found.place; act = found.act })) }
         ensures few { OnOk result (length turn.new.made ≤ 1024) }
     {

@@ -33,7 +33,8 @@ fn note_room(alloc: Global, comes: bool) -> Result<Vec<Note>, AllocError>
 impl Cell {
     // It has something to do, and did not report that it is blocked.
     fn wake(&mut self) -> Option<Note>
-        ensures cell { as_cell self.new ≡ record (as_cell self.old) { dirty = true; reported = false } }
+        ensures cell { as_cell self.new
+            ≡ record (as_cell self.old) { dirty = true; reported = false } }
         ensures note { let note = notes.Unblock self.old.heap.owner in
             result ≡ (if self.old.reported then Some note else None) }
         ensures owner { self.new.heap.owner ≡ self.old.heap.owner }
@@ -50,7 +51,8 @@ impl Cell {
 
     // It is still blocked, if it reported that.
     fn ack(&self, token: u64) -> Option<Note>
-        ensures { result ≡ (if self.now.reported then Some (notes.Ack token self.now.heap.owner) else None) }
+        ensures { let note = notes.Ack token self.now.heap.owner in
+            result ≡ (if self.now.reported then Some note else None) }
     {
         if !self.reported {
             return None;
@@ -68,7 +70,8 @@ impl Cell {
     pub fn reserve_take(&mut self, letter: &Letter) -> Result<(), NoMemory>
         ensures cell { as_cell self.new ≡ as_cell self.old }
         ensures owner { self.new.heap.owner ≡ self.old.heap.owner }
-        ensures room { OnOk result (HasRoomFor letter.now self.new.foreign.spare self.new.known.spare) }
+        ensures room { let held = self.new.foreign.spare in
+            OnOk result (HasRoomFor letter.now held self.new.known.spare) }
     {
         match letter {
             Letter::App {

@@ -16,8 +16,8 @@ use orca_names::{Fields, NoMemory};
 use reach_walk::mark_bits;
 use std::alloc::Global;
 
-/// The plan of a sweep of the rows that letters brought, which stand in a table of their own: it keeps
-/// what the fields, and the own objects with a count above 0, reach through own rows and these.
+/// The plan of a sweep of the rows that letters brought, which stand in a table of their own: it
+/// keeps what the fields, and the own objects with a count above 0, reach through own rows and these.
 ///
 /// # Errors
 /// `NoMemory` where memory was refused.
