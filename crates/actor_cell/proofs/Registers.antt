@@ -2,7 +2,7 @@
 use Rattle.std.proofs.Common.{◌≡◌, ℕ, zero, suc, ◌+◌, ◌<◌, Bool, cond, Option, Some, None, List, [], ◌∷◌, refl}
 use Rattle.std.specs.List.{All}
 use Rattle.std.specs.Option.{option_map_or}
-use Rattle.std.specs.Prelude.{drop, slice_get}
+use Rattle.std.specs.Prelude.{drop, slice_get, ⊤}
 use Rattle.std.proofs.lemmas.List.Elements.{All-drop, All-nil}
 use Rattle.orca_names.specs.declared.limits.TheConstants.{REGISTERS}
 use Rattle.orca_names.specs.declared.names.Value.{Value}
@@ -27,8 +27,8 @@ use Rattle.actor_cell.specs.Goes.{FitsRegister}
 -- ---- one instruction
 
 abbrev EffectFits : Effect → Type 0
-EffectFits Next = Unit {0}
-EffectFits (Leap label) = Unit {0}
+EffectFits Next = ⊤
+EffectFits (Leap label) = ⊤
 EffectFits (Acts a) = FitsRegister a
 
 post_fits : (v : Value) (behaviour : ℕ) (args : List Value) → EffectFits (post_to v behaviour args)

@@ -40,7 +40,8 @@ impl Cell {
     pub fn block(&mut self, alloc: Global) -> Result<Out, NoMemory>
         ensures out { IfOk result (λ out. out
             ≡ noting (report_of self.old.heap.owner (as_cell self.old) ∷ [])) }
-        ensures cell { OnOk result (as_cell self.new ≡ record (as_cell self.old) { reported = true }) }
+        ensures cell { let before = as_cell self.old in
+            OnOk result (as_cell self.new ≡ record before { reported = true }) }
         ensures same { OnErr result (as_cell self.new ≡ as_cell self.old) }
         ensures owner { self.new.heap.owner ≡ self.old.heap.owner }
     {

@@ -55,7 +55,8 @@ fn same_room(frame: &FrameRoom, other: &FrameRoom) -> bool
 impl Cell {
     // Kind, fields, frame and marks are those of another cell.
     fn same_but_counts(&self, other: &Cell) -> bool
-        ensures { IsTrue result ↔ ((self.now.kind ≡ other.now.kind) × (self.now.fields ≡ other.now.fields)
+        ensures { IsTrue result ↔ ((self.now.kind ≡ other.now.kind)
+            × (self.now.fields ≡ other.now.fields)
             × (self.now.frame ≡ other.now.frame) × (self.now.dirty ≡ other.now.dirty)
             × (self.now.reported ≡ other.now.reported)) }
     {
@@ -76,12 +77,14 @@ impl Cell {
     {
         let heap = self.heap.copy(alloc)?;
         let foreign = self.foreign.copy(alloc)?;
+        let known = self.known.copy(alloc)?;
         Ok(Cell {
             kind: self.kind,
             fields: self.fields,
             frame: copied_frame(&self.frame),
             heap,
             foreign,
+            known,
             count: self.count,
             dirty: self.dirty,
             reported: self.reported,
@@ -96,5 +99,6 @@ impl Cell {
             && self.same_but_counts(other)
             && self.heap.same(&other.heap)
             && self.foreign.same(&other.foreign)
+            && self.known.same(&other.known)
     }
 }

@@ -20,8 +20,8 @@ use orca_names::{ActorName, NoMemory};
 use plain_list::Listed;
 use std::alloc::Global;
 
-// Adds the count on a thing, by its place in the order of things, to what goes back, if the thing is
-// another's.
+// Adds the count on a thing, by its place in the order of things, to what goes back, if the thing
+// is another's.
 fn note_held(
     alloc: Global,
     back: &mut Vec<(ActorName, Amounts)>,
@@ -46,7 +46,8 @@ fn note_held(
 impl Cell {
     // What it holds on others' things, in groups of their owners.
     fn gather_held(&self, alloc: Global) -> Result<Vec<(ActorName, Amounts)>, NoMemory>
-        ensures { IfOk result (λ back. back.items ≡ left_behind self.now.heap.owner (as_cell self.now)) }
+        ensures { let its = left_behind self.now.heap.owner (as_cell self.now) in
+            IfOk result (λ back. back.items ≡ its) }
     {
         let mut back = Vec::new(alloc);
         let me = self.heap.owner();
@@ -62,7 +63,8 @@ impl Cell {
     /// # Errors
     /// `NoMemory` where memory was refused.
     pub fn leave(&self, alloc: Global) -> Result<Out, NoMemory>
-        ensures { IfOk result (λ out. out ≡ returning (left_behind self.now.heap.owner (as_cell self.now))) }
+        ensures { let its = left_behind self.now.heap.owner (as_cell self.now) in
+            IfOk result (λ out. out ≡ returning its) }
     {
         let back = self.gather_held(alloc)?;
         Ok(Out {
