@@ -1,0 +1,7 @@
+pub mod Allowing
+pub mod Going
+pub mod Holding
+pub mod Keeping
+pub mod Reaping
+pub mod Room
+pub mod Taking
