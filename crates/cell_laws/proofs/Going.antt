@@ -28,7 +28,7 @@ use Rattle.machine_rules.specs.State.{State}
 use Rattle.plain_rules.specs.Machine.{PlainState}
 use Rattle.count_laws.proofs.agreement.FollowingGo.{load_known}
 use Rattle.count_laws.proofs.knowledge.Lacking.{counted_mint, to_mint_theirs}
-use Rattle.count_laws.proofs.letters.Once.{load_once, minted_once}
+use Rattle.count_laws.proofs.letters.Once.{load_once, minted_once, needed_once}
 use Rattle.count_laws.proofs.local.NoSelf.{held-with_made}
 use Rattle.count_laws.specs.Facts.{Facts}
 use Rattle.count_laws.specs.Known.{IsKnown}
@@ -37,7 +37,7 @@ use Rattle.actor_cell.specs.Goes.{CanGo, CanMove, move_by, post_or_mint, turned_
 use Rattle.cell_laws.proofs.Allowing.{can_mint, each_loaded}
 use Rattle.cell_laws.proofs.Keeping.{runs_keep_program}
 use Rattle.cell_laws.proofs.Room.{facts, held_fits, own_fits}
-use Rattle.cell_laws.specs.Goes.{Posts, RunsAllowGoes, RunsAllowMints, RunsAllowSends, turned_holdings}
+use Rattle.cell_laws.specs.Goes.{Posts, RunsAllowGets, RunsAllowGoes, RunsAllowMints, RunsAllowSends, turned_holdings}
 use Rattle.cell_laws.specs.Runs.{IsShortRun}
 
 -- of a thing that is loaded and known, the counts allow that it is sent
@@ -101,6 +101,12 @@ pub runs_allow_mints : RunsAllowMints
 runs_allow_mints program options book t short a c mail at = subst (λ q. (frame : Frame) (args : List Value) → Posts options.trace q a c frame args → (e : Loaded) (lacked : List Loaded)
     → lacking_from options.trace a (turned_holdings options.trace q a c frame) args ≡ e ∷ lacked → CanMint (to_mint options.weight (owner_of e.0) (e ∷ lacked)) c.holdings)
     (same program options book t short a c mail at) (mints program options book t short a c mail at)
+
+pub runs_allow_gets : RunsAllowGets
+runs_allow_gets program options book t short a c mail at x y =
+    let room = held_fits program options book t short a c mail at y in
+    let most = needed_once options.weight a c.holdings x y in
+    omega arith
 
 -- ---- with deep tracing
 

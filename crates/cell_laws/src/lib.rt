@@ -1,8 +1,8 @@
-//! In every run of the machine that collects, what the code of one actor asks before each of its events
-//! is so: its counts allow what the event does to them, and there is room for what it makes.
+//! In every run of the machine that collects, what the code of one actor asks before each of its
+//! events is so: its counts allow what the event does to them, and there is room for what it makes.
 //!
-//! The conditions are those of `actor_cell` and `trace_send`. The laws here stand on those of whole runs,
-//! in `machine_laws`.
+//! The conditions are those of `actor_cell` and `trace_send`. The laws here stand on those of whole
+//! runs, in `machine_laws`.
 #![tactic(auto)]
 
 mod laws;
