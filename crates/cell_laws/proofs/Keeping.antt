@@ -79,15 +79,11 @@ pub runs_make_few_objects : RunsMakeFewObjects
 runs_make_few_objects program options book t good run = let few = (leads_grow book (first_state program options) t run).objects good in omega arith
 
 pub runs_have_room : RunsHaveRoom
-runs_have_room program options book t good short =
-    let few = runs_make_few_objects program options book t good short.run in
-    let long = short.short in
-    let opened = runs_open program options book t short.run in
-    record {
-      objects = omega arith;
-      actors = runs_make_few program options book t short.run;
-      tokens = omega arith;
-    }
+runs_have_room program options book t short = record {
+  objects = λ good. let few = runs_make_few_objects program options book t good short.run in let long = short.short in omega arith;
+  actors = runs_make_few program options book t short.run;
+  tokens = let opened = runs_open program options book t short.run in let long = short.short in omega arith;
+}
 
 -- an actor made no more objects than all actors did
 serial_below : (trace : Trace) (p : PlainState) (s : State) → Facts trace p s → (a : ℕ) (c : Cell) (mail : List Letter) → seat_at s.actors a ≡ seat c mail → c.holdings.next ≤ s.objects
@@ -103,5 +99,5 @@ pub runs_have_serials : RunsHaveSerials
 runs_have_serials program options book t short a c mail at good =
     let all = facts program options book t short in
     let serial = serial_below options.trace all.0 t all.1.beside a c mail at in
-    let room = (runs_have_room program options book t good short).objects in
+    let room = (runs_have_room program options book t short).objects good in
     omega arith
