@@ -1,21 +1,18 @@
 -- Conditions on a list of amounts, in terms of the counts before the first of them.
-use Rattle.std.proofs.Common.{◌≡◌, ℕ, ◌+◌, ◌<◌, ◌≤◌, IsSome, List, [], ◌∷◌, refl, arith, ⊎_elim}
+use Rattle.std.proofs.Common.{◌≡◌, ℕ, ◌+◌, ◌<◌, ◌≤◌, List, [], ◌∷◌, refl, arith, ⊎_elim}
 use Rattle.std.specs.Prelude.{All}
-use Rattle.std.specs.FinMap as m
 use Rattle.std.proofs.lemmas.List.Elements.{All-cons, All-nil}
 use Rattle.orca_names.proofs.ThingOrder.{cases_thing}
 use Rattle.orca_names.specs.Names.{owner_of}
 use Rattle.orca_names.specs.declared.names.Thing.{Thing}
 use Rattle.ref_weights.specs.Limit.{count_limit}
-use Rattle.letter_kinds.proofs.Amounts.{amount_more, held-mint_all, own-lower_all}
+use Rattle.letter_kinds.proofs.Amounts.{held-mint_all, own-lower_all}
 use Rattle.letter_kinds.proofs.Counts.{amount-nil, amount-other, amount-same, loaded-same, loaded_more}
 use Rattle.letter_kinds.proofs.Raising.{own_le-raise_all}
 use Rattle.letter_kinds.specs.Counting.{Amount, Loaded, lower_all, mint_all, mint_one, raise_all}
 use Rattle.letter_kinds.specs.Holdings.{Holdings, held_in, own_in}
 use Rattle.letter_kinds.specs.Sums.{amount_of, times_loaded}
-use Rattle.trace_send.proofs.Steps.{held_some}
 use Rattle.actor_cell.specs.Can.{CanLower, CanMint, CanRaise}
-use Rattle.count_laws.proofs.balance.InHand.{AllCounted}
 
 -- what holds of each thing that is loaded holds of each element
 pub each_loaded : (P : Loaded → Type 0) (load : List Loaded) → ((e : Loaded) → 0 < times_loaded e.0 load → P e) → All P load
@@ -47,20 +44,13 @@ can_lower me (e ∷ things) h enough = (
       (λ x mine. let r = enough x mine in let z = amount_parts x e things in let down = own-lower_all me x (e ∷ []) h mine in omega arith),
 )
 
-held_entry : (h : Holdings) (x : Thing) → 0 < held_in h x → IsSome (m.get h.foreign x)
-unfolding held_in
-held_entry h x some = held_some (m.get h.foreign x) some
-
 held-mint_one : (x : Thing) (e : Amount) (h : Holdings) → held_in (mint_one e h) x ≡ held_in h x + amount_of x (e ∷ [])
 unfolding mint_all
 held-mint_one x e h = held-mint_all x (e ∷ []) h
 
-pub can_mint : (things : List Amount) (h : Holdings) → AllCounted things → ((x : Thing) → 0 < amount_of x things → 0 < held_in h x) → ((x : Thing) → held_in h x + amount_of x things < count_limit) → CanMint things h
-can_mint [] h counted held room = tt
-can_mint (e ∷ things) h counted held room = (
-  held_entry h e.0 (held e.0 (let c = counted.0 in let z = amount-same e.0 e things refl in omega arith)),
+pub can_mint : (things : List Amount) (h : Holdings) → ((x : Thing) → held_in h x + amount_of x things < count_limit) → CanMint things h
+can_mint [] h room = tt
+can_mint (e ∷ things) h room = (
   (let r = room e.0 in let z = amount-same e.0 e things refl in omega arith),
-  can_mint things (mint_one e h) counted.1
-      (λ x some. let w = held x (amount_more x e things some) in let k = held-mint_one x e h in omega arith)
-      (λ x. let r = room x in let z = amount_parts x e things in let k = held-mint_one x e h in omega arith),
+  can_mint things (mint_one e h) (λ x. let r = room x in let z = amount_parts x e things in let k = held-mint_one x e h in omega arith),
 )

@@ -21,6 +21,7 @@ use Rattle.machine_rules.specs.Cell.{Cell}
 use Rattle.machine_rules.specs.Options.{Options}
 use Rattle.machine_rules.specs.State.{State}
 use Rattle.plain_rules.specs.Machine.{plain_row}
+use Rattle.actor_cell.specs.Takes.{CanTake}
 use Rattle.count_laws.proofs.balance.Safety.{safe_first}
 use Rattle.count_laws.proofs.balance.SeatReads.{letter_App, letter_Dec, letter_Inc}
 use Rattle.count_laws.specs.Facts.{IsSound}
@@ -28,7 +29,7 @@ use Rattle.count_laws.specs.Prefixes.{IsCoveredAt}
 use Rattle.cell_laws.proofs.Allowing.{can_lower, can_raise, each_loaded}
 use Rattle.cell_laws.proofs.Room.{facts, held_fits, own_fits}
 use Rattle.cell_laws.specs.Runs.{IsShortRun}
-use Rattle.cell_laws.specs.Takes.{CountsAllow, CountsAllowFirst, RunsAllowTakes}
+use Rattle.cell_laws.specs.Takes.{CanTakeFirst, RunsAllowTakes}
 
 -- the first letter loads each thing once
 first_once : (trace : Trace) (all : Thing → Option Row) (a : ℕ) (c : Cell) (behaviour : ℕ) (args : List Value) (load rows : List Loaded) (later : List Letter)
@@ -44,7 +45,7 @@ module _ (program : Program) (options : Options) (book : List Event) (t : State)
       safe_first options.trace x (own_in c.holdings x) letter later
       (subst (IsCoveredAt options.trace x) (ap (seat_at t.actors) mine ∙ at) ((facts program options book t short).1.beside.counts.prefixes x))
 
-  allowed : (letter : Letter) (later : List Letter) → seat_at t.actors a ≡ seat c (letter ∷ later) → CountsAllow a letter c.holdings
+  allowed : (letter : Letter) (later : List Letter) → seat_at t.actors a ≡ seat c (letter ∷ later) → CanTake a letter c.holdings
   allowed (App behaviour args load rows) later at =
       let letter = App behaviour args load rows in
       let all = facts program options book t short in
@@ -62,7 +63,7 @@ module _ (program : Program) (options : Options) (book : List Event) (t : State)
       let z = enough (Dec things) later at x mine in let l = letter_Dec x things in omega (arith, l.0, l.1, l.2))
   allowed (Confirm token) later at = tt
 
-  allowed_first : (mail : List Letter) → seat_at t.actors a ≡ seat c mail → CountsAllowFirst a mail c.holdings
+  allowed_first : (mail : List Letter) → seat_at t.actors a ≡ seat c mail → CanTakeFirst a mail c.holdings
   allowed_first [] at = tt
   allowed_first (letter ∷ later) at = allowed letter later at
 

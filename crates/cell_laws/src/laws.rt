@@ -1,6 +1,6 @@
 // In every run, each actor's counts allow what its next event does to them.
 
-ghost use Rattle.cell_laws.specs.Goes.{RunsAllowGets, RunsAllowGoes, RunsAllowMints, RunsAllowSends};
+ghost use Rattle.cell_laws.specs.Goes.{RunsAllowGoes};
 ghost use Rattle.cell_laws.specs.Held.{RunsHoldOthersOnly, RunsHoldTheMadeOnly, RunsKnowOthersOnly};
 ghost use Rattle.cell_laws.specs.Limits.{RunsHaveRoom, RunsHaveSerials, RunsKeepTheProgram, RunsMakeFewObjects};
 ghost use Rattle.cell_laws.specs.Reaps.{TheAcknowledgedAreDone};
@@ -13,14 +13,11 @@ pub fn counts_allow_takes()
     ensures { RunsAllowTakes }
 {}
 
-/// They allow what the turn of its frame does: what a letter loads can be sent, where each own thing
-/// is there, and of each other's one is held; what is lacked of it is held and can be minted; and what
-/// is minted for a thing that the turn gets has room. With deep tracing, they allow its go.
+/// They allow what the turn of its frame does, with either tracing: what a letter loads can be sent,
+/// where each own thing is there, and of each other's one is held; and what is lacked of it, or is
+/// minted for a thing that the turn gets, has room.
 pub fn counts_allow_goes()
-    ensures deep { RunsAllowGoes }
-    ensures send { RunsAllowSends }
-    ensures mint { RunsAllowMints }
-    ensures get { RunsAllowGets }
+    ensures { RunsAllowGoes }
 {}
 
 /// The table of what an actor holds has no thing of its own, and none of an actor that was not made:
