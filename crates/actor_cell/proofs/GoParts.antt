@@ -9,7 +9,8 @@ use Rattle.orca_names.specs.declared.names.Thing.{Thing}
 use Rattle.orca_names.specs.declared.names.Thing.TheVariants.{Actor, Obj}
 use Rattle.orca_names.specs.declared.names.Value.{Value}
 use Rattle.std.specs.FinMap as m
-use Rattle.orca_names.specs.declared.trace.Trace.TheVariants.{Deep}
+use Rattle.orca_names.specs.declared.trace.Trace.{Trace}
+use Rattle.orca_names.specs.declared.trace.Trace.TheVariants.{Deep, Roots}
 use Rattle.orca_names.specs.declared.limits.TheConstants.{ACTORS_LIMIT}
 use Rattle.turn_rules.specs.declared.act.Act.{Act}
 use Rattle.turn_rules.specs.declared.act.Act.TheVariants as act
@@ -21,12 +22,12 @@ use Rattle.letter_kinds.specs.declared.letter.Letter.TheVariants.{App, Inc}
 use Rattle.letter_kinds.specs.Counting.{Amount, Loaded, mint_all, mint_one, raise, send, send_one, set_held, set_own, spend, to_mint}
 use Rattle.letter_kinds.specs.Holdings.{Holdings, Row, entry_row, with_made}
 use Rattle.machine_rules.specs.Actors.{Seat, push_letter, seat}
-use Rattle.machine_rules.specs.Cell.{Cell, fresh_cell}
-use Rattle.machine_rules.specs.Go.{act_in, cell_after_turn, lacking_from, load_from, post_or_mint, turn_in, turn_of_cell}
+use Rattle.machine_rules.specs.Cell.{Cell, fresh_cell, listed_objects, row_by_roots}
+use Rattle.machine_rules.specs.Go.{act_in, cell_after_turn, lacking_from, load_from, needed, needing, post_or_mint, rows_from, to_need, turn_in, turn_of_cell}
 use Rattle.machine_rules.specs.State.{State}
 use Rattle.actor_cell.specs.declared.turning.Move.{Move}
 use Rattle.actor_cell.specs.Cells.{settled}
-use Rattle.actor_cell.specs.Goes.{Gone, Turned, gone_by, gone_of, move_by, turned_in}
+use Rattle.actor_cell.specs.Goes.{Gone, Turned, gone_by, gone_of, having_made, move_by, turned_in, turned_or_needs}
 use Rattle.actor_cell.specs.Goes as goes
 use Rattle.actor_cell.specs.Laws.{GoesByParts, after_go}
 
@@ -64,7 +65,7 @@ set_twice [] a x y = refl
 set_twice (z ∷ xs) zero x y = refl
 set_twice (z ∷ xs) (suc a) x y = ap (λ ys. z ∷ ys) (set_twice xs a x y)
 
-module _ (s : State) (a : ℕ) (c : Cell) (mail : List Letter) (frame : Frame) (stop : Stop) where
+module _ (trace : Trace) (s : State) (a : ℕ) (c : Cell) (mail : List Letter) (frame : Frame) (stop : Stop) where
   abbrev n : ℕ
   n = length stop.turn.made
 
@@ -81,15 +82,21 @@ module _ (s : State) (a : ℕ) (c : Cell) (mail : List Letter) (frame : Frame) (
   abbrev with_move : Move → Turned
   with_move move = record { turn = stop.turn; place = stop.place; act = move }
 
-  posted : (to behaviour : ℕ) (args : List Value) (load lacked : List Loaded)
-      → Goes (post_or_mint s a c kept mail stop to behaviour args load [] lacked)
-      ≡ after_go s a c mail (gone_by a c frame (with_move (goes.post_or_mint s.options.weight to behaviour args load lacked)))
-  posted to behaviour args load [] = λ i. Goes (record s {
-    actors = push_letter to (App behaviour args load []) (set s.actors a (seat (record kept { holdings = send a load h }) mail));
+  -- what a letter carries is no matter of fields and frame
+  rows_kept : (t : Trace) (args : List Value) → rows_from t a kept args ≡ rows_from t a (having_made stop.turn.made c) args
+  unfolding row_by_roots listed_objects
+  rows_kept Deep args = refl
+  rows_kept Roots args = refl
+
+  posted : (to behaviour : ℕ) (args : List Value) (load rows lacked : List Loaded)
+      → Goes (post_or_mint s a c kept mail stop to behaviour args load rows lacked)
+      ≡ after_go s a c mail (gone_by a c frame (with_move (goes.post_or_mint s.options.weight to behaviour args load rows lacked)))
+  posted to behaviour args load rows [] = λ i. Goes (record s {
+    actors = push_letter to (App behaviour args load rows) (set s.actors a (seat (record kept { holdings = send a load h }) mail));
     notes = sym (append-nil s.notes) i;
     objects = s.objects + more (send a load h).next (next-send a load h) i;
   })
-  posted to behaviour args load (e ∷ lacked) =
+  posted to behaviour args load rows (e ∷ lacked) =
       let things = to_mint s.options.weight (owner_of e.0) (e ∷ lacked) in
       let none : s.objects ≡ s.objects + ((mint_all things c.holdings).next - c.holdings.next) = (let z = next-mint_all things c.holdings in omega arith) in
       λ i. Goes (record s {
@@ -101,7 +108,7 @@ module _ (s : State) (a : ℕ) (c : Cell) (mail : List Letter) (frame : Frame) (
   abbrev newcomer : ℕ → Option Seat
   newcomer kind = seat (fresh_cell s.options.weight s.program kind) []
 
-  acts : (does : Act) → act_in Deep s a c mail (stopped_at frame stop) stop does ≡ after_go s a c mail (gone_by a c frame (with_move (move_by s.options.weight a h does)))
+  acts : (does : Act) → act_in trace s a c mail (stopped_at frame stop) stop does ≡ after_go s a c mail (gone_by a c frame (with_move (move_by trace s.options.weight a (having_made stop.turn.made c) does)))
   acts act.End = λ i. Goes (record s {
     actors = set s.actors a (seat (cell_after_turn stop None true c) mail);
     notes = sym (append-nil s.notes) i;
@@ -121,12 +128,30 @@ module _ (s : State) (a : ℕ) (c : Cell) (mail : List Letter) (frame : Frame) (
         notes = sym (append-nil s.notes) i;
         objects = s.objects + more (c.holdings.next + n) refl i;
       }) else IsFull
-  acts (act.Post to behaviour args) = posted to behaviour args (load_from Deep a h args) (lacking_from Deep a h args)
+  acts (act.Post to behaviour args) =
+      posted to behaviour args (load_from trace a h args) (rows_from trace a kept args) (lacking_from trace a h args)
+      ∙ ap (λ rows. after_go s a c mail (gone_by a c frame (with_move (goes.post_or_mint s.options.weight to behaviour args (load_from trace a h args) rows (lacking_from trace a h args))))) (rows_kept trace args)
+
+  minted : (x : Thing) → needing s a c mail (Some x) NotEnabled
+      ≡ after_go s a c mail (gone_by a c frame (turned_or_needs trace s.options.weight a c frame (Some x) stop))
+  minted x =
+      let things = to_need s.options.weight a c.holdings x in
+      let none : s.objects ≡ s.objects + ((mint_all things c.holdings).next - c.holdings.next) = (let z = next-mint_all things c.holdings in omega arith) in
+      λ i. Goes (record s {
+        actors = push_letter (owner_of x) (Inc things) (set s.actors a (seat (record c { holdings = mint_all things c.holdings }) mail));
+        notes = sym (append-nil s.notes) i;
+        objects = none i;
+      })
+
+  pub turned : (first : Option Thing) → needing s a c mail first (act_in trace s a c mail (stopped_at frame stop) stop stop.act)
+      ≡ after_go s a c mail (gone_by a c frame (turned_or_needs trace s.options.weight a c frame first stop))
+  turned None = acts stop.act
+  turned (Some x) = minted x
 
 pub gone : GoesByParts
-gone s a c mail = by_frame c.frame
+gone trace s a c mail = by_frame c.frame
   where
-    by_frame : (o : Option Frame) → option_map_or (turn_in Deep s a c mail) o NotEnabled
-        ≡ option_map_or (after_go s a c mail) (option_map (λ f. gone_by a c f (turned_in s.options.weight s.program a c f)) o) NotEnabled
+    by_frame : (o : Option Frame) → option_map_or (turn_in trace s a c mail) o NotEnabled
+        ≡ option_map_or (after_go s a c mail) (option_map (λ f. gone_by a c f (turned_in trace s.options.weight s.program a c f)) o) NotEnabled
     by_frame None = refl
-    by_frame (Some f) = acts s a c mail f (turn_of_cell Deep s.program a c f) (turn_of_cell Deep s.program a c f).act
+    by_frame (Some f) = turned trace s a c mail f (turn_of_cell trace s.program a c f) (needed trace s.program a c f)

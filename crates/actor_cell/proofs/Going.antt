@@ -4,9 +4,13 @@ use Rattle.std.specs.Prelude.{option_map, IsSomeAnd}
 use Rattle.turn_rules.specs.declared.act.Frame.{Frame}
 use Rattle.turn_rules.specs.Segment.{Turn}
 use Rattle.letter_kinds.specs.declared.letter.Letter.{Letter}
-use Rattle.letter_kinds.specs.Counting.{Amount, mint_all, mint_one, send}
-use Rattle.letter_kinds.specs.Holdings.{Holdings, Row, add_rows}
+use Rattle.letter_kinds.specs.Counting.{Amount, mint_all, mint_one, send, set_held}
+use Rattle.letter_kinds.specs.Holdings.{Holdings, Row, add_rows, entry_row}
 use Rattle.object_heap.specs.Heap.{Heap, with_new}
+use Rattle.foreign_table.specs.Table.{Table, entered}
+use Rattle.known_rows.specs.Holdings.{holdings_of}
+use Rattle.trace_send.proofs.Steps.{set-held}
+use Rattle.std.specs.FinMap as m
 use Rattle.machine_rules.specs.Cell.{Cell}
 use Rattle.actor_cell.specs.declared.out.Out.{Out}
 use Rattle.actor_cell.specs.declared.turning.Move.{Move}
@@ -40,6 +44,13 @@ pub mint_all-cons : (e : Amount) (things : List Amount) (h : Holdings) → mint_
 unfolding mint_all
 mint_all-cons e things h = refl
 
+-- of a thing that was not held yet
+pub mint_fresh : (count : ℕ) (heap : Heap) (foreign : Table) (e : Amount) → m.get foreign.entries e.0 ≡ None
+    → holdings_of count heap (entered (λ n. n + e.1) e.0 None foreign) ≡ mint_one e (holdings_of count heap foreign)
+mint_fresh count heap foreign e none =
+    sym (set-held count heap foreign (λ n. n + e.1) e.0 None)
+    ∙ ap (λ o. set_held (λ n. n + e.1) e.0 (entry_row o) (holdings_of count heap foreign)) (sym none)
+
 -- ---- what is done, step by step
 
 module _ (me : ℕ) (start kept stopped after : Cell) (frame : Frame) (turn : Turn) (place : ℕ) where
@@ -72,9 +83,9 @@ pub can_move : (T : Frame → Turned) (me : ℕ) (h : Holdings) (o : Option Fram
 can_move T me h None t found can = cc
 can_move T me h (Some f) t found can = subst (λ u. CanMove me h u.turn u.act) (same_turned (T f) t found) can
 
-pub made_room : (act : Move) (spare : ℕ) → IsSome (out_of act).made → new_entries act ≤ spare → 0 < spare
-made_room (Post to letter) spare made room = cc
-made_room (Mint owner things) spare made room = cc
-made_room (New kind register) spare made room = omega arith
-made_room (Print value) spare made room = cc
-made_room End spare made room = cc
+pub made_room : (act : Move) (spare : ℕ) → new_entries act ≤ spare → IsSome (out_of act).made → 0 < spare
+made_room (Post to letter) spare room made = cc
+made_room (Mint owner things) spare room made = cc
+made_room (New kind register) spare room made = omega arith
+made_room (Print value) spare room made = cc
+made_room End spare room made = cc

@@ -1,10 +1,14 @@
+pub mod Brought
 pub mod GoParts
 pub mod Going
 pub mod Known
+pub mod Learnt
 pub mod Marked
+pub mod Needing
 pub mod Owners
 pub mod Parts
 pub mod Posting
 pub mod Raising
 pub mod Registers
 pub mod Reporting
+pub mod Swept

@@ -6,10 +6,11 @@ use Rattle.letter_kinds.specs.declared.letter.Letter.{Letter}
 use Rattle.letter_kinds.specs.declared.letter.Letter.TheVariants.{Dec}
 use Rattle.letter_kinds.specs.declared.note.Note.{Note}
 use Rattle.letter_kinds.specs.Counting.{Amount, by_owner, given_back}
-use Rattle.orca_names.specs.declared.trace.Trace.TheVariants.{Deep}
+use Rattle.orca_names.specs.declared.trace.Trace.{Trace}
+use Rattle.orca_names.specs.declared.trace.Trace.TheVariants.{Deep, Roots}
 use Rattle.machine_rules.specs.Actors.{Actors, push_decs, push_letter, seat, seat_at}
 use Rattle.machine_rules.specs.Cell.{Cell}
-use Rattle.machine_rules.specs.Collect.{is_marked}
+use Rattle.machine_rules.specs.Collect.{after_collect, is_marked, without_unused}
 use Rattle.machine_rules.specs.Detect.{empty_seats, held_outside, reap_decs}
 use Rattle.machine_rules.specs.Take.{cell_after, note_of, notes_after}
 use Rattle.actor_cell.specs.Laws.{BlocksByParts, CollectsByParts, LeavesByParts, TakesByParts}
@@ -34,10 +35,15 @@ decs_pushed [] actors = refl
 decs_pushed (g ∷ groups) actors = decs_pushed groups (push_letter g.0 (Dec g.1) actors)
 
 pub collects : CollectsByParts
-collects s a c mail = λ i. Goes (record s {
-  actors = decs_pushed (by_owner (given_back (is_marked Deep a c) c.holdings)) (set s.actors a (seat (swept a c) mail)) i;
+collects trace s a c mail = λ i. Goes (record s {
+  actors = (held_stays trace ∙ decs_pushed (by_owner (given_back (is_marked trace a c) c.holdings)) (set s.actors a (seat (swept trace a c) mail))) i;
   notes = sym (append-nil s.notes) i;
 })
+  where
+    held_stays : (t : Trace) → after_collect (is_marked t a c) a (without_unused t a c) mail s.actors
+        ≡ push_decs (by_owner (given_back (is_marked t a c) c.holdings)) (set s.actors a (seat (swept t a c) mail))
+    held_stays Deep = refl
+    held_stays Roots = refl
 
 one_reaped : (a : ℕ) (c : Cell) (mail : List Letter) (actors : Actors) → seat_at actors a ≡ seat c mail → reap_decs (a ∷ []) (a ∷ []) actors ≡ left_behind a c
 unfolding reap_decs

@@ -59,15 +59,15 @@ pub none_minted : (weight : ℕ) (lacked : List Loaded) → None ≡ of_first_ow
 none_minted weight [] e = refl
 none_minted weight (l ∷ lacked) e = cc
 
-module _ (weight to behaviour : ℕ) (args : List Value) (load : List Loaded) where
+module _ (weight to behaviour : ℕ) (args : List Value) (load rows : List Loaded) where
   pub mints : (lacked : List Loaded) (owner : ℕ) (things : List Amount) → Some (owner, things) ≡ minted_first weight lacked
-      → Mint owner things ≡ post_or_mint weight to behaviour args load lacked
+      → Mint owner things ≡ post_or_mint weight to behaviour args load rows lacked
   mints [] owner things e = cc
   mints (l ∷ lacked) owner things e =
       let p : ℕ × List Amount = (owner, things) in
       let q : ℕ × List Amount = (owner_of l.0, to_mint weight (owner_of l.0) (l ∷ lacked)) in
       ap (λ (r : ℕ × List Amount). Mint r.0 r.1) (same_pair p q e)
 
-  pub posts : (lacked : List Loaded) → None ≡ minted_first weight lacked → Post to (App behaviour args load []) ≡ post_or_mint weight to behaviour args load lacked
+  pub posts : (lacked : List Loaded) → None ≡ minted_first weight lacked → Post to (App behaviour args load rows) ≡ post_or_mint weight to behaviour args load rows lacked
   posts [] e = refl
   posts (l ∷ lacked) e = cc

@@ -1,7 +1,7 @@
 -- Increments and decrements, one thing at a time.
 use Rattle.std.proofs.Common.{◌≡◌, ◌≢◌, ℕ, zero, suc, ◌+◌, ◌<◌, ◌≤◌, arith, List, [], ◌∷◌, length, get_or, drop, refl, sym, ap, ◌∙◌}
 use Rattle.orca_names.specs.Names.{owner_of}
-use Rattle.letter_kinds.specs.Counting.{Amount, Loaded, lower, lower_all, raise, raise_all}
+use Rattle.letter_kinds.specs.Counting.{Amount, lower, lower_all, raise, raise_all}
 use Rattle.orca_names.specs.declared.names.ObjName.{ObjName}
 use Rattle.orca_names.specs.declared.names.Thing.{Thing}
 use Rattle.orca_names.specs.declared.names.Thing.TheVariants.{Actor, Obj}
@@ -12,7 +12,6 @@ use Rattle.foreign_table.specs.Table.{Table}
 use Rattle.known_rows.specs.Holdings.{holdings_of}
 use Rattle.trace_send.proofs.Steps.{own-actor, own-object}
 use Rattle.machine_rules.specs.Cell.{Cell}
-use Rattle.machine_rules.specs.Take.{learn}
 use Rattle.letter_kinds.proofs.Counts.{cond_eq, cond_ne}
 use Rattle.std.proofs.lemmas.List.{drop_more}
 
@@ -77,8 +76,3 @@ others_stay start before after h others step =
     let counted : Cell → Cell = λ c. record c { holdings = h } in
     let back : Holdings → Cell = λ k. record start { holdings = k } in
     step ∙ ap counted others ∙ ap back (sym (ap (λ (c : Cell). c.holdings) step))
-
--- where no rows come, none are known more
-pub learn_none : (me : ℕ) (rows : List Loaded) → rows ≡ [] → m.empty ≡ learn me rows m.empty
-unfolding learn
-learn_none me rows none = ap (λ rs. learn me rs m.empty) (sym none)

@@ -1,6 +1,5 @@
 -- The cell of an actor, as the rules have it.
 use Rattle.std.specs.Prelude.{ℕ, ◌≡◌, None, option_map}
-use Rattle.std.specs.FinMap as m
 use Rattle.orca_names.specs.declared.names.Thing.TheVariants.{Actor}
 use Rattle.letter_kinds.specs.Counting.{gain}
 use Rattle.known_rows.specs.Holdings.{holdings_of}
@@ -8,7 +7,6 @@ use Rattle.plain_rules.specs.Machine.{with_name}
 use Rattle.machine_rules.specs.Cell as rules
 use Rattle.actor_cell.specs.declared.cell.Cell.{Cell}
 
--- with deep tracing no rows come uncounted
 abbrev pub as_cell : Cell → rules.Cell
 as_cell c = record {
   kind = c.kind;
@@ -17,7 +15,7 @@ as_cell c = record {
   holdings = holdings_of c.count c.heap c.foreign;
   dirty = c.dirty;
   reported = c.reported;
-  known = m.empty;
+  known = c.known.rows;
 }
 
 -- the maker of an actor holds it with the weight, and its name stands in the register

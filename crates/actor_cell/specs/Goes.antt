@@ -1,8 +1,9 @@
--- What a turn of an actor does, with deep tracing.
-use Rattle.std.specs.Prelude.{ℕ, ◌<◌, true, List, [], ◌∷◌, Option, Some, None, option_map, IsSomeAnd}
+-- What a turn of an actor does.
+use Rattle.std.specs.Prelude.{ℕ, ◌<◌, ⊤, true, List, [], ◌∷◌, Option, Some, None, option_map, length, IsSomeAnd}
 use Rattle.orca_names.specs.Names.{owner_of}
-use Rattle.orca_names.specs.declared.trace.Trace.TheVariants.{Deep}
+use Rattle.orca_names.specs.declared.trace.Trace.{Trace}
 use Rattle.orca_names.specs.declared.limits.TheConstants.{REGISTERS}
+use Rattle.orca_names.specs.declared.names.Thing.{Thing}
 use Rattle.orca_names.specs.declared.names.Value.{Value}
 use Rattle.behaviour_code.specs.declared.code.Program.{Program}
 use Rattle.turn_rules.specs.declared.act.Act.{Act}
@@ -12,10 +13,10 @@ use Rattle.turn_rules.specs.Segment.{Stop, Turn}
 use Rattle.letter_kinds.specs.declared.letter.Letter.{Letter}
 use Rattle.letter_kinds.specs.declared.letter.Letter.TheVariants.{App, Inc, Dec, Confirm}
 use Rattle.letter_kinds.specs.Counting.{Amount, Loaded, mint_all, send, to_mint}
-use Rattle.letter_kinds.specs.Holdings.{Holdings, with_made}
+use Rattle.letter_kinds.specs.Holdings.{Holdings, Row, with_made}
 use Rattle.trace_send.specs.Can.{CanSend}
 use Rattle.machine_rules.specs.Cell.{Cell}
-use Rattle.machine_rules.specs.Go.{lacking_from, load_from, turn_of_cell}
+use Rattle.machine_rules.specs.Go.{lacking_from, load_from, needed, rows_from, to_need, turn_of_cell}
 use Rattle.actor_cell.specs.Can.{CanMint}
 use Rattle.actor_cell.specs.declared.out.Out.{Out}
 use Rattle.actor_cell.specs.declared.turning.Move.{Move}
@@ -25,9 +26,9 @@ use Rattle.actor_cell.specs.declared.turning.Move.TheVariants.{Post, Mint, New, 
 
 -- the letter with its load; where the actor lacks some of this, what it mints first for the owner of
 -- the first that it lacks
-abbrev pub post_or_mint : ℕ → ℕ → ℕ → List Value → List Loaded → List Loaded → Move
-post_or_mint weight to behaviour args load [] = Post to (App behaviour args load [])
-post_or_mint weight to behaviour args load (e ∷ lacked) =
+abbrev pub post_or_mint : ℕ → ℕ → ℕ → List Value → List Loaded → List Loaded → List Loaded → Move
+post_or_mint weight to behaviour args load rows [] = Post to (App behaviour args load rows)
+post_or_mint weight to behaviour args load rows (e ∷ lacked) =
     Mint (owner_of e.0) (to_mint weight (owner_of e.0) (e ∷ lacked))
 
 -- what is minted first for what is lacked: for the owner of the first
@@ -39,17 +40,22 @@ minted_first weight (e ∷ lacked) =
 -- the register of a new actor is one of a frame
 abbrev pub FitsRegister : Act → Type 0
 FitsRegister (act.New kind register) = register < REGISTERS
-FitsRegister (act.Post to behaviour args) = Unit {0}
-FitsRegister (act.Print value) = Unit {0}
-FitsRegister act.End = Unit {0}
+FitsRegister (act.Post to behaviour args) = ⊤
+FitsRegister (act.Print value) = ⊤
+FitsRegister act.End = ⊤
 
--- what an actor with these holdings does by an act
-abbrev pub move_by : ℕ → ℕ → Holdings → Act → Move
-move_by weight me h (act.Post to behaviour args) =
-    post_or_mint weight to behaviour args (load_from Deep me h args) (lacking_from Deep me h args)
-move_by weight me h (act.New kind register) = New kind register
-move_by weight me h (act.Print value) = Print value
-move_by weight me h act.End = End
+-- what an actor with this cell does by an act
+abbrev pub move_by : Trace → ℕ → ℕ → Cell → Act → Move
+move_by trace weight me c (act.Post to behaviour args) =
+    post_or_mint weight to behaviour args (load_from trace me c.holdings args)
+    (rows_from trace me c args) (lacking_from trace me c.holdings args)
+move_by trace weight me c (act.New kind register) = New kind register
+move_by trace weight me c (act.Print value) = Print value
+move_by trace weight me c act.End = End
+
+-- the cell with the objects of these rows
+abbrev pub having_made : List Row → Cell → Cell
+having_made made c = record c { holdings = with_made made c.holdings }
 
 -- what a turn left and where it stopped, and what the actor does there
 pub record Turned : Type 0 where
@@ -57,16 +63,27 @@ pub record Turned : Type 0 where
   pub place : ℕ
   pub act : Move
 
--- of the turn of an actor in this frame; it holds what it made in the turn
-abbrev pub turned_at : ℕ → ℕ → Cell → Stop → Turned
-turned_at weight me c stop = record {
+-- of the turn of an actor in this frame: it has what it made in the turn
+abbrev pub turned_at : Trace → ℕ → ℕ → Cell → Stop → Turned
+turned_at trace weight me c stop = record {
   turn = stop.turn;
   place = stop.place;
-  act = move_by weight me (with_made stop.turn.made c.holdings) stop.act;
+  act = move_by trace weight me (having_made stop.turn.made c) stop.act;
 }
 
-abbrev pub turned_in : ℕ → Program → ℕ → Cell → Frame → Turned
-turned_in weight program me c frame = turned_at weight me c (turn_of_cell Deep program me c frame)
+-- where it got a thing that the actor needs, all is as before the turn, and the actor mints for that
+abbrev pub turned_or_needs : Trace → ℕ → ℕ → Cell → Frame → Option Thing → Stop → Turned
+turned_or_needs trace weight me c frame None stop = turned_at trace weight me c stop
+turned_or_needs trace weight me c frame (Some x) stop = record {
+  turn = record { registers = frame.registers; fields = c.fields; made = [] };
+  place = frame.place;
+  act = Mint (owner_of x) (to_need weight me c.holdings x);
+}
+
+abbrev pub turned_in : Trace → ℕ → Program → ℕ → Cell → Frame → Turned
+turned_in trace weight program me c frame =
+    turned_or_needs trace weight me c frame (needed trace program me c frame)
+    (turn_of_cell trace program me c frame)
 
 -- ---- what it changes
 
@@ -101,10 +118,11 @@ cell_by me c frame turn place (New kind register) =
 cell_by me c frame turn place (Print value) = cell_kept turn (Some (frame_left frame turn place)) c
 cell_by me c frame turn place End = record (cell_kept turn None c) { dirty = true }
 
--- how many entries the table of what is held needs room for: a new actor gets one when it has its name
+-- how many entries the table of what is held needs room for: what is minted may not be held yet, and a
+-- new actor gets one when it has its name
 abbrev pub new_entries : Move → ℕ
 new_entries (Post to letter) = 0
-new_entries (Mint owner things) = 0
+new_entries (Mint owner things) = length things
 new_entries (New kind register) = 1
 new_entries (Print value) = 0
 new_entries End = 0
@@ -131,9 +149,9 @@ abbrev pub gone_by : ℕ → Cell → Frame → Turned → Gone
 gone_by me c frame t =
     record { cell = cell_by me c frame t.turn t.place t.act; out = out_of t.act }
 
-abbrev pub gone_of : ℕ → Program → ℕ → Cell → Option Gone
-gone_of weight program me c =
-    option_map (λ frame. gone_by me c frame (turned_in weight program me c frame)) c.frame
+abbrev pub gone_of : Trace → ℕ → Program → ℕ → Cell → Option Gone
+gone_of trace weight program me c =
+    option_map (λ frame. gone_by me c frame (turned_in trace weight program me c frame)) c.frame
 
 -- ---- when it can be
 
@@ -141,12 +159,12 @@ gone_of weight program me c =
 abbrev pub CanMove : ℕ → Holdings → Turn → Move → Type 0
 CanMove me h turn (Post to letter) = CanSend me (load_in letter) (with_made turn.made h)
 CanMove me h turn (Mint owner things) = CanMint things h
-CanMove me h turn (New kind register) = Unit {0}
-CanMove me h turn (Print value) = Unit {0}
-CanMove me h turn End = Unit {0}
+CanMove me h turn (New kind register) = ⊤
+CanMove me h turn (Print value) = ⊤
+CanMove me h turn End = ⊤
 
 -- there is a frame, and what it does is allowed
-abbrev pub CanGo : ℕ → Program → ℕ → Cell → Type 0
-CanGo weight program me c =
-    IsSomeAnd c.frame (λ frame. let t = turned_in weight program me c frame in
+abbrev pub CanGo : Trace → ℕ → Program → ℕ → Cell → Type 0
+CanGo trace weight program me c =
+    IsSomeAnd c.frame (λ frame. let t = turned_in trace weight program me c frame in
     CanMove me c.holdings t.turn t.act)

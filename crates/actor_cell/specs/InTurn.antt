@@ -1,9 +1,26 @@
 -- The rows that an actor has in a turn.
-use Rattle.std.specs.Prelude.{ℕ, ◌≡◌, ◌-◌, ◌==◌, ◌&&◌, nat_le, if◌then◌else◌, List, Option, Some, None, Contains, slice_get}
+use Rattle.std.specs.Prelude.{ℕ, ◌≡◌, ◌-◌, ◌==◌, ◌&&◌, ◌||◌, not, Bool, nat_le, if◌then◌else◌, List, Option, Some, None, Contains, slice_get}
 use Rattle.orca_names.specs.declared.names.ObjName.{ObjName}
+use Rattle.orca_names.specs.Names.{owner_of}
+use Rattle.orca_names.specs.declared.names.Thing.{Thing}
+use Rattle.orca_names.specs.declared.trace.Trace.{Trace}
+use Rattle.orca_names.specs.declared.trace.Trace.TheVariants.{Deep, Roots}
 use Rattle.letter_kinds.specs.Holdings.{Holdings, Row, row_of}
+use Rattle.foreign_table.specs.Table.{Table, count_on}
+use Rattle.row_table.specs.Table.{as_held}
 use Rattle.machine_rules.specs.Cell.{known_objects}
 use Rattle.machine_rules.proofs.Finite.{known_objects-cover}
+use Rattle.actor_cell.specs.declared.cell.Cell.{Cell}
+
+-- the table in which the actor finds the rows of others' objects: they stand with what it holds, or
+-- apart
+abbrev pub table_by : Trace → Cell → Table
+table_by Deep c = c.foreign
+table_by Roots c = as_held c.known
+
+-- the thing is its own, or held by the table
+abbrev pub holds_in : ℕ → Table → Thing → Bool
+holds_in me foreign x = (owner_of x == me) || not (count_on foreign x == 0)
 
 -- the row of an object that the turn made, where these are the rows from the first serial on
 abbrev pub made_in_turn : ℕ → ℕ → List Row → ObjName → Option Row

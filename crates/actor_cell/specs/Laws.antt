@@ -2,7 +2,7 @@
 use Rattle.std.specs.Prelude.{ℕ, ◌≡◌, true, List, [], ◌∷◌}
 use Rattle.std.specs.Option.{option_map_or}
 use Rattle.event_rule.specs.Runs.{Step, Goes, NotEnabled}
-use Rattle.orca_names.specs.declared.trace.Trace.TheVariants.{Deep}
+use Rattle.orca_names.specs.declared.trace.Trace.{Trace}
 use Rattle.letter_kinds.specs.declared.letter.Letter.{Letter}
 use Rattle.letter_kinds.specs.Counting.{by_owner, given_back}
 use Rattle.machine_rules.specs.Actors.{seat, seat_at}
@@ -29,10 +29,10 @@ TakesByParts =
 -- a collection leaves the swept cell, and returns what is held no more
 abbrev pub CollectsByParts : Type 0
 CollectsByParts =
-    (s : State) (a : ℕ) (c : Cell) (mail : List Letter)
-    → collect Deep s a c mail
-    ≡ Goes (pushed (returning (by_owner (given_back (is_marked Deep a c) c.holdings)))
-    (with_cell a (swept a c) mail s))
+    (trace : Trace) (s : State) (a : ℕ) (c : Cell) (mail : List Letter)
+    → collect trace s a c mail
+    ≡ Goes (pushed (returning (by_owner (given_back (is_marked trace a c) c.holdings)))
+    (with_cell a (swept trace a c) mail s))
 
 -- a leave returns what was held, and leaves no cell
 abbrev pub LeavesByParts : Type 0
@@ -57,6 +57,6 @@ after_go s a before mail g =
 -- a go leaves the cell of its part, and gives out what this gives out
 abbrev pub GoesByParts : Type 0
 GoesByParts =
-    (s : State) (a : ℕ) (c : Cell) (mail : List Letter)
-    → go Deep s a c mail
-    ≡ option_map_or (after_go s a c mail) (gone_of s.options.weight s.program a c) NotEnabled
+    (trace : Trace) (s : State) (a : ℕ) (c : Cell) (mail : List Letter)
+    → go trace s a c mail
+    ≡ option_map_or (after_go s a c mail) (gone_of trace s.options.weight s.program a c) NotEnabled

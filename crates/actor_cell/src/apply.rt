@@ -1,7 +1,6 @@
 // What was found of a turn is done.
 
 ghost use Rattle.std.specs.Prelude.{◌≡◌, ◌+◌, ◌<◌, ◌≤◌, ◌^◌, IfOk, IsSome, OnErr, OnOk, Some, length};
-ghost use Rattle.std.specs.FinMap as m;
 ghost use Rattle.turn_rules.specs.declared.act.Frame.{Frame as frame_of_rules};
 ghost use Rattle.letter_kinds.specs.Counting.{mint_all, mint_one, send};
 ghost use Rattle.letter_kinds.specs.Holdings.{held_in};
@@ -10,7 +9,7 @@ ghost use Rattle.ref_weights.specs.Limit.{count_limit};
 ghost use Rattle.trace_send.specs.Can.{CanSend};
 ghost use Rattle.actor_cell.specs.Can.{CanMint};
 ghost use Rattle.actor_cell.specs.Cells.{as_cell};
-ghost use Rattle.actor_cell.specs.Goes.{CanGo, CanMove, cell_by, cell_kept, frame_left, gone_of, load_in, new_entries};
+ghost use Rattle.actor_cell.specs.Goes.{CanGo, CanMove, cell_by, cell_kept, frame_left, gone_of, load_in, new_entries, out_of};
 
 use crate::cell::Cell;
 use crate::out::Out;
@@ -18,7 +17,7 @@ use crate::turning::{Move, Turned, letter_room};
 use behaviour_check::Checked;
 use letter_kinds::{Amounts, Letter};
 use object_heap::ObjectHeap;
-use orca_names::{NoMemory, Row, Thing};
+use orca_names::{NoMemory, Row, Thing, Trace};
 use std::alloc::Global;
 use trace_send::send_trace;
 use turn_step::Turn;
@@ -43,26 +42,33 @@ fn new_entries(act: &Move) -> usize
             kind: _,
             register: _,
         } => 1,
+        Move::Mint { owner: _, things } => things.len(),
         _ => 0,
     }
 }
 
 impl Cell {
-    // The count that it holds on a thing rises.
+    // The count that it holds on a thing rises, from 0 where nothing was held.
     fn mint_one(&mut self, amount: &(Thing, u64))
-        requires there { IsSome (m.get self.old.foreign.entries amount.now.0) }
+        requires room { 0 < self.old.foreign.spare }
         requires fits { held_in (as_cell self.old).holdings amount.now.0 + amount.now.1 < count_limit }
         ensures counts { as_cell self.new ≡ record (as_cell self.old) {
           holdings = mint_one amount.now (as_cell self.old).holdings;
         } }
         ensures owner { self.new.heap.owner ≡ self.old.heap.owner }
+        ensures room { self.old.foreign.spare ≤ self.new.foreign.spare + 1 }
     {
-        self.foreign.mint(amount.0, amount.1);
+        if self.foreign.place(&amount.0).is_some() {
+            self.foreign.mint(amount.0, amount.1);
+        } else {
+            self.foreign.gain(amount.0, &None, amount.1);
+        }
     }
 
     // The counts that it holds on these things rise.
     fn mint_all(&mut self, things: &Amounts)
-        requires { CanMint things.now (as_cell self.old).holdings }
+        requires fits { CanMint things.now (as_cell self.old).holdings }
+        requires room { length things.now ≤ self.old.foreign.spare }
         ensures counts { as_cell self.new ≡ record (as_cell self.old) {
           holdings = mint_all things.now (as_cell self.old).holdings;
         } }
@@ -143,12 +149,12 @@ impl Cell {
         requires running { IsSome self.old.frame }
         requires can { CanMove self.old.heap.owner (as_cell self.old).holdings turn.now found.now.act }
         requires room { length turn.now.made ≤ self.old.heap.spare }
+        requires entries { new_entries found.now.act ≤ self.old.foreign.spare }
         requires serials { self.old.heap.next + length turn.now.made < 2 ^ 64 }
         ensures cell { (frame : frame_of_rules) → self.old.frame ≡ Some frame → as_cell self.new
             ≡ cell_by self.old.heap.owner (as_cell self.old) frame turn.now found.now.place found.now.act }
         ensures owner { self.new.heap.owner ≡ self.old.heap.owner }
-        ensures room { new_entries found.now.act ≤ self.old.foreign.spare
-            → new_entries found.now.act ≤ self.new.foreign.spare }
+        ensures room { IsSome (out_of found.now.act).made → 0 < self.new.foreign.spare }
     {
         match &found.act {
             Move::Post { to: _, letter } => {
@@ -180,18 +186,24 @@ impl Cell {
     ///
     /// # Errors
     /// `NoMemory` where memory was refused; the cell is then as it was.
-    pub fn go(&mut self, alloc: Global, code: &Checked, weight: u32) -> Result<Out, NoMemory>
-        requires can { CanGo weight code.now self.old.heap.owner (as_cell self.old) }
+    pub fn go(
+        &mut self,
+        alloc: Global,
+        code: &Checked,
+        weight: u32,
+        trace: Trace,
+    ) -> Result<Out, NoMemory>
+        requires can { CanGo trace weight code.now self.old.heap.owner (as_cell self.old) }
         requires serials { self.old.heap.next + 1024 < 2 ^ 64 }
         ensures gone { let me = self.old.heap.owner in
-            IfOk result (λ out. gone_of weight code.now me (as_cell self.old)
+            IfOk result (λ out. gone_of trace weight code.now me (as_cell self.old)
             ≡ Some (record { cell = as_cell self.new; out = out })) }
         ensures room { IfOk result (λ out. IsSome out.made → 0 < self.new.foreign.spare) }
         ensures same { OnErr result (as_cell self.new ≡ as_cell self.old) }
         ensures owner { self.new.heap.owner ≡ self.old.heap.owner }
     {
         let mut turn = Turn::new(alloc);
-        let found = self.found_go(alloc, code, weight, &mut turn)?;
+        let found = self.found_go(alloc, code, weight, trace, &mut turn)?;
         let room = letter_room(alloc)?;
         self.reserve_go(&turn, &found)?;
         self.apply_go(&turn, &found);

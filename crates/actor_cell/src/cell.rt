@@ -13,6 +13,7 @@ use foreign_table::ForeignTable;
 use object_heap::ObjectHeap;
 use orca_names::{ActorName, Args, Fields, Thing, Value};
 use ref_weights::OwnCount;
+use row_table::RowTable;
 use std::alloc::Global;
 use turn_rules::FrameRoom;
 
@@ -26,6 +27,8 @@ pub struct Cell {
     pub heap: ObjectHeap,
     /// The things of others that it holds.
     pub foreign: ForeignTable,
+    /// The rows of others' objects that letters brought uncounted.
+    pub known: RowTable,
     /// How often the actor itself is held by others and loaded by letters, as far as it was told.
     pub count: OwnCount,
     /// It did something since it collected.
@@ -63,6 +66,7 @@ impl Cell {
             frame: FrameRoom::new(),
             heap: ObjectHeap::new(alloc, me),
             foreign: ForeignTable::new(alloc),
+            known: RowTable::new(alloc),
             count: own,
             dirty: false,
             reported: false,

@@ -76,12 +76,14 @@ impl Cell {
     {
         let heap = self.heap.copy(alloc)?;
         let foreign = self.foreign.copy(alloc)?;
+        let known = self.known.copy(alloc)?;
         Ok(Cell {
             kind: self.kind,
             fields: self.fields,
             frame: copied_frame(&self.frame),
             heap,
             foreign,
+            known,
             count: self.count,
             dirty: self.dirty,
             reported: self.reported,
@@ -96,5 +98,6 @@ impl Cell {
             && self.same_but_counts(other)
             && self.heap.same(&other.heap)
             && self.foreign.same(&other.foreign)
+            && self.known.same(&other.known)
     }
 }

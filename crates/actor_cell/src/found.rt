@@ -1,14 +1,14 @@
 // What an actor would do next of itself.
 
 ghost use Rattle.std.specs.Prelude.{◌+◌, ◌^◌, ◌<◌, IfOk};
-ghost use Rattle.known_rows.specs.Places.{HoldsOthersOnly};
 ghost use Rattle.actor_cell.specs.Founds.{IsFound};
+ghost use Rattle.actor_cell.specs.Sweeps.{KnowsOthersOnly};
 
 use crate::cell::Cell;
+use crate::sweeping::Sweep;
 use crate::turning::Turned;
 use behaviour_check::Checked;
-use letter_kinds::SweepPlan;
-use orca_names::NoMemory;
+use orca_names::{NoMemory, Trace};
 use std::alloc::Global;
 use turn_step::Turn;
 
@@ -17,8 +17,8 @@ use turn_step::Turn;
 pub enum Found {
     /// It goes on: what its turn leaves, and what it does where this stops.
     Goes { turn: Turn, turned: Turned },
-    /// It collects: what this frees and gives back.
-    Collects { plan: SweepPlan },
+    /// It collects: what this frees, gives back and forgets.
+    Collects { sweep: Sweep },
     /// It has no frame, and did nothing since it collected.
     Nothing,
 }
@@ -28,19 +28,25 @@ impl Cell {
     ///
     /// # Errors
     /// `NoMemory` where memory was refused.
-    pub fn found(&self, alloc: Global, code: &Checked, weight: u32) -> Result<Found, NoMemory>
+    pub fn found(
+        &self,
+        alloc: Global,
+        code: &Checked,
+        weight: u32,
+        trace: Trace,
+    ) -> Result<Found, NoMemory>
         requires serials { self.now.heap.next + 1024 < 2 ^ 64 }
-        requires others { HoldsOthersOnly self.now.heap self.now.foreign }
-        ensures { IfOk result (IsFound weight code.now self.now) }
+        requires others { KnowsOthersOnly self.now }
+        ensures { IfOk result (IsFound trace weight code.now self.now) }
     {
         if self.frame.is_some() {
             let mut turn = Turn::new(alloc);
-            let turned = self.found_go(alloc, code, weight, &mut turn)?;
+            let turned = self.found_go(alloc, code, weight, trace, &mut turn)?;
             return Ok(Found::Goes { turn, turned });
         }
         if self.dirty {
-            let plan = self.found_collect(alloc)?;
-            return Ok(Found::Collects { plan });
+            let sweep = self.found_collect(alloc, trace)?;
+            return Ok(Found::Collects { sweep });
         }
         Ok(Found::Nothing)
     }

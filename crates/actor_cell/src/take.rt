@@ -8,6 +8,7 @@ ghost use Rattle.actor_cell.specs.Outs.{noting};
 ghost use Rattle.actor_cell.specs.Takes.{CanTake, HasRoomFor};
 
 use crate::cell::Cell;
+use crate::learning::learn_all;
 use crate::out::Out;
 use behaviour_check::Checked;
 use letter_kinds::{Letter, Note};
@@ -67,15 +68,18 @@ impl Cell {
     pub fn reserve_take(&mut self, letter: &Letter) -> Result<(), NoMemory>
         ensures cell { as_cell self.new ≡ as_cell self.old }
         ensures owner { self.new.heap.owner ≡ self.old.heap.owner }
-        ensures room { OnOk result (HasRoomFor letter.now self.new.foreign.spare) }
+        ensures room { OnOk result (HasRoomFor letter.now self.new.foreign.spare self.new.known.spare) }
     {
         match letter {
             Letter::App {
                 behaviour: _,
                 args: _,
                 load,
-                rows: _,
-            } => self.foreign.reserve(load.len()),
+                rows,
+            } => {
+                self.foreign.reserve(load.len())?;
+                self.known.reserve(rows.len())
+            }
             _ => Ok(()),
         }
     }
@@ -84,7 +88,7 @@ impl Cell {
     pub fn apply_take(&mut self, code: &Checked, letter: &Letter) -> Option<Note>
         requires idle { self.old.frame ≡ None }
         requires can { CanTake self.old.heap.owner letter.now (as_cell self.old).holdings }
-        requires room { HasRoomFor letter.now self.old.foreign.spare }
+        requires room { HasRoomFor letter.now self.old.foreign.spare self.old.known.spare }
         ensures cell { as_cell self.new
             ≡ cell_after code.now self.old.heap.owner letter.now (as_cell self.old) }
         ensures note { let note = note_of self.old.heap.owner letter.now in
@@ -96,10 +100,11 @@ impl Cell {
                 behaviour,
                 args,
                 load,
-                rows: _,
+                rows,
             } => {
                 let me = self.heap.owner();
                 receive_trace(load, me, &mut self.count, &mut self.heap, &mut self.foreign);
+                learn_all(&mut self.known, me, rows);
                 start_frame(code, self.kind, *behaviour, args, &mut self.frame);
                 self.wake()
             }

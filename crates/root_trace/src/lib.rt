@@ -3,12 +3,14 @@
 //! (after Orca, OOPSLA 2017, which traces deep).
 #![tactic(auto)]
 
+mod in_use;
 mod letters;
 mod needs;
 mod nowhere;
 mod own_rows;
 mod plans;
 
+pub use in_use::plan_in_use;
 pub use letters::{load_roots, rows_of};
 pub use needs::missing;
 pub use plans::plan_roots;

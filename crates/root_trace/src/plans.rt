@@ -33,8 +33,12 @@ fn push_counted(roots: &mut Vec<Value>, heap: &ObjectHeap, i: usize) -> Result<(
     Ok(())
 }
 
-// What is marked at once: the fields, and the own objects that are counted.
-fn roots_of(alloc: Global, fields: &Fields, heap: &ObjectHeap) -> Result<Vec<Value>, NoMemory>
+/// What is marked at once: the fields, and the own objects that are counted.
+pub(crate) fn roots_of(
+    alloc: Global,
+    fields: &Fields,
+    heap: &ObjectHeap,
+) -> Result<Vec<Value>, NoMemory>
     ensures { IfOk result (λ roots. roots.items ≡ roots_in fields.now.values heap.now) }
 {
     let mut roots = Vec::new(alloc);

@@ -1,32 +1,51 @@
 use Rattle.std.proofs.Common.{Some, sym, ap, ◌∙◌, subst}
 use Rattle.std.specs.Prelude.{option_map}
-use Rattle.turn_rules.specs.Segment.{segment_of, Stop}
-use Rattle.turn_step.specs.Turns.{act_of, setting_in}
+use Rattle.turn_rules.specs.Segment.{Stop}
+use Rattle.turn_step.specs.Turns.{HaltsAt, act_of}
 use Rattle.behaviour_check.specs.Rules.{IsChecked}
+use Rattle.machine_rules.specs.Go.{needed, setting_of, turn_of_cell}
 use Rattle.actor_cell.specs.Cells.{as_cell}
-use Rattle.actor_cell.specs.Goes.{FitsRegister, turned_at, turned_in}
-use Rattle.actor_cell.proofs.Known.{known_is}
+use Rattle.actor_cell.specs.Goes.{FitsRegister, turned_at, turned_in, turned_or_needs}
 use Rattle.actor_cell.proofs.Registers.{segment_fits}
-use Rattle.known_rows.specs.Known.{row_known}
 use Rattle.actor_cell.proofs.cell.Cell.found_go.Goals as goal
 
 pub move_of-requires : goal.move_of-requires
 move_of-requires c =
     let s = c.args.self.now in
-    let p = setting_in c.args.code.now c.owner.result c.made.result (row_known s.heap s.foreign) in
-    subst FitsRegister (ap (λ (stop : Stop). stop.act) c.in-Ok.ensures.ok)
-    (segment_fits p c.in-Some.frame.now s.fields (subst IsChecked c.program-program.ensures.value c.program-program.ensures.kept))
+    let code = c.args.code.now in
+    let frame = c.in-Some.frame.now in
+    let first = needed c.args.trace code s.heap.owner (as_cell s) frame in
+    let stop = turn_of_cell c.args.trace code s.heap.owner (as_cell s) frame in
+    let halts = subst (λ halt. HaltsAt first stop halt c.run_turn.new.turn) c.in-Stops.is c.in-Ok.ensures.halt in
+    subst FitsRegister (ap (λ (stop : Stop). stop.act) halts.1)
+    (segment_fits (setting_of c.args.trace code s.heap.owner (as_cell s)) frame s.fields
+    (subst IsChecked c.program-program.ensures.value c.program-program.ensures.kept))
 
 pub returns-in-Ok-move_of-clause-found : goal.returns-in-Ok-move_of-clause-found
 returns-in-Ok-move_of-clause-found c =
     let s = c.args.self.now in
     let code = c.args.code.now in
+    let me = s.heap.owner in
     let frame = c.in-Some.frame.now in
-    let turn = c.segment_at-done.new.turn in
-    let act = act_of c.in-Ok.stop.deed turn in
-    let stop : Stop = record { act = act; place = c.in-Ok.stop.place; turn = turn } in
-    let is = (λ i. segment_of (setting_in code (sym c.owner.ensures i) (sym c.made.ensures i) (λ n. sym (known_is s.count s.heap s.foreign n) i)) frame s.fields)
-    ∙ c.in-Ok.ensures.ok in
-    ap (option_map (turned_in c.args.weight code s.heap.owner (as_cell s))) (sym c.in-Some.ensures)
-    ∙ ap (λ t. Some (turned_at c.args.weight s.heap.owner (as_cell s) t)) is
-    ∙ (λ i. Some (record (turned_at c.args.weight s.heap.owner (as_cell s) stop) { act = sym c.in-Ok-move_of.ensures i }))
+    let first = needed c.args.trace code me (as_cell s) frame in
+    let its_stop = turn_of_cell c.args.trace code me (as_cell s) frame in
+    let turn = c.run_turn.new.turn in
+    let stop : Stop = record { act = act_of c.in-Stops.stop.deed turn; place = c.in-Stops.stop.place; turn = turn } in
+    let halts = subst (λ halt. HaltsAt first its_stop halt turn) c.in-Stops.is c.in-Ok.ensures.halt in
+    ap (option_map (turned_in c.args.trace c.args.weight code me (as_cell s))) (sym c.in-Some.ensures)
+    ∙ (λ i. Some (turned_or_needs c.args.trace c.args.weight me (as_cell s) frame (halts.0 i) (halts.1 i)))
+    ∙ (λ i. Some (record (turned_at c.args.trace c.args.weight me (as_cell s) stop) { act = sym c.in-Ok-move_of.ensures i }))
+
+pub returns-in-Ok-needing-clause-found : goal.returns-in-Ok-needing-clause-found
+returns-in-Ok-needing-clause-found c =
+    let s = c.args.self.now in
+    let code = c.args.code.now in
+    let me = s.heap.owner in
+    let frame = c.in-Some.frame.now in
+    let first = needed c.args.trace code me (as_cell s) frame in
+    let its_stop = turn_of_cell c.args.trace code me (as_cell s) frame in
+    let x = c.in-Needs.thing in
+    let needs = subst (λ halt. HaltsAt first its_stop halt c.run_turn.new.turn) c.in-Needs.is c.in-Ok.ensures.halt in
+    ap (option_map (turned_in c.args.trace c.args.weight code me (as_cell s))) (sym c.in-Some.ensures)
+    ∙ (λ i. Some (turned_or_needs c.args.trace c.args.weight me (as_cell s) frame (needs i) its_stop))
+    ∙ (λ i. Some (record { turn = sym c.begin.ensures i; place = frame.place; act = sym c.in-Ok-needing.ensures i }))

@@ -15,7 +15,8 @@ mint_one-requires c =
     let inside : i < length things = omega (arith, ap length c.as_slice-amount-items.ensures) in
     let rest = rest_of things i e inside (c.amount-item.is ∙ ap (λ xs. get_or xs i e) c.as_slice-amount-items.ensures) in
     let can = subst (λ xs. CanMint xs (as_cell c.loop-amount.self).holdings) rest c.loop-amount.invariant.can in
-    record { there = can.0; fits = can.1 }
+    let room = c.loop-amount.invariant.room in
+    record { room = omega arith; fits = can.0 }
 
 pub loop-amount-preserved : goal.loop-amount-preserved
 loop-amount-preserved c =
@@ -26,11 +27,14 @@ loop-amount-preserved c =
     let inside : i < length things = omega (arith, ap length c.as_slice-amount-items.ensures) in
     let rest = rest_of things i e inside (c.amount-item.is ∙ ap (λ xs. get_or xs i e) c.as_slice-amount-items.ensures) in
     let can = subst (λ xs. CanMint xs before) rest c.loop-amount.invariant.can in
+    let room = c.loop-amount.invariant.room in
+    let less = c.mint_one.ensures.room in
     let step : (as_cell c.mint_one.new.self).holdings ≡ mint_one e before = ap (λ (k : rules.Cell). k.holdings) c.mint_one.ensures.counts in
     record {
       counts = ap (mint_all (drop (i + 1) things)) step ∙ sym (mint_all-cons e (drop (i + 1) things) before)
           ∙ ap (λ xs. mint_all xs before) (sym rest) ∙ c.loop-amount.invariant.counts;
-      can = subst (CanMint (drop (i + 1) things)) (sym step) can.2;
+      can = subst (CanMint (drop (i + 1) things)) (sym step) can.1;
+      room = omega arith;
       others = others_stay (as_cell c.args.self.now) (as_cell c.loop-amount.self) (as_cell c.mint_one.new.self) _ c.loop-amount.invariant.others c.mint_one.ensures.counts;
       owner = c.mint_one.ensures.owner ∙ c.loop-amount.invariant.owner;
     }

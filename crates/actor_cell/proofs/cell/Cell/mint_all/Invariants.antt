@@ -1,4 +1,4 @@
-use Rattle.std.proofs.Common.{◌≡◌, drop}
+use Rattle.std.proofs.Common.{◌≡◌, ◌+◌, ◌≤◌, length, drop}
 use Rattle.letter_kinds.specs.Counting.{mint_all}
 use Rattle.actor_cell.specs.Can.{CanMint}
 use Rattle.actor_cell.specs.Cells.{as_cell}
@@ -9,5 +9,6 @@ invariant-loop-amount l = record {
   counts : mint_all (drop l.amount-index l.things) (as_cell l.self).holdings ≡ mint_all l.things (as_cell l.fn.self).holdings;
   can : CanMint (drop l.amount-index l.things) (as_cell l.self).holdings;
   others : as_cell l.self ≡ record (as_cell l.fn.self) { holdings = (as_cell l.self).holdings };
+  room : length l.things ≤ l.self.foreign.spare + l.amount-index;
   owner : l.self.heap.owner ≡ l.fn.self.heap.owner;
 }

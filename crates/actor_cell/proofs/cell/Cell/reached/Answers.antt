@@ -5,7 +5,7 @@ use Rattle.letter_kinds.specs.Holdings.{row_of, with_made}
 use Rattle.known_rows.specs.Holdings.{holdings_of}
 use Rattle.machine_rules.specs.Cell.{known_objects}
 use Rattle.actor_cell.proofs.Posting.{load_same}
-use Rattle.actor_cell.proofs.cell.Cell.load.Goals as goal
+use Rattle.actor_cell.proofs.cell.Cell.reached.Goals as goal
 
 pub returns : goal.returns
 returns c =

@@ -1,0 +1,16 @@
+use Rattle.std.proofs.Common.{ap, ◌∙◌}
+use Rattle.std.specs.List.{list_any}
+use Rattle.orca_names.specs.Names.{is_thing}
+use Rattle.local_sweep.specs.Plan.{plan_of}
+use Rattle.machine_rules.specs.Collect.{is_marked_deep}
+use Rattle.actor_cell.proofs.Marked.{marks_same}
+use Rattle.actor_cell.proofs.cell.Cell.found_deep.Goals as goal
+
+pub returns : goal.returns
+unfolding is_marked_deep
+returns c =
+    let s = c.args.self.now in
+    λ i. record {
+      plan = (c.in_ok-plan.ensures ∙ ap (λ marks. plan_of (λ x. list_any (is_thing x) marks) s.heap s.foreign) (marks_same s.count s.heap s.foreign s.fields.values)) i;
+      unused = c.new.ensures i;
+    }

@@ -1,0 +1,35 @@
+use Rattle.std.proofs.Common.{◌+◌, ◌<◌, get_or, length, drop, sym, ap, ◌∙◌, arith}
+use Rattle.machine_rules.specs.Take.{learn}
+use Rattle.actor_cell.proofs.Learnt.{learn-cons, learn-nil}
+use Rattle.actor_cell.proofs.Raising.{drop_past, rest_of}
+use Rattle.actor_cell.proofs.learning.learn_all.Goals as goal
+
+pub learn_one-requires : goal.learn_one-requires
+learn_one-requires c =
+    let i = c.loop-brought.brought-index in
+    let inside : i < length c.args.rows.now = omega (arith, ap length c.as_slice-brought-items.ensures) in
+    let room = c.loop-brought.invariant.room in
+    omega arith
+
+pub loop-brought-preserved : goal.loop-brought-preserved
+loop-brought-preserved c =
+    let rows = c.args.rows.now in
+    let me = c.args.me in
+    let i = c.loop-brought.brought-index in
+    let e = c.brought-item.result in
+    let before = c.loop-brought.known.rows in
+    let inside : i < length rows = omega (arith, ap length c.as_slice-brought-items.ensures) in
+    let rest = rest_of rows i e inside (c.brought-item.is ∙ ap (λ xs. get_or xs i e) c.as_slice-brought-items.ensures) in
+    let room = c.loop-brought.invariant.room in
+    let less = c.learn_one.ensures.room in
+    record {
+      rows = ap (learn me (drop (i + 1) rows)) c.learn_one.ensures.rows ∙ learn-cons me e (drop (i + 1) rows) before
+          ∙ ap (λ xs. learn me xs before) (sym rest) ∙ c.loop-brought.invariant.rows;
+      room = omega arith;
+    }
+
+pub returns : goal.returns
+returns c =
+    let now = c.loop-brought.known.rows in
+    let done = drop_past c.loop-brought.brought-index c.args.rows.now (omega (arith, ap length c.as_slice-brought-items.ensures)) in
+    sym (learn-nil c.args.me now) ∙ ap (λ xs. learn c.args.me xs now) (sym done) ∙ c.loop-brought.invariant.rows

@@ -1,0 +1,29 @@
+// Rows that letters bring uncounted.
+
+ghost use Rattle.std.specs.Prelude.{◌≡◌, ◌+◌, ◌<◌, ◌≤◌, [], ◌∷◌, length};
+ghost use Rattle.machine_rules.specs.Take.{learn};
+
+use letter_kinds::Load;
+use orca_names::{ActorName, Row, Thing};
+use row_table::RowTable;
+
+// The row of another's object is known.
+fn learn_one(known: &mut RowTable, me: ActorName, brought: &(Thing, Option<Row>))
+    requires { 0 < known.old.spare }
+    ensures rows { known.new.rows ≡ learn me (brought.now ∷ []) known.old.rows }
+    ensures room { known.old.spare ≤ known.new.spare + 1 }
+{
+    if brought.0.owner() != me {
+        known.learn(brought.0, &brought.1);
+    }
+}
+
+/// The rows of others' objects are known. It takes no memory.
+pub(crate) fn learn_all(known: &mut RowTable, me: ActorName, rows: &Load)
+    requires { length rows.now ≤ known.old.spare }
+    ensures { known.new.rows ≡ learn me rows.now known.old.rows }
+{
+    for brought in rows.as_slice() {
+        learn_one(known, me, brought);
+    }
+}

@@ -1,0 +1,15 @@
+// What a collection is found to do.
+
+use letter_kinds::{Amounts, SweepPlan};
+use orca_names::ActorName;
+use plain_list::Listed;
+
+/// What a collection frees, gives back and forgets.
+#[derive(Debug, Drop)]
+pub struct Sweep {
+    /// What it frees and gives back.
+    pub plan: SweepPlan,
+    /// The objects, in groups of their owners, whose rows letters brought and that are in use no
+    /// more.
+    pub unused: Listed<(ActorName, Amounts)>,
+}

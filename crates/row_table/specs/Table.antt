@@ -1,0 +1,56 @@
+-- The rows that an actor was told of others' objects.
+use Rattle.std.specs.Prelude.{ℕ, ◌-◌, if◌then◌else◌, is_some, [], map, Option, Some, None, refl}
+use Rattle.std.specs.FinMap as m
+use Rattle.std.specs.Option.{option_map_or}
+use Rattle.std.specs.Coded.{Coded, code_by, coded×, coded_ℕ}
+use Rattle.orca_names.specs.Codes.{coded_thing, coded_row}
+use Rattle.orca_names.specs.Names.{thing_cmp}
+use Rattle.orca_names.specs.declared.names.Thing.{Thing}
+use Rattle.letter_kinds.specs.Holdings.{Entries, Row}
+use Rattle.foreign_table.specs.Table.{Table}
+
+-- rows by their objects
+abbrev pub Rows : Type 0
+Rows = m.FinMap thing_cmp Row
+
+-- the room for new rows, and the rows
+pub record KnownRows : Type 0 where
+  pub spare : ℕ
+  pub rows : Rows
+
+abbrev pub coded_rows : Coded KnownRows
+coded_rows =
+    code_by (ℕ × Rows) (coded× coded_ℕ (m.code coded_thing coded_row))
+    (λ t. (t.spare, t.rows)) (λ p. record { spare = p.0; rows = p.1 }) (λ _. refl)
+
+-- with what a function makes of each value
+abbrev pub mapped : {X Y : Type 0} → (X → Y) → m.FinMap thing_cmp X → m.FinMap thing_cmp Y
+mapped f t = m.from_sorted (map (λ e. (e.0, f e.1)) (m.entries t))
+
+-- an entry of count 0 with the row
+abbrev pub bare_entry : Row → ℕ × Option Row
+bare_entry row = (0, Some row)
+
+-- rows as entries of count 0
+abbrev pub uncounted : Rows → Entries
+uncounted rows = mapped bare_entry rows
+
+-- the row of an entry
+abbrev pub row_in : ℕ × Option Row → Row
+row_in e = option_map_or (λ row. row) e.1 []
+
+-- the rows of entries that each have one
+abbrev pub rows_in : Entries → Rows
+rows_in entries = mapped row_in entries
+
+-- the table of these entries
+abbrev pub as_held : KnownRows → Table
+as_held t = record { spare = t.spare; entries = uncounted t.rows }
+
+-- the row of the thing is as told; one that is new takes room
+abbrev pub learnt : Thing → Option Row → KnownRows → KnownRows
+learnt x None t = t
+learnt x (Some row) t = record {
+  spare = t.spare - (if is_some (m.get t.rows x) then 0 else 1);
+  rows = m.insert t.rows x row;
+}
