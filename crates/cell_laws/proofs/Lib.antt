@@ -1,4 +1,5 @@
 pub mod Allowing
+pub mod Cells
 pub mod Going
 pub mod Holding
 pub mod Keeping

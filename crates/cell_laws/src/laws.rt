@@ -1,7 +1,7 @@
 // In every run, each actor's counts allow what its next event does to them.
 
 ghost use Rattle.cell_laws.specs.Goes.{RunsAllowGoes};
-ghost use Rattle.cell_laws.specs.Held.{RunsHoldOthersOnly, RunsHoldTheMadeOnly, RunsKnowOthersOnly};
+ghost use Rattle.cell_laws.specs.Held.{CellsKnowOthersOnly, RunsHoldOthersOnly, RunsHoldTheMadeOnly, RunsKnowOthersOnly};
 ghost use Rattle.cell_laws.specs.Limits.{RunsHaveRoom, RunsHaveSerials, RunsKeepTheProgram, RunsMakeFewObjects};
 ghost use Rattle.cell_laws.specs.Reaps.{TheAcknowledgedAreDone};
 ghost use Rattle.cell_laws.specs.Takes.{RunsAllowTakes};
@@ -22,11 +22,12 @@ pub fn counts_allow_goes()
 
 /// The table of what an actor holds has no thing of its own, and none of an actor that was not made:
 /// a new actor's maker holds nothing of it yet, so the weight has room. With root-only tracing, the
-/// rows that letters brought are of no object of its own.
+/// rows that letters brought are of no object of its own. So it is with the cell that code keeps.
 pub fn others_alone_are_held()
     ensures others { RunsHoldOthersOnly }
     ensures made { RunsHoldTheMadeOnly }
     ensures known { RunsKnowOthersOnly }
+    ensures cell { CellsKnowOthersOnly }
 {}
 
 /// A run of n events made at most 1,024 n objects, where the program is well formed. So the objects
