@@ -1,0 +1,9 @@
+pub mod Allowing
+pub mod Cells
+pub mod Going
+pub mod Holding
+pub mod Keeping
+pub mod Learning
+pub mod Reaping
+pub mod Room
+pub mod Taking
