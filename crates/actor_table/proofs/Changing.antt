@@ -1,0 +1,169 @@
+-- One place of the table changes.
+use Rattle.std.proofs.Common.{◌≡◌, ℕ, zero, suc, ◌+◌, ◌-◌, ◌<◌, ◌≤◌, inl, inr, Bool, true, false, List, [], ◌∷◌, ◌++◌, length, length-append, get_or, set, Option, Some, None, refl, sym, ap, subst, ◌∙◌, arith}
+use Rattle.std.specs.Prelude.{◌&&◌, if◌then◌else◌, is_some, not, IfNone, IfSome}
+use Rattle.std.specs.Option.{option_map_or}
+use Rattle.std.proofs.lemmas.Bool.{cases_eq, cases_lt}
+use Rattle.std.proofs.lemmas.List.{get_or-append_right, get_or-map, get_or_append_left, get_or_default, get_or-set_same, get_or-set_other, get_or_past, length-map, length-set, map-set, set_past}
+use Rattle.std.proofs.Math.Seq.{map-set_same}
+use Rattle.orca_names.specs.declared.limits.TheConstants.{ACTORS_LIMIT}
+use Rattle.letter_kinds.specs.declared.letter.Letter.{Letter}
+use Rattle.machine_rules.specs.Actors.{Actors, Seat, push_letter, seat_at, with_letter_more}
+use Rattle.actor_cell.specs.declared.cell.Cell.{Cell}
+use Rattle.actor_table.specs.declared.slot.Slot.{Slot}
+use Rattle.actor_table.specs.declared.slot.Place.TheVariants.{Home, Gone}
+use Rattle.actor_table.specs.Changes.{IsChangedAt, KeepsRoom}
+use Rattle.actor_table.specs.Index.{IsIndex}
+use Rattle.actor_table.specs.Slots.{AreIndexed, IsOwnedBy, actors_of, away_of, can_act, can_settle, gone, is_away, letters_in, places_of, seat_of, settles, slot_at, acts}
+use Rattle.actor_table.proofs.Indexing.{index_push, index_set, same_index}
+
+-- an actor's seat is that of its place
+pub seat_read : (slots : List Slot) (a : ℕ) → seat_at (actors_of slots) a ≡ seat_of (slot_at slots a)
+seat_read slots a = elim (cases_lt a (length slots)) as (λ _. seat_at (actors_of slots) a ≡ seat_of (slot_at slots a)) [
+  | inl h ↦ get_or-map seat_of slots a gone None h
+  | inr h ↦ get_or_past (actors_of slots) a None (omega (arith, length-map slots seat_of)) ∙ ap seat_of (sym (get_or_past slots a gone h))
+]
+
+-- who has a cell at home was made
+pub home_within : (slots : List Slot) (a : ℕ) (c : Cell) → (slot_at slots a).place ≡ Home c → a < length slots
+home_within slots a c home = elim (cases_lt a (length slots)) as (λ _. a < length slots) [
+  | inl h ↦ h
+  | inr h ↦ let z : Gone ≡ Home c = sym (ap (λ (x : Slot). x.place) (get_or_past slots a gone h)) ∙ home in cc
+]
+
+-- the actors, where the place becomes x
+pub actors_set : (slots : List Slot) (a : ℕ) (x : Slot) (o : Option Seat) → seat_of x ≡ o → actors_of (set slots a x) ≡ set (actors_of slots) a o
+actors_set slots a x o is = map-set seat_of slots a x ∙ ap (set (actors_of slots) a) is
+
+pub actors_kept : (slots : List Slot) (a : ℕ) (x : Slot) → seat_of x ≡ seat_of (slot_at slots a) → actors_of (set slots a x) ≡ actors_of slots
+actors_kept slots a x same = map-set_same seat_of slots a x gone same
+
+pub away_kept : (slots : List Slot) (a : ℕ) (x : Slot) → is_away x ≡ is_away (slot_at slots a) → away_of (set slots a x) ≡ away_of slots
+away_kept slots a x same = map-set_same is_away slots a x gone same
+
+pub away_set : (slots : List Slot) (a : ℕ) (x : Slot) (b : Bool) → is_away x ≡ b → away_of (set slots a x) ≡ set (away_of slots) a b
+away_set slots a x b is = map-set is_away slots a x ∙ ap (set (away_of slots) a) is
+
+-- where a cell was lent it is away
+pub away_lent : (slots : List Slot) (a : ℕ) (old x : Slot) (lent : Option Cell) → old ≡ slot_at slots a → IfSome lent (λ _. is_away x ≡ true) → IfNone lent (is_away x ≡ is_away old)
+    → away_of (set slots a x) ≡ (if is_some lent then set (away_of slots) a true else away_of slots)
+away_lent slots a old x (Some cell) read away home = away_set slots a x true away
+away_lent slots a old x None read away home = away_kept slots a x (home ∙ ap is_away read)
+
+owned_set : (slots : List Slot) (a : ℕ) (x : Slot) → ((b : ℕ) → IsOwnedBy b (slot_at slots b).place) → a < length slots → IsOwnedBy a x.place → (b : ℕ) → IsOwnedBy b (slot_at (set slots a x) b).place
+owned_set slots a x owned h own b = elim (cases_eq b a) as (λ _. IsOwnedBy b (slot_at (set slots a x) b).place) [
+  | inl same ↦ subst (λ c. IsOwnedBy c (slot_at (set slots a x) c).place) (sym same) (subst (λ (y : Slot). IsOwnedBy a y.place) (sym (get_or-set_same slots a x gone h)) own)
+  | inr other ↦ subst (λ (y : Slot). IsOwnedBy b y.place) (sym (get_or-set_other slots a b x gone other)) (owned b)
+]
+
+-- the indexes follow the place
+pub indexed_set : (slots : List Slot) (acting settling acting_after settling_after : List Bool) (a : ℕ) (x : Slot) → AreIndexed slots acting settling → a < length slots → IsOwnedBy a x.place
+    → acting_after ≡ set acting a (can_act x) → settling_after ≡ set settling a (can_settle x)
+    → AreIndexed (set slots a x) acting_after settling_after
+indexed_set slots acting settling acting_after settling_after a x all h own one two = record {
+  owned = owned_set slots a x all.owned h own;
+  few = omega (arith, all.few, length-set slots a x);
+  acts = subst (λ on. IsIndex can_act on (set slots a x)) (sym one) (index_set can_act acting slots a x all.acts h);
+  settles = subst (λ on. IsIndex can_settle on (set slots a x)) (sym two) (index_set can_settle settling slots a x all.settles h);
+}
+
+-- no place has less room where the one that changes has not
+pub room_kept : (slots : List Slot) (a : ℕ) (x : Slot) → a < length slots → (slot_at slots a).mail.spare ≤ x.mail.spare → KeepsRoom slots (set slots a x)
+room_kept slots a x h more b = elim (cases_eq b a) as (λ _. (slot_at slots b).mail.spare ≤ (slot_at (set slots a x) b).mail.spare) [
+  | inl same ↦ subst (λ (c : ℕ). (slot_at slots c).mail.spare ≤ (slot_at (set slots a x) c).mail.spare) (sym same)
+      (subst (λ (y : Slot). (slot_at slots a).mail.spare ≤ y.mail.spare) (sym (get_or-set_same slots a x gone h)) more)
+  | inr other ↦ subst (λ (y : Slot). (slot_at slots b).mail.spare ≤ y.mail.spare) (sym (get_or-set_other slots a b x gone other)) (omega arith)
+]
+
+-- the place that became x is x
+pub set_read : (slots : List Slot) (a : ℕ) (x : Slot) → a < length slots → slot_at (set slots a x) a ≡ x
+set_read slots a x h = get_or-set_same slots a x gone h
+
+-- one place alone changes, where what becomes of the one that was read is of the same actors
+pub changed_by : (slots : List Slot) (a : ℕ) (old x : Slot) → a < length slots → old ≡ get_or slots a old → ((b : ℕ) → IsOwnedBy b old.place → IsOwnedBy b x.place) → IsChangedAt a slots (set slots a x)
+changed_by slots a old x h read own =
+    let new = set_read slots a x h in
+    record {
+      within = h;
+      others = ap (set slots a) (sym new);
+      owned = λ was.
+          subst (λ (y : Slot). IsOwnedBy a y.place) (sym new)
+          (own a (subst (λ (y : Slot). IsOwnedBy a y.place) (sym (read ∙ get_or_default slots a old gone h)) was));
+    }
+
+-- the indexes follow it
+pub bits_follow : (old new : List Slot) (acting settling acting_after settling_after : List Bool) (a : ℕ) (x : Slot) (acts settles : Bool) → AreIndexed old acting settling → IsChangedAt a old new
+    → a < length new → x ≡ get_or new a x → acts ≡ can_act x → settles ≡ can_settle x
+    → acting_after ≡ set acting a acts → settling_after ≡ set settling a settles
+    → AreIndexed new acting_after settling_after
+bits_follow old new acting settling acting_after settling_after a x acts settles all changed h read act settle one two =
+    let is : x ≡ slot_at new a = read ∙ get_or_default new a x gone h in
+    subst (λ xs. AreIndexed xs acting_after settling_after) (sym changed.others)
+    (indexed_set old acting settling acting_after settling_after a (slot_at new a) all changed.within (changed.owned (all.owned a))
+    (one ∙ ap (set acting a) (act ∙ ap can_act is)) (two ∙ ap (set settling a) (settle ∙ ap can_settle is)))
+
+-- a change that the indexes don't tell
+pub index_stays : (old new : List Slot) (acting settling : List Bool) (a : ℕ) → AreIndexed old acting settling → IsChangedAt a old new
+    → seat_of (slot_at new a) ≡ seat_of (slot_at old a) → is_away (slot_at new a) ≡ is_away (slot_at old a)
+    → AreIndexed new acting settling
+index_stays old new acting settling a all changed same away =
+    let x = slot_at new a in
+    let act : can_act x ≡ can_act (slot_at old a) = ap (λ b. not b && option_map_or acts (seat_of x) false) away ∙ ap (λ o. not (is_away (slot_at old a)) && option_map_or acts o false) same in
+    let settle : can_settle x ≡ can_settle (slot_at old a) = ap (λ b. not b && option_map_or settles (seat_of x) false) away ∙ ap (λ o. not (is_away (slot_at old a)) && option_map_or settles o false) same in
+    subst (λ xs. AreIndexed xs acting settling) (sym changed.others) (record {
+      owned = owned_set old a x all.owned changed.within (changed.owned (all.owned a));
+      few = omega (arith, all.few, length-set old a x);
+      acts = same_index can_act acting old a x gone all.acts changed.within act;
+      settles = same_index can_settle settling old a x gone all.settles changed.within settle;
+    })
+
+-- a letter is pushed to the seat at its place
+pub pushed : (to : ℕ) (letter : Letter) (actors : Actors) → push_letter to letter actors ≡ set actors to (with_letter_more letter (seat_at actors to))
+unfolding push_letter
+pushed to letter actors = refl
+
+-- one for an actor that was not made is lost
+pub lost_past : (to : ℕ) (letter : Letter) (slots : List Slot) → length slots ≤ to → push_letter to letter (actors_of slots) ≡ actors_of slots
+lost_past to letter slots past =
+    pushed to letter (actors_of slots) ∙ set_past (actors_of slots) to (with_letter_more letter (seat_at (actors_of slots) to)) (omega (arith, length-map slots seat_of))
+
+-- what holds of the places alone
+pub places_kept : (slots : List Slot) (a : ℕ) (x : Slot) → x.place ≡ (slot_at slots a).place → places_of (set slots a x) ≡ places_of slots
+places_kept slots a x same = map-set_same (λ (y : Slot). y.place) slots a x gone same
+
+pub letters_kept : (slots : List Slot) (a : ℕ) (x : Slot) → x.mail.letters ≡ (slot_at slots a).mail.letters → letters_in (set slots a x) ≡ letters_in slots
+letters_kept slots a x same = map-set_same (λ (y : Slot). y.mail.letters) slots a x gone same
+
+-- ---- more
+
+-- the indexes with places more
+pub indexed_more : (slots : List Slot) (acting settling acting_after settling_after : List Bool) → AreIndexed slots acting settling
+    → (IsIndex can_act acting slots → IsIndex can_act acting_after slots) → (IsIndex can_settle settling slots → IsIndex can_settle settling_after slots)
+    → AreIndexed slots acting_after settling_after
+indexed_more slots acting settling acting_after settling_after all act settle =
+    record { owned = all.owned; few = all.few; acts = act all.acts; settles = settle all.settles }
+
+-- one actor more
+pub indexed_push : (slots : List Slot) (acting settling acting_after settling_after : List Bool) (x : Slot) (acts settles : Bool) → AreIndexed slots acting settling
+    → length slots < ACTORS_LIMIT → length slots < length acting → length slots < length settling → IsOwnedBy (length slots) x.place → acts ≡ can_act x → settles ≡ can_settle x
+    → acting_after ≡ set acting (length slots) acts → settling_after ≡ set settling (length slots) settles
+    → AreIndexed (slots ++ x ∷ []) acting_after settling_after
+indexed_push slots acting settling acting_after settling_after x acts settles all few act_room settle_room own act settle one two = record {
+  owned = λ b. elim (cases_lt b (length slots)) as (λ _. IsOwnedBy b (slot_at (slots ++ x ∷ []) b).place) [
+    | inl h ↦ subst (λ (y : Slot). IsOwnedBy b y.place) (sym (get_or_append_left slots (x ∷ []) gone b h)) (all.owned b)
+    | inr h ↦ behind b h (b - length slots) (omega arith)
+  ];
+  few = omega (arith, few, length-append slots (x ∷ []));
+  acts = subst (λ on. IsIndex can_act on (slots ++ x ∷ [])) (sym (one ∙ ap (set acting (length slots)) act)) (index_push can_act acting slots x all.acts act_room);
+  settles = subst (λ on. IsIndex can_settle on (slots ++ x ∷ [])) (sym (two ∙ ap (set settling (length slots)) settle)) (index_push can_settle settling slots x all.settles settle_room);
+}
+  where
+    behind : (b : ℕ) → length slots ≤ b → (n : ℕ) → b ≡ length slots + n → IsOwnedBy b (slot_at (slots ++ x ∷ []) b).place
+    behind b h zero e =
+        let same : b ≡ length slots = omega arith in
+        subst (λ c. IsOwnedBy c (slot_at (slots ++ x ∷ []) c).place) (sym same)
+        (subst (λ (y : Slot). IsOwnedBy (length slots) y.place) (sym (get_or-append_right slots (x ∷ []) (length slots) (length slots) gone refl (omega arith) ∙ first (length slots - length slots) (omega arith))) own)
+      where
+        first : (n : ℕ) → n ≡ 0 → slot_at (x ∷ []) n ≡ x
+        first n e = subst (λ m. slot_at (x ∷ []) m ≡ x) (sym e) refl
+    behind b h (suc n) e =
+        subst (λ (y : Slot). IsOwnedBy b y.place) (sym (get_or_past (slots ++ x ∷ []) b gone (omega (arith, e, length-append slots (x ∷ []))))) tt

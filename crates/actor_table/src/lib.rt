@@ -1,0 +1,9 @@
+//! The table of all actors: their cells and letters, and indexes of those that have events.
+#![tactic(auto)]
+
+mod slot;
+mod slots;
+mod table;
+
+pub use slot::{Place, Slot};
+pub use table::ActorTable;

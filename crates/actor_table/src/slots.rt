@@ -1,0 +1,290 @@
+// All places, and what becomes of one of them.
+
+ghost use Rattle.std.specs.Prelude.{◌≡◌, ◌+◌, ◌<◌, ◌≤◌, ◌==◌, ◌≢◌, List, if◌then◌else◌, is_some, option_map, ℕ, Bool, length, Some, None, set, true, false, ⊤, IsSomeAnd, OnOk, vec_len, vec_capacity};
+ghost use Rattle.letter_kinds.specs.declared.letter.Letter.{Letter as a_letter};
+ghost use Rattle.orca_names.specs.declared.limits.TheConstants.{ACTORS_LIMIT};
+ghost use Rattle.actor_table.specs.declared.slot.Slot.{Slot as a_slot};
+ghost use Rattle.orca_names.specs.declared.names.Thing.{Thing as thing};
+ghost use Rattle.machine_rules.specs.Actors.{push_letter, seat_at};
+ghost use Rattle.actor_cell.specs.Cells.{as_cell, settled};
+ghost use Rattle.actor_cell.specs.Goes.{new_entries};
+ghost use Rattle.actor_table.specs.Changes.{changed_at, moved, note_taken, plan_in, swept_of, taken, told, with_cell_by, CanCollectHere, CanGoHere, CanSettleNew, CanTakeHere, HasCell, HasRoomToGo, HasRoomToTake, IsChangedAt, KeepsRoom};
+ghost use Rattle.actor_table.specs.Index.{IsIndex};
+ghost use Rattle.actor_table.specs.Slots.{actors_of, away_of, can_act, can_settle, home_of, AreIndexed, IsOwnedBy, is_away, letters_in, places_of, seat_of, slot_at};
+
+use crate::slot::{
+    Place, Slot, block, can_act, can_settle, collect, go_on, lift, push_letter, put_back,
+    reserve_go, reserve_letters, reserve_take, settle_new, take_letter,
+};
+use actor_cell::{Cell, Turned};
+use behaviour_check::Checked;
+use letter_kinds::{Letter, Note, SweepPlan};
+use mail_rows::MailRow;
+use orca_names::{ActorName, NoMemory};
+use ready_set::ReadySet;
+use std::alloc::Global;
+use turn_step::Turn;
+
+/// The idle actor takes the first of its letters.
+#[tactic(auto, using(crate::proofs::Changing::actors_set, crate::proofs::Changing::away_kept, crate::proofs::Changing::seat_read, crate::proofs::Changing::room_kept))]
+pub(crate) fn take_at(slots: &mut Vec<Slot>, code: &Checked, a: usize) -> Option<Note>
+    requires within { a < length slots.old.items }
+    requires owned { IsOwnedBy a (slot_at slots.old.items a).place }
+    requires can { CanTakeHere a (slot_at slots.old.items a) }
+    ensures actors { actors_of slots.new.items
+        ≡ changed_at (taken code.now a) a (actors_of slots.old.items) }
+    ensures note { result ≡ note_taken a (seat_at (actors_of slots.old.items) a) }
+    ensures away { away_of slots.new.items ≡ away_of slots.old.items }
+    ensures room { KeepsRoom slots.old.items slots.new.items }
+    ensures changed { IsChangedAt a slots.old.items slots.new.items }
+    ensures length { vec_len slots.new ≡ vec_len slots.old }
+    ensures capacity { vec_capacity slots.new ≡ vec_capacity slots.old }
+{
+    take_letter(code, &mut slots[a])
+}
+
+/// The actor's turn is done as it was found.
+#[tactic(auto, using(crate::proofs::Changing::actors_set, crate::proofs::Changing::away_kept, crate::proofs::Changing::seat_read, crate::proofs::Changing::room_kept))]
+pub(crate) fn go_at(slots: &mut Vec<Slot>, a: usize, turn: &Turn, found: &Turned)
+    requires within { a < length slots.old.items }
+    requires owned { IsOwnedBy a (slot_at slots.old.items a).place }
+    requires can { CanGoHere a turn.now found.now.act (slot_at slots.old.items a) }
+    ensures actors { actors_of slots.new.items
+        ≡ changed_at (with_cell_by (moved a turn.now found.now.place found.now.act)) a
+        (actors_of slots.old.items) }
+    ensures entry { 0 < new_entries found.now.act
+        → IsSomeAnd (home_of (slot_at slots.new.items a)) (λ c. 0 < c.foreign.spare) }
+    ensures away { away_of slots.new.items ≡ away_of slots.old.items }
+    ensures room { KeepsRoom slots.old.items slots.new.items }
+    ensures changed { IsChangedAt a slots.old.items slots.new.items }
+    ensures length { vec_len slots.new ≡ vec_len slots.old }
+    ensures capacity { vec_capacity slots.new ≡ vec_capacity slots.old }
+{
+    go_on(&mut slots[a], turn, found);
+}
+
+/// The actor that it made gets its name.
+#[tactic(auto, using(crate::proofs::Changing::actors_set, crate::proofs::Changing::away_kept, crate::proofs::Changing::seat_read, crate::proofs::Changing::room_kept))]
+pub(crate) fn settle_at(slots: &mut Vec<Slot>, a: usize, register: u8, name: ActorName, weight: u32)
+    requires within { a < length slots.old.items }
+    requires can { CanSettleNew weight name (slot_at slots.old.items a) }
+    ensures actors { actors_of slots.new.items
+        ≡ changed_at (with_cell_by (settled weight register name)) a (actors_of slots.old.items) }
+    ensures away { away_of slots.new.items ≡ away_of slots.old.items }
+    ensures room { KeepsRoom slots.old.items slots.new.items }
+    ensures changed { IsChangedAt a slots.old.items slots.new.items }
+    ensures length { vec_len slots.new ≡ vec_len slots.old }
+    ensures capacity { vec_capacity slots.new ≡ vec_capacity slots.old }
+{
+    settle_new(&mut slots[a], register, name, weight);
+}
+
+/// The actor's collection is done as it was planned.
+#[tactic(auto, using(crate::proofs::Changing::actors_set, crate::proofs::Changing::away_kept, crate::proofs::Changing::seat_read, crate::proofs::Changing::room_kept))]
+pub(crate) fn collect_at(slots: &mut Vec<Slot>, a: usize, plan: &SweepPlan)
+    requires within { a < length slots.old.items }
+    requires owned { IsOwnedBy a (slot_at slots.old.items a).place }
+    requires can { CanCollectHere plan.now (slot_at slots.old.items a) }
+    ensures actors { (marked : thing → Bool) → IsSomeAnd (seat_at (actors_of slots.old.items) a)
+        (λ o. plan.now ≡ plan_in a marked o.cell.holdings) → actors_of slots.new.items
+        ≡ changed_at (with_cell_by (swept_of marked a)) a (actors_of slots.old.items) }
+    ensures away { away_of slots.new.items ≡ away_of slots.old.items }
+    ensures room { KeepsRoom slots.old.items slots.new.items }
+    ensures changed { IsChangedAt a slots.old.items slots.new.items }
+    ensures length { vec_len slots.new ≡ vec_len slots.old }
+    ensures capacity { vec_capacity slots.new ≡ vec_capacity slots.old }
+{
+    collect(&mut slots[a], plan);
+}
+
+/// The actor reported that it is blocked.
+#[tactic(auto, using(crate::proofs::Changing::actors_set, crate::proofs::Changing::away_kept, crate::proofs::Changing::seat_read, crate::proofs::Changing::room_kept))]
+pub(crate) fn block_at(slots: &mut Vec<Slot>, a: usize)
+    requires within { a < length slots.old.items }
+    requires can { HasCell (slot_at slots.old.items a) (λ c. ⊤) }
+    ensures actors { actors_of slots.new.items
+        ≡ changed_at (with_cell_by told) a (actors_of slots.old.items) }
+    ensures away { away_of slots.new.items ≡ away_of slots.old.items }
+    ensures room { KeepsRoom slots.old.items slots.new.items }
+    ensures changed { IsChangedAt a slots.old.items slots.new.items }
+    ensures length { vec_len slots.new ≡ vec_len slots.old }
+    ensures capacity { vec_capacity slots.new ≡ vec_capacity slots.old }
+{
+    block(&mut slots[a]);
+}
+
+/// A letter for the actor, if it is present.
+#[tactic(auto, using(crate::proofs::Changing::actors_set, crate::proofs::Changing::away_kept, crate::proofs::Changing::seat_read, crate::proofs::Changing::room_kept))]
+pub(crate) fn push_at(slots: &mut Vec<Slot>, a: usize, letter: Letter)
+    requires within { a < length slots.old.items }
+    requires room { is_some (seat_at (actors_of slots.old.items) a) ≡ true
+        → 0 < (slot_at slots.old.items a).mail.spare }
+    ensures actors { actors_of slots.new.items
+        ≡ push_letter a letter (actors_of slots.old.items) }
+    ensures away { away_of slots.new.items ≡ away_of slots.old.items }
+    ensures room { (b : ℕ) → (slot_at slots.old.items b).mail.spare
+        ≤ (slot_at slots.new.items b).mail.spare + (if b == a then 1 else 0) }
+    ensures changed { IsChangedAt a slots.old.items slots.new.items }
+    ensures length { vec_len slots.new ≡ vec_len slots.old }
+    ensures capacity { vec_capacity slots.new ≡ vec_capacity slots.old }
+{
+    push_letter(&mut slots[a], letter);
+}
+
+/// Takes the memory for what the actor's first letter brings.
+#[tactic(auto, using(crate::proofs::Changing::actors_kept, crate::proofs::Changing::away_kept, crate::proofs::Changing::seat_read, crate::proofs::Changing::room_kept))]
+pub(crate) fn reserve_take_at(slots: &mut Vec<Slot>, a: usize) -> Result<(), NoMemory>
+    requires within { a < length slots.old.items }
+    ensures actors { actors_of slots.new.items
+        ≡ actors_of slots.old.items }
+    ensures seat { seat_of (slot_at slots.new.items a) ≡ seat_of (slot_at slots.old.items a) }
+    ensures same { is_away (slot_at slots.new.items a) ≡ is_away (slot_at slots.old.items a) }
+    ensures ok { OnOk result (HasRoomToTake (slot_at slots.new.items a)) }
+    ensures away { away_of slots.new.items ≡ away_of slots.old.items }
+    ensures room { KeepsRoom slots.old.items slots.new.items }
+    ensures changed { IsChangedAt a slots.old.items slots.new.items }
+    ensures length { vec_len slots.new ≡ vec_len slots.old }
+    ensures capacity { vec_capacity slots.new ≡ vec_capacity slots.old }
+{
+    reserve_take(&mut slots[a])
+}
+
+/// Takes the memory for what was found of the actor's turn.
+#[tactic(auto, using(crate::proofs::Changing::actors_kept, crate::proofs::Changing::away_kept, crate::proofs::Changing::seat_read, crate::proofs::Changing::room_kept))]
+pub(crate) fn reserve_go_at(
+    slots: &mut Vec<Slot>,
+    a: usize,
+    turn: &Turn,
+    found: &Turned,
+) -> Result<(), NoMemory>
+    requires within { a < length slots.old.items }
+    ensures actors { actors_of slots.new.items
+        ≡ actors_of slots.old.items }
+    ensures seat { seat_of (slot_at slots.new.items a) ≡ seat_of (slot_at slots.old.items a) }
+    ensures same { is_away (slot_at slots.new.items a) ≡ is_away (slot_at slots.old.items a) }
+    ensures ok { OnOk result (HasRoomToGo turn.now found.now.act (slot_at slots.new.items a)) }
+    ensures away { away_of slots.new.items ≡ away_of slots.old.items }
+    ensures room { KeepsRoom slots.old.items slots.new.items }
+    ensures changed { IsChangedAt a slots.old.items slots.new.items }
+    ensures length { vec_len slots.new ≡ vec_len slots.old }
+    ensures capacity { vec_capacity slots.new ≡ vec_capacity slots.old }
+{
+    reserve_go(&mut slots[a], turn, found)
+}
+
+/// Makes sure that the index has a place for one actor more.
+#[tactic(auto, using(crate::proofs::Indexing::index_grown))]
+fn reserve_bit(slots: &[Slot], ready: &mut ReadySet) -> Result<(), NoMemory>
+    requires few { length slots.now < ACTORS_LIMIT }
+    requires room { length slots.now ≤ length ready.old }
+    ensures index { (has : a_slot → Bool) → IsIndex has ready.old slots.now
+        → IsIndex has ready.new slots.now }
+    ensures ok { OnOk result (length slots.now < length ready.new) }
+    ensures kept { length ready.old ≤ length ready.new }
+{
+    if slots.len() == ready.len() {
+        ready.grow()?;
+    }
+    Ok(())
+}
+
+/// Makes sure that both indexes have a place for one actor more.
+pub(crate) fn reserve_bits(
+    slots: &[Slot],
+    acting: &mut ReadySet,
+    settling: &mut ReadySet,
+) -> Result<(), NoMemory>
+    requires few { length slots.now < ACTORS_LIMIT }
+    requires indexed { AreIndexed slots.now acting.old settling.old }
+    ensures indexed { AreIndexed slots.now acting.new settling.new }
+    ensures ok { OnOk result ((length slots.now < length acting.new)
+        × (length slots.now < length settling.new)) }
+{
+    reserve_bit(slots, acting)?;
+    reserve_bit(slots, settling)
+}
+
+/// Takes the memory for so many letters to the actor, if it is present.
+#[tactic(auto, using(crate::proofs::Changing::places_kept, crate::proofs::Changing::letters_kept, crate::proofs::Changing::seat_read, crate::proofs::Changing::room_kept))]
+pub(crate) fn reserve_letters_at(slots: &mut Vec<Slot>, a: usize, n: usize) -> Result<(), NoMemory>
+    requires within { a < length slots.old.items }
+    ensures places { places_of slots.new.items ≡ places_of slots.old.items }
+    ensures letters { letters_in slots.new.items ≡ letters_in slots.old.items }
+    ensures seat { seat_of (slot_at slots.new.items a) ≡ seat_of (slot_at slots.old.items a) }
+    ensures same { is_away (slot_at slots.new.items a) ≡ is_away (slot_at slots.old.items a) }
+    ensures ok { OnOk result (is_some (seat_at (actors_of slots.old.items) a) ≡ true
+        → n ≤ (slot_at slots.new.items a).mail.spare) }
+    ensures room { KeepsRoom slots.old.items slots.new.items }
+    ensures changed { IsChangedAt a slots.old.items slots.new.items }
+    ensures length { vec_len slots.new ≡ vec_len slots.old }
+    ensures capacity { vec_capacity slots.new ≡ vec_capacity slots.old }
+{
+    reserve_letters(&mut slots[a], n)
+}
+
+/// The actor goes, with its cell and its letters.
+#[tactic(auto, using(crate::proofs::Changing::actors_set, crate::proofs::Changing::away_set, crate::proofs::Changing::seat_read))]
+pub(crate) fn clear_at(alloc: Global, slots: &mut Vec<Slot>, a: usize)
+    requires within { a < length slots.old.items }
+    ensures actors { actors_of slots.new.items ≡ set (actors_of slots.old.items) a None }
+    ensures away { away_of slots.new.items ≡ set (away_of slots.old.items) a false }
+    ensures room { (b : ℕ) → b ≢ a → slot_at slots.new.items b ≡ slot_at slots.old.items b }
+    ensures changed { IsChangedAt a slots.old.items slots.new.items }
+    ensures length { vec_len slots.new ≡ vec_len slots.old }
+    ensures capacity { vec_capacity slots.new ≡ vec_capacity slots.old }
+{
+    slots[a] = Slot {
+        place: Place::Gone,
+        mail: MailRow::new(alloc),
+    };
+}
+
+/// Lends the cell of the actor, if it is at home.
+#[tactic(auto, using(crate::proofs::Changing::actors_kept, crate::proofs::Changing::away_set, crate::proofs::Changing::seat_read, crate::proofs::Changing::room_kept))]
+pub(crate) fn lift_at(slots: &mut Vec<Slot>, a: usize) -> Option<Cell>
+    requires within { a < length slots.old.items }
+    ensures cell { result ≡ home_of (slot_at slots.old.items a) }
+    ensures actors { actors_of slots.new.items ≡ actors_of slots.old.items }
+    ensures away { away_of slots.new.items
+        ≡ (if is_some result then set (away_of slots.old.items) a true else away_of slots.old.items) }
+    ensures room { KeepsRoom slots.old.items slots.new.items }
+    ensures changed { IsChangedAt a slots.old.items slots.new.items }
+    ensures length { vec_len slots.new ≡ vec_len slots.old }
+    ensures capacity { vec_capacity slots.new ≡ vec_capacity slots.old }
+{
+    lift(&mut slots[a])
+}
+
+/// Takes back the cell that was lent, unchanged.
+#[tactic(auto, using(crate::proofs::Changing::actors_kept, crate::proofs::Changing::away_set, crate::proofs::Changing::seat_read, crate::proofs::Changing::room_kept))]
+pub(crate) fn put_back_at(slots: &mut Vec<Slot>, a: usize, cell: Cell)
+    requires within { a < length slots.old.items }
+    requires away { is_away (slot_at slots.old.items a) ≡ true }
+    requires same { option_map (λ o. o.cell) (seat_at (actors_of slots.old.items) a)
+        ≡ Some (as_cell cell) }
+    requires owner { cell.heap.owner ≡ a }
+    ensures actors { actors_of slots.new.items ≡ actors_of slots.old.items }
+    ensures away { away_of slots.new.items ≡ set (away_of slots.old.items) a false }
+    ensures room { KeepsRoom slots.old.items slots.new.items }
+    ensures changed { IsChangedAt a slots.old.items slots.new.items }
+    ensures length { vec_len slots.new ≡ vec_len slots.old }
+    ensures capacity { vec_capacity slots.new ≡ vec_capacity slots.old }
+{
+    put_back(&mut slots[a], cell);
+}
+
+/// Writes in both indexes whether the actor at this place has events.
+#[tactic(auto, using(crate::proofs::Changing::bits_follow))]
+pub(crate) fn put_bits(slots: &[Slot], acting: &mut ReadySet, settling: &mut ReadySet, a: u32)
+    requires within { a < length slots.now }
+    requires acting { length slots.now ≤ length acting.old }
+    requires settling { length slots.now ≤ length settling.old }
+    ensures indexed { (old : List a_slot) → AreIndexed old acting.old settling.old
+        → IsChangedAt a old slots.now → AreIndexed slots.now acting.new settling.new }
+    ensures lengths { (length acting.new ≡ length acting.old)
+        × (length settling.new ≡ length settling.old) }
+{
+    let slot = &slots[a as usize];
+    acting.put(a, can_act(slot));
+    settling.put(a, can_settle(slot));
+}

@@ -1,0 +1,373 @@
+// The table.
+
+ghost use Rattle.std.specs.Prelude.{◌≡◌, ◌==◌, ◌+◌, ◌<◌, ◌≤◌, ◌++◌, ◌∷◌, ◌≢◌, [], ℕ, Bool, false, length, List, if◌then◌else◌, is_some, option_map, position, IsSomeAnd, OnOk, Some, None, set, true, ⊤};
+ghost use Rattle.std.specs.Option.{option_copied};
+ghost use Rattle.orca_names.specs.declared.names.Thing.{Thing as thing};
+ghost use Rattle.turn_rules.specs.declared.act.Frame.{Frame as frame_of_rules};
+ghost use Rattle.letter_kinds.specs.declared.letter.Letter.{Letter as a_letter};
+ghost use Rattle.machine_rules.specs.Actors.{push_letter, seat, seat_at};
+ghost use Rattle.machine_rules.specs.Cell.{Cell as cell_of_rules};
+ghost use Rattle.machine_rules.specs.Take.{cell_after, note_of};
+ghost use Rattle.actor_cell.specs.Cells.{as_cell, settled};
+ghost use Rattle.actor_cell.specs.Goes.{cell_by, new_entries};
+ghost use Rattle.orca_names.specs.declared.limits.TheConstants.{ACTORS_LIMIT};
+ghost use Rattle.actor_table.specs.declared.slot.Place.TheVariants.{Home};
+ghost use Rattle.actor_table.specs.Changes.{CanCollectHere, CanGoHere, CanSettleNew, CanTakeHere, HasCell, HasRoomToGo, HasRoomToTake, KeepsRoom, changed_at, moved, note_taken, plan_in, swept_of, taken, told, with_cell_by};
+ghost use Rattle.actor_table.specs.Slots.{actors_of, away_of, can_act, can_settle, event_of, home_of, is_away, letters_in, mail_of, places_of, slot_at};
+
+use crate::slot::{
+    Place, Slot, can_act, can_settle, cell_of, is_away, is_present, mail_of, next_event,
+};
+use crate::slots::{
+    block_at, clear_at, collect_at, go_at, lift_at, push_at, put_back_at, put_bits, reserve_bits,
+    reserve_go_at, reserve_letters_at, reserve_take_at, settle_at, take_at,
+};
+use actor_cell::{Cell, Turned};
+use behaviour_check::Checked;
+use event_rule::Event;
+use letter_kinds::{Letter, Note, SweepPlan};
+use mail_rows::MailRow;
+use orca_names::{ActorName, NoMemory};
+use ready_set::ReadySet;
+use std::alloc::Global;
+use std::marker::Model;
+use turn_step::Turn;
+
+/// All actors ever made, by number, seen by contracts as their places and the room for further
+/// ones. Two indexes tell who has events.
+#[derive(Drop)]
+pub struct ActorTable {
+    slots: Vec<Slot>,
+    acting: ReadySet,
+    settling: ReadySet,
+}
+
+impl Model for ActorTable {
+    ghost use Rattle.std.specs.Prelude.{◌-◌, length, min, vec_capacity, vec_len};
+    ghost use Rattle.std.specs.Coded.{codes};
+    ghost use Rattle.actor_table.specs.Codes.{coded_entries, coded_own};
+    ghost use Rattle.actor_table.specs.Slots.{AreIndexed, Table};
+
+    ghost Value = { Table };
+
+    ghost coded = { Prim.hlevel (codes, coded_own, coded_entries) };
+
+    ghost view = { λ t. record {
+      slots = t.slots.items;
+      spare = min (vec_capacity t.slots) (min (length t.acting) (length t.settling)) - vec_len t.slots;
+    } };
+
+    ghost invariant = { λ t. AreIndexed t.slots.items t.acting t.settling };
+}
+
+impl ActorTable {
+    /// No actors. It takes no memory.
+    pub fn new(alloc: Global) -> ActorTable
+        ensures { result.slots ≡ [] }
+    {
+        ActorTable {
+            slots: Vec::new(alloc),
+            acting: ReadySet::new(alloc),
+            settling: ReadySet::new(alloc),
+        }
+    }
+
+    /// How many actors were made.
+    pub fn len(&self) -> usize
+        ensures { result ≡ length self.now.slots }
+    {
+        self.slots.len()
+    }
+
+    /// Whether the actor is present.
+    pub fn lives(&self, a: ActorName) -> bool
+        ensures { result ≡ is_some (seat_at (actors_of self.now.slots) a) }
+    {
+        match self.slots.get(a.0 as usize) {
+            Some(slot) => is_present(slot),
+            None => false,
+        }
+    }
+
+    /// The cell of an actor; `None` exactly where the actor is not present or its cell is away.
+    pub fn cell(&self, a: ActorName) -> Option<&Cell>
+        ensures { option_copied result ≡ home_of (slot_at self.now.slots a) }
+    {
+        match self.slots.get(a.0 as usize) {
+            Some(slot) => cell_of(slot),
+            None => None,
+        }
+    }
+
+    /// The letters that wait for an actor; `None` exactly where the actor is not present.
+    pub fn mail(&self, a: ActorName) -> Option<&MailRow>
+        ensures { option_copied result ≡ mail_of (slot_at self.now.slots a) }
+    {
+        match self.slots.get(a.0 as usize) {
+            Some(slot) => mail_of(slot),
+            None => None,
+        }
+    }
+
+    /// Whether the cell of the actor is away.
+    pub fn is_away(&self, a: ActorName) -> bool
+        ensures { result ≡ is_away (slot_at self.now.slots a) }
+    {
+        match self.slots.get(a.0 as usize) {
+            Some(slot) => is_away(slot),
+            None => false,
+        }
+    }
+
+    /// The first event of the actor, in the one-worker order; none while its cell is away.
+    pub fn next_of(&self, a: ActorName) -> Option<Event>
+        ensures { result ≡ event_of a (slot_at self.now.slots a) }
+    {
+        match self.slots.get(a.0 as usize) {
+            Some(slot) => next_event(slot, a),
+            None => None,
+        }
+    }
+
+    /// The first actor that goes on or takes a letter.
+    #[tactic(auto, using(crate::proofs::Indexing::found_first))]
+    pub fn first_acting(&self) -> Option<ActorName>
+        ensures { result ≡ position can_act self.now.slots }
+    {
+        match self.acting.first() {
+            Some(a) => Some(ActorName(a)),
+            None => None,
+        }
+    }
+
+    /// The first actor that collects, leaves or blocks.
+    #[tactic(auto, using(crate::proofs::Indexing::found_first))]
+    pub fn first_settling(&self) -> Option<ActorName>
+        ensures { result ≡ position can_settle self.now.slots }
+    {
+        match self.settling.first() {
+            Some(a) => Some(ActorName(a)),
+            None => None,
+        }
+    }
+
+    /// Takes the memory for what the actor's first letter brings.
+    ///
+    /// # Errors
+    /// `NoMemory` where memory was refused.
+    #[tactic(auto, using(crate::proofs::Changing::index_stays))]
+    pub fn reserve_take(&mut self, a: ActorName) -> Result<(), NoMemory>
+        ensures actors { actors_of self.new.slots ≡ actors_of self.old.slots }
+        ensures away { away_of self.new.slots ≡ away_of self.old.slots }
+        ensures room { KeepsRoom self.old.slots self.new.slots }
+        ensures spare { self.new.spare ≡ self.old.spare }
+        ensures ok { OnOk result (HasRoomToTake (slot_at self.new.slots a)) }
+    {
+        if a.0 as usize >= self.slots.len() {
+            return Ok(());
+        }
+        reserve_take_at(&mut self.slots, a.0 as usize)
+    }
+
+    /// Takes the memory for what was found of the actor's turn.
+    ///
+    /// # Errors
+    /// `NoMemory` where memory was refused.
+    #[tactic(auto, using(crate::proofs::Changing::index_stays))]
+    pub fn reserve_go(&mut self, a: ActorName, turn: &Turn, found: &Turned) -> Result<(), NoMemory>
+        ensures actors { actors_of self.new.slots ≡ actors_of self.old.slots }
+        ensures away { away_of self.new.slots ≡ away_of self.old.slots }
+        ensures room { KeepsRoom self.old.slots self.new.slots }
+        ensures spare { self.new.spare ≡ self.old.spare }
+        ensures ok { OnOk result (HasRoomToGo turn.now found.now.act (slot_at self.new.slots a)) }
+    {
+        if a.0 as usize >= self.slots.len() {
+            return Ok(());
+        }
+        reserve_go_at(&mut self.slots, a.0 as usize, turn, found)
+    }
+
+    /// Takes the memory for so many letters to an actor.
+    ///
+    /// # Errors
+    /// `NoMemory` where memory was refused.
+    #[tactic(auto, using(crate::proofs::Changing::index_stays))]
+    pub fn reserve_letters(&mut self, to: ActorName, n: usize) -> Result<(), NoMemory>
+        ensures places { places_of self.new.slots ≡ places_of self.old.slots }
+        ensures letters { letters_in self.new.slots ≡ letters_in self.old.slots }
+        ensures room { KeepsRoom self.old.slots self.new.slots }
+        ensures spare { self.new.spare ≡ self.old.spare }
+        ensures ok { OnOk result (is_some (seat_at (actors_of self.old.slots) to) ≡ true
+            → n ≤ (slot_at self.new.slots to).mail.spare) }
+    {
+        if to.0 as usize >= self.slots.len() {
+            return Ok(());
+        }
+        reserve_letters_at(&mut self.slots, to.0 as usize, n)
+    }
+
+    /// Takes the memory for one actor more.
+    ///
+    /// # Errors
+    /// `NoMemory` where memory was refused.
+    pub fn reserve_actor(&mut self) -> Result<(), NoMemory>
+        requires few { length self.old.slots < ACTORS_LIMIT }
+        ensures slots { self.new.slots ≡ self.old.slots }
+        ensures ok { OnOk result (0 < self.new.spare) }
+    {
+        reserve_bits(&self.slots, &mut self.acting, &mut self.settling)?;
+        self.slots.reserve(1)?;
+        Ok(())
+    }
+
+    /// One actor more, with this cell and these letters. It takes no memory.
+    pub fn push_actor(&mut self, cell: Cell, mail: MailRow)
+        requires room { 0 < self.old.spare }
+        requires few { length self.old.slots < ACTORS_LIMIT }
+        requires owner { cell.heap.owner ≡ length self.old.slots }
+        ensures { self.new.slots ≡ self.old.slots ++ record { place = Home cell; mail = mail } ∷ [] }
+    {
+        let made = self.slots.len();
+        let slot = Slot {
+            place: Place::Home(cell),
+            mail,
+        };
+        let acts = can_act(&slot);
+        let settles = can_settle(&slot);
+        self.slots.push_reserved(slot);
+        self.acting.put(made as u32, acts);
+        self.settling.put(made as u32, settles);
+    }
+
+    /// The idle actor takes the first of its letters.
+    pub fn take(&mut self, code: &Checked, a: ActorName) -> Option<Note>
+        requires { CanTakeHere a (slot_at self.old.slots a) }
+        ensures actors { actors_of self.new.slots
+            ≡ changed_at (taken code.now a) a (actors_of self.old.slots) }
+        ensures note { result ≡ note_taken a (seat_at (actors_of self.old.slots) a) }
+        ensures away { away_of self.new.slots ≡ away_of self.old.slots }
+        ensures room { KeepsRoom self.old.slots self.new.slots }
+    {
+        let note = take_at(&mut self.slots, code, a.0 as usize);
+        put_bits(&self.slots, &mut self.acting, &mut self.settling, a.0);
+        note
+    }
+
+    /// The actor's turn is done as it was found.
+    pub fn go(&mut self, a: ActorName, turn: &Turn, found: &Turned)
+        requires { CanGoHere a turn.now found.now.act (slot_at self.old.slots a) }
+        ensures actors { actors_of self.new.slots
+            ≡ changed_at (with_cell_by (moved a turn.now found.now.place found.now.act)) a
+            (actors_of self.old.slots) }
+        ensures entry { 0 < new_entries found.now.act
+            → IsSomeAnd (home_of (slot_at self.new.slots a)) (λ c. 0 < c.foreign.spare) }
+        ensures spare { self.new.spare ≡ self.old.spare }
+        ensures away { away_of self.new.slots ≡ away_of self.old.slots }
+        ensures room { KeepsRoom self.old.slots self.new.slots }
+    {
+        go_at(&mut self.slots, a.0 as usize, turn, found);
+        put_bits(&self.slots, &mut self.acting, &mut self.settling, a.0);
+    }
+
+    /// The actor that was made last by this one gets its name.
+    pub fn settle_new(&mut self, a: ActorName, register: u8, name: ActorName, weight: u32)
+        requires { CanSettleNew weight name (slot_at self.old.slots a) }
+        ensures actors { actors_of self.new.slots
+            ≡ changed_at (with_cell_by (settled weight register name)) a (actors_of self.old.slots) }
+        ensures spare { self.new.spare ≡ self.old.spare }
+        ensures away { away_of self.new.slots ≡ away_of self.old.slots }
+        ensures room { KeepsRoom self.old.slots self.new.slots }
+    {
+        settle_at(&mut self.slots, a.0 as usize, register, name, weight);
+        put_bits(&self.slots, &mut self.acting, &mut self.settling, a.0);
+    }
+
+    /// The actor's collection is done as it was planned.
+    pub fn collect(&mut self, a: ActorName, plan: &SweepPlan)
+        requires { CanCollectHere plan.now (slot_at self.old.slots a) }
+        ensures actors { (marked : thing → Bool)
+            → IsSomeAnd (seat_at (actors_of self.old.slots) a)
+            (λ o. plan.now ≡ plan_in a marked o.cell.holdings) → actors_of self.new.slots
+            ≡ changed_at (with_cell_by (swept_of marked a)) a (actors_of self.old.slots) }
+        ensures away { away_of self.new.slots ≡ away_of self.old.slots }
+        ensures room { KeepsRoom self.old.slots self.new.slots }
+    {
+        collect_at(&mut self.slots, a.0 as usize, plan);
+        put_bits(&self.slots, &mut self.acting, &mut self.settling, a.0);
+    }
+
+    /// The actor reported that it is blocked.
+    pub fn block(&mut self, a: ActorName)
+        requires { HasCell (slot_at self.old.slots a) (λ c. ⊤) }
+        ensures actors { actors_of self.new.slots
+            ≡ changed_at (with_cell_by told) a (actors_of self.old.slots) }
+        ensures away { away_of self.new.slots ≡ away_of self.old.slots }
+        ensures room { KeepsRoom self.old.slots self.new.slots }
+    {
+        block_at(&mut self.slots, a.0 as usize);
+        put_bits(&self.slots, &mut self.acting, &mut self.settling, a.0);
+    }
+
+    /// A letter for an actor; where this is gone, the letter is lost.
+    #[tactic(auto, using(crate::proofs::Changing::lost_past))]
+    pub fn push_letter(&mut self, to: ActorName, letter: Letter)
+        requires { is_some (seat_at (actors_of self.old.slots) to) ≡ true
+            → 0 < (slot_at self.old.slots to).mail.spare }
+        ensures actors { actors_of self.new.slots ≡ push_letter to letter (actors_of self.old.slots) }
+        ensures away { away_of self.new.slots ≡ away_of self.old.slots }
+        ensures room { (b : ℕ) → (slot_at self.old.slots b).mail.spare
+            ≤ (slot_at self.new.slots b).mail.spare + (if b == to then 1 else 0) }
+    {
+        if to.0 as usize >= self.slots.len() {
+            return;
+        }
+        push_at(&mut self.slots, to.0 as usize, letter);
+        put_bits(&self.slots, &mut self.acting, &mut self.settling, to.0);
+    }
+
+    /// The actor goes, with its cell and its letters. It takes no memory.
+    pub fn clear(&mut self, alloc: Global, a: ActorName)
+        ensures actors { actors_of self.new.slots ≡ set (actors_of self.old.slots) a None }
+        ensures away { away_of self.new.slots ≡ set (away_of self.old.slots) a false }
+        ensures room { (b : ℕ) → b ≢ a → slot_at self.new.slots b ≡ slot_at self.old.slots b }
+    {
+        if a.0 as usize >= self.slots.len() {
+            return;
+        }
+        clear_at(alloc, &mut self.slots, a.0 as usize);
+        put_bits(&self.slots, &mut self.acting, &mut self.settling, a.0);
+    }
+
+    /// Lends the cell of an actor; `None` exactly where the actor is not present or its cell is away.
+    /// It takes no memory.
+    pub fn lift(&mut self, a: ActorName) -> Option<Cell>
+        ensures cell { result ≡ home_of (slot_at self.old.slots a) }
+        ensures actors { actors_of self.new.slots ≡ actors_of self.old.slots }
+        ensures away { away_of self.new.slots
+            ≡ (if is_some result then set (away_of self.old.slots) a true else away_of self.old.slots) }
+        ensures room { KeepsRoom self.old.slots self.new.slots }
+        ensures spare { self.new.spare ≡ self.old.spare }
+    {
+        if a.0 as usize >= self.slots.len() {
+            return None;
+        }
+        let lent = lift_at(&mut self.slots, a.0 as usize);
+        put_bits(&self.slots, &mut self.acting, &mut self.settling, a.0);
+        lent
+    }
+
+    /// Takes back the cell that was lent, unchanged. It takes no memory.
+    pub fn put_back(&mut self, a: ActorName, cell: Cell)
+        requires away { is_away (slot_at self.old.slots a) ≡ true }
+        requires same { option_map (λ o. o.cell) (seat_at (actors_of self.old.slots) a)
+            ≡ Some (as_cell cell) }
+        requires owner { cell.heap.owner ≡ a }
+        ensures actors { actors_of self.new.slots ≡ actors_of self.old.slots }
+        ensures away { away_of self.new.slots ≡ set (away_of self.old.slots) a false }
+        ensures room { KeepsRoom self.old.slots self.new.slots }
+        ensures spare { self.new.spare ≡ self.old.spare }
+    {
+        put_back_at(&mut self.slots, a.0 as usize, cell);
+        put_bits(&self.slots, &mut self.acting, &mut self.settling, a.0);
+    }
+}
