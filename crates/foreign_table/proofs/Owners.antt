@@ -8,11 +8,11 @@ use Rattle.std.specs.FinMap.Entries.{is_sorted}
 use Rattle.std.proofs.lemmas.Bool.{cases_lt}
 use Rattle.std.proofs.lemmas.Bool.Decides.{nat_tests}
 use Rattle.std.proofs.lemmas.List.{length-map, get_or-map}
-use Rattle.plain_list.specs.Rising.{IsAt, IsGap}
+use Rattle.plain_list.specs.Rising.{IsAt}
 use Rattle.plain_list.proofs.Rising.{rises}
 use Rattle.orca_names.specs.Names.{owner_of, serial_of, thing_cmp}
 use Rattle.orca_names.specs.declared.names.Thing.{Thing}
-use Rattle.orca_names.specs.declared.names.Thing.TheVariants.{Actor, Obj}
+use Rattle.orca_names.specs.declared.names.Thing.TheVariants.{Actor}
 use Rattle.orca_names.proofs.ThingOrder.{thing_total}
 use Rattle.foreign_table.specs.declared.search.Entry.{Entry}
 use Rattle.foreign_table.specs.Entry.{key_of}

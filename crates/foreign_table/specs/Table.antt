@@ -20,7 +20,8 @@ pub record Table : Type 0 where
 
 abbrev pub coded_table : Coded Table
 coded_table =
-    code_by (ℕ × Entries) (coded× coded_ℕ (m.code coded_thing (coded× coded_ℕ (coded_option coded_row))))
+    code_by (ℕ × Entries)
+    (coded× coded_ℕ (m.code coded_thing (coded× coded_ℕ (coded_option coded_row))))
     (λ t. (t.spare, t.entries)) (λ p. record { spare = p.0; entries = p.1 }) (λ _. refl)
 
 -- the map of these entries with the rows beside them

@@ -1,6 +1,6 @@
 // The table.
 
-ghost use Rattle.std.specs.Prelude.{◌≡◌, ◌↔◌, ◌+◌, ◌-◌, ◌^◌, ◌<◌, ◌≤◌, Some, None, length, map, slice_get, slice_set, vec_len, vec_capacity, IfOk, IfSome, IsSome, IsTrue, MatchOption, OnOk, is_some, option_map};
+ghost use Rattle.std.specs.Prelude.{◌≡◌, ◌↔◌, ◌+◌, ◌-◌, ◌^◌, ◌<◌, ◌≤◌, Some, None, length, map, slice_get, slice_set, vec_len, vec_capacity, IfOk, IfSome, IsOk, IsSome, IsTrue, MatchOption, OnOk, is_some, option_map};
 ghost use Rattle.std.specs.List.{insert};
 ghost use Rattle.std.specs.Option.{option_copied};
 ghost use Rattle.std.specs.FinMap as m;
@@ -136,14 +136,15 @@ impl ForeignTable {
         }
     }
 
-    /// Raises the room for new entries to at least this.
+    /// Raises the room for new entries to at least this, if there is less.
     ///
     /// # Errors
-    /// `NoMemory` where memory was refused.
+    /// `NoMemory` where memory was refused; all but the room is then as before.
     pub fn reserve(&mut self, n: usize) -> Result<(), NoMemory>
         ensures room { OnOk result (n ≤ self.new.spare) }
         ensures more { self.old.spare ≤ self.new.spare }
         ensures same { self.new ≡ record self.old { spare = self.new.spare } }
+        ensures enough { n ≤ self.old.spare → IsOk result }
     {
         self.held.reserve(n)?;
         self.rows.reserve(n)?;

@@ -1,9 +1,9 @@
 -- Lists of things in order, and places in them.
-use Rattle.std.specs.Prelude.{ℕ, zero, suc, ◌≡◌, ◌<◌, ◌≤◌, ◌+◌, ◌-◌, List, [], ◌∷◌, ◌++◌, Some, length, position, slice_get, slice_index_or, refl}
-use Rattle.std.proofs.Common.{◌⊎◌, inl, inr, sym, ap, ◌∙◌, get_or, arith, length-append}
+use Rattle.std.specs.Prelude.{ℕ, ◌≡◌, ◌<◌, ◌≤◌, ◌-◌, List, ◌++◌, Some, length, position, slice_get, slice_index_or, refl}
+use Rattle.std.proofs.Common.{inl, inr, sym, ap, ◌∙◌, get_or, arith, length-append}
 use Rattle.std.specs.Ordering.{nat_cmp, ordering_reverse}
 use Rattle.std.specs.Cmp.{nat_cmp_total, tied_itself}
-use Rattle.std.specs.declared.cmp.Ordering.TheVariants.{Less, Equal, Greater}
+use Rattle.std.specs.declared.cmp.Ordering.TheVariants.{Less}
 use Rattle.std.proofs.lemmas.Bool.{cases_lt}
 use Rattle.std.proofs.lemmas.Bool.Decides.{nat_tests}
 use Rattle.std.proofs.lemmas.List.{get_or_append_left, get_or-append_right}
@@ -49,9 +49,11 @@ order_of_places xs h x y p q e f = elim (cases_lt p q) as (λ _. thing_cmp x y �
   ]
 ]
   where
-    above : (x y : Thing) (p q : ℕ) → slice_get xs p ≡ Some x → slice_get xs q ≡ Some y → p < q → thing_cmp x y ≡ Less
+    above : (x y : Thing) (p q : ℕ) → slice_get xs p ≡ Some x → slice_get xs q ≡ Some y → p < q
+        → thing_cmp x y ≡ Less
     above x y p q e f l =
-        (λ i. thing_cmp (sym (get_or_from_slice_get xs p x x e) i) (sym (get_or_from_slice_get xs q y x f) i))
+        (λ i. thing_cmp (sym (get_or_from_slice_get xs p x x e) i)
+        (sym (get_or_from_slice_get xs q y x f) i))
         ∙ h p q x l (slice_get_within xs q y f)
 
 -- one list behind another whose things all come before
@@ -59,18 +61,22 @@ pub append_in_order : (xs ys : List Thing) → AreInOrder xs → AreInOrder ys
     → ((i j : ℕ) (d : Thing) → i < length xs → j < length ys
     → thing_cmp (slice_index_or xs i d) (slice_index_or ys j d) ≡ Less) → AreInOrder (xs ++ ys)
 append_in_order xs ys hx hy across i j d l m =
-    elim (cases_lt j (length xs)) as (λ _. thing_cmp (get_or (xs ++ ys) i d) (get_or (xs ++ ys) j d) ≡ Less) [
+    elim (cases_lt j (length xs)) as (λ _.
+    thing_cmp (get_or (xs ++ ys) i d) (get_or (xs ++ ys) j d) ≡ Less) [
       | inl n ↦
-          (λ k. thing_cmp (get_or_append_left xs ys d i (omega arith) k) (get_or_append_left xs ys d j n k))
+          (λ k. thing_cmp (get_or_append_left xs ys d i (omega arith) k)
+          (get_or_append_left xs ys d j n k))
           ∙ hx i j d l n
-      | inr n ↦ elim (cases_lt i (length xs)) as (λ _. thing_cmp (get_or (xs ++ ys) i d) (get_or (xs ++ ys) j d) ≡ Less) [
-        | inl k ↦
-            (λ t. thing_cmp (get_or_append_left xs ys d i k t) (right j n t))
-            ∙ across i (j - length xs) d k (omega (arith, length-append xs ys))
-        | inr k ↦
-            (λ t. thing_cmp (right i k t) (right j n t))
-            ∙ hy (i - length xs) (j - length xs) d (omega arith) (omega (arith, length-append xs ys))
-      ]
+      | inr n ↦ elim (cases_lt i (length xs)) as (λ _.
+          thing_cmp (get_or (xs ++ ys) i d) (get_or (xs ++ ys) j d) ≡ Less) [
+            | inl k ↦
+                (λ t. thing_cmp (get_or_append_left xs ys d i k t) (right j n t))
+                ∙ across i (j - length xs) d k (omega (arith, length-append xs ys))
+            | inr k ↦
+                (λ t. thing_cmp (right i k t) (right j n t))
+                ∙ hy (i - length xs) (j - length xs) d (omega arith)
+                (omega (arith, length-append xs ys))
+          ]
     ]
   where
     right : (k : ℕ) → length xs ≤ k → get_or (xs ++ ys) k d ≡ get_or ys (k - length xs) d

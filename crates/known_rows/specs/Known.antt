@@ -1,11 +1,8 @@
 -- The rows that an actor has.
 use Rattle.std.specs.Prelude.{ℕ, ◌≡◌, ◌==◌, Bool, true, false, cond, if◌then◌else◌, List, ◌++◌, Option, Some, None, Contains, option_map, map, is_some, refl}
 use Rattle.std.proofs.Common.{arith, sym, ap, ◌∙◌, subst, ◌<◌}
-use Rattle.std.specs.Ordering.{nat_cmp, eq_by_cmp, is_eq}
-use Rattle.std.specs.declared.cmp.Ordering.{Ordering}
-use Rattle.std.specs.declared.cmp.Ordering.TheVariants.{Less, Equal, Greater}
+use Rattle.std.specs.Ordering.{nat_cmp, eq_by_cmp}
 use Rattle.std.specs.FinMap as m
-use Rattle.std.specs.FinMap.{nat_cmp-IsAntisymmetric}
 use Rattle.std.proofs.lemmas.Bool.{eqb-true}
 use Rattle.std.proofs.lemmas.Bool.Decides.{nat_tests}
 use Rattle.std.proofs.lemmas.List.{get_or-map, length-map}
@@ -24,7 +21,9 @@ row_known heap foreign n = if n.owner == heap.owner then own_row heap n else kno
 
 -- the objects of which it may have a row
 abbrev pub names_known : Heap → Table → List ObjName
-names_known heap foreign = map (λ (serial : ℕ). record { owner = heap.owner; serial = serial }) (m.keys heap.rows) ++ objects foreign
+names_known heap foreign =
+    map (λ (serial : ℕ). record { owner = heap.owner; serial = serial }) (m.keys heap.rows)
+    ++ objects foreign
 
 same_number : (a b : ℕ) → eq_by_cmp nat_cmp a b ≡ true → a ≡ b
 same_number a b e = grind (arith, nat_tests)
@@ -36,23 +35,40 @@ own_key rows k e f =
     Contains-from_any {eq = eq_by_cmp nat_cmp} same_number k (m.keys rows)
     (sym (m.contains_key-keys rows k) ∙ ap is_some f)
 
-from_own : (heap : Heap) (foreign : Table) (n : ObjName) (row : Row) (o : Option (Row × ℕ)) → n.owner ≡ heap.owner → m.get heap.rows n.serial ≡ o → option_map (λ e. e.0) o ≡ Some row → Contains (names_known heap foreign) n
+from_own : (heap : Heap) (foreign : Table) (n : ObjName) (row : Row) (o : Option (Row × ℕ))
+    → n.owner ≡ heap.owner → m.get heap.rows n.serial ≡ o → option_map (λ e. e.0) o ≡ Some row
+    → Contains (names_known heap foreign) n
 from_own heap foreign n row None owner e f = cc
 from_own heap foreign n row (Some v) owner e f =
     let c = own_key heap.rows n.serial v e in
     let name : ℕ → ObjName = λ serial. record { owner = heap.owner; serial = serial } in
-    Contains-append_left (map name (m.keys heap.rows)) (objects foreign) n
-    (c.0, subst (λ l. c.0 < l) (sym (length-map (m.keys heap.rows) name)) c.1, get_or-map name (m.keys heap.rows) c.0 n.serial n c.1 ∙ ap name c.2 ∙ (λ i. record { owner = sym owner i; serial = n.serial }))
+    Contains-append_left (map name (m.keys heap.rows)) (objects foreign) n (
+      c.0,
+      subst (λ l. c.0 < l) (sym (length-map (m.keys heap.rows) name)) c.1,
+      get_or-map name (m.keys heap.rows) c.0 n.serial n c.1 ∙ ap name c.2
+          ∙ (λ i. record { owner = sym owner i; serial = n.serial }),
+    )
 
-by_owner : (b : Bool) (heap : Heap) (foreign : Table) (n : ObjName) (row : Row) → (n.owner == heap.owner) ≡ b
-    → cond b (cond b (option_map (λ e. e.0) (m.get heap.rows n.serial)) None) (known_row foreign n) ≡ Some row → Contains (names_known heap foreign) n
-by_owner true heap foreign n row is e = from_own heap foreign n row (m.get heap.rows n.serial) (eqb-true n.owner heap.owner is) refl e
-by_owner false heap foreign n row is e = Contains-append_right (map (λ (serial : ℕ). record { owner = heap.owner; serial = serial }) (m.keys heap.rows)) (objects foreign) n (known_within foreign n row e)
+by_owner : (b : Bool) (heap : Heap) (foreign : Table) (n : ObjName) (row : Row)
+    → (n.owner == heap.owner) ≡ b
+    → cond b (cond b (option_map (λ e. e.0) (m.get heap.rows n.serial)) None) (known_row foreign n)
+    ≡ Some row
+    → Contains (names_known heap foreign) n
+by_owner true heap foreign n row is e =
+    from_own heap foreign n row (m.get heap.rows n.serial) (eqb-true n.owner heap.owner is) refl e
+by_owner false heap foreign n row is e =
+    let name : ℕ → ObjName = λ serial. record { owner = heap.owner; serial = serial } in
+    Contains-append_right (map name (m.keys heap.rows)) (objects foreign) n
+    (known_within foreign n row e)
 
 -- a row that it has is that of one of these
-pub row_known-within : (heap : Heap) (foreign : Table) (n : ObjName) (row : Row) → row_known heap foreign n ≡ Some row → Contains (names_known heap foreign) n
-row_known-within heap foreign n row e = by_owner (n.owner == heap.owner) heap foreign n row refl e
+pub row_known-within : (heap : Heap) (foreign : Table) (n : ObjName) (row : Row)
+    → row_known heap foreign n ≡ Some row → Contains (names_known heap foreign) n
+row_known-within heap foreign n row e =
+    by_owner (n.owner == heap.owner) heap foreign n row refl e
 
 -- they are the rows that its holdings have
 abbrev pub RowsAreOfHoldings : Type 0
-RowsAreOfHoldings = (count : ℕ) (heap : Heap) (foreign : Table) (n : ObjName) → row_known heap foreign n ≡ row_of heap.owner (holdings_of count heap foreign) n
+RowsAreOfHoldings =
+    (count : ℕ) (heap : Heap) (foreign : Table) (n : ObjName)
+    → row_known heap foreign n ≡ row_of heap.owner (holdings_of count heap foreign) n

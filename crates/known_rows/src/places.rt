@@ -229,5 +229,6 @@ impl Places for KnownPlaces<'_> {
 
     ghost below = { λ s x p e. places_below s.rows.heap.now s.rows.foreign.now x p e };
 
-    ghost in_order = { λ s x y p q e f. places_in_order s.rows.heap.now s.rows.foreign.now x y p q e f };
+    ghost in_order = { λ s x y p q e f.
+        places_in_order s.rows.heap.now s.rows.foreign.now x y p q e f };
 }

@@ -1,8 +1,7 @@
 -- Entries whose keys rise, where some are left out.
-use Rattle.std.proofs.Common.{◌≡◌, ℕ, Bool, true, false, cond, ◌&&◌, List, [], ◌∷◌, Option, Some, None, Ordering}
+use Rattle.std.proofs.Common.{Bool, true, false, cond, ◌&&◌, List, [], ◌∷◌, Ordering}
 use Rattle.std.specs.Prelude.{T}
 use Rattle.std.specs.List.{filter}
-use Rattle.std.specs.Ordering.{is_lt}
 use Rattle.std.specs.FinMap.Entries.{below_all, is_sorted}
 
 pub both : (a b : Bool) → T a → T b → T (a && b)

@@ -5,13 +5,13 @@ use Rattle.std.specs.List.{filter, list_any}
 use Rattle.std.specs.Ordering.{eq_by_cmp}
 use Rattle.std.specs.declared.cmp.Ordering.TheVariants.{Equal}
 use Rattle.std.specs.FinMap as m
-use Rattle.std.specs.FinMap.Entries.{find, is_sorted, is_sorted-where_key, is_some-find, find-where_key}
+use Rattle.std.specs.FinMap.Entries.{is_sorted, is_sorted-where_key, is_some-find, find-where_key}
 use Rattle.plain_list.proofs.Rising.{same_rise}
 use Rattle.orca_names.specs.Names.{thing_cmp}
 use Rattle.orca_names.specs.declared.names.Thing.{Thing}
 use Rattle.orca_names.proofs.ThingOrder.{thing_exact, thing_total}
 use Rattle.letter_kinds.specs.Counting.{Amount, by_owner, given_back}
-use Rattle.letter_kinds.specs.Holdings.{Entries, Holdings, Row}
+use Rattle.letter_kinds.specs.Holdings.{Holdings, Row}
 use Rattle.foreign_table.specs.Back.{BackRises, goes_back}
 use Rattle.local_sweep.proofs.Groups.{goes-by_owner, groups_rise}
 

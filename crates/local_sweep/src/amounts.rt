@@ -24,6 +24,9 @@ fn ends_with(back: &[(ActorName, Amounts)], owner: ActorName) -> bool
 }
 
 /// One amount more, which comes behind the others in the order of things.
+///
+/// # Errors
+/// `NoMemory` where memory was refused; what is to go back is then left open.
 pub fn push_amount(
     alloc: Global,
     back: &mut Vec<(ActorName, Amounts)>,

@@ -1,10 +1,8 @@
 -- Objects and rows are known by their map.
 use Rattle.std.proofs.Common.{◌≡◌, ℕ, List, [], ◌∷◌, length, map, refl, sym, ap, ◌∙◌, arith}
-use Rattle.std.specs.Prelude.{T}
 use Rattle.std.specs.List.{zip}
 use Rattle.std.specs.Ordering.{nat_cmp}
 use Rattle.std.specs.FinMap as m
-use Rattle.std.specs.FinMap.Entries.{is_sorted}
 use Rattle.letter_kinds.specs.Holdings.{Row}
 use Rattle.object_heap.specs.declared.search.Own.{Own}
 use Rattle.object_heap.specs.Entry.{pair_of}

@@ -1,6 +1,6 @@
 // The heap.
 
-ghost use Rattle.std.specs.Prelude.{◌≡◌, ◌↔◌, ◌+◌, ◌-◌, ◌^◌, ◌<◌, ◌≤◌, Some, [], ◌∷◌, length, map, slice_get, IfOk, IfSome, IsSome, IsTrue, OnOk, option_map};
+ghost use Rattle.std.specs.Prelude.{◌≡◌, ◌↔◌, ◌+◌, ◌-◌, ◌^◌, ◌<◌, ◌≤◌, Some, [], ◌∷◌, length, map, slice_get, IfOk, IfSome, IsOk, IsSome, IsTrue, OnOk, option_map};
 ghost use Rattle.std.specs.Option.{option_copied};
 ghost use Rattle.std.specs.Ordering.{nat_cmp};
 ghost use Rattle.std.specs.FinMap as m;
@@ -103,14 +103,15 @@ impl ObjectHeap {
         self.next
     }
 
-    /// Raises the room for new objects to at least this.
+    /// Raises the room for new objects to at least this, if there is less.
     ///
     /// # Errors
-    /// `NoMemory` where memory was refused.
+    /// `NoMemory` where memory was refused; all but the room is then as before.
     pub fn reserve(&mut self, n: usize) -> Result<(), NoMemory>
         ensures room { OnOk result (n ≤ self.new.spare) }
         ensures more { self.old.spare ≤ self.new.spare }
         ensures same { self.new ≡ record self.old { spare = self.new.spare } }
+        ensures enough { n ≤ self.old.spare → IsOk result }
     {
         self.entries.reserve(n)?;
         self.rows.reserve(n)?;

@@ -1,7 +1,6 @@
 use Rattle.std.proofs.Common.{◌≤◌, length, arith}
 use Rattle.std.proofs.lemmas.List.{length-map}
 use Rattle.foreign_table.specs.Entry.{key_of}
-use Rattle.foreign_table.proofs.Entries.{gap_within}
 use Rattle.foreign_table.proofs.Owners.{lower_before, no_lower_after, no_lower_from}
 use Rattle.foreign_table.proofs.span.first_of.Goals as goal
 

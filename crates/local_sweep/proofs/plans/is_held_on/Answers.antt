@@ -1,4 +1,4 @@
-use Rattle.std.proofs.Common.{◌≡◌, ◌<◌, ◌≤◌, Some, get_or, length, slice_get, sym, ap, ◌∙◌, arith}
+use Rattle.std.proofs.Common.{◌<◌, get_or, length, sym, arith}
 use Rattle.std.specs.FinMap as m
 use Rattle.std.proofs.lemmas.Option.{slice_get-get_or}
 use Rattle.orca_names.specs.declared.names.Thing.TheVariants.{Actor}

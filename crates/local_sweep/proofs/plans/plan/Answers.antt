@@ -1,4 +1,4 @@
-use Rattle.std.proofs.Common.{◌≡◌, List, subst, ap}
+use Rattle.std.proofs.Common.{◌≡◌, List, subst}
 use Rattle.std.specs.Prelude.{IfOk}
 use Rattle.std.specs.FinMap as m
 use Rattle.orca_names.specs.declared.names.Thing.{Thing}
@@ -9,7 +9,6 @@ use Rattle.foreign_table.specs.Span.{IsSpan}
 use Rattle.foreign_table.specs.Table.{Table}
 use Rattle.known_rows.specs.Known.{names_known, row_known}
 use Rattle.known_rows.specs.Places.{place_in}
-use Rattle.local_sweep.specs.Plan.{plan_of}
 use Rattle.local_sweep.proofs.SamePlan.{plan_by_bits}
 use Rattle.local_sweep.proofs.plans.plan.Goals as goal
 

@@ -1,4 +1,4 @@
-use Rattle.std.proofs.Common.{◌≡◌, sym, ap, subst, ◌∙◌}
+use Rattle.std.proofs.Common.{sym, ap, subst, ◌∙◌}
 use Rattle.object_heap.specs.Free.{SerialsRise, freed}
 use Rattle.foreign_table.specs.Back.{BackRises, given_up}
 use Rattle.letter_kinds.specs.Counting.{sweep}

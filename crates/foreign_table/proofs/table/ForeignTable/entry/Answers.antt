@@ -1,4 +1,4 @@
-use Rattle.std.proofs.Common.{◌≡◌, Some, map, slice_get, sym, ap, subst, ◌∙◌}
+use Rattle.std.proofs.Common.{Some, map, slice_get, sym, ap, subst, ◌∙◌}
 use Rattle.std.specs.FinMap as m
 use Rattle.std.specs.Option.{option_copied}
 use Rattle.std.proofs.lemmas.Option.{get_or_from_slice_get}

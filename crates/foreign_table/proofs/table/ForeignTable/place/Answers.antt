@@ -1,4 +1,4 @@
-use Rattle.std.proofs.Common.{◌≡◌, map, sym, ap, subst, ◌∙◌, slice_get}
+use Rattle.std.proofs.Common.{map, sym, ap, subst, ◌∙◌, slice_get}
 use Rattle.std.specs.Prelude.{is_some}
 use Rattle.std.specs.FinMap as m
 use Rattle.plain_list.specs.Rising.{IsAt, IsGap}

@@ -1,4 +1,4 @@
-use Rattle.std.proofs.Common.{◌≡◌, ◌<◌, length, get_or, slice_get, sym, ap, ◌∙◌, arith}
+use Rattle.std.proofs.Common.{◌<◌, length, get_or, slice_get, sym, ap, ◌∙◌, arith}
 use Rattle.std.specs.Prelude.{option_map}
 use Rattle.std.specs.FinMap as m
 use Rattle.std.specs.Option.{option_copied}

@@ -1,4 +1,4 @@
-use Rattle.std.proofs.Common.{◌≡◌, ◌<◌, length, slice_get, sym, ap, ◌∙◌, arith}
+use Rattle.std.proofs.Common.{◌<◌, length, slice_get, sym, ap, ◌∙◌, arith}
 use Rattle.std.specs.FinMap as m
 use Rattle.foreign_table.proofs.Entries.{len_here, key_there}
 use Rattle.foreign_table.proofs.table.ForeignTable.thing_at.Goals as goal

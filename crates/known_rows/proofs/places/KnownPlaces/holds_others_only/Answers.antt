@@ -1,4 +1,4 @@
-use Rattle.std.proofs.Common.{◌≡◌, Bool, true, false, eqb, refl, sym, ◌∙◌}
+use Rattle.std.proofs.Common.{◌≡◌, true, false, eqb, refl, sym, ◌∙◌}
 use Rattle.std.proofs.lemmas.Bool.{eq-eqb, eqb-true, false≢true}
 use Rattle.known_rows.proofs.Placed.{not_others_only, others_only}
 use Rattle.known_rows.proofs.places.KnownPlaces.holds_others_only.Goals as goal

@@ -1,4 +1,4 @@
-use Rattle.std.proofs.Common.{◌≡◌, ◌+◌, ◌-◌, Some, sym, ap, ◌∙◌, arith}
+use Rattle.std.proofs.Common.{◌+◌, ◌-◌, Some, sym, ap, ◌∙◌, arith}
 use Rattle.std.specs.FinMap as m
 use Rattle.std.proofs.lemmas.Option.{slice_get_within}
 use Rattle.known_rows.proofs.Placed.{keys_count, no_place_other, place_above, place_below, stands_behind}

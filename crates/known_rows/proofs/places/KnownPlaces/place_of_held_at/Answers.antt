@@ -1,6 +1,6 @@
 use Rattle.std.proofs.Common.{◌≡◌, ◌+◌, ◌-◌, Some, sym, ap, ◌∙◌, arith}
 use Rattle.known_rows.specs.Places.{place_in}
-use Rattle.known_rows.proofs.Placed.{keys_count, place_above, place_below}
+use Rattle.known_rows.proofs.Placed.{place_above, place_below}
 use Rattle.known_rows.proofs.places.KnownPlaces.place_of_held_at.Goals as goal
 
 pub returns-then-j-self : goal.returns-then-j-self

@@ -1,9 +1,9 @@
-use Rattle.std.proofs.Common.{◌≡◌, ◌+◌, ◌-◌, ◌<◌, ◌≤◌, Some, length, slice_get, sym, ap, ◌∙◌, arith}
+use Rattle.std.proofs.Common.{◌≡◌, ◌+◌, ◌-◌, ◌≤◌, Some, slice_get, sym, ap, ◌∙◌, arith}
 use Rattle.std.specs.Prelude.{option_map}
 use Rattle.std.specs.FinMap as m
 use Rattle.std.proofs.lemmas.Option.{slice_get-map}
 use Rattle.orca_names.specs.declared.names.Thing.TheVariants.{Actor, Obj}
-use Rattle.known_rows.specs.Places.{place_in, placed_things}
+use Rattle.known_rows.specs.Places.{place_in}
 use Rattle.known_rows.proofs.Placed.{count_is, keys_count, place_above, place_below, place_of_owner, place_own}
 use Rattle.known_rows.proofs.places.KnownPlaces.thing_of_place.Goals as goal
 

@@ -1,4 +1,4 @@
-use Rattle.std.proofs.Common.{◌≡◌, sym, ap, ◌∙◌}
+use Rattle.std.proofs.Common.{sym, ap, ◌∙◌}
 use Rattle.reach_walk.specs.Reach.{thing_row}
 use Rattle.known_rows.specs.Known.{row_known}
 use Rattle.known_rows.specs.Places.{place_in}

@@ -1,4 +1,4 @@
-use Rattle.std.proofs.Common.{◌≡◌, ◌+◌, ◌-◌, sym, ap, ◌∙◌}
+use Rattle.std.proofs.Common.{◌+◌, ◌-◌, sym, ap, ◌∙◌}
 use Rattle.std.specs.FinMap as m
 use Rattle.known_rows.proofs.Placed.{count_is}
 use Rattle.known_rows.proofs.places.KnownPlacesPlaces.places.Goals as goal

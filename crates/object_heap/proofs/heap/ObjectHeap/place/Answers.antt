@@ -1,9 +1,8 @@
-use Rattle.std.proofs.Common.{rules, ◌≡◌, map, sym, ap, subst, ◌∙◌, slice_get}
+use Rattle.std.proofs.Common.{rules, map, sym, ap, subst, ◌∙◌, slice_get}
 use Rattle.std.proofs.lemmas.Bool.{false≢true}
-use Rattle.std.specs.Prelude.{T, is_some}
+use Rattle.std.specs.Prelude.{is_some}
 use Rattle.std.specs.Ordering.{nat_cmp}
 use Rattle.std.specs.FinMap as m
-use Rattle.std.specs.FinMap.Entries.{is_sorted}
 use Rattle.plain_list.specs.Rising.{IsAt, IsGap}
 use Rattle.object_heap.specs.Entry.{key_of}
 use Rattle.object_heap.proofs.Entries.{own_rise, not_ne, key_here, none_at, is_there}

@@ -1,6 +1,6 @@
 use Rattle.std.proofs.Common.{◌≡◌, sym, ap, ◌∙◌}
 use Rattle.std.proofs.lemmas.Bool.{false≢true}
-use Rattle.object_heap.specs.Heap.{Heap, rows_in}
+use Rattle.object_heap.specs.Heap.{rows_in}
 use Rattle.object_heap.proofs.Entries.{not_ne}
 use Rattle.object_heap.proofs.Same.{known_by_map}
 use Rattle.object_heap.proofs.heap.ObjectHeap.same.Goals as goal
