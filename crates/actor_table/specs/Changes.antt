@@ -1,18 +1,15 @@
 -- What becomes of an actor by its part of an event, and when this can be done at its place.
-use Rattle.std.specs.Prelude.{ℕ, ◌≡◌, ◌≤◌, ◌+◌, ◌<◌, ◌^◌, Bool, true, false, if◌then◌else◌, List, [], ◌∷◌, Option, None, Some, IsSome, length, option_map, set}
+use Rattle.std.specs.Prelude.{ℕ, ◌≡◌, ◌≤◌, ◌+◌, ◌<◌, ◌^◌, true, if◌then◌else◌, List, [], ◌∷◌, Option, None, Some, IsSome, length, option_map, set}
 use Rattle.std.specs.Option.{option_map_or}
 use Rattle.std.specs.FinMap as m
-use Rattle.orca_names.specs.declared.names.Thing.{Thing}
 use Rattle.orca_names.specs.declared.names.Thing.TheVariants.{Actor}
 use Rattle.behaviour_code.specs.declared.code.Program.{Program}
 use Rattle.turn_rules.specs.Segment.{Turn}
 use Rattle.foreign_table.specs.Table.{count_on}
 use Rattle.letter_kinds.specs.declared.letter.Letter.{Letter}
 use Rattle.letter_kinds.specs.declared.note.Note.{Note}
-use Rattle.letter_kinds.specs.declared.plan.SweepPlan.{SweepPlan}
-use Rattle.letter_kinds.specs.Counting.{sweep}
-use Rattle.letter_kinds.specs.Holdings.{Holdings}
-use Rattle.local_sweep.specs.Plan.{IsPlan, plan_of}
+use Rattle.actor_cell.specs.declared.sweeping.Sweep.{Sweep}
+use Rattle.actor_cell.specs.Sweeps.{IsSweep}
 use Rattle.machine_rules.specs.Actors.{Actors, Seat, seat_at, seat}
 use Rattle.machine_rules.specs.Cell as rules
 use Rattle.machine_rules.specs.Take.{cell_after, note_of}
@@ -58,10 +55,6 @@ with_cell_by change actor = option_map (λ (o : Seat). record o { cell = change 
 abbrev pub moved : ℕ → Turn → ℕ → Move → rules.Cell → rules.Cell
 moved a turn place act c = option_map_or (λ frame. cell_by a c frame turn place act) c.frame c
 
--- what is not marked goes, and the cell is clean
-abbrev pub swept_of : (Thing → Bool) → ℕ → rules.Cell → rules.Cell
-swept_of marked a c = record c { holdings = sweep marked a c.holdings; dirty = false }
-
 -- it reported
 abbrev pub told : rules.Cell → rules.Cell
 told c = record c { reported = true }
@@ -83,7 +76,7 @@ pub record CanTakeHere (a : ℕ) (x : Slot) : Type 0 where
   pub letters : x.mail.letters ≡ letter ∷ later
   pub idle : cell.frame ≡ None
   pub can : CanTake a letter (as_cell cell).holdings
-  pub room : HasRoomFor letter cell.foreign.spare
+  pub room : HasRoomFor letter cell.foreign.spare cell.known.spare
 
 -- it has a frame, its counts allow what was found of its turn, and there is room for it
 pub record CanGoHere (a : ℕ) (turn : Turn) (act : Move) (x : Slot) : Type 0 where
@@ -103,22 +96,16 @@ pub record CanSettleNew (weight name : ℕ) (x : Slot) : Type 0 where
   pub entry : m.get cell.foreign.entries (Actor name) ≡ None → 0 < cell.foreign.spare
   pub fits : count_on cell.foreign (Actor name) + weight < count_limit
 
--- its cell is at home, and the plan is one of it
-pub record CanCollectHere (plan : SweepPlan) (x : Slot) : Type 0 where
+-- its cell is at home, and the sweep is one of it
+pub record CanCollectHere (found : Sweep) (x : Slot) : Type 0 where
   pub cell : Cell
   pub home : x.place ≡ Home cell
-  pub planned : IsPlan cell.heap cell.foreign plan
-
--- the plan of a collection, by what an actor holds
-abbrev pub plan_in : ℕ → (Thing → Bool) → Holdings → SweepPlan
-plan_in a marked h =
-    plan_of marked (record { owner = a; next = h.next; spare = 0; rows = h.rows })
-    (record { spare = 0; entries = h.foreign })
+  pub planned : IsSweep cell found
 
 -- where its cell is at home, there is room for what its first letter brings
 abbrev pub HasRoomToTake : Slot → Type 0
 HasRoomToTake x = (c : Cell) (letter : Letter) (later : List Letter) → x.place ≡ Home c
-    → x.mail.letters ≡ letter ∷ later → HasRoomFor letter c.foreign.spare
+    → x.mail.letters ≡ letter ∷ later → HasRoomFor letter c.foreign.spare c.known.spare
 
 -- and for what was found of its turn
 abbrev pub HasRoomToGo : Turn → Move → Slot → Type 0

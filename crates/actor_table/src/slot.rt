@@ -1,8 +1,8 @@
 // One actor in the table.
 
-ghost use Rattle.std.specs.Prelude.{◌≡◌, ◌↔◌, ◌+◌, ◌<◌, ◌≤◌, ◌||◌, ◌∷◌, ℕ, Bool, IfNone, IfSome, IsSomeAnd, OnOk, if◌then◌else◌, is_some, List, None, Some, IsTrue, true, ⊤};
+ghost use Rattle.std.specs.Prelude.{◌≡◌, ◌↔◌, ◌+◌, ◌<◌, ◌≤◌, ◌||◌, ◌∷◌, ℕ, Bool, IfNone, IfSome, IsSome, IsSomeAnd, OnOk, if◌then◌else◌, is_some, List, None, Some, IsTrue, true, ⊤};
 ghost use Rattle.std.specs.Option.{option_copied};
-ghost use Rattle.orca_names.specs.declared.names.Thing.{Thing as thing};
+ghost use Rattle.orca_names.specs.declared.trace.Trace.{Trace as tracing};
 ghost use Rattle.turn_rules.specs.declared.act.Frame.{Frame as frame_of_rules};
 ghost use Rattle.letter_kinds.specs.declared.letter.Letter.{Letter as a_letter};
 ghost use Rattle.machine_rules.specs.Actors.{seat, with_letter_more};
@@ -10,15 +10,16 @@ ghost use Rattle.machine_rules.specs.Cell.{Cell as cell_of_rules};
 ghost use Rattle.machine_rules.specs.Guards.{may_block, may_collect, may_leave, may_take};
 ghost use Rattle.machine_rules.specs.Take.{cell_after, note_of};
 ghost use Rattle.actor_cell.specs.Cells.{as_cell, settled};
-ghost use Rattle.actor_cell.specs.Goes.{cell_by, new_entries};
-ghost use Rattle.actor_table.specs.Changes.{CanCollectHere, CanGoHere, CanSettleNew, CanTakeHere, HasCell, HasRoomToGo, HasRoomToTake, moved, note_taken, plan_in, swept_of, taken, told, with_cell_by};
+ghost use Rattle.actor_cell.specs.Goes.{out_of};
+ghost use Rattle.actor_cell.specs.Sweeps.{sweep_of, swept};
+ghost use Rattle.actor_table.specs.Changes.{CanCollectHere, CanGoHere, CanSettleNew, CanTakeHere, HasCell, HasRoomToGo, HasRoomToTake, moved, note_taken, taken, told, with_cell_by};
 ghost use Rattle.actor_table.specs.declared.slot.Place.TheVariants.{Home};
 ghost use Rattle.actor_table.specs.Slots.{can_act, can_settle, event_in, event_of, home_of, is_away, mail_of, seat_of, IsOwnedBy};
 
-use actor_cell::{Cell, Turned};
+use actor_cell::{Cell, Sweep, Turned};
 use behaviour_check::Checked;
 use event_rule::Event;
-use letter_kinds::{Letter, Note, SweepPlan};
+use letter_kinds::{Letter, Note};
 use mail_rows::MailRow;
 use orca_names::{ActorName, NoMemory};
 use std::mem;
@@ -252,7 +253,7 @@ pub(crate) fn go_on(slot: &mut Slot, turn: &Turn, found: &Turned)
         ≡ with_cell_by (moved a turn.now found.now.place found.now.act) (seat_of slot.old) }
     ensures away { is_away slot.new ≡ is_away slot.old }
     ensures owned { (a : ℕ) → IsOwnedBy a slot.old.place → IsOwnedBy a slot.new.place }
-    ensures entry { 0 < new_entries found.now.act
+    ensures entry { IsSome (out_of found.now.act).made
         → IsSomeAnd (home_of slot.new) (λ c. 0 < c.foreign.spare) }
     ensures mail { slot.new.mail ≡ slot.old.mail }
 {
@@ -277,11 +278,11 @@ pub(crate) fn settle_new(slot: &mut Slot, register: u8, name: ActorName, weight:
 }
 
 /// The actor's collection is done as it was planned.
-pub(crate) fn collect(slot: &mut Slot, plan: &SweepPlan)
-    requires { IsSomeAnd (home_of slot.old) (λ c. CanCollectHere plan.now slot.old) }
-    ensures seat { (a : ℕ) (marked : thing → Bool) → IsOwnedBy a slot.old.place
-        → IsSomeAnd (seat_of slot.old) (λ o. plan.now ≡ plan_in a marked o.cell.holdings)
-        → seat_of slot.new ≡ with_cell_by (swept_of marked a) (seat_of slot.old) }
+pub(crate) fn collect(slot: &mut Slot, found: &Sweep)
+    requires { IsSomeAnd (home_of slot.old) (λ c. CanCollectHere found.now slot.old) }
+    ensures seat { (a : ℕ) (trace : tracing) → IsOwnedBy a slot.old.place
+        → IsSomeAnd (home_of slot.old) (λ c. found.now ≡ sweep_of trace c)
+        → seat_of slot.new ≡ with_cell_by (swept trace a) (seat_of slot.old) }
     ensures away { is_away slot.new ≡ is_away slot.old }
     ensures owned { (a : ℕ) → IsOwnedBy a slot.old.place → IsOwnedBy a slot.new.place }
     ensures mail { slot.new.mail ≡ slot.old.mail }
@@ -289,7 +290,7 @@ pub(crate) fn collect(slot: &mut Slot, plan: &SweepPlan)
     let Place::Home(cell) = &mut slot.place else {
         unreachable!();
     };
-    cell.apply_collect(plan);
+    cell.apply_collect(found);
 }
 
 /// The actor reported that it is blocked.

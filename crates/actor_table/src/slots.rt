@@ -1,14 +1,15 @@
 // All places, and what becomes of one of them.
 
-ghost use Rattle.std.specs.Prelude.{◌≡◌, ◌+◌, ◌<◌, ◌≤◌, ◌==◌, ◌≢◌, List, if◌then◌else◌, is_some, option_map, ℕ, Bool, length, Some, None, set, true, false, ⊤, IsSomeAnd, OnOk, vec_len, vec_capacity};
+ghost use Rattle.std.specs.Prelude.{◌≡◌, ◌+◌, ◌<◌, ◌≤◌, ◌==◌, ◌≢◌, List, if◌then◌else◌, is_some, option_map, ℕ, Bool, length, Some, None, set, true, false, ⊤, IsSome, IsSomeAnd, OnOk, vec_len, vec_capacity};
 ghost use Rattle.letter_kinds.specs.declared.letter.Letter.{Letter as a_letter};
 ghost use Rattle.orca_names.specs.declared.limits.TheConstants.{ACTORS_LIMIT};
 ghost use Rattle.actor_table.specs.declared.slot.Slot.{Slot as a_slot};
-ghost use Rattle.orca_names.specs.declared.names.Thing.{Thing as thing};
+ghost use Rattle.orca_names.specs.declared.trace.Trace.{Trace as tracing};
 ghost use Rattle.machine_rules.specs.Actors.{push_letter, seat_at};
 ghost use Rattle.actor_cell.specs.Cells.{as_cell, settled};
-ghost use Rattle.actor_cell.specs.Goes.{new_entries};
-ghost use Rattle.actor_table.specs.Changes.{changed_at, moved, note_taken, plan_in, swept_of, taken, told, with_cell_by, CanCollectHere, CanGoHere, CanSettleNew, CanTakeHere, HasCell, HasRoomToGo, HasRoomToTake, IsChangedAt, KeepsRoom};
+ghost use Rattle.actor_cell.specs.Goes.{out_of};
+ghost use Rattle.actor_cell.specs.Sweeps.{sweep_of, swept};
+ghost use Rattle.actor_table.specs.Changes.{changed_at, moved, note_taken, taken, told, with_cell_by, CanCollectHere, CanGoHere, CanSettleNew, CanTakeHere, HasCell, HasRoomToGo, HasRoomToTake, IsChangedAt, KeepsRoom};
 ghost use Rattle.actor_table.specs.Index.{IsIndex};
 ghost use Rattle.actor_table.specs.Slots.{actors_of, away_of, can_act, can_settle, home_of, AreIndexed, IsOwnedBy, is_away, letters_in, places_of, seat_of, slot_at};
 
@@ -16,9 +17,9 @@ use crate::slot::{
     Place, Slot, block, can_act, can_settle, collect, go_on, lift, push_letter, put_back,
     reserve_go, reserve_letters, reserve_take, settle_new, take_letter,
 };
-use actor_cell::{Cell, Turned};
+use actor_cell::{Cell, Sweep, Turned};
 use behaviour_check::Checked;
-use letter_kinds::{Letter, Note, SweepPlan};
+use letter_kinds::{Letter, Note};
 use mail_rows::MailRow;
 use orca_names::{ActorName, NoMemory};
 use ready_set::ReadySet;
@@ -52,7 +53,7 @@ pub(crate) fn go_at(slots: &mut Vec<Slot>, a: usize, turn: &Turn, found: &Turned
     ensures actors { actors_of slots.new.items
         ≡ changed_at (with_cell_by (moved a turn.now found.now.place found.now.act)) a
         (actors_of slots.old.items) }
-    ensures entry { 0 < new_entries found.now.act
+    ensures entry { IsSome (out_of found.now.act).made
         → IsSomeAnd (home_of (slot_at slots.new.items a)) (λ c. 0 < c.foreign.spare) }
     ensures away { away_of slots.new.items ≡ away_of slots.old.items }
     ensures room { KeepsRoom slots.old.items slots.new.items }
@@ -81,20 +82,21 @@ pub(crate) fn settle_at(slots: &mut Vec<Slot>, a: usize, register: u8, name: Act
 
 /// The actor's collection is done as it was planned.
 #[tactic(auto, using(crate::proofs::Changing::actors_set, crate::proofs::Changing::away_kept, crate::proofs::Changing::seat_read, crate::proofs::Changing::room_kept))]
-pub(crate) fn collect_at(slots: &mut Vec<Slot>, a: usize, plan: &SweepPlan)
+pub(crate) fn collect_at(slots: &mut Vec<Slot>, a: usize, found: &Sweep)
     requires within { a < length slots.old.items }
     requires owned { IsOwnedBy a (slot_at slots.old.items a).place }
-    requires can { CanCollectHere plan.now (slot_at slots.old.items a) }
-    ensures actors { (marked : thing → Bool) → IsSomeAnd (seat_at (actors_of slots.old.items) a)
-        (λ o. plan.now ≡ plan_in a marked o.cell.holdings) → actors_of slots.new.items
-        ≡ changed_at (with_cell_by (swept_of marked a)) a (actors_of slots.old.items) }
+    requires can { CanCollectHere found.now (slot_at slots.old.items a) }
+    ensures actors { (trace : tracing)
+        → IsSomeAnd (home_of (slot_at slots.old.items a)) (λ c. found.now ≡ sweep_of trace c)
+        → actors_of slots.new.items
+        ≡ changed_at (with_cell_by (swept trace a)) a (actors_of slots.old.items) }
     ensures away { away_of slots.new.items ≡ away_of slots.old.items }
     ensures room { KeepsRoom slots.old.items slots.new.items }
     ensures changed { IsChangedAt a slots.old.items slots.new.items }
     ensures length { vec_len slots.new ≡ vec_len slots.old }
     ensures capacity { vec_capacity slots.new ≡ vec_capacity slots.old }
 {
-    collect(&mut slots[a], plan);
+    collect(&mut slots[a], found);
 }
 
 /// The actor reported that it is blocked.

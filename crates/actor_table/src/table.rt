@@ -1,18 +1,19 @@
 // The table.
 
-ghost use Rattle.std.specs.Prelude.{◌≡◌, ◌==◌, ◌+◌, ◌<◌, ◌≤◌, ◌++◌, ◌∷◌, ◌≢◌, [], ℕ, Bool, false, length, List, if◌then◌else◌, is_some, option_map, position, IsSomeAnd, OnOk, Some, None, set, true, ⊤};
+ghost use Rattle.std.specs.Prelude.{◌≡◌, ◌==◌, ◌+◌, ◌<◌, ◌≤◌, ◌++◌, ◌∷◌, ◌≢◌, [], ℕ, Bool, false, length, List, if◌then◌else◌, is_some, option_map, position, IsSome, IsSomeAnd, OnOk, Some, None, set, true, ⊤};
 ghost use Rattle.std.specs.Option.{option_copied};
-ghost use Rattle.orca_names.specs.declared.names.Thing.{Thing as thing};
+ghost use Rattle.orca_names.specs.declared.trace.Trace.{Trace as tracing};
 ghost use Rattle.turn_rules.specs.declared.act.Frame.{Frame as frame_of_rules};
 ghost use Rattle.letter_kinds.specs.declared.letter.Letter.{Letter as a_letter};
 ghost use Rattle.machine_rules.specs.Actors.{push_letter, seat, seat_at};
 ghost use Rattle.machine_rules.specs.Cell.{Cell as cell_of_rules};
 ghost use Rattle.machine_rules.specs.Take.{cell_after, note_of};
 ghost use Rattle.actor_cell.specs.Cells.{as_cell, settled};
-ghost use Rattle.actor_cell.specs.Goes.{cell_by, new_entries};
+ghost use Rattle.actor_cell.specs.Goes.{out_of};
 ghost use Rattle.orca_names.specs.declared.limits.TheConstants.{ACTORS_LIMIT};
 ghost use Rattle.actor_table.specs.declared.slot.Place.TheVariants.{Home};
-ghost use Rattle.actor_table.specs.Changes.{CanCollectHere, CanGoHere, CanSettleNew, CanTakeHere, HasCell, HasRoomToGo, HasRoomToTake, KeepsRoom, changed_at, moved, note_taken, plan_in, swept_of, taken, told, with_cell_by};
+ghost use Rattle.actor_cell.specs.Sweeps.{sweep_of, swept};
+ghost use Rattle.actor_table.specs.Changes.{CanCollectHere, CanGoHere, CanSettleNew, CanTakeHere, HasCell, HasRoomToGo, HasRoomToTake, KeepsRoom, changed_at, moved, note_taken, taken, told, with_cell_by};
 ghost use Rattle.actor_table.specs.Slots.{actors_of, away_of, can_act, can_settle, event_of, home_of, is_away, letters_in, mail_of, places_of, slot_at};
 
 use crate::slot::{
@@ -22,10 +23,10 @@ use crate::slots::{
     block_at, clear_at, collect_at, go_at, lift_at, push_at, put_back_at, put_bits, reserve_bits,
     reserve_go_at, reserve_letters_at, reserve_take_at, settle_at, take_at,
 };
-use actor_cell::{Cell, Turned};
+use actor_cell::{Cell, Sweep, Turned};
 use behaviour_check::Checked;
 use event_rule::Event;
-use letter_kinds::{Letter, Note, SweepPlan};
+use letter_kinds::{Letter, Note};
 use mail_rows::MailRow;
 use orca_names::{ActorName, NoMemory};
 use ready_set::ReadySet;
@@ -45,12 +46,12 @@ pub struct ActorTable {
 impl Model for ActorTable {
     ghost use Rattle.std.specs.Prelude.{◌-◌, length, min, vec_capacity, vec_len};
     ghost use Rattle.std.specs.Coded.{codes};
-    ghost use Rattle.actor_table.specs.Codes.{coded_entries, coded_own};
+    ghost use Rattle.actor_table.specs.Codes.{coded_entries, coded_known, coded_own};
     ghost use Rattle.actor_table.specs.Slots.{AreIndexed, Table};
 
     ghost Value = { Table };
 
-    ghost coded = { Prim.hlevel (codes, coded_own, coded_entries) };
+    ghost coded = { Prim.hlevel (codes, coded_own, coded_entries, coded_known) };
 
     ghost view = { λ t. record {
       slots = t.slots.items;
@@ -259,7 +260,7 @@ impl ActorTable {
         ensures actors { actors_of self.new.slots
             ≡ changed_at (with_cell_by (moved a turn.now found.now.place found.now.act)) a
             (actors_of self.old.slots) }
-        ensures entry { 0 < new_entries found.now.act
+        ensures entry { IsSome (out_of found.now.act).made
             → IsSomeAnd (home_of (slot_at self.new.slots a)) (λ c. 0 < c.foreign.spare) }
         ensures spare { self.new.spare ≡ self.old.spare }
         ensures away { away_of self.new.slots ≡ away_of self.old.slots }
@@ -283,16 +284,16 @@ impl ActorTable {
     }
 
     /// The actor's collection is done as it was planned.
-    pub fn collect(&mut self, a: ActorName, plan: &SweepPlan)
-        requires { CanCollectHere plan.now (slot_at self.old.slots a) }
-        ensures actors { (marked : thing → Bool)
-            → IsSomeAnd (seat_at (actors_of self.old.slots) a)
-            (λ o. plan.now ≡ plan_in a marked o.cell.holdings) → actors_of self.new.slots
-            ≡ changed_at (with_cell_by (swept_of marked a)) a (actors_of self.old.slots) }
+    pub fn collect(&mut self, a: ActorName, found: &Sweep)
+        requires { CanCollectHere found.now (slot_at self.old.slots a) }
+        ensures actors { (trace : tracing)
+            → IsSomeAnd (home_of (slot_at self.old.slots a)) (λ c. found.now ≡ sweep_of trace c)
+            → actors_of self.new.slots
+            ≡ changed_at (with_cell_by (swept trace a)) a (actors_of self.old.slots) }
         ensures away { away_of self.new.slots ≡ away_of self.old.slots }
         ensures room { KeepsRoom self.old.slots self.new.slots }
     {
-        collect_at(&mut self.slots, a.0 as usize, plan);
+        collect_at(&mut self.slots, a.0 as usize, found);
         put_bits(&self.slots, &mut self.acting, &mut self.settling, a.0);
     }
 
