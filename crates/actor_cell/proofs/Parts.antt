@@ -29,7 +29,7 @@ takes s a c letter mail =
     (noted c.reported (note_of a letter) s.notes)
 
 -- Decs are letters
-decs_pushed : (groups : List (ℕ × List Amount)) (actors : Actors) → push_decs groups actors ≡ push_all (map (λ g. (g.0, Dec g.1)) groups) actors
+pub decs_pushed : (groups : List (ℕ × List Amount)) (actors : Actors) → push_decs groups actors ≡ push_all (map (λ g. (g.0, Dec g.1)) groups) actors
 unfolding push_decs
 decs_pushed [] actors = refl
 decs_pushed (g ∷ groups) actors = decs_pushed groups (push_letter g.0 (Dec g.1) actors)

@@ -1,0 +1,16 @@
+use Rattle.std.proofs.Common.{ap, ◌∙◌}
+use Rattle.actor_cell.specs.Cells.{as_cell}
+use Rattle.actor_cell.specs.Pushing.{push_all}
+use Rattle.actor_table.specs.Slots.{actors_of, slot_at}
+use Rattle.orca_core.specs.Parts.{state_of}
+use Rattle.orca_core.proofs.Giving.{seat_here}
+use Rattle.orca_core.proofs.Stepped.{leave_goes}
+use Rattle.orca_core.proofs.leaves.apply_leave.Goals as goal
+
+pub returns-clause-state : goal.returns-clause-state
+returns-clause-state c = λ program options.
+    let slots = c.args.parts.now.table.slots in
+    let cell = c.requires.can.cell in
+    leave_goes (state_of program options c.args.parts.now) c.args.a (as_cell cell) (slot_at slots c.args.a).mail.letters
+    c.args.letters.items (actors_of c.push_all.new.table.slots) (seat_here slots c.args.a cell c.requires.can.home)
+    c.requires.can.so.0 c.requires.can.so.1 (c.push_all.ensures.actors ∙ ap (push_all c.args.letters.items) c.clear.ensures.actors)

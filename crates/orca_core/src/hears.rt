@@ -1,0 +1,26 @@
+// Hear: the detector takes the first of its notes.
+
+ghost use Rattle.std.specs.Prelude.{◌≡◌, ◌∷◌, List};
+ghost use Rattle.event_rule.specs.Runs.{Goes};
+ghost use Rattle.event_rule.specs.declared.event.Event.TheVariants.{Hear as hear_event};
+ghost use Rattle.machine_rules.specs.Next.{next};
+ghost use Rattle.machine_rules.specs.Options.{Options};
+ghost use Rattle.actor_table.specs.Slots.{away_of};
+ghost use Rattle.behaviour_code.specs.declared.code.Program.{Program};
+ghost use Rattle.orca_core.specs.Fits.{CanHearFirst};
+ghost use Rattle.orca_core.specs.Parts.{state_of};
+
+use crate::parts::Parts;
+
+/// The detector takes the first of its notes. It takes no memory.
+pub(crate) fn apply_hear(parts: &mut Parts)
+    requires { CanHearFirst parts.old.notes.items parts.old.detector }
+    ensures state { (program : Program) (options : Options)
+        → next (state_of program options parts.old) hear_event
+        ≡ Goes (state_of program options parts.new) }
+    ensures table { parts.new.table ≡ parts.old.table }
+{
+    if let Some(note) = parts.notes.pop_front() {
+        parts.detector.hear_prepared(note);
+    }
+}

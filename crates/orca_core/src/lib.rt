@@ -1,0 +1,13 @@
+//! The machine that collects, as code: each step is one of its rules' events.
+#![tactic(auto)]
+
+mod blocks;
+mod collects;
+mod goes;
+mod hears;
+mod leaves;
+mod letters;
+mod parts;
+mod reaps;
+mod scans;
+mod takes;
