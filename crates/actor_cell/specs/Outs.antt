@@ -1,6 +1,7 @@
 -- What an event gives out.
 use Rattle.std.specs.Prelude.{ℕ, List, [], ◌∷◌, None, map}
 use Rattle.orca_names.specs.Names.{owner_of}
+use Rattle.letter_kinds.specs.declared.letter.Letter.{Letter}
 use Rattle.letter_kinds.specs.declared.letter.Letter.TheVariants.{Dec}
 use Rattle.letter_kinds.specs.declared.note.Note.{Note}
 use Rattle.letter_kinds.specs.declared.note.Note.TheVariants.{Block}
@@ -14,10 +15,14 @@ use Rattle.actor_cell.specs.declared.out.Out.{Out}
 abbrev pub noting : List Note → Out
 noting notes = record { letters = []; notes = notes; print = None; made = None }
 
+-- to each owner one Dec with its amounts
+abbrev pub letters_of : List (ℕ × List Amount) → List (ℕ × Letter)
+letters_of groups = map (λ g. (g.0, Dec g.1)) groups
+
 -- to each owner one Dec with its amounts, and nothing else
 abbrev pub returning : List (ℕ × List Amount) → Out
 returning groups = record {
-  letters = map (λ g. (g.0, Dec g.1)) groups;
+  letters = letters_of groups;
   notes = [];
   print = None;
   made = None;
@@ -27,6 +32,10 @@ returning groups = record {
 abbrev pub report_of : ℕ → Cell → Note
 report_of a c = Block a c.holdings.count (held_actors c.holdings)
 
--- what an actor that leaves held on others' things
+-- what an actor that goes with all of these held on things of those who stay, in groups of owners
+abbrev pub left_outside : List ℕ → Cell → List (ℕ × List Amount)
+left_outside gone c = by_owner (given_back (λ x. has gone (owner_of x)) c.holdings)
+
+-- what an actor that goes alone held on others' things
 abbrev pub left_behind : ℕ → Cell → List (ℕ × List Amount)
-left_behind a c = by_owner (given_back (λ x. has (a ∷ []) (owner_of x)) c.holdings)
+left_behind a c = left_outside (a ∷ []) c

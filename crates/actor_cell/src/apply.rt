@@ -12,8 +12,9 @@ ghost use Rattle.actor_cell.specs.Cells.{as_cell};
 ghost use Rattle.actor_cell.specs.Goes.{CanGo, CanMove, cell_by, cell_kept, frame_left, gone_of, load_in, new_entries, out_of};
 
 use crate::cell::Cell;
+use crate::letters::letter_room;
 use crate::out::Out;
-use crate::turning::{Move, Turned, letter_room};
+use crate::turning::{Move, Turned};
 use behaviour_check::Checked;
 use letter_kinds::{Amounts, Letter};
 use object_heap::ObjectHeap;
@@ -207,7 +208,7 @@ impl Cell {
     {
         let mut turn = Turn::new(alloc);
         let found = self.found_go(alloc, code, weight, trace, &mut turn)?;
-        let room = letter_room(alloc)?;
+        let room = letter_room(alloc, 1)?;
         self.reserve_go(&turn, &found)?;
         self.apply_go(&turn, &found);
         Ok(found.act.into_out(alloc, room))

@@ -1,9 +1,8 @@
 // Collect: an idle actor frees what its fields do not reach (Orca, OOPSLA 2017).
 
-ghost use Rattle.std.specs.Prelude.{◌≡◌, IfOk, OnErr, OnOk, map};
+ghost use Rattle.std.specs.Prelude.{◌≡◌, IfOk, OnErr, OnOk};
 ghost use Rattle.orca_names.specs.declared.trace.Trace.{Trace as tracing};
 ghost use Rattle.orca_names.specs.declared.trace.Trace.TheVariants.{Deep as deep, Roots as roots};
-ghost use Rattle.letter_kinds.specs.declared.letter.Letter.TheVariants.{Dec as dec};
 ghost use Rattle.letter_kinds.specs.Counting.{by_owner, given_back};
 ghost use Rattle.machine_rules.specs.Collect.{is_marked};
 ghost use Rattle.actor_cell.specs.Cells.{as_cell};
@@ -11,37 +10,14 @@ ghost use Rattle.actor_cell.specs.Outs.{returning};
 ghost use Rattle.actor_cell.specs.Sweeps.{IsSweep, KnowsOthersOnly, sweep_of, swept};
 
 use crate::cell::Cell;
+use crate::letters::{decs_of, letter_room};
 use crate::out::Out;
 use crate::sweeping::Sweep;
-use letter_kinds::{Amounts, Letter};
 use local_sweep::{apply, plan};
-use orca_names::{ActorName, NoMemory, Trace};
+use orca_names::{NoMemory, Trace};
 use plain_list::Listed;
 use root_trace::{plan_in_use, plan_roots};
 use std::alloc::Global;
-
-// A decrement of these things.
-fn dec_of(alloc: Global, things: &Amounts) -> Result<Letter, NoMemory>
-    ensures { IfOk result (λ letter. letter ≡ dec things.now) }
-{
-    let mut copied = Listed::new(alloc);
-    copied.extend_from_slice(things.as_slice())?;
-    Ok(Letter::Dec { things: copied })
-}
-
-/// To each owner a decrement of its things.
-pub(crate) fn decs_of(
-    alloc: Global,
-    groups: &[(ActorName, Amounts)],
-) -> Result<Listed<(ActorName, Letter)>, NoMemory>
-    ensures { IfOk result (λ letters. letters ≡ map (λ g. (g.0, dec g.1)) groups.now) }
-{
-    let mut letters = Listed::new(alloc);
-    for group in groups {
-        letters.push((group.0, dec_of(alloc, &group.1)?))?;
-    }
-    Ok(letters)
-}
 
 impl Cell {
     // What it frees and gives back with deep tracing.
@@ -111,10 +87,10 @@ impl Cell {
         ensures owner { self.new.heap.owner ≡ self.old.heap.owner }
     {
         let found = self.found_collect(alloc, trace)?;
-        let letters = decs_of(alloc, found.plan.back.as_slice())?;
+        let room = letter_room(alloc, found.plan.back.len())?;
         self.apply_collect(&found);
         Ok(Out {
-            letters,
+            letters: decs_of(room, found.plan.back.into_vec()),
             notes: Listed::new(alloc),
             print: None,
             made: None,

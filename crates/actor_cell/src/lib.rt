@@ -16,6 +16,7 @@ mod holding;
 mod laws;
 mod learning;
 mod leave;
+mod letters;
 mod loads;
 mod out;
 mod sweeping;

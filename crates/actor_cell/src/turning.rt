@@ -1,11 +1,11 @@
 // What a turn is found to do.
 
-ghost use Rattle.std.specs.Prelude.{◌≡◌, ◌<◌, [], IfOk, vec_capacity};
+ghost use Rattle.std.specs.Prelude.{◌≡◌, ◌<◌, [], vec_capacity};
 ghost use Rattle.actor_cell.specs.Goes.{out_of};
 
 use crate::out::Out;
 use letter_kinds::{Amounts, Letter};
-use orca_names::{ActorName, NoMemory, Value};
+use orca_names::{ActorName, Value};
 use plain_list::Listed;
 use std::alloc::Global;
 
@@ -31,16 +31,6 @@ pub enum Move {
 pub struct Turned {
     pub place: u32,
     pub act: Move,
-}
-
-/// Room for the one letter that a move may give out.
-pub(crate) fn letter_room(alloc: Global) -> Result<Vec<(ActorName, Letter)>, NoMemory>
-    ensures none { IfOk result (λ room. room.items ≡ []) }
-    ensures room { IfOk result (λ room. 0 < vec_capacity room) }
-{
-    let mut room = Vec::new(alloc);
-    room.reserve(1)?;
-    Ok(room)
 }
 
 impl Move {

@@ -1,4 +1,4 @@
-use Rattle.std.proofs.Common.{◌≡◌, ℕ, ◌<◌, Bool, not, [], ◌∷◌, Option, None, length, map, take, get_or, sym, ap, ◌∙◌, arith}
+use Rattle.std.proofs.Common.{◌≡◌, ℕ, ◌<◌, Bool, not, Option, None, length, map, take, get_or, sym, ap, ◌∙◌, arith}
 use Rattle.std.specs.List.{filter}
 use Rattle.std.specs.FinMap as m
 use Rattle.std.proofs.Math.Seq.{take-length}
@@ -19,7 +19,7 @@ loop-j-init c = c.new-back.ensures.items
 pub loop-j-preserved : goal.loop-j-preserved
 loop-j-preserved c =
     let entries = m.entries c.args.self.now.foreign.entries in
-    let off : Thing × (ℕ × Option Row) → Bool = λ e. not (has (c.owner-me.result ∷ []) (owner_of e.0)) in
+    let off : Thing × (ℕ × Option Row) → Bool = λ e. not (has c.args.gone.now (owner_of e.0)) in
     let amount : Thing × (ℕ × Option Row) → Amount = λ e. (e.0, e.1.0) in
     let e = get_or entries c.loop-j.j (Actor 0, (0, None)) in
     let inside : c.loop-j.j < length entries = omega (arith, c.loop-j-test.true, c.len-j-end.ensures, m.len-entries c.args.self.now.foreign.entries) in
@@ -33,4 +33,5 @@ returns c =
     let amount : Thing × (ℕ × Option Row) → Amount = λ e. (e.0, e.1.0) in
     let all : c.loop-j.j ≡ length entries = omega (arith, c.loop-j-test.false, c.loop-j.auto.j-end, c.len-j-end.ensures, m.len-entries c.args.self.now.foreign.entries) in
     c.loop-j.invariant
-    ∙ (λ i. by_owner (map amount (filter (λ e. not (has (c.owner-me.ensures i ∷ []) (owner_of e.0))) ((ap (λ n. take n entries) all ∙ take-length entries) i))))
+    ∙ ap (λ es. by_owner (map (λ e. (e.0, e.1.0)) (filter (λ e. not (has c.args.gone.now (owner_of e.0))) es)))
+    (ap (λ n. take n entries) all ∙ take-length entries)

@@ -1,10 +1,16 @@
 use Rattle.std.proofs.Common.{None, ap, ◌∙◌}
+use Rattle.std.specs.List.Sorted.{IsStrictlySortedBy}
 use Rattle.actor_cell.specs.declared.out.Out.{Out}
-use Rattle.actor_cell.specs.Outs.{returning}
+use Rattle.actor_cell.specs.Cells.{as_cell}
+use Rattle.actor_cell.specs.Outs.{left_behind, letters_of}
 use Rattle.actor_cell.proofs.cell.Cell.leave.Goals as goal
+
+pub give_back-requires : goal.give_back-requires
+unfolding IsStrictlySortedBy
+give_back-requires c = (tt, tt)
 
 pub returns : goal.returns
 returns c =
     let out : Out → Out = λ o. o in
-    ap out (λ i. record { letters = c.in_ok-decs_of.ensures i; notes = c.new.ensures i; print = None; made = None })
-    ∙ ap returning (c.as_slice.ensures.value ∙ c.in_ok-back.ensures)
+    let its = ap (λ me. letters_of (left_behind me (as_cell c.args.self.now))) c.owner.ensures in
+    ap out (λ i. record { letters = (c.in_ok-give_back.ensures ∙ its) i; notes = c.new.ensures i; print = None; made = None })
