@@ -10,7 +10,6 @@ use Rattle.machine_rules.specs.Detect.{empty_seats}
 use Rattle.actor_cell.specs.declared.cell.Cell.{Cell}
 use Rattle.actor_cell.specs.Cells.{as_cell}
 use Rattle.actor_table.specs.declared.slot.Slot.{Slot}
-use Rattle.actor_table.specs.declared.slot.Place.{Place}
 use Rattle.actor_table.specs.declared.slot.Place.TheVariants.{Home}
 use Rattle.actor_table.specs.Changes.{KeepsRoom, changed_at, with_cell_by}
 use Rattle.actor_table.specs.Slots.{actors_of, seat_in, slot_at}
@@ -72,7 +71,3 @@ changed_present change a actors b = elim (cases_lt a (length actors)) as (λ _. 
     by : (o : Option Seat) → is_some (with_cell_by change o) ≡ is_some o
     by None = refl
     by (Some o) = refl
-
--- a place is at home with one cell
-pub same_cell : (place : Place) (c d : Cell) → place ≡ Home c → place ≡ Home d → c ≡ d
-same_cell place c d one two = let z : Home c ≡ Home d = sym one ∙ two in cc

@@ -1,5 +1,5 @@
 -- What the state of the machine allows, and for what it has room.
-use Rattle.std.specs.Prelude.{ℕ, ◌≡◌, true, false, Bool, List, [], ◌∷◌, Option, None, Some, map, set}
+use Rattle.std.specs.Prelude.{ℕ, ◌≡◌, ◌<◌, true, false, Bool, List, [], ◌∷◌, Option, None, Some, map, set}
 use Rattle.letter_kinds.specs.declared.letter.Letter.{Letter}
 use Rattle.letter_kinds.specs.declared.letter.Letter.TheVariants.{Dec}
 use Rattle.letter_kinds.specs.declared.note.Note.{Note}
@@ -13,10 +13,18 @@ use Rattle.letter_kinds.specs.Counting.{by_owner, given_back}
 use Rattle.actor_cell.specs.declared.cell.Cell.{Cell}
 use Rattle.actor_cell.specs.declared.sweeping.Sweep.{Sweep}
 use Rattle.actor_cell.specs.Cells.{as_cell}
-use Rattle.actor_cell.specs.Outs.{returning}
+use Rattle.actor_cell.specs.Outs.{left_behind, report_of, returning}
 use Rattle.actor_cell.specs.Sweeps.{sweep_of}
+use Rattle.std.specs.VecDeque.{deque_capacity, deque_len}
+use Rattle.behaviour_code.specs.declared.code.Program.{Program}
+use Rattle.machine_rules.specs.Guards.{may_block, may_collect, may_leave}
+use Rattle.machine_rules.specs.Options.{Options}
+use Rattle.actor_cell.specs.Takes.{HasRoomFor}
 use Rattle.actor_table.specs.declared.slot.Slot.{Slot}
-use Rattle.actor_table.specs.Slots.{actors_of}
+use Rattle.actor_table.specs.declared.slot.Place.TheVariants.{Home}
+use Rattle.orca_core.specs.declared.parts.Parts.{Parts}
+use Rattle.orca_core.specs.Parts.{state_of}
+use Rattle.actor_table.specs.Slots.{actors_of, away_of, slot_at}
 use Rattle.orca_core.specs.Letters.{FitLetters, asks}
 
 -- there is a note, and the first can be heard
@@ -63,3 +71,47 @@ pub record CollectsWith (trace : Trace) (a : ℕ) (found : Sweep) (letters : Lis
   pub found_is : found ≡ sweep_of trace c
   pub letters_are : letters
       ≡ (returning (by_owner (given_back (is_marked trace a (as_cell c)) (as_cell c).holdings))).letters
+
+-- ---- what was prepared fits
+
+-- the actor is idle and has a letter, and there is room for what this brings and for what is noted
+pub record FitsTake (a : ℕ) (m : Parts) : Type 0 where
+  pub cell : Cell
+  pub home : (slot_at m.table.slots a).place ≡ Home cell
+  pub letter : Letter
+  pub later : List Letter
+  pub letters : (slot_at m.table.slots a).mail.letters ≡ letter ∷ later
+  pub idle : cell.frame ≡ None
+  pub room : HasRoomFor letter cell.foreign.spare cell.known.spare
+  pub note : cell.reported ≡ true → deque_len m.notes < deque_capacity m.notes
+
+-- the sweep is that of the actor with this tracing, the letters return what it gives back, and fit
+pub record FitsCollect (trace : Trace) (a : ℕ) (found : Sweep) (letters : List (ℕ × Letter))
+    (m : Parts) : Type 0 where
+  pub cell : Cell
+  pub home : (slot_at m.table.slots a).place ≡ Home cell
+  pub may : may_collect (as_cell cell) (slot_at m.table.slots a).mail.letters ≡ true
+  pub collects : CollectsWith trace a found letters cell
+  pub fit : FitLetters letters m.table.slots
+
+-- the actor may leave, the letters return what it held, and fit
+pub record FitsLeave (a : ℕ) (letters : List (ℕ × Letter)) (m : Parts) : Type 0 where
+  pub cell : Cell
+  pub home : (slot_at m.table.slots a).place ≡ Home cell
+  pub may : may_leave (as_cell cell) (slot_at m.table.slots a).mail.letters ≡ true
+  pub returns : letters ≡ (returning (left_behind a (as_cell cell))).letters
+  pub fit : FitLetters letters m.table.slots
+
+-- the actor may report, this is its report, and there is room for it
+pub record FitsBlock (a : ℕ) (note : Note) (m : Parts) : Type 0 where
+  pub cell : Cell
+  pub home : (slot_at m.table.slots a).place ≡ Home cell
+  pub may : may_block (as_cell cell) (slot_at m.table.slots a).mail.letters ≡ true
+  pub report : note ≡ report_of a (as_cell cell)
+  pub room : deque_len m.notes < deque_capacity m.notes
+
+-- but for room all is the same
+pub record OnlyRoom (old new : Parts) : Type 0 where
+  pub state : (program : Program) (options : Options)
+      → state_of program options new ≡ state_of program options old
+  pub away : away_of new.table.slots ≡ away_of old.table.slots

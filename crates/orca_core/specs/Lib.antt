@@ -1,3 +1,4 @@
+pub mod Faults
 pub mod Fits
 pub mod Letters
 pub mod Parts

@@ -1,17 +1,13 @@
 // Leave: an actor that nobody holds goes by itself.
 
-ghost use Rattle.std.specs.Prelude.{◌≡◌, true, false, set};
+ghost use Rattle.std.specs.Prelude.{◌≡◌, false, set};
 ghost use Rattle.behaviour_code.specs.declared.code.Program.{Program};
 ghost use Rattle.event_rule.specs.Runs.{Goes};
 ghost use Rattle.event_rule.specs.declared.event.Event.TheVariants.{Leave as leave_event};
-ghost use Rattle.machine_rules.specs.Guards.{may_leave};
 ghost use Rattle.machine_rules.specs.Next.{next};
 ghost use Rattle.machine_rules.specs.Options.{Options};
-ghost use Rattle.actor_cell.specs.Cells.{as_cell};
-ghost use Rattle.actor_cell.specs.Outs.{left_behind, returning};
-ghost use Rattle.actor_table.specs.Changes.{HasCell};
-ghost use Rattle.actor_table.specs.Slots.{away_of, slot_at};
-ghost use Rattle.orca_core.specs.Letters.{FitLetters};
+ghost use Rattle.actor_table.specs.Slots.{away_of};
+ghost use Rattle.orca_core.specs.Fits.{FitsLeave};
 ghost use Rattle.orca_core.specs.Parts.{state_of};
 
 use crate::letters::push_all;
@@ -27,10 +23,7 @@ pub(crate) fn apply_leave(
     a: ActorName,
     letters: Vec<(ActorName, Letter)>,
 )
-    requires can { let x = slot_at parts.old.table.slots a in HasCell x (λ c.
-        (may_leave (as_cell c) x.mail.letters ≡ true)
-        × (letters.items ≡ (returning (left_behind a (as_cell c))).letters)) }
-    requires room { FitLetters letters.items parts.old.table.slots }
+    requires { FitsLeave a letters.items parts.old }
     ensures state { (program : Program) (options : Options)
         → next (state_of program options parts.old) (leave_event a)
         ≡ Goes (state_of program options parts.new) }

@@ -3,6 +3,7 @@
 
 mod blocks;
 mod collects;
+mod fault;
 mod goes;
 mod hears;
 mod leaves;
@@ -11,3 +12,5 @@ mod parts;
 mod reaps;
 mod scans;
 mod takes;
+
+pub use fault::StepFault;

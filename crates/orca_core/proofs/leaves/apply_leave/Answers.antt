@@ -10,7 +10,7 @@ use Rattle.orca_core.proofs.leaves.apply_leave.Goals as goal
 pub returns-clause-state : goal.returns-clause-state
 returns-clause-state c = λ program options.
     let slots = c.args.parts.now.table.slots in
-    let cell = c.requires.can.cell in
+    let cell = c.requires.cell in
     leave_goes (state_of program options c.args.parts.now) c.args.a (as_cell cell) (slot_at slots c.args.a).mail.letters
-    c.args.letters.items (actors_of c.push_all.new.table.slots) (seat_here slots c.args.a cell c.requires.can.home)
-    c.requires.can.so.0 c.requires.can.so.1 (c.push_all.ensures.actors ∙ ap (push_all c.args.letters.items) c.clear.ensures.actors)
+    c.args.letters.items (actors_of c.push_all.new.table.slots) (seat_here slots c.args.a cell c.requires.home)
+    c.requires.may c.requires.returns (c.push_all.ensures.actors ∙ ap (push_all c.args.letters.items) c.clear.ensures.actors)
