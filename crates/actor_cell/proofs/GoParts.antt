@@ -48,19 +48,19 @@ next-send_one me e h = elim (owner_of e.0 == me) as (λ b. (cond b (raise 1 e.0 
   | false ↦ next_set_held (λ n. n - 1) e.0 (entry_row (m.get h.foreign e.0)) h
 ]
 
-next-send : (me : ℕ) (load : List Loaded) (h : Holdings) → (send me load h).next ≡ h.next
+pub next-send : (me : ℕ) (load : List Loaded) (h : Holdings) → (send me load h).next ≡ h.next
 unfolding send
 next-send me [] h = refl
 next-send me (e ∷ load) h = next-send me load (send_one me e h) ∙ next-send_one me e h
 
-next-mint_all : (things : List Amount) (h : Holdings) → (mint_all things h).next ≡ h.next
+pub next-mint_all : (things : List Amount) (h : Holdings) → (mint_all things h).next ≡ h.next
 unfolding mint_all
 next-mint_all [] h = refl
 next-mint_all (e ∷ things) h = next-mint_all things (mint_one e h) ∙ next_set_held (λ n. n + e.1) e.0 (entry_row (m.get h.foreign e.0)) h
 
 -- ---- one turn
 
-set_twice : {A : Type 0} (xs : List A) (a : ℕ) (x y : A) → set (set xs a x) a y ≡ set xs a y
+pub set_twice : {A : Type 0} (xs : List A) (a : ℕ) (x y : A) → set (set xs a x) a y ≡ set xs a y
 set_twice [] a x y = refl
 set_twice (z ∷ xs) zero x y = refl
 set_twice (z ∷ xs) (suc a) x y = ap (λ ys. z ∷ ys) (set_twice xs a x y)

@@ -1,3 +1,5 @@
 pub mod Giving
+pub mod Gone
+pub mod Naming
 pub mod Posting
 pub mod Stepped

@@ -1,4 +1,5 @@
 pub mod Faults
 pub mod Fits
+pub mod Goes
 pub mod Letters
 pub mod Parts

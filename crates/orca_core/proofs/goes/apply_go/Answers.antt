@@ -1,0 +1,61 @@
+use Rattle.std.proofs.Common.{◌≡◌, ◌<◌, Some, IsSome, length, refl, ap, subst, sym, ◌∙◌, arith}
+use Rattle.std.proofs.lemmas.List.{length-map}
+use Rattle.event_rule.specs.Runs.{Goes}
+use Rattle.actor_cell.specs.Goes.{turned_in}
+use Rattle.actor_cell.specs.Cells.{as_cell}
+use Rattle.actor_table.specs.Slots.{actors_of, seat_of, slot_at}
+use Rattle.actor_table.specs.Changes.{changed_at, moved, with_cell_by}
+use Rattle.actor_table.proofs.Changing.{home_within}
+use Rattle.orca_core.specs.Goes.{given}
+use Rattle.orca_core.specs.Parts.{state_of}
+use Rattle.orca_core.proofs.Giving.{seat_here}
+use Rattle.orca_core.proofs.Gone.{go_goes}
+use Rattle.orca_core.proofs.Naming.{can_name, fits_limit}
+use Rattle.orca_core.proofs.goes.apply_go.Goals as goal
+
+pub go-requires : goal.go-requires
+go-requires c =
+    let fits = c.requires.fits in
+    let allow = c.requires.can fits.cell fits.home in
+    record {
+      cell = fits.cell;
+      home = fits.home;
+      running = subst IsSome (sym fits.framed) refl;
+      can = allow.can;
+      objects = fits.objects;
+      entries = fits.entries;
+      serials = omega (arith, fits.few, allow.serials);
+    }
+
+pub give_out-requires-clause-can : goal.give_out-requires-clause-can
+give_out-requires-clause-can c =
+    let fits = c.requires.fits in
+    let slots = c.args.parts.now.table.slots in
+    let a = c.args.a in
+    can_name c.args.weight a fits.cell fits.frame c.args.parts.now.turn c.args.found.place (slot_at slots a).mail.letters slots c.go.new.self.slots
+    (seat_here slots a fits.cell fits.home) fits.framed (c.requires.can fits.cell fits.home).unnamed (home_within slots a fits.cell fits.home) c.requires.light
+    c.args.found.act c.go.ensures.actors c.go.ensures.entry
+
+pub returns : goal.returns
+returns c = record {
+  state = λ options weight trace.
+      let fits = c.requires.fits in
+      let slots = c.args.parts.now.table.slots in
+      let a = c.args.a in
+      let s = state_of c.args.code.now options c.args.parts.now in
+      let cell = as_cell fits.cell in
+      let program = c.args.code.now in
+      let act = c.args.found.act in
+      let made = length c.args.parts.now.turn.made in
+      go_goes s a cell (slot_at slots a).mail.letters fits.frame c.args.parts.now.turn c.args.found.place act
+      (record {
+        present = seat_here slots a fits.cell fits.home;
+        framed = fits.framed;
+        found = ap (λ t. turned_in t options.weight program a cell fits.frame) trace
+            ∙ ap (λ w. turned_in c.args.trace w program a cell fits.frame) weight ∙ fits.found_is;
+      })
+      (fits_limit act c.args.parts.now fits.room) (omega (arith, home_within slots a fits.cell fits.home, length-map slots seat_of))
+      ∙ ap Goes (ap (λ w. given w program a act made (record s { actors = changed_at (with_cell_by (moved a c.args.parts.now.turn c.args.found.place act)) a s.actors })) weight
+      ∙ ap (λ xs. given c.args.weight program a act made (record s { actors = xs })) (sym c.go.ensures.actors)
+      ∙ sym (c.give_out.ensures.state options));
+}
