@@ -207,9 +207,11 @@ pub(crate) fn reserve_bits(
 }
 
 /// Takes the memory for so many letters to the actor, if it is present.
-#[tactic(auto, using(crate::proofs::Changing::places_kept, crate::proofs::Changing::letters_kept, crate::proofs::Changing::seat_read, crate::proofs::Changing::room_kept))]
+#[tactic(auto, using(crate::proofs::Changing::places_kept, crate::proofs::Changing::letters_kept, crate::proofs::Changing::seat_read, crate::proofs::Changing::room_kept, crate::proofs::Changing::actors_kept, crate::proofs::Changing::away_kept))]
 pub(crate) fn reserve_letters_at(slots: &mut Vec<Slot>, a: usize, n: usize) -> Result<(), NoMemory>
     requires within { a < length slots.old.items }
+    ensures actors { actors_of slots.new.items ≡ actors_of slots.old.items }
+    ensures away { away_of slots.new.items ≡ away_of slots.old.items }
     ensures places { places_of slots.new.items ≡ places_of slots.old.items }
     ensures letters { letters_in slots.new.items ≡ letters_in slots.old.items }
     ensures seat { seat_of (slot_at slots.new.items a) ≡ seat_of (slot_at slots.old.items a) }

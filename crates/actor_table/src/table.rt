@@ -1,6 +1,6 @@
 // The table.
 
-ghost use Rattle.std.specs.Prelude.{◌≡◌, ◌==◌, ◌+◌, ◌<◌, ◌≤◌, ◌++◌, ◌∷◌, ◌≢◌, [], ℕ, Bool, false, length, List, if◌then◌else◌, is_some, option_map, position, IsSome, IsSomeAnd, OnOk, Some, None, set, true, ⊤};
+ghost use Rattle.std.specs.Prelude.{◌≡◌, ◌==◌, ◌+◌, ◌<◌, ◌≤◌, ◌++◌, ◌∷◌, ◌≢◌, [], ℕ, Bool, false, length, List, if◌then◌else◌, is_some, option_map, position, IsSome, IfSome, IsSomeAnd, OnOk, Some, None, set, true, ⊤};
 ghost use Rattle.std.specs.Option.{option_copied};
 ghost use Rattle.orca_names.specs.declared.trace.Trace.{Trace as tracing};
 ghost use Rattle.turn_rules.specs.declared.act.Frame.{Frame as frame_of_rules};
@@ -92,7 +92,8 @@ impl ActorTable {
 
     /// The cell of an actor; `None` exactly where the actor is not present or its cell is away.
     pub fn cell(&self, a: ActorName) -> Option<&Cell>
-        ensures { option_copied result ≡ home_of (slot_at self.now.slots a) }
+        ensures cell { option_copied result ≡ home_of (slot_at self.now.slots a) }
+        ensures owner { IfSome result (λ c. c.now.heap.owner ≡ a) }
     {
         match self.slots.get(a.0 as usize) {
             Some(slot) => cell_of(slot),
@@ -194,6 +195,8 @@ impl ActorTable {
     /// `NoMemory` where memory was refused.
     #[tactic(auto, using(crate::proofs::Changing::index_stays))]
     pub fn reserve_letters(&mut self, to: ActorName, n: usize) -> Result<(), NoMemory>
+        ensures actors { actors_of self.new.slots ≡ actors_of self.old.slots }
+        ensures away { away_of self.new.slots ≡ away_of self.old.slots }
         ensures places { places_of self.new.slots ≡ places_of self.old.slots }
         ensures letters { letters_in self.new.slots ≡ letters_in self.old.slots }
         ensures room { KeepsRoom self.old.slots self.new.slots }

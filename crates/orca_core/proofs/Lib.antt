@@ -2,4 +2,5 @@ pub mod Giving
 pub mod Gone
 pub mod Naming
 pub mod Posting
+pub mod Prepared
 pub mod Stepped

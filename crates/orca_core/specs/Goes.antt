@@ -1,5 +1,5 @@
 -- What a turn that was found asks of the machine.
-use Rattle.std.specs.Prelude.{ℕ, ◌≡◌, ◌+◌, ◌<◌, ◌≤◌, ◌^◌, ⊤, true, is_some, List, [], ◌∷◌, ◌++◌, length, Option, None, Some, IsSome, vec_capacity, vec_len}
+use Rattle.std.specs.Prelude.{ℕ, ◌≡◌, ◌+◌, ◌<◌, ◌≤◌, ◌^◌, ⊤, true, is_some, List, [], ◌∷◌, ◌++◌, length, Option, None, Some, IsSome, option_map, vec_capacity, vec_len}
 use Rattle.std.specs.FinMap as m
 use Rattle.orca_names.specs.declared.limits.TheConstants.{ACTORS_LIMIT, BODY_LIMIT}
 use Rattle.orca_names.specs.declared.names.Thing.TheVariants.{Actor}
@@ -8,6 +8,7 @@ use Rattle.behaviour_code.specs.declared.code.Program.{Program}
 use Rattle.turn_rules.specs.declared.act.Frame.{Frame}
 use Rattle.letter_kinds.specs.declared.letter.Letter.TheVariants.{Inc}
 use Rattle.machine_rules.specs.Actors.{push_letter, seat, seat_at}
+use Rattle.turn_rules.specs.Segment.{Turn}
 use Rattle.machine_rules.specs.Cell.{fresh_cell}
 use Rattle.machine_rules.specs.State.{State}
 use Rattle.actor_cell.specs.declared.cell.Cell.{Cell}
@@ -20,6 +21,8 @@ use Rattle.actor_table.specs.declared.slot.Slot.{Slot}
 use Rattle.actor_table.specs.declared.slot.Place.TheVariants.{Home}
 use Rattle.actor_table.specs.Changes.{CanSettleNew, changed_at, with_cell_by}
 use Rattle.actor_table.specs.Slots.{actors_of, slot_at}
+use Rattle.orca_core.specs.declared.fault.StepFault.{StepFault}
+use Rattle.orca_core.specs.declared.fault.StepFault.TheVariants as faults
 use Rattle.orca_core.specs.declared.parts.Parts.{Parts}
 
 -- an actor that is present has room for a letter
@@ -35,6 +38,18 @@ HasRoomOut (New kind register) m =
     (length m.table.slots < ACTORS_LIMIT) × (0 < m.table.spare)
 HasRoomOut (Print value) m = vec_len m.prints < vec_capacity m.prints
 HasRoomOut End m = ⊤
+
+-- this was found of the turn of the cell, which has a frame
+abbrev pub IsFoundGo : Trace → ℕ → Program → ℕ → Turn → Turned → Cell → Type 0
+IsFoundGo trace weight program a turn found c =
+    option_map (turned_in trace weight program a (as_cell c)) c.frame
+    ≡ Some (record { turn = turn; place = found.place; act = found.act })
+
+-- no turn was found: no cell is at home that has a frame, or memory was refused
+abbrev pub NotGoing : Slot → StepFault → Type 0
+NotGoing x faults.NotEnabled = (c : Cell) → x.place ≡ Home c → c.frame ≡ None
+NotGoing x (faults.ActorsFull b) = ⊥
+NotGoing x faults.NoMemory = ⊤
 
 -- this was found of the actor's turn, and there is room for it
 pub record FitsGo (trace : Trace) (weight : ℕ) (program : Program) (a : ℕ) (found : Turned)

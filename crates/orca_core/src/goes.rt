@@ -1,6 +1,6 @@
 // Go: a frame runs up to its next act.
 
-ghost use Rattle.std.specs.Prelude.{◌≡◌, ◌+◌, ◌<◌, ◌≤◌, ◌^◌, ◌++◌, ◌∷◌, [], length, IsSome, None};
+ghost use Rattle.std.specs.Prelude.{◌≡◌, ◌+◌, ◌<◌, ◌≤◌, ◌^◌, ◌++◌, ◌∷◌, [], is_some, length, IfErr, IfOk, IsSome, OnOk, None};
 ghost use Rattle.std.specs.FinMap as m;
 ghost use Rattle.orca_names.specs.declared.limits.TheConstants.{ACTORS_LIMIT, BODY_LIMIT};
 ghost use Rattle.event_rule.specs.Runs.{Goes};
@@ -12,20 +12,113 @@ ghost use Rattle.machine_rules.specs.Options.{Options};
 ghost use Rattle.actor_cell.specs.Cells.{settled};
 ghost use Rattle.actor_cell.specs.declared.cell.Cell.{Cell as a_cell};
 ghost use Rattle.actor_table.specs.declared.slot.Place.TheVariants.{Home};
-ghost use Rattle.actor_table.specs.Changes.{CanSettleNew, changed_at, with_cell_by};
-ghost use Rattle.actor_table.specs.Slots.{actors_of, away_of, slot_at};
+ghost use Rattle.actor_table.specs.Changes.{CanSettleNew, HasCell, changed_at, with_cell_by};
+ghost use Rattle.actor_table.specs.Slots.{actors_of, is_away, places_of, slot_at};
 ghost use Rattle.ref_weights.specs.Limit.{count_limit};
-ghost use Rattle.orca_core.specs.Goes.{CanNameNew, CountsAllow, FitsGo, HasRoomOut, given};
+ghost use Rattle.actor_cell.specs.Goes.{out_of};
+ghost use Rattle.orca_core.specs.Faults.{Faulted};
+ghost use Rattle.orca_core.specs.Fits.{OnlyRoom};
+ghost use Rattle.orca_core.specs.Goes.{CanNameNew, CountsAllow, FitsGo, HasRoomOut, IsFoundGo, NotGoing, given};
 ghost use Rattle.orca_core.specs.Parts.{state_of};
 
+use crate::fault::StepFault;
 use crate::parts::Parts;
 use actor_cell::{Cell, Move, Turned};
 use actor_table::ActorTable;
 use behaviour_check::Checked;
 use letter_kinds::Letter;
 use mail_rows::MailRow;
-use orca_names::{ActorName, Trace};
+use orca_names::{ACTORS_LIMIT, ActorName, NoMemory, Trace};
 use std::alloc::Global;
+use turn_step::Turn;
+
+// What is found of the actor's turn, in this room for a turn.
+fn find_go(
+    alloc: Global,
+    code: &Checked,
+    weight: u32,
+    trace: Trace,
+    table: &ActorTable,
+    turn: &mut Turn,
+    a: ActorName,
+) -> Result<Turned, StepFault>
+    requires serials { (c : a_cell) → (slot_at table.now.slots a).place ≡ Home c
+        → c.heap.next + BODY_LIMIT < 2 ^ 64 }
+    ensures found { IfOk result (λ found. HasCell (slot_at table.now.slots a)
+        (IsFoundGo trace weight code.now a turn.new found)) }
+    ensures few { OnOk result (length turn.new.made ≤ BODY_LIMIT) }
+    ensures fault { IfErr result (NotGoing (slot_at table.now.slots a)) }
+{
+    let Some(cell) = table.cell(a) else {
+        return Err(StepFault::NotEnabled);
+    };
+    if !cell.frame.is_some() {
+        return Err(StepFault::NotEnabled);
+    }
+    match cell.found_go(alloc, code, weight, trace, turn) {
+        Ok(found) => Ok(found),
+        Err(NoMemory) => Err(StepFault::NoMemory),
+    }
+}
+
+// Takes the memory for what the act gives out.
+fn reserve_out(parts: &mut Parts, act: &Move) -> Result<(), NoMemory>
+    requires { IsSome (out_of act.now).made → length parts.old.table.slots < ACTORS_LIMIT }
+    ensures same { OnlyRoom parts.old parts.new }
+    ensures places { places_of parts.new.table.slots ≡ places_of parts.old.table.slots }
+    ensures turn { parts.new.turn ≡ parts.old.turn }
+    ensures ok { OnOk result (HasRoomOut act.now parts.new) }
+{
+    match act {
+        Move::Post { to, letter: _ } => parts.table.reserve_letters(*to, 1),
+        Move::Mint { owner, things: _ } => parts.table.reserve_letters(*owner, 1),
+        Move::New {
+            kind: _,
+            register: _,
+        } => parts.table.reserve_actor(),
+        Move::Print { value: _ } => Ok(parts.prints.reserve(1)?),
+        Move::End => Ok(()),
+    }
+}
+
+// Whether the act makes an actor.
+fn makes(act: &Move) -> bool
+    ensures { result ≡ is_some (out_of act.now).made }
+{
+    matches!(
+        act,
+        Move::New {
+            kind: _,
+            register: _
+        }
+    )
+}
+
+/// Finds the actor's turn, and takes all memory for what it does; the state stays as it was.
+pub(crate) fn prepare_go(
+    alloc: Global,
+    code: &Checked,
+    weight: u32,
+    trace: Trace,
+    parts: &mut Parts,
+    a: ActorName,
+) -> Result<Turned, StepFault>
+    requires serials { (c : a_cell) → (slot_at parts.old.table.slots a).place ≡ Home c
+        → c.heap.next + BODY_LIMIT < 2 ^ 64 }
+    ensures same { OnlyRoom parts.old parts.new }
+    ensures ok { IfOk result (λ found. FitsGo trace weight code.now a found parts.new) }
+    ensures fault { (options : Options) → options.weight ≡ weight → options.trace ≡ trace →
+        let outcome = next (state_of code.now options parts.old) (go_event a) in
+        IfErr result (Faulted (is_away (slot_at parts.old.table.slots a)) outcome a) }
+{
+    let found = find_go(alloc, code, weight, trace, &parts.table, &mut parts.turn, a)?;
+    if makes(&found.act) && parts.table.len() >= ACTORS_LIMIT {
+        return Err(StepFault::ActorsFull { actor: a });
+    }
+    parts.table.reserve_go(a, &parts.turn, &found)?;
+    reserve_out(parts, &found.act)?;
+    Ok(found)
+}
 
 impl Parts {
     // The turn's objects count as made.
