@@ -314,7 +314,7 @@ pub(crate) fn push_letter(slot: &mut Slot, letter: Letter)
     ensures place { slot.new.place ≡ slot.old.place }
     ensures room { slot.old.mail.spare ≤ slot.new.mail.spare + 1 }
 {
-    if let Place::Gone = &slot.place {
+    if !is_present(slot) {
         return;
     }
     slot.mail.push(letter);

@@ -249,6 +249,7 @@ impl ActorTable {
         ensures actors { actors_of self.new.slots
             ≡ changed_at (taken code.now a) a (actors_of self.old.slots) }
         ensures note { result ≡ note_taken a (seat_at (actors_of self.old.slots) a) }
+        ensures spare { self.new.spare ≡ self.old.spare }
         ensures away { away_of self.new.slots ≡ away_of self.old.slots }
         ensures room { KeepsRoom self.old.slots self.new.slots }
     {
@@ -293,6 +294,7 @@ impl ActorTable {
             → IsSomeAnd (home_of (slot_at self.old.slots a)) (λ c. found.now ≡ sweep_of trace c)
             → actors_of self.new.slots
             ≡ changed_at (with_cell_by (swept trace a)) a (actors_of self.old.slots) }
+        ensures spare { self.new.spare ≡ self.old.spare }
         ensures away { away_of self.new.slots ≡ away_of self.old.slots }
         ensures room { KeepsRoom self.old.slots self.new.slots }
     {
@@ -305,6 +307,7 @@ impl ActorTable {
         requires { HasCell (slot_at self.old.slots a) (λ c. ⊤) }
         ensures actors { actors_of self.new.slots
             ≡ changed_at (with_cell_by told) a (actors_of self.old.slots) }
+        ensures spare { self.new.spare ≡ self.old.spare }
         ensures away { away_of self.new.slots ≡ away_of self.old.slots }
         ensures room { KeepsRoom self.old.slots self.new.slots }
     {
@@ -318,6 +321,7 @@ impl ActorTable {
         requires { is_some (seat_at (actors_of self.old.slots) to) ≡ true
             → 0 < (slot_at self.old.slots to).mail.spare }
         ensures actors { actors_of self.new.slots ≡ push_letter to letter (actors_of self.old.slots) }
+        ensures spare { self.new.spare ≡ self.old.spare }
         ensures away { away_of self.new.slots ≡ away_of self.old.slots }
         ensures room { (b : ℕ) → (slot_at self.old.slots b).mail.spare
             ≤ (slot_at self.new.slots b).mail.spare + (if b == to then 1 else 0) }
@@ -332,6 +336,7 @@ impl ActorTable {
     /// The actor goes, with its cell and its letters. It takes no memory.
     pub fn clear(&mut self, alloc: Global, a: ActorName)
         ensures actors { actors_of self.new.slots ≡ set (actors_of self.old.slots) a None }
+        ensures spare { self.new.spare ≡ self.old.spare }
         ensures away { away_of self.new.slots ≡ set (away_of self.old.slots) a false }
         ensures room { (b : ℕ) → b ≢ a → slot_at self.new.slots b ≡ slot_at self.old.slots b }
     {

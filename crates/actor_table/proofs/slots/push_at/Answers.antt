@@ -13,6 +13,8 @@ returns-clause-changed c =
 pub returns-clause-actors : goal.returns-clause-actors
 returns-clause-actors c =
     let slots = c.args.slots.now.items in
-    actors_set slots c.args.a c.push_letter.new.slot (with_letter_more c.args.letter (seat_at (actors_of slots) c.args.a))
-    (c.push_letter.ensures.seat ∙ ap (λ x. with_letter_more c.args.letter (seat_of x)) (c.index_mut.ensures.value ∙ get_or_default slots c.args.a c.index_mut.result.now gone c.requires.within) ∙ ap (with_letter_more c.args.letter) (sym (seat_read slots c.args.a)))
-    ∙ sym (pushed c.args.a c.args.letter (actors_of slots))
+    let letter = c.args.letter in
+    let read = c.index_mut.ensures.value ∙ get_or_default slots c.args.a c.index_mut.result.now gone c.requires.within in
+    let seat = ap (λ x. with_letter_more letter (seat_of x)) read ∙ ap (with_letter_more letter) (sym (seat_read slots c.args.a)) in
+    actors_set slots c.args.a c.push_letter.new.slot (with_letter_more letter (seat_at (actors_of slots) c.args.a))
+    (c.push_letter.ensures.seat ∙ seat) ∙ sym (pushed c.args.a letter (actors_of slots))
