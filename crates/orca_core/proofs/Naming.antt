@@ -27,7 +27,7 @@ use Rattle.orca_core.specs.Goes.{CanNameNew, HasRoomOut}
 use Rattle.orca_core.proofs.Gone.{FitsLimit}
 use Rattle.orca_core.proofs.Giving.{seat_here}
 
-home_place : (place : Place) (c : Cell) → home_in place ≡ Some c → place ≡ Home c
+pub home_place : (place : Place) (c : Cell) → home_in place ≡ Some c → place ≡ Home c
 home_place (Home d) c is = ap Home (let z : Some d ≡ Some c = is in cc)
 home_place (Away d) c is = cc
 home_place Gone c is = cc

@@ -1,7 +1,14 @@
 -- A turn that was found, and what it takes to be prepared.
-use Rattle.std.proofs.Common.{◌≡◌, ◌⊎◌, inl, inr, ℕ, Bool, true, false, List, Option, None, Some, refl, sym, ap, subst, ◌∙◌}
-use Rattle.std.specs.Prelude.{if◌then◌else◌, is_some, option_map, IfErr}
+use Rattle.std.proofs.Common.{◌≡◌, ◌≤◌, ◌⊎◌, inl, inr, ℕ, Bool, true, false, List, length, get_or, Option, None, Some, refl, sym, ap, subst, ◌∙◌}
+use Rattle.std.specs.Prelude.{if◌then◌else◌, is_err, is_some, option_map, OnOk}
+use Rattle.std.specs.declared.result.Result.{Result}
+use Rattle.std.specs.declared.result.Result.TheVariants.{Ok, Err}
 use Rattle.std.specs.Option.{option_map_or}
+use Rattle.std.proofs.Math.ListN.{get_or-map}
+use Rattle.orca_names.specs.declared.limits.TheConstants.{BODY_LIMIT}
+use Rattle.behaviour_code.specs.declared.code.Program.{Program}
+use Rattle.turn_rules.specs.Segment.{Turn}
+use Rattle.turn_rules.specs.declared.act.Frame.{Frame}
 use Rattle.event_rule.specs.Runs.{NotEnabled, Step}
 use Rattle.letter_kinds.specs.declared.letter.Letter.{Letter}
 use Rattle.machine_rules.specs.Actors.{Actors, Seat, seat, seat_at}
@@ -12,17 +19,26 @@ use Rattle.machine_rules.specs.Next.{acting}
 use Rattle.machine_rules.specs.State.{State}
 use Rattle.orca_names.specs.declared.trace.Trace.{Trace}
 use Rattle.actor_cell.specs.declared.cell.Cell.{Cell}
+use Rattle.actor_cell.specs.declared.turning.Turned.{Turned}
 use Rattle.actor_cell.specs.Cells.{as_cell}
+use Rattle.actor_cell.specs.Goes.{turned_in}
 use Rattle.actor_table.specs.declared.slot.Slot.{Slot}
 use Rattle.actor_table.specs.declared.slot.Place.{Place}
 use Rattle.actor_table.specs.declared.slot.Place.TheVariants.{Home, Away, Gone}
-use Rattle.actor_table.specs.Changes.{HasCell}
-use Rattle.actor_table.specs.Slots.{actors_of, is_away, is_away_in, seat_in, seat_of, slot_at}
+use Rattle.actor_table.specs.Changes.{HasCell, HasRoomToGo}
+use Rattle.actor_table.specs.Slots.{Table, actors_of, away_of, gone, is_away, is_away_in, places_of, seat_in, seat_of, slot_at}
 use Rattle.actor_table.proofs.Changing.{seat_read}
 use Rattle.orca_core.specs.Faults.{Faulted}
-use Rattle.orca_core.specs.Goes.{NotGoing}
+use Rattle.orca_core.specs.Fits.{OnlyRoom}
+use Rattle.orca_core.specs.Goes.{FitsGo, HasRoomOut, IsFoundGo, NotGoing}
+use Rattle.orca_core.specs.Parts.{state_of}
+use Rattle.orca_core.specs.declared.parts.Parts.{Parts}
+use Rattle.orca_core.proofs.Giving.{seat_here}
 use Rattle.orca_core.specs.declared.fault.StepFault.{StepFault}
 use Rattle.orca_core.specs.declared.fault.StepFault.TheVariants as faults
+
+some_same : {A : Type 0} {x y : A} → Some x ≡ Some y → x ≡ y
+some_same {A} {x} e = ap (λ o. option_map_or (λ z. z) o x) e
 
 -- an actor that is present and not away has its cell at home
 pub at_home : (slots : List Slot) (a : ℕ) (c : rules.Cell) (mail : List Letter) → seat_at (actors_of slots) a ≡ seat c mail
@@ -62,3 +78,68 @@ not_going trace s slots a faults.NotEnabled same none = by (slot_at slots a).pla
     by Gone is = inr (ap (acting may_go (go trace s a)) (read ∙ ap (λ p. seat_in p x.mail.letters) is))
 not_going trace s slots a (faults.ActorsFull b) same none = absurd none
 not_going trace s slots a faults.NoMemory same none = tt
+
+-- ---- one after another
+
+-- what comes with Ok, where there is no Err
+pub when_ok : {A E P : Type 0} (r : Result A E) → false ≡ is_err r → OnOk r P → P
+when_ok (Ok x) none so = so
+when_ok (Err x) none so = cc
+
+pub only_room_then : (one two three : Parts) → OnlyRoom one two → OnlyRoom two three → OnlyRoom one three
+only_room_then one two three first second =
+    record { state = λ p o. second.state p o ∙ first.state p o; away = second.away ∙ first.away }
+
+-- the table has more room, and the room for a turn is used
+pub table_room : (m : Parts) (table : Table) (turn : Turn) → actors_of table.slots ≡ actors_of m.table.slots → away_of table.slots ≡ away_of m.table.slots
+    → OnlyRoom m (record m { table = table; turn = turn })
+table_room m table turn actors away =
+    record { state = λ p o. ap (λ xs. record (state_of p o m) { actors = xs }) actors; away = away }
+
+away_read : (slots : List Slot) (a : ℕ) → get_or (away_of slots) a false ≡ is_away (slot_at slots a)
+away_read slots a = get_or-map is_away slots a gone
+
+place_read : (slots : List Slot) (a : ℕ) → get_or (places_of slots) a Gone ≡ (slot_at slots a).place
+place_read slots a = get_or-map (λ (x : Slot). x.place) slots a gone
+
+-- what was found fits, once the memory was taken
+module _ (trace : Trace) (weight : ℕ) (program : Program) (a : ℕ) (found : Turned) (old : List Slot) (turn : Turn) (mid : List Slot) (m : Parts) where
+  fits_with : (c : Cell) → (slot_at old a).place ≡ Home c → (frame : Frame) → c.frame ≡ Some frame
+      → turned_in trace weight program a (as_cell c) frame ≡ record { turn = turn; place = found.place; act = found.act }
+      → (x : Cell) → (slot_at mid a).place ≡ Home x → as_cell x ≡ as_cell c
+      → HasRoomToGo turn found.act (slot_at mid a) → places_of m.table.slots ≡ places_of mid → m.turn ≡ turn
+      → HasRoomOut found.act m → length turn.made ≤ BODY_LIMIT
+      → FitsGo trace weight program a found m
+  fits_with c home frame framed is x at same room places kept out few =
+      let sizes = room x at in
+      record {
+        cell = x;
+        home = sym (place_read m.table.slots a) ∙ ap (λ ps. get_or ps a Gone) places ∙ place_read mid a ∙ at;
+        frame = frame;
+        framed = ap (λ (y : rules.Cell). y.frame) same ∙ framed;
+        found_is = ap (λ y. turned_in trace weight program a y frame) same ∙ is ∙ ap (λ t. record { turn = t; place = found.place; act = found.act }) (sym kept);
+        few = subst (λ (t : Turn). length t.made ≤ BODY_LIMIT) (sym kept) few;
+        objects = subst (λ (t : Turn). length t.made ≤ x.heap.spare) (sym kept) sizes.0;
+        entries = sizes.1;
+        room = out;
+      }
+
+  pub fits_go : HasCell (slot_at old a) (IsFoundGo trace weight program a turn found)
+      → actors_of mid ≡ actors_of old → away_of mid ≡ away_of old
+      → HasRoomToGo turn found.act (slot_at mid a) → places_of m.table.slots ≡ places_of mid → m.turn ≡ turn
+      → HasRoomOut found.act m → length turn.made ≤ BODY_LIMIT
+      → FitsGo trace weight program a found m
+  fits_go cell actors away room places kept out few =
+      let c = cell.cell in
+      let home : is_away (slot_at mid a) ≡ false =
+      sym (away_read mid a) ∙ ap (λ bs. get_or bs a false) away ∙ away_read old a ∙ ap is_away_in cell.home in
+      let x = at_home mid a (as_cell c) (slot_at old a).mail.letters (ap (λ xs. seat_at xs a) actors ∙ seat_here old a c cell.home) home in
+      by c.frame refl cell.so x
+    where
+      by : (f : Option Frame) → cell.cell.frame ≡ f
+          → option_map (turned_in trace weight program a (as_cell cell.cell)) f ≡ Some (record { turn = turn; place = found.place; act = found.act })
+          → HasCell (slot_at mid a) (λ x. as_cell x ≡ as_cell cell.cell) → FitsGo trace weight program a found m
+      by None framed is x = cc
+      by (Some frame) framed is x =
+          let its : turned_in trace weight program a (as_cell cell.cell) frame ≡ record { turn = turn; place = found.place; act = found.act } = some_same is in
+          fits_with cell.cell cell.home frame framed its x.cell x.home x.so room places kept out few

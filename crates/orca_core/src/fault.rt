@@ -1,6 +1,6 @@
 // Why a step is refused.
 
-use orca_names::{ActorName, NoMemory};
+use orca_names::ActorName;
 use thiserror::Error;
 
 /// Why the machine refused an event.
@@ -15,10 +15,4 @@ pub enum StepFault {
     /// Memory was refused.
     #[error("out of memory")]
     NoMemory,
-}
-
-impl From<NoMemory> for StepFault {
-    fn from(_fault: NoMemory) -> StepFault {
-        StepFault::NoMemory
-    }
 }

@@ -111,12 +111,19 @@ pub(crate) fn prepare_go(
         let outcome = next (state_of code.now options parts.old) (go_event a) in
         IfErr result (Faulted (is_away (slot_at parts.old.table.slots a)) outcome a) }
 {
-    let found = find_go(alloc, code, weight, trace, &parts.table, &mut parts.turn, a)?;
+    let found = match find_go(alloc, code, weight, trace, &parts.table, &mut parts.turn, a) {
+        Ok(found) => found,
+        Err(fault) => return Err(fault),
+    };
     if makes(&found.act) && parts.table.len() >= ACTORS_LIMIT {
         return Err(StepFault::ActorsFull { actor: a });
     }
-    parts.table.reserve_go(a, &parts.turn, &found)?;
-    reserve_out(parts, &found.act)?;
+    if parts.table.reserve_go(a, &parts.turn, &found).is_err() {
+        return Err(StepFault::NoMemory);
+    }
+    if reserve_out(parts, &found.act).is_err() {
+        return Err(StepFault::NoMemory);
+    }
     Ok(found)
 }
 
