@@ -1,3 +1,4 @@
 pub mod Giving
 pub mod Posting
+pub mod Preparing
 pub mod Stepped
