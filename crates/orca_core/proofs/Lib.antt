@@ -1,4 +1,5 @@
 pub mod Giving
 pub mod Posting
 pub mod Preparing
+pub mod Reserving
 pub mod Stepped
