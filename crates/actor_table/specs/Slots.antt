@@ -7,6 +7,7 @@ use Rattle.event_rule.specs.declared.event.Event.TheVariants.{Take, Go, Collect,
 use Rattle.letter_kinds.specs.declared.letter.Letter.{Letter}
 use Rattle.mail_rows.specs.Mail.{Mail}
 use Rattle.machine_rules.specs.Actors.{Actors, Seat, seat}
+use Rattle.machine_rules.specs.Cell as rules
 use Rattle.machine_rules.specs.Guards.{may_block, may_collect, may_go, may_leave, may_take}
 use Rattle.actor_cell.specs.declared.cell.Cell.{Cell}
 use Rattle.actor_cell.specs.Cells.{as_cell}
@@ -72,6 +73,15 @@ can_act x = not (is_away x) && option_map_or acts (seat_of x) false
 
 abbrev pub can_settle : Slot → Bool
 can_settle x = not (is_away x) && option_map_or settles (seat_of x) false
+
+-- its cell is at home, and it may do so with its letters
+abbrev pub may_in : (rules.Cell → List Letter → Bool) → Place → List Letter → Bool
+may_in may (Home c) letters = may (as_cell c) letters
+may_in may (Away c) letters = false
+may_in may Gone letters = false
+
+abbrev pub may_at : (rules.Cell → List Letter → Bool) → Slot → Bool
+may_at may x = may_in may x.place x.mail.letters
 
 -- the first of its events, in the one-worker order
 abbrev pub event_in : ℕ → Seat → Option Event

@@ -14,7 +14,7 @@ ghost use Rattle.actor_cell.specs.Goes.{out_of};
 ghost use Rattle.actor_cell.specs.Sweeps.{sweep_of, swept};
 ghost use Rattle.actor_table.specs.Changes.{CanCollectHere, CanGoHere, CanSettleNew, CanTakeHere, HasCell, HasRoomToGo, HasRoomToTake, moved, note_taken, taken, told, with_cell_by};
 ghost use Rattle.actor_table.specs.declared.slot.Place.TheVariants.{Home};
-ghost use Rattle.actor_table.specs.Slots.{can_act, can_settle, event_in, event_of, home_of, is_away, mail_of, seat_of, IsOwnedBy};
+ghost use Rattle.actor_table.specs.Slots.{can_act, can_settle, event_in, event_of, home_of, is_away, mail_of, may_at, seat_of, IsOwnedBy};
 
 use actor_cell::{Cell, Sweep, Turned};
 use behaviour_check::Checked;
@@ -96,6 +96,50 @@ pub(crate) fn may_block(cell: &Cell, mail: &MailRow) -> bool
     ensures { result ≡ may_block (as_cell cell.now) mail.now.letters }
 {
     !cell.frame.is_some() && mail.is_empty() && !(cell.dirty || cell.fields.pinned || cell.reported)
+}
+
+/// Whether its cell is at home, and it may take a letter.
+pub(crate) fn can_take(slot: &Slot) -> bool
+    ensures { result ≡ may_at may_take slot.now }
+{
+    match &slot.place {
+        Place::Home(cell) => !cell.frame.is_some() && !slot.mail.is_empty(),
+        Place::Away(_) => false,
+        Place::Gone => false,
+    }
+}
+
+/// Whether its cell is at home, and it may collect.
+pub(crate) fn can_collect(slot: &Slot) -> bool
+    ensures { result ≡ may_at may_collect slot.now }
+{
+    match &slot.place {
+        Place::Home(cell) => may_collect(cell, &slot.mail),
+        Place::Away(_) => false,
+        Place::Gone => false,
+    }
+}
+
+/// Whether its cell is at home, and it may report.
+pub(crate) fn can_block(slot: &Slot) -> bool
+    ensures { result ≡ may_at may_block slot.now }
+{
+    match &slot.place {
+        Place::Home(cell) => may_block(cell, &slot.mail),
+        Place::Away(_) => false,
+        Place::Gone => false,
+    }
+}
+
+/// Whether its cell is at home, and it may leave.
+pub(crate) fn can_leave(slot: &Slot) -> bool
+    ensures { result ≡ may_at may_leave slot.now }
+{
+    match &slot.place {
+        Place::Home(cell) => may_block(cell, &slot.mail) && cell.count.get() == 0,
+        Place::Away(_) => false,
+        Place::Gone => false,
+    }
 }
 
 /// Whether it goes on or takes a letter.

@@ -1,12 +1,13 @@
 // The table.
 
-ghost use Rattle.std.specs.Prelude.{◌≡◌, ◌==◌, ◌+◌, ◌<◌, ◌≤◌, ◌++◌, ◌∷◌, ◌≢◌, [], ℕ, Bool, false, length, List, if◌then◌else◌, is_some, option_map, position, IsSome, IfSome, IsSomeAnd, OnOk, Some, None, set, true, ⊤};
+ghost use Rattle.std.specs.Prelude.{◌≡◌, ◌==◌, ◌+◌, ◌<◌, ◌≤◌, ◌++◌, ◌∷◌, ◌≢◌, [], ℕ, Bool, false, length, List, if◌then◌else◌, is_some, option_map, position, IfSome, IsSome, IsSomeAnd, OnOk, Some, None, set, true, ⊤};
 ghost use Rattle.std.specs.Option.{option_copied};
 ghost use Rattle.orca_names.specs.declared.trace.Trace.{Trace as tracing};
 ghost use Rattle.turn_rules.specs.declared.act.Frame.{Frame as frame_of_rules};
 ghost use Rattle.letter_kinds.specs.declared.letter.Letter.{Letter as a_letter};
 ghost use Rattle.machine_rules.specs.Actors.{push_letter, seat, seat_at};
 ghost use Rattle.machine_rules.specs.Cell.{Cell as cell_of_rules};
+ghost use Rattle.machine_rules.specs.Guards.{may_block, may_collect, may_leave, may_take};
 ghost use Rattle.machine_rules.specs.Take.{cell_after, note_of};
 ghost use Rattle.actor_cell.specs.Cells.{as_cell, settled};
 ghost use Rattle.actor_cell.specs.Goes.{out_of};
@@ -14,10 +15,11 @@ ghost use Rattle.orca_names.specs.declared.limits.TheConstants.{ACTORS_LIMIT};
 ghost use Rattle.actor_table.specs.declared.slot.Place.TheVariants.{Home};
 ghost use Rattle.actor_cell.specs.Sweeps.{sweep_of, swept};
 ghost use Rattle.actor_table.specs.Changes.{CanCollectHere, CanGoHere, CanSettleNew, CanTakeHere, HasCell, HasRoomToGo, HasRoomToTake, KeepsRoom, changed_at, moved, note_taken, taken, told, with_cell_by};
-ghost use Rattle.actor_table.specs.Slots.{actors_of, away_of, can_act, can_settle, event_of, home_of, is_away, letters_in, mail_of, places_of, slot_at};
+ghost use Rattle.actor_table.specs.Slots.{actors_of, away_of, can_act, can_settle, event_of, home_of, is_away, letters_in, mail_of, may_at, places_of, slot_at};
 
 use crate::slot::{
-    Place, Slot, can_act, can_settle, cell_of, is_away, is_present, mail_of, next_event,
+    Place, Slot, can_act, can_block, can_collect, can_leave, can_settle, can_take, cell_of,
+    is_away, is_present, mail_of, next_event,
 };
 use crate::slots::{
     block_at, clear_at, collect_at, go_at, lift_at, push_at, put_back_at, put_bits, reserve_bits,
@@ -117,6 +119,46 @@ impl ActorTable {
     {
         match self.slots.get(a.0 as usize) {
             Some(slot) => is_away(slot),
+            None => false,
+        }
+    }
+
+    /// Whether the cell of the actor is at home, and it may take a letter.
+    pub fn may_take(&self, a: ActorName) -> bool
+        ensures { result ≡ may_at may_take (slot_at self.now.slots a) }
+    {
+        match self.slots.get(a.0 as usize) {
+            Some(slot) => can_take(slot),
+            None => false,
+        }
+    }
+
+    /// Whether the cell of the actor is at home, and it may collect.
+    pub fn may_collect(&self, a: ActorName) -> bool
+        ensures { result ≡ may_at may_collect (slot_at self.now.slots a) }
+    {
+        match self.slots.get(a.0 as usize) {
+            Some(slot) => can_collect(slot),
+            None => false,
+        }
+    }
+
+    /// Whether the cell of the actor is at home, and it may leave.
+    pub fn may_leave(&self, a: ActorName) -> bool
+        ensures { result ≡ may_at may_leave (slot_at self.now.slots a) }
+    {
+        match self.slots.get(a.0 as usize) {
+            Some(slot) => can_leave(slot),
+            None => false,
+        }
+    }
+
+    /// Whether the cell of the actor is at home, and it may report that it is blocked.
+    pub fn may_block(&self, a: ActorName) -> bool
+        ensures { result ≡ may_at may_block (slot_at self.now.slots a) }
+    {
+        match self.slots.get(a.0 as usize) {
+            Some(slot) => can_block(slot),
             None => false,
         }
     }

@@ -1,5 +1,7 @@
 -- Room for the letters that an event gives out.
-use Rattle.std.specs.Prelude.{ℕ, ◌≡◌, ◌≤◌, ◌+◌, ◌==◌, true, if◌then◌else◌, is_some, List, [], ◌∷◌, map}
+use Rattle.std.specs.Prelude.{ℕ, ◌≡◌, ◌≤◌, ◌+◌, ◌==◌, true, if◌then◌else◌, is_some, unwrap_or, List, [], ◌∷◌, map}
+use Rattle.std.specs.BTreeMap.{BTreeMap, get}
+use Rattle.std.specs.Ordering.{nat_cmp}
 use Rattle.letter_kinds.specs.declared.letter.Letter.{Letter}
 use Rattle.letter_kinds.specs.declared.letter.Letter.TheVariants.{Confirm}
 use Rattle.machine_rules.specs.Actors.{seat_at}
@@ -10,6 +12,10 @@ use Rattle.actor_table.specs.Slots.{actors_of, slot_at}
 abbrev pub letters_to : ℕ → List (ℕ × Letter) → ℕ
 letters_to a [] = 0
 letters_to a (l ∷ letters) = (if l.0 == a then 1 else 0) + letters_to a letters
+
+-- how many to an actor are counted
+abbrev pub counted : BTreeMap ℕ ℕ → ℕ → ℕ
+counted counts a = unwrap_or (get nat_cmp counts a) 0
 
 -- each actor that is present has room for those that go to it
 abbrev pub FitLetters : List (ℕ × Letter) → List Slot → Type 0

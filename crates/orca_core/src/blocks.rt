@@ -1,18 +1,52 @@
 // Block: an actor with nothing to do reports.
 
-ghost use Rattle.std.specs.Prelude.{◌≡◌};
+ghost use Rattle.std.specs.Prelude.{◌≡◌, IfErr, IfOk};
 ghost use Rattle.event_rule.specs.Runs.{Goes};
 ghost use Rattle.event_rule.specs.declared.event.Event.TheVariants.{Block as block_event};
 ghost use Rattle.machine_rules.specs.Next.{next};
 ghost use Rattle.machine_rules.specs.Options.{Options};
-ghost use Rattle.actor_table.specs.Slots.{away_of};
+ghost use Rattle.actor_table.specs.Slots.{away_of, is_away, slot_at};
 ghost use Rattle.behaviour_code.specs.declared.code.Program.{Program};
-ghost use Rattle.orca_core.specs.Fits.{FitsBlock};
+ghost use Rattle.orca_core.specs.Faults.{Faulted};
+ghost use Rattle.orca_core.specs.Fits.{FitsBlock, OnlyRoom};
 ghost use Rattle.orca_core.specs.Parts.{state_of};
 
+use crate::fault::StepFault;
 use crate::parts::Parts;
 use letter_kinds::Note;
 use orca_names::ActorName;
+use std::alloc::Global;
+
+/// The report that the actor makes, and the memory for it. Nothing changes.
+///
+/// # Errors
+/// `NotEnabled` exactly where the actor may not report, or its cell is away. `NoMemory` where memory
+/// was refused.
+pub(crate) fn prepare_block(
+    alloc: Global,
+    parts: &mut Parts,
+    a: ActorName,
+) -> Result<Note, StepFault>
+    ensures same { OnlyRoom parts.old parts.new }
+    ensures ok { IfOk result (λ note. FitsBlock a note parts.new) }
+    ensures fault { let slots = parts.old.table.slots in
+        (program : Program) (options : Options) → IfErr result
+        (Faulted (is_away (slot_at slots a)) (next (state_of program options parts.old) (block_event a)) a) }
+{
+    if !parts.table.may_block(a) {
+        return Err(StepFault::NotEnabled);
+    }
+    let Some(cell) = parts.table.cell(a) else {
+        unreachable!();
+    };
+    let Ok(note) = cell.report(alloc) else {
+        return Err(StepFault::NoMemory);
+    };
+    if parts.notes.reserve(1).is_err() {
+        return Err(StepFault::NoMemory);
+    }
+    Ok(note)
+}
 
 /// The actor reports with this note. It takes no memory.
 pub(crate) fn apply_block(parts: &mut Parts, a: ActorName, note: Note)

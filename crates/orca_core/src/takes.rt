@@ -1,6 +1,7 @@
 // Take: an idle actor takes the first of its letters.
 
-ghost use Rattle.std.specs.Prelude.{◌≡◌, ◌<◌, ◌-◌, IsSome};
+ghost use Rattle.std.specs.Prelude.{◌≡◌, ◌<◌, ◌-◌, IfErr, IsSome, OnOk};
+ghost use Rattle.behaviour_code.specs.declared.code.Program.{Program};
 ghost use Rattle.std.specs.VecDeque.{deque_capacity, deque_len};
 ghost use Rattle.event_rule.specs.Runs.{Goes};
 ghost use Rattle.event_rule.specs.declared.event.Event.TheVariants.{Take as take_event};
@@ -8,12 +9,37 @@ ghost use Rattle.machine_rules.specs.Actors.{seat_at};
 ghost use Rattle.machine_rules.specs.Next.{next};
 ghost use Rattle.machine_rules.specs.Options.{Options};
 ghost use Rattle.actor_table.specs.Changes.{CanTakeHere, note_taken};
-ghost use Rattle.actor_table.specs.Slots.{actors_of, away_of, slot_at};
+ghost use Rattle.actor_table.specs.Slots.{actors_of, away_of, is_away, slot_at};
+ghost use Rattle.orca_core.specs.Faults.{Faulted};
+ghost use Rattle.orca_core.specs.Fits.{FitsTake, OnlyRoom};
 ghost use Rattle.orca_core.specs.Parts.{state_of};
 
+use crate::fault::StepFault;
 use crate::parts::Parts;
 use behaviour_check::Checked;
 use orca_names::ActorName;
+
+/// The memory for what the actor's first letter brings and for what is noted of it. Nothing changes.
+///
+/// # Errors
+/// `NotEnabled` exactly where the actor may not take a letter, or its cell is away. `NoMemory` where
+/// memory was refused.
+#[tactic(auto, using(crate::proofs::Preparing::only_room))]
+pub(crate) fn prepare_take(parts: &mut Parts, a: ActorName) -> Result<(), StepFault>
+    ensures same { OnlyRoom parts.old parts.new }
+    ensures ok { OnOk result (FitsTake a parts.new) }
+    ensures fault { let slots = parts.old.table.slots in
+        (program : Program) (options : Options) → IfErr result
+        (Faulted (is_away (slot_at slots a)) (next (state_of program options parts.old) (take_event a)) a) }
+{
+    if !parts.table.may_take(a) {
+        return Err(StepFault::NotEnabled);
+    }
+    if parts.table.reserve_take(a).is_err() || parts.notes.reserve(1).is_err() {
+        return Err(StepFault::NoMemory);
+    }
+    Ok(())
+}
 
 /// The idle actor takes the first of its letters. It takes no memory.
 pub(crate) fn apply_take(code: &Checked, parts: &mut Parts, a: ActorName)

@@ -1,4 +1,4 @@
-use Rattle.std.proofs.Common.{◌≡◌, IsSomeAnd, ap, subst, sym, ◌∙◌, set, true}
+use Rattle.std.proofs.Common.{◌≡◌, IsSomeAnd, ap, subst, sym, ◌∙◌, set}
 use Rattle.std.specs.Prelude.{is_some}
 use Rattle.orca_names.specs.declared.trace.Trace.{Trace}
 use Rattle.machine_rules.specs.Actors.{seat_at}

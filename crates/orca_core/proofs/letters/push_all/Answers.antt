@@ -1,6 +1,5 @@
-use Rattle.std.proofs.Common.{◌≡◌, ap, subst, sym, ◌∙◌, List}
+use Rattle.std.proofs.Common.{ap, subst, sym, ◌∙◌}
 use Rattle.std.specs.Vec.Iter.{into_iter_items}
-use Rattle.letter_kinds.specs.declared.letter.Letter.{Letter}
 use Rattle.actor_cell.specs.Pushing.{push_all}
 use Rattle.actor_table.specs.Slots.{actors_of}
 use Rattle.orca_core.specs.Letters.{FitLetters}
