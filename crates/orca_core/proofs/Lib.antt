@@ -1,3 +1,4 @@
+pub mod Asking
 pub mod Giving
 pub mod Posting
 pub mod Stepped
