@@ -1,4 +1,6 @@
 pub mod Asking
 pub mod Giving
 pub mod Posting
+pub mod Reaping
+pub mod Reserving
 pub mod Stepped

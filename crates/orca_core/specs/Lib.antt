@@ -2,3 +2,4 @@ pub mod Faults
 pub mod Fits
 pub mod Letters
 pub mod Parts
+pub mod Reaping

@@ -10,6 +10,7 @@ mod leaves;
 mod letters;
 mod parts;
 mod reaps;
+mod room;
 mod scans;
 mod takes;
 

@@ -25,7 +25,7 @@ use orca_names::{ActorName, NoMemory};
 use std::alloc::Global;
 
 /// Takes the memory for one letter to each of these actors.
-#[tactic(auto, using(crate::proofs::Asking::same_actors, crate::proofs::Asking::same_away, crate::proofs::Asking::fit_all))]
+#[tactic(auto, using(crate::proofs::Reserving::same_actors, crate::proofs::Reserving::same_away))]
 fn reserve_asks(table: &mut ActorTable, members: &[ActorName]) -> Result<(), NoMemory>
     requires { IsStrictlySortedBy nat_cmp members.now }
     ensures actors { actors_of table.new.slots ≡ actors_of table.old.slots }
