@@ -1,8 +1,11 @@
+pub mod Asking
+pub mod Fitting
 pub mod Giving
 pub mod Gone
 pub mod Naming
 pub mod Posting
 pub mod Prepared
 pub mod Preparing
+pub mod Reaping
 pub mod Reserving
 pub mod Stepped

@@ -3,3 +3,4 @@ pub mod Fits
 pub mod Goes
 pub mod Letters
 pub mod Parts
+pub mod Reaping

@@ -1,16 +1,38 @@
 // Hear: the detector takes the first of its notes.
 
-ghost use Rattle.std.specs.Prelude.{◌≡◌, ◌∷◌, List};
+ghost use Rattle.std.specs.Prelude.{◌≡◌, ◌∷◌, IfErr, IfOk, List};
 ghost use Rattle.event_rule.specs.Runs.{Goes};
 ghost use Rattle.event_rule.specs.declared.event.Event.TheVariants.{Hear as hear_event};
 ghost use Rattle.machine_rules.specs.Next.{next};
 ghost use Rattle.machine_rules.specs.Options.{Options};
 ghost use Rattle.actor_table.specs.Slots.{away_of};
 ghost use Rattle.behaviour_code.specs.declared.code.Program.{Program};
-ghost use Rattle.orca_core.specs.Fits.{CanHearFirst};
+ghost use Rattle.orca_core.specs.Faults.{DetectorFaulted};
+ghost use Rattle.orca_core.specs.Fits.{CanHearFirst, OnlyRoom};
 ghost use Rattle.orca_core.specs.Parts.{state_of};
 
+use crate::fault::StepFault;
 use crate::parts::Parts;
+use orca_names::NoMemory;
+
+/// Takes the memory to hear the first of the notes. Nothing changes but room.
+///
+/// # Errors
+/// `NotEnabled` exactly where there is no note, and `NoMemory` where memory was refused.
+pub(crate) fn prepare_hear(parts: &mut Parts) -> Result<(), StepFault>
+    ensures same { OnlyRoom parts.old parts.new }
+    ensures ok { IfOk result (λ done. CanHearFirst parts.new.notes.items parts.new.detector) }
+    ensures fault { (program : Program) (options : Options)
+        → IfErr result (DetectorFaulted (next (state_of program options parts.old) hear_event)) }
+{
+    let Some(note) = parts.notes.front() else {
+        return Err(StepFault::NotEnabled);
+    };
+    match parts.detector.prepare_hear(note) {
+        Ok(()) => Ok(()),
+        Err(NoMemory) => Err(StepFault::NoMemory),
+    }
+}
 
 /// The detector takes the first of its notes. It takes no memory.
 pub(crate) fn apply_hear(parts: &mut Parts)

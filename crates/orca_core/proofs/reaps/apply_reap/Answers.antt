@@ -1,7 +1,6 @@
-use Rattle.std.proofs.Common.{◌≡◌, Some, IfSome, ap, subst, sym, ◌∙◌}
-use Rattle.letter_kinds.specs.declared.letter.Letter.TheVariants.{Dec}
+use Rattle.std.proofs.Common.{◌≡◌, IfSome, ap, subst, sym, ◌∙◌}
 use Rattle.letter_kinds.specs.Detector.{close_token}
-use Rattle.machine_rules.specs.Detect.{empty_seats, reap_decs}
+use Rattle.machine_rules.specs.Detect.{empty_seats}
 use Rattle.machine_rules.proofs.Guards.{acked_open}
 use Rattle.actor_cell.specs.Pushing.{push_all}
 use Rattle.actor_table.specs.Slots.{actors_of}

@@ -1,4 +1,4 @@
-use Rattle.std.proofs.Common.{◌≡◌, ap, sym, ◌∙◌, drop, ◌+◌}
+use Rattle.std.proofs.Common.{ap, sym, ◌∙◌, drop, ◌+◌}
 use Rattle.machine_rules.specs.Detect.{empty_seats}
 use Rattle.actor_cell.proofs.Raising.{drop_past, rest_of}
 use Rattle.actor_table.specs.Slots.{actors_of, away_of}

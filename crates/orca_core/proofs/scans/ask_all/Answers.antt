@@ -1,4 +1,4 @@
-use Rattle.std.proofs.Common.{◌≡◌, ap, subst, sym, ◌∙◌, drop, ◌+◌}
+use Rattle.std.proofs.Common.{ap, subst, sym, ◌∙◌, drop, ◌+◌}
 use Rattle.letter_kinds.specs.declared.letter.Letter.TheVariants.{Confirm}
 use Rattle.machine_rules.specs.Detect.{ask_all}
 use Rattle.actor_cell.proofs.Raising.{drop_past, rest_of}
