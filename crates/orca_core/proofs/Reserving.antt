@@ -2,7 +2,8 @@
 use Rattle.std.proofs.Common.{◌≡◌, ◌≢◌, ◌≤◌, ◌<◌, ℕ, ◌+◌, ◌==◌, inl, inr, Bool, true, false, List, [], ◌∷◌, length, map, Option, Some, None, refl, sym, ap, subst, ◌∙◌, arith}
 use Rattle.std.specs.Prelude.{T, ◌&&◌, if◌then◌else◌, is_some, unwrap_or}
 use Rattle.std.specs.BTreeMap.{BTreeMap, Updates, get}
-use Rattle.std.specs.FinMap.Entries.{below_all, is_sorted, first, second}
+use Rattle.std.specs.FinMap.Entries.{below_all, is_sorted}
+use Rattle.local_sweep.proofs.Filtered.{first, second}
 use Rattle.std.specs.Ordering.{is_lt, nat_cmp}
 use Rattle.std.proofs.lemmas.Bool.{cases_eq}
 use Rattle.std.proofs.lemmas.Bool.Decides.{nat_tests}
@@ -25,6 +26,7 @@ seats_of (p ∷ places) [] = []
 seats_of (p ∷ places) (letters ∷ rows) = seat_in p letters ∷ seats_of places rows
 
 actors_read : (slots : List Slot) → actors_of slots ≡ seats_of (places_of slots) (letters_in slots)
+unfolding seats_of
 actors_read [] = refl
 actors_read (x ∷ slots) = ap (λ os. seat_in x.place x.mail.letters ∷ os) (actors_read slots)
 
@@ -56,6 +58,10 @@ pub to_few : (a : ℕ) (letters : List (ℕ × Letter)) → letters_to a letters
 to_few a [] = omega arith
 to_few a (l ∷ letters) = omega (arith, few (l.0 == a), to_few a letters)
 
+-- the first letter is one to its actor
+pub first_counts : (l : ℕ × Letter) (letters : List (ℕ × Letter)) → letters_to l.0 (l ∷ letters) ≡ 1 + letters_to l.0 letters
+first_counts l letters = grind (arith, nat_tests)
+
 module _ (old new : List Slot) (actors : actors_of new ≡ actors_of old) (room : KeepsRoom old new) where
   was_there : (b : ℕ) → is_some (seat_at (actors_of new) b) ≡ true → is_some (seat_at (actors_of old) b) ≡ true
   was_there b there = sym (ap (λ os. is_some (seat_at os b)) actors) ∙ there
@@ -65,8 +71,15 @@ module _ (old new : List Slot) (actors : actors_of new ≡ actors_of old) (room 
       → (is_some (seat_at (actors_of old) to) ≡ true → n ≤ (slot_at new to).mail.spare) → n ≡ was to + 1 → ((b : ℕ) → now b ≡ was b + (if to == b then 1 else 0))
       → (b : ℕ) → is_some (seat_at (actors_of new) b) ≡ true → now b ≤ (slot_at new b).mail.spare
   counted_fits to n was now fits ok is up b there = elim (cases_eq to b) as (λ _. now b ≤ (slot_at new b).mail.spare) [
-    | inl same ↦ omega (arith, up b, few (to == b), is, ap was same, ap (λ c. (slot_at new c).mail.spare) same,
-        ok (subst (λ c. is_some (seat_at (actors_of old) c) ≡ true) (sym same) (was_there b there)))
+    | inl same ↦ omega (
+      arith,
+      up b,
+      few (to == b),
+      is,
+      ap was same,
+      ap (λ c. (slot_at new c).mail.spare) same,
+      ok (subst (λ c. is_some (seat_at (actors_of old) c) ≡ true) (sym same) (was_there b there)),
+    )
     | inr other ↦ grind (arith, nat_tests, up b, fits b (was_there b there), room b)
   ]
 
@@ -76,8 +89,12 @@ module _ (old new : List Slot) (actors : actors_of new ≡ actors_of old) (room 
       → (is_some (seat_at (actors_of old) to) ≡ true → 1 ≤ (slot_at new to).mail.spare)
       → (b : ℕ) → is_some (seat_at (actors_of new) b) ≡ true → all b ≤ (slot_at new b).mail.spare + letters_to b rest
   each_fits to all letter rest once fits ok b there = elim (cases_eq to b) as (λ _. all b ≤ (slot_at new b).mail.spare + letters_to b rest) [
-    | inl same ↦ omega (arith, once b, ap (λ c. (slot_at new c).mail.spare) same,
-        ok (subst (λ c. is_some (seat_at (actors_of old) c) ≡ true) (sym same) (was_there b there)))
+    | inl same ↦ omega (
+      arith,
+      once b,
+      ap (λ c. (slot_at new c).mail.spare) same,
+      ok (subst (λ c. is_some (seat_at (actors_of old) c) ≡ true) (sym same) (was_there b there)),
+    )
     | inr other ↦ grind (arith, nat_tests, fits b (was_there b there), room b)
   ]
 
@@ -86,14 +103,21 @@ module _ (old new : List Slot) (actors : actors_of new ≡ actors_of old) (room 
 none_below : (a b : ℕ) (groups : List (ℕ × List Amount)) → T (below_all nat_cmp b groups) → a ≤ b → letters_to a (letters_of groups) ≡ 0
 none_below a b [] below le = refl
 none_below a b (g ∷ groups) below le =
-    let above = first _ _ below in
-    let rest = none_below a b groups (second _ _ below) le in
-    grind (arith, nat_tests, above, rest)
+    let above = first (is_lt (nat_cmp b g.0)) (below_all nat_cmp b groups) below in
+    let rest = none_below a b groups (second (is_lt (nat_cmp b g.0)) (below_all nat_cmp b groups) below) le in
+    by (is_lt (nat_cmp b g.0)) refl above rest
+  where
+    by : (q : Bool) → is_lt (nat_cmp b g.0) ≡ q → T q → letters_to a (letters_of groups) ≡ 0 → letters_to a (letters_of (g ∷ groups)) ≡ 0
+    by true e t rest = grind (arith, nat_tests)
+    by false e t rest = absurd t
 
 -- one letter goes to the owner of each
 pub once_each : (groups : List (ℕ × List Amount)) → T (is_sorted nat_cmp groups) → (a : ℕ) → letters_to a (letters_of groups) ≤ 1
 once_each [] rises a = omega arith
-once_each (g ∷ groups) rises a = elim (cases_eq g.0 a) as (λ _. letters_to a (letters_of (g ∷ groups)) ≤ 1) [
-  | inl same ↦ omega (arith, few (g.0 == a), none_below a g.0 groups (first _ _ rises) (omega (arith, same)))
-  | inr other ↦ grind (arith, nat_tests, once_each groups (second _ _ rises) a)
-]
+once_each (g ∷ groups) rises a =
+    let below = first (below_all nat_cmp g.0 groups) (is_sorted nat_cmp groups) rises in
+    let rest = second (below_all nat_cmp g.0 groups) (is_sorted nat_cmp groups) rises in
+    elim (cases_eq g.0 a) as (λ _. letters_to a (letters_of (g ∷ groups)) ≤ 1) [
+      | inl same ↦ omega (arith, few (g.0 == a), none_below a g.0 groups below (omega (arith, same)))
+      | inr other ↦ grind (arith, nat_tests, once_each groups rest a)
+    ]

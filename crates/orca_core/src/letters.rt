@@ -21,7 +21,7 @@ fn count_one(counts: &mut BTreeMap<ActorName, usize>, to: ActorName) -> Result<u
     ensures counted { OnOk result ((b : ℕ) → counted counts.new b
         ≡ counted counts.old b + (if to == b then 1 else 0)) }
 {
-    let n = match counts.get(to) {
+    let n = match counts.get(&to) {
         Some(n) => *n + 1,
         None => 1,
     };
@@ -33,6 +33,7 @@ fn count_one(counts: &mut BTreeMap<ActorName, usize>, to: ActorName) -> Result<u
 ///
 /// # Errors
 /// `NoMemory` where memory was refused.
+#[tactic(auto, using(crate::proofs::Reserving::same_actors, crate::proofs::Reserving::same_away))]
 pub(crate) fn reserve_all(
     alloc: Global,
     table: &mut ActorTable,
@@ -58,6 +59,7 @@ pub(crate) fn reserve_all(
 ///
 /// # Errors
 /// `NoMemory` where memory was refused.
+#[tactic(auto, using(crate::proofs::Reserving::same_actors, crate::proofs::Reserving::same_away))]
 pub(crate) fn reserve_each(
     table: &mut ActorTable,
     groups: &[(ActorName, Amounts)],

@@ -1,0 +1,48 @@
+use Rattle.std.proofs.Common.{◌≡◌, ◌≤◌, ◌+◌, ap, subst, sym, ◌∙◌, drop, true, arith, ℕ}
+use Rattle.std.specs.Prelude.{is_some}
+use Rattle.machine_rules.specs.Actors.{seat_at}
+use Rattle.actor_cell.proofs.Raising.{drop_past, rest_of}
+use Rattle.actor_table.specs.Slots.{actors_of, slot_at}
+use Rattle.orca_core.specs.Letters.{counted, letters_to}
+use Rattle.orca_core.proofs.Reserving.{counted_fits, first_counts, same_actors, to_few}
+use Rattle.orca_core.proofs.letters.reserve_all.Goals as goal
+
+pub count_one-requires : goal.count_one-requires
+count_one-requires c =
+    let letters = c.args.letters.now in
+    let i = c.loop-letter.letter-index in
+    let l = c.letter-item.result in
+    let rest = rest_of letters i l c.loop-letter-test.true c.letter-item.is in
+    let its = first_counts l (drop (i + 1) letters) in
+    omega (arith, c.loop-letter.invariant.told l.0, ap (letters_to l.0) rest, its, to_few l.0 letters)
+
+pub loop-letter-preserved : goal.loop-letter-preserved
+loop-letter-preserved c =
+    let letters = c.args.letters.now in
+    let i = c.loop-letter.letter-index in
+    let l = c.letter-item.result in
+    let rest = rest_of letters i l c.loop-letter-test.true c.letter-item.is in
+    let old = c.loop-letter.table.slots in
+    let new = c.reserve_letters.new.self.slots in
+    let before = c.loop-letter.invariant in
+    let does = c.reserve_letters.ensures in
+    let actors = same_actors new old does.places does.letters in
+    record {
+      places = does.places ∙ before.places;
+      rows = does.letters ∙ before.rows;
+      room = λ b. omega (arith, before.room b, does.room b);
+      spare = does.spare ∙ before.spare;
+      told = λ b. omega (arith, before.told b, ap (letters_to b) rest, c.in_ok-n.ensures.counted b);
+      fits = counted_fits old new actors does.room l.0 c.in_ok-n.n (counted c.loop-letter.counts) (counted c.count_one.new.counts)
+          before.fits c.in_ok-reserve_letters.ensures.ok c.in_ok-n.ensures.is c.in_ok-n.ensures.counted;
+    }
+
+pub returns-clause-ok : goal.returns-clause-ok
+returns-clause-ok c = λ b there.
+    let letters = c.args.letters.now in
+    omega (
+      arith,
+      c.loop-letter.invariant.fits b there,
+      c.loop-letter.invariant.told b,
+      ap (letters_to b) (drop_past c.loop-letter.letter-index letters c.loop-letter-test.false),
+    )
