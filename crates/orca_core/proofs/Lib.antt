@@ -2,6 +2,7 @@ pub mod Asking
 pub mod Fitting
 pub mod Giving
 pub mod Gone
+pub mod Homes
 pub mod Naming
 pub mod Posting
 pub mod Prepared

@@ -3,4 +3,5 @@ pub mod Fits
 pub mod Goes
 pub mod Letters
 pub mod Parts
+pub mod Steps
 pub mod Reaping

@@ -20,6 +20,7 @@ ghost use Rattle.orca_core.specs.Faults.{Faulted};
 ghost use Rattle.orca_core.specs.Fits.{OnlyRoom};
 ghost use Rattle.orca_core.specs.Goes.{CanNameNew, CountsAllow, FitsGo, HasRoomOut, IsFoundGo, NotGoing, given};
 ghost use Rattle.orca_core.specs.Parts.{state_of};
+ghost use Rattle.orca_core.specs.Steps.{AllHome};
 
 use crate::fault::StepFault;
 use crate::parts::Parts;
@@ -154,6 +155,7 @@ fn make(
     ensures actors { actors_of table.new.slots ≡ changed_at
         (with_cell_by (settled weight register (length table.old.slots))) a (actors_of table.old.slots)
         ++ seat (fresh_cell weight code.now kind) [] ∷ [] }
+    ensures home { AllHome table.old.slots → AllHome table.new.slots }
 {
     let name = ActorName(table.len() as u32);
     table.settle_new(a, register, name, weight);
@@ -169,6 +171,7 @@ fn give_out(alloc: Global, code: &Checked, weight: u32, parts: &mut Parts, a: Ac
     requires objects { parts.old.objects + length parts.old.turn.made < 2 ^ 64 }
     ensures state { (options : Options) → state_of code.now options parts.new ≡ given weight code.now a act
         (length parts.old.turn.made) (state_of code.now options parts.old) }
+    ensures home { AllHome parts.old.table.slots → AllHome parts.new.table.slots }
 {
     match act {
         Move::Post { to, letter } => {
@@ -206,6 +209,7 @@ pub(crate) fn apply_go(
     ensures state { (options : Options) → options.weight ≡ weight → options.trace ≡ trace
         → next (state_of code.now options parts.old) (go_event a)
         ≡ Goes (state_of code.now options parts.new) }
+    ensures home { AllHome parts.old.table.slots → AllHome parts.new.table.slots }
 {
     let _trace = trace;
     parts.table.go(a, &parts.turn, &found);

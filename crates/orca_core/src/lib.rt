@@ -11,6 +11,7 @@ mod letters;
 mod parts;
 mod reaps;
 mod scans;
+mod steps;
 mod takes;
 
 pub use fault::StepFault;

@@ -36,9 +36,8 @@ give_out-requires-clause-can c =
     (seat_here slots a fits.cell fits.home) fits.framed (c.requires.can fits.cell fits.home).unnamed (home_within slots a fits.cell fits.home) c.requires.light
     c.args.found.act c.go.ensures.actors c.go.ensures.entry
 
-pub returns : goal.returns
-returns c = record {
-  state = λ options weight trace.
+pub returns-clause-state : goal.returns-clause-state
+returns-clause-state c = λ options weight trace.
       let fits = c.requires.fits in
       let slots = c.args.parts.now.table.slots in
       let a = c.args.a in
@@ -57,5 +56,4 @@ returns c = record {
       (fits_limit act c.args.parts.now fits.room) (omega (arith, home_within slots a fits.cell fits.home, length-map slots seat_of))
       ∙ ap Goes (ap (λ w. given w program a act made (record s { actors = changed_at (with_cell_by (moved a c.args.parts.now.turn c.args.found.place act)) a s.actors })) weight
       ∙ ap (λ xs. given c.args.weight program a act made (record s { actors = xs })) (sym c.go.ensures.actors)
-      ∙ sym (c.give_out.ensures.state options));
-}
+      ∙ sym (c.give_out.ensures.state options))

@@ -27,7 +27,7 @@ loop-member-preserved c =
       letters =
           ap (λ ls. ls ++ returned members later slots) (c.in_ok-append.ensures.items ∙ ap (λ ls. sofar ++ ls) (c.into_vec-returned.ensures ∙ c.in_ok-give_back.ensures))
           ∙ append_assoc sofar its (returned members later slots)
-          ∙ ap (λ ls. sofar ++ ls) (sym (first_returned members m later slots cell rising (home_lent (slot_at slots m) cell c.in-Some.ensures)))
+          ∙ ap (λ ls. sofar ++ ls) (sym (first_returned members m later slots cell rising (home_lent (slot_at slots m) cell c.in-Some.ensures.cell)))
           ∙ sym (ap (λ ms. sofar ++ returned members ms slots) rest) ∙ c.loop-member.invariant.letters;
     }
 

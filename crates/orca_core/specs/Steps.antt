@@ -1,0 +1,34 @@
+-- What a step needs of the state, which every run gives, and what it keeps.
+use Rattle.std.specs.Prelude.{ℕ, ◌≡◌, ◌+◌, ◌<◌, ◌^◌, false, List, ◌∷◌, length, get_or, Some, None}
+use Rattle.std.specs.FinMap as m
+use Rattle.orca_names.specs.declared.limits.TheConstants.{BODY_LIMIT}
+use Rattle.orca_names.specs.declared.names.Thing.TheVariants.{Actor}
+use Rattle.orca_names.specs.declared.trace.Trace.{Trace}
+use Rattle.behaviour_code.specs.declared.code.Program.{Program}
+use Rattle.letter_kinds.specs.declared.letter.Letter.{Letter}
+use Rattle.machine_rules.specs.Actors.{Actors, seat, seat_at}
+use Rattle.machine_rules.specs.Cell.{Cell}
+use Rattle.actor_cell.specs.Goes.{CanGo}
+use Rattle.actor_cell.specs.Takes.{CanTake}
+use Rattle.actor_table.specs.declared.slot.Slot.{Slot}
+use Rattle.actor_table.specs.Slots.{away_of}
+
+-- no cell is away
+abbrev pub AllHome : List Slot → Type 0
+AllHome slots = (a : ℕ) → get_or (away_of slots) a false ≡ false
+
+-- the actor's counts allow the letter that it takes next
+abbrev pub AllowsTake : ℕ → Actors → Type 0
+AllowsTake a actors = (c : Cell) (letter : Letter) (later : List Letter)
+    → seat_at actors a ≡ seat c (letter ∷ later) → CanTake a letter c.holdings
+
+-- the actor's counts and serials allow its turn, and it holds nothing of the actor that is made next
+pub record TurnFits (trace : Trace) (weight : ℕ) (program : Program) (a made : ℕ)
+    (c : Cell) : Type 0 where
+  pub can : (frame : _) → c.frame ≡ Some frame → CanGo trace weight program a c
+  pub serials : c.holdings.next + BODY_LIMIT < 2 ^ 64
+  pub unnamed : m.get c.holdings.foreign (Actor made) ≡ None
+
+abbrev pub AllowsGo : Trace → ℕ → Program → ℕ → Actors → Type 0
+AllowsGo trace weight program a actors = (c : Cell) (mail : List Letter)
+    → seat_at actors a ≡ seat c mail → TurnFits trace weight program a (length actors) c
