@@ -1,4 +1,4 @@
-use Rattle.std.proofs.Common.{◌≤◌, List, length, rules, subst, sym, ◌∙◌, ℕ}
+use Rattle.std.proofs.Common.{◌≤◌, List, rules, subst, sym, ◌∙◌, ℕ}
 use Rattle.machine_rules.specs.Guards.{may_collect}
 use Rattle.machine_rules.specs.Collect.{collect}
 use Rattle.letter_kinds.specs.Counting.{Amount}
