@@ -1,5 +1,5 @@
 -- What a step finds of its actor before it changes anything.
-use Rattle.std.proofs.Common.{◌≡◌, ℕ, ◌<◌, ◌⊎◌, inl, inr, Bool, true, false, List, [], ◌∷◌, map, get_or, length, Option, Some, None, refl, sym, ap, ◌∙◌, arith}
+use Rattle.std.proofs.Common.{◌≡◌, ℕ, ◌<◌, ◌≤◌, subst, ◌⊎◌, inl, inr, Bool, true, false, List, [], ◌∷◌, map, get_or, length, Option, Some, None, refl, sym, ap, ◌∙◌, arith}
 use Rattle.std.specs.Prelude.{◌&&◌, if◌then◌else◌, is_none}
 use Rattle.std.specs.Option.{option_map_or}
 use Rattle.std.proofs.lemmas.Bool.{cases_lt}
@@ -13,18 +13,30 @@ use Rattle.machine_rules.specs.Actors.{Seat, seat_at}
 use Rattle.machine_rules.specs.Cell as rules
 use Rattle.machine_rules.specs.Next.{acting}
 use Rattle.machine_rules.specs.State.{State}
-use Rattle.machine_rules.specs.Guards.{may_block, may_take}
+use Rattle.machine_rules.specs.Guards.{may_block, may_collect, may_leave, may_take}
+use Rattle.machine_rules.specs.Collect.{is_marked}
+use Rattle.orca_names.specs.declared.trace.Trace.{Trace}
+use Rattle.letter_kinds.specs.Counting.{by_owner, given_back}
+use Rattle.known_rows.specs.Holdings.{holdings_of}
+use Rattle.local_sweep.proofs.GivenBack.{back_rises}
+use Rattle.std.specs.Global.{Vec}
+use Rattle.std.specs.Vec.{vec_capacity}
 use Rattle.actor_cell.specs.declared.cell.Cell.{Cell}
 use Rattle.actor_cell.specs.Cells.{as_cell}
-use Rattle.actor_cell.specs.Outs.{report_of}
+use Rattle.actor_cell.specs.Outs.{left_behind, letters_of, report_of}
+use Rattle.actor_cell.specs.declared.sweeping.Sweep.{Sweep}
+use Rattle.actor_cell.specs.Sweeps.{sweep_of}
+use Rattle.actor_cell.proofs.Marked.{back_same}
 use Rattle.actor_table.specs.declared.slot.Place.{Place}
 use Rattle.actor_table.specs.declared.slot.Place.TheVariants.{Home, Away, Gone}
 use Rattle.actor_table.specs.declared.slot.Slot.{Slot}
 use Rattle.actor_table.specs.Changes.{HasRoomToTake}
-use Rattle.actor_table.specs.Slots.{actors_of, away_of, gone, home_in, home_of, is_away, is_away_in, may_at, may_in, seat_in, seat_of, slot_at}
+use Rattle.actor_table.specs.Slots.{actors_of, away_of, gone, home_in, home_of, is_away, is_away_in, letters_in, may_at, may_in, places_of, seat_in, seat_of, slot_at}
 use Rattle.actor_table.proofs.Changing.{seat_read}
 use Rattle.orca_core.specs.declared.parts.Parts.{Parts}
-use Rattle.orca_core.specs.Fits.{FitsBlock, FitsTake, OnlyRoom}
+use Rattle.orca_core.specs.Fits.{FitsBlock, FitsCollect, FitsLeave, FitsTake, OnlyRoom}
+use Rattle.orca_core.specs.Letters.{FitLetters, letters_to}
+use Rattle.orca_core.proofs.Reserving.{once_each}
 
 module _ (may : rules.Cell → List Letter → Bool) where
   -- an actor that may not act at home is away, or its event is not enabled
@@ -136,3 +148,51 @@ only_room old new detector prints objects actors away notes = record {
   };
   away = away;
 }
+
+-- ---- where the places and the letters stay
+
+module _ (a : ℕ) (m : Parts) (old : List Slot) (places : places_of m.table.slots ≡ places_of old) (rows : letters_in m.table.slots ≡ letters_in old) where
+  abbrev new_slot : Slot
+  new_slot = slot_at m.table.slots a
+
+  home_still : (c : Cell) → Some c ≡ home_of (slot_at old a) → new_slot.place ≡ Home c
+  home_still c lent = same_at (λ x. x.place) m.table.slots old places a ∙ home_is (slot_at old a) c lent
+
+  may_still : (may : rules.Cell → List Letter → Bool) (c : Cell) → Some c ≡ home_of (slot_at old a) → may_at may (slot_at old a) ≡ true → may (as_cell c) new_slot.mail.letters ≡ true
+  may_still may c lent on =
+      ap (may (as_cell c)) (same_at (λ x. x.mail.letters) m.table.slots old rows a)
+      ∙ may_here may (slot_at old a) c (home_is (slot_at old a) c lent) on
+
+  pub fits_leave : (letters : List (ℕ × Letter)) (c : Cell) → Some c ≡ home_of (slot_at old a) → may_at may_leave (slot_at old a) ≡ true
+      → letters ≡ letters_of (left_behind a (as_cell c)) → FitLetters letters m.table.slots → FitsLeave a letters m
+  fits_leave letters c lent may returns fit = record {
+    cell = c;
+    home = home_still c lent;
+    may = may_still may_leave c lent may;
+    returns = returns;
+    fit = fit;
+  }
+
+  pub fits_collect : (trace : Trace) (found : Sweep) (room : Vec (ℕ × Letter)) (c : Cell) → Some c ≡ home_of (slot_at old a) → c.heap.owner ≡ a
+      → may_at may_collect (slot_at old a) ≡ true → found ≡ sweep_of trace c → room.items ≡ [] → length found.plan.back ≤ vec_capacity room
+      → FitLetters (letters_of found.plan.back) m.table.slots → FitsCollect trace a found room m
+  fits_collect trace found room c lent own may is none enough fit = record {
+    cell = c;
+    home = home_still c lent;
+    may = may_still may_collect c lent may;
+    collects = record {
+      found_is = is;
+      back_is = ap (λ (f : Sweep). f.plan.back) is ∙ back_same c.count c.heap c.foreign (is_marked trace c.heap.owner (as_cell c))
+          ∙ ap (λ me. by_owner (given_back (is_marked trace me (as_cell c)) (as_cell c).holdings)) own;
+    };
+    none = none;
+    enough = enough;
+    fit = fit;
+  }
+
+-- at most one letter returns what goes back to an owner
+pub once_back : (trace : Trace) (found : Sweep) (c : Cell) → found ≡ sweep_of trace c → (b : ℕ) → letters_to b (letters_of found.plan.back) ≤ 1
+once_back trace found c is b =
+    let marked = is_marked trace c.heap.owner (as_cell c) in
+    subst (λ (f : Sweep). letters_to b (letters_of f.plan.back) ≤ 1) (sym is)
+    (once_each (sweep_of trace c).plan.back (back_rises marked (holdings_of 0 c.heap c.foreign)).owners b)

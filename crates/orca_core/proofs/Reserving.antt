@@ -1,22 +1,21 @@
 -- Memory is taken for letters one after another.
-use Rattle.std.proofs.Common.{◌≡◌, ◌≢◌, ◌≤◌, ◌<◌, ℕ, ◌+◌, ◌==◌, inl, inr, Bool, true, false, List, [], ◌∷◌, length, map, Option, Some, None, refl, sym, ap, subst, ◌∙◌, arith}
-use Rattle.std.specs.Prelude.{T, ◌&&◌, if◌then◌else◌, is_some, unwrap_or}
-use Rattle.std.specs.BTreeMap.{BTreeMap, Updates, get}
+use Rattle.std.proofs.Common.{◌≡◌, ◌≤◌, ℕ, ◌+◌, ◌==◌, inl, inr, Bool, true, false, List, [], ◌∷◌, length, get_or, map, Some, refl, sym, ap, subst, ◌∙◌, arith}
+use Rattle.std.specs.Prelude.{T, if◌then◌else◌, is_some}
+use Rattle.std.specs.BTreeMap.{BTreeMap, Updates}
 use Rattle.std.specs.FinMap.Entries.{below_all, is_sorted}
 use Rattle.local_sweep.proofs.Filtered.{first, second}
 use Rattle.std.specs.Ordering.{is_lt, nat_cmp}
 use Rattle.std.proofs.lemmas.Bool.{cases_eq}
 use Rattle.std.proofs.lemmas.Bool.Decides.{nat_tests}
 use Rattle.letter_kinds.specs.declared.letter.Letter.{Letter}
-use Rattle.letter_kinds.specs.declared.letter.Letter.TheVariants.{Dec}
 use Rattle.letter_kinds.specs.Counting.{Amount}
-use Rattle.machine_rules.specs.Actors.{Actors, Seat, seat_at}
+use Rattle.machine_rules.specs.Actors.{Actors, seat_at}
 use Rattle.actor_cell.specs.Outs.{letters_of}
 use Rattle.actor_table.specs.declared.slot.Place.{Place}
 use Rattle.actor_table.specs.declared.slot.Slot.{Slot}
 use Rattle.actor_table.specs.Changes.{KeepsRoom}
 use Rattle.actor_table.specs.Slots.{actors_of, away_of, is_away_in, letters_in, places_of, seat_in, slot_at}
-use Rattle.orca_core.specs.Letters.{counted, letters_to}
+use Rattle.orca_core.specs.Letters.{FitLetters, counted, letters_to}
 
 -- ---- what is told by the places and the letters
 
@@ -97,6 +96,21 @@ module _ (old new : List Slot) (actors : actors_of new ≡ actors_of old) (room 
     )
     | inr other ↦ grind (arith, nat_tests, fits b (was_there b there), room b)
   ]
+
+  -- where there is one letter
+  pub one_fits : (letters : List (ℕ × Letter)) (d : ℕ × Letter) → length letters ≡ 1
+      → (is_some (seat_at (actors_of old) (get_or letters 0 d).0) ≡ true → 1 ≤ (slot_at new (get_or letters 0 d).0).mail.spare) → FitLetters letters new
+  one_fits [] d one ok b there = absurd (omega (arith, one))
+  one_fits (x ∷ []) d one ok b there = elim (cases_eq x.0 b) as (λ _. letters_to b (x ∷ []) ≤ (slot_at new b).mail.spare) [
+    | inl same ↦ omega (
+      arith,
+      few (x.0 == b),
+      ap (λ c. (slot_at new c).mail.spare) same,
+      ok (subst (λ c. is_some (seat_at (actors_of old) c) ≡ true) (sym same) (was_there b there)),
+    )
+    | inr other ↦ grind (arith, nat_tests)
+  ]
+  one_fits (x ∷ y ∷ rest) d one ok b there = absurd (omega (arith, one))
 
 -- ---- groups that rise
 

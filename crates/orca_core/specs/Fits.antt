@@ -1,5 +1,5 @@
 -- What the state of the machine allows, and for what it has room.
-use Rattle.std.specs.Prelude.{ℕ, ◌≡◌, ◌<◌, true, false, Bool, List, [], ◌∷◌, Option, None, Some, map, set}
+use Rattle.std.specs.Prelude.{ℕ, ◌≡◌, ◌<◌, ◌≤◌, true, false, Bool, List, [], ◌∷◌, Option, None, Some, length, map, set}
 use Rattle.letter_kinds.specs.declared.letter.Letter.{Letter}
 use Rattle.letter_kinds.specs.declared.letter.Letter.TheVariants.{Dec}
 use Rattle.letter_kinds.specs.declared.note.Note.{Note}
@@ -13,8 +13,10 @@ use Rattle.letter_kinds.specs.Counting.{by_owner, given_back}
 use Rattle.actor_cell.specs.declared.cell.Cell.{Cell}
 use Rattle.actor_cell.specs.declared.sweeping.Sweep.{Sweep}
 use Rattle.actor_cell.specs.Cells.{as_cell}
-use Rattle.actor_cell.specs.Outs.{left_behind, report_of, returning}
+use Rattle.actor_cell.specs.Outs.{left_behind, letters_of, report_of, returning}
 use Rattle.actor_cell.specs.Sweeps.{sweep_of}
+use Rattle.std.specs.Global.{Vec}
+use Rattle.std.specs.Vec.{vec_capacity}
 use Rattle.std.specs.VecDeque.{deque_capacity, deque_len}
 use Rattle.behaviour_code.specs.declared.code.Program.{Program}
 use Rattle.machine_rules.specs.Guards.{may_block, may_collect, may_leave}
@@ -65,12 +67,11 @@ abbrev pub without_all : List ℕ → List Bool → List Bool
 without_all [] away = away
 without_all (a ∷ members) away = without_all members (set away a false)
 
--- the sweep is that of the cell with this tracing, and the letters return what it gives back
-pub record CollectsWith (trace : Trace) (a : ℕ) (found : Sweep) (letters : List (ℕ × Letter))
-    (c : Cell) : Type 0 where
+-- the sweep is that of the cell with this tracing, and gives back what the cell holds and does not mark
+pub record CollectsWith (trace : Trace) (a : ℕ) (found : Sweep) (c : Cell) : Type 0 where
   pub found_is : found ≡ sweep_of trace c
-  pub letters_are : letters
-      ≡ (returning (by_owner (given_back (is_marked trace a (as_cell c)) (as_cell c).holdings))).letters
+  pub back_is : found.plan.back
+      ≡ by_owner (given_back (is_marked trace a (as_cell c)) (as_cell c).holdings)
 
 -- ---- what was prepared fits
 
@@ -85,14 +86,17 @@ pub record FitsTake (a : ℕ) (m : Parts) : Type 0 where
   pub room : HasRoomFor letter cell.foreign.spare cell.known.spare
   pub note : cell.reported ≡ true → deque_len m.notes < deque_capacity m.notes
 
--- the sweep is that of the actor with this tracing, the letters return what it gives back, and fit
-pub record FitsCollect (trace : Trace) (a : ℕ) (found : Sweep) (letters : List (ℕ × Letter))
-    (m : Parts) : Type 0 where
+-- the sweep is that of the actor with this tracing, there is room to make the letters that return what
+-- it gives back, and they fit
+pub record FitsCollect (trace : Trace) (a : ℕ) (found : Sweep) (room : Vec (ℕ × Letter)) (m : Parts)
+    : Type 0 where
   pub cell : Cell
   pub home : (slot_at m.table.slots a).place ≡ Home cell
   pub may : may_collect (as_cell cell) (slot_at m.table.slots a).mail.letters ≡ true
-  pub collects : CollectsWith trace a found letters cell
-  pub fit : FitLetters letters m.table.slots
+  pub collects : CollectsWith trace a found cell
+  pub none : room.items ≡ []
+  pub enough : length found.plan.back ≤ vec_capacity room
+  pub fit : FitLetters (letters_of found.plan.back) m.table.slots
 
 -- the actor may leave, the letters return what it held, and fit
 pub record FitsLeave (a : ℕ) (letters : List (ℕ × Letter)) (m : Parts) : Type 0 where

@@ -1,20 +1,56 @@
 // Leave: an actor that nobody holds goes by itself.
 
-ghost use Rattle.std.specs.Prelude.{◌≡◌, false, set};
+ghost use Rattle.std.specs.Prelude.{◌≡◌, IfErr, IfOk, false, set};
 ghost use Rattle.behaviour_code.specs.declared.code.Program.{Program};
 ghost use Rattle.event_rule.specs.Runs.{Goes};
 ghost use Rattle.event_rule.specs.declared.event.Event.TheVariants.{Leave as leave_event};
 ghost use Rattle.machine_rules.specs.Next.{next};
 ghost use Rattle.machine_rules.specs.Options.{Options};
-ghost use Rattle.actor_table.specs.Slots.{away_of};
-ghost use Rattle.orca_core.specs.Fits.{FitsLeave};
+ghost use Rattle.actor_table.specs.Slots.{away_of, is_away, slot_at};
+ghost use Rattle.orca_core.specs.Faults.{Faulted};
+ghost use Rattle.orca_core.specs.Fits.{FitsLeave, OnlyRoom};
 ghost use Rattle.orca_core.specs.Parts.{state_of};
 
-use crate::letters::push_all;
+use crate::fault::StepFault;
+use crate::letters::{push_all, reserve_all};
 use crate::parts::Parts;
 use letter_kinds::Letter;
 use orca_names::ActorName;
 use std::alloc::Global;
+
+/// The letters by which the actor gives back what it held, and the memory for them. Nothing changes.
+///
+/// # Errors
+/// `NotEnabled` exactly where the actor may not leave, or its cell is away. `NoMemory` where memory
+/// was refused.
+#[tactic(auto, using(crate::proofs::Preparing::only_room))]
+pub(crate) fn prepare_leave(
+    alloc: Global,
+    parts: &mut Parts,
+    a: ActorName,
+) -> Result<Vec<(ActorName, Letter)>, StepFault>
+    ensures same { OnlyRoom parts.old parts.new }
+    ensures ok { IfOk result (λ letters. FitsLeave a letters.items parts.new) }
+    ensures fault { let slots = parts.old.table.slots in
+        (program : Program) (options : Options) → IfErr result
+        (Faulted (is_away (slot_at slots a)) (next (state_of program options parts.old) (leave_event a)) a) }
+{
+    if !parts.table.may_leave(a) {
+        return Err(StepFault::NotEnabled);
+    }
+    let Some(cell) = parts.table.cell(a) else {
+        unreachable!();
+    };
+    let gone = [a];
+    let Ok(given) = cell.give_back(alloc, &gone) else {
+        return Err(StepFault::NoMemory);
+    };
+    let letters = given.into_vec();
+    if reserve_all(alloc, &mut parts.table, &letters).is_err() {
+        return Err(StepFault::NoMemory);
+    }
+    Ok(letters)
+}
 
 /// The actor goes, and gives back what it held. It takes no memory.
 pub(crate) fn apply_leave(

@@ -47,6 +47,10 @@ pub(crate) fn reserve_all(
     ensures spare { table.new.spare ≡ table.old.spare }
     ensures ok { OnOk result (FitLetters letters.now table.new.slots) }
 {
+    if letters.len() == 1 {
+        table.reserve_letters(letters[0].0, 1)?;
+        return Ok(());
+    }
     let mut counts = BTreeMap::new(alloc);
     for letter in letters {
         let n = count_one(&mut counts, letter.0)?;

@@ -3,11 +3,13 @@ use Rattle.std.specs.Prelude.{is_some}
 use Rattle.orca_names.specs.declared.trace.Trace.{Trace}
 use Rattle.machine_rules.specs.Actors.{seat_at}
 use Rattle.actor_cell.specs.Cells.{as_cell}
+use Rattle.actor_cell.specs.Outs.{letters_of}
 use Rattle.actor_cell.specs.Pushing.{push_all}
 use Rattle.actor_cell.specs.Sweeps.{sweep_of, swept}
 use Rattle.actor_table.specs.Changes.{with_cell_by}
 use Rattle.actor_table.specs.Slots.{actors_of, home_in, slot_at}
 use Rattle.orca_core.specs.Fits.{CollectsWith}
+use Rattle.orca_core.specs.Letters.{FitLetters}
 use Rattle.orca_core.specs.Parts.{state_of}
 use Rattle.orca_core.proofs.Giving.{changed_present, fits_kept, seat_here}
 use Rattle.orca_core.proofs.Stepped.{collect_goes}
@@ -18,9 +20,10 @@ push_all-requires c =
     let slots = c.args.parts.now.table.slots in
     let a = c.args.a in
     let trace = c.args.trace in
-    let its = subst (λ p. IsSomeAnd (home_in p) (λ x. c.args.found.now ≡ sweep_of trace x)) (sym c.requires.home) c.requires.collects.found_is in
-    fits_kept c.args.letters.items slots c.collect.new.self.slots c.requires.fit c.collect.ensures.room
-    (λ b there. sym (changed_present (swept trace a) a (actors_of slots) b) ∙ sym (ap (λ xs. is_some (seat_at xs b)) (c.collect.ensures.actors trace its)) ∙ there)
+    let its = subst (λ p. IsSomeAnd (home_in p) (λ x. c.args.found ≡ sweep_of trace x)) (sym c.requires.home) c.requires.collects.found_is in
+    subst (λ ls. FitLetters ls c.collect.new.self.slots) (sym c.into_letters.ensures)
+    (fits_kept (letters_of c.args.found.plan.back) slots c.collect.new.self.slots c.requires.fit c.collect.ensures.room
+    (λ b there. sym (changed_present (swept trace a) a (actors_of slots) b) ∙ sym (ap (λ xs. is_some (seat_at xs b)) (c.collect.ensures.actors trace its)) ∙ there))
 
 pub returns-clause-state : goal.returns-clause-state
 returns-clause-state c = λ program options same.
@@ -28,10 +31,11 @@ returns-clause-state c = λ program options same.
     let cell = c.requires.cell in
     let a = c.args.a in
     let trace = options.trace in
-    let found = subst (λ (t : Trace). CollectsWith t a c.args.found.now c.args.letters.items cell) (sym same) c.requires.collects in
-    let its = subst (λ p. IsSomeAnd (home_in p) (λ x. c.args.found.now ≡ sweep_of trace x)) (sym c.requires.home) found.found_is in
+    let letters = c.into_letters.result.items in
+    let found = subst (λ (t : Trace). CollectsWith t a c.args.found cell) (sym same) c.requires.collects in
+    let its = subst (λ p. IsSomeAnd (home_in p) (λ x. c.args.found ≡ sweep_of trace x)) (sym c.requires.home) found.found_is in
     let here = seat_here slots a cell c.requires.home in
     let actors = c.collect.ensures.actors trace its ∙ ap (λ o. set (actors_of slots) a (with_cell_by (swept trace a) o)) here in
     collect_goes (state_of program options c.args.parts.now) a (as_cell cell) (slot_at slots a).mail.letters
-    c.args.letters.items (actors_of c.push_all.new.table.slots) here
-    c.requires.may found.letters_are (c.push_all.ensures.actors ∙ ap (push_all c.args.letters.items) actors)
+    letters (actors_of c.push_all.new.table.slots) here
+    c.requires.may (c.into_letters.ensures ∙ ap letters_of found.back_is) (c.push_all.ensures.actors ∙ ap (push_all letters) actors)

@@ -1,10 +1,7 @@
-use Rattle.std.proofs.Common.{◌≡◌, ◌≤◌, ◌+◌, ap, subst, sym, ◌∙◌, drop, true, arith, ℕ}
-use Rattle.std.specs.Prelude.{is_some}
-use Rattle.machine_rules.specs.Actors.{seat_at}
+use Rattle.std.proofs.Common.{◌+◌, ap, ◌∙◌, drop, arith}
 use Rattle.actor_cell.proofs.Raising.{drop_past, rest_of}
-use Rattle.actor_table.specs.Slots.{actors_of, slot_at}
 use Rattle.orca_core.specs.Letters.{counted, letters_to}
-use Rattle.orca_core.proofs.Reserving.{counted_fits, first_counts, same_actors, to_few}
+use Rattle.orca_core.proofs.Reserving.{counted_fits, first_counts, one_fits, same_actors, to_few}
 use Rattle.orca_core.proofs.letters.reserve_all.Goals as goal
 
 pub count_one-requires : goal.count_one-requires
@@ -23,9 +20,9 @@ loop-letter-preserved c =
     let l = c.letter-item.result in
     let rest = rest_of letters i l c.loop-letter-test.true c.letter-item.is in
     let old = c.loop-letter.table.slots in
-    let new = c.reserve_letters.new.self.slots in
+    let new = c.reserve_letters-in-loop-letter.new.self.slots in
     let before = c.loop-letter.invariant in
-    let does = c.reserve_letters.ensures in
+    let does = c.reserve_letters-in-loop-letter.ensures in
     let actors = same_actors new old does.places does.letters in
     record {
       places = does.places ∙ before.places;
@@ -34,7 +31,7 @@ loop-letter-preserved c =
       spare = does.spare ∙ before.spare;
       told = λ b. omega (arith, before.told b, ap (letters_to b) rest, c.in_ok-n.ensures.counted b);
       fits = counted_fits old new actors does.room l.0 c.in_ok-n.n (counted c.loop-letter.counts) (counted c.count_one.new.counts)
-          before.fits c.in_ok-reserve_letters.ensures.ok c.in_ok-n.ensures.is c.in_ok-n.ensures.counted;
+          before.fits c.in_ok-reserve_letters-2.ensures.ok c.in_ok-n.ensures.is c.in_ok-n.ensures.counted;
     }
 
 pub returns-clause-ok : goal.returns-clause-ok
@@ -46,3 +43,11 @@ returns-clause-ok c = λ b there.
       c.loop-letter.invariant.told b,
       ap (letters_to b) (drop_past c.loop-letter.letter-index letters c.loop-letter-test.false),
     )
+
+pub returns-then-letters-eq1-clause-ok : goal.returns-then-letters-eq1-clause-ok
+returns-then-letters-eq1-clause-ok c =
+    let does = c.reserve_letters.ensures in
+    let old = c.args.table.now.slots in
+    let new = c.reserve_letters.new.self.slots in
+    one_fits old new (same_actors new old does.places does.letters) does.room c.args.letters.now c.index-letters-0.result
+    c.if-letters-eq1.true c.in_ok-reserve_letters.ensures.ok

@@ -1,10 +1,8 @@
-use Rattle.std.proofs.Common.{◌≡◌, ◌≤◌, ◌+◌, ap, subst, sym, ◌∙◌, drop, true, arith}
-use Rattle.std.specs.Prelude.{is_some}
+use Rattle.std.proofs.Common.{◌≤◌, ◌+◌, ap, subst, ◌∙◌, drop, arith}
 use Rattle.letter_kinds.specs.declared.letter.Letter.TheVariants.{Dec}
-use Rattle.machine_rules.specs.Actors.{seat_at}
 use Rattle.actor_cell.proofs.Raising.{drop_past, rest_of}
 use Rattle.actor_cell.specs.Outs.{letters_of}
-use Rattle.actor_table.specs.Slots.{actors_of, slot_at}
+use Rattle.actor_table.specs.Slots.{slot_at}
 use Rattle.orca_core.specs.Letters.{letters_to}
 use Rattle.orca_core.proofs.Reserving.{each_fits, same_actors}
 use Rattle.orca_core.proofs.letters.reserve_each.Goals as goal
