@@ -1,5 +1,5 @@
 -- What a step needs of the state, which every run gives, and what it keeps.
-use Rattle.std.specs.Prelude.{ℕ, ◌≡◌, ◌+◌, ◌<◌, ◌^◌, false, List, ◌∷◌, length, get_or, Some, None}
+use Rattle.std.specs.Prelude.{ℕ, ◌≡◌, ◌+◌, ◌<◌, ◌^◌, false, List, ◌∷◌, length, get_or, Some, None, ⊤}
 use Rattle.std.specs.FinMap as m
 use Rattle.orca_names.specs.declared.limits.TheConstants.{BODY_LIMIT}
 use Rattle.orca_names.specs.declared.names.Thing.TheVariants.{Actor}
@@ -10,8 +10,16 @@ use Rattle.machine_rules.specs.Actors.{Actors, seat, seat_at}
 use Rattle.machine_rules.specs.Cell.{Cell}
 use Rattle.actor_cell.specs.Goes.{CanGo}
 use Rattle.actor_cell.specs.Takes.{CanTake}
+use Rattle.event_rule.specs.declared.event.Event.{Event}
+use Rattle.event_rule.specs.declared.event.Event.TheVariants.{Take, Go, Collect, Leave, Block, Hear, Scan, Reap}
+use Rattle.cycle_detect.specs.declared.detector.TheConstants.{TOKENS_LIMIT}
+use Rattle.actor_cell.specs.declared.cell.Cell as cell
+use Rattle.actor_cell.specs.Sweeps.{KnowsOthersOnly}
 use Rattle.actor_table.specs.declared.slot.Slot.{Slot}
-use Rattle.actor_table.specs.Slots.{away_of}
+use Rattle.actor_table.specs.declared.slot.Place.TheVariants.{Home}
+use Rattle.actor_table.specs.Slots.{actors_of, away_of, slot_at}
+use Rattle.orca_core.specs.declared.parts.Parts.{Parts}
+use Rattle.orca_core.specs.Reaping.{AckedAreHome}
 
 -- no cell is away
 abbrev pub AllHome : List Slot → Type 0
@@ -32,3 +40,17 @@ pub record TurnFits (trace : Trace) (weight : ℕ) (program : Program) (a made :
 abbrev pub AllowsGo : Trace → ℕ → Program → ℕ → Actors → Type 0
 AllowsGo trace weight program a actors = (c : Cell) (mail : List Letter)
     → seat_at actors a ≡ seat c mail → TurnFits trace weight program a (length actors) c
+
+-- what an event needs
+abbrev pub CanStep : Trace → ℕ → Program → Parts → Event → Type 0
+CanStep trace weight program m (Take a) = AllowsTake a (actors_of m.table.slots)
+CanStep trace weight program m (Go a) =
+    AllowsGo trace weight program a (actors_of m.table.slots) × (m.objects + BODY_LIMIT < 2 ^ 64)
+CanStep trace weight program m (Collect a) = (c : cell.Cell)
+    → (slot_at m.table.slots a).place ≡ Home c → c.heap.owner ≡ a → KnowsOthersOnly c
+CanStep trace weight program m (Leave a) = ⊤
+CanStep trace weight program m (Block a) = ⊤
+CanStep trace weight program m Hear = ⊤
+CanStep trace weight program m Scan = m.detector.state.opened < TOKENS_LIMIT
+CanStep trace weight program m (Reap number) =
+    AckedAreHome number m.detector.state m.table.slots

@@ -35,7 +35,8 @@ pub(crate) fn prepare_collect(
     parts: &mut Parts,
     a: ActorName,
 ) -> Result<(Sweep, Vec<(ActorName, Letter)>), StepFault>
-    requires { (c : Cell) → (slot_at parts.old.table.slots a).place ≡ Home c → KnowsOthersOnly c }
+    requires { (c : Cell) → (slot_at parts.old.table.slots a).place ≡ Home c → c.heap.owner ≡ a
+        → KnowsOthersOnly c }
     ensures same { OnlyRoom parts.old parts.new }
     ensures ok { IfOk result (λ found. FitsCollect trace a found.0 found.1 parts.new) }
     ensures fault { let slots = parts.old.table.slots in

@@ -8,6 +8,7 @@ mod goes;
 mod hears;
 mod leaves;
 mod letters;
+mod machine;
 mod parts;
 mod reaps;
 mod scans;
@@ -15,3 +16,4 @@ mod steps;
 mod takes;
 
 pub use fault::StepFault;
+pub use machine::Orca;

@@ -7,6 +7,9 @@ ghost use Rattle.event_rule.specs.Runs.{Goes};
 ghost use Rattle.event_rule.specs.declared.event.Event.TheVariants as events;
 ghost use Rattle.machine_rules.specs.Next.{next};
 ghost use Rattle.machine_rules.specs.Options.{Options};
+ghost use Rattle.actor_cell.specs.declared.cell.Cell.{Cell as a_cell};
+ghost use Rattle.actor_cell.specs.Sweeps.{KnowsOthersOnly};
+ghost use Rattle.actor_table.specs.declared.slot.Place.TheVariants.{Home};
 ghost use Rattle.actor_table.specs.Slots.{actors_of, is_away, slot_at};
 ghost use Rattle.cycle_detect.specs.declared.detector.TheConstants.{TOKENS_LIMIT};
 ghost use Rattle.orca_core.specs.Faults.{DetectorFaulted, Faulted};
@@ -16,9 +19,11 @@ ghost use Rattle.orca_core.specs.Parts.{state_of};
 ghost use Rattle.orca_core.specs.Steps.{AllHome, AllowsGo, AllowsTake};
 
 use crate::blocks::{apply_block, prepare_block};
+use crate::collects::{apply_collect, prepare_collect};
 use crate::fault::StepFault;
 use crate::goes::{apply_go, prepare_go};
 use crate::hears::{apply_hear, prepare_hear};
+use crate::leaves::{apply_leave, prepare_leave};
 use crate::parts::Parts;
 use crate::reaps::{apply_reap, prepare_reap};
 use crate::scans::{apply_scan, prepare_scan};
@@ -36,9 +41,13 @@ pub(crate) fn take(code: &Checked, parts: &mut Parts, a: ActorName) -> Result<()
         (Faulted (is_away (slot_at parts.old.table.slots a)) (next (state_of program options parts.old) (events.Take a)) a) }
     ensures home { AllHome parts.old.table.slots → AllHome parts.new.table.slots }
 {
-    prepare_take(parts, a)?;
-    apply_take(code, parts, a);
-    Ok(())
+    match prepare_take(parts, a) {
+        Ok(()) => {
+            apply_take(code, parts, a);
+            Ok(())
+        }
+        Err(fault) => Err(fault),
+    }
 }
 
 pub(crate) fn go(
@@ -64,6 +73,49 @@ pub(crate) fn go(
     match prepare_go(alloc, code, weight, trace, parts, a) {
         Ok(found) => {
             apply_go(alloc, code, weight, trace, parts, a, found);
+            Ok(())
+        }
+        Err(fault) => Err(fault),
+    }
+}
+
+pub(crate) fn collect(
+    alloc: Global,
+    trace: Trace,
+    parts: &mut Parts,
+    a: ActorName,
+) -> Result<(), StepFault>
+    requires { (c : a_cell) → (slot_at parts.old.table.slots a).place ≡ Home c → c.heap.owner ≡ a
+        → KnowsOthersOnly c }
+    ensures ok { (program : Program) (options : Options) → options.trace ≡ trace
+        → OnOk result (next (state_of program options parts.old) (events.Collect a)
+        ≡ Goes (state_of program options parts.new)) }
+    ensures same { OnErr result (OnlyRoom parts.old parts.new) }
+    ensures fault { (program : Program) (options : Options) → IfErr result
+        (Faulted (is_away (slot_at parts.old.table.slots a)) (next (state_of program options parts.old) (events.Collect a)) a) }
+    ensures home { AllHome parts.old.table.slots → AllHome parts.new.table.slots }
+{
+    match prepare_collect(alloc, trace, parts, a) {
+        Ok((found, room)) => {
+            apply_collect(parts, trace, a, found, room);
+            Ok(())
+        }
+        Err(fault) => Err(fault),
+    }
+}
+
+pub(crate) fn leave(alloc: Global, parts: &mut Parts, a: ActorName) -> Result<(), StepFault>
+    ensures ok { (program : Program) (options : Options)
+        → OnOk result (next (state_of program options parts.old) (events.Leave a)
+        ≡ Goes (state_of program options parts.new)) }
+    ensures same { OnErr result (OnlyRoom parts.old parts.new) }
+    ensures fault { (program : Program) (options : Options) → IfErr result
+        (Faulted (is_away (slot_at parts.old.table.slots a)) (next (state_of program options parts.old) (events.Leave a)) a) }
+    ensures home { AllHome parts.old.table.slots → AllHome parts.new.table.slots }
+{
+    match prepare_leave(alloc, parts, a) {
+        Ok(letters) => {
+            apply_leave(alloc, parts, a, letters);
             Ok(())
         }
         Err(fault) => Err(fault),

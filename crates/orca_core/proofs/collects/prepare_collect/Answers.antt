@@ -19,7 +19,7 @@ returns-then-not-may_collect-clause-fault c = λ program options.
 pub found_collect-requires : goal.found_collect-requires
 found_collect-requires c =
     let x = slot_at c.args.parts.now.table.slots c.args.a in
-    c.requires c.in-Some.cell.now (home_is x c.in-Some.cell.now c.in-Some.ensures.cell)
+    c.requires c.in-Some.cell.now (home_is x c.in-Some.cell.now c.in-Some.ensures.cell) c.in-Some.ensures.owner
 
 pub reserve_each-requires : goal.reserve_each-requires
 reserve_each-requires c = λ b.
