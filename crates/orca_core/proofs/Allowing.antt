@@ -1,14 +1,12 @@
 -- What runs allow is allowed where it was prepared.
-use Rattle.std.proofs.Common.{◌≡◌, ◌<◌, ◌+◌, ℕ, List, length, Option, None, Some, refl, sym, ap, subst, ◌∙◌}
+use Rattle.std.proofs.Common.{◌≡◌, ℕ, length, sym, ap, subst, ◌∙◌}
 use Rattle.std.specs.Prelude.{IsSomeAnd}
 use Rattle.std.specs.FinMap as map_of
 use Rattle.std.proofs.lemmas.List.{length-map}
-use Rattle.orca_names.specs.declared.limits.TheConstants.{BODY_LIMIT}
 use Rattle.orca_names.specs.declared.names.Thing.TheVariants.{Actor}
 use Rattle.orca_names.specs.declared.trace.Trace.{Trace}
 use Rattle.orca_names.specs.declared.trace.Trace.TheVariants.{Deep}
 use Rattle.behaviour_code.specs.declared.code.Program.{Program}
-use Rattle.turn_rules.specs.declared.act.Frame.{Frame}
 use Rattle.machine_rules.specs.Actors.{Actors, seat, seat_at}
 use Rattle.machine_rules.specs.State.{State}
 use Rattle.actor_cell.specs.declared.cell.Cell.{Cell}
@@ -16,11 +14,10 @@ use Rattle.actor_cell.specs.declared.turning.Turned.{Turned}
 use Rattle.actor_cell.specs.Cells.{as_cell}
 use Rattle.actor_cell.specs.Goes as goes
 use Rattle.actor_cell.specs.Goes.{CanMove, turned_in}
-use Rattle.actor_table.specs.declared.slot.Slot.{Slot}
 use Rattle.actor_table.specs.declared.slot.Place.{Place}
 use Rattle.actor_table.specs.declared.slot.Place.TheVariants.{Home}
 use Rattle.actor_table.specs.Changes.{CanTakeHere}
-use Rattle.actor_table.specs.Slots.{actors_of, home_in, seat_of, slot_at}
+use Rattle.actor_table.specs.Slots.{actors_of, seat_of, slot_at}
 use Rattle.orca_core.specs.declared.parts.Parts.{Parts}
 use Rattle.orca_core.specs.Fits.{FitsTake, OnlyRoom}
 use Rattle.orca_core.specs.Goes.{CountsAllow, FitsGo}

@@ -1,5 +1,5 @@
 -- What a go leads to, by the act that was found.
-use Rattle.std.proofs.Common.{◌≡◌, ◌+◌, ◌-◌, ◌<◌, ℕ, Bool, true, nat_lt, List, [], ◌∷◌, ◌++◌, length, set, Option, None, Some, refl, sym, ap, subst, ◌∙◌, arith, lt-ltb}
+use Rattle.std.proofs.Common.{◌≡◌, ◌+◌, ◌-◌, ◌<◌, ℕ, nat_lt, List, [], ◌∷◌, ◌++◌, length, set, None, Some, refl, sym, ap, ◌∙◌, arith, lt-ltb}
 use Rattle.std.specs.Prelude.{if◌then◌else◌, is_some, option_map, ⊤}
 use Rattle.std.specs.Option.{option_map_or}
 use Rattle.std.proofs.lemmas.List.{append-nil, get_or-set_same, length-set}
@@ -8,7 +8,7 @@ use Rattle.orca_names.specs.declared.names.Value.{Value}
 use Rattle.turn_rules.specs.Segment as segment
 use Rattle.turn_rules.specs.declared.act.Frame.{Frame}
 use Rattle.event_rule.specs.declared.event.Event.TheVariants.{Go}
-use Rattle.event_rule.specs.Runs.{Goes, IsFull, NotEnabled, Step}
+use Rattle.event_rule.specs.Runs.{Goes, IsFull, NotEnabled}
 use Rattle.letter_kinds.specs.declared.letter.Letter.{Letter}
 use Rattle.letter_kinds.specs.declared.letter.Letter.TheVariants.{Inc}
 use Rattle.letter_kinds.specs.Counting.{Amount}
@@ -21,13 +21,13 @@ use Rattle.machine_rules.specs.Next.{next}
 use Rattle.machine_rules.specs.State.{State}
 use Rattle.machine_rules.proofs.Acting.{acting-is}
 use Rattle.actor_cell.specs.Cells.{settled}
-use Rattle.actor_cell.specs.Goes.{Turned, cell_by, gone_by, load_in, turned_in}
+use Rattle.actor_cell.specs.Goes.{cell_by, gone_by, load_in, turned_in}
 use Rattle.actor_cell.specs.Laws.{after_go}
 use Rattle.actor_cell.specs.declared.turning.Move.{Move}
 use Rattle.actor_cell.specs.declared.turning.Move.TheVariants.{Post, Mint, New, Print, End}
 use Rattle.actor_table.specs.Changes.{changed_at, moved, with_cell_by}
 use Rattle.orca_core.specs.Goes.{given}
-use Rattle.actor_cell.proofs.GoParts.{gone, next-mint_all, next-send, set_twice}
+use Rattle.actor_cell.proofs.GoParts.{gone, next-mint_all, next-send}
 
 -- where the act makes an actor, fewer are made than may be
 abbrev pub FitsLimit : Move → ℕ → Type 0

@@ -8,6 +8,7 @@ pub mod Naming
 pub mod Posting
 pub mod Prepared
 pub mod Preparing
+pub mod Reached
 pub mod Reaping
 pub mod Reserving
 pub mod Stepped

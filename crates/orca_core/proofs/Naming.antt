@@ -1,5 +1,5 @@
 -- The maker of an actor can hold it with the weight.
-use Rattle.std.proofs.Common.{◌≡◌, ◌+◌, ◌<◌, ◌≤◌, ℕ, List, length, map, set, Option, None, Some, refl, sym, ap, subst, ◌∙◌, arith}
+use Rattle.std.proofs.Common.{◌≡◌, ◌<◌, ◌≤◌, ℕ, List, length, Option, None, Some, refl, sym, ap, subst, ◌∙◌, arith}
 use Rattle.std.specs.Prelude.{IsSome, IsSomeAnd}
 use Rattle.std.specs.FinMap as m
 use Rattle.std.specs.Option.{option_map_or}
@@ -21,7 +21,6 @@ use Rattle.actor_table.specs.declared.slot.Place.{Place}
 use Rattle.actor_table.specs.declared.slot.Place.TheVariants.{Home, Away, Gone}
 use Rattle.actor_table.specs.Changes.{CanSettleNew, changed_at, moved, with_cell_by}
 use Rattle.actor_table.specs.Slots.{actors_of, home_in, home_of, seat_of, slot_at}
-use Rattle.actor_table.proofs.Changing.{seat_read}
 use Rattle.orca_core.specs.declared.parts.Parts.{Parts}
 use Rattle.orca_core.specs.Goes.{CanNameNew, HasRoomOut}
 use Rattle.orca_core.proofs.Gone.{FitsLimit}

@@ -1,5 +1,5 @@
 -- A turn that was found, and what it takes to be prepared.
-use Rattle.std.proofs.Common.{◌≡◌, ◌≤◌, ◌⊎◌, inl, inr, ℕ, Bool, true, false, List, length, get_or, Option, None, Some, refl, sym, ap, subst, ◌∙◌}
+use Rattle.std.proofs.Common.{◌≡◌, ◌≤◌, ◌⊎◌, inl, inr, ℕ, true, false, List, length, get_or, Option, None, Some, refl, sym, ap, subst, ◌∙◌}
 use Rattle.std.specs.Prelude.{if◌then◌else◌, is_err, is_some, option_map, OnOk}
 use Rattle.std.specs.declared.result.Result.{Result}
 use Rattle.std.specs.declared.result.Result.TheVariants.{Ok, Err}
@@ -9,9 +9,9 @@ use Rattle.orca_names.specs.declared.limits.TheConstants.{BODY_LIMIT}
 use Rattle.behaviour_code.specs.declared.code.Program.{Program}
 use Rattle.turn_rules.specs.Segment.{Turn}
 use Rattle.turn_rules.specs.declared.act.Frame.{Frame}
-use Rattle.event_rule.specs.Runs.{NotEnabled, Step}
+use Rattle.event_rule.specs.Runs.{NotEnabled}
 use Rattle.letter_kinds.specs.declared.letter.Letter.{Letter}
-use Rattle.machine_rules.specs.Actors.{Actors, Seat, seat, seat_at}
+use Rattle.machine_rules.specs.Actors.{Seat, seat, seat_at}
 use Rattle.machine_rules.specs.Cell as rules
 use Rattle.machine_rules.specs.Go.{go}
 use Rattle.machine_rules.specs.Guards.{may_go}
@@ -26,7 +26,7 @@ use Rattle.actor_table.specs.declared.slot.Slot.{Slot}
 use Rattle.actor_table.specs.declared.slot.Place.{Place}
 use Rattle.actor_table.specs.declared.slot.Place.TheVariants.{Home, Away, Gone}
 use Rattle.actor_table.specs.Changes.{HasCell, HasRoomToGo}
-use Rattle.actor_table.specs.Slots.{Table, actors_of, away_of, gone, is_away, is_away_in, places_of, seat_in, seat_of, slot_at}
+use Rattle.actor_table.specs.Slots.{Table, actors_of, away_of, gone, is_away, is_away_in, places_of, seat_in, slot_at}
 use Rattle.actor_table.proofs.Changing.{seat_read}
 use Rattle.orca_core.specs.Faults.{Faulted}
 use Rattle.orca_core.specs.Fits.{OnlyRoom}
@@ -96,7 +96,7 @@ pub table_room : (m : Parts) (table : Table) (turn : Turn) → actors_of table.s
 table_room m table turn actors away =
     record { state = λ p o. ap (λ xs. record (state_of p o m) { actors = xs }) actors; away = away }
 
-away_read : (slots : List Slot) (a : ℕ) → get_or (away_of slots) a false ≡ is_away (slot_at slots a)
+pub away_read : (slots : List Slot) (a : ℕ) → get_or (away_of slots) a false ≡ is_away (slot_at slots a)
 away_read slots a = get_or-map is_away slots a gone
 
 place_read : (slots : List Slot) (a : ℕ) → get_or (places_of slots) a Gone ≡ (slot_at slots a).place

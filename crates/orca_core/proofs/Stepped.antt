@@ -1,9 +1,8 @@
 -- What each event leads to, by the parts of the state that it changes.
-use Rattle.std.proofs.Common.{◌≡◌, ℕ, Bool, true, List, [], ◌∷◌, ◌++◌, map, set, Option, None, Some, refl, sym, ap, subst, ◌∙◌}
+use Rattle.std.proofs.Common.{◌≡◌, ℕ, true, List, map, set, None, Some, sym, ap, ◌∙◌}
 use Rattle.std.proofs.lemmas.List.{append-nil}
-use Rattle.orca_names.specs.declared.trace.Trace.{Trace}
 use Rattle.event_rule.specs.declared.event.Event.TheVariants.{Collect, Leave, Reap}
-use Rattle.event_rule.specs.Runs.{Goes, NotEnabled, Step}
+use Rattle.event_rule.specs.Runs.{Goes, NotEnabled}
 use Rattle.letter_kinds.specs.declared.letter.Letter.{Letter}
 use Rattle.letter_kinds.specs.declared.letter.Letter.TheVariants.{Dec}
 use Rattle.letter_kinds.specs.Counting.{by_owner, given_back}

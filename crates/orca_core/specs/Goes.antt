@@ -1,5 +1,5 @@
 -- What a turn that was found asks of the machine.
-use Rattle.std.specs.Prelude.{ℕ, ◌≡◌, ◌+◌, ◌<◌, ◌≤◌, ◌^◌, ⊤, true, is_some, List, [], ◌∷◌, ◌++◌, length, Option, None, Some, IsSome, option_map, vec_capacity, vec_len}
+use Rattle.std.specs.Prelude.{ℕ, ◌≡◌, ◌+◌, ◌<◌, ◌≤◌, ◌^◌, ⊤, true, is_some, List, [], ◌∷◌, ◌++◌, length, None, Some, option_map, vec_capacity, vec_len}
 use Rattle.std.specs.FinMap as m
 use Rattle.orca_names.specs.declared.limits.TheConstants.{ACTORS_LIMIT, BODY_LIMIT}
 use Rattle.orca_names.specs.declared.names.Thing.TheVariants.{Actor}
@@ -16,7 +16,7 @@ use Rattle.actor_cell.specs.declared.turning.Move.{Move}
 use Rattle.actor_cell.specs.declared.turning.Move.TheVariants.{Post, Mint, New, Print, End}
 use Rattle.actor_cell.specs.declared.turning.Turned.{Turned}
 use Rattle.actor_cell.specs.Cells.{as_cell, settled}
-use Rattle.actor_cell.specs.Goes.{CanMove, new_entries, out_of, turned_in}
+use Rattle.actor_cell.specs.Goes.{CanMove, new_entries, turned_in}
 use Rattle.actor_table.specs.declared.slot.Slot.{Slot}
 use Rattle.actor_table.specs.declared.slot.Place.TheVariants.{Home}
 use Rattle.actor_table.specs.Changes.{CanSettleNew, changed_at, with_cell_by}

@@ -1,5 +1,5 @@
 -- The state of the machine, by its parts.
-use Rattle.std.specs.Prelude.{ℕ, List, ◌++◌, [], ◌∷◌, Option, None, Some}
+use Rattle.std.specs.Prelude.{List, ◌++◌, [], ◌∷◌, Option, None, Some}
 use Rattle.behaviour_code.specs.declared.code.Program.{Program}
 use Rattle.letter_kinds.specs.declared.note.Note.{Note}
 use Rattle.machine_rules.specs.Options.{Options}

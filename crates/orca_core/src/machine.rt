@@ -141,6 +141,8 @@ impl<'a> Orca<'a> {
         ensures state { IfOk result (λ m. m.state ≡ first_state code.now (options_of weight trace)) }
         ensures steps { IfOk result (λ m. m.steps ≡ 0) }
     {
+        // The program was checked.
+        let _program = code.program();
         let table = first_table(alloc, code)?;
         Ok(Orca {
             code,
@@ -172,7 +174,14 @@ impl<'a> Orca<'a> {
         ensures fault { IfErr result (IsFault (next self.old.state e) e) }
         ensures same { OnErr result (self.new ≡ self.old) }
     {
-        match step_parts(alloc, self.code, self.weight, self.trace, &mut self.parts, e) {
+        match step_parts(
+            alloc,
+            self.code,
+            self.weight,
+            self.trace,
+            &mut self.parts,
+            e,
+        ) {
             Ok(()) => {
                 self.steps += 1;
                 Ok(())

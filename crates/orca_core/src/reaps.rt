@@ -21,7 +21,6 @@ ghost use Rattle.orca_core.specs.Reaping.{AckedAreHome, AreHome};
 use crate::fault::StepFault;
 use crate::letters::{push_all, reserve_all};
 use crate::parts::Parts;
-
 use actor_table::ActorTable;
 use letter_kinds::Letter;
 use orca_names::{ActorName, NoMemory};

@@ -25,7 +25,7 @@ use crate::goes::{apply_go, prepare_go};
 use crate::hears::{apply_hear, prepare_hear};
 use crate::leaves::{apply_leave, prepare_leave};
 use crate::parts::Parts;
-use crate::reaps::{apply_reap, prepare_reap};
+use crate::reaps::{Going, apply_reap, prepare_reap};
 use crate::scans::{apply_scan, prepare_scan};
 use crate::takes::{apply_take, prepare_take};
 use behaviour_check::Checked;
@@ -188,8 +188,8 @@ pub(crate) fn reap(alloc: Global, parts: &mut Parts, number: u64) -> Result<(), 
     ensures home { AllHome parts.old.table.slots → AllHome parts.new.table.slots }
 {
     match prepare_reap(alloc, parts, number) {
-        Ok(going) => {
-            apply_reap(alloc, parts, number, going.members.as_slice(), going.letters);
+        Ok(Going { members, letters }) => {
+            apply_reap(alloc, parts, number, members.as_slice(), letters);
             Ok(())
         }
         Err(fault) => Err(fault),

@@ -1,9 +1,9 @@
-use Rattle.std.proofs.Common.{◌≡◌, ◌<◌, Some, IsSome, length, refl, ap, subst, sym, ◌∙◌, arith}
+use Rattle.std.proofs.Common.{IsSome, length, refl, ap, subst, sym, ◌∙◌, arith}
 use Rattle.std.proofs.lemmas.List.{length-map}
 use Rattle.event_rule.specs.Runs.{Goes}
 use Rattle.actor_cell.specs.Goes.{turned_in}
 use Rattle.actor_cell.specs.Cells.{as_cell}
-use Rattle.actor_table.specs.Slots.{actors_of, seat_of, slot_at}
+use Rattle.actor_table.specs.Slots.{seat_of, slot_at}
 use Rattle.actor_table.specs.Changes.{changed_at, moved, with_cell_by}
 use Rattle.actor_table.proofs.Changing.{home_within}
 use Rattle.orca_core.specs.Goes.{given}
@@ -38,22 +38,22 @@ give_out-requires-clause-can c =
 
 pub returns-clause-state : goal.returns-clause-state
 returns-clause-state c = λ options weight trace.
-      let fits = c.requires.fits in
-      let slots = c.args.parts.now.table.slots in
-      let a = c.args.a in
-      let s = state_of c.args.code.now options c.args.parts.now in
-      let cell = as_cell fits.cell in
-      let program = c.args.code.now in
-      let act = c.args.found.act in
-      let made = length c.args.parts.now.turn.made in
-      go_goes s a cell (slot_at slots a).mail.letters fits.frame c.args.parts.now.turn c.args.found.place act
-      (record {
-        present = seat_here slots a fits.cell fits.home;
-        framed = fits.framed;
-        found = ap (λ t. turned_in t options.weight program a cell fits.frame) trace
-            ∙ ap (λ w. turned_in c.args.trace w program a cell fits.frame) weight ∙ fits.found_is;
-      })
-      (fits_limit act c.args.parts.now fits.room) (omega (arith, home_within slots a fits.cell fits.home, length-map slots seat_of))
-      ∙ ap Goes (ap (λ w. given w program a act made (record s { actors = changed_at (with_cell_by (moved a c.args.parts.now.turn c.args.found.place act)) a s.actors })) weight
-      ∙ ap (λ xs. given c.args.weight program a act made (record s { actors = xs })) (sym c.go.ensures.actors)
-      ∙ sym (c.give_out.ensures.state options))
+    let fits = c.requires.fits in
+    let slots = c.args.parts.now.table.slots in
+    let a = c.args.a in
+    let s = state_of c.args.code.now options c.args.parts.now in
+    let cell = as_cell fits.cell in
+    let program = c.args.code.now in
+    let act = c.args.found.act in
+    let made = length c.args.parts.now.turn.made in
+    go_goes s a cell (slot_at slots a).mail.letters fits.frame c.args.parts.now.turn c.args.found.place act
+    (record {
+      present = seat_here slots a fits.cell fits.home;
+      framed = fits.framed;
+      found = ap (λ t. turned_in t options.weight program a cell fits.frame) trace
+          ∙ ap (λ w. turned_in c.args.trace w program a cell fits.frame) weight ∙ fits.found_is;
+    })
+    (fits_limit act c.args.parts.now fits.room) (omega (arith, home_within slots a fits.cell fits.home, length-map slots seat_of))
+    ∙ ap Goes (ap (λ w. given w program a act made (record s { actors = changed_at (with_cell_by (moved a c.args.parts.now.turn c.args.found.place act)) a s.actors })) weight
+    ∙ ap (λ xs. given c.args.weight program a act made (record s { actors = xs })) (sym c.go.ensures.actors)
+    ∙ sym (c.give_out.ensures.state options))

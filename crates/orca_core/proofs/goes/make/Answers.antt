@@ -1,4 +1,4 @@
-use Rattle.std.proofs.Common.{◌∷◌, [], ◌++◌, refl, sym, subst}
+use Rattle.std.proofs.Common.{refl, sym, subst}
 use Rattle.actor_table.specs.declared.slot.Place.TheVariants.{Home}
 use Rattle.orca_core.specs.Steps.{AllHome}
 use Rattle.orca_core.proofs.Homes.{home_kept, home_pushed}

@@ -1,6 +1,5 @@
 use Rattle.std.proofs.Common.{refl}
 use Rattle.orca_core.specs.Parts.{state_of}
-use Rattle.orca_core.specs.Fits.{OnlyRoom}
 use Rattle.orca_core.specs.declared.parts.Parts.{Parts}
 use Rattle.orca_core.proofs.Prepared.{fits_go, not_going, only_room_then, table_room, when_ok}
 use Rattle.orca_core.proofs.goes.prepare_go.Goals as goal
