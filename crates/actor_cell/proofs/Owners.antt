@@ -21,7 +21,7 @@ has_nowhere (y ∷ xs) x other =
 
 found_is_has : (xs : List ℕ) (x : ℕ) (r : Result ℕ ℕ)
     → MatchResult r (λ i. (i < length xs) × (get_or xs i 0 ≡ x))
-      (λ i. (i ≤ length xs) × ((k : ℕ) → k < i → get_or xs k 0 < x) × ((k : ℕ) → i ≤ k → k < length xs → x < get_or xs k 0))
+    (λ i. (i ≤ length xs) × ((k : ℕ) → k < i → get_or xs k 0 < x) × ((k : ℕ) → i ≤ k → k < length xs → x < get_or xs k 0))
     → is_ok r ≡ has xs x
 found_is_has xs x (Ok i) at = sym (has_at xs x i at.0 at.1)
 found_is_has xs x (Err i) gap = sym (has_nowhere xs x (λ k inside is.
