@@ -1,18 +1,14 @@
 // One actor in the table.
 
-ghost use Rattle.std.specs.Prelude.{◌≡◌, ◌↔◌, ◌+◌, ◌<◌, ◌≤◌, ◌||◌, ◌∷◌, ℕ, Bool, IfNone, IfSome, IsSome, IsSomeAnd, OnOk, if◌then◌else◌, is_some, List, None, Some, IsTrue, true, ⊤};
+ghost use Rattle.std.specs.Prelude.{◌≡◌, ◌+◌, ◌<◌, ◌≤◌, ◌||◌, ℕ, IfNone, IfSome, IsSome, IsSomeAnd, OnOk, is_some, None, Some, true, ⊤};
 ghost use Rattle.std.specs.Option.{option_copied};
 ghost use Rattle.orca_names.specs.declared.trace.Trace.{Trace as tracing};
-ghost use Rattle.turn_rules.specs.declared.act.Frame.{Frame as frame_of_rules};
-ghost use Rattle.letter_kinds.specs.declared.letter.Letter.{Letter as a_letter};
 ghost use Rattle.machine_rules.specs.Actors.{seat, with_letter_more};
-ghost use Rattle.machine_rules.specs.Cell.{Cell as cell_of_rules};
 ghost use Rattle.machine_rules.specs.Guards.{may_block, may_collect, may_leave, may_take};
-ghost use Rattle.machine_rules.specs.Take.{cell_after, note_of};
 ghost use Rattle.actor_cell.specs.Cells.{as_cell, settled};
 ghost use Rattle.actor_cell.specs.Goes.{out_of};
 ghost use Rattle.actor_cell.specs.Sweeps.{sweep_of, swept};
-ghost use Rattle.actor_table.specs.Changes.{CanCollectHere, CanGoHere, CanSettleNew, CanTakeHere, HasCell, HasRoomToGo, HasRoomToTake, moved, note_taken, taken, told, with_cell_by};
+ghost use Rattle.actor_table.specs.Changes.{CanCollectHere, CanGoHere, CanSettleNew, CanTakeHere, HasRoomToGo, HasRoomToTake, moved, note_taken, taken, told, with_cell_by};
 ghost use Rattle.actor_table.specs.declared.slot.Place.TheVariants.{Home};
 ghost use Rattle.actor_table.specs.Slots.{can_act, can_settle, event_in, event_of, home_of, is_away, mail_of, may_at, seat_of, IsOwnedBy};
 

@@ -1,7 +1,6 @@
 // All places, and what becomes of one of them.
 
 ghost use Rattle.std.specs.Prelude.{◌≡◌, ◌+◌, ◌<◌, ◌≤◌, ◌==◌, ◌≢◌, List, if◌then◌else◌, is_some, option_map, ℕ, Bool, length, Some, None, set, true, false, ⊤, IsSome, IsSomeAnd, OnOk, vec_len, vec_capacity};
-ghost use Rattle.letter_kinds.specs.declared.letter.Letter.{Letter as a_letter};
 ghost use Rattle.orca_names.specs.declared.limits.TheConstants.{ACTORS_LIMIT};
 ghost use Rattle.actor_table.specs.declared.slot.Slot.{Slot as a_slot};
 ghost use Rattle.orca_names.specs.declared.trace.Trace.{Trace as tracing};
@@ -11,6 +10,7 @@ ghost use Rattle.actor_cell.specs.Goes.{out_of};
 ghost use Rattle.actor_cell.specs.Sweeps.{sweep_of, swept};
 ghost use Rattle.actor_table.specs.Changes.{changed_at, moved, note_taken, taken, told, with_cell_by, CanCollectHere, CanGoHere, CanSettleNew, CanTakeHere, HasCell, HasRoomToGo, HasRoomToTake, IsChangedAt, KeepsRoom};
 ghost use Rattle.actor_table.specs.Index.{IsIndex};
+ghost use Rattle.actor_table.specs.declared.slot.Place.TheVariants.{Home};
 ghost use Rattle.actor_table.specs.Slots.{actors_of, away_of, can_act, can_settle, home_of, AreIndexed, IsOwnedBy, is_away, letters_in, places_of, seat_of, slot_at};
 
 use crate::slot::{
@@ -267,6 +267,7 @@ pub(crate) fn put_back_at(slots: &mut Vec<Slot>, a: usize, cell: Cell)
     requires same { option_map (λ o. o.cell) (seat_at (actors_of slots.old.items) a)
         ≡ Some (as_cell cell) }
     requires owner { cell.heap.owner ≡ a }
+    ensures place { (slot_at slots.new.items a).place ≡ Home cell }
     ensures actors { actors_of slots.new.items ≡ actors_of slots.old.items }
     ensures away { away_of slots.new.items ≡ set (away_of slots.old.items) a false }
     ensures room { KeepsRoom slots.old.items slots.new.items }

@@ -1,14 +1,10 @@
 // The table.
 
-ghost use Rattle.std.specs.Prelude.{◌≡◌, ◌==◌, ◌+◌, ◌<◌, ◌≤◌, ◌++◌, ◌∷◌, ◌≢◌, [], ℕ, Bool, false, length, List, if◌then◌else◌, is_some, option_map, position, IfSome, IsSome, IsSomeAnd, OnOk, Some, None, set, true, ⊤};
+ghost use Rattle.std.specs.Prelude.{◌≡◌, ◌==◌, ◌+◌, ◌<◌, ◌≤◌, ◌++◌, ◌∷◌, ◌≢◌, [], ℕ, false, length, if◌then◌else◌, is_some, option_map, position, IfSome, IsSome, IsSomeAnd, OnOk, Some, None, set, true, ⊤};
 ghost use Rattle.std.specs.Option.{option_copied};
 ghost use Rattle.orca_names.specs.declared.trace.Trace.{Trace as tracing};
-ghost use Rattle.turn_rules.specs.declared.act.Frame.{Frame as frame_of_rules};
-ghost use Rattle.letter_kinds.specs.declared.letter.Letter.{Letter as a_letter};
-ghost use Rattle.machine_rules.specs.Actors.{push_letter, seat, seat_at};
-ghost use Rattle.machine_rules.specs.Cell.{Cell as cell_of_rules};
+ghost use Rattle.machine_rules.specs.Actors.{push_letter, seat_at};
 ghost use Rattle.machine_rules.specs.Guards.{may_block, may_collect, may_leave, may_take};
-ghost use Rattle.machine_rules.specs.Take.{cell_after, note_of};
 ghost use Rattle.actor_cell.specs.Cells.{as_cell, settled};
 ghost use Rattle.actor_cell.specs.Goes.{out_of};
 ghost use Rattle.orca_names.specs.declared.limits.TheConstants.{ACTORS_LIMIT};
@@ -393,6 +389,7 @@ impl ActorTable {
     /// It takes no memory.
     pub fn lift(&mut self, a: ActorName) -> Option<Cell>
         ensures cell { result ≡ home_of (slot_at self.old.slots a) }
+        ensures owner { IfSome result (λ c. c.heap.owner ≡ a) }
         ensures actors { actors_of self.new.slots ≡ actors_of self.old.slots }
         ensures away { away_of self.new.slots
             ≡ (if is_some result then set (away_of self.old.slots) a true else away_of self.old.slots) }
@@ -413,6 +410,7 @@ impl ActorTable {
         requires same { option_map (λ o. o.cell) (seat_at (actors_of self.old.slots) a)
             ≡ Some (as_cell cell) }
         requires owner { cell.heap.owner ≡ a }
+        ensures place { (slot_at self.new.slots a).place ≡ Home cell }
         ensures actors { actors_of self.new.slots ≡ actors_of self.old.slots }
         ensures away { away_of self.new.slots ≡ set (away_of self.old.slots) a false }
         ensures room { KeepsRoom self.old.slots self.new.slots }

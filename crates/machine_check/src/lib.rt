@@ -1,5 +1,8 @@
-//! Tests of the machine that collects, over programs that are read and checked.
+//! Tests alone, of both machines, over programs that are read and checked: the one that frees nothing, and
+//! the one that collects.
 #![tactic(auto)]
 
+#[cfg(test)]
+mod plain_tests;
 #[cfg(test)]
 mod tests;

@@ -1,5 +1,7 @@
 // The machine that collects, driven event by event over checked texts.
 
+ghost use Rattle.orca_core.specs.Machine.{NoneIsAway};
+
 use behaviour_check::{Checked, check};
 use behaviour_text::parse;
 use event_rule::Event;
@@ -101,15 +103,22 @@ fn event(kind: u8, number: u32) -> Event {
 }
 
 /// Does this event, if the machine is young enough.
-fn does(alloc: Global, machine: &mut Orca<'_>, event: Event) -> Result<(), StepFault> {
+fn does(alloc: Global, machine: &mut Orca<'_>, event: Event) -> Result<(), StepFault>
+    requires { NoneIsAway machine.old }
+    ensures { NoneIsAway machine.new }
+{
     if machine.steps() > 1000 {
         return Err(StepFault::NoMemory);
     }
-    machine.step(alloc, event)
+    machine.step(alloc, event)?;
+    Ok(())
 }
 
 /// Does these events, each of which is to be enabled.
-fn run(alloc: Global, machine: &mut Orca<'_>, events: &[(u8, u32)]) -> Result<(), Fail> {
+fn run(alloc: Global, machine: &mut Orca<'_>, events: &[(u8, u32)]) -> Result<(), Fail>
+    requires { NoneIsAway machine.old }
+    ensures { NoneIsAway machine.new }
+{
     for (kind, number) in events {
         does(alloc, machine, event(*kind, *number))?;
     }
@@ -160,7 +169,10 @@ fn what_a_row_gives_is_minted_first(rt: HostRuntime) -> Result<(), Fail> {
 }
 
 /// Whether this event is refused as not enabled.
-fn is_refused(alloc: Global, machine: &mut Orca<'_>, kind: u8, number: u32) -> bool {
+fn is_refused(alloc: Global, machine: &mut Orca<'_>, kind: u8, number: u32) -> bool
+    requires { NoneIsAway machine.old }
+    ensures { NoneIsAway machine.new }
+{
     does(alloc, machine, event(kind, number)) == Err(StepFault::NotEnabled)
 }
 

@@ -5,10 +5,8 @@ use Rattle.std.specs.FinMap as map_of
 use Rattle.std.proofs.lemmas.List.{length-map}
 use Rattle.orca_names.specs.declared.names.Thing.TheVariants.{Actor}
 use Rattle.orca_names.specs.declared.trace.Trace.{Trace}
-use Rattle.orca_names.specs.declared.trace.Trace.TheVariants.{Deep}
 use Rattle.behaviour_code.specs.declared.code.Program.{Program}
-use Rattle.machine_rules.specs.Actors.{Actors, seat, seat_at}
-use Rattle.machine_rules.specs.State.{State}
+use Rattle.machine_rules.specs.Actors.{seat}
 use Rattle.actor_cell.specs.declared.cell.Cell.{Cell}
 use Rattle.actor_cell.specs.declared.turning.Turned.{Turned}
 use Rattle.actor_cell.specs.Cells.{as_cell}
@@ -19,23 +17,16 @@ use Rattle.actor_table.specs.declared.slot.Place.TheVariants.{Home}
 use Rattle.actor_table.specs.Changes.{CanTakeHere}
 use Rattle.actor_table.specs.Slots.{actors_of, seat_of, slot_at}
 use Rattle.orca_core.specs.declared.parts.Parts.{Parts}
-use Rattle.orca_core.specs.Fits.{FitsTake, OnlyRoom}
+use Rattle.orca_core.specs.Fits.{FitsTake}
 use Rattle.orca_core.specs.Goes.{CountsAllow, FitsGo}
 use Rattle.orca_core.specs.Steps.{AllowsGo, AllowsTake, TurnFits}
 use Rattle.orca_core.proofs.Giving.{seat_here}
 
--- the actors are the same
-pub actors_same : (program : Program) (old new : Parts) → OnlyRoom old new → actors_of new.table.slots ≡ actors_of old.table.slots
-actors_same program old new room = ap (λ (s : State). s.actors) (room.state program (record { weight = 0; trace = Deep }))
-
-pub objects_same : (program : Program) (old new : Parts) → OnlyRoom old new → new.objects ≡ old.objects
-objects_same program old new room = ap (λ (s : State). s.objects) (room.state program (record { weight = 0; trace = Deep }))
-
 same_cell : (place : Place) (c d : Cell) → place ≡ Home c → place ≡ Home d → c ≡ d
 same_cell place c d one two = let z : Home c ≡ Home d = sym one ∙ two in cc
 
-pub can_take : (a : ℕ) (m : Parts) (actors : Actors) → FitsTake a m → actors_of m.table.slots ≡ actors → AllowsTake a actors → CanTakeHere a (slot_at m.table.slots a)
-can_take a m actors fits same allow =
+pub can_take : (a : ℕ) (m : Parts) → FitsTake a m → AllowsTake a (actors_of m.table.slots) → CanTakeHere a (slot_at m.table.slots a)
+can_take a m fits allow =
     record {
       cell = fits.cell;
       home = fits.home;
@@ -44,23 +35,23 @@ can_take a m actors fits same allow =
       letters = fits.letters;
       idle = fits.idle;
       can = allow (as_cell fits.cell) fits.letter fits.later
-          (ap (λ xs. seat_at xs a) (sym same) ∙ seat_here m.table.slots a fits.cell fits.home ∙ ap (λ ls. seat (as_cell fits.cell) ls) fits.letters);
+          (seat_here m.table.slots a fits.cell fits.home ∙ ap (λ ls. seat (as_cell fits.cell) ls) fits.letters);
       room = fits.room;
     }
 
-pub counts_allow : (trace : Trace) (weight : ℕ) (program : Program) (a : ℕ) (found : Turned) (m : Parts) (actors : Actors)
-    → FitsGo trace weight program a found m → actors_of m.table.slots ≡ actors → AllowsGo trace weight program a actors
+pub counts_allow : (trace : Trace) (weight : ℕ) (program : Program) (a : ℕ) (found : Turned) (m : Parts)
+    → FitsGo trace weight program a found m → AllowsGo trace weight program a (actors_of m.table.slots)
     → (c : Cell) → (slot_at m.table.slots a).place ≡ Home c → CountsAllow a found.act m c
-counts_allow trace weight program a found m actors fits same allow c home =
+counts_allow trace weight program a found m fits allow c home =
     subst (CountsAllow a found.act m) (same_cell (slot_at m.table.slots a).place fits.cell c fits.home home) (record {
       can = subst (λ (t : goes.Turned). CanMove a (as_cell x).holdings t.turn t.act) fits.found_is
           (subst (λ o. IsSomeAnd o (λ frame. let t = turned_in trace weight program a (as_cell x) frame in CanMove a (as_cell x).holdings t.turn t.act)) fits.framed (its.can fits.frame fits.framed));
       serials = its.serials;
-      unnamed = ap (λ n. map_of.get x.foreign.entries (Actor n)) (sym (length-map m.table.slots seat_of) ∙ ap length same) ∙ its.unnamed;
+      unnamed = ap (λ n. map_of.get x.foreign.entries (Actor n)) (sym (length-map m.table.slots seat_of)) ∙ its.unnamed;
     })
   where
     x : Cell
     x = fits.cell
 
-    its : TurnFits trace weight program a (length actors) (as_cell fits.cell)
-    its = allow (as_cell fits.cell) (slot_at m.table.slots a).mail.letters (ap (λ xs. seat_at xs a) (sym same) ∙ seat_here m.table.slots a fits.cell fits.home)
+    its : TurnFits trace weight program a (length (actors_of m.table.slots)) (as_cell fits.cell)
+    its = allow (as_cell fits.cell) (slot_at m.table.slots a).mail.letters (seat_here m.table.slots a fits.cell fits.home)

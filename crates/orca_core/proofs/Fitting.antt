@@ -9,33 +9,6 @@ use Rattle.letter_kinds.specs.declared.letter.Letter.{Letter}
 use Rattle.machine_rules.specs.Actors.{seat_at}
 use Rattle.orca_core.specs.Letters.{FitLetters, letters_to}
 
--- ---- places and letters tell the rest
-
--- tables of the same places and letters have the same actors
-pub same_actors : (old new : List Slot) → places_of new ≡ places_of old → letters_in new ≡ letters_in old
-    → actors_of new ≡ actors_of old
-same_actors [] [] places letters = refl
-same_actors [] (y ∷ new) places letters = cc
-same_actors (x ∷ old) [] places letters = cc
-same_actors (x ∷ old) (y ∷ new) places letters =
-    let place : y.place ≡ x.place = cc in
-    let mail : y.mail.letters ≡ x.mail.letters = cc in
-    let first : seat_in y.place y.mail.letters ≡ seat_in x.place x.mail.letters =
-    ap (λ p. seat_in p y.mail.letters) place ∙ ap (seat_in x.place) mail in
-    let more_places : places_of new ≡ places_of old = cc in
-    let more_letters : letters_in new ≡ letters_in old = cc in
-    ap (λ o. o ∷ actors_of new) first ∙ ap (λ os. seat_in x.place x.mail.letters ∷ os) (same_actors old new more_places more_letters)
-
--- and the same ones are away
-pub same_away : (old new : List Slot) → places_of new ≡ places_of old → away_of new ≡ away_of old
-same_away [] [] places = refl
-same_away [] (y ∷ new) places = cc
-same_away (x ∷ old) [] places = cc
-same_away (x ∷ old) (y ∷ new) places =
-    let place : y.place ≡ x.place = cc in
-    let more_places : places_of new ≡ places_of old = cc in
-    ap (λ b. b ∷ away_of new) (ap is_away_in place) ∙ ap (λ bs. is_away_in x.place ∷ bs) (same_away old new more_places)
-
 -- ---- room for those letters that are not among the rest
 
 abbrev pub FitBut : List (ℕ × Letter) → List (ℕ × Letter) → List Slot → Type 0

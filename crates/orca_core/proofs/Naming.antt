@@ -21,15 +21,11 @@ use Rattle.actor_table.specs.declared.slot.Place.{Place}
 use Rattle.actor_table.specs.declared.slot.Place.TheVariants.{Home, Away, Gone}
 use Rattle.actor_table.specs.Changes.{CanSettleNew, changed_at, moved, with_cell_by}
 use Rattle.actor_table.specs.Slots.{actors_of, home_in, home_of, seat_of, slot_at}
+use Rattle.orca_core.proofs.Homes.{home_place}
 use Rattle.orca_core.specs.declared.parts.Parts.{Parts}
 use Rattle.orca_core.specs.Goes.{CanNameNew, HasRoomOut}
 use Rattle.orca_core.proofs.Gone.{FitsLimit}
 use Rattle.orca_core.proofs.Giving.{seat_here}
-
-pub home_place : (place : Place) (c : Cell) → home_in place ≡ Some c → place ≡ Home c
-home_place (Home d) c is = ap Home (let z : Some d ≡ Some c = is in cc)
-home_place (Away d) c is = cc
-home_place Gone c is = cc
 
 same_seat : (c d : rules.Cell) (mail later : List Letter) → seat c mail ≡ seat d later → c ≡ d
 same_seat c d mail later is = ap (λ o. option_map_or (λ (s : Seat). s.cell) o d) is

@@ -1,15 +1,16 @@
 -- A turn that was found, and what it takes to be prepared.
-use Rattle.std.proofs.Common.{◌≡◌, ◌≤◌, ◌⊎◌, inl, inr, ℕ, true, false, List, length, get_or, Option, None, Some, refl, sym, ap, subst, ◌∙◌}
+use Rattle.std.proofs.Common.{Bool, ◌≡◌, ◌≤◌, ℕ, false, List, length, get_or, Option, None, Some, refl, sym, ap, subst, ◌∙◌}
 use Rattle.std.specs.Prelude.{if◌then◌else◌, is_err, is_some, option_map, OnOk}
 use Rattle.std.specs.declared.result.Result.{Result}
 use Rattle.std.specs.declared.result.Result.TheVariants.{Ok, Err}
 use Rattle.std.specs.Option.{option_map_or}
-use Rattle.std.proofs.Math.ListN.{get_or-map}
 use Rattle.orca_names.specs.declared.limits.TheConstants.{BODY_LIMIT}
 use Rattle.behaviour_code.specs.declared.code.Program.{Program}
 use Rattle.turn_rules.specs.Segment.{Turn}
 use Rattle.turn_rules.specs.declared.act.Frame.{Frame}
 use Rattle.event_rule.specs.Runs.{NotEnabled}
+use Rattle.event_rule.specs.declared.event.Event.{Event}
+use Rattle.event_rule.specs.declared.event.Event.TheVariants.{Go as go_event}
 use Rattle.letter_kinds.specs.declared.letter.Letter.{Letter}
 use Rattle.machine_rules.specs.Actors.{Seat, seat, seat_at}
 use Rattle.machine_rules.specs.Cell as rules
@@ -26,9 +27,11 @@ use Rattle.actor_table.specs.declared.slot.Slot.{Slot}
 use Rattle.actor_table.specs.declared.slot.Place.{Place}
 use Rattle.actor_table.specs.declared.slot.Place.TheVariants.{Home, Away, Gone}
 use Rattle.actor_table.specs.Changes.{HasCell, HasRoomToGo}
-use Rattle.actor_table.specs.Slots.{Table, actors_of, away_of, gone, is_away, is_away_in, places_of, seat_in, slot_at}
+use Rattle.actor_table.specs.Slots.{Table, actors_of, away_of, is_away, is_away_in, places_of, seat_in, slot_at}
 use Rattle.actor_table.proofs.Changing.{seat_read}
-use Rattle.orca_core.specs.Faults.{Faulted}
+use Rattle.orca_core.specs.Away.{is_out, next_without}
+use Rattle.orca_core.specs.Faults.{IsFault}
+use Rattle.orca_core.proofs.Homes.{away_read, place_read}
 use Rattle.orca_core.specs.Fits.{OnlyRoom}
 use Rattle.orca_core.specs.Goes.{FitsGo, HasRoomOut, IsFoundGo, NotGoing}
 use Rattle.orca_core.specs.Parts.{state_of}
@@ -62,22 +65,30 @@ at_home slots a c mail there home = by (slot_at slots a).place refl
 
 -- where no turn was found, a go is not enabled, the cell is away, or memory was refused
 pub not_going : (trace : Trace) (s : State) (slots : List Slot) (a : ℕ) (fault : StepFault) → s.actors ≡ actors_of slots
-    → NotGoing (slot_at slots a) fault → Faulted (is_away (slot_at slots a)) (acting may_go (go trace s a) (seat_at s.actors a)) a fault
+    → NotGoing (slot_at slots a) fault
+    → IsFault (if is_out (away_of slots) a then NotEnabled else acting may_go (go trace s a) (seat_at s.actors a)) (go_event a) fault
 not_going trace s slots a faults.NotEnabled same none = by (slot_at slots a).place refl
   where
     x : Slot
     x = slot_at slots a
 
-    read : seat_at s.actors a ≡ seat_in x.place x.mail.letters
-    read = ap (λ xs. seat_at xs a) same ∙ seat_read slots a
+    read : (if is_out (away_of slots) a then NotEnabled else acting may_go (go trace s a) (seat_at s.actors a))
+        ≡ (if is_away_in x.place then NotEnabled else acting may_go (go trace s a) (seat_in x.place x.mail.letters))
+    read = λ i. if away_read slots a i then NotEnabled else acting may_go (go trace s a) ((ap (λ xs. seat_at xs a) same ∙ seat_read slots a) i)
 
-    by : (place : Place) → x.place ≡ place → (is_away x ≡ true) ⊎ (acting may_go (go trace s a) (seat_at s.actors a) ≡ NotEnabled)
-    by (Home c) is = inr (ap (acting may_go (go trace s a)) (read ∙ ap (λ p. seat_in p x.mail.letters) is)
-        ∙ ap (λ f. if is_some f then go trace s a (as_cell c) x.mail.letters else NotEnabled) (none c is))
-    by (Away c) is = inl (ap is_away_in is)
-    by Gone is = inr (ap (acting may_go (go trace s a)) (read ∙ ap (λ p. seat_in p x.mail.letters) is))
+    by : (place : Place) → x.place ≡ place → (if is_out (away_of slots) a then NotEnabled else acting may_go (go trace s a) (seat_at s.actors a)) ≡ NotEnabled
+    by place is = read ∙ ap (λ p. if is_away_in p then NotEnabled else acting may_go (go trace s a) (seat_in p x.mail.letters)) is ∙ off place is
+      where
+        off : (place : Place) → x.place ≡ place → (if is_away_in place then NotEnabled else acting may_go (go trace s a) (seat_in place x.mail.letters)) ≡ NotEnabled
+        off (Home c) at = ap (λ f. if is_some f then go trace s a (as_cell c) x.mail.letters else NotEnabled) (none c at)
+        off (Away c) at = refl
+        off Gone at = refl
 not_going trace s slots a (faults.ActorsFull b) same none = absurd none
 not_going trace s slots a faults.NoMemory same none = tt
+
+-- the fault of an event is that of what the event is
+pub fault_same : (away : List Bool) (s : State) (e f : Event) (fault : StepFault) → e ≡ f → IsFault (next_without away s f) f fault → IsFault (next_without away s e) e fault
+fault_same away s e f fault same is = subst (λ g. IsFault (next_without away s g) g fault) (sym same) is
 
 -- ---- one after another
 
@@ -95,12 +106,6 @@ pub table_room : (m : Parts) (table : Table) (turn : Turn) → actors_of table.s
     → OnlyRoom m (record m { table = table; turn = turn })
 table_room m table turn actors away =
     record { state = λ p o. ap (λ xs. record (state_of p o m) { actors = xs }) actors; away = away }
-
-pub away_read : (slots : List Slot) (a : ℕ) → get_or (away_of slots) a false ≡ is_away (slot_at slots a)
-away_read slots a = get_or-map is_away slots a gone
-
-place_read : (slots : List Slot) (a : ℕ) → get_or (places_of slots) a Gone ≡ (slot_at slots a).place
-place_read slots a = get_or-map (λ (x : Slot). x.place) slots a gone
 
 -- what was found fits, once the memory was taken
 module _ (trace : Trace) (weight : ℕ) (program : Program) (a : ℕ) (found : Turned) (old : List Slot) (turn : Turn) (mid : List Slot) (m : Parts) where

@@ -1,5 +1,5 @@
 -- What a step finds of its actor before it changes anything.
-use Rattle.std.proofs.Common.{◌≡◌, ℕ, ◌<◌, ◌≤◌, subst, ◌⊎◌, inl, inr, Bool, true, false, List, [], ◌∷◌, map, get_or, length, Option, Some, None, refl, sym, ap, ◌∙◌, arith}
+use Rattle.std.proofs.Common.{◌≡◌, ℕ, ◌<◌, ◌≤◌, subst, inl, inr, Bool, true, false, List, [], ◌∷◌, map, get_or, length, Option, Some, None, refl, sym, ap, ◌∙◌, arith}
 use Rattle.std.specs.Prelude.{◌&&◌, if◌then◌else◌, is_none}
 use Rattle.std.specs.Option.{option_map_or}
 use Rattle.std.proofs.lemmas.Bool.{cases_lt}
@@ -36,38 +36,25 @@ use Rattle.actor_table.proofs.Changing.{seat_read}
 use Rattle.orca_core.specs.declared.parts.Parts.{Parts}
 use Rattle.orca_core.specs.Fits.{FitsBlock, FitsCollect, FitsLeave, FitsTake, OnlyRoom}
 use Rattle.orca_core.specs.Letters.{FitLetters, letters_to}
+use Rattle.orca_core.specs.Away.{is_out}
+use Rattle.orca_core.proofs.Homes.{away_read, home_is}
 use Rattle.orca_core.proofs.Reserving.{once_each}
 
 module _ (may : rules.Cell → List Letter → Bool) where
   -- an actor that may not act at home is away, or its event is not enabled
   pub no_step : (act : rules.Cell → List Letter → Step State) (slots : List Slot) (a : ℕ) → may_at may (slot_at slots a) ≡ false
-      → (is_away (slot_at slots a) ≡ true) ⊎ (acting may act (seat_at (actors_of slots) a) ≡ NotEnabled)
-  no_step act slots a off = elim (by (slot_at slots a).place (slot_at slots a).mail.letters off) as (λ _. (is_away (slot_at slots a) ≡ true) ⊎ (acting may act (seat_at (actors_of slots) a) ≡ NotEnabled)) [
-    | inl away ↦ inl away
-    | inr none ↦ inr (ap (acting may act) (seat_read slots a) ∙ none)
-  ]
+      → (if is_out (away_of slots) a then NotEnabled else acting may act (seat_at (actors_of slots) a)) ≡ NotEnabled
+  no_step act slots a off =
+      (λ i. if away_read slots a i then NotEnabled else acting may act (seat_read slots a i)) ∙ by (slot_at slots a).place (slot_at slots a).mail.letters off
     where
-      by : (p : Place) (letters : List Letter) → may_in may p letters ≡ false → (is_away_in p ≡ true) ⊎ (acting may act (seat_in p letters) ≡ NotEnabled)
-      by (Home c) letters off = inr (ap (λ q. if q then act (as_cell c) letters else NotEnabled) off)
-      by (Away c) letters off = inl refl
-      by Gone letters off = inr refl
+      by : (p : Place) (letters : List Letter) → may_in may p letters ≡ false → (if is_away_in p then NotEnabled else acting may act (seat_in p letters)) ≡ NotEnabled
+      by (Home c) letters off = ap (λ q. if q then act (as_cell c) letters else NotEnabled) off
+      by (Away c) letters off = refl
+      by Gone letters off = refl
 
   -- what it may, the cell at home may
   pub may_here : (x : Slot) (c : Cell) → x.place ≡ Home c → may_at may x ≡ true → may (as_cell c) x.mail.letters ≡ true
   may_here x c home on = sym (ap (λ p. may_in may p x.mail.letters) home) ∙ on
-
--- a cell that the table lends is at home
-pub home_is : (x : Slot) (c : Cell) → Some c ≡ home_of x → x.place ≡ Home c
-home_is x c lent = by x.place refl lent
-  where
-    by : (p : Place) → x.place ≡ p → Some c ≡ home_in p → x.place ≡ Home c
-    by (Home d) home lent = home ∙ ap from (sym lent)
-      where
-        from : Option Cell → Place
-        from None = Home d
-        from (Some e) = Home e
-    by (Away d) home lent = cc
-    by Gone home lent = cc
 
 pub fits_block : (a : ℕ) (note : Note) (m : Parts) (c : Cell) → Some c ≡ home_of (slot_at m.table.slots a) → c.heap.owner ≡ a
     → may_at may_block (slot_at m.table.slots a) ≡ true → note ≡ report_of c.heap.owner (as_cell c)

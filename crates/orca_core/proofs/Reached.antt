@@ -1,19 +1,14 @@
 -- What is reached by a run allows each event, and an event leads on.
-use Rattle.std.proofs.Common.{◌≡◌, ◌<◌, ◌+◌, ℕ, Bool, false, List, [], ◌∷◌, ◌++◌, Some, refl, sym, ap, subst, ◌∙◌, inl, inr, arith, length-append}
-use Rattle.std.specs.Prelude.{OnErr, IfErr}
-use Rattle.std.specs.declared.result.Result.{Result}
-use Rattle.std.specs.declared.result.Result.TheVariants.{Ok, Err}
+use Rattle.std.proofs.Common.{◌≡◌, ◌<◌, ◌+◌, ℕ, List, [], ◌∷◌, ◌++◌, refl, sym, ap, subst, ◌∙◌, arith, length-append}
 use Rattle.orca_names.specs.declared.limits.TheConstants.{BOOK_LIMIT}
 use Rattle.orca_names.specs.declared.trace.Trace.{Trace}
 use Rattle.behaviour_code.specs.declared.code.Program.{Program}
-use Rattle.event_rule.specs.Events.{actor_of}
-use Rattle.event_rule.specs.Runs.{Goes, Leads, Step}
+use Rattle.event_rule.specs.Runs.{Goes, Leads}
 use Rattle.event_rule.specs.declared.event.Event.{Event}
 use Rattle.event_rule.specs.declared.event.Event.TheVariants.{Take, Go, Collect, Leave, Block, Hear, Scan, Reap}
 use Rattle.machine_rules.specs.Next.{next}
 use Rattle.machine_rules.specs.State.{State}
-use Rattle.actor_table.specs.declared.slot.Slot.{Slot}
-use Rattle.actor_table.specs.Slots.{is_away, slot_at}
+use Rattle.actor_table.specs.Slots.{away_of, slot_at}
 use Rattle.cell_laws.specs.Runs.{IsShortRun}
 use Rattle.cell_laws.proofs.Cells.{cells_know_others_only}
 use Rattle.cell_laws.proofs.Going.{runs_allow_goes}
@@ -21,41 +16,14 @@ use Rattle.cell_laws.proofs.Holding.{runs_hold_the_made_only}
 use Rattle.cell_laws.proofs.Keeping.{runs_have_room, runs_have_serials}
 use Rattle.cell_laws.proofs.Reaping.{the_acknowledged_are_done}
 use Rattle.cell_laws.proofs.Taking.{runs_allow_takes}
-use Rattle.orca_core.specs.Faults.{DetectorFaulted, Faulted}
-use Rattle.orca_core.specs.Machine.{IsFault, IsReached, Machine, options_of}
+use Rattle.orca_core.specs.Fits.{OnlyRoom}
+use Rattle.orca_core.specs.Machine.{IsReached, IsSame, Machine, ReapsNoneAway, options_of}
 use Rattle.orca_core.specs.Parts.{state_of}
-use Rattle.orca_core.specs.Steps.{AllHome, CanStep}
-use Rattle.orca_core.specs.declared.fault.StepFault.{StepFault}
-use Rattle.orca_core.specs.declared.fault.StepFault.TheVariants as faults
+use Rattle.orca_core.specs.Steps.{CanStep, ReapsAtHome}
 use Rattle.orca_core.specs.declared.parts.Parts.{Parts}
 use Rattle.orca_core.proofs.Giving.{seat_here}
-use Rattle.orca_core.proofs.Prepared.{at_home, away_read}
-
--- ---- answers
-
-pub on_err_map : {A E P Q : Type 0} (r : Result A E) → OnErr r P → (P → Q) → OnErr r Q
-on_err_map (Ok x) so f = tt
-on_err_map (Err x) so f = f so
-
-pub if_err_map : {A E : Type 0} {P Q : E → Type 0} (r : Result A E) → IfErr r P → ((e : E) → P e → Q e) → IfErr r Q
-if_err_map (Ok x) so f = tt
-if_err_map (Err x) so f = f x so
-
--- where the cell is not away, the fault is that of the event
-pub fault_is : (away : Bool) (outcome : Step State) (a : ℕ) (e : Event) (fault : StepFault) → away ≡ false → actor_of e ≡ Some a
-    → Faulted away outcome a fault → IsFault outcome e fault
-fault_is away outcome a e faults.NotEnabled home its (inl is) = let z = sym is ∙ home in cc
-fault_is away outcome a e faults.NotEnabled home its (inr is) = is
-fault_is away outcome a e (faults.ActorsFull b) home its full = (full.0, its ∙ ap Some (sym full.1))
-fault_is away outcome a e faults.NoMemory home its none = tt
-
-pub detector_fault_is : (outcome : Step State) (e : Event) (fault : StepFault) → DetectorFaulted outcome fault → IsFault outcome e fault
-detector_fault_is outcome e faults.NotEnabled is = is
-detector_fault_is outcome e (faults.ActorsFull b) is = absurd is
-detector_fault_is outcome e faults.NoMemory is = tt
-
-pub is_home : (slots : List Slot) (a : ℕ) → AllHome slots → is_away (slot_at slots a) ≡ false
-is_home slots a home = sym (away_read slots a) ∙ home a
+use Rattle.orca_core.proofs.Homes.{away_read}
+use Rattle.orca_core.proofs.Prepared.{at_home}
 
 -- ---- runs
 
@@ -68,12 +36,23 @@ module _ (program : Program) (weight : ℕ) (trace : Trace) (parts : Parts) (ste
   s = state_of program (options_of weight trace) parts
 
   abbrev machine : Machine
-  machine = record { state = s; steps = steps }
+  machine = record { state = s; steps = steps; out = away_of parts.table.slots; kept = parts }
 
-  -- one event more is done
-  pub reached_more : (after : Parts) (e : Event) → IsReached machine → steps < BOOK_LIMIT
+  -- a machine that is seen as young is
+  pub early_still : (m : Machine) → machine ≡ m → m.steps < BOOK_LIMIT → steps < BOOK_LIMIT
+  early_still m seen early = omega (arith, ap (λ (x : Machine). x.steps) seen, early)
+
+  -- where there is more room alone, it is reached still, and the same
+  pub reached_still : (after : Parts) → OnlyRoom parts after → IsReached s steps → IsReached (state_of program (options_of weight trace) after) steps
+  reached_still after same = subst (λ t. IsReached t steps) (sym (same.state program (options_of weight trace)))
+
+  pub same_still : (after : Parts) → OnlyRoom parts after
+      → IsSame machine (record { state = state_of program (options_of weight trace) after; steps = steps; out = away_of after.table.slots; kept = after })
+  same_still after same = record { state = same.state program (options_of weight trace); steps = refl; out = same.away }
+
+  pub reached_more : (after : Parts) (e : Event) → IsReached s steps → steps < BOOK_LIMIT
       → next s e ≡ Goes (state_of program (options_of weight trace) after)
-      → IsReached (record { state = state_of program (options_of weight trace) after; steps = steps + 1 })
+      → IsReached (state_of program (options_of weight trace) after) (steps + 1)
   reached_more after e reached early goes = record {
     checked = reached.checked;
     heavy = reached.heavy;
@@ -84,15 +63,15 @@ module _ (program : Program) (weight : ℕ) (trace : Trace) (parts : Parts) (ste
     early = omega arith;
   }
 
-  short : IsReached machine → steps < BOOK_LIMIT → (book : List Event) × IsShortRun program (options_of weight trace) book s
+  short : IsReached s steps → steps < BOOK_LIMIT → (book : List Event) × IsShortRun program (options_of weight trace) book s
   short reached early = (reached.book, record { heavy = reached.heavy; light = reached.light; short = omega (arith, reached.long, early); run = reached.run })
 
   -- what an event needs, every run gives
-  pub can_step : IsReached machine → AllHome parts.table.slots → steps < BOOK_LIMIT → (e : Event) → CanStep trace weight program parts e
-  can_step reached home early (Take a) = λ c letter later at.
+  pub can_step : IsReached s steps → steps < BOOK_LIMIT → (e : Event) → CanStep trace weight program parts e
+  can_step reached early (Take a) = λ c letter later at.
       let r = short reached early in
       runs_allow_takes program (options_of weight trace) r.0 s r.1 a c (letter ∷ later) at
-  can_step reached home early (Go a) =
+  can_step reached early (Go a) =
       let r = short reached early in
       let options = options_of weight trace in (
         λ c mail at. record {
@@ -102,17 +81,28 @@ module _ (program : Program) (weight : ℕ) (trace : Trace) (parts : Parts) (ste
         },
         (runs_have_room program options r.0 s r.1).objects reached.checked.good,
       )
-  can_step reached home early (Collect a) = λ c at owner.
+  can_step reached early (Collect a) = λ c at owner.
       let r = short reached early in
       cells_know_others_only program (options_of weight trace) r.0 s r.1 c (slot_at parts.table.slots c.heap.owner).mail.letters
       (seat_here parts.table.slots c.heap.owner c (ap (λ b. (slot_at parts.table.slots b).place) owner ∙ at))
-  can_step reached home early (Leave a) = tt
-  can_step reached home early (Block a) = tt
-  can_step reached home early Hear = tt
-  can_step reached home early Scan =
+  can_step reached early (Leave a) = tt
+  can_step reached early (Block a) = tt
+  can_step reached early Hear = tt
+  can_step reached early Scan =
       let r = short reached early in
       (runs_have_room program (options_of weight trace) r.0 s r.1).tokens
-  can_step reached home early (Reap number) = λ t acked m member.
+  can_step reached early (Reap number) = tt
+
+  -- whom a run can reap is present, so a cell that is not away is at home
+  pub reaps_at_home : IsReached s steps → (e : Event) → ReapsNoneAway e machine → ReapsAtHome e parts
+  reaps_at_home reached (Take a) none = tt
+  reaps_at_home reached (Go a) none = tt
+  reaps_at_home reached (Collect a) none = tt
+  reaps_at_home reached (Leave a) none = tt
+  reaps_at_home reached (Block a) none = tt
+  reaps_at_home reached Hear none = tt
+  reaps_at_home reached Scan none = tt
+  reaps_at_home reached (Reap number) none = λ t acked m member.
       let done = the_acknowledged_are_done program (options_of weight trace) reached.heavy reached.book s reached.run number t acked m member in
-      let x = at_home parts.table.slots m done.cell [] done.present (is_home parts.table.slots m home) in
+      let x = at_home parts.table.slots m done.cell [] done.present (sym (away_read parts.table.slots m) ∙ none t m acked member) in
       record { cell = x.cell; home = x.home; so = tt }

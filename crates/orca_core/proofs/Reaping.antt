@@ -19,11 +19,13 @@ use Rattle.actor_cell.specs.Outs.{left_outside, letters_of}
 use Rattle.actor_table.specs.declared.slot.Slot.{Slot}
 use Rattle.actor_table.specs.declared.slot.Place.{Place}
 use Rattle.actor_table.specs.declared.slot.Place.TheVariants.{Home, Away, Gone}
-use Rattle.actor_table.specs.Slots.{actors_of, home_in, home_of, slot_at}
-use Rattle.orca_core.specs.Fits.{CanReap}
+use Rattle.actor_table.specs.Slots.{actors_of, home_in, home_of, places_of, slot_at}
+use Rattle.orca_core.specs.Fits.{FitsReap}
+use Rattle.orca_core.specs.declared.parts.Parts.{Parts}
 use Rattle.orca_core.specs.Letters.{FitLetters}
 use Rattle.orca_core.specs.Reaping.{AckedAreHome, AreHome}
 use Rattle.orca_core.proofs.Giving.{seat_here}
+use Rattle.orca_core.proofs.Preparing.{same_at}
 
 -- ---- one member after another
 
@@ -72,15 +74,6 @@ pub none_returned : (members rest : List ℕ) (slots : List Slot) → rest ≡ [
 none_returned members rest slots none =
     ap (λ ms. returned members ms slots) none ∙ ap letters_of (none_reaped members (actors_of slots))
 
--- a cell that the table lends is at home
-pub home_lent : (x : Slot) (c : Cell) → Some c ≡ home_of x → x.place ≡ Home c
-home_lent x c lent = by x.place refl lent
-  where
-    by : (p : Place) → x.place ≡ p → Some c ≡ home_in p → x.place ≡ Home c
-    by (Home d) home lent = let same : c ≡ d = cc in home ∙ ap Home (sym same)
-    by (Away d) home lent = cc
-    by Gone home lent = cc
-
 -- ---- the token
 
 -- there is one with these members
@@ -95,21 +88,29 @@ acked_home number members d slots home found =
     let its = acked_with members (acked_token number d) found in
     subst (λ ms. AreHome ms slots) its.2 (home its.0 its.1)
 
+-- cells that are at home stay there
+pub homes_kept : (members : List ℕ) (old new : List Slot) → places_of new ≡ places_of old → AreHome members old → AreHome members new
+homes_kept members old new places home m member =
+    let x = home m member in
+    record { cell = x.cell; home = same_at (λ (y : Slot). y.place) new old places m ∙ x.home; so = tt }
+
 -- there is none
 pub none_acked : {S : Type 0} (found : Option Token) (goes : Token → Step S) → None ≡ option_map (λ (t : Token). t.members) found
     → option_map_or goes found NotEnabled ≡ NotEnabled
 none_acked None goes is = refl
 none_acked (Some t) goes is = cc
 
-pub can_reap : (number : ℕ) (members : List ℕ) (letters : List (ℕ × Letter)) (old new : List Slot) (d : Detector)
-    → Some members ≡ option_map (λ (t : Token). t.members) (acked_token number d) → letters ≡ returned members members old
-    → actors_of new ≡ actors_of old → FitLetters letters new → CanReap number members letters new d
-can_reap number members letters old new d found is same fit =
-    let its = acked_with members (acked_token number d) found in
+pub can_reap : (number : ℕ) (members : List ℕ) (letters : List (ℕ × Letter)) (old : List Slot) (m : Parts)
+    → Some members ≡ option_map (λ (t : Token). t.members) (acked_token number m.detector.state) → letters ≡ returned members members old
+    → actors_of m.table.slots ≡ actors_of old → AreHome members m.table.slots → FitLetters letters m.table.slots
+    → FitsReap number members letters m
+can_reap number members letters old m found is same home fit =
+    let its = acked_with members (acked_token number m.detector.state) found in
     record {
       token = its.0;
       acked = its.1;
       its = its.2;
+      home = home;
       decs = is ∙ ap (λ actors. letters_of (reap_decs members members actors)) (sym same);
       fit = fit;
     }

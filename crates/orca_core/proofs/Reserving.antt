@@ -17,28 +17,6 @@ use Rattle.actor_table.specs.Changes.{KeepsRoom}
 use Rattle.actor_table.specs.Slots.{actors_of, away_of, is_away_in, letters_in, places_of, seat_in, slot_at}
 use Rattle.orca_core.specs.Letters.{FitLetters, counted, letters_to}
 
--- ---- what is told by the places and the letters
-
-seats_of : List Place → List (List Letter) → Actors
-seats_of [] rows = []
-seats_of (p ∷ places) [] = []
-seats_of (p ∷ places) (letters ∷ rows) = seat_in p letters ∷ seats_of places rows
-
-actors_read : (slots : List Slot) → actors_of slots ≡ seats_of (places_of slots) (letters_in slots)
-unfolding seats_of
-actors_read [] = refl
-actors_read (x ∷ slots) = ap (λ os. seat_in x.place x.mail.letters ∷ os) (actors_read slots)
-
-pub same_actors : (new old : List Slot) → places_of new ≡ places_of old → letters_in new ≡ letters_in old → actors_of new ≡ actors_of old
-same_actors new old places letters = actors_read new ∙ (λ i. seats_of (places i) (letters i)) ∙ sym (actors_read old)
-
-away_read : (slots : List Slot) → away_of slots ≡ map is_away_in (places_of slots)
-away_read [] = refl
-away_read (x ∷ slots) = ap (λ bs. is_away_in x.place ∷ bs) (away_read slots)
-
-pub same_away : (new old : List Slot) → places_of new ≡ places_of old → away_of new ≡ away_of old
-same_away new old places = away_read new ∙ ap (map is_away_in) places ∙ sym (away_read old)
-
 -- ---- letters are counted
 
 -- one letter more to the actor is counted

@@ -1,9 +1,8 @@
 -- What the state of the machine allows, and for what it has room.
-use Rattle.std.specs.Prelude.{ℕ, ◌≡◌, ◌<◌, ◌≤◌, true, false, Bool, List, [], ◌∷◌, Option, None, Some, length, map, set}
+use Rattle.std.specs.Prelude.{ℕ, ◌≡◌, ◌<◌, ◌≤◌, true, false, Bool, List, [], ◌∷◌, Option, None, Some, length, set}
 use Rattle.letter_kinds.specs.declared.letter.Letter.{Letter}
-use Rattle.letter_kinds.specs.declared.letter.Letter.TheVariants.{Dec}
 use Rattle.letter_kinds.specs.declared.note.Note.{Note}
-use Rattle.letter_kinds.specs.Detector.{Detector, Token, closed_set}
+use Rattle.letter_kinds.specs.Detector.{Token, closed_set}
 use Rattle.cycle_detect.specs.Room.{CanHear, DetectorValue, Fits}
 use Rattle.cycle_detect.specs.Open.{CanOpen, new_token}
 use Rattle.machine_rules.specs.Detect.{acked_token, reap_decs}
@@ -28,6 +27,7 @@ use Rattle.orca_core.specs.declared.parts.Parts.{Parts}
 use Rattle.orca_core.specs.Parts.{state_of}
 use Rattle.actor_table.specs.Slots.{actors_of, away_of, slot_at}
 use Rattle.orca_core.specs.Letters.{FitLetters, asks}
+use Rattle.orca_core.specs.Reaping.{AreHome}
 
 -- there is a note, and the first can be heard
 abbrev pub CanHearFirst : List Note → DetectorValue → Type 0
@@ -53,14 +53,16 @@ pub record CanScan (token : Option Token) (slots : List Slot) (d : DetectorValue
   pub news : d.state.news ≡ true
   pub open_then : CanOpenThen token slots d
 
--- all members of the open token acknowledged, and these letters give back what they held outside
-pub record CanReap (number : ℕ) (members : List ℕ) (letters : List (ℕ × Letter)) (slots : List Slot)
-    (d : Detector) : Type 0 where
+-- all members of the open token acknowledged, their cells are at home, and these letters give back
+-- what they held outside
+pub record FitsReap (number : ℕ) (members : List ℕ) (letters : List (ℕ × Letter)) (m : Parts)
+    : Type 0 where
   pub token : Token
-  pub acked : acked_token number d ≡ Some token
+  pub acked : acked_token number m.detector.state ≡ Some token
   pub its : token.members ≡ members
-  pub decs : letters ≡ map (λ g. (g.0, Dec g.1)) (reap_decs members members (actors_of slots))
-  pub fit : FitLetters letters slots
+  pub home : AreHome members m.table.slots
+  pub decs : letters ≡ letters_of (reap_decs members members (actors_of m.table.slots))
+  pub fit : FitLetters letters m.table.slots
 
 -- none of these is away
 abbrev pub without_all : List ℕ → List Bool → List Bool

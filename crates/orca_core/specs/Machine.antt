@@ -1,37 +1,74 @@
 -- The machine that collects, as contracts see its code.
-use Rattle.std.specs.Prelude.{ℕ, ◌≡◌, ◌<◌, ◌≤◌, ⊤, List, length, Some}
+use Rattle.std.specs.Prelude.{ℕ, ◌≡◌, ◌<◌, ◌≤◌, Bool, true, false, if◌then◌else◌, List, length, Option, Some, None, option_map, ⊤}
 use Rattle.orca_names.specs.declared.limits.TheConstants.{BOOK_LIMIT}
 use Rattle.orca_names.specs.declared.trace.Trace.{Trace}
 use Rattle.behaviour_check.specs.Rules.{IsChecked}
-use Rattle.event_rule.specs.Events.{actor_of}
-use Rattle.event_rule.specs.Runs.{Step, IsFull, NotEnabled}
 use Rattle.event_rule.specs.declared.event.Event.{Event}
+use Rattle.event_rule.specs.declared.event.Event.TheVariants.{Take, Go, Collect, Leave, Block, Hear, Scan, Reap}
+use Rattle.letter_kinds.specs.Detector.{Token, has}
+use Rattle.letter_kinds.specs.declared.letter.Letter.{Letter}
+use Rattle.machine_rules.specs.Actors.{Seat, cell_at, seat_at}
+use Rattle.machine_rules.specs.Cell.{Cell}
+use Rattle.machine_rules.specs.Detect.{acked_token}
 use Rattle.machine_rules.specs.Options.{Options}
 use Rattle.machine_rules.specs.Run.{IsRun}
 use Rattle.machine_rules.specs.State.{State}
-use Rattle.orca_core.specs.declared.fault.StepFault.{StepFault}
-use Rattle.orca_core.specs.declared.fault.StepFault.TheVariants as faults
+use Rattle.orca_core.specs.Away.{is_out}
+use Rattle.orca_core.specs.Ready.{FitsReady}
+use Rattle.orca_core.specs.declared.parts.Parts.{Parts}
+use Rattle.orca_core.specs.declared.ready.Ready.{Ready}
 
--- its state, and how many events were done
+-- its state, with the cells that are away; how many events were done; whose cells are away; and how
+-- all this is kept, with its room
 pub record Machine : Type 0 where
   pub state : State
   pub steps : ℕ
+  pub out : List Bool
+  pub kept : Parts
 
 abbrev pub options_of : ℕ → Trace → Options
 options_of weight trace = record { weight = weight; trace = trace }
 
 -- the state is reached by a run of the program with as many events
-pub record IsReached (m : Machine) : Type 0 where
-  pub checked : IsChecked m.state.program
-  pub heavy : 0 < m.state.options.weight
-  pub light : m.state.options.weight ≤ 65536
+pub record IsReached (state : State) (steps : ℕ) : Type 0 where
+  pub checked : IsChecked state.program
+  pub heavy : 0 < state.options.weight
+  pub light : state.options.weight ≤ 65536
   pub book : List Event
-  pub run : IsRun m.state.program m.state.options book m.state
-  pub long : length book ≡ m.steps
-  pub early : m.steps ≤ BOOK_LIMIT
+  pub run : IsRun state.program state.options book state
+  pub long : length book ≡ steps
+  pub early : steps ≤ BOOK_LIMIT
 
--- the fault says what the event leads to; want of memory says nothing
-abbrev pub IsFault : Step State → Event → StepFault → Type 0
-IsFault outcome e faults.NotEnabled = outcome ≡ NotEnabled
-IsFault outcome e (faults.ActorsFull a) = (outcome ≡ IsFull) × (actor_of e ≡ Some a)
-IsFault outcome e faults.NoMemory = ⊤
+-- nothing but room is another
+pub record IsSame (old new : Machine) : Type 0 where
+  pub state : new.state ≡ old.state
+  pub steps : new.steps ≡ old.steps
+  pub out : new.out ≡ old.out
+
+-- the event reaps no actor whose cell is away
+abbrev pub ReapsNoneAway : Event → Machine → Type 0
+ReapsNoneAway (Take a) m = ⊤
+ReapsNoneAway (Go a) m = ⊤
+ReapsNoneAway (Collect a) m = ⊤
+ReapsNoneAway (Leave a) m = ⊤
+ReapsNoneAway (Block a) m = ⊤
+ReapsNoneAway Hear m = ⊤
+ReapsNoneAway Scan m = ⊤
+ReapsNoneAway (Reap number) m = (t : Token) (a : ℕ) → acked_token number m.state.detector ≡ Some t
+    → has t.members a ≡ true → is_out m.out a ≡ false
+
+-- what was prepared fits the machine
+abbrev pub Fits : Ready → Machine → Type 0
+Fits ready m = FitsReady m.state.options.trace m.state.options.weight m.state.program ready m.kept
+
+-- no cell is away
+abbrev pub NoneIsAway : Machine → Type 0
+NoneIsAway m = (a : ℕ) → is_out m.out a ≡ false
+
+-- the cell of an actor that is present and not away
+abbrev pub cell_here : Machine → ℕ → Option Cell
+cell_here m a = if is_out m.out a then None else cell_at m.state.actors a
+
+-- the letters of an actor that is present
+abbrev pub mail_here : Machine → ℕ → Option (List Letter)
+mail_here m a = option_map (λ (o : Seat). o.mail) (seat_at m.state.actors a)

@@ -1,7 +1,5 @@
 -- The state of the machine, by its parts.
-use Rattle.std.specs.Prelude.{List, ◌++◌, [], ◌∷◌, Option, None, Some}
 use Rattle.behaviour_code.specs.declared.code.Program.{Program}
-use Rattle.letter_kinds.specs.declared.note.Note.{Note}
 use Rattle.machine_rules.specs.Options.{Options}
 use Rattle.machine_rules.specs.State.{State}
 use Rattle.actor_table.specs.Slots.{actors_of}
@@ -17,8 +15,3 @@ state_of program options m = record {
   prints = m.prints.items;
   objects = m.objects;
 }
-
--- with one note more, if there is one
-abbrev pub with_note : Option Note → List Note → List Note
-with_note None notes = notes
-with_note (Some note) notes = notes ++ note ∷ []

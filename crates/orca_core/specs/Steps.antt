@@ -1,10 +1,11 @@
--- What a step needs of the state, which every run gives, and what it keeps.
-use Rattle.std.specs.Prelude.{ℕ, ◌≡◌, ◌+◌, ◌<◌, ◌^◌, false, List, ◌∷◌, length, get_or, Some, None, ⊤}
+-- What a step needs of the state, which every run gives.
+use Rattle.std.specs.Prelude.{ℕ, ◌≡◌, ◌+◌, ◌<◌, ◌^◌, List, ◌∷◌, length, Some, None, ⊤}
 use Rattle.std.specs.FinMap as m
 use Rattle.orca_names.specs.declared.limits.TheConstants.{BODY_LIMIT}
 use Rattle.orca_names.specs.declared.names.Thing.TheVariants.{Actor}
 use Rattle.orca_names.specs.declared.trace.Trace.{Trace}
 use Rattle.behaviour_code.specs.declared.code.Program.{Program}
+use Rattle.turn_rules.specs.declared.act.Frame.{Frame}
 use Rattle.letter_kinds.specs.declared.letter.Letter.{Letter}
 use Rattle.machine_rules.specs.Actors.{Actors, seat, seat_at}
 use Rattle.machine_rules.specs.Cell.{Cell}
@@ -15,15 +16,10 @@ use Rattle.event_rule.specs.declared.event.Event.TheVariants.{Take, Go, Collect,
 use Rattle.cycle_detect.specs.declared.detector.TheConstants.{TOKENS_LIMIT}
 use Rattle.actor_cell.specs.declared.cell.Cell as cell
 use Rattle.actor_cell.specs.Sweeps.{KnowsOthersOnly}
-use Rattle.actor_table.specs.declared.slot.Slot.{Slot}
 use Rattle.actor_table.specs.declared.slot.Place.TheVariants.{Home}
-use Rattle.actor_table.specs.Slots.{actors_of, away_of, slot_at}
+use Rattle.actor_table.specs.Slots.{actors_of, slot_at}
 use Rattle.orca_core.specs.declared.parts.Parts.{Parts}
 use Rattle.orca_core.specs.Reaping.{AckedAreHome}
-
--- no cell is away
-abbrev pub AllHome : List Slot → Type 0
-AllHome slots = (a : ℕ) → get_or (away_of slots) a false ≡ false
 
 -- the actor's counts allow the letter that it takes next
 abbrev pub AllowsTake : ℕ → Actors → Type 0
@@ -33,7 +29,7 @@ AllowsTake a actors = (c : Cell) (letter : Letter) (later : List Letter)
 -- the actor's counts and serials allow its turn, and it holds nothing of the actor that is made next
 pub record TurnFits (trace : Trace) (weight : ℕ) (program : Program) (a made : ℕ)
     (c : Cell) : Type 0 where
-  pub can : (frame : _) → c.frame ≡ Some frame → CanGo trace weight program a c
+  pub can : (frame : Frame) → c.frame ≡ Some frame → CanGo trace weight program a c
   pub serials : c.holdings.next + BODY_LIMIT < 2 ^ 64
   pub unnamed : m.get c.holdings.foreign (Actor made) ≡ None
 
@@ -52,5 +48,15 @@ CanStep trace weight program m (Leave a) = ⊤
 CanStep trace weight program m (Block a) = ⊤
 CanStep trace weight program m Hear = ⊤
 CanStep trace weight program m Scan = m.detector.state.opened < TOKENS_LIMIT
-CanStep trace weight program m (Reap number) =
-    AckedAreHome number m.detector.state m.table.slots
+CanStep trace weight program m (Reap number) = ⊤
+
+-- the cells of those whom the event reaps are at home
+abbrev pub ReapsAtHome : Event → Parts → Type 0
+ReapsAtHome (Take a) m = ⊤
+ReapsAtHome (Go a) m = ⊤
+ReapsAtHome (Collect a) m = ⊤
+ReapsAtHome (Leave a) m = ⊤
+ReapsAtHome (Block a) m = ⊤
+ReapsAtHome Hear m = ⊤
+ReapsAtHome Scan m = ⊤
+ReapsAtHome (Reap number) m = AckedAreHome number m.detector.state m.table.slots

@@ -5,11 +5,13 @@ ghost use Rattle.event_rule.specs.Runs.{Goes};
 ghost use Rattle.event_rule.specs.declared.event.Event.TheVariants.{Block as block_event};
 ghost use Rattle.machine_rules.specs.Next.{next};
 ghost use Rattle.machine_rules.specs.Options.{Options};
-ghost use Rattle.actor_table.specs.Slots.{away_of, is_away, slot_at};
+ghost use Rattle.actor_table.specs.Slots.{actors_of, away_of};
 ghost use Rattle.behaviour_code.specs.declared.code.Program.{Program};
-ghost use Rattle.orca_core.specs.Faults.{Faulted};
+ghost use Rattle.orca_core.specs.Away.{next_without};
+ghost use Rattle.orca_core.specs.Faults.{IsFault};
 ghost use Rattle.orca_core.specs.Fits.{FitsBlock, OnlyRoom};
 ghost use Rattle.orca_core.specs.Parts.{state_of};
+ghost use Rattle.orca_core.specs.Woken.{IsLowestWoken};
 
 use crate::fault::StepFault;
 use crate::parts::Parts;
@@ -29,9 +31,9 @@ pub(crate) fn prepare_block(
 ) -> Result<Note, StepFault>
     ensures same { OnlyRoom parts.old parts.new }
     ensures ok { IfOk result (λ note. FitsBlock a note parts.new) }
-    ensures fault { let slots = parts.old.table.slots in
+    ensures fault { let away = away_of parts.old.table.slots in
         (program : Program) (options : Options) → IfErr result
-        (Faulted (is_away (slot_at slots a)) (next (state_of program options parts.old) (block_event a)) a) }
+        (IsFault (next_without away (state_of program options parts.old) (block_event a)) (block_event a)) }
 {
     if !parts.table.may_block(a) {
         return Err(StepFault::NotEnabled);
@@ -48,14 +50,16 @@ pub(crate) fn prepare_block(
     Ok(note)
 }
 
-/// The actor reports with this note. It takes no memory.
-pub(crate) fn apply_block(parts: &mut Parts, a: ActorName, note: Note)
+/// The actor reports with this note. It takes no memory, and wakes nobody.
+pub(crate) fn apply_block(parts: &mut Parts, a: ActorName, note: Note) -> Option<ActorName>
     requires { FitsBlock a note parts.old }
     ensures state { (program : Program) (options : Options)
         → next (state_of program options parts.old) (block_event a)
         ≡ Goes (state_of program options parts.new) }
     ensures away { away_of parts.new.table.slots ≡ away_of parts.old.table.slots }
+    ensures woken { IsLowestWoken (actors_of parts.old.table.slots) (actors_of parts.new.table.slots) result }
 {
     parts.table.block(a);
     parts.notes.push_back_reserved(note);
+    None
 }

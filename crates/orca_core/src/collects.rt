@@ -1,18 +1,23 @@
 // Collect: an idle actor frees what its fields do not reach (Orca, OOPSLA 2017).
 
-ghost use Rattle.std.specs.Prelude.{◌≡◌, IfErr, IfOk};
+ghost use Rattle.std.specs.Prelude.{◌≡◌, true, IfErr, IfOk};
 ghost use Rattle.behaviour_code.specs.declared.code.Program.{Program};
 ghost use Rattle.event_rule.specs.Runs.{Goes};
 ghost use Rattle.event_rule.specs.declared.event.Event.TheVariants.{Collect as collect_event};
 ghost use Rattle.machine_rules.specs.Next.{next};
 ghost use Rattle.machine_rules.specs.Options.{Options};
-ghost use Rattle.actor_table.specs.Slots.{away_of, is_away, slot_at};
+ghost use Rattle.machine_rules.specs.Guards.{may_collect};
+ghost use Rattle.actor_table.specs.Changes.{HasCell};
+ghost use Rattle.actor_table.specs.Slots.{actors_of, away_of, may_at, slot_at};
 ghost use Rattle.actor_cell.specs.declared.cell.Cell.{Cell};
-ghost use Rattle.actor_cell.specs.Sweeps.{KnowsOthersOnly};
+ghost use Rattle.actor_cell.specs.Sweeps.{KnowsOthersOnly, sweep_of};
 ghost use Rattle.actor_table.specs.declared.slot.Place.TheVariants.{Home};
-ghost use Rattle.orca_core.specs.Faults.{Faulted};
+ghost use Rattle.orca_core.specs.Away.{next_without};
+ghost use Rattle.orca_core.specs.Faults.{IsFault};
+ghost use Rattle.orca_core.specs.declared.fault.StepFault.TheVariants.{NoMemory};
 ghost use Rattle.orca_core.specs.Fits.{FitsCollect, OnlyRoom};
 ghost use Rattle.orca_core.specs.Parts.{state_of};
+ghost use Rattle.orca_core.specs.Woken.{IsLowestWoken};
 
 use crate::fault::StepFault;
 use crate::letters::{push_all, reserve_each};
@@ -21,6 +26,36 @@ use actor_cell::Sweep;
 use letter_kinds::Letter;
 use orca_names::{ActorName, Trace};
 use std::alloc::Global;
+
+/// Room to make the letters that return what the sweep gives back, and the memory for these. Nothing
+/// changes but room.
+///
+/// # Errors
+/// `NoMemory` where memory was refused.
+#[tactic(auto, using(crate::proofs::Preparing::only_room))]
+pub(crate) fn prepare_sweep(
+    alloc: Global,
+    trace: Trace,
+    parts: &mut Parts,
+    a: ActorName,
+    found: Sweep,
+) -> Result<(Sweep, Vec<(ActorName, Letter)>), StepFault>
+    requires may { may_at may_collect (slot_at parts.old.table.slots a) ≡ true }
+    requires found { HasCell (slot_at parts.old.table.slots a)
+        (λ c. (c.heap.owner ≡ a) × (found ≡ sweep_of trace c)) }
+    ensures same { OnlyRoom parts.old parts.new }
+    ensures ok { IfOk result (λ found. FitsCollect trace a found.0 found.1 parts.new) }
+    ensures fault { IfErr result (λ fault. fault ≡ NoMemory) }
+{
+    let _trace = trace;
+    let Ok(room) = found.letter_room(alloc) else {
+        return Err(StepFault::NoMemory);
+    };
+    if reserve_each(&mut parts.table, found.plan.back.as_slice()).is_err() {
+        return Err(StepFault::NoMemory);
+    }
+    Ok((found, room))
+}
 
 /// What the actor's collection does, room to make the letters that return what it gives back, and the
 /// memory for these. Nothing changes.
@@ -39,9 +74,9 @@ pub(crate) fn prepare_collect(
         → KnowsOthersOnly c }
     ensures same { OnlyRoom parts.old parts.new }
     ensures ok { IfOk result (λ found. FitsCollect trace a found.0 found.1 parts.new) }
-    ensures fault { let slots = parts.old.table.slots in
+    ensures fault { let away = away_of parts.old.table.slots in
         (program : Program) (options : Options) → IfErr result
-        (Faulted (is_away (slot_at slots a)) (next (state_of program options parts.old) (collect_event a)) a) }
+        (IsFault (next_without away (state_of program options parts.old) (collect_event a)) (collect_event a)) }
 {
     if !parts.table.may_collect(a) {
         return Err(StepFault::NotEnabled);
@@ -52,30 +87,26 @@ pub(crate) fn prepare_collect(
     let Ok(found) = cell.found_collect(alloc, trace) else {
         return Err(StepFault::NoMemory);
     };
-    let Ok(room) = found.letter_room(alloc) else {
-        return Err(StepFault::NoMemory);
-    };
-    if reserve_each(&mut parts.table, found.plan.back.as_slice()).is_err() {
-        return Err(StepFault::NoMemory);
-    }
-    Ok((found, room))
+    prepare_sweep(alloc, trace, parts, a, found)
 }
 
-/// The actor's collection is done as it was found. It takes no memory but the room that is handed in.
+/// The actor's collection is done as it was found, and the lowest to whom a letter goes is told. It
+/// takes no memory but the room that is handed in.
 pub(crate) fn apply_collect(
     parts: &mut Parts,
     trace: Trace,
     a: ActorName,
     found: Sweep,
     room: Vec<(ActorName, Letter)>,
-)
+) -> Option<ActorName>
     requires { FitsCollect trace a found room parts.old }
     ensures state { (program : Program) (options : Options) → options.trace ≡ trace
         → next (state_of program options parts.old) (collect_event a)
         ≡ Goes (state_of program options parts.new) }
     ensures away { away_of parts.new.table.slots ≡ away_of parts.old.table.slots }
+    ensures woken { IsLowestWoken (actors_of parts.old.table.slots) (actors_of parts.new.table.slots) result }
 {
     let _trace = trace;
     parts.table.collect(a, &found);
-    push_all(&mut parts.table, found.into_letters(room));
+    push_all(&mut parts.table, found.into_letters(room))
 }

@@ -1,8 +1,10 @@
 // Go: a frame runs up to its next act.
 
-ghost use Rattle.std.specs.Prelude.{◌≡◌, ◌+◌, ◌<◌, ◌≤◌, ◌^◌, ◌++◌, ◌∷◌, [], is_some, length, IfErr, IfOk, IsSome, OnOk, None};
+ghost use Rattle.std.specs.Prelude.{ℕ, ◌≡◌, ◌+◌, ◌<◌, ◌≤◌, ◌^◌, ◌++◌, ◌∷◌, [], is_some, length, IfErr, IfOk, IsSome, OnOk, None, Some};
 ghost use Rattle.std.specs.FinMap as m;
 ghost use Rattle.orca_names.specs.declared.limits.TheConstants.{ACTORS_LIMIT, BODY_LIMIT};
+ghost use Rattle.orca_names.specs.declared.trace.Trace.{Trace as tracing};
+ghost use Rattle.behaviour_code.specs.declared.code.Program.{Program};
 ghost use Rattle.event_rule.specs.Runs.{Goes};
 ghost use Rattle.event_rule.specs.declared.event.Event.TheVariants.{Go as go_event};
 ghost use Rattle.machine_rules.specs.Actors.{seat};
@@ -13,16 +15,18 @@ ghost use Rattle.actor_cell.specs.Cells.{settled};
 ghost use Rattle.actor_cell.specs.declared.cell.Cell.{Cell as a_cell};
 ghost use Rattle.actor_table.specs.declared.slot.Place.TheVariants.{Home};
 ghost use Rattle.actor_table.specs.Changes.{CanSettleNew, HasCell, changed_at, with_cell_by};
-ghost use Rattle.actor_table.specs.Slots.{actors_of, is_away, places_of, slot_at};
+ghost use Rattle.actor_table.specs.Slots.{actors_of, away_of, places_of, slot_at};
 ghost use Rattle.ref_weights.specs.Limit.{count_limit};
 ghost use Rattle.actor_cell.specs.Goes.{out_of};
-ghost use Rattle.orca_core.specs.Faults.{Faulted};
+ghost use Rattle.orca_core.specs.Away.{KeepsAway, next_without};
+ghost use Rattle.orca_core.specs.Faults.{IsFault};
 ghost use Rattle.orca_core.specs.Fits.{OnlyRoom};
 ghost use Rattle.orca_core.specs.Goes.{CanNameNew, CountsAllow, FitsGo, HasRoomOut, IsFoundGo, NotGoing, given};
 ghost use Rattle.orca_core.specs.Parts.{state_of};
-ghost use Rattle.orca_core.specs.Steps.{AllHome};
+ghost use Rattle.orca_core.specs.Woken.{IsLowestWoken};
 
 use crate::fault::StepFault;
+use crate::letters::post;
 use crate::parts::Parts;
 use actor_cell::{Cell, Move, Turned};
 use actor_table::ActorTable;
@@ -95,6 +99,39 @@ fn makes(act: &Move) -> bool
     )
 }
 
+/// Takes all memory for what was found of the actor's turn, which stands in the parts' room for a turn;
+/// the state stays as it was.
+///
+/// # Errors
+/// `ActorsFull` exactly where the act would make an actor too many, and `NoMemory` where memory was
+/// refused.
+pub(crate) fn prepare_turn(
+    parts: &mut Parts,
+    a: ActorName,
+    found: Turned,
+) -> Result<Turned, StepFault>
+    requires few { length parts.old.turn.made ≤ BODY_LIMIT }
+    ensures same { OnlyRoom parts.old parts.new }
+    ensures ok { (trace : tracing) (weight : ℕ) (program : Program)
+        → HasCell (slot_at parts.old.table.slots a) (IsFoundGo trace weight program a parts.old.turn found)
+        → IfOk result (λ found. FitsGo trace weight program a found parts.new) }
+    ensures fault { (program : Program) (options : Options) → HasCell (slot_at parts.old.table.slots a)
+        (IsFoundGo options.trace options.weight program a parts.old.turn found) →
+        let s = state_of program options parts.old in
+        IfErr result (IsFault (next_without (away_of parts.old.table.slots) s (go_event a)) (go_event a)) }
+{
+    if makes(&found.act) && parts.table.len() >= ACTORS_LIMIT {
+        return Err(StepFault::ActorsFull { actor: a });
+    }
+    if parts.table.reserve_go(a, &parts.turn, &found).is_err() {
+        return Err(StepFault::NoMemory);
+    }
+    if reserve_out(parts, &found.act).is_err() {
+        return Err(StepFault::NoMemory);
+    }
+    Ok(found)
+}
+
 /// Finds the actor's turn, and takes all memory for what it does; the state stays as it was.
 pub(crate) fn prepare_go(
     alloc: Global,
@@ -109,23 +146,13 @@ pub(crate) fn prepare_go(
     ensures same { OnlyRoom parts.old parts.new }
     ensures ok { IfOk result (λ found. FitsGo trace weight code.now a found parts.new) }
     ensures fault { (options : Options) → options.weight ≡ weight → options.trace ≡ trace →
-        let outcome = next (state_of code.now options parts.old) (go_event a) in
-        IfErr result (Faulted (is_away (slot_at parts.old.table.slots a)) outcome a) }
+        let s = state_of code.now options parts.old in
+        IfErr result (IsFault (next_without (away_of parts.old.table.slots) s (go_event a)) (go_event a)) }
 {
-    let found = match find_go(alloc, code, weight, trace, &parts.table, &mut parts.turn, a) {
-        Ok(found) => found,
-        Err(fault) => return Err(fault),
-    };
-    if makes(&found.act) && parts.table.len() >= ACTORS_LIMIT {
-        return Err(StepFault::ActorsFull { actor: a });
+    match find_go(alloc, code, weight, trace, &parts.table, &mut parts.turn, a) {
+        Ok(found) => prepare_turn(parts, a, found),
+        Err(fault) => Err(fault),
     }
-    if parts.table.reserve_go(a, &parts.turn, &found).is_err() {
-        return Err(StepFault::NoMemory);
-    }
-    if reserve_out(parts, &found.act).is_err() {
-        return Err(StepFault::NoMemory);
-    }
-    Ok(found)
 }
 
 impl Parts {
@@ -138,7 +165,7 @@ impl Parts {
     }
 }
 
-// An actor of the kind comes behind all others, and its maker has its name.
+// An actor of the kind comes behind all others, and its maker has its name; it is told.
 fn make(
     alloc: Global,
     code: &Checked,
@@ -147,7 +174,7 @@ fn make(
     a: ActorName,
     kind: u32,
     register: u8,
-)
+) -> ActorName
     requires light { weight < count_limit }
     requires few { length table.old.slots < ACTORS_LIMIT }
     requires room { 0 < table.old.spare }
@@ -155,43 +182,60 @@ fn make(
     ensures actors { actors_of table.new.slots ≡ changed_at
         (with_cell_by (settled weight register (length table.old.slots))) a (actors_of table.old.slots)
         ++ seat (fresh_cell weight code.now kind) [] ∷ [] }
-    ensures home { AllHome table.old.slots → AllHome table.new.slots }
+    ensures away { KeepsAway (away_of table.old.slots) (away_of table.new.slots) }
+    ensures woken { IsLowestWoken (actors_of table.old.slots) (actors_of table.new.slots) (Some result) }
 {
     let name = ActorName(table.len() as u32);
     table.settle_new(a, register, name, weight);
     let cell = Cell::fresh(alloc, code, name, kind, u64::from(weight));
     table.push_actor(cell, MailRow::new(alloc));
+    name
 }
 
-// What the actor does where its turn stopped is given out.
-fn give_out(alloc: Global, code: &Checked, weight: u32, parts: &mut Parts, a: ActorName, act: Move)
+// What the actor does where its turn stopped is given out, and the actor that gets it or is made is
+// told.
+fn give_out(
+    alloc: Global,
+    code: &Checked,
+    weight: u32,
+    parts: &mut Parts,
+    a: ActorName,
+    act: Move,
+) -> Option<ActorName>
     requires light { weight < count_limit }
     requires room { HasRoomOut act parts.old }
     requires can { CanNameNew weight a act parts.old.table.slots }
     requires objects { parts.old.objects + length parts.old.turn.made < 2 ^ 64 }
     ensures state { (options : Options) → state_of code.now options parts.new ≡ given weight code.now a act
         (length parts.old.turn.made) (state_of code.now options parts.old) }
-    ensures home { AllHome parts.old.table.slots → AllHome parts.new.table.slots }
+    ensures away { KeepsAway (away_of parts.old.table.slots) (away_of parts.new.table.slots) }
+    ensures woken { IsLowestWoken (actors_of parts.old.table.slots) (actors_of parts.new.table.slots) result }
 {
     match act {
         Move::Post { to, letter } => {
             parts.count_made();
-            parts.table.push_letter(to, letter);
+            post(&mut parts.table, to, letter)
         }
-        Move::Mint { owner, things } => parts.table.push_letter(owner, Letter::Inc { things }),
+        Move::Mint { owner, things } => post(&mut parts.table, owner, Letter::Inc { things }),
         Move::New { kind, register } => {
             parts.count_made();
-            make(alloc, code, weight, &mut parts.table, a, kind, register);
+            let name = make(alloc, code, weight, &mut parts.table, a, kind, register);
+            Some(name)
         }
         Move::Print { value } => {
             parts.count_made();
             parts.prints.push_reserved(value);
+            None
         }
-        Move::End => parts.count_made(),
+        Move::End => {
+            parts.count_made();
+            None
+        }
     }
 }
 
-/// What was found of the actor's turn is done. It takes no memory.
+/// What was found of the actor's turn is done, and the actor that gets a letter or is made is told. It
+/// takes no memory.
 pub(crate) fn apply_go(
     alloc: Global,
     code: &Checked,
@@ -200,7 +244,7 @@ pub(crate) fn apply_go(
     parts: &mut Parts,
     a: ActorName,
     found: Turned,
-)
+) -> Option<ActorName>
     requires light { weight ≤ 65536 }
     requires fits { FitsGo trace weight code.now a found parts.old }
     requires can { (c : a_cell) → (slot_at parts.old.table.slots a).place ≡ Home c
@@ -209,9 +253,10 @@ pub(crate) fn apply_go(
     ensures state { (options : Options) → options.weight ≡ weight → options.trace ≡ trace
         → next (state_of code.now options parts.old) (go_event a)
         ≡ Goes (state_of code.now options parts.new) }
-    ensures home { AllHome parts.old.table.slots → AllHome parts.new.table.slots }
+    ensures away { KeepsAway (away_of parts.old.table.slots) (away_of parts.new.table.slots) }
+    ensures woken { IsLowestWoken (actors_of parts.old.table.slots) (actors_of parts.new.table.slots) result }
 {
     let _trace = trace;
     parts.table.go(a, &parts.turn, &found);
-    give_out(alloc, code, weight, parts, a, found.act);
+    give_out(alloc, code, weight, parts, a, found.act)
 }

@@ -1,15 +1,17 @@
 // Leave: an actor that nobody holds goes by itself.
 
-ghost use Rattle.std.specs.Prelude.{◌≡◌, IfErr, IfOk, false, set};
+ghost use Rattle.std.specs.Prelude.{◌≡◌, IfErr, IfOk};
 ghost use Rattle.behaviour_code.specs.declared.code.Program.{Program};
 ghost use Rattle.event_rule.specs.Runs.{Goes};
 ghost use Rattle.event_rule.specs.declared.event.Event.TheVariants.{Leave as leave_event};
 ghost use Rattle.machine_rules.specs.Next.{next};
 ghost use Rattle.machine_rules.specs.Options.{Options};
-ghost use Rattle.actor_table.specs.Slots.{away_of, is_away, slot_at};
-ghost use Rattle.orca_core.specs.Faults.{Faulted};
+ghost use Rattle.actor_table.specs.Slots.{actors_of, away_of};
+ghost use Rattle.orca_core.specs.Away.{KeepsAway, next_without};
+ghost use Rattle.orca_core.specs.Faults.{IsFault};
 ghost use Rattle.orca_core.specs.Fits.{FitsLeave, OnlyRoom};
 ghost use Rattle.orca_core.specs.Parts.{state_of};
+ghost use Rattle.orca_core.specs.Woken.{IsLowestWoken};
 
 use crate::fault::StepFault;
 use crate::letters::{push_all, reserve_all};
@@ -31,9 +33,9 @@ pub(crate) fn prepare_leave(
 ) -> Result<Vec<(ActorName, Letter)>, StepFault>
     ensures same { OnlyRoom parts.old parts.new }
     ensures ok { IfOk result (λ letters. FitsLeave a letters.items parts.new) }
-    ensures fault { let slots = parts.old.table.slots in
+    ensures fault { let away = away_of parts.old.table.slots in
         (program : Program) (options : Options) → IfErr result
-        (Faulted (is_away (slot_at slots a)) (next (state_of program options parts.old) (leave_event a)) a) }
+        (IsFault (next_without away (state_of program options parts.old) (leave_event a)) (leave_event a)) }
 {
     if !parts.table.may_leave(a) {
         return Err(StepFault::NotEnabled);
@@ -52,19 +54,21 @@ pub(crate) fn prepare_leave(
     Ok(letters)
 }
 
-/// The actor goes, and gives back what it held. It takes no memory.
+/// The actor goes, and gives back what it held; the lowest to whom a letter goes is told. It takes no
+/// memory.
 pub(crate) fn apply_leave(
     alloc: Global,
     parts: &mut Parts,
     a: ActorName,
     letters: Vec<(ActorName, Letter)>,
-)
+) -> Option<ActorName>
     requires { FitsLeave a letters.items parts.old }
     ensures state { (program : Program) (options : Options)
         → next (state_of program options parts.old) (leave_event a)
         ≡ Goes (state_of program options parts.new) }
-    ensures away { away_of parts.new.table.slots ≡ set (away_of parts.old.table.slots) a false }
+    ensures away { KeepsAway (away_of parts.old.table.slots) (away_of parts.new.table.slots) }
+    ensures woken { IsLowestWoken (actors_of parts.old.table.slots) (actors_of parts.new.table.slots) result }
 {
     parts.table.clear(alloc, a);
-    push_all(&mut parts.table, letters);
+    push_all(&mut parts.table, letters)
 }

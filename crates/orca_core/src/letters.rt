@@ -1,11 +1,13 @@
 // Letters that an event gives out.
 
-ghost use Rattle.std.specs.Prelude.{◌≡◌, ◌==◌, ◌≤◌, ◌<◌, ◌+◌, ◌^◌, ℕ, OnOk, IfOk, if◌then◌else◌, length};
+ghost use Rattle.std.specs.Prelude.{◌≡◌, ◌==◌, ◌≤◌, ◌<◌, ◌+◌, ◌^◌, ℕ, true, is_some, None, Some, OnOk, IfOk, if◌then◌else◌};
 ghost use Rattle.actor_cell.specs.Outs.{letters_of};
 ghost use Rattle.actor_cell.specs.Pushing.{push_all};
-ghost use Rattle.actor_table.specs.Slots.{actors_of, away_of, letters_in, places_of};
+ghost use Rattle.machine_rules.specs.Actors.{push_letter, seat_at};
+ghost use Rattle.actor_table.specs.Slots.{actors_of, away_of, letters_in, places_of, slot_at};
 ghost use Rattle.actor_table.specs.Changes.{KeepsRoom};
 ghost use Rattle.orca_core.specs.Letters.{FitLetters, counted, letters_to};
+ghost use Rattle.orca_core.specs.Woken.{IsLowestWoken, lower_of};
 
 use actor_table::ActorTable;
 use letter_kinds::{Amounts, Letter};
@@ -33,7 +35,7 @@ fn count_one(counts: &mut BTreeMap<ActorName, usize>, to: ActorName) -> Result<u
 ///
 /// # Errors
 /// `NoMemory` where memory was refused.
-#[tactic(auto, using(crate::proofs::Reserving::same_actors, crate::proofs::Reserving::same_away))]
+#[tactic(auto, using(crate::proofs::Homes::same_actors, crate::proofs::Homes::same_away))]
 pub(crate) fn reserve_all(
     alloc: Global,
     table: &mut ActorTable,
@@ -63,7 +65,7 @@ pub(crate) fn reserve_all(
 ///
 /// # Errors
 /// `NoMemory` where memory was refused.
-#[tactic(auto, using(crate::proofs::Reserving::same_actors, crate::proofs::Reserving::same_away))]
+#[tactic(auto, using(crate::proofs::Homes::same_actors, crate::proofs::Homes::same_away))]
 pub(crate) fn reserve_each(
     table: &mut ActorTable,
     groups: &[(ActorName, Amounts)],
@@ -83,14 +85,56 @@ pub(crate) fn reserve_each(
     Ok(())
 }
 
-/// Each letter goes to its actor, in their order; one for an actor that is gone is lost.
-pub(crate) fn push_all(table: &mut ActorTable, letters: Vec<(ActorName, Letter)>)
+// The actor, where it is present.
+fn present(table: &ActorTable, a: ActorName) -> Option<ActorName>
+    ensures { result ≡ (if is_some (seat_at (actors_of table.now.slots) a) then Some a else None) }
+{
+    if table.lives(a) { Some(a) } else { None }
+}
+
+/// The lower of two actors, each of which may be none.
+pub(crate) fn lower(one: Option<ActorName>, two: Option<ActorName>) -> Option<ActorName>
+    ensures { result ≡ lower_of one two }
+{
+    match (one, two) {
+        (None, two) => two,
+        (Some(one), None) => Some(one),
+        (Some(one), Some(two)) => Some(one.min(two)),
+    }
+}
+
+/// The letter goes to its actor, which is told where it is present; one for an actor that is gone is
+/// lost.
+pub(crate) fn post(table: &mut ActorTable, to: ActorName, letter: Letter) -> Option<ActorName>
+    requires { is_some (seat_at (actors_of table.old.slots) to) ≡ true
+        → 0 < (slot_at table.old.slots to).mail.spare }
+    ensures actors { actors_of table.new.slots ≡ push_letter to letter (actors_of table.old.slots) }
+    ensures away { away_of table.new.slots ≡ away_of table.old.slots }
+    ensures room { (b : ℕ) → (slot_at table.old.slots b).mail.spare
+        ≤ (slot_at table.new.slots b).mail.spare + (if b == to then 1 else 0) }
+    ensures woken { IsLowestWoken (actors_of table.old.slots) (actors_of table.new.slots) result }
+{
+    let woken = present(table, to);
+    table.push_letter(to, letter);
+    woken
+}
+
+/// Each letter goes to its actor, in their order, and the lowest that gets one is told; one for an
+/// actor that is gone is lost.
+pub(crate) fn push_all(
+    table: &mut ActorTable,
+    letters: Vec<(ActorName, Letter)>,
+) -> Option<ActorName>
     requires { FitLetters letters.items table.old.slots }
     ensures actors { actors_of table.new.slots
         ≡ push_all letters.items (actors_of table.old.slots) }
     ensures away { away_of table.new.slots ≡ away_of table.old.slots }
+    ensures woken { IsLowestWoken (actors_of table.old.slots) (actors_of table.new.slots) result }
 {
+    let mut lowest = None;
     for letter in letters {
-        table.push_letter(letter.0, letter.1);
+        let woken = post(table, letter.0, letter.1);
+        lowest = lower(lowest, woken);
     }
+    lowest
 }

@@ -1,21 +1,23 @@
 // The machine.
 
-ghost use Rattle.std.specs.Prelude.{◌≡◌, ◌+◌, ◌<◌, ◌≤◌, [], ◌∷◌, length, IfErr, IfOk, OnErr, OnOk};
+ghost use Rattle.std.specs.Prelude.{◌≡◌, ◌+◌, ◌<◌, ◌≤◌, false, [], ◌∷◌, length, IfErr, IfOk, OnErr, OnOk};
 ghost use Rattle.orca_names.specs.declared.limits.TheConstants.{BOOK_LIMIT};
 ghost use Rattle.event_rule.specs.Runs.{Goes};
-ghost use Rattle.letter_kinds.specs.Detector.{fresh_detector};
 ghost use Rattle.machine_rules.specs.Actors.{seat};
 ghost use Rattle.machine_rules.specs.Cell.{first_cell};
 ghost use Rattle.machine_rules.specs.Next.{next};
 ghost use Rattle.machine_rules.specs.State.{first_state, start_letters};
-ghost use Rattle.actor_table.specs.Slots.{actors_of};
-ghost use Rattle.orca_core.specs.Machine.{IsFault, options_of};
-ghost use Rattle.orca_core.specs.Parts.{state_of};
-ghost use Rattle.orca_core.specs.Steps.{AllHome, CanStep};
+ghost use Rattle.actor_table.specs.Slots.{actors_of, away_of};
+ghost use Rattle.orca_core.specs.Away.{KeepsAway, is_out_for, next_without};
+ghost use Rattle.orca_core.specs.Faults.{IsFault};
+ghost use Rattle.orca_core.specs.Machine.{Fits, IsSame, NoneIsAway, ReapsNoneAway, options_of};
+ghost use Rattle.orca_core.specs.Ready.{event_of};
+ghost use Rattle.orca_core.specs.Woken.{IsLowestWoken};
 
 use crate::fault::StepFault;
 use crate::parts::Parts;
-use crate::steps::{block, collect, go, hear, leave, reap, scan, take};
+use crate::ready::Ready;
+use crate::steps::{apply, prepare};
 use actor_cell::Cell;
 use actor_table::ActorTable;
 use behaviour_check::Checked;
@@ -23,7 +25,7 @@ use cycle_detect::Detector;
 use event_rule::Event;
 use letter_kinds::Letter;
 use mail_rows::MailRow;
-use orca_names::{Args, NoMemory, Trace, Value};
+use orca_names::{ActorName, Args, NoMemory, Trace, Value};
 use plain_list::Listed;
 use std::alloc::Global;
 use std::collections::VecDeque;
@@ -34,10 +36,10 @@ use turn_step::Turn;
 /// state is reached by a run of the program.
 #[derive(Drop)]
 pub struct Orca<'a> {
-    code: &'a Checked,
-    weight: u32,
-    trace: Trace,
-    parts: Parts,
+    pub(crate) code: &'a Checked,
+    pub(crate) weight: u32,
+    pub(crate) trace: Trace,
+    pub(crate) parts: Parts,
     steps: u64,
 }
 
@@ -46,7 +48,7 @@ impl<'a> Model for Orca<'a> {
     ghost use Rattle.actor_table.specs.Codes.{coded_entries, coded_known, coded_own};
     ghost use Rattle.orca_core.specs.Machine as machine;
     ghost use Rattle.orca_core.specs.Parts.{state_of};
-    ghost use Rattle.orca_core.specs.Steps.{AllHome};
+    ghost use Rattle.actor_table.specs.Slots.{away_of};
 
     ghost Value = { machine.Machine };
 
@@ -55,12 +57,12 @@ impl<'a> Model for Orca<'a> {
     ghost view = { λ m. record {
       state = state_of m.code.now (machine.options_of m.weight m.trace) m.parts;
       steps = m.steps;
+      out = away_of m.parts.table.slots;
+      kept = m.parts;
     } };
 
-    ghost invariant = { λ m. machine.IsReached (record {
-      state = state_of m.code.now (machine.options_of m.weight m.trace) m.parts;
-      steps = m.steps;
-    }) × AllHome m.parts.table.slots };
+    ghost invariant = { λ m.
+        machine.IsReached (state_of m.code.now (machine.options_of m.weight m.trace) m.parts) m.steps };
 }
 
 // The letters of the first actor: `start`, where the program has it.
@@ -84,44 +86,13 @@ fn first_mail(alloc: Global, code: &Checked) -> Result<MailRow, NoMemory>
 fn first_table(alloc: Global, code: &Checked) -> Result<ActorTable, NoMemory>
     ensures actors { IfOk result (λ table. actors_of table.slots
         ≡ seat (first_cell code.now) (start_letters code.now) ∷ []) }
-    ensures home { IfOk result (λ table. AllHome table.slots) }
+    ensures home { IfOk result (λ table. away_of table.slots ≡ false ∷ []) }
 {
     let mail = first_mail(alloc, code)?;
     let mut table = ActorTable::new(alloc);
     table.reserve_actor()?;
     table.push_actor(Cell::first(alloc, code), mail);
     Ok(table)
-}
-
-// An event of the machine's parts, prepared and then done.
-fn step_parts(
-    alloc: Global,
-    code: &Checked,
-    weight: u32,
-    trace: Trace,
-    parts: &mut Parts,
-    e: Event,
-) -> Result<(), StepFault>
-    requires light { weight ≤ 65536 }
-    requires home { AllHome parts.old.table.slots }
-    requires can { CanStep trace weight code.now parts.old e }
-    ensures ok { OnOk result (next (state_of code.now (options_of weight trace) parts.old) e
-        ≡ Goes (state_of code.now (options_of weight trace) parts.new)) }
-    ensures same { OnErr result (state_of code.now (options_of weight trace) parts.new
-        ≡ state_of code.now (options_of weight trace) parts.old) }
-    ensures fault { IfErr result (IsFault (next (state_of code.now (options_of weight trace) parts.old) e) e) }
-    ensures home { AllHome parts.new.table.slots }
-{
-    match e {
-        Event::Take(a) => take(code, parts, a),
-        Event::Go(a) => go(alloc, code, weight, trace, parts, a),
-        Event::Collect(a) => collect(alloc, trace, parts, a),
-        Event::Leave(a) => leave(alloc, parts, a),
-        Event::Block(a) => block(alloc, parts, a),
-        Event::Hear => hear(parts),
-        Event::Scan => scan(alloc, parts),
-        Event::Reap(number) => reap(alloc, parts, number),
-    }
 }
 
 impl<'a> Orca<'a> {
@@ -140,6 +111,7 @@ impl<'a> Orca<'a> {
         requires light { weight ≤ 65536 }
         ensures state { IfOk result (λ m. m.state ≡ first_state code.now (options_of weight trace)) }
         ensures steps { IfOk result (λ m. m.steps ≡ 0) }
+        ensures home { IfOk result NoneIsAway }
     {
         // The program was checked.
         let _program = code.program();
@@ -160,34 +132,74 @@ impl<'a> Orca<'a> {
         })
     }
 
-    /// Does an event: the machine's next step is exactly that of its rules (Orca, OOPSLA 2017; MAC,
-    /// OOPSLA 2013).
+    /// Evaluates an event and takes all its memory. Nothing changes but room, so the event can then be
+    /// done by `apply_ready`, which can't fail.
     ///
     /// # Errors
-    /// `NotEnabled` exactly where the event is not enabled; `ActorsFull` exactly where the event is a
-    /// go whose act would make an actor and 65,536 are made; `NoMemory` where memory was refused.
-    /// Nothing changes then.
-    pub fn step(&mut self, alloc: Global, e: Event) -> Result<(), StepFault>
-        requires { self.old.steps < BOOK_LIMIT }
-        ensures ok { OnOk result (next self.old.state e ≡ Goes self.new.state) }
-        ensures steps { OnOk result (self.new.steps ≡ self.old.steps + 1) }
-        ensures fault { IfErr result (IsFault (next self.old.state e) e) }
-        ensures same { OnErr result (self.new ≡ self.old) }
+    /// `NotEnabled` exactly where the event is not enabled, or is one of an actor whose cell is away;
+    /// `ActorsFull` exactly where the event is a go whose act would make an actor and 65,536 are made;
+    /// `NoMemory` where memory was refused.
+    pub fn prepare(&mut self, alloc: Global, e: Event) -> Result<Ready, StepFault>
+        requires early { self.old.steps < BOOK_LIMIT }
+        requires home { ReapsNoneAway e self.old }
+        ensures same { IsSame self.old self.new }
+        ensures event { IfOk result (λ ready. event_of ready ≡ e) }
+        ensures ok { IfOk result (λ ready. Fits ready self.new) }
+        ensures home { OnOk result (is_out_for self.old.out e ≡ false) }
+        ensures fault { IfErr result (IsFault (next_without self.old.out self.old.state e) e) }
     {
-        match step_parts(
+        prepare(
             alloc,
             self.code,
             self.weight,
             self.trace,
             &mut self.parts,
             e,
-        ) {
-            Ok(()) => {
-                self.steps += 1;
-                Ok(())
-            }
-            Err(fault) => Err(fault),
-        }
+        )
+    }
+
+    /// Does the event that was prepared: the machine's next step is exactly that of its rules. It takes
+    /// no memory, and tells the lowest actor that gets a letter or is made by the event, `None` where
+    /// none is.
+    pub fn apply_ready(&mut self, alloc: Global, ready: Ready) -> Option<ActorName>
+        requires early { self.old.steps < BOOK_LIMIT }
+        requires fits { Fits ready self.old }
+        ensures state { next self.old.state (event_of ready) ≡ Goes self.new.state }
+        ensures steps { self.new.steps ≡ self.old.steps + 1 }
+        ensures out { KeepsAway self.old.out self.new.out }
+        ensures woken { IsLowestWoken self.old.state.actors self.new.state.actors result }
+    {
+        let woken = apply(
+            alloc,
+            self.code,
+            self.weight,
+            self.trace,
+            &mut self.parts,
+            ready,
+        );
+        self.steps += 1;
+        woken
+    }
+
+    /// Does an event: the machine's next step is exactly that of its rules (Orca, OOPSLA 2017; MAC,
+    /// OOPSLA 2013). It tells the lowest actor that gets a letter or is made by the event, `None` where
+    /// none is.
+    ///
+    /// # Errors
+    /// As `prepare`. Nothing changes then but room.
+    pub fn step(&mut self, alloc: Global, e: Event) -> Result<Option<ActorName>, StepFault>
+        requires early { self.old.steps < BOOK_LIMIT }
+        requires home { ReapsNoneAway e self.old }
+        ensures ok { OnOk result (next self.old.state e ≡ Goes self.new.state) }
+        ensures home { OnOk result (is_out_for self.old.out e ≡ false) }
+        ensures steps { OnOk result (self.new.steps ≡ self.old.steps + 1) }
+        ensures out { KeepsAway self.old.out self.new.out }
+        ensures fault { IfErr result (IsFault (next_without self.old.out self.old.state e) e) }
+        ensures same { OnErr result (IsSame self.old self.new) }
+        ensures woken { IfOk result (IsLowestWoken self.old.state.actors self.new.state.actors) }
+    {
+        let ready = self.prepare(alloc, e)?;
+        Ok(self.apply_ready(alloc, ready))
     }
 
     /// What was printed, in its order.

@@ -10,13 +10,15 @@ ghost use Rattle.letter_kinds.specs.declared.letter.Letter.{Letter as a_letter};
 ghost use Rattle.machine_rules.specs.Detect.{empty_seats, reap_decs};
 ghost use Rattle.machine_rules.specs.Next.{next};
 ghost use Rattle.machine_rules.specs.Options.{Options};
-ghost use Rattle.actor_table.specs.Slots.{actors_of, away_of};
+ghost use Rattle.actor_table.specs.Slots.{actors_of, away_of, places_of};
 ghost use Rattle.actor_cell.specs.Outs.{letters_of};
-ghost use Rattle.orca_core.specs.Faults.{DetectorFaulted};
-ghost use Rattle.orca_core.specs.Fits.{CanReap, OnlyRoom, without_all};
+ghost use Rattle.orca_core.specs.Away.{KeepsAway};
+ghost use Rattle.orca_core.specs.Faults.{IsFault};
+ghost use Rattle.orca_core.specs.Fits.{FitsReap, OnlyRoom, without_all};
 ghost use Rattle.orca_core.specs.Letters.{FitLetters};
 ghost use Rattle.orca_core.specs.Parts.{state_of};
 ghost use Rattle.orca_core.specs.Reaping.{AckedAreHome, AreHome};
+ghost use Rattle.orca_core.specs.Woken.{IsLowestWoken};
 
 use crate::fault::StepFault;
 use crate::letters::{push_all, reserve_all};
@@ -65,6 +67,7 @@ fn prepare_going(
     requires home { AreHome members.now table.old.slots }
     ensures actors { actors_of table.new.slots ≡ actors_of table.old.slots }
     ensures away { away_of table.new.slots ≡ away_of table.old.slots }
+    ensures places { places_of table.new.slots ≡ places_of table.old.slots }
     ensures members { IfOk result (λ going. going.members.items ≡ members.now) }
     ensures letters { IfOk result (λ going. going.letters.items
         ≡ letters_of (reap_decs members.now members.now (actors_of table.old.slots))) }
@@ -82,7 +85,7 @@ fn prepare_going(
 /// # Errors
 /// `NotEnabled` exactly where no open token of this number is acknowledged by all its members, and
 /// `NoMemory` where memory was refused.
-#[tactic(auto, using(crate::proofs::Reaping::can_reap, crate::proofs::Reaping::none_acked))]
+#[tactic(auto, using(crate::proofs::Reaping::none_acked))]
 pub(crate) fn prepare_reap(
     alloc: Global,
     parts: &mut Parts,
@@ -90,10 +93,9 @@ pub(crate) fn prepare_reap(
 ) -> Result<Going, StepFault>
     requires home { AckedAreHome number parts.old.detector.state parts.old.table.slots }
     ensures same { OnlyRoom parts.old parts.new }
-    ensures ok { IfOk result (λ going. CanReap number going.members.items going.letters.items
-        parts.new.table.slots parts.new.detector.state) }
+    ensures ok { IfOk result (λ going. FitsReap number going.members.items going.letters.items parts.new) }
     ensures fault { (program : Program) (options : Options) → IfErr result
-        (DetectorFaulted (next (state_of program options parts.old) (reap_event number))) }
+        (IsFault (next (state_of program options parts.old) (reap_event number)) (reap_event number)) }
 {
     let Some(members) = parts.detector.acked_members(number) else {
         return Err(StepFault::NotEnabled);
@@ -116,22 +118,24 @@ fn clear_all(alloc: Global, table: &mut ActorTable, members: &[ActorName])
     }
 }
 
-/// The members of the token go, and what they held outside goes back. It takes no memory.
+/// The members of the token go, and what they held outside goes back; the lowest to whom a letter goes
+/// is told. It takes no memory.
 pub(crate) fn apply_reap(
     alloc: Global,
     parts: &mut Parts,
     number: u64,
     members: &[ActorName],
     letters: Vec<(ActorName, Letter)>,
-)
-    requires { CanReap number members.now letters.items parts.old.table.slots parts.old.detector.state }
+) -> Option<ActorName>
+    requires { FitsReap number members.now letters.items parts.old }
     ensures state { (program : Program) (options : Options)
         → next (state_of program options parts.old) (reap_event number)
         ≡ Goes (state_of program options parts.new) }
-    ensures away { away_of parts.new.table.slots
-        ≡ without_all members.now (away_of parts.old.table.slots) }
+    ensures away { KeepsAway (away_of parts.old.table.slots) (away_of parts.new.table.slots) }
+    ensures woken { IsLowestWoken (actors_of parts.old.table.slots) (actors_of parts.new.table.slots) result }
 {
     clear_all(alloc, &mut parts.table, members);
-    push_all(&mut parts.table, letters);
+    let woken = push_all(&mut parts.table, letters);
     parts.detector.close(number);
+    woken
 }

@@ -11,12 +11,14 @@ ghost use Rattle.machine_rules.specs.Next.{next};
 ghost use Rattle.machine_rules.specs.Options.{Options};
 ghost use Rattle.actor_table.specs.Slots.{actors_of, away_of};
 ghost use Rattle.cycle_detect.specs.declared.detector.TheConstants.{TOKENS_LIMIT};
-ghost use Rattle.orca_core.specs.Faults.{DetectorFaulted};
+ghost use Rattle.orca_core.specs.Faults.{IsFault};
 ghost use Rattle.orca_core.specs.Fits.{CanOpenThen, CanScan, OnlyRoom};
 ghost use Rattle.orca_core.specs.Letters.{FitLetters, asks};
 ghost use Rattle.orca_core.specs.Parts.{state_of};
+ghost use Rattle.orca_core.specs.Woken.{IsLowestWoken};
 
 use crate::fault::StepFault;
+use crate::letters::{lower, post};
 use crate::parts::Parts;
 use actor_table::ActorTable;
 use cycle_detect::{Detector, Token};
@@ -25,7 +27,7 @@ use orca_names::{ActorName, NoMemory};
 use std::alloc::Global;
 
 /// Takes the memory for one letter to each of these actors.
-#[tactic(auto, using(crate::proofs::Fitting::same_actors, crate::proofs::Fitting::same_away))]
+#[tactic(auto, using(crate::proofs::Homes::same_actors, crate::proofs::Homes::same_away))]
 fn reserve_asks(table: &mut ActorTable, members: &[ActorName]) -> Result<(), NoMemory>
     requires { IsStrictlySortedBy nat_cmp members.now }
     ensures actors { actors_of table.new.slots ≡ actors_of table.old.slots }
@@ -71,7 +73,7 @@ pub(crate) fn prepare_scan(alloc: Global, parts: &mut Parts) -> Result<Option<To
     ensures same { OnlyRoom parts.old parts.new }
     ensures ok { IfOk result (λ token. CanScan token parts.new.table.slots parts.new.detector) }
     ensures fault { (program : Program) (options : Options)
-        → IfErr result (DetectorFaulted (next (state_of program options parts.old) scan_event)) }
+        → IfErr result (IsFault (next (state_of program options parts.old) scan_event) scan_event) }
 {
     if !parts.detector.news() {
         return Err(StepFault::NotEnabled);
@@ -82,30 +84,37 @@ pub(crate) fn prepare_scan(alloc: Global, parts: &mut Parts) -> Result<Option<To
     }
 }
 
-/// Each of these actors is asked whether it is still blocked.
-fn ask_all(table: &mut ActorTable, members: &[ActorName], number: u64)
+/// Each of these actors is asked whether it is still blocked, and the lowest that is present is told.
+fn ask_all(table: &mut ActorTable, members: &[ActorName], number: u64) -> Option<ActorName>
     requires { FitLetters (asks number members.now) table.old.slots }
     ensures actors { actors_of table.new.slots
         ≡ ask_all members.now number (actors_of table.old.slots) }
     ensures away { away_of table.new.slots ≡ away_of table.old.slots }
+    ensures woken { IsLowestWoken (actors_of table.old.slots) (actors_of table.new.slots) result }
 {
+    let mut lowest = None;
     for member in members {
-        table.push_letter(*member, Letter::Confirm { token: number });
+        let woken = post(table, *member, Letter::Confirm { token: number });
+        lowest = lower(lowest, woken);
     }
+    lowest
 }
 
 /// There is no news any more; the token that was prepared, if one was, is opened, and its members are
-/// asked. It takes no memory.
-pub(crate) fn apply_scan(parts: &mut Parts, token: Option<Token>)
+/// asked. It takes no memory, and tells the lowest that is present.
+pub(crate) fn apply_scan(parts: &mut Parts, token: Option<Token>) -> Option<ActorName>
     requires { CanScan token parts.old.table.slots parts.old.detector }
     ensures state { (program : Program) (options : Options)
         → next (state_of program options parts.old) scan_event
         ≡ Goes (state_of program options parts.new) }
     ensures away { away_of parts.new.table.slots ≡ away_of parts.old.table.slots }
+    ensures woken { IsLowestWoken (actors_of parts.old.table.slots) (actors_of parts.new.table.slots) result }
 {
     parts.detector.clear_news();
-    if let Some(token) = token {
-        ask_all(&mut parts.table, token.members(), token.number());
-        parts.detector.open_prepared(token);
-    }
+    let Some(token) = token else {
+        return None;
+    };
+    let woken = ask_all(&mut parts.table, token.members(), token.number());
+    parts.detector.open_prepared(token);
+    woken
 }

@@ -9,10 +9,12 @@ ghost use Rattle.machine_rules.specs.Actors.{seat_at};
 ghost use Rattle.machine_rules.specs.Next.{next};
 ghost use Rattle.machine_rules.specs.Options.{Options};
 ghost use Rattle.actor_table.specs.Changes.{CanTakeHere, note_taken};
-ghost use Rattle.actor_table.specs.Slots.{actors_of, away_of, is_away, slot_at};
-ghost use Rattle.orca_core.specs.Faults.{Faulted};
+ghost use Rattle.actor_table.specs.Slots.{actors_of, away_of, slot_at};
+ghost use Rattle.orca_core.specs.Away.{next_without};
+ghost use Rattle.orca_core.specs.Faults.{IsFault};
 ghost use Rattle.orca_core.specs.Fits.{FitsTake, OnlyRoom};
 ghost use Rattle.orca_core.specs.Parts.{state_of};
+ghost use Rattle.orca_core.specs.Woken.{IsLowestWoken};
 
 use crate::fault::StepFault;
 use crate::parts::Parts;
@@ -28,9 +30,9 @@ use orca_names::ActorName;
 pub(crate) fn prepare_take(parts: &mut Parts, a: ActorName) -> Result<(), StepFault>
     ensures same { OnlyRoom parts.old parts.new }
     ensures ok { OnOk result (FitsTake a parts.new) }
-    ensures fault { let slots = parts.old.table.slots in
+    ensures fault { let away = away_of parts.old.table.slots in
         (program : Program) (options : Options) → IfErr result
-        (Faulted (is_away (slot_at slots a)) (next (state_of program options parts.old) (take_event a)) a) }
+        (IsFault (next_without away (state_of program options parts.old) (take_event a)) (take_event a)) }
 {
     if !parts.table.may_take(a) {
         return Err(StepFault::NotEnabled);
@@ -41,16 +43,18 @@ pub(crate) fn prepare_take(parts: &mut Parts, a: ActorName) -> Result<(), StepFa
     Ok(())
 }
 
-/// The idle actor takes the first of its letters. It takes no memory.
-pub(crate) fn apply_take(code: &Checked, parts: &mut Parts, a: ActorName)
+/// The idle actor takes the first of its letters. It takes no memory, and wakes nobody.
+pub(crate) fn apply_take(code: &Checked, parts: &mut Parts, a: ActorName) -> Option<ActorName>
     requires can { CanTakeHere a (slot_at parts.old.table.slots a) }
     requires room { IsSome (note_taken a (seat_at (actors_of parts.old.table.slots) a))
         → deque_len parts.old.notes < deque_capacity parts.old.notes }
     ensures state { (options : Options) → next (state_of code.now options parts.old) (take_event a)
         ≡ Goes (state_of code.now options parts.new) }
     ensures away { away_of parts.new.table.slots ≡ away_of parts.old.table.slots }
+    ensures woken { IsLowestWoken (actors_of parts.old.table.slots) (actors_of parts.new.table.slots) result }
 {
     if let Some(note) = parts.table.take(code, a) {
         parts.notes.push_back_reserved(note);
     }
+    None
 }

@@ -1,9 +1,10 @@
 -- How the program exits.
 use Rattle.std.specs.Prelude.{◌≡◌, ◌⊎◌, ℕ, List}
-use Rattle.event_rule.specs.declared.event.Event.{Event}
+use Rattle.run_book.specs.Books.{BookValue}
 use Rattle.report_text.specs.Ends.{code_of}
 use Rattle.report_text.specs.declared.status.Status.{Status}
 use Rattle.report_text.specs.declared.status.Status.TheVariants as status
+use Rattle.word_line.specs.Orders.{order_of}
 use Rattle.pony_run.specs.Causes.{Causes}
 use Rattle.pony_run.specs.Headline.{Answers}
 use Rattle.pony_run.specs.Streams.{IsUntouched, Sides}
@@ -11,9 +12,9 @@ use Rattle.pony_run.specs.Streams.{IsUntouched, Sides}
 -- the source and the sink were called with these words, and the code is that of the answer
 pub record Exits (words : List (List ℕ)) (source sink : Sides) (code : ℕ) : Type 0 where
   pub answer : Status
-  pub book : List Event
-  pub answers : Answers words source sink answer book
-  pub causes : Causes words source sink answer book
+  pub book : BookValue
+  pub answers : Answers (order_of words) source sink book answer
+  pub causes : Causes (order_of words) source sink answer book
   pub exit : code ≡ code_of answer
 
 -- memory was refused before any call: nothing was read, and nothing written

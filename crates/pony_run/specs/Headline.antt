@@ -1,215 +1,245 @@
--- What a call does, for each status that it answers.
+-- What a call promises, from the words that it is given to the bytes that it writes.
 --
--- One layer a cause, in the order of the causes: the words, the source, the length of the input, its
--- text, the rules of its program, the run with its report. Each layer goes by cases on the status:
--- a cause of its own says what brought it and what the call did then; want of memory stands at the
--- layer where memory was refused; any other status comes of the layers below, and then this layer's
--- causes are absent.
-use Rattle.std.specs.Prelude.{◌≡◌, ◌⊎◌, ℕ, ◌<◌, ◌≤◌, List, [], length, take, Some, None}
+-- `Answers`, at the end, has a constructor for each answer, with its premises in the order of the
+-- causes: the words, what is read, its length, its text, the rules of its program, the run, and what is
+-- written. What every run promises, however it ends, is `EveryRun`; it is a premise of each answer behind
+-- which a run began.
+use Rattle.std.specs.Prelude.{◌≡◌, ◌↔◌, ◌⊎◌, ℕ, ◌<◌, ◌≤◌, Bool, true, false, not, List, [], ◌++◌, Contains, count_by, length, Some, None}
+use Rattle.std.specs.declared.option.Option.{Option}
 use Rattle.std.specs.Io.KnownBytes.{Appends}
+use Rattle.std.specs.List.Sorted.{IsStrictlySortedBy}
+use Rattle.orca_names.specs.Names.{thing_cmp}
+use Rattle.orca_names.specs.declared.names.Thing.{Thing}
+use Rattle.orca_names.specs.declared.names.Thing.TheVariants.{Actor, Obj}
+use Rattle.orca_names.specs.declared.tally.Sums.{Sums}
+use Rattle.event_rule.specs.Runs.{ActorsFull, Budget, EndsAs, IsQuiet, LeadsInOrder, Quiet}
 use Rattle.event_rule.specs.declared.event.Event.{Event}
-use Rattle.word_line.specs.Orders.{order_of}
-use Rattle.word_line.specs.declared.order.Order.{Order}
+use Rattle.run_book.specs.Books.{BookValue}
 use Rattle.report_text.specs.Refusals.{refusal_of}
+use Rattle.report_text.specs.Reports.{report_of}
+use Rattle.report_text.specs.declared.numbers.Numbers.{Numbers}
 use Rattle.report_text.specs.declared.status.Status.{Status}
 use Rattle.report_text.specs.declared.status.Status.TheVariants as status
+use Rattle.load_maker.specs.Loads.{load_text}
+use Rattle.word_line.specs.declared.order.Job.{Job}
+use Rattle.word_line.specs.declared.order.Job.TheVariants.{Run, Load}
+use Rattle.word_line.specs.declared.order.Order.{Order}
 use Rattle.behaviour_code.specs.WellFormed.{IsWellFormed}
 use Rattle.behaviour_code.specs.declared.code.Program.{Program}
 use Rattle.behaviour_text.specs.Faults.{first_fault}
 use Rattle.behaviour_text.specs.Text.{IsText}
 use Rattle.behaviour_check.specs.Rules.{fault_at, first_broken}
 use Rattle.plain_rules.specs.Machine.{PlainState}
-use Rattle.pony_run.specs.Ends.{EndsWith, IsReport, RunsTo}
-use Rattle.pony_run.specs.Streams.{CountsNoFault, HasFailed, IsUntouched, Sides, TakesAll, TakesPart, most_bytes}
+use Rattle.machine_rules.specs.Actors.{Actors}
+use Rattle.machine_rules.specs.Left.{IsLeft}
+use Rattle.machine_rules.specs.Next.{next}
+use Rattle.machine_rules.specs.Options.{Options}
+use Rattle.machine_rules.specs.Run.{IsPlainBeside, IsRun}
+use Rattle.machine_rules.specs.State.{State, first_state}
+use Rattle.machine_laws.specs.Laws.{IsNeverTooEarly}
+use Rattle.orca_core.specs.Laws.{IsLeftExactly}
+use Rattle.count_ledger.specs.Tally.{IsTally}
+use Rattle.pony_run.specs.Streams.{CountsNoFault, GivesPart, HasFailed, IsUntouched, Sides, TakesAll, TakesPart, most_bytes}
 
--- what a call wrote to its sink, and the run book that it answers
-pub record Work : Type 0 where
-  pub sink : Sides
-  pub written : List ℕ
-  pub book : List Event
+-- ---- what is read
 
--- the text was written, and no write failed
-pub record IsWhole (w : Work) (text : List ℕ) : Type 0 where
-  pub well : CountsNoFault w.sink
-  pub all : w.written ≡ text
-
--- the sink failed, and a front of the text was written, but not all of it
-pub record IsCut (w : Work) (text : List ℕ) : Type 0 where
-  pub failed : HasFailed w.sink
-  pub count : ℕ
-  pub short : count < length text
-  pub front : w.written ≡ take count text
-
--- no run began, and the refusal's line was written as far as the sink took it
-pub record IsRefused (w : Work) (answer : Status) : Type 0 where
-  pub book : w.book ≡ []
-  pub written : IsWhole w (refusal_of answer) ⊎ IsCut w (refusal_of answer)
-
--- memory was refused before a run began: nothing was written
-pub record IsStarved (w : Work) : Type 0 where
-  pub book : w.book ≡ []
-  pub written : IsWhole w []
-
--- the refusal was answered, or else want of memory for its line
-abbrev pub IsRefusedAs : Status → Status → Work → Type 0
-IsRefusedAs refusal answer w =
-    ((answer ≡ refusal) × IsRefused w refusal) ⊎ ((answer ≡ status.NoMemory) × IsStarved w)
-
--- ---- the run
-
--- it ended so, and its report was written whole
-pub record Ends (end : Status) (w : Work) (order : Order) (program : Program) : Type 0 where
-  pub state : PlainState
-  pub run : RunsTo program order.budget w.book state
-  pub ends : EndsWith end state w.book order.budget
-  pub report : IsReport end state w.written
-  pub well : CountsNoFault w.sink
-
--- it ended, and the sink failed while its report was written
-pub record EndsCut (w : Work) (order : Order) (program : Program) : Type 0 where
-  pub end : Status
-  pub state : PlainState
-  pub run : RunsTo program order.budget w.book state
-  pub ends : EndsWith end state w.book order.budget
-  pub text : List ℕ
-  pub report : IsReport end state text
-  pub cut : IsCut w text
-
--- memory was refused after it began: the book is a run, and nothing was written
-pub record EndsStarved (w : Work) (order : Order) (program : Program) : Type 0 where
-  pub state : PlainState
-  pub run : RunsTo program order.budget w.book state
-  pub written : IsWhole w []
-
-abbrev pub MeansRun : Status → Work → Order → Program → Type 0
-MeansRun status.Quiet w order program = Ends status.Quiet w order program
-MeansRun status.Budget w order program = Ends status.Budget w order program
-MeansRun (status.ActorsFull actor) w order program = Ends (status.ActorsFull actor) w order program
-MeansRun status.WriteFault w order program = EndsCut w order program
-MeansRun status.NoMemory w order program = EndsStarved w order program
-MeansRun other w order program = ⊥
-
--- ---- the rules of the program
-
-pub record BadProgram (kind behaviour step rule : ℕ) (w : Work) (program : Program) : Type 0 where
-  pub first : first_broken program ≡ Some (fault_at kind behaviour step rule)
-  pub refused : IsRefused w (status.BadProgram kind behaviour step rule)
-
-pub record HasChecked (answer : Status) (w : Work) (order : Order) (program : Program) : Type 0 where
-  pub kept : first_broken program ≡ None
-  pub means : MeansRun answer w order program
-
-abbrev pub MeansProgram : Status → Work → Order → Program → Type 0
-MeansProgram (status.BadProgram kind behaviour step rule) w order program =
-    BadProgram kind behaviour step rule w program
-MeansProgram status.NoMemory w order program =
-    IsStarved w ⊎ HasChecked status.NoMemory w order program
-MeansProgram answer w order program = HasChecked answer w order program
-
--- ---- the text
-
-pub record BadText (line kind : ℕ) (w : Work) (input : List ℕ) : Type 0 where
-  pub first : first_fault input ≡ Some (line, kind)
-  pub no_program : (program : Program) → IsText input program → ¬ IsWellFormed program
-  pub refused : IsRefused w (status.BadText line kind)
-
-pub record HasProgram (answer : Status) (w : Work) (order : Order) (input : List ℕ) : Type 0 where
-  pub program : Program
-  pub text : IsText input program
-  pub good : IsWellFormed program
-  pub means : MeansProgram answer w order program
-
-abbrev pub MeansText : Status → Work → Order → List ℕ → Type 0
-MeansText (status.BadText line kind) w order input = BadText line kind w input
-MeansText status.NoMemory w order input = IsStarved w ⊎ HasProgram status.NoMemory w order input
-MeansText answer w order input = HasProgram answer w order input
-
--- ---- the length
-
-pub record TooLong (w : Work) (input : List ℕ) : Type 0 where
-  pub long : length input ≡ most_bytes
-  pub refused : IsRefused w status.TooLong
-
-pub record IsShort (answer : Status) (w : Work) (order : Order) (input : List ℕ) : Type 0 where
-  pub short : length input < most_bytes
-  pub means : MeansText answer w order input
-
-abbrev pub MeansInput : Status → Work → Order → List ℕ → Type 0
-MeansInput status.TooLong w order input = TooLong w input
-MeansInput status.NoMemory w order input = IsStarved w ⊎ IsShort status.NoMemory w order input
-MeansInput answer w order input = IsShort answer w order input
-
--- ---- the source
-
-pub record ReadFault (w : Work) (source : Sides) : Type 0 where
-  pub failed : HasFailed source
-  pub refused : IsRefused w status.ReadFault
-
-pub record HasInput (answer : Status) (w : Work) (order : Order) (source : Sides) : Type 0 where
-  pub well : CountsNoFault source
-  pub input : List ℕ
-  pub taken : TakesAll source.before source.after input
-  pub means : MeansInput answer w order input
-
-abbrev pub MeansSource : Status → Work → Order → Sides → Type 0
-MeansSource status.ReadFault w order source = ReadFault w source
-MeansSource status.NoMemory w order source = IsStarved w ⊎ HasInput status.NoMemory w order source
-MeansSource answer w order source = HasInput answer w order source
-
--- ---- the words
-
-pub record BadWords (w : Work) (words : List (List ℕ)) (source : Sides) : Type 0 where
-  pub no_order : order_of words ≡ None
-  pub untouched : IsUntouched source
-  pub refused : IsRefused w status.BadWords
-
-pub record HasOrder (answer : Status) (w : Work) (words : List (List ℕ))
-    (source : Sides) : Type 0 where
-  pub order : Order
-  pub reading : order_of words ≡ Some order
-  pub means : MeansSource answer w order source
-
-abbrev pub Means : Status → Work → List (List ℕ) → Sides → Type 0
-Means status.BadWords w words source = BadWords w words source
-Means status.NoMemory w words source = IsStarved w ⊎ HasOrder status.NoMemory w words source
-Means answer w words source = HasOrder answer w words source
-
--- ---- the clauses of the calls
-
--- the report of a run that ended so was written: whole, or in part where the sink failed, or not at
--- all where memory was refused
-abbrev pub MeansReport : Status → PlainState → Status → Work → Type 0
-MeansReport end state answer w =
-    ((answer ≡ end) × IsReport end state w.written × CountsNoFault w.sink)
-    ⊎ (((answer ≡ status.WriteFault) × ((text : List ℕ) × IsReport end state text × IsCut w text))
-    ⊎ ((answer ≡ status.NoMemory) × IsWhole w []))
-
--- some text was appended to what the sink was given, its count of faults did not fall, and M holds of
--- what was written
-pub record Writes (sink : Sides) (book : List Event) (M : Work → Type 0) : Type 0 where
-  pub written : List ℕ
-  pub gives : Appends sink.before sink.after written
-  pub stays : sink.faults_before ≤ sink.faults_after
-  pub means : M (record { sink = sink; written = written; book = book })
-
--- what writing a report does, whatever the book is
-abbrev pub WritesReport : Sides → Status → PlainState → Status → Type 0
-WritesReport sink end state answer =
-    (book : List Event) → Writes sink book (MeansReport end state answer)
-
--- a part of what the source had left was taken, and its count of faults did not fall
+-- the source was read, if at all, from where it stood, and its count of faults did not fall
 pub record Reads (source : Sides) : Type 0 where
   pub part : TakesPart source.before source.after
   pub stays : source.faults_before ≤ source.faults_after
 
--- what a call with this order does
-pub record RunsOrder (order : Order) (source sink : Sides) (answer : Status)
-    (book : List Event) : Type 0 where
-  pub reads : Reads source
-  pub writes : Writes sink book (λ w. MeansSource answer w order source)
+-- what is read, however the call ends: without an order, and for `load`, nothing
+abbrev pub ReadsFor : Job → Sides → Type 0
+ReadsFor Run source = Reads source
+ReadsFor (Load count) source = IsUntouched source
 
--- what a call with these words does
-pub record Answers (words : List (List ℕ)) (source sink : Sides) (answer : Status)
-    (book : List Event) : Type 0 where
-  pub reads : Reads source
-  pub writes : Writes sink book (λ w. Means answer w words source)
+abbrev pub MayRead : Option Order → Sides → Type 0
+MayRead None source = IsUntouched source
+MayRead (Some order) source = ReadsFor order.job source
+
+-- the input: for `run` all that the source had left, or the first of it where there is more than a text
+-- may have, and no read failed; for `load` the text of its program, and nothing was read
+abbrev pub IsInput : Job → Sides → List ℕ → Type 0
+IsInput Run source input = CountsNoFault source × TakesAll source.before source.after input
+IsInput (Load count) source input = IsUntouched source × (input ≡ load_text count)
+
+-- the input is not too long, and the text of this program
+pub record IsProgramOf (input : List ℕ) (program : Program) : Type 0 where
+  pub short : length input < most_bytes
+  pub text : IsText input program
+  pub good : IsWellFormed program
+
+-- the input is the text of no program, and this is its first fault
+pub record IsFaulty (input : List ℕ) (line kind : ℕ) : Type 0 where
+  pub first : first_fault input ≡ Some (line, kind)
+  pub no_program : (program : Program) → IsText input program → ¬ IsWellFormed program
+
+-- the words give this order, its input is the text of this program, and the program keeps the rules
+pub record Begins (reading : Option Order) (source : Sides) (order : Order) (program : Program)
+    : Type 0 where
+  pub words : reading ≡ Some order
+  pub input : List ℕ
+  pub read : IsInput order.job source input
+  pub text : IsProgramOf input program
+  pub kept : first_broken program ≡ None
+
+-- ---- the run
+
+-- how the order has the machine run
+abbrev pub options_in : Order → Options
+options_in order = record { weight = order.weight; trace = order.trace }
+
+-- after this book the machine that frees nothing, which makes the same choices, printed the same;
+-- nothing that was freed is reachable there; and counts balance
+abbrev pub IsSafeAfter : Program → Options → List Event → Type 0
+IsSafeAfter program options book =
+    (s : State) × IsRun program options book s × IsNeverTooEarly program options book s
+
+-- after this book exactly what the machine that frees nothing still reaches is left; with root-only
+-- tracing, where an actor leads to its own objects that some actor that is left holds, too
+abbrev pub IsExactAfter : Program → Options → List Event → State → Type 0
+IsExactAfter program options book s =
+    (plain : PlainState) × IsPlainBeside program options book plain
+    × IsLeftExactly options.trace plain s.actors
+
+-- what every run promises, however it ends
+pub record EveryRun (order : Order) (program : Program) (book : BookValue) : Type 0 where
+  -- the book has the order's weight and tracing, and no more entries than the budget
+  pub weight : book.weight ≡ order.weight
+  pub trace : book.trace ≡ order.trace
+  pub within : length book.entries ≤ order.budget
+  -- it is a run of the program, and leads to this state
+  pub state : State
+  pub run : IsRun program (options_in order) book.entries state
+  -- each entry is the first event that is enabled in its turn, in the order of one worker
+  pub in_order : LeadsInOrder next (first_state program (options_in order)) book.entries state
+  -- after each front of it, nothing was freed too early
+  pub safe : (front later : List Event) → book.entries ≡ front ++ later
+      → IsSafeAfter program (options_in order) front
+  -- where no event is enabled any more, nothing else is left than what has to be
+  pub exact : IsQuiet next state → IsExactAfter program (options_in order) book.entries state
+
+-- this is how the run ends: no event is enabled; or else its book is as long as the budget; or else its
+-- next event, in the order of one worker, would make one actor more than may be made
+abbrev pub EndsWith : Status → State → List Event → ℕ → Type 0
+EndsWith status.Quiet s book budget = EndsAs next Quiet s (length book) budget
+EndsWith status.Budget s book budget = EndsAs next Budget s (length book) budget
+EndsWith (status.ActorsFull actor) s book budget =
+    EndsAs next (ActorsFull actor) s (length book) budget
+EndsWith other s book budget = ⊥
+
+-- ---- the report
+
+abbrev pub is_actor : Thing → Bool
+is_actor (Actor a) = true
+is_actor (Obj n) = false
+
+-- so many actors and objects are left
+pub record AreLeft (actors : Actors) (actor_count object_count : ℕ) : Type 0 where
+  pub things : List Thing
+  pub exact : (x : Thing) → Contains things x ↔ IsLeft actors x
+  pub rising : IsStrictlySortedBy thing_cmp things
+  pub actors_left : actor_count ≡ count_by is_actor things
+  pub objects_left : object_count ≡ count_by (λ x. not (is_actor x)) things
+
+-- the counts of all that is left, where they are asked for
+abbrev pub AreCounts : Bool → Actors → Option (List Sums) → Type 0
+AreCounts false actors counts = counts ≡ None
+AreCounts true actors counts = (sums : List Sums) × (counts ≡ Some sums) × IsTally actors sums
+
+-- the book, where it is asked for
+abbrev pub book_in : Bool → BookValue → Option BookValue
+book_in false book = None
+book_in true book = Some book
+
+-- the text is the report of the run of this book, which ended so in this state: its prints, its end,
+-- how many actors and objects were made and are left, and the counts and the book as the order asks
+pub record IsReport (end : Status) (order : Order) (book : BookValue) (s : State)
+    (text : List ℕ) : Type 0 where
+  pub actors : Numbers
+  pub objects : Numbers
+  pub actors_made : actors.made ≡ length s.actors
+  pub objects_made : objects.made ≡ s.objects
+  pub left : AreLeft s.actors actors.left objects.left
+  pub counts : Option (List Sums)
+  pub counted : AreCounts order.counts s.actors counts
+  pub said : text ≡ report_of end s.prints actors objects counts (book_in order.book book)
+
+-- ---- what is written
+
+-- all of the text was written and nothing else, and no write failed
+pub record Writes (sink : Sides) (text : List ℕ) : Type 0 where
+  pub all : Appends sink.before sink.after text
+  pub well : CountsNoFault sink
+
+-- the sink failed, and a front of the text was written, but not all of it
+pub record IsCut (sink : Sides) (text : List ℕ) : Type 0 where
+  pub part : GivesPart sink.before sink.after text
+  pub failed : HasFailed sink
+  pub stays : sink.faults_before ≤ sink.faults_after
+
+-- no run began, and the line of the refusal was written as far as the sink took it
+pub record Refuses (refusal : Status) (sink : Sides) (book : BookValue) : Type 0 where
+  pub no_run : book.entries ≡ []
+  pub line : Writes sink (refusal_of refusal) ⊎ IsCut sink (refusal_of refusal)
+
+-- the run ended so, and this is its report
+pub record IsReportOf {order : Order} {program : Program} {book : BookValue} (end : Status)
+    (run : EveryRun order program book) (text : List ℕ) : Type 0 where
+  pub ends : EndsWith end run.state book.entries order.budget
+  pub report : IsReport end order book run.state text
+
+-- ---- the answers
+
+-- what a call does whose words have this reading, for each answer
+pub data Answers (reading : Option Order) (source sink : Sides) (book : BookValue)
+    : Status → Type 0 where
+  -- the words have no reading
+  bad_words : reading ≡ None → IsUntouched source
+      → Refuses status.BadWords sink book → Answers reading source sink book status.BadWords
+  -- the source failed
+  read_fault : (order : Order) → reading ≡ Some order → order.job ≡ Run → Reads source
+      → HasFailed source
+      → Refuses status.ReadFault sink book → Answers reading source sink book status.ReadFault
+  -- the input is longer than a text may be
+  too_long : (order : Order) → reading ≡ Some order
+      → (input : List ℕ) → IsInput order.job source input → length input ≡ most_bytes
+      → Refuses status.TooLong sink book → Answers reading source sink book status.TooLong
+  -- the input is the text of no program
+  bad_text : (order : Order) → reading ≡ Some order
+      → (input : List ℕ) → IsInput order.job source input → length input < most_bytes
+      → (line kind : ℕ) → IsFaulty input line kind
+      → Refuses (status.BadText line kind) sink book
+      → Answers reading source sink book (status.BadText line kind)
+  -- the program breaks a rule
+  bad_program : (order : Order) → reading ≡ Some order
+      → (input : List ℕ) → IsInput order.job source input
+      → (program : Program) → IsProgramOf input program
+      → (kind behaviour step rule : ℕ)
+      → first_broken program ≡ Some (fault_at kind behaviour step rule)
+      → Refuses (status.BadProgram kind behaviour step rule) sink book
+      → Answers reading source sink book (status.BadProgram kind behaviour step rule)
+  -- the run ended where no event is enabled, and its report was written
+  quiet : (order : Order) (program : Program) → Begins reading source order program
+      → (run : EveryRun order program book) (text : List ℕ) → IsReportOf status.Quiet run text
+      → Writes sink text → Answers reading source sink book status.Quiet
+  -- the run ended by its budget, and its report was written
+  budget : (order : Order) (program : Program) → Begins reading source order program
+      → (run : EveryRun order program book) (text : List ℕ) → IsReportOf status.Budget run text
+      → Writes sink text → Answers reading source sink book status.Budget
+  -- the run ended where all actors are made, and its report was written
+  actors_full : (order : Order) (program : Program) → Begins reading source order program
+      → (run : EveryRun order program book) (actor : ℕ) (text : List ℕ)
+      → IsReportOf (status.ActorsFull actor) run text
+      → Writes sink text → Answers reading source sink book (status.ActorsFull actor)
+  -- the run ended in one of these ways, and the sink failed while its report was written
+  write_fault : (order : Order) (program : Program) → Begins reading source order program
+      → (run : EveryRun order program book) (end : Status) (text : List ℕ) → IsReportOf end run text
+      → IsCut sink text → Answers reading source sink book status.WriteFault
+  -- memory was refused before a run began, and nothing was written
+  starved : MayRead reading source → book.entries ≡ []
+      → Writes sink [] → Answers reading source sink book status.NoMemory
+  -- memory was refused after it began, and nothing was written
+  starved_in_run : (order : Order) (program : Program) → Begins reading source order program
+      → EveryRun order program book
+      → Writes sink [] → Answers reading source sink book status.NoMemory

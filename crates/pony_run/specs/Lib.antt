@@ -1,5 +1,4 @@
 pub mod Causes
-pub mod Ends
 pub mod Headline
-pub mod Steps
+pub mod Inner
 pub mod Streams

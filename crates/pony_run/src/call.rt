@@ -1,28 +1,27 @@
-// The top call, one function a cause.
+// The top call.
 
-ghost use Rattle.std.specs.Prelude.{◌≡◌, ◌<◌, ◌≤◌, [], false, length, map};
+ghost use Rattle.std.specs.Prelude.{◌≡◌, ◌≢◌, [], Some, false, map};
 ghost use Rattle.report_text.specs.Ends.{IsEnd};
 ghost use Rattle.report_text.specs.Refusals.{HasRefusal};
-ghost use Rattle.word_line.specs.Orders.{IsInRange};
-ghost use Rattle.behaviour_code.specs.WellFormed.{IsWellFormed};
+ghost use Rattle.word_line.specs.Orders.{IsInRange, order_of};
+ghost use Rattle.orca_core.specs.Machine.{NoneIsAway};
 ghost use Rattle.pony_run.specs.Causes.{Causes, OrderCauses};
-ghost use Rattle.pony_run.specs.Headline.{Answers, IsRefusedAs, MeansInput, MeansProgram, MeansRun, MeansText, RunsOrder, Writes, WritesReport};
-ghost use Rattle.pony_run.specs.Streams.{most_bytes, sides};
+ghost use Rattle.pony_run.specs.Headline.{Answers};
+ghost use Rattle.pony_run.specs.Inner.{IsAnswerOf, RunAnswers, StopsWith, WritesReport};
+ghost use Rattle.pony_run.specs.Streams.{sides};
 
-use crate::ending::finish;
-use crate::reading::{MOST_BYTES, ReadErr, read_all};
+use crate::beginning::begin;
 use crate::reporting::report_of_run;
 use crate::writing::write_all;
-use behaviour_check::{Checked, check};
-use behaviour_code::Program;
-use behaviour_text::{TextErr, parse};
-use orca_names::NoMemory;
+use behaviour_check::Checked;
+use orca_core::Orca;
+use orca_names::Trace;
 use outside_world::{Gate, Sink, Source};
-use plain_machine::Plain;
+use quiet_pass::{End, finish};
 use report_text::{Status, refusal_line};
 use run_book::Book;
 use std::alloc::Global;
-use word_line::{Job, Order, WordErr, read_words};
+use word_line::{Order, WordErr, read_words};
 
 /// What a call answers: its status, and the book of the run, which is empty where no run began.
 #[derive(Debug, Drop)]
@@ -38,16 +37,15 @@ fn idle(alloc: Global, status: Status) -> Outcome
 {
     Outcome {
         status,
-        book: Book::new(alloc),
+        book: Book::new(alloc, 256, Trace::Deep),
     }
 }
 
 /// Writes the line of a refusal as far as the sink takes it, and answers the refusal.
 fn refuse<K: Sink>(alloc: Global, refusal: Status, sink: &mut K) -> Outcome
     requires { HasRefusal refusal }
-    ensures book { result.book.entries ≡ [] }
-    ensures writes { Writes (sides K.written K.faults sink.old sink.new) []
-        (IsRefusedAs refusal result.status) }
+    ensures { StopsWith refusal (sides K.written K.faults sink.old sink.new)
+        result.book result.status }
 {
     match refusal_line(alloc, &refusal) {
         Ok(line) => {
@@ -58,13 +56,34 @@ fn refuse<K: Sink>(alloc: Global, refusal: Status, sink: &mut K) -> Outcome
     }
 }
 
+/// The answer of a call in which no run begins: a refusal, or want of memory.
+fn stop<K: Sink>(alloc: Global, answer: Status, sink: &mut K) -> Outcome
+    requires { answer ≢ Status.NoMemory → HasRefusal answer }
+    ensures { StopsWith answer (sides K.written K.faults sink.old sink.new)
+        result.book result.status }
+{
+    match answer {
+        Status::NoMemory => idle(alloc, Status::NoMemory),
+        refusal => refuse(alloc, refusal, sink),
+    }
+}
+
 /// Writes the report of a run that ended so, whole in memory before its first write, and answers
 /// how the call ends.
-fn write_report<K: Sink>(alloc: Global, machine: &Plain<'_>, end: Status, sink: &mut K) -> Status
-    requires { IsEnd end }
-    ensures { WritesReport (sides K.written K.faults sink.old sink.new) end machine.now result }
+fn write_report<K: Sink>(
+    alloc: Global,
+    order: &Order,
+    orca: &Orca<'_>,
+    book: &Book,
+    end: Status,
+    sink: &mut K,
+) -> Status
+    requires end { IsEnd end }
+    requires home { NoneIsAway orca.now }
+    ensures { WritesReport end order.now book.now orca.now.state
+        (sides K.written K.faults sink.old sink.new) result }
 {
-    let Ok(text) = report_of_run(alloc, machine, &end) else {
+    let Ok(text) = report_of_run(alloc, order, orca, book, &end) else {
         return Status::NoMemory;
     };
     match write_all(sink, &text) {
@@ -73,75 +92,57 @@ fn write_report<K: Sink>(alloc: Global, machine: &Plain<'_>, end: Status, sink: 
     }
 }
 
+/// How a call ends whose run ended so, if its report is written; want of memory has none.
+fn answer_of(end: End) -> Option<Status>
+    ensures { IsAnswerOf end result }
+{
+    match end {
+        End::Quiet => Some(Status::Quiet),
+        End::Budget => Some(Status::Budget),
+        End::Full { actor } => Some(Status::ActorsFull { actor }),
+        End::NoMemory => None,
+    }
+}
+
 /// Runs a checked program, and writes its report.
 fn run_checked<K: Sink>(alloc: Global, order: &Order, code: &Checked, sink: &mut K) -> Outcome
     requires { IsInRange order.now }
-    ensures { Writes (sides K.written K.faults sink.old sink.new) result.book.entries
-        (λ w. MeansRun result.status w order.now code.now) }
+    ensures { RunAnswers order.now code.now (sides K.written K.faults sink.old sink.new)
+        result.book result.status }
 {
-    let Ok(mut machine) = Plain::start(alloc, code) else {
-        return idle(alloc, Status::NoMemory);
-    };
-    let mut book = Book::new(alloc);
-    match finish(alloc, &mut machine, &mut book, order.budget) {
-        Ok(end) => Outcome {
-            status: write_report(alloc, &machine, end, sink),
-            book,
-        },
-        Err(NoMemory) => Outcome {
+    let mut book = Book::new(alloc, order.weight, order.trace);
+    let Ok(mut orca) = Orca::start(alloc, code, order.weight, order.trace) else {
+        return Outcome {
             status: Status::NoMemory,
             book,
-        },
-    }
+        };
+    };
+    let end = finish(alloc, &mut orca, &mut book, order.budget);
+    let Some(answer) = answer_of(end) else {
+        return Outcome {
+            status: Status::NoMemory,
+            book,
+        };
+    };
+    let status = write_report(alloc, order, &orca, &book, answer, sink);
+    Outcome { status, book }
 }
 
-/// Runs the program of a text, if it keeps the rules.
-fn run_program<K: Sink>(alloc: Global, order: &Order, program: Program, sink: &mut K) -> Outcome
+/// The job of an order, by what it answers.
+fn run_job<S: Source, K: Sink>(
+    alloc: Global,
+    order: &Order,
+    source: &mut S,
+    sink: &mut K,
+) -> Outcome
     requires order { IsInRange order.now }
-    requires good { IsWellFormed program }
-    ensures { Writes (sides K.written K.faults sink.old sink.new) result.book.entries
-        (λ w. MeansProgram result.status w order.now program) }
+    requires goes_on { S.ended source.old ≡ false }
+    ensures { Answers (Some order.now) (sides S.left S.faults source.old source.new)
+        (sides K.written K.faults sink.old sink.new) result.book result.status }
 {
-    match check(program) {
+    match begin(alloc, order.job, source) {
         Ok(code) => run_checked(alloc, order, &code, sink),
-        Err(fault) => refuse(
-            alloc,
-            Status::BadProgram {
-                kind: fault.kind,
-                behaviour: fault.behaviour,
-                step: fault.step,
-                rule: fault.rule,
-            },
-            sink,
-        ),
-    }
-}
-
-/// Runs a text, if it is a program's.
-fn run_text<K: Sink>(alloc: Global, order: &Order, text: &[u8], sink: &mut K) -> Outcome
-    requires order { IsInRange order.now }
-    requires short { length text.now < most_bytes }
-    ensures { Writes (sides K.written K.faults sink.old sink.new) result.book.entries
-        (λ w. MeansText result.status w order.now text.now) }
-{
-    match parse(alloc, text) {
-        Ok(program) => run_program(alloc, order, program, sink),
-        Err(TextErr::Fault { line, kind }) => refuse(alloc, Status::BadText { line, kind }, sink),
-        Err(TextErr::NoMemory) => idle(alloc, Status::NoMemory),
-    }
-}
-
-/// Runs an input, if it is not too long.
-fn run_input<K: Sink>(alloc: Global, order: &Order, input: &[u8], sink: &mut K) -> Outcome
-    requires order { IsInRange order.now }
-    requires bounded { length input.now ≤ most_bytes }
-    ensures { Writes (sides K.written K.faults sink.old sink.new) result.book.entries
-        (λ w. MeansInput result.status w order.now input.now) }
-{
-    if input.len() < MOST_BYTES {
-        run_text(alloc, order, input, sink)
-    } else {
-        refuse(alloc, Status::TooLong, sink)
+        Err(answer) => stop(alloc, answer, sink),
     }
 }
 
@@ -155,36 +156,15 @@ pub fn run_single<S: Source, K: Sink>(
 ) -> Outcome
     requires order { IsInRange order.now }
     requires goes_on { S.ended source.old ≡ false }
-    ensures runs { RunsOrder order.now (sides S.left S.faults source.old source.new)
-        (sides K.written K.faults sink.old sink.new) result.status result.book.entries }
+    ensures answers { Answers (Some order.now) (sides S.left S.faults source.old source.new)
+        (sides K.written K.faults sink.old sink.new) result.book result.status }
     ensures causes { OrderCauses order.now (sides S.left S.faults source.old source.new)
-        (sides K.written K.faults sink.old sink.new) result.status result.book.entries }
+        (sides K.written K.faults sink.old sink.new) result.status result.book }
 {
     run_job(alloc, order, source, sink)
 }
 
-/// The job of an order, by what it took, wrote and answers.
-fn run_job<S: Source, K: Sink>(
-    alloc: Global,
-    order: &Order,
-    source: &mut S,
-    sink: &mut K,
-) -> Outcome
-    requires order { IsInRange order.now }
-    requires goes_on { S.ended source.old ≡ false }
-    ensures { RunsOrder order.now (sides S.left S.faults source.old source.new)
-        (sides K.written K.faults sink.old sink.new) result.status result.book.entries }
-{
-    match order.job {
-        Job::Run => match read_all(alloc, source) {
-            Ok(bytes) => run_input(alloc, order, &bytes, sink),
-            Err(ReadErr::Failed) => refuse(alloc, Status::ReadFault, sink),
-            Err(ReadErr::NoMemory) => idle(alloc, Status::NoMemory),
-        },
-    }
-}
-
-/// The whole call, by what it took, wrote and answers.
+/// The whole call, by what it answers.
 fn run_all<R: AllocGlobal, S: Source, K: Sink>(
     rt: &R,
     words: &[&str],
@@ -192,9 +172,9 @@ fn run_all<R: AllocGlobal, S: Source, K: Sink>(
     sink: &mut K,
 ) -> Outcome
     requires { S.ended source.old ≡ false }
-    ensures { Answers (map (λ word. word.now) words.entry.now)
+    ensures { Answers (order_of (map (λ word. word.now) words.entry.now))
         (sides S.left S.faults source.old source.new)
-        (sides K.written K.faults sink.old sink.new) result.status result.book.entries }
+        (sides K.written K.faults sink.old sink.new) result.book result.status }
 {
     match read_words(rt.alloc(), words) {
         Ok(order) => run_job(rt.alloc(), &order, source, sink),
@@ -217,12 +197,12 @@ pub fn run_words<R: AllocGlobal, S: Source, K: Sink, G: Gate>(
     _gate: &G,
 ) -> Outcome
     requires { S.ended source.old ≡ false }
-    ensures answers { Answers (map (λ word. word.now) words.entry.now)
+    ensures answers { Answers (order_of (map (λ word. word.now) words.entry.now))
         (sides S.left S.faults source.old source.new)
-        (sides K.written K.faults sink.old sink.new) result.status result.book.entries }
-    ensures causes { Causes (map (λ word. word.now) words.entry.now)
+        (sides K.written K.faults sink.old sink.new) result.book result.status }
+    ensures causes { Causes (order_of (map (λ word. word.now) words.entry.now))
         (sides S.left S.faults source.old source.new)
-        (sides K.written K.faults sink.old sink.new) result.status result.book.entries }
+        (sides K.written K.faults sink.old sink.new) result.status result.book }
 {
     run_all(rt, words, source, sink)
 }

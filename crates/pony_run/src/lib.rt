@@ -1,8 +1,8 @@
 //! The top call: it reads the words and the source, runs the program, and writes its report.
 #![tactic(auto)]
 
+mod beginning;
 mod call;
-mod ending;
 mod reading;
 mod reporting;
 mod writing;
@@ -14,6 +14,8 @@ pub use word_line::{Job, Order};
 #[cfg(test)]
 mod device_tests;
 #[cfg(test)]
-mod machine_tests;
+mod programs;
+#[cfg(test)]
+mod report_tests;
 #[cfg(test)]
 mod tests;

@@ -1,86 +1,26 @@
-// The whole call from outside of the contracts: programs and their reports, inputs and their refusals,
-// and devices that fail at each call in turn.
+// The whole call from outside of the contracts: inputs and their refusals, and devices that fail at each
+// call in turn.
 
 ghost use Rattle.std.specs.Prelude.{◌≡◌, IfOk, false};
 
+use crate::programs::{MOST, SEVEN, VALUES, WRAPS};
 use crate::reading::ReadErr;
-use crate::{Job, Order, Outcome, Status, run_single, run_words};
-use orca_names::{ActorName, NoMemory};
+use crate::{Job, Order, Outcome, run_single, run_words};
+use orca_names::{NoMemory, Trace};
 use outside_world::{MemSink, MemSource, OpenGate};
-use plain_machine::PlainFault;
 use std::alloc::Global;
 use std::test::Fail;
 
-const SEVEN: &str = "kind Main 0\non start 0\nint r0 7\nprint r0\nend\n";
-
 const SEVEN_REPORT: &str = "7\n--\nend quiet\nactors made 1 left 0\nobjects made 0 left 0\n";
-
-const SEVEN_CUT: &str = "7\n--\nend budget\nactors made 1 left 1\nobjects made 0 left 0\n";
-
-const MOST: &str = "kind Main 0\non start 0\nint r0 18446744073709551615\nprint r0\nend\n";
 
 const MOST_REPORT: &str =
     "18446744073709551615\n--\nend quiet\nactors made 1 left 0\nobjects made 0 left 0\n";
 
-const PINNED: &str = "kind Main 1\non start 0\npin\nint r0 5\nrow r1 r0\nstore f0 r1\nend\n";
-
-const PINNED_REPORT: &str = "--\nend quiet\nactors made 1 left 1\nobjects made 1 left 1\n";
-
-const TO_ITSELF: &str =
-    "kind Main 0\non start 0\nself r0\nint r1 1\nrow r2 r1\nsend r0 back r2\nend\non back 1\nend\n";
-
-const TO_ITSELF_REPORT: &str = "--\nend quiet\nactors made 1 left 0\nobjects made 1 left 0\n";
-
-// An object goes from the first actor to a second and on to a third, which drops it.
-const PASSED: &str =
-    "kind Main 0\non start 0\npin\nnew r0 A\nnew r1 B\nint r2 9\nrow r3 r2\nsend r0 give r3 r1\nend\nkind A 0\non give 2\nsend r1 keep r0\nend\nkind B 0\non keep 1\nget r1 r0 0\nprint r1\nend\n";
-
-const PASSED_REPORT: &str = "9\n--\nend quiet\nactors made 3 left 1\nobjects made 1 left 0\n";
-
-// A pinned actor made an object that names another actor, which alone keeps the object.
-const NAMED: &str =
-    "kind Main 0\non start 0\nnew r0 J\nnew r1 K\nsend r0 make r1\nend\nkind J 0\non make 1\npin\nrow r1 r0\nsend r0 keep r1\nend\nkind K 1\non keep 1\nstore f0 r0\nend\n";
-
-const NAMED_REPORT: &str = "--\nend quiet\nactors made 3 left 1\nobjects made 1 left 0\n";
-
-// Two peers that hold each other, which nobody else holds in the end.
-const PEERS: &str =
-    "kind Main 0\non start 0\npin\nnew r0 Peer\nnew r1 Peer\nsend r0 meet r1\nsend r1 meet r0\nend\nkind Peer 1\non meet 1\nstore f0 r0\nend\n";
-
-const PEERS_REPORT: &str = "--\nend quiet\nactors made 3 left 1\nobjects made 0 left 0\n";
-
-// A pinned actor that keeps an object of another one.
-const KEPT: &str =
-    "kind Main 1\non start 0\npin\nnew r0 Maker\nself r1\nsend r0 make r1\nend\non got 1\nstore f0 r0\nend\nkind Maker 0\non make 1\nint r1 3\nrow r2 r1\nsend r0 got r2\nend\n";
-
-const KEPT_REPORT: &str = "--\nend quiet\nactors made 2 left 2\nobjects made 1 left 1\n";
-
-const PING: &str =
-    "kind Main 0\non start 0\nnew r0 Peer\nnew r1 Peer\nsend r1 meet r0\nsend r0 meet r1\nsend r0 poke\nend\nkind Peer 1\non meet 1\nstore f0 r0\nend\non poke 0\nload r0 f0\nsend r0 ping\nend\non ping 0\nint r0 1\nprint r0\nend\n";
-
-const PING_REPORT: &str = "1\n--\nend quiet\nactors made 3 left 0\nobjects made 0 left 0\n";
-
-// Letters that nobody hears: unknown behaviours, too many values, and no actor to send to.
-const UNHEARD: &str =
-    "kind Main 0\non start 0\npin\nself r0\nint r1 1\nrow r2 r1\nsend r0 nowhere r2\nsend r0 start r2\nsend r1 start\nprint r1\nend\n";
-
-const UNHEARD_REPORT: &str = "1\n--\nend quiet\nactors made 1 left 1\nobjects made 1 left 0\n";
-
-const WRAPS: &str =
-    "kind Main 0\non start 0\nint r0 18446744073709551615\nprint r0\nint r1 1\nadd r0 r0 r1\nprint r0\nend\n";
-
 const WRAPS_REPORT: &str =
     "18446744073709551615\n0\n--\nend quiet\nactors made 1 left 0\nobjects made 0 left 0\n";
 
-const VALUES: &str =
-    "kind Main 0\non start 0\nself r0\nprint r0\nrow r1 r0\nprint r1\nget r2 r1 0\nprint r2\nget r3 r1 7\nprint r3\nadd r4 r1 r0\nprint r4\nend\n";
-
 const VALUES_REPORT: &str =
     "actor 0\nobject 0.0\nactor 0\nnull\n0\n--\nend quiet\nactors made 1 left 0\nobjects made 1 left 0\n";
-
-// It makes 65,536 actors, and its own is one more.
-const LEAVES: &str =
-    "kind Main 0\non start 0\nint r0 65536\nself r1\nsend r1 step r0\nend\non step 1\njzero r0 done\nnew r1 Leaf\nint r2 1\nsub r0 r0 r2\nself r1\nsend r1 step r0\nlabel done\nend\nkind Leaf 0\n";
 
 const SEVEN_WITH_RETURNS: &str = "kind Main 0\r\non start 0\r\nint r0 7\r\nprint r0\r\nend";
 
@@ -141,15 +81,24 @@ fn call<R: AllocGlobal>(
     Ok((outcome, sink))
 }
 
+/// What a call answers and writes over devices that do not fail.
+pub(crate) fn answer<R: AllocGlobal>(
+    rt: &R,
+    words: &[&str],
+    input: &str,
+) -> Result<(Outcome, MemSink), Fail> {
+    call(rt, words, input.as_bytes(), SURE, SURE)
+}
+
 /// Whether a call ends with this code, and writes this.
-fn gives<R: AllocGlobal>(
+pub(crate) fn gives<R: AllocGlobal>(
     rt: &R,
     words: &[&str],
     input: &str,
     code: u8,
     written: &str,
 ) -> Result<bool, Fail> {
-    let (outcome, sink) = call(rt, words, input.as_bytes(), SURE, SURE)?;
+    let (outcome, sink) = answer(rt, words, input)?;
     Ok(outcome.status.code() == code && sink.bytes() == written.as_bytes())
 }
 
@@ -157,20 +106,17 @@ fn gives<R: AllocGlobal>(
 const CALLS: &[(&[&str], &str, u8, &str)] = &[
     (&[], SEVEN, 0, SEVEN_REPORT),
     (&["run"], SEVEN, 0, SEVEN_REPORT),
-    (&["run", "--budget", "2"], SEVEN, 5, SEVEN_CUT),
-    (&["run", "--budget", "3"], SEVEN, 0, SEVEN_REPORT),
     (&["walk"], SEVEN, 2, "refused words\n"),
+    (&["load"], SEVEN, 2, "refused words\n"),
+    (&["load", "0"], SEVEN, 2, "refused words\n"),
+    (&["load", "60001"], SEVEN, 2, "refused words\n"),
+    (&["run", "--workers", "0"], SEVEN, 2, "refused words\n"),
     (&["run", "--workers", "17"], SEVEN, 2, "refused words\n"),
+    (&["run", "--weight", "1"], SEVEN, 2, "refused words\n"),
+    (&["run", "--weight", "65537"], SEVEN, 2, "refused words\n"),
+    (&["run", "--trace", "none"], SEVEN, 2, "refused words\n"),
     (&[], SEVEN_WITH_RETURNS, 0, SEVEN_REPORT),
     (&[], MOST, 0, MOST_REPORT),
-    (&[], PINNED, 0, PINNED_REPORT),
-    (&[], TO_ITSELF, 0, TO_ITSELF_REPORT),
-    (&[], PASSED, 0, PASSED_REPORT),
-    (&[], NAMED, 0, NAMED_REPORT),
-    (&[], PEERS, 0, PEERS_REPORT),
-    (&[], KEPT, 0, KEPT_REPORT),
-    (&[], PING, 0, PING_REPORT),
-    (&[], UNHEARD, 0, UNHEARD_REPORT),
     (&[], WRAPS, 0, WRAPS_REPORT),
     (&[], VALUES, 0, VALUES_REPORT),
     (
@@ -201,32 +147,6 @@ fn words_and_inputs_give_what_they_should(rt: HostRuntime) -> Result<(), Fail> {
     for (i, (words, input, code, written)) in CALLS.iter().enumerate() {
         assert!(rt; gives(&rt, *words, *input, *code, *written)?, "at {i}");
     }
-    Ok(())
-}
-
-/// How a run of the leaves ends within this budget, if its book is as long as it should be.
-fn end_of_leaves<R: AllocGlobal>(rt: &R, budget: &str, written: &str) -> Result<Status, Fail> {
-    let words = ["run", "--budget", budget];
-    let (outcome, sink) = call(rt, &words, LEAVES.as_bytes(), SURE, SURE)?;
-    if outcome.book.len() == 262_144 && sink.bytes() == written.as_bytes() {
-        Ok(outcome.status)
-    } else {
-        Err(Fail::from("another book or report"))
-    }
-}
-
-#[test]
-fn a_run_ends_where_all_actors_are_made(rt: HostRuntime) -> Result<(), Fail> {
-    let report = "--\nend actors\nactors made 65536 left 65536\nobjects made 0 left 0\n";
-    let actor = ActorName(0);
-    assert!(rt; end_of_leaves(&rt, "262145", report)? == Status::ActorsFull { actor });
-    Ok(())
-}
-
-#[test]
-fn a_run_ends_by_its_budget(rt: HostRuntime) -> Result<(), Fail> {
-    let report = "--\nend budget\nactors made 65536 left 65536\nobjects made 0 left 0\n";
-    assert!(rt; end_of_leaves(&rt, "262144", report)? == Status::Budget);
     Ok(())
 }
 
@@ -310,6 +230,10 @@ fn book_of<R: AllocGlobal>(rt: &R, input: &[u8]) -> Result<Vec<u8>, Fail> {
         job: Job::Run,
         workers: 1,
         budget: 3,
+        counts: false,
+        book: false,
+        weight: 256,
+        trace: Trace::Deep,
     };
     let mut source = source(rt.alloc(), input, SURE)?;
     let mut sink = sink(rt.alloc(), SURE)?;
@@ -320,14 +244,16 @@ fn book_of<R: AllocGlobal>(rt: &R, input: &[u8]) -> Result<Vec<u8>, Fail> {
 #[test]
 fn a_run_has_its_book(rt: HostRuntime) -> Result<(), Fail> {
     let book = book_of(&rt, SEVEN.as_bytes())?;
-    assert_eq!(rt; book.as_slice(), "book 1\ntake 0\ngo 0\ngo 0\n".as_bytes());
+    assert_eq!(rt;
+        book.as_slice(),
+        "book 2 256\ntake 0\ngo 0\ngo 0\n".as_bytes()
+    );
     Ok(())
 }
 
 #[test]
 fn errors_have_their_texts(rt: HostRuntime) -> Result<(), Fail> {
     let alloc = rt.alloc();
-    let actor = ActorName(3);
     let texts = [
         (
             format!(in alloc; "{}", ReadErr::Failed)?,
@@ -335,18 +261,6 @@ fn errors_have_their_texts(rt: HostRuntime) -> Result<(), Fail> {
         ),
         (format!(in alloc; "{}", ReadErr::NoMemory)?, "out of memory"),
         (format!(in alloc; "{NoMemory}")?, "out of memory"),
-        (
-            format!(in alloc; "{}", PlainFault::NotReady)?,
-            "the event is not enabled",
-        ),
-        (
-            format!(in alloc; "{}", PlainFault::ActorsFull { actor })?,
-            "all actors are made",
-        ),
-        (
-            format!(in alloc; "{}", PlainFault::NoMemory)?,
-            "out of memory",
-        ),
     ];
     for (text, want) in &texts {
         assert_eq!(rt; text.as_str(), *want);

@@ -5,8 +5,7 @@ use Rattle.std.specs.Option.{option_map_or}
 use Rattle.std.specs.List.{flat_map}
 use Rattle.orca_names.specs.declared.names.Value.{Value}
 use Rattle.orca_names.specs.declared.tally.Sums.{Sums}
-use Rattle.event_rule.specs.declared.event.Event.{Event}
-use Rattle.run_book.specs.Books.{book_text}
+use Rattle.run_book.specs.Books.{BookValue, book_text}
 use Rattle.report_text.specs.declared.status.Status.{Status}
 use Rattle.report_text.specs.declared.numbers.Numbers.{Numbers}
 use Rattle.report_text.specs.Ends.{end_word}
@@ -29,7 +28,7 @@ count_line s =
 -- the prints, how the run ended, what was made and is left, and where they are asked for, the
 -- counts and the book
 abbrev pub report_of : Status → List Value → Numbers → Numbers → Option (List Sums)
-    → Option (List Event) → List ℕ
+    → Option BookValue → List ℕ
 report_of status prints actors objects counts book =
     flat_map print_line prints
     ++ codes "--\n"

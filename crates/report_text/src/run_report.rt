@@ -56,7 +56,7 @@ fn report_text(
 ) -> Result<String, AllocError>
     requires { IsEnd status.now }
     ensures { IfOk result (λ text. string_bytes text ≡ report_of status.now prints.now actors objects
-        (option_map (λ t. t.now.sums) counts.entry) (option_map (λ b. b.now.entries) book.entry)) }
+        (option_map (λ t. t.now.sums) counts.entry) (option_map (λ b. b.now) book.entry)) }
 {
     let mut out = String::new(alloc);
     push_prints(&mut out, prints)?;
@@ -89,7 +89,7 @@ pub fn report(
 ) -> Result<Vec<u8>, NoMemory>
     requires { IsEnd status.now }
     ensures { IfOk result (λ bytes. bytes.items ≡ report_of status.now prints.now actors objects
-        (option_map (λ t. t.now.sums) counts.entry) (option_map (λ b. b.now.entries) book.entry)) }
+        (option_map (λ t. t.now.sums) counts.entry) (option_map (λ b. b.now) book.entry)) }
 {
     let text = report_text(alloc, status, prints, actors, objects, counts, book)?;
     Ok(text.into_bytes())

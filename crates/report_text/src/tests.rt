@@ -2,7 +2,7 @@
 
 use crate::{Numbers, Status, refusal_line, report};
 use event_rule::Event;
-use orca_names::{ActorName, ObjName, Serial, Sums, Tally, Thing, Value};
+use orca_names::{ActorName, ObjName, Serial, Sums, Tally, Thing, Trace, Value};
 use plain_list::Listed;
 use run_book::Book;
 use std::alloc::Global;
@@ -31,8 +31,8 @@ const fn sums(thing: Thing, count: u64, held: u64, letters: u64) -> Sums {
     }
 }
 
-fn book_of(alloc: Global, entries: &[Event]) -> Result<Book, Fail> {
-    let mut book = Book::new(alloc);
+fn book_of(alloc: Global, trace: Trace, entries: &[Event]) -> Result<Book, Fail> {
+    let mut book = Book::new(alloc, 256, trace);
     for entry in entries {
         book.reserve(1)?;
         book.push(*entry);
@@ -60,14 +60,9 @@ fn a_program_that_prints_seven(rt: HostRuntime) -> Result<(), Fail> {
         Event::Go(MAIN),
         Event::Go(MAIN),
         Event::Collect(MAIN),
-        Event::Block(MAIN),
-        Event::Hear,
-        Event::Scan,
-        Event::Take(MAIN),
-        Event::Hear,
-        Event::Reap(1),
+        Event::Leave(MAIN),
     ];
-    let book = book_of(alloc, &entries)?;
+    let book = book_of(alloc, Trace::Deep, &entries)?;
     let whole = report(
         alloc,
         &Status::Quiet,
@@ -77,11 +72,16 @@ fn a_program_that_prints_seven(rt: HostRuntime) -> Result<(), Fail> {
         None,
         Some(&book),
     )?;
-    let events =
-        b"book 1\ntake 0\ngo 0\ngo 0\ncollect 0\nblock 0\nhear\nscan\ntake 0\nhear\nreap 1\n";
-    assert_eq!(rt; whole.len(), 129);
+    let events = b"book 2 256\ntake 0\ngo 0\ngo 0\ncollect 0\nleave 0\n";
+    assert_eq!(rt; whole.len(), 104);
     assert_eq!(rt; &whole[..58], lines.as_slice());
     assert_eq!(rt; &whole[58..], events.as_slice());
+    let roots = book_of(alloc, Trace::Roots, &[])?;
+    let end = report(alloc, &Status::Budget, &[], NONE, NONE, None, Some(&roots))?;
+    assert_eq!(rt;
+        end.as_slice(),
+        b"--\nend budget\nactors made 0 left 0\nobjects made 0 left 0\nbook 2 256 roots\n".as_slice()
+    );
     Ok(())
 }
 

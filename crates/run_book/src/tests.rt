@@ -1,15 +1,16 @@
-// A book that is filled and written.
+// A book that is filled and written, and texts that are read.
 
-use crate::Book;
+use crate::{Book, BookErr, read_again, read_text};
 use event_rule::Event;
-use orca_names::ActorName;
+use orca_names::{ActorName, Trace};
+use std::alloc::Global;
 use std::test::Fail;
 
 #[test]
 fn books_are_filled_and_written(rt: HostRuntime) -> Result<(), Fail> {
     let alloc = rt.alloc();
-    let mut book = Book::new(alloc);
-    assert_eq!(rt; book.text(alloc)?.as_slice(), b"book 1\n".as_slice());
+    let mut book = Book::new(alloc, 256, Trace::Deep);
+    assert_eq!(rt; book.text(alloc)?.as_slice(), b"book 2 256\n".as_slice());
     let entries = [
         Event::Take(ActorName(0)),
         Event::Hear,
@@ -20,15 +21,83 @@ fn books_are_filled_and_written(rt: HostRuntime) -> Result<(), Fail> {
         book.reserve(1)?;
         book.push(entry);
     }
-    assert_eq!(rt; book.len(), 3);
+    assert_eq!(rt;
+        (book.len(), book.weight(), book.trace()),
+        (3, 256, Trace::Deep)
+    );
     assert!(rt; book.at(2) == Event::Reap(u64::MAX));
     assert_eq!(rt;
         book.text(alloc)?.as_slice(),
-        b"book 1\ntake 0\nhear\nreap 18446744073709551615\n".as_slice()
+        b"book 2 256\ntake 0\nhear\nreap 18446744073709551615\n".as_slice()
     );
+    let roots = Book::new(alloc, 2, Trace::Roots);
+    assert_eq!(rt; format!(in alloc; "{roots}")?.as_str(), "book 2 2 roots\n");
+    Ok(())
+}
+
+/// Texts that are written as they were read.
+#[test]
+fn texts_are_read_and_written(rt: HostRuntime) -> Result<(), Fail> {
+    let alloc = rt.alloc();
+    for text in [
+        "book 2 2\n",
+        "book 2 65536 roots\ntake 0\n",
+        "book 2 256\ntake 0\ngo 4294967295\ncollect 1\nleave 10\nblock 2\nhear\nscan\nreap 18446744073709551615\n",
+    ] {
+        let book = read_text(alloc, text.as_bytes())?;
+        assert_eq!(rt; book.text(alloc)?.as_slice(), text.as_bytes());
+        let again = read_again(alloc, &book)?;
+        assert_eq!(rt; again.text(alloc)?.as_slice(), text.as_bytes());
+    }
+    Ok(())
+}
+
+#[test]
+fn the_former_form_is_read(rt: HostRuntime) -> Result<(), Fail> {
+    let alloc = rt.alloc();
+    let text =
+        b"book 1\ntake 0\ngo 0\ngo 0\ncollect 0\nblock 0\nhear\nscan\ntake 0\nhear\nreap 1\n";
+    let book = read_text(alloc, text)?;
     assert_eq!(rt;
-        format!(in alloc; "{book}")?.as_str(),
-        "book 1\ntake 0\nhear\nreap 18446744073709551615\n"
+        (book.len(), book.weight(), book.trace()),
+        (10, 256, Trace::Deep)
     );
+    assert!(rt; book.at(9) == Event::Reap(1));
+    Ok(())
+}
+
+/// The fault of a text.
+fn fault_of(alloc: Global, text: &str) -> Result<(u32, u8), Fail> {
+    match read_text(alloc, text.as_bytes()) {
+        Err(BookErr::Fault { line, kind }) => Ok((line, kind)),
+        Err(BookErr::NoMemory) => Err(Fail::from("no memory")),
+        Ok(_) => Err(Fail::from("a book")),
+    }
+}
+
+#[test]
+fn faults_are_told(rt: HostRuntime) -> Result<(), Fail> {
+    for (text, line, kind) in [
+        ("", 1, 1),
+        ("\n", 1, 1),
+        ("book 2 1\n", 1, 1),
+        ("book 2 65537", 1, 1),
+        ("book 2 0256\n", 1, 1),
+        ("book 2 256 root\n", 1, 1),
+        ("book 2 256  roots\n", 1, 1),
+        ("book 1 roots\n", 1, 1),
+        ("book 1\r\n", 1, 1),
+        ("book 1", 1, 4),
+        ("book 1\nleave 0\n", 2, 2),
+        ("book 1\ntake 01\n", 2, 2),
+        ("book 1\n\ntake 0\n", 2, 2),
+        ("book 2 256\ntake 4294967296\n", 2, 2),
+        ("book 2 256\nhear\nreap 18446744073709551616\n", 3, 2),
+        ("book 2 256\nhear\nscan ", 3, 2),
+        ("book 2 256\nhear\ntake  1\n", 3, 2),
+        ("book 2 256\nhear\nscan", 3, 4),
+    ] {
+        assert_eq!(rt; fault_of(rt.alloc(), text)?, (line, kind), "{text}");
+    }
     Ok(())
 }

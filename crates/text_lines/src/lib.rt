@@ -61,7 +61,7 @@ fn line_fault(line: &[u8]) -> Option<LineKind>
 }
 
 /// The place of the first line feed, or the end where there is none.
-fn line_end(rest: &[u8]) -> usize
+pub fn line_end(rest: &[u8]) -> usize
     ensures within { result ≤ length rest.now }
     ensures before { (k : ℕ) → k < result → slice_index rest.now k ≢ 10 }
     ensures found { result < length rest.now → slice_index rest.now result ≡ 10 }

@@ -1,15 +1,20 @@
 -- The order that the words give.
-use Rattle.std.specs.Prelude.{ℕ, ◌≤◌, false, List, Some, None, codes, if◌then◌else◌, option_and_then, option_map}
+use Rattle.std.specs.Prelude.{ℕ, Bool, ◌≤◌, ⊤, false, List, Some, None, codes, if◌then◌else◌, option_and_then}
 use Rattle.std.specs.declared.option.Option.{Option}
 use Rattle.std.specs.Option.{option_map_or}
 use Rattle.std.specs.Str.{bytes_eq}
 use Rattle.std.specs.Str.Parse.{digits_value, without_leading_plus}
 use Rattle.orca_names.specs.declared.limits.TheConstants.{BOOK_LIMIT, WORKERS_LIMIT}
+use Rattle.orca_names.specs.declared.trace.Trace.{Trace}
+use Rattle.orca_names.specs.declared.trace.Trace.TheVariants.{Deep, Roots}
+use Rattle.load_maker.specs.declared.load.TheConstants.{NODES_LIMIT}
 use Rattle.clap.specs.Words.{Row, Text, fault_of, first_of, subcommand_of}
 use Rattle.clap.specs.Walk.{is_empty}
 use Rattle.clap.specs.ValueTests.{accepts}
 use Rattle.clap.specs.declared.builder.value_parser.ValueParser.TheVariants as vp
-use Rattle.word_line.specs.declared.order.Job.TheVariants.{Run}
+use Rattle.word_line.specs.declared.order.TheConstants.{LEAST_WEIGHT, MOST_WEIGHT}
+use Rattle.word_line.specs.declared.order.Job.{Job}
+use Rattle.word_line.specs.declared.order.Job.TheVariants.{Load, Run}
 use Rattle.word_line.specs.declared.order.Order.{Order}
 use Rattle.word_line.specs.Commands.{command_line}
 
@@ -19,29 +24,71 @@ number_in least most text =
     if accepts false (vp.Unsigned least most) text
     then Some (digits_value 10 (without_leading_plus text)) else None
 
--- the number of an option, from 1 to the most, or the default where it is not given
-abbrev pub option_in : ℕ → ℕ → Text → List Row → Option ℕ
-option_in most default name rows =
-    option_map_or (number_in 1 most) (first_of name rows) (Some default)
+-- the number of an option, from the least to the most, or the default where it is not given
+abbrev pub option_in : ℕ → ℕ → ℕ → Text → List Row → Option ℕ
+option_in least most default name rows =
+    option_map_or (number_in least most) (first_of name rows) (Some default)
 
--- the order that the options of `run` give
-abbrev pub order_with : List Row → Option Order
-order_with rows =
-    option_and_then (λ workers. option_map (λ budget. record {
-      job = Run;
-      workers = workers;
-      budget = budget;
-    })
-    (option_in BOOK_LIMIT 1000000 (codes "budget") rows)) (option_in WORKERS_LIMIT 2 (codes "workers") rows)
+-- an option without a value is given
+abbrev pub flag_in : Text → List Row → Bool
+flag_in name rows = option_map_or (λ text. bytes_eq text (codes "true")) (first_of name rows) false
+
+-- the tracing of this name
+abbrev pub trace_named : Text → Option Trace
+trace_named text = if bytes_eq text (codes "deep") then Some Deep
+    else (if bytes_eq text (codes "roots") then Some Roots else None)
+
+-- the tracing, deep where it is not given
+abbrev pub trace_in : List Row → Option Trace
+trace_in rows = option_map_or trace_named (first_of (codes "trace") rows) (Some Deep)
+
+-- the order, where each option's value is one that it may have
+abbrev pub order_from : Job → Bool → Bool → Option ℕ → Option ℕ → Option ℕ → Option Trace
+    → Option Order
+order_from job counts book (Some workers) (Some budget) (Some weight) (Some trace) = Some (record {
+  job = job;
+  workers = workers;
+  budget = budget;
+  counts = counts;
+  book = book;
+  weight = weight;
+  trace = trace;
+})
+order_from job counts book workers budget weight trace = None
+
+-- the order that the options give for the job
+abbrev pub order_with : Job → List Row → Option Order
+order_with job rows =
+    order_from job (flag_in (codes "counts") rows) (flag_in (codes "book") rows)
+    (option_in 1 WORKERS_LIMIT 2 (codes "workers") rows)
+    (option_in 1 BOOK_LIMIT 1000000 (codes "budget") rows)
+    (option_in LEAST_WEIGHT MOST_WEIGHT 256 (codes "weight") rows)
+    (trace_in rows)
+
+-- the order that the number and the options of `load` give
+abbrev pub load_with : List Row → Option Order
+load_with rows =
+    option_and_then (λ count. order_with (Load count) rows)
+    (option_and_then (number_in 1 NODES_LIMIT) (first_of (codes "count") rows))
 
 -- the order that the subcommand gives
 abbrev pub order_in : Option (Text × List Row) → Option Order
 order_in None = None
-order_in (Some found) = if bytes_eq found.0 (codes "run") then order_with found.1 else None
+order_in (Some found) =
+    if bytes_eq found.0 (codes "run") then order_with Run found.1
+    else (if bytes_eq found.0 (codes "load") then load_with found.1 else None)
 
 -- what no words ask for
 abbrev pub default_order : Order
-default_order = record { job = Run; workers = 2; budget = 1000000 }
+default_order = record {
+  job = Run;
+  workers = 2;
+  budget = 1000000;
+  counts = false;
+  book = false;
+  weight = 256;
+  trace = Deep;
+}
 
 -- no words read as `run`; all others as the command reads them
 unfoldable pub order_of : List Text → Option Order
@@ -49,7 +96,14 @@ order_of words = if is_empty words then Some default_order
     else (if is_empty (fault_of command_line words) then order_in
     (subcommand_of command_line words) else None)
 
+-- the load program of a job has a number of nodes that it may have
+abbrev pub IsJobInRange : Job → Type 0
+IsJobInRange Run = ⊤
+IsJobInRange (Load count) = (1 ≤ count) × (count ≤ NODES_LIMIT)
+
 -- the values of an order are in their ranges
 pub record IsInRange (order : Order) : Type 0 where
+  pub job : IsJobInRange order.job
   pub workers : (1 ≤ order.workers) × (order.workers ≤ WORKERS_LIMIT)
   pub budget : (1 ≤ order.budget) × (order.budget ≤ BOOK_LIMIT)
+  pub weight : (LEAST_WEIGHT ≤ order.weight) × (order.weight ≤ MOST_WEIGHT)

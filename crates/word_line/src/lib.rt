@@ -5,7 +5,7 @@ mod command;
 mod order;
 mod reading;
 
-pub use order::{Job, Order, WordErr};
+pub use order::{Job, LEAST_WEIGHT, MOST_WEIGHT, Order, WordErr};
 pub use reading::read_words;
 
 #[cfg(test)]

@@ -2,13 +2,25 @@
 
 ghost use Rattle.std.specs.Prelude.{◌≡◌};
 
+use orca_names::Trace;
 use thiserror::Error;
+
+/// The least weight of a run.
+pub const LEAST_WEIGHT: u32 = 2;
+
+/// The most that the weight of a run may be.
+pub const MOST_WEIGHT: u32 = 65_536;
 
 /// What is to be done.
 #[derive(Clone, Copy, Debug, PartialEq, Eq)]
 pub enum Job {
     /// The program that the source gives is run.
     Run,
+    /// The load program is run.
+    Load {
+        /// How many nodes it makes, 1 to 60,000.
+        count: u32,
+    },
 }
 
 /// What the words ask for.
@@ -19,10 +31,18 @@ pub struct Order {
     pub workers: u32,
     /// The most entries that the run book may have, 1 to 100,000,000.
     pub budget: u64,
+    /// The report is to have the counts of what is left.
+    pub counts: bool,
+    /// The report is to have the run book.
+    pub book: bool,
+    /// The amount of an increment, and the first count of a new actor, 2 to 65,536.
+    pub weight: u32,
+    /// How far letters are traced.
+    pub trace: Trace,
 }
 
-/// What no words ask for: a run of the program that the source gives, with two workers and at most
-/// 1,000,000 entries.
+/// What no words ask for: a run of the program that the source gives, with two workers, at most
+/// 1,000,000 entries, weight 256 and deep tracing, and a report without counts and book.
 impl Default for Order {
     ghost use Rattle.word_line.specs.Orders.{default_order};
 
@@ -33,6 +53,10 @@ impl Default for Order {
             job: Job::Run,
             workers: 2,
             budget: 1_000_000,
+            counts: false,
+            book: false,
+            weight: 256,
+            trace: Trace::Deep,
         }
     }
 }

@@ -2,14 +2,15 @@
 
 ghost use Rattle.std.specs.Prelude.{◌≡◌, ◌≤◌, IfOk, IfErr, IfSome, Some, None, map, option_map};
 ghost use Rattle.clap.specs.Words.{first_of, found_of, rows_of, subcommand_rows_of};
-ghost use Rattle.word_line.specs.Orders.{IsInRange, number_in, option_in, order_in, order_of, order_with};
+ghost use Rattle.word_line.specs.Orders.{IsInRange, IsJobInRange, flag_in, load_with, number_in, option_in, order_in, order_of, order_with, trace_in};
 ghost use Rattle.word_line.specs.declared.order.WordErr.TheVariants.{BadWords};
 
 use crate::command::command;
-use crate::order::{Order, WordErr};
+use crate::order::{Job, LEAST_WEIGHT, MOST_WEIGHT, Order, WordErr};
 use clap::ArgMatches;
 use clap::error::ErrorKind;
-use orca_names::{BOOK_LIMIT, WORKERS_LIMIT};
+use load_maker::NODES_LIMIT;
+use orca_names::{BOOK_LIMIT, Trace, WORKERS_LIMIT};
 use std::alloc::Global;
 
 /// The number that the text is, where it is from `least` to `most`.
@@ -37,32 +38,80 @@ fn text_of<'a>(matches: &ArgMatches<'a>, name: &str) -> Option<&'a str>
     matches.get_str(name)
 }
 
-/// The number of an option, which is from 1 to `most`, or `default` where it is not given.
-fn option_in(matches: &ArgMatches<'_>, name: &str, most: u64, default: u64) -> Option<u64>
-    requires { (1 ≤ default) × (default ≤ most) }
-    ensures number { result ≡ option_in most default name.now (rows_of (found_of matches.now)) }
-    ensures range { IfSome result (λ n. (1 ≤ n) × (n ≤ most)) }
+/// The number of an option, from `least` to `most`, or `default` where it is not given.
+fn option_in(
+    matches: &ArgMatches<'_>,
+    name: &str,
+    least: u64,
+    most: u64,
+    default: u64,
+) -> Option<u64>
+    requires { (least ≤ default) × (default ≤ most) }
+    ensures number { result
+        ≡ option_in least most default name.now (rows_of (found_of matches.now)) }
+    ensures range { IfSome result (λ n. (least ≤ n) × (n ≤ most)) }
 {
     match text_of(matches, name) {
-        Some(text) => number_in(text, 1, most),
+        Some(text) => number_in(text, least, most),
         None => Some(default),
     }
 }
 
-/// The order that the options of `run` give.
-fn order_with(matches: &ArgMatches<'_>) -> Option<Order>
-    ensures order { result ≡ order_with (rows_of (found_of matches.now)) }
+/// Whether an option without a value is given.
+fn flag_in(matches: &ArgMatches<'_>, name: &str) -> bool
+    ensures { result ≡ flag_in name.now (rows_of (found_of matches.now)) }
+{
+    match text_of(matches, name) {
+        Some(text) => text == "true",
+        None => false,
+    }
+}
+
+/// The tracing, deep where it is not given.
+fn trace_in(matches: &ArgMatches<'_>) -> Option<Trace>
+    ensures { result ≡ trace_in (rows_of (found_of matches.now)) }
+{
+    match text_of(matches, "trace") {
+        Some("deep") => Some(Trace::Deep),
+        Some("roots") => Some(Trace::Roots),
+        Some(_) => None,
+        None => Some(Trace::Deep),
+    }
+}
+
+/// The order that the options give for the job.
+fn order_with(matches: &ArgMatches<'_>, job: Job) -> Option<Order>
+    requires { IsJobInRange job }
+    ensures order { result ≡ order_with job (rows_of (found_of matches.now)) }
     ensures range { IfSome result IsInRange }
 {
     let order = Order::default();
-    let most = u64::from(WORKERS_LIMIT);
-    let workers = option_in(matches, "workers", most, u64::from(order.workers))?;
-    let budget = option_in(matches, "budget", BOOK_LIMIT, order.budget)?;
+    let (workers, most_workers) = (u64::from(order.workers), u64::from(WORKERS_LIMIT));
+    let workers = option_in(matches, "workers", 1, most_workers, workers)?;
+    let budget = option_in(matches, "budget", 1, BOOK_LIMIT, order.budget)?;
+    let weight = u64::from(order.weight);
+    let (least, most) = (u64::from(LEAST_WEIGHT), u64::from(MOST_WEIGHT));
+    let weight = option_in(matches, "weight", least, most, weight)?;
+    let trace = trace_in(matches)?;
     Some(Order {
+        job,
         workers: workers as u32,
         budget,
-        ..order
+        counts: flag_in(matches, "counts"),
+        book: flag_in(matches, "book"),
+        weight: weight as u32,
+        trace,
     })
+}
+
+/// The order that the number and the options of `load` give.
+fn load_with(matches: &ArgMatches<'_>) -> Option<Order>
+    ensures order { result ≡ load_with (rows_of (found_of matches.now)) }
+    ensures range { IfSome result IsInRange }
+{
+    let text = text_of(matches, "count")?;
+    let count = number_in(text, 1, u64::from(NODES_LIMIT))? as u32;
+    order_with(matches, Job::Load { count })
 }
 
 /// The order that the subcommand gives.
@@ -71,7 +120,8 @@ fn order_in(matches: &ArgMatches<'_>) -> Option<Order>
     ensures range { IfSome result IsInRange }
 {
     match matches.subcommand() {
-        Some(("run", inner)) => order_with(inner),
+        Some(("run", inner)) => order_with(inner, Job::Run),
+        Some(("load", inner)) => load_with(inner),
         _ => None,
     }
 }

@@ -1,6 +1,7 @@
 // The words that have a reading, and those that have none.
 
-use crate::{Order, WordErr, read_words};
+use crate::{Job, Order, WordErr, read_words};
+use orca_names::Trace;
 use std::alloc::Global;
 use std::test::Fail;
 
@@ -14,7 +15,7 @@ fn reading(alloc: Global, line: &str) -> Result<Option<Order>, Fail> {
 }
 
 #[test]
-fn words_with_a_reading(rt: HostRuntime) -> Result<(), Fail> {
+fn workers_and_budget(rt: HostRuntime) -> Result<(), Fail> {
     for (line, workers, budget) in [
         ("", 2, 1_000_000),
         ("run", 2, 1_000_000),
@@ -23,9 +24,65 @@ fn words_with_a_reading(rt: HostRuntime) -> Result<(), Fail> {
         ("run --workers=16", 16, 1_000_000),
         ("run --workers +5 --budget 1", 5, 1),
         ("run --budget 100000000 --workers 05", 5, 100_000_000),
+        ("load 3 --workers 4 --budget 9", 4, 9),
     ] {
         let order = reading(rt.alloc(), line)?.ok_or("no reading")?;
         assert_eq!(rt; (order.workers, order.budget), (workers, budget), "{line}");
+    }
+    Ok(())
+}
+
+#[test]
+fn jobs(rt: HostRuntime) -> Result<(), Fail> {
+    for (line, job) in [
+        ("", Job::Run),
+        ("run", Job::Run),
+        ("run --counts", Job::Run),
+        ("load 1", Job::Load { count: 1 }),
+        ("load 60000", Job::Load { count: 60_000 }),
+        ("load +5", Job::Load { count: 5 }),
+        ("load 05", Job::Load { count: 5 }),
+        ("load -- 7", Job::Load { count: 7 }),
+        ("load --workers 2 3", Job::Load { count: 3 }),
+    ] {
+        let order = reading(rt.alloc(), line)?.ok_or("no reading")?;
+        assert!(rt; order.job == job, "{line}");
+    }
+    Ok(())
+}
+
+#[test]
+fn what_the_report_has(rt: HostRuntime) -> Result<(), Fail> {
+    for (line, counts, book) in [
+        ("", false, false),
+        ("run", false, false),
+        ("run --counts", true, false),
+        ("run --book", false, true),
+        ("run --book --counts", true, true),
+        ("load 3", false, false),
+        ("load 3 --counts", true, false),
+        ("load --book 3", false, true),
+    ] {
+        let order = reading(rt.alloc(), line)?.ok_or("no reading")?;
+        assert_eq!(rt; (order.counts, order.book), (counts, book), "{line}");
+    }
+    Ok(())
+}
+
+#[test]
+fn weights_and_tracing(rt: HostRuntime) -> Result<(), Fail> {
+    for (line, weight, trace) in [
+        ("", 256, Trace::Deep),
+        ("run", 256, Trace::Deep),
+        ("load 3", 256, Trace::Deep),
+        ("run --weight 2", 2, Trace::Deep),
+        ("run --weight=65536 --trace deep", 65_536, Trace::Deep),
+        ("run --trace roots", 256, Trace::Roots),
+        ("load 3 --trace=roots --weight 07", 7, Trace::Roots),
+    ] {
+        let order = reading(rt.alloc(), line)?.ok_or("no reading")?;
+        assert_eq!(rt; order.weight, weight, "{line}");
+        assert!(rt; order.trace == trace, "{line}");
     }
     Ok(())
 }
@@ -48,10 +105,6 @@ fn words_without_a_reading(rt: HostRuntime) -> Result<(), Fail> {
         "run run",
         "run 3",
         "walk",
-        "load",
-        "load 3",
-        "run --counts",
-        "run --book",
         "--",
         "--help",
         "run --help",
@@ -64,6 +117,38 @@ fn words_without_a_reading(rt: HostRuntime) -> Result<(), Fail> {
         assert!(rt; reading(rt.alloc(), line)?.is_none(), "{line}");
     }
     assert!(rt; read_words(rt.alloc(), &[""]) == Err(WordErr::BadWords));
+    Ok(())
+}
+
+#[test]
+fn loads_and_options_without_a_reading(rt: HostRuntime) -> Result<(), Fail> {
+    for line in [
+        "load",
+        "load 0",
+        "load 60001",
+        "load -3",
+        "load three",
+        "load 3 4",
+        "load load",
+        "load 3 --help",
+        "load --counts",
+        "3",
+        "run --counts --counts",
+        "run --counts=true",
+        "run --book 1",
+        "--book run",
+        "run --weight 1",
+        "run --weight 65537",
+        "run --weight",
+        "load 3 --weight 0",
+        "run --trace deeper",
+        "run --trace Deep",
+        "run --trace",
+        "run --trace deep --trace deep",
+        "run --rows",
+    ] {
+        assert!(rt; reading(rt.alloc(), line)?.is_none(), "{line}");
+    }
     Ok(())
 }
 

@@ -13,6 +13,7 @@ use Rattle.orca_core.specs.Letters.{FitLetters}
 use Rattle.orca_core.specs.Parts.{state_of}
 use Rattle.orca_core.proofs.Giving.{changed_present, fits_kept, seat_here}
 use Rattle.orca_core.proofs.Stepped.{collect_goes}
+use Rattle.orca_core.proofs.Waking.{woken_changed}
 use Rattle.orca_core.proofs.collects.apply_collect.Goals as goal
 
 pub push_all-requires : goal.push_all-requires
@@ -39,3 +40,10 @@ returns-clause-state c = λ program options same.
     collect_goes (state_of program options c.args.parts.now) a (as_cell cell) (slot_at slots a).mail.letters
     letters (actors_of c.push_all.new.table.slots) here
     c.requires.may (c.into_letters.ensures ∙ ap letters_of found.back_is) (c.push_all.ensures.actors ∙ ap (push_all letters) actors)
+
+pub returns-clause-woken : goal.returns-clause-woken
+returns-clause-woken c =
+    let trace = c.args.trace in
+    let its = subst (λ p. IsSomeAnd (home_in p) (λ x. c.args.found ≡ sweep_of trace x)) (sym c.requires.home) c.requires.collects.found_is in
+    woken_changed (swept trace c.args.a) c.args.a (actors_of c.args.parts.now.table.slots) (actors_of c.collect.new.self.slots)
+    (actors_of c.push_all.new.table.slots) c.push_all.result (c.collect.ensures.actors trace its) c.push_all.ensures.woken

@@ -3,7 +3,7 @@ use Rattle.std.proofs.lemmas.List.{length-map}
 use Rattle.event_rule.specs.Runs.{Goes}
 use Rattle.actor_cell.specs.Goes.{turned_in}
 use Rattle.actor_cell.specs.Cells.{as_cell}
-use Rattle.actor_table.specs.Slots.{seat_of, slot_at}
+use Rattle.actor_table.specs.Slots.{actors_of, seat_of, slot_at}
 use Rattle.actor_table.specs.Changes.{changed_at, moved, with_cell_by}
 use Rattle.actor_table.proofs.Changing.{home_within}
 use Rattle.orca_core.specs.Goes.{given}
@@ -11,6 +11,7 @@ use Rattle.orca_core.specs.Parts.{state_of}
 use Rattle.orca_core.proofs.Giving.{seat_here}
 use Rattle.orca_core.proofs.Gone.{go_goes}
 use Rattle.orca_core.proofs.Naming.{can_name, fits_limit}
+use Rattle.orca_core.proofs.Waking.{woken_changed}
 use Rattle.orca_core.proofs.goes.apply_go.Goals as goal
 
 pub go-requires : goal.go-requires
@@ -57,3 +58,8 @@ returns-clause-state c = λ options weight trace.
     ∙ ap Goes (ap (λ w. given w program a act made (record s { actors = changed_at (with_cell_by (moved a c.args.parts.now.turn c.args.found.place act)) a s.actors })) weight
     ∙ ap (λ xs. given c.args.weight program a act made (record s { actors = xs })) (sym c.go.ensures.actors)
     ∙ sym (c.give_out.ensures.state options))
+
+pub returns-clause-woken : goal.returns-clause-woken
+returns-clause-woken c =
+    woken_changed (moved c.args.a c.args.parts.now.turn c.args.found.place c.args.found.act) c.args.a (actors_of c.args.parts.now.table.slots)
+    (actors_of c.go.new.self.slots) (actors_of c.give_out.new.parts.table.slots) c.give_out.result c.go.ensures.actors c.give_out.ensures.woken

@@ -1,7 +1,7 @@
 use Rattle.std.proofs.Common.{subst, sym}
 use Rattle.actor_table.specs.Slots.{slot_at}
 use Rattle.orca_core.specs.Goes.{IsFoundGo}
-use Rattle.orca_core.proofs.Naming.{home_place}
+use Rattle.orca_core.proofs.Homes.{home_place}
 use Rattle.orca_core.proofs.goes.find_go.Goals as goal
 
 pub returns-in-Ok-clause-found : goal.returns-in-Ok-clause-found

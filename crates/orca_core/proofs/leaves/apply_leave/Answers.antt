@@ -1,10 +1,11 @@
-use Rattle.std.proofs.Common.{ap, ◌∙◌}
+use Rattle.std.proofs.Common.{ap, subst, sym, ◌∙◌}
 use Rattle.actor_cell.specs.Cells.{as_cell}
 use Rattle.actor_cell.specs.Pushing.{push_all}
 use Rattle.actor_table.specs.Slots.{actors_of, slot_at}
 use Rattle.orca_core.specs.Parts.{state_of}
 use Rattle.orca_core.proofs.Giving.{seat_here}
 use Rattle.orca_core.proofs.Stepped.{leave_goes}
+use Rattle.orca_core.proofs.Waking.{OnlyLoses, loses_one, woken_without}
 use Rattle.orca_core.proofs.leaves.apply_leave.Goals as goal
 
 pub returns-clause-state : goal.returns-clause-state
@@ -14,3 +15,9 @@ returns-clause-state c = λ program options.
     leave_goes (state_of program options c.args.parts.now) c.args.a (as_cell cell) (slot_at slots c.args.a).mail.letters
     c.args.letters.items (actors_of c.push_all.new.table.slots) (seat_here slots c.args.a cell c.requires.home)
     c.requires.may c.requires.returns (c.push_all.ensures.actors ∙ ap (push_all c.args.letters.items) c.clear.ensures.actors)
+
+pub returns-clause-woken : goal.returns-clause-woken
+returns-clause-woken c =
+    let old = actors_of c.args.parts.now.table.slots in
+    woken_without c.args.letters.items old (actors_of c.clear.new.self.slots) (actors_of c.push_all.new.table.slots) c.push_all.result
+    (subst (OnlyLoses old) (sym c.clear.ensures.actors) (loses_one c.args.a old)) c.push_all.ensures.actors c.push_all.ensures.woken

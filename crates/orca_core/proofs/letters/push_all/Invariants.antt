@@ -3,6 +3,8 @@ use Rattle.std.specs.Vec.Iter.{into_iter_items}
 use Rattle.actor_cell.specs.Pushing.{push_all}
 use Rattle.actor_table.specs.Slots.{actors_of, away_of}
 use Rattle.orca_core.specs.Letters.{FitLetters}
+use Rattle.orca_core.specs.Woken.{IsLowestWoken}
+use Rattle.orca_core.proofs.Waking.{Grows}
 use Rattle.orca_core.proofs.letters.push_all.Given as goal
 
 abbrev pub invariant-loop-letter : goal.invariant-loop-letter
@@ -13,4 +15,6 @@ invariant-loop-letter l = record {
   actors : push_all (into_iter_items l.letter-iterator) (actors_of l.table.slots)
       ≡ push_all l.fn.letters.items (actors_of l.fn.table.slots);
   away : away_of l.table.slots ≡ away_of l.fn.table.slots;
+  grows : Grows (actors_of l.fn.table.slots) (actors_of l.table.slots);
+  woken : IsLowestWoken (actors_of l.fn.table.slots) (actors_of l.table.slots) l.lowest;
 }

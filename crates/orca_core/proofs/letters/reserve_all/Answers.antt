@@ -1,7 +1,8 @@
 use Rattle.std.proofs.Common.{◌+◌, ap, ◌∙◌, drop, arith}
 use Rattle.actor_cell.proofs.Raising.{drop_past, rest_of}
 use Rattle.orca_core.specs.Letters.{counted, letters_to}
-use Rattle.orca_core.proofs.Reserving.{counted_fits, first_counts, one_fits, same_actors, to_few}
+use Rattle.orca_core.proofs.Homes.{same_actors}
+use Rattle.orca_core.proofs.Reserving.{counted_fits, first_counts, one_fits, to_few}
 use Rattle.orca_core.proofs.letters.reserve_all.Goals as goal
 
 pub count_one-requires : goal.count_one-requires

@@ -4,7 +4,8 @@ use Rattle.actor_cell.proofs.Raising.{drop_past, rest_of}
 use Rattle.actor_cell.specs.Outs.{letters_of}
 use Rattle.actor_table.specs.Slots.{slot_at}
 use Rattle.orca_core.specs.Letters.{letters_to}
-use Rattle.orca_core.proofs.Reserving.{each_fits, same_actors}
+use Rattle.orca_core.proofs.Homes.{same_actors}
+use Rattle.orca_core.proofs.Reserving.{each_fits}
 use Rattle.orca_core.proofs.letters.reserve_each.Goals as goal
 
 pub loop-group-preserved : goal.loop-group-preserved

@@ -3,9 +3,12 @@ use Rattle.letter_kinds.specs.Detector.{close_token}
 use Rattle.machine_rules.specs.Detect.{empty_seats}
 use Rattle.machine_rules.proofs.Guards.{acked_open}
 use Rattle.actor_cell.specs.Pushing.{push_all}
-use Rattle.actor_table.specs.Slots.{actors_of}
+use Rattle.actor_table.specs.Slots.{actors_of, away_of}
+use Rattle.orca_core.specs.Away.{is_out}
+use Rattle.orca_core.proofs.Homes.{home_stays, without_all_keeps}
 use Rattle.orca_core.specs.Parts.{state_of}
 use Rattle.orca_core.proofs.Stepped.{decs_of, reap_goes}
+use Rattle.orca_core.proofs.Waking.{OnlyLoses, loses_all, woken_without}
 use Rattle.orca_core.proofs.reaps.apply_reap.Goals as goal
 
 pub returns-clause-state : goal.returns-clause-state
@@ -14,7 +17,19 @@ returns-clause-state c = λ program options.
     let actors = actors_of c.args.parts.now.table.slots in
     let d = c.args.parts.now.detector.state in
     reap_goes (state_of program options c.args.parts.now) c.args.number c.requires.token c.args.letters.items
-    (actors_of c.push_all.new.table.slots) c.close.new.self.state c.requires.acked
+    (actors_of c.push_all-woken.new.table.slots) c.close.new.self.state c.requires.acked
     (c.requires.decs ∙ ap (decs_of actors) its)
-    (c.push_all.ensures.actors ∙ ap (push_all c.args.letters.items) (c.clear_all.ensures.actors ∙ ap (λ ms. empty_seats ms actors) its))
+    (c.push_all-woken.ensures.actors ∙ ap (push_all c.args.letters.items) (c.clear_all.ensures.actors ∙ ap (λ ms. empty_seats ms actors) its))
     (subst (λ o. IfSome o (λ t. c.close.new.self.state ≡ close_token t d)) (acked_open c.args.number d c.requires.token c.requires.acked).0 c.close.ensures)
+
+pub returns-clause-away : goal.returns-clause-away
+returns-clause-away c = λ a.
+    let slots = c.args.parts.now.table.slots in
+    ap (λ bs. is_out bs a) (c.push_all-woken.ensures.away ∙ c.clear_all.ensures.away)
+    ∙ without_all_keeps c.args.members.now (away_of slots) (λ m member. home_stays slots m (c.requires.home m member).cell (c.requires.home m member).home) a
+
+pub returns-clause-woken : goal.returns-clause-woken
+returns-clause-woken c =
+    let old = actors_of c.args.parts.now.table.slots in
+    woken_without c.args.letters.items old (actors_of c.clear_all.new.table.slots) (actors_of c.push_all-woken.new.table.slots) c.push_all-woken.result
+    (subst (OnlyLoses old) (sym c.clear_all.ensures.actors) (loses_all c.args.members.now old)) c.push_all-woken.ensures.actors c.push_all-woken.ensures.woken

@@ -7,7 +7,8 @@ use Rattle.actor_cell.specs.Cells.{as_cell}
 use Rattle.actor_cell.specs.Outs.{left_outside, letters_of}
 use Rattle.actor_table.specs.Slots.{slot_at}
 use Rattle.actor_cell.proofs.Raising.{drop_past, rest_of}
-use Rattle.orca_core.proofs.Reaping.{first_returned, home_lent, none_returned, returned}
+use Rattle.orca_core.proofs.Homes.{home_is}
+use Rattle.orca_core.proofs.Reaping.{first_returned, none_returned, returned}
 use Rattle.orca_core.proofs.reaps.letters_outside.Goals as goal
 
 pub loop-member-preserved : goal.loop-member-preserved
@@ -27,7 +28,7 @@ loop-member-preserved c =
       letters =
           ap (λ ls. ls ++ returned members later slots) (c.in_ok-append.ensures.items ∙ ap (λ ls. sofar ++ ls) (c.into_vec-returned.ensures ∙ c.in_ok-give_back.ensures))
           ∙ append_assoc sofar its (returned members later slots)
-          ∙ ap (λ ls. sofar ++ ls) (sym (first_returned members m later slots cell rising (home_lent (slot_at slots m) cell c.in-Some.ensures.cell)))
+          ∙ ap (λ ls. sofar ++ ls) (sym (first_returned members m later slots cell rising (home_is (slot_at slots m) cell c.in-Some.ensures.cell)))
           ∙ sym (ap (λ ms. sofar ++ returned members ms slots) rest) ∙ c.loop-member.invariant.letters;
     }
 

@@ -2,6 +2,8 @@ use Rattle.std.proofs.Common.{◌≡◌, drop}
 use Rattle.machine_rules.specs.Detect.{ask_all}
 use Rattle.actor_table.specs.Slots.{actors_of, away_of}
 use Rattle.orca_core.specs.Letters.{FitLetters, asks}
+use Rattle.orca_core.specs.Woken.{IsLowestWoken}
+use Rattle.orca_core.proofs.Waking.{Grows}
 use Rattle.orca_core.proofs.scans.ask_all.Given as goal
 
 abbrev pub invariant-loop-member : goal.invariant-loop-member
@@ -10,4 +12,6 @@ invariant-loop-member l = record {
   actors : ask_all (drop l.member-index l.members) l.number (actors_of l.table.slots)
       ≡ ask_all l.members l.number (actors_of l.fn.table.slots);
   away : away_of l.table.slots ≡ away_of l.fn.table.slots;
+  grows : Grows (actors_of l.fn.table.slots) (actors_of l.table.slots);
+  woken : IsLowestWoken (actors_of l.fn.table.slots) (actors_of l.table.slots) l.lowest;
 }

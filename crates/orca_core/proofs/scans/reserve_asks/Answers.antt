@@ -3,7 +3,8 @@ use Rattle.letter_kinds.specs.declared.letter.Letter.TheVariants.{Confirm}
 use Rattle.actor_cell.proofs.Raising.{drop_past, rest_of}
 use Rattle.orca_core.specs.Letters.{asks, letters_to}
 use Rattle.orca_core.proofs.Asking.{asked_once}
-use Rattle.orca_core.proofs.Fitting.{FitBut, fit_all, fit_more, same_actors, same_away}
+use Rattle.orca_core.proofs.Fitting.{FitBut, fit_all, fit_more}
+use Rattle.orca_core.proofs.Homes.{same_actors, same_away}
 use Rattle.orca_core.proofs.scans.reserve_asks.Goals as goal
 
 pub loop-member-preserved : goal.loop-member-preserved
@@ -14,10 +15,10 @@ loop-member-preserved c =
     let rest = rest_of members i m c.loop-member-test.true c.member-item.is in
     let before = c.loop-member.table.slots in
     let after = c.reserve_letters.new.self.slots in
-    let same = same_actors before after c.reserve_letters.ensures.places c.reserve_letters.ensures.letters in
+    let same = same_actors after before c.reserve_letters.ensures.places c.reserve_letters.ensures.letters in
     record {
       actors = same ∙ c.loop-member.invariant.actors;
-      away = same_away before after c.reserve_letters.ensures.places ∙ c.loop-member.invariant.away;
+      away = same_away after before c.reserve_letters.ensures.places ∙ c.loop-member.invariant.away;
       fits = λ number.
           let enough : letters_to m (asks number members) ≤ 1 + letters_to m (asks number (drop (i + 1) members)) = omega (arith, asked_once number m members c.requires) in
           fit_more 1 m (Confirm number) (asks number (drop (i + 1) members)) (asks number members) before after

@@ -6,4 +6,6 @@ use Rattle.run_book.proofs.book.BookDisplay.fmt.Given as goal
 
 abbrev pub invariant-loop-entry : goal.invariant-loop-entry
 invariant-loop-entry g l =
-    IsPlainFormatter l.initial.f → HasWritten g.W.Write.write_str_gives l.initial.f (flat_map entry_line (take l.entry-index l.entry-items)) l.f
+    IsPlainFormatter l.initial.f →
+    HasWritten g.W.Write.write_str_gives l.initial.f
+    (flat_map entry_line (take l.entry-index l.entry-items)) l.f

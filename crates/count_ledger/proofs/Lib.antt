@@ -1,0 +1,4 @@
+pub mod Adding
+pub mod Mailed
+pub mod Said
+pub mod Seated

@@ -1,0 +1,28 @@
+use Rattle.std.proofs.Common.{ap, refl}
+use Rattle.event_rule.specs.Events.{actor_of}
+use Rattle.event_rule.specs.declared.event.Event.TheVariants.{Go, Collect}
+use Rattle.actor_table.specs.Slots.{away_of}
+use Rattle.orca_core.specs.Machine.{options_of}
+use Rattle.orca_core.specs.Parts.{state_of}
+use Rattle.orca_core.proofs.Prepared.{fault_same}
+use Rattle.orca_core.proofs.installs.install.Goals as goal
+
+pub install_collect-requires : goal.install_collect-requires
+install_collect-requires c = record {
+  found = (c.args.weight, c.args.code.now, c.requires.found c.in-Collect.actor (ap actor_of c.in-Collect.is));
+}
+
+pub returns-in-Err-clause-fault : goal.returns-in-Err-clause-fault
+returns-in-Err-clause-fault c =
+    let m = c.args.parts.now in
+    let options = options_of c.args.weight c.args.trace in
+    fault_same (away_of m.table.slots) (state_of c.args.code.now options m) c.args.e (Go c.in-Go.actor) c.in-Err.fault c.in-Go.is
+    (c.in-Err.ensures.fault options refl refl)
+
+pub returns-in-Err-install_collect-clause-fault : goal.returns-in-Err-install_collect-clause-fault
+returns-in-Err-install_collect-clause-fault c =
+    let m = c.args.parts.now in
+    let program = c.args.code.now in
+    let options = options_of c.args.weight c.args.trace in
+    fault_same (away_of m.table.slots) (state_of program options m) c.args.e (Collect c.in-Collect.actor) c.in-Err-install_collect.fault c.in-Collect.is
+    (c.in-Err-install_collect.ensures.fault program options)

@@ -1,0 +1,20 @@
+-- Which events of some kind are enabled, and which of them is the first.
+use Rattle.std.specs.Prelude.{ℕ, ◌==◌, Bool, false, is_none, if◌then◌else◌, List}
+use Rattle.std.specs.Option.{option_map_or}
+use Rattle.event_rule.specs.Events.{actor_of}
+use Rattle.event_rule.specs.Runs.{Step, NotEnabled}
+use Rattle.event_rule.specs.declared.event.Event.{Event}
+use Rattle.machine_rules.specs.State.{State}
+use Rattle.orca_core.specs.Away.{next_without}
+
+-- it is an event of this actor
+abbrev pub is_of : ℕ → Event → Bool
+is_of a e = option_map_or (λ b. b == a) (actor_of e) false
+
+-- it is an event of the detector
+abbrev pub is_of_detector : Event → Bool
+is_of_detector e = is_none (actor_of e)
+
+-- what the events of this kind lead to while these cells are away; no others are enabled
+abbrev pub next_of_kind : (Event → Bool) → List Bool → State → Event → Step State
+next_of_kind kind away s e = if kind e then next_without away s e else NotEnabled

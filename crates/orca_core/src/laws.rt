@@ -1,0 +1,38 @@
+// What holds of the machine at every moment, whatever was done with it.
+
+ghost use Rattle.orca_core.specs.Laws.{ComesToRest, CountsInFewBits, IsExactAtQuiet, KeepsTheReachable};
+
+use crate::machine::Orca;
+
+// Each looks at the machine, whose invariant then gives the run that led to it.
+impl<'a> Orca<'a> {
+    /// Nothing that is reachable was ever freed: beside the machine that frees nothing, under the same
+    /// choices, prints are equal, what is reachable is left, nothing names what was freed, and counts
+    /// balance.
+    pub fn keeps_the_reachable(&self)
+        ensures { KeepsTheReachable self.now }
+    {
+        let _ = &self.parts;
+    }
+
+    /// Where no event is enabled, exactly what is reachable is left, cycles of actors included.
+    pub fn is_exact_at_quiet(&self)
+        ensures { IsExactAtQuiet self.now }
+    {
+        let _ = &self.parts;
+    }
+
+    /// Without choices the machine comes to rest: each further event leaves less work to do.
+    pub fn comes_to_rest(&self)
+        ensures { ComesToRest self.now }
+    {
+        let _ = &self.parts;
+    }
+
+    /// No count, and no count that is told of, needs more than 43 bits.
+    pub fn counts_in_few_bits(&self)
+        ensures { CountsInFewBits self.now }
+    {
+        let _ = &self.parts;
+    }
+}

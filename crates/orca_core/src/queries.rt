@@ -1,0 +1,121 @@
+// What the machine tells of itself.
+
+ghost use Rattle.std.specs.Prelude.{◌≡◌, ◌↔◌, true, is_some, option_map, IfSome, MatchOption};
+ghost use Rattle.std.specs.Option.{option_copied};
+ghost use Rattle.event_rule.specs.Runs.{IsEnabled, IsFirst, IsQuiet};
+ghost use Rattle.machine_rules.specs.Actors.{seat_at};
+ghost use Rattle.machine_rules.specs.Next.{next};
+ghost use Rattle.machine_rules.specs.Guards.{may_go};
+ghost use Rattle.actor_table.specs.Slots.{home_of, may_at, slot_at};
+ghost use Rattle.actor_cell.specs.Cells.{as_cell};
+ghost use Rattle.orca_core.specs.Away.{next_without};
+ghost use Rattle.orca_core.specs.Firsts.{is_of, is_of_detector, next_of_kind};
+ghost use Rattle.orca_core.specs.Machine.{NoneIsAway, cell_here, mail_here};
+
+use crate::machine::Orca;
+use actor_cell::Cell;
+use actor_table::ActorTable;
+use event_rule::Event;
+use mail_rows::MailRow;
+use orca_names::ActorName;
+
+// Whether the cell of the actor is at home, and has a frame.
+fn may_go(table: &ActorTable, a: ActorName) -> bool
+    ensures { result ≡ may_at may_go (slot_at table.now.slots a) }
+{
+    match table.cell(a) {
+        Some(cell) => cell.frame.is_some(),
+        None => false,
+    }
+}
+
+impl<'a> Orca<'a> {
+    /// Whether an event is enabled; of an actor whose cell is away none is.
+    pub fn enabled(&self, e: Event) -> bool
+        ensures { result ≡ true ↔ IsEnabled (next_without self.now.out) self.now.state e }
+    {
+        match e {
+            Event::Take(a) => self.parts.table.may_take(a),
+            Event::Go(a) => may_go(&self.parts.table, a),
+            Event::Collect(a) => self.parts.table.may_collect(a),
+            Event::Leave(a) => self.parts.table.may_leave(a),
+            Event::Block(a) => self.parts.table.may_block(a),
+            Event::Hear => !self.parts.notes.is_empty(),
+            Event::Scan => self.parts.detector.news(),
+            Event::Reap(token) => self.parts.detector.acked(token),
+        }
+    }
+
+    /// The first enabled event of an actor, in the one-worker order.
+    pub fn next_of(&self, a: ActorName) -> Option<Event>
+        ensures { let kind = next_of_kind (is_of a) self.now.out in
+            MatchOption result (IsQuiet kind self.now.state) (IsFirst kind self.now.state) }
+    {
+        self.parts.table.next_of(a)
+    }
+
+    /// The first enabled event of the detector, in the one-worker order: it hears, scans, or reaps the
+    /// lowest token whose members all acknowledged.
+    pub fn first_of_detector(&self) -> Option<Event>
+        ensures { let kind = next_of_kind is_of_detector self.now.out in
+            MatchOption result (IsQuiet kind self.now.state) (IsFirst kind self.now.state) }
+    {
+        if !self.parts.notes.is_empty() {
+            return Some(Event::Hear);
+        }
+        if self.parts.detector.news() {
+            return Some(Event::Scan);
+        }
+        match self.parts.detector.ready() {
+            Some(token) => Some(Event::Reap(token)),
+            None => None,
+        }
+    }
+
+    /// The first enabled event, in the one-worker order. It looks at no actor but the one that has it.
+    pub fn first_enabled(&self) -> Option<Event>
+        ensures here { let kind = next_without self.now.out in
+            MatchOption result (IsQuiet kind self.now.state) (IsFirst kind self.now.state) }
+        ensures whole { NoneIsAway self.now
+            → MatchOption result (IsQuiet next self.now.state) (IsFirst next self.now.state) }
+    {
+        if let Some(a) = self.parts.table.first_acting() {
+            return self.next_of(a);
+        }
+        if let Some(a) = self.parts.table.first_settling() {
+            return self.next_of(a);
+        }
+        self.first_of_detector()
+    }
+
+    /// Whether no event is enabled.
+    pub fn quiet(&self) -> bool
+        requires { NoneIsAway self.now }
+        ensures { result ≡ true ↔ IsQuiet next self.now.state }
+    {
+        self.first_enabled().is_none()
+    }
+
+    /// Whether an actor is present; one whose cell is away is.
+    pub fn lives(&self, a: ActorName) -> bool
+        ensures { result ≡ is_some (seat_at self.now.state.actors a) }
+    {
+        self.parts.table.lives(a)
+    }
+
+    /// The cell of an actor; `None` exactly where the actor is not present, or its cell is away.
+    pub fn cell(&self, a: ActorName) -> Option<&Cell>
+        ensures cell { option_map (λ c. as_cell c.now) result ≡ cell_here self.now a }
+        ensures owner { IfSome result (λ c. c.now.heap.owner ≡ a) }
+        ensures kept { option_copied result ≡ home_of (slot_at self.now.kept.table.slots a) }
+    {
+        self.parts.table.cell(a)
+    }
+
+    /// The letters that wait for an actor; `None` exactly where the actor is not present.
+    pub fn mail(&self, a: ActorName) -> Option<&MailRow>
+        ensures { option_map (λ m. m.now.letters) result ≡ mail_here self.now a }
+    {
+        self.parts.table.mail(a)
+    }
+}

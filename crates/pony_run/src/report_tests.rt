@@ -1,0 +1,274 @@
+// Programs and their reports, by the words that the call is given.
+
+use crate::Status;
+use crate::programs::{
+    ALL_LEAVES, KEPT, NAMED, ONE_LEAF_MORE, OPENED, PASSED, PEERS, PING, PINNED, REACHED_TWICE,
+    SENT_TWICE, SEVEN, TO_ITSELF, UNHEARD,
+};
+use crate::tests::{answer, gives};
+use orca_names::ActorName;
+use std::test::Fail;
+
+// Words, input, exit code and what is written.
+const REPORTS: &[(&[&str], &str, u8, &str)] = &[
+    (
+        &["run", "--workers", "1", "--book"],
+        SEVEN,
+        0,
+        "7\n--\nend quiet\nactors made 1 left 0\nobjects made 0 left 0\nbook 2 256\ntake 0\ngo 0\ngo 0\ncollect 0\nleave 0\n",
+    ),
+    (
+        &["run", "--workers", "1", "--budget", "4"],
+        SEVEN,
+        5,
+        "7\n--\nend budget\nactors made 1 left 1\nobjects made 0 left 0\n",
+    ),
+    (
+        &["run", "--workers", "1", "--budget", "5"],
+        SEVEN,
+        0,
+        "7\n--\nend quiet\nactors made 1 left 0\nobjects made 0 left 0\n",
+    ),
+    (
+        &["run", "--workers", "1", "--counts", "--book"],
+        PINNED,
+        0,
+        "--\nend quiet\nactors made 1 left 1\nobjects made 1 left 1\nactor 0 count 0 inc 0 dec 0 held 0 letters 0\nobject 0.0 count 0 inc 0 dec 0 held 0 letters 0\nbook 2 256\ntake 0\ngo 0\ncollect 0\n",
+    ),
+    (
+        &["run", "--workers", "1"],
+        PASSED,
+        0,
+        "9\n--\nend quiet\nactors made 3 left 1\nobjects made 1 left 0\n",
+    ),
+    (
+        &["run", "--workers", "1", "--budget", "24"],
+        PASSED,
+        5,
+        "9\n--\nend budget\nactors made 3 left 2\nobjects made 1 left 0\n",
+    ),
+    (
+        &["run", "--workers", "1", "--budget", "3", "--counts"],
+        REACHED_TWICE,
+        5,
+        "--\nend budget\nactors made 2 left 2\nobjects made 2 left 2\nactor 0 count 1 inc 0 dec 0 held 0 letters 1\nobject 0.0 count 1 inc 0 dec 0 held 0 letters 1\nobject 0.1 count 1 inc 0 dec 0 held 0 letters 1\nactor 1 count 256 inc 0 dec 0 held 256 letters 0\n",
+    ),
+    (
+        &["run", "--workers", "1", "--book"],
+        TO_ITSELF,
+        0,
+        "--\nend quiet\nactors made 1 left 0\nobjects made 1 left 0\nbook 2 256\ntake 0\ngo 0\ngo 0\ntake 0\ngo 0\ncollect 0\nleave 0\n",
+    ),
+    (
+        &["run", "--workers", "1"],
+        PEERS,
+        0,
+        "--\nend quiet\nactors made 3 left 1\nobjects made 0 left 0\n",
+    ),
+    (
+        &["run", "--workers", "4"],
+        PEERS,
+        0,
+        "--\nend quiet\nactors made 3 left 1\nobjects made 0 left 0\n",
+    ),
+    (
+        &["run", "--workers", "1", "--counts"],
+        KEPT,
+        0,
+        "--\nend quiet\nactors made 2 left 2\nobjects made 1 left 1\nactor 0 count 0 inc 0 dec 0 held 0 letters 0\nactor 1 count 257 inc 0 dec 0 held 257 letters 0\nobject 1.0 count 1 inc 0 dec 0 held 1 letters 0\n",
+    ),
+    (
+        &["run", "--workers", "1"],
+        PING,
+        0,
+        "1\n--\nend quiet\nactors made 3 left 0\nobjects made 0 left 0\n",
+    ),
+    (
+        &["run", "--workers", "1"],
+        NAMED,
+        0,
+        "--\nend quiet\nactors made 3 left 1\nobjects made 1 left 0\n",
+    ),
+    (
+        &["run", "--workers", "1", "--trace", "roots"],
+        NAMED,
+        0,
+        "--\nend quiet\nactors made 3 left 2\nobjects made 1 left 1\n",
+    ),
+    (
+        &["run", "--workers", "1", "--book"],
+        UNHEARD,
+        0,
+        "1\n--\nend quiet\nactors made 1 left 1\nobjects made 1 left 0\nbook 2 256\ntake 0\ngo 0\ngo 0\ngo 0\ngo 0\ntake 0\ntake 0\ncollect 0\n",
+    ),
+    (
+        &["run", "--workers", "1", "--budget", "3", "--counts"],
+        UNHEARD,
+        5,
+        "--\nend budget\nactors made 1 left 1\nobjects made 1 left 1\nactor 0 count 2 inc 0 dec 0 held 0 letters 2\nobject 0.0 count 2 inc 0 dec 0 held 0 letters 2\n",
+    ),
+    (
+        &[
+            "run",
+            "--workers",
+            "1",
+            "--weight",
+            "2",
+            "--budget",
+            "5",
+            "--counts",
+        ],
+        SENT_TWICE,
+        5,
+        "--\nend budget\nactors made 2 left 2\nobjects made 0 left 0\nactor 0 count 0 inc 0 dec 0 held 0 letters 0\nactor 1 count 2 inc 2 dec 0 held 2 letters 2\n",
+    ),
+    (
+        &["run", "--workers", "1", "--budget", "5", "--counts"],
+        SENT_TWICE,
+        5,
+        "--\nend budget\nactors made 2 left 2\nobjects made 0 left 0\nactor 0 count 0 inc 0 dec 0 held 0 letters 0\nactor 1 count 256 inc 0 dec 0 held 254 letters 2\n",
+    ),
+    (
+        &["run", "--workers", "1", "--trace", "roots"],
+        OPENED,
+        0,
+        "4\n--\nend quiet\nactors made 2 left 1\nobjects made 2 left 0\n",
+    ),
+    (
+        &[
+            "run",
+            "--workers",
+            "1",
+            "--trace",
+            "roots",
+            "--budget",
+            "6",
+            "--counts",
+        ],
+        OPENED,
+        5,
+        "--\nend budget\nactors made 2 left 2\nobjects made 2 left 2\nactor 0 count 1 inc 0 dec 0 held 1 letters 0\nobject 0.0 count 0 inc 256 dec 0 held 256 letters 0\nobject 0.1 count 1 inc 0 dec 0 held 1 letters 0\nactor 1 count 256 inc 0 dec 0 held 256 letters 0\n",
+    ),
+    (
+        &["load", "1", "--workers", "1"],
+        "",
+        0,
+        "1\n--\nend quiet\nactors made 2 left 0\nobjects made 1 left 0\n",
+    ),
+    (
+        &["load", "3", "--workers", "1"],
+        "",
+        0,
+        "3\n--\nend quiet\nactors made 4 left 0\nobjects made 1 left 0\n",
+    ),
+    (
+        &["load", "200", "--workers", "4"],
+        "",
+        0,
+        "200\n--\nend quiet\nactors made 201 left 0\nobjects made 1 left 0\n",
+    ),
+];
+
+#[test]
+fn runs_have_their_reports(rt: HostRuntime) -> Result<(), Fail> {
+    for (i, (words, input, code, written)) in REPORTS.iter().enumerate() {
+        assert!(rt; gives(&rt, *words, *input, *code, *written)?, "at {i}");
+    }
+    Ok(())
+}
+
+// Words, input, how many entries the run book has, and how its text begins and ends.
+const BOOKS: &[(&[&str], &str, u64, &str, &str)] = &[
+    (
+        &[],
+        PASSED,
+        25,
+        "book 2 256\ntake 0\n",
+        "\nleave 1\ncollect 2\ntake 0\ncollect 0\nleave 2\n",
+    ),
+    (
+        &["run", "--weight", "2"],
+        PASSED,
+        25,
+        "book 2 2\ntake 0\n",
+        "\nleave 2\n",
+    ),
+    (&[], PEERS, 25, "book 2 256\ntake 0\n", "\nreap 1\n"),
+    (&[], KEPT, 16, "book 2 256\ntake 0\n", "\nscan\n"),
+    (&[], NAMED, 22, "book 2 256\ntake 0\n", "\ncollect 1\n"),
+    (
+        &["run", "--trace", "roots"],
+        NAMED,
+        19,
+        "book 2 256 roots\ntake 0\n",
+        "\nscan\n",
+    ),
+    (
+        &["run", "--trace", "roots"],
+        OPENED,
+        15,
+        "book 2 256 roots\ntake 0\n",
+        "\n",
+    ),
+    (&["load", "3"], "", 49, "book 2 256\ntake 0\n", "\nreap 1\n"),
+];
+
+/// Whether the book of a call has so many entries, and its text begins and ends so.
+fn has_book<R: AllocGlobal>(
+    rt: &R,
+    words: &[&str],
+    input: &str,
+    length: u64,
+    begins: &str,
+    ends: &str,
+) -> Result<bool, Fail> {
+    let (outcome, _) = answer(rt, words, input)?;
+    let text = outcome.book.text(rt.alloc())?;
+    let is_long = outcome.book.len() == length;
+    Ok(is_long && text.starts_with(begins.as_bytes()) && text.ends_with(ends.as_bytes()))
+}
+
+#[test]
+fn runs_have_their_books(rt: HostRuntime) -> Result<(), Fail> {
+    for (i, (words, input, length, begins, ends)) in BOOKS.iter().enumerate() {
+        assert!(rt;
+            has_book(&rt, *words, *input, *length, *begins, *ends)?,
+            "at {i}"
+        );
+    }
+    Ok(())
+}
+
+/// How a run ends within this budget, if its book is as long as it should be, and its report this.
+fn end_of<R: AllocGlobal>(
+    rt: &R,
+    input: &str,
+    budget: &str,
+    length: u64,
+    written: &str,
+) -> Result<Status, Fail> {
+    let words = ["run", "--budget", budget];
+    let (outcome, sink) = answer(rt, &words, input)?;
+    if outcome.book.len() == length && sink.bytes() == written.as_bytes() {
+        Ok(outcome.status)
+    } else {
+        Err(Fail::from("another book or report"))
+    }
+}
+
+#[test]
+fn a_run_ends_where_all_actors_are_made(rt: HostRuntime) -> Result<(), Fail> {
+    let report = "--\nend actors\nactors made 65536 left 65536\nobjects made 0 left 0\n";
+    let end = end_of(&rt, ONE_LEAF_MORE, "1000000", 262_144, report)?;
+    let actor = ActorName(0);
+    assert!(rt; end == Status::ActorsFull { actor });
+    Ok(())
+}
+
+#[test]
+fn a_run_ends_by_its_budget(rt: HostRuntime) -> Result<(), Fail> {
+    let report = "--\nend budget\nactors made 65536 left 65536\nobjects made 0 left 0\n";
+    let end = end_of(&rt, ALL_LEAVES, "262145", 262_145, report)?;
+    assert!(rt; end == Status::Budget);
+    Ok(())
+}
