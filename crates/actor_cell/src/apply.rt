@@ -207,7 +207,8 @@ impl Cell {
         ensures owner { self.new.heap.owner ≡ self.old.heap.owner }
     {
         let mut turn = Turn::new(alloc);
-        let found = self.found_go(alloc, code, weight, trace, &mut turn)?;
+        let mut found = Turned::new();
+        self.found_go(alloc, code, weight, trace, &mut turn, &mut found)?;
         let room = letter_room(alloc, 1)?;
         self.reserve_go(&turn, &found)?;
         self.apply_go(&turn, &found);

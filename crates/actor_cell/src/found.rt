@@ -41,7 +41,8 @@ impl Cell {
     {
         if self.frame.is_some() {
             let mut turn = Turn::new(alloc);
-            let turned = self.found_go(alloc, code, weight, trace, &mut turn)?;
+            let mut turned = Turned::new();
+            self.found_go(alloc, code, weight, trace, &mut turn, &mut turned)?;
             return Ok(Found::Goes { turn, turned });
         }
         if self.dirty {

@@ -66,31 +66,36 @@ impl Cell {
         made: &[Row],
         to: ActorName,
         behaviour: Name,
-        args: Args,
-    ) -> Result<Move, NoMemory>
+        args: &Args,
+        act: &mut Move,
+    ) -> Result<(), NoMemory>
         ensures { let me = self.now.heap.owner in
             let c = having_made made.now (as_cell self.now) in
-            IfOk result (λ act. act ≡ post_or_mint weight to behaviour args
-            (load_from trace me c.holdings args) (rows_from trace me c args)
-            (lacking_from trace me c.holdings args)) }
+            OnOk result (act.new ≡ post_or_mint weight to behaviour args.now
+            (load_from trace me c.holdings args.now) (rows_from trace me c args.now)
+            (lacking_from trace me c.holdings args.now)) }
     {
-        let load = self.load(alloc, trace, made, &args)?;
+        let load = self.load(alloc, trace, made, args)?;
         match self.minting(alloc, weight, &load)? {
-            Some(minted) => Ok(Move::Mint {
-                owner: minted.0,
-                things: minted.1,
-            }),
+            Some(minted) => {
+                *act = Move::Mint {
+                    owner: minted.0,
+                    things: minted.1,
+                };
+                Ok(())
+            }
             None => {
-                let rows = self.carried(alloc, trace, made, &args)?;
-                Ok(Move::Post {
+                let rows = self.carried(alloc, trace, made, args)?;
+                *act = Move::Post {
                     to,
                     letter: Letter::App {
                         behaviour,
-                        args,
+                        args: *args,
                         load,
                         rows,
                     },
-                })
+                };
+                Ok(())
             }
         }
     }
@@ -103,11 +108,12 @@ impl Cell {
         trace: Trace,
         turn: &Turn,
         deed: &Deed<'_>,
-    ) -> Result<Move, NoMemory>
+        act: &mut Move,
+    ) -> Result<(), NoMemory>
         requires { FitsRegister (act_of deed.now turn.now) }
         ensures { let me = self.now.heap.owner in
             let c = having_made turn.now.made (as_cell self.now) in
-            IfOk result (λ act. act ≡ move_by trace weight me c (act_of deed.now turn.now)) }
+            OnOk result (act.new ≡ move_by trace weight me c (act_of deed.now turn.now)) }
     {
         match *deed {
             Deed::Post {
@@ -116,31 +122,42 @@ impl Cell {
                 values,
             } => {
                 let args = turn.gather(values.as_slice());
-                self.posting(alloc, weight, trace, turn.made(), to, behaviour, args)
+                self.posting(alloc, weight, trace, turn.made(), to, behaviour, &args, act)
             }
-            Deed::New { kind, into } => Ok(Move::New {
-                kind,
-                register: into as u8,
-            }),
-            Deed::Print { register } => Ok(Move::Print {
-                value: turn.value(register),
-            }),
-            Deed::End => Ok(Move::End),
+            Deed::New { kind, into } => {
+                let register = into as u8;
+                *act = Move::New { kind, register };
+                Ok(())
+            }
+            Deed::Print { register } => {
+                let value = turn.value(register);
+                *act = Move::Print { value };
+                Ok(())
+            }
+            Deed::End => {
+                *act = Move::End;
+                Ok(())
+            }
         }
     }
 
     // What it mints before its turn can get this thing.
-    fn needing(&self, alloc: Global, weight: u32, thing: &Thing) -> Result<Move, NoMemory>
+    fn needing(
+        &self,
+        alloc: Global,
+        weight: u32,
+        thing: &Thing,
+        act: &mut Move,
+    ) -> Result<(), NoMemory>
         ensures { let h = (as_cell self.now).holdings in
             let things = to_need weight self.now.heap.owner h thing.now in
-            IfOk result (λ act. act ≡ mint (owner_of thing.now) things) }
+            OnOk result (act.new ≡ mint (owner_of thing.now) things) }
     {
         let lacked = missing(alloc, thing, self.heap.owner(), &self.foreign)?;
         let things = amounts_of(alloc, lacked.as_slice(), weight)?;
-        Ok(Move::Mint {
-            owner: thing.owner(),
-            things,
-        })
+        let owner = thing.owner();
+        *act = Move::Mint { owner, things };
+        Ok(())
     }
 
     // The table in which it finds the rows of others' objects.
@@ -194,10 +211,10 @@ impl Cell {
         }
     }
 
-    /// Evaluates its turn: what this leaves stands in `turn` then.
+    /// Evaluates its turn: what this leaves stands in `turn` then, and what was found of it in `found`.
     ///
     /// # Errors
-    /// `NoMemory` where memory was refused; what `turn` holds then is left open.
+    /// `NoMemory` where memory was refused; what `turn` and `found` hold then is left open.
     pub fn found_go(
         &self,
         alloc: Global,
@@ -205,13 +222,14 @@ impl Cell {
         weight: u32,
         trace: Trace,
         turn: &mut Turn,
-    ) -> Result<Turned, NoMemory>
+        found: &mut Turned,
+    ) -> Result<(), NoMemory>
         requires running { IsSome self.now.frame }
         requires serials { self.now.heap.next + 1024 < 2 ^ 64 }
         ensures found { let me = self.now.heap.owner in
             let its_turn = turned_in trace weight code.now me (as_cell self.now) in
-            IfOk result (λ found. option_map its_turn self.now.frame
-            ≡ Some (record { turn = turn.new; place = found.place; act = found.act })) }
+            OnOk result (option_map its_turn self.now.frame
+            ≡ Some (record { turn = turn.new; place = found.new.place; act = found.new.act })) }
         ensures few { OnOk result (length turn.new.made ≤ 1024) }
     {
         let Some(frame) = self.frame.get() else {
@@ -221,22 +239,14 @@ impl Cell {
         let _program = code.program();
         match self.run_turn(code, trace, frame, turn) {
             Ok(halt) => match halt {
-                Halt::Stops(stop) => match self.move_of(alloc, weight, trace, turn, &stop.deed) {
-                    Ok(act) => Ok(Turned {
-                        place: stop.place,
-                        act,
-                    }),
-                    Err(e) => Err(e),
-                },
+                Halt::Stops(stop) => {
+                    found.place = stop.place;
+                    self.move_of(alloc, weight, trace, turn, &stop.deed, &mut found.act)
+                }
                 Halt::Needs(thing) => {
                     turn.begin(&frame.registers, &self.fields);
-                    match self.needing(alloc, weight, &thing) {
-                        Ok(act) => Ok(Turned {
-                            place: frame.place,
-                            act,
-                        }),
-                        Err(e) => Err(e),
-                    }
+                    found.place = frame.place;
+                    self.needing(alloc, weight, &thing, &mut found.act)
                 }
             },
             Err(e) => Err(e),

@@ -20,6 +20,17 @@ pub struct Sweep {
 }
 
 impl Sweep {
+    /// Nothing is freed, given back or forgotten. It takes no memory.
+    pub fn new(alloc: Global) -> Sweep {
+        Sweep {
+            plan: SweepPlan {
+                free: Listed::new(alloc),
+                back: Listed::new(alloc),
+            },
+            unused: Listed::new(alloc),
+        }
+    }
+
     /// Room for the letters that return what it gives back.
     ///
     /// # Errors

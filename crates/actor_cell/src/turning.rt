@@ -26,11 +26,21 @@ pub enum Move {
 }
 
 /// What was found of an actor's turn, beside what the turn itself left: the place where it stopped,
-/// and what the actor does there.
+/// and what the actor does there. It is room that serves again for the next turn.
 #[derive(Debug, Drop)]
 pub struct Turned {
     pub place: u32,
     pub act: Move,
+}
+
+impl Turned {
+    /// Room for what is found of a turn. It takes no memory.
+    pub fn new() -> Turned {
+        Turned {
+            place: 0,
+            act: Move::End,
+        }
+    }
 }
 
 impl Move {

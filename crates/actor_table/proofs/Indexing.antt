@@ -28,10 +28,10 @@ module _ {A : Type 0} (has : A → Bool) where
       ]
 
   -- the element at a place, by a default
-  at_within : (xs : List A) (k : ℕ) (d : A) → k < length xs → option_map_or has (slice_get xs k) false ≡ has (get_or xs k d)
+  pub at_within : (xs : List A) (k : ℕ) (d : A) → k < length xs → option_map_or has (slice_get xs k) false ≡ has (get_or xs k d)
   at_within xs k d h = ap (λ o. option_map_or has o false) (slice_get-get_or xs k d h)
 
-  at_past : (xs : List A) (k : ℕ) → length xs ≤ k → option_map_or has (slice_get xs k) false ≡ false
+  pub at_past : (xs : List A) (k : ℕ) → length xs ≤ k → option_map_or has (slice_get xs k) false ≡ false
   at_past xs k h = ap (λ o. option_map_or has o false) (slice_get_past xs k h)
 
   -- one element changes, and its place with it

@@ -1,2 +1,3 @@
 pub mod Changing
 pub mod Indexing
+pub mod Nexts

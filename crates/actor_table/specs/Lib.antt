@@ -1,4 +1,5 @@
 pub mod Changes
 pub mod Codes
 pub mod Index
+pub mod Rounds
 pub mod Slots

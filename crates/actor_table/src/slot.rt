@@ -348,6 +348,7 @@ pub(crate) fn block(slot: &mut Slot)
 }
 
 /// One letter more, if the actor is present.
+#[inline(always)]
 pub(crate) fn push_letter(slot: &mut Slot, letter: Letter)
     requires { is_some (seat_of slot.old) ≡ true → 0 < slot.old.mail.spare }
     ensures seat { seat_of slot.new ≡ with_letter_more letter (seat_of slot.old) }

@@ -117,6 +117,7 @@ pub(crate) fn block_at(slots: &mut Vec<Slot>, a: usize)
 
 /// A letter for the actor, if it is present.
 #[tactic(auto, using(crate::proofs::Changing::actors_set, crate::proofs::Changing::away_kept, crate::proofs::Changing::seat_read, crate::proofs::Changing::room_kept))]
+#[inline(always)]
 pub(crate) fn push_at(slots: &mut Vec<Slot>, a: usize, letter: Letter)
     requires within { a < length slots.old.items }
     requires room { is_some (seat_at (actors_of slots.old.items) a) ≡ true

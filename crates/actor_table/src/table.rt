@@ -11,8 +11,11 @@ ghost use Rattle.orca_names.specs.declared.limits.TheConstants.{ACTORS_LIMIT};
 ghost use Rattle.actor_table.specs.declared.slot.Place.TheVariants.{Home};
 ghost use Rattle.actor_cell.specs.Sweeps.{sweep_of, swept};
 ghost use Rattle.actor_table.specs.Changes.{CanCollectHere, CanGoHere, CanSettleNew, CanTakeHere, HasCell, HasRoomToGo, HasRoomToTake, KeepsRoom, changed_at, moved, note_taken, taken, told, with_cell_by};
+ghost use Rattle.ready_set.specs.Next.{IsNext};
+ghost use Rattle.actor_table.specs.Rounds.{IsNextThat, has_event};
 ghost use Rattle.actor_table.specs.Slots.{actors_of, away_of, can_act, can_settle, event_of, home_of, is_away, letters_in, mail_of, may_at, places_of, slot_at};
 
+use crate::rounds::Round;
 use crate::slot::{
     Place, Slot, can_act, can_block, can_collect, can_leave, can_settle, can_take, cell_of,
     is_away, is_present, mail_of, next_event,
@@ -57,6 +60,16 @@ impl Model for ActorTable {
     } };
 
     ghost invariant = { λ t. AreIndexed t.slots.items t.acting t.settling };
+}
+
+// The first actor from this one on that is in the set.
+fn next_ready(ready: &ReadySet, from: ActorName) -> Option<ActorName>
+    ensures { IsNext ready.now from result }
+{
+    match ready.next(from.0) {
+        Some(a) => Some(ActorName(a)),
+        None => None,
+    }
 }
 
 impl ActorTable {
@@ -188,6 +201,18 @@ impl ActorTable {
         match self.settling.first() {
             Some(a) => Some(ActorName(a)),
             None => None,
+        }
+    }
+
+    /// The first actor from this one on that has an event in the round; `None` where none has.
+    pub fn next_in(&self, round: Round, from: ActorName) -> Option<ActorName>
+        ensures next { IsNextThat (λ a. has_event round (slot_at self.now.slots a)) from result }
+        ensures made { IfSome result (λ a. a < length self.now.slots) }
+        ensures few { IfSome result (λ a. a < ACTORS_LIMIT) }
+    {
+        match round {
+            Round::Acting => next_ready(&self.acting, from),
+            Round::Settling => next_ready(&self.settling, from),
         }
     }
 
@@ -355,6 +380,7 @@ impl ActorTable {
 
     /// A letter for an actor; where this is gone, the letter is lost.
     #[tactic(auto, using(crate::proofs::Changing::lost_past))]
+    #[inline(always)]
     pub fn push_letter(&mut self, to: ActorName, letter: Letter)
         requires { is_some (seat_at (actors_of self.old.slots) to) ≡ true
             → 0 < (slot_at self.old.slots to).mail.spare }

@@ -82,7 +82,7 @@ pub runs_have_room : RunsHaveRoom
 runs_have_room program options book t short = record {
   objects = λ good. let few = runs_make_few_objects program options book t good short.run in let long = short.short in omega arith;
   actors = runs_make_few program options book t short.run;
-  tokens = let opened = runs_open program options book t short.run in let long = short.short in omega arith;
+  tokens = λ room. let opened = runs_open program options book t short.run in omega arith;
 }
 
 -- an actor made no more objects than all actors did

@@ -23,10 +23,9 @@ use Rattle.machine_laws.specs.AllFacts.{AllFacts}
 use Rattle.machine_laws.specs.Bounds.{OfEachCount}
 use Rattle.cell_laws.specs.Runs.{IsShortRun}
 
-weight_fits : (n weight k : ℕ) → n < 100000000 → weight ≤ 65536 → k ≤ n * weight → k + weight < 2 ^ 43
+weight_fits : (n weight k : ℕ) → n ≤ 100000000 → weight ≤ 65536 → k ≤ n * weight → k + weight < 2 ^ 43
 weight_fits n weight k short light most =
-    let few : n ≤ 99999999 = omega arith in
-    let product : n * weight ≤ 99999999 * 65536 = mul-le-mul few light in
+    let product : n * weight ≤ 100000000 * 65536 = mul-le-mul short light in
     omega arith
 
 module _ (program : Program) (options : Options) (book : List Event) (t : State) (short : IsShortRun program options book t) where

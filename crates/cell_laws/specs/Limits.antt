@@ -25,16 +25,16 @@ RunsMakeFewObjects =
     (program : Program) (options : Options) (book : List Event) (t : State)
     → IsWellFormed program → IsRun program options book t → t.objects ≤ BODY_LIMIT * length book
 
--- so there is room for those of one event more, and for a token more
-pub record HasRoom (program : Program) (t : State) : Type 0 where
+-- so there is room for those of one event more, and for a token more where the book has room for that event
+pub record HasRoom (program : Program) (book : List Event) (t : State) : Type 0 where
   pub objects : IsWellFormed program → t.objects + BODY_LIMIT < 2 ^ 64
   pub actors : length t.actors ≤ ACTORS_LIMIT
-  pub tokens : t.detector.opened < BOOK_LIMIT
+  pub tokens : length book < BOOK_LIMIT → t.detector.opened < BOOK_LIMIT
 
 abbrev pub RunsHaveRoom : Type 0
 RunsHaveRoom =
     (program : Program) (options : Options) (book : List Event) (t : State)
-    → IsShortRun program options book t → HasRoom program t
+    → IsShortRun program options book t → HasRoom program book t
 
 -- and for the serials of an actor's objects
 abbrev pub RunsHaveSerials : Type 0

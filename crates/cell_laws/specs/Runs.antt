@@ -10,12 +10,12 @@ use Rattle.machine_rules.specs.Run.{IsRun}
 use Rattle.machine_rules.specs.State.{State}
 use Rattle.orca_names.specs.declared.limits.TheConstants.{BOOK_LIMIT}
 
--- an increment is at least 1 and at most 65,536, and the book has room for one event more
+-- an increment is at least 1 and at most 65,536, and the book is no longer than it may be
 pub record IsShortRun (program : Program) (options : Options) (book : List Event)
     (t : State) : Type 0 where
   pub heavy : 0 < options.weight
   pub light : options.weight ≤ 65536
-  pub short : length book < BOOK_LIMIT
+  pub short : length book ≤ BOOK_LIMIT
   pub run : IsRun program options book t
 
 -- something holds of each actor that is present after such a run

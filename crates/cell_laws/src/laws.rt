@@ -6,7 +6,7 @@ ghost use Rattle.cell_laws.specs.Limits.{RunsHaveRoom, RunsHaveSerials, RunsKeep
 ghost use Rattle.cell_laws.specs.Reaps.{TheAcknowledgedAreDone};
 ghost use Rattle.cell_laws.specs.Takes.{RunsAllowTakes};
 
-/// After a run of fewer than 100,000,000 events with a weight of 1 to 65,536, each actor's counts
+/// After a run of at most 100,000,000 events with a weight of 1 to 65,536, each actor's counts
 /// allow its next letter, with either tracing: of a load each own thing is counted, each decrement
 /// takes what is there, and no count comes to 2^43.
 pub fn counts_allow_takes()
@@ -32,7 +32,7 @@ pub fn others_alone_are_held()
 
 /// A run of n events made at most 1,024 n objects, where the program is well formed. So the objects
 /// and the serials of one event more are below 2^64. There are at most 65,536 actors, and fewer than
-/// 100,000,000 tokens were opened.
+/// 100,000,000 tokens were opened where the run has fewer events.
 pub fn runs_have_room()
     ensures objects { RunsMakeFewObjects }
     ensures room { RunsHaveRoom }

@@ -14,6 +14,9 @@ ghost use Rattle.foreign_table.specs.Entry.{key_of};
 use orca_names::{ObjName, Thing};
 use ref_weights::Held;
 
+// Among so few things one is found soonest by looking at them in turn.
+const FEW: usize = 8;
+
 /// A thing of another actor, and what is held on it. Its row stands at the same place in a list of
 /// rows.
 #[derive(Clone, Copy, Debug, PartialEq, Eq)]
@@ -60,8 +63,20 @@ fn stands_at(held: &[Entry], place: usize, thing: &Thing) -> bool
     held[place].thing == *thing
 }
 
+// Where the thing stands among few, and their number where it does not.
+fn look(held: &[Entry], thing: &Thing) -> usize {
+    let mut place = 0;
+    while place < held.len() {
+        if held[place].thing == *thing {
+            return place;
+        }
+        place += 1;
+    }
+    place
+}
+
 // Where an object of the last thing's owner stands if no serial between is missing.
-fn guess(held: &[Entry], n: &ObjName) -> usize {
+fn place_by_serial(held: &[Entry], n: &ObjName) -> usize {
     let Some(last) = held.last() else {
         return 0;
     };
@@ -70,6 +85,17 @@ fn guess(held: &[Entry], n: &ObjName) -> usize {
     };
     let behind = m.serial.get().wrapping_sub(n.serial.get());
     held.len().wrapping_sub(1).wrapping_sub(behind as usize)
+}
+
+// Where the thing is likely to stand.
+fn guess(held: &[Entry], thing: &Thing) -> usize {
+    if held.len() <= FEW {
+        return look(held, thing);
+    }
+    match thing {
+        Thing::Actor(_) => 0,
+        Thing::Obj(n) => place_by_serial(held, n),
+    }
 }
 
 // The first place whose thing does not come before this one, by halves.
@@ -100,11 +126,9 @@ pub(crate) fn place_of(held: &[Entry], thing: Thing) -> Result<usize, usize>
     ensures { MatchResult result (IsAt thing_cmp (map key_of held.now) thing)
         (IsGap thing_cmp (map key_of held.now) thing) }
 {
-    if let Thing::Obj(n) = &thing {
-        let near = guess(held, n);
-        if stands_at(held, near, &thing) {
-            return Ok(near);
-        }
+    let near = guess(held, &thing);
+    if stands_at(held, near, &thing) {
+        return Ok(near);
     }
     let place = first_from(held, &thing);
     if stands_at(held, place, &thing) {

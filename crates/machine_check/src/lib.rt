@@ -3,6 +3,10 @@
 #![tactic(auto)]
 
 #[cfg(test)]
+mod both_tests;
+#[cfg(test)]
 mod plain_tests;
+#[cfg(test)]
+mod programs;
 #[cfg(test)]
 mod tests;

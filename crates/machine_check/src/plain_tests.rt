@@ -1,5 +1,6 @@
 // The machine that frees nothing, driven event by event over checked texts.
 
+use crate::programs::SEVEN;
 use behaviour_check::{Checked, check};
 use behaviour_text::parse;
 use event_rule::Event;
@@ -11,8 +12,6 @@ use std::test::Fail;
 const MAIN: ActorName = ActorName(0);
 
 const CELL: ActorName = ActorName(1);
-
-const SEVEN: &str = "kind Main 0\non start 0\nint r0 7\nprint r0\nend\n";
 
 // Two letters to a cell, which keeps the object of the first one and prints what came.
 const TWO_LETTERS: &str =
@@ -26,7 +25,8 @@ fn first_object() -> ObjName {
     }
 }
 
-fn checked(alloc: Global, text: &str) -> Result<Checked, Fail> {
+/// The program of a text.
+pub(crate) fn checked(alloc: Global, text: &str) -> Result<Checked, Fail> {
     if text.len() > 4096 {
         return Err(Fail::from("a long text"));
     }

@@ -2,23 +2,13 @@
 
 ghost use Rattle.orca_core.specs.Machine.{NoneIsAway};
 
-use behaviour_check::{Checked, check};
-use behaviour_text::parse;
+use crate::plain_tests::checked;
+use crate::programs::{OPENED, PING, SEVEN};
 use event_rule::Event;
 use orca_core::{Orca, StepFault};
 use orca_names::{ActorName, Trace, Value};
 use std::alloc::Global;
 use std::test::Fail;
-
-// Two peers that hold each other; one of them pokes, and the other prints.
-const PEERS: &str =
-    "kind Main 0\non start 0\nnew r0 Peer\nnew r1 Peer\nsend r1 meet r0\nsend r0 meet r1\nsend r0 poke\nend\nkind Peer 1\non meet 1\nstore f0 r0\nend\non poke 0\nload r0 f0\nsend r0 ping\nend\non ping 0\nint r0 1\nprint r0\nend\n";
-
-const SEVEN: &str = "kind Main 0\non start 0\nint r0 7\nprint r0\nend\n";
-
-// A letter that names an object, whose row names another one.
-const OPENED: &str =
-    "kind Main 0\non start 0\npin\nnew r0 A\nint r1 4\nrow r2 r1\nrow r3 r2\nsend r0 open r3\nend\nkind A 0\non open 1\nget r1 r0 0\nget r2 r1 0\nprint r2\nend\n";
 
 const TAKE: u8 = 0;
 
@@ -36,57 +26,113 @@ const SCAN: u8 = 6;
 
 const REAP: u8 = 7;
 
-// The events of its run, to the reap of both peers; then the first actor leaves.
-const EVENTS: &[(u8, u32)] = &[
-    (TAKE, 0),
-    (GO, 0),
-    (GO, 0),
-    (GO, 0),
-    (GO, 0),
-    (GO, 0),
-    (GO, 0),
-    (COLLECT, 0),
-    (TAKE, 2),
-    (GO, 2),
-    (TAKE, 2),
-    (COLLECT, 2),
-    (BLOCK, 2),
-    (TAKE, 1),
-    (GO, 1),
-    (TAKE, 1),
-    (GO, 1),
-    (GO, 1),
-    (TAKE, 1),
-    (COLLECT, 1),
-    (BLOCK, 1),
-    (HEAR, 0),
-    (HEAR, 0),
-    (SCAN, 0),
-    (TAKE, 1),
-    (TAKE, 2),
-    (HEAR, 0),
-    (HEAR, 0),
-    (GO, 2),
-    (GO, 2),
-    (TAKE, 2),
-    (COLLECT, 2),
-    (BLOCK, 2),
-    (HEAR, 0),
-    (SCAN, 0),
-    (TAKE, 1),
-    (TAKE, 2),
-    (HEAR, 0),
-    (HEAR, 0),
-    (REAP, 2),
-    (LEAVE, 0),
+/// What is expected of an event.
+#[derive(Clone, Copy)]
+enum Want {
+    /// It is not enabled.
+    Refused,
+    /// It is done.
+    Done,
+    /// It is done, and this is the lowest actor that it wakes.
+    Wakes(u32),
+    /// It is done, and wakes none.
+    WakesNone,
+}
+
+use Want::{Done, Refused, Wakes, WakesNone};
+
+// A run of the program that pokes. Each peer reports; one acknowledges the first token, and the letter
+// that waits for the other cancels it. Neither may leave then. The second token takes both.
+const TO_THE_REAP: &[(u8, u32, Want)] = &[
+    (TAKE, 0, WakesNone),
+    (GO, 0, Wakes(1)),
+    (GO, 0, Wakes(2)),
+    (GO, 0, Wakes(2)),
+    (GO, 0, Wakes(1)),
+    (GO, 0, Wakes(1)),
+    (GO, 0, WakesNone),
+    (COLLECT, 0, Wakes(1)),
+    (TAKE, 2, Done),
+    (GO, 2, Done),
+    (TAKE, 2, Done),
+    (COLLECT, 2, Done),
+    (BLOCK, 2, Done),
+    (TAKE, 1, Done),
+    (GO, 1, Done),
+    (TAKE, 1, Done),
+    (GO, 1, Done),
+    (GO, 1, Done),
+    (TAKE, 1, Done),
+    (COLLECT, 1, Done),
+    (BLOCK, 1, Done),
+    (HEAR, 0, Done),
+    (HEAR, 0, Done),
+    (SCAN, 0, Done),
+    (TAKE, 1, Done),
+    (TAKE, 2, Done),
+    (HEAR, 0, Done),
+    (HEAR, 0, Done),
+    (LEAVE, 1, Refused),
+    (LEAVE, 2, Refused),
+    (REAP, 1, Refused),
+    (GO, 2, Done),
+    (GO, 2, Done),
+    (TAKE, 2, Done),
+    (COLLECT, 2, Done),
+    (BLOCK, 2, Done),
+    (HEAR, 0, Done),
+    (SCAN, 0, Done),
+    (TAKE, 1, Done),
+    (TAKE, 2, Done),
+    (HEAR, 0, Done),
+    (HEAR, 0, Done),
+    (REAP, 1, Refused),
+    (REAP, 2, Done),
 ];
 
-fn checked(alloc: Global, text: &str) -> Result<Checked, Fail> {
-    if text.len() > 4096 {
-        return Err(Fail::from("a long text"));
-    }
-    Ok(check(parse(alloc, text.as_bytes())?)?)
-}
+// After that the first actor leaves, and nothing can happen.
+const BY_LEAVING: &[(u8, u32, Want)] = &[
+    (LEAVE, 0, Done),
+    (LEAVE, 0, Refused),
+    (BLOCK, 0, Refused),
+];
+
+// Or it goes by a token of its own.
+const BY_A_TOKEN: &[(u8, u32, Want)] = &[
+    (BLOCK, 0, Done),
+    (HEAR, 0, Done),
+    (SCAN, 0, Done),
+    (TAKE, 0, Done),
+    (HEAR, 0, Done),
+    (REAP, 3, Done),
+];
+
+// Before its first letter is taken, the program that prints can do nothing else; and it can't take that
+// twice.
+const FIRST: &[(u8, u32, Want)] = &[
+    (GO, 0, Refused),
+    (COLLECT, 0, Refused),
+    (LEAVE, 0, Refused),
+    (BLOCK, 0, Refused),
+    (HEAR, 0, Refused),
+    (SCAN, 0, Refused),
+    (REAP, 1, Refused),
+    (TAKE, 1, Refused),
+    (TAKE, 0, WakesNone),
+    (TAKE, 0, Refused),
+];
+
+// With root-only tracing what a row gives is minted first.
+const MINTED: &[(u8, u32, Want)] = &[
+    (TAKE, 0, Done),
+    (GO, 0, Done),
+    (GO, 0, Done),
+    (GO, 0, Done),
+    (TAKE, 1, Done),
+    (GO, 1, Wakes(0)),
+    (TAKE, 0, Done),
+    (GO, 1, Done),
+];
 
 fn event(kind: u8, number: u32) -> Event {
     let actor = ActorName(number);
@@ -102,100 +148,137 @@ fn event(kind: u8, number: u32) -> Event {
     }
 }
 
-/// Does this event, if the machine is young enough.
-fn does(alloc: Global, machine: &mut Orca<'_>, event: Event) -> Result<(), StepFault>
+/// Does this event, if the machine is young enough, and tells the lowest actor that it woke.
+fn does(alloc: Global, machine: &mut Orca<'_>, event: Event) -> Result<Option<ActorName>, StepFault>
     requires { NoneIsAway machine.old }
     ensures { NoneIsAway machine.new }
 {
     if machine.steps() > 1000 {
         return Err(StepFault::NoMemory);
     }
-    machine.step(alloc, event)?;
-    Ok(())
+    machine.step(alloc, event)
 }
 
-/// Does these events, each of which is to be enabled.
-fn run(alloc: Global, machine: &mut Orca<'_>, events: &[(u8, u32)]) -> Result<(), Fail>
+/// Whether an event has the answer that is expected.
+fn answers_so(alloc: Global, machine: &mut Orca<'_>, kind: u8, number: u32, want: Want) -> bool
     requires { NoneIsAway machine.old }
     ensures { NoneIsAway machine.new }
 {
-    for (kind, number) in events {
-        does(alloc, machine, event(*kind, *number))?;
+    let told = does(alloc, machine, event(kind, number));
+    match want {
+        Refused => told == Err(StepFault::NotEnabled),
+        Done => told.is_ok(),
+        Wakes(actor) => told == Ok(Some(ActorName(actor))),
+        WakesNone => told == Ok(None),
+    }
+}
+
+/// Does these events, each of which is to have the answer that is expected.
+fn run(alloc: Global, machine: &mut Orca<'_>, events: &[(u8, u32, Want)]) -> Result<(), Fail>
+    requires { NoneIsAway machine.old }
+    ensures { NoneIsAway machine.new }
+{
+    for (kind, number, want) in events {
+        if !answers_so(alloc, machine, *kind, *number, *want) {
+            return Err(Fail::from("another answer"));
+        }
     }
     Ok(())
 }
 
-/// What is printed by these events of a program, and how many actors, objects and events there are.
+/// What the machine printed, and how many actors, objects and events there were, how many things are
+/// left, and whether it is quiet.
+fn seen(alloc: Global, machine: &Orca<'_>) -> Result<(Vec<Value>, [u64; 4], bool), Fail>
+    requires { NoneIsAway machine.now }
+{
+    let prints = machine.prints().to_vec(alloc)?;
+    let left = machine.left(alloc)?.len() as u64;
+    let numbers = [
+        machine.made(),
+        machine.objects_made(),
+        machine.steps(),
+        left,
+    ];
+    Ok((prints, numbers, machine.quiet()))
+}
+
+/// What is seen of a program after these events and then those.
 fn after(
     alloc: Global,
     text: &str,
     trace: Trace,
-    events: &[(u8, u32)],
-) -> Result<(Vec<Value>, [u64; 3]), Fail> {
+    events: &[(u8, u32, Want)],
+    further: &[(u8, u32, Want)],
+) -> Result<(Vec<Value>, [u64; 4], bool), Fail> {
     let code = checked(alloc, text)?;
     let mut machine = Orca::start(alloc, &code, 256, trace)?;
     run(alloc, &mut machine, events)?;
-    let prints = machine.prints().to_vec(alloc)?;
-    Ok((
-        prints,
-        [machine.made(), machine.objects_made(), machine.steps()],
-    ))
+    run(alloc, &mut machine, further)?;
+    seen(alloc, &machine)
 }
 
 #[test]
-fn two_peers_are_reaped_and_their_maker_leaves(rt: HostRuntime) -> Result<(), Fail> {
-    let (prints, numbers) = after(rt.alloc(), PEERS, Trace::Deep, EVENTS)?;
-    assert_eq!(rt; prints.as_slice(), [Value::Num(1)].as_slice());
-    assert_eq!(rt; numbers, [3, 0, 41]);
+fn two_peers_are_reaped_and_their_maker_goes(rt: HostRuntime) -> Result<(), Fail> {
+    for (further, steps) in [(BY_LEAVING, 41), (BY_A_TOKEN, 46)] {
+        let (prints, numbers, quiet) = after(rt.alloc(), PING, Trace::Deep, TO_THE_REAP, further)?;
+        assert_eq!(rt; prints.as_slice(), [Value::Num(1)].as_slice());
+        assert_eq!(rt; numbers, [3, 0, steps, 0]);
+        assert!(rt; quiet);
+    }
+    Ok(())
+}
+
+#[test]
+fn events_that_are_not_enabled_change_nothing(rt: HostRuntime) -> Result<(), Fail> {
+    let (prints, numbers, quiet) = after(rt.alloc(), SEVEN, Trace::Deep, FIRST, &[])?;
+    assert!(rt; prints.is_empty() && !quiet);
+    assert_eq!(rt; numbers, [1, 0, 1, 1]);
     Ok(())
 }
 
 #[test]
 fn what_a_row_gives_is_minted_first(rt: HostRuntime) -> Result<(), Fail> {
-    let events = [
-        (TAKE, 0),
-        (GO, 0),
-        (GO, 0),
-        (GO, 0),
-        (TAKE, 1),
-        (GO, 1),
-        (TAKE, 0),
-        (GO, 1),
-    ];
-    let (prints, numbers) = after(rt.alloc(), OPENED, Trace::Roots, &events)?;
+    let (prints, numbers, quiet) = after(rt.alloc(), OPENED, Trace::Roots, MINTED, &[])?;
     assert_eq!(rt; prints.as_slice(), [Value::Num(4)].as_slice());
-    assert_eq!(rt; numbers, [2, 2, 8]);
+    assert_eq!(rt; numbers, [2, 2, 8, 4]);
+    assert!(rt; !quiet);
     Ok(())
 }
 
-/// Whether this event is refused as not enabled.
-fn is_refused(alloc: Global, machine: &mut Orca<'_>, kind: u8, number: u32) -> bool
-    requires { NoneIsAway machine.old }
-    ensures { NoneIsAway machine.new }
-{
-    does(alloc, machine, event(kind, number)) == Err(StepFault::NotEnabled)
+/// Whether an actor has its event, none while its cell is lent, and is there all the time.
+fn lends(machine: &mut Orca<'_>, a: ActorName, e: &Event) -> bool {
+    let before = machine.enabled(*e) && machine.next_of(a) == Some(*e);
+    let lent = machine.lift(a).is_some();
+    let none = !machine.enabled(*e) && machine.next_of(a).is_none() && machine.cell(a).is_none();
+    before && lent && none && machine.lives(a)
 }
 
 #[test]
-fn events_that_are_not_enabled_are_refused(rt: HostRuntime) -> Result<(), Fail> {
-    let alloc = rt.alloc();
-    let code = checked(alloc, SEVEN)?;
-    let mut machine = Orca::start(alloc, &code, 256, Trace::Deep)?;
-    let refused = [
-        (GO, 0),
-        (COLLECT, 0),
-        (LEAVE, 0),
-        (BLOCK, 0),
-        (HEAR, 0),
-        (SCAN, 0),
-        (REAP, 1),
-        (TAKE, 1),
-    ];
-    for (kind, number) in &refused {
-        assert!(rt; is_refused(alloc, &mut machine, *kind, *number));
+fn a_lent_cell_has_no_event(rt: HostRuntime) -> Result<(), Fail> {
+    let code = checked(rt.alloc(), SEVEN)?;
+    let mut machine = Orca::start(rt.alloc(), &code, 256, Trace::Deep)?;
+    assert!(rt; lends(&mut machine, ActorName(0), &event(TAKE, 0)));
+    Ok(())
+}
+
+/// Whether an event is done as it was prepared, and not before.
+fn does_prepared(alloc: Global, machine: &mut Orca<'_>, e: Event) -> Result<bool, StepFault>
+    requires { NoneIsAway machine.old }
+{
+    let steps = machine.steps();
+    if steps > 1000 {
+        return Err(StepFault::NoMemory);
     }
-    run(alloc, &mut machine, &[(TAKE, 0)])?;
-    assert!(rt; is_refused(alloc, &mut machine, TAKE, 0));
-    assert_eq!(rt; machine.steps(), 1);
+    let ready = machine.prepare(alloc, e)?;
+    let waits = machine.steps() == steps && machine.enabled(e);
+    machine.apply_ready(alloc, ready);
+    Ok(waits && machine.steps() == steps + 1 && !machine.enabled(e))
+}
+
+#[test]
+fn what_was_prepared_is_done(rt: HostRuntime) -> Result<(), Fail> {
+    let code = checked(rt.alloc(), SEVEN)?;
+    let mut machine = Orca::start(rt.alloc(), &code, 256, Trace::Deep)?;
+    assert!(rt; does_prepared(rt.alloc(), &mut machine, event(TAKE, 0))?);
     Ok(())
 }

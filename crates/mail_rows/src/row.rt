@@ -54,6 +54,7 @@ impl MailRow {
     }
 
     /// One letter more, behind the others. It takes no memory.
+    #[inline(always)]
     pub fn push(&mut self, letter: Letter)
         requires { 1 ≤ self.old.spare }
         ensures letters { self.new.letters ≡ self.old.letters ++ letter ∷ [] }

@@ -4,7 +4,7 @@ use Rattle.std.specs.Prelude.{if◌then◌else◌, is_some}
 use Rattle.std.proofs.lemmas.Bool.Decides.{nat_tests}
 use Rattle.actor_table.specs.Changes.{KeepsRoom}
 use Rattle.actor_table.specs.declared.slot.Slot.{Slot}
-use Rattle.actor_table.specs.Slots.{actors_of, away_of, is_away_in, letters_in, places_of, seat_in, slot_at}
+use Rattle.actor_table.specs.Slots.{actors_of, slot_at}
 use Rattle.letter_kinds.specs.declared.letter.Letter.{Letter}
 use Rattle.machine_rules.specs.Actors.{seat_at}
 use Rattle.orca_core.specs.Letters.{FitLetters, letters_to}

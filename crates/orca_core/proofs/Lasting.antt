@@ -1,7 +1,6 @@
 -- What every run keeps holds of the machine.
-use Rattle.std.proofs.Common.{◌≡◌, ◌≤◌, ◌<◌, [], List, refl, sym, subst, arith}
+use Rattle.std.proofs.Common.{◌≡◌, ◌<◌, [], List, refl, sym, subst, arith}
 use Rattle.std.proofs.lemmas.List.{append-nil}
-use Rattle.orca_names.specs.declared.limits.TheConstants.{BOOK_LIMIT}
 use Rattle.orca_names.specs.declared.trace.Trace.{Trace}
 use Rattle.orca_names.specs.declared.trace.Trace.TheVariants.{Deep, Roots}
 use Rattle.behaviour_code.specs.declared.code.Program.{Program}

@@ -17,10 +17,9 @@ use Rattle.actor_cell.specs.Goes.{cell_by, out_of}
 use Rattle.actor_cell.specs.declared.turning.Move.{Move}
 use Rattle.actor_cell.specs.declared.turning.Move.TheVariants.{Post, Mint, New, Print, End}
 use Rattle.actor_table.specs.declared.slot.Slot.{Slot}
-use Rattle.actor_table.specs.declared.slot.Place.{Place}
-use Rattle.actor_table.specs.declared.slot.Place.TheVariants.{Home, Away, Gone}
+use Rattle.actor_table.specs.declared.slot.Place.TheVariants.{Home}
 use Rattle.actor_table.specs.Changes.{CanSettleNew, changed_at, moved, with_cell_by}
-use Rattle.actor_table.specs.Slots.{actors_of, home_in, home_of, seat_of, slot_at}
+use Rattle.actor_table.specs.Slots.{actors_of, home_of, seat_of, slot_at}
 use Rattle.orca_core.proofs.Homes.{home_place}
 use Rattle.orca_core.specs.declared.parts.Parts.{Parts}
 use Rattle.orca_core.specs.Goes.{CanNameNew, HasRoomOut}

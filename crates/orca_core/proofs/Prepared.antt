@@ -1,6 +1,6 @@
 -- A turn that was found, and what it takes to be prepared.
 use Rattle.std.proofs.Common.{Bool, ◌≡◌, ◌≤◌, ℕ, false, List, length, get_or, Option, None, Some, refl, sym, ap, subst, ◌∙◌}
-use Rattle.std.specs.Prelude.{if◌then◌else◌, is_err, is_some, option_map, OnOk}
+use Rattle.std.specs.Prelude.{if◌then◌else◌, is_err, is_some, option_map, IfErr, OnOk}
 use Rattle.std.specs.declared.result.Result.{Result}
 use Rattle.std.specs.declared.result.Result.TheVariants.{Ok, Err}
 use Rattle.std.specs.Option.{option_map_or}
@@ -87,8 +87,9 @@ not_going trace s slots a (faults.ActorsFull b) same none = absurd none
 not_going trace s slots a faults.NoMemory same none = tt
 
 -- the fault of an event is that of what the event is
-pub fault_same : (away : List Bool) (s : State) (e f : Event) (fault : StepFault) → e ≡ f → IsFault (next_without away s f) f fault → IsFault (next_without away s e) e fault
-fault_same away s e f fault same is = subst (λ g. IsFault (next_without away s g) g fault) (sym same) is
+pub fault_same : {A : Type 0} (away : List Bool) (s : State) (e f : Event) (r : Result A StepFault) → e ≡ f
+    → IfErr r (IsFault (next_without away s f) f) → IfErr r (IsFault (next_without away s e) e)
+fault_same away s e f r same is = subst (λ g. IfErr r (IsFault (next_without away s g) g)) (sym same) is
 
 -- ---- one after another
 

@@ -31,7 +31,7 @@ use Rattle.actor_table.specs.declared.slot.Place.{Place}
 use Rattle.actor_table.specs.declared.slot.Place.TheVariants.{Home, Away, Gone}
 use Rattle.actor_table.specs.declared.slot.Slot.{Slot}
 use Rattle.actor_table.specs.Changes.{HasRoomToTake}
-use Rattle.actor_table.specs.Slots.{actors_of, away_of, gone, home_in, home_of, is_away, is_away_in, letters_in, may_at, may_in, places_of, seat_in, seat_of, slot_at}
+use Rattle.actor_table.specs.Slots.{actors_of, away_of, gone, home_of, is_away, is_away_in, letters_in, may_at, may_in, places_of, seat_in, seat_of, slot_at}
 use Rattle.actor_table.proofs.Changing.{seat_read}
 use Rattle.orca_core.specs.declared.parts.Parts.{Parts}
 use Rattle.orca_core.specs.Fits.{FitsBlock, FitsCollect, FitsLeave, FitsTake, OnlyRoom}
@@ -56,16 +56,16 @@ module _ (may : rules.Cell → List Letter → Bool) where
   pub may_here : (x : Slot) (c : Cell) → x.place ≡ Home c → may_at may x ≡ true → may (as_cell c) x.mail.letters ≡ true
   may_here x c home on = sym (ap (λ p. may_in may p x.mail.letters) home) ∙ on
 
-pub fits_block : (a : ℕ) (note : Note) (m : Parts) (c : Cell) → Some c ≡ home_of (slot_at m.table.slots a) → c.heap.owner ≡ a
+pub fits_block : (a : ℕ) (note : Note) (m : Parts) (c : Cell) → m.report ≡ Some note → Some c ≡ home_of (slot_at m.table.slots a) → c.heap.owner ≡ a
     → may_at may_block (slot_at m.table.slots a) ≡ true → note ≡ report_of c.heap.owner (as_cell c)
-    → deque_len m.notes < deque_capacity m.notes → FitsBlock a note m
-fits_block a note m c lent own may is room =
+    → deque_len m.notes < deque_capacity m.notes → FitsBlock a m
+fits_block a note m c told lent own may is room =
     let home = home_is (slot_at m.table.slots a) c lent in
     record {
       cell = c;
       home = home;
       may = may_here may_block (slot_at m.table.slots a) c home may;
-      report = is ∙ ap (λ me. report_of me (as_cell c)) own;
+      report = told ∙ ap (λ n. Some n) (is ∙ ap (λ me. report_of me (as_cell c)) own);
       room = room;
     }
 

@@ -63,34 +63,34 @@ module _ (program : Program) (weight : ℕ) (trace : Trace) (parts : Parts) (ste
     early = omega arith;
   }
 
-  short : IsReached s steps → steps < BOOK_LIMIT → (book : List Event) × IsShortRun program (options_of weight trace) book s
-  short reached early = (reached.book, record { heavy = reached.heavy; light = reached.light; short = omega (arith, reached.long, early); run = reached.run })
+  short : (reached : IsReached s steps) → IsShortRun program (options_of weight trace) reached.book s
+  short reached = record { heavy = reached.heavy; light = reached.light; short = omega (arith, reached.long, reached.early); run = reached.run }
 
   -- what an event needs, every run gives
   pub can_step : IsReached s steps → steps < BOOK_LIMIT → (e : Event) → CanStep trace weight program parts e
   can_step reached early (Take a) = λ c letter later at.
-      let r = short reached early in
-      runs_allow_takes program (options_of weight trace) r.0 s r.1 a c (letter ∷ later) at
+      let r = short reached in
+      runs_allow_takes program (options_of weight trace) reached.book s r a c (letter ∷ later) at
   can_step reached early (Go a) =
-      let r = short reached early in
+      let r = short reached in
       let options = options_of weight trace in (
         λ c mail at. record {
-          can = λ frame framed. runs_allow_goes program options r.0 s r.1 a c mail at frame framed;
-          serials = runs_have_serials program options r.0 s r.1 a c mail at reached.checked.good;
-          unnamed = runs_hold_the_made_only program options r.0 s r.1 a c mail at _ (omega arith);
+          can = λ frame framed. runs_allow_goes program options reached.book s r a c mail at frame framed;
+          serials = runs_have_serials program options reached.book s r a c mail at reached.checked.good;
+          unnamed = runs_hold_the_made_only program options reached.book s r a c mail at _ (omega arith);
         },
-        (runs_have_room program options r.0 s r.1).objects reached.checked.good,
+        (runs_have_room program options reached.book s r).objects reached.checked.good,
       )
   can_step reached early (Collect a) = λ c at owner.
-      let r = short reached early in
-      cells_know_others_only program (options_of weight trace) r.0 s r.1 c (slot_at parts.table.slots c.heap.owner).mail.letters
+      let r = short reached in
+      cells_know_others_only program (options_of weight trace) reached.book s r c (slot_at parts.table.slots c.heap.owner).mail.letters
       (seat_here parts.table.slots c.heap.owner c (ap (λ b. (slot_at parts.table.slots b).place) owner ∙ at))
   can_step reached early (Leave a) = tt
   can_step reached early (Block a) = tt
   can_step reached early Hear = tt
   can_step reached early Scan =
-      let r = short reached early in
-      (runs_have_room program (options_of weight trace) r.0 s r.1).tokens
+      let r = short reached in
+      (runs_have_room program (options_of weight trace) reached.book s r).tokens (omega (arith, reached.long, early))
   can_step reached early (Reap number) = tt
 
   -- whom a run can reap is present, so a cell that is not away is at home

@@ -17,9 +17,8 @@ use Rattle.actor_cell.specs.declared.cell.Cell.{Cell}
 use Rattle.actor_cell.specs.Cells.{as_cell}
 use Rattle.actor_cell.specs.Outs.{left_outside, letters_of}
 use Rattle.actor_table.specs.declared.slot.Slot.{Slot}
-use Rattle.actor_table.specs.declared.slot.Place.{Place}
-use Rattle.actor_table.specs.declared.slot.Place.TheVariants.{Home, Away, Gone}
-use Rattle.actor_table.specs.Slots.{actors_of, home_in, home_of, places_of, slot_at}
+use Rattle.actor_table.specs.declared.slot.Place.TheVariants.{Home}
+use Rattle.actor_table.specs.Slots.{actors_of, places_of, slot_at}
 use Rattle.orca_core.specs.Fits.{FitsReap}
 use Rattle.orca_core.specs.declared.parts.Parts.{Parts}
 use Rattle.orca_core.specs.Letters.{FitLetters}

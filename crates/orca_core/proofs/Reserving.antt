@@ -1,5 +1,5 @@
 -- Memory is taken for letters one after another.
-use Rattle.std.proofs.Common.{◌≡◌, ◌≤◌, ℕ, ◌+◌, ◌==◌, inl, inr, Bool, true, false, List, [], ◌∷◌, length, get_or, map, Some, refl, sym, ap, subst, ◌∙◌, arith}
+use Rattle.std.proofs.Common.{◌≡◌, ◌≤◌, ℕ, ◌+◌, ◌==◌, inl, inr, Bool, true, false, List, [], ◌∷◌, length, get_or, Some, refl, sym, ap, subst, ◌∙◌, arith}
 use Rattle.std.specs.Prelude.{T, if◌then◌else◌, is_some}
 use Rattle.std.specs.BTreeMap.{BTreeMap, Updates}
 use Rattle.std.specs.FinMap.Entries.{below_all, is_sorted}
@@ -9,12 +9,11 @@ use Rattle.std.proofs.lemmas.Bool.{cases_eq}
 use Rattle.std.proofs.lemmas.Bool.Decides.{nat_tests}
 use Rattle.letter_kinds.specs.declared.letter.Letter.{Letter}
 use Rattle.letter_kinds.specs.Counting.{Amount}
-use Rattle.machine_rules.specs.Actors.{Actors, seat_at}
+use Rattle.machine_rules.specs.Actors.{seat_at}
 use Rattle.actor_cell.specs.Outs.{letters_of}
-use Rattle.actor_table.specs.declared.slot.Place.{Place}
 use Rattle.actor_table.specs.declared.slot.Slot.{Slot}
 use Rattle.actor_table.specs.Changes.{KeepsRoom}
-use Rattle.actor_table.specs.Slots.{actors_of, away_of, is_away_in, letters_in, places_of, seat_in, slot_at}
+use Rattle.actor_table.specs.Slots.{actors_of, slot_at}
 use Rattle.orca_core.specs.Letters.{FitLetters, counted, letters_to}
 
 -- ---- letters are counted

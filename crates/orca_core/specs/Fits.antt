@@ -108,12 +108,12 @@ pub record FitsLeave (a : ℕ) (letters : List (ℕ × Letter)) (m : Parts) : Ty
   pub returns : letters ≡ (returning (left_behind a (as_cell cell))).letters
   pub fit : FitLetters letters m.table.slots
 
--- the actor may report, this is its report, and there is room for it
-pub record FitsBlock (a : ℕ) (note : Note) (m : Parts) : Type 0 where
+-- the actor may report, its report stands there, and there is room for it
+pub record FitsBlock (a : ℕ) (m : Parts) : Type 0 where
   pub cell : Cell
   pub home : (slot_at m.table.slots a).place ≡ Home cell
   pub may : may_block (as_cell cell) (slot_at m.table.slots a).mail.letters ≡ true
-  pub report : note ≡ report_of a (as_cell cell)
+  pub report : m.report ≡ Some (report_of a (as_cell cell))
   pub room : deque_len m.notes < deque_capacity m.notes
 
 -- but for room all is the same

@@ -1,6 +1,6 @@
 // Block: an actor with nothing to do reports.
 
-ghost use Rattle.std.specs.Prelude.{◌≡◌, IfErr, IfOk};
+ghost use Rattle.std.specs.Prelude.{◌≡◌, IfErr, OnOk};
 ghost use Rattle.event_rule.specs.Runs.{Goes};
 ghost use Rattle.event_rule.specs.declared.event.Event.TheVariants.{Block as block_event};
 ghost use Rattle.machine_rules.specs.Next.{next};
@@ -15,7 +15,6 @@ ghost use Rattle.orca_core.specs.Woken.{IsLowestWoken};
 
 use crate::fault::StepFault;
 use crate::parts::Parts;
-use letter_kinds::Note;
 use orca_names::ActorName;
 use std::alloc::Global;
 
@@ -24,13 +23,9 @@ use std::alloc::Global;
 /// # Errors
 /// `NotEnabled` exactly where the actor may not report, or its cell is away. `NoMemory` where memory
 /// was refused.
-pub(crate) fn prepare_block(
-    alloc: Global,
-    parts: &mut Parts,
-    a: ActorName,
-) -> Result<Note, StepFault>
+pub(crate) fn prepare_block(alloc: Global, parts: &mut Parts, a: ActorName) -> Result<(), StepFault>
     ensures same { OnlyRoom parts.old parts.new }
-    ensures ok { IfOk result (λ note. FitsBlock a note parts.new) }
+    ensures ok { OnOk result (FitsBlock a parts.new) }
     ensures fault { let away = away_of parts.old.table.slots in
         (program : Program) (options : Options) → IfErr result
         (IsFault (next_without away (state_of program options parts.old) (block_event a)) (block_event a)) }
@@ -47,18 +42,22 @@ pub(crate) fn prepare_block(
     if parts.notes.reserve(1).is_err() {
         return Err(StepFault::NoMemory);
     }
-    Ok(note)
+    parts.report = Some(note);
+    Ok(())
 }
 
-/// The actor reports with this note. It takes no memory, and wakes nobody.
-pub(crate) fn apply_block(parts: &mut Parts, a: ActorName, note: Note) -> Option<ActorName>
-    requires { FitsBlock a note parts.old }
+/// The actor reports what was prepared. It takes no memory, and wakes nobody.
+pub(crate) fn apply_block(parts: &mut Parts, a: ActorName) -> Option<ActorName>
+    requires { FitsBlock a parts.old }
     ensures state { (program : Program) (options : Options)
         → next (state_of program options parts.old) (block_event a)
         ≡ Goes (state_of program options parts.new) }
     ensures away { away_of parts.new.table.slots ≡ away_of parts.old.table.slots }
     ensures woken { IsLowestWoken (actors_of parts.old.table.slots) (actors_of parts.new.table.slots) result }
 {
+    let Some(note) = parts.report.take() else {
+        unreachable!();
+    };
     parts.table.block(a);
     parts.notes.push_back_reserved(note);
     None

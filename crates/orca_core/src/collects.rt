@@ -1,6 +1,6 @@
 // Collect: an idle actor frees what its fields do not reach (Orca, OOPSLA 2017).
 
-ghost use Rattle.std.specs.Prelude.{◌≡◌, true, IfErr, IfOk};
+ghost use Rattle.std.specs.Prelude.{◌≡◌, true, IfErr, OnOk};
 ghost use Rattle.behaviour_code.specs.declared.code.Program.{Program};
 ghost use Rattle.event_rule.specs.Runs.{Goes};
 ghost use Rattle.event_rule.specs.declared.event.Event.TheVariants.{Collect as collect_event};
@@ -23,9 +23,9 @@ use crate::fault::StepFault;
 use crate::letters::{push_all, reserve_each};
 use crate::parts::Parts;
 use actor_cell::Sweep;
-use letter_kinds::Letter;
 use orca_names::{ActorName, Trace};
 use std::alloc::Global;
+use std::mem;
 
 /// Room to make the letters that return what the sweep gives back, and the memory for these. Nothing
 /// changes but room.
@@ -39,12 +39,12 @@ pub(crate) fn prepare_sweep(
     parts: &mut Parts,
     a: ActorName,
     found: Sweep,
-) -> Result<(Sweep, Vec<(ActorName, Letter)>), StepFault>
+) -> Result<(), StepFault>
     requires may { may_at may_collect (slot_at parts.old.table.slots a) ≡ true }
     requires found { HasCell (slot_at parts.old.table.slots a)
         (λ c. (c.heap.owner ≡ a) × (found ≡ sweep_of trace c)) }
     ensures same { OnlyRoom parts.old parts.new }
-    ensures ok { IfOk result (λ found. FitsCollect trace a found.0 found.1 parts.new) }
+    ensures ok { OnOk result (FitsCollect trace a parts.new.sweep parts.new.letters parts.new) }
     ensures fault { IfErr result (λ fault. fault ≡ NoMemory) }
 {
     let _trace = trace;
@@ -54,7 +54,9 @@ pub(crate) fn prepare_sweep(
     if reserve_each(&mut parts.table, found.plan.back.as_slice()).is_err() {
         return Err(StepFault::NoMemory);
     }
-    Ok((found, room))
+    parts.sweep = found;
+    parts.letters = room;
+    Ok(())
 }
 
 /// What the actor's collection does, room to make the letters that return what it gives back, and the
@@ -69,11 +71,11 @@ pub(crate) fn prepare_collect(
     trace: Trace,
     parts: &mut Parts,
     a: ActorName,
-) -> Result<(Sweep, Vec<(ActorName, Letter)>), StepFault>
+) -> Result<(), StepFault>
     requires { (c : Cell) → (slot_at parts.old.table.slots a).place ≡ Home c → c.heap.owner ≡ a
         → KnowsOthersOnly c }
     ensures same { OnlyRoom parts.old parts.new }
-    ensures ok { IfOk result (λ found. FitsCollect trace a found.0 found.1 parts.new) }
+    ensures ok { OnOk result (FitsCollect trace a parts.new.sweep parts.new.letters parts.new) }
     ensures fault { let away = away_of parts.old.table.slots in
         (program : Program) (options : Options) → IfErr result
         (IsFault (next_without away (state_of program options parts.old) (collect_event a)) (collect_event a)) }
@@ -91,15 +93,14 @@ pub(crate) fn prepare_collect(
 }
 
 /// The actor's collection is done as it was found, and the lowest to whom a letter goes is told. It
-/// takes no memory but the room that is handed in.
+/// takes no memory.
 pub(crate) fn apply_collect(
+    alloc: Global,
     parts: &mut Parts,
     trace: Trace,
     a: ActorName,
-    found: Sweep,
-    room: Vec<(ActorName, Letter)>,
 ) -> Option<ActorName>
-    requires { FitsCollect trace a found room parts.old }
+    requires { FitsCollect trace a parts.old.sweep parts.old.letters parts.old }
     ensures state { (program : Program) (options : Options) → options.trace ≡ trace
         → next (state_of program options parts.old) (collect_event a)
         ≡ Goes (state_of program options parts.new) }
@@ -107,6 +108,8 @@ pub(crate) fn apply_collect(
     ensures woken { IsLowestWoken (actors_of parts.old.table.slots) (actors_of parts.new.table.slots) result }
 {
     let _trace = trace;
-    parts.table.collect(a, &found);
+    parts.table.collect(a, &parts.sweep);
+    let found = mem::replace(&mut parts.sweep, Sweep::new(alloc));
+    let room = mem::replace(&mut parts.letters, Vec::new(alloc));
     push_all(&mut parts.table, found.into_letters(room))
 }

@@ -1,6 +1,6 @@
 // Go: a frame runs up to its next act.
 
-ghost use Rattle.std.specs.Prelude.{ℕ, ◌≡◌, ◌+◌, ◌<◌, ◌≤◌, ◌^◌, ◌++◌, ◌∷◌, [], is_some, length, IfErr, IfOk, IsSome, OnOk, None, Some};
+ghost use Rattle.std.specs.Prelude.{ℕ, ◌≡◌, ◌+◌, ◌<◌, ◌≤◌, ◌^◌, ◌++◌, ◌∷◌, [], is_some, length, IfErr, IsSome, OnOk, None, Some};
 ghost use Rattle.std.specs.FinMap as m;
 ghost use Rattle.orca_names.specs.declared.limits.TheConstants.{ACTORS_LIMIT, BODY_LIMIT};
 ghost use Rattle.orca_names.specs.declared.trace.Trace.{Trace as tracing};
@@ -34,7 +34,9 @@ use behaviour_check::Checked;
 use letter_kinds::Letter;
 use mail_rows::MailRow;
 use orca_names::{ACTORS_LIMIT, ActorName, NoMemory, Trace};
+use plain_list::Listed;
 use std::alloc::Global;
+use std::mem;
 use turn_step::Turn;
 
 // What is found of the actor's turn, in this room for a turn.
@@ -45,12 +47,13 @@ fn find_go(
     trace: Trace,
     table: &ActorTable,
     turn: &mut Turn,
+    found: &mut Turned,
     a: ActorName,
-) -> Result<Turned, StepFault>
+) -> Result<(), StepFault>
     requires serials { (c : a_cell) → (slot_at table.now.slots a).place ≡ Home c
         → c.heap.next + BODY_LIMIT < 2 ^ 64 }
-    ensures found { IfOk result (λ found. HasCell (slot_at table.now.slots a)
-        (IsFoundGo trace weight code.now a turn.new found)) }
+    ensures found { OnOk result (HasCell (slot_at table.now.slots a)
+        (IsFoundGo trace weight code.now a turn.new found.new)) }
     ensures few { OnOk result (length turn.new.made ≤ BODY_LIMIT) }
     ensures fault { IfErr result (NotGoing (slot_at table.now.slots a)) }
 {
@@ -60,21 +63,22 @@ fn find_go(
     if !cell.frame.is_some() {
         return Err(StepFault::NotEnabled);
     }
-    match cell.found_go(alloc, code, weight, trace, turn) {
-        Ok(found) => Ok(found),
+    match cell.found_go(alloc, code, weight, trace, turn, found) {
+        Ok(()) => Ok(()),
         Err(NoMemory) => Err(StepFault::NoMemory),
     }
 }
 
-// Takes the memory for what the act gives out.
-fn reserve_out(parts: &mut Parts, act: &Move) -> Result<(), NoMemory>
-    requires { IsSome (out_of act.now).made → length parts.old.table.slots < ACTORS_LIMIT }
+// Takes the memory for what the act that was found gives out.
+fn reserve_out(parts: &mut Parts) -> Result<(), NoMemory>
+    requires { IsSome (out_of parts.old.turned.act).made → length parts.old.table.slots < ACTORS_LIMIT }
     ensures same { OnlyRoom parts.old parts.new }
     ensures places { places_of parts.new.table.slots ≡ places_of parts.old.table.slots }
     ensures turn { parts.new.turn ≡ parts.old.turn }
-    ensures ok { OnOk result (HasRoomOut act.now parts.new) }
+    ensures turned { parts.new.turned ≡ parts.old.turned }
+    ensures ok { OnOk result (HasRoomOut parts.old.turned.act parts.new) }
 {
-    match act {
+    match &parts.turned.act {
         Move::Post { to, letter: _ } => parts.table.reserve_letters(*to, 1),
         Move::Mint { owner, things: _ } => parts.table.reserve_letters(*owner, 1),
         Move::New {
@@ -99,37 +103,37 @@ fn makes(act: &Move) -> bool
     )
 }
 
-/// Takes all memory for what was found of the actor's turn, which stands in the parts' room for a turn;
-/// the state stays as it was.
+/// Takes all memory for what was found of the actor's turn; the state stays as it was.
 ///
 /// # Errors
 /// `ActorsFull` exactly where the act would make an actor too many, and `NoMemory` where memory was
 /// refused.
-pub(crate) fn prepare_turn(
-    parts: &mut Parts,
-    a: ActorName,
-    found: Turned,
-) -> Result<Turned, StepFault>
+pub(crate) fn prepare_turn(parts: &mut Parts, a: ActorName) -> Result<(), StepFault>
     requires few { length parts.old.turn.made ≤ BODY_LIMIT }
     ensures same { OnlyRoom parts.old parts.new }
     ensures ok { (trace : tracing) (weight : ℕ) (program : Program)
-        → HasCell (slot_at parts.old.table.slots a) (IsFoundGo trace weight program a parts.old.turn found)
-        → IfOk result (λ found. FitsGo trace weight program a found parts.new) }
+        → HasCell (slot_at parts.old.table.slots a)
+        (IsFoundGo trace weight program a parts.old.turn parts.old.turned)
+        → OnOk result (FitsGo trace weight program a parts.new.turned parts.new) }
     ensures fault { (program : Program) (options : Options) → HasCell (slot_at parts.old.table.slots a)
-        (IsFoundGo options.trace options.weight program a parts.old.turn found) →
+        (IsFoundGo options.trace options.weight program a parts.old.turn parts.old.turned) →
         let s = state_of program options parts.old in
         IfErr result (IsFault (next_without (away_of parts.old.table.slots) s (go_event a)) (go_event a)) }
 {
-    if makes(&found.act) && parts.table.len() >= ACTORS_LIMIT {
+    if makes(&parts.turned.act) && parts.table.len() >= ACTORS_LIMIT {
         return Err(StepFault::ActorsFull { actor: a });
     }
-    if parts.table.reserve_go(a, &parts.turn, &found).is_err() {
+    if parts
+        .table
+        .reserve_go(a, &parts.turn, &parts.turned)
+        .is_err()
+    {
         return Err(StepFault::NoMemory);
     }
-    if reserve_out(parts, &found.act).is_err() {
+    if reserve_out(parts).is_err() {
         return Err(StepFault::NoMemory);
     }
-    Ok(found)
+    Ok(())
 }
 
 /// Finds the actor's turn, and takes all memory for what it does; the state stays as it was.
@@ -140,17 +144,27 @@ pub(crate) fn prepare_go(
     trace: Trace,
     parts: &mut Parts,
     a: ActorName,
-) -> Result<Turned, StepFault>
+) -> Result<(), StepFault>
     requires serials { (c : a_cell) → (slot_at parts.old.table.slots a).place ≡ Home c
         → c.heap.next + BODY_LIMIT < 2 ^ 64 }
     ensures same { OnlyRoom parts.old parts.new }
-    ensures ok { IfOk result (λ found. FitsGo trace weight code.now a found parts.new) }
+    ensures ok { OnOk result (FitsGo trace weight code.now a parts.new.turned parts.new) }
     ensures fault { (options : Options) → options.weight ≡ weight → options.trace ≡ trace →
         let s = state_of code.now options parts.old in
         IfErr result (IsFault (next_without (away_of parts.old.table.slots) s (go_event a)) (go_event a)) }
 {
-    match find_go(alloc, code, weight, trace, &parts.table, &mut parts.turn, a) {
-        Ok(found) => prepare_turn(parts, a, found),
+    let turn = &mut parts.turn;
+    match find_go(
+        alloc,
+        code,
+        weight,
+        trace,
+        &parts.table,
+        turn,
+        &mut parts.turned,
+        a,
+    ) {
+        Ok(()) => prepare_turn(parts, a),
         Err(fault) => Err(fault),
     }
 }
@@ -193,36 +207,45 @@ fn make(
 }
 
 // What the actor does where its turn stopped is given out, and the actor that gets it or is made is
-// told.
+// told. What was found stays where it is but for a letter or its things, which move out.
 fn give_out(
     alloc: Global,
     code: &Checked,
     weight: u32,
     parts: &mut Parts,
     a: ActorName,
-    act: Move,
 ) -> Option<ActorName>
     requires light { weight < count_limit }
-    requires room { HasRoomOut act parts.old }
-    requires can { CanNameNew weight a act parts.old.table.slots }
+    requires room { HasRoomOut parts.old.turned.act parts.old }
+    requires can { CanNameNew weight a parts.old.turned.act parts.old.table.slots }
     requires objects { parts.old.objects + length parts.old.turn.made < 2 ^ 64 }
-    ensures state { (options : Options) → state_of code.now options parts.new ≡ given weight code.now a act
-        (length parts.old.turn.made) (state_of code.now options parts.old) }
+    ensures state { (options : Options) → state_of code.now options parts.new
+        ≡ given weight code.now a parts.old.turned.act (length parts.old.turn.made)
+        (state_of code.now options parts.old) }
     ensures away { KeepsAway (away_of parts.old.table.slots) (away_of parts.new.table.slots) }
     ensures woken { IsLowestWoken (actors_of parts.old.table.slots) (actors_of parts.new.table.slots) result }
 {
-    match act {
+    match &mut parts.turned.act {
         Move::Post { to, letter } => {
+            let to = *to;
+            let letter = mem::replace(letter, Letter::Confirm { token: 0 });
             parts.count_made();
             post(&mut parts.table, to, letter)
         }
-        Move::Mint { owner, things } => post(&mut parts.table, owner, Letter::Inc { things }),
+        Move::Mint { owner, things } => {
+            let owner = *owner;
+            let things = mem::replace(things, Listed::new(alloc));
+            post(&mut parts.table, owner, Letter::Inc { things })
+        }
         Move::New { kind, register } => {
+            let kind = *kind;
+            let register = *register;
             parts.count_made();
             let name = make(alloc, code, weight, &mut parts.table, a, kind, register);
             Some(name)
         }
         Move::Print { value } => {
+            let value = *value;
             parts.count_made();
             parts.prints.push_reserved(value);
             None
@@ -243,12 +266,11 @@ pub(crate) fn apply_go(
     trace: Trace,
     parts: &mut Parts,
     a: ActorName,
-    found: Turned,
 ) -> Option<ActorName>
     requires light { weight ≤ 65536 }
-    requires fits { FitsGo trace weight code.now a found parts.old }
+    requires fits { FitsGo trace weight code.now a parts.old.turned parts.old }
     requires can { (c : a_cell) → (slot_at parts.old.table.slots a).place ≡ Home c
-        → CountsAllow a found.act parts.old c }
+        → CountsAllow a parts.old.turned.act parts.old c }
     requires objects { parts.old.objects + BODY_LIMIT < 2 ^ 64 }
     ensures state { (options : Options) → options.weight ≡ weight → options.trace ≡ trace
         → next (state_of code.now options parts.old) (go_event a)
@@ -257,6 +279,6 @@ pub(crate) fn apply_go(
     ensures woken { IsLowestWoken (actors_of parts.old.table.slots) (actors_of parts.new.table.slots) result }
 {
     let _trace = trace;
-    parts.table.go(a, &parts.turn, &found);
-    give_out(alloc, code, weight, parts, a, found.act)
+    parts.table.go(a, &parts.turn, &parts.turned);
+    give_out(alloc, code, weight, parts, a)
 }

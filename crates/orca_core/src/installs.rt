@@ -15,7 +15,7 @@ ghost use Rattle.orca_core.specs.Founds.{IsFoundAt, IsFoundFor, IsFoundIn};
 ghost use Rattle.orca_core.specs.Goes.{FitsGo};
 ghost use Rattle.orca_core.specs.Machine.{Fits, IsSame, ReapsNoneAway, options_of};
 ghost use Rattle.orca_core.specs.Parts.{state_of};
-ghost use Rattle.orca_core.specs.Ready.{FitsReady, event_of};
+ghost use Rattle.orca_core.specs.Ready.{FitsEvent, event_of};
 ghost use Rattle.orca_core.specs.Steps.{CanStep, ReapsAtHome};
 ghost use Rattle.orca_core.specs.Woken.{IsLowestWoken};
 
@@ -26,10 +26,9 @@ use crate::machine::Orca;
 use crate::parts::Parts;
 use crate::ready::Ready;
 use crate::steps::prepare;
-use actor_cell::{Found, Sweep, Turned};
+use actor_cell::Found;
 use behaviour_check::Checked;
 use event_rule::Event;
-use letter_kinds::Letter;
 use orca_names::{ActorName, Trace};
 use std::alloc::Global;
 
@@ -41,10 +40,10 @@ fn install_go(
     parts: &mut Parts,
     a: ActorName,
     found: Found,
-) -> Result<Turned, StepFault>
+) -> Result<(), StepFault>
     requires found { IsFoundAt trace weight code.now found (slot_at parts.old.table.slots a) }
     ensures same { OnlyRoom parts.old parts.new }
-    ensures ok { IfOk result (λ turned. FitsGo trace weight code.now a turned parts.new) }
+    ensures ok { OnOk result (FitsGo trace weight code.now a parts.new.turned parts.new) }
     ensures fault { (options : Options) → options.weight ≡ weight → options.trace ≡ trace →
         let s = state_of code.now options parts.old in
         IfErr result (IsFault (next_without (away_of parts.old.table.slots) s (go_event a)) (go_event a)) }
@@ -59,7 +58,8 @@ fn install_go(
         return Err(StepFault::NotEnabled);
     };
     parts.turn = turn;
-    prepare_turn(parts, a, turned)
+    parts.turned = turned;
+    prepare_turn(parts, a)
 }
 
 // Takes all memory for what was found of the actor's collection; the state stays as it was.
@@ -69,11 +69,11 @@ fn install_collect(
     parts: &mut Parts,
     a: ActorName,
     found: Found,
-) -> Result<(Sweep, Vec<(ActorName, Letter)>), StepFault>
+) -> Result<(), StepFault>
     requires found { (weight : ℕ) × (program : Program)
         × IsFoundAt trace weight program found (slot_at parts.old.table.slots a) }
     ensures same { OnlyRoom parts.old parts.new }
-    ensures ok { IfOk result (λ found. FitsCollect trace a found.0 found.1 parts.new) }
+    ensures ok { OnOk result (FitsCollect trace a parts.new.sweep parts.new.letters parts.new) }
     ensures fault { let away = away_of parts.old.table.slots in
         (program : Program) (options : Options) → IfErr result
         (IsFault (next_without away (state_of program options parts.old) (collect_event a)) (collect_event a)) }
@@ -97,27 +97,20 @@ fn install(
     weight: u32,
     trace: Trace,
     parts: &mut Parts,
-    e: Event,
+    e: &Event,
     found: Found,
-) -> Result<Ready, StepFault>
-    requires can { CanStep trace weight code.now parts.old e }
-    requires home { ReapsAtHome e parts.old }
-    requires found { IsFoundFor trace weight code.now found e parts.old.table.slots }
+) -> Result<(), StepFault>
+    requires can { CanStep trace weight code.now parts.old e.now }
+    requires home { ReapsAtHome e.now parts.old }
+    requires found { IsFoundFor trace weight code.now found e.now parts.old.table.slots }
     ensures same { OnlyRoom parts.old parts.new }
-    ensures event { IfOk result (λ ready. event_of ready ≡ e) }
-    ensures ok { IfOk result (λ ready. FitsReady trace weight code.now ready parts.new) }
+    ensures ok { OnOk result (FitsEvent trace weight code.now e.now parts.new) }
     ensures fault { let s = state_of code.now (options_of weight trace) parts.old in
-        IfErr result (IsFault (next_without (away_of parts.old.table.slots) s e) e) }
+        IfErr result (IsFault (next_without (away_of parts.old.table.slots) s e.now) e.now) }
 {
-    match e {
-        Event::Go(actor) => match install_go(code, weight, trace, parts, actor, found) {
-            Ok(found) => Ok(Ready::Go { actor, found }),
-            Err(fault) => Err(fault),
-        },
-        Event::Collect(actor) => match install_collect(alloc, trace, parts, actor, found) {
-            Ok((found, room)) => Ok(Ready::Collect { actor, found, room }),
-            Err(fault) => Err(fault),
-        },
+    match *e {
+        Event::Go(actor) => install_go(code, weight, trace, parts, actor, found),
+        Event::Collect(actor) => install_collect(alloc, trace, parts, actor, found),
         _ => prepare(alloc, code, weight, trace, parts, e),
     }
 }
@@ -148,9 +141,10 @@ impl<'a> Orca<'a> {
             self.weight,
             self.trace,
             &mut self.parts,
-            e,
+            &e,
             found,
-        )
+        )?;
+        Ok(Ready { event: e })
     }
 
     /// As `step`, but what the event's actor would do was found elsewhere, and is evaluated no more.

@@ -105,6 +105,7 @@ pub(crate) fn lower(one: Option<ActorName>, two: Option<ActorName>) -> Option<Ac
 
 /// The letter goes to its actor, which is told where it is present; one for an actor that is gone is
 /// lost.
+#[inline(always)]
 pub(crate) fn post(table: &mut ActorTable, to: ActorName, letter: Letter) -> Option<ActorName>
     requires { is_some (seat_at (actors_of table.old.slots) to) ≡ true
         → 0 < (slot_at table.old.slots to).mail.spare }

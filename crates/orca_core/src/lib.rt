@@ -4,6 +4,7 @@
 mod blocks;
 mod collects;
 mod fault;
+mod free;
 mod goes;
 mod hears;
 mod installs;
@@ -22,5 +23,6 @@ mod steps;
 mod takes;
 
 pub use fault::StepFault;
+pub use free::SetAside;
 pub use machine::Orca;
 pub use ready::Ready;

@@ -18,7 +18,7 @@ use crate::fault::StepFault;
 use crate::parts::Parts;
 use crate::ready::Ready;
 use crate::steps::{apply, prepare};
-use actor_cell::Cell;
+use actor_cell::{Cell, Sweep, Turned};
 use actor_table::ActorTable;
 use behaviour_check::Checked;
 use cycle_detect::Detector;
@@ -127,6 +127,12 @@ impl<'a> Orca<'a> {
                 prints: Vec::new(alloc),
                 objects: 0,
                 turn: Turn::new(alloc),
+                turned: Turned::new(),
+                sweep: Sweep::new(alloc),
+                letters: Vec::new(alloc),
+                report: None,
+                token: None,
+                members: Vec::new(alloc),
             },
             steps: 0,
         })
@@ -154,8 +160,9 @@ impl<'a> Orca<'a> {
             self.weight,
             self.trace,
             &mut self.parts,
-            e,
-        )
+            &e,
+        )?;
+        Ok(Ready { event: e })
     }
 
     /// Does the event that was prepared: the machine's next step is exactly that of its rules. It takes
@@ -175,7 +182,7 @@ impl<'a> Orca<'a> {
             self.weight,
             self.trace,
             &mut self.parts,
-            ready,
+            ready.event,
         );
         self.steps += 1;
         woken

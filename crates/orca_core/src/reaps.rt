@@ -1,6 +1,6 @@
 // Reap: the members of a token that all acknowledged go (MAC, OOPSLA 2013).
 
-ghost use Rattle.std.specs.Prelude.{◌≡◌, IfErr, IfOk, Some, List, ℕ};
+ghost use Rattle.std.specs.Prelude.{◌≡◌, IfErr, IfOk, OnOk, Some, List, ℕ};
 ghost use Rattle.std.specs.List.Sorted.{IsStrictlySortedBy};
 ghost use Rattle.std.specs.Ordering.{nat_cmp};
 ghost use Rattle.behaviour_code.specs.declared.code.Program.{Program};
@@ -27,12 +27,13 @@ use actor_table::ActorTable;
 use letter_kinds::Letter;
 use orca_names::{ActorName, NoMemory};
 use std::alloc::Global;
+use std::mem;
 
 /// Who goes, and the letters that return what they held on things of those who stay.
 #[derive(Drop)]
-pub(crate) struct Going {
-    pub members: Vec<ActorName>,
-    pub letters: Vec<(ActorName, Letter)>,
+struct Going {
+    members: Vec<ActorName>,
+    letters: Vec<(ActorName, Letter)>,
 }
 
 /// The letters that return what each of these held on things of those who stay.
@@ -86,14 +87,11 @@ fn prepare_going(
 /// `NotEnabled` exactly where no open token of this number is acknowledged by all its members, and
 /// `NoMemory` where memory was refused.
 #[tactic(auto, using(crate::proofs::Reaping::none_acked))]
-pub(crate) fn prepare_reap(
-    alloc: Global,
-    parts: &mut Parts,
-    number: u64,
-) -> Result<Going, StepFault>
+pub(crate) fn prepare_reap(alloc: Global, parts: &mut Parts, number: u64) -> Result<(), StepFault>
     requires home { AckedAreHome number parts.old.detector.state parts.old.table.slots }
     ensures same { OnlyRoom parts.old parts.new }
-    ensures ok { IfOk result (λ going. FitsReap number going.members.items going.letters.items parts.new) }
+    ensures ok { let members = parts.new.members.items in
+        OnOk result (FitsReap number members parts.new.letters.items parts.new) }
     ensures fault { (program : Program) (options : Options) → IfErr result
         (IsFault (next (state_of program options parts.old) (reap_event number)) (reap_event number)) }
 {
@@ -101,7 +99,11 @@ pub(crate) fn prepare_reap(
         return Err(StepFault::NotEnabled);
     };
     match prepare_going(alloc, &mut parts.table, members) {
-        Ok(going) => Ok(going),
+        Ok(going) => {
+            parts.members = going.members;
+            parts.letters = going.letters;
+            Ok(())
+        }
         Err(NoMemory) => Err(StepFault::NoMemory),
     }
 }
@@ -120,21 +122,16 @@ fn clear_all(alloc: Global, table: &mut ActorTable, members: &[ActorName])
 
 /// The members of the token go, and what they held outside goes back; the lowest to whom a letter goes
 /// is told. It takes no memory.
-pub(crate) fn apply_reap(
-    alloc: Global,
-    parts: &mut Parts,
-    number: u64,
-    members: &[ActorName],
-    letters: Vec<(ActorName, Letter)>,
-) -> Option<ActorName>
-    requires { FitsReap number members.now letters.items parts.old }
+pub(crate) fn apply_reap(alloc: Global, parts: &mut Parts, number: u64) -> Option<ActorName>
+    requires { FitsReap number parts.old.members.items parts.old.letters.items parts.old }
     ensures state { (program : Program) (options : Options)
         → next (state_of program options parts.old) (reap_event number)
         ≡ Goes (state_of program options parts.new) }
     ensures away { KeepsAway (away_of parts.old.table.slots) (away_of parts.new.table.slots) }
     ensures woken { IsLowestWoken (actors_of parts.old.table.slots) (actors_of parts.new.table.slots) result }
 {
-    clear_all(alloc, &mut parts.table, members);
+    let letters = mem::replace(&mut parts.letters, Vec::new(alloc));
+    clear_all(alloc, &mut parts.table, parts.members.as_slice());
     let woken = push_all(&mut parts.table, letters);
     parts.detector.close(number);
     woken

@@ -68,10 +68,11 @@ fn prepare_open(
 ///
 /// # Errors
 /// `NotEnabled` exactly where there is no news, and `NoMemory` where memory was refused.
-pub(crate) fn prepare_scan(alloc: Global, parts: &mut Parts) -> Result<Option<Token>, StepFault>
+pub(crate) fn prepare_scan(alloc: Global, parts: &mut Parts) -> Result<(), StepFault>
     requires few { parts.old.detector.state.opened < TOKENS_LIMIT }
     ensures same { OnlyRoom parts.old parts.new }
-    ensures ok { IfOk result (λ token. CanScan token parts.new.table.slots parts.new.detector) }
+    ensures ok { let token = parts.new.token in
+        OnOk result (CanScan token parts.new.table.slots parts.new.detector) }
     ensures fault { (program : Program) (options : Options)
         → IfErr result (IsFault (next (state_of program options parts.old) scan_event) scan_event) }
 {
@@ -79,7 +80,10 @@ pub(crate) fn prepare_scan(alloc: Global, parts: &mut Parts) -> Result<Option<To
         return Err(StepFault::NotEnabled);
     }
     match prepare_open(alloc, &mut parts.table, &mut parts.detector) {
-        Ok(token) => Ok(token),
+        Ok(token) => {
+            parts.token = token;
+            Ok(())
+        }
         Err(NoMemory) => Err(StepFault::NoMemory),
     }
 }
@@ -102,8 +106,8 @@ fn ask_all(table: &mut ActorTable, members: &[ActorName], number: u64) -> Option
 
 /// There is no news any more; the token that was prepared, if one was, is opened, and its members are
 /// asked. It takes no memory, and tells the lowest that is present.
-pub(crate) fn apply_scan(parts: &mut Parts, token: Option<Token>) -> Option<ActorName>
-    requires { CanScan token parts.old.table.slots parts.old.detector }
+pub(crate) fn apply_scan(parts: &mut Parts) -> Option<ActorName>
+    requires { CanScan parts.old.token parts.old.table.slots parts.old.detector }
     ensures state { (program : Program) (options : Options)
         → next (state_of program options parts.old) scan_event
         ≡ Goes (state_of program options parts.new) }
@@ -111,7 +115,7 @@ pub(crate) fn apply_scan(parts: &mut Parts, token: Option<Token>) -> Option<Acto
     ensures woken { IsLowestWoken (actors_of parts.old.table.slots) (actors_of parts.new.table.slots) result }
 {
     parts.detector.clear_news();
-    let Some(token) = token else {
+    let Some(token) = parts.token.take() else {
         return None;
     };
     let woken = ask_all(&mut parts.table, token.members(), token.number());

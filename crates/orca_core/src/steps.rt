@@ -1,6 +1,6 @@
 // Events of all kinds, prepared and done.
 
-ghost use Rattle.std.specs.Prelude.{◌≡◌, ◌≤◌, IfErr, IfOk};
+ghost use Rattle.std.specs.Prelude.{◌≡◌, ◌≤◌, IfErr, OnOk};
 ghost use Rattle.event_rule.specs.Runs.{Goes};
 ghost use Rattle.machine_rules.specs.Next.{next};
 ghost use Rattle.actor_table.specs.Slots.{actors_of, away_of};
@@ -9,7 +9,7 @@ ghost use Rattle.orca_core.specs.Faults.{IsFault};
 ghost use Rattle.orca_core.specs.Fits.{OnlyRoom};
 ghost use Rattle.orca_core.specs.Machine.{options_of};
 ghost use Rattle.orca_core.specs.Parts.{state_of};
-ghost use Rattle.orca_core.specs.Ready.{FitsReady, event_of};
+ghost use Rattle.orca_core.specs.Ready.{FitsEvent};
 ghost use Rattle.orca_core.specs.Steps.{CanStep, ReapsAtHome};
 ghost use Rattle.orca_core.specs.Woken.{IsLowestWoken};
 
@@ -20,8 +20,7 @@ use crate::goes::{apply_go, prepare_go};
 use crate::hears::{apply_hear, prepare_hear};
 use crate::leaves::{apply_leave, prepare_leave};
 use crate::parts::Parts;
-use crate::ready::Ready;
-use crate::reaps::{Going, apply_reap, prepare_reap};
+use crate::reaps::{apply_reap, prepare_reap};
 use crate::scans::{apply_scan, prepare_scan};
 use crate::takes::{apply_take, prepare_take};
 use behaviour_check::Checked;
@@ -40,53 +39,24 @@ pub(crate) fn prepare(
     weight: u32,
     trace: Trace,
     parts: &mut Parts,
-    e: Event,
-) -> Result<Ready, StepFault>
-    requires can { CanStep trace weight code.now parts.old e }
-    requires home { ReapsAtHome e parts.old }
+    e: &Event,
+) -> Result<(), StepFault>
+    requires can { CanStep trace weight code.now parts.old e.now }
+    requires home { ReapsAtHome e.now parts.old }
     ensures same { OnlyRoom parts.old parts.new }
-    ensures event { IfOk result (λ ready. event_of ready ≡ e) }
-    ensures ok { IfOk result (λ ready. FitsReady trace weight code.now ready parts.new) }
+    ensures ok { OnOk result (FitsEvent trace weight code.now e.now parts.new) }
     ensures fault { let s = state_of code.now (options_of weight trace) parts.old in
-        IfErr result (IsFault (next_without (away_of parts.old.table.slots) s e) e) }
+        IfErr result (IsFault (next_without (away_of parts.old.table.slots) s e.now) e.now) }
 {
-    match e {
-        Event::Take(actor) => match prepare_take(parts, actor) {
-            Ok(()) => Ok(Ready::Take { actor }),
-            Err(fault) => Err(fault),
-        },
-        Event::Go(actor) => match prepare_go(alloc, code, weight, trace, parts, actor) {
-            Ok(found) => Ok(Ready::Go { actor, found }),
-            Err(fault) => Err(fault),
-        },
-        Event::Collect(actor) => match prepare_collect(alloc, trace, parts, actor) {
-            Ok((found, room)) => Ok(Ready::Collect { actor, found, room }),
-            Err(fault) => Err(fault),
-        },
-        Event::Leave(actor) => match prepare_leave(alloc, parts, actor) {
-            Ok(letters) => Ok(Ready::Leave { actor, letters }),
-            Err(fault) => Err(fault),
-        },
-        Event::Block(actor) => match prepare_block(alloc, parts, actor) {
-            Ok(note) => Ok(Ready::Block { actor, note }),
-            Err(fault) => Err(fault),
-        },
-        Event::Hear => match prepare_hear(parts) {
-            Ok(()) => Ok(Ready::Hear),
-            Err(fault) => Err(fault),
-        },
-        Event::Scan => match prepare_scan(alloc, parts) {
-            Ok(token) => Ok(Ready::Scan { token }),
-            Err(fault) => Err(fault),
-        },
-        Event::Reap(token) => match prepare_reap(alloc, parts, token) {
-            Ok(Going { members, letters }) => Ok(Ready::Reap {
-                token,
-                members,
-                letters,
-            }),
-            Err(fault) => Err(fault),
-        },
+    match *e {
+        Event::Take(actor) => prepare_take(parts, actor),
+        Event::Go(actor) => prepare_go(alloc, code, weight, trace, parts, actor),
+        Event::Collect(actor) => prepare_collect(alloc, trace, parts, actor),
+        Event::Leave(actor) => prepare_leave(alloc, parts, actor),
+        Event::Block(actor) => prepare_block(alloc, parts, actor),
+        Event::Hear => prepare_hear(parts),
+        Event::Scan => prepare_scan(alloc, parts),
+        Event::Reap(token) => prepare_reap(alloc, parts, token),
     }
 }
 
@@ -97,29 +67,24 @@ pub(crate) fn apply(
     weight: u32,
     trace: Trace,
     parts: &mut Parts,
-    ready: Ready,
+    e: Event,
 ) -> Option<ActorName>
     requires light { weight ≤ 65536 }
-    requires fits { FitsReady trace weight code.now ready parts.old }
-    requires can { CanStep trace weight code.now parts.old (event_of ready) }
+    requires fits { FitsEvent trace weight code.now e parts.old }
+    requires can { CanStep trace weight code.now parts.old e }
     ensures state { let options = options_of weight trace in
-        next (state_of code.now options parts.old) (event_of ready)
-        ≡ Goes (state_of code.now options parts.new) }
+        next (state_of code.now options parts.old) e ≡ Goes (state_of code.now options parts.new) }
     ensures away { KeepsAway (away_of parts.old.table.slots) (away_of parts.new.table.slots) }
     ensures woken { IsLowestWoken (actors_of parts.old.table.slots) (actors_of parts.new.table.slots) result }
 {
-    match ready {
-        Ready::Take { actor } => apply_take(code, parts, actor),
-        Ready::Go { actor, found } => apply_go(alloc, code, weight, trace, parts, actor, found),
-        Ready::Collect { actor, found, room } => apply_collect(parts, trace, actor, found, room),
-        Ready::Leave { actor, letters } => apply_leave(alloc, parts, actor, letters),
-        Ready::Block { actor, note } => apply_block(parts, actor, note),
-        Ready::Hear => apply_hear(parts),
-        Ready::Scan { token } => apply_scan(parts, token),
-        Ready::Reap {
-            token,
-            members,
-            letters,
-        } => apply_reap(alloc, parts, token, members.as_slice(), letters),
+    match e {
+        Event::Take(actor) => apply_take(code, parts, actor),
+        Event::Go(actor) => apply_go(alloc, code, weight, trace, parts, actor),
+        Event::Collect(actor) => apply_collect(alloc, parts, trace, actor),
+        Event::Leave(actor) => apply_leave(alloc, parts, actor),
+        Event::Block(actor) => apply_block(parts, actor),
+        Event::Hear => apply_hear(parts),
+        Event::Scan => apply_scan(parts),
+        Event::Reap(token) => apply_reap(alloc, parts, token),
     }
 }

@@ -4,6 +4,7 @@
 
 mod device;
 mod gate;
+mod hold_gate;
 mod mem_sink;
 mod mem_source;
 mod streams;
@@ -11,6 +12,7 @@ mod sure;
 
 pub use device::{Failed, Sink, Source};
 pub use gate::{Gate, OpenGate};
+pub use hold_gate::HoldGate;
 pub use mem_sink::MemSink;
 pub use mem_source::MemSource;
 pub use streams::{ReadSource, StdSink, StdSource, WriteSink};

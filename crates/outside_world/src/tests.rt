@@ -4,13 +4,13 @@
 ghost use Rattle.std.specs.Prelude.{◌≤◌, IfOk};
 
 use crate::{
-    Failed, Gate, MemSink, MemSource, OpenGate, ReadSource, Sink, Source, StdSink, StdSource,
-    SureSink, SureSource, WriteSink,
+    Failed, Gate, HoldGate, MemSink, MemSource, OpenGate, ReadSource, Sink, Source, StdSink,
+    StdSource, SureSink, SureSource, WriteSink,
 };
 use orca_names::ActorName;
-use std::io;
 use std::io::{Read, Write};
 use std::test::Fail;
+use std::{io, thread};
 
 #[test]
 fn sources_give_their_bytes_in_order(rt: HostRuntime) -> Result<(), Fail> {
@@ -122,6 +122,31 @@ fn a_sink_asks_its_writer_once_each_time(rt: HostRuntime) -> Result<(), Fail> {
 #[test]
 fn an_open_gate_holds_nobody_up(rt: HostRuntime) {
     assert_eq!(rt; OpenGate.enter(&rt, ActorName(1), 7), ());
+}
+
+#[test]
+fn two_actors_meet_at_a_gate(rt: HostRuntime) {
+    let gate = HoldGate::new(ActorName(1), ActorName(2), 1_000_000);
+    gate.enter(&rt, ActorName(0), 0);
+    assert!(rt; !gate.met());
+    thread::join(
+        &rt,
+        || gate.enter(&rt, ActorName(1), 4),
+        || gate.enter(&rt, ActorName(2), 4),
+    );
+    assert!(rt; gate.met());
+    gate.enter(&rt, ActorName(1), 9);
+    assert!(rt; gate.met());
+}
+
+#[test]
+fn an_actor_alone_at_a_gate_gives_up(rt: HostRuntime) {
+    let gate = HoldGate::new(ActorName(1), ActorName(2), 10);
+    gate.enter(&rt, ActorName(1), 0);
+    assert!(rt; !gate.met());
+    gate.enter(&rt, ActorName(2), 1);
+    gate.enter(&rt, ActorName(1), 2);
+    assert!(rt; !gate.met());
 }
 
 #[test]

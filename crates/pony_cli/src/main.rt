@@ -15,6 +15,8 @@ use std::alloc::{AllocError, Global};
 use std::env::Args;
 use std::io::ErrorKind;
 use std::process::ExitCode;
+use std::sync::Wait;
+use std::thread::Threads;
 use std::{env, io};
 
 #[cfg(test)]
@@ -52,7 +54,7 @@ fn words_of<'a>(alloc: Global, arguments: &'a [String]) -> Result<Vec<&'a str>, 
 }
 
 /// The call with these words over this source and this sink, and its exit code.
-fn call_over<R: AllocGlobal, S: Source, K: Sink>(
+fn call_over<R: AllocGlobal + Threads + Wait + Sync, S: Source, K: Sink>(
     rt: &R,
     words: &[&str],
     source: &mut S,
@@ -76,7 +78,7 @@ fn starved() -> ExitCode
 
 /// The call with the program's arguments, of which the first is its own name, and its exit code.
 /// Arguments that are no text are refused as words.
-fn answer<R: AllocGlobal, S: Source, K: Sink>(
+fn answer<R: AllocGlobal + Threads + Wait + Sync, S: Source, K: Sink>(
     rt: &R,
     arguments: io::Result<Args>,
     source: &mut S,

@@ -5,7 +5,9 @@ use outside_world::{MemSink, MemSource};
 use std::alloc::Global;
 use std::env::{Env, FillError};
 use std::process::ExitCode;
+use std::sync::Wait;
 use std::test::Fail;
+use std::thread::Threads;
 use std::{env, io};
 
 const SEVEN: &str = "kind Main 0\non start 0\nint r0 7\nprint r0\nend\n";
@@ -40,8 +42,8 @@ impl Env for Given {
 }
 
 /// Whether the program answers these arguments with this code, and writes this.
-fn gives(
-    rt: &HostRuntime,
+fn gives<R: AllocGlobal + Threads + Wait + Sync>(
+    rt: &R,
     arguments: io::Result<env::Args>,
     code: u8,
     written: &str,

@@ -1,34 +1,75 @@
-//! Runs each example, the programs in `data/`, and writes its name, what the call writes, and the
-//! call's exit code.
+//! Runs each example, the programs in `data/` with some words each, and writes the file's name and the
+//! words, what the call writes, and the call's exit code.
 #![tactic(auto)]
 
 use outside_world::{OpenGate, ReadSource, StdSink};
 use pony_run::run_words;
 use std::fs::File;
-use std::{fs, io};
+use std::io;
+use std::sync::Wait;
+use std::thread::Threads;
 
-/// The names of the files in this folder, in order.
-fn names(rt: &HostRuntime) -> io::Result<Vec<String>> {
-    let mut names = Vec::new(rt.alloc());
-    for entry in fs::read_dir(rt, ".")? {
-        names.push(String::from_str(rt.alloc(), entry?.file_name())?)?;
+/// The examples: each file, and the words of a run of it.
+const RUNS: &[(&str, &[&str])] = &[
+    ("prints_seven.txt", &["run", "--workers", "1", "--book"]),
+    ("counts_down.txt", &[]),
+    (
+        "keeps_an_object.txt",
+        &["run", "--workers", "1", "--counts", "--book"],
+    ),
+    ("hold_each_other.txt", &["run", "--workers", "1", "--book"]),
+    ("passes_on.txt", &["run", "--workers", "1", "--book"]),
+    (
+        "passes_on.txt",
+        &[
+            "run",
+            "--workers",
+            "1",
+            "--weight",
+            "2",
+            "--budget",
+            "7",
+            "--counts",
+        ],
+    ),
+    ("comes_back.txt", &["run", "--workers", "1", "--book"]),
+    ("names_its_holder.txt", &["run", "--workers", "1", "--book"]),
+    (
+        "names_its_holder.txt",
+        &[
+            "run",
+            "--workers",
+            "1",
+            "--trace",
+            "roots",
+            "--counts",
+            "--book",
+        ],
+    ),
+    ("makes_many.txt", &["run", "--workers", "1"]),
+];
+
+/// The call with these words over this file and standard output, with threads of this handle.
+fn run_example<R: AllocGlobal + Threads + Wait + Sync>(
+    threads: &R,
+    rt: &HostRuntime,
+    name: &str,
+    words: &[&str],
+) -> io::Result<()> {
+    print!(rt; "{name}")?;
+    for word in words {
+        print!(rt; " {word}")?;
     }
-    names.sort()?;
-    Ok(names)
-}
-
-/// The call over this file and standard output.
-fn run_example(rt: &HostRuntime, name: &str) -> io::Result<()> {
-    println!(rt; "{name}")?;
+    println!(rt; "")?;
     let mut source = ReadSource::new(File::open(rt, name)?);
     let mut sink = StdSink::new(rt.stdout());
-    let outcome = run_words(rt, &[], &mut source, &mut sink, &OpenGate);
+    let outcome = run_words(threads, words, &mut source, &mut sink, &OpenGate);
     println!(rt; "code {}", outcome.status.code())
 }
 
 fn main(rt: HostRuntime) -> io::Result<()> {
-    for name in &names(&rt)? {
-        run_example(&rt, name.as_str())?;
+    for (name, words) in RUNS {
+        run_example(&rt, &rt, name, words)?;
     }
     Ok(())
 }

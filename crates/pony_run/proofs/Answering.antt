@@ -129,6 +129,14 @@ nothing_done reading left given reads writes book answer same none =
 
 -- ---- where a run begins
 
+-- memory was refused before its first event
+pub starved_answers : (order : Order) (program : Program) (given : Option (List ℕ)) (writes : ℕ) (book : BookValue) (answer : Status) → answer ≡ status.NoMemory
+    → EveryRun order program book
+    → RunAnswers order program (record { before = given; after = given; faults_before = writes; faults_after = writes }) book answer
+starved_answers order program given writes book answer same run =
+    let sink : Sides = record { before = given; after = given; faults_before = writes; faults_after = writes } in
+    subst (λ (a : Status). RunAnswers order program sink book a) (sym same) (RunAnswers.starved run (nothing_written given writes))
+
 module _ (order : Order) (program : Program) (sink : Sides) (book : BookValue) (run : EveryRun order program book) where
   -- the report of a run that ended so
   pub report_answers : (end answer : Status) (s : State) → run.state ≡ s → EndsWith end s book.entries order.budget

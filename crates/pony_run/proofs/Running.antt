@@ -18,41 +18,38 @@ use Rattle.machine_rules.specs.Run.{IsPlainBeside, IsRun}
 use Rattle.machine_rules.specs.State.{State, first_state}
 use Rattle.machine_laws.proofs.AtQuiet.{exactly_at_quiet, quiet_by_roots}
 use Rattle.machine_laws.proofs.WholeRuns.{never_too_early}
-use Rattle.orca_core.specs.Laws.{IsLeftExactly}
+use Rattle.orca_core.specs.Laws.{IsLeftExactly, IsRunOf}
+use Rattle.orca_core.specs.Machine.{NoneIsAway, Machine as Orca}
+use Rattle.quiet_pass.proofs.Beginning.{run_begins}
 use Rattle.quiet_pass.specs.Ends.{EndsSo, GoesOnTo}
 use Rattle.quiet_pass.specs.declared.ending.End.{End}
 use Rattle.quiet_pass.specs.declared.ending.End.TheVariants as ends
 use Rattle.pony_run.specs.Headline.{EndsWith, EveryRun, options_in}
-use Rattle.pony_run.specs.Inner.{IsAnswerOf}
-
--- events in order lead on
-pub in_order_leads : {S : Type 0} (next : Machine S) (s t : S) (book : List Event) → LeadsInOrder next s book t → Leads next s book t
-in_order_leads next s t [] h = h
-in_order_leads next s t (e ∷ book) h = (h.1.0, h.1.1, in_order_leads next h.1.0 t book h.1.2)
+use Rattle.pony_run.specs.Inner.{IsAnswerOf, IsUnderWay}
 
 exact_after : (trace : Trace) (program : Program) (options : Options) → options.trace ≡ trace → 0 < options.weight → (book : List Event) (t : State)
     → IsRun program options book t → IsQuiet next t → (plain : PlainState) × IsPlainBeside program options book plain × IsLeftExactly trace plain t.actors
 exact_after Deep program options is heavy book t run quiet = exactly_at_quiet program options heavy is book t run quiet
 exact_after Roots program options is heavy book t run quiet = quiet_by_roots program options heavy is book t run quiet
 
--- the run of a book that has the order's options and is in order
+-- the run of a book that has the order's options, and with one worker is in order
 pub every_run : (order : Order) (program : Program) (book : BookValue) (t : State) → 0 < order.weight → book.weight ≡ order.weight → book.trace ≡ order.trace
-    → length book.entries ≤ order.budget → LeadsInOrder next (first_state program (options_in order)) book.entries t
+    → length book.entries ≤ order.budget → IsRun program (options_in order) book.entries t
+    → (order.workers ≡ 1 → LeadsInOrder next (first_state program (options_in order)) book.entries t)
     → (run : EveryRun order program book) × (run.state ≡ t)
-every_run order program book t heavy weight trace within in_order =
-    let run : IsRun program (options_in order) book.entries t = in_order_leads next (first_state program (options_in order)) t book.entries in_order in (
-      record {
-        weight = weight;
-        trace = trace;
-        within = within;
-        state = t;
-        run = run;
-        in_order = in_order;
-        safe = λ front later e. never_too_early program (options_in order) heavy front later t (subst (λ b. IsRun program (options_in order) b t) e run);
-        exact = exact_after order.trace program (options_in order) refl heavy book.entries t run;
-      },
-      refl,
-    )
+every_run order program book t heavy weight trace within run in_order = (
+  record {
+    weight = weight;
+    trace = trace;
+    within = within;
+    state = t;
+    run = run;
+    in_order = in_order;
+    safe = λ front later e. never_too_early program (options_in order) heavy front later t (subst (λ b. IsRun program (options_in order) b t) e run);
+    exact = exact_after order.trace program (options_in order) refl heavy book.entries t run;
+  },
+  refl,
+)
 
 -- before the first event
 pub no_run_yet : (order : Order) (program : Program) (book : BookValue) → 0 < order.weight
@@ -62,22 +59,58 @@ no_run_yet order program book heavy fresh =
     let first = first_state program (options_in order) in
     (every_run order program book first heavy (ap (λ (b : BookValue). b.weight) fresh) (ap (λ (b : BookValue). b.trace) fresh)
     (subst (λ (b : List Event). length b ≤ order.budget) (sym none) (omega arith))
-    (subst (λ (b : List Event). LeadsInOrder next first b first) (sym none) refl)).0
+    (subst (λ (b : List Event). Leads next first b first) (sym none) refl)
+    (λ single. subst (λ (b : List Event). LeadsInOrder next first b first) (sym none) refl)).0
 
--- what was added to an empty book is the book
-pub all_in_order : (s t u : State) (old book : List Event) → old ≡ [] → s ≡ u → GoesOnTo s old t book → LeadsInOrder next u book t
-all_in_order s t u old book none start on =
-    let added : book ≡ on.later = subst (λ (b : List Event). book ≡ b ++ on.later) none on.added in
-    subst (λ (x : State). LeadsInOrder next x book t) start (subst (λ (b : List Event). LeadsInOrder next s b t) (sym added) on.leads)
+-- ---- a run that is under way
 
--- the run that began with an empty book, and went on so
-pub run_that_went_on : (order : Order) (program : Program) (old new : BookValue) (s t : State) → 0 < order.weight
-    → old ≡ record { entries = []; spare = 0; weight = order.weight; trace = order.trace } → (new.weight ≡ old.weight) × (new.trace ≡ old.trace)
-    → length new.entries ≤ order.budget → s ≡ first_state program (options_in order) → GoesOnTo s old.entries t new.entries
-    → (run : EveryRun order program new) × (run.state ≡ t)
-run_that_went_on order program old new s t heavy fresh same within start on =
-    every_run order program new t heavy (same.0 ∙ ap (λ (b : BookValue). b.weight) fresh) (same.1 ∙ ap (λ (b : BookValue). b.trace) fresh) within
-    (all_in_order s t (first_state program (options_in order)) old.entries new.entries (ap (λ (b : BookValue). b.entries) fresh) start on)
+-- what it promises
+pub run_under_way : (order : Order) (program : Program) (m : Orca) (book : BookValue) → 0 < order.weight → IsUnderWay order program m book
+    → (run : EveryRun order program book) × (run.state ≡ m.state)
+run_under_way order program m book heavy h =
+    every_run order program book m.state heavy h.weight h.trace h.within
+    (subst (λ (p : Program). IsRun p (options_in order) book.entries m.state) h.program_is
+    (subst (λ (o : Options). IsRun m.state.program o book.entries m.state) h.options h.run.run))
+    h.in_order
+
+-- it begins with an empty book
+pub begins_under_way : (order : Order) (program : Program) (m : Orca) (book : BookValue) → book ≡ record { entries = []; spare = 0; weight = order.weight; trace = order.trace }
+    → m.state ≡ first_state program (options_in order) → m.steps ≡ 0 → NoneIsAway m → IsUnderWay order program m book
+begins_under_way order program m book fresh first none home =
+    let empty = ap (λ (b : BookValue). b.entries) fresh in
+    record {
+      program_is = ap (λ (s : State). s.program) first;
+      run = run_begins program (options_in order) m book.entries first none empty;
+      options = ap (λ (s : State). s.options) first;
+      weight = ap (λ (b : BookValue). b.weight) fresh;
+      trace = ap (λ (b : BookValue). b.trace) fresh;
+      within = subst (λ (b : List Event). length b ≤ order.budget) (sym empty) (omega arith);
+      home = home;
+      in_order = λ single. subst (λ (b : List Event). LeadsInOrder next (first_state program (options_in order)) b m.state) (sym empty) (sym first);
+    }
+
+-- entries in order, and behind them more
+in_order_on : {S : Type 0} (next : Machine S) (s t u : S) (book later : List Event) → LeadsInOrder next s book t → LeadsInOrder next t later u
+    → LeadsInOrder next s (book ++ later) u
+in_order_on next s t u [] later same on = subst (λ v. LeadsInOrder next v later u) (sym same) on
+in_order_on next s t u (e ∷ book) later h on = (h.0, (h.1.0, h.1.1, in_order_on next h.1.0 t u book later h.1.2 on))
+
+-- one worker goes on with it
+pub goes_on_under_way : (order : Order) (program : Program) (m n : Orca) (book longer : BookValue) → IsUnderWay order program m book
+    → IsRunOf n longer.entries → n.state.program ≡ m.state.program → n.state.options ≡ m.state.options
+    → (longer.weight ≡ book.weight) × (longer.trace ≡ book.trace) → length longer.entries ≤ order.budget → NoneIsAway n
+    → GoesOnTo m.state book.entries n.state longer.entries → IsUnderWay order program n longer
+goes_on_under_way order program m n book longer h run same_program same_options same within home on = record {
+  program_is = same_program ∙ h.program_is;
+  run = run;
+  options = same_options ∙ h.options;
+  weight = same.0 ∙ h.weight;
+  trace = same.1 ∙ h.trace;
+  within = within;
+  home = home;
+  in_order = λ single. subst (λ (b : List Event). LeadsInOrder next (first_state program (options_in order)) b n.state) (sym on.added)
+      (in_order_on next (first_state program (options_in order)) m.state n.state book.entries on.later (h.in_order single) on.leads);
+}
 
 -- ---- how a run ended, and how the call ends then
 

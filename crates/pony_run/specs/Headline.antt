@@ -85,6 +85,10 @@ pub record Begins (reading : Option Order) (source : Sides) (order : Order) (pro
 
 -- ---- the run
 
+-- the same order, given to one worker
+abbrev pub alone : Order → Order
+alone order = record order { workers = 1 }
+
 -- how the order has the machine run
 abbrev pub options_in : Order → Options
 options_in order = record { weight = order.weight; trace = order.trace }
@@ -111,8 +115,9 @@ pub record EveryRun (order : Order) (program : Program) (book : BookValue) : Typ
   -- it is a run of the program, and leads to this state
   pub state : State
   pub run : IsRun program (options_in order) book.entries state
-  -- each entry is the first event that is enabled in its turn, in the order of one worker
-  pub in_order : LeadsInOrder next (first_state program (options_in order)) book.entries state
+  -- with one worker each entry is the first event that is enabled in its turn
+  pub in_order : order.workers ≡ 1
+      → LeadsInOrder next (first_state program (options_in order)) book.entries state
   -- after each front of it, nothing was freed too early
   pub safe : (front later : List Event) → book.entries ≡ front ++ later
       → IsSafeAfter program (options_in order) front

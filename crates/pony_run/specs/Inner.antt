@@ -1,5 +1,5 @@
 -- What the parts of a call do, below its promise.
-use Rattle.std.specs.Prelude.{◌≡◌, ◌≢◌, ◌⊎◌, ℕ, ◌<◌, List, [], length, Some, None, ⊤}
+use Rattle.std.specs.Prelude.{◌≡◌, ◌≢◌, ◌⊎◌, ℕ, ◌<◌, ◌≤◌, List, [], length, Some, None, ⊤}
 use Rattle.std.specs.declared.option.Option.{Option}
 use Rattle.run_book.specs.Books.{BookValue}
 use Rattle.report_text.specs.declared.status.Status.{Status}
@@ -9,10 +9,14 @@ use Rattle.word_line.specs.declared.order.Job.TheVariants.{Run}
 use Rattle.word_line.specs.declared.order.Order.{Order}
 use Rattle.behaviour_code.specs.declared.code.Program.{Program}
 use Rattle.behaviour_check.specs.Rules.{fault_at, first_broken}
-use Rattle.machine_rules.specs.State.{State}
+use Rattle.event_rule.specs.Runs.{LeadsInOrder}
+use Rattle.machine_rules.specs.Next.{next}
+use Rattle.machine_rules.specs.State.{State, first_state}
+use Rattle.orca_core.specs.Laws.{IsRunOf}
+use Rattle.orca_core.specs.Machine.{Machine, NoneIsAway}
 use Rattle.quiet_pass.specs.declared.ending.End.{End}
 use Rattle.quiet_pass.specs.declared.ending.End.TheVariants as ends
-use Rattle.pony_run.specs.Headline.{EveryRun, IsCut, IsFaulty, IsInput, IsProgramOf, IsReport, IsReportOf, Reads, ReadsFor, Refuses, Writes}
+use Rattle.pony_run.specs.Headline.{EveryRun, IsCut, IsFaulty, IsInput, IsProgramOf, IsReport, IsReportOf, Reads, ReadsFor, Refuses, Writes, options_in}
 use Rattle.pony_run.specs.Streams.{HasFailed, Sides, most_bytes}
 
 -- ---- no run begins
@@ -74,6 +78,20 @@ pub record GivesProgram (job : Job) (source : Sides) (program : Program) : Type 
   pub input : List ℕ
   pub read : IsInput job source input
   pub runs : IsRunnable input program
+
+-- the book is a run of the program as the order wants it, and led to this machine, which has all its
+-- cells
+pub record IsUnderWay (order : Order) (program : Program) (m : Machine) (book : BookValue)
+    : Type 0 where
+  pub program_is : m.state.program ≡ program
+  pub run : IsRunOf m book.entries
+  pub options : m.state.options ≡ options_in order
+  pub weight : book.weight ≡ order.weight
+  pub trace : book.trace ≡ order.trace
+  pub within : length book.entries ≤ order.budget
+  pub home : NoneIsAway m
+  pub in_order : order.workers ≡ 1
+      → LeadsInOrder next (first_state program (options_in order)) book.entries m.state
 
 -- the report of a run that ended so was written: whole, or in part where the sink failed, or not at
 -- all where memory was refused

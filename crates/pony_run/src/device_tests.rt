@@ -4,7 +4,9 @@ ghost use Rattle.std.specs.Prelude.{None, false};
 
 use crate::run_words;
 use outside_world::{Failed, MemSink, MemSource, OpenGate, Sink, Source};
+use std::sync::Wait;
 use std::test::Fail;
+use std::thread::Threads;
 
 const SEVEN: &str = "kind Main 0\non start 0\nint r0 7\nprint r0\nend\n";
 
@@ -53,7 +55,11 @@ impl Sink for NotedSink {
 }
 
 /// The rooms that a call offers to a source of so many bytes, which gives at most `piece` a call.
-fn rooms_for<R: AllocGlobal>(rt: &R, left: usize, piece: usize) -> Result<Vec<usize>, Fail> {
+fn rooms_for<R: AllocGlobal + Threads + Wait + Sync>(
+    rt: &R,
+    left: usize,
+    piece: usize,
+) -> Result<Vec<usize>, Fail> {
     let mut source = NotedSource {
         left,
         piece,
@@ -83,7 +89,10 @@ fn the_last_read_offers_what_is_missing(rt: HostRuntime) -> Result<(), Fail> {
 }
 
 /// What the writes of a call with these words offer.
-fn offers_of<R: AllocGlobal>(rt: &R, words: &[&str]) -> Result<Vec<usize>, Fail> {
+fn offers_of<R: AllocGlobal + Threads + Wait + Sync>(
+    rt: &R,
+    words: &[&str],
+) -> Result<Vec<usize>, Fail> {
     let input = SEVEN.as_bytes().to_vec(rt.alloc())?;
     let mut source = MemSource::new(input, 4096, Vec::new(rt.alloc()));
     let mut sink = NotedSink {

@@ -5,10 +5,12 @@ mod beginning;
 mod call;
 mod reading;
 mod reporting;
+mod runs;
 mod writing;
 
-pub use call::{Outcome, run_single, run_words};
+pub use call::{run_single, run_words};
 pub use report_text::Status;
+pub use runs::Outcome;
 pub use word_line::{Job, Order};
 
 #[cfg(test)]

@@ -59,6 +59,14 @@ pub(crate) const SENT_TWICE: &str =
 pub(crate) const OPENED: &str =
     "kind Main 0\non start 0\npin\nnew r0 A\nint r1 4\nrow r2 r1\nrow r3 r2\nsend r0 open r3\nend\nkind A 0\non open 1\nget r1 r0 0\nget r2 r1 0\nprint r2\nend\n";
 
+/// An actor sends an object and goes on counted; what comes back finds its report out.
+pub(crate) const DROPPED: &str =
+    "kind Main 0\non start 0\nnew r0 A\nint r1 1\nrow r2 r1\nsend r0 keep r2\nend\nkind A 0\non keep 1\nend\n";
+
+/// An actor sends itself longer and longer chains of rows, up to a thousand.
+pub(crate) const CHAIN: &str =
+    "kind Main 0\non start 0\nint r0 1000\nself r2\nsend r2 step r0 r1\nend\non step 2\njzero r0 done\nrow r1 r1\nint r2 1\nsub r0 r0 r2\nself r2\nsend r2 step r0 r1\nlabel done\nend\n";
+
 /// It makes 65,535 actors; its own is one more.
 pub(crate) const ALL_LEAVES: &str =
     "kind Main 0\non start 0\nint r0 65535\nself r1\nsend r1 step r0\nend\non step 1\njzero r0 done\nnew r1 Leaf\nint r2 1\nsub r0 r0 r2\nself r1\nsend r1 step r0\nlabel done\nend\nkind Leaf 0\n";
@@ -66,3 +74,7 @@ pub(crate) const ALL_LEAVES: &str =
 /// It would make 65,536 actors; its own is one more.
 pub(crate) const ONE_LEAF_MORE: &str =
     "kind Main 0\non start 0\nint r0 65536\nself r1\nsend r1 step r0\nend\non step 1\njzero r0 done\nnew r1 Leaf\nint r2 1\nsub r0 r0 r2\nself r1\nsend r1 step r0\nlabel done\nend\nkind Leaf 0\n";
+
+/// Two actors that nobody holds each print a number.
+pub(crate) const TWO_PRINT: &str =
+    "kind Main 0\non start 0\nnew r0 W\nnew r1 W\nsend r0 work\nsend r1 work\nend\nkind W 0\non work 0\nint r0 1\nprint r0\nend\n";

@@ -2,12 +2,14 @@
 
 use crate::Status;
 use crate::programs::{
-    ALL_LEAVES, KEPT, NAMED, ONE_LEAF_MORE, OPENED, PASSED, PEERS, PING, PINNED, REACHED_TWICE,
-    SENT_TWICE, SEVEN, TO_ITSELF, UNHEARD,
+    ALL_LEAVES, CHAIN, DROPPED, KEPT, NAMED, ONE_LEAF_MORE, OPENED, PASSED, PEERS, PING, PINNED,
+    REACHED_TWICE, SENT_TWICE, SEVEN, TO_ITSELF, UNHEARD,
 };
 use crate::tests::{answer, gives};
 use orca_names::ActorName;
+use std::sync::Wait;
 use std::test::Fail;
+use std::thread::Threads;
 
 // Words, input, exit code and what is written.
 const REPORTS: &[(&[&str], &str, u8, &str)] = &[
@@ -150,6 +152,130 @@ const REPORTS: &[(&[&str], &str, u8, &str)] = &[
         "--\nend budget\nactors made 2 left 2\nobjects made 2 left 2\nactor 0 count 1 inc 0 dec 0 held 1 letters 0\nobject 0.0 count 0 inc 256 dec 0 held 256 letters 0\nobject 0.1 count 1 inc 0 dec 0 held 1 letters 0\nactor 1 count 256 inc 0 dec 0 held 256 letters 0\n",
     ),
     (
+        &["run", "--workers", "1", "--budget=6", "--counts"],
+        PASSED,
+        5,
+        "--\nend budget\nactors made 3 left 3\nobjects made 1 left 1\nactor 0 count 1 inc 0 dec 0 held 1 letters 0\nobject 0.0 count 1 inc 0 dec 0 held 1 letters 0\nactor 1 count 256 inc 0 dec 0 held 256 letters 0\nactor 2 count 256 inc 0 dec 0 held 256 letters 0\n",
+    ),
+    (
+        &["run", "--workers", "1", "--budget=7", "--counts"],
+        PASSED,
+        5,
+        "--\nend budget\nactors made 3 left 3\nobjects made 1 left 1\nactor 0 count 1 inc 256 dec 0 held 257 letters 0\nobject 0.0 count 1 inc 256 dec 0 held 257 letters 0\nactor 1 count 256 inc 0 dec 0 held 256 letters 0\nactor 2 count 256 inc 0 dec 0 held 256 letters 0\n",
+    ),
+    (
+        &["run", "--workers", "1", "--budget=9", "--counts"],
+        PASSED,
+        5,
+        "--\nend budget\nactors made 3 left 3\nobjects made 1 left 1\nactor 0 count 257 inc 0 dec 0 held 256 letters 1\nobject 0.0 count 257 inc 0 dec 0 held 256 letters 1\nactor 1 count 256 inc 0 dec 0 held 256 letters 0\nactor 2 count 256 inc 0 dec 0 held 256 letters 0\n",
+    ),
+    (
+        &["run", "--workers", "1", "--budget=17", "--counts"],
+        PASSED,
+        5,
+        "9\n--\nend budget\nactors made 3 left 3\nobjects made 1 left 1\nactor 0 count 257 inc 0 dec 256 held 1 letters 0\nobject 0.0 count 257 inc 0 dec 256 held 1 letters 0\nactor 1 count 0 inc 0 dec 0 held 0 letters 0\nactor 2 count 1 inc 0 dec 1 held 0 letters 0\n",
+    ),
+    (
+        &[
+            "run",
+            "--workers",
+            "1",
+            "--weight=2",
+            "--budget=6",
+            "--counts",
+        ],
+        PASSED,
+        5,
+        "--\nend budget\nactors made 3 left 3\nobjects made 1 left 1\nactor 0 count 1 inc 0 dec 0 held 1 letters 0\nobject 0.0 count 1 inc 0 dec 0 held 1 letters 0\nactor 1 count 2 inc 0 dec 0 held 2 letters 0\nactor 2 count 2 inc 0 dec 0 held 2 letters 0\n",
+    ),
+    (
+        &[
+            "run",
+            "--workers",
+            "1",
+            "--weight=2",
+            "--budget=7",
+            "--counts",
+        ],
+        PASSED,
+        5,
+        "--\nend budget\nactors made 3 left 3\nobjects made 1 left 1\nactor 0 count 1 inc 2 dec 0 held 3 letters 0\nobject 0.0 count 1 inc 2 dec 0 held 3 letters 0\nactor 1 count 2 inc 0 dec 0 held 2 letters 0\nactor 2 count 2 inc 0 dec 0 held 2 letters 0\n",
+    ),
+    (
+        &[
+            "run",
+            "--workers",
+            "1",
+            "--weight=2",
+            "--budget=9",
+            "--counts",
+        ],
+        PASSED,
+        5,
+        "--\nend budget\nactors made 3 left 3\nobjects made 1 left 1\nactor 0 count 3 inc 0 dec 0 held 2 letters 1\nobject 0.0 count 3 inc 0 dec 0 held 2 letters 1\nactor 1 count 2 inc 0 dec 0 held 2 letters 0\nactor 2 count 2 inc 0 dec 0 held 2 letters 0\n",
+    ),
+    (
+        &[
+            "run",
+            "--workers",
+            "1",
+            "--weight=2",
+            "--budget=17",
+            "--counts",
+        ],
+        PASSED,
+        5,
+        "9\n--\nend budget\nactors made 3 left 3\nobjects made 1 left 1\nactor 0 count 3 inc 0 dec 2 held 1 letters 0\nobject 0.0 count 3 inc 0 dec 2 held 1 letters 0\nactor 1 count 0 inc 0 dec 0 held 0 letters 0\nactor 2 count 1 inc 0 dec 1 held 0 letters 0\n",
+    ),
+    (
+        &["run", "--workers", "1", "--budget=9", "--counts"],
+        NAMED,
+        5,
+        "--\nend budget\nactors made 3 left 3\nobjects made 1 left 1\nactor 0 count 0 inc 0 dec 0 held 0 letters 0\nactor 1 count 257 inc 0 dec 0 held 256 letters 1\nobject 1.0 count 1 inc 0 dec 0 held 0 letters 1\nactor 2 count 256 inc 256 dec 0 held 511 letters 1\n",
+    ),
+    (
+        &["run", "--workers", "1", "--budget=17", "--counts"],
+        NAMED,
+        5,
+        "--\nend budget\nactors made 3 left 2\nobjects made 1 left 1\nactor 1 count 1 inc 0 dec 0 held 1 letters 0\nobject 1.0 count 1 inc 0 dec 0 held 1 letters 0\nactor 2 count 256 inc 0 dec 256 held 0 letters 0\n",
+    ),
+    (
+        &["run", "--workers", "1", "--budget=10", "--counts"],
+        DROPPED,
+        5,
+        "--\nend budget\nactors made 2 left 2\nobjects made 1 left 1\nactor 0 count 1 inc 0 dec 1 held 0 letters 0\nobject 0.0 count 1 inc 0 dec 1 held 0 letters 0\nactor 1 count 0 inc 0 dec 0 held 0 letters 0\n",
+    ),
+    (
+        &["run", "--workers", "1", "--book"],
+        DROPPED,
+        0,
+        "--\nend quiet\nactors made 2 left 0\nobjects made 1 left 0\nbook 2 256\ntake 0\ngo 0\ngo 0\ngo 0\ntake 1\ngo 1\ncollect 0\ntake 1\nblock 0\ncollect 1\ntake 0\ncollect 0\nleave 0\nleave 1\nhear\nhear\nscan\n",
+    ),
+    (
+        &["run", "--workers", "1", "--book"],
+        PEERS,
+        0,
+        "--\nend quiet\nactors made 3 left 1\nobjects made 0 left 0\nbook 2 256\ntake 0\ngo 0\ngo 0\ngo 0\ngo 0\ngo 0\ntake 1\ngo 1\ntake 2\ngo 2\ncollect 0\ntake 1\ntake 2\ncollect 1\nblock 1\ncollect 2\nblock 2\nhear\nhear\nscan\ntake 1\ntake 2\nhear\nhear\nreap 1\n",
+    ),
+    (
+        &["run", "--workers", "1"],
+        CHAIN,
+        0,
+        "--\nend quiet\nactors made 1 left 0\nobjects made 1000 left 0\n",
+    ),
+    (
+        &["run", "--workers", "4"],
+        PEERS,
+        0,
+        "--\nend quiet\nactors made 3 left 1\nobjects made 0 left 0\n",
+    ),
+    (
+        &["load", "200", "--workers", "4"],
+        "",
+        0,
+        "200\n--\nend quiet\nactors made 201 left 0\nobjects made 1 left 0\n",
+    ),
+    (
         &["load", "1", "--workers", "1"],
         "",
         0,
@@ -180,41 +306,72 @@ fn runs_have_their_reports(rt: HostRuntime) -> Result<(), Fail> {
 // Words, input, how many entries the run book has, and how its text begins and ends.
 const BOOKS: &[(&[&str], &str, u64, &str, &str)] = &[
     (
-        &[],
+        &["run", "--workers=1"],
         PASSED,
         25,
         "book 2 256\ntake 0\n",
         "\nleave 1\ncollect 2\ntake 0\ncollect 0\nleave 2\n",
     ),
     (
-        &["run", "--weight", "2"],
+        &["run", "--workers=1", "--weight", "2"],
         PASSED,
         25,
         "book 2 2\ntake 0\n",
         "\nleave 2\n",
     ),
-    (&[], PEERS, 25, "book 2 256\ntake 0\n", "\nreap 1\n"),
-    (&[], KEPT, 16, "book 2 256\ntake 0\n", "\nscan\n"),
-    (&[], NAMED, 22, "book 2 256\ntake 0\n", "\ncollect 1\n"),
     (
-        &["run", "--trace", "roots"],
+        &["run", "--workers=1"],
+        PEERS,
+        25,
+        "book 2 256\ntake 0\n",
+        "\nreap 1\n",
+    ),
+    (
+        &["run", "--workers=1"],
+        KEPT,
+        16,
+        "book 2 256\ntake 0\n",
+        "\nscan\n",
+    ),
+    (
+        &["run", "--workers=1"],
+        NAMED,
+        22,
+        "book 2 256\ntake 0\n",
+        "\ncollect 1\n",
+    ),
+    (
+        &["run", "--workers=1", "--trace", "roots"],
         NAMED,
         19,
         "book 2 256 roots\ntake 0\n",
         "\nscan\n",
     ),
     (
-        &["run", "--trace", "roots"],
+        &["run", "--workers=1", "--trace", "roots"],
         OPENED,
         15,
         "book 2 256 roots\ntake 0\n",
         "\n",
     ),
-    (&["load", "3"], "", 49, "book 2 256\ntake 0\n", "\nreap 1\n"),
+    (
+        &["run", "--workers=1"],
+        CHAIN,
+        3007,
+        "book 2 256\ntake 0\n",
+        "\ncollect 0\nleave 0\n",
+    ),
+    (
+        &["load", "3", "--workers=1"],
+        "",
+        49,
+        "book 2 256\ntake 0\n",
+        "\nreap 1\n",
+    ),
 ];
 
 /// Whether the book of a call has so many entries, and its text begins and ends so.
-fn has_book<R: AllocGlobal>(
+fn has_book<R: AllocGlobal + Threads + Wait + Sync>(
     rt: &R,
     words: &[&str],
     input: &str,
@@ -240,14 +397,14 @@ fn runs_have_their_books(rt: HostRuntime) -> Result<(), Fail> {
 }
 
 /// How a run ends within this budget, if its book is as long as it should be, and its report this.
-fn end_of<R: AllocGlobal>(
+fn end_of<R: AllocGlobal + Threads + Wait + Sync>(
     rt: &R,
     input: &str,
     budget: &str,
     length: u64,
     written: &str,
 ) -> Result<Status, Fail> {
-    let words = ["run", "--budget", budget];
+    let words = ["run", "--workers", "1", "--budget", budget];
     let (outcome, sink) = answer(rt, &words, input)?;
     if outcome.book.len() == length && sink.bytes() == written.as_bytes() {
         Ok(outcome.status)

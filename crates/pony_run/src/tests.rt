@@ -3,13 +3,15 @@
 
 ghost use Rattle.std.specs.Prelude.{◌≡◌, IfOk, false};
 
-use crate::programs::{MOST, SEVEN, VALUES, WRAPS};
+use crate::programs::{MOST, SEVEN, TWO_PRINT, VALUES, WRAPS};
 use crate::reading::ReadErr;
 use crate::{Job, Order, Outcome, run_single, run_words};
-use orca_names::{NoMemory, Trace};
-use outside_world::{MemSink, MemSource, OpenGate};
+use orca_names::{ActorName, NoMemory, Trace};
+use outside_world::{HoldGate, MemSink, MemSource, OpenGate};
 use std::alloc::Global;
+use std::sync::Wait;
 use std::test::Fail;
+use std::thread::Threads;
 
 const SEVEN_REPORT: &str = "7\n--\nend quiet\nactors made 1 left 0\nobjects made 0 left 0\n";
 
@@ -23,8 +25,6 @@ const VALUES_REPORT: &str =
     "actor 0\nobject 0.0\nactor 0\nnull\n0\n--\nend quiet\nactors made 1 left 0\nobjects made 1 left 0\n";
 
 const SEVEN_WITH_RETURNS: &str = "kind Main 0\r\non start 0\r\nint r0 7\r\nprint r0\r\nend";
-
-const UNENDED: &str = "kind Main 0\non start 0\nint r0 7";
 
 const ZERO_SEVEN: &str = "kind Main 0\non start 0\nint r0 07\nend\n";
 
@@ -68,7 +68,7 @@ fn sink(alloc: Global, device: Device) -> Result<MemSink, Fail> {
 }
 
 /// What a call answers and writes over such a source and such a sink.
-fn call<R: AllocGlobal>(
+fn call<R: AllocGlobal + Threads + Wait + Sync>(
     rt: &R,
     words: &[&str],
     input: &[u8],
@@ -82,7 +82,7 @@ fn call<R: AllocGlobal>(
 }
 
 /// What a call answers and writes over devices that do not fail.
-pub(crate) fn answer<R: AllocGlobal>(
+pub(crate) fn answer<R: AllocGlobal + Threads + Wait + Sync>(
     rt: &R,
     words: &[&str],
     input: &str,
@@ -91,7 +91,7 @@ pub(crate) fn answer<R: AllocGlobal>(
 }
 
 /// Whether a call ends with this code, and writes this.
-pub(crate) fn gives<R: AllocGlobal>(
+pub(crate) fn gives<R: AllocGlobal + Threads + Wait + Sync>(
     rt: &R,
     words: &[&str],
     input: &str,
@@ -119,13 +119,6 @@ const CALLS: &[(&[&str], &str, u8, &str)] = &[
     (&[], MOST, 0, MOST_REPORT),
     (&[], WRAPS, 0, WRAPS_REPORT),
     (&[], VALUES, 0, VALUES_REPORT),
-    (
-        &[],
-        "",
-        4,
-        "refused program kind 0 behaviour 0 step 0 rule 1\n",
-    ),
-    (&[], UNENDED, 3, "refused text line 3 kind 8\n"),
     (&[], ZERO_SEVEN, 3, "refused text line 3 kind 5\n"),
     (&[], ONE_PAST, 3, "refused text line 3 kind 5\n"),
     (
@@ -150,8 +143,69 @@ fn words_and_inputs_give_what_they_should(rt: HostRuntime) -> Result<(), Fail> {
     Ok(())
 }
 
+// Cuts of the program that prints, from so many bytes to so many, with their exit code and what is written.
+const CUTS: &[(usize, usize, u8, &str)] = &[
+    (
+        0,
+        0,
+        4,
+        "refused program kind 0 behaviour 0 step 0 rule 1\n",
+    ),
+    (1, 3, 3, "refused text line 1 kind 3\n"),
+    (4, 10, 3, "refused text line 1 kind 4\n"),
+    (
+        11,
+        12,
+        4,
+        "refused program kind 0 behaviour 0 step 0 rule 1\n",
+    ),
+    (13, 13, 3, "refused text line 2 kind 3\n"),
+    (14, 21, 3, "refused text line 2 kind 4\n"),
+    (22, 23, 3, "refused text line 2 kind 8\n"),
+    (24, 25, 3, "refused text line 3 kind 3\n"),
+    (26, 30, 3, "refused text line 3 kind 4\n"),
+    (31, 32, 3, "refused text line 3 kind 8\n"),
+    (33, 36, 3, "refused text line 4 kind 3\n"),
+    (37, 38, 3, "refused text line 4 kind 4\n"),
+    (39, 39, 3, "refused text line 4 kind 5\n"),
+    (40, 41, 3, "refused text line 4 kind 8\n"),
+    (42, 43, 3, "refused text line 5 kind 3\n"),
+    (44, 45, 0, SEVEN_REPORT),
+];
+
+/// Whether these cuts of the program that prints all end with this code, and write this.
+fn cuts_give<R: AllocGlobal + Threads + Wait + Sync>(
+    rt: &R,
+    from: usize,
+    to: usize,
+    code: u8,
+    written: &str,
+) -> Result<bool, Fail> {
+    for length in from..=to {
+        let Some(cut) = SEVEN.as_bytes().get(..length) else {
+            return Ok(false);
+        };
+        let (outcome, sink) = call(rt, &[], cut, SURE, SURE)?;
+        if outcome.status.code() != code || sink.bytes() != written.as_bytes() {
+            return Ok(false);
+        }
+    }
+    Ok(true)
+}
+
+#[test]
+fn cut_texts_are_refused_where_they_end(rt: HostRuntime) -> Result<(), Fail> {
+    for (from, to, code, written) in CUTS {
+        assert!(rt; cuts_give(&rt, *from, *to, *code, *written)?, "at {from}");
+    }
+    Ok(())
+}
+
 /// The exit code for so many line feeds.
-fn code_of_line_feeds<R: AllocGlobal>(rt: &R, count: usize) -> Result<u8, Fail> {
+fn code_of_line_feeds<R: AllocGlobal + Threads + Wait + Sync>(
+    rt: &R,
+    count: usize,
+) -> Result<u8, Fail> {
     let input = vec![in rt.alloc(); b'\n'; count]?;
     let (outcome, _) = call(rt, &["run"], input.as_slice(), SURE, SURE)?;
     Ok(outcome.status.code())
@@ -165,7 +219,11 @@ fn a_text_is_read_to_its_limit(rt: HostRuntime) -> Result<(), Fail> {
 }
 
 /// The exit code of a call whose source fails at its call of this number.
-fn code_of_reads<R: AllocGlobal>(rt: &R, number: u64, written: &str) -> Result<u8, Fail> {
+fn code_of_reads<R: AllocGlobal + Threads + Wait + Sync>(
+    rt: &R,
+    number: u64,
+    written: &str,
+) -> Result<u8, Fail> {
     let reads = Device {
         piece: 9,
         fails: Some(number),
@@ -193,7 +251,7 @@ fn a_source_fails_at_each_call_in_turn(rt: HostRuntime) -> Result<(), Fail> {
 
 /// The exit code of a call whose sink fails at its call of this number, and how many bytes of the
 /// report were written.
-fn code_of_writes<R: AllocGlobal>(
+fn code_of_writes<R: AllocGlobal + Threads + Wait + Sync>(
     rt: &R,
     words: &[&str],
     number: u64,
@@ -221,6 +279,18 @@ fn a_sink_fails_at_each_call_in_turn(rt: HostRuntime) -> Result<(), Fail> {
 #[test]
 fn a_refusal_stands_where_its_line_fails(rt: HostRuntime) -> Result<(), Fail> {
     assert!(rt; code_of_writes(&rt, &["walk"], 1)? == (2, 0));
+    Ok(())
+}
+
+#[test]
+fn two_workers_stand_before_their_segments_at_once(rt: HostRuntime) -> Result<(), Fail> {
+    let mut source = source(rt.alloc(), TWO_PRINT.as_bytes(), SURE)?;
+    let mut sink = sink(rt.alloc(), SURE)?;
+    let gate = HoldGate::new(ActorName(1), ActorName(2), 1_000_000);
+    let outcome = run_words(&rt, &[], &mut source, &mut sink, &gate);
+    let report = "1\n1\n--\nend quiet\nactors made 3 left 0\nobjects made 0 left 0\n";
+    assert_eq!(rt; outcome.status.code(), 0);
+    assert!(rt; sink.bytes() == report.as_bytes() && gate.met());
     Ok(())
 }
 

@@ -1,5 +1,5 @@
 -- What a walk that is over has found.
-use Rattle.std.proofs.Common.{◌≡◌, ℕ, ◌↔◌, inl, inr, Bool, true, false, Option, List, get_or, Contains, refl, sym, subst, ◌∙◌}
+use Rattle.std.proofs.Common.{◌≡◌, ℕ, ◌↔◌, Bool, true, false, Option, List, Contains, refl, sym}
 use Rattle.std.specs.List.Sorted.{IsStrictlySortedBy}
 use Rattle.std.specs.Cmp.{eq_by_cmp_equiv}
 use Rattle.std.proofs.lemmas.Map.Views.{Contains-from_any, list_any-from_Contains}
@@ -11,7 +11,7 @@ use Rattle.orca_names.proofs.ThingOrder.{thing_total, is_same}
 use Rattle.reach_walk.specs.declared.noted.Noted.{Noted}
 use Rattle.reach_walk.specs.Marks.{Covers, marks_of, TellMarks}
 use Rattle.reach_walk.specs.Reach.{named_by, row_edges, AreReached}
-use Rattle.reach_walk.specs.Walk.{AreNoted, IsOn}
+use Rattle.reach_walk.specs.Walk.{AreNoted}
 use Rattle.reach_walk.proofs.MarkLaws.{marks-exact, marks-unique}
 
 -- the same things in another list
@@ -32,10 +32,6 @@ module _ (rows : ObjName → Option (List Value)) (all : List ObjName) (roots : 
   marks-told place count noted things are reached x p at =
       let marks = marks_of rows all roots in
       let exact = (marks-exact rows all roots covers).exact x in
-      alike _ _ (λ on.
-      let c : Contains things x = are.placed x (subst (λ o. IsOn o noted.bits) (sym at) on) in
-      list_any-from_Contains (eq_by_cmp_equiv thing_total) x marks (exact.1 ((reached x).0 c)))
-      (λ any. elim (are.has x ((reached x).1 (exact.0 (Contains-from_any is_same x marks any)))) as (λ _. get_or noted.bits p false ≡ true) [
-        | inl on ↦ subst (λ o. IsOn o noted.bits) at on
-        | inr other ↦ let none = sym at ∙ (are.others x other).1 in cc
-      ])
+      let on = are.placed x p at in
+      alike _ _ (λ b. list_any-from_Contains (eq_by_cmp_equiv thing_total) x marks (exact.1 ((reached x).0 (on.1 b))))
+      (λ any. on.0 ((reached x).1 (exact.0 (Contains-from_any is_same x marks any))))

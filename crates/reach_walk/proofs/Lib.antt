@@ -12,5 +12,7 @@ pub mod Nothing
 pub mod Noting
 pub mod Owners
 pub mod Placed
+pub mod Seeing
 pub mod Sets
+pub mod Strictly
 pub mod Walking

@@ -1,8 +1,7 @@
 -- A walk that is under way.
-use Rattle.std.specs.Prelude.{ℕ, ◌≡◌, ◌⊎◌, ◌↔◌, ◌<◌, ◌≤◌, Bool, true, false, Option, None, Some, List, ◌∷◌, ◌++◌, Contains, length, map, not, slice_index_or, slice_set}
-use Rattle.std.specs.BTreeSet.{contains}
+use Rattle.std.specs.Prelude.{ℕ, ◌≡◌, ◌⊎◌, ◌↔◌, ◌<◌, ◌≤◌, Bool, true, false, Option, None, Some, List, [], ◌∷◌, ◌++◌, Contains, length, map, slice_index_or}
 use Rattle.std.specs.List.{IsDistinct}
-use Rattle.orca_names.specs.Names.{owner_of, is_thing, thing_cmp}
+use Rattle.orca_names.specs.Names.{owner_of, is_thing}
 use Rattle.orca_names.specs.declared.names.Thing.{Thing}
 use Rattle.orca_names.specs.declared.names.Thing.TheVariants.{Actor}
 use Rattle.orca_names.specs.declared.names.Value.{Value}
@@ -25,29 +24,32 @@ abbrev pub IsOn : Option ℕ → List Bool → Type 0
 IsOn (Some p) bits = slice_index_or bits p false ≡ true
 IsOn None bits = ⊥
 
--- just these things are noted: by the bit of its place what has one, and in the set what has none
+-- the set has all of the things that have no place
+abbrev pub HasOthers : (Thing → Option ℕ) → Noted → List Thing → Type 0
+HasOthers place noted things =
+    (x : Thing) → Contains things x → place x ≡ None → Contains noted.others.keys x
+
+-- just these things are noted: what has a place by its bit, and the others in the set, which stays
+-- empty while there are few things
 pub record AreNoted (place : Thing → Option ℕ) (count : ℕ) (noted : Noted)
     (things : List Thing) : Type 0 where
-  pub has : (x : Thing) → Contains things x → IsOn (place x) noted.bits ⊎ Contains noted.others.keys x
-  pub placed : (x : Thing) → IsOn (place x) noted.bits → Contains things x
-  pub others : (x : Thing) → Contains noted.others.keys x → Contains things x × (place x ≡ None)
+  pub placed : (x : Thing) (p : ℕ) → place x ≡ Some p
+      → Contains things x ↔ (slice_index_or noted.bits p false ≡ true)
+  pub only : (x : Thing) → Contains noted.others.keys x → Contains things x × (place x ≡ None)
+  pub others : (noted.others.keys ≡ []) ⊎ HasOthers place noted things
   pub room : count ≤ length noted.bits
   pub within : (p : ℕ) → slice_index_or noted.bits p false ≡ true → p < count
 
--- a thing is noted, and whether it was not before: the bit of its place is set, or the set has it
-abbrev pub Notes : Option ℕ → Thing → Noted → Noted → Bool → Type 0
-Notes (Some p) x old new was_not =
-    (new.bits ≡ slice_set old.bits p true) × (new.others ≡ old.others)
-    × (slice_index_or old.bits p false ≡ not was_not)
-Notes None x old new was_not =
-    (new.bits ≡ old.bits)
-    × ((y : Thing) → Contains new.others.keys y ↔ (Contains old.others.keys y ⊎ (x ≡ y)))
-    × (contains thing_cmp old.others x ≡ not was_not)
+-- a thing is noted beside others, and whether it is new among them
+abbrev pub Notes : (Thing → Option ℕ) → ℕ → Noted → List Thing → Thing → Bool → Type 0
+Notes place count noted things x true =
+    AreNoted place count noted (things ++ x ∷ []) × (Contains things x → ⊥)
+Notes place count noted things x false = AreNoted place count noted things × Contains things x
 
--- each thing was seen once, has its place beside it, and is noted
+-- each thing was seen once, has its place beside it where any has one, and is noted
 pub record IsSeen (place : Thing → Option ℕ) (count : ℕ) (seen : Seen) : Type 0 where
-  pub once : IsDistinct is_thing seen.things.items
-  pub spots : seen.spots.items ≡ map place seen.things.items
-  pub noted : AreNoted place count seen.noted seen.things.items
+  pub once : IsDistinct is_thing seen.things
+  pub spots : 0 < count → seen.spots.items ≡ map place seen.things
+  pub noted : AreNoted place count seen.noted seen.things
   -- the last owner was seen
-  pub owner : (a : ℕ) → seen.owner ≡ Some a → Contains seen.things.items (Actor a)
+  pub owner : (a : ℕ) → seen.owner ≡ Some a → Contains seen.things (Actor a)

@@ -11,6 +11,7 @@ mod noted;
 mod places;
 mod reach;
 mod seen;
+mod thing_list;
 mod unplaced;
 mod walk_rows;
 

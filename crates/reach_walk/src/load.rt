@@ -5,9 +5,11 @@ ghost use Rattle.reach_walk.specs.Marks.{load_of as its_load};
 ghost use Rattle.reach_walk.specs.Reach.{named_by, thing_row};
 
 use crate::places::PlacedRows;
+use crate::seen::Seen;
 use crate::walk_rows::{walk_freely, walk_rows};
 use orca_names::{Args, NoMemory, Row, Thing, Value};
 use plain_list::Listed;
+use ready_set::PlaceSet;
 use std::alloc::Global;
 use std::sync::ledger::Ledger;
 use step_count::Steps;
@@ -24,45 +26,28 @@ fn names_nothing(values: &[Value]) -> bool
     true
 }
 
-// The row of a thing, if it has one. The buffer is for the row.
-fn row_at<R: PlacedRows>(
-    rows: &mut R,
-    thing: &Thing,
-    at: Option<usize>,
-    row: &mut Row,
-) -> Option<Row>
-    requires { at ≡ R.place rows.old thing.now }
-    ensures row { result ≡ thing_row (R.rows rows.old) thing.now }
-    ensures rows { (R.rows rows.new ≡ R.rows rows.old) × (R.all rows.new ≡ R.all rows.old) }
-    ensures places { (R.place rows.new ≡ R.place rows.old) × (R.count rows.new ≡ R.count rows.old) }
-{
-    if rows.read_at(thing, at, row) {
-        Some(*row)
-    } else {
-        None
-    }
-}
-
 // Each thing with its row.
 fn with_rows<R: PlacedRows>(
     alloc: Global,
     things: &[Thing],
-    spots: &[Option<usize>],
     rows: &mut R,
 ) -> Result<Listed<(Thing, Option<Row>)>, NoMemory>
-    requires { spots.now ≡ map (R.place rows.old) things.now }
     ensures load { IfOk result (λ load.
         load ≡ map (λ x. (x, thing_row (R.rows rows.old) x)) things.now) }
     ensures rows { (R.rows rows.new ≡ R.rows rows.old) × (R.all rows.new ≡ R.all rows.old) }
     ensures places { (R.place rows.new ≡ R.place rows.old) × (R.count rows.new ≡ R.count rows.old) }
 {
-    let mut load = Listed::new(alloc);
+    let mut load = Vec::with_capacity(alloc, things.len())?;
     let mut row = Row::of(&[Value::Null]);
-    for (i, thing) in things.iter().enumerate() {
-        let found = row_at(rows, thing, spots[i], &mut row);
-        load.push((*thing, found))?;
+    for thing in things {
+        let at = rows.place_of(thing);
+        if rows.read_at(thing, at, &mut row) {
+            load.push_reserved((*thing, Some(row)));
+        } else {
+            load.push_reserved((*thing, None));
+        }
     }
-    Ok(load)
+    Ok(Listed::from(load))
 }
 
 /// The load of a letter with these arguments: each thing that they reach, with its row. A step is
@@ -87,9 +72,11 @@ pub fn load_within<R: PlacedRows, L: Ledger>(
     if names_nothing(args.as_slice()) {
         return Ok(Listed::new(alloc));
     }
-    let mut seen = walk_rows(alloc, args.as_slice(), rows, steps)?;
+    let bits = PlaceSet::with_places(alloc, rows.places())?;
+    let mut seen = Seen::new(alloc, bits);
+    walk_rows(rows, &mut seen, args.as_slice(), steps)?;
     seen.sort(rows)?;
-    with_rows(alloc, seen.things.as_slice(), seen.spots.as_slice(), rows)
+    with_rows(alloc, seen.things.as_slice(), rows)
 }
 
 /// The load of a letter with these arguments: each thing that they reach, with its row. Where no
@@ -111,7 +98,9 @@ pub fn load_of<R: PlacedRows>(
     if names_nothing(args.as_slice()) {
         return Ok(Listed::new(alloc));
     }
-    let mut seen = walk_freely(alloc, args.as_slice(), rows)?;
+    let bits = PlaceSet::with_places(alloc, rows.places())?;
+    let mut seen = Seen::new(alloc, bits);
+    walk_freely(rows, &mut seen, args.as_slice())?;
     seen.sort(rows)?;
-    with_rows(alloc, seen.things.as_slice(), seen.spots.as_slice(), rows)
+    with_rows(alloc, seen.things.as_slice(), rows)
 }

@@ -19,7 +19,7 @@ fn look<P: Places, L: Ledger>(
 ) -> Result<(), NoMemory>
     requires { IsSeen (P.place places.now) (P.count places.now) seen.old }
     ensures adds { OnOk result
-        (Adds (named_by (value.now ∷ [])) seen.old.things.items seen.new.things.items) }
+        (Adds (named_by (value.now ∷ [])) seen.old.things seen.new.things) }
     ensures seen { OnOk result (IsSeen (P.place places.now) (P.count places.now) seen.new) }
     ensures step { steps.new ≡ steps.old + 1 }
 {
@@ -39,7 +39,7 @@ pub(crate) fn look_all<P: Places, L: Ledger>(
 ) -> Result<(), NoMemory>
     requires { IsSeen (P.place places.now) (P.count places.now) seen.old }
     ensures adds { OnOk result
-        (Adds (named_by values.now) seen.old.things.items seen.new.things.items) }
+        (Adds (named_by values.now) seen.old.things seen.new.things) }
     ensures seen { OnOk result (IsSeen (P.place places.now) (P.count places.now) seen.new) }
     ensures steps { OnOk result (steps.new ≡ steps.old + length values.now) }
 {

@@ -39,9 +39,12 @@ pub fn mark_within<R: PlacedRows, L: Ledger>(
     ensures rows { (R.rows rows.new ≡ R.rows rows.old) × (R.all rows.new ≡ R.all rows.old) }
     ensures places { (R.place rows.new ≡ R.place rows.old) × (R.count rows.new ≡ R.count rows.old) }
 {
-    let mut seen = walk_rows(alloc, roots, rows, steps)?;
+    let bits = PlaceSet::with_places(alloc, rows.places())?;
+    let mut seen = Seen::new(alloc, bits);
+    walk_rows(rows, &mut seen, roots, steps)?;
     seen.sort(rows)?;
-    Ok(seen.things)
+    let Seen { things, .. } = seen;
+    things.into_vec(alloc)
 }
 
 /// The marks of the values.
@@ -57,9 +60,12 @@ pub fn mark<R: PlacedRows>(alloc: Global, roots: &[Value], rows: &mut R) -> Resu
     ensures rows { (R.rows rows.new ≡ R.rows rows.old) × (R.all rows.new ≡ R.all rows.old) }
     ensures places { (R.place rows.new ≡ R.place rows.old) × (R.count rows.new ≡ R.count rows.old) }
 {
-    let mut seen = walk_freely(alloc, roots, rows)?;
+    let bits = PlaceSet::with_places(alloc, rows.places())?;
+    let mut seen = Seen::new(alloc, bits);
+    walk_freely(rows, &mut seen, roots)?;
     seen.sort(rows)?;
-    Ok(seen.things)
+    let Seen { things, .. } = seen;
+    things.into_vec(alloc)
 }
 
 /// The marks of the values by place, as a sweep wants them: no list of them is made.
@@ -77,6 +83,9 @@ pub fn mark_bits<R: PlacedRows>(
     ensures rows { (R.rows rows.new ≡ R.rows rows.old) × (R.all rows.new ≡ R.all rows.old) }
     ensures places { (R.place rows.new ≡ R.place rows.old) × (R.count rows.new ≡ R.count rows.old) }
 {
-    let Seen { noted, .. } = walk_freely(alloc, roots, rows)?;
+    let bits = PlaceSet::with_places(alloc, rows.places())?;
+    let mut seen = Seen::new(alloc, bits);
+    walk_freely(rows, &mut seen, roots)?;
+    let Seen { noted, .. } = seen;
     Ok(noted.bits)
 }

@@ -1,43 +1,169 @@
 // Which things a walk has met.
 
-ghost use Rattle.std.specs.Prelude.{◌≡◌, ◌<◌, ⊤, [], None, IfOk, MatchOption, length};
-ghost use Rattle.orca_names.specs.declared.names.Thing.{Thing as thing};
-ghost use Rattle.reach_walk.specs.Walk.{AreNoted, Notes};
+ghost use Rattle.std.specs.Prelude.{◌≡◌, ◌<◌, ◌↔◌, ◌⊎◌, None, Some, Contains, IfOk, IsTrue, OnOk, length, map, slice_get};
+ghost use Rattle.orca_names.specs.declared.names.Thing.{Thing as any_thing};
+ghost use Rattle.reach_walk.specs.Walk.{AreNoted, HasOthers, Notes};
 
 use crate::places::Places;
+use crate::thing_list::{FEW, ThingList};
 use orca_names::{NoMemory, Thing};
 use ready_set::PlaceSet;
 use std::alloc::Global;
 use std::collections::BTreeSet;
 
-/// Which things were met: a thing with a place is told by the bit of the place, one without is
-/// looked up in a set, which mostly is empty.
+/// Which things were met: a thing with a place is told by the bit of the place. One without is
+/// looked up among all that were met while these are few, and then in a set.
 #[derive(Drop)]
 pub(crate) struct Noted {
     pub(crate) bits: PlaceSet,
     pub(crate) others: BTreeSet<Thing>,
 }
 
+// Whether the thing is one of these.
+fn is_among(things: &[Thing], thing: &Thing) -> bool
+    ensures { IsTrue result ↔ Contains things.now thing.now }
+{
+    for other in things {
+        if *other == *thing {
+            return true;
+        }
+    }
+    false
+}
+
+/// The place of one of these things; their places are beside them, if any thing has one.
+pub(crate) fn spot_of<P: Places>(
+    things: &[Thing],
+    spots: &[Option<usize>],
+    i: usize,
+    places: &P,
+) -> Option<usize>
+    requires spots { 0 < P.count places.now → spots.now ≡ map (P.place places.now) things.now }
+    requires inside { i < length things.now }
+    ensures { (t : any_thing) → slice_get things.now i ≡ Some t → result ≡ P.place places.now t }
+{
+    prove!(i < things.len());
+    if places.places() == 0 { None } else { spots[i] }
+}
+
+// Puts a thing into a set, unless it has a place.
+fn insert_if_unplaced(
+    set: &mut BTreeSet<Thing>,
+    thing: &Thing,
+    at: Option<usize>,
+) -> Result<(), NoMemory>
+    ensures { OnOk result ((x : any_thing) → Contains set.new.keys x
+        ↔ (Contains set.old.keys x ⊎ ((thing.now ≡ x) × (at ≡ None)))) }
+{
+    match at {
+        Some(_) => Ok(()),
+        None => {
+            set.insert(*thing)?;
+            Ok(())
+        }
+    }
+}
+
+/// Puts things into a set, those that have no place.
+pub(crate) fn insert_unplaced<P: Places>(
+    set: &mut BTreeSet<Thing>,
+    things: &[Thing],
+    spots: &[Option<usize>],
+    places: &P,
+) -> Result<(), NoMemory>
+    requires { 0 < P.count places.now → spots.now ≡ map (P.place places.now) things.now }
+    ensures { OnOk result ((x : any_thing) → Contains set.new.keys x
+        ↔ (Contains set.old.keys x ⊎ (Contains things.now x × (P.place places.now x ≡ None)))) }
+{
+    for (i, thing) in things.iter().enumerate() {
+        insert_if_unplaced(set, thing, spot_of(things, spots, i, places))?;
+    }
+    Ok(())
+}
+
 impl Noted {
-    /// Nothing was met yet.
-    pub(crate) fn new<P: Places>(alloc: Global, places: &P) -> Result<Noted, NoMemory>
-        ensures { IfOk result
-            (λ noted. AreNoted (P.place places.now) (P.count places.now) noted []) }
+    /// Has the set tell all things without a place. Those that were met are given, with
+    /// their places if any thing has one.
+    pub(crate) fn complete<P: Places>(
+        &mut self,
+        met: &[Thing],
+        spots: &[Option<usize>],
+        places: &P,
+    ) -> Result<(), NoMemory>
+        requires met { AreNoted (P.place places.now) (P.count places.now) self.old met.now }
+        requires spots { 0 < P.count places.now
+            → spots.now ≡ map (P.place places.now) met.now }
+        ensures noted { OnOk result
+            (AreNoted (P.place places.now) (P.count places.now) self.new met.now) }
+        ensures others { OnOk result (HasOthers (P.place places.now) self.new met.now) }
     {
-        Ok(Noted {
-            bits: PlaceSet::with_places(alloc, places.places())?,
-            others: BTreeSet::new(alloc),
-        })
+        if self.others.is_empty() {
+            insert_unplaced(&mut self.others, met, spots, places)?;
+        }
+        Ok(())
     }
 
-    /// Notes a thing, at its place if it has one; whether it was not met before.
-    pub(crate) fn note(&mut self, thing: &Thing, at: Option<usize>) -> Result<bool, NoMemory>
-        requires { MatchOption at ⊤ (λ p. p < length self.old.bits) }
-        ensures { IfOk result (λ is_new. Notes at thing.now self.old self.new is_new) }
+    // Notes a thing without a place in the set; whether it was not met before.
+    #[inline(never)]
+    fn note_in_set<P: Places>(
+        &mut self,
+        thing: &Thing,
+        met: &ThingList,
+        spots: &Vec<Option<usize>>,
+        places: &P,
+    ) -> Result<bool, NoMemory>
+        requires met { AreNoted (P.place places.now) (P.count places.now) self.old met.now }
+        requires spots { 0 < P.count places.now
+            → spots.now.items ≡ map (P.place places.now) met.now }
+        requires unplaced { P.place places.now thing.now ≡ None }
+        ensures { IfOk result (λ is_new.
+            Notes (P.place places.now) (P.count places.now) self.new met.now thing.now is_new) }
+    {
+        self.complete(met.as_slice(), spots.as_slice(), places)?;
+        Ok(self.others.insert(*thing)?)
+    }
+
+    // Notes a thing without a place; whether it was not met before.
+    fn note_unplaced<P: Places>(
+        &mut self,
+        thing: &Thing,
+        met: &ThingList,
+        spots: &Vec<Option<usize>>,
+        places: &P,
+    ) -> Result<bool, NoMemory>
+        requires met { AreNoted (P.place places.now) (P.count places.now) self.old met.now }
+        requires spots { 0 < P.count places.now
+            → spots.now.items ≡ map (P.place places.now) met.now }
+        requires unplaced { P.place places.now thing.now ≡ None }
+        ensures { IfOk result (λ is_new.
+            Notes (P.place places.now) (P.count places.now) self.new met.now thing.now is_new) }
+    {
+        if met.len() < FEW && self.others.is_empty() {
+            return Ok(!is_among(met.as_slice(), thing));
+        }
+        self.note_in_set(thing, met, spots, places)
+    }
+
+    /// Notes a thing, at its place if it has one; whether it was not met before. Those that were met
+    /// are given, with their places if any thing has one.
+    pub(crate) fn note<P: Places>(
+        &mut self,
+        thing: &Thing,
+        at: Option<usize>,
+        met: &ThingList,
+        spots: &Vec<Option<usize>>,
+        places: &P,
+    ) -> Result<bool, NoMemory>
+        requires met { AreNoted (P.place places.now) (P.count places.now) self.old met.now }
+        requires spots { 0 < P.count places.now
+            → spots.now.items ≡ map (P.place places.now) met.now }
+        requires at { P.place places.now thing.now ≡ at }
+        ensures { IfOk result (λ is_new.
+            Notes (P.place places.now) (P.count places.now) self.new met.now thing.now is_new) }
     {
         match at {
             Some(p) => Ok(self.bits.insert(p)),
-            None => Ok(self.others.insert(*thing)?),
+            None => self.note_unplaced(thing, met, spots, places),
         }
     }
 }

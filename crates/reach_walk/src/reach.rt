@@ -11,6 +11,7 @@ use crate::edges::Edges;
 use crate::seen::Seen;
 use crate::unplaced::Unplaced;
 use orca_names::{NoMemory, Thing, Value};
+use ready_set::PlaceSet;
 use std::alloc::Global;
 
 /// Appends the things that the values name.
@@ -52,16 +53,18 @@ pub fn walk<E: Edges>(alloc: Global, roots: &[Thing], graph: &mut E) -> Result<V
     ensures kept { E.kept graph.new ≡ E.kept graph.old }
 {
     let nowhere = Unplaced { of: () };
-    let mut seen = Seen::new(alloc, &nowhere)?;
+    let mut seen = Seen::new(alloc, PlaceSet::with_places(alloc, 0)?);
     let mut values = Vec::new(alloc);
     let mut next = Vec::new(alloc);
     seen.see_all(roots, &nowhere)?;
     let mut at = 0;
     while at < seen.things.len() {
-        find_next(graph, seen.things[at], &mut values, &mut next)?;
+        let thing = seen.things.at(at);
+        find_next(graph, thing, &mut values, &mut next)?;
         seen.see_all(next.as_slice(), &nowhere)?;
         at += 1;
     }
     seen.sort(&nowhere)?;
-    Ok(seen.things)
+    let Seen { things, .. } = seen;
+    things.into_vec(alloc)
 }

@@ -1,22 +1,27 @@
 // What a walk has seen.
 
-ghost use Rattle.std.specs.Prelude.{◌≡◌, ◌<◌, ◌↔◌, ◌∷◌, ◌⊎◌, [], true, None, Contains, IfOk, OnOk, MatchOption, length, map, slice_index_or};
+ghost use Rattle.std.specs.Prelude.{◌≡◌, ◌<◌, ◌≤◌, ◌↔◌, ◌∷◌, [], ℕ, Option, Some, Contains, OnOk, length, slice_get};
 ghost use Rattle.std.specs.List.Sorted.{IsStrictlySortedBy};
 ghost use Rattle.orca_names.specs.Names.{thing_cmp};
 ghost use Rattle.orca_names.specs.declared.names.Thing.{Thing as thing};
 ghost use Rattle.orca_names.specs.declared.names.Thing.TheVariants.{Actor as actor};
-ghost use Rattle.reach_walk.specs.Walk.{Adds, AreNoted, IsSeen};
+ghost use Rattle.ready_set.specs.Next.{AreOff};
+ghost use Rattle.reach_walk.specs.Walk.{Adds, IsSeen};
 
 use crate::listing::{list_others, list_placed};
-use crate::noted::Noted;
+use crate::noted::{Noted, spot_of};
 use crate::places::Places;
+use crate::thing_list::{FEW, ThingList};
 use orca_names::{ActorName, NoMemory, Thing};
+use ready_set::PlaceSet;
 use std::alloc::Global;
+use std::collections::BTreeSet;
 
-/// The things that a walk has met, in the order in which they came, each once and with its place.
+/// The things that a walk has met, in the order in which they came, each once.
 #[derive(Drop)]
 pub(crate) struct Seen {
-    pub(crate) things: Vec<Thing>,
+    pub(crate) things: ThingList,
+    // The place of each, if any thing has one.
     pub(crate) spots: Vec<Option<usize>>,
     pub(crate) noted: Noted,
     // The last owner that was seen: the next thing mostly has the same one.
@@ -24,30 +29,40 @@ pub(crate) struct Seen {
 }
 
 impl Seen {
-    /// Nothing was seen yet.
-    pub(crate) fn new<P: Places>(alloc: Global, places: &P) -> Result<Seen, NoMemory>
-        ensures none { IfOk result (λ seen. seen.things.items ≡ []) }
-        ensures seen { IfOk result (λ seen. IsSeen (P.place places.now) (P.count places.now) seen) }
+    /// Nothing was seen yet; these bits are for the places.
+    pub(crate) fn new(alloc: Global, bits: PlaceSet) -> Seen
+        requires { AreOff bits 0 (length bits) }
+        ensures none { result.things ≡ [] }
+        ensures seen { (place : thing → Option ℕ) (count : ℕ) → count ≤ length bits
+            → IsSeen place count result }
     {
-        Ok(Seen {
-            things: Vec::new(alloc),
+        Seen {
+            things: ThingList::new(alloc),
             spots: Vec::new(alloc),
-            noted: Noted::new(alloc, places)?,
+            noted: Noted {
+                bits,
+                others: BTreeSet::new(alloc),
+            },
             owner: None,
-        })
+        }
     }
 
     /// Sees a thing, which comes last where it was not seen before.
     pub(crate) fn see<P: Places>(&mut self, thing: &Thing, places: &P) -> Result<(), NoMemory>
         requires { IsSeen (P.place places.now) (P.count places.now) self.old }
         ensures adds { OnOk result
-            (Adds (thing.now ∷ []) self.old.things.items self.new.things.items) }
+            (Adds (thing.now ∷ []) self.old.things self.new.things) }
         ensures seen { OnOk result (IsSeen (P.place places.now) (P.count places.now) self.new) }
     {
         let at = places.place_of(thing);
-        if self.noted.note(thing, at)? {
+        if self
+            .noted
+            .note(thing, at, &self.things, &self.spots, places)?
+        {
             self.things.push(*thing)?;
-            self.spots.push(at)?;
+            if places.places() > 0 {
+                self.spots.push(at)?;
+            }
         }
         Ok(())
     }
@@ -60,7 +75,7 @@ impl Seen {
     ) -> Result<(), NoMemory>
         requires { IsSeen (P.place places.now) (P.count places.now) self.old }
         ensures adds { OnOk result
-            (Adds (actor owner ∷ []) self.old.things.items self.new.things.items) }
+            (Adds (actor owner ∷ []) self.old.things self.new.things) }
         ensures seen { OnOk result (IsSeen (P.place places.now) (P.count places.now) self.new) }
     {
         if self.owner == Some(owner) {
@@ -78,7 +93,7 @@ impl Seen {
         places: &P,
     ) -> Result<(), NoMemory>
         requires { IsSeen (P.place places.now) (P.count places.now) self.old }
-        ensures adds { OnOk result (Adds things.now self.old.things.items self.new.things.items) }
+        ensures adds { OnOk result (Adds things.now self.old.things self.new.things) }
         ensures seen { OnOk result (IsSeen (P.place places.now) (P.count places.now) self.new) }
     {
         for thing in things {
@@ -87,17 +102,30 @@ impl Seen {
         Ok(())
     }
 
-    /// Puts all of them in the order of things.
+    /// The place of a thing that was seen.
+    pub(crate) fn spot<P: Places>(&self, i: usize, places: &P) -> Option<usize>
+        requires seen { IsSeen (P.place places.now) (P.count places.now) self.now }
+        requires inside { i < length self.now.things }
+        ensures { (t : thing) → slice_get self.now.things i ≡ Some t
+            → result ≡ P.place places.now t }
+    {
+        spot_of(self.things.as_slice(), self.spots.as_slice(), i, places)
+    }
+
+    /// Puts all of them in the order of things; what was noted is then used up.
     pub(crate) fn sort<P: Places>(&mut self, places: &P) -> Result<(), NoMemory>
         requires { IsSeen (P.place places.now) (P.count places.now) self.old }
-        ensures same { OnOk result ((x : thing) → Contains self.new.things.items x
-            ↔ Contains self.old.things.items x) }
-        ensures rising { OnOk result (IsStrictlySortedBy thing_cmp self.new.things.items) }
-        ensures spots { OnOk result
-            (self.new.spots.items ≡ map (P.place places.now) self.new.things.items) }
+        ensures same { OnOk result ((x : thing) → Contains self.new.things x
+            ↔ Contains self.old.things x) }
+        ensures rising { OnOk result (IsStrictlySortedBy thing_cmp self.new.things) }
     {
+        if self.things.len() <= FEW {
+            self.things.sort();
+            return Ok(());
+        }
         let noted = &mut self.noted;
-        list_placed(&noted.bits, places, &mut self.things, &mut self.spots)?;
-        list_others(&mut noted.others, places, &mut self.things, &mut self.spots)
+        noted.complete(self.things.as_slice(), self.spots.as_slice(), places)?;
+        list_placed(&noted.bits, places, &mut self.things)?;
+        list_others(&mut noted.others, &mut self.things)
     }
 }

@@ -1,6 +1,6 @@
 // The walk through rows, whose steps are counted.
 
-ghost use Rattle.std.specs.Prelude.{◌≡◌, ◌+◌, ◌*◌, ◌<◌, ◌≤◌, Some, IfOk, OnOk, length, slice_get};
+ghost use Rattle.std.specs.Prelude.{◌≡◌, ◌+◌, ◌*◌, ◌<◌, ◌≤◌, [], Some, OnOk, length, slice_get};
 ghost use Rattle.orca_names.specs.declared.names.Thing.{Thing as thing};
 ghost use Rattle.reach_walk.specs.Reach.{named_by, row_edges, AreReached};
 ghost use Rattle.reach_walk.specs.Walk.{next_of, Adds, IsSeen};
@@ -9,7 +9,6 @@ use crate::look::look_all;
 use crate::places::PlacedRows;
 use crate::seen::Seen;
 use orca_names::{NoMemory, Row, Value};
-use std::alloc::Global;
 use std::marker::Brand;
 use std::sync::ledger::{Blank, Ledger};
 use step_count::Steps;
@@ -24,21 +23,21 @@ fn take<R: PlacedRows, L: Ledger>(
     steps: &mut Steps<L>,
 ) -> Result<(), NoMemory>
     requires seen { IsSeen (R.place rows.old) (R.count rows.old) seen.old }
-    requires inside { i < length seen.old.things.items }
-    ensures adds { (t : thing) → slice_get seen.old.things.items i ≡ Some t → OnOk result
-        (Adds (next_of (row_edges (R.rows rows.old)) t) seen.old.things.items
-        seen.new.things.items) }
+    requires inside { i < length seen.old.things }
+    ensures adds { (t : thing) → slice_get seen.old.things i ≡ Some t → OnOk result
+        (Adds (next_of (row_edges (R.rows rows.old)) t) seen.old.things
+        seen.new.things) }
     ensures seen { OnOk result (IsSeen (R.place rows.new) (R.count rows.new) seen.new) }
-    ensures steps { (t : thing) → slice_get seen.old.things.items i ≡ Some t → OnOk result
+    ensures steps { (t : thing) → slice_get seen.old.things i ≡ Some t → OnOk result
         (steps.new ≡ steps.old + 1 + length (row_edges (R.rows rows.old) t)) }
-    ensures few { (t : thing) → slice_get seen.old.things.items i ≡ Some t → OnOk result
+    ensures few { (t : thing) → slice_get seen.old.things i ≡ Some t → OnOk result
         (length (row_edges (R.rows rows.old) t) ≤ 8) }
     ensures rows { (R.rows rows.new ≡ R.rows rows.old) × (R.all rows.new ≡ R.all rows.old) }
     ensures places { (R.place rows.new ≡ R.place rows.old) × (R.count rows.new ≡ R.count rows.old) }
 {
     steps.tick();
-    let thing = seen.things[i];
-    let at = seen.spots[i];
+    let thing = seen.things.at(i);
+    let at = seen.spot(i, rows);
     seen.see_owner(thing.owner(), rows)?;
     if rows.read_at(&thing, at, row) {
         look_all(seen, row.as_slice(), rows, steps)
@@ -47,63 +46,68 @@ fn take<R: PlacedRows, L: Ledger>(
     }
 }
 
-/// All that the values reach, as it was seen.
+/// Sees all that the values reach, where nothing was seen yet.
 pub(crate) fn walk_rows<R: PlacedRows, L: Ledger>(
-    alloc: Global,
-    roots: &[Value],
     rows: &mut R,
+    seen: &mut Seen,
+    roots: &[Value],
     steps: &mut Steps<L>,
-) -> Result<Seen, NoMemory>
-    ensures seen { IfOk result (λ seen. IsSeen (R.place rows.old) (R.count rows.old) seen) }
-    ensures reached { IfOk result (λ seen.
-        AreReached (row_edges (R.rows rows.old)) (named_by roots.now) seen.things.items) }
-    ensures steps { IfOk result (λ seen.
-        steps.new ≤ steps.old + (9 * length seen.things.items + length roots.now)) }
+) -> Result<(), NoMemory>
+    requires none { seen.old.things ≡ [] }
+    requires seen { IsSeen (R.place rows.old) (R.count rows.old) seen.old }
+    ensures seen { OnOk result (IsSeen (R.place rows.old) (R.count rows.old) seen.new) }
+    ensures reached { OnOk result
+        (AreReached (row_edges (R.rows rows.old)) (named_by roots.now) seen.new.things) }
+    ensures steps { OnOk result
+        (steps.new ≤ steps.old + (9 * length seen.new.things + length roots.now)) }
     ensures rows { (R.rows rows.new ≡ R.rows rows.old) × (R.all rows.new ≡ R.all rows.old) }
     ensures places { (R.place rows.new ≡ R.place rows.old) × (R.count rows.new ≡ R.count rows.old) }
 {
-    let mut seen = Seen::new(alloc, rows)?;
     let mut row = Row::of(&[Value::Null]);
-    look_all(&mut seen, roots, rows, steps)?;
+    look_all(seen, roots, rows, steps)?;
     let mut i = 0;
     while i < seen.things.len() {
-        take(rows, &mut seen, i, &mut row, steps)?;
+        take(rows, seen, i, &mut row, steps)?;
         i += 1;
     }
-    Ok(seen)
+    Ok(())
 }
 
 // The same, with steps that are counted on a ledger of their own.
 fn walk_counted<R: PlacedRows, L: Ledger>(
-    alloc: Global,
-    roots: &[Value],
     rows: &mut R,
+    seen: &mut Seen,
+    roots: &[Value],
     blank: Blank,
-) -> Result<Seen, NoMemory>
+) -> Result<(), NoMemory>
     requires name { blank.name ≡ L.name }
     requires parts { blank.parts ≡ L.parts }
     requires some { 0 < blank.parts }
-    ensures seen { IfOk result (λ seen. IsSeen (R.place rows.old) (R.count rows.old) seen) }
-    ensures reached { IfOk result (λ seen.
-        AreReached (row_edges (R.rows rows.old)) (named_by roots.now) seen.things.items) }
+    requires none { seen.old.things ≡ [] }
+    requires seen { IsSeen (R.place rows.old) (R.count rows.old) seen.old }
+    ensures seen { OnOk result (IsSeen (R.place rows.old) (R.count rows.old) seen.new) }
+    ensures reached { OnOk result
+        (AreReached (row_edges (R.rows rows.old)) (named_by roots.now) seen.new.things) }
     ensures rows { (R.rows rows.new ≡ R.rows rows.old) × (R.all rows.new ≡ R.all rows.old) }
     ensures places { (R.place rows.new ≡ R.place rows.old) × (R.count rows.new ≡ R.count rows.old) }
 {
     let mut steps: Steps<L> = Steps::none(blank);
-    walk_rows(alloc, roots, rows, &mut steps)
+    walk_rows(rows, seen, roots, &mut steps)
 }
 
-/// All that the values reach, as it was seen; the steps are not told.
+/// Sees all that the values reach, where nothing was seen yet; the steps are not told.
 pub(crate) fn walk_freely<R: PlacedRows>(
-    alloc: Global,
-    roots: &[Value],
     rows: &mut R,
-) -> Result<Seen, NoMemory>
-    ensures seen { IfOk result (λ seen. IsSeen (R.place rows.old) (R.count rows.old) seen) }
-    ensures reached { IfOk result (λ seen.
-        AreReached (row_edges (R.rows rows.old)) (named_by roots.now) seen.things.items) }
+    seen: &mut Seen,
+    roots: &[Value],
+) -> Result<(), NoMemory>
+    requires none { seen.old.things ≡ [] }
+    requires seen { IsSeen (R.place rows.old) (R.count rows.old) seen.old }
+    ensures seen { OnOk result (IsSeen (R.place rows.old) (R.count rows.old) seen.new) }
+    ensures reached { OnOk result
+        (AreReached (row_edges (R.rows rows.old)) (named_by roots.now) seen.new.things) }
     ensures rows { (R.rows rows.new ≡ R.rows rows.old) × (R.all rows.new ≡ R.all rows.old) }
     ensures places { (R.place rows.new ≡ R.place rows.old) × (R.count rows.new ≡ R.count rows.old) }
 {
-    walk_counted::<R, Brand>(alloc, roots, rows, Blank::new(1))
+    walk_counted::<R, Brand>(rows, seen, roots, Blank::new(1))
 }

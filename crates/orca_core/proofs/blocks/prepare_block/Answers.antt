@@ -1,4 +1,4 @@
-use Rattle.std.proofs.Common.{rules, sym, ◌∙◌}
+use Rattle.std.proofs.Common.{Some, refl, rules, sym, ◌∙◌}
 use Rattle.machine_rules.specs.Block.{block}
 use Rattle.machine_rules.specs.Guards.{may_block}
 use Rattle.orca_core.specs.declared.parts.Parts.{Parts}
@@ -14,6 +14,6 @@ returns-then-not-may_block-clause-fault c = λ program options.
 
 pub returns-clause-ok : goal.returns-clause-ok
 returns-clause-ok c =
-    let m : Parts = record c.args.parts.now { notes = c.reserve.new.self } in
-    fits_block c.args.a c.in-Ok.note m c.in-Some.cell.now c.in-Some.ensures.cell c.in-Some.ensures.owner
+    let m : Parts = record c.args.parts.now { notes = c.reserve.new.self; report = Some c.in-Ok.note } in
+    fits_block c.args.a c.in-Ok.note m c.in-Some.cell.now refl c.in-Some.ensures.cell c.in-Some.ensures.owner
     (sym c.may_block.ensures ∙ c.if-not-may_block.false) c.in-Ok.ensures (search rules)

@@ -14,7 +14,7 @@ reserve_each-requires c = λ b.
 
 pub returns-clause-ok : goal.returns-clause-ok
 returns-clause-ok c =
-    let m : Parts = record c.args.parts.now { table = c.reserve_each.new.table } in
+    let m : Parts = record c.args.parts.now { table = c.reserve_each.new.table; sweep = c.args.found; letters = c.in-Ok.room } in
     let does = c.reserve_each.ensures in
     let its = c.requires.found in
     fits_collect c.args.a m c.args.parts.now.table.slots does.places does.letters

@@ -33,9 +33,9 @@ give_out-requires-clause-can c =
     let fits = c.requires.fits in
     let slots = c.args.parts.now.table.slots in
     let a = c.args.a in
-    can_name c.args.weight a fits.cell fits.frame c.args.parts.now.turn c.args.found.place (slot_at slots a).mail.letters slots c.go.new.self.slots
+    can_name c.args.weight a fits.cell fits.frame c.args.parts.now.turn c.args.parts.now.turned.place (slot_at slots a).mail.letters slots c.go.new.self.slots
     (seat_here slots a fits.cell fits.home) fits.framed (c.requires.can fits.cell fits.home).unnamed (home_within slots a fits.cell fits.home) c.requires.light
-    c.args.found.act c.go.ensures.actors c.go.ensures.entry
+    c.args.parts.now.turned.act c.go.ensures.actors c.go.ensures.entry
 
 pub returns-clause-state : goal.returns-clause-state
 returns-clause-state c = λ options weight trace.
@@ -45,9 +45,9 @@ returns-clause-state c = λ options weight trace.
     let s = state_of c.args.code.now options c.args.parts.now in
     let cell = as_cell fits.cell in
     let program = c.args.code.now in
-    let act = c.args.found.act in
+    let act = c.args.parts.now.turned.act in
     let made = length c.args.parts.now.turn.made in
-    go_goes s a cell (slot_at slots a).mail.letters fits.frame c.args.parts.now.turn c.args.found.place act
+    go_goes s a cell (slot_at slots a).mail.letters fits.frame c.args.parts.now.turn c.args.parts.now.turned.place act
     (record {
       present = seat_here slots a fits.cell fits.home;
       framed = fits.framed;
@@ -55,11 +55,11 @@ returns-clause-state c = λ options weight trace.
           ∙ ap (λ w. turned_in c.args.trace w program a cell fits.frame) weight ∙ fits.found_is;
     })
     (fits_limit act c.args.parts.now fits.room) (omega (arith, home_within slots a fits.cell fits.home, length-map slots seat_of))
-    ∙ ap Goes (ap (λ w. given w program a act made (record s { actors = changed_at (with_cell_by (moved a c.args.parts.now.turn c.args.found.place act)) a s.actors })) weight
+    ∙ ap Goes (ap (λ w. given w program a act made (record s { actors = changed_at (with_cell_by (moved a c.args.parts.now.turn c.args.parts.now.turned.place act)) a s.actors })) weight
     ∙ ap (λ xs. given c.args.weight program a act made (record s { actors = xs })) (sym c.go.ensures.actors)
     ∙ sym (c.give_out.ensures.state options))
 
 pub returns-clause-woken : goal.returns-clause-woken
 returns-clause-woken c =
-    woken_changed (moved c.args.a c.args.parts.now.turn c.args.found.place c.args.found.act) c.args.a (actors_of c.args.parts.now.table.slots)
+    woken_changed (moved c.args.a c.args.parts.now.turn c.args.parts.now.turned.place c.args.parts.now.turned.act) c.args.a (actors_of c.args.parts.now.table.slots)
     (actors_of c.go.new.self.slots) (actors_of c.give_out.new.parts.table.slots) c.give_out.result c.go.ensures.actors c.give_out.ensures.woken

@@ -1,4 +1,6 @@
+use Rattle.std.proofs.Common.{subst, sym}
 use Rattle.orca_core.specs.declared.parts.Parts.{Parts}
+use Rattle.orca_core.specs.Goes.{FitsGo}
 use Rattle.orca_core.proofs.Prepared.{fits_go, only_room_then, table_room, when_ok}
 use Rattle.orca_core.proofs.goes.prepare_turn.Goals as goal
 
@@ -19,6 +21,7 @@ returns-clause-same c =
 pub returns-clause-ok : goal.returns-clause-ok
 returns-clause-ok c = λ trace weight program found.
     let m = c.args.parts.now in
-    fits_go trace weight program c.args.a c.args.found m.table.slots m.turn c.reserve_go.new.self.slots c.reserve_out.new.parts
+    subst (λ t. FitsGo trace weight program c.args.a t c.reserve_out.new.parts) (sym c.reserve_out.ensures.turned)
+    (fits_go trace weight program c.args.a m.turned m.table.slots m.turn c.reserve_go.new.self.slots c.reserve_out.new.parts
     found c.reserve_go.ensures.actors c.reserve_go.ensures.away (when_ok c.reserve_go.result c.if-is_err.ensures.value c.reserve_go.ensures.ok)
-    c.reserve_out.ensures.places c.reserve_out.ensures.turn (when_ok c.reserve_out.result c.if-is_err-2.ensures.value c.reserve_out.ensures.ok) c.requires.few
+    c.reserve_out.ensures.places c.reserve_out.ensures.turn (when_ok c.reserve_out.result c.if-is_err-2.ensures.value c.reserve_out.ensures.ok) c.requires.few)

@@ -12,17 +12,17 @@ install_collect-requires c = record {
   found = (c.args.weight, c.args.code.now, c.requires.found c.in-Collect.actor (ap actor_of c.in-Collect.is));
 }
 
-pub returns-in-Err-clause-fault : goal.returns-in-Err-clause-fault
-returns-in-Err-clause-fault c =
+pub returns-in-Go-clause-fault : goal.returns-in-Go-clause-fault
+returns-in-Go-clause-fault c =
     let m = c.args.parts.now in
     let options = options_of c.args.weight c.args.trace in
-    fault_same (away_of m.table.slots) (state_of c.args.code.now options m) c.args.e (Go c.in-Go.actor) c.in-Err.fault c.in-Go.is
-    (c.in-Err.ensures.fault options refl refl)
+    fault_same (away_of m.table.slots) (state_of c.args.code.now options m) c.args.e.now (Go c.in-Go.actor) c.install_go.result c.in-Go.is
+    (c.install_go.ensures.fault options refl refl)
 
-pub returns-in-Err-install_collect-clause-fault : goal.returns-in-Err-install_collect-clause-fault
-returns-in-Err-install_collect-clause-fault c =
+pub returns-in-Collect-clause-fault : goal.returns-in-Collect-clause-fault
+returns-in-Collect-clause-fault c =
     let m = c.args.parts.now in
     let program = c.args.code.now in
     let options = options_of c.args.weight c.args.trace in
-    fault_same (away_of m.table.slots) (state_of program options m) c.args.e (Collect c.in-Collect.actor) c.in-Err-install_collect.fault c.in-Collect.is
-    (c.in-Err-install_collect.ensures.fault program options)
+    fault_same (away_of m.table.slots) (state_of program options m) c.args.e.now (Collect c.in-Collect.actor) c.install_collect.result c.in-Collect.is
+    (c.install_collect.ensures.fault program options)

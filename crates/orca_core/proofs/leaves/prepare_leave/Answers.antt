@@ -19,7 +19,7 @@ give_back-requires c = (tt, tt)
 
 pub returns-clause-ok : goal.returns-clause-ok
 returns-clause-ok c =
-    let m : Parts = record c.args.parts.now { table = c.reserve_all.new.table } in
+    let m : Parts = record c.args.parts.now { table = c.reserve_all.new.table; letters = c.into_vec-letters.result } in
     let does = c.reserve_all.ensures in
     fits_leave c.args.a m c.args.parts.now.table.slots does.places does.letters
     c.into_vec-letters.result.items c.in-Some.cell.now c.in-Some.ensures.cell

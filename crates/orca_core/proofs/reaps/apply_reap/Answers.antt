@@ -1,4 +1,6 @@
-use Rattle.std.proofs.Common.{◌≡◌, IfSome, ap, subst, sym, ◌∙◌}
+use Rattle.std.proofs.Common.{◌≡◌, ℕ, IfSome, ap, subst, sym, ◌∙◌}
+use Rattle.std.specs.Global.{Vec}
+use Rattle.letter_kinds.specs.declared.letter.Letter.{Letter}
 use Rattle.letter_kinds.specs.Detector.{close_token}
 use Rattle.machine_rules.specs.Detect.{empty_seats}
 use Rattle.machine_rules.proofs.Guards.{acked_open}
@@ -6,6 +8,7 @@ use Rattle.actor_cell.specs.Pushing.{push_all}
 use Rattle.actor_table.specs.Slots.{actors_of, away_of}
 use Rattle.orca_core.specs.Away.{is_out}
 use Rattle.orca_core.proofs.Homes.{home_stays, without_all_keeps}
+use Rattle.orca_core.specs.Fits.{without_all}
 use Rattle.orca_core.specs.Parts.{state_of}
 use Rattle.orca_core.proofs.Stepped.{decs_of, reap_goes}
 use Rattle.orca_core.proofs.Waking.{OnlyLoses, loses_all, woken_without}
@@ -16,20 +19,21 @@ returns-clause-state c = λ program options.
     let its = sym c.requires.its in
     let actors = actors_of c.args.parts.now.table.slots in
     let d = c.args.parts.now.detector.state in
-    reap_goes (state_of program options c.args.parts.now) c.args.number c.requires.token c.args.letters.items
+    reap_goes (state_of program options c.args.parts.now) c.args.number c.requires.token c.replace-letters.result.items
     (actors_of c.push_all-woken.new.table.slots) c.close.new.self.state c.requires.acked
-    (c.requires.decs ∙ ap (decs_of actors) its)
-    (c.push_all-woken.ensures.actors ∙ ap (push_all c.args.letters.items) (c.clear_all.ensures.actors ∙ ap (λ ms. empty_seats ms actors) its))
+    (ap (λ (ls : Vec (ℕ × Letter)). ls.items) c.replace-letters.ensures.value ∙ c.requires.decs ∙ ap (decs_of actors) its)
+    (c.push_all-woken.ensures.actors ∙ ap (push_all c.replace-letters.result.items) (c.clear_all.ensures.actors ∙ ap (λ ms. empty_seats ms actors) (c.as_slice.ensures.value ∙ its)))
     (subst (λ o. IfSome o (λ t. c.close.new.self.state ≡ close_token t d)) (acked_open c.args.number d c.requires.token c.requires.acked).0 c.close.ensures)
 
 pub returns-clause-away : goal.returns-clause-away
 returns-clause-away c = λ a.
     let slots = c.args.parts.now.table.slots in
     ap (λ bs. is_out bs a) (c.push_all-woken.ensures.away ∙ c.clear_all.ensures.away)
-    ∙ without_all_keeps c.args.members.now (away_of slots) (λ m member. home_stays slots m (c.requires.home m member).cell (c.requires.home m member).home) a
+    ∙ ap (λ ms. is_out (without_all ms (away_of slots)) a) c.as_slice.ensures.value
+    ∙ without_all_keeps c.args.parts.now.members.items (away_of slots) (λ m member. home_stays slots m (c.requires.home m member).cell (c.requires.home m member).home) a
 
 pub returns-clause-woken : goal.returns-clause-woken
 returns-clause-woken c =
     let old = actors_of c.args.parts.now.table.slots in
-    woken_without c.args.letters.items old (actors_of c.clear_all.new.table.slots) (actors_of c.push_all-woken.new.table.slots) c.push_all-woken.result
-    (subst (OnlyLoses old) (sym c.clear_all.ensures.actors) (loses_all c.args.members.now old)) c.push_all-woken.ensures.actors c.push_all-woken.ensures.woken
+    woken_without c.replace-letters.result.items old (actors_of c.clear_all.new.table.slots) (actors_of c.push_all-woken.new.table.slots) c.push_all-woken.result
+    (subst (OnlyLoses old) (sym c.clear_all.ensures.actors) (loses_all c.as_slice.result.now old)) c.push_all-woken.ensures.actors c.push_all-woken.ensures.woken

@@ -12,7 +12,11 @@ prepare_going-requires-clause-home c =
 pub returns-in-Ok-clause-ok : goal.returns-in-Ok-clause-ok
 returns-in-Ok-clause-ok c =
     let old = c.args.parts.now in
-    let m : Parts = record old { table = c.prepare_going.new.table } in
+    let m : Parts = record old {
+      table = c.prepare_going.new.table;
+      members = c.in-Ok.going.members;
+      letters = c.in-Ok.going.letters;
+    } in
     let members = c.in-Some.members.now in
     let does = c.in-Ok.ensures in
     let home = homes_kept members old.table.slots m.table.slots does.places

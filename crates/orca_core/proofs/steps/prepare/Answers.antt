@@ -16,66 +16,66 @@ prepare_go-requires c = record {
       ((subst (CanStep c.args.trace c.args.weight c.args.code.now c.args.parts.now) c.in-Go.is c.requires.can).0 (as_cell x) (slot_at slots c.in-Go.actor).mail.letters (seat_here slots c.in-Go.actor x home)).serials;
 }
 
-pub returns-in-Err-clause-fault : goal.returns-in-Err-clause-fault
-returns-in-Err-clause-fault c =
+pub returns-in-Take-clause-fault : goal.returns-in-Take-clause-fault
+returns-in-Take-clause-fault c =
     let m = c.args.parts.now in
     let program = c.args.code.now in
     let options = options_of c.args.weight c.args.trace in
-    fault_same (away_of m.table.slots) (state_of program options m) c.args.e (Take c.in-Take.actor) c.in-Err.fault c.in-Take.is
-    (c.in-Err.ensures.fault program options)
+    fault_same (away_of m.table.slots) (state_of program options m) c.args.e.now (Take c.in-Take.actor) c.prepare_take.result c.in-Take.is
+    (c.prepare_take.ensures.fault program options)
 
-pub returns-in-Err-prepare_go-clause-fault : goal.returns-in-Err-prepare_go-clause-fault
-returns-in-Err-prepare_go-clause-fault c =
+pub returns-in-Go-clause-fault : goal.returns-in-Go-clause-fault
+returns-in-Go-clause-fault c =
     let m = c.args.parts.now in
     let program = c.args.code.now in
     let options = options_of c.args.weight c.args.trace in
-    fault_same (away_of m.table.slots) (state_of program options m) c.args.e (Go c.in-Go.actor) c.in-Err-prepare_go.fault c.in-Go.is
-    (c.in-Err-prepare_go.ensures.fault options refl refl)
+    fault_same (away_of m.table.slots) (state_of program options m) c.args.e.now (Go c.in-Go.actor) c.prepare_go.result c.in-Go.is
+    (c.prepare_go.ensures.fault options refl refl)
 
-pub returns-in-Err-prepare_collect-clause-fault : goal.returns-in-Err-prepare_collect-clause-fault
-returns-in-Err-prepare_collect-clause-fault c =
+pub returns-in-Collect-clause-fault : goal.returns-in-Collect-clause-fault
+returns-in-Collect-clause-fault c =
     let m = c.args.parts.now in
     let program = c.args.code.now in
     let options = options_of c.args.weight c.args.trace in
-    fault_same (away_of m.table.slots) (state_of program options m) c.args.e (Collect c.in-Collect.actor) c.in-Err-prepare_collect.fault c.in-Collect.is
-    (c.in-Err-prepare_collect.ensures.fault program options)
+    fault_same (away_of m.table.slots) (state_of program options m) c.args.e.now (Collect c.in-Collect.actor) c.prepare_collect.result c.in-Collect.is
+    (c.prepare_collect.ensures.fault program options)
 
-pub returns-in-Err-prepare_leave-clause-fault : goal.returns-in-Err-prepare_leave-clause-fault
-returns-in-Err-prepare_leave-clause-fault c =
+pub returns-in-Leave-clause-fault : goal.returns-in-Leave-clause-fault
+returns-in-Leave-clause-fault c =
     let m = c.args.parts.now in
     let program = c.args.code.now in
     let options = options_of c.args.weight c.args.trace in
-    fault_same (away_of m.table.slots) (state_of program options m) c.args.e (Leave c.in-Leave.actor) c.in-Err-prepare_leave.fault c.in-Leave.is
-    (c.in-Err-prepare_leave.ensures.fault program options)
+    fault_same (away_of m.table.slots) (state_of program options m) c.args.e.now (Leave c.in-Leave.actor) c.prepare_leave.result c.in-Leave.is
+    (c.prepare_leave.ensures.fault program options)
 
-pub returns-in-Err-prepare_block-clause-fault : goal.returns-in-Err-prepare_block-clause-fault
-returns-in-Err-prepare_block-clause-fault c =
+pub returns-in-Block-clause-fault : goal.returns-in-Block-clause-fault
+returns-in-Block-clause-fault c =
     let m = c.args.parts.now in
     let program = c.args.code.now in
     let options = options_of c.args.weight c.args.trace in
-    fault_same (away_of m.table.slots) (state_of program options m) c.args.e (Block c.in-Block.actor) c.in-Err-prepare_block.fault c.in-Block.is
-    (c.in-Err-prepare_block.ensures.fault program options)
+    fault_same (away_of m.table.slots) (state_of program options m) c.args.e.now (Block c.in-Block.actor) c.prepare_block.result c.in-Block.is
+    (c.prepare_block.ensures.fault program options)
 
-pub returns-in-Err-prepare_hear-clause-fault : goal.returns-in-Err-prepare_hear-clause-fault
-returns-in-Err-prepare_hear-clause-fault c =
+pub returns-in-Hear-clause-fault : goal.returns-in-Hear-clause-fault
+returns-in-Hear-clause-fault c =
     let m = c.args.parts.now in
     let program = c.args.code.now in
     let options = options_of c.args.weight c.args.trace in
-    fault_same (away_of m.table.slots) (state_of program options m) c.args.e Hear c.in-Err-prepare_hear.fault c.in-Hear.is
-    (c.in-Err-prepare_hear.ensures.fault program options)
+    fault_same (away_of m.table.slots) (state_of program options m) c.args.e.now Hear c.prepare_hear.result c.in-Hear.is
+    (c.prepare_hear.ensures.fault program options)
 
-pub returns-in-Err-prepare_scan-clause-fault : goal.returns-in-Err-prepare_scan-clause-fault
-returns-in-Err-prepare_scan-clause-fault c =
+pub returns-in-Scan-clause-fault : goal.returns-in-Scan-clause-fault
+returns-in-Scan-clause-fault c =
     let m = c.args.parts.now in
     let program = c.args.code.now in
     let options = options_of c.args.weight c.args.trace in
-    fault_same (away_of m.table.slots) (state_of program options m) c.args.e Scan c.in-Err-prepare_scan.fault c.in-Scan.is
-    (c.in-Err-prepare_scan.ensures.fault program options)
+    fault_same (away_of m.table.slots) (state_of program options m) c.args.e.now Scan c.prepare_scan.result c.in-Scan.is
+    (c.prepare_scan.ensures.fault program options)
 
-pub returns-in-Err-prepare_reap-clause-fault : goal.returns-in-Err-prepare_reap-clause-fault
-returns-in-Err-prepare_reap-clause-fault c =
+pub returns-in-Reap-clause-fault : goal.returns-in-Reap-clause-fault
+returns-in-Reap-clause-fault c =
     let m = c.args.parts.now in
     let program = c.args.code.now in
     let options = options_of c.args.weight c.args.trace in
-    fault_same (away_of m.table.slots) (state_of program options m) c.args.e (Reap c.in-Reap.token) c.in-Err-prepare_reap.fault c.in-Reap.is
-    (c.in-Err-prepare_reap.ensures.fault program options)
+    fault_same (away_of m.table.slots) (state_of program options m) c.args.e.now (Reap c.in-Reap.token) c.prepare_reap.result c.in-Reap.is
+    (c.prepare_reap.ensures.fault program options)

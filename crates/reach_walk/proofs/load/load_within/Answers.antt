@@ -15,25 +15,25 @@ returns-clause-load g c =
     let rows = c.args.rows.now in
     let its = g.R.RowReader.rows rows in
     let all = g.R.RowReader.all rows in
-    let sorted = c.sort.new.self.things.items in
+    let sorted = c.sort.new.self.things in
     let marks : c.as_slice-3.result.now ≡ marks_of its all c.args.args.now =
-    c.as_slice-3.ensures.value
-    ∙ marks-listed its all c.as_slice-2.result.now (g.met.R.RowReader.within rows) c.in_ok-seen.seen.things.items sorted
-    c.in_ok-seen.ensures.reached c.in_ok-sort.ensures.same c.in_ok-sort.ensures.rising
+    c.as_slice-3.ensures
+    ∙ marks-listed its all c.as_slice-2.result.now (g.met.R.RowReader.within rows) c.walk_rows.new.seen.things sorted
+    c.in_ok-walk_rows.ensures.reached c.in_ok-sort.ensures.same c.in_ok-sort.ensures.rising
     ∙ ap (marks_of its all) c.as_slice-2.ensures.value
     in
     IfOk-weaker c.with_rows.result _ (λ load. load ≡ load_of its all c.args.args.now)
-    (λ load e. e ∙ (λ i. map (λ x. (x, thing_row (c.in_ok-seen.ensures.rows.0 i) x)) (marks i))) c.with_rows.ensures.load
+    (λ load e. e ∙ (λ i. map (λ x. (x, thing_row (c.walk_rows.ensures.rows.0 i) x)) (marks i))) c.with_rows.ensures.load
 
 pub returns-clause-steps : goal.returns-clause-steps
 returns-clause-steps g c =
-    let things = c.in_ok-seen.seen.things.items in
-    let sorted = c.sort.new.self.things.items in
+    let things = c.walk_rows.new.seen.things in
+    let sorted = c.sort.new.self.things in
     let same = c.in_ok-sort.ensures.same in
-    let many = length-in_order things sorted c.in_ok-seen.ensures.seen.once c.in_ok-sort.ensures.rising (λ x h. (same x).1 h) (λ x h. (same x).0 h) in
-    let slice : length c.as_slice-3.result.now ≡ length sorted = ap length c.as_slice-3.ensures.value in
+    let many = length-in_order things sorted c.in_ok-walk_rows.ensures.seen.once c.in_ok-sort.ensures.rising (λ x h. (same x).1 h) (λ x h. (same x).0 h) in
+    let slice : length c.as_slice-3.result.now ≡ length sorted = ap length c.as_slice-3.ensures in
     IfOk-weaker c.with_rows.result _ _
-    (λ load e. omega (arith, ap length e, length-map {B = Thing × Option (List Value)} c.as_slice-3.result.now (λ x. (x, thing_row (g.R.RowReader.rows c.walk_rows.new.rows) x)), slice, many, c.in_ok-seen.ensures.steps, c.as_slice-2.ensures.room))
+    (λ load e. omega (arith, ap length e, length-map {B = Thing × Option (List Value)} c.as_slice-3.result.now (λ x. (x, thing_row (g.R.RowReader.rows c.walk_rows.new.rows) x)), slice, many, c.in_ok-walk_rows.ensures.steps, c.as_slice-2.ensures.room))
     c.with_rows.ensures.load
 
 pub returns-then-names_nothing-clause-load : goal.returns-then-names_nothing-clause-load

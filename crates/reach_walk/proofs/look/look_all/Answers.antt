@@ -10,11 +10,11 @@ loop-value-preserved g c =
     let values = c.args.values.now in
     let i = c.loop-value.value-index in
     let v = c.value-item.result in
-    let first = c.args.seen.now.things.items in
-    let now = c.look.new.seen.things.items in
+    let first = c.args.seen.now.things in
+    let now = c.look.new.seen.things in
     record {
       adds = subst (λ ts. Adds ts first now) (sym (named_by-push values i v (omega arith) c.value-item.is))
-          (Adds-append (named_by (take i values)) (named_by (v ∷ [])) first c.loop-value.seen.things.items now c.loop-value.invariant.adds c.in_ok-look.ensures.adds);
+          (Adds-append (named_by (take i values)) (named_by (v ∷ [])) first c.loop-value.seen.things now c.loop-value.invariant.adds c.in_ok-look.ensures.adds);
       seen = c.in_ok-look.ensures.seen;
       steps = omega (arith, c.look.ensures.step);
     }

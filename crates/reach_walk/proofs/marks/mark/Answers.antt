@@ -1,14 +1,23 @@
-use Rattle.reach_walk.specs.Reach.{named_by, row_edges}
+use Rattle.std.proofs.Common.{◌≡◌, sym, subst, ◌∙◌}
+use Rattle.std.proofs.lemmas.Result.{IfOk-weaker}
+use Rattle.reach_walk.specs.Marks.{marks_of}
+use Rattle.reach_walk.specs.Reach.{named_by, row_edges, AreReached}
 use Rattle.reach_walk.proofs.Found.{reached-same, marks-listed}
 use Rattle.reach_walk.proofs.marks.mark.Goals as goal
 
 pub returns-clause-exact : goal.returns-clause-exact
 returns-clause-exact g c =
-    reached-same (row_edges (g.R.RowReader.rows c.args.rows.now)) (named_by c.args.roots.now) c.in_ok-seen.seen.things.items c.sort.new.self.things.items
-    c.in_ok-seen.ensures.reached c.in_ok-sort.ensures.same
+    let edges = row_edges (g.R.RowReader.rows c.args.rows.now) in
+    let roots = named_by c.args.roots.now in
+    let sorted = reached-same edges roots c.walk_freely.new.seen.things c.sort.new.self.things c.in_ok-walk_freely.ensures.reached c.in_ok-sort.ensures.same in
+    IfOk-weaker c.into_vec.result _ (λ found. AreReached edges roots found.items) (λ found same. subst (AreReached edges roots) (sym same) sorted) c.into_vec.ensures
 
 pub returns-clause-list : goal.returns-clause-list
 returns-clause-list g c =
     let rows = c.args.rows.now in
-    marks-listed (g.R.RowReader.rows rows) (g.R.RowReader.all rows) c.args.roots.now (g.met.R.RowReader.within rows) c.in_ok-seen.seen.things.items c.sort.new.self.things.items
-    c.in_ok-seen.ensures.reached c.in_ok-sort.ensures.same c.in_ok-sort.ensures.rising
+    let its = g.R.RowReader.rows rows in
+    let all = g.R.RowReader.all rows in
+    let listed = marks-listed its all c.args.roots.now (g.met.R.RowReader.within rows) c.walk_freely.new.seen.things c.sort.new.self.things
+    c.in_ok-walk_freely.ensures.reached c.in_ok-sort.ensures.same c.in_ok-sort.ensures.rising
+    in
+    IfOk-weaker c.into_vec.result _ (λ found. found.items ≡ marks_of its all c.args.roots.now) (λ found same. same ∙ listed) c.into_vec.ensures

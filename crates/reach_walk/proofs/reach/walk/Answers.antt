@@ -1,6 +1,7 @@
 use Rattle.std.proofs.Common.{◌≡◌, ◌<◌, ◌≤◌, ◌∙◌, Some, length, refl, sym, ap, subst, arith}
 use Rattle.std.specs.Prelude.{slice_get}
-use Rattle.std.proofs.lemmas.Option.{slice_get-get_or}
+use Rattle.std.proofs.lemmas.Result.{IfOk-weaker}
+use Rattle.reach_walk.specs.Reach.{AreReached}
 use Rattle.reach_walk.specs.Walk.{Adds, next_of}
 use Rattle.reach_walk.proofs.Covers.{cover_of, covers}
 use Rattle.reach_walk.proofs.Distinct.{length-le_cover}
@@ -12,8 +13,8 @@ pub loop-at-init : goal.loop-at-init
 loop-at-init g c = record {
   kept = refl;
   seen = c.in_ok-see_all.ensures.seen;
-  walks = begins (g.E.Edges.edges c.args.graph.now) c.args.roots.now c.see_all.new.self.things.items
-      (subst (λ old. Adds c.args.roots.now old c.see_all.new.self.things.items) c.in_ok-seen.ensures.none c.in_ok-see_all.ensures.adds);
+  walks = begins (g.E.Edges.edges c.args.graph.now) c.args.roots.now c.see_all.new.self.things
+      (subst (λ old. Adds c.args.roots.now old c.see_all.new.self.things) c.new-seen.ensures.none c.in_ok-see_all.ensures.adds);
 }
 
 pub loop-at-smaller : goal.loop-at-smaller
@@ -21,7 +22,7 @@ loop-at-smaller g c =
     let edges = g.E.Edges.edges c.args.graph.now in
     let all = g.E.Edges.all c.args.graph.now in
     let roots = c.args.roots.now in
-    let things = c.loop-at.seen.things.items in
+    let things = c.loop-at.seen.things in
     let fits : length things ≤ length (cover_of edges all roots) = length-le_cover things (cover_of edges all roots) c.loop-at.invariant.seen.once
     (λ x seen. covers edges all roots (g.met.E.Edges.within c.args.graph.now) x (c.loop-at.invariant.walks.reached x seen)) in
     omega (arith, fits, c.len.ensures)
@@ -29,11 +30,11 @@ loop-at-smaller g c =
 pub loop-at-preserved : goal.loop-at-preserved
 loop-at-preserved g c =
     let edges = g.E.Edges.edges c.args.graph.now in
-    let things = c.loop-at.seen.things.items in
-    let more = c.see_all-in-loop-at.new.self.things.items in
-    let t = c.index.result.now in
+    let things = c.loop-at.seen.things in
+    let more = c.see_all-in-loop-at.new.self.things in
+    let t = c.at-thing.result in
     let inside : c.loop-at.at < length things = omega (arith, c.len.ensures) in
-    let at : slice_get things c.loop-at.at ≡ Some t = slice_get-get_or things c.loop-at.at t inside ∙ ap Some (sym c.index.ensures) in
+    let at : slice_get things c.loop-at.at ≡ Some t = c.at-thing.ensures in
     let same = g.met.E.Edges.same_edges c.args.graph.now c.loop-at.graph c.loop-at.invariant.kept in
     let found : c.as_slice.result.now ≡ next_of edges t = c.as_slice.ensures.value ∙ (c.in_ok-find_next.ensures.ok ∙ ap (λ e. next_of e t) same) in
     record {
@@ -45,6 +46,9 @@ loop-at-preserved g c =
 pub returns-clause-exact : goal.returns-clause-exact
 returns-clause-exact g c =
     let edges = g.E.Edges.edges c.args.graph.now in
-    let things = c.loop-at.seen.things.items in
-    reached-same edges c.args.roots.now things c.sort.new.self.things.items
-    (ends edges c.args.roots.now things c.loop-at.at (omega (arith, c.len.ensures)) c.loop-at.invariant.walks) c.in_ok-sort.ensures.same
+    let roots = c.args.roots.now in
+    let things = c.loop-at.seen.things in
+    let sorted = reached-same edges roots things c.sort.new.self.things
+    (ends edges roots things c.loop-at.at (omega (arith, c.len.ensures)) c.loop-at.invariant.walks) c.in_ok-sort.ensures.same
+    in
+    IfOk-weaker c.into_vec.result _ (λ found. AreReached edges roots found.items) (λ found same. subst (AreReached edges roots) (sym same) sorted) c.into_vec.ensures

@@ -8,7 +8,7 @@ abbrev pub invariant-loop-at : goal.invariant-loop-at
 invariant-loop-at g l = record {
   kept : g.E.Edges.kept l.graph ≡ g.E.Edges.kept l.fn.graph;
   seen : IsSeen (λ x. None) 0 l.seen;
-  walks : Walks (g.E.Edges.edges l.fn.graph) l.roots l.seen.things.items l.at;
+  walks : Walks (g.E.Edges.edges l.fn.graph) l.roots l.seen.things l.at;
 }
 
 abbrev pub decreases-loop-at : goal.decreases-loop-at

@@ -11,4 +11,4 @@ returns c =
     let s = c.args.self.now in
     let amount : Thing → Amount = λ x. (x, c.args.weight) in
     let lacked = c.as_slice.ensures.value ∙ c.in_ok-lacked.ensures s.count s.heap ∙ ap (λ me. missing_of me (as_cell s).holdings c.args.thing.now) c.owner.ensures in
-    λ i. Mint (c.owner-2.ensures i) ((c.in_ok-things.ensures ∙ ap (map amount) lacked) i)
+    λ i. Mint (c.owner-owner.ensures i) ((c.in_ok-things.ensures ∙ ap (map amount) lacked) i)

@@ -14,22 +14,22 @@ returns-in-Some c =
     let me = c.args.self.now.heap.owner in
     let h = (as_cell c.args.self.now).holdings in
     let made = c.args.made.now in
-    let load = load_from c.args.trace me (with_made made h) c.args.args in
-    let rows = rows_from c.args.trace me (having_made made (as_cell c.args.self.now)) c.args.args in
+    let load = load_from c.args.trace me (with_made made h) c.args.args.now in
+    let rows = rows_from c.args.trace me (having_made made (as_cell c.args.self.now)) c.args.args.now in
     let lacked = lacking_of me (with_made made h) load in
     let is = sym c.in-Some.is ∙ c.in_ok-minted.ensures
     ∙ ap (minted_first c.args.weight) (ap (lacking_of me h) c.in_ok-load.ensures ∙ lacking_same me made h load) in
-    mints c.args.weight c.args.to c.args.behaviour c.args.args load rows lacked c.in-Some.minted.0 c.in-Some.minted.1 is
+    mints c.args.weight c.args.to c.args.behaviour c.args.args.now load rows lacked c.in-Some.minted.0 c.in-Some.minted.1 is
 
 pub returns-in_ok-rows-in-None : goal.returns-in_ok-rows-in-None
 returns-in_ok-rows-in-None c =
     let me = c.args.self.now.heap.owner in
     let h = (as_cell c.args.self.now).holdings in
     let made = c.args.made.now in
-    let load = load_from c.args.trace me (with_made made h) c.args.args in
-    let rows = rows_from c.args.trace me (having_made made (as_cell c.args.self.now)) c.args.args in
+    let load = load_from c.args.trace me (with_made made h) c.args.args.now in
+    let rows = rows_from c.args.trace me (having_made made (as_cell c.args.self.now)) c.args.args.now in
     let lacked = lacking_of me (with_made made h) load in
     let is = sym c.in-None.is ∙ c.in_ok-minted.ensures
     ∙ ap (minted_first c.args.weight) (ap (lacking_of me h) c.in_ok-load.ensures ∙ lacking_same me made h load) in
-    (λ i. Post c.args.to (App c.args.behaviour c.args.args (c.in_ok-load.ensures i) (c.in_ok-rows-in-None.ensures i)))
-    ∙ posts c.args.weight c.args.to c.args.behaviour c.args.args load rows lacked is
+    (λ i. Post c.args.to (App c.args.behaviour c.args.args.now (c.in_ok-load.ensures i) (c.in_ok-rows-in-None.ensures i)))
+    ∙ posts c.args.weight c.args.to c.args.behaviour c.args.args.now load rows lacked is

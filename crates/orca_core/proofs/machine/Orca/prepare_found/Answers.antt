@@ -1,11 +1,10 @@
-use Rattle.std.proofs.Common.{◌≡◌, false, ap, subst, sym, ◌∙◌}
-use Rattle.std.specs.Prelude.{OnOk}
+use Rattle.std.proofs.Common.{◌≡◌, false, rules, ap, subst, sym, ◌∙◌}
 use Rattle.actor_table.specs.Slots.{away_of}
 use Rattle.orca_core.specs.Away.{is_out_for}
 use Rattle.orca_core.specs.Founds.{IsFoundIn}
 use Rattle.orca_core.specs.Parts.{state_of}
 use Rattle.orca_core.specs.Machine.{IsSame, Machine, ReapsNoneAway, options_of}
-use Rattle.orca_core.proofs.Readied.{ok_home}
+use Rattle.orca_core.proofs.Readied.{fits_home}
 use Rattle.orca_core.proofs.Reached.{can_step, early_still, reached_still, reaps_at_home, same_still}
 use Rattle.orca_core.proofs.machine.Orca.prepare_found.Goals as goal
 
@@ -28,8 +27,20 @@ invariant_of-self c =
     let m = c.self.inside in
     reached_still m.code.now m.weight m.trace m.parts m.steps c.install.new.parts c.install.ensures.same c.self.invariant
 
+pub invariant_of-self-2 : goal.invariant_of-self-2
+invariant_of-self-2 c =
+    let m = c.self.inside in
+    reached_still m.code.now m.weight m.trace m.parts m.steps c.install.new.parts c.install.ensures.same c.self.invariant
+
 pub returns-clause-same : goal.returns-clause-same
 returns-clause-same c =
+    let m = c.self.inside in
+    let parts = c.install.new.parts in
+    subst (λ old. IsSame old (record { state = state_of m.code.now (options_of m.weight m.trace) parts; steps = m.steps; out = away_of parts.table.slots; kept = parts }))
+    c.self.view_is (same_still m.code.now m.weight m.trace m.parts m.steps parts c.install.ensures.same)
+
+pub returns-in_err-install-clause-same : goal.returns-in_err-install-clause-same
+returns-in_err-install-clause-same c =
     let m = c.self.inside in
     let parts = c.install.new.parts in
     subst (λ old. IsSame old (record { state = state_of m.code.now (options_of m.weight m.trace) parts; steps = m.steps; out = away_of parts.table.slots; kept = parts }))
@@ -38,6 +49,7 @@ returns-clause-same c =
 pub returns-clause-home : goal.returns-clause-home
 returns-clause-home c =
     let m = c.self.inside in
+    let parts = c.install.new.parts in
     let out = c.install.ensures.same.away ∙ ap (λ (x : Machine). x.out) c.self.view_is in
-    subst (λ away. OnOk c.install.result (is_out_for away c.args.e ≡ false)) out
-    (ok_home m.trace m.weight m.code.now c.install.new.parts c.args.e c.install.result c.install.ensures.event c.install.ensures.ok)
+    subst (λ away. is_out_for away c.args.e ≡ false) out
+    (fits_home m.trace m.weight m.code.now parts c.args.e (search rules))

@@ -1,15 +1,13 @@
-use Rattle.std.proofs.Common.{refl, sym, subst}
-use Rattle.reach_walk.specs.Walk.{Notes}
-use Rattle.reach_walk.proofs.Sets.{inserted, flipped}
+use Rattle.std.proofs.Common.{◌≡◌, Some, false, not}
+use Rattle.std.proofs.lemmas.Option.{get_or_from_slice_get}
+use Rattle.reach_walk.proofs.Noting.{notes_placed}
 use Rattle.reach_walk.proofs.noted.Noted.note.Goals as goal
 
-pub returns-in_ok-insert-in-None : goal.returns-in_ok-insert-in-None
-returns-in_ok-insert-in-None c =
+pub returns-in-Some : goal.returns-in-Some
+returns-in-Some g c =
+    let places = c.args.places.now in
     let old = c.args.self.now in
-    let x = c.args.thing.now in
-    let more = c.insert-in-None.new.self in
-    subst (λ at. Notes at x old (record { bits = old.bits; others = more }) c.in_ok-insert-in-None.field-0) (sym c.in-None.is) (
-      refl,
-      inserted old.others more x c.in_ok-insert-in-None.ensures.updates,
-      flipped _ _ c.in_ok-insert-in-None.ensures.added,
-    )
+    let p = c.in-Some.p in
+    let at : g.P.Places.place places c.args.thing.now ≡ Some p = cc in
+    notes_placed (g.P.Places.place places) (g.P.Places.count places) (g.met.P.Places.below places) (g.met.P.Places.in_order places) old c.args.met.now c.args.thing.now p c.insert.new.self
+    c.requires.met at c.insert.ensures.set c.insert.result (get_or_from_slice_get old.bits p (not c.insert.result) false c.insert.ensures.was)

@@ -1,0 +1,66 @@
+-- What was found of a copy is that of the cell which is the same.
+use Rattle.std.proofs.Common.{◌≡◌, ℕ, [], Some, sym, ap, subst, ◌∙◌, filter, map}
+use Rattle.std.specs.Prelude.{option_map}
+use Rattle.std.specs.FinMap as m
+use Rattle.orca_names.specs.declared.trace.Trace.TheVariants.{Deep}
+use Rattle.behaviour_code.specs.declared.code.Program.{Program}
+use Rattle.event_rule.specs.Events.{actor_of}
+use Rattle.event_rule.specs.declared.event.Event.{Event}
+use Rattle.machine_rules.specs.Cell as rules
+use Rattle.machine_rules.specs.Collect.{is_marked}
+use Rattle.letter_kinds.specs.Counting.{by_owner, given_back}
+use Rattle.local_sweep.specs.Plan.{is_freed, object_named}
+use Rattle.actor_cell.specs.declared.cell.Cell.{Cell}
+use Rattle.actor_cell.specs.declared.found.Found.{Found}
+use Rattle.actor_cell.specs.declared.found.Found.TheVariants.{Collects, Goes, Nothing}
+use Rattle.actor_cell.specs.declared.sweeping.Sweep.{Sweep}
+use Rattle.actor_cell.specs.Cells.{IsSame}
+use Rattle.actor_cell.specs.Founds.{IsFound}
+use Rattle.actor_cell.specs.Goes.{turned_in}
+use Rattle.actor_cell.specs.Sweeps.{sweep_of}
+use Rattle.actor_table.specs.Slots.{home_in, home_of, slot_at}
+use Rattle.orca_core.specs.Founds.{IsFoundIn}
+use Rattle.orca_core.specs.Machine.{Machine}
+
+-- what is swept of the cell of this actor
+sweep_by : ℕ → rules.Cell → Sweep
+sweep_by a c = record {
+  plan = record {
+    free = map (λ e. object_named a e.0) (filter (is_freed (is_marked Deep a c) a) (m.entries c.holdings.rows));
+    back = by_owner (given_back (is_marked Deep a c) (record c.holdings { count = 0 }));
+  };
+  unused = [];
+}
+
+module _ (weight : ℕ) (program : Program) (c d : Cell) (same : IsSame c d) where
+  sweep_same : sweep_of Deep c ≡ sweep_of Deep d
+  unfolding sweep_by
+  sweep_same = λ i. sweep_by (same.1 i) (same.0 i)
+
+  frame_same : c.frame ≡ d.frame
+  frame_same = ap (λ (k : rules.Cell). k.frame) same.0
+
+  dirty_same : c.dirty ≡ d.dirty
+  dirty_same = ap (λ (k : rules.Cell). k.dirty) same.0
+
+  found_same : (found : Found) → IsFound Deep weight program d found → IsFound Deep weight program c found
+  found_same (Goes turn turned) is =
+      (λ i. option_map (turned_in Deep weight program (same.1 i) (same.0 i)) (frame_same i)) ∙ is
+  found_same (Collects sweep) is = (frame_same ∙ is.0, dirty_same ∙ is.1, is.2 ∙ sym sweep_same)
+  found_same Nothing is = (frame_same ∙ is.0, dirty_same ∙ is.1)
+
+-- so it may be done in place of evaluating the event again
+pub still_found : (m : Machine) (e : Event) (weight : ℕ) (program : Program) (cell start : Cell) (found : Found)
+    → program ≡ m.state.program → weight ≡ m.state.options.weight → m.state.options.trace ≡ Deep
+    → actor_of e ≡ Some start.heap.owner → Some cell ≡ home_of (slot_at m.kept.table.slots start.heap.owner)
+    → IsSame cell start → IsFound Deep weight program start found → IsFoundIn e found m
+still_found m e weight program cell start found its_program its_weight deep its home same is = λ a acts c at.
+    let a_is : a ≡ start.heap.owner = (let z : Some a ≡ Some start.heap.owner = sym acts ∙ its in cc) in
+    let c_is : Some c ≡ Some cell =
+    sym (ap home_in at) ∙ ap (λ b. home_of (slot_at m.kept.table.slots b)) a_is ∙ sym home in
+    let c_same : c ≡ cell = (let z = c_is in cc) in
+    let here = found_same weight program cell start same found is in
+    subst (λ k. IsFound m.state.options.trace m.state.options.weight m.state.program k found) (sym c_same)
+    (subst (λ t. IsFound t m.state.options.weight m.state.program cell found) (sym deep)
+    (subst (λ w. IsFound Deep w m.state.program cell found) its_weight
+    (subst (λ p. IsFound Deep weight p cell found) its_program here)))

@@ -1,0 +1,96 @@
+-- A hall goes on by an entry: its book stays a run, and its state is the one that the book leads to.
+use Rattle.std.proofs.Common.{◌≡◌, ◌≤◌, ◌+◌, ◌==◌, ℕ, Bool, true, false, List, [], ◌∷◌, ◌++◌, length, length-append, Some, None, Result, Ok, Err, OnOk, OnErr, refl, sym, ap, subst, ◌∙◌, arith}
+use Rattle.std.specs.Prelude.{if◌then◌else◌}
+use Rattle.std.proofs.lemmas.Bool.Decides.{nat_tests}
+use Rattle.orca_names.specs.declared.limits.TheConstants.{BOOK_LIMIT}
+use Rattle.orca_names.specs.declared.trace.Trace.TheVariants.{Deep}
+use Rattle.behaviour_code.specs.declared.code.Program.{Program}
+use Rattle.event_rule.specs.Runs.{Goes, Leads}
+use Rattle.event_rule.specs.declared.event.Event.{Event}
+use Rattle.machine_rules.specs.Next.{next}
+use Rattle.machine_rules.specs.Run.{IsRun}
+use Rattle.machine_rules.specs.State.{State}
+use Rattle.run_book.specs.Books.{BookValue}
+use Rattle.cell_laws.proofs.Keeping.{runs_keep_program}
+use Rattle.orca_core.specs.Laws.{IsRunOf}
+use Rattle.orca_core.specs.Machine.{IsSame, Machine, NoneIsAway, options_of}
+use Rattle.orca_core.proofs.Reached.{leads_more}
+use Rattle.work_board.specs.declared.answers.Committed.{Committed}
+use Rattle.work_board.specs.declared.answers.Refuse.{Refuse}
+use Rattle.work_board.specs.declared.answers.Refuse.TheVariants.{Budget}
+use Rattle.book_hall.specs.Causes.{spent_cause}
+use Rattle.book_hall.specs.Halls.{IsKept, moved, state_after}
+
+-- the state to which a book leads is the one after it
+pub leads_after : (book : List Event) (s t : State) → Leads next s book t → t ≡ state_after s book
+leads_after [] s t same = sym same
+leads_after (e ∷ book) s t (u, goes, leads) =
+    subst (λ v. t ≡ state_after v book) (sym (ap (moved s) goes)) (leads_after book u t leads)
+
+module _ (program : Program) (budget : ℕ) where
+  kept_by_run : (m : Machine) (book : BookValue) → IsRun program (options_of book.weight Deep) book.entries m.state
+      → length book.entries ≡ m.steps → NoneIsAway m → book.trace ≡ Deep → length book.entries ≤ budget → budget ≤ BOOK_LIMIT
+      → IsKept program budget m book
+  kept_by_run m book run long home deep within most = record {
+    state_is = leads_after book.entries _ m.state run;
+    run = run;
+    long = long;
+    home = home;
+    deep = deep;
+    within = within;
+    most = most;
+  }
+
+  module _ (m n : Machine) (book after : BookValue) (kept : IsKept program budget m book)
+      (weight : after.weight ≡ book.weight) (trace : after.trace ≡ book.trace) (home : NoneIsAway n) where
+    -- a run of the book is one of what it became
+    run_in : (entries : List Event) → after.entries ≡ entries → IsRun program (options_of book.weight Deep) entries n.state
+        → IsRun program (options_of after.weight Deep) after.entries n.state
+    run_in entries same run = subst (λ w. IsRun program (options_of w Deep) after.entries n.state) (sym weight)
+        (subst (λ xs. IsRun program (options_of book.weight Deep) xs n.state) (sym same) run)
+
+    -- with an entry more
+    kept_more : (e : Event) → next m.state e ≡ Goes n.state → n.steps ≡ m.steps + 1
+        → after.entries ≡ book.entries ++ e ∷ [] → spent_cause (length book.entries) budget ≡ None
+        → IsKept program budget n after
+    kept_more e goes steps entry room =
+        let more = leads_more book.entries _ m.state n.state e kept.run goes in
+        let long : length after.entries ≡ length book.entries + 1 = ap length entry ∙ length-append book.entries (e ∷ []) in
+        let was = kept.long in
+        let below : length book.entries + 1 ≤ budget = grows (length book.entries == budget) refl room in
+        kept_by_run n after (run_in (book.entries ++ e ∷ []) entry more) (omega arith) home (trace ∙ kept.deep)
+        (omega arith) kept.most
+      where
+        grows : (full : Bool) → (length book.entries == budget) ≡ full
+            → (if full then Some (Budget (length book.entries)) else None) ≡ None → length book.entries + 1 ≤ budget
+        grows true is none = absurd (cc)
+        grows false is none = let was = kept.within in grind (arith, nat_tests)
+
+    -- and unchanged
+    kept_same : IsSame m n → after.entries ≡ book.entries → IsKept program budget n after
+    kept_same same entries =
+        let run = subst (λ s. IsRun program (options_of book.weight Deep) book.entries s) (sym same.state) kept.run in
+        kept_by_run n after (run_in book.entries entries run) (ap length entries ∙ kept.long ∙ sym same.steps) home
+        (trace ∙ kept.deep) (subst (λ xs. length xs ≤ budget) (sym entries) kept.within) kept.most
+
+    -- whatever was answered
+    pub kept_on : (e : Event) (r : Result Committed Refuse) → spent_cause (length book.entries) budget ≡ None
+        → OnOk r (next m.state e ≡ Goes n.state) → OnOk r (n.steps ≡ m.steps + 1)
+        → OnOk r (after.entries ≡ book.entries ++ e ∷ []) → OnErr r (IsSame m n) → OnErr r (after.entries ≡ book.entries)
+        → IsKept program budget n after
+    kept_on e (Ok done) room goes steps entry same entries = kept_more e goes steps entry room
+    kept_on e (Err refuse) room goes steps entry same entries = kept_same same entries
+
+  -- the machine has the program and the options of the run, and the book is its run
+  pub kept_run : (m : Machine) (book : BookValue) → IsKept program budget m book
+      → (m.state.program ≡ program) × (m.state.options ≡ options_of book.weight Deep) × IsRunOf m book.entries
+  kept_run m book kept =
+      let same = runs_keep_program program (options_of book.weight Deep) book.entries m.state kept.run in (
+        same.same_program,
+        same.same_options,
+        record {
+          run = subst (λ p. IsRun p m.state.options book.entries m.state) (sym same.same_program)
+              (subst (λ o. IsRun program o book.entries m.state) (sym same.same_options) kept.run);
+          long = kept.long;
+        },
+      )

@@ -1,0 +1,57 @@
+-- What a claim gives, what an entry does, and what a look answers.
+use Rattle.std.specs.Prelude.{ℕ, ◌≡◌, ◌≢◌, ◌==◌, ◌||◌, Bool, true, false, [], ◌∷◌, ◌++◌, length, Some}
+use Rattle.event_rule.specs.Runs.{Goes, IsFirst, IsQuiet}
+use Rattle.event_rule.specs.declared.event.Event.{Event}
+use Rattle.actor_cell.specs.Cells.{as_cell}
+use Rattle.machine_rules.specs.Actors.{cell_at}
+use Rattle.machine_rules.specs.Next.{next}
+use Rattle.orca_core.specs.Firsts.{HasFirst, is_free, is_of_detector, next_of_kind}
+use Rattle.orca_core.specs.Woken.{IsLowestWoken}
+use Rattle.work_board.specs.declared.answers.Committed.{Committed}
+use Rattle.work_board.specs.declared.answers.Look.{Look}
+use Rattle.work_board.specs.declared.answers.Look.TheVariants.{Actor, Detector, Others, Rest, Stop}
+use Rattle.book_hall.specs.declared.copy.CellCopy.{CellCopy}
+use Rattle.book_hall.specs.Causes.{event_at}
+use Rattle.book_hall.specs.Claims.{is_claimed}
+use Rattle.book_hall.specs.Halls.{HallValue, state_of}
+
+-- this is a copy of the actor's cell, with its first event
+pub record IsCopy (h : HallValue) (a : ℕ) (copy : CellCopy) : Type 0 where
+  pub program : copy.code.now ≡ h.program
+  pub weight : copy.weight ≡ h.weight
+  pub event : event_at (state_of h) a ≡ Some copy.event
+  pub at : copy.at ≡ length h.book
+  pub owner : copy.cell.heap.owner ≡ a
+  pub cell : cell_at (state_of h).actors a ≡ Some (as_cell copy.cell)
+
+-- the event became the last entry, and its place and whom it woke were answered
+pub record IsEntered (h : HallValue) (e : Event) (done : Committed) (after : HallValue) : Type 0 where
+  pub place : done.place ≡ length h.book
+  pub book : after.book ≡ h.book ++ e ∷ []
+  pub goes : next (state_of h) e ≡ Goes (state_of after)
+  pub woke : IsLowestWoken (state_of h).actors (state_of after).actors done.woke
+
+-- ---- what there is to do
+
+-- no worker goes on
+abbrev pub is_over : HallValue → Bool
+is_over h = h.stopped || length h.book == h.budget
+
+-- the actors on which no claim is out have no event
+abbrev pub NoneIsFree : HallValue → Type 0
+NoneIsFree h = IsQuiet (next_of_kind (is_free (is_claimed h.claims)) []) (state_of h)
+
+-- nor has the detector
+abbrev pub NothingIsFree : HallValue → Type 0
+NothingIsFree h = NoneIsFree h × IsQuiet (next_of_kind is_of_detector []) (state_of h)
+
+-- the answer to a look: the actor with the first event of those on which no claim is out; else the
+-- detector's first event; else that others are at work, if a claim is out
+abbrev pub TellsWork : HallValue → Look → Type 0
+TellsWork h Stop = is_over h ≡ true
+TellsWork h (Actor a) = (is_over h ≡ false)
+    × HasFirst (next_of_kind (is_free (is_claimed h.claims)) []) (state_of h) a
+TellsWork h (Detector e) = (is_over h ≡ false) × NoneIsFree h
+    × IsFirst (next_of_kind is_of_detector []) (state_of h) e
+TellsWork h Others = (is_over h ≡ false) × NothingIsFree h × (h.claims ≢ [])
+TellsWork h Rest = (is_over h ≡ false) × NothingIsFree h × (h.claims ≡ [])

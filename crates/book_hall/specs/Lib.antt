@@ -1,0 +1,6 @@
+pub mod Answers
+pub mod Causes
+pub mod Claims
+pub mod Facts
+pub mod Halls
+pub mod Proposals

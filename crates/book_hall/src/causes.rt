@@ -1,0 +1,98 @@
+// Why a claim or an entry is refused, one cause each.
+
+ghost use Rattle.std.specs.Prelude.{◌≡◌};
+ghost use Rattle.event_rule.specs.Events.{actor_of};
+ghost use Rattle.machine_rules.specs.Next.{next};
+ghost use Rattle.orca_core.specs.Machine.{NoneIsAway};
+ghost use Rattle.book_hall.specs.Causes.{absent_cause, actor_cause, busy_cause, event_at, spent_cause, unready_cause};
+
+use crate::claims::Claims;
+use event_rule::Event;
+use orca_core::Orca;
+use orca_names::ActorName;
+use work_board::Refuse;
+
+/// The actor that acts in an event, if one does.
+pub(crate) fn actor_of(e: &Event) -> Option<ActorName>
+    ensures { result ≡ actor_of e.now }
+{
+    match e {
+        Event::Take(a) | Event::Go(a) => Some(*a),
+        Event::Collect(a) | Event::Leave(a) | Event::Block(a) => Some(*a),
+        Event::Hear | Event::Scan | Event::Reap(_) => None,
+    }
+}
+
+/// The actor was not made, or is gone.
+pub(crate) fn absent(orca: &Orca<'_>, a: ActorName) -> Option<Refuse>
+    ensures { result ≡ absent_cause orca.now.state a }
+{
+    let made = orca.made();
+    if u64::from(a.0) >= made {
+        return Some(Refuse::Unknown { made });
+    }
+    if orca.lives(a) {
+        None
+    } else {
+        Some(Refuse::Gone)
+    }
+}
+
+/// A pass, other than the one that asks, has a claim on the actor.
+pub(crate) fn busy(claims: &Claims, asker: Option<u32>, a: ActorName) -> Option<Refuse>
+    ensures { result ≡ busy_cause claims.now asker a }
+{
+    match claims.holder(asker, a) {
+        Some(holder) => Some(Refuse::Busy { holder }),
+        None => None,
+    }
+}
+
+/// The event's actor, if it has one, is not there or is another pass's.
+pub(crate) fn actor_refuses(
+    orca: &Orca<'_>,
+    claims: &Claims,
+    asker: Option<u32>,
+    e: &Event,
+) -> Option<Refuse>
+    ensures { result ≡ actor_cause orca.now.state claims.now asker e.now }
+{
+    let Some(a) = actor_of(e) else {
+        return None;
+    };
+    match absent(orca, a) {
+        Some(refuse) => Some(refuse),
+        None => busy(claims, asker, a),
+    }
+}
+
+/// The event is not enabled.
+pub(crate) fn unready(orca: &Orca<'_>, e: Event) -> Option<Refuse>
+    requires { NoneIsAway orca.now }
+    ensures { result ≡ unready_cause (next orca.now.state e) }
+{
+    if orca.enabled(e) {
+        None
+    } else {
+        Some(Refuse::NotReady)
+    }
+}
+
+/// The book is as long as the budget.
+pub(crate) fn spent(length: u64, budget: u64) -> Option<Refuse>
+    ensures { result ≡ spent_cause length budget }
+{
+    if length == budget {
+        Some(Refuse::Budget { length })
+    } else {
+        None
+    }
+}
+
+/// The first event of the actor that is enabled.
+pub(crate) fn event_at(orca: &Orca<'_>, a: ActorName) -> Option<Event>
+    requires { NoneIsAway orca.now }
+    ensures { result ≡ event_at orca.now.state a }
+{
+    orca.next_of(a)
+}

@@ -1,0 +1,60 @@
+// The programs of the tests, as texts.
+
+/// Prints a number.
+pub(crate) const SEVEN: &str = "kind Main 0\non start 0\nint r0 7\nprint r0\nend\n";
+
+/// A pinned actor keeps an object of its own.
+pub(crate) const PINNED: &str =
+    "kind Main 1\non start 0\npin\nint r0 5\nrow r1 r0\nstore f0 r1\nend\n";
+
+/// An object goes from the first actor to a second and on to a third, which drops it.
+pub(crate) const PASSED: &str =
+    "kind Main 0\non start 0\npin\nnew r0 A\nnew r1 B\nint r2 9\nrow r3 r2\nsend r0 give r3 r1\nend\nkind A 0\non give 2\nsend r1 keep r0\nend\nkind B 0\non keep 1\nget r1 r0 0\nprint r1\nend\n";
+
+/// One letter, two of whose arguments reach one object.
+pub(crate) const REACHED_TWICE: &str =
+    "kind Main 0\non start 0\npin\nnew r0 A\nint r1 4\nrow r2 r1\nrow r3 r2\nsend r0 both r2 r3\nend\nkind A 0\non both 2\nend\n";
+
+/// An actor sends an object of its own to itself.
+pub(crate) const TO_ITSELF: &str =
+    "kind Main 0\non start 0\nself r0\nint r1 1\nrow r2 r1\nsend r0 back r2\nend\non back 1\nend\n";
+
+/// Two peers hold each other, and nobody else holds them in the end.
+pub(crate) const PEERS: &str =
+    "kind Main 0\non start 0\npin\nnew r0 Peer\nnew r1 Peer\nsend r0 meet r1\nsend r1 meet r0\nend\nkind Peer 1\non meet 1\nstore f0 r0\nend\n";
+
+/// A pinned actor keeps an object of another one.
+pub(crate) const KEPT: &str =
+    "kind Main 1\non start 0\npin\nnew r0 Maker\nself r1\nsend r0 make r1\nend\non got 1\nstore f0 r0\nend\nkind Maker 0\non make 1\nint r1 3\nrow r2 r1\nsend r0 got r2\nend\n";
+
+/// Two peers hold each other; one of them pokes, and the other prints.
+pub(crate) const PING: &str =
+    "kind Main 0\non start 0\nnew r0 Peer\nnew r1 Peer\nsend r1 meet r0\nsend r0 meet r1\nsend r0 poke\nend\nkind Peer 1\non meet 1\nstore f0 r0\nend\non poke 0\nload r0 f0\nsend r0 ping\nend\non ping 0\nint r0 1\nprint r0\nend\n";
+
+/// A pinned actor made an object that names another actor, which alone keeps the object.
+pub(crate) const NAMED: &str =
+    "kind Main 0\non start 0\nnew r0 J\nnew r1 K\nsend r0 make r1\nend\nkind J 0\non make 1\npin\nrow r1 r0\nsend r0 keep r1\nend\nkind K 1\non keep 1\nstore f0 r0\nend\n";
+
+/// Letters that nobody hears: unknown behaviours, too many values, and no actor to send to.
+pub(crate) const UNHEARD: &str =
+    "kind Main 0\non start 0\npin\nself r0\nint r1 1\nrow r2 r1\nsend r0 nowhere r2\nsend r0 start r2\nsend r1 start\nprint r1\nend\n";
+
+/// It makes a hundred actors, one a turn.
+pub(crate) const MANY_LEAVES: &str =
+    "kind Main 0\non start 0\nint r0 100\nself r1\nsend r1 step r0\nend\non step 1\njzero r0 done\nnew r1 Leaf\nint r2 1\nsub r0 r0 r2\nself r1\nsend r1 step r0\nlabel done\nend\nkind Leaf 0\n";
+
+/// A sum past the largest number.
+pub(crate) const WRAPS: &str =
+    "kind Main 0\non start 0\nint r0 18446744073709551615\nprint r0\nint r1 1\nadd r0 r0 r1\nprint r0\nend\n";
+
+/// Two actors print.
+pub(crate) const TWO_PRINT: &str =
+    "kind Main 0\non start 0\nnew r0 W\nnew r1 W\nsend r0 work\nsend r1 work\nend\nkind W 0\non work 0\nint r0 1\nprint r0\nend\n";
+
+/// Prints each kind of value.
+pub(crate) const VALUES: &str =
+    "kind Main 0\non start 0\nself r0\nprint r0\nrow r1 r0\nprint r1\nget r2 r1 0\nprint r2\nget r3 r1 7\nprint r3\nadd r4 r1 r0\nprint r4\nend\n";
+
+/// A letter names an object, whose row names another one.
+pub(crate) const OPENED: &str =
+    "kind Main 0\non start 0\npin\nnew r0 A\nint r1 4\nrow r2 r1\nrow r3 r2\nsend r0 open r3\nend\nkind A 0\non open 1\nget r1 r0 0\nget r2 r1 0\nprint r2\nend\n";

@@ -1,0 +1,215 @@
+// A checked program is run, by one worker or by several, and its report is written.
+
+ghost use Rattle.std.specs.Prelude.{◌≡◌, ◌≢◌, ◌≤◌, [], IfOk, length};
+ghost use Rattle.orca_names.specs.declared.trace.Trace.TheVariants.{Deep};
+ghost use Rattle.report_text.specs.Ends.{IsEnd};
+ghost use Rattle.word_line.specs.Orders.{IsInRange};
+ghost use Rattle.orca_core.specs.Laws.{IsRunOf};
+ghost use Rattle.orca_core.specs.Machine.{NoneIsAway};
+ghost use Rattle.pony_run.specs.Inner.{IsAnswerOf, IsUnderWay, RunAnswers, WritesReport};
+ghost use Rattle.pony_run.specs.Streams.{sides};
+
+use crate::reporting::report_of_run;
+use crate::writing::write_all;
+use behaviour_check::Checked;
+use book_hall::{Hall, HallPass, Naming, SharedHall};
+use orca_core::Orca;
+use orca_names::{NoMemory, Trace};
+use outside_world::{Gate, Sink};
+use quiet_pass::{End, finish};
+use report_text::Status;
+use run_book::Book;
+use std::alloc::Global;
+use std::marker::Brand;
+use std::sync::Wait;
+use std::thread::Threads;
+use steal_pool::work;
+use word_line::Order;
+
+/// What a call answers: its status, and the book of the run, which is empty where no run began.
+#[derive(Debug, Drop)]
+pub struct Outcome {
+    pub status: Status,
+    pub book: Book,
+}
+
+/// Writes the report of a run that ended so, whole in memory before its first write, and answers
+/// how the call ends.
+fn write_report<K: Sink>(
+    alloc: Global,
+    order: &Order,
+    orca: &Orca<'_>,
+    book: &Book,
+    end: Status,
+    sink: &mut K,
+) -> Status
+    requires end { IsEnd end }
+    requires home { NoneIsAway orca.now }
+    ensures { WritesReport end order.now book.now orca.now.state
+        (sides K.written K.faults sink.old sink.new) result }
+{
+    let Ok(text) = report_of_run(alloc, order, orca, book, &end) else {
+        return Status::NoMemory;
+    };
+    match write_all(sink, &text) {
+        Ok(()) => end,
+        Err(_) => Status::WriteFault,
+    }
+}
+
+/// How a call ends whose run ended so, if its report is written; want of memory has none.
+fn answer_of(end: End) -> Option<Status>
+    ensures { IsAnswerOf end result }
+{
+    match end {
+        End::Quiet => Some(Status::Quiet),
+        End::Budget => Some(Status::Budget),
+        End::Full { actor } => Some(Status::ActorsFull { actor }),
+        End::NoMemory => None,
+    }
+}
+
+/// Takes a run to its end by one worker, and writes its report.
+fn end_run<K: Sink>(
+    alloc: Global,
+    order: &Order,
+    orca: Orca<'_>,
+    book: Book,
+    sink: &mut K,
+) -> Outcome
+    requires range { IsInRange order.now }
+    requires run { IsUnderWay order.now orca.state.program orca book }
+    ensures { RunAnswers order.now orca.entry.state.program
+        (sides K.written K.faults sink.old sink.new) result.book result.status }
+{
+    let mut orca = orca;
+    let mut book = book;
+    let end = finish(alloc, &mut orca, &mut book, order.budget);
+    let Some(answer) = answer_of(end) else {
+        return Outcome {
+            status: Status::NoMemory,
+            book,
+        };
+    };
+    let status = write_report(alloc, order, &orca, &book, answer, sink);
+    Outcome { status, book }
+}
+
+/// The answer of a call whose run has not begun for want of memory.
+fn starve(alloc: Global, order: &Order) -> Outcome
+    requires { IsInRange order.now }
+    ensures status { result.status ≡ Status.NoMemory }
+    ensures book { result.book ≡ record {
+      entries = [];
+      spare = 0;
+      weight = order.now.weight;
+      trace = order.now.trace;
+    } }
+{
+    Outcome {
+        status: Status::NoMemory,
+        book: Book::new(alloc, order.weight, order.trace),
+    }
+}
+
+/// Runs a checked program by one worker, and writes its report.
+pub(crate) fn run_by_one<K: Sink>(
+    alloc: Global,
+    order: &Order,
+    code: &Checked,
+    sink: &mut K,
+) -> Outcome
+    requires { IsInRange order.now }
+    ensures { RunAnswers order.now code.now (sides K.written K.faults sink.old sink.new)
+        result.book result.status }
+{
+    match Orca::start(alloc, code, order.weight, order.trace) {
+        Ok(orca) => {
+            let book = Book::new(alloc, order.weight, order.trace);
+            end_run(alloc, order, orca, book, sink)
+        }
+        Err(_) => starve(alloc, order),
+    }
+}
+
+/// The passes of so many workers, or of as many as there is memory for.
+fn passes<'h, 'a, J: Naming>(
+    alloc: Global,
+    hall: &'h SharedHall<'a, J>,
+    workers: u32,
+) -> Vec<HallPass<'h, 'a, J>> {
+    let mut passes = Vec::new(alloc);
+    for number in 0..workers {
+        if passes.push(hall.pass(number)).is_err() {
+            break;
+        }
+    }
+    passes
+}
+
+/// What the workers make of a program: the machine, and the book that led to it.
+fn run_in<'a, J: Naming + Send + Sync, R: AllocGlobal + Threads + Wait + Sync, G: Gate + Sync>(
+    rt: &R,
+    order: &Order,
+    code: &'a Checked,
+    gate: &G,
+) -> Result<(Orca<'a>, Book), NoMemory>
+    requires range { IsInRange order.now }
+    requires program { code.now ≡ J.program }
+    requires weight { order.now.weight ≡ J.weight }
+    requires budget { order.now.budget ≡ J.budget }
+    ensures run { IfOk result (λ parts. IsRunOf parts.0 parts.1.entries) }
+    ensures home { IfOk result (λ parts. NoneIsAway parts.0) }
+    ensures program { IfOk result (λ parts. parts.0.state.program ≡ code.now) }
+    ensures options { IfOk result
+        (λ parts. parts.0.state.options ≡ record { weight = order.now.weight; trace = Deep }) }
+    ensures weight { IfOk result (λ parts. parts.1.weight ≡ order.now.weight) }
+    ensures trace { IfOk result (λ parts. parts.1.trace ≡ Deep) }
+    ensures within { IfOk result (λ parts. length parts.1.entries ≤ order.now.budget) }
+{
+    let alloc = rt.alloc();
+    let hall = SharedHall::<J>::new(Hall::start(alloc, code, order.budget, order.weight)?);
+    let mut passes = passes(alloc, &hall, order.workers);
+    work(rt, alloc, passes.as_mut_slice(), gate);
+    drop(passes);
+    Ok(hall.into_hall().into_parts())
+}
+
+/// Runs a checked program by several workers, one of whom ends the run, and writes its report.
+fn run_by_several<R: AllocGlobal + Threads + Wait + Sync, K: Sink, G: Gate + Sync>(
+    rt: &R,
+    order: &Order,
+    code: &Checked,
+    sink: &mut K,
+    gate: &G,
+) -> Outcome
+    requires range { IsInRange order.now }
+    requires several { order.now.workers ≢ 1 }
+    requires deep { order.now.trace ≡ Deep }
+    ensures { RunAnswers order.now code.now (sides K.written K.faults sink.old sink.new)
+        result.book result.status }
+{
+    match run_in::<Brand, R, G>(rt, order, code, gate) {
+        Ok((orca, book)) => end_run(rt.alloc(), order, orca, book, sink),
+        Err(NoMemory) => starve(rt.alloc(), order),
+    }
+}
+
+/// Runs a checked program by as many workers as the order says, and writes its report. With root-only
+/// tracing one worker runs it.
+pub(crate) fn run_checked<R: AllocGlobal + Threads + Wait + Sync, K: Sink, G: Gate + Sync>(
+    rt: &R,
+    order: &Order,
+    code: &Checked,
+    sink: &mut K,
+    gate: &G,
+) -> Outcome
+    requires { IsInRange order.now }
+    ensures { RunAnswers order.now code.now (sides K.written K.faults sink.old sink.new)
+        result.book result.status }
+{
+    match order.trace {
+        Trace::Deep if order.workers != 1 => run_by_several(rt, order, code, sink, gate),
+        _ => run_by_one(rt.alloc(), order, code, sink),
+    }
+}

@@ -1,0 +1,40 @@
+-- Things in order of which none stands twice.
+use Rattle.std.proofs.Common.{◌≡◌, ◌≢◌, suc, ◌+◌, inl, inr, Bool, false, List, [], ◌∷◌, get_or, refl, sym, ap, subst, ◌∙◌, arith}
+use Rattle.std.specs.List.{IsDistinct}
+use Rattle.std.specs.List.Sorted.{IsSorted, IsSortedBy, IsStrictlySortedBy}
+use Rattle.std.specs.Ordering.{is_lt, ordering_reverse}
+use Rattle.std.specs.declared.cmp.Ordering.{Ordering}
+use Rattle.std.specs.declared.cmp.Ordering.TheVariants.{Less, Equal, Greater}
+use Rattle.std.proofs.lemmas.List.Elements.{All-from_recursion, All-contains}
+use Rattle.std.proofs.lemmas.Map.Keys.{IsDistinct-head, IsDistinct-tail}
+use Rattle.orca_names.specs.Names.{is_thing, thing_cmp}
+use Rattle.orca_names.specs.declared.names.Thing.{Thing}
+use Rattle.orca_names.proofs.ThingOrder.{thing_total, thing_exact, is_eq_true}
+use Rattle.reach_walk.proofs.Elements.{Contains-head, Contains-cons_cases, none_in_nil}
+use Rattle.reach_walk.proofs.InOrder.{first_less, sorted_nil, sorted_cons}
+
+-- neither behind the other nor the other
+less_of : (x y : Thing) → is_lt (thing_cmp y x) ≡ false → x ≢ y → thing_cmp x y ≡ Less
+less_of x y behind other = cases (thing_cmp x y) refl
+  where
+    cases : (o : Ordering) → thing_cmp x y ≡ o → o ≡ Less
+    cases Less e = refl
+    cases Equal e = absurd (other (thing_exact x y e))
+    cases Greater e = let flipped = thing_total.antisymm y x ∙ ap ordering_reverse e in let not_less = sym (ap is_lt flipped) ∙ behind in cc
+
+sorted_later : (lt : Thing → Thing → Bool) (x : Thing) (xs : List Thing) → IsSortedBy lt (x ∷ xs) → IsSortedBy lt xs
+sorted_later lt x xs sorted = λ k d low high.
+    let next : suc k + 1 ≡ suc (k + 1) = omega arith in
+    subst (λ n. lt (get_or (x ∷ xs) n d) (get_or xs k d) ≡ false) next (sorted (suc k) d (omega arith) (omega (arith, high)))
+
+pub strictly : (xs : List Thing) → IsSorted thing_cmp xs → IsDistinct is_thing xs → IsStrictlySortedBy thing_cmp xs
+strictly [] sorted once = sorted_nil
+strictly (x ∷ []) sorted once = sorted_cons x [] (λ z c. none_in_nil z _ c) sorted_nil
+strictly (x ∷ y ∷ ys) sorted once =
+    let rest : IsStrictlySortedBy thing_cmp (y ∷ ys) = strictly (y ∷ ys) (sorted_later (λ a b. is_lt (thing_cmp a b)) x (y ∷ ys) sorted) (IsDistinct-tail is_thing x (y ∷ ys) once) in
+    let apart = All-contains (λ z. is_thing x z ≡ false) (y ∷ ys) y (All-from_recursion _ (y ∷ ys) (IsDistinct-head is_thing x (y ∷ ys) once)) (Contains-head y ys) in
+    let less : thing_cmp x y ≡ Less = less_of x y (sorted 0 x (omega arith) (omega arith)) (λ same. let it = is_eq_true x y same in cc) in
+    sorted_cons x (y ∷ ys) (λ z c. elim (Contains-cons_cases y ys z c) as (λ _. thing_cmp x z ≡ Less) [
+      | inl e ↦ subst (λ w. thing_cmp x w ≡ Less) e less
+      | inr d ↦ thing_total.trans x y z less (first_less y ys rest z d)
+    ]) rest

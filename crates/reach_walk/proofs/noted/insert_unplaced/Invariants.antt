@@ -1,0 +1,7 @@
+use Rattle.std.proofs.Common.{◌≡◌, ◌⊎◌, ◌↔◌, take, Contains, None}
+use Rattle.orca_names.specs.declared.names.Thing.{Thing}
+use Rattle.reach_walk.proofs.noted.insert_unplaced.Given as goal
+
+abbrev pub invariant-loop-i : goal.invariant-loop-i
+invariant-loop-i g l =
+    (x : Thing) → Contains l.set.keys x ↔ (Contains l.fn.set.keys x ⊎ (Contains (take l.i l.things) x × (g.P.Places.place l.places x ≡ None)))

@@ -1,0 +1,142 @@
+// A list of things, a short one in place.
+
+ghost use Rattle.std.specs.Prelude.{◌≡◌, ◌<◌, ◌++◌, ◌∷◌, [], Some, length, slice_get, IfOk, OnOk};
+ghost use Rattle.std.specs.List.Sorted.{IsPermutation, IsSorted};
+ghost use Rattle.orca_names.specs.Names.{thing_cmp};
+
+use orca_names::{ActorName, NoMemory, Thing};
+use std::alloc::Global;
+use std::marker::Model;
+
+/// As many things stand in the list itself: most loads have no more.
+pub(crate) const FEW: usize = 8;
+
+/// Things in the order in which they came, seen by contracts as that list. A short list takes no
+/// memory.
+#[derive(Drop)]
+pub(crate) struct ThingList {
+    // The first of these, unless they are many.
+    few: [Thing; FEW],
+    count: usize,
+
+    // All of them, once they are more than a few.
+    many: Vec<Thing>,
+}
+
+impl Model for ThingList {
+    ghost use Rattle.std.specs.Prelude.{List};
+    ghost use Rattle.orca_names.specs.declared.names.Thing.{Thing as thing};
+    ghost use Rattle.reach_walk.specs.Listed.{listed_in, HasPlaces};
+
+    ghost Value = { List thing };
+
+    ghost view = { λ s. listed_in s.few s.count s.many.items };
+
+    ghost invariant = { λ s. HasPlaces s.few s.count };
+}
+
+impl ThingList {
+    /// No things yet.
+    pub(crate) fn new(alloc: Global) -> ThingList
+        ensures { result ≡ [] }
+    {
+        ThingList {
+            few: [Thing::Actor(ActorName(0)); FEW],
+            count: 0,
+            many: Vec::new(alloc),
+        }
+    }
+
+    /// How many there are.
+    pub(crate) fn len(&self) -> usize
+        ensures { result ≡ length self.now }
+    {
+        if self.many.is_empty() {
+            self.count
+        } else {
+            self.many.len()
+        }
+    }
+
+    /// The things, in their order.
+    pub(crate) fn as_slice(&self) -> &[Thing]
+        ensures { result.now ≡ self.now }
+    {
+        if self.many.is_empty() {
+            let few = &self.few;
+            &few[..self.count]
+        } else {
+            self.many.as_slice()
+        }
+    }
+
+    /// The thing at a place, counted from 0.
+    pub(crate) fn at(&self, i: usize) -> Thing
+        requires { i < length self.now }
+        ensures { slice_get self.now i ≡ Some result }
+    {
+        self.as_slice()[i]
+    }
+
+    // One thing more than a few: all of them move.
+    #[inline(never)]
+    fn spill(&mut self, thing: Thing) -> Result<(), NoMemory>
+        requires { length self.old ≡ 8 }
+        ensures { OnOk result (self.new ≡ self.old ++ thing ∷ []) }
+    {
+        let mut many = Vec::with_capacity(*self.many.allocator(), 4 * FEW)?;
+        many.extend_from_slice(self.as_slice())?;
+        many.push(thing)?;
+        self.many = many;
+        Ok(())
+    }
+
+    /// One thing more, at the end.
+    pub(crate) fn push(&mut self, thing: Thing) -> Result<(), NoMemory>
+        ensures { OnOk result (self.new ≡ self.old ++ thing ∷ []) }
+    {
+        if !self.many.is_empty() {
+            self.many.push(thing)?;
+            return Ok(());
+        }
+        if self.count < FEW {
+            let few = &mut self.few;
+            few[self.count] = thing;
+            self.count += 1;
+            return Ok(());
+        }
+        self.spill(thing)
+    }
+
+    /// Drops all of them, and keeps what memory it took.
+    pub(crate) fn clear(&mut self)
+        ensures { self.new ≡ [] }
+    {
+        self.count = 0;
+        self.many.clear();
+    }
+
+    /// Puts them in the order of things.
+    pub(crate) fn sort(&mut self)
+        ensures same { IsPermutation self.old self.new }
+        ensures sorted { IsSorted thing_cmp self.new }
+    {
+        if self.many.is_empty() {
+            let few = &mut self.few;
+            few[..self.count].sort_unstable();
+        } else {
+            self.many.sort_unstable();
+        }
+    }
+
+    /// The things as a `Vec`, in their order.
+    pub(crate) fn into_vec(self, alloc: Global) -> Result<Vec<Thing>, NoMemory>
+        ensures { IfOk result (λ things. things.items ≡ self) }
+    {
+        if self.many.is_empty() {
+            return Ok(self.as_slice().to_vec(alloc)?);
+        }
+        let ThingList { many, .. } = self;
+        Ok(many)
+    }
+}

@@ -1,0 +1,87 @@
+-- The claims that are out, as a list and by actor.
+use Rattle.std.proofs.Common.{◌≡◌, ◌≢◌, ℕ, zero, suc, ◌+◌, ◌<◌, ◌==◌, ◌&&◌, Bool, true, false, List, [], ◌∷◌, ◌++◌, length, Option, Some, None, refl, sym, ap, ◌∙◌, arith, set, get_or-set_other}
+use Rattle.std.specs.Prelude.{find, option_map, if◌then◌else◌, nat_lt}
+use Rattle.std.proofs.lemmas.Bool.Decides.{nat_tests}
+use Rattle.event_rule.specs.Events.{actor_of}
+use Rattle.event_rule.specs.declared.event.Event.{Event}
+use Rattle.book_hall.specs.Claims.{holder, is_anothers}
+use Rattle.book_hall.specs.declared.claims.Claim.{Claim}
+use Rattle.seat_hall.specs.Log.{claim_in, grown, listed, released}
+
+-- the claim, unless it is of the one who asks
+abbrev pub of_another : Option ℕ → Option ℕ → Option ℕ
+of_another asker None = None
+of_another asker (Some pass) = if is_anothers asker pass then Some pass else None
+
+same : (n : ℕ) → (n == n) ≡ true
+same n = grind (arith, nat_tests)
+
+differ : (n m : ℕ) → n ≢ m → (n == m) ≡ false
+differ n m apart = grind (arith, nat_tests)
+
+abbrev first_of : Bool → Claim → Option Claim → Option ℕ
+first_of b c rest = option_map (λ (c : Claim). c.pass) (if b then Some c else rest)
+
+-- from the actor n on there is no claim on one before it
+none_before : (asker : Option ℕ) (n m : ℕ) (claims : List (Option ℕ)) → m < n → holder asker m (listed n claims) ≡ None
+none_before asker n m [] less = refl
+none_before asker n m (None ∷ claims) less = none_before asker (n + 1) m claims (omega arith)
+none_before asker n m (Some pass ∷ claims) less =
+    ap (λ b. first_of (b && is_anothers asker pass) (record { pass = pass; actor = n })
+    (find (λ c. (c.actor == m) && is_anothers asker c.pass) (listed (n + 1) claims)))
+    (differ n m (λ e. omega arith)) ∙ none_before asker (n + 1) m claims (omega arith)
+
+holder_from : (asker : Option ℕ) (n a : ℕ) (claims : List (Option ℕ))
+    → holder asker (n + a) (listed n claims) ≡ of_another asker (claim_in claims a)
+holder_from asker n a [] = refl
+holder_from asker n zero (None ∷ claims) = none_before asker (n + 1) (n + 0) claims (omega arith)
+holder_from asker n (suc a) (None ∷ claims) =
+    let e : n + suc a ≡ n + 1 + a = omega arith in
+    ap (λ m. holder asker m (listed (n + 1) claims)) e ∙ holder_from asker (n + 1) a claims
+holder_from asker n zero (Some pass ∷ claims) =
+    let e : n + 0 ≡ n = omega arith in
+    ap (λ m. holder asker m (listed n (Some pass ∷ claims))) e
+    ∙ (ap (λ b. first_of (b && is_anothers asker pass) (record { pass = pass; actor = n })
+    (find (λ c. (c.actor == n) && is_anothers asker c.pass) (listed (n + 1) claims))) (same n)
+    ∙ by (is_anothers asker pass))
+  where
+    by : (b : Bool) → first_of b (record { pass = pass; actor = n })
+        (find (λ c. (c.actor == n) && is_anothers asker c.pass) (listed (n + 1) claims)) ≡ (if b then Some pass else None)
+    by true = refl
+    by false = none_before asker (n + 1) n claims (omega arith)
+holder_from asker n (suc a) (Some pass ∷ claims) =
+    let e : n + suc a ≡ n + 1 + a = omega arith in
+    ap (λ b. first_of (b && is_anothers asker pass) (record { pass = pass; actor = n })
+    (find (λ c. (c.actor == n + suc a) && is_anothers asker c.pass) (listed (n + 1) claims)))
+    (differ n (n + suc a) (λ e. omega arith))
+    ∙ (ap (λ m. holder asker m (listed (n + 1) claims)) e ∙ holder_from asker (n + 1) a claims)
+
+-- who holds an actor is told by its place
+pub holder_is : (asker : Option ℕ) (a : ℕ) (claims : List (Option ℕ))
+    → holder asker a (listed 0 claims) ≡ of_another asker (claim_in claims a)
+holder_is asker a claims =
+    let e : a ≡ 0 + a = omega arith in
+    ap (λ n. holder asker n (listed 0 claims)) e ∙ holder_from asker 0 a claims
+
+-- ---- changes on another actor
+
+claim_snoc : (claims : List (Option ℕ)) (a : ℕ) → claim_in (claims ++ None ∷ []) a ≡ claim_in claims a
+claim_snoc [] zero = refl
+claim_snoc [] (suc a) = refl
+claim_snoc (c ∷ claims) zero = refl
+claim_snoc (c ∷ claims) (suc a) = claim_snoc claims a
+
+pub claim_grown : (n : ℕ) (claims : List (Option ℕ)) (a : ℕ) → claim_in (grown n claims) a ≡ claim_in claims a
+claim_grown n claims a = elim (nat_lt (length claims) n) as (λ b. claim_in (if b then claims ++ None ∷ [] else claims) a ≡ claim_in claims a)
+    [ true ↦ claim_snoc claims a | false ↦ refl ]
+
+pub claim_set : (claims : List (Option ℕ)) (a b : ℕ) (c : Option ℕ) → b ≢ a → claim_in (set claims a c) b ≡ claim_in claims b
+claim_set claims a b c apart = get_or-set_other claims a b c None apart
+
+pub claim_released : (e : Event) (claims : List (Option ℕ)) (b : ℕ) → actor_of e ≢ Some b
+    → claim_in (released e claims) b ≡ claim_in claims b
+claim_released e claims b apart = by (actor_of e) refl
+  where
+    by : (who : Option ℕ) → actor_of e ≡ who → claim_in (Rattle.std.specs.Option.option_map_or (λ a. set claims a None) who claims) b ≡ claim_in claims b
+    by None is = refl
+    by (Some a) is = claim_set claims a b None (λ same. apart (is ∙ ap Some (sym same)))

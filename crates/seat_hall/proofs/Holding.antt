@@ -1,0 +1,153 @@
+-- What a pass has, it has until it ends the claim, whatever others do.
+use Rattle.std.proofs.Common.{◌≡◌, ◌≢◌, ℕ, ◌<◌, ◌==◌, Bool, true, false, not, List, [], ◌∷◌, ◌++◌, Option, Some, None, refl, sym, ap, ◌∙◌, subst, arith}
+use Rattle.std.specs.Prelude.{if◌then◌else◌}
+use Rattle.std.specs.Option.{option_and_then, option_or}
+use Rattle.std.proofs.lemmas.Bool.Decides.{nat_tests}
+use Rattle.orca_names.specs.declared.trace.Trace.TheVariants.{Deep}
+use Rattle.event_rule.specs.Events.{actor_of}
+use Rattle.event_rule.specs.Runs.{Goes, NotEnabled}
+use Rattle.event_rule.specs.declared.event.Event.{Event}
+use Rattle.machine_rules.specs.Actors.{cell_at}
+use Rattle.machine_rules.specs.Next.{next}
+use Rattle.machine_rules.specs.State.{State, first_state}
+use Rattle.count_laws.specs.Apart.{IsApart}
+use Rattle.orca_core.specs.Machine.{options_of}
+use Rattle.orca_core.proofs.Reached.{leads_more}
+use Rattle.work_board.specs.declared.answers.Refuse.TheVariants as why
+use Rattle.book_hall.specs.Causes.{absent_cause, actor_cause, busy_cause, claim_cause, entry_cause, event_at}
+use Rattle.book_hall.specs.Claims.{holder}
+use Rattle.book_hall.proofs.Keeping.{leads_after}
+use Rattle.book_hall.proofs.Refusing.{or_none}
+use Rattle.seat_hall.specs.declared.item.Item.{Item}
+use Rattle.seat_hall.specs.declared.item.Item.TheVariants.{Claimed, Entered, Ended, Stopped, Made}
+use Rattle.seat_hall.specs.Log.{Legal, Logged, MayFollow, after, by, claim_in, hall_from, items_by, plain, state_in}
+use Rattle.seat_hall.proofs.Busy.{IsBusy, busy_made, busy_of, event_of, none_reaped, others_leave_busy}
+use Rattle.seat_hall.proofs.Claims.{claim_grown, claim_released, claim_set, holder_is, of_another}
+use Rattle.seat_hall.proofs.Runs.{IsRunOf, can_enter, run_one}
+
+-- the claim on the actor is out, and it has an event; the cell is as it was
+pub record Keeps (pass a : ℕ) (l m : Logged) : Type 0 where
+  pub claimed : claim_in m.claims a ≡ Some pass
+  pub cell : cell_at (state_in m).actors a ≡ cell_at (state_in l).actors a
+  pub busy : event_at (state_in m) a ≢ None
+
+abbrev pub pass_or : ℕ → Option ℕ → ℕ
+pass_or d (Some pass) = pass
+pass_or d None = d
+
+not_busy : (l : Logged) (asker : Option ℕ) (a : ℕ) → busy_cause (plain l).claims asker a ≡ None
+    → of_another asker (claim_in l.claims a) ≡ None
+not_busy l asker a none = sym (holder_is asker a l.claims) ∙ free (holder asker a (plain l).claims) none
+  where
+    free : (who : Option ℕ) → Rattle.std.specs.Prelude.option_map why.Busy who ≡ None → who ≡ None
+    free None none = refl
+    free (Some p) none = absurd (cc)
+
+none_claimed : (c : Option ℕ) → of_another None c ≡ None → c ≡ None
+none_claimed None none = refl
+none_claimed (Some p) none = absurd (cc)
+
+-- an actor that another asks for, and is not refused as busy, is not this pass's
+not_mine : (c : Option ℕ) (asker pass : ℕ) → asker ≢ pass → of_another (Some asker) c ≡ None → c ≢ Some pass
+not_mine None asker pass apart none is = cc
+not_mine (Some p) asker pass apart none is =
+    let same : p ≡ pass = ap (pass_or 0) is in by (p == asker) refl none same
+  where
+    by : (b : Bool) → (p == asker) ≡ b → (if not (p == asker) then Some p else None) ≡ None → p ≡ pass → ⊥
+    by true is none same = let e : p ≡ asker = grind (arith, nat_tests) in apart (sym e ∙ same)
+    by false is none same =
+        let some : Some p ≡ None = sym (ap (λ b. if not b then Some p else None) is) ∙ none in cc
+
+-- ---- whose actor an item is of
+
+about_claimed : (l : Logged) (pass q a b : ℕ) → claim_cause (plain l) b ≡ None → claim_in l.claims a ≡ Some pass → a ≢ b
+about_claimed l pass q a b none mine same =
+    let c = or_none (absent_cause (state_in l) b) _ none in
+    let d = or_none (busy_cause (plain l).claims None b) _ c.1 in
+    let free = none_claimed (claim_in l.claims b) (not_busy l None b d.0) in
+    let clash : None ≡ Some pass = sym free ∙ (ap (claim_in l.claims) (sym same) ∙ mine) in cc
+
+about_entered : (l : Logged) (pass q a : ℕ) (e : Event) → q ≢ pass → entry_cause (plain l) (Some q) e ≡ None
+    → claim_in l.claims a ≡ Some pass → actor_of e ≢ Some a
+about_entered l pass q a e apart none mine is =
+    let c = or_none (actor_cause (state_in l) (plain l).claims (Some q) e) _ none in
+    let cause : option_or (absent_cause (state_in l) a) (busy_cause (plain l).claims (Some q) a) ≡ None =
+    sym (ap (option_and_then (λ a. option_or (absent_cause (state_in l) a) (busy_cause (plain l).claims (Some q) a))) is) ∙ c.0 in
+    let d = or_none (absent_cause (state_in l) a) _ cause in
+    not_mine (claim_in l.claims a) q pass apart (not_busy l (Some q) a d.1) mine
+
+-- ---- an entry of others
+
+entry_apart : (l : Logged) (a : ℕ) (e : Event) (t : State) → 0 < l.weight → IsRunOf l → IsBusy (state_in l) a
+    → actor_of e ≢ Some a → next (state_in l) e ≡ Goes t → IsApart (state_in l) a e
+entry_apart l a e t heavy run busy others goes = record {
+  made = busy_made (state_in l) a busy;
+  others = others;
+  spared = λ number token is there.
+      none_reaped l.program l.weight l.book (state_in l) heavy run.0 a busy number token
+      (λ off. let clash : NotEnabled ≡ Goes t = sym off ∙ (ap (next (state_in l)) (sym is) ∙ goes) in cc) there;
+}
+
+keeps_entered : (pass q a : ℕ) (l : Logged) (e : Event) → q ≢ pass → 0 < l.weight → IsRunOf l
+    → entry_cause (plain l) (Some q) e ≡ None → claim_in l.claims a ≡ Some pass → event_at (state_in l) a ≢ None
+    → Keeps pass a l (after l (Entered q e))
+keeps_entered pass q a l e apart heavy run none mine busy =
+    let others = about_entered l pass q a e apart none mine in
+    let can = can_enter l (Some q) e run.1 none in
+    let start : State = first_state l.program (options_of l.weight Deep) in
+    let more = leads_more l.book start (state_in l) can.after_it e run.0 can.goes in
+    let there : can.after_it ≡ state_in (after l (Entered q e)) = leads_after (l.book ++ e ∷ []) start can.after_it more in
+    let b = busy_of (state_in l) a busy in
+    let left = others_leave_busy (state_in l) can.after_it a e (entry_apart l a e can.after_it heavy run b others can.goes) can.goes b in record {
+      claimed = claim_grown _ _ a ∙ (claim_released e l.claims a others ∙ mine);
+      cell = ap (λ (s : State). cell_at s.actors a) (sym there) ∙ left.0;
+      busy = subst (λ (s : State). event_at s a ≢ None) there (event_of can.after_it a left.1);
+    }
+
+pub keeps_item : (pass a : ℕ) (l : Logged) (i : Item) → by i ≢ pass → 0 < l.weight → IsRunOf l → MayFollow l i
+    → claim_in l.claims a ≡ Some pass → event_at (state_in l) a ≢ None → Keeps pass a l (after l i)
+keeps_item pass a l (Claimed q b) apart heavy run may mine busy = record {
+  claimed = claim_set l.claims b a (Some q) (about_claimed l pass q a b may.1 mine) ∙ mine;
+  cell = refl;
+  busy = busy;
+}
+keeps_item pass a l (Entered q e) apart heavy run may mine busy = keeps_entered pass q a l e apart heavy run may.1 mine busy
+keeps_item pass a l (Ended q b) apart heavy run may mine busy = record {
+  claimed = claim_set l.claims b a None
+      (λ same. apart (ap (pass_or 0) (sym may.1 ∙ (ap (claim_in l.claims) (sym same) ∙ mine)))) ∙ mine;
+  cell = refl;
+  busy = busy;
+}
+keeps_item pass a l (Stopped q) apart heavy run may mine busy = record { claimed = mine; cell = refl; busy = busy }
+keeps_item pass a l (Made q) apart heavy run may mine busy = record { claimed = mine; cell = refl; busy = busy }
+
+-- where a pass has no item, each is another's
+pub none_by : (pass : ℕ) (i : Item) (log : List Item) → items_by pass (i ∷ log) ≡ [] → (by i ≢ pass) × (items_by pass log ≡ [])
+none_by pass i log none = pick (by i == pass) refl none
+  where
+    pick : (b : Bool) → (by i == pass) ≡ b → items_by pass (i ∷ log) ≡ [] → (by i ≢ pass) × (items_by pass log ≡ [])
+    pick true is none =
+        let cons : i ∷ items_by pass log ≡ [] =
+        sym (ap (λ b. if b then i ∷ items_by pass log else items_by pass log) is) ∙ none in absurd (cc)
+    pick false is none = (
+      (λ same. let e : (by i == pass) ≡ true = grind (arith, nat_tests) in let clash : true ≡ false = sym e ∙ is in cc),
+      sym (ap (λ b. if b then i ∷ items_by pass log else items_by pass log) is) ∙ none,
+    )
+
+-- through all items of others
+pub keeps_all : (pass a : ℕ) (l : Logged) (log : List Item) → 0 < l.weight → IsRunOf l → Legal l log
+    → items_by pass log ≡ [] → claim_in l.claims a ≡ Some pass → event_at (state_in l) a ≢ None
+    → Keeps pass a l (hall_from l log)
+keeps_all pass a l [] heavy run legal none mine busy = record { claimed = mine; cell = refl; busy = busy }
+keeps_all pass a l (i ∷ log) heavy run legal none mine busy =
+    let n = none_by pass i log none in
+    let one = keeps_item pass a l i n.0 heavy run legal.0 mine busy in
+    let rest = keeps_all pass a (after l i) log (heavy_one l i heavy) (run_one l i run legal.0) legal.1 n.1 one.claimed one.busy in
+    record { claimed = rest.claimed; cell = rest.cell ∙ one.cell; busy = rest.busy }
+  where
+    heavy_one : (l : Logged) (i : Item) → 0 < l.weight → 0 < (after l i).weight
+    heavy_one l (Claimed q b) heavy = heavy
+    heavy_one l (Entered q e) heavy = heavy
+    heavy_one l (Ended q b) heavy = heavy
+    heavy_one l (Stopped q) heavy = heavy
+    heavy_one l (Made q) heavy = heavy

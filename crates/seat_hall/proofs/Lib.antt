@@ -1,0 +1,11 @@
+pub mod Logs
+pub mod Runs
+pub mod Entries
+pub mod Busy
+pub mod Claims
+pub mod Holding
+pub mod Apart
+pub mod Keeps
+pub mod Parting
+pub mod Turns
+pub mod Unmade

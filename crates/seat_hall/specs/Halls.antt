@@ -1,0 +1,43 @@
+-- The hall as it lies under the turn, without the cells that are out.
+use Rattle.std.specs.Prelude.{ℕ, ◌≡◌, ◌≢◌, ◌≤◌, is_some, List, length, count_by, Option, Some, None}
+use Rattle.orca_names.specs.declared.limits.TheConstants.{BOOK_LIMIT}
+use Rattle.orca_names.specs.declared.trace.Trace.TheVariants.{Deep}
+use Rattle.behaviour_code.specs.declared.code.Program.{Program}
+use Rattle.machine_rules.specs.Run.{IsRun}
+use Rattle.machine_rules.specs.State.{State, first_state}
+use Rattle.run_book.specs.Books.{BookValue}
+use Rattle.orca_core.specs.Away.{is_out}
+use Rattle.orca_core.specs.Machine.{Machine, options_of}
+use Rattle.book_hall.specs.Causes.{event_at}
+use Rattle.book_hall.specs.Halls.{state_after}
+use Rattle.seat_hall.specs.declared.item.Item.{Item}
+use Rattle.seat_hall.specs.Log.{Logged, claim_in}
+
+-- a hall as its callers see it: with all its cells, and the item by which it came to be
+pub record HallView : Type 0 where
+  pub logged : Logged
+  pub last : Item
+
+-- the hall after the item
+abbrev pub says : Logged → Item → HallView
+says logged last = record { logged = logged; last = last }
+
+-- each claimed actor has an enabled event still, so that nothing reaps it
+abbrev pub ClaimedAreBusy : State → List (Option ℕ) → Type 0
+ClaimedAreBusy s claims = (a pass : ℕ) → claim_in claims a ≡ Some pass → event_at s a ≢ None
+
+-- what the hall keeps: the book is a run, within the budget, that leads to the machine's state; the
+-- cells that are away are those of the claims; each actor has a place for claims; and how many are out
+pub record IsKept (program : Program) (budget : ℕ) (orca : Machine) (book : BookValue)
+    (claims : List (Option ℕ)) (lent : ℕ) : Type 0 where
+  pub state_is : orca.state
+      ≡ state_after (first_state program (options_of book.weight Deep)) book.entries
+  pub run : IsRun program (options_of book.weight Deep) book.entries orca.state
+  pub long : length book.entries ≡ orca.steps
+  pub deep : book.trace ≡ Deep
+  pub within : length book.entries ≤ budget
+  pub most : budget ≤ BOOK_LIMIT
+  pub away : (a : ℕ) → is_out orca.out a ≡ is_some (claim_in claims a)
+  pub sized : length claims ≡ length orca.state.actors
+  pub counted : lent ≡ count_by is_some claims
+  pub busy : ClaimedAreBusy orca.state claims

@@ -1,0 +1,122 @@
+-- The hall as a function of its log.
+use Rattle.std.specs.Prelude.{ℕ, ◌≡◌, ◌==◌, ◌+◌, ◌≤◌, Bool, true, false, nat_lt, if◌then◌else◌, List, [], ◌∷◌, ◌++◌, filter, length, slice_index_or, slice_set, Option, Some, None, ⊤}
+use Rattle.std.specs.Option.{option_map_or}
+use Rattle.behaviour_code.specs.declared.code.Program.{Program}
+use Rattle.event_rule.specs.Events.{actor_of}
+use Rattle.event_rule.specs.declared.event.Event.{Event}
+use Rattle.machine_rules.specs.State.{State}
+use Rattle.book_hall.specs.Causes.{claim_cause, entry_cause}
+use Rattle.book_hall.specs.Halls.{HallValue, state_of}
+use Rattle.book_hall.specs.declared.claims.Claim.{Claim}
+use Rattle.seat_hall.specs.declared.item.Item.{Item}
+use Rattle.seat_hall.specs.declared.item.Item.TheVariants.{Claimed, Entered, Ended, Stopped, Made}
+
+-- the hall after a log: the run's program, weight and budget; its book; for each actor that was made
+-- the pass whose claim on it is out; whether a stop was asked; and how many passes were split off
+pub record Logged : Type 0 where
+  pub program : Program
+  pub weight : ℕ
+  pub budget : ℕ
+  pub book : List Event
+  pub claims : List (Option ℕ)
+  pub stopped : Bool
+  pub made : ℕ
+
+-- the pass whose claim on the actor is out
+abbrev pub claim_in : List (Option ℕ) → ℕ → Option ℕ
+claim_in claims a = slice_index_or claims a None
+
+-- the claims that are out, by rising actor, from the actor a on
+abbrev pub listed : ℕ → List (Option ℕ) → List Claim
+listed a [] = []
+listed a (None ∷ claims) = listed (a + 1) claims
+listed a (Some pass ∷ claims) = record { pass = pass; actor = a } ∷ listed (a + 1) claims
+
+-- the plain hall of the same book and claims, whose answers are those of this hall
+abbrev pub plain : Logged → HallValue
+plain l = record {
+  program = l.program;
+  weight = l.weight;
+  budget = l.budget;
+  book = l.book;
+  claims = listed 0 l.claims;
+  stopped = l.stopped;
+}
+
+-- the state of the machine: the one to which the book leads
+abbrev pub state_in : Logged → State
+state_in l = state_of (plain l)
+
+-- ---- items
+
+-- before any item: one actor, nothing claimed
+abbrev pub begins : Program → ℕ → ℕ → Logged
+begins program weight budget = record {
+  program = program;
+  weight = weight;
+  budget = budget;
+  book = [];
+  claims = None ∷ [];
+  stopped = false;
+  made = 0;
+}
+
+-- one place more, where there are fewer than n
+abbrev pub grown : ℕ → List (Option ℕ) → List (Option ℕ)
+grown n claims = if nat_lt (length claims) n then claims ++ None ∷ [] else claims
+
+-- no claim on the event's actor is out
+abbrev pub released : Event → List (Option ℕ) → List (Option ℕ)
+released e claims = option_map_or (λ a. slice_set claims a None) (actor_of e) claims
+
+-- with the event as last entry; an actor that it makes gets a place for claims
+abbrev pub entered : Event → Logged → Logged
+entered e l = let after = record l { book = l.book ++ e ∷ [] } in
+    record after { claims = grown (length (state_in after).actors) (released e l.claims) }
+
+abbrev pub after : Logged → Item → Logged
+after l (Claimed pass actor) = record l { claims = slice_set l.claims actor (Some pass) }
+after l (Entered pass event) = entered event l
+after l (Ended pass actor) = record l { claims = slice_set l.claims actor None }
+after l (Stopped pass) = record l { stopped = true }
+after l (Made pass) = record l { made = l.made + 1 }
+
+-- the hall after a log
+abbrev pub hall_from : Logged → List Item → Logged
+hall_from l [] = l
+hall_from l (i ∷ log) = hall_from (after l i) log
+
+-- ---- whose items
+
+-- the pass that made the item; of a pass that was split off, this pass itself
+abbrev pub by : Item → ℕ
+by (Claimed pass actor) = pass
+by (Entered pass event) = pass
+by (Ended pass actor) = pass
+by (Stopped pass) = pass
+by (Made pass) = pass
+
+abbrev pub items_by : ℕ → List Item → List Item
+items_by pass log = filter (λ i. by i == pass) log
+
+-- ---- which items may follow
+
+-- at most so many passes are split off
+abbrev pub most_made : ℕ
+most_made = 65535
+
+-- the item may come next: a claim names an actor that has an enabled event and on which no claim is
+-- out; an entry's event is enabled, within the budget, and of no actor on which another pass's claim is
+-- out; a claim that ends is the pass's own; and a new pass has the next number. Each pass but the first
+-- was split off before
+abbrev pub MayFollow : Logged → Item → Type 0
+MayFollow l (Claimed pass actor) = (pass ≤ l.made) × (claim_cause (plain l) actor ≡ None)
+MayFollow l (Entered pass event) = (pass ≤ l.made) × (entry_cause (plain l) (Some pass) event ≡ None)
+MayFollow l (Ended pass actor) = (pass ≤ l.made) × (claim_in l.claims actor ≡ Some pass)
+MayFollow l (Stopped pass) = pass ≤ l.made
+MayFollow l (Made pass) = (pass ≡ l.made + 1) × (pass ≤ most_made)
+
+-- each item may follow those before it
+abbrev pub Legal : Logged → List Item → Type 0
+Legal l [] = ⊤
+Legal l (i ∷ log) = MayFollow l i × Legal (after l i) log

@@ -1,0 +1,12 @@
+pub mod Sums
+pub mod Places
+pub mod Queues
+pub mod Draws
+pub mod Looks
+pub mod Writes
+pub mod Passes
+pub mod Halves
+pub mod Unions
+pub mod Closings
+pub mod Shares
+pub mod Tickets

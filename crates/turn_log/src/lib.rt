@@ -1,0 +1,25 @@
+//! A value that threads change in turns, and a log of what they did to it.
+//!
+//! It is a ticket lock (Mellor-Crummey and Scott, 1991): who wants the value draws a ticket, waits
+//! until that ticket is served, has the value alone, and then passes the turn on. Beside the value
+//! stands a log, to which each change adds an item. The log exists in proofs alone; what is kept of it
+//! when the program runs is its length. A rule of the user's ties the value, the log and what each
+//! pass knows.
+#![tactic(auto)]
+
+mod closing;
+mod laws;
+mod plays;
+mod rule;
+mod table;
+mod turn;
+
+pub use closing::StillOpen;
+pub use laws::{one_has_the_turn, tickets_differ};
+pub use rule::{Known, LogRule};
+pub use table::{ByTurns, LogSeat, SeatView, Stage, TurnLog};
+
+#[cfg(test)]
+mod sheet;
+#[cfg(test)]
+mod tests;
