@@ -9,6 +9,7 @@ mod limits;
 mod memory;
 mod names;
 mod reader;
+mod reason;
 mod row;
 mod rows;
 mod tally;
@@ -23,6 +24,7 @@ pub use limits::{
 pub use memory::NoMemory;
 pub use names::{ActorName, ObjName, Serial, Thing, Value};
 pub use reader::{Reading, RowReader};
+pub use reason::{Edge, Reason, Why};
 pub use row::{Args, Fields, Row};
 pub use rows::Rows;
 pub use tally::{Sums, Tally};
