@@ -8,6 +8,7 @@ mod kept_report;
 mod limits;
 mod memory;
 mod names;
+mod parting;
 mod reader;
 mod reason;
 mod row;
@@ -23,6 +24,7 @@ pub use limits::{
 };
 pub use memory::NoMemory;
 pub use names::{ActorName, ObjName, Serial, Thing, Value};
+pub use parting::Parting;
 pub use reader::{Reading, RowReader};
 pub use reason::{Edge, Reason, Why};
 pub use row::{Args, Fields, Row};
