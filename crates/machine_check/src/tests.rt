@@ -10,19 +10,19 @@ use orca_names::{ActorName, Trace, Value};
 use std::alloc::Global;
 use std::test::Fail;
 
-const TAKE: u8 = 0;
+pub(crate) const TAKE: u8 = 0;
 
-const GO: u8 = 1;
+pub(crate) const GO: u8 = 1;
 
 const COLLECT: u8 = 2;
 
 const LEAVE: u8 = 3;
 
-const BLOCK: u8 = 4;
+pub(crate) const BLOCK: u8 = 4;
 
-const HEAR: u8 = 5;
+pub(crate) const HEAR: u8 = 5;
 
-const SCAN: u8 = 6;
+pub(crate) const SCAN: u8 = 6;
 
 const REAP: u8 = 7;
 
@@ -134,7 +134,7 @@ const MINTED: &[(u8, u32, Want)] = &[
     (GO, 1, Done),
 ];
 
-fn event(kind: u8, number: u32) -> Event {
+pub(crate) fn event(kind: u8, number: u32) -> Event {
     let actor = ActorName(number);
     match kind {
         TAKE => Event::Take(actor),

@@ -1,0 +1,244 @@
+// The hall that copies cells for claims, by its own calls.
+
+ghost use Rattle.orca_names.specs.declared.limits.TheConstants.{BOOK_LIMIT};
+ghost use Rattle.std.specs.Prelude.{◌≤◌};
+
+use crate::plain_tests::checked;
+use crate::programs::{SEVEN, TWO_PRINT};
+use crate::tests::{GO, HEAR, BLOCK, SCAN, TAKE, event};
+use book_hall::{Hall, Proposal};
+use event_rule::Event;
+use orca_names::{ActorName, Value};
+use std::alloc::Global;
+use std::test::Fail;
+use work_board::{Committed, Look, Refuse};
+
+/// A call of the hall. Passes and actors are told by their numbers, events by their kind and number.
+#[derive(Clone, Copy)]
+enum Call {
+    Look,
+    Stop,
+    /// A claim, whose proposal is kept.
+    Claim(u32, u32),
+    /// A commit of the proposal that is kept.
+    Commit(u32),
+    /// A claim, and its commit at once.
+    Enter(u32, u32),
+    /// A commit without a proposal.
+    Plain(u32, u8, u32),
+    Direct(u8, u32),
+}
+
+/// What is wanted of it.
+#[derive(Clone, Copy)]
+enum Want {
+    Nothing,
+    /// This actor has something to do.
+    Tells(u32),
+    Others,
+    Rest,
+    Stop,
+    /// A claim, for this event.
+    Grants(u8, u32),
+    /// An entry at this place, which wakes no actor.
+    At(u64),
+    /// An entry at this place, which wakes this actor.
+    Wakes(u64, u32),
+    /// This many actors are made.
+    Unknown(u64),
+    Gone,
+    /// A claim of this pass is out.
+    Busy(u32),
+    NotReady,
+    /// The book is this long.
+    Budget(u64),
+}
+
+use Want::{At, Budget, Busy, Gone, Grants, NotReady, Nothing, Tells, Unknown, Wakes};
+
+/// What the hall answers.
+#[derive(Clone, Copy, Debug, PartialEq, Eq)]
+enum Answer {
+    Nothing,
+    Told(Look),
+    Granted(Event),
+    Entered(Committed),
+    Refused(Refuse),
+}
+
+fn entered(place: u64, woke: Option<ActorName>) -> Answer {
+    Answer::Entered(Committed { place, woke })
+}
+
+/// The answer that is wanted.
+fn answer_of(want: Want) -> Answer {
+    match want {
+        Want::Nothing => Answer::Nothing,
+        Want::Tells(actor) => Answer::Told(Look::Actor(ActorName(actor))),
+        Want::Others => Answer::Told(Look::Others),
+        Want::Rest => Answer::Told(Look::Rest),
+        Want::Stop => Answer::Told(Look::Stop),
+        Want::Grants(kind, number) => Answer::Granted(event(kind, number)),
+        Want::At(place) => entered(place, None),
+        Want::Wakes(place, actor) => entered(place, Some(ActorName(actor))),
+        Want::Unknown(made) => Answer::Refused(Refuse::Unknown { made }),
+        Want::Gone => Answer::Refused(Refuse::Gone),
+        Want::Busy(holder) => Answer::Refused(Refuse::Busy { holder }),
+        Want::NotReady => Answer::Refused(Refuse::NotReady),
+        Want::Budget(length) => Answer::Refused(Refuse::Budget { length }),
+    }
+}
+
+/// A hall, and the proposal that is kept.
+#[derive(Drop)]
+struct Bench<'a> {
+    hall: Hall<'a>,
+    kept: Option<Proposal<'a>>,
+}
+
+/// What a commit or a direct entry answers.
+fn entry(answer: Result<Committed, Refuse>) -> Answer {
+    match answer {
+        Ok(done) => Answer::Entered(done),
+        Err(refuse) => Answer::Refused(refuse),
+    }
+}
+
+/// A claim with its proposal, or why there is none.
+fn claim<'a>(
+    alloc: Global,
+    hall: &mut Hall<'a>,
+    pass: u32,
+    actor: u32,
+) -> Result<Proposal<'a>, Refuse> {
+    let copy = hall.claim(alloc, pass, ActorName(actor))?;
+    match copy.propose(alloc) {
+        Ok(proposal) => Ok(proposal),
+        Err(_) => Err(Refuse::NoMemory),
+    }
+}
+
+fn keep(alloc: Global, bench: &mut Bench<'_>, pass: u32, actor: u32) -> Answer {
+    match claim(alloc, &mut bench.hall, pass, actor) {
+        Ok(proposal) => {
+            let event = proposal.event();
+            bench.kept = Some(proposal);
+            Answer::Granted(event)
+        }
+        Err(refuse) => Answer::Refused(refuse),
+    }
+}
+
+fn commit(alloc: Global, bench: &mut Bench<'_>, pass: u32) -> Answer {
+    match bench.kept.take() {
+        Some(proposal) => entry(bench.hall.commit(alloc, pass, proposal)),
+        None => Answer::Nothing,
+    }
+}
+
+fn enter(alloc: Global, hall: &mut Hall<'_>, pass: u32, actor: u32) -> Answer {
+    match claim(alloc, hall, pass, actor) {
+        Ok(proposal) => entry(hall.commit(alloc, pass, proposal)),
+        Err(refuse) => Answer::Refused(refuse),
+    }
+}
+
+fn make(alloc: Global, bench: &mut Bench<'_>, call: Call) -> Answer {
+    match call {
+        Call::Look => Answer::Told(bench.hall.look()),
+        Call::Stop => {
+            bench.hall.ask_stop();
+            Answer::Nothing
+        }
+        Call::Claim(pass, actor) => keep(alloc, bench, pass, actor),
+        Call::Commit(pass) => commit(alloc, bench, pass),
+        Call::Enter(pass, actor) => enter(alloc, &mut bench.hall, pass, actor),
+        Call::Plain(pass, kind, number) => {
+            entry(bench.hall.commit_plain(alloc, pass, event(kind, number)))
+        }
+        Call::Direct(kind, number) => entry(bench.hall.direct(alloc, event(kind, number))),
+    }
+}
+
+/// What the run has printed after these calls, over this program within this budget. Each call has to
+/// answer as it is wanted.
+fn printed(
+    alloc: Global,
+    text: &str,
+    budget: u64,
+    rows: &[(Call, Want)],
+) -> Result<Vec<Value>, Fail>
+    requires { budget ≤ BOOK_LIMIT }
+{
+    let code = checked(alloc, text)?;
+    let mut bench = Bench {
+        hall: Hall::start(alloc, &code, budget, 256)?,
+        kept: None,
+    };
+    for (call, wanted) in rows {
+        if make(alloc, &mut bench, *call) != answer_of(*wanted) {
+            return Err(Fail::from("another answer"));
+        }
+    }
+    Ok(bench.hall.into_parts().0.prints().to_vec(alloc)?)
+}
+
+// Two passes: the second one goes on while the first has a claim, which is then refused, since the
+// actor has got a letter.
+const TWO_PASSES: &[(Call, Want)] = &[
+    (Call::Enter(1, 0), At(0)),
+    (Call::Enter(1, 0), Wakes(1, 1)),
+    (Call::Claim(0, 1), Grants(BLOCK, 1)),
+    (Call::Enter(1, 1), Busy(0)),
+    (Call::Enter(0, 1), Busy(0)),
+    (Call::Plain(1, BLOCK, 1), Busy(0)),
+    (Call::Direct(BLOCK, 1), Busy(0)),
+    (Call::Look, Tells(0)),
+    (Call::Enter(1, 0), Wakes(2, 2)),
+    (Call::Enter(1, 0), Wakes(3, 1)),
+    (Call::Commit(0), NotReady),
+    (Call::Claim(0, 1), Grants(TAKE, 1)),
+    (Call::Stop, Nothing),
+    (Call::Look, Want::Stop),
+    (Call::Commit(0), At(4)),
+];
+
+// A turn that was proposed and then done without its proposal is evaluated anew, so nothing is printed
+// twice. A take that was proposed and then done is refused.
+const STALE: &[(Call, Want)] = &[
+    (Call::Look, Tells(0)),
+    (Call::Claim(0, 0), Grants(TAKE, 0)),
+    (Call::Look, Want::Others),
+    (Call::Plain(0, TAKE, 0), At(0)),
+    (Call::Commit(0), NotReady),
+    (Call::Claim(0, 0), Grants(GO, 0)),
+    (Call::Plain(0, GO, 0), At(1)),
+    (Call::Commit(0), At(2)),
+    (Call::Direct(HEAR, 0), NotReady),
+    (Call::Enter(3, 5), Unknown(1)),
+    (Call::Enter(3, 0), At(3)),
+    (Call::Enter(3, 0), At(4)),
+    (Call::Enter(3, 0), Gone),
+    (Call::Direct(TAKE, 0), Gone),
+    (Call::Look, Want::Rest),
+];
+
+// Within a budget of one entry.
+const ONE_ENTRY: &[(Call, Want)] = &[
+    (Call::Claim(0, 0), Grants(TAKE, 0)),
+    (Call::Commit(0), At(0)),
+    (Call::Look, Want::Stop),
+    (Call::Claim(0, 0), Grants(GO, 0)),
+    (Call::Commit(0), Budget(1)),
+    (Call::Direct(GO, 0), Budget(1)),
+    (Call::Direct(SCAN, 0), NotReady),
+];
+
+#[test]
+fn passes_answer_as_the_hall_says(rt: HostRuntime) -> Result<(), Fail> {
+    assert!(rt; printed(rt.alloc(), TWO_PRINT, 100, TWO_PASSES)?.is_empty());
+    assert!(rt; printed(rt.alloc(), SEVEN, 1, ONE_ENTRY)?.is_empty());
+    let prints = printed(rt.alloc(), SEVEN, 20, STALE)?;
+    assert!(rt; prints.as_slice() == [Value::Num(7)].as_slice());
+    Ok(())
+}
