@@ -6,6 +6,7 @@ ghost use Rattle.std.specs.Prelude.{◌≤◌};
 use crate::plain_tests::checked;
 use crate::programs::{SEVEN, TWO_PRINT};
 use crate::tests::{GO, HEAR, BLOCK, SCAN, TAKE, event};
+use behaviour_check::Checked;
 use book_hall::{Hall, Proposal};
 use event_rule::Event;
 use orca_names::{ActorName, Value};
@@ -160,27 +161,50 @@ fn make(alloc: Global, bench: &mut Bench<'_>, call: Call) -> Answer {
     }
 }
 
-/// What the run has printed after these calls, over this program within this budget. Each call has to
-/// answer as it is wanted.
+/// Whether each call answers as it is wanted.
+fn answers(alloc: Global, bench: &mut Bench<'_>, rows: &[(Call, Want)]) -> bool {
+    for (call, wanted) in rows {
+        if make(alloc, bench, *call) != answer_of(*wanted) {
+            return false;
+        }
+    }
+    true
+}
+
+/// What the run has printed after these calls over this program, each of which has to answer as it is
+/// wanted.
 fn printed(
+    alloc: Global,
+    code: &Checked,
+    budget: u64,
+    rows: &[(Call, Want)],
+) -> Result<Option<Vec<Value>>, Fail>
+    requires { budget ≤ BOOK_LIMIT }
+{
+    let hall = Hall::start(alloc, code, budget, 256)?;
+    let mut bench = Bench { hall, kept: None };
+    if !answers(alloc, &mut bench, rows) {
+        return Ok(None);
+    }
+    let (orca, _book) = bench.hall.into_parts();
+    Ok(Some(orca.prints().to_vec(alloc)?))
+}
+
+/// Whether each call answers as it is wanted, and the run then has printed this.
+fn goes_so(
     alloc: Global,
     text: &str,
     budget: u64,
     rows: &[(Call, Want)],
-) -> Result<Vec<Value>, Fail>
+    prints: &[Value],
+) -> Result<bool, Fail>
     requires { budget ≤ BOOK_LIMIT }
 {
     let code = checked(alloc, text)?;
-    let mut bench = Bench {
-        hall: Hall::start(alloc, &code, budget, 256)?,
-        kept: None,
-    };
-    for (call, wanted) in rows {
-        if make(alloc, &mut bench, *call) != answer_of(*wanted) {
-            return Err(Fail::from("another answer"));
-        }
+    match printed(alloc, &code, budget, rows)? {
+        Some(printed) => Ok(printed.as_slice() == prints),
+        None => Ok(false),
     }
-    Ok(bench.hall.into_parts().0.prints().to_vec(alloc)?)
 }
 
 // Two passes: the second one goes on while the first has a claim, which is then refused, since the
@@ -236,9 +260,8 @@ const ONE_ENTRY: &[(Call, Want)] = &[
 
 #[test]
 fn passes_answer_as_the_hall_says(rt: HostRuntime) -> Result<(), Fail> {
-    assert!(rt; printed(rt.alloc(), TWO_PRINT, 100, TWO_PASSES)?.is_empty());
-    assert!(rt; printed(rt.alloc(), SEVEN, 1, ONE_ENTRY)?.is_empty());
-    let prints = printed(rt.alloc(), SEVEN, 20, STALE)?;
-    assert!(rt; prints.as_slice() == [Value::Num(7)].as_slice());
+    assert!(rt; goes_so(rt.alloc(), TWO_PRINT, 100, TWO_PASSES, &[])?);
+    assert!(rt; goes_so(rt.alloc(), SEVEN, 1, ONE_ENTRY, &[])?);
+    assert!(rt; goes_so(rt.alloc(), SEVEN, 20, STALE, &[Value::Num(7)])?);
     Ok(())
 }

@@ -117,21 +117,29 @@ fn books_of_workers_are_runs(rt: HostRuntime) -> Result<(), Fail> {
     Ok(())
 }
 
-/// A pass whose looks with these numbers name these actors.
-fn troubled<'h, 'a, J: Naming>(
-    alloc: Global,
-    hall: &'h SharedHall<'a, J>,
-    number: u32,
-    wrong: &[(u64, u32)],
-) -> Result<TroubleBoard<HallPass<'h, 'a, J>>, Fail> {
+// The looks of each pass that name an actor, and the actors.
+const WRONG: &[&[(u64, u32)]] = &[&[(1, 70000), (2, 1), (3, 70000), (4, 1)], &[]];
+
+fn names(alloc: Global, wrong: &[(u64, u32)]) -> Result<Vec<(u64, ActorName)>, Fail> {
     let mut names = Vec::new(alloc);
     for (look, actor) in wrong {
         names.push((*look, ActorName(*actor)))?;
     }
-    Ok(TroubleBoard::new(hall.pass(number), names))
+    Ok(names)
 }
 
-const WRONG: &[(u64, u32)] = &[(1, 70000), (2, 1), (3, 70000), (4, 1)];
+/// Two passes, one of which is told wrong names at first.
+fn boards<'h, 'a, J: Naming>(
+    alloc: Global,
+    hall: &'h SharedHall<'a, J>,
+) -> Result<Vec<TroubleBoard<HallPass<'h, 'a, J>>>, Fail> {
+    let mut boards = Vec::new(alloc);
+    for number in 0..WRONG.len() as u32 {
+        let wrong = names(alloc, WRONG[number as usize])?;
+        boards.push(TroubleBoard::new(hall.pass(number), wrong))?;
+    }
+    Ok(boards)
+}
 
 /// Two workers, one of whom gets wrong names at first, run a program, and one ends the run: how it ends,
 /// how many actors were made, and what is left.
@@ -145,9 +153,7 @@ fn left_by<J: Naming + Send + Sync, R: AllocGlobal + Threads + Wait + Sync>(
 {
     let alloc = rt.alloc();
     let hall = SharedHall::<J>::new(Hall::start(alloc, code, 1000, 256)?);
-    let mut boards = Vec::new(alloc);
-    boards.push(troubled(alloc, &hall, 0, WRONG)?)?;
-    boards.push(troubled(alloc, &hall, 1, &[])?)?;
+    let mut boards = boards(alloc, &hall)?;
     work(rt, alloc, boards.as_mut_slice(), &OpenGate);
     drop(boards);
     let (mut orca, mut book) = hall.into_hall().into_parts();
