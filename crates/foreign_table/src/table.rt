@@ -113,9 +113,8 @@ fn put_row(rows: &mut Vec<Option<Row>>, i: usize, row: &Option<Row>)
 fn places_to_take(wanted: usize, capacity: usize) -> usize
     ensures enough { wanted ≤ result }
     ensures asked { 0 < capacity → result ≡ wanted }
-    ensures none { wanted ≡ 0 → result ≡ 0 }
 {
-    if wanted > 0 && capacity == 0 {
+    if capacity == 0 {
         wanted.max(FIRST_PLACES)
     } else {
         wanted
@@ -167,6 +166,9 @@ impl ForeignTable {
         ensures same { self.new ≡ record self.old { spare = self.new.spare } }
         ensures enough { n ≤ self.old.spare → IsOk result }
     {
+        if n == 0 {
+            return Ok(());
+        }
         let n = places_to_take(n, self.rows.capacity());
         self.held.reserve(n)?;
         self.rows.reserve(n)?;
