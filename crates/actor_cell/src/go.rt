@@ -121,7 +121,8 @@ impl Cell {
                 behaviour,
                 values,
             } => {
-                let args = turn.gather(values.as_slice());
+                let mut args = Args::new();
+                turn.gather_into(values.as_slice(), &mut args);
                 self.posting(alloc, weight, trace, turn.made(), to, behaviour, &args, act)
             }
             Deed::New { kind, into } => {

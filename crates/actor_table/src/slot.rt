@@ -4,7 +4,7 @@ ghost use Rattle.std.specs.Prelude.{◌≡◌, ◌+◌, ◌<◌, ◌≤◌, ◌|
 ghost use Rattle.std.specs.Option.{option_copied};
 ghost use Rattle.orca_names.specs.declared.trace.Trace.{Trace as tracing};
 ghost use Rattle.machine_rules.specs.Actors.{seat, with_letter_more};
-ghost use Rattle.machine_rules.specs.Guards.{may_block, may_collect, may_leave, may_take};
+ghost use Rattle.machine_rules.specs.Guards.{may_block, may_collect, may_go, may_leave, may_take};
 ghost use Rattle.actor_cell.specs.Cells.{as_cell, settled};
 ghost use Rattle.actor_cell.specs.Goes.{out_of};
 ghost use Rattle.actor_cell.specs.Sweeps.{sweep_of, swept};
@@ -100,6 +100,17 @@ pub(crate) fn can_take(slot: &Slot) -> bool
 {
     match &slot.place {
         Place::Home(cell) => !cell.frame.is_some() && !slot.mail.is_empty(),
+        Place::Away(_) => false,
+        Place::Gone => false,
+    }
+}
+
+/// Whether its cell is at home, and a behaviour of it runs.
+pub(crate) fn goes_on(slot: &Slot) -> bool
+    ensures { result ≡ may_at may_go slot.now }
+{
+    match &slot.place {
+        Place::Home(cell) => cell.frame.is_some(),
         Place::Away(_) => false,
         Place::Gone => false,
     }

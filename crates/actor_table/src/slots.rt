@@ -5,16 +5,17 @@ ghost use Rattle.orca_names.specs.declared.limits.TheConstants.{ACTORS_LIMIT};
 ghost use Rattle.actor_table.specs.declared.slot.Slot.{Slot as a_slot};
 ghost use Rattle.orca_names.specs.declared.trace.Trace.{Trace as tracing};
 ghost use Rattle.machine_rules.specs.Actors.{push_letter, seat_at};
+ghost use Rattle.machine_rules.specs.Guards.{may_go};
 ghost use Rattle.actor_cell.specs.Cells.{as_cell, settled};
 ghost use Rattle.actor_cell.specs.Goes.{out_of};
 ghost use Rattle.actor_cell.specs.Sweeps.{sweep_of, swept};
 ghost use Rattle.actor_table.specs.Changes.{changed_at, moved, note_taken, taken, told, with_cell_by, CanCollectHere, CanGoHere, CanSettleNew, CanTakeHere, HasCell, HasRoomToGo, HasRoomToTake, IsChangedAt, KeepsRoom};
 ghost use Rattle.actor_table.specs.Index.{IsIndex};
 ghost use Rattle.actor_table.specs.declared.slot.Place.TheVariants.{Home};
-ghost use Rattle.actor_table.specs.Slots.{actors_of, away_of, can_act, can_settle, home_of, AreIndexed, IsOwnedBy, is_away, letters_in, places_of, seat_of, slot_at};
+ghost use Rattle.actor_table.specs.Slots.{actors_of, away_of, can_act, can_settle, home_of, AreIndexed, IsOwnedBy, is_away, letters_in, may_at, places_of, seat_of, slot_at};
 
 use crate::slot::{
-    Place, Slot, block, can_act, can_settle, collect, go_on, lift, push_letter, put_back,
+    Place, Slot, block, can_act, can_settle, collect, go_on, goes_on, lift, push_letter, put_back,
     reserve_go, reserve_letters, reserve_take, settle_new, take_letter,
 };
 use actor_cell::{Cell, Sweep, Turned};
@@ -293,4 +294,25 @@ pub(crate) fn put_bits(slots: &[Slot], acting: &mut ReadySet, settling: &mut Rea
     let slot = &slots[a as usize];
     acting.put(a, can_act(slot));
     settling.put(a, can_settle(slot));
+}
+
+/// Writes the same after a step of a turn: while the turn goes on, its actor has the same events.
+pub(crate) fn put_bits_in_turn(
+    slots: &[Slot],
+    acting: &mut ReadySet,
+    settling: &mut ReadySet,
+    a: u32,
+)
+    requires within { a < length slots.now }
+    requires acting { length slots.now ≤ length acting.old }
+    requires settling { length slots.now ≤ length settling.old }
+    ensures indexed { (old : List a_slot) → may_at may_go (slot_at old a) ≡ true
+        → AreIndexed old acting.old settling.old
+        → IsChangedAt a old slots.now → AreIndexed slots.now acting.new settling.new }
+    ensures lengths { (length acting.new ≡ length acting.old)
+        × (length settling.new ≡ length settling.old) }
+{
+    if !goes_on(&slots[a as usize]) {
+        put_bits(slots, acting, settling, a);
+    }
 }

@@ -21,8 +21,9 @@ use crate::slot::{
     is_away, is_present, mail_of, next_event,
 };
 use crate::slots::{
-    block_at, clear_at, collect_at, go_at, lift_at, push_at, put_back_at, put_bits, reserve_bits,
-    reserve_go_at, reserve_letters_at, reserve_take_at, settle_at, take_at,
+    block_at, clear_at, collect_at, go_at, lift_at, push_at, put_back_at, put_bits,
+    put_bits_in_turn, reserve_bits, reserve_go_at, reserve_letters_at, reserve_take_at, settle_at,
+    take_at,
 };
 use actor_cell::{Cell, Sweep, Turned};
 use behaviour_check::Checked;
@@ -334,7 +335,7 @@ impl ActorTable {
         ensures room { KeepsRoom self.old.slots self.new.slots }
     {
         go_at(&mut self.slots, a.0 as usize, turn, found);
-        put_bits(&self.slots, &mut self.acting, &mut self.settling, a.0);
+        put_bits_in_turn(&self.slots, &mut self.acting, &mut self.settling, a.0);
     }
 
     /// The actor that was made last by this one gets its name.
@@ -347,7 +348,7 @@ impl ActorTable {
         ensures room { KeepsRoom self.old.slots self.new.slots }
     {
         settle_at(&mut self.slots, a.0 as usize, register, name, weight);
-        put_bits(&self.slots, &mut self.acting, &mut self.settling, a.0);
+        put_bits_in_turn(&self.slots, &mut self.acting, &mut self.settling, a.0);
     }
 
     /// The actor's collection is done as it was planned.

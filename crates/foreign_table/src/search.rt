@@ -1,6 +1,6 @@
 // Where a thing stands among those that are held.
 
-ghost use Rattle.std.specs.Prelude.{◌≡◌, ◌≢◌, ◌↔◌, ◌-◌, ◌<◌, ◌≤◌, IsTrue, length, map, slice_index_or, T};
+ghost use Rattle.std.specs.Prelude.{◌≡◌, ◌≢◌, ◌↔◌, ◌-◌, ◌<◌, ◌≤◌, IfSome, IsTrue, length, map, slice_index_or, T};
 ghost use Rattle.std.specs.Bool.{OnFalse};
 ghost use Rattle.std.specs.Result.{MatchResult};
 ghost use Rattle.std.specs.declared.cmp.Ordering.TheVariants.{Less};
@@ -63,16 +63,19 @@ fn stands_at(held: &[Entry], place: usize, thing: &Thing) -> bool
     held[place].thing == *thing
 }
 
-// Where the thing stands among few, and their number where it does not.
-fn look(held: &[Entry], thing: &Thing) -> usize {
+// Where the thing stands among few.
+fn look(held: &[Entry], thing: &Thing) -> Option<usize>
+    ensures { IfSome result (λ i. (i < length held.now)
+        × ((d : entry) → (slice_index_or held.now i d).thing ≡ thing.now)) }
+{
     let mut place = 0;
     while place < held.len() {
-        if held[place].thing == *thing {
-            return place;
+        if stands_at(held, place, thing) {
+            return Some(place);
         }
         place += 1;
     }
-    place
+    None
 }
 
 // Where an object of the last thing's owner stands if no serial between is missing.
@@ -87,15 +90,27 @@ fn place_by_serial(held: &[Entry], n: &ObjName) -> usize {
     held.len().wrapping_sub(1).wrapping_sub(behind as usize)
 }
 
-// Where the thing is likely to stand.
-fn guess(held: &[Entry], thing: &Thing) -> usize {
-    if held.len() <= FEW {
-        return look(held, thing);
-    }
+// Where the thing is likely to stand among many.
+fn likely_place(held: &[Entry], thing: &Thing) -> usize {
     match thing {
         Thing::Actor(_) => 0,
         Thing::Obj(n) => place_by_serial(held, n),
     }
+}
+
+// Where the thing stands, if that is seen at once.
+fn guess(held: &[Entry], thing: &Thing) -> Option<usize>
+    ensures { IfSome result (λ i. (i < length held.now)
+        × ((d : entry) → (slice_index_or held.now i d).thing ≡ thing.now)) }
+{
+    if held.len() <= FEW {
+        return look(held, thing);
+    }
+    let near = likely_place(held, thing);
+    if stands_at(held, near, thing) {
+        return Some(near);
+    }
+    None
 }
 
 // The first place whose thing does not come before this one, by halves.
@@ -126,9 +141,8 @@ pub(crate) fn place_of(held: &[Entry], thing: Thing) -> Result<usize, usize>
     ensures { MatchResult result (IsAt thing_cmp (map key_of held.now) thing)
         (IsGap thing_cmp (map key_of held.now) thing) }
 {
-    let near = guess(held, &thing);
-    if stands_at(held, near, &thing) {
-        return Ok(near);
+    if let Some(place) = guess(held, &thing) {
+        return Ok(place);
     }
     let place = first_from(held, &thing);
     if stands_at(held, place, &thing) {

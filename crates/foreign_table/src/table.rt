@@ -21,6 +21,9 @@ use ref_weights::Held;
 use std::alloc::Global;
 use std::marker::Model;
 
+// As many places come with the first one.
+const FIRST_PLACES: usize = 7;
+
 /// The things of others that an actor holds, each with its count and, for an object, its row where
 /// that is known, and the room for new ones. Counts stand apart from rows.
 #[derive(Drop)]
@@ -98,7 +101,24 @@ fn put_row(rows: &mut Vec<Option<Row>>, i: usize, row: &Option<Row>)
     ensures len { vec_len rows.new ≡ vec_len rows.old + 1 }
     ensures capacity { vec_capacity rows.new ≡ vec_capacity rows.old }
 {
+    if i == rows.len() {
+        rows.push_reserved(*row);
+        return;
+    }
     let _done = rows.insert(i, *row).is_ok();
+}
+
+// How many more places to take where so many are wanted: the first ones come together, since most
+// actors hold a few things.
+fn places_to_take(wanted: usize, capacity: usize) -> usize
+    ensures enough { wanted ≤ result }
+    ensures asked { 0 < capacity → result ≡ wanted }
+{
+    if capacity == 0 {
+        wanted.max(FIRST_PLACES)
+    } else {
+        wanted
+    }
 }
 
 fn actors_of(alloc: Global, held: &[Entry]) -> Result<Vec<(ActorName, u64)>, NoMemory>
@@ -146,6 +166,10 @@ impl ForeignTable {
         ensures same { self.new ≡ record self.old { spare = self.new.spare } }
         ensures enough { n ≤ self.old.spare → IsOk result }
     {
+        if n == 0 {
+            return Ok(());
+        }
+        let n = places_to_take(n, self.rows.capacity());
         self.held.reserve(n)?;
         self.rows.reserve(n)?;
         Ok(())

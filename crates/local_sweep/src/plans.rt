@@ -143,6 +143,27 @@ fn gather_given(
     Ok(back)
 }
 
+// The plan of a sweep of what is known that keeps what is marked.
+fn plan_known(
+    alloc: Global,
+    marks: &PlaceSet,
+    known: &KnownPlaces<'_>,
+) -> Result<SweepPlan, NoMemory>
+    requires { length (placed_things known.now.rows.heap.now known.now.rows.foreign.now)
+        ≤ length marks.now }
+    ensures { let heap = known.now.rows.heap.now in
+        let foreign = known.now.rows.foreign.now in
+        let marked = is_marked marks.now heap foreign in
+        IfOk result (λ plan. plan ≡ plan_of marked heap foreign) }
+{
+    let free = gather_freed(alloc, marks, known)?;
+    let back = gather_given(alloc, marks, known)?;
+    Ok(SweepPlan {
+        free: Listed::from(free),
+        back: Listed::from(back),
+    })
+}
+
 /// The plan of a sweep that keeps what is marked. Marks are told by the places of what the actor
 /// knows (`KnownPlaces`).
 ///
@@ -158,13 +179,7 @@ pub fn plan_of_marks(
     ensures { let marked = is_marked marks.now heap.now foreign.now in
         IfOk result (λ plan. plan ≡ plan_of marked heap.now foreign.now) }
 {
-    let known = KnownPlaces::of(heap, foreign);
-    let free = gather_freed(alloc, marks, &known)?;
-    let back = gather_given(alloc, marks, &known)?;
-    Ok(SweepPlan {
-        free: Listed::from(free),
-        back: Listed::from(back),
-    })
+    plan_known(alloc, marks, &KnownPlaces::of(heap, foreign))
 }
 
 /// The plan of a sweep that keeps what the fields reach through the rows that the actor has.
@@ -181,8 +196,9 @@ pub fn plan(
     ensures { let marked = is_reached fields.now.values heap.now foreign.now in
         IfOk result (λ plan. plan ≡ plan_of marked heap.now foreign.now) }
 {
-    let mut known = KnownPlaces::of(heap, foreign);
+    let known = KnownPlaces::of(heap, foreign);
+    let mut reader = known;
     let values = &fields.values;
-    let marks = mark_bits(alloc, values.as_slice(), &mut known)?;
-    plan_of_marks(alloc, &marks, heap, foreign)
+    let marks = mark_bits(alloc, values.as_slice(), &mut reader)?;
+    plan_known(alloc, &marks, &known)
 }

@@ -113,6 +113,9 @@ impl ObjectHeap {
         ensures same { self.new ≡ record self.old { spare = self.new.spare } }
         ensures enough { n ≤ self.old.spare → IsOk result }
     {
+        if n == 0 {
+            return Ok(());
+        }
         self.entries.reserve(n)?;
         self.rows.reserve(n)?;
         Ok(())

@@ -1,5 +1,5 @@
 -- Things whose places are on, listed by rising places.
-use Rattle.std.proofs.Common.{◌≡◌, ℕ, ◌+◌, ◌<◌, ◌≤◌, ◌↔◌, inl, inr, Bool, true, false, Option, None, Some, List, [], ◌∷◌, ◌++◌, length, get_or, map, Contains, refl, sym, ap, subst, ◌∙◌, arith}
+use Rattle.std.proofs.Common.{◌≡◌, ℕ, ◌+◌, ◌<◌, ◌≤◌, ◌↔◌, inl, inr, Bool, true, false, Option, None, Some, List, [], ◌∷◌, ◌++◌, length, get_or, Contains, refl, sym, ap, subst, ◌∙◌, arith}
 use Rattle.std.specs.Ordering.{nat_cmp}
 use Rattle.std.specs.declared.cmp.Ordering.TheVariants.{Less}
 use Rattle.std.specs.List.Sorted.{IsStrictlySortedBy}
@@ -7,7 +7,7 @@ use Rattle.std.specs.Cmp.{nat_cmp_is, nat_cmp_total}
 use Rattle.std.proofs.lemmas.Bool.{cases_lt, cases_eq, true≢false}
 use Rattle.std.proofs.lemmas.Cmp.{tied_itself}
 use Rattle.std.proofs.lemmas.Map.Keys.{sorted_tail}
-use Rattle.std.proofs.lemmas.List.{get_or_past, map-append}
+use Rattle.std.proofs.lemmas.List.{get_or_past}
 use Rattle.std.proofs.lemmas.List.Elements.{Contains-push, Contains-push_cases, Contains-append_left}
 use Rattle.orca_names.specs.Names.{thing_cmp}
 use Rattle.orca_names.specs.declared.names.Thing.{Thing}
@@ -22,11 +22,6 @@ pub record ListsBelow (place : Thing → Option ℕ) (bits : List Bool) (end : �
   pub rising : IsStrictlySortedBy thing_cmp things
   pub on : (x : Thing) → Contains things x → (p : ℕ) × (place x ≡ Some p) × (p < end) × (get_or bits p false ≡ true)
   pub all : (x : Thing) (p : ℕ) → place x ≡ Some p → p < end → get_or bits p false ≡ true → Contains things x
-
--- the places beside the things, with one more
-pub spots_more : (place : Thing → Option ℕ) (things : List Thing) (x : Thing) (o : Option ℕ) (spots more : List (Option ℕ)) → spots ≡ map place things → place x ≡ o → more ≡ spots ++ o ∷ [] → more ≡ map place (things ++ x ∷ [])
-spots_more place things x o spots more same at last =
-    last ∙ ap (λ s. s ++ o ∷ []) same ∙ ap (λ p. map place things ++ p ∷ []) (sym at) ∙ sym (map-append place things (x ∷ []))
 
 -- a thing behind all others
 pub sorted-push : (xs : List Thing) (x : Thing) → IsStrictlySortedBy thing_cmp xs → ((y : Thing) → Contains xs y → thing_cmp y x ≡ Less) → IsStrictlySortedBy thing_cmp (xs ++ x ∷ [])

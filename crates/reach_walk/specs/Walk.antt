@@ -1,5 +1,5 @@
 -- A walk that is under way.
-use Rattle.std.specs.Prelude.{ℕ, ◌≡◌, ◌⊎◌, ◌↔◌, ◌<◌, ◌≤◌, Bool, true, false, Option, None, Some, List, [], ◌∷◌, ◌++◌, Contains, length, map, slice_index_or}
+use Rattle.std.specs.Prelude.{ℕ, ◌≡◌, ◌⊎◌, ◌↔◌, ◌<◌, ◌≤◌, Bool, true, false, Option, None, Some, List, [], ◌∷◌, ◌++◌, Contains, length, slice_index_or}
 use Rattle.std.specs.List.{IsDistinct}
 use Rattle.orca_names.specs.Names.{owner_of, is_thing}
 use Rattle.orca_names.specs.declared.names.Thing.{Thing}
@@ -46,10 +46,9 @@ Notes place count noted things x true =
     AreNoted place count noted (things ++ x ∷ []) × (Contains things x → ⊥)
 Notes place count noted things x false = AreNoted place count noted things × Contains things x
 
--- each thing was seen once, has its place beside it where any has one, and is noted
+-- each thing was seen once, and is noted
 pub record IsSeen (place : Thing → Option ℕ) (count : ℕ) (seen : Seen) : Type 0 where
   pub once : IsDistinct is_thing seen.things
-  pub spots : 0 < count → seen.spots.items ≡ map place seen.things
   pub noted : AreNoted place count seen.noted seen.things
   -- the last owner was seen
   pub owner : (a : ℕ) → seen.owner ≡ Some a → Contains seen.things (Actor a)

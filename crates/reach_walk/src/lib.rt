@@ -10,6 +10,7 @@ mod marks;
 mod noted;
 mod places;
 mod reach;
+mod reading;
 mod seen;
 mod thing_list;
 mod unplaced;

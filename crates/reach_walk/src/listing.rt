@@ -65,6 +65,6 @@ pub(crate) fn list_others(
     if others.is_empty() {
         return Ok(());
     }
-    insert_unplaced(others, things.as_slice(), &[], &Unplaced { of: () })?;
+    insert_unplaced(others, things.as_slice(), &Unplaced { of: () })?;
     list_set(others, things)
 }

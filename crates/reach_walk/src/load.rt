@@ -5,6 +5,7 @@ ghost use Rattle.reach_walk.specs.Marks.{load_of as its_load};
 ghost use Rattle.reach_walk.specs.Reach.{named_by, thing_row};
 
 use crate::places::PlacedRows;
+use crate::reading::read_row;
 use crate::seen::Seen;
 use crate::walk_rows::{walk_freely, walk_rows};
 use orca_names::{Args, NoMemory, Row, Thing, Value};
@@ -40,8 +41,7 @@ fn with_rows<R: PlacedRows>(
     let mut load = Vec::with_capacity(alloc, things.len())?;
     let mut row = Row::of(&[Value::Null]);
     for thing in things {
-        let at = rows.place_of(thing);
-        if rows.read_at(thing, at, &mut row) {
+        if read_row(rows, thing, &mut row) {
             load.push_reserved((*thing, Some(row)));
         } else {
             load.push_reserved((*thing, None));

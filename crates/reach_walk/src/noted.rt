@@ -1,6 +1,6 @@
 // Which things a walk has met.
 
-ghost use Rattle.std.specs.Prelude.{◌≡◌, ◌<◌, ◌↔◌, ◌⊎◌, None, Some, Contains, IfOk, IsTrue, OnOk, length, map, slice_get};
+ghost use Rattle.std.specs.Prelude.{◌≡◌, ◌↔◌, ◌⊎◌, None, Contains, IfOk, IsTrue, OnOk};
 ghost use Rattle.orca_names.specs.declared.names.Thing.{Thing as any_thing};
 ghost use Rattle.reach_walk.specs.Walk.{AreNoted, HasOthers, Notes};
 
@@ -31,21 +31,6 @@ fn is_among(things: &[Thing], thing: &Thing) -> bool
     false
 }
 
-/// The place of one of these things; their places are beside them, if any thing has one.
-pub(crate) fn spot_of<P: Places>(
-    things: &[Thing],
-    spots: &[Option<usize>],
-    i: usize,
-    places: &P,
-) -> Option<usize>
-    requires spots { 0 < P.count places.now → spots.now ≡ map (P.place places.now) things.now }
-    requires inside { i < length things.now }
-    ensures { (t : any_thing) → slice_get things.now i ≡ Some t → result ≡ P.place places.now t }
-{
-    prove!(i < things.len());
-    if places.places() == 0 { None } else { spots[i] }
-}
-
 // Puts a thing into a set, unless it has a place.
 fn insert_if_unplaced(
     set: &mut BTreeSet<Thing>,
@@ -68,37 +53,27 @@ fn insert_if_unplaced(
 pub(crate) fn insert_unplaced<P: Places>(
     set: &mut BTreeSet<Thing>,
     things: &[Thing],
-    spots: &[Option<usize>],
     places: &P,
 ) -> Result<(), NoMemory>
-    requires { 0 < P.count places.now → spots.now ≡ map (P.place places.now) things.now }
     ensures { OnOk result ((x : any_thing) → Contains set.new.keys x
         ↔ (Contains set.old.keys x ⊎ (Contains things.now x × (P.place places.now x ≡ None)))) }
 {
-    for (i, thing) in things.iter().enumerate() {
-        insert_if_unplaced(set, thing, spot_of(things, spots, i, places))?;
+    for thing in things {
+        insert_if_unplaced(set, thing, places.place_of(thing))?;
     }
     Ok(())
 }
 
 impl Noted {
-    /// Has the set tell all things without a place. Those that were met are given, with
-    /// their places if any thing has one.
-    pub(crate) fn complete<P: Places>(
-        &mut self,
-        met: &[Thing],
-        spots: &[Option<usize>],
-        places: &P,
-    ) -> Result<(), NoMemory>
+    /// Has the set tell all things without a place. Those that were met are given.
+    pub(crate) fn complete<P: Places>(&mut self, met: &[Thing], places: &P) -> Result<(), NoMemory>
         requires met { AreNoted (P.place places.now) (P.count places.now) self.old met.now }
-        requires spots { 0 < P.count places.now
-            → spots.now ≡ map (P.place places.now) met.now }
         ensures noted { OnOk result
             (AreNoted (P.place places.now) (P.count places.now) self.new met.now) }
         ensures others { OnOk result (HasOthers (P.place places.now) self.new met.now) }
     {
         if self.others.is_empty() {
-            insert_unplaced(&mut self.others, met, spots, places)?;
+            insert_unplaced(&mut self.others, met, places)?;
         }
         Ok(())
     }
@@ -109,17 +84,14 @@ impl Noted {
         &mut self,
         thing: &Thing,
         met: &ThingList,
-        spots: &Vec<Option<usize>>,
         places: &P,
     ) -> Result<bool, NoMemory>
         requires met { AreNoted (P.place places.now) (P.count places.now) self.old met.now }
-        requires spots { 0 < P.count places.now
-            → spots.now.items ≡ map (P.place places.now) met.now }
         requires unplaced { P.place places.now thing.now ≡ None }
         ensures { IfOk result (λ is_new.
             Notes (P.place places.now) (P.count places.now) self.new met.now thing.now is_new) }
     {
-        self.complete(met.as_slice(), spots.as_slice(), places)?;
+        self.complete(met.as_slice(), places)?;
         Ok(self.others.insert(*thing)?)
     }
 
@@ -128,12 +100,9 @@ impl Noted {
         &mut self,
         thing: &Thing,
         met: &ThingList,
-        spots: &Vec<Option<usize>>,
         places: &P,
     ) -> Result<bool, NoMemory>
         requires met { AreNoted (P.place places.now) (P.count places.now) self.old met.now }
-        requires spots { 0 < P.count places.now
-            → spots.now.items ≡ map (P.place places.now) met.now }
         requires unplaced { P.place places.now thing.now ≡ None }
         ensures { IfOk result (λ is_new.
             Notes (P.place places.now) (P.count places.now) self.new met.now thing.now is_new) }
@@ -141,29 +110,26 @@ impl Noted {
         if met.len() < FEW && self.others.is_empty() {
             return Ok(!is_among(met.as_slice(), thing));
         }
-        self.note_in_set(thing, met, spots, places)
+        self.note_in_set(thing, met, places)
     }
 
     /// Notes a thing, at its place if it has one; whether it was not met before. Those that were met
-    /// are given, with their places if any thing has one.
+    /// are given.
     pub(crate) fn note<P: Places>(
         &mut self,
         thing: &Thing,
         at: Option<usize>,
         met: &ThingList,
-        spots: &Vec<Option<usize>>,
         places: &P,
     ) -> Result<bool, NoMemory>
         requires met { AreNoted (P.place places.now) (P.count places.now) self.old met.now }
-        requires spots { 0 < P.count places.now
-            → spots.now.items ≡ map (P.place places.now) met.now }
         requires at { P.place places.now thing.now ≡ at }
         ensures { IfOk result (λ is_new.
             Notes (P.place places.now) (P.count places.now) self.new met.now thing.now is_new) }
     {
         match at {
             Some(p) => Ok(self.bits.insert(p)),
-            None => self.note_unplaced(thing, met, spots, places),
+            None => self.note_unplaced(thing, met, places),
         }
     }
 }

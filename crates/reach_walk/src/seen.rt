@@ -1,6 +1,6 @@
 // What a walk has seen.
 
-ghost use Rattle.std.specs.Prelude.{◌≡◌, ◌<◌, ◌≤◌, ◌↔◌, ◌∷◌, [], ℕ, Option, Some, Contains, OnOk, length, slice_get};
+ghost use Rattle.std.specs.Prelude.{◌≡◌, ◌≤◌, ◌↔◌, ◌∷◌, [], ℕ, Option, Contains, OnOk, length};
 ghost use Rattle.std.specs.List.Sorted.{IsStrictlySortedBy};
 ghost use Rattle.orca_names.specs.Names.{thing_cmp};
 ghost use Rattle.orca_names.specs.declared.names.Thing.{Thing as thing};
@@ -9,7 +9,7 @@ ghost use Rattle.ready_set.specs.Next.{AreOff};
 ghost use Rattle.reach_walk.specs.Walk.{Adds, IsSeen};
 
 use crate::listing::{list_others, list_placed};
-use crate::noted::{Noted, spot_of};
+use crate::noted::Noted;
 use crate::places::Places;
 use crate::thing_list::{FEW, ThingList};
 use orca_names::{ActorName, NoMemory, Thing};
@@ -21,8 +21,6 @@ use std::collections::BTreeSet;
 #[derive(Drop)]
 pub(crate) struct Seen {
     pub(crate) things: ThingList,
-    // The place of each, if any thing has one.
-    pub(crate) spots: Vec<Option<usize>>,
     pub(crate) noted: Noted,
     // The last owner that was seen: the next thing mostly has the same one.
     pub(crate) owner: Option<ActorName>,
@@ -38,7 +36,6 @@ impl Seen {
     {
         Seen {
             things: ThingList::new(alloc),
-            spots: Vec::new(alloc),
             noted: Noted {
                 bits,
                 others: BTreeSet::new(alloc),
@@ -55,14 +52,8 @@ impl Seen {
         ensures seen { OnOk result (IsSeen (P.place places.now) (P.count places.now) self.new) }
     {
         let at = places.place_of(thing);
-        if self
-            .noted
-            .note(thing, at, &self.things, &self.spots, places)?
-        {
+        if self.noted.note(thing, at, &self.things, places)? {
             self.things.push(*thing)?;
-            if places.places() > 0 {
-                self.spots.push(at)?;
-            }
         }
         Ok(())
     }
@@ -102,16 +93,6 @@ impl Seen {
         Ok(())
     }
 
-    /// The place of a thing that was seen.
-    pub(crate) fn spot<P: Places>(&self, i: usize, places: &P) -> Option<usize>
-        requires seen { IsSeen (P.place places.now) (P.count places.now) self.now }
-        requires inside { i < length self.now.things }
-        ensures { (t : thing) → slice_get self.now.things i ≡ Some t
-            → result ≡ P.place places.now t }
-    {
-        spot_of(self.things.as_slice(), self.spots.as_slice(), i, places)
-    }
-
     /// Puts all of them in the order of things; what was noted is then used up.
     pub(crate) fn sort<P: Places>(&mut self, places: &P) -> Result<(), NoMemory>
         requires { IsSeen (P.place places.now) (P.count places.now) self.old }
@@ -124,7 +105,7 @@ impl Seen {
             return Ok(());
         }
         let noted = &mut self.noted;
-        noted.complete(self.things.as_slice(), self.spots.as_slice(), places)?;
+        noted.complete(self.things.as_slice(), places)?;
         list_placed(&noted.bits, places, &mut self.things)?;
         list_others(&mut noted.others, &mut self.things)
     }

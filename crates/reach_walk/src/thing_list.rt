@@ -92,6 +92,7 @@ impl ThingList {
     }
 
     /// One thing more, at the end.
+    #[inline(always)]
     pub(crate) fn push(&mut self, thing: Thing) -> Result<(), NoMemory>
         ensures { OnOk result (self.new ≡ self.old ++ thing ∷ []) }
     {

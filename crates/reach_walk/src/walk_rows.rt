@@ -7,6 +7,7 @@ ghost use Rattle.reach_walk.specs.Walk.{next_of, Adds, IsSeen};
 
 use crate::look::look_all;
 use crate::places::PlacedRows;
+use crate::reading::read_row;
 use crate::seen::Seen;
 use orca_names::{NoMemory, Row, Value};
 use std::marker::Brand;
@@ -37,9 +38,8 @@ fn take<R: PlacedRows, L: Ledger>(
 {
     steps.tick();
     let thing = seen.things.at(i);
-    let at = seen.spot(i, rows);
     seen.see_owner(thing.owner(), rows)?;
-    if rows.read_at(&thing, at, row) {
+    if read_row(rows, &thing, row) {
         look_all(seen, row.as_slice(), rows, steps)
     } else {
         Ok(())

@@ -1,6 +1,6 @@
 // One level of words: the places alone.
 
-ghost use Rattle.std.specs.Prelude.{◌≡◌, ◌<◌, ◌≤◌, ◌∷◌, [], true, not, Some, length, slice_get, slice_set, IfOk};
+ghost use Rattle.std.specs.Prelude.{◌≡◌, ℕ, ◌<◌, ◌≤◌, ◌∷◌, [], true, not, Some, length, slice_get, slice_index_or, slice_set, IfOk};
 ghost use Rattle.ready_set.specs.Levels.{places};
 ghost use Rattle.ready_set.specs.Next.{AreOff, IsNext};
 
@@ -16,18 +16,28 @@ const TOO_MANY: usize = 1 << 63;
 /// numbers: the place is on where its number is in the set.
 #[derive(Drop)]
 pub struct PlaceSet {
-    words: Vec<u64>,
+    // The first places, so that a set of few takes no memory.
+    first: u64,
+    rest: Vec<u64>,
 }
 
 impl Model for PlaceSet {
-    ghost use Rattle.std.specs.Prelude.{Bool, List, length, ◌*◌, ◌≤◌, ◌^◌};
+    ghost use Rattle.std.specs.Prelude.{Bool, List, length, ◌∷◌, ◌*◌, ◌<◌, ◌^◌};
     ghost use Rattle.ready_set.specs.Levels.{places};
 
     ghost Value = { List Bool };
 
-    ghost view = { λ s. places s.words.items };
+    ghost view = { λ s. places (s.first ∷ s.rest.items) };
 
-    ghost invariant = { λ s. 64 * length s.words.items ≤ 2 ^ 63 };
+    ghost invariant = { λ s. 64 * length s.rest.items < 2 ^ 63 };
+}
+
+// One of the words.
+fn word_at(first: u64, rest: &[u64], i: usize) -> u64
+    requires { i < length (first ∷ rest.now) }
+    ensures { (d : ℕ) → slice_index_or (first ∷ rest.now) i d ≡ result }
+{
+    if i == 0 { first } else { rest[i - 1] }
 }
 
 /// The first bit of a word that is set, from a bit on.
@@ -43,8 +53,21 @@ pub(crate) fn next_bit(word: u64, from: u32) -> Option<u32>
     }
 }
 
+// One of the words is written.
+fn write_word(first: &mut u64, rest: &mut Vec<u64>, i: usize, word: u64)
+    requires { i < length (first.old ∷ rest.old.items) }
+    ensures words { first.new ∷ rest.new.items ≡ slice_set (first.old ∷ rest.old.items) i word }
+    ensures len { length rest.new.items ≡ length rest.old.items }
+{
+    if i == 0 {
+        *first = word;
+    } else {
+        rest[i - 1] = word;
+    }
+}
+
 impl PlaceSet {
-    /// The empty set, with at least so many places. It takes no memory where these are none.
+    /// The empty set, with at least so many places. It takes no memory where these are at most 64.
     ///
     /// # Errors
     /// `NoMemory` where memory was refused.
@@ -55,15 +78,15 @@ impl PlaceSet {
         if count >= TOO_MANY {
             return Err(NoMemory);
         }
-        let words = vec![in alloc; 0; count.div_ceil(64)]?;
-        Ok(PlaceSet { words })
+        let rest = vec![in alloc; 0; count.div_ceil(64).saturating_sub(1)]?;
+        Ok(PlaceSet { first: 0, rest })
     }
 
     /// The number of places: the bound of the numbers in the set.
     pub fn len(&self) -> usize
         ensures { result ≡ length self.now }
     {
-        64 * self.words.len()
+        64 * (self.rest.len() + 1)
     }
 
     /// Whether the number is in the set.
@@ -71,7 +94,8 @@ impl PlaceSet {
         requires { at < length self.now }
         ensures { slice_get self.now at ≡ Some result }
     {
-        has_bit(self.words[at / 64], (at % 64) as u32)
+        let word = word_at(self.first, self.rest.as_slice(), at / 64);
+        has_bit(word, (at % 64) as u32)
     }
 
     /// Puts the number into the set; whether it was not there. It takes no memory.
@@ -80,12 +104,13 @@ impl PlaceSet {
         ensures set { self.new ≡ slice_set self.old at true }
         ensures was { slice_get self.old at ≡ Some (not result) }
     {
-        let word = self.words[at / 64];
+        let word = word_at(self.first, self.rest.as_slice(), at / 64);
         let bit = (at % 64) as u32;
         if has_bit(word, bit) {
             return false;
         }
-        self.words[at / 64] = put_bit(word, bit, true);
+        let word = put_bit(word, bit, true);
+        write_word(&mut self.first, &mut self.rest, at / 64, word);
         true
     }
 
@@ -96,7 +121,8 @@ impl PlaceSet {
         let mut at = from;
         while at < self.len() {
             let word = at / 64;
-            if let Some(k) = next_bit(self.words[word], (at % 64) as u32) {
+            let bits = word_at(self.first, self.rest.as_slice(), word);
+            if let Some(k) = next_bit(bits, (at % 64) as u32) {
                 return Some(64 * word + k as usize);
             }
             at = 64 * (word + 1);

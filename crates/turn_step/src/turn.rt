@@ -1,6 +1,6 @@
 // What a turn changes.
 
-ghost use Rattle.std.specs.Prelude.{◌≡◌, ◌<◌, ◌≤◌, [], List, Option, length, map, slice_index_or, OnOk, OnErr};
+ghost use Rattle.std.specs.Prelude.{◌≡◌, ◌+◌, ◌<◌, ◌≤◌, ◌++◌, [], List, Option, length, map, slice_index_or, OnOk, OnErr};
 ghost use Rattle.orca_names.specs.declared.names.ObjName.{ObjName as object_name};
 ghost use Rattle.orca_names.specs.declared.names.Value as names;
 ghost use Rattle.orca_names.specs.declared.names.Value.TheVariants.{Null};
@@ -112,10 +112,18 @@ impl Turn {
         ensures { result ≡ map (value_at self.now) numbers.now }
     {
         let mut args = Args::new();
+        self.gather_into(numbers, &mut args);
+        args
+    }
+
+    /// Puts the values of so many registers behind what is there.
+    pub fn gather_into(&self, numbers: &[u64], args: &mut Args)
+        requires { length args.old + length numbers.now ≤ 8 }
+        ensures { args.new ≡ args.old ++ map (value_at self.now) numbers.now }
+    {
         for r in numbers {
             args.push(self.value(*r));
         }
-        args
     }
 
     /// Puts a value into a register; past the last nothing is put.

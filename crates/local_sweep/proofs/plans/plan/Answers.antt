@@ -9,6 +9,8 @@ use Rattle.foreign_table.specs.Span.{IsSpan}
 use Rattle.foreign_table.specs.Table.{Table}
 use Rattle.known_rows.specs.Known.{names_known, row_known}
 use Rattle.known_rows.specs.Places.{place_in}
+use Rattle.local_sweep.specs.Marked.{is_marked}
+use Rattle.local_sweep.specs.Plan.{plan_of}
 use Rattle.local_sweep.proofs.SamePlan.{plan_by_bits}
 use Rattle.local_sweep.proofs.plans.plan.Goals as goal
 
@@ -28,4 +30,7 @@ returns c =
     subst (λ h. IsSpan h.owner (m.keys c.args.foreign.now.entries) known.first known.end) heap
     (subst (λ f. IsSpan known.rows.heap.now.owner (m.keys f.entries) known.first known.end) foreign known.span) in
     let same = plan_by_bits bits (marks c.args.heap.now c.args.foreign.now c.args.fields.now.values) c.args.heap.now c.args.foreign.now known.first known.end span c.requires tells in
-    subst (λ p. IfOk c.plan_of_marks.result (λ plan. plan ≡ p)) same c.plan_of_marks.ensures
+    let planned : IfOk c.plan_known.result (λ plan. plan ≡ plan_of (is_marked bits c.args.heap.now c.args.foreign.now) c.args.heap.now c.args.foreign.now) =
+    subst (λ h. IfOk c.plan_known.result (λ plan. plan ≡ plan_of (is_marked bits h c.args.foreign.now) h c.args.foreign.now)) heap
+    (subst (λ f. IfOk c.plan_known.result (λ plan. plan ≡ plan_of (is_marked bits known.rows.heap.now f) known.rows.heap.now f)) foreign c.plan_known.ensures) in
+    subst (λ p. IfOk c.plan_known.result (λ plan. plan ≡ p)) same planned

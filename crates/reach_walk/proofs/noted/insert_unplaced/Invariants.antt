@@ -2,6 +2,6 @@ use Rattle.std.proofs.Common.{◌≡◌, ◌⊎◌, ◌↔◌, take, Contains, N
 use Rattle.orca_names.specs.declared.names.Thing.{Thing}
 use Rattle.reach_walk.proofs.noted.insert_unplaced.Given as goal
 
-abbrev pub invariant-loop-i : goal.invariant-loop-i
-invariant-loop-i g l =
-    (x : Thing) → Contains l.set.keys x ↔ (Contains l.fn.set.keys x ⊎ (Contains (take l.i l.things) x × (g.P.Places.place l.places x ≡ None)))
+abbrev pub invariant-loop-thing : goal.invariant-loop-thing
+invariant-loop-thing g l =
+    (x : Thing) → Contains l.set.keys x ↔ (Contains l.fn.set.keys x ⊎ (Contains (take l.thing-index l.things) x × (g.P.Places.place l.places x ≡ None)))

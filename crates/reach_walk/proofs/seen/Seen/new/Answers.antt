@@ -1,4 +1,4 @@
-use Rattle.std.proofs.Common.{map, sym, ap, subst, ◌∙◌}
+use Rattle.std.proofs.Common.{sym, subst}
 use Rattle.std.specs.List.{IsDistinct}
 use Rattle.orca_names.specs.Names.{is_thing}
 use Rattle.reach_walk.proofs.Distinct.{IsDistinct-nil}
@@ -8,7 +8,6 @@ use Rattle.reach_walk.proofs.seen.Seen.new.Goals as goal
 pub returns-clause-seen : goal.returns-clause-seen
 returns-clause-seen c = λ place count room. record {
   once = subst (IsDistinct is_thing) (sym c.new.ensures) IsDistinct-nil;
-  spots = λ some. c.new-2.ensures.items ∙ ap (map place) (sym c.new.ensures);
-  noted = notes_nothing place count (record { bits = c.args.bits; others = c.new-3.result }) c.new.result c.new.ensures c.requires room c.new-3.ensures.len;
+  noted = notes_nothing place count (record { bits = c.args.bits; others = c.new-2.result }) c.new.result c.new.ensures c.requires room c.new-2.ensures.len;
   owner = λ a e. cc;
 }

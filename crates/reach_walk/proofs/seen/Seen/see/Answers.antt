@@ -1,28 +1,11 @@
-use Rattle.std.proofs.Common.{◌≡◌, ◌∷◌, ◌++◌, [], true, map, refl, sym, ap, subst, ◌∙◌, arith}
+use Rattle.std.proofs.Common.{◌≡◌, ◌∷◌, ◌++◌, [], true, refl, sym, subst}
 use Rattle.reach_walk.specs.Walk.{Adds, Notes}
 use Rattle.reach_walk.proofs.Added.{Adds-new}
-use Rattle.reach_walk.proofs.Placed.{spots_more}
 use Rattle.reach_walk.proofs.Seeing.{sees_new}
 use Rattle.reach_walk.proofs.seen.Seen.see.Goals as goal
 
-pub returns-in_ok-push-2 : goal.returns-in_ok-push-2
-returns-in_ok-push-2 g c =
-    let place = g.P.Places.place c.args.places.now in
-    let count = g.P.Places.count c.args.places.now in
-    let old = c.args.self.now in
-    let x = c.args.thing.now in
-    let now = c.note.new.self in
-    let notes : Notes place count now old.things x true = subst (Notes place count now old.things x) c.if-branch.true c.in_ok-note.ensures in
-    let last : c.push.new.self ≡ old.things ++ x ∷ [] = c.in_ok-push.ensures in
-    let more = c.push-then-places-gt0.new.self in
-    record {
-      adds = subst (Adds (x ∷ []) old.things) (sym last) (Adds-new x old.things);
-      seen = sees_new place count old (record { things = c.push.new.self; spots = more; noted = now; owner = old.owner }) x c.requires notes last
-          (λ some. spots_more place old.things x c.place_of-at.result old.spots.items more.items (c.requires.spots some) (sym c.place_of-at.ensures) c.in_ok-push-2.ensures.items ∙ ap (map place) (sym last)) refl;
-    }
-
-pub returns-else-places-gt0 : goal.returns-else-places-gt0
-returns-else-places-gt0 g c =
+pub returns-in_ok-push : goal.returns-in_ok-push
+returns-in_ok-push g c =
     let place = g.P.Places.place c.args.places.now in
     let count = g.P.Places.count c.args.places.now in
     let old = c.args.self.now in
@@ -32,6 +15,5 @@ returns-else-places-gt0 g c =
     let last : c.push.new.self ≡ old.things ++ x ∷ [] = c.in_ok-push.ensures in
     record {
       adds = subst (Adds (x ∷ []) old.things) (sym last) (Adds-new x old.things);
-      seen = sees_new place count old (record { things = c.push.new.self; spots = old.spots; noted = now; owner = old.owner }) x c.requires notes last
-          (λ some. absurd (omega (arith, c.places.ensures))) refl;
+      seen = sees_new place count old (record { things = c.push.new.self; noted = now; owner = old.owner }) x c.requires notes last refl;
     }
