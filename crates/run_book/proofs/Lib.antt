@@ -3,6 +3,7 @@ pub mod Faults
 pub mod FirstLine
 pub mod Headers
 pub mod Lines
+pub mod Marks
 pub mod NextLine
 pub mod Numerals
 pub mod Steps

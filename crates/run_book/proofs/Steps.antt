@@ -11,7 +11,7 @@ use Rattle.run_book.specs.Progress.{IsReadTo}
 use Rattle.run_book.specs.declared.header.Header.{Header}
 
 -- the bytes of a line and its line feed
-with_feed : (bytes line : List ℕ) (from n : ℕ) → line ≡ take n (drop from bytes) →
+pub with_feed : (bytes line : List ℕ) (from n : ℕ) → line ≡ take n (drop from bytes) →
     n < length (drop from bytes) → get_or (drop from bytes) n 0 ≡ 10 →
     take (from + (n + 1)) bytes ≡ take from bytes ++ (line ++ 10 ∷ [])
 with_feed bytes line from n is inside found =

@@ -1,3 +1,4 @@
 pub mod Books
 pub mod Progress
 pub mod Reading
+pub mod Splits

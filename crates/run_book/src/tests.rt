@@ -1,6 +1,6 @@
 // A book that is filled and written, and texts that are read.
 
-use crate::{Book, BookErr, read_again, read_text};
+use crate::{Book, BookErr, read_again, read_text, split_at_book};
 use event_rule::Event;
 use orca_names::{ActorName, Trace};
 use std::alloc::Global;
@@ -98,6 +98,25 @@ fn faults_are_told(rt: HostRuntime) -> Result<(), Fail> {
         ("book 2 256\nhear\nscan", 3, 4),
     ] {
         assert_eq!(rt; fault_of(rt.alloc(), text)?, (line, kind), "{text}");
+    }
+    Ok(())
+}
+
+#[test]
+fn books_begin_at_their_first_line(rt: HostRuntime) -> Result<(), Fail> {
+    for (text, program, book) in [
+        ("", "", ""),
+        ("end\n", "end\n", ""),
+        ("book 1\ntake 0\n", "", "book 1\ntake 0\n"),
+        ("a book 1\n book 1", "a book 1\n book 1", ""),
+        ("end\nbook 1\nbook 2 2\n", "end\n", "book 1\nbook 2 2\n"),
+        ("end\n\nbook ", "end\n\n", "book "),
+        ("end\nbook", "end\nbook", ""),
+        ("booking\nend\nbooking\n", "booking\nend\nbooking\n", ""),
+    ] {
+        let (before, behind) = split_at_book(text.as_bytes());
+        assert_eq!(rt; before, program.as_bytes(), "{text}");
+        assert_eq!(rt; behind, book.as_bytes(), "{text}");
     }
     Ok(())
 }
