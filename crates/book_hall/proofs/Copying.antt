@@ -1,12 +1,16 @@
 -- A copy of a cell can be evaluated: serials are left, and what it holds and knows is others'.
-use Rattle.std.proofs.Common.{◌≡◌, ◌<◌, ◌+◌, ◌^◌, ℕ, List, Option, Some, None, refl, sym, ap, ◌∙◌, arith}
+use Rattle.std.proofs.Common.{◌≡◌, ◌<◌, ◌≤◌, ◌+◌, ◌^◌, ℕ, List, length, Option, Some, None, refl, sym, ap, ◌∙◌, arith}
 use Rattle.std.specs.Prelude.{if◌then◌else◌}
+use Rattle.orca_names.specs.declared.limits.TheConstants.{BOOK_LIMIT}
 use Rattle.orca_names.specs.declared.trace.Trace.TheVariants.{Deep}
 use Rattle.behaviour_code.specs.WellFormed.{IsWellFormed}
 use Rattle.behaviour_code.specs.declared.code.Program.{Program}
+use Rattle.event_rule.specs.declared.event.Event.{Event}
 use Rattle.letter_kinds.specs.declared.letter.Letter.{Letter}
 use Rattle.machine_rules.specs.Actors.{Actors, Seat, cell_at, cell_of, seat, seat_at}
 use Rattle.machine_rules.specs.Cell as rules
+use Rattle.machine_rules.specs.Run.{IsRun}
+use Rattle.machine_rules.specs.State.{State}
 use Rattle.run_book.specs.Books.{BookValue, IsWeight}
 use Rattle.actor_cell.specs.Cells.{as_cell}
 use Rattle.actor_cell.specs.Sweeps.{KnowsOthersOnly}
@@ -33,7 +37,21 @@ pub record CanFind (copy : Cell) : Type 0 where
   pub serials : copy.heap.next + 1024 < 2 ^ 64
   pub others : KnowsOthersOnly copy
 
--- so it is with a copy of a cell of a hall
+-- so it is with a cell of a run
+pub run_can_find : (program : Program) (weight : ℕ) (book : List Event) (s : State) → IsWellFormed program → IsWeight weight
+    → length book ≤ BOOK_LIMIT → IsRun program (options_of weight Deep) book s
+    → (cell : Cell) → cell_at s.actors cell.heap.owner ≡ Some (as_cell cell) → CanFind cell
+run_can_find program weight book s good fits short run cell at =
+    let z = seat_of_cell s.actors cell.heap.owner (as_cell cell) at in
+    let heavy = fits.0 in
+    let of_run : IsShortRun program (options_of weight Deep) book s =
+    record { heavy = omega arith; light = fits.1; short = omega arith; run = run } in
+    record {
+      serials = runs_have_serials program (options_of weight Deep) book s of_run cell.heap.owner (as_cell cell) z.0 z.1 good;
+      others = cells_know_others_only program (options_of weight Deep) book s of_run cell z.0 z.1;
+    }
+
+-- and with a copy of a cell of a hall
 pub copy_can_find : (program : Program) (budget : ℕ) (m : Machine) (book : BookValue) → IsKept program budget m book
     → IsWellFormed program → IsWeight book.weight → (cell copy : Cell) → Some (as_cell cell) ≡ cell_here m copy.heap.owner
     → as_cell copy ≡ as_cell cell → CanFind copy
@@ -41,13 +59,6 @@ copy_can_find program budget m book kept good weight cell copy here same =
     let a = copy.heap.owner in
     let at : cell_at m.state.actors a ≡ Some (as_cell copy) =
     sym (ap (λ b. if b then None else cell_at m.state.actors a) (kept.home a)) ∙ sym here ∙ ap Some (sym same) in
-    let z = seat_of_cell m.state.actors a (as_cell copy) at in
-    let heavy = weight.0 in
     let within = kept.within in
     let most = kept.most in
-    let short : IsShortRun program (options_of book.weight Deep) book.entries m.state =
-    record { heavy = omega arith; light = weight.1; short = omega arith; run = kept.run } in
-    record {
-      serials = runs_have_serials program (options_of book.weight Deep) book.entries m.state short a (as_cell copy) z.0 z.1 good;
-      others = cells_know_others_only program (options_of book.weight Deep) book.entries m.state short copy z.0 z.1;
-    }
+    run_can_find program book.weight book.entries m.state good weight (omega arith) kept.run copy at

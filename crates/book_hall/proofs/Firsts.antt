@@ -1,6 +1,7 @@
 -- The first event of an actor, of the free ones and of the detector, where no cell is away.
-use Rattle.std.proofs.Common.{◌≡◌, ◌≢◌, ◌≤◌, ℕ, Bool, true, false, List, [], Option, Some, None, refl, sym, ap, subst, ◌∙◌, arith}
+use Rattle.std.proofs.Common.{◌≡◌, ◌≢◌, ◌≤◌, ℕ, ◌==◌, Bool, true, false, List, [], Option, Some, None, refl, sym, ap, subst, ◌∙◌, arith, eqb-true}
 use Rattle.std.specs.Prelude.{if◌then◌else◌, MatchOption}
+use Rattle.std.specs.Option.{option_map_or}
 use Rattle.event_rule.specs.Events.{actor_of}
 use Rattle.event_rule.specs.Runs.{Goes, IsFirst, IsFull, IsQuiet, Machine, NotEnabled, Step}
 use Rattle.event_rule.specs.declared.event.Event.{Event}
@@ -21,6 +22,25 @@ pub same_kind : (kind : Event → Bool) (away : List Bool) → ((a : ℕ) → is
 same_kind kind away home =
     let same : next_without away ≡ next_without [] = with_none_away away home ∙ sym (with_none_away [] (λ a. refl)) in
     λ i s e. if kind e then same i s e else NotEnabled
+
+-- what an event of this one leads to, as one of the actor a, while these cells are away
+abbrev led_of : ℕ → List Bool → Option ℕ → Step State → Step State
+led_of a away who step =
+    if option_map_or (λ b. b == a) who false then (if option_map_or (is_out away) who false then NotEnabled else step)
+    else NotEnabled
+
+-- the events of an actor whose cell is not away lead where they do, too
+pub same_of : (a : ℕ) (away : List Bool) → is_out away a ≡ false → next_of_kind (is_of a) away ≡ next_of_kind (is_of a) []
+same_of a away home i s e = by (actor_of e) (next s e) i
+  where
+    by : (who : Option ℕ) (step : Step State) → led_of a away who step ≡ led_of a [] who step
+    by None step = refl
+    by (Some b) step = pick (b == a) refl
+      where
+        pick : (c : Bool) → (b == a) ≡ c
+            → (if c then (if is_out away b then NotEnabled else step) else NotEnabled) ≡ (if c then step else NotEnabled)
+        pick true is = ap (λ o. if o then NotEnabled else step) (ap (is_out away) (eqb-true b a is) ∙ home)
+        pick false is = refl
 
 -- what was found is the first of these events; nothing: none is enabled
 abbrev IsFound : Machine State → State → Option Event → Type 0

@@ -1,19 +1,23 @@
 -- A hall goes on by an entry: its book stays a run, and its state is the one that the book leads to.
-use Rattle.std.proofs.Common.{◌≡◌, ◌≤◌, ◌+◌, ◌==◌, ℕ, Bool, true, false, List, [], ◌∷◌, ◌++◌, length, length-append, Some, None, Result, Ok, Err, OnOk, OnErr, refl, sym, ap, subst, ◌∙◌, arith}
+use Rattle.std.proofs.Common.{◌≡◌, ◌≤◌, ◌+◌, ◌==◌, ℕ, Bool, true, false, List, [], ◌∷◌, ◌++◌, length, length-append, Option, Some, None, Result, Ok, Err, OnOk, OnErr, refl, sym, ap, subst, ◌∙◌, arith}
 use Rattle.std.specs.Prelude.{if◌then◌else◌}
+use Rattle.std.specs.Option.{option_map_or}
 use Rattle.std.proofs.lemmas.Bool.Decides.{nat_tests}
 use Rattle.orca_names.specs.declared.limits.TheConstants.{BOOK_LIMIT}
 use Rattle.orca_names.specs.declared.trace.Trace.TheVariants.{Deep}
 use Rattle.behaviour_code.specs.declared.code.Program.{Program}
 use Rattle.event_rule.specs.Runs.{Goes, Leads}
+use Rattle.event_rule.specs.Events.{actor_of}
 use Rattle.event_rule.specs.declared.event.Event.{Event}
+use Rattle.event_rule.specs.declared.event.Event.TheVariants.{Take, Go, Collect, Leave, Block, Hear, Scan, Reap}
 use Rattle.machine_rules.specs.Next.{next}
 use Rattle.machine_rules.specs.Run.{IsRun}
 use Rattle.machine_rules.specs.State.{State}
 use Rattle.run_book.specs.Books.{BookValue}
 use Rattle.cell_laws.proofs.Keeping.{runs_keep_program}
+use Rattle.orca_core.specs.Away.{is_out, is_out_for}
 use Rattle.orca_core.specs.Laws.{IsRunOf}
-use Rattle.orca_core.specs.Machine.{IsSame, Machine, NoneIsAway, options_of}
+use Rattle.orca_core.specs.Machine.{IsSame, Machine, NoneIsAway, ReapsNoneAway, options_of}
 use Rattle.orca_core.proofs.Reached.{leads_more}
 use Rattle.work_board.specs.declared.answers.Committed.{Committed}
 use Rattle.work_board.specs.declared.answers.Refuse.{Refuse}
@@ -26,6 +30,25 @@ pub leads_after : (book : List Event) (s t : State) → Leads next s book t → 
 leads_after [] s t same = sym same
 leads_after (e ∷ book) s t (u, goes, leads) =
     subst (λ v. t ≡ state_after v book) (sym (ap (moved s) goes)) (leads_after book u t leads)
+
+-- where no cell is away, that of no event's actor is
+pub home_for : (m : Machine) → NoneIsAway m → (e : Event) → is_out_for m.out e ≡ false
+home_for m home e = by (actor_of e)
+  where
+    by : (who : Option ℕ) → option_map_or (is_out m.out) who false ≡ false
+    by None = refl
+    by (Some a) = home a
+
+-- so none is reaped whose cell is away
+pub reaps_at_home : (m : Machine) → NoneIsAway m → (e : Event) → ReapsNoneAway e m
+reaps_at_home m home (Take a) = tt
+reaps_at_home m home (Go a) = tt
+reaps_at_home m home (Collect a) = tt
+reaps_at_home m home (Leave a) = tt
+reaps_at_home m home (Block a) = tt
+reaps_at_home m home Hear = tt
+reaps_at_home m home Scan = tt
+reaps_at_home m home (Reap number) = λ t a is member. home a
 
 module _ (program : Program) (budget : ℕ) where
   kept_by_run : (m : Machine) (book : BookValue) → IsRun program (options_of book.weight Deep) book.entries m.state

@@ -1,9 +1,9 @@
 // Why a claim or an entry is refused, one cause each.
 
-ghost use Rattle.std.specs.Prelude.{◌≡◌};
+ghost use Rattle.std.specs.Prelude.{◌≡◌, false};
 ghost use Rattle.event_rule.specs.Events.{actor_of};
 ghost use Rattle.machine_rules.specs.Next.{next};
-ghost use Rattle.orca_core.specs.Machine.{NoneIsAway};
+ghost use Rattle.orca_core.specs.Away.{is_out, is_out_for};
 ghost use Rattle.book_hall.specs.Causes.{absent_cause, actor_cause, busy_cause, event_at, spent_cause, unready_cause};
 
 use crate::claims::Claims;
@@ -13,7 +13,7 @@ use orca_names::ActorName;
 use work_board::Refuse;
 
 /// The actor that acts in an event, if one does.
-pub(crate) fn actor_of(e: &Event) -> Option<ActorName>
+pub fn actor_of(e: &Event) -> Option<ActorName>
     ensures { result ≡ actor_of e.now }
 {
     match e {
@@ -24,7 +24,7 @@ pub(crate) fn actor_of(e: &Event) -> Option<ActorName>
 }
 
 /// The actor was not made, or is gone.
-pub(crate) fn absent(orca: &Orca<'_>, a: ActorName) -> Option<Refuse>
+pub fn absent(orca: &Orca<'_>, a: ActorName) -> Option<Refuse>
     ensures { result ≡ absent_cause orca.now.state a }
 {
     let made = orca.made();
@@ -66,9 +66,9 @@ pub(crate) fn actor_refuses(
     }
 }
 
-/// The event is not enabled.
-pub(crate) fn unready(orca: &Orca<'_>, e: Event) -> Option<Refuse>
-    requires { NoneIsAway orca.now }
+/// The event, whose actor's cell is not away, is not enabled.
+pub fn unready(orca: &Orca<'_>, e: Event) -> Option<Refuse>
+    requires { is_out_for orca.now.out e ≡ false }
     ensures { result ≡ unready_cause (next orca.now.state e) }
 {
     if orca.enabled(e) {
@@ -79,7 +79,7 @@ pub(crate) fn unready(orca: &Orca<'_>, e: Event) -> Option<Refuse>
 }
 
 /// The book is as long as the budget.
-pub(crate) fn spent(length: u64, budget: u64) -> Option<Refuse>
+pub fn spent(length: u64, budget: u64) -> Option<Refuse>
     ensures { result ≡ spent_cause length budget }
 {
     if length == budget {
@@ -89,9 +89,9 @@ pub(crate) fn spent(length: u64, budget: u64) -> Option<Refuse>
     }
 }
 
-/// The first event of the actor that is enabled.
-pub(crate) fn event_at(orca: &Orca<'_>, a: ActorName) -> Option<Event>
-    requires { NoneIsAway orca.now }
+/// The first event of the actor, whose cell is not away, that is enabled.
+pub fn event_at(orca: &Orca<'_>, a: ActorName) -> Option<Event>
+    requires { is_out orca.now.out a ≡ false }
     ensures { result ≡ event_at orca.now.state a }
 {
     orca.next_of(a)

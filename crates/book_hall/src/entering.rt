@@ -1,6 +1,6 @@
 // An event becomes the last entry of the book.
 
-ghost use Rattle.std.specs.Prelude.{◌≡◌, ◌+◌, ◌<◌, ◌≤◌, ◌++◌, ◌∷◌, [], length, IfErr, IfOk, None, OnErr, OnOk};
+ghost use Rattle.std.specs.Prelude.{◌≡◌, ◌+◌, ◌<◌, ◌≤◌, ◌++◌, ◌∷◌, [], false, length, IfErr, IfOk, None, OnErr, OnOk};
 ghost use Rattle.std.specs.Option.{ForSome};
 ghost use Rattle.orca_names.specs.declared.limits.TheConstants.{BOOK_LIMIT};
 ghost use Rattle.orca_names.specs.declared.trace.Trace.TheVariants.{Deep};
@@ -8,14 +8,16 @@ ghost use Rattle.event_rule.specs.Runs.{Goes, Step};
 ghost use Rattle.event_rule.specs.declared.event.Event.{Event};
 ghost use Rattle.machine_rules.specs.State.{State};
 ghost use Rattle.machine_rules.specs.Next.{next};
+ghost use Rattle.orca_core.specs.Away.{KeepsAway, is_out_for};
 ghost use Rattle.orca_core.specs.Faults.{IsFault};
 ghost use Rattle.orca_core.specs.Founds.{IsFoundIn};
-ghost use Rattle.orca_core.specs.Machine.{Fits, IsSame, NoneIsAway};
+ghost use Rattle.orca_core.specs.Machine.{Fits, IsSame, ReapsNoneAway};
 ghost use Rattle.orca_core.specs.Ready.{event_of};
 ghost use Rattle.orca_core.specs.Woken.{IsLowestWoken};
 ghost use Rattle.book_hall.specs.Causes.{IsRefusal, full_cause, unready_cause};
 ghost use Rattle.book_hall.specs.Proposals.{IsOf};
 
+use crate::causes::actor_of;
 use crate::copy::Proposal;
 use actor_cell::Found;
 use event_rule::Event;
@@ -24,16 +26,16 @@ use run_book::Book;
 use std::alloc::Global;
 use work_board::{Committed, Refuse};
 
-/// What was found, if it is of the cell that is there now.
-fn fitting(orca: &Orca<'_>, proposal: Proposal<'_>) -> Option<Found>
-    requires own { IsOf orca.now.state.program orca.now.state.options.weight proposal.copy.event proposal }
+/// What was found, if it is of the cell that the event's actor has now.
+pub(crate) fn fitting(orca: &Orca<'_>, e: &Event, proposal: Option<Proposal<'_>>) -> Option<Found>
+    requires own { ForSome proposal
+        (IsOf orca.now.state.program orca.now.state.options.weight e.now) }
     requires deep { orca.now.state.options.trace ≡ Deep }
-    ensures { ForSome result (λ found. IsFoundIn proposal.entry.copy.event found orca.now) }
+    ensures { ForSome result (λ found. IsFoundIn e.now found orca.now) }
 {
+    let proposal = proposal?;
     let start = &proposal.copy.cell;
-    let Some(cell) = orca.cell(start.heap.owner()) else {
-        return None;
-    };
+    let cell = orca.cell(actor_of(e)?)?;
     if cell.same(start) {
         proposal.found
     } else {
@@ -41,26 +43,22 @@ fn fitting(orca: &Orca<'_>, proposal: Proposal<'_>) -> Option<Found>
     }
 }
 
-/// As `Orca::prepare`. What was found is not evaluated again, if it is of the cell that is there now.
+/// As `Orca::prepare`. What was found is not evaluated again.
 fn prepare(
     alloc: Global,
     orca: &mut Orca<'_>,
     e: Event,
-    proposal: Option<Proposal<'_>>,
+    found: Option<Found>,
 ) -> Result<Ready, StepFault>
     requires early { orca.old.steps < BOOK_LIMIT }
-    requires home { NoneIsAway orca.old }
-    requires own { ForSome proposal (IsOf orca.old.state.program orca.old.state.options.weight e) }
-    requires deep { orca.old.state.options.trace ≡ Deep }
+    requires home { is_out_for orca.old.out e ≡ false }
+    requires spares { ReapsNoneAway e orca.old }
+    requires found { ForSome found (λ known. IsFoundIn e known orca.old) }
     ensures same { IsSame orca.old orca.new }
     ensures event { IfOk result (λ ready. event_of ready ≡ e) }
     ensures ok { IfOk result (λ ready. Fits ready orca.new) }
     ensures fault { IfErr result (IsFault (next orca.old.state e) e) }
 {
-    let found = match proposal {
-        Some(proposal) => fitting(orca, proposal),
-        None => None,
-    };
     match found {
         Some(found) => orca.prepare_found(alloc, e, found),
         None => orca.prepare(alloc, e),
@@ -88,14 +86,13 @@ fn reserve(
     orca: &mut Orca<'_>,
     book: &mut Book,
     e: &Event,
-    proposal: Option<Proposal<'_>>,
+    found: Option<Found>,
 ) -> Result<Ready, Refuse>
     requires early { orca.old.steps < BOOK_LIMIT }
-    requires home { NoneIsAway orca.old }
+    requires home { is_out_for orca.old.out e.now ≡ false }
+    requires spares { ReapsNoneAway e.now orca.old }
     requires ready { unready_cause (next orca.old.state e.now) ≡ None }
-    requires own { ForSome proposal
-        (IsOf orca.old.state.program orca.old.state.options.weight e.now) }
-    requires deep { orca.old.state.options.trace ≡ Deep }
+    requires found { ForSome found (λ known. IsFoundIn e.now known orca.old) }
     ensures same { IsSame orca.old orca.new }
     ensures entries { book.new.entries ≡ book.old.entries }
     ensures book { (book.new.weight ≡ book.old.weight) × (book.new.trace ≡ book.old.trace) }
@@ -107,44 +104,43 @@ fn reserve(
     if book.reserve(1).is_err() {
         return Err(Refuse::NoMemory);
     }
-    match prepare(alloc, orca, *e, proposal) {
+    match prepare(alloc, orca, *e, found) {
         Ok(ready) => Ok(ready),
         Err(fault) => Err(refuse_of(fault)),
     }
 }
 
-/// Does the event, which is enabled, and enters it into the book. All memory is taken before anything
-/// changes.
+/// Does the event, which is enabled and not of an actor whose cell is away, and enters it into the book.
+/// What was found of it is not evaluated again. All memory is taken before anything changes.
 ///
 /// # Errors
 /// `Full` exactly where the event's actor would make one actor too many; `NoMemory` where memory was
 /// refused. Nothing changes then but room.
-pub(crate) fn enter(
+pub fn enter(
     alloc: Global,
     orca: &mut Orca<'_>,
     book: &mut Book,
     e: &Event,
-    proposal: Option<Proposal<'_>>,
+    found: Option<Found>,
 ) -> Result<Committed, Refuse>
     requires early { orca.old.steps < BOOK_LIMIT }
-    requires home { NoneIsAway orca.old }
+    requires home { is_out_for orca.old.out e.now ≡ false }
+    requires spares { ReapsNoneAway e.now orca.old }
     requires ready { unready_cause (next orca.old.state e.now) ≡ None }
-    requires own { ForSome proposal
-        (IsOf orca.old.state.program orca.old.state.options.weight e.now) }
-    requires deep { orca.old.state.options.trace ≡ Deep }
+    requires found { ForSome found (λ known. IsFoundIn e.now known orca.old) }
     ensures goes { OnOk result (next orca.old.state e.now ≡ Goes orca.new.state) }
     ensures steps { OnOk result (orca.new.steps ≡ orca.old.steps + 1) }
     ensures entry { OnOk result (book.new.entries ≡ book.old.entries ++ e.now ∷ []) }
     ensures place { IfOk result (λ done. done.place ≡ length book.old.entries) }
     ensures woke { IfOk result
         (λ done. IsLowestWoken orca.old.state.actors orca.new.state.actors done.woke) }
-    ensures home { NoneIsAway orca.new }
+    ensures away { KeepsAway orca.old.out orca.new.out }
     ensures book { (book.new.weight ≡ book.old.weight) × (book.new.trace ≡ book.old.trace) }
     ensures refused { IfErr result (IsRefusal (full_cause (next orca.old.state e.now) e.now)) }
     ensures same { OnErr result (IsSame orca.old orca.new) }
     ensures same_book { OnErr result (book.new.entries ≡ book.old.entries) }
 {
-    let ready = reserve(alloc, orca, book, e, proposal)?;
+    let ready = reserve(alloc, orca, book, e, found)?;
     let woke = orca.apply_ready(alloc, ready);
     let place = book.len();
     book.push(*e);

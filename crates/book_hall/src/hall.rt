@@ -17,7 +17,7 @@ ghost use Rattle.book_hall.specs.Proposals.{IsOf};
 use crate::causes::{absent, actor_of, actor_refuses, busy, event_at, spent, unready};
 use crate::claims::{Claim, Claims};
 use crate::copy::{CellCopy, Proposal};
-use crate::entering::enter;
+use crate::entering::{enter, fitting};
 use behaviour_check::Checked;
 use event_rule::Event;
 use orca_core::Orca;
@@ -333,7 +333,8 @@ impl<'a> Hall<'a> {
         if let Some(refuse) = self.early_refusal(asker, &e) {
             return Err(refuse);
         }
-        enter(alloc, &mut self.orca, &mut self.book, &e, proposal)
+        let found = fitting(&self.orca, &e, proposal);
+        enter(alloc, &mut self.orca, &mut self.book, &e, found)
     }
 
     // The pass has no claim on the event's actor any more.

@@ -13,7 +13,9 @@ mod hall;
 mod programs;
 mod shared;
 
+pub use causes::{absent, actor_of, event_at, spent, unready};
 pub use claims::Claim;
 pub use copy::{CellCopy, Proposal, ProposeErr};
+pub use entering::enter;
 pub use hall::Hall;
 pub use shared::{HallPass, HallTask, Naming, SharedHall};

@@ -22,6 +22,7 @@ impl<'a> Orca<'a> {
         ensures state { self.new.state ≡ self.old.state }
         ensures steps { self.new.steps ≡ self.old.steps }
         ensures out { self.new.out ≡ (if is_some result then set self.old.out a true else self.old.out) }
+        ensures lent { IfSome result (λ _. is_out self.new.out a ≡ true) }
     {
         self.parts.table.lift(a)
     }

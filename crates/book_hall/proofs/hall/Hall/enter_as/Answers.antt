@@ -5,7 +5,7 @@ use Rattle.machine_rules.specs.Options.{Options}
 use Rattle.book_hall.specs.Causes.{IsRefusal, actor_cause, full_cause, spent_cause, unready_cause}
 use Rattle.book_hall.specs.Halls.{HallValue, state_of}
 use Rattle.book_hall.proofs.Entries.{entered}
-use Rattle.book_hall.proofs.Keeping.{kept_on, kept_run}
+use Rattle.book_hall.proofs.Keeping.{home_for, kept_on, kept_run, reaps_at_home}
 use Rattle.book_hall.proofs.Refusing.{late_is, or_none}
 use Rattle.book_hall.proofs.hall.Hall.enter_as.Goals as goal
 
@@ -19,8 +19,8 @@ enter-requires-clause-ready c =
     ap (λ s. unready_cause (next s e)) state
     ∙ (or_none (unready_cause (next (state_of h) e)) (spent_cause (length h.book) h.budget) none.1).0
 
-pub enter-requires-clause-own : goal.enter-requires-clause-own
-enter-requires-clause-own c =
+pub fitting-found-requires-clause-own : goal.fitting-found-requires-clause-own
+fitting-found-requires-clause-own c =
     let h = c.self.inside in
     let run = kept_run h.code.now h.budget h.orca h.book c.self.invariant in
     λ x is. let own = c.requires.own x is in record {
@@ -29,10 +29,16 @@ enter-requires-clause-own c =
       event = own.event;
     }
 
-pub enter-requires-clause-deep : goal.enter-requires-clause-deep
-enter-requires-clause-deep c =
+pub fitting-found-requires-clause-deep : goal.fitting-found-requires-clause-deep
+fitting-found-requires-clause-deep c =
     let h = c.self.inside in
     ap (λ (o : Options). o.trace) (kept_run h.code.now h.budget h.orca h.book c.self.invariant).1
+
+pub enter-requires-clause-home : goal.enter-requires-clause-home
+enter-requires-clause-home c = home_for c.self.inside.orca c.self.invariant.home c.args.e
+
+pub enter-requires-clause-spares : goal.enter-requires-clause-spares
+enter-requires-clause-spares c = reaps_at_home c.self.inside.orca c.self.invariant.home c.args.e
 
 pub invariant_of-self : goal.invariant_of-self
 invariant_of-self c =
@@ -45,7 +51,7 @@ invariant_of-self c =
     let room = ap (λ (v : HallValue). spent_cause (length v.book) v.budget) c.self.view_is
     ∙ (or_none (unready_cause (next (state_of h) e)) (spent_cause (length h.book) h.budget) none.1).1 in
     kept_on old.code.now old.budget old.orca c.enter.new.orca old.book c.enter.new.book c.self.invariant
-    done.book.0 done.book.1 done.home e c.enter.result room done.goes done.steps done.entry done.same done.same_book
+    done.book.0 done.book.1 (λ a. done.away a ∙ c.self.invariant.home a) e c.enter.result room done.goes done.steps done.entry done.same done.same_book
 
 pub returns-clause-ok : goal.returns-clause-ok
 returns-clause-ok c =
