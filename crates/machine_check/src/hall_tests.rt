@@ -171,23 +171,10 @@ fn answers(alloc: Global, bench: &mut Bench<'_>, rows: &[(Call, Want)]) -> bool 
     true
 }
 
-/// What the run has printed after these calls over this program, each of which has to answer as it is
-/// wanted.
-fn printed(
-    alloc: Global,
-    code: &Checked,
-    budget: u64,
-    rows: &[(Call, Want)],
-) -> Result<Option<Vec<Value>>, Fail>
-    requires { budget ≤ BOOK_LIMIT }
-{
-    let hall = Hall::start(alloc, code, budget, 256)?;
-    let mut bench = Bench { hall, kept: None };
-    if !answers(alloc, &mut bench, rows) {
-        return Ok(None);
-    }
-    let (orca, _book) = bench.hall.into_parts();
-    Ok(Some(orca.prints().to_vec(alloc)?))
+/// What the run of a hall has printed.
+fn printed(alloc: Global, hall: Hall<'_>) -> Result<Vec<Value>, Fail> {
+    let (orca, _book) = hall.into_parts();
+    Ok(orca.prints().to_vec(alloc)?)
 }
 
 /// Whether each call answers as it is wanted, and the run then has printed this.
@@ -201,10 +188,11 @@ fn goes_so(
     requires { budget ≤ BOOK_LIMIT }
 {
     let code = checked(alloc, text)?;
-    match printed(alloc, &code, budget, rows)? {
-        Some(printed) => Ok(printed.as_slice() == prints),
-        None => Ok(false),
-    }
+    let hall = Hall::start(alloc, &code, budget, 256)?;
+    let mut bench = Bench { hall, kept: None };
+    let well = answers(alloc, &mut bench, rows);
+    let printed = printed(alloc, bench.hall)?;
+    Ok(well && printed.as_slice() == prints)
 }
 
 // Two passes: the second one goes on while the first has a claim, which is then refused, since the
