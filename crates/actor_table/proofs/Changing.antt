@@ -126,15 +126,15 @@ going : (x : Slot) → may_at may_go x ≡ true → (can_act x ≡ true) × (can
 going x = elim x.place as (λ (p : Place). may_in may_go p x.mail.letters ≡ true
     → (not (is_away_in p) && option_map_or acts (seat_in p x.mail.letters) false ≡ true)
     × (not (is_away_in p) && option_map_or settles (seat_in p x.mail.letters) false ≡ false)) [
-  | Home c ↦ λ e. elim c.frame as (λ (o : Option Frame). is_some o ≡ true → (is_some o || (is_none o && not (is_empty x.mail.letters)) ≡ true)
-      × ((is_none o && c.dirty) || (((is_none o && (is_empty x.mail.letters && not (c.dirty || (c.fields.pinned || c.reported)))) && ((as_cell c).holdings.count == 0))
-      || (is_none o && (is_empty x.mail.letters && not (c.dirty || (c.fields.pinned || c.reported))))) ≡ false)) [
-        | None ↦ λ h. cc
-        | Some f ↦ λ h. (refl, refl)
-      ] e
-  | Away c ↦ λ e. cc
-  | Gone ↦ λ e. cc
-]
+      | Home c ↦ λ e. elim c.frame as (λ (o : Option Frame). is_some o ≡ true → (is_some o || (is_none o && not (is_empty x.mail.letters)) ≡ true)
+          × ((is_none o && c.dirty) || (((is_none o && (is_empty x.mail.letters && not (c.dirty || (c.fields.pinned || c.reported)))) && ((as_cell c).holdings.count == 0))
+          || (is_none o && (is_empty x.mail.letters && not (c.dirty || (c.fields.pinned || c.reported))))) ≡ false)) [
+            | None ↦ λ h. cc
+            | Some f ↦ λ h. (refl, refl)
+          ] e
+      | Away c ↦ λ e. cc
+      | Gone ↦ λ e. cc
+    ]
 
 -- a turn that goes on changes no index
 pub bits_stay : (old new : List Slot) (acting settling : List Bool) (a : ℕ) (x : Slot) → AreIndexed old acting settling → IsChangedAt a old new

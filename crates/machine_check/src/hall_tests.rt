@@ -5,7 +5,7 @@ ghost use Rattle.std.specs.Prelude.{◌≤◌};
 
 use crate::plain_tests::checked;
 use crate::programs::{SEVEN, TWO_PRINT};
-use crate::tests::{GO, HEAR, BLOCK, SCAN, TAKE, event};
+use crate::tests::{BLOCK, GO, HEAR, SCAN, TAKE, event};
 use behaviour_check::Checked;
 use book_hall::{Hall, Proposal};
 use event_rule::Event;

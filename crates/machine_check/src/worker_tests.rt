@@ -102,9 +102,18 @@ fn agree<R: AllocGlobal + Threads + Wait + Sync>(
 
 // Programs that end in one way, whatever the workers do, and their reports.
 const REPORTS: &[(&str, &str)] = &[
-    (PASSED, "9\n--\nend quiet\nactors made 3 left 1\nobjects made 1 left 0\n"),
-    (PEERS, "--\nend quiet\nactors made 3 left 1\nobjects made 0 left 0\n"),
-    (TWO_PRINT, "1\n1\n--\nend quiet\nactors made 3 left 0\nobjects made 0 left 0\n"),
+    (
+        PASSED,
+        "9\n--\nend quiet\nactors made 3 left 1\nobjects made 1 left 0\n",
+    ),
+    (
+        PEERS,
+        "--\nend quiet\nactors made 3 left 1\nobjects made 0 left 0\n",
+    ),
+    (
+        TWO_PRINT,
+        "1\n1\n--\nend quiet\nactors made 3 left 0\nobjects made 0 left 0\n",
+    ),
 ];
 
 #[test]

@@ -134,7 +134,7 @@ impl<'a> Orca<'a> {
     ) -> Result<Option<Vec<KeptReport>>, NoMemory>
         ensures { let known = self.now.state.detector in
             IfOk result (λ found. option_map (λ v. v.items) found
-                ≡ option_map (λ t. reports_of known.kept t.members) (token_numbered token known)) }
+            ≡ option_map (λ t. reports_of known.kept t.members) (token_numbered token known)) }
     {
         self.parts.detector.token_reports(alloc, token)
     }

@@ -8,7 +8,9 @@ use plain_list::Listed;
 #[derive(Debug, Drop)]
 pub enum Parting {
     /// An actor that left by itself.
-    Left { actor: ActorName },
+    Left {
+        actor: ActorName,
+    },
     /// The members of a token that were reaped together, by rising names, with what the detector had
     /// kept of each (MAC, OOPSLA 2013).
     Reaped {
