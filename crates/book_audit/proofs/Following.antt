@@ -1,5 +1,5 @@
 -- A book is followed by one entry more, or refused there.
-use Rattle.std.proofs.Common.{◌≡◌, ℕ, suc, ◌+◌, ◌≤◌, false, Bool, List, ◌∷◌, ◌++◌, [], Some, length, take, drop, inl, inr, refl, sym, ap, subst, ◌∙◌, arith, take-append-drop, drop-cons, add-one, length-take-le}
+use Rattle.std.proofs.Common.{◌≡◌, ℕ, suc, ◌+◌, false, Bool, List, ◌∷◌, ◌++◌, [], Some, take, drop, inl, inr, refl, sym, ap, subst, ◌∙◌, arith, take-append-drop, drop-cons, length-take-le}
 use Rattle.std.specs.List.{slice_get}
 use Rattle.std.proofs.lemmas.List.{take_more}
 use Rattle.std.proofs.lemmas.Option.{get_or_from_slice_get, slice_get_within}
