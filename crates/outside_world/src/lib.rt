@@ -7,16 +7,22 @@ mod gate;
 mod hold_gate;
 mod mem_sink;
 mod mem_source;
+mod reading;
 mod streams;
 mod sure;
+mod writing;
 
 pub use device::{Failed, Sink, Source};
 pub use gate::{Gate, OpenGate};
 pub use hold_gate::HoldGate;
 pub use mem_sink::MemSink;
 pub use mem_source::MemSource;
+pub use reading::{ReadErr, read_to_end};
 pub use streams::{ReadSource, StdSink, StdSource, WriteSink};
 pub use sure::{SureSink, SureSource};
+pub use writing::write_all;
 
 #[cfg(test)]
 mod tests;
+#[cfg(test)]
+mod whole_tests;

@@ -4,8 +4,8 @@
 ghost use Rattle.std.specs.Prelude.{◌≤◌, IfOk};
 
 use crate::{
-    Failed, Gate, HoldGate, MemSink, MemSource, OpenGate, ReadSource, Sink, Source, StdSink,
-    StdSource, SureSink, SureSource, WriteSink,
+    Failed, Gate, HoldGate, MemSink, MemSource, OpenGate, ReadErr, ReadSource, Sink, Source,
+    StdSink, StdSource, SureSink, SureSource, WriteSink,
 };
 use orca_names::ActorName;
 use std::io::{Read, Write};
@@ -150,8 +150,18 @@ fn an_actor_alone_at_a_gate_gives_up(rt: HostRuntime) {
 }
 
 #[test]
-fn a_failure_has_its_text(rt: HostRuntime) -> Result<(), Fail> {
-    let text = format!(in rt.alloc(); "{Failed}")?;
-    assert_eq!(rt; text.as_str(), "the device failed");
+fn failures_have_their_texts(rt: HostRuntime) -> Result<(), Fail> {
+    let alloc = rt.alloc();
+    let texts = [
+        (format!(in alloc; "{Failed}")?, "the device failed"),
+        (
+            format!(in alloc; "{}", ReadErr::Failed)?,
+            "the source failed",
+        ),
+        (format!(in alloc; "{}", ReadErr::NoMemory)?, "out of memory"),
+    ];
+    for (text, want) in &texts {
+        assert_eq!(rt; text.as_str(), *want);
+    }
     Ok(())
 }

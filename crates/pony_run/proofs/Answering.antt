@@ -12,9 +12,10 @@ use Rattle.word_line.specs.declared.order.Order.{Order}
 use Rattle.behaviour_code.specs.declared.code.Program.{Program}
 use Rattle.machine_rules.specs.State.{State}
 use Rattle.report_text.specs.Refusals.{HasRefusal}
+use Rattle.outside_world.specs.Pieces.{TakesPart}
 use Rattle.pony_run.specs.Headline.{Answers, Begins, EndsWith, EveryRun, IsCut, IsInput, IsReport, IsReportOf, MayRead, Reads, ReadsFor, Refuses, Writes}
 use Rattle.pony_run.specs.Inner.{GivesProgram, IsInputStop, IsReadStop, IsStop, IsTextStop, RunAnswers, StopsWith, WritesReport}
-use Rattle.pony_run.specs.Streams.{IsUntouched, Sides, TakesPart}
+use Rattle.pony_run.specs.Streams.{IsUntouched, Sides}
 
 -- ---- what was read
 

@@ -17,9 +17,10 @@ use Rattle.behaviour_text.specs.Text.{IsText}
 use Rattle.behaviour_text.proofs.Again.{again, no_fault_read}
 use Rattle.behaviour_check.specs.Rules.{fault_at, first_broken}
 use Rattle.behaviour_check.specs.declared.checked.CheckFault.{CheckFault}
+use Rattle.outside_world.specs.Pieces.{TakesAll}
 use Rattle.pony_run.specs.Causes.{Causes, ComesOnly, ComesWherever, IsGiven, IsUnlessMemory, OrderCauses, ReadsWell, Tells}
 use Rattle.pony_run.specs.Headline.{Answers, EndsWith, EveryRun, IsInput, IsProgramOf}
-use Rattle.pony_run.specs.Streams.{CountsFault, CountsNoFault, HasFailed, Sides, TakesAll, most_bytes}
+use Rattle.pony_run.specs.Streams.{CountsFault, CountsNoFault, HasFailed, Sides, most_bytes}
 use Rattle.pony_run.proofs.Seen.{HasEnded, HasRun, Seen, see}
 
 -- ---- what was read is what was given
@@ -28,13 +29,13 @@ use Rattle.pony_run.proofs.Seen.{HasEnded, HasRun, Seen, see}
 take-front : (n : ℕ) (taken rest : List ℕ) → length taken ≤ n → (length taken < n → rest ≡ []) → take n (taken ++ rest) ≡ taken
 take-front n taken rest bounded whole = grind (arith, common_steps)
 
-taken_is : (after : Option (List ℕ)) (all taken : List ℕ) → TakesAll (Some all) after taken → take most_bytes all ≡ taken
+taken_is : (after : Option (List ℕ)) (all taken : List ℕ) → TakesAll most_bytes (Some all) after taken → take most_bytes all ≡ taken
 taken_is None all taken h = absurd h.front
 taken_is (Some rest) all taken h = subst (λ (xs : List ℕ). take most_bytes xs ≡ taken) (sym h.front) (take-front most_bytes taken rest h.bounded h.whole)
 
-told_is : (source : Sides) (input read : List ℕ) → Tells source input → TakesAll source.before source.after read → read ≡ input
+told_is : (source : Sides) (input read : List ℕ) → Tells source input → TakesAll most_bytes source.before source.after read → read ≡ input
 told_is source input read given taken =
-    sym (given.taken ∙ taken_is source.after given.all read (subst (λ (b : Option (List ℕ)). TakesAll b source.after read) given.told taken))
+    sym (given.taken ∙ taken_is source.after given.all read (subst (λ (b : Option (List ℕ)). TakesAll most_bytes b source.after read) given.told taken))
 
 read_is : (job : Job) (source : Sides) (input read : List ℕ) → IsGiven job source input → IsInput job source read → read ≡ input
 read_is Run source input read given h = told_is source input read given h.1

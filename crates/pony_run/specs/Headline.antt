@@ -39,7 +39,8 @@ use Rattle.machine_rules.specs.State.{State, first_state}
 use Rattle.machine_laws.specs.Laws.{IsNeverTooEarly}
 use Rattle.orca_core.specs.Laws.{IsLeftExactly}
 use Rattle.count_ledger.specs.Tally.{IsTally}
-use Rattle.pony_run.specs.Streams.{CountsNoFault, GivesPart, HasFailed, IsUntouched, Sides, TakesAll, TakesPart, most_bytes}
+use Rattle.outside_world.specs.Pieces.{GivesPart, TakesAll, TakesPart}
+use Rattle.pony_run.specs.Streams.{CountsNoFault, HasFailed, IsUntouched, Sides, most_bytes}
 
 -- ---- what is read
 
@@ -60,7 +61,7 @@ MayRead (Some order) source = ReadsFor order.job source
 -- the input: for `run` all that the source had left, or the first of it where there is more than a text
 -- may have, and no read failed; for `load` the text of its program, and nothing was read
 abbrev pub IsInput : Job → Sides → List ℕ → Type 0
-IsInput Run source input = CountsNoFault source × TakesAll source.before source.after input
+IsInput Run source input = CountsNoFault source × TakesAll most_bytes source.before source.after input
 IsInput (Load count) source input = IsUntouched source × (input ≡ load_text count)
 
 -- the input is not too long, and the text of this program

@@ -1,7 +1,6 @@
 -- What a call takes from its source and gives to its sink.
-use Rattle.std.specs.Prelude.{◌≡◌, ℕ, ◌<◌, ◌≤◌, List, ◌++◌, length, take}
+use Rattle.std.specs.Prelude.{◌≡◌, ℕ, ◌<◌, List}
 use Rattle.std.specs.declared.option.Option.{Option}
-use Rattle.std.specs.Io.KnownBytes.{Appends, Consumes, IsAtEnd}
 use Rattle.outside_world.specs.Device.{Rose}
 
 -- one byte more than a text may have
@@ -38,27 +37,3 @@ CountsNoFault device = device.faults_after ≡ device.faults_before
 -- the device was not touched
 abbrev pub IsUntouched : Sides → Type 0
 IsUntouched device = (device.after ≡ device.before) × CountsNoFault device
-
--- the bytes are all that was left, or the first of them where there are more than a text may have
-pub record TakesAll (before after : Option (List ℕ)) (bytes : List ℕ) : Type 0 where
-  pub front : Consumes before after bytes
-  pub bounded : length bytes ≤ most_bytes
-  pub whole : length bytes < most_bytes → IsAtEnd after
-
--- some front of what was left was taken
-pub record TakesPart (before after : Option (List ℕ)) : Type 0 where
-  pub bytes : List ℕ
-  pub front : Consumes before after bytes
-
--- one turn of reading adds so many bytes
-pub record TakesMore (before after : Option (List ℕ)) (old new : List ℕ) (count : ℕ) : Type 0 where
-  pub bytes : List ℕ
-  pub front : Consumes before after bytes
-  pub added : new ≡ old ++ bytes
-  pub size : length bytes ≡ count
-
--- a front of the bytes was written, and not all of them
-pub record GivesPart (before after : Option (List ℕ)) (bytes : List ℕ) : Type 0 where
-  pub count : ℕ
-  pub short : count < length bytes
-  pub front : Appends before after (take count bytes)

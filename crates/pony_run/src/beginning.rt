@@ -8,15 +8,18 @@ ghost use Rattle.pony_run.specs.Headline.{IsInput};
 ghost use Rattle.pony_run.specs.Inner.{BreaksRule, GivesProgram, IsReadStop, IsRunnable, IsStop, IsTextStop};
 ghost use Rattle.pony_run.specs.Streams.{most_bytes, sides};
 
-use crate::reading::{MOST_BYTES, ReadErr, read_all};
 use behaviour_check::{Checked, check};
 use behaviour_code::Program;
 use behaviour_text::{TextErr, parse};
 use load_maker::program_of;
-use outside_world::Source;
+use orca_names::TEXT_LIMIT;
+use outside_world::{ReadErr, Source, read_to_end};
 use report_text::Status;
 use std::alloc::Global;
 use word_line::Job;
+
+/// One byte more than a text may have: where so many were given, the input is too long.
+const MOST_BYTES: usize = TEXT_LIMIT + 1;
 
 /// The input of a job: all that the source has left, or the text of the load program.
 ///
@@ -32,7 +35,7 @@ fn input_of<S: Source>(alloc: Global, job: Job, source: &mut S) -> Result<Vec<u8
         (sides S.left S.faults source.old source.new)) }
 {
     match job {
-        Job::Run => match read_all(alloc, source) {
+        Job::Run => match read_to_end(alloc, source, MOST_BYTES) {
             Ok(bytes) => Ok(bytes),
             Err(ReadErr::Failed) => Err(Status::ReadFault),
             Err(ReadErr::NoMemory) => Err(Status::NoMemory),

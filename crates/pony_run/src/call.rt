@@ -10,9 +10,8 @@ ghost use Rattle.pony_run.specs.Streams.{sides};
 
 use crate::beginning::begin;
 use crate::runs::{Outcome, run_by_one, run_checked};
-use crate::writing::write_all;
 use orca_names::Trace;
-use outside_world::{Gate, Sink, Source};
+use outside_world::{Gate, Sink, Source, write_all};
 use report_text::{Status, refusal_line};
 use run_book::Book;
 use std::alloc::Global;

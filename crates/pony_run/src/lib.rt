@@ -3,18 +3,14 @@
 
 mod beginning;
 mod call;
-mod reading;
 mod reporting;
 mod runs;
-mod writing;
 
 pub use call::{run_single, run_words};
 pub use report_text::Status;
 pub use runs::Outcome;
 pub use word_line::{Job, Order};
 
-#[cfg(test)]
-mod device_tests;
 #[cfg(test)]
 mod programs;
 #[cfg(test)]

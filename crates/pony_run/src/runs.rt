@@ -10,12 +10,11 @@ ghost use Rattle.pony_run.specs.Inner.{IsAnswerOf, IsUnderWay, RunAnswers, Write
 ghost use Rattle.pony_run.specs.Streams.{sides};
 
 use crate::reporting::report_of_run;
-use crate::writing::write_all;
 use behaviour_check::Checked;
 use book_hall::{Hall, HallPass, Naming, SharedHall};
 use orca_core::Orca;
 use orca_names::{NoMemory, Trace};
-use outside_world::{Gate, Sink};
+use outside_world::{Gate, Sink, write_all};
 use quiet_pass::{End, finish};
 use report_text::Status;
 use run_book::Book;

@@ -4,9 +4,8 @@
 ghost use Rattle.std.specs.Prelude.{◌≡◌, IfOk, false};
 
 use crate::programs::{MOST, SEVEN, TWO_PRINT, VALUES, WRAPS};
-use crate::reading::ReadErr;
 use crate::{Job, Order, Outcome, run_single, run_words};
-use orca_names::{ActorName, NoMemory, Trace};
+use orca_names::{ActorName, Trace};
 use outside_world::{HoldGate, MemSink, MemSource, OpenGate};
 use std::alloc::Global;
 use std::sync::Wait;
@@ -318,22 +317,5 @@ fn a_run_has_its_book(rt: HostRuntime) -> Result<(), Fail> {
         book.as_slice(),
         "book 2 256\ntake 0\ngo 0\ngo 0\n".as_bytes()
     );
-    Ok(())
-}
-
-#[test]
-fn errors_have_their_texts(rt: HostRuntime) -> Result<(), Fail> {
-    let alloc = rt.alloc();
-    let texts = [
-        (
-            format!(in alloc; "{}", ReadErr::Failed)?,
-            "the source failed",
-        ),
-        (format!(in alloc; "{}", ReadErr::NoMemory)?, "out of memory"),
-        (format!(in alloc; "{NoMemory}")?, "out of memory"),
-    ];
-    for (text, want) in &texts {
-        assert_eq!(rt; text.as_str(), *want);
-    }
     Ok(())
 }

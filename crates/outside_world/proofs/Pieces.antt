@@ -4,7 +4,7 @@ use Rattle.std.specs.declared.option.Option.{Option}
 use Rattle.std.specs.Io.KnownBytes.{Appends, Consumes}
 use Rattle.std.proofs.KnownBytes.{Appends-trans, Consumes-trans}
 use Rattle.std.proofs.Math.Seq.{take-add}
-use Rattle.pony_run.specs.Streams.{TakesPart}
+use Rattle.outside_world.specs.Pieces.{TakesPart}
 
 -- a part was taken after the bytes before it
 pub takes_after : (a b c : Option (List ℕ)) (bytes : List ℕ) → Consumes a b bytes → TakesPart b c → TakesPart a c
