@@ -24,8 +24,8 @@ use std::thread::Threads;
 use steal_pool::work;
 use work_board::TroubleBoard;
 
-/// How often each program is run by each number of workers.
-const RUNS: u32 = 20;
+/// How often each program is run by each number of workers: 200 times in all.
+const RUNS: u32 = 50;
 
 /// The book of a run by so many workers, and what it wrote.
 fn run<R: AllocGlobal + Threads + Wait + Sync>(
@@ -102,9 +102,18 @@ fn agree<R: AllocGlobal + Threads + Wait + Sync>(
 
 // Programs that end in one way, whatever the workers do, and their reports.
 const REPORTS: &[(&str, &str)] = &[
-    (PASSED, "9\n--\nend quiet\nactors made 3 left 1\nobjects made 1 left 0\n"),
-    (PEERS, "--\nend quiet\nactors made 3 left 1\nobjects made 0 left 0\n"),
-    (TWO_PRINT, "1\n1\n--\nend quiet\nactors made 3 left 0\nobjects made 0 left 0\n"),
+    (
+        PASSED,
+        "9\n--\nend quiet\nactors made 3 left 1\nobjects made 1 left 0\n",
+    ),
+    (
+        PEERS,
+        "--\nend quiet\nactors made 3 left 1\nobjects made 0 left 0\n",
+    ),
+    (
+        TWO_PRINT,
+        "1\n1\n--\nend quiet\nactors made 3 left 0\nobjects made 0 left 0\n",
+    ),
 ];
 
 #[test]
