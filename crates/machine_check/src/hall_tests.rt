@@ -5,7 +5,7 @@ ghost use Rattle.std.specs.Prelude.{◌≤◌};
 
 use crate::plain_tests::checked;
 use crate::programs::{SEVEN, TWO_PRINT};
-use crate::tests::{BLOCK, GO, HEAR, SCAN, TAKE, event};
+use crate::tests::{BLOCK, COLLECT, GO, HEAR, REAP, SCAN, TAKE, event};
 use behaviour_check::Checked;
 use book_hall::{Hall, Proposal};
 use event_rule::Event;
@@ -16,7 +16,7 @@ use work_board::{Committed, Look, Refuse};
 
 /// A call of the hall. Passes and actors are told by their numbers, events by their kind and number.
 #[derive(Clone, Copy)]
-enum Call {
+pub(crate) enum Call {
     Look,
     Stop,
     /// A claim, whose proposal is kept.
@@ -32,7 +32,7 @@ enum Call {
 
 /// What is wanted of it.
 #[derive(Clone, Copy)]
-enum Want {
+pub(crate) enum Want {
     Nothing,
     /// This actor has something to do.
     Tells(u32),
@@ -41,6 +41,10 @@ enum Want {
     Stop,
     /// A claim, for this event.
     Grants(u8, u32),
+    /// A claim for a segment of this actor, at this length of the book.
+    Lends(u32, u64),
+    /// A claim for another event.
+    LendsNone,
     /// An entry at this place, which wakes no actor.
     At(u64),
     /// An entry at this place, which wakes this actor.
@@ -59,10 +63,11 @@ use Want::{At, Budget, Busy, Gone, Grants, NotReady, Nothing, Tells, Unknown, Wa
 
 /// What the hall answers.
 #[derive(Clone, Copy, Debug, PartialEq, Eq)]
-enum Answer {
+pub(crate) enum Answer {
     Nothing,
     Told(Look),
     Granted(Event),
+    Lent(Option<(ActorName, u64)>),
     Entered(Committed),
     Refused(Refuse),
 }
@@ -72,7 +77,7 @@ fn entered(place: u64, woke: Option<ActorName>) -> Answer {
 }
 
 /// The answer that is wanted.
-fn answer_of(want: Want) -> Answer {
+pub(crate) fn answer_of(want: Want) -> Answer {
     match want {
         Want::Nothing => Answer::Nothing,
         Want::Tells(actor) => Answer::Told(Look::Actor(ActorName(actor))),
@@ -80,6 +85,8 @@ fn answer_of(want: Want) -> Answer {
         Want::Rest => Answer::Told(Look::Rest),
         Want::Stop => Answer::Told(Look::Stop),
         Want::Grants(kind, number) => Answer::Granted(event(kind, number)),
+        Want::Lends(actor, at) => Answer::Lent(Some((ActorName(actor), at))),
+        Want::LendsNone => Answer::Lent(None),
         Want::At(place) => entered(place, None),
         Want::Wakes(place, actor) => entered(place, Some(ActorName(actor))),
         Want::Unknown(made) => Answer::Refused(Refuse::Unknown { made }),
@@ -98,7 +105,7 @@ struct Bench<'a> {
 }
 
 /// What a commit or a direct entry answers.
-fn entry(answer: Result<Committed, Refuse>) -> Answer {
+pub(crate) fn entry(answer: Result<Committed, Refuse>) -> Answer {
     match answer {
         Ok(done) => Answer::Entered(done),
         Err(refuse) => Answer::Refused(refuse),
@@ -237,13 +244,31 @@ const STALE: &[(Call, Want)] = &[
 
 // Within a budget of one entry.
 const ONE_ENTRY: &[(Call, Want)] = &[
+    (Call::Claim(0, 5), Unknown(1)),
     (Call::Claim(0, 0), Grants(TAKE, 0)),
+    (Call::Claim(1, 0), Busy(0)),
     (Call::Commit(0), At(0)),
+    (Call::Claim(1, 0), Grants(GO, 0)),
+    (Call::Commit(1), Budget(1)),
     (Call::Look, Want::Stop),
-    (Call::Claim(0, 0), Grants(GO, 0)),
-    (Call::Commit(0), Budget(1)),
     (Call::Direct(GO, 0), Budget(1)),
     (Call::Direct(SCAN, 0), NotReady),
+];
+
+// A run event by event, to its end by a token.
+pub(crate) const BY_EVENTS: &[(Call, Want)] = &[
+    (Call::Direct(TAKE, 0), At(0)),
+    (Call::Direct(GO, 0), At(1)),
+    (Call::Direct(GO, 0), At(2)),
+    (Call::Direct(COLLECT, 0), At(3)),
+    (Call::Direct(BLOCK, 0), At(4)),
+    (Call::Direct(HEAR, 0), At(5)),
+    (Call::Direct(SCAN, 0), Wakes(6, 0)),
+    (Call::Direct(TAKE, 0), At(7)),
+    (Call::Direct(HEAR, 0), At(8)),
+    (Call::Direct(REAP, 1), At(9)),
+    (Call::Claim(0, 0), Gone),
+    (Call::Look, Want::Rest),
 ];
 
 #[test]
@@ -251,5 +276,6 @@ fn passes_answer_as_the_hall_says(rt: HostRuntime) -> Result<(), Fail> {
     assert!(rt; goes_so(rt.alloc(), TWO_PRINT, 100, TWO_PASSES, &[])?);
     assert!(rt; goes_so(rt.alloc(), SEVEN, 1, ONE_ENTRY, &[])?);
     assert!(rt; goes_so(rt.alloc(), SEVEN, 20, STALE, &[Value::Num(7)])?);
+    assert!(rt; goes_so(rt.alloc(), SEVEN, 20, BY_EVENTS, &[Value::Num(7)])?);
     Ok(())
 }

@@ -7,6 +7,8 @@ mod both_tests;
 #[cfg(test)]
 mod hall_tests;
 #[cfg(test)]
+mod pass_tests;
+#[cfg(test)]
 mod plain_tests;
 #[cfg(test)]
 mod programs;

@@ -14,7 +14,7 @@ pub(crate) const TAKE: u8 = 0;
 
 pub(crate) const GO: u8 = 1;
 
-const COLLECT: u8 = 2;
+pub(crate) const COLLECT: u8 = 2;
 
 const LEAVE: u8 = 3;
 
@@ -24,7 +24,7 @@ pub(crate) const HEAR: u8 = 5;
 
 pub(crate) const SCAN: u8 = 6;
 
-const REAP: u8 = 7;
+pub(crate) const REAP: u8 = 7;
 
 /// What is expected of an event.
 #[derive(Clone, Copy)]

@@ -24,8 +24,8 @@ use std::thread::Threads;
 use steal_pool::work;
 use work_board::TroubleBoard;
 
-/// How often each program is run by each number of workers.
-const RUNS: u32 = 20;
+/// How often each program is run by each number of workers: 200 times in all.
+const RUNS: u32 = 50;
 
 /// The book of a run by so many workers, and what it wrote.
 fn run<R: AllocGlobal + Threads + Wait + Sync>(
