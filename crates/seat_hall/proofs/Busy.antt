@@ -3,6 +3,7 @@ use Rattle.std.proofs.Common.{◌≡◌, ◌≢◌, ℕ, zero, suc, ◌<◌, ◌
 use Rattle.std.specs.Prelude.{if◌then◌else◌}
 use Rattle.orca_names.specs.declared.trace.Trace.TheVariants.{Deep}
 use Rattle.behaviour_code.specs.declared.code.Program.{Program}
+use Rattle.event_rule.specs.Events.{actor_of}
 use Rattle.event_rule.specs.Runs.{Goes, IsEnabled, IsFull, NotEnabled, Step}
 use Rattle.event_rule.specs.declared.event.Event.{Event}
 use Rattle.event_rule.specs.declared.event.Event.TheVariants.{Take, Go, Collect, Leave, Block, Reap}
@@ -218,3 +219,14 @@ none_reaped program weight book s heavy run a busy number t on is =
         let same : taken.token ≡ t = ap (token_or t) (sym taken.is_open ∙ is) in
         let done = taken.done a (ap (λ (z : Token). has z.members a) same ∙ is_member) in
         absurd (event_of s a busy (no_event s a done.still))
+
+-- so it stands apart from an event of others that happens
+pub stands_apart : (program : Program) (weight : ℕ) (book : List Event) (s t : State) (a : ℕ) (e : Event) → 0 < weight
+    → IsRun program (options_of weight Deep) book s → IsBusy s a → actor_of e ≢ Some a → next s e ≡ Goes t → IsApart s a e
+stands_apart program weight book s t a e heavy run busy others goes = record {
+  made = busy_made s a busy;
+  others = others;
+  spared = λ number token is there.
+      none_reaped program weight book s heavy run a busy number token
+      (λ off. let clash : NotEnabled ≡ Goes t = sym off ∙ (ap (next s) (sym is) ∙ goes) in cc) there;
+}

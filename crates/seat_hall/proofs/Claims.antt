@@ -1,10 +1,10 @@
 -- The claims that are out, as a list and by actor.
-use Rattle.std.proofs.Common.{◌≡◌, ◌≢◌, ℕ, zero, suc, ◌+◌, ◌<◌, ◌==◌, ◌&&◌, Bool, true, false, List, [], ◌∷◌, ◌++◌, length, Option, Some, None, refl, sym, ap, ◌∙◌, arith, set, get_or-set_other}
+use Rattle.std.proofs.Common.{◌≡◌, ◌≢◌, ℕ, zero, suc, ◌+◌, ◌<◌, ◌==◌, ◌&&◌, Bool, true, false, List, [], ◌∷◌, ◌++◌, length, Option, Some, None, refl, sym, ap, ◌∙◌, arith, set, get_or-set_other, is_some, ◌||◌}
 use Rattle.std.specs.Prelude.{find, option_map, if◌then◌else◌, nat_lt}
 use Rattle.std.proofs.lemmas.Bool.Decides.{nat_tests}
 use Rattle.event_rule.specs.Events.{actor_of}
 use Rattle.event_rule.specs.declared.event.Event.{Event}
-use Rattle.book_hall.specs.Claims.{holder, is_anothers}
+use Rattle.book_hall.specs.Claims.{holder, is_anothers, is_claimed}
 use Rattle.book_hall.specs.declared.claims.Claim.{Claim}
 use Rattle.seat_hall.specs.Log.{claim_in, grown, listed, released}
 
@@ -85,3 +85,56 @@ claim_released e claims b apart = by (actor_of e) refl
     by : (who : Option ℕ) → actor_of e ≡ who → claim_in (Rattle.std.specs.Option.option_map_or (λ a. set claims a None) who claims) b ≡ claim_in claims b
     by None is = refl
     by (Some a) is = claim_set claims a b None (λ same. apart (is ∙ ap Some (sym same)))
+
+-- where no claim on the event's actor is out, none is taken away
+pub released_free : (e : Event) (claims : List (Option ℕ)) → ((a : ℕ) → actor_of e ≡ Some a → claim_in claims a ≡ None)
+    → released e claims ≡ claims
+released_free e claims free = by (actor_of e) refl
+  where
+    set_free : (claims : List (Option ℕ)) (a : ℕ) → claim_in claims a ≡ None → set claims a None ≡ claims
+    set_free [] a is = refl
+    set_free (c ∷ claims) zero is = ap (λ d. d ∷ claims) (sym is)
+    set_free (c ∷ claims) (suc a) is = ap (λ xs. c ∷ xs) (set_free claims a is)
+
+    by : (who : Option ℕ) → actor_of e ≡ who
+        → Rattle.std.specs.Option.option_map_or (λ a. set claims a None) who claims ≡ claims
+    by None is = refl
+    by (Some a) is = set_free claims a (free a is)
+
+-- the last claim on an actor is as it was set
+pub claim_unset : (claims : List (Option ℕ)) (a : ℕ) → claim_in (set claims a None) a ≡ None
+claim_unset [] a = refl
+claim_unset (c ∷ claims) zero = refl
+claim_unset (c ∷ claims) (suc a) = claim_unset claims a
+
+pub unset_twice : (claims : List (Option ℕ)) (a : ℕ) → set (set claims a None) a None ≡ set claims a None
+unset_twice [] a = refl
+unset_twice (c ∷ claims) zero = refl
+unset_twice (c ∷ claims) (suc a) = ap (λ xs. c ∷ xs) (unset_twice claims a)
+
+-- ---- set aside
+
+claimed_before : (n m : ℕ) (claims : List (Option ℕ)) → m < n → is_claimed (listed n claims) m ≡ false
+claimed_before n m [] less = refl
+claimed_before n m (None ∷ claims) less = claimed_before (n + 1) m claims (omega arith)
+claimed_before n m (Some pass ∷ claims) less =
+    ap (λ b. b || is_claimed (listed (n + 1) claims) m) (differ n m (λ e. omega arith)) ∙ claimed_before (n + 1) m claims (omega arith)
+
+claimed_from : (n a : ℕ) (claims : List (Option ℕ)) → is_claimed (listed n claims) (n + a) ≡ is_some (claim_in claims a)
+claimed_from n a [] = refl
+claimed_from n zero (None ∷ claims) = claimed_before (n + 1) (n + 0) claims (omega arith)
+claimed_from n (suc a) (None ∷ claims) =
+    let e : n + suc a ≡ n + 1 + a = omega arith in
+    ap (is_claimed (listed (n + 1) claims)) e ∙ claimed_from (n + 1) a claims
+claimed_from n zero (Some pass ∷ claims) =
+    let e : n + 0 ≡ n = omega arith in
+    ap (is_claimed (listed n (Some pass ∷ claims))) e ∙ ap (λ b. b || is_claimed (listed (n + 1) claims) n) (same n)
+claimed_from n (suc a) (Some pass ∷ claims) =
+    let e : n + suc a ≡ n + 1 + a = omega arith in
+    ap (λ b. b || is_claimed (listed (n + 1) claims) (n + suc a)) (differ n (n + suc a) (λ e. omega arith))
+    ∙ (ap (is_claimed (listed (n + 1) claims)) e ∙ claimed_from (n + 1) a claims)
+
+-- whether a claim is out is told by its place
+pub claimed_is : (claims : List (Option ℕ)) (a : ℕ) → is_claimed (listed 0 claims) a ≡ is_some (claim_in claims a)
+claimed_is claims a =
+    let e : a ≡ 0 + a = omega arith in ap (is_claimed (listed 0 claims)) e ∙ claimed_from 0 a claims

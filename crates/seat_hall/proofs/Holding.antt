@@ -10,7 +10,6 @@ use Rattle.event_rule.specs.declared.event.Event.{Event}
 use Rattle.machine_rules.specs.Actors.{cell_at}
 use Rattle.machine_rules.specs.Next.{next}
 use Rattle.machine_rules.specs.State.{State, first_state}
-use Rattle.count_laws.specs.Apart.{IsApart}
 use Rattle.orca_core.specs.Machine.{options_of}
 use Rattle.orca_core.proofs.Reached.{leads_more}
 use Rattle.work_board.specs.declared.answers.Refuse.TheVariants as why
@@ -21,7 +20,7 @@ use Rattle.book_hall.proofs.Refusing.{or_none}
 use Rattle.seat_hall.specs.declared.item.Item.{Item}
 use Rattle.seat_hall.specs.declared.item.Item.TheVariants.{Claimed, Entered, Ended, Stopped, Made}
 use Rattle.seat_hall.specs.Log.{Legal, Logged, MayFollow, after, by, claim_in, hall_from, items_by, plain, state_in}
-use Rattle.seat_hall.proofs.Busy.{IsBusy, busy_made, busy_of, event_of, none_reaped, others_leave_busy}
+use Rattle.seat_hall.proofs.Busy.{busy_of, event_of, others_leave_busy, stands_apart}
 use Rattle.seat_hall.proofs.Claims.{claim_grown, claim_released, claim_set, holder_is, of_another}
 use Rattle.seat_hall.proofs.Runs.{IsRunOf, can_enter, run_one}
 
@@ -35,7 +34,7 @@ abbrev pub pass_or : ℕ → Option ℕ → ℕ
 pass_or d (Some pass) = pass
 pass_or d None = d
 
-not_busy : (l : Logged) (asker : Option ℕ) (a : ℕ) → busy_cause (plain l).claims asker a ≡ None
+pub not_busy : (l : Logged) (asker : Option ℕ) (a : ℕ) → busy_cause (plain l).claims asker a ≡ None
     → of_another asker (claim_in l.claims a) ≡ None
 not_busy l asker a none = sym (holder_is asker a l.claims) ∙ free (holder asker a (plain l).claims) none
   where
@@ -43,7 +42,7 @@ not_busy l asker a none = sym (holder_is asker a l.claims) ∙ free (holder aske
     free None none = refl
     free (Some p) none = absurd (cc)
 
-none_claimed : (c : Option ℕ) → of_another None c ≡ None → c ≡ None
+pub none_claimed : (c : Option ℕ) → of_another None c ≡ None → c ≡ None
 none_claimed None none = refl
 none_claimed (Some p) none = absurd (cc)
 
@@ -60,12 +59,13 @@ not_mine (Some p) asker pass apart none is =
 
 -- ---- whose actor an item is of
 
-about_claimed : (l : Logged) (pass q a b : ℕ) → claim_cause (plain l) b ≡ None → claim_in l.claims a ≡ Some pass → a ≢ b
-about_claimed l pass q a b none mine same =
-    let c = or_none (absent_cause (state_in l) b) _ none in
-    let d = or_none (busy_cause (plain l).claims None b) _ c.1 in
-    let free = none_claimed (claim_in l.claims b) (not_busy l None b d.0) in
-    let clash : None ≡ Some pass = sym free ∙ (ap (claim_in l.claims) (sym same) ∙ mine) in cc
+-- the actor that the item is about
+abbrev pub about : Item → Option ℕ
+about (Claimed pass actor) = Some actor
+about (Entered pass event) = actor_of event
+about (Ended pass actor) = Some actor
+about (Stopped pass) = None
+about (Made pass) = None
 
 about_entered : (l : Logged) (pass q a : ℕ) (e : Event) → q ≢ pass → entry_cause (plain l) (Some q) e ≡ None
     → claim_in l.claims a ≡ Some pass → actor_of e ≢ Some a
@@ -76,50 +76,57 @@ about_entered l pass q a e apart none mine is =
     let d = or_none (absent_cause (state_in l) a) _ cause in
     not_mine (claim_in l.claims a) q pass apart (not_busy l (Some q) a d.1) mine
 
--- ---- an entry of others
+-- a granted claim is on an actor that nobody has
+pub free_for : (l : Logged) (a : ℕ) → claim_cause (plain l) a ≡ None → claim_in l.claims a ≡ None
+free_for l a none =
+    let c = or_none (absent_cause (state_in l) a) _ none in
+    let d = or_none (busy_cause (plain l).claims None a) _ c.1 in
+    none_claimed (claim_in l.claims a) (not_busy l None a d.0)
 
-entry_apart : (l : Logged) (a : ℕ) (e : Event) (t : State) → 0 < l.weight → IsRunOf l → IsBusy (state_in l) a
-    → actor_of e ≢ Some a → next (state_in l) e ≡ Goes t → IsApart (state_in l) a e
-entry_apart l a e t heavy run busy others goes = record {
-  made = busy_made (state_in l) a busy;
-  others = others;
-  spared = λ number token is there.
-      none_reaped l.program l.weight l.book (state_in l) heavy run.0 a busy number token
-      (λ off. let clash : NotEnabled ≡ Goes t = sym off ∙ (ap (next (state_in l)) (sym is) ∙ goes) in cc) there;
-}
+-- an item of others is about no actor that this pass has
+pub not_about : (pass a : ℕ) (l : Logged) (i : Item) → by i ≢ pass → MayFollow l i → claim_in l.claims a ≡ Some pass → about i ≢ Some a
+not_about pass a l (Claimed q b) apart may mine same =
+    let free = free_for l b may.1 in
+    let clash : None ≡ Some pass = sym free ∙ (ap (λ o. claim_in l.claims (pass_or 0 o)) same ∙ mine) in cc
+not_about pass a l (Entered q e) apart may mine same = about_entered l pass q a e apart may.1 mine same
+not_about pass a l (Ended q b) apart may mine same =
+    apart (ap (pass_or 0) (sym may.1 ∙ (ap (λ o. claim_in l.claims (pass_or 0 o)) same ∙ mine)))
+not_about pass a l (Stopped q) apart may mine same = cc
+not_about pass a l (Made q) apart may mine same = cc
 
-keeps_entered : (pass q a : ℕ) (l : Logged) (e : Event) → q ≢ pass → 0 < l.weight → IsRunOf l
+-- ---- items about other actors
+
+keeps_entered : (pass q a : ℕ) (l : Logged) (e : Event) → actor_of e ≢ Some a → 0 < l.weight → IsRunOf l
     → entry_cause (plain l) (Some q) e ≡ None → claim_in l.claims a ≡ Some pass → event_at (state_in l) a ≢ None
     → Keeps pass a l (after l (Entered q e))
-keeps_entered pass q a l e apart heavy run none mine busy =
-    let others = about_entered l pass q a e apart none mine in
+keeps_entered pass q a l e others heavy run none mine busy =
     let can = can_enter l (Some q) e run.1 none in
     let start : State = first_state l.program (options_of l.weight Deep) in
     let more = leads_more l.book start (state_in l) can.after_it e run.0 can.goes in
     let there : can.after_it ≡ state_in (after l (Entered q e)) = leads_after (l.book ++ e ∷ []) start can.after_it more in
     let b = busy_of (state_in l) a busy in
-    let left = others_leave_busy (state_in l) can.after_it a e (entry_apart l a e can.after_it heavy run b others can.goes) can.goes b in record {
+    let apart = stands_apart l.program l.weight l.book (state_in l) can.after_it a e heavy run.0 b others can.goes in
+    let left = others_leave_busy (state_in l) can.after_it a e apart can.goes b in record {
       claimed = claim_grown _ _ a ∙ (claim_released e l.claims a others ∙ mine);
       cell = ap (λ (s : State). cell_at s.actors a) (sym there) ∙ left.0;
       busy = subst (λ (s : State). event_at s a ≢ None) there (event_of can.after_it a left.1);
     }
 
-pub keeps_item : (pass a : ℕ) (l : Logged) (i : Item) → by i ≢ pass → 0 < l.weight → IsRunOf l → MayFollow l i
+pub keeps_about : (pass a : ℕ) (l : Logged) (i : Item) → about i ≢ Some a → 0 < l.weight → IsRunOf l → MayFollow l i
     → claim_in l.claims a ≡ Some pass → event_at (state_in l) a ≢ None → Keeps pass a l (after l i)
-keeps_item pass a l (Claimed q b) apart heavy run may mine busy = record {
-  claimed = claim_set l.claims b a (Some q) (about_claimed l pass q a b may.1 mine) ∙ mine;
+keeps_about pass a l (Claimed q b) others heavy run may mine busy = record {
+  claimed = claim_set l.claims b a (Some q) (λ same. others (ap Some (sym same))) ∙ mine;
   cell = refl;
   busy = busy;
 }
-keeps_item pass a l (Entered q e) apart heavy run may mine busy = keeps_entered pass q a l e apart heavy run may.1 mine busy
-keeps_item pass a l (Ended q b) apart heavy run may mine busy = record {
-  claimed = claim_set l.claims b a None
-      (λ same. apart (ap (pass_or 0) (sym may.1 ∙ (ap (claim_in l.claims) (sym same) ∙ mine)))) ∙ mine;
+keeps_about pass a l (Entered q e) others heavy run may mine busy = keeps_entered pass q a l e others heavy run may.1 mine busy
+keeps_about pass a l (Ended q b) others heavy run may mine busy = record {
+  claimed = claim_set l.claims b a None (λ same. others (ap Some (sym same))) ∙ mine;
   cell = refl;
   busy = busy;
 }
-keeps_item pass a l (Stopped q) apart heavy run may mine busy = record { claimed = mine; cell = refl; busy = busy }
-keeps_item pass a l (Made q) apart heavy run may mine busy = record { claimed = mine; cell = refl; busy = busy }
+keeps_about pass a l (Stopped q) others heavy run may mine busy = record { claimed = mine; cell = refl; busy = busy }
+keeps_about pass a l (Made q) others heavy run may mine busy = record { claimed = mine; cell = refl; busy = busy }
 
 -- where a pass has no item, each is another's
 pub none_by : (pass : ℕ) (i : Item) (log : List Item) → items_by pass (i ∷ log) ≡ [] → (by i ≢ pass) × (items_by pass log ≡ [])
@@ -141,7 +148,7 @@ pub keeps_all : (pass a : ℕ) (l : Logged) (log : List Item) → 0 < l.weight �
 keeps_all pass a l [] heavy run legal none mine busy = record { claimed = mine; cell = refl; busy = busy }
 keeps_all pass a l (i ∷ log) heavy run legal none mine busy =
     let n = none_by pass i log none in
-    let one = keeps_item pass a l i n.0 heavy run legal.0 mine busy in
+    let one = keeps_about pass a l i (not_about pass a l i n.0 legal.0 mine) heavy run legal.0 mine busy in
     let rest = keeps_all pass a (after l i) log (heavy_one l i heavy) (run_one l i run legal.0) legal.1 n.1 one.claimed one.busy in
     record { claimed = rest.claimed; cell = rest.cell ∙ one.cell; busy = rest.busy }
   where

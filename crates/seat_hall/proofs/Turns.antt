@@ -1,21 +1,25 @@
 -- What a pass learns at its turn.
-use Rattle.std.proofs.Common.{◌≡◌, ◌<◌, ℕ, List, [], ◌∷◌, ◌++◌, ◌+◌, ◌==◌, true, sym, refl, ap, ◌∙◌, subst, arith, append-nil}
-use Rattle.std.specs.Prelude.{if◌then◌else◌}
+use Rattle.std.proofs.Common.{◌≡◌, ◌≢◌, ◌<◌, ℕ, List, [], ◌∷◌, ◌++◌, ◌+◌, ◌==◌, true, length, count_by, Some, sym, refl, ap, ◌∙◌, subst, arith, append-nil}
+use Rattle.std.specs.Prelude.{if◌then◌else◌, slice_get}
 use Rattle.std.proofs.lemmas.Bool.Decides.{nat_tests}
 use Rattle.std.proofs.lemmas.List.Elements.{filter-append}
 use Rattle.turn_log.specs.Knowing.{at_turn, having_written}
 use Rattle.turn_log.specs.Seats.{knows}
 use Rattle.turn_log.specs.Told.{Learns}
+use Rattle.event_rule.specs.declared.event.Event.{Event}
 use Rattle.actor_cell.specs.declared.cell.Cell.{Cell}
 use Rattle.seat_hall.specs.declared.item.Item.{Item}
-use Rattle.seat_hall.specs.Fair.{IsOwn, Shown, after_item, hall_of, start_of}
-use Rattle.seat_hall.specs.Halls.{HallView}
-use Rattle.seat_hall.specs.Log.{Legal, Logged, after, by, hall_from, items_by}
-use Rattle.seat_hall.specs.Passes.{Calls, HasCell, HasIn, IsAtHall, Token, hall, seen}
+use Rattle.seat_hall.specs.declared.item.Item.TheVariants.{Entered}
+use Rattle.seat_hall.specs.Fair.{Follows, IsOwn, Shown, after_item, hall_of, start_of}
+use Rattle.seat_hall.specs.Halls.{HallView, says}
+use Rattle.seat_hall.specs.Log.{Legal, Logged, MayFollow, after, by, hall_from, items_by}
+use Rattle.seat_hall.specs.Passes.{Calls, HasCell, HasIn, IsAtHall, KeepsCells, StandsAt, Token, hall, is_of, out, seen}
 use Rattle.seat_hall.proofs.Apart.{legal_first, none_between, weight_of}
 use Rattle.seat_hall.proofs.Keeps.{has_first, one_number, own_client, own_is}
-use Rattle.seat_hall.proofs.Holding.{keeps_all}
-use Rattle.seat_hall.proofs.Logs.{hall_append, legal_rest}
+use Rattle.seat_hall.proofs.Counts.{out_all}
+use Rattle.seat_hall.proofs.Entries.{get_last}
+use Rattle.seat_hall.proofs.Holding.{about, keeps_about, keeps_all}
+use Rattle.seat_hall.proofs.Logs.{HasTerms, hall_append, legal_rest, terms_stay}
 use Rattle.seat_hall.proofs.Runs.{IsRunOf, runs}
 
 pub at_hall : (pass : ℕ) (old new : Token) (h : HallView) → (knows old).client.numbers ≡ pass ∷ []
@@ -43,7 +47,7 @@ at_hall pass old new h number now learns =
 
 module _ (pass : ℕ) (old mid new : Token) (h : HallView) (at : IsAtHall pass old mid h) where
   -- its own items are those from before
-  own_still : items_by pass (seen mid) ≡ items_by pass (seen old)
+  pub own_still : items_by pass (seen mid) ≡ items_by pass (seen old)
   own_still =
       ap (items_by pass) at.whole.saw
       ∙ (filter-append (λ i. by i == pass) (seen old) at.whole.between
@@ -66,15 +70,88 @@ module _ (pass : ℕ) (old mid new : Token) (h : HallView) (at : IsAtHall pass o
   pub has_now : (a : ℕ) (c : Cell) → HasCell pass a c old → HasIn pass a c h.logged
   has_now a c has = subst (HasIn pass a c) (sym at.shows) (still_has a c has)
 
-  client_still : (knows mid).client ≡ (knows old).client
+  pub client_still : (knows mid).client ≡ (knows old).client
   client_still = ap (λ k. k.client) at.now
+
+  -- as many of its claims are out
+  pub out_now : count_by (is_of pass) h.logged.claims ≡ out pass old
+  out_now =
+      let start : Logged = start_of (knows old).client in
+      let rest : List Item = at.whole.between in
+      let legal : Legal start (seen old ++ rest) = subst (Legal start) at.whole.saw at.whole.legal in
+      ap (λ (l : Logged). count_by (is_of pass) l.claims)
+      (at.shows ∙ (ap (hall_from start) at.whole.saw ∙ hall_append start (seen old) rest))
+      ∙ out_all pass (hall old (seen old)) rest (legal_rest start (seen old) rest legal) at.whole.others
+
+  -- the hall is that of a run
+  run_now : IsRunOf h.logged
+  run_now = subst IsRunOf (sym at.shows)
+      (runs (start_of (knows old).client) (seen mid) (refl, omega arith) at.whole.legal)
+
+  heavy_now : 0 < h.logged.weight
+  heavy_now = subst (λ (w : ℕ). 0 < w)
+      (sym (ap (λ (l : Logged). l.weight) at.shows ∙ weight_of (knows old).client (seen mid))) at.heavy
+
+  -- and of the pass's run
+  terms_now : HasTerms (knows old).client.program (knows old).client.weight (knows old).client.budget h.logged
+  terms_now =
+      let v = (knows old).client in
+      subst (HasTerms v.program v.weight v.budget) (sym at.shows)
+      (terms_stay v.program v.weight v.budget (start_of v) (seen mid)
+      (record { program_is = refl; weight_is = refl; budget_is = refl }))
+
+  pub program_now : h.logged.program ≡ (knows old).client.program
+  program_now = terms_now.program_is
+
+  pub weight_now : h.logged.weight ≡ (knows old).client.weight
+  weight_now = terms_now.weight_is
+
+  -- what the pass reckons at its turn is the hall
+  pub reckons : h.logged ≡ hall_of (knows mid).client (knows mid).seen
+  reckons = at.shows ∙ ap (λ v. hall_of v (seen mid)) (sym client_still)
+
+  -- the hall that a call leaves may follow
+  pub follows : (i : Item) (g : HallView) → MayFollow h.logged i → g ≡ says (after h.logged i) i
+      → Follows pass g.last (knows mid) g
+  follows i g may is = subst (λ (g : HallView). Follows pass g.last (knows mid) g) (sym is) (record {
+    number = at.number;
+    last = refl;
+    may = subst (λ (l : Logged). MayFollow l i) reckons may;
+    logged = ap (λ (l : Logged). after l i) reckons;
+  })
+
+  -- where the call wrote nothing
+  module _ (same : knows new ≡ knows mid) where
+    pub turns_read : (knows new).turns ≡ (knows old).turns + 1
+    turns_read = ap (λ k. k.turns) same ∙ ap (λ k. k.turns) at.now
+
+    pub client_read : (knows new).client ≡ (knows old).client
+    client_read = ap (λ k. k.client) same ∙ client_still
+
+    hall_read : h.logged ≡ hall new (seen new)
+    hall_read = reckons ∙ (λ i. hall_of ((sym (ap (λ k. k.client) same)) i) ((sym (ap (λ k. k.seen) same)) i))
+
+    pub reads : (Q : Logged → Type 0) → Q h.logged → Calls pass old new [] Q
+    reads Q answer = record {
+      log = seen mid;
+      whole = at.whole;
+      now = ap (λ k. k.seen) same ∙ sym (append-nil (seen mid));
+      mine = ap (λ k. items_by pass k.seen) same ∙ (own_still ∙ sym (append-nil (items_by pass (seen old))));
+      answers = subst Q at.shows answer;
+    }
+
+    pub read_cells : KeepsCells pass old new
+    read_cells a c has = subst (HasIn pass a c) hall_read (has_now a c has)
+
+    pub read_out : out pass new ≡ out pass old
+    read_out = ap (λ (l : Logged). count_by (is_of pass) l.claims) (sym hall_read) ∙ out_now
 
   -- where the call wrote an item of its own
   module _ (i : Item) (own : IsOwn pass i) (wrote : knows new ≡ having_written after_item i (knows mid)) where
     seen_then : seen new ≡ seen mid ++ i ∷ []
     seen_then = ap (λ k. k.seen) wrote
 
-    client_then : (knows new).client ≡ (knows old).client
+    pub client_then : (knows new).client ≡ (knows old).client
     client_then = ap (λ k. k.client) wrote ∙ (own_client pass i (knows mid).client own ∙ client_still)
 
     pub turns_then : (knows new).turns ≡ (knows old).turns + 1
@@ -102,3 +179,20 @@ module _ (pass : ℕ) (old mid new : Token) (h : HallView) (at : IsAtHall pass o
 
     pub has_then : (a : ℕ) (c : Cell) → HasIn pass a c (after h.logged i) → HasCell pass a c new
     has_then a c has = subst (HasIn pass a c) hall_then has
+
+    -- what it has of other actors it keeps
+    pub wrote_cells : MayFollow h.logged i → (a : ℕ) (c : Cell) → about i ≢ Some a → HasCell pass a c old → HasCell pass a c new
+    wrote_cells may a c others has =
+        let now = has_now a c has in
+        let kept = keeps_about pass a h.logged i others heavy_now run_now may now.claimed now.busy in
+        has_then a c (record { claimed = kept.claimed; cell = kept.cell ∙ now.cell; busy = kept.busy })
+
+    pub wrote_out : (n : ℕ) → count_by (is_of pass) (after h.logged i).claims ≡ n → out pass new ≡ n
+    wrote_out n is = ap (λ (l : Logged). count_by (is_of pass) l.claims) (sym hall_then) ∙ is
+
+  -- an entry that the call made stands where it was told
+  pub wrote_stands : (e : Event) → knows new ≡ having_written after_item (Entered pass e) (knows mid) → (place : ℕ)
+      → place ≡ length h.logged.book → StandsAt new place e
+  wrote_stands e wrote place is =
+      ap (λ (l : Logged). slice_get l.book place) (sym (hall_then (Entered pass e) refl wrote))
+      ∙ (ap (slice_get (h.logged.book ++ e ∷ [])) is ∙ get_last h.logged.book e)

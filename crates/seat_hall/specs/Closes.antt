@@ -2,10 +2,12 @@
 use Rattle.std.specs.Prelude.{ℕ, ◌≡◌, ◌≢◌, ◌<◌, ◌≤◌, List, [], length, Some}
 use mathlib.Core.List.{IsPrefix}
 use Rattle.orca_names.specs.declared.trace.Trace.TheVariants.{Deep}
-use Rattle.event_rule.specs.declared.event.Event.{Event}
-use Rattle.machine_rules.specs.Run.{IsRun}
+use Rattle.run_book.specs.Books.{BookValue}
+use Rattle.orca_core.specs.Laws.{IsRunOf}
 use Rattle.orca_core.specs.Machine.{Machine, NoneIsAway, options_of}
 use Rattle.turn_log.specs.Seats.{knows}
+use Rattle.seat_hall.specs.declared.closing.Closing.{Closing}
+use Rattle.seat_hall.specs.declared.closing.Closing.TheVariants.{Whole, Turning, Lent}
 use Rattle.seat_hall.specs.declared.item.Item.{Item}
 use Rattle.seat_hall.specs.Fair.{start_of}
 use Rattle.seat_hall.specs.Log.{Legal, Logged, claim_in, listed, state_in}
@@ -19,21 +21,47 @@ pub record IsLastHall (t : Token) (l : Logged) : Type 0 where
   pub legal : Legal (start_of (knows t).client) log
   pub is : l ≡ hall t log
 
--- no claim is out; machine and book are those of this hall, each cell is at home, and the book is a
--- run of the program within the budget
-pub record IsWhole (t : Token) (orca : Machine) (book : List Event) : Type 0 where
+-- machine and book are those of this hall, each cell is at home, and the book is the machine's run,
+-- within the budget
+pub record AreParts (l : Logged) (orca : Machine) (book : BookValue) : Type 0 where
+  pub state : orca.state ≡ state_in l
+  pub run : IsRunOf orca book.entries
+  pub home : NoneIsAway orca
+  pub program : orca.state.program ≡ l.program
+  pub options : orca.state.options ≡ options_of l.weight Deep
+  pub entries : book.entries ≡ l.book
+  pub weight : book.weight ≡ l.weight
+  pub trace : book.trace ≡ Deep
+  pub within : length book.entries ≤ l.budget
+
+-- the last hall's parts, where no claim is out; it is of the pass's run
+pub record IsWhole (t : Token) (orca : Machine) (book : BookValue) : Type 0 where
   pub last : Logged
   pub last_is : IsLastHall t last
   pub none : listed 0 last.claims ≡ []
-  pub state : orca.state ≡ state_in last
-  pub home : NoneIsAway orca
-  pub book_is : book ≡ last.book
-  pub run : IsRun (knows t).client.program (options_of (knows t).client.weight Deep) book orca.state
-  pub within : length book ≤ (knows t).client.budget
+  pub parts : AreParts last orca book
+  pub program : last.program ≡ (knows t).client.program
+  pub weight : last.weight ≡ (knows t).client.weight
+  pub budget : last.budget ≡ (knows t).client.budget
 
 -- the pass `holder` has the lowest actor on which a claim is out
+pub record IsLowestClaim (holder actor : ℕ) (l : Logged) : Type 0 where
+  pub claimed : claim_in l.claims actor ≡ Some holder
+  pub lowest : (b pass : ℕ) → b < actor → claim_in l.claims b ≢ Some pass
+
 pub record IsLent (t : Token) (holder actor : ℕ) : Type 0 where
   pub last : Logged
   pub last_is : IsLastHall t last
-  pub claimed : claim_in last.claims actor ≡ Some holder
-  pub lowest : (b pass : ℕ) → b < actor → claim_in last.claims b ≢ Some pass
+  pub lowest : IsLowestClaim holder actor last
+
+-- what the last hall leaves, once nobody has the turn
+abbrev pub Leaves : Logged → Closing → Type 0
+Leaves l (Whole orca book) = (listed 0 l.claims ≡ []) × AreParts l orca book
+Leaves l (Turning ticket serving) = ⊥
+Leaves l (Lent holder actor) = IsLowestClaim holder actor l
+
+-- how the hall ends: whole; or, where the two words differ, with a turn out; or with a claim out
+abbrev pub Closes : Token → Closing → Type 0
+Closes t (Whole orca book) = IsWhole t orca book
+Closes t (Turning ticket serving) = ticket ≢ serving
+Closes t (Lent holder actor) = IsLent t holder actor

@@ -5,7 +5,7 @@ use Rattle.orca_names.specs.declared.trace.Trace.TheVariants.{Deep}
 use Rattle.behaviour_code.specs.declared.code.Program.{Program}
 use Rattle.machine_rules.specs.Run.{IsRun}
 use Rattle.machine_rules.specs.State.{State, first_state}
-use Rattle.run_book.specs.Books.{BookValue}
+use Rattle.run_book.specs.Books.{BookValue, IsWeight}
 use Rattle.orca_core.specs.Away.{is_out}
 use Rattle.orca_core.specs.Machine.{Machine, options_of}
 use Rattle.book_hall.specs.Causes.{event_at}
@@ -34,6 +34,7 @@ pub record IsKept (program : Program) (budget : ℕ) (orca : Machine) (book : Bo
       ≡ state_after (first_state program (options_of book.weight Deep)) book.entries
   pub run : IsRun program (options_of book.weight Deep) book.entries orca.state
   pub long : length book.entries ≡ orca.steps
+  pub weight : IsWeight book.weight
   pub deep : book.trace ≡ Deep
   pub within : length book.entries ≤ budget
   pub most : budget ≤ BOOK_LIMIT

@@ -15,6 +15,7 @@ use Rattle.book_hall.specs.Causes.{event_at}
 use Rattle.seat_hall.specs.declared.item.Item.{Item}
 use Rattle.seat_hall.specs.declared.item.Item.TheVariants.{Made}
 use Rattle.seat_hall.specs.declared.item.PassView.{PassView}
+use Rattle.seat_hall.specs.declared.task.SeatTask.{SeatTask}
 use Rattle.seat_hall.specs.Answers.{GivesNumber}
 use Rattle.seat_hall.specs.Fair.{hall_of, start_of}
 use Rattle.seat_hall.specs.Halls.{HallView}
@@ -82,6 +83,12 @@ pub record HasIn (pass a : ℕ) (c : Cell) (l : Logged) : Type 0 where
 -- as far as the pass has seen, it has the cell
 abbrev pub HasCell : ℕ → ℕ → Cell → Token → Type 0
 HasCell pass a c t = HasIn pass a c (hall t (seen t))
+
+-- the pass may commit the task: it has the task's cell, in this run
+pub record MayCommit (pass : ℕ) (t : Token) (task : SeatTask) : Type 0 where
+  pub has : HasCell pass task.taken.cell.heap.owner task.taken.cell t
+  pub program : task.taken.code.now ≡ (knows t).client.program
+  pub weight : task.taken.weight ≡ (knows t).client.weight
 
 -- it keeps its cells
 abbrev pub KeepsCells : ℕ → Token → Token → Type 0

@@ -1,37 +1,39 @@
 // The hall that lies under the turn.
 
-ghost use Rattle.std.specs.Prelude.{◌≡◌, ◌+◌, ◌<◌, ◌≤◌, [], ◌∷◌, None, IfOk};
-ghost use Rattle.orca_names.specs.declared.limits.TheConstants.{BOOK_LIMIT};
+ghost use Rattle.std.specs.Prelude.{◌≡◌, ◌≢◌, ℕ, ◌+◌, ◌<◌, ◌≤◌, [], ◌∷◌, false, length, None, Some, IfNone, IfOk, IfSome};
+ghost use Rattle.orca_names.specs.declared.limits.TheConstants.{ACTORS_LIMIT, BOOK_LIMIT};
 ghost use Rattle.run_book.specs.Books.{IsWeight};
 ghost use Rattle.seat_hall.specs.declared.item.Item.TheVariants.{Made, Stopped};
-ghost use Rattle.seat_hall.specs.Answers.{GivesNumber};
+ghost use Rattle.seat_hall.specs.Answers.{GivesNumber, Tells};
+ghost use Rattle.seat_hall.specs.Closes.{AreParts, IsLowestClaim};
 ghost use Rattle.seat_hall.specs.Halls.{says};
-ghost use Rattle.seat_hall.specs.Log.{after, begins, most_made};
+ghost use Rattle.seat_hall.specs.Log.{after, begins, claim_in, listed, most_made};
 
 use crate::item::Item;
 use behaviour_check::Checked;
-use orca_core::Orca;
-use orca_names::{NoMemory, Trace};
+use orca_core::{Orca, SetAside};
+use orca_names::{ActorName, NoMemory, Trace};
 use run_book::Book;
 use std::alloc::Global;
 use std::marker::Model;
+use work_board::Look;
 
 /// A run that several passes change in turns, seen by contracts as the hall of its log, with all its
 /// cells, and the item by which it came to be. The cells of claimed actors are out of it.
 #[derive(Drop)]
 pub struct Hall<'a> {
-    code: &'a Checked,
-    budget: u64,
-    orca: Orca<'a>,
-    book: Book,
+    pub(crate) code: &'a Checked,
+    pub(crate) budget: u64,
+    pub(crate) orca: Orca<'a>,
+    pub(crate) book: Book,
     /// For each actor that was made, the pass whose claim on it is out.
-    claims: Vec<Option<u32>>,
+    pub(crate) claims: Vec<Option<u32>>,
     /// How many claims are out.
-    lent: u64,
+    pub(crate) lent: u64,
     stopped: bool,
     /// How many passes were split off.
     made: u32,
-    last: Item,
+    pub(crate) last: Item,
 }
 
 impl<'a> Model for Hall<'a> {
@@ -53,6 +55,32 @@ impl<'a> Model for Hall<'a> {
     } };
 
     ghost invariant = { λ h. IsKept h.code.now h.budget h.orca h.book h.claims.items h.lent };
+}
+
+/// No actor is set aside: the cells of claimed ones are out.
+struct Nobody;
+
+impl SetAside for Nobody {
+    ghost is_aside = { λ _ _. false };
+
+    fn is_aside(&self, _a: ActorName) -> bool {
+        false
+    }
+}
+
+// The lowest actor on which a claim is out, and the pass that has it.
+fn lowest_in(claims: &[Option<u32>]) -> Option<(u32, ActorName)>
+    requires { length claims.now ≤ ACTORS_LIMIT }
+    ensures some { IfSome result (λ lent. (claim_in claims.now lent.1 ≡ Some lent.0)
+        × ((b pass : ℕ) → b < lent.1 → claim_in claims.now b ≢ Some pass)) }
+    ensures none { IfNone result (listed 0 claims.now ≡ []) }
+{
+    for (a, claim) in claims.iter().enumerate() {
+        if let Some(holder) = *claim {
+            return Some((holder, ActorName(a as u32)));
+        }
+    }
+    None
 }
 
 impl<'a> Hall<'a> {
@@ -110,5 +138,41 @@ impl<'a> Hall<'a> {
         self.made += 1;
         self.last = Item::Made { pass: self.made };
         self.made
+    }
+
+    /// What there is to do, as the plain hall tells it.
+    pub(crate) fn look(&self) -> Look
+        ensures { Tells result self.now.logged }
+    {
+        if self.stopped || self.book.len() == self.budget {
+            return Look::Stop;
+        }
+        if let Some(a) = self.orca.first_free(&Nobody) {
+            return Look::Actor(a);
+        }
+        if let Some(e) = self.orca.first_of_detector() {
+            return Look::Detector(e);
+        }
+        if self.lent == 0 {
+            Look::Rest
+        } else {
+            Look::Others
+        }
+    }
+
+    /// The lowest actor on which a claim is out, and the pass that has it.
+    pub(crate) fn lowest_claim(&self) -> Option<(u32, ActorName)>
+        ensures some { IfSome result (λ lent. IsLowestClaim lent.0 lent.1 self.now.logged) }
+        ensures none { IfNone result (listed 0 self.now.logged.claims ≡ []) }
+    {
+        lowest_in(&self.claims)
+    }
+
+    /// The machine, whose state is that of the book, and the book.
+    pub(crate) fn into_parts(self) -> (Orca<'a>, Book)
+        requires none { listed 0 self.logged.claims ≡ [] }
+        ensures whole { AreParts self.entry.logged result.0 result.1 }
+    {
+        (self.orca, self.book)
     }
 }

@@ -1,16 +1,22 @@
 // What passes do under their turns.
 
-ghost use Rattle.std.specs.Prelude.{◌≡◌, ◌++◌, ◌∷◌, [], Some, None, ⊤};
-ghost use Rattle.turn_log.specs.Seats.{Has, IsAtTurn, IsIdle, IsSame, knows};
-ghost use Rattle.turn_log.specs.Knowing.{having_written, longer};
+ghost use Rattle.std.specs.Prelude.{◌≡◌, ◌+◌, ◌∷◌, [], false, IfErr, IfOk, None, OnErr, OnOk, Some, ⊤};
+ghost use Rattle.turn_log.specs.Seats.{Has, IsAtTurn, IsSame, knows};
+ghost use Rattle.turn_log.specs.Knowing.{having_written};
+ghost use Rattle.seat_hall.specs.Answers.{Enters, Grants, RefusesClaim, RefusesEntry, Tells};
 ghost use Rattle.seat_hall.specs.Fair.{Follows, IsOwn, after_item};
 ghost use Rattle.seat_hall.specs.Halls.{HallView};
-ghost use Rattle.seat_hall.specs.Passes.{Calls, IsAtHall, IsIdlePass, IsPass, KeepsCells, Stays, out, seen};
-ghost use Rattle.seat_hall.specs.declared.item.Item.TheVariants.{Stopped};
+ghost use Rattle.seat_hall.specs.Passes.{Calls, IsAtHall, IsPass, KeepsCells, KeepsOthers, MayCommit, StandsAt, Stays, out};
+ghost use Rattle.seat_hall.specs.declared.item.Item.TheVariants.{Claimed, Ended, Entered, Stopped};
 
 use crate::hall::Hall;
-use crate::rule::{Absorbs, HallLog, PassSeat};
+use crate::rule::{HallLog, PassSeat};
+use crate::task::SeatTask;
+use event_rule::Event;
+use orca_names::ActorName;
+use std::alloc::Global;
 use std::sync::Wait;
+use work_board::{Committed, Look, Refuse};
 
 // Waits for the turn, and takes the hall.
 pub(crate) fn turn<'a, R: Wait>(
@@ -61,36 +67,140 @@ pub(crate) fn write_back<'a>(
     log.pass_on(seat);
 }
 
+/// What there is to do.
+pub(crate) fn look<'a, R: Wait>(
+    rt: &R,
+    log: &HallLog<'a>,
+    seat: &mut PassSeat<'a>,
+    number: u32,
+) -> Look
+    requires own { seat.old.table_id ≡ log.now }
+    requires pass { IsPass number seat.old }
+    ensures stays { Stays number 1 seat.old seat.new }
+    ensures cells { KeepsCells number seat.old seat.new }
+    ensures out { out number seat.new ≡ out number seat.old }
+    ensures call { Calls number seat.old seat.new [] (Tells result) }
+{
+    let hall = turn(rt, log, seat, number);
+    let answer = hall.look();
+    give_back(log, seat, number, hall);
+    answer
+}
+
+/// Claims the actor's first enabled event, and takes its cell out of the hall. It takes no memory.
+///
+/// # Errors
+/// As `Hall::claim`.
+pub(crate) fn claim<'a, R: Wait>(
+    rt: &R,
+    log: &HallLog<'a>,
+    seat: &mut PassSeat<'a>,
+    number: u32,
+    a: ActorName,
+) -> Result<SeatTask<'a>, Refuse>
+    requires own { seat.old.table_id ≡ log.now }
+    requires pass { IsPass number seat.old }
+    ensures stays { Stays number 1 seat.old seat.new }
+    ensures cells { KeepsCells number seat.old seat.new }
+    ensures one { OnOk result (out number seat.new ≡ out number seat.old + 1) }
+    ensures none { OnErr result (out number seat.new ≡ out number seat.old) }
+    ensures may { IfOk result (λ task. MayCommit number seat.new task) }
+    ensures fresh { IfOk result (λ task. task.tried ≡ false) }
+    ensures ok { IfOk result (λ task.
+        Calls number seat.old seat.new (Claimed number a ∷ []) (Grants a task.taken)) }
+    ensures refused { IfErr result (λ refuse. Calls number seat.old seat.new [] (RefusesClaim a refuse)) }
+{
+    let mut hall = turn(rt, log, seat, number);
+    match hall.claim(number, a) {
+        Ok(taken) => {
+            write_back(log, seat, number, hall);
+            Ok(SeatTask::of(taken))
+        }
+        Err(refuse) => {
+            give_back(log, seat, number, hall);
+            Err(refuse)
+        }
+    }
+}
+
+/// Puts the task's cell back, and makes its event an entry. Whatever it answers, the claim has ended;
+/// after a refusal the cell is as it was.
+///
+/// # Errors
+/// As `Hall::commit`.
+pub(crate) fn commit<'a, R: Wait>(
+    rt: &R,
+    alloc: Global,
+    log: &HallLog<'a>,
+    seat: &mut PassSeat<'a>,
+    number: u32,
+    task: SeatTask<'a>,
+) -> Result<Committed, Refuse>
+    requires own { seat.old.table_id ≡ log.now }
+    requires pass { IsPass number seat.old }
+    requires may { MayCommit number seat.old task }
+    ensures stays { Stays number 1 seat.old seat.new }
+    ensures cells { KeepsOthers number task.entry.taken.cell.heap.owner seat.old seat.new }
+    ensures out { out number seat.old ≡ out number seat.new + 1 }
+    ensures ok { let e = task.entry.taken.event in IfOk result (λ done.
+        Calls number seat.old seat.new (Entered number e ∷ []) (Enters (Some number) number e done)) }
+    ensures stands { IfOk result (λ done. StandsAt seat.new done.place task.entry.taken.event) }
+    ensures refused { let a = task.entry.taken.cell.heap.owner in IfErr result (λ refuse.
+        Calls number seat.old seat.new (Ended number a ∷ [])
+        (RefusesEntry (Some number) task.entry.taken.event refuse)) }
+{
+    let mut hall = turn(rt, log, seat, number);
+    let answer = hall.commit(alloc, number, task);
+    write_back(log, seat, number, hall);
+    answer
+}
+
+/// Makes an event an entry at once, without a claim.
+///
+/// # Errors
+/// As `Hall::enter`.
+pub(crate) fn direct<'a, R: Wait>(
+    rt: &R,
+    alloc: Global,
+    log: &HallLog<'a>,
+    seat: &mut PassSeat<'a>,
+    number: u32,
+    e: Event,
+) -> Result<Committed, Refuse>
+    requires own { seat.old.table_id ≡ log.now }
+    requires pass { IsPass number seat.old }
+    ensures stays { Stays number 1 seat.old seat.new }
+    ensures cells { KeepsCells number seat.old seat.new }
+    ensures out { out number seat.new ≡ out number seat.old }
+    ensures ok { IfOk result (λ done.
+        Calls number seat.old seat.new (Entered number e ∷ []) (Enters None number e done)) }
+    ensures stands { IfOk result (λ done. StandsAt seat.new done.place e) }
+    ensures refused { IfErr result (λ refuse.
+        Calls number seat.old seat.new [] (RefusesEntry None e refuse)) }
+{
+    let mut hall = turn(rt, log, seat, number);
+    match hall.enter(alloc, number, e, None) {
+        Ok(done) => {
+            write_back(log, seat, number, hall);
+            Ok(done)
+        }
+        Err(refuse) => {
+            give_back(log, seat, number, hall);
+            Err(refuse)
+        }
+    }
+}
+
 /// Asks all workers to stop.
 pub(crate) fn ask_stop<'a, R: Wait>(rt: &R, log: &HallLog<'a>, seat: &mut PassSeat<'a>, number: u32)
     requires own { seat.old.table_id ≡ log.now }
     requires pass { IsPass number seat.old }
     ensures stays { Stays number 1 seat.old seat.new }
     ensures cells { KeepsCells number seat.old seat.new }
+    ensures out { out number seat.new ≡ out number seat.old }
     ensures call { Calls number seat.old seat.new (Stopped number ∷ []) (λ _. ⊤) }
 {
     let mut hall = turn(rt, log, seat, number);
     hall.ask_stop(number);
     write_back(log, seat, number, hall);
-}
-
-/// Takes in a pass of the same hall that ends, and has no claim out. What this one saw and its cells
-/// stay; it has then heard of the longer log of both.
-pub(crate) fn join<'a>(
-    log: &HallLog<'a>,
-    seat: &mut PassSeat<'a>,
-    number: u32,
-    other: PassSeat<'a>,
-    others: u32,
-)
-    requires own { seat.old.table_id ≡ log.now }
-    requires pass { IsPass number seat.old }
-    requires idle { IsIdlePass log.now others other }
-    ensures stays { Stays number 0 seat.old seat.new }
-    ensures seen { seen seat.new ≡ seen seat.old }
-    ensures cells { KeepsCells number seat.old seat.new }
-    ensures out { out number seat.new ≡ out number seat.old }
-    ensures heard { (knows seat.new).heard ≡ longer (knows seat.old).heard (knows other.entry).heard }
-{
-    log.join::<Absorbs>(seat, other);
 }

@@ -1,0 +1,246 @@
+-- What a hall keeps, whatever is done with it.
+use Rattle.std.proofs.Common.{◌≡◌, ◌≢◌, ℕ, zero, suc, ◌+◌, ◌-◌, ◌<◌, ◌≤◌, ◌==◌, Bool, true, false, List, [], ◌∷◌, ◌++◌, length, Option, Some, None, refl, sym, ap, ◌∙◌, subst, arith, set, get_or, count_by, is_some, length-set, length-append, get_or-set_other, get_or-set_same}
+use Rattle.std.specs.Prelude.{if◌then◌else◌, nat_lt}
+use Rattle.std.specs.Option.{option_map_or}
+use Rattle.std.proofs.lemmas.Bool.Decides.{nat_tests}
+use mathlib.Core.Logic.{dite}
+use native.Mathlib.Decide.{ℕ_discrete}
+use Rattle.orca_names.specs.declared.limits.TheConstants.{ACTORS_LIMIT, BOOK_LIMIT}
+use Rattle.orca_names.specs.declared.trace.Trace.TheVariants.{Deep}
+use Rattle.behaviour_code.specs.declared.code.Program.{Program}
+use Rattle.event_rule.specs.Events.{actor_of}
+use Rattle.event_rule.specs.Runs.{Goes}
+use Rattle.event_rule.specs.declared.event.Event.{Event}
+use Rattle.event_rule.specs.declared.event.Event.TheVariants.{Take, Go, Collect, Leave, Block, Hear, Scan, Reap}
+use Rattle.letter_kinds.specs.Detector.{Token, has}
+use Rattle.machine_rules.specs.Actors.{cell_at, cell_of}
+use Rattle.machine_rules.specs.Cell.{Cell}
+use Rattle.machine_rules.specs.Detect.{acked_token}
+use Rattle.machine_rules.specs.Next.{next}
+use Rattle.machine_rules.specs.Options.{Options}
+use Rattle.machine_rules.specs.Run.{IsRun}
+use Rattle.machine_rules.specs.State.{State, first_state}
+use Rattle.machine_rules.proofs.Enabling.{enabled_exactly}
+use Rattle.machine_rules.proofs.Guards.{acked_open}
+use Rattle.run_book.specs.Books.{BookValue, IsWeight}
+use Rattle.count_laws.proofs.bounds.Bounding.{runs_make_few}
+use Rattle.cell_laws.proofs.Keeping.{runs_keep_program}
+use Rattle.orca_core.specs.Away.{KeepsAway, is_out, is_out_for}
+use Rattle.orca_core.specs.Laws.{IsRunOf}
+use Rattle.orca_core.specs.Machine.{IsSame, Machine, ReapsNoneAway, options_of}
+use Rattle.orca_core.proofs.Reached.{leads_more}
+use Rattle.work_board.specs.declared.answers.Refuse.TheVariants.{Budget}
+use Rattle.book_hall.specs.Causes.{event_at, spent_cause}
+use Rattle.book_hall.specs.Halls.{state_after}
+use Rattle.book_hall.proofs.Keeping.{leads_after}
+use Rattle.seat_hall.specs.Halls.{ClaimedAreBusy, IsKept}
+use Rattle.seat_hall.specs.Log.{claim_in, grown}
+use Rattle.seat_hall.proofs.Busy.{busy_made, busy_of, event_of, none_reaped, others_leave_busy, stands_apart}
+use Rattle.seat_hall.proofs.Claims.{claim_grown, claim_set, claim_unset}
+use Rattle.seat_hall.proofs.Counts.{claim_inside, counted_grown, counted_less, counted_more, none_out_listed, one_more_fits}
+use Rattle.seat_hall.proofs.Growing.{grows_by_one}
+
+-- what is set to the value of those that are not there is not there
+unset : (xs : List Bool) (a : ℕ) → get_or (set xs a false) a false ≡ false
+unset [] a = refl
+unset (x ∷ xs) zero = refl
+unset (x ∷ xs) (suc a) = unset xs a
+
+-- one place more, where there is one actor more
+long_grown : (n : ℕ) (claims : List (Option ℕ)) → length claims ≤ n → n ≤ length claims + 1 → length (grown n claims) ≡ n
+long_grown n claims low high = by (nat_lt (length claims) n) refl
+  where
+    by : (b : Bool) → nat_lt (length claims) n ≡ b → length (if b then claims ++ None ∷ [] else claims) ≡ n
+    by true is = let less : length claims < n = grind (arith, nat_tests) in let l = length-append claims (None ∷ []) in omega arith
+    by false is = let more : n ≤ length claims = grind (arith, nat_tests) in omega arith
+
+module _ (program : Program) (budget : ℕ) (m : Machine) (book : BookValue) (claims : List (Option ℕ)) (lent : ℕ)
+    (kept : IsKept program budget m book claims lent) where
+  -- ---- whose cells are away
+
+  pub free_is_home : (a : ℕ) → claim_in claims a ≡ None → is_out m.out a ≡ false
+  free_is_home a free = kept.away a ∙ ap is_some free
+
+  pub claimed_is_out : (a pass : ℕ) → claim_in claims a ≡ Some pass → is_out m.out a ≡ true
+  claimed_is_out a pass mine = kept.away a ∙ ap is_some mine
+
+  -- that of the actor of an event on which no claim is out is at home
+  pub event_is_home : (e : Event) → ((a : ℕ) → actor_of e ≡ Some a → claim_in claims a ≡ None) → is_out_for m.out e ≡ false
+  event_is_home e free = by (actor_of e) refl
+    where
+      by : (who : Option ℕ) → actor_of e ≡ who → option_map_or (is_out m.out) who false ≡ false
+      by None is = refl
+      by (Some a) is = free_is_home a (free a is)
+
+  -- ---- nothing reaps a claimed actor
+
+  heavy : 0 < book.weight
+  heavy = let w = kept.weight.0 in omega arith
+
+  spared : (number : ℕ) (t : Token) (a : ℕ) → acked_token number m.state.detector ≡ Some t → has t.members a ≡ true
+      → (c : Option ℕ) → claim_in claims a ≡ c → is_out m.out a ≡ false
+  spared number t a acked member None free = free_is_home a free
+  spared number t a acked member (Some p) mine =
+      let open_is = acked_open number m.state.detector t acked in
+      let none = none_reaped program book.weight book.entries m.state heavy kept.run a
+      (busy_of m.state a (kept.busy a p mine)) number t ((enabled_exactly m.state (Reap number)).1 (t, acked)) open_is.0 in
+      absurd (let clash : true ≡ false = sym member ∙ none in cc)
+
+  pub reaps_none_away : (e : Event) → ReapsNoneAway e m
+  reaps_none_away (Take a) = tt
+  reaps_none_away (Go a) = tt
+  reaps_none_away (Collect a) = tt
+  reaps_none_away (Leave a) = tt
+  reaps_none_away (Block a) = tt
+  reaps_none_away Hear = tt
+  reaps_none_away Scan = tt
+  reaps_none_away (Reap number) = λ t a acked member. spared number t a acked member (claim_in claims a) refl
+
+  -- ---- the run
+
+  pub few_claims : length claims ≤ ACTORS_LIMIT
+  few_claims =
+      let few = runs_make_few program (options_of book.weight Deep) book.entries m.state kept.run in
+      let s = kept.sized in omega arith
+
+  -- the machine has the program and the options of the run, and the book is its run
+  pub machine_run : (m.state.program ≡ program) × (m.state.options ≡ options_of book.weight Deep) × IsRunOf m book.entries
+  machine_run =
+      let same = runs_keep_program program (options_of book.weight Deep) book.entries m.state kept.run in (
+        same.same_program,
+        same.same_options,
+        record {
+          run = subst (λ (x : Program × Options). IsRun x.0 x.1 book.entries m.state)
+              (λ i. (sym same.same_program i, sym same.same_options i)) kept.run;
+          long = kept.long;
+        },
+      )
+
+  -- ---- a claim
+
+  pub busy_is_inside : (a : ℕ) → event_at m.state a ≢ None → a < length claims
+  busy_is_inside a busy = let b = busy_made m.state a (busy_of m.state a busy) in let s = kept.sized in omega arith
+
+  -- a claim more can be counted
+  pub one_more : (a : ℕ) → claim_in claims a ≡ None → event_at m.state a ≢ None → lent + 1 ≤ ACTORS_LIMIT
+  one_more a free busy =
+      let fits = one_more_fits claims a (busy_is_inside a busy) free in
+      let c = kept.counted in let f = few_claims in omega arith
+
+  -- its cell is there
+  pub busy_has_cell : (a : ℕ) → event_at m.state a ≢ None → (c : Cell) × (cell_at m.state.actors a ≡ Some c)
+  busy_has_cell a busy = let b = busy_of m.state a busy in (b.cell, ap cell_of b.present)
+
+  -- with a cell lent
+  pub kept_claimed : (n : Machine) (a pass : ℕ) → n.state ≡ m.state → n.steps ≡ m.steps → n.out ≡ set m.out a true
+      → is_out n.out a ≡ true → claim_in claims a ≡ None → event_at m.state a ≢ None
+      → IsKept program budget n book (set claims a (Some pass)) (lent + 1)
+  kept_claimed n a pass state steps out lent_is free busy = record {
+    state_is = state ∙ kept.state_is;
+    run = subst (IsRun program (options_of book.weight Deep) book.entries) (sym state) kept.run;
+    long = kept.long ∙ sym steps;
+    weight = kept.weight;
+    deep = kept.deep;
+    within = kept.within;
+    most = kept.most;
+    away = λ b. dite (ℕ_discrete b a)
+        (λ same. subst (λ (x : ℕ). is_out n.out x ≡ is_some (claim_in (set claims a (Some pass)) x)) (sym same)
+        (lent_is ∙ sym (ap is_some (get_or-set_same claims a (Some pass) None (busy_is_inside a busy)))))
+        (λ apart. ap (λ o. is_out o b) out ∙ (get_or-set_other m.out a b true false apart
+        ∙ (kept.away b ∙ sym (ap is_some (claim_set claims a b (Some pass) apart)))));
+    sized = length-set claims a (Some pass) ∙ (kept.sized ∙ ap (λ (s : State). length s.actors) (sym state));
+    counted = ap (λ (k : ℕ). k + 1) kept.counted
+        ∙ sym (counted_more is_some refl claims a (Some pass) (busy_is_inside a busy) free refl);
+    busy = subst (λ s. ClaimedAreBusy s (set claims a (Some pass))) (sym state) (λ b q mine. dite (ℕ_discrete b a)
+        (λ same. subst (λ (x : ℕ). event_at m.state x ≢ None) (sym same) busy)
+        (λ apart. kept.busy b q (sym (claim_set claims a b (Some pass) apart) ∙ mine)));
+  }
+
+  -- ---- its end
+
+  pub lent_some : (a pass : ℕ) → claim_in claims a ≡ Some pass → 1 ≤ lent
+  lent_some a pass mine =
+      let c = counted_less is_some refl claims a (Some pass) (claim_inside claims a pass mine) mine refl in
+      let k = kept.counted in omega arith
+
+  pub kept_ended : (n : Machine) (a pass : ℕ) → n.state ≡ m.state → n.steps ≡ m.steps → n.out ≡ set m.out a false
+      → claim_in claims a ≡ Some pass → IsKept program budget n book (set claims a None) (lent - 1)
+  kept_ended n a pass state steps out mine = record {
+    state_is = state ∙ kept.state_is;
+    run = subst (IsRun program (options_of book.weight Deep) book.entries) (sym state) kept.run;
+    long = kept.long ∙ sym steps;
+    weight = kept.weight;
+    deep = kept.deep;
+    within = kept.within;
+    most = kept.most;
+    away = λ b. dite (ℕ_discrete b a)
+        (λ same. subst (λ (x : ℕ). is_out n.out x ≡ is_some (claim_in (set claims a None) x)) (sym same)
+        (ap (λ o. is_out o a) out ∙ (unset m.out a ∙ sym (ap is_some (claim_unset claims a)))))
+        (λ apart. ap (λ o. is_out o b) out ∙ (get_or-set_other m.out a b false false apart
+        ∙ (kept.away b ∙ sym (ap is_some (claim_set claims a b None apart)))));
+    sized = length-set claims a None ∙ (kept.sized ∙ ap (λ (s : State). length s.actors) (sym state));
+    counted = let c = counted_less is_some refl claims a (Some pass) (claim_inside claims a pass mine) mine refl in
+        let k = kept.counted in omega arith;
+    busy = subst (λ s. ClaimedAreBusy s (set claims a None)) (sym state) (λ b q is. dite (ℕ_discrete b a)
+        (λ same. absurd (let clash : None ≡ Some q = sym (claim_unset claims a) ∙ (ap (claim_in (set claims a None)) (sym same) ∙ is) in cc))
+        (λ apart. kept.busy b q (sym (claim_set claims a b None apart) ∙ is)));
+  }
+
+  -- ---- an entry
+
+  module _ (n : Machine) (after : BookValue) (weight : after.weight ≡ book.weight) (trace : after.trace ≡ book.trace)
+      (away : KeepsAway m.out n.out) where
+    -- with an entry more
+    pub kept_entered : (e : Event) → ((a : ℕ) → actor_of e ≡ Some a → claim_in claims a ≡ None)
+        → spent_cause (length book.entries) budget ≡ None → next m.state e ≡ Goes n.state → n.steps ≡ m.steps + 1
+        → after.entries ≡ book.entries ++ e ∷ []
+        → IsKept program budget n after (grown (length n.state.actors) claims) lent
+    kept_entered e free room goes steps entry =
+        let start : State = first_state program (options_of book.weight Deep) in
+        let more = leads_more book.entries start m.state n.state e kept.run goes in
+        let run : IsRun program (options_of after.weight Deep) after.entries n.state =
+        subst (λ (x : ℕ × List Event). IsRun program (options_of x.0 Deep) x.1 n.state) (λ i. (sym weight i, sym entry i)) more in
+        let long : length after.entries ≡ length book.entries + 1 = ap length entry ∙ length-append book.entries (e ∷ []) in
+        let was = kept.long in let few = kept.within in
+        let below : length book.entries + 1 ≤ budget = grows (length book.entries == budget) refl room in
+        let one = grows_by_one m.state n.state e goes in let kept_all = one.kept in let one_more = one.one in let s = kept.sized in record {
+          state_is = leads_after after.entries _ n.state run;
+          run = run;
+          long = omega arith;
+          weight = subst IsWeight (sym weight) kept.weight;
+          deep = trace ∙ kept.deep;
+          within = omega arith;
+          most = kept.most;
+          away = λ a. away a ∙ (kept.away a ∙ sym (ap is_some (claim_grown (length n.state.actors) claims a)));
+          sized = long_grown (length n.state.actors) claims (omega arith) (omega arith);
+          counted = kept.counted ∙ sym (counted_grown is_some refl (length n.state.actors) claims);
+          busy = λ a p is.
+              let mine : claim_in claims a ≡ Some p = sym (claim_grown (length n.state.actors) claims a) ∙ is in
+              let b = busy_of m.state a (kept.busy a p mine) in
+              let others : actor_of e ≢ Some a = λ acts. let clash : None ≡ Some p = sym (free a acts) ∙ mine in cc in
+              let apart = stands_apart program book.weight book.entries m.state n.state a e heavy kept.run b others goes in
+              event_of n.state a (others_leave_busy m.state n.state a e apart goes b).1;
+        }
+      where
+        grows : (full : Bool) → (length book.entries == budget) ≡ full
+            → (if full then Some (Budget (length book.entries)) else None) ≡ None → length book.entries + 1 ≤ budget
+        grows true is none = absurd (cc)
+        grows false is none = let was = kept.within in grind (arith, nat_tests)
+
+    -- unchanged but for room
+    pub kept_same : IsSame m n → after.entries ≡ book.entries → IsKept program budget n after claims lent
+    kept_same same entries = record {
+      state_is = same.state ∙ (kept.state_is
+          ∙ (λ i. state_after (first_state program (options_of (sym weight i) Deep)) (sym entries i)));
+      run = subst (λ (x : ℕ × List Event × State). IsRun program (options_of x.0 Deep) x.1 x.2)
+          (λ i. (sym weight i, sym entries i, sym same.state i)) kept.run;
+      long = ap length entries ∙ (kept.long ∙ sym same.steps);
+      weight = subst IsWeight (sym weight) kept.weight;
+      deep = trace ∙ kept.deep;
+      within = subst (λ xs. length xs ≤ budget) (sym entries) kept.within;
+      most = kept.most;
+      away = λ a. away a ∙ kept.away a;
+      sized = kept.sized ∙ ap (λ (s : State). length s.actors) (sym same.state);
+      counted = kept.counted;
+      busy = subst (λ s. ClaimedAreBusy s claims) (sym same.state) kept.busy;
+    }

@@ -1,0 +1,49 @@
+use Rattle.std.proofs.Common.{◌≡◌, ◌≢◌, ◌≤◌, ◌+◌, ℕ, Bool, List, Option, None, Some, length, set, sym, ap, subst, ◌∙◌, arith}
+use Rattle.std.specs.Prelude.{if◌then◌else◌}
+use Rattle.orca_names.specs.declared.limits.TheConstants.{BOOK_LIMIT}
+use Rattle.behaviour_code.specs.WellFormed.{IsWellFormed}
+use Rattle.machine_rules.specs.Actors.{cell_at}
+use Rattle.actor_cell.specs.Cells.{as_cell}
+use Rattle.book_hall.specs.Causes.{event_at}
+use Rattle.book_hall.proofs.Copying.{run_can_find}
+use Rattle.book_hall.proofs.Firsts.{event_of_actor}
+use Rattle.seat_hall.specs.Halls.{HallView, IsKept}
+use Rattle.seat_hall.specs.Log.{claim_in, state_in}
+use Rattle.seat_hall.proofs.Kept.{free_is_home, kept_claimed}
+use Rattle.seat_hall.proofs.hall.Hall.lend.Goals as goal
+
+pub invariant_of-self : goal.invariant_of-self
+invariant_of-self c =
+    let s = c.self.inside in
+    let lent = c.in-Some.ensures in
+    let free : claim_in s.claims.items c.args.a ≡ None =
+    ap (λ (h : HallView). claim_in h.logged.claims c.args.a) c.self.view_is ∙ c.requires.free in
+    let event : event_at s.orca.state c.args.a ≡ Some c.args.event =
+    ap (λ m. event_at m c.args.a) (c.self.invariant.state_is ∙ ap (λ (h : HallView). state_in h.logged) c.self.view_is) ∙ c.requires.event in
+    let busy : event_at s.orca.state c.args.a ≢ None = λ none. (let clash : None ≡ Some c.args.event = sym none ∙ event in cc) in
+    subst (λ (a : ℕ). IsKept s.code.now s.budget c.lift.new.self s.book (set s.claims.items a (Some c.args.pass)) (s.lent + 1))
+    (sym c.a.view_is)
+    (kept_claimed s.code.now s.budget s.orca s.book s.claims.items s.lent c.self.invariant c.lift.new.self c.args.a c.args.pass
+    lent.state lent.steps lent.out lent.lent free busy)
+
+pub invariant_of-result : goal.invariant_of-result
+invariant_of-result c =
+    let s = c.self.inside in
+    let cell = c.in-Some.cell in
+    let kept = c.self.invariant in
+    let within = kept.within in
+    let most = kept.most in
+    let free : claim_in s.claims.items c.args.a ≡ None =
+    ap (λ (h : HallView). claim_in h.logged.claims c.args.a) c.self.view_is ∙ c.requires.free in
+    let home = free_is_home s.code.now s.budget s.orca s.book s.claims.items s.lent kept c.args.a free in
+    let there : cell_at s.orca.state.actors c.args.a ≡ Some (as_cell cell) =
+    sym (c.in-Some.ensures.cell ∙ ap (λ b. if b then None else cell_at s.orca.state.actors c.args.a) home) in
+    let good = subst IsWellFormed c.program-program.ensures.value c.program-program.ensures.kept.good in
+    let short : length s.book.entries ≤ BOOK_LIMIT = omega arith in
+    let can = run_can_find s.code.now s.book.weight s.book.entries s.orca.state good kept.weight short kept.run cell
+    (ap (cell_at s.orca.state.actors) c.in-Some.ensures.owner ∙ there) in record {
+      its = event_of_actor (state_in c.args.self.now.logged) c.args.a c.args.event c.requires.event
+          ∙ ap Some (sym c.in-Some.ensures.owner);
+      serials = can.serials;
+      others = can.others;
+    }

@@ -1,0 +1,101 @@
+// Claims, which take cells out of a hall, and their ends.
+
+ghost use Rattle.std.specs.Prelude.{◌≡◌, ◌<◌, length, IfErr, IfOk, None, OnErr, OnOk, Some};
+ghost use Rattle.book_hall.specs.Causes.{busy_cause, event_at};
+ghost use Rattle.seat_hall.specs.declared.item.Item.TheVariants.{Claimed, Ended};
+ghost use Rattle.seat_hall.specs.Answers.{Grants, IsTaken, RefusesClaim};
+ghost use Rattle.seat_hall.specs.Halls.{says};
+ghost use Rattle.seat_hall.specs.Log.{after, claim_in, plain, state_in};
+ghost use Rattle.seat_hall.specs.Passes.{HasIn};
+
+use crate::hall::Hall;
+use crate::item::Item;
+use crate::taken::Taken;
+use actor_cell::Cell;
+use book_hall::{absent, event_at};
+use event_rule::Event;
+use orca_names::ActorName;
+use work_board::Refuse;
+
+// The pass whose claim on the actor is out.
+fn claim_in(claims: &[Option<u32>], a: ActorName) -> Option<u32>
+    ensures { result ≡ claim_in claims.now a }
+{
+    *claims.get(a.0 as usize)?
+}
+
+impl<'a> Hall<'a> {
+    /// A claim on the actor is out.
+    pub(crate) fn busy(&self, a: ActorName) -> Option<Refuse>
+        ensures { result ≡ busy_cause (plain self.now.logged).claims None a }
+    {
+        match claim_in(&self.claims, a) {
+            Some(holder) => Some(Refuse::Busy { holder }),
+            None => None,
+        }
+    }
+
+    /// Claims the actor's first enabled event, in the order of going, taking a letter, collecting,
+    /// leaving and blocking: the actor's cell leaves the hall. It takes no memory.
+    ///
+    /// # Errors
+    /// `Unknown` exactly where the actor was not made; else `Gone` exactly where it is not present any
+    /// more; else `Busy` exactly where a claim on it is out, the pass's own included; else `NotReady`
+    /// exactly where it has no enabled event.
+    pub(crate) fn claim(&mut self, pass: u32, a: ActorName) -> Result<Taken<'a>, Refuse>
+        ensures ok { IfOk result (λ taken. Grants a taken self.old.logged) }
+        ensures claimed { OnOk result
+            (self.new ≡ says (after self.old.logged (Claimed pass a)) (Claimed pass a)) }
+        ensures within { OnOk result (a < length self.old.logged.claims) }
+        ensures refused { IfErr result (λ refuse. RefusesClaim a refuse self.old.logged) }
+        ensures same { OnErr result (self.new ≡ self.old) }
+    {
+        if let Some(refuse) = absent(&self.orca, a) {
+            return Err(refuse);
+        }
+        if let Some(refuse) = self.busy(a) {
+            return Err(refuse);
+        }
+        let Some(event) = event_at(&self.orca, a) else {
+            return Err(Refuse::NotReady);
+        };
+        Ok(self.lend(pass, a, event))
+    }
+
+    // Lends the cell of an actor that has this event, and on which no claim is out.
+    fn lend(&mut self, pass: u32, a: ActorName, event: Event) -> Taken<'a>
+        requires free { claim_in self.old.logged.claims a ≡ None }
+        requires event { event_at (state_in self.old.logged) a ≡ Some event }
+        ensures taken { IsTaken a result self.old.logged }
+        ensures within { a < length self.old.logged.claims }
+        ensures claimed { self.new ≡ says (after self.old.logged (Claimed pass a)) (Claimed pass a) }
+    {
+        // The program was checked.
+        let _program = self.code.program();
+        let Some(cell) = self.orca.lift(a) else {
+            unreachable!()
+        };
+        self.claims[a.0 as usize] = Some(pass);
+        self.lent += 1;
+        self.last = Item::Claimed { pass, actor: a };
+        Taken {
+            code: self.code,
+            weight: self.book.weight(),
+            event,
+            cell,
+            at: self.book.len(),
+        }
+    }
+
+    /// Puts the pass's cell back as it was, and ends the claim. It takes no memory.
+    pub(crate) fn put_back(&mut self, pass: u32, cell: Cell)
+        requires has { HasIn pass cell.heap.owner cell self.old.logged }
+        ensures { let i = Ended pass cell.heap.owner in self.new ≡ says (after self.old.logged i) i }
+    {
+        let a = cell.heap.owner();
+        self.orca.put_back(a, cell);
+        self.claims[a.0 as usize] = None;
+        self.lent -= 1;
+        self.last = Item::Ended { pass, actor: a };
+    }
+}

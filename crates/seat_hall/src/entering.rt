@@ -1,0 +1,143 @@
+// Events become entries of a hall's book.
+
+ghost use Rattle.std.specs.Prelude.{◌≡◌, ◌<◌, false, IfErr, IfOk, None, OnErr, OnOk, Some, length, vec_capacity, vec_len};
+ghost use Rattle.std.specs.Option.{ForSome, option_or};
+ghost use Rattle.orca_names.specs.declared.trace.Trace.TheVariants.{Deep};
+ghost use Rattle.machine_rules.specs.Next.{next};
+ghost use Rattle.actor_cell.specs.Founds.{IsFound};
+ghost use Rattle.orca_core.specs.Away.{is_out_for};
+ghost use Rattle.orca_core.specs.Founds.{IsFoundIn};
+ghost use Rattle.book_hall.specs.Causes.{actor_cause, spent_cause, unready_cause};
+ghost use Rattle.seat_hall.specs.declared.item.Item.TheVariants.{Ended, Entered};
+ghost use Rattle.seat_hall.specs.Answers.{Enters, IsFoundOf, RefusesEntry};
+ghost use Rattle.seat_hall.specs.Halls.{says};
+ghost use Rattle.seat_hall.specs.Log.{after, grown, plain, state_in};
+ghost use Rattle.seat_hall.specs.Passes.{HasIn};
+
+use crate::hall::Hall;
+use crate::item::Item;
+use crate::task::SeatTask;
+use actor_cell::Found;
+use book_hall::{absent, actor_of, enter, spent, unready};
+use event_rule::Event;
+use orca_core::Orca;
+use std::alloc::Global;
+use work_board::{Committed, Refuse};
+
+// A place for claims on the actor that was made, if one was.
+fn grow(claims: &mut Vec<Option<u32>>, made: u64)
+    requires { vec_len claims.old < vec_capacity claims.old }
+    ensures { claims.new.items ≡ grown made claims.old.items }
+{
+    if (claims.len() as u64) < made {
+        let Ok(()) = claims.push(None) else {
+            unreachable!()
+        };
+    }
+}
+
+// What was found is of the cell that is at home: the machine may do it.
+fn may_install(orca: &Orca<'_>, e: &Event, found: &Option<Found>)
+    requires home { is_out_for orca.now.out e.now ≡ false }
+    requires deep { orca.now.state.options.trace ≡ Deep }
+    requires found { let s = orca.now.state in
+        ForSome found.now (IsFoundOf s.options.weight s.program s.actors e.now) }
+    ensures { ForSome found.now (λ known. IsFoundIn e.now known orca.now) }
+{
+    if let Some(a) = actor_of(e) {
+        let _cell = orca.cell(a);
+    }
+}
+
+impl<'a> Hall<'a> {
+    // The event's actor, if it has one, is not there, or a claim on it is out.
+    fn actor_refuses(&self, e: &Event) -> Option<Refuse>
+        ensures { let l = self.now.logged in
+            result ≡ actor_cause (state_in l) (plain l).claims None e.now }
+    {
+        let a = actor_of(e)?;
+        match absent(&self.orca, a) {
+            Some(refuse) => Some(refuse),
+            None => self.busy(a),
+        }
+    }
+
+    // Why the event does not become an entry, before it is tried.
+    fn early_refusal(&self, e: &Event) -> Option<Refuse>
+        ensures { let l = self.now.logged in
+            result ≡ option_or (actor_cause (state_in l) (plain l).claims None e.now)
+            (option_or (unready_cause (next (state_in l) e.now)) (spent_cause (length l.book) l.budget)) }
+    {
+        if let Some(refuse) = self.actor_refuses(e) {
+            return Some(refuse);
+        }
+        match unready(&self.orca, *e) {
+            Some(refuse) => Some(refuse),
+            None => spent(self.book.len(), self.budget),
+        }
+    }
+
+    /// Makes the event an entry of the pass, unless a claim on its actor is out. What was found of the
+    /// actor's cell is not evaluated again.
+    ///
+    /// # Errors
+    /// Of an actor's event `Unknown` exactly where the actor was not made; else `Gone` exactly where it
+    /// is not present any more; else `Busy` exactly where a claim on it is out. Then `NotReady` exactly
+    /// where the event is not enabled; else `Budget` exactly where the book is as long as the budget;
+    /// else `Full` exactly where the event's actor would make one actor too many. `NoMemory` where
+    /// memory was refused. All stays as it was then.
+    pub(crate) fn enter(
+        &mut self,
+        alloc: Global,
+        pass: u32,
+        e: Event,
+        found: Option<Found>,
+    ) -> Result<Committed, Refuse>
+        requires found { let l = self.old.logged in
+            ForSome found (IsFoundOf l.weight l.program (state_in l).actors e) }
+        ensures ok { IfOk result (λ done. Enters None pass e done self.old.logged) }
+        ensures entered { OnOk result
+            (self.new ≡ says (after self.old.logged (Entered pass e)) (Entered pass e)) }
+        ensures refused { IfErr result (λ refuse. RefusesEntry None e refuse self.old.logged) }
+        ensures same { OnErr result (self.new ≡ self.old) }
+    {
+        if let Some(refuse) = self.early_refusal(&e) {
+            return Err(refuse);
+        }
+        if self.claims.reserve(1).is_err() {
+            return Err(Refuse::NoMemory);
+        }
+        may_install(&self.orca, &e, &found);
+        let done = enter(alloc, &mut self.orca, &mut self.book, &e, found)?;
+        grow(&mut self.claims, self.orca.made());
+        self.last = Item::Entered { pass, event: e };
+        Ok(done)
+    }
+
+    /// Puts the task's cell back, and makes its event an entry of the pass. Whatever it answers, the
+    /// claim has ended.
+    ///
+    /// # Errors
+    /// As `enter`, but for `Busy`, which comes exactly where another pass has a claim on the actor.
+    pub(crate) fn commit(
+        &mut self,
+        alloc: Global,
+        pass: u32,
+        task: SeatTask<'a>,
+    ) -> Result<Committed, Refuse>
+        requires has { HasIn pass task.taken.cell.heap.owner task.taken.cell self.old.logged }
+        requires program { task.taken.code.now ≡ self.old.logged.program }
+        requires weight { task.taken.weight ≡ self.old.logged.weight }
+        ensures ok { IfOk result (λ done. Enters (Some pass) pass task.entry.taken.event done self.old.logged) }
+        ensures entered { let i = Entered pass task.entry.taken.event in
+            OnOk result (self.new ≡ says (after self.old.logged i) i) }
+        ensures refused { IfErr result
+            (λ refuse. RefusesEntry (Some pass) task.entry.taken.event refuse self.old.logged) }
+        ensures ended { let i = Ended pass task.entry.taken.cell.heap.owner in
+            OnErr result (self.new ≡ says (after self.old.logged i) i) }
+    {
+        let e = task.taken.event;
+        self.put_back(pass, task.taken.cell);
+        self.enter(alloc, pass, e, task.found)
+    }
+}
