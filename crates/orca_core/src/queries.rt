@@ -1,7 +1,9 @@
 // What the machine tells of itself.
 
-ghost use Rattle.std.specs.Prelude.{◌≡◌, ◌↔◌, true, is_some, option_map, IfSome, MatchOption};
+ghost use Rattle.std.specs.Prelude.{◌≡◌, ◌↔◌, true, is_some, option_map, IfOk, IfSome, MatchOption};
 ghost use Rattle.std.specs.Option.{option_copied};
+ghost use Rattle.cycle_detect.specs.Kept.{reports_of};
+ghost use Rattle.letter_kinds.specs.Detector.{token_numbered};
 ghost use Rattle.event_rule.specs.Runs.{IsEnabled, IsFirst, IsQuiet};
 ghost use Rattle.machine_rules.specs.Actors.{seat_at};
 ghost use Rattle.machine_rules.specs.Next.{next};
@@ -17,7 +19,8 @@ use actor_cell::Cell;
 use actor_table::ActorTable;
 use event_rule::Event;
 use mail_rows::MailRow;
-use orca_names::ActorName;
+use orca_names::{ActorName, KeptReport, NoMemory};
+use std::alloc::Global;
 
 // Whether the cell of the actor is at home, and has a frame.
 fn may_go(table: &ActorTable, a: ActorName) -> bool
@@ -117,5 +120,22 @@ impl<'a> Orca<'a> {
         ensures { option_map (λ m. m.now.letters) result ≡ mail_here self.now a }
     {
         self.parts.table.mail(a)
+    }
+
+    /// The kept reports of the members of an open token, in the order of the members; `None` exactly
+    /// where it is not open.
+    ///
+    /// # Errors
+    /// `NoMemory` where memory was refused.
+    pub fn token_reports(
+        &self,
+        alloc: Global,
+        token: u64,
+    ) -> Result<Option<Vec<KeptReport>>, NoMemory>
+        ensures { let known = self.now.state.detector in
+            IfOk result (λ found. option_map (λ v. v.items) found
+                ≡ option_map (λ t. reports_of known.kept t.members) (token_numbered token known)) }
+    {
+        self.parts.detector.token_reports(alloc, token)
     }
 }
