@@ -1,0 +1,4 @@
+pub mod Finding
+pub mod Levels
+pub mod Reached
+pub mod Walking
