@@ -1,4 +1,9 @@
+pub mod Ending
 pub mod Finding
+pub mod Holding
 pub mod Levels
+pub mod Lives
+pub mod Naming
 pub mod Reached
+pub mod Runs
 pub mod Walking

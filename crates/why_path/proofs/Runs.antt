@@ -1,10 +1,11 @@
 -- What holds of reasons after a run.
-use Rattle.std.proofs.Common.{◌≡◌, ◌↔◌, ◌<◌, ℕ, false, true, Bool, List, Option, Some, None, Contains, refl, sym, ap, subst, ◌∙◌}
+use Rattle.std.proofs.Common.{◌≡◌, ◌↔◌, ◌<◌, ℕ, false, true, Bool, List, Option, Some, None, Contains, get_or, refl, sym, ap, subst, ◌∙◌}
 use Rattle.std.specs.Prelude.{All}
 use Rattle.std.proofs.lemmas.List.Elements.{Contains-get_or}
 use Rattle.orca_names.specs.declared.names.Thing.{Thing}
 use Rattle.orca_names.specs.declared.reason.Reason.{Reason}
 use Rattle.orca_names.specs.declared.trace.Trace.{Trace}
+use Rattle.orca_names.specs.declared.trace.Trace.TheVariants.{Deep}
 use Rattle.behaviour_code.specs.declared.code.Program.{Program}
 use Rattle.event_rule.specs.declared.event.Event.{Event}
 use Rattle.reach_walk.specs.Reach.{thing_row}
@@ -17,8 +18,8 @@ use Rattle.plain_rules.specs.Reach.{IsReachable}
 use Rattle.count_laws.specs.Agreement.{people_of}
 use Rattle.count_laws.proofs.agreement.Reachable.{lives_reachable, reachable_lives}
 use Rattle.machine_laws.specs.AllFacts.{AllFacts}
-use Rattle.machine_laws.specs.Laws.{ExactlyAtQuiet}
-use Rattle.machine_laws.proofs.WholeRuns.{reachable_left, run_has_facts}
+use Rattle.machine_laws.proofs.AtQuiet.{quiet_exact}
+use Rattle.machine_laws.proofs.WholeRuns.{reachable_left, run_has_deep, run_has_facts}
 use Rattle.why_path.specs.Checks.{HoldsUp, is_loose, line_of}
 use Rattle.why_path.specs.Laws.{IsKeptIn, KeptAreReachable, NoneLooseAtQuiet, ReasonsHoldUp}
 use Rattle.why_path.specs.Reasons.{AreReasons, IsLedTo}
@@ -63,3 +64,15 @@ are_reachable program options heavy book t run =
 pub hold_up : ReasonsHoldUp
 hold_up program options heavy book t run reasons are =
     reasons_hold t.actors reasons are (run_led_left program options heavy book t run)
+
+pub none_loose : NoneLooseAtQuiet
+none_loose program options heavy deep book t run quiet reasons holds k d l =
+    let facts = run_has_deep program options heavy deep book t run in
+    let r = get_or reasons k d in
+    let c = Contains-get_or reasons k d l in
+    let left = (holds.lists.left r.thing).0 (Contains-map (λ (q : Reason). q.thing) reasons r c) in
+    let reach = (quiet_exact facts.0 t facts.2 quiet r.thing).0 left in
+    let kept = kept_line reasons r.thing ((kept_reachable Deep facts.0 t facts.2 reasons holds r.thing).1 reach) in
+    let both = sym kept.1 ∙ line_found reasons holds.lists.rising r c in
+    let same : kept.0 ≡ r = cc in
+    sym (ap (λ (q : Reason). is_loose q.why) same) ∙ kept.2

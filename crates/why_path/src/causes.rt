@@ -42,8 +42,8 @@ fn has_app(mail: &MailRow) -> bool
 }
 
 // Whether this makes the actor a root.
-fn applies(seat: Seated<'_>, why: &Why) -> bool
-    ensures { result ≡ applies why.now (as_seat seat) }
+fn applies(seat: &Seated<'_>, why: &Why) -> bool
+    ensures { result ≡ applies why.now (as_seat seat.now) }
 {
     match why {
         Why::Pinned => seat.cell.fields.pinned,
@@ -61,7 +61,7 @@ pub(crate) fn applies_to(orca: &Orca<'_>, thing: &Thing, why: &Why) -> bool
 {
     match thing {
         Thing::Actor(a) => match seat_of(orca, *a) {
-            Some(seat) => applies(seat, why),
+            Some(seat) => applies(&seat, why),
             None => false,
         },
         Thing::Obj(_) => false,
@@ -69,8 +69,8 @@ pub(crate) fn applies_to(orca: &Orca<'_>, thing: &Thing, why: &Why) -> bool
 }
 
 // The first that makes the actor a root, if it is one.
-fn cause_at(seat: Seated<'_>) -> Option<Why>
-    ensures { result ≡ cause_at (as_seat seat) }
+fn cause_at(seat: &Seated<'_>) -> Option<Why>
+    ensures { result ≡ cause_at (as_seat seat.now) }
 {
     if applies(seat, &Why::Pinned) {
         return Some(Why::Pinned);
@@ -90,7 +90,7 @@ pub(crate) fn cause_of(orca: &Orca<'_>, thing: &Thing) -> Option<Why>
     ensures { result ≡ cause_of orca.now.state.actors thing.now }
 {
     match thing {
-        Thing::Actor(a) => cause_at(seat_of(orca, *a)?),
+        Thing::Actor(a) => cause_at(&seat_of(orca, *a)?),
         Thing::Obj(_) => None,
     }
 }

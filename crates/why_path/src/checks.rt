@@ -59,9 +59,9 @@ fn letters_not_loose(reasons: &[Reason], mail: &MailRow) -> bool
 }
 
 // Whether no edge leads from an actor to a loose thing.
-fn seat_not_loose(reasons: &[Reason], seat: Seated<'_>) -> bool
+fn seat_not_loose(reasons: &[Reason], seat: &Seated<'_>) -> bool
     requires { Rise reasons.now }
-    ensures { result ≡ true ↔ AreNotLoose reasons.now (ends_of (leads_of_seat (as_seat seat))) }
+    ensures { result ≡ true ↔ AreNotLoose reasons.now (ends_of (leads_of_seat (as_seat seat.now))) }
 {
     values_not_loose(reasons, seat.cell.fields.values.as_slice())
         && values_not_loose(reasons, registers_of(seat))
@@ -76,7 +76,7 @@ pub(crate) fn leads_to_none_loose(orca: &Orca<'_>, reasons: &[Reason], from: &Th
 {
     match from {
         Thing::Actor(a) => match seat_of(orca, *a) {
-            Some(seat) => seat_not_loose(reasons, seat),
+            Some(seat) => seat_not_loose(reasons, &seat),
             None => true,
         },
         Thing::Obj(n) => {

@@ -17,7 +17,7 @@ use crate::seats::seat_of;
 use crate::walk::is_loose;
 use actor_cell::Cell;
 use orca_core::Orca;
-use orca_names::{ActorName, Reason, Thing};
+use orca_names::{ActorName, Reason, Thing, Why};
 
 // Whether the things of the lines rise.
 fn rise(reasons: &[Reason]) -> bool

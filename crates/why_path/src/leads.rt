@@ -31,8 +31,8 @@ fn argument_at(mail: &MailRow, letter: u64, i: u8) -> Option<Thing>
 }
 
 // Where the edge leads from an actor.
-fn end_at_seat(seat: Seated<'_>, edge: &Edge) -> Option<Thing>
-    ensures { result ≡ end_at_seat edge.now (as_seat seat) }
+fn end_at_seat(seat: &Seated<'_>, edge: &Edge) -> Option<Thing>
+    ensures { result ≡ end_at_seat edge.now (as_seat seat.now) }
 {
     match edge {
         Edge::Field(i) => named_at(seat.cell.fields.values.as_slice(), *i),
@@ -65,7 +65,7 @@ fn end_of(orca: &Orca<'_>, from: &Thing, edge: &Edge) -> Option<Thing>
     ensures { result ≡ end_of orca.now.state.actors from.now edge.now }
 {
     match from {
-        Thing::Actor(a) => end_at_seat(seat_of(orca, *a)?, edge),
+        Thing::Actor(a) => end_at_seat(&seat_of(orca, *a)?, edge),
         Thing::Obj(n) => end_at_row(n.owner, row_left(orca, *n), edge),
     }
 }

@@ -4,13 +4,16 @@
 
 mod causes;
 mod checks;
-mod explain;
+mod gone;
 mod holds;
+mod laws;
 mod leads;
 mod lines;
+mod reasons;
 mod seats;
 mod values;
 mod walk;
 
-pub use explain::explain;
+pub use gone::partings;
 pub use holds::holds_up;
+pub use reasons::explain;

@@ -29,8 +29,8 @@ pub(crate) fn args_of(letter: &Letter) -> &[Value]
 }
 
 /// The registers of an actor that stands within a turn; another has none.
-pub(crate) fn registers_of<'a>(seat: Seated<'a>) -> &'a [Value]
-    ensures value { result.now ≡ registers_of (as_seat seat) }
+pub(crate) fn registers_of<'a>(seat: &Seated<'a>) -> &'a [Value]
+    ensures value { result.now ≡ registers_of (as_seat seat.now) }
     ensures few { length result.now ≤ 16 }
 {
     match seat.cell.frame.get() {

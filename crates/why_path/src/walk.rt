@@ -44,7 +44,7 @@ impl Holder {
 
 /// From where a walk goes on, and to which level.
 #[derive(Clone, Copy)]
-pub(crate) struct From {
+pub(crate) struct Step {
     pub parent: Thing,
     pub level: u64,
 }
@@ -71,11 +71,11 @@ pub(crate) fn is_loose(why: &Why) -> bool
 
 impl Walk {
     // A thing is reached by an edge.
-    fn reach(&mut self, from: From, edge: Edge, thing: &Thing) -> Result<(), NoMemory>
-        requires { IsUnderWay from.level self.old }
+    fn reach(&mut self, step: &Step, edge: Edge, thing: &Thing) -> Result<(), NoMemory>
+        requires { IsUnderWay step.now.level self.old }
         ensures lines { OnOk result (self.new.reasons.items
-            ≡ map (reached from.parent from.level ((edge, thing.now) ∷ [])) self.old.reasons.items) }
-        ensures next { OnOk result (IsUnderWay from.level self.new) }
+            ≡ map (reached step.now.parent step.now.level ((edge, thing.now) ∷ [])) self.old.reasons.items) }
+        ensures next { OnOk result (IsUnderWay step.now.level self.new) }
     {
         let Ok(i) = place_of(self.reasons.as_slice(), thing) else {
             return Ok(());
@@ -86,9 +86,9 @@ impl Walk {
         self.next.push(*thing)?;
         self.reasons[i] = Reason {
             thing: *thing,
-            level: from.level,
+            level: step.level,
             why: Why::By {
-                parent: from.parent,
+                parent: step.parent,
                 edge,
             },
         };
@@ -96,14 +96,14 @@ impl Walk {
     }
 
     // What a value names is reached, if it names a thing.
-    fn reach_value(&mut self, from: From, edge: Edge, value: &Value) -> Result<(), NoMemory>
-        requires { IsUnderWay from.level self.old }
+    fn reach_value(&mut self, step: &Step, edge: Edge, value: &Value) -> Result<(), NoMemory>
+        requires { IsUnderWay step.now.level self.old }
         ensures lines { OnOk result (self.new.reasons.items
-            ≡ map (reached from.parent from.level (lead_of edge value.now)) self.old.reasons.items) }
-        ensures next { OnOk result (IsUnderWay from.level self.new) }
+            ≡ map (reached step.now.parent step.now.level (lead_of edge value.now)) self.old.reasons.items) }
+        ensures next { OnOk result (IsUnderWay step.now.level self.new) }
     {
         match value.thing() {
-            Some(thing) => self.reach(from, edge, &thing),
+            Some(thing) => self.reach(step, edge, &thing),
             None => Ok(()),
         }
     }
@@ -111,67 +111,67 @@ impl Walk {
     // What these values name is reached.
     fn reach_values(
         &mut self,
-        from: From,
+        step: &Step,
         holder: Holder,
         values: &[Value],
     ) -> Result<(), NoMemory>
         requires few { length values.now ≤ 16 }
-        requires next { IsUnderWay from.level self.old }
+        requires next { IsUnderWay step.now.level self.old }
         ensures lines { OnOk result (self.new.reasons.items
-            ≡ map (reached from.parent from.level (leads_from (edge_in holder) 0 values.now))
+            ≡ map (reached step.now.parent step.now.level (leads_from (edge_in holder) 0 values.now))
                 self.old.reasons.items) }
-        ensures next { OnOk result (IsUnderWay from.level self.new) }
+        ensures next { OnOk result (IsUnderWay step.now.level self.new) }
     {
         for (i, value) in values.iter().enumerate() {
-            self.reach_value(from, holder.edge(i as u8), value)?;
+            self.reach_value(step, holder.edge(i as u8), value)?;
         }
         Ok(())
     }
 
     // What the arguments of these letters name is reached.
-    fn reach_letters(&mut self, from: From, mail: &MailRow) -> Result<(), NoMemory>
-        requires { IsUnderWay from.level self.old }
+    fn reach_letters(&mut self, step: &Step, mail: &MailRow) -> Result<(), NoMemory>
+        requires { IsUnderWay step.now.level self.old }
         ensures lines { OnOk result (self.new.reasons.items
-            ≡ map (reached from.parent from.level (leads_of_letters 0 mail.now.letters))
+            ≡ map (reached step.now.parent step.now.level (leads_of_letters 0 mail.now.letters))
                 self.old.reasons.items) }
-        ensures next { OnOk result (IsUnderWay from.level self.new) }
+        ensures next { OnOk result (IsUnderWay step.now.level self.new) }
     {
         for k in 0..mail.len() {
-            self.reach_values(from, Holder::Letter(k), args_of(mail.at(k)))?;
+            self.reach_values(step, Holder::Letter(k), args_of(mail.at(k)))?;
         }
         Ok(())
     }
 
     // What an actor leads to is reached.
-    fn reach_of_seat(&mut self, from: From, seat: Seated<'_>) -> Result<(), NoMemory>
-        requires { IsUnderWay from.level self.old }
+    fn reach_of_seat(&mut self, step: &Step, seat: &Seated<'_>) -> Result<(), NoMemory>
+        requires { IsUnderWay step.now.level self.old }
         ensures lines { OnOk result (self.new.reasons.items
-            ≡ map (reached from.parent from.level (leads_of_seat (as_seat seat)))
+            ≡ map (reached step.now.parent step.now.level (leads_of_seat (as_seat seat.now)))
                 self.old.reasons.items) }
-        ensures next { OnOk result (IsUnderWay from.level self.new) }
+        ensures next { OnOk result (IsUnderWay step.now.level self.new) }
     {
-        self.reach_values(from, Holder::Fields, seat.cell.fields.values.as_slice())?;
-        self.reach_values(from, Holder::Registers, registers_of(seat))?;
-        self.reach_letters(from, seat.mail)
+        self.reach_values(step, Holder::Fields, seat.cell.fields.values.as_slice())?;
+        self.reach_values(step, Holder::Registers, registers_of(seat))?;
+        self.reach_letters(step, seat.mail)
     }
 
     // What the parent leads to is reached.
-    fn reach_from(&mut self, orca: &Orca<'_>, from: From) -> Result<(), NoMemory>
+    fn reach_from(&mut self, orca: &Orca<'_>, step: &Step) -> Result<(), NoMemory>
         requires home { NoneIsAway orca.now }
-        requires next { IsUnderWay from.level self.old }
+        requires next { IsUnderWay step.now.level self.old }
         ensures lines { OnOk result (self.new.reasons.items
-            ≡ map (reached from.parent from.level (leads_of orca.now.state.actors from.parent))
+            ≡ map (reached step.now.parent step.now.level (leads_of orca.now.state.actors step.now.parent))
                 self.old.reasons.items) }
-        ensures next { OnOk result (IsUnderWay from.level self.new) }
+        ensures next { OnOk result (IsUnderWay step.now.level self.new) }
     {
-        match from.parent {
+        match step.parent {
             Thing::Actor(a) => match seat_of(orca, a) {
-                Some(seat) => self.reach_of_seat(from, seat),
+                Some(seat) => self.reach_of_seat(step, &seat),
                 None => Ok(()),
             },
             Thing::Obj(n) => {
-                self.reach_values(from, Holder::Row, row_left(orca, n))?;
-                self.reach(from, Edge::Owner, &Thing::Actor(n.owner))
+                self.reach_values(step, Holder::Row, row_left(orca, n))?;
+                self.reach(step, Edge::Owner, &Thing::Actor(n.owner))
             }
         }
     }
@@ -190,11 +190,11 @@ impl Walk {
         ensures next { OnOk result (IsUnderWay level self.new) }
     {
         for parent in front {
-            let from = From {
+            let step = Step {
                 parent: *parent,
                 level,
             };
-            self.reach_from(orca, from)?;
+            self.reach_from(orca, &step)?;
         }
         Ok(())
     }
