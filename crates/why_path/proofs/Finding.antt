@@ -1,6 +1,8 @@
 -- The line of a thing among lines that rise.
 use Rattle.std.proofs.Common.{◌≡◌, ◌≢◌, ◌⊎◌, inl, inr, ℕ, zero, suc, ◌<◌, Bool, true, false, ◌&&◌, cond, List, [], ◌∷◌, length, map, get_or, Option, Some, None, Contains, Ordering, refl, sym, ap, subst, ◌∙◌, arith}
-use Rattle.std.specs.Prelude.{T, option_map}
+use Rattle.std.specs.Prelude.{T, ◌↔◌, is_some, option_map}
+use Rattle.std.specs.Borrow.{Bor}
+use Rattle.std.specs.Option.{option_copied}
 use Rattle.std.specs.List.{AllByRecursion}
 use Rattle.std.specs.List.Sorted.{IsStrictlySortedBy}
 use Rattle.std.specs.FinMap.Entries.{below_all, is_sorted}
@@ -77,6 +79,21 @@ line_found (s ∷ rs) rise r c = elim (Contains-cons_cases s rs r c)
           ap (λ o. cond (is_eq o) (Some s) (line_of rs r.thing)) less
           ∙ line_found rs (sorted_tail thing_cmp s.thing (things_in rs) rise) r later
     ]
+
+-- a thing is listed where it has a line
+pub has_one : (x : Thing) (rs : List Reason) → is_some (line_of rs x) ≡ true ↔ Contains (things_in rs) x
+has_one x rs = (to (line_of rs x) refl, λ c. let line = line_there x rs c in ap is_some line.1)
+  where
+    to : (o : Option Reason) → line_of rs x ≡ o → is_some o ≡ true → Contains (things_in rs) x
+    to None e h = cc
+    to (Some r) e h =
+        let found = found_line x rs r e in
+        subst (Contains (things_in rs)) found.1 (Contains-map (λ (q : Reason). q.thing) rs r found.0)
+
+-- a line that is lent is one
+pub copied_some : (o : Option (Bor Reason)) → is_some (option_copied o) ≡ is_some o
+copied_some None = refl
+copied_some (Some r) = refl
 
 -- ---- what a search finds
 

@@ -1,13 +1,11 @@
 // Whether no edge leads from a thing to a loose one.
 
-ghost use Rattle.std.specs.Prelude.{◌≡◌, ◌↔◌, true};
-ghost use Rattle.std.specs.List.{flat_map};
-ghost use Rattle.reach_walk.specs.Reach.{named_by};
+ghost use Rattle.std.specs.Prelude.{◌≡◌, ◌↔◌, true, All};
 ghost use Rattle.orca_core.specs.Machine.{NoneIsAway};
 ghost use Rattle.why_path.specs.Checks.{IsNotLoose, LeadsToNoneLoose};
-ghost use Rattle.why_path.specs.Edges.{args_of, leads_of_seat};
+ghost use Rattle.why_path.specs.Edges.{args_of};
 ghost use Rattle.why_path.specs.Lines.{Rise};
-ghost use Rattle.why_path.specs.Named.{AreNotLoose, ends_of};
+ghost use Rattle.why_path.specs.Named.{NamesNoneLoose, SeatLeadsToNoneLoose};
 ghost use Rattle.why_path.specs.Seats.{as_seat};
 
 use crate::lines::line_of;
@@ -29,29 +27,38 @@ fn is_not_loose(reasons: &[Reason], thing: &Thing) -> bool
     }
 }
 
-// Whether none of what these values name is loose.
-fn values_not_loose(reasons: &[Reason], values: &[Value]) -> bool
+// Whether the value names no loose thing.
+fn names_none_loose(reasons: &[Reason], value: &Value) -> bool
     requires { Rise reasons.now }
-    ensures { result ≡ true ↔ AreNotLoose reasons.now (named_by values.now) }
+    ensures { result ≡ true ↔ NamesNoneLoose reasons.now value.now }
+{
+    match value.thing() {
+        Some(thing) => is_not_loose(reasons, &thing),
+        None => true,
+    }
+}
+
+// Whether these values name no loose thing.
+fn name_none_loose(reasons: &[Reason], values: &[Value]) -> bool
+    requires { Rise reasons.now }
+    ensures { result ≡ true ↔ All (NamesNoneLoose reasons.now) values.now }
 {
     for value in values {
-        if let Some(thing) = value.thing() {
-            if !is_not_loose(reasons, &thing) {
-                return false;
-            }
+        if !names_none_loose(reasons, value) {
+            return false;
         }
     }
     true
 }
 
-// Whether none of what the arguments of these letters name is loose.
-fn letters_not_loose(reasons: &[Reason], mail: &MailRow) -> bool
+// Whether the arguments of these letters name no loose thing.
+fn letters_name_none_loose(reasons: &[Reason], mail: &MailRow) -> bool
     requires { Rise reasons.now }
-    ensures { result ≡ true ↔ AreNotLoose reasons.now
-        (flat_map (λ l. named_by (args_of l)) mail.now.letters) }
+    ensures { result ≡ true ↔ All (λ l. All (NamesNoneLoose reasons.now) (args_of l))
+        mail.now.letters }
 {
     for k in 0..mail.len() {
-        if !values_not_loose(reasons, args_of(mail.at(k))) {
+        if !name_none_loose(reasons, args_of(mail.at(k))) {
             return false;
         }
     }
@@ -59,13 +66,13 @@ fn letters_not_loose(reasons: &[Reason], mail: &MailRow) -> bool
 }
 
 // Whether no edge leads from an actor to a loose thing.
-fn seat_not_loose(reasons: &[Reason], seat: &Seated<'_>) -> bool
+fn seat_leads_to_none_loose(reasons: &[Reason], seat: &Seated<'_>) -> bool
     requires { Rise reasons.now }
-    ensures { result ≡ true ↔ AreNotLoose reasons.now (ends_of (leads_of_seat (as_seat seat.now))) }
+    ensures { result ≡ true ↔ SeatLeadsToNoneLoose reasons.now (as_seat seat.now) }
 {
-    values_not_loose(reasons, seat.cell.fields.values.as_slice())
-        && values_not_loose(reasons, registers_of(seat))
-        && letters_not_loose(reasons, seat.mail)
+    name_none_loose(reasons, seat.cell.fields.values.as_slice())
+        && name_none_loose(reasons, registers_of(seat))
+        && letters_name_none_loose(reasons, seat.mail)
 }
 
 /// Whether no edge leads from the thing to a loose one.
@@ -76,11 +83,11 @@ pub(crate) fn leads_to_none_loose(orca: &Orca<'_>, reasons: &[Reason], from: &Th
 {
     match from {
         Thing::Actor(a) => match seat_of(orca, *a) {
-            Some(seat) => seat_not_loose(reasons, &seat),
+            Some(seat) => seat_leads_to_none_loose(reasons, &seat),
             None => true,
         },
         Thing::Obj(n) => {
-            values_not_loose(reasons, row_left(orca, *n))
+            name_none_loose(reasons, row_left(orca, *n))
                 && is_not_loose(reasons, &Thing::Actor(n.owner))
         }
     }

@@ -18,10 +18,10 @@ use run_book::Book;
 use std::alloc::Global;
 
 // Who goes by an entry, if it is one by which actors go.
-fn parting_at(alloc: Global, orca: &Orca<'_>, e: Event) -> Result<Option<Parting>, NoMemory>
-    ensures { IfOk result (λ parting. parting ≡ parting_at orca.now.state e) }
+fn parting_at(alloc: Global, orca: &Orca<'_>, e: &Event) -> Result<Option<Parting>, NoMemory>
+    ensures { IfOk result (λ parting. parting ≡ parting_at orca.now.state e.now) }
 {
-    match e {
+    match *e {
         Event::Leave(actor) => Ok(Some(Parting::Left { actor })),
         Event::Reap(token) => match orca.token_reports(alloc, token)? {
             Some(members) => Ok(Some(Parting::Reaped {
@@ -40,15 +40,15 @@ fn parting_at(alloc: Global, orca: &Orca<'_>, e: Event) -> Result<Option<Parting
 }
 
 // Does an entry of a run.
-fn step(alloc: Global, orca: &mut Orca<'_>, e: Event) -> Result<(), NoMemory>
+fn step(alloc: Global, orca: &mut Orca<'_>, e: &Event) -> Result<(), NoMemory>
     requires early { orca.old.steps < BOOK_LIMIT }
     requires home { NoneIsAway orca.old }
-    requires enabled { IsEnabled next orca.old.state e }
-    ensures ok { OnOk result (next orca.old.state e ≡ Goes orca.new.state) }
+    requires enabled { IsEnabled next orca.old.state e.now }
+    ensures ok { OnOk result (next orca.old.state e.now ≡ Goes orca.new.state) }
     ensures steps { OnOk result (orca.new.steps ≡ orca.old.steps + 1) }
     ensures home { NoneIsAway orca.new }
 {
-    match orca.step(alloc, e) {
+    match orca.step(alloc, *e) {
         Ok(_) => Ok(()),
         Err(StepFault::NoMemory) => Err(NoMemory),
         Err(StepFault::NotEnabled) => unreachable!(),
@@ -73,10 +73,10 @@ pub fn partings(alloc: Global, code: &Checked, book: &Book) -> Result<Vec<Partin
     let mut found = Vec::new(alloc);
     for i in 0..book.len() {
         let e = book.at(i);
-        if let Some(parting) = parting_at(alloc, &orca, e)? {
+        if let Some(parting) = parting_at(alloc, &orca, &e)? {
             found.push(parting)?;
         }
-        step(alloc, &mut orca, e)?;
+        step(alloc, &mut orca, &e)?;
     }
     Ok(found)
 }

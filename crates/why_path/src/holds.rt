@@ -12,7 +12,7 @@ ghost use Rattle.why_path.specs.Reasons.{things_in};
 use crate::causes::{applies_to, cause_of};
 use crate::checks::leads_to_none_loose;
 use crate::leads::leads_by;
-use crate::lines::line_of;
+use crate::lines::{has_line, line_of};
 use crate::seats::seat_of;
 use crate::walk::is_loose;
 use actor_cell::Cell;
@@ -24,7 +24,7 @@ fn rise(reasons: &[Reason]) -> bool
     ensures { result ≡ true ↔ Rise reasons.now }
 {
     for i in 1..reasons.len() {
-        if reasons[i - 1].thing >= reasons[i].thing {
+        if !reasons[i - 1].thing.cmp(&reasons[i].thing).is_lt() {
             return false;
         }
     }
@@ -63,12 +63,12 @@ fn lists_cell(reasons: &[Reason], cell: &Cell) -> bool
     requires { Rise reasons.now }
     ensures { result ≡ true ↔ All (Contains (things_in reasons.now)) (things_of cell.now) }
 {
-    if line_of(reasons, &Thing::Actor(cell.heap.owner())).is_none() {
+    if !has_line(reasons, &Thing::Actor(cell.heap.owner())) {
         return false;
     }
     for i in 0..cell.heap.len() {
         let (name, _, _) = cell.heap.at(i);
-        if line_of(reasons, &Thing::Obj(name)).is_none() {
+        if !has_line(reasons, &Thing::Obj(name)) {
             return false;
         }
     }

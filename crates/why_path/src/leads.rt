@@ -75,5 +75,8 @@ pub(crate) fn leads_by(orca: &Orca<'_>, from: &Thing, edge: &Edge, to: &Thing) -
     requires { NoneIsAway orca.now }
     ensures { result ≡ true ↔ LeadsBy orca.now.state.actors from.now edge.now to.now }
 {
-    end_of(orca, from, edge) == Some(*to)
+    match end_of(orca, from, edge) {
+        Some(end) => end == *to,
+        None => false,
+    }
 }

@@ -1,12 +1,13 @@
 // The line of a thing among reasons.
 
-ghost use Rattle.std.specs.Prelude.{◌≡◌, map, IfSome};
+ghost use Rattle.std.specs.Prelude.{◌≡◌, ◌↔◌, true, map, Contains};
 ghost use Rattle.std.specs.Option.{option_copied};
 ghost use Rattle.std.specs.Result.{MatchResult};
 ghost use Rattle.orca_names.specs.Names.{thing_cmp};
 ghost use Rattle.plain_list.specs.Rising.{IsAt, IsGap};
 ghost use Rattle.why_path.specs.Checks.{line_of};
 ghost use Rattle.why_path.specs.Lines.{Rise, key_of};
+ghost use Rattle.why_path.specs.Reasons.{things_in};
 
 use orca_names::{Reason, Thing};
 
@@ -28,4 +29,12 @@ pub(crate) fn line_of<'a>(reasons: &'a [Reason], thing: &Thing) -> Option<&'a Re
         Ok(i) => Some(&reasons[i]),
         Err(_) => None,
     }
+}
+
+/// Whether the thing has a line.
+pub(crate) fn has_line(reasons: &[Reason], thing: &Thing) -> bool
+    requires { Rise reasons.now }
+    ensures { result ≡ true ↔ Contains (things_in reasons.now) thing.now }
+{
+    line_of(reasons, thing).is_some()
 }

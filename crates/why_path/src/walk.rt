@@ -164,14 +164,15 @@ impl Walk {
                 self.old.reasons.items) }
         ensures next { OnOk result (IsUnderWay step.now.level self.new) }
     {
-        match step.parent {
-            Thing::Actor(a) => match seat_of(orca, a) {
+        match &step.parent {
+            Thing::Actor(a) => match seat_of(orca, *a) {
                 Some(seat) => self.reach_of_seat(step, &seat),
                 None => Ok(()),
             },
             Thing::Obj(n) => {
-                self.reach_values(step, Holder::Row, row_left(orca, n))?;
-                self.reach(step, Edge::Owner, &Thing::Actor(n.owner))
+                self.reach_values(step, Holder::Row, row_left(orca, *n))?;
+                let owner = Thing::Actor(n.owner);
+                self.reach(step, Edge::Owner, &owner)
             }
         }
     }
