@@ -191,3 +191,16 @@ module _ (actors : Actors) where
               | inr none ↦ none_in_nil (e, x) _ none
             ]
       ]
+
+  -- from an actor that is gone, from one that is present, and from an object
+  pub end_none : (a : ℕ) (e : Edge) → seat_at actors a ≡ None → end_of actors (Actor a) e ≡ None
+  unfolding end_of
+  end_none a e gone = ap (option_and_then (end_at_seat e)) gone
+
+  pub end_some : (a : ℕ) (o : Seat) (e : Edge) → seat_at actors a ≡ Some o → end_of actors (Actor a) e ≡ end_at_seat e o
+  unfolding end_of
+  end_some a o e at = ap (option_and_then (end_at_seat e)) at
+
+  pub end_object : (n : ObjName) (e : Edge) → end_of actors (Obj n) e ≡ end_at_row e n.owner (row_left actors n)
+  unfolding end_of
+  end_object n e = refl

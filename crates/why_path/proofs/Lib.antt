@@ -3,6 +3,7 @@ pub mod Ending
 pub mod Finding
 pub mod Holding
 pub mod Levels
+pub mod Listing
 pub mod Lives
 pub mod Naming
 pub mod Reached

@@ -55,6 +55,7 @@ fn applies(seat: &Seated<'_>, why: &Why) -> bool
 }
 
 /// Whether this makes the thing a root.
+#[tactic(auto, unfolding(crate::specs::Checks::applies_to))]
 pub(crate) fn applies_to(orca: &Orca<'_>, thing: &Thing, why: &Why) -> bool
     requires { NoneIsAway orca.now }
     ensures { result ≡ applies_to orca.now.state.actors thing.now why.now }
@@ -85,6 +86,7 @@ fn cause_at(seat: &Seated<'_>) -> Option<Why>
 }
 
 /// The first that makes the thing a root, if it is one.
+#[tactic(auto, unfolding(crate::specs::Reasons::cause_of))]
 pub(crate) fn cause_of(orca: &Orca<'_>, thing: &Thing) -> Option<Why>
     requires { NoneIsAway orca.now }
     ensures { result ≡ cause_of orca.now.state.actors thing.now }

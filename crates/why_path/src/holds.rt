@@ -1,13 +1,14 @@
 // Whether reasons hold up.
 
-ghost use Rattle.std.specs.Prelude.{◌≡◌, ◌↔◌, true, All, Contains, IsTrue};
+ghost use Rattle.std.specs.Prelude.{◌≡◌, ◌↔◌, true, All, Contains};
+ghost use Rattle.orca_names.specs.Names.{owner_of};
 ghost use Rattle.orca_names.specs.declared.names.Thing.{Thing as a_thing};
 ghost use Rattle.machine_rules.specs.Left.{IsLeft};
 ghost use Rattle.orca_core.specs.Left.{things_of};
 ghost use Rattle.orca_core.specs.Machine.{NoneIsAway};
 ghost use Rattle.why_path.specs.Checks.{Holds, HoldsUp, IsClosedAt, StandsBelow};
 ghost use Rattle.why_path.specs.Lines.{Rise};
-ghost use Rattle.why_path.specs.Reasons.{things_in};
+ghost use Rattle.why_path.specs.Reasons.{ListsLeft, things_in};
 
 use crate::causes::{applies_to, cause_of};
 use crate::checks::leads_to_none_loose;
@@ -34,7 +35,7 @@ fn rise(reasons: &[Reason]) -> bool
 // Whether a thing is left.
 fn is_left(orca: &Orca<'_>, thing: &Thing) -> bool
     requires { NoneIsAway orca.now }
-    ensures { IsTrue result ↔ IsLeft orca.now.state.actors thing.now }
+    ensures { result ≡ true ↔ IsLeft orca.now.state.actors thing.now }
 {
     let Some(seat) = seat_of(orca, thing.owner()) else {
         return false;
@@ -75,6 +76,19 @@ fn lists_cell(reasons: &[Reason], cell: &Cell) -> bool
     true
 }
 
+// Whether all that is left of the actor has a line.
+fn lists_of(orca: &Orca<'_>, reasons: &[Reason], a: ActorName) -> bool
+    requires home { NoneIsAway orca.now }
+    requires rising { Rise reasons.now }
+    ensures { result ≡ true ↔ ((x : a_thing) → IsLeft orca.now.state.actors x → owner_of x ≡ a
+        → Contains (things_in reasons.now) x) }
+{
+    match orca.cell(a) {
+        Some(cell) => lists_cell(reasons, cell),
+        None => true,
+    }
+}
+
 // Whether all that is left has a line.
 fn lists_left(orca: &Orca<'_>, reasons: &[Reason]) -> bool
     requires home { NoneIsAway orca.now }
@@ -82,14 +96,25 @@ fn lists_left(orca: &Orca<'_>, reasons: &[Reason]) -> bool
     ensures { result ≡ true ↔ ((x : a_thing) → IsLeft orca.now.state.actors x
         → Contains (things_in reasons.now) x) }
 {
+    // Few actors were made.
+    orca.keeps_the_reachable();
     for a in 0..orca.made() {
-        if let Some(cell) = orca.cell(ActorName(a as u32)) {
-            if !lists_cell(reasons, cell) {
-                return false;
-            }
+        if !lists_of(orca, reasons, ActorName(a as u32)) {
+            return false;
         }
     }
     true
+}
+
+// Whether each thing that is left stands once, in the order of things, and nothing else.
+fn lists_exactly(orca: &Orca<'_>, reasons: &[Reason]) -> bool
+    requires { NoneIsAway orca.now }
+    ensures { result ≡ true ↔ ListsLeft orca.now.state.actors reasons.now }
+{
+    if !rise(reasons) {
+        return false;
+    }
+    are_left(orca, reasons) && lists_left(orca, reasons)
 }
 
 // Whether the thing's line is not loose, and stands one level lower.
@@ -134,6 +159,15 @@ fn lines_hold(orca: &Orca<'_>, reasons: &[Reason]) -> bool
     true
 }
 
+// Whether the line is loose, or no edge leads from its thing to a loose one.
+fn is_closed_at(orca: &Orca<'_>, reasons: &[Reason], line: &Reason) -> bool
+    requires home { NoneIsAway orca.now }
+    requires rising { Rise reasons.now }
+    ensures { result ≡ true ↔ IsClosedAt orca.now.state.actors reasons.now line.now }
+{
+    is_loose(&line.why) || leads_to_none_loose(orca, reasons, &line.thing)
+}
+
 // Whether no edge leads from a kept thing to a loose one.
 fn are_closed(orca: &Orca<'_>, reasons: &[Reason]) -> bool
     requires home { NoneIsAway orca.now }
@@ -141,7 +175,7 @@ fn are_closed(orca: &Orca<'_>, reasons: &[Reason]) -> bool
     ensures { result ≡ true ↔ All (IsClosedAt orca.now.state.actors reasons.now) reasons.now }
 {
     for line in reasons {
-        if !is_loose(&line.why) && !leads_to_none_loose(orca, reasons, &line.thing) {
+        if !is_closed_at(orca, reasons, line) {
             return false;
         }
     }
@@ -155,9 +189,8 @@ pub fn holds_up(orca: &Orca<'_>, reasons: &[Reason]) -> bool
     requires { NoneIsAway orca.now }
     ensures { result ≡ true ↔ HoldsUp orca.now.state.actors reasons.now }
 {
-    rise(reasons)
-        && are_left(orca, reasons)
-        && lists_left(orca, reasons)
-        && lines_hold(orca, reasons)
-        && are_closed(orca, reasons)
+    if !lists_exactly(orca, reasons) {
+        return false;
+    }
+    lines_hold(orca, reasons) && are_closed(orca, reasons)
 }

@@ -76,7 +76,7 @@ pub(crate) fn leads_by(orca: &Orca<'_>, from: &Thing, edge: &Edge, to: &Thing) -
     ensures { result ≡ true ↔ LeadsBy orca.now.state.actors from.now edge.now to.now }
 {
     match end_of(orca, from, edge) {
-        Some(end) => end == *to,
+        Some(end) => end.cmp(to).is_eq(),
         None => false,
     }
 }

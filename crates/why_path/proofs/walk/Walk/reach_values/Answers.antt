@@ -1,0 +1,10 @@
+use Rattle.why_path.proofs.walk.Walk.reach_values.Goals as goal
+
+pub loop-i-init : goal.loop-i-init
+loop-i-init c = ?
+
+pub loop-i-preserved : goal.loop-i-preserved
+loop-i-preserved c = ?
+
+pub returns : goal.returns
+returns c = ?
