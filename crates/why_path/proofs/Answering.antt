@@ -4,6 +4,10 @@ use Rattle.std.specs.Prelude.{All}
 use Rattle.std.proofs.lemmas.List.{take_all}
 use Rattle.std.proofs.lemmas.List.Elements.{All-more, All-nil}
 
+-- one answer after another
+pub joined : {P Q : Type 0} {b : Bool} → b ≡ true ↔ P → P ↔ Q → b ≡ true ↔ Q
+joined says same = ((λ e. same.0 (says.0 e)), (λ q. says.1 (same.1 q)))
+
 module _ {P : Type 0} {b : Bool} (says : b ≡ true ↔ P) where
   -- what a test that failed says
   pub not_so : b ≡ false → ¬ P

@@ -1,6 +1,6 @@
 -- Whether lines are those of exactly the things that are left.
 use Rattle.std.proofs.Common.{◌≡◌, ◌↔◌, inl, inr, ℕ, zero, suc, ◌+◌, ◌-◌, ◌<◌, ◌≤◌, Bool, true, false, List, [], ◌∷◌, length, map, get_or, Option, Some, None, Contains, Ordering, refl, sym, ap, subst, ◌∙◌, arith}
-use Rattle.std.specs.Prelude.{All, IsTrue, option_map, slice_get}
+use Rattle.std.specs.Prelude.{All, option_map, slice_get}
 use Rattle.std.specs.FinMap as m
 use Rattle.std.specs.Ordering.{is_lt}
 use Rattle.std.specs.declared.cmp.Ordering.TheVariants.{Less, Equal, Greater}
@@ -99,16 +99,10 @@ left_where actors x o at = (λ h. record { seat = o; present = at; kept = h }, f
         let same : left.seat ≡ o = cc in
         subst (λ (p : Seat). has_own p.cell.holdings x ≡ true) same left.kept
 
-pub none_left : (actors : Actors) (x : Thing) → seat_at actors (owner_of x) ≡ None → ¬ IsLeft actors x
-none_left actors x gone left = let both = sym left.present ∙ gone in cc
-
-pub is_true : (b : Bool) → IsTrue b → b ≡ true
-is_true true h = refl
-is_true false h = absurd h
-
-pub true_is : (b : Bool) → b ≡ true → IsTrue b
-true_is true h = tt
-true_is false h = cc
+-- nothing of an actor that is gone
+pub none_of : (actors : Actors) (a : ℕ) (x : Thing) → cell_at actors a ≡ None → owner_of x ≡ a → ¬ IsLeft actors x
+none_of actors a x gone own left =
+    let none = sym (ap (option_map (λ (p : Seat). p.cell)) left.present) ∙ ap (cell_at actors) own ∙ gone in cc
 
 pub heap_has : (c : Cell) (n : ObjName) → n.owner ≡ c.heap.owner
     → Has c.heap n ↔ (has_own (as_cell c).holdings (Obj n) ≡ true)

@@ -1,13 +1,16 @@
 -- What a walk does to lines.
 use Rattle.std.proofs.Common.{◌≡◌, ◌≢◌, ◌⊎◌, ◌↔◌, inl, inr, ℕ, zero, suc, ◌+◌, ◌<◌, Bool, true, false, cond, List, [], ◌∷◌, ◌++◌, length, map, get_or, set, take, Option, Some, None, Contains, refl, sym, ap, subst, ◌∙◌, append-nil, append_assoc, arith}
 use Rattle.std.specs.Prelude.{option_map, slice_get, unwrap_or, IsSomeAnd}
-use Rattle.std.specs.List.{cons_option, find}
+use Rattle.std.specs.List.{find}
+use Rattle.std.specs.Option.{option_map_or}
 use Rattle.std.specs.List.Sorted.{IsStrictlySortedBy}
 use Rattle.std.specs.Ordering.{is_eq}
 use Rattle.std.proofs.lemmas.List.Elements.{Contains-append_left, Contains-push, Contains-push_cases}
 use Rattle.std.proofs.lemmas.Simd.{map-map}
 use Rattle.orca_names.specs.Names.{is_thing, thing_cmp, thing_of}
+use Rattle.orca_names.specs.declared.names.ObjName.{ObjName}
 use Rattle.orca_names.specs.declared.names.Thing.{Thing}
+use Rattle.orca_names.specs.declared.names.Thing.TheVariants.{Actor, Obj}
 use Rattle.orca_names.specs.declared.names.Value.{Value}
 use Rattle.orca_names.specs.declared.reason.Edge.{Edge}
 use Rattle.orca_names.specs.declared.reason.Edge.TheVariants as edges
@@ -15,10 +18,10 @@ use Rattle.orca_names.specs.declared.reason.Reason.{Reason}
 use Rattle.orca_names.specs.declared.reason.Why.TheVariants.{By, Loose}
 use Rattle.orca_names.proofs.ThingOrder.{cases_thing, is_eq_true, is_ne_false, is_self}
 use Rattle.letter_kinds.specs.declared.letter.Letter.{Letter}
-use Rattle.machine_rules.specs.Actors.{Actors}
+use Rattle.machine_rules.specs.Actors.{Actors, Seat, seat_at}
 use Rattle.reach_walk.proofs.Elements.{Contains-head, Contains-later}
 use Rattle.why_path.specs.Checks.{is_loose, line_of}
-use Rattle.why_path.specs.Edges.{Lead, args_of, first_to, lead_of, leads_from, leads_of, leads_of_letters}
+use Rattle.why_path.specs.Edges.{Lead, args_of, first_to, lead_of, leads_from, leads_of, leads_of_letters, leads_of_seat, row_left}
 use Rattle.why_path.specs.Lines.{Rise}
 use Rattle.why_path.specs.Reasons.{things_in}
 use Rattle.why_path.specs.Walk.{AreAt, StandsAt, by_edge, reached, reached_from}
@@ -175,6 +178,52 @@ module _ (parent : Thing) (level : ℕ) where
   -- along no edges
   pub map_nil : (rs : List Reason) → rs ≡ map (reached parent level []) rs
   map_nil rs = sym (map_kept (reached parent level []) rs (λ r c. reached_none [] r refl))
+
+  -- along the edges so far, and more
+  pub map_more : (ls ms all : List Lead) (rs now new : List Reason) → all ≡ ls ++ ms
+      → now ≡ map (reached parent level ls) rs → new ≡ map (reached parent level ms) now
+      → new ≡ map (reached parent level all) rs
+  map_more ls ms all rs now new whole before step =
+      step ∙ ap (map (reached parent level ms)) before ∙ sym (map_append ls ms rs)
+      ∙ ap (λ xs. map (reached parent level xs) rs) (sym whole)
+
+-- ---- one parent after another
+
+from_append : (actors : Actors) (level : ℕ) (ts us : List Thing) (r : Reason)
+    → reached_from actors level (ts ++ us) r ≡ reached_from actors level us (reached_from actors level ts r)
+from_append actors level [] us r = refl
+from_append actors level (t ∷ ts) us r = from_append actors level ts us (reached t level (leads_of actors t) r)
+
+-- no parent yet
+pub from_none : (actors : Actors) (level : ℕ) (rs : List Reason) → rs ≡ map (reached_from actors level []) rs
+from_none actors level rs = sym (map_kept (reached_from actors level []) rs (λ r c. refl))
+
+-- one parent more
+pub from_more : (actors : Actors) (level : ℕ) (ts all : List Thing) (t : Thing) (rs now new : List Reason)
+    → all ≡ ts ++ t ∷ [] → now ≡ map (reached_from actors level ts) rs
+    → new ≡ map (reached t level (leads_of actors t)) now → new ≡ map (reached_from actors level all) rs
+from_more actors level ts all t rs now new whole before step =
+    step ∙ ap (map (reached t level (leads_of actors t))) before
+    ∙ map-map (reached t level (leads_of actors t)) (reached_from actors level ts) rs
+    ∙ map_same (λ r. reached t level (leads_of actors t) (reached_from actors level ts r)) (reached_from actors level (ts ++ t ∷ []))
+    (λ r. sym (from_append actors level ts (t ∷ []) r)) rs
+    ∙ ap (λ xs. map (reached_from actors level xs) rs) (sym whole)
+
+-- ---- where a parent's edges are found
+
+module _ (actors : Actors) where
+  pub leads_gone : (a : ℕ) → seat_at actors a ≡ None → leads_of actors (Actor a) ≡ []
+  unfolding leads_of
+  leads_gone a gone = ap (λ o. option_map_or leads_of_seat o []) gone
+
+  pub leads_actor : (a : ℕ) (o : Seat) → seat_at actors a ≡ Some o → leads_of actors (Actor a) ≡ leads_of_seat o
+  unfolding leads_of
+  leads_actor a o at = ap (λ p. option_map_or leads_of_seat p []) at
+
+  pub leads_object : (n : ObjName) → leads_of actors (Obj n)
+      ≡ leads_from edges.Place 0 (row_left actors n) ++ (edges.Owner, Actor n.owner) ∷ []
+  unfolding leads_of
+  leads_object n = refl
 
 -- lines that keep their things still rise
 pub rise_kept : (f : Reason → Reason) → ((r : Reason) → (f r).thing ≡ r.thing) → (rs : List Reason) → Rise rs

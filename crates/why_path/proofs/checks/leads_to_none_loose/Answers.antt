@@ -5,13 +5,9 @@ use Rattle.machine_rules.specs.Actors.{seat_at}
 use Rattle.why_path.specs.Checks.{LeadsToNoneLoose}
 use Rattle.why_path.specs.Named.{NamesNoneLoose}
 use Rattle.why_path.specs.Seats.{as_seat}
-use Rattle.why_path.proofs.Answering.{not_so}
+use Rattle.why_path.proofs.Answering.{joined}
 use Rattle.why_path.proofs.Naming.{none_of_actor, none_of_object, none_where_gone}
 use Rattle.why_path.proofs.checks.leads_to_none_loose.Goals as goal
-
--- one answer after another
-joined : {P Q : Type 0} {b : Bool} → b ≡ true ↔ P → P ↔ Q → b ≡ true ↔ Q
-joined says same = ((λ e. same.0 (says.0 e)), (λ q. says.1 (same.1 q)))
 
 pub returns-in-Some : goal.returns-in-Some
 returns-in-Some c =

@@ -7,7 +7,7 @@ use Rattle.letter_kinds.proofs.Counts.{has_actor}
 use Rattle.machine_rules.specs.Actors.{seat_at}
 use Rattle.actor_cell.specs.Cells.{as_cell}
 use Rattle.why_path.specs.Seats.{as_seat}
-use Rattle.why_path.proofs.Listing.{heap_has, is_true, left_where, none_left, true_is}
+use Rattle.why_path.proofs.Listing.{heap_has, left_where}
 use Rattle.why_path.proofs.holds.is_left.Goals as goal
 
 pub returns-in-Actor : goal.returns-in-Actor
@@ -30,6 +30,6 @@ returns-in-Obj c =
     let mine = sym (c.in-Some.ensures.owner ∙ c.owner.ensures ∙ ap owner_of c.in-Obj.is) in
     let has = heap_has cell n mine in
     let left = left_where actors x o at in (
-      λ e. left.0 (subst (λ y. has_own o.cell.holdings y ≡ true) (sym c.in-Obj.is) (has.0 (c.has.ensures.0 (true_is c.has.result e)))),
-      λ is. is_true c.has.result (c.has.ensures.1 (has.1 (subst (λ y. has_own o.cell.holdings y ≡ true) c.in-Obj.is (left.1 is)))),
+      λ e. left.0 (subst (λ y. has_own o.cell.holdings y ≡ true) (sym c.in-Obj.is) (has.0 (c.has.ensures.0 e))),
+      λ is. c.has.ensures.1 (has.1 (subst (λ y. has_own o.cell.holdings y ≡ true) c.in-Obj.is (left.1 is))),
     )
