@@ -19,7 +19,7 @@ use Rattle.reach_walk.proofs.Elements.{Contains-head, Contains-later, Contains-c
 use Rattle.why_path.specs.Checks.{is_loose, line_of}
 use Rattle.why_path.specs.Edges.{Lead, LeadsBy, LeadsTo, first_to, leads_of}
 use Rattle.why_path.specs.Reasons.{AreReasons, HasParent, IsLedTo, IsLevel, IsReason, IsReasonOf, IsRoot, ListsLeft, applies, cause_at, cause_of}
-use Rattle.why_path.specs.Walk.{AreAt, first_line, reached, reached_from}
+use Rattle.why_path.specs.Walk.{AreAt, IsKnownTo, first_line, reached, reached_from}
 use Rattle.why_path.proofs.Finding.{found_line, line_found, line_there}
 use Rattle.why_path.proofs.Reached.{stands_line, stands_with}
 use Rattle.why_path.proofs.Walking.{reached_kept, reached_loose, reached_none}
@@ -99,10 +99,7 @@ module _ (actors : Actors) where
   loose_reason x level (By parent edge) loose flat far = cc
   loose_reason x level Loose loose flat far = (flat, far)
 
--- ---- what is known of a line once all paths of at most n edges were walked
-pub record IsKnownTo (actors : Actors) (n : ℕ) (r : Reason) : Type 0 where
-  pub kept : is_loose r.why ≡ false → (r.level ≤ n) × IsReason actors r
-  pub loose : is_loose r.why ≡ true → (r.level ≡ 0) × ((m : ℕ) → m ≤ n → ¬ IsLedTo actors m r.thing)
+-- ---- one level further
 
 -- a kept line stays
 pub from_kept : (actors : Actors) (level : ℕ) (ts : List Thing) (r : Reason) → is_loose r.why ≡ false

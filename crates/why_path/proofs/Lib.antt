@@ -1,5 +1,6 @@
 pub mod Answering
 pub mod Ending
+pub mod Explaining
 pub mod Finding
 pub mod Holding
 pub mod Levels

@@ -1,5 +1,5 @@
 -- A walk along edges, level by level.
-use Rattle.std.specs.Prelude.{ℕ, ◌≡◌, ◌↔◌, false, if◌then◌else◌, List, [], ◌∷◌, Contains, Option, Some, None, IsSomeAnd, unwrap_or}
+use Rattle.std.specs.Prelude.{ℕ, ◌≡◌, ◌↔◌, ◌+◌, ◌<◌, ◌≤◌, All, count_by, length, true, false, if◌then◌else◌, List, [], ◌∷◌, Contains, Option, Some, None, IsSomeAnd, unwrap_or}
 use Rattle.orca_names.specs.declared.names.Thing.{Thing}
 use Rattle.orca_names.specs.declared.reason.Edge.{Edge}
 use Rattle.orca_names.specs.declared.reason.Edge.TheVariants as edges
@@ -9,7 +9,7 @@ use Rattle.machine_rules.specs.Actors.{Actors}
 use Rattle.why_path.specs.Checks.{is_loose, line_of}
 use Rattle.why_path.specs.Edges.{Lead, first_to, leads_of}
 use Rattle.why_path.specs.Lines.{Rise}
-use Rattle.why_path.specs.Reasons.{cause_of}
+use Rattle.why_path.specs.Reasons.{IsLedTo, IsReason, ListsLeft, cause_of}
 use Rattle.why_path.specs.declared.walk.Holder.{Holder}
 use Rattle.why_path.specs.declared.walk.Holder.TheVariants.{Fields, Registers, Letter, Row}
 use Rattle.why_path.specs.declared.walk.Walk.{Walk}
@@ -54,3 +54,17 @@ AreAt reasons level things = (x : Thing) → Contains things x ↔ StandsAt reas
 pub record IsUnderWay (level : ℕ) (w : Walk) : Type 0 where
   pub rising : Rise w.reasons.items
   pub next : AreAt w.reasons.items level w.next.items
+
+-- what is known of a line once all paths of at most n edges were walked
+pub record IsKnownTo (actors : Actors) (n : ℕ) (r : Reason) : Type 0 where
+  pub kept : is_loose r.why ≡ false → (r.level ≤ n) × IsReason actors r
+  pub loose : is_loose r.why ≡ true
+      → (r.level ≡ 0) × ((m : ℕ) → m ≤ n → ¬ IsLedTo actors m r.thing)
+
+-- all paths of at most so many edges were walked; then at least one thing stands at each level so far
+pub record IsDoneTo (actors : Actors) (level : ℕ) (w : Walk) : Type 0 where
+  pub lists : ListsLeft actors w.reasons.items
+  pub known : All (IsKnownTo actors level) w.reasons.items
+  pub next : AreAt w.reasons.items level w.next.items
+  pub few : 0 < length w.next.items
+      → level + 1 + count_by (λ r. is_loose r.why) w.reasons.items ≤ length w.reasons.items
