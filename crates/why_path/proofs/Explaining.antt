@@ -1,6 +1,8 @@
 -- A walk, level by level, to its end.
-use Rattle.std.proofs.Common.{◌≡◌, ◌≢◌, ◌↔◌, inl, inr, ℕ, zero, suc, ◌+◌, ◌<◌, ◌≤◌, Bool, true, false, cond, List, [], ◌∷◌, length, map, get_or, Option, Some, None, Contains, Ordering, refl, sym, ap, subst, ◌∙◌, arith}
-use Rattle.std.specs.Prelude.{All, count_by}
+use Rattle.std.proofs.Common.{◌≡◌, ◌≢◌, ◌↔◌, inl, inr, ℕ, zero, suc, ◌+◌, ◌<◌, ◌≤◌, ◌⊎◌, Bool, true, false, cond, eq-eqb, List, [], ◌∷◌, length, map, get_or, Option, Some, None, Contains, Ordering, refl, sym, ap, subst, ◌∙◌, arith}
+use Rattle.std.specs.Prelude.{◌==◌, All, count_by, not}
+use Rattle.std.specs.List.{filter}
+use Rattle.std.proofs.lemmas.Bool.{eqb-true}
 use Rattle.std.specs.List.Sorted.{IsPermutation, IsSorted, IsStrictlySortedBy}
 use Rattle.std.specs.Ordering.{is_lt, ordering_reverse}
 use Rattle.std.specs.declared.cmp.Ordering.TheVariants.{Less, Equal, Greater}
@@ -13,17 +15,18 @@ use Rattle.orca_names.specs.Names.{thing_cmp}
 use Rattle.orca_names.specs.declared.names.Thing.{Thing}
 use Rattle.orca_names.specs.declared.reason.Reason.{Reason}
 use Rattle.orca_names.proofs.ThingOrder.{thing_exact, thing_total}
+use Rattle.reach_walk.specs.Rows.{Contains-map}
 use Rattle.machine_rules.specs.Actors.{Actors}
 use Rattle.machine_rules.specs.Left.{IsLeft}
 use Rattle.reach_walk.proofs.Elements.{Contains-cons_cases, Contains-from_map, Contains-head, Contains-later, none_in_nil}
 use Rattle.why_path.specs.Checks.{is_loose, line_of}
 use Rattle.why_path.specs.Lines.{Rise}
 use Rattle.why_path.specs.Reasons.{AreReasons, IsLevel, IsReason, ListsLeft, things_in}
-use Rattle.why_path.specs.Walk.{AreAt, IsDoneTo, IsKnownTo, first_line, reached_from}
+use Rattle.why_path.specs.Walk.{AreAt, IsDoneTo, IsKnownTo, StandsAt, first_line, reached_from}
 use Rattle.why_path.specs.declared.walk.Walk.{Walk}
-use Rattle.why_path.proofs.Finding.{found_line}
+use Rattle.why_path.proofs.Finding.{found_line, line_found}
 use Rattle.why_path.proofs.Levels.{LeftAreLed, NoneFalls, first_known, from_kept, front_has, known_whole, next_known}
-use Rattle.why_path.proofs.Reached.{stands_line}
+use Rattle.why_path.proofs.Reached.{stands_line, stands_with}
 use Rattle.why_path.proofs.Walking.{map_kept, map_same, reached_thing}
 
 -- ---- what was sorted never falls
@@ -113,6 +116,72 @@ kept_one (s ∷ rs) r c kept = elim (Contains-cons_cases s rs r c) as (λ _. loo
     at_most true = omega arith
     at_most false = omega arith
 
+-- ---- lists
+
+pub empty_or : (xs : List Thing) → (xs ≡ []) ⊎ (0 < length xs)
+empty_or [] = inl refl
+empty_or (x ∷ xs) = inr (omega arith)
+
+pub empty_len : (n : ℕ) (xs : List Thing) → n ≡ length xs → (n == 0) ≡ true → xs ≡ []
+empty_len n xs e zero = elim (empty_or xs) as (λ _. xs ≡ []) [
+  | inl none ↦ none
+  | inr some ↦ let none = eqb-true n 0 zero in absurd (omega (arith, e, none, some))
+]
+
+pub more_len : (n : ℕ) (xs : List Thing) → n ≡ length xs → (n == 0) ≡ false → 0 < length xs
+more_len n xs e more = elim (empty_or xs) as (λ _. 0 < length xs) [
+  | inl none ↦ let zero = eq-eqb n 0 (e ∙ ap length none) in cc
+  | inr some ↦ some
+]
+
+-- what passes a test among lines, and the other way round
+passes : (p : Reason → Bool) (rs : List Reason) (r : Reason) → Contains (filter p rs) r → Contains rs r × (p r ≡ true)
+passes p [] r c = none_in_nil r _ c
+passes p (s ∷ rs) r c = by (passes p rs r) (p s) refl c
+  where
+    by : (Contains (filter p rs) r → Contains rs r × (p r ≡ true)) → (b : Bool) → p s ≡ b
+        → Contains (cond b (s ∷ filter p rs) (filter p rs)) r → Contains (s ∷ rs) r × (p r ≡ true)
+    by deeper true e c = elim (Contains-cons_cases s (filter p rs) r c) as (λ _. Contains (s ∷ rs) r × (p r ≡ true)) [
+      | inl same ↦ (subst (Contains (s ∷ rs)) same (Contains-head s rs), ap p (sym same) ∙ e)
+      | inr later ↦ let d = deeper later in (Contains-later s rs r d.0, d.1)
+    ]
+    by deeper false e c = let d = deeper c in (Contains-later s rs r d.0, d.1)
+
+passed : (p : Reason → Bool) (rs : List Reason) (r : Reason) → Contains rs r → p r ≡ true → Contains (filter p rs) r
+passed p [] r c h = none_in_nil r _ c
+passed p (s ∷ rs) r c h = by (passed p rs r) (p s) refl (Contains-cons_cases s rs r c)
+  where
+    by : (Contains rs r → p r ≡ true → Contains (filter p rs) r) → (b : Bool) → p s ≡ b → (s ≡ r) ⊎ Contains rs r
+        → Contains (cond b (s ∷ filter p rs) (filter p rs)) r
+    by deeper true e (inl same) = subst (Contains (s ∷ filter p rs)) same (Contains-head s (filter p rs))
+    by deeper true e (inr later) = Contains-later s (filter p rs) r (deeper later h)
+    by deeper false e (inl same) = let both = sym e ∙ ap p same ∙ h in cc
+    by deeper false e (inr later) = deeper later h
+
+not_true : (b : Bool) → not b ≡ true → b ≡ false
+not_true true h = cc
+not_true false h = refl
+
+-- where kept lines have level 0, just their things stand there
+kept_at : (rs : List Reason) → Rise rs → ((r : Reason) → Contains rs r → is_loose r.why ≡ false → r.level ≡ 0)
+    → AreAt rs 0 (map (λ r. r.thing) (filter (λ r. not (is_loose r.why)) rs))
+kept_at rs rise flat x = (to, from)
+  where
+    to : Contains (map (λ r. r.thing) (filter (λ r. not (is_loose r.why)) rs)) x → StandsAt rs 0 x
+    to c =
+        let line = Contains-from_map (λ (r : Reason). r.thing) (filter (λ (r : Reason). not (is_loose r.why)) rs) x c in
+        let found = passes (λ (r : Reason). not (is_loose r.why)) rs line.0 line.1 in
+        let kept = not_true (is_loose line.0.why) found.1 in
+        stands_with rs 0 x line.0 (ap (line_of rs) (sym line.2) ∙ line_found rs rise line.0 found.0) kept (flat line.0 found.0 kept)
+
+    from : StandsAt rs 0 x → Contains (map (λ r. r.thing) (filter (λ r. not (is_loose r.why)) rs)) x
+    from h =
+        let s = stands_line rs 0 x h in
+        let found = found_line x rs s.0 s.1 in
+        subst (Contains (map (λ (r : Reason). r.thing) (filter (λ (r : Reason). not (is_loose r.why)) rs))) found.1
+        (Contains-map (λ (r : Reason). r.thing) (filter (λ (r : Reason). not (is_loose r.why)) rs) s.0
+        (passed (λ (r : Reason). not (is_loose r.why)) rs s.0 found.0 (ap not s.2)))
+
 -- a thing that comes next
 first_of : (xs : List Thing) → 0 < length xs → (x : Thing) × Contains xs x
 first_of [] l = absurd (omega arith)
@@ -123,24 +192,35 @@ module _ (actors : Actors) where
 
   pub starts : (things : List Thing) → ((x : Thing) → Contains things x ↔ IsLeft actors x)
       → IsStrictlySortedBy thing_cmp things → (w : Walk) → w.reasons.items ≡ map (first_line actors) things
-      → AreAt w.reasons.items 0 w.next.items → IsDoneTo actors 0 w
-  starts things exact rising w lines at = record {
+      → w.next.items ≡ map (λ r. r.thing) (filter (λ r. not (is_loose r.why)) w.reasons.items) → IsDoneTo actors 0 w
+  starts things exact rising w lines next = record {
     lists = record {
       left = λ x. subst (λ ts. Contains ts x ↔ IsLeft actors x) (sym same) (exact x);
       rising = subst (IsStrictlySortedBy thing_cmp) (sym same) rising;
     };
-    known = subst (All (IsKnownTo actors 0)) (sym lines)
-        (All-map (IsKnownTo actors 0) (first_line actors) things (λ k d l. first_known actors (get_or things k d)));
+    known = known;
     next = at;
     few = some;
   }
     where
+      known : All (IsKnownTo actors 0) w.reasons.items
+      known = subst (All (IsKnownTo actors 0)) (sym lines)
+          (All-map (IsKnownTo actors 0) (first_line actors) things (λ k d l. first_known actors (get_or things k d)))
+
       itself : (ts : List Thing) → things_in (map (first_line actors) ts) ≡ ts
       itself [] = refl
       itself (t ∷ ts) = ap (λ us. t ∷ us) (itself ts)
 
       same : things_in w.reasons.items ≡ things
       same = ap things_in lines ∙ itself things
+
+      flat : (r : Reason) → Contains w.reasons.items r → is_loose r.why ≡ false → r.level ≡ 0
+      flat r c kept =
+          let k = (All-contains (IsKnownTo actors 0) w.reasons.items r known c).kept kept in omega (arith, k.0)
+
+      at : AreAt w.reasons.items 0 w.next.items
+      at = subst (AreAt w.reasons.items 0) (sym next)
+          (kept_at w.reasons.items (subst (IsStrictlySortedBy thing_cmp) (sym same) rising) flat)
 
       some : 0 < length w.next.items → 0 + 1 + loose_in w.reasons.items ≤ length w.reasons.items
       some l =

@@ -7,6 +7,7 @@ pub mod Levels
 pub mod Listing
 pub mod Lives
 pub mod Naming
+pub mod Parting
 pub mod Reached
 pub mod Runs
 pub mod Walking

@@ -1,7 +1,8 @@
 // Who went by the entries of a run book.
 
-ghost use Rattle.std.specs.Prelude.{◌≡◌, ◌+◌, ◌<◌, ◌≤◌, length, IfOk, OnOk};
-ghost use Rattle.event_rule.specs.Runs.{Goes, IsEnabled};
+ghost use Rattle.std.specs.Prelude.{◌≡◌, ◌+◌, ◌++◌, ◌<◌, ◌≤◌, length, IfOk, OnOk};
+ghost use Rattle.std.specs.Option.{option_to_list};
+ghost use Rattle.event_rule.specs.Runs.{Goes};
 ghost use Rattle.machine_rules.specs.Next.{next};
 ghost use Rattle.machine_rules.specs.State.{State, first_state};
 ghost use Rattle.machine_rules.specs.Run.{IsRun};
@@ -39,11 +40,21 @@ fn parting_at(alloc: Global, orca: &Orca<'_>, e: &Event) -> Result<Option<Partin
     }
 }
 
+// Adds it, if there is one.
+fn tell(found: &mut Vec<Parting>, parting: Option<Parting>) -> Result<(), NoMemory>
+    ensures { OnOk result (found.new.items ≡ found.old.items ++ option_to_list parting) }
+{
+    if let Some(one) = parting {
+        found.push(one)?;
+    }
+    Ok(())
+}
+
 // Does an entry of a run.
 fn step(alloc: Global, orca: &mut Orca<'_>, e: &Event) -> Result<(), NoMemory>
     requires early { orca.old.steps < BOOK_LIMIT }
     requires home { NoneIsAway orca.old }
-    requires enabled { IsEnabled next orca.old.state e.now }
+    requires leads { (t : State) × (next orca.old.state e.now ≡ Goes t) }
     ensures ok { OnOk result (next orca.old.state e.now ≡ Goes orca.new.state) }
     ensures steps { OnOk result (orca.new.steps ≡ orca.old.steps + 1) }
     ensures home { NoneIsAway orca.new }
@@ -73,9 +84,7 @@ pub fn partings(alloc: Global, code: &Checked, book: &Book) -> Result<Vec<Partin
     let mut found = Vec::new(alloc);
     for i in 0..book.len() {
         let e = book.at(i);
-        if let Some(parting) = parting_at(alloc, &orca, &e)? {
-            found.push(parting)?;
-        }
+        tell(&mut found, parting_at(alloc, &orca, &e)?)?;
         step(alloc, &mut orca, &e)?;
     }
     Ok(found)

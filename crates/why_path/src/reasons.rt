@@ -1,41 +1,56 @@
 // Why each thing that is left is left.
 
-ghost use Rattle.std.specs.Prelude.{◌≡◌, length, map, IfOk, OnOk};
-ghost use Rattle.std.specs.List.Sorted.{IsStrictlySortedBy};
-ghost use Rattle.orca_names.specs.Names.{thing_cmp};
+ghost use Rattle.std.specs.Prelude.{◌≡◌, length, map, not, IfOk, OnOk};
+ghost use Rattle.std.specs.List.{filter};
 ghost use Rattle.orca_core.specs.Machine.{NoneIsAway};
+ghost use Rattle.why_path.specs.Checks.{is_loose};
 ghost use Rattle.why_path.specs.Reasons.{AreReasons};
-ghost use Rattle.why_path.specs.Walk.{AreAt, IsDoneTo, first_line};
+ghost use Rattle.why_path.specs.Walk.{IsDoneTo, first_line};
 
 use crate::causes::cause_of;
-use crate::walk::Walk;
+use crate::walk::{Walk, is_loose};
 use orca_core::Orca;
 use orca_names::{NoMemory, Reason, Thing, Why};
 use std::alloc::Global;
 use std::mem;
 
-// A walk that begins at the roots among these things.
-fn from_roots(alloc: Global, orca: &Orca<'_>, things: &[Thing]) -> Result<Walk, NoMemory>
-    requires home { NoneIsAway orca.now }
-    requires rising { IsStrictlySortedBy thing_cmp things.now }
-    ensures lines { IfOk result (λ walk. walk.reasons.items
+// The line of a thing before the walk: that of a root, or a loose one.
+fn first_line(orca: &Orca<'_>, thing: Thing) -> Reason
+    requires { NoneIsAway orca.now }
+    ensures { result ≡ first_line orca.now.state.actors thing }
+{
+    Reason {
+        thing,
+        level: 0,
+        why: cause_of(orca, &thing).unwrap_or(Why::Loose),
+    }
+}
+
+// The lines of these things before the walk.
+fn first_lines(alloc: Global, orca: &Orca<'_>, things: &[Thing]) -> Result<Vec<Reason>, NoMemory>
+    requires { NoneIsAway orca.now }
+    ensures { IfOk result (λ reasons. reasons.items
         ≡ map (first_line orca.now.state.actors) things.now) }
-    ensures next { IfOk result (λ walk. AreAt walk.reasons.items 0 walk.next.items) }
 {
     let mut reasons = Vec::new(alloc);
-    let mut next = Vec::new(alloc);
     for thing in things {
-        let cause = cause_of(orca, thing);
-        if cause.is_some() {
-            next.push(*thing)?;
-        }
-        reasons.push(Reason {
-            thing: *thing,
-            level: 0,
-            why: cause.unwrap_or(Why::Loose),
-        })?;
+        reasons.push(first_line(orca, *thing))?;
     }
-    Ok(Walk { reasons, next })
+    Ok(reasons)
+}
+
+// The things whose lines are not loose.
+fn kept_among(alloc: Global, reasons: &[Reason]) -> Result<Vec<Thing>, NoMemory>
+    ensures { IfOk result (λ things. things.items
+        ≡ map (λ r. r.thing) (filter (λ r. not (is_loose r.why)) reasons.now)) }
+{
+    let mut things = Vec::new(alloc);
+    for line in reasons {
+        if !is_loose(&line.why) {
+            things.push(line.thing)?;
+        }
+    }
+    Ok(things)
 }
 
 impl Walk {
@@ -73,7 +88,9 @@ pub fn explain(alloc: Global, orca: &Orca<'_>) -> Result<Vec<Reason>, NoMemory>
     ensures { IfOk result (λ reasons. AreReasons orca.now.state.actors reasons.items) }
 {
     let things = orca.left(alloc)?;
-    let mut walk = from_roots(alloc, orca, things.as_slice())?;
+    let reasons = first_lines(alloc, orca, things.as_slice())?;
+    let next = kept_among(alloc, reasons.as_slice())?;
+    let mut walk = Walk { reasons, next };
     walk.finish(alloc, orca, things.len() as u64)?;
     Ok(walk.reasons)
 }

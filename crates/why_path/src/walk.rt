@@ -5,7 +5,7 @@ ghost use Rattle.orca_core.specs.Machine.{NoneIsAway};
 ghost use Rattle.why_path.specs.Checks.{is_loose};
 ghost use Rattle.why_path.specs.Edges.{lead_of, leads_from, leads_of, leads_of_letters, leads_of_seat};
 ghost use Rattle.why_path.specs.Seats.{as_seat};
-ghost use Rattle.why_path.specs.Walk.{IsUnderWay, edge_in, first_line, reached, reached_from};
+ghost use Rattle.why_path.specs.Walk.{IsUnderWay, edge_in, reached, reached_from};
 
 use crate::causes::cause_of;
 use crate::lines::place_of;
