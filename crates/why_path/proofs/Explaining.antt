@@ -1,13 +1,13 @@
 -- A walk, level by level, to its end.
-use Rattle.std.proofs.Common.{◌≡◌, ◌≢◌, ◌↔◌, inl, inr, ℕ, zero, suc, ◌+◌, ◌<◌, ◌≤◌, ◌⊎◌, Bool, true, false, cond, eq-eqb, List, [], ◌∷◌, length, map, get_or, Option, Some, None, Contains, Ordering, refl, sym, ap, subst, ◌∙◌, arith}
+use Rattle.std.proofs.Common.{◌≡◌, ◌≢◌, ◌↔◌, inl, inr, ℕ, zero, suc, ◌+◌, ◌<◌, ◌≤◌, ◌⊎◌, Bool, true, false, cond, eq-eqb, List, [], ◌∷◌, ◌++◌, length, map, take, get_or, append-nil, Option, Some, None, Contains, Ordering, refl, sym, ap, subst, ◌∙◌, arith}
 use Rattle.std.specs.Prelude.{◌==◌, All, count_by, not}
 use Rattle.std.specs.List.{filter}
 use Rattle.std.proofs.lemmas.Bool.{eqb-true}
 use Rattle.std.specs.List.Sorted.{IsPermutation, IsSorted, IsStrictlySortedBy}
 use Rattle.std.specs.Ordering.{is_lt, ordering_reverse}
 use Rattle.std.specs.declared.cmp.Ordering.TheVariants.{Less, Equal, Greater}
-use Rattle.std.proofs.lemmas.List.{length-map}
-use Rattle.std.proofs.lemmas.List.Elements.{All-contains, All-map, Contains-get_or}
+use Rattle.std.proofs.lemmas.List.{length-map, map-append}
+use Rattle.std.proofs.lemmas.List.Elements.{All-contains, All-map, Contains-get_or, filter_more}
 use Rattle.std.proofs.lemmas.List.Sorted.{Contains-permutation, IsPermutation-sym}
 use Rattle.std.proofs.lemmas.List.Sums.{count_by-le-length, sum_by-cons}
 use Rattle.std.proofs.lemmas.Simd.{map-map}
@@ -123,14 +123,14 @@ empty_or [] = inl refl
 empty_or (x ∷ xs) = inr (omega arith)
 
 pub empty_len : (n : ℕ) (xs : List Thing) → n ≡ length xs → (n == 0) ≡ true → xs ≡ []
-empty_len n xs e zero = elim (empty_or xs) as (λ _. xs ≡ []) [
+empty_len n xs e no_len = elim (empty_or xs) as (λ _. xs ≡ []) [
   | inl none ↦ none
-  | inr some ↦ let none = eqb-true n 0 zero in absurd (omega (arith, e, none, some))
+  | inr some ↦ let none = eqb-true n 0 no_len in absurd (omega (arith, e, none, some))
 ]
 
 pub more_len : (n : ℕ) (xs : List Thing) → n ≡ length xs → (n == 0) ≡ false → 0 < length xs
 more_len n xs e more = elim (empty_or xs) as (λ _. 0 < length xs) [
-  | inl none ↦ let zero = eq-eqb n 0 (e ∙ ap length none) in cc
+  | inl none ↦ let no_len = eq-eqb n 0 (e ∙ ap length none) in cc
   | inr some ↦ some
 ]
 
@@ -157,6 +157,27 @@ passed p (s ∷ rs) r c h = by (passed p rs r) (p s) refl (Contains-cons_cases s
     by deeper true e (inr later) = Contains-later s (filter p rs) r (deeper later h)
     by deeper false e (inl same) = let both = sym e ∙ ap p same ∙ h in cc
     by deeper false e (inr later) = deeper later h
+
+-- one line more, that is kept or loose
+abbrev kept_of : List Reason → List Thing
+kept_of rs = map (λ r. r.thing) (filter (λ r. not (is_loose r.why)) rs)
+
+line_more : (rs : List Reason) (i : ℕ) (r : Reason) → i < length rs → r ≡ get_or rs i r → (b : Bool) → not (is_loose r.why) ≡ b
+    → kept_of (take (i + 1) rs) ≡ kept_of (take i rs) ++ map (λ r. r.thing) (cond b (r ∷ []) [])
+line_more rs i r l is b e =
+    let test : Reason → Bool = λ q. not (is_loose q.why) in
+    ap (map (λ (q : Reason). q.thing)) (filter_more test rs i r l)
+    ∙ map-append (λ (q : Reason). q.thing) (filter test (take i rs)) (cond (test (get_or rs i r)) (get_or rs i r ∷ []) [])
+    ∙ ap (λ q. kept_of (take i rs) ++ map (λ (q : Reason). q.thing) (cond (test q) (q ∷ []) [])) (sym is)
+    ∙ ap (λ d. kept_of (take i rs) ++ map (λ (q : Reason). q.thing) (cond d (r ∷ []) [])) e
+
+pub kept_more : (rs : List Reason) (i : ℕ) (r : Reason) → i < length rs → r ≡ get_or rs i r → is_loose r.why ≡ false
+    → kept_of (take (i + 1) rs) ≡ kept_of (take i rs) ++ r.thing ∷ []
+kept_more rs i r l is kept = line_more rs i r l is true (ap not kept)
+
+pub loose_more : (rs : List Reason) (i : ℕ) (r : Reason) → i < length rs → r ≡ get_or rs i r → is_loose r.why ≡ true
+    → kept_of (take (i + 1) rs) ≡ kept_of (take i rs)
+loose_more rs i r l is loose = line_more rs i r l is false (ap not loose) ∙ append-nil (kept_of (take i rs))
 
 not_true : (b : Bool) → not b ≡ true → b ≡ false
 not_true true h = cc

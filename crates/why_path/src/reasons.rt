@@ -14,19 +14,7 @@ use orca_names::{NoMemory, Reason, Thing, Why};
 use std::alloc::Global;
 use std::mem;
 
-// The line of a thing before the walk: that of a root, or a loose one.
-fn first_line(orca: &Orca<'_>, thing: Thing) -> Reason
-    requires { NoneIsAway orca.now }
-    ensures { result ≡ first_line orca.now.state.actors thing }
-{
-    Reason {
-        thing,
-        level: 0,
-        why: cause_of(orca, &thing).unwrap_or(Why::Loose),
-    }
-}
-
-// The lines of these things before the walk.
+// The lines of these things before the walk: those of roots, and loose ones.
 fn first_lines(alloc: Global, orca: &Orca<'_>, things: &[Thing]) -> Result<Vec<Reason>, NoMemory>
     requires { NoneIsAway orca.now }
     ensures { IfOk result (λ reasons. reasons.items
@@ -34,7 +22,12 @@ fn first_lines(alloc: Global, orca: &Orca<'_>, things: &[Thing]) -> Result<Vec<R
 {
     let mut reasons = Vec::new(alloc);
     for thing in things {
-        reasons.push(first_line(orca, *thing))?;
+        let why = cause_of(orca, thing).unwrap_or(Why::Loose);
+        reasons.push(Reason {
+            thing: *thing,
+            level: 0,
+            why,
+        })?;
     }
     Ok(reasons)
 }

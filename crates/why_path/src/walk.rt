@@ -1,20 +1,18 @@
 // A walk along edges, level by level.
 
-ghost use Rattle.std.specs.Prelude.{◌≡◌, ◌↔◌, ◌≤◌, ◌∷◌, [], true, map, length, IfOk, OnOk};
+ghost use Rattle.std.specs.Prelude.{◌≡◌, ◌≤◌, ◌∷◌, [], map, length, OnOk};
 ghost use Rattle.orca_core.specs.Machine.{NoneIsAway};
 ghost use Rattle.why_path.specs.Checks.{is_loose};
 ghost use Rattle.why_path.specs.Edges.{lead_of, leads_from, leads_of, leads_of_letters, leads_of_seat};
 ghost use Rattle.why_path.specs.Seats.{as_seat};
 ghost use Rattle.why_path.specs.Walk.{IsUnderWay, edge_in, reached, reached_from};
 
-use crate::causes::cause_of;
 use crate::lines::place_of;
 use crate::seats::{Seated, seat_of};
 use crate::values::{args_of, registers_of, row_left};
 use mail_rows::MailRow;
 use orca_core::Orca;
 use orca_names::{Edge, NoMemory, Reason, Thing, Value, Why};
-use std::alloc::Global;
 
 /// What holds values that lead on.
 #[derive(Clone, Copy)]
