@@ -264,10 +264,10 @@ module _ (actors : Actors) where
     none_higher x = (
       λ c. none_in_nil x _ c,
       λ h.
-      let s = stands_line rs (suc level) x h in
-      let found = found_line x rs s.0 s.1 in
-      let k = (known_of s.0 found.0).kept s.2 in
-      absurd (omega (arith, k.0, s.3)),
+          let s = stands_line rs (suc level) x h in
+          let found = found_line x rs s.0 s.1 in
+          let k = (known_of s.0 found.0).kept s.2 in
+          absurd (omega (arith, k.0, s.3)),
     )
 
     module _ (left : LeftAreLed actors) (front : List Thing) (moved : IsPermutation w.next.items front)

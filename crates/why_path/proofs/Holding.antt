@@ -226,8 +226,13 @@ module _ (actors : Actors) (rs : List Reason) (are : AreReasons actors rs) (left
         where
           cases : (b : Bool) → is_loose r.why ≡ b
               → (r : Reason) × (line_of rs x ≡ Some r) × (is_loose r.why ≡ false) × IsLevel actors x r.level
-          cases false kept = (r, e, kept, subst (λ y. IsLevel actors y r.level) found.1
-              (reason_level actors r.thing r.level r.why kept (reason r found.0)))
+          cases false kept = (
+            r,
+            e,
+            kept,
+            subst (λ y. IsLevel actors y r.level) found.1
+                (reason_level actors r.thing r.level r.why kept (reason r found.0)),
+          )
           cases true loose = absurd (far r.thing r.level r.why loose (reason r found.0) n
               (subst (IsLedTo actors n) (sym found.1) led))
 

@@ -322,10 +322,13 @@ module _ (actors : Actors) where
           → IsKnownTo actors 0 (record { thing = x; level = 0; why = unwrap_or o Loose })
       by None e = record {
         kept = λ h. cc;
-        loose = λ _. (refl, λ m within led.
-            let none : m ≡ 0 = omega arith in
-            let root = led_root actors x (subst (λ k. IsLedTo actors k x) none led) in
-            let no = sym (ap is_some e) ∙ root in cc);
+        loose = λ _. (
+          refl,
+          λ m within led.
+              let none : m ≡ 0 = omega arith in
+              let root = led_root actors x (subst (λ k. IsLedTo actors k x) none led) in
+              let no = sym (ap is_some e) ∙ root in cc,
+        );
       }
       by (Some w) e =
           let is = root_reason x w e in

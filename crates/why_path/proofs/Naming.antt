@@ -141,9 +141,9 @@ module _ (rs : List Reason) where
       λ x c. h x (subst (λ ts. Contains ts x) (sym (ends_seat o)) c) in (
         not_loose_named o.cell.fields.values (λ x c. at x (Contains-append_left fields (registers ++ named_in o.mail) x c)),
         not_loose_named (registers_of o) (λ x c. at x (Contains-append_right fields (registers ++ named_in o.mail) x
-        (Contains-append_left registers (named_in o.mail) x c))),
+            (Contains-append_left registers (named_in o.mail) x c))),
         not_loose_letters o.mail (λ x c. at x (Contains-append_right fields (registers ++ named_in o.mail) x
-        (Contains-append_right registers (named_in o.mail) x c))),
+            (Contains-append_right registers (named_in o.mail) x c))),
       )
 
   -- of a thing
@@ -158,9 +158,9 @@ module _ (rs : List Reason) where
     unfolding leads_of
     none_of_actor a o at = (
       λ h x leads. seat_not_loose o h x (led_end (leads_of_seat o) leads.0 x
-      (subst (λ p. Contains (option_map_or leads_of_seat p []) (leads.0, x)) at leads.1)),
+          (subst (λ p. Contains (option_map_or leads_of_seat p []) (leads.0, x)) at leads.1)),
       λ h. not_loose_seat o (λ x c. let led = end_led (leads_of_seat o) x c in
-      h x (led.0, subst (λ p. Contains (option_map_or leads_of_seat p []) (led.0, x)) (sym at) led.1)),
+          h x (led.0, subst (λ p. Contains (option_map_or leads_of_seat p []) (led.0, x)) (sym at) led.1)),
     )
 
     pub none_of_object : (n : ObjName) → (All (NamesNoneLoose rs) (row_left actors n) × IsNotLoose rs (Actor n.owner))
@@ -182,9 +182,12 @@ module _ (rs : List Reason) where
             → All (NamesNoneLoose rs) (row_left actors n) × IsNotLoose rs (Actor n.owner)
         from h = (
           not_loose_named (row_left actors n) (λ x c.
-          let led = end_led (leads_from edges.Place 0 (row_left actors n)) x
-          (subst (λ ts. Contains ts x) (sym (ends_from edges.Place 0 (row_left actors n))) c) in
-          h x (led.0, Contains-append_left (leads_from edges.Place 0 (row_left actors n)) ((edges.Owner, Actor n.owner) ∷ []) (led.0, x) led.1)),
-          h (Actor n.owner) (edges.Owner, Contains-append_right (leads_from edges.Place 0 (row_left actors n)) ((edges.Owner, Actor n.owner) ∷ [])
-          (edges.Owner, Actor n.owner) (Contains-head (edges.Owner, Actor n.owner) [])),
+              let led = end_led (leads_from edges.Place 0 (row_left actors n)) x
+              (subst (λ ts. Contains ts x) (sym (ends_from edges.Place 0 (row_left actors n))) c) in
+              h x (led.0, Contains-append_left (leads_from edges.Place 0 (row_left actors n)) ((edges.Owner, Actor n.owner) ∷ []) (led.0, x) led.1)),
+          h (Actor n.owner) (
+            edges.Owner,
+            Contains-append_right (leads_from edges.Place 0 (row_left actors n)) ((edges.Owner, Actor n.owner) ∷ [])
+                (edges.Owner, Actor n.owner) (Contains-head (edges.Owner, Actor n.owner) []),
+          ),
         )

@@ -1,5 +1,5 @@
 -- One entry of a book more.
-use Rattle.std.proofs.Common.{◌≡◌, ℕ, zero, suc, ◌+◌, ◌<◌, ◌≤◌, List, [], ◌∷◌, ◌++◌, length, drop, get_or, Option, Some, None, refl, sym, ap, subst, ◌∙◌, append_assoc, arith}
+use Rattle.std.proofs.Common.{◌≡◌, ℕ, suc, ◌+◌, List, [], ◌∷◌, ◌++◌, drop, get_or, Option, Some, None, refl, sym, ap, subst, ◌∙◌, append_assoc, arith}
 use Rattle.std.specs.Prelude.{slice_get}
 use Rattle.std.specs.List.{cons_option}
 use Rattle.std.specs.Option.{option_to_list}
@@ -18,13 +18,6 @@ entry_first book i e at =
     let up : suc i ≡ i + 1 = omega arith in
     drop-cons book i e (slice_get_within book i e at)
     ∙ (λ t. get_or_from_slice_get book i e e at t ∷ drop (up t) book)
-
--- behind the last entry
-pub behind_last : (book : List Event) (i : ℕ) → length book ≤ i → drop i book ≡ []
-behind_last [] zero l = refl
-behind_last [] (suc i) l = refl
-behind_last (e ∷ book) zero l = absurd (omega arith)
-behind_last (e ∷ book) (suc i) l = behind_last book i (omega arith)
 
 same_step : (s t : State) → Goes s ≡ Goes t → s ≡ t
 same_step s t e = cc

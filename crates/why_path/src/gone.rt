@@ -78,7 +78,7 @@ pub fn partings(alloc: Global, code: &Checked, book: &Book) -> Result<Vec<Partin
     requires few { length book.now.entries ≤ BOOK_LIMIT }
     ensures { let options = options_of book.now.weight book.now.trace in
         IfOk result (λ found. found.items
-            ≡ partings_of book.now.entries (first_state code.now options)) }
+        ≡ partings_of book.now.entries (first_state code.now options)) }
 {
     let mut orca = Orca::start(alloc, code, book.weight(), book.trace())?;
     let mut found = Vec::new(alloc);

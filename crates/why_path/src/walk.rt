@@ -117,7 +117,7 @@ impl Walk {
         requires next { IsUnderWay step.now.level self.old }
         ensures lines { OnOk result (self.new.reasons.items
             ≡ map (reached step.now.parent step.now.level (leads_from (edge_in holder) 0 values.now))
-                self.old.reasons.items) }
+            self.old.reasons.items) }
         ensures next { OnOk result (IsUnderWay step.now.level self.new) }
     {
         for (i, value) in values.iter().enumerate() {
@@ -131,7 +131,7 @@ impl Walk {
         requires { IsUnderWay step.now.level self.old }
         ensures lines { OnOk result (self.new.reasons.items
             ≡ map (reached step.now.parent step.now.level (leads_of_letters 0 mail.now.letters))
-                self.old.reasons.items) }
+            self.old.reasons.items) }
         ensures next { OnOk result (IsUnderWay step.now.level self.new) }
     {
         for k in 0..mail.len() {
@@ -145,7 +145,7 @@ impl Walk {
         requires { IsUnderWay step.now.level self.old }
         ensures lines { OnOk result (self.new.reasons.items
             ≡ map (reached step.now.parent step.now.level (leads_of_seat (as_seat seat.now)))
-                self.old.reasons.items) }
+            self.old.reasons.items) }
         ensures next { OnOk result (IsUnderWay step.now.level self.new) }
     {
         self.reach_values(step, Holder::Fields, seat.cell.fields.values.as_slice())?;
@@ -159,7 +159,7 @@ impl Walk {
         requires next { IsUnderWay step.now.level self.old }
         ensures lines { OnOk result (self.new.reasons.items
             ≡ map (reached step.now.parent step.now.level (leads_of orca.now.state.actors step.now.parent))
-                self.old.reasons.items) }
+            self.old.reasons.items) }
         ensures next { OnOk result (IsUnderWay step.now.level self.new) }
     {
         match &step.parent {

@@ -41,6 +41,7 @@ returns-else-name_none_loose c =
     let rs = c.args.reasons.now in
     let n = c.in-Obj.n in
     let object = none_of_object rs actors n in
-    subst (λ t. c.name_none_loose.result ≡ true ↔ LeadsToNoneLoose actors rs t) (sym c.in-Obj.is)
-    ((λ e. let failed = c.if-name_none_loose.false in cc),
-    (λ none. c.name_none_loose.ensures.1 (subst (All (NamesNoneLoose rs)) (sym c.row_left.ensures.value) (object.1 none).0)))
+    subst (λ t. c.name_none_loose.result ≡ true ↔ LeadsToNoneLoose actors rs t) (sym c.in-Obj.is) (
+      (λ e. let failed = c.if-name_none_loose.false in cc),
+      (λ none. c.name_none_loose.ensures.1 (subst (All (NamesNoneLoose rs)) (sym c.row_left.ensures.value) (object.1 none).0)),
+    )

@@ -1,11 +1,12 @@
 use Rattle.std.proofs.Common.{◌≡◌, ◌≤◌, ◌+◌, ◌++◌, [], drop, length, sym, ap, subst, ◌∙◌, append-nil, arith}
 use Rattle.std.specs.Option.{option_to_list}
+use Rattle.std.proofs.lemmas.List.{drop_all}
 use Rattle.event_rule.specs.Runs.{Leads}
 use Rattle.machine_rules.specs.Next.{next}
 use Rattle.machine_rules.specs.State.{State, first_state}
 use Rattle.orca_core.specs.Machine.{options_of}
 use Rattle.why_path.specs.Partings.{partings_of}
-use Rattle.why_path.proofs.Parting.{behind_last, entry_leads, entry_told, others_lead}
+use Rattle.why_path.proofs.Parting.{entry_leads, entry_told, others_lead}
 use Rattle.why_path.proofs.gone.partings.Goals as goal
 
 pub loop-i-init : goal.loop-i-init
@@ -48,5 +49,5 @@ returns c =
     let i = c.loop-i.i in
     let whole : length book ≤ i = omega (arith, c.loop-i-test.false, c.len-i-end.ensures) in
     sym (append-nil c.loop-i.found.items)
-    ∙ ap (λ es. c.loop-i.found.items ++ partings_of es c.loop-i.orca.state) (sym (behind_last book i whole))
+    ∙ ap (λ es. c.loop-i.found.items ++ partings_of es c.loop-i.orca.state) (sym (drop_all i book whole))
     ∙ c.loop-i.invariant.found

@@ -8,7 +8,7 @@ returns-then-not-rise c = ((λ e. cc), (λ lists. absurd (not_so c.rise.ensures 
 pub returns-then-are_left : goal.returns-then-are_left
 returns-then-are_left c = (
   λ e. lists_by c.args.orca.now.state.actors c.args.reasons.now (c.rise.ensures.0 c.if-not-rise.false)
-  (c.are_left.ensures.0 c.if-are_left.true) (c.lists_left.ensures.0 e),
+      (c.are_left.ensures.0 c.if-are_left.true) (c.lists_left.ensures.0 e),
   λ lists. c.lists_left.ensures.1 (λ x. (lists.left x).1),
 )
 

@@ -30,6 +30,6 @@ returns-then-not-lists_of c = (
 pub returns : goal.returns
 returns c = (
   λ _ x left. c.loop-a.invariant x left
-  (omega (arith, present_below c.args.orca.now.state.actors (owner_of x) left.seat left.present, c.loop-a-test.false, c.made-a-end.ensures)),
+      (omega (arith, present_below c.args.orca.now.state.actors (owner_of x) left.seat left.present, c.loop-a-test.false, c.made-a-end.ensures)),
   λ _. refl,
 )

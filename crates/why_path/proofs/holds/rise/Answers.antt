@@ -12,11 +12,11 @@ pub returns-then-not-is_lt : goal.returns-then-not-is_lt
 returns-then-not-is_lt c = (
   λ e. cc,
   λ rise.
-  let less = rise_at c.args.reasons.now c.loop-i.i c.index-reasons-i.result c.index-reasons-i-in-loop-i.result
-  c.loop-i.auto.i c.loop-i-test.true rise in
-  let passed = ap is_lt (c.cmp.ensures ∙ less) in
-  let failed = sym c.is_lt.ensures ∙ c.if-not-is_lt.true in
-  cc,
+      let less = rise_at c.args.reasons.now c.loop-i.i c.index-reasons-i.result c.index-reasons-i-in-loop-i.result
+      c.loop-i.auto.i c.loop-i-test.true rise in
+      let passed = ap is_lt (c.cmp.ensures ∙ less) in
+      let failed = sym c.is_lt.ensures ∙ c.if-not-is_lt.true in
+      cc,
 )
 
 pub returns : goal.returns

@@ -15,8 +15,8 @@ returns-in-Some c =
     let tests = c.is_eq.ensures ∙ ap is_eq c.cmp.ensures in (
       λ h. end_leads actors t e x (is ∙ ap Some (is_same y x (sym tests ∙ h))),
       λ leads. let both = sym is ∙ leads_end actors t e x leads in
-      let same : y ≡ x = cc in
-      tests ∙ is_eq_true y x same,
+          let same : y ≡ x = cc in
+          tests ∙ is_eq_true y x same,
     )
 
 pub returns-in-None : goal.returns-in-None
