@@ -201,7 +201,7 @@ module _ (c : Cell) where
   es = m.entries c.heap.rows
 
   -- an actor's things are its own, and it has each
-  its_own : (x : Thing) → Contains (things_of c) x → IsIts c x
+  pub its_own : (x : Thing) → Contains (things_of c) x → IsIts c x
   unfolding has_own
   its_own x h = elim (first_or_later (Actor me) x (objects me es) h) as (λ _. IsIts c x) [
     | inl same ↦ subst (IsIts c) same (refl, refl)
@@ -213,7 +213,7 @@ module _ (c : Cell) where
       of (Obj n) h = (h.0, ap is_some (m.get-entries c.heap.rows n.serial) ∙ h.1)
 
   -- they are all that it has of its own
-  all_its_own : (x : Thing) → owner_of x ≡ me → has_own (as_cell c).holdings x ≡ true
+  pub all_its_own : (x : Thing) → owner_of x ≡ me → has_own (as_cell c).holdings x ≡ true
       → Contains (things_of c) x
   unfolding has_own
   all_its_own (Actor b) mine there =

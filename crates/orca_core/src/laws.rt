@@ -1,5 +1,6 @@
 // What holds of the machine at every moment, whatever was done with it.
 
+ghost use Rattle.std.specs.Prelude.{◌<◌};
 ghost use Rattle.orca_core.specs.Laws.{ComesToRest, CountsInFewBits, IsExactAtQuiet, KeepsTheReachable};
 
 use crate::machine::Orca;
@@ -32,6 +33,13 @@ impl<'a> Orca<'a> {
     /// No count, and no count that is told of, needs more than 43 bits.
     pub fn counts_in_few_bits(&self)
         ensures { CountsInFewBits self.now }
+    {
+        let _ = &self.parts;
+    }
+
+    /// An increment is by at least 1.
+    pub fn weight_is_above_zero(&self)
+        ensures { 0 < self.now.state.options.weight }
     {
         let _ = &self.parts;
     }

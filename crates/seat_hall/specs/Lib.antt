@@ -5,3 +5,4 @@ pub mod Fair
 pub mod Passes
 pub mod Closes
 pub mod Stands
+pub mod Boards

@@ -5,6 +5,7 @@
 //! answers after the same log.
 #![tactic(auto)]
 
+mod board;
 mod claiming;
 mod closing;
 mod entering;
@@ -17,6 +18,7 @@ mod seats;
 mod taken;
 mod task;
 
+pub use board::{SeatHall, SeatPass};
 pub use closing::Closing;
 pub use hall::Hall;
 pub use item::{Item, PassView};

@@ -1,0 +1,13 @@
+pub mod Answering
+pub mod Ending
+pub mod Explaining
+pub mod Finding
+pub mod Holding
+pub mod Levels
+pub mod Listing
+pub mod Lives
+pub mod Naming
+pub mod Parting
+pub mod Reached
+pub mod Runs
+pub mod Walking

@@ -1,0 +1,10 @@
+pub mod Checks
+pub mod Edges
+pub mod Ends
+pub mod Laws
+pub mod Lines
+pub mod Named
+pub mod Partings
+pub mod Reasons
+pub mod Seats
+pub mod Walk

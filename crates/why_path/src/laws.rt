@@ -1,0 +1,18 @@
+// What holds of reasons after every run.
+
+ghost use Rattle.why_path.specs.Laws.{KeptAreReachable, NoneLooseAtQuiet, ReasonsHoldUp};
+
+/// Where reasons hold up, exactly what is reachable in the machine that frees nothing is kept by them.
+pub fn kept_are_reachable()
+    ensures { KeptAreReachable }
+{}
+
+/// The reasons of a state hold up.
+pub fn reasons_hold_up()
+    ensures { ReasonsHoldUp }
+{}
+
+/// With deep tracing, where no event is enabled any more, reasons that hold up call nothing loose.
+pub fn none_is_loose_at_quiet()
+    ensures { NoneLooseAtQuiet }
+{}
