@@ -3,36 +3,57 @@ use Rattle.std.proofs.Common.{◌≡◌, ◌≢◌, ◌⊎◌, inl, inr, ℕ, �
 use Rattle.std.specs.declared.option.Option.{Option}
 use Rattle.std.proofs.KnownBytes.{Appends-nil, Consumes-nil}
 use Rattle.run_book.specs.Books.{BookValue}
+use Rattle.run_book.specs.Reading.{IsBookText}
+use Rattle.book_audit.specs.Verdicts.{IsRefuted}
 use Rattle.report_text.specs.Refusals.{refusal_of}
 use Rattle.report_text.specs.declared.status.Status.{Status}
 use Rattle.report_text.specs.declared.status.Status.TheVariants as status
 use Rattle.word_line.specs.declared.order.Job.{Job}
-use Rattle.word_line.specs.declared.order.Job.TheVariants.{Run, Load}
+use Rattle.word_line.specs.declared.order.Job.TheVariants.{Run, Load, Audit, Why}
 use Rattle.word_line.specs.declared.order.Order.{Order}
 use Rattle.behaviour_code.specs.declared.code.Program.{Program}
 use Rattle.machine_rules.specs.State.{State}
 use Rattle.report_text.specs.Refusals.{HasRefusal}
-use Rattle.outside_world.specs.Pieces.{TakesPart}
-use Rattle.pony_run.specs.Headline.{Answers, Begins, EndsWith, EveryRun, IsCut, IsInput, IsReport, IsReportOf, MayRead, Reads, ReadsFor, Refuses, Writes}
-use Rattle.pony_run.specs.Inner.{GivesProgram, IsInputStop, IsReadStop, IsStop, IsTextStop, RunAnswers, StopsWith, WritesReport}
-use Rattle.pony_run.specs.Streams.{IsUntouched, Sides}
+use Rattle.outside_world.specs.Pieces.{TakesAll, TakesPart}
+use Rattle.pony_run.specs.Headline.{Answers, Begins, BeginsAudit, EndsWith, EveryRun, HasText, IsAudited, IsCut, IsInput, IsReport, IsReportOf, MayRead, Reads, ReadsFor, Refuses, TakesInput, Writes}
+use Rattle.pony_run.specs.Inner.{AuditAnswers, BeginsRun, GivesBegun, HasBehind, InputStops, IsBookStop, IsReadStop, IsRunnable, IsStop, IsTextStop, IsTold, IsWritten, RunAnswers, StopsWith, WritesAudit, WritesReport}
+use Rattle.pony_run.specs.Streams.{CountsNoFault, IsUntouched, Sides, most_bytes}
+use Rattle.pony_run.specs.declared.beginning.Begun.{Begun}
+use Rattle.pony_run.specs.declared.beginning.Begun.TheVariants as begun
 
 -- ---- what was read
 
-pub untouched_reads : (job : Job) (source : Sides) → IsUntouched source → ReadsFor job source
-untouched_reads Run source h = record {
+nothing_read : (source : Sides) → IsUntouched source → Reads source
+nothing_read source h = record {
   part = subst (λ (after : Option (List ℕ)). TakesPart source.before after) (sym h.0) (record { bytes = []; front = Consumes-nil source.before });
   stays = let well = h.1 in omega arith;
 }
+
+pub untouched_reads : (job : Job) (source : Sides) → IsUntouched source → ReadsFor job source
+untouched_reads Run source h = nothing_read source h
+untouched_reads Audit source h = nothing_read source h
+untouched_reads Why source h = nothing_read source h
 untouched_reads (Load count) source h = h
 
 pub untouched_may_read : (reading : Option Order) (source : Sides) → IsUntouched source → MayRead reading source
 untouched_may_read None source h = h
 untouched_may_read (Some order) source h = untouched_reads order.job source h
 
+all_read : (source : Sides) (input : List ℕ) → CountsNoFault source × TakesAll most_bytes source.before source.after input → Reads source
+all_read source input h = record { part = record { bytes = input; front = h.1.front }; stays = let well = h.0 in omega arith }
+
 pub input_reads : (job : Job) (source : Sides) (input : List ℕ) → IsInput job source input → ReadsFor job source
-input_reads Run source input h = record { part = record { bytes = input; front = h.1.front }; stays = let well = h.0 in omega arith }
+input_reads Run source input h = all_read source input h
+input_reads Audit source input h = all_read source input h
+input_reads Why source input h = all_read source input h
 input_reads (Load count) source input h = h.0
+
+-- what the job reads, where it takes its input from the source
+taken_reads : (job : Job) (source : Sides) → TakesInput job → Reads source → ReadsFor job source
+taken_reads Run source takes reads = reads
+taken_reads Audit source takes reads = reads
+taken_reads Why source takes reads = reads
+taken_reads (Load count) source takes reads = absurd takes
 
 may_read : (reading : Option Order) (order : Order) (source : Sides) → reading ≡ Some order → ReadsFor order.job source → MayRead reading source
 may_read reading order source words h = subst (λ (r : Option Order). MayRead r source) (sym words) h
@@ -49,77 +70,172 @@ no_line sink (inr h) = let short = h.part.short in absurd (omega arith)
 
 -- ---- where no run begins
 
+-- what begins an audit
+begins_audit : {reading : Option Order} (order : Order) (source : Sides) (program : Program) (input text bytes : List ℕ) → reading ≡ Some order → order.job ≡ Audit
+    → IsInput order.job source input → HasBehind input text bytes → IsRunnable text program → BeginsAudit reading source order program bytes
+begins_audit order source program input text bytes words audits read has runnable = record {
+  words = words;
+  audits = audits;
+  input = input;
+  read = read;
+  short = has.short;
+  text = text;
+  behind = has.behind;
+  spells = runnable.spells;
+  kept = runnable.kept;
+}
+
 module _ (reading : Option Order) (order : Order) (source sink : Sides) (book : BookValue) (words : reading ≡ Some order) where
   starves : ReadsFor order.job source → book.entries ≡ [] → Writes sink [] → Answers reading source sink book status.NoMemory
   starves reads none written = Answers.starved (may_read reading order source words reads) none written
 
+  -- the line of want of memory is none
+  untold : ReadsFor order.job source → Refuses status.NoMemory sink book → Answers reading source sink book status.NoMemory
+  untold reads refuses = starves reads refuses.no_run (no_line sink refuses.line)
+
   read_stops : (stop : Status) → IsReadStop stop order.job source → Refuses stop sink book → Answers reading source sink book stop
   read_stops status.ReadFault h refuses = Answers.read_fault order words h.0 h.1 h.2 refuses
-  read_stops status.NoMemory h refuses = starves h refuses.no_run (no_line sink refuses.line)
+  read_stops status.NoMemory h refuses = untold h refuses
   read_stops status.Quiet h refuses = absurd h
   read_stops status.BadWords h refuses = absurd h
-  read_stops (status.BadText l k) h refuses = absurd h
-  read_stops (status.BadProgram k b s r) h refuses = absurd h
   read_stops status.Budget h refuses = absurd h
   read_stops (status.ActorsFull a) h refuses = absurd h
   read_stops status.WriteFault h refuses = absurd h
+  read_stops status.Audited h refuses = absurd h
+  read_stops (status.NotARun p c) h refuses = absurd h
+  read_stops (status.BadText l k) h refuses = absurd h
+  read_stops (status.BadProgram k b s r) h refuses = absurd h
   read_stops status.TooLong h refuses = absurd h
+  read_stops (status.BadBook l k) h refuses = absurd h
 
-  text_stops : (stop : Status) (input : List ℕ) → IsInput order.job source input → IsTextStop stop input → Refuses stop sink book → Answers reading source sink book stop
-  text_stops status.TooLong input read h refuses = Answers.too_long order words input read h refuses
-  text_stops (status.BadText l k) input read h refuses = Answers.bad_text order words input read h.0 l k h.1 refuses
-  text_stops (status.BadProgram k b s r) input read h refuses = Answers.bad_program order words input read h.0 h.1 k b s r h.2 refuses
-  text_stops status.NoMemory input read h refuses = starves (input_reads order.job source input read) refuses.no_run (no_line sink refuses.line)
-  text_stops status.Quiet input read h refuses = absurd h
-  text_stops status.BadWords input read h refuses = absurd h
-  text_stops status.Budget input read h refuses = absurd h
-  text_stops (status.ActorsFull a) input read h refuses = absurd h
-  text_stops status.ReadFault input read h refuses = absurd h
-  text_stops status.WriteFault input read h refuses = absurd h
+  module _ (input : List ℕ) (read : IsInput order.job source input) where
+    text_stops : (stop : Status) (text : List ℕ) → HasText order.job input text → IsTextStop stop text → Refuses stop sink book → Answers reading source sink book stop
+    text_stops (status.BadText l k) text has h refuses = Answers.bad_text order words input read text has l k h refuses
+    text_stops (status.BadProgram k b s r) text has h refuses = Answers.bad_program order words input read text has h.0 h.1 k b s r h.2 refuses
+    text_stops status.NoMemory text has h refuses = untold (input_reads order.job source input read) refuses
+    text_stops status.Quiet text has h refuses = absurd h
+    text_stops status.BadWords text has h refuses = absurd h
+    text_stops status.Budget text has h refuses = absurd h
+    text_stops (status.ActorsFull a) text has h refuses = absurd h
+    text_stops status.WriteFault text has h refuses = absurd h
+    text_stops status.Audited text has h refuses = absurd h
+    text_stops (status.NotARun p c) text has h refuses = absurd h
+    text_stops status.TooLong text has h refuses = absurd h
+    text_stops status.ReadFault text has h refuses = absurd h
+    text_stops (status.BadBook l k) text has h refuses = absurd h
+
+    book_stops : (stop : Status) (bytes : List ℕ) (program : Program) → BeginsAudit reading source order program bytes → IsBookStop stop bytes → Refuses stop sink book
+        → Answers reading source sink book stop
+    book_stops (status.BadBook l k) bytes program begins h refuses = Answers.bad_book order program bytes begins l k h refuses
+    book_stops status.NoMemory bytes program begins h refuses = untold (input_reads order.job source input read) refuses
+    book_stops status.Quiet bytes program begins h refuses = absurd h
+    book_stops status.BadWords bytes program begins h refuses = absurd h
+    book_stops status.Budget bytes program begins h refuses = absurd h
+    book_stops (status.ActorsFull a) bytes program begins h refuses = absurd h
+    book_stops status.WriteFault bytes program begins h refuses = absurd h
+    book_stops status.Audited bytes program begins h refuses = absurd h
+    book_stops (status.NotARun p c) bytes program begins h refuses = absurd h
+    book_stops (status.BadText l k) bytes program begins h refuses = absurd h
+    book_stops (status.BadProgram k b s r) bytes program begins h refuses = absurd h
+    book_stops status.TooLong bytes program begins h refuses = absurd h
+    book_stops status.ReadFault bytes program begins h refuses = absurd h
+
+    input_stops : (stop : Status) → InputStops order.job input stop → Refuses stop sink book → Answers reading source sink book stop
+    input_stops stop (InputStops.long is_long e) refuses =
+        subst (Answers reading source sink book) (sym e) (Answers.too_long order words input read is_long (subst (λ (a : Status). Refuses a sink book) e refuses))
+    input_stops stop (InputStops.at_text text has h) refuses = text_stops stop text has h refuses
+    input_stops stop (InputStops.at_book audits text bytes has program runnable h) refuses =
+        book_stops stop bytes program (begins_audit order source program input text bytes words audits read has runnable) h refuses
 
   stops : (stop : Status) → IsStop stop order.job source → Refuses stop sink book → Answers reading source sink book stop
   stops stop (inl h) refuses = read_stops stop h refuses
-  stops stop (inr h) refuses = text_stops stop h.input h.read h.stops refuses
+  stops stop (inr h) refuses = input_stops h.input h.read stop h.stops refuses
 
   read_stop_reads : (stop : Status) → IsReadStop stop order.job source → ReadsFor order.job source
-  read_stop_reads status.ReadFault h = subst (λ (job : Job). ReadsFor job source) (sym h.0) h.1
+  read_stop_reads status.ReadFault h = taken_reads order.job source h.0 h.1
   read_stop_reads status.NoMemory h = h
   read_stop_reads status.Quiet h = absurd h
   read_stop_reads status.BadWords h = absurd h
-  read_stop_reads (status.BadText l k) h = absurd h
-  read_stop_reads (status.BadProgram k b s r) h = absurd h
   read_stop_reads status.Budget h = absurd h
   read_stop_reads (status.ActorsFull a) h = absurd h
   read_stop_reads status.WriteFault h = absurd h
+  read_stop_reads status.Audited h = absurd h
+  read_stop_reads (status.NotARun p c) h = absurd h
+  read_stop_reads (status.BadText l k) h = absurd h
+  read_stop_reads (status.BadProgram k b s r) h = absurd h
   read_stop_reads status.TooLong h = absurd h
+  read_stop_reads (status.BadBook l k) h = absurd h
 
   stop_reads : (stop : Status) → IsStop stop order.job source → ReadsFor order.job source
   stop_reads stop (inl h) = read_stop_reads stop h
   stop_reads stop (inr h) = input_reads order.job source h.input h.read
 
   pub stop_answers : (stop answer : Status) → IsStop stop order.job source → StopsWith stop sink book answer → Answers reading source sink book answer
-  stop_answers stop answer is (inl h) = subst (Answers reading source sink book) (sym h.0) (stops stop is h.1)
-  stop_answers stop answer is (inr h) = subst (Answers reading source sink book) (sym h.0) (starves (stop_reads stop is) h.1 h.2)
+  stop_answers stop answer is (none, inl h) = subst (Answers reading source sink book) (sym h.0) (stops stop is (record { no_run = none; line = h.1 }))
+  stop_answers stop answer is (none, inr h) = subst (Answers reading source sink book) (sym h.0) (starves (stop_reads stop is) none h.1)
 
 -- what stops a call, but for want of memory, has a line
+text_stop_refuses : (stop : Status) (text : List ℕ) → IsTextStop stop text → stop ≢ status.NoMemory → HasRefusal stop
+text_stop_refuses (status.BadText l k) text h other = tt
+text_stop_refuses (status.BadProgram k b s r) text h other = tt
+text_stop_refuses status.NoMemory text h other = absurd (other refl)
+text_stop_refuses status.Quiet text h other = absurd h
+text_stop_refuses status.BadWords text h other = absurd h
+text_stop_refuses status.Budget text h other = absurd h
+text_stop_refuses (status.ActorsFull a) text h other = absurd h
+text_stop_refuses status.WriteFault text h other = absurd h
+text_stop_refuses status.Audited text h other = absurd h
+text_stop_refuses (status.NotARun p c) text h other = absurd h
+text_stop_refuses status.TooLong text h other = absurd h
+text_stop_refuses status.ReadFault text h other = absurd h
+text_stop_refuses (status.BadBook l k) text h other = absurd h
+
+book_stop_refuses : (stop : Status) (bytes : List ℕ) → IsBookStop stop bytes → stop ≢ status.NoMemory → HasRefusal stop
+book_stop_refuses (status.BadBook l k) bytes h other = tt
+book_stop_refuses status.NoMemory bytes h other = absurd (other refl)
+book_stop_refuses status.Quiet bytes h other = absurd h
+book_stop_refuses status.BadWords bytes h other = absurd h
+book_stop_refuses status.Budget bytes h other = absurd h
+book_stop_refuses (status.ActorsFull a) bytes h other = absurd h
+book_stop_refuses status.WriteFault bytes h other = absurd h
+book_stop_refuses status.Audited bytes h other = absurd h
+book_stop_refuses (status.NotARun p c) bytes h other = absurd h
+book_stop_refuses (status.BadText l k) bytes h other = absurd h
+book_stop_refuses (status.BadProgram k b s r) bytes h other = absurd h
+book_stop_refuses status.TooLong bytes h other = absurd h
+book_stop_refuses status.ReadFault bytes h other = absurd h
+
+read_stop_refuses : (stop : Status) (job : Job) (source : Sides) → IsReadStop stop job source → stop ≢ status.NoMemory → HasRefusal stop
+read_stop_refuses status.ReadFault job source h other = tt
+read_stop_refuses status.NoMemory job source h other = absurd (other refl)
+read_stop_refuses status.Quiet job source h other = absurd h
+read_stop_refuses status.BadWords job source h other = absurd h
+read_stop_refuses status.Budget job source h other = absurd h
+read_stop_refuses (status.ActorsFull a) job source h other = absurd h
+read_stop_refuses status.WriteFault job source h other = absurd h
+read_stop_refuses status.Audited job source h other = absurd h
+read_stop_refuses (status.NotARun p c) job source h other = absurd h
+read_stop_refuses (status.BadText l k) job source h other = absurd h
+read_stop_refuses (status.BadProgram k b s r) job source h other = absurd h
+read_stop_refuses status.TooLong job source h other = absurd h
+read_stop_refuses (status.BadBook l k) job source h other = absurd h
+
+input_stop_refuses : (stop : Status) (job : Job) (input : List ℕ) → InputStops job input stop → stop ≢ status.NoMemory → HasRefusal stop
+input_stop_refuses stop job input (InputStops.long is_long e) other = subst HasRefusal (sym e) tt
+input_stop_refuses stop job input (InputStops.at_text text has h) other = text_stop_refuses stop text h other
+input_stop_refuses stop job input (InputStops.at_book audits text bytes has program runnable h) other = book_stop_refuses stop bytes h other
+
 pub stop_is_refusal : (stop : Status) (job : Job) (source : Sides) → IsStop stop job source → stop ≢ status.NoMemory → HasRefusal stop
-stop_is_refusal status.ReadFault job source h other = tt
-stop_is_refusal status.TooLong job source h other = tt
-stop_is_refusal (status.BadText l k) job source h other = tt
-stop_is_refusal (status.BadProgram k b s r) job source h other = tt
-stop_is_refusal status.BadWords job source h other = tt
-stop_is_refusal status.NoMemory job source h other = absurd (other refl)
-stop_is_refusal status.Quiet job source h other = elim h as (λ _. HasRefusal status.Quiet) [ inl z ↦ absurd z | inr z ↦ absurd z.stops ]
-stop_is_refusal status.Budget job source h other = elim h as (λ _. HasRefusal status.Budget) [ inl z ↦ absurd z | inr z ↦ absurd z.stops ]
-stop_is_refusal (status.ActorsFull a) job source h other = elim h as (λ _. HasRefusal (status.ActorsFull a)) [ inl z ↦ absurd z | inr z ↦ absurd z.stops ]
-stop_is_refusal status.WriteFault job source h other = elim h as (λ _. HasRefusal status.WriteFault) [ inl z ↦ absurd z | inr z ↦ absurd z.stops ]
+stop_is_refusal stop job source (inl h) other = read_stop_refuses stop job source h other
+stop_is_refusal stop job source (inr h) other = input_stop_refuses stop job h.input h.stops other
 
 -- the words have no reading, and the source was not called
 pub bad_words_answers : (reading : Option Order) (left : Option (List ℕ)) (reads : ℕ) (sink : Sides) (book : BookValue) (answer : Status) → reading ≡ None
     → StopsWith status.BadWords sink book answer → Answers reading (record { before = left; after = left; faults_before = reads; faults_after = reads }) sink book answer
-bad_words_answers reading left reads sink book answer none (inl h) = subst (Answers reading _ sink book) (sym h.0) (Answers.bad_words none (refl, refl) h.1)
-bad_words_answers reading left reads sink book answer none (inr h) =
-    subst (Answers reading _ sink book) (sym h.0) (Answers.starved (untouched_may_read reading _ (refl, refl)) h.1 h.2)
+bad_words_answers reading left reads sink book answer none (empty, inl h) =
+    subst (Answers reading _ sink book) (sym h.0) (Answers.bad_words none (refl, refl) (record { no_run = empty; line = h.1 }))
+bad_words_answers reading left reads sink book answer none (empty, inr h) =
+    subst (Answers reading _ sink book) (sym h.0) (Answers.starved (untouched_may_read reading _ (refl, refl)) empty h.1)
 
 -- memory was refused, and neither device was called
 pub nothing_done : (reading : Option Order) (left given : Option (List ℕ)) (reads writes : ℕ) (book : BookValue) (answer : Status) → answer ≡ status.NoMemory → book.entries ≡ []
@@ -160,6 +276,9 @@ module _ (reading : Option Order) (source sink : Sides) (book : BookValue) (orde
   whole status.WriteFault run text report written = absurd report.ends
   whole status.NoMemory run text report written = absurd report.ends
   whole status.TooLong run text report written = absurd report.ends
+  whole status.Audited run text report written = absurd report.ends
+  whole (status.BadBook l k) run text report written = absurd report.ends
+  whole (status.NotARun p c) run text report written = absurd report.ends
 
   pub run_answers : (answer : Status) → RunAnswers order program sink book answer → Answers reading source sink book answer
   run_answers answer (RunAnswers.ended run end text report written) = whole end run text report written
@@ -167,5 +286,51 @@ module _ (reading : Option Order) (source sink : Sides) (book : BookValue) (orde
   run_answers answer (RunAnswers.starved run written) = Answers.starved_in_run order program begins run written
 
 -- the job's program is that of an order which the words give
-pub begins_with : (order : Order) (source : Sides) (program : Program) → GivesProgram order.job source program → Begins (Some order) source order program
-begins_with order source program h = record { words = refl; input = h.input; read = h.read; text = h.runs.text; kept = h.runs.kept }
+begins_with : (order : Order) (source : Sides) (input : List ℕ) (program : Program) → IsInput order.job source input → BeginsRun order.job input program
+    → Begins (Some order) source order program
+begins_with order source input program read h = record {
+  words = refl;
+  runs = h.runs;
+  input = input;
+  read = read;
+  text = h.text;
+  has = h.has;
+  spells = h.runnable.spells;
+  kept = h.runnable.kept;
+}
+
+pub run_begun : (order : Order) (source sink : Sides) (program : Program) (book : BookValue) (answer : Status) → GivesBegun order.job source (begun.Run program)
+    → RunAnswers order program sink book answer → Answers (Some order) source sink book answer
+run_begun order source sink program book answer h answers =
+    run_answers (Some order) source sink book order program (begins_with order source h.input program h.read h.begins) answer answers
+
+-- ---- where an audit begins
+
+pub report_written : (program : Program) (book : BookValue) (sink : Sides) (text : List ℕ) (answer : Status) → IsAudited program book text
+    → IsWritten text status.Audited sink answer → WritesAudit program book sink answer
+report_written program book sink text answer audited (inl h) = subst (WritesAudit program book sink) (sym h.0) (WritesAudit.whole text audited h.1)
+report_written program book sink text answer audited (inr h) = subst (WritesAudit program book sink) (sym h.0) (WritesAudit.cut text audited h.1)
+
+pub told_refuted : (program : Program) (book : BookValue) (sink : Sides) (place cause : ℕ) (answer : Status) → IsRefuted program book place cause
+    → IsTold (status.NotARun place cause) sink answer → AuditAnswers program book sink answer
+told_refuted program book sink place cause answer refuted (inl h) = AuditAnswers.refuted place cause refuted h.1 h.0
+told_refuted program book sink place cause answer refuted (inr h) = AuditAnswers.starved h.1 h.0
+
+module _ (order : Order) (source sink : Sides) (program : Program) (bytes : List ℕ) (book : BookValue) (begins : BeginsAudit (Some order) source order program bytes)
+    (of : IsBookText bytes book) where
+  audit_written : (answer : Status) → WritesAudit program book sink answer → Answers (Some order) source sink book answer
+  audit_written answer (WritesAudit.whole text audited written) = Answers.audited order program bytes begins of text audited written
+  audit_written answer (WritesAudit.cut text audited is_cut) = Answers.audit_cut order program bytes begins of text audited is_cut
+  audit_written answer (WritesAudit.starved written) = Answers.starved_in_audit order program bytes begins of written
+
+  audit_answers : (answer : Status) → AuditAnswers program book sink answer → Answers (Some order) source sink book answer
+  audit_answers answer (AuditAnswers.refuted place cause refuted line e) =
+      subst (Answers (Some order) source sink book) (sym e) (Answers.not_a_run order program bytes begins of place cause refuted line)
+  audit_answers answer (AuditAnswers.followed written) = audit_written answer written
+  audit_answers answer (AuditAnswers.starved written e) = subst (Answers (Some order) source sink book) (sym e) (Answers.starved_in_audit order program bytes begins of written)
+
+pub audit_begun : (order : Order) (source sink : Sides) (program : Program) (book : BookValue) (answer : Status) → GivesBegun order.job source (begun.Audit program book)
+    → AuditAnswers program book sink answer → Answers (Some order) source sink book answer
+audit_begun order source sink program book answer h answers =
+    let b = h.begins in
+    audit_answers order source sink program b.bytes book (begins_audit order source program h.input b.text b.bytes refl b.audits h.read b.has b.runnable) b.book_text answer answers

@@ -1,28 +1,32 @@
 -- What a call promises, from the words that it is given to the bytes that it writes.
 --
 -- `Answers`, at the end, has a constructor for each answer, with its premises in the order of the
--- causes: the words, what is read, its length, its text, the rules of its program, the run, and what is
--- written. What every run promises, however it ends, is `EveryRun`; it is a premise of each answer behind
--- which a run began.
-use Rattle.std.specs.Prelude.{◌≡◌, ◌↔◌, ◌⊎◌, ℕ, ◌<◌, ◌≤◌, Bool, true, false, not, List, [], ◌++◌, Contains, count_by, length, Some, None}
+-- causes: the words, what is read, its length, its text, the rules of its program, the run, or the book
+-- and its audit, and what is written. What every run promises, however it ends, is `EveryRun`; it is a
+-- premise of each answer behind which a run began.
+use Rattle.std.specs.Prelude.{◌≡◌, ◌↔◌, ◌⊎◌, ℕ, ◌<◌, ◌≤◌, Bool, true, false, not, List, [], ◌++◌, Contains, count_by, length, Some, None, ⊤}
 use Rattle.std.specs.declared.option.Option.{Option}
 use Rattle.std.specs.Io.KnownBytes.{Appends}
 use Rattle.std.specs.List.Sorted.{IsStrictlySortedBy}
 use Rattle.orca_names.specs.Names.{thing_cmp}
 use Rattle.orca_names.specs.declared.names.Thing.{Thing}
 use Rattle.orca_names.specs.declared.names.Thing.TheVariants.{Actor, Obj}
+use Rattle.orca_names.specs.declared.reason.Reason.{Reason}
 use Rattle.orca_names.specs.declared.tally.Sums.{Sums}
 use Rattle.event_rule.specs.Runs.{ActorsFull, Budget, EndsAs, IsQuiet, LeadsInOrder, Quiet}
 use Rattle.event_rule.specs.declared.event.Event.{Event}
 use Rattle.run_book.specs.Books.{BookValue}
+use Rattle.run_book.specs.Reading.{IsBookText, IsFirstFault}
+use Rattle.run_book.specs.Splits.{IsSplit}
 use Rattle.report_text.specs.Refusals.{refusal_of}
-use Rattle.report_text.specs.Reports.{report_of}
+use Rattle.report_text.specs.Reports.{audit_report_of, report_of}
+use Rattle.report_text.specs.WhyLines.{why_lines}
 use Rattle.report_text.specs.declared.numbers.Numbers.{Numbers}
 use Rattle.report_text.specs.declared.status.Status.{Status}
 use Rattle.report_text.specs.declared.status.Status.TheVariants as status
 use Rattle.load_maker.specs.Loads.{load_text}
 use Rattle.word_line.specs.declared.order.Job.{Job}
-use Rattle.word_line.specs.declared.order.Job.TheVariants.{Run, Load}
+use Rattle.word_line.specs.declared.order.Job.TheVariants.{Run, Load, Audit, Why}
 use Rattle.word_line.specs.declared.order.Order.{Order}
 use Rattle.behaviour_code.specs.WellFormed.{IsWellFormed}
 use Rattle.behaviour_code.specs.declared.code.Program.{Program}
@@ -38,7 +42,10 @@ use Rattle.machine_rules.specs.Run.{IsPlainBeside, IsRun}
 use Rattle.machine_rules.specs.State.{State, first_state}
 use Rattle.machine_laws.specs.Laws.{IsNeverTooEarly}
 use Rattle.orca_core.specs.Laws.{IsLeftExactly}
+use Rattle.book_audit.specs.Verdicts.{IsRefuted, options_of_book}
 use Rattle.count_ledger.specs.Tally.{IsTally}
+use Rattle.why_path.specs.Partings.{partings_of}
+use Rattle.why_path.specs.Reasons.{AreReasons}
 use Rattle.outside_world.specs.Pieces.{GivesPart, TakesAll, TakesPart}
 use Rattle.pony_run.specs.Streams.{CountsNoFault, HasFailed, IsUntouched, Sides, most_bytes}
 
@@ -49,40 +56,81 @@ pub record Reads (source : Sides) : Type 0 where
   pub part : TakesPart source.before source.after
   pub stays : source.faults_before ≤ source.faults_after
 
+-- the job takes its input from the source; `load` makes its own
+abbrev pub TakesInput : Job → Type 0
+TakesInput (Load count) = ⊥
+TakesInput other = ⊤
+
 -- what is read, however the call ends: without an order, and for `load`, nothing
 abbrev pub ReadsFor : Job → Sides → Type 0
-ReadsFor Run source = Reads source
 ReadsFor (Load count) source = IsUntouched source
+ReadsFor other source = Reads source
 
 abbrev pub MayRead : Option Order → Sides → Type 0
 MayRead None source = IsUntouched source
 MayRead (Some order) source = ReadsFor order.job source
 
--- the input: for `run` all that the source had left, or the first of it where there is more than a text
--- may have, and no read failed; for `load` the text of its program, and nothing was read
+-- the input: for `load` the text of its program, and nothing was read; for the rest all that the
+-- source had left, or the first of it where there is more than a text may have, and no read failed
 abbrev pub IsInput : Job → Sides → List ℕ → Type 0
-IsInput Run source input = CountsNoFault source × TakesAll most_bytes source.before source.after input
 IsInput (Load count) source input = IsUntouched source × (input ≡ load_text count)
+IsInput other source input = CountsNoFault source × TakesAll most_bytes source.before source.after input
 
--- the input is not too long, and the text of this program
-pub record IsProgramOf (input : List ℕ) (program : Program) : Type 0 where
+-- the program's text: for `audit` what stands in the input before the book, for the rest all of it
+abbrev pub IsProgramText : Job → (input text : List ℕ) → Type 0
+IsProgramText Audit input text = (book : List ℕ) × IsSplit input text book
+IsProgramText other input text = text ≡ input
+
+-- the input is not too long, and this is the program's text in it
+pub record HasText (job : Job) (input text : List ℕ) : Type 0 where
   pub short : length input < most_bytes
-  pub text : IsText input program
+  pub part : IsProgramText job input text
+
+-- the text is that of this program
+pub record Spells (text : List ℕ) (program : Program) : Type 0 where
+  pub says : IsText text program
   pub good : IsWellFormed program
 
--- the input is the text of no program, and this is its first fault
-pub record IsFaulty (input : List ℕ) (line kind : ℕ) : Type 0 where
-  pub first : first_fault input ≡ Some (line, kind)
-  pub no_program : (program : Program) → IsText input program → ¬ IsWellFormed program
+-- the text is that of no program, and this is its first fault
+pub record IsFaulty (text : List ℕ) (line kind : ℕ) : Type 0 where
+  pub first : first_fault text ≡ Some (line, kind)
+  pub no_program : (program : Program) → IsText text program → ¬ IsWellFormed program
 
--- the words give this order, its input is the text of this program, and the program keeps the rules
+-- the job runs a program; `audit` follows a book
+abbrev pub RunsProgram : Job → Type 0
+RunsProgram Audit = ⊥
+RunsProgram other = ⊤
+
+-- the words have a program run: this one, which keeps the rules
 pub record Begins (reading : Option Order) (source : Sides) (order : Order) (program : Program)
     : Type 0 where
   pub words : reading ≡ Some order
+  pub runs : RunsProgram order.job
   pub input : List ℕ
   pub read : IsInput order.job source input
-  pub text : IsProgramOf input program
+  pub text : List ℕ
+  pub has : HasText order.job input text
+  pub spells : Spells text program
   pub kept : first_broken program ≡ None
+
+-- the words have these bytes audited, which stand behind the text of this program, which keeps the
+-- rules
+pub record BeginsAudit (reading : Option Order) (source : Sides) (order : Order)
+    (program : Program) (bytes : List ℕ) : Type 0 where
+  pub words : reading ≡ Some order
+  pub audits : order.job ≡ Audit
+  pub input : List ℕ
+  pub read : IsInput order.job source input
+  pub short : length input < most_bytes
+  pub text : List ℕ
+  pub behind : IsSplit input text bytes
+  pub spells : Spells text program
+  pub kept : first_broken program ≡ None
+
+-- the bytes are no book's text, and this is their first fault
+pub record IsNoBook (bytes : List ℕ) (line kind : ℕ) : Type 0 where
+  pub first : IsFirstFault bytes line kind
+  pub no_book : (book : BookValue) → ¬ IsBookText bytes book
 
 -- ---- the run
 
@@ -158,18 +206,43 @@ abbrev pub book_in : Bool → BookValue → Option BookValue
 book_in false book = None
 book_in true book = Some book
 
+-- so many actors and objects were made and are left
+pub record AreNumbers (s : State) (actors objects : Numbers) : Type 0 where
+  pub actors_made : actors.made ≡ length s.actors
+  pub objects_made : objects.made ≡ s.objects
+  pub left : AreLeft s.actors actors.left objects.left
+
+-- the lines behind a report: for `why` who went by each leave and each reap of the book, and why each
+-- thing is left; else none
+abbrev pub AreWhys : Job → List Event → State → List ℕ → Type 0
+AreWhys Why book s lines =
+    (reasons : List Reason) × AreReasons s.actors reasons
+    × (lines ≡ why_lines (partings_of book (first_state s.program s.options)) reasons)
+AreWhys other book s lines = lines ≡ []
+
 -- the text is the report of the run of this book, which ended so in this state: its prints, its end,
--- how many actors and objects were made and are left, and the counts and the book as the order asks
+-- how many actors and objects were made and are left, the counts and the book as the order asks, and
+-- for `why` its lines
 pub record IsReport (end : Status) (order : Order) (book : BookValue) (s : State)
     (text : List ℕ) : Type 0 where
   pub actors : Numbers
   pub objects : Numbers
-  pub actors_made : actors.made ≡ length s.actors
-  pub objects_made : objects.made ≡ s.objects
-  pub left : AreLeft s.actors actors.left objects.left
+  pub numbers : AreNumbers s actors objects
   pub counts : Option (List Sums)
   pub counted : AreCounts order.counts s.actors counts
-  pub said : text ≡ report_of end s.prints actors objects counts (book_in order.book book)
+  pub whys : List ℕ
+  pub explained : AreWhys order.job book.entries s whys
+  pub said : text ≡ report_of end s.prints actors objects counts (book_in order.book book) ++ whys
+
+-- the text is the report of an audit of this book, a run that leads to this state: its prints, how many
+-- entries it has, whether an event is enabled, and how many actors and objects were made and are left
+pub record IsAuditReport (book : BookValue) (s : State) (text : List ℕ) : Type 0 where
+  pub is_quiet : Bool
+  pub quiet : is_quiet ≡ true ↔ IsQuiet next s
+  pub actors : Numbers
+  pub objects : Numbers
+  pub numbers : AreNumbers s actors objects
+  pub said : text ≡ audit_report_of is_quiet s.prints (length book.entries) actors objects
 
 -- ---- what is written
 
@@ -184,16 +257,26 @@ pub record IsCut (sink : Sides) (text : List ℕ) : Type 0 where
   pub failed : HasFailed sink
   pub stays : sink.faults_before ≤ sink.faults_after
 
--- no run began, and the line of the refusal was written as far as the sink took it
+-- the line of the refusal was written as far as the sink took it
+abbrev pub WritesLine : Status → Sides → Type 0
+WritesLine refusal sink = Writes sink (refusal_of refusal) ⊎ IsCut sink (refusal_of refusal)
+
+-- no run began, no book was read, and the line of the refusal was written
 pub record Refuses (refusal : Status) (sink : Sides) (book : BookValue) : Type 0 where
   pub no_run : book.entries ≡ []
-  pub line : Writes sink (refusal_of refusal) ⊎ IsCut sink (refusal_of refusal)
+  pub line : WritesLine refusal sink
 
 -- the run ended so, and this is its report
 pub record IsReportOf {order : Order} {program : Program} {book : BookValue} (end : Status)
     (run : EveryRun order program book) (text : List ℕ) : Type 0 where
   pub ends : EndsWith end run.state book.entries order.budget
   pub report : IsReport end order book run.state text
+
+-- the book is a run of the program, and this is the report of its audit
+pub record IsAudited (program : Program) (book : BookValue) (text : List ℕ) : Type 0 where
+  pub state : State
+  pub run : IsRun program (options_of_book book) book.entries state
+  pub report : IsAuditReport book state text
 
 -- ---- the answers
 
@@ -204,27 +287,51 @@ pub data Answers (reading : Option Order) (source sink : Sides) (book : BookValu
   bad_words : reading ≡ None → IsUntouched source
       → Refuses status.BadWords sink book → Answers reading source sink book status.BadWords
   -- the source failed
-  read_fault : (order : Order) → reading ≡ Some order → order.job ≡ Run → Reads source
+  read_fault : (order : Order) → reading ≡ Some order → TakesInput order.job → Reads source
       → HasFailed source
       → Refuses status.ReadFault sink book → Answers reading source sink book status.ReadFault
   -- the input is longer than a text may be
   too_long : (order : Order) → reading ≡ Some order
       → (input : List ℕ) → IsInput order.job source input → length input ≡ most_bytes
       → Refuses status.TooLong sink book → Answers reading source sink book status.TooLong
-  -- the input is the text of no program
+  -- the program's text is that of no program
   bad_text : (order : Order) → reading ≡ Some order
-      → (input : List ℕ) → IsInput order.job source input → length input < most_bytes
-      → (line kind : ℕ) → IsFaulty input line kind
+      → (input : List ℕ) → IsInput order.job source input
+      → (text : List ℕ) → HasText order.job input text
+      → (line kind : ℕ) → IsFaulty text line kind
       → Refuses (status.BadText line kind) sink book
       → Answers reading source sink book (status.BadText line kind)
   -- the program breaks a rule
   bad_program : (order : Order) → reading ≡ Some order
       → (input : List ℕ) → IsInput order.job source input
-      → (program : Program) → IsProgramOf input program
+      → (text : List ℕ) → HasText order.job input text
+      → (program : Program) → Spells text program
       → (kind behaviour step rule : ℕ)
       → first_broken program ≡ Some (fault_at kind behaviour step rule)
       → Refuses (status.BadProgram kind behaviour step rule) sink book
       → Answers reading source sink book (status.BadProgram kind behaviour step rule)
+  -- the bytes behind the program are no book
+  bad_book : (order : Order) (program : Program) (bytes : List ℕ)
+      → BeginsAudit reading source order program bytes
+      → (line kind : ℕ) → IsNoBook bytes line kind
+      → Refuses (status.BadBook line kind) sink book
+      → Answers reading source sink book (status.BadBook line kind)
+  -- the book is no run of the program: its entry at this place is refused
+  not_a_run : (order : Order) (program : Program) (bytes : List ℕ)
+      → BeginsAudit reading source order program bytes → IsBookText bytes book
+      → (place cause : ℕ) → IsRefuted program book place cause
+      → WritesLine (status.NotARun place cause) sink
+      → Answers reading source sink book (status.NotARun place cause)
+  -- the book is a run of the program, and the report of its audit was written
+  audited : (order : Order) (program : Program) (bytes : List ℕ)
+      → BeginsAudit reading source order program bytes → IsBookText bytes book
+      → (text : List ℕ) → IsAudited program book text
+      → Writes sink text → Answers reading source sink book status.Audited
+  -- it is, and the sink failed while that report was written
+  audit_cut : (order : Order) (program : Program) (bytes : List ℕ)
+      → BeginsAudit reading source order program bytes → IsBookText bytes book
+      → (text : List ℕ) → IsAudited program book text
+      → IsCut sink text → Answers reading source sink book status.WriteFault
   -- the run ended where no event is enabled, and its report was written
   quiet : (order : Order) (program : Program) → Begins reading source order program
       → (run : EveryRun order program book) (text : List ℕ) → IsReportOf status.Quiet run text
@@ -242,10 +349,14 @@ pub data Answers (reading : Option Order) (source sink : Sides) (book : BookValu
   write_fault : (order : Order) (program : Program) → Begins reading source order program
       → (run : EveryRun order program book) (end : Status) (text : List ℕ) → IsReportOf end run text
       → IsCut sink text → Answers reading source sink book status.WriteFault
-  -- memory was refused before a run began, and nothing was written
+  -- memory was refused before a run began or a book was read, and nothing was written
   starved : MayRead reading source → book.entries ≡ []
       → Writes sink [] → Answers reading source sink book status.NoMemory
   -- memory was refused after it began, and nothing was written
   starved_in_run : (order : Order) (program : Program) → Begins reading source order program
       → EveryRun order program book
+      → Writes sink [] → Answers reading source sink book status.NoMemory
+  -- memory was refused after the book was read, and nothing was written
+  starved_in_audit : (order : Order) (program : Program) (bytes : List ℕ)
+      → BeginsAudit reading source order program bytes → IsBookText bytes book
       → Writes sink [] → Answers reading source sink book status.NoMemory

@@ -1,11 +1,15 @@
 -- What the parts of a call do, below its promise.
 use Rattle.std.specs.Prelude.{◌≡◌, ◌≢◌, ◌⊎◌, ℕ, ◌<◌, ◌≤◌, List, [], length, Some, None, ⊤}
 use Rattle.std.specs.declared.option.Option.{Option}
+use Rattle.orca_names.specs.declared.limits.TheConstants.{BOOK_LIMIT}
 use Rattle.run_book.specs.Books.{BookValue}
+use Rattle.run_book.specs.Reading.{IsBookText}
+use Rattle.run_book.specs.Splits.{IsSplit}
+use Rattle.book_audit.specs.Verdicts.{IsRefuted}
 use Rattle.report_text.specs.declared.status.Status.{Status}
 use Rattle.report_text.specs.declared.status.Status.TheVariants as status
 use Rattle.word_line.specs.declared.order.Job.{Job}
-use Rattle.word_line.specs.declared.order.Job.TheVariants.{Run}
+use Rattle.word_line.specs.declared.order.Job.TheVariants.{Audit}
 use Rattle.word_line.specs.declared.order.Order.{Order}
 use Rattle.behaviour_code.specs.declared.code.Program.{Program}
 use Rattle.behaviour_check.specs.Rules.{fault_at, first_broken}
@@ -16,14 +20,16 @@ use Rattle.orca_core.specs.Laws.{IsRunOf}
 use Rattle.orca_core.specs.Machine.{Machine, NoneIsAway}
 use Rattle.quiet_pass.specs.declared.ending.End.{End}
 use Rattle.quiet_pass.specs.declared.ending.End.TheVariants as ends
-use Rattle.pony_run.specs.Headline.{EveryRun, IsCut, IsFaulty, IsInput, IsProgramOf, IsReport, IsReportOf, Reads, ReadsFor, Refuses, Writes, options_in}
+use Rattle.pony_run.specs.Headline.{EveryRun, HasText, IsAudited, IsCut, IsFaulty, IsInput, IsNoBook, IsReport, IsReportOf, Reads, ReadsFor, RunsProgram, Spells, TakesInput, Writes, WritesLine, options_in}
+use Rattle.pony_run.specs.declared.beginning.Begun.{Begun}
+use Rattle.pony_run.specs.declared.beginning.Begun.TheVariants as begun
 use Rattle.pony_run.specs.Streams.{HasFailed, Sides, most_bytes}
 
 -- ---- no run begins
 
 -- why no input came
 abbrev pub IsReadStop : Status → Job → Sides → Type 0
-IsReadStop status.ReadFault job source = (job ≡ Run) × Reads source × HasFailed source
+IsReadStop status.ReadFault job source = TakesInput job × Reads source × HasFailed source
 IsReadStop status.NoMemory job source = ReadsFor job source
 IsReadStop other job source = ⊥
 
@@ -33,31 +39,90 @@ BreaksRule (status.BadProgram kind behaviour step rule) program =
     first_broken program ≡ Some (fault_at kind behaviour step rule)
 BreaksRule other program = ⊥
 
--- why no run begins with this input
+-- why the text gives no program that keeps the rules
 abbrev pub IsTextStop : Status → List ℕ → Type 0
-IsTextStop status.TooLong input = length input ≡ most_bytes
-IsTextStop (status.BadText line kind) input = (length input < most_bytes) × IsFaulty input line kind
-IsTextStop (status.BadProgram kind behaviour step rule) input =
-    (program : Program) × IsProgramOf input program
+IsTextStop (status.BadText line kind) text = IsFaulty text line kind
+IsTextStop (status.BadProgram kind behaviour step rule) text =
+    (program : Program) × Spells text program
     × (first_broken program ≡ Some (fault_at kind behaviour step rule))
-IsTextStop status.NoMemory input = ⊤
-IsTextStop other input = ⊥
+IsTextStop status.NoMemory text = ⊤
+IsTextStop other text = ⊥
 
--- the input came, but no run begins with it
+-- why the bytes give no book
+abbrev pub IsBookStop : Status → List ℕ → Type 0
+IsBookStop (status.BadBook line kind) bytes = IsNoBook bytes line kind
+IsBookStop status.NoMemory bytes = ⊤
+IsBookStop other bytes = ⊥
+
+-- the text gives this program, which keeps the rules
+pub record IsRunnable (text : List ℕ) (program : Program) : Type 0 where
+  pub spells : Spells text program
+  pub kept : first_broken program ≡ None
+
+-- the input of an audit has this text of a program, and behind it these bytes
+pub record HasBehind (input text bytes : List ℕ) : Type 0 where
+  pub short : length input < most_bytes
+  pub behind : IsSplit input text bytes
+
+-- why nothing begins with this input of a job
+pub data InputStops (job : Job) (input : List ℕ) (stop : Status) : Type 0 where
+  long : length input ≡ most_bytes → stop ≡ status.TooLong → InputStops job input stop
+  at_text : (text : List ℕ) → HasText job input text → IsTextStop stop text
+      → InputStops job input stop
+  at_book : job ≡ Audit → (text bytes : List ℕ) → HasBehind input text bytes
+      → (program : Program) → IsRunnable text program → IsBookStop stop bytes
+      → InputStops job input stop
+
+-- the input came, but nothing begins with it
 pub record IsInputStop (stop : Status) (job : Job) (source : Sides) : Type 0 where
   pub input : List ℕ
   pub read : IsInput job source input
-  pub stops : IsTextStop stop input
+  pub stops : InputStops job input stop
 
--- why no run begins for the job
+-- why nothing begins for the job
 abbrev pub IsStop : Status → Job → Sides → Type 0
 IsStop stop job source = IsReadStop stop job source ⊎ IsInputStop stop job source
 
--- the refusal was answered, or else want of memory, with nothing written
+-- what begins with this input of a job: the run of a program, or the audit of a book
+pub record BeginsRun (job : Job) (input : List ℕ) (program : Program) : Type 0 where
+  pub runs : RunsProgram job
+  pub text : List ℕ
+  pub has : HasText job input text
+  pub runnable : IsRunnable text program
+
+pub record BeginsBook (job : Job) (input : List ℕ) (program : Program) (book : BookValue)
+    : Type 0 where
+  pub audits : job ≡ Audit
+  pub text : List ℕ
+  pub bytes : List ℕ
+  pub has : HasBehind input text bytes
+  pub runnable : IsRunnable text program
+  pub book_text : IsBookText bytes book
+  pub few : length book.entries ≤ BOOK_LIMIT
+
+abbrev pub IsBegun : Job → List ℕ → Begun → Type 0
+IsBegun job input (begun.Run program) = BeginsRun job input program
+IsBegun job input (begun.Audit program book) = BeginsBook job input program book
+
+-- this is begun for the job
+pub record GivesBegun (job : Job) (source : Sides) (begun : Begun) : Type 0 where
+  pub input : List ℕ
+  pub read : IsInput job source input
+  pub begins : IsBegun job input begun
+
+-- the refusal was answered and its line written, or else want of memory, with nothing written
+abbrev pub IsTold : Status → Sides → Status → Type 0
+IsTold refusal sink answer =
+    ((answer ≡ refusal) × WritesLine refusal sink) ⊎ ((answer ≡ status.NoMemory) × Writes sink [])
+
+-- the report was written whole, or in part where the sink failed
+abbrev pub IsWritten : List ℕ → Status → Sides → Status → Type 0
+IsWritten text end sink answer =
+    ((answer ≡ end) × Writes sink text) ⊎ ((answer ≡ status.WriteFault) × IsCut sink text)
+
+-- the refusal was told, and no book was read
 abbrev pub StopsWith : Status → Sides → BookValue → Status → Type 0
-StopsWith refusal sink book answer =
-    ((answer ≡ refusal) × Refuses refusal sink book)
-    ⊎ ((answer ≡ status.NoMemory) × (book.entries ≡ []) × Writes sink [])
+StopsWith refusal sink book answer = (book.entries ≡ []) × IsTold refusal sink answer
 
 -- the answer to a run that ended so, once its report is written; none where memory was refused
 abbrev pub IsAnswerOf : End → Option Status → Type 0
@@ -67,17 +132,6 @@ IsAnswerOf (ends.Full actor) answer = answer ≡ Some (status.ActorsFull actor)
 IsAnswerOf ends.NoMemory answer = answer ≡ None
 
 -- ---- a run begins
-
--- the input is the text of a program that keeps the rules
-pub record IsRunnable (input : List ℕ) (program : Program) : Type 0 where
-  pub text : IsProgramOf input program
-  pub kept : first_broken program ≡ None
-
--- the job gives this program
-pub record GivesProgram (job : Job) (source : Sides) (program : Program) : Type 0 where
-  pub input : List ℕ
-  pub read : IsInput job source input
-  pub runs : IsRunnable input program
 
 -- the book is a run of the program as the order wants it, and led to this machine, which has all its
 -- cells
@@ -113,3 +167,23 @@ pub data RunAnswers (order : Order) (program : Program) (sink : Sides) (book : B
       → RunAnswers order program sink book status.WriteFault
   starved : EveryRun order program book → Writes sink []
       → RunAnswers order program sink book status.NoMemory
+
+-- ---- an audit begins
+
+-- the report of an audit was written: whole, or in part where the sink failed, or not at all where
+-- memory was refused
+pub data WritesAudit (program : Program) (book : BookValue) (sink : Sides) : Status → Type 0 where
+  whole : (text : List ℕ) → IsAudited program book text → Writes sink text
+      → WritesAudit program book sink status.Audited
+  cut : (text : List ℕ) → IsAudited program book text → IsCut sink text
+      → WritesAudit program book sink status.WriteFault
+  starved : Writes sink [] → WritesAudit program book sink status.NoMemory
+
+-- what becomes of an audit of this book
+pub data AuditAnswers (program : Program) (book : BookValue) (sink : Sides) (answer : Status)
+    : Type 0 where
+  refuted : (place cause : ℕ) → IsRefuted program book place cause
+      → WritesLine (status.NotARun place cause) sink → answer ≡ status.NotARun place cause
+      → AuditAnswers program book sink answer
+  followed : WritesAudit program book sink answer → AuditAnswers program book sink answer
+  starved : Writes sink [] → answer ≡ status.NoMemory → AuditAnswers program book sink answer

@@ -8,11 +8,13 @@ ghost use Rattle.pony_run.specs.Headline.{Answers, alone};
 ghost use Rattle.pony_run.specs.Inner.{StopsWith};
 ghost use Rattle.pony_run.specs.Streams.{sides};
 
-use crate::beginning::begin;
+use crate::auditing::audit_book;
+use crate::beginning::{Begun, begin};
 use crate::runs::{Outcome, run_by_one, run_checked};
+use crate::writing::tell;
 use orca_names::Trace;
-use outside_world::{Gate, Sink, Source, write_all};
-use report_text::{Status, refusal_line};
+use outside_world::{Gate, Sink, Source};
+use report_text::Status;
 use run_book::Book;
 use std::alloc::Global;
 use std::sync::Wait;
@@ -36,16 +38,11 @@ fn refuse<K: Sink>(alloc: Global, refusal: Status, sink: &mut K) -> Outcome
     ensures { StopsWith refusal (sides K.written K.faults sink.old sink.new)
         result.book result.status }
 {
-    match refusal_line(alloc, &refusal) {
-        Ok(line) => {
-            let _ = write_all(sink, &line);
-            idle(alloc, refusal)
-        }
-        Err(_) => idle(alloc, Status::NoMemory),
-    }
+    let status = tell(alloc, refusal, sink);
+    idle(alloc, status)
 }
 
-/// The answer of a call in which no run begins: a refusal, or want of memory.
+/// The answer of a call in which nothing begins: a refusal, or want of memory.
 fn stop<K: Sink>(alloc: Global, answer: Status, sink: &mut K) -> Outcome
     requires { answer ≢ Status.NoMemory → HasRefusal answer }
     ensures { StopsWith answer (sides K.written K.faults sink.old sink.new)
@@ -70,7 +67,8 @@ fn run_alone<S: Source, K: Sink>(
         (sides K.written K.faults sink.old sink.new) result.book result.status }
 {
     match begin(alloc, order.job, source) {
-        Ok(code) => run_by_one(alloc, order, &code, sink),
+        Ok(Begun::Run { code }) => run_by_one(alloc, order, &code, sink),
+        Ok(Begun::Audit { code, book }) => audit_book(alloc, &code, book, sink),
         Err(answer) => stop(alloc, answer, sink),
     }
 }
@@ -89,7 +87,8 @@ fn run_job<R: AllocGlobal + Threads + Wait + Sync, S: Source, K: Sink, G: Gate +
         (sides K.written K.faults sink.old sink.new) result.book result.status }
 {
     match begin(rt.alloc(), order.job, source) {
-        Ok(code) => run_checked(rt, order, &code, sink, gate),
+        Ok(Begun::Run { code }) => run_checked(rt, order, &code, sink, gate),
+        Ok(Begun::Audit { code, book }) => audit_book(rt.alloc(), &code, book, sink),
         Err(answer) => stop(rt.alloc(), answer, sink),
     }
 }
@@ -136,8 +135,8 @@ fn run_all<R: AllocGlobal + Threads + Wait + Sync, S: Source, K: Sink, G: Gate +
     }
 }
 
-/// The program's whole work: reads the words after its name and the source, runs what they give, and
-/// writes to the sink. The source has not answered its end yet.
+/// The program's whole work: reads the words after its name and the source, runs or audits what they
+/// give, and writes to the sink. The source has not answered its end yet.
 ///
 /// Several workers run the program together, each in a thread where one can be made, and pass the gate
 /// before each segment; then one worker ends the run. With root-only tracing one worker runs it all.

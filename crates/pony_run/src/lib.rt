@@ -1,19 +1,15 @@
-//! The top call: it reads the words and the source, runs the program, and writes its report.
+//! The top call: it reads the words and the source, runs the program or audits its book, and writes a
+//! report.
 #![tactic(auto)]
 
+mod auditing;
 mod beginning;
 mod call;
 mod reporting;
 mod runs;
+mod writing;
 
 pub use call::{run_single, run_words};
 pub use report_text::Status;
 pub use runs::Outcome;
 pub use word_line::{Job, Order};
-
-#[cfg(test)]
-mod programs;
-#[cfg(test)]
-mod report_tests;
-#[cfg(test)]
-mod tests;

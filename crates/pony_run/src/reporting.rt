@@ -1,17 +1,21 @@
-// The report of a run.
+// The report of a run, and that of an audit.
 
-ghost use Rattle.std.specs.Prelude.{◌≡◌, count_by, not, option_map, IfOk};
+ghost use Rattle.std.specs.Prelude.{◌≡◌, ◌≤◌, count_by, length, not, option_map, IfOk};
+ghost use Rattle.orca_names.specs.declared.limits.TheConstants.{BOOK_LIMIT};
 ghost use Rattle.report_text.specs.Ends.{IsEnd};
-ghost use Rattle.orca_core.specs.Machine.{NoneIsAway};
-ghost use Rattle.pony_run.specs.Headline.{AreCounts, AreLeft, IsReport, book_in, is_actor};
+ghost use Rattle.orca_core.specs.Laws.{IsRunOf};
+ghost use Rattle.orca_core.specs.Machine.{NoneIsAway, options_of};
+ghost use Rattle.pony_run.specs.Headline.{AreCounts, AreLeft, AreNumbers, AreWhys, IsAuditReport, IsReport, book_in, is_actor};
 
+use behaviour_check::Checked;
 use count_ledger::tally;
 use orca_core::Orca;
 use orca_names::{NoMemory, Tally, Thing};
-use report_text::{Numbers, Status, report};
+use report_text::{Numbers, Status, audit_report, report, why_lines};
 use run_book::Book;
 use std::alloc::Global;
-use word_line::Order;
+use why_path::{explain, partings};
+use word_line::{Job, Order};
 
 fn is_actor(thing: &Thing) -> bool
     ensures { result ≡ is_actor thing.now }
@@ -63,23 +67,12 @@ fn book_in(book: &Book, asked: bool) -> Option<&Book>
     if asked { Some(book) } else { None }
 }
 
-/// The report of a run that ended so, whole in memory.
-///
-/// # Errors
-/// `NoMemory` where memory was refused.
-pub(crate) fn report_of_run(
-    alloc: Global,
-    order: &Order,
-    orca: &Orca<'_>,
-    book: &Book,
-    end: &Status,
-) -> Result<Vec<u8>, NoMemory>
-    requires end { IsEnd end.now }
-    requires home { NoneIsAway orca.now }
-    ensures { IfOk result (λ text. IsReport end.now order.now book.now orca.now.state text.items) }
+/// How many actors and how many objects were made and are left.
+fn numbers(alloc: Global, orca: &Orca<'_>) -> Result<(Numbers, Numbers), NoMemory>
+    requires { NoneIsAway orca.now }
+    ensures { IfOk result (λ n. AreNumbers orca.now.state n.0 n.1) }
 {
     let (actors_left, objects_left) = left(alloc, orca)?;
-    let counts = counts(alloc, orca, order.counts)?;
     let actors = Numbers {
         made: orca.made(),
         left: actors_left,
@@ -88,14 +81,76 @@ pub(crate) fn report_of_run(
         made: orca.objects_made(),
         left: objects_left,
     };
-    let book = book_in(book, order.book);
-    report(
-        alloc,
-        end,
-        orca.prints(),
-        actors,
-        objects,
-        counts.as_ref(),
-        book,
-    )
+    Ok((actors, objects))
+}
+
+/// The lines behind the report of a run: for `why` who went, and why each thing is left; else none.
+fn whys(
+    alloc: Global,
+    job: Job,
+    code: &Checked,
+    orca: &Orca<'_>,
+    book: &Book,
+) -> Result<Vec<u8>, NoMemory>
+    requires home { NoneIsAway orca.now }
+    requires program { orca.now.state.program ≡ code.now }
+    requires options { orca.now.state.options ≡ options_of book.now.weight book.now.trace }
+    requires run { IsRunOf orca.now book.now.entries }
+    requires few { length book.now.entries ≤ BOOK_LIMIT }
+    ensures { IfOk result (λ lines. AreWhys job book.now.entries orca.now.state lines.items) }
+{
+    match job {
+        Job::Why => {
+            let partings = partings(alloc, code, book)?;
+            let reasons = explain(alloc, orca)?;
+            why_lines(alloc, &partings, &reasons)
+        }
+        Job::Run | Job::Load { .. } | Job::Audit => Ok(Vec::new(alloc)),
+    }
+}
+
+/// The report of a run that ended so, whole in memory.
+///
+/// # Errors
+/// `NoMemory` where memory was refused.
+pub(crate) fn report_of_run(
+    alloc: Global,
+    order: &Order,
+    code: &Checked,
+    orca: &Orca<'_>,
+    book: &Book,
+    end: &Status,
+) -> Result<Vec<u8>, NoMemory>
+    requires end { IsEnd end.now }
+    requires home { NoneIsAway orca.now }
+    requires program { orca.now.state.program ≡ code.now }
+    requires options { orca.now.state.options ≡ options_of book.now.weight book.now.trace }
+    requires run { IsRunOf orca.now book.now.entries }
+    requires few { length book.now.entries ≤ BOOK_LIMIT }
+    ensures { IfOk result (λ text. IsReport end.now order.now book.now orca.now.state text.items) }
+{
+    let (actors, objects) = numbers(alloc, orca)?;
+    let counts = counts(alloc, orca, order.counts)?;
+    let asked = book_in(book, order.book);
+    let prints = orca.prints();
+    let mut text = report(alloc, end, prints, actors, objects, counts.as_ref(), asked)?;
+    let whys = whys(alloc, order.job, code, orca, book)?;
+    text.extend_from_slice(&whys)?;
+    Ok(text)
+}
+
+/// The report of an audit whose book led to this state, whole in memory.
+///
+/// # Errors
+/// `NoMemory` where memory was refused.
+pub(crate) fn report_of_audit(
+    alloc: Global,
+    orca: &Orca<'_>,
+    book: &Book,
+) -> Result<Vec<u8>, NoMemory>
+    requires { NoneIsAway orca.now }
+    ensures { IfOk result (λ text. IsAuditReport book.now orca.now.state text.items) }
+{
+    let (actors, objects) = numbers(alloc, orca)?;
+    audit_report(alloc, orca.quiet(), orca.prints(), book.len(), actors, objects)
 }

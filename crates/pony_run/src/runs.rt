@@ -10,11 +10,12 @@ ghost use Rattle.pony_run.specs.Inner.{IsAnswerOf, IsUnderWay, RunAnswers, Write
 ghost use Rattle.pony_run.specs.Streams.{sides};
 
 use crate::reporting::report_of_run;
+use crate::writing::write_text;
 use behaviour_check::Checked;
 use book_hall::{Hall, HallPass, Naming, SharedHall};
 use orca_core::Orca;
 use orca_names::{NoMemory, Trace};
-use outside_world::{Gate, Sink, write_all};
+use outside_world::{Gate, Sink};
 use quiet_pass::{End, finish};
 use report_text::Status;
 use run_book::Book;
@@ -37,22 +38,21 @@ pub struct Outcome {
 fn write_report<K: Sink>(
     alloc: Global,
     order: &Order,
+    code: &Checked,
     orca: &Orca<'_>,
     book: &Book,
     end: Status,
     sink: &mut K,
 ) -> Status
     requires end { IsEnd end }
-    requires home { NoneIsAway orca.now }
+    requires range { IsInRange order.now }
+    requires run { IsUnderWay order.now code.now orca.now book.now }
     ensures { WritesReport end order.now book.now orca.now.state
         (sides K.written K.faults sink.old sink.new) result }
 {
-    let Ok(text) = report_of_run(alloc, order, orca, book, &end) else {
-        return Status::NoMemory;
-    };
-    match write_all(sink, &text) {
-        Ok(()) => end,
-        Err(_) => Status::WriteFault,
+    match report_of_run(alloc, order, code, orca, book, &end) {
+        Ok(text) => write_text(&text, end, sink),
+        Err(NoMemory) => Status::NoMemory,
     }
 }
 
@@ -72,13 +72,14 @@ fn answer_of(end: End) -> Option<Status>
 fn end_run<K: Sink>(
     alloc: Global,
     order: &Order,
+    code: &Checked,
     orca: Orca<'_>,
     book: Book,
     sink: &mut K,
 ) -> Outcome
     requires range { IsInRange order.now }
-    requires run { IsUnderWay order.now orca.state.program orca book }
-    ensures { RunAnswers order.now orca.entry.state.program
+    requires run { IsUnderWay order.now code.now orca book }
+    ensures { RunAnswers order.now code.now
         (sides K.written K.faults sink.old sink.new) result.book result.status }
 {
     let mut orca = orca;
@@ -90,7 +91,7 @@ fn end_run<K: Sink>(
             book,
         };
     };
-    let status = write_report(alloc, order, &orca, &book, answer, sink);
+    let status = write_report(alloc, order, code, &orca, &book, answer, sink);
     Outcome { status, book }
 }
 
@@ -125,7 +126,7 @@ pub(crate) fn run_by_one<K: Sink>(
     match Orca::start(alloc, code, order.weight, order.trace) {
         Ok(orca) => {
             let book = Book::new(alloc, order.weight, order.trace);
-            end_run(alloc, order, orca, book, sink)
+            end_run(alloc, order, code, orca, book, sink)
         }
         Err(_) => starve(alloc, order),
     }
@@ -189,7 +190,7 @@ fn run_by_several<R: AllocGlobal + Threads + Wait + Sync, K: Sink, G: Gate + Syn
         result.book result.status }
 {
     match run_in::<Brand, R, G>(rt, order, code, gate) {
-        Ok((orca, book)) => end_run(rt.alloc(), order, orca, book, sink),
+        Ok((orca, book)) => end_run(rt.alloc(), order, code, orca, book, sink),
         Err(NoMemory) => starve(rt.alloc(), order),
     }
 }

@@ -4,9 +4,9 @@
 ghost use Rattle.std.specs.Prelude.{◌≡◌, IfOk, false};
 
 use crate::programs::{MOST, SEVEN, TWO_PRINT, VALUES, WRAPS};
-use crate::{Job, Order, Outcome, run_single, run_words};
 use orca_names::{ActorName, Trace};
 use outside_world::{HoldGate, MemSink, MemSource, OpenGate};
+use pony_run::{Job, Order, Outcome, run_single, run_words};
 use std::alloc::Global;
 use std::sync::Wait;
 use std::test::Fail;

@@ -1,12 +1,12 @@
 // Programs and their reports, by the words that the call is given.
 
-use crate::Status;
 use crate::programs::{
     ALL_LEAVES, CHAIN, DROPPED, KEPT, NAMED, ONE_LEAF_MORE, OPENED, PASSED, PEERS, PING, PINNED,
     REACHED_TWICE, SENT_TWICE, SEVEN, TO_ITSELF, UNHEARD,
 };
 use crate::tests::{answer, gives};
 use orca_names::ActorName;
+use pony_run::Status;
 use std::sync::Wait;
 use std::test::Fail;
 use std::thread::Threads;
@@ -264,12 +264,6 @@ const REPORTS: &[(&[&str], &str, u8, &str)] = &[
         "--\nend quiet\nactors made 1 left 0\nobjects made 1000 left 0\n",
     ),
     (
-        &["run", "--workers", "4"],
-        PEERS,
-        0,
-        "--\nend quiet\nactors made 3 left 1\nobjects made 0 left 0\n",
-    ),
-    (
         &["load", "200", "--workers", "4"],
         "",
         0,
@@ -286,12 +280,6 @@ const REPORTS: &[(&[&str], &str, u8, &str)] = &[
         "",
         0,
         "3\n--\nend quiet\nactors made 4 left 0\nobjects made 1 left 0\n",
-    ),
-    (
-        &["load", "200", "--workers", "4"],
-        "",
-        0,
-        "200\n--\nend quiet\nactors made 201 left 0\nobjects made 1 left 0\n",
     ),
 ];
 
