@@ -50,6 +50,18 @@ run_line = with_options (new_app (codes "run"))
 abbrev pub load_line : App
 load_line = with_options (with_rule (new_app (codes "load")) count_rule)
 
+-- `audit`, which has no options
+abbrev pub audit_line : App
+audit_line = new_app (codes "audit")
+
+-- `why` and its options
+abbrev pub why_line : App
+why_line = with_rule (with_rule (new_app (codes "why")) (option_rule (codes "budget"))) (option_rule (codes "weight"))
+
+-- a command with one more subcommand
+abbrev pub with_line : App → App → App
+with_line a line = with_subcommand a line.top
+
 -- the whole command
 unfoldable pub command_line : App
-command_line = with_subcommand (with_subcommand base_line run_line.top) load_line.top
+command_line = fold with_line base_line (run_line ∷ load_line ∷ audit_line ∷ why_line ∷ [])

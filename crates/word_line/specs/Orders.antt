@@ -14,7 +14,7 @@ use Rattle.clap.specs.ValueTests.{accepts}
 use Rattle.clap.specs.declared.builder.value_parser.ValueParser.TheVariants as vp
 use Rattle.word_line.specs.declared.order.TheConstants.{LEAST_WEIGHT, MOST_WEIGHT}
 use Rattle.word_line.specs.declared.order.Job.{Job}
-use Rattle.word_line.specs.declared.order.Job.TheVariants.{Load, Run}
+use Rattle.word_line.specs.declared.order.Job.TheVariants.{Audit, Load, Run, Why}
 use Rattle.word_line.specs.declared.order.Order.{Order}
 use Rattle.word_line.specs.Commands.{command_line}
 
@@ -28,6 +28,14 @@ number_in least most text =
 abbrev pub option_in : ℕ → ℕ → ℕ → Text → List Row → Option ℕ
 option_in least most default name rows =
     option_map_or (number_in least most) (first_of name rows) (Some default)
+
+-- the budget, 1,000,000 where it is not given
+abbrev pub budget_in : List Row → Option ℕ
+budget_in = option_in 1 BOOK_LIMIT 1000000 (codes "budget")
+
+-- the weight, 256 where it is not given
+abbrev pub weight_in : List Row → Option ℕ
+weight_in = option_in LEAST_WEIGHT MOST_WEIGHT 256 (codes "weight")
 
 -- an option without a value is given
 abbrev pub flag_in : Text → List Row → Bool
@@ -61,9 +69,7 @@ abbrev pub order_with : Job → List Row → Option Order
 order_with job rows =
     order_from job (flag_in (codes "counts") rows) (flag_in (codes "book") rows)
     (option_in 1 WORKERS_LIMIT 2 (codes "workers") rows)
-    (option_in 1 BOOK_LIMIT 1000000 (codes "budget") rows)
-    (option_in LEAST_WEIGHT MOST_WEIGHT 256 (codes "weight") rows)
-    (trace_in rows)
+    (budget_in rows) (weight_in rows) (trace_in rows)
 
 -- the order that the number and the options of `load` give
 abbrev pub load_with : List Row → Option Order
@@ -71,12 +77,9 @@ load_with rows =
     option_and_then (λ count. order_with (Load count) rows)
     (option_and_then (number_in 1 NODES_LIMIT) (first_of (codes "count") rows))
 
--- the order that the subcommand gives
-abbrev pub order_in : Option (Text × List Row) → Option Order
-order_in None = None
-order_in (Some found) =
-    if bytes_eq found.0 (codes "run") then order_with Run found.1
-    else (if bytes_eq found.0 (codes "load") then load_with found.1 else None)
+-- the order that the options of `why` give: one worker and deep tracing, and no counts and no book
+abbrev pub why_with : List Row → Option Order
+why_with rows = order_from Why false false (Some 1) (budget_in rows) (weight_in rows) (Some Deep)
 
 -- what no words ask for
 abbrev pub default_order : Order
@@ -90,6 +93,19 @@ default_order = record {
   trace = Deep;
 }
 
+-- what `audit` asks for
+abbrev pub audit_order : Order
+audit_order = record default_order { job = Audit }
+
+-- the order that the subcommand gives
+abbrev pub order_in : Option (Text × List Row) → Option Order
+order_in None = None
+order_in (Some found) =
+    if bytes_eq found.0 (codes "run") then order_with Run found.1
+    else (if bytes_eq found.0 (codes "load") then load_with found.1
+    else (if bytes_eq found.0 (codes "audit") then Some audit_order
+    else (if bytes_eq found.0 (codes "why") then why_with found.1 else None)))
+
 -- no words read as `run`; all others as the command reads them
 unfoldable pub order_of : List Text → Option Order
 order_of words = if is_empty words then Some default_order
@@ -100,6 +116,8 @@ order_of words = if is_empty words then Some default_order
 abbrev pub IsJobInRange : Job → Type 0
 IsJobInRange Run = ⊤
 IsJobInRange (Load count) = (1 ≤ count) × (count ≤ NODES_LIMIT)
+IsJobInRange Audit = ⊤
+IsJobInRange Why = ⊤
 
 -- the values of an order are in their ranges
 pub record IsInRange (order : Order) : Type 0 where

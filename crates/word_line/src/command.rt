@@ -3,7 +3,7 @@
 ghost use Rattle.std.specs.Prelude.{◌≡◌, false, IfOk};
 ghost use Rattle.clap.specs.Words.{app_of, rule_of, with_rule};
 ghost use Rattle.clap.specs.declared.builder.command.Command.TheViews.{out-Command};
-ghost use Rattle.word_line.specs.Commands.{base_line, command_line, count_rule, flag_rule, load_line, option_rule, run_line, with_options};
+ghost use Rattle.word_line.specs.Commands.{base_line, command_line, count_rule, flag_rule, load_line, option_rule, run_line, with_line, with_options, why_line};
 
 use clap::{Arg, ArgAction, Command};
 use std::alloc::{AllocError, Global};
@@ -76,6 +76,23 @@ fn load_command<'a>(alloc: Global) -> Result<Command<'a>, AllocError>
     with_options(alloc, load)
 }
 
+/// The subcommand `why` with its options.
+fn why_command<'a>(alloc: Global) -> Result<Command<'a>, AllocError>
+    ensures app { IfOk result (λ c. app_of c ≡ why_line) }
+    ensures globals { IfOk result (λ c. (out-Command c).has_globals ≡ false) }
+{
+    let why = with_arg(Command::new(alloc, "why"), option(alloc, "budget"))?;
+    with_arg(why, option(alloc, "weight"))
+}
+
+/// The command with one more subcommand.
+fn with_line<'a>(command: Command<'a>, line: Command<'a>) -> Result<Command<'a>, AllocError>
+    requires { (out-Command line).has_globals ≡ false }
+    ensures { IfOk result (λ c. app_of c ≡ with_line (app_of command.entry) (app_of line.entry)) }
+{
+    command.subcommand(line)
+}
+
 /// The command without its subcommands; it has no help and no version.
 fn base_command<'a>(alloc: Global) -> Command<'a>
     ensures app { app_of result ≡ base_line }
@@ -90,7 +107,8 @@ fn base_command<'a>(alloc: Global) -> Command<'a>
 pub(crate) fn command<'a>(alloc: Global) -> Result<Command<'a>, AllocError>
     ensures { IfOk result (λ c. app_of c ≡ command_line) }
 {
-    let run = run_command(alloc)?;
-    let load = load_command(alloc)?;
-    base_command(alloc).subcommand(run)?.subcommand(load)
+    let command = with_line(base_command(alloc), run_command(alloc)?)?;
+    let command = with_line(command, load_command(alloc)?)?;
+    let command = with_line(command, Command::new(alloc, "audit"))?;
+    with_line(command, why_command(alloc)?)
 }

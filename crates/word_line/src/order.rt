@@ -21,6 +21,11 @@ pub enum Job {
         /// How many nodes it makes, 1 to 60,000.
         count: u32,
     },
+    /// The book that the source gives behind its program is audited.
+    Audit,
+    /// The program that the source gives is run by one worker, and the report says why each thing is
+    /// left.
+    Why,
 }
 
 /// What the words ask for.

@@ -2,7 +2,7 @@
 
 ghost use Rattle.std.specs.Prelude.{◌≡◌, ◌≤◌, IfOk, IfErr, IfSome, Some, None, map, option_map};
 ghost use Rattle.clap.specs.Words.{first_of, found_of, rows_of, subcommand_rows_of};
-ghost use Rattle.word_line.specs.Orders.{IsInRange, IsJobInRange, flag_in, load_with, number_in, option_in, order_in, order_of, order_with, trace_in};
+ghost use Rattle.word_line.specs.Orders.{IsInRange, IsJobInRange, audit_order, budget_in, flag_in, load_with, number_in, option_in, order_in, order_of, order_with, trace_in, weight_in, why_with};
 ghost use Rattle.word_line.specs.declared.order.WordErr.TheVariants.{BadWords};
 
 use crate::command::command;
@@ -57,6 +57,25 @@ fn option_in(
     }
 }
 
+/// The budget, that of no words where it is not given.
+fn budget_in(matches: &ArgMatches<'_>) -> Option<u64>
+    ensures number { result ≡ budget_in (rows_of (found_of matches.now)) }
+    ensures range { IfSome result (λ n. (1 ≤ n) × (n ≤ BOOK_LIMIT)) }
+{
+    option_in(matches, "budget", 1, BOOK_LIMIT, Order::default().budget)
+}
+
+/// The weight, that of no words where it is not given.
+fn weight_in(matches: &ArgMatches<'_>) -> Option<u32>
+    ensures number { result ≡ weight_in (rows_of (found_of matches.now)) }
+    ensures range { IfSome result (λ n. (LEAST_WEIGHT ≤ n) × (n ≤ MOST_WEIGHT)) }
+{
+    let weight = u64::from(Order::default().weight);
+    let (least, most) = (u64::from(LEAST_WEIGHT), u64::from(MOST_WEIGHT));
+    let weight = option_in(matches, "weight", least, most, weight)?;
+    Some(weight as u32)
+}
+
 /// Whether an option without a value is given.
 fn flag_in(matches: &ArgMatches<'_>, name: &str) -> bool
     ensures { result ≡ flag_in name.now (rows_of (found_of matches.now)) }
@@ -85,13 +104,10 @@ fn order_with(matches: &ArgMatches<'_>, job: Job) -> Option<Order>
     ensures order { result ≡ order_with job (rows_of (found_of matches.now)) }
     ensures range { IfSome result IsInRange }
 {
-    let order = Order::default();
-    let (workers, most_workers) = (u64::from(order.workers), u64::from(WORKERS_LIMIT));
-    let workers = option_in(matches, "workers", 1, most_workers, workers)?;
-    let budget = option_in(matches, "budget", 1, BOOK_LIMIT, order.budget)?;
-    let weight = u64::from(order.weight);
-    let (least, most) = (u64::from(LEAST_WEIGHT), u64::from(MOST_WEIGHT));
-    let weight = option_in(matches, "weight", least, most, weight)?;
+    let workers = u64::from(Order::default().workers);
+    let workers = option_in(matches, "workers", 1, u64::from(WORKERS_LIMIT), workers)?;
+    let budget = budget_in(matches)?;
+    let weight = weight_in(matches)?;
     let trace = trace_in(matches)?;
     Some(Order {
         job,
@@ -99,7 +115,7 @@ fn order_with(matches: &ArgMatches<'_>, job: Job) -> Option<Order>
         budget,
         counts: flag_in(matches, "counts"),
         book: flag_in(matches, "book"),
-        weight: weight as u32,
+        weight,
         trace,
     })
 }
@@ -114,6 +130,30 @@ fn load_with(matches: &ArgMatches<'_>) -> Option<Order>
     order_with(matches, Job::Load { count })
 }
 
+/// The order that the options of `why` give.
+fn why_with(matches: &ArgMatches<'_>) -> Option<Order>
+    ensures order { result ≡ why_with (rows_of (found_of matches.now)) }
+    ensures range { IfSome result IsInRange }
+{
+    Some(Order {
+        job: Job::Why,
+        workers: 1,
+        budget: budget_in(matches)?,
+        weight: weight_in(matches)?,
+        ..Order::default()
+    })
+}
+
+/// The order of `audit`: that of no words, for an audit.
+fn audit_order() -> Order
+    ensures { result ≡ audit_order }
+{
+    Order {
+        job: Job::Audit,
+        ..Order::default()
+    }
+}
+
 /// The order that the subcommand gives.
 fn order_in(matches: &ArgMatches<'_>) -> Option<Order>
     ensures order { result ≡ order_in (subcommand_rows_of matches.now) }
@@ -122,6 +162,8 @@ fn order_in(matches: &ArgMatches<'_>) -> Option<Order>
     match matches.subcommand() {
         Some(("run", inner)) => order_with(inner, Job::Run),
         Some(("load", inner)) => load_with(inner),
+        Some(("audit", _)) => Some(audit_order()),
+        Some(("why", inner)) => why_with(inner),
         _ => None,
     }
 }

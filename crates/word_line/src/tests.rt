@@ -25,6 +25,10 @@ fn workers_and_budget(rt: HostRuntime) -> Result<(), Fail> {
         ("run --workers +5 --budget 1", 5, 1),
         ("run --budget 100000000 --workers 05", 5, 100_000_000),
         ("load 3 --workers 4 --budget 9", 4, 9),
+        ("audit", 2, 1_000_000),
+        ("why", 1, 1_000_000),
+        ("why --budget 4", 1, 4),
+        ("why --weight 2 --budget=9", 1, 9),
     ] {
         let order = reading(rt.alloc(), line)?.ok_or("no reading")?;
         assert_eq!(rt; (order.workers, order.budget), (workers, budget), "{line}");
@@ -44,6 +48,11 @@ fn jobs(rt: HostRuntime) -> Result<(), Fail> {
         ("load 05", Job::Load { count: 5 }),
         ("load -- 7", Job::Load { count: 7 }),
         ("load --workers 2 3", Job::Load { count: 3 }),
+        ("audit", Job::Audit),
+        ("audit --", Job::Audit),
+        ("why", Job::Why),
+        ("why --budget 4", Job::Why),
+        ("why --weight 2 --budget=9", Job::Why),
     ] {
         let order = reading(rt.alloc(), line)?.ok_or("no reading")?;
         assert!(rt; order.job == job, "{line}");
@@ -62,6 +71,8 @@ fn what_the_report_has(rt: HostRuntime) -> Result<(), Fail> {
         ("load 3", false, false),
         ("load 3 --counts", true, false),
         ("load --book 3", false, true),
+        ("audit", false, false),
+        ("why", false, false),
     ] {
         let order = reading(rt.alloc(), line)?.ok_or("no reading")?;
         assert_eq!(rt; (order.counts, order.book), (counts, book), "{line}");
@@ -79,6 +90,9 @@ fn weights_and_tracing(rt: HostRuntime) -> Result<(), Fail> {
         ("run --weight=65536 --trace deep", 65_536, Trace::Deep),
         ("run --trace roots", 256, Trace::Roots),
         ("load 3 --trace=roots --weight 07", 7, Trace::Roots),
+        ("audit --", 256, Trace::Deep),
+        ("why --budget 4", 256, Trace::Deep),
+        ("why --weight 2 --budget=9", 2, Trace::Deep),
     ] {
         let order = reading(rt.alloc(), line)?.ok_or("no reading")?;
         assert_eq!(rt; order.weight, weight, "{line}");
@@ -146,6 +160,25 @@ fn loads_and_options_without_a_reading(rt: HostRuntime) -> Result<(), Fail> {
         "run --trace",
         "run --trace deep --trace deep",
         "run --rows",
+    ] {
+        assert!(rt; reading(rt.alloc(), line)?.is_none(), "{line}");
+    }
+    Ok(())
+}
+
+#[test]
+fn audits_and_reasons_without_a_reading(rt: HostRuntime) -> Result<(), Fail> {
+    for line in [
+        "audit 3",
+        "audit --budget 4",
+        "audit --workers 1",
+        "why --workers 1",
+        "why --counts",
+        "why --book",
+        "why --trace deep",
+        "why 3",
+        "why --budget 0",
+        "why --weight 1",
     ] {
         assert!(rt; reading(rt.alloc(), line)?.is_none(), "{line}");
     }

@@ -1,15 +1,13 @@
-use Rattle.std.proofs.Common.{◌∙◌, ap, ap₂}
+use Rattle.std.proofs.Common.{◌∙◌, ap₂}
 use Rattle.std.proofs.lemmas.Result.{IfOk-weaker}
-use Rattle.clap.specs.Words.{App, with_subcommand}
-use Rattle.word_line.specs.Commands.{command_line}
+use Rattle.word_line.specs.Commands.{command_line, with_line}
 use Rattle.word_line.proofs.command.command.Goals as goal
 
 pub returns : goal.returns
 unfolding command_line
 returns c =
-    let runs = c.in_ok-subcommand.ensures in
-    IfOk-weaker c.subcommand-2.result _ _ (λ m h.
-    h.shape c.in_ok-load.ensures.globals
-    ∙ ap₂ with_subcommand (runs.shape c.in_ok-run.ensures.globals
-    ∙ ap₂ with_subcommand c.base_command.ensures.app (ap (λ (a : App). a.top) c.in_ok-run.ensures.app))
-    (ap (λ (a : App). a.top) c.in_ok-load.ensures.app)) c.subcommand-2.ensures
+    let first = c.in_ok-command.ensures ∙ ap₂ with_line c.base_command.ensures.app c.in_ok-run_command.ensures.app in
+    let second = c.in_ok-command-2.ensures ∙ ap₂ with_line first c.in_ok-load_command.ensures.app in
+    let third = c.in_ok-command-3.ensures ∙ ap₂ with_line second c.new.ensures.app in
+    let fourth = ap₂ with_line third c.in_ok-why_command.ensures.app in
+    IfOk-weaker c.with_line-4.result _ _ (λ m last. last ∙ fourth) c.with_line-4.ensures
