@@ -25,7 +25,7 @@ const AUDITS: &[(&str, &str, u8, &str)] = &[
         SEVEN,
         "book 2 256\ntake 0\ngo 0\n",
         0,
-        "--\nrun yes\nentries 2\nend open\nactors made 1 left 1\nobjects made 0 left 0\n",
+        "7\n--\nrun yes\nentries 2\nend open\nactors made 1 left 1\nobjects made 0 left 0\n",
     ),
     (
         SEVEN,

@@ -78,3 +78,10 @@ pub(crate) const ONE_LEAF_MORE: &str =
 /// Two actors that nobody holds each print a number.
 pub(crate) const TWO_PRINT: &str =
     "kind Main 0\non start 0\nnew r0 W\nnew r1 W\nsend r0 work\nsend r1 work\nend\nkind W 0\non work 0\nint r0 1\nprint r0\nend\n";
+
+/// A pinned actor makes an object and keeps nothing of it.
+pub(crate) const LOOSE: &str = "kind Main 0\non start 0\npin\nint r0 1\nrow r1 r0\nend\n";
+
+/// An actor makes an object that names another, and prints before its turn ends.
+pub(crate) const NESTED: &str =
+    "kind Main 0\non start 0\nint r0 1\nrow r1 r0\nrow r2 r1\nprint r0\nend\n";

@@ -1,6 +1,6 @@
 // Why each thing is left, and who went.
 
-use crate::programs::{LOOSE, PASSED, PEERS, PINNED, REACHED_TWICE, SEVEN};
+use crate::programs::{KEPT, LOOSE, NESTED, PEERS, PINNED, REACHED_TWICE, SEVEN};
 use crate::tests::gives;
 use std::test::Fail;
 
@@ -35,6 +35,24 @@ const WHYS: &[(&[&str], &str, u8, &str)] = &[
         SEVEN,
         5,
         "--\nend budget\nactors made 1 left 1\nobjects made 0 left 0\nkept actor 0 level 0 frame\n",
+    ),
+    (
+        &["why", "--budget", "2"],
+        LOOSE,
+        5,
+        "--\nend budget\nactors made 1 left 1\nobjects made 1 left 1\nkept actor 0 level 0 pinned\nloose object 0.0\n",
+    ),
+    (
+        &["why", "--budget", "2", "--weight", "2"],
+        NESTED,
+        5,
+        "1\n--\nend budget\nactors made 1 left 1\nobjects made 2 left 2\nkept actor 0 level 0 frame\nkept object 0.0 level 1 by actor 0 register 1\nkept object 0.1 level 1 by actor 0 register 2\n",
+    ),
+    (
+        &["why"],
+        KEPT,
+        0,
+        "--\nend quiet\nactors made 2 left 2\nobjects made 1 left 1\nkept actor 0 level 0 pinned\nkept actor 1 level 2 by object 1.0 owner\nkept object 1.0 level 1 by actor 0 field 0\n",
     ),
 ];
 
