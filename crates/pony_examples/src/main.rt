@@ -47,6 +47,10 @@ const RUNS: &[(&str, &[&str])] = &[
         ],
     ),
     ("makes_many.txt", &["run", "--workers", "1"]),
+    ("cycle_and_its_book.txt", &["audit"]),
+    ("cycle_and_no_run.txt", &["audit"]),
+    ("hold_each_other.txt", &["why"]),
+    ("keeps_an_object.txt", &["why"]),
 ];
 
 /// The call with these words over this file and standard output, with threads of this handle.

@@ -1,7 +1,7 @@
 -- How a call ends: its exit code, and the word for the end of a run.
 use Rattle.std.specs.Prelude.{ℕ, List, [], codes, ⊤}
 use Rattle.report_text.specs.declared.status.Status.{Status}
-use Rattle.report_text.specs.declared.status.Status.TheVariants.{Quiet, BadWords, BadText, BadProgram, Budget, ActorsFull, ReadFault, WriteFault, NoMemory, TooLong}
+use Rattle.report_text.specs.declared.status.Status.TheVariants.{Quiet, BadWords, BadText, BadProgram, Budget, ActorsFull, ReadFault, WriteFault, NoMemory, TooLong, Audited, BadBook, NotARun}
 
 -- the exit code
 abbrev pub code_of : Status → ℕ
@@ -15,6 +15,9 @@ code_of ReadFault = 7
 code_of WriteFault = 8
 code_of NoMemory = 9
 code_of TooLong = 10
+code_of Audited = 0
+code_of (BadBook line kind) = 12
+code_of (NotARun place cause) = 13
 
 -- a run ended so: there is a report
 abbrev pub IsEnd : Status → Type 0

@@ -2,3 +2,4 @@ pub mod Ends
 pub mod Parts
 pub mod Refusals
 pub mod Reports
+pub mod WhyLines

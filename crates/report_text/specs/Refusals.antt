@@ -2,15 +2,17 @@
 use Rattle.std.specs.Prelude.{ℕ, List, [], ◌++◌, codes, ⊤}
 use Rattle.std.specs.Fmt.{decimal}
 use Rattle.report_text.specs.declared.status.Status.{Status}
-use Rattle.report_text.specs.declared.status.Status.TheVariants.{BadWords, BadText, BadProgram, ReadFault, TooLong}
+use Rattle.report_text.specs.declared.status.Status.TheVariants.{BadWords, BadText, BadProgram, ReadFault, TooLong, BadBook, NotARun}
 
--- the words, the source or its bytes were refused: there is a refusal line
+-- the words, the source, its bytes or its book were refused: there is a refusal line
 abbrev pub HasRefusal : Status → Type 0
 HasRefusal BadWords = ⊤
 HasRefusal ReadFault = ⊤
 HasRefusal TooLong = ⊤
 HasRefusal (BadText line kind) = ⊤
 HasRefusal (BadProgram kind behaviour step rule) = ⊤
+HasRefusal (BadBook line kind) = ⊤
+HasRefusal (NotARun place cause) = ⊤
 HasRefusal other = ⊥
 
 -- the line of a refusal; nothing for any other status
@@ -24,4 +26,6 @@ refusal_of (BadProgram kind behaviour step rule) =
     ++ (codes " behaviour " ++ (decimal behaviour
     ++ (codes " step " ++ (decimal step
     ++ (codes " rule " ++ (decimal rule ++ codes "\n")))))))
+refusal_of (BadBook line kind) = codes "refused book line " ++ (decimal line ++ (codes " kind " ++ (decimal kind ++ codes "\n")))
+refusal_of (NotARun place cause) = codes "run no entry " ++ (decimal place ++ (codes " cause " ++ (decimal cause ++ codes "\n")))
 refusal_of other = []

@@ -1,5 +1,6 @@
--- The report of a run.
-use Rattle.std.specs.Prelude.{ℕ, List, [], ◌++◌, codes}
+-- The reports of a run and of an audit.
+use Rattle.std.specs.Prelude.{ℕ, Bool, List, [], ◌++◌, codes, if◌then◌else◌}
+use Rattle.std.specs.Fmt.{decimal}
 use Rattle.std.specs.declared.option.Option.{Option}
 use Rattle.std.specs.Option.{option_map_or}
 use Rattle.std.specs.List.{flat_map}
@@ -37,3 +38,14 @@ report_of status prints actors objects counts book =
     ++ number_line (codes "objects") objects
     ++ option_map_or (flat_map count_line) counts []
     ++ option_map_or book_text book []
+
+-- the prints, that the book is a run, how many entries it has, whether an event is enabled at its
+-- end, and what was made and is left
+abbrev pub audit_report_of : Bool → List Value → ℕ → Numbers → Numbers → List ℕ
+audit_report_of is_quiet prints entries actors objects =
+    flat_map print_line prints
+    ++ codes "--\nrun yes\n"
+    ++ codes "entries " ++ decimal entries ++ codes "\n"
+    ++ codes "end " ++ (if is_quiet then codes "quiet" else codes "open") ++ codes "\n"
+    ++ number_line (codes "actors") actors
+    ++ number_line (codes "objects") objects

@@ -8,7 +8,7 @@ use crate::numbers::Numbers;
 use orca_names::{Sums, Thing, Value};
 use std::alloc::AllocError;
 
-fn push_thing(out: &mut String, thing: &Thing) -> Result<(), AllocError>
+pub(crate) fn push_thing(out: &mut String, thing: &Thing) -> Result<(), AllocError>
     ensures { OnOk result (string_bytes out.new ≡ string_bytes out.old ++ thing_text thing.now) }
 {
     match thing {
@@ -37,7 +37,7 @@ pub(crate) fn push_print(out: &mut String, value: &Value) -> Result<(), AllocErr
 }
 
 /// A name and its number, each after a space.
-fn push_amount(out: &mut String, name: &str, amount: u64) -> Result<(), AllocError>
+pub(crate) fn push_amount(out: &mut String, name: &str, amount: u64) -> Result<(), AllocError>
     ensures { OnOk result (string_bytes out.new ≡ string_bytes out.old
         ++ amount_text name.now amount) }
 {

@@ -28,6 +28,12 @@ fn refusal_text(alloc: Global, status: &Status) -> Result<String, AllocError>
                 "refused program kind {kind} behaviour {behaviour} step {step} rule {rule}\n"
             )
         }
+        Status::BadBook { line, kind } => {
+            format!(in alloc; "refused book line {line} kind {kind}\n")
+        }
+        Status::NotARun { place, cause } => {
+            format!(in alloc; "run no entry {place} cause {cause}\n")
+        }
         _ => Ok(String::new(alloc)),
     }
 }

@@ -12,7 +12,7 @@ use orca_names::{NoMemory, Sums, Tally, Value};
 use run_book::Book;
 use std::alloc::{AllocError, Global};
 
-fn push_prints(out: &mut String, prints: &[Value]) -> Result<(), AllocError>
+pub(crate) fn push_prints(out: &mut String, prints: &[Value]) -> Result<(), AllocError>
     ensures { OnOk result (string_bytes out.new ≡ string_bytes out.old
         ++ flat_map print_line prints.now) }
 {

@@ -38,6 +38,20 @@ pub enum Status {
     NoMemory,
     /// The source gave more bytes than a text may have.
     TooLong,
+    /// The book that was audited is a run of its program.
+    Audited,
+    /// The bytes behind the program are no book: the first line with a fault, counted from 1 at the
+    /// book's first, and the fault's kind.
+    BadBook {
+        line: u32,
+        kind: u8,
+    },
+    /// The book is no run of the program: the entry at this place, counted from 0, is refused, with
+    /// cause 1 where it is not enabled and 2 where it would make an actor too many.
+    NotARun {
+        place: u64,
+        cause: u8,
+    },
 }
 
 impl Status {
@@ -56,6 +70,9 @@ impl Status {
             Status::WriteFault => 8,
             Status::NoMemory => 9,
             Status::TooLong => 10,
+            Status::Audited => 0,
+            Status::BadBook { .. } => 12,
+            Status::NotARun { .. } => 13,
         }
     }
 }
