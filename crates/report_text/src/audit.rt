@@ -1,40 +1,19 @@
 // The report of an audit.
 
-ghost use Rattle.std.specs.Prelude.{◌≡◌, IfOk, string_bytes, if◌then◌else◌, codes};
+ghost use Rattle.std.specs.Prelude.{◌≡◌, IfOk, if◌then◌else◌, codes};
 ghost use Rattle.report_text.specs.Reports.{audit_report_of};
 
 use crate::lines::push_numbers;
 use crate::numbers::Numbers;
 use crate::run_report::push_prints;
 use orca_names::{NoMemory, Value};
-use std::alloc::{AllocError, Global};
+use std::alloc::Global;
 
 /// The word for the end of a book, where no event is enabled or where one is.
 fn audit_end(is_quiet: bool) -> &'static str
     ensures { result.now ≡ (if is_quiet then codes "quiet" else codes "open") }
 {
     if is_quiet { "quiet" } else { "open" }
-}
-
-/// The report as text.
-fn audit_text(
-    alloc: Global,
-    is_quiet: bool,
-    prints: &[Value],
-    entries: u64,
-    actors: Numbers,
-    objects: Numbers,
-) -> Result<String, AllocError>
-    ensures { IfOk result (λ text. string_bytes text
-        ≡ audit_report_of is_quiet prints.now entries actors objects) }
-{
-    let mut out = String::new(alloc);
-    push_prints(&mut out, prints)?;
-    let end = audit_end(is_quiet);
-    write!(out, "--\nrun yes\nentries {entries}\nend {end}\n")?;
-    push_numbers(&mut out, "actors", actors)?;
-    push_numbers(&mut out, "objects", objects)?;
-    Ok(out)
 }
 
 /// The report of a book that is a run of its program: the prints, how many entries the book has,
@@ -53,6 +32,11 @@ pub fn audit_report(
     ensures { IfOk result (λ bytes. bytes.items
         ≡ audit_report_of is_quiet prints.now entries actors objects) }
 {
-    let text = audit_text(alloc, is_quiet, prints, entries, actors, objects)?;
-    Ok(text.into_bytes())
+    let mut out = String::new(alloc);
+    push_prints(&mut out, prints)?;
+    let end = audit_end(is_quiet);
+    write!(out, "--\nrun yes\nentries {entries}\nend {end}\n")?;
+    push_numbers(&mut out, "actors", actors)?;
+    push_numbers(&mut out, "objects", objects)?;
+    Ok(out.into_bytes())
 }

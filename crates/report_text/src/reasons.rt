@@ -108,7 +108,7 @@ fn push_members(out: &mut String, members: &[KeptReport]) -> Result<(), AllocErr
     Ok(())
 }
 
-/// The lines of who went by one entry.
+/// The lines of an actor that left, or of a token that was reaped.
 fn push_parting(out: &mut String, parting: &Parting) -> Result<(), AllocError>
     ensures { OnOk result (string_bytes out.new ≡ string_bytes out.old ++ parting_lines parting.now) }
 {
@@ -131,16 +131,6 @@ fn push_partings(out: &mut String, partings: &[Parting]) -> Result<(), AllocErro
     Ok(())
 }
 
-/// The lines as text.
-fn why_text(alloc: Global, partings: &[Parting], reasons: &[Reason]) -> Result<String, AllocError>
-    ensures { IfOk result (λ text. string_bytes text ≡ why_lines partings.now reasons.now) }
-{
-    let mut out = String::new(alloc);
-    push_partings(&mut out, partings)?;
-    push_reasons(&mut out, reasons)?;
-    Ok(out)
-}
-
 /// Who went by each entry, and then why each thing is left, each in a line that ends with a line
 /// feed; a token that was reaped has a line more for each member.
 ///
@@ -153,5 +143,8 @@ pub fn why_lines(
 ) -> Result<Vec<u8>, NoMemory>
     ensures { IfOk result (λ bytes. bytes.items ≡ why_lines partings.now reasons.now) }
 {
-    Ok(why_text(alloc, partings, reasons)?.into_bytes())
+    let mut out = String::new(alloc);
+    push_partings(&mut out, partings)?;
+    push_reasons(&mut out, reasons)?;
+    Ok(out.into_bytes())
 }

@@ -1,8 +1,11 @@
 // Reports and refusal lines as literal bytes.
 
-use crate::{Numbers, Status, refusal_line, report};
+use crate::{Numbers, Status, audit_report, refusal_line, report, why_lines};
 use event_rule::Event;
-use orca_names::{ActorName, ObjName, Serial, Sums, Tally, Thing, Trace, Value};
+use orca_names::{
+    ActorName, Edge, KeptReport, ObjName, Parting, Reason, Serial, Sums, Tally, Thing, Trace,
+    Value, Why,
+};
 use plain_list::Listed;
 use run_book::Book;
 use std::alloc::Global;
@@ -162,5 +165,120 @@ fn refusals_and_codes(rt: HostRuntime) -> Result<(), Fail> {
     for (status, code) in ends.into_iter().zip([8, 9, 4, 0]) {
         assert_eq!(rt; status.code(), code);
     }
+    Ok(())
+}
+
+#[test]
+fn books_that_are_refused(rt: HostRuntime) -> Result<(), Fail> {
+    let alloc = rt.alloc();
+    let book = |line, kind| Status::BadBook { line, kind };
+    let run = |place, cause| Status::NotARun { place, cause };
+    for (status, line, code) in [
+        (book(1, 1), "refused book line 1 kind 1\n", 12),
+        (
+            book(100_000_002, 3),
+            "refused book line 100000002 kind 3\n",
+            12,
+        ),
+        (run(1, 1), "run no entry 1 cause 1\n", 13),
+        (run(7, 2), "run no entry 7 cause 2\n", 13),
+    ] {
+        assert_eq!(rt; refusal_line(alloc, &status)?.as_slice(), line.as_bytes());
+        assert_eq!(rt; status.code(), code, "{line}");
+    }
+    assert_eq!(rt; Status::Audited.code(), 0);
+    Ok(())
+}
+
+#[test]
+fn audits(rt: HostRuntime) -> Result<(), Fail> {
+    let quiet =
+        "7\n--\nrun yes\nentries 5\nend quiet\nactors made 1 left 0\nobjects made 0 left 0\n";
+    let open = "--\nrun yes\nentries 2\nend open\nactors made 1 left 1\nobjects made 0 left 0\n";
+    let seven = [Value::Num(7)];
+    for (is_quiet, prints, entries, left, text) in [
+        (true, seven.as_slice(), 5, 0, quiet),
+        (false, &seven[..0], 2, 1, open),
+    ] {
+        let actors = Numbers { made: 1, left };
+        let bytes = audit_report(rt.alloc(), is_quiet, prints, entries, actors, NONE)?;
+        assert_eq!(rt; bytes.as_slice(), text.as_bytes());
+    }
+    Ok(())
+}
+
+const fn letter(letter: u64, argument: u8) -> Edge {
+    Edge::Letter { letter, argument }
+}
+
+const fn actor(name: u32) -> Thing {
+    Thing::Actor(ActorName(name))
+}
+
+fn thing(serial: u64) -> Thing {
+    Thing::Obj(object(serial))
+}
+
+const fn by(parent: Thing, edge: Edge) -> Why {
+    Why::By { parent, edge }
+}
+
+const fn reason(thing: Thing, level: u64, why: Why) -> Reason {
+    Reason { thing, level, why }
+}
+
+#[test]
+fn why_each_thing_is_left(rt: HostRuntime) -> Result<(), Fail> {
+    let reasons = [
+        reason(actor(0), 0, Why::Pinned),
+        reason(thing(0), 1, by(actor(0), Edge::Field(0))),
+        reason(thing(0), 1, by(actor(1), letter(0, 0))),
+        reason(thing(1), 1, by(actor(1), letter(0, 1))),
+        reason(actor(1), 0, Why::Letter),
+        reason(actor(1), 0, Why::Frame),
+        reason(thing(1), 1, by(actor(1), Edge::Register(15))),
+        reason(actor(0), 1, by(actor(1), letter(12, 7))),
+        reason(thing(1), 2, by(thing(0), Edge::Place(3))),
+        reason(actor(0), 3, by(thing(1), Edge::Owner)),
+        reason(actor(1), 0, Why::Loose),
+        reason(thing(1), 0, Why::Loose),
+    ];
+    let text =
+        "kept actor 0 level 0 pinned\nkept object 0.0 level 1 by actor 0 field 0\nkept object 0.0 level 1 by actor 1 letter 0 argument 0\nkept object 0.1 level 1 by actor 1 letter 0 argument 1\nkept actor 1 level 0 letter\nkept actor 1 level 0 frame\nkept object 0.1 level 1 by actor 1 register 15\nkept actor 0 level 1 by actor 1 letter 12 argument 7\nkept object 0.1 level 2 by object 0.0 place 3\nkept actor 0 level 3 by object 0.1 owner\nloose actor 1\nloose object 0.1\n";
+    let lines = why_lines(rt.alloc(), &[], &reasons)?;
+    assert_eq!(rt; lines.as_slice(), text.as_bytes());
+    Ok(())
+}
+
+/// A member with the count 1 that holds these.
+fn member(alloc: Global, actor: u32, held: &[(ActorName, u64)]) -> Result<KeptReport, Fail> {
+    Ok(KeptReport {
+        actor: ActorName(actor),
+        count: 1,
+        held: Listed::from(held.to_vec(alloc)?),
+    })
+}
+
+#[test]
+fn who_went(rt: HostRuntime) -> Result<(), Fail> {
+    let alloc = rt.alloc();
+    let mut members = Listed::new(alloc);
+    members.push(member(alloc, 1, &[(ActorName(2), 1)])?)?;
+    members.push(member(alloc, 2, &[(ActorName(1), 1)])?)?;
+    let reaped = Parting::Reaped { token: 1, members };
+    let mut others = Listed::new(alloc);
+    others.push(member(alloc, 3, &[])?)?;
+    others.push(member(alloc, 5, &[(MAIN, 7), (ActorName(3), 256)])?)?;
+    let again = Parting::Reaped {
+        token: 2,
+        members: others,
+    };
+    let left = Parting::Left { actor: MAIN };
+    let pinned = reason(actor(0), 0, Why::Pinned);
+    let lines = why_lines(alloc, &[reaped, left, again], &[pinned])?;
+    let text =
+        "reaped token 1\nmember actor 1 count 1 holds 2 1\nmember actor 2 count 1 holds 1 1\ngone actor 0\nreaped token 2\nmember actor 3 count 1\nmember actor 5 count 1 holds 0 7 holds 3 256\nkept actor 0 level 0 pinned\n";
+    assert_eq!(rt; lines.as_slice(), text.as_bytes());
+    assert!(rt; why_lines(alloc, &[], &[])?.is_empty());
     Ok(())
 }
