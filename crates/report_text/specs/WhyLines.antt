@@ -18,7 +18,8 @@ use Rattle.report_text.specs.Parts.{amount_text, thing_text}
 abbrev pub edge_text : Edge → List ℕ
 edge_text (Field i) = codes "field " ++ decimal i
 edge_text (Register i) = codes "register " ++ decimal i
-edge_text (edge.Letter letter argument) = codes "letter " ++ decimal letter ++ codes " argument " ++ decimal argument
+edge_text (edge.Letter letter argument) =
+    codes "letter " ++ decimal letter ++ codes " argument " ++ decimal argument
 edge_text (Place i) = codes "place " ++ decimal i
 edge_text Owner = codes "owner"
 
@@ -33,7 +34,8 @@ cause_text Loose = []
 -- that a thing of this level is kept, and by what, or that it is loose
 abbrev pub reason_text : Thing → ℕ → Why → List ℕ
 reason_text x level Loose = codes "loose " ++ thing_text x
-reason_text x level why = codes "kept " ++ thing_text x ++ amount_text (codes "level") level ++ codes " " ++ cause_text why
+reason_text x level why =
+    codes "kept " ++ thing_text x ++ amount_text (codes "level") level ++ codes " " ++ cause_text why
 
 -- the line of a thing that is left
 abbrev pub reason_line : Reason → List ℕ
@@ -45,12 +47,15 @@ held_text held = amount_text (codes "holds") held.0 ++ codes " " ++ decimal held
 
 -- the line of a member that was reaped, with its count and the counts that it holds
 unfoldable pub member_line : KeptReport → List ℕ
-member_line m = codes "member actor " ++ decimal m.actor ++ amount_text (codes "count") m.count ++ flat_map held_text m.held ++ codes "\n"
+member_line m =
+    codes "member actor " ++ decimal m.actor ++ amount_text (codes "count") m.count
+    ++ flat_map held_text m.held ++ codes "\n"
 
 -- the line of an actor that left, or the lines of a token and its members
 abbrev pub parting_lines : Parting → List ℕ
 parting_lines (Left a) = codes "gone actor " ++ decimal a ++ codes "\n"
-parting_lines (Reaped token members) = codes "reaped token " ++ decimal token ++ codes "\n" ++ flat_map member_line members
+parting_lines (Reaped token members) =
+    codes "reaped token " ++ decimal token ++ codes "\n" ++ flat_map member_line members
 
 -- who went, and then why each thing is left
 abbrev pub why_lines : List Parting → List Reason → List ℕ

@@ -56,7 +56,9 @@ audit_line = new_app (codes "audit")
 
 -- `why` and its options
 abbrev pub why_line : App
-why_line = with_rule (with_rule (new_app (codes "why")) (option_rule (codes "budget"))) (option_rule (codes "weight"))
+why_line =
+    with_rule (with_rule (new_app (codes "why")) (option_rule (codes "budget")))
+    (option_rule (codes "weight"))
 
 -- a command with one more subcommand
 abbrev pub with_line : App → App → App
