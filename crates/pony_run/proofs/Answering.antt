@@ -4,7 +4,11 @@ use Rattle.std.specs.declared.option.Option.{Option}
 use Rattle.std.proofs.KnownBytes.{Appends-nil, Consumes-nil}
 use Rattle.run_book.specs.Books.{BookValue}
 use Rattle.run_book.specs.Reading.{IsBookText}
-use Rattle.book_audit.specs.Verdicts.{IsRefuted}
+use Rattle.machine_rules.specs.Run.{IsRun}
+use Rattle.orca_core.specs.Machine.{Machine}
+use Rattle.book_audit.specs.Verdicts.{IsRefuted, IsVerdict, options_of_book}
+use Rattle.book_audit.specs.declared.auditing.Verdict.{Verdict}
+use Rattle.book_audit.specs.declared.auditing.Verdict.TheVariants as verdicts
 use Rattle.report_text.specs.Refusals.{refusal_of}
 use Rattle.report_text.specs.declared.status.Status.{Status}
 use Rattle.report_text.specs.declared.status.Status.TheVariants as status
@@ -16,7 +20,7 @@ use Rattle.machine_rules.specs.State.{State}
 use Rattle.report_text.specs.Refusals.{HasRefusal}
 use Rattle.outside_world.specs.Pieces.{TakesAll, TakesPart}
 use Rattle.pony_run.specs.Headline.{Answers, Begins, BeginsAudit, EndsWith, EveryRun, HasText, IsAudited, IsCut, IsInput, IsReport, IsReportOf, MayRead, Reads, ReadsFor, Refuses, TakesInput, Writes}
-use Rattle.pony_run.specs.Inner.{AuditAnswers, BeginsRun, GivesBegun, HasBehind, InputStops, IsBookStop, IsReadStop, IsRunnable, IsStop, IsTextStop, IsTold, IsWritten, RunAnswers, StopsWith, WritesAudit, WritesReport}
+use Rattle.pony_run.specs.Inner.{AuditAnswers, BeginsRun, GivesBegun, HasBehind, InputStops, IsBegun, IsBookStop, IsReadStop, IsRunnable, IsStop, IsTextStop, IsTold, IsWritten, RunAnswers, StopsWith, WritesAudit, WritesReport}
 use Rattle.pony_run.specs.Streams.{CountsNoFault, IsUntouched, Sides, most_bytes}
 use Rattle.pony_run.specs.declared.beginning.Begun.{Begun}
 use Rattle.pony_run.specs.declared.beginning.Begun.TheVariants as begun
@@ -254,6 +258,12 @@ starved_answers order program given writes book answer same run =
     let sink : Sides = record { before = given; after = given; faults_before = writes; faults_after = writes } in
     subst (λ (a : Status). RunAnswers order program sink book a) (sym same) (RunAnswers.starved run (nothing_written given writes))
 
+-- the report of a run was written
+pub run_written : (end : Status) (order : Order) (book : BookValue) (s : State) (sink : Sides) (text : List ℕ) (answer : Status) → IsReport end order book s text
+    → IsWritten text end sink answer → WritesReport end order book s sink answer
+run_written end order book s sink text answer report (inl h) = subst (WritesReport end order book s sink) (sym h.0) (WritesReport.whole text report h.1)
+run_written end order book s sink text answer report (inr h) = subst (WritesReport end order book s sink) (sym h.0) (WritesReport.cut text report h.1)
+
 module _ (order : Order) (program : Program) (sink : Sides) (book : BookValue) (run : EveryRun order program book) where
   -- the report of a run that ended so
   pub report_answers : (end answer : Status) (s : State) → run.state ≡ s → EndsWith end s book.entries order.budget
@@ -299,12 +309,21 @@ begins_with order source input program read h = record {
   kept = h.runnable.kept;
 }
 
-pub run_begun : (order : Order) (source sink : Sides) (program : Program) (book : BookValue) (answer : Status) → GivesBegun order.job source (begun.Run program)
-    → RunAnswers order program sink book answer → Answers (Some order) source sink book answer
-run_begun order source sink program book answer h answers =
-    run_answers (Some order) source sink book order program (begins_with order source h.input program h.read h.begins) answer answers
+pub run_begun : (order : Order) (source sink : Sides) (program : Program) (book : BookValue) (answer : Status) (b : Begun) → b ≡ begun.Run program
+    → GivesBegun order.job source b → RunAnswers order program sink book answer → Answers (Some order) source sink book answer
+run_begun order source sink program book answer b is h answers =
+    run_answers (Some order) source sink book order program (begins_with order source h.input program h.read (subst (IsBegun order.job h.input) is h.begins)) answer answers
 
 -- ---- where an audit begins
+
+-- what an audit answered
+pub run_found : (program : Program) (book : BookValue) (v : Verdict) (m : Machine) → v ≡ verdicts.Run m → IsVerdict program book v
+    → IsRun program (options_of_book book) book.entries m.state
+run_found program book v m is right = (subst (IsVerdict program book) is right).run
+
+pub refusal_found : (program : Program) (book : BookValue) (v : Verdict) (place cause : ℕ) → v ≡ verdicts.Not place cause → IsVerdict program book v
+    → IsRefuted program book place cause
+refusal_found program book v place cause is right = subst (IsVerdict program book) is right
 
 pub report_written : (program : Program) (book : BookValue) (sink : Sides) (text : List ℕ) (answer : Status) → IsAudited program book text
     → IsWritten text status.Audited sink answer → WritesAudit program book sink answer
@@ -329,8 +348,10 @@ module _ (order : Order) (source sink : Sides) (program : Program) (bytes : List
   audit_answers answer (AuditAnswers.followed written) = audit_written answer written
   audit_answers answer (AuditAnswers.starved written e) = subst (Answers (Some order) source sink book) (sym e) (Answers.starved_in_audit order program bytes begins of written)
 
-pub audit_begun : (order : Order) (source sink : Sides) (program : Program) (book : BookValue) (answer : Status) → GivesBegun order.job source (begun.Audit program book)
-    → AuditAnswers program book sink answer → Answers (Some order) source sink book answer
-audit_begun order source sink program book answer h answers =
-    let b = h.begins in
-    audit_answers order source sink program b.bytes book (begins_audit order source program h.input b.text b.bytes refl b.audits h.read b.has b.runnable) b.book_text answer answers
+pub audit_begun : (order : Order) (source sink : Sides) (program : Program) (book found : BookValue) (answer : Status) (b : Begun) → b ≡ begun.Audit program book
+    → GivesBegun order.job source b → found ≡ book → AuditAnswers program book sink answer → Answers (Some order) source sink found answer
+audit_begun order source sink program book found answer b is h same answers =
+    let begins = subst (IsBegun order.job h.input) is h.begins in
+    subst (λ (x : BookValue). Answers (Some order) source sink x answer) (sym same)
+    (audit_answers order source sink program begins.bytes book
+    (begins_audit order source program h.input begins.text begins.bytes refl begins.audits h.read begins.has begins.runnable) begins.book_text answer answers)

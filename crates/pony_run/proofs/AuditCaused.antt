@@ -123,14 +123,14 @@ module _ (program : Program) (bytes : List ℕ) (sink : Sides) (book : BookValue
       let one : l ≡ line = cc in
       let two : k ≡ kind = cc in
       subst (IsFirstFault bytes line) two (subst (λ (x : ℕ). IsFirstFault bytes x k) one fault.first)
-  bad_book_only line kind e (Found.found (AuditSeen.refuted of p c refuted w)) = absurd (cc)
+  bad_book_only line kind e (Found.found (AuditSeen.refuted of p c wrong w)) = absurd (cc)
   bad_book_only line kind e (Found.found (AuditSeen.audited of run well w)) = absurd (cc)
 
   bad_book : (line kind : ℕ) → IsFirstFault bytes line kind → Found program bytes sink book answer → IsUnlessMemory answer (status.BadBook line kind)
   bad_book line kind first (Found.starved m) = inr m
   bad_book line kind first (Found.cut of run fails w) = absurd (faultless bytes book of line kind first.there)
   bad_book line kind first (Found.found (AuditSeen.no_book l k fault w)) = inl (w ∙ one_fault bytes line kind l k first fault.first)
-  bad_book line kind first (Found.found (AuditSeen.refuted of p c refuted w)) = absurd (faultless bytes book of line kind first.there)
+  bad_book line kind first (Found.found (AuditSeen.refuted of p c wrong w)) = absurd (faultless bytes book of line kind first.there)
   bad_book line kind first (Found.found (AuditSeen.audited of run well w)) = absurd (faultless bytes book of line kind first.there)
 
   one_comes : ¬ HasFailed sink → Found program bytes sink book answer → IsOfAudit answer ⊎ (answer ≡ status.NoMemory)
@@ -146,10 +146,10 @@ module _ (program : Program) (bytes : List ℕ) (sink : Sides) (book : BookValue
     not_a_run_only place cause e (Found.starved m) = absurd (cc)
     not_a_run_only place cause e (Found.cut of run fails w) = absurd (cc)
     not_a_run_only place cause e (Found.found (AuditSeen.no_book l k fault w)) = absurd (cc)
-    not_a_run_only place cause e (Found.found (AuditSeen.refuted of p c refuted w)) =
+    not_a_run_only place cause e (Found.found (AuditSeen.refuted of p c wrong w)) =
         let one : p ≡ place = cc in
         let two : c ≡ cause = cc in
-        refuted_alike program book b (alike of) place cause (subst (IsRefuted program book place) two (subst (λ (x : ℕ). IsRefuted program book x c) one refuted))
+        refuted_alike program book b (alike of) place cause (subst (IsRefuted program book place) two (subst (λ (x : ℕ). IsRefuted program book x c) one wrong))
     not_a_run_only place cause e (Found.found (AuditSeen.audited of run well w)) = absurd (cc)
 
     not_a_run : (place cause : ℕ) → IsRefuted program b place cause → Found program bytes sink book answer → IsUnlessMemory answer (status.NotARun place cause)
@@ -165,15 +165,15 @@ module _ (program : Program) (bytes : List ℕ) (sink : Sides) (book : BookValue
     audited_only e (Found.starved m) = absurd (cc)
     audited_only e (Found.cut of run fails w) = absurd (cc)
     audited_only e (Found.found (AuditSeen.no_book l k fault w)) = absurd (cc)
-    audited_only e (Found.found (AuditSeen.refuted of p c refuted w)) = absurd (cc)
+    audited_only e (Found.found (AuditSeen.refuted of p c wrong w)) = absurd (cc)
     audited_only e (Found.found (AuditSeen.audited of run well w)) = (run_alike program book b (alike of) run, well)
 
     audited : IsARun program b → ¬ HasFailed sink → Found program bytes sink book answer → IsUnlessMemory answer status.Audited
     audited run able (Found.starved m) = inr m
     audited run able (Found.cut of same fails w) = absurd (able fails)
     audited run able (Found.found (AuditSeen.no_book l k fault w)) = absurd (fault.no_book b of_b)
-    audited run able (Found.found (AuditSeen.refuted of p c refuted w)) =
-        absurd (not_both program b p c (refuted_alike program book b (alike of) p c refuted) run)
+    audited run able (Found.found (AuditSeen.refuted of p c wrong w)) =
+        absurd (not_both program b p c (refuted_alike program book b (alike of) p c wrong) run)
     audited run able (Found.found (AuditSeen.audited of same well w)) = inl w
 
 pub audit_caused : (order : Order) (source sink : Sides) (book : BookValue) (answer : Status) (program : Program) (bytes : List ℕ) → order.job ≡ Audit

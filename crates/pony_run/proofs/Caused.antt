@@ -294,7 +294,7 @@ module _ (order : Order) (source sink : Sides) (book : BookValue) (answer : Stat
     end = λ input text program given has spells end. of_end order source sink book answer input given text has program spells end saw;
     runs = λ end. (at_end order source sink book answer end saw).0;
     audits = λ audits. at_audit order source sink book answer audits saw;
-    sound = λ end. (at_end order source sink book answer end saw).1;
+    sound = λ end. let well = at_end order source sink book answer end saw in (well.1, well.2);
     write_fault = λ e. of_write_fault order source sink book (as_seen status.WriteFault e);
   }
 

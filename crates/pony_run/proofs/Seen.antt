@@ -59,7 +59,7 @@ pub data Seen (order : Order) (source sink : Sides) (book : BookValue) (answer :
 -- an audit's answer is one of an audit
 pub of_audit : (program : Program) (bytes : List ℕ) (sink : Sides) (book : BookValue) (answer : Status) → AuditSeen program bytes sink book answer → IsOfAudit answer
 of_audit program bytes sink book answer (AuditSeen.no_book line kind fault e) = subst IsOfAudit (sym e) tt
-of_audit program bytes sink book answer (AuditSeen.refuted of place cause refuted e) = subst IsOfAudit (sym e) tt
+of_audit program bytes sink book answer (AuditSeen.refuted of place cause wrong e) = subst IsOfAudit (sym e) tt
 of_audit program bytes sink book answer (AuditSeen.audited of run well e) = subst IsOfAudit (sym e) tt
 
 -- the order of the words is this one
@@ -86,6 +86,7 @@ module _ (order : Order) (source sink : Sides) (book : BookValue) where
 
   see_audit : (o : Order) (program : Program) (bytes : List ℕ) (answer : Status) → BeginsAudit (Some order) source o program bytes → AuditSeen program bytes sink book answer
       → Seen order source sink book answer
+  unfolding has_audited
   see_audit o program bytes answer b seen = seen_of o answer b.words (Seen.audit b.audits program (has_audited o program bytes b) bytes b.behind seen)
 
   see_end : (o : Order) (program : Program) (answer : Status) (b : Begins (Some order) source o program) (run : EveryRun o program book) → IsEnd answer
@@ -94,6 +95,7 @@ module _ (order : Order) (source sink : Sides) (book : BookValue) where
       seen_of o answer b.words (Seen.ended program (has_program o program b) (record { runs = b.runs; run = run; is_end = is_end; ends = ends; well = well }))
 
   pub see : (answer : Status) → Answers (Some order) source sink book answer → Seen order source sink book answer
+  unfolding has_audited
   see answer (Answers.bad_words none unread refuses) = absurd (cc)
   see answer (Answers.read_fault o words takes reads fails refuses) = seen_of o answer words (Seen.failed takes fails refl)
   see answer (Answers.too_long o words input read is_long refuses) = seen_of o answer words (Seen.long input read is_long refl)
@@ -101,11 +103,11 @@ module _ (order : Order) (source sink : Sides) (book : BookValue) where
   see answer (Answers.bad_program o words input read text has program spells k b s r breaks refuses) =
       seen_of o answer words (Seen.broken input read text has program spells k b s r breaks refl)
   see answer (Answers.bad_book o program bytes begins line kind fault refuses) = see_audit o program bytes answer begins (AuditSeen.no_book line kind fault refl)
-  see answer (Answers.not_a_run o program bytes begins of place cause refuted line) = see_audit o program bytes answer begins (AuditSeen.refuted of place cause refuted refl)
-  see answer (Answers.audited o program bytes begins of text audited written) =
-      see_audit o program bytes answer begins (AuditSeen.audited of (audited.state, audited.run) written.well refl)
-  see answer (Answers.audit_cut o program bytes begins of text audited is_cut) =
-      seen_of o answer begins.words (Seen.audit_cut begins.audits program (has_audited o program bytes begins) bytes begins.behind of (audited.state, audited.run)
+  see answer (Answers.not_a_run o program bytes begins of place cause wrong line) = see_audit o program bytes answer begins (AuditSeen.refuted of place cause wrong refl)
+  see answer (Answers.audited o program bytes begins of text right written) =
+      see_audit o program bytes answer begins (AuditSeen.audited of (right.state, right.run) written.well refl)
+  see answer (Answers.audit_cut o program bytes begins of text right is_cut) =
+      seen_of o answer begins.words (Seen.audit_cut begins.audits program (has_audited o program bytes begins) bytes begins.behind of (right.state, right.run)
       is_cut.failed refl)
   see answer (Answers.quiet o program begins run text report written) = see_end o program answer begins run tt report.ends written.well
   see answer (Answers.budget o program begins run text report written) = see_end o program answer begins run tt report.ends written.well

@@ -34,7 +34,19 @@ fn write_audit<K: Sink>(alloc: Global, orca: &Orca<'_>, book: &Book, sink: &mut 
     }
 }
 
-/// Audits a book against a checked program, and writes the report, or why it is no run.
+/// Follows a book of a checked program, and writes the report, or why it is no run.
+fn follow<K: Sink>(alloc: Global, code: &Checked, book: &Book, sink: &mut K) -> Status
+    requires { length book.now.entries ≤ BOOK_LIMIT }
+    ensures { AuditAnswers code.now book.now (sides K.written K.faults sink.old sink.new) result }
+{
+    match audit(alloc, code, book) {
+        Ok(Verdict::Run { state }) => write_audit(alloc, &state, book, sink),
+        Ok(Verdict::Not { place, cause }) => tell(alloc, Status::NotARun { place, cause }, sink),
+        Err(NoMemory) => Status::NoMemory,
+    }
+}
+
+/// Audits a book against a checked program, and writes what it proves to be.
 pub(crate) fn audit_book<K: Sink>(
     alloc: Global,
     code: &Checked,
@@ -46,12 +58,6 @@ pub(crate) fn audit_book<K: Sink>(
     ensures answers { AuditAnswers code.now book (sides K.written K.faults sink.old sink.new)
         result.status }
 {
-    let status = match audit(alloc, code, &book) {
-        Ok(Verdict::Run { state }) => write_audit(alloc, &state, &book, sink),
-        Ok(Verdict::Not { place, cause }) => {
-            tell(alloc, Status::NotARun { place, cause }, sink)
-        }
-        Err(NoMemory) => Status::NoMemory,
-    };
+    let status = follow(alloc, code, &book, sink);
     Outcome { status, book }
 }

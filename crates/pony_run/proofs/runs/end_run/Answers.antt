@@ -8,17 +8,23 @@ pub returns-in_default : goal.returns-in_default
 returns-in_default g c =
     let least = c.requires.range.weight.0 in
     let done = c.finish-end.ensures in
-    let program = c.args.orca.state.program in
+    let program = c.args.code.now in
     let on = goes_on_under_way c.args.order.now program c.args.orca c.finish-end.new.orca c.args.book c.finish-end.new.book
     c.requires.run done.run done.program done.options done.book done.within done.home done.on in
     RunAnswers.starved (run_under_way c.args.order.now program c.finish-end.new.orca c.finish-end.new.book (omega arith) on).0 (nothing_written _ _)
+
+pub write_report-status-requires-clause-run : goal.write_report-status-requires-clause-run
+write_report-status-requires-clause-run g c =
+    let done = c.finish-end.ensures in
+    goes_on_under_way c.args.order.now c.args.code.now c.args.orca c.finish-end.new.orca c.args.book c.finish-end.new.book
+    c.requires.run done.run done.program done.options done.book done.within done.home done.on
 
 pub returns : goal.returns
 returns g c =
     let least = c.requires.range.weight.0 in
     let done = c.finish-end.ensures in
     let order = c.args.order.now in
-    let program = c.args.orca.state.program in
+    let program = c.args.code.now in
     let book = c.finish-end.new.book in
     let state = c.finish-end.new.orca.state in
     let on = goes_on_under_way order program c.args.orca c.finish-end.new.orca c.args.book book
