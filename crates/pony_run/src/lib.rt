@@ -5,6 +5,7 @@ mod beginning;
 mod call;
 mod reporting;
 mod runs;
+mod working;
 
 pub use call::{run_single, run_words};
 pub use report_text::Status;

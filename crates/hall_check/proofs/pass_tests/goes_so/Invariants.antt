@@ -1,4 +1,4 @@
-use Rattle.machine_check.proofs.pass_tests.goes_so.Given as goal
+use Rattle.hall_check.proofs.pass_tests.goes_so.Given as goal
 
 -- the hall is of this run
 abbrev pub ghosts-go_so : goal.ghosts-go_so
