@@ -114,7 +114,7 @@ fn by_moves<'a, R: AllocGlobal + Threads + Wait + Sync>(
 }
 
 // Sixteen workers who are told no wrong names.
-const RIGHT: &[Wrong] = &[&[], &[], &[], &[], &[], &[], &[], &[], &[], &[], &[], &[], &[], &[], &[], &[]];
+const RIGHT: [Wrong; 16] = [&[]; 16];
 
 /// Whether several runs of a program by so many workers have books that both machines follow.
 fn agree<R: AllocGlobal + Threads + Wait + Sync>(
@@ -143,10 +143,7 @@ fn books_of_seats_are_runs(rt: HostRuntime) -> Result<(), Fail> {
 }
 
 /// Takes a run to its end by one worker: how it ends, how many actors were made, and what is left.
-fn left(
-    alloc: Global,
-    parts: (Orca<'_>, Book),
-) -> Result<(End, u64, Vec<Thing>), Fail>
+fn left(alloc: Global, parts: (Orca<'_>, Book)) -> Result<(End, u64, Vec<Thing>), Fail>
     requires run { IsRunOf parts.0 parts.1.entries }
     requires home { NoneIsAway parts.0 }
     requires within { length parts.1.entries ≤ BUDGET }

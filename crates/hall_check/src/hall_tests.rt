@@ -3,10 +3,10 @@
 ghost use Rattle.orca_names.specs.declared.limits.TheConstants.{BOOK_LIMIT};
 ghost use Rattle.std.specs.Prelude.{◌≤◌};
 
+use crate::asking::Want::{At, Busy, Gone, Grants, NotReady, Tells, Unknown};
 use crate::asking::{
     Answer, BY_EVENTS, Call, GO, HEAR, ONE_ENTRY, TAKE, TWO_PASSES, Want, answer_of, entry, event,
 };
-use crate::asking::Want::{At, Busy, Gone, Grants, NotReady, Tells, Unknown};
 use crate::programs::{SEVEN, TWO_PRINT, checked};
 use behaviour_check::Checked;
 use book_hall::{Hall, Proposal};

@@ -5,7 +5,9 @@ ghost use Rattle.std.specs.Prelude.{◌≡◌, ◌≤◌, MatchOption};
 ghost use Rattle.seat_hall.specs.Boards.{out_of};
 ghost use Rattle.seat_hall.specs.Passes.{MayCommit};
 
-use crate::asking::{Answer, BY_EVENTS, Call, Keeper, ONE_ENTRY, TAKE, TWO_PASSES, Want, answers, entry};
+use crate::asking::{
+    Answer, BY_EVENTS, Call, Keeper, ONE_ENTRY, TAKE, TWO_PASSES, Want, answers, entry,
+};
 use crate::programs::{SEVEN, TWO_PRINT, checked};
 use behaviour_check::Checked;
 use event_rule::Event;
@@ -136,8 +138,14 @@ const CLAIMED: &[(Call, Want)] = &[(Call::Claim(0, 1), Want::Grants(TAKE, 1))];
 fn seats_answer_as_the_hall_says(rt: HostRuntime) -> Result<(), Fail> {
     assert_eq!(rt; ends(&rt, SEVEN, 1, ONE_ENTRY, &[])?, End::Whole(1, 0));
     assert_eq!(rt; ends(&rt, SEVEN, 20, BY_EVENTS, &[])?, End::Whole(10, 1));
-    assert_eq!(rt; ends(&rt, TWO_PRINT, 100, TWO_PASSES, &[])?, End::Whole(4, 0));
-    assert_eq!(rt; ends(&rt, TWO_PRINT, 100, TWO_PASSES, CLAIMED)?, End::Lent(0, 1));
+    assert_eq!(rt;
+        ends(&rt, TWO_PRINT, 100, TWO_PASSES, &[])?,
+        End::Whole(4, 0)
+    );
+    assert_eq!(rt;
+        ends(&rt, TWO_PRINT, 100, TWO_PASSES, CLAIMED)?,
+        End::Lent(0, 1)
+    );
     Ok(())
 }
 

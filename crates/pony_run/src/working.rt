@@ -56,11 +56,7 @@ fn take_in<'a>(first: &mut SeatPass<'_, 'a>, passes: Vec<SeatPass<'_, 'a>>)
 }
 
 /// The run before its first event.
-fn begin<'a>(
-    alloc: Global,
-    order: &Order,
-    code: &'a Checked,
-) -> Result<(Orca<'a>, Book), NoMemory>
+fn begin<'a>(alloc: Global, order: &Order, code: &'a Checked) -> Result<(Orca<'a>, Book), NoMemory>
     requires range { IsInRange order.now }
     ensures run { IfOk result (λ parts. IsRunOf parts.0 parts.1.entries) }
     ensures home { IfOk result (λ parts. NoneIsAway parts.0) }

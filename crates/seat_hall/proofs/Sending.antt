@@ -1,0 +1,18 @@
+-- A hall whose cells move out, and a pass to it, can go to another thread.
+use denote.Param.Send.{IsSend, enum_send, plain_send, recorded_send, sendable, shr_send, struct_send, view_send}
+use Rattle.std.proofs.Crossing.{Vec-send, crosses}
+use Rattle.atomic_table.proofs.shared.Seat.TheSendSync.Send.{send as seat_send}
+use Rattle.atomic_table.proofs.shared.Shared.TheSendSync.Sync.{sync as shared_sync}
+use Rattle.book_hall.proofs.Sending.{book_send, both, checked_sync, orca_send}
+use Rattle.seat_hall.specs.contracts.board.SeatPass as SeatPass
+use Rattle.seat_hall.specs.contracts.hall.Hall as Hall
+use Rattle.seat_hall.specs.contracts.item.Item as Item
+
+item_send : IsSend Item.the_row
+item_send = search (sendable, crosses) depth 100 fits 100000
+
+hall_send : (l : _) → IsSend (Hall.the_row l)
+hall_send l = search (view_send, recorded_send, struct_send, shr_send, plain_send, enum_send, Vec-send, both, tt, orca_send, checked_sync, book_send, item_send) depth 100 fits 100000
+
+pub pass_send : (h l : _) → IsSend (SeatPass.the_row h l)
+pass_send h l = search (sendable, crosses, hall_send, seat_send, shared_sync) depth 100 fits 100000
