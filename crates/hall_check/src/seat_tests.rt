@@ -1,9 +1,9 @@
 // Two passes of the hall whose cells move out, on one thread.
 
 ghost use Rattle.orca_names.specs.declared.limits.TheConstants.{BOOK_LIMIT};
-ghost use Rattle.std.specs.Prelude.{◌≡◌, ◌≤◌, MatchOption};
+ghost use Rattle.std.specs.Prelude.{◌≡◌, ◌≤◌};
 ghost use Rattle.seat_hall.specs.Boards.{out_of};
-ghost use Rattle.seat_hall.specs.Passes.{MayCommit};
+ghost use Rattle.hall_check.specs.Keeping.{KeepsClaim, keeps_claim_prop};
 
 use crate::asking::{
     Answer, BY_EVENTS, Call, Keeper, ONE_ENTRY, TAKE, TWO_PASSES, Want, answers, entry,
@@ -23,8 +23,7 @@ use work_board::Board;
 struct Seated<'h, 'a> {
     pass: SeatPass<'h, 'a>,
     kept: Option<SeatTask<'a>>,
-    ghost own: { MatchOption kept (out_of pass ≡ 0)
-        (λ task. (out_of pass ≡ 1) × MayCommit pass.number pass.token task) },
+    ghost own: { KeepsClaim pass kept } by { Prim.hlevel keeps_claim_prop },
 }
 
 impl<'h, 'a> Seated<'h, 'a> {

@@ -14,7 +14,6 @@ use orca_names::{NoMemory, Trace};
 use outside_world::Gate;
 use run_book::Book;
 use seat_hall::{Closing, SeatHall, SeatPass};
-use std::alloc::Global;
 use std::sync::Wait;
 use std::thread::Threads;
 use steal_pool::work;
@@ -55,22 +54,6 @@ fn take_in<'a>(first: &mut SeatPass<'_, 'a>, passes: Vec<SeatPass<'_, 'a>>)
     }
 }
 
-/// The run before its first event.
-fn begin<'a>(alloc: Global, order: &Order, code: &'a Checked) -> Result<(Orca<'a>, Book), NoMemory>
-    requires range { IsInRange order.now }
-    ensures run { IfOk result (λ parts. IsRunOf parts.0 parts.1.entries) }
-    ensures home { IfOk result (λ parts. NoneIsAway parts.0) }
-    ensures program { IfOk result (λ parts. parts.0.state.program ≡ code.now) }
-    ensures options { IfOk result
-        (λ parts. parts.0.state.options ≡ record { weight = order.now.weight; trace = Deep }) }
-    ensures weight { IfOk result (λ parts. parts.1.weight ≡ order.now.weight) }
-    ensures trace { IfOk result (λ parts. parts.1.trace ≡ Deep) }
-    ensures within { IfOk result (λ parts. length parts.1.entries ≤ order.now.budget) }
-{
-    let orca = Orca::start(alloc, code, order.weight, Trace::Deep)?;
-    Ok((orca, Book::new(alloc, order.weight, Trace::Deep)))
-}
-
 /// What the workers make of a program: the machine, and the book that led to it. Each worker has a pass
 /// of its own; the first pass waits for them and ends the hall.
 pub(crate) fn run_in<'a, R: AllocGlobal + Threads + Wait + Sync, G: Gate + Sync>(
@@ -99,6 +82,9 @@ pub(crate) fn run_in<'a, R: AllocGlobal + Threads + Wait + Sync, G: Gate + Sync>
     match hall.close(seat) {
         Closing::Whole(orca, book) => Ok((orca, book)),
         // A call that never returned has the hall, or a cell of it: the run begins anew.
-        Closing::Turning { .. } | Closing::Lent { .. } => begin(alloc, order, code),
+        Closing::Turning { .. } | Closing::Lent { .. } => {
+            let orca = Orca::start(alloc, code, order.weight, Trace::Deep)?;
+            Ok((orca, Book::new(alloc, order.weight, Trace::Deep)))
+        }
     }
 }

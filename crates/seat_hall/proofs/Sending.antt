@@ -1,8 +1,8 @@
 -- A hall whose cells move out, and a pass to it, can go to another thread.
 use denote.Param.Send.{IsSend, enum_send, plain_send, recorded_send, sendable, shr_send, struct_send, view_send}
 use Rattle.std.proofs.Crossing.{Vec-send, crosses}
-use Rattle.atomic_table.proofs.shared.Seat.TheSendSync.Send.{send as seat_send}
-use Rattle.atomic_table.proofs.shared.Shared.TheSendSync.Sync.{sync as shared_sync}
+use Rattle.atomic_table.proofs.shared.Seat.TheSendSync.{the_send as seat_send}
+use Rattle.turn_log.proofs.table.TurnLog.TheSendSync.{the_sync as log_sync}
 use Rattle.book_hall.proofs.Sending.{book_send, both, checked_sync, orca_send}
 use Rattle.seat_hall.specs.contracts.board.SeatPass as SeatPass
 use Rattle.seat_hall.specs.contracts.hall.Hall as Hall
@@ -15,4 +15,4 @@ hall_send : (l : _) → IsSend (Hall.the_row l)
 hall_send l = search (view_send, recorded_send, struct_send, shr_send, plain_send, enum_send, Vec-send, both, tt, orca_send, checked_sync, book_send, item_send) depth 100 fits 100000
 
 pub pass_send : (h l : _) → IsSend (SeatPass.the_row h l)
-pass_send h l = search (sendable, crosses, hall_send, seat_send, shared_sync) depth 100 fits 100000
+pass_send h l = search (sendable, crosses, hall_send, log_sync, seat_send) depth 100 fits 100000
