@@ -39,7 +39,7 @@ slot_send = search (sendable, crosses, place_send, mail_send) depth 100 fits 100
 table_send : IsSend ActorTable.the_row
 table_send = search (sendable, crosses, slot_send) depth 100 fits 100000
 
-both : {A B : Type 0} → A → B → A × B
+pub both : {A B : Type 0} → A → B → A × B
 both a b = (a, b)
 
 note_send : IsSend Note.the_row
@@ -72,16 +72,16 @@ kind_sync = search (sendable, crosses, behaviour_sync) depth 100 fits 100000
 program_sync : IsSync (Program.the_field).row
 program_sync = struct_sync (shape Program.the_type) (search (sendable, crosses, kind_sync) depth 100 fits 100000, (search (sendable, crosses) depth 100 fits 100000, tt))
 
-checked_sync : IsSync Checked.the_row
+pub checked_sync : IsSync Checked.the_row
 checked_sync = search (view_sync, recorded_sync, struct_sync, both, tt, program_sync) depth 100 fits 100000
 
 parts_send : IsSend (Parts.the_field).row
 parts_send = struct_send (shape Parts.the_type) (table_send, (detector_send, (search (note_send, Deque-send), (search (sendable, crosses) depth 20, (search sendable, (turn_send, (turned_send, (sweep_send, (search (sendable, crosses, letter_send) depth 40, (search (sendable, note_send) depth 20, (search (sendable, token_send) depth 20, (search (sendable, crosses) depth 20, tt))))))))))))
 
-orca_send : (l : _) → IsSend (Orca.the_row l)
+pub orca_send : (l : _) → IsSend (Orca.the_row l)
 orca_send l = search (view_send, recorded_send, struct_send, shr_send, plain_send, enum_send, sendable, both, tt, parts_send, checked_sync) depth 100 fits 100000
 
-book_send : IsSend Book.the_row
+pub book_send : IsSend Book.the_row
 book_send = search (sendable, crosses) depth 100 fits 100000
 
 claims_send : IsSend Claims.the_row

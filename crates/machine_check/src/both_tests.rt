@@ -40,7 +40,7 @@ fn place_of(orca: &Orca<'_>, a: ActorName) -> Option<u32> {
 
 /// Does an event, and answers whether it is a choice, which the machine that frees nothing makes too:
 /// the take of a letter that a program sent, or a go after which the frame is another.
-pub(crate) fn does(alloc: Global, orca: &mut Orca<'_>, event: &Event) -> Result<bool, Fail>
+fn does(alloc: Global, orca: &mut Orca<'_>, event: &Event) -> Result<bool, Fail>
     requires { NoneIsAway orca.old }
     ensures { NoneIsAway orca.new }
 {
@@ -66,7 +66,7 @@ pub(crate) fn does(alloc: Global, orca: &mut Orca<'_>, event: &Event) -> Result<
 }
 
 /// Does a choice in the machine that frees nothing.
-pub(crate) fn follows(alloc: Global, plain: &mut Plain<'_>, event: &Event) -> Result<(), Fail> {
+fn follows(alloc: Global, plain: &mut Plain<'_>, event: &Event) -> Result<(), Fail> {
     if plain.steps() >= MOST {
         return Err(Fail::from("a long run"));
     }

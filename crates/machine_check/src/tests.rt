@@ -10,21 +10,21 @@ use orca_names::{ActorName, Trace, Value};
 use std::alloc::Global;
 use std::test::Fail;
 
-pub(crate) const TAKE: u8 = 0;
+const TAKE: u8 = 0;
 
-pub(crate) const GO: u8 = 1;
+const GO: u8 = 1;
 
-pub(crate) const COLLECT: u8 = 2;
+const COLLECT: u8 = 2;
 
 const LEAVE: u8 = 3;
 
-pub(crate) const BLOCK: u8 = 4;
+const BLOCK: u8 = 4;
 
-pub(crate) const HEAR: u8 = 5;
+const HEAR: u8 = 5;
 
-pub(crate) const SCAN: u8 = 6;
+const SCAN: u8 = 6;
 
-pub(crate) const REAP: u8 = 7;
+const REAP: u8 = 7;
 
 /// What is expected of an event.
 #[derive(Clone, Copy)]
@@ -134,7 +134,7 @@ const MINTED: &[(u8, u32, Want)] = &[
     (GO, 1, Done),
 ];
 
-pub(crate) fn event(kind: u8, number: u32) -> Event {
+fn event(kind: u8, number: u32) -> Event {
     let actor = ActorName(number);
     match kind {
         TAKE => Event::Take(actor),

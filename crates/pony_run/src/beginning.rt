@@ -115,7 +115,7 @@ fn book_in(alloc: Global, bytes: &[u8]) -> Result<Book, Status>
 ///
 /// # Errors
 /// `BadText`, `BadProgram` and `BadBook`, in this order; `NoMemory` where memory was refused.
-fn audit_in(alloc: Global, input: &[u8]) -> Result<Begun, Status>
+fn audit_of(alloc: Global, input: &[u8]) -> Result<Begun, Status>
     requires { length input.now < most_bytes }
     ensures ok { IfOk result (IsBegun audit_job input.now) }
     ensures stop { IfErr result (InputStops audit_job input.now) }
@@ -130,7 +130,7 @@ fn audit_in(alloc: Global, input: &[u8]) -> Result<Begun, Status>
 ///
 /// # Errors
 /// `BadText` and `BadProgram`; `NoMemory` where memory was refused.
-fn run_in(alloc: Global, job: Job, input: &[u8]) -> Result<Begun, Status>
+fn run_of(alloc: Global, job: Job, input: &[u8]) -> Result<Begun, Status>
     requires runs { RunsProgram job }
     requires short { length input.now < most_bytes }
     ensures ok { IfOk result (IsBegun job input.now) }
@@ -153,8 +153,8 @@ fn begin_with(alloc: Global, job: Job, input: &[u8]) -> Result<Begun, Status>
         return Err(Status::TooLong);
     }
     match job {
-        Job::Audit => audit_in(alloc, input),
-        Job::Run | Job::Load { .. } | Job::Why => run_in(alloc, job, input),
+        Job::Audit => audit_of(alloc, input),
+        Job::Run | Job::Load { .. } | Job::Why => run_of(alloc, job, input),
     }
 }
 

@@ -7,6 +7,7 @@ mod beginning;
 mod call;
 mod reporting;
 mod runs;
+mod working;
 mod writing;
 
 pub use call::{run_single, run_words};

@@ -1,18 +1,17 @@
 // A checked program is run, by one worker or by several, and its report is written.
 
-ghost use Rattle.std.specs.Prelude.{◌≡◌, ◌≢◌, ◌≤◌, [], IfOk, length};
+ghost use Rattle.std.specs.Prelude.{◌≡◌, ◌≢◌, []};
 ghost use Rattle.orca_names.specs.declared.trace.Trace.TheVariants.{Deep};
 ghost use Rattle.report_text.specs.Ends.{IsEnd};
 ghost use Rattle.word_line.specs.Orders.{IsInRange};
-ghost use Rattle.orca_core.specs.Laws.{IsRunOf};
 ghost use Rattle.orca_core.specs.Machine.{NoneIsAway};
 ghost use Rattle.pony_run.specs.Inner.{IsAnswerOf, IsUnderWay, RunAnswers, WritesReport};
 ghost use Rattle.pony_run.specs.Streams.{sides};
 
 use crate::reporting::report_of_run;
+use crate::working::run_in;
 use crate::writing::write_text;
 use behaviour_check::Checked;
-use book_hall::{Hall, HallPass, Naming, SharedHall};
 use orca_core::Orca;
 use orca_names::{NoMemory, Trace};
 use outside_world::{Gate, Sink};
@@ -20,10 +19,8 @@ use quiet_pass::{End, finish};
 use report_text::Status;
 use run_book::Book;
 use std::alloc::Global;
-use std::marker::Brand;
 use std::sync::Wait;
 use std::thread::Threads;
-use steal_pool::work;
 use word_line::Order;
 
 /// What a call answers: its status, and the book of the run, which is empty where no run began.
@@ -132,49 +129,6 @@ pub(crate) fn run_by_one<K: Sink>(
     }
 }
 
-/// The passes of so many workers, or of as many as there is memory for.
-fn passes<'h, 'a, J: Naming>(
-    alloc: Global,
-    hall: &'h SharedHall<'a, J>,
-    workers: u32,
-) -> Vec<HallPass<'h, 'a, J>> {
-    let mut passes = Vec::new(alloc);
-    for number in 0..workers {
-        if passes.push(hall.pass(number)).is_err() {
-            break;
-        }
-    }
-    passes
-}
-
-/// What the workers make of a program: the machine, and the book that led to it.
-fn run_in<'a, J: Naming + Send + Sync, R: AllocGlobal + Threads + Wait + Sync, G: Gate + Sync>(
-    rt: &R,
-    order: &Order,
-    code: &'a Checked,
-    gate: &G,
-) -> Result<(Orca<'a>, Book), NoMemory>
-    requires range { IsInRange order.now }
-    requires program { code.now ≡ J.program }
-    requires weight { order.now.weight ≡ J.weight }
-    requires budget { order.now.budget ≡ J.budget }
-    ensures run { IfOk result (λ parts. IsRunOf parts.0 parts.1.entries) }
-    ensures home { IfOk result (λ parts. NoneIsAway parts.0) }
-    ensures program { IfOk result (λ parts. parts.0.state.program ≡ code.now) }
-    ensures options { IfOk result
-        (λ parts. parts.0.state.options ≡ record { weight = order.now.weight; trace = Deep }) }
-    ensures weight { IfOk result (λ parts. parts.1.weight ≡ order.now.weight) }
-    ensures trace { IfOk result (λ parts. parts.1.trace ≡ Deep) }
-    ensures within { IfOk result (λ parts. length parts.1.entries ≤ order.now.budget) }
-{
-    let alloc = rt.alloc();
-    let hall = SharedHall::<J>::new(Hall::start(alloc, code, order.budget, order.weight)?);
-    let mut passes = passes(alloc, &hall, order.workers);
-    work(rt, alloc, passes.as_mut_slice(), gate);
-    drop(passes);
-    Ok(hall.into_hall().into_parts())
-}
-
 /// Runs a checked program by several workers, one of whom ends the run, and writes its report.
 fn run_by_several<R: AllocGlobal + Threads + Wait + Sync, K: Sink, G: Gate + Sync>(
     rt: &R,
@@ -189,7 +143,7 @@ fn run_by_several<R: AllocGlobal + Threads + Wait + Sync, K: Sink, G: Gate + Syn
     ensures { RunAnswers order.now code.now (sides K.written K.faults sink.old sink.new)
         result.book result.status }
 {
-    match run_in::<Brand, R, G>(rt, order, code, gate) {
+    match run_in(rt, order, code, gate) {
         Ok((orca, book)) => end_run(rt.alloc(), order, code, orca, book, sink),
         Err(NoMemory) => starve(rt.alloc(), order),
     }

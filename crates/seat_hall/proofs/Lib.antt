@@ -19,3 +19,4 @@ pub mod Unmade
 pub mod Commits
 pub mod Splits
 pub mod Ends
+pub mod Sending

@@ -1,0 +1,181 @@
+// Two passes of the hall whose cells move out, on one thread.
+
+ghost use Rattle.orca_names.specs.declared.limits.TheConstants.{BOOK_LIMIT};
+ghost use Rattle.std.specs.Prelude.{◌≡◌, ◌≤◌};
+ghost use Rattle.seat_hall.specs.Boards.{out_of};
+ghost use Rattle.hall_check.specs.Keeping.{KeepsClaim, keeps_claim_prop};
+
+use crate::asking::{
+    Answer, BY_EVENTS, Call, Keeper, ONE_ENTRY, TAKE, TWO_PASSES, Want, answers, entry,
+};
+use crate::programs::{SEVEN, TWO_PRINT, checked};
+use behaviour_check::Checked;
+use event_rule::Event;
+use orca_names::ActorName;
+use seat_hall::{Closing, HallSeat, Passes, SeatHall, SeatPass, SeatTask};
+use std::process::Abort;
+use std::sync::Wait;
+use std::test::Fail;
+use work_board::Board;
+
+/// A pass, with the one claim of it that is out.
+#[derive(Drop)]
+struct Seated<'h, 'a> {
+    pass: SeatPass<'h, 'a>,
+    kept: Option<SeatTask<'a>>,
+    ghost own: { KeepsClaim pass kept } by { Prim.hlevel keeps_claim_prop },
+}
+
+impl<'h, 'a> Seated<'h, 'a> {
+    fn of(pass: SeatPass<'h, 'a>) -> Seated<'h, 'a>
+        requires { out_of pass ≡ 0 }
+        ensures { result.pass ≡ pass.entry }
+    {
+        Seated { pass, kept: None }
+    }
+}
+
+impl<'h, 'a> Keeper for Seated<'h, 'a> {
+    ghost use Rattle.atomic_table.specs.Seated.{TableId};
+
+    ghost Hall = { TableId };
+
+    ghost hall = { λ s. s.pass.token.table_id };
+
+    fn look<R: Wait>(&mut self, rt: &R) -> Answer {
+        Answer::Told(self.pass.look(rt))
+    }
+
+    // It tells the claim's event.
+    fn claim<R: Abort + AllocGlobal + Wait>(&mut self, rt: &R, actor: u32) -> Answer {
+        match self.pass.claim(rt, rt.alloc(), ActorName(actor)) {
+            Ok(task) => {
+                if self.kept.is_some() {
+                    panic!(rt; "a pass keeps one claim")
+                }
+                let granted = Answer::Granted(task.taken.event);
+                self.kept = Some(task);
+                granted
+            }
+            Err(refuse) => Answer::Refused(refuse),
+        }
+    }
+
+    fn commit<R: AllocGlobal + Wait>(&mut self, rt: &R) -> Answer {
+        let Some(mut task) = self.kept.take() else {
+            return Answer::Nothing;
+        };
+        let _ = self.pass.propose(rt.alloc(), &mut task);
+        entry(self.pass.commit(rt, rt.alloc(), task))
+    }
+
+    fn direct<R: AllocGlobal + Wait>(&mut self, rt: &R, e: Event) -> Answer {
+        entry(self.pass.direct(rt, rt.alloc(), e))
+    }
+}
+
+/// How a hall ended.
+#[derive(Clone, Copy, Debug, PartialEq, Eq)]
+enum End {
+    /// Whole, with so many entries and prints.
+    Whole(u64, usize),
+    Turning,
+    /// This pass has the cell of this actor.
+    Lent(u32, u32),
+}
+
+fn end_of(closing: Closing<'_>) -> End {
+    match closing {
+        Closing::Whole(orca, book) => End::Whole(book.len(), orca.prints().len()),
+        Closing::Turning { .. } => End::Turning,
+        Closing::Lent { holder, actor } => End::Lent(holder, actor.0),
+    }
+}
+
+/// The first pass takes in the second, which keeps no claim.
+fn joined<'a, R: Abort>(rt: &R, first: Seated<'_, 'a>, second: Seated<'_, 'a>) -> HallSeat<'a>
+    requires { second.pass.token.table_id ≡ first.pass.token.table_id }
+    ensures { result.token.table_id ≡ first.entry.pass.token.table_id }
+{
+    if second.kept.is_some() {
+        panic!(rt; "the second pass keeps a claim")
+    }
+    let mut pass = first.pass;
+    pass.join(second.pass);
+    pass.into_seat()
+}
+
+/// How the hall of a program ends after these calls of two passes, and then those, each of which is to
+/// answer as it is wanted.
+fn ends<R: Abort + AllocGlobal + Wait>(
+    rt: &R,
+    text: &str,
+    budget: u64,
+    rows: &[(Call, Want)],
+    further: &[(Call, Want)],
+) -> Result<End, Fail>
+    requires { budget ≤ BOOK_LIMIT }
+{
+    let code = checked(rt.alloc(), text)?;
+    let (hall, seat) = SeatHall::start(rt.alloc(), &code, budget, 256)?;
+    let mut pass = hall.first_pass(seat);
+    let mut second = Seated::of(pass.split(rt)?);
+    let mut first = Seated::of(pass);
+    let well = answers(rt, &mut first, &mut second, rows)
+        && answers(rt, &mut first, &mut second, further);
+    if !well {
+        return Err(Fail::from("another answer"));
+    }
+    let seat = joined(rt, first, second);
+    Ok(end_of(hall.close(seat)))
+}
+
+// The first pass claims an actor for a letter.
+const CLAIMED: &[(Call, Want)] = &[(Call::Claim(0, 1), Want::Grants(TAKE, 1))];
+
+#[test]
+fn seats_answer_as_the_hall_says(rt: HostRuntime) -> Result<(), Fail> {
+    assert_eq!(rt; ends(&rt, SEVEN, 1, ONE_ENTRY, &[])?, End::Whole(1, 0));
+    assert_eq!(rt; ends(&rt, SEVEN, 20, BY_EVENTS, &[])?, End::Whole(10, 1));
+    assert_eq!(rt;
+        ends(&rt, TWO_PRINT, 100, TWO_PASSES, &[])?,
+        End::Whole(4, 0)
+    );
+    assert_eq!(rt;
+        ends(&rt, TWO_PRINT, 100, TWO_PASSES, CLAIMED)?,
+        End::Lent(0, 1)
+    );
+    Ok(())
+}
+
+/// Splits a pass off and takes it in.
+fn split_and_join<R: Wait>(rt: &R, pass: &mut SeatPass<'_, '_>) -> Result<(), Passes>
+    ensures { pass.new.token.table_id ≡ pass.old.token.table_id }
+{
+    let other = pass.split(rt)?;
+    pass.join(other);
+    Ok(())
+}
+
+/// How many times a pass splits another off and takes it in, of so many, before it can't.
+fn splits<R: Wait>(rt: &R, pass: &mut SeatPass<'_, '_>, most: u32) -> u32
+    ensures { pass.new.token.table_id ≡ pass.old.token.table_id }
+{
+    for done in 0..most {
+        if split_and_join(rt, pass).is_err() {
+            return done;
+        }
+    }
+    most
+}
+
+#[test]
+fn so_many_passes_are_split_off(rt: HostRuntime) -> Result<(), Fail> {
+    let code = checked(rt.alloc(), SEVEN)?;
+    let (hall, seat) = SeatHall::start(rt.alloc(), &code, 20, 256)?;
+    let mut pass = hall.first_pass(seat);
+    assert_eq!(rt; splits(&rt, &mut pass, 70_000), 65_535);
+    let seat = pass.into_seat();
+    assert_eq!(rt; end_of(hall.close(seat)), End::Whole(0, 0));
+    Ok(())
+}

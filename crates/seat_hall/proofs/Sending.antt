@@ -1,0 +1,23 @@
+-- A hall whose cells move out, and a pass to it, can go to another thread.
+use denote.Param.Send.{IsSend, recorded_send, sendable, shr_send, struct_send, view_send}
+use denote.Struct.Declared.{shape}
+use Rattle.std.proofs.Crossing.{crosses}
+use Rattle.atomic_table.proofs.shared.Seat.TheSendSync.{the_send as seat_send}
+use Rattle.turn_log.proofs.table.TurnLog.TheSendSync.{the_sync as log_sync}
+use Rattle.book_hall.proofs.Sending.{book_send, checked_sync, orca_send}
+use Rattle.seat_hall.specs.contracts.board.SeatPass as SeatPass
+use Rattle.seat_hall.specs.contracts.hall.Hall as Hall
+use Rattle.seat_hall.specs.contracts.hall.Hall.TheInside as inside
+use Rattle.seat_hall.specs.contracts.item.Item as Item
+
+item_send : IsSend (Item.the_field).row
+item_send = search (sendable, crosses) depth 100 fits 100000
+
+fields_send : (l : _) → IsSend (inside.the_field l).row
+fields_send l = struct_send (shape (inside.the_type l)) (search (shr_send, checked_sync) depth 20, (search sendable, (orca_send l, (book_send, (search (sendable, crosses) depth 40, (search sendable, (search sendable, (search sendable, (item_send, tt)))))))))
+
+hall_send : (l : _) → IsSend (Hall.the_row l)
+hall_send l = search (view_send, recorded_send, fields_send) depth 20
+
+pub pass_send : (h l : _) → IsSend (SeatPass.the_row h l)
+pass_send h l = search (sendable, crosses, hall_send, log_sync, seat_send) depth 100 fits 100000
