@@ -1,5 +1,5 @@
 -- An edge of a thing's list is one that leads somewhere.
-use Rattle.std.proofs.Common.{◌≡◌, ◌≢◌, ◌⊎◌, ◌↔◌, inl, inr, ℕ, zero, suc, ◌+◌, ◌<◌, ◌≤◌, List, [], ◌∷◌, ◌++◌, map, Option, Some, None, Contains, refl, sym, ap, subst, ◌∙◌, arith}
+use Rattle.std.proofs.Common.{◌≡◌, inl, inr, ℕ, zero, suc, ◌+◌, List, [], ◌∷◌, ◌++◌, Option, Some, None, Contains, refl, sym, ap, subst, ◌∙◌, arith}
 use Rattle.std.specs.Prelude.{option_map, option_and_then, slice_get}
 use Rattle.std.specs.Option.{option_map_or, option_to_list}
 use Rattle.std.proofs.lemmas.List.Elements.{Contains-append_cases, Contains-append_left, Contains-append_right}
@@ -12,7 +12,7 @@ use Rattle.orca_names.specs.declared.reason.Edge.{Edge}
 use Rattle.orca_names.specs.declared.reason.Edge.TheVariants.{Field, Register, Letter, Place, Owner}
 use Rattle.letter_kinds.specs.declared.letter.Letter as letters
 use Rattle.machine_rules.specs.Actors.{Actors, Seat, seat_at}
-use Rattle.reach_walk.proofs.Elements.{Contains-head, Contains-later, Contains-cons_cases, none_in_nil}
+use Rattle.reach_walk.proofs.Elements.{Contains-head, Contains-cons_cases, none_in_nil}
 use Rattle.why_path.specs.Edges.{Lead, LeadsBy, args_of, lead_of, leads_from, leads_of, leads_of_letters, leads_of_seat, registers_of, row_left}
 use Rattle.why_path.specs.Ends.{end_at_row, end_at_seat, end_of, named_at}
 

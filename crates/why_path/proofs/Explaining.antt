@@ -1,5 +1,5 @@
 -- A walk, level by level, to its end.
-use Rattle.std.proofs.Common.{◌≡◌, ◌≢◌, ◌↔◌, inl, inr, ℕ, zero, suc, ◌+◌, ◌<◌, ◌≤◌, ◌⊎◌, Bool, true, false, cond, eq-eqb, List, [], ◌∷◌, ◌++◌, length, map, take, get_or, append-nil, Option, Some, None, Contains, Ordering, refl, sym, ap, subst, ◌∙◌, arith}
+use Rattle.std.proofs.Common.{◌≡◌, ◌≢◌, ◌↔◌, inl, inr, ℕ, suc, ◌+◌, ◌<◌, ◌≤◌, ◌⊎◌, Bool, true, false, cond, eq-eqb, List, [], ◌∷◌, ◌++◌, length, map, take, get_or, append-nil, Contains, Ordering, refl, sym, ap, subst, ◌∙◌, arith}
 use Rattle.std.specs.Prelude.{◌==◌, All, count_by, not}
 use Rattle.std.specs.List.{filter}
 use Rattle.std.proofs.lemmas.Bool.{eqb-true}
@@ -21,13 +21,13 @@ use Rattle.machine_rules.specs.Left.{IsLeft}
 use Rattle.reach_walk.proofs.Elements.{Contains-cons_cases, Contains-from_map, Contains-head, Contains-later, none_in_nil}
 use Rattle.why_path.specs.Checks.{is_loose, line_of}
 use Rattle.why_path.specs.Lines.{Rise}
-use Rattle.why_path.specs.Reasons.{AreReasons, IsLevel, IsReason, ListsLeft, things_in}
+use Rattle.why_path.specs.Reasons.{AreReasons, IsLevel, things_in}
 use Rattle.why_path.specs.Walk.{AreAt, IsDoneTo, IsKnownTo, StandsAt, first_line, reached_from}
 use Rattle.why_path.specs.declared.walk.Walk.{Walk}
 use Rattle.why_path.proofs.Finding.{found_line, line_found}
 use Rattle.why_path.proofs.Levels.{LeftAreLed, NoneFalls, first_known, from_kept, front_has, known_whole, next_known}
 use Rattle.why_path.proofs.Reached.{stands_line, stands_with}
-use Rattle.why_path.proofs.Walking.{map_kept, map_same, reached_thing}
+use Rattle.why_path.proofs.Walking.{map_same, reached_thing}
 
 -- ---- what was sorted never falls
 

@@ -1,22 +1,19 @@
 -- What follows where reasons hold up.
-use Rattle.std.proofs.Common.{◌≡◌, ◌↔◌, ◌⊎◌, inl, inr, ℕ, zero, suc, ◌+◌, ◌<◌, ◌≤◌, Bool, true, false, cond, List, [], ◌∷◌, Option, Some, None, Contains, refl, sym, ap, subst, ◌∙◌, arith}
-use Rattle.std.specs.Prelude.{All, IfSome, IsSomeAnd, is_some, option_and_then}
-use Rattle.std.specs.List.{find}
+use Rattle.std.proofs.Common.{◌≡◌, ◌↔◌, ◌⊎◌, inl, inr, ℕ, zero, suc, ◌+◌, Bool, true, false, cond, List, Option, Some, None, Contains, refl, sym, subst, ◌∙◌, arith}
+use Rattle.std.specs.Prelude.{IfSome, IsSomeAnd, is_some, option_and_then}
 use Rattle.std.specs.Option.{option_map_or}
 use Rattle.std.proofs.lemmas.List.Elements.{All-contains}
 use Rattle.orca_names.specs.declared.names.Thing.{Thing}
 use Rattle.orca_names.specs.declared.names.Thing.TheVariants.{Actor, Obj}
-use Rattle.orca_names.specs.declared.reason.Edge.{Edge}
 use Rattle.orca_names.specs.declared.reason.Reason.{Reason}
 use Rattle.orca_names.specs.declared.reason.Why.{Why}
 use Rattle.orca_names.specs.declared.reason.Why.TheVariants.{Pinned, Frame, Letter, By, Loose}
 use Rattle.machine_rules.specs.Actors.{Actors, Seat, seat_at}
-use Rattle.machine_rules.specs.Left.{IsLeft}
 use Rattle.why_path.specs.Checks.{Holds, HoldsUp, IsClosedAt, IsNotLoose, LineHolds, RootHolds, StandsBelow, applies_to, is_loose, line_of}
-use Rattle.why_path.specs.Edges.{LeadsBy, LeadsTo, leads_of}
+use Rattle.why_path.specs.Edges.{LeadsTo, leads_of}
 use Rattle.why_path.specs.Laws.{IsKeptIn}
-use Rattle.why_path.specs.Reasons.{AreReasons, HasParent, IsLedTo, IsLevel, IsReason, IsReasonOf, IsRoot, ListsLeft, applies, cause_at, cause_of}
-use Rattle.why_path.proofs.Finding.{found_line, line_found, line_there}
+use Rattle.why_path.specs.Reasons.{AreReasons, IsLedTo, IsLevel, IsReason, IsReasonOf, IsRoot, applies, cause_at, cause_of}
+use Rattle.why_path.proofs.Finding.{found_line, line_there}
 use Rattle.why_path.proofs.Levels.{LeftAreLed, cause_cases, first_leads, led_last, led_more, led_root, one_level, reason_level, root_led}
 
 -- ---- lines

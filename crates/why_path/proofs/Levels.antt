@@ -1,8 +1,8 @@
 -- From one level to the next.
-use Rattle.std.proofs.Common.{◌≡◌, ◌≢◌, ◌⊎◌, inl, inr, ℕ, zero, suc, ◌+◌, ◌<◌, ◌≤◌, Bool, true, false, cond, List, [], ◌∷◌, length, map, get_or, Option, Some, None, Contains, Ordering, refl, sym, ap, subst, ◌∙◌, arith}
-use Rattle.std.specs.Prelude.{option_map, is_some, option_and_then, unwrap_or, All}
+use Rattle.std.proofs.Common.{◌≡◌, ◌≢◌, ◌⊎◌, inl, inr, ℕ, zero, suc, ◌<◌, ◌≤◌, Bool, true, false, cond, List, [], ◌∷◌, Option, Some, None, Contains, refl, sym, ap, subst, ◌∙◌, arith}
+use Rattle.std.specs.Prelude.{option_map, is_some, option_and_then, unwrap_or}
 use Rattle.std.specs.List.{find}
-use Rattle.std.specs.declared.cmp.Ordering.TheVariants.{Less, Equal, Greater}
+use Rattle.std.specs.declared.cmp.Ordering.TheVariants.{Greater}
 use Rattle.std.proofs.lemmas.Bool.{cases_lt}
 use Rattle.std.proofs.lemmas.Cmp.{tied_itself}
 use Rattle.orca_names.specs.Names.{is_thing, thing_cmp}
@@ -18,9 +18,9 @@ use Rattle.machine_rules.specs.Left.{IsLeft}
 use Rattle.reach_walk.proofs.Elements.{Contains-head, Contains-later, Contains-cons_cases, none_in_nil}
 use Rattle.why_path.specs.Checks.{is_loose, line_of}
 use Rattle.why_path.specs.Edges.{Lead, LeadsBy, LeadsTo, first_to, leads_of}
-use Rattle.why_path.specs.Reasons.{AreReasons, HasParent, IsLedTo, IsLevel, IsReason, IsReasonOf, IsRoot, ListsLeft, applies, cause_at, cause_of}
+use Rattle.why_path.specs.Reasons.{HasParent, IsLedTo, IsLevel, IsReason, IsReasonOf, IsRoot, ListsLeft, applies, cause_at, cause_of}
 use Rattle.why_path.specs.Walk.{AreAt, IsKnownTo, first_line, reached, reached_from}
-use Rattle.why_path.proofs.Finding.{found_line, line_found, line_there}
+use Rattle.why_path.proofs.Finding.{found_line, line_there}
 use Rattle.why_path.proofs.Reached.{stands_line, stands_with}
 use Rattle.why_path.proofs.Walking.{reached_kept, reached_loose, reached_none}
 

@@ -1,4 +1,5 @@
 pub mod Answering
+pub mod Closing
 pub mod Ending
 pub mod Explaining
 pub mod Finding

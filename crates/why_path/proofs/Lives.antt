@@ -1,6 +1,6 @@
 -- What a path leads to is what lives in the machine that frees nothing.
-use Rattle.std.proofs.Common.{◌≡◌, ◌≢◌, ◌⊎◌, inl, inr, ℕ, zero, suc, ◌||◌, Bool, true, false, cond, List, [], ◌∷◌, ◌++◌, Option, Some, None, Contains, refl, sym, ap, subst, ◌∙◌, eq-eqb}
-use Rattle.std.specs.Prelude.{is_some, option_map, option_and_then, ◌==◌}
+use Rattle.std.proofs.Common.{◌≡◌, ◌≢◌, ◌⊎◌, inl, inr, ℕ, zero, suc, Bool, true, false, cond, List, [], ◌∷◌, ◌++◌, Option, Some, None, Contains, refl, sym, ap, subst, ◌∙◌, eq-eqb}
+use Rattle.std.specs.Prelude.{is_some, option_map, option_and_then}
 use Rattle.std.specs.FinMap as m
 use Rattle.std.specs.List.{flat_map, list_any}
 use Rattle.std.specs.Option.{option_map_or}
@@ -8,8 +8,6 @@ use Rattle.std.proofs.lemmas.List.Elements.{Contains-append_cases, Contains-appe
 use Rattle.orca_names.specs.declared.names.ObjName.{ObjName}
 use Rattle.orca_names.specs.declared.names.Thing.{Thing}
 use Rattle.orca_names.specs.declared.names.Thing.TheVariants.{Actor, Obj}
-use Rattle.orca_names.specs.declared.names.Value.{Value}
-use Rattle.orca_names.specs.declared.reason.Edge.{Edge}
 use Rattle.orca_names.specs.declared.reason.Edge.TheVariants as edges
 use Rattle.orca_names.specs.declared.reason.Why.{Why}
 use Rattle.orca_names.specs.declared.reason.Why.TheVariants.{Pinned, Frame, Letter}
@@ -19,7 +17,7 @@ use Rattle.turn_rules.specs.declared.act.Frame as frames
 use Rattle.letter_kinds.specs.Holdings.{Row, entry_row, has_own, row_of}
 use Rattle.letter_kinds.specs.declared.letter.Letter as letters
 use Rattle.letter_kinds.specs.declared.letter.Letter.TheVariants.{App, Inc, Dec, Confirm}
-use Rattle.machine_rules.specs.Actors.{Actors, Seat, seat_at, seat}
+use Rattle.machine_rules.specs.Actors.{Actors, Seat, seat_at}
 use Rattle.machine_rules.specs.Cell.{own_row_of}
 use Rattle.machine_rules.specs.Left.{IsLeft}
 use Rattle.reach_walk.specs.Reach.{named_by}

@@ -1,5 +1,5 @@
 -- The things to which edges lead are those that values name.
-use Rattle.std.proofs.Common.{◌≡◌, ◌↔◌, inl, inr, get_or, ℕ, suc, List, [], ◌∷◌, ◌++◌, map, Option, Some, None, Contains, refl, sym, ap, subst, ◌∙◌}
+use Rattle.std.proofs.Common.{◌≡◌, ◌↔◌, inl, inr, get_or, ℕ, suc, List, [], ◌∷◌, ◌++◌, Option, Some, None, Contains, refl, sym, ap, subst, ◌∙◌}
 use Rattle.std.specs.Prelude.{All, IfSome, option_map}
 use Rattle.std.specs.List.{cons_option, flat_map}
 use Rattle.std.specs.Option.{option_map_or, option_to_list}

@@ -1,5 +1,5 @@
 -- What one edge does to lines and to what comes next.
-use Rattle.std.proofs.Common.{◌≡◌, ◌≢◌, ◌⊎◌, ◌↔◌, inl, inr, ℕ, ◌<◌, Bool, true, false, cond, List, [], ◌∷◌, ◌++◌, length, map, get_or, set, Option, Some, None, Contains, refl, sym, ap, subst, ◌∙◌, arith}
+use Rattle.std.proofs.Common.{◌≡◌, ◌≢◌, inl, inr, ℕ, ◌<◌, true, false, cond, List, [], ◌∷◌, ◌++◌, length, map, get_or, set, Option, Some, None, Contains, refl, sym, ap, subst, ◌∙◌, arith}
 use Rattle.std.specs.Prelude.{option_map, IsSomeAnd}
 use Rattle.std.proofs.lemmas.List.{length-map}
 use Rattle.std.proofs.lemmas.List.Elements.{Contains-append_left, Contains-push, Contains-push_cases}
@@ -8,7 +8,7 @@ use Rattle.orca_names.specs.declared.names.Thing.{Thing}
 use Rattle.orca_names.specs.declared.reason.Edge.{Edge}
 use Rattle.orca_names.specs.declared.reason.Reason.{Reason}
 use Rattle.orca_names.specs.declared.reason.Why.TheVariants.{By}
-use Rattle.orca_names.proofs.ThingOrder.{cases_thing, is_eq_true, is_ne_false, is_self}
+use Rattle.orca_names.proofs.ThingOrder.{cases_thing, is_eq_true, is_ne_false}
 use Rattle.plain_list.specs.Rising.{IsAt}
 use Rattle.why_path.specs.Checks.{is_loose, line_of}
 use Rattle.why_path.specs.Edges.{Lead, first_to}

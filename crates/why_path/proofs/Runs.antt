@@ -1,6 +1,5 @@
 -- What holds of reasons after a run.
-use Rattle.std.proofs.Common.{◌≡◌, ◌↔◌, ◌<◌, ℕ, false, true, Bool, List, Option, Some, None, Contains, get_or, refl, sym, ap, subst, ◌∙◌}
-use Rattle.std.specs.Prelude.{All}
+use Rattle.std.proofs.Common.{◌≡◌, ◌↔◌, ◌<◌, ℕ, List, get_or, sym, ap, ◌∙◌}
 use Rattle.std.proofs.lemmas.List.Elements.{Contains-get_or}
 use Rattle.orca_names.specs.declared.names.Thing.{Thing}
 use Rattle.orca_names.specs.declared.reason.Reason.{Reason}
@@ -20,9 +19,9 @@ use Rattle.count_laws.proofs.agreement.Reachable.{lives_reachable, reachable_liv
 use Rattle.machine_laws.specs.AllFacts.{AllFacts}
 use Rattle.machine_laws.proofs.AtQuiet.{quiet_exact}
 use Rattle.machine_laws.proofs.WholeRuns.{reachable_left, run_has_deep, run_has_facts}
-use Rattle.why_path.specs.Checks.{HoldsUp, is_loose, line_of}
+use Rattle.why_path.specs.Checks.{HoldsUp, is_loose}
 use Rattle.why_path.specs.Laws.{IsKeptIn, KeptAreReachable, NoneLooseAtQuiet, ReasonsHoldUp}
-use Rattle.why_path.specs.Reasons.{AreReasons, IsLedTo}
+use Rattle.why_path.specs.Reasons.{IsLedTo}
 use Rattle.why_path.proofs.Finding.{line_found}
 use Rattle.why_path.proofs.Holding.{kept_by_path, kept_line, reasons_hold}
 use Rattle.why_path.proofs.Levels.{LeftAreLed}

@@ -1,13 +1,11 @@
 -- What a walk does to lines.
-use Rattle.std.proofs.Common.{◌≡◌, ◌≢◌, ◌⊎◌, ◌↔◌, inl, inr, ℕ, zero, suc, ◌+◌, ◌<◌, Bool, true, false, cond, List, [], ◌∷◌, ◌++◌, length, map, get_or, set, take, Option, Some, None, Contains, refl, sym, ap, subst, ◌∙◌, append-nil, append_assoc, arith}
-use Rattle.std.specs.Prelude.{option_map, slice_get, unwrap_or, IsSomeAnd}
+use Rattle.std.proofs.Common.{◌≡◌, ◌≢◌, ℕ, zero, suc, ◌+◌, ◌<◌, Bool, true, false, cond, List, [], ◌∷◌, ◌++◌, length, map, get_or, set, take, Option, Some, None, Contains, refl, sym, ap, subst, ◌∙◌, append-nil, append_assoc, arith}
+use Rattle.std.specs.Prelude.{option_map, slice_get}
 use Rattle.std.specs.List.{find}
 use Rattle.std.specs.Option.{option_map_or}
 use Rattle.std.specs.List.Sorted.{IsStrictlySortedBy}
-use Rattle.std.specs.Ordering.{is_eq}
-use Rattle.std.proofs.lemmas.List.Elements.{Contains-append_left, Contains-push, Contains-push_cases}
 use Rattle.std.proofs.lemmas.Simd.{map-map}
-use Rattle.orca_names.specs.Names.{is_thing, thing_cmp, thing_of}
+use Rattle.orca_names.specs.Names.{is_thing, thing_cmp}
 use Rattle.orca_names.specs.declared.names.ObjName.{ObjName}
 use Rattle.orca_names.specs.declared.names.Thing.{Thing}
 use Rattle.orca_names.specs.declared.names.Thing.TheVariants.{Actor, Obj}
@@ -15,17 +13,15 @@ use Rattle.orca_names.specs.declared.names.Value.{Value}
 use Rattle.orca_names.specs.declared.reason.Edge.{Edge}
 use Rattle.orca_names.specs.declared.reason.Edge.TheVariants as edges
 use Rattle.orca_names.specs.declared.reason.Reason.{Reason}
-use Rattle.orca_names.specs.declared.reason.Why.TheVariants.{By, Loose}
-use Rattle.orca_names.proofs.ThingOrder.{cases_thing, is_eq_true, is_ne_false, is_self}
+use Rattle.orca_names.specs.declared.reason.Why.TheVariants.{By}
 use Rattle.letter_kinds.specs.declared.letter.Letter.{Letter}
 use Rattle.machine_rules.specs.Actors.{Actors, Seat, seat_at}
 use Rattle.reach_walk.proofs.Elements.{Contains-head, Contains-later}
-use Rattle.why_path.specs.Checks.{is_loose, line_of}
+use Rattle.why_path.specs.Checks.{is_loose}
 use Rattle.why_path.specs.Edges.{Lead, args_of, first_to, lead_of, leads_from, leads_of, leads_of_letters, leads_of_seat, row_left}
 use Rattle.why_path.specs.Lines.{Rise}
 use Rattle.why_path.specs.Reasons.{things_in}
-use Rattle.why_path.specs.Walk.{AreAt, StandsAt, by_edge, reached, reached_from}
-use Rattle.why_path.proofs.Finding.{found_line, line_found, line_map}
+use Rattle.why_path.specs.Walk.{by_edge, reached, reached_from}
 
 -- ---- lists
 

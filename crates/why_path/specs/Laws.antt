@@ -1,4 +1,4 @@
--- What holds of reasons after every run.
+-- What holds of reasons, and of who went, after every run.
 use Rattle.std.specs.Prelude.{◌≡◌, ◌↔◌, ◌<◌, false, List, All, IsSomeAnd}
 use Rattle.orca_names.specs.declared.names.Thing.{Thing}
 use Rattle.orca_names.specs.declared.reason.Reason.{Reason}
@@ -9,10 +9,11 @@ use Rattle.event_rule.specs.Runs.{IsQuiet}
 use Rattle.machine_rules.specs.Next.{next}
 use Rattle.machine_rules.specs.Options.{Options}
 use Rattle.machine_rules.specs.Run.{IsPlainBeside, IsRun}
-use Rattle.machine_rules.specs.State.{State}
+use Rattle.machine_rules.specs.State.{State, first_state}
 use Rattle.plain_rules.specs.Machine.{PlainState}
 use Rattle.plain_rules.specs.Reach.{IsReachable}
 use Rattle.why_path.specs.Checks.{HoldsUp, is_loose, line_of}
+use Rattle.why_path.specs.Partings.{IsClosedParting, partings_of}
 use Rattle.why_path.specs.Reasons.{AreReasons}
 
 -- the thing has a line, which is not loose
@@ -42,3 +43,10 @@ NoneLooseAtQuiet =
     → (book : List Event) (t : State) → IsRun program options book t → IsQuiet next t
     → (reasons : List Reason) → HoldsUp t.actors reasons
     → All (λ r. is_loose r.why ≡ false) reasons
+
+-- each set that a run reaps is closed by what the detector had kept of it
+abbrev pub ReapedAreClosed : Type 0
+ReapedAreClosed =
+    (program : Program) (options : Options) → 0 < options.weight → (book : List Event) (t : State)
+    → IsRun program options book t
+    → All IsClosedParting (partings_of book (first_state program options))

@@ -1,6 +1,7 @@
 -- Who went by the entries of a book.
-use Rattle.std.specs.Prelude.{List, [], ◌∷◌, Option, Some, None, option_map}
+use Rattle.std.specs.Prelude.{ℕ, ◌≡◌, ⊤, List, [], ◌∷◌, All, sum_by, Option, Some, None, option_map}
 use Rattle.std.specs.List.{cons_option}
+use Rattle.orca_names.specs.declared.kept_report.KeptReport.{KeptReport}
 use Rattle.orca_names.specs.declared.parting.Parting.{Parting}
 use Rattle.orca_names.specs.declared.parting.Parting.TheVariants.{Left, Reaped}
 use Rattle.cycle_detect.specs.Kept.{reports_of}
@@ -8,6 +9,7 @@ use Rattle.event_rule.specs.declared.event.Event.{Event}
 use Rattle.event_rule.specs.declared.event.Event.TheVariants.{Take, Go, Collect, Leave, Block, Hear, Scan, Reap}
 use Rattle.event_rule.specs.Runs.{Step, NotEnabled, IsFull, Goes}
 use Rattle.letter_kinds.specs.Detector.{token_numbered}
+use Rattle.letter_kinds.specs.Reports.{count_on}
 use Rattle.machine_rules.specs.Next.{next}
 use Rattle.machine_rules.specs.State.{State}
 
@@ -34,3 +36,18 @@ partings_after later (Goes t) = later t
 abbrev pub partings_of : List Event → State → List Parting
 partings_of [] s = []
 partings_of (e ∷ book) s = cons_option (parting_at s e) (partings_after (partings_of book) (next s e))
+
+-- ---- closed by the numbers that are told
+
+-- the sum of what these report to hold on actor x
+abbrev pub held_among : ℕ → List KeptReport → ℕ
+held_among x members = sum_by (λ m. count_on m.held x) members
+
+-- each member's count is exactly what the members report to hold on it
+abbrev pub IsClosedByNumbers : List KeptReport → Type 0
+IsClosedByNumbers members = All (λ m. m.count ≡ held_among m.actor members) members
+
+-- a set that is reaped is so; of one that leaves by itself no numbers are told
+abbrev pub IsClosedParting : Parting → Type 0
+IsClosedParting (Left a) = ⊤
+IsClosedParting (Reaped token members) = IsClosedByNumbers members

@@ -16,5 +16,5 @@ mod walk;
 
 pub use gone::partings;
 pub use holds::holds_up;
-pub use laws::{kept_are_reachable, none_is_loose_at_quiet, reasons_hold_up};
+pub use laws::{kept_are_reachable, none_is_loose_at_quiet, reaped_are_closed, reasons_hold_up};
 pub use reasons::explain;

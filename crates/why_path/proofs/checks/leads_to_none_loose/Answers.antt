@@ -1,7 +1,5 @@
-use Rattle.std.proofs.Common.{◌≡◌, ◌↔◌, refl, true, Bool, Some, None, sym, ap, subst, ◌∙◌}
+use Rattle.std.proofs.Common.{◌≡◌, ◌↔◌, refl, true, sym, ap, subst, ◌∙◌}
 use Rattle.std.specs.Prelude.{All, option_map}
-use Rattle.orca_names.specs.declared.names.Thing.TheVariants.{Actor, Obj}
-use Rattle.machine_rules.specs.Actors.{seat_at}
 use Rattle.why_path.specs.Checks.{LeadsToNoneLoose}
 use Rattle.why_path.specs.Named.{NamesNoneLoose}
 use Rattle.why_path.specs.Seats.{as_seat}

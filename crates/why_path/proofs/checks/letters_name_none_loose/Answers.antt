@@ -1,4 +1,4 @@
-use Rattle.std.proofs.Common.{◌≡◌, ◌<◌, ◌≤◌, length, get_or, sym, subst, arith}
+use Rattle.std.proofs.Common.{◌<◌, ◌≤◌, length, sym, subst, arith}
 use Rattle.std.specs.Prelude.{All}
 use Rattle.std.proofs.lemmas.Option.{get_or_from_slice_get}
 use Rattle.letter_kinds.specs.declared.letter.Letter.{Letter}

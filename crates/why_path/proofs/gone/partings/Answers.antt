@@ -1,9 +1,9 @@
-use Rattle.std.proofs.Common.{◌≡◌, ◌≤◌, ◌+◌, ◌++◌, [], drop, length, sym, ap, subst, ◌∙◌, append-nil, arith}
+use Rattle.std.proofs.Common.{◌≤◌, ◌+◌, ◌++◌, length, sym, ap, subst, ◌∙◌, append-nil, arith}
 use Rattle.std.specs.Option.{option_to_list}
 use Rattle.std.proofs.lemmas.List.{drop_all}
 use Rattle.event_rule.specs.Runs.{Leads}
 use Rattle.machine_rules.specs.Next.{next}
-use Rattle.machine_rules.specs.State.{State, first_state}
+use Rattle.machine_rules.specs.State.{first_state}
 use Rattle.orca_core.specs.Machine.{options_of}
 use Rattle.why_path.specs.Partings.{partings_of}
 use Rattle.why_path.proofs.Parting.{entry_leads, entry_told, others_lead}

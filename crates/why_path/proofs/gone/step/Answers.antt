@@ -1,5 +1,4 @@
-use Rattle.std.proofs.Common.{◌≡◌, sym, subst, ◌∙◌}
-use Rattle.machine_rules.specs.Next.{next}
+use Rattle.std.proofs.Common.{sym, subst, ◌∙◌}
 use Rattle.orca_core.specs.Away.{next_without}
 use Rattle.orca_core.specs.Faults.{IsFault}
 use Rattle.orca_core.specs.declared.fault.StepFault.TheVariants as faults

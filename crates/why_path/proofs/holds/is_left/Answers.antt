@@ -1,11 +1,9 @@
-use Rattle.std.proofs.Common.{◌≡◌, true, Some, refl, sym, ap, subst, ◌∙◌}
+use Rattle.std.proofs.Common.{◌≡◌, true, refl, sym, ap, subst, ◌∙◌}
 use Rattle.std.specs.Prelude.{option_map}
 use Rattle.orca_names.specs.Names.{owner_of}
-use Rattle.orca_names.specs.declared.names.Thing.TheVariants.{Actor, Obj}
 use Rattle.letter_kinds.specs.Holdings.{has_own}
 use Rattle.letter_kinds.proofs.Counts.{has_actor}
 use Rattle.machine_rules.specs.Actors.{seat_at}
-use Rattle.actor_cell.specs.Cells.{as_cell}
 use Rattle.why_path.specs.Seats.{as_seat}
 use Rattle.why_path.proofs.Listing.{heap_has, left_where}
 use Rattle.why_path.proofs.holds.is_left.Goals as goal

@@ -1,4 +1,4 @@
-use Rattle.std.proofs.Common.{◌≡◌, ◌<◌, ◌≤◌, inl, inr, length, Contains, refl, arith}
+use Rattle.std.proofs.Common.{◌≤◌, inl, inr, length, Contains, refl, arith}
 use Rattle.std.proofs.lemmas.Bool.{cases_lt}
 use Rattle.orca_names.specs.Names.{owner_of}
 use Rattle.machine_rules.proofs.Present.{present_below}

@@ -1,4 +1,4 @@
-use Rattle.std.proofs.Common.{◌≡◌, Some, None, refl, sym, ap, ◌∙◌}
+use Rattle.std.proofs.Common.{◌≡◌, Some, None, refl, sym, ◌∙◌}
 use Rattle.machine_rules.specs.Actors.{cell_at}
 use Rattle.actor_cell.specs.Cells.{as_cell}
 use Rattle.orca_core.proofs.Listing.{here_at_home}

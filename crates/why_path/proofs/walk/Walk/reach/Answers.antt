@@ -1,4 +1,4 @@
-use Rattle.std.proofs.Common.{◌≡◌, ◌++◌, ◌∷◌, [], map, Some, None, sym, ap, subst, ◌∙◌}
+use Rattle.std.proofs.Common.{◌∷◌, [], map, Some, sym, ap, subst, ◌∙◌}
 use Rattle.orca_names.specs.Names.{thing_cmp}
 use Rattle.orca_names.specs.declared.reason.Reason.{Reason}
 use Rattle.plain_list.specs.Rising.{IsAt}

@@ -1,4 +1,4 @@
-use Rattle.std.proofs.Common.{◌≡◌, ◌++◌, ◌∙◌, map, refl, sym, ap}
+use Rattle.std.proofs.Common.{◌++◌, ◌∙◌, map, refl, ap}
 use Rattle.std.proofs.lemmas.Result.{on_ok_weaker}
 use Rattle.orca_names.specs.declared.reason.Edge.TheVariants as edges
 use Rattle.why_path.specs.Edges.{leads_from, leads_of_letters, leads_of_seat, registers_of}
