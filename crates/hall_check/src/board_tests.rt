@@ -45,9 +45,11 @@ fn passes<'h, 'a, J: Naming>(
     wrong: &[Wrong],
 ) -> Result<Vec<TroubleBoard<HallPass<'h, 'a, J>>>, Fail> {
     let mut boards = Vec::new(alloc);
+    let mut number = 0u32;
     for looks in wrong {
-        let pass = hall.pass(boards.len() as u32);
+        let pass = hall.pass(number);
         boards.push(TroubleBoard::new(pass, names(alloc, *looks)?))?;
+        number = number.wrapping_add(1);
     }
     Ok(boards)
 }

@@ -48,17 +48,16 @@ impl<'h, 'a> Keeper for Seated<'h, 'a> {
 
     // It tells the claim's event.
     fn claim<R: Abort + AllocGlobal + Wait>(&mut self, rt: &R, actor: u32) -> Answer {
-        match self.pass.claim(rt, rt.alloc(), ActorName(actor)) {
-            Ok(task) => {
-                if self.kept.is_some() {
-                    panic!(rt; "a pass keeps one claim")
-                }
-                let granted = Answer::Granted(task.taken.event);
-                self.kept = Some(task);
-                granted
-            }
-            Err(refuse) => Answer::Refused(refuse),
+        let answer = self.pass.claim(rt, rt.alloc(), ActorName(actor));
+        let task = match answer {
+            Ok(task) => task,
+            Err(refuse) => return Answer::Refused(refuse),
+        };
+        let granted = Answer::Granted(task.taken.event);
+        if self.kept.replace(task).is_some() {
+            panic!(rt; "a pass keeps one claim")
         }
+        granted
     }
 
     fn commit<R: AllocGlobal + Wait>(&mut self, rt: &R) -> Answer {

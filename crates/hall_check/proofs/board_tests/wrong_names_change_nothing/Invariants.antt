@@ -2,4 +2,4 @@ use Rattle.hall_check.proofs.board_tests.wrong_names_change_nothing.Given as goa
 
 -- the hall is of this run
 abbrev pub ghosts-by_copies : goal.ghosts-by_copies
-ghosts-by_copies a = record { program = a.code.now; weight = 256; budget = 1000 }
+ghosts-by_copies g a = record { program = a.code.now; weight = 256; budget = 1000 }
