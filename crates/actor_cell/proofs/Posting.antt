@@ -16,7 +16,7 @@ use Rattle.machine_rules.specs.Cell.{known_objects}
 use Rattle.machine_rules.specs.Go.{load_from}
 use Rattle.trace_send.specs.Lacking.{of_first_owner}
 use Rattle.actor_cell.specs.declared.turning.Move.TheVariants.{Mint, Post}
-use Rattle.actor_cell.specs.Goes.{minted_first, post_or_mint}
+use Rattle.actor_cell.specs.Goes.{post_or_mint}
 
 -- the actor's own count is no matter to a load
 pub load_same : (made : List Row) (count : ℕ) (heap : Heap) (foreign : Table) (args : List Value)
@@ -30,37 +30,11 @@ pub lacking_same : (me : ℕ) (made : List Row) (h : Holdings) (load : List Load
 unfolding held_in
 lacking_same me made h load = refl
 
-abbrev with_weight : ℕ → Thing → Amount
-with_weight weight x = (x, weight)
-
-abbrev thing_in : Loaded → Thing
-thing_in e = e.0
-
-weighed : (weight : ℕ) (load : List Loaded) → map (with_weight weight) (map thing_in load) ≡ map (λ (e : Loaded). with_weight weight e.0) load
-weighed weight [] = refl
-weighed weight (e ∷ load) = ap (λ xs. with_weight weight e.0 ∷ xs) (weighed weight load)
-
 same_pair : {A B : Type 0} (p q : A × B) → Some p ≡ Some q → p ≡ q
 same_pair p q e = cc
 
--- those of the first owner, with the weight
-pub first_minted : (weight : ℕ) (lacked : List Loaded) (owner : ℕ) (things : List Thing) → Some (owner, things) ≡ of_first_owner lacked
-    → Some (owner, map (λ (x : Thing). (x, weight)) things) ≡ minted_first weight lacked
-first_minted weight [] owner things e = cc
-first_minted weight (l ∷ lacked) owner things e =
-    let those = filter (λ (f : Loaded). owner_of f.0 == owner_of l.0) (l ∷ lacked) in
-    let p : ℕ × List Thing = (owner, things) in
-    let q : ℕ × List Thing = (owner_of l.0, map thing_in those) in
-    let same : p ≡ q = same_pair p q e in
-    let amounts : ℕ × List Thing → Option (ℕ × List Amount) = λ r. Some (r.0, map (with_weight weight) r.1) in
-    ap amounts same ∙ ap (λ xs. Some (owner_of l.0, xs)) (weighed weight those)
-
-pub none_minted : (weight : ℕ) (lacked : List Loaded) → None ≡ of_first_owner lacked → None ≡ minted_first weight lacked
-none_minted weight [] e = refl
-none_minted weight (l ∷ lacked) e = cc
-
 module _ (weight to behaviour : ℕ) (args : List Value) (load rows : List Loaded) where
-  pub mints : (lacked : List Loaded) (owner : ℕ) (things : List Amount) → Some (owner, things) ≡ minted_first weight lacked
+  pub mints : (lacked : List Loaded) (owner : ℕ) (things : List Amount) → Some (owner, things) ≡ of_first_owner weight lacked
       → Mint owner things ≡ post_or_mint weight to behaviour args load rows lacked
   mints [] owner things e = cc
   mints (l ∷ lacked) owner things e =
@@ -68,6 +42,6 @@ module _ (weight to behaviour : ℕ) (args : List Value) (load rows : List Loade
       let q : ℕ × List Amount = (owner_of l.0, to_mint weight (owner_of l.0) (l ∷ lacked)) in
       ap (λ (r : ℕ × List Amount). Mint r.0 r.1) (same_pair p q e)
 
-  pub posts : (lacked : List Loaded) → None ≡ minted_first weight lacked → Post to (App behaviour args load rows) ≡ post_or_mint weight to behaviour args load rows lacked
+  pub posts : (lacked : List Loaded) → None ≡ of_first_owner weight lacked → Post to (App behaviour args load rows) ≡ post_or_mint weight to behaviour args load rows lacked
   posts [] e = refl
   posts (l ∷ lacked) e = cc

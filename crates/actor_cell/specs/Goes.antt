@@ -32,12 +32,6 @@ post_or_mint weight to behaviour args load rows [] = Post to (App behaviour args
 post_or_mint weight to behaviour args load rows (e ∷ lacked) =
     Mint (owner_of e.0) (to_mint weight (owner_of e.0) (e ∷ lacked))
 
--- what is minted first for what is lacked: for the owner of the first
-abbrev pub minted_first : ℕ → List Loaded → Option (ℕ × List Amount)
-minted_first weight [] = None
-minted_first weight (e ∷ lacked) =
-    Some (owner_of e.0, to_mint weight (owner_of e.0) (e ∷ lacked))
-
 -- the register of a new actor is one of a frame
 abbrev pub FitsRegister : Act → Type 0
 FitsRegister (act.New kind register) = register < REGISTERS

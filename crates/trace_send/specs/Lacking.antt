@@ -2,7 +2,7 @@
 use Rattle.std.specs.Prelude.{ℕ, ◌==◌, ◌&&◌, not, Bool, List, [], ◌∷◌, Option, Some, None, filter, map}
 use Rattle.orca_names.specs.Names.{owner_of}
 use Rattle.orca_names.specs.declared.names.Thing.{Thing}
-use Rattle.letter_kinds.specs.Counting.{Loaded}
+use Rattle.letter_kinds.specs.Counting.{Amount, Loaded, to_mint}
 use Rattle.foreign_table.specs.Table.{Table, count_on}
 
 -- of another's thing just one is held
@@ -14,8 +14,8 @@ abbrev pub lacked_by : ℕ → Table → List Loaded → List Loaded
 lacked_by me foreign load = filter (λ e. is_lacked me foreign e.0) load
 
 -- of loaded things the first one's owner, which is the lowest where they are in order, and those of
--- its things
-abbrev pub of_first_owner : List Loaded → Option (ℕ × List Thing)
-of_first_owner [] = None
-of_first_owner (e ∷ load) =
-    Some (owner_of e.0, map (λ f. f.0) (filter (λ f. owner_of f.0 == owner_of e.0) (e ∷ load)))
+-- its things, each with the weight
+abbrev pub of_first_owner : ℕ → List Loaded → Option (ℕ × List Amount)
+of_first_owner weight [] = None
+of_first_owner weight (e ∷ load) =
+    Some (owner_of e.0, to_mint weight (owner_of e.0) (e ∷ load))

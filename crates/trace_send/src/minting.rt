@@ -8,7 +8,7 @@ ghost use Rattle.known_rows.specs.Holdings.{holdings_of};
 ghost use Rattle.trace_send.specs.Lacking.{is_lacked as is_short, lacked_by, of_first_owner};
 
 use foreign_table::ForeignTable;
-use letter_kinds::Load;
+use letter_kinds::{Amounts, Load};
 use orca_names::{ActorName, NoMemory, Row, Thing};
 use plain_list::Listed;
 use std::alloc::Global;
@@ -50,29 +50,30 @@ fn is_lacked_of(thing: &Thing, me: ActorName, foreign: &ForeignTable, owner: Act
     is_lacked(thing, me, foreign)
 }
 
-// Those things that are lacked and have this owner.
+// Those things that are lacked and have this owner, each with the weight.
 fn lacked_of(
     alloc: Global,
     load: &[(Thing, Option<Row>)],
     me: ActorName,
     foreign: &ForeignTable,
     owner: ActorName,
-) -> Result<Listed<Thing>, NoMemory>
+    weight: u32,
+) -> Result<Amounts, NoMemory>
     ensures { let its = filter (λ e. is_short me foreign.now e.0 && (owner_of e.0 == owner)) load.now in
-        IfOk result (λ things. things ≡ map (λ e. e.0) its) }
+        IfOk result (λ amounts. amounts ≡ map (λ e. (e.0, weight)) its) }
 {
-    let mut things = Listed::new(alloc);
+    let mut amounts = Listed::new(alloc);
     for loaded in load {
         if is_lacked_of(&loaded.0, me, foreign, owner) {
-            things.push(loaded.0)?;
+            amounts.push((loaded.0, u64::from(weight)))?;
         }
     }
-    Ok(things)
+    Ok(amounts)
 }
 
 /// What the sender of a letter with this load has to mint before it can send: of the owners whose
-/// things it lacks, the first one, which is the lowest, and those of its things. `None` exactly
-/// where it lacks none.
+/// things it lacks, the first one, which is the lowest, and those of its things, each with the
+/// weight. `None` exactly where it lacks none.
 ///
 /// # Errors
 /// `NoMemory` where memory was refused.
@@ -81,15 +82,16 @@ pub fn lacking(
     load: &Load,
     me: ActorName,
     foreign: &ForeignTable,
-) -> Result<Option<(ActorName, Listed<Thing>)>, NoMemory>
+    weight: u32,
+) -> Result<Option<(ActorName, Amounts)>, NoMemory>
     ensures { (count : ℕ) (heap : Heap) →
         let lacked = lacking_of me (holdings_of count heap foreign.now) load.now in
-        IfOk result (λ found. found ≡ of_first_owner lacked) }
+        IfOk result (λ found. found ≡ of_first_owner weight lacked) }
 {
     match first_owner(load.as_slice(), me, foreign) {
         Some(owner) => {
-            let things = lacked_of(alloc, load.as_slice(), me, foreign, owner)?;
-            Ok(Some((owner, things)))
+            let amounts = lacked_of(alloc, load.as_slice(), me, foreign, owner, weight)?;
+            Ok(Some((owner, amounts)))
         }
         None => Ok(None),
     }

@@ -5,7 +5,8 @@ use Rattle.letter_kinds.specs.Holdings.{with_made}
 use Rattle.machine_rules.specs.Go.{load_from, rows_from}
 use Rattle.actor_cell.specs.declared.turning.Move.TheVariants.{Post}
 use Rattle.actor_cell.specs.Cells.{as_cell}
-use Rattle.actor_cell.specs.Goes.{having_made, minted_first}
+use Rattle.trace_send.specs.Lacking.{of_first_owner}
+use Rattle.actor_cell.specs.Goes.{having_made}
 use Rattle.actor_cell.proofs.Posting.{lacking_same, mints, posts}
 use Rattle.actor_cell.proofs.cell.Cell.posting.Goals as goal
 
@@ -17,8 +18,8 @@ returns-in-Some c =
     let load = load_from c.args.trace me (with_made made h) c.args.args.now in
     let rows = rows_from c.args.trace me (having_made made (as_cell c.args.self.now)) c.args.args.now in
     let lacked = lacking_of me (with_made made h) load in
-    let is = sym c.in-Some.is ∙ c.in_ok-minted.ensures
-    ∙ ap (minted_first c.args.weight) (ap (lacking_of me h) c.in_ok-load.ensures ∙ lacking_same me made h load) in
+    let is = sym c.in-Some.is ∙ c.in_ok-lacking.ensures c.args.self.now.count c.args.self.now.heap
+    ∙ ap (of_first_owner c.args.weight) ((λ i. lacking_of (c.owner.ensures i) h (c.in_ok-load.ensures i)) ∙ lacking_same me made h load) in
     mints c.args.weight c.args.to c.args.behaviour c.args.args.now load rows lacked c.in-Some.minted.0 c.in-Some.minted.1 is
 
 pub returns-in_ok-rows-in-None : goal.returns-in_ok-rows-in-None
@@ -29,7 +30,7 @@ returns-in_ok-rows-in-None c =
     let load = load_from c.args.trace me (with_made made h) c.args.args.now in
     let rows = rows_from c.args.trace me (having_made made (as_cell c.args.self.now)) c.args.args.now in
     let lacked = lacking_of me (with_made made h) load in
-    let is = sym c.in-None.is ∙ c.in_ok-minted.ensures
-    ∙ ap (minted_first c.args.weight) (ap (lacking_of me h) c.in_ok-load.ensures ∙ lacking_same me made h load) in
+    let is = sym c.in-None.is ∙ c.in_ok-lacking.ensures c.args.self.now.count c.args.self.now.heap
+    ∙ ap (of_first_owner c.args.weight) ((λ i. lacking_of (c.owner.ensures i) h (c.in_ok-load.ensures i)) ∙ lacking_same me made h load) in
     (λ i. Post c.args.to (App c.args.behaviour c.args.args.now (c.in_ok-load.ensures i) (c.in_ok-rows-in-None.ensures i)))
     ∙ posts c.args.weight c.args.to c.args.behaviour c.args.args.now load rows lacked is
