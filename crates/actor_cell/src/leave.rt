@@ -23,6 +23,7 @@ use plain_list::Listed;
 use std::alloc::Global;
 
 // Whether the actor stands where it does if those who go are numbered without a gap.
+#[tactic(auto, using(crate::proofs::Owners::has_at))]
 fn is_seen_at_once(gone: &[ActorName], actor: ActorName) -> bool
     ensures { IsTrue result → has gone.now actor ≡ true }
 {
@@ -30,7 +31,10 @@ fn is_seen_at_once(gone: &[ActorName], actor: ActorName) -> bool
         return false;
     };
     let place = actor.0.wrapping_sub(first.0) as usize;
-    place < gone.len() && gone[place] == actor
+    if place >= gone.len() {
+        return false;
+    }
+    gone[place] == actor
 }
 
 // Whether the actor is one of those who go.
@@ -38,7 +42,10 @@ fn is_gone(gone: &[ActorName], actor: ActorName) -> bool
     requires { IsStrictlySortedBy nat_cmp gone.now }
     ensures { result ≡ has gone.now actor }
 {
-    is_seen_at_once(gone, actor) || gone.binary_search(&actor).is_ok()
+    if is_seen_at_once(gone, actor) {
+        return true;
+    }
+    gone.binary_search(&actor).is_ok()
 }
 
 // Adds the count on a thing, by its place in the order of things, to what goes back, if the owner

@@ -18,7 +18,7 @@ returns-in-Some c =
     let load = load_from c.args.trace me (with_made made h) c.args.args.now in
     let rows = rows_from c.args.trace me (having_made made (as_cell c.args.self.now)) c.args.args.now in
     let lacked = lacking_of me (with_made made h) load in
-    let is = sym c.in-Some.is ∙ c.in_ok-lacking.ensures c.args.self.now.count c.args.self.now.heap
+    let is = sym c.in-Some.is ∙ c.in_ok-minted.ensures c.args.self.now.count c.args.self.now.heap
     ∙ ap (of_first_owner c.args.weight) ((λ i. lacking_of (c.owner.ensures i) h (c.in_ok-load.ensures i)) ∙ lacking_same me made h load) in
     mints c.args.weight c.args.to c.args.behaviour c.args.args.now load rows lacked c.in-Some.minted.0 c.in-Some.minted.1 is
 
@@ -30,7 +30,7 @@ returns-in_ok-rows-in-None c =
     let load = load_from c.args.trace me (with_made made h) c.args.args.now in
     let rows = rows_from c.args.trace me (having_made made (as_cell c.args.self.now)) c.args.args.now in
     let lacked = lacking_of me (with_made made h) load in
-    let is = sym c.in-None.is ∙ c.in_ok-lacking.ensures c.args.self.now.count c.args.self.now.heap
+    let is = sym c.in-None.is ∙ c.in_ok-minted.ensures c.args.self.now.count c.args.self.now.heap
     ∙ ap (of_first_owner c.args.weight) ((λ i. lacking_of (c.owner.ensures i) h (c.in_ok-load.ensures i)) ∙ lacking_same me made h load) in
     (λ i. Post c.args.to (App c.args.behaviour c.args.args.now (c.in_ok-load.ensures i) (c.in_ok-rows-in-None.ensures i)))
     ∙ posts c.args.weight c.args.to c.args.behaviour c.args.args.now load rows lacked is
