@@ -244,6 +244,9 @@ impl ForeignTable {
         requires { BackRises back.now }
         ensures { self.new ≡ given_up back.now self.old }
     {
+        if back.is_empty() {
+            return;
+        }
         keep_others(&mut self.held, &mut self.rows, back);
     }
 
