@@ -88,16 +88,12 @@ pub record FitsTake (a : ℕ) (m : Parts) : Type 0 where
   pub room : HasRoomFor letter cell.foreign.spare cell.known.spare
   pub note : cell.reported ≡ true → deque_len m.notes < deque_capacity m.notes
 
--- the sweep is that of the actor with this tracing, there is room to make the letters that return what
--- it gives back, and they fit
-pub record FitsCollect (trace : Trace) (a : ℕ) (found : Sweep) (room : Vec (ℕ × Letter)) (m : Parts)
-    : Type 0 where
+-- the sweep is that of the actor with this tracing, and the letters that return what it gives back fit
+pub record FitsCollect (trace : Trace) (a : ℕ) (found : Sweep) (m : Parts) : Type 0 where
   pub cell : Cell
   pub home : (slot_at m.table.slots a).place ≡ Home cell
   pub may : may_collect (as_cell cell) (slot_at m.table.slots a).mail.letters ≡ true
   pub collects : CollectsWith trace a found cell
-  pub none : room.items ≡ []
-  pub enough : length found.plan.back ≤ vec_capacity room
   pub fit : FitLetters (letters_of found.plan.back) m.table.slots
 
 -- the actor may leave, the letters return what it held, and fit
