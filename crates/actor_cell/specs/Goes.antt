@@ -1,5 +1,5 @@
 -- What a turn of an actor does.
-use Rattle.std.specs.Prelude.{ℕ, ◌<◌, ⊤, true, List, [], ◌∷◌, Option, Some, None, option_map, length, IsSomeAnd}
+use Rattle.std.specs.Prelude.{ℕ, ◌<◌, ⊤, true, List, [], ◌∷◌, Option, Some, None, option_map, length, map, IsSomeAnd}
 use Rattle.orca_names.specs.Names.{owner_of}
 use Rattle.orca_names.specs.declared.trace.Trace.{Trace}
 use Rattle.orca_names.specs.declared.limits.TheConstants.{REGISTERS}
@@ -23,6 +23,10 @@ use Rattle.actor_cell.specs.declared.turning.Move.{Move}
 use Rattle.actor_cell.specs.declared.turning.Move.TheVariants.{Post, Mint, New, Print, End}
 
 -- ---- what is found
+
+-- the things that a letter with these arguments loads
+abbrev pub things_from : Trace → ℕ → Holdings → List Value → List Thing
+things_from trace me h args = map (λ e. e.0) (load_from trace me h args)
 
 -- the letter with its load and rows; where the actor lacks some of the load, what it mints first for
 -- the owner of the first that it lacks

@@ -19,6 +19,7 @@ use known_rows::KnownRows;
 use letter_kinds::{Amounts, Letter};
 use orca_names::{ActorName, Args, NoMemory, Reading, Row, Thing, Trace};
 use plain_list::Listed;
+use reach_walk::ThingList;
 use root_trace::missing;
 use std::alloc::Global;
 use trace_send::lacking;
@@ -55,8 +56,10 @@ impl Cell {
             (load_from trace me c.holdings args.now) (rows_from trace me c args.now)
             (lacking_from trace me c.holdings args.now)) }
     {
-        let load = self.load(alloc, trace, made, args)?;
-        match lacking(alloc, &load, self.heap.owner(), &self.foreign, weight)? {
+        let mut things = ThingList::new(alloc);
+        self.find_things(alloc, trace, made, args, &mut things)?;
+        let me = self.heap.owner();
+        match lacking(alloc, things.as_slice(), me, &self.foreign, weight)? {
             Some(minted) => {
                 *act = Move::Mint {
                     owner: minted.0,
@@ -65,6 +68,7 @@ impl Cell {
                 Ok(())
             }
             None => {
+                let load = self.load(alloc, trace, made, things.as_slice())?;
                 let rows = self.carried(alloc, trace, made, args)?;
                 *act = Move::Post {
                     to,

@@ -35,16 +35,13 @@ fn the_first_owner_is_told_what_is_lacked(rt: HostRuntime) -> Result<(), Fail> {
         serial: Serial::of(0),
     });
     let last = Thing::Actor(ActorName(2));
-    let mut load = Load::new(alloc);
-    load.push((first, None))?;
-    load.push((object, row))?;
-    load.push((last, None))?;
+    let things = [first, object, last];
     let mut foreign = ForeignTable::new(alloc);
     hold(&mut foreign, &first, &None, 1)?;
     hold(&mut foreign, &object, &row, 1)?;
     hold(&mut foreign, &last, &None, 1)?;
     let me = ActorName(1);
-    let lacked = lacking(alloc, &load, me, &foreign, 256)?;
+    let lacked = lacking(alloc, &things, me, &foreign, 256)?;
     assert!(rt; lacked.is_some());
     if let Some((owner, amounts)) = lacked {
         assert_eq!(rt; owner, ActorName(0));
@@ -53,7 +50,7 @@ fn the_first_owner_is_told_what_is_lacked(rt: HostRuntime) -> Result<(), Fail> {
     hold(&mut foreign, &first, &None, 256)?;
     hold(&mut foreign, &object, &row, 256)?;
     hold(&mut foreign, &last, &None, 256)?;
-    assert!(rt; lacking(alloc, &load, me, &foreign, 256)?.is_none());
+    assert!(rt; lacking(alloc, &things, me, &foreign, 256)?.is_none());
     Ok(())
 }
 
