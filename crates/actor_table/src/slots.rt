@@ -298,6 +298,7 @@ pub(crate) fn put_bits(slots: &[Slot], acting: &mut ReadySet, settling: &mut Rea
 }
 
 /// Writes the same after a step of a turn: while the turn goes on, its actor has the same events.
+#[inline(always)]
 pub(crate) fn put_bits_in_turn(
     slots: &[Slot],
     acting: &mut ReadySet,

@@ -18,7 +18,7 @@ mod walk_rows;
 
 pub use edges::Edges;
 pub use laws::{loads_are_exact, marks_are_exact, marks_are_unique};
-pub use load::{load_of, load_within, find_loaded, with_rows};
+pub use load::{find_loaded, load_of, load_within, with_rows};
 pub use marks::{Marks, mark, mark_bits, mark_within};
 pub use places::{PlacedRows, Places};
 pub use reach::walk;

@@ -32,6 +32,7 @@ fn names_nothing(values: &[Value]) -> bool
 ///
 /// # Errors
 /// `NoMemory` where memory was refused.
+#[inline(always)]
 pub fn with_rows<R: PlacedRows>(
     alloc: Global,
     things: &[Thing],
@@ -88,6 +89,7 @@ pub fn load_within<R: PlacedRows, L: Ledger>(
 ///
 /// # Errors
 /// `NoMemory` where memory was refused; what `things` holds then is left open.
+#[inline(always)]
 pub fn find_loaded<R: PlacedRows>(
     alloc: Global,
     args: &Args,
