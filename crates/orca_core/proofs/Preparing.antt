@@ -19,8 +19,6 @@ use Rattle.orca_names.specs.declared.trace.Trace.{Trace}
 use Rattle.letter_kinds.specs.Counting.{by_owner, given_back}
 use Rattle.known_rows.specs.Holdings.{holdings_of}
 use Rattle.local_sweep.proofs.GivenBack.{back_rises}
-use Rattle.std.specs.Global.{Vec}
-use Rattle.std.specs.Vec.{vec_capacity}
 use Rattle.actor_cell.specs.declared.cell.Cell.{Cell}
 use Rattle.actor_cell.specs.Cells.{as_cell}
 use Rattle.actor_cell.specs.Outs.{left_behind, letters_of, report_of}

@@ -2,7 +2,6 @@ use Rattle.std.proofs.Common.{◌≡◌, IsSomeAnd, ap, subst, sym, ◌∙◌, s
 use Rattle.std.specs.Prelude.{is_some}
 use Rattle.orca_names.specs.declared.trace.Trace.{Trace}
 use Rattle.machine_rules.specs.Actors.{seat_at}
-use Rattle.actor_cell.specs.declared.sweeping.Sweep.{Sweep}
 use Rattle.actor_cell.specs.Cells.{as_cell}
 use Rattle.actor_cell.specs.Outs.{letters_of}
 use Rattle.actor_cell.specs.Pushing.{push_all}
