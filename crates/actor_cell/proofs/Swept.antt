@@ -1,10 +1,9 @@
 -- The rows that a collection forgets.
-use Rattle.std.proofs.Common.{◌≡◌, Bool, false, not, [], refl, sym, ap, ◌∙◌}
+use Rattle.std.proofs.Common.{◌≡◌, Bool, false, not, refl, sym, ap, ◌∙◌}
 use Rattle.std.specs.FinMap as m
 use Rattle.orca_names.specs.declared.names.Thing.{Thing}
 use Rattle.orca_names.specs.declared.trace.Trace.{Trace}
 use Rattle.orca_names.specs.declared.trace.Trace.TheVariants.{Deep, Roots}
-use Rattle.orca_names.proofs.ThingOrder.{thing_exact, thing_total}
 use Rattle.letter_kinds.specs.Counting.{by_owner, given_back}
 use Rattle.letter_kinds.specs.Holdings.{Holdings}
 use Rattle.foreign_table.specs.Back.{BackRises, goes_back}

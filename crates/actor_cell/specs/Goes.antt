@@ -12,7 +12,7 @@ use Rattle.turn_rules.specs.declared.act.Frame.{Frame}
 use Rattle.turn_rules.specs.Segment.{Stop, Turn}
 use Rattle.letter_kinds.specs.declared.letter.Letter.{Letter}
 use Rattle.letter_kinds.specs.declared.letter.Letter.TheVariants.{App, Inc, Dec, Confirm}
-use Rattle.letter_kinds.specs.Counting.{Amount, Loaded, mint_all, send, to_mint}
+use Rattle.letter_kinds.specs.Counting.{Loaded, mint_all, send, to_mint}
 use Rattle.letter_kinds.specs.Holdings.{Holdings, Row, with_made}
 use Rattle.trace_send.specs.Can.{CanSend}
 use Rattle.machine_rules.specs.Cell.{Cell}
