@@ -15,11 +15,7 @@ use std::alloc::Global;
 ///
 /// # Errors
 /// `NoMemory` where memory was refused; what `things` holds then is left open.
-pub fn find_loaded_roots(
-    alloc: Global,
-    args: &Args,
-    things: &mut ThingList,
-) -> Result<(), NoMemory>
+pub fn find_loaded_roots(alloc: Global, args: &Args, things: &mut ThingList) -> Result<(), NoMemory>
     ensures { OnOk result (things.new ≡ marks_of (λ n. None) [] args.now) }
 {
     find_loaded(alloc, args, &mut Unplaced { of: NoRows }, things)

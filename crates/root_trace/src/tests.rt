@@ -31,7 +31,10 @@ fn loads_are_what_stands_in_letters(rt: HostRuntime) -> Result<(), Fail> {
     ];
     let mut things = ThingList::new(alloc);
     find_loaded_roots(alloc, &args, &mut things)?;
-    assert_eq!(rt; without_rows(alloc, things.as_slice())?.as_slice(), load.as_slice());
+    assert_eq!(rt;
+        without_rows(alloc, things.as_slice())?.as_slice(),
+        load.as_slice()
+    );
     let mut known = Unplaced { of: NoRows };
     assert_eq!(rt;
         rows_of(alloc, &args, &mut known)?.as_slice(),

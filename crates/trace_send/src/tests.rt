@@ -45,7 +45,10 @@ fn the_first_owner_is_told_what_is_lacked(rt: HostRuntime) -> Result<(), Fail> {
     assert!(rt; lacked.is_some());
     if let Some((owner, amounts)) = lacked {
         assert_eq!(rt; owner, ActorName(0));
-        assert_eq!(rt; amounts.as_slice(), [(first, 256), (object, 256)].as_slice());
+        assert_eq!(rt;
+            amounts.as_slice(),
+            [(first, 256), (object, 256)].as_slice()
+        );
     }
     hold(&mut foreign, &first, &None, 256)?;
     hold(&mut foreign, &object, &row, 256)?;
