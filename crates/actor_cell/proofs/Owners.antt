@@ -8,7 +8,7 @@ use Rattle.std.proofs.lemmas.List.Sorted.{searched}
 use Rattle.std.proofs.lemmas.Map.Keys.{non_decreasing_from_sorted}
 use Rattle.letter_kinds.specs.Detector.{has}
 
-has_at : (xs : List ℕ) (x i : ℕ) → i < length xs → get_or xs i 0 ≡ x → has xs x ≡ true
+pub has_at : (xs : List ℕ) (x i : ℕ) → i < length xs → get_or xs i 0 ≡ x → has xs x ≡ true
 has_at [] x i inside is = absurd (omega arith)
 has_at (y ∷ xs) x zero inside is = grind (arith, nat_tests)
 has_at (y ∷ xs) x (suc i) inside is = grind (arith, nat_tests, has_at xs x i (omega arith) is)

@@ -1,13 +1,15 @@
 -- What a letter loads, and what is minted first.
-use Rattle.std.proofs.Common.{◌≡◌, ℕ, Option, Some, None, List, [], ◌∷◌, ◌==◌, map, refl, ap, ◌∙◌}
+use Rattle.std.proofs.Common.{◌≡◌, ℕ, Bool, true, false, cond, Option, Some, None, List, [], ◌∷◌, ◌==◌, map, refl, sym, ap, ◌∙◌}
 use Rattle.std.specs.List.{filter}
 use Rattle.orca_names.specs.Names.{owner_of}
+use Rattle.orca_names.specs.declared.names.ObjName.{ObjName}
 use Rattle.orca_names.specs.declared.names.Thing.{Thing}
 use Rattle.orca_names.specs.declared.names.Value.{Value}
-use Rattle.orca_names.specs.declared.trace.Trace.TheVariants.{Deep}
-use Rattle.reach_walk.specs.Marks.{load_of}
+use Rattle.orca_names.specs.declared.trace.Trace.TheVariants.{Deep, Roots}
+use Rattle.reach_walk.specs.Marks.{marks_of}
+use Rattle.reach_walk.specs.Reach.{thing_row}
 use Rattle.letter_kinds.specs.declared.letter.Letter.TheVariants.{App}
-use Rattle.letter_kinds.specs.Counting.{Amount, Loaded, lacking_of, to_mint}
+use Rattle.letter_kinds.specs.Counting.{Amount, Loaded, is_lacking, lacking_of, to_mint}
 use Rattle.letter_kinds.specs.Holdings.{Holdings, Row, held_in, row_of, with_made}
 use Rattle.object_heap.specs.Heap.{Heap}
 use Rattle.foreign_table.specs.Table.{Table}
@@ -16,58 +18,95 @@ use Rattle.machine_rules.specs.Cell.{known_objects}
 use Rattle.machine_rules.specs.Go.{load_from}
 use Rattle.trace_send.specs.Lacking.{of_first_owner}
 use Rattle.actor_cell.specs.declared.turning.Move.TheVariants.{Mint, Post}
-use Rattle.actor_cell.specs.Goes.{minted_first, post_or_mint}
+use Rattle.actor_cell.specs.Goes.{post_or_mint, things_from}
 
--- the actor's own count is no matter to a load
-pub load_same : (made : List Row) (count : ℕ) (heap : Heap) (foreign : Table) (args : List Value)
-    → (let h = with_made made (holdings_of 0 heap foreign) in load_of (row_of heap.owner h) (known_objects heap.owner h) args)
-    ≡ load_from Deep heap.owner (with_made made (holdings_of count heap foreign)) args
+-- the things of pairs that were made of things
+firsts : (row : Thing → Option Row) (things : List Thing) → map (λ (e : Loaded). e.0) (map (λ (x : Thing). (x, row x)) things) ≡ things
+firsts row [] = refl
+firsts row (x ∷ things) = ap (λ xs. x ∷ xs) (firsts row things)
+
+-- the actor's own count is no matter to what is loaded
+pub things_same : (made : List Row) (count : ℕ) (heap : Heap) (foreign : Table) (args : List Value)
+    → (let h = with_made made (holdings_of 0 heap foreign) in marks_of (row_of heap.owner h) (known_objects heap.owner h) args)
+    ≡ things_from Deep heap.owner (with_made made (holdings_of count heap foreign)) args
 unfolding row_of known_objects
-load_same made count heap foreign args = refl
+things_same made count heap foreign args =
+    let h = with_made made (holdings_of 0 heap foreign) in
+    let rows = row_of heap.owner h in
+    sym (firsts (thing_row rows) (marks_of rows (known_objects heap.owner h) args))
+
+-- a thing with its row
+abbrev pub with_row : (ObjName → Option Row) → Thing → Loaded
+with_row rows x = (x, thing_row rows x)
+
+-- nor to the rows
+pub rows_same : (made : List Row) (count : ℕ) (heap : Heap) (foreign : Table) (things : List Thing)
+    → map (with_row (row_of heap.owner (with_made made (holdings_of 0 heap foreign)))) things
+    ≡ map (with_row (row_of heap.owner (with_made made (holdings_of count heap foreign)))) things
+unfolding row_of
+rows_same made count heap foreign things = refl
+
+-- with their rows the things are the load
+pub rowed_is : (me : ℕ) (h : Holdings) (args : List Value) (things : List Thing) → things ≡ things_from Deep me h args
+    → map (λ (x : Thing). (x, thing_row (row_of me h) x)) things ≡ load_from Deep me h args
+rowed_is me h args things is =
+    let rows = row_of me h in
+    ap (map (λ (x : Thing). (x, thing_row rows x))) (is ∙ firsts (thing_row rows) (marks_of rows (known_objects me h) args))
+
+pub roots_are : (me : ℕ) (h : Holdings) (args : List Value) → marks_of (λ n. None) [] args ≡ things_from Roots me h args
+roots_are me h args = sym (firsts (thing_row (λ n. None)) (marks_of (λ n. None) [] args))
+
+pub bare_is : (me : ℕ) (h : Holdings) (args : List Value) (things : List Thing) → things ≡ things_from Roots me h args
+    → map (λ (x : Thing). (x, thing_row (λ n. None) x)) things ≡ load_from Roots me h args
+bare_is me h args things is =
+    ap (map (λ (x : Thing). (x, thing_row (λ n. None) x))) (is ∙ firsts (thing_row (λ n. None)) (marks_of (λ n. None) [] args))
 
 -- nor are objects that were made to what is lacked
 pub lacking_same : (me : ℕ) (made : List Row) (h : Holdings) (load : List Loaded) → lacking_of me h load ≡ lacking_of me (with_made made h) load
 unfolding held_in
 lacking_same me made h load = refl
 
+abbrev thing_in : Loaded → Thing
+thing_in e = e.0
+
 abbrev with_weight : ℕ → Thing → Amount
 with_weight weight x = (x, weight)
 
-abbrev thing_in : Loaded → Thing
-thing_in e = e.0
+-- a test of things, on loaded ones
+tested : (p : Thing → Bool) (load : List Loaded) → filter p (map thing_in load) ≡ map thing_in (filter (λ (e : Loaded). p e.0) load)
+tested p [] = refl
+tested p (e ∷ load) = by (p e.0) (tested p load)
+  where
+    by : (b : Bool) → filter p (map thing_in load) ≡ map thing_in (filter (λ (f : Loaded). p f.0) load)
+        → cond b (e.0 ∷ filter p (map thing_in load)) (filter p (map thing_in load)) ≡ map thing_in (cond b (e ∷ filter (λ (f : Loaded). p f.0) load) (filter (λ (f : Loaded). p f.0) load))
+    by true rest = ap (λ xs. e.0 ∷ xs) rest
+    by false rest = rest
 
 weighed : (weight : ℕ) (load : List Loaded) → map (with_weight weight) (map thing_in load) ≡ map (λ (e : Loaded). with_weight weight e.0) load
 weighed weight [] = refl
 weighed weight (e ∷ load) = ap (λ xs. with_weight weight e.0 ∷ xs) (weighed weight load)
 
+minted : (weight b : ℕ) (load : List Loaded) → map (with_weight weight) (filter (λ x. owner_of x == b) (map thing_in load)) ≡ to_mint weight b load
+minted weight b load = ap (map (with_weight weight)) (tested (λ x. owner_of x == b) load) ∙ weighed weight (filter (λ (e : Loaded). owner_of e.0 == b) load)
+
+-- what is lacked of these things is that of the load
+pub lacked_in : (me : ℕ) (made : List Row) (h : Holdings) (load : List Loaded) (things : List Thing) → things ≡ map thing_in load
+    → filter (is_lacking me h) things ≡ map thing_in (lacking_of me (with_made made h) load)
+lacked_in me made h load things is =
+    ap (filter (is_lacking me h)) is ∙ tested (is_lacking me h) load ∙ ap (map thing_in) (lacking_same me made h load)
+
 same_pair : {A B : Type 0} (p q : A × B) → Some p ≡ Some q → p ≡ q
 same_pair p q e = cc
 
--- those of the first owner, with the weight
-pub first_minted : (weight : ℕ) (lacked : List Loaded) (owner : ℕ) (things : List Thing) → Some (owner, things) ≡ of_first_owner lacked
-    → Some (owner, map (λ (x : Thing). (x, weight)) things) ≡ minted_first weight lacked
-first_minted weight [] owner things e = cc
-first_minted weight (l ∷ lacked) owner things e =
-    let those = filter (λ (f : Loaded). owner_of f.0 == owner_of l.0) (l ∷ lacked) in
-    let p : ℕ × List Thing = (owner, things) in
-    let q : ℕ × List Thing = (owner_of l.0, map thing_in those) in
-    let same : p ≡ q = same_pair p q e in
-    let amounts : ℕ × List Thing → Option (ℕ × List Amount) = λ r. Some (r.0, map (with_weight weight) r.1) in
-    ap amounts same ∙ ap (λ xs. Some (owner_of l.0, xs)) (weighed weight those)
-
-pub none_minted : (weight : ℕ) (lacked : List Loaded) → None ≡ of_first_owner lacked → None ≡ minted_first weight lacked
-none_minted weight [] e = refl
-none_minted weight (l ∷ lacked) e = cc
-
 module _ (weight to behaviour : ℕ) (args : List Value) (load rows : List Loaded) where
-  pub mints : (lacked : List Loaded) (owner : ℕ) (things : List Amount) → Some (owner, things) ≡ minted_first weight lacked
+  pub mints : (lacked : List Loaded) (owner : ℕ) (things : List Amount) → Some (owner, things) ≡ of_first_owner weight (map thing_in lacked)
       → Mint owner things ≡ post_or_mint weight to behaviour args load rows lacked
   mints [] owner things e = cc
   mints (l ∷ lacked) owner things e =
       let p : ℕ × List Amount = (owner, things) in
       let q : ℕ × List Amount = (owner_of l.0, to_mint weight (owner_of l.0) (l ∷ lacked)) in
-      ap (λ (r : ℕ × List Amount). Mint r.0 r.1) (same_pair p q e)
+      ap (λ (r : ℕ × List Amount). Mint r.0 r.1) (same_pair p q (e ∙ ap (λ xs. Some (owner_of l.0, xs)) (minted weight (owner_of l.0) (l ∷ lacked))))
 
-  pub posts : (lacked : List Loaded) → None ≡ minted_first weight lacked → Post to (App behaviour args load rows) ≡ post_or_mint weight to behaviour args load rows lacked
+  pub posts : (lacked : List Loaded) → None ≡ of_first_owner weight (map thing_in lacked) → Post to (App behaviour args load rows) ≡ post_or_mint weight to behaviour args load rows lacked
   posts [] e = refl
   posts (l ∷ lacked) e = cc

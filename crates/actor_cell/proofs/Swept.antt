@@ -1,13 +1,13 @@
 -- The rows that a collection forgets.
-use Rattle.std.proofs.Common.{◌≡◌, Bool, false, not, [], refl, sym, ap, ◌∙◌}
+use Rattle.std.proofs.Common.{◌≡◌, Bool, false, not, refl, sym, ap, ◌∙◌}
 use Rattle.std.specs.FinMap as m
 use Rattle.orca_names.specs.declared.names.Thing.{Thing}
 use Rattle.orca_names.specs.declared.trace.Trace.{Trace}
 use Rattle.orca_names.specs.declared.trace.Trace.TheVariants.{Deep, Roots}
-use Rattle.orca_names.proofs.ThingOrder.{thing_exact, thing_total}
 use Rattle.letter_kinds.specs.Counting.{by_owner, given_back}
 use Rattle.letter_kinds.specs.Holdings.{Holdings}
 use Rattle.foreign_table.specs.Back.{BackRises, goes_back}
+use Rattle.foreign_table.proofs.BackLemmas.{all_stay}
 use Rattle.known_rows.specs.Holdings.{holdings_of}
 use Rattle.local_sweep.proofs.GivenBack.{back_rises, kept_entries}
 use Rattle.row_table.specs.Table.{Rows, as_held, row_in, rows_in, uncounted}
@@ -16,10 +16,6 @@ use Rattle.machine_rules.specs.Collect.{is_in_use, without_unused}
 use Rattle.actor_cell.specs.declared.cell.Cell.{Cell}
 use Rattle.actor_cell.specs.Cells.{as_cell}
 use Rattle.actor_cell.specs.Sweeps.{unused_of}
-
--- where nothing goes, all stay
-all_stay : (known : Rows) → m.retain_keys known (λ x. not (goes_back [] x)) ≡ known
-all_stay known = m.same_map thing_total thing_exact _ _ (λ q. m.get-retain_keys known (λ x. not (goes_back [] x)) q (λ x e. refl))
 
 -- what is kept of the entries is kept of the rows
 kept_rows : (marked : Thing → Bool) (h : Holdings) (known : Rows) → h.foreign ≡ uncounted known

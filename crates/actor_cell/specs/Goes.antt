@@ -1,5 +1,5 @@
 -- What a turn of an actor does.
-use Rattle.std.specs.Prelude.{ℕ, ◌<◌, ⊤, true, List, [], ◌∷◌, Option, Some, None, option_map, length, IsSomeAnd}
+use Rattle.std.specs.Prelude.{ℕ, ◌<◌, ⊤, true, List, [], ◌∷◌, Option, Some, None, option_map, length, map, IsSomeAnd}
 use Rattle.orca_names.specs.Names.{owner_of}
 use Rattle.orca_names.specs.declared.trace.Trace.{Trace}
 use Rattle.orca_names.specs.declared.limits.TheConstants.{REGISTERS}
@@ -12,7 +12,7 @@ use Rattle.turn_rules.specs.declared.act.Frame.{Frame}
 use Rattle.turn_rules.specs.Segment.{Stop, Turn}
 use Rattle.letter_kinds.specs.declared.letter.Letter.{Letter}
 use Rattle.letter_kinds.specs.declared.letter.Letter.TheVariants.{App, Inc, Dec, Confirm}
-use Rattle.letter_kinds.specs.Counting.{Amount, Loaded, mint_all, send, to_mint}
+use Rattle.letter_kinds.specs.Counting.{Loaded, mint_all, send, to_mint}
 use Rattle.letter_kinds.specs.Holdings.{Holdings, Row, with_made}
 use Rattle.trace_send.specs.Can.{CanSend}
 use Rattle.machine_rules.specs.Cell.{Cell}
@@ -24,6 +24,10 @@ use Rattle.actor_cell.specs.declared.turning.Move.TheVariants.{Post, Mint, New, 
 
 -- ---- what is found
 
+-- the things that a letter with these arguments loads
+abbrev pub things_from : Trace → ℕ → Holdings → List Value → List Thing
+things_from trace me h args = map (λ e. e.0) (load_from trace me h args)
+
 -- the letter with its load and rows; where the actor lacks some of the load, what it mints first for
 -- the owner of the first that it lacks
 abbrev pub post_or_mint : ℕ → ℕ → ℕ → List Value → List Loaded → List Loaded → List Loaded
@@ -31,12 +35,6 @@ abbrev pub post_or_mint : ℕ → ℕ → ℕ → List Value → List Loaded →
 post_or_mint weight to behaviour args load rows [] = Post to (App behaviour args load rows)
 post_or_mint weight to behaviour args load rows (e ∷ lacked) =
     Mint (owner_of e.0) (to_mint weight (owner_of e.0) (e ∷ lacked))
-
--- what is minted first for what is lacked: for the owner of the first
-abbrev pub minted_first : ℕ → List Loaded → Option (ℕ × List Amount)
-minted_first weight [] = None
-minted_first weight (e ∷ lacked) =
-    Some (owner_of e.0, to_mint weight (owner_of e.0) (e ∷ lacked))
 
 -- the register of a new actor is one of a frame
 abbrev pub FitsRegister : Act → Type 0

@@ -2,12 +2,11 @@
 
 ghost use Rattle.std.specs.Prelude.{◌≡◌, ◌+◌, ◌<◌, ◌≤◌, ◌^◌, IfOk, IsSome, OnOk, Some, length, map, option_map};
 ghost use Rattle.orca_names.specs.Names.{owner_of};
-ghost use Rattle.letter_kinds.specs.Counting.{lacking_of};
 ghost use Rattle.machine_rules.specs.Go.{lacking_from, load_from, needed, rows_from, to_need, turn_of_cell};
 ghost use Rattle.turn_step.specs.Turns.{HaltsAt, act_of};
 ghost use Rattle.actor_cell.specs.declared.turning.Move.TheVariants.{Mint as mint};
 ghost use Rattle.actor_cell.specs.Cells.{as_cell};
-ghost use Rattle.actor_cell.specs.Goes.{having_made, minted_first, move_by, post_or_mint, turned_in, FitsRegister};
+ghost use Rattle.actor_cell.specs.Goes.{having_made, move_by, post_or_mint, turned_in, FitsRegister};
 ghost use Rattle.actor_cell.specs.InTurn.{table_by};
 
 use crate::cell::Cell;
@@ -17,9 +16,10 @@ use behaviour_check::Checked;
 use behaviour_code::Name;
 use foreign_table::ForeignTable;
 use known_rows::KnownRows;
-use letter_kinds::{Amounts, Letter, Load};
+use letter_kinds::{Amounts, Letter};
 use orca_names::{ActorName, Args, NoMemory, Reading, Row, Thing, Trace};
 use plain_list::Listed;
+use reach_walk::ThingList;
 use root_trace::missing;
 use std::alloc::Global;
 use trace_send::lacking;
@@ -38,25 +38,6 @@ fn amounts_of(alloc: Global, things: &[Thing], weight: u32) -> Result<Amounts, N
 }
 
 impl Cell {
-    // What it mints before it can send a letter with this load.
-    fn minting(
-        &self,
-        alloc: Global,
-        weight: u32,
-        load: &Load,
-    ) -> Result<Option<(ActorName, Amounts)>, NoMemory>
-        ensures { let lacked = lacking_of self.now.heap.owner (as_cell self.now).holdings load.now in
-            IfOk result (λ found. found ≡ minted_first weight lacked) }
-    {
-        match lacking(alloc, load, self.heap.owner(), &self.foreign)? {
-            Some(lacked) => {
-                let amounts = amounts_of(alloc, lacked.1.as_slice(), weight)?;
-                Ok(Some((lacked.0, amounts)))
-            }
-            None => Ok(None),
-        }
-    }
-
     // The letter with its load and rows, or what it mints first.
     fn posting(
         &self,
@@ -75,8 +56,10 @@ impl Cell {
             (load_from trace me c.holdings args.now) (rows_from trace me c args.now)
             (lacking_from trace me c.holdings args.now)) }
     {
-        let load = self.load(alloc, trace, made, args)?;
-        match self.minting(alloc, weight, &load)? {
+        let mut things = ThingList::new(alloc);
+        self.find_things(alloc, trace, made, args, &mut things)?;
+        let me = self.heap.owner();
+        match lacking(alloc, things.as_slice(), me, &self.foreign, weight)? {
             Some(minted) => {
                 *act = Move::Mint {
                     owner: minted.0,
@@ -85,6 +68,7 @@ impl Cell {
                 Ok(())
             }
             None => {
+                let load = self.load(alloc, trace, made, things.as_slice())?;
                 let rows = self.carried(alloc, trace, made, args)?;
                 *act = Move::Post {
                     to,

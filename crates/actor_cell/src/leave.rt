@@ -1,6 +1,6 @@
 // Leave and reap: who goes gives back what it held on things of those who stay.
 
-ghost use Rattle.std.specs.Prelude.{◌≡◌, ◌<◌, ◌++◌, ◌∷◌, [], if◌then◌else◌, IfOk, List, Option, OnOk, Some, not, slice_get, ℕ};
+ghost use Rattle.std.specs.Prelude.{◌≡◌, ◌<◌, ◌++◌, ◌∷◌, [], if◌then◌else◌, IfOk, IsTrue, List, Option, OnOk, Some, not, slice_get, true, ℕ};
 ghost use Rattle.std.specs.FinMap as m;
 ghost use Rattle.std.specs.List.Sorted.{IsStrictlySortedBy};
 ghost use Rattle.std.specs.Ordering.{nat_cmp};
@@ -22,11 +22,29 @@ use orca_names::{ActorName, NoMemory};
 use plain_list::Listed;
 use std::alloc::Global;
 
+// Whether the actor stands where it does if those who go are numbered without a gap.
+#[tactic(auto, using(crate::proofs::Owners::has_at))]
+fn is_seen_at_once(gone: &[ActorName], actor: ActorName) -> bool
+    ensures { IsTrue result → has gone.now actor ≡ true }
+{
+    let Some(first) = gone.first() else {
+        return false;
+    };
+    let place = actor.0.wrapping_sub(first.0) as usize;
+    if place >= gone.len() {
+        return false;
+    }
+    gone[place] == actor
+}
+
 // Whether the actor is one of those who go.
 fn is_gone(gone: &[ActorName], actor: ActorName) -> bool
     requires { IsStrictlySortedBy nat_cmp gone.now }
     ensures { result ≡ has gone.now actor }
 {
+    if is_seen_at_once(gone, actor) {
+        return true;
+    }
     gone.binary_search(&actor).is_ok()
 }
 

@@ -1,21 +1,23 @@
 // What a letter loads, and which rows it carries.
 
-ghost use Rattle.std.specs.Prelude.{◌≡◌, IfOk};
+ghost use Rattle.std.specs.Prelude.{◌≡◌, IfOk, List, OnOk, map};
+ghost use Rattle.orca_names.specs.declared.names.Value.{Value as value};
 ghost use Rattle.orca_names.specs.declared.trace.Trace.TheVariants.{Deep as deep, Roots as roots};
-ghost use Rattle.letter_kinds.specs.Holdings.{with_made};
+ghost use Rattle.reach_walk.specs.Reach.{thing_row};
+ghost use Rattle.letter_kinds.specs.Holdings.{row_of, with_made};
 ghost use Rattle.machine_rules.specs.Go.{load_from, rows_from};
 ghost use Rattle.actor_cell.specs.Cells.{as_cell};
-ghost use Rattle.actor_cell.specs.Goes.{having_made};
+ghost use Rattle.actor_cell.specs.Goes.{having_made, things_from};
 
 use crate::cell::Cell;
 use crate::turn_rows::TurnRows;
 use foreign_table::ForeignTable;
 use known_rows::KnownRows;
 use letter_kinds::Load;
-use orca_names::{Args, NoMemory, Reading, Row, Trace};
+use orca_names::{Args, NoMemory, Reading, Row, Thing, Trace};
 use plain_list::Listed;
-use reach_walk::{Unplaced, load_of};
-use root_trace::{load_roots, rows_of};
+use reach_walk::{ThingList, Unplaced, find_loaded, with_rows};
+use root_trace::{find_loaded_roots, rows_of, without_rows};
 use std::alloc::Global;
 
 impl Cell {
@@ -33,34 +35,73 @@ impl Cell {
         }
     }
 
-    // All that these arguments reach, where the turn made these rows.
-    fn reached(&self, alloc: Global, made: &[Row], args: &Args) -> Result<Load, NoMemory>
+    // Finds the things that these arguments reach, where the turn made these rows.
+    fn find_reached(
+        &self,
+        alloc: Global,
+        made: &[Row],
+        args: &Args,
+        things: &mut ThingList,
+    ) -> Result<(), NoMemory>
         ensures { let h = with_made made.now (as_cell self.now).holdings in
-            IfOk result (λ load. load ≡ load_from deep self.now.heap.owner h args.now) }
+            OnOk result (things.new ≡ things_from deep self.now.heap.owner h args.now) }
     {
         let rows = self.rows_with(&self.foreign, made);
         let mut reader = Unplaced {
             of: Reading { rows: &rows },
         };
-        let load = load_of(alloc, args, &mut reader);
+        let found = find_loaded(alloc, args, &mut reader, things);
+        let Unplaced { of: _ } = reader;
+        found
+    }
+
+    // These things with their rows, where the turn made these.
+    fn rowed(&self, alloc: Global, made: &[Row], things: &[Thing]) -> Result<Load, NoMemory>
+        ensures { let rows = row_of self.now.heap.owner (with_made made.now (as_cell self.now).holdings) in
+            IfOk result (λ load. load ≡ map (λ x. (x, thing_row rows x)) things.now) }
+    {
+        let rows = self.rows_with(&self.foreign, made);
+        let mut reader = Unplaced {
+            of: Reading { rows: &rows },
+        };
+        let load = with_rows(alloc, things, &mut reader);
         let Unplaced { of: _ } = reader;
         load
     }
 
-    // What a letter with these arguments loads, where the turn made these rows.
-    pub(crate) fn load(
+    // Finds the things that a letter with these arguments loads, where the turn made these rows.
+    pub(crate) fn find_things(
         &self,
         alloc: Global,
         trace: Trace,
         made: &[Row],
         args: &Args,
-    ) -> Result<Load, NoMemory>
+        things: &mut ThingList,
+    ) -> Result<(), NoMemory>
         ensures { let h = with_made made.now (as_cell self.now).holdings in
-            IfOk result (λ load. load ≡ load_from trace self.now.heap.owner h args.now) }
+            OnOk result (things.new ≡ things_from trace self.now.heap.owner h args.now) }
     {
         match trace {
-            Trace::Deep => self.reached(alloc, made, args),
-            Trace::Roots => load_roots(alloc, args),
+            Trace::Deep => self.find_reached(alloc, made, args, things),
+            Trace::Roots => find_loaded_roots(alloc, args, things),
+        }
+    }
+
+    // What a letter loads whose arguments lead to these things, where the turn made these rows.
+    pub(crate) fn load(
+        &self,
+        alloc: Global,
+        trace: Trace,
+        made: &[Row],
+        things: &[Thing],
+    ) -> Result<Load, NoMemory>
+        ensures { let h = with_made made.now (as_cell self.now).holdings in
+            (args : List value) → things.now ≡ things_from trace self.now.heap.owner h args
+            → IfOk result (λ load. load ≡ load_from trace self.now.heap.owner h args) }
+    {
+        match trace {
+            Trace::Deep => self.rowed(alloc, made, things),
+            Trace::Roots => without_rows(alloc, things),
         }
     }
 

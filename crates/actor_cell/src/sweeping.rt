@@ -1,11 +1,7 @@
 // What a collection is found to do.
 
-ghost use Rattle.std.specs.Prelude.{◌≡◌, ◌≤◌, [], IfOk, length, vec_capacity};
-ghost use Rattle.actor_cell.specs.Outs.{letters_of};
-
-use crate::letters::{decs_of, letter_room};
-use letter_kinds::{Amounts, Letter, SweepPlan};
-use orca_names::{ActorName, NoMemory};
+use letter_kinds::{Amounts, SweepPlan};
+use orca_names::ActorName;
 use plain_list::Listed;
 use std::alloc::Global;
 
@@ -29,25 +25,5 @@ impl Sweep {
             },
             unused: Listed::new(alloc),
         }
-    }
-
-    /// Room for the letters that return what it gives back.
-    ///
-    /// # Errors
-    /// `NoMemory` where memory was refused.
-    pub fn letter_room(&self, alloc: Global) -> Result<Vec<(ActorName, Letter)>, NoMemory>
-        ensures none { IfOk result (λ room. room.items ≡ []) }
-        ensures room { IfOk result (λ room. length self.now.plan.back ≤ vec_capacity room) }
-    {
-        letter_room(alloc, self.plan.back.len())
-    }
-
-    /// The letters that return what it gives back, in the room that is handed in. It takes no memory.
-    pub fn into_letters(self, room: Vec<(ActorName, Letter)>) -> Vec<(ActorName, Letter)>
-        requires none { room.items ≡ [] }
-        requires room { length self.plan.back ≤ vec_capacity room }
-        ensures { result.items ≡ letters_of self.plan.back }
-    {
-        decs_of(room, self.plan.back.into_vec()).into_vec()
     }
 }

@@ -282,6 +282,7 @@ pub(crate) fn put_back_at(slots: &mut Vec<Slot>, a: usize, cell: Cell)
 
 /// Writes in both indexes whether the actor at this place has events.
 #[tactic(auto, using(crate::proofs::Changing::bits_follow))]
+#[inline(always)]
 pub(crate) fn put_bits(slots: &[Slot], acting: &mut ReadySet, settling: &mut ReadySet, a: u32)
     requires within { a < length slots.now }
     requires acting { length slots.now ≤ length acting.old }
@@ -297,6 +298,7 @@ pub(crate) fn put_bits(slots: &[Slot], acting: &mut ReadySet, settling: &mut Rea
 }
 
 /// Writes the same after a step of a turn: while the turn goes on, its actor has the same events.
+#[inline(always)]
 pub(crate) fn put_bits_in_turn(
     slots: &[Slot],
     acting: &mut ReadySet,

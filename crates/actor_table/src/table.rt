@@ -289,6 +289,7 @@ impl ActorTable {
     }
 
     /// One actor more, with this cell and these letters. It takes no memory.
+    #[inline(always)]
     pub fn push_actor(&mut self, cell: Cell, mail: MailRow)
         requires room { 0 < self.old.spare }
         requires few { length self.old.slots < ACTORS_LIMIT }

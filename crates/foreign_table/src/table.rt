@@ -160,6 +160,7 @@ impl ForeignTable {
     ///
     /// # Errors
     /// `NoMemory` where memory was refused; all but the room is then as before.
+    #[inline(always)]
     pub fn reserve(&mut self, n: usize) -> Result<(), NoMemory>
         ensures room { OnOk result (n ≤ self.new.spare) }
         ensures more { self.old.spare ≤ self.new.spare }
@@ -244,6 +245,9 @@ impl ForeignTable {
         requires { BackRises back.now }
         ensures { self.new ≡ given_up back.now self.old }
     {
+        if back.is_empty() {
+            return;
+        }
         keep_others(&mut self.held, &mut self.rows, back);
     }
 

@@ -208,6 +208,7 @@ impl Places for KnownPlaces<'_> {
         self.count
     }
 
+    #[inline(always)]
     fn place_of(&self, thing: &Thing) -> Option<usize> {
         let owner = self.rows.heap.owner();
         if thing.owner() != owner {

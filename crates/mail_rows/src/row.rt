@@ -43,6 +43,7 @@ impl MailRow {
     ///
     /// # Errors
     /// `NoMemory` where memory was refused; the letters are then as before.
+    #[inline(always)]
     pub fn reserve(&mut self, n: usize) -> Result<(), NoMemory>
         ensures letters { self.new.letters ≡ self.old.letters }
         ensures kept { self.old.spare ≤ self.new.spare }

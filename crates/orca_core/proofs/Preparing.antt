@@ -19,8 +19,6 @@ use Rattle.orca_names.specs.declared.trace.Trace.{Trace}
 use Rattle.letter_kinds.specs.Counting.{by_owner, given_back}
 use Rattle.known_rows.specs.Holdings.{holdings_of}
 use Rattle.local_sweep.proofs.GivenBack.{back_rises}
-use Rattle.std.specs.Global.{Vec}
-use Rattle.std.specs.Vec.{vec_capacity}
 use Rattle.actor_cell.specs.declared.cell.Cell.{Cell}
 use Rattle.actor_cell.specs.Cells.{as_cell}
 use Rattle.actor_cell.specs.Outs.{left_behind, letters_of, report_of}
@@ -160,10 +158,10 @@ module _ (a : ℕ) (m : Parts) (old : List Slot) (places : places_of m.table.slo
     fit = fit;
   }
 
-  pub fits_collect : (trace : Trace) (found : Sweep) (room : Vec (ℕ × Letter)) (c : Cell) → Some c ≡ home_of (slot_at old a) → c.heap.owner ≡ a
-      → may_at may_collect (slot_at old a) ≡ true → found ≡ sweep_of trace c → room.items ≡ [] → length found.plan.back ≤ vec_capacity room
-      → FitLetters (letters_of found.plan.back) m.table.slots → FitsCollect trace a found room m
-  fits_collect trace found room c lent own may is none enough fit = record {
+  pub fits_collect : (trace : Trace) (found : Sweep) (c : Cell) → Some c ≡ home_of (slot_at old a) → c.heap.owner ≡ a
+      → may_at may_collect (slot_at old a) ≡ true → found ≡ sweep_of trace c
+      → FitLetters (letters_of found.plan.back) m.table.slots → FitsCollect trace a found m
+  fits_collect trace found c lent own may is fit = record {
     cell = c;
     home = home_still c lent;
     may = may_still may_collect c lent may;
@@ -172,8 +170,6 @@ module _ (a : ℕ) (m : Parts) (old : List Slot) (places : places_of m.table.slo
       back_is = ap (λ (f : Sweep). f.plan.back) is ∙ back_same c.count c.heap c.foreign (is_marked trace c.heap.owner (as_cell c))
           ∙ ap (λ me. by_owner (given_back (is_marked trace me (as_cell c)) (as_cell c).holdings)) own;
     };
-    none = none;
-    enough = enough;
     fit = fit;
   }
 

@@ -1,5 +1,5 @@
 -- What the state of the machine allows, and for what it has room.
-use Rattle.std.specs.Prelude.{ℕ, ◌≡◌, ◌<◌, ◌≤◌, true, false, Bool, List, [], ◌∷◌, Option, None, Some, length, set}
+use Rattle.std.specs.Prelude.{ℕ, ◌≡◌, ◌<◌, true, false, Bool, List, [], ◌∷◌, Option, None, Some, set}
 use Rattle.letter_kinds.specs.declared.letter.Letter.{Letter}
 use Rattle.letter_kinds.specs.declared.note.Note.{Note}
 use Rattle.letter_kinds.specs.Detector.{Token, closed_set}
@@ -14,8 +14,6 @@ use Rattle.actor_cell.specs.declared.sweeping.Sweep.{Sweep}
 use Rattle.actor_cell.specs.Cells.{as_cell}
 use Rattle.actor_cell.specs.Outs.{left_behind, letters_of, report_of, returning}
 use Rattle.actor_cell.specs.Sweeps.{sweep_of}
-use Rattle.std.specs.Global.{Vec}
-use Rattle.std.specs.Vec.{vec_capacity}
 use Rattle.std.specs.VecDeque.{deque_capacity, deque_len}
 use Rattle.behaviour_code.specs.declared.code.Program.{Program}
 use Rattle.machine_rules.specs.Guards.{may_block, may_collect, may_leave}
@@ -88,16 +86,12 @@ pub record FitsTake (a : ℕ) (m : Parts) : Type 0 where
   pub room : HasRoomFor letter cell.foreign.spare cell.known.spare
   pub note : cell.reported ≡ true → deque_len m.notes < deque_capacity m.notes
 
--- the sweep is that of the actor with this tracing, there is room to make the letters that return what
--- it gives back, and they fit
-pub record FitsCollect (trace : Trace) (a : ℕ) (found : Sweep) (room : Vec (ℕ × Letter)) (m : Parts)
-    : Type 0 where
+-- the sweep is that of the actor with this tracing, and the letters that return what it gives back fit
+pub record FitsCollect (trace : Trace) (a : ℕ) (found : Sweep) (m : Parts) : Type 0 where
   pub cell : Cell
   pub home : (slot_at m.table.slots a).place ≡ Home cell
   pub may : may_collect (as_cell cell) (slot_at m.table.slots a).mail.letters ≡ true
   pub collects : CollectsWith trace a found cell
-  pub none : room.items ≡ []
-  pub enough : length found.plan.back ≤ vec_capacity room
   pub fit : FitLetters (letters_of found.plan.back) m.table.slots
 
 -- the actor may leave, the letters return what it held, and fit

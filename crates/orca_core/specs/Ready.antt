@@ -17,7 +17,7 @@ event_of ready = ready.event
 abbrev pub FitsEvent : Trace → ℕ → Program → Event → Parts → Type 0
 FitsEvent trace weight program (Take a) m = FitsTake a m
 FitsEvent trace weight program (Go a) m = FitsGo trace weight program a m.turned m
-FitsEvent trace weight program (Collect a) m = FitsCollect trace a m.sweep m.letters m
+FitsEvent trace weight program (Collect a) m = FitsCollect trace a m.sweep m
 FitsEvent trace weight program (Leave a) m = FitsLeave a m.letters.items m
 FitsEvent trace weight program (Block a) m = FitsBlock a m
 FitsEvent trace weight program Hear m = CanHearFirst m.notes.items m.detector

@@ -20,21 +20,20 @@ ghost use Rattle.orca_core.specs.Parts.{state_of};
 ghost use Rattle.orca_core.specs.Woken.{IsLowestWoken};
 
 use crate::fault::StepFault;
-use crate::letters::{push_all, reserve_each};
+use crate::letters::{push_decs, reserve_each};
 use crate::parts::Parts;
 use actor_cell::Sweep;
 use orca_names::{ActorName, Trace};
+use plain_list::Listed;
 use std::alloc::Global;
 use std::mem;
 
-/// Room to make the letters that return what the sweep gives back, and the memory for these. Nothing
-/// changes but room.
+/// The memory for the letters that return what the sweep gives back. Nothing changes but room.
 ///
 /// # Errors
 /// `NoMemory` where memory was refused.
 #[tactic(auto, using(crate::proofs::Preparing::only_room))]
 pub(crate) fn prepare_sweep(
-    alloc: Global,
     trace: Trace,
     parts: &mut Parts,
     a: ActorName,
@@ -44,23 +43,19 @@ pub(crate) fn prepare_sweep(
     requires found { HasCell (slot_at parts.old.table.slots a)
         (λ c. (c.heap.owner ≡ a) × (found ≡ sweep_of trace c)) }
     ensures same { OnlyRoom parts.old parts.new }
-    ensures ok { OnOk result (FitsCollect trace a parts.new.sweep parts.new.letters parts.new) }
+    ensures ok { OnOk result (FitsCollect trace a parts.new.sweep parts.new) }
     ensures fault { IfErr result (λ fault. fault ≡ NoMemory) }
 {
     let _trace = trace;
-    let Ok(room) = found.letter_room(alloc) else {
-        return Err(StepFault::NoMemory);
-    };
     if reserve_each(&mut parts.table, found.plan.back.as_slice()).is_err() {
         return Err(StepFault::NoMemory);
     }
     parts.sweep = found;
-    parts.letters = room;
     Ok(())
 }
 
-/// What the actor's collection does, room to make the letters that return what it gives back, and the
-/// memory for these. Nothing changes.
+/// What the actor's collection does, and the memory for the letters that return what it gives back.
+/// Nothing changes.
 ///
 /// # Errors
 /// `NotEnabled` exactly where the actor may not collect, or its cell is away. `NoMemory` where memory
@@ -75,7 +70,7 @@ pub(crate) fn prepare_collect(
     requires { (c : Cell) → (slot_at parts.old.table.slots a).place ≡ Home c → c.heap.owner ≡ a
         → KnowsOthersOnly c }
     ensures same { OnlyRoom parts.old parts.new }
-    ensures ok { OnOk result (FitsCollect trace a parts.new.sweep parts.new.letters parts.new) }
+    ensures ok { OnOk result (FitsCollect trace a parts.new.sweep parts.new) }
     ensures fault { let away = away_of parts.old.table.slots in
         (program : Program) (options : Options) → IfErr result
         (IsFault (next_without away (state_of program options parts.old) (collect_event a)) (collect_event a)) }
@@ -89,7 +84,7 @@ pub(crate) fn prepare_collect(
     let Ok(found) = cell.found_collect(alloc, trace) else {
         return Err(StepFault::NoMemory);
     };
-    prepare_sweep(alloc, trace, parts, a, found)
+    prepare_sweep(trace, parts, a, found)
 }
 
 /// The actor's collection is done as it was found, and the lowest to whom a letter goes is told. It
@@ -100,7 +95,7 @@ pub(crate) fn apply_collect(
     trace: Trace,
     a: ActorName,
 ) -> Option<ActorName>
-    requires { FitsCollect trace a parts.old.sweep parts.old.letters parts.old }
+    requires { FitsCollect trace a parts.old.sweep parts.old }
     ensures state { (program : Program) (options : Options) → options.trace ≡ trace
         → next (state_of program options parts.old) (collect_event a)
         ≡ Goes (state_of program options parts.new) }
@@ -109,7 +104,6 @@ pub(crate) fn apply_collect(
 {
     let _trace = trace;
     parts.table.collect(a, &parts.sweep);
-    let found = mem::replace(&mut parts.sweep, Sweep::new(alloc));
-    let room = mem::replace(&mut parts.letters, Vec::new(alloc));
-    push_all(&mut parts.table, found.into_letters(room))
+    let back = mem::replace(&mut parts.sweep.plan.back, Listed::new(alloc));
+    push_decs(&mut parts.table, back.into_vec())
 }

@@ -108,6 +108,7 @@ fn makes(act: &Move) -> bool
 /// # Errors
 /// `ActorsFull` exactly where the act would make an actor too many, and `NoMemory` where memory was
 /// refused.
+#[inline(always)]
 pub(crate) fn prepare_turn(parts: &mut Parts, a: ActorName) -> Result<(), StepFault>
     requires few { length parts.old.turn.made ≤ BODY_LIMIT }
     ensures same { OnlyRoom parts.old parts.new }

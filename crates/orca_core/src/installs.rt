@@ -64,7 +64,6 @@ fn install_go(
 
 // Takes all memory for what was found of the actor's collection; the state stays as it was.
 fn install_collect(
-    alloc: Global,
     trace: Trace,
     parts: &mut Parts,
     a: ActorName,
@@ -73,7 +72,7 @@ fn install_collect(
     requires found { (weight : ℕ) × (program : Program)
         × IsFoundAt trace weight program found (slot_at parts.old.table.slots a) }
     ensures same { OnlyRoom parts.old parts.new }
-    ensures ok { OnOk result (FitsCollect trace a parts.new.sweep parts.new.letters parts.new) }
+    ensures ok { OnOk result (FitsCollect trace a parts.new.sweep parts.new) }
     ensures fault { let away = away_of parts.old.table.slots in
         (program : Program) (options : Options) → IfErr result
         (IsFault (next_without away (state_of program options parts.old) (collect_event a)) (collect_event a)) }
@@ -87,7 +86,7 @@ fn install_collect(
     let Some(_cell) = parts.table.cell(a) else {
         unreachable!();
     };
-    prepare_sweep(alloc, trace, parts, a, sweep)
+    prepare_sweep(trace, parts, a, sweep)
 }
 
 // Takes all memory for what the event does, of which this was found. Nothing changes but room.
@@ -110,7 +109,7 @@ fn install(
 {
     match *e {
         Event::Go(actor) => install_go(code, weight, trace, parts, actor, found),
-        Event::Collect(actor) => install_collect(alloc, trace, parts, actor, found),
+        Event::Collect(actor) => install_collect(trace, parts, actor, found),
         _ => prepare(alloc, code, weight, trace, parts, e),
     }
 }

@@ -139,3 +139,23 @@ pub(crate) fn push_all(
     }
     lowest
 }
+
+/// To each owner goes a decrement of its things, in their order, and the lowest that gets one is told;
+/// one for an actor that is gone is lost.
+pub(crate) fn push_decs(
+    table: &mut ActorTable,
+    groups: Vec<(ActorName, Amounts)>,
+) -> Option<ActorName>
+    requires { FitLetters (letters_of groups.items) table.old.slots }
+    ensures actors { actors_of table.new.slots
+        ≡ push_all (letters_of groups.items) (actors_of table.old.slots) }
+    ensures away { away_of table.new.slots ≡ away_of table.old.slots }
+    ensures woken { IsLowestWoken (actors_of table.old.slots) (actors_of table.new.slots) result }
+{
+    let mut lowest = None;
+    for group in groups {
+        let woken = post(table, group.0, Letter::Dec { things: group.1 });
+        lowest = lower(lowest, woken);
+    }
+    lowest
+}

@@ -25,7 +25,7 @@ pub(crate) struct Parts {
     pub turned: Turned,
     /// What the collection frees, gives back and forgets.
     pub sweep: Sweep,
-    /// The letters that the event gives out, or room for them.
+    /// The letters that the event gives out.
     pub letters: Vec<(ActorName, Letter)>,
     /// What the actor reports.
     pub report: Option<Note>,

@@ -12,7 +12,7 @@ over_nothing : (rows : ObjName → Option (List Value)) (n : ℕ) → led_over r
 over_nothing rows zero = refl
 over_nothing rows (suc n) = over_nothing rows n
 
-marks_of-nothing : (rows : ObjName → Option (List Value)) (all : List ObjName)
+pub marks_of-nothing : (rows : ObjName → Option (List Value)) (all : List ObjName)
     (roots : List Value) → named_by roots ≡ [] → marks_of rows all roots ≡ []
 unfolding marks_of led_to
 marks_of-nothing rows all roots none =

@@ -18,10 +18,11 @@ mod walk_rows;
 
 pub use edges::Edges;
 pub use laws::{loads_are_exact, marks_are_exact, marks_are_unique};
-pub use load::{load_of, load_within};
+pub use load::{find_loaded, load_of, load_within, with_rows};
 pub use marks::{Marks, mark, mark_bits, mark_within};
 pub use places::{PlacedRows, Places};
 pub use reach::walk;
+pub use thing_list::ThingList;
 pub use unplaced::Unplaced;
 
 #[cfg(test)]

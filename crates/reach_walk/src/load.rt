@@ -1,12 +1,13 @@
 // Loads: what a letter's arguments reach, with the rows.
 
-ghost use Rattle.std.specs.Prelude.{◌≡◌, ◌↔◌, ◌+◌, ◌*◌, ◌<◌, ◌≤◌, [], IfOk, IsOk, IsTrue, length, map};
-ghost use Rattle.reach_walk.specs.Marks.{load_of as its_load};
+ghost use Rattle.std.specs.Prelude.{◌≡◌, ◌↔◌, ◌+◌, ◌*◌, ◌<◌, ◌≤◌, [], IfOk, IsOk, IsTrue, OnOk, length, map};
+ghost use Rattle.reach_walk.specs.Marks.{load_of as its_load, marks_of};
 ghost use Rattle.reach_walk.specs.Reach.{named_by, thing_row};
 
 use crate::places::PlacedRows;
 use crate::reading::read_row;
 use crate::seen::Seen;
+use crate::thing_list::ThingList;
 use crate::walk_rows::{walk_freely, walk_rows};
 use orca_names::{Args, NoMemory, Row, Thing, Value};
 use plain_list::Listed;
@@ -27,8 +28,12 @@ fn names_nothing(values: &[Value]) -> bool
     true
 }
 
-// Each thing with its row.
-fn with_rows<R: PlacedRows>(
+/// Each of these things with its row.
+///
+/// # Errors
+/// `NoMemory` where memory was refused.
+#[inline(always)]
+pub fn with_rows<R: PlacedRows>(
     alloc: Global,
     things: &[Thing],
     rows: &mut R,
@@ -79,6 +84,37 @@ pub fn load_within<R: PlacedRows, L: Ledger>(
     with_rows(alloc, seen.things.as_slice(), rows)
 }
 
+/// Finds the things of the load of a letter with these arguments: all that they reach, in the order
+/// of things. Where no argument names a thing, it takes no memory.
+///
+/// # Errors
+/// `NoMemory` where memory was refused; what `things` holds then is left open.
+#[inline(always)]
+pub fn find_loaded<R: PlacedRows>(
+    alloc: Global,
+    args: &Args,
+    rows: &mut R,
+    things: &mut ThingList,
+) -> Result<(), NoMemory>
+    ensures things { OnOk result
+        (things.new ≡ marks_of (R.rows rows.old) (R.all rows.old) args.now) }
+    ensures nothing { named_by args.now ≡ [] → IsOk result }
+    ensures rows { (R.rows rows.new ≡ R.rows rows.old) × (R.all rows.new ≡ R.all rows.old) }
+    ensures places { (R.place rows.new ≡ R.place rows.old) × (R.count rows.new ≡ R.count rows.old) }
+{
+    if names_nothing(args.as_slice()) {
+        things.clear();
+        return Ok(());
+    }
+    let bits = PlaceSet::with_places(alloc, rows.places())?;
+    let mut seen = Seen::new(alloc, bits);
+    walk_freely(rows, &mut seen, args.as_slice())?;
+    seen.sort(rows)?;
+    let Seen { things: found, .. } = seen;
+    *things = found;
+    Ok(())
+}
+
 /// The load of a letter with these arguments: each thing that they reach, with its row. Where no
 /// argument names a thing, it takes no memory.
 ///
@@ -98,9 +134,7 @@ pub fn load_of<R: PlacedRows>(
     if names_nothing(args.as_slice()) {
         return Ok(Listed::new(alloc));
     }
-    let bits = PlaceSet::with_places(alloc, rows.places())?;
-    let mut seen = Seen::new(alloc, bits);
-    walk_freely(rows, &mut seen, args.as_slice())?;
-    seen.sort(rows)?;
-    with_rows(alloc, seen.things.as_slice(), rows)
+    let mut things = ThingList::new(alloc);
+    find_loaded(alloc, args, rows, &mut things)?;
+    with_rows(alloc, things.as_slice(), rows)
 }

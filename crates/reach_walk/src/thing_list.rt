@@ -14,7 +14,7 @@ pub(crate) const FEW: usize = 8;
 /// Things in the order in which they came, seen by contracts as that list. A short list takes no
 /// memory.
 #[derive(Drop)]
-pub(crate) struct ThingList {
+pub struct ThingList {
     // The first of these, unless they are many.
     few: [Thing; FEW],
     count: usize,
@@ -37,7 +37,7 @@ impl Model for ThingList {
 
 impl ThingList {
     /// No things yet.
-    pub(crate) fn new(alloc: Global) -> ThingList
+    pub fn new(alloc: Global) -> ThingList
         ensures { result ≡ [] }
     {
         ThingList {
@@ -59,7 +59,7 @@ impl ThingList {
     }
 
     /// The things, in their order.
-    pub(crate) fn as_slice(&self) -> &[Thing]
+    pub fn as_slice(&self) -> &[Thing]
         ensures { result.now ≡ self.now }
     {
         if self.many.is_empty() {

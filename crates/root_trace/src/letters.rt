@@ -1,23 +1,34 @@
 // What a letter loads, and which rows it carries.
 
-ghost use Rattle.std.specs.Prelude.{◌≡◌, IfOk};
-ghost use Rattle.reach_walk.specs.Marks.{load_of as deep_load, load_roots as root_load};
+ghost use Rattle.std.specs.Prelude.{◌≡◌, [], None, IfOk, OnOk, map};
+ghost use Rattle.reach_walk.specs.Marks.{load_of as deep_load, marks_of};
+ghost use Rattle.reach_walk.specs.Reach.{thing_row};
 
 use crate::nowhere::NoRows;
 use letter_kinds::Load;
-use orca_names::{Args, NoMemory};
-use reach_walk::{PlacedRows, Unplaced, load_of};
+use orca_names::{Args, NoMemory, Thing};
+use reach_walk::{PlacedRows, ThingList, Unplaced, find_loaded, load_of, with_rows};
 use std::alloc::Global;
 
-/// The load of a letter: the things that stand in its arguments, and the owners of these, each
-/// once.
+/// Finds the things of the load of a letter: those that stand in its arguments, and the owners of
+/// these, each once, in the order of things.
+///
+/// # Errors
+/// `NoMemory` where memory was refused; what `things` holds then is left open.
+pub fn find_loaded_roots(alloc: Global, args: &Args, things: &mut ThingList) -> Result<(), NoMemory>
+    ensures { OnOk result (things.new ≡ marks_of (λ n. None) [] args.now) }
+{
+    find_loaded(alloc, args, &mut Unplaced { of: NoRows }, things)
+}
+
+/// The load of a letter with these things, none of which comes with its row.
 ///
 /// # Errors
 /// `NoMemory` where memory was refused.
-pub fn load_roots(alloc: Global, args: &Args) -> Result<Load, NoMemory>
-    ensures { IfOk result (λ load. load ≡ root_load args.now) }
+pub fn without_rows(alloc: Global, things: &[Thing]) -> Result<Load, NoMemory>
+    ensures { IfOk result (λ load. load ≡ map (λ x. (x, thing_row (λ n. None) x)) things.now) }
 {
-    load_of(alloc, args, &mut Unplaced { of: NoRows })
+    with_rows(alloc, things, &mut Unplaced { of: NoRows })
 }
 
 /// What a letter carries uncounted: all that its arguments reach through the rows that the sender

@@ -11,7 +11,7 @@ mod own_rows;
 mod plans;
 
 pub use in_use::plan_in_use;
-pub use letters::{load_roots, rows_of};
+pub use letters::{find_loaded_roots, rows_of, without_rows};
 pub use needs::missing;
 pub use plans::plan_roots;
 

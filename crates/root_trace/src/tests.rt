@@ -1,11 +1,11 @@
 // What letters load and carry, what a thing that was got lets its taker lack, and what is freed.
 
 use crate::nowhere::NoRows;
-use crate::{load_roots, missing, plan_roots, rows_of};
+use crate::{find_loaded_roots, missing, plan_roots, rows_of, without_rows};
 use foreign_table::ForeignTable;
 use object_heap::ObjectHeap;
 use orca_names::{ActorName, Args, Fields, NoMemory, ObjName, Row, Serial, Thing, Value};
-use reach_walk::Unplaced;
+use reach_walk::{ThingList, Unplaced};
 use std::test::Fail;
 
 fn object(serial: u64) -> ObjName {
@@ -29,7 +29,12 @@ fn loads_are_what_stands_in_letters(rt: HostRuntime) -> Result<(), Fail> {
         (Thing::Obj(object(1)), None),
         (Thing::Actor(ActorName(7)), None),
     ];
-    assert_eq!(rt; load_roots(alloc, &args)?.as_slice(), load.as_slice());
+    let mut things = ThingList::new(alloc);
+    find_loaded_roots(alloc, &args, &mut things)?;
+    assert_eq!(rt;
+        without_rows(alloc, things.as_slice())?.as_slice(),
+        load.as_slice()
+    );
     let mut known = Unplaced { of: NoRows };
     assert_eq!(rt;
         rows_of(alloc, &args, &mut known)?.as_slice(),

@@ -4,12 +4,12 @@ use Rattle.std.specs.Prelude.{slice_get, option_map}
 use Rattle.std.specs.List.{filter}
 use Rattle.orca_names.specs.Names.{owner_of}
 use Rattle.orca_names.specs.declared.names.Thing.{Thing}
-use Rattle.letter_kinds.specs.Counting.{Loaded, lacking_of}
+use Rattle.letter_kinds.specs.Counting.{Amount, is_lacking}
 use Rattle.letter_kinds.specs.Holdings.{held_in}
 use Rattle.foreign_table.specs.Table.{Table}
 use Rattle.object_heap.specs.Heap.{Heap}
 use Rattle.known_rows.specs.Holdings.{holdings_of}
-use Rattle.trace_send.specs.Lacking.{lacked_by, of_first_owner}
+use Rattle.trace_send.specs.Lacking.{is_lacked, of_first_owner}
 
 module _ {X : Type 0} (p : X → Bool) where
   cons_not_nil : {A : Type 0} (x : X) (xs : List X) → x ∷ xs ≡ [] → A
@@ -40,17 +40,17 @@ module _ {X : Type 0} (p : X → Bool) where
 same_owner : (a b : ℕ) → Some a ≡ Some b → a ≡ b
 same_owner a b e = cc
 
-pub answers_first : (lacked : List Loaded) (owner : ℕ) (things : List Thing) → Some owner ≡ option_map (λ (e : Loaded). owner_of e.0) (slice_get lacked 0) → things ≡ map (λ (e : Loaded). e.0) (filter (λ (e : Loaded). owner_of e.0 == owner) lacked) → Some (owner, things) ≡ of_first_owner lacked
-answers_first [] owner things e h = cc
-answers_first (l ∷ lacked) owner things e h =
-    let same = same_owner owner (owner_of l.0) e in
-    (λ i. Some (same i, h i)) ∙ ap (λ o. Some (owner_of l.0, map (λ (f : Loaded). f.0) (filter (λ (f : Loaded). owner_of f.0 == o) (l ∷ lacked)))) same
+pub answers_first : (weight : ℕ) (lacked : List Thing) (owner : ℕ) (amounts : List Amount) → Some owner ≡ option_map owner_of (slice_get lacked 0) → amounts ≡ map (λ x. (x, weight)) (filter (λ x. owner_of x == owner) lacked) → Some (owner, amounts) ≡ of_first_owner weight lacked
+answers_first weight [] owner amounts e h = cc
+answers_first weight (x ∷ lacked) owner amounts e h =
+    let same = same_owner owner (owner_of x) e in
+    (λ i. Some (same i, h i)) ∙ ap (λ o. Some (owner_of x, map (λ (y : Thing). (y, weight)) (filter (λ (y : Thing). owner_of y == o) (x ∷ lacked)))) same
 
-pub answers_none : (lacked : List Loaded) → None ≡ option_map (λ (e : Loaded). owner_of e.0) (slice_get lacked 0) → None ≡ of_first_owner lacked
-answers_none [] e = refl
-answers_none (l ∷ lacked) e = cc
+pub answers_none : (weight : ℕ) (lacked : List Thing) → None ≡ option_map owner_of (slice_get lacked 0) → None ≡ of_first_owner weight lacked
+answers_none weight [] e = refl
+answers_none weight (x ∷ lacked) e = cc
 
 -- what is lacked is that of the definition
-pub lacking-is : (me count : ℕ) (heap : Heap) (foreign : Table) (load : List Loaded) → lacked_by me foreign load ≡ lacking_of me (holdings_of count heap foreign) load
+pub lacking-is : (me count : ℕ) (heap : Heap) (foreign : Table) (things : List Thing) → filter (is_lacked me foreign) things ≡ filter (is_lacking me (holdings_of count heap foreign)) things
 unfolding held_in
-lacking-is me count heap foreign load = refl
+lacking-is me count heap foreign things = refl

@@ -2,14 +2,14 @@
 
 ghost use Rattle.std.specs.Prelude.{◌≡◌, ℕ, ◌==◌, ◌&&◌, IfOk, filter, map, slice_get, option_map};
 ghost use Rattle.orca_names.specs.Names.{owner_of};
-ghost use Rattle.letter_kinds.specs.Counting.{lacking_of};
+ghost use Rattle.letter_kinds.specs.Counting.{is_lacking};
 ghost use Rattle.object_heap.specs.Heap.{Heap};
 ghost use Rattle.known_rows.specs.Holdings.{holdings_of};
-ghost use Rattle.trace_send.specs.Lacking.{is_lacked as is_short, lacked_by, of_first_owner};
+ghost use Rattle.trace_send.specs.Lacking.{is_lacked as is_short, of_first_owner};
 
 use foreign_table::ForeignTable;
-use letter_kinds::Load;
-use orca_names::{ActorName, NoMemory, Row, Thing};
+use letter_kinds::Amounts;
+use orca_names::{ActorName, NoMemory, Thing};
 use plain_list::Listed;
 use std::alloc::Global;
 
@@ -24,17 +24,13 @@ fn is_lacked(thing: &Thing, me: ActorName, foreign: &ForeignTable) -> bool
 }
 
 // The owner of the first thing that is lacked.
-fn first_owner(
-    load: &[(Thing, Option<Row>)],
-    me: ActorName,
-    foreign: &ForeignTable,
-) -> Option<ActorName>
-    ensures { let first = slice_get (lacked_by me foreign.now load.now) 0 in
-        result ≡ option_map (λ e. owner_of e.0) first }
+fn first_owner(things: &[Thing], me: ActorName, foreign: &ForeignTable) -> Option<ActorName>
+    ensures { let first = slice_get (filter (is_short me foreign.now) things.now) 0 in
+        result ≡ option_map owner_of first }
 {
-    for loaded in load {
-        if is_lacked(&loaded.0, me, foreign) {
-            return Some(loaded.0.owner());
+    for thing in things {
+        if is_lacked(thing, me, foreign) {
+            return Some(thing.owner());
         }
     }
     None
@@ -50,46 +46,48 @@ fn is_lacked_of(thing: &Thing, me: ActorName, foreign: &ForeignTable, owner: Act
     is_lacked(thing, me, foreign)
 }
 
-// Those things that are lacked and have this owner.
+// Those things that are lacked and have this owner, each with the weight.
 fn lacked_of(
     alloc: Global,
-    load: &[(Thing, Option<Row>)],
+    things: &[Thing],
     me: ActorName,
     foreign: &ForeignTable,
     owner: ActorName,
-) -> Result<Listed<Thing>, NoMemory>
-    ensures { let its = filter (λ e. is_short me foreign.now e.0 && (owner_of e.0 == owner)) load.now in
-        IfOk result (λ things. things ≡ map (λ e. e.0) its) }
+    weight: u32,
+) -> Result<Amounts, NoMemory>
+    ensures { let its = filter (λ x. is_short me foreign.now x && (owner_of x == owner)) things.now in
+        IfOk result (λ amounts. amounts ≡ map (λ x. (x, weight)) its) }
 {
-    let mut things = Listed::new(alloc);
-    for loaded in load {
-        if is_lacked_of(&loaded.0, me, foreign, owner) {
-            things.push(loaded.0)?;
+    let mut amounts = Listed::new(alloc);
+    for thing in things {
+        if is_lacked_of(thing, me, foreign, owner) {
+            amounts.push((*thing, u64::from(weight)))?;
         }
     }
-    Ok(things)
+    Ok(amounts)
 }
 
-/// What the sender of a letter with this load has to mint before it can send: of the owners whose
-/// things it lacks, the first one, which is the lowest, and those of its things. `None` exactly
-/// where it lacks none.
+/// What the sender of a letter that loads these things has to mint before it can send: of the owners
+/// whose things it lacks, the first one, which is the lowest where things are in order, and those of
+/// its things, each with the weight. `None` exactly where it lacks none.
 ///
 /// # Errors
 /// `NoMemory` where memory was refused.
 pub fn lacking(
     alloc: Global,
-    load: &Load,
+    things: &[Thing],
     me: ActorName,
     foreign: &ForeignTable,
-) -> Result<Option<(ActorName, Listed<Thing>)>, NoMemory>
+    weight: u32,
+) -> Result<Option<(ActorName, Amounts)>, NoMemory>
     ensures { (count : ℕ) (heap : Heap) →
-        let lacked = lacking_of me (holdings_of count heap foreign.now) load.now in
-        IfOk result (λ found. found ≡ of_first_owner lacked) }
+        let lacked = filter (is_lacking me (holdings_of count heap foreign.now)) things.now in
+        IfOk result (λ found. found ≡ of_first_owner weight lacked) }
 {
-    match first_owner(load.as_slice(), me, foreign) {
+    match first_owner(things, me, foreign) {
         Some(owner) => {
-            let things = lacked_of(alloc, load.as_slice(), me, foreign, owner)?;
-            Ok(Some((owner, things)))
+            let amounts = lacked_of(alloc, things, me, foreign, owner, weight)?;
+            Ok(Some((owner, amounts)))
         }
         None => Ok(None),
     }

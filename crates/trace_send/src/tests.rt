@@ -35,25 +35,25 @@ fn the_first_owner_is_told_what_is_lacked(rt: HostRuntime) -> Result<(), Fail> {
         serial: Serial::of(0),
     });
     let last = Thing::Actor(ActorName(2));
-    let mut load = Load::new(alloc);
-    load.push((first, None))?;
-    load.push((object, row))?;
-    load.push((last, None))?;
+    let things = [first, object, last];
     let mut foreign = ForeignTable::new(alloc);
     hold(&mut foreign, &first, &None, 1)?;
     hold(&mut foreign, &object, &row, 1)?;
     hold(&mut foreign, &last, &None, 1)?;
     let me = ActorName(1);
-    let lacked = lacking(alloc, &load, me, &foreign)?;
+    let lacked = lacking(alloc, &things, me, &foreign, 256)?;
     assert!(rt; lacked.is_some());
-    if let Some((owner, things)) = lacked {
+    if let Some((owner, amounts)) = lacked {
         assert_eq!(rt; owner, ActorName(0));
-        assert_eq!(rt; things.as_slice(), [first, object].as_slice());
+        assert_eq!(rt;
+            amounts.as_slice(),
+            [(first, 256), (object, 256)].as_slice()
+        );
     }
     hold(&mut foreign, &first, &None, 256)?;
     hold(&mut foreign, &object, &row, 256)?;
     hold(&mut foreign, &last, &None, 256)?;
-    assert!(rt; lacking(alloc, &load, me, &foreign)?.is_none());
+    assert!(rt; lacking(alloc, &things, me, &foreign, 256)?.is_none());
     Ok(())
 }
 

@@ -2,7 +2,6 @@ use Rattle.std.proofs.Common.{◌≡◌, IsSomeAnd, ap, subst, sym, ◌∙◌, s
 use Rattle.std.specs.Prelude.{is_some}
 use Rattle.orca_names.specs.declared.trace.Trace.{Trace}
 use Rattle.machine_rules.specs.Actors.{seat_at}
-use Rattle.actor_cell.specs.declared.sweeping.Sweep.{Sweep}
 use Rattle.actor_cell.specs.Cells.{as_cell}
 use Rattle.actor_cell.specs.Outs.{letters_of}
 use Rattle.actor_cell.specs.Pushing.{push_all}
@@ -17,13 +16,13 @@ use Rattle.orca_core.proofs.Stepped.{collect_goes}
 use Rattle.orca_core.proofs.Waking.{woken_changed}
 use Rattle.orca_core.proofs.collects.apply_collect.Goals as goal
 
-pub push_all-requires : goal.push_all-requires
-push_all-requires c =
+pub push_decs-requires : goal.push_decs-requires
+push_decs-requires c =
     let slots = c.args.parts.now.table.slots in
     let a = c.args.a in
     let trace = c.args.trace in
     let its = subst (λ p. IsSomeAnd (home_in p) (λ x. c.args.parts.now.sweep ≡ sweep_of trace x)) (sym c.requires.home) c.requires.collects.found_is in
-    subst (λ ls. FitLetters ls c.collect.new.self.slots) (sym (c.into_letters.ensures ∙ ap (λ (f : Sweep). letters_of f.plan.back) c.replace-found.ensures.value))
+    subst (λ gs. FitLetters (letters_of gs) c.collect.new.self.slots) (sym (c.into_vec.ensures ∙ c.replace-back.ensures.value))
     (fits_kept (letters_of c.args.parts.now.sweep.plan.back) slots c.collect.new.self.slots c.requires.fit c.collect.ensures.room
     (λ b there. sym (changed_present (swept trace a) a (actors_of slots) b) ∙ sym (ap (λ xs. is_some (seat_at xs b)) (c.collect.ensures.actors trace its)) ∙ there))
 
@@ -33,18 +32,18 @@ returns-clause-state c = λ program options same.
     let cell = c.requires.cell in
     let a = c.args.a in
     let trace = options.trace in
-    let letters = c.into_letters.result.items in
+    let letters = letters_of c.into_vec.result.items in
     let found = subst (λ (t : Trace). CollectsWith t a c.args.parts.now.sweep cell) (sym same) c.requires.collects in
     let its = subst (λ p. IsSomeAnd (home_in p) (λ x. c.args.parts.now.sweep ≡ sweep_of trace x)) (sym c.requires.home) found.found_is in
     let here = seat_here slots a cell c.requires.home in
     let actors = c.collect.ensures.actors trace its ∙ ap (λ o. set (actors_of slots) a (with_cell_by (swept trace a) o)) here in
     collect_goes (state_of program options c.args.parts.now) a (as_cell cell) (slot_at slots a).mail.letters
-    letters (actors_of c.push_all.new.table.slots) here
-    c.requires.may (c.into_letters.ensures ∙ ap (λ (f : Sweep). letters_of f.plan.back) c.replace-found.ensures.value ∙ ap letters_of found.back_is) (c.push_all.ensures.actors ∙ ap (push_all letters) actors)
+    letters (actors_of c.push_decs.new.table.slots) here
+    c.requires.may (ap letters_of (c.into_vec.ensures ∙ c.replace-back.ensures.value ∙ found.back_is)) (c.push_decs.ensures.actors ∙ ap (push_all letters) actors)
 
 pub returns-clause-woken : goal.returns-clause-woken
 returns-clause-woken c =
     let trace = c.args.trace in
     let its = subst (λ p. IsSomeAnd (home_in p) (λ x. c.args.parts.now.sweep ≡ sweep_of trace x)) (sym c.requires.home) c.requires.collects.found_is in
     woken_changed (swept trace c.args.a) c.args.a (actors_of c.args.parts.now.table.slots) (actors_of c.collect.new.self.slots)
-    (actors_of c.push_all.new.table.slots) c.push_all.result (c.collect.ensures.actors trace its) c.push_all.ensures.woken
+    (actors_of c.push_decs.new.table.slots) c.push_decs.result (c.collect.ensures.actors trace its) c.push_decs.ensures.woken

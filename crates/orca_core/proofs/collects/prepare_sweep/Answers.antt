@@ -14,11 +14,10 @@ reserve_each-requires c = λ b.
 
 pub returns-clause-ok : goal.returns-clause-ok
 returns-clause-ok c =
-    let m : Parts = record c.args.parts.now { table = c.reserve_each.new.table; sweep = c.args.found; letters = c.in-Ok.room } in
+    let m : Parts = record c.args.parts.now { table = c.reserve_each.new.table; sweep = c.args.found } in
     let does = c.reserve_each.ensures in
     let its = c.requires.found in
     fits_collect c.args.a m c.args.parts.now.table.slots does.places does.letters
-    c.args.trace c.args.found c.in-Ok.room its.cell (sym (ap home_in its.home)) its.so.0
+    c.args.trace c.args.found its.cell (sym (ap home_in its.home)) its.so.0
     c.requires.may its.so.1
-    c.in-Ok.ensures.none c.in-Ok.ensures.room
     (subst (λ (gs : List (ℕ × List Amount)). FitLetters (letters_of gs) m.table.slots) c.as_slice.ensures (search rules))

@@ -1,8 +1,7 @@
 use Rattle.std.proofs.Common.{◌≡◌, map, ap, sym, ◌∙◌}
 use Rattle.std.proofs.lemmas.Result.{IfOk-weaker}
-use Rattle.reach_walk.specs.Marks.{marks_of, load_of}
+use Rattle.reach_walk.specs.Marks.{load_of}
 use Rattle.reach_walk.specs.Reach.{named_by, thing_row}
-use Rattle.reach_walk.proofs.Found.{marks-listed}
 use Rattle.reach_walk.proofs.Nothing.{load_of-nothing}
 use Rattle.reach_walk.proofs.load.load_of.Goals as goal
 
@@ -11,15 +10,9 @@ returns-clause-load g c =
     let rows = c.args.rows.now in
     let its = g.R.RowReader.rows rows in
     let all = g.R.RowReader.all rows in
-    let sorted = c.sort.new.self.things in
-    let marks : c.as_slice-3.result.now ≡ marks_of its all c.args.args.now =
-    c.as_slice-3.ensures
-    ∙ marks-listed its all c.as_slice-2.result.now (g.met.R.RowReader.within rows) c.walk_freely.new.seen.things sorted
-    c.in_ok-walk_freely.ensures.reached c.in_ok-sort.ensures.same c.in_ok-sort.ensures.rising
-    ∙ ap (marks_of its all) c.as_slice-2.ensures.value
-    in
+    let things = c.as_slice-2.ensures ∙ c.in_ok-find_loaded.ensures.things in
     IfOk-weaker c.with_rows.result _ (λ load. load ≡ load_of its all c.args.args.now)
-    (λ load e. e ∙ (λ i. map (λ x. (x, thing_row (c.walk_freely.ensures.rows.0 i) x)) (marks i))) c.with_rows.ensures.load
+    (λ load e. e ∙ (λ i. map (λ x. (x, thing_row (c.find_loaded.ensures.rows.0 i) x)) (things i))) c.with_rows.ensures.load
 
 pub returns-then-names_nothing-clause-load : goal.returns-then-names_nothing-clause-load
 returns-then-names_nothing-clause-load g c =

@@ -1,6 +1,7 @@
 use Rattle.std.proofs.Common.{◌≡◌, take, []}
-use Rattle.trace_send.specs.Lacking.{lacked_by}
+use Rattle.std.specs.List.{filter}
+use Rattle.trace_send.specs.Lacking.{is_lacked}
 use Rattle.trace_send.proofs.minting.first_owner.Given as goal
 
-abbrev pub invariant-loop-loaded : goal.invariant-loop-loaded
-invariant-loop-loaded l = lacked_by l.me l.foreign (take l.loaded-index l.load) ≡ []
+abbrev pub invariant-loop-thing : goal.invariant-loop-thing
+invariant-loop-thing l = filter (is_lacked l.me l.foreign) (take l.thing-index l.things) ≡ []

@@ -4,5 +4,5 @@ use Rattle.orca_names.specs.Names.{owner_of}
 use Rattle.trace_send.specs.Lacking.{is_lacked}
 use Rattle.trace_send.proofs.minting.lacked_of.Given as goal
 
-abbrev pub invariant-loop-loaded : goal.invariant-loop-loaded
-invariant-loop-loaded l = l.things ≡ map (λ e. e.0) (filter (λ e. is_lacked l.me l.foreign e.0 && (owner_of e.0 == l.owner)) (take l.loaded-index l.load))
+abbrev pub invariant-loop-thing : goal.invariant-loop-thing
+invariant-loop-thing l = l.amounts ≡ map (λ x. (x, l.weight)) (filter (λ x. is_lacked l.me l.foreign x && (owner_of x == l.owner)) (take l.thing-index l.things))

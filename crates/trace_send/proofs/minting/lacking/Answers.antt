@@ -1,31 +1,29 @@
-use Rattle.std.proofs.Common.{◌≡◌, ◌==◌, ◌&&◌, Some, map, ap, ◌∙◌}
-use Rattle.std.specs.Prelude.{option_map, slice_get}
+use Rattle.std.proofs.Common.{◌≡◌, ◌==◌, Some, map, ◌∙◌, ap}
 use Rattle.std.specs.List.{filter}
 use Rattle.orca_names.specs.Names.{owner_of}
-use Rattle.letter_kinds.specs.Counting.{Loaded}
-use Rattle.trace_send.specs.Lacking.{is_lacked, lacked_by, of_first_owner}
+use Rattle.orca_names.specs.declared.names.Thing.{Thing}
+use Rattle.letter_kinds.specs.Counting.{Amount}
+use Rattle.trace_send.specs.Lacking.{is_lacked, of_first_owner}
 use Rattle.trace_send.proofs.First.{answers_first, answers_none, filter-and, lacking-is}
 use Rattle.trace_send.proofs.minting.lacking.Goals as goal
 
-pub returns-in_ok-things-in-Some : goal.returns-in_ok-things-in-Some
-returns-in_ok-things-in-Some c = λ count heap.
-    let load = c.args.load.now in
+pub returns-in_ok-amounts-in-Some : goal.returns-in_ok-amounts-in-Some
+returns-in_ok-amounts-in-Some c = λ count heap.
+    let things = c.args.things.now in
     let me = c.args.me in
     let foreign = c.args.foreign.now in
     let owner = c.in-Some.owner in
-    let first : Some owner ≡ option_map (λ (e : Loaded). owner_of e.0) (slice_get (lacked_by me foreign load) 0) =
-    c.in-Some.ensures ∙ ap (λ xs. option_map (λ (e : Loaded). owner_of e.0) (slice_get (lacked_by me foreign xs) 0)) c.as_slice.ensures in
-    let its : c.in_ok-things-in-Some.things ≡ map (λ (e : Loaded). e.0) (filter (λ (e : Loaded). owner_of e.0 == owner) (lacked_by me foreign load)) =
-    c.in_ok-things-in-Some.ensures
-    ∙ ap (λ xs. map (λ (e : Loaded). e.0) (filter (λ (e : Loaded). is_lacked me foreign e.0 && (owner_of e.0 == owner)) xs)) c.as_slice-in-Some.ensures
-    ∙ ap (map (λ (e : Loaded). e.0)) (filter-and (λ (e : Loaded). is_lacked me foreign e.0) (λ (e : Loaded). owner_of e.0 == owner) load)
+    let amount : Thing → Amount = λ x. (x, c.args.weight) in
+    let its = c.in_ok-amounts-in-Some.ensures
+    ∙ ap (map amount) (filter-and (is_lacked me foreign) (λ (x : Thing). owner_of x == owner) things)
     in
-    answers_first (lacked_by me foreign load) owner c.in_ok-things-in-Some.things first its ∙ ap of_first_owner (lacking-is me count heap foreign load)
+    answers_first c.args.weight (filter (is_lacked me foreign) things) owner c.in_ok-amounts-in-Some.amounts c.in-Some.ensures its
+    ∙ ap (of_first_owner c.args.weight) (lacking-is me count heap foreign things)
 
 pub returns-in-None : goal.returns-in-None
 returns-in-None c = λ count heap.
-    let load = c.args.load.now in
+    let things = c.args.things.now in
     let me = c.args.me in
     let foreign = c.args.foreign.now in
-    answers_none (lacked_by me foreign load) (c.in-None.ensures ∙ ap (λ xs. option_map (λ (e : Loaded). owner_of e.0) (slice_get (lacked_by me foreign xs) 0)) c.as_slice.ensures)
-    ∙ ap of_first_owner (lacking-is me count heap foreign load)
+    answers_none c.args.weight (filter (is_lacked me foreign) things) c.in-None.ensures
+    ∙ ap (of_first_owner c.args.weight) (lacking-is me count heap foreign things)

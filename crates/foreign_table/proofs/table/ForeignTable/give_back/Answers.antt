@@ -5,6 +5,7 @@ use Rattle.std.specs.Prelude.{vec_len, vec_capacity}
 use Rattle.std.specs.FinMap as m
 use Rattle.foreign_table.specs.Back.{goes_back, given_up}
 use Rattle.foreign_table.specs.Table.{entries_in}
+use Rattle.foreign_table.proofs.BackLemmas.{nothing_up}
 use Rattle.foreign_table.proofs.Entries.{len_here, stay_held, stay_entries}
 use Rattle.foreign_table.proofs.table.ForeignTable.give_back.Goals as goal
 
@@ -27,3 +28,6 @@ returns c =
     let room : min (vec_capacity new) (vec_capacity new_rows) - vec_len new ≡ min (vec_capacity s.held) (vec_capacity s.rows) - vec_len s.held + (m.len (entries_in s.held.items s.rows.items) - m.len (m.retain_keys (entries_in s.held.items s.rows.items) stays)) =
     omega (arith, s.held.ok, s.rows.ok, new.ok, new_rows.ok, c.self.invariant.long, c.keep_others.ensures) in
     (λ j. record { spare = room j; entries = entries j }) ∙ ap (given_up c.args.back.now) c.self.view_is
+
+pub returns-then-is_empty : goal.returns-then-is_empty
+returns-then-is_empty c = nothing_up c.args.back.now c.args.self.now (sym c.is_empty.ensures ∙ c.if-is_empty.true)
