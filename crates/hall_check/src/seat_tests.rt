@@ -35,6 +35,11 @@ impl<'h, 'a> Seated<'h, 'a> {
     }
 }
 
+/// What a claim answers that is granted: its event.
+fn granted(task: &SeatTask<'_>) -> Answer {
+    Answer::Granted(task.taken.event)
+}
+
 impl<'h, 'a> Keeper for Seated<'h, 'a> {
     ghost use Rattle.atomic_table.specs.Seated.{TableId};
 
@@ -48,16 +53,16 @@ impl<'h, 'a> Keeper for Seated<'h, 'a> {
 
     // It tells the claim's event.
     fn claim<R: Abort + AllocGlobal + Wait>(&mut self, rt: &R, actor: u32) -> Answer {
-        let answer = self.pass.claim(rt, rt.alloc(), ActorName(actor));
-        let task = match answer {
-            Ok(task) => task,
-            Err(refuse) => return Answer::Refused(refuse),
-        };
-        let granted = Answer::Granted(task.taken.event);
-        if self.kept.replace(task).is_some() {
-            panic!(rt; "a pass keeps one claim")
+        match self.pass.claim(rt, rt.alloc(), ActorName(actor)) {
+            Ok(task) => {
+                let answer = granted(&task);
+                if self.kept.replace(task).is_some() {
+                    panic!(rt; "a pass keeps one claim")
+                }
+                answer
+            }
+            Err(refuse) => Answer::Refused(refuse),
         }
-        granted
     }
 
     fn commit<R: AllocGlobal + Wait>(&mut self, rt: &R) -> Answer {
