@@ -8,7 +8,6 @@ use crate::asking::{
     Answer, BY_EVENTS, Call, GO, HEAR, ONE_ENTRY, TAKE, TWO_PASSES, Want, answer_of, entry, event,
 };
 use crate::programs::{SEVEN, TWO_PRINT, checked};
-use behaviour_check::Checked;
 use book_hall::{Hall, Proposal};
 use orca_names::{ActorName, Value};
 use std::alloc::Global;

@@ -9,7 +9,6 @@ use crate::asking::{
     Answer, BY_EVENTS, Call, Keeper, ONE_ENTRY, TAKE, TWO_PASSES, Want, answers, entry,
 };
 use crate::programs::{SEVEN, TWO_PRINT, checked};
-use behaviour_check::Checked;
 use event_rule::Event;
 use orca_names::ActorName;
 use seat_hall::{Closing, HallSeat, Passes, SeatHall, SeatPass, SeatTask};

@@ -1,5 +1,5 @@
 use Rattle.std.proofs.Common.{◌≡◌, ◌∙◌, All, subst}
-use Rattle.std.proofs.lemmas.List.Elements.{All-head, All-tail}
+use Rattle.std.proofs.lemmas.List.Elements.{All-tail}
 use Rattle.std.specs.Vec.Iter.{into_iter_items}
 use Rattle.seat_hall.specs.Boards.{PassValue, out_of}
 use Rattle.pony_run.proofs.working.take_in.Goals as goal
