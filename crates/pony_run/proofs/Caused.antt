@@ -245,7 +245,7 @@ module _ (order : Order) (source sink : Sides) (book : BookValue) where
     of_bad_text text line kind part (Seen.no_memory e) = absurd (cc)
     of_bad_text text line kind part (Seen.failed takes fails e) = absurd (cc)
     of_bad_text text line kind part (Seen.long read h is e) = absurd (cc)
-    of_bad_text text line kind part (Seen.faulty read h other of l k faulty e) = 
+    of_bad_text text line kind part (Seen.faulty read h other of l k faulty e) =
         let one : line ≡ l = cc in
         let two : kind ≡ k = cc in
         let first = ap first_fault (sym (is_text order source sink book (status.BadText line kind) input given text read other part h of)) ∙ faulty.first in
@@ -262,7 +262,7 @@ module _ (order : Order) (source sink : Sides) (book : BookValue) where
     of_bad_program text has program kind behaviour step rule spells (Seen.failed takes fails e) = absurd (cc)
     of_bad_program text has program kind behaviour step rule spells (Seen.long read h is e) = absurd (cc)
     of_bad_program text has program kind behaviour step rule spells (Seen.faulty read h other of l k faulty e) = absurd (cc)
-    of_bad_program text has program kind behaviour step rule spells (Seen.broken read h other of p p_spells k b s r breaks e) = 
+    of_bad_program text has program kind behaviour step rule spells (Seen.broken read h other of p p_spells k b s r breaks e) =
         let one : kind ≡ k = cc in
         let two : behaviour ≡ b = cc in
         let three : step ≡ s = cc in

@@ -152,5 +152,12 @@ pub(crate) fn report_of_audit(
     ensures { IfOk result (λ text. IsAuditReport book.now orca.now.state text.items) }
 {
     let (actors, objects) = numbers(alloc, orca)?;
-    audit_report(alloc, orca.quiet(), orca.prints(), book.len(), actors, objects)
+    audit_report(
+        alloc,
+        orca.quiet(),
+        orca.prints(),
+        book.len(),
+        actors,
+        objects,
+    )
 }
