@@ -1,5 +1,5 @@
 -- From what the parts of a call do to its answer.
-use Rattle.std.proofs.Common.{◌≡◌, ◌≢◌, ◌⊎◌, inl, inr, ℕ, ◌≤◌, List, [], Some, None, refl, sym, subst, arith}
+use Rattle.std.proofs.Common.{◌≡◌, ◌≢◌, ◌⊎◌, inl, inr, ℕ, List, [], Some, None, refl, sym, subst, arith}
 use Rattle.std.specs.declared.option.Option.{Option}
 use Rattle.std.proofs.KnownBytes.{Appends-nil, Consumes-nil}
 use Rattle.run_book.specs.Books.{BookValue}
@@ -9,7 +9,6 @@ use Rattle.orca_core.specs.Machine.{Machine}
 use Rattle.book_audit.specs.Verdicts.{IsRefuted, IsVerdict, options_of_book}
 use Rattle.book_audit.specs.declared.auditing.Verdict.{Verdict}
 use Rattle.book_audit.specs.declared.auditing.Verdict.TheVariants as verdicts
-use Rattle.report_text.specs.Refusals.{refusal_of}
 use Rattle.report_text.specs.declared.status.Status.{Status}
 use Rattle.report_text.specs.declared.status.Status.TheVariants as status
 use Rattle.word_line.specs.declared.order.Job.{Job}

@@ -1,25 +1,18 @@
 -- When each answer comes, from the promise of the call.
-use Rattle.std.proofs.Common.{◌≡◌, ◌≢◌, ◌⊎◌, inl, inr, ℕ, ◌<◌, ◌≤◌, List, [], ◌++◌, length, take, Some, None, Ok, refl, sym, ap, ◌∙◌, subst, arith}
+use Rattle.std.proofs.Common.{◌≡◌, ◌≢◌, ◌⊎◌, inl, inr, ℕ, List, length, Some, None, refl, sym, ap, ◌∙◌, subst, arith}
 use Rattle.std.specs.declared.option.Option.{Option}
-use Rattle.std.proofs.lemmas.Grind.{common_steps}
 use Rattle.run_book.specs.Books.{BookValue}
-use Rattle.run_book.proofs.Marks.{one_way}
 use Rattle.report_text.specs.Ends.{IsEnd}
 use Rattle.report_text.specs.Refusals.{HasRefusal}
 use Rattle.report_text.specs.declared.status.Status.{Status}
 use Rattle.report_text.specs.declared.status.Status.TheVariants as status
-use Rattle.word_line.specs.declared.order.Job.{Job}
-use Rattle.word_line.specs.declared.order.Job.TheVariants.{Run, Load, Audit, Why}
+use Rattle.word_line.specs.declared.order.Job.TheVariants.{Audit}
 use Rattle.word_line.specs.declared.order.Order.{Order}
-use Rattle.behaviour_code.specs.WellFormed.{IsWellFormed}
 use Rattle.behaviour_code.specs.declared.code.Program.{Program}
 use Rattle.behaviour_text.specs.Faults.{first_fault}
-use Rattle.behaviour_text.specs.Text.{IsText}
-use Rattle.behaviour_text.proofs.Again.{again, no_fault_read}
 use Rattle.behaviour_check.specs.Rules.{fault_at, first_broken}
 use Rattle.behaviour_check.specs.declared.checked.CheckFault.{CheckFault}
-use Rattle.outside_world.specs.Pieces.{TakesAll}
-use Rattle.pony_run.specs.Causes.{Causes, ComesOnly, ComesWherever, IsGiven, IsOfAudit, IsUnlessMemory, OrderCauses, ReadsWell, Tells}
+use Rattle.pony_run.specs.Causes.{Causes, ComesOnly, ComesWherever, IsGiven, IsOfAudit, IsUnlessMemory, OrderCauses, ReadsWell}
 use Rattle.pony_run.specs.Headline.{Answers, EndsWith, EveryRun, HasText, IsInput, IsProgramText, RunsProgram, Spells, TakesInput}
 use Rattle.pony_run.specs.Streams.{CountsFault, CountsNoFault, HasFailed, Sides, most_bytes}
 use Rattle.pony_run.proofs.AuditCaused.{audit_caused}

@@ -1,11 +1,11 @@
 -- Why nothing begins with an input, by the part of it that was read.
-use Rattle.std.proofs.Common.{◌≡◌, ◌<◌, ℕ, List, length, refl}
+use Rattle.std.proofs.Common.{◌<◌, ℕ, List, length, refl}
 use Rattle.run_book.specs.Splits.{IsSplit}
 use Rattle.report_text.specs.declared.status.Status.{Status}
 use Rattle.word_line.specs.declared.order.Job.{Job}
 use Rattle.word_line.specs.declared.order.Job.TheVariants.{Run, Load, Audit, Why}
 use Rattle.behaviour_code.specs.declared.code.Program.{Program}
-use Rattle.pony_run.specs.Headline.{HasText, IsProgramText, RunsProgram}
+use Rattle.pony_run.specs.Headline.{IsProgramText, RunsProgram}
 use Rattle.pony_run.specs.Inner.{InputStops, IsBookStop, IsRunnable, IsTextStop}
 use Rattle.pony_run.specs.Streams.{most_bytes}
 

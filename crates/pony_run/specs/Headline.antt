@@ -26,7 +26,7 @@ use Rattle.report_text.specs.declared.status.Status.{Status}
 use Rattle.report_text.specs.declared.status.Status.TheVariants as status
 use Rattle.load_maker.specs.Loads.{load_text}
 use Rattle.word_line.specs.declared.order.Job.{Job}
-use Rattle.word_line.specs.declared.order.Job.TheVariants.{Run, Load, Audit, Why}
+use Rattle.word_line.specs.declared.order.Job.TheVariants.{Load, Audit, Why}
 use Rattle.word_line.specs.declared.order.Order.{Order}
 use Rattle.behaviour_code.specs.WellFormed.{IsWellFormed}
 use Rattle.behaviour_code.specs.declared.code.Program.{Program}

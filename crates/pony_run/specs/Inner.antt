@@ -1,5 +1,5 @@
 -- What the parts of a call do, below its promise.
-use Rattle.std.specs.Prelude.{◌≡◌, ◌≢◌, ◌⊎◌, ℕ, ◌<◌, ◌≤◌, List, [], length, Some, None, ⊤}
+use Rattle.std.specs.Prelude.{◌≡◌, ◌⊎◌, ℕ, ◌<◌, ◌≤◌, List, [], length, Some, None, ⊤}
 use Rattle.std.specs.declared.option.Option.{Option}
 use Rattle.orca_names.specs.declared.limits.TheConstants.{BOOK_LIMIT}
 use Rattle.run_book.specs.Books.{BookValue}

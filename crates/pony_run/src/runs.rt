@@ -4,7 +4,6 @@ ghost use Rattle.std.specs.Prelude.{◌≡◌, ◌≢◌, []};
 ghost use Rattle.orca_names.specs.declared.trace.Trace.TheVariants.{Deep};
 ghost use Rattle.report_text.specs.Ends.{IsEnd};
 ghost use Rattle.word_line.specs.Orders.{IsInRange};
-ghost use Rattle.orca_core.specs.Machine.{NoneIsAway};
 ghost use Rattle.pony_run.specs.Inner.{IsAnswerOf, IsUnderWay, RunAnswers, WritesReport};
 ghost use Rattle.pony_run.specs.Streams.{sides};
 

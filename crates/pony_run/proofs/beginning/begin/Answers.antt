@@ -1,4 +1,4 @@
-use Rattle.std.proofs.Common.{ℕ, List, inr, subst, sym}
+use Rattle.std.proofs.Common.{inr, subst, sym}
 use Rattle.std.proofs.lemmas.Result.{IfErr-weaker}
 use Rattle.pony_run.specs.Headline.{IsInput}
 use Rattle.pony_run.specs.Streams.{sides}

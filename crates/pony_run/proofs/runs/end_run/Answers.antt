@@ -1,4 +1,4 @@
-use Rattle.std.proofs.Common.{◌<◌, arith}
+use Rattle.std.proofs.Common.{arith}
 use Rattle.pony_run.specs.Inner.{RunAnswers}
 use Rattle.pony_run.proofs.Answering.{nothing_written, report_answers}
 use Rattle.pony_run.proofs.Running.{ends_with, goes_on_under_way, run_under_way}

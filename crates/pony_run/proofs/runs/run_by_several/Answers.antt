@@ -1,4 +1,4 @@
-use Rattle.std.proofs.Common.{◌<◌, arith}
+use Rattle.std.proofs.Common.{arith}
 use Rattle.pony_run.proofs.Answering.{starved_answers}
 use Rattle.pony_run.proofs.Running.{no_run_yet}
 use Rattle.pony_run.proofs.runs.run_by_several.Goals as goal
