@@ -100,7 +100,7 @@ const AUDITS: &[(&str, &str, u8, &str)] = &[
         "kind Main\n",
         "book 2 256\nwalk\n",
         3,
-        "refused text line 1 kind 8\n",
+        "refused text line 1 kind 4\n",
     ),
     (
         "kind Main 0\n",
