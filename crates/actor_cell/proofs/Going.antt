@@ -4,13 +4,9 @@ use Rattle.std.specs.Prelude.{option_map, IsSomeAnd}
 use Rattle.turn_rules.specs.declared.act.Frame.{Frame}
 use Rattle.turn_rules.specs.Segment.{Turn}
 use Rattle.letter_kinds.specs.declared.letter.Letter.{Letter}
-use Rattle.letter_kinds.specs.Counting.{Amount, mint_all, mint_one, send, set_held}
-use Rattle.letter_kinds.specs.Holdings.{Holdings, Row, add_rows, entry_row}
+use Rattle.letter_kinds.specs.Counting.{Amount, mint_all, mint_one, send}
+use Rattle.letter_kinds.specs.Holdings.{Holdings, Row, add_rows}
 use Rattle.object_heap.specs.Heap.{Heap, with_new}
-use Rattle.foreign_table.specs.Table.{Table, entered}
-use Rattle.known_rows.specs.Holdings.{holdings_of}
-use Rattle.trace_send.proofs.Steps.{set-held}
-use Rattle.std.specs.FinMap as m
 use Rattle.machine_rules.specs.Cell.{Cell}
 use Rattle.actor_cell.specs.declared.out.Out.{Out}
 use Rattle.actor_cell.specs.declared.turning.Move.{Move}
@@ -43,13 +39,6 @@ mint_all-nil h = refl
 pub mint_all-cons : (e : Amount) (things : List Amount) (h : Holdings) → mint_all (e ∷ things) h ≡ mint_all things (mint_one e h)
 unfolding mint_all
 mint_all-cons e things h = refl
-
--- of a thing that was not held yet
-pub mint_fresh : (count : ℕ) (heap : Heap) (foreign : Table) (e : Amount) → m.get foreign.entries e.0 ≡ None
-    → holdings_of count heap (entered (λ n. n + e.1) e.0 None foreign) ≡ mint_one e (holdings_of count heap foreign)
-mint_fresh count heap foreign e none =
-    sym (set-held count heap foreign (λ n. n + e.1) e.0 None)
-    ∙ ap (λ o. set_held (λ n. n + e.1) e.0 (entry_row o) (holdings_of count heap foreign)) (sym none)
 
 -- ---- what is done, step by step
 

@@ -60,11 +60,7 @@ impl Cell {
         ensures owner { self.new.heap.owner ≡ self.old.heap.owner }
         ensures room { self.old.foreign.spare ≤ self.new.foreign.spare + 1 }
     {
-        if self.foreign.place(&amount.0).is_some() {
-            self.foreign.mint(amount.0, amount.1);
-        } else {
-            self.foreign.gain(amount.0, &None, amount.1);
-        }
+        self.foreign.mint(amount.0, amount.1);
     }
 
     // The counts that it holds on these things rise.

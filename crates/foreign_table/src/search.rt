@@ -135,18 +135,28 @@ fn first_from(held: &[Entry], thing: &Thing) -> usize
     low
 }
 
+// The place of the thing, or the place where it would stand, where that is not seen at once.
+#[inline(never)]
+fn search(held: &[Entry], thing: Thing) -> Result<usize, usize>
+    requires { T (is_sorted thing_cmp (map key_of held.now)) }
+    ensures { MatchResult result (IsAt thing_cmp (map key_of held.now) thing)
+        (IsGap thing_cmp (map key_of held.now) thing) }
+{
+    let place = first_from(held, &thing);
+    if stands_at(held, place, &thing) {
+        return Ok(place);
+    }
+    Err(place)
+}
+
 /// The place of the thing, or the place where it would stand.
 pub(crate) fn place_of(held: &[Entry], thing: Thing) -> Result<usize, usize>
     requires { T (is_sorted thing_cmp (map key_of held.now)) }
     ensures { MatchResult result (IsAt thing_cmp (map key_of held.now) thing)
         (IsGap thing_cmp (map key_of held.now) thing) }
 {
-    if let Some(place) = guess(held, &thing) {
-        return Ok(place);
+    match guess(held, &thing) {
+        Some(place) => Ok(place),
+        None => search(held, thing),
     }
-    let place = first_from(held, &thing);
-    if stands_at(held, place, &thing) {
-        return Ok(place);
-    }
-    Err(place)
 }

@@ -10,6 +10,7 @@ ghost use Rattle.foreign_table.specs.Back.{BackRises, given_up};
 ghost use Rattle.foreign_table.specs.Entry.{bare, key_of};
 ghost use Rattle.foreign_table.specs.Span.{IsSpan};
 ghost use Rattle.foreign_table.specs.Table.{AreHeld, Table, count_on, counted, entered, entries_in, known_row, on_actors, without};
+ghost use Rattle.letter_kinds.specs.Holdings.{entry_row};
 ghost use Rattle.ref_weights.specs.Limit.{count_limit};
 
 use crate::keep::keep_others;
@@ -217,14 +218,21 @@ impl ForeignTable {
         self.held[i].count.spend();
     }
 
-    /// The count on a thing rises: more of it is made, of which an increment tells its owner.
+    /// The count on a thing rises, from 0 where nothing was held: more of it is made, of which an
+    /// increment tells its owner. What row is known stays. It takes no memory.
     pub fn mint(&mut self, thing: Thing, by: u64)
-        requires there { IsSome (m.get self.old.entries thing) }
+        requires room { m.get self.old.entries thing ≡ None → 0 < self.old.spare }
         requires fits { count_on self.old thing + by < count_limit }
-        ensures { self.new ≡ counted (λ count. count + by) thing self.old }
+        ensures { let row = entry_row (m.get self.old.entries thing) in
+            self.new ≡ entered (λ count. count + by) thing row self.old }
     {
-        let i = place_there(self.held.as_slice(), self.rows.as_slice(), thing);
-        self.held[i].count.mint(by);
+        match place_of(self.held.as_slice(), thing) {
+            Ok(i) => self.held[i].count.mint(by),
+            Err(i) => {
+                put_row(&mut self.rows, i, &None);
+                put_entry(&mut self.held, i, &thing, by);
+            }
+        }
     }
 
     /// Takes an entry out, and tells its count.
