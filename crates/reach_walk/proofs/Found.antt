@@ -11,7 +11,7 @@ use Rattle.orca_names.proofs.ThingOrder.{thing_total, is_same}
 use Rattle.reach_walk.specs.declared.noted.Noted.{Noted}
 use Rattle.reach_walk.specs.Marks.{Covers, marks_of, TellMarks}
 use Rattle.reach_walk.specs.Reach.{named_by, row_edges, AreReached}
-use Rattle.reach_walk.specs.Walk.{AreNoted}
+use Rattle.reach_walk.specs.Walk.{AreTold}
 use Rattle.reach_walk.proofs.MarkLaws.{marks-exact, marks-unique}
 
 -- the same things in another list
@@ -28,10 +28,10 @@ module _ (rows : ObjName → Option (List Value)) (all : List ObjName) (roots : 
   alike false true f g = g refl
   alike false false f g = refl
 
-  pub marks-told : (place : Thing → Option ℕ) (count : ℕ) (noted : Noted) (things : List Thing) → AreNoted place count noted things → AreReached (row_edges rows) (named_by roots) things → TellMarks place noted.bits (marks_of rows all roots)
-  marks-told place count noted things are reached x p at =
+  pub marks-told : (place : Thing → Option ℕ) (count : ℕ) (noted : Noted) (things : List Thing) → AreTold place count noted things → AreReached (row_edges rows) (named_by roots) things → TellMarks place noted.bits (marks_of rows all roots)
+  marks-told place count noted things told reached x p at =
       let marks = marks_of rows all roots in
       let exact = (marks-exact rows all roots covers).exact x in
-      let on = are.placed x p at in
+      let on = told.placed x p at in
       alike _ _ (λ b. list_any-from_Contains (eq_by_cmp_equiv thing_total) x marks (exact.1 ((reached x).0 (on.1 b))))
       (λ any. on.0 ((reached x).1 (exact.0 (Contains-from_any is_same x marks any))))

@@ -1,12 +1,17 @@
 -- Things in order of which none stands twice.
-use Rattle.std.proofs.Common.{◌≡◌, ◌≢◌, suc, ◌+◌, inl, inr, Bool, false, List, [], ◌∷◌, get_or, refl, sym, ap, subst, ◌∙◌, arith}
+use Rattle.std.proofs.Common.{◌≡◌, ◌≢◌, ◌↔◌, suc, ◌+◌, inl, inr, Bool, false, List, [], ◌∷◌, get_or, Contains, OnOk, refl, sym, ap, subst, ◌∙◌, arith}
 use Rattle.std.specs.List.{IsDistinct}
-use Rattle.std.specs.List.Sorted.{IsSorted, IsSortedBy, IsStrictlySortedBy}
+use Rattle.std.specs.Cmp.{eq_by_cmp_equiv}
+use Rattle.std.specs.List.Sorted.{IsPermutation, IsSorted, IsSortedBy, IsStrictlySortedBy}
 use Rattle.std.specs.Ordering.{is_lt, ordering_reverse}
 use Rattle.std.specs.declared.cmp.Ordering.{Ordering}
 use Rattle.std.specs.declared.cmp.Ordering.TheVariants.{Less, Equal, Greater}
 use Rattle.std.proofs.lemmas.List.Elements.{All-from_recursion, All-contains}
-use Rattle.std.proofs.lemmas.Map.Keys.{IsDistinct-head, IsDistinct-tail}
+use Rattle.std.proofs.lemmas.List.Sorted.{Contains-permutation, IsPermutation-sym}
+use Rattle.std.proofs.lemmas.Map.Keys.{IsDistinct-head, IsDistinct-tail, IsDistinct-IsPermutation}
+use Rattle.std.proofs.lemmas.Result.{on_ok_weaker}
+use Rattle.std.specs.declared.result.Result.{Result}
+use Rattle.std.specs.declared.result.Result.TheVariants.{Ok, Err}
 use Rattle.orca_names.specs.Names.{is_thing, thing_cmp}
 use Rattle.orca_names.specs.declared.names.Thing.{Thing}
 use Rattle.orca_names.proofs.ThingOrder.{thing_total, thing_exact, is_eq_true}
@@ -38,3 +43,15 @@ strictly (x ∷ y ∷ ys) sorted once =
       | inl e ↦ subst (λ w. thing_cmp x w ≡ Less) e less
       | inr d ↦ thing_total.trans x y z less (first_less y ys rest z d)
     ]) rest
+
+-- ---- what a sort does that may fail
+
+module _ {T E : Type 0} (result : Result T E) (old new : List Thing) where
+  pub sorts_same : OnOk result (IsPermutation old new) → OnOk result ((x : Thing) → Contains new x ↔ Contains old x)
+  sorts_same = on_ok_weaker result (λ same x. (Contains-permutation new old x (IsPermutation-sym old new same), Contains-permutation old new x same))
+
+  pub sorts_strictly : IsDistinct is_thing old → OnOk result (IsPermutation old new) → OnOk result (IsSorted thing_cmp new) → OnOk result (IsStrictlySortedBy thing_cmp new)
+  sorts_strictly once same sorted = elim result as (λ r. OnOk r (IsPermutation old new) → OnOk r (IsSorted thing_cmp new) → OnOk r (IsStrictlySortedBy thing_cmp new)) [
+    | Ok t ↦ λ same sorted. strictly new sorted (IsDistinct-IsPermutation is_thing (eq_by_cmp_equiv thing_total).symm old new same once)
+    | Err e ↦ λ same sorted. tt
+  ] same sorted

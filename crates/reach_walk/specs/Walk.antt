@@ -24,27 +24,25 @@ abbrev pub IsOn : Option ℕ → List Bool → Type 0
 IsOn (Some p) bits = slice_index_or bits p false ≡ true
 IsOn None bits = ⊥
 
--- the set has all of the things that have no place
-abbrev pub HasOthers : (Thing → Option ℕ) → Noted → List Thing → Type 0
-HasOthers place noted things =
-    (x : Thing) → Contains things x → place x ≡ None → Contains noted.others.keys x
-
--- just these things are noted: what has a place by its bit, and the others in the set, which stays
--- empty while there are few things
-pub record AreNoted (place : Thing → Option ℕ) (count : ℕ) (noted : Noted)
+-- just these things are told: what has a place by its bit, and what has none by the set
+pub record AreTold (place : Thing → Option ℕ) (count : ℕ) (noted : Noted)
     (things : List Thing) : Type 0 where
   pub placed : (x : Thing) (p : ℕ) → place x ≡ Some p
       → Contains things x ↔ (slice_index_or noted.bits p false ≡ true)
-  pub only : (x : Thing) → Contains noted.others.keys x → Contains things x × (place x ≡ None)
-  pub others : (noted.others.keys ≡ []) ⊎ HasOthers place noted things
+  pub others : (x : Thing) → Contains noted.others.keys x ↔ (Contains things x × (place x ≡ None))
   pub room : count ≤ length noted.bits
   pub within : (p : ℕ) → slice_index_or noted.bits p false ≡ true → p < count
 
 -- a thing is noted beside others, and whether it is new among them
 abbrev pub Notes : (Thing → Option ℕ) → ℕ → Noted → List Thing → Thing → Bool → Type 0
 Notes place count noted things x true =
-    AreNoted place count noted (things ++ x ∷ []) × (Contains things x → ⊥)
-Notes place count noted things x false = AreNoted place count noted things × Contains things x
+    AreTold place count noted (things ++ x ∷ []) × (Contains things x → ⊥)
+Notes place count noted things x false = AreTold place count noted things × Contains things x
+
+-- these things are noted: nothing is noted while they are few
+abbrev pub AreNoted : (Thing → Option ℕ) → ℕ → Option Noted → List Thing → Type 0
+AreNoted place count (Some noted) things = AreTold place count noted things
+AreNoted place count None things = length things ≤ 8
 
 -- each thing was seen once, and is noted
 pub record IsSeen (place : Thing → Option ℕ) (count : ℕ) (seen : Seen) : Type 0 where

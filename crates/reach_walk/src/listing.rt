@@ -1,15 +1,13 @@
 // Things that are noted, listed in their order.
 
-ghost use Rattle.std.specs.Prelude.{◌≡◌, ◌<◌, ◌↔◌, ◌⊎◌, ℕ, false, true, Contains, OnOk, slice_index_or};
+ghost use Rattle.std.specs.Prelude.{◌≡◌, ◌<◌, ◌↔◌, ◌⊎◌, ◌++◌, ℕ, false, true, Contains, OnOk, slice_index_or};
 ghost use Rattle.std.specs.List.Sorted.{IsStrictlySortedBy};
 ghost use Rattle.orca_names.specs.Names.{thing_cmp};
 ghost use Rattle.orca_names.specs.declared.names.Thing.{Thing as thing};
 ghost use Rattle.reach_walk.specs.Walk.{IsOn};
 
-use crate::noted::insert_unplaced;
 use crate::places::Places;
 use crate::thing_list::ThingList;
-use crate::unplaced::Unplaced;
 use orca_names::{NoMemory, Thing};
 use ready_set::PlaceSet;
 use std::collections::BTreeSet;
@@ -40,12 +38,11 @@ pub(crate) fn list_placed<P: Places>(
     Ok(())
 }
 
-// Lists the things of a set.
-fn list_set(set: &BTreeSet<Thing>, things: &mut ThingList) -> Result<(), NoMemory>
-    ensures listed { OnOk result (things.new ≡ set.now.keys) }
-    ensures rising { OnOk result (IsStrictlySortedBy thing_cmp things.new) }
+// Appends the things of a set.
+fn push_set(set: &BTreeSet<Thing>, things: &mut ThingList) -> Result<(), NoMemory>
+    ensures listed { OnOk result (things.new ≡ things.old ++ set.now.keys) }
+    ensures rising { IsStrictlySortedBy thing_cmp set.now.keys }
 {
-    things.clear();
     for thing in set {
         things.push(*thing)?;
     }
@@ -53,18 +50,16 @@ fn list_set(set: &BTreeSet<Thing>, things: &mut ThingList) -> Result<(), NoMemor
 }
 
 /// Puts the things of a set among those that are listed in order.
-pub(crate) fn list_others(
-    others: &mut BTreeSet<Thing>,
-    things: &mut ThingList,
-) -> Result<(), NoMemory>
-    requires { IsStrictlySortedBy thing_cmp things.old }
+pub(crate) fn list_others(others: &BTreeSet<Thing>, things: &mut ThingList) -> Result<(), NoMemory>
+    requires rising { IsStrictlySortedBy thing_cmp things.old }
+    requires apart { (x : thing) → Contains others.now.keys x → Contains things.old x → ⊥ }
     ensures listed { OnOk result ((x : thing) → Contains things.new x
-        ↔ (Contains others.old.keys x ⊎ Contains things.old x)) }
+        ↔ (Contains others.now.keys x ⊎ Contains things.old x)) }
     ensures rising { OnOk result (IsStrictlySortedBy thing_cmp things.new) }
 {
     if others.is_empty() {
         return Ok(());
     }
-    insert_unplaced(others, things.as_slice(), &Unplaced { of: () })?;
-    list_set(others, things)
+    push_set(others, things)?;
+    things.sort()
 }

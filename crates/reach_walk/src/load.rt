@@ -11,7 +11,6 @@ use crate::thing_list::ThingList;
 use crate::walk_rows::{walk_freely, walk_rows};
 use orca_names::{Args, NoMemory, Row, Thing, Value};
 use plain_list::Listed;
-use ready_set::PlaceSet;
 use std::alloc::Global;
 use std::sync::ledger::Ledger;
 use step_count::Steps;
@@ -77,8 +76,7 @@ pub fn load_within<R: PlacedRows, L: Ledger>(
     if names_nothing(args.as_slice()) {
         return Ok(Listed::new(alloc));
     }
-    let bits = PlaceSet::with_places(alloc, rows.places())?;
-    let mut seen = Seen::new(alloc, bits);
+    let mut seen = Seen::new(alloc);
     walk_rows(rows, &mut seen, args.as_slice(), steps)?;
     seen.sort(rows)?;
     with_rows(alloc, seen.things.as_slice(), rows)
@@ -106,8 +104,7 @@ pub fn find_loaded<R: PlacedRows>(
         things.clear();
         return Ok(());
     }
-    let bits = PlaceSet::with_places(alloc, rows.places())?;
-    let mut seen = Seen::new(alloc, bits);
+    let mut seen = Seen::new(alloc);
     walk_freely(rows, &mut seen, args.as_slice())?;
     seen.sort(rows)?;
     let Seen { things: found, .. } = seen;

@@ -39,8 +39,7 @@ pub fn mark_within<R: PlacedRows, L: Ledger>(
     ensures rows { (R.rows rows.new ≡ R.rows rows.old) × (R.all rows.new ≡ R.all rows.old) }
     ensures places { (R.place rows.new ≡ R.place rows.old) × (R.count rows.new ≡ R.count rows.old) }
 {
-    let bits = PlaceSet::with_places(alloc, rows.places())?;
-    let mut seen = Seen::new(alloc, bits);
+    let mut seen = Seen::new(alloc);
     walk_rows(rows, &mut seen, roots, steps)?;
     seen.sort(rows)?;
     let Seen { things, .. } = seen;
@@ -60,8 +59,7 @@ pub fn mark<R: PlacedRows>(alloc: Global, roots: &[Value], rows: &mut R) -> Resu
     ensures rows { (R.rows rows.new ≡ R.rows rows.old) × (R.all rows.new ≡ R.all rows.old) }
     ensures places { (R.place rows.new ≡ R.place rows.old) × (R.count rows.new ≡ R.count rows.old) }
 {
-    let bits = PlaceSet::with_places(alloc, rows.places())?;
-    let mut seen = Seen::new(alloc, bits);
+    let mut seen = Seen::new(alloc);
     walk_freely(rows, &mut seen, roots)?;
     seen.sort(rows)?;
     let Seen { things, .. } = seen;
@@ -83,9 +81,8 @@ pub fn mark_bits<R: PlacedRows>(
     ensures rows { (R.rows rows.new ≡ R.rows rows.old) × (R.all rows.new ≡ R.all rows.old) }
     ensures places { (R.place rows.new ≡ R.place rows.old) × (R.count rows.new ≡ R.count rows.old) }
 {
-    let bits = PlaceSet::with_places(alloc, rows.places())?;
-    let mut seen = Seen::new(alloc, bits);
+    let mut seen = Seen::new(alloc);
     walk_freely(rows, &mut seen, roots)?;
-    let Seen { noted, .. } = seen;
+    let noted = seen.into_noted(rows)?;
     Ok(noted.bits)
 }

@@ -1,26 +1,26 @@
 // Which things a walk has met.
 
-ghost use Rattle.std.specs.Prelude.{◌≡◌, ◌↔◌, ◌⊎◌, None, Contains, IfOk, IsTrue, OnOk};
+ghost use Rattle.std.specs.Prelude.{◌≡◌, ◌↔◌, ◌≤◌, List, Contains, IfOk, IsTrue, length};
 ghost use Rattle.orca_names.specs.declared.names.Thing.{Thing as any_thing};
-ghost use Rattle.reach_walk.specs.Walk.{AreNoted, HasOthers, Notes};
+ghost use Rattle.reach_walk.specs.Walk.{AreTold, Notes};
 
 use crate::places::Places;
-use crate::thing_list::{FEW, ThingList};
 use orca_names::{NoMemory, Thing};
 use ready_set::PlaceSet;
 use std::alloc::Global;
 use std::collections::BTreeSet;
 
-/// Which things were met: a thing with a place is told by the bit of the place. One without is
-/// looked up among all that were met while these are few, and then in a set.
+/// Which things were met, once they are many: a thing with a place is told by the bit of the place,
+/// and one without by the set.
 #[derive(Drop)]
 pub(crate) struct Noted {
     pub(crate) bits: PlaceSet,
     pub(crate) others: BTreeSet<Thing>,
 }
 
-// Whether the thing is one of these.
-fn is_among(things: &[Thing], thing: &Thing) -> bool
+/// Whether the thing is one of these.
+#[inline(always)]
+pub(crate) fn is_among(things: &[Thing], thing: &Thing) -> bool
     ensures { IsTrue result ↔ Contains things.now thing.now }
 {
     for other in things {
@@ -31,105 +31,34 @@ fn is_among(things: &[Thing], thing: &Thing) -> bool
     false
 }
 
-// Puts a thing into a set, unless it has a place.
-fn insert_if_unplaced(
-    set: &mut BTreeSet<Thing>,
-    thing: &Thing,
-    at: Option<usize>,
-) -> Result<(), NoMemory>
-    ensures { OnOk result ((x : any_thing) → Contains set.new.keys x
-        ↔ (Contains set.old.keys x ⊎ ((thing.now ≡ x) × (at ≡ None)))) }
-{
-    match at {
-        Some(_) => Ok(()),
-        None => {
-            set.insert(*thing)?;
-            Ok(())
-        }
-    }
-}
-
-/// Puts things into a set, those that have no place.
-pub(crate) fn insert_unplaced<P: Places>(
-    set: &mut BTreeSet<Thing>,
-    things: &[Thing],
-    places: &P,
-) -> Result<(), NoMemory>
-    ensures { OnOk result ((x : any_thing) → Contains set.new.keys x
-        ↔ (Contains set.old.keys x ⊎ (Contains things.now x × (P.place places.now x ≡ None)))) }
-{
-    for thing in things {
-        insert_if_unplaced(set, thing, places.place_of(thing))?;
-    }
-    Ok(())
-}
-
 impl Noted {
-    /// Has the set tell all things without a place. Those that were met are given.
-    pub(crate) fn complete<P: Places>(&mut self, met: &[Thing], places: &P) -> Result<(), NoMemory>
-        requires met { AreNoted (P.place places.now) (P.count places.now) self.old met.now }
-        ensures noted { OnOk result
-            (AreNoted (P.place places.now) (P.count places.now) self.new met.now) }
-        ensures others { OnOk result (HasOthers (P.place places.now) self.new met.now) }
+    /// Notes a thing; whether it was not met before.
+    #[inline(always)]
+    pub(crate) fn note<P: Places>(&mut self, thing: &Thing, places: &P) -> Result<bool, NoMemory>
+        requires room { P.count places.now ≤ length self.old.bits }
+        ensures { (met : List any_thing) → AreTold (P.place places.now) (P.count places.now) self.old met
+            → IfOk result (λ is_new.
+            Notes (P.place places.now) (P.count places.now) self.new met thing.now is_new) }
     {
-        if self.others.is_empty() {
-            insert_unplaced(&mut self.others, met, places)?;
+        match places.place_of(thing) {
+            Some(at) => Ok(self.bits.insert(at)),
+            None => Ok(self.others.insert(*thing)?),
         }
-        Ok(())
     }
 
-    // Notes a thing without a place in the set; whether it was not met before.
+    /// What tells these things.
     #[inline(never)]
-    fn note_in_set<P: Places>(
-        &mut self,
-        thing: &Thing,
-        met: &ThingList,
-        places: &P,
-    ) -> Result<bool, NoMemory>
-        requires met { AreNoted (P.place places.now) (P.count places.now) self.old met.now }
-        requires unplaced { P.place places.now thing.now ≡ None }
-        ensures { IfOk result (λ is_new.
-            Notes (P.place places.now) (P.count places.now) self.new met.now thing.now is_new) }
+    pub(crate) fn of<P: Places>(alloc: Global, met: &[Thing], places: &P) -> Result<Noted, NoMemory>
+        ensures { IfOk result (λ noted.
+            AreTold (P.place places.now) (P.count places.now) noted met.now) }
     {
-        self.complete(met.as_slice(), places)?;
-        Ok(self.others.insert(*thing)?)
-    }
-
-    // Notes a thing without a place; whether it was not met before.
-    fn note_unplaced<P: Places>(
-        &mut self,
-        thing: &Thing,
-        met: &ThingList,
-        places: &P,
-    ) -> Result<bool, NoMemory>
-        requires met { AreNoted (P.place places.now) (P.count places.now) self.old met.now }
-        requires unplaced { P.place places.now thing.now ≡ None }
-        ensures { IfOk result (λ is_new.
-            Notes (P.place places.now) (P.count places.now) self.new met.now thing.now is_new) }
-    {
-        if met.len() < FEW && self.others.is_empty() {
-            return Ok(!is_among(met.as_slice(), thing));
+        let mut noted = Noted {
+            bits: PlaceSet::with_places(alloc, places.places())?,
+            others: BTreeSet::new(alloc),
+        };
+        for thing in met {
+            noted.note(thing, places)?;
         }
-        self.note_in_set(thing, met, places)
-    }
-
-    /// Notes a thing, at its place if it has one; whether it was not met before. Those that were met
-    /// are given.
-    pub(crate) fn note<P: Places>(
-        &mut self,
-        thing: &Thing,
-        at: Option<usize>,
-        met: &ThingList,
-        places: &P,
-    ) -> Result<bool, NoMemory>
-        requires met { AreNoted (P.place places.now) (P.count places.now) self.old met.now }
-        requires at { P.place places.now thing.now ≡ at }
-        ensures { IfOk result (λ is_new.
-            Notes (P.place places.now) (P.count places.now) self.new met.now thing.now is_new) }
-    {
-        match at {
-            Some(p) => Ok(self.bits.insert(p)),
-            None => self.note_unplaced(thing, met, places),
-        }
+        Ok(noted)
     }
 }

@@ -11,7 +11,6 @@ use crate::edges::Edges;
 use crate::seen::Seen;
 use crate::unplaced::Unplaced;
 use orca_names::{NoMemory, Thing, Value};
-use ready_set::PlaceSet;
 use std::alloc::Global;
 
 /// Appends the things that the values name.
@@ -53,7 +52,7 @@ pub fn walk<E: Edges>(alloc: Global, roots: &[Thing], graph: &mut E) -> Result<V
     ensures kept { E.kept graph.new ≡ E.kept graph.old }
 {
     let nowhere = Unplaced { of: () };
-    let mut seen = Seen::new(alloc, PlaceSet::with_places(alloc, 0)?);
+    let mut seen = Seen::new(alloc);
     let mut values = Vec::new(alloc);
     let mut next = Vec::new(alloc);
     seen.see_all(roots, &nowhere)?;

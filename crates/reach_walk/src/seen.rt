@@ -1,47 +1,60 @@
 // What a walk has seen.
 
-ghost use Rattle.std.specs.Prelude.{◌≡◌, ◌≤◌, ◌↔◌, ◌∷◌, [], ℕ, Option, Contains, OnOk, length};
+ghost use Rattle.std.specs.Prelude.{◌≡◌, ◌↔◌, ◌∷◌, [], ℕ, Option, None, Contains, IfOk, OnOk};
 ghost use Rattle.std.specs.List.Sorted.{IsStrictlySortedBy};
 ghost use Rattle.orca_names.specs.Names.{thing_cmp};
 ghost use Rattle.orca_names.specs.declared.names.Thing.{Thing as thing};
 ghost use Rattle.orca_names.specs.declared.names.Thing.TheVariants.{Actor as actor};
-ghost use Rattle.ready_set.specs.Next.{AreOff};
-ghost use Rattle.reach_walk.specs.Walk.{Adds, IsSeen};
+ghost use Rattle.reach_walk.specs.Walk.{Adds, AreTold, IsSeen};
 
 use crate::listing::{list_others, list_placed};
-use crate::noted::Noted;
+use crate::noted::{Noted, is_among};
 use crate::places::Places;
 use crate::thing_list::{FEW, ThingList};
 use orca_names::{ActorName, NoMemory, Thing};
-use ready_set::PlaceSet;
 use std::alloc::Global;
-use std::collections::BTreeSet;
 
 /// The things that a walk has met, in the order in which they came, each once.
 #[derive(Drop)]
 pub(crate) struct Seen {
     pub(crate) things: ThingList,
-    pub(crate) noted: Noted,
+    // Nothing is noted while they are few: a thing is then looked for among them.
+    pub(crate) noted: Option<Noted>,
     // The last owner that was seen: the next thing mostly has the same one.
     pub(crate) owner: Option<ActorName>,
 }
 
 impl Seen {
-    /// Nothing was seen yet; these bits are for the places.
-    pub(crate) fn new(alloc: Global, bits: PlaceSet) -> Seen
-        requires { AreOff bits 0 (length bits) }
+    /// Nothing was seen yet. It takes no memory.
+    pub(crate) fn new(alloc: Global) -> Seen
         ensures none { result.things ≡ [] }
-        ensures seen { (place : thing → Option ℕ) (count : ℕ) → count ≤ length bits
-            → IsSeen place count result }
+        ensures seen { (place : thing → Option ℕ) (count : ℕ) → IsSeen place count result }
     {
         Seen {
             things: ThingList::new(alloc),
-            noted: Noted {
-                bits,
-                others: BTreeSet::new(alloc),
-            },
+            noted: None,
             owner: None,
         }
+    }
+
+    // Sees a thing while nothing is noted. Once the things are no longer few, all are noted.
+    #[inline(always)]
+    fn see_early<P: Places>(&mut self, thing: &Thing, places: &P) -> Result<(), NoMemory>
+        requires seen { IsSeen (P.place places.now) (P.count places.now) self.old }
+        requires early { self.old.noted ≡ None }
+        ensures adds { OnOk result
+            (Adds (thing.now ∷ []) self.old.things self.new.things) }
+        ensures seen { OnOk result (IsSeen (P.place places.now) (P.count places.now) self.new) }
+    {
+        if is_among(self.things.as_slice(), thing) {
+            return Ok(());
+        }
+        self.things.push(*thing)?;
+        if self.things.len() > FEW {
+            let alloc = self.things.allocator();
+            self.noted = Some(Noted::of(alloc, self.things.as_slice(), places)?);
+        }
+        Ok(())
     }
 
     /// Sees a thing, which comes last where it was not seen before.
@@ -51,11 +64,15 @@ impl Seen {
             (Adds (thing.now ∷ []) self.old.things self.new.things) }
         ensures seen { OnOk result (IsSeen (P.place places.now) (P.count places.now) self.new) }
     {
-        let at = places.place_of(thing);
-        if self.noted.note(thing, at, &self.things, places)? {
-            self.things.push(*thing)?;
+        match &mut self.noted {
+            Some(noted) => {
+                if noted.note(thing, places)? {
+                    self.things.push(*thing)?;
+                }
+                Ok(())
+            }
+            None => self.see_early(thing, places),
         }
-        Ok(())
     }
 
     /// Sees an owner.
@@ -93,20 +110,32 @@ impl Seen {
         Ok(())
     }
 
-    /// Puts all of them in the order of things; what was noted is then used up.
+    /// Puts all of them in the order of things.
     pub(crate) fn sort<P: Places>(&mut self, places: &P) -> Result<(), NoMemory>
         requires { IsSeen (P.place places.now) (P.count places.now) self.old }
         ensures same { OnOk result ((x : thing) → Contains self.new.things x
             ↔ Contains self.old.things x) }
         ensures rising { OnOk result (IsStrictlySortedBy thing_cmp self.new.things) }
     {
-        if self.things.len() <= FEW {
-            self.things.sort();
-            return Ok(());
+        match &self.noted {
+            Some(noted) => {
+                list_placed(&noted.bits, places, &mut self.things)?;
+                list_others(&noted.others, &mut self.things)
+            }
+            None => self.things.sort(),
         }
-        let noted = &mut self.noted;
-        noted.complete(self.things.as_slice(), places)?;
-        list_placed(&noted.bits, places, &mut self.things)?;
-        list_others(&mut noted.others, &mut self.things)
+    }
+
+    /// What tells all of them.
+    pub(crate) fn into_noted<P: Places>(self, places: &P) -> Result<Noted, NoMemory>
+        requires { IsSeen (P.place places.now) (P.count places.now) self }
+        ensures { IfOk result (λ noted.
+            AreTold (P.place places.now) (P.count places.now) noted self.things) }
+    {
+        let Seen { things, noted, .. } = self;
+        match noted {
+            Some(noted) => Ok(noted),
+            None => Noted::of(things.allocator(), things.as_slice(), places),
+        }
     }
 }

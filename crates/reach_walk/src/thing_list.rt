@@ -47,6 +47,11 @@ impl ThingList {
         }
     }
 
+    /// The allocator that longer lists take their memory from.
+    pub(crate) fn allocator(&self) -> Global {
+        *self.many.allocator()
+    }
+
     /// How many there are.
     pub(crate) fn len(&self) -> usize
         ensures { result ≡ length self.now }
@@ -117,17 +122,19 @@ impl ThingList {
         self.many.clear();
     }
 
-    /// Puts them in the order of things.
-    pub(crate) fn sort(&mut self)
-        ensures same { IsPermutation self.old self.new }
-        ensures sorted { IsSorted thing_cmp self.new }
+    /// Puts them in the order of things. It goes over them only a few times where they were put
+    /// together from a few lists in order, and takes no memory while they are few.
+    pub(crate) fn sort(&mut self) -> Result<(), NoMemory>
+        ensures same { OnOk result (IsPermutation self.old self.new) }
+        ensures sorted { OnOk result (IsSorted thing_cmp self.new) }
     {
         if self.many.is_empty() {
             let few = &mut self.few;
             few[..self.count].sort_unstable();
         } else {
-            self.many.sort_unstable();
+            self.many.sort()?;
         }
+        Ok(())
     }
 
     /// The things as a `Vec`, in their order.
