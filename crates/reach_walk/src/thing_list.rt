@@ -35,6 +35,18 @@ impl Model for ThingList {
     ghost invariant = { λ s. HasPlaces s.few s.count };
 }
 
+// One thing more than a few: all of them move, into memory that was kept where there is any.
+#[inline(never)]
+fn spill(few: &[Thing; FEW], thing: Thing, many: &mut Vec<Thing>) -> Result<(), NoMemory>
+    requires { many.old.items ≡ [] }
+    ensures { OnOk result (many.new.items ≡ few.now ++ thing ∷ []) }
+{
+    many.reserve(4 * FEW)?;
+    many.extend_from_slice(few)?;
+    many.push(thing)?;
+    Ok(())
+}
+
 impl ThingList {
     /// No things yet.
     pub fn new(alloc: Global) -> ThingList
@@ -83,19 +95,6 @@ impl ThingList {
         self.as_slice()[i]
     }
 
-    // One thing more than a few: all of them move.
-    #[inline(never)]
-    fn spill(&mut self, thing: Thing) -> Result<(), NoMemory>
-        requires { length self.old ≡ 8 }
-        ensures { OnOk result (self.new ≡ self.old ++ thing ∷ []) }
-    {
-        let mut many = Vec::with_capacity(*self.many.allocator(), 4 * FEW)?;
-        many.extend_from_slice(self.as_slice())?;
-        many.push(thing)?;
-        self.many = many;
-        Ok(())
-    }
-
     /// One thing more, at the end.
     #[inline(always)]
     pub(crate) fn push(&mut self, thing: Thing) -> Result<(), NoMemory>
@@ -111,7 +110,7 @@ impl ThingList {
             self.count += 1;
             return Ok(());
         }
-        self.spill(thing)
+        spill(&self.few, thing, &mut self.many)
     }
 
     /// Drops all of them, and keeps what memory it took.
