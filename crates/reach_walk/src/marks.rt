@@ -82,6 +82,7 @@ pub fn mark_bits<R: PlacedRows>(
     ensures places { (R.place rows.new ≡ R.place rows.old) × (R.count rows.new ≡ R.count rows.old) }
 {
     let mut seen = Seen::new(alloc);
+    seen.begin_noting(rows)?;
     walk_freely(rows, &mut seen, roots)?;
     let noted = seen.into_noted(rows)?;
     Ok(noted.bits)

@@ -1,6 +1,6 @@
 // Which things a walk has met.
 
-ghost use Rattle.std.specs.Prelude.{◌≡◌, ◌↔◌, ◌≤◌, List, Contains, IfOk, IsTrue, length};
+ghost use Rattle.std.specs.Prelude.{◌≡◌, ◌↔◌, ◌≤◌, [], List, Contains, IfOk, IsTrue, length};
 ghost use Rattle.orca_names.specs.declared.names.Thing.{Thing as any_thing};
 ghost use Rattle.reach_walk.specs.Walk.{AreTold, Notes};
 
@@ -46,16 +46,25 @@ impl Noted {
         }
     }
 
+    /// What tells no thing yet.
+    #[inline(always)]
+    pub(crate) fn new<P: Places>(alloc: Global, places: &P) -> Result<Noted, NoMemory>
+        ensures { IfOk result (λ noted.
+            AreTold (P.place places.now) (P.count places.now) noted []) }
+    {
+        Ok(Noted {
+            bits: PlaceSet::with_places(alloc, places.places())?,
+            others: BTreeSet::new(alloc),
+        })
+    }
+
     /// What tells these things.
     #[inline(never)]
     pub(crate) fn of<P: Places>(alloc: Global, met: &[Thing], places: &P) -> Result<Noted, NoMemory>
         ensures { IfOk result (λ noted.
             AreTold (P.place places.now) (P.count places.now) noted met.now) }
     {
-        let mut noted = Noted {
-            bits: PlaceSet::with_places(alloc, places.places())?,
-            others: BTreeSet::new(alloc),
-        };
+        let mut noted = Noted::new(alloc, places)?;
         for thing in met {
             noted.note(thing, places)?;
         }

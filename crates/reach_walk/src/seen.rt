@@ -37,6 +37,18 @@ impl Seen {
         }
     }
 
+    /// From now on each thing that is seen is noted, where nothing was seen yet.
+    #[inline(always)]
+    pub(crate) fn begin_noting<P: Places>(&mut self, places: &P) -> Result<(), NoMemory>
+        requires none { self.old.things ≡ [] }
+        requires seen { IsSeen (P.place places.now) (P.count places.now) self.old }
+        ensures same { self.new.things ≡ self.old.things }
+        ensures seen { OnOk result (IsSeen (P.place places.now) (P.count places.now) self.new) }
+    {
+        self.noted = Some(Noted::new(self.things.allocator(), places)?);
+        Ok(())
+    }
+
     // Sees a thing while nothing is noted. Once the things are no longer few, all are noted.
     #[inline(always)]
     fn see_early<P: Places>(&mut self, thing: &Thing, places: &P) -> Result<(), NoMemory>

@@ -3,8 +3,8 @@ use Rattle.reach_walk.specs.Marks.{marks_of, TellMarks}
 use Rattle.reach_walk.proofs.Found.{marks-told}
 use Rattle.reach_walk.proofs.marks.mark_bits.Goals as goal
 
-pub walk_freely-requires-clause-seen : goal.walk_freely-requires-clause-seen
-walk_freely-requires-clause-seen g c = c.new-seen.ensures.seen _ _
+pub begin_noting-requires-clause-seen : goal.begin_noting-requires-clause-seen
+begin_noting-requires-clause-seen g c = c.new-seen.ensures.seen _ _
 
 pub returns-clause-marks : goal.returns-clause-marks
 returns-clause-marks g c =
