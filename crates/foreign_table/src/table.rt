@@ -91,7 +91,12 @@ fn put_entry(held: &mut Vec<Entry>, i: usize, thing: &Thing, by: u64)
 {
     let count = Held::new(by);
     let thing = *thing;
-    let _done = held.insert(i, Entry { thing, count }).is_ok();
+    let entry = Entry { thing, count };
+    if i == held.len() {
+        held.push_reserved(entry);
+        return;
+    }
+    let _done = held.insert(i, entry).is_ok();
 }
 
 // There is room.
