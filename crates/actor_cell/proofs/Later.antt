@@ -239,8 +239,6 @@ module _ (heap : Heap) (foreign : Table) (made : List Row) (come : ComeLater hea
       is : (mine : Bool) → mine ≡ true → (late : Bool) → late ≡ true → cond (mine && late) (slice_get made (heap.next + i - heap.next)) None ≡ Some (get_or made i [])
       is mine e late f = (λ j. cond (e j && f j) (slice_get made (back j)) None) ∙ slice_get-get_or made i [] l
 
-  -- by the place
-
   -- what has another place than those that were made was not made
   pub not_made : (x : Thing) (p : ℕ) → turn_place x ≡ Some p → ((i : ℕ) → i < length made → p ≢ length lower + i) → thing_row turn_row x ≡ thing_row (row_known heap foreign) x
   not_made x p e other = row_of_before x (λ i l same. let both : Some p ≡ Some (length lower + i) = sym e ∙ ap turn_place same ∙ turn_new i l in other i l (let it : p ≡ length lower + i = cc in it))

@@ -34,7 +34,7 @@ made_in_turn me first made n =
 abbrev pub made_thing : Heap → ℕ → Thing
 made_thing heap i = Obj (record { owner = heap.owner; serial = heap.next + i })
 
--- what the turn made has later serials than the objects of before, which no number exceeds
+-- the objects of before have serials below those that the turn made, and these fit in a number
 pub record ComeLater (heap : Heap) (made : List Row) : Type 0 where
   pub later : (i d : ℕ) → i < length (m.keys heap.rows)
       → slice_index_or (m.keys heap.rows) i d < heap.next

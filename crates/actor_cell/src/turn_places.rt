@@ -47,7 +47,8 @@ fn come_later(heap: &ObjectHeap, made: &[Row]) -> bool
     last.serial.get() < next
 }
 
-// Whether more than a few things are known.
+// Whether more than a few things are known. Either answer serves, with or without places: it tells
+// which of them is soon done.
 fn are_many(rows: &TurnRows<'_>) -> bool {
     let KnownRows { heap, foreign } = rows.known;
     if heap.len() > FEW {
@@ -60,7 +61,7 @@ fn are_many(rows: &TurnRows<'_>) -> bool {
 }
 
 impl<'a> TurnPlaces<'a> {
-    /// These rows with places, where more than a few things are known.
+    /// These rows with places. Where few things are known, a walk is sooner done without.
     pub(crate) fn of(rows: TurnRows<'a>) -> Option<TurnPlaces<'a>>
         ensures { IfSome result (λ places.
             (places.known.rows.heap.now ≡ rows.entry.known.heap.now)
@@ -134,7 +135,8 @@ impl RowReader for TurnPlaces<'_> {
         (with_made s.made.now (holdings_of 0 s.known.rows.heap.now s.known.rows.foreign.now)) };
 
     ghost within = { λ s n row e. row_is_known s.known.rows.heap.now.owner
-        (with_made s.made.now (holdings_of 0 s.known.rows.heap.now s.known.rows.foreign.now)) n row e };
+        (with_made s.made.now (holdings_of 0 s.known.rows.heap.now s.known.rows.foreign.now))
+        n row e };
 
     fn read_row(&mut self, n: ObjName) -> Option<Row> {
         let rows = TurnRows {
