@@ -8,7 +8,7 @@ ghost use Rattle.actor_cell.specs.InTurn.{ComeLater, made_thing};
 use crate::turn_rows::TurnRows;
 use known_rows::{KnownPlaces, KnownRows};
 use object_heap::ObjectHeap;
-use orca_names::{ObjName, Row, RowReader, Rows, Serial, Thing};
+use orca_names::{Args, ObjName, Row, RowReader, Rows, Serial, Thing, Value};
 use reach_walk::{PlacedRows, Places};
 
 // Among so few things places are not worth while.
@@ -47,8 +47,7 @@ fn come_later(heap: &ObjectHeap, made: &[Row]) -> bool
     last.serial.get() < next
 }
 
-// Whether more than a few things are known. Either answer serves, with or without places: it tells
-// which of them is soon done.
+// Whether more than a few things are known.
 fn are_many(rows: &TurnRows<'_>) -> bool {
     let KnownRows { heap, foreign } = rows.known;
     if heap.len() > FEW {
@@ -60,17 +59,49 @@ fn are_many(rows: &TurnRows<'_>) -> bool {
     rows.made.len() > FEW
 }
 
+fn names_object(values: &[Value]) -> bool {
+    for value in values {
+        if let Value::Obj(_) = value {
+            return true;
+        }
+    }
+    false
+}
+
+// Whether the value leads to an object whose row names another.
+fn leads_on(rows: &TurnRows<'_>, value: &Value) -> bool {
+    let Value::Obj(n) = value else {
+        return false;
+    };
+    match rows.row_of(*n) {
+        Some(row) => names_object(row.as_slice()),
+        None => false,
+    }
+}
+
+/// Whether the arguments may reach so much that places are worth while. Either answer serves: it
+/// tells by which way a walk is likely to end sooner.
+pub(crate) fn may_reach_many(rows: &TurnRows<'_>, args: &Args) -> bool {
+    if !are_many(rows) {
+        return false;
+    }
+    for value in args.as_slice() {
+        if leads_on(rows, value) {
+            return true;
+        }
+    }
+    false
+}
+
 impl<'a> TurnPlaces<'a> {
-    /// These rows with places. Where few things are known, a walk is sooner done without.
+    /// These rows with places; `None` where serials do not rise or numbers do not reach so far, to
+    /// which no run comes.
     pub(crate) fn of(rows: TurnRows<'a>) -> Option<TurnPlaces<'a>>
         ensures { IfSome result (λ places.
             (places.known.rows.heap.now ≡ rows.entry.known.heap.now)
             × (places.known.rows.foreign.now ≡ rows.entry.known.foreign.now)
             × (places.made.now ≡ rows.entry.made.now)) }
     {
-        if !are_many(&rows) {
-            return None;
-        }
         let KnownRows { heap, foreign } = rows.known;
         let made = rows.made;
         if !come_later(heap, made) {
