@@ -1,7 +1,9 @@
+pub mod Between
 pub mod Brought
 pub mod GoParts
 pub mod Going
 pub mod Known
+pub mod Later
 pub mod Learnt
 pub mod Marked
 pub mod Needing

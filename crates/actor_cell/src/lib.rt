@@ -21,6 +21,7 @@ mod loads;
 mod out;
 mod sweeping;
 mod take;
+mod turn_places;
 mod turn_rows;
 mod turning;
 

@@ -10,6 +10,7 @@ ghost use Rattle.actor_cell.specs.Cells.{as_cell};
 ghost use Rattle.actor_cell.specs.Goes.{having_made, things_from};
 
 use crate::cell::Cell;
+use crate::turn_places::{TurnPlaces, may_reach_many};
 use crate::turn_rows::TurnRows;
 use foreign_table::ForeignTable;
 use known_rows::KnownRows;
@@ -47,6 +48,11 @@ impl Cell {
             OnOk result (things.new ≡ things_from deep self.now.heap.owner h args.now) }
     {
         let rows = self.rows_with(&self.foreign, made);
+        if may_reach_many(&rows, args) {
+            if let Some(mut places) = TurnPlaces::of(rows) {
+                return find_loaded(alloc, args, &mut places, things);
+            }
+        }
         let mut reader = Unplaced {
             of: Reading { rows: &rows },
         };

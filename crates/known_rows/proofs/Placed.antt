@@ -139,6 +139,10 @@ module _ (heap : Heap) (foreign : Table) (first end : ℕ) (span : IsSpan heap.o
   above_count : length (held_above heap foreign) ≡ m.len foreign.entries - end
   above_count = ap length above_is ∙ length-drop end keys ∙ ap (λ n. n - end) (keys_count foreign)
 
+  -- how many places there are before what is held of actors with higher numbers
+  pub lower_count : length lower ≡ first + 1 + m.len heap.rows
+  lower_count = omega (arith, length-append (held_below heap foreign) own, below_count, own_count)
+
   -- how many places there are
   pub count_is : length (placed_things heap foreign) ≡ first + 1 + m.len heap.rows + (m.len foreign.entries - end)
   count_is = omega (arith, length-append lower (held_above heap foreign), length-append (held_below heap foreign) own, below_count, own_count, above_count)

@@ -1,15 +1,15 @@
 // Places of what an actor knows.
 
-ghost use Rattle.std.specs.Prelude.{◌≡◌, ◌≢◌, ◌↔◌, ◌+◌, ◌-◌, ◌^◌, ◌<◌, ℕ, Some, None, length, slice_get, IsTrue};
+ghost use Rattle.std.specs.Prelude.{◌≡◌, ◌≢◌, ◌↔◌, ◌∷◌, ◌++◌, ◌+◌, ◌-◌, ◌^◌, ◌<◌, ℕ, Some, None, length, slice_get, IsTrue};
 ghost use Rattle.std.specs.FinMap as m;
 ghost use Rattle.foreign_table.specs.Span.{IsSpan};
 ghost use Rattle.known_rows.specs.Known.{row_known};
-ghost use Rattle.known_rows.specs.Places.{HoldsOthersOnly, place_in, placed_things};
+ghost use Rattle.known_rows.specs.Places.{HoldsOthersOnly, held_below, own_things, place_in, placed_things};
 ghost use Rattle.orca_names.specs.declared.names.ObjName.{ObjName as object_name};
 ghost use Rattle.std.specs.Option.{option_copied};
 ghost use Rattle.orca_names.specs.Names.{owner_of};
 ghost use Rattle.orca_names.specs.declared.names.Thing.{Thing as thing};
-ghost use Rattle.orca_names.specs.declared.names.Thing.TheVariants.{Obj as object};
+ghost use Rattle.orca_names.specs.declared.names.Thing.TheVariants.{Actor as actor, Obj as object};
 
 use crate::known::KnownRows;
 use foreign_table::ForeignTable;
@@ -65,6 +65,16 @@ impl<'a> KnownPlaces<'a> {
             ↔ HoldsOthersOnly self.now.rows.heap.now self.now.rows.foreign.now }
     {
         self.first == self.end
+    }
+
+    /// The first place of what it holds of actors with higher numbers: those before are of what it
+    /// holds of actors with lower ones, of itself and of its own objects.
+    pub fn first_above(&self) -> usize
+        ensures { let heap = self.now.rows.heap.now in
+            let below = held_below heap self.now.rows.foreign.now in
+            result ≡ length (below ++ actor heap.owner ∷ own_things heap) }
+    {
+        self.above
     }
 
     /// The place of an own object, by its place in the order of serials.
