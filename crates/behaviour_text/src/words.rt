@@ -1,8 +1,9 @@
 // Words, numerals and names.
 
-ghost use Rattle.std.specs.Prelude.{◌≡◌, [], ◌∷◌, map, IfOk};
+ghost use Rattle.std.specs.Prelude.{◌≡◌, ◌≤◌, [], ◌∷◌, map, length, true, IfOk};
 ghost use Rattle.std.specs.Char.{is_ascii_digit};
 ghost use Rattle.std.specs.List.{list_all, slice_split};
+ghost use Rattle.std.specs.Str.Parse.{digits_value};
 ghost use Rattle.text_lines.specs.Lines.{is_space};
 ghost use Rattle.behaviour_code.specs.Names.{is_name, is_name_byte};
 ghost use Rattle.behaviour_text.specs.Words.{words_of, has_numeral_form, numeral, word_at, number_of, number_at};
@@ -66,15 +67,38 @@ fn two_digits(first: u8, second: u8) -> Option<u64>
     }
 }
 
+/// The number that at most 19 digits write, which has 64 bits.
+fn digits_value(digits: &[u8]) -> u64
+    requires digits { list_all is_ascii_digit digits.now ≡ true }
+    requires few { length digits.now ≤ 19 }
+    ensures { result ≡ digits_value 10 digits.now }
+{
+    let mut value = 0;
+    for digit in digits {
+        value = 10 * value + u64::from(*digit - b'0');
+    }
+    value
+}
+
+fn long_numeral(word: &[u8]) -> Option<u64>
+    requires { has_numeral_form word.now ≡ true }
+    ensures { result ≡ numeral word.now }
+{
+    match str::from_utf8(word) {
+        Ok(text) => text.parse::<u64>().ok(),
+        Err(_) => None,
+    }
+}
+
 fn any_numeral(word: &[u8]) -> Option<u64>
     ensures { result ≡ numeral word.now }
 {
     if !has_numeral_form(word) {
-        return None;
-    }
-    match str::from_utf8(word) {
-        Ok(text) => text.parse::<u64>().ok(),
-        Err(_) => None,
+        None
+    } else if word.len() <= 19 {
+        Some(digits_value(word))
+    } else {
+        long_numeral(word)
     }
 }
 
