@@ -55,19 +55,6 @@ pub numeral_is : {E : Type 0} (bs : List ℕ) (r : Result ℕ E) → ParsesUnsig
 numeral_is bs r h form =
     read bs r (parse_digits own 64 bs r h (digits_form bs form).0) (digits_form bs form).1 form
 
-onto : (b : Bool) (w : Bor (List ℕ)) (ws : List (Bor (List ℕ))) →
-    map (λ (x : Bor (List ℕ)). x.now) (cond b (w ∷ ws) ws) ≡ cond b (w.now ∷ map (λ (x : Bor (List ℕ)). x.now) ws) (map (λ (x : Bor (List ℕ)). x.now) ws)
-onto true w ws = refl
-onto false w ws = refl
-
--- which words are kept depends on what they point to
-pub words_now : (ws : List (Bor (List ℕ))) →
-    map (λ (x : Bor (List ℕ)). x.now) (filter (λ (x : Bor (List ℕ)). is_word x.now) ws) ≡ filter is_word (map (λ (x : Bor (List ℕ)). x.now) ws)
-words_now [] = refl
-words_now (w ∷ ws) =
-    onto (is_word w.now) w (filter (λ (x : Bor (List ℕ)). is_word x.now) ws)
-    ∙ ap (λ (t : List (List ℕ)). cond (is_word w.now) (w.now ∷ t) t) (words_now ws)
-
 -- ---- numerals of one digit and of two
 
 in_range : (d : ℕ) → is_ascii_digit d ≡ true → IsInRange 48 57 d

@@ -13,7 +13,7 @@ ghost use Rattle.behaviour_text.specs.Words.{words_of};
 use crate::errors::TextErr;
 use crate::place::{Stage, words_fault};
 use crate::reader::Reader;
-use crate::words::words_of;
+use crate::words::put_words;
 use behaviour_code::Program;
 use std::alloc::Global;
 use text_lines::{LineKind, LineSpan, lines};
@@ -39,12 +39,13 @@ fn line_fault(reader: &Reader, fault: Option<LineKind>, words: &[&[u8]]) -> Opti
     }
 }
 
-/// Takes the line of a number.
-fn take_line(
+/// Takes the line of a number. Its words are put into a list that each line uses again.
+fn take_line<'a>(
     reader: &mut Reader,
     alloc: Global,
     number: u32,
-    line: &[u8],
+    words: &mut Vec<&'a [u8]>,
+    line: &'a [u8],
     fault: Option<LineKind>,
 ) -> Result<(), TextErr>
     requires { length reader.old.names < 2 ^ 32 }
@@ -54,11 +55,11 @@ fn take_line(
         (option_or (option_map kind_number fault)
         (words_fault (place_of reader.old) (words_of line.now))))) }
 {
-    let words = words_of(alloc, line)?;
-    match line_fault(reader, fault, &words) {
+    put_words(words, line)?;
+    match line_fault(reader, fault, words) {
         Some(kind) => Err(TextErr::Fault { line: number, kind }),
         None => {
-            reader.take_words(alloc, &words)?;
+            reader.take_words(alloc, words)?;
             Ok(())
         }
     }
@@ -89,10 +90,12 @@ fn read_lines(
     ensures ok { OnOk result (read_from 0 start (lines_of bytes.now) ≡ Ok reader.new) }
     ensures fault { IfErr result (Tells (fault_of (read_from 0 start (lines_of bytes.now)))) }
 {
+    let mut words = Vec::new(alloc);
     let mut line = 0;
     for span in spans {
         line += 1;
-        let taken = take_line(reader, alloc, line, &bytes[span.from..span.to], span.fault);
+        let text = &bytes[span.from..span.to];
+        let taken = take_line(reader, alloc, line, &mut words, text, span.fault);
         if let Err(e) = taken {
             return Err(e);
         }

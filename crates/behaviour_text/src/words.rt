@@ -1,6 +1,6 @@
 // Words, numerals and names.
 
-ghost use Rattle.std.specs.Prelude.{◌≡◌, ◌≤◌, [], ◌∷◌, map, length, true, IfOk};
+ghost use Rattle.std.specs.Prelude.{◌≡◌, ◌≤◌, [], ◌∷◌, map, length, true, OnOk};
 ghost use Rattle.std.specs.Char.{is_ascii_digit};
 ghost use Rattle.std.specs.List.{list_all, slice_split};
 ghost use Rattle.std.specs.Str.Parse.{digits_value};
@@ -9,24 +9,21 @@ ghost use Rattle.behaviour_code.specs.Names.{is_name, is_name_byte};
 ghost use Rattle.behaviour_text.specs.Words.{words_of, has_numeral_form, numeral, word_at, number_of, number_at};
 
 use orca_names::NAME_LIMIT;
-use std::alloc::{AllocError, Global};
+use std::alloc::AllocError;
 use std::str;
 use text_lines::is_space;
 
-/// The pieces of a line between its spaces, empty ones too.
-fn pieces_of(alloc: Global, line: &[u8]) -> Result<Vec<&[u8]>, AllocError>
-    ensures { IfOk result (λ pieces. map (λ w. w.now) pieces.items ≡ slice_split is_space line.now) }
+/// Puts the words of a line into a list, in place of what it held.
+pub(crate) fn put_words<'a>(words: &mut Vec<&'a [u8]>, line: &'a [u8]) -> Result<(), AllocError>
+    ensures { OnOk result (map (λ w. w.now) words.new.items ≡ words_of line.now) }
 {
-    line.split(|byte| is_space(*byte)).collect(alloc)
-}
-
-/// The words of a line.
-pub(crate) fn words_of(alloc: Global, line: &[u8]) -> Result<Vec<&[u8]>, AllocError>
-    ensures { IfOk result (λ words. map (λ w. w.now) words.items ≡ words_of line.now) }
-{
-    let mut words = pieces_of(alloc, line)?;
-    words.retain(|piece| piece.len() != 0);
-    Ok(words)
+    words.clear();
+    for piece in line.split(|byte| is_space(*byte)) {
+        if piece.len() != 0 {
+            words.push(piece)?;
+        }
+    }
+    Ok(())
 }
 
 fn are_digits(word: &[u8]) -> bool
