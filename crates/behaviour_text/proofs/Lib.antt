@@ -6,6 +6,7 @@ pub mod Known
 pub mod Limits
 pub mod Named
 pub mod Numerals
+pub mod Operands
 pub mod Places
 pub mod Reread
 pub mod Said

@@ -1,9 +1,11 @@
 // The table of lines: their first words, and the operands behind these.
 
-ghost use Rattle.std.specs.Prelude.{◌≡◌, map, bytes_eq};
+ghost use Rattle.std.specs.Prelude.{◌≡◌, map, bytes_eq, IfOk, IfErr, Some, None, slice_index_or};
+ghost use Rattle.behaviour_text.specs.Items.{register_of, operand_number, operand_numbers};
 ghost use Rattle.behaviour_text.specs.Table.{spelling, line_word, operands_of, most_further, starts_with, lettered_fault, operand_fault, operands_fault, lowest, fits_count, shape_fault};
 
 use crate::words::{is_name, numeral};
+use std::alloc::AllocError;
 
 /// The first byte of a comment.
 pub(crate) const COMMENT_MARK: u8 = b'#';
@@ -234,30 +236,30 @@ pub(crate) fn starts_with(letter: u8, word: &[u8]) -> bool
     }
 }
 
-fn lettered_fault(letter: u8, word: &[u8]) -> Option<u8>
-    ensures { result ≡ lettered_fault letter word.now }
+/// The number behind the letter of a register or a field, or the fault.
+fn lettered_number(letter: u8, word: &[u8]) -> Result<u64, u8>
+    ensures ok { IfOk result (λ number. (lettered_fault letter word.now ≡ None)
+        × (number ≡ register_of word.now)) }
+    ensures fault { IfErr result (λ kind. lettered_fault letter word.now ≡ Some kind) }
 {
-    if !starts_with(letter, word) {
-        Some(4)
-    } else if numeral(&word[1..]).is_some() {
-        None
+    if starts_with(letter, word) {
+        numeral(&word[1..]).ok_or(5)
     } else {
-        Some(5)
+        Err(4)
     }
 }
 
-fn operand_fault(operand: Operand, word: &[u8]) -> Option<u8>
-    ensures { result ≡ operand_fault operand word.now }
+/// The number of an operand, 0 for a name, or the fault.
+fn operand_number(operand: Operand, word: &[u8]) -> Result<u64, u8>
+    ensures ok { IfOk result (λ number. (operand_fault operand word.now ≡ None)
+        × (number ≡ operand_number operand word.now)) }
+    ensures fault { IfErr result (λ kind. operand_fault operand word.now ≡ Some kind) }
 {
     match operand {
-        Operand::Register => lettered_fault(REGISTER_LETTER, word),
-        Operand::Field => lettered_fault(FIELD_LETTER, word),
-        Operand::Number => if numeral(word).is_some() {
-            None
-        } else {
-            Some(5)
-        },
-        Operand::Name => if is_name(word) { None } else { Some(6) },
+        Operand::Register => lettered_number(REGISTER_LETTER, word),
+        Operand::Field => lettered_number(FIELD_LETTER, word),
+        Operand::Number => numeral(word).ok_or(5),
+        Operand::Name => if is_name(word) { Ok(0) } else { Err(6) },
     }
 }
 
@@ -278,36 +280,55 @@ fn fits_count(word: LineWord, count: usize) -> bool
     least <= count && count - least <= most_further(word)
 }
 
-// A line has at most as many operands as `fits_count` lets pass, so this is called at most ten
-// times deep.
-fn operands_fault(operands: &[Operand], words: &[&[u8]]) -> Option<u8>
-    ensures { result ≡ operands_fault operands.now (map (λ w. w.now) words.now) }
+/// The operand of a place; past the table's it is a register.
+fn operand_at(operands: &[Operand], i: usize) -> Operand
+    ensures { result ≡ slice_index_or operands.now i Operand.Register }
 {
-    match words {
-        [] => None,
-        [word, words @ ..] => match operands {
-            [] => lowest(
-                lettered_fault(REGISTER_LETTER, word),
-                operands_fault(operands, words),
-            ),
-            [operand, operands @ ..] => {
-                lowest(
-                    operand_fault(*operand, word),
-                    operands_fault(operands, words),
-                )
-            }
-        },
+    if i < operands.len() {
+        operands[i]
+    } else {
+        Operand::Register
     }
 }
 
-/// The lowest fault of the operands of a line.
+/// The lowest fault of some operands. Without one their numbers are put into a list.
+fn put_operands(
+    numbers: &mut Vec<u64>,
+    operands: &[Operand],
+    words: &[&[u8]],
+) -> Result<Option<u8>, AllocError>
+    ensures fault { IfOk result (λ fault. fault
+        ≡ operands_fault operands.now (map (λ w. w.now) words.now)) }
+    ensures numbers { IfOk result (λ fault. fault ≡ None → numbers.new.items
+        ≡ operand_numbers operands.now (map (λ w. w.now) words.now)) }
+{
+    numbers.clear();
+    let mut fault = None;
+    for i in 0..words.len() {
+        match operand_number(operand_at(operands, i), words[i]) {
+            Ok(number) => numbers.push(number)?,
+            Err(kind) => fault = lowest(fault, Some(kind)),
+        }
+    }
+    Ok(fault)
+}
+
+/// The lowest fault of the operands of a line. Without one their numbers are put into a list, in
+/// place of what it held.
 #[tactic(auto, unfolding(crate::specs::Table::shape_fault))]
-pub(crate) fn shape_fault(word: LineWord, words: &[&[u8]]) -> Option<u8>
-    ensures { result ≡ shape_fault word (map (λ w. w.now) words.now) }
+pub(crate) fn put_numbers(
+    numbers: &mut Vec<u64>,
+    word: LineWord,
+    words: &[&[u8]],
+) -> Result<Option<u8>, AllocError>
+    ensures fault { IfOk result (λ fault. fault
+        ≡ shape_fault word (map (λ w. w.now) words.now)) }
+    ensures numbers { IfOk result (λ fault. fault ≡ None → numbers.new.items
+        ≡ operand_numbers (operands_of word) (map (λ w. w.now) words.now)) }
 {
     if fits_count(word, words.len()) {
-        operands_fault(operands_of(word), words)
+        put_operands(numbers, operands_of(word), words)
     } else {
-        Some(4)
+        Ok(Some(4))
     }
 }

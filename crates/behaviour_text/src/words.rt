@@ -6,7 +6,7 @@ ghost use Rattle.std.specs.List.{list_all, slice_split};
 ghost use Rattle.std.specs.Str.Parse.{digits_value};
 ghost use Rattle.text_lines.specs.Lines.{is_space};
 ghost use Rattle.behaviour_code.specs.Names.{is_name, is_name_byte};
-ghost use Rattle.behaviour_text.specs.Words.{words_of, has_numeral_form, numeral, word_at, number_of, number_at};
+ghost use Rattle.behaviour_text.specs.Words.{words_of, has_numeral_form, numeral, word_at};
 
 use orca_names::NAME_LIMIT;
 use std::alloc::AllocError;
@@ -134,17 +134,4 @@ pub(crate) fn word_at<'a>(words: &[&'a [u8]], i: usize) -> &'a [u8]
     ensures { result.now ≡ word_at (map (λ w. w.now) words.now) i }
 {
     if i < words.len() { words[i] } else { &[] }
-}
-
-/// The number of a word, 0 where it is no numeral.
-pub(crate) fn number_of(word: &[u8]) -> u64
-    ensures { result ≡ number_of word.now }
-{
-    numeral(word).unwrap_or(0)
-}
-
-pub(crate) fn number_at(words: &[&[u8]], i: usize) -> u64
-    ensures { result ≡ number_at (map (λ w. w.now) words.now) i }
-{
-    number_of(word_at(words, i))
 }
