@@ -12,7 +12,6 @@ pub mod Reread
 pub mod Said
 pub mod Shapes
 pub mod Sound
-pub mod Spelled
 pub mod Spelling
 pub mod Steps
 pub mod Whole

@@ -132,37 +132,6 @@ fn is_spelled(word: LineWord, text: &[u8]) -> bool
     spelling(word) == text
 }
 
-/// What a first word would have to say, by its first letters.
-fn guess(text: &[u8]) -> Option<LineWord> {
-    match text {
-        [b'a', ..] => Some(LineWord::Instr(Opcode::Add)),
-        [b'c', ..] => Some(LineWord::Instr(Opcode::Copy)),
-        [b'd', ..] => Some(LineWord::Instr(Opcode::Drop)),
-        [b'e', ..] => Some(LineWord::End),
-        [b'g', ..] => Some(LineWord::Instr(Opcode::Get)),
-        [b'i', ..] => Some(LineWord::Instr(Opcode::Int)),
-        [b'j', b'u', ..] => Some(LineWord::Instr(Opcode::Jump)),
-        [b'j', ..] => Some(LineWord::Instr(Opcode::JumpZero)),
-        [b'k', ..] => Some(LineWord::Kind),
-        [b'l', b'a', ..] => Some(LineWord::Instr(Opcode::Label)),
-        [b'l', b'e', ..] => Some(LineWord::Instr(Opcode::Less)),
-        [b'l', ..] => Some(LineWord::Instr(Opcode::Load)),
-        [b'm', ..] => Some(LineWord::Instr(Opcode::Mul)),
-        [b'n', ..] => Some(LineWord::Instr(Opcode::New)),
-        [b'o', ..] => Some(LineWord::On),
-        [b'p', b'r', ..] => Some(LineWord::Instr(Opcode::Print)),
-        [b'p', ..] => Some(LineWord::Instr(Opcode::Pin)),
-        [b'r', ..] => Some(LineWord::Instr(Opcode::Row)),
-        [b's', b'a', ..] => Some(LineWord::Instr(Opcode::Same)),
-        [b's', b'e', b'n', ..] => Some(LineWord::Instr(Opcode::Send)),
-        [b's', b'e', ..] => Some(LineWord::Instr(Opcode::Own)),
-        [b's', b't', ..] => Some(LineWord::Instr(Opcode::Store)),
-        [b's', ..] => Some(LineWord::Instr(Opcode::Sub)),
-        [b'u', ..] => Some(LineWord::Instr(Opcode::Unpin)),
-        _ => None,
-    }
-}
-
 #[tactic(auto, unfolding(crate::specs::Table::line_word))]
 fn look_up(text: &[u8]) -> Option<LineWord>
     ensures { result ≡ line_word text.now }
@@ -173,18 +142,39 @@ fn look_up(text: &[u8]) -> Option<LineWord>
         .find(|word| is_spelled(*word, text))
 }
 
-/// What a first word says, `None` where no line begins with it. It is guessed and then compared, and
-/// looked up where the guess is wrong.
-#[tactic(auto, using(crate::proofs::Spelled::word_of_spelling))]
+/// What a first word says, `None` where no line begins with it. A word of the table is told by its
+/// bytes; any other is looked up there, in vain.
+#[tactic(auto, unfolding(crate::specs::Table::line_word))]
 pub(crate) fn line_word(text: &[u8]) -> Option<LineWord>
     ensures { result ≡ line_word text.now }
 {
-    if let Some(word) = guess(text) {
-        if is_spelled(word, text) {
-            return Some(word);
-        }
+    match text {
+        [b'k', b'i', b'n', b'd'] => Some(LineWord::Kind),
+        [b'o', b'n'] => Some(LineWord::On),
+        [b'e', b'n', b'd'] => Some(LineWord::End),
+        [b'd', b'r', b'o', b'p'] => Some(LineWord::Instr(Opcode::Drop)),
+        [b'i', b'n', b't'] => Some(LineWord::Instr(Opcode::Int)),
+        [b's', b'e', b'l', b'f'] => Some(LineWord::Instr(Opcode::Own)),
+        [b'c', b'o', b'p', b'y'] => Some(LineWord::Instr(Opcode::Copy)),
+        [b'a', b'd', b'd'] => Some(LineWord::Instr(Opcode::Add)),
+        [b's', b'u', b'b'] => Some(LineWord::Instr(Opcode::Sub)),
+        [b'm', b'u', b'l'] => Some(LineWord::Instr(Opcode::Mul)),
+        [b'l', b'e', b's', b's'] => Some(LineWord::Instr(Opcode::Less)),
+        [b's', b'a', b'm', b'e'] => Some(LineWord::Instr(Opcode::Same)),
+        [b'r', b'o', b'w'] => Some(LineWord::Instr(Opcode::Row)),
+        [b'g', b'e', b't'] => Some(LineWord::Instr(Opcode::Get)),
+        [b'l', b'o', b'a', b'd'] => Some(LineWord::Instr(Opcode::Load)),
+        [b's', b't', b'o', b'r', b'e'] => Some(LineWord::Instr(Opcode::Store)),
+        [b'j', b'u', b'm', b'p'] => Some(LineWord::Instr(Opcode::Jump)),
+        [b'j', b'z', b'e', b'r', b'o'] => Some(LineWord::Instr(Opcode::JumpZero)),
+        [b'l', b'a', b'b', b'e', b'l'] => Some(LineWord::Instr(Opcode::Label)),
+        [b'p', b'i', b'n'] => Some(LineWord::Instr(Opcode::Pin)),
+        [b'u', b'n', b'p', b'i', b'n'] => Some(LineWord::Instr(Opcode::Unpin)),
+        [b'n', b'e', b'w'] => Some(LineWord::Instr(Opcode::New)),
+        [b's', b'e', b'n', b'd'] => Some(LineWord::Instr(Opcode::Send)),
+        [b'p', b'r', b'i', b'n', b't'] => Some(LineWord::Instr(Opcode::Print)),
+        _ => look_up(text),
     }
-    look_up(text)
 }
 
 fn opcode_operands(opcode: Opcode) -> &'static [Operand]
