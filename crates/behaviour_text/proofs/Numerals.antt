@@ -1,7 +1,6 @@
 -- Numerals as std reads them.
 use Rattle.behaviour_text.proofs.Choices.{both, and_true}
-use Rattle.std.proofs.Common.{◌≡◌, ℕ, ◌<◌, ◌≤◌, ◌^◌, ◌&&◌, Bool, true, false, cond, List, [], ◌∷◌, length, refl, ap, sym, ◌∙◌, arith, nat_lt, Some, None, Result, Ok, Err, IsAscii, if◌then◌else◌, lt-ltb, leb-true, zero, suc, nat_le, le-ltb, map, filter, take, get_or}
-use denote.Ref.{Bor}
+use Rattle.std.proofs.Common.{◌≡◌, ℕ, ◌<◌, ◌≤◌, ◌^◌, ◌&&◌, Bool, true, false, List, [], ◌∷◌, length, refl, ap, sym, ◌∙◌, arith, nat_lt, Some, None, Result, Ok, Err, IsAscii, if◌then◌else◌, lt-ltb, leb-true, zero, suc, nat_le, le-ltb, take, get_or}
 use Rattle.std.specs.List.{list_all}
 use Rattle.std.specs.Result.{OkIff, result_ok}
 use Rattle.std.specs.Str.Parse.{ParsesUnsigned, digits_value}
@@ -12,7 +11,7 @@ use Rattle.std.specs.Int.{IsInRange}
 use Rattle.std.proofs.lemmas.Int.Digits.{digits_value_more}
 use Rattle.std.proofs.lemmas.Str.Parse.{IsDigitsTest, IsNumeralModel, numerals_by_value, parse_digits, digit_at, digits_value_short, digits_value-take-le}
 use borrow.Author.Rules.{rules}
-use Rattle.behaviour_text.specs.Words.{has_numeral_form, numeral, is_word}
+use Rattle.behaviour_text.specs.Words.{has_numeral_form, numeral}
 
 abbrev AreDigits : List ℕ → Type 0
 AreDigits ds = list_all is_ascii_digit ds ≡ true

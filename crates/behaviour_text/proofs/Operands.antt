@@ -1,5 +1,5 @@
 -- The numbers of a line's operands, one after the other.
-use Rattle.std.proofs.Common.{◌≡◌, ℕ, ◌+◌, ◌<◌, List, [], ◌∷◌, ◌++◌, length, take, drop, get_or, map, refl, ap, sym, ◌∙◌, arith, Option, Some, None, zero, suc, min, slice_index_or, add-one, ap₂}
+use Rattle.std.proofs.Common.{◌≡◌, ℕ, ◌+◌, ◌<◌, List, [], ◌∷◌, ◌++◌, length, take, drop, get_or, map, refl, ap, sym, ◌∙◌, arith, Option, Some, None, zero, suc, slice_index_or, add-one, ap₂}
 use Rattle.std.proofs.lemmas.List.{get_or-map, length-map}
 use denote.Ref.{Bor}
 use Rattle.behaviour_text.specs.Items.{register_of, operand_number, operand_numbers}

@@ -1,17 +1,13 @@
 -- What a line without a fault in its operands is like.
-use Rattle.behaviour_text.proofs.Choices.{both, either, option_or_none, chosen_none}
+use Rattle.behaviour_text.proofs.Choices.{both, either, chosen_none}
 use Rattle.std.specs.Char.{is_ascii_alphanumeric}
-use Rattle.std.proofs.Common.{◌≡◌, ℕ, ◌+◌, ◌<◌, ◌≤◌, Bool, true, false, List, [], ◌∷◌, length, refl, arith, Option, Some, None, IfSome, if◌then◌else◌, ◌&&◌, leb-true, IsUtf8, nat_le, ◌||◌, ◌==◌, inl, inr, eqb-true, IsAscii, zero, suc, map, subst}
+use Rattle.std.proofs.Common.{◌≡◌, ℕ, ◌+◌, ◌<◌, ◌≤◌, Bool, true, false, List, [], ◌∷◌, length, refl, arith, Option, Some, None, IfSome, if◌then◌else◌, ◌&&◌, leb-true, IsUtf8, nat_le, ◌||◌, ◌==◌, inl, inr, eqb-true, IsAscii, zero, suc, subst}
 use Rattle.std.specs.List.{list_all}
 use Rattle.std.proofs.lemmas.Str.{IsUtf8-from_ascii}
-use Rattle.std.proofs.lemmas.List.{length-map}
-use denote.Ref.{Bor}
 use Rattle.behaviour_code.specs.Names.{is_name_byte, is_name}
-use Rattle.behaviour_text.specs.Faults.{place_fault, word_fault}
 use Rattle.behaviour_text.specs.Items.{name_place}
 use Rattle.behaviour_text.specs.Table.{operands_of, most_further, operand_fault, operands_fault, lowest, fits_count, shape_fault}
 use Rattle.behaviour_text.specs.Words.{word_at}
-use Rattle.behaviour_text.specs.declared.place.Place.{Place}
 use Rattle.behaviour_text.specs.declared.table.LineWord.{LineWord}
 use Rattle.behaviour_text.specs.declared.table.Operand.{Operand}
 use Rattle.behaviour_text.specs.declared.table.LineWord.TheVariants as W

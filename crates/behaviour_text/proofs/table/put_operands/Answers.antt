@@ -1,6 +1,5 @@
-use Rattle.std.proofs.Common.{ap, sym, ◌∙◌, subst, Option, List, ℕ, map, take, vec_items}
-use denote.Ref.{Bor}
-use Rattle.behaviour_text.proofs.Operands.{IsRead, fit_more, fault_further}
+use Rattle.std.proofs.Common.{ap, sym, ◌∙◌, vec_items}
+use Rattle.behaviour_text.proofs.Operands.{fit_more, fault_further}
 use Rattle.behaviour_text.proofs.table.put_operands.Goals as goal
 use Rattle.behaviour_text.proofs.table.put_operands.Goals.{in-Ok+in_ok-push-in-Ok, in-Err}
 

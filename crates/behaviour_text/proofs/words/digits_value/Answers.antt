@@ -1,4 +1,4 @@
-use Rattle.std.proofs.Common.{◌≡◌, ◌+◌, ◌*◌, ◌-◌, ◌<◌, ◌^◌, get_or, arith}
+use Rattle.std.proofs.Common.{arith}
 use Rattle.behaviour_text.proofs.Numerals.{digits_more, digits_fit}
 use Rattle.behaviour_text.proofs.words.digits_value.Goals as goal
 

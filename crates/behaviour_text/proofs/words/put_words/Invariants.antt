@@ -1,4 +1,4 @@
-use Rattle.std.proofs.Common.{◌≡◌, ap, map, filter}
+use Rattle.std.proofs.Common.{◌≡◌, map, filter}
 use Rattle.behaviour_text.specs.Words.{is_word}
 use Rattle.behaviour_text.proofs.words.put_words.Given as goal
 
