@@ -6,12 +6,12 @@ pub mod Known
 pub mod Limits
 pub mod Named
 pub mod Numerals
+pub mod Operands
 pub mod Places
 pub mod Reread
 pub mod Said
 pub mod Shapes
 pub mod Sound
-pub mod Spelled
 pub mod Spelling
 pub mod Steps
 pub mod Whole

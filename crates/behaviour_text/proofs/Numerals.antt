@@ -1,7 +1,6 @@
 -- Numerals as std reads them.
 use Rattle.behaviour_text.proofs.Choices.{both, and_true}
-use Rattle.std.proofs.Common.{◌≡◌, ℕ, ◌<◌, ◌≤◌, ◌^◌, ◌&&◌, Bool, true, false, cond, List, [], ◌∷◌, length, refl, ap, sym, ◌∙◌, arith, nat_lt, Some, None, Result, Ok, Err, IsAscii, if◌then◌else◌, lt-ltb, leb-true, zero, suc, nat_le, le-ltb, map, filter}
-use denote.Ref.{Bor}
+use Rattle.std.proofs.Common.{◌≡◌, ℕ, ◌<◌, ◌≤◌, ◌^◌, ◌&&◌, Bool, true, false, List, [], ◌∷◌, length, refl, ap, sym, ◌∙◌, arith, nat_lt, Some, None, Result, Ok, Err, IsAscii, if◌then◌else◌, lt-ltb, leb-true, zero, suc, nat_le, le-ltb, take, get_or}
 use Rattle.std.specs.List.{list_all}
 use Rattle.std.specs.Result.{OkIff, result_ok}
 use Rattle.std.specs.Str.Parse.{ParsesUnsigned, digits_value}
@@ -9,9 +8,10 @@ use Rattle.std.specs.Char.{is_ascii_digit, digit_value}
 use Rattle.std.proofs.lemmas.Str.{digit_value_digit}
 use Rattle.std.specs.Prelude.{◌-◌, ◌*◌, ◌+◌, ◌==◌, not}
 use Rattle.std.specs.Int.{IsInRange}
-use Rattle.std.proofs.lemmas.Str.Parse.{IsDigitsTest, IsNumeralModel, numerals_by_value, parse_digits}
+use Rattle.std.proofs.lemmas.Int.Digits.{digits_value_more}
+use Rattle.std.proofs.lemmas.Str.Parse.{IsDigitsTest, IsNumeralModel, numerals_by_value, parse_digits, digit_at, digits_value_short, digits_value-take-le}
 use borrow.Author.Rules.{rules}
-use Rattle.behaviour_text.specs.Words.{has_numeral_form, numeral, is_word}
+use Rattle.behaviour_text.specs.Words.{has_numeral_form, numeral}
 
 abbrev AreDigits : List ℕ → Type 0
 AreDigits ds = list_all is_ascii_digit ds ≡ true
@@ -54,19 +54,6 @@ pub numeral_is : {E : Type 0} (bs : List ℕ) (r : Result ℕ E) → ParsesUnsig
 numeral_is bs r h form =
     read bs r (parse_digits own 64 bs r h (digits_form bs form).0) (digits_form bs form).1 form
 
-onto : (b : Bool) (w : Bor (List ℕ)) (ws : List (Bor (List ℕ))) →
-    map (λ (x : Bor (List ℕ)). x.now) (cond b (w ∷ ws) ws) ≡ cond b (w.now ∷ map (λ (x : Bor (List ℕ)). x.now) ws) (map (λ (x : Bor (List ℕ)). x.now) ws)
-onto true w ws = refl
-onto false w ws = refl
-
--- which words are kept depends on what they point to
-pub words_now : (ws : List (Bor (List ℕ))) →
-    map (λ (x : Bor (List ℕ)). x.now) (filter (λ (x : Bor (List ℕ)). is_word x.now) ws) ≡ filter is_word (map (λ (x : Bor (List ℕ)). x.now) ws)
-words_now [] = refl
-words_now (w ∷ ws) =
-    onto (is_word w.now) w (filter (λ (x : Bor (List ℕ)). is_word x.now) ws)
-    ∙ ap (λ (t : List (List ℕ)). cond (is_word w.now) (w.now ∷ t) t) (words_now ws)
-
 -- ---- numerals of one digit and of two
 
 in_range : (d : ℕ) → is_ascii_digit d ≡ true → IsInRange 48 57 d
@@ -85,3 +72,19 @@ two_digits_are d e n h k =
     let value : 10 * (d - 48) + (e - 48) ≡ (0 * 10 + digit_value d) * 10 + digit_value e = omega (arith, digit_value_digit d r, digit_value_digit e q) in
     let form : (not (d == 48) && (is_ascii_digit d && (is_ascii_digit e && true))) ≡ true = and_true _ _ n (and_true _ _ h (and_true _ _ k refl)) in
     ap Some value ∙ bounded (not (d == 48) && (is_ascii_digit d && (is_ascii_digit e && true))) ((0 * 10 + digit_value d) * 10 + digit_value e) form (omega (arith, digit_value_digit d r, digit_value_digit e q, r.1, q.1))
+
+-- ---- numerals of at most 19 digits
+
+-- one digit more
+pub digits_more : (ds : List ℕ) (i n : ℕ) → list_all is_ascii_digit ds ≡ true → i < length ds → n ≡ digits_value 10 (take i ds) →
+    10 * n + (get_or ds i 0 - 48) ≡ digits_value 10 (take (i + 1) ds)
+digits_more ds i n h l e =
+    let value : digits_value 10 (take (i + 1) ds) ≡ digits_value 10 (take i ds) * 10 + digit_value (get_or ds i 0) = digits_value_more 10 ds i l in
+    omega (arith, value, e, digit_value_digit (get_or ds i 0) (digit_at ds i (own.to ds h) l))
+
+-- with one digit more it has 64 bits still
+pub digits_fit : (ds : List ℕ) (i n : ℕ) → list_all is_ascii_digit ds ≡ true → length ds ≤ 19 → i < length ds → n ≡ digits_value 10 (take i ds) →
+    10 * n + (get_or ds i 0 - 48) < 2 ^ 64
+digits_fit ds i n h few l e =
+    let most : digits_value 10 ds < 10 ^ 19 = digits_value_short own ds 19 h few in
+    omega (arith, digits_more ds i n h l e, digits_value-take-le 10 ds (i + 1) (omega arith), most)

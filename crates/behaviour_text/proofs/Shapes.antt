@@ -1,17 +1,13 @@
 -- What a line without a fault in its operands is like.
-use Rattle.behaviour_text.proofs.Choices.{both, either, option_or_none, chosen_none}
+use Rattle.behaviour_text.proofs.Choices.{both, either, chosen_none}
 use Rattle.std.specs.Char.{is_ascii_alphanumeric}
-use Rattle.std.proofs.Common.{◌≡◌, ℕ, ◌+◌, ◌<◌, ◌≤◌, Bool, true, false, List, [], ◌∷◌, length, refl, arith, Option, Some, None, IfSome, if◌then◌else◌, ◌&&◌, leb-true, IsUtf8, nat_le, ◌||◌, ◌==◌, inl, inr, eqb-true, IsAscii, zero, suc, map, subst}
+use Rattle.std.proofs.Common.{◌≡◌, ℕ, ◌+◌, ◌<◌, ◌≤◌, Bool, true, false, List, [], ◌∷◌, length, refl, arith, Option, Some, None, IfSome, if◌then◌else◌, ◌&&◌, leb-true, IsUtf8, nat_le, ◌||◌, ◌==◌, inl, inr, eqb-true, IsAscii, zero, suc, subst}
 use Rattle.std.specs.List.{list_all}
 use Rattle.std.proofs.lemmas.Str.{IsUtf8-from_ascii}
-use Rattle.std.proofs.lemmas.List.{length-map}
-use denote.Ref.{Bor}
 use Rattle.behaviour_code.specs.Names.{is_name_byte, is_name}
-use Rattle.behaviour_text.specs.Faults.{place_fault, word_fault}
 use Rattle.behaviour_text.specs.Items.{name_place}
 use Rattle.behaviour_text.specs.Table.{operands_of, most_further, operand_fault, operands_fault, lowest, fits_count, shape_fault}
 use Rattle.behaviour_text.specs.Words.{word_at}
-use Rattle.behaviour_text.specs.declared.place.Place.{Place}
 use Rattle.behaviour_text.specs.declared.table.LineWord.{LineWord}
 use Rattle.behaviour_text.specs.declared.table.Operand.{Operand}
 use Rattle.behaviour_text.specs.declared.table.LineWord.TheVariants as W
@@ -79,16 +75,6 @@ ascii_name (b ∷ bs) h (suc i) = ascii_name bs (both _ _ h).1 i
 
 pub name_utf8 : (w : List ℕ) → is_name w ≡ true → IsUtf8 w
 name_utf8 w h = IsUtf8-from_ascii w (ascii_name w (both (nat_le 1 (length w) && nat_le (length w) 32) (list_all is_name_byte w) h).1)
-
--- the operands are as many as the table's
-pub count_fits : (place : Place) (word : Option LineWord) (step : LineWord) (ws : List (Bor (List ℕ))) → word ≡ Some step →
-    word_fault place word (map (λ (w : Bor (List ℕ)). w.now) ws) ≡ None → fits_count step (length ws) ≡ true
-count_fits place word step ws e h =
-    let at : word_fault place (Some step) (map (λ (w : Bor (List ℕ)). w.now) ws) ≡ None =
-    subst (λ (o : Option LineWord). word_fault place o (map (λ (w : Bor (List ℕ)). w.now) ws) ≡ None) e h in
-    let count = (fits step (map (λ (w : Bor (List ℕ)). w.now) ws)
-    (option_or_none (shape_fault step (map (λ (w : Bor (List ℕ)). w.now) ws)) (place_fault place step (map (λ (w : Bor (List ℕ)). w.now) ws)) at).0).0 in
-    subst (λ (n : ℕ). fits_count step n ≡ true) (length-map ws (λ (w : Bor (List ℕ)). w.now)) count
 
 pub name_at : (word : LineWord) (place : ℕ) (ws : List (List ℕ)) → name_place word ≡ Some place → shape_fault word ws ≡ None → is_name (word_at ws place) ≡ true
 name_at word place ws e h =

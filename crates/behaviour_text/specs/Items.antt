@@ -1,5 +1,5 @@
 -- What the operands of a line say.
-use Rattle.std.specs.Prelude.{ℕ, List, Option, Some, None, map, drop}
+use Rattle.std.specs.Prelude.{ℕ, List, [], ◌∷◌, Option, Some, None, map, drop}
 use Rattle.behaviour_code.specs.declared.instr.Instr.{Instr}
 use Rattle.behaviour_code.specs.declared.instr.Instr.TheVariants as I
 use Rattle.behaviour_text.specs.Words.{word_at, number_at, number_of}
@@ -7,6 +7,8 @@ use Rattle.behaviour_text.specs.declared.table.LineWord.{LineWord}
 use Rattle.behaviour_text.specs.declared.table.LineWord.TheVariants as W
 use Rattle.behaviour_text.specs.declared.table.Opcode.{Opcode}
 use Rattle.behaviour_text.specs.declared.table.Opcode.TheVariants as C
+use Rattle.behaviour_text.specs.declared.table.Operand.{Operand}
+use Rattle.behaviour_text.specs.declared.table.Operand.TheVariants as P
 
 -- the number behind the letter of a register or a field
 abbrev pub register_of : List ℕ → ℕ
@@ -14,6 +16,20 @@ register_of word = number_of (drop 1 word)
 
 abbrev pub register_at : List (List ℕ) → ℕ → ℕ
 register_at words i = register_of (word_at words i)
+
+-- the number that an operand says, 0 for a name
+abbrev pub operand_number : Operand → List ℕ → ℕ
+operand_number P.Register word = register_of word
+operand_number P.Field word = register_of word
+operand_number P.Number word = number_of word
+operand_number P.Name word = 0
+
+-- the numbers of some operands; those past the table's are registers
+abbrev pub operand_numbers : List Operand → List (List ℕ) → List ℕ
+operand_numbers operands [] = []
+operand_numbers [] (word ∷ words) = register_of word ∷ operand_numbers [] words
+operand_numbers (operand ∷ operands) (word ∷ words) =
+    operand_number operand word ∷ operand_numbers operands words
 
 -- the instruction of a line, whose name has this number
 unfoldable pub instr_of : Opcode → ℕ → List (List ℕ) → Instr

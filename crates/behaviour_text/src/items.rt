@@ -1,94 +1,64 @@
 // What the operands of a line say.
 
-ghost use Rattle.std.specs.Prelude.{◌≡◌, ◌≤◌, map, drop, length, IfOk, true, min};
-ghost use Rattle.behaviour_text.specs.Items.{register_of, register_at, instr_of, name_place};
-ghost use Rattle.behaviour_text.specs.Table.{fits_count};
-ghost use Rattle.behaviour_text.specs.Words.{number_at};
+ghost use Rattle.std.specs.Prelude.{◌≡◌, ◌≤◌, ℕ, List, drop, length, slice_index_or, IfOk, true, min};
+ghost use Rattle.behaviour_text.specs.Items.{operand_numbers, instr_of, name_place};
+ghost use Rattle.behaviour_text.specs.Table.{fits_count, operands_of};
 
 use crate::table::{LineWord, Opcode};
-use crate::words::{number_at, number_of, word_at};
 use behaviour_code::{Instr, Name, Registers, RowRegisters};
 use std::alloc::{AllocError, Global};
 
-fn register_of(word: &[u8]) -> u64
-    ensures { result ≡ register_of word.now }
+/// The number at a place, 0 where there is none.
+pub(crate) fn number_at(numbers: &[u64], i: usize) -> u64
+    ensures { result ≡ slice_index_or numbers.now i 0 }
 {
-    match word {
-        [] => 0,
-        [_, digits @ ..] => number_of(digits),
-    }
-}
-
-fn register_at(words: &[&[u8]], i: usize) -> u64
-    ensures { result ≡ register_at (map (λ w. w.now) words.now) i }
-{
-    register_of(word_at(words, i))
+    if i < numbers.len() { numbers[i] } else { 0 }
 }
 
 /// The number of fields or parameters of a line, which is at most 8.
-pub(crate) fn small_at(words: &[&[u8]], i: usize) -> u8
-    ensures { result ≡ min (number_at (map (λ w. w.now) words.now) i) 8 }
+pub(crate) fn small_at(numbers: &[u64], i: usize) -> u8
+    ensures { result ≡ min (slice_index_or numbers.now i 0) 8 }
 {
-    number_at(words, i).min(8) as u8
+    number_at(numbers, i).min(8) as u8
 }
 
-fn registers_of(alloc: Global, words: &[&[u8]]) -> Result<Vec<u64>, AllocError>
-    ensures { IfOk result (λ registers. registers.items
-        ≡ map register_of (map (λ w. w.now) words.now)) }
-{
-    let mut registers = Vec::new(alloc);
-    for word in words {
-        registers.push(register_of(word))?;
-    }
-    Ok(registers)
-}
-
-fn row_of(alloc: Global, words: &[&[u8]]) -> Result<Instr, AllocError>
-    requires { (2 ≤ length words.now) × (length words.now ≤ 9) }
+fn row_of(alloc: Global, numbers: &[u64]) -> Result<Instr, AllocError>
+    requires { (2 ≤ length numbers.now) × (length numbers.now ≤ 9) }
     ensures { IfOk result (λ i. i
-        ≡ Instr.Row (register_at (map (λ w. w.now) words.now) 0)
-        (map register_of (drop 1 (map (λ w. w.now) words.now)))) }
+        ≡ Instr.Row (slice_index_or numbers.now 0 0) (drop 1 numbers.now)) }
 {
-    match words {
-        [into, values @ ..] => {
-            let values = registers_of(alloc, values)?;
-            Ok(Instr::Row(register_of(into), RowRegisters::of(values)))
-        }
-        [] => unreachable!(),
-    }
+    let values = numbers[1..].to_vec(alloc)?;
+    Ok(Instr::Row(numbers[0], RowRegisters::of(values)))
 }
 
-fn send_of(alloc: Global, name: Name, words: &[&[u8]]) -> Result<Instr, AllocError>
-    requires { (2 ≤ length words.now) × (length words.now ≤ 10) }
-    ensures { IfOk result (λ i. i ≡ Instr.Send (register_at (map (λ w. w.now) words.now) 0) name
-        (map register_of (drop 2 (map (λ w. w.now) words.now)))) }
+fn send_of(alloc: Global, name: Name, numbers: &[u64]) -> Result<Instr, AllocError>
+    requires { (2 ≤ length numbers.now) × (length numbers.now ≤ 10) }
+    ensures { IfOk result (λ i. i
+        ≡ Instr.Send (slice_index_or numbers.now 0 0) name (drop 2 numbers.now)) }
 {
-    match words {
-        [to, _, values @ ..] => {
-            let values = registers_of(alloc, values)?;
-            Ok(Instr::Send(register_of(to), name, Registers::of(values)))
-        }
-        _ => unreachable!(),
-    }
+    let values = numbers[2..].to_vec(alloc)?;
+    Ok(Instr::Send(numbers[0], name, Registers::of(values)))
 }
 
-/// The instruction of a line, whose name is this one.
-#[tactic(auto, unfolding(crate::specs::Items::instr_of))]
+/// The instruction of a line, whose name is this one, and whose operands say these numbers.
+#[tactic(auto, using(crate::proofs::Operands::number_there, crate::proofs::Operands::row_values, crate::proofs::Operands::send_values), unfolding(crate::specs::Items::instr_of))]
 pub(crate) fn instruction(
     alloc: Global,
     opcode: Opcode,
     name: Name,
-    words: &[&[u8]],
+    numbers: &[u64],
 ) -> Result<Instr, AllocError>
-    requires { fits_count (LineWord.Instr opcode) (length words.now) ≡ true }
-    ensures { IfOk result (λ i. i ≡ instr_of opcode name (map (λ w. w.now) words.now)) }
+    requires { fits_count (LineWord.Instr opcode) (length numbers.now) ≡ true }
+    ensures { (words : List (List ℕ))
+        → numbers.now ≡ operand_numbers (operands_of (LineWord.Instr opcode)) words
+        → IfOk result (λ i. i ≡ instr_of opcode name words) }
 {
-    let first = register_at(words, 0);
-    let second = register_at(words, 1);
-    let third = register_at(words, 2);
+    let first = number_at(numbers, 0);
+    let second = number_at(numbers, 1);
+    let third = number_at(numbers, 2);
     Ok(match opcode {
         Opcode::Drop => Instr::Drop(first),
-        Opcode::Int => Instr::Int(first, number_at(words, 1)),
+        Opcode::Int => Instr::Int(first, second),
         Opcode::Own => Instr::Own(first),
         Opcode::Copy => Instr::Copy(first, second),
         Opcode::Add => Instr::Add(first, second, third),
@@ -96,8 +66,8 @@ pub(crate) fn instruction(
         Opcode::Mul => Instr::Mul(first, second, third),
         Opcode::Less => Instr::Less(first, second, third),
         Opcode::Same => Instr::Same(first, second, third),
-        Opcode::Row => return row_of(alloc, words),
-        Opcode::Get => Instr::Get(first, second, number_at(words, 2)),
+        Opcode::Row => return row_of(alloc, numbers),
+        Opcode::Get => Instr::Get(first, second, third),
         Opcode::Load => Instr::Load(first, second),
         Opcode::Store => Instr::Store(first, second),
         Opcode::Jump => Instr::Jump(name),
@@ -106,7 +76,7 @@ pub(crate) fn instruction(
         Opcode::Pin => Instr::Pin,
         Opcode::Unpin => Instr::Unpin,
         Opcode::New => Instr::New(first, name),
-        Opcode::Send => return send_of(alloc, name, words),
+        Opcode::Send => return send_of(alloc, name, numbers),
         Opcode::Print => Instr::Print(first),
     })
 }

@@ -1,10 +1,12 @@
 // Where a line stands among the lines before it, and what may be wrong there.
 
-ghost use Rattle.std.specs.Prelude.{◌≡◌, map};
-ghost use Rattle.behaviour_text.specs.Faults.{kind_fault, on_fault, inside_fault, body_fault, place_fault, word_fault, words_fault};
+ghost use Rattle.std.specs.Prelude.{◌≡◌, ℕ, List};
+ghost use Rattle.behaviour_text.specs.Faults.{kind_fault, on_fault, inside_fault, body_fault, place_fault};
+ghost use Rattle.behaviour_text.specs.Items.{operand_numbers};
+ghost use Rattle.behaviour_text.specs.Table.{operands_of};
 
-use crate::table::{COMMENT_MARK, LineWord, line_word, shape_fault, starts_with};
-use crate::words::number_at;
+use crate::items::number_at;
+use crate::table::LineWord;
 use orca_names::{BEHAVIOURS_LIMIT, BODY_LIMIT, FIELDS_LIMIT, KINDS_LIMIT, VALUES_LIMIT};
 
 /// What stands begun.
@@ -73,42 +75,15 @@ fn body_fault(instructions: usize) -> Option<u8>
     }
 }
 
-fn place_fault(place: Place, word: LineWord, operands: &[&[u8]]) -> Option<u8>
-    ensures { result ≡ place_fault place word (map (λ w. w.now) operands.now) }
+/// The lowest fault of the place of a line, whose operands say these numbers.
+pub(crate) fn place_fault(place: Place, word: LineWord, numbers: &[u64]) -> Option<u8>
+    ensures { (words : List (List ℕ)) → numbers.now ≡ operand_numbers (operands_of word) words
+        → result ≡ place_fault place word words }
 {
     match word {
-        LineWord::Kind => kind_fault(place.stage, place.kinds, number_at(operands, 1)),
-        LineWord::On => on_fault(place.stage, place.behaviours, number_at(operands, 1)),
+        LineWord::Kind => kind_fault(place.stage, place.kinds, number_at(numbers, 1)),
+        LineWord::On => on_fault(place.stage, place.behaviours, number_at(numbers, 1)),
         LineWord::End => inside_fault(place.stage, None),
         LineWord::Instr(_) => inside_fault(place.stage, body_fault(place.instructions)),
-    }
-}
-
-fn word_fault(place: Place, word: Option<LineWord>, operands: &[&[u8]]) -> Option<u8>
-    ensures { result ≡ word_fault place word (map (λ w. w.now) operands.now) }
-{
-    let Some(word) = word else {
-        return Some(3);
-    };
-    match shape_fault(word, operands) {
-        Some(kind) => Some(kind),
-        None => place_fault(place, word, operands),
-    }
-}
-
-/// The lowest fault of the words of a line at its place.
-#[tactic(auto, unfolding(crate::specs::Faults::words_fault))]
-pub(crate) fn words_fault(place: Place, words: &[&[u8]]) -> Option<u8>
-    ensures { result ≡ words_fault place (map (λ w. w.now) words.now) }
-{
-    match words {
-        [] => None,
-        [first, operands @ ..] => {
-            if starts_with(COMMENT_MARK, first) {
-                None
-            } else {
-                word_fault(place, line_word(first), operands)
-            }
-        }
     }
 }

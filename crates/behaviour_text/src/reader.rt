@@ -1,15 +1,15 @@
 // What was read so far.
 
-ghost use Rattle.std.specs.Prelude.{◌≡◌, ◌<◌, ◌^◌, OnOk, IfOk, None, map, length, true};
+ghost use Rattle.std.specs.Prelude.{◌≡◌, ◌<◌, ◌^◌, ℕ, List, OnOk, IfOk, Some, None, map, length, true};
 ghost use Rattle.behaviour_code.specs.Names.{is_name};
 ghost use Rattle.behaviour_text.specs.Faults.{words_fault, word_fault};
-ghost use Rattle.behaviour_text.specs.Items.{name_place};
+ghost use Rattle.behaviour_text.specs.Items.{name_place, operand_numbers};
 ghost use Rattle.behaviour_text.specs.Reading.{start, place_of, kinds_begun, close_kind, with_kind, with_on, with_end, with_instr, with_item, with_word, with_words, intern_name, IsNamed};
-ghost use Rattle.behaviour_text.specs.Table.{shape_fault, fits_count};
+ghost use Rattle.behaviour_text.specs.Table.{shape_fault, fits_count, operands_of};
 
 use crate::items::{instruction, name_place, small_at};
-use crate::place::{Place, Stage};
-use crate::table::{COMMENT_MARK, LineWord, line_word, starts_with};
+use crate::place::{Place, Stage, place_fault};
+use crate::table::{COMMENT_MARK, LineWord, line_word, put_numbers, starts_with};
 use crate::words::word_at;
 use behaviour_code::{Behaviour, Instr, Kind, Name, Names};
 use plain_list::Listed;
@@ -60,7 +60,7 @@ impl Reader {
     }
 
     /// The place of the next line.
-    pub(crate) fn place(&self) -> Place
+    fn place(&self) -> Place
         ensures { result ≡ place_of self.now }
     {
         Place {
@@ -151,57 +151,93 @@ impl Reader {
         alloc: Global,
         word: LineWord,
         name: Name,
-        operands: &[&[u8]],
+        numbers: &[u64],
     ) -> Result<(), AllocError>
-        requires { fits_count word (length operands.now) ≡ true }
-        ensures { OnOk result (self.new
-            ≡ with_item self.old word name (map (λ w. w.now) operands.now)) }
+        requires { fits_count word (length numbers.now) ≡ true }
+        ensures { (words : List (List ℕ)) → numbers.now ≡ operand_numbers (operands_of word) words
+            → OnOk result (self.new ≡ with_item self.old word name words) }
     {
         match word {
-            LineWord::Kind => self.begin_kind(alloc, name, small_at(operands, 1)),
+            LineWord::Kind => self.begin_kind(alloc, name, small_at(numbers, 1)),
             LineWord::On => {
-                self.begin_behaviour(alloc, name, small_at(operands, 1));
+                self.begin_behaviour(alloc, name, small_at(numbers, 1));
                 Ok(())
             }
             LineWord::End => self.end_behaviour(alloc),
             LineWord::Instr(opcode) => {
-                let instr = instruction(alloc, opcode, name, operands)?;
+                let instr = instruction(alloc, opcode, name, numbers)?;
                 self.add_instruction(instr)
             }
         }
     }
 
+    /// Takes a line whose operands have no fault, and say these numbers.
+    fn take_fitting(
+        &mut self,
+        alloc: Global,
+        word: LineWord,
+        operands: &[&[u8]],
+        numbers: &[u64],
+    ) -> Result<(), AllocError>
+        requires few { length self.old.names < 2 ^ 32 }
+        requires fits { shape_fault word (map (λ w. w.now) operands.now) ≡ None }
+        requires numbers { numbers.now
+            ≡ operand_numbers (operands_of word) (map (λ w. w.now) operands.now) }
+        ensures { OnOk result (self.new
+            ≡ with_word self.old (Some word) (map (λ w. w.now) operands.now)) }
+    {
+        let name = self.name_of(word, operands)?;
+        self.take_item(alloc, word, name, numbers)
+    }
+
+    /// The lowest fault of a line; without one the line is taken.
     fn take_word(
         &mut self,
         alloc: Global,
-        word: Option<LineWord>,
+        numbers: &mut Vec<u64>,
+        word: LineWord,
         operands: &[&[u8]],
-    ) -> Result<(), AllocError>
+    ) -> Result<Option<u8>, AllocError>
         requires few { length self.old.names < 2 ^ 32 }
-        requires clean { word_fault (place_of self.old) word (map (λ w. w.now) operands.now) ≡ None }
-        ensures { OnOk result (self.new ≡ with_word self.old word (map (λ w. w.now) operands.now)) }
+        ensures fault { IfOk result (λ fault. fault
+            ≡ word_fault (place_of self.old) (Some word) (map (λ w. w.now) operands.now)) }
+        ensures next { IfOk result (λ fault. fault ≡ None
+            → self.new ≡ with_word self.old (Some word) (map (λ w. w.now) operands.now)) }
     {
-        let Some(word) = word else {
-            return Ok(());
-        };
-        let name = self.name_of(word, operands)?;
-        self.take_item(alloc, word, name, operands)
+        if let Some(kind) = put_numbers(numbers, word, operands)? {
+            return Ok(Some(kind));
+        }
+        let fault = place_fault(self.place(), word, numbers);
+        if fault.is_none() {
+            self.take_fitting(alloc, word, operands, numbers)?;
+        }
+        Ok(fault)
     }
 
-    /// Takes what the words of a line say.
+    /// The lowest fault of a line of these words; without one the line is taken. The numbers of its
+    /// operands are put into a list that each line uses again.
     #[tactic(auto, unfolding(crate::specs::Reading::with_words, crate::specs::Faults::words_fault))]
-    pub(crate) fn take_words(&mut self, alloc: Global, words: &[&[u8]]) -> Result<(), AllocError>
+    pub(crate) fn take_words(
+        &mut self,
+        alloc: Global,
+        numbers: &mut Vec<u64>,
+        words: &[&[u8]],
+    ) -> Result<Option<u8>, AllocError>
         requires few { length self.old.names < 2 ^ 32 }
-        requires clean { words_fault (place_of self.old) (map (λ w. w.now) words.now) ≡ None }
-        ensures { OnOk result (self.new ≡ with_words self.old (map (λ w. w.now) words.now)) }
+        ensures fault { IfOk result (λ fault. fault
+            ≡ words_fault (place_of self.old) (map (λ w. w.now) words.now)) }
+        ensures next { IfOk result (λ fault. fault ≡ None
+            → self.new ≡ with_words self.old (map (λ w. w.now) words.now)) }
     {
         match words {
-            [] => Ok(()),
+            [] => Ok(None),
             [first, operands @ ..] => {
                 if starts_with(COMMENT_MARK, first) {
-                    Ok(())
-                } else {
-                    self.take_word(alloc, line_word(first), operands)
+                    return Ok(None);
+                }
+                match line_word(first) {
+                    Some(word) => self.take_word(alloc, numbers, word, operands),
+                    None => Ok(Some(3)),
                 }
             }
         }

@@ -11,9 +11,9 @@ ghost use Rattle.behaviour_text.specs.Text.{IsText};
 ghost use Rattle.behaviour_text.specs.Words.{words_of};
 
 use crate::errors::TextErr;
-use crate::place::{Stage, words_fault};
+use crate::place::Stage;
 use crate::reader::Reader;
-use crate::words::words_of;
+use crate::words::put_words;
 use behaviour_code::Program;
 use std::alloc::Global;
 use text_lines::{LineKind, LineSpan, lines};
@@ -27,24 +27,15 @@ fn kind_number(fault: LineKind) -> u8
     }
 }
 
-/// The lowest fault of a line, of which the fault by itself is known.
-fn line_fault(reader: &Reader, fault: Option<LineKind>, words: &[&[u8]]) -> Option<u8>
-    ensures { result
-        ≡ option_or (option_map kind_number fault)
-        (words_fault (place_of reader.now) (map (λ w. w.now) words.now)) }
-{
-    match fault {
-        Some(fault) => Some(kind_number(fault)),
-        None => words_fault(reader.place(), words),
-    }
-}
-
-/// Takes the line of a number.
-fn take_line(
+/// Takes the line of a number. Its words, and the numbers of its operands, are put into lists that
+/// each line uses again.
+fn take_line<'a>(
     reader: &mut Reader,
     alloc: Global,
     number: u32,
-    line: &[u8],
+    words: &mut Vec<&'a [u8]>,
+    numbers: &mut Vec<u64>,
+    line: &'a [u8],
     fault: Option<LineKind>,
 ) -> Result<(), TextErr>
     requires { length reader.old.names < 2 ^ 32 }
@@ -54,13 +45,16 @@ fn take_line(
         (option_or (option_map kind_number fault)
         (words_fault (place_of reader.old) (words_of line.now))))) }
 {
-    let words = words_of(alloc, line)?;
-    match line_fault(reader, fault, &words) {
+    if let Some(kind) = fault {
+        return Err(TextErr::Fault {
+            line: number,
+            kind: kind_number(kind),
+        });
+    }
+    put_words(words, line)?;
+    match reader.take_words(alloc, numbers, words)? {
         Some(kind) => Err(TextErr::Fault { line: number, kind }),
-        None => {
-            reader.take_words(alloc, &words)?;
-            Ok(())
-        }
+        None => Ok(()),
     }
 }
 
@@ -89,10 +83,21 @@ fn read_lines(
     ensures ok { OnOk result (read_from 0 start (lines_of bytes.now) ≡ Ok reader.new) }
     ensures fault { IfErr result (Tells (fault_of (read_from 0 start (lines_of bytes.now)))) }
 {
+    let mut words = Vec::new(alloc);
+    let mut numbers = Vec::new(alloc);
     let mut line = 0;
     for span in spans {
         line += 1;
-        let taken = take_line(reader, alloc, line, &bytes[span.from..span.to], span.fault);
+        let text = &bytes[span.from..span.to];
+        let taken = take_line(
+            reader,
+            alloc,
+            line,
+            &mut words,
+            &mut numbers,
+            text,
+            span.fault,
+        );
         if let Err(e) = taken {
             return Err(e);
         }

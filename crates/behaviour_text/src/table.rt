@@ -1,9 +1,11 @@
 // The table of lines: their first words, and the operands behind these.
 
-ghost use Rattle.std.specs.Prelude.{◌≡◌, map, bytes_eq};
+ghost use Rattle.std.specs.Prelude.{◌≡◌, map, bytes_eq, IfOk, IfErr, Some, None, slice_index_or};
+ghost use Rattle.behaviour_text.specs.Items.{register_of, operand_number, operand_numbers};
 ghost use Rattle.behaviour_text.specs.Table.{spelling, line_word, operands_of, most_further, starts_with, lettered_fault, operand_fault, operands_fault, lowest, fits_count, shape_fault};
 
 use crate::words::{is_name, numeral};
+use std::alloc::AllocError;
 
 /// The first byte of a comment.
 pub(crate) const COMMENT_MARK: u8 = b'#';
@@ -130,37 +132,6 @@ fn is_spelled(word: LineWord, text: &[u8]) -> bool
     spelling(word) == text
 }
 
-/// What a first word would have to say, by its first letters.
-fn guess(text: &[u8]) -> Option<LineWord> {
-    match text {
-        [b'a', ..] => Some(LineWord::Instr(Opcode::Add)),
-        [b'c', ..] => Some(LineWord::Instr(Opcode::Copy)),
-        [b'd', ..] => Some(LineWord::Instr(Opcode::Drop)),
-        [b'e', ..] => Some(LineWord::End),
-        [b'g', ..] => Some(LineWord::Instr(Opcode::Get)),
-        [b'i', ..] => Some(LineWord::Instr(Opcode::Int)),
-        [b'j', b'u', ..] => Some(LineWord::Instr(Opcode::Jump)),
-        [b'j', ..] => Some(LineWord::Instr(Opcode::JumpZero)),
-        [b'k', ..] => Some(LineWord::Kind),
-        [b'l', b'a', ..] => Some(LineWord::Instr(Opcode::Label)),
-        [b'l', b'e', ..] => Some(LineWord::Instr(Opcode::Less)),
-        [b'l', ..] => Some(LineWord::Instr(Opcode::Load)),
-        [b'm', ..] => Some(LineWord::Instr(Opcode::Mul)),
-        [b'n', ..] => Some(LineWord::Instr(Opcode::New)),
-        [b'o', ..] => Some(LineWord::On),
-        [b'p', b'r', ..] => Some(LineWord::Instr(Opcode::Print)),
-        [b'p', ..] => Some(LineWord::Instr(Opcode::Pin)),
-        [b'r', ..] => Some(LineWord::Instr(Opcode::Row)),
-        [b's', b'a', ..] => Some(LineWord::Instr(Opcode::Same)),
-        [b's', b'e', b'n', ..] => Some(LineWord::Instr(Opcode::Send)),
-        [b's', b'e', ..] => Some(LineWord::Instr(Opcode::Own)),
-        [b's', b't', ..] => Some(LineWord::Instr(Opcode::Store)),
-        [b's', ..] => Some(LineWord::Instr(Opcode::Sub)),
-        [b'u', ..] => Some(LineWord::Instr(Opcode::Unpin)),
-        _ => None,
-    }
-}
-
 #[tactic(auto, unfolding(crate::specs::Table::line_word))]
 fn look_up(text: &[u8]) -> Option<LineWord>
     ensures { result ≡ line_word text.now }
@@ -171,18 +142,39 @@ fn look_up(text: &[u8]) -> Option<LineWord>
         .find(|word| is_spelled(*word, text))
 }
 
-/// What a first word says, `None` where no line begins with it. It is guessed and then compared, and
-/// looked up where the guess is wrong.
-#[tactic(auto, using(crate::proofs::Spelled::word_of_spelling))]
+/// What a first word says, `None` where no line begins with it. A word of the table is told by its
+/// bytes; any other is looked up there, in vain.
+#[tactic(auto, unfolding(crate::specs::Table::line_word))]
 pub(crate) fn line_word(text: &[u8]) -> Option<LineWord>
     ensures { result ≡ line_word text.now }
 {
-    if let Some(word) = guess(text) {
-        if is_spelled(word, text) {
-            return Some(word);
-        }
+    match text {
+        [b'k', b'i', b'n', b'd'] => Some(LineWord::Kind),
+        [b'o', b'n'] => Some(LineWord::On),
+        [b'e', b'n', b'd'] => Some(LineWord::End),
+        [b'd', b'r', b'o', b'p'] => Some(LineWord::Instr(Opcode::Drop)),
+        [b'i', b'n', b't'] => Some(LineWord::Instr(Opcode::Int)),
+        [b's', b'e', b'l', b'f'] => Some(LineWord::Instr(Opcode::Own)),
+        [b'c', b'o', b'p', b'y'] => Some(LineWord::Instr(Opcode::Copy)),
+        [b'a', b'd', b'd'] => Some(LineWord::Instr(Opcode::Add)),
+        [b's', b'u', b'b'] => Some(LineWord::Instr(Opcode::Sub)),
+        [b'm', b'u', b'l'] => Some(LineWord::Instr(Opcode::Mul)),
+        [b'l', b'e', b's', b's'] => Some(LineWord::Instr(Opcode::Less)),
+        [b's', b'a', b'm', b'e'] => Some(LineWord::Instr(Opcode::Same)),
+        [b'r', b'o', b'w'] => Some(LineWord::Instr(Opcode::Row)),
+        [b'g', b'e', b't'] => Some(LineWord::Instr(Opcode::Get)),
+        [b'l', b'o', b'a', b'd'] => Some(LineWord::Instr(Opcode::Load)),
+        [b's', b't', b'o', b'r', b'e'] => Some(LineWord::Instr(Opcode::Store)),
+        [b'j', b'u', b'm', b'p'] => Some(LineWord::Instr(Opcode::Jump)),
+        [b'j', b'z', b'e', b'r', b'o'] => Some(LineWord::Instr(Opcode::JumpZero)),
+        [b'l', b'a', b'b', b'e', b'l'] => Some(LineWord::Instr(Opcode::Label)),
+        [b'p', b'i', b'n'] => Some(LineWord::Instr(Opcode::Pin)),
+        [b'u', b'n', b'p', b'i', b'n'] => Some(LineWord::Instr(Opcode::Unpin)),
+        [b'n', b'e', b'w'] => Some(LineWord::Instr(Opcode::New)),
+        [b's', b'e', b'n', b'd'] => Some(LineWord::Instr(Opcode::Send)),
+        [b'p', b'r', b'i', b'n', b't'] => Some(LineWord::Instr(Opcode::Print)),
+        _ => look_up(text),
     }
-    look_up(text)
 }
 
 fn opcode_operands(opcode: Opcode) -> &'static [Operand]
@@ -234,30 +226,30 @@ pub(crate) fn starts_with(letter: u8, word: &[u8]) -> bool
     }
 }
 
-fn lettered_fault(letter: u8, word: &[u8]) -> Option<u8>
-    ensures { result ≡ lettered_fault letter word.now }
+/// The number behind the letter of a register or a field, or the fault.
+fn lettered_number(letter: u8, word: &[u8]) -> Result<u64, u8>
+    ensures ok { IfOk result (λ number. (lettered_fault letter word.now ≡ None)
+        × (number ≡ register_of word.now)) }
+    ensures fault { IfErr result (λ kind. lettered_fault letter word.now ≡ Some kind) }
 {
-    if !starts_with(letter, word) {
-        Some(4)
-    } else if numeral(&word[1..]).is_some() {
-        None
+    if starts_with(letter, word) {
+        numeral(&word[1..]).ok_or(5)
     } else {
-        Some(5)
+        Err(4)
     }
 }
 
-fn operand_fault(operand: Operand, word: &[u8]) -> Option<u8>
-    ensures { result ≡ operand_fault operand word.now }
+/// The number of an operand, 0 for a name, or the fault.
+fn operand_number(operand: Operand, word: &[u8]) -> Result<u64, u8>
+    ensures ok { IfOk result (λ number. (operand_fault operand word.now ≡ None)
+        × (number ≡ operand_number operand word.now)) }
+    ensures fault { IfErr result (λ kind. operand_fault operand word.now ≡ Some kind) }
 {
     match operand {
-        Operand::Register => lettered_fault(REGISTER_LETTER, word),
-        Operand::Field => lettered_fault(FIELD_LETTER, word),
-        Operand::Number => if numeral(word).is_some() {
-            None
-        } else {
-            Some(5)
-        },
-        Operand::Name => if is_name(word) { None } else { Some(6) },
+        Operand::Register => lettered_number(REGISTER_LETTER, word),
+        Operand::Field => lettered_number(FIELD_LETTER, word),
+        Operand::Number => numeral(word).ok_or(5),
+        Operand::Name => if is_name(word) { Ok(0) } else { Err(6) },
     }
 }
 
@@ -278,36 +270,55 @@ fn fits_count(word: LineWord, count: usize) -> bool
     least <= count && count - least <= most_further(word)
 }
 
-// A line has at most as many operands as `fits_count` lets pass, so this is called at most ten
-// times deep.
-fn operands_fault(operands: &[Operand], words: &[&[u8]]) -> Option<u8>
-    ensures { result ≡ operands_fault operands.now (map (λ w. w.now) words.now) }
+/// The operand of a place; past the table's it is a register.
+fn operand_at(operands: &[Operand], i: usize) -> Operand
+    ensures { result ≡ slice_index_or operands.now i Operand.Register }
 {
-    match words {
-        [] => None,
-        [word, words @ ..] => match operands {
-            [] => lowest(
-                lettered_fault(REGISTER_LETTER, word),
-                operands_fault(operands, words),
-            ),
-            [operand, operands @ ..] => {
-                lowest(
-                    operand_fault(*operand, word),
-                    operands_fault(operands, words),
-                )
-            }
-        },
+    if i < operands.len() {
+        operands[i]
+    } else {
+        Operand::Register
     }
 }
 
-/// The lowest fault of the operands of a line.
+/// The lowest fault of some operands. Without one their numbers are put into a list.
+fn put_operands(
+    numbers: &mut Vec<u64>,
+    operands: &[Operand],
+    words: &[&[u8]],
+) -> Result<Option<u8>, AllocError>
+    ensures fault { IfOk result (λ fault. fault
+        ≡ operands_fault operands.now (map (λ w. w.now) words.now)) }
+    ensures numbers { IfOk result (λ fault. fault ≡ None → numbers.new.items
+        ≡ operand_numbers operands.now (map (λ w. w.now) words.now)) }
+{
+    numbers.clear();
+    let mut fault = None;
+    for i in 0..words.len() {
+        match operand_number(operand_at(operands, i), words[i]) {
+            Ok(number) => numbers.push(number)?,
+            Err(kind) => fault = lowest(fault, Some(kind)),
+        }
+    }
+    Ok(fault)
+}
+
+/// The lowest fault of the operands of a line. Without one their numbers are put into a list, in
+/// place of what it held.
 #[tactic(auto, unfolding(crate::specs::Table::shape_fault))]
-pub(crate) fn shape_fault(word: LineWord, words: &[&[u8]]) -> Option<u8>
-    ensures { result ≡ shape_fault word (map (λ w. w.now) words.now) }
+pub(crate) fn put_numbers(
+    numbers: &mut Vec<u64>,
+    word: LineWord,
+    words: &[&[u8]],
+) -> Result<Option<u8>, AllocError>
+    ensures fault { IfOk result (λ fault. fault
+        ≡ shape_fault word (map (λ w. w.now) words.now)) }
+    ensures numbers { IfOk result (λ fault. fault ≡ None → numbers.new.items
+        ≡ operand_numbers (operands_of word) (map (λ w. w.now) words.now)) }
 {
     if fits_count(word, words.len()) {
-        operands_fault(operands_of(word), words)
+        put_operands(numbers, operands_of(word), words)
     } else {
-        Some(4)
+        Ok(Some(4))
     }
 }

@@ -1,31 +1,29 @@
 // Words, numerals and names.
 
-ghost use Rattle.std.specs.Prelude.{◌≡◌, [], ◌∷◌, map, IfOk};
+ghost use Rattle.std.specs.Prelude.{◌≡◌, ◌≤◌, [], ◌∷◌, map, length, true, OnOk};
 ghost use Rattle.std.specs.Char.{is_ascii_digit};
 ghost use Rattle.std.specs.List.{list_all, slice_split};
+ghost use Rattle.std.specs.Str.Parse.{digits_value};
 ghost use Rattle.text_lines.specs.Lines.{is_space};
 ghost use Rattle.behaviour_code.specs.Names.{is_name, is_name_byte};
-ghost use Rattle.behaviour_text.specs.Words.{words_of, has_numeral_form, numeral, word_at, number_of, number_at};
+ghost use Rattle.behaviour_text.specs.Words.{words_of, has_numeral_form, numeral, word_at};
 
 use orca_names::NAME_LIMIT;
-use std::alloc::{AllocError, Global};
+use std::alloc::AllocError;
 use std::str;
 use text_lines::is_space;
 
-/// The pieces of a line between its spaces, empty ones too.
-fn pieces_of(alloc: Global, line: &[u8]) -> Result<Vec<&[u8]>, AllocError>
-    ensures { IfOk result (λ pieces. map (λ w. w.now) pieces.items ≡ slice_split is_space line.now) }
+/// Puts the words of a line into a list, in place of what it held.
+pub(crate) fn put_words<'a>(words: &mut Vec<&'a [u8]>, line: &'a [u8]) -> Result<(), AllocError>
+    ensures { OnOk result (map (λ w. w.now) words.new.items ≡ words_of line.now) }
 {
-    line.split(|byte| is_space(*byte)).collect(alloc)
-}
-
-/// The words of a line.
-pub(crate) fn words_of(alloc: Global, line: &[u8]) -> Result<Vec<&[u8]>, AllocError>
-    ensures { IfOk result (λ words. map (λ w. w.now) words.items ≡ words_of line.now) }
-{
-    let mut words = pieces_of(alloc, line)?;
-    words.retain(|piece| piece.len() != 0);
-    Ok(words)
+    words.clear();
+    for piece in line.split(|byte| is_space(*byte)) {
+        if piece.len() != 0 {
+            words.push(piece)?;
+        }
+    }
+    Ok(())
 }
 
 fn are_digits(word: &[u8]) -> bool
@@ -66,15 +64,38 @@ fn two_digits(first: u8, second: u8) -> Option<u64>
     }
 }
 
+/// The number that at most 19 digits write, which has 64 bits.
+fn digits_value(digits: &[u8]) -> u64
+    requires digits { list_all is_ascii_digit digits.now ≡ true }
+    requires few { length digits.now ≤ 19 }
+    ensures { result ≡ digits_value 10 digits.now }
+{
+    let mut value = 0;
+    for digit in digits {
+        value = 10 * value + u64::from(*digit - b'0');
+    }
+    value
+}
+
+fn long_numeral(word: &[u8]) -> Option<u64>
+    requires { has_numeral_form word.now ≡ true }
+    ensures { result ≡ numeral word.now }
+{
+    match str::from_utf8(word) {
+        Ok(text) => text.parse::<u64>().ok(),
+        Err(_) => None,
+    }
+}
+
 fn any_numeral(word: &[u8]) -> Option<u64>
     ensures { result ≡ numeral word.now }
 {
     if !has_numeral_form(word) {
-        return None;
-    }
-    match str::from_utf8(word) {
-        Ok(text) => text.parse::<u64>().ok(),
-        Err(_) => None,
+        None
+    } else if word.len() <= 19 {
+        Some(digits_value(word))
+    } else {
+        long_numeral(word)
     }
 }
 
@@ -113,17 +134,4 @@ pub(crate) fn word_at<'a>(words: &[&'a [u8]], i: usize) -> &'a [u8]
     ensures { result.now ≡ word_at (map (λ w. w.now) words.now) i }
 {
     if i < words.len() { words[i] } else { &[] }
-}
-
-/// The number of a word, 0 where it is no numeral.
-pub(crate) fn number_of(word: &[u8]) -> u64
-    ensures { result ≡ number_of word.now }
-{
-    numeral(word).unwrap_or(0)
-}
-
-pub(crate) fn number_at(words: &[&[u8]], i: usize) -> u64
-    ensures { result ≡ number_at (map (λ w. w.now) words.now) i }
-{
-    number_of(word_at(words, i))
 }
