@@ -11,6 +11,8 @@ use Rattle.behaviour_code.specs.declared.code.Program.{Program}
 use Rattle.behaviour_check.specs.Keeps.{AllBodies, BehavioursDiffer, HasField, HasRegisters, JumpsAhead, KeepsRules, LabelsDiffer, MakesKnown}
 use Rattle.behaviour_check.specs.Rules.{after, at_place, before, behaviour_faults, faults, first_broken, has_field_past, has_register_past, instr_rule, jumps_nowhere, kind_faults, makes_unknown, name_rule, numbered, repeats_label, start_rule, step_faults}
 use Rattle.behaviour_check.specs.declared.checked.CheckFault.{CheckFault}
+use Rattle.behaviour_check.specs.declared.rule.Rule.{Rule}
+use Rattle.behaviour_check.specs.declared.rule.Rule.TheVariants as R
 use Rattle.behaviour_check.proofs.Places.{AreEmpty, All_by_place, All-slice_get, all_give_nothing, both_empty, empty_append, gives_nothing}
 use Rattle.behaviour_check.proofs.RuleWords.{field_is_there, finds_the_start, jumps_ahead, labels_differ, makes_known, names_differ, no_field_past, no_jump_nowhere, no_label_before, no_name_before, no_register_past, no_unknown_made, registers_are_there, start_is_there}
 
@@ -34,11 +36,11 @@ pub record KindKeeps (kinds : List Kind) (n : ℕ) (kind : Kind) : Type 0 where
   pub behaviours : (m : ℕ) (b : Behaviour) → slice_get kind.behaviours m ≡ Some b →
       BehaviourKeeps kinds kind m b
 
-no_rule : (k b s : ℕ) (rule : Option ℕ) → at_place k b s rule ≡ [] → rule ≡ None
+no_rule : (k b s : ℕ) (rule : Option Rule) → at_place k b s rule ≡ [] → rule ≡ None
 no_rule k b s None h = refl
 no_rule k b s (Some rule) h = cc
 
-no_fault : (k b s : ℕ) (rule : Option ℕ) → rule ≡ None → at_place k b s rule ≡ []
+no_fault : (k b s : ℕ) (rule : Option Rule) → rule ≡ None → at_place k b s rule ≡ []
 no_fault k b s rule h = ap (at_place k b s) h
 
 name_before : {X : Type 0} (k b : ℕ) (test : X → Bool) (n : ℕ) (xs : List X) →
@@ -61,14 +63,14 @@ no_name_fault k b test n xs h =
 
 -- instructions
 
--- the number of the first of five tests that is passed, from 2 on
-lowest : Bool → Bool → Bool → Bool → Bool → Option ℕ
+-- the rule of the first of five tests that is passed
+lowest : Bool → Bool → Bool → Bool → Bool → Option Rule
 lowest a b c d e =
-    if a then Some 2
-    else (if b then Some 3
-    else (if c then Some 4
-    else (if d then Some 5
-    else (if e then Some 6 else None))))
+    if a then Some R.NamedOnce
+    else (if b then Some R.KnownKind
+    else (if c then Some R.LabelAhead
+    else (if d then Some R.Registers
+    else (if e then Some R.Fields else None))))
 
 lowest_none : (a b c d e : Bool) → lowest a b c d e ≡ None →
     (a ≡ false) × (b ≡ false) × (c ≡ false) × (d ≡ false) × (e ≡ false)
@@ -167,8 +169,8 @@ each_placed P p all n k found = All-slice_get (λ (b : Behaviour). P k b.body) k
 
 -- the whole program
 
-abbrev rule_one : Bool → Option ℕ
-rule_one there = if there then None else Some 1
+abbrev rule_one : Bool → Option Rule
+rule_one there = if there then None else Some R.Start
 
 none_first : (xs : List CheckFault) → slice_get xs 0 ≡ None → xs ≡ []
 none_first [] h = refl

@@ -1,3 +1,4 @@
 pub mod Keeps
+pub mod Numbers
 pub mod Operands
 pub mod Rules

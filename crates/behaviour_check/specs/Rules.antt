@@ -11,7 +11,10 @@ use Rattle.behaviour_code.specs.declared.code.Behaviour.{Behaviour}
 use Rattle.behaviour_code.specs.declared.code.Kind.{Kind}
 use Rattle.behaviour_code.specs.declared.code.Program.{Program}
 use Rattle.behaviour_check.specs.Operands.{field_in, registers_in, target_of}
+use Rattle.behaviour_check.specs.Numbers.{number_of}
 use Rattle.behaviour_check.specs.declared.checked.CheckFault.{CheckFault}
+use Rattle.behaviour_check.specs.declared.rule.Rule.{Rule}
+use Rattle.behaviour_check.specs.declared.rule.Rule.TheVariants as R
 
 -- the elements with their numbers, which begin at 1
 abbrev pub numbered : {X : Type 0} → List X → List (ℕ × X)
@@ -26,12 +29,12 @@ abbrev pub after : {X : Type 0} → ℕ → List X → List X
 after n xs = drop n xs
 
 -- rule 1: the first kind has a behaviour `start` without parameters
-abbrev pub start_rule : Program → Option ℕ
-start_rule p = if is_some (start_name p) then None else Some 1
+abbrev pub start_rule : Program → Option Rule
+start_rule p = if is_some (start_name p) then None else Some R.Start
 
 -- rule 2 at a name: it was given before
-abbrev pub name_rule : Bool → Option ℕ
-name_rule again = if again then Some 2 else None
+abbrev pub name_rule : Bool → Option Rule
+name_rule again = if again then Some R.NamedOnce else None
 
 -- rule 2 at a label
 abbrev pub repeats_label : List Instr → Instr → Bool
@@ -56,22 +59,23 @@ abbrev pub has_field_past : ℕ → Instr → Bool
 has_field_past fields i = option_map_or (nat_le fields) (field_in i) false
 
 -- the lowest rule that fails at an instruction between earlier and later ones
-unfoldable pub instr_rule : List Kind → ℕ → List Instr → Instr → List Instr → Option ℕ
+unfoldable pub instr_rule : List Kind → ℕ → List Instr → Instr → List Instr → Option Rule
 instr_rule kinds fields earlier i later =
-    if repeats_label earlier i then Some 2
-    else (if makes_unknown kinds i then Some 3
-    else (if jumps_nowhere later i then Some 4
-    else (if has_register_past i then Some 5
-    else (if has_field_past fields i then Some 6 else None))))
+    if repeats_label earlier i then Some R.NamedOnce
+    else (if makes_unknown kinds i then Some R.KnownKind
+    else (if jumps_nowhere later i then Some R.LabelAhead
+    else (if has_register_past i then Some R.Registers
+    else (if has_field_past fields i then Some R.Fields else None))))
 
--- a rule that fails at this place
+-- a rule of this number fails at this place
 abbrev pub fault_at : ℕ → ℕ → ℕ → ℕ → CheckFault
 fault_at kind behaviour step rule =
     record { kind = kind; behaviour = behaviour; step = step; rule = rule }
 
 -- the fault of a place, none where no rule fails there
-abbrev pub at_place : ℕ → ℕ → ℕ → Option ℕ → List CheckFault
-at_place kind behaviour step rule = option_to_list (option_map (fault_at kind behaviour step) rule)
+abbrev pub at_place : ℕ → ℕ → ℕ → Option Rule → List CheckFault
+at_place kind behaviour step rule =
+    option_to_list (option_map (λ r. fault_at kind behaviour step (number_of r)) rule)
 
 -- the fault of an instruction
 abbrev pub step_faults : List Kind → ℕ × Kind → ℕ × Behaviour → ℕ × Instr → List CheckFault

@@ -6,6 +6,7 @@ ghost use Rattle.behaviour_code.specs.WellFormed.{IsWellFormed};
 ghost use Rattle.behaviour_check.specs.Rules.{behaviour_faults, first_broken, kind_faults, numbered, step_faults};
 
 use crate::checked::{CheckFault, Checked};
+use crate::rule::Rule;
 use crate::rules::{has_behaviour, has_kind, instr_rule};
 use behaviour_code::{Behaviour, Kind, Program};
 
@@ -28,7 +29,7 @@ fn body_fault(
                 kind: kind_number,
                 behaviour: number,
                 step: i as u64 + 1,
-                rule,
+                rule: rule.number(),
             });
         }
     }
@@ -48,7 +49,7 @@ fn behaviours_fault(kinds: &[Kind], kind_number: u64, kind: &Kind) -> Option<Che
                 kind: kind_number,
                 behaviour: number,
                 step: 0,
-                rule: 2,
+                rule: Rule::NamedOnce.number(),
             });
         }
         let fault = body_fault(kinds, kind_number, kind, number, behaviour);
@@ -70,7 +71,7 @@ fn kinds_fault(kinds: &[Kind]) -> Option<CheckFault>
                 kind: number,
                 behaviour: 0,
                 step: 0,
-                rule: 2,
+                rule: Rule::NamedOnce.number(),
             });
         }
         let fault = behaviours_fault(kinds, number, kind);
@@ -93,7 +94,7 @@ pub(crate) fn first_fault(program: &Program) -> Option<CheckFault>
             kind: 0,
             behaviour: 0,
             step: 0,
-            rule: 1,
+            rule: Rule::Start.number(),
         })
     }
 }

@@ -4,6 +4,7 @@
 mod checked;
 mod faults;
 mod laws;
+mod rule;
 mod rules;
 
 pub use checked::{CheckFault, Checked};

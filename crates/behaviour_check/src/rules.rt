@@ -5,6 +5,7 @@ ghost use Rattle.std.specs.List.{list_any};
 ghost use Rattle.behaviour_code.specs.Find.{is_kind, is_label};
 ghost use Rattle.behaviour_check.specs.Rules.{repeats_label, makes_unknown, jumps_nowhere, has_register_past, has_field_past, instr_rule};
 
+use crate::rule::Rule;
 use behaviour_code::{Behaviour, Instr, Kind, Name};
 use orca_names::REGISTERS;
 
@@ -108,19 +109,19 @@ pub(crate) fn instr_rule(
     earlier: &[Instr],
     instr: &Instr,
     later: &[Instr],
-) -> Option<u8>
+) -> Option<Rule>
     ensures { result ≡ instr_rule kinds.now fields earlier.now instr.now later.now }
 {
     if repeats_label(earlier, instr) {
-        Some(2)
+        Some(Rule::NamedOnce)
     } else if makes_unknown(kinds, instr) {
-        Some(3)
+        Some(Rule::KnownKind)
     } else if jumps_nowhere(later, instr) {
-        Some(4)
+        Some(Rule::LabelAhead)
     } else if has_register_past(instr) {
-        Some(5)
+        Some(Rule::Registers)
     } else if has_field_past(fields, instr) {
-        Some(6)
+        Some(Rule::Fields)
     } else {
         None
     }
