@@ -39,7 +39,8 @@ impl MailRow {
         }
     }
 
-    /// Takes memory for at least `n` further letters, if there is less.
+    /// Takes memory for at least `n` further letters, if there is less; the first time for just so
+    /// many, since mostly one letter waits.
     ///
     /// # Errors
     /// `NoMemory` where memory was refused; the letters are then as before.
@@ -50,7 +51,11 @@ impl MailRow {
         ensures ok { OnOk result (n ≤ self.new.spare) }
         ensures enough { n ≤ self.old.spare → IsOk result }
     {
-        self.letters.reserve(n)?;
+        if self.letters.capacity() == 0 {
+            self.letters.reserve_exact(n)?;
+        } else {
+            self.letters.reserve(n)?;
+        }
         Ok(())
     }
 
