@@ -22,12 +22,11 @@ use ref_weights::Held;
 use std::alloc::Global;
 use std::marker::Model;
 
-// As many places for counts come with the first one.
+// As many places come with the first one.
 const FIRST_PLACES: usize = 7;
 
 /// The things of others that an actor holds, each with its count and, for an object, its row where
-/// that is known, and the room for new ones. Counts stand apart from rows, and more room is taken
-/// for them than for rows, which are six times as large.
+/// that is known, and the room for new ones. Counts stand apart from rows.
 #[derive(Drop)]
 pub struct ForeignTable {
     held: Vec<Entry>,
@@ -115,8 +114,8 @@ fn put_row(rows: &mut Vec<Option<Row>>, i: usize, row: &Option<Row>)
     let _done = rows.insert(i, *row).is_ok();
 }
 
-// How many more places for counts to take where so many are wanted: the first ones come together,
-// since most actors hold a few things.
+// How many more places to take where so many are wanted: the first ones come together, since most
+// actors hold a few things.
 fn places_to_take(wanted: usize, capacity: usize) -> usize
     ensures enough { wanted ≤ result }
     ensures asked { 0 < capacity → result ≡ wanted }
@@ -126,23 +125,6 @@ fn places_to_take(wanted: usize, capacity: usize) -> usize
     } else {
         wanted
     }
-}
-
-// Raises the room for new rows to at least `n`, if there is less. A row is large and most actors
-// hold a few things, so it is just `n` at first; where there are many, half as many come with them,
-// so that growth stays cheap.
-fn reserve_rows(rows: &mut Vec<Option<Row>>, n: usize) -> Result<(), NoMemory>
-    ensures items { rows.new.items ≡ rows.old.items }
-    ensures len { vec_len rows.new ≡ vec_len rows.old }
-    ensures room { OnOk result (vec_len rows.new + n ≤ vec_capacity rows.new) }
-    ensures more { vec_capacity rows.old ≤ vec_capacity rows.new }
-    ensures enough { vec_len rows.old + n ≤ vec_capacity rows.old → IsOk result }
-{
-    if n <= rows.capacity() - rows.len() {
-        return Ok(());
-    }
-    rows.reserve_exact(n.max(rows.capacity() / 2))?;
-    Ok(())
 }
 
 fn actors_of(alloc: Global, held: &[Entry]) -> Result<Vec<(ActorName, u64)>, NoMemory>
@@ -194,9 +176,10 @@ impl ForeignTable {
         if n == 0 {
             return Ok(());
         }
-        let places = places_to_take(n, self.held.capacity());
-        self.held.reserve(places)?;
-        reserve_rows(&mut self.rows, n)
+        let n = places_to_take(n, self.rows.capacity());
+        self.held.reserve(n)?;
+        self.rows.reserve(n)?;
+        Ok(())
     }
 
     /// The count on a thing rises, from 0 where nothing was held, and its row is this one. It takes
