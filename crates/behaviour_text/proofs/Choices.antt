@@ -1,5 +1,5 @@
 -- Facts of tests, choices and lists that speak of no text.
-use Rattle.std.proofs.Common.{◌≡◌, ℕ, ◌≤◌, Bool, true, false, cond, List, [], ◌∷◌, ◌++◌, ◌&&◌, ◌||◌, filter, length, length-append, refl, Option, Some, None, if◌then◌else◌, ◌⊎◌, inl, inr, arith}
+use Rattle.std.proofs.Common.{◌≡◌, ◌≤◌, Bool, true, false, cond, List, [], ◌∷◌, ◌++◌, ◌&&◌, ◌||◌, filter, length, length-append, refl, Option, Some, None, if◌then◌else◌, ◌⊎◌, inl, inr, arith}
 use Rattle.std.specs.List.{AllByRecursion}
 use Rattle.std.specs.Option.{option_or}
 
@@ -27,17 +27,17 @@ pub or_false : (a b : Bool) → a ≡ false → b ≡ false → (a || b) ≡ fal
 or_false true b h k = cc
 or_false false b h k = k
 
-pub option_or_none : (a b : Option ℕ) → option_or a b ≡ None → (a ≡ None) × (b ≡ None)
+pub option_or_none : {X : Type 0} (a b : Option X) → option_or a b ≡ None → (a ≡ None) × (b ≡ None)
 option_or_none None b h = (refl, h)
 option_or_none (Some a) b h = cc
 
 -- a fault unless a test passes, which is not there
-pub chosen_none : (b : Bool) (fault : Option ℕ) (kind : ℕ) → (if b then fault else Some kind) ≡ None → (b ≡ true) × (fault ≡ None)
+pub chosen_none : {X : Type 0} (b : Bool) (fault : Option X) (kind : X) → (if b then fault else Some kind) ≡ None → (b ≡ true) × (fault ≡ None)
 chosen_none true fault kind h = (refl, h)
 chosen_none false fault kind h = cc
 
 -- a fault where a test passes, which is not there
-pub no_fault : (b : Bool) (kind : ℕ) → if◌then◌else◌ {A = Option ℕ} b (Some kind) None ≡ None → b ≡ false
+pub no_fault : {X : Type 0} (b : Bool) (kind : X) → if◌then◌else◌ {A = Option X} b (Some kind) None ≡ None → b ≡ false
 no_fault true kind h = cc
 no_fault false kind h = refl
 

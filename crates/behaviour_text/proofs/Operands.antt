@@ -1,20 +1,38 @@
 -- The numbers of a line's operands, one after the other.
-use Rattle.std.proofs.Common.{◌≡◌, ℕ, ◌+◌, ◌<◌, List, [], ◌∷◌, ◌++◌, length, take, drop, get_or, map, refl, ap, sym, ◌∙◌, arith, Option, Some, None, zero, suc, slice_index_or, add-one, ap₂}
+use Rattle.std.proofs.Common.{◌≡◌, ℕ, ◌+◌, ◌<◌, List, [], ◌∷◌, ◌++◌, length, take, drop, get_or, map, refl, ap, sym, ◌∙◌, arith, Option, Some, None, zero, suc, slice_index_or, add-one, ap₂, Bool, true, false, nat_le, if◌then◌else◌, ◌≤◌, leb-true, le-leb}
+use Rattle.std.proofs.lemmas.Bool.{leb-false, lt-leb}
 use Rattle.std.proofs.lemmas.List.{get_or-map, length-map}
 use denote.Ref.{Bor}
 use Rattle.behaviour_text.specs.Items.{register_of, operand_number, operand_numbers}
-use Rattle.behaviour_text.specs.Table.{operand_fault, operands_fault, lowest}
+use Rattle.behaviour_text.specs.Table.{operand_fault, operands_fault}
 use Rattle.behaviour_text.specs.Words.{word_at}
 use Rattle.behaviour_text.specs.declared.table.Operand.{Operand}
 use Rattle.behaviour_text.specs.declared.table.Operand.TheVariants as P
+use Rattle.behaviour_text.specs.Kinds.{lower, lowest, number}
+use Rattle.behaviour_text.specs.declared.errors.FaultKind.{FaultKind}
 
-lowest_further : (a b c : Option ℕ) → lowest a (lowest b c) ≡ lowest (lowest a b) c
+lower_further : (a b c : FaultKind) → lower a (lower b c) ≡ lower (lower a b) c
+lower_further a b c = by_tests (nat_le (number a) (number b)) (nat_le (number b) (number c)) refl refl
+  where
+    by_tests : (p q : Bool) → nat_le (number a) (number b) ≡ p → nat_le (number b) (number c) ≡ q → lower a (if q then b else c) ≡ lower (if p then a else b) c
+    by_tests true false e f = refl
+    by_tests false true e f = ap (λ (x : Bool). if x then a else b) e ∙ sym (ap (λ (x : Bool). if x then b else c) f)
+    by_tests true true e f =
+        let first : number a ≤ number b = leb-true (number a) (number b) e in
+        let second : number b ≤ number c = leb-true (number b) (number c) f in
+        ap (λ (x : Bool). if x then a else b) e ∙ sym (ap (λ (x : Bool). if x then a else c) (le-leb (number a) (number c) (omega arith)))
+    by_tests false false e f =
+        let first : number b < number a = leb-false (number a) (number b) e in
+        let second : number c < number b = leb-false (number b) (number c) f in
+        ap (λ (x : Bool). if x then a else c) (lt-leb (number a) (number c) (omega arith)) ∙ sym (ap (λ (x : Bool). if x then b else c) f)
+
+lowest_further : (a b c : Option FaultKind) → lowest a (lowest b c) ≡ lowest (lowest a b) c
 lowest_further None b c = refl
 lowest_further (Some a) None c = refl
 lowest_further (Some a) (Some b) None = refl
-lowest_further (Some a) (Some b) (Some c) = ap Some (omega arith)
+lowest_further (Some a) (Some b) (Some c) = ap Some (lower_further a b c)
 
-lowest_end : (a : Option ℕ) → lowest a None ≡ a
+lowest_end : (a : Option FaultKind) → lowest a None ≡ a
 lowest_end None = refl
 lowest_end (Some a) = refl
 
@@ -51,7 +69,7 @@ pub numbers_more : (operands : List Operand) (ws : List (List ℕ)) (i : ℕ) �
 numbers_more operands ws i l = rw add-one (numbers_next operands ws i l)
 
 -- what was read of some operands
-pub record IsRead (operands : List Operand) (ws : List (List ℕ)) (found : Option ℕ) (ns : List ℕ) : Type 0 where
+pub record IsRead (operands : List Operand) (ws : List (List ℕ)) (found : Option FaultKind) (ns : List ℕ) : Type 0 where
   pub fault : found ≡ operands_fault operands ws
   pub numbers : found ≡ None → ns ≡ operand_numbers operands ws
 
@@ -59,7 +77,7 @@ at_word : (ws : List (Bor (List ℕ))) (i : ℕ) (d : Bor (List ℕ)) → i < le
 at_word ws i d l = get_or-map (λ (w : Bor (List ℕ)). w.now) ws i d [] l
 
 -- one operand without a fault more
-pub fit_more : (operands : List Operand) (ws : List (Bor (List ℕ))) (i : ℕ) (d : Bor (List ℕ)) (operand : Operand) (found : Option ℕ) (ns : List ℕ) (n : ℕ) →
+pub fit_more : (operands : List Operand) (ws : List (Bor (List ℕ))) (i : ℕ) (d : Bor (List ℕ)) (operand : Operand) (found : Option FaultKind) (ns : List ℕ) (n : ℕ) →
     i < length ws → operand ≡ slice_index_or operands i P.Register →
     operand_fault operand (get_or ws i d).now ≡ None → n ≡ operand_number operand (get_or ws i d).now →
     IsRead operands (take i (map (λ (w : Bor (List ℕ)). w.now) ws)) found ns → IsRead operands (take (i + 1) (map (λ (w : Bor (List ℕ)). w.now) ws)) found (ns ++ n ∷ [])
@@ -73,12 +91,12 @@ fit_more operands ws i d operand found ns n l at none number read =
       numbers = λ h. ap₂ (λ (a : List ℕ) (b : ℕ). a ++ b ∷ []) (read.numbers h) said ∙ sym (numbers_more operands words i within);
     }
 
-lowest_some : (a : Option ℕ) (k : ℕ) → ¬ (lowest a (Some k) ≡ None)
+lowest_some : (a : Option FaultKind) (k : FaultKind) → ¬ (lowest a (Some k) ≡ None)
 lowest_some None k h = cc
 lowest_some (Some a) k h = cc
 
 -- one operand with a fault more
-pub fault_further : (operands : List Operand) (ws : List (Bor (List ℕ))) (i : ℕ) (d : Bor (List ℕ)) (operand : Operand) (found : Option ℕ) (ns : List ℕ) (kind : ℕ) →
+pub fault_further : (operands : List Operand) (ws : List (Bor (List ℕ))) (i : ℕ) (d : Bor (List ℕ)) (operand : Operand) (found : Option FaultKind) (ns : List ℕ) (kind : FaultKind) →
     i < length ws → operand ≡ slice_index_or operands i P.Register → operand_fault operand (get_or ws i d).now ≡ Some kind →
     IsRead operands (take i (map (λ (w : Bor (List ℕ)). w.now) ws)) found ns → IsRead operands (take (i + 1) (map (λ (w : Bor (List ℕ)). w.now) ws)) (lowest found (Some kind)) ns
 fault_further operands ws i d operand found ns kind l at fault read =

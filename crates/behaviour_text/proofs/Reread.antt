@@ -14,7 +14,7 @@ use Rattle.behaviour_code.specs.Names.{is_name}
 use Rattle.behaviour_code.specs.declared.instr.Instr.{Instr}
 use Rattle.behaviour_text.specs.Items.{register_of, instr_of}
 use Rattle.behaviour_text.specs.Reading.{intern_name}
-use Rattle.behaviour_text.specs.Table.{spelling, line_word, operands_of, most_further, lettered_fault, operand_fault, operands_fault, lowest, fits_count, shape_fault}
+use Rattle.behaviour_text.specs.Table.{spelling, line_word, operands_of, most_further, lettered_fault, operand_fault, operands_fault, fits_count, shape_fault}
 use Rattle.behaviour_text.specs.Text.{register, field, instr_words}
 use Rattle.behaviour_text.specs.Words.{has_numeral_form, numeral, number_of}
 use Rattle.behaviour_text.specs.declared.table.LineWord.{LineWord}
@@ -23,6 +23,9 @@ use Rattle.behaviour_text.specs.declared.table.LineWord.TheVariants as W
 use Rattle.behaviour_text.specs.declared.table.Opcode.TheVariants as C
 use Rattle.behaviour_text.specs.declared.table.Operand.TheVariants as P
 use Rattle.behaviour_code.specs.declared.instr.Instr.TheVariants as I
+use Rattle.behaviour_text.specs.Kinds.{lowest}
+use Rattle.behaviour_text.specs.declared.errors.FaultKind.{FaultKind}
+use Rattle.behaviour_text.specs.declared.errors.FaultKind.TheVariants as K
 
 form_of : (ds : List ℕ) → list_all is_ascii_digit ds ≡ true → 0 < length ds → ((length ds ≡ 1) ⊎ (48 < get_or ds 0 0)) → has_numeral_form ds ≡ true
 form_of [] h some k = absurd (omega arith)
@@ -52,11 +55,11 @@ pub number_read : (n : ℕ) → n < 2 ^ 64 → number_of (decimal n) ≡ n
 number_read n h = ap (λ (o : Option ℕ). unwrap_or o 0) (numeral_decimal n h)
 
 pub numeral_fits : (n : ℕ) → n < 2 ^ 64 → operand_fault P.Number (decimal n) ≡ None
-numeral_fits n h = ap (λ (o : Option ℕ). if◌then◌else◌ {A = Option ℕ} (is_some o) None (Some 5)) (numeral_decimal n h)
+numeral_fits n h = ap (λ (o : Option ℕ). if◌then◌else◌ {A = Option FaultKind} (is_some o) None (Some K.BadNumber)) (numeral_decimal n h)
 
 lettered_fits : (letter n : ℕ) → (letter == letter) ≡ true → n < 2 ^ 64 → lettered_fault letter (letter ∷ decimal n) ≡ None
 lettered_fits letter n e h =
-    ap₂ (λ (b : Bool) (o : Option ℕ). if◌then◌else◌ {A = Option ℕ} b (if is_some o then None else Some 5) (Some 4)) e (numeral_decimal n h)
+    ap₂ (λ (b : Bool) (o : Option ℕ). if◌then◌else◌ {A = Option FaultKind} b (if is_some o then None else Some K.BadNumber) (Some K.WrongOperands)) e (numeral_decimal n h)
 
 register_fits : (n : ℕ) → n < 2 ^ 64 → operand_fault P.Register (register n) ≡ None
 register_fits n h = lettered_fits 114 n refl h
@@ -65,9 +68,9 @@ field_fits : (n : ℕ) → n < 2 ^ 64 → operand_fault P.Field (field n) ≡ No
 field_fits n h = lettered_fits 102 n refl h
 
 pub name_fits : (w : List ℕ) → is_name w ≡ true → operand_fault P.Name w ≡ None
-name_fits w h = ap (λ (b : Bool). if◌then◌else◌ {A = Option ℕ} b None (Some 6)) h
+name_fits w h = ap (λ (b : Bool). if◌then◌else◌ {A = Option FaultKind} b None (Some K.BadName)) h
 
-pub nones : (a b : Option ℕ) → a ≡ None → b ≡ None → lowest a b ≡ None
+pub nones : (a b : Option FaultKind) → a ≡ None → b ≡ None → lowest a b ≡ None
 nones a b e h = ap₂ lowest e h
 
 registers_fit : (ns : List ℕ) → All Fits64 ns → operands_fault [] (map register ns) ≡ None
@@ -175,9 +178,9 @@ words_for text (I.New d k) = refl
 words_for text (I.Send to b values) = refl
 words_for text (I.Print a) = refl
 
-counted : (word : LineWord) (n : ℕ) (rest : Option ℕ) → length (operands_of word) ≤ n → n ≤ length (operands_of word) + most_further word → rest ≡ None → (if fits_count word n then rest else Some 4) ≡ None
+counted : (word : LineWord) (n : ℕ) (rest : Option FaultKind) → length (operands_of word) ≤ n → n ≤ length (operands_of word) + most_further word → rest ≡ None → (if fits_count word n then rest else Some K.WrongOperands) ≡ None
 counted word n rest least most h =
-    ap₂ (λ (a b : Bool). if◌then◌else◌ {A = Option ℕ} (a && b) rest (Some 4)) (le-leb (length (operands_of word)) n least) (le-leb n (length (operands_of word) + most_further word) most) ∙ h
+    ap₂ (λ (a b : Bool). if◌then◌else◌ {A = Option FaultKind} (a && b) rest (Some K.WrongOperands)) (le-leb (length (operands_of word)) n least) (le-leb n (length (operands_of word) + most_further word) most) ∙ h
 
 -- the operands of an instruction have no fault
 pub shape_read : (text : ℕ → List ℕ) (i : Instr) → InstrFits i → IfSome (name_in i) (λ name. is_name (text name) ≡ true) → shape_fault (W.Instr (opcode_for i)) (operands_for text i) ≡ None
@@ -193,7 +196,7 @@ shape_read text (I.Less d a b) h intern_name = (nones _ _ (register_fits d h.0) 
 shape_read text (I.Same d a b) h intern_name = (nones _ _ (register_fits d h.0) (nones _ _ (register_fits a h.1) (nones _ _ (register_fits b h.2) refl)))
 shape_read text (I.Row d values) h intern_name = row values h.1 h.2 h.3
   where
-    row : (values : List ℕ) → 1 ≤ length values → length values ≤ 8 → All Fits64 values → (if fits_count (W.Instr C.Row) (length (register d ∷ map register values)) then operands_fault (operands_of (W.Instr C.Row)) (register d ∷ map register values) else Some 4) ≡ None
+    row : (values : List ℕ) → 1 ≤ length values → length values ≤ 8 → All Fits64 values → (if fits_count (W.Instr C.Row) (length (register d ∷ map register values)) then operands_fault (operands_of (W.Instr C.Row)) (register d ∷ map register values) else Some K.WrongOperands) ≡ None
     row [] least most all = absurd (omega arith)
     row (v ∷ vs) least most all =
         counted (W.Instr C.Row) (length (register d ∷ register v ∷ map register vs)) (operands_fault (operands_of (W.Instr C.Row)) (register d ∷ register v ∷ map register vs)) (omega arith) (omega (arith, length-map vs register))

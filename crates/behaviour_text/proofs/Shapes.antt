@@ -6,22 +6,25 @@ use Rattle.std.specs.List.{list_all}
 use Rattle.std.proofs.lemmas.Str.{IsUtf8-from_ascii}
 use Rattle.behaviour_code.specs.Names.{is_name_byte, is_name}
 use Rattle.behaviour_text.specs.Items.{name_place}
-use Rattle.behaviour_text.specs.Table.{operands_of, most_further, operand_fault, operands_fault, lowest, fits_count, shape_fault}
+use Rattle.behaviour_text.specs.Table.{operands_of, most_further, operand_fault, operands_fault, fits_count, shape_fault}
 use Rattle.behaviour_text.specs.Words.{word_at}
 use Rattle.behaviour_text.specs.declared.table.LineWord.{LineWord}
 use Rattle.behaviour_text.specs.declared.table.Operand.{Operand}
 use Rattle.behaviour_text.specs.declared.table.LineWord.TheVariants as W
 use Rattle.behaviour_text.specs.declared.table.Opcode.TheVariants as C
 use Rattle.behaviour_text.specs.declared.table.Operand.TheVariants as P
+use Rattle.behaviour_text.specs.Kinds.{lowest}
+use Rattle.behaviour_text.specs.declared.errors.FaultKind.{FaultKind}
+use Rattle.behaviour_text.specs.declared.errors.FaultKind.TheVariants as K
 
-pub lowest_none : (a b : Option ℕ) → lowest a b ≡ None → (a ≡ None) × (b ≡ None)
+pub lowest_none : (a b : Option FaultKind) → lowest a b ≡ None → (a ≡ None) × (b ≡ None)
 lowest_none None b h = (refl, h)
 lowest_none (Some a) None h = cc
 lowest_none (Some a) (Some b) h = cc
 
 pub fits : (word : LineWord) (ws : List (List ℕ)) → shape_fault word ws ≡ None → (fits_count word (length ws) ≡ true) × (operands_fault (operands_of word) ws ≡ None)
 unfolding shape_fault
-fits word ws h = chosen_none (fits_count word (length ws)) (operands_fault (operands_of word) ws) 4 h
+fits word ws h = chosen_none (fits_count word (length ws)) (operands_fault (operands_of word) ws) K.WrongOperands h
 
 pub enough : (word : LineWord) (n : ℕ) → fits_count word n ≡ true → (length (operands_of word) ≤ n) × (n ≤ length (operands_of word) + most_further word)
 enough word n h =
@@ -31,7 +34,7 @@ enough word n h =
 pub name_fits : (w : List ℕ) → operand_fault P.Name w ≡ None → is_name w ≡ true
 name_fits w h = named (is_name w) h
   where
-    named : (b : Bool) → if◌then◌else◌ {A = Option ℕ} b None (Some 6) ≡ None → b ≡ true
+    named : (b : Bool) → if◌then◌else◌ {A = Option FaultKind} b None (Some K.BadName) ≡ None → b ≡ true
     named true h = refl
     named false h = cc
 

@@ -18,6 +18,8 @@ use Rattle.behaviour_text.specs.declared.table.Operand.{Operand}
 use Rattle.behaviour_text.specs.declared.table.LineWord.TheVariants as W
 use Rattle.behaviour_text.specs.declared.table.Opcode.TheVariants as C
 use Rattle.behaviour_text.specs.declared.table.Operand.TheVariants as P
+use Rattle.behaviour_text.specs.declared.errors.FaultKind.{FaultKind}
+use Rattle.behaviour_text.specs.declared.errors.FaultKind.TheVariants as K
 
 -- numerals have one form
 single : (ds : List ℕ) → has_numeral_form ds ≡ true → get_or ds 0 0 ≡ 48 → length ds ≡ 1
@@ -46,7 +48,7 @@ number_there w (Some n) e h = numeral_again w n e
 pub number_again : (w : List ℕ) → is_some (numeral w) ≡ true → decimal (number_of w) ≡ w
 number_again w h = number_there w (numeral w) refl h
 
-no_kinds : (a b : Bool) (k m : ℕ) → if◌then◌else◌ {A = Option ℕ} a (if b then None else Some k) (Some m) ≡ None → (a ≡ true) × (b ≡ true)
+no_kinds : (a b : Bool) (k m : FaultKind) → if◌then◌else◌ {A = Option FaultKind} a (if b then None else Some k) (Some m) ≡ None → (a ≡ true) × (b ≡ true)
 no_kinds true true k m h = (refl, refl)
 no_kinds true false k m h = cc
 no_kinds false b k m h = cc
@@ -54,7 +56,7 @@ no_kinds false b k m h = cc
 pub numbered_again : (letter : ℕ) (w : List ℕ) → lettered_fault letter w ≡ None → letter ∷ decimal (register_of w) ≡ w
 numbered_again letter [] h = cc
 numbered_again letter (b ∷ bs) h =
-    let parts = no_kinds (b == letter) (is_some (numeral bs)) 5 4 h in
+    let parts = no_kinds (b == letter) (is_some (numeral bs)) K.BadNumber K.WrongOperands h in
     ap₂ (λ (x : ℕ) (xs : List ℕ). x ∷ xs) (sym (eqb-true b letter parts.0)) (number_again bs parts.1)
 
 -- an operand as it is spelled
@@ -72,7 +74,7 @@ respelled (want ∷ wants) (w ∷ ws) = respell want w ∷ respelled wants ws
 operand_again : (want : Operand) (w : List ℕ) → operand_fault want w ≡ None → respell want w ≡ w
 operand_again P.Register w h = numbered_again 114 w h
 operand_again P.Field w h = numbered_again 102 w h
-operand_again P.Number w h = number_again w (chosen_none (is_some (numeral w)) None 5 h).0
+operand_again P.Number w h = number_again w (chosen_none (is_some (numeral w)) None K.BadNumber h).0
 operand_again P.Name w h = refl
 
 operands_again : (wants : List Operand) (ws : List (List ℕ)) → operands_fault wants ws ≡ None → respelled wants ws ≡ ws

@@ -19,6 +19,8 @@ use Rattle.behaviour_text.specs.declared.table.LineWord.{LineWord}
 use Rattle.behaviour_text.specs.declared.table.LineWord.TheVariants as W
 use Rattle.behaviour_text.specs.declared.table.Opcode.TheVariants as C
 use Rattle.behaviour_code.specs.declared.instr.Instr.TheVariants as I
+use Rattle.behaviour_text.specs.declared.errors.FaultKind.{FaultKind}
+use Rattle.behaviour_text.specs.declared.errors.FaultKind.TheVariants as K
 
 -- names is the front of all
 pub record IsFront (names all : List (List ℕ)) : Type 0 where
@@ -99,7 +101,7 @@ no_hash (W.Instr C.Send) = refl
 no_hash (W.Instr C.Print) = refl
 
 few_enough : (n : ℕ) → n < 1024 → body_fault n ≡ None
-few_enough n h = ap (λ (b : Bool). if◌then◌else◌ {A = Option ℕ} b (Some 9) None) (le-ltb 1023 n (omega arith))
+few_enough n h = ap (λ (b : Bool). if◌then◌else◌ {A = Option FaultKind} b (Some K.TooMany) None) (le-ltb 1023 n (omega arith))
 
 name_found : (names all : List (List ℕ)) (o : Option ℕ) → AreApart all → IfSome o (NameFits all) → IsFront (instr_names (text_of all) names o) all →
     (instr_named names (text_of all) o).0 ≡ unwrap_or o 0
@@ -119,7 +121,7 @@ pub record Takes (r s : Reader) (ws : List (List ℕ)) : Type 0 where
 pub takes_word : (r s : Reader) (word : LineWord) (ws : List (List ℕ)) → shape_fault word ws ≡ None → place_fault (place_of r) word ws ≡ None → with_named r word (intern_name r.names (name_place word) ws) ws ≡ s → Takes r s (spelling word ∷ ws)
 unfolding words_fault with_words
 takes_word r s word ws shape place next = record {
-  clean = ap₂ (λ (b : Bool) (o : Option LineWord). if◌then◌else◌ {A = Option ℕ} b None (word_fault (place_of r) o ws)) (no_hash word) (spelled_word word) ∙ ap₂ option_or shape place;
+  clean = ap₂ (λ (b : Bool) (o : Option LineWord). if◌then◌else◌ {A = Option FaultKind} b None (word_fault (place_of r) o ws)) (no_hash word) (spelled_word word) ∙ ap₂ option_or shape place;
   next = ap₂ (λ (b : Bool) (o : Option LineWord). if◌then◌else◌ {A = Reader} b r (with_word r o ws)) (no_hash word) (spelled_word word) ∙ next;
 }
 

@@ -1,7 +1,10 @@
 -- The table of lines: their first words, and the operands behind these.
-use Rattle.std.specs.Prelude.{ℕ, ◌+◌, Bool, false, List, [], ◌∷◌, ◌==◌, ◌&&◌, Option, Some, None, nat_le, is_some, if◌then◌else◌, length, drop, find, bytes_eq, codes, min}
+use Rattle.std.specs.Prelude.{ℕ, ◌+◌, Bool, false, List, [], ◌∷◌, ◌==◌, ◌&&◌, Option, Some, None, nat_le, is_some, if◌then◌else◌, length, drop, find, bytes_eq, codes}
 use Rattle.behaviour_code.specs.Names.{is_name}
+use Rattle.behaviour_text.specs.Kinds.{lowest}
 use Rattle.behaviour_text.specs.Words.{numeral}
+use Rattle.behaviour_text.specs.declared.errors.FaultKind.{FaultKind}
+use Rattle.behaviour_text.specs.declared.errors.FaultKind.TheVariants as K
 use Rattle.behaviour_text.specs.declared.table.TheConstants.{FIELD_LETTER, REGISTER_LETTER}
 use Rattle.behaviour_text.specs.declared.table.LineWord.{LineWord}
 use Rattle.behaviour_text.specs.declared.table.LineWord.TheVariants as W
@@ -85,27 +88,21 @@ abbrev pub starts_with : ℕ → List ℕ → Bool
 starts_with letter [] = false
 starts_with letter (b ∷ bs) = b == letter
 
--- a letter, and a numeral behind it; else 4 where the letter is missing, 5 where the numeral is
-abbrev pub lettered_fault : ℕ → List ℕ → Option ℕ
+-- a letter, and a numeral behind it
+abbrev pub lettered_fault : ℕ → List ℕ → Option FaultKind
 lettered_fault letter word =
-    if starts_with letter word then (if is_some (numeral (drop 1 word)) then None else Some 5)
-    else Some 4
+    if starts_with letter word then (if is_some (numeral (drop 1 word)) then None else Some K.BadNumber)
+    else Some K.WrongOperands
 
--- the lowest fault of one operand: 4, 5 or 6
-abbrev pub operand_fault : Operand → List ℕ → Option ℕ
+-- the lowest fault of one operand
+abbrev pub operand_fault : Operand → List ℕ → Option FaultKind
 operand_fault P.Register word = lettered_fault REGISTER_LETTER word
 operand_fault P.Field word = lettered_fault FIELD_LETTER word
-operand_fault P.Number word = if is_some (numeral word) then None else Some 5
-operand_fault P.Name word = if is_name word then None else Some 6
-
--- the lower of two faults
-abbrev pub lowest : Option ℕ → Option ℕ → Option ℕ
-lowest None b = b
-lowest (Some a) None = Some a
-lowest (Some a) (Some b) = Some (min a b)
+operand_fault P.Number word = if is_some (numeral word) then None else Some K.BadNumber
+operand_fault P.Name word = if is_name word then None else Some K.BadName
 
 -- the lowest fault of some operands; those past the table's are registers
-abbrev pub operands_fault : List Operand → List (List ℕ) → Option ℕ
+abbrev pub operands_fault : List Operand → List (List ℕ) → Option FaultKind
 operands_fault operands [] = None
 operands_fault [] (word ∷ words) = lowest (operand_fault P.Register word) (operands_fault [] words)
 operands_fault (operand ∷ operands) (word ∷ words) =
@@ -115,7 +112,8 @@ abbrev pub fits_count : LineWord → ℕ → Bool
 fits_count word n =
     nat_le (length (operands_of word)) n && nat_le n (length (operands_of word) + most_further word)
 
--- the lowest fault of the operands of a line: 4 where they are too few or too many
-unfoldable pub shape_fault : LineWord → List (List ℕ) → Option ℕ
+-- the lowest fault of the operands of a line, which may be too few or too many
+unfoldable pub shape_fault : LineWord → List (List ℕ) → Option FaultKind
 shape_fault word operands =
-    if fits_count word (length operands) then operands_fault (operands_of word) operands else Some 4
+    if fits_count word (length operands) then operands_fault (operands_of word) operands
+    else Some K.WrongOperands

@@ -2,8 +2,10 @@
 
 ghost use Rattle.std.specs.Prelude.{◌≡◌, map, bytes_eq, IfOk, IfErr, Some, None, slice_index_or};
 ghost use Rattle.behaviour_text.specs.Items.{register_of, operand_number, operand_numbers};
-ghost use Rattle.behaviour_text.specs.Table.{spelling, line_word, operands_of, most_further, starts_with, lettered_fault, operand_fault, operands_fault, lowest, fits_count, shape_fault};
+ghost use Rattle.behaviour_text.specs.Kinds.{lowest};
+ghost use Rattle.behaviour_text.specs.Table.{spelling, line_word, operands_of, most_further, starts_with, lettered_fault, operand_fault, operands_fault, fits_count, shape_fault};
 
+use crate::errors::FaultKind;
 use crate::words::{is_name, numeral};
 use std::alloc::AllocError;
 
@@ -227,20 +229,20 @@ pub(crate) fn starts_with(letter: u8, word: &[u8]) -> bool
 }
 
 /// The number behind the letter of a register or a field, or the fault.
-fn lettered_number(letter: u8, word: &[u8]) -> Result<u64, u8>
+fn lettered_number(letter: u8, word: &[u8]) -> Result<u64, FaultKind>
     ensures ok { IfOk result (λ number. (lettered_fault letter word.now ≡ None)
         × (number ≡ register_of word.now)) }
     ensures fault { IfErr result (λ kind. lettered_fault letter word.now ≡ Some kind) }
 {
     if starts_with(letter, word) {
-        numeral(&word[1..]).ok_or(5)
+        numeral(&word[1..]).ok_or(FaultKind::BadNumber)
     } else {
-        Err(4)
+        Err(FaultKind::WrongOperands)
     }
 }
 
 /// The number of an operand, 0 for a name, or the fault.
-fn operand_number(operand: Operand, word: &[u8]) -> Result<u64, u8>
+fn operand_number(operand: Operand, word: &[u8]) -> Result<u64, FaultKind>
     ensures ok { IfOk result (λ number. (operand_fault operand word.now ≡ None)
         × (number ≡ operand_number operand word.now)) }
     ensures fault { IfErr result (λ kind. operand_fault operand word.now ≡ Some kind) }
@@ -248,18 +250,22 @@ fn operand_number(operand: Operand, word: &[u8]) -> Result<u64, u8>
     match operand {
         Operand::Register => lettered_number(REGISTER_LETTER, word),
         Operand::Field => lettered_number(FIELD_LETTER, word),
-        Operand::Number => numeral(word).ok_or(5),
-        Operand::Name => if is_name(word) { Ok(0) } else { Err(6) },
+        Operand::Number => numeral(word).ok_or(FaultKind::BadNumber),
+        Operand::Name => if is_name(word) {
+            Ok(0)
+        } else {
+            Err(FaultKind::BadName)
+        },
     }
 }
 
-fn lowest(a: Option<u8>, b: Option<u8>) -> Option<u8>
+fn lowest(a: Option<FaultKind>, b: Option<FaultKind>) -> Option<FaultKind>
     ensures { result ≡ lowest a b }
 {
     match (a, b) {
         (None, b) => b,
         (Some(a), None) => Some(a),
-        (Some(a), Some(b)) => Some(a.min(b)),
+        (Some(a), Some(b)) => Some(a.lower(b)),
     }
 }
 
@@ -286,7 +292,7 @@ fn put_operands(
     numbers: &mut Vec<u64>,
     operands: &[Operand],
     words: &[&[u8]],
-) -> Result<Option<u8>, AllocError>
+) -> Result<Option<FaultKind>, AllocError>
     ensures fault { IfOk result (λ fault. fault
         ≡ operands_fault operands.now (map (λ w. w.now) words.now)) }
     ensures numbers { IfOk result (λ fault. fault ≡ None → numbers.new.items
@@ -310,7 +316,7 @@ pub(crate) fn put_numbers(
     numbers: &mut Vec<u64>,
     word: LineWord,
     words: &[&[u8]],
-) -> Result<Option<u8>, AllocError>
+) -> Result<Option<FaultKind>, AllocError>
     ensures fault { IfOk result (λ fault. fault
         ≡ shape_fault word (map (λ w. w.now) words.now)) }
     ensures numbers { IfOk result (λ fault. fault ≡ None → numbers.new.items
@@ -319,6 +325,6 @@ pub(crate) fn put_numbers(
     if fits_count(word, words.len()) {
         put_operands(numbers, operands_of(word), words)
     } else {
-        Ok(Some(4))
+        Ok(Some(FaultKind::WrongOperands))
     }
 }
