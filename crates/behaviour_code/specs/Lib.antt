@@ -1,3 +1,4 @@
 pub mod Find
 pub mod Names
+pub mod Opcodes
 pub mod WellFormed

@@ -4,10 +4,12 @@
 mod code;
 mod instr;
 mod names;
+mod opcode;
 
 pub use code::{Behaviour, Kind, Program};
 pub use instr::{Instr, Registers, RowRegisters};
 pub use names::{Name, Names};
+pub use opcode::{Opcode, OperandKind};
 
 #[cfg(test)]
 mod tests;

@@ -25,7 +25,7 @@ use Rattle.behaviour_text.specs.declared.place.Stage.{Stage}
 use Rattle.behaviour_text.specs.declared.place.Stage.TheVariants.{Start, InKind, InBehaviour}
 use Rattle.behaviour_text.specs.declared.reader.Reader.{Reader}
 use Rattle.behaviour_text.specs.declared.table.LineWord.TheVariants as W
-use Rattle.behaviour_text.specs.declared.table.Operand.TheVariants as P
+use Rattle.behaviour_code.specs.declared.opcode.OperandKind.TheVariants as P
 use Rattle.behaviour_text.specs.declared.errors.TextErr.TheVariants as E
 use Rattle.behaviour_text.specs.Kinds.{kind_of, number}
 use Rattle.behaviour_text.specs.declared.errors.FaultKind.{FaultKind}

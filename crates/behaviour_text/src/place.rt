@@ -3,7 +3,7 @@
 ghost use Rattle.std.specs.Prelude.{◌≡◌, ℕ, List};
 ghost use Rattle.behaviour_text.specs.Faults.{kind_fault, on_fault, inside_fault, body_fault, place_fault};
 ghost use Rattle.behaviour_text.specs.Items.{operand_numbers};
-ghost use Rattle.behaviour_text.specs.Table.{operands_of};
+ghost use Rattle.behaviour_text.specs.Table.{word_operands};
 
 use crate::errors::FaultKind;
 use crate::items::number_at;
@@ -78,7 +78,7 @@ fn body_fault(instructions: usize) -> Option<FaultKind>
 
 /// The lowest fault of the place of a line, whose operands say these numbers.
 pub(crate) fn place_fault(place: Place, word: LineWord, numbers: &[u64]) -> Option<FaultKind>
-    ensures { (words : List (List ℕ)) → numbers.now ≡ operand_numbers (operands_of word) words
+    ensures { (words : List (List ℕ)) → numbers.now ≡ operand_numbers (word_operands word) words
         → result ≡ place_fault place word words }
 {
     match word {

@@ -5,7 +5,7 @@ ghost use Rattle.behaviour_code.specs.Names.{is_name};
 ghost use Rattle.behaviour_text.specs.Faults.{words_fault, word_fault};
 ghost use Rattle.behaviour_text.specs.Items.{name_place, operand_numbers};
 ghost use Rattle.behaviour_text.specs.Reading.{start, place_of, kinds_begun, close_kind, with_kind, with_on, with_end, with_instr, with_item, with_word, with_words, intern_name, IsNamed};
-ghost use Rattle.behaviour_text.specs.Table.{shape_fault, fits_count, operands_of};
+ghost use Rattle.behaviour_text.specs.Table.{shape_fault, fits_count, word_operands};
 
 use crate::errors::FaultKind;
 use crate::items::{instruction, name_place, small_at};
@@ -155,7 +155,7 @@ impl Reader {
         numbers: &[u64],
     ) -> Result<(), AllocError>
         requires { fits_count word (length numbers.now) ≡ true }
-        ensures { (words : List (List ℕ)) → numbers.now ≡ operand_numbers (operands_of word) words
+        ensures { (words : List (List ℕ)) → numbers.now ≡ operand_numbers (word_operands word) words
             → OnOk result (self.new ≡ with_item self.old word name words) }
     {
         match word {
@@ -183,7 +183,7 @@ impl Reader {
         requires few { length self.old.names < 2 ^ 32 }
         requires fits { shape_fault word (map (λ w. w.now) operands.now) ≡ None }
         requires numbers { numbers.now
-            ≡ operand_numbers (operands_of word) (map (λ w. w.now) operands.now) }
+            ≡ operand_numbers (word_operands word) (map (λ w. w.now) operands.now) }
         ensures { OnOk result (self.new
             ≡ with_word self.old (Some word) (map (λ w. w.now) operands.now)) }
     {
