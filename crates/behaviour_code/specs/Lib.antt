@@ -1,3 +1,5 @@
 pub mod Find
 pub mod Names
+pub mod Opcodes
+pub mod Operands
 pub mod WellFormed

@@ -4,10 +4,14 @@
 mod code;
 mod instr;
 mod names;
+mod opcode;
+mod operand;
 
 pub use code::{Behaviour, Kind, Program};
 pub use instr::{Instr, Registers, RowRegisters};
 pub use names::{Name, Names};
+pub use opcode::{Opcode, OperandKind};
+pub use operand::{Operand, Operands};
 
 #[cfg(test)]
 mod tests;

@@ -15,7 +15,7 @@ use Rattle.behaviour_code.specs.declared.code.Behaviour.{Behaviour}
 use Rattle.behaviour_code.specs.declared.code.Kind.{Kind}
 use Rattle.behaviour_code.specs.declared.code.Program.{Program}
 use Rattle.behaviour_code.specs.declared.instr.Instr.{Instr}
-use Rattle.behaviour_text.specs.Faults.{kind_fault, on_fault, inside_fault, word_fault, words_fault, kind_number, lowest_fault, first_fault, IsFault, Tells}
+use Rattle.behaviour_text.specs.Faults.{kind_fault, on_fault, inside_fault, word_fault, words_fault, lowest_fault, first_fault, told_fault, IsFault, Tells}
 use Rattle.behaviour_text.specs.Reading.{start, kinds_begun, place_of, close_kind_at, close_kind, with_kind, with_on, with_end, with_word, with_words, read_end, unless_fault, read_from, finish, read_text, fault_of}
 use Rattle.behaviour_text.specs.Table.{line_word, starts_with, operands_fault, shape_fault}
 use Rattle.behaviour_text.specs.Text.{instr_words, behaviour_begin, behaviour_end, kind_begin, behaviour_lines, kind_lines, program_lines, speaks, said_lines, AreClean, IsText}
@@ -25,8 +25,11 @@ use Rattle.behaviour_text.specs.declared.place.Stage.{Stage}
 use Rattle.behaviour_text.specs.declared.place.Stage.TheVariants.{Start, InKind, InBehaviour}
 use Rattle.behaviour_text.specs.declared.reader.Reader.{Reader}
 use Rattle.behaviour_text.specs.declared.table.LineWord.TheVariants as W
-use Rattle.behaviour_text.specs.declared.table.Operand.TheVariants as P
+use Rattle.behaviour_code.specs.declared.opcode.OperandKind.TheVariants as P
 use Rattle.behaviour_text.specs.declared.errors.TextErr.TheVariants as E
+use Rattle.behaviour_text.specs.Kinds.{kind_of, number}
+use Rattle.behaviour_text.specs.declared.errors.FaultKind.{FaultKind}
+use Rattle.behaviour_text.specs.declared.errors.FaultKind.TheVariants as K
 
 abbrev small_number : (n : ℕ) → n ≤ 8 → n < 2 ^ 64
 small_number n h = omega arith
@@ -41,16 +44,16 @@ smaller n h = ap (λ (k : ℕ). min k 8) (number_read n (small_number n h)) ∙ 
 on_place_read : (stage : Stage) (behaviours n : ℕ) → stage ≡ InKind → behaviours < 64 → n ≤ 8 → on_fault stage behaviours (number_of (decimal n)) ≡ None
 on_place_read stage behaviours n e few h =
     ap₂ (λ (s : Stage) (k : ℕ). on_fault s behaviours k) e (number_read n (small_number n h))
-    ∙ ap₂ (λ (a b : Bool). if◌then◌else◌ {A = Option ℕ} (a || b) (Some 9) None) (le-ltb 63 behaviours (omega arith)) (le-ltb 8 n h)
+    ∙ ap₂ (λ (a b : Bool). if◌then◌else◌ {A = Option FaultKind} (a || b) (Some K.TooMany) None) (le-ltb 63 behaviours (omega arith)) (le-ltb 8 n h)
 
 kind_place_read : (stage : Stage) (kinds n : ℕ) → stage ≢ InBehaviour → kinds < 256 → n ≤ 8 → kind_fault stage kinds (number_of (decimal n)) ≡ None
 kind_place_read InBehaviour kinds n away few h = absurd (away refl)
 kind_place_read Start kinds n away few h =
     ap (kind_fault Start kinds) (number_read n (small_number n h))
-    ∙ ap₂ (λ (a b : Bool). if◌then◌else◌ {A = Option ℕ} (a || b) (Some 9) None) (le-ltb 255 kinds (omega arith)) (le-ltb 8 n h)
+    ∙ ap₂ (λ (a b : Bool). if◌then◌else◌ {A = Option FaultKind} (a || b) (Some K.TooMany) None) (le-ltb 255 kinds (omega arith)) (le-ltb 8 n h)
 kind_place_read InKind kinds n away few h =
     ap (kind_fault InKind kinds) (number_read n (small_number n h))
-    ∙ ap₂ (λ (a b : Bool). if◌then◌else◌ {A = Option ℕ} (a || b) (Some 9) None) (le-ltb 255 kinds (omega arith)) (le-ltb 8 n h)
+    ∙ ap₂ (λ (a b : Bool). if◌then◌else◌ {A = Option FaultKind} (a || b) (Some K.TooMany) None) (le-ltb 255 kinds (omega arith)) (le-ltb 8 n h)
 
 one_name : (all : List (List ℕ)) (names : List (List ℕ)) (n : ℕ) → AreApart all → NameFits all n → IsFront (with_text names (text_of all n)) all →
     (intern names (text_of all n)).0 ≡ n
@@ -262,7 +265,7 @@ line_back r s (w ∷ ws) rest h = by_mark (starts_with 35 w) refl h
   where
     by_mark : (b : Bool) → starts_with 35 w ≡ b → ReadsTo r (cond (not b) ((w ∷ ws) ∷ rest) rest) s → Follows r s (w ∷ ws) rest
     by_mark true e k = record {
-      clean = ap (λ (x : Bool). if◌then◌else◌ {A = Option ℕ} x None (word_fault (place_of r) (line_word w) ws)) e;
+      clean = ap (λ (x : Bool). if◌then◌else◌ {A = Option FaultKind} x None (word_fault (place_of r) (line_word w) ws)) e;
       goes_on = subst (λ (t : Reader). ReadsTo t rest s) (sym (ap (λ (x : Bool). if◌then◌else◌ {A = Reader} x r (with_word r (line_word w) ws)) e)) k;
     }
     by_mark false e (t, takes, more) = record { clean = takes.clean; goes_on = subst (λ (x : Reader). ReadsTo x rest s) (sym takes.next) more }
@@ -277,7 +280,7 @@ unfolding read_from lowest_fault
 read_back n r s [] clean e away = ap (λ (x : Reader). read_end n x x.stage) e ∙ ended_ok n s s.stage away
 read_back n r s (line ∷ lines) clean h away =
     let step = line_back r s (words_of line) (said_lines lines) h in
-    ap₂ (λ (o : Option LineKind) (f : Option ℕ). unless_fault (n + 1) (option_or (option_map kind_number o) f) (read_from (n + 1) (with_words r (words_of line)) lines)) clean.0 step.clean
+    ap₂ (λ (o : Option LineKind) (f : Option FaultKind). unless_fault (n + 1) (option_or (option_map kind_of o) f) (read_from (n + 1) (with_words r (words_of line)) lines)) clean.0 step.clean
     ∙ read_back (n + 1) (with_words r (words_of line)) s lines clean.1 step.goes_on away
 
 -- a text of a program is read as that program
@@ -290,7 +293,7 @@ text_again bytes p clean lines good =
     let s = read.0 in
     let said : ReadsTo start (said_lines (lines_of bytes)) s = subst (λ (ls : Lines). ReadsTo start ls s) (sym lines) read.1 in
     ap finish (read_back 0 start s (lines_of bytes) clean said read.2.ended)
-    ∙ ap₂ (λ (ks : List Kind) (ns : List (List ℕ)). let x : Result Program (ℕ × ℕ) = Ok (record { kinds = ks; names = ns }) in x) read.2.kinds_are (read.2.names_are ∙ good.in_order)
+    ∙ ap₂ (λ (ks : List Kind) (ns : List (List ℕ)). let x : Result Program (ℕ × FaultKind) = Ok (record { kinds = ks; names = ns }) in x) read.2.kinds_are (read.2.names_are ∙ good.in_order)
 
 all_each : (lines : List (List ℕ)) → AreClean lines → AllByRecursion (λ line. line_fault line ≡ None) lines
 all_each [] h = tt
@@ -320,6 +323,9 @@ texts bytes (Err e) h = tt
 -- a text that is read has no fault
 pub no_fault_read : (bytes : List ℕ) (p : Program) → read_text bytes ≡ Ok p → first_fault bytes ≡ None
 no_fault_read bytes p h = sym (first_fault_read bytes) ∙ ap fault_of h
+
+pub no_fault_told : (bytes : List ℕ) (p : Program) → read_text bytes ≡ Ok p → told_fault bytes ≡ None
+no_fault_told bytes p h = ap (option_map (λ (fault : ℕ × FaultKind). (fault.0, number fault.1))) (no_fault_read bytes p h)
 
 pub no_fault_there : (bytes : List ℕ) (r : Result Program TextErr) → IfOk r (λ p. read_text bytes ≡ Ok p) → OnOk r (first_fault bytes ≡ None)
 no_fault_there bytes (Ok p) h = no_fault_read bytes p h

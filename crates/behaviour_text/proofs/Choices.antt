@@ -1,5 +1,5 @@
 -- Facts of tests, choices and lists that speak of no text.
-use Rattle.std.proofs.Common.{◌≡◌, ℕ, ◌≤◌, Bool, true, false, cond, List, [], ◌∷◌, ◌++◌, ◌&&◌, ◌||◌, filter, length, length-append, refl, Option, Some, None, if◌then◌else◌, ◌⊎◌, inl, inr, arith}
+use Rattle.std.proofs.Common.{◌≡◌, ◌≤◌, Bool, true, false, cond, List, [], ◌∷◌, ◌++◌, ◌&&◌, ◌||◌, filter, length, length-append, refl, Option, Some, None, if◌then◌else◌, ◌⊎◌, inl, inr, arith, find, map, option_map}
 use Rattle.std.specs.List.{AllByRecursion}
 use Rattle.std.specs.Option.{option_or}
 
@@ -27,17 +27,17 @@ pub or_false : (a b : Bool) → a ≡ false → b ≡ false → (a || b) ≡ fal
 or_false true b h k = cc
 or_false false b h k = k
 
-pub option_or_none : (a b : Option ℕ) → option_or a b ≡ None → (a ≡ None) × (b ≡ None)
+pub option_or_none : {X : Type 0} (a b : Option X) → option_or a b ≡ None → (a ≡ None) × (b ≡ None)
 option_or_none None b h = (refl, h)
 option_or_none (Some a) b h = cc
 
 -- a fault unless a test passes, which is not there
-pub chosen_none : (b : Bool) (fault : Option ℕ) (kind : ℕ) → (if b then fault else Some kind) ≡ None → (b ≡ true) × (fault ≡ None)
+pub chosen_none : {X : Type 0} (b : Bool) (fault : Option X) (kind : X) → (if b then fault else Some kind) ≡ None → (b ≡ true) × (fault ≡ None)
 chosen_none true fault kind h = (refl, h)
 chosen_none false fault kind h = cc
 
 -- a fault where a test passes, which is not there
-pub no_fault : (b : Bool) (kind : ℕ) → if◌then◌else◌ {A = Option ℕ} b (Some kind) None ≡ None → b ≡ false
+pub no_fault : {X : Type 0} (b : Bool) (kind : X) → if◌then◌else◌ {A = Option X} b (Some kind) None ≡ None → b ≡ false
 no_fault true kind h = cc
 no_fault false kind h = refl
 
@@ -64,3 +64,12 @@ each_append P (x ∷ xs) ys h k = (h.0, each_append P xs ys h.1 k)
 pub each_weaker : {X : Type 0} (P Q : X → Type 0) (xs : List X) → ((x : X) → P x → Q x) → AllByRecursion P xs → AllByRecursion Q xs
 each_weaker P Q [] f h = tt
 each_weaker P Q (x ∷ xs) f h = (f x h.0, each_weaker P Q xs f h.1)
+
+pub find_mapped : {X Y : Type 0} (f : X → Y) (p : Y → Bool) (xs : List X) → find p (map f xs) ≡ option_map f (find (λ x. p (f x)) xs)
+find_mapped f p [] = refl
+find_mapped {X} f p (x ∷ xs) = by_test (p (f x)) (find_mapped f p xs)
+  where
+    by_test : (b : Bool) → find p (map f xs) ≡ option_map f (find (λ x. p (f x)) xs)
+        → cond b (Some (f x)) (find p (map f xs)) ≡ option_map f (cond b (Some x) (find (λ x. p (f x)) xs))
+    by_test true h = refl
+    by_test false h = h

@@ -18,6 +18,7 @@ use Rattle.behaviour_text.specs.Text.{kind_lines, said_lines}
 use Rattle.behaviour_text.specs.declared.errors.TextErr.{TextErr}
 use Rattle.behaviour_text.specs.declared.reader.Reader.{Reader}
 use Rattle.behaviour_code.specs.declared.instr.Instr.TheVariants as I
+use Rattle.behaviour_text.specs.declared.errors.FaultKind.{FaultKind}
 
 name_at : (names : List (List ℕ)) (i : ℕ) → AllByRecursion (λ w. is_name w ≡ true) names → i < length names → is_name (slice_index_or names i []) ≡ true
 name_at [] i h k = absurd (omega arith)
@@ -56,7 +57,7 @@ kinds_good names (x ∷ xs) ok k s = (
 none_ok : NamesOk []
 none_ok = record { each = tt; apart = record { apart = λ m n h k e. absurd (omega arith) } }
 
-done_good : (bytes : List ℕ) (p : Program) (read : Result Reader (ℕ × ℕ)) → read_from 0 start (lines_of bytes) ≡ read → finish read ≡ Ok p → IsWellFormed p
+done_good : (bytes : List ℕ) (p : Program) (read : Result Reader (ℕ × FaultKind)) → read_from 0 start (lines_of bytes) ≡ read → finish read ≡ Ok p → IsWellFormed p
 unfolding start close_kind
 done_good bytes p (Err e) told h = cc
 done_good bytes p (Ok s) told h =

@@ -1,6 +1,7 @@
 pub mod Again
 pub mod Canonical
 pub mod Choices
+pub mod FirstWords
 pub mod Goodness
 pub mod Known
 pub mod Limits

@@ -21,9 +21,10 @@ use Rattle.behaviour_text.specs.declared.place.Stage.{Stage}
 use Rattle.behaviour_text.specs.declared.place.Stage.TheVariants.{Start, InKind, InBehaviour}
 use Rattle.behaviour_text.specs.declared.reader.Reader.{Reader}
 use Rattle.behaviour_text.specs.declared.table.LineWord.{LineWord}
-use Rattle.behaviour_text.specs.declared.table.Opcode.{Opcode}
+use Rattle.behaviour_code.specs.declared.opcode.Opcode.{Opcode}
 use Rattle.behaviour_text.specs.declared.table.LineWord.TheVariants as W
-use Rattle.behaviour_text.specs.declared.table.Opcode.TheVariants as C
+use Rattle.behaviour_code.specs.declared.opcode.Opcode.TheVariants as C
+use Rattle.behaviour_text.specs.declared.errors.FaultKind.TheVariants as K
 
 bound : (b : Bool) (n : ℕ) → unwrap_or (if b && nat_lt n (2 ^ 64) then Some n else None) 0 < 2 ^ 64
 bound b n = by_test (b && nat_lt n (2 ^ 64)) refl
@@ -104,20 +105,20 @@ closed_small r InBehaviour h = each_push KindSmall r.kinds _ h.0 (record { few =
 
 closed_room : (r : Reader) (stage : Stage) (fields : ℕ) → kind_fault stage (kinds_begun stage (length r.kinds)) fields ≡ None → length (close_kind_at stage r).kinds ≤ 255
 closed_room r InBehaviour fields h = cc
-closed_room r Start fields h = ltb-false 255 (length r.kinds) (neither (nat_lt 255 (length r.kinds)) (nat_lt 8 fields) (no_fault _ 9 h)).0
+closed_room r Start fields h = ltb-false 255 (length r.kinds) (neither (nat_lt 255 (length r.kinds)) (nat_lt 8 fields) (no_fault _ K.TooMany h)).0
 closed_room r InKind fields h =
-    let few : length r.kinds + 1 ≤ 255 = ltb-false 255 (length r.kinds + 1) (neither (nat_lt 255 (length r.kinds + 1)) (nat_lt 8 fields) (no_fault _ 9 h)).0 in
+    let few : length r.kinds + 1 ≤ 255 = ltb-false 255 (length r.kinds + 1) (neither (nat_lt 255 (length r.kinds + 1)) (nat_lt 8 fields) (no_fault _ K.TooMany h)).0 in
     omega (arith, length-append r.kinds (record { name = r.kind_name; fields = r.fields; behaviours = r.behaviours } ∷ []))
 
 on_few : (stage : Stage) (behaviours parameters : ℕ) → on_fault stage behaviours parameters ≡ None → behaviours ≤ 63
 on_few Start behaviours parameters h = cc
 on_few InBehaviour behaviours parameters h = cc
-on_few InKind behaviours parameters h = ltb-false 63 behaviours (neither (nat_lt 63 behaviours) (nat_lt 8 parameters) (no_fault _ 9 h)).0
+on_few InKind behaviours parameters h = ltb-false 63 behaviours (neither (nat_lt 63 behaviours) (nat_lt 8 parameters) (no_fault _ K.TooMany h)).0
 
 body_few : (stage : Stage) (n : ℕ) → inside_fault stage (body_fault n) ≡ None → n ≤ 1023
 body_few Start n h = cc
 body_few InKind n h = cc
-body_few InBehaviour n h = ltb-false 1023 n (no_fault (nat_lt 1023 n) 9 h)
+body_few InBehaviour n h = ltb-false 1023 n (no_fault (nat_lt 1023 n) K.TooMany h)
 
 with_instr_small : (r : Reader) (i : Instr) → r.stage ≡ InBehaviour → length r.body ≤ 1023 → InstrFits i → SmallAt r r.stage → SmallAt (with_instr r i) (with_instr r i).stage
 unfolding with_instr

@@ -4,7 +4,7 @@ use Rattle.std.proofs.Common.{min, ◌≡◌, ℕ, ◌+◌, Bool, true, false, L
 use Rattle.text_lines.specs.Lines.{lines_of, line_fault}
 use Rattle.behaviour_text.proofs.Said.{on_place, inside_place}
 use Rattle.std.specs.Option.{option_or, option_map_or}
-use Rattle.behaviour_text.specs.Faults.{place_fault, word_fault, words_fault, kind_number, lowest_fault, behind_word, place_after, end_fault, first_from, first_fault}
+use Rattle.behaviour_text.specs.Faults.{place_fault, word_fault, words_fault, lowest_fault, behind_word, place_after, end_fault, first_from, first_fault}
 use Rattle.behaviour_text.specs.Items.{name_place}
 use Rattle.behaviour_text.specs.Reading.{start, kinds_begun, place_of, close_kind_at, close_kind, with_kind, with_on, with_end, with_instr, intern_name, with_item, with_word, with_words, read_end, unless_fault, read_from, finish, read_text, fault_of}
 use Rattle.behaviour_text.specs.Table.{line_word, starts_with, shape_fault}
@@ -15,6 +15,8 @@ use Rattle.behaviour_text.specs.declared.place.Stage.TheVariants.{Start, InKind,
 use Rattle.behaviour_text.specs.declared.reader.Reader.{Reader}
 use Rattle.behaviour_text.specs.declared.table.LineWord.{LineWord}
 use Rattle.behaviour_text.specs.declared.table.LineWord.TheVariants as W
+use Rattle.behaviour_text.specs.Kinds.{kind_of}
+use Rattle.behaviour_text.specs.declared.errors.FaultKind.{FaultKind}
 
 kind_begun : (r : Reader) (stage : Stage) (name n : ℕ) →
     place_of (record (close_kind_at stage r) { stage = InKind; kind_name = name; fields = n; behaviours = [] })
@@ -63,7 +65,7 @@ fault_at_end n r Start = refl
 fault_at_end n r InKind = refl
 fault_at_end n r InBehaviour = refl
 
-fault_next : (n : ℕ) (fault : Option ℕ) (read : Result Reader (ℕ × ℕ)) (first : Option (ℕ × ℕ)) → (fault ≡ None → fault_of read ≡ first) →
+fault_next : (n : ℕ) (fault : Option FaultKind) (read : Result Reader (ℕ × FaultKind)) (first : Option (ℕ × FaultKind)) → (fault ≡ None → fault_of read ≡ first) →
     fault_of (unless_fault n fault read) ≡ option_or (option_map (λ kind. (n, kind)) fault) first
 fault_next n None read first h = h refl
 fault_next n (Some kind) read first h = refl
@@ -77,9 +79,9 @@ read_fault n r (line ∷ lines) =
     fault_next (n + 1) (lowest_fault (place_of r) line) (read_from (n + 1) (with_words r (words_of line)) lines)
     (first_from (n + 1) (place_after (place_of r) (words_of line)) lines)
     (λ clean. rest ∙ ap (λ (place : Place). first_from (n + 1) place lines)
-    (place_follows r (words_of line) (option_or_none (option_map kind_number (line_fault line)) (words_fault (place_of r) (words_of line)) clean).1))
+    (place_follows r (words_of line) (option_or_none (option_map kind_of (line_fault line)) (words_fault (place_of r) (words_of line)) clean).1))
 
-fault_finished : (read : Result Reader (ℕ × ℕ)) → fault_of (finish read) ≡ fault_of read
+fault_finished : (read : Result Reader (ℕ × FaultKind)) → fault_of (finish read) ≡ fault_of read
 fault_finished (Ok r) = refl
 fault_finished (Err fault) = refl
 

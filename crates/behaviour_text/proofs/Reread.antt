@@ -14,15 +14,18 @@ use Rattle.behaviour_code.specs.Names.{is_name}
 use Rattle.behaviour_code.specs.declared.instr.Instr.{Instr}
 use Rattle.behaviour_text.specs.Items.{register_of, instr_of}
 use Rattle.behaviour_text.specs.Reading.{intern_name}
-use Rattle.behaviour_text.specs.Table.{spelling, line_word, operands_of, most_further, lettered_fault, operand_fault, operands_fault, lowest, fits_count, shape_fault}
+use Rattle.behaviour_text.specs.Table.{word_spelling, line_word, word_operands, word_further, lettered_fault, operand_fault, operands_fault, fits_count, shape_fault}
 use Rattle.behaviour_text.specs.Text.{register, field, instr_words}
 use Rattle.behaviour_text.specs.Words.{has_numeral_form, numeral, number_of}
 use Rattle.behaviour_text.specs.declared.table.LineWord.{LineWord}
-use Rattle.behaviour_text.specs.declared.table.Opcode.{Opcode}
+use Rattle.behaviour_code.specs.declared.opcode.Opcode.{Opcode}
 use Rattle.behaviour_text.specs.declared.table.LineWord.TheVariants as W
-use Rattle.behaviour_text.specs.declared.table.Opcode.TheVariants as C
-use Rattle.behaviour_text.specs.declared.table.Operand.TheVariants as P
+use Rattle.behaviour_code.specs.declared.opcode.Opcode.TheVariants as C
+use Rattle.behaviour_code.specs.declared.opcode.OperandKind.TheVariants as P
 use Rattle.behaviour_code.specs.declared.instr.Instr.TheVariants as I
+use Rattle.behaviour_text.specs.Kinds.{lowest}
+use Rattle.behaviour_text.specs.declared.errors.FaultKind.{FaultKind}
+use Rattle.behaviour_text.specs.declared.errors.FaultKind.TheVariants as K
 
 form_of : (ds : List ℕ) → list_all is_ascii_digit ds ≡ true → 0 < length ds → ((length ds ≡ 1) ⊎ (48 < get_or ds 0 0)) → has_numeral_form ds ≡ true
 form_of [] h some k = absurd (omega arith)
@@ -52,11 +55,11 @@ pub number_read : (n : ℕ) → n < 2 ^ 64 → number_of (decimal n) ≡ n
 number_read n h = ap (λ (o : Option ℕ). unwrap_or o 0) (numeral_decimal n h)
 
 pub numeral_fits : (n : ℕ) → n < 2 ^ 64 → operand_fault P.Number (decimal n) ≡ None
-numeral_fits n h = ap (λ (o : Option ℕ). if◌then◌else◌ {A = Option ℕ} (is_some o) None (Some 5)) (numeral_decimal n h)
+numeral_fits n h = ap (λ (o : Option ℕ). if◌then◌else◌ {A = Option FaultKind} (is_some o) None (Some K.BadNumber)) (numeral_decimal n h)
 
 lettered_fits : (letter n : ℕ) → (letter == letter) ≡ true → n < 2 ^ 64 → lettered_fault letter (letter ∷ decimal n) ≡ None
 lettered_fits letter n e h =
-    ap₂ (λ (b : Bool) (o : Option ℕ). if◌then◌else◌ {A = Option ℕ} b (if is_some o then None else Some 5) (Some 4)) e (numeral_decimal n h)
+    ap₂ (λ (b : Bool) (o : Option ℕ). if◌then◌else◌ {A = Option FaultKind} b (if is_some o then None else Some K.BadNumber) (Some K.WrongOperands)) e (numeral_decimal n h)
 
 register_fits : (n : ℕ) → n < 2 ^ 64 → operand_fault P.Register (register n) ≡ None
 register_fits n h = lettered_fits 114 n refl h
@@ -65,9 +68,9 @@ field_fits : (n : ℕ) → n < 2 ^ 64 → operand_fault P.Field (field n) ≡ No
 field_fits n h = lettered_fits 102 n refl h
 
 pub name_fits : (w : List ℕ) → is_name w ≡ true → operand_fault P.Name w ≡ None
-name_fits w h = ap (λ (b : Bool). if◌then◌else◌ {A = Option ℕ} b None (Some 6)) h
+name_fits w h = ap (λ (b : Bool). if◌then◌else◌ {A = Option FaultKind} b None (Some K.BadName)) h
 
-pub nones : (a b : Option ℕ) → a ≡ None → b ≡ None → lowest a b ≡ None
+pub nones : (a b : Option FaultKind) → a ≡ None → b ≡ None → lowest a b ≡ None
 nones a b e h = ap₂ lowest e h
 
 registers_fit : (ns : List ℕ) → All Fits64 ns → operands_fault [] (map register ns) ≡ None
@@ -78,7 +81,7 @@ registers_read : (ns : List ℕ) → All Fits64 ns → map register_of (map regi
 registers_read [] h = refl
 registers_read (n ∷ ns) h = ap₂ (λ (x : ℕ) (xs : List ℕ). x ∷ xs) (number_read n (h zero 0 (omega arith))) (registers_read ns (λ i d k. h (suc i) d (omega arith)))
 
-pub spelled_word : (word : LineWord) → line_word (spelling word) ≡ Some word
+pub spelled_word : (word : LineWord) → line_word (word_spelling word) ≡ Some word
 unfolding line_word
 spelled_word W.Kind = refl
 spelled_word W.On = refl
@@ -152,7 +155,7 @@ operands_for text (I.New d k) = register d ∷ text k ∷ []
 operands_for text (I.Send to b values) = register to ∷ text b ∷ map register values
 operands_for text (I.Print a) = register a ∷ []
 
-pub words_for : (text : ℕ → List ℕ) (i : Instr) → instr_words text i ≡ spelling (W.Instr (opcode_for i)) ∷ operands_for text i
+pub words_for : (text : ℕ → List ℕ) (i : Instr) → instr_words text i ≡ word_spelling (W.Instr (opcode_for i)) ∷ operands_for text i
 words_for text (I.Drop d) = refl
 words_for text (I.Int d n) = refl
 words_for text (I.Own d) = refl
@@ -175,9 +178,9 @@ words_for text (I.New d k) = refl
 words_for text (I.Send to b values) = refl
 words_for text (I.Print a) = refl
 
-counted : (word : LineWord) (n : ℕ) (rest : Option ℕ) → length (operands_of word) ≤ n → n ≤ length (operands_of word) + most_further word → rest ≡ None → (if fits_count word n then rest else Some 4) ≡ None
+counted : (word : LineWord) (n : ℕ) (rest : Option FaultKind) → length (word_operands word) ≤ n → n ≤ length (word_operands word) + word_further word → rest ≡ None → (if fits_count word n then rest else Some K.WrongOperands) ≡ None
 counted word n rest least most h =
-    ap₂ (λ (a b : Bool). if◌then◌else◌ {A = Option ℕ} (a && b) rest (Some 4)) (le-leb (length (operands_of word)) n least) (le-leb n (length (operands_of word) + most_further word) most) ∙ h
+    ap₂ (λ (a b : Bool). if◌then◌else◌ {A = Option FaultKind} (a && b) rest (Some K.WrongOperands)) (le-leb (length (word_operands word)) n least) (le-leb n (length (word_operands word) + word_further word) most) ∙ h
 
 -- the operands of an instruction have no fault
 pub shape_read : (text : ℕ → List ℕ) (i : Instr) → InstrFits i → IfSome (name_in i) (λ name. is_name (text name) ≡ true) → shape_fault (W.Instr (opcode_for i)) (operands_for text i) ≡ None
@@ -193,10 +196,10 @@ shape_read text (I.Less d a b) h intern_name = (nones _ _ (register_fits d h.0) 
 shape_read text (I.Same d a b) h intern_name = (nones _ _ (register_fits d h.0) (nones _ _ (register_fits a h.1) (nones _ _ (register_fits b h.2) refl)))
 shape_read text (I.Row d values) h intern_name = row values h.1 h.2 h.3
   where
-    row : (values : List ℕ) → 1 ≤ length values → length values ≤ 8 → All Fits64 values → (if fits_count (W.Instr C.Row) (length (register d ∷ map register values)) then operands_fault (operands_of (W.Instr C.Row)) (register d ∷ map register values) else Some 4) ≡ None
+    row : (values : List ℕ) → 1 ≤ length values → length values ≤ 8 → All Fits64 values → (if fits_count (W.Instr C.Row) (length (register d ∷ map register values)) then operands_fault (word_operands (W.Instr C.Row)) (register d ∷ map register values) else Some K.WrongOperands) ≡ None
     row [] least most all = absurd (omega arith)
     row (v ∷ vs) least most all =
-        counted (W.Instr C.Row) (length (register d ∷ register v ∷ map register vs)) (operands_fault (operands_of (W.Instr C.Row)) (register d ∷ register v ∷ map register vs)) (omega arith) (omega (arith, length-map vs register))
+        counted (W.Instr C.Row) (length (register d ∷ register v ∷ map register vs)) (operands_fault (word_operands (W.Instr C.Row)) (register d ∷ register v ∷ map register vs)) (omega arith) (omega (arith, length-map vs register))
         (nones _ _ (register_fits d h.0) (nones _ _ (register_fits v (all zero 0 (omega arith))) (registers_fit vs (λ i x k. all (suc i) x (omega arith)))))
 shape_read text (I.Get d s n) h intern_name = (nones _ _ (register_fits d h.0) (nones _ _ (register_fits s h.1) (nones _ _ (numeral_fits n h.2) refl)))
 shape_read text (I.Load d f) h intern_name = (nones _ _ (register_fits d h.0) (nones _ _ (field_fits f h.1) refl))
@@ -208,7 +211,7 @@ shape_read text I.Pin h intern_name = refl
 shape_read text I.Unpin h intern_name = refl
 shape_read text (I.New d k) h intern_name = (nones _ _ (register_fits d h) (nones _ _ (name_fits (text k) intern_name) refl))
 shape_read text (I.Send to b values) h intern_name =
-    counted (W.Instr C.Send) (length (register to ∷ text b ∷ map register values)) (operands_fault (operands_of (W.Instr C.Send)) (register to ∷ text b ∷ map register values)) (omega arith) (omega (arith, length-map values register))
+    counted (W.Instr C.Send) (length (register to ∷ text b ∷ map register values)) (operands_fault (word_operands (W.Instr C.Send)) (register to ∷ text b ∷ map register values)) (omega arith) (omega (arith, length-map values register))
     (nones _ _ (register_fits to h.0) (nones _ _ (name_fits (text b) intern_name) (registers_fit values h.2)))
 shape_read text (I.Print a) h intern_name = (nones _ _ (register_fits a h) refl)
 

@@ -18,6 +18,8 @@ use Rattle.behaviour_text.specs.declared.place.Stage.TheVariants.{Start, InKind,
 use Rattle.behaviour_text.specs.declared.reader.Reader.{Reader}
 use Rattle.behaviour_text.specs.declared.table.LineWord.{LineWord}
 use Rattle.behaviour_text.specs.declared.table.LineWord.TheVariants as W
+use Rattle.behaviour_text.specs.declared.errors.FaultKind.{FaultKind}
+use Rattle.behaviour_text.specs.declared.errors.FaultKind.TheVariants as K
 
 abbrev pub Lines : Type 0
 Lines = List (List (List ℕ))
@@ -54,15 +56,15 @@ closed_said text r InBehaviour away = absurd (away refl)
 
 kind_place : (stage : Stage) (kinds fields : ℕ) → kind_fault stage kinds fields ≡ None → (stage ≢ InBehaviour) × (nat_lt 8 fields ≡ false)
 kind_place InBehaviour kinds fields h = cc
-kind_place Start kinds fields h = (λ e. cc, (neither (nat_lt 255 kinds) (nat_lt 8 fields) (no_fault _ 9 h)).1)
-kind_place InKind kinds fields h = (λ e. cc, (neither (nat_lt 255 kinds) (nat_lt 8 fields) (no_fault _ 9 h)).1)
+kind_place Start kinds fields h = (λ e. cc, (neither (nat_lt 255 kinds) (nat_lt 8 fields) (no_fault _ K.TooMany h)).1)
+kind_place InKind kinds fields h = (λ e. cc, (neither (nat_lt 255 kinds) (nat_lt 8 fields) (no_fault _ K.TooMany h)).1)
 
 pub on_place : (stage : Stage) (behaviours parameters : ℕ) → on_fault stage behaviours parameters ≡ None → (stage ≡ InKind) × (nat_lt 8 parameters ≡ false)
 on_place Start behaviours parameters h = cc
 on_place InBehaviour behaviours parameters h = cc
-on_place InKind behaviours parameters h = (refl, (neither (nat_lt 63 behaviours) (nat_lt 8 parameters) (no_fault _ 9 h)).1)
+on_place InKind behaviours parameters h = (refl, (neither (nat_lt 63 behaviours) (nat_lt 8 parameters) (no_fault _ K.TooMany h)).1)
 
-pub inside_place : (stage : Stage) (more : Option ℕ) → inside_fault stage more ≡ None → stage ≡ InBehaviour
+pub inside_place : (stage : Stage) (more : Option FaultKind) → inside_fault stage more ≡ None → stage ≡ InBehaviour
 inside_place InBehaviour more h = refl
 inside_place Start more h = cc
 inside_place InKind more h = cc

@@ -6,40 +6,43 @@ use Rattle.std.specs.List.{list_all}
 use Rattle.std.proofs.lemmas.Str.{IsUtf8-from_ascii}
 use Rattle.behaviour_code.specs.Names.{is_name_byte, is_name}
 use Rattle.behaviour_text.specs.Items.{name_place}
-use Rattle.behaviour_text.specs.Table.{operands_of, most_further, operand_fault, operands_fault, lowest, fits_count, shape_fault}
+use Rattle.behaviour_text.specs.Table.{word_operands, word_further, operand_fault, operands_fault, fits_count, shape_fault}
 use Rattle.behaviour_text.specs.Words.{word_at}
 use Rattle.behaviour_text.specs.declared.table.LineWord.{LineWord}
-use Rattle.behaviour_text.specs.declared.table.Operand.{Operand}
+use Rattle.behaviour_code.specs.declared.opcode.OperandKind.{OperandKind}
 use Rattle.behaviour_text.specs.declared.table.LineWord.TheVariants as W
-use Rattle.behaviour_text.specs.declared.table.Opcode.TheVariants as C
-use Rattle.behaviour_text.specs.declared.table.Operand.TheVariants as P
+use Rattle.behaviour_code.specs.declared.opcode.Opcode.TheVariants as C
+use Rattle.behaviour_code.specs.declared.opcode.OperandKind.TheVariants as P
+use Rattle.behaviour_text.specs.Kinds.{lowest}
+use Rattle.behaviour_text.specs.declared.errors.FaultKind.{FaultKind}
+use Rattle.behaviour_text.specs.declared.errors.FaultKind.TheVariants as K
 
-pub lowest_none : (a b : Option ℕ) → lowest a b ≡ None → (a ≡ None) × (b ≡ None)
+pub lowest_none : (a b : Option FaultKind) → lowest a b ≡ None → (a ≡ None) × (b ≡ None)
 lowest_none None b h = (refl, h)
 lowest_none (Some a) None h = cc
 lowest_none (Some a) (Some b) h = cc
 
-pub fits : (word : LineWord) (ws : List (List ℕ)) → shape_fault word ws ≡ None → (fits_count word (length ws) ≡ true) × (operands_fault (operands_of word) ws ≡ None)
+pub fits : (word : LineWord) (ws : List (List ℕ)) → shape_fault word ws ≡ None → (fits_count word (length ws) ≡ true) × (operands_fault (word_operands word) ws ≡ None)
 unfolding shape_fault
-fits word ws h = chosen_none (fits_count word (length ws)) (operands_fault (operands_of word) ws) 4 h
+fits word ws h = chosen_none (fits_count word (length ws)) (operands_fault (word_operands word) ws) K.WrongOperands h
 
-pub enough : (word : LineWord) (n : ℕ) → fits_count word n ≡ true → (length (operands_of word) ≤ n) × (n ≤ length (operands_of word) + most_further word)
+pub enough : (word : LineWord) (n : ℕ) → fits_count word n ≡ true → (length (word_operands word) ≤ n) × (n ≤ length (word_operands word) + word_further word)
 enough word n h =
-    let parts = both (nat_le (length (operands_of word)) n) (nat_le n (length (operands_of word) + most_further word)) h in
+    let parts = both (nat_le (length (word_operands word)) n) (nat_le n (length (word_operands word) + word_further word)) h in
     (leb-true _ _ parts.0, leb-true _ _ parts.1)
 
 pub name_fits : (w : List ℕ) → operand_fault P.Name w ≡ None → is_name w ≡ true
 name_fits w h = named (is_name w) h
   where
-    named : (b : Bool) → if◌then◌else◌ {A = Option ℕ} b None (Some 6) ≡ None → b ≡ true
+    named : (b : Bool) → if◌then◌else◌ {A = Option FaultKind} b None (Some K.BadName) ≡ None → b ≡ true
     named true h = refl
     named false h = cc
 
-first_name : (wants : List Operand) (ws : List (List ℕ)) → 1 ≤ length ws → operands_fault (P.Name ∷ wants) ws ≡ None → is_name (word_at ws 0) ≡ true
+first_name : (wants : List OperandKind) (ws : List (List ℕ)) → 1 ≤ length ws → operands_fault (P.Name ∷ wants) ws ≡ None → is_name (word_at ws 0) ≡ true
 first_name wants [] some h = absurd (omega arith)
 first_name wants (w ∷ ws) some h = name_fits w (lowest_none (operand_fault P.Name w) (operands_fault wants ws) h).0
 
-second_name : (want : Operand) (wants : List Operand) (ws : List (List ℕ)) → 2 ≤ length ws → operands_fault (want ∷ P.Name ∷ wants) ws ≡ None → is_name (word_at ws 1) ≡ true
+second_name : (want : OperandKind) (wants : List OperandKind) (ws : List (List ℕ)) → 2 ≤ length ws → operands_fault (want ∷ P.Name ∷ wants) ws ≡ None → is_name (word_at ws 1) ≡ true
 second_name want wants [] some h = absurd (omega arith)
 second_name want wants (w ∷ ws) some h =
     first_name wants ws (omega arith) (lowest_none (operand_fault want w) (operands_fault (P.Name ∷ wants) ws) h).1

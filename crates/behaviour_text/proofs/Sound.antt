@@ -21,10 +21,11 @@ use Rattle.behaviour_text.specs.declared.place.Stage.{Stage}
 use Rattle.behaviour_text.specs.declared.place.Stage.TheVariants.{Start, InKind, InBehaviour}
 use Rattle.behaviour_text.specs.declared.reader.Reader.{Reader}
 use Rattle.behaviour_text.specs.declared.table.LineWord.{LineWord}
-use Rattle.behaviour_text.specs.declared.table.Opcode.{Opcode}
+use Rattle.behaviour_code.specs.declared.opcode.Opcode.{Opcode}
 use Rattle.behaviour_text.specs.declared.table.LineWord.TheVariants as W
-use Rattle.behaviour_text.specs.declared.table.Opcode.TheVariants as C
+use Rattle.behaviour_code.specs.declared.opcode.Opcode.TheVariants as C
 use Rattle.behaviour_code.specs.declared.instr.Instr.TheVariants as I
+use Rattle.behaviour_text.specs.declared.errors.FaultKind.{FaultKind}
 
 instr_weaker : (m n : ℕ) → m ≤ n → (i : Instr) → InstrKnown m i → InstrKnown n i
 instr_weaker m n le (I.Jump l) h = omega arith
@@ -198,7 +199,7 @@ each_all [] h i d k = absurd (omega arith)
 each_all (l ∷ ls) h zero d k = h.0
 each_all (l ∷ ls) h (suc i) d k = each_all ls h.1 i d (omega arith)
 
-read_done : (bytes : List ℕ) (p : Program) (read : Result Reader (ℕ × ℕ)) → read_from 0 start (lines_of bytes) ≡ read → finish read ≡ Ok p → IsText bytes p
+read_done : (bytes : List ℕ) (p : Program) (read : Result Reader (ℕ × FaultKind)) → read_from 0 start (lines_of bytes) ≡ read → finish read ≡ Ok p → IsText bytes p
 unfolding start close_kind
 read_done bytes p (Err e) told h = cc
 read_done bytes p (Ok s) told h =

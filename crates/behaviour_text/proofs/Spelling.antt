@@ -9,15 +9,17 @@ use Rattle.behaviour_text.proofs.Shapes.{lowest_none, fits, enough}
 use Rattle.std.specs.Option.{unwrap_or}
 use Rattle.behaviour_text.specs.Items.{register_of, register_at, instr_of, name_place}
 use Rattle.behaviour_text.specs.Reading.{intern_name}
-use Rattle.behaviour_text.specs.Table.{spelling, all_words, line_word, operands_of, most_further, lettered_fault, operand_fault, operands_fault, shape_fault}
+use Rattle.behaviour_text.specs.Table.{word_spelling, all_words, line_word, word_operands, word_further, lettered_fault, operand_fault, operands_fault, shape_fault}
 use Rattle.behaviour_text.specs.Text.{register, field, instr_words}
 use Rattle.behaviour_text.specs.Words.{has_numeral_form, numeral, word_at, number_of, number_at}
 use Rattle.behaviour_text.specs.declared.table.LineWord.{LineWord}
-use Rattle.behaviour_text.specs.declared.table.Opcode.{Opcode}
-use Rattle.behaviour_text.specs.declared.table.Operand.{Operand}
+use Rattle.behaviour_code.specs.declared.opcode.Opcode.{Opcode}
+use Rattle.behaviour_code.specs.declared.opcode.OperandKind.{OperandKind}
 use Rattle.behaviour_text.specs.declared.table.LineWord.TheVariants as W
-use Rattle.behaviour_text.specs.declared.table.Opcode.TheVariants as C
-use Rattle.behaviour_text.specs.declared.table.Operand.TheVariants as P
+use Rattle.behaviour_code.specs.declared.opcode.Opcode.TheVariants as C
+use Rattle.behaviour_code.specs.declared.opcode.OperandKind.TheVariants as P
+use Rattle.behaviour_text.specs.declared.errors.FaultKind.{FaultKind}
+use Rattle.behaviour_text.specs.declared.errors.FaultKind.TheVariants as K
 
 -- numerals have one form
 single : (ds : List ℕ) → has_numeral_form ds ≡ true → get_or ds 0 0 ≡ 48 → length ds ≡ 1
@@ -46,7 +48,7 @@ number_there w (Some n) e h = numeral_again w n e
 pub number_again : (w : List ℕ) → is_some (numeral w) ≡ true → decimal (number_of w) ≡ w
 number_again w h = number_there w (numeral w) refl h
 
-no_kinds : (a b : Bool) (k m : ℕ) → if◌then◌else◌ {A = Option ℕ} a (if b then None else Some k) (Some m) ≡ None → (a ≡ true) × (b ≡ true)
+no_kinds : (a b : Bool) (k m : FaultKind) → if◌then◌else◌ {A = Option FaultKind} a (if b then None else Some k) (Some m) ≡ None → (a ≡ true) × (b ≡ true)
 no_kinds true true k m h = (refl, refl)
 no_kinds true false k m h = cc
 no_kinds false b k m h = cc
@@ -54,28 +56,28 @@ no_kinds false b k m h = cc
 pub numbered_again : (letter : ℕ) (w : List ℕ) → lettered_fault letter w ≡ None → letter ∷ decimal (register_of w) ≡ w
 numbered_again letter [] h = cc
 numbered_again letter (b ∷ bs) h =
-    let parts = no_kinds (b == letter) (is_some (numeral bs)) 5 4 h in
+    let parts = no_kinds (b == letter) (is_some (numeral bs)) K.BadNumber K.WrongOperands h in
     ap₂ (λ (x : ℕ) (xs : List ℕ). x ∷ xs) (sym (eqb-true b letter parts.0)) (number_again bs parts.1)
 
 -- an operand as it is spelled
-abbrev respell : Operand → List ℕ → List ℕ
+abbrev respell : OperandKind → List ℕ → List ℕ
 respell P.Register w = register (register_of w)
 respell P.Field w = field (register_of w)
 respell P.Number w = decimal (number_of w)
 respell P.Name w = w
 
-abbrev respelled : List Operand → List (List ℕ) → List (List ℕ)
+abbrev respelled : List OperandKind → List (List ℕ) → List (List ℕ)
 respelled wants [] = []
 respelled [] (w ∷ ws) = respell P.Register w ∷ respelled [] ws
 respelled (want ∷ wants) (w ∷ ws) = respell want w ∷ respelled wants ws
 
-operand_again : (want : Operand) (w : List ℕ) → operand_fault want w ≡ None → respell want w ≡ w
+operand_again : (want : OperandKind) (w : List ℕ) → operand_fault want w ≡ None → respell want w ≡ w
 operand_again P.Register w h = numbered_again 114 w h
 operand_again P.Field w h = numbered_again 102 w h
-operand_again P.Number w h = number_again w (chosen_none (is_some (numeral w)) None 5 h).0
+operand_again P.Number w h = number_again w (chosen_none (is_some (numeral w)) None K.BadNumber h).0
 operand_again P.Name w h = refl
 
-operands_again : (wants : List Operand) (ws : List (List ℕ)) → operands_fault wants ws ≡ None → respelled wants ws ≡ ws
+operands_again : (wants : List OperandKind) (ws : List (List ℕ)) → operands_fault wants ws ≡ None → respelled wants ws ≡ ws
 operands_again wants [] h = refl
 operands_again [] (w ∷ ws) h =
     let parts = lowest_none (operand_fault P.Register w) (operands_fault [] ws) h in
@@ -119,50 +121,50 @@ find_passes p [] y h = cc
 find_passes p (x ∷ xs) y h = found p x y (p x) (find p xs) refl h (find_passes p xs y)
 
 -- the first word is the operation's
-pub word_spelled : (w : List ℕ) (word : LineWord) → line_word w ≡ Some word → spelling word ≡ w
+pub word_spelled : (w : List ℕ) (word : LineWord) → line_word w ≡ Some word → word_spelling word ≡ w
 unfolding line_word
-word_spelled w word h = (bytes_eq-Decides (spelling word) w).0 (find_passes (λ (x : LineWord). bytes_eq (spelling x) w) all_words word h)
+word_spelled w word h = (bytes_eq-Decides (word_spelling word) w).0 (find_passes (λ (x : LineWord). bytes_eq (word_spelling x) w) all_words word h)
 
-spelled_again : (text : ℕ → List ℕ) (code : Opcode) (name : ℕ) (ws : List (List ℕ)) → length (operands_of (W.Instr code)) ≤ length ws →
-    length ws ≤ length (operands_of (W.Instr code)) + most_further (W.Instr code) →
+spelled_again : (text : ℕ → List ℕ) (code : Opcode) (name : ℕ) (ws : List (List ℕ)) → length (word_operands (W.Instr code)) ≤ length ws →
+    length ws ≤ length (word_operands (W.Instr code)) + word_further (W.Instr code) →
     IfSome (name_place (W.Instr code)) (λ place. text name ≡ word_at ws place) →
-    spelling (W.Instr code) ∷ respelled (operands_of (W.Instr code)) ws ≡ instr_words text (instr_of code name ws)
+    word_spelling (W.Instr code) ∷ respelled (word_operands (W.Instr code)) ws ≡ instr_words text (instr_of code name ws)
 unfolding instr_of
-spelled_again text C.Drop name ws h k intern_name = subst (λ (xs : List (List ℕ)). spelling (W.Instr C.Drop) ∷ respelled (operands_of (W.Instr C.Drop)) xs ≡ instr_words text (instr_of C.Drop name xs)) (one_of ws (omega arith) (omega arith)) refl
-spelled_again text C.Int name ws h k intern_name = subst (λ (xs : List (List ℕ)). spelling (W.Instr C.Int) ∷ respelled (operands_of (W.Instr C.Int)) xs ≡ instr_words text (instr_of C.Int name xs)) (two_of ws (omega arith) (omega arith)) refl
-spelled_again text C.Own name ws h k intern_name = subst (λ (xs : List (List ℕ)). spelling (W.Instr C.Own) ∷ respelled (operands_of (W.Instr C.Own)) xs ≡ instr_words text (instr_of C.Own name xs)) (one_of ws (omega arith) (omega arith)) refl
-spelled_again text C.Copy name ws h k intern_name = subst (λ (xs : List (List ℕ)). spelling (W.Instr C.Copy) ∷ respelled (operands_of (W.Instr C.Copy)) xs ≡ instr_words text (instr_of C.Copy name xs)) (two_of ws (omega arith) (omega arith)) refl
-spelled_again text C.Add name ws h k intern_name = subst (λ (xs : List (List ℕ)). spelling (W.Instr C.Add) ∷ respelled (operands_of (W.Instr C.Add)) xs ≡ instr_words text (instr_of C.Add name xs)) (three_of ws (omega arith) (omega arith)) refl
-spelled_again text C.Sub name ws h k intern_name = subst (λ (xs : List (List ℕ)). spelling (W.Instr C.Sub) ∷ respelled (operands_of (W.Instr C.Sub)) xs ≡ instr_words text (instr_of C.Sub name xs)) (three_of ws (omega arith) (omega arith)) refl
-spelled_again text C.Mul name ws h k intern_name = subst (λ (xs : List (List ℕ)). spelling (W.Instr C.Mul) ∷ respelled (operands_of (W.Instr C.Mul)) xs ≡ instr_words text (instr_of C.Mul name xs)) (three_of ws (omega arith) (omega arith)) refl
-spelled_again text C.Less name ws h k intern_name = subst (λ (xs : List (List ℕ)). spelling (W.Instr C.Less) ∷ respelled (operands_of (W.Instr C.Less)) xs ≡ instr_words text (instr_of C.Less name xs)) (three_of ws (omega arith) (omega arith)) refl
-spelled_again text C.Same name ws h k intern_name = subst (λ (xs : List (List ℕ)). spelling (W.Instr C.Same) ∷ respelled (operands_of (W.Instr C.Same)) xs ≡ instr_words text (instr_of C.Same name xs)) (three_of ws (omega arith) (omega arith)) refl
-spelled_again text C.Get name ws h k intern_name = subst (λ (xs : List (List ℕ)). spelling (W.Instr C.Get) ∷ respelled (operands_of (W.Instr C.Get)) xs ≡ instr_words text (instr_of C.Get name xs)) (three_of ws (omega arith) (omega arith)) refl
-spelled_again text C.Load name ws h k intern_name = subst (λ (xs : List (List ℕ)). spelling (W.Instr C.Load) ∷ respelled (operands_of (W.Instr C.Load)) xs ≡ instr_words text (instr_of C.Load name xs)) (two_of ws (omega arith) (omega arith)) refl
-spelled_again text C.Store name ws h k intern_name = subst (λ (xs : List (List ℕ)). spelling (W.Instr C.Store) ∷ respelled (operands_of (W.Instr C.Store)) xs ≡ instr_words text (instr_of C.Store name xs)) (two_of ws (omega arith) (omega arith)) refl
-spelled_again text C.Print name ws h k intern_name = subst (λ (xs : List (List ℕ)). spelling (W.Instr C.Print) ∷ respelled (operands_of (W.Instr C.Print)) xs ≡ instr_words text (instr_of C.Print name xs)) (one_of ws (omega arith) (omega arith)) refl
+spelled_again text C.Drop name ws h k intern_name = subst (λ (xs : List (List ℕ)). word_spelling (W.Instr C.Drop) ∷ respelled (word_operands (W.Instr C.Drop)) xs ≡ instr_words text (instr_of C.Drop name xs)) (one_of ws (omega arith) (omega arith)) refl
+spelled_again text C.Int name ws h k intern_name = subst (λ (xs : List (List ℕ)). word_spelling (W.Instr C.Int) ∷ respelled (word_operands (W.Instr C.Int)) xs ≡ instr_words text (instr_of C.Int name xs)) (two_of ws (omega arith) (omega arith)) refl
+spelled_again text C.Own name ws h k intern_name = subst (λ (xs : List (List ℕ)). word_spelling (W.Instr C.Own) ∷ respelled (word_operands (W.Instr C.Own)) xs ≡ instr_words text (instr_of C.Own name xs)) (one_of ws (omega arith) (omega arith)) refl
+spelled_again text C.Copy name ws h k intern_name = subst (λ (xs : List (List ℕ)). word_spelling (W.Instr C.Copy) ∷ respelled (word_operands (W.Instr C.Copy)) xs ≡ instr_words text (instr_of C.Copy name xs)) (two_of ws (omega arith) (omega arith)) refl
+spelled_again text C.Add name ws h k intern_name = subst (λ (xs : List (List ℕ)). word_spelling (W.Instr C.Add) ∷ respelled (word_operands (W.Instr C.Add)) xs ≡ instr_words text (instr_of C.Add name xs)) (three_of ws (omega arith) (omega arith)) refl
+spelled_again text C.Sub name ws h k intern_name = subst (λ (xs : List (List ℕ)). word_spelling (W.Instr C.Sub) ∷ respelled (word_operands (W.Instr C.Sub)) xs ≡ instr_words text (instr_of C.Sub name xs)) (three_of ws (omega arith) (omega arith)) refl
+spelled_again text C.Mul name ws h k intern_name = subst (λ (xs : List (List ℕ)). word_spelling (W.Instr C.Mul) ∷ respelled (word_operands (W.Instr C.Mul)) xs ≡ instr_words text (instr_of C.Mul name xs)) (three_of ws (omega arith) (omega arith)) refl
+spelled_again text C.Less name ws h k intern_name = subst (λ (xs : List (List ℕ)). word_spelling (W.Instr C.Less) ∷ respelled (word_operands (W.Instr C.Less)) xs ≡ instr_words text (instr_of C.Less name xs)) (three_of ws (omega arith) (omega arith)) refl
+spelled_again text C.Same name ws h k intern_name = subst (λ (xs : List (List ℕ)). word_spelling (W.Instr C.Same) ∷ respelled (word_operands (W.Instr C.Same)) xs ≡ instr_words text (instr_of C.Same name xs)) (three_of ws (omega arith) (omega arith)) refl
+spelled_again text C.Get name ws h k intern_name = subst (λ (xs : List (List ℕ)). word_spelling (W.Instr C.Get) ∷ respelled (word_operands (W.Instr C.Get)) xs ≡ instr_words text (instr_of C.Get name xs)) (three_of ws (omega arith) (omega arith)) refl
+spelled_again text C.Load name ws h k intern_name = subst (λ (xs : List (List ℕ)). word_spelling (W.Instr C.Load) ∷ respelled (word_operands (W.Instr C.Load)) xs ≡ instr_words text (instr_of C.Load name xs)) (two_of ws (omega arith) (omega arith)) refl
+spelled_again text C.Store name ws h k intern_name = subst (λ (xs : List (List ℕ)). word_spelling (W.Instr C.Store) ∷ respelled (word_operands (W.Instr C.Store)) xs ≡ instr_words text (instr_of C.Store name xs)) (two_of ws (omega arith) (omega arith)) refl
+spelled_again text C.Print name ws h k intern_name = subst (λ (xs : List (List ℕ)). word_spelling (W.Instr C.Print) ∷ respelled (word_operands (W.Instr C.Print)) xs ≡ instr_words text (instr_of C.Print name xs)) (one_of ws (omega arith) (omega arith)) refl
 spelled_again text C.Jump name ws h k intern_name =
-    subst (λ (xs : List (List ℕ)). spelling (W.Instr C.Jump) ∷ respelled (operands_of (W.Instr C.Jump)) xs ≡ spelling (W.Instr C.Jump) ∷ word_at xs 0 ∷ []) (one_of ws (omega arith) (omega arith)) refl
-    ∙ ap (λ (t : List ℕ). spelling (W.Instr C.Jump) ∷ t ∷ []) (sym intern_name)
+    subst (λ (xs : List (List ℕ)). word_spelling (W.Instr C.Jump) ∷ respelled (word_operands (W.Instr C.Jump)) xs ≡ word_spelling (W.Instr C.Jump) ∷ word_at xs 0 ∷ []) (one_of ws (omega arith) (omega arith)) refl
+    ∙ ap (λ (t : List ℕ). word_spelling (W.Instr C.Jump) ∷ t ∷ []) (sym intern_name)
 spelled_again text C.JumpZero name ws h k intern_name =
-    subst (λ (xs : List (List ℕ)). spelling (W.Instr C.JumpZero) ∷ respelled (operands_of (W.Instr C.JumpZero)) xs ≡ spelling (W.Instr C.JumpZero) ∷ register (register_at xs 0) ∷ word_at xs 1 ∷ []) (two_of ws (omega arith) (omega arith)) refl
-    ∙ ap (λ (t : List ℕ). spelling (W.Instr C.JumpZero) ∷ register (register_at ws 0) ∷ t ∷ []) (sym intern_name)
+    subst (λ (xs : List (List ℕ)). word_spelling (W.Instr C.JumpZero) ∷ respelled (word_operands (W.Instr C.JumpZero)) xs ≡ word_spelling (W.Instr C.JumpZero) ∷ register (register_at xs 0) ∷ word_at xs 1 ∷ []) (two_of ws (omega arith) (omega arith)) refl
+    ∙ ap (λ (t : List ℕ). word_spelling (W.Instr C.JumpZero) ∷ register (register_at ws 0) ∷ t ∷ []) (sym intern_name)
 spelled_again text C.Label name ws h k intern_name =
-    subst (λ (xs : List (List ℕ)). spelling (W.Instr C.Label) ∷ respelled (operands_of (W.Instr C.Label)) xs ≡ spelling (W.Instr C.Label) ∷ word_at xs 0 ∷ []) (one_of ws (omega arith) (omega arith)) refl
-    ∙ ap (λ (t : List ℕ). spelling (W.Instr C.Label) ∷ t ∷ []) (sym intern_name)
+    subst (λ (xs : List (List ℕ)). word_spelling (W.Instr C.Label) ∷ respelled (word_operands (W.Instr C.Label)) xs ≡ word_spelling (W.Instr C.Label) ∷ word_at xs 0 ∷ []) (one_of ws (omega arith) (omega arith)) refl
+    ∙ ap (λ (t : List ℕ). word_spelling (W.Instr C.Label) ∷ t ∷ []) (sym intern_name)
 spelled_again text C.New name ws h k intern_name =
-    subst (λ (xs : List (List ℕ)). spelling (W.Instr C.New) ∷ respelled (operands_of (W.Instr C.New)) xs ≡ spelling (W.Instr C.New) ∷ register (register_at xs 0) ∷ word_at xs 1 ∷ []) (two_of ws (omega arith) (omega arith)) refl
-    ∙ ap (λ (t : List ℕ). spelling (W.Instr C.New) ∷ register (register_at ws 0) ∷ t ∷ []) (sym intern_name)
+    subst (λ (xs : List (List ℕ)). word_spelling (W.Instr C.New) ∷ respelled (word_operands (W.Instr C.New)) xs ≡ word_spelling (W.Instr C.New) ∷ register (register_at xs 0) ∷ word_at xs 1 ∷ []) (two_of ws (omega arith) (omega arith)) refl
+    ∙ ap (λ (t : List ℕ). word_spelling (W.Instr C.New) ∷ register (register_at ws 0) ∷ t ∷ []) (sym intern_name)
 spelled_again text C.Row name ws h k intern_name =
-    subst (λ (xs : List (List ℕ)). spelling (W.Instr C.Row) ∷ respelled (operands_of (W.Instr C.Row)) xs ≡ spelling (W.Instr C.Row) ∷ register (register_at xs 0) ∷ register (register_at xs 1) ∷ respelled [] (drop 2 xs)) (more_of ws (omega arith)) refl
-    ∙ ap (λ (t : List (List ℕ)). spelling (W.Instr C.Row) ∷ register (register_at ws 0) ∷ register (register_at ws 1) ∷ t) (registers_again (drop 2 ws))
-    ∙ subst (λ (xs : List (List ℕ)). spelling (W.Instr C.Row) ∷ register (register_at xs 0) ∷ register (register_at xs 1) ∷ map register (map register_of (drop 2 xs)) ≡ instr_words text (instr_of C.Row name xs)) (more_of ws (omega arith)) refl
+    subst (λ (xs : List (List ℕ)). word_spelling (W.Instr C.Row) ∷ respelled (word_operands (W.Instr C.Row)) xs ≡ word_spelling (W.Instr C.Row) ∷ register (register_at xs 0) ∷ register (register_at xs 1) ∷ respelled [] (drop 2 xs)) (more_of ws (omega arith)) refl
+    ∙ ap (λ (t : List (List ℕ)). word_spelling (W.Instr C.Row) ∷ register (register_at ws 0) ∷ register (register_at ws 1) ∷ t) (registers_again (drop 2 ws))
+    ∙ subst (λ (xs : List (List ℕ)). word_spelling (W.Instr C.Row) ∷ register (register_at xs 0) ∷ register (register_at xs 1) ∷ map register (map register_of (drop 2 xs)) ≡ instr_words text (instr_of C.Row name xs)) (more_of ws (omega arith)) refl
 spelled_again text C.Send name ws h k intern_name =
-    subst (λ (xs : List (List ℕ)). spelling (W.Instr C.Send) ∷ respelled (operands_of (W.Instr C.Send)) xs ≡ spelling (W.Instr C.Send) ∷ register (register_at xs 0) ∷ word_at xs 1 ∷ respelled [] (drop 2 xs)) (more_of ws (omega arith)) refl
-    ∙ ap (λ (t : List (List ℕ)). spelling (W.Instr C.Send) ∷ register (register_at ws 0) ∷ word_at ws 1 ∷ t) (registers_again (drop 2 ws))
-    ∙ ap (λ (t : List ℕ). spelling (W.Instr C.Send) ∷ register (register_at ws 0) ∷ t ∷ map register (map register_of (drop 2 ws))) (sym intern_name)
-spelled_again text C.Pin name ws h k intern_name = subst (λ (xs : List (List ℕ)). spelling (W.Instr C.Pin) ∷ respelled [] xs ≡ codes "pin" ∷ []) (none_of ws (omega arith)) refl
-spelled_again text C.Unpin name ws h k intern_name = subst (λ (xs : List (List ℕ)). spelling (W.Instr C.Unpin) ∷ respelled [] xs ≡ codes "unpin" ∷ []) (none_of ws (omega arith)) refl
+    subst (λ (xs : List (List ℕ)). word_spelling (W.Instr C.Send) ∷ respelled (word_operands (W.Instr C.Send)) xs ≡ word_spelling (W.Instr C.Send) ∷ register (register_at xs 0) ∷ word_at xs 1 ∷ respelled [] (drop 2 xs)) (more_of ws (omega arith)) refl
+    ∙ ap (λ (t : List (List ℕ)). word_spelling (W.Instr C.Send) ∷ register (register_at ws 0) ∷ word_at ws 1 ∷ t) (registers_again (drop 2 ws))
+    ∙ ap (λ (t : List ℕ). word_spelling (W.Instr C.Send) ∷ register (register_at ws 0) ∷ t ∷ map register (map register_of (drop 2 ws))) (sym intern_name)
+spelled_again text C.Pin name ws h k intern_name = subst (λ (xs : List (List ℕ)). word_spelling (W.Instr C.Pin) ∷ respelled [] xs ≡ codes "pin" ∷ []) (none_of ws (omega arith)) refl
+spelled_again text C.Unpin name ws h k intern_name = subst (λ (xs : List (List ℕ)). word_spelling (W.Instr C.Unpin) ∷ respelled [] xs ≡ codes "unpin" ∷ []) (none_of ws (omega arith)) refl
 
 -- the words of an instruction without a fault
 pub instr_again : (text : ℕ → List ℕ) (code : Opcode) (name : ℕ) (w : List ℕ) (ws : List (List ℕ)) → line_word w ≡ Some (W.Instr code) → shape_fault (W.Instr code) ws ≡ None →
@@ -170,24 +172,24 @@ pub instr_again : (text : ℕ → List ℕ) (code : Opcode) (name : ℕ) (w : Li
 instr_again text code name w ws e h intern_name =
     let f = fits (W.Instr code) ws h in
     let n = enough (W.Instr code) (length ws) f.0 in
-    ap₂ (λ (x : List ℕ) (xs : List (List ℕ)). x ∷ xs) (sym (word_spelled w (W.Instr code) e)) (sym (operands_again (operands_of (W.Instr code)) ws f.1))
+    ap₂ (λ (x : List ℕ) (xs : List (List ℕ)). x ∷ xs) (sym (word_spelled w (W.Instr code) e)) (sym (operands_again (word_operands (W.Instr code)) ws f.1))
     ∙ spelled_again text code name ws n.0 n.1 intern_name
 
 min_small : (n : ℕ) → nat_lt 8 n ≡ false → min n 8 ≡ n
 min_small n h = let small : n ≤ 8 = ltb-false 8 n h in omega arith
 
 -- the words of a line that begins a kind or a behaviour
-pub begin_again : (text : ℕ → List ℕ) (word : LineWord) (name : ℕ) (w : List ℕ) (ws : List (List ℕ)) → operands_of word ≡ P.Name ∷ P.Number ∷ [] → most_further word ≡ 0 → line_word w ≡ Some word → shape_fault word ws ≡ None →
-    text name ≡ word_at ws 0 → nat_lt 8 (number_at ws 1) ≡ false → w ∷ ws ≡ spelling word ∷ text name ∷ decimal (min (number_at ws 1) 8) ∷ []
+pub begin_again : (text : ℕ → List ℕ) (word : LineWord) (name : ℕ) (w : List ℕ) (ws : List (List ℕ)) → word_operands word ≡ P.Name ∷ P.Number ∷ [] → word_further word ≡ 0 → line_word w ≡ Some word → shape_fault word ws ≡ None →
+    text name ≡ word_at ws 0 → nat_lt 8 (number_at ws 1) ≡ false → w ∷ ws ≡ word_spelling word ∷ text name ∷ decimal (min (number_at ws 1) 8) ∷ []
 begin_again text word name w ws wants none e h intern_name small =
     let f = fits word ws h in
     let n = enough word (length ws) f.0 in
-    let wanted : length (operands_of word) ≡ 2 = ap length wants in
-    let spelled : respelled (P.Name ∷ P.Number ∷ []) ws ≡ ws = operands_again (P.Name ∷ P.Number ∷ []) ws (subst (λ (xs : List Operand). operands_fault xs ws ≡ None) wants f.1) in
+    let wanted : length (word_operands word) ≡ 2 = ap length wants in
+    let spelled : respelled (P.Name ∷ P.Number ∷ []) ws ≡ ws = operands_again (P.Name ∷ P.Number ∷ []) ws (subst (λ (xs : List OperandKind). operands_fault xs ws ≡ None) wants f.1) in
     ap₂ (λ (x : List ℕ) (xs : List (List ℕ)). x ∷ xs) (sym (word_spelled w word e)) (sym spelled)
-    ∙ ap (λ (xs : List (List ℕ)). spelling word ∷ xs)
+    ∙ ap (λ (xs : List (List ℕ)). word_spelling word ∷ xs)
     (subst (λ (xs : List (List ℕ)). respelled (P.Name ∷ P.Number ∷ []) xs ≡ word_at xs 0 ∷ decimal (number_at xs 1) ∷ []) (two_of ws (omega arith) (omega arith)) refl)
-    ∙ ap₂ (λ (t : List ℕ) (k : ℕ). spelling word ∷ t ∷ decimal k ∷ []) (sym intern_name) (sym (min_small (number_at ws 1) small))
+    ∙ ap₂ (λ (t : List ℕ) (k : ℕ). word_spelling word ∷ t ∷ decimal k ∷ []) (sym intern_name) (sym (min_small (number_at ws 1) small))
 
 pub end_again : (w : List ℕ) (ws : List (List ℕ)) → line_word w ≡ Some W.End → shape_fault W.End ws ≡ None → w ∷ ws ≡ codes "end" ∷ []
 end_again w ws e h =

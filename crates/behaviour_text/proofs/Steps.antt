@@ -8,7 +8,7 @@ use Rattle.text_lines.specs.declared.LineSpan.{LineSpan}
 use Rattle.text_lines.specs.declared.LineKind.{LineKind}
 use Rattle.std.specs.Option.{option_or}
 use Rattle.behaviour_code.specs.declared.code.Program.{Program}
-use Rattle.behaviour_text.specs.Faults.{words_fault, kind_number, lowest_fault, Tells}
+use Rattle.behaviour_text.specs.Faults.{words_fault, lowest_fault, Tells}
 use Rattle.behaviour_text.specs.Items.{name_place}
 use Rattle.behaviour_text.specs.Reading.{start, place_of, close_kind_at, close_kind, with_kind, with_on, with_end, with_instr, intern_name, with_item, with_word, with_words, LineTaken, read_end, unless_fault, read_from, program_of, finish, read_text, fault_of}
 use Rattle.behaviour_text.specs.Table.{line_word, starts_with}
@@ -20,6 +20,8 @@ use Rattle.behaviour_text.specs.declared.reader.Reader.{Reader}
 use Rattle.behaviour_text.specs.declared.table.LineWord.{LineWord}
 use Rattle.behaviour_text.specs.declared.table.LineWord.TheVariants as W
 use Rattle.behaviour_text.specs.declared.errors.TextErr.TheVariants as E
+use Rattle.behaviour_text.specs.Kinds.{kind_of}
+use Rattle.behaviour_text.specs.declared.errors.FaultKind.{FaultKind}
 
 kept_at : (s : Stage) (r : Reader) → (close_kind_at s r).names ≡ r.names
 kept_at Start r = refl
@@ -59,12 +61,12 @@ few_more r (w ∷ ws) = chosen_few (starts_with 35 w) r (with_word r (line_word 
 pub taken : (n : ℕ) (r : Reader) (line : List ℕ) (lines : List (List ℕ)) → lowest_fault (place_of r) line ≡ None →
     read_from n r (line ∷ lines) ≡ read_from (n + 1) (with_words r (words_of line)) lines
 unfolding read_from
-taken n r line lines h = ap (λ (f : Option ℕ). unless_fault (n + 1) f (read_from (n + 1) (with_words r (words_of line)) lines)) h
+taken n r line lines h = ap (λ (f : Option FaultKind). unless_fault (n + 1) f (read_from (n + 1) (with_words r (words_of line)) lines)) h
 
-pub refused : (n : ℕ) (r : Reader) (line : List ℕ) (lines : List (List ℕ)) (kind : ℕ) → lowest_fault (place_of r) line ≡ Some kind →
+pub refused : (n : ℕ) (r : Reader) (line : List ℕ) (lines : List (List ℕ)) (kind : FaultKind) → lowest_fault (place_of r) line ≡ Some kind →
     read_from n r (line ∷ lines) ≡ Err (n + 1, kind)
 unfolding read_from
-refused n r line lines kind h = ap (λ (f : Option ℕ). unless_fault (n + 1) f (read_from (n + 1) (with_words r (words_of line)) lines)) h
+refused n r line lines kind h = ap (λ (f : Option FaultKind). unless_fault (n + 1) f (read_from (n + 1) (with_words r (words_of line)) lines)) h
 
 -- the line at a span
 pub record IsNext (bytes : List ℕ) (lines : List (List ℕ)) (i : ℕ) (span : LineSpan) : Type 0 where
@@ -86,11 +88,11 @@ next_at bytes (s ∷ ss) (l ∷ ls) (suc i) d e h =
     record { line = next.line ∙ ap (λ (t : List (List ℕ)). slice_range bytes (get_or ss i d).from (get_or ss i d).to ∷ t) (rw (add-one, add-one) refl); fault = next.fault }
 
 pub fault_there : (r : Reader) (line : List ℕ) (fault : Option LineKind) → fault ≡ line_fault line →
-    lowest_fault (place_of r) line ≡ option_or (option_map kind_number fault) (words_fault (place_of r) (words_of line))
+    lowest_fault (place_of r) line ≡ option_or (option_map kind_of fault) (words_fault (place_of r) (words_of line))
 unfolding lowest_fault
-fault_there r line fault e = ap (λ (f : Option LineKind). option_or (option_map kind_number f) (words_fault (place_of r) (words_of line))) (sym e)
+fault_there r line fault e = ap (λ (f : Option LineKind). option_or (option_map kind_of f) (words_fault (place_of r) (words_of line))) (sym e)
 
-pub step_taken : (bytes : List ℕ) (spans : List LineSpan) (lines : List (List ℕ)) (i : ℕ) (d : LineSpan) (r s : Reader) (whole : Result Reader (ℕ × ℕ)) →
+pub step_taken : (bytes : List ℕ) (spans : List LineSpan) (lines : List (List ℕ)) (i : ℕ) (d : LineSpan) (r s : Reader) (whole : Result Reader (ℕ × FaultKind)) →
     map (line_at bytes) spans ≡ map with_fault lines → i < length spans →
     LineTaken r s (slice_range bytes (get_or spans i d).from (get_or spans i d).to) (get_or spans i d).fault →
     read_from i r (drop i lines) ≡ whole → read_from (i + 1) s (drop (i + 1) lines) ≡ whole
@@ -102,27 +104,27 @@ step_taken bytes spans lines i d r s whole e h taken_line told =
     ∙ sym (taken i r line (drop (i + 1) lines) clean)
     ∙ ap (read_from i r) (sym next.line) ∙ told
 
-fault_told : (read : Result Reader (ℕ × ℕ)) (n : ℕ) (fault : Option ℕ) (e : TextErr) →
-    ((kind : ℕ) → fault ≡ Some kind → read ≡ Err (n, kind)) → Tells (option_map (λ kind. (n, kind)) fault) e → Tells (fault_of read) e
+fault_told : (read : Result Reader (ℕ × FaultKind)) (n : ℕ) (fault : Option FaultKind) (e : TextErr) →
+    ((kind : FaultKind) → fault ≡ Some kind → read ≡ Err (n, kind)) → Tells (option_map (λ kind. (n, kind)) fault) e → Tells (fault_of read) e
 fault_told read n None (E.Fault line kind) refuse h = cc
 fault_told read n (Some found) (E.Fault line kind) refuse h = ap fault_of (refuse found refl) ∙ h
 fault_told read n fault E.NoMemory refuse h = tt
 
-pub step_refused : (bytes : List ℕ) (spans : List LineSpan) (lines : List (List ℕ)) (i number : ℕ) (d : LineSpan) (r : Reader) (whole : Result Reader (ℕ × ℕ)) (e : TextErr) →
+pub step_refused : (bytes : List ℕ) (spans : List LineSpan) (lines : List (List ℕ)) (i number : ℕ) (d : LineSpan) (r : Reader) (whole : Result Reader (ℕ × FaultKind)) (e : TextErr) →
     map (line_at bytes) spans ≡ map with_fault lines → i < length spans → number ≡ i + 1 →
-    Tells (option_map (λ kind. (number, kind)) (option_or (option_map kind_number (get_or spans i d).fault) (words_fault (place_of r) (words_of (slice_range bytes (get_or spans i d).from (get_or spans i d).to))))) e →
+    Tells (option_map (λ kind. (number, kind)) (option_or (option_map kind_of (get_or spans i d).fault) (words_fault (place_of r) (words_of (slice_range bytes (get_or spans i d).from (get_or spans i d).to))))) e →
     read_from i r (drop i lines) ≡ whole → Tells (fault_of whole) e
 step_refused bytes spans lines i number d r whole e same h at fault told =
     let next = next_at bytes spans lines i d same h in
     let line = slice_range bytes (get_or spans i d).from (get_or spans i d).to in
-    fault_told whole (i + 1) (option_or (option_map kind_number (get_or spans i d).fault) (words_fault (place_of r) (words_of line))) e
+    fault_told whole (i + 1) (option_or (option_map kind_of (get_or spans i d).fault) (words_fault (place_of r) (words_of line))) e
     (λ kind found.
     sym told ∙ ap (read_from i r) next.line
     ∙ refused i r line (drop (i + 1) lines) kind (fault_there r line (get_or spans i d).fault next.fault ∙ found))
-    (subst (λ (k : ℕ). Tells (option_map (λ kind. (k, kind)) (option_or (option_map kind_number (get_or spans i d).fault) (words_fault (place_of r) (words_of line)))) e) at fault)
+    (subst (λ (k : ℕ). Tells (option_map (λ kind. (k, kind)) (option_or (option_map kind_of (get_or spans i d).fault) (words_fault (place_of r) (words_of line)))) e) at fault)
 
 -- all lines are read
-pub all_read : (bytes : List ℕ) (spans : List LineSpan) (lines : List (List ℕ)) (i number : ℕ) (r : Reader) (whole : Result Reader (ℕ × ℕ)) →
+pub all_read : (bytes : List ℕ) (spans : List LineSpan) (lines : List (List ℕ)) (i number : ℕ) (r : Reader) (whole : Result Reader (ℕ × FaultKind)) →
     map (line_at bytes) spans ≡ map with_fault lines → length spans ≤ i → number ≡ i → read_from i r (drop i lines) ≡ whole → read_end number r r.stage ≡ whole
 unfolding read_from
 all_read bytes spans lines i number r whole e h at told =
@@ -154,18 +156,18 @@ pub record LineRead (n : ℕ) (r s : Reader) (line : List ℕ) (lines : List (Li
   pub words : words_fault (place_of r) (words_of line) ≡ None
   pub rest : read_from (n + 1) (with_words r (words_of line)) lines ≡ Ok s
 
-without_fault : (n : ℕ) (fault : Option ℕ) (rest : Result Reader (ℕ × ℕ)) (s : Reader) → unless_fault n fault rest ≡ Ok s → (fault ≡ None) × (rest ≡ Ok s)
+without_fault : (n : ℕ) (fault : Option FaultKind) (rest : Result Reader (ℕ × FaultKind)) (s : Reader) → unless_fault n fault rest ≡ Ok s → (fault ≡ None) × (rest ≡ Ok s)
 without_fault n None rest s h = (refl, h)
 without_fault n (Some kind) rest s h = cc
 
-clean_line : (fault : Option LineKind) → option_map kind_number fault ≡ None → fault ≡ None
+clean_line : (fault : Option LineKind) → option_map kind_of fault ≡ None → fault ≡ None
 clean_line None h = refl
 clean_line (Some kind) h = cc
 
 pub line_read : (n : ℕ) (r s : Reader) (line : List ℕ) (lines : List (List ℕ)) → read_from n r (line ∷ lines) ≡ Ok s → LineRead n r s line lines
 unfolding read_from lowest_fault
 line_read n r s line lines h =
-    let own = option_map kind_number (line_fault line) in
+    let own = option_map kind_of (line_fault line) in
     let words = words_fault (place_of r) (words_of line) in
     let parts = without_fault (n + 1) (option_or own words) (read_from (n + 1) (with_words r (words_of line)) lines) s h in
     let faults = option_or_none own words parts.0 in

@@ -11,14 +11,16 @@ use Rattle.behaviour_code.specs.declared.instr.Instr.{Instr}
 use Rattle.behaviour_text.specs.Faults.{inside_fault, body_fault, place_fault, word_fault, words_fault}
 use Rattle.behaviour_text.specs.Items.{instr_of, name_place}
 use Rattle.behaviour_text.specs.Reading.{place_of, with_instr, intern_name, with_named, with_word, with_words}
-use Rattle.behaviour_text.specs.Table.{spelling, starts_with, shape_fault}
+use Rattle.behaviour_text.specs.Table.{word_spelling, starts_with, shape_fault}
 use Rattle.behaviour_text.specs.Text.{instr_words}
 use Rattle.behaviour_text.specs.declared.place.Stage.TheVariants.{InBehaviour}
 use Rattle.behaviour_text.specs.declared.reader.Reader.{Reader}
 use Rattle.behaviour_text.specs.declared.table.LineWord.{LineWord}
 use Rattle.behaviour_text.specs.declared.table.LineWord.TheVariants as W
-use Rattle.behaviour_text.specs.declared.table.Opcode.TheVariants as C
+use Rattle.behaviour_code.specs.declared.opcode.Opcode.TheVariants as C
 use Rattle.behaviour_code.specs.declared.instr.Instr.TheVariants as I
+use Rattle.behaviour_text.specs.declared.errors.FaultKind.{FaultKind}
+use Rattle.behaviour_text.specs.declared.errors.FaultKind.TheVariants as K
 
 -- names is the front of all
 pub record IsFront (names all : List (List ℕ)) : Type 0 where
@@ -72,7 +74,7 @@ named_for names text (I.New d k) = refl
 named_for names text (I.Send to b values) = refl
 named_for names text (I.Print a) = refl
 
-no_hash : (word : LineWord) → starts_with 35 (spelling word) ≡ false
+no_hash : (word : LineWord) → starts_with 35 (word_spelling word) ≡ false
 no_hash W.Kind = refl
 no_hash W.On = refl
 no_hash W.End = refl
@@ -99,7 +101,7 @@ no_hash (W.Instr C.Send) = refl
 no_hash (W.Instr C.Print) = refl
 
 few_enough : (n : ℕ) → n < 1024 → body_fault n ≡ None
-few_enough n h = ap (λ (b : Bool). if◌then◌else◌ {A = Option ℕ} b (Some 9) None) (le-ltb 1023 n (omega arith))
+few_enough n h = ap (λ (b : Bool). if◌then◌else◌ {A = Option FaultKind} b (Some K.TooMany) None) (le-ltb 1023 n (omega arith))
 
 name_found : (names all : List (List ℕ)) (o : Option ℕ) → AreApart all → IfSome o (NameFits all) → IsFront (instr_names (text_of all) names o) all →
     (instr_named names (text_of all) o).0 ≡ unwrap_or o 0
@@ -116,10 +118,10 @@ pub record Takes (r s : Reader) (ws : List (List ℕ)) : Type 0 where
   pub next : with_words r ws ≡ s
 
 -- what an operation with its operands leaves
-pub takes_word : (r s : Reader) (word : LineWord) (ws : List (List ℕ)) → shape_fault word ws ≡ None → place_fault (place_of r) word ws ≡ None → with_named r word (intern_name r.names (name_place word) ws) ws ≡ s → Takes r s (spelling word ∷ ws)
+pub takes_word : (r s : Reader) (word : LineWord) (ws : List (List ℕ)) → shape_fault word ws ≡ None → place_fault (place_of r) word ws ≡ None → with_named r word (intern_name r.names (name_place word) ws) ws ≡ s → Takes r s (word_spelling word ∷ ws)
 unfolding words_fault with_words
 takes_word r s word ws shape place next = record {
-  clean = ap₂ (λ (b : Bool) (o : Option LineWord). if◌then◌else◌ {A = Option ℕ} b None (word_fault (place_of r) o ws)) (no_hash word) (spelled_word word) ∙ ap₂ option_or shape place;
+  clean = ap₂ (λ (b : Bool) (o : Option LineWord). if◌then◌else◌ {A = Option FaultKind} b None (word_fault (place_of r) o ws)) (no_hash word) (spelled_word word) ∙ ap₂ option_or shape place;
   next = ap₂ (λ (b : Bool) (o : Option LineWord). if◌then◌else◌ {A = Reader} b r (with_word r o ws)) (no_hash word) (spelled_word word) ∙ next;
 }
 

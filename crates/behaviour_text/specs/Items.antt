@@ -5,10 +5,10 @@ use Rattle.behaviour_code.specs.declared.instr.Instr.TheVariants as I
 use Rattle.behaviour_text.specs.Words.{word_at, number_at, number_of}
 use Rattle.behaviour_text.specs.declared.table.LineWord.{LineWord}
 use Rattle.behaviour_text.specs.declared.table.LineWord.TheVariants as W
-use Rattle.behaviour_text.specs.declared.table.Opcode.{Opcode}
-use Rattle.behaviour_text.specs.declared.table.Opcode.TheVariants as C
-use Rattle.behaviour_text.specs.declared.table.Operand.{Operand}
-use Rattle.behaviour_text.specs.declared.table.Operand.TheVariants as P
+use Rattle.behaviour_code.specs.declared.opcode.Opcode.{Opcode}
+use Rattle.behaviour_code.specs.declared.opcode.Opcode.TheVariants as C
+use Rattle.behaviour_code.specs.declared.opcode.OperandKind.{OperandKind}
+use Rattle.behaviour_code.specs.declared.opcode.OperandKind.TheVariants as P
 
 -- the number behind the letter of a register or a field
 abbrev pub register_of : List ℕ → ℕ
@@ -18,14 +18,14 @@ abbrev pub register_at : List (List ℕ) → ℕ → ℕ
 register_at words i = register_of (word_at words i)
 
 -- the number that an operand says, 0 for a name
-abbrev pub operand_number : Operand → List ℕ → ℕ
+abbrev pub operand_number : OperandKind → List ℕ → ℕ
 operand_number P.Register word = register_of word
 operand_number P.Field word = register_of word
 operand_number P.Number word = number_of word
 operand_number P.Name word = 0
 
 -- the numbers of some operands; those past the table's are registers
-abbrev pub operand_numbers : List Operand → List (List ℕ) → List ℕ
+abbrev pub operand_numbers : List OperandKind → List (List ℕ) → List ℕ
 operand_numbers operands [] = []
 operand_numbers [] (word ∷ words) = register_of word ∷ operand_numbers [] words
 operand_numbers (operand ∷ operands) (word ∷ words) =

@@ -1,5 +1,6 @@
 pub mod Faults
 pub mod Items
+pub mod Kinds
 pub mod Reading
 pub mod Table
 pub mod Text

@@ -9,7 +9,10 @@ use Rattle.behaviour_code.specs.declared.code.Program.{Program}
 use Rattle.behaviour_text.specs.Words.{words_of, word_at, number_at}
 use Rattle.behaviour_text.specs.Table.{line_word, starts_with}
 use Rattle.behaviour_text.specs.Items.{instr_of, name_place}
-use Rattle.behaviour_text.specs.Faults.{words_fault, lowest_fault, kind_number}
+use Rattle.behaviour_text.specs.Faults.{words_fault, lowest_fault}
+use Rattle.behaviour_text.specs.Kinds.{kind_of}
+use Rattle.behaviour_text.specs.declared.errors.FaultKind.{FaultKind}
+use Rattle.behaviour_text.specs.declared.errors.FaultKind.TheVariants as K
 use Rattle.behaviour_text.specs.declared.place.Place.{Place}
 use Rattle.behaviour_text.specs.declared.place.Stage.{Stage}
 use Rattle.behaviour_text.specs.declared.place.Stage.TheVariants.{Start, InKind, InBehaviour}
@@ -125,22 +128,22 @@ with_words r (word ∷ operands) =
 
 -- `new` is what `old` is after a line without a fault
 pub record LineTaken (old new : Reader) (line : List ℕ) (fault : Option LineKind) : Type 0 where
-  pub clean : option_or (option_map kind_number fault) (words_fault (place_of old) (words_of line))
+  pub clean : option_or (option_map kind_of fault) (words_fault (place_of old) (words_of line))
       ≡ None
   pub next : new ≡ with_words old (words_of line)
 
 -- what was read at the end, unless the text ends within a behaviour
-abbrev pub read_end : ℕ → Reader → Stage → Result Reader (ℕ × ℕ)
-read_end n r InBehaviour = Err (n, 8)
+abbrev pub read_end : ℕ → Reader → Stage → Result Reader (ℕ × FaultKind)
+read_end n r InBehaviour = Err (n, K.MissingEnd)
 read_end n r stage = Ok r
 
 -- the fault of a line, or else what comes after it
-abbrev pub unless_fault : ℕ → Option ℕ → Result Reader (ℕ × ℕ) → Result Reader (ℕ × ℕ)
+abbrev pub unless_fault : ℕ → Option FaultKind → Result Reader (ℕ × FaultKind) → Result Reader (ℕ × FaultKind)
 unless_fault line None rest = rest
 unless_fault line (Some kind) rest = Err (line, kind)
 
 -- what was read after the lines, n of which came before; or the first fault
-unfoldable pub read_from : ℕ → Reader → List (List ℕ) → Result Reader (ℕ × ℕ)
+unfoldable pub read_from : ℕ → Reader → List (List ℕ) → Result Reader (ℕ × FaultKind)
 read_from n r [] = read_end n r r.stage
 read_from n r (line ∷ lines) =
     unless_fault (n + 1) (lowest_fault (place_of r) line)
@@ -150,15 +153,15 @@ read_from n r (line ∷ lines) =
 abbrev pub program_of : Reader → Program
 program_of r = record { kinds = (close_kind r).kinds; names = r.names }
 
-abbrev pub finish : Result Reader (ℕ × ℕ) → Result Program (ℕ × ℕ)
+abbrev pub finish : Result Reader (ℕ × FaultKind) → Result Program (ℕ × FaultKind)
 finish (Ok r) = Ok (program_of r)
 finish (Err fault) = Err fault
 
 -- the program that a text gives, or its first fault
-unfoldable pub read_text : List ℕ → Result Program (ℕ × ℕ)
+unfoldable pub read_text : List ℕ → Result Program (ℕ × FaultKind)
 read_text bytes = finish (read_from 0 start (lines_of bytes))
 
 -- the fault that reading ended with
-abbrev pub fault_of : {X : Type 0} → Result X (ℕ × ℕ) → Option (ℕ × ℕ)
+abbrev pub fault_of : {X : Type 0} → Result X (ℕ × FaultKind) → Option (ℕ × FaultKind)
 fault_of (Ok x) = None
 fault_of (Err fault) = Some fault

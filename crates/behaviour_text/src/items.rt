@@ -2,10 +2,10 @@
 
 ghost use Rattle.std.specs.Prelude.{◌≡◌, ◌≤◌, ℕ, List, drop, length, slice_index_or, IfOk, true, min};
 ghost use Rattle.behaviour_text.specs.Items.{operand_numbers, instr_of, name_place};
-ghost use Rattle.behaviour_text.specs.Table.{fits_count, operands_of};
+ghost use Rattle.behaviour_text.specs.Table.{fits_count, word_operands};
 
-use crate::table::{LineWord, Opcode};
-use behaviour_code::{Instr, Name, Registers, RowRegisters};
+use crate::table::LineWord;
+use behaviour_code::{Instr, Name, Opcode, Registers, RowRegisters};
 use std::alloc::{AllocError, Global};
 
 /// The number at a place, 0 where there is none.
@@ -50,7 +50,7 @@ pub(crate) fn instruction(
 ) -> Result<Instr, AllocError>
     requires { fits_count (LineWord.Instr opcode) (length numbers.now) ≡ true }
     ensures { (words : List (List ℕ))
-        → numbers.now ≡ operand_numbers (operands_of (LineWord.Instr opcode)) words
+        → numbers.now ≡ operand_numbers (word_operands (LineWord.Instr opcode)) words
         → IfOk result (λ i. i ≡ instr_of opcode name words) }
 {
     let first = number_at(numbers, 0);

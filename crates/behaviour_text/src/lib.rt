@@ -11,7 +11,7 @@ mod reading;
 mod table;
 mod words;
 
-pub use errors::TextErr;
+pub use errors::{FaultKind, TextErr};
 pub use printing::print;
 pub use reading::parse;
 

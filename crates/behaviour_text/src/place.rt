@@ -3,8 +3,9 @@
 ghost use Rattle.std.specs.Prelude.{◌≡◌, ℕ, List};
 ghost use Rattle.behaviour_text.specs.Faults.{kind_fault, on_fault, inside_fault, body_fault, place_fault};
 ghost use Rattle.behaviour_text.specs.Items.{operand_numbers};
-ghost use Rattle.behaviour_text.specs.Table.{operands_of};
+ghost use Rattle.behaviour_text.specs.Table.{word_operands};
 
+use crate::errors::FaultKind;
 use crate::items::number_at;
 use crate::table::LineWord;
 use orca_names::{BEHAVIOURS_LIMIT, BODY_LIMIT, FIELDS_LIMIT, KINDS_LIMIT, VALUES_LIMIT};
@@ -29,55 +30,55 @@ pub(crate) struct Place {
     pub(crate) instructions: usize,
 }
 
-fn kind_fault(stage: Stage, kinds: usize, fields: u64) -> Option<u8>
+fn kind_fault(stage: Stage, kinds: usize, fields: u64) -> Option<FaultKind>
     ensures { result ≡ kind_fault stage kinds fields }
 {
     match stage {
-        Stage::InBehaviour => Some(8),
+        Stage::InBehaviour => Some(FaultKind::MissingEnd),
         _ => if kinds >= KINDS_LIMIT || fields > FIELDS_LIMIT as u64 {
-            Some(9)
+            Some(FaultKind::TooMany)
         } else {
             None
         },
     }
 }
 
-fn on_fault(stage: Stage, behaviours: usize, parameters: u64) -> Option<u8>
+fn on_fault(stage: Stage, behaviours: usize, parameters: u64) -> Option<FaultKind>
     ensures { result ≡ on_fault stage behaviours parameters }
 {
     match stage {
-        Stage::Start => Some(7),
-        Stage::InBehaviour => Some(8),
+        Stage::Start => Some(FaultKind::OutsideBehaviour),
+        Stage::InBehaviour => Some(FaultKind::MissingEnd),
         Stage::InKind => if behaviours >= BEHAVIOURS_LIMIT || parameters > VALUES_LIMIT as u64 {
-            Some(9)
+            Some(FaultKind::TooMany)
         } else {
             None
         },
     }
 }
 
-fn inside_fault(stage: Stage, fault: Option<u8>) -> Option<u8>
+fn inside_fault(stage: Stage, fault: Option<FaultKind>) -> Option<FaultKind>
     ensures { result ≡ inside_fault stage fault }
 {
     match stage {
         Stage::InBehaviour => fault,
-        _ => Some(7),
+        _ => Some(FaultKind::OutsideBehaviour),
     }
 }
 
-fn body_fault(instructions: usize) -> Option<u8>
+fn body_fault(instructions: usize) -> Option<FaultKind>
     ensures { result ≡ body_fault instructions }
 {
     if instructions >= BODY_LIMIT {
-        Some(9)
+        Some(FaultKind::TooMany)
     } else {
         None
     }
 }
 
 /// The lowest fault of the place of a line, whose operands say these numbers.
-pub(crate) fn place_fault(place: Place, word: LineWord, numbers: &[u64]) -> Option<u8>
-    ensures { (words : List (List ℕ)) → numbers.now ≡ operand_numbers (operands_of word) words
+pub(crate) fn place_fault(place: Place, word: LineWord, numbers: &[u64]) -> Option<FaultKind>
+    ensures { (words : List (List ℕ)) → numbers.now ≡ operand_numbers (word_operands word) words
         → result ≡ place_fault place word words }
 {
     match word {

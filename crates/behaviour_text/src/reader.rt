@@ -5,8 +5,9 @@ ghost use Rattle.behaviour_code.specs.Names.{is_name};
 ghost use Rattle.behaviour_text.specs.Faults.{words_fault, word_fault};
 ghost use Rattle.behaviour_text.specs.Items.{name_place, operand_numbers};
 ghost use Rattle.behaviour_text.specs.Reading.{start, place_of, kinds_begun, close_kind, with_kind, with_on, with_end, with_instr, with_item, with_word, with_words, intern_name, IsNamed};
-ghost use Rattle.behaviour_text.specs.Table.{shape_fault, fits_count, operands_of};
+ghost use Rattle.behaviour_text.specs.Table.{shape_fault, fits_count, word_operands};
 
+use crate::errors::FaultKind;
 use crate::items::{instruction, name_place, small_at};
 use crate::place::{Place, Stage, place_fault};
 use crate::table::{COMMENT_MARK, LineWord, line_word, put_numbers, starts_with};
@@ -154,7 +155,7 @@ impl Reader {
         numbers: &[u64],
     ) -> Result<(), AllocError>
         requires { fits_count word (length numbers.now) ≡ true }
-        ensures { (words : List (List ℕ)) → numbers.now ≡ operand_numbers (operands_of word) words
+        ensures { (words : List (List ℕ)) → numbers.now ≡ operand_numbers (word_operands word) words
             → OnOk result (self.new ≡ with_item self.old word name words) }
     {
         match word {
@@ -182,7 +183,7 @@ impl Reader {
         requires few { length self.old.names < 2 ^ 32 }
         requires fits { shape_fault word (map (λ w. w.now) operands.now) ≡ None }
         requires numbers { numbers.now
-            ≡ operand_numbers (operands_of word) (map (λ w. w.now) operands.now) }
+            ≡ operand_numbers (word_operands word) (map (λ w. w.now) operands.now) }
         ensures { OnOk result (self.new
             ≡ with_word self.old (Some word) (map (λ w. w.now) operands.now)) }
     {
@@ -197,7 +198,7 @@ impl Reader {
         numbers: &mut Vec<u64>,
         word: LineWord,
         operands: &[&[u8]],
-    ) -> Result<Option<u8>, AllocError>
+    ) -> Result<Option<FaultKind>, AllocError>
         requires few { length self.old.names < 2 ^ 32 }
         ensures fault { IfOk result (λ fault. fault
             ≡ word_fault (place_of self.old) (Some word) (map (λ w. w.now) operands.now)) }
@@ -222,7 +223,7 @@ impl Reader {
         alloc: Global,
         numbers: &mut Vec<u64>,
         words: &[&[u8]],
-    ) -> Result<Option<u8>, AllocError>
+    ) -> Result<Option<FaultKind>, AllocError>
         requires few { length self.old.names < 2 ^ 32 }
         ensures fault { IfOk result (λ fault. fault
             ≡ words_fault (place_of self.old) (map (λ w. w.now) words.now)) }
@@ -237,7 +238,7 @@ impl Reader {
                 }
                 match line_word(first) {
                     Some(word) => self.take_word(alloc, numbers, word, operands),
-                    None => Ok(Some(3)),
+                    None => Ok(Some(FaultKind::UnknownWord)),
                 }
             }
         }

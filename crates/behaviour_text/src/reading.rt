@@ -5,12 +5,13 @@ ghost use Rattle.std.specs.Option.{option_or};
 ghost use Rattle.text_lines.specs.Lines.{lines_of, line_at, with_fault};
 ghost use Rattle.behaviour_code.specs.WellFormed.{IsWellFormed};
 ghost use Rattle.behaviour_code.specs.declared.code.Program.{Program};
-ghost use Rattle.behaviour_text.specs.Faults.{kind_number, words_fault, first_fault, IsFault, Tells};
+ghost use Rattle.behaviour_text.specs.Faults.{words_fault, first_fault, IsFault, Tells};
+ghost use Rattle.behaviour_text.specs.Kinds.{kind_of};
 ghost use Rattle.behaviour_text.specs.Reading.{start, place_of, read_from, read_text, read_end, fault_of, LineTaken};
 ghost use Rattle.behaviour_text.specs.Text.{IsText};
 ghost use Rattle.behaviour_text.specs.Words.{words_of};
 
-use crate::errors::TextErr;
+use crate::errors::{FaultKind, TextErr};
 use crate::place::Stage;
 use crate::reader::Reader;
 use crate::words::put_words;
@@ -18,12 +19,12 @@ use behaviour_code::Program;
 use std::alloc::Global;
 use text_lines::{LineKind, LineSpan, lines};
 
-fn kind_number(fault: LineKind) -> u8
-    ensures { result ≡ kind_number fault }
+fn kind_of(fault: LineKind) -> FaultKind
+    ensures { result ≡ kind_of fault }
 {
     match fault {
-        LineKind::NotAscii => 1,
-        LineKind::LongLine => 2,
+        LineKind::NotAscii => FaultKind::NotAscii,
+        LineKind::LongLine => FaultKind::LongLine,
     }
 }
 
@@ -42,13 +43,13 @@ fn take_line<'a>(
     ensures ok { OnOk result (LineTaken reader.old reader.new line.now fault) }
     ensures fault { IfErr result
         (Tells (option_map (λ kind. (number, kind))
-        (option_or (option_map kind_number fault)
+        (option_or (option_map kind_of fault)
         (words_fault (place_of reader.old) (words_of line.now))))) }
 {
     if let Some(kind) = fault {
         return Err(TextErr::Fault {
             line: number,
-            kind: kind_number(kind),
+            kind: kind_of(kind),
         });
     }
     put_words(words, line)?;
@@ -64,7 +65,10 @@ fn read_end(reader: &Reader, line: u32) -> Result<(), TextErr>
     ensures fault { IfErr result (Tells (fault_of (read_end line reader.now reader.now.stage))) }
 {
     match reader.stage {
-        Stage::InBehaviour => Err(TextErr::Fault { line, kind: 8 }),
+        Stage::InBehaviour => Err(TextErr::Fault {
+            line,
+            kind: FaultKind::MissingEnd,
+        }),
         _ => Ok(()),
     }
 }

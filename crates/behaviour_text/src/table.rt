@@ -1,10 +1,14 @@
 // The table of lines: their first words, and the operands behind these.
 
-ghost use Rattle.std.specs.Prelude.{◌≡◌, map, bytes_eq, IfOk, IfErr, Some, None, slice_index_or};
+ghost use Rattle.std.specs.Prelude.{◌≡◌, map, bytes_eq, find, option_map, IfOk, IfErr, Some, None, slice_index_or};
+ghost use Rattle.behaviour_code.specs.Opcodes.{all_opcodes, spelling};
 ghost use Rattle.behaviour_text.specs.Items.{register_of, operand_number, operand_numbers};
-ghost use Rattle.behaviour_text.specs.Table.{spelling, line_word, operands_of, most_further, starts_with, lettered_fault, operand_fault, operands_fault, lowest, fits_count, shape_fault};
+ghost use Rattle.behaviour_text.specs.Kinds.{lowest};
+ghost use Rattle.behaviour_text.specs.Table.{word_spelling, line_word, word_operands, word_further, starts_with, lettered_fault, operand_fault, operands_fault, fits_count, shape_fault};
 
+use crate::errors::FaultKind;
 use crate::words::{is_name, numeral};
+use behaviour_code::{Opcode, OperandKind};
 use std::alloc::AllocError;
 
 /// The first byte of a comment.
@@ -16,32 +20,6 @@ pub(crate) const REGISTER_LETTER: u8 = b'r';
 /// The first byte of a field.
 pub(crate) const FIELD_LETTER: u8 = b'f';
 
-/// The first word of an instruction.
-#[derive(Clone, Copy, Debug, PartialEq, Eq)]
-pub(crate) enum Opcode {
-    Drop,
-    Int,
-    Own,
-    Copy,
-    Add,
-    Sub,
-    Mul,
-    Less,
-    Same,
-    Row,
-    Get,
-    Load,
-    Store,
-    Jump,
-    JumpZero,
-    Label,
-    Pin,
-    Unpin,
-    New,
-    Send,
-    Print,
-}
-
 /// The first word of a line.
 #[derive(Clone, Copy, Debug, PartialEq, Eq)]
 pub(crate) enum LineWord {
@@ -51,95 +29,43 @@ pub(crate) enum LineWord {
     Instr(Opcode),
 }
 
-const ALL_WORDS: [LineWord; 24] = [
-    LineWord::Kind,
-    LineWord::On,
-    LineWord::End,
-    LineWord::Instr(Opcode::Drop),
-    LineWord::Instr(Opcode::Int),
-    LineWord::Instr(Opcode::Own),
-    LineWord::Instr(Opcode::Copy),
-    LineWord::Instr(Opcode::Add),
-    LineWord::Instr(Opcode::Sub),
-    LineWord::Instr(Opcode::Mul),
-    LineWord::Instr(Opcode::Less),
-    LineWord::Instr(Opcode::Same),
-    LineWord::Instr(Opcode::Row),
-    LineWord::Instr(Opcode::Get),
-    LineWord::Instr(Opcode::Load),
-    LineWord::Instr(Opcode::Store),
-    LineWord::Instr(Opcode::Jump),
-    LineWord::Instr(Opcode::JumpZero),
-    LineWord::Instr(Opcode::Label),
-    LineWord::Instr(Opcode::Pin),
-    LineWord::Instr(Opcode::Unpin),
-    LineWord::Instr(Opcode::New),
-    LineWord::Instr(Opcode::Send),
-    LineWord::Instr(Opcode::Print),
-];
-
-/// What an operand has to be.
-#[derive(Clone, Copy, Debug, PartialEq, Eq)]
-pub(crate) enum Operand {
-    Register,
-    Field,
-    Number,
-    Name,
-}
-
-fn opcode_spelling(opcode: Opcode) -> &'static [u8]
-    ensures { result.now ≡ spelling (LineWord.Instr opcode) }
-{
-    match opcode {
-        Opcode::Drop => b"drop",
-        Opcode::Int => b"int",
-        Opcode::Own => b"self",
-        Opcode::Copy => b"copy",
-        Opcode::Add => b"add",
-        Opcode::Sub => b"sub",
-        Opcode::Mul => b"mul",
-        Opcode::Less => b"less",
-        Opcode::Same => b"same",
-        Opcode::Row => b"row",
-        Opcode::Get => b"get",
-        Opcode::Load => b"load",
-        Opcode::Store => b"store",
-        Opcode::Jump => b"jump",
-        Opcode::JumpZero => b"jzero",
-        Opcode::Label => b"label",
-        Opcode::Pin => b"pin",
-        Opcode::Unpin => b"unpin",
-        Opcode::New => b"new",
-        Opcode::Send => b"send",
-        Opcode::Print => b"print",
-    }
-}
-
-fn spelling(word: LineWord) -> &'static [u8]
-    ensures { result.now ≡ spelling word }
+fn word_spelling(word: LineWord) -> &'static str
+    ensures { result.now ≡ word_spelling word }
 {
     match word {
-        LineWord::Kind => b"kind",
-        LineWord::On => b"on",
-        LineWord::End => b"end",
-        LineWord::Instr(opcode) => opcode_spelling(opcode),
+        LineWord::Kind => "kind",
+        LineWord::On => "on",
+        LineWord::End => "end",
+        LineWord::Instr(opcode) => opcode.spelling(),
     }
 }
 
 fn is_spelled(word: LineWord, text: &[u8]) -> bool
-    ensures { result ≡ bytes_eq (spelling word) text.now }
+    ensures { result ≡ bytes_eq (word_spelling word) text.now }
 {
-    spelling(word) == text
+    word_spelling(word).as_bytes() == text
+}
+
+fn instr_word(text: &[u8]) -> Option<LineWord>
+    ensures { result ≡ option_map LineWord.Instr
+        (find (λ opcode. bytes_eq (spelling opcode) text.now) all_opcodes) }
+{
+    Opcode::spelled(text).map(LineWord::Instr)
 }
 
 #[tactic(auto, unfolding(crate::specs::Table::line_word))]
 fn look_up(text: &[u8]) -> Option<LineWord>
     ensures { result ≡ line_word text.now }
 {
-    ALL_WORDS
-        .iter()
-        .copied()
-        .find(|word| is_spelled(*word, text))
+    if is_spelled(LineWord::Kind, text) {
+        Some(LineWord::Kind)
+    } else if is_spelled(LineWord::On, text) {
+        Some(LineWord::On)
+    } else if is_spelled(LineWord::End, text) {
+        Some(LineWord::End)
+    } else {
+        instr_word(text)
+    }
 }
 
 /// What a first word says, `None` where no line begins with it. A word of the table is told by its
@@ -177,42 +103,22 @@ pub(crate) fn line_word(text: &[u8]) -> Option<LineWord>
     }
 }
 
-fn opcode_operands(opcode: Opcode) -> &'static [Operand]
-    ensures { result.now ≡ operands_of (LineWord.Instr opcode) }
-{
-    match opcode {
-        Opcode::Pin | Opcode::Unpin => &[],
-        Opcode::Drop | Opcode::Own | Opcode::Print => &[Operand::Register],
-        Opcode::Int => &[Operand::Register, Operand::Number],
-        Opcode::Copy | Opcode::Row => &[Operand::Register, Operand::Register],
-        Opcode::Add | Opcode::Sub | Opcode::Mul | Opcode::Less | Opcode::Same => {
-            &[Operand::Register, Operand::Register, Operand::Register]
-        }
-        Opcode::Get => &[Operand::Register, Operand::Register, Operand::Number],
-        Opcode::Load => &[Operand::Register, Operand::Field],
-        Opcode::Store => &[Operand::Field, Operand::Register],
-        Opcode::Jump | Opcode::Label => &[Operand::Name],
-        Opcode::JumpZero | Opcode::New | Opcode::Send => &[Operand::Register, Operand::Name],
-    }
-}
-
-fn operands_of(word: LineWord) -> &'static [Operand]
-    ensures { result.now ≡ operands_of word }
+fn word_operands(word: LineWord) -> &'static [OperandKind]
+    ensures { result.now ≡ word_operands word }
 {
     match word {
-        LineWord::Kind | LineWord::On => &[Operand::Name, Operand::Number],
+        LineWord::Kind | LineWord::On => &[OperandKind::Name, OperandKind::Number],
         LineWord::End => &[],
-        LineWord::Instr(opcode) => opcode_operands(opcode),
+        LineWord::Instr(opcode) => opcode.operand_kinds(),
     }
 }
 
 /// How many registers may follow the operands of the table.
-fn most_further(word: LineWord) -> usize
-    ensures { result ≡ most_further word }
+fn word_further(word: LineWord) -> usize
+    ensures { result ≡ word_further word }
 {
     match word {
-        LineWord::Instr(Opcode::Row) => 7,
-        LineWord::Instr(Opcode::Send) => 8,
+        LineWord::Instr(opcode) => opcode.most_further(),
         _ => 0,
     }
 }
@@ -227,66 +133,70 @@ pub(crate) fn starts_with(letter: u8, word: &[u8]) -> bool
 }
 
 /// The number behind the letter of a register or a field, or the fault.
-fn lettered_number(letter: u8, word: &[u8]) -> Result<u64, u8>
+fn lettered_number(letter: u8, word: &[u8]) -> Result<u64, FaultKind>
     ensures ok { IfOk result (λ number. (lettered_fault letter word.now ≡ None)
         × (number ≡ register_of word.now)) }
     ensures fault { IfErr result (λ kind. lettered_fault letter word.now ≡ Some kind) }
 {
     if starts_with(letter, word) {
-        numeral(&word[1..]).ok_or(5)
+        numeral(&word[1..]).ok_or(FaultKind::BadNumber)
     } else {
-        Err(4)
+        Err(FaultKind::WrongOperands)
     }
 }
 
 /// The number of an operand, 0 for a name, or the fault.
-fn operand_number(operand: Operand, word: &[u8]) -> Result<u64, u8>
+fn operand_number(operand: OperandKind, word: &[u8]) -> Result<u64, FaultKind>
     ensures ok { IfOk result (λ number. (operand_fault operand word.now ≡ None)
         × (number ≡ operand_number operand word.now)) }
     ensures fault { IfErr result (λ kind. operand_fault operand word.now ≡ Some kind) }
 {
     match operand {
-        Operand::Register => lettered_number(REGISTER_LETTER, word),
-        Operand::Field => lettered_number(FIELD_LETTER, word),
-        Operand::Number => numeral(word).ok_or(5),
-        Operand::Name => if is_name(word) { Ok(0) } else { Err(6) },
+        OperandKind::Register => lettered_number(REGISTER_LETTER, word),
+        OperandKind::Field => lettered_number(FIELD_LETTER, word),
+        OperandKind::Number => numeral(word).ok_or(FaultKind::BadNumber),
+        OperandKind::Name => if is_name(word) {
+            Ok(0)
+        } else {
+            Err(FaultKind::BadName)
+        },
     }
 }
 
-fn lowest(a: Option<u8>, b: Option<u8>) -> Option<u8>
+fn lowest(a: Option<FaultKind>, b: Option<FaultKind>) -> Option<FaultKind>
     ensures { result ≡ lowest a b }
 {
     match (a, b) {
         (None, b) => b,
         (Some(a), None) => Some(a),
-        (Some(a), Some(b)) => Some(a.min(b)),
+        (Some(a), Some(b)) => Some(a.lower(b)),
     }
 }
 
 fn fits_count(word: LineWord, count: usize) -> bool
     ensures { result ≡ fits_count word count }
 {
-    let least = operands_of(word).len();
-    least <= count && count - least <= most_further(word)
+    let least = word_operands(word).len();
+    least <= count && count - least <= word_further(word)
 }
 
 /// The operand of a place; past the table's it is a register.
-fn operand_at(operands: &[Operand], i: usize) -> Operand
-    ensures { result ≡ slice_index_or operands.now i Operand.Register }
+fn operand_at(operands: &[OperandKind], i: usize) -> OperandKind
+    ensures { result ≡ slice_index_or operands.now i OperandKind.Register }
 {
     if i < operands.len() {
         operands[i]
     } else {
-        Operand::Register
+        OperandKind::Register
     }
 }
 
 /// The lowest fault of some operands. Without one their numbers are put into a list.
 fn put_operands(
     numbers: &mut Vec<u64>,
-    operands: &[Operand],
+    operands: &[OperandKind],
     words: &[&[u8]],
-) -> Result<Option<u8>, AllocError>
+) -> Result<Option<FaultKind>, AllocError>
     ensures fault { IfOk result (λ fault. fault
         ≡ operands_fault operands.now (map (λ w. w.now) words.now)) }
     ensures numbers { IfOk result (λ fault. fault ≡ None → numbers.new.items
@@ -310,15 +220,15 @@ pub(crate) fn put_numbers(
     numbers: &mut Vec<u64>,
     word: LineWord,
     words: &[&[u8]],
-) -> Result<Option<u8>, AllocError>
+) -> Result<Option<FaultKind>, AllocError>
     ensures fault { IfOk result (λ fault. fault
         ≡ shape_fault word (map (λ w. w.now) words.now)) }
     ensures numbers { IfOk result (λ fault. fault ≡ None → numbers.new.items
-        ≡ operand_numbers (operands_of word) (map (λ w. w.now) words.now)) }
+        ≡ operand_numbers (word_operands word) (map (λ w. w.now) words.now)) }
 {
     if fits_count(word, words.len()) {
-        put_operands(numbers, operands_of(word), words)
+        put_operands(numbers, word_operands(word), words)
     } else {
-        Ok(Some(4))
+        Ok(Some(FaultKind::WrongOperands))
     }
 }

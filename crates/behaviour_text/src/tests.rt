@@ -1,6 +1,6 @@
 // Examples from outside of the contracts: where texts are refused, what is read, what is printed.
 
-use crate::{TextErr, parse, print};
+use crate::{FaultKind, TextErr, parse, print};
 use behaviour_code::{Instr, Program};
 use orca_names::TEXT_LIMIT;
 use std::alloc::Global;
@@ -216,7 +216,7 @@ fn fault(alloc: Global, text: &[u8]) -> Result<(u32, u8), Fail> {
     }
     match parse(alloc, text) {
         Ok(_) => Ok((0, 0)),
-        Err(TextErr::Fault { line, kind }) => Ok((line, kind)),
+        Err(TextErr::Fault { line, kind }) => Ok((line, kind.number())),
         Err(TextErr::NoMemory) => Err(Fail::from("out of memory")),
     }
 }
@@ -342,7 +342,10 @@ fn programs_are_printed_as_their_canonical_texts(rt: HostRuntime) -> Result<(), 
 
 #[test]
 fn errors_as_texts(rt: HostRuntime) -> Result<(), Fail> {
-    let fault = TextErr::Fault { line: 3, kind: 9 };
+    let fault = TextErr::Fault {
+        line: 3,
+        kind: FaultKind::TooMany,
+    };
     for (error, text) in [
         (fault, "line 3 has a fault of kind 9"),
         (TextErr::NoMemory, "out of memory"),

@@ -13,7 +13,7 @@ use Rattle.word_line.specs.declared.order.Job.{Job}
 use Rattle.word_line.specs.declared.order.Job.TheVariants.{Audit}
 use Rattle.word_line.specs.declared.order.Order.{Order}
 use Rattle.behaviour_code.specs.declared.code.Program.{Program}
-use Rattle.behaviour_text.specs.Faults.{first_fault}
+use Rattle.behaviour_text.specs.Faults.{told_fault}
 use Rattle.behaviour_check.specs.Rules.{first_broken}
 use Rattle.machine_rules.specs.Options.{Options}
 use Rattle.machine_rules.specs.Run.{IsRun}
@@ -100,7 +100,7 @@ module _ (order : Order) (source sink : Sides) (book : BookValue) (answer : Stat
   what_is_found (Seen.faulty read h text has l k faulty e) =
       let clean = no_fault given.text program given.spells in
       let first = faulty.first in
-      let same = ap first_fault (same_text read text h has) in
+      let same = ap told_fault (same_text read text h has) in
       absurd (cc)
   what_is_found (Seen.broken read h text has p spells k b s r breaks e) =
       let kept = given.kept in let same = ap first_broken (same_program read text h has p spells) in absurd (cc)

@@ -9,7 +9,7 @@ use Rattle.report_text.specs.declared.status.Status.TheVariants as status
 use Rattle.word_line.specs.declared.order.Job.TheVariants.{Audit}
 use Rattle.word_line.specs.declared.order.Order.{Order}
 use Rattle.behaviour_code.specs.declared.code.Program.{Program}
-use Rattle.behaviour_text.specs.Faults.{first_fault}
+use Rattle.behaviour_text.specs.Faults.{told_fault}
 use Rattle.behaviour_check.specs.Rules.{fault_at, first_broken}
 use Rattle.behaviour_check.specs.declared.checked.CheckFault.{CheckFault}
 use Rattle.pony_run.specs.Causes.{Causes, ComesOnly, ComesWherever, IsGiven, IsOfAudit, IsUnlessMemory, OrderCauses, ReadsWell}
@@ -55,18 +55,18 @@ module _ (order : Order) (source sink : Sides) (book : BookValue) (answer : Stat
       short_read read h long = let same = ap length (is_input read h) in let short = has.short in omega arith
 
       -- a text with a fault is that of no program
-      no_program_read : (line kind : ℕ) → first_fault text ≡ Some (line, kind) → (read other : List ℕ) → IsInput order.job source read → HasText order.job read other
+      no_program_read : (line kind : ℕ) → told_fault text ≡ Some (line, kind) → (read other : List ℕ) → IsInput order.job source read → HasText order.job read other
           → (p : Program) → Spells other p → ⊥
       no_program_read line kind fault read other h of p spells =
-          let clean = no_fault other p spells in let same = ap first_fault (same_text read other h of) in absurd (cc)
+          let clean = no_fault other p spells in let same = ap told_fault (same_text read other h of) in absurd (cc)
 
-      when_bad_text : (line kind : ℕ) → ReadsWell order.job source → first_fault text ≡ Some (line, kind)
+      when_bad_text : (line kind : ℕ) → ReadsWell order.job source → told_fault text ≡ Some (line, kind)
           → Seen order source sink book answer → IsUnlessMemory answer (status.BadText line kind)
       when_bad_text line kind well fault (Seen.no_memory e) = inr e
       when_bad_text line kind well fault (Seen.failed takes fails e) = absurd (well_read order.job source well takes fails)
       when_bad_text line kind well fault (Seen.long read h is e) = absurd (short_read read h is)
       when_bad_text line kind well fault (Seen.faulty read h other of l k faulty e) =
-          let both : ◌≡◌ {A = Option (ℕ × ℕ)} (Some (l, k)) (Some (line, kind)) = sym faulty.first ∙ (ap first_fault (same_text read other h of) ∙ fault) in
+          let both : ◌≡◌ {A = Option (ℕ × ℕ)} (Some (l, k)) (Some (line, kind)) = sym faulty.first ∙ (ap told_fault (same_text read other h of) ∙ fault) in
           let same : ◌≡◌ {A = ℕ × ℕ} (l, k) (line, kind) = cc in
           inl (e ∙ ap (λ (p : ℕ × ℕ). status.BadText p.0 p.1) same)
       when_bad_text line kind well fault (Seen.broken read h other of p spells k b s r breaks e) = absurd (no_program_read line kind fault read other h of p spells)
@@ -81,9 +81,9 @@ module _ (order : Order) (source sink : Sides) (book : BookValue) (answer : Stat
         is_program read other h of p p_spells = one_program text program p spells (subst (λ (t : List ℕ). Spells t p) (same_text read other h of) p_spells)
 
         -- what is read has no fault
-        not_faulty : (read other : List ℕ) → IsInput order.job source read → HasText order.job read other → (line kind : ℕ) → first_fault other ≢ Some (line, kind)
+        not_faulty : (read other : List ℕ) → IsInput order.job source read → HasText order.job read other → (line kind : ℕ) → told_fault other ≢ Some (line, kind)
         not_faulty read other h of line kind first =
-            let clean = no_fault text program spells in let same = ap first_fault (same_text read other h of) in absurd (cc)
+            let clean = no_fault text program spells in let same = ap told_fault (same_text read other h of) in absurd (cc)
 
         -- and what holds of its program's rules
         same_rules : (read other : List ℕ) → IsInput order.job source read → HasText order.job read other → (p : Program) → Spells other p → first_broken p ≡ first_broken program
@@ -234,14 +234,14 @@ module _ (order : Order) (source sink : Sides) (book : BookValue) where
     of_too_long (Seen.audit is p of bytes behind audit) = absurd (of_audit p bytes sink book status.TooLong audit)
 
     of_bad_text : (text : List ℕ) (line kind : ℕ) → IsProgramText order.job input text → Seen order source sink book (status.BadText line kind)
-        → first_fault text ≡ Some (line, kind)
+        → told_fault text ≡ Some (line, kind)
     of_bad_text text line kind part (Seen.no_memory e) = absurd (cc)
     of_bad_text text line kind part (Seen.failed takes fails e) = absurd (cc)
     of_bad_text text line kind part (Seen.long read h is e) = absurd (cc)
     of_bad_text text line kind part (Seen.faulty read h other of l k faulty e) =
         let one : line ≡ l = cc in
         let two : kind ≡ k = cc in
-        let first = ap first_fault (sym (is_text order source sink book (status.BadText line kind) input given text read other part h of)) ∙ faulty.first in
+        let first = ap told_fault (sym (is_text order source sink book (status.BadText line kind) input given text read other part h of)) ∙ faulty.first in
         cc
     of_bad_text text line kind part (Seen.broken read h other of p p_spells k b s r breaks e) = absurd (cc)
     of_bad_text text line kind part (Seen.cut p of runs fails e) = absurd (cc)

@@ -9,8 +9,8 @@ use Rattle.report_text.specs.declared.status.Status.TheVariants as status
 use Rattle.word_line.specs.declared.order.Job.{Job}
 use Rattle.word_line.specs.declared.order.Job.TheVariants.{Run, Load, Audit, Why}
 use Rattle.behaviour_code.specs.declared.code.Program.{Program}
-use Rattle.behaviour_text.specs.Faults.{first_fault}
-use Rattle.behaviour_text.proofs.Again.{again, no_fault_read}
+use Rattle.behaviour_text.specs.Faults.{told_fault}
+use Rattle.behaviour_text.proofs.Again.{again, no_fault_told}
 use Rattle.outside_world.specs.Pieces.{TakesAll}
 use Rattle.pony_run.specs.Causes.{IsGiven, IsOfAudit, ReadsWell, Tells}
 use Rattle.pony_run.specs.Headline.{IsInput, IsProgramText, RunsProgram, Spells, TakesInput}
@@ -48,8 +48,8 @@ pub one_program : (text : List ℕ) (p q : Program) → Spells text p → Spells
 one_program text p q p_of q_of = let same : Ok q ≡ Ok p = sym (again text q q_of.says q_of.good) ∙ again text p p_of.says p_of.good in cc
 
 -- the text of a program has no fault
-pub no_fault : (text : List ℕ) (p : Program) → Spells text p → first_fault text ≡ None
-no_fault text p is = no_fault_read text p (again text p is.says is.good)
+pub no_fault : (text : List ℕ) (p : Program) → Spells text p → told_fault text ≡ None
+no_fault text p is = no_fault_told text p (again text p is.says is.good)
 
 -- no read failed where an input came
 pub input_is_well : (job : Job) (source : Sides) (input : List ℕ) → IsInput job source input → CountsNoFault source

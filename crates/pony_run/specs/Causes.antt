@@ -15,7 +15,7 @@ use Rattle.report_text.specs.Refusals.{HasRefusal}
 use Rattle.report_text.specs.declared.status.Status.{Status}
 use Rattle.report_text.specs.declared.status.Status.TheVariants as status
 use Rattle.behaviour_code.specs.declared.code.Program.{Program}
-use Rattle.behaviour_text.specs.Faults.{first_fault}
+use Rattle.behaviour_text.specs.Faults.{told_fault}
 use Rattle.behaviour_check.specs.Rules.{fault_at, first_broken}
 use Rattle.pony_run.specs.Headline.{EndsWith, EveryRun, HasText, IsProgramText, RunsProgram, Spells, TakesInput}
 use Rattle.pony_run.specs.Streams.{CountsFault, CountsNoFault, HasFailed, Sides, most_bytes}
@@ -56,7 +56,7 @@ pub record ComesOnly (order : Order) (source sink : Sides) (answer : Status) (bo
       → length input ≡ most_bytes
   pub bad_text : (input text : List ℕ) (line kind : ℕ) → IsGiven order.job source input
       → IsProgramText order.job input text → answer ≡ status.BadText line kind
-      → first_fault text ≡ Some (line, kind)
+      → told_fault text ≡ Some (line, kind)
   pub bad_program : (input text : List ℕ) (program : Program) (kind behaviour step rule : ℕ)
       → IsGiven order.job source input → HasText order.job input text → Spells text program →
       answer ≡ status.BadProgram kind behaviour step rule
@@ -78,7 +78,7 @@ pub record ComesWherever (job : Job) (source sink : Sides) (answer : Status) : T
       → length input ≡ most_bytes → IsUnlessMemory answer status.TooLong
   pub bad_text : (input text : List ℕ) (line kind : ℕ) → IsGiven job source input
       → ReadsWell job source → HasText job input text →
-      first_fault text ≡ Some (line, kind) → IsUnlessMemory answer (status.BadText line kind)
+      told_fault text ≡ Some (line, kind) → IsUnlessMemory answer (status.BadText line kind)
   pub bad_program : (input text : List ℕ) (program : Program) (kind behaviour step rule : ℕ)
       → IsGiven job source input → ReadsWell job source → HasText job input text
       → Spells text program →

@@ -30,7 +30,7 @@ use Rattle.word_line.specs.declared.order.Job.TheVariants.{Load, Audit, Why}
 use Rattle.word_line.specs.declared.order.Order.{Order}
 use Rattle.behaviour_code.specs.WellFormed.{IsWellFormed}
 use Rattle.behaviour_code.specs.declared.code.Program.{Program}
-use Rattle.behaviour_text.specs.Faults.{first_fault}
+use Rattle.behaviour_text.specs.Faults.{told_fault}
 use Rattle.behaviour_text.specs.Text.{IsText}
 use Rattle.behaviour_check.specs.Rules.{fault_at, first_broken}
 use Rattle.plain_rules.specs.Machine.{PlainState}
@@ -93,7 +93,7 @@ pub record Spells (text : List ℕ) (program : Program) : Type 0 where
 
 -- the text is that of no program, and this is its first fault
 pub record IsFaulty (text : List ℕ) (line kind : ℕ) : Type 0 where
-  pub first : first_fault text ≡ Some (line, kind)
+  pub first : told_fault text ≡ Some (line, kind)
   pub no_program : (program : Program) → IsText text program → ¬ IsWellFormed program
 
 -- the job runs a program; `audit` follows a book

@@ -91,7 +91,10 @@ fn program_in(alloc: Global, text: &[u8]) -> Result<Checked, Status>
 {
     match parse(alloc, text) {
         Ok(program) => check_program(program),
-        Err(TextErr::Fault { line, kind }) => Err(Status::BadText { line, kind }),
+        Err(TextErr::Fault { line, kind }) => Err(Status::BadText {
+            line,
+            kind: kind.number(),
+        }),
         Err(TextErr::NoMemory) => Err(Status::NoMemory),
     }
 }

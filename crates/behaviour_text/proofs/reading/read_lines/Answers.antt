@@ -6,6 +6,7 @@ use Rattle.text_lines.specs.declared.LineSpan.{LineSpan}
 use Rattle.behaviour_text.specs.declared.reader.Reader.{Reader}
 use Rattle.behaviour_text.proofs.Steps.{few_more, step_taken, step_refused, all_read}
 use Rattle.behaviour_text.proofs.reading.read_lines.Goals as goal
+use Rattle.behaviour_text.specs.declared.errors.FaultKind.{FaultKind}
 
 pub loop-span-init : goal.loop-span-init
 unfolding start
@@ -38,9 +39,9 @@ returns-in-Err-clause-fault c =
 pub returns-clause-ok : goal.returns-clause-ok
 returns-clause-ok c =
     let told = all_read c.args.bytes.now c.args.spans.now (lines_of c.args.bytes.now) c.loop-span.span-index c.loop-span.line c.loop-span.reader _ c.requires.lines (omega arith) c.loop-span.invariant.number c.loop-span.invariant.rest in
-    subst (λ (whole : Result Reader (ℕ × ℕ)). OnOk c.read_end.result (whole ≡ Ok c.loop-span.reader)) told c.read_end.ensures.ok
+    subst (λ (whole : Result Reader (ℕ × FaultKind)). OnOk c.read_end.result (whole ≡ Ok c.loop-span.reader)) told c.read_end.ensures.ok
 
 pub returns-clause-fault : goal.returns-clause-fault
 returns-clause-fault c =
     let told = all_read c.args.bytes.now c.args.spans.now (lines_of c.args.bytes.now) c.loop-span.span-index c.loop-span.line c.loop-span.reader _ c.requires.lines (omega arith) c.loop-span.invariant.number c.loop-span.invariant.rest in
-    subst (λ (whole : Result Reader (ℕ × ℕ)). IfErr c.read_end.result (Tells (fault_of whole))) told c.read_end.ensures.fault
+    subst (λ (whole : Result Reader (ℕ × FaultKind)). IfErr c.read_end.result (Tells (fault_of whole))) told c.read_end.ensures.fault
