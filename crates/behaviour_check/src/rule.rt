@@ -8,7 +8,7 @@ ghost use Rattle.behaviour_check.specs.Numbers.{number_of};
 #[derive(Clone, Copy, Debug, PartialEq, Eq, PartialOrd, Ord)]
 pub(crate) enum Rule {
     /// The first kind has a behaviour `start` without parameters.
-    Start,
+    Start = 1,
     /// Kinds, a kind's behaviours and a behaviour's labels are named once.
     NamedOnce,
     /// An actor is made of a kind that there is.
@@ -26,13 +26,6 @@ impl Rule {
     pub(crate) fn number(self) -> u8
         ensures { result ≡ number_of self }
     {
-        match self {
-            Rule::Start => 1,
-            Rule::NamedOnce => 2,
-            Rule::KnownKind => 3,
-            Rule::LabelAhead => 4,
-            Rule::Registers => 5,
-            Rule::Fields => 6,
-        }
+        self as u8
     }
 }
