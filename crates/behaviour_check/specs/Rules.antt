@@ -1,7 +1,7 @@
 -- All places where a rule fails, with the lowest rule there, and the first of them.
 use Rattle.std.specs.Prelude.{ℕ, ◌≡◌, ◌-◌, Bool, false, List, ◌++◌, ◌==◌, Option, Some, None, nat_le, not, if◌then◌else◌, is_some, option_map, drop, slice_get, take}
 use Rattle.std.specs.List.{enumerate_from, flat_map, list_any}
-use Rattle.std.specs.Option.{option_map_or, option_to_list}
+use Rattle.std.specs.Option.{option_and_then, option_map_or, option_to_list}
 use Rattle.orca_names.specs.declared.limits.TheConstants.{REGISTERS}
 use Rattle.behaviour_code.specs.Find.{is_kind, is_label, start_name}
 use Rattle.behaviour_code.specs.WellFormed.{IsWellFormed}
@@ -10,8 +10,9 @@ use Rattle.behaviour_code.specs.declared.instr.Instr.TheVariants as I
 use Rattle.behaviour_code.specs.declared.code.Behaviour.{Behaviour}
 use Rattle.behaviour_code.specs.declared.code.Kind.{Kind}
 use Rattle.behaviour_code.specs.declared.code.Program.{Program}
-use Rattle.behaviour_check.specs.Operands.{field_in, registers_in, target_of}
+use Rattle.behaviour_code.specs.declared.operand.Operand.{Operand}
 use Rattle.behaviour_check.specs.Numbers.{number_of}
+use Rattle.behaviour_check.specs.Operands.{as_register, field_in, registers_in, target_of}
 use Rattle.behaviour_check.specs.declared.checked.CheckFault.{CheckFault}
 use Rattle.behaviour_check.specs.declared.rule.Rule.{Rule}
 use Rattle.behaviour_check.specs.declared.rule.Rule.TheVariants as R
@@ -49,6 +50,11 @@ makes_unknown kinds _ = false
 -- rule 4: a jump whose label does not stand later in the behaviour
 abbrev pub jumps_nowhere : List Instr → Instr → Bool
 jumps_nowhere later i = option_map_or (λ l. not (list_any (is_label l) later)) (target_of i) false
+
+-- an operand that may be there is a register past the last
+abbrev pub is_register_past : Option Operand → Bool
+is_register_past operand =
+    option_map_or (nat_le REGISTERS) (option_and_then as_register operand) false
 
 -- rule 5: a register past the last
 abbrev pub has_register_past : Instr → Bool

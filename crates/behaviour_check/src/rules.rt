@@ -3,10 +3,10 @@
 ghost use Rattle.std.specs.Prelude.{◌≡◌, ◌==◌, nat_le};
 ghost use Rattle.std.specs.List.{list_any};
 ghost use Rattle.behaviour_code.specs.Find.{is_kind, is_label};
-ghost use Rattle.behaviour_check.specs.Rules.{repeats_label, makes_unknown, jumps_nowhere, has_register_past, has_field_past, instr_rule};
+ghost use Rattle.behaviour_check.specs.Rules.{repeats_label, makes_unknown, jumps_nowhere, is_register_past, has_register_past, has_field_past, instr_rule};
 
 use crate::rule::Rule;
-use behaviour_code::{Behaviour, Instr, Kind, Name};
+use behaviour_code::{Behaviour, Instr, Kind, Name, Operand};
 use orca_names::REGISTERS;
 
 /// Whether a kind has the name.
@@ -62,36 +62,37 @@ fn is_past(register: u64) -> bool
     REGISTERS as u64 <= register
 }
 
+fn is_register_past(operand: Option<Operand>) -> bool
+    ensures { result ≡ is_register_past operand }
+{
+    match operand {
+        Some(Operand::Register(register)) => is_past(register),
+        _ => false,
+    }
+}
+
 fn some_past(registers: &[u64]) -> bool
     ensures { result ≡ list_any (nat_le REGISTERS) registers.now }
 {
     registers.iter().any(|register| is_past(*register))
 }
 
+fn some_operand_past(operands: &[Option<Operand>]) -> bool
+    ensures { result ≡ list_any is_register_past operands.now }
+{
+    operands.iter().any(|operand| is_register_past(*operand))
+}
+
+#[tactic(auto, using(crate::proofs::Listed::registers_listed))]
 fn has_register_past(instr: &Instr) -> bool
     ensures { result ≡ has_register_past instr.now }
 {
-    match instr {
-        Instr::Drop(d)
-        | Instr::Int(d, _)
-        | Instr::Own(d)
-        | Instr::Load(d, _)
-        | Instr::Store(_, d)
-        | Instr::JumpZero(d, _)
-        | Instr::New(d, _)
-        | Instr::Print(d) => is_past(*d),
-        Instr::Copy(d, s) | Instr::Get(d, s, _) => is_past(*d) || is_past(*s),
-        Instr::Add(d, a, b)
-        | Instr::Sub(d, a, b)
-        | Instr::Mul(d, a, b)
-        | Instr::Less(d, a, b)
-        | Instr::Same(d, a, b) => is_past(*d) || is_past(*a) || is_past(*b),
-        Instr::Row(d, values) => is_past(*d) || some_past(values.as_slice()),
-        Instr::Send(d, _, values) => is_past(*d) || some_past(values.as_slice()),
-        Instr::Jump(_) | Instr::Label(_) | Instr::Pin | Instr::Unpin => false,
-    }
+    let operands = instr.operands();
+    let first = [operands.first, operands.second, operands.third];
+    some_operand_past(&first) || some_past(operands.further)
 }
 
+#[tactic(auto, using(crate::proofs::Listed::no_field_behind))]
 fn has_field_past(fields: u8, instr: &Instr) -> bool
     ensures { result ≡ has_field_past fields instr.now }
 {

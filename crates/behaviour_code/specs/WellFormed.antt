@@ -1,10 +1,13 @@
 -- Well-formed programs: those that some text gives.
-use Rattle.std.specs.Prelude.{ℕ, ◌≡◌, ◌<◌, ◌≤◌, ◌^◌, List, [], ◌∷◌, Option, Some, None, All, IfSome, length, true, ⊤}
-use Rattle.std.specs.List.{AllByRecursion}
+use Rattle.std.specs.Prelude.{ℕ, ◌≡◌, ◌+◌, ◌<◌, ◌≤◌, ◌^◌, List, [], ◌∷◌, Option, Some, None, IfSome, length, slice_get, true, ⊤}
+use Rattle.std.specs.List.{AllByRecursion, filter_map}
 use Rattle.orca_names.specs.declared.limits.TheConstants.{BEHAVIOURS_LIMIT, BODY_LIMIT, FIELDS_LIMIT, KINDS_LIMIT, VALUES_LIMIT}
 use Rattle.behaviour_code.specs.Names.{is_name, text_of, with_text}
+use Rattle.behaviour_code.specs.Opcodes.{most_further, operand_kinds}
+use Rattle.behaviour_code.specs.Operands.{opcode_of, operands_in}
 use Rattle.behaviour_code.specs.declared.instr.Instr.{Instr}
-use Rattle.behaviour_code.specs.declared.instr.Instr.TheVariants as I
+use Rattle.behaviour_code.specs.declared.operand.Operand.{Operand}
+use Rattle.behaviour_code.specs.declared.operand.Operand.TheVariants as O
 use Rattle.behaviour_code.specs.declared.code.Behaviour.{Behaviour}
 use Rattle.behaviour_code.specs.declared.code.Kind.{Kind}
 use Rattle.behaviour_code.specs.declared.code.Program.{Program}
@@ -13,40 +16,31 @@ use Rattle.behaviour_code.specs.declared.code.Program.{Program}
 abbrev pub Fits64 : ℕ → Type 0
 Fits64 n = n < 2 ^ 64
 
--- the numbers of an instruction have 64 bits, and its values are as many as it may have
+-- its number has 64 bits
+abbrev pub OperandFits : Operand → Type 0
+OperandFits (O.Register n) = Fits64 n
+OperandFits (O.Field n) = Fits64 n
+OperandFits (O.Number n) = Fits64 n
+OperandFits (O.Name name) = ⊤
+
+-- it has as many operands as its operation may have
+abbrev pub HasItsCount : Instr → Type 0
+HasItsCount i =
+    (length (operand_kinds (opcode_of i)) ≤ length (operands_in i))
+    × (length (operands_in i) ≤ length (operand_kinds (opcode_of i)) + most_further (opcode_of i))
+
+-- the numbers of an instruction have 64 bits, and its operands are as many as it may have
 abbrev pub InstrFits : Instr → Type 0
-InstrFits (I.Drop d) = Fits64 d
-InstrFits (I.Int d n) = Fits64 d × Fits64 n
-InstrFits (I.Own d) = Fits64 d
-InstrFits (I.Copy d s) = Fits64 d × Fits64 s
-InstrFits (I.Add d a b) = Fits64 d × Fits64 a × Fits64 b
-InstrFits (I.Sub d a b) = Fits64 d × Fits64 a × Fits64 b
-InstrFits (I.Mul d a b) = Fits64 d × Fits64 a × Fits64 b
-InstrFits (I.Less d a b) = Fits64 d × Fits64 a × Fits64 b
-InstrFits (I.Same d a b) = Fits64 d × Fits64 a × Fits64 b
-InstrFits (I.Row d values) =
-    Fits64 d × (1 ≤ length values) × (length values ≤ VALUES_LIMIT) × All Fits64 values
-InstrFits (I.Get d s n) = Fits64 d × Fits64 s × Fits64 n
-InstrFits (I.Load d f) = Fits64 d × Fits64 f
-InstrFits (I.Store f s) = Fits64 f × Fits64 s
-InstrFits (I.Jump l) = ⊤
-InstrFits (I.JumpZero a l) = Fits64 a
-InstrFits (I.Label l) = ⊤
-InstrFits I.Pin = ⊤
-InstrFits I.Unpin = ⊤
-InstrFits (I.New d kind) = Fits64 d
-InstrFits (I.Send to behaviour values) =
-    Fits64 to × (length values ≤ VALUES_LIMIT) × All Fits64 values
-InstrFits (I.Print a) = Fits64 a
+InstrFits i = HasItsCount i × AllByRecursion OperandFits (operands_in i)
+
+-- the name that an operand is
+abbrev pub named_by : Operand → Option ℕ
+named_by (O.Name name) = Some name
+named_by _ = None
 
 -- the name in an instruction
 abbrev pub name_in : Instr → Option ℕ
-name_in (I.Jump l) = Some l
-name_in (I.JumpZero a l) = Some l
-name_in (I.Label l) = Some l
-name_in (I.New d kind) = Some kind
-name_in (I.Send to behaviour values) = Some behaviour
-name_in _ = None
+name_in i = slice_get (filter_map named_by (operands_in i)) 0
 
 -- each text has one name
 pub record AreApart (texts : List (List ℕ)) : Type 0 where

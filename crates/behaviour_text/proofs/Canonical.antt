@@ -11,7 +11,7 @@ use Rattle.text_lines.specs.declared.LineKind.{LineKind}
 use Rattle.text_lines.specs.declared.LineKind.TheVariants.{NotAscii, LongLine}
 use Rattle.text_lines.proofs.Splitting.{more_pieces}
 use Rattle.behaviour_text.proofs.Numerals.{own}
-use Rattle.behaviour_code.specs.WellFormed.{Fits64, NameFits, InstrIsWellFormed, BehaviourIsWellFormed, KindIsWellFormed, IsWellFormed}
+use Rattle.behaviour_code.specs.WellFormed.{NameFits, InstrIsWellFormed, BehaviourIsWellFormed, KindIsWellFormed, IsWellFormed}
 use Rattle.behaviour_code.specs.Names.{is_name_byte, is_name, text_of}
 use Rattle.behaviour_code.specs.declared.code.Behaviour.{Behaviour}
 use Rattle.behaviour_code.specs.declared.code.Kind.{Kind}
@@ -21,6 +21,18 @@ use Rattle.behaviour_text.specs.Reading.{read_text}
 use Rattle.behaviour_text.specs.Text.{register, field, instr_words, behaviour_begin, behaviour_end, kind_begin, behaviour_lines, kind_lines, program_lines, speaks, said_lines, AreClean, IsText, rest_of_line, line_of, canonical}
 use Rattle.behaviour_text.specs.Words.{words_of, is_word}
 use Rattle.behaviour_code.specs.declared.instr.Instr.TheVariants as I
+use Rattle.std.proofs.Common.{IfSome}
+use Rattle.behaviour_code.specs.declared.operand.Operand.{Operand}
+use Rattle.behaviour_code.specs.declared.operand.Operand.TheVariants as O
+use Rattle.behaviour_code.specs.declared.opcode.Opcode.{Opcode}
+use Rattle.behaviour_code.specs.declared.opcode.Opcode.TheVariants as C
+use Rattle.behaviour_code.specs.Opcodes.{spelling}
+use Rattle.behaviour_code.specs.Operands.{opcode_of, operands_in}
+use Rattle.behaviour_code.specs.WellFormed.{OperandFits, HasItsCount, named_by}
+use Rattle.behaviour_text.proofs.Instructions.{names_all}
+use Rattle.behaviour_text.proofs.Whole.{no_hash}
+use Rattle.behaviour_text.specs.Text.{operand_word}
+use Rattle.behaviour_text.specs.declared.table.LineWord.TheVariants as W
 
 abbrev is_visible : ℕ → Bool
 is_visible b = nat_le 33 b && nat_le b 126
@@ -214,39 +226,109 @@ name_word w h =
     let some : 1 ≤ length w = leb-true 1 (length w) b.0 in
     record { word = record { some = omega arith; seen = seen_name w a.1 }; short = leb-true (length w) 32 b.1 }
 
-registers_words : (ns : List ℕ) → All Fits64 ns → AllByRecursion Word (map register ns)
-registers_words [] h = tt
-registers_words (n ∷ ns) h = (register_word n (h zero 0 (omega arith)), registers_words ns (λ i d k. h (suc i) d (omega arith)))
+-- how long the word of an operand may be, and those of operands with a space before each
+abbrev widest : Operand → ℕ
+widest (O.Register n) = 21
+widest (O.Field n) = 21
+widest (O.Number n) = 20
+widest (O.Name name) = 32
 
-registers_room : (ns : List ℕ) → All Fits64 ns → room (map register ns) ≤ 22 * length ns
-registers_room [] h = omega arith
-registers_room (n ∷ ns) h =
-    let r = registers_room ns (λ i d k. h (suc i) d (omega arith)) in
-    let s = decimal_short n (h zero 0 (omega arith)) in
-    omega arith
+abbrev widths : List Operand → ℕ
+widths [] = 0
+widths (o ∷ os) = widest o + (1 + widths os)
+
+-- the word of an operand
+record OperandLine (text : ℕ → List ℕ) (o : Operand) : Type 0 where
+  word : Word (operand_word text o)
+  short : length (operand_word text o) ≤ widest o
+
+operand_line : (all : List (List ℕ)) (o : Operand) → OperandFits o → IfSome (named_by o) (NameFits all) → OperandLine (text_of all) o
+operand_line all (O.Register n) h good = let s = decimal_short n h in record { word = register_word n h; short = omega arith }
+operand_line all (O.Field n) h good = let s = decimal_short n h in record { word = field_word n h; short = omega arith }
+operand_line all (O.Number n) h good = record { word = decimal_word n h; short = decimal_short n h }
+operand_line all (O.Name name) h good = let w = name_word (text_of all name) good.form in record { word = w.word; short = w.short }
+
+record OperandsLine (text : ℕ → List ℕ) (os : List Operand) : Type 0 where
+  words : AllByRecursion Word (map (operand_word text) os)
+  short : room (map (operand_word text) os) ≤ widths os
+
+operands_line : (all : List (List ℕ)) (os : List Operand) → AllByRecursion OperandFits os → AllByRecursion (λ o. IfSome (named_by o) (NameFits all)) os → OperandsLine (text_of all) os
+operands_line all [] h good = record { words = tt; short = omega arith }
+operands_line all (o ∷ os) h good =
+    let first = operand_line all o h.0 good.0 in
+    let rest = operands_line all os h.1 good.1 in
+    let a = first.short in
+    let b = rest.short in
+    record { words = (first.word, rest.words); short = omega arith }
+
+widths_behind : (ns : List ℕ) → widths (map O.Register ns) ≡ 22 * length (map O.Register ns)
+widths_behind [] = refl
+widths_behind (n ∷ ns) = let r = widths_behind ns in omega arith
+
+-- an operation's word
+record SpelledWell (code : Opcode) : Type 0 where
+  some : 0 < length (spelling code)
+  seen : list_all is_visible (spelling code) ≡ true
+  short : length (spelling code) ≤ 5
+
+spelled_well : (code : Opcode) → SpelledWell code
+spelled_well C.Drop = record { some = omega arith; seen = refl; short = omega arith }
+spelled_well C.Int = record { some = omega arith; seen = refl; short = omega arith }
+spelled_well C.Own = record { some = omega arith; seen = refl; short = omega arith }
+spelled_well C.Copy = record { some = omega arith; seen = refl; short = omega arith }
+spelled_well C.Add = record { some = omega arith; seen = refl; short = omega arith }
+spelled_well C.Sub = record { some = omega arith; seen = refl; short = omega arith }
+spelled_well C.Mul = record { some = omega arith; seen = refl; short = omega arith }
+spelled_well C.Less = record { some = omega arith; seen = refl; short = omega arith }
+spelled_well C.Same = record { some = omega arith; seen = refl; short = omega arith }
+spelled_well C.Row = record { some = omega arith; seen = refl; short = omega arith }
+spelled_well C.Get = record { some = omega arith; seen = refl; short = omega arith }
+spelled_well C.Load = record { some = omega arith; seen = refl; short = omega arith }
+spelled_well C.Store = record { some = omega arith; seen = refl; short = omega arith }
+spelled_well C.Jump = record { some = omega arith; seen = refl; short = omega arith }
+spelled_well C.JumpZero = record { some = omega arith; seen = refl; short = omega arith }
+spelled_well C.Label = record { some = omega arith; seen = refl; short = omega arith }
+spelled_well C.Pin = record { some = omega arith; seen = refl; short = omega arith }
+spelled_well C.Unpin = record { some = omega arith; seen = refl; short = omega arith }
+spelled_well C.New = record { some = omega arith; seen = refl; short = omega arith }
+spelled_well C.Send = record { some = omega arith; seen = refl; short = omega arith }
+spelled_well C.Print = record { some = omega arith; seen = refl; short = omega arith }
+
+few_widths : (i : Instr) → HasItsCount i → widths (operands_in i) ≤ 250
+few_widths (I.Drop d) h = omega arith
+few_widths (I.Int d n) h = omega arith
+few_widths (I.Own d) h = omega arith
+few_widths (I.Copy d s) h = omega arith
+few_widths (I.Add d a b) h = omega arith
+few_widths (I.Sub d a b) h = omega arith
+few_widths (I.Mul d a b) h = omega arith
+few_widths (I.Less d a b) h = omega arith
+few_widths (I.Same d a b) h = omega arith
+few_widths (I.Row d values) h = let most = h.1 in omega (arith, widths_behind values)
+few_widths (I.Get d s n) h = omega arith
+few_widths (I.Load d f) h = omega arith
+few_widths (I.Store f s) h = omega arith
+few_widths (I.Jump l) h = omega arith
+few_widths (I.JumpZero a l) h = omega arith
+few_widths (I.Label l) h = omega arith
+few_widths I.Pin h = omega arith
+few_widths I.Unpin h = omega arith
+few_widths (I.New d k) h = omega arith
+few_widths (I.Send to b values) h = let most = h.1 in omega (arith, widths_behind values)
+few_widths (I.Print a) h = omega arith
 
 instr_line : (all : List (List ℕ)) (i : Instr) → InstrIsWellFormed all i → Line (instr_words (text_of all) i)
-instr_line all (I.Drop d) g = let s_d = decimal_short d g.fits in record { words = (record { some = omega arith; seen = refl }, (register_word d g.fits, tt)); short = omega arith; speaks = refl }
-instr_line all (I.Int d n) g = let s_d = decimal_short d g.fits.0 in let s_n = decimal_short n g.fits.1 in record { words = (record { some = omega arith; seen = refl }, (register_word d g.fits.0, (decimal_word n g.fits.1, tt))); short = omega arith; speaks = refl }
-instr_line all (I.Own d) g = let s_d = decimal_short d g.fits in record { words = (record { some = omega arith; seen = refl }, (register_word d g.fits, tt)); short = omega arith; speaks = refl }
-instr_line all (I.Copy d s) g = let s_d = decimal_short d g.fits.0 in let s_s = decimal_short s g.fits.1 in record { words = (record { some = omega arith; seen = refl }, (register_word d g.fits.0, (register_word s g.fits.1, tt))); short = omega arith; speaks = refl }
-instr_line all (I.Add d a b) g = let s_d = decimal_short d g.fits.0 in let s_a = decimal_short a g.fits.1 in let s_b = decimal_short b g.fits.2 in record { words = (record { some = omega arith; seen = refl }, (register_word d g.fits.0, (register_word a g.fits.1, (register_word b g.fits.2, tt)))); short = omega arith; speaks = refl }
-instr_line all (I.Sub d a b) g = let s_d = decimal_short d g.fits.0 in let s_a = decimal_short a g.fits.1 in let s_b = decimal_short b g.fits.2 in record { words = (record { some = omega arith; seen = refl }, (register_word d g.fits.0, (register_word a g.fits.1, (register_word b g.fits.2, tt)))); short = omega arith; speaks = refl }
-instr_line all (I.Mul d a b) g = let s_d = decimal_short d g.fits.0 in let s_a = decimal_short a g.fits.1 in let s_b = decimal_short b g.fits.2 in record { words = (record { some = omega arith; seen = refl }, (register_word d g.fits.0, (register_word a g.fits.1, (register_word b g.fits.2, tt)))); short = omega arith; speaks = refl }
-instr_line all (I.Less d a b) g = let s_d = decimal_short d g.fits.0 in let s_a = decimal_short a g.fits.1 in let s_b = decimal_short b g.fits.2 in record { words = (record { some = omega arith; seen = refl }, (register_word d g.fits.0, (register_word a g.fits.1, (register_word b g.fits.2, tt)))); short = omega arith; speaks = refl }
-instr_line all (I.Same d a b) g = let s_d = decimal_short d g.fits.0 in let s_a = decimal_short a g.fits.1 in let s_b = decimal_short b g.fits.2 in record { words = (record { some = omega arith; seen = refl }, (register_word d g.fits.0, (register_word a g.fits.1, (register_word b g.fits.2, tt)))); short = omega arith; speaks = refl }
-instr_line all (I.Row d values) g = let s_d = decimal_short d g.fits.0 in let few = g.fits.2 in let r = registers_room values g.fits.3 in record { words = (record { some = omega arith; seen = refl }, (register_word d g.fits.0, registers_words values g.fits.3)); short = omega arith; speaks = refl }
-instr_line all (I.Get d s n) g = let s_d = decimal_short d g.fits.0 in let s_s = decimal_short s g.fits.1 in let s_n = decimal_short n g.fits.2 in record { words = (record { some = omega arith; seen = refl }, (register_word d g.fits.0, (register_word s g.fits.1, (decimal_word n g.fits.2, tt)))); short = omega arith; speaks = refl }
-instr_line all (I.Load d f) g = let s_d = decimal_short d g.fits.0 in let s_f = decimal_short f g.fits.1 in record { words = (record { some = omega arith; seen = refl }, (register_word d g.fits.0, (field_word f g.fits.1, tt))); short = omega arith; speaks = refl }
-instr_line all (I.Store f s) g = let s_f = decimal_short f g.fits.0 in let s_s = decimal_short s g.fits.1 in record { words = (record { some = omega arith; seen = refl }, (field_word f g.fits.0, (register_word s g.fits.1, tt))); short = omega arith; speaks = refl }
-instr_line all (I.Jump l) g = let w_l = name_word (text_of all l) g.named.form in let s_l = w_l.short in record { words = (record { some = omega arith; seen = refl }, (w_l.word, tt)); short = omega arith; speaks = refl }
-instr_line all (I.JumpZero a l) g = let s_a = decimal_short a g.fits in let w_l = name_word (text_of all l) g.named.form in let s_l = w_l.short in record { words = (record { some = omega arith; seen = refl }, (register_word a g.fits, (w_l.word, tt))); short = omega arith; speaks = refl }
-instr_line all (I.Label l) g = let w_l = name_word (text_of all l) g.named.form in let s_l = w_l.short in record { words = (record { some = omega arith; seen = refl }, (w_l.word, tt)); short = omega arith; speaks = refl }
-instr_line all I.Pin g = record { words = (record { some = omega arith; seen = refl }, tt); short = omega arith; speaks = refl }
-instr_line all I.Unpin g = record { words = (record { some = omega arith; seen = refl }, tt); short = omega arith; speaks = refl }
-instr_line all (I.New d k) g = let s_d = decimal_short d g.fits in let w_k = name_word (text_of all k) g.named.form in let s_k = w_k.short in record { words = (record { some = omega arith; seen = refl }, (register_word d g.fits, (w_k.word, tt))); short = omega arith; speaks = refl }
-instr_line all (I.Send to b values) g = let s_to = decimal_short to g.fits.0 in let w_b = name_word (text_of all b) g.named.form in let s_b = w_b.short in let few = g.fits.1 in let r = registers_room values g.fits.2 in record { words = (record { some = omega arith; seen = refl }, (register_word to g.fits.0, (w_b.word, registers_words values g.fits.2))); short = omega arith; speaks = refl }
-instr_line all (I.Print a) g = let s_a = decimal_short a g.fits in record { words = (record { some = omega arith; seen = refl }, (register_word a g.fits, tt)); short = omega arith; speaks = refl }
+instr_line all i g =
+    let w = spelled_well (opcode_of i) in
+    let line = operands_line all (operands_in i) g.fits.1 (names_all (NameFits all) i g.named) in
+    let a = w.short in
+    let b = line.short in
+    let c = few_widths i g.fits.0 in
+    record {
+      words = (record { some = w.some; seen = w.seen }, line.words);
+      short = omega arith;
+      speaks = ap not (no_hash (W.Instr (opcode_of i)));
+    }
 
 end_line : Line behaviour_end
 end_line = record { words = (record { some = omega arith; seen = refl }, tt); short = omega arith; speaks = refl }

@@ -17,8 +17,8 @@ use Rattle.behaviour_text.specs.Reading.{start, close_kind_at, close_kind, read_
 use Rattle.behaviour_text.specs.Text.{kind_lines, said_lines}
 use Rattle.behaviour_text.specs.declared.errors.TextErr.{TextErr}
 use Rattle.behaviour_text.specs.declared.reader.Reader.{Reader}
-use Rattle.behaviour_code.specs.declared.instr.Instr.TheVariants as I
 use Rattle.behaviour_text.specs.declared.errors.FaultKind.{FaultKind}
+use Rattle.behaviour_text.proofs.Instructions.{if_some_weaker}
 
 name_at : (names : List (List ℕ)) (i : ℕ) → AllByRecursion (λ w. is_name w ≡ true) names → i < length names → is_name (slice_index_or names i []) ≡ true
 name_at [] i h k = absurd (omega arith)
@@ -29,12 +29,7 @@ name_fits : (names : List (List ℕ)) (n : ℕ) → NamesOk names → n < length
 name_fits names n ok h = record { within = h; form = name_at names n ok.each h }
 
 instr_name : (names : List (List ℕ)) (i : Instr) → NamesOk names → InstrKnown (length names) i → IfSome (name_in i) (NameFits names)
-instr_name names (I.Jump l) ok h = name_fits names l ok h
-instr_name names (I.JumpZero a l) ok h = name_fits names l ok h
-instr_name names (I.Label l) ok h = name_fits names l ok h
-instr_name names (I.New d k) ok h = name_fits names k ok h
-instr_name names (I.Send to b values) ok h = name_fits names b ok h
-instr_name names _ ok h = tt
+instr_name names i ok h = if_some_weaker (λ n. n < length names) (NameFits names) (name_in i) (λ n within. name_fits names n ok within) h
 
 instrs_good : (names : List (List ℕ)) (is : List Instr) → NamesOk names → AllByRecursion (InstrKnown (length names)) is → AllByRecursion InstrFits is → AllByRecursion (InstrIsWellFormed names) is
 instrs_good names [] ok k s = tt

@@ -12,7 +12,14 @@ use Rattle.behaviour_text.specs.Text.{instr_words, behaviour_begin, kind_begin, 
 use Rattle.behaviour_text.specs.declared.place.Stage.{Stage}
 use Rattle.behaviour_text.specs.declared.place.Stage.TheVariants.{Start, InKind, InBehaviour}
 use Rattle.behaviour_text.specs.declared.reader.Reader.{Reader}
-use Rattle.behaviour_code.specs.declared.instr.Instr.TheVariants as I
+use Rattle.std.proofs.Common.{IfSome}
+use Rattle.behaviour_code.specs.declared.operand.Operand.{Operand}
+use Rattle.behaviour_code.specs.declared.operand.Operand.TheVariants as O
+use Rattle.behaviour_code.specs.Opcodes.{spelling}
+use Rattle.behaviour_code.specs.Operands.{opcode_of, operands_in}
+use Rattle.behaviour_code.specs.WellFormed.{name_in, named_by}
+use Rattle.behaviour_text.proofs.Instructions.{names_all}
+use Rattle.behaviour_text.specs.Text.{operand_word}
 
 map_same : {X Y : Type 0} (P : X → Type 0) (f g : X → Y) (xs : List X) → ((x : X) → P x → f x ≡ g x) → AllByRecursion P xs → map f xs ≡ map g xs
 map_same P f g [] h e = refl
@@ -23,12 +30,7 @@ flat_same P f g [] h e = refl
 flat_same P f g (x ∷ xs) h e = ap₂ (λ a b. a ++ b) (h x e.0) (flat_same P f g xs h e.1)
 
 abbrev pub InstrKnown : ℕ → Instr → Type 0
-InstrKnown m (I.Jump l) = l < m
-InstrKnown m (I.JumpZero a l) = l < m
-InstrKnown m (I.Label l) = l < m
-InstrKnown m (I.New d k) = k < m
-InstrKnown m (I.Send t b values) = b < m
-InstrKnown m _ = ⊤
+InstrKnown m i = IfSome (name_in i) (λ n. n < m)
 
 pub record BehaviourKnown (m : ℕ) (b : Behaviour) : Type 0 where
   pub name : b.name < m
@@ -57,13 +59,16 @@ KnownAt m r stage = AllByRecursion (KindKnown m) r.kinds × OpenKnown m r stage
 abbrev Agree : ℕ → (ℕ → List ℕ) → (ℕ → List ℕ) → Type 0
 Agree m f g = (n : ℕ) → n < m → f n ≡ g n
 
+operand_same : (m : ℕ) (f g : ℕ → List ℕ) → Agree m f g → (o : Operand) → IfSome (named_by o) (λ n. n < m) → operand_word f o ≡ operand_word g o
+operand_same m f g same (O.Register n) h = refl
+operand_same m f g same (O.Field n) h = refl
+operand_same m f g same (O.Number n) h = refl
+operand_same m f g same (O.Name name) h = same name h
+
 instr_same : (m : ℕ) (f g : ℕ → List ℕ) → Agree m f g → (i : Instr) → InstrKnown m i → instr_words f i ≡ instr_words g i
-instr_same m f g same (I.Jump l) h = ap (λ (t : List ℕ). instr_words (λ _. t) (I.Jump l)) (same l h)
-instr_same m f g same (I.JumpZero a l) h = ap (λ (t : List ℕ). instr_words (λ _. t) (I.JumpZero a l)) (same l h)
-instr_same m f g same (I.Label l) h = ap (λ (t : List ℕ). instr_words (λ _. t) (I.Label l)) (same l h)
-instr_same m f g same (I.New d k) h = ap (λ (t : List ℕ). instr_words (λ _. t) (I.New d k)) (same k h)
-instr_same m f g same (I.Send to b values) h = ap (λ (t : List ℕ). instr_words (λ _. t) (I.Send to b values)) (same b h)
-instr_same m f g same _ h = refl
+instr_same m f g same i h =
+    ap (λ (ws : List (List ℕ)). spelling (opcode_of i) ∷ ws)
+    (map_same (λ (o : Operand). IfSome (named_by o) (λ n. n < m)) (operand_word f) (operand_word g) (operands_in i) (operand_same m f g same) (names_all (λ n. n < m) i h))
 
 behaviour_same : (m : ℕ) (f g : ℕ → List ℕ) → Agree m f g → (b : Behaviour) → BehaviourKnown m b → behaviour_lines f b ≡ behaviour_lines g b
 behaviour_same m f g same b h =

@@ -3,12 +3,14 @@ pub mod Canonical
 pub mod Choices
 pub mod FirstWords
 pub mod Goodness
+pub mod Instructions
 pub mod Known
 pub mod Limits
 pub mod Named
 pub mod Numerals
 pub mod Operands
 pub mod Places
+pub mod Printed
 pub mod Reread
 pub mod Said
 pub mod Shapes

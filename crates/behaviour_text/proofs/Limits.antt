@@ -1,14 +1,14 @@
 -- What is read keeps the limits.
 use Rattle.behaviour_text.proofs.Steps.{end_read, line_read}
 use Rattle.behaviour_text.proofs.Choices.{both, neither, option_or_none, no_fault, each_push}
-use Rattle.std.proofs.Common.{◌≡◌, ℕ, ◌+◌, ◌<◌, ◌≤◌, ◌^◌, ◌&&◌, Bool, true, false, List, [], ◌∷◌, ◌++◌, length, drop, map, refl, sym, subst, arith, Option, Some, None, if◌then◌else◌, nat_lt, ltb-true, ltb-false, length-append, length-drop, zero, suc, All, Ok}
+use Rattle.std.proofs.Common.{◌≡◌, ℕ, ◌+◌, ◌<◌, ◌≤◌, ◌^◌, ◌&&◌, Bool, true, false, List, [], ◌∷◌, ◌++◌, length, drop, map, refl, sym, subst, arith, Option, Some, None, if◌then◌else◌, nat_lt, ltb-true, ltb-false, length-append, length-drop, Ok}
 use Rattle.std.specs.List.{AllByRecursion}
 use Rattle.std.specs.Str.Parse.{digits_value}
 use Rattle.std.proofs.lemmas.List.{length-map}
 use Rattle.behaviour_text.proofs.Shapes.{fits, enough}
 use Rattle.behaviour_text.proofs.Said.{on_place, inside_place}
 use Rattle.std.specs.Option.{unwrap_or}
-use Rattle.behaviour_code.specs.WellFormed.{Fits64, InstrFits}
+use Rattle.behaviour_code.specs.WellFormed.{InstrFits}
 use Rattle.behaviour_code.specs.declared.code.Behaviour.{Behaviour}
 use Rattle.behaviour_code.specs.declared.code.Kind.{Kind}
 use Rattle.behaviour_code.specs.declared.instr.Instr.{Instr}
@@ -25,6 +25,8 @@ use Rattle.behaviour_code.specs.declared.opcode.Opcode.{Opcode}
 use Rattle.behaviour_text.specs.declared.table.LineWord.TheVariants as W
 use Rattle.behaviour_code.specs.declared.opcode.Opcode.TheVariants as C
 use Rattle.behaviour_text.specs.declared.errors.FaultKind.TheVariants as K
+use Rattle.behaviour_code.specs.declared.operand.Operand.TheVariants as O
+use Rattle.behaviour_code.specs.WellFormed.{OperandFits}
 
 bound : (b : Bool) (n : ℕ) → unwrap_or (if b && nat_lt n (2 ^ 64) then Some n else None) 0 < 2 ^ 64
 bound b n = by_test (b && nat_lt n (2 ^ 64)) refl
@@ -36,38 +38,43 @@ bound b n = by_test (b && nat_lt n (2 ^ 64)) refl
 number_small : (w : List ℕ) → number_of w < 2 ^ 64
 number_small w = bound (has_numeral_form w) (digits_value 10 w)
 
-registers_small : (ws : List (List ℕ)) → All Fits64 (map register_of ws)
-registers_small [] i d h = absurd (omega arith)
-registers_small (w ∷ ws) zero d h = number_small (drop 1 w)
-registers_small (w ∷ ws) (suc i) d h = registers_small ws i d (omega arith)
+registers_small : (ws : List (List ℕ)) → AllByRecursion OperandFits (map O.Register (map register_of ws))
+registers_small [] = tt
+registers_small (w ∷ ws) = (number_small (drop 1 w), registers_small ws)
 
 instr_small : (code : Opcode) (name : ℕ) (ws : List (List ℕ)) → fits_count (W.Instr code) (length ws) ≡ true → InstrFits (instr_of code name ws)
 unfolding instr_of
-instr_small C.Drop name ws h = number_small (drop 1 (word_at ws 0))
-instr_small C.Int name ws h = (number_small (drop 1 (word_at ws 0)), number_small (word_at ws 1))
-instr_small C.Own name ws h = number_small (drop 1 (word_at ws 0))
-instr_small C.Copy name ws h = (number_small (drop 1 (word_at ws 0)), number_small (drop 1 (word_at ws 1)))
-instr_small C.Add name ws h = (number_small (drop 1 (word_at ws 0)), number_small (drop 1 (word_at ws 1)), number_small (drop 1 (word_at ws 2)))
-instr_small C.Sub name ws h = (number_small (drop 1 (word_at ws 0)), number_small (drop 1 (word_at ws 1)), number_small (drop 1 (word_at ws 2)))
-instr_small C.Mul name ws h = (number_small (drop 1 (word_at ws 0)), number_small (drop 1 (word_at ws 1)), number_small (drop 1 (word_at ws 2)))
-instr_small C.Less name ws h = (number_small (drop 1 (word_at ws 0)), number_small (drop 1 (word_at ws 1)), number_small (drop 1 (word_at ws 2)))
-instr_small C.Same name ws h = (number_small (drop 1 (word_at ws 0)), number_small (drop 1 (word_at ws 1)), number_small (drop 1 (word_at ws 2)))
+instr_small C.Drop name ws h = ((omega arith, omega arith), (number_small (drop 1 (word_at ws 0)), tt))
+instr_small C.Int name ws h = ((omega arith, omega arith), (number_small (drop 1 (word_at ws 0)), (number_small (word_at ws 1), tt)))
+instr_small C.Own name ws h = ((omega arith, omega arith), (number_small (drop 1 (word_at ws 0)), tt))
+instr_small C.Copy name ws h = ((omega arith, omega arith), (number_small (drop 1 (word_at ws 0)), (number_small (drop 1 (word_at ws 1)), tt)))
+instr_small C.Add name ws h = ((omega arith, omega arith), (number_small (drop 1 (word_at ws 0)), (number_small (drop 1 (word_at ws 1)), (number_small (drop 1 (word_at ws 2)), tt))))
+instr_small C.Sub name ws h = ((omega arith, omega arith), (number_small (drop 1 (word_at ws 0)), (number_small (drop 1 (word_at ws 1)), (number_small (drop 1 (word_at ws 2)), tt))))
+instr_small C.Mul name ws h = ((omega arith, omega arith), (number_small (drop 1 (word_at ws 0)), (number_small (drop 1 (word_at ws 1)), (number_small (drop 1 (word_at ws 2)), tt))))
+instr_small C.Less name ws h = ((omega arith, omega arith), (number_small (drop 1 (word_at ws 0)), (number_small (drop 1 (word_at ws 1)), (number_small (drop 1 (word_at ws 2)), tt))))
+instr_small C.Same name ws h = ((omega arith, omega arith), (number_small (drop 1 (word_at ws 0)), (number_small (drop 1 (word_at ws 1)), (number_small (drop 1 (word_at ws 2)), tt))))
 instr_small C.Row name ws h =
     let e = enough (W.Instr C.Row) (length ws) h in
-    (number_small (drop 1 (word_at ws 0)), omega (arith, length-map (drop 1 ws) register_of, length-drop 1 ws), omega (arith, length-map (drop 1 ws) register_of, length-drop 1 ws), registers_small (drop 1 ws))
-instr_small C.Get name ws h = (number_small (drop 1 (word_at ws 0)), number_small (drop 1 (word_at ws 1)), number_small (word_at ws 2))
-instr_small C.Load name ws h = (number_small (drop 1 (word_at ws 0)), number_small (drop 1 (word_at ws 1)))
-instr_small C.Store name ws h = (number_small (drop 1 (word_at ws 0)), number_small (drop 1 (word_at ws 1)))
-instr_small C.Jump name ws h = tt
-instr_small C.JumpZero name ws h = number_small (drop 1 (word_at ws 0))
-instr_small C.Label name ws h = tt
-instr_small C.Pin name ws h = tt
-instr_small C.Unpin name ws h = tt
-instr_small C.New name ws h = number_small (drop 1 (word_at ws 0))
+    let values = map register_of (drop 1 ws) in
+    let count : length (map O.Register values) + 1 ≡ length ws =
+    omega (arith, length-map values O.Register, length-map (drop 1 ws) register_of, length-drop 1 ws) in
+    ((omega arith, omega arith), (number_small (drop 1 (word_at ws 0)), registers_small (drop 1 ws)))
+instr_small C.Get name ws h = ((omega arith, omega arith), (number_small (drop 1 (word_at ws 0)), (number_small (drop 1 (word_at ws 1)), (number_small (word_at ws 2), tt))))
+instr_small C.Load name ws h = ((omega arith, omega arith), (number_small (drop 1 (word_at ws 0)), (number_small (drop 1 (word_at ws 1)), tt)))
+instr_small C.Store name ws h = ((omega arith, omega arith), (number_small (drop 1 (word_at ws 0)), (number_small (drop 1 (word_at ws 1)), tt)))
+instr_small C.Jump name ws h = ((omega arith, omega arith), (tt, tt))
+instr_small C.JumpZero name ws h = ((omega arith, omega arith), (number_small (drop 1 (word_at ws 0)), (tt, tt)))
+instr_small C.Label name ws h = ((omega arith, omega arith), (tt, tt))
+instr_small C.Pin name ws h = ((omega arith, omega arith), tt)
+instr_small C.Unpin name ws h = ((omega arith, omega arith), tt)
+instr_small C.New name ws h = ((omega arith, omega arith), (number_small (drop 1 (word_at ws 0)), (tt, tt)))
 instr_small C.Send name ws h =
     let e = enough (W.Instr C.Send) (length ws) h in
-    (number_small (drop 1 (word_at ws 0)), omega (arith, length-map (drop 2 ws) register_of, length-drop 2 ws), registers_small (drop 2 ws))
-instr_small C.Print name ws h = number_small (drop 1 (word_at ws 0))
+    let values = map register_of (drop 2 ws) in
+    let count : length (map O.Register values) + 2 ≡ length ws =
+    omega (arith, length-map values O.Register, length-map (drop 2 ws) register_of, length-drop 2 ws) in
+    ((omega arith, omega arith), (number_small (drop 1 (word_at ws 0)), (tt, registers_small (drop 2 ws))))
+instr_small C.Print name ws h = ((omega arith, omega arith), (number_small (drop 1 (word_at ws 0)), tt))
 
 pub record BehaviourSmall (b : Behaviour) : Type 0 where
   pub few : b.parameters ≤ 8

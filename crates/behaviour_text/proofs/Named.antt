@@ -6,7 +6,7 @@ use Rattle.std.specs.List.{AllByRecursion, list_any}
 use Rattle.std.proofs.lemmas.Bool.{cases_lt}
 use Rattle.std.proofs.lemmas.Slice.Eq.{bytes_eq-Decides}
 use Rattle.behaviour_text.proofs.Shapes.{names_are}
-use Rattle.behaviour_text.proofs.Reread.{opcode_for, operands_for, words_for, spelled_word}
+use Rattle.behaviour_text.proofs.Reread.{spelled_word}
 use Rattle.behaviour_code.specs.WellFormed.{name_in, AreApart, instr_names, body_names, behaviours_names, kinds_names}
 use Rattle.behaviour_code.specs.Names.{is_name, with_text}
 use Rattle.behaviour_code.specs.declared.code.Behaviour.{Behaviour}
@@ -22,6 +22,9 @@ use Rattle.behaviour_text.specs.declared.reader.Reader.{Reader}
 use Rattle.behaviour_text.specs.declared.table.LineWord.{LineWord}
 use Rattle.behaviour_text.specs.declared.table.LineWord.TheVariants as W
 use Rattle.behaviour_code.specs.declared.instr.Instr.TheVariants as I
+use Rattle.behaviour_code.specs.Operands.{opcode_of, operands_in}
+use Rattle.behaviour_text.proofs.Instructions.{row_unnamed}
+use Rattle.behaviour_text.specs.Text.{operand_word}
 
 any_at : (text : List ℕ) (names : List (List ℕ)) (i : ℕ) → i < length names → slice_index_or names i [] ≡ text → list_any (bytes_eq text) names ≡ true
 any_at text [] i h e = absurd (omega arith)
@@ -135,7 +138,7 @@ read_adds n r s (line ∷ lines) e =
     }
 
 -- the names of a program's lines are those of the program
-operand_name : (text : ℕ → List ℕ) (i : Instr) → named_word (Some (W.Instr (opcode_for i))) (operands_for text i) ≡ option_map text (name_in i)
+operand_name : (text : ℕ → List ℕ) (i : Instr) → named_word (Some (W.Instr (opcode_of i))) (map (operand_word text) (operands_in i)) ≡ option_map text (name_in i)
 operand_name text (I.Drop d) = refl
 operand_name text (I.Int d n) = refl
 operand_name text (I.Own d) = refl
@@ -145,7 +148,7 @@ operand_name text (I.Sub d a b) = refl
 operand_name text (I.Mul d a b) = refl
 operand_name text (I.Less d a b) = refl
 operand_name text (I.Same d a b) = refl
-operand_name text (I.Row d values) = refl
+operand_name text (I.Row d values) = ap (option_map text) (row_unnamed values)
 operand_name text (I.Get d s n) = refl
 operand_name text (I.Load d f) = refl
 operand_name text (I.Store f s) = refl
@@ -164,8 +167,7 @@ by_name names text (Some n) = refl
 
 instr_name : (names : List (List ℕ)) (text : ℕ → List ℕ) (i : Instr) → with_line names (line_name (instr_words text i)) ≡ instr_names text names (name_in i)
 instr_name names text i =
-    ap (λ (ws : List (List ℕ)). with_line names (line_name ws)) (words_for text i)
-    ∙ ap (λ (o : Option LineWord). with_line names (named_word o (operands_for text i))) (spelled_word (W.Instr (opcode_for i)))
+    ap (λ (o : Option LineWord). with_line names (named_word o (map (operand_word text) (operands_in i)))) (spelled_word (W.Instr (opcode_of i)))
     ∙ ap (with_line names) (operand_name text i) ∙ by_name names text (name_in i)
 
 body_same : (text : ℕ → List ℕ) (names : List (List ℕ)) (is : List Instr) → lines_names names (map (instr_words text) is) ≡ body_names text names is

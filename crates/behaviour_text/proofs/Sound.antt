@@ -24,16 +24,14 @@ use Rattle.behaviour_text.specs.declared.table.LineWord.{LineWord}
 use Rattle.behaviour_code.specs.declared.opcode.Opcode.{Opcode}
 use Rattle.behaviour_text.specs.declared.table.LineWord.TheVariants as W
 use Rattle.behaviour_code.specs.declared.opcode.Opcode.TheVariants as C
-use Rattle.behaviour_code.specs.declared.instr.Instr.TheVariants as I
 use Rattle.behaviour_text.specs.declared.errors.FaultKind.{FaultKind}
+use Rattle.std.proofs.Common.{drop}
+use Rattle.behaviour_code.specs.WellFormed.{name_in}
+use Rattle.behaviour_text.proofs.Instructions.{if_some_weaker, row_unnamed}
+use Rattle.behaviour_text.specs.Items.{register_of}
 
 instr_weaker : (m n : ℕ) → m ≤ n → (i : Instr) → InstrKnown m i → InstrKnown n i
-instr_weaker m n le (I.Jump l) h = omega arith
-instr_weaker m n le (I.JumpZero a l) h = omega arith
-instr_weaker m n le (I.Label l) h = omega arith
-instr_weaker m n le (I.New d k) h = omega arith
-instr_weaker m n le (I.Send to b values) h = omega arith
-instr_weaker m n le _ h = tt
+instr_weaker m n le i h = if_some_weaker (λ k. k < m) (λ k. k < n) (name_in i) (λ k less. omega arith) h
 
 behaviour_weaker : (m n : ℕ) → m ≤ n → (b : Behaviour) → BehaviourKnown m b → BehaviourKnown n b
 behaviour_weaker m n le b h = record { name = let a = h.name in omega arith; body = each_weaker (InstrKnown m) (InstrKnown n) b.body (instr_weaker m n le) h.body }
@@ -71,6 +69,7 @@ instr_known m C.JumpZero name ws h = h
 instr_known m C.Label name ws h = h
 instr_known m C.New name ws h = h
 instr_known m C.Send name ws h = h
+instr_known m C.Row name ws h = subst (λ (o : Option ℕ). IfSome o (λ n. n < m)) (row_unnamed (map register_of (drop 1 ws))) tt
 instr_known m _ name ws h = tt
 
 with_instr_known : (m : ℕ) (r : Reader) (i : Instr) → r.stage ≡ InBehaviour → KnownAt m r r.stage → InstrKnown m i → KnownAt m (with_instr r i) (with_instr r i).stage

@@ -20,6 +20,8 @@ use Rattle.behaviour_code.specs.declared.opcode.Opcode.TheVariants as C
 use Rattle.behaviour_code.specs.declared.opcode.OperandKind.TheVariants as P
 use Rattle.behaviour_text.specs.declared.errors.FaultKind.{FaultKind}
 use Rattle.behaviour_text.specs.declared.errors.FaultKind.TheVariants as K
+use Rattle.behaviour_code.specs.declared.operand.Operand.TheVariants as O
+use Rattle.behaviour_text.specs.Text.{operand_word}
 
 -- numerals have one form
 single : (ds : List ℕ) → has_numeral_form ds ≡ true → get_or ds 0 0 ≡ 48 → length ds ≡ 1
@@ -108,9 +110,9 @@ more_of [] h = absurd (omega arith)
 more_of (w ∷ []) h = absurd (omega arith)
 more_of (w ∷ v ∷ ws) h = refl
 
-registers_again : (ws : List (List ℕ)) → respelled [] ws ≡ map register (map register_of ws)
-registers_again [] = refl
-registers_again (w ∷ ws) = ap (λ (xs : List (List ℕ)). register (register_of w) ∷ xs) (registers_again ws)
+registers_again : (text : ℕ → List ℕ) (ws : List (List ℕ)) → respelled [] ws ≡ map (operand_word text) (map O.Register (map register_of ws))
+registers_again text [] = refl
+registers_again text (w ∷ ws) = ap (λ (xs : List (List ℕ)). register (register_of w) ∷ xs) (registers_again text ws)
 
 found : {X : Type 0} (p : X → Bool) (x y : X) (b : Bool) (rest : Option X) → p x ≡ b → cond b (Some x) rest ≡ Some y → (rest ≡ Some y → p y ≡ true) → p y ≡ true
 found p x y true rest e h other = let same : x ≡ y = cc in subst (λ z. p z ≡ true) same e
@@ -157,12 +159,12 @@ spelled_again text C.New name ws h k intern_name =
     ∙ ap (λ (t : List ℕ). word_spelling (W.Instr C.New) ∷ register (register_at ws 0) ∷ t ∷ []) (sym intern_name)
 spelled_again text C.Row name ws h k intern_name =
     subst (λ (xs : List (List ℕ)). word_spelling (W.Instr C.Row) ∷ respelled (word_operands (W.Instr C.Row)) xs ≡ word_spelling (W.Instr C.Row) ∷ register (register_at xs 0) ∷ register (register_at xs 1) ∷ respelled [] (drop 2 xs)) (more_of ws (omega arith)) refl
-    ∙ ap (λ (t : List (List ℕ)). word_spelling (W.Instr C.Row) ∷ register (register_at ws 0) ∷ register (register_at ws 1) ∷ t) (registers_again (drop 2 ws))
-    ∙ subst (λ (xs : List (List ℕ)). word_spelling (W.Instr C.Row) ∷ register (register_at xs 0) ∷ register (register_at xs 1) ∷ map register (map register_of (drop 2 xs)) ≡ instr_words text (instr_of C.Row name xs)) (more_of ws (omega arith)) refl
+    ∙ ap (λ (t : List (List ℕ)). word_spelling (W.Instr C.Row) ∷ register (register_at ws 0) ∷ register (register_at ws 1) ∷ t) (registers_again text (drop 2 ws))
+    ∙ subst (λ (xs : List (List ℕ)). word_spelling (W.Instr C.Row) ∷ register (register_at xs 0) ∷ register (register_at xs 1) ∷ map (operand_word text) (map O.Register (map register_of (drop 2 xs))) ≡ instr_words text (instr_of C.Row name xs)) (more_of ws (omega arith)) refl
 spelled_again text C.Send name ws h k intern_name =
     subst (λ (xs : List (List ℕ)). word_spelling (W.Instr C.Send) ∷ respelled (word_operands (W.Instr C.Send)) xs ≡ word_spelling (W.Instr C.Send) ∷ register (register_at xs 0) ∷ word_at xs 1 ∷ respelled [] (drop 2 xs)) (more_of ws (omega arith)) refl
-    ∙ ap (λ (t : List (List ℕ)). word_spelling (W.Instr C.Send) ∷ register (register_at ws 0) ∷ word_at ws 1 ∷ t) (registers_again (drop 2 ws))
-    ∙ ap (λ (t : List ℕ). word_spelling (W.Instr C.Send) ∷ register (register_at ws 0) ∷ t ∷ map register (map register_of (drop 2 ws))) (sym intern_name)
+    ∙ ap (λ (t : List (List ℕ)). word_spelling (W.Instr C.Send) ∷ register (register_at ws 0) ∷ word_at ws 1 ∷ t) (registers_again text (drop 2 ws))
+    ∙ ap (λ (t : List ℕ). word_spelling (W.Instr C.Send) ∷ register (register_at ws 0) ∷ t ∷ map (operand_word text) (map O.Register (map register_of (drop 2 ws)))) (sym intern_name)
 spelled_again text C.Pin name ws h k intern_name = subst (λ (xs : List (List ℕ)). word_spelling (W.Instr C.Pin) ∷ respelled [] xs ≡ codes "pin" ∷ []) (none_of ws (omega arith)) refl
 spelled_again text C.Unpin name ws h k intern_name = subst (λ (xs : List (List ℕ)). word_spelling (W.Instr C.Unpin) ∷ respelled [] xs ≡ codes "unpin" ∷ []) (none_of ws (omega arith)) refl
 

@@ -3,7 +3,7 @@ use Rattle.behaviour_text.proofs.Choices.{push_grows}
 use Rattle.std.proofs.Common.{◌≡◌, ℕ, ◌<◌, ◌≤◌, Bool, true, false, List, [], ◌∷◌, ◌++◌, length, refl, ap, ap₂, sym, ◌∙◌, subst, arith, Option, Some, None, IfSome, if◌then◌else◌, le-ltb, bytes_eq}
 use Rattle.std.specs.List.{list_any}
 use Rattle.behaviour_text.proofs.Known.{finds, texts_kept}
-use Rattle.behaviour_text.proofs.Reread.{opcode_for, operands_for, words_for, shape_read, instr_read, spelled_word}
+use Rattle.behaviour_text.proofs.Reread.{shape_read, instr_read, spelled_word}
 use Rattle.std.specs.Option.{option_or, unwrap_or}
 use Rattle.behaviour_code.specs.WellFormed.{InstrFits, name_in, AreApart, NameFits, instr_names}
 use Rattle.behaviour_code.specs.Names.{is_name, text_of, with_text, intern}
@@ -21,6 +21,10 @@ use Rattle.behaviour_code.specs.declared.opcode.Opcode.TheVariants as C
 use Rattle.behaviour_code.specs.declared.instr.Instr.TheVariants as I
 use Rattle.behaviour_text.specs.declared.errors.FaultKind.{FaultKind}
 use Rattle.behaviour_text.specs.declared.errors.FaultKind.TheVariants as K
+use Rattle.std.proofs.Common.{map}
+use Rattle.behaviour_code.specs.Operands.{opcode_of, operands_in}
+use Rattle.behaviour_text.proofs.Instructions.{row_unnamed}
+use Rattle.behaviour_text.specs.Text.{operand_word}
 
 -- names is the front of all
 pub record IsFront (names all : List (List ℕ)) : Type 0 where
@@ -51,7 +55,7 @@ instr_named-texts : (names : List (List ℕ)) (text : ℕ → List ℕ) (o : Opt
 instr_named-texts names text None = refl
 instr_named-texts names text (Some name) = refl
 
-named_for : (names : List (List ℕ)) (text : ℕ → List ℕ) (i : Instr) → intern_name names (name_place (W.Instr (opcode_for i))) (operands_for text i) ≡ instr_named names text (name_in i)
+named_for : (names : List (List ℕ)) (text : ℕ → List ℕ) (i : Instr) → intern_name names (name_place (W.Instr (opcode_of i))) (map (operand_word text) (operands_in i)) ≡ instr_named names text (name_in i)
 named_for names text (I.Drop d) = refl
 named_for names text (I.Int d n) = refl
 named_for names text (I.Own d) = refl
@@ -61,7 +65,7 @@ named_for names text (I.Sub d a b) = refl
 named_for names text (I.Mul d a b) = refl
 named_for names text (I.Less d a b) = refl
 named_for names text (I.Same d a b) = refl
-named_for names text (I.Row d values) = refl
+named_for names text (I.Row d values) = ap (instr_named names text) (row_unnamed values)
 named_for names text (I.Get d s n) = refl
 named_for names text (I.Load d f) = refl
 named_for names text (I.Store f s) = refl
@@ -74,7 +78,7 @@ named_for names text (I.New d k) = refl
 named_for names text (I.Send to b values) = refl
 named_for names text (I.Print a) = refl
 
-no_hash : (word : LineWord) → starts_with 35 (word_spelling word) ≡ false
+pub no_hash : (word : LineWord) → starts_with 35 (word_spelling word) ≡ false
 no_hash W.Kind = refl
 no_hash W.On = refl
 no_hash W.End = refl
@@ -131,15 +135,15 @@ pub instr_takes : (all : List (List ℕ)) (r : Reader) (i : Instr) → AreApart 
 unfolding with_instr
 instr_takes all r i apart stage few fits name front =
     let text = text_of all in
-    let word = W.Instr (opcode_for i) in
-    let ws = operands_for text i in
+    let word = W.Instr (opcode_of i) in
+    let ws = map (operand_word text) (operands_in i) in
     let found = instr_named r.names text (name_in i) in
     let renamed : Reader = record r { names = found.1 } in
     let place : place_fault (place_of r) word ws ≡ None = ap₂ inside_fault stage (few_enough (length r.body) few) in
-    let read : instr_of (opcode_for i) found.0 ws ≡ i =
-    ap (λ (n : ℕ). instr_of (opcode_for i) n ws) (name_found r.names all (name_in i) apart name front) ∙ instr_read text i 0 fits in
+    let read : instr_of (opcode_of i) found.0 ws ≡ i =
+    ap (λ (n : ℕ). instr_of (opcode_of i) n ws) (name_found r.names all (name_in i) apart name front) ∙ instr_read text i 0 fits.1 in
     let next : with_named r word (intern_name r.names (name_place word) ws) ws ≡ with_instr renamed i =
     ap (λ (f : ℕ × List (List ℕ)). with_named r word f ws) (named_for r.names text i) ∙ ap (with_instr renamed) read in
     let takes : Takes r (with_instr renamed i) (instr_words text i) =
-    subst (Takes r (with_instr renamed i)) (sym (words_for text i)) (takes_word r (with_instr renamed i) word ws (shape_read text i fits (name_good all (name_in i) name)) place next) in
+    takes_word r (with_instr renamed i) word ws (shape_read text i fits (name_good all (name_in i) name)) place next in
     subst (λ (names : List (List ℕ)). Takes r (record r { names = names; body = r.body ++ i ∷ [] }) (instr_words text i)) (instr_named-texts r.names text (name_in i)) takes

@@ -2,8 +2,11 @@
 use Rattle.std.specs.Prelude.{ℕ, ◌≡◌, Bool, false, List, [], ◌∷◌, ◌++◌, None, All, map, filter, flat_map, not, codes, decimal}
 use Rattle.text_lines.specs.Lines.{lines_of, line_fault}
 use Rattle.behaviour_code.specs.Names.{text_of}
+use Rattle.behaviour_code.specs.Opcodes.{spelling}
+use Rattle.behaviour_code.specs.Operands.{opcode_of, operands_in}
 use Rattle.behaviour_code.specs.declared.instr.Instr.{Instr}
-use Rattle.behaviour_code.specs.declared.instr.Instr.TheVariants as I
+use Rattle.behaviour_code.specs.declared.operand.Operand.{Operand}
+use Rattle.behaviour_code.specs.declared.operand.Operand.TheVariants as O
 use Rattle.behaviour_code.specs.declared.code.Behaviour.{Behaviour}
 use Rattle.behaviour_code.specs.declared.code.Kind.{Kind}
 use Rattle.behaviour_code.specs.declared.code.Program.{Program}
@@ -19,29 +22,16 @@ register n = REGISTER_LETTER ∷ decimal n
 abbrev pub field : ℕ → List ℕ
 field n = FIELD_LETTER ∷ decimal n
 
--- the words of an instruction, whose names have their texts by `text`
+-- the word of an operand, where names have their texts by `text`
+abbrev pub operand_word : (ℕ → List ℕ) → Operand → List ℕ
+operand_word text (O.Register n) = register n
+operand_word text (O.Field n) = field n
+operand_word text (O.Number n) = decimal n
+operand_word text (O.Name name) = text name
+
+-- the words of an instruction
 abbrev pub instr_words : (ℕ → List ℕ) → Instr → List (List ℕ)
-instr_words text (I.Drop d) = codes "drop" ∷ register d ∷ []
-instr_words text (I.Int d n) = codes "int" ∷ register d ∷ decimal n ∷ []
-instr_words text (I.Own d) = codes "self" ∷ register d ∷ []
-instr_words text (I.Copy d s) = codes "copy" ∷ register d ∷ register s ∷ []
-instr_words text (I.Add d a b) = codes "add" ∷ register d ∷ register a ∷ register b ∷ []
-instr_words text (I.Sub d a b) = codes "sub" ∷ register d ∷ register a ∷ register b ∷ []
-instr_words text (I.Mul d a b) = codes "mul" ∷ register d ∷ register a ∷ register b ∷ []
-instr_words text (I.Less d a b) = codes "less" ∷ register d ∷ register a ∷ register b ∷ []
-instr_words text (I.Same d a b) = codes "same" ∷ register d ∷ register a ∷ register b ∷ []
-instr_words text (I.Row d values) = codes "row" ∷ register d ∷ map register values
-instr_words text (I.Get d s n) = codes "get" ∷ register d ∷ register s ∷ decimal n ∷ []
-instr_words text (I.Load d f) = codes "load" ∷ register d ∷ field f ∷ []
-instr_words text (I.Store f s) = codes "store" ∷ field f ∷ register s ∷ []
-instr_words text (I.Jump l) = codes "jump" ∷ text l ∷ []
-instr_words text (I.JumpZero a l) = codes "jzero" ∷ register a ∷ text l ∷ []
-instr_words text (I.Label l) = codes "label" ∷ text l ∷ []
-instr_words text I.Pin = codes "pin" ∷ []
-instr_words text I.Unpin = codes "unpin" ∷ []
-instr_words text (I.New d kind) = codes "new" ∷ register d ∷ text kind ∷ []
-instr_words text (I.Send to behaviour values) = codes "send" ∷ register to ∷ text behaviour ∷ map register values
-instr_words text (I.Print a) = codes "print" ∷ register a ∷ []
+instr_words text i = spelling (opcode_of i) ∷ map (operand_word text) (operands_in i)
 
 -- the line that begins a behaviour, and the one that ends it
 abbrev pub behaviour_begin : (ℕ → List ℕ) → ℕ → ℕ → List (List ℕ)

@@ -1,13 +1,14 @@
 // The canonical text of a program.
 
-ghost use Rattle.std.specs.Prelude.{◌≡◌, ◌++◌, ◌∷◌, [], IfOk, OnOk, None, map, flat_map, string_bytes, codes, decimal};
+ghost use Rattle.std.specs.Prelude.{◌≡◌, ◌++◌, ◌∷◌, [], ℕ, List, IfOk, OnOk, None, map, flat_map, string_bytes, codes, decimal};
+ghost use Rattle.std.specs.Option.{option_to_list};
 ghost use Rattle.behaviour_code.specs.WellFormed.{IsWellFormed};
 ghost use Rattle.behaviour_code.specs.Names.{text_of};
 ghost use Rattle.behaviour_code.specs.declared.code.Program.{Program};
-ghost use Rattle.behaviour_text.specs.Text.{instr_words, behaviour_lines, kind_lines, line_of, rest_of_line, register, canonical, IsText};
+ghost use Rattle.behaviour_text.specs.Text.{instr_words, operand_word, behaviour_lines, kind_lines, line_of, rest_of_line, register, canonical, IsText};
 ghost use Rattle.behaviour_text.specs.Faults.{first_fault};
 
-use behaviour_code::{Behaviour, Instr, Kind, Names, Program};
+use behaviour_code::{Behaviour, Instr, Kind, Names, Operand, Program};
 use orca_names::NoMemory;
 use std::alloc::{AllocError, Global};
 
@@ -22,20 +23,34 @@ fn push_registers(out: &mut String, registers: &[u64]) -> Result<(), AllocError>
     out.push('\n')
 }
 
-fn push_row(out: &mut String, into: u64, values: &[u64]) -> Result<(), AllocError>
-    ensures { OnOk result (string_bytes out.new
-        ≡ string_bytes out.old ++ line_of (codes "row" ∷ register into ∷ map register values.now)) }
+fn push_operand(out: &mut String, names: &Names, operand: Operand) -> Result<(), AllocError>
+    ensures { OnOk result (string_bytes out.new ≡ string_bytes out.old
+        ++ 32 ∷ operand_word (text_of names.now) operand) }
 {
-    write!(out, "row r{into}")?;
-    push_registers(out, values)
+    match operand {
+        Operand::Register(n) => write!(out, " r{n}"),
+        Operand::Field(n) => write!(out, " f{n}"),
+        Operand::Number(n) => write!(out, " {n}"),
+        Operand::Name(name) => push_name(out, names.text_or_empty(name)),
+    }
 }
 
-fn push_send(out: &mut String, to: u64, name: &str, values: &[u64]) -> Result<(), AllocError>
-    ensures { OnOk result (string_bytes out.new
-        ≡ string_bytes out.old ++ line_of (codes "send" ∷ register to ∷ name.now ∷ map register values.now)) }
+fn push_name(out: &mut String, name: &str) -> Result<(), AllocError>
+    ensures { OnOk result (string_bytes out.new ≡ string_bytes out.old ++ 32 ∷ name.now) }
 {
-    write!(out, "send r{to} {name}")?;
-    push_registers(out, values)
+    write!(out, " {name}")
+}
+
+/// An operand that may be there, with more of the line behind it.
+fn push_some(out: &mut String, names: &Names, operand: Option<Operand>) -> Result<(), AllocError>
+    ensures { (others : List (List ℕ)) → OnOk result
+        (string_bytes out.new ++ rest_of_line others ≡ string_bytes out.old
+        ++ rest_of_line (map (operand_word (text_of names.now)) (option_to_list operand) ++ others)) }
+{
+    match operand {
+        Some(operand) => push_operand(out, names, operand),
+        None => Ok(()),
+    }
 }
 
 /// The line of an instruction.
@@ -43,45 +58,12 @@ fn push_instr(out: &mut String, names: &Names, instr: &Instr) -> Result<(), Allo
     ensures { OnOk result (string_bytes out.new ≡ string_bytes out.old
         ++ line_of (instr_words (text_of names.now) instr.now)) }
 {
-    match instr {
-        Instr::Drop(d) => write!(out, "drop r{d}\n"),
-        Instr::Int(d, n) => write!(out, "int r{d} {n}\n"),
-        Instr::Own(d) => write!(out, "self r{d}\n"),
-        Instr::Copy(d, s) => write!(out, "copy r{d} r{s}\n"),
-        Instr::Add(d, a, b) => write!(out, "add r{d} r{a} r{b}\n"),
-        Instr::Sub(d, a, b) => write!(out, "sub r{d} r{a} r{b}\n"),
-        Instr::Mul(d, a, b) => write!(out, "mul r{d} r{a} r{b}\n"),
-        Instr::Less(d, a, b) => write!(out, "less r{d} r{a} r{b}\n"),
-        Instr::Same(d, a, b) => write!(out, "same r{d} r{a} r{b}\n"),
-        Instr::Row(d, values) => push_row(out, *d, values.as_slice()),
-        Instr::Get(d, s, n) => write!(out, "get r{d} r{s} {n}\n"),
-        Instr::Load(d, f) => write!(out, "load r{d} f{f}\n"),
-        Instr::Store(f, s) => write!(out, "store f{f} r{s}\n"),
-        Instr::Jump(l) => push_named(out, "jump", names.text_or_empty(*l)),
-        Instr::JumpZero(a, l) => push_numbered(out, "jzero", *a, names.text_or_empty(*l)),
-        Instr::Label(l) => push_named(out, "label", names.text_or_empty(*l)),
-        Instr::Pin => write!(out, "pin\n"),
-        Instr::Unpin => write!(out, "unpin\n"),
-        Instr::New(d, k) => push_numbered(out, "new", *d, names.text_or_empty(*k)),
-        Instr::Send(t, b, values) => {
-            push_send(out, *t, names.text_or_empty(*b), values.as_slice())
-        }
-        Instr::Print(a) => write!(out, "print r{a}\n"),
-    }
-}
-
-fn push_named(out: &mut String, word: &str, name: &str) -> Result<(), AllocError>
-    ensures { OnOk result (string_bytes out.new ≡ string_bytes out.old
-        ++ line_of (word.now ∷ name.now ∷ [])) }
-{
-    write!(out, "{word} {name}\n")
-}
-
-fn push_numbered(out: &mut String, word: &str, number: u64, name: &str) -> Result<(), AllocError>
-    ensures { OnOk result (string_bytes out.new
-        ≡ string_bytes out.old ++ line_of (word.now ∷ register number ∷ name.now ∷ [])) }
-{
-    write!(out, "{word} r{number} {name}\n")
+    let operands = instr.operands();
+    out.push_str(instr.opcode().spelling())?;
+    push_some(out, names, operands.first)?;
+    push_some(out, names, operands.second)?;
+    push_some(out, names, operands.third)?;
+    push_registers(out, operands.further)
 }
 
 /// The line that begins a kind or a behaviour.
