@@ -1,4 +1,5 @@
 pub mod Added
+pub mod ByPlaces
 pub mod Covers
 pub mod Distinct
 pub mod Elements
@@ -7,6 +8,7 @@ pub mod InOrder
 pub mod LedTo
 pub mod Loads
 pub mod MarkLaws
+pub mod Meeting
 pub mod Named
 pub mod Nothing
 pub mod Noting

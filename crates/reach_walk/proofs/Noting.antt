@@ -31,7 +31,7 @@ module _ (place : Thing → Option ℕ) (count : ℕ) where
       at (Some p) e = (λ c. inr ((told.placed x p e).0 c), λ h. elim h as (λ _. Contains things x) [ inl d ↦ ((told.others x).0 d).0 | inr on ↦ (told.placed x p e).1 on ])
 
   -- the same things in another list
-  tells_same : (noted : Noted) (xs ys : List Thing) → ((x : Thing) → Contains xs x ↔ Contains ys x) → AreTold place count noted xs → AreTold place count noted ys
+  pub tells_same : (noted : Noted) (xs ys : List Thing) → ((x : Thing) → Contains xs x ↔ Contains ys x) → AreTold place count noted xs → AreTold place count noted ys
   tells_same noted xs ys same told = record {
     placed = λ x p e. (λ c. (told.placed x p e).0 ((same x).1 c), λ on. (same x).0 ((told.placed x p e).1 on));
     others = λ x. (λ c. let was = (told.others x).0 c in ((same x).0 was.0, was.1), λ h. (told.others x).1 ((same x).1 h.0, h.1));

@@ -1,6 +1,7 @@
 pub mod Listed
 pub mod MarkLaws
 pub mod Marks
+pub mod Met
 pub mod Reach
 pub mod Rows
 pub mod Walk

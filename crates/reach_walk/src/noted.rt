@@ -36,11 +36,31 @@ impl Noted {
     #[inline(always)]
     pub(crate) fn note<P: Places>(&mut self, thing: &Thing, places: &P) -> Result<bool, NoMemory>
         requires room { P.count places.now ≤ length self.old.bits }
-        ensures { (met : List any_thing) → AreTold (P.place places.now) (P.count places.now) self.old met
+        ensures notes { (met : List any_thing) → AreTold (P.place places.now) (P.count places.now) self.old met
             → IfOk result (λ is_new.
             Notes (P.place places.now) (P.count places.now) self.new met thing.now is_new) }
+        ensures same { length self.new.bits ≡ length self.old.bits }
     {
-        match places.place_of(thing) {
+        self.note_at(thing, places.place_of(thing), places)
+    }
+
+    /// Notes a thing by its place, if it has one; whether it was not met before.
+    #[inline(always)]
+    pub(crate) fn note_at<P: Places>(
+        &mut self,
+        thing: &Thing,
+        at: Option<usize>,
+        places: &P,
+    ) -> Result<bool, NoMemory>
+        requires place { at ≡ P.place places.now thing.now }
+        requires room { P.count places.now ≤ length self.old.bits }
+        ensures notes { (met : List any_thing) → AreTold (P.place places.now) (P.count places.now) self.old met
+            → IfOk result (λ is_new.
+            Notes (P.place places.now) (P.count places.now) self.new met thing.now is_new) }
+        ensures same { length self.new.bits ≡ length self.old.bits }
+    {
+        let _ = places;
+        match at {
             Some(at) => Ok(self.bits.insert(at)),
             None => Ok(self.others.insert(*thing)?),
         }

@@ -13,4 +13,4 @@ loop-thing-preserved g c =
     let t = c.thing-item.result in
     let now = c.note.new.self in
     let more : take (i + 1) things ≡ take i things ++ t ∷ [] = take_more things i t (omega arith) ∙ ap (λ u. take i things ++ u ∷ []) (sym c.thing-item.is) in
-    subst (AreTold place count now) (sym more) (tells_more place count now (take i things) t c.in_ok-note.field-0 (c.in_ok-note.ensures (take i things) c.loop-thing.invariant))
+    subst (AreTold place count now) (sym more) (tells_more place count now (take i things) t c.in_ok-note.field-0 (c.in_ok-note.ensures.notes (take i things) c.loop-thing.invariant))

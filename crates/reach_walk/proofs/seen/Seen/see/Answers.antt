@@ -12,7 +12,7 @@ returns-in_ok-push-in-Some-clause-seen g c =
     let old = c.args.self.now in
     let now = c.note.new.self in
     let told = subst (λ noted. AreNoted place count noted old.things) c.in-Some.is c.requires.noted in
-    let notes = subst (Notes place count now old.things x) c.if-branch.true (c.in_ok-note-in-Some.ensures old.things told) in
+    let notes = subst (Notes place count now old.things x) c.if-branch.true (c.in_ok-note-in-Some.ensures.notes old.things told) in
     let last : c.push.new.self ≡ old.things ++ x ∷ [] = c.in_ok-push-in-Some.ensures in
     sees_new place count old (record { things = c.push.new.self; noted = Some now; owner = old.owner }) x c.requires notes.1 last refl (subst (AreTold place count now) (sym last) notes.0)
 
@@ -23,7 +23,7 @@ returns-else-branch-clause-adds g c =
     let x = c.args.thing.now in
     let old = c.args.self.now in
     let told = subst (λ noted. AreNoted place count noted old.things) c.in-Some.is c.requires.noted in
-    let notes = subst (Notes place count c.note.new.self old.things x) c.if-branch.false (c.in_ok-note-in-Some.ensures old.things told) in
+    let notes = subst (Notes place count c.note.new.self old.things x) c.if-branch.false (c.in_ok-note-in-Some.ensures.notes old.things told) in
     Adds-known x old.things notes.1
 
 pub returns-else-branch-clause-seen : goal.returns-else-branch-clause-seen
@@ -33,5 +33,5 @@ returns-else-branch-clause-seen g c =
     let x = c.args.thing.now in
     let old = c.args.self.now in
     let told = subst (λ noted. AreNoted place count noted old.things) c.in-Some.is c.requires.noted in
-    let notes = subst (Notes place count c.note.new.self old.things x) c.if-branch.false (c.in_ok-note-in-Some.ensures old.things told) in
+    let notes = subst (Notes place count c.note.new.self old.things x) c.if-branch.false (c.in_ok-note-in-Some.ensures.notes old.things told) in
     record { once = c.requires.once; noted = notes.0; owner = c.requires.owner }

@@ -1,0 +1,48 @@
+use Rattle.std.proofs.Common.{◌≡◌, ◌++◌, ◌≤◌, ◌<◌, [], length, get_or, Some, sym, ap, ◌∙◌, arith}
+use Rattle.std.proofs.lemmas.Option.{get_or_from_slice_get}
+use Rattle.orca_names.specs.declared.names.Thing.TheVariants.{Obj}
+use Rattle.reach_walk.specs.Met.{met_by}
+use Rattle.reach_walk.specs.Reach.{named_by, row_edges}
+use Rattle.reach_walk.proofs.ByPlaces.{begins, goes_on, ends, few_queued}
+use Rattle.reach_walk.proofs.by_place.walk_places.Goals as goal
+
+pub loop-i-init : goal.loop-i-init
+loop-i-init g c =
+    let rows = c.args.rows.now in
+    let met = c.in_ok-meet_all.ensures.met [] c.in_ok-met.ensures.met in
+    record {
+      goes = (met_by c.args.roots.now, met, begins (g.R.Places.place rows) (row_edges (g.R.RowReader.rows rows)) c.args.roots.now c.meet_all.new.self.queue.items);
+      room = omega (arith, c.meet_all.ensures.same, c.in_ok-met.ensures.met.tells.told.room);
+    }
+
+pub loop-i-smaller : goal.loop-i-smaller
+loop-i-smaller g c =
+    let rows = c.args.rows.now in
+    let goes = c.loop-i.invariant.goes in
+    let few = few_queued (g.R.Places.place rows) (g.R.Places.count rows) c.loop-i.met goes.0 (g.met.R.Places.below rows) goes.1 in
+    omega (arith, few, c.len.ensures)
+
+pub loop-i-preserved : goal.loop-i-preserved
+loop-i-preserved g c =
+    let rows = c.args.rows.now in
+    let place = g.R.Places.place rows in
+    let edges = row_edges (g.R.RowReader.rows rows) in
+    let roots = named_by c.args.roots.now in
+    let queue = c.loop-i.met.queue.items in
+    let i = c.loop-i.i in
+    let goes = c.loop-i.invariant.goes in
+    let at = c.index-at.result.now in
+    let inside : i < length queue = omega (arith, c.len.ensures) in
+    let here : get_or queue i at ≡ at = sym c.index-at.ensures in
+    let its = goes.1.only at (i, inside, here) in
+    record {
+      goes = (goes.0 ++ met_by (edges (Obj its.0)), c.in_ok-take.ensures.met goes.0 its.0 goes.1 its.2,
+          goes_on place edges (g.met.R.Places.in_order rows) roots goes.0 queue c.take.new.met.queue.items i its.0 at goes.2 inside here its.1 its.2 c.in_ok-take.ensures.queue);
+      room = omega (arith, c.take.ensures.same, c.loop-i.invariant.room);
+    }
+
+pub returns : goal.returns
+returns g c =
+    let rows = c.args.rows.now in
+    let goes = c.loop-i.invariant.goes in
+    (goes.0, goes.1, ends (g.R.Places.place rows) (g.R.Places.count rows) (g.R.RowReader.rows rows) (g.met.R.LaidRows.only_placed rows) (named_by c.args.roots.now) goes.0 c.loop-i.met c.loop-i.i (omega (arith, c.len.ensures)) goes.1 goes.2)

@@ -1,0 +1,138 @@
+// The walk by places: marks and loads of what lies in tables.
+
+ghost use Rattle.std.specs.Prelude.{◌≡◌, ◌≤◌, ◌<◌, ◌++◌, ◌∷◌, [], ℕ, IfOk, IfSome, List, OnOk, Some, false, length, slice_index_or, true};
+ghost use Rattle.orca_names.specs.declared.names.Thing.{Thing as any_thing};
+ghost use Rattle.orca_names.specs.declared.names.Thing.TheVariants.{Obj as object};
+ghost use Rattle.orca_names.specs.declared.names.ObjName.{ObjName as object_name};
+ghost use Rattle.reach_walk.specs.Reach.{row_edges, thing_row};
+ghost use Rattle.reach_walk.specs.Marks.{TellMarks, load_of as its_load, marks_of};
+ghost use Rattle.reach_walk.specs.Met.{Grows, HasMet, HasReached, ListsRows, met_by};
+
+use crate::laid::LaidRows;
+use crate::met::Met;
+use orca_names::{Args, NoMemory, Row, Thing, Value};
+use plain_list::Listed;
+use ready_set::PlaceSet;
+use std::alloc::Global;
+
+// The owners of a load's things are few.
+const GUESSED_OWNERS: usize = 8;
+
+// Meets what the row at a place names.
+#[inline(always)]
+fn take<R: LaidRows>(rows: &R, met: &mut Met, at: usize) -> Result<(), NoMemory>
+    requires room { R.count rows.now ≤ length met.old.noted.bits }
+    ensures met { let place = R.place rows.now in let count = R.count rows.now in
+        (things : List any_thing) (n : object_name)
+        → HasMet place count met.old things → place (object n) ≡ Some at
+        → OnOk result (HasMet place count met.new
+        (things ++ met_by (row_edges (R.rows rows.now) (object n)))) }
+    ensures queue { OnOk result (Grows met.old.queue.items met.new.queue.items) }
+    ensures same { length met.new.noted.bits ≡ length met.old.noted.bits }
+{
+    let (_, row) = rows.entry_at(at);
+    match row {
+        Some(row) => met.meet_all(row.as_slice(), rows),
+        None => Ok(()),
+    }
+}
+
+// Meets all that the values reach.
+fn walk_places<R: LaidRows>(alloc: Global, rows: &R, roots: &[Value]) -> Result<Met, NoMemory>
+    ensures { IfOk result (HasReached (R.place rows.now) (R.count rows.now) (R.rows rows.now) roots.now) }
+{
+    let mut met = Met::new(alloc, rows)?;
+    met.meet_all(roots, rows)?;
+    let mut i = 0;
+    while i < met.queue.len() {
+        let at = met.queue[i];
+        take(rows, &mut met, at)?;
+        i += 1;
+    }
+    Ok(met)
+}
+
+/// The marks of the values by place, as a sweep wants them: no list of them is made.
+///
+/// # Errors
+/// `NoMemory` where memory was refused.
+pub fn mark_bits<R: LaidRows>(
+    alloc: Global,
+    roots: &[Value],
+    rows: &R,
+) -> Result<PlaceSet, NoMemory>
+    ensures marks { let marks = marks_of (R.rows rows.now) (R.all rows.now) roots.now in
+        IfOk result (λ bits. TellMarks (R.place rows.now) bits marks) }
+    ensures room { IfOk result (λ bits. R.count rows.now ≤ length bits) }
+{
+    let met = walk_places(alloc, rows, roots)?;
+    Ok(met.noted.bits)
+}
+
+// Appends the thing at a place, with its row.
+#[inline(always)]
+fn push_entry<R: LaidRows>(
+    rows: &R,
+    at: usize,
+    load: &mut Vec<(Thing, Option<Row>)>,
+) -> Result<(), NoMemory>
+    requires { at < R.count rows.now }
+    ensures { OnOk result ((x : any_thing) × (R.place rows.now x ≡ Some at)
+        × (load.new.items ≡ load.old.items ++ (x, thing_row (R.rows rows.now) x) ∷ [])) }
+{
+    load.reserve(1)?;
+    let (thing, row) = rows.entry_at(at);
+    match row {
+        Some(row) => load.push_reserved((thing, Some(*row))),
+        None => load.push_reserved((thing, None)),
+    }
+    Ok(())
+}
+
+// The things whose places are on, each with its row.
+fn listed<R: LaidRows>(
+    alloc: Global,
+    rows: &R,
+    bits: &PlaceSet,
+    guess: usize,
+) -> Result<Vec<(Thing, Option<Row>)>, NoMemory>
+    requires within { (p : ℕ) → slice_index_or bits.now p false ≡ true → p < R.count rows.now }
+    ensures { IfOk result (λ load.
+        ListsRows (R.place rows.now) (R.rows rows.now) bits.now load.items) }
+{
+    let mut load = Vec::with_capacity(alloc, guess)?;
+    let count = rows.places();
+    let mut from = 0;
+    while from < count {
+        match bits.next(from) {
+            Some(at) => {
+                push_entry(rows, at, &mut load)?;
+                from = at + 1;
+            }
+            None => return Ok(load),
+        }
+    }
+    Ok(load)
+}
+
+/// The load of a letter with these arguments: each thing that they reach, with its row; `None` where
+/// they reach a thing that has no place.
+///
+/// # Errors
+/// `NoMemory` where memory was refused.
+pub fn load_by_place<R: LaidRows>(
+    alloc: Global,
+    args: &Args,
+    rows: &R,
+) -> Result<Option<Listed<(Thing, Option<Row>)>>, NoMemory>
+    ensures { IfOk result (λ found. IfSome found (λ load.
+        load ≡ its_load (R.rows rows.now) (R.all rows.now) args.now)) }
+{
+    let met = walk_places(alloc, rows, args.as_slice())?;
+    if !met.noted.others.is_empty() {
+        return Ok(None);
+    }
+    let guess = met.queue.len().saturating_add(GUESSED_OWNERS);
+    let load = listed(alloc, rows, &met.noted.bits, guess)?;
+    Ok(Some(Listed::from(load)))
+}
