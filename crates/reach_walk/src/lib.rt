@@ -3,7 +3,6 @@
 
 mod edges;
 mod laws;
-mod listing;
 mod load;
 mod look;
 mod marks;
@@ -13,17 +12,15 @@ mod reach;
 mod reading;
 mod seen;
 mod thing_list;
-mod unplaced;
 mod walk_rows;
 
 pub use edges::Edges;
 pub use laws::{loads_are_exact, marks_are_exact, marks_are_unique};
 pub use load::{find_loaded, load_of, load_within, with_rows};
-pub use marks::{Marks, mark, mark_bits, mark_within};
+pub use marks::{Marks, mark, mark_within};
 pub use places::{PlacedRows, Places};
 pub use reach::walk;
 pub use thing_list::ThingList;
-pub use unplaced::Unplaced;
 
 #[cfg(test)]
 mod tests;
