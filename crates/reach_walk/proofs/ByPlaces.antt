@@ -98,8 +98,8 @@ module _ (place : Thing → Option ℕ) (edges : Thing → List Value) where
 pub few_queued : (place : Thing → Option ℕ) (count : ℕ) (met : Met) (things : List Thing) → ((x : Thing) (p : ℕ) → place x ≡ Some p → p < count) → HasMet place count met things → length met.queue.items ≤ count
 few_queued place count met things below has =
     length-le_from_distinct_below met.queue.items count has.once (λ q any.
-      let it = has.only q (Contains-from_any (λ x y e. eqb-true x y e) q met.queue.items any) in
-      below (Obj it.0) q it.2)
+    let it = has.only q (Contains-from_any (λ x y e. eqb-true x y e) q met.queue.items any) in
+    below (Obj it.0) q it.2)
 
 module _ (place : Thing → Option ℕ) (count : ℕ) (rows : ObjName → Option (List Value)) (only_placed : (n : ObjName) → place (Obj n) ≡ None → rows n ≡ None) where
   -- an object that was met leads only to what was met

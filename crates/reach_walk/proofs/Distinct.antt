@@ -1,18 +1,16 @@
 -- Things that stand in a list once.
-use Rattle.std.proofs.Common.{◌≡◌, ◌≢◌, ◌≤◌, inl, inr, List, [], ◌∷◌, ◌++◌, length, false, Contains, sym, subst, arith}
+use Rattle.std.proofs.Common.{◌≡◌, ◌≢◌, ◌≤◌, List, [], ◌∷◌, ◌++◌, length, false, Contains, subst, arith}
 use Rattle.std.specs.List.{IsDistinct}
 use Rattle.std.specs.Cmp.{eq_by_cmp_equiv}
 use Rattle.std.specs.List.Sorted.{IsStrictlySortedBy}
-use Rattle.std.proofs.lemmas.List.{append-nil, append_assoc}
-use Rattle.std.proofs.lemmas.List.Elements.{All-from_recursion, recursion_from_All, All-nil, All-push, Contains-push_cases}
-use Rattle.std.proofs.lemmas.Map.Keys.{IsDistinct-cons, IsDistinct-head, IsDistinct-tail, IsDistinct-from_sorted, sorted_tail}
+use Rattle.std.proofs.lemmas.List.Elements.{All-from_recursion, recursion_from_All, All-nil, All-push}
+use Rattle.std.proofs.lemmas.Map.Keys.{IsDistinct-cons, IsDistinct-head, IsDistinct-tail, IsDistinct-from_sorted}
 use Rattle.std.proofs.lemmas.Map.Made.{length-le_from_is_member}
 use Rattle.std.proofs.lemmas.Map.Views.{Contains-from_any, list_any-from_Contains}
 use Rattle.orca_names.specs.Names.{is_thing, thing_cmp}
 use Rattle.orca_names.specs.declared.names.Thing.{Thing}
 use Rattle.orca_names.proofs.ThingOrder.{thing_total, is_same, is_ne_false}
 use Rattle.reach_walk.proofs.Elements.{Contains-head, Contains-later}
-use Rattle.reach_walk.proofs.InOrder.{first_absent}
 
 pub IsDistinct-nil : IsDistinct is_thing []
 unfolding IsDistinct
@@ -26,16 +24,6 @@ IsDistinct-push (y ∷ ys) x once fresh =
     let apart = All-push (λ z. is_thing y z ≡ false) ys x (All-from_recursion _ ys (IsDistinct-head is_thing y ys once)) (is_ne_false y x other) in
     IsDistinct-cons is_thing y (ys ++ x ∷ []) (recursion_from_All _ (ys ++ x ∷ []) apart)
     (IsDistinct-push ys x (IsDistinct-tail is_thing y ys once) (λ c. fresh (Contains-later y ys x c)))
-
--- things in order, behind others that are none of them
-pub IsDistinct-behind : (xs ys : List Thing) → IsDistinct is_thing xs → IsStrictlySortedBy thing_cmp ys → ((x : Thing) → Contains ys x → Contains xs x → ⊥) → IsDistinct is_thing (xs ++ ys)
-IsDistinct-behind xs [] once rising apart = subst (IsDistinct is_thing) (sym (append-nil xs)) once
-IsDistinct-behind xs (y ∷ ys) once rising apart =
-    subst (IsDistinct is_thing) (append_assoc xs (y ∷ []) ys)
-    (IsDistinct-behind (xs ++ y ∷ []) ys (IsDistinct-push xs y once (apart y (Contains-head y ys))) (sorted_tail thing_cmp y ys rising) (λ z c d. elim (Contains-push_cases xs y z d) as (λ _. ⊥) [
-      | inl e ↦ apart z (Contains-later y ys z c) e
-      | inr same ↦ first_absent y ys rising (subst (Contains ys) (sym same) c)
-    ]))
 
 -- no list that has all of them is shorter
 pub length-le_cover : (things cover : List Thing) → IsDistinct is_thing things → ((x : Thing) → Contains things x → Contains cover x) → length things ≤ length cover

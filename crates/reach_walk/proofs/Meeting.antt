@@ -180,8 +180,8 @@ module _ (place : Thing → Option ℕ) (count : ℕ) where
       still_once : (o : Option ℕ) → place (Obj n) ≡ o → IsDistinct eqb (old.queue.items ++ option_to_list o)
       still_once None e = subst (IsDistinct eqb) (sym (append-nil old.queue.items)) met.once
       still_once (Some p) e = push_once old.queue.items p met.once (λ c.
-        let it = met.only p c in
-        fresh (subst (Contains things) (thing_exact (Obj it.0) (Obj n) (in_order (Obj it.0) (Obj n) p p it.2 e ∙ tied_itself nat_cmp_total p)) it.1))
+          let it = met.only p c in
+          fresh (subst (Contains things) (thing_exact (Obj it.0) (Obj n) (in_order (Obj it.0) (Obj n) p p it.2 e ∙ tied_itself nat_cmp_total p)) it.1))
 
   -- before its owner, an object that was noted
   pub tells_before : (old new : Met) (things : List Thing) (x : Thing) → Tells place count old things → new.owner ≡ old.owner → AreTold place count new.noted (things ++ x ∷ []) → Tells place count new (things ++ x ∷ [])

@@ -1,5 +1,6 @@
 -- A walk that is under way.
 use Rattle.std.specs.Prelude.{ℕ, ◌≡◌, ◌⊎◌, ◌↔◌, ◌<◌, ◌≤◌, Bool, true, false, Option, None, Some, List, [], ◌∷◌, ◌++◌, Contains, length, slice_index_or}
+use Rattle.std.specs.BTreeSet.{BTreeSet}
 use Rattle.std.specs.List.{IsDistinct}
 use Rattle.orca_names.specs.Names.{owner_of, is_thing}
 use Rattle.orca_names.specs.declared.names.Thing.{Thing}
@@ -39,14 +40,14 @@ Notes place count noted things x true =
     AreTold place count noted (things ++ x ∷ []) × (Contains things x → ⊥)
 Notes place count noted things x false = AreTold place count noted things × Contains things x
 
--- these things are noted: nothing is noted while they are few
-abbrev pub AreNoted : (Thing → Option ℕ) → ℕ → Option Noted → List Thing → Type 0
-AreNoted place count (Some noted) things = AreTold place count noted things
-AreNoted place count None things = length things ≤ 8
+-- these things are in the set; there is none while they are few
+abbrev pub AreNoted : Option (BTreeSet Thing) → List Thing → Type 0
+AreNoted (Some set) things = (x : Thing) → Contains set.keys x ↔ Contains things x
+AreNoted None things = length things ≤ 8
 
 -- each thing was seen once, and is noted
-pub record IsSeen (place : Thing → Option ℕ) (count : ℕ) (seen : Seen) : Type 0 where
+pub record IsSeen (seen : Seen) : Type 0 where
   pub once : IsDistinct is_thing seen.things
-  pub noted : AreNoted place count seen.noted seen.things
+  pub noted : AreNoted seen.noted seen.things
   -- the last owner was seen
   pub owner : (a : ℕ) → seen.owner ≡ Some a → Contains seen.things (Actor a)

@@ -8,8 +8,8 @@ ghost use Rattle.reach_walk.specs.Reach.{row_edges, thing_row};
 ghost use Rattle.reach_walk.specs.Marks.{TellMarks, load_of as its_load, marks_of};
 ghost use Rattle.reach_walk.specs.Met.{Grows, HasMet, HasReached, ListsRows, met_by};
 
-use crate::laid::LaidRows;
 use crate::met::Met;
+use crate::places::PlacedRows;
 use orca_names::{Args, NoMemory, Row, Thing, Value};
 use plain_list::Listed;
 use ready_set::PlaceSet;
@@ -20,7 +20,7 @@ const GUESSED_OWNERS: usize = 8;
 
 // Meets what the row at a place names.
 #[inline(always)]
-fn take<R: LaidRows>(rows: &R, met: &mut Met, at: usize) -> Result<(), NoMemory>
+fn take<R: PlacedRows>(rows: &R, met: &mut Met, at: usize) -> Result<(), NoMemory>
     requires room { R.count rows.now ≤ length met.old.noted.bits }
     ensures met { let place = R.place rows.now in let count = R.count rows.now in
         (things : List any_thing) (n : object_name)
@@ -38,7 +38,7 @@ fn take<R: LaidRows>(rows: &R, met: &mut Met, at: usize) -> Result<(), NoMemory>
 }
 
 // Meets all that the values reach.
-fn walk_places<R: LaidRows>(alloc: Global, rows: &R, roots: &[Value]) -> Result<Met, NoMemory>
+fn walk_places<R: PlacedRows>(alloc: Global, rows: &R, roots: &[Value]) -> Result<Met, NoMemory>
     ensures { IfOk result (HasReached (R.place rows.now) (R.count rows.now) (R.rows rows.now) roots.now) }
 {
     let mut met = Met::new(alloc, rows)?;
@@ -56,7 +56,7 @@ fn walk_places<R: LaidRows>(alloc: Global, rows: &R, roots: &[Value]) -> Result<
 ///
 /// # Errors
 /// `NoMemory` where memory was refused.
-pub fn mark_bits<R: LaidRows>(
+pub fn mark_bits<R: PlacedRows>(
     alloc: Global,
     roots: &[Value],
     rows: &R,
@@ -71,7 +71,7 @@ pub fn mark_bits<R: LaidRows>(
 
 // Appends the thing at a place, with its row.
 #[inline(always)]
-fn push_entry<R: LaidRows>(
+fn push_entry<R: PlacedRows>(
     rows: &R,
     at: usize,
     load: &mut Vec<(Thing, Option<Row>)>,
@@ -90,7 +90,7 @@ fn push_entry<R: LaidRows>(
 }
 
 // The things whose places are on, each with its row.
-fn listed<R: LaidRows>(
+fn listed<R: PlacedRows>(
     alloc: Global,
     rows: &R,
     bits: &PlaceSet,
@@ -120,7 +120,7 @@ fn listed<R: LaidRows>(
 ///
 /// # Errors
 /// `NoMemory` where memory was refused.
-pub fn load_by_place<R: LaidRows>(
+pub fn load_by_place<R: PlacedRows>(
     alloc: Global,
     args: &Args,
     rows: &R,

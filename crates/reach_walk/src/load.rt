@@ -4,12 +4,11 @@ ghost use Rattle.std.specs.Prelude.{◌≡◌, ◌↔◌, ◌+◌, ◌*◌, ◌<
 ghost use Rattle.reach_walk.specs.Marks.{load_of as its_load, marks_of};
 ghost use Rattle.reach_walk.specs.Reach.{named_by, thing_row};
 
-use crate::places::PlacedRows;
 use crate::reading::read_row;
 use crate::seen::Seen;
 use crate::thing_list::ThingList;
 use crate::walk_rows::{walk_freely, walk_rows};
-use orca_names::{Args, NoMemory, Row, Thing, Value};
+use orca_names::{Args, NoMemory, Row, RowReader, Thing, Value};
 use plain_list::Listed;
 use std::alloc::Global;
 use std::sync::ledger::Ledger;
@@ -32,7 +31,7 @@ fn names_nothing(values: &[Value]) -> bool
 /// # Errors
 /// `NoMemory` where memory was refused.
 #[inline(always)]
-pub fn with_rows<R: PlacedRows>(
+pub fn with_rows<R: RowReader>(
     alloc: Global,
     things: &[Thing],
     rows: &mut R,
@@ -40,7 +39,6 @@ pub fn with_rows<R: PlacedRows>(
     ensures load { IfOk result (λ load.
         load ≡ map (λ x. (x, thing_row (R.rows rows.old) x)) things.now) }
     ensures rows { (R.rows rows.new ≡ R.rows rows.old) × (R.all rows.new ≡ R.all rows.old) }
-    ensures places { (R.place rows.new ≡ R.place rows.old) × (R.count rows.new ≡ R.count rows.old) }
 {
     let mut load = Vec::with_capacity(alloc, things.len())?;
     let mut row = Row::of(&[Value::Null]);
@@ -60,7 +58,7 @@ pub fn with_rows<R: PlacedRows>(
 ///
 /// # Errors
 /// `NoMemory` where memory was refused.
-pub fn load_within<R: PlacedRows, L: Ledger>(
+pub fn load_within<R: RowReader, L: Ledger>(
     alloc: Global,
     args: &Args,
     rows: &mut R,
@@ -71,14 +69,13 @@ pub fn load_within<R: PlacedRows, L: Ledger>(
     ensures nothing { named_by args.now ≡ [] → IsOk result }
     ensures steps { IfOk result (λ load. steps.new ≤ steps.old + (9 * length load + 9)) }
     ensures rows { (R.rows rows.new ≡ R.rows rows.old) × (R.all rows.new ≡ R.all rows.old) }
-    ensures places { (R.place rows.new ≡ R.place rows.old) × (R.count rows.new ≡ R.count rows.old) }
 {
     if names_nothing(args.as_slice()) {
         return Ok(Listed::new(alloc));
     }
     let mut seen = Seen::new(alloc);
     walk_rows(rows, &mut seen, args.as_slice(), steps)?;
-    seen.sort(rows)?;
+    seen.sort()?;
     with_rows(alloc, seen.things.as_slice(), rows)
 }
 
@@ -88,7 +85,7 @@ pub fn load_within<R: PlacedRows, L: Ledger>(
 /// # Errors
 /// `NoMemory` where memory was refused; what `things` holds then is left open.
 #[inline(always)]
-pub fn find_loaded<R: PlacedRows>(
+pub fn find_loaded<R: RowReader>(
     alloc: Global,
     args: &Args,
     rows: &mut R,
@@ -98,7 +95,6 @@ pub fn find_loaded<R: PlacedRows>(
         (things.new ≡ marks_of (R.rows rows.old) (R.all rows.old) args.now) }
     ensures nothing { named_by args.now ≡ [] → IsOk result }
     ensures rows { (R.rows rows.new ≡ R.rows rows.old) × (R.all rows.new ≡ R.all rows.old) }
-    ensures places { (R.place rows.new ≡ R.place rows.old) × (R.count rows.new ≡ R.count rows.old) }
 {
     if names_nothing(args.as_slice()) {
         things.clear();
@@ -106,7 +102,7 @@ pub fn find_loaded<R: PlacedRows>(
     }
     let mut seen = Seen::new(alloc);
     walk_freely(rows, &mut seen, args.as_slice())?;
-    seen.sort(rows)?;
+    seen.sort()?;
     let Seen { things: found, .. } = seen;
     *things = found;
     Ok(())
@@ -117,7 +113,7 @@ pub fn find_loaded<R: PlacedRows>(
 ///
 /// # Errors
 /// `NoMemory` where memory was refused.
-pub fn load_of<R: PlacedRows>(
+pub fn load_of<R: RowReader>(
     alloc: Global,
     args: &Args,
     rows: &mut R,
@@ -126,7 +122,6 @@ pub fn load_of<R: PlacedRows>(
         load ≡ its_load (R.rows rows.old) (R.all rows.old) args.now) }
     ensures nothing { named_by args.now ≡ [] → IsOk result }
     ensures rows { (R.rows rows.new ≡ R.rows rows.old) × (R.all rows.new ≡ R.all rows.old) }
-    ensures places { (R.place rows.new ≡ R.place rows.old) × (R.count rows.new ≡ R.count rows.old) }
 {
     if names_nothing(args.as_slice()) {
         return Ok(Listed::new(alloc));

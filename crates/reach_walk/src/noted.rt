@@ -1,6 +1,6 @@
 // Which things a walk has met.
 
-ghost use Rattle.std.specs.Prelude.{◌≡◌, ◌↔◌, ◌≤◌, [], List, Contains, IfOk, IsTrue, length};
+ghost use Rattle.std.specs.Prelude.{◌≡◌, ◌≤◌, [], List, IfOk, length};
 ghost use Rattle.orca_names.specs.declared.names.Thing.{Thing as any_thing};
 ghost use Rattle.reach_walk.specs.Walk.{AreTold, Notes};
 
@@ -16,19 +16,6 @@ use std::collections::BTreeSet;
 pub(crate) struct Noted {
     pub(crate) bits: PlaceSet,
     pub(crate) others: BTreeSet<Thing>,
-}
-
-/// Whether the thing is one of these.
-#[inline(always)]
-pub(crate) fn is_among(things: &[Thing], thing: &Thing) -> bool
-    ensures { IsTrue result ↔ Contains things.now thing.now }
-{
-    for other in things {
-        if *other == *thing {
-            return true;
-        }
-    }
-    false
 }
 
 impl Noted {
@@ -76,18 +63,5 @@ impl Noted {
             bits: PlaceSet::with_places(alloc, places.places())?,
             others: BTreeSet::new(alloc),
         })
-    }
-
-    /// What tells these things.
-    #[inline(never)]
-    pub(crate) fn of<P: Places>(alloc: Global, met: &[Thing], places: &P) -> Result<Noted, NoMemory>
-        ensures { IfOk result (λ noted.
-            AreTold (P.place places.now) (P.count places.now) noted met.now) }
-    {
-        let mut noted = Noted::new(alloc, places)?;
-        for thing in met {
-            noted.note(thing, places)?;
-        }
-        Ok(noted)
     }
 }

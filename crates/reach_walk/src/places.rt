@@ -1,9 +1,12 @@
-// Places of things, and rows that are read by place.
+// Places of things, and rows that are lent by place.
 
-ghost use Rattle.std.specs.Prelude.{◌≡◌, ◌<◌, ℕ, if◌then◌else◌, Option, None, Some};
+ghost use Rattle.std.specs.Prelude.{◌≡◌, ◌<◌, ℕ, Option, None, Some};
 ghost use Rattle.std.specs.Ordering.{nat_cmp};
 ghost use Rattle.orca_names.specs.Names.{thing_cmp};
+ghost use Rattle.std.specs.Option.{option_copied};
+ghost use Rattle.orca_names.specs.declared.names.ObjName.{ObjName as object_name};
 ghost use Rattle.orca_names.specs.declared.names.Thing.{Thing as thing};
+ghost use Rattle.orca_names.specs.declared.names.Thing.TheVariants.{Obj as object};
 ghost use Rattle.reach_walk.specs.Reach.{thing_row};
 
 use orca_names::{Row, RowReader, Thing};
@@ -25,11 +28,6 @@ pub trait Places {
     fn place_of(&self, thing: &Thing) -> Option<usize>
         ensures { result ≡ place self.now thing.now };
 
-    /// The thing at a place: each place has one. What is answered where there is no such place means
-    /// nothing.
-    fn thing_at(&self, at: usize) -> Thing
-        ensures { at < count self.now → place self.now result ≡ Some at };
-
     /// Places are below their number.
     ghost below: { (s : Self) (x : thing) (p : ℕ) → place s x ≡ Some p → p < count s };
 
@@ -38,17 +36,17 @@ pub trait Places {
         place s x ≡ Some p → place s y ≡ Some q → thing_cmp x y ≡ nat_cmp p q };
 }
 
-/// Rows of things that have places: a thing is looked up once, and its place leads to its row.
+/// Rows of things that have places: a place leads to its thing and to the row. A thing without a
+/// place has no row.
 pub trait PlacedRows: RowReader + Places {
-    /// Whether a thing has a row, which is then written to the last parameter. The thing's place is
-    /// given, if it has one. A read may use the reader up to its own ends, but rows and places stay
-    /// as they are.
-    fn read_at(&mut self, thing: &Thing, at: Option<usize>, row: &mut Row) -> bool
-        requires { at ≡ Self.place self.old thing.now }
-        ensures row { thing_row (Self.rows self.old) thing.now
-            ≡ (if result then Some row.new else None) }
-        ensures rows { Self.rows self.new ≡ Self.rows self.old }
-        ensures all { Self.all self.new ≡ Self.all self.old }
-        ensures places { Self.place self.new ≡ Self.place self.old }
-        ensures count { Self.count self.new ≡ Self.count self.old };
+    /// The thing at a place, and its row where it has one. What is answered where there is no such
+    /// place means nothing.
+    fn entry_at(&self, at: usize) -> (Thing, Option<&Row>)
+        ensures thing { at < Self.count self.now → Self.place self.now result.0 ≡ Some at }
+        ensures row { at < Self.count self.now
+            → option_copied result.1 ≡ thing_row (Self.rows self.now) result.0 };
+
+    /// What has a row has a place.
+    ghost only_placed: { (s : Self) (n : object_name) →
+        Self.place s (object n) ≡ None → Self.rows s n ≡ None };
 }

@@ -9,7 +9,6 @@ ghost use Rattle.reach_walk.specs.Walk.{next_of};
 
 use crate::edges::Edges;
 use crate::seen::Seen;
-use crate::unplaced::Unplaced;
 use orca_names::{NoMemory, Thing, Value};
 use std::alloc::Global;
 
@@ -51,19 +50,18 @@ pub fn walk<E: Edges>(alloc: Global, roots: &[Thing], graph: &mut E) -> Result<V
     ensures rising { IfOk result (λ found. IsStrictlySortedBy thing_cmp found.items) }
     ensures kept { E.kept graph.new ≡ E.kept graph.old }
 {
-    let nowhere = Unplaced { of: () };
     let mut seen = Seen::new(alloc);
     let mut values = Vec::new(alloc);
     let mut next = Vec::new(alloc);
-    seen.see_all(roots, &nowhere)?;
+    seen.see_all(roots)?;
     let mut at = 0;
     while at < seen.things.len() {
         let thing = seen.things.at(at);
         find_next(graph, thing, &mut values, &mut next)?;
-        seen.see_all(next.as_slice(), &nowhere)?;
+        seen.see_all(next.as_slice())?;
         at += 1;
     }
-    seen.sort(&nowhere)?;
+    seen.sort()?;
     let Seen { things, .. } = seen;
     things.into_vec(alloc)
 }

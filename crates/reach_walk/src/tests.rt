@@ -9,7 +9,7 @@ ghost use Rattle.std.proofs.lemmas.List.FromFn.{length-range_with_len, get_or-ma
 ghost use Rattle.std.proofs.lemmas.Option.{none-some, slice_get_within};
 ghost use Rattle.orca_names.specs.declared.names.ObjName.{ObjName as object_name};
 
-use crate::{Edges, Unplaced, load_of, load_within, mark, mark_bits, mark_within, walk};
+use crate::{Edges, load_of, load_within, mark, mark_within, walk};
 use orca_names::{ActorName, Args, NoMemory, ObjName, Reading, Row, Rows, Serial, Thing, Value};
 use std::alloc::Global;
 use std::marker::Brand;
@@ -91,9 +91,7 @@ fn marks_are_what_rows_reach(rt: HostRuntime) -> Result<(), Fail> {
     let shelf = Shelf {
         rows: rows.to_vec(alloc)?,
     };
-    let mut rows = Unplaced {
-        of: Reading { rows: &shelf },
-    };
+    let mut rows = Reading { rows: &shelf };
     let roots = [
         Value::Obj(object(0, 2)),
         Value::Null,
@@ -129,9 +127,7 @@ fn loads_have_each_thing_with_its_row(rt: HostRuntime) -> Result<(), Fail> {
     let shelf = Shelf {
         rows: [first, second].to_vec(alloc)?,
     };
-    let mut rows = Unplaced {
-        of: Reading { rows: &shelf },
-    };
+    let mut rows = Reading { rows: &shelf };
     let args = Args::of(&[Value::Obj(object(0, 0)), Value::Obj(object(0, 1))]);
     let load = [
         (Thing::Actor(ActorName(0)), None),
@@ -142,8 +138,6 @@ fn loads_have_each_thing_with_its_row(rt: HostRuntime) -> Result<(), Fail> {
         load_of(alloc, &args, &mut rows)?.as_slice(),
         load.as_slice()
     );
-    let bits = mark_bits(alloc, args.as_slice(), &mut rows)?;
-    assert_eq!(rt; bits.next(0), None);
     Ok(())
 }
 
@@ -167,9 +161,7 @@ fn load_of_chain<L: Ledger>(alloc: Global, steps: &mut Steps<L>) -> Result<usize
     ensures { IfOk result (λ count. count ≡ 41 → steps.new ≤ steps.old + 378) }
 {
     let shelf = chain(alloc, 40)?;
-    let mut rows = Unplaced {
-        of: Reading { rows: &shelf },
-    };
+    let mut rows = Reading { rows: &shelf };
     let args = Args::of(&[Value::Obj(object(0, 39))]);
     let load = load_within(alloc, &args, &mut rows, steps)?;
     Ok(load.len())
@@ -182,9 +174,7 @@ fn walk_chain<L: Ledger>(alloc: Global, blank: Blank) -> Result<(usize, usize), 
     requires some { 0 < blank.parts }
 {
     let shelf = chain(alloc, 1)?;
-    let mut rows = Unplaced {
-        of: Reading { rows: &shelf },
-    };
+    let mut rows = Reading { rows: &shelf };
     let mut steps: Steps<L> = Steps::none(blank);
     let root = [Value::Obj(object(0, 0))];
     let marks = mark_within(alloc, &root, &mut rows, &mut steps)?;

@@ -6,8 +6,8 @@ ghost use Rattle.reach_walk.specs.Reach.{thing_row};
 
 use crate::nowhere::NoRows;
 use letter_kinds::Load;
-use orca_names::{Args, NoMemory, Thing};
-use reach_walk::{PlacedRows, ThingList, Unplaced, find_loaded, load_of, with_rows};
+use orca_names::{Args, NoMemory, RowReader, Thing};
+use reach_walk::{ThingList, find_loaded, load_of, with_rows};
 use std::alloc::Global;
 
 /// Finds the things of the load of a letter: those that stand in its arguments, and the owners of
@@ -18,7 +18,7 @@ use std::alloc::Global;
 pub fn find_loaded_roots(alloc: Global, args: &Args, things: &mut ThingList) -> Result<(), NoMemory>
     ensures { OnOk result (things.new ≡ marks_of (λ n. None) [] args.now) }
 {
-    find_loaded(alloc, args, &mut Unplaced { of: NoRows }, things)
+    find_loaded(alloc, args, &mut NoRows, things)
 }
 
 /// The load of a letter with these things, none of which comes with its row.
@@ -28,7 +28,7 @@ pub fn find_loaded_roots(alloc: Global, args: &Args, things: &mut ThingList) -> 
 pub fn without_rows(alloc: Global, things: &[Thing]) -> Result<Load, NoMemory>
     ensures { IfOk result (λ load. load ≡ map (λ x. (x, thing_row (λ n. None) x)) things.now) }
 {
-    with_rows(alloc, things, &mut Unplaced { of: NoRows })
+    with_rows(alloc, things, &mut NoRows)
 }
 
 /// What a letter carries uncounted: all that its arguments reach through the rows that the sender
@@ -36,12 +36,10 @@ pub fn without_rows(alloc: Global, things: &[Thing]) -> Result<Load, NoMemory>
 ///
 /// # Errors
 /// `NoMemory` where memory was refused.
-pub fn rows_of<R: PlacedRows>(alloc: Global, args: &Args, known: &mut R) -> Result<Load, NoMemory>
+pub fn rows_of<R: RowReader>(alloc: Global, args: &Args, known: &mut R) -> Result<Load, NoMemory>
     ensures rows { IfOk result (λ rows.
         rows ≡ deep_load (R.rows known.old) (R.all known.old) args.now) }
     ensures same { (R.rows known.new ≡ R.rows known.old) × (R.all known.new ≡ R.all known.old) }
-    ensures places { (R.place known.new ≡ R.place known.old)
-        × (R.count known.new ≡ R.count known.old) }
 {
     load_of(alloc, args, known)
 }

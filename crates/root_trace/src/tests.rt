@@ -5,7 +5,7 @@ use crate::{find_loaded_roots, missing, plan_roots, rows_of, without_rows};
 use foreign_table::ForeignTable;
 use object_heap::ObjectHeap;
 use orca_names::{ActorName, Args, Fields, NoMemory, ObjName, Row, Serial, Thing, Value};
-use reach_walk::{ThingList, Unplaced};
+use reach_walk::ThingList;
 use std::test::Fail;
 
 fn object(serial: u64) -> ObjName {
@@ -35,9 +35,8 @@ fn loads_are_what_stands_in_letters(rt: HostRuntime) -> Result<(), Fail> {
         without_rows(alloc, things.as_slice())?.as_slice(),
         load.as_slice()
     );
-    let mut known = Unplaced { of: NoRows };
     assert_eq!(rt;
-        rows_of(alloc, &args, &mut known)?.as_slice(),
+        rows_of(alloc, &args, &mut NoRows)?.as_slice(),
         load.as_slice()
     );
     Ok(())

@@ -36,8 +36,11 @@ loop-i-preserved g c =
     let here : get_or queue i at ≡ at = sym c.index-at.ensures in
     let its = goes.1.only at (i, inside, here) in
     record {
-      goes = (goes.0 ++ met_by (edges (Obj its.0)), c.in_ok-take.ensures.met goes.0 its.0 goes.1 its.2,
-          goes_on place edges (g.met.R.Places.in_order rows) roots goes.0 queue c.take.new.met.queue.items i its.0 at goes.2 inside here its.1 its.2 c.in_ok-take.ensures.queue);
+      goes = (
+        goes.0 ++ met_by (edges (Obj its.0)),
+        c.in_ok-take.ensures.met goes.0 its.0 goes.1 its.2,
+        goes_on place edges (g.met.R.Places.in_order rows) roots goes.0 queue c.take.new.met.queue.items i its.0 at goes.2 inside here its.1 its.2 c.in_ok-take.ensures.queue,
+      );
       room = omega (arith, c.take.ensures.same, c.loop-i.invariant.room);
     }
 
@@ -45,4 +48,4 @@ pub returns : goal.returns
 returns g c =
     let rows = c.args.rows.now in
     let goes = c.loop-i.invariant.goes in
-    (goes.0, goes.1, ends (g.R.Places.place rows) (g.R.Places.count rows) (g.R.RowReader.rows rows) (g.met.R.LaidRows.only_placed rows) (named_by c.args.roots.now) goes.0 c.loop-i.met c.loop-i.i (omega (arith, c.len.ensures)) goes.1 goes.2)
+    (goes.0, goes.1, ends (g.R.Places.place rows) (g.R.Places.count rows) (g.R.RowReader.rows rows) (g.met.R.PlacedRows.only_placed rows) (named_by c.args.roots.now) goes.0 c.loop-i.met c.loop-i.i (omega (arith, c.len.ensures)) goes.1 goes.2)

@@ -26,6 +26,3 @@ returns-clause-nothing g c = λ none.
     let told = c.names_nothing.ensures.1 (ap named_by c.as_slice.ensures.value ∙ none) in
     let not_told = c.if-names_nothing.false in
     cc
-
-pub walk_freely-requires-clause-seen : goal.walk_freely-requires-clause-seen
-walk_freely-requires-clause-seen g c = c.new-seen.ensures.seen _ _

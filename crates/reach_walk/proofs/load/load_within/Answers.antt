@@ -48,6 +48,3 @@ returns-clause-nothing g c = λ none.
     let told = c.names_nothing.ensures.1 (ap named_by c.as_slice.ensures.value ∙ none) in
     let not_told = c.if-names_nothing.false in
     cc
-
-pub walk_rows-requires-clause-seen : goal.walk_rows-requires-clause-seen
-walk_rows-requires-clause-seen g c = c.new-seen.ensures.seen _ _

@@ -9,6 +9,4 @@ invariant-loop-thing g l = record {
   room : length l.things ≤ vec_capacity l.load;
   rows : g.R.RowReader.rows l.rows ≡ g.R.RowReader.rows l.fn.rows;
   all : g.R.RowReader.all l.rows ≡ g.R.RowReader.all l.fn.rows;
-  places : g.R.Places.place l.rows ≡ g.R.Places.place l.fn.rows;
-  count : g.R.Places.count l.rows ≡ g.R.Places.count l.fn.rows;
 }

@@ -21,6 +21,3 @@ returns-clause-list g c =
     c.in_ok-walk_freely.ensures.reached c.in_ok-sort.ensures.same c.in_ok-sort.ensures.rising
     in
     IfOk-weaker c.into_vec.result _ (λ found. found.items ≡ marks_of its all c.args.roots.now) (λ found same. same ∙ listed) c.into_vec.ensures
-
-pub walk_freely-requires-clause-seen : goal.walk_freely-requires-clause-seen
-walk_freely-requires-clause-seen g c = c.new-seen.ensures.seen _ _

@@ -30,6 +30,3 @@ returns-clause-steps g c =
     let same = c.in_ok-sort.ensures.same in
     let many = length-in_order things sorted c.in_ok-walk_rows.ensures.seen.once c.in_ok-sort.ensures.rising (λ x h. (same x).1 h) (λ x h. (same x).0 h) in
     IfOk-weaker c.into_vec.result _ _ (λ found all. omega (arith, ap length all, many, c.in_ok-walk_rows.ensures.steps)) c.into_vec.ensures
-
-pub walk_rows-requires-clause-seen : goal.walk_rows-requires-clause-seen
-walk_rows-requires-clause-seen g c = c.new-seen.ensures.seen _ _

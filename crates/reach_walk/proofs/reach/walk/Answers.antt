@@ -52,6 +52,3 @@ returns-clause-exact g c =
     (ends edges roots things c.loop-at.at (omega (arith, c.len.ensures)) c.loop-at.invariant.walks) c.in_ok-sort.ensures.same
     in
     IfOk-weaker c.into_vec.result _ (λ found. AreReached edges roots found.items) (λ found same. subst (AreReached edges roots) (sym same) sorted) c.into_vec.ensures
-
-pub see_all-requires : goal.see_all-requires
-see_all-requires g c = c.new-seen.ensures.seen _ _

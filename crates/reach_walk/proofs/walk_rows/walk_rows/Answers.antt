@@ -18,8 +18,6 @@ loop-i-init g c = record {
   counted = omega (arith, c.in_ok-look_all.ensures.steps);
   rows = refl;
   all = refl;
-  places = refl;
-  count = refl;
 }
 
 pub loop-i-smaller : goal.loop-i-smaller
@@ -50,8 +48,6 @@ loop-i-preserved g c =
       counted = omega (arith, c.in_ok-take.ensures.steps t at, c.in_ok-take.ensures.few t at, kept.counted);
       rows = now.rows.0 ∙ kept.rows;
       all = now.rows.1 ∙ kept.all;
-      places = now.places.0 ∙ kept.places;
-      count = now.places.1 ∙ kept.count;
     }
 
 pub returns-clause-reached : goal.returns-clause-reached

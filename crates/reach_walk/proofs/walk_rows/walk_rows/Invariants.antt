@@ -8,13 +8,11 @@ use Rattle.reach_walk.proofs.walk_rows.walk_rows.Given as goal
 
 abbrev pub invariant-loop-i : goal.invariant-loop-i
 invariant-loop-i g l = record {
-  seen : IsSeen (g.R.Places.place l.rows) (g.R.Places.count l.rows) l.seen;
+  seen : IsSeen l.seen;
   walks : Walks (row_edges (g.R.RowReader.rows l.fn.rows)) (named_by l.roots) l.seen.things l.i;
   counted : l.steps ≤ l.fn.steps + length l.roots + 9 * l.i;
   rows : g.R.RowReader.rows l.rows ≡ g.R.RowReader.rows l.fn.rows;
   all : g.R.RowReader.all l.rows ≡ g.R.RowReader.all l.fn.rows;
-  places : g.R.Places.place l.rows ≡ g.R.Places.place l.fn.rows;
-  count : g.R.Places.count l.rows ≡ g.R.Places.count l.fn.rows;
 }
 
 abbrev pub decreases-loop-i : goal.decreases-loop-i

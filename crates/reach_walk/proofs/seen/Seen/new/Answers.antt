@@ -5,7 +5,7 @@ use Rattle.reach_walk.proofs.Distinct.{IsDistinct-nil}
 use Rattle.reach_walk.proofs.seen.Seen.new.Goals as goal
 
 pub returns-clause-seen : goal.returns-clause-seen
-returns-clause-seen c = λ place count. record {
+returns-clause-seen c = record {
   once = subst (IsDistinct is_thing) (sym c.new.ensures) IsDistinct-nil;
   noted = omega (arith, ap length c.new.ensures);
   owner = λ a e. cc;

@@ -3,7 +3,7 @@ use Rattle.reach_walk.specs.Walk.{Adds, IsSeen}
 use Rattle.reach_walk.proofs.seen.Seen.see_all.Given as goal
 
 abbrev pub invariant-loop-thing : goal.invariant-loop-thing
-invariant-loop-thing g l = record {
+invariant-loop-thing l = record {
   adds : Adds (take l.thing-index l.things) l.fn.self.things l.self.things;
-  seen : IsSeen (g.P.Places.place l.places) (g.P.Places.count l.places) l.self;
+  seen : IsSeen l.self;
 }
