@@ -22,7 +22,7 @@ use Rattle.letter_kinds.specs.Holdings.{Row, entry_row}
 use Rattle.object_heap.specs.Heap.{Has, Heap, own_row}
 use Rattle.foreign_table.specs.Span.{IsSpan}
 use Rattle.foreign_table.specs.Table.{Table, known_row}
-use Rattle.known_rows.specs.InOrder.{AreInOrder, thing_at_place}
+use Rattle.known_rows.specs.InOrder.{AreInOrder, place_there, thing_at_place}
 use Rattle.known_rows.specs.Known.{own_key, row_known}
 use Rattle.known_rows.specs.PlaceLaws.{placed_in_order}
 use Rattle.known_rows.specs.Places.{HoldsOthersOnly, held_above, held_below, own_things, place_in, placed_things}
@@ -34,17 +34,6 @@ is_below i n l = grind (arith, nat_tests)
 
 not_itself : (n : ℕ) → nat_lt n n ≡ false
 not_itself n = grind (arith, nat_tests)
-
-apart : (x y : Thing) → thing_cmp y x ≡ Less → x ≢ y
-apart x y l e = let same = tied_itself thing_total x in let here : thing_cmp x x ≡ Less = ap (λ z. thing_cmp z x) e ∙ l in cc
-
--- a thing that stands at i has this place
-pub place_there : (xs : List Thing) (x : Thing) (i : ℕ) → AreInOrder xs → i < length xs → get_or xs i x ≡ x → position (is_thing x) xs ≡ Some i
-place_there xs x i h l here =
-    let first = position_or_len_is (is_thing x) xs i x (omega arith)
-    (λ k m. is_ne_false x (get_or xs k x) (apart x (get_or xs k x) (ap (thing_cmp (get_or xs k x)) (sym here) ∙ h k i x m l)))
-    (λ _. is_eq_true x (get_or xs i x) (sym here)) in
-    ap (λ p. cond (nat_lt p (length xs)) (Some p) None) first ∙ ap (λ b. cond b (Some i) None) (is_below i (length xs) l)
 
 -- one that stands nowhere has none
 no_place : (xs : List Thing) (x : Thing) → ((k : ℕ) → k < length xs → x ≢ get_or xs k x) → position (is_thing x) xs ≡ None

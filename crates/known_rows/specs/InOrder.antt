@@ -1,5 +1,5 @@
 -- Lists of things in order, and places in them.
-use Rattle.std.specs.Prelude.{ℕ, ◌≡◌, ◌<◌, ◌≤◌, ◌-◌, List, ◌++◌, Some, length, position, slice_get, slice_index_or, refl}
+use Rattle.std.specs.Prelude.{ℕ, ◌≡◌, ◌≢◌, ◌<◌, ◌≤◌, ◌-◌, true, cond, nat_lt, List, ◌++◌, Some, None, length, position, slice_get, slice_index_or, refl}
 use Rattle.std.proofs.Common.{inl, inr, sym, ap, ◌∙◌, get_or, arith, length-append}
 use Rattle.std.specs.Ordering.{nat_cmp, ordering_reverse}
 use Rattle.std.specs.Cmp.{nat_cmp_total, tied_itself}
@@ -8,11 +8,12 @@ use Rattle.std.proofs.lemmas.Bool.{cases_lt}
 use Rattle.std.proofs.lemmas.Bool.Decides.{nat_tests}
 use Rattle.std.proofs.lemmas.List.{get_or_append_left, get_or-append_right}
 use Rattle.std.proofs.lemmas.List.Quantifiers.{position-Some}
+use Rattle.std.proofs.lemmas.List.Sums.{position_or_len_is}
 use Rattle.std.proofs.lemmas.Option.{get_or_from_slice_get, slice_get-get_or, slice_get_within}
 use Rattle.orca_names.specs.Names.{is_thing, thing_cmp}
 use Rattle.orca_names.specs.declared.names.Thing.{Thing}
 use Rattle.orca_names.specs.declared.names.Thing.TheVariants.{Actor}
-use Rattle.orca_names.proofs.ThingOrder.{is_same, thing_total}
+use Rattle.orca_names.proofs.ThingOrder.{is_eq_true, is_ne_false, is_same, thing_total}
 
 -- each comes before those behind it
 abbrev pub AreInOrder : List Thing → Type 0
@@ -26,6 +27,26 @@ thing_at_place xs x i e =
     let found = position-Some (is_thing x) xs i (Actor 0) e in
     let same = is_same x (get_or xs i (Actor 0)) found.1 in
     (found.0, slice_get-get_or xs i (Actor 0) found.0 ∙ ap Some (sym same))
+
+apart : (x y : Thing) → thing_cmp y x ≡ Less → x ≢ y
+apart x y l e =
+    let same = tied_itself thing_total x in
+    let here : thing_cmp x x ≡ Less = ap (λ z. thing_cmp z x) e ∙ l in
+    cc
+
+is_below : (i n : ℕ) → i < n → nat_lt i n ≡ true
+is_below i n l = grind (arith, nat_tests)
+
+-- a thing that stands at i has this place
+pub place_there : (xs : List Thing) (x : Thing) (i : ℕ) → AreInOrder xs → i < length xs
+    → get_or xs i x ≡ x → position (is_thing x) xs ≡ Some i
+place_there xs x i h l here =
+    let first = position_or_len_is (is_thing x) xs i x (omega arith)
+    (λ k m. is_ne_false x (get_or xs k x)
+    (apart x (get_or xs k x) (ap (thing_cmp (get_or xs k x)) (sym here) ∙ h k i x m l)))
+    (λ _. is_eq_true x (get_or xs i x) (sym here)) in
+    ap (λ p. cond (nat_lt p (length xs)) (Some p) None) first
+    ∙ ap (λ b. cond b (Some i) None) (is_below i (length xs) l)
 
 less : (p q : ℕ) → p < q → nat_cmp p q ≡ Less
 less p q l = grind (arith, nat_tests)

@@ -1,5 +1,6 @@
 pub mod Holdings
 pub mod InOrder
 pub mod Known
+pub mod OnlyPlaced
 pub mod PlaceLaws
 pub mod Places

@@ -7,6 +7,7 @@ ghost use Rattle.known_rows.specs.Known.{row_known};
 ghost use Rattle.known_rows.specs.Places.{HoldsOthersOnly, held_below, own_things, place_in, placed_things};
 ghost use Rattle.orca_names.specs.declared.names.ObjName.{ObjName as object_name};
 ghost use Rattle.std.specs.Option.{option_copied};
+ghost use Rattle.reach_walk.specs.Reach.{thing_row};
 ghost use Rattle.orca_names.specs.Names.{owner_of};
 ghost use Rattle.orca_names.specs.declared.names.Thing.{Thing as thing};
 ghost use Rattle.orca_names.specs.declared.names.Thing.TheVariants.{Actor as actor, Obj as object};
@@ -167,6 +168,21 @@ impl KnownPlaces<'_> {
         }
         foreign.row_at(at - self.above + self.end)
     }
+
+    // The thing at a place, and its row where it is an object.
+    #[inline(always)]
+    fn entry_there(&self, at: usize) -> (Thing, Option<&Row>)
+        requires { at < length (placed_things self.now.rows.heap.now self.now.rows.foreign.now) }
+        ensures thing { place_in self.now.rows.heap.now self.now.rows.foreign.now result.0 ≡ Some at }
+        ensures row { let rows = row_known self.now.rows.heap.now self.now.rows.foreign.now in
+            option_copied result.1 ≡ thing_row rows result.0 }
+    {
+        let thing = self.thing_of_place(at);
+        match thing {
+            Thing::Actor(_) => (thing, None),
+            Thing::Obj(_) => (thing, self.row_by_place(at)),
+        }
+    }
 }
 
 impl RowReader for KnownPlaces<'_> {
@@ -188,21 +204,18 @@ impl RowReader for KnownPlaces<'_> {
 }
 
 impl PlacedRows for KnownPlaces<'_> {
-    fn read_at(&mut self, thing: &Thing, at: Option<usize>, row: &mut Row) -> bool {
-        if let Thing::Actor(_) = thing {
-            return false;
-        }
-        let Some(at) = at else {
-            return false;
-        };
-        match self.row_by_place(at) {
-            Some(found) => {
-                *row = *found;
-                true
-            }
-            None => false,
+    ghost use Rattle.known_rows.specs.OnlyPlaced.{rows_have_places};
+
+    #[inline(always)]
+    fn entry_at(&self, at: usize) -> (Thing, Option<&Row>) {
+        if at < self.count {
+            self.entry_there(at)
+        } else {
+            (Thing::Actor(self.rows.heap.owner()), None)
         }
     }
+
+    ghost only_placed = { λ s n none. rows_have_places s.rows.heap.now s.rows.foreign.now n none };
 }
 
 impl Places for KnownPlaces<'_> {
@@ -227,14 +240,6 @@ impl Places for KnownPlaces<'_> {
         match thing {
             Thing::Actor(_) => Some(self.first),
             Thing::Obj(n) => self.place_of_own(*n),
-        }
-    }
-
-    fn thing_at(&self, at: usize) -> Thing {
-        if at < self.places() {
-            self.thing_of_place(at)
-        } else {
-            Thing::Actor(self.rows.heap.owner())
         }
     }
 
