@@ -2,7 +2,7 @@
 use Rattle.std.proofs.Common.{◌≡◌, ◌≢◌, ℕ, [], Option, None, Some, refl, arith}
 use Rattle.std.specs.List.{AllPairs, slice_get}
 use Rattle.std.specs.Option.{option_map_or}
-use Rattle.behaviour_code.specs.Find.{behaviours_of, body_of}
+use Rattle.behaviour_code.specs.Find.{body_of}
 use Rattle.behaviour_code.specs.declared.code.Behaviour.{Behaviour}
 use Rattle.behaviour_code.specs.declared.code.Kind.{Kind}
 use Rattle.behaviour_code.specs.declared.code.Program.{Program}
@@ -19,14 +19,10 @@ pub kinds_differ : (p : Program) → IsChecked p → AllPairs (λ k l. k.name �
 kinds_differ p checked = (no_name_twice p checked).kinds
 
 -- nor have two behaviours of a kind
-pub behaviours_differ : (p : Program) (kind : ℕ) → IsChecked p →
-    AllPairs (λ b c. b.name ≢ c.name) (behaviours_of p kind)
-behaviours_differ p kind checked = cases (slice_get p.kinds kind) refl
-  where
-    cases : (found : Option Kind) → slice_get p.kinds kind ≡ found →
-        AllPairs (λ b c. b.name ≢ c.name) (option_map_or (λ k. k.behaviours) found [])
-    cases None e = λ i j d earlier within. absurd (omega (arith, within))
-    cases (Some k) e = All-slice_get BehavioursDiffer p.kinds (no_name_twice p checked).behaviours kind k e
+pub behaviours_differ : (p : Program) (place : ℕ) (k : Kind) → IsChecked p → slice_get p.kinds place ≡ Some k →
+    AllPairs (λ b c. b.name ≢ c.name) k.behaviours
+behaviours_differ p place k checked found =
+    All-slice_get BehavioursDiffer p.kinds (no_name_twice p checked).behaviours place k found
 
 -- each label of a body is given once
 pub labels_differ_in : (p : Program) (kind behaviour : ℕ) → IsChecked p →

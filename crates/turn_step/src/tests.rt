@@ -11,7 +11,9 @@ ghost use Rattle.orca_names.specs.declared.limits.TheConstants.{BODY_LIMIT};
 
 use crate::{Act, Frame, RegisterFile, segment, segment_held};
 use behaviour_check::{CheckFault, Checked, check};
-use behaviour_code::{Behaviour, Instr, Kind, Name, Names, Program, Registers, RowRegisters};
+use behaviour_code::{
+    Behaviour, Behaviours, Instr, Kind, Name, Names, Program, Registers, RowRegisters, Target,
+};
 use orca_names::{
     ActorName, Args, Fields, HeldTest, ObjName, Reading, Row, Rows, Serial, Thing, Value,
 };
@@ -85,12 +87,12 @@ fn program(alloc: Global, body: Vec<Instr>) -> Result<Program, AllocError>
     let first = Kind {
         name: main,
         fields: 2,
-        behaviours: Listed::from(vec![in alloc; behaviour]?),
+        behaviours: Behaviours::from(vec![in alloc; behaviour]?),
     };
     let second = Kind {
         name: start,
         fields: 0,
-        behaviours: Listed::new(alloc),
+        behaviours: Behaviours::from(Listed::new(alloc)),
     };
     Ok(Program {
         kinds: Listed::from(vec![in alloc; first, second]?),
@@ -333,9 +335,9 @@ fn rows_and_fields(rt: HostRuntime) -> Result<(), Fail> {
 fn jumps(rt: HostRuntime) -> Result<(), Fail> {
     let alloc = rt.alloc();
     let jumps = vec![in alloc;
-        Instr::JumpZero(0, MAIN),
+        Instr::JumpZero(0, Target::of(MAIN)),
         Instr::Int(8, 1),
-        Instr::JumpZero(3, START),
+        Instr::JumpZero(3, Target::of(START)),
         Instr::Int(9, 1),
         Instr::Label(MAIN),
         Instr::Int(10, 1),
@@ -354,7 +356,7 @@ fn jumps(rt: HostRuntime) -> Result<(), Fail> {
 fn acts(rt: HostRuntime) -> Result<(), Fail> {
     let alloc = rt.alloc();
     let prints = vec![in alloc;
-        Instr::Jump(START),
+        Instr::Jump(Target::of(START)),
         Instr::Print(1),
         Instr::Label(START),
         Instr::Send(2, MAIN, Registers::of(vec![in alloc; 0]?)),
@@ -370,7 +372,7 @@ fn acts(rt: HostRuntime) -> Result<(), Fail> {
     );
     assert_eq!(rt; left.frame.place, 5);
 
-    let makes = vec![in alloc; Instr::Print(0), Instr::New(8, START), Instr::Int(8, 1)]?;
+    let makes = vec![in alloc; Instr::Print(0), Instr::New(8, Target::of(START)), Instr::Int(8, 1)]?;
     let left = turn(alloc, makes, 1)?;
     assert_eq!(rt; left.act, Act::New { kind: 1, into: 8 });
     assert_eq!(rt; left.frame.place, 2);
