@@ -34,7 +34,11 @@ fn behaviour_place(behaviours: &Behaviours, name: Name, arguments: u64) -> Optio
     let list = behaviours.as_slice();
     let place = behaviours.guess(name);
     match list.get(place) {
-        Some(b) if b.name == name => if takes(b, arguments) { Some(place) } else { None },
+        Some(b) if b.name == name => if takes(b, arguments) {
+            Some(place)
+        } else {
+            None
+        },
         _ => search_behaviour(list, name, arguments),
     }
 }
