@@ -100,7 +100,8 @@ pub(crate) fn first_fault(program: &Program) -> Option<CheckFault>
     }
 }
 
-/// The program as a checked one, which has beside its names where they stand. It takes no memory.
+/// The program as a checked one, with the places of what its instructions lead to. It takes no
+/// memory.
 ///
 /// # Errors
 /// Exactly where a rule fails: the first place, and at it the lowest rule. The program is dropped.

@@ -11,8 +11,8 @@ pub fn rules_are_kept_exactly()
     ensures { (p : Program) → (first_broken p ≡ None) ↔ KeepsRules p }
 {}
 
-/// In a checked program no two kinds, no two behaviours of a kind and no two labels of a behaviour have
-/// one name, so where a name stands at a place, it stands nowhere else.
+/// In a checked program no two kinds, no two behaviours of a kind and no two labels of a behaviour
+/// have one name, so where a name stands at a place, it stands nowhere else.
 #[tactic(auto, using(crate::proofs::Once::no_name_twice))]
 pub fn names_are_given_once()
     ensures { (p : Program) → IsChecked p → HasNoNameTwice p }

@@ -1,5 +1,5 @@
-// Programs made by hand: each rule at its place, the first place, and the lowest rule there; the places
-// that the check keeps.
+// Programs made by hand: each rule at its place, the first place, and the lowest rule there; the
+// places that the check keeps.
 
 ghost use Rattle.std.specs.Prelude.{◌≡◌, IfOk, length};
 
