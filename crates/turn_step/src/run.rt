@@ -44,8 +44,8 @@ fn search_label(body: &[Instr], from: usize, name: Name) -> usize
     at
 }
 
-/// The place behind the next label of this name, or behind the body. Where the check found the label
-/// it is looked for first: a label stands once in a body, so it is the next one if it is ahead.
+/// The place behind the next label of this name, or behind the body. Where the check found the
+/// label it is looked for first: a label stands once in a body, so one ahead is the next one.
 #[tactic(auto, using(crate::proofs::Guesses::label_guessed, crate::proofs::Guesses::label_within))]
 fn after_label(body: &[Instr], from: usize, label: &Target) -> usize
     requires ahead { from ≤ length body.now }

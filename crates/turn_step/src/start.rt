@@ -24,8 +24,8 @@ fn search_behaviour(behaviours: &[Behaviour], name: Name, arguments: u64) -> Opt
         .position(|b| b.name == name && takes(b, arguments))
 }
 
-/// The place of the behaviour that a call starts: the only one of the name where it is guessed, else
-/// by a search.
+/// The place of the behaviour that a call starts: the only one of the name where it is guessed,
+/// else by a search.
 fn behaviour_place(behaviours: &Behaviours, name: Name, arguments: u64) -> Option<usize>
     requires once { AllPairs (λ b c. b.name ≢ c.name) behaviours.now }
     ensures value { result ≡ position (takes_call name arguments) behaviours.now }
