@@ -155,7 +155,7 @@ no_kind_fault kinds n kind h = empty_append _ _ (record {
 -- facts of all bodies, told by place
 
 -- a fact of each behaviour of each kind, both found at their places
-abbrev EachPlaced : (Kind → List Instr → Type 0) → Program → Type 0
+abbrev pub EachPlaced : (Kind → List Instr → Type 0) → Program → Type 0
 EachPlaced P p = (n : ℕ) (k : Kind) → slice_get p.kinds n ≡ Some k → (m : ℕ) (b : Behaviour) →
     slice_get k.behaviours m ≡ Some b → P k b.body
 
@@ -163,7 +163,7 @@ all_bodies : (P : Kind → List Instr → Type 0) (p : Program) → EachPlaced P
 all_bodies P p h = All_by_place (λ (k : Kind). All (λ b. P k b.body) k.behaviours) p.kinds (λ n k found.
     All_by_place (λ (b : Behaviour). P k b.body) k.behaviours (h n k found))
 
-each_placed : (P : Kind → List Instr → Type 0) (p : Program) → AllBodies P p → EachPlaced P p
+pub each_placed : (P : Kind → List Instr → Type 0) (p : Program) → AllBodies P p → EachPlaced P p
 each_placed P p all n k found = All-slice_get (λ (b : Behaviour). P k b.body) k.behaviours
     (All-slice_get (λ (k : Kind). All (λ b. P k b.body) k.behaviours) p.kinds all n k found)
 

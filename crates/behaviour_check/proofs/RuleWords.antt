@@ -41,7 +41,7 @@ no_name_before {X} name xs all j y second = none_passes (λ x. name x == name y)
 is_label-self : (l : ℕ) → is_label l (I.Label l) ≡ true
 is_label-self l = eq-eqb l l refl
 
-label_named : (l : ℕ) (x : Instr) → is_label l x ≡ true → x ≡ I.Label l
+pub label_named : (l : ℕ) (x : Instr) → is_label l x ≡ true → x ≡ I.Label l
 label_named l (I.Label m) h = ap I.Label (eqb-true m l h)
 label_named l _ h = cc
 

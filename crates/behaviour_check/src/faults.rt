@@ -6,6 +6,7 @@ ghost use Rattle.behaviour_code.specs.WellFormed.{IsWellFormed};
 ghost use Rattle.behaviour_check.specs.Rules.{behaviour_faults, first_broken, kind_faults, numbered, step_faults};
 
 use crate::checked::{CheckFault, Checked};
+use crate::placing::with_places;
 use crate::rule::Rule;
 use crate::rules::{has_behaviour, has_kind, instr_rule};
 use behaviour_code::{Behaviour, Kind, Program};
@@ -99,7 +100,8 @@ pub(crate) fn first_fault(program: &Program) -> Option<CheckFault>
     }
 }
 
-/// The program as a checked one. It takes no memory.
+/// The program as a checked one, with the places of what its instructions lead to. It takes no
+/// memory.
 ///
 /// # Errors
 /// Exactly where a rule fails: the first place, and at it the lowest rule. The program is dropped.
@@ -110,6 +112,8 @@ pub fn check(program: Program) -> Result<Checked, CheckFault>
 {
     match first_fault(&program) {
         Some(fault) => Err(fault),
-        None => Ok(Checked { program }),
+        None => Ok(Checked {
+            program: with_places(program),
+        }),
     }
 }

@@ -4,12 +4,13 @@
 mod checked;
 mod faults;
 mod laws;
+mod placing;
 mod rule;
 mod rules;
 
 pub use checked::{CheckFault, Checked};
 pub use faults::check;
-pub use laws::rules_are_kept_exactly;
+pub use laws::{names_are_given_once, rules_are_kept_exactly};
 
 #[cfg(test)]
 mod tests;

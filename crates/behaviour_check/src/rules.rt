@@ -42,7 +42,7 @@ fn makes_unknown(kinds: &[Kind], instr: &Instr) -> bool
     ensures { result ≡ makes_unknown kinds.now instr.now }
 {
     match instr {
-        Instr::New(_, name) => !has_kind(kinds, *name),
+        Instr::New(_, kind) => !has_kind(kinds, kind.name()),
         _ => false,
     }
 }
@@ -51,7 +51,7 @@ fn jumps_nowhere(later: &[Instr], instr: &Instr) -> bool
     ensures { result ≡ jumps_nowhere later.now instr.now }
 {
     match instr {
-        Instr::Jump(label) | Instr::JumpZero(_, label) => !has_label(later, *label),
+        Instr::Jump(label) | Instr::JumpZero(_, label) => !has_label(later, label.name()),
         _ => false,
     }
 }

@@ -1,10 +1,14 @@
-// Programs made by hand: each rule at its place, the first place, and the lowest rule there.
+// Programs made by hand: each rule at its place, the first place, and the lowest rule there; the
+// places that the check keeps.
 
 ghost use Rattle.std.specs.Prelude.{◌≡◌, IfOk, length};
 
 use crate::faults::first_fault;
+use crate::placing::with_places;
 use crate::{CheckFault, check};
-use behaviour_code::{Behaviour, Instr, Kind, Name, Names, Program, Registers, RowRegisters};
+use behaviour_code::{
+    Behaviour, Behaviours, Instr, Kind, Name, Names, Program, Registers, RowRegisters, Target,
+};
 use plain_list::Listed;
 use std::alloc::Global;
 use std::test::Fail;
@@ -73,11 +77,11 @@ fn one_register(alloc: Global, register: u64) -> Result<Vec<u64>, Fail>
 fn instr(alloc: Global, step: Step) -> Result<Instr, Fail> {
     Ok(match step {
         Add(d, a, b) => Instr::Add(d, a, b),
-        Jump(label) => Instr::Jump(Name(label)),
-        JumpZero(a, label) => Instr::JumpZero(a, Name(label)),
+        Jump(label) => Instr::Jump(Target::of(Name(label))),
+        JumpZero(a, label) => Instr::JumpZero(a, Target::of(Name(label))),
         Label(label) => Instr::Label(Name(label)),
         Load(d, f) => Instr::Load(d, f),
-        New(d, kind) => Instr::New(d, Name(kind)),
+        New(d, kind) => Instr::New(d, Target::of(Name(kind))),
         Print(a) => Instr::Print(a),
         Row(d, value) => Instr::Row(d, RowRegisters::of(one_register(alloc, value)?)),
         Send(to, value) => Instr::Send(to, Name(0), Registers::of(one_register(alloc, value)?)),
@@ -106,7 +110,7 @@ fn kind(alloc: Global, name: u32, signatures: &[(u32, u8)]) -> Result<Kind, Fail
     Ok(Kind {
         name: Name(name),
         fields: 2,
-        behaviours,
+        behaviours: Behaviours::from(behaviours),
     })
 }
 
@@ -133,7 +137,7 @@ fn broken_in_body(alloc: Global, steps: &[Step]) -> Result<[u64; 4], Fail> {
     kinds.push(Kind {
         name: Name(1),
         fields: 2,
-        behaviours,
+        behaviours: Behaviours::from(behaviours),
     })?;
     broken_in(alloc, kinds)
 }
@@ -186,5 +190,56 @@ fn a_fault_tells_its_rule_and_its_place(rt: HostRuntime) -> Result<(), Fail> {
     };
     let text = "rule 4 fails at kind 1, behaviour 2, step 3";
     assert_eq!(rt; fault.to_string(rt.alloc())?.as_str(), text);
+    Ok(())
+}
+
+/// The place that an instruction keeps beside a name.
+fn place_in(instr: &Instr) -> Option<u32> {
+    match instr {
+        Instr::Jump(label) | Instr::JumpZero(_, label) => Some(label.place()),
+        Instr::New(_, kind) => Some(kind.place()),
+        _ => None,
+    }
+}
+
+#[test]
+fn places_are_kept(rt: HostRuntime) -> Result<(), Fail> {
+    let alloc = rt.alloc();
+    let steps = [
+        Jump(3),
+        New(0, 5),
+        Label(2),
+        JumpZero(0, 4),
+        New(0, 1),
+        Label(3),
+        JumpZero(0, 2),
+    ];
+    let mut behaviours = Listed::new(alloc);
+    behaviours.push(behaviour(alloc, 0, 0, &[])?)?;
+    behaviours.push(behaviour(alloc, 6, 0, &steps)?)?;
+    let second = Kind {
+        name: Name(5),
+        fields: 2,
+        behaviours: Behaviours::from(behaviours),
+    };
+    let mut kinds = Listed::new(alloc);
+    kinds.push(kind(alloc, 1, &[])?)?;
+    kinds.push(second)?;
+    let names = Names::new(alloc);
+    let placed = with_places(Program { kinds, names });
+    let body = placed.body(1, 1);
+    assert_eq!(rt; body.len(), 7);
+    let want = [
+        Some(5),
+        Some(1),
+        None,
+        Some(u32::MAX),
+        Some(0),
+        None,
+        Some(2),
+    ];
+    for i in 0..7 {
+        assert_eq!(rt; place_in(&body[i]), want[i], "at {i}");
+    }
     Ok(())
 }

@@ -3,6 +3,7 @@
 ghost use Rattle.std.specs.Prelude.{◌≡◌, ◌<◌, length, slice_get, Some};
 ghost use Rattle.behaviour_code.specs.Find.{body_of, behaviours_of, field_count, is_start, start_name};
 
+use crate::behaviours::Behaviours;
 use crate::instr::Instr;
 use crate::names::{Name, Names};
 use plain_list::Listed;
@@ -20,7 +21,7 @@ pub struct Behaviour {
 pub struct Kind {
     pub name: Name,
     pub fields: u8,
-    pub behaviours: Listed<Behaviour>,
+    pub behaviours: Behaviours,
 }
 
 /// A program: its kinds, of which the first makes the first actor, and the texts of its names.

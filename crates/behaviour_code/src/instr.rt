@@ -4,6 +4,7 @@ ghost use Rattle.std.specs.Prelude.{◌≡◌, ◌≤◌, length};
 ghost use Rattle.behaviour_code.specs.Find.{is_label};
 
 use crate::names::Name;
+use crate::target::Target;
 use orca_names::VALUES_LIMIT;
 use plain_list::Listed;
 use std::marker::Model;
@@ -119,9 +120,9 @@ pub enum Instr {
     /// `store fI rS`: the field becomes what rS holds.
     Store(u64, u64),
     /// `jump L`: goes on behind the label.
-    Jump(Name),
+    Jump(Target),
     /// `jzero rA L`: goes on behind the label where rA's number is 0.
-    JumpZero(u64, Name),
+    JumpZero(u64, Target),
     /// `label L`: does nothing.
     Label(Name),
     /// `pin`: this actor is pinned from now on.
@@ -129,7 +130,7 @@ pub enum Instr {
     /// `unpin`: this actor is pinned no longer.
     Unpin,
     /// `new rD NAME`: makes an actor of the kind, and rD becomes it.
-    New(u64, Name),
+    New(u64, Target),
     /// `send rT NAME rA ..`: sends rT, where it is an actor, a letter with these arguments.
     Send(u64, Name, Registers),
     /// `print rA`: prints what rA holds.
@@ -144,6 +145,18 @@ impl Instr {
         match self {
             Instr::Label(label) => *label == name,
             _ => false,
+        }
+    }
+
+    /// Keeps the place where the name was found that it leads to, if it leads to one.
+    pub fn set_place(&mut self, place: u32)
+        ensures { self.new ≡ self.old }
+    {
+        match self {
+            Instr::Jump(target) => target.set_place(place),
+            Instr::JumpZero(_, target) => target.set_place(place),
+            Instr::New(_, target) => target.set_place(place),
+            _ => {}
         }
     }
 }

@@ -126,9 +126,10 @@ impl Instr {
             Instr::Get(d, s, n) => Operands::three(Register(*d), Register(*s), Number(*n)),
             Instr::Load(d, f) => Operands::two(Register(*d), Field(*f)),
             Instr::Store(f, s) => Operands::two(Field(*f), Register(*s)),
-            Instr::Jump(l) | Instr::Label(l) => Operands::one(Operand::Name(*l)),
+            Instr::Label(l) => Operands::one(Operand::Name(*l)),
+            Instr::Jump(l) => Operands::one(Operand::Name(l.name())),
             Instr::JumpZero(r, l) | Instr::New(r, l) => {
-                Operands::two(Register(*r), Operand::Name(*l))
+                Operands::two(Register(*r), Operand::Name(l.name()))
             }
             Instr::Pin | Instr::Unpin => Operands::none(),
             Instr::Send(to, behaviour, values) => Operands {

@@ -1,6 +1,6 @@
-// Names that are given once, and what stands where no kind does.
+// Names that are given once, what stands where no kind does, and guesses of places.
 
-use crate::{Behaviour, Instr, Kind, Name, Names, Program};
+use crate::{Behaviour, Behaviours, Instr, Kind, Name, Names, Program, Target};
 use plain_list::Listed;
 use std::test::Fail;
 
@@ -35,7 +35,7 @@ fn a_start_has_no_parameters(rt: HostRuntime) -> Result<(), Fail> {
         let kind = Kind {
             name: Name(0),
             fields: 3,
-            behaviours: Listed::from(vec![in alloc; behaviour]?),
+            behaviours: Behaviours::from(vec![in alloc; behaviour]?),
         };
         let kinds = Listed::from(vec![in alloc; kind]?);
         let program = Program { kinds, names };
@@ -47,6 +47,51 @@ fn a_start_has_no_parameters(rt: HostRuntime) -> Result<(), Fail> {
             (1, 0)
         );
         assert!(rt; program.behaviours(1).is_empty());
+    }
+    Ok(())
+}
+
+#[test]
+fn places_are_guessed_by_names(rt: HostRuntime) -> Result<(), Fail> {
+    let alloc = rt.alloc();
+    let mut list = Listed::new(alloc);
+    for name in [7, 3, 71] {
+        list.push(Behaviour {
+            name: Name(name),
+            parameters: 0,
+            body: Listed::new(alloc),
+        })?;
+    }
+    let behaviours = Behaviours::from(list);
+    assert_eq!(rt; behaviours.guess(Name(3)), 1);
+    assert_eq!(rt; behaviours.guess(Name(71)), 2);
+    assert_eq!(rt; behaviours.guess(Name(7)), 2);
+    assert_eq!(rt; behaviours.guess(Name(4)), 255);
+    let copy = behaviours.clone()?;
+    assert!(rt; copy == behaviours && copy.guess(Name(3)) == 1);
+    assert_eq!(rt; copy.len(), 3);
+    Ok(())
+}
+
+#[test]
+fn a_place_is_no_part_of_an_instruction(rt: HostRuntime) -> Result<(), Fail> {
+    let alloc = rt.alloc();
+    let body = vec![in alloc;
+        Instr::Jump(Target::of(Name(4))),
+        Instr::JumpZero(1, Target::of(Name(4))),
+        Instr::New(2, Target::of(Name(4))),
+    ]?;
+    for instr in body.iter() {
+        let mut placed = instr.clone()?;
+        placed.set_place(9);
+        assert!(rt; placed == *instr);
+        let place = match &placed {
+            Instr::Jump(target) => target.place(),
+            Instr::JumpZero(_, target) => target.place(),
+            Instr::New(_, target) => target.clone()?.place(),
+            _ => 0,
+        };
+        assert_eq!(rt; place, 9);
     }
     Ok(())
 }

@@ -5,7 +5,7 @@ ghost use Rattle.behaviour_text.specs.Items.{operand_numbers, instr_of, name_pla
 ghost use Rattle.behaviour_text.specs.Table.{fits_count, word_operands};
 
 use crate::table::LineWord;
-use behaviour_code::{Instr, Name, Opcode, Registers, RowRegisters};
+use behaviour_code::{Instr, Name, Opcode, Registers, RowRegisters, Target};
 use std::alloc::{AllocError, Global};
 
 /// The number at a place, 0 where there is none.
@@ -70,12 +70,12 @@ pub(crate) fn instruction(
         Opcode::Get => Instr::Get(first, second, third),
         Opcode::Load => Instr::Load(first, second),
         Opcode::Store => Instr::Store(first, second),
-        Opcode::Jump => Instr::Jump(name),
-        Opcode::JumpZero => Instr::JumpZero(first, name),
+        Opcode::Jump => Instr::Jump(Target::of(name)),
+        Opcode::JumpZero => Instr::JumpZero(first, Target::of(name)),
         Opcode::Label => Instr::Label(name),
         Opcode::Pin => Instr::Pin,
         Opcode::Unpin => Instr::Unpin,
-        Opcode::New => Instr::New(first, name),
+        Opcode::New => Instr::New(first, Target::of(name)),
         Opcode::Send => return send_of(alloc, name, numbers),
         Opcode::Print => Instr::Print(first),
     })

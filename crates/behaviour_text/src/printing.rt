@@ -116,7 +116,7 @@ fn push_kind(out: &mut String, names: &Names, kind: &Kind) -> Result<(), AllocEr
 {
     let name = names.text_or_empty(kind.name);
     push_begin(out, "kind", name, kind.fields)?;
-    push_behaviours(out, names, &kind.behaviours)
+    push_behaviours(out, names, kind.behaviours.as_slice())
 }
 
 /// The canonical text as a string.

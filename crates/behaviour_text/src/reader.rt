@@ -12,7 +12,7 @@ use crate::items::{instruction, name_place, small_at};
 use crate::place::{Place, Stage, place_fault};
 use crate::table::{COMMENT_MARK, LineWord, line_word, put_numbers, starts_with};
 use crate::words::word_at;
-use behaviour_code::{Behaviour, Instr, Kind, Name, Names};
+use behaviour_code::{Behaviour, Behaviours, Instr, Kind, Name, Names};
 use plain_list::Listed;
 use std::alloc::{AllocError, Global};
 use std::{mem, str};
@@ -83,7 +83,7 @@ impl Reader {
         let kind = Kind {
             name: self.kind_name,
             fields: self.fields,
-            behaviours: mem::replace(&mut self.behaviours, Listed::new(alloc)),
+            behaviours: Behaviours::from(mem::replace(&mut self.behaviours, Listed::new(alloc))),
         };
         self.kinds.push(kind)
     }

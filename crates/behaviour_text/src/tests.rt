@@ -292,7 +292,7 @@ fn numbers(instr: &Instr) -> [u64; 4] {
         Instr::Get(d, s, n) => [2, *d, *s, *n],
         Instr::Load(d, f) => [3, *d, *f, 0],
         Instr::Store(f, s) => [4, *f, *s, 0],
-        Instr::JumpZero(a, label) => [5, *a, u64::from(label.0), 0],
+        Instr::JumpZero(a, label) => [5, *a, u64::from(label.name().0), 0],
         Instr::Send(to, name, values) => [
             6,
             *to,

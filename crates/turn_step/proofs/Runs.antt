@@ -15,10 +15,10 @@ use Rattle.behaviour_code.specs.declared.instr.Instr.{Instr}
 use Rattle.behaviour_code.specs.Find.{is_label}
 use Rattle.reach_walk.specs.Reach.{named_by}
 use Rattle.turn_rules.specs.declared.act.Effect.{Effect}
+use Rattle.turn_rules.specs.declared.act.Effect.TheVariants as E
 use Rattle.turn_rules.specs.Segment.{Setting, Turn, Stop, got_by, gets_from, gets_on, run_from, on_effect, step_of}
-use Rattle.turn_step.specs.declared.deed.Lead.TheVariants.{Leap}
 use Rattle.turn_step.specs.Held.{first_needed, is_needed}
-use Rattle.turn_step.specs.Turns.{LeadsTo, place_after}
+use Rattle.turn_step.specs.Turns.{place_after}
 
 -- the value at a place of a row, null where there is none
 pub place_or_null : (row : Option (List Value)) (i : ℕ) → unwrap_or (option_and_then (λ values. slice_get values i) row) Null ≡ option_map_or (λ values. slice_index_or values i Null) row Null
@@ -47,7 +47,7 @@ first_needed-append held xs ys none =
     ap (find (is_needed held)) (filter_map-append thing_of xs ys) ∙ find-append (is_needed held) (named_by xs) (named_by ys) ∙ ap (λ o. option_or o (first_needed held ys)) none
 
 module _ (p : Setting) (held : Thing → Bool) (body : List Instr) (i place label : ℕ) (d : Instr) (t u : Turn) (inside : i < length body) (at : d ≡ get_or body i d)
-    (leads : LeadsTo (first_needed held (got_by p d t)) (step_of p d t) t (Leap label) u) (found : place ≡ place_after label (drop (i + 1) body) (i + 1)) where
+    (leads : (first_needed held (got_by p d t) ≡ None) × (step_of p d t ≡ (E.Leap label, u))) (found : place ≡ place_after label (drop (i + 1) body) (i + 1)) where
   -- a leap goes on behind the label
   pub run_from-leap : run_from p (drop place body) None place u ≡ run_from p (drop i body) None i t
   run_from-leap =

@@ -42,7 +42,8 @@ act_of End t = A.End
 -- its effect says
 abbrev pub LeadsTo : Option Thing → Effect × Turn → Turn → Lead → Turn → Type 0
 LeadsTo first step before Next after = (first ≡ None) × (step ≡ (E.Next, after))
-LeadsTo first step before (Leap label) after = (first ≡ None) × (step ≡ (E.Leap label, after))
+LeadsTo first step before (Leap label) after =
+    (first ≡ None) × (step ≡ (E.Leap label.now, after))
 LeadsTo first step before (Does deed) after =
     (first ≡ None) × (step ≡ (E.Acts (act_of deed after), after))
 LeadsTo first step before (Needs x) after = (first ≡ Some x) × (after ≡ before)

@@ -5,7 +5,7 @@ ghost use Rattle.turn_step.specs.Turns.{act_of, answer_of};
 
 use crate::act::Act;
 use crate::turn::Turn;
-use behaviour_code::{Name, Registers};
+use behaviour_code::{Name, Registers, Target};
 use orca_names::{ActorName, Thing};
 
 /// What a turn does to others, and where it stops: an act whose values stand in registers.
@@ -36,7 +36,7 @@ pub(crate) enum Lead<'p> {
     /// To the next instruction.
     Next,
     /// Behind the next label of this name.
-    Leap(Name),
+    Leap(&'p Target),
     /// Out of the turn, by a deed.
     Does(Deed<'p>),
     /// Out of the turn, since it gets a thing that the actor needs.

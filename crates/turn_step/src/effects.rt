@@ -11,12 +11,12 @@ ghost use Rattle.turn_step.specs.Turns.{LeadsTo};
 use crate::deed::{Deed, Lead};
 use crate::setting::Setting;
 use crate::turn::Turn;
-use behaviour_code::{Name, Registers};
+use behaviour_code::{Name, Registers, Target};
 use orca_names::Value;
 
 /// Leaps to a label where the number is 0.
-pub(crate) fn leap_if_zero(number: u64, label: Name) -> Lead<'static>
-    ensures { (t : turn_state) → LeadsTo None (leap_if_zero number label, t) t result t }
+pub(crate) fn leap_if_zero<'p>(number: u64, label: &'p Target) -> Lead<'p>
+    ensures { (t : turn_state) → LeadsTo None (leap_if_zero number label.now, t) t result t }
 {
     if number == 0 {
         Lead::Leap(label)
@@ -26,8 +26,8 @@ pub(crate) fn leap_if_zero(number: u64, label: Name) -> Lead<'static>
 }
 
 /// Makes an actor of the kind of this name; an unknown kind makes nothing.
-pub(crate) fn new_actor(setting: &Setting<'_>, kind: Name, into: u64) -> Lead<'static>
-    ensures { let known = kind_named setting.now.code.now kind in
+pub(crate) fn new_actor(setting: &Setting<'_>, kind: &Target, into: u64) -> Lead<'static>
+    ensures { let known = kind_named setting.now.code.now kind.now in
         let effect = option_map_or (λ k. E.Acts (A.New k into)) known E.Next in
         (t : turn_state) → LeadsTo None (effect, t) t result t }
 {

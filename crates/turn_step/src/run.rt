@@ -1,6 +1,9 @@
 // A turn in place, up to its next act.
 
-ghost use Rattle.std.specs.Prelude.{◌≡◌, ◌+◌, ◌≤◌, length, drop, None, IfOk, OnOk};
+ghost use Rattle.std.specs.Prelude.{◌≡◌, ◌+◌, ◌≤◌, length, drop, slice_get, false, None, IfOk, OnOk};
+ghost use Rattle.std.specs.Option.{option_map_or};
+ghost use Rattle.behaviour_code.specs.Find.{is_label};
+ghost use Rattle.behaviour_check.specs.Keeps.{LabelsDiffer};
 ghost use Rattle.turn_rules.specs.Segment.{gets_from, run_from, segment_of};
 ghost use Rattle.turn_step.specs.Held.{first_needed, needed_in};
 ghost use Rattle.turn_step.specs.Turns.{HaltsAt, act_of, place_after, setting_of};
@@ -11,12 +14,21 @@ use crate::held::AllHeld;
 use crate::setting::Setting;
 use crate::step::step;
 use crate::turn::Turn;
-use behaviour_code::{Instr, Name};
+use behaviour_code::{Instr, Name, Target};
 use orca_names::{Fields, HeldTest, NoMemory, RowReader};
 use turn_rules::Frame;
 
-/// The place behind the next label of this name, or behind the body.
-fn after_label(body: &[Instr], from: usize, name: Name) -> usize
+fn is_label_at(body: &[Instr], place: usize, name: Name) -> bool
+    ensures { result ≡ option_map_or (is_label name) (slice_get body.now place) false }
+{
+    match body.get(place) {
+        Some(instr) => instr.is_label(name),
+        None => false,
+    }
+}
+
+/// The place behind the next label of this name, or behind the body, by a search.
+fn search_label(body: &[Instr], from: usize, name: Name) -> usize
     requires { from ≤ length body.now }
     ensures place { result ≡ place_after name (drop from body.now) from }
     ensures above { from ≤ result }
@@ -32,6 +44,24 @@ fn after_label(body: &[Instr], from: usize, name: Name) -> usize
     at
 }
 
+/// The place behind the next label of this name, or behind the body. Where the check found the
+/// label it is looked for first: a label stands once in a body, so one ahead is the next one.
+#[tactic(auto, using(crate::proofs::Guesses::label_guessed, crate::proofs::Guesses::label_within))]
+fn after_label(body: &[Instr], from: usize, label: &Target) -> usize
+    requires ahead { from ≤ length body.now }
+    requires once { LabelsDiffer body.now }
+    ensures place { result ≡ place_after label.now (drop from body.now) from }
+    ensures above { from ≤ result }
+    ensures within { result ≤ length body.now }
+{
+    let place = label.place() as usize;
+    if from <= place && is_label_at(body, place, label.name()) {
+        place + 1
+    } else {
+        search_label(body, from, label.name())
+    }
+}
+
 /// Runs a body from a place on, until its next act or until it gets what is needed.
 fn run<'p, R: RowReader, H: HeldTest>(
     setting: &Setting<'_>,
@@ -41,7 +71,8 @@ fn run<'p, R: RowReader, H: HeldTest>(
     place: u32,
     turn: &mut Turn,
 ) -> Result<Halt<'p>, NoMemory>
-    requires { length turn.old.made + length body.now ≤ BODY_LIMIT }
+    requires room { length turn.old.made + length body.now ≤ BODY_LIMIT }
+    requires once { LabelsDiffer body.now }
     ensures ok { let p = setting_of setting.now (R.rows rows.old) in
         let rest = drop place body.now in
         let needed = first_needed (H.held held.now) (gets_from p rest None place turn.old) in

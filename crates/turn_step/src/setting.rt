@@ -1,10 +1,11 @@
 // What a turn only reads, but for rows.
 
-ghost use Rattle.std.specs.Prelude.{◌≡◌, ◌+◌, ◌^◌, ◌<◌, length, position, IfSome};
+ghost use Rattle.std.specs.Prelude.{◌≡◌, ◌+◌, ◌^◌, ◌<◌, length, position, slice_get, false, IfSome};
+ghost use Rattle.std.specs.Option.{option_map_or};
 ghost use Rattle.behaviour_code.specs.Find.{is_kind};
 
 use behaviour_check::Checked;
-use behaviour_code::{Kind, Name};
+use behaviour_code::{Kind, Name, Target};
 use orca_names::{ActorName, ObjName, Row, RowReader, Value};
 
 /// What a turn only reads, but for rows: the program, the actor whose turn it is, and the serial
@@ -15,6 +16,15 @@ pub struct Setting<'p> {
     pub me: ActorName,
     pub base: u64,
     ghost room: { base + 1024 < 2 ^ 64 },
+}
+
+fn is_kind_at(kinds: &[Kind], place: usize, name: Name) -> bool
+    ensures { result ≡ option_map_or (is_kind name) (slice_get kinds.now place) false }
+{
+    match kinds.get(place) {
+        Some(kind) => kind.name == name,
+        None => false,
+    }
 }
 
 fn place_of_kind(kinds: &[Kind], name: Name) -> Option<usize>
@@ -30,11 +40,17 @@ impl<'p> Setting<'p> {
     ghost use Rattle.turn_rules.specs.Segment.{row_in};
     ghost use Rattle.turn_step.specs.Turns.{setting_of};
 
-    /// The place of the kind of this name.
-    pub(crate) fn find_kind(&self, name: Name) -> Option<u32>
-        ensures { result ≡ kind_named self.now.code.now name }
+    /// The place of the kind of this name: where the check found it, else by a search.
+    #[tactic(auto, using(crate::proofs::Guesses::kind_guessed))]
+    pub(crate) fn find_kind(&self, kind: &Target) -> Option<u32>
+        ensures { result ≡ kind_named self.now.code.now kind.now }
     {
-        match place_of_kind(self.code.program().kinds.as_slice(), name) {
+        let kinds = self.code.program().kinds.as_slice();
+        let place = kind.place();
+        if is_kind_at(kinds, place as usize, kind.name()) {
+            return Some(place);
+        }
+        match place_of_kind(kinds, kind.name()) {
             Some(i) => Some(i as u32),
             None => None,
         }

@@ -47,12 +47,12 @@ pub(crate) fn step<'p, R: RowReader, H: HeldTest>(
         Instr::Get(d, s, i) => return Ok(get(setting, rows, held, turn, *d, *s, *i)),
         Instr::Load(d, f) => turn.put(*d, turn.field(*f)),
         Instr::Store(f, s) => turn.store(*f, turn.value(*s)),
-        Instr::Jump(l) => return Ok(Lead::Leap(*l)),
-        Instr::JumpZero(a, l) => return Ok(leap_if_zero(number(turn.value(*a)), *l)),
+        Instr::Jump(l) => return Ok(Lead::Leap(l)),
+        Instr::JumpZero(a, l) => return Ok(leap_if_zero(number(turn.value(*a)), l)),
         Instr::Label(_) => {}
         Instr::Pin => turn.set_pinned(true),
         Instr::Unpin => turn.set_pinned(false),
-        Instr::New(d, kind) => return Ok(new_actor(setting, *kind, *d)),
+        Instr::New(d, kind) => return Ok(new_actor(setting, kind, *d)),
         Instr::Send(to, behaviour, values) => return Ok(post(turn, *to, *behaviour, values)),
         Instr::Print(a) => return Ok(Lead::Does(Deed::Print { register: *a })),
     }

@@ -9,15 +9,18 @@ ghost use Rattle.std.specs.List.{AllByRecursion};
 ghost use Rattle.behaviour_code.specs.WellFormed.{InstrFits, IsWellFormed, name_in};
 ghost use Rattle.orca_names.specs.declared.limits.TheConstants.{BODY_LIMIT};
 
-use crate::{Act, Frame, RegisterFile, segment, segment_held};
+use crate::{Act, Frame, RegisterFile, segment, segment_held, start_frame};
 use behaviour_check::{CheckFault, Checked, check};
-use behaviour_code::{Behaviour, Instr, Kind, Name, Names, Program, Registers, RowRegisters};
+use behaviour_code::{
+    Behaviour, Behaviours, Instr, Kind, Name, Names, Program, Registers, RowRegisters, Target,
+};
 use orca_names::{
     ActorName, Args, Fields, HeldTest, ObjName, Reading, Row, Rows, Serial, Thing, Value,
 };
 use plain_list::Listed;
 use std::alloc::{AllocError, Global};
 use std::test::Fail;
+use turn_rules::FrameRoom;
 
 // The two names of the program serve as labels, kinds and behaviours.
 const MAIN: Name = Name(0);
@@ -85,12 +88,12 @@ fn program(alloc: Global, body: Vec<Instr>) -> Result<Program, AllocError>
     let first = Kind {
         name: main,
         fields: 2,
-        behaviours: Listed::from(vec![in alloc; behaviour]?),
+        behaviours: Behaviours::from(vec![in alloc; behaviour]?),
     };
     let second = Kind {
         name: start,
         fields: 0,
-        behaviours: Listed::new(alloc),
+        behaviours: Behaviours::from(Listed::new(alloc)),
     };
     Ok(Program {
         kinds: Listed::from(vec![in alloc; first, second]?),
@@ -333,9 +336,9 @@ fn rows_and_fields(rt: HostRuntime) -> Result<(), Fail> {
 fn jumps(rt: HostRuntime) -> Result<(), Fail> {
     let alloc = rt.alloc();
     let jumps = vec![in alloc;
-        Instr::JumpZero(0, MAIN),
+        Instr::JumpZero(0, Target::of(MAIN)),
         Instr::Int(8, 1),
-        Instr::JumpZero(3, START),
+        Instr::JumpZero(3, Target::of(START)),
         Instr::Int(9, 1),
         Instr::Label(MAIN),
         Instr::Int(10, 1),
@@ -350,11 +353,54 @@ fn jumps(rt: HostRuntime) -> Result<(), Fail> {
     Ok(())
 }
 
+// A label that the check found is the one that a search finds: also from a place behind another one.
+#[test]
+fn jumps_from_the_middle(rt: HostRuntime) -> Result<(), Fail> {
+    let alloc = rt.alloc();
+    let jumps = vec![in alloc;
+        Instr::Label(MAIN),
+        Instr::Jump(Target::of(START)),
+        Instr::Label(START),
+        Instr::Int(8, 1),
+        Instr::New(9, Target::of(MAIN)),
+    ]?;
+    let left = turn(alloc, jumps, 1)?;
+    assert_eq!(rt; left.act, Act::New { kind: 0, into: 9 });
+    assert_eq!(rt;
+        &left.frame.registers.as_slice()[8..9],
+        [Value::Num(1)].as_slice()
+    );
+    assert_eq!(rt; left.frame.place, 5);
+    Ok(())
+}
+
+// The only behaviour is the first kind's `start`, which takes no argument.
+#[test]
+fn calls_start_what_takes_them(rt: HostRuntime) -> Result<(), Fail> {
+    let alloc = rt.alloc();
+    let code = check(program(alloc, vec![in alloc; Instr::Pin]?)?)?;
+    let none = Args::new();
+    let one = Args::nulls(1);
+    for (kind, name, args, starts) in [
+        (0, START, &none, true),
+        (0, START, &one, false),
+        (0, MAIN, &none, false),
+        (0, Name(65), &none, false),
+        (1, START, &none, false),
+        (2, START, &none, false),
+    ] {
+        let mut frame = FrameRoom::new();
+        start_frame(&code, kind, name, args, &mut frame);
+        assert_eq!(rt; frame.is_some(), starts, "{kind} {}", name.0);
+    }
+    Ok(())
+}
+
 #[test]
 fn acts(rt: HostRuntime) -> Result<(), Fail> {
     let alloc = rt.alloc();
     let prints = vec![in alloc;
-        Instr::Jump(START),
+        Instr::Jump(Target::of(START)),
         Instr::Print(1),
         Instr::Label(START),
         Instr::Send(2, MAIN, Registers::of(vec![in alloc; 0]?)),
@@ -370,7 +416,11 @@ fn acts(rt: HostRuntime) -> Result<(), Fail> {
     );
     assert_eq!(rt; left.frame.place, 5);
 
-    let makes = vec![in alloc; Instr::Print(0), Instr::New(8, START), Instr::Int(8, 1)]?;
+    let makes = vec![in alloc;
+        Instr::Print(0),
+        Instr::New(8, Target::of(START)),
+        Instr::Int(8, 1),
+    ]?;
     let left = turn(alloc, makes, 1)?;
     assert_eq!(rt; left.act, Act::New { kind: 1, into: 8 });
     assert_eq!(rt; left.frame.place, 2);

@@ -23,8 +23,8 @@ loop-at-preserved g c =
       above = omega (arith, c.after_label-at.ensures.above);
       within = omega (arith, c.after_label-at.ensures.within);
       few = omega (arith, c.after_label-at.ensures.above, step_makes p instr t, ap (λ s. length s.1.made) led.1);
-      rest = run_from-leap p held body i c.after_label-at.result c.in-Leap.label instr t u c.loop-at-test.true c.index-body-at.is led c.after_label-at.ensures.place ∙ c.loop-at.invariant.rest;
-      gets = gets_from-leap p held body i c.after_label-at.result c.in-Leap.label instr t u c.loop-at-test.true c.index-body-at.is led c.after_label-at.ensures.place ∙ c.loop-at.invariant.gets;
+      rest = run_from-leap p held body i c.after_label-at.result c.in-Leap.label.now instr t u c.loop-at-test.true c.index-body-at.is led c.after_label-at.ensures.place ∙ c.loop-at.invariant.rest;
+      gets = gets_from-leap p held body i c.after_label-at.result c.in-Leap.label.now instr t u c.loop-at-test.true c.index-body-at.is led c.after_label-at.ensures.place ∙ c.loop-at.invariant.gets;
       rows = c.step-done.ensures.same.0 ∙ c.loop-at.invariant.rows;
       names = c.step-done.ensures.same.1 ∙ c.loop-at.invariant.names;
     }

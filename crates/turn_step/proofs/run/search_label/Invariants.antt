@@ -1,6 +1,6 @@
 use Rattle.std.proofs.Common.{length, ◌-◌, ◌≡◌, ◌≤◌, drop}
 use Rattle.turn_step.specs.Turns.{place_after}
-use Rattle.turn_step.proofs.run.after_label.Given as goal
+use Rattle.turn_step.proofs.run.search_label.Given as goal
 
 abbrev pub invariant-loop-at : goal.invariant-loop-at
 invariant-loop-at l = record {
