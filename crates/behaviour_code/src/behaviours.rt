@@ -74,8 +74,8 @@ impl Eq for Guesses {
     ghost laws = { Prim.search (comparing, rules) };
 }
 
-/// The behaviours of a kind, seen by contracts as their list. Beside them stands where the
-/// behaviour of a name may be.
+/// The behaviours of a kind, seen by contracts as their list. Beside them stands where the behaviour
+/// of a name may be.
 #[derive(Clone, Debug, PartialEq, Eq, Drop)]
 pub struct Behaviours {
     list: Listed<Behaviour>,
