@@ -4,7 +4,6 @@ use Rattle.std.specs.Prelude.{◌==◌, option_map, nat_lt, is_some, position}
 use Rattle.std.specs.List.{filter, list_any}
 use Rattle.std.specs.Ordering.{nat_cmp, eq_by_cmp, is_eq}
 use Rattle.std.specs.Cmp.{nat_cmp_total, tied_itself}
-use Rattle.std.specs.declared.cmp.Ordering.TheVariants.{Less}
 use Rattle.std.specs.FinMap as m
 use Rattle.std.proofs.lemmas.Bool.{cases_lt, eq-eqb, eqb-true, false≢true, ne_eqb, or_right}
 use Rattle.std.proofs.lemmas.Bool.Decides.{nat_tests}
@@ -22,7 +21,7 @@ use Rattle.letter_kinds.specs.Holdings.{Row, entry_row}
 use Rattle.object_heap.specs.Heap.{Has, Heap, own_row}
 use Rattle.foreign_table.specs.Span.{IsSpan}
 use Rattle.foreign_table.specs.Table.{Table, known_row}
-use Rattle.known_rows.specs.InOrder.{AreInOrder, place_there, thing_at_place}
+use Rattle.known_rows.specs.InOrder.{place_there, thing_at_place}
 use Rattle.known_rows.specs.Known.{own_key, row_known}
 use Rattle.known_rows.specs.PlaceLaws.{placed_in_order}
 use Rattle.known_rows.specs.Places.{HoldsOthersOnly, held_above, held_below, own_things, place_in, placed_things}
