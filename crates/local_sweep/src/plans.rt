@@ -197,8 +197,7 @@ pub fn plan(
         IfOk result (λ plan. plan ≡ plan_of marked heap.now foreign.now) }
 {
     let known = KnownPlaces::of(heap, foreign);
-    let mut reader = known;
     let values = &fields.values;
-    let marks = mark_bits(alloc, values.as_slice(), &mut reader)?;
+    let marks = mark_bits(alloc, values.as_slice(), &known)?;
     plan_known(alloc, &marks, &known)
 }

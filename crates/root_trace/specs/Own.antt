@@ -5,10 +5,15 @@ use Rattle.std.specs.FinMap as m
 use Rattle.std.specs.Ordering.{nat_cmp, eq_by_cmp}
 use Rattle.std.specs.Cmp.{unsigned_tied}
 use Rattle.orca_names.specs.declared.names.ObjName.{ObjName}
+use Rattle.orca_names.specs.declared.names.Thing.TheVariants as names
 use Rattle.orca_names.specs.declared.names.Value.{Value}
 use Rattle.orca_names.specs.declared.names.Value.TheVariants.{Obj}
 use Rattle.letter_kinds.specs.Holdings.{Row}
 use Rattle.object_heap.specs.Heap.{Heap, own_row}
+use Rattle.foreign_table.specs.Table.{Table, known_row}
+use Rattle.known_rows.specs.Known.{row_known}
+use Rattle.known_rows.specs.OnlyPlaced.{rows_have_places}
+use Rattle.known_rows.specs.Places.{place_in}
 
 abbrev pub object_named : ℕ → ℕ → ObjName
 object_named owner serial = record { owner = owner; serial = serial }
@@ -41,6 +46,18 @@ found_named owner serial (e ∷ es) row h =
     by false behind other h =
         let later = behind h in
         (suc later.0, omega (arith, later.1), later.2)
+
+-- an own object without a place has no row
+pub own_have_places : (heap : Heap) (foreign : Table) (n : ObjName)
+    → place_in heap foreign (names.Obj n) ≡ None → own_row heap n ≡ None
+own_have_places heap foreign n none =
+    by (n.owner == heap.owner) refl (rows_have_places heap foreign n none)
+  where
+    by : (b : Bool) → (n.owner == heap.owner) ≡ b → row_known heap foreign n ≡ None
+        → own_row heap n ≡ None
+    by true mine h = sym (ap (λ b. cond b (own_row heap n) (known_row foreign n)) mine) ∙ h
+    by false other h =
+        ap (λ b. cond b (option_map (λ e. e.0) (m.get heap.rows n.serial)) None) other
 
 -- an own row is that of one of these
 pub own_named : (heap : Heap) (n : ObjName) (row : Row) → own_row heap n ≡ Some row

@@ -33,7 +33,7 @@ pub fn plan_in_use(
         IfOk result (λ plan. plan ≡ plan_of in_use heap.now brought.now) }
 {
     let roots = roots_of(alloc, fields, heap)?;
-    let mut rows = KnownPlaces::of(heap, brought);
-    let marks = mark_bits(alloc, roots.as_slice(), &mut rows)?;
+    let rows = KnownPlaces::of(heap, brought);
+    let marks = mark_bits(alloc, roots.as_slice(), &rows)?;
     plan_of_marks(alloc, &marks, heap, brought)
 }

@@ -30,14 +30,20 @@ impl RowReader for OwnRows<'_> {
 }
 
 impl PlacedRows for OwnRows<'_> {
-    fn read_at(&mut self, thing: &Thing, at: Option<usize>, row: &mut Row) -> bool {
-        let heap = self.known.rows.heap;
-        if thing.owner() != heap.owner() {
-            return false;
+    ghost use Rattle.root_trace.specs.Own.{own_have_places};
+
+    fn entry_at(&self, at: usize) -> (Thing, Option<&Row>) {
+        let known = &self.known;
+        let (thing, row) = known.entry_at(at);
+        if thing.owner() == known.rows.heap.owner() {
+            (thing, row)
+        } else {
+            (thing, None)
         }
-        let mut known = self.known;
-        known.read_at(thing, at, row)
     }
+
+    ghost only_placed = { λ s n none.
+        own_have_places s.known.rows.heap.now s.known.rows.foreign.now n none };
 }
 
 impl Places for OwnRows<'_> {
@@ -55,10 +61,6 @@ impl Places for OwnRows<'_> {
 
     fn place_of(&self, thing: &Thing) -> Option<usize> {
         self.known.place_of(thing)
-    }
-
-    fn thing_at(&self, at: usize) -> Thing {
-        self.known.thing_at(at)
     }
 
     ghost below = { λ s x p e. places_below s.known.rows.heap.now s.known.rows.foreign.now x p e };

@@ -66,9 +66,9 @@ pub fn plan_roots(
         IfOk result (λ plan. plan ≡ plan_of marked heap.now foreign.now) }
 {
     let roots = roots_of(alloc, fields, heap)?;
-    let mut own = OwnRows {
+    let own = OwnRows {
         known: KnownPlaces::of(heap, foreign),
     };
-    let marks = mark_bits(alloc, roots.as_slice(), &mut own)?;
+    let marks = mark_bits(alloc, roots.as_slice(), &own)?;
     plan_of_marks(alloc, &marks, heap, foreign)
 }
