@@ -7,7 +7,7 @@ mod receive;
 mod send;
 
 pub use laws::{loads_are_once, once_is_enough};
-pub use minting::lacking;
+pub use minting::{lacking, lacks_any};
 pub use reach_walk::{load_of, load_within};
 pub use receive::receive_trace;
 pub use send::send_trace;

@@ -1,6 +1,7 @@
 // What a letter loads of others that its sender can't spend.
 
 ghost use Rattle.std.specs.Prelude.{◌≡◌, ℕ, ◌==◌, ◌&&◌, IfOk, filter, map, slice_get, option_map};
+ghost use Rattle.std.specs.List.{list_any};
 ghost use Rattle.orca_names.specs.Names.{owner_of};
 ghost use Rattle.letter_kinds.specs.Counting.{is_lacking};
 ghost use Rattle.object_heap.specs.Heap.{Heap};
@@ -8,7 +9,7 @@ ghost use Rattle.known_rows.specs.Holdings.{holdings_of};
 ghost use Rattle.trace_send.specs.Lacking.{is_lacked as is_short, of_first_owner};
 
 use foreign_table::ForeignTable;
-use letter_kinds::Amounts;
+use letter_kinds::{Amounts, Load};
 use orca_names::{ActorName, NoMemory, Thing};
 use plain_list::Listed;
 use std::alloc::Global;
@@ -34,6 +35,20 @@ fn first_owner(things: &[Thing], me: ActorName, foreign: &ForeignTable) -> Optio
         }
     }
     None
+}
+
+/// Whether the sender of a letter with this load has to mint before it can send: whether it lacks
+/// some thing of it.
+pub fn lacks_any(load: &Load, me: ActorName, foreign: &ForeignTable) -> bool
+    ensures { (count : ℕ) (heap : Heap) → let held = holdings_of count heap foreign.now in
+        result ≡ list_any (λ e. is_lacking me held e.0) load.now }
+{
+    for loaded in load.as_slice() {
+        if is_lacked(&loaded.0, me, foreign) {
+            return true;
+        }
+    }
+    false
 }
 
 // Whether the thing is lacked, and this is its owner.
@@ -73,6 +88,7 @@ fn lacked_of(
 ///
 /// # Errors
 /// `NoMemory` where memory was refused.
+#[inline(always)]
 pub fn lacking(
     alloc: Global,
     things: &[Thing],
