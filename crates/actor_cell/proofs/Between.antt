@@ -6,8 +6,7 @@ use Rattle.std.proofs.lemmas.List.{get_or-append_right, get_or_append_left}
 use Rattle.std.proofs.lemmas.Option.{get_or_from_slice_get, none-some}
 use Rattle.orca_names.specs.Names.{is_thing}
 use Rattle.orca_names.specs.declared.names.Thing.{Thing}
-use Rattle.known_rows.specs.InOrder.{AreInOrder, thing_at_place}
-use Rattle.known_rows.proofs.Placed.{place_there}
+use Rattle.known_rows.specs.InOrder.{AreInOrder, place_there, thing_at_place}
 
 abbrev place : List Thing → Thing → Option ℕ
 place xs x = position (is_thing x) xs
@@ -55,16 +54,16 @@ module _ (lower made upper : List Thing) (before : AreInOrder (lower ++ upper)) 
       place_there ((lower ++ made) ++ upper) x (length lower + i) after (omega (arith, length-append (lower ++ made) upper, length-append lower made)) (at_made i x l ∙ here)
 
   -- and back
-  pub was_kept : (x : Thing) (p : ℕ) → place ((lower ++ made) ++ upper) x ≡ Some p → p < length lower → place (lower ++ upper) x ≡ Some p
+  was_kept : (x : Thing) (p : ℕ) → place ((lower ++ made) ++ upper) x ≡ Some p → p < length lower → place (lower ++ upper) x ≡ Some p
   was_kept x p e l = place_there (lower ++ upper) x p before (omega (arith, length-append lower upper)) (sym (at_lower p x l) ∙ stands ((lower ++ made) ++ upper) x p e)
 
-  pub was_moved : (x : Thing) (p : ℕ) → place ((lower ++ made) ++ upper) x ≡ Some p → length lower + length made ≤ p → place (lower ++ upper) x ≡ Some (p - length made)
+  was_moved : (x : Thing) (p : ℕ) → place ((lower ++ made) ++ upper) x ≡ Some p → length lower + length made ≤ p → place (lower ++ upper) x ≡ Some (p - length made)
   was_moved x p e l =
       let back : p - length made + length made ≡ p = omega arith in
       place_there (lower ++ upper) x (p - length made) before (omega (arith, more, within ((lower ++ made) ++ upper) x p e))
       (sym (at_upper (p - length made) x (omega arith)) ∙ ap (λ k. get_or ((lower ++ made) ++ upper) k x) back ∙ stands ((lower ++ made) ++ upper) x p e)
 
-  pub was_new : (x : Thing) (i : ℕ) → place ((lower ++ made) ++ upper) x ≡ Some (length lower + i) → i < length made → get_or made i x ≡ x
+  was_new : (x : Thing) (i : ℕ) → place ((lower ++ made) ++ upper) x ≡ Some (length lower + i) → i < length made → get_or made i x ≡ x
   was_new x i e l = sym (at_made i x l) ∙ stands ((lower ++ made) ++ upper) x (length lower + i) e
 
   -- what has no place
@@ -81,14 +80,4 @@ module _ (lower made upper : List Thing) (before : AreInOrder (lower ++ upper)) 
               absurd (other (p - length lower) (omega arith) (was_new x (p - length lower) (e ∙ ap Some sum) (omega arith)))
           | inr m ↦ absurd (none-some (p - length made) (sym none ∙ was_moved x p e m))
         ]
-      ]
-
-  pub had_none : (x : Thing) → place ((lower ++ made) ++ upper) x ≡ None → place (lower ++ upper) x ≡ None
-  had_none x none = by_place (place (lower ++ upper) x) refl
-    where
-      by_place : (o : Option ℕ) → place (lower ++ upper) x ≡ o → o ≡ None
-      by_place None e = refl
-      by_place (Some p) e = elim (cases_lt p (length lower)) as (λ _. Some p ≡ None) [
-        | inl l ↦ absurd (none-some p (sym none ∙ place_kept x p e l))
-        | inr l ↦ absurd (none-some (p + length made) (sym none ∙ place_moved x p e l))
       ]

@@ -26,7 +26,7 @@ use Rattle.known_rows.specs.Known.{row_known}
 use Rattle.known_rows.specs.PlaceLaws.{placed_in_order}
 use Rattle.known_rows.specs.Places.{held_above, held_below, own_things, place_in, placed_things}
 use Rattle.actor_cell.specs.InTurn.{ComeLater, made_in_turn, made_thing}
-use Rattle.actor_cell.proofs.Between.{had_none, has_none, more, place_kept, place_moved, place_new, was_kept, was_moved, was_new}
+use Rattle.actor_cell.proofs.Between.{has_none, more, place_kept, place_moved, place_new}
 use Rattle.actor_cell.proofs.Known.{known_is, or_before, row_of-made}
 
 -- so many serials from this one on
@@ -179,18 +179,6 @@ module _ (heap : Heap) (foreign : Table) (made : List Row) (come : ComeLater hea
       turned x ∙ has_none lower new_things upper before after x none
       (λ i l e. let m : i < length made = omega (arith, new_count) in other i m (sym e ∙ new_at i x m))
 
-  pub was_before : (x : Thing) (p : ℕ) → turn_place x ≡ Some p → p < length lower → place_in heap foreign x ≡ Some p
-  was_before x p e l = was_kept lower new_things upper before after x p (sym (turned x) ∙ e) l
-
-  pub was_behind : (x : Thing) (p : ℕ) → turn_place x ≡ Some p → length lower + length made ≤ p → place_in heap foreign x ≡ Some (p - length made)
-  was_behind x p e l = was_moved lower new_things upper before after x p (sym (turned x) ∙ e) (omega (arith, new_count)) ∙ ap (λ n. Some (p - n)) new_count
-
-  pub was_made : (x : Thing) (i : ℕ) → turn_place x ≡ Some (length lower + i) → i < length made → x ≡ made_thing heap i
-  was_made x i e l = sym (was_new lower new_things upper before after x i (sym (turned x) ∙ e) (omega (arith, new_count))) ∙ new_at i x l
-
-  pub was_none : (x : Thing) → turn_place x ≡ None → place_in heap foreign x ≡ None
-  was_none x e = had_none lower new_things upper before after x (sym (turned x) ∙ e)
-
   -- ---- rows
 
   abbrev pub turn_row : ObjName → Option Row
@@ -242,6 +230,3 @@ module _ (heap : Heap) (foreign : Table) (made : List Row) (come : ComeLater hea
   -- what has another place than those that were made was not made
   pub not_made : (x : Thing) (p : ℕ) → turn_place x ≡ Some p → ((i : ℕ) → i < length made → p ≢ length lower + i) → thing_row turn_row x ≡ thing_row (row_known heap foreign) x
   not_made x p e other = row_of_before x (λ i l same. let both : Some p ≡ Some (length lower + i) = sym e ∙ ap turn_place same ∙ turn_new i l in other i l (let it : p ≡ length lower + i = cc in it))
-
-  pub not_placed : (x : Thing) → turn_place x ≡ None → thing_row turn_row x ≡ thing_row (row_known heap foreign) x
-  not_placed x e = row_of_before x (λ i l same. none-some (length lower + i) (sym e ∙ ap turn_place same ∙ turn_new i l))

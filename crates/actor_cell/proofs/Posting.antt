@@ -1,12 +1,12 @@
 -- What a letter loads, and what is minted first.
-use Rattle.std.proofs.Common.{◌≡◌, ℕ, Bool, true, false, cond, Option, Some, None, List, [], ◌∷◌, ◌==◌, map, refl, sym, ap, ◌∙◌}
-use Rattle.std.specs.List.{filter}
+use Rattle.std.proofs.Common.{◌≡◌, ℕ, Bool, true, false, cond, Option, Some, None, List, [], ◌∷◌, ◌==◌, map, ◌||◌, refl, sym, ap, ◌∙◌}
+use Rattle.std.specs.List.{filter, list_any}
 use Rattle.orca_names.specs.Names.{owner_of}
 use Rattle.orca_names.specs.declared.names.ObjName.{ObjName}
 use Rattle.orca_names.specs.declared.names.Thing.{Thing}
 use Rattle.orca_names.specs.declared.names.Value.{Value}
 use Rattle.orca_names.specs.declared.trace.Trace.TheVariants.{Deep, Roots}
-use Rattle.reach_walk.specs.Marks.{marks_of}
+use Rattle.reach_walk.specs.Marks.{load_of, marks_of}
 use Rattle.reach_walk.specs.Reach.{thing_row}
 use Rattle.letter_kinds.specs.declared.letter.Letter.TheVariants.{App}
 use Rattle.letter_kinds.specs.Counting.{Amount, Loaded, is_lacking, lacking_of, to_mint}
@@ -34,6 +34,12 @@ things_same made count heap foreign args =
     let h = with_made made (holdings_of 0 heap foreign) in
     let rows = row_of heap.owner h in
     sym (firsts (thing_row rows) (marks_of rows (known_objects heap.owner h) args))
+
+pub load_same : (made : List Row) (count : ℕ) (heap : Heap) (foreign : Table) (args : List Value)
+    → (let h = with_made made (holdings_of 0 heap foreign) in load_of (row_of heap.owner h) (known_objects heap.owner h) args)
+    ≡ load_from Deep heap.owner (with_made made (holdings_of count heap foreign)) args
+unfolding row_of known_objects
+load_same made count heap foreign args = refl
 
 -- a thing with its row
 abbrev pub with_row : (ObjName → Option Row) → Thing → Loaded
@@ -94,6 +100,19 @@ pub lacked_in : (me : ℕ) (made : List Row) (h : Holdings) (load : List Loaded)
     → filter (is_lacking me h) things ≡ map thing_in (lacking_of me (with_made made h) load)
 lacked_in me made h load things is =
     ap (filter (is_lacking me h)) is ∙ tested (is_lacking me h) load ∙ ap (map thing_in) (lacking_same me made h load)
+
+none_pass : {X : Type 0} (p : X → Bool) (xs : List X) → list_any p xs ≡ false → filter p xs ≡ []
+none_pass p [] e = refl
+none_pass {X} p (x ∷ xs) e = by (p x) e (none_pass p xs)
+  where
+    by : (b : Bool) → (b || list_any p xs) ≡ false → (list_any p xs ≡ false → filter p xs ≡ []) → cond b (x ∷ filter p xs) (filter p xs) ≡ []
+    by true e rest = cc
+    by false e rest = rest e
+
+-- where none is lacked
+pub none_lacked : (me : ℕ) (made : List Row) (h : Holdings) (load : List Loaded) → list_any (λ (e : Loaded). is_lacking me h e.0) load ≡ false
+    → lacking_of me (with_made made h) load ≡ []
+none_lacked me made h load e = sym (lacking_same me made h load) ∙ none_pass (λ (e : Loaded). is_lacking me h e.0) load e
 
 same_pair : {A B : Type 0} (p q : A × B) → Some p ≡ Some q → p ≡ q
 same_pair p q e = cc

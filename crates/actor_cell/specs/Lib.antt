@@ -2,6 +2,7 @@ pub mod Can
 pub mod Cells
 pub mod Founds
 pub mod Goes
+pub mod HavePlaces
 pub mod InTurn
 pub mod Laws
 pub mod Outs

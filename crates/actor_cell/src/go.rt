@@ -1,7 +1,8 @@
 // Go: a frame runs up to its next act.
 
-ghost use Rattle.std.specs.Prelude.{◌≡◌, ◌+◌, ◌<◌, ◌≤◌, ◌^◌, IfOk, IsSome, OnOk, Some, length, map, option_map};
+ghost use Rattle.std.specs.Prelude.{◌≡◌, ◌+◌, ◌<◌, ◌≤◌, ◌^◌, IfOk, IsSome, IsTrue, OnOk, Some, length, map, option_map};
 ghost use Rattle.orca_names.specs.Names.{owner_of};
+ghost use Rattle.orca_names.specs.declared.trace.Trace.TheVariants.{Deep as deep};
 ghost use Rattle.machine_rules.specs.Go.{lacking_from, load_from, needed, rows_from, to_need, turn_of_cell};
 ghost use Rattle.turn_step.specs.Turns.{HaltsAt, act_of};
 ghost use Rattle.actor_cell.specs.declared.turning.Move.TheVariants.{Mint as mint};
@@ -16,13 +17,13 @@ use behaviour_check::Checked;
 use behaviour_code::Name;
 use foreign_table::ForeignTable;
 use known_rows::KnownRows;
-use letter_kinds::{Amounts, Letter};
+use letter_kinds::{Amounts, Letter, Load};
 use orca_names::{ActorName, Args, NoMemory, Reading, Row, Thing, Trace};
 use plain_list::Listed;
 use reach_walk::ThingList;
 use root_trace::missing;
 use std::alloc::Global;
-use trace_send::lacking;
+use trace_send::{lacking, lacks_any};
 use turn_rules::Frame;
 use turn_step::{Deed, Halt, Setting, Turn, segment_at, segment_held_at};
 
@@ -37,7 +38,62 @@ fn amounts_of(alloc: Global, things: &[Thing], weight: u32) -> Result<Amounts, N
     Ok(amounts)
 }
 
+// The things of a load, without their rows.
+fn things_of(alloc: Global, load: &Load) -> Result<Listed<Thing>, NoMemory>
+    ensures { IfOk result (λ things. things ≡ map (λ e. e.0) load.now) }
+{
+    let mut things = Listed::new(alloc);
+    for loaded in load.as_slice() {
+        things.push(loaded.0)?;
+    }
+    Ok(things)
+}
+
 impl Cell {
+    // The letter of a deep trace with its load by places, or what it mints first; `false` where
+    // places do not serve.
+    #[inline(never)]
+    fn posting_many(
+        &self,
+        alloc: Global,
+        weight: u32,
+        made: &[Row],
+        to: ActorName,
+        behaviour: Name,
+        args: &Args,
+        act: &mut Move,
+    ) -> Result<bool, NoMemory>
+        ensures { let me = self.now.heap.owner in
+            let c = having_made made.now (as_cell self.now) in
+            IfOk result (λ done. IsTrue done → act.new ≡ post_or_mint weight to behaviour args.now
+            (load_from deep me c.holdings args.now) (rows_from deep me c args.now)
+            (lacking_from deep me c.holdings args.now)) }
+    {
+        let Some(load) = self.load_of_many(alloc, made, args)? else {
+            return Ok(false);
+        };
+        let me = self.heap.owner();
+        if !lacks_any(&load, me, &self.foreign) {
+            *act = Move::Post {
+                to,
+                letter: Letter::App {
+                    behaviour,
+                    args: *args,
+                    load,
+                    rows: Listed::new(alloc),
+                },
+            };
+            return Ok(true);
+        }
+        let loaded = things_of(alloc, &load)?;
+        let minted = lacking(alloc, loaded.as_slice(), me, &self.foreign, weight)?;
+        let Some((owner, things)) = minted else {
+            return Ok(false);
+        };
+        *act = Move::Mint { owner, things };
+        Ok(true)
+    }
+
     // The letter with its load and rows, or what it mints first.
     fn posting(
         &self,
@@ -56,6 +112,12 @@ impl Cell {
             (load_from trace me c.holdings args.now) (rows_from trace me c args.now)
             (lacking_from trace me c.holdings args.now)) }
     {
+        if self.reaches_many(trace, made, args) {
+            let done = self.posting_many(alloc, weight, made, to, behaviour, args, act)?;
+            if done {
+                return Ok(());
+            }
+        }
         let mut things = ThingList::new(alloc);
         self.find_things(alloc, trace, made, args, &mut things)?;
         let me = self.heap.owner();

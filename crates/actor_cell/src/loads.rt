@@ -1,6 +1,6 @@
 // What a letter loads, and which rows it carries.
 
-ghost use Rattle.std.specs.Prelude.{◌≡◌, IfOk, List, OnOk, map};
+ghost use Rattle.std.specs.Prelude.{◌≡◌, IfOk, IfSome, IsTrue, List, OnOk, map};
 ghost use Rattle.orca_names.specs.declared.names.Value.{Value as value};
 ghost use Rattle.orca_names.specs.declared.trace.Trace.TheVariants.{Deep as deep, Roots as roots};
 ghost use Rattle.reach_walk.specs.Reach.{thing_row};
@@ -17,7 +17,7 @@ use known_rows::KnownRows;
 use letter_kinds::Load;
 use orca_names::{Args, NoMemory, Reading, Row, Thing, Trace};
 use plain_list::Listed;
-use reach_walk::{ThingList, Unplaced, find_loaded, with_rows};
+use reach_walk::{ThingList, find_loaded, load_by_place, with_rows};
 use root_trace::{find_loaded_roots, rows_of, without_rows};
 use std::alloc::Global;
 
@@ -48,17 +48,37 @@ impl Cell {
             OnOk result (things.new ≡ things_from deep self.now.heap.owner h args.now) }
     {
         let rows = self.rows_with(&self.foreign, made);
-        if may_reach_many(&rows, args) {
-            if let Some(mut places) = TurnPlaces::of(rows) {
-                return find_loaded(alloc, args, &mut places, things);
-            }
+        find_loaded(alloc, args, &mut Reading { rows: &rows }, things)
+    }
+
+    // Whether the arguments may reach so much that places are worth while.
+    pub(crate) fn reaches_many(&self, trace: Trace, made: &[Row], args: &Args) -> bool
+        ensures { IsTrue result → trace ≡ deep }
+    {
+        match trace {
+            Trace::Deep => may_reach_many(&self.rows_with(&self.foreign, made), args),
+            Trace::Roots => false,
         }
-        let mut reader = Unplaced {
-            of: Reading { rows: &rows },
-        };
-        let found = find_loaded(alloc, args, &mut reader, things);
-        let Unplaced { of: _ } = reader;
-        found
+    }
+
+    // The load of a letter with these arguments, by places, where the turn made these rows; `None`
+    // where places do not serve.
+    #[inline(never)]
+    pub(crate) fn load_of_many(
+        &self,
+        alloc: Global,
+        made: &[Row],
+        args: &Args,
+    ) -> Result<Option<Load>, NoMemory>
+        ensures { let h = with_made made.now (as_cell self.now).holdings in
+            IfOk result (λ found. IfSome found (λ load.
+            load ≡ load_from deep self.now.heap.owner h args.now)) }
+    {
+        let rows = self.rows_with(&self.foreign, made);
+        match TurnPlaces::of(rows) {
+            Some(places) => load_by_place(alloc, args, &places),
+            None => Ok(None),
+        }
     }
 
     // These things with their rows, where the turn made these.
@@ -67,12 +87,7 @@ impl Cell {
             IfOk result (λ load. load ≡ map (λ x. (x, thing_row rows x)) things.now) }
     {
         let rows = self.rows_with(&self.foreign, made);
-        let mut reader = Unplaced {
-            of: Reading { rows: &rows },
-        };
-        let load = with_rows(alloc, things, &mut reader);
-        let Unplaced { of: _ } = reader;
-        load
+        with_rows(alloc, things, &mut Reading { rows: &rows })
     }
 
     // Finds the things that a letter with these arguments loads, where the turn made these rows.
@@ -113,20 +128,17 @@ impl Cell {
 
     // The rows that these arguments reach, its own and those that letters brought, where the turn
     // made these.
+    #[inline(never)]
     fn brought(&self, alloc: Global, made: &[Row], args: &Args) -> Result<Load, NoMemory>
         ensures { let c = having_made made.now (as_cell self.now) in
             IfOk result (λ rows. rows ≡ rows_from roots self.now.heap.owner c args.now) }
     {
         let rows = self.rows_with(self.known.held(), made);
-        let mut reader = Unplaced {
-            of: Reading { rows: &rows },
-        };
-        let carried = rows_of(alloc, args, &mut reader);
-        let Unplaced { of: _ } = reader;
-        carried
+        rows_of(alloc, args, &mut Reading { rows: &rows })
     }
 
     // The rows that a letter with these arguments carries, where the turn made these.
+    #[inline(always)]
     pub(crate) fn carried(
         &self,
         alloc: Global,

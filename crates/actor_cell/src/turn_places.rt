@@ -179,21 +179,21 @@ impl RowReader for TurnPlaces<'_> {
 }
 
 impl PlacedRows for TurnPlaces<'_> {
-    fn read_at(&mut self, thing: &Thing, at: Option<usize>, row: &mut Row) -> bool {
-        let mut known = self.known;
-        let Some(at) = at else {
-            return known.read_at(thing, None, row);
-        };
+    ghost use Rattle.actor_cell.specs.HavePlaces.{rows_have_places};
+
+    fn entry_at(&self, at: usize) -> (Thing, Option<&Row>) {
         if at < self.first {
-            return known.read_at(thing, Some(at), row);
+            return self.known.entry_at(at);
         }
         let i = at - self.first;
         if i < self.made.len() {
-            *row = self.made[i];
-            return true;
+            return (self.made_thing(i), self.made.get(i));
         }
-        known.read_at(thing, Some(at - self.made.len()), row)
+        self.known.entry_at(at - self.made.len())
     }
+
+    ghost only_placed = { λ s n none.
+        rows_have_places s.made.now s.known.rows.heap.now s.known.rows.foreign.now n none };
 }
 
 impl Places for TurnPlaces<'_> {
@@ -221,17 +221,6 @@ impl Places for TurnPlaces<'_> {
             Some(at) => Some(at + self.made.len()),
             None => None,
         }
-    }
-
-    fn thing_at(&self, at: usize) -> Thing {
-        if at < self.first {
-            return self.known.thing_at(at);
-        }
-        let i = at - self.first;
-        if i < self.made.len() {
-            return self.made_thing(i);
-        }
-        self.known.thing_at(at - self.made.len())
     }
 
     ghost below = { λ s x p e. places_below (with_new s.made.now s.known.rows.heap.now)

@@ -7,21 +7,10 @@ use Rattle.machine_rules.specs.Cell.{known_objects}
 use Rattle.actor_cell.proofs.Posting.{things_same}
 use Rattle.actor_cell.proofs.cell.Cell.find_reached.Goals as goal
 
-pub returns-in-Some : goal.returns-in-Some
-returns-in-Some c =
-    let s = c.args.self.now in
-    let read = c.rows_with-rows.ensures in
-    let heap = c.in-Some.ensures.0 ∙ read.0 in
-    let foreign = c.in-Some.ensures.1 ∙ read.1 in
-    let made = c.in-Some.ensures.2 ∙ read.2 in
-    let same = (λ i. let h = with_made (made i) (holdings_of 0 (heap i) (foreign i)) in marks_of (row_of (heap i).owner h) (known_objects (heap i).owner h) c.args.args.now)
-    ∙ things_same c.args.made.now s.count s.heap s.foreign c.args.args.now in
-    subst (λ it. OnOk c.find_loaded.result (c.find_loaded.new.things ≡ it)) same c.find_loaded.ensures.things
-
 pub returns : goal.returns
 returns c =
     let s = c.args.self.now in
     let read = c.rows_with-rows.ensures in
     let same = (λ i. let h = with_made (read.2 i) (holdings_of 0 (read.0 i) (read.1 i)) in marks_of (row_of (read.0 i).owner h) (known_objects (read.0 i).owner h) c.args.args.now)
     ∙ things_same c.args.made.now s.count s.heap s.foreign c.args.args.now in
-    subst (λ it. OnOk c.find_loaded-found.result (c.find_loaded-found.new.things ≡ it)) same c.find_loaded-found.ensures.things
+    subst (λ it. OnOk c.find_loaded.result (c.find_loaded.new.things ≡ it)) same c.find_loaded.ensures.things

@@ -3,13 +3,22 @@ use Rattle.std.specs.List.{filter}
 use Rattle.letter_kinds.specs.declared.letter.Letter.TheVariants.{App}
 use Rattle.letter_kinds.specs.Counting.{is_lacking, lacking_of}
 use Rattle.letter_kinds.specs.Holdings.{with_made}
-use Rattle.machine_rules.specs.Go.{load_from, rows_from}
+use Rattle.machine_rules.specs.Go.{lacking_from, load_from, rows_from}
 use Rattle.trace_send.specs.Lacking.{of_first_owner}
 use Rattle.actor_cell.specs.declared.turning.Move.TheVariants.{Post}
 use Rattle.actor_cell.specs.Cells.{as_cell}
-use Rattle.actor_cell.specs.Goes.{having_made}
+use Rattle.actor_cell.specs.Goes.{having_made, post_or_mint}
 use Rattle.actor_cell.proofs.Posting.{lacked_in, mints, posts}
 use Rattle.actor_cell.proofs.cell.Cell.posting.Goals as goal
+
+pub returns-then-done : goal.returns-then-done
+returns-then-done c =
+    let s = c.args.self.now in
+    let me = s.heap.owner in
+    let kept = having_made c.args.made.now (as_cell s) in
+    c.in_ok-done.ensures c.if-done.true
+    ∙ ap (λ t. post_or_mint c.args.weight c.args.to c.args.behaviour c.args.args.now (load_from t me kept.holdings c.args.args.now)
+    (rows_from t me kept c.args.args.now) (lacking_from t me kept.holdings c.args.args.now)) (sym (c.reaches_many.ensures c.if-reaches_many.true))
 
 pub returns-in-Some : goal.returns-in-Some
 returns-in-Some c =

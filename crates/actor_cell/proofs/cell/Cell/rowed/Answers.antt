@@ -11,4 +11,4 @@ returns c =
     let read = c.rows_with-rows.ensures in
     let same = (λ i. map (with_row (row_of (read.0 i).owner (with_made (read.2 i) (holdings_of 0 (read.0 i) (read.1 i))))) c.args.things.now)
     ∙ rows_same c.args.made.now s.count s.heap s.foreign c.args.things.now in
-    subst (λ it. IfOk c.with_rows-load.result (λ load. load ≡ it)) same c.with_rows-load.ensures.load
+    subst (λ it. IfOk c.with_rows.result (λ load. load ≡ it)) same c.with_rows.ensures.load
