@@ -9,12 +9,12 @@ use Rattle.foreign_table.specs.Table.{Table}
 use Rattle.known_rows.specs.Holdings.{holdings_of}
 use Rattle.known_rows.specs.OnlyPlaced as known
 use Rattle.known_rows.specs.Places.{place_in}
-use Rattle.actor_cell.proofs.Known.{known_is}
+use Rattle.known_rows.proofs.Rows.{row_known-row_of}
 
 -- what the turn made has places as what was known has
 pub rows_have_places : (made : List Row) (heap : Heap) (foreign : Table) (n : ObjName)
     → place_in (with_new made heap) foreign (Obj n) ≡ None
     → row_of heap.owner (with_made made (holdings_of 0 heap foreign)) n ≡ None
 rows_have_places made heap foreign n none =
-    sym (known_is 0 (with_new made heap) foreign n)
+    sym (row_known-row_of 0 (with_new made heap) foreign n)
     ∙ known.rows_have_places (with_new made heap) foreign n none

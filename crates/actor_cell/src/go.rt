@@ -87,10 +87,13 @@ impl Cell {
         }
         let loaded = things_of(alloc, &load)?;
         let minted = lacking(alloc, loaded.as_slice(), me, &self.foreign, weight)?;
-        let Some((owner, things)) = minted else {
+        let Some(found) = minted else {
             return Ok(false);
         };
-        *act = Move::Mint { owner, things };
+        *act = Move::Mint {
+            owner: found.0,
+            things: found.1,
+        };
         Ok(true)
     }
 

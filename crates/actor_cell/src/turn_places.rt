@@ -187,7 +187,7 @@ impl PlacedRows for TurnPlaces<'_> {
         }
         let i = at - self.first;
         if i < self.made.len() {
-            return (self.made_thing(i), self.made.get(i));
+            return (self.made_thing(i), Some(&self.made[i]));
         }
         self.known.entry_at(at - self.made.len())
     }

@@ -41,4 +41,4 @@ returns c = λ _.
     let its = lacked_in me made h load c.as_slice.result.now things in
     let is = sym c.in-Some-minted.is ∙ c.in_ok-minted.ensures s.count s.heap
     ∙ ap (of_first_owner c.args.weight) (ap (λ a. filter (is_lacking a h) c.as_slice.result.now) c.owner-me.ensures ∙ its) in
-    mints c.args.weight c.args.to c.args.behaviour args load [] lacked c.in-Some-minted.owner c.in-Some-minted.things is
+    mints c.args.weight c.args.to c.args.behaviour args load [] lacked c.in-Some-minted.found.0 c.in-Some-minted.found.1 is

@@ -1,5 +1,5 @@
-use Rattle.std.proofs.Common.{◌≡◌, ◌+◌, ◌-◌, ◌<◌, ◌≤◌, [], Some, length, sym, subst, ap, ◌∙◌, arith}
-use Rattle.std.proofs.lemmas.Option.{slice_get-get_or}
+use Rattle.std.proofs.Common.{◌≡◌, ◌+◌, ◌-◌, ◌<◌, [], Some, length, sym, subst, ap, ◌∙◌, arith}
+use Rattle.std.proofs.lemmas.List.{get_or_default}
 use Rattle.known_rows.specs.Places.{placed_things}
 use Rattle.actor_cell.proofs.Later.{lower, lower_within, not_made, row_of_made, turn_count, turn_kept, turn_moved, turn_new, turn_place}
 use Rattle.actor_cell.proofs.turn_places.TurnPlacesPlacedRows.entry_at.Goals as goal
@@ -32,8 +32,8 @@ pub returns-then-i-self-clause-row : goal.returns-then-i-self-clause-row
 returns-then-i-self-clause-row c = λ _.
     let s = c.args.self.now in
     let i = c.args.at - s.first in
-    c.get.ensures ∙ slice_get-get_or s.made.now i [] c.if-i-self.true
-    ∙ sym (row_of_made s.known.rows.heap.now s.known.rows.foreign.now s.made.now s.later c.made_thing.result i c.if-i-self.true c.made_thing.ensures)
+    sym (row_of_made s.known.rows.heap.now s.known.rows.foreign.now s.made.now s.later c.made_thing.result i c.if-i-self.true c.made_thing.ensures
+    ∙ ap Some (get_or_default s.made.now i [] c.index-self-i.result c.if-i-self.true))
 
 pub returns-clause-thing : goal.returns-clause-thing
 returns-clause-thing c = λ l.
