@@ -1,15 +1,14 @@
 -- Where the things that an actor knows have their places.
 use Rattle.std.proofs.Common.{◌≡◌, ◌≢◌, inl, inr, ℕ, zero, suc, ◌+◌, ◌-◌, ◌<◌, ◌≤◌, Bool, true, false, cond, ◌||◌, List, [], ◌∷◌, ◌++◌, length, get_or, take, drop, slice_get, Option, Some, None, refl, sym, ap, ◌∙◌, arith, length-append}
-use Rattle.std.specs.Prelude.{◌==◌, option_map, nat_lt, is_some, position}
+use Rattle.std.specs.Prelude.{option_map, nat_lt, position}
 use Rattle.std.specs.List.{filter, list_any}
 use Rattle.std.specs.Ordering.{nat_cmp, eq_by_cmp, is_eq}
 use Rattle.std.specs.Cmp.{nat_cmp_total, tied_itself}
 use Rattle.std.specs.FinMap as m
-use Rattle.std.proofs.lemmas.Bool.{cases_lt, eq-eqb, eqb-true, false≢true, ne_eqb, or_right}
-use Rattle.std.proofs.lemmas.Bool.Decides.{nat_tests}
+use Rattle.std.proofs.lemmas.Bool.{cases_lt, eq-eqb, false≢true, le-ltb, lt-ltb, ne_eqb, or_right}
 use Rattle.std.proofs.lemmas.List.{get_or-append_right, get_or-drop, get_or-map, get_or-take, get_or_append_left, length-map, get_or_default, length-take-le, length-drop}
 use Rattle.std.proofs.lemmas.List.Sums.{position_or_len_is}
-use Rattle.std.proofs.lemmas.Option.{get_or_from_slice_get, none-some, slice_get-map, slice_get_read, slice_get_within}
+use Rattle.std.proofs.lemmas.Option.{get_or_from_slice_get, slice_get_within}
 use Rattle.std.proofs.lemmas.Map.Views.{Contains-from_any}
 use Rattle.plain_list.proofs.Rising.{value_at_place}
 use Rattle.orca_names.specs.Names.{is_thing, owner_of, thing_cmp}
@@ -21,24 +20,19 @@ use Rattle.letter_kinds.specs.Holdings.{Row, entry_row}
 use Rattle.object_heap.specs.Heap.{Has, Heap, own_row}
 use Rattle.foreign_table.specs.Span.{IsSpan}
 use Rattle.foreign_table.specs.Table.{Table, known_row}
-use Rattle.known_rows.specs.InOrder.{place_there, thing_at_place}
-use Rattle.known_rows.specs.Known.{own_key, row_known}
+use Rattle.reach_walk.specs.Reach.{thing_row}
+use Rattle.known_rows.specs.InOrder.{place_there}
+use Rattle.known_rows.specs.Known.{row_known}
 use Rattle.known_rows.specs.PlaceLaws.{placed_in_order}
 use Rattle.known_rows.specs.Places.{HoldsOthersOnly, held_above, held_below, own_things, place_in, placed_things}
 
 -- ---- places in a list
 
-is_below : (i n : ℕ) → i < n → nat_lt i n ≡ true
-is_below i n l = grind (arith, nat_tests)
-
-not_itself : (n : ℕ) → nat_lt n n ≡ false
-not_itself n = grind (arith, nat_tests)
-
 -- one that stands nowhere has none
 no_place : (xs : List Thing) (x : Thing) → ((k : ℕ) → k < length xs → x ≢ get_or xs k x) → position (is_thing x) xs ≡ None
 no_place xs x h =
     let last = position_or_len_is (is_thing x) xs (length xs) x (omega arith) (λ k l. is_ne_false x (get_or xs k x) (h k l)) (λ l. absurd (omega arith)) in
-    ap (λ p. cond (nat_lt p (length xs)) (Some p) None) last ∙ ap (λ b. cond b (Some (length xs)) None) (not_itself (length xs))
+    ap (λ p. cond (nat_lt p (length xs)) (Some p) None) last ∙ ap (λ b. cond b (Some (length xs)) None) (le-ltb (length xs) (length xs) (omega arith))
 
 -- what passes at the front, and not behind it
 passes_in_front : (p : Thing → Bool) (xs : List Thing) (n : ℕ) → n ≤ length xs → ((k : ℕ) (d : Thing) → k < n → p (get_or xs k d) ≡ true)
@@ -65,12 +59,6 @@ same_serial : (n o : ObjName) → Obj n ≡ Obj o → n.serial ≡ o.serial
 same_serial n o e = let same : n ≡ o = cc in ap (λ x. x.serial) same
 
 -- ---- the places of an actor
-
-lt_true : (a b : ℕ) → a < b → nat_lt a b ≡ true
-lt_true a b l = is_below a b l
-
-lt_false : (a b : ℕ) → b ≤ a → nat_lt a b ≡ false
-lt_false a b l = grind (arith, nat_tests)
 
 pub keys_count : (foreign : Table) → length (m.keys foreign.entries) ≡ m.len foreign.entries
 keys_count foreign = length-map (m.entries foreign.entries) (λ e. e.0) ∙ sym (m.len-entries foreign.entries)
@@ -112,11 +100,11 @@ module _ (heap : Heap) (foreign : Table) (first end : ℕ) (span : IsSpan heap.o
 
   below_is : held_below heap foreign ≡ take first keys
   below_is = passes_in_front (λ x. nat_lt (owner_of x) heap.owner) keys first first_within
-      (λ k d l. lt_true (owner_of (get_or keys k d)) heap.owner (span.below k d l)) (λ k d l n. lt_false (owner_of (get_or keys k d)) heap.owner (not_lower k d l n))
+      (λ k d l. lt-ltb (owner_of (get_or keys k d)) heap.owner (span.below k d l)) (λ k d l n. le-ltb (owner_of (get_or keys k d)) heap.owner (not_lower k d l n))
 
   above_is : held_above heap foreign ≡ drop end keys
   above_is = passes_behind (λ x. nat_lt heap.owner (owner_of x)) keys end span.end_within
-      (λ k d l. lt_false heap.owner (owner_of (get_or keys k d)) (not_higher k d l)) (λ k d l n. lt_true heap.owner (owner_of (get_or keys k d)) (span.above k d l n))
+      (λ k d l. le-ltb heap.owner (owner_of (get_or keys k d)) (not_higher k d l)) (λ k d l n. lt-ltb heap.owner (owner_of (get_or keys k d)) (span.above k d l n))
 
   below_count : length (held_below heap foreign) ≡ first
   below_count = ap length below_is ∙ length-take-le first keys first_within
@@ -257,80 +245,26 @@ module _ (heap : Heap) (foreign : Table) (first end : ℕ) (span : IsSpan heap.o
 
   -- ---- rows by place
 
-  -- what has no place has no row
-  pub no_row : (n : ObjName) → place_in heap foreign (Obj n) ≡ None → row_known heap foreign n ≡ None
-  no_row n none = elim (n.owner == heap.owner) as (λ b. (n.owner == heap.owner) ≡ b → cond b (own_row heap n) (known_row foreign n) ≡ None) [
-    | true ↦ λ t. own_part (eqb-true n.owner heap.owner t) (m.get heap.rows n.serial) refl
-    | false ↦ λ t. held_part (λ same. false≢true (sym t ∙ eq-eqb n.owner heap.owner same)) (m.get foreign.entries (Obj n)) refl
-  ] refl
-    where
-      own_part : n.owner ≡ heap.owner → (o : Option (Row × ℕ)) → m.get heap.rows n.serial ≡ o → own_row heap n ≡ None
-      own_part same None e = ap (λ b. cond b (option_map (λ x. x.0) (m.get heap.rows n.serial)) None) (eq-eqb n.owner heap.owner same) ∙ ap (option_map (λ x. x.0)) e
-      own_part same (Some v) e =
-          let key = own_key heap.rows n.serial v e in
-          let there = place_own key.0 n.serial (slice_get_read (m.keys heap.rows) (length (m.keys heap.rows)) key.0 n.serial refl key.1 (sym key.2)) in
-          let named = ap (place_in heap foreign) (λ j. Obj (record { owner = same j; serial = n.serial })) ∙ there in
-          absurd (none-some (first + 1 + key.0) (sym none ∙ named))
+  -- a held thing of another actor's has the row that came with it
+  held_rows : (x : Thing) → owner_of x ≢ heap.owner → thing_row (known_row foreign) x ≡ thing_row (row_known heap foreign) x
+  held_rows (Actor a) other = refl
+  held_rows (Obj n) other = ap (λ b. cond b (own_row heap n) (known_row foreign n)) (sym (ne_eqb n.owner heap.owner other))
 
-      held_part : n.owner ≢ heap.owner → (o : Option (ℕ × Option Row)) → m.get foreign.entries (Obj n) ≡ o → known_row foreign n ≡ None
-      held_part other None e = ap entry_row e
-      held_part other (Some v) e =
-          let key = Contains-from_any {eq = is_thing} is_same (Obj n) keys (sym (m.contains_key-keys foreign.entries (Obj n)) ∙ ap is_some e) in
-          let at = slice_get_read keys (length keys) key.0 (Obj n) refl key.1 (sym key.2) in
-          elim (cases_lt key.0 first) as (λ _. known_row foreign n ≡ None) [
-            | inl l ↦ absurd (none-some key.0 (sym none ∙ place_below key.0 (Obj n) at l))
-            | inr l ↦ absurd (none-some (first + 1 + m.len heap.rows + (key.0 - end)) (sym none ∙ place_above key.0 (Obj n) at (stands_behind key.0 (Obj n) at other l)))
-          ]
+  pub rowed_below : (j : ℕ) (x : Thing) → slice_get keys j ≡ Some x → j < first → thing_row (known_row foreign) x ≡ thing_row (row_known heap foreign) x
+  rowed_below j x e l = held_rows x (λ same. let low = span.below j x l in let at = ap owner_of (get_or_from_slice_get keys j x x e) in omega arith)
 
-  placed_at : (n : ObjName) (p : ℕ) → place_in heap foreign (Obj n) ≡ Some p → get_or (placed_things heap foreign) p (Obj n) ≡ Obj n
-  placed_at n p e = let found = thing_at_place (placed_things heap foreign) (Obj n) p e in get_or_from_slice_get (placed_things heap foreign) p (Obj n) (Obj n) found.1
+  pub rowed_above : (j : ℕ) (x : Thing) → slice_get keys j ≡ Some x → end ≤ j → thing_row (known_row foreign) x ≡ thing_row (row_known heap foreign) x
+  rowed_above j x e l = held_rows x (λ same. let high = span.above j x l (slice_get_within keys j x e) in let at = ap owner_of (get_or_from_slice_get keys j x x e) in omega arith)
 
-  -- the row of an entry
-  held_row : (n : ObjName) (j : ℕ) (r : Option Row) → j < length keys → get_or keys j (Obj n) ≡ Obj n → n.owner ≢ heap.owner
-      → option_map (λ e. e.1.1) (slice_get (m.entries foreign.entries) j) ≡ Some r → r ≡ row_known heap foreign n
-  held_row n j r l here other is = by_entry (slice_get (m.entries foreign.entries) j) refl is
-    where
-      by_entry : (o : Option (Thing × (ℕ × Option Row))) → slice_get (m.entries foreign.entries) j ≡ o → option_map (λ e. e.1.1) o ≡ Some r → r ≡ row_known heap foreign n
-      by_entry None e f = absurd (none-some r f)
-      by_entry (Some x) e f =
-          let key : x.0 ≡ Obj n = sym (get_or_from_slice_get keys j x.0 (Obj n) (slice_get-map (λ y. y.0) (m.entries foreign.entries) j ∙ ap (option_map (λ y. y.0)) e)) ∙ here in
-          let row : x.1.1 ≡ r = cc in
-          let found = ap (m.get foreign.entries) (sym key) ∙ value_at_place thing_total foreign.entries j x e in
-          sym row ∙ sym (ap entry_row found) ∙ ap (λ b. cond b (own_row heap n) (known_row foreign n)) (sym (ne_eqb n.owner heap.owner other))
+-- the row at the place of an own object
+pub rowed_own : (heap : Heap) (foreign : Table) (n : ObjName) (i : ℕ) (row : Row) (count : ℕ) → n.owner ≡ heap.owner
+    → slice_get (m.entries heap.rows) i ≡ Some (n.serial, (row, count)) → Some row ≡ row_known heap foreign n
+rowed_own heap foreign n i row count owner e =
+    sym (ap (λ b. cond b (cond b (option_map (λ x. x.0) (m.get heap.rows n.serial)) None) (known_row foreign n)) (eq-eqb n.owner heap.owner owner)
+    ∙ ap (option_map (λ x. x.0)) (value_at_place nat_cmp_total heap.rows i (n.serial, (row, count)) e))
 
-  pub row_below : (n : ObjName) (p : ℕ) (r : Option Row) → place_in heap foreign (Obj n) ≡ Some p → p < first
-      → option_map (λ e. e.1.1) (slice_get (m.entries foreign.entries) p) ≡ Some r → r ≡ row_known heap foreign n
-  row_below n p r e l is =
-      let here = sym (in_lower p (Obj n) l) ∙ placed_at n p e in
-      let low = span.below p (Obj n) l in
-      held_row n p r (omega (arith, first_within)) here (λ same. let owner = ap owner_of here in omega arith) is
-
-  pub row_above : (n : ObjName) (i : ℕ) (r : Option Row) → place_in heap foreign (Obj n) ≡ Some (first + 1 + m.len heap.rows + i) → end + i < length keys
-      → option_map (λ e. e.1.1) (slice_get (m.entries foreign.entries) (end + i)) ≡ Some r → r ≡ row_known heap foreign n
-  row_above n i r e l is =
-      let here = sym (in_above i (Obj n)) ∙ placed_at n (first + 1 + m.len heap.rows + i) e in
-      let high = span.above (end + i) (Obj n) (omega arith) l in
-      held_row n (end + i) r l here (λ same. let owner = ap owner_of here in omega arith) is
-
-  pub row_of_owner : (n : ObjName) → place_in heap foreign (Obj n) ≡ Some first → ⊥
-  row_of_owner n e =
-      let start : first + 0 ≡ first = omega arith in
-      let here = sym (ap (λ k. get_or (placed_things heap foreign) k (Obj n)) (sym start) ∙ in_own 0 (Obj n) (omega arith)) ∙ placed_at n first e in
-      cc
-
-  pub row_own : (n : ObjName) (i : ℕ) (r : Row) → place_in heap foreign (Obj n) ≡ Some (first + suc i) → i < m.len heap.rows
-      → option_map (λ e. e.1.0) (slice_get (m.entries heap.rows) i) ≡ Some r → Some r ≡ row_known heap foreign n
-  row_own n i r e l is = by_entry (slice_get (m.entries heap.rows) i) refl is
-    where
-      by_entry : (o : Option (ℕ × (Row × ℕ))) → slice_get (m.entries heap.rows) i ≡ o → option_map (λ x. x.1.0) o ≡ Some r → Some r ≡ row_known heap foreign n
-      by_entry None f g = absurd (none-some r g)
-      by_entry (Some x) f g =
-          let object : ℕ → Thing = λ s. Obj (record { owner = heap.owner; serial = s }) in
-          let inside : i < length (m.keys heap.rows) = omega (arith, serials_count heap) in
-          let key : get_or (m.keys heap.rows) i x.0 ≡ x.0 = get_or_from_slice_get (m.keys heap.rows) i x.0 x.0 (slice_get-map (λ y. y.0) (m.entries heap.rows) i ∙ ap (option_map (λ y. y.0)) f) in
-          let here : object x.0 ≡ Obj n = ap object (sym key) ∙ sym (get_or-map object (m.keys heap.rows) i x.0 (Obj n) inside) ∙ sym (in_own (suc i) (Obj n) (omega arith)) ∙ placed_at n (first + suc i) e in
-          let serial = same_serial (record { owner = heap.owner; serial = x.0 }) n here in
-          let owner : n.owner ≡ heap.owner = ap owner_of (sym here) in
-          let row : x.1.0 ≡ r = cc in
-          let found = ap (m.get heap.rows) (sym serial) ∙ value_at_place nat_cmp_total heap.rows i x f in
-          ap Some (sym row) ∙ sym (ap (option_map (λ y. y.0)) found) ∙ ap (λ b. cond b (cond b (option_map (λ y. y.0) (m.get heap.rows n.serial)) None) (known_row foreign n)) (sym (eq-eqb n.owner heap.owner owner))
+-- the row of an entry
+pub rowed_entry : (foreign : Table) (x : Thing) (j count : ℕ) (row : Option Row) → slice_get (m.entries foreign.entries) j ≡ Some (x, (count, row))
+    → thing_row (λ _. row) x ≡ thing_row (known_row foreign) x
+rowed_entry foreign (Actor a) j count row e = refl
+rowed_entry foreign (Obj n) j count row e = sym (ap entry_row (value_at_place thing_total foreign.entries j (Obj n, (count, row)) e))

@@ -1,10 +1,10 @@
 -- Lists of things in order, and places in them.
-use Rattle.std.specs.Prelude.{ℕ, ◌≡◌, ◌≢◌, ◌<◌, ◌≤◌, ◌-◌, true, cond, nat_lt, List, ◌++◌, Some, None, length, position, slice_get, slice_index_or, refl}
+use Rattle.std.specs.Prelude.{ℕ, ◌≡◌, ◌≢◌, ◌<◌, ◌≤◌, ◌-◌, cond, nat_lt, List, ◌++◌, Some, None, length, position, slice_get, slice_index_or, refl}
 use Rattle.std.proofs.Common.{inl, inr, sym, ap, ◌∙◌, get_or, arith, length-append}
 use Rattle.std.specs.Ordering.{nat_cmp, ordering_reverse}
 use Rattle.std.specs.Cmp.{nat_cmp_total, tied_itself}
 use Rattle.std.specs.declared.cmp.Ordering.TheVariants.{Less}
-use Rattle.std.proofs.lemmas.Bool.{cases_lt}
+use Rattle.std.proofs.lemmas.Bool.{cases_lt, lt-ltb}
 use Rattle.std.proofs.lemmas.Bool.Decides.{nat_tests}
 use Rattle.std.proofs.lemmas.List.{get_or_append_left, get_or-append_right}
 use Rattle.std.proofs.lemmas.List.Quantifiers.{position-Some}
@@ -34,9 +34,6 @@ apart x y l e =
     let here : thing_cmp x x ≡ Less = ap (λ z. thing_cmp z x) e ∙ l in
     cc
 
-is_below : (i n : ℕ) → i < n → nat_lt i n ≡ true
-is_below i n l = grind (arith, nat_tests)
-
 -- a thing that stands at i has this place
 pub place_there : (xs : List Thing) (x : Thing) (i : ℕ) → AreInOrder xs → i < length xs
     → get_or xs i x ≡ x → position (is_thing x) xs ≡ Some i
@@ -46,9 +43,9 @@ place_there xs x i h l here =
     (apart x (get_or xs k x) (ap (thing_cmp (get_or xs k x)) (sym here) ∙ h k i x m l)))
     (λ _. is_eq_true x (get_or xs i x) (sym here)) in
     ap (λ p. cond (nat_lt p (length xs)) (Some p) None) first
-    ∙ ap (λ b. cond b (Some i) None) (is_below i (length xs) l)
+    ∙ ap (λ b. cond b (Some i) None) (lt-ltb i (length xs) l)
 
-less : (p q : ℕ) → p < q → nat_cmp p q ≡ Less
+pub less : (p q : ℕ) → p < q → nat_cmp p q ≡ Less
 less p q l = grind (arith, nat_tests)
 
 -- places go in the order of things

@@ -7,8 +7,7 @@ use Rattle.std.specs.Cmp.{nat_cmp_total, tied_itself}
 use Rattle.std.specs.declared.cmp.Ordering.TheVariants.{Less}
 use Rattle.std.specs.FinMap as m
 use Rattle.std.specs.FinMap.Entries.{is_sorted, is_sorted-where_key, where_key}
-use Rattle.std.proofs.lemmas.Bool.{cases_lt}
-use Rattle.std.proofs.lemmas.Bool.Decides.{nat_tests}
+use Rattle.std.proofs.lemmas.Bool.{cases_lt, ltb-true}
 use Rattle.std.proofs.lemmas.List.{get_or-append_right, get_or-map, get_or_append_left, length-map}
 use Rattle.std.proofs.lemmas.List.Elements.{filter_passes}
 use Rattle.plain_list.proofs.Rising.{rises}
@@ -19,7 +18,7 @@ use Rattle.orca_names.proofs.ThingOrder.{thing_total}
 use Rattle.letter_kinds.specs.Holdings.{Row}
 use Rattle.object_heap.specs.Heap.{Heap}
 use Rattle.foreign_table.specs.Table.{Table}
-use Rattle.known_rows.specs.InOrder.{AreInOrder, append_in_order, order_of_places, thing_at_place}
+use Rattle.known_rows.specs.InOrder.{AreInOrder, append_in_order, less, order_of_places, thing_at_place}
 use Rattle.known_rows.specs.Places.{held_above, held_below, own_things, place_in, placed_things}
 
 -- ---- the keys that pass
@@ -54,28 +53,22 @@ passed_in_order p foreign =
 
 -- ---- by owner
 
-lower : (a b : ℕ) → a < b → nat_cmp a b ≡ Less
-lower a b l = grind (arith, nat_tests)
-
-is_lower : (a b : ℕ) → nat_lt a b ≡ true → a < b
-is_lower a b e = grind (arith, nat_tests)
-
 lower_owner : (x y : Thing) → owner_of x < owner_of y → thing_cmp x y ≡ Less
 lower_owner x y l =
     ap (λ o. ordering_then o (option_cmp nat_cmp (serial_of x) (serial_of y)))
-    (lower (owner_of x) (owner_of y) l)
+    (less (owner_of x) (owner_of y) l)
 
 module _ (heap : Heap) (foreign : Table) where
   below_owner : (i : ℕ) (d : Thing) → i < length (held_below heap foreign)
       → owner_of (get_or (held_below heap foreign) i d) < heap.owner
   below_owner i d l =
-      is_lower _ heap.owner (filter_passes (λ x. nat_lt (owner_of x) heap.owner)
+      ltb-true _ heap.owner (filter_passes (λ x. nat_lt (owner_of x) heap.owner)
       (m.keys foreign.entries) i d l)
 
   above_owner : (i : ℕ) (d : Thing) → i < length (held_above heap foreign)
       → heap.owner < owner_of (get_or (held_above heap foreign) i d)
   above_owner i d l =
-      is_lower heap.owner _ (filter_passes (λ x. nat_lt heap.owner (owner_of x))
+      ltb-true heap.owner _ (filter_passes (λ x. nat_lt heap.owner (owner_of x))
       (m.keys foreign.entries) i d l)
 
   abbrev own : List Thing

@@ -3,6 +3,7 @@
 ghost use Rattle.std.specs.Prelude.{◌≡◌, ◌≢◌, ◌↔◌, ◌∷◌, ◌++◌, ◌+◌, ◌-◌, ◌^◌, ◌<◌, ℕ, Some, None, length, slice_get, IsTrue};
 ghost use Rattle.std.specs.FinMap as m;
 ghost use Rattle.foreign_table.specs.Span.{IsSpan};
+ghost use Rattle.foreign_table.specs.Table.{known_row};
 ghost use Rattle.known_rows.specs.Known.{row_known};
 ghost use Rattle.known_rows.specs.Places.{HoldsOthersOnly, held_below, own_things, place_in, placed_things};
 ghost use Rattle.orca_names.specs.declared.names.ObjName.{ObjName as object_name};
@@ -129,46 +130,30 @@ impl<'a> KnownPlaces<'a> {
     }
 }
 
+// A thing, and its row where it is an object: an actor has none.
+#[inline(always)]
+fn of_object<'a>(thing: Thing, row: Option<&'a Row>) -> (Thing, Option<&'a Row>)
+    ensures thing { result.0 ≡ thing }
+    ensures row { option_copied result.1 ≡ thing_row (λ _. option_copied row.entry) thing }
+{
+    match thing {
+        Thing::Actor(_) => (thing, None),
+        Thing::Obj(_) => (thing, row),
+    }
+}
+
+// The thing at a place among the held things, and its row where it is an object.
+#[inline(always)]
+fn held_entry(foreign: &ForeignTable, j: usize) -> (Thing, Option<&Row>)
+    requires { j < m.len foreign.now.entries }
+    ensures thing { slice_get (m.keys foreign.now.entries) j ≡ Some result.0 }
+    ensures row { option_copied result.1 ≡ thing_row (known_row foreign.now) result.0 }
+{
+    let (thing, _, row) = foreign.at(j);
+    of_object(thing, row)
+}
+
 impl KnownPlaces<'_> {
-    // The thing at a place.
-    fn thing_of_place(&self, at: usize) -> Thing
-        requires { at < length (placed_things self.now.rows.heap.now self.now.rows.foreign.now) }
-        ensures { place_in self.now.rows.heap.now self.now.rows.foreign.now result ≡ Some at }
-    {
-        if at < self.first {
-            return self.rows.foreign.thing_at(at);
-        }
-        if at == self.first {
-            return Thing::Actor(self.rows.heap.owner());
-        }
-        if at < self.above {
-            let (n, _, _) = self.rows.heap.at(at - self.first - 1);
-            return Thing::Obj(n);
-        }
-        self.rows.foreign.thing_at(at - self.above + self.end)
-    }
-
-    // The row of the object at a place.
-    fn row_by_place(&self, at: usize) -> Option<&Row>
-        requires { at < length (placed_things self.now.rows.heap.now self.now.rows.foreign.now) }
-        ensures { (n : object_name)
-            → place_in self.now.rows.heap.now self.now.rows.foreign.now (object n) ≡ Some at
-            → option_copied result ≡ row_known self.now.rows.heap.now self.now.rows.foreign.now n }
-    {
-        let foreign = self.rows.foreign;
-        if at < self.first {
-            return foreign.row_at(at);
-        }
-        if at == self.first {
-            return None;
-        }
-        if at < self.above {
-            let heap = self.rows.heap;
-            return Some(heap.row_at(at - self.first - 1));
-        }
-        foreign.row_at(at - self.above + self.end)
-    }
-
     // The thing at a place, and its row where it is an object.
     #[inline(always)]
     fn entry_there(&self, at: usize) -> (Thing, Option<&Row>)
@@ -177,11 +162,19 @@ impl KnownPlaces<'_> {
         ensures row { let rows = row_known self.now.rows.heap.now self.now.rows.foreign.now in
             option_copied result.1 ≡ thing_row rows result.0 }
     {
-        let thing = self.thing_of_place(at);
-        match thing {
-            Thing::Actor(_) => (thing, None),
-            Thing::Obj(_) => (thing, self.row_by_place(at)),
+        let foreign = self.rows.foreign;
+        if at < self.first {
+            return held_entry(foreign, at);
         }
+        let heap = self.rows.heap;
+        if at == self.first {
+            return (Thing::Actor(heap.owner()), None);
+        }
+        if at < self.above {
+            let (n, row, _) = heap.at(at - self.first - 1);
+            return (Thing::Obj(n), Some(row));
+        }
+        held_entry(foreign, at - self.above + self.end)
     }
 }
 

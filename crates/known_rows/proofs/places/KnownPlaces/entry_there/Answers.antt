@@ -4,26 +4,32 @@ use Rattle.std.specs.FinMap as m
 use Rattle.std.proofs.lemmas.Option.{slice_get-map}
 use Rattle.orca_names.specs.declared.names.Thing.TheVariants.{Actor, Obj}
 use Rattle.known_rows.specs.Places.{place_in}
-use Rattle.known_rows.proofs.Placed.{count_is, keys_count, place_above, place_below, place_of_owner, place_own}
-use Rattle.known_rows.proofs.places.KnownPlaces.thing_of_place.Goals as goal
+use Rattle.known_rows.proofs.Placed.{count_is, keys_count, place_above, place_below, place_of_owner, place_own, rowed_above, rowed_below, rowed_own}
+use Rattle.known_rows.proofs.places.KnownPlaces.entry_there.Goals as goal
 
-pub thing_at-requires : goal.thing_at-requires
-thing_at-requires c =
+pub held_entry-requires : goal.held_entry-requires
+held_entry-requires c =
     let s = c.args.self.now in
     omega (arith, s.span.first_within, s.span.end_within, keys_count s.rows.foreign.now)
 
-pub returns-then-at-self : goal.returns-then-at-self
-returns-then-at-self c =
+pub returns-then-at-self-clause-thing : goal.returns-then-at-self-clause-thing
+returns-then-at-self-clause-thing c =
     let s = c.args.self.now in
-    place_below s.rows.heap.now s.rows.foreign.now s.first s.end s.span c.args.at c.thing_at.result c.thing_at.ensures c.if-at-self.true
+    place_below s.rows.heap.now s.rows.foreign.now s.first s.end s.span c.args.at c.held_entry.result.0 c.held_entry.ensures.thing c.if-at-self.true
 
-pub returns-then-at-self-2 : goal.returns-then-at-self-2
-returns-then-at-self-2 c =
+pub returns-then-at-self-clause-row : goal.returns-then-at-self-clause-row
+returns-then-at-self-clause-row c =
+    let s = c.args.self.now in
+    c.held_entry.ensures.row
+    ∙ rowed_below s.rows.heap.now s.rows.foreign.now s.first s.end s.span c.args.at c.held_entry.result.0 c.held_entry.ensures.thing c.if-at-self.true
+
+pub returns-then-at-self-2-clause-thing : goal.returns-then-at-self-2-clause-thing
+returns-then-at-self-2-clause-thing c =
     let s = c.args.self.now in
     ap (λ a. place_in s.rows.heap.now s.rows.foreign.now (Actor a)) c.owner.ensures ∙ place_of_owner s.rows.heap.now s.rows.foreign.now s.first s.end s.span ∙ ap Some (sym c.if-at-self-2.true)
 
-pub returns-then-at-self-3 : goal.returns-then-at-self-3
-returns-then-at-self-3 c =
+pub returns-then-at-self-3-clause-thing : goal.returns-then-at-self-3-clause-thing
+returns-then-at-self-3-clause-thing c =
     let s = c.args.self.now in
     let i = c.args.at - s.first - 1 in
     let key : slice_get (m.keys s.rows.heap.now.rows) (c.args.at - s.first - 1) ≡ Some c.at-n.result.0.serial =
@@ -32,22 +38,35 @@ returns-then-at-self-3 c =
     ap (place_in s.rows.heap.now s.rows.foreign.now) (λ j. Obj (record { owner = c.at-n.ensures.owner j; serial = c.at-n.result.0.serial }))
     ∙ place_own s.rows.heap.now s.rows.foreign.now s.first s.end s.span i c.at-n.result.0.serial key ∙ ap Some back
 
+pub returns-then-at-self-3-clause-row : goal.returns-then-at-self-3-clause-row
+returns-then-at-self-3-clause-row c =
+    let s = c.args.self.now in
+    rowed_own s.rows.heap.now s.rows.foreign.now c.at-n.result.0 (c.args.at - s.first - 1) c.at-n.result.1.now c.at-n.result.2 c.at-n.ensures.owner c.at-n.ensures.entry
+
 pub overflow_add-at : goal.overflow_add-at
 overflow_add-at c =
     let s = c.args.self.now in
     let total = count_is s.rows.heap.now s.rows.foreign.now s.first s.end s.span in
     omega (arith, s.start, s.size, s.fits.1, c.requires, s.span.end_within, keys_count s.rows.foreign.now)
 
-pub thing_at-requires-2 : goal.thing_at-requires-2
-thing_at-requires-2 c =
+pub held_entry-requires-2 : goal.held_entry-requires-2
+held_entry-requires-2 c =
     let s = c.args.self.now in
     let total = count_is s.rows.heap.now s.rows.foreign.now s.first s.end s.span in
     omega (arith, s.start, s.size, c.requires, s.span.end_within, keys_count s.rows.foreign.now)
 
-pub returns : goal.returns
-returns c =
+pub returns-clause-thing : goal.returns-clause-thing
+returns-clause-thing c =
     let s = c.args.self.now in
     let j = c.args.at - s.above + s.end in
     let behind : s.end ≤ j = omega arith in
     let back : s.first + 1 + m.len s.rows.heap.now.rows + (c.args.at - s.above + s.end - s.end) ≡ c.args.at = omega (arith, s.start) in
-    place_above s.rows.heap.now s.rows.foreign.now s.first s.end s.span j c.thing_at-2.result c.thing_at-2.ensures behind ∙ ap Some back
+    place_above s.rows.heap.now s.rows.foreign.now s.first s.end s.span j c.held_entry-2.result.0 c.held_entry-2.ensures.thing behind ∙ ap Some back
+
+pub returns-clause-row : goal.returns-clause-row
+returns-clause-row c =
+    let s = c.args.self.now in
+    let j = c.args.at - s.above + s.end in
+    let behind : s.end ≤ j = omega arith in
+    c.held_entry-2.ensures.row
+    ∙ rowed_above s.rows.heap.now s.rows.foreign.now s.first s.end s.span j c.held_entry-2.result.0 c.held_entry-2.ensures.thing behind
