@@ -1,5 +1,5 @@
 -- A walk by places begins, goes on, and ends.
-use Rattle.std.proofs.Common.{◌≡◌, ℕ, ◌+◌, ◌<◌, ◌≤◌, ◌↔◌, map, inl, inr, Option, None, Some, List, [], ◌∷◌, ◌++◌, length, take, get_or, Contains, refl, sym, ap, subst, ◌∙◌, arith}
+use Rattle.std.proofs.Common.{◌≡◌, ◌≢◌, ℕ, ◌+◌, ◌<◌, ◌≤◌, ◌↔◌, map, inl, inr, Option, None, Some, List, [], ◌∷◌, ◌++◌, length, take, get_or, Contains, refl, sym, ap, subst, ◌∙◌, arith}
 use Rattle.std.specs.Prelude.{unwrap_or}
 use Rattle.std.specs.Ordering.{nat_cmp}
 use Rattle.std.specs.Cmp.{nat_cmp_total}
@@ -15,14 +15,15 @@ use Rattle.orca_names.specs.declared.names.Thing.{Thing}
 use Rattle.orca_names.specs.declared.names.Thing.TheVariants.{Actor, Obj}
 use Rattle.orca_names.specs.declared.names.Value.{Value}
 use Rattle.orca_names.proofs.ThingOrder.{thing_exact}
-use Rattle.reach_walk.specs.Met.{Grows, HasMet, ListsRows, met_by}
+use Rattle.reach_walk.specs.Met.{Grows, HasMet, HasUnplaced, ListsRows, met_by}
 use Rattle.reach_walk.specs.Reach.{named_by, row_edges, thing_row, AreReached, Reaches, root, step, owned}
-use Rattle.reach_walk.specs.Marks.{Covers, load_of}
+use Rattle.reach_walk.specs.Marks.{Covers, load_of, marks_of}
 use Rattle.reach_walk.specs.Walk.{AreTold, IsOn}
 use Rattle.reach_walk.specs.declared.noted.Noted.{Noted}
 use Rattle.reach_walk.specs.declared.met.Met.{Met}
 use Rattle.reach_walk.proofs.Elements.{Contains-cons_cases, Contains-flat_map, Contains-from_flat_map, Contains-head, none_in_nil}
 use Rattle.reach_walk.proofs.Found.{marks-listed}
+use Rattle.reach_walk.proofs.MarkLaws.{marks-reached, reached-marks}
 use Rattle.reach_walk.proofs.Noting.{told_apart}
 use Rattle.reach_walk.proofs.Owners.{owner_reached}
 
@@ -126,12 +127,29 @@ pub rows_more : {X Y : Type 0} (row : X → Y) (load now : List (X × Y)) (thing
 rows_more row load now things x so_far last = last ∙ ap (λ es. es ++ (x, row x) ∷ []) so_far ∙ sym (map-append (λ z. (z, row z)) things (x ∷ []))
 
 module _ (rows : ObjName → Option (List Value)) (all : List ObjName) (args : List Value) (covers : Covers all rows) where
-  -- where no thing without a place was met, what lies at the places is the load
-  pub is_load : (place : Thing → Option ℕ) (count : ℕ) (noted : Noted) (things : List Thing) (load : List (Thing × Option (List Value))) → AreTold place count noted things → length noted.others.keys ≡ 0 → AreReached (row_edges rows) (named_by args) things → ListsRows place rows noted.bits load
-      → load ≡ load_of rows all args
-  is_load place count noted things load told none reached lists =
-      let same : (x : Thing) → Contains lists.0 x ↔ Contains things x = λ x. (
-        λ c. (told_apart place count noted things told x).1 (inr ((lists.3 x).0 c)),
-        λ c. (lists.3 x).1 (elim ((told_apart place count noted things told x).0 c) as (λ _. IsOn (place x) noted.bits) [ inl d ↦ absurd (omega (arith, d.1, none)) | inr on ↦ on ]),
-      ) in
-      lists.1 ∙ ap (map (λ x. (x, thing_row rows x))) (marks-listed rows all args covers things lists.0 reached same lists.2)
+  module _ (place : Thing → Option ℕ) (count : ℕ) (noted : Noted) (things : List Thing) (told : AreTold place count noted things) (reached : AreReached (row_edges rows) (named_by args) things) where
+    -- where no thing without a place was met, what lies at the places is the load
+    pub is_load : (load : List (Thing × Option (List Value))) → length noted.others.keys ≡ 0 → ListsRows place rows noted.bits load → load ≡ load_of rows all args
+    is_load load none lists =
+        let same : (x : Thing) → Contains lists.0 x ↔ Contains things x = λ x. (
+          λ c. (told_apart place count noted things told x).1 (inr ((lists.3 x).0 c)),
+          λ c. (lists.3 x).1 (elim ((told_apart place count noted things told x).0 c) as (λ _. IsOn (place x) noted.bits) [ inl d ↦ absurd (omega (arith, d.1, none)) | inr on ↦ on ]),
+        ) in
+        lists.1 ∙ ap (map (λ x. (x, thing_row rows x))) (marks-listed rows all args covers things lists.0 reached same lists.2)
+
+    -- where a thing without a place was met, one is among the marks
+    pub has_unplaced : length noted.others.keys ≢ 0 → HasUnplaced place (marks_of rows all args)
+    has_unplaced some = cases noted.others.keys refl
+      where
+        cases : (keys : List Thing) → noted.others.keys ≡ keys → HasUnplaced place (marks_of rows all args)
+        cases [] e = absurd (some (ap length e))
+        cases (x ∷ xs) e =
+            let other = (told.others x).0 (subst (λ keys. Contains keys x) (sym e) (Contains-head x xs)) in
+            (x, reached-marks rows all args covers x ((reached x).0 other.0), other.1)
+
+    -- where no thing without a place was met, none is among the marks
+    pub none_unplaced : length noted.others.keys ≡ 0 → HasUnplaced place (marks_of rows all args) → ⊥
+    none_unplaced none some =
+        let met = (reached some.0).1 (marks-reached rows all args some.0 some.1) in
+        let key = (told.others some.0).1 (met, some.2) in
+        omega (arith, key.1, none)

@@ -1,5 +1,5 @@
 -- What meeting an owner, or an object with its owner, does.
-use Rattle.std.proofs.Common.{◌≡◌, ◌≢◌, ◌↔◌, ◌⊎◌, ℕ, ◌+◌, ◌<◌, eqb, true, false, inl, inr, Option, None, Some, Result, Ok, Err, List, [], ◌∷◌, ◌++◌, length, take, get_or, Contains, ne_eqb, refl, sym, ap, subst, ◌∙◌}
+use Rattle.std.proofs.Common.{◌≡◌, ◌≢◌, ◌↔◌, ◌⊎◌, ℕ, ◌+◌, ◌<◌, eqb, true, false, inl, inr, Option, None, Some, Result, Ok, Err, List, [], ◌∷◌, ◌++◌, length, take, get_or, Contains, ne_eqb, sym, ap, subst, ◌∙◌}
 use Rattle.std.specs.List.{IsDistinct, flat_map}
 use Rattle.std.specs.Result.{OnOk}
 use Rattle.std.specs.Ordering.{nat_cmp}
@@ -19,9 +19,8 @@ use Rattle.orca_names.proofs.ThingOrder.{thing_exact}
 use Rattle.orca_names.specs.declared.names.Value.{Value}
 use Rattle.reach_walk.specs.Reach.{named_by}
 use Rattle.reach_walk.specs.Met.{Grows, HasMet, Tells, met_by}
-use Rattle.reach_walk.specs.Walk.{AreTold, Notes}
+use Rattle.reach_walk.specs.Walk.{AreTold}
 use Rattle.reach_walk.specs.declared.met.Met.{Met}
-use Rattle.reach_walk.specs.declared.noted.Noted.{Noted}
 use Rattle.reach_walk.proofs.Elements.{Contains-head, Contains-later, Contains-cons_cases, none_in_nil}
 use Rattle.reach_walk.proofs.Named.{named_by-push}
 use Rattle.reach_walk.proofs.Noting.{tells_more, tells_same}

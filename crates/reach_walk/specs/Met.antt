@@ -1,5 +1,5 @@
 -- A walk by places that is under way.
-use Rattle.std.specs.Prelude.{ℕ, ◌≡◌, ◌↔◌, ◌==◌, Bool, Option, Some, List, [], ◌∷◌, ◌++◌, Contains, map}
+use Rattle.std.specs.Prelude.{ℕ, ◌≡◌, ◌↔◌, ◌==◌, Bool, Option, None, Some, List, [], ◌∷◌, ◌++◌, Contains, map}
 use Rattle.std.specs.List.{IsDistinct, flat_map}
 use Rattle.std.specs.List.Sorted.{IsStrictlySortedBy}
 use Rattle.orca_names.specs.Names.{owner_of, thing_cmp}
@@ -41,6 +41,10 @@ abbrev pub HasReached : (Thing → Option ℕ) → ℕ → (ObjName → Option (
 HasReached place count rows roots met =
     (things : List Thing) × HasMet place count met things
     × AreReached (row_edges rows) (named_by roots) things
+
+-- a thing without a place is among these
+abbrev pub HasUnplaced : (Thing → Option ℕ) → List Thing → Type 0
+HasUnplaced place things = (x : Thing) × Contains things x × (place x ≡ None)
 
 -- the things whose places are on, in the order of things, each with its row
 abbrev pub ListsRows : (Thing → Option ℕ) → (ObjName → Option (List Value)) → List Bool

@@ -1,12 +1,13 @@
 // The walk by places: marks and loads of what lies in tables.
 
-ghost use Rattle.std.specs.Prelude.{◌≡◌, ◌≤◌, ◌<◌, ◌++◌, ◌∷◌, [], ℕ, IfOk, IfSome, List, OnOk, Some, false, length, slice_index_or, true};
+ghost use Rattle.std.specs.Prelude.{◌≡◌, ◌↔◌, ◌≤◌, ◌<◌, ◌++◌, ◌∷◌, [], ℕ, IfOk, IfSome, List, OnOk, Some, false, length, slice_index_or, true};
+ghost use Rattle.std.specs.Option.{IsNone};
 ghost use Rattle.orca_names.specs.declared.names.Thing.{Thing as any_thing};
 ghost use Rattle.orca_names.specs.declared.names.Thing.TheVariants.{Obj as object};
 ghost use Rattle.orca_names.specs.declared.names.ObjName.{ObjName as object_name};
 ghost use Rattle.reach_walk.specs.Reach.{row_edges, thing_row};
 ghost use Rattle.reach_walk.specs.Marks.{TellMarks, load_of as its_load, marks_of};
-ghost use Rattle.reach_walk.specs.Met.{Grows, HasMet, HasReached, ListsRows, met_by};
+ghost use Rattle.reach_walk.specs.Met.{Grows, HasMet, HasReached, HasUnplaced, ListsRows, met_by};
 
 use crate::met::Met;
 use crate::places::PlacedRows;
@@ -39,7 +40,8 @@ fn take<R: PlacedRows>(rows: &R, met: &mut Met, at: usize) -> Result<(), NoMemor
 
 // Meets all that the values reach.
 fn walk_places<R: PlacedRows>(alloc: Global, rows: &R, roots: &[Value]) -> Result<Met, NoMemory>
-    ensures { IfOk result (HasReached (R.place rows.now) (R.count rows.now) (R.rows rows.now) roots.now) }
+    ensures { IfOk result
+        (HasReached (R.place rows.now) (R.count rows.now) (R.rows rows.now) roots.now) }
 {
     let mut met = Met::new(alloc, rows)?;
     met.meet_all(roots, rows)?;
@@ -115,8 +117,8 @@ fn listed<R: PlacedRows>(
     Ok(load)
 }
 
-/// The load of a letter with these arguments: each thing that they reach, with its row; `None` where
-/// they reach a thing that has no place.
+/// The load of a letter with these arguments: each thing that they reach, with its row; `None`
+/// exactly where they reach a thing that has no place.
 ///
 /// # Errors
 /// `NoMemory` where memory was refused.
@@ -125,8 +127,10 @@ pub fn load_by_place<R: PlacedRows>(
     args: &Args,
     rows: &R,
 ) -> Result<Option<Listed<(Thing, Option<Row>)>>, NoMemory>
-    ensures { IfOk result (λ found. IfSome found (λ load.
+    ensures load { IfOk result (λ found. IfSome found (λ load.
         load ≡ its_load (R.rows rows.now) (R.all rows.now) args.now)) }
+    ensures none { let marks = marks_of (R.rows rows.now) (R.all rows.now) args.now in
+        IfOk result (λ found. IsNone found ↔ HasUnplaced (R.place rows.now) marks) }
 {
     let met = walk_places(alloc, rows, args.as_slice())?;
     if !met.noted.others.is_empty() {

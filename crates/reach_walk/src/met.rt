@@ -49,8 +49,10 @@ impl Met {
     #[inline(always)]
     fn meet_owner<P: Places>(&mut self, owner: ActorName, places: &P) -> Result<(), NoMemory>
         requires room { P.count places.now ≤ length self.old.noted.bits }
-        ensures tells { (things : List any_thing) → Tells (P.place places.now) (P.count places.now) self.old things
-            → OnOk result (Tells (P.place places.now) (P.count places.now) self.new (things ++ actor owner ∷ [])) }
+        ensures tells { (things : List any_thing)
+            → Tells (P.place places.now) (P.count places.now) self.old things
+            → OnOk result (Tells (P.place places.now) (P.count places.now) self.new
+            (things ++ actor owner ∷ [])) }
         ensures queue { self.new.queue ≡ self.old.queue }
         ensures same { length self.new.noted.bits ≡ length self.old.noted.bits }
     {
@@ -66,7 +68,8 @@ impl Met {
     #[inline(always)]
     fn meet_object<P: Places>(&mut self, n: ObjName, places: &P) -> Result<(), NoMemory>
         requires room { P.count places.now ≤ length self.old.noted.bits }
-        ensures met { (things : List any_thing) → HasMet (P.place places.now) (P.count places.now) self.old things
+        ensures met { (things : List any_thing)
+            → HasMet (P.place places.now) (P.count places.now) self.old things
             → OnOk result (HasMet (P.place places.now) (P.count places.now) self.new
             (things ++ object n ∷ actor n.owner ∷ [])) }
         ensures queue { OnOk result (Grows self.old.queue.items self.new.queue.items) }
@@ -85,7 +88,8 @@ impl Met {
     #[inline(always)]
     fn meet<P: Places>(&mut self, value: &Value, places: &P) -> Result<(), NoMemory>
         requires room { P.count places.now ≤ length self.old.noted.bits }
-        ensures met { (things : List any_thing) → HasMet (P.place places.now) (P.count places.now) self.old things
+        ensures met { (things : List any_thing)
+            → HasMet (P.place places.now) (P.count places.now) self.old things
             → OnOk result (HasMet (P.place places.now) (P.count places.now) self.new
             (things ++ met_by (value.now ∷ []))) }
         ensures queue { OnOk result (Grows self.old.queue.items self.new.queue.items) }
@@ -105,7 +109,8 @@ impl Met {
         places: &P,
     ) -> Result<(), NoMemory>
         requires room { P.count places.now ≤ length self.old.noted.bits }
-        ensures met { (things : List any_thing) → HasMet (P.place places.now) (P.count places.now) self.old things
+        ensures met { (things : List any_thing)
+            → HasMet (P.place places.now) (P.count places.now) self.old things
             → OnOk result (HasMet (P.place places.now) (P.count places.now) self.new
             (things ++ met_by values.now)) }
         ensures queue { OnOk result (Grows self.old.queue.items self.new.queue.items) }

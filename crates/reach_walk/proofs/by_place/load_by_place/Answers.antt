@@ -1,14 +1,39 @@
-use Rattle.std.proofs.Common.{◌≡◌, length, refl, subst, ◌∙◌}
+use Rattle.std.proofs.Common.{◌≡◌, ◌≢◌, length, refl, sym, subst, ◌∙◌}
+use Rattle.std.proofs.lemmas.Bool.{true≢false}
 use Rattle.reach_walk.specs.Reach.{named_by, row_edges, AreReached}
-use Rattle.reach_walk.proofs.ByPlaces.{is_load}
+use Rattle.reach_walk.proofs.ByPlaces.{has_unplaced, is_load, none_unplaced}
 use Rattle.reach_walk.proofs.by_place.load_by_place.Goals as goal
 
-pub returns : goal.returns
-returns g c =
+pub returns-clause-load : goal.returns-clause-load
+returns-clause-load g c =
     let rows = c.args.rows.now in
     let its = g.R.RowReader.rows rows in
     let found = c.in_ok-met.ensures in
     let noted = c.in_ok-met.met.noted in
     let none : length noted.others.keys ≡ 0 = c.if-not-is_empty.ensures.0 refl in
     let reached = subst (λ args. AreReached (row_edges its) (named_by args) found.0) c.as_slice.ensures.value found.2 in
-    c.from.ensures ∙ is_load its (g.R.RowReader.all rows) c.args.args.now (g.met.R.RowReader.within rows) (g.R.Places.place rows) (g.R.Places.count rows) noted found.0 c.in_ok-load.load.items found.1.tells.told none reached c.in_ok-load.ensures
+    c.from.ensures ∙ is_load its (g.R.RowReader.all rows) c.args.args.now (g.met.R.RowReader.within rows) (g.R.Places.place rows) (g.R.Places.count rows) noted found.0 found.1.tells.told reached c.in_ok-load.load.items none c.in_ok-load.ensures
+
+pub returns-clause-none : goal.returns-clause-none
+returns-clause-none g c =
+    let rows = c.args.rows.now in
+    let its = g.R.RowReader.rows rows in
+    let found = c.in_ok-met.ensures in
+    let noted = c.in_ok-met.met.noted in
+    let none : length noted.others.keys ≡ 0 = c.if-not-is_empty.ensures.0 refl in
+    let reached = subst (λ args. AreReached (row_edges its) (named_by args) found.0) c.as_slice.ensures.value found.2 in (
+      λ e. absurd (true≢false e),
+      λ some. absurd (none_unplaced its (g.R.RowReader.all rows) c.args.args.now (g.met.R.RowReader.within rows) (g.R.Places.place rows) (g.R.Places.count rows) noted found.0 found.1.tells.told reached none some),
+    )
+
+pub returns-then-not-is_empty-clause-none : goal.returns-then-not-is_empty-clause-none
+returns-then-not-is_empty-clause-none g c =
+    let rows = c.args.rows.now in
+    let its = g.R.RowReader.rows rows in
+    let found = c.in_ok-met.ensures in
+    let noted = c.in_ok-met.met.noted in
+    let some : length noted.others.keys ≢ 0 = λ none. true≢false (sym (c.if-not-is_empty.ensures.1 none)) in
+    let reached = subst (λ args. AreReached (row_edges its) (named_by args) found.0) c.as_slice.ensures.value found.2 in (
+      λ _. has_unplaced its (g.R.RowReader.all rows) c.args.args.now (g.met.R.RowReader.within rows) (g.R.Places.place rows) (g.R.Places.count rows) noted found.0 found.1.tells.told reached some,
+      λ _. refl,
+    )

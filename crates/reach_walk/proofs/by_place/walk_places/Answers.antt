@@ -1,5 +1,4 @@
-use Rattle.std.proofs.Common.{◌≡◌, ◌++◌, ◌≤◌, ◌<◌, [], length, get_or, Some, sym, ap, ◌∙◌, arith}
-use Rattle.std.proofs.lemmas.Option.{get_or_from_slice_get}
+use Rattle.std.proofs.Common.{◌≡◌, ◌++◌, ◌<◌, [], length, get_or, sym, arith}
 use Rattle.orca_names.specs.declared.names.Thing.TheVariants.{Obj}
 use Rattle.reach_walk.specs.Met.{met_by}
 use Rattle.reach_walk.specs.Reach.{named_by, row_edges}

@@ -16,4 +16,4 @@ returns-in-Some c =
     let made = c.in-Some.ensures.2 ∙ read.2 in
     let same = (λ i. let h = with_made (made i) (holdings_of 0 (heap i) (foreign i)) in load_of (row_of (heap i).owner h) (known_objects (heap i).owner h) c.args.args.now)
     ∙ load_same c.args.made.now s.count s.heap s.foreign c.args.args.now in
-    subst (λ it. IfOk c.load_by_place.result (λ found. IfSome found (λ load. load ≡ it))) same c.load_by_place.ensures
+    subst (λ it. IfOk c.load_by_place.result (λ found. IfSome found (λ load. load ≡ it))) same c.load_by_place.ensures.load

@@ -2,7 +2,7 @@ use Rattle.std.proofs.Common.{◌++◌, ◌∷◌, [], ap, sym, subst}
 use Rattle.std.specs.Prelude.{OnOk}
 use Rattle.std.proofs.lemmas.Result.{on_ok_weaker}
 use Rattle.reach_walk.specs.Met.{HasMet, met_by}
-use Rattle.reach_walk.proofs.Meeting.{met_owner, met_twice, whatever, Grows-none}
+use Rattle.reach_walk.proofs.Meeting.{met_owner, met_twice}
 use Rattle.reach_walk.proofs.met.Met.meet.Goals as goal
 
 pub returns-in-Obj-clause-met : goal.returns-in-Obj-clause-met

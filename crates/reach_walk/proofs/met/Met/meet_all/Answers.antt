@@ -1,4 +1,4 @@
-use Rattle.std.proofs.Common.{◌++◌, ◌∷◌, [], take, subst, ap, ◌∙◌, arith}
+use Rattle.std.proofs.Common.{◌++◌, take, subst, ◌∙◌, arith}
 use Rattle.std.proofs.lemmas.List.{take_all}
 use Rattle.reach_walk.specs.Met.{HasMet, met_by}
 use Rattle.reach_walk.proofs.Meeting.{met_more, Grows-append}
