@@ -14,6 +14,7 @@ use Rattle.reach_walk.specs.Marks.{load_of, marks_of}
 use Rattle.letter_kinds.specs.Holdings.{Holdings, Row, entry_row, row_of, with_made}
 use Rattle.known_rows.specs.Holdings.{holdings_of}
 use Rattle.known_rows.specs.Known.{row_known}
+use Rattle.known_rows.proofs.Rows.{row_known-row_of}
 use Rattle.local_sweep.specs.Marked.{is_reached}
 use Rattle.row_table.specs.Table.{Rows, as_held, bare_entry, uncounted}
 use Rattle.row_table.proofs.Mapped.{entries-mapped, get-mapped}
@@ -26,7 +27,6 @@ use Rattle.actor_cell.specs.declared.cell.Cell.{Cell}
 use Rattle.actor_cell.specs.Cells.{as_cell}
 use Rattle.actor_cell.specs.Goes.{having_made}
 use Rattle.actor_cell.specs.InTurn.{table_by}
-use Rattle.actor_cell.proofs.Known.{known_is}
 use Rattle.actor_cell.proofs.Marked.{marks_same}
 
 brought_row : (known : Rows) (x : Thing) → entry_row (m.get (uncounted known) x) ≡ m.get known x
@@ -56,9 +56,9 @@ module _ (me : ℕ) (c : rules.Cell) (h : Holdings) (own : h.rows ≡ c.holdings
 module _ (c : Cell) where
   -- what is found in the tables is what the actor has
   pub found_is : (trace : Trace) (n : ObjName) → row_known c.heap (table_by trace c) n ≡ row_by trace c.heap.owner (as_cell c) n
-  found_is Deep n = known_is c.count c.heap c.foreign n
+  found_is Deep n = row_known-row_of c.count c.heap c.foreign n
   found_is Roots n =
-      known_is 0 c.heap (as_held c.known) n
+      row_known-row_of 0 c.heap (as_held c.known) n
       ∙ ap (λ rows. rows n) (rows_brought c.heap.owner (as_cell c) (holdings_of 0 c.heap (as_held c.known)) refl refl)
 
   -- what a letter carries

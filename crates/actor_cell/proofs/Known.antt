@@ -9,18 +9,7 @@ use Rattle.orca_names.specs.declared.names.ObjName.{ObjName}
 use Rattle.orca_names.specs.declared.names.Thing.TheVariants.{Obj}
 use Rattle.letter_kinds.proofs.MadeRows.{add_rows-below, add_rows-made, add_rows-past, cases_serial}
 use Rattle.letter_kinds.specs.Holdings.{Holdings, OwnRows, Row, add_rows, entry_row, row_of, with_made}
-use Rattle.object_heap.specs.Heap.{Heap}
-use Rattle.foreign_table.specs.Table.{Table, known_row}
-use Rattle.known_rows.specs.Holdings.{holdings_of}
-use Rattle.known_rows.specs.Known.{row_known}
 use Rattle.actor_cell.specs.InTurn.{made_in_turn}
-
--- the rows in both tables are those of the holdings
-pub known_is : (count : ℕ) (heap : Heap) (foreign : Table) (n : ObjName) → row_known heap foreign n ≡ row_of heap.owner (holdings_of count heap foreign) n
-unfolding row_of
-known_is count heap foreign n =
-    let own = option_map (λ (e : Row × ℕ). e.0) (m.get heap.rows n.serial) in
-    elim (n.owner == heap.owner) as (λ b. cond b (cond b own None) (known_row foreign n) ≡ cond b own (known_row foreign n)) [ true ↦ refl | false ↦ refl ]
 
 -- a row that was made, or else one of before
 abbrev pub or_before : Option Row → Option Row → Option Row

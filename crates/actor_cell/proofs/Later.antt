@@ -25,9 +25,10 @@ use Rattle.known_rows.specs.InOrder.{AreInOrder}
 use Rattle.known_rows.specs.Known.{row_known}
 use Rattle.known_rows.specs.PlaceLaws.{placed_in_order}
 use Rattle.known_rows.specs.Places.{held_above, held_below, own_things, place_in, placed_things}
+use Rattle.known_rows.proofs.Rows.{row_known-row_of}
 use Rattle.actor_cell.specs.InTurn.{ComeLater, made_in_turn, made_thing}
 use Rattle.actor_cell.proofs.Between.{has_none, more, place_kept, place_moved, place_new}
-use Rattle.actor_cell.proofs.Known.{known_is, or_before, row_of-made}
+use Rattle.actor_cell.proofs.Known.{or_before, row_of-made}
 
 -- so many serials from this one on
 from_on : ℕ → List Row → List ℕ
@@ -189,7 +190,7 @@ module _ (heap : Heap) (foreign : Table) (made : List Row) (come : ComeLater hea
 
   turn_row_is : (n : ObjName) (o : Option Row) → made_row n ≡ o → turn_row n ≡ or_before o (row_known heap foreign n)
   turn_row_is n o e =
-      row_of-made heap.owner made (holdings_of 0 heap foreign) n ∙ (λ i. or_before (e i) (sym (known_is 0 heap foreign n) i))
+      row_of-made heap.owner made (holdings_of 0 heap foreign) n ∙ (λ i. or_before (e i) (sym (row_known-row_of 0 heap foreign n) i))
 
   -- a row that was made is that of an object that was made
   of_made : (n : ObjName) (row : Row) (mine : Bool) → (n.owner == heap.owner) ≡ mine → (from : Bool) → nat_le heap.next n.serial ≡ from

@@ -10,9 +10,9 @@ use Rattle.object_heap.specs.Heap.{Heap}
 use Rattle.foreign_table.specs.Table.{Table}
 use Rattle.known_rows.specs.Holdings.{holdings_of}
 use Rattle.known_rows.specs.Known.{names_known, row_known, row_known-within}
+use Rattle.known_rows.proofs.Rows.{row_known-row_of}
 use Rattle.machine_rules.specs.Cell.{known_objects}
 use Rattle.machine_rules.proofs.Finite.{known_objects-cover}
-use Rattle.actor_cell.proofs.Known.{known_is}
 use Rattle.orca_names.specs.declared.names.Thing.{Thing}
 
 module _ (count : ℕ) (heap : Heap) (foreign : Table) where
@@ -20,13 +20,13 @@ module _ (count : ℕ) (heap : Heap) (foreign : Table) where
   rows = row_of heap.owner (holdings_of count heap foreign)
 
   names_cover : Covers (names_known heap foreign) rows
-  names_cover n row e = row_known-within heap foreign n row (known_is count heap foreign n ∙ e)
+  names_cover n row e = row_known-within heap foreign n row (row_known-row_of count heap foreign n ∙ e)
 
   -- the marks are those of the definition, by whichever names of objects
   pub marks_same : (roots : List Value) → marks_of (row_known heap foreign) (names_known heap foreign) roots
       ≡ marks_of rows (known_objects heap.owner (holdings_of count heap foreign)) roots
   marks_same roots =
-      (λ i. marks_of (λ n. known_is count heap foreign n i) (names_known heap foreign) roots)
+      (λ i. marks_of (λ n. row_known-row_of count heap foreign n i) (names_known heap foreign) roots)
       ∙ marks-unique rows (known_objects heap.owner (holdings_of count heap foreign)) roots (marks_of rows (names_known heap foreign) roots)
       (known_objects-cover heap.owner (holdings_of count heap foreign)) (marks-exact rows (names_known heap foreign) roots names_cover)
 

@@ -1,8 +1,9 @@
 use Rattle.std.proofs.Common.{sym, ap, ◌∙◌}
 use Rattle.letter_kinds.specs.Holdings.{row_of}
 use Rattle.known_rows.specs.Holdings.{holdings_of}
+use Rattle.known_rows.proofs.Rows.{row_known-row_of}
 use Rattle.actor_cell.specs.InTurn.{made_in_turn}
-use Rattle.actor_cell.proofs.Known.{known_is, or_before, row_of-made}
+use Rattle.actor_cell.proofs.Known.{or_before, row_of-made}
 use Rattle.actor_cell.proofs.turn_rows.TurnRowsRows.row_of.Goals as goal
 
 pub returns-in-Some : goal.returns-in-Some
@@ -20,5 +21,5 @@ returns-in-None c =
     let h = holdings_of 0 heap foreign in
     let made = c.args.self.now.made.now in
     let is = c.in-None.ensures ∙ (λ i. made_in_turn (c.owner.ensures i) (c.made.ensures i) made c.args.n) in
-    c.row_of.ensures ∙ known_is 0 heap foreign c.args.n
+    c.row_of.ensures ∙ row_known-row_of 0 heap foreign c.args.n
     ∙ ap (λ o. or_before o (row_of heap.owner h c.args.n)) is ∙ sym (row_of-made heap.owner made h c.args.n)
