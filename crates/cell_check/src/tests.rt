@@ -2,6 +2,7 @@
 
 use actor_cell::{Cell, Move, Out, Turned};
 use behaviour_check::{Checked, check};
+use behaviour_code::Name;
 use behaviour_text::parse;
 use known_rows::KnownPlaces;
 use letter_kinds::{Letter, Note};
@@ -23,12 +24,9 @@ fn checked(alloc: Global, text: &str) -> Result<Checked, Fail> {
     Ok(check(parse(alloc, text.as_bytes())?)?)
 }
 
-/// The first actor, which took the letter of its start.
-fn started(alloc: Global, code: &Checked) -> Result<Cell, Fail> {
+/// The first actor, which took a letter for this behaviour.
+fn took(alloc: Global, code: &Checked, behaviour: Name) -> Result<Cell, Fail> {
     let mut cell = Cell::first(alloc, code);
-    let Some(behaviour) = code.program().start_name() else {
-        return Err(Fail::from("no start"));
-    };
     let letter = Letter::App {
         behaviour,
         args: Args::new(),
@@ -42,6 +40,14 @@ fn started(alloc: Global, code: &Checked) -> Result<Cell, Fail> {
         return Err(Fail::from("something was given out"));
     }
     Ok(cell)
+}
+
+/// The first actor, which took the letter of its start.
+fn started(alloc: Global, code: &Checked) -> Result<Cell, Fail> {
+    match code.program().start_name() {
+        Some(behaviour) => took(alloc, code, behaviour),
+        None => Err(Fail::from("no start")),
+    }
 }
 
 /// It goes on, if what it would do spends and mints nothing.
@@ -85,5 +91,37 @@ fn an_actor_does_its_events_whole(rt: HostRuntime) -> Result<(), Fail> {
     let told = cell.block(alloc)?;
     assert!(rt; matches!(told.notes.as_slice(), [Note::Block { count: 0, .. }]) && cell.reported);
     assert!(rt; cell.leave(alloc)?.letters.is_empty());
+    Ok(())
+}
+
+/// A kind whose first two behaviours print 1 and 2. Between their names stand 63 others, which the first
+/// one sends.
+fn far_apart(alloc: Global) -> Result<String, Fail> {
+    let mut text = String::from_str(alloc, "kind Main 0\non one 0\nint r0 1\nprint r0\n")?;
+    for number in 2..65u32 {
+        text.push_str(format!(in alloc; "send r0 n{number}\n")?.as_str())?;
+    }
+    text.push_str("end\non two 0\nint r0 2\nprint r0\nend\non start 0\nend\n")?;
+    Ok(text)
+}
+
+/// The name of the behaviour at this place of the first kind, and what is printed after a letter for it.
+fn printed_by(alloc: Global, code: &Checked, place: usize) -> Result<(u32, Option<Value>), Fail> {
+    let Some(behaviour) = code.program().behaviours(0).get(place) else {
+        return Err(Fail::from("no behaviour"));
+    };
+    let mut cell = took(alloc, code, behaviour.name)?;
+    let out = go(alloc, code, &mut cell)?;
+    Ok((behaviour.name.0, out.print))
+}
+
+// A kind keeps the places of its behaviours by the lowest 6 bits of their names, and so one place for these
+// two.
+#[test]
+fn the_behaviour_of_the_letter_starts(rt: HostRuntime) -> Result<(), Fail> {
+    let alloc = rt.alloc();
+    let code = checked(alloc, far_apart(alloc)?.as_str())?;
+    assert_eq!(rt; printed_by(alloc, &code, 0)?, (1, Some(Value::Num(1))));
+    assert_eq!(rt; printed_by(alloc, &code, 1)?, (65, Some(Value::Num(2))));
     Ok(())
 }
