@@ -5,7 +5,7 @@ use Rattle.turn_rules.specs.declared.act.Frame.{Frame}
 use Rattle.turn_rules.specs.Segment.{Turn}
 use Rattle.letter_kinds.specs.declared.letter.Letter.{Letter}
 use Rattle.letter_kinds.specs.Counting.{Amount, mint_all, mint_one, send}
-use Rattle.letter_kinds.specs.Holdings.{Holdings, Row, add_rows}
+use Rattle.letter_kinds.specs.Holdings.{Entries, Holdings, Row, add_rows}
 use Rattle.object_heap.specs.Heap.{Heap, with_new}
 use Rattle.machine_rules.specs.Cell.{Cell}
 use Rattle.actor_cell.specs.declared.out.Out.{Out}
@@ -72,9 +72,9 @@ pub can_move : (T : Frame → Turned) (me : ℕ) (h : Holdings) (o : Option Fram
 can_move T me h None t found can = cc
 can_move T me h (Some f) t found can = subst (λ u. CanMove me h u.turn u.act) (same_turned (T f) t found) can
 
-pub made_room : (act : Move) (spare : ℕ) → new_entries act ≤ spare → IsSome (out_of act).made → 0 < spare
-made_room (Post to letter) spare room made = cc
-made_room (Mint owner things) spare room made = cc
-made_room (New kind register) spare room made = omega arith
-made_room (Print value) spare room made = cc
-made_room End spare room made = cc
+pub made_room : (act : Move) (entries : Entries) (spare : ℕ) → new_entries act entries ≤ spare → IsSome (out_of act).made → 0 < spare
+made_room (Post to letter) entries spare room made = cc
+made_room (Mint owner things) entries spare room made = cc
+made_room (New kind register) entries spare room made = omega arith
+made_room (Print value) entries spare room made = cc
+made_room End entries spare room made = cc

@@ -13,7 +13,8 @@ use Rattle.turn_rules.specs.Segment.{Stop, Turn}
 use Rattle.letter_kinds.specs.declared.letter.Letter.{Letter}
 use Rattle.letter_kinds.specs.declared.letter.Letter.TheVariants.{App, Inc, Dec, Confirm}
 use Rattle.letter_kinds.specs.Counting.{Loaded, mint_all, send, to_mint}
-use Rattle.letter_kinds.specs.Holdings.{Holdings, Row, with_made}
+use Rattle.letter_kinds.specs.Holdings.{Entries, Holdings, Row, with_made}
+use Rattle.foreign_table.specs.Table.{count_unheld}
 use Rattle.trace_send.specs.Can.{CanSend}
 use Rattle.machine_rules.specs.Cell.{Cell}
 use Rattle.machine_rules.specs.Go.{lacking_from, load_from, needed, rows_from, to_need, turn_of_cell}
@@ -120,12 +121,12 @@ cell_by me c frame turn place End = record (cell_kept turn None c) { dirty = tru
 
 -- how many entries the table of what is held needs room for: what is minted may not be held yet,
 -- and a new actor gets one when it has its name
-abbrev pub new_entries : Move → ℕ
-new_entries (Post to letter) = 0
-new_entries (Mint owner things) = length things
-new_entries (New kind register) = 1
-new_entries (Print value) = 0
-new_entries End = 0
+abbrev pub new_entries : Move → Entries → ℕ
+new_entries (Post to letter) entries = 0
+new_entries (Mint owner things) entries = count_unheld things entries
+new_entries (New kind register) entries = 1
+new_entries (Print value) entries = 0
+new_entries End entries = 0
 
 -- ---- what it gives out
 

@@ -3,7 +3,9 @@
 ghost use Rattle.std.specs.Prelude.{◌≡◌, ◌+◌, ◌<◌, ◌≤◌, ◌^◌, IfOk, IsSome, OnErr, OnOk, Some, length};
 ghost use Rattle.turn_rules.specs.declared.act.Frame.{Frame as frame_of_rules};
 ghost use Rattle.letter_kinds.specs.Counting.{mint_all, mint_one, send};
-ghost use Rattle.letter_kinds.specs.Holdings.{held_in};
+ghost use Rattle.std.specs.FinMap as m;
+ghost use Rattle.foreign_table.specs.Table.{count_unheld, entered};
+ghost use Rattle.letter_kinds.specs.Holdings.{entry_row, held_in};
 ghost use Rattle.object_heap.specs.Heap.{with_new};
 ghost use Rattle.ref_weights.specs.Limit.{count_limit};
 ghost use Rattle.trace_send.specs.Can.{CanSend};
@@ -16,6 +18,7 @@ use crate::letters::letter_room;
 use crate::out::Out;
 use crate::turning::{Move, Turned};
 use behaviour_check::Checked;
+use foreign_table::ForeignTable;
 use letter_kinds::{Amounts, Letter};
 use object_heap::ObjectHeap;
 use orca_names::{NoMemory, Row, Thing, Trace};
@@ -34,31 +37,35 @@ fn make_all(heap: &mut ObjectHeap, made: &[Row])
     }
 }
 
-// How many entries a move may bring into the table of what is held.
-fn new_entries(act: &Move) -> usize
-    ensures { result ≡ new_entries act.now }
+// Takes the memory for the entries that a move may bring into the table of what is held.
+fn reserve_entries(foreign: &mut ForeignTable, act: &Move) -> Result<(), NoMemory>
+    ensures room { OnOk result (new_entries act.now foreign.old.entries ≤ foreign.new.spare) }
+    ensures same { foreign.new ≡ record foreign.old { spare = foreign.new.spare } }
 {
     match act {
         Move::New {
             kind: _,
             register: _,
-        } => 1,
-        Move::Mint { owner: _, things } => things.len(),
-        _ => 0,
+        } => foreign.reserve(1),
+        Move::Mint { owner: _, things } => foreign.reserve_for(things),
+        _ => Ok(()),
     }
 }
 
 impl Cell {
     // The count that it holds on a thing rises, from 0 where nothing was held.
     fn mint_one(&mut self, amount: &(Thing, u64))
-        requires room { 0 < self.old.foreign.spare }
+        requires room { m.get self.old.foreign.entries amount.now.0 ≡ None
+            → 0 < self.old.foreign.spare }
         requires fits { let h = (as_cell self.old).holdings in
             held_in h amount.now.0 + amount.now.1 < count_limit }
         ensures counts { as_cell self.new ≡ record (as_cell self.old) {
           holdings = mint_one amount.now (as_cell self.old).holdings;
         } }
         ensures owner { self.new.heap.owner ≡ self.old.heap.owner }
-        ensures room { self.old.foreign.spare ≤ self.new.foreign.spare + 1 }
+        ensures held { let row = entry_row (m.get self.old.foreign.entries amount.now.0) in
+            self.new.foreign
+            ≡ entered (λ count. count + amount.now.1) amount.now.0 row self.old.foreign }
     {
         self.foreign.mint(amount.0, amount.1);
     }
@@ -66,7 +73,7 @@ impl Cell {
     // The counts that it holds on these things rise.
     fn mint_all(&mut self, things: &Amounts)
         requires fits { CanMint things.now (as_cell self.old).holdings }
-        requires room { length things.now ≤ self.old.foreign.spare }
+        requires room { count_unheld things.now self.old.foreign.entries ≤ self.old.foreign.spare }
         ensures counts { as_cell self.new ≡ record (as_cell self.old) {
           holdings = mint_all things.now (as_cell self.old).holdings;
         } }
@@ -136,10 +143,11 @@ impl Cell {
         ensures cell { as_cell self.new ≡ as_cell self.old }
         ensures owner { self.new.heap.owner ≡ self.old.heap.owner }
         ensures objects { OnOk result (length turn.now.made ≤ self.new.heap.spare) }
-        ensures entries { OnOk result (new_entries found.now.act ≤ self.new.foreign.spare) }
+        ensures entries { let held = self.new.foreign in
+            OnOk result (new_entries found.now.act held.entries ≤ held.spare) }
     {
         self.heap.reserve(turn.made().len())?;
-        self.foreign.reserve(new_entries(&found.act))
+        reserve_entries(&mut self.foreign, &found.act)
     }
 
     /// Does what was found of its turn. It takes no memory.
@@ -148,7 +156,8 @@ impl Cell {
         requires can { let me = self.old.heap.owner in
             CanMove me (as_cell self.old).holdings turn.now found.now.act }
         requires room { length turn.now.made ≤ self.old.heap.spare }
-        requires entries { new_entries found.now.act ≤ self.old.foreign.spare }
+        requires entries { let held = self.old.foreign in
+            new_entries found.now.act held.entries ≤ held.spare }
         requires serials { self.old.heap.next + length turn.now.made < 2 ^ 64 }
         ensures cell { let me = self.old.heap.owner in
             (frame : frame_of_rules) → self.old.frame ≡ Some frame → as_cell self.new

@@ -181,6 +181,7 @@ impl RowReader for TurnPlaces<'_> {
 impl PlacedRows for TurnPlaces<'_> {
     ghost use Rattle.actor_cell.specs.HavePlaces.{rows_have_places};
 
+    #[inline(always)]
     fn entry_at(&self, at: usize) -> (Thing, Option<&Row>) {
         if at < self.first {
             return self.known.entry_at(at);
@@ -212,6 +213,7 @@ impl Places for TurnPlaces<'_> {
         self.known.places() + self.made.len()
     }
 
+    #[inline(always)]
     fn place_of(&self, thing: &Thing) -> Option<usize> {
         if let Some(i) = self.made_place(thing) {
             return Some(self.first + i);

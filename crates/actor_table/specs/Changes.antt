@@ -85,7 +85,7 @@ pub record CanGoHere (a : ℕ) (turn : Turn) (act : Move) (x : Slot) : Type 0 wh
   pub running : IsSome cell.frame
   pub can : CanMove a (as_cell cell).holdings turn act
   pub objects : length turn.made ≤ cell.heap.spare
-  pub entries : new_entries act ≤ cell.foreign.spare
+  pub entries : new_entries act cell.foreign.entries ≤ cell.foreign.spare
   pub serials : cell.heap.next + length turn.made < 2 ^ 64
 
 -- it has a frame, and room to hold the new actor with the weight
@@ -110,7 +110,7 @@ HasRoomToTake x = (c : Cell) (letter : Letter) (later : List Letter) → x.place
 -- and for what was found of its turn
 abbrev pub HasRoomToGo : Turn → Move → Slot → Type 0
 HasRoomToGo turn act x = (c : Cell) → x.place ≡ Home c
-    → (length turn.made ≤ c.heap.spare) × (new_entries act ≤ c.foreign.spare)
+    → (length turn.made ≤ c.heap.spare) × (new_entries act c.foreign.entries ≤ c.foreign.spare)
 
 -- no place has less room for letters than before
 abbrev pub KeepsRoom : List Slot → List Slot → Type 0

@@ -240,6 +240,7 @@ impl ActorTable {
     /// # Errors
     /// `NoMemory` where memory was refused.
     #[tactic(auto, using(crate::proofs::Changing::index_stays))]
+    #[inline(always)]
     pub fn reserve_go(&mut self, a: ActorName, turn: &Turn, found: &Turned) -> Result<(), NoMemory>
         ensures actors { actors_of self.new.slots ≡ actors_of self.old.slots }
         ensures away { away_of self.new.slots ≡ away_of self.old.slots }
@@ -278,6 +279,7 @@ impl ActorTable {
     ///
     /// # Errors
     /// `NoMemory` where memory was refused.
+    #[inline(always)]
     pub fn reserve_actor(&mut self) -> Result<(), NoMemory>
         requires few { length self.old.slots < ACTORS_LIMIT }
         ensures slots { self.new.slots ≡ self.old.slots }
@@ -400,6 +402,7 @@ impl ActorTable {
     }
 
     /// The actor goes, with its cell and its letters. It takes no memory.
+    #[inline(always)]
     pub fn clear(&mut self, alloc: Global, a: ActorName)
         ensures actors { actors_of self.new.slots ≡ set (actors_of self.old.slots) a None }
         ensures spare { self.new.spare ≡ self.old.spare }

@@ -4,3 +4,4 @@ pub mod Found
 pub mod Near
 pub mod Owners
 pub mod Same
+pub mod Unheld

@@ -2,7 +2,7 @@
 use Rattle.std.specs.Prelude.{ℕ, ◌≡◌, ◌+◌, ◌-◌, if◌then◌else◌, is_some, List, [], ◌∷◌, Option, T, refl, length, map}
 use Rattle.std.specs.FinMap as m
 use Rattle.std.specs.FinMap.Entries.{is_sorted}
-use Rattle.std.specs.List.{zip}
+use Rattle.std.specs.List.{sum_by, zip}
 use Rattle.std.specs.Coded.{Coded, code_by, coded×, coded_ℕ, coded_option}
 use Rattle.orca_names.specs.Codes.{coded_thing, coded_row}
 use Rattle.orca_names.specs.Names.{thing_cmp}
@@ -40,6 +40,10 @@ count_on t x = entry_count (m.get t.entries x)
 -- the row that is known of an object
 abbrev pub known_row : Table → ObjName → Option Row
 known_row t n = entry_row (m.get t.entries (Obj n))
+
+-- how many of these things are not held
+abbrev pub count_unheld : List (Thing × ℕ) → Entries → ℕ
+count_unheld things entries = sum_by (λ e. if is_some (m.get entries e.0) then 0 else 1) things
 
 -- its count changed, its row as given; an entry that is new takes room
 abbrev pub entered : (ℕ → ℕ) → Thing → Option Row → Table → Table

@@ -64,6 +64,7 @@ fn stands_at(held: &[Entry], place: usize, thing: &Thing) -> bool
 }
 
 // Where the thing stands among few.
+#[inline(always)]
 fn look(held: &[Entry], thing: &Thing) -> Option<usize>
     ensures { IfSome result (λ i. (i < length held.now)
         × ((d : entry) → (slice_index_or held.now i d).thing ≡ thing.now)) }
@@ -99,6 +100,7 @@ fn likely_place(held: &[Entry], thing: &Thing) -> usize {
 }
 
 // Where the thing stands, if that is seen at once.
+#[inline(always)]
 fn guess(held: &[Entry], thing: &Thing) -> Option<usize>
     ensures { IfSome result (λ i. (i < length held.now)
         × ((d : entry) → (slice_index_or held.now i d).thing ≡ thing.now)) }
@@ -150,6 +152,7 @@ fn search(held: &[Entry], thing: Thing) -> Result<usize, usize>
 }
 
 /// The place of the thing, or the place where it would stand.
+#[inline(always)]
 pub(crate) fn place_of(held: &[Entry], thing: Thing) -> Result<usize, usize>
     requires { T (is_sorted thing_cmp (map key_of held.now)) }
     ensures { MatchResult result (IsAt thing_cmp (map key_of held.now) thing)

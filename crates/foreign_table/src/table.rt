@@ -9,7 +9,7 @@ ghost use Rattle.plain_list.specs.Rising.{IsAt};
 ghost use Rattle.foreign_table.specs.Back.{BackRises, given_up};
 ghost use Rattle.foreign_table.specs.Entry.{bare, key_of};
 ghost use Rattle.foreign_table.specs.Span.{IsSpan};
-ghost use Rattle.foreign_table.specs.Table.{AreHeld, Table, count_on, counted, entered, entries_in, known_row, on_actors, without};
+ghost use Rattle.foreign_table.specs.Table.{AreHeld, Table, count_on, count_unheld, counted, entered, entries_in, known_row, on_actors, without};
 ghost use Rattle.letter_kinds.specs.Holdings.{entry_row};
 ghost use Rattle.ref_weights.specs.Limit.{count_limit};
 
@@ -23,7 +23,7 @@ use std::alloc::Global;
 use std::marker::Model;
 
 // As many places come with the first one.
-const FIRST_PLACES: usize = 7;
+const FIRST_PLACES: usize = 4;
 
 /// The things of others that an actor holds, each with its count and, for an object, its row where
 /// that is known, and the room for new ones. Counts stand apart from rows.
@@ -127,6 +127,30 @@ fn places_to_take(wanted: usize, capacity: usize) -> usize
     }
 }
 
+fn is_held(held: &[Entry], rows: &[Option<Row>], thing: Thing) -> bool
+    requires { AreHeld held.now rows.now }
+    ensures { result ≡ is_some (m.get (entries_in held.now rows.now) thing) }
+{
+    match place_of(held, thing) {
+        Ok(_) => true,
+        Err(_) => false,
+    }
+}
+
+// How many of these things are not held.
+fn count_unheld(held: &[Entry], rows: &[Option<Row>], things: &Amounts) -> usize
+    requires { AreHeld held.now rows.now }
+    ensures { result ≡ count_unheld things.now (entries_in held.now rows.now) }
+{
+    let mut count = 0;
+    for amount in things.as_slice() {
+        if !is_held(held, rows, amount.0) {
+            count += 1;
+        }
+    }
+    count
+}
+
 fn actors_of(alloc: Global, held: &[Entry]) -> Result<Vec<(ActorName, u64)>, NoMemory>
     ensures { IfOk result (λ found. found.items ≡ on_actors (map bare held.now)) }
 {
@@ -182,8 +206,24 @@ impl ForeignTable {
         Ok(())
     }
 
+    /// Raises the room for new entries to at least one for each of these things that is not held, if
+    /// there is less.
+    ///
+    /// # Errors
+    /// `NoMemory` where memory was refused; all but the room is then as before.
+    pub fn reserve_for(&mut self, things: &Amounts) -> Result<(), NoMemory>
+        ensures room { OnOk result (count_unheld things.now self.old.entries ≤ self.new.spare) }
+        ensures more { self.old.spare ≤ self.new.spare }
+        ensures same { self.new ≡ record self.old { spare = self.new.spare } }
+        ensures enough { count_unheld things.now self.old.entries ≤ self.old.spare → IsOk result }
+    {
+        let n = count_unheld(self.held.as_slice(), self.rows.as_slice(), things);
+        self.reserve(n)
+    }
+
     /// The count on a thing rises, from 0 where nothing was held, and its row is this one. It takes
     /// no memory.
+    #[inline(always)]
     pub fn gain(&mut self, thing: Thing, row: &Option<Row>, by: u64)
         requires room { m.get self.old.entries thing ≡ None → 0 < self.old.spare }
         requires fits { count_on self.old thing + by < count_limit }
@@ -254,6 +294,7 @@ impl ForeignTable {
     }
 
     /// Takes these entries out, whose owners and things rise, in one pass.
+    #[inline(always)]
     pub fn give_back(&mut self, back: &[(ActorName, Amounts)])
         requires { BackRises back.now }
         ensures { self.new ≡ given_up back.now self.old }
@@ -303,15 +344,6 @@ impl ForeignTable {
         ensures { slice_get (m.keys self.now.entries) i ≡ Some result }
     {
         self.held[i].thing
-    }
-
-    /// The row at a place in the order of things, where it is known.
-    pub fn row_at(&self, i: usize) -> Option<&Row>
-        requires { i < m.len self.now.entries }
-        ensures { option_map (λ e. e.1.1) (slice_get (m.entries self.now.entries) i)
-            ≡ Some (option_copied result) }
-    {
-        row_at(self.rows.as_slice(), i)
     }
 
     /// The place of a thing in the order of things; `None` exactly where it is not held.

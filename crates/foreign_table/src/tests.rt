@@ -1,6 +1,7 @@
 // A table through its calls that may want memory.
 
 use crate::ForeignTable;
+use letter_kinds::Amounts;
 use orca_names::{ActorName, NoMemory, ObjName, Row, Serial, Thing, Value};
 use std::test::Fail;
 
@@ -74,5 +75,21 @@ fn rows_stay_with_their_things(rt: HostRuntime) -> Result<(), Fail> {
     let numbers = (number(&table, 0), number(&table, 1), number(&table, 2));
     assert_eq!(rt; numbers, (Some(Value::Num(0)), None, Some(Value::Num(2))));
     assert_eq!(rt; table.len(), 8);
+    Ok(())
+}
+
+#[test]
+fn room_for_what_is_not_held_changes_no_entry(rt: HostRuntime) -> Result<(), Fail> {
+    let alloc = rt.alloc();
+    let mut table = ForeignTable::new(alloc);
+    let mut things = Vec::new(alloc);
+    for serial in 0..9 {
+        things.push((object(3, serial), 1))?;
+    }
+    gain(&mut table, &object(3, 4), &None)?;
+    let before = table.copy(alloc)?;
+    table.reserve_for(&Amounts::from(things))?;
+    assert!(rt; table.same(&before));
+    assert_eq!(rt; (table.count(object(3, 4)), table.len()), (256, 1));
     Ok(())
 }

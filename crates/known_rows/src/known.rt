@@ -22,6 +22,7 @@ impl Rows for KnownRows<'_> {
 
     ghost within = { λ s n row e. row_known-within s.heap.now s.foreign.now n row e };
 
+    #[inline(always)]
     fn row_of(&self, n: ObjName) -> Option<&Row> {
         let heap = self.heap;
         if n.owner == heap.owner() {

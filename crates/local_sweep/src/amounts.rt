@@ -27,6 +27,7 @@ fn ends_with(back: &[(ActorName, Amounts)], owner: ActorName) -> bool
 ///
 /// # Errors
 /// `NoMemory` where memory was refused; what is to go back is then left open.
+#[inline(always)]
 pub fn push_amount(
     alloc: Global,
     back: &mut Vec<(ActorName, Amounts)>,

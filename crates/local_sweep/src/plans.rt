@@ -144,6 +144,7 @@ fn gather_given(
 }
 
 // The plan of a sweep of what is known that keeps what is marked.
+#[inline(always)]
 fn plan_known(
     alloc: Global,
     marks: &PlaceSet,

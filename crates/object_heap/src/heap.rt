@@ -267,15 +267,6 @@ impl ObjectHeap {
         (name, &self.rows[i], own.count.get())
     }
 
-    /// The row of an object by its place in the order of serials.
-    pub fn row_at(&self, i: usize) -> &Row
-        requires { i < m.len self.now.rows }
-        ensures { option_map (λ e. e.1.0) (slice_get (m.entries self.now.rows) i)
-            ≡ Some result.now }
-    {
-        &self.rows[i]
-    }
-
     /// The same objects, of the same owner.
     ///
     /// # Errors

@@ -62,7 +62,7 @@ pub record FitsGo (trace : Trace) (weight : ℕ) (program : Program) (a : ℕ) (
       ≡ record { turn = m.turn; place = found.place; act = found.act }
   pub few : length m.turn.made ≤ BODY_LIMIT
   pub objects : length m.turn.made ≤ cell.heap.spare
-  pub entries : new_entries found.act ≤ cell.foreign.spare
+  pub entries : new_entries found.act cell.foreign.entries ≤ cell.foreign.spare
   pub room : HasRoomOut found.act m
 
 -- the actor's counts and serials allow it, and it holds nothing of the actor that is made next

@@ -33,6 +33,7 @@ use std::mem;
 /// # Errors
 /// `NoMemory` where memory was refused.
 #[tactic(auto, using(crate::proofs::Preparing::only_room))]
+#[inline(always)]
 pub(crate) fn prepare_sweep(
     trace: Trace,
     parts: &mut Parts,

@@ -70,6 +70,7 @@ fn find_go(
 }
 
 // Takes the memory for what the act that was found gives out.
+#[inline(always)]
 fn reserve_out(parts: &mut Parts) -> Result<(), NoMemory>
     requires { IsSome (out_of parts.old.turned.act).made → length parts.old.table.slots < ACTORS_LIMIT }
     ensures same { OnlyRoom parts.old parts.new }

@@ -76,6 +76,7 @@ impl<'a> Orca<'a> {
     }
 
     /// The first enabled event, in the one-worker order. It looks at no actor but the one that has it.
+    #[inline(always)]
     pub fn first_enabled(&self) -> Option<Event>
         ensures here { let kind = next_without self.now.out in
             MatchOption result (IsQuiet kind self.now.state) (IsFirst kind self.now.state) }

@@ -58,6 +58,7 @@ fn walk_places<R: PlacedRows>(alloc: Global, rows: &R, roots: &[Value]) -> Resul
 ///
 /// # Errors
 /// `NoMemory` where memory was refused.
+#[inline(always)]
 pub fn mark_bits<R: PlacedRows>(
     alloc: Global,
     roots: &[Value],

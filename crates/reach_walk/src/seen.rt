@@ -126,6 +126,7 @@ impl Seen {
     }
 
     /// Puts all of them in the order of things.
+    #[inline(always)]
     pub(crate) fn sort(&mut self) -> Result<(), NoMemory>
         requires { IsSeen self.old }
         ensures same { OnOk result ((x : any_thing) → Contains self.new.things x

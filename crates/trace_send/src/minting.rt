@@ -62,6 +62,7 @@ fn is_lacked_of(thing: &Thing, me: ActorName, foreign: &ForeignTable, owner: Act
 }
 
 // Those things that are lacked and have this owner, each with the weight.
+#[inline(always)]
 fn lacked_of(
     alloc: Global,
     things: &[Thing],
