@@ -1,17 +1,14 @@
 -- What a go leads to, step by step.
-use Rattle.std.proofs.Common.{◌≡◌, ℕ, suc, ◌+◌, ◌-◌, ◌<◌, ◌≤◌, Option, Some, None, IsSome, List, [], ◌∷◌, length, refl, sym, ap, ◌∙◌, subst, arith}
-use Rattle.std.specs.Prelude.{option_map, IsSomeAnd}
+use Rattle.std.proofs.Common.{◌≡◌, ℕ, suc, ◌+◌, ◌-◌, Some, List, [], ◌∷◌, length, refl, ap, ◌∙◌, arith}
 use Rattle.turn_rules.specs.declared.act.Frame.{Frame}
 use Rattle.turn_rules.specs.Segment.{Turn}
 use Rattle.letter_kinds.specs.declared.letter.Letter.{Letter}
 use Rattle.letter_kinds.specs.Counting.{Amount, mint_all, mint_one, send}
-use Rattle.letter_kinds.specs.Holdings.{Entries, Holdings, Row, add_rows}
+use Rattle.letter_kinds.specs.Holdings.{Holdings, Row, add_rows}
 use Rattle.object_heap.specs.Heap.{Heap, with_new}
 use Rattle.machine_rules.specs.Cell.{Cell}
-use Rattle.actor_cell.specs.declared.out.Out.{Out}
-use Rattle.actor_cell.specs.declared.turning.Move.{Move}
-use Rattle.actor_cell.specs.declared.turning.Move.TheVariants.{Post, Mint, New, Print, End}
-use Rattle.actor_cell.specs.Goes.{CanMove, Turned, cell_by, cell_kept, frame_left, gone_by, load_in, new_entries, out_of}
+use Rattle.actor_cell.specs.declared.turning.Move.TheVariants.{Post}
+use Rattle.actor_cell.specs.Goes.{cell_by, cell_kept, frame_left, load_in}
 
 -- ---- rows that were made, one by one
 
@@ -54,27 +51,3 @@ module _ (me : ℕ) (start kept stopped after : Cell) (frame : Frame) (turn : Tu
   sends to letter keeps stop send_it =
       let sent : Cell → Cell = λ c. record c { holdings = send me (load_in letter) c.holdings } in
       send_it ∙ ap sent (stops keeps stop)
-
--- ---- together
-
-same_turned : (t u : Turned) → Some t ≡ Some u → t ≡ u
-same_turned t u e = cc
-
-pub gone_is : (T : Frame → Turned) (me : ℕ) (c : Cell) (o : Option Frame) (t : Turned) (after : Cell) (out : Out) → option_map T o ≡ Some t
-    → ((frame : Frame) → o ≡ Some frame → after ≡ cell_by me c frame t.turn t.place t.act) → out ≡ out_of t.act
-    → option_map (λ f. gone_by me c f (T f)) o ≡ Some (record { cell = after; out = out })
-gone_is T me c None t after out found cell out_is = cc
-gone_is T me c (Some f) t after out found cell out_is =
-    ap (λ u. Some (gone_by me c f u)) (same_turned (T f) t found) ∙ (λ i. Some (record { cell = sym (cell f refl) i; out = sym out_is i }))
-
-pub can_move : (T : Frame → Turned) (me : ℕ) (h : Holdings) (o : Option Frame) (t : Turned) → option_map T o ≡ Some t
-    → IsSomeAnd o (λ f. CanMove me h (T f).turn (T f).act) → CanMove me h t.turn t.act
-can_move T me h None t found can = cc
-can_move T me h (Some f) t found can = subst (λ u. CanMove me h u.turn u.act) (same_turned (T f) t found) can
-
-pub made_room : (act : Move) (entries : Entries) (spare : ℕ) → new_entries act entries ≤ spare → IsSome (out_of act).made → 0 < spare
-made_room (Post to letter) entries spare room made = cc
-made_room (Mint owner things) entries spare room made = cc
-made_room (New kind register) entries spare room made = omega arith
-made_room (Print value) entries spare room made = cc
-made_room End entries spare room made = cc

@@ -1,5 +1,5 @@
 -- Rows that letters bring, one at a time.
-use Rattle.std.proofs.Common.{◌≡◌, ◌≢◌, ℕ, ◌+◌, ◌-◌, ◌≤◌, Bool, true, false, cond, List, [], ◌∷◌, Option, Some, None, is_some, refl, sym, arith}
+use Rattle.std.proofs.Common.{◌≡◌, ◌≢◌, ℕ, List, [], ◌∷◌, Option, Some, None, refl, sym}
 use Rattle.std.specs.FinMap as m
 use Rattle.orca_names.specs.Names.{owner_of}
 use Rattle.orca_names.specs.declared.names.Thing.{Thing}
@@ -27,12 +27,3 @@ pub learn_other : (me : ℕ) (x : Thing) (o : Option Row) (t : KnownRows) → ow
 unfolding learn
 learn_other me x None t other = refl
 learn_other me x (Some row) t other = sym (cond_ne (owner_of x) me t.rows (m.insert t.rows x row) other)
-
--- it takes room for one at most
-pub room_left : (x : Thing) (o : Option Row) (t : KnownRows) → t.spare ≤ (learnt x o t).spare + 1
-room_left x None t = omega arith
-room_left x (Some row) t = by (is_some (m.get t.rows x))
-  where
-    by : (b : Bool) → t.spare ≤ (t.spare - cond b 0 1) + 1
-    by true = omega arith
-    by false = omega arith

@@ -1,5 +1,5 @@
 -- What a turn of an actor does.
-use Rattle.std.specs.Prelude.{ℕ, ◌<◌, ⊤, true, List, [], ◌∷◌, Option, Some, None, option_map, length, map, IsSomeAnd}
+use Rattle.std.specs.Prelude.{ℕ, ◌<◌, ⊤, true, List, [], ◌∷◌, Option, Some, None, option_map, map, IsSomeAnd}
 use Rattle.orca_names.specs.Names.{owner_of}
 use Rattle.orca_names.specs.declared.trace.Trace.{Trace}
 use Rattle.orca_names.specs.declared.limits.TheConstants.{REGISTERS}

@@ -17,7 +17,7 @@ use known_rows::KnownRows;
 use letter_kinds::Load;
 use orca_names::{Args, NoMemory, Reading, Row, Thing, Trace};
 use plain_list::Listed;
-use reach_walk::{ThingList, find_loaded, load_by_place, with_rows};
+use reach_walk::{ThingList, find_flat, find_loaded, load_by_place, with_rows};
 use root_trace::{find_loaded_roots, rows_of, without_rows};
 use std::alloc::Global;
 
@@ -48,6 +48,9 @@ impl Cell {
             OnOk result (things.new ≡ things_from deep self.now.heap.owner h args.now) }
     {
         let rows = self.rows_with(&self.foreign, made);
+        if find_flat(args, &rows, things)? {
+            return Ok(());
+        }
         find_loaded(alloc, args, &mut Reading { rows: &rows }, things)
     }
 

@@ -2,8 +2,6 @@
 use Rattle.std.proofs.Common.{◌≡◌, Option, Some, None, refl, ap}
 use Rattle.std.specs.Option.{option_or}
 use Rattle.work_board.specs.declared.answers.Refuse.{Refuse}
-use Rattle.work_board.specs.declared.answers.Refuse.TheVariants.{Budget, Busy, Full, Gone, NoMemory, NotReady, Unknown}
-use Rattle.book_hall.specs.Causes.{IsRefusal}
 
 pub or_none : (q r : Option Refuse) → option_or q r ≡ None → (q ≡ None) × (r ≡ None)
 or_none None r none = (refl, none)
@@ -15,16 +13,6 @@ or_first q r x is = ap (λ o. option_or o r) is
 pub or_next : (q r : Option Refuse) → q ≡ None → option_or q r ≡ r
 or_next q r none = ap (λ o. option_or o r) none
 
--- a cause is refused as such
-pub refusal_is : (cause : Option Refuse) (refuse : Refuse) → cause ≡ Some refuse → IsRefusal cause refuse
-refusal_is cause (Unknown made) is = is
-refusal_is cause Gone is = is
-refusal_is cause (Busy holder) is = is
-refusal_is cause NotReady is = is
-refusal_is cause (Budget long) is = is
-refusal_is cause (Full a) is = is
-refusal_is cause NoMemory is = tt
-
 -- three causes, and a last one
 module _ (a b c d : Option Refuse) where
   abbrev early : Option Refuse
@@ -32,17 +20,6 @@ module _ (a b c d : Option Refuse) where
 
   abbrev all : Option Refuse
   all = option_or a (option_or b (option_or c d))
-
-  -- an early one is that of all
-  pub early_is : (refuse : Refuse) → early ≡ Some refuse → all ≡ Some refuse
-  early_is refuse is = by a b c is
-    where
-      by : (a b c : Option Refuse) → option_or a (option_or b c) ≡ Some refuse
-          → option_or a (option_or b (option_or c d)) ≡ Some refuse
-      by (Some x) b c is = is
-      by None (Some x) c is = is
-      by None None (Some x) is = is
-      by None None None is = absurd (cc)
 
   -- without an early one it is the last
   pub late_is : early ≡ None → all ≡ d

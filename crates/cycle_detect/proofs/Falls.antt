@@ -294,11 +294,6 @@ held_left-none (r ∷ rs) (suc n) = omega (arith, held_left-none rs n, sum_by-co
 
 -- ---- at first none has fallen
 
-none_on : (n k : ℕ) → get_or (replicate n false) k false ≡ false
-none_on zero k = refl
-none_on (suc n) zero = refl
-none_on (suc n) (suc k) = none_on n k
-
 none_marked : (ns : List ℕ) (n a : ℕ) → mark_of ns (replicate n false) a ≡ false
 none_marked [] n a = refl
 none_marked (x ∷ xs) zero a = refl

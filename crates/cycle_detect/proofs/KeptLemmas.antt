@@ -1,5 +1,5 @@
 -- Reports in the slots of their actors: one is kept, one goes, one is the next.
-use Rattle.std.proofs.Common.{◌≡◌, ◌≢◌, ℕ, zero, suc, ◌+◌, ◌-◌, ◌<◌, ◌≤◌, ◌++◌, ⊎_elim, Bool, true, false, List, [], ◌∷◌, length, get_or, set, take, filter, replicate, map, nat_le, append_assoc, slice_get, add-one, append-nil, length-set, Option, Some, None, is_some, IfSome, Result, Ok, Err, OnOk, OnErr, refl, sym, ap, subst, ◌∙◌, arith}
+use Rattle.std.proofs.Common.{◌≡◌, ◌≢◌, ℕ, zero, suc, ◌+◌, ◌-◌, ◌<◌, ◌≤◌, ◌++◌, ⊎_elim, Bool, true, false, List, [], ◌∷◌, length, get_or, set, take, filter, replicate, map, nat_le, append_assoc, add-one, append-nil, length-set, Option, Some, None, is_some, IfSome, Result, Ok, Err, OnOk, OnErr, refl, sym, ap, subst, ◌∙◌, arith}
 use Rattle.std.proofs.lemmas.Bool.{cases_eq, cases_lt, false≢true}
 use Rattle.std.proofs.lemmas.Bool.Decides.{nat_tests}
 use Rattle.std.proofs.lemmas.List.{get_or_past, get_or-set_same, get_or-set_other}
@@ -332,19 +332,6 @@ pub one_passed : (free : Report → Bool) (m n : ℕ) (rs all found : List Repor
 one_passed free m n rs all found x up e name off before = rw name (
     let first : filter free (those_from m rs) ≡ filter free (those_from (x.actor + 1) rs) = ap (filter free) (from-some m rs x up e).1 ∙ rw off refl in
     sym (ap (λ (qs : List Report). found ++ qs) first) ∙ before)
-
--- ---- what `get` gives of a slot
-
-pub got-slot : (slots : List (Option Report)) (a : ℕ) (slot : Option Report) → slice_get slots a ≡ Some slot
-    → slot_at slots a ≡ slot
-got-slot [] a slot e = absurd (cc)
-got-slot (s ∷ slots) zero slot e = cc
-got-slot (s ∷ slots) (suc a) slot e = got-slot slots a slot e
-
-pub got-none : (slots : List (Option Report)) (a : ℕ) → slice_get slots a ≡ None → slot_at slots a ≡ None
-got-none [] a e = refl
-got-none (s ∷ slots) zero e = absurd (cc)
-got-none (s ∷ slots) (suc a) e = got-none slots a e
 
 -- ---- what a function gives of some actors, one after another
 

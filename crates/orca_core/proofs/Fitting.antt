@@ -1,5 +1,5 @@
 -- Room for letters, taken one letter after another.
-use Rattle.std.proofs.Common.{◌≡◌, ◌≤◌, ℕ, suc, ◌+◌, ◌==◌, Bool, true, false, List, [], ◌∷◌, length, refl, sym, ap, subst, ◌∙◌, arith}
+use Rattle.std.proofs.Common.{◌≡◌, ◌≤◌, ℕ, ◌+◌, ◌==◌, Bool, true, false, List, [], ◌∷◌, refl, sym, ap, subst, ◌∙◌, arith}
 use Rattle.std.specs.Prelude.{if◌then◌else◌, is_some}
 use Rattle.std.proofs.lemmas.Bool.Decides.{nat_tests}
 use Rattle.actor_table.specs.Changes.{KeepsRoom}
@@ -14,10 +14,6 @@ use Rattle.orca_core.specs.Letters.{FitLetters, letters_to}
 abbrev pub FitBut : List (ℕ × Letter) → List (ℕ × Letter) → List Slot → Type 0
 FitBut rest letters slots = (a : ℕ) → is_some (seat_at (actors_of slots) a) ≡ true
     → letters_to a letters ≤ (slot_at slots a).mail.spare + letters_to a rest
-
--- nothing is asked for yet
-pub fit_none : (letters : List (ℕ × Letter)) (slots : List Slot) → FitBut letters letters slots
-fit_none letters slots a there = omega arith
 
 -- once there is room for as many as go to the actor of the first of the rest
 pub fit_more : (count to : ℕ) (letter : Letter) (rest letters : List (ℕ × Letter)) (old new : List Slot)
@@ -47,42 +43,3 @@ pub fit_all : (rest letters : List (ℕ × Letter)) (slots : List Slot) → rest
     → FitLetters letters slots
 fit_all rest letters slots none fits a there =
     omega (arith, subst (λ ls. letters_to a letters ≤ (slot_at slots a).mail.spare + letters_to a ls) none (fits a there))
-
--- ---- letters that are counted
-
--- what was counted and the rest are all
-abbrev pub AreCounted : (ℕ → ℕ) → List (ℕ × Letter) → List (ℕ × Letter) → Type 0
-AreCounted counts rest letters = (a : ℕ) → counts a + letters_to a rest ≡ letters_to a letters
-
-pub count_more : (before after : ℕ → ℕ) (to : ℕ) (letter : Letter) (rest letters : List (ℕ × Letter))
-    → AreCounted before ((to, letter) ∷ rest) letters
-    → ((a : ℕ) → after a ≡ (if to == a then 1 else 0) + before a) → AreCounted after rest letters
-count_more before after to letter rest letters counted more a = omega (arith, counted a, more a)
-
-pub to_within : (a : ℕ) (letters : List (ℕ × Letter)) → letters_to a letters ≤ length letters
-to_within a [] = omega arith
-to_within a (l ∷ letters) = by (l.0 == a) (to_within a letters)
-  where
-    by : (b : Bool) → letters_to a letters ≤ length letters → (if b then 1 else 0) + letters_to a letters ≤ suc (length letters)
-    by true h = omega (arith, h)
-    by false h = omega (arith, h)
-
--- one more is still no more than there are letters
-pub count_fits : (counts : ℕ → ℕ) (to : ℕ) (letter : Letter) (rest letters : List (ℕ × Letter))
-    → AreCounted counts ((to, letter) ∷ rest) letters → counts to + 1 ≤ length letters
-count_fits counts to letter rest letters counted = by (to == to) refl (counted to)
-  where
-    by : (b : Bool) → (to == to) ≡ b → counts to + ((if b then 1 else 0) + letters_to to rest) ≡ letters_to to letters
-        → counts to + 1 ≤ length letters
-    by true e all = omega (arith, all, to_within to letters)
-    by false e all = grind (arith, nat_tests)
-
--- so many are enough for those that are not among the rest
-pub enough_counted : (counts : ℕ → ℕ) (count to : ℕ) (letter : Letter) (rest letters : List (ℕ × Letter))
-    → AreCounted counts ((to, letter) ∷ rest) letters → count ≡ counts to + 1 → letters_to to letters ≤ count + letters_to to rest
-enough_counted counts count to letter rest letters counted is = by (to == to) refl (counted to)
-  where
-    by : (b : Bool) → (to == to) ≡ b → counts to + ((if b then 1 else 0) + letters_to to rest) ≡ letters_to to letters
-        → letters_to to letters ≤ count + letters_to to rest
-    by true e all = omega (arith, all, is)
-    by false e all = grind (arith, nat_tests)

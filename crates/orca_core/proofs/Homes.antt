@@ -62,10 +62,6 @@ home_stays slots a c home = away_read slots a ∙ ap is_away_in home
 
 -- ---- the same cells are away
 
--- where the list is the same
-pub same_keeps : (old new : List Bool) → new ≡ old → KeepsAway old new
-same_keeps old new same a = ap (λ bs. is_out bs a) same
-
 -- where one comes whose cell is at home
 pub pushed_keeps : (slots : List Slot) (x : Slot) → is_away x ≡ false → KeepsAway (away_of slots) (away_of (slots ++ x ∷ []))
 pushed_keeps [] x is zero = is

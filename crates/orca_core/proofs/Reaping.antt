@@ -1,15 +1,14 @@
 -- What goes back where the members of a token go.
-use Rattle.std.proofs.Common.{◌≡◌, ◌≢◌, ◌<◌, ℕ, false, List, [], ◌∷◌, ◌++◌, set, Option, Some, None, option_map, refl, sym, ap, subst, ◌∙◌, arith}
+use Rattle.std.proofs.Common.{◌≡◌, ◌≢◌, ◌<◌, ℕ, List, [], ◌∷◌, ◌++◌, set, Option, Some, None, option_map, refl, sym, ap, subst, ◌∙◌, arith}
 use Rattle.std.specs.Option.{option_map_or}
 use Rattle.std.specs.List.Sorted.{IsStrictlySortedBy}
 use Rattle.std.specs.Ordering.{nat_cmp}
-use Rattle.std.proofs.lemmas.Bool.Decides.{nat_tests}
 use Rattle.std.proofs.lemmas.List.{get_or-set_other, map-append, set_comm}
 use Rattle.event_rule.specs.Runs.{NotEnabled, Step}
 use Rattle.letter_kinds.specs.declared.letter.Letter.{Letter}
 use Rattle.letter_kinds.specs.declared.letter.Letter.TheVariants.{Dec}
 use Rattle.letter_kinds.specs.Counting.{by_owner}
-use Rattle.letter_kinds.specs.Detector.{Detector, Token, has}
+use Rattle.letter_kinds.specs.Detector.{Detector, Token}
 use Rattle.cycle_detect.proofs.RisingLemmas.{AllAbove, first_above}
 use Rattle.machine_rules.specs.Actors.{Actors, seat_at}
 use Rattle.machine_rules.specs.Detect.{acked_token, held_outside, reap_decs}
@@ -36,10 +35,6 @@ first_reaped : (members : List ℕ) (a : ℕ) (rest : List ℕ) (actors : Actors
     → reap_decs members (a ∷ rest) actors ≡ by_owner (held_outside members (seat_at actors a)) ++ reap_decs members rest (set actors a None)
 unfolding reap_decs
 first_reaped members a rest actors = refl
-
-not_below : (a : ℕ) (rest : List ℕ) → AllAbove a rest → has rest a ≡ false
-not_below a [] above = refl
-not_below a (b ∷ rest) above = let first = above.0 in let later = not_below a rest above.1 in grind (arith, nat_tests)
 
 -- who is not one of the rest gives nothing back there
 reaped_without : (members rest : List ℕ) (actors : Actors) (a : ℕ) → AllAbove a rest

@@ -1,5 +1,5 @@
 -- From what the parts of a call do to its answer.
-use Rattle.std.proofs.Common.{◌≡◌, ◌≢◌, ◌⊎◌, inl, inr, ℕ, List, [], Some, None, refl, sym, subst, arith}
+use Rattle.std.proofs.Common.{◌≡◌, ◌⊎◌, inl, inr, ℕ, List, [], Some, None, refl, sym, subst, arith}
 use Rattle.std.specs.declared.option.Option.{Option}
 use Rattle.std.proofs.KnownBytes.{Appends-nil, Consumes-nil}
 use Rattle.run_book.specs.Books.{BookValue}
@@ -16,7 +16,6 @@ use Rattle.word_line.specs.declared.order.Job.TheVariants.{Run, Load, Audit, Why
 use Rattle.word_line.specs.declared.order.Order.{Order}
 use Rattle.behaviour_code.specs.declared.code.Program.{Program}
 use Rattle.machine_rules.specs.State.{State}
-use Rattle.report_text.specs.Refusals.{HasRefusal}
 use Rattle.outside_world.specs.Pieces.{TakesAll, TakesPart}
 use Rattle.pony_run.specs.Headline.{Answers, Begins, BeginsAudit, EndsWith, EveryRun, HasText, IsAudited, IsCut, IsInput, IsReport, IsReportOf, MayRead, Reads, ReadsFor, Refuses, TakesInput, Writes}
 use Rattle.pony_run.specs.Inner.{AuditAnswers, BeginsRun, GivesBegun, HasBehind, InputStops, IsBegun, IsBookStop, IsReadStop, IsRunnable, IsStop, IsTextStop, IsTold, IsWritten, RunAnswers, StopsWith, WritesAudit, WritesReport}
@@ -176,61 +175,6 @@ module _ (reading : Option Order) (order : Order) (source sink : Sides) (book : 
   pub stop_answers : (stop answer : Status) → IsStop stop order.job source → StopsWith stop sink book answer → Answers reading source sink book answer
   stop_answers stop answer is (none, inl h) = subst (Answers reading source sink book) (sym h.0) (stops stop is (record { no_run = none; line = h.1 }))
   stop_answers stop answer is (none, inr h) = subst (Answers reading source sink book) (sym h.0) (starves (stop_reads stop is) none h.1)
-
--- what stops a call, but for want of memory, has a line
-text_stop_refuses : (stop : Status) (text : List ℕ) → IsTextStop stop text → stop ≢ status.NoMemory → HasRefusal stop
-text_stop_refuses (status.BadText l k) text h other = tt
-text_stop_refuses (status.BadProgram k b s r) text h other = tt
-text_stop_refuses status.NoMemory text h other = absurd (other refl)
-text_stop_refuses status.Quiet text h other = absurd h
-text_stop_refuses status.BadWords text h other = absurd h
-text_stop_refuses status.Budget text h other = absurd h
-text_stop_refuses (status.ActorsFull a) text h other = absurd h
-text_stop_refuses status.WriteFault text h other = absurd h
-text_stop_refuses status.Audited text h other = absurd h
-text_stop_refuses (status.NotARun p c) text h other = absurd h
-text_stop_refuses status.TooLong text h other = absurd h
-text_stop_refuses status.ReadFault text h other = absurd h
-text_stop_refuses (status.BadBook l k) text h other = absurd h
-
-book_stop_refuses : (stop : Status) (bytes : List ℕ) → IsBookStop stop bytes → stop ≢ status.NoMemory → HasRefusal stop
-book_stop_refuses (status.BadBook l k) bytes h other = tt
-book_stop_refuses status.NoMemory bytes h other = absurd (other refl)
-book_stop_refuses status.Quiet bytes h other = absurd h
-book_stop_refuses status.BadWords bytes h other = absurd h
-book_stop_refuses status.Budget bytes h other = absurd h
-book_stop_refuses (status.ActorsFull a) bytes h other = absurd h
-book_stop_refuses status.WriteFault bytes h other = absurd h
-book_stop_refuses status.Audited bytes h other = absurd h
-book_stop_refuses (status.NotARun p c) bytes h other = absurd h
-book_stop_refuses (status.BadText l k) bytes h other = absurd h
-book_stop_refuses (status.BadProgram k b s r) bytes h other = absurd h
-book_stop_refuses status.TooLong bytes h other = absurd h
-book_stop_refuses status.ReadFault bytes h other = absurd h
-
-read_stop_refuses : (stop : Status) (job : Job) (source : Sides) → IsReadStop stop job source → stop ≢ status.NoMemory → HasRefusal stop
-read_stop_refuses status.ReadFault job source h other = tt
-read_stop_refuses status.NoMemory job source h other = absurd (other refl)
-read_stop_refuses status.Quiet job source h other = absurd h
-read_stop_refuses status.BadWords job source h other = absurd h
-read_stop_refuses status.Budget job source h other = absurd h
-read_stop_refuses (status.ActorsFull a) job source h other = absurd h
-read_stop_refuses status.WriteFault job source h other = absurd h
-read_stop_refuses status.Audited job source h other = absurd h
-read_stop_refuses (status.NotARun p c) job source h other = absurd h
-read_stop_refuses (status.BadText l k) job source h other = absurd h
-read_stop_refuses (status.BadProgram k b s r) job source h other = absurd h
-read_stop_refuses status.TooLong job source h other = absurd h
-read_stop_refuses (status.BadBook l k) job source h other = absurd h
-
-input_stop_refuses : (stop : Status) (job : Job) (input : List ℕ) → InputStops job input stop → stop ≢ status.NoMemory → HasRefusal stop
-input_stop_refuses stop job input (InputStops.long is_long e) other = subst HasRefusal (sym e) tt
-input_stop_refuses stop job input (InputStops.at_text text has h) other = text_stop_refuses stop text h other
-input_stop_refuses stop job input (InputStops.at_book audits text bytes has program runnable h) other = book_stop_refuses stop bytes h other
-
-pub stop_is_refusal : (stop : Status) (job : Job) (source : Sides) → IsStop stop job source → stop ≢ status.NoMemory → HasRefusal stop
-stop_is_refusal stop job source (inl h) other = read_stop_refuses stop job source h other
-stop_is_refusal stop job source (inr h) other = input_stop_refuses stop job h.input h.stops other
 
 -- the words have no reading, and the source was not called
 pub bad_words_answers : (reading : Option Order) (left : Option (List ℕ)) (reads : ℕ) (sink : Sides) (book : BookValue) (answer : Status) → reading ≡ None

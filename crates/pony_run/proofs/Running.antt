@@ -5,7 +5,6 @@ use Rattle.orca_names.specs.declared.trace.Trace.TheVariants.{Deep, Roots}
 use Rattle.event_rule.specs.Runs.{IsQuiet, Leads, LeadsInOrder, Machine}
 use Rattle.event_rule.specs.declared.event.Event.{Event}
 use Rattle.run_book.specs.Books.{BookValue}
-use Rattle.report_text.specs.Ends.{IsEnd}
 use Rattle.report_text.specs.declared.status.Status.{Status}
 use Rattle.report_text.specs.declared.status.Status.TheVariants as status
 use Rattle.word_line.specs.declared.order.Order.{Order}
@@ -19,7 +18,6 @@ use Rattle.machine_laws.proofs.AtQuiet.{exactly_at_quiet, quiet_by_roots}
 use Rattle.machine_laws.proofs.WholeRuns.{never_too_early}
 use Rattle.orca_core.specs.Laws.{IsLeftExactly, IsRunOf}
 use Rattle.orca_core.specs.Machine.{NoneIsAway, Machine as Orca}
-use Rattle.quiet_pass.proofs.Beginning.{run_begins}
 use Rattle.quiet_pass.specs.Ends.{EndsSo, GoesOnTo}
 use Rattle.quiet_pass.specs.declared.ending.End.{End}
 use Rattle.quiet_pass.specs.declared.ending.End.TheVariants as ends
@@ -72,22 +70,6 @@ run_under_way order program m book heavy h =
     (subst (λ (o : Options). IsRun m.state.program o book.entries m.state) h.options h.run.run))
     h.in_order
 
--- it begins with an empty book
-pub begins_under_way : (order : Order) (program : Program) (m : Orca) (book : BookValue) → book ≡ record { entries = []; spare = 0; weight = order.weight; trace = order.trace }
-    → m.state ≡ first_state program (options_in order) → m.steps ≡ 0 → NoneIsAway m → IsUnderWay order program m book
-begins_under_way order program m book fresh first none home =
-    let empty = ap (λ (b : BookValue). b.entries) fresh in
-    record {
-      program_is = ap (λ (s : State). s.program) first;
-      run = run_begins program (options_in order) m book.entries first none empty;
-      options = ap (λ (s : State). s.options) first;
-      weight = ap (λ (b : BookValue). b.weight) fresh;
-      trace = ap (λ (b : BookValue). b.trace) fresh;
-      within = subst (λ (b : List Event). length b ≤ order.budget) (sym empty) (omega arith);
-      home = home;
-      in_order = λ single. subst (λ (b : List Event). LeadsInOrder next (first_state program (options_in order)) b m.state) (sym empty) (sym first);
-    }
-
 -- entries in order, and behind them more
 in_order_on : {S : Type 0} (next : Machine S) (s t u : S) (book later : List Event) → LeadsInOrder next s book t → LeadsInOrder next t later u
     → LeadsInOrder next s (book ++ later) u
@@ -120,9 +102,3 @@ ends_with ends.Budget answer is s book budget h = let same : status.Budget ≡ a
 ends_with (ends.Full actor) answer is s book budget h =
     let same : status.ActorsFull actor ≡ answer = cc in subst (λ (a : Status). EndsWith a s book budget) same h
 ends_with ends.NoMemory answer is s book budget h = absurd (cc)
-
-pub is_end : (end : End) (answer : Status) → IsAnswerOf end (Some answer) → IsEnd answer
-is_end ends.Quiet answer is = let same : status.Quiet ≡ answer = cc in subst IsEnd same tt
-is_end ends.Budget answer is = let same : status.Budget ≡ answer = cc in subst IsEnd same tt
-is_end (ends.Full actor) answer is = let same : status.ActorsFull actor ≡ answer = cc in subst IsEnd same tt
-is_end ends.NoMemory answer is = absurd (cc)

@@ -33,7 +33,7 @@ first_absent x xs sorted c = not_less_itself x (first_less x xs sorted x c)
 
 -- ---- one thing put in order
 
-put-there : (x : Thing) (ys : List Thing) → Contains (put_in_order x ys) x
+pub put-there : (x : Thing) (ys : List Thing) → Contains (put_in_order x ys) x
 put-there x [] = Contains-head x []
 put-there x (y ∷ ys) = elim (thing_cmp x y) as (λ o. thing_cmp x y ≡ o → Contains (by_order o (x ∷ y ∷ ys) (y ∷ ys) (y ∷ put_in_order x ys)) x) [
   | Less ↦ λ e. Contains-head x (y ∷ ys)
@@ -41,7 +41,7 @@ put-there x (y ∷ ys) = elim (thing_cmp x y) as (λ o. thing_cmp x y ≡ o → 
   | Greater ↦ λ e. Contains-later y (put_in_order x ys) x (put-there x ys)
 ] refl
 
-put-keeps : (x : Thing) (ys : List Thing) (z : Thing) → Contains ys z → Contains (put_in_order x ys) z
+pub put-keeps : (x : Thing) (ys : List Thing) (z : Thing) → Contains ys z → Contains (put_in_order x ys) z
 put-keeps x [] z c = none_in_nil z _ c
 put-keeps x (y ∷ ys) z c = elim (thing_cmp x y) as (λ o. Contains (by_order o (x ∷ y ∷ ys) (y ∷ ys) (y ∷ put_in_order x ys)) z) [
   | Less ↦ Contains-later x (y ∷ ys) z c
@@ -52,7 +52,7 @@ put-keeps x (y ∷ ys) z c = elim (thing_cmp x y) as (λ o. Contains (by_order o
   ]
 ]
 
-put-only : (x : Thing) (ys : List Thing) (z : Thing) → Contains (put_in_order x ys) z → (x ≡ z) ⊎ Contains ys z
+pub put-only : (x : Thing) (ys : List Thing) (z : Thing) → Contains (put_in_order x ys) z → (x ≡ z) ⊎ Contains ys z
 put-only x [] z c = Contains-cons_cases x [] z c
 put-only x (y ∷ ys) z c = elim (thing_cmp x y) as (λ o. Contains (by_order o (x ∷ y ∷ ys) (y ∷ ys) (y ∷ put_in_order x ys)) z → (x ≡ z) ⊎ Contains (y ∷ ys) z) [
   | Less ↦ λ d. Contains-cons_cases x (y ∷ ys) z d
@@ -63,7 +63,7 @@ put-only x (y ∷ ys) z c = elim (thing_cmp x y) as (λ o. Contains (by_order o 
   ]
 ] c
 
-put-sorted : (x : Thing) (ys : List Thing) → IsStrictlySortedBy thing_cmp ys → IsStrictlySortedBy thing_cmp (put_in_order x ys)
+pub put-sorted : (x : Thing) (ys : List Thing) → IsStrictlySortedBy thing_cmp ys → IsStrictlySortedBy thing_cmp (put_in_order x ys)
 put-sorted x [] sorted = sorted_cons x [] (λ z c. none_in_nil z _ c) sorted
 put-sorted x (y ∷ ys) sorted = elim (thing_cmp x y) as (λ o. thing_cmp x y ≡ o → IsStrictlySortedBy thing_cmp (by_order o (x ∷ y ∷ ys) (y ∷ ys) (y ∷ put_in_order x ys))) [
   | Less ↦ λ e. sorted_cons x (y ∷ ys) (λ z c. elim (Contains-cons_cases y ys z c) as (λ _. thing_cmp x z ≡ Less) [

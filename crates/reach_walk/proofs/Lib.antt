@@ -3,6 +3,7 @@ pub mod ByPlaces
 pub mod Covers
 pub mod Distinct
 pub mod Elements
+pub mod Flatly
 pub mod Found
 pub mod InOrder
 pub mod LedTo
@@ -16,5 +17,6 @@ pub mod Owners
 pub mod Placed
 pub mod Seeing
 pub mod Sets
+pub mod Settling
 pub mod Strictly
 pub mod Walking

@@ -1,8 +1,6 @@
 -- Marks are exactly what is reached, in order, and no other list is.
-use Rattle.std.proofs.Common.{◌↔◌, IfOk, ◌≡◌, ◌⊎◌, inl, inr, List, Option, Contains, sym, ◌∙◌}
+use Rattle.std.proofs.Common.{◌≡◌, ◌⊎◌, inl, inr, List, Option, Contains, sym, ◌∙◌}
 use Rattle.std.specs.List.{list_any}
-use Rattle.std.specs.declared.result.Result.{Result}
-use Rattle.std.specs.declared.result.Result.TheVariants.{Ok, Err}
 use Rattle.std.specs.List.Sorted.{IsStrictlySortedBy}
 use Rattle.std.proofs.lemmas.Bool.{cases_Bool, true≢false}
 use Rattle.std.proofs.lemmas.Cmp.{eq_by_cmp_equiv}
@@ -52,10 +50,3 @@ module _ (rows : ObjName → Option (List Value)) (all : List ObjName) (roots : 
         | inl e ↦ inl (marks-reached x (Contains-from_any is_same x marks e))
         | inr e ↦ inr (λ r. true≢false (sym (list_any-from_Contains (eq_by_cmp_equiv thing_total) x marks (reached-marks covers x r)) ∙ e))
       ]
-
--- a result that holds exactly the reached things, in order, holds the marks
-pub marks-found : {T E : Type 0} (rows : ObjName → Option (List Value)) (all : List ObjName) (roots : List Value) → Covers all rows → (found : Result T E) (things : T → List Thing)
-    → IfOk found (λ t. (x : Thing) → Contains (things t) x ↔ Reaches (row_edges rows) (named_by roots) x)
-    → IfOk found (λ t. IsStrictlySortedBy thing_cmp (things t)) → IfOk found (λ t. things t ≡ marks_of rows all roots)
-marks-found rows all roots covers (Ok t) things exact rising = marks-unique rows all roots (things t) covers (record { exact = exact; rising = rising })
-marks-found rows all roots covers (Err e) things exact rising = tt

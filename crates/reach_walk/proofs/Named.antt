@@ -25,10 +25,6 @@ pub push-none : (old things : List Thing) (values : List Value) (i : ℕ) (v : V
 push-none old things values i v inside at so_far named =
     so_far ∙ ap (λ ts. old ++ ts) (sym (named_by-more values i v None inside at named ∙ append-nil (named_by (take i values))))
 
--- what is appended to nothing
-pub from_nothing : (old new slice more : List Thing) → old ≡ [] → new ≡ old ++ more → slice ≡ new → slice ≡ more
-from_nothing old new slice more empty appended lent = lent ∙ appended ∙ ap (λ ts. ts ++ more) empty
-
 -- one value more, by itself
 pub named_by-push : (values : List Value) (i : ℕ) (v : Value) → i < length values → v ≡ get_or values i v → named_by (take (i + 1) values) ≡ named_by (take i values) ++ named_by (v ∷ [])
 named_by-push values i v inside at =

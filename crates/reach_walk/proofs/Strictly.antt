@@ -19,7 +19,7 @@ use Rattle.reach_walk.proofs.Elements.{Contains-head, Contains-cons_cases, none_
 use Rattle.reach_walk.proofs.InOrder.{first_less, sorted_nil, sorted_cons}
 
 -- neither behind the other nor the other
-less_of : (x y : Thing) → is_lt (thing_cmp y x) ≡ false → x ≢ y → thing_cmp x y ≡ Less
+pub less_of : (x y : Thing) → is_lt (thing_cmp y x) ≡ false → x ≢ y → thing_cmp x y ≡ Less
 less_of x y behind other = cases (thing_cmp x y) refl
   where
     cases : (o : Ordering) → thing_cmp x y ≡ o → o ≡ Less

@@ -1,3 +1,4 @@
+pub mod Flat
 pub mod Listed
 pub mod MarkLaws
 pub mod Marks

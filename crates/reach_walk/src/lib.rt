@@ -4,6 +4,7 @@
 
 mod by_place;
 mod edges;
+mod flat;
 mod laws;
 mod load;
 mod look;
@@ -19,6 +20,7 @@ mod walk_rows;
 
 pub use by_place::{load_by_place, mark_bits};
 pub use edges::Edges;
+pub use flat::find_flat;
 pub use laws::{loads_are_exact, marks_are_exact, marks_are_unique};
 pub use load::{find_loaded, load_of, load_within, with_rows};
 pub use marks::{Marks, mark, mark_within};

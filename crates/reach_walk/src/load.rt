@@ -14,8 +14,9 @@ use std::alloc::Global;
 use std::sync::ledger::Ledger;
 use step_count::Steps;
 
-// Whether no value names a thing.
-fn names_nothing(values: &[Value]) -> bool
+/// Whether no value names a thing.
+#[inline(always)]
+pub(crate) fn names_nothing(values: &[Value]) -> bool
     ensures { IsTrue result ↔ (named_by values.now ≡ []) }
 {
     for value in values {

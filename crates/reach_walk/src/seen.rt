@@ -22,9 +22,9 @@ pub(crate) struct Seen {
     pub(crate) owner: Option<ActorName>,
 }
 
-// Whether the thing is one of these.
+/// Whether the thing is one of these.
 #[inline(always)]
-fn is_among(things: &[Thing], thing: &Thing) -> bool
+pub(crate) fn is_among(things: &[Thing], thing: &Thing) -> bool
     ensures { IsTrue result ↔ Contains things.now thing.now }
 {
     for other in things {

@@ -9,7 +9,7 @@ ghost use Rattle.std.proofs.lemmas.List.FromFn.{length-range_with_len, get_or-ma
 ghost use Rattle.std.proofs.lemmas.Option.{none-some, slice_get_within};
 ghost use Rattle.orca_names.specs.declared.names.ObjName.{ObjName as object_name};
 
-use crate::{Edges, load_of, load_within, mark, mark_within, walk};
+use crate::{Edges, ThingList, find_flat, load_of, load_within, mark, mark_within, walk};
 use orca_names::{ActorName, Args, NoMemory, ObjName, Reading, Row, Rows, Serial, Thing, Value};
 use std::alloc::Global;
 use std::marker::Brand;
@@ -203,5 +203,37 @@ fn walks_begin_at_their_roots(rt: HostRuntime) -> Result<(), Fail> {
         walk(rt.alloc(), &roots, &mut Nowhere)?.as_slice(),
         reached.as_slice()
     );
+    Ok(())
+}
+
+#[test]
+fn what_leads_nowhere_is_found_flat(rt: HostRuntime) -> Result<(), Fail> {
+    let alloc = rt.alloc();
+    let rows = [
+        Row::of(&[Value::Num(5)]),
+        Row::of(&[Value::Obj(object(0, 0))]),
+    ];
+    let shelf = Shelf {
+        rows: rows.to_vec(alloc)?,
+    };
+    let args = Args::of(&[
+        Value::Actor(ActorName(3)),
+        Value::Obj(object(0, 0)),
+        Value::Obj(object(4, 9)),
+        Value::Null,
+        Value::Obj(object(0, 0)),
+    ]);
+    let mut things = ThingList::new(alloc);
+    assert!(rt; find_flat(&args, &shelf, &mut things)?);
+    let found = [
+        Thing::Actor(ActorName(0)),
+        Thing::Obj(object(0, 0)),
+        Thing::Actor(ActorName(3)),
+        Thing::Actor(ActorName(4)),
+        Thing::Obj(object(4, 9)),
+    ];
+    assert_eq!(rt; things.as_slice(), found.as_slice());
+    let on = Args::of(&[Value::Obj(object(0, 1))]);
+    assert!(rt; !find_flat(&on, &shelf, &mut things)?);
     Ok(())
 }

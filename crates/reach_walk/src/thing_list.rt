@@ -1,8 +1,10 @@
 // A list of things, a short one in place.
 
-ghost use Rattle.std.specs.Prelude.{◌≡◌, ◌<◌, ◌++◌, ◌∷◌, [], Some, length, slice_get, IfOk, OnOk};
-ghost use Rattle.std.specs.List.Sorted.{IsPermutation, IsSorted};
+ghost use Rattle.std.specs.Prelude.{◌≡◌, ◌<◌, ◌++◌, ◌∷◌, [], Contains, List, Some, length, slice_get, IfOk, OnOk};
+ghost use Rattle.std.specs.List.Sorted.{IsPermutation, IsSorted, IsStrictlySortedBy};
 ghost use Rattle.orca_names.specs.Names.{thing_cmp};
+ghost use Rattle.orca_names.specs.declared.names.Thing.{Thing as any_thing};
+ghost use Rattle.reach_walk.specs.Marks.{put_in_order};
 
 use orca_names::{ActorName, NoMemory, Thing};
 use std::alloc::Global;
@@ -45,6 +47,24 @@ fn spill(few: &[Thing; FEW], thing: Thing, many: &mut Vec<Thing>) -> Result<(), 
     many.extend_from_slice(few)?;
     many.push(thing)?;
     Ok(())
+}
+
+// The last thing moves down to its place among the others.
+fn settle(things: &mut [Thing])
+    ensures settles { (front : List any_thing) (x : any_thing) → things.old ≡ front ++ x ∷ []
+        → IsStrictlySortedBy thing_cmp front → (Contains front x → ⊥)
+        → things.new ≡ put_in_order x front }
+    ensures len { length things.new ≡ length things.old }
+{
+    let Some(thing) = things.last().copied() else {
+        return;
+    };
+    let mut i = things.len() - 1;
+    while i > 0 && thing.cmp(&things[i - 1]).is_lt() {
+        things[i] = things[i - 1];
+        i -= 1;
+    }
+    things[i] = thing;
 }
 
 impl ThingList {
@@ -111,6 +131,22 @@ impl ThingList {
             return Ok(());
         }
         spill(&self.few, thing, &mut self.many)
+    }
+
+    /// One thing more, in its place: the others are in order, and it is none of them.
+    pub(crate) fn insert(&mut self, thing: Thing) -> Result<(), NoMemory>
+        requires rising { IsStrictlySortedBy thing_cmp self.old }
+        requires fresh { Contains self.old thing → ⊥ }
+        ensures { OnOk result (self.new ≡ put_in_order thing self.old) }
+    {
+        self.push(thing)?;
+        if self.many.is_empty() {
+            let few = &mut self.few;
+            settle(&mut few[..self.count]);
+        } else {
+            settle(self.many.as_mut_slice());
+        }
+        Ok(())
     }
 
     /// Drops all of them, and keeps what memory it took.

@@ -23,9 +23,6 @@ module _ (out : List Bool) (claims : List (Option ℕ)) (away : (a : ℕ) → is
   pub free_events : next_of_kind (is_free (λ _. false)) out ≡ next_of_kind (is_free (is_claimed (listed 0 claims))) []
   free_events i s e = by (actor_of e) (next s e) i
     where
-      aside : (ℕ → Bool) → Option ℕ → Bool
-      aside is_aside who = option_map_or (λ a. not (is_aside a)) who false
-
       cases : (b : Bool) (step : Step State)
           → (if b then NotEnabled else step) ≡ (if not b then step else NotEnabled)
       cases true step = refl

@@ -13,8 +13,6 @@ use Rattle.event_rule.specs.Runs.{Goes}
 use Rattle.event_rule.specs.declared.event.Event.{Event}
 use Rattle.event_rule.specs.declared.event.Event.TheVariants.{Take, Go, Collect, Leave, Block, Hear, Scan, Reap}
 use Rattle.letter_kinds.specs.Detector.{Token, has}
-use Rattle.machine_rules.specs.Actors.{cell_at, cell_of}
-use Rattle.machine_rules.specs.Cell.{Cell}
 use Rattle.machine_rules.specs.Detect.{acked_token}
 use Rattle.machine_rules.specs.Next.{next}
 use Rattle.machine_rules.specs.Options.{Options}
@@ -60,9 +58,6 @@ module _ (program : Program) (budget : ℕ) (m : Machine) (book : BookValue) (cl
 
   pub free_is_home : (a : ℕ) → claim_in claims a ≡ None → is_out m.out a ≡ false
   free_is_home a free = kept.away a ∙ ap is_some free
-
-  pub claimed_is_out : (a pass : ℕ) → claim_in claims a ≡ Some pass → is_out m.out a ≡ true
-  claimed_is_out a pass mine = kept.away a ∙ ap is_some mine
 
   -- that of the actor of an event on which no claim is out is at home
   pub event_is_home : (e : Event) → ((a : ℕ) → actor_of e ≡ Some a → claim_in claims a ≡ None) → is_out_for m.out e ≡ false
@@ -127,10 +122,6 @@ module _ (program : Program) (budget : ℕ) (m : Machine) (book : BookValue) (cl
       let fits = one_more_fits claims a (busy_is_inside a busy) free in
       let c = kept.counted in let f = few_claims in omega arith
 
-  -- its cell is there
-  pub busy_has_cell : (a : ℕ) → event_at m.state a ≢ None → (c : Cell) × (cell_at m.state.actors a ≡ Some c)
-  busy_has_cell a busy = let b = busy_of m.state a busy in (b.cell, ap cell_of b.present)
-
   -- with a cell lent
   pub kept_claimed : (n : Machine) (a pass : ℕ) → n.state ≡ m.state → n.steps ≡ m.steps → n.out ≡ set m.out a true
       → is_out n.out a ≡ true → claim_in claims a ≡ None → event_at m.state a ≢ None
@@ -155,13 +146,6 @@ module _ (program : Program) (budget : ℕ) (m : Machine) (book : BookValue) (cl
         (λ same. subst (λ (x : ℕ). event_at m.state x ≢ None) (sym same) busy)
         (λ apart. kept.busy b q (sym (claim_set claims a b (Some pass) apart) ∙ mine)));
   }
-
-  -- ---- its end
-
-  pub lent_some : (a pass : ℕ) → claim_in claims a ≡ Some pass → 1 ≤ lent
-  lent_some a pass mine =
-      let c = counted_less is_some refl claims a (Some pass) (claim_inside claims a pass mine) mine refl in
-      let k = kept.counted in omega arith
 
   pub kept_ended : (n : Machine) (a pass : ℕ) → n.state ≡ m.state → n.steps ≡ m.steps → n.out ≡ set m.out a false
       → claim_in claims a ≡ Some pass → IsKept program budget n book (set claims a None) (lent - 1)

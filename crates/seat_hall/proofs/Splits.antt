@@ -41,9 +41,6 @@ module _ (pass next : ℕ) (old mid new : Token) (h : HallView) (at : IsAtHall p
         ap (λ k. k.client) kept ∙ (ap (λ k. keeps_own k.client) written
         ∙ (keeps (knows mid).client at.number ∙ client_still pass old mid new h at))
 
-    pub turns_split : (knows new).turns ≡ (knows old).turns + 1
-    turns_split = ap (λ k. k.turns) kept ∙ (ap (λ k. k.turns) written ∙ ap (λ k. k.turns) at.now)
-
     -- the hall that it leaves
     hall_new : after h.logged (Made next) ≡ hall new (seen new)
     hall_new =

@@ -122,12 +122,6 @@ module _ (pass : ℕ) (old mid new : Token) (h : HallView) (at : IsAtHall pass o
 
   -- where the call wrote nothing
   module _ (same : knows new ≡ knows mid) where
-    pub turns_read : (knows new).turns ≡ (knows old).turns + 1
-    turns_read = ap (λ k. k.turns) same ∙ ap (λ k. k.turns) at.now
-
-    pub client_read : (knows new).client ≡ (knows old).client
-    client_read = ap (λ k. k.client) same ∙ client_still
-
     hall_read : h.logged ≡ hall new (seen new)
     hall_read = reckons ∙ (λ i. hall_of ((sym (ap (λ k. k.client) same)) i) ((sym (ap (λ k. k.seen) same)) i))
 

@@ -1,0 +1,110 @@
+// What arguments name that lead no further, as most letters have them: no walk is wanted.
+
+ghost use Rattle.std.specs.Prelude.{All, Contains, IfOk, IsTrue, OnOk, ◌≡◌, ◌↔◌, [], ◌∷◌};
+ghost use Rattle.std.specs.List.Sorted.{IsStrictlySortedBy};
+ghost use Rattle.std.specs.declared.cmp.Ordering.TheVariants.{Less};
+ghost use Rattle.orca_names.specs.Names.{thing_cmp};
+ghost use Rattle.orca_names.specs.declared.names.Thing.{Thing as any_thing};
+ghost use Rattle.orca_names.specs.declared.names.Thing.TheVariants.{Obj as object};
+ghost use Rattle.reach_walk.specs.Flat.{LeadsNowhere, Puts};
+ghost use Rattle.reach_walk.specs.Marks.{marks_of, with_owners};
+ghost use Rattle.reach_walk.specs.Reach.{named_by};
+
+use crate::load::names_nothing;
+use crate::seen::is_among;
+use crate::thing_list::ThingList;
+use orca_names::{Args, NoMemory, ObjName, Rows, Thing, Value};
+
+// Whether the thing comes behind all of these, which are in order.
+#[inline(always)]
+fn comes_last(things: &[Thing], thing: &Thing) -> bool
+    requires { IsStrictlySortedBy thing_cmp things.now }
+    ensures { IsTrue result → (x : any_thing) → Contains things.now x
+        → thing_cmp x thing.now ≡ Less }
+{
+    match things.last() {
+        Some(last) => last.cmp(thing).is_lt(),
+        None => true,
+    }
+}
+
+// Puts a thing in its place among things in order, where it does not come last.
+#[inline(never)]
+fn put_among(things: &mut ThingList, thing: Thing) -> Result<(), NoMemory>
+    requires { IsStrictlySortedBy thing_cmp things.old }
+    ensures { OnOk result (Puts (thing ∷ []) things.old things.new) }
+{
+    if is_among(things.as_slice(), &thing) {
+        return Ok(());
+    }
+    things.insert(thing)
+}
+
+// Puts a thing in its place among things in order. One that is there stays.
+#[inline(always)]
+fn put(things: &mut ThingList, thing: Thing) -> Result<(), NoMemory>
+    requires { IsStrictlySortedBy thing_cmp things.old }
+    ensures { OnOk result (Puts (thing ∷ []) things.old things.new) }
+{
+    if comes_last(things.as_slice(), &thing) {
+        things.push(thing)
+    } else {
+        put_among(things, thing)
+    }
+}
+
+// Whether the object leads nowhere.
+#[inline(always)]
+fn leads_nowhere<R: Rows>(n: &ObjName, rows: &R) -> bool
+    ensures { IsTrue result ↔ LeadsNowhere (R.rows rows.now) (object n.now) }
+{
+    match rows.row_of(*n) {
+        Some(row) => names_nothing(row.as_slice()),
+        None => true,
+    }
+}
+
+// Puts what the value names in its place, and the owner; `false` where that leads on.
+#[inline(always)]
+fn put_named<R: Rows>(things: &mut ThingList, value: &Value, rows: &R) -> Result<bool, NoMemory>
+    requires { IsStrictlySortedBy thing_cmp things.old }
+    ensures puts { IfOk result (λ flat. IsTrue flat
+        → Puts (with_owners (named_by (value.now ∷ []))) things.old things.new) }
+    ensures flat { IfOk result (λ flat. IsTrue flat
+        ↔ All (LeadsNowhere (R.rows rows.now)) (named_by (value.now ∷ []))) }
+{
+    match value {
+        Value::Obj(n) => {
+            if !leads_nowhere(n, rows) {
+                return Ok(false);
+            }
+            put(things, Thing::Actor(n.owner))?;
+            put(things, Thing::Obj(*n))?;
+        }
+        Value::Actor(a) => put(things, Thing::Actor(*a))?,
+        _ => {}
+    }
+    Ok(true)
+}
+
+/// Finds the things of the load of a letter with these arguments, in the order of things, where they
+/// lead no further than to what they name: `true` exactly there. Where they lead on, what `things`
+/// holds is left open.
+///
+/// # Errors
+/// `NoMemory` where memory was refused; what `things` holds then is left open too.
+#[inline(always)]
+pub fn find_flat<R: Rows>(args: &Args, rows: &R, things: &mut ThingList) -> Result<bool, NoMemory>
+    ensures things { IfOk result (λ flat. IsTrue flat
+        → things.new ≡ marks_of (R.rows rows.now) (R.all rows.now) args.now) }
+    ensures flat { IfOk result (λ flat. IsTrue flat
+        ↔ All (LeadsNowhere (R.rows rows.now)) (named_by args.now)) }
+{
+    things.clear();
+    for value in args.as_slice() {
+        if !put_named(things, value, rows)? {
+            return Ok(false);
+        }
+    }
+    Ok(true)
+}
