@@ -115,6 +115,17 @@ fn guess(held: &[Entry], thing: &Thing) -> Option<usize>
     None
 }
 
+// Whether the thing comes behind all of these, as that of an actor does that was just made.
+fn comes_last(held: &[Entry], thing: &Thing) -> bool
+    ensures { IsTrue result → (0 < length held.now) × ((d : entry)
+        → thing_cmp (slice_index_or held.now (length held.now - 1) d).thing thing.now ≡ Less) }
+{
+    match held.last() {
+        Some(last) => is_below(&last.thing, thing),
+        None => false,
+    }
+}
+
 // The first place whose thing does not come before this one, by halves.
 fn first_from(held: &[Entry], thing: &Thing) -> usize
     requires { T (is_sorted thing_cmp (map key_of held.now)) }
@@ -124,6 +135,9 @@ fn first_from(held: &[Entry], thing: &Thing) -> usize
     ensures not_below { result < length held.now → (d : entry)
         → thing_cmp (slice_index_or held.now result d).thing thing.now ≢ Less }
 {
+    if comes_last(held, thing) {
+        return held.len();
+    }
     let mut low = 0;
     let mut high = held.len();
     while low < high {

@@ -108,7 +108,11 @@ fn put_row(rows: &mut Vec<Option<Row>>, i: usize, row: &Option<Row>)
     ensures capacity { vec_capacity rows.new ≡ vec_capacity rows.old }
 {
     if i == rows.len() {
-        rows.push_reserved(*row);
+        // None is written as such: to copy it would move the room of a row.
+        match row {
+            Some(row) => rows.push_reserved(Some(*row)),
+            None => rows.push_reserved(None),
+        }
         return;
     }
     let _done = rows.insert(i, *row).is_ok();

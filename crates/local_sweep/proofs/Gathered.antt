@@ -31,12 +31,11 @@ module _ (marks : List Bool) (heap : Heap) (foreign : Table) where
   pub marked_at : (x : Thing) (p : ℕ) (b : Bool) → place_in heap foreign x ≡ Some p → slice_get marks p ≡ Some b → b ≡ is_marked marks heap foreign x
   marked_at x p b place on = sym (get_or_from_slice_get marks p b false on) ∙ ap (λ o. option_map_or (λ q. get_or marks q false) o false) (sym place)
 
-  pub freed_at : (e : ℕ × (Row × ℕ)) (p : ℕ) (b : Bool) → place_in heap foreign (Obj (object_named heap.owner e.0)) ≡ Some p → slice_get marks p ≡ Some b → e.1.1 ≡ 0
-      → not b ≡ is_freed (is_marked marks heap foreign) heap.owner e
-  freed_at e p b place on none =
-      ap not (marked_at (Obj (object_named heap.owner e.0)) p b place on) ∙ ap not (sym (or_false (is_marked marks heap foreign (Obj (object_named heap.owner e.0)))))
-      ∙ ap (λ n. not (is_marked marks heap foreign (Obj (object_named heap.owner e.0)) || not (n == 0))) (sym none)
-    where
-      or_false : (a : Bool) → (a || false) ≡ a
-      or_false true = refl
-      or_false false = refl
+pub freed_where : (marked : Thing → Bool) (owner : ℕ) (e : ℕ × (Row × ℕ)) (b : Bool) → b ≡ marked (Obj (object_named owner e.0)) → e.1.1 ≡ 0 → not b ≡ is_freed marked owner e
+freed_where marked owner e b is none =
+    let its = marked (Obj (object_named owner e.0)) in
+    ap not is ∙ ap not (sym (or_false its)) ∙ ap (λ n. not (its || not (n == 0))) (sym none)
+  where
+    or_false : (a : Bool) → (a || false) ≡ a
+    or_false true = refl
+    or_false false = refl

@@ -4,4 +4,5 @@ pub mod Gathered
 pub mod GivenBack
 pub mod Groups
 pub mod LastGroup
+pub mod Naming
 pub mod SamePlan

@@ -3,6 +3,8 @@
 #![tactic(auto)]
 
 mod amounts;
+mod kept;
+mod named;
 mod plans;
 mod sweep;
 

@@ -1,4 +1,4 @@
-// The plan of a sweep, from marks.
+// The plan of a sweep, from what is kept.
 
 ghost use Rattle.std.specs.Prelude.{◌≡◌, ℕ, ◌<◌, ◌≤◌, ◌++◌, ◌∷◌, [], Some, if◌then◌else◌, List, Option, length, not, slice_get, IfOk, OnOk};
 ghost use Rattle.std.specs.FinMap as m;
@@ -10,155 +10,103 @@ ghost use Rattle.local_sweep.specs.Marked.{is_marked, is_reached};
 ghost use Rattle.local_sweep.specs.Plan.{back_of, free_of, is_freed, object_named, plan_of};
 
 use crate::amounts::push_amount;
+use crate::kept::{ByPlace, Kept};
+use crate::named::ByName;
 use foreign_table::ForeignTable;
-use known_rows::KnownPlaces;
+use known_rows::{KnownPlaces, KnownRows};
 use letter_kinds::{Amounts, SweepPlan};
 use object_heap::ObjectHeap;
 use orca_names::{ActorName, Fields, NoMemory, ObjName};
 use plain_list::Listed;
-use reach_walk::mark_bits;
+use reach_walk::{lead_no_further, mark_bits};
 use ready_set::PlaceSet;
 use std::alloc::Global;
 
+// Among so few things what is kept is found soonest by the names in the fields.
+const FEW: usize = 16;
+
 // Whether an own object, by its place in the order of serials, is freed.
-fn is_gone(marks: &PlaceSet, known: &KnownPlaces<'_>, i: usize) -> bool
-    requires within { i < m.len known.now.rows.heap.now.rows }
-    requires room { length (placed_things known.now.rows.heap.now known.now.rows.foreign.now)
-        ≤ length marks.now }
-    ensures { (e : ℕ × (Row × ℕ)) → slice_get (m.entries known.now.rows.heap.now.rows) i ≡ Some e →
-        let heap = known.now.rows.heap.now in
-        result ≡ is_freed (is_marked marks.now heap known.now.rows.foreign.now) heap.owner e }
+fn is_gone<K: Kept>(kept: &K, i: usize) -> bool
+    requires { i < m.len (K.own kept.now).rows }
+    ensures { (e : ℕ × (Row × ℕ)) → slice_get (m.entries (K.own kept.now).rows) i ≡ Some e →
+        result ≡ is_freed (K.marked kept.now) (K.own kept.now).owner e }
 {
-    let heap = known.rows.heap;
-    let (_, _, count) = heap.at(i);
+    let (_, _, count) = kept.heap().at(i);
     if count != 0 {
         return false;
     }
-    !marks.contains(known.place_of_own_at(i))
+    !kept.keeps_own(i)
 }
 
 // Adds an own object that is freed to the others.
-fn note_freed(
-    free: &mut Vec<ObjName>,
-    marks: &PlaceSet,
-    known: &KnownPlaces<'_>,
-    i: usize,
-) -> Result<(), NoMemory>
-    requires within { i < m.len known.now.rows.heap.now.rows }
-    requires room { length (placed_things known.now.rows.heap.now known.now.rows.foreign.now)
-        ≤ length marks.now }
-    ensures { (e : ℕ × (Row × ℕ)) → slice_get (m.entries known.now.rows.heap.now.rows) i ≡ Some e →
-        let heap = known.now.rows.heap.now in
-        let gone = is_freed (is_marked marks.now heap known.now.rows.foreign.now) heap.owner e in
+fn note_freed<K: Kept>(free: &mut Vec<ObjName>, kept: &K, i: usize) -> Result<(), NoMemory>
+    requires { i < m.len (K.own kept.now).rows }
+    ensures { (e : ℕ × (Row × ℕ)) → slice_get (m.entries (K.own kept.now).rows) i ≡ Some e →
+        let heap = K.own kept.now in
+        let gone = is_freed (K.marked kept.now) heap.owner e in
         let more = (if gone then object_named heap.owner e.0 ∷ [] else []) in
         OnOk result (free.new.items ≡ free.old.items ++ more) }
 {
-    if !is_gone(marks, known, i) {
+    if !is_gone(kept, i) {
         return Ok(());
     }
-    let heap = known.rows.heap;
-    let (n, _, _) = heap.at(i);
+    let (n, _, _) = kept.heap().at(i);
     free.push(n)?;
     Ok(())
 }
 
 // The own objects that are freed, by rising serial.
-fn gather_freed(
-    alloc: Global,
-    marks: &PlaceSet,
-    known: &KnownPlaces<'_>,
-) -> Result<Vec<ObjName>, NoMemory>
-    requires room { length (placed_things known.now.rows.heap.now known.now.rows.foreign.now)
-        ≤ length marks.now }
-    ensures { let heap = known.now.rows.heap.now in
-        let marked = is_marked marks.now heap known.now.rows.foreign.now in
-        IfOk result (λ free. free.items ≡ free_of marked heap) }
+fn gather_freed<K: Kept>(alloc: Global, kept: &K) -> Result<Vec<ObjName>, NoMemory>
+    ensures { IfOk result (λ free. free.items ≡ free_of (K.marked kept.now) (K.own kept.now)) }
 {
     let mut free = Vec::new(alloc);
-    let heap = known.rows.heap;
-    for i in 0..heap.len() {
-        note_freed(&mut free, marks, known, i)?;
+    for i in 0..kept.heap().len() {
+        note_freed(&mut free, kept, i)?;
     }
     Ok(free)
 }
 
-// Whether a held thing, by its place in the order of things, is marked.
-fn is_held_on(marks: &PlaceSet, known: &KnownPlaces<'_>, j: usize) -> bool
-    requires within { j < m.len known.now.rows.foreign.now.entries }
-    requires room { length (placed_things known.now.rows.heap.now known.now.rows.foreign.now)
-        ≤ length marks.now }
-    ensures { (x : thing) → slice_get (m.keys known.now.rows.foreign.now.entries) j ≡ Some x →
-        result ≡ is_marked marks.now known.now.rows.heap.now known.now.rows.foreign.now x }
-{
-    match known.place_of_held_at(j) {
-        Some(p) => marks.contains(p),
-        None => false,
-    }
-}
-
-// Adds the count on a held thing that is not marked to what goes back.
-fn note_given(
+// Adds the count on a held thing that is not kept to what goes back.
+fn note_given<K: Kept>(
     alloc: Global,
     back: &mut Vec<(ActorName, Amounts)>,
-    marks: &PlaceSet,
-    known: &KnownPlaces<'_>,
+    kept: &K,
     j: usize,
 ) -> Result<(), NoMemory>
-    requires within { j < m.len known.now.rows.foreign.now.entries }
-    requires room { length (placed_things known.now.rows.heap.now known.now.rows.foreign.now)
-        ≤ length marks.now }
+    requires { j < m.len (K.held kept.now).entries }
     ensures { (e : thing × (ℕ × Option Row)) (given : List Amount)
-        → slice_get (m.entries known.now.rows.foreign.now.entries) j ≡ Some e
+        → slice_get (m.entries (K.held kept.now).entries) j ≡ Some e
         → back.old.items ≡ by_owner given →
-        let on = is_marked marks.now known.now.rows.heap.now known.now.rows.foreign.now e.0 in
-        let more = (if not on then (e.0, e.1.0) ∷ [] else []) in
+        let more = (if not (K.marked kept.now e.0) then (e.0, e.1.0) ∷ [] else []) in
         OnOk result (back.new.items ≡ by_owner (given ++ more)) }
 {
-    if is_held_on(marks, known, j) {
+    if kept.keeps_held(j) {
         return Ok(());
     }
-    let foreign = known.rows.foreign;
-    let (thing, count, _) = foreign.at(j);
+    let (thing, count, _) = kept.foreign().at(j);
     push_amount(alloc, back, &thing, count)
 }
 
 // The counts that go back, in groups of their owners.
-fn gather_given(
-    alloc: Global,
-    marks: &PlaceSet,
-    known: &KnownPlaces<'_>,
-) -> Result<Vec<(ActorName, Amounts)>, NoMemory>
-    requires room { length (placed_things known.now.rows.heap.now known.now.rows.foreign.now)
-        ≤ length marks.now }
-    ensures { let heap = known.now.rows.heap.now in
-        let foreign = known.now.rows.foreign.now in
-        let marked = is_marked marks.now heap foreign in
-        IfOk result (λ back. back.items ≡ back_of marked heap foreign) }
+fn gather_given<K: Kept>(alloc: Global, kept: &K) -> Result<Vec<(ActorName, Amounts)>, NoMemory>
+    ensures { IfOk result (λ back.
+        back.items ≡ back_of (K.marked kept.now) (K.own kept.now) (K.held kept.now)) }
 {
     let mut back = Vec::new(alloc);
-    let foreign = known.rows.foreign;
-    for j in 0..foreign.len() {
-        note_given(alloc, &mut back, marks, known, j)?;
+    for j in 0..kept.foreign().len() {
+        note_given(alloc, &mut back, kept, j)?;
     }
     Ok(back)
 }
 
-// The plan of a sweep of what is known that keeps what is marked.
+// The plan of a sweep that keeps these.
 #[inline(always)]
-fn plan_known(
-    alloc: Global,
-    marks: &PlaceSet,
-    known: &KnownPlaces<'_>,
-) -> Result<SweepPlan, NoMemory>
-    requires { length (placed_things known.now.rows.heap.now known.now.rows.foreign.now)
-        ≤ length marks.now }
-    ensures { let heap = known.now.rows.heap.now in
-        let foreign = known.now.rows.foreign.now in
-        let marked = is_marked marks.now heap foreign in
-        IfOk result (λ plan. plan ≡ plan_of marked heap foreign) }
+fn plan_kept<K: Kept>(alloc: Global, kept: &K) -> Result<SweepPlan, NoMemory>
+    ensures { IfOk result (λ plan.
+        plan ≡ plan_of (K.marked kept.now) (K.own kept.now) (K.held kept.now)) }
 {
-    let free = gather_freed(alloc, marks, known)?;
-    let back = gather_given(alloc, marks, known)?;
+    let free = gather_freed(alloc, kept)?;
+    let back = gather_given(alloc, kept)?;
     Ok(SweepPlan {
         free: Listed::from(free),
         back: Listed::from(back),
@@ -180,7 +128,13 @@ pub fn plan_of_marks(
     ensures { let marked = is_marked marks.now heap.now foreign.now in
         IfOk result (λ plan. plan ≡ plan_of marked heap.now foreign.now) }
 {
-    plan_known(alloc, marks, &KnownPlaces::of(heap, foreign))
+    let known = KnownPlaces::of(heap, foreign);
+    plan_kept(alloc, &ByPlace { marks, known })
+}
+
+// Whether few things are known.
+fn are_few(heap: &ObjectHeap, foreign: &ForeignTable) -> bool {
+    heap.len() <= FEW && foreign.len() <= FEW
 }
 
 /// The plan of a sweep that keeps what the fields reach through the rows that the actor has.
@@ -197,8 +151,18 @@ pub fn plan(
     ensures { let marked = is_reached fields.now.values heap.now foreign.now in
         IfOk result (λ plan. plan ≡ plan_of marked heap.now foreign.now) }
 {
+    let values = fields.values.as_slice();
+    let rows = KnownRows { heap, foreign };
+    if are_few(heap, foreign) && lead_no_further(values, &rows) {
+        return plan_kept(alloc, &ByName { values, rows });
+    }
     let known = KnownPlaces::of(heap, foreign);
-    let values = &fields.values;
-    let marks = mark_bits(alloc, values.as_slice(), &known)?;
-    plan_known(alloc, &marks, &known)
+    let marks = mark_bits(alloc, values, &known)?;
+    plan_kept(
+        alloc,
+        &ByPlace {
+            marks: &marks,
+            known,
+        },
+    )
 }

@@ -49,9 +49,10 @@ fn make(heap: &mut ObjectHeap, row: Row) -> Result<Option<ObjName>, NoMemory> {
     Ok(None)
 }
 
-// Plans a sweep with empty fields and does it.
+// Plans a sweep with these values in the fields and does it.
 fn sweep(
     alloc: Global,
+    values: Args,
     heap: &mut ObjectHeap,
     foreign: &mut ForeignTable,
 ) -> Result<Option<SweepPlan>, NoMemory> {
@@ -60,7 +61,7 @@ fn sweep(
         return Ok(None);
     }
     let fields = Fields {
-        values: Args::new(),
+        values,
         pinned: false,
     };
     let plan = plan(alloc, &fields, heap, foreign)?;
@@ -100,7 +101,7 @@ fn all_that_is_held_goes_back(rt: HostRuntime) -> Result<(), Fail> {
     gain(&mut foreign, &Thing::Actor(ActorName(0)), &None, 256)?;
     gain(&mut foreign, &Thing::Actor(ActorName(2)), &None, 1)?;
     gain(&mut foreign, &shared(), &row, 256)?;
-    let Some(plan) = sweep(alloc, &mut heap, &mut foreign)? else {
+    let Some(plan) = sweep(alloc, Args::new(), &mut heap, &mut foreign)? else {
         return Ok(());
     };
     let groups = plan.back.len();
@@ -122,11 +123,55 @@ fn a_counted_object_stays_but_not_what_it_names(rt: HostRuntime) -> Result<(), F
         return Ok(());
     };
     raise(&mut heap, &n);
-    let Some(plan) = sweep(alloc, &mut heap, &mut foreign)? else {
+    let Some(plan) = sweep(alloc, Args::new(), &mut heap, &mut foreign)? else {
         return Ok(());
     };
     assert_eq!(rt; (plan.free.len(), heap.has(n), foreign.len()), (0, true, 0));
     assert!(rt; is_group(&plan, 0, 2, &[(Thing::Actor(ActorName(2)), 256)]));
+    Ok(())
+}
+
+// Sweeps an actor 1 that holds actors 0 and 2 and an object of 0, and has an own object that names
+// actor 2. Its field is the object of 0, or its own. Answers the plan.
+fn sweep_one(alloc: Global, is_shared: bool) -> Result<Option<SweepPlan>, NoMemory> {
+    let mut heap = ObjectHeap::new(alloc, ActorName(1));
+    let mut foreign = ForeignTable::new(alloc);
+    gain(&mut foreign, &Thing::Actor(ActorName(0)), &None, 256)?;
+    gain(&mut foreign, &Thing::Actor(ActorName(2)), &None, 1)?;
+    gain(&mut foreign, &shared(), &Some(Row::of(&[Value::Num(9)])), 7)?;
+    let Some(own) = make(&mut heap, Row::of(&[Value::Actor(ActorName(2))]))? else {
+        return Ok(None);
+    };
+    let field = match shared() {
+        Thing::Obj(n) if is_shared => n,
+        _ => own,
+    };
+    sweep(
+        alloc,
+        Args::of(&[Value::Obj(field)]),
+        &mut heap,
+        &mut foreign,
+    )
+}
+
+#[test]
+fn what_the_fields_name_stays(rt: HostRuntime) -> Result<(), Fail> {
+    let Some(plan) = sweep_one(rt.alloc(), true)? else {
+        return Ok(());
+    };
+    assert_eq!(rt; (plan.free.len(), plan.back.len()), (1, 1));
+    assert!(rt; is_group(&plan, 0, 2, &[(Thing::Actor(ActorName(2)), 1)]));
+    Ok(())
+}
+
+#[test]
+fn what_rows_lead_to_stays(rt: HostRuntime) -> Result<(), Fail> {
+    let Some(plan) = sweep_one(rt.alloc(), false)? else {
+        return Ok(());
+    };
+    assert_eq!(rt; (plan.free.len(), plan.back.len()), (0, 1));
+    let back = [(Thing::Actor(ActorName(0)), 256), (shared(), 7)];
+    assert!(rt; is_group(&plan, 0, 0, &back));
     Ok(())
 }
 

@@ -1,6 +1,6 @@
 // The walk by places: marks and loads of what lies in tables.
 
-ghost use Rattle.std.specs.Prelude.{◌≡◌, ◌↔◌, ◌≤◌, ◌<◌, ◌++◌, ◌∷◌, [], ℕ, IfOk, IfSome, List, OnOk, Some, false, length, slice_index_or, true};
+ghost use Rattle.std.specs.Prelude.{◌≡◌, ◌↔◌, ◌≤◌, ◌<◌, ◌++◌, ◌∷◌, [], ℕ, IfOk, IfSome, List, OnOk, Some, false, length, slice_index_or, true, vec_capacity, vec_len};
 ghost use Rattle.std.specs.Option.{IsNone};
 ghost use Rattle.orca_names.specs.declared.names.Thing.{Thing as any_thing};
 ghost use Rattle.orca_names.specs.declared.names.Thing.TheVariants.{Obj as object};
@@ -72,6 +72,20 @@ pub fn mark_bits<R: PlacedRows>(
     Ok(met.noted.bits)
 }
 
+// Appends a thing with its row. The row is copied once, into its place: as a part of what is appended
+// it would be copied twice.
+#[inline(always)]
+fn push_with_row(load: &mut Vec<(Thing, Option<Row>)>, thing: Thing, row: &Row)
+    requires { vec_len load.old < vec_capacity load.old }
+    ensures { load.new.items ≡ load.old.items ++ (thing, Some row.now) ∷ [] }
+{
+    let at = load.len();
+    load.push_reserved((thing, Some(Row::from_args(Args::nulls(1)))));
+    if let Some(place) = &mut load[at].1 {
+        *place = *row;
+    }
+}
+
 // Appends the thing at a place, with its row.
 #[inline(always)]
 fn push_entry<R: PlacedRows>(
@@ -86,7 +100,7 @@ fn push_entry<R: PlacedRows>(
     load.reserve(1)?;
     let (thing, row) = rows.entry_at(at);
     match row {
-        Some(row) => load.push_reserved((thing, Some(*row))),
+        Some(row) => push_with_row(load, thing, row),
         None => load.push_reserved((thing, None)),
     }
     Ok(())

@@ -1,4 +1,4 @@
-// What arguments name that lead no further, as most letters have them: no walk is wanted.
+// What values name that lead no further, as most letters and fields have them: no walk is wanted.
 
 ghost use Rattle.std.specs.Prelude.{All, Contains, IfOk, IsTrue, OnOk, ◌≡◌, ◌↔◌, [], ◌∷◌};
 ghost use Rattle.std.specs.List.Sorted.{IsStrictlySortedBy};
@@ -64,6 +64,31 @@ fn leads_nowhere<R: Rows>(n: &ObjName, rows: &R) -> bool
     }
 }
 
+// Whether the value leads no further than to what it names.
+#[inline(always)]
+fn leads_no_further<R: Rows>(value: &Value, rows: &R) -> bool
+    ensures { IsTrue result ↔
+        All (LeadsNowhere (R.rows rows.now)) (named_by (value.now ∷ [])) }
+{
+    match value {
+        Value::Obj(n) => leads_nowhere(n, rows),
+        _ => true,
+    }
+}
+
+/// Whether the values lead no further than to what they name.
+#[inline(always)]
+pub fn lead_no_further<R: Rows>(values: &[Value], rows: &R) -> bool
+    ensures { IsTrue result ↔ All (LeadsNowhere (R.rows rows.now)) (named_by values.now) }
+{
+    for value in values {
+        if !leads_no_further(value, rows) {
+            return false;
+        }
+    }
+    true
+}
+
 // Puts what the value names in its place, and the owner; `false` where that leads on.
 #[inline(always)]
 fn put_named<R: Rows>(things: &mut ThingList, value: &Value, rows: &R) -> Result<bool, NoMemory>
@@ -73,11 +98,11 @@ fn put_named<R: Rows>(things: &mut ThingList, value: &Value, rows: &R) -> Result
     ensures flat { IfOk result (λ flat. IsTrue flat
         ↔ All (LeadsNowhere (R.rows rows.now)) (named_by (value.now ∷ []))) }
 {
+    if !leads_no_further(value, rows) {
+        return Ok(false);
+    }
     match value {
         Value::Obj(n) => {
-            if !leads_nowhere(n, rows) {
-                return Ok(false);
-            }
             put(things, Thing::Actor(n.owner))?;
             put(things, Thing::Obj(*n))?;
         }

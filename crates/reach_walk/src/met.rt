@@ -103,6 +103,7 @@ impl Met {
     }
 
     /// Meets what the values name, and the owners of that.
+    #[inline(always)]
     pub(crate) fn meet_all<P: Places>(
         &mut self,
         values: &[Value],

@@ -1,4 +1,4 @@
-use Rattle.std.proofs.Common.{◌≡◌, ◌+◌, ◌<◌, ◌≤◌, ℕ, Bool, cond, get_or, length, sym, ap, ◌∙◌, arith}
+use Rattle.std.proofs.Common.{◌<◌, ℕ, Bool, cond, get_or, length, ap, ◌∙◌, arith}
 use Rattle.foreign_table.proofs.Unheld.{unheld_past, unheld_step}
 use Rattle.foreign_table.specs.Table.{entries_in}
 use Rattle.foreign_table.proofs.table.count_unheld.Goals.{then-not-is_held, else-not-is_held}

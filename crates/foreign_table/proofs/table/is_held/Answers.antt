@@ -1,4 +1,4 @@
-use Rattle.std.proofs.Common.{◌≡◌, sym, ap}
+use Rattle.std.proofs.Common.{sym, ap}
 use Rattle.std.specs.Prelude.{is_some}
 use Rattle.foreign_table.proofs.Entries.{held_rise, is_there, none_at}
 use Rattle.foreign_table.proofs.table.is_held.Goals as goal

@@ -1,18 +1,35 @@
-use Rattle.std.proofs.Common.{◌≡◌, List, subst}
+use Rattle.std.proofs.Common.{◌≡◌, List, subst, ap, ◌∙◌}
 use Rattle.std.specs.Prelude.{IfOk}
+use Rattle.std.specs.List.{list_any}
 use Rattle.std.specs.FinMap as m
+use Rattle.orca_names.specs.Names.{is_thing}
 use Rattle.orca_names.specs.declared.names.Thing.{Thing}
+use Rattle.orca_names.specs.declared.names.Thing.TheVariants.{Obj}
 use Rattle.orca_names.specs.declared.names.Value.{Value}
 use Rattle.reach_walk.specs.Marks.{TellMarks, marks_of}
 use Rattle.object_heap.specs.Heap.{Heap}
 use Rattle.foreign_table.specs.Span.{IsSpan}
 use Rattle.foreign_table.specs.Table.{Table}
-use Rattle.known_rows.specs.Known.{names_known, row_known}
+use Rattle.known_rows.specs.Known.{names_known, row_known, row_known-within}
 use Rattle.known_rows.specs.Places.{place_in}
-use Rattle.local_sweep.specs.Marked.{is_marked}
-use Rattle.local_sweep.specs.Plan.{plan_of}
-use Rattle.local_sweep.proofs.SamePlan.{plan_by_bits}
+use Rattle.local_sweep.specs.Marked.{is_marked, is_named, is_reached}
+use Rattle.local_sweep.specs.Plan.{object_named, plan_of}
+use Rattle.local_sweep.proofs.Naming.{named_marked}
+use Rattle.local_sweep.proofs.SamePlan.{plan_by_bits, same_plan}
 use Rattle.local_sweep.proofs.plans.plan.Goals as goal
+
+pub returns-then-lead_no_further : goal.returns-then-lead_no_further
+returns-then-lead_no_further c =
+    let heap = c.args.heap.now in
+    let foreign = c.args.foreign.now in
+    let values = c.as_slice-values.result.now in
+    let flat = c.lead_no_further.ensures.0 c.if-lead_no_further.true in
+    let same : (x : Thing) → is_named values x ≡ is_reached c.args.fields.now.values heap foreign x = λ x.
+    named_marked (row_known heap foreign) (names_known heap foreign) values (row_known-within heap foreign) flat x
+    ∙ ap (λ vs. list_any (is_thing x) (marks_of (row_known heap foreign) (names_known heap foreign) vs)) c.as_slice-values.ensures.value in
+    let plans = same_plan (is_named values) (is_reached c.args.fields.now.values heap foreign) heap foreign
+    (λ i serial e. same (Obj (object_named heap.owner serial))) (λ j x e. same x) in
+    subst (λ p. IfOk c.plan_kept.result (λ plan. plan ≡ p)) plans c.plan_kept.ensures
 
 pub returns : goal.returns
 returns c =
@@ -20,17 +37,16 @@ returns c =
     let bits = c.in_ok-marks.marks in
     let heap = c.of-known.ensures.heap in
     let foreign = c.of-known.ensures.foreign in
-    let marks : Heap → Table → List Value → List Thing = λ h f values. marks_of (row_known h f) (names_known h f) values in
-    let Told : Heap → Table → List Value → Type 0 = λ h f values. TellMarks (place_in h f) bits (marks h f values) in
+    let Told : Heap → Table → List Value → Type 0 = λ h f values. TellMarks (place_in h f) bits (marks_of (row_known h f) (names_known h f) values) in
     let tells : Told c.args.heap.now c.args.foreign.now c.args.fields.now.values =
     subst (λ h. Told h c.args.foreign.now c.args.fields.now.values) heap
     (subst (λ f. Told known.rows.heap.now f c.args.fields.now.values) foreign
-    (subst (Told known.rows.heap.now known.rows.foreign.now) c.as_slice.ensures.value c.in_ok-marks.ensures.marks)) in
+    (subst (Told known.rows.heap.now known.rows.foreign.now) c.as_slice-values.ensures.value c.in_ok-marks.ensures.marks)) in
     let span : IsSpan c.args.heap.now.owner (m.keys c.args.foreign.now.entries) known.first known.end =
     subst (λ h. IsSpan h.owner (m.keys c.args.foreign.now.entries) known.first known.end) heap
     (subst (λ f. IsSpan known.rows.heap.now.owner (m.keys f.entries) known.first known.end) foreign known.span) in
-    let same = plan_by_bits bits (marks c.args.heap.now c.args.foreign.now c.args.fields.now.values) c.args.heap.now c.args.foreign.now known.first known.end span c.requires tells in
-    let planned : IfOk c.plan_known.result (λ plan. plan ≡ plan_of (is_marked bits c.args.heap.now c.args.foreign.now) c.args.heap.now c.args.foreign.now) =
-    subst (λ h. IfOk c.plan_known.result (λ plan. plan ≡ plan_of (is_marked bits h c.args.foreign.now) h c.args.foreign.now)) heap
-    (subst (λ f. IfOk c.plan_known.result (λ plan. plan ≡ plan_of (is_marked bits known.rows.heap.now f) known.rows.heap.now f)) foreign c.plan_known.ensures) in
-    subst (λ p. IfOk c.plan_known.result (λ plan. plan ≡ p)) same planned
+    let same = plan_by_bits bits (marks_of (row_known c.args.heap.now c.args.foreign.now) (names_known c.args.heap.now c.args.foreign.now) c.args.fields.now.values) c.args.heap.now c.args.foreign.now known.first known.end span c.requires tells in
+    let planned : IfOk c.plan_kept-2.result (λ plan. plan ≡ plan_of (is_marked bits c.args.heap.now c.args.foreign.now) c.args.heap.now c.args.foreign.now) =
+    subst (λ h. IfOk c.plan_kept-2.result (λ plan. plan ≡ plan_of (is_marked bits h c.args.foreign.now) h c.args.foreign.now)) heap
+    (subst (λ f. IfOk c.plan_kept-2.result (λ plan. plan ≡ plan_of (is_marked bits known.rows.heap.now f) known.rows.heap.now f)) foreign c.plan_kept-2.ensures) in
+    subst (λ p. IfOk c.plan_kept-2.result (λ plan. plan ≡ p)) same planned

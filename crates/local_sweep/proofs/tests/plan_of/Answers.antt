@@ -1,4 +1,4 @@
-use Rattle.std.proofs.Common.{◌≡◌, ◌≤◌, length, ap, ◌∙◌, arith}
+use Rattle.std.proofs.Common.{length, ap, ◌∙◌, arith}
 use Rattle.known_rows.specs.Places.{placed_things}
 use Rattle.local_sweep.proofs.tests.plan_of.Goals as goal
 
