@@ -25,7 +25,7 @@ use Rattle.machine_rules.specs.Actors.{Seat, push_letter, seat}
 use Rattle.machine_rules.specs.Cell.{Cell, fresh_cell, listed_objects, row_by_roots}
 use Rattle.machine_rules.specs.Go.{act_in, cell_after_turn, lacking_from, load_from, needed, needing, post_or_mint, rows_from, to_need, turn_in, turn_of_cell}
 use Rattle.machine_rules.specs.State.{State}
-use Rattle.actor_cell.specs.declared.turning.Move.{Move}
+use Rattle.actor_cell.specs.Moves.{Move}
 use Rattle.actor_cell.specs.Cells.{settled}
 use Rattle.actor_cell.specs.Goes.{Gone, Turned, gone_by, gone_of, having_made, move_by, turned_in, turned_or_needs}
 use Rattle.actor_cell.specs.Goes as goes

@@ -7,7 +7,7 @@ use Rattle.letter_kinds.specs.Counting.{Amount, mint_all, mint_one, send}
 use Rattle.letter_kinds.specs.Holdings.{Holdings, Row, add_rows}
 use Rattle.object_heap.specs.Heap.{Heap, with_new}
 use Rattle.machine_rules.specs.Cell.{Cell}
-use Rattle.actor_cell.specs.declared.turning.Move.TheVariants.{Post}
+use Rattle.actor_cell.specs.Moves.{Post}
 use Rattle.actor_cell.specs.Goes.{cell_by, cell_kept, frame_left, load_in}
 
 -- ---- rows that were made, one by one

@@ -17,7 +17,7 @@ use Rattle.known_rows.specs.Holdings.{holdings_of}
 use Rattle.machine_rules.specs.Cell.{known_objects}
 use Rattle.machine_rules.specs.Go.{load_from}
 use Rattle.trace_send.specs.Lacking.{of_first_owner}
-use Rattle.actor_cell.specs.declared.turning.Move.TheVariants.{Mint, Post}
+use Rattle.actor_cell.specs.Moves.{Mint, Post}
 use Rattle.actor_cell.specs.Goes.{post_or_mint, things_from}
 
 -- the things of pairs that were made of things

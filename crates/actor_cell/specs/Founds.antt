@@ -7,13 +7,14 @@ use Rattle.actor_cell.specs.declared.found.Found.{Found}
 use Rattle.actor_cell.specs.declared.found.Found.TheVariants.{Goes, Collects, Nothing}
 use Rattle.actor_cell.specs.Cells.{as_cell}
 use Rattle.actor_cell.specs.Goes.{turned_in}
+use Rattle.actor_cell.specs.Moves.{act_in}
 use Rattle.actor_cell.specs.Sweeps.{sweep_of}
 
 -- its turn, exactly where it has a frame; its sweep, exactly where it has none and is dirty
 abbrev pub IsFound : Trace → ℕ → Program → Cell → Found → Type 0
 IsFound trace weight program c (Goes turn turned) =
     option_map (turned_in trace weight program c.heap.owner (as_cell c)) c.frame
-    ≡ Some (record { turn = turn; place = turned.place; act = turned.act })
+    ≡ Some (record { turn = turn; place = turned.place; act = act_in turned })
 IsFound trace weight program c (Collects sweep) =
     (c.frame ≡ None) × (c.dirty ≡ true) × (sweep ≡ sweep_of trace c)
 IsFound trace weight program c Nothing = (c.frame ≡ None) × (c.dirty ≡ false)

@@ -20,8 +20,7 @@ use Rattle.machine_rules.specs.Cell.{Cell}
 use Rattle.machine_rules.specs.Go.{lacking_from, load_from, needed, rows_from, to_need, turn_of_cell}
 use Rattle.actor_cell.specs.Can.{CanMint}
 use Rattle.actor_cell.specs.declared.out.Out.{Out}
-use Rattle.actor_cell.specs.declared.turning.Move.{Move}
-use Rattle.actor_cell.specs.declared.turning.Move.TheVariants.{Post, Mint, New, Print, End}
+use Rattle.actor_cell.specs.Moves.{Move, Post, Mint, New, Print, End}
 
 -- ---- what is found
 

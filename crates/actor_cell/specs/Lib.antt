@@ -5,6 +5,7 @@ pub mod Goes
 pub mod HavePlaces
 pub mod InTurn
 pub mod Laws
+pub mod Moves
 pub mod Outs
 pub mod Pushing
 pub mod Sweeps

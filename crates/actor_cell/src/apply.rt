@@ -11,15 +11,16 @@ ghost use Rattle.ref_weights.specs.Limit.{count_limit};
 ghost use Rattle.trace_send.specs.Can.{CanSend};
 ghost use Rattle.actor_cell.specs.Can.{CanMint};
 ghost use Rattle.actor_cell.specs.Cells.{as_cell};
-ghost use Rattle.actor_cell.specs.Goes.{CanGo, CanMove, cell_by, cell_kept, frame_left, gone_of, load_in, new_entries, out_of};
+ghost use Rattle.actor_cell.specs.Goes.{CanGo, CanMove, cell_by, cell_kept, frame_left, gone_of, new_entries, out_of};
+ghost use Rattle.actor_cell.specs.Moves.{act_in};
 
 use crate::cell::Cell;
 use crate::letters::letter_room;
 use crate::out::Out;
-use crate::turning::{Move, Turned};
+use crate::turning::{Doing, Turned};
 use behaviour_check::Checked;
 use foreign_table::ForeignTable;
-use letter_kinds::{Amounts, Letter};
+use letter_kinds::{Amounts, Load};
 use object_heap::ObjectHeap;
 use orca_names::{NoMemory, Row, Thing, Trace};
 use std::alloc::Global;
@@ -37,17 +38,17 @@ fn make_all(heap: &mut ObjectHeap, made: &[Row])
     }
 }
 
-// Takes the memory for the entries that a move may bring into the table of what is held.
-fn reserve_entries(foreign: &mut ForeignTable, act: &Move) -> Result<(), NoMemory>
-    ensures room { OnOk result (new_entries act.now foreign.old.entries ≤ foreign.new.spare) }
+// Takes the memory for the entries that what was found may bring into the table of what is held.
+fn reserve_entries(foreign: &mut ForeignTable, found: &Turned) -> Result<(), NoMemory>
+    ensures room { OnOk result (new_entries (act_in found.now) foreign.old.entries ≤ foreign.new.spare) }
     ensures same { foreign.new ≡ record foreign.old { spare = foreign.new.spare } }
 {
-    match act {
-        Move::New {
+    match found.doing {
+        Doing::New {
             kind: _,
             register: _,
         } => foreign.reserve(1),
-        Move::Mint { owner: _, things } => foreign.reserve_for(things),
+        Doing::Mint { owner: _ } => foreign.reserve_for(&found.things),
         _ => Ok(()),
     }
 }
@@ -84,26 +85,16 @@ impl Cell {
         }
     }
 
-    // A letter is sent.
-    fn send(&mut self, letter: &Letter)
-        requires { CanSend self.old.heap.owner (load_in letter.now) (as_cell self.old).holdings }
+    // A letter with this load is sent.
+    fn send(&mut self, load: &Load)
+        requires { CanSend self.old.heap.owner load.now (as_cell self.old).holdings }
         ensures counts { as_cell self.new ≡ record (as_cell self.old) {
-          holdings = send self.old.heap.owner (load_in letter.now) (as_cell self.old).holdings;
+          holdings = send self.old.heap.owner load.now (as_cell self.old).holdings;
         } }
         ensures owner { self.new.heap.owner ≡ self.old.heap.owner }
     {
         let me = self.heap.owner();
-        match letter {
-            Letter::App {
-                behaviour: _,
-                args: _,
-                load,
-                rows: _,
-            } => send_trace(load, me, &mut self.count, &mut self.heap, &mut self.foreign),
-            Letter::Inc { things: _ } => {}
-            Letter::Dec { things: _ } => {}
-            Letter::Confirm { token: _ } => {}
-        }
+        send_trace(load, me, &mut self.count, &mut self.heap, &mut self.foreign);
     }
 
     // The fields and the rows of a turn are its own now.
@@ -144,46 +135,49 @@ impl Cell {
         ensures owner { self.new.heap.owner ≡ self.old.heap.owner }
         ensures objects { OnOk result (length turn.now.made ≤ self.new.heap.spare) }
         ensures entries { let held = self.new.foreign in
-            OnOk result (new_entries found.now.act held.entries ≤ held.spare) }
+            OnOk result (new_entries (act_in found.now) held.entries ≤ held.spare) }
     {
         self.heap.reserve(turn.made().len())?;
-        reserve_entries(&mut self.foreign, &found.act)
+        reserve_entries(&mut self.foreign, found)
     }
 
     /// Does what was found of its turn. It takes no memory.
     pub fn apply_go(&mut self, turn: &Turn, found: &Turned)
         requires running { IsSome self.old.frame }
         requires can { let me = self.old.heap.owner in
-            CanMove me (as_cell self.old).holdings turn.now found.now.act }
+            CanMove me (as_cell self.old).holdings turn.now (act_in found.now) }
         requires room { length turn.now.made ≤ self.old.heap.spare }
         requires entries { let held = self.old.foreign in
-            new_entries found.now.act held.entries ≤ held.spare }
+            new_entries (act_in found.now) held.entries ≤ held.spare }
         requires serials { self.old.heap.next + length turn.now.made < 2 ^ 64 }
         ensures cell { let me = self.old.heap.owner in
             (frame : frame_of_rules) → self.old.frame ≡ Some frame → as_cell self.new
-            ≡ cell_by me (as_cell self.old) frame turn.now found.now.place found.now.act }
+            ≡ cell_by me (as_cell self.old) frame turn.now found.now.place (act_in found.now) }
         ensures owner { self.new.heap.owner ≡ self.old.heap.owner }
-        ensures room { IsSome (out_of found.now.act).made → 0 < self.new.foreign.spare }
+        ensures room { IsSome (out_of (act_in found.now)).made → 0 < self.new.foreign.spare }
     {
-        match &found.act {
-            Move::Post { to: _, letter } => {
+        match found.doing {
+            Doing::Post {
+                to: _,
+                behaviour: _,
+            } => {
                 self.keep_turn(turn);
                 self.stop_at(turn, found.place);
-                self.send(letter);
+                self.send(&found.load);
             }
-            Move::Mint { owner: _, things } => self.mint_all(things),
-            Move::New {
+            Doing::Mint { owner: _ } => self.mint_all(&found.things),
+            Doing::New {
                 kind: _,
                 register: _,
             } => {
                 self.keep_turn(turn);
                 self.stop_at(turn, found.place);
             }
-            Move::Print { value: _ } => {
+            Doing::Print { value: _ } => {
                 self.keep_turn(turn);
                 self.stop_at(turn, found.place);
             }
-            Move::End => {
+            Doing::End => {
                 self.keep_turn(turn);
                 self.frame.end();
                 self.dirty = true;
@@ -212,11 +206,11 @@ impl Cell {
         ensures owner { self.new.heap.owner ≡ self.old.heap.owner }
     {
         let mut turn = Turn::new(alloc);
-        let mut found = Turned::new();
+        let mut found = Turned::new(alloc);
         self.found_go(alloc, code, weight, trace, &mut turn, &mut found)?;
         let room = letter_room(alloc, 1)?;
         self.reserve_go(&turn, &found)?;
         self.apply_go(&turn, &found);
-        Ok(found.act.into_out(alloc, room))
+        Ok(found.into_out(alloc, room))
     }
 }

@@ -13,7 +13,7 @@ use std::alloc::Global;
 use turn_step::Turn;
 
 /// What an actor would do next of itself, evaluated and not yet done.
-#[derive(Debug, Drop)]
+#[derive(Drop)]
 pub enum Found {
     /// It goes on: what its turn leaves, and what it does where this stops.
     Goes { turn: Turn, turned: Turned },
@@ -41,7 +41,7 @@ impl Cell {
     {
         if self.frame.is_some() {
             let mut turn = Turn::new(alloc);
-            let mut turned = Turned::new();
+            let mut turned = Turned::new(alloc);
             self.found_go(alloc, code, weight, trace, &mut turn, &mut turned)?;
             return Ok(Found::Goes { turn, turned });
         }

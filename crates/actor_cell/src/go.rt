@@ -5,19 +5,21 @@ ghost use Rattle.orca_names.specs.Names.{owner_of};
 ghost use Rattle.orca_names.specs.declared.trace.Trace.TheVariants.{Deep as deep};
 ghost use Rattle.machine_rules.specs.Go.{lacking_from, load_from, needed, rows_from, to_need, turn_of_cell};
 ghost use Rattle.turn_step.specs.Turns.{HaltsAt, act_of};
-ghost use Rattle.actor_cell.specs.declared.turning.Move.TheVariants.{Mint as mint};
 ghost use Rattle.actor_cell.specs.Cells.{as_cell};
-ghost use Rattle.actor_cell.specs.Goes.{having_made, move_by, post_or_mint, turned_in, FitsRegister};
+ghost use Rattle.actor_cell.specs.Goes.{having_made, move_by, post_or_mint, things_from, turned_in, FitsRegister};
 ghost use Rattle.actor_cell.specs.InTurn.{table_by};
+ghost use Rattle.actor_cell.specs.Moves.{act_in, Mint as mint, Post as posted};
+ghost use Rattle.letter_kinds.specs.declared.letter.Letter.TheVariants.{App as app};
+ghost use Rattle.letter_kinds.specs.Holdings.{with_made};
 
 use crate::cell::Cell;
 use crate::holding::Holding;
-use crate::turning::{Move, Turned};
+use crate::turning::{Doing, Turned};
 use behaviour_check::Checked;
 use behaviour_code::Name;
 use foreign_table::ForeignTable;
 use known_rows::KnownRows;
-use letter_kinds::{Amounts, Letter, Load};
+use letter_kinds::{Amounts, Load};
 use orca_names::{ActorName, Args, NoMemory, Reading, Row, Thing, Trace};
 use plain_list::Listed;
 use reach_walk::ThingList;
@@ -50,8 +52,8 @@ fn things_of(alloc: Global, load: &Load) -> Result<Listed<Thing>, NoMemory>
 }
 
 impl Cell {
-    // The letter of a deep trace with its load by places, or what it mints first; `false` where
-    // places do not serve.
+    // The letter of a deep trace with the arguments found, its load by places, or what it mints first;
+    // `false` where places do not serve.
     #[inline(never)]
     fn posting_many(
         &self,
@@ -60,44 +62,94 @@ impl Cell {
         made: &[Row],
         to: ActorName,
         behaviour: Name,
-        args: &Args,
-        act: &mut Move,
+        found: &mut Turned,
     ) -> Result<bool, NoMemory>
-        ensures { let me = self.now.heap.owner in
+        ensures done { let me = self.now.heap.owner in
             let c = having_made made.now (as_cell self.now) in
-            IfOk result (λ done. IsTrue done → act.new ≡ post_or_mint weight to behaviour args.now
-            (load_from deep me c.holdings args.now) (rows_from deep me c args.now)
-            (lacking_from deep me c.holdings args.now)) }
+            let args = found.old.args in
+            IfOk result (λ done. IsTrue done → act_in found.new ≡ post_or_mint weight to behaviour args
+            (load_from deep me c.holdings args) (rows_from deep me c args)
+            (lacking_from deep me c.holdings args)) }
+        ensures args { found.new.args ≡ found.old.args }
     {
-        let Some(load) = self.load_of_many(alloc, made, args)? else {
+        let Some(load) = self.load_of_many(alloc, made, &found.args)? else {
             return Ok(false);
         };
         let me = self.heap.owner();
         if !lacks_any(&load, me, &self.foreign) {
-            *act = Move::Post {
-                to,
-                letter: Letter::App {
-                    behaviour,
-                    args: *args,
-                    load,
-                    rows: Listed::new(alloc),
-                },
-            };
+            found.load = load;
+            found.rows = Listed::new(alloc);
+            found.doing = Doing::Post { to, behaviour };
             return Ok(true);
         }
         let loaded = things_of(alloc, &load)?;
         let minted = lacking(alloc, loaded.as_slice(), me, &self.foreign, weight)?;
-        let Some(found) = minted else {
+        let Some(lacked) = minted else {
             return Ok(false);
         };
-        *act = Move::Mint {
-            owner: found.0,
-            things: found.1,
-        };
+        found.things = lacked.1;
+        found.doing = Doing::Mint { owner: lacked.0 };
         Ok(true)
     }
 
-    // The letter with its load and rows, or what it mints first.
+    // The letter with the arguments and the things found, its load and its rows.
+    #[inline(always)]
+    fn post(
+        &self,
+        alloc: Global,
+        trace: Trace,
+        made: &[Row],
+        to: ActorName,
+        behaviour: Name,
+        found: &mut Turned,
+    ) -> Result<(), NoMemory>
+        requires { let h = with_made made.now (as_cell self.now).holdings in
+            found.old.seen ≡ things_from trace self.now.heap.owner h found.old.args }
+        ensures { let me = self.now.heap.owner in
+            let c = having_made made.now (as_cell self.now) in
+            let args = found.old.args in
+            OnOk result (act_in found.new ≡ posted to (app behaviour args
+            (load_from trace me c.holdings args) (rows_from trace me c args))) }
+    {
+        found.load = self.load(alloc, trace, made, found.seen.as_slice())?;
+        found.rows = self.carried(alloc, trace, made, &found.args)?;
+        found.doing = Doing::Post { to, behaviour };
+        Ok(())
+    }
+
+    // The letter with the arguments found, its load and its rows, or what it mints first, by a list of
+    // the things of the load.
+    #[inline(always)]
+    fn posting_few(
+        &self,
+        alloc: Global,
+        weight: u32,
+        trace: Trace,
+        made: &[Row],
+        to: ActorName,
+        behaviour: Name,
+        found: &mut Turned,
+    ) -> Result<(), NoMemory>
+        ensures { let me = self.now.heap.owner in
+            let c = having_made made.now (as_cell self.now) in
+            let args = found.old.args in
+            OnOk result (act_in found.new ≡ post_or_mint weight to behaviour args
+            (load_from trace me c.holdings args) (rows_from trace me c args)
+            (lacking_from trace me c.holdings args)) }
+    {
+        self.find_things(alloc, trace, made, &found.args, &mut found.seen)?;
+        let me = self.heap.owner();
+        match lacking(alloc, found.seen.as_slice(), me, &self.foreign, weight)? {
+            Some(minted) => {
+                found.things = minted.1;
+                found.doing = Doing::Mint { owner: minted.0 };
+                Ok(())
+            }
+            None => self.post(alloc, trace, made, to, behaviour, found),
+        }
+    }
+
+    // The letter with the arguments found, its load and its rows, or what it mints first.
     fn posting(
         &self,
         alloc: Global,
@@ -106,47 +158,22 @@ impl Cell {
         made: &[Row],
         to: ActorName,
         behaviour: Name,
-        args: &Args,
-        act: &mut Move,
+        found: &mut Turned,
     ) -> Result<(), NoMemory>
         ensures { let me = self.now.heap.owner in
             let c = having_made made.now (as_cell self.now) in
-            OnOk result (act.new ≡ post_or_mint weight to behaviour args.now
-            (load_from trace me c.holdings args.now) (rows_from trace me c args.now)
-            (lacking_from trace me c.holdings args.now)) }
+            let args = found.old.args in
+            OnOk result (act_in found.new ≡ post_or_mint weight to behaviour args
+            (load_from trace me c.holdings args) (rows_from trace me c args)
+            (lacking_from trace me c.holdings args)) }
     {
-        if self.reaches_many(trace, made, args) {
-            let done = self.posting_many(alloc, weight, made, to, behaviour, args, act)?;
+        if self.reaches_many(trace, made, &found.args) {
+            let done = self.posting_many(alloc, weight, made, to, behaviour, found)?;
             if done {
                 return Ok(());
             }
         }
-        let mut things = ThingList::new(alloc);
-        self.find_things(alloc, trace, made, args, &mut things)?;
-        let me = self.heap.owner();
-        match lacking(alloc, things.as_slice(), me, &self.foreign, weight)? {
-            Some(minted) => {
-                *act = Move::Mint {
-                    owner: minted.0,
-                    things: minted.1,
-                };
-                Ok(())
-            }
-            None => {
-                let load = self.load(alloc, trace, made, things.as_slice())?;
-                let rows = self.carried(alloc, trace, made, args)?;
-                *act = Move::Post {
-                    to,
-                    letter: Letter::App {
-                        behaviour,
-                        args: *args,
-                        load,
-                        rows,
-                    },
-                };
-                Ok(())
-            }
-        }
+        self.posting_few(alloc, weight, trace, made, to, behaviour, found)
     }
 
     // What it does by a deed of its turn.
@@ -157,12 +184,12 @@ impl Cell {
         trace: Trace,
         turn: &Turn,
         deed: &Deed<'_>,
-        act: &mut Move,
+        found: &mut Turned,
     ) -> Result<(), NoMemory>
         requires { FitsRegister (act_of deed.now turn.now) }
         ensures { let me = self.now.heap.owner in
             let c = having_made turn.now.made (as_cell self.now) in
-            OnOk result (act.new ≡ move_by trace weight me c (act_of deed.now turn.now)) }
+            OnOk result (act_in found.new ≡ move_by trace weight me c (act_of deed.now turn.now)) }
     {
         match *deed {
             Deed::Post {
@@ -170,22 +197,22 @@ impl Cell {
                 behaviour,
                 values,
             } => {
-                let mut args = Args::new();
-                turn.gather_into(values.as_slice(), &mut args);
-                self.posting(alloc, weight, trace, turn.made(), to, behaviour, &args, act)
+                found.args = Args::new();
+                turn.gather_into(values.as_slice(), &mut found.args);
+                self.posting(alloc, weight, trace, turn.made(), to, behaviour, found)
             }
             Deed::New { kind, into } => {
                 let register = into as u8;
-                *act = Move::New { kind, register };
+                found.doing = Doing::New { kind, register };
                 Ok(())
             }
             Deed::Print { register } => {
                 let value = turn.value(register);
-                *act = Move::Print { value };
+                found.doing = Doing::Print { value };
                 Ok(())
             }
             Deed::End => {
-                *act = Move::End;
+                found.doing = Doing::End;
                 Ok(())
             }
         }
@@ -197,16 +224,16 @@ impl Cell {
         alloc: Global,
         weight: u32,
         thing: &Thing,
-        act: &mut Move,
+        found: &mut Turned,
     ) -> Result<(), NoMemory>
         ensures { let h = (as_cell self.now).holdings in
             let things = to_need weight self.now.heap.owner h thing.now in
-            OnOk result (act.new ≡ mint (owner_of thing.now) things) }
+            OnOk result (act_in found.new ≡ mint (owner_of thing.now) things) }
     {
         let lacked = missing(alloc, thing, self.heap.owner(), &self.foreign)?;
-        let things = amounts_of(alloc, lacked.as_slice(), weight)?;
+        found.things = amounts_of(alloc, lacked.as_slice(), weight)?;
         let owner = thing.owner();
-        *act = Move::Mint { owner, things };
+        found.doing = Doing::Mint { owner };
         Ok(())
     }
 
@@ -279,7 +306,7 @@ impl Cell {
         ensures found { let me = self.now.heap.owner in
             let its_turn = turned_in trace weight code.now me (as_cell self.now) in
             OnOk result (option_map its_turn self.now.frame
-            ≡ Some (record { turn = turn.new; place = found.new.place; act = found.new.act })) }
+            ≡ Some (record { turn = turn.new; place = found.new.place; act = act_in found.new })) }
         ensures few { OnOk result (length turn.new.made ≤ 1024) }
     {
         let Some(frame) = self.frame.get() else {
@@ -290,13 +317,15 @@ impl Cell {
         match self.run_turn(code, trace, frame, turn) {
             Ok(halt) => match halt {
                 Halt::Stops(stop) => {
+                    self.move_of(alloc, weight, trace, turn, &stop.deed, found)?;
                     found.place = stop.place;
-                    self.move_of(alloc, weight, trace, turn, &stop.deed, &mut found.act)
+                    Ok(())
                 }
                 Halt::Needs(thing) => {
                     turn.begin(&frame.registers, &self.fields);
+                    self.needing(alloc, weight, &thing, found)?;
                     found.place = frame.place;
-                    self.needing(alloc, weight, &thing, &mut found.act)
+                    Ok(())
                 }
             },
             Err(e) => Err(e),

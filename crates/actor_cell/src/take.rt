@@ -1,7 +1,6 @@
 // Take: an actor without a frame takes a letter.
 
 ghost use Rattle.std.specs.Prelude.{◌≡◌, ◌<◌, [], if◌then◌else◌, IfErr, IfOk, None, OnErr, OnOk, Some, false, true, vec_capacity};
-ghost use Rattle.letter_kinds.specs.declared.note.Note.TheVariants as notes;
 ghost use Rattle.machine_rules.specs.Take.{cell_after, note_of, notes_after};
 ghost use Rattle.actor_cell.specs.Cells.{as_cell};
 ghost use Rattle.actor_cell.specs.Outs.{noting};
@@ -32,35 +31,33 @@ fn note_room(alloc: Global, comes: bool) -> Result<Vec<Note>, AllocError>
 
 impl Cell {
     // It has something to do, and did not report that it is blocked.
-    fn wake(&mut self) -> Option<Note>
+    fn wake(&mut self)
         ensures cell { as_cell self.new
             ≡ record (as_cell self.old) { dirty = true; reported = false } }
-        ensures note { let note = notes.Unblock self.old.heap.owner in
-            result ≡ (if self.old.reported then Some note else None) }
         ensures owner { self.new.heap.owner ≡ self.old.heap.owner }
     {
         self.dirty = true;
-        if !self.reported {
-            return None;
-        }
         self.reported = false;
-        Some(Note::Unblock {
-            actor: self.heap.owner(),
-        })
     }
 
-    // It is still blocked, if it reported that.
-    fn ack(&self, token: u64) -> Option<Note>
-        ensures { let note = notes.Ack token self.now.heap.owner in
+    /// What the detector is to hear where the actor takes the letter: that it is unblocked, or that
+    /// it is still blocked, if it reported that it is.
+    #[inline(always)]
+    pub fn note_on(&self, letter: &Letter) -> Option<Note>
+        ensures { let note = note_of self.now.heap.owner letter.now in
             result ≡ (if self.now.reported then Some note else None) }
     {
         if !self.reported {
             return None;
         }
-        Some(Note::Ack {
-            token,
-            actor: self.heap.owner(),
-        })
+        let actor = self.heap.owner();
+        match letter {
+            Letter::Confirm { token } => Some(Note::Ack {
+                token: *token,
+                actor,
+            }),
+            _ => Some(Note::Unblock { actor }),
+        }
     }
 
     /// Takes the memory for what the letter brings.
@@ -87,15 +84,13 @@ impl Cell {
         }
     }
 
-    /// The idle actor takes the letter, and tells what the detector is to hear. It takes no memory.
-    pub fn apply_take(&mut self, code: &Checked, letter: &Letter) -> Option<Note>
+    /// The idle actor takes the letter. It takes no memory.
+    pub fn apply_take(&mut self, code: &Checked, letter: &Letter)
         requires idle { self.old.frame ≡ None }
         requires can { CanTake self.old.heap.owner letter.now (as_cell self.old).holdings }
         requires room { HasRoomFor letter.now self.old.foreign.spare self.old.known.spare }
         ensures cell { as_cell self.new
             ≡ cell_after code.now self.old.heap.owner letter.now (as_cell self.old) }
-        ensures note { let note = note_of self.old.heap.owner letter.now in
-            result ≡ (if self.old.reported then Some note else None) }
         ensures owner { self.new.heap.owner ≡ self.old.heap.owner }
     {
         match letter {
@@ -109,17 +104,18 @@ impl Cell {
                 receive_trace(load, me, &mut self.count, &mut self.heap, &mut self.foreign);
                 learn_all(&mut self.known, me, rows);
                 start_frame(code, self.kind, *behaviour, args, &mut self.frame);
-                self.wake()
+                self.wake();
             }
             Letter::Inc { things } => {
                 self.raise_all(things);
-                self.wake()
+                self.wake();
             }
             Letter::Dec { things } => {
                 self.lower_all(things);
-                self.wake()
+                self.wake();
             }
-            Letter::Confirm { token } => self.ack(*token),
+            // It asks, and changes nothing.
+            Letter::Confirm { token: _ } => {}
         }
     }
 
@@ -144,9 +140,10 @@ impl Cell {
         if self.reserve_take(&letter).is_err() {
             return Err(letter);
         }
-        if let Some(note) = self.apply_take(code, &letter) {
+        if let Some(note) = self.note_on(&letter) {
             notes.push_reserved(note);
         }
+        self.apply_take(code, &letter);
         Ok(Out {
             letters: Listed::new(alloc),
             notes: Listed::from(notes),

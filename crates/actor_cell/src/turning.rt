@@ -1,22 +1,27 @@
 // What a turn is found to do.
 
 ghost use Rattle.std.specs.Prelude.{◌≡◌, ◌<◌, [], vec_capacity};
+ghost use Rattle.letter_kinds.specs.declared.letter.Letter.TheVariants.{App as app};
 ghost use Rattle.actor_cell.specs.Goes.{out_of};
+ghost use Rattle.actor_cell.specs.Moves.{act_in};
 
 use crate::out::Out;
-use letter_kinds::{Amounts, Letter};
-use orca_names::{ActorName, Value};
+use behaviour_code::Name;
+use letter_kinds::{Amounts, Letter, Load};
+use orca_names::{ActorName, Args, Value};
 use plain_list::Listed;
+use reach_walk::ThingList;
 use std::alloc::Global;
+use std::mem;
 
-/// What an actor does where its turn stops.
-#[derive(Debug, Drop)]
-pub enum Move {
-    /// It sends an actor this letter, with its load.
-    Post { to: ActorName, letter: Letter },
-    /// It lacks some of what a letter would load: its counts of these things rise, and an increment
-    /// tells their owner. Nothing of the turn is kept.
-    Mint { owner: ActorName, things: Amounts },
+/// What an actor does where its turn stops. What it sends and what it mints stand beside.
+#[derive(Clone, Copy, Debug)]
+pub enum Doing {
+    /// It sends an actor a letter, which starts a behaviour.
+    Post { to: ActorName, behaviour: Name },
+    /// It lacks some of what a letter would load: its counts of the things that it mints rise, and an
+    /// increment tells their owner. Nothing of the turn is kept.
+    Mint { owner: ActorName },
     /// It makes an actor of a kind, which the register becomes.
     New { kind: u32, register: u8 },
     /// It prints a value.
@@ -26,38 +31,88 @@ pub enum Move {
 }
 
 /// What was found of an actor's turn, beside what the turn itself left: the place where it stopped,
-/// and what the actor does there. It is room that serves again for the next turn.
-#[derive(Debug, Drop)]
+/// and what the actor does there. It is room that serves again for the next turn: what was found is
+/// written in place, since a letter is large.
+#[derive(Drop)]
 pub struct Turned {
     pub place: u32,
-    pub act: Move,
+    pub doing: Doing,
+    /// The arguments of the letter that it sends.
+    pub args: Args,
+    /// What this letter loads.
+    pub load: Load,
+    /// The rows that this letter carries uncounted.
+    pub rows: Load,
+    /// What it mints.
+    pub things: Amounts,
+    /// Room in which the things of a load are found.
+    pub seen: ThingList,
 }
 
 impl Turned {
     /// Room for what is found of a turn. It takes no memory.
-    pub fn new() -> Turned {
+    pub fn new(alloc: Global) -> Turned {
         Turned {
             place: 0,
-            act: Move::End,
+            doing: Doing::End,
+            args: Args::new(),
+            load: Listed::new(alloc),
+            rows: Listed::new(alloc),
+            things: Listed::new(alloc),
+            seen: ThingList::new(alloc),
         }
     }
-}
 
-impl Move {
+    /// The letter that starts the behaviour, with its load and rows, which move out. It takes no memory.
+    #[inline(always)]
+    pub fn take_letter(&mut self, alloc: Global, behaviour: Name) -> Letter
+        ensures { result ≡ app behaviour self.old.args self.old.load self.old.rows }
+    {
+        Letter::App {
+            behaviour,
+            args: self.args,
+            load: mem::replace(&mut self.load, Listed::new(alloc)),
+            rows: mem::replace(&mut self.rows, Listed::new(alloc)),
+        }
+    }
+
+    /// What it mints, which moves out. It takes no memory.
+    pub fn take_things(&mut self, alloc: Global) -> Amounts
+        ensures { result ≡ self.old.things }
+    {
+        mem::replace(&mut self.things, Listed::new(alloc))
+    }
+
     /// What it gives out. It takes no memory but the room that is handed in.
     pub(crate) fn into_out(self, alloc: Global, mut room: Vec<(ActorName, Letter)>) -> Out
         requires none { room.items ≡ [] }
         requires room { 0 < vec_capacity room }
-        ensures { result ≡ out_of self }
+        ensures { result ≡ out_of (act_in self) }
     {
+        let Turned {
+            doing,
+            args,
+            load,
+            rows,
+            things,
+            ..
+        } = self;
         let mut print = None;
         let mut made = None;
-        match self {
-            Move::Post { to, letter } => room.push_reserved((to, letter)),
-            Move::Mint { owner, things } => room.push_reserved((owner, Letter::Inc { things })),
-            Move::New { kind, register } => made = Some((kind, register)),
-            Move::Print { value } => print = Some(value),
-            Move::End => {}
+        match doing {
+            Doing::Post { to, behaviour } => {
+                let letter = Letter::App {
+                    behaviour,
+                    args,
+                    load,
+                    rows,
+                };
+                room.push_reserved((to, letter));
+            }
+            Doing::Mint { owner } => room.push_reserved((owner, Letter::Inc { things })),
+            Doing::New { kind, register } => made = Some((kind, register)),
+            Doing::Print { value } => print = Some(value),
+            Doing::End => {}
         }
         Out {
             letters: Listed::from(room),

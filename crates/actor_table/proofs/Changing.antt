@@ -1,17 +1,14 @@
 -- One place of the table changes.
 use Rattle.std.proofs.Common.{◌≡◌, ℕ, zero, suc, ◌+◌, ◌-◌, ◌<◌, ◌≤◌, inl, inr, Bool, true, false, List, [], ◌∷◌, ◌++◌, length, length-append, get_or, set, Option, Some, None, refl, sym, ap, subst, ◌∙◌, arith}
-use Rattle.std.specs.Prelude.{◌&&◌, ◌||◌, ◌==◌, if◌then◌else◌, is_none, is_some, not, IfNone, IfSome}
-use Rattle.plain_list.specs.Lists.{is_empty}
+use Rattle.std.specs.Prelude.{◌&&◌, if◌then◌else◌, is_some, not, IfNone, IfSome}
 use Rattle.std.specs.Option.{option_map_or}
-use Rattle.std.proofs.lemmas.Bool.{cases_eq, cases_lt}
+use Rattle.std.proofs.lemmas.Bool.{cases_eq, cases_lt, or_left}
 use Rattle.std.proofs.lemmas.List.{get_or-append_right, get_or-map, get_or_append_left, get_or_default, get_or-set_same, get_or-set_other, get_or_past, length-map, length-set, map-set, set_past}
 use Rattle.std.proofs.Math.Seq.{map-set_same}
 use Rattle.orca_names.specs.declared.limits.TheConstants.{ACTORS_LIMIT}
 use Rattle.letter_kinds.specs.declared.letter.Letter.{Letter}
 use Rattle.machine_rules.specs.Actors.{Actors, Seat, push_letter, seat_at, with_letter_more}
 use Rattle.machine_rules.specs.Guards.{may_go}
-use Rattle.turn_rules.specs.declared.act.Frame.{Frame}
-use Rattle.actor_cell.specs.Cells.{as_cell}
 use Rattle.actor_cell.specs.declared.cell.Cell.{Cell}
 use Rattle.actor_table.specs.declared.slot.Slot.{Slot}
 use Rattle.actor_table.specs.declared.slot.Place.{Place}
@@ -121,17 +118,12 @@ index_stays old new acting settling a all changed same away =
       settles = same_index can_settle settling old a x gone all.settles changed.within settle;
     })
 
--- while a behaviour runs its actor acts, and does not settle
-going : (x : Slot) → may_at may_go x ≡ true → (can_act x ≡ true) × (can_settle x ≡ false)
+-- while a behaviour runs both indexes tell its actor
+going : (x : Slot) → may_at may_go x ≡ true → (can_act x ≡ true) × (can_settle x ≡ true)
 going x = elim x.place as (λ (p : Place). may_in may_go p x.mail.letters ≡ true
     → (not (is_away_in p) && option_map_or acts (seat_in p x.mail.letters) false ≡ true)
-    × (not (is_away_in p) && option_map_or settles (seat_in p x.mail.letters) false ≡ false)) [
-      | Home c ↦ λ e. elim c.frame as (λ (o : Option Frame). is_some o ≡ true → (is_some o || (is_none o && not (is_empty x.mail.letters)) ≡ true)
-          × ((is_none o && c.dirty) || (((is_none o && (is_empty x.mail.letters && not (c.dirty || (c.fields.pinned || c.reported)))) && ((as_cell c).holdings.count == 0))
-          || (is_none o && (is_empty x.mail.letters && not (c.dirty || (c.fields.pinned || c.reported))))) ≡ false)) [
-            | None ↦ λ h. cc
-            | Some f ↦ λ h. (refl, refl)
-          ] e
+    × (not (is_away_in p) && option_map_or settles (seat_in p x.mail.letters) false ≡ true)) [
+      | Home c ↦ λ e. (or_left _ _ e, or_left _ _ e)
       | Away c ↦ λ e. cc
       | Gone ↦ λ e. cc
     ]
@@ -143,13 +135,39 @@ pub bits_stay : (old new : List Slot) (acting settling : List Bool) (a : ℕ) (x
 bits_stay old new acting settling a x all changed before h read goes told after =
     let here : x ≡ slot_at new a = read ∙ get_or_default new a x gone h in
     let was = going (slot_at old a) before in
-    let is = subst (λ y. (can_act y ≡ true) × (can_settle y ≡ false)) here (going x (sym told ∙ after)) in
+    let is = subst (λ y. (can_act y ≡ true) × (can_settle y ≡ true)) here (going x (sym told ∙ after)) in
     let y = slot_at new a in
     subst (λ xs. AreIndexed xs acting settling) (sym changed.others) (record {
       owned = owned_set old a y all.owned changed.within (changed.owned (all.owned a));
       few = omega (arith, all.few, length-set old a y);
       acts = same_index can_act acting old a y gone all.acts changed.within (is.0 ∙ sym was.0);
       settles = same_index can_settle settling old a y gone all.settles changed.within (is.1 ∙ sym was.1);
+    })
+
+-- what an actor settles hangs on its place alone
+settles_by_place : (x y : Slot) → x.place ≡ y.place → can_settle x ≡ can_settle y
+settles_by_place x y same = by x.place x.mail.letters y.mail.letters ∙ ap (λ p. at p y.mail.letters) same
+  where
+    at : Place → List Letter → Bool
+    at p mail = not (is_away_in p) && option_map_or settles (seat_in p mail) false
+
+    by : (p : Place) (mail other : List Letter) → at p mail ≡ at p other
+    by (Home c) mail other = refl
+    by (Away c) mail other = refl
+    by Gone mail other = refl
+
+-- where the place stays, the index of those that act follows, and the other has nothing to tell
+pub acting_follows : (old new : List Slot) (acting settling acting_after : List Bool) (a : ℕ) (x : Slot) (on : Bool) → AreIndexed old acting settling → IsChangedAt a old new
+    → (slot_at new a).place ≡ (slot_at old a).place → a < length new → x ≡ get_or new a x → on ≡ can_act x → acting_after ≡ set acting a on
+    → AreIndexed new acting_after settling
+acting_follows old new acting settling acting_after a x on all changed same h read act is =
+    let here : x ≡ slot_at new a = read ∙ get_or_default new a x gone h in
+    let y = slot_at new a in
+    subst (λ xs. AreIndexed xs acting_after settling) (sym changed.others) (record {
+      owned = owned_set old a y all.owned changed.within (changed.owned (all.owned a));
+      few = omega (arith, all.few, length-set old a y);
+      acts = subst (λ bits. IsIndex can_act bits (set old a y)) (sym (is ∙ ap (set acting a) (act ∙ ap can_act here))) (index_set can_act acting old a y all.acts changed.within);
+      settles = same_index can_settle settling old a y gone all.settles changed.within (settles_by_place y (slot_at old a) same);
     })
 
 -- a letter is pushed to the seat at its place

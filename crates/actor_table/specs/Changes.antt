@@ -14,7 +14,7 @@ use Rattle.machine_rules.specs.Actors.{Actors, Seat, seat_at, seat}
 use Rattle.machine_rules.specs.Cell as rules
 use Rattle.machine_rules.specs.Take.{cell_after, note_of}
 use Rattle.actor_cell.specs.declared.cell.Cell.{Cell}
-use Rattle.actor_cell.specs.declared.turning.Move.{Move}
+use Rattle.actor_cell.specs.Moves.{Move}
 use Rattle.actor_cell.specs.Cells.{as_cell}
 use Rattle.actor_cell.specs.Goes.{CanMove, cell_by, new_entries}
 use Rattle.actor_cell.specs.Takes.{CanTake, HasRoomFor}

@@ -5,7 +5,7 @@ use Rattle.actor_table.specs.declared.rounds.Round.TheVariants.{Acting, Settling
 use Rattle.actor_table.specs.declared.slot.Slot.{Slot}
 use Rattle.actor_table.specs.Slots.{can_act, can_settle}
 
--- its cell is at home, and it has an event in the round
+-- its cell is at home, and it has an event in the round once it has none in the round before
 abbrev pub has_event : Round → Slot → Bool
 has_event Acting x = can_act x
 has_event Settling x = can_settle x

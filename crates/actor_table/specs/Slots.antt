@@ -1,5 +1,5 @@
 -- The actors of a table, as the rules have them, and who of them has events.
-use Rattle.std.specs.Prelude.{ℕ, ◌≡◌, ◌≤◌, ◌&&◌, ◌||◌, if◌then◌else◌, not, option_and_then, Bool, true, false, List, [], length, map, Option, None, Some, get_or, ⊤}
+use Rattle.std.specs.Prelude.{ℕ, ◌≡◌, ◌≤◌, ◌&&◌, ◌||◌, if◌then◌else◌, is_some, not, option_and_then, Bool, true, false, List, [], length, map, Option, None, Some, get_or, ⊤}
 use Rattle.std.specs.Option.{option_map_or}
 use Rattle.orca_names.specs.declared.limits.TheConstants.{ACTORS_LIMIT}
 use Rattle.event_rule.specs.declared.event.Event.{Event}
@@ -63,9 +63,10 @@ gone = record { place = Gone; mail = record { letters = []; spare = 0 } }
 abbrev pub acts : Seat → Bool
 acts o = may_go o.cell o.mail || may_take o.cell o.mail
 
--- it collects, leaves or blocks
+-- once it neither goes on nor takes a letter, it collects, leaves or blocks: a behaviour that runs
+-- will leave it dirty, it is dirty, or it is neither pinned nor reported
 abbrev pub settles : Seat → Bool
-settles o = may_collect o.cell o.mail || (may_leave o.cell o.mail || may_block o.cell o.mail)
+settles o = is_some o.cell.frame || (o.cell.dirty || not (o.cell.fields.pinned || o.cell.reported))
 
 -- its cell is at home, and it does so
 abbrev pub can_act : Slot → Bool
@@ -126,7 +127,8 @@ IsOwnedBy a (Home c) = c.heap.owner ≡ a
 IsOwnedBy a (Away c) = c.value.heap.owner ≡ a
 IsOwnedBy a Gone = ⊤
 
--- each cell is its actor's, no more actors are made than may be, and both indexes tell who has events
+-- each cell is its actor's, no more actors are made than may be, and the indexes tell who acts, and who
+-- settles once nothing else is to be done
 pub record AreIndexed (slots : List Slot) (acting settling : List Bool) : Type 0 where
   pub owned : (a : ℕ) → IsOwnedBy a (slot_at slots a).place
   pub few : length slots ≤ ACTORS_LIMIT

@@ -5,6 +5,6 @@
 pub enum Round {
     /// The actor goes on or takes a letter.
     Acting,
-    /// The actor collects, leaves or blocks.
+    /// The actor collects, leaves or blocks, once nothing else is to be done.
     Settling,
 }

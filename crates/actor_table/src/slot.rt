@@ -7,6 +7,7 @@ ghost use Rattle.machine_rules.specs.Actors.{seat, with_letter_more};
 ghost use Rattle.machine_rules.specs.Guards.{may_block, may_collect, may_go, may_leave, may_take};
 ghost use Rattle.actor_cell.specs.Cells.{as_cell, settled};
 ghost use Rattle.actor_cell.specs.Goes.{out_of};
+ghost use Rattle.actor_cell.specs.Moves.{act_in};
 ghost use Rattle.actor_cell.specs.Sweeps.{sweep_of, swept};
 ghost use Rattle.actor_table.specs.Changes.{CanCollectHere, CanGoHere, CanSettleNew, CanTakeHere, HasRoomToGo, HasRoomToTake, moved, note_taken, taken, told, with_cell_by};
 ghost use Rattle.actor_table.specs.declared.slot.Place.TheVariants.{Home};
@@ -160,12 +161,15 @@ pub(crate) fn can_act(slot: &Slot) -> bool
     }
 }
 
-/// Whether it collects, leaves or blocks.
+/// Whether its cell is at home, and it collects, leaves or blocks once nothing else is to be done.
+/// Letters change nothing of this.
 pub(crate) fn can_settle(slot: &Slot) -> bool
     ensures { result ≡ can_settle slot.now }
 {
     match &slot.place {
-        Place::Home(cell) => may_collect(cell, &slot.mail) || may_block(cell, &slot.mail),
+        Place::Home(cell) => {
+            cell.frame.is_some() || cell.dirty || !(cell.fields.pinned || cell.reported)
+        }
         Place::Away(_) => false,
         Place::Gone => false,
     }
@@ -224,7 +228,7 @@ pub(crate) fn reserve_go(slot: &mut Slot, turn: &Turn, found: &Turned) -> Result
     ensures away { is_away slot.new ≡ is_away slot.old }
     ensures owned { (a : ℕ) → IsOwnedBy a slot.old.place → IsOwnedBy a slot.new.place }
     ensures mail { slot.new.mail ≡ slot.old.mail }
-    ensures ok { OnOk result (HasRoomToGo turn.now found.now.act slot.new) }
+    ensures ok { OnOk result (HasRoomToGo turn.now (act_in found.now) slot.new) }
 {
     let Place::Home(cell) = &mut slot.place else {
         return Ok(());
@@ -276,12 +280,26 @@ pub(crate) fn put_back(slot: &mut Slot, cell: Cell)
     slot.place = Place::Home(cell);
 }
 
+/// What the detector is to hear where the actor takes the first of its letters, if it has one.
+#[inline(always)]
+pub(crate) fn note_on(slot: &Slot) -> Option<Note>
+    requires { IsSomeAnd (home_of slot.now) (λ c. ⊤) }
+    ensures { (a : ℕ) → IsOwnedBy a slot.now.place → result ≡ note_taken a (seat_of slot.now) }
+{
+    let Place::Home(cell) = &slot.place else {
+        unreachable!();
+    };
+    match slot.mail.front() {
+        Some(letter) => cell.note_on(letter),
+        None => None,
+    }
+}
+
 /// The idle actor takes the first of its letters.
-pub(crate) fn take_letter(code: &Checked, slot: &mut Slot) -> Option<Note>
+pub(crate) fn take_letter(code: &Checked, slot: &mut Slot)
     requires { IsSomeAnd (home_of slot.old) (λ c. CanTakeHere c.heap.owner slot.old) }
     ensures seat { (a : ℕ) → IsOwnedBy a slot.old.place
         → seat_of slot.new ≡ taken code.now a (seat_of slot.old) }
-    ensures note { (a : ℕ) → IsOwnedBy a slot.old.place → result ≡ note_taken a (seat_of slot.old) }
     ensures away { is_away slot.new ≡ is_away slot.old }
     ensures owned { (a : ℕ) → IsOwnedBy a slot.old.place → IsOwnedBy a slot.new.place }
     ensures room { slot.old.mail.spare ≤ slot.new.mail.spare }
@@ -292,19 +310,18 @@ pub(crate) fn take_letter(code: &Checked, slot: &mut Slot) -> Option<Note>
     let Some(letter) = slot.mail.front() else {
         unreachable!();
     };
-    let note = cell.apply_take(code, letter);
+    cell.apply_take(code, letter);
     let _ = slot.mail.take();
-    note
 }
 
 /// The actor's turn is done as it was found.
 pub(crate) fn go_on(slot: &mut Slot, turn: &Turn, found: &Turned)
-    requires { IsSomeAnd (home_of slot.old) (λ c. CanGoHere c.heap.owner turn.now found.now.act slot.old) }
+    requires { IsSomeAnd (home_of slot.old) (λ c. CanGoHere c.heap.owner turn.now (act_in found.now) slot.old) }
     ensures seat { (a : ℕ) → IsOwnedBy a slot.old.place → seat_of slot.new
-        ≡ with_cell_by (moved a turn.now found.now.place found.now.act) (seat_of slot.old) }
+        ≡ with_cell_by (moved a turn.now found.now.place (act_in found.now)) (seat_of slot.old) }
     ensures away { is_away slot.new ≡ is_away slot.old }
     ensures owned { (a : ℕ) → IsOwnedBy a slot.old.place → IsOwnedBy a slot.new.place }
-    ensures entry { IsSome (out_of found.now.act).made
+    ensures entry { IsSome (out_of (act_in found.now)).made
         → IsSomeAnd (home_of slot.new) (λ c. 0 < c.foreign.spare) }
     ensures mail { slot.new.mail ≡ slot.old.mail }
 {

@@ -8,8 +8,9 @@ ghost use Rattle.machine_rules.specs.Actors.{push_letter, seat_at};
 ghost use Rattle.machine_rules.specs.Guards.{may_go};
 ghost use Rattle.actor_cell.specs.Cells.{as_cell, settled};
 ghost use Rattle.actor_cell.specs.Goes.{out_of};
+ghost use Rattle.actor_cell.specs.Moves.{act_in};
 ghost use Rattle.actor_cell.specs.Sweeps.{sweep_of, swept};
-ghost use Rattle.actor_table.specs.Changes.{changed_at, moved, note_taken, taken, told, with_cell_by, CanCollectHere, CanGoHere, CanSettleNew, CanTakeHere, HasCell, HasRoomToGo, HasRoomToTake, IsChangedAt, KeepsRoom};
+ghost use Rattle.actor_table.specs.Changes.{changed_at, moved, taken, told, with_cell_by, CanCollectHere, CanGoHere, CanSettleNew, CanTakeHere, HasCell, HasRoomToGo, HasRoomToTake, IsChangedAt, KeepsRoom};
 ghost use Rattle.actor_table.specs.Index.{IsIndex};
 ghost use Rattle.actor_table.specs.declared.slot.Place.TheVariants.{Home};
 ghost use Rattle.actor_table.specs.Slots.{actors_of, away_of, can_act, can_settle, home_of, AreIndexed, IsOwnedBy, is_away, letters_in, may_at, places_of, seat_of, slot_at};
@@ -20,7 +21,7 @@ use crate::slot::{
 };
 use actor_cell::{Cell, Sweep, Turned};
 use behaviour_check::Checked;
-use letter_kinds::{Letter, Note};
+use letter_kinds::Letter;
 use mail_rows::MailRow;
 use orca_names::{ActorName, NoMemory};
 use ready_set::ReadySet;
@@ -29,20 +30,19 @@ use turn_step::Turn;
 
 /// The idle actor takes the first of its letters.
 #[tactic(auto, using(crate::proofs::Changing::actors_set, crate::proofs::Changing::away_kept, crate::proofs::Changing::seat_read, crate::proofs::Changing::room_kept))]
-pub(crate) fn take_at(slots: &mut Vec<Slot>, code: &Checked, a: usize) -> Option<Note>
+pub(crate) fn take_at(slots: &mut Vec<Slot>, code: &Checked, a: usize)
     requires within { a < length slots.old.items }
     requires owned { IsOwnedBy a (slot_at slots.old.items a).place }
     requires can { CanTakeHere a (slot_at slots.old.items a) }
     ensures actors { actors_of slots.new.items
         ≡ changed_at (taken code.now a) a (actors_of slots.old.items) }
-    ensures note { result ≡ note_taken a (seat_at (actors_of slots.old.items) a) }
     ensures away { away_of slots.new.items ≡ away_of slots.old.items }
     ensures room { KeepsRoom slots.old.items slots.new.items }
     ensures changed { IsChangedAt a slots.old.items slots.new.items }
     ensures length { vec_len slots.new ≡ vec_len slots.old }
     ensures capacity { vec_capacity slots.new ≡ vec_capacity slots.old }
 {
-    take_letter(code, &mut slots[a])
+    take_letter(code, &mut slots[a]);
 }
 
 /// The actor's turn is done as it was found.
@@ -50,11 +50,11 @@ pub(crate) fn take_at(slots: &mut Vec<Slot>, code: &Checked, a: usize) -> Option
 pub(crate) fn go_at(slots: &mut Vec<Slot>, a: usize, turn: &Turn, found: &Turned)
     requires within { a < length slots.old.items }
     requires owned { IsOwnedBy a (slot_at slots.old.items a).place }
-    requires can { CanGoHere a turn.now found.now.act (slot_at slots.old.items a) }
+    requires can { CanGoHere a turn.now (act_in found.now) (slot_at slots.old.items a) }
     ensures actors { actors_of slots.new.items
-        ≡ changed_at (with_cell_by (moved a turn.now found.now.place found.now.act)) a
+        ≡ changed_at (with_cell_by (moved a turn.now found.now.place (act_in found.now))) a
         (actors_of slots.old.items) }
-    ensures entry { IsSome (out_of found.now.act).made
+    ensures entry { IsSome (out_of (act_in found.now)).made
         → IsSomeAnd (home_of (slot_at slots.new.items a)) (λ c. 0 < c.foreign.spare) }
     ensures away { away_of slots.new.items ≡ away_of slots.old.items }
     ensures room { KeepsRoom slots.old.items slots.new.items }
@@ -125,6 +125,7 @@ pub(crate) fn push_at(slots: &mut Vec<Slot>, a: usize, letter: Letter)
         → 0 < (slot_at slots.old.items a).mail.spare }
     ensures actors { actors_of slots.new.items
         ≡ push_letter a letter (actors_of slots.old.items) }
+    ensures place { (slot_at slots.new.items a).place ≡ (slot_at slots.old.items a).place }
     ensures away { away_of slots.new.items ≡ away_of slots.old.items }
     ensures room { (b : ℕ) → (slot_at slots.old.items b).mail.spare
         ≤ (slot_at slots.new.items b).mail.spare + (if b == a then 1 else 0) }
@@ -166,7 +167,7 @@ pub(crate) fn reserve_go_at(
         ≡ actors_of slots.old.items }
     ensures seat { seat_of (slot_at slots.new.items a) ≡ seat_of (slot_at slots.old.items a) }
     ensures same { is_away (slot_at slots.new.items a) ≡ is_away (slot_at slots.old.items a) }
-    ensures ok { OnOk result (HasRoomToGo turn.now found.now.act (slot_at slots.new.items a)) }
+    ensures ok { OnOk result (HasRoomToGo turn.now (act_in found.now) (slot_at slots.new.items a)) }
     ensures away { away_of slots.new.items ≡ away_of slots.old.items }
     ensures room { KeepsRoom slots.old.items slots.new.items }
     ensures changed { IsChangedAt a slots.old.items slots.new.items }
@@ -280,7 +281,7 @@ pub(crate) fn put_back_at(slots: &mut Vec<Slot>, a: usize, cell: Cell)
     put_back(&mut slots[a], cell);
 }
 
-/// Writes in both indexes whether the actor at this place has events.
+/// Writes in both indexes what they tell of the actor at this place.
 #[tactic(auto, using(crate::proofs::Changing::bits_follow))]
 #[inline(always)]
 pub(crate) fn put_bits(slots: &[Slot], acting: &mut ReadySet, settling: &mut ReadySet, a: u32)
@@ -297,7 +298,7 @@ pub(crate) fn put_bits(slots: &[Slot], acting: &mut ReadySet, settling: &mut Rea
     settling.put(a, can_settle(slot));
 }
 
-/// Writes the same after a step of a turn: while the turn goes on, its actor has the same events.
+/// Writes the same after a step of a turn: while the turn goes on, both indexes tell the same.
 #[inline(always)]
 pub(crate) fn put_bits_in_turn(
     slots: &[Slot],
@@ -317,4 +318,18 @@ pub(crate) fn put_bits_in_turn(
     if !goes_on(&slots[a as usize]) {
         put_bits(slots, acting, settling, a);
     }
+}
+
+/// Writes in its index whether the actor at this place acts, where its place is the same: the other
+/// index hangs on that alone.
+#[inline(always)]
+pub(crate) fn put_acting(slots: &[Slot], acting: &mut ReadySet, a: u32)
+    requires within { a < length slots.now }
+    requires acting { length slots.now ≤ length acting.old }
+    ensures indexed { (old : List a_slot) (settling : List Bool) → AreIndexed old acting.old settling
+        → IsChangedAt a old slots.now → (slot_at slots.now a).place ≡ (slot_at old a).place
+        → AreIndexed slots.now acting.new settling }
+    ensures length { length acting.new ≡ length acting.old }
+{
+    acting.put(a, can_act(&slots[a as usize]));
 }

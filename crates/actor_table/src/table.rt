@@ -7,6 +7,7 @@ ghost use Rattle.machine_rules.specs.Actors.{push_letter, seat_at};
 ghost use Rattle.machine_rules.specs.Guards.{may_block, may_collect, may_leave, may_take};
 ghost use Rattle.actor_cell.specs.Cells.{as_cell, settled};
 ghost use Rattle.actor_cell.specs.Goes.{out_of};
+ghost use Rattle.actor_cell.specs.Moves.{act_in};
 ghost use Rattle.orca_names.specs.declared.limits.TheConstants.{ACTORS_LIMIT};
 ghost use Rattle.actor_table.specs.declared.slot.Place.TheVariants.{Home};
 ghost use Rattle.actor_cell.specs.Sweeps.{sweep_of, swept};
@@ -18,10 +19,10 @@ ghost use Rattle.actor_table.specs.Slots.{actors_of, away_of, can_act, can_settl
 use crate::rounds::Round;
 use crate::slot::{
     Place, Slot, can_act, can_block, can_collect, can_leave, can_settle, can_take, cell_of,
-    is_away, is_present, mail_of, next_event,
+    is_away, is_present, mail_of, next_event, note_on,
 };
 use crate::slots::{
-    block_at, clear_at, collect_at, go_at, lift_at, push_at, put_back_at, put_bits,
+    block_at, clear_at, collect_at, go_at, lift_at, push_at, put_acting, put_back_at, put_bits,
     put_bits_in_turn, reserve_bits, reserve_go_at, reserve_letters_at, reserve_take_at, settle_at,
     take_at,
 };
@@ -37,7 +38,7 @@ use std::marker::Model;
 use turn_step::Turn;
 
 /// All actors ever made, by number, seen by contracts as their places and the room for further
-/// ones. Two indexes tell who has events.
+/// ones. Two indexes tell who acts, and who settles once nothing else is to be done.
 #[derive(Drop)]
 pub struct ActorTable {
     slots: Vec<Slot>,
@@ -194,7 +195,8 @@ impl ActorTable {
         }
     }
 
-    /// The first actor that collects, leaves or blocks.
+    /// The first actor that collects, leaves or blocks once it neither goes on nor takes a letter; where
+    /// none acts, the first that does so now.
     #[tactic(auto, using(crate::proofs::Indexing::found_first))]
     pub fn first_settling(&self) -> Option<ActorName>
         ensures { result ≡ position can_settle self.now.slots }
@@ -205,7 +207,8 @@ impl ActorTable {
         }
     }
 
-    /// The first actor from this one on that has an event in the round; `None` where none has.
+    /// The first actor from this one on that has an event in the round once it has none in the round
+    /// before; `None` where none has.
     pub fn next_in(&self, round: Round, from: ActorName) -> Option<ActorName>
         ensures next { IsNextThat (λ a. has_event round (slot_at self.now.slots a)) from result }
         ensures made { IfSome result (λ a. a < length self.now.slots) }
@@ -246,7 +249,7 @@ impl ActorTable {
         ensures away { away_of self.new.slots ≡ away_of self.old.slots }
         ensures room { KeepsRoom self.old.slots self.new.slots }
         ensures spare { self.new.spare ≡ self.old.spare }
-        ensures ok { OnOk result (HasRoomToGo turn.now found.now.act (slot_at self.new.slots a)) }
+        ensures ok { OnOk result (HasRoomToGo turn.now (act_in found.now) (slot_at self.new.slots a)) }
     {
         if a.0 as usize >= self.slots.len() {
             return Ok(());
@@ -310,28 +313,35 @@ impl ActorTable {
         self.settling.put(made as u32, settles);
     }
 
+    /// What the detector is to hear where the actor takes the first of its letters, if it has one.
+    #[inline(always)]
+    pub fn note_on(&self, a: ActorName) -> Option<Note>
+        requires { HasCell (slot_at self.now.slots a) (λ c. ⊤) }
+        ensures { result ≡ note_taken a (seat_at (actors_of self.now.slots) a) }
+    {
+        note_on(&self.slots[a.0 as usize])
+    }
+
     /// The idle actor takes the first of its letters.
-    pub fn take(&mut self, code: &Checked, a: ActorName) -> Option<Note>
+    pub fn take(&mut self, code: &Checked, a: ActorName)
         requires { CanTakeHere a (slot_at self.old.slots a) }
         ensures actors { actors_of self.new.slots
             ≡ changed_at (taken code.now a) a (actors_of self.old.slots) }
-        ensures note { result ≡ note_taken a (seat_at (actors_of self.old.slots) a) }
         ensures spare { self.new.spare ≡ self.old.spare }
         ensures away { away_of self.new.slots ≡ away_of self.old.slots }
         ensures room { KeepsRoom self.old.slots self.new.slots }
     {
-        let note = take_at(&mut self.slots, code, a.0 as usize);
+        take_at(&mut self.slots, code, a.0 as usize);
         put_bits(&self.slots, &mut self.acting, &mut self.settling, a.0);
-        note
     }
 
     /// The actor's turn is done as it was found.
     pub fn go(&mut self, a: ActorName, turn: &Turn, found: &Turned)
-        requires { CanGoHere a turn.now found.now.act (slot_at self.old.slots a) }
+        requires { CanGoHere a turn.now (act_in found.now) (slot_at self.old.slots a) }
         ensures actors { actors_of self.new.slots
-            ≡ changed_at (with_cell_by (moved a turn.now found.now.place found.now.act)) a
+            ≡ changed_at (with_cell_by (moved a turn.now found.now.place (act_in found.now))) a
             (actors_of self.old.slots) }
-        ensures entry { IsSome (out_of found.now.act).made
+        ensures entry { IsSome (out_of (act_in found.now)).made
             → IsSomeAnd (home_of (slot_at self.new.slots a)) (λ c. 0 < c.foreign.spare) }
         ensures spare { self.new.spare ≡ self.old.spare }
         ensures away { away_of self.new.slots ≡ away_of self.old.slots }
@@ -398,7 +408,7 @@ impl ActorTable {
             return;
         }
         push_at(&mut self.slots, to.0 as usize, letter);
-        put_bits(&self.slots, &mut self.acting, &mut self.settling, to.0);
+        put_acting(&self.slots, &mut self.acting, to.0);
     }
 
     /// The actor goes, with its cell and its letters. It takes no memory.

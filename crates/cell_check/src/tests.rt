@@ -1,6 +1,6 @@
 // One actor by itself: it takes its first letter, goes on, collects, reports, and leaves.
 
-use actor_cell::{Cell, Move, Out, Turned};
+use actor_cell::{Cell, Doing, Out, Turned};
 use behaviour_check::{Checked, check};
 use behaviour_code::Name;
 use behaviour_text::parse;
@@ -56,11 +56,11 @@ fn go(alloc: Global, code: &Checked, cell: &mut Cell) -> Result<Out, Fail> {
         return Err(Fail::from("it cannot go"));
     }
     let mut turn = Turn::new(alloc);
-    let mut found = Turned::new();
+    let mut found = Turned::new(alloc);
     cell.found_go(alloc, code, WEIGHT, Trace::Deep, &mut turn, &mut found)?;
-    match found.act {
-        Move::Post { .. } | Move::Mint { .. } => Err(Fail::from("it sends")),
-        Move::New { .. } | Move::Print { .. } | Move::End => {
+    match found.doing {
+        Doing::Post { .. } | Doing::Mint { .. } => Err(Fail::from("it sends")),
+        Doing::New { .. } | Doing::Print { .. } | Doing::End => {
             Ok(cell.go(alloc, code, WEIGHT, Trace::Deep)?)
         }
     }

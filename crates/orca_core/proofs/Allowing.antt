@@ -8,6 +8,7 @@ use Rattle.orca_names.specs.declared.trace.Trace.{Trace}
 use Rattle.behaviour_code.specs.declared.code.Program.{Program}
 use Rattle.machine_rules.specs.Actors.{seat}
 use Rattle.actor_cell.specs.declared.cell.Cell.{Cell}
+use Rattle.actor_cell.specs.Moves.{act_in}
 use Rattle.actor_cell.specs.declared.turning.Turned.{Turned}
 use Rattle.actor_cell.specs.Cells.{as_cell}
 use Rattle.actor_cell.specs.Goes as goes
@@ -41,9 +42,9 @@ can_take a m fits allow =
 
 pub counts_allow : (trace : Trace) (weight : ℕ) (program : Program) (a : ℕ) (found : Turned) (m : Parts)
     → FitsGo trace weight program a found m → AllowsGo trace weight program a (actors_of m.table.slots)
-    → (c : Cell) → (slot_at m.table.slots a).place ≡ Home c → CountsAllow a found.act m c
+    → (c : Cell) → (slot_at m.table.slots a).place ≡ Home c → CountsAllow a (act_in found) m c
 counts_allow trace weight program a found m fits allow c home =
-    subst (CountsAllow a found.act m) (same_cell (slot_at m.table.slots a).place fits.cell c fits.home home) (record {
+    subst (CountsAllow a (act_in found) m) (same_cell (slot_at m.table.slots a).place fits.cell c fits.home home) (record {
       can = subst (λ (t : goes.Turned). CanMove a (as_cell x).holdings t.turn t.act) fits.found_is
           (subst (λ o. IsSomeAnd o (λ frame. let t = turned_in trace weight program a (as_cell x) frame in CanMove a (as_cell x).holdings t.turn t.act)) fits.framed (its.can fits.frame fits.framed));
       serials = its.serials;

@@ -16,6 +16,7 @@ use Rattle.actor_cell.specs.declared.cell.Cell.{Cell}
 use Rattle.actor_cell.specs.declared.found.Found.{Found}
 use Rattle.actor_cell.specs.declared.found.Found.TheVariants.{Goes, Collects, Nothing}
 use Rattle.actor_cell.specs.declared.sweeping.Sweep.{Sweep}
+use Rattle.actor_cell.specs.Moves.{act_in}
 use Rattle.actor_cell.specs.declared.turning.Turned.{Turned}
 use Rattle.actor_cell.specs.Cells.{as_cell}
 use Rattle.actor_cell.specs.Goes as goes
@@ -46,7 +47,7 @@ pub found_few : (trace : Trace) (weight : ℕ) (program : Program) (me : ℕ) (t
 found_few trace weight program me turn turned c good is = by c.frame is
   where
     its : goes.Turned
-    its = record { turn = turn; place = turned.place; act = turned.act }
+    its = record { turn = turn; place = turned.place; act = act_in turned }
 
     by : (frame : Option Frame) → option_map (turned_in trace weight program me (as_cell c)) frame ≡ Some its → length turn.made ≤ 1024
     by None found = cc
@@ -88,7 +89,7 @@ not_collecting trace weight program found x none here = by found refl x.place re
 
     by : (f : Found) → found ≡ f → (place : Place) → x.place ≡ place → may_in may_collect place x.mail.letters ≡ false
     by (Goes turn turned) is (Home c) at =
-        running c (record { turn = turn; place = turned.place; act = turned.act }) c.frame (subst (λ f. IsFoundAt trace weight program f x) is here c at)
+        running c (record { turn = turn; place = turned.place; act = act_in turned }) c.frame (subst (λ f. IsFoundAt trace weight program f x) is here c at)
     by Nothing is (Home c) at =
         let its = subst (λ f. IsFoundAt trace weight program f x) is here c at in
         ap (λ f. is_none f && c.dirty) its.0 ∙ its.1

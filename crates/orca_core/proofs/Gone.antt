@@ -23,8 +23,7 @@ use Rattle.machine_rules.proofs.Acting.{acting-is}
 use Rattle.actor_cell.specs.Cells.{settled}
 use Rattle.actor_cell.specs.Goes.{cell_by, gone_by, load_in, turned_in}
 use Rattle.actor_cell.specs.Laws.{after_go}
-use Rattle.actor_cell.specs.declared.turning.Move.{Move}
-use Rattle.actor_cell.specs.declared.turning.Move.TheVariants.{Post, Mint, New, Print, End}
+use Rattle.actor_cell.specs.Moves.{Move, Post, Mint, New, Print, End}
 use Rattle.actor_table.specs.Changes.{changed_at, moved, with_cell_by}
 use Rattle.orca_core.specs.Goes.{given}
 use Rattle.actor_cell.proofs.GoParts.{gone, next-mint_all, next-send}

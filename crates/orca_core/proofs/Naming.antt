@@ -14,8 +14,7 @@ use Rattle.machine_rules.specs.Cell as rules
 use Rattle.actor_cell.specs.declared.cell.Cell.{Cell}
 use Rattle.actor_cell.specs.Cells.{as_cell}
 use Rattle.actor_cell.specs.Goes.{cell_by, out_of}
-use Rattle.actor_cell.specs.declared.turning.Move.{Move}
-use Rattle.actor_cell.specs.declared.turning.Move.TheVariants.{Post, Mint, New, Print, End}
+use Rattle.actor_cell.specs.Moves.{Move, Post, Mint, New, Print, End}
 use Rattle.actor_table.specs.declared.slot.Slot.{Slot}
 use Rattle.actor_table.specs.declared.slot.Place.TheVariants.{Home}
 use Rattle.actor_table.specs.Changes.{CanSettleNew, changed_at, moved, with_cell_by}

@@ -20,6 +20,7 @@ use Rattle.machine_rules.specs.Next.{acting}
 use Rattle.machine_rules.specs.State.{State}
 use Rattle.orca_names.specs.declared.trace.Trace.{Trace}
 use Rattle.actor_cell.specs.declared.cell.Cell.{Cell}
+use Rattle.actor_cell.specs.Moves.{act_in}
 use Rattle.actor_cell.specs.declared.turning.Turned.{Turned}
 use Rattle.actor_cell.specs.Cells.{as_cell}
 use Rattle.actor_cell.specs.Goes.{turned_in}
@@ -111,10 +112,10 @@ table_room m table turn actors away =
 -- what was found fits, once the memory was taken
 module _ (trace : Trace) (weight : ℕ) (program : Program) (a : ℕ) (found : Turned) (old : List Slot) (turn : Turn) (mid : List Slot) (m : Parts) where
   fits_with : (c : Cell) → (slot_at old a).place ≡ Home c → (frame : Frame) → c.frame ≡ Some frame
-      → turned_in trace weight program a (as_cell c) frame ≡ record { turn = turn; place = found.place; act = found.act }
+      → turned_in trace weight program a (as_cell c) frame ≡ record { turn = turn; place = found.place; act = act_in found }
       → (x : Cell) → (slot_at mid a).place ≡ Home x → as_cell x ≡ as_cell c
-      → HasRoomToGo turn found.act (slot_at mid a) → places_of m.table.slots ≡ places_of mid → m.turn ≡ turn
-      → HasRoomOut found.act m → length turn.made ≤ BODY_LIMIT
+      → HasRoomToGo turn (act_in found) (slot_at mid a) → places_of m.table.slots ≡ places_of mid → m.turn ≡ turn
+      → HasRoomOut (act_in found) m → length turn.made ≤ BODY_LIMIT
       → FitsGo trace weight program a found m
   fits_with c home frame framed is x at same room places kept out few =
       let sizes = room x at in
@@ -123,7 +124,7 @@ module _ (trace : Trace) (weight : ℕ) (program : Program) (a : ℕ) (found : T
         home = sym (place_read m.table.slots a) ∙ ap (λ ps. get_or ps a Gone) places ∙ place_read mid a ∙ at;
         frame = frame;
         framed = ap (λ (y : rules.Cell). y.frame) same ∙ framed;
-        found_is = ap (λ y. turned_in trace weight program a y frame) same ∙ is ∙ ap (λ t. record { turn = t; place = found.place; act = found.act }) (sym kept);
+        found_is = ap (λ y. turned_in trace weight program a y frame) same ∙ is ∙ ap (λ t. record { turn = t; place = found.place; act = act_in found }) (sym kept);
         few = subst (λ (t : Turn). length t.made ≤ BODY_LIMIT) (sym kept) few;
         objects = subst (λ (t : Turn). length t.made ≤ x.heap.spare) (sym kept) sizes.0;
         entries = sizes.1;
@@ -132,8 +133,8 @@ module _ (trace : Trace) (weight : ℕ) (program : Program) (a : ℕ) (found : T
 
   pub fits_go : HasCell (slot_at old a) (IsFoundGo trace weight program a turn found)
       → actors_of mid ≡ actors_of old → away_of mid ≡ away_of old
-      → HasRoomToGo turn found.act (slot_at mid a) → places_of m.table.slots ≡ places_of mid → m.turn ≡ turn
-      → HasRoomOut found.act m → length turn.made ≤ BODY_LIMIT
+      → HasRoomToGo turn (act_in found) (slot_at mid a) → places_of m.table.slots ≡ places_of mid → m.turn ≡ turn
+      → HasRoomOut (act_in found) m → length turn.made ≤ BODY_LIMIT
       → FitsGo trace weight program a found m
   fits_go cell actors away room places kept out few =
       let c = cell.cell in
@@ -143,9 +144,9 @@ module _ (trace : Trace) (weight : ℕ) (program : Program) (a : ℕ) (found : T
       by c.frame refl cell.so x
     where
       by : (f : Option Frame) → cell.cell.frame ≡ f
-          → option_map (turned_in trace weight program a (as_cell cell.cell)) f ≡ Some (record { turn = turn; place = found.place; act = found.act })
+          → option_map (turned_in trace weight program a (as_cell cell.cell)) f ≡ Some (record { turn = turn; place = found.place; act = act_in found })
           → HasCell (slot_at mid a) (λ x. as_cell x ≡ as_cell cell.cell) → FitsGo trace weight program a found m
       by None framed is x = cc
       by (Some frame) framed is x =
-          let its : turned_in trace weight program a (as_cell cell.cell) frame ≡ record { turn = turn; place = found.place; act = found.act } = some_same is in
+          let its : turned_in trace weight program a (as_cell cell.cell) frame ≡ record { turn = turn; place = found.place; act = act_in found } = some_same is in
           fits_with cell.cell cell.home frame framed its x.cell x.home x.so room places kept out few

@@ -1,7 +1,7 @@
 -- The first enabled event of all, and of the actors that are not set aside, by the rounds of the
 -- one-worker order.
-use Rattle.std.proofs.Common.{◌≡◌, ◌≢◌, ◌≤◌, ◌<◌, ◌||◌, ◌&&◌, ℕ, suc, Bool, true, false, List, length, get_or, not, Option, Some, None, inl, inr, refl, sym, ap, subst, ◌∙◌, arith, ⊎_elim}
-use Rattle.std.specs.Prelude.{position, MatchOption}
+use Rattle.std.proofs.Common.{◌≡◌, ◌≢◌, ◌≤◌, ◌<◌, ◌==◌, ◌||◌, ◌&&◌, ℕ, suc, Bool, true, false, List, [], ◌∷◌, length, get_or, not, Option, Some, None, inl, inr, refl, sym, ap, subst, ◌∙◌, arith, ⊎_elim}
+use Rattle.std.specs.Prelude.{is_none, is_some, position, MatchOption}
 use Rattle.std.specs.Option.{option_map_or}
 use Rattle.std.specs.List.{position_or_len}
 use Rattle.std.proofs.lemmas.Bool.{cases_Bool, cases_lt, or_cases, or_left, or_right}
@@ -14,8 +14,12 @@ use Rattle.event_rule.specs.declared.event.Event.{Event}
 use Rattle.event_rule.specs.declared.event.Event.TheVariants.{Take, Go, Collect, Leave, Block, Hear, Scan, Reap}
 use Rattle.event_rule.proofs.Ordered.{Upto}
 use Rattle.letter_kinds.specs.declared.letter.Letter.{Letter}
+use Rattle.machine_rules.specs.Actors.{Seat}
 use Rattle.machine_rules.specs.Guards.{may_block, may_collect, may_go, may_leave, may_take}
 use Rattle.machine_rules.specs.State.{State}
+use Rattle.plain_list.specs.Lists.{is_empty}
+use Rattle.turn_rules.specs.declared.act.Frame.{Frame}
+use Rattle.actor_cell.specs.Cells.{as_cell}
 use Rattle.actor_table.specs.declared.slot.Slot.{Slot}
 use Rattle.actor_table.specs.declared.slot.Place.{Place}
 use Rattle.actor_table.specs.declared.slot.Place.TheVariants.{Home, Away, Gone}
@@ -41,15 +45,36 @@ can_act_by x = by x.place x.mail.letters
     by (Away c) mail = refl
     by Gone mail = refl
 
--- it settles where its cell is at home and may collect, leave or block
-can_settle_by : (x : Slot) → can_settle x ≡ (may_at may_collect x || (may_at may_leave x || may_at may_block x))
+-- who does not act settles where it may collect, leave or block
+settles_by : (o : Seat) → acts o ≡ false
+    → settles o ≡ (may_collect o.cell o.mail || (may_leave o.cell o.mail || may_block o.cell o.mail))
+settles_by o =
+    by o.cell.frame o.mail o.cell.dirty (o.cell.fields.pinned || o.cell.reported) (o.cell.holdings.count == 0)
+  where
+    by : (frame : Option Frame) (mail : List Letter) (dirty kept unheld : Bool)
+        → (is_some frame || (is_none frame && not (is_empty mail))) ≡ false
+        → (is_some frame || (dirty || not kept))
+        ≡ ((is_none frame && dirty)
+        || (((is_none frame && (is_empty mail && not (dirty || kept))) && unheld)
+        || (is_none frame && (is_empty mail && not (dirty || kept)))))
+    by (Some frame) mail dirty kept unheld idle = cc
+    by None (letter ∷ mail) dirty kept unheld idle = cc
+    by None [] true kept unheld idle = refl
+    by None [] false true unheld idle = refl
+    by None [] false false true idle = refl
+    by None [] false false false idle = refl
+
+-- and can do so where its cell is at home
+can_settle_by : (x : Slot) → can_act x ≡ false
+    → can_settle x ≡ (may_at may_collect x || (may_at may_leave x || may_at may_block x))
 can_settle_by x = by x.place x.mail.letters
   where
-    by : (p : Place) (mail : List Letter) → (not (is_away_in p) && option_map_or settles (seat_in p mail) false)
+    by : (p : Place) (mail : List Letter) → (not (is_away_in p) && option_map_or acts (seat_in p mail) false) ≡ false
+        → (not (is_away_in p) && option_map_or settles (seat_in p mail) false)
         ≡ (may_in may_collect p mail || (may_in may_leave p mail || may_in may_block p mail))
-    by (Home c) mail = refl
-    by (Away c) mail = refl
-    by Gone mail = refl
+    by (Home c) mail idle = settles_by (record { cell = as_cell c; mail = mail }) idle
+    by (Away c) mail idle = refl
+    by Gone mail idle = refl
 
 -- where no element has the property, what stands at no place has it
 none_at : {A : Type 0} (has : A → Bool) (xs : List A) (d : A) → has d ≡ false → None ≡ position has xs
@@ -99,14 +124,15 @@ module _ (slots : List Slot) (away : List Bool) (s : State)
     can : Can slots s event
     round : round_of event ≡ r
 
-  -- exactly the actors that have the property have an event in the round that can be
-  record IsRound (r : ℕ) (has : Slot → Bool) : Type 0 where
-    all : (f : Event) → Can slots s f → round_of f ≡ r → has (slot_at slots (actor_or_token f)) ≡ true
-    some : (a : ℕ) → has (slot_at slots a) ≡ true → HasEvent r a
+  -- of the actors in play exactly those that have the property have an event in the round that can be
+  record IsRound (in_play : ℕ → Bool) (r : ℕ) (has : Slot → Bool) : Type 0 where
+    all : (f : Event) → in_play (actor_or_token f) ≡ true → Can slots s f → round_of f ≡ r
+        → has (slot_at slots (actor_or_token f)) ≡ true
+    some : (a : ℕ) → in_play a ≡ true → has (slot_at slots a) ≡ true → HasEvent r a
 
   -- who acts has an event of the first round
-  acting : IsRound 0 can_act
-  acting = record { all = all; some = some }
+  acting : (in_play : ℕ → Bool) → IsRound in_play 0 can_act
+  acting in_play = record { all = λ f plays. all f; some = λ a plays. some a }
     where
       all : (f : Event) → Can slots s f → round_of f ≡ 0 → can_act (slot_at slots (actor_or_token f)) ≡ true
       all (Go a) can is = can_act_by (slot_at slots a) ∙ or_left _ _ can
@@ -124,28 +150,34 @@ module _ (slots : List Slot) (away : List Bool) (s : State)
           (λ takes. record { event = Take a; mine = itself a; can = takes; round = refl })
           (or_cases _ _ (sym (can_act_by (slot_at slots a)) ∙ on))
 
-  -- who settles has an event of the second
-  settling : IsRound 1 can_settle
-  settling = record { all = all; some = some }
+  -- where nobody in play acts, who settles has an event of the second
+  settling : (in_play : ℕ → Bool) → ((a : ℕ) → in_play a ≡ true → can_act (slot_at slots a) ≡ false)
+      → IsRound in_play 1 can_settle
+  settling in_play idle = record { all = all; some = some }
     where
-      all : (f : Event) → Can slots s f → round_of f ≡ 1 → can_settle (slot_at slots (actor_or_token f)) ≡ true
-      all (Collect a) can is = can_settle_by (slot_at slots a) ∙ or_left _ _ can
-      all (Leave a) can is = can_settle_by (slot_at slots a) ∙ or_right _ _ (or_left _ _ can)
-      all (Block a) can is = can_settle_by (slot_at slots a) ∙ or_right _ _ (or_right _ _ can)
-      all (Go a) can is = absurd (omega (arith, is))
-      all (Take a) can is = absurd (omega (arith, is))
-      all Hear can is = absurd (omega (arith, is))
-      all Scan can is = absurd (omega (arith, is))
-      all (Reap number) can is = absurd (omega (arith, is))
+      by : (a : ℕ) → in_play a ≡ true → can_settle (slot_at slots a)
+          ≡ (may_at may_collect (slot_at slots a) || (may_at may_leave (slot_at slots a) || may_at may_block (slot_at slots a)))
+      by a plays = can_settle_by (slot_at slots a) (idle a plays)
 
-      some : (a : ℕ) → can_settle (slot_at slots a) ≡ true → HasEvent 1 a
-      some a on = ⊎_elim
+      all : (f : Event) → in_play (actor_or_token f) ≡ true → Can slots s f → round_of f ≡ 1
+          → can_settle (slot_at slots (actor_or_token f)) ≡ true
+      all (Collect a) plays can is = by a plays ∙ or_left _ _ can
+      all (Leave a) plays can is = by a plays ∙ or_right _ _ (or_left _ _ can)
+      all (Block a) plays can is = by a plays ∙ or_right _ _ (or_right _ _ can)
+      all (Go a) plays can is = absurd (omega (arith, is))
+      all (Take a) plays can is = absurd (omega (arith, is))
+      all Hear plays can is = absurd (omega (arith, is))
+      all Scan plays can is = absurd (omega (arith, is))
+      all (Reap number) plays can is = absurd (omega (arith, is))
+
+      some : (a : ℕ) → in_play a ≡ true → can_settle (slot_at slots a) ≡ true → HasEvent 1 a
+      some a plays on = ⊎_elim
           (λ collects. record { event = Collect a; mine = itself a; can = collects; round = refl })
           (λ reports. ⊎_elim
           (λ leaves. record { event = Leave a; mine = itself a; can = leaves; round = refl })
           (λ blocks. record { event = Block a; mine = itself a; can = blocks; round = refl })
           (or_cases _ _ reports))
-          (or_cases _ _ (sym (can_settle_by (slot_at slots a)) ∙ on))
+          (or_cases _ _ (sym (by a plays) ∙ on))
 
   -- ---- a kind of events, by the actors that have them
 
@@ -159,14 +191,15 @@ module _ (slots : List Slot) (away : List Bool) (s : State)
   From kind r = (f : Event) → kind f ≡ true → Can slots s f → r ≤ round_of f
 
   module _ (in_play : ℕ → Bool) (kind : Event → Bool) (its : IsOf in_play kind) (r : ℕ) (early : r ≤ 1)
-      (has : Slot → Bool) (round : IsRound r has) (from : From kind r) where
+      (has : Slot → Bool) (round : IsRound in_play r has) (from : From kind r) where
     -- where nobody in play has an event in the round, none before the next can be
     later : ((k : ℕ) → in_play k ≡ true → has (slot_at slots k) ≡ false) → From kind (suc r)
     later none f is can = ⊎_elim
         (λ (h : r < round_of f). h)
         (λ h. let level : round_of f ≡ r = omega (arith, from f is can) in
         let n = actor_or_token f in
-        off (has (slot_at slots n)) (none n (its.only f is (omega arith))) (round.all f can level))
+        let plays = its.only f is (omega arith) in
+        off (has (slot_at slots n)) (none n plays) (round.all f plays can level))
         (cases_lt r (round_of f))
 
     -- the first event of the first actor in play that has one in it is the first of the kind
@@ -177,7 +210,7 @@ module _ (slots : List Slot) (away : List Bool) (s : State)
     first_in_round a plays has_one none_before = by
       where
         g : HasEvent r a
-        g = round.some a has_one
+        g = round.some a plays has_one
 
         g_on : next_of_kind (is_of a) away s g.event ≢ NotEnabled
         g_on = on_in (is_of a) g.event g.mine g.can
@@ -185,8 +218,9 @@ module _ (slots : List Slot) (away : List Bool) (s : State)
         -- none of a lower actor can be in the round
         from_a : (f : Event) → kind f ≡ true → Can slots s f → round_of f ≡ r → a ≤ actor_or_token f
         from_a f is can level = ⊎_elim
-            (λ (lower : actor_or_token f < a). off (has (slot_at slots (actor_or_token f)))
-            (none_before (actor_or_token f) lower (its.only f is (omega arith))) (round.all f can level))
+            (λ (lower : actor_or_token f < a). let its_actor_plays = its.only f is (omega arith) in
+            off (has (slot_at slots (actor_or_token f)))
+            (none_before (actor_or_token f) lower its_actor_plays) (round.all f its_actor_plays can level))
             (λ h. h)
             (cases_lt (actor_or_token f) a)
 
@@ -216,7 +250,7 @@ module _ (slots : List Slot) (away : List Bool) (s : State)
   of_everybody : IsOf everybody any
   of_everybody = record { all = λ a plays f is. refl; only = λ f is early. refl }
 
-  module _ (r : ℕ) (early : r ≤ 1) (has : Slot → Bool) (past_off : has gone ≡ false) (round : IsRound r has)
+  module _ (r : ℕ) (early : r ≤ 1) (has : Slot → Bool) (past_off : has gone ≡ false) (round : IsRound everybody r has)
       (from : From any r) where
     none_from : None ≡ position has slots → From any (suc r)
     none_from none = later everybody any of_everybody r early has round from (λ k plays. none_at has slots gone past_off none k)
@@ -232,24 +266,27 @@ module _ (slots : List Slot) (away : List Bool) (s : State)
   -- the first event of the first actor that acts is the first of all
   pub first_acting : (a : ℕ) → Some a ≡ position can_act slots → (found : Option Event)
       → IsFound (is_of a) away s found → IsFound any away s found
-  first_acting = first_from 0 (omega arith) can_act refl acting (λ f is can. omega arith)
+  first_acting = first_from 0 (omega arith) can_act refl (acting everybody) (λ f is can. omega arith)
 
   module _ (none_acts : None ≡ position can_act slots) where
     -- where none acts, no event before the second round can be
     from_settling : From any 1
-    from_settling = none_from 0 (omega arith) can_act refl acting (λ f is can. omega arith) none_acts
+    from_settling = none_from 0 (omega arith) can_act refl (acting everybody) (λ f is can. omega arith) none_acts
+
+    settling_of_all : IsRound everybody 1 can_settle
+    settling_of_all = settling everybody (λ a plays. none_at can_act slots gone refl none_acts a)
 
     -- and the first event of the first actor that settles is the first of all
     pub first_settling : (a : ℕ) → Some a ≡ position can_settle slots → (found : Option Event)
         → IsFound (is_of a) away s found → IsFound any away s found
-    first_settling = first_from 1 (omega arith) can_settle refl settling from_settling
+    first_settling = first_from 1 (omega arith) can_settle refl settling_of_all from_settling
 
     -- where none settles either, the detector's first event is the first of all
     pub first_of_rest : None ≡ position can_settle slots → (found : Option Event)
         → IsFound is_of_detector away s found → IsFound any away s found
     first_of_rest none_settles found first = widened is_of_detector any (λ f is. refl) found first (λ f is other can.
         off (is_of_detector f) other
-        (of_rest f (none_from 1 (omega arith) can_settle refl settling from_settling none_settles f is can)))
+        (of_rest f (none_from 1 (omega arith) can_settle refl settling_of_all from_settling none_settles f is can)))
 
   -- ---- the first of the actors that are not set aside
 
@@ -304,7 +341,7 @@ module _ (slots : List Slot) (away : List Bool) (s : State)
     both true false on = cc
     both false c on = cc
 
-    module _ (r : ℕ) (early : r ≤ 1) (round : Round) (is_round : IsRound r (has_event round)) (from : From free r) where
+    module _ (r : ℕ) (early : r ≤ 1) (round : Round) (is_round : IsRound stays r (has_event round)) (from : From free r) where
       none_free : IsNextThat (in_round round) 0 None → From free (suc r)
       none_free none = later stays free of_free r early (has_event round) is_round from
           (λ k plays. off_left (has_event round (slot_at slots k)) (is_aside k) (none k (omega arith)) plays)
@@ -322,7 +359,7 @@ module _ (slots : List Slot) (away : List Bool) (s : State)
 
     -- who acts first of them has their first event
     pub free_acting : (a : ℕ) → IsNextThat (in_round Acting) 0 (Some a) → IsFoundFree (Some a)
-    free_acting = first_free_in 0 (omega arith) Acting acting (λ f is can. omega arith)
+    free_acting = first_free_in 0 (omega arith) Acting (acting stays) (λ f is can. omega arith)
 
     -- and where none acts, who settles first has; where none settles either, they have none
     pub free_settling : IsNextThat (in_round Acting) 0 None → (found : Option ℕ)
@@ -330,10 +367,14 @@ module _ (slots : List Slot) (away : List Bool) (s : State)
     free_settling none found next = by found next
       where
         from : From free 1
-        from = none_free 0 (omega arith) Acting acting (λ f is can. omega arith) none
+        from = none_free 0 (omega arith) Acting (acting stays) (λ f is can. omega arith) none
+
+        settling_of_free : IsRound stays 1 can_settle
+        settling_of_free = settling stays (λ a plays.
+            off_left (can_act (slot_at slots a)) (is_aside a) (none a (omega arith)) plays)
 
         by : (found : Option ℕ) → IsNextThat (in_round Settling) 0 found → IsFoundFree found
-        by (Some a) next = first_free_in 1 (omega arith) Settling settling from a next
+        by (Some a) next = first_free_in 1 (omega arith) Settling settling_of_free from a next
         by None off_all = quiet_of_kind slots away s out same free (λ f is can.
             off (is_of_detector f) (free_not_detector f is)
-            (of_rest f (none_free 1 (omega arith) Settling settling from off_all f is can)))
+            (of_rest f (none_free 1 (omega arith) Settling settling_of_free from off_all f is can)))

@@ -1,10 +1,10 @@
 -- Whom letters wake, one after another.
 use Rattle.std.proofs.Common.{◌≡◌, ◌≢◌, ◌≤◌, ◌⊎◌, inl, inr, ℕ, ◌+◌, Bool, true, false, List, [], ◌∷◌, ◌++◌, length, set, Option, None, Some, refl, sym, ap, subst, ◌∙◌, arith, length-append}
 use Rattle.std.specs.Prelude.{if◌then◌else◌, is_some, min}
+use Rattle.std.proofs.lemmas.Grind.{common_steps}
 use Rattle.std.proofs.lemmas.Bool.{cases_eq, cases_lt}
-use Rattle.std.proofs.lemmas.List.{get_or-set_same, get_or-set_other, length-set, set_past}
+use Rattle.std.proofs.lemmas.List.{get_or-set_other, length-set}
 use Rattle.std.proofs.Math.ListN.{get_or-append}
-use Rattle.behaviour_code.specs.declared.code.Program.{Program}
 use Rattle.letter_kinds.specs.declared.letter.Letter.{Letter}
 use Rattle.count_laws.proofs.events.Every.{length-push}
 use Rattle.machine_laws.proofs.Moving.{push_here, push_other}
@@ -12,7 +12,7 @@ use Rattle.machine_rules.specs.Actors.{Actors, Seat, letters_of, mail_at, push_l
 use Rattle.machine_rules.specs.Cell.{Cell}
 use Rattle.machine_rules.specs.Detect.{empty_seats}
 use Rattle.actor_cell.specs.Pushing.{push_all}
-use Rattle.actor_table.specs.Changes.{changed_at, taken, with_cell_by}
+use Rattle.actor_table.specs.Changes.{changed_at, with_cell_by}
 use Rattle.orca_core.specs.Woken.{IsLowestWoken, IsWoken, lower_of}
 use Rattle.orca_core.proofs.Giving.{emptied, none_emptied, seats_emptied}
 use Rattle.orca_core.proofs.Posting.{push_keeps}
@@ -159,25 +159,9 @@ module _ (to : ℕ) (letter : Letter) (actors : Actors) where
 
 -- ---- what an actor does of itself
 
-module _ (change : Option Seat → Option Seat) (a : ℕ) (actors : Actors) where
-  mail_changed : (P : ℕ → ℕ → Type 0) → ((n : ℕ) → P n n) → P (length (letters_of (change (seat_at actors a)))) (length (mail_at actors a))
-      → (b : ℕ) → P (length (mail_at (changed_at change a actors) b)) (length (mail_at actors b))
-  mail_changed P still its b = elim (cases_lt a (length actors)) as (λ _. P (length (mail_at (changed_at change a actors) b)) (length (mail_at actors b))) [
-    | inl h ↦ elim (cases_eq b a) as (λ _. P (length (mail_at (changed_at change a actors) b)) (length (mail_at actors b))) [
-      | inl same ↦ subst (λ d. P (length (mail_at (changed_at change a actors) d)) (length (mail_at actors d))) (sym same)
-          (subst (λ o. P (length (letters_of o)) (length (mail_at actors a))) (sym (get_or-set_same actors a (change (seat_at actors a)) None h)) its)
-      | inr other ↦ subst (λ o. P (length (letters_of o)) (length (mail_at actors b))) (sym (get_or-set_other actors a b (change (seat_at actors a)) None other)) (still (length (mail_at actors b)))
-    ]
-    | inr past ↦ subst (λ xs. P (length (mail_at xs b)) (length (mail_at actors b))) (sym (set_past actors a (change (seat_at actors a)) past)) (still (length (mail_at actors b)))
-  ]
-
-cell_changed : (change : Cell → Cell) (o : Option Seat) → length (letters_of (with_cell_by change o)) ≡ length (letters_of o)
-cell_changed change None = refl
-cell_changed change (Some o) = refl
-
-pub same_mail : (change : Cell → Cell) (a : ℕ) (actors : Actors) (b : ℕ)
+same_mail : (change : Cell → Cell) (a : ℕ) (actors : Actors) (b : ℕ)
     → length (mail_at (changed_at (with_cell_by change) a actors) b) ≡ length (mail_at actors b)
-same_mail change a actors b = mail_changed (with_cell_by change) a actors (λ n m. n ≡ m) (λ n. refl) (cell_changed change (seat_at actors a)) b
+same_mail change a actors b = grind (arith, common_steps)
 
 -- where a cell changes first
 pub woken_changed : (change : Cell → Cell) (a : ℕ) (old mid new : Actors) (lowest : Option ℕ) → mid ≡ changed_at (with_cell_by change) a old
@@ -191,24 +175,6 @@ pub none_woken_by : (change : Cell → Cell) (a : ℕ) (old new : Actors) → ne
 none_woken_by change a old new is = none_woken old new
     (ap length is ∙ length-set old a (with_cell_by change (seat_at old a)))
     (λ b. omega (arith, ap (λ xs. length (mail_at xs b)) is, same_mail change a old b))
-
-letters_taken : (program : Program) (a : ℕ) (c : Cell) (letters : List Letter) → length (letters_of (taken program a (Some (record { cell = c; mail = letters })))) ≤ length letters
-letters_taken program a c [] = omega arith
-letters_taken program a c (letter ∷ later) = omega arith
-
-mail_taken : (program : Program) (a : ℕ) (o : Option Seat) → length (letters_of (taken program a o)) ≤ length (letters_of o)
-mail_taken program a None = omega arith
-mail_taken program a (Some o) = letters_taken program a o.cell o.mail
-
--- where a letter is taken
-pub take_wakes_none : (program : Program) (a : ℕ) (old new : Actors) → new ≡ changed_at (taken program a) a old → IsLowestWoken old new None
-take_wakes_none program a old new is = none_woken old new
-    (ap length is ∙ length-set old a (taken program a (seat_at old a)))
-    (λ b. omega (
-      arith,
-      ap (λ xs. length (mail_at xs b)) is,
-      mail_changed (taken program a) a old (λ n m. n ≤ m) (λ n. omega arith) (mail_taken program a (seat_at old a)) b,
-    ))
 
 -- ---- actors go, and letters follow
 

@@ -12,8 +12,7 @@ use Rattle.turn_rules.specs.Segment.{Turn}
 use Rattle.machine_rules.specs.Cell.{fresh_cell}
 use Rattle.machine_rules.specs.State.{State}
 use Rattle.actor_cell.specs.declared.cell.Cell.{Cell}
-use Rattle.actor_cell.specs.declared.turning.Move.{Move}
-use Rattle.actor_cell.specs.declared.turning.Move.TheVariants.{Post, Mint, New, Print, End}
+use Rattle.actor_cell.specs.Moves.{Move, Post, Mint, New, Print, End, act_in}
 use Rattle.actor_cell.specs.declared.turning.Turned.{Turned}
 use Rattle.actor_cell.specs.Cells.{as_cell, settled}
 use Rattle.actor_cell.specs.Goes.{CanMove, new_entries, turned_in}
@@ -43,7 +42,7 @@ HasRoomOut End m = ⊤
 abbrev pub IsFoundGo : Trace → ℕ → Program → ℕ → Turn → Turned → Cell → Type 0
 IsFoundGo trace weight program a turn found c =
     option_map (turned_in trace weight program a (as_cell c)) c.frame
-    ≡ Some (record { turn = turn; place = found.place; act = found.act })
+    ≡ Some (record { turn = turn; place = found.place; act = act_in found })
 
 -- no turn was found: no cell is at home that has a frame, or memory was refused
 abbrev pub NotGoing : Slot → StepFault → Type 0
@@ -59,11 +58,11 @@ pub record FitsGo (trace : Trace) (weight : ℕ) (program : Program) (a : ℕ) (
   pub frame : Frame
   pub framed : cell.frame ≡ Some frame
   pub found_is : turned_in trace weight program a (as_cell cell) frame
-      ≡ record { turn = m.turn; place = found.place; act = found.act }
+      ≡ record { turn = m.turn; place = found.place; act = act_in found }
   pub few : length m.turn.made ≤ BODY_LIMIT
   pub objects : length m.turn.made ≤ cell.heap.spare
-  pub entries : new_entries found.act cell.foreign.entries ≤ cell.foreign.spare
-  pub room : HasRoomOut found.act m
+  pub entries : new_entries (act_in found) cell.foreign.entries ≤ cell.foreign.spare
+  pub room : HasRoomOut (act_in found) m
 
 -- the actor's counts and serials allow it, and it holds nothing of the actor that is made next
 pub record CountsAllow (a : ℕ) (act : Move) (parts : Parts) (c : Cell) : Type 0 where

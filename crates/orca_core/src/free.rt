@@ -22,8 +22,8 @@ pub trait SetAside {
         ensures { result ≡ is_aside self.now a };
 }
 
-// The first actor that has an event in the round and is not set aside. It looks at no actor but those
-// that have one and are.
+// The first actor that is not set aside and has an event in the round once it has none in the round
+// before. It looks at no actor but those that have one and are set aside.
 fn first_in<S: SetAside>(table: &ActorTable, round: Round, aside: &S) -> Option<ActorName>
     ensures { IsNextThat
         (λ a. has_event round (slot_at table.now.slots a) && not (S.is_aside aside.now a)) 0 result }

@@ -7,7 +7,7 @@ ghost use Rattle.orca_names.specs.declared.trace.Trace.{Trace as tracing};
 ghost use Rattle.behaviour_code.specs.declared.code.Program.{Program};
 ghost use Rattle.event_rule.specs.Runs.{Goes};
 ghost use Rattle.event_rule.specs.declared.event.Event.TheVariants.{Go as go_event};
-ghost use Rattle.machine_rules.specs.Actors.{seat};
+ghost use Rattle.machine_rules.specs.Actors.{push_letter, seat};
 ghost use Rattle.machine_rules.specs.Cell.{fresh_cell};
 ghost use Rattle.machine_rules.specs.Next.{next};
 ghost use Rattle.machine_rules.specs.Options.{Options};
@@ -18,25 +18,26 @@ ghost use Rattle.actor_table.specs.Changes.{CanSettleNew, HasCell, changed_at, w
 ghost use Rattle.actor_table.specs.Slots.{actors_of, away_of, places_of, slot_at};
 ghost use Rattle.ref_weights.specs.Limit.{count_limit};
 ghost use Rattle.actor_cell.specs.Goes.{out_of};
+ghost use Rattle.actor_cell.specs.Moves.{act_in};
+ghost use Rattle.letter_kinds.specs.declared.letter.Letter.TheVariants.{App as app, Inc as inc};
 ghost use Rattle.orca_core.specs.Away.{KeepsAway, next_without};
 ghost use Rattle.orca_core.specs.Faults.{IsFault};
 ghost use Rattle.orca_core.specs.Fits.{OnlyRoom};
-ghost use Rattle.orca_core.specs.Goes.{CanNameNew, CountsAllow, FitsGo, HasRoomOut, IsFoundGo, NotGoing, given};
+ghost use Rattle.orca_core.specs.Goes.{CanNameNew, CountsAllow, FitsGo, HasRoomForOne, HasRoomOut, IsFoundGo, NotGoing, given};
 ghost use Rattle.orca_core.specs.Parts.{state_of};
 ghost use Rattle.orca_core.specs.Woken.{IsLowestWoken};
 
 use crate::fault::StepFault;
 use crate::letters::post;
 use crate::parts::Parts;
-use actor_cell::{Cell, Move, Turned};
+use actor_cell::{Cell, Doing, Turned};
 use actor_table::ActorTable;
 use behaviour_check::Checked;
+use behaviour_code::Name;
 use letter_kinds::Letter;
 use mail_rows::MailRow;
 use orca_names::{ACTORS_LIMIT, ActorName, NoMemory, Trace};
-use plain_list::Listed;
 use std::alloc::Global;
-use std::mem;
 use turn_step::Turn;
 
 // What is found of the actor's turn, in this room for a turn.
@@ -72,32 +73,32 @@ fn find_go(
 // Takes the memory for what the act that was found gives out.
 #[inline(always)]
 fn reserve_out(parts: &mut Parts) -> Result<(), NoMemory>
-    requires { IsSome (out_of parts.old.turned.act).made → length parts.old.table.slots < ACTORS_LIMIT }
+    requires { IsSome (out_of (act_in parts.old.turned)).made → length parts.old.table.slots < ACTORS_LIMIT }
     ensures same { OnlyRoom parts.old parts.new }
     ensures places { places_of parts.new.table.slots ≡ places_of parts.old.table.slots }
     ensures turn { parts.new.turn ≡ parts.old.turn }
     ensures turned { parts.new.turned ≡ parts.old.turned }
-    ensures ok { OnOk result (HasRoomOut parts.old.turned.act parts.new) }
+    ensures ok { OnOk result (HasRoomOut (act_in parts.old.turned) parts.new) }
 {
-    match &parts.turned.act {
-        Move::Post { to, letter: _ } => parts.table.reserve_letters(*to, 1),
-        Move::Mint { owner, things: _ } => parts.table.reserve_letters(*owner, 1),
-        Move::New {
+    match &parts.turned.doing {
+        Doing::Post { to, behaviour: _ } => parts.table.reserve_letters(*to, 1),
+        Doing::Mint { owner } => parts.table.reserve_letters(*owner, 1),
+        Doing::New {
             kind: _,
             register: _,
         } => parts.table.reserve_actor(),
-        Move::Print { value: _ } => Ok(parts.prints.reserve(1)?),
-        Move::End => Ok(()),
+        Doing::Print { value: _ } => Ok(parts.prints.reserve(1)?),
+        Doing::End => Ok(()),
     }
 }
 
-// Whether the act makes an actor.
-fn makes(act: &Move) -> bool
-    ensures { result ≡ is_some (out_of act.now).made }
+// Whether what was found makes an actor.
+fn makes(found: &Turned) -> bool
+    ensures { result ≡ is_some (out_of (act_in found.now)).made }
 {
     matches!(
-        act,
-        Move::New {
+        found.doing,
+        Doing::New {
             kind: _,
             register: _
         }
@@ -122,7 +123,7 @@ pub(crate) fn prepare_turn(parts: &mut Parts, a: ActorName) -> Result<(), StepFa
         let s = state_of program options parts.old in
         IfErr result (IsFault (next_without (away_of parts.old.table.slots) s (go_event a)) (go_event a)) }
 {
-    if makes(&parts.turned.act) && parts.table.len() >= ACTORS_LIMIT {
+    if makes(&parts.turned) && parts.table.len() >= ACTORS_LIMIT {
         return Err(StepFault::ActorsFull { actor: a });
     }
     if parts
@@ -208,6 +209,43 @@ fn make(
     name
 }
 
+// The letter that was found moves to its actor, which is told where it is present.
+#[inline(always)]
+fn post_letter(
+    alloc: Global,
+    table: &mut ActorTable,
+    found: &mut Turned,
+    to: ActorName,
+    behaviour: Name,
+) -> Option<ActorName>
+    requires { HasRoomForOne to table.old.slots }
+    ensures actors { actors_of table.new.slots
+        ≡ push_letter to (app behaviour found.old.args found.old.load found.old.rows)
+        (actors_of table.old.slots) }
+    ensures away { away_of table.new.slots ≡ away_of table.old.slots }
+    ensures woken { IsLowestWoken (actors_of table.old.slots) (actors_of table.new.slots) result }
+{
+    post(table, to, found.take_letter(alloc, behaviour))
+}
+
+// What is minted is told to its owner, which is told where it is present.
+#[inline(always)]
+fn post_things(
+    alloc: Global,
+    table: &mut ActorTable,
+    found: &mut Turned,
+    owner: ActorName,
+) -> Option<ActorName>
+    requires { HasRoomForOne owner table.old.slots }
+    ensures actors { actors_of table.new.slots
+        ≡ push_letter owner (inc found.old.things) (actors_of table.old.slots) }
+    ensures away { away_of table.new.slots ≡ away_of table.old.slots }
+    ensures woken { IsLowestWoken (actors_of table.old.slots) (actors_of table.new.slots) result }
+{
+    let things = found.take_things(alloc);
+    post(table, owner, Letter::Inc { things })
+}
+
 // What the actor does where its turn stopped is given out, and the actor that gets it or is made is
 // told. What was found stays where it is but for a letter or its things, which move out.
 fn give_out(
@@ -218,41 +256,40 @@ fn give_out(
     a: ActorName,
 ) -> Option<ActorName>
     requires light { weight < count_limit }
-    requires room { HasRoomOut parts.old.turned.act parts.old }
-    requires can { CanNameNew weight a parts.old.turned.act parts.old.table.slots }
+    requires room { HasRoomOut (act_in parts.old.turned) parts.old }
+    requires can { CanNameNew weight a (act_in parts.old.turned) parts.old.table.slots }
     requires objects { parts.old.objects + length parts.old.turn.made < 2 ^ 64 }
     ensures state { (options : Options) → state_of code.now options parts.new
-        ≡ given weight code.now a parts.old.turned.act (length parts.old.turn.made)
+        ≡ given weight code.now a (act_in parts.old.turned) (length parts.old.turn.made)
         (state_of code.now options parts.old) }
     ensures away { KeepsAway (away_of parts.old.table.slots) (away_of parts.new.table.slots) }
     ensures woken { IsLowestWoken (actors_of parts.old.table.slots) (actors_of parts.new.table.slots) result }
 {
-    match &mut parts.turned.act {
-        Move::Post { to, letter } => {
+    match &parts.turned.doing {
+        Doing::Post { to, behaviour } => {
             let to = *to;
-            let letter = mem::replace(letter, Letter::Confirm { token: 0 });
+            let behaviour = *behaviour;
             parts.count_made();
-            post(&mut parts.table, to, letter)
+            post_letter(alloc, &mut parts.table, &mut parts.turned, to, behaviour)
         }
-        Move::Mint { owner, things } => {
+        Doing::Mint { owner } => {
             let owner = *owner;
-            let things = mem::replace(things, Listed::new(alloc));
-            post(&mut parts.table, owner, Letter::Inc { things })
+            post_things(alloc, &mut parts.table, &mut parts.turned, owner)
         }
-        Move::New { kind, register } => {
+        Doing::New { kind, register } => {
             let kind = *kind;
             let register = *register;
             parts.count_made();
             let name = make(alloc, code, weight, &mut parts.table, a, kind, register);
             Some(name)
         }
-        Move::Print { value } => {
+        Doing::Print { value } => {
             let value = *value;
             parts.count_made();
             parts.prints.push_reserved(value);
             None
         }
-        Move::End => {
+        Doing::End => {
             parts.count_made();
             None
         }
@@ -272,7 +309,7 @@ pub(crate) fn apply_go(
     requires light { weight ≤ 65536 }
     requires fits { FitsGo trace weight code.now a parts.old.turned parts.old }
     requires can { (c : a_cell) → (slot_at parts.old.table.slots a).place ≡ Home c
-        → CountsAllow a parts.old.turned.act parts.old c }
+        → CountsAllow a (act_in parts.old.turned) parts.old c }
     requires objects { parts.old.objects + BODY_LIMIT < 2 ^ 64 }
     ensures state { (options : Options) → options.weight ≡ weight → options.trace ≡ trace
         → next (state_of code.now options parts.old) (go_event a)

@@ -127,7 +127,7 @@ impl<'a> Orca<'a> {
                 prints: Vec::new(alloc),
                 objects: 0,
                 turn: Turn::new(alloc),
-                turned: Turned::new(),
+                turned: Turned::new(alloc),
                 sweep: Sweep::new(alloc),
                 letters: Vec::new(alloc),
                 report: None,

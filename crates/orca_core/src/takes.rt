@@ -53,8 +53,9 @@ pub(crate) fn apply_take(code: &Checked, parts: &mut Parts, a: ActorName) -> Opt
     ensures away { away_of parts.new.table.slots ≡ away_of parts.old.table.slots }
     ensures woken { IsLowestWoken (actors_of parts.old.table.slots) (actors_of parts.new.table.slots) result }
 {
-    if let Some(note) = parts.table.take(code, a) {
+    if let Some(note) = parts.table.note_on(a) {
         parts.notes.push_back_reserved(note);
     }
+    parts.table.take(code, a);
     None
 }

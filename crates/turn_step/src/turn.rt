@@ -122,7 +122,11 @@ impl Turn {
         ensures { args.new ≡ args.old ++ map (value_at self.now) numbers.now }
     {
         for r in numbers {
-            args.push(self.value(*r));
+            // Each way pushes for itself, so that a value is copied once.
+            match self.registers.as_slice().get(*r as usize) {
+                Some(value) => args.push(*value),
+                None => args.push(Value::Null),
+            }
         }
     }
 

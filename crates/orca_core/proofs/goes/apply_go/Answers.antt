@@ -3,6 +3,7 @@ use Rattle.std.proofs.lemmas.List.{length-map}
 use Rattle.event_rule.specs.Runs.{Goes}
 use Rattle.actor_cell.specs.Goes.{turned_in}
 use Rattle.actor_cell.specs.Cells.{as_cell}
+use Rattle.actor_cell.specs.Moves.{act_in}
 use Rattle.actor_table.specs.Slots.{actors_of, seat_of, slot_at}
 use Rattle.actor_table.specs.Changes.{changed_at, moved, with_cell_by}
 use Rattle.actor_table.proofs.Changing.{home_within}
@@ -35,7 +36,7 @@ give_out-requires-clause-can c =
     let a = c.args.a in
     can_name c.args.weight a fits.cell fits.frame c.args.parts.now.turn c.args.parts.now.turned.place (slot_at slots a).mail.letters slots c.go.new.self.slots
     (seat_here slots a fits.cell fits.home) fits.framed (c.requires.can fits.cell fits.home).unnamed (home_within slots a fits.cell fits.home) c.requires.light
-    c.args.parts.now.turned.act c.go.ensures.actors c.go.ensures.entry
+    (act_in c.args.parts.now.turned) c.go.ensures.actors c.go.ensures.entry
 
 pub returns-clause-state : goal.returns-clause-state
 returns-clause-state c = λ options weight trace.
@@ -45,7 +46,7 @@ returns-clause-state c = λ options weight trace.
     let s = state_of c.args.code.now options c.args.parts.now in
     let cell = as_cell fits.cell in
     let program = c.args.code.now in
-    let act = c.args.parts.now.turned.act in
+    let act = (act_in c.args.parts.now.turned) in
     let made = length c.args.parts.now.turn.made in
     go_goes s a cell (slot_at slots a).mail.letters fits.frame c.args.parts.now.turn c.args.parts.now.turned.place act
     (record {
@@ -61,5 +62,5 @@ returns-clause-state c = λ options weight trace.
 
 pub returns-clause-woken : goal.returns-clause-woken
 returns-clause-woken c =
-    woken_changed (moved c.args.a c.args.parts.now.turn c.args.parts.now.turned.place c.args.parts.now.turned.act) c.args.a (actors_of c.args.parts.now.table.slots)
+    woken_changed (moved c.args.a c.args.parts.now.turn c.args.parts.now.turned.place (act_in c.args.parts.now.turned)) c.args.a (actors_of c.args.parts.now.table.slots)
     (actors_of c.go.new.self.slots) (actors_of c.give_out.new.parts.table.slots) c.give_out.result c.go.ensures.actors c.give_out.ensures.woken

@@ -1,7 +1,7 @@
-use Rattle.std.proofs.Common.{List, ap, refl}
+use Rattle.std.proofs.Common.{ap, refl}
 use Rattle.actor_table.specs.Slots.{Table}
 use Rattle.actor_table.specs.declared.rounds.Round.TheVariants.{Acting, Settling}
-use Rattle.actor_table.proofs.Nexts.{IsNamed, named}
+use Rattle.actor_table.proofs.Nexts.{named}
 use Rattle.actor_table.proofs.table.ActorTable.next_in.Goals as goal
 
 pub returns-in-Acting : goal.returns-in-Acting
