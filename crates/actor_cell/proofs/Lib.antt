@@ -14,3 +14,4 @@ pub mod Raising
 pub mod Registers
 pub mod Reporting
 pub mod Swept
+pub mod Telling

@@ -1,5 +1,5 @@
 -- What a turn of an actor does.
-use Rattle.std.specs.Prelude.{ℕ, ◌<◌, ⊤, true, List, [], ◌∷◌, Option, Some, None, option_map, map, IsSomeAnd}
+use Rattle.std.specs.Prelude.{ℕ, ◌≡◌, ◌<◌, ⊤, true, List, [], ◌∷◌, Option, Some, None, option_map, map, IsSomeAnd}
 use Rattle.orca_names.specs.Names.{owner_of}
 use Rattle.orca_names.specs.declared.trace.Trace.{Trace}
 use Rattle.orca_names.specs.declared.limits.TheConstants.{REGISTERS}
@@ -20,7 +20,7 @@ use Rattle.machine_rules.specs.Cell.{Cell}
 use Rattle.machine_rules.specs.Go.{lacking_from, load_from, needed, rows_from, to_need, turn_of_cell}
 use Rattle.actor_cell.specs.Can.{CanMint}
 use Rattle.actor_cell.specs.declared.out.Out.{Out}
-use Rattle.actor_cell.specs.Moves.{Move, Post, Mint, New, Print, End}
+use Rattle.actor_cell.specs.Moves.{Move, Post, Mint, New, Print, End, Rest}
 
 -- ---- what is found
 
@@ -85,6 +85,28 @@ turned_in trace weight program me c frame =
     turned_or_needs trace weight me c frame (needed trace program me c frame)
     (turn_of_cell trace program me c frame)
 
+-- ---- what the code tells of it
+
+-- the turn: where the behaviour rests, its registers and fields are not copied
+abbrev pub told_turn : Frame → Cell → Turn → Move → Turn
+told_turn frame c turn Rest =
+    record { registers = frame.registers; fields = c.fields; made = turn.made }
+told_turn frame c turn act = turn
+
+-- what the actor does
+abbrev pub told_act : Move → Move
+told_act Rest = End
+told_act act = act
+
+abbrev pub told : Frame → Cell → Turn → ℕ → Move → Turned
+told frame c turn place act =
+    record { turn = told_turn frame c turn act; place = place; act = told_act act }
+
+-- this is told of the turn of an actor in this frame
+abbrev pub IsTold : Trace → ℕ → Program → ℕ → Cell → Turn → ℕ → Move → Frame → Type 0
+IsTold trace weight program me c turn place act frame =
+    turned_in trace weight program me c frame ≡ told frame c turn place act
+
 -- ---- what it changes
 
 abbrev pub load_in : Letter → List Loaded
@@ -117,6 +139,8 @@ cell_by me c frame turn place (New kind register) =
     cell_kept turn (Some (frame_left frame turn place)) c
 cell_by me c frame turn place (Print value) = cell_kept turn (Some (frame_left frame turn place)) c
 cell_by me c frame turn place End = record (cell_kept turn None c) { dirty = true }
+cell_by me c frame turn place Rest =
+    record c { frame = None; holdings = with_made turn.made c.holdings; dirty = true }
 
 -- how many entries the table of what is held needs room for: what is minted may not be held yet,
 -- and a new actor gets one when it has its name
@@ -126,6 +150,7 @@ new_entries (Mint owner things) entries = count_unheld things entries
 new_entries (New kind register) entries = 1
 new_entries (Print value) entries = 0
 new_entries End entries = 0
+new_entries Rest entries = 0
 
 -- ---- what it gives out
 
@@ -138,6 +163,7 @@ out_of (New kind register) =
     record { letters = []; notes = []; print = None; made = Some (kind, register) }
 out_of (Print value) = record { letters = []; notes = []; print = Some value; made = None }
 out_of End = record { letters = []; notes = []; print = None; made = None }
+out_of Rest = record { letters = []; notes = []; print = None; made = None }
 
 -- ---- together: what a go leads to, where there is a frame
 
@@ -163,6 +189,7 @@ CanMove me h turn (Mint owner things) = CanMint things h
 CanMove me h turn (New kind register) = ⊤
 CanMove me h turn (Print value) = ⊤
 CanMove me h turn End = ⊤
+CanMove me h turn Rest = ⊤
 
 -- there is a frame, and what it does is allowed
 abbrev pub CanGo : Trace → ℕ → Program → ℕ → Cell → Type 0

@@ -1,3 +1,4 @@
+pub mod Awaiting
 pub mod Can
 pub mod Cells
 pub mod Founds

@@ -19,6 +19,8 @@ pub data Move : Type 0 where
   Print : Value → Move
   -- its behaviour ends
   End : Move
+  -- its behaviour ends, and its turn leaves registers and fields as they were
+  Rest : Move
 
 -- with what stands beside what it does
 abbrev pub move_of : Doing → List Value → List Loaded → List Loaded → List Amount → Move
@@ -27,6 +29,7 @@ move_of (doing.Mint owner) args load rows things = Mint owner things
 move_of (doing.New kind register) args load rows things = New kind register
 move_of (doing.Print value) args load rows things = Print value
 move_of doing.End args load rows things = End
+move_of doing.Rest args load rows things = Rest
 
 -- what was found
 abbrev pub act_in : Turned → Move

@@ -98,6 +98,7 @@ impl Cell {
     }
 
     // The fields and the rows of a turn are its own now.
+    #[inline(always)]
     fn keep_turn(&mut self, turn: &Turn)
         requires room { length turn.now.made ≤ self.old.heap.spare }
         requires serials { self.old.heap.next + length turn.now.made < 2 ^ 64 }
@@ -106,7 +107,7 @@ impl Cell {
         ensures foreign { self.new.foreign ≡ self.old.foreign }
     {
         make_all(&mut self.heap, turn.made());
-        self.fields = *turn.fields();
+        self.fields.copy_from(turn.fields());
     }
 
     // Its frame stands where the turn stopped.
@@ -179,6 +180,11 @@ impl Cell {
             }
             Doing::End => {
                 self.keep_turn(turn);
+                self.frame.end();
+                self.dirty = true;
+            }
+            Doing::Rest => {
+                make_all(&mut self.heap, turn.made());
                 self.frame.end();
                 self.dirty = true;
             }

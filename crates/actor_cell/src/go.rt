@@ -1,12 +1,14 @@
 // Go: a frame runs up to its next act.
 
-ghost use Rattle.std.specs.Prelude.{◌≡◌, ◌+◌, ◌<◌, ◌≤◌, ◌^◌, IfOk, IsSome, IsTrue, OnOk, Some, length, map, option_map};
+ghost use Rattle.std.specs.Prelude.{◌≡◌, ◌+◌, ◌<◌, ◌≤◌, ◌^◌, IfOk, IfSome, IsSome, IsSomeAnd, IsTrue, None, OnOk, length, map};
 ghost use Rattle.orca_names.specs.Names.{owner_of};
 ghost use Rattle.orca_names.specs.declared.trace.Trace.TheVariants.{Deep as deep};
 ghost use Rattle.machine_rules.specs.Go.{lacking_from, load_from, needed, rows_from, to_need, turn_of_cell};
 ghost use Rattle.turn_step.specs.Turns.{HaltsAt, act_of};
+ghost use Rattle.turn_rules.specs.declared.act.Act.TheVariants.{Post as sends};
+ghost use Rattle.actor_cell.specs.Awaiting.{Awaits, AwaitsAt, AwaitsIn};
 ghost use Rattle.actor_cell.specs.Cells.{as_cell};
-ghost use Rattle.actor_cell.specs.Goes.{having_made, move_by, post_or_mint, things_from, turned_in, FitsRegister};
+ghost use Rattle.actor_cell.specs.Goes.{having_made, move_by, post_or_mint, things_from, FitsRegister, IsTold};
 ghost use Rattle.actor_cell.specs.InTurn.{table_by};
 ghost use Rattle.actor_cell.specs.Moves.{act_in, Mint as mint, Post as posted};
 ghost use Rattle.letter_kinds.specs.declared.letter.Letter.TheVariants.{App as app};
@@ -14,7 +16,7 @@ ghost use Rattle.letter_kinds.specs.Holdings.{with_made};
 
 use crate::cell::Cell;
 use crate::holding::Holding;
-use crate::turning::{Doing, Turned};
+use crate::turning::{Awaited, Doing, Turned};
 use behaviour_check::Checked;
 use behaviour_code::Name;
 use foreign_table::ForeignTable;
@@ -27,7 +29,7 @@ use root_trace::missing;
 use std::alloc::Global;
 use trace_send::{lacking, lacks_any};
 use turn_rules::Frame;
-use turn_step::{Deed, Halt, Setting, Turn, segment_at, segment_held_at};
+use turn_step::{Deed, Halt, Setting, Turn, rests_at, segment_at, segment_held_at};
 
 // Each of these things with the weight.
 fn amounts_of(alloc: Global, things: &[Thing], weight: u32) -> Result<Amounts, NoMemory>
@@ -51,6 +53,23 @@ fn things_of(alloc: Global, load: &Load) -> Result<Listed<Thing>, NoMemory>
     Ok(things)
 }
 
+// The letter that the actor awaits, by deep tracing: otherwise what it mints may be what its turn needs.
+#[inline(always)]
+fn awaited(trace: Trace, actor: ActorName, to: ActorName, behaviour: Name) -> Option<Awaited>
+    ensures deep { IfSome result (λ letter. trace ≡ deep) }
+    ensures letter { IfSome result (λ letter. letter
+        ≡ record { actor = actor; to = to; behaviour = behaviour }) }
+{
+    match trace {
+        Trace::Deep => Some(Awaited {
+            actor,
+            to,
+            behaviour,
+        }),
+        Trace::Roots => None,
+    }
+}
+
 impl Cell {
     // The letter of a deep trace with the arguments found, its load by places, or what it mints first;
     // `false` where places do not serve.
@@ -71,6 +90,7 @@ impl Cell {
             (load_from deep me c.holdings args) (rows_from deep me c args)
             (lacking_from deep me c.holdings args)) }
         ensures args { found.new.args ≡ found.old.args }
+        ensures awaited { found.new.awaited ≡ found.old.awaited }
     {
         let Some(load) = self.load_of_many(alloc, made, &found.args)? else {
             return Ok(false);
@@ -105,16 +125,56 @@ impl Cell {
     ) -> Result<(), NoMemory>
         requires { let h = with_made made.now (as_cell self.now).holdings in
             found.old.seen ≡ things_from trace self.now.heap.owner h found.old.args }
-        ensures { let me = self.now.heap.owner in
+        ensures act { let me = self.now.heap.owner in
             let c = having_made made.now (as_cell self.now) in
             let args = found.old.args in
             OnOk result (act_in found.new ≡ posted to (app behaviour args
             (load_from trace me c.holdings args) (rows_from trace me c args))) }
+        ensures awaited { found.new.awaited ≡ found.old.awaited }
+        ensures place { found.new.place ≡ found.old.place }
     {
         found.load = self.load(alloc, trace, made, found.seen.as_slice())?;
         found.rows = self.carried(alloc, trace, made, &found.args)?;
         found.doing = Doing::Post { to, behaviour };
         Ok(())
+    }
+
+    // The letter with the arguments and the things found, its load and its rows, or what it mints first;
+    // it is awaited then.
+    #[inline(always)]
+    fn posting_found(
+        &self,
+        alloc: Global,
+        weight: u32,
+        trace: Trace,
+        made: &[Row],
+        to: ActorName,
+        behaviour: Name,
+        found: &mut Turned,
+    ) -> Result<(), NoMemory>
+        requires things { let h = with_made made.now (as_cell self.now).holdings in
+            found.old.seen ≡ things_from trace self.now.heap.owner h found.old.args }
+        requires none { found.old.awaited ≡ None }
+        ensures act { let me = self.now.heap.owner in
+            let c = having_made made.now (as_cell self.now) in
+            let args = found.old.args in
+            OnOk result (act_in found.new ≡ post_or_mint weight to behaviour args
+            (load_from trace me c.holdings args) (rows_from trace me c args)
+            (lacking_from trace me c.holdings args)) }
+        ensures awaited { let h = with_made made.now (as_cell self.now).holdings in
+            OnOk result (AwaitsIn trace self.now.heap.owner h (sends to behaviour found.old.args) found.new) }
+        ensures place { found.new.place ≡ found.old.place }
+    {
+        let me = self.heap.owner();
+        match lacking(alloc, found.seen.as_slice(), me, &self.foreign, weight)? {
+            Some(minted) => {
+                found.things = minted.1;
+                found.doing = Doing::Mint { owner: minted.0 };
+                found.awaited = awaited(trace, me, to, behaviour);
+                Ok(())
+            }
+            None => self.post(alloc, trace, made, to, behaviour, found),
+        }
     }
 
     // The letter with the arguments found, its load and its rows, or what it mints first, by a list of
@@ -130,23 +190,18 @@ impl Cell {
         behaviour: Name,
         found: &mut Turned,
     ) -> Result<(), NoMemory>
-        ensures { let me = self.now.heap.owner in
+        requires { found.old.awaited ≡ None }
+        ensures act { let me = self.now.heap.owner in
             let c = having_made made.now (as_cell self.now) in
             let args = found.old.args in
             OnOk result (act_in found.new ≡ post_or_mint weight to behaviour args
             (load_from trace me c.holdings args) (rows_from trace me c args)
             (lacking_from trace me c.holdings args)) }
+        ensures awaited { let h = with_made made.now (as_cell self.now).holdings in
+            OnOk result (AwaitsIn trace self.now.heap.owner h (sends to behaviour found.old.args) found.new) }
     {
         self.find_things(alloc, trace, made, &found.args, &mut found.seen)?;
-        let me = self.heap.owner();
-        match lacking(alloc, found.seen.as_slice(), me, &self.foreign, weight)? {
-            Some(minted) => {
-                found.things = minted.1;
-                found.doing = Doing::Mint { owner: minted.0 };
-                Ok(())
-            }
-            None => self.post(alloc, trace, made, to, behaviour, found),
-        }
+        self.posting_found(alloc, weight, trace, made, to, behaviour, found)
     }
 
     // The letter with the arguments found, its load and its rows, or what it mints first.
@@ -160,12 +215,15 @@ impl Cell {
         behaviour: Name,
         found: &mut Turned,
     ) -> Result<(), NoMemory>
-        ensures { let me = self.now.heap.owner in
+        requires { found.old.awaited ≡ None }
+        ensures act { let me = self.now.heap.owner in
             let c = having_made made.now (as_cell self.now) in
             let args = found.old.args in
             OnOk result (act_in found.new ≡ post_or_mint weight to behaviour args
             (load_from trace me c.holdings args) (rows_from trace me c args)
             (lacking_from trace me c.holdings args)) }
+        ensures awaited { let h = with_made made.now (as_cell self.now).holdings in
+            OnOk result (AwaitsIn trace self.now.heap.owner h (sends to behaviour found.old.args) found.new) }
     {
         if self.reaches_many(trace, made, &found.args) {
             let done = self.posting_many(alloc, weight, made, to, behaviour, found)?;
@@ -186,10 +244,13 @@ impl Cell {
         deed: &Deed<'_>,
         found: &mut Turned,
     ) -> Result<(), NoMemory>
-        requires { FitsRegister (act_of deed.now turn.now) }
-        ensures { let me = self.now.heap.owner in
+        requires register { FitsRegister (act_of deed.now turn.now) }
+        requires none { found.old.awaited ≡ None }
+        ensures act { let me = self.now.heap.owner in
             let c = having_made turn.now.made (as_cell self.now) in
             OnOk result (act_in found.new ≡ move_by trace weight me c (act_of deed.now turn.now)) }
+        ensures awaited { let h = with_made turn.now.made (as_cell self.now).holdings in
+            OnOk result (AwaitsIn trace self.now.heap.owner h (act_of deed.now turn.now) found.new) }
     {
         match *deed {
             Deed::Post {
@@ -226,9 +287,10 @@ impl Cell {
         thing: &Thing,
         found: &mut Turned,
     ) -> Result<(), NoMemory>
-        ensures { let h = (as_cell self.now).holdings in
+        ensures act { let h = (as_cell self.now).holdings in
             let things = to_need weight self.now.heap.owner h thing.now in
             OnOk result (act_in found.new ≡ mint (owner_of thing.now) things) }
+        ensures awaited { found.new.awaited ≡ found.old.awaited }
     {
         let lacked = missing(alloc, thing, self.heap.owner(), &self.foreign)?;
         found.things = amounts_of(alloc, lacked.as_slice(), weight)?;
@@ -289,6 +351,7 @@ impl Cell {
     }
 
     /// Evaluates its turn: what this leaves stands in `turn` then, and what was found of it in `found`.
+    /// Whether a letter is awaited then is left open.
     ///
     /// # Errors
     /// `NoMemory` where memory was refused; what `turn` and `found` hold then is left open.
@@ -304,16 +367,25 @@ impl Cell {
         requires running { IsSome self.now.frame }
         requires serials { self.now.heap.next + 1024 < 2 ^ 64 }
         ensures found { let me = self.now.heap.owner in
-            let its_turn = turned_in trace weight code.now me (as_cell self.now) in
-            OnOk result (option_map its_turn self.now.frame
-            ≡ Some (record { turn = turn.new; place = found.new.place; act = act_in found.new })) }
+            let does = act_in found.new in
+            let tells = IsTold trace weight code.now me (as_cell self.now) turn.new found.new.place does in
+            OnOk result (IsSomeAnd self.now.frame tells) }
         ensures few { OnOk result (length turn.new.made ≤ 1024) }
+        ensures awaited { let me = self.now.heap.owner in
+            OnOk result (AwaitsAt trace code.now me (as_cell self.now) turn.new found.new) }
     {
+        found.forget_letter();
         let Some(frame) = self.frame.get() else {
             unreachable!();
         };
         // A checked program makes actors into registers that there are.
         let _program = code.program();
+        if let Some(place) = rests_at(code, frame) {
+            turn.clear_made();
+            found.place = place;
+            found.doing = Doing::Rest;
+            return Ok(());
+        }
         match self.run_turn(code, trace, frame, turn) {
             Ok(halt) => match halt {
                 Halt::Stops(stop) => {
@@ -330,5 +402,41 @@ impl Cell {
             },
             Err(e) => Err(e),
         }
+    }
+
+    /// Finds what it does where its turn stopped at a letter that it awaits: the turn isn't run again.
+    ///
+    /// # Errors
+    /// `NoMemory` where memory was refused; what `found` holds then is left open.
+    pub fn found_again(
+        &self,
+        alloc: Global,
+        code: &Checked,
+        weight: u32,
+        trace: Trace,
+        turn: &Turn,
+        letter: Awaited,
+        found: &mut Turned,
+    ) -> Result<(), NoMemory>
+        requires { let me = self.now.heap.owner in
+            Awaits trace code.now me (as_cell self.now) turn.now found.old letter }
+        ensures found { let me = self.now.heap.owner in
+            let does = act_in found.new in
+            let tells = IsTold trace weight code.now me (as_cell self.now) turn.now found.new.place does in
+            OnOk result (IsSomeAnd self.now.frame tells) }
+        ensures awaited { let me = self.now.heap.owner in
+            OnOk result (AwaitsAt trace code.now me (as_cell self.now) turn.now found.new) }
+    {
+        let _code = code;
+        found.forget_letter();
+        self.posting_found(
+            alloc,
+            weight,
+            trace,
+            turn.made(),
+            letter.to,
+            letter.behaviour,
+            found,
+        )
     }
 }

@@ -30,4 +30,4 @@ pub use found::Found;
 pub use laws::events_are_of_parts;
 pub use out::Out;
 pub use sweeping::Sweep;
-pub use turning::{Doing, Turned};
+pub use turning::{Awaited, Doing, Turned};

@@ -85,6 +85,7 @@ impl Cell {
     }
 
     // These things with their rows, where the turn made these.
+    #[inline(always)]
     fn rowed(&self, alloc: Global, made: &[Row], things: &[Thing]) -> Result<Load, NoMemory>
         ensures { let rows = row_of self.now.heap.owner (with_made made.now (as_cell self.now).holdings) in
             IfOk result (λ load. load ≡ map (λ x. (x, thing_row rows x)) things.now) }
@@ -112,6 +113,7 @@ impl Cell {
     }
 
     // What a letter loads whose arguments lead to these things, where the turn made these rows.
+    #[inline(always)]
     pub(crate) fn load(
         &self,
         alloc: Global,

@@ -1,7 +1,8 @@
 // What a turn is found to do.
 
-ghost use Rattle.std.specs.Prelude.{◌≡◌, ◌<◌, [], vec_capacity};
+ghost use Rattle.std.specs.Prelude.{◌≡◌, ◌<◌, [], None, vec_capacity};
 ghost use Rattle.letter_kinds.specs.declared.letter.Letter.TheVariants.{App as app};
+ghost use Rattle.actor_cell.specs.Awaiting.{awaited_by};
 ghost use Rattle.actor_cell.specs.Goes.{out_of};
 ghost use Rattle.actor_cell.specs.Moves.{act_in};
 
@@ -28,6 +29,18 @@ pub enum Doing {
     Print { value: Value },
     /// Its behaviour ends.
     End,
+    /// Its behaviour ends at once: nothing but labels was left of it, and no registers or fields are
+    /// copied.
+    Rest,
+}
+
+/// A letter at which a turn stopped, and which its actor can't send yet: it lacks some of what the letter
+/// loads, and mints that first, for one owner after the other.
+#[derive(Clone, Copy, Debug)]
+pub struct Awaited {
+    pub actor: ActorName,
+    pub to: ActorName,
+    pub behaviour: Name,
 }
 
 /// What was found of an actor's turn, beside what the turn itself left: the place where it stopped,
@@ -47,6 +60,8 @@ pub struct Turned {
     pub things: Amounts,
     /// Room in which the things of a load are found.
     pub seen: ThingList,
+    /// The letter that it can send once it minted what this loads, with the arguments and the things found.
+    pub awaited: Option<Awaited>,
 }
 
 impl Turned {
@@ -60,13 +75,38 @@ impl Turned {
             rows: Listed::new(alloc),
             things: Listed::new(alloc),
             seen: ThingList::new(alloc),
+            awaited: None,
         }
+    }
+
+    /// The letter that this actor awaits, if it awaits one.
+    #[inline(always)]
+    pub fn awaits(&self, actor: ActorName) -> Option<Awaited>
+        ensures { result ≡ awaited_by actor self.now.awaited }
+    {
+        match self.awaited {
+            Some(letter) => if letter.actor == actor {
+                Some(letter)
+            } else {
+                None
+            },
+            None => None,
+        }
+    }
+
+    /// No letter is awaited.
+    #[inline(always)]
+    pub fn forget_letter(&mut self)
+        ensures { self.new ≡ record self.old { awaited = None } }
+    {
+        self.awaited = None;
     }
 
     /// The letter that starts the behaviour, with its load and rows, which move out. It takes no memory.
     #[inline(always)]
     pub fn take_letter(&mut self, alloc: Global, behaviour: Name) -> Letter
-        ensures { result ≡ app behaviour self.old.args self.old.load self.old.rows }
+        ensures letter { result ≡ app behaviour self.old.args self.old.load self.old.rows }
+        ensures awaited { self.new.awaited ≡ self.old.awaited }
     {
         Letter::App {
             behaviour,
@@ -78,7 +118,8 @@ impl Turned {
 
     /// What it mints, which moves out. It takes no memory.
     pub fn take_things(&mut self, alloc: Global) -> Amounts
-        ensures { result ≡ self.old.things }
+        ensures things { result ≡ self.old.things }
+        ensures rest { self.new ≡ record self.old { things = self.new.things } }
     {
         mem::replace(&mut self.things, Listed::new(alloc))
     }
@@ -112,7 +153,7 @@ impl Turned {
             Doing::Mint { owner } => room.push_reserved((owner, Letter::Inc { things })),
             Doing::New { kind, register } => made = Some((kind, register)),
             Doing::Print { value } => print = Some(value),
-            Doing::End => {}
+            Doing::End | Doing::Rest => {}
         }
         Out {
             letters: Listed::from(room),

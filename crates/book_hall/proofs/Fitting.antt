@@ -1,6 +1,6 @@
 -- What was found of a copy is that of the cell which is the same.
 use Rattle.std.proofs.Common.{◌≡◌, ℕ, [], Some, sym, ap, subst, ◌∙◌, filter, map}
-use Rattle.std.specs.Prelude.{option_map}
+use Rattle.std.specs.Prelude.{IsSomeAnd}
 use Rattle.std.specs.FinMap as m
 use Rattle.orca_names.specs.declared.trace.Trace.TheVariants.{Deep}
 use Rattle.behaviour_code.specs.declared.code.Program.{Program}
@@ -14,9 +14,10 @@ use Rattle.actor_cell.specs.declared.cell.Cell.{Cell}
 use Rattle.actor_cell.specs.declared.found.Found.{Found}
 use Rattle.actor_cell.specs.declared.found.Found.TheVariants.{Collects, Goes, Nothing}
 use Rattle.actor_cell.specs.declared.sweeping.Sweep.{Sweep}
-use Rattle.actor_cell.specs.Cells.{IsSame}
+use Rattle.actor_cell.specs.Cells.{IsSame, as_cell}
 use Rattle.actor_cell.specs.Founds.{IsFound}
-use Rattle.actor_cell.specs.Goes.{turned_in}
+use Rattle.actor_cell.specs.Goes.{IsTold}
+use Rattle.actor_cell.specs.Moves.{act_in}
 use Rattle.actor_cell.specs.Sweeps.{sweep_of}
 use Rattle.actor_table.specs.Slots.{home_in, home_of, slot_at}
 use Rattle.orca_core.specs.Founds.{IsFoundIn}
@@ -45,7 +46,8 @@ module _ (weight : ℕ) (program : Program) (c d : Cell) (same : IsSame c d) whe
 
   found_same : (found : Found) → IsFound Deep weight program d found → IsFound Deep weight program c found
   found_same (Goes turn turned) is =
-      (λ i. option_map (turned_in Deep weight program (same.1 i) (same.0 i)) (frame_same i)) ∙ is
+      let tells : ℕ → rules.Cell → Type 0 = λ me k. IsSomeAnd k.frame (IsTold Deep weight program me k turn turned.place (act_in turned)) in
+      subst (tells c.heap.owner) (sym same.0) (subst (λ me. tells me (as_cell d)) (sym same.1) is)
   found_same (Collects sweep) is = (frame_same ∙ is.0, dirty_same ∙ is.1, is.2 ∙ sym sweep_same)
   found_same Nothing is = (frame_same ∙ is.0, dirty_same ∙ is.1)
 

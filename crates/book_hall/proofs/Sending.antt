@@ -24,7 +24,7 @@ use Rattle.behaviour_code.specs.contracts.instr.Instr as Instr
 use Rattle.letter_kinds.specs.contracts.note.Note as Note
 use Rattle.cycle_detect.specs.contracts.token.Token as Token
 
-place_send : IsSend Place.the_row
+place_send : IsSend (Place.the_field).row
 place_send = search (sendable, crosses) depth 100 fits 100000
 
 letter_send : IsSend Letter.the_row
@@ -33,14 +33,14 @@ letter_send = search (sendable, crosses) depth 100 fits 100000
 mail_send : IsSend MailRow.the_row
 mail_send = search (sendable, crosses, letter_send) depth 100 fits 100000
 
-slot_send : IsSend Slot.the_row
-slot_send = search (sendable, crosses, place_send, mail_send) depth 100 fits 100000
+pub both : {A B : Type 0} → A → B → A × B
+both a b = (a, b)
+
+slot_send : IsSend (Slot.the_field).row
+slot_send = struct_send (shape Slot.the_type) (place_send, (mail_send, tt))
 
 table_send : IsSend ActorTable.the_row
 table_send = search (sendable, crosses, slot_send) depth 100 fits 100000
-
-pub both : {A B : Type 0} → A → B → A × B
-both a b = (a, b)
 
 note_send : IsSend Note.the_row
 note_send = search (sendable, crosses) depth 100 fits 100000

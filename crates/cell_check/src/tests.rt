@@ -60,7 +60,7 @@ fn go(alloc: Global, code: &Checked, cell: &mut Cell) -> Result<Out, Fail> {
     cell.found_go(alloc, code, WEIGHT, Trace::Deep, &mut turn, &mut found)?;
     match found.doing {
         Doing::Post { .. } | Doing::Mint { .. } => Err(Fail::from("it sends")),
-        Doing::New { .. } | Doing::Print { .. } | Doing::End => {
+        Doing::New { .. } | Doing::Print { .. } | Doing::End | Doing::Rest => {
             Ok(cell.go(alloc, code, WEIGHT, Trace::Deep)?)
         }
     }

@@ -8,7 +8,7 @@ use Rattle.std.specs.FinMap.Entries.{find, is_sorted}
 use Rattle.orca_names.specs.Names.{owner_of, thing_cmp}
 use Rattle.orca_names.specs.declared.names.Thing.{Thing}
 use Rattle.letter_kinds.specs.Counting.{Amount}
-use Rattle.foreign_table.specs.Entry.{Item}
+use Rattle.foreign_table.specs.declared.search.Entry.{Entry}
 use Rattle.foreign_table.specs.Table.{Table}
 
 -- owners rise, and the things of each
@@ -23,8 +23,8 @@ goes_back back x =
     false
 
 -- an entry that does not go back
-abbrev pub is_kept : List (ℕ × List Amount) → Item → Bool
-is_kept back e = not (goes_back back e.0.thing)
+abbrev pub is_kept : List (ℕ × List Amount) → Entry → Bool
+is_kept back e = not (goes_back back e.thing)
 
 -- the others stay, and the places of these are room
 abbrev pub given_up : List (ℕ × List Amount) → Table → Table

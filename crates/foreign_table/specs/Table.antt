@@ -1,8 +1,8 @@
 -- The table of an actor.
-use Rattle.std.specs.Prelude.{ℕ, ◌≡◌, ◌+◌, ◌-◌, if◌then◌else◌, is_some, List, [], ◌∷◌, Option, T, refl, length, map}
+use Rattle.std.specs.Prelude.{ℕ, ◌+◌, ◌-◌, if◌then◌else◌, is_some, List, [], ◌∷◌, Option, T, refl, map}
 use Rattle.std.specs.FinMap as m
 use Rattle.std.specs.FinMap.Entries.{is_sorted}
-use Rattle.std.specs.List.{sum_by, zip}
+use Rattle.std.specs.List.{sum_by}
 use Rattle.std.specs.Coded.{Coded, code_by, coded×, coded_ℕ, coded_option}
 use Rattle.orca_names.specs.Codes.{coded_thing, coded_row}
 use Rattle.orca_names.specs.Names.{thing_cmp}
@@ -24,14 +24,13 @@ coded_table =
     (coded× coded_ℕ (m.code coded_thing (coded× coded_ℕ (coded_option coded_row))))
     (λ t. (t.spare, t.entries)) (λ p. record { spare = p.0; entries = p.1 }) (λ _. refl)
 
--- the map of these entries with the rows beside them
-abbrev pub entries_in : List Entry → List (Option Row) → Entries
-entries_in held rows = m.from_sorted (map pair_of (zip held rows))
+-- the map of these entries
+abbrev pub entries_in : List Entry → Entries
+entries_in held = m.from_sorted (map pair_of held)
 
--- each has a place for its row, and things rise
-pub record AreHeld (held : List Entry) (rows : List (Option Row)) : Type 0 where
-  pub long : length rows ≡ length held
-  pub sorted : T (is_sorted thing_cmp (map pair_of (zip held rows)))
+-- things rise
+abbrev pub DoRise : List Entry → Type 0
+DoRise held = T (is_sorted thing_cmp (map pair_of held))
 
 -- the count that is held on a thing
 abbrev pub count_on : Table → Thing → ℕ

@@ -1,28 +1,28 @@
 // Where a thing stands among those that are held.
 
-ghost use Rattle.std.specs.Prelude.{◌≡◌, ◌≢◌, ◌↔◌, ◌-◌, ◌<◌, ◌≤◌, IfSome, IsTrue, length, map, slice_index_or, T};
+ghost use Rattle.std.specs.Prelude.{◌≡◌, ◌≢◌, ◌↔◌, ◌-◌, ◌<◌, ◌≤◌, IfSome, IsTrue, length, map, slice_index_or};
 ghost use Rattle.std.specs.Bool.{OnFalse};
 ghost use Rattle.std.specs.Result.{MatchResult};
 ghost use Rattle.std.specs.declared.cmp.Ordering.TheVariants.{Less};
-ghost use Rattle.std.specs.FinMap.Entries.{is_sorted};
 ghost use Rattle.orca_names.specs.Names.{thing_cmp};
 ghost use Rattle.orca_names.specs.declared.names.Thing.TheVariants.{Obj as object};
 ghost use Rattle.plain_list.specs.Rising.{IsAt, IsGap};
 ghost use Rattle.foreign_table.specs.declared.search.Entry.{Entry as entry};
-ghost use Rattle.foreign_table.specs.Entry.{key_of};
+ghost use Rattle.foreign_table.specs.Entry.{pair_of};
+ghost use Rattle.foreign_table.specs.Table.{DoRise};
 
-use orca_names::{ObjName, Thing};
+use orca_names::{ObjName, Row, Thing};
 use ref_weights::Held;
 
 // Among so few things one is found soonest by looking at them in turn.
 const FEW: usize = 8;
 
-/// A thing of another actor, and what is held on it. Its row stands at the same place in a list of
-/// rows.
+/// A thing of another actor, what is held on it and, for an object, its row where that is known.
 #[derive(Clone, Copy, Debug, PartialEq, Eq)]
 pub(crate) struct Entry {
     pub(crate) thing: Thing,
     pub(crate) count: Held,
+    pub(crate) row: Option<Row>,
 }
 
 /// Whether a thing comes before another.
@@ -128,7 +128,7 @@ fn comes_last(held: &[Entry], thing: &Thing) -> bool
 
 // The first place whose thing does not come before this one, by halves.
 fn first_from(held: &[Entry], thing: &Thing) -> usize
-    requires { T (is_sorted thing_cmp (map key_of held.now)) }
+    requires { DoRise held.now }
     ensures within { result ≤ length held.now }
     ensures below { 0 < result → (d : entry)
         → thing_cmp (slice_index_or held.now (result - 1) d).thing thing.now ≡ Less }
@@ -154,9 +154,9 @@ fn first_from(held: &[Entry], thing: &Thing) -> usize
 // The place of the thing, or the place where it would stand, where that is not seen at once.
 #[inline(never)]
 fn search(held: &[Entry], thing: Thing) -> Result<usize, usize>
-    requires { T (is_sorted thing_cmp (map key_of held.now)) }
-    ensures { MatchResult result (IsAt thing_cmp (map key_of held.now) thing)
-        (IsGap thing_cmp (map key_of held.now) thing) }
+    requires { DoRise held.now }
+    ensures { MatchResult result (IsAt thing_cmp (map pair_of held.now) thing)
+        (IsGap thing_cmp (map pair_of held.now) thing) }
 {
     let place = first_from(held, &thing);
     if stands_at(held, place, &thing) {
@@ -168,9 +168,9 @@ fn search(held: &[Entry], thing: Thing) -> Result<usize, usize>
 /// The place of the thing, or the place where it would stand.
 #[inline(always)]
 pub(crate) fn place_of(held: &[Entry], thing: Thing) -> Result<usize, usize>
-    requires { T (is_sorted thing_cmp (map key_of held.now)) }
-    ensures { MatchResult result (IsAt thing_cmp (map key_of held.now) thing)
-        (IsGap thing_cmp (map key_of held.now) thing) }
+    requires { DoRise held.now }
+    ensures { MatchResult result (IsAt thing_cmp (map pair_of held.now) thing)
+        (IsGap thing_cmp (map pair_of held.now) thing) }
 {
     match guess(held, &thing) {
         Some(place) => Ok(place),

@@ -1,11 +1,10 @@
 // Where the things of one owner stand.
 
-ghost use Rattle.std.specs.Prelude.{◌≡◌, ◌≢◌, ℕ, ◌≤◌, ◌<◌, length, map, slice_index_or, T};
-ghost use Rattle.std.specs.FinMap.Entries.{is_sorted};
+ghost use Rattle.std.specs.Prelude.{◌≡◌, ◌≢◌, ℕ, ◌≤◌, ◌<◌, length, map, slice_index_or};
 ghost use Rattle.orca_names.specs.Names.{owner_of, thing_cmp};
 ghost use Rattle.foreign_table.specs.declared.search.Entry.{Entry as entry};
-ghost use Rattle.foreign_table.specs.Entry.{key_of};
 ghost use Rattle.foreign_table.specs.Span.{IsSpan};
+ghost use Rattle.foreign_table.specs.Table.{DoRise};
 
 use crate::search::{Entry, place_of};
 use orca_names::{ActorName, Thing};
@@ -31,7 +30,7 @@ fn end_from(held: &[Entry], owner: ActorName, first: usize) -> usize
 
 // The place of the owner's first thing, or where it would stand.
 fn first_of(held: &[Entry], owner: ActorName) -> usize
-    requires { T (is_sorted thing_cmp (map key_of held.now)) }
+    requires { DoRise held.now }
     ensures within { result ≤ length held.now }
     ensures below { (k : ℕ) (d : entry) → k < result
         → owner_of (slice_index_or held.now k d).thing < owner }
@@ -47,7 +46,7 @@ fn first_of(held: &[Entry], owner: ActorName) -> usize
 /// The place of the owner's first thing, or where it would stand, and the first place behind its
 /// things.
 pub(crate) fn span(held: &[Entry], owner: ActorName) -> (usize, usize)
-    requires { T (is_sorted thing_cmp (map key_of held.now)) }
+    requires { DoRise held.now }
     ensures { IsSpan owner (map (λ e. e.thing) held.now) result.0 result.1 }
 {
     let first = first_of(held, owner);

@@ -7,9 +7,9 @@ ghost use Rattle.std.specs.FinMap as m;
 ghost use Rattle.orca_names.specs.Names.{thing_cmp};
 ghost use Rattle.plain_list.specs.Rising.{IsAt};
 ghost use Rattle.foreign_table.specs.Back.{BackRises, given_up};
-ghost use Rattle.foreign_table.specs.Entry.{bare, key_of};
+ghost use Rattle.foreign_table.specs.Entry.{pair_of};
 ghost use Rattle.foreign_table.specs.Span.{IsSpan};
-ghost use Rattle.foreign_table.specs.Table.{AreHeld, Table, count_on, count_unheld, counted, entered, entries_in, known_row, on_actors, without};
+ghost use Rattle.foreign_table.specs.Table.{DoRise, Table, count_on, count_unheld, counted, entered, entries_in, known_row, on_actors, without};
 ghost use Rattle.letter_kinds.specs.Holdings.{entry_row};
 ghost use Rattle.ref_weights.specs.Limit.{count_limit};
 
@@ -26,35 +26,33 @@ use std::marker::Model;
 const FIRST_PLACES: usize = 4;
 
 /// The things of others that an actor holds, each with its count and, for an object, its row where
-/// that is known, and the room for new ones. Counts stand apart from rows.
+/// that is known, and the room for new ones.
 #[derive(Drop)]
 pub struct ForeignTable {
     held: Vec<Entry>,
-    rows: Vec<Option<Row>>,
 }
 
 impl Model for ForeignTable {
-    ghost use Rattle.std.specs.Prelude.{◌-◌, min, vec_len, vec_capacity};
-    ghost use Rattle.foreign_table.specs.Span.{IsSpan};
-    ghost use Rattle.foreign_table.specs.Table.{AreHeld, Table, coded_table, entries_in};
+    ghost use Rattle.std.specs.Prelude.{◌-◌, vec_len, vec_capacity};
+    ghost use Rattle.foreign_table.specs.Table.{DoRise, Table, coded_table, entries_in};
 
     ghost Value = { Table };
 
     ghost coded = { coded_table };
 
     ghost view = { λ s. record {
-      spare = min (vec_capacity s.held) (vec_capacity s.rows) - vec_len s.held;
-      entries = entries_in s.held.items s.rows.items;
+      spare = vec_capacity s.held - vec_len s.held;
+      entries = entries_in s.held.items;
     } };
 
-    ghost invariant = { λ s. AreHeld s.held.items s.rows.items };
+    ghost invariant = { λ s. DoRise s.held.items };
 }
 
 // The place of a thing that is there.
-fn place_there(held: &[Entry], rows: &[Option<Row>], thing: Thing) -> usize
-    requires own { AreHeld held.now rows.now }
-    requires there { IsSome (m.get (entries_in held.now rows.now) thing) }
-    ensures { IsAt thing_cmp (map key_of held.now) thing result }
+fn place_there(held: &[Entry], thing: Thing) -> usize
+    requires own { DoRise held.now }
+    requires there { IsSome (m.get (entries_in held.now) thing) }
+    ensures { IsAt thing_cmp (map pair_of held.now) thing result }
 {
     match place_of(held, thing) {
         Ok(i) => i,
@@ -62,60 +60,45 @@ fn place_there(held: &[Entry], rows: &[Option<Row>], thing: Thing) -> usize
     }
 }
 
-fn row_at(rows: &[Option<Row>], i: usize) -> Option<&Row>
-    requires { i < length rows.now }
-    ensures { slice_get rows.now i ≡ Some (option_copied result) }
+// The count of an entry rises, and its row is this one.
+#[inline(always)]
+fn raise(entry: &mut Entry, by: u64, row: &Option<Row>)
+    requires { entry.old.count + by < count_limit }
+    ensures { entry.new ≡ record { thing = entry.old.thing; count = entry.old.count + by; row = row.now } }
 {
-    rows[i].as_ref()
-}
-
-fn write_row(rows: &mut Vec<Option<Row>>, i: usize, row: &Option<Row>)
-    requires { i < vec_len rows.old }
-    ensures items { rows.new.items ≡ slice_set rows.old.items i row.now }
-    ensures len { vec_len rows.new ≡ vec_len rows.old }
-    ensures capacity { vec_capacity rows.new ≡ vec_capacity rows.old }
-{
-    let row = *row;
-    rows[i] = row;
+    entry.count.gain(by);
+    entry.row = *row;
 }
 
 // There is room.
-fn put_entry(held: &mut Vec<Entry>, i: usize, thing: &Thing, by: u64)
+#[inline(always)]
+fn put_entry(held: &mut Vec<Entry>, i: usize, thing: &Thing, by: u64, row: &Option<Row>)
     requires fits { by < count_limit }
     requires room { vec_len held.old < vec_capacity held.old }
     requires within { i ≤ vec_len held.old }
     ensures items { held.new.items
-        ≡ insert held.old.items i (record { thing = thing.now; count = by }) }
+        ≡ insert held.old.items i (record { thing = thing.now; count = by; row = row.now }) }
     ensures len { vec_len held.new ≡ vec_len held.old + 1 }
     ensures capacity { vec_capacity held.new ≡ vec_capacity held.old }
 {
-    let count = Held::new(by);
     let thing = *thing;
-    let entry = Entry { thing, count };
-    if i == held.len() {
-        held.push_reserved(entry);
+    let count = Held::new(by);
+    if i < held.len() {
+        let row = *row;
+        let _done = held.insert(i, Entry { thing, count, row }).is_ok();
         return;
     }
-    let _done = held.insert(i, entry).is_ok();
-}
-
-// There is room.
-fn put_row(rows: &mut Vec<Option<Row>>, i: usize, row: &Option<Row>)
-    requires room { vec_len rows.old < vec_capacity rows.old }
-    requires within { i ≤ vec_len rows.old }
-    ensures items { rows.new.items ≡ insert rows.old.items i row.now }
-    ensures len { vec_len rows.new ≡ vec_len rows.old + 1 }
-    ensures capacity { vec_capacity rows.new ≡ vec_capacity rows.old }
-{
-    if i == rows.len() {
-        // None is written as such: to copy it would move the room of a row.
-        match row {
-            Some(row) => rows.push_reserved(Some(*row)),
-            None => rows.push_reserved(None),
+    // None is written as such: to copy it would move the room of a row.
+    match row {
+        Some(row) => {
+            let row = Some(*row);
+            held.push_reserved(Entry { thing, count, row });
         }
-        return;
+        None => {
+            let row = None;
+            held.push_reserved(Entry { thing, count, row });
+        }
     }
-    let _done = rows.insert(i, *row).is_ok();
 }
 
 // How many more places to take where so many are wanted: the first ones come together, since most
@@ -131,9 +114,9 @@ fn places_to_take(wanted: usize, capacity: usize) -> usize
     }
 }
 
-fn is_held(held: &[Entry], rows: &[Option<Row>], thing: Thing) -> bool
-    requires { AreHeld held.now rows.now }
-    ensures { result ≡ is_some (m.get (entries_in held.now rows.now) thing) }
+fn is_held(held: &[Entry], thing: Thing) -> bool
+    requires { DoRise held.now }
+    ensures { result ≡ is_some (m.get (entries_in held.now) thing) }
 {
     match place_of(held, thing) {
         Ok(_) => true,
@@ -142,13 +125,13 @@ fn is_held(held: &[Entry], rows: &[Option<Row>], thing: Thing) -> bool
 }
 
 // How many of these things are not held.
-fn count_unheld(held: &[Entry], rows: &[Option<Row>], things: &Amounts) -> usize
-    requires { AreHeld held.now rows.now }
-    ensures { result ≡ count_unheld things.now (entries_in held.now rows.now) }
+fn count_unheld(held: &[Entry], things: &Amounts) -> usize
+    requires { DoRise held.now }
+    ensures { result ≡ count_unheld things.now (entries_in held.now) }
 {
     let mut count = 0;
     for amount in things.as_slice() {
-        if !is_held(held, rows, amount.0) {
+        if !is_held(held, amount.0) {
             count += 1;
         }
     }
@@ -156,7 +139,7 @@ fn count_unheld(held: &[Entry], rows: &[Option<Row>], things: &Amounts) -> usize
 }
 
 fn actors_of(alloc: Global, held: &[Entry]) -> Result<Vec<(ActorName, u64)>, NoMemory>
-    ensures { IfOk result (λ found. found.items ≡ on_actors (map bare held.now)) }
+    ensures { IfOk result (λ found. found.items ≡ on_actors (map pair_of held.now)) }
 {
     let mut found = Vec::new(alloc);
     for entry in held {
@@ -167,16 +150,10 @@ fn actors_of(alloc: Global, held: &[Entry]) -> Result<Vec<(ActorName, u64)>, NoM
     Ok(found)
 }
 
-fn same_counts(held: &[Entry], others: &[Entry]) -> bool
+fn same_entries(held: &[Entry], others: &[Entry]) -> bool
     ensures { IsTrue result ↔ (held.now ≡ others.now) }
 {
     held == others
-}
-
-fn same_rows(rows: &[Option<Row>], others: &[Option<Row>]) -> bool
-    ensures { IsTrue result ↔ (rows.now ≡ others.now) }
-{
-    rows == others
 }
 
 impl ForeignTable {
@@ -186,7 +163,6 @@ impl ForeignTable {
     {
         ForeignTable {
             held: Vec::new(alloc),
-            rows: Vec::new(alloc),
         }
     }
 
@@ -204,9 +180,8 @@ impl ForeignTable {
         if n == 0 {
             return Ok(());
         }
-        let n = places_to_take(n, self.rows.capacity());
+        let n = places_to_take(n, self.held.capacity());
         self.held.reserve(n)?;
-        self.rows.reserve(n)?;
         Ok(())
     }
 
@@ -221,7 +196,7 @@ impl ForeignTable {
         ensures same { self.new ≡ record self.old { spare = self.new.spare } }
         ensures enough { count_unheld things.now self.old.entries ≤ self.old.spare → IsOk result }
     {
-        let n = count_unheld(self.held.as_slice(), self.rows.as_slice(), things);
+        let n = count_unheld(self.held.as_slice(), things);
         self.reserve(n)
     }
 
@@ -235,14 +210,8 @@ impl ForeignTable {
     {
         let place = place_of(self.held.as_slice(), thing);
         match place {
-            Ok(i) => {
-                self.held[i].count.gain(by);
-                write_row(&mut self.rows, i, row);
-            }
-            Err(i) => {
-                put_row(&mut self.rows, i, row);
-                put_entry(&mut self.held, i, &thing, by);
-            }
+            Ok(i) => raise(&mut self.held[i], by, row),
+            Err(i) => put_entry(&mut self.held, i, &thing, by, row),
         }
     }
 
@@ -263,7 +232,7 @@ impl ForeignTable {
         requires enough { 0 < count_on self.old thing }
         ensures { self.new ≡ counted (λ count. count - 1) thing self.old }
     {
-        let i = place_there(self.held.as_slice(), self.rows.as_slice(), thing);
+        let i = place_there(self.held.as_slice(), thing);
         self.held[i].count.spend();
     }
 
@@ -277,10 +246,7 @@ impl ForeignTable {
     {
         match place_of(self.held.as_slice(), thing) {
             Ok(i) => self.held[i].count.mint(by),
-            Err(i) => {
-                put_row(&mut self.rows, i, &None);
-                put_entry(&mut self.held, i, &thing, by);
-            }
+            Err(i) => put_entry(&mut self.held, i, &thing, by, &None),
         }
     }
 
@@ -290,10 +256,9 @@ impl ForeignTable {
         ensures count { result ≡ count_on self.old thing }
         ensures gone { self.new ≡ without thing self.old }
     {
-        let i = place_there(self.held.as_slice(), self.rows.as_slice(), thing);
+        let i = place_there(self.held.as_slice(), thing);
         let count = self.held[i].count.give_back();
         self.held.remove(i);
-        self.rows.remove(i);
         count
     }
 
@@ -306,7 +271,7 @@ impl ForeignTable {
         if back.is_empty() {
             return;
         }
-        keep_others(&mut self.held, &mut self.rows, back);
+        keep_others(&mut self.held, back);
     }
 
     /// The row that is known of an object.
@@ -314,7 +279,7 @@ impl ForeignTable {
         ensures { option_copied result ≡ known_row self.now n }
     {
         match place_of(self.held.as_slice(), Thing::Obj(n)) {
-            Ok(i) => row_at(self.rows.as_slice(), i),
+            Ok(i) => self.held[i].row.as_ref(),
             Err(_) => None,
         }
     }
@@ -334,12 +299,8 @@ impl ForeignTable {
             ≡ Some (result.0, (result.1, option_copied result.2)) }
         ensures bound { result.1 < count_limit }
     {
-        let entry = self.held[i];
-        (
-            entry.thing,
-            entry.count.get(),
-            row_at(self.rows.as_slice(), i),
-        )
+        let entry = &self.held[i];
+        (entry.thing, entry.count.get(), entry.row.as_ref())
     }
 
     /// The thing at a place in the order of things.
@@ -375,7 +336,10 @@ impl ForeignTable {
         ensures bound { IfSome result (λ e. e.0 < count_limit) }
     {
         match place_of(self.held.as_slice(), *thing) {
-            Ok(i) => Some((self.held[i].count.get(), row_at(self.rows.as_slice(), i))),
+            Ok(i) => {
+                let entry = &self.held[i];
+                Some((entry.count.get(), entry.row.as_ref()))
+            }
             Err(_) => None,
         }
     }
@@ -398,17 +362,13 @@ impl ForeignTable {
         ensures { IfOk result (λ copied. copied ≡ record self.now { spare = copied.spare }) }
     {
         let held = self.held.as_slice().to_vec(alloc)?;
-        let rows = self.rows.as_slice().to_vec(alloc)?;
-        Ok(ForeignTable { held, rows })
+        Ok(ForeignTable { held })
     }
 
     /// Whether the entries are those of another table.
     pub fn same(&self, other: &ForeignTable) -> bool
         ensures { IsTrue result ↔ (self.now.entries ≡ other.now.entries) }
     {
-        if !same_counts(self.held.as_slice(), other.held.as_slice()) {
-            return false;
-        }
-        same_rows(self.rows.as_slice(), other.rows.as_slice())
+        same_entries(self.held.as_slice(), other.held.as_slice())
     }
 }

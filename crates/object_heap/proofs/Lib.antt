@@ -1,4 +1,3 @@
 pub mod Entries
 pub mod Gone
 pub mod Same
-pub mod Sides

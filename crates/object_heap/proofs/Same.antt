@@ -1,32 +1,23 @@
--- Objects and rows are known by their map.
-use Rattle.std.proofs.Common.{◌≡◌, ℕ, List, [], ◌∷◌, length, map, refl, sym, ap, ◌∙◌, arith}
-use Rattle.std.specs.List.{zip}
+-- Objects are known by their map.
+use Rattle.std.proofs.Common.{◌≡◌, ℕ, List, [], ◌∷◌, map, refl, sym, ap, ◌∙◌}
 use Rattle.std.specs.Ordering.{nat_cmp}
 use Rattle.std.specs.FinMap as m
-use Rattle.letter_kinds.specs.Holdings.{Row}
 use Rattle.object_heap.specs.declared.search.Own.{Own}
 use Rattle.object_heap.specs.Entry.{pair_of}
 use Rattle.object_heap.specs.Heap.{AreOwn, rows_in}
 
-sides : (es fs : List Own) (rows sows : List Row) → length rows ≡ length es → length sows ≡ length fs → map pair_of (zip es rows) ≡ map pair_of (zip fs sows) → (es ≡ fs) × (rows ≡ sows)
-sides [] [] [] [] k l e = (refl, refl)
-sides [] [] [] (s ∷ sows) k l e = absurd (omega arith)
-sides [] [] (r ∷ rows) sows k l e = absurd (omega arith)
-sides [] (f ∷ fs) rows [] k l e = absurd (omega arith)
-sides [] (f ∷ fs) rows (s ∷ sows) k l e = cc
-sides (o ∷ es) [] [] sows k l e = absurd (omega arith)
-sides (o ∷ es) [] (r ∷ rows) sows k l e = cc
-sides (o ∷ es) (f ∷ fs) [] sows k l e = absurd (omega arith)
-sides (o ∷ es) (f ∷ fs) (r ∷ rows) [] k l e = absurd (omega arith)
-sides (o ∷ es) (f ∷ fs) (r ∷ rows) (s ∷ sows) k l e =
-    let first : pair_of (o, r) ≡ pair_of (f, s) = cc in
+alike : (es fs : List Own) → map pair_of es ≡ map pair_of fs → es ≡ fs
+alike [] [] e = refl
+alike [] (f ∷ fs) e = cc
+alike (o ∷ es) [] e = cc
+alike (o ∷ es) (f ∷ fs) e =
+    let first : pair_of o ≡ pair_of f = cc in
     let serial : o.serial ≡ f.serial = ap (λ p. p.0) first in
     let count : o.count ≡ f.count = ap (λ p. p.1.1) first in
-    let row : r ≡ s = ap (λ p. p.1.0) first in
-    let others : map pair_of (zip es rows) ≡ map pair_of (zip fs sows) = cc in
-    let rest = sides es fs rows sows (omega arith) (omega arith) others in
-    (λ i. record { serial = serial i; count = count i } ∷ rest.0 i, λ i. row i ∷ rest.1 i)
+    let row : o.row ≡ f.row = ap (λ p. p.1.0) first in
+    let others : map pair_of es ≡ map pair_of fs = cc in
+    λ i. record { serial = serial i; count = count i; row = row i } ∷ alike es fs others i
 
-pub known_by_map : (next more : ℕ) (es fs : List Own) (rows sows : List Row) → AreOwn next es rows → AreOwn more fs sows → rows_in es rows ≡ rows_in fs sows → (es ≡ fs) × (rows ≡ sows)
-known_by_map next more es fs rows sows h k e = sides es fs rows sows h.long k.long
-    (sym (m.entries-from_sorted nat_cmp (map pair_of (zip es rows)) h.sorted) ∙ ap m.entries e ∙ m.entries-from_sorted nat_cmp (map pair_of (zip fs sows)) k.sorted)
+pub known_by_map : (next more : ℕ) (es fs : List Own) → AreOwn next es → AreOwn more fs → rows_in es ≡ rows_in fs → es ≡ fs
+known_by_map next more es fs h k e = alike es fs
+    (sym (m.entries-from_sorted nat_cmp (map pair_of es) h.sorted) ∙ ap m.entries e ∙ m.entries-from_sorted nat_cmp (map pair_of fs) k.sorted)

@@ -3,7 +3,7 @@ use Rattle.std.specs.Prelude.{ℕ, ◌==◌, ◌<◌, ◌+◌, ◌-◌, Bool, no
 use Rattle.std.specs.List.{list_any}
 use Rattle.std.specs.FinMap as m
 use Rattle.orca_names.specs.declared.names.ObjName.{ObjName}
-use Rattle.object_heap.specs.Entry.{Item}
+use Rattle.object_heap.specs.declared.search.Own.{Own}
 use Rattle.object_heap.specs.Heap.{Heap}
 
 -- each serial is below those behind it
@@ -16,8 +16,8 @@ abbrev pub stays : List ObjName → ℕ → Bool
 stays gone k = not (list_any (λ n. n.serial == k) gone)
 
 -- an object that is not among them
-abbrev pub is_kept : List ObjName → Item → Bool
-is_kept gone e = stays gone e.0.serial
+abbrev pub is_kept : List ObjName → Own → Bool
+is_kept gone e = stays gone e.serial
 
 -- the others stay, and the places of these are room
 abbrev pub freed : List ObjName → Heap → Heap

@@ -3,7 +3,6 @@ use Rattle.std.specs.Prelude.{ℕ, ◌≡◌, ◌+◌, ◌-◌, ◌==◌, ◌≤
 use Rattle.std.specs.Ordering.{nat_cmp}
 use Rattle.std.specs.FinMap as m
 use Rattle.std.specs.FinMap.Entries.{is_sorted}
-use Rattle.std.specs.List.{zip}
 use Rattle.std.specs.Coded.{Coded, code_by, coded×, coded_ℕ}
 use Rattle.orca_names.specs.Codes.{coded_row}
 use Rattle.orca_names.specs.declared.names.ObjName.{ObjName}
@@ -29,15 +28,14 @@ coded_heap =
     (λ h. (h.owner, (h.next, (h.spare, h.rows))))
     (λ p. record { owner = p.0; next = p.1.0; spare = p.1.1.0; rows = p.1.1.1 }) (λ _. refl)
 
--- the map of these objects with the rows beside them
-abbrev pub rows_in : List Own → List Row → OwnRows
-rows_in own rows = m.from_sorted (map pair_of (zip own rows))
+-- the map of these objects
+abbrev pub rows_in : List Own → OwnRows
+rows_in own = m.from_sorted (map pair_of own)
 
--- each has its row, serials rise, and none is the next or a later one
-pub record AreOwn (next : ℕ) (own : List Own) (rows : List Row) : Type 0 where
-  pub long : length rows ≡ length own
-  pub sorted : T (is_sorted nat_cmp (map pair_of (zip own rows)))
-  pub below : (k : ℕ) → next ≤ k → m.get (rows_in own rows) k ≡ None
+-- serials rise, and none is the next or a later one
+pub record AreOwn (next : ℕ) (own : List Own) : Type 0 where
+  pub sorted : T (is_sorted nat_cmp (map pair_of own))
+  pub below : (k : ℕ) → next ≤ k → m.get (rows_in own) k ≡ None
 
 -- an object of this actor that is there
 pub record Has (h : Heap) (n : ObjName) : Type 0 where

@@ -1,14 +1,14 @@
 // Many objects freed in one pass.
 
 ghost use Rattle.std.specs.Prelude.{◌≡◌, ◌==◌, true, false, ◌+◌, ◌-◌, ◌<◌, ◌≤◌, List, length, slice_index_or, vec_len, vec_capacity, IsTrue};
-ghost use Rattle.std.specs.List.{filter, list_any, zip};
+ghost use Rattle.std.specs.List.{filter, list_any};
 ghost use Rattle.std.proofs.lemmas.List.Filters.{FiltersInPlace};
 ghost use Rattle.orca_names.specs.declared.names.ObjName.{ObjName as object_name};
-ghost use Rattle.object_heap.specs.Entry.{Item};
+ghost use Rattle.object_heap.specs.declared.search.Own.{Own as own};
 ghost use Rattle.object_heap.specs.Free.{SerialsRise, is_kept, stays};
 
 use crate::search::Own;
-use orca_names::{ObjName, Row};
+use orca_names::ObjName;
 
 // Whether the one at this place has the serial.
 fn is_at(gone: &[ObjName], place: usize, serial: u64) -> bool
@@ -80,56 +80,38 @@ fn is_kept(gone: &[ObjName], near: usize, serial: u64) -> bool
 }
 
 // The object at place i goes to place kept, if it stays. Before it went i - kept others.
-fn keep_one(
-    entries: &mut Vec<Own>,
-    rows: &mut Vec<Row>,
-    gone: &[ObjName],
-    kept: usize,
-    i: usize,
-) -> usize
+fn keep_one(entries: &mut Vec<Own>, gone: &[ObjName], kept: usize, i: usize) -> usize
     requires rising { SerialsRise gone.now }
     requires within { i < vec_len entries.old }
-    requires long { vec_len rows.old ≡ vec_len entries.old }
     requires behind { kept ≤ i }
-    ensures filters { (xs : List Item) → let before = zip entries.old.items rows.old.items in
-        let after = zip entries.new.items rows.new.items in
-        FiltersInPlace (is_kept gone.now) xs before kept i
-        → FiltersInPlace (is_kept gone.now) xs after result (i + 1) }
+    ensures filters { (es : List own) → FiltersInPlace (is_kept gone.now) es entries.old.items kept i
+        → FiltersInPlace (is_kept gone.now) es entries.new.items result (i + 1) }
     ensures behind { result ≤ i + 1 }
-    ensures len { (vec_len entries.new ≡ vec_len entries.old)
-        × (vec_len rows.new ≡ vec_len rows.old) }
-    ensures capacity { (vec_capacity entries.new ≡ vec_capacity entries.old)
-        × (vec_capacity rows.new ≡ vec_capacity rows.old) }
+    ensures len { vec_len entries.new ≡ vec_len entries.old }
+    ensures capacity { vec_capacity entries.new ≡ vec_capacity entries.old }
 {
-    let own = entries[i];
-    if !is_kept(gone, i - kept, own.serial) {
+    if !is_kept(gone, i - kept, entries[i].serial) {
         return kept;
     }
     if kept == i {
         return kept + 1;
     }
-    let row = rows[i];
+    let own = entries[i];
     entries[kept] = own;
-    rows[kept] = row;
     kept + 1
 }
 
 /// Only the objects whose serials stay.
-pub(crate) fn keep_others(entries: &mut Vec<Own>, rows: &mut Vec<Row>, gone: &[ObjName])
-    requires rising { SerialsRise gone.now }
-    requires long { vec_len rows.old ≡ vec_len entries.old }
-    ensures items { zip entries.new.items rows.new.items
-        ≡ filter (is_kept gone.now) (zip entries.old.items rows.old.items) }
-    ensures long { vec_len rows.new ≡ vec_len entries.new }
+pub(crate) fn keep_others(entries: &mut Vec<Own>, gone: &[ObjName])
+    requires { SerialsRise gone.now }
+    ensures items { entries.new.items ≡ filter (is_kept gone.now) entries.old.items }
     ensures shorter { vec_len entries.new ≤ vec_len entries.old }
-    ensures capacity { (vec_capacity entries.new ≡ vec_capacity entries.old)
-        × (vec_capacity rows.new ≡ vec_capacity rows.old) }
+    ensures capacity { vec_capacity entries.new ≡ vec_capacity entries.old }
 {
     let mut kept = 0;
     let count = entries.len();
     for i in 0..count {
-        kept = keep_one(entries, rows, gone, kept, i);
+        kept = keep_one(entries, gone, kept, i);
     }
     entries.truncate(kept);
-    rows.truncate(kept);
 }

@@ -6,7 +6,7 @@ ghost use Rattle.std.specs.Ordering.{nat_cmp};
 ghost use Rattle.std.specs.FinMap as m;
 ghost use Rattle.plain_list.specs.Rising.{IsAt};
 ghost use Rattle.letter_kinds.specs.Holdings.{row_count};
-ghost use Rattle.object_heap.specs.Entry.{key_of};
+ghost use Rattle.object_heap.specs.Entry.{pair_of};
 ghost use Rattle.object_heap.specs.Free.{SerialsRise, freed};
 ghost use Rattle.object_heap.specs.Heap.{AreOwn, Has, Heap, IsSame, counted, own_row, rows_in, with_new, without};
 ghost use Rattle.ref_weights.specs.Limit.{count_limit};
@@ -19,17 +19,16 @@ use std::alloc::Global;
 use std::marker::Model;
 
 /// The objects of an actor, each with its row and its count, the serial of the next one, and the
-/// room for new ones. Counts stand apart from rows, which never change.
+/// room for new ones.
 #[derive(Drop)]
 pub struct ObjectHeap {
     owner: ActorName,
     next: u64,
     entries: Vec<Own>,
-    rows: Vec<Row>,
 }
 
 impl Model for ObjectHeap {
-    ghost use Rattle.std.specs.Prelude.{◌-◌, min, vec_len, vec_capacity};
+    ghost use Rattle.std.specs.Prelude.{◌-◌, vec_len, vec_capacity};
     ghost use Rattle.object_heap.specs.Heap.{Heap, AreOwn, coded_heap, rows_in};
 
     ghost Value = { Heap };
@@ -39,18 +38,18 @@ impl Model for ObjectHeap {
     ghost view = { λ s. record {
       owner = s.owner;
       next = s.next;
-      spare = min (vec_capacity s.entries) (vec_capacity s.rows) - vec_len s.entries;
-      rows = rows_in s.entries.items s.rows.items;
+      spare = vec_capacity s.entries - vec_len s.entries;
+      rows = rows_in s.entries.items;
     } };
 
-    ghost invariant = { λ s. AreOwn s.next s.entries.items s.rows.items };
+    ghost invariant = { λ s. AreOwn s.next s.entries.items };
 }
 
 // The place of an object that is there.
-fn place_there(next: u64, entries: &[Own], rows: &[Row], serial: Serial) -> usize
-    requires own { AreOwn next entries.now rows.now }
-    requires there { IsSome (m.get (rows_in entries.now rows.now) serial) }
-    ensures { IsAt nat_cmp (map key_of entries.now) serial result }
+fn place_there(next: u64, entries: &[Own], serial: Serial) -> usize
+    requires own { AreOwn next entries.now }
+    requires there { IsSome (m.get (rows_in entries.now) serial) }
+    ensures { IsAt nat_cmp (map pair_of entries.now) serial result }
 {
     match place_of(entries, serial) {
         Ok(i) => i,
@@ -58,22 +57,10 @@ fn place_there(next: u64, entries: &[Own], rows: &[Row], serial: Serial) -> usiz
     }
 }
 
-fn row_at(rows: &[Row], i: usize) -> Option<&Row>
-    ensures { option_copied result ≡ slice_get rows.now i }
-{
-    rows.get(i)
-}
-
 fn same_objects(entries: &[Own], others: &[Own]) -> bool
     ensures { IsTrue result ↔ (entries.now ≡ others.now) }
 {
     entries == others
-}
-
-fn same_rows(rows: &[Row], others: &[Row]) -> bool
-    ensures { IsTrue result ↔ (rows.now ≡ others.now) }
-{
-    rows == others
 }
 
 impl ObjectHeap {
@@ -85,7 +72,6 @@ impl ObjectHeap {
             owner,
             next: 0,
             entries: Vec::new(alloc),
-            rows: Vec::new(alloc),
         }
     }
 
@@ -117,7 +103,6 @@ impl ObjectHeap {
             return Ok(());
         }
         self.entries.reserve(n)?;
-        self.rows.reserve(n)?;
         Ok(())
     }
 
@@ -132,8 +117,8 @@ impl ObjectHeap {
         self.entries.push_reserved(Own {
             serial,
             count: OwnCount::new(),
+            row,
         });
-        self.rows.push_reserved(row);
         self.next += 1;
         ObjName {
             owner: self.owner,
@@ -149,7 +134,7 @@ impl ObjectHeap {
             return None;
         }
         match place_of(self.entries.as_slice(), n.serial) {
-            Ok(i) => row_at(self.rows.as_slice(), i),
+            Ok(i) => Some(&self.entries[i].row),
             Err(_) => None,
         }
     }
@@ -181,12 +166,7 @@ impl ObjectHeap {
         ensures count { result ≡ row_count (m.get self.now.rows n.serial) }
         ensures bound { result < count_limit }
     {
-        let i = place_there(
-            self.next,
-            self.entries.as_slice(),
-            self.rows.as_slice(),
-            n.serial,
-        );
+        let i = place_there(self.next, self.entries.as_slice(), n.serial);
         self.entries[i].count.get()
     }
 
@@ -196,12 +176,7 @@ impl ObjectHeap {
         requires fits { row_count (m.get self.old.rows n.serial) + by < count_limit }
         ensures { self.new ≡ counted (λ count. count + by) n self.old }
     {
-        let i = place_there(
-            self.next,
-            self.entries.as_slice(),
-            self.rows.as_slice(),
-            n.serial,
-        );
+        let i = place_there(self.next, self.entries.as_slice(), n.serial);
         self.entries[i].count.raise(by);
     }
 
@@ -211,12 +186,7 @@ impl ObjectHeap {
         requires enough { by ≤ row_count (m.get self.old.rows n.serial) }
         ensures { self.new ≡ counted (λ count. count - by) n self.old }
     {
-        let i = place_there(
-            self.next,
-            self.entries.as_slice(),
-            self.rows.as_slice(),
-            n.serial,
-        );
+        let i = place_there(self.next, self.entries.as_slice(), n.serial);
         self.entries[i].count.lower(by);
     }
 
@@ -225,14 +195,8 @@ impl ObjectHeap {
         requires there { Has self.old n }
         ensures { self.new ≡ without n self.old }
     {
-        let i = place_there(
-            self.next,
-            self.entries.as_slice(),
-            self.rows.as_slice(),
-            n.serial,
-        );
+        let i = place_there(self.next, self.entries.as_slice(), n.serial);
         self.entries.remove(i);
-        self.rows.remove(i);
     }
 
     /// Frees these objects, whose serials rise, in one pass.
@@ -240,7 +204,7 @@ impl ObjectHeap {
         requires { SerialsRise gone.now }
         ensures { self.new ≡ freed gone.now self.old }
     {
-        keep_others(&mut self.entries, &mut self.rows, gone);
+        keep_others(&mut self.entries, gone);
     }
 
     /// How many objects there are.
@@ -259,12 +223,12 @@ impl ObjectHeap {
             ≡ Some (result.0.serial, (result.1.now, result.2)) }
         ensures bound { result.2 < count_limit }
     {
-        let own = self.entries[i];
+        let own = &self.entries[i];
         let name = ObjName {
             owner: self.owner,
             serial: Serial::of(own.serial),
         };
-        (name, &self.rows[i], own.count.get())
+        (name, &own.row, own.count.get())
     }
 
     /// The same objects, of the same owner.
@@ -275,12 +239,10 @@ impl ObjectHeap {
         ensures { IfOk result (λ copied. copied ≡ record self.now { spare = copied.spare }) }
     {
         let entries = self.entries.as_slice().to_vec(alloc)?;
-        let rows = self.rows.as_slice().to_vec(alloc)?;
         Ok(ObjectHeap {
             owner: self.owner,
             next: self.next,
             entries,
-            rows,
         })
     }
 
@@ -294,9 +256,6 @@ impl ObjectHeap {
         if self.next != other.next {
             return false;
         }
-        if !same_objects(self.entries.as_slice(), other.entries.as_slice()) {
-            return false;
-        }
-        same_rows(self.rows.as_slice(), other.rows.as_slice())
+        same_objects(self.entries.as_slice(), other.entries.as_slice())
     }
 }

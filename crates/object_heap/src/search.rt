@@ -6,16 +6,17 @@ ghost use Rattle.std.specs.Ordering.{nat_cmp};
 ghost use Rattle.std.specs.FinMap.Entries.{is_sorted};
 ghost use Rattle.plain_list.specs.Rising.{IsAt, IsGap};
 ghost use Rattle.object_heap.specs.declared.search.Own.{Own as own};
-ghost use Rattle.object_heap.specs.Entry.{key_of};
+ghost use Rattle.object_heap.specs.Entry.{pair_of};
 
-use orca_names::Serial;
+use orca_names::{Row, Serial};
 use ref_weights::OwnCount;
 
-/// An own object: its serial and its count. Its row stands at the same place in a list of rows.
+/// An own object: its serial, its count and its row.
 #[derive(Clone, Copy, Debug, PartialEq, Eq)]
 pub(crate) struct Own {
     pub(crate) serial: u64,
     pub(crate) count: OwnCount,
+    pub(crate) row: Row,
 }
 
 // Where it stands if no serial between is gone.
@@ -38,18 +39,18 @@ fn guess(entries: &[Own], serial: u64) -> Option<usize>
 }
 
 fn search(entries: &[Own], serial: u64) -> Result<usize, usize>
-    requires { T (is_sorted nat_cmp (map key_of entries.now)) }
-    ensures { MatchResult result (IsAt nat_cmp (map key_of entries.now) serial)
-        (IsGap nat_cmp (map key_of entries.now) serial) }
+    requires { T (is_sorted nat_cmp (map pair_of entries.now)) }
+    ensures { MatchResult result (IsAt nat_cmp (map pair_of entries.now) serial)
+        (IsGap nat_cmp (map pair_of entries.now) serial) }
 {
     entries.binary_search_by_key(&serial, |e| e.serial)
 }
 
 /// The place of the serial, or the place where it would stand.
 pub(crate) fn place_of(entries: &[Own], serial: Serial) -> Result<usize, usize>
-    requires { T (is_sorted nat_cmp (map key_of entries.now)) }
-    ensures { MatchResult result (IsAt nat_cmp (map key_of entries.now) serial)
-        (IsGap nat_cmp (map key_of entries.now) serial) }
+    requires { T (is_sorted nat_cmp (map pair_of entries.now)) }
+    ensures { MatchResult result (IsAt nat_cmp (map pair_of entries.now) serial)
+        (IsGap nat_cmp (map pair_of entries.now) serial) }
 {
     let serial = serial.get();
     match guess(entries, serial) {

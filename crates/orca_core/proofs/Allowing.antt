@@ -13,6 +13,7 @@ use Rattle.actor_cell.specs.declared.turning.Turned.{Turned}
 use Rattle.actor_cell.specs.Cells.{as_cell}
 use Rattle.actor_cell.specs.Goes as goes
 use Rattle.actor_cell.specs.Goes.{CanMove, turned_in}
+use Rattle.actor_cell.proofs.Telling.{told_can}
 use Rattle.actor_table.specs.declared.slot.Place.{Place}
 use Rattle.actor_table.specs.declared.slot.Place.TheVariants.{Home}
 use Rattle.actor_table.specs.Changes.{CanTakeHere}
@@ -45,8 +46,9 @@ pub counts_allow : (trace : Trace) (weight : ℕ) (program : Program) (a : ℕ) 
     → (c : Cell) → (slot_at m.table.slots a).place ≡ Home c → CountsAllow a (act_in found) m c
 counts_allow trace weight program a found m fits allow c home =
     subst (CountsAllow a (act_in found) m) (same_cell (slot_at m.table.slots a).place fits.cell c fits.home home) (record {
-      can = subst (λ (t : goes.Turned). CanMove a (as_cell x).holdings t.turn t.act) fits.found_is
-          (subst (λ o. IsSomeAnd o (λ frame. let t = turned_in trace weight program a (as_cell x) frame in CanMove a (as_cell x).holdings t.turn t.act)) fits.framed (its.can fits.frame fits.framed));
+      can = told_can fits.frame (as_cell x) m.turn found.place a (as_cell x).holdings (act_in found)
+          (subst (λ (t : goes.Turned). CanMove a (as_cell x).holdings t.turn t.act) fits.found_is
+          (subst (λ o. IsSomeAnd o (λ frame. let t = turned_in trace weight program a (as_cell x) frame in CanMove a (as_cell x).holdings t.turn t.act)) fits.framed (its.can fits.frame fits.framed)));
       serials = its.serials;
       unnamed = ap (λ n. map_of.get x.foreign.entries (Actor n)) (sym (length-map m.table.slots seat_of)) ∙ its.unnamed;
     })

@@ -1,7 +1,6 @@
 -- What was found of an actor before its event came.
-use Rattle.std.proofs.Common.{◌≡◌, ◌≤◌, ℕ, false, length, Option, Some, None, refl, ap, subst, ◌∙◌, arith}
-use Rattle.std.specs.Prelude.{◌&&◌, is_none, option_map}
-use Rattle.std.specs.Option.{option_map_or}
+use Rattle.std.proofs.Common.{◌≡◌, ◌≤◌, ℕ, false, List, length, Option, Some, None, refl, ap, subst, ◌∙◌, arith}
+use Rattle.std.specs.Prelude.{◌&&◌, is_none, IsSomeAnd}
 use Rattle.orca_names.specs.declared.names.Thing.{Thing}
 use Rattle.orca_names.specs.declared.trace.Trace.{Trace}
 use Rattle.behaviour_code.specs.WellFormed.{IsWellFormed}
@@ -20,8 +19,10 @@ use Rattle.actor_cell.specs.Moves.{act_in}
 use Rattle.actor_cell.specs.declared.turning.Turned.{Turned}
 use Rattle.actor_cell.specs.Cells.{as_cell}
 use Rattle.actor_cell.specs.Goes as goes
-use Rattle.actor_cell.specs.Goes.{turned_in, turned_or_needs}
+use Rattle.actor_cell.specs.Goes.{IsTold, turned_in, turned_or_needs}
 use Rattle.actor_cell.specs.Sweeps.{sweep_of}
+use Rattle.actor_cell.proofs.Telling.{told_made}
+use Rattle.letter_kinds.specs.Holdings.{Row}
 use Rattle.actor_table.specs.declared.slot.Place.{Place}
 use Rattle.actor_table.specs.declared.slot.Place.TheVariants.{Home, Away, Gone}
 use Rattle.actor_table.specs.declared.slot.Slot.{Slot}
@@ -46,13 +47,10 @@ pub found_few : (trace : Trace) (weight : ℕ) (program : Program) (me : ℕ) (t
     → IsFoundGo trace weight program me turn turned c → length turn.made ≤ 1024
 found_few trace weight program me turn turned c good is = by c.frame is
   where
-    its : goes.Turned
-    its = record { turn = turn; place = turned.place; act = act_in turned }
-
-    by : (frame : Option Frame) → option_map (turned_in trace weight program me (as_cell c)) frame ≡ Some its → length turn.made ≤ 1024
-    by None found = cc
+    by : (frame : Option Frame) → IsSomeAnd frame (IsTold trace weight program me (as_cell c) turn turned.place (act_in turned)) → length turn.made ≤ 1024
+    by None found = absurd found
     by (Some frame) found =
-        subst (λ (t : goes.Turned). length t.turn.made ≤ 1024) (ap (λ o. option_map_or (λ (t : goes.Turned). t) o its) found)
+        subst (λ (made : List Row). length made ≤ 1024) (ap (λ (t : goes.Turned). t.turn.made) found ∙ told_made frame (as_cell c) turn turned.place (act_in turned))
         (turned_few trace weight program me (as_cell c) frame good)
 
 -- the turn that was found is that of the cell that the table lends
@@ -82,14 +80,13 @@ pub not_collecting : (trace : Trace) (weight : ℕ) (program : Program) (found :
     → IsFoundAt trace weight program found x → may_at may_collect x ≡ false
 not_collecting trace weight program found x none here = by found refl x.place refl
   where
-    running : (c : Cell) (t : goes.Turned) (frame : Option Frame) → option_map (turned_in trace weight program c.heap.owner (as_cell c)) frame ≡ Some t
-        → (is_none frame && c.dirty) ≡ false
-    running c t None is = cc
-    running c t (Some frame) is = refl
+    running : (c : Cell) (P : Frame → Type 0) (frame : Option Frame) → IsSomeAnd frame P → (is_none frame && c.dirty) ≡ false
+    running c P None is = absurd is
+    running c P (Some frame) is = refl
 
     by : (f : Found) → found ≡ f → (place : Place) → x.place ≡ place → may_in may_collect place x.mail.letters ≡ false
     by (Goes turn turned) is (Home c) at =
-        running c (record { turn = turn; place = turned.place; act = act_in turned }) c.frame (subst (λ f. IsFoundAt trace weight program f x) is here c at)
+        running c (IsTold trace weight program c.heap.owner (as_cell c) turn turned.place (act_in turned)) c.frame (subst (λ f. IsFoundAt trace weight program f x) is here c at)
     by Nothing is (Home c) at =
         let its = subst (λ f. IsFoundAt trace weight program f x) is here c at in
         ap (λ f. is_none f && c.dirty) its.0 ∙ its.1

@@ -21,11 +21,12 @@ use Rattle.machine_rules.specs.Next.{next}
 use Rattle.machine_rules.specs.State.{State}
 use Rattle.machine_rules.proofs.Acting.{acting-is}
 use Rattle.actor_cell.specs.Cells.{settled}
-use Rattle.actor_cell.specs.Goes.{cell_by, gone_by, load_in, turned_in}
+use Rattle.actor_cell.specs.Goes.{IsTold, cell_by, gone_by, load_in, turned_in}
 use Rattle.actor_cell.specs.Laws.{after_go}
-use Rattle.actor_cell.specs.Moves.{Move, Post, Mint, New, Print, End}
+use Rattle.actor_cell.specs.Moves.{Move, Post, Mint, New, Print, End, Rest}
 use Rattle.actor_table.specs.Changes.{changed_at, moved, with_cell_by}
 use Rattle.orca_core.specs.Goes.{given}
+use Rattle.actor_cell.proofs.Telling.{told_gone}
 use Rattle.actor_cell.proofs.GoParts.{gone, next-mint_all, next-send}
 
 -- where the act makes an actor, fewer are made than may be
@@ -35,12 +36,13 @@ FitsLimit (Mint owner things) made = ⊤
 FitsLimit (New kind register) made = made < ACTORS_LIMIT
 FitsLimit (Print value) made = ⊤
 FitsLimit End made = ⊤
+FitsLimit Rest made = ⊤
 
 -- an actor that is present has a frame, and this was found of its turn
 pub record Going (s : State) (a : ℕ) (c : Cell) (mail : List Letter) (frame : Frame) (turn : segment.Turn) (place : ℕ) (act : Move) : Type 0 where
   pub present : seat_at s.actors a ≡ seat c mail
   pub framed : c.frame ≡ Some frame
-  pub found : turned_in s.options.trace s.options.weight s.program a c frame ≡ record { turn = turn; place = place; act = act }
+  pub found : IsTold s.options.trace s.options.weight s.program a c turn place act frame
 
 module _ (s : State) (a : ℕ) (c : Cell) (mail : List Letter) (frame : Frame) (turn : segment.Turn) (place : ℕ) where
   -- the state after it is that of the parts
@@ -51,7 +53,7 @@ module _ (s : State) (a : ℕ) (c : Cell) (mail : List Letter) (frame : Frame) (
       acting-is may_go (go trace s a) (seat_at s.actors a) c mail going.present (ap is_some going.framed)
       ∙ gone trace s a c mail
       ∙ ap (λ o. option_map_or (after_go s a c mail) (option_map (λ f. gone_by a c f (turned_in trace s.options.weight s.program a c f)) o) NotEnabled) going.framed
-      ∙ ap (λ t. after_go s a c mail (gone_by a c frame t)) going.found
+      ∙ ap (λ t. after_go s a c mail (gone_by a c frame t)) going.found ∙ ap (after_go s a c mail) (told_gone frame c turn place a act)
 
   -- the cell after it, in its seat
   abbrev after : Move → Actors
@@ -95,6 +97,16 @@ module _ (s : State) (a : ℕ) (c : Cell) (mail : List Letter) (frame : Frame) (
       → next s (Go a) ≡ Goes (record s { actors = actors; objects = objects })
   end_goes actors objects going is made =
       went End going ∙ (λ i. Goes (record s {
+        actors = sym is i;
+        notes = append-nil s.notes i;
+        objects = (more (c.holdings.next + length turn.made) refl ∙ sym made) i;
+      }))
+
+  pub rest_goes : (actors : Actors) (objects : ℕ) → Going s a c mail frame turn place Rest
+      → actors ≡ after Rest → objects ≡ s.objects + length turn.made
+      → next s (Go a) ≡ Goes (record s { actors = actors; objects = objects })
+  rest_goes actors objects going is made =
+      went Rest going ∙ (λ i. Goes (record s {
         actors = sym is i;
         notes = append-nil s.notes i;
         objects = (more (c.holdings.next + length turn.made) refl ∙ sym made) i;
@@ -161,3 +173,5 @@ go_goes s a c mail frame turn place act going few here = by act going few
         (is_moved (Print value) g) refl refl
     by End g fits =
         end_goes s a c mail frame turn place (changed_at (with_cell_by (moved a turn place End)) a s.actors) (s.objects + length turn.made) g (is_moved End g) refl
+    by Rest g fits =
+        rest_goes s a c mail frame turn place (changed_at (with_cell_by (moved a turn place Rest)) a s.actors) (s.objects + length turn.made) g (is_moved Rest g) refl

@@ -1,5 +1,6 @@
 pub mod Allowing
 pub mod Asking
+pub mod Awaiting
 pub mod Enabled
 pub mod Firsts
 pub mod Fitting

@@ -14,7 +14,7 @@ use Rattle.machine_rules.specs.Cell as rules
 use Rattle.actor_cell.specs.declared.cell.Cell.{Cell}
 use Rattle.actor_cell.specs.Cells.{as_cell}
 use Rattle.actor_cell.specs.Goes.{cell_by, out_of}
-use Rattle.actor_cell.specs.Moves.{Move, Post, Mint, New, Print, End}
+use Rattle.actor_cell.specs.Moves.{Move, Post, Mint, New, Print, End, Rest}
 use Rattle.actor_table.specs.declared.slot.Slot.{Slot}
 use Rattle.actor_table.specs.declared.slot.Place.TheVariants.{Home}
 use Rattle.actor_table.specs.Changes.{CanSettleNew, changed_at, moved, with_cell_by}
@@ -80,6 +80,7 @@ module _ (weight a : ℕ) (c : Cell) (frame : Frame) (turn : segment.Turn) (plac
       by None home spare = absurd spare
   can_name (Print value) is room = tt
   can_name End is room = tt
+  can_name Rest is room = tt
 
 -- where an actor is made, fewer are made than may be
 pub fits_limit : (act : Move) (parts : Parts) → HasRoomOut act parts → FitsLimit act (length (actors_of parts.table.slots))
@@ -88,3 +89,4 @@ fits_limit (Mint owner things) parts room = tt
 fits_limit (New kind register) parts room = omega (arith, room.0, length-map parts.table.slots seat_of)
 fits_limit (Print value) parts room = tt
 fits_limit End parts room = tt
+fits_limit Rest parts room = tt

@@ -1,6 +1,6 @@
 -- A turn that was found, and what it takes to be prepared.
 use Rattle.std.proofs.Common.{Bool, ◌≡◌, ◌≤◌, ℕ, false, List, length, get_or, Option, None, Some, refl, sym, ap, subst, ◌∙◌}
-use Rattle.std.specs.Prelude.{if◌then◌else◌, is_err, is_some, option_map, IfErr, OnOk}
+use Rattle.std.specs.Prelude.{if◌then◌else◌, is_err, is_some, IfErr, IsSomeAnd, OnOk}
 use Rattle.std.specs.declared.result.Result.{Result}
 use Rattle.std.specs.declared.result.Result.TheVariants.{Ok, Err}
 use Rattle.std.specs.Option.{option_map_or}
@@ -23,7 +23,7 @@ use Rattle.actor_cell.specs.declared.cell.Cell.{Cell}
 use Rattle.actor_cell.specs.Moves.{act_in}
 use Rattle.actor_cell.specs.declared.turning.Turned.{Turned}
 use Rattle.actor_cell.specs.Cells.{as_cell}
-use Rattle.actor_cell.specs.Goes.{turned_in}
+use Rattle.actor_cell.specs.Goes.{IsTold, told, turned_in}
 use Rattle.actor_table.specs.declared.slot.Slot.{Slot}
 use Rattle.actor_table.specs.declared.slot.Place.{Place}
 use Rattle.actor_table.specs.declared.slot.Place.TheVariants.{Home, Away, Gone}
@@ -112,7 +112,7 @@ table_room m table turn actors away =
 -- what was found fits, once the memory was taken
 module _ (trace : Trace) (weight : ℕ) (program : Program) (a : ℕ) (found : Turned) (old : List Slot) (turn : Turn) (mid : List Slot) (m : Parts) where
   fits_with : (c : Cell) → (slot_at old a).place ≡ Home c → (frame : Frame) → c.frame ≡ Some frame
-      → turned_in trace weight program a (as_cell c) frame ≡ record { turn = turn; place = found.place; act = act_in found }
+      → IsTold trace weight program a (as_cell c) turn found.place (act_in found) frame
       → (x : Cell) → (slot_at mid a).place ≡ Home x → as_cell x ≡ as_cell c
       → HasRoomToGo turn (act_in found) (slot_at mid a) → places_of m.table.slots ≡ places_of mid → m.turn ≡ turn
       → HasRoomOut (act_in found) m → length turn.made ≤ BODY_LIMIT
@@ -124,7 +124,7 @@ module _ (trace : Trace) (weight : ℕ) (program : Program) (a : ℕ) (found : T
         home = sym (place_read m.table.slots a) ∙ ap (λ ps. get_or ps a Gone) places ∙ place_read mid a ∙ at;
         frame = frame;
         framed = ap (λ (y : rules.Cell). y.frame) same ∙ framed;
-        found_is = ap (λ y. turned_in trace weight program a y frame) same ∙ is ∙ ap (λ t. record { turn = t; place = found.place; act = act_in found }) (sym kept);
+        found_is = ap (λ y. turned_in trace weight program a y frame) same ∙ is ∙ (λ i. told frame (sym same i) (sym kept i) found.place (act_in found));
         few = subst (λ (t : Turn). length t.made ≤ BODY_LIMIT) (sym kept) few;
         objects = subst (λ (t : Turn). length t.made ≤ x.heap.spare) (sym kept) sizes.0;
         entries = sizes.1;
@@ -144,9 +144,8 @@ module _ (trace : Trace) (weight : ℕ) (program : Program) (a : ℕ) (found : T
       by c.frame refl cell.so x
     where
       by : (f : Option Frame) → cell.cell.frame ≡ f
-          → option_map (turned_in trace weight program a (as_cell cell.cell)) f ≡ Some (record { turn = turn; place = found.place; act = act_in found })
+          → IsSomeAnd f (IsTold trace weight program a (as_cell cell.cell) turn found.place (act_in found))
           → HasCell (slot_at mid a) (λ x. as_cell x ≡ as_cell cell.cell) → FitsGo trace weight program a found m
-      by None framed is x = cc
+      by None framed is x = absurd is
       by (Some frame) framed is x =
-          let its : turned_in trace weight program a (as_cell cell.cell) frame ≡ record { turn = turn; place = found.place; act = act_in found } = some_same is in
-          fits_with cell.cell cell.home frame framed its x.cell x.home x.so room places kept out few
+          fits_with cell.cell cell.home frame framed is x.cell x.home x.so room places kept out few

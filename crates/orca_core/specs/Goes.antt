@@ -1,5 +1,5 @@
 -- What a turn that was found asks of the machine.
-use Rattle.std.specs.Prelude.{ℕ, ◌≡◌, ◌+◌, ◌<◌, ◌≤◌, ◌^◌, ⊤, true, is_some, List, [], ◌∷◌, ◌++◌, length, None, Some, option_map, vec_capacity, vec_len}
+use Rattle.std.specs.Prelude.{ℕ, ◌≡◌, ◌+◌, ◌<◌, ◌≤◌, ◌^◌, ⊤, true, is_some, List, [], ◌∷◌, ◌++◌, length, None, Some, IsSomeAnd, vec_capacity, vec_len}
 use Rattle.std.specs.FinMap as m
 use Rattle.orca_names.specs.declared.limits.TheConstants.{ACTORS_LIMIT, BODY_LIMIT}
 use Rattle.orca_names.specs.declared.names.Thing.TheVariants.{Actor}
@@ -12,10 +12,10 @@ use Rattle.turn_rules.specs.Segment.{Turn}
 use Rattle.machine_rules.specs.Cell.{fresh_cell}
 use Rattle.machine_rules.specs.State.{State}
 use Rattle.actor_cell.specs.declared.cell.Cell.{Cell}
-use Rattle.actor_cell.specs.Moves.{Move, Post, Mint, New, Print, End, act_in}
+use Rattle.actor_cell.specs.Moves.{Move, Post, Mint, New, Print, End, Rest, act_in}
 use Rattle.actor_cell.specs.declared.turning.Turned.{Turned}
 use Rattle.actor_cell.specs.Cells.{as_cell, settled}
-use Rattle.actor_cell.specs.Goes.{CanMove, new_entries, turned_in}
+use Rattle.actor_cell.specs.Goes.{CanMove, IsTold, new_entries}
 use Rattle.actor_table.specs.declared.slot.Slot.{Slot}
 use Rattle.actor_table.specs.declared.slot.Place.TheVariants.{Home}
 use Rattle.actor_table.specs.Changes.{CanSettleNew, changed_at, with_cell_by}
@@ -37,12 +37,12 @@ HasRoomOut (New kind register) m =
     (length m.table.slots < ACTORS_LIMIT) × (0 < m.table.spare)
 HasRoomOut (Print value) m = vec_len m.prints < vec_capacity m.prints
 HasRoomOut End m = ⊤
+HasRoomOut Rest m = ⊤
 
 -- this was found of the turn of the cell, which has a frame
 abbrev pub IsFoundGo : Trace → ℕ → Program → ℕ → Turn → Turned → Cell → Type 0
-IsFoundGo trace weight program a turn found c =
-    option_map (turned_in trace weight program a (as_cell c)) c.frame
-    ≡ Some (record { turn = turn; place = found.place; act = act_in found })
+IsFoundGo trace weight program a turn found c = IsSomeAnd c.frame
+    (IsTold trace weight program a (as_cell c) turn found.place (act_in found))
 
 -- no turn was found: no cell is at home that has a frame, or memory was refused
 abbrev pub NotGoing : Slot → StepFault → Type 0
@@ -57,8 +57,7 @@ pub record FitsGo (trace : Trace) (weight : ℕ) (program : Program) (a : ℕ) (
   pub home : (slot_at m.table.slots a).place ≡ Home cell
   pub frame : Frame
   pub framed : cell.frame ≡ Some frame
-  pub found_is : turned_in trace weight program a (as_cell cell) frame
-      ≡ record { turn = m.turn; place = found.place; act = act_in found }
+  pub found_is : IsTold trace weight program a (as_cell cell) m.turn found.place (act_in found) frame
   pub few : length m.turn.made ≤ BODY_LIMIT
   pub objects : length m.turn.made ≤ cell.heap.spare
   pub entries : new_entries (act_in found) cell.foreign.entries ≤ cell.foreign.spare
@@ -77,6 +76,7 @@ CanNameNew weight a (Mint owner things) slots = ⊤
 CanNameNew weight a (New kind register) slots = CanSettleNew weight (length slots) (slot_at slots a)
 CanNameNew weight a (Print value) slots = ⊤
 CanNameNew weight a End slots = ⊤
+CanNameNew weight a Rest slots = ⊤
 
 -- ---- what becomes of the state
 
@@ -96,3 +96,4 @@ given weight program a (New kind register) made s =
 given weight program a (Print value) made s =
     record s { prints = s.prints ++ value ∷ []; objects = s.objects + made }
 given weight program a End made s = record s { objects = s.objects + made }
+given weight program a Rest made s = record s { objects = s.objects + made }

@@ -1,3 +1,4 @@
+pub mod Awaiting
 pub mod Away
 pub mod Faults
 pub mod Firsts

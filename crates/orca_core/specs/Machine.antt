@@ -3,6 +3,7 @@ use Rattle.std.specs.Prelude.{ℕ, ◌≡◌, ◌<◌, ◌≤◌, Bool, true, fa
 use Rattle.orca_names.specs.declared.limits.TheConstants.{BOOK_LIMIT}
 use Rattle.orca_names.specs.declared.trace.Trace.{Trace}
 use Rattle.behaviour_check.specs.Rules.{IsChecked}
+use Rattle.behaviour_code.specs.declared.code.Program.{Program}
 use Rattle.event_rule.specs.declared.event.Event.{Event}
 use Rattle.event_rule.specs.declared.event.Event.TheVariants.{Take, Go, Collect, Leave, Block, Hear, Scan, Reap}
 use Rattle.letter_kinds.specs.Detector.{Token, has}
@@ -13,7 +14,9 @@ use Rattle.machine_rules.specs.Detect.{acked_token}
 use Rattle.machine_rules.specs.Options.{Options}
 use Rattle.machine_rules.specs.Run.{IsRun}
 use Rattle.machine_rules.specs.State.{State}
+use Rattle.orca_core.specs.Awaiting.{IsAwaited}
 use Rattle.orca_core.specs.Away.{is_out}
+use Rattle.orca_core.specs.Parts.{state_of}
 use Rattle.orca_core.specs.Ready.{FitsReady}
 use Rattle.orca_core.specs.declared.parts.Parts.{Parts}
 use Rattle.orca_core.specs.declared.ready.Ready.{Ready}
@@ -38,6 +41,12 @@ pub record IsReached (state : State) (steps : ℕ) : Type 0 where
   pub run : IsRun state.program state.options book state
   pub long : length book ≡ steps
   pub early : steps ≤ BOOK_LIMIT
+
+-- it is reached, and what was found last awaits a letter still, where it stands
+pub record IsKept (program : Program) (weight : ℕ) (trace : Trace) (parts : Parts) (steps : ℕ)
+    (stands : Bool) : Type 0 where
+  pub reached : IsReached (state_of program (options_of weight trace) parts) steps
+  pub awaited : stands ≡ true → IsAwaited trace program parts
 
 -- nothing but room is another
 pub record IsSame (old new : Machine) : Type 0 where

@@ -1,6 +1,6 @@
 // Go: a frame runs up to its next act.
 
-ghost use Rattle.std.specs.Prelude.{ℕ, ◌≡◌, ◌+◌, ◌<◌, ◌≤◌, ◌^◌, ◌++◌, ◌∷◌, [], is_some, length, IfErr, IsSome, OnOk, None, Some};
+ghost use Rattle.std.specs.Prelude.{ℕ, ◌≡◌, ◌+◌, ◌<◌, ◌≤◌, ◌^◌, ◌++◌, ◌∷◌, [], true, is_some, length, IfErr, IsSome, OnOk, None, Some};
 ghost use Rattle.std.specs.FinMap as m;
 ghost use Rattle.orca_names.specs.declared.limits.TheConstants.{ACTORS_LIMIT, BODY_LIMIT};
 ghost use Rattle.orca_names.specs.declared.trace.Trace.{Trace as tracing};
@@ -11,16 +11,18 @@ ghost use Rattle.machine_rules.specs.Actors.{push_letter, seat};
 ghost use Rattle.machine_rules.specs.Cell.{fresh_cell};
 ghost use Rattle.machine_rules.specs.Next.{next};
 ghost use Rattle.machine_rules.specs.Options.{Options};
-ghost use Rattle.actor_cell.specs.Cells.{settled};
+ghost use Rattle.actor_cell.specs.Cells.{as_cell, settled};
 ghost use Rattle.actor_cell.specs.declared.cell.Cell.{Cell as a_cell};
 ghost use Rattle.actor_table.specs.declared.slot.Place.TheVariants.{Home};
 ghost use Rattle.actor_table.specs.Changes.{CanSettleNew, HasCell, changed_at, with_cell_by};
 ghost use Rattle.actor_table.specs.Slots.{actors_of, away_of, places_of, slot_at};
 ghost use Rattle.ref_weights.specs.Limit.{count_limit};
+ghost use Rattle.actor_cell.specs.Awaiting.{Awaits};
 ghost use Rattle.actor_cell.specs.Goes.{out_of};
 ghost use Rattle.actor_cell.specs.Moves.{act_in};
 ghost use Rattle.letter_kinds.specs.declared.letter.Letter.TheVariants.{App as app, Inc as inc};
 ghost use Rattle.orca_core.specs.Away.{KeepsAway, next_without};
+ghost use Rattle.orca_core.specs.Awaiting.{AwaitedIn, AwaitsMinted, IsAwaited, IsAwaitedHere};
 ghost use Rattle.orca_core.specs.Faults.{IsFault};
 ghost use Rattle.orca_core.specs.Fits.{OnlyRoom};
 ghost use Rattle.orca_core.specs.Goes.{CanNameNew, CountsAllow, FitsGo, HasRoomForOne, HasRoomOut, IsFoundGo, NotGoing, given};
@@ -30,7 +32,7 @@ ghost use Rattle.orca_core.specs.Woken.{IsLowestWoken};
 use crate::fault::StepFault;
 use crate::letters::post;
 use crate::parts::Parts;
-use actor_cell::{Cell, Doing, Turned};
+use actor_cell::{Awaited, Cell, Doing, Turned};
 use actor_table::ActorTable;
 use behaviour_check::Checked;
 use behaviour_code::Name;
@@ -41,6 +43,7 @@ use std::alloc::Global;
 use turn_step::Turn;
 
 // What is found of the actor's turn, in this room for a turn.
+#[inline(always)]
 fn find_go(
     alloc: Global,
     code: &Checked,
@@ -56,6 +59,8 @@ fn find_go(
     ensures found { OnOk result (HasCell (slot_at table.now.slots a)
         (IsFoundGo trace weight code.now a turn.new found.new)) }
     ensures few { OnOk result (length turn.new.made ≤ BODY_LIMIT) }
+    ensures awaited { OnOk result (HasCell (slot_at table.now.slots a)
+        (IsAwaitedHere trace code.now a turn.new found.new)) }
     ensures fault { IfErr result (NotGoing (slot_at table.now.slots a)) }
 {
     let Some(cell) = table.cell(a) else {
@@ -65,6 +70,39 @@ fn find_go(
         return Err(StepFault::NotEnabled);
     }
     match cell.found_go(alloc, code, weight, trace, turn, found) {
+        Ok(()) => Ok(()),
+        Err(NoMemory) => Err(StepFault::NoMemory),
+    }
+}
+
+// What is found again of the actor's turn, which stopped at this letter.
+#[inline(never)]
+fn find_again(
+    alloc: Global,
+    code: &Checked,
+    weight: u32,
+    trace: Trace,
+    table: &ActorTable,
+    turn: &Turn,
+    found: &mut Turned,
+    a: ActorName,
+    letter: Awaited,
+) -> Result<(), StepFault>
+    requires awaited { (c : a_cell) → (slot_at table.now.slots a).place ≡ Home c
+        → Awaits trace code.now a (as_cell c) turn.now found.old letter }
+    ensures found { OnOk result (HasCell (slot_at table.now.slots a)
+        (IsFoundGo trace weight code.now a turn.now found.new)) }
+    ensures few { OnOk result (length turn.now.made ≤ BODY_LIMIT) }
+    ensures awaited { OnOk result (HasCell (slot_at table.now.slots a)
+        (IsAwaitedHere trace code.now a turn.now found.new)) }
+    ensures fault { IfErr result (NotGoing (slot_at table.now.slots a)) }
+{
+    // The behaviours of a checked program are short.
+    let _program = code.program();
+    let Some(cell) = table.cell(a) else {
+        return Err(StepFault::NotEnabled);
+    };
+    match cell.found_again(alloc, code, weight, trace, turn, letter, found) {
         Ok(()) => Ok(()),
         Err(NoMemory) => Err(StepFault::NoMemory),
     }
@@ -88,7 +126,7 @@ fn reserve_out(parts: &mut Parts) -> Result<(), NoMemory>
             register: _,
         } => parts.table.reserve_actor(),
         Doing::Print { value: _ } => Ok(parts.prints.reserve(1)?),
-        Doing::End => Ok(()),
+        Doing::End | Doing::Rest => Ok(()),
     }
 }
 
@@ -114,6 +152,8 @@ fn makes(found: &Turned) -> bool
 pub(crate) fn prepare_turn(parts: &mut Parts, a: ActorName) -> Result<(), StepFault>
     requires few { length parts.old.turn.made ≤ BODY_LIMIT }
     ensures same { OnlyRoom parts.old parts.new }
+    ensures turn { parts.new.turn ≡ parts.old.turn }
+    ensures turned { parts.new.turned ≡ parts.old.turned }
     ensures ok { (trace : tracing) (weight : ℕ) (program : Program)
         → HasCell (slot_at parts.old.table.slots a)
         (IsFoundGo trace weight program a parts.old.turn parts.old.turned)
@@ -139,29 +179,68 @@ pub(crate) fn prepare_turn(parts: &mut Parts, a: ActorName) -> Result<(), StepFa
     Ok(())
 }
 
-/// Finds the actor's turn, and takes all memory for what it does; the state stays as it was.
+// What is found of the actor's turn, in this room for a turn. Where what was found last `stands` and
+// awaits a letter of the actor, its turn isn't run again.
+#[inline(always)]
+fn find(
+    alloc: Global,
+    code: &Checked,
+    weight: u32,
+    trace: Trace,
+    stands: bool,
+    table: &ActorTable,
+    turn: &mut Turn,
+    found: &mut Turned,
+    a: ActorName,
+) -> Result<(), StepFault>
+    requires serials { (c : a_cell) → (slot_at table.now.slots a).place ≡ Home c
+        → c.heap.next + BODY_LIMIT < 2 ^ 64 }
+    requires awaited { stands ≡ true
+        → AwaitedIn trace code.now turn.old found.old (actors_of table.now.slots) }
+    ensures found { OnOk result (HasCell (slot_at table.now.slots a)
+        (IsFoundGo trace weight code.now a turn.new found.new)) }
+    ensures few { OnOk result (length turn.new.made ≤ BODY_LIMIT) }
+    ensures awaited { OnOk result (HasCell (slot_at table.now.slots a)
+        (IsAwaitedHere trace code.now a turn.new found.new)) }
+    ensures fault { IfErr result (NotGoing (slot_at table.now.slots a)) }
+{
+    if stands {
+        if let Some(letter) = found.awaits(a) {
+            return find_again(alloc, code, weight, trace, table, turn, found, a, letter);
+        }
+    }
+    find_go(alloc, code, weight, trace, table, turn, found, a)
+}
+
+/// Finds the actor's turn, and takes all memory for what it does; the state stays as it was. Where what
+/// was found last `stands`, it serves again.
+#[inline(always)]
 pub(crate) fn prepare_go(
     alloc: Global,
     code: &Checked,
     weight: u32,
     trace: Trace,
+    stands: bool,
     parts: &mut Parts,
     a: ActorName,
 ) -> Result<(), StepFault>
     requires serials { (c : a_cell) → (slot_at parts.old.table.slots a).place ≡ Home c
         → c.heap.next + BODY_LIMIT < 2 ^ 64 }
+    requires awaited { stands ≡ true → IsAwaited trace code.now parts.old }
     ensures same { OnlyRoom parts.old parts.new }
     ensures ok { OnOk result (FitsGo trace weight code.now a parts.new.turned parts.new) }
+    ensures awaited { OnOk result (IsAwaited trace code.now parts.new) }
     ensures fault { (options : Options) → options.weight ≡ weight → options.trace ≡ trace →
         let s = state_of code.now options parts.old in
         IfErr result (IsFault (next_without (away_of parts.old.table.slots) s (go_event a)) (go_event a)) }
 {
     let turn = &mut parts.turn;
-    match find_go(
+    match find(
         alloc,
         code,
         weight,
         trace,
+        stands,
         &parts.table,
         turn,
         &mut parts.turned,
@@ -173,12 +252,16 @@ pub(crate) fn prepare_go(
 }
 
 impl Parts {
-    // The turn's objects count as made.
-    fn count_made(&mut self)
+    // The turn is kept: its objects count as made, and no letter is awaited.
+    fn keep_turn(&mut self)
         requires { self.old.objects + length self.old.turn.made < 2 ^ 64 }
-        ensures { self.new ≡ record self.old { objects = self.old.objects + length self.old.turn.made } }
+        ensures { self.new ≡ record self.old {
+          objects = self.old.objects + length self.old.turn.made;
+          turned = record self.old.turned { awaited = None };
+        } }
     {
         self.objects += self.turn.made().len() as u64;
+        self.turned.forget_letter();
     }
 }
 
@@ -222,6 +305,7 @@ fn post_letter(
     ensures actors { actors_of table.new.slots
         ≡ push_letter to (app behaviour found.old.args found.old.load found.old.rows)
         (actors_of table.old.slots) }
+    ensures awaited { found.new.awaited ≡ found.old.awaited }
     ensures away { away_of table.new.slots ≡ away_of table.old.slots }
     ensures woken { IsLowestWoken (actors_of table.old.slots) (actors_of table.new.slots) result }
 {
@@ -239,6 +323,7 @@ fn post_things(
     requires { HasRoomForOne owner table.old.slots }
     ensures actors { actors_of table.new.slots
         ≡ push_letter owner (inc found.old.things) (actors_of table.old.slots) }
+    ensures rest { found.new ≡ record found.old { things = found.new.things } }
     ensures away { away_of table.new.slots ≡ away_of table.old.slots }
     ensures woken { IsLowestWoken (actors_of table.old.slots) (actors_of table.new.slots) result }
 {
@@ -262,6 +347,8 @@ fn give_out(
     ensures state { (options : Options) → state_of code.now options parts.new
         ≡ given weight code.now a (act_in parts.old.turned) (length parts.old.turn.made)
         (state_of code.now options parts.old) }
+    ensures awaited { (trace : tracing) → AwaitsMinted trace code.now parts.old
+        → IsAwaited trace code.now parts.new }
     ensures away { KeepsAway (away_of parts.old.table.slots) (away_of parts.new.table.slots) }
     ensures woken { IsLowestWoken (actors_of parts.old.table.slots) (actors_of parts.new.table.slots) result }
 {
@@ -269,7 +356,7 @@ fn give_out(
         Doing::Post { to, behaviour } => {
             let to = *to;
             let behaviour = *behaviour;
-            parts.count_made();
+            parts.keep_turn();
             post_letter(alloc, &mut parts.table, &mut parts.turned, to, behaviour)
         }
         Doing::Mint { owner } => {
@@ -279,18 +366,18 @@ fn give_out(
         Doing::New { kind, register } => {
             let kind = *kind;
             let register = *register;
-            parts.count_made();
+            parts.keep_turn();
             let name = make(alloc, code, weight, &mut parts.table, a, kind, register);
             Some(name)
         }
         Doing::Print { value } => {
             let value = *value;
-            parts.count_made();
+            parts.keep_turn();
             parts.prints.push_reserved(value);
             None
         }
-        Doing::End => {
-            parts.count_made();
+        Doing::End | Doing::Rest => {
+            parts.keep_turn();
             None
         }
     }
@@ -314,6 +401,7 @@ pub(crate) fn apply_go(
     ensures state { (options : Options) → options.weight ≡ weight → options.trace ≡ trace
         → next (state_of code.now options parts.old) (go_event a)
         ≡ Goes (state_of code.now options parts.new) }
+    ensures awaited { IsAwaited trace code.now parts.old → IsAwaited trace code.now parts.new }
     ensures away { KeepsAway (away_of parts.old.table.slots) (away_of parts.new.table.slots) }
     ensures woken { IsLowestWoken (actors_of parts.old.table.slots) (actors_of parts.new.table.slots) result }
 {

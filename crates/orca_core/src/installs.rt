@@ -110,7 +110,7 @@ fn install(
     match *e {
         Event::Go(actor) => install_go(code, weight, trace, parts, actor, found),
         Event::Collect(actor) => install_collect(trace, parts, actor, found),
-        _ => prepare(alloc, code, weight, trace, parts, e),
+        _ => prepare(alloc, code, weight, trace, false, parts, e),
     }
 }
 
@@ -134,6 +134,8 @@ impl<'a> Orca<'a> {
         ensures home { OnOk result (is_out_for self.old.out e ≡ false) }
         ensures fault { IfErr result (IsFault (next_without self.old.out self.old.state e) e) }
     {
+        // What is found elsewhere awaits no letter here.
+        self.stands = false;
         install(
             alloc,
             self.code,

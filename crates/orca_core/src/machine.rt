@@ -17,7 +17,7 @@ ghost use Rattle.orca_core.specs.Woken.{IsLowestWoken};
 use crate::fault::StepFault;
 use crate::parts::Parts;
 use crate::ready::Ready;
-use crate::steps::{apply, prepare};
+use crate::steps::{apply, prepare, stand_for_go, stand_for_take, stand_when_done};
 use actor_cell::{Cell, Sweep, Turned};
 use actor_table::ActorTable;
 use behaviour_check::Checked;
@@ -41,6 +41,8 @@ pub struct Orca<'a> {
     pub(crate) trace: Trace,
     pub(crate) parts: Parts,
     steps: u64,
+    /// What was found last of a turn stands, where it awaits a letter.
+    pub(crate) stands: bool,
 }
 
 impl<'a> Model for Orca<'a> {
@@ -62,7 +64,7 @@ impl<'a> Model for Orca<'a> {
     } };
 
     ghost invariant = { λ m.
-        machine.IsReached (state_of m.code.now (machine.options_of m.weight m.trace) m.parts) m.steps };
+        machine.IsKept m.code.now m.weight m.trace m.parts m.steps m.stands };
 }
 
 // The letters of the first actor: `start`, where the program has it.
@@ -135,6 +137,7 @@ impl<'a> Orca<'a> {
                 members: Vec::new(alloc),
             },
             steps: 0,
+            stands: false,
         })
     }
 
@@ -145,6 +148,7 @@ impl<'a> Orca<'a> {
     /// `NotEnabled` exactly where the event is not enabled, or is one of an actor whose cell is away;
     /// `ActorsFull` exactly where the event is a go whose act would make an actor and 65,536 are made;
     /// `NoMemory` where memory was refused.
+    #[inline(always)]
     pub fn prepare(&mut self, alloc: Global, e: Event) -> Result<Ready, StepFault>
         requires early { self.old.steps < BOOK_LIMIT }
         requires home { ReapsNoneAway e self.old }
@@ -154,20 +158,25 @@ impl<'a> Orca<'a> {
         ensures home { OnOk result (is_out_for self.old.out e ≡ false) }
         ensures fault { IfErr result (IsFault (next_without self.old.out self.old.state e) e) }
     {
+        let stands = self.stands;
+        stand_for_take(&mut self.stands, &e);
         prepare(
             alloc,
             self.code,
             self.weight,
             self.trace,
+            stands,
             &mut self.parts,
             &e,
         )?;
+        stand_for_go(&mut self.stands, &e);
         Ok(Ready { event: e })
     }
 
     /// Does the event that was prepared: the machine's next step is exactly that of its rules. It takes
     /// no memory, and tells the lowest actor that gets a letter or is made by the event, `None` where
     /// none is.
+    #[inline(always)]
     pub fn apply_ready(&mut self, alloc: Global, ready: Ready) -> Option<ActorName>
         requires early { self.old.steps < BOOK_LIMIT }
         requires fits { Fits ready self.old }
@@ -176,6 +185,7 @@ impl<'a> Orca<'a> {
         ensures out { KeepsAway self.old.out self.new.out }
         ensures woken { IsLowestWoken self.old.state.actors self.new.state.actors result }
     {
+        stand_when_done(&mut self.stands, &ready.event);
         let woken = apply(
             alloc,
             self.code,
@@ -194,6 +204,7 @@ impl<'a> Orca<'a> {
     ///
     /// # Errors
     /// As `prepare`. Nothing changes then but room.
+    #[inline(always)]
     pub fn step(&mut self, alloc: Global, e: Event) -> Result<Option<ActorName>, StepFault>
         requires early { self.old.steps < BOOK_LIMIT }
         requires home { ReapsNoneAway e self.old }

@@ -1,6 +1,7 @@
 // Take: an idle actor takes the first of its letters.
 
 ghost use Rattle.std.specs.Prelude.{◌≡◌, ◌<◌, ◌-◌, IfErr, IsSome, OnOk};
+ghost use Rattle.orca_names.specs.declared.trace.Trace.{Trace as tracing};
 ghost use Rattle.behaviour_code.specs.declared.code.Program.{Program};
 ghost use Rattle.std.specs.VecDeque.{deque_capacity, deque_len};
 ghost use Rattle.event_rule.specs.Runs.{Goes};
@@ -10,6 +11,7 @@ ghost use Rattle.machine_rules.specs.Next.{next};
 ghost use Rattle.machine_rules.specs.Options.{Options};
 ghost use Rattle.actor_table.specs.Changes.{CanTakeHere, note_taken};
 ghost use Rattle.actor_table.specs.Slots.{actors_of, away_of, slot_at};
+ghost use Rattle.orca_core.specs.Awaiting.{IsAwaited};
 ghost use Rattle.orca_core.specs.Away.{next_without};
 ghost use Rattle.orca_core.specs.Faults.{IsFault};
 ghost use Rattle.orca_core.specs.Fits.{FitsTake, OnlyRoom};
@@ -27,8 +29,11 @@ use orca_names::ActorName;
 /// `NotEnabled` exactly where the actor may not take a letter, or its cell is away. `NoMemory` where
 /// memory was refused.
 #[tactic(auto, using(crate::proofs::Preparing::only_room))]
+#[inline(always)]
 pub(crate) fn prepare_take(parts: &mut Parts, a: ActorName) -> Result<(), StepFault>
     ensures same { OnlyRoom parts.old parts.new }
+    ensures turn { parts.new.turn ≡ parts.old.turn }
+    ensures turned { parts.new.turned ≡ parts.old.turned }
     ensures ok { OnOk result (FitsTake a parts.new) }
     ensures fault { let away = away_of parts.old.table.slots in
         (program : Program) (options : Options) → IfErr result
@@ -50,6 +55,8 @@ pub(crate) fn apply_take(code: &Checked, parts: &mut Parts, a: ActorName) -> Opt
         → deque_len parts.old.notes < deque_capacity parts.old.notes }
     ensures state { (options : Options) → next (state_of code.now options parts.old) (take_event a)
         ≡ Goes (state_of code.now options parts.new) }
+    ensures awaited { (trace : tracing) → IsAwaited trace code.now parts.old
+        → IsAwaited trace code.now parts.new }
     ensures away { away_of parts.new.table.slots ≡ away_of parts.old.table.slots }
     ensures woken { IsLowestWoken (actors_of parts.old.table.slots) (actors_of parts.new.table.slots) result }
 {

@@ -2,6 +2,7 @@
 
 ghost use Rattle.std.specs.Prelude.{◌≡◌, ◌<◌, ◌≤◌, [], ◌∷◌, ◌++◌, length, slice_get, slice_set, replicate, Some};
 ghost use Rattle.orca_names.specs.declared.names.Value.TheVariants.{Null};
+ghost use Rattle.orca_names.specs.Places.{padded};
 
 use crate::limits::VALUES_LIMIT;
 use crate::names::Value;
@@ -89,6 +90,24 @@ impl Args {
         &places[..self.used]
     }
 
+    /// All eight places: the values, and null in those that are left.
+    pub fn places(&self) -> &[Value]
+        ensures value { result.now ≡ padded self.now }
+        ensures eight { length result.now ≡ 8 }
+    {
+        &self.places
+    }
+
+    /// Becomes the values of another, in place.
+    #[inline(always)]
+    pub fn copy_from(&mut self, other: &Args)
+        ensures { self.new ≡ other.now }
+    {
+        let places = &mut self.places;
+        places.copy_from_slice(&other.places);
+        self.used = other.used;
+    }
+
     /// The value at a place, counted from 0.
     pub fn at(&self, i: u64) -> Value
         requires { i < length self.now }
@@ -157,6 +176,14 @@ impl Row {
         Row { values }
     }
 
+    /// Becomes the values of another row, in place.
+    #[inline(always)]
+    pub fn copy_from(&mut self, other: &Row)
+        ensures { self.new ≡ other.now }
+    {
+        self.values.copy_from(&other.values);
+    }
+
     /// The number of values.
     pub fn len(&self) -> u64
         ensures count { result ≡ length self.now }
@@ -197,4 +224,15 @@ impl Row {
 pub struct Fields {
     pub values: Args,
     pub pinned: bool,
+}
+
+impl Fields {
+    /// Becomes what another actor keeps, in place.
+    #[inline(always)]
+    pub fn copy_from(&mut self, other: &Fields)
+        ensures { self.new ≡ other.now }
+    {
+        self.values.copy_from(&other.values);
+        self.pinned = other.pinned;
+    }
 }

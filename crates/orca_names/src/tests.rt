@@ -1,6 +1,6 @@
 // Examples from outside of the contracts: the order of things, and values kept in their places.
 
-use crate::{ActorName, Args, ObjName, Row, Serial, Thing, Value};
+use crate::{ActorName, Args, Fields, ObjName, Row, Serial, Thing, Value};
 use std::test::Fail;
 
 const fn object(owner: u32, serial: u64) -> Thing {
@@ -39,4 +39,22 @@ fn values_keep_their_places(rt: HostRuntime) {
     let row = Row::of(&want);
     assert_eq!(rt; (row.len(), row.at(2)), (3, Value::Actor(ActorName(2))));
     assert_eq!(rt; Args::nulls(2).as_slice(), [Value::Null; 2].as_slice());
+}
+
+#[test]
+fn copies_are_equal(rt: HostRuntime) {
+    let mut fields = Fields {
+        values: Args::nulls(8),
+        pinned: false,
+    };
+    let other = Fields {
+        values: Args::of(&[Value::Num(7), Value::Null]),
+        pinned: true,
+    };
+    fields.copy_from(&other);
+    assert_eq!(rt; fields, other);
+    let mut row = Row::of(&[Value::Null; 8]);
+    row.copy_from(&Row::from_args(other.values));
+    assert_eq!(rt; row.as_slice(), other.values.as_slice());
+    assert_eq!(rt; row.len(), 2);
 }

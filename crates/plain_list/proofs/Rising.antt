@@ -1,5 +1,5 @@
 -- What a place says of a look-up, a write, an insert and a removal.
-use Rattle.std.proofs.Common.{inl, inr, ◌≡◌, ℕ, zero, suc, ◌+◌, ◌<◌, ◌≤◌, Bool, true, false, cond, not, ◌&&◌, List, [], ◌∷◌, ◌++◌, length, get_or, map, set, take, drop, slice_get, Option, Some, None, Ordering, Result, Ok, Err, refl, sym, ap, subst, ◌∙◌, arith}
+use Rattle.std.proofs.Common.{◌≡◌, ℕ, zero, suc, ◌+◌, ◌<◌, Bool, true, false, cond, not, ◌&&◌, List, [], ◌∷◌, ◌++◌, length, get_or, map, set, take, drop, slice_get, Option, Some, None, Ordering, Result, Ok, Err, refl, sym, ap, subst, ◌∙◌, arith}
 use Rattle.std.specs.Prelude.{T}
 use Rattle.std.specs.declared.cmp.Ordering.TheVariants.{Less, Equal, Greater}
 use Rattle.std.specs.List.{insert, remove, filter}
@@ -7,7 +7,6 @@ use Rattle.std.specs.List.Sorted.{IsSearchInRange, IsBinarySearchResult, IsNonDe
 use Rattle.std.specs.Result.{MatchResult}
 use Rattle.std.proofs.lemmas.List.{get_or_default, length-map, get_or-map, map-set, map-append, drop-map}
 use Rattle.std.specs.List.{take-map}
-use Rattle.std.proofs.lemmas.Bool.{cases_lt}
 use Rattle.std.proofs.lemmas.Option.{get_or_from_slice_get, slice_get-get_or, slice_get_within}
 use Rattle.std.proofs.lemmas.List.Sorted.{searchable_from_sorted}
 use Rattle.std.specs.Ordering.{is_eq, is_lt, eq_by_cmp, ordering_reverse, ordering_index}
@@ -277,29 +276,7 @@ value_at_place o map i e is =
     let at = at_place o (m.entries map) (m.entries_sorted map) e.0 i (slice_get_within (m.entries map) i e is) (λ d. ap (λ x. x.0) (get_or_from_slice_get (m.entries map) i e d is)) in
     m.get-entries map e.0 ∙ find_at o (m.entries map) e.0 i at e ∙ ap (λ x. Some x.1) (get_or_from_slice_get (m.entries map) i e e is)
 
--- places go by the keys alone
-module _ {K X Y : Type 0} (es : List (K × X)) (fs : List (K × Y)) (x : X) (same : map (λ e. e.0) es ≡ map (λ f. f.0) fs) where
-  as_long : length es ≡ length fs
-  as_long = sym (length-map es (λ e. e.0)) ∙ ap length same ∙ length-map fs (λ f. f.0)
-
-  key_at : (j : ℕ) (d : K × Y) → j < length fs → (get_or fs j d).0 ≡ (get_or es j (d.0, x)).0
-  key_at j d l = sym (get_or-map (λ f. f.0) fs j d d.0 l) ∙ ap (λ ks. get_or ks j d.0) (sym same) ∙ get_or-map (λ e. e.0) es j (d.0, x) d.0 (omega (arith, as_long))
-
-  pub same_place : {R : K → K → Ordering} (q : K) (i : ℕ) → IsAt R es q i → IsAt R fs q i
-  same_place {R = R} q i a = record {
-    in_range = omega (arith, as_long, a.in_range);
-    has_key = λ d. key_at i d (omega (arith, as_long, a.in_range)) ∙ a.has_key (d.0, x);
-    before = λ j d l. ap (R q) (key_at j d (omega (arith, as_long, a.in_range))) ∙ a.before j (d.0, x) l;
-    after = λ j d l m. ap (R q) (key_at j d m) ∙ a.after j (d.0, x) l (omega (arith, as_long));
-  }
-
-  pub same_gap : {R : K → K → Ordering} (q : K) (i : ℕ) → IsGap R es q i → IsGap R fs q i
-  same_gap {R = R} q i a = record {
-    in_range = omega (arith, as_long, a.in_range);
-    before = λ j d l. ap (R q) (key_at j d (omega (arith, as_long, a.in_range))) ∙ a.before j (d.0, x) l;
-    after = λ j d l m. ap (R q) (key_at j d m) ∙ a.after j (d.0, x) l (omega (arith, as_long));
-  }
-
+-- whether keys rise is told by the keys alone
 module _ {K : Type 0} (R : K → K → Ordering) where
   keys_below : K → List K → Bool
   keys_below k [] = true
@@ -319,7 +296,6 @@ module _ {K : Type 0} (R : K → K → Ordering) where
   rise_by_keys [] = refl
   rise_by_keys (g ∷ gs) = ap (λ b. b && is_sorted R gs) (below_by_keys g.0 gs) ∙ ap (λ b. keys_below g.0 (map (λ h. h.0) gs) && b) (rise_by_keys gs)
 
-  -- and so does whether they rise
   pub same_rise : {X Y : Type 0} (es : List (K × X)) (fs : List (K × Y)) → map (λ e. e.0) es ≡ map (λ f. f.0) fs → T (is_sorted R es) → T (is_sorted R fs)
   same_rise es fs same h = subst T (rise_by_keys es ∙ ap keys_rise same ∙ sym (rise_by_keys fs)) h
 
@@ -332,23 +308,3 @@ pub searched_pairs : {K X : Type 0} {R : K → K → Ordering} (o : IsTotalOrder
     → MatchResult r (IsAt R es q) (IsGap R es q)
 searched_pairs {R = R} o exact es h q r bound by_key =
     subst (λ xs. MatchResult r (IsAt R xs q) (IsGap R xs q)) (map_itself es) (searched o exact (λ e. e) es (subst (λ xs. T (is_sorted R xs)) (sym (map_itself es)) h) q r bound by_key)
-
--- a search by halves
-module _ {A K X : Type 0} {R : K → K → Ordering} (o : IsTotalOrder R) (exact : IsAntisymmetric R) (f : A → K × X) (items : List A) (sorted : T (is_sorted R (map f items))) (q : K) (m : ℕ) (a : A) (inside : m < length items) (is : a ≡ get_or items m a) where
-  there : (d : A) → get_or items m d ≡ a
-  there d = get_or_default items m d a inside ∙ sym is
-
-  -- all up to the middle are below
-  pub below_middle : R (f a).0 q ≡ Less → (j : ℕ) (d : A) → j < m + 1 → R (f (get_or items j d)).0 q ≡ Less
-  below_middle e j d l = elim (cases_lt j m) as (λ _. R (f (get_or items j d)).0 q ≡ Less) [
-    | inl n ↦ o.trans (f (get_or items j d)).0 (f (get_or items m d)).0 q (less_at o exact f items sorted j m d n inside) (ap (λ x. R (f x).0 q) (there d) ∙ e)
-    | inr n ↦ let s : j ≡ m = omega arith in ap (λ k. R (f (get_or items k d)).0 q) s ∙ ap (λ x. R (f x).0 q) (there d) ∙ e
-  ]
-
-  -- all from the middle on are above
-  pub above_middle : R (f a).0 q ≡ Greater → (j : ℕ) (d : A) → m ≤ j → j < length items → R (f (get_or items j d)).0 q ≡ Greater
-  above_middle e j d n l = elim (cases_lt m j) as (λ _. R (f (get_or items j d)).0 q ≡ Greater) [
-    | inl k ↦ turned o q (f (get_or items j d)).0 (o.trans q (f (get_or items m d)).0 (f (get_or items j d)).0
-        (turned_back o (f (get_or items m d)).0 q (ap (λ x. R (f x).0 q) (there d) ∙ e)) (less_at o exact f items sorted m j d k l))
-    | inr k ↦ let s : j ≡ m = omega arith in ap (λ i. R (f (get_or items i d)).0 q) s ∙ ap (λ x. R (f x).0 q) (there d) ∙ e
-  ]

@@ -202,7 +202,7 @@ impl Table {
         actor
             .frame
             .keep(stand.kind, stand.behaviour, stand.place, turn.registers());
-        actor.fields = *turn.fields();
+        actor.fields.copy_from(turn.fields());
         self.ready.put(a.0, can_act(actor));
     }
 
@@ -213,7 +213,7 @@ impl Table {
     {
         let actor = &mut self.actors[a.0 as usize];
         actor.frame.end();
-        actor.fields = *fields;
+        actor.fields.copy_from(fields);
         self.ready.put(a.0, can_act(actor));
     }
 

@@ -82,7 +82,7 @@ fn push_with_row(load: &mut Vec<(Thing, Option<Row>)>, thing: Thing, row: &Row)
     let at = load.len();
     load.push_reserved((thing, Some(Row::from_args(Args::nulls(1)))));
     if let Some(place) = &mut load[at].1 {
-        *place = *row;
+        place.copy_from(row);
     }
 }
 

@@ -3,3 +3,4 @@ pub mod Known
 pub mod Local
 pub mod Names
 pub mod Gets
+pub mod Places

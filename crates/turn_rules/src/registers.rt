@@ -3,7 +3,7 @@
 ghost use Rattle.std.specs.Prelude.{◌≡◌, ◌≤◌, ◌-◌, ◌++◌, length, replicate, slice_index_or, slice_set};
 ghost use Rattle.orca_names.specs.declared.names.Value.TheVariants.{Null};
 
-use orca_names::{Args, REGISTERS, Value};
+use orca_names::{Args, REGISTERS, VALUES_LIMIT, Value};
 use std::marker::Model;
 
 /// The sixteen registers of a frame, seen as a list.
@@ -23,16 +23,6 @@ impl Model for RegisterFile {
     ghost invariant = { λ r. length r.places ≡ 16 };
 
     ghost inverse = { λ values. record { places = values } };
-}
-
-/// Puts the values into the first places, and null into all others.
-fn put_first(places: &mut [Value], values: &[Value])
-    requires { length values.now ≤ length places.old }
-    ensures { places.new ≡ values.now ++ replicate (length places.old - length values.now) Null }
-{
-    let count = values.len();
-    places[..count].copy_from_slice(values);
-    places[count..].fill(Value::Null);
 }
 
 impl RegisterFile {
@@ -61,7 +51,9 @@ impl RegisterFile {
     pub fn start(&mut self, args: &Args)
         ensures { self.new ≡ args.now ++ replicate (16 - length args.now) Null }
     {
-        put_first(&mut self.places, args.as_slice());
+        let (first, rest) = self.places.split_at_mut(VALUES_LIMIT);
+        first.copy_from_slice(args.places());
+        rest.copy_from_slice(&[Value::Null; REGISTERS - VALUES_LIMIT]);
     }
 
     /// What a register holds, null past the last.

@@ -53,7 +53,7 @@ pub fn segment_held<R: RowReader, H: HeldTest>(
             Halt::Stops(stop) => {
                 frame.place = stop.place;
                 frame.registers = *turn.registers();
-                *fields = *turn.fields();
+                fields.copy_from(turn.fields());
                 let act = act_of(&stop.deed, &turn);
                 *made = turn.into_made();
                 Ok(act)

@@ -51,7 +51,14 @@ impl Turn {
         ensures { self.new ≡ record { registers = registers.now; fields = fields.now; made = [] } }
     {
         self.registers = *registers;
-        self.fields = *fields;
+        self.fields.copy_from(fields);
+        self.made.clear();
+    }
+
+    /// Nothing is made yet.
+    pub fn clear_made(&mut self)
+        ensures { self.new ≡ record self.old { made = [] } }
+    {
         self.made.clear();
     }
 

@@ -1,39 +1,24 @@
-use Rattle.std.proofs.Common.{not, None, ap, ◌≡◌, ◌+◌, ◌<◌, length, get_or, sym, ◌∙◌, subst, arith}
+use Rattle.std.proofs.Common.{◌≡◌, not, ap, ◌<◌, length, sym, ◌∙◌, arith}
 use Rattle.std.proofs.lemmas.List.{get_or_default}
-use Rattle.std.proofs.lemmas.List.Filters.{FiltersInPlace, FiltersInPlace-more_no, FiltersInPlace-more_here, FiltersInPlace-more_set}
-use Rattle.foreign_table.specs.Entry.{Item}
+use Rattle.std.proofs.lemmas.List.Filters.{FiltersInPlace-more_no, FiltersInPlace-more_here, FiltersInPlace-more_set}
+use Rattle.foreign_table.specs.declared.search.Entry.{Entry}
 use Rattle.foreign_table.specs.Back.{goes_back}
-use Rattle.plain_list.proofs.Sides.{zip-set_both, length-sides}
-use Rattle.foreign_table.proofs.Entries.{item_there}
 use Rattle.foreign_table.proofs.keep.keep_one.Goals as goal
 
 pub returns-then-goes-clause-filters : goal.returns-then-goes-clause-filters
-returns-then-goes-clause-filters c = λ xs w.
-    let es = c.args.held.now.items in
-    let rows = c.args.rows.now.items in
-    let long : length rows ≡ length es = omega (arith, c.requires.long, c.args.held.now.ok.0, c.args.rows.now.ok.0) in
-    let inside : c.args.i < length es = omega (arith, c.requires.within, c.args.held.now.ok.0) in
-    let row = get_or rows c.args.i None in
-    FiltersInPlace-more_no {x = (c.index.result.now, row)} w (omega (arith, length-sides es rows long)) (ap not (sym c.goes.ensures ∙ c.if-goes.true))
-    (item_there es rows c.args.i c.index.result.now row long inside c.index.ensures (get_or_default rows c.args.i None row (omega arith)))
+returns-then-goes-clause-filters c = λ es w.
+    let inside : c.args.i < length c.args.held.now.items = omega (arith, c.requires.within, c.args.held.now.ok.0) in
+    FiltersInPlace-more_no {x = c.index.result.now} w inside (ap not (sym c.goes.ensures ∙ c.if-goes.true)) c.index.ensures
 
 pub returns-then-kept-i-clause-filters : goal.returns-then-kept-i-clause-filters
-returns-then-kept-i-clause-filters c = λ xs w.
-    let es = c.args.held.now.items in
-    let rows = c.args.rows.now.items in
-    let long : length rows ≡ length es = omega (arith, c.requires.long, c.args.held.now.ok.0, c.args.rows.now.ok.0) in
-    let inside : c.args.i < length es = omega (arith, c.requires.within, c.args.held.now.ok.0) in
-    let row = get_or rows c.args.i None in
-    FiltersInPlace-more_here {x = (c.index.result.now, row)} w (omega (arith, length-sides es rows long)) (ap not (sym c.goes.ensures ∙ c.if-goes.false))
-    (item_there es rows c.args.i c.index.result.now row long inside c.index.ensures (get_or_default rows c.args.i None row (omega arith))) c.if-kept-i.true
+returns-then-kept-i-clause-filters c = λ es w.
+    let inside : c.args.i < length c.args.held.now.items = omega (arith, c.requires.within, c.args.held.now.ok.0) in
+    FiltersInPlace-more_here {x = c.index.result.now} w inside (ap not (sym c.goes.ensures ∙ c.if-goes.false)) c.index.ensures c.if-kept-i.true
 
 pub returns-clause-filters : goal.returns-clause-filters
-returns-clause-filters c = λ xs w.
-    let es = c.args.held.now.items in
-    let rows = c.args.rows.now.items in
-    let long : length rows ≡ length es = omega (arith, c.requires.long, c.args.held.now.ok.0, c.args.rows.now.ok.0) in
-    let inside : c.args.i < length es = omega (arith, c.requires.within, c.args.held.now.ok.0) in
-    subst (λ items. FiltersInPlace (λ (e : Item). not (goes_back c.args.back.now e.0.thing)) xs items (c.args.kept + 1) (c.args.i + 1))
-    (sym (zip-set_both es rows c.args.kept c.index.result.now c.index-row.result.now))
-    (FiltersInPlace-more_set {x = (c.index.result.now, c.index-row.result.now)} w (omega (arith, length-sides es rows long)) (ap not (sym c.goes.ensures ∙ c.if-goes.false))
-    (item_there es rows c.args.i c.index.result.now c.index-row.result.now long inside c.index.ensures c.index-row.ensures))
+returns-clause-filters c = λ es w.
+    let inside : c.args.i < length c.args.held.now.items = omega (arith, c.requires.within, c.args.held.now.ok.0) in
+    let entry = c.index-entry.result.now in
+    let seen : entry ≡ c.index.result.now = c.index-entry.ensures ∙ get_or_default c.args.held.now.items c.args.i entry c.index.result.now inside ∙ sym c.index.ensures in
+    let stays = ap (λ (e : Entry). not (goes_back c.args.back.now e.thing)) seen ∙ ap not (sym c.goes.ensures ∙ c.if-goes.false) in
+    FiltersInPlace-more_set {x = entry} w inside stays c.index-entry.ensures

@@ -1,7 +1,7 @@
 use Rattle.std.proofs.Common.{◌≡◌, ◌++◌, drop, map}
-use Rattle.foreign_table.specs.Entry.{bare}
+use Rattle.foreign_table.specs.Entry.{pair_of}
 use Rattle.foreign_table.specs.Table.{on_actors}
 use Rattle.foreign_table.proofs.table.actors_of.Given as goal
 
 abbrev pub invariant-loop-entry : goal.invariant-loop-entry
-invariant-loop-entry l = l.found.items ++ on_actors (map bare (drop l.entry-index l.held)) ≡ on_actors (map bare l.held)
+invariant-loop-entry l = l.found.items ++ on_actors (map pair_of (drop l.entry-index l.held)) ≡ on_actors (map pair_of l.held)

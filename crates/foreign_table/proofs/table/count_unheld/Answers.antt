@@ -10,7 +10,7 @@ loop-amount-preserved c =
     let e = c.amount-item.result in
     let i = c.loop-amount.amount-index in
     let inside : i < length things = omega (arith, ap length c.as_slice-amount-items.ensures) in
-    let step = unheld_step (entries_in c.args.held.now c.args.rows.now) things i e inside (c.amount-item.is ∙ ap (λ xs. get_or xs i e) c.as_slice-amount-items.ensures) in
+    let step = unheld_step (entries_in c.args.held.now) things i e inside (c.amount-item.is ∙ ap (λ xs. get_or xs i e) c.as_slice-amount-items.ensures) in
     let before = c.loop-amount.invariant.counted in
     let few = c.loop-amount.invariant.few in
     let more : Bool → ℕ = λ held. cond held 0 1 in
@@ -26,5 +26,5 @@ loop-amount-preserved c =
 
 pub returns : goal.returns
 returns c =
-    let past = unheld_past (entries_in c.args.held.now c.args.rows.now) c.args.things.now c.loop-amount.amount-index (omega (arith, ap length c.as_slice-amount-items.ensures, c.loop-amount.auto.amount-index-end)) in
+    let past = unheld_past (entries_in c.args.held.now) c.args.things.now c.loop-amount.amount-index (omega (arith, ap length c.as_slice-amount-items.ensures, c.loop-amount.auto.amount-index-end)) in
     omega (arith, past, c.loop-amount.invariant.counted)

@@ -1,13 +1,10 @@
 use Rattle.std.proofs.Common.{sym, ap}
 use Rattle.std.specs.Prelude.{is_some}
-use Rattle.foreign_table.proofs.Entries.{held_rise, is_there, none_at}
+use Rattle.foreign_table.proofs.Entries.{is_there, none_at}
 use Rattle.foreign_table.proofs.table.is_held.Goals as goal
 
-pub place_of-requires : goal.place_of-requires
-place_of-requires c = held_rise c.args.held.now c.args.rows.now c.requires
-
 pub returns-in-Ok : goal.returns-in-Ok
-returns-in-Ok c = sym (is_there c.args.held.now c.args.rows.now c.requires c.args.thing c.in-Ok.field-0 c.in-Ok.ensures)
+returns-in-Ok c = sym (is_there c.args.held.now c.requires c.args.thing c.in-Ok.field-0 c.in-Ok.ensures)
 
 pub returns-in-Err : goal.returns-in-Err
-returns-in-Err c = sym (ap is_some (none_at c.args.held.now c.args.rows.now c.requires c.args.thing c.in-Err.field-0 c.in-Err.ensures))
+returns-in-Err c = sym (ap is_some (none_at c.args.held.now c.requires c.args.thing c.in-Err.field-0 c.in-Err.ensures))

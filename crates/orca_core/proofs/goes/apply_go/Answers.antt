@@ -3,12 +3,14 @@ use Rattle.std.proofs.lemmas.List.{length-map}
 use Rattle.event_rule.specs.Runs.{Goes}
 use Rattle.actor_cell.specs.Goes.{turned_in}
 use Rattle.actor_cell.specs.Cells.{as_cell}
-use Rattle.actor_cell.specs.Moves.{act_in}
+use Rattle.actor_cell.specs.Moves.{act_in, move_of}
 use Rattle.actor_table.specs.Slots.{actors_of, seat_of, slot_at}
 use Rattle.actor_table.specs.Changes.{changed_at, moved, with_cell_by}
 use Rattle.actor_table.proofs.Changing.{home_within}
 use Rattle.orca_core.specs.Goes.{given}
 use Rattle.orca_core.specs.Parts.{state_of}
+use Rattle.orca_core.specs.Awaiting.{AwaitedIn}
+use Rattle.orca_core.proofs.Awaiting.{mint_awaits}
 use Rattle.orca_core.proofs.Giving.{seat_here}
 use Rattle.orca_core.proofs.Gone.{go_goes}
 use Rattle.orca_core.proofs.Naming.{can_name, fits_limit}
@@ -64,3 +66,17 @@ pub returns-clause-woken : goal.returns-clause-woken
 returns-clause-woken c =
     woken_changed (moved c.args.a c.args.parts.now.turn c.args.parts.now.turned.place (act_in c.args.parts.now.turned)) c.args.a (actors_of c.args.parts.now.table.slots)
     (actors_of c.go.new.self.slots) (actors_of c.give_out.new.parts.table.slots) c.give_out.result c.go.ensures.actors c.give_out.ensures.woken
+
+pub returns-clause-awaited : goal.returns-clause-awaited
+returns-clause-awaited c = λ awaited.
+    c.give_out.ensures.awaited c.args.trace
+    (λ owner mints.
+    let fits = c.requires.fits in
+    let m = c.args.parts.now in
+    let slots = m.table.slots in
+    let t = m.turned in
+    let act = ap (λ d. move_of d t.args t.load t.rows t.things) mints in
+    let went = c.go.ensures.actors ∙ ap (λ does. changed_at (with_cell_by (moved c.args.a m.turn t.place does)) c.args.a (actors_of slots)) act in
+    subst (AwaitedIn c.args.trace c.args.code.now m.turn t) (sym went)
+    (mint_awaits c.args.trace c.args.code.now m.turn t c.args.a (as_cell fits.cell) (slot_at slots c.args.a).mail.letters t.place owner t.things (actors_of slots)
+    (seat_here slots c.args.a fits.cell fits.home) (omega (arith, home_within slots c.args.a fits.cell fits.home, length-map slots seat_of)) awaited))

@@ -1,10 +1,12 @@
-use Rattle.std.proofs.Common.{refl, subst}
+use Rattle.std.proofs.Common.{refl, ap, subst, sym, ◌∙◌}
 use Rattle.event_rule.specs.declared.event.Event.TheVariants.{Take, Go, Collect, Leave, Block, Hear, Scan, Reap}
 use Rattle.actor_cell.specs.Cells.{as_cell}
 use Rattle.actor_table.specs.Slots.{away_of, slot_at}
+use Rattle.orca_core.specs.Awaiting.{is_take}
 use Rattle.orca_core.specs.Machine.{options_of}
 use Rattle.orca_core.specs.Parts.{state_of}
 use Rattle.orca_core.specs.Steps.{CanStep}
+use Rattle.orca_core.proofs.Awaiting.{still_awaited}
 use Rattle.orca_core.proofs.Giving.{seat_here}
 use Rattle.orca_core.proofs.Prepared.{fault_same}
 use Rattle.orca_core.proofs.steps.prepare.Goals as goal
@@ -14,7 +16,16 @@ prepare_go-requires c = record {
   serials = λ x home.
       let slots = c.args.parts.now.table.slots in
       ((subst (CanStep c.args.trace c.args.weight c.args.code.now c.args.parts.now) c.in-Go.is c.requires.can).0 (as_cell x) (slot_at slots c.in-Go.actor).mail.letters (seat_here slots c.in-Go.actor x home)).serials;
+  awaited = c.requires.awaited;
 }
+
+pub returns-in-Take-clause-kept : goal.returns-in-Take-clause-kept
+returns-in-Take-clause-kept c = λ takes awaited.
+    let does = c.prepare_take.ensures in
+    still_awaited c.args.trace c.args.code.now c.args.parts.now c.prepare_take.new.parts does.same does.turn does.turned awaited
+
+pub returns-in-Go-clause-kept : goal.returns-in-Go-clause-kept
+returns-in-Go-clause-kept c = λ takes. let z = sym takes ∙ ap is_take c.in-Go.is in cc
 
 pub returns-in-Take-clause-fault : goal.returns-in-Take-clause-fault
 returns-in-Take-clause-fault c =

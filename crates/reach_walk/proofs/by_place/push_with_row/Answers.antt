@@ -15,7 +15,7 @@ returns-in-Some c =
     let thing : there.0 ≡ c.args.thing =
     ap (λ e. e.0) (c.index_mut.ensures.value ∙ ap (λ xs. get_or xs c.len-at.result there) items ∙ ap (λ (n : ℕ). get_or (old ++ (c.args.thing, Some c.from_args.result) ∷ []) n there) end
     ∙ get_or-append_seam old (c.args.thing, Some c.from_args.result) [] there) in
-    ap (λ x. set c.push_reserved.new.self.items c.len-at.result (x, Some c.args.row.now)) thing
+    (λ i. set c.push_reserved.new.self.items c.len-at.result (thing i, Some (c.copy_from.ensures i)))
     ∙ ap (λ xs. set xs c.len-at.result new) items
     ∙ ap (λ (n : ℕ). set (old ++ (c.args.thing, Some c.from_args.result) ∷ []) n new) end
     ∙ set-append_seam old (c.args.thing, Some c.from_args.result) [] new

@@ -1,16 +1,21 @@
 use Rattle.std.proofs.Common.{Some, sym, ap, ◌∙◌, subst}
-use Rattle.std.specs.Prelude.{option_map}
-use Rattle.turn_rules.specs.Segment.{Stop}
+use Rattle.std.specs.Prelude.{IsSomeAnd}
+use Rattle.std.proofs.lemmas.Option.{none-some}
+use Rattle.actor_cell.specs.declared.turning.Turned.{Turned}
+use Rattle.turn_rules.specs.Segment.{Stop, Turn}
 use Rattle.turn_step.specs.Turns.{HaltsAt, act_of}
 use Rattle.behaviour_check.specs.Rules.{IsChecked}
-use Rattle.machine_rules.specs.Go.{needed, setting_of, turn_of_cell}
+use Rattle.machine_rules.specs.Go.{needed, setting_of, to_need, turn_of_cell}
 use Rattle.actor_cell.specs.Cells.{as_cell}
-use Rattle.actor_cell.specs.Goes.{FitsRegister, turned_at, turned_in, turned_or_needs}
+use Rattle.orca_names.specs.Names.{owner_of}
+use Rattle.actor_cell.specs.Goes.{FitsRegister, IsTold, having_made, told, turned_or_needs}
+use Rattle.actor_cell.specs.Moves.{Mint, Rest, act_in}
+use Rattle.actor_cell.proofs.Telling.{moves_told, rest_told}
 use Rattle.actor_cell.proofs.Registers.{segment_fits}
 use Rattle.actor_cell.proofs.cell.Cell.found_go.Goals as goal
 
-pub move_of-requires : goal.move_of-requires
-move_of-requires c =
+pub move_of-requires-clause-register : goal.move_of-requires-clause-register
+move_of-requires-clause-register c =
     let s = c.args.self.now in
     let code = c.args.code.now in
     let frame = c.in-Some.frame.now in
@@ -30,11 +35,16 @@ returns-in_ok-move_of-in-Stops-clause-found c =
     let first = needed c.args.trace code me (as_cell s) frame in
     let its_stop = turn_of_cell c.args.trace code me (as_cell s) frame in
     let turn = c.run_turn.new.turn in
-    let stop : Stop = record { act = act_of c.in-Stops.stop.deed turn; place = c.in-Stops.stop.place; turn = turn } in
+    let place = c.in-Stops.stop.place in
+    let stop : Stop = record { act = act_of c.in-Stops.stop.deed turn; place = place; turn = turn } in
     let halts = subst (λ halt. HaltsAt first its_stop halt turn) c.in-Stops.is c.in-Ok.ensures.halt in
-    ap (option_map (turned_in c.args.trace c.args.weight code me (as_cell s))) (sym c.in-Some.ensures)
-    ∙ (λ i. Some (turned_or_needs c.args.trace c.args.weight me (as_cell s) frame (halts.0 i) (halts.1 i)))
-    ∙ (λ i. Some (record (turned_at c.args.trace c.args.weight me (as_cell s) stop) { act = sym c.in_ok-move_of-in-Stops.ensures i }))
+    let does = act_in c.move_of.new.found in
+    let tells : IsTold c.args.trace c.args.weight code me (as_cell s) turn place does frame =
+    (λ i. turned_or_needs c.args.trace c.args.weight me (as_cell s) frame (halts.0 i) (halts.1 i))
+    ∙ moves_told frame (as_cell s) turn place c.args.trace c.args.weight me (having_made turn.made (as_cell s)) stop.act
+    ∙ ap (told frame (as_cell s) turn place) (sym c.in_ok-move_of-in-Stops.ensures.act)
+    in
+    subst (λ f. IsSomeAnd f (IsTold c.args.trace c.args.weight code me (as_cell s) turn place does)) c.in-Some.ensures tells
 
 pub returns-in_ok-needing-in-Needs-clause-found : goal.returns-in_ok-needing-in-Needs-clause-found
 returns-in_ok-needing-in-Needs-clause-found c =
@@ -46,6 +56,50 @@ returns-in_ok-needing-in-Needs-clause-found c =
     let its_stop = turn_of_cell c.args.trace code me (as_cell s) frame in
     let x = c.in-Needs.thing in
     let needs = subst (λ halt. HaltsAt first its_stop halt c.run_turn.new.turn) c.in-Needs.is c.in-Ok.ensures.halt in
-    ap (option_map (turned_in c.args.trace c.args.weight code me (as_cell s))) (sym c.in-Some.ensures)
-    ∙ (λ i. Some (turned_or_needs c.args.trace c.args.weight me (as_cell s) frame (needs i) its_stop))
-    ∙ (λ i. Some (record { turn = sym c.begin.ensures i; place = frame.place; act = sym c.in_ok-needing-in-Needs.ensures i }))
+    let turn = c.begin.new.self in
+    let does = act_in c.needing.new.found in
+    let tells : IsTold c.args.trace c.args.weight code me (as_cell s) turn frame.place does frame =
+    (λ i. turned_or_needs c.args.trace c.args.weight me (as_cell s) frame (needs i) its_stop)
+    ∙ (λ i. told frame (as_cell s) (sym c.begin.ensures i) frame.place (Mint (owner_of x) (to_need c.args.weight me (as_cell s).holdings x)))
+    ∙ ap (told frame (as_cell s) turn frame.place) (sym c.in_ok-needing-in-Needs.ensures.act)
+    in
+    subst (λ f. IsSomeAnd f (IsTold c.args.trace c.args.weight code me (as_cell s) turn frame.place does)) c.in-Some.ensures tells
+
+pub returns-in_ok-move_of-in-Stops-clause-awaited : goal.returns-in_ok-move_of-in-Stops-clause-awaited
+returns-in_ok-move_of-in-Stops-clause-awaited c = λ letter e.
+    let s = c.args.self.now in
+    let code = c.args.code.now in
+    let me = s.heap.owner in
+    let frame = c.in-Some.frame.now in
+    let first = needed c.args.trace code me (as_cell s) frame in
+    let its_stop = turn_of_cell c.args.trace code me (as_cell s) frame in
+    let halts = subst (λ halt. HaltsAt first its_stop halt c.run_turn.new.turn) c.in-Stops.is c.in-Ok.ensures.halt in
+    let is = c.in_ok-move_of-in-Stops.ensures.awaited letter e in
+    record {
+      frame = frame;
+      framed = sym c.in-Some.ensures;
+      left = ap (λ (stop : Stop). stop.turn) halts.1;
+      place = ap (λ (stop : Stop). stop.place) halts.1;
+      letter_is = record {
+        its = is.its;
+        deep = is.deep;
+        sent = ap (λ (stop : Stop). stop.act) halts.1 ∙ is.sent;
+        things = is.things;
+      };
+    }
+
+pub returns-in_ok-needing-in-Needs-clause-awaited : goal.returns-in_ok-needing-in-Needs-clause-awaited
+returns-in_ok-needing-in-Needs-clause-awaited c = λ letter e.
+    absurd (none-some letter (sym (ap (λ (t : Turned). t.awaited) c.forget_letter.ensures) ∙ sym c.in_ok-needing-in-Needs.ensures.awaited ∙ e))
+
+pub returns-in-Some-rests_at-clause-found : goal.returns-in-Some-rests_at-clause-found
+returns-in-Some-rests_at-clause-found c =
+    let s = c.args.self.now in
+    let code = c.args.code.now in
+    let me = s.heap.owner in
+    let turn = c.clear_made.new.self in
+    let place = c.in-Some-rests_at.place in
+    let tells : IsTold c.args.trace c.args.weight code me (as_cell s) turn place Rest c.in-Some.frame.now =
+    rest_told c.args.trace c.args.weight code me (as_cell s) c.in-Some.frame.now place turn (sym c.in-Some-rests_at.ensures) (ap (λ (t : Turn). t.made) c.clear_made.ensures)
+    in
+    subst (λ f. IsSomeAnd f (IsTold c.args.trace c.args.weight code me (as_cell s) turn place Rest)) c.in-Some.ensures tells

@@ -4,8 +4,8 @@ use Rattle.actor_cell.specs.Cells.{as_cell}
 use Rattle.actor_cell.specs.Goes.{having_made, post_or_mint}
 use Rattle.actor_cell.proofs.cell.Cell.posting.Goals as goal
 
-pub returns-then-done : goal.returns-then-done
-returns-then-done c =
+pub returns-then-done-clause-act : goal.returns-then-done-clause-act
+returns-then-done-clause-act c =
     let s = c.args.self.now in
     let me = s.heap.owner in
     let kept = having_made c.args.made.now (as_cell s) in

@@ -2,14 +2,15 @@ use Rattle.std.proofs.Common.{map, sym, ap, subst, ◌∙◌}
 use Rattle.std.specs.FinMap as m
 use Rattle.foreign_table.specs.declared.search.Entry.{Entry}
 use Rattle.foreign_table.specs.Span.{IsSpan}
-use Rattle.foreign_table.proofs.Entries.{held_rise, keys_here}
+use Rattle.foreign_table.specs.Table.{DoRise}
+use Rattle.foreign_table.proofs.Entries.{keys_here}
 use Rattle.foreign_table.proofs.table.ForeignTable.span.Goals as goal
 
 pub span-requires : goal.span-requires
-span-requires c = rw c.as_slice.ensures.value (held_rise c.self.inside.held.items c.self.inside.rows.items c.self.invariant)
+span-requires c = subst DoRise (sym c.as_slice.ensures.value) c.self.invariant
 
 pub returns : goal.returns
 returns c =
     let s = c.self.inside in
-    let keys = ap (map (λ (e : Entry). e.thing)) c.as_slice.ensures.value ∙ sym (keys_here s.held.items s.rows.items c.self.invariant) ∙ ap (λ t. m.keys t.entries) c.self.view_is in
+    let keys = ap (map (λ (e : Entry). e.thing)) c.as_slice.ensures.value ∙ sym (keys_here s.held.items c.self.invariant) ∙ ap (λ t. m.keys t.entries) c.self.view_is in
     subst (λ things. IsSpan c.args.owner things c.span.result.0 c.span.result.1) keys c.span.ensures

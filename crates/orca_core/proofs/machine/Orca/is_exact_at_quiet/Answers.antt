@@ -4,4 +4,4 @@ use Rattle.orca_core.proofs.Lasting.{is_exact_at_quiet}
 use Rattle.orca_core.proofs.machine.Orca.is_exact_at_quiet.Goals as goal
 
 pub returns : goal.returns
-returns c = is_exact_at_quiet c.args.self.now (subst (λ (m : Machine). IsReached m.state m.steps) c.self.view_is c.self.invariant)
+returns c = is_exact_at_quiet c.args.self.now (subst (λ (m : Machine). IsReached m.state m.steps) c.self.view_is c.self.invariant.reached)

@@ -16,7 +16,7 @@ loop-a-init c =
 pub overflow_cast-a : goal.overflow_cast-a
 overflow_cast-a c =
     let self = c.self.inside in
-    let m = c.self.invariant in
+    let m = c.self.invariant.reached in
     let actors = actors_of self.parts.table.slots in
     let options = options_of self.weight self.trace in
     let few : length actors ≤ 65536 = runs_make_few self.code.now options m.book _ m.run in

@@ -11,13 +11,13 @@ use Rattle.orca_core.proofs.machine.Orca.prepare_found.Goals as goal
 pub install-requires-clause-can : goal.install-requires-clause-can
 install-requires-clause-can c =
     let m = c.self.inside in
-    can_step m.code.now m.weight m.trace m.parts m.steps c.self.invariant
+    can_step m.code.now m.weight m.trace m.parts m.steps c.self.invariant.reached
     (early_still m.code.now m.weight m.trace m.parts m.steps c.args.self.now c.self.view_is c.requires.early) c.args.e
 
 pub install-requires-clause-home : goal.install-requires-clause-home
 install-requires-clause-home c =
     let m = c.self.inside in
-    reaps_at_home m.code.now m.weight m.trace m.parts m.steps c.self.invariant c.args.e (subst (ReapsNoneAway c.args.e) (sym c.self.view_is) c.requires.home)
+    reaps_at_home m.code.now m.weight m.trace m.parts m.steps c.self.invariant.reached c.args.e (subst (ReapsNoneAway c.args.e) (sym c.self.view_is) c.requires.home)
 
 pub install-requires-clause-found : goal.install-requires-clause-found
 install-requires-clause-found c = subst (IsFoundIn c.args.e c.args.found) (sym c.self.view_is) c.requires.found
@@ -25,12 +25,18 @@ install-requires-clause-found c = subst (IsFoundIn c.args.e c.args.found) (sym c
 pub invariant_of-self : goal.invariant_of-self
 invariant_of-self c =
     let m = c.self.inside in
-    reached_still m.code.now m.weight m.trace m.parts m.steps c.install.new.parts c.install.ensures.same c.self.invariant
+    record {
+      reached = reached_still m.code.now m.weight m.trace m.parts m.steps c.install.new.parts c.install.ensures.same c.self.invariant.reached;
+      awaited = λ on. cc;
+    }
 
 pub invariant_of-self-2 : goal.invariant_of-self-2
 invariant_of-self-2 c =
     let m = c.self.inside in
-    reached_still m.code.now m.weight m.trace m.parts m.steps c.install.new.parts c.install.ensures.same c.self.invariant
+    record {
+      reached = reached_still m.code.now m.weight m.trace m.parts m.steps c.install.new.parts c.install.ensures.same c.self.invariant.reached;
+      awaited = λ on. cc;
+    }
 
 pub returns-clause-same : goal.returns-clause-same
 returns-clause-same c =

@@ -9,18 +9,21 @@ pub invariant_of-result : goal.invariant_of-result
 invariant_of-result c =
     let first = first_state c.args.code.now (options_of c.args.weight c.args.trace) in
     record {
-      checked = subst IsChecked c.program-program.ensures.value c.program-program.ensures.kept;
-      heavy = c.requires.heavy;
-      light = c.requires.light;
-      book = [];
-      run = λ i. record first {
-        actors = sym c.in_ok-table.ensures.actors i;
-        detector = sym c.new.ensures i;
-        notes = sym c.new-2.ensures.items i;
-        prints = sym c.new-3.ensures.items i;
+      reached = record {
+        checked = subst IsChecked c.program-program.ensures.value c.program-program.ensures.kept;
+        heavy = c.requires.heavy;
+        light = c.requires.light;
+        book = [];
+        run = λ i. record first {
+          actors = sym c.in_ok-table.ensures.actors i;
+          detector = sym c.new.ensures i;
+          notes = sym c.new-2.ensures.items i;
+          prints = sym c.new-3.ensures.items i;
+        };
+        long = refl;
+        early = omega arith;
       };
-      long = refl;
-      early = omega arith;
+      awaited = λ stands. cc;
     }
 
 -- where one actor is at home, none is away

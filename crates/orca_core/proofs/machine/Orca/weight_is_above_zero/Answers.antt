@@ -4,5 +4,5 @@ use Rattle.orca_core.proofs.machine.Orca.weight_is_above_zero.Goals as goal
 
 pub returns : goal.returns
 returns c =
-    let reached = subst (λ (m : Machine). IsReached m.state m.steps) c.self.view_is c.self.invariant in
+    let reached = subst (λ (m : Machine). IsReached m.state m.steps) c.self.view_is c.self.invariant.reached in
     reached.heavy
