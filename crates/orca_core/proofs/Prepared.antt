@@ -41,9 +41,6 @@ use Rattle.orca_core.proofs.Giving.{seat_here}
 use Rattle.orca_core.specs.declared.fault.StepFault.{StepFault}
 use Rattle.orca_core.specs.declared.fault.StepFault.TheVariants as faults
 
-some_same : {A : Type 0} {x y : A} → Some x ≡ Some y → x ≡ y
-some_same {A} {x} e = ap (λ o. option_map_or (λ z. z) o x) e
-
 -- an actor that is present and not away has its cell at home
 pub at_home : (slots : List Slot) (a : ℕ) (c : rules.Cell) (mail : List Letter) → seat_at (actors_of slots) a ≡ seat c mail
     → is_away (slot_at slots a) ≡ false → HasCell (slot_at slots a) (λ x. as_cell x ≡ c)

@@ -1,3 +1,2 @@
 pub mod Changing
 pub mod Growth
-pub mod Runs
