@@ -98,9 +98,10 @@ impl<'a> Hall<'a> {
         requires weight { IsWeight weight }
         ensures { IfOk result (λ hall. hall.logged ≡ begins code.now weight budget) }
     {
-        let orca = Orca::start(alloc, code, weight, Trace::Deep)?;
+        // The machine last: what owns it is checked on each way that drops it.
         let mut claims = Vec::new(alloc);
         claims.push(None)?;
+        let orca = Orca::start(alloc, code, weight, Trace::Deep)?;
         Ok(Hall {
             code,
             budget,
