@@ -11,6 +11,3 @@ mod rules;
 pub use checked::{CheckFault, Checked};
 pub use faults::check;
 pub use laws::{names_are_given_once, rules_are_kept_exactly};
-
-#[cfg(test)]
-mod tests;

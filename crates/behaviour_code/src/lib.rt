@@ -16,6 +16,3 @@ pub use names::{Name, Names};
 pub use opcode::{Opcode, OperandKind};
 pub use operand::{Operand, Operands};
 pub use target::Target;
-
-#[cfg(test)]
-mod tests;

@@ -14,6 +14,3 @@ mod words;
 pub use errors::{FaultKind, TextErr};
 pub use printing::print;
 pub use reading::parse;
-
-#[cfg(test)]
-mod tests;

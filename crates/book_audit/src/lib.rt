@@ -5,6 +5,3 @@
 mod auditing;
 
 pub use auditing::{Verdict, audit};
-
-#[cfg(test)]
-mod tests;

@@ -12,6 +12,3 @@ mod told;
 
 pub use detector::{Detector, TOKENS_LIMIT};
 pub use token::Token;
-
-#[cfg(test)]
-mod tests;

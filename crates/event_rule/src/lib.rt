@@ -6,6 +6,3 @@
 mod event;
 
 pub use event::Event;
-
-#[cfg(test)]
-mod tests;

@@ -8,6 +8,3 @@ mod span;
 mod table;
 
 pub use table::ForeignTable;
-
-#[cfg(test)]
-mod tests;

@@ -9,6 +9,7 @@ use crate::asking::{
 };
 use crate::programs::{SEVEN, TWO_PRINT, checked};
 use book_hall::{Hall, Proposal};
+use orca_core::Orca;
 use orca_names::{ActorName, Value};
 use std::alloc::Global;
 use std::test::Fail;
@@ -87,10 +88,15 @@ fn answers(alloc: Global, bench: &mut Bench<'_>, rows: &[(Call, Want)]) -> bool 
     true
 }
 
+/// What a machine has printed.
+fn prints_of(alloc: Global, orca: &Orca<'_>) -> Result<Vec<Value>, Fail> {
+    Ok(orca.prints().to_vec(alloc)?)
+}
+
 /// What the run of a hall has printed.
 fn printed(alloc: Global, hall: Hall<'_>) -> Result<Vec<Value>, Fail> {
     let (orca, _book) = hall.into_parts();
-    Ok(orca.prints().to_vec(alloc)?)
+    prints_of(alloc, &orca)
 }
 
 /// Whether each call, of these and then of those, answers as it is wanted, and the run then has printed

@@ -1,14 +1,9 @@
 //! Tests alone, of the halls in which workers make one run: of the one that copies cells for claims, by its
-//! own calls and by passes, and of the one whose cells move out; and of the books that workers make, each
-//! of which both machines follow.
+//! own calls and by passes, and of the one whose cells move out.
 #![tactic(auto)]
 
 #[cfg(test)]
 mod asking;
-#[cfg(test)]
-mod board_tests;
-#[cfg(test)]
-mod following;
 #[cfg(test)]
 mod hall_tests;
 #[cfg(test)]
@@ -17,5 +12,3 @@ mod pass_tests;
 mod programs;
 #[cfg(test)]
 mod seat_tests;
-#[cfg(test)]
-mod worker_tests;

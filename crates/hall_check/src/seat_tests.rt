@@ -1,7 +1,7 @@
 // Two passes of the hall whose cells move out, on one thread.
 
 ghost use Rattle.orca_names.specs.declared.limits.TheConstants.{BOOK_LIMIT};
-ghost use Rattle.std.specs.Prelude.{◌≡◌, ◌≤◌};
+ghost use Rattle.std.specs.Prelude.{◌≡◌, ◌≤◌, IfOk};
 ghost use Rattle.seat_hall.specs.Boards.{out_of};
 ghost use Rattle.hall_check.specs.Keeping.{KeepsClaim, keeps_claim_prop};
 
@@ -31,6 +31,17 @@ impl<'h, 'a> Seated<'h, 'a> {
         ensures { result.pass ≡ pass.entry }
     {
         Seated { pass, kept: None }
+    }
+
+    /// The pass, which keeps no claim.
+    fn into_free<R: Abort>(self, rt: &R) -> SeatPass<'h, 'a>
+        ensures same { result ≡ self.entry.pass }
+        ensures free { out_of result ≡ 0 }
+    {
+        if self.kept.is_some() {
+            panic!(rt; "a pass keeps a claim")
+        }
+        self.pass
     }
 }
 
@@ -87,12 +98,20 @@ enum End {
     Lent(u32, u32),
 }
 
-fn end_of(closing: Closing<'_>) -> End {
+fn end_of(closing: &Closing<'_>) -> End {
     match closing {
         Closing::Whole(orca, book) => End::Whole(book.len(), orca.prints().len()),
         Closing::Turning { .. } => End::Turning,
-        Closing::Lent { holder, actor } => End::Lent(holder, actor.0),
+        Closing::Lent { holder, actor } => End::Lent(*holder, actor.0),
     }
+}
+
+/// How a hall ends with the seat of its last pass.
+fn ended<'a>(hall: SeatHall<'a>, seat: HallSeat<'a>) -> End
+    requires { seat.token.table_id ≡ hall }
+{
+    let closing = hall.close(seat);
+    end_of(&closing)
 }
 
 /// The first pass takes in the second, which keeps no claim.
@@ -100,16 +119,37 @@ fn joined<'a, R: Abort>(rt: &R, first: Seated<'_, 'a>, second: Seated<'_, 'a>) -
     requires { second.pass.token.table_id ≡ first.pass.token.table_id }
     ensures { result.token.table_id ≡ first.entry.pass.token.table_id }
 {
-    if second.kept.is_some() {
-        panic!(rt; "the second pass keeps a claim")
-    }
+    let other = second.into_free(rt);
     let mut pass = first.pass;
-    pass.join(second.pass);
+    pass.join(other);
     pass.into_seat()
 }
 
-/// How the hall of a program ends after these calls of two passes, and then those, each of which is to
-/// answer as it is wanted.
+/// The seat of a pass, once it has split off a second one, these calls of both and then those were
+/// answered as it is wanted, and it has taken the second one in.
+fn played<'a, R: Abort + AllocGlobal + Wait>(
+    rt: &R,
+    pass: SeatPass<'_, 'a>,
+    rows: &[(Call, Want)],
+    further: &[(Call, Want)],
+) -> Result<HallSeat<'a>, Fail>
+    requires { out_of pass ≡ 0 }
+    ensures { IfOk result (λ seat. seat.token.table_id ≡ pass.entry.token.table_id) }
+{
+    let mut pass = pass;
+    let mut second = Seated::of(pass.split(rt)?);
+    let mut first = Seated::of(pass);
+    let well = answers(rt, &mut first, &mut second, rows)
+        && answers(rt, &mut first, &mut second, further);
+    let seat = joined(rt, first, second);
+    if well {
+        Ok(seat)
+    } else {
+        Err(Fail::from("another answer"))
+    }
+}
+
+/// How the hall of a program ends after these calls of two passes, and then those.
 fn ends<R: Abort + AllocGlobal + Wait>(
     rt: &R,
     text: &str,
@@ -121,16 +161,8 @@ fn ends<R: Abort + AllocGlobal + Wait>(
 {
     let code = checked(rt.alloc(), text)?;
     let (hall, seat) = SeatHall::start(rt.alloc(), &code, budget, 256)?;
-    let mut pass = hall.first_pass(seat);
-    let mut second = Seated::of(pass.split(rt)?);
-    let mut first = Seated::of(pass);
-    let well = answers(rt, &mut first, &mut second, rows)
-        && answers(rt, &mut first, &mut second, further);
-    if !well {
-        return Err(Fail::from("another answer"));
-    }
-    let seat = joined(rt, first, second);
-    Ok(end_of(hall.close(seat)))
+    let seat = played(rt, hall.first_pass(seat), rows, further)?;
+    Ok(ended(hall, seat))
 }
 
 // The first pass claims an actor for a letter.
@@ -179,6 +211,6 @@ fn so_many_passes_are_split_off(rt: HostRuntime) -> Result<(), Fail> {
     let mut pass = hall.first_pass(seat);
     assert_eq!(rt; splits(&rt, &mut pass, 70_000), 65_535);
     let seat = pass.into_seat();
-    assert_eq!(rt; end_of(hall.close(seat)), End::Whole(0, 0));
+    assert_eq!(rt; ended(hall, seat), End::Whole(0, 0));
     Ok(())
 }

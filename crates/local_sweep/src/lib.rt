@@ -11,6 +11,3 @@ mod sweep;
 pub use amounts::push_amount;
 pub use plans::{plan, plan_of_marks};
 pub use sweep::apply;
-
-#[cfg(test)]
-mod tests;

@@ -128,8 +128,8 @@ fn agree(alloc: Global, text: &str, weight: u32) -> Result<bool, Fail>
     requires light { weight ≤ 65536 }
 {
     let code = checked(alloc, text)?;
-    let mut orca = Orca::start(alloc, &code, weight, Trace::Deep)?;
     let mut plain = Plain::start(alloc, &code)?;
+    let mut orca = Orca::start(alloc, &code, weight, Trace::Deep)?;
     end_alike(alloc, &mut orca, &mut plain)
 }
 

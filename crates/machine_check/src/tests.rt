@@ -202,6 +202,20 @@ fn seen(alloc: Global, machine: &Orca<'_>) -> Result<(Vec<Value>, [u64; 4], bool
     Ok((prints, numbers, machine.quiet()))
 }
 
+/// What is seen of a machine after these events and then those.
+fn seen_after(
+    alloc: Global,
+    machine: &mut Orca<'_>,
+    events: &[(u8, u32, Want)],
+    further: &[(u8, u32, Want)],
+) -> Result<(Vec<Value>, [u64; 4], bool), Fail>
+    requires { NoneIsAway machine.old }
+{
+    run(alloc, machine, events)?;
+    run(alloc, machine, further)?;
+    seen(alloc, machine)
+}
+
 /// What is seen of a program after these events and then those.
 fn after(
     alloc: Global,
@@ -212,9 +226,7 @@ fn after(
 ) -> Result<(Vec<Value>, [u64; 4], bool), Fail> {
     let code = checked(alloc, text)?;
     let mut machine = Orca::start(alloc, &code, 256, trace)?;
-    run(alloc, &mut machine, events)?;
-    run(alloc, &mut machine, further)?;
-    seen(alloc, &machine)
+    seen_after(alloc, &mut machine, events, further)
 }
 
 #[test]
@@ -253,21 +265,26 @@ fn lends(machine: &mut Orca<'_>, a: ActorName, e: &Event) -> bool {
     before && lent && none && machine.lives(a)
 }
 
+/// Whether the first actor of a program is lent so, before its first letter is taken.
+fn lends_the_first(alloc: Global, text: &str) -> Result<bool, Fail> {
+    let code = checked(alloc, text)?;
+    let mut machine = Orca::start(alloc, &code, 256, Trace::Deep)?;
+    Ok(lends(&mut machine, ActorName(0), &event(TAKE, 0)))
+}
+
 #[test]
 fn a_lent_cell_has_no_event(rt: HostRuntime) -> Result<(), Fail> {
-    let code = checked(rt.alloc(), SEVEN)?;
-    let mut machine = Orca::start(rt.alloc(), &code, 256, Trace::Deep)?;
-    assert!(rt; lends(&mut machine, ActorName(0), &event(TAKE, 0)));
+    assert!(rt; lends_the_first(rt.alloc(), SEVEN)?);
     Ok(())
 }
 
 /// Whether an event is done as it was prepared, and not before.
-fn does_prepared(alloc: Global, machine: &mut Orca<'_>, e: Event) -> Result<bool, StepFault>
+fn does_prepared(alloc: Global, machine: &mut Orca<'_>, e: Event) -> Result<bool, Fail>
     requires { NoneIsAway machine.old }
 {
     let steps = machine.steps();
     if steps > 1000 {
-        return Err(StepFault::NoMemory);
+        return Err(Fail::from("a long run"));
     }
     let ready = machine.prepare(alloc, e)?;
     let waits = machine.steps() == steps && machine.enabled(e);
@@ -275,10 +292,15 @@ fn does_prepared(alloc: Global, machine: &mut Orca<'_>, e: Event) -> Result<bool
     Ok(waits && machine.steps() == steps + 1 && !machine.enabled(e))
 }
 
+/// Whether the first letter of a program is taken as it was prepared, and not before.
+fn takes_prepared(alloc: Global, text: &str) -> Result<bool, Fail> {
+    let code = checked(alloc, text)?;
+    let mut machine = Orca::start(alloc, &code, 256, Trace::Deep)?;
+    does_prepared(alloc, &mut machine, event(TAKE, 0))
+}
+
 #[test]
 fn what_was_prepared_is_done(rt: HostRuntime) -> Result<(), Fail> {
-    let code = checked(rt.alloc(), SEVEN)?;
-    let mut machine = Orca::start(rt.alloc(), &code, 256, Trace::Deep)?;
-    assert!(rt; does_prepared(rt.alloc(), &mut machine, event(TAKE, 0))?);
+    assert!(rt; takes_prepared(rt.alloc(), SEVEN)?);
     Ok(())
 }

@@ -31,6 +31,3 @@ pub use row::{Args, Fields, Row};
 pub use rows::Rows;
 pub use tally::{Sums, Tally};
 pub use trace::Trace;
-
-#[cfg(test)]
-mod tests;

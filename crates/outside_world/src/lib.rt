@@ -21,8 +21,3 @@ pub use reading::{ReadErr, read_to_end};
 pub use streams::{ReadSource, StdSink, StdSource, WriteSink};
 pub use sure::{SureSink, SureSource};
 pub use writing::write_all;
-
-#[cfg(test)]
-mod tests;
-#[cfg(test)]
-mod whole_tests;

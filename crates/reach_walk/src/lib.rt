@@ -27,6 +27,3 @@ pub use marks::{Marks, mark, mark_within};
 pub use places::{PlacedRows, Places};
 pub use reach::walk;
 pub use thing_list::ThingList;
-
-#[cfg(test)]
-mod tests;

@@ -9,6 +9,3 @@ mod set;
 
 pub use flat::PlaceSet;
 pub use set::{PLACES_LIMIT, ReadySet};
-
-#[cfg(test)]
-mod tests;

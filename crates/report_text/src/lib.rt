@@ -16,6 +16,3 @@ pub use reasons::why_lines;
 pub use refusal::refusal_line;
 pub use run_report::report;
 pub use status::Status;
-
-#[cfg(test)]
-mod tests;

@@ -13,7 +13,5 @@ mod plans;
 pub use in_use::plan_in_use;
 pub use letters::{find_loaded_roots, rows_of, without_rows};
 pub use needs::missing;
+pub use nowhere::NoRows;
 pub use plans::plan_roots;
-
-#[cfg(test)]
-mod tests;

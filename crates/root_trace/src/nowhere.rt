@@ -5,9 +5,9 @@ ghost use Rattle.std.proofs.lemmas.Option.{none-some};
 
 use orca_names::{ObjName, Row, RowReader};
 
-/// No object has a row.
+/// A reader for which no object has a row.
 #[derive(Drop)]
-pub(crate) struct NoRows;
+pub struct NoRows;
 
 impl RowReader for NoRows {
     ghost rows = { λ _ _. None };

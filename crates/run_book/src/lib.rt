@@ -12,6 +12,3 @@ pub use book::Book;
 pub use errors::BookErr;
 pub use reading::{read_again, read_text};
 pub use splitting::{a_text_splits_in_one_way, split_at_book};
-
-#[cfg(test)]
-mod tests;

@@ -8,8 +8,3 @@ mod pool;
 mod worker;
 
 pub use pool::work;
-
-#[cfg(test)]
-mod tests;
-#[cfg(test)]
-mod toy;

@@ -11,6 +11,3 @@ pub use minting::{lacking, lacks_any};
 pub use reach_walk::{load_of, load_within};
 pub use receive::receive_trace;
 pub use send::send_trace;
-
-#[cfg(test)]
-mod tests;

@@ -18,8 +18,3 @@ pub use closing::StillOpen;
 pub use laws::{one_has_the_turn, tickets_differ};
 pub use rule::{Known, LogRule};
 pub use table::{ByTurns, LogSeat, SeatView, Stage, TurnLog};
-
-#[cfg(test)]
-mod sheet;
-#[cfg(test)]
-mod tests;

@@ -23,6 +23,3 @@ pub use setting::Setting;
 pub use start::start_frame;
 pub use turn::Turn;
 pub use turn_rules::{Frame, RegisterFile};
-
-#[cfg(test)]
-mod tests;

@@ -7,6 +7,3 @@ mod reading;
 
 pub use order::{Job, LEAST_WEIGHT, MOST_WEIGHT, Order, WordErr};
 pub use reading::read_words;
-
-#[cfg(test)]
-mod tests;

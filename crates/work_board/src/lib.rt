@@ -11,6 +11,3 @@ mod trouble;
 pub use answers::{Committed, Look, Refuse};
 pub use board::Board;
 pub use trouble::TroubleBoard;
-
-#[cfg(test)]
-mod tests;

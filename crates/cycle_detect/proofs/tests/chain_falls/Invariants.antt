@@ -1,4 +1,0 @@
-use Rattle.cycle_detect.proofs.tests.chain_falls.Given as goal
-
-abbrev pub ghosts-closed_count : goal.ghosts-closed_count
-ghosts-closed_count g a = record { name = a.blank.name; parts = a.blank.parts }

@@ -1,5 +1,0 @@
-use Rattle.orca_core.specs.Machine.{NoneIsAway}
-use Rattle.hall_check.proofs.following.follow.Given as goal
-
-abbrev pub invariant-loop-i : goal.invariant-loop-i
-invariant-loop-i l = NoneIsAway l.orca

@@ -1,0 +1,11 @@
+//! Tests alone: runs by several workers, whose books both machines follow.
+#![tactic(auto)]
+
+#[cfg(test)]
+mod board_tests;
+#[cfg(test)]
+mod following;
+#[cfg(test)]
+mod programs;
+#[cfg(test)]
+mod worker_tests;

@@ -1,0 +1,21 @@
+//! Tests alone: names, sets, walks, an actor's tables with what letters and collections do to them, and the detector.
+#![tactic(auto)]
+
+#[cfg(test)]
+mod detector_tests;
+#[cfg(test)]
+mod foreign_tests;
+#[cfg(test)]
+mod heap_tests;
+#[cfg(test)]
+mod name_tests;
+#[cfg(test)]
+mod root_tests;
+#[cfg(test)]
+mod set_tests;
+#[cfg(test)]
+mod sweep_tests;
+#[cfg(test)]
+mod trace_tests;
+#[cfg(test)]
+mod walk_tests;
