@@ -33,6 +33,3 @@ pub fn report(
         held: Listed::from(held),
     })
 }
-
-#[cfg(test)]
-mod tests;

@@ -1,17 +1,12 @@
 // Books that are audited: those of runs, and such as are no run, or no book.
 
+use crate::calling::{answer, gives};
 use crate::programs::{PASSED, PEERS, PING, SEVEN, TWO_PRINT};
-use crate::tests::{answer, gives};
-use pony_run::Status;
-use std::alloc::Global;
+use orca_names::NoMemory;
+use pony_run::{Outcome, Status};
 use std::sync::Wait;
 use std::test::Fail;
 use std::thread::Threads;
-
-/// A program and the text of a book behind it.
-fn with_book(alloc: Global, program: &str, book: &str) -> Result<String, Fail> {
-    Ok(format!(in alloc; "{program}{book}")?)
-}
 
 // A program, the text behind it, exit code and what is written.
 const AUDITS: &[(&str, &str, u8, &str)] = &[
@@ -110,13 +105,45 @@ const AUDITS: &[(&str, &str, u8, &str)] = &[
     ),
 ];
 
+/// Whether the audit of a program with this text behind it ends with this code, and writes this.
+fn audits<R: AllocGlobal + Threads + Wait + Sync>(
+    rt: &R,
+    program: &str,
+    book: &str,
+    code: u8,
+    written: &str,
+) -> Result<bool, NoMemory> {
+    let input = format!(in rt.alloc(); "{program}{book}")?;
+    gives(rt, &["audit"], &input, code, written)
+}
+
 #[test]
 fn audits_answer_what_they_should(rt: HostRuntime) -> Result<(), Fail> {
     for (i, (program, book, code, written)) in AUDITS.iter().enumerate() {
-        let input = with_book(rt.alloc(), *program, *book)?;
-        assert!(rt; gives(&rt, &["audit"], &input, *code, *written)?, "at {i}");
+        assert!(rt; audits(&rt, *program, *book, *code, *written)?, "at {i}");
     }
     Ok(())
+}
+
+/// Whether the audit of this input says that it is a run, of so many entries.
+fn is_run<R: AllocGlobal + Threads + Wait + Sync>(
+    rt: &R,
+    input: &str,
+    entries: u64,
+) -> Result<bool, NoMemory> {
+    let audit = answer(rt, &["audit"], input)?;
+    Ok(audit.status == Status::Audited && audit.book.len() == entries)
+}
+
+/// Whether the audit of a run's book says that it is a run of the program, of as many entries.
+fn is_run_of<R: AllocGlobal + Threads + Wait + Sync>(
+    rt: &R,
+    program: &str,
+    run: &Outcome,
+) -> Result<bool, NoMemory> {
+    let book = &run.book;
+    let input = format!(in rt.alloc(); "{program}{book}")?;
+    is_run(rt, &input, book.len())
 }
 
 /// Whether the book of a run by these words is audited, with as many entries.
@@ -124,13 +151,9 @@ fn is_audited<R: AllocGlobal + Threads + Wait + Sync>(
     rt: &R,
     words: &[&str],
     program: &str,
-) -> Result<bool, Fail> {
-    let (run, _) = answer(rt, words, program)?;
-    let text = run.book.text(rt.alloc())?;
-    let book = String::from_utf8(text)?;
-    let input = with_book(rt.alloc(), program, &book)?;
-    let (audit, _) = answer(rt, &["audit"], &input)?;
-    Ok(audit.status == Status::Audited && audit.book.len() == run.book.len())
+) -> Result<bool, NoMemory> {
+    let run = answer(rt, words, program)?;
+    is_run_of(rt, program, &run)
 }
 
 // How many workers made the run.

@@ -3,7 +3,11 @@
 #![tactic(auto)]
 
 #[cfg(test)]
+mod argument_tests;
+#[cfg(test)]
 mod audit_tests;
+#[cfg(test)]
+mod calling;
 #[cfg(test)]
 mod programs;
 #[cfg(test)]
@@ -12,3 +16,5 @@ mod report_tests;
 mod tests;
 #[cfg(test)]
 mod why_tests;
+#[cfg(test)]
+mod worker_tests;

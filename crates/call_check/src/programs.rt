@@ -3,6 +3,10 @@
 /// Prints a number.
 pub(crate) const SEVEN: &str = "kind Main 0\non start 0\nint r0 7\nprint r0\nend\n";
 
+/// The report of its run.
+pub(crate) const SEVEN_REPORT: &str =
+    "7\n--\nend quiet\nactors made 1 left 0\nobjects made 0 left 0\n";
+
 /// Prints the largest number.
 pub(crate) const MOST: &str =
     "kind Main 0\non start 0\nint r0 18446744073709551615\nprint r0\nend\n";
@@ -78,6 +82,11 @@ pub(crate) const ONE_LEAF_MORE: &str =
 /// Two actors that nobody holds each print a number.
 pub(crate) const TWO_PRINT: &str =
     "kind Main 0\non start 0\nnew r0 W\nnew r1 W\nsend r0 work\nsend r1 work\nend\nkind W 0\non work 0\nint r0 1\nprint r0\nend\n";
+
+/// Six actors that nobody holds each print a number: the turns of all seven have 25 segments, two of each
+/// of the six.
+pub(crate) const SIX_PRINT: &str =
+    "kind Main 0\non start 0\nnew r0 W\nnew r1 W\nnew r2 W\nnew r3 W\nnew r4 W\nnew r5 W\nsend r0 work\nsend r1 work\nsend r2 work\nsend r3 work\nsend r4 work\nsend r5 work\nend\nkind W 0\non work 0\nint r0 1\nprint r0\nend\n";
 
 /// A pinned actor makes an object and keeps nothing of it.
 pub(crate) const LOOSE: &str = "kind Main 0\non start 0\npin\nint r0 1\nrow r1 r0\nend\n";

@@ -1,12 +1,14 @@
 // Programs and their reports, by the words that the call is given.
 
+use crate::calling::{SURE, Told, answer, gives, tell};
 use crate::programs::{
     ALL_LEAVES, CHAIN, DROPPED, KEPT, NAMED, ONE_LEAF_MORE, OPENED, PASSED, PEERS, PING, PINNED,
     REACHED_TWICE, SENT_TWICE, SEVEN, TO_ITSELF, UNHEARD,
 };
-use crate::tests::{answer, gives};
-use orca_names::ActorName;
-use pony_run::Status;
+use orca_names::{ActorName, NoMemory};
+use outside_world::OpenGate;
+use pony_run::{Outcome, Status};
+use std::alloc::Global;
 use std::sync::Wait;
 use std::test::Fail;
 use std::thread::Threads;
@@ -359,6 +361,19 @@ const BOOKS: &[(&[&str], &str, u64, &str, &str)] = &[
 ];
 
 /// Whether the book of a call has so many entries, and its text begins and ends so.
+fn is_book(
+    alloc: Global,
+    outcome: &Outcome,
+    length: u64,
+    begins: &str,
+    ends: &str,
+) -> Result<bool, NoMemory> {
+    let text = outcome.book.text(alloc)?;
+    let is_long = outcome.book.len() == length;
+    Ok(is_long && text.starts_with(begins.as_bytes()) && text.ends_with(ends.as_bytes()))
+}
+
+/// Whether a call has a book of so many entries, whose text begins and ends so.
 fn has_book<R: AllocGlobal + Threads + Wait + Sync>(
     rt: &R,
     words: &[&str],
@@ -366,11 +381,9 @@ fn has_book<R: AllocGlobal + Threads + Wait + Sync>(
     length: u64,
     begins: &str,
     ends: &str,
-) -> Result<bool, Fail> {
-    let (outcome, _) = answer(rt, words, input)?;
-    let text = outcome.book.text(rt.alloc())?;
-    let is_long = outcome.book.len() == length;
-    Ok(is_long && text.starts_with(begins.as_bytes()) && text.ends_with(ends.as_bytes()))
+) -> Result<bool, NoMemory> {
+    let outcome = answer(rt, words, input)?;
+    is_book(rt.alloc(), &outcome, length, begins, ends)
 }
 
 #[test]
@@ -384,36 +397,47 @@ fn runs_have_their_books(rt: HostRuntime) -> Result<(), Fail> {
     Ok(())
 }
 
-/// How a run ends within this budget, if its book is as long as it should be, and its report this.
-fn end_of<R: AllocGlobal + Threads + Wait + Sync>(
+/// Whether a run within this budget ends so, with a book of so many entries, and writes this.
+fn ends_so<R: AllocGlobal + Threads + Wait + Sync>(
     rt: &R,
     input: &str,
     budget: &str,
-    length: u64,
+    end: Told,
     written: &str,
-) -> Result<Status, Fail> {
+) -> Result<bool, NoMemory> {
     let words = ["run", "--workers", "1", "--budget", budget];
-    let (outcome, sink) = answer(rt, &words, input)?;
-    if outcome.book.len() == length && sink.bytes() == written.as_bytes() {
-        Ok(outcome.status)
-    } else {
-        Err(Fail::from("another book or report"))
-    }
+    let devices = (SURE, SURE);
+    let found = tell(
+        rt,
+        &words,
+        input.as_bytes(),
+        devices,
+        &OpenGate,
+        written.as_bytes(),
+    )?;
+    Ok(found == Some(end))
 }
 
 #[test]
 fn a_run_ends_where_all_actors_are_made(rt: HostRuntime) -> Result<(), Fail> {
     let report = "--\nend actors\nactors made 65536 left 65536\nobjects made 0 left 0\n";
-    let end = end_of(&rt, ONE_LEAF_MORE, "1000000", 262_144, report)?;
-    let actor = ActorName(0);
-    assert!(rt; end == Status::ActorsFull { actor });
+    let end = Told {
+        status: Status::ActorsFull {
+            actor: ActorName(0),
+        },
+        entries: 262_144,
+    };
+    assert!(rt; ends_so(&rt, ONE_LEAF_MORE, "1000000", end, report)?);
     Ok(())
 }
 
 #[test]
 fn a_run_ends_by_its_budget(rt: HostRuntime) -> Result<(), Fail> {
     let report = "--\nend budget\nactors made 65536 left 65536\nobjects made 0 left 0\n";
-    let end = end_of(&rt, ALL_LEAVES, "262145", 262_145, report)?;
-    assert!(rt; end == Status::Budget);
+    let end = Told {
+        status: Status::Budget,
+        entries: 262_145,
+    };
+    assert!(rt; ends_so(&rt, ALL_LEAVES, "262145", end, report)?);
     Ok(())
 }

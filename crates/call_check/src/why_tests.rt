@@ -1,7 +1,7 @@
 // Why each thing is left, and who went.
 
+use crate::calling::gives;
 use crate::programs::{KEPT, LOOSE, NESTED, PEERS, PINNED, REACHED_TWICE, SEVEN};
-use crate::tests::gives;
 use std::test::Fail;
 
 // Words, input, exit code and what is written.

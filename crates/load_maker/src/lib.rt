@@ -5,6 +5,3 @@
 mod load;
 
 pub use load::{NODES_LIMIT, program_of};
-
-#[cfg(test)]
-mod tests;

@@ -4,6 +4,3 @@
 mod row;
 
 pub use row::MailRow;
-
-#[cfg(test)]
-mod tests;

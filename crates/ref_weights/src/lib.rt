@@ -10,6 +10,3 @@ mod own;
 
 pub use held::Held;
 pub use own::OwnCount;
-
-#[cfg(test)]
-mod tests;

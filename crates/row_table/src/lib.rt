@@ -5,6 +5,3 @@
 mod table;
 
 pub use table::RowTable;
-
-#[cfg(test)]
-mod tests;

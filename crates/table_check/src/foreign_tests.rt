@@ -4,7 +4,6 @@ use foreign_table::ForeignTable;
 use letter_kinds::Amounts;
 use orca_names::{ActorName, NoMemory, ObjName, Row, Serial, Thing, Value};
 use std::alloc::Global;
-use std::test::Fail;
 
 const fn name(owner: u32, serial: u64) -> ObjName {
     ObjName {
@@ -17,12 +16,17 @@ const fn object(owner: u32, serial: u64) -> Thing {
     Thing::Obj(name(owner, serial))
 }
 
-fn gain(table: &mut ForeignTable, thing: &Thing, row: &Option<Row>) -> Result<(), NoMemory> {
-    table.reserve(1)?;
-    if table.count(*thing) < 1_000_000 {
-        table.gain(*thing, row, 256);
+/// Gains 256 on the thing, with this number in its row, if any. Whether there was memory.
+fn gains(table: &mut ForeignTable, thing: &Thing, number: Option<u64>) -> bool {
+    let row = match number {
+        Some(number) => Some(Row::of(&[Value::Num(number)])),
+        None => None,
+    };
+    if table.reserve(1).is_err() || table.count(*thing) > 1_000_000 {
+        return false;
     }
-    Ok(())
+    table.gain(*thing, &row, 256);
+    true
 }
 
 fn spend(table: &mut ForeignTable, thing: &Thing) {
@@ -37,6 +41,7 @@ fn take_out(table: &mut ForeignTable, thing: &Thing) {
     }
 }
 
+// The number in the row of an object of actor 3.
 fn number(table: &ForeignTable, serial: u64) -> Option<Value> {
     match table.row(name(3, serial)) {
         Some(row) => row.get(0),
@@ -44,15 +49,11 @@ fn number(table: &ForeignTable, serial: u64) -> Option<Value> {
     }
 }
 
-/// Whether a table differs from its copy once a count is spent, and then has these counts and places.
-fn counts_so(alloc: Global, table: &mut ForeignTable) -> Result<bool, Fail> {
-    let row = Some(Row::of(&[Value::Num(7)]));
-    gain(table, &object(3, 0), &row)?;
-    gain(table, &Thing::Actor(ActorName(5)), &None)?;
-    gain(table, &Thing::Actor(ActorName(3)), &None)?;
-    gain(table, &Thing::Actor(ActorName(3)), &None)?;
-    let before = table.copy(alloc)?;
-    Ok(differs_once_spent(table, &before) && holds_so(alloc, table)?)
+fn gains_three(table: &mut ForeignTable) -> bool {
+    gains(table, &object(3, 0), Some(7))
+        && gains(table, &Thing::Actor(ActorName(5)), None)
+        && gains(table, &Thing::Actor(ActorName(3)), None)
+        && gains(table, &Thing::Actor(ActorName(3)), None)
 }
 
 fn differs_once_spent(table: &mut ForeignTable, before: &ForeignTable) -> bool {
@@ -61,55 +62,101 @@ fn differs_once_spent(table: &mut ForeignTable, before: &ForeignTable) -> bool {
     same && !table.same(before)
 }
 
-fn holds_so(alloc: Global, table: &ForeignTable) -> Result<bool, Fail> {
+/// Whether a table differs from its copy once a count is spent.
+fn differs_from_copy(alloc: Global, table: &mut ForeignTable) -> bool {
+    match table.copy(alloc) {
+        Ok(before) => differs_once_spent(table, &before),
+        Err(_) => false,
+    }
+}
+
+fn tells_two_actors(alloc: Global, table: &ForeignTable) -> bool {
     let held = [(ActorName(3), 512), (ActorName(5), 255)];
-    let told = table.held_actors(alloc)?.as_slice() == held.as_slice();
-    Ok(told && table.place(&object(3, 0)) == Some(1) && table.len() == 3)
+    match table.held_actors(alloc) {
+        Ok(told) => told.as_slice() == held.as_slice(),
+        Err(_) => false,
+    }
+}
+
+/// Whether a table differs from its copy once a count is spent, and then has these counts and places.
+fn counts_so(alloc: Global, table: &mut ForeignTable) -> bool {
+    gains_three(table)
+        && differs_from_copy(alloc, table)
+        && tells_two_actors(alloc, table)
+        && table.place(&object(3, 0)) == Some(1)
+        && table.len() == 3
 }
 
 #[test]
-fn counts_are_held_and_copied(rt: HostRuntime) -> Result<(), Fail> {
+fn counts_are_held_and_copied(rt: HostRuntime) {
     let mut table = ForeignTable::new(rt.alloc());
-    assert!(rt; counts_so(rt.alloc(), &mut table)?);
-    Ok(())
+    let holds = counts_so(rt.alloc(), &mut table);
+    drop(table);
+    assert!(rt; holds);
 }
 
-/// The first values of the rows of three objects, of which the second is taken out.
-fn numbers(table: &mut ForeignTable) -> Result<[Option<Value>; 3], NoMemory> {
+/// Gains on five objects of actor 3 with their numbers, and on five of actor 2 with none.
+fn gains_ten(table: &mut ForeignTable) -> bool {
     for serial in 0..5 {
-        let row = Some(Row::of(&[Value::Num(serial)]));
-        gain(table, &object(3, serial), &row)?;
-        gain(table, &object(2, serial), &None)?;
+        if !(gains(table, &object(3, serial), Some(serial))
+            && gains(table, &object(2, serial), None))
+        {
+            return false;
+        }
     }
+    true
+}
+
+/// Whether the objects of actor 3 keep their rows once the second is taken out.
+fn keeps_rows(table: &mut ForeignTable) -> bool {
+    let gained = gains_ten(table);
     take_out(table, &object(3, 1));
     take_out(table, &object(2, 4));
-    Ok([number(table, 0), number(table, 1), number(table, 2)])
+    gained
+        && number(table, 0) == Some(Value::Num(0))
+        && number(table, 1) == None
+        && number(table, 2) == Some(Value::Num(2))
+        && table.len() == 8
 }
 
 #[test]
-fn rows_stay_with_their_things(rt: HostRuntime) -> Result<(), Fail> {
+fn rows_stay_with_their_things(rt: HostRuntime) {
     let mut table = ForeignTable::new(rt.alloc());
-    let wanted = [Some(Value::Num(0)), None, Some(Value::Num(2))];
-    assert!(rt; numbers(&mut table)? == wanted && table.len() == 8);
-    Ok(())
+    let holds = keeps_rows(&mut table);
+    drop(table);
+    assert!(rt; holds);
 }
 
-/// Whether a table that takes room for nine things, one of which it holds, has what it had.
-fn is_as_before(alloc: Global, table: &mut ForeignTable, things: &Amounts) -> Result<bool, Fail> {
-    gain(table, &object(3, 4), &None)?;
-    let before = table.copy(alloc)?;
-    table.reserve_for(things)?;
-    Ok(table.same(&before) && table.count(object(3, 4)) == 256 && table.len() == 1)
-}
-
-#[test]
-fn room_for_what_is_not_held_changes_no_entry(rt: HostRuntime) -> Result<(), Fail> {
-    let mut things = Vec::new(rt.alloc());
+fn nine_objects(alloc: Global) -> Result<Amounts, NoMemory> {
+    let mut things = Amounts::new(alloc);
     for serial in 0..9 {
         things.push((object(3, serial), 1))?;
     }
-    let things = Amounts::from(things);
+    Ok(things)
+}
+
+fn stays_for_nine(alloc: Global, table: &mut ForeignTable, before: &ForeignTable) -> bool {
+    let reserved = match nine_objects(alloc) {
+        Ok(things) => table.reserve_for(&things).is_ok(),
+        Err(_) => false,
+    };
+    reserved && table.same(before)
+}
+
+/// Whether a table that takes room for nine things, one of which it holds, has what it had.
+fn is_as_before(alloc: Global, table: &mut ForeignTable) -> bool {
+    let gained = gains(table, &object(3, 4), None);
+    let stays = match table.copy(alloc) {
+        Ok(before) => stays_for_nine(alloc, table, &before),
+        Err(_) => false,
+    };
+    gained && stays && table.count(object(3, 4)) == 256 && table.len() == 1
+}
+
+#[test]
+fn room_for_what_is_not_held_changes_no_entry(rt: HostRuntime) {
     let mut table = ForeignTable::new(rt.alloc());
-    assert!(rt; is_as_before(rt.alloc(), &mut table, &things)?);
-    Ok(())
+    let holds = is_as_before(rt.alloc(), &mut table);
+    drop(table);
+    assert!(rt; holds);
 }

@@ -3,14 +3,13 @@
 use object_heap::ObjectHeap;
 use orca_names::{ActorName, ObjName, Row, Value};
 use std::alloc::Global;
-use std::test::Fail;
 
-fn make(heap: &mut ObjectHeap, number: u64) -> Result<ObjName, Fail> {
-    heap.reserve(1)?;
-    if heap.made() < 1_000_000 {
-        return Ok(heap.make(Row::of(&[Value::Num(number)])));
+/// A new object with this number; `None` where there was no memory, or a million were made.
+fn make(heap: &mut ObjectHeap, number: u64) -> Option<ObjName> {
+    if heap.reserve(1).is_err() || heap.made() > 1_000_000 {
+        return None;
     }
-    Err(Fail::from("too many objects"))
+    Some(heap.make(Row::of(&[Value::Num(number)])))
 }
 
 fn raise(heap: &mut ObjectHeap, n: &ObjName) {
@@ -36,19 +35,31 @@ fn differs_once_raised(heap: &mut ObjectHeap, before: &ObjectHeap, n: &ObjName) 
     same && !heap.same(before) && before.len() == 2
 }
 
-/// Whether a heap differs from its copy once a count is raised, and has its objects at their places.
-fn makes_so(alloc: Global, heap: &mut ObjectHeap) -> Result<bool, Fail> {
-    make(heap, 7)?;
-    let n = make(heap, 8)?;
-    let before = heap.copy(alloc)?;
-    let differs = differs_once_raised(heap, &before, &n);
-    let placed = look(heap, &n) == (Some(Value::Num(8)), Some(1));
-    Ok(differs && placed && heap.len() == 2 && heap.made() == 2)
+/// Whether a heap differs from its copy once the count of this object is raised.
+fn differs_from_copy(alloc: Global, heap: &mut ObjectHeap, n: &ObjName) -> bool {
+    match heap.copy(alloc) {
+        Ok(before) => differs_once_raised(heap, &before, n),
+        Err(_) => false,
+    }
+}
+
+/// Whether two objects are made, of which the second has its number and its place, and are copied.
+fn makes_two(alloc: Global, heap: &mut ObjectHeap) -> bool {
+    let first = make(heap, 7).is_some();
+    let Some(n) = make(heap, 8) else {
+        return false;
+    };
+    first
+        && differs_from_copy(alloc, heap, &n)
+        && look(heap, &n) == (Some(Value::Num(8)), Some(1))
+        && heap.len() == 2
+        && heap.made() == 2
 }
 
 #[test]
-fn objects_are_made_and_copied(rt: HostRuntime) -> Result<(), Fail> {
+fn objects_are_made_and_copied(rt: HostRuntime) {
     let mut heap = ObjectHeap::new(rt.alloc(), ActorName(4));
-    assert!(rt; makes_so(rt.alloc(), &mut heap)?);
-    Ok(())
+    let holds = makes_two(rt.alloc(), &mut heap);
+    drop(heap);
+    assert!(rt; holds);
 }

@@ -2,15 +2,23 @@
 #![tactic(auto)]
 
 #[cfg(test)]
+mod count_tests;
+#[cfg(test)]
 mod detector_tests;
 #[cfg(test)]
 mod foreign_tests;
 #[cfg(test)]
 mod heap_tests;
 #[cfg(test)]
+mod mail_tests;
+#[cfg(test)]
 mod name_tests;
 #[cfg(test)]
+mod report_tests;
+#[cfg(test)]
 mod root_tests;
+#[cfg(test)]
+mod row_tests;
 #[cfg(test)]
 mod set_tests;
 #[cfg(test)]

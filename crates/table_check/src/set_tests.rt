@@ -1,17 +1,28 @@
 // A set over three levels, against the numbers that are known to be in it.
 
 use ready_set::{PLACES_LIMIT, ReadySet};
-use std::test::Fail;
 
-#[test]
-fn the_least_is_found(rt: HostRuntime) -> Result<(), Fail> {
-    let mut set = ReadySet::new(rt.alloc());
-    assert_eq!(rt; (set.len(), set.first()), (0, None));
+/// Whether a set has 64 places more after each of 1,024 calls.
+fn grows(set: &mut ReadySet) -> bool {
     for turn in 1..1025 {
-        assert!(rt; set.len() < PLACES_LIMIT);
-        set.grow()?;
-        assert_eq!(rt; set.len(), 64 * turn);
+        if set.len() >= PLACES_LIMIT || set.grow().is_err() || set.len() != 64 * turn {
+            return false;
+        }
     }
+    true
+}
+
+/// Puts the number in or takes it out. Whether it is in then; `None` where the set has no such place.
+fn put(set: &mut ReadySet, a: u32, on: bool) -> Option<bool> {
+    if (a as usize) < set.len() {
+        set.put(a, on);
+        return Some(set.contains(a));
+    }
+    None
+}
+
+/// Whether each change is seen, and this number is the least one then.
+fn finds_the_least(set: &mut ReadySet) -> bool {
     let steps = [
         (65_535, true, Some(65_535)),
         (4096, true, Some(4096)),
@@ -28,24 +39,36 @@ fn the_least_is_found(rt: HostRuntime) -> Result<(), Fail> {
         (65_535, false, None),
     ];
     for (a, on, first) in steps {
-        assert!(rt; (a as usize) < set.len());
-        set.put(a, on);
-        assert_eq!(rt; (set.contains(a), set.first()), (on, first));
+        if put(set, a, on) != Some(on) || set.first() != first {
+            return false;
+        }
     }
-    Ok(())
+    true
+}
+
+fn grows_and_finds_the_least(set: &mut ReadySet) -> bool {
+    set.len() == 0 && set.first() == None && grows(set) && finds_the_least(set)
 }
 
 #[test]
-fn the_next_is_found(rt: HostRuntime) -> Result<(), Fail> {
+fn the_least_is_found(rt: HostRuntime) {
     let mut set = ReadySet::new(rt.alloc());
-    for _ in 0..1024 {
-        assert!(rt; set.len() < PLACES_LIMIT);
-        set.grow()?;
-    }
+    let holds = grows_and_finds_the_least(&mut set);
+    drop(set);
+    assert!(rt; holds);
+}
+
+fn takes_five(set: &mut ReadySet) -> bool {
     for a in [3, 70, 4095, 8200, 65_535] {
-        assert!(rt; (a as usize) < set.len());
-        set.put(a, true);
+        if put(set, a, true) != Some(true) {
+            return false;
+        }
     }
+    true
+}
+
+/// Whether the set gives these numbers as the next ones.
+fn finds_the_next(set: &ReadySet) -> bool {
     let steps = [
         (0, Some(3)),
         (3, Some(3)),
@@ -58,7 +81,21 @@ fn the_next_is_found(rt: HostRuntime) -> Result<(), Fail> {
         (u32::MAX, None),
     ];
     for (from, next) in steps {
-        assert_eq!(rt; set.next(from), next);
+        if set.next(from) != next {
+            return false;
+        }
     }
-    Ok(())
+    true
+}
+
+fn grows_and_finds_the_next(set: &mut ReadySet) -> bool {
+    grows(set) && takes_five(set) && finds_the_next(set)
+}
+
+#[test]
+fn the_next_is_found(rt: HostRuntime) {
+    let mut set = ReadySet::new(rt.alloc());
+    let holds = grows_and_finds_the_next(&mut set);
+    drop(set);
+    assert!(rt; holds);
 }

@@ -1,25 +1,32 @@
 // Names that are given once, what stands where no kind does, and guesses of places.
 
-use behaviour_code::{Behaviour, Behaviours, Instr, Kind, Name, Names, Program, Target};
+use crate::programs::program;
+use crate::table::holds;
+use behaviour_code::{Behaviour, Behaviours, Instr, Name, Names, Program, Target};
 use plain_list::Listed;
 use std::alloc::Global;
 use std::test::Fail;
 
-#[test]
-fn names_are_given_once(rt: HostRuntime) -> Result<(), Fail> {
-    let mut names = Names::new(rt.alloc());
+/// Whether the third name is the longest one, and there is no fourth.
+fn has_three(names: &Names) -> bool {
+    names.len() == 3
+        && names.text_or_empty(Name(2)) == "start_"
+        && names.text_or_empty(Name(3)) == ""
+}
+
+fn are_given_once(alloc: Global) -> Result<bool, Fail> {
+    let mut names = Names::new(alloc);
     let start = names.intern("start")?;
     let main = names.intern("Main")?;
     let longer = names.intern("start_")?;
     let again = names.intern("Main")?;
-    assert_eq!(rt;
-        [start, main, longer, again],
-        [Name(0), Name(1), Name(2), Name(1)]
-    );
-    assert_eq!(rt; names.len(), 3);
-    assert_eq!(rt; names.text_or_empty(Name(2)), "start_");
-    assert_eq!(rt; names.text_or_empty(Name(3)), "");
-    Ok(())
+    let places = [start, main, longer, again];
+    Ok(places == [Name(0), Name(1), Name(2), Name(1)] && has_three(&names))
+}
+
+#[test]
+fn names_are_given_once(rt: HostRuntime) -> Result<(), Fail> {
+    holds(are_given_once(rt.alloc())?, "names are given once")
 }
 
 /// Whether a program of one kind, named as its one behaviour, has what it has, and nothing beyond.
@@ -33,36 +40,17 @@ fn has_one_kind(program: &Program) -> bool {
         && program.behaviours(1).is_empty()
 }
 
-/// A program of one kind with the behaviour `start`.
-fn one_kind(alloc: Global, parameters: u8) -> Result<Program, Fail> {
-    let mut names = Names::new(alloc);
-    let start = names.intern("start")?;
-    let behaviour = Behaviour {
-        name: start,
-        parameters,
-        body: Listed::from(vec![in alloc; Instr::Pin]?),
-    };
-    let kind = Kind {
-        name: Name(0),
-        fields: 3,
-        behaviours: Behaviours::from(vec![in alloc; behaviour]?),
-    };
-    Ok(Program {
-        kinds: Listed::from(vec![in alloc; kind]?),
-        names,
-    })
+/// Fails where the program of a text has another start, or not one kind.
+fn starts_at(alloc: Global, text: &str, want: Option<Name>) -> Result<(), Fail> {
+    let program = program(alloc, text)?;
+    holds(program.start_name() == want && has_one_kind(&program), text)
 }
 
 #[test]
 fn a_start_has_no_parameters(rt: HostRuntime) -> Result<(), Fail> {
-    for (parameters, want) in [(0, Some(Name(0))), (1, None)] {
-        let program = one_kind(rt.alloc(), parameters)?;
-        assert!(rt;
-            program.start_name() == want && has_one_kind(&program),
-            "{parameters}"
-        );
-    }
-    Ok(())
+    let alloc = rt.alloc();
+    starts_at(alloc, "kind start 3\non start 0\npin\nend\n", Some(Name(0)))?;
+    starts_at(alloc, "kind start 3\non start 1\npin\nend\n", None)
 }
 
 /// Whether the places of behaviours 7, 3 and 71 are guessed, of which the first and the last share a guess.
@@ -78,19 +66,25 @@ fn copies_so(behaviours: &Behaviours) -> Result<bool, Fail> {
     Ok(copy == *behaviours && copy.guess(Name(3)) == 1 && copy.len() == 3)
 }
 
-#[test]
-fn places_are_guessed_by_names(rt: HostRuntime) -> Result<(), Fail> {
-    let mut list = Listed::new(rt.alloc());
-    for name in [7, 3, 71] {
+fn behaviours_named(alloc: Global, names: [u32; 3]) -> Result<Behaviours, Fail> {
+    let mut list = Listed::new(alloc);
+    for name in names {
         list.push(Behaviour {
             name: Name(name),
             parameters: 0,
-            body: Listed::new(rt.alloc()),
+            body: Listed::new(alloc),
         })?;
     }
-    let behaviours = Behaviours::from(list);
-    assert!(rt; guesses_so(&behaviours) && copies_so(&behaviours)?);
-    Ok(())
+    Ok(Behaviours::from(list))
+}
+
+#[test]
+fn places_are_guessed_by_names(rt: HostRuntime) -> Result<(), Fail> {
+    let behaviours = behaviours_named(rt.alloc(), [7, 3, 71])?;
+    holds(
+        guesses_so(&behaviours) && copies_so(&behaviours)?,
+        "the guesses",
+    )
 }
 
 /// The place beside the name that an instruction leads to, once it is set, if the instruction is as before.
@@ -106,10 +100,14 @@ fn placed(instr: &Instr) -> Result<Option<u32>, Fail> {
     })
 }
 
+/// Fails where the place of such an instruction isn't set, or is a part of it.
+fn is_placed(instr: &Instr, what: &str) -> Result<(), Fail> {
+    holds(placed(instr)? == Some(9), what)
+}
+
 #[test]
-fn a_place_is_no_part_of_an_instruction(rt: HostRuntime) -> Result<(), Fail> {
-    assert_eq!(rt; placed(&Instr::Jump(Target::of(Name(4))))?, Some(9));
-    assert_eq!(rt; placed(&Instr::JumpZero(1, Target::of(Name(4))))?, Some(9));
-    assert_eq!(rt; placed(&Instr::New(2, Target::of(Name(4))))?, Some(9));
-    Ok(())
+fn a_place_is_no_part_of_an_instruction() -> Result<(), Fail> {
+    is_placed(&Instr::Jump(Target::of(Name(4))), "jump")?;
+    is_placed(&Instr::JumpZero(1, Target::of(Name(4))), "jzero")?;
+    is_placed(&Instr::New(2, Target::of(Name(4))), "new")
 }

@@ -1,8 +1,26 @@
 // The one-worker order and the text of each event, from outside of the contracts.
 
+use crate::table::{holds, same_text};
 use event_rule::Event;
 use orca_names::ActorName;
+use std::alloc::Global;
 use std::test::Fail;
+
+fn rise(events: &[(Event, &str)]) -> Result<(), Fail> {
+    for pair in events.windows(2) {
+        if let [first, second] = pair {
+            holds(first.0 < second.0, second.1)?;
+        }
+    }
+    Ok(())
+}
+
+fn have_their_texts(alloc: Global, events: &[(Event, &str)]) -> Result<(), Fail> {
+    for (event, text) in events {
+        same_text(event.to_string(alloc)?.as_str(), text)?;
+    }
+    Ok(())
+}
 
 #[test]
 fn events_rise_as_one_worker_does_them(rt: HostRuntime) -> Result<(), Fail> {
@@ -22,13 +40,6 @@ fn events_rise_as_one_worker_does_them(rt: HostRuntime) -> Result<(), Fail> {
         (Event::Reap(2), "reap 2"),
         (Event::Reap(u64::MAX), "reap 18446744073709551615"),
     ];
-    for pair in rising.windows(2) {
-        if let [first, second] = pair {
-            assert!(rt; first.0 < second.0);
-        }
-    }
-    for (event, text) in rising {
-        assert_eq!(rt; event.to_string(rt.alloc())?.as_str(), text);
-    }
-    Ok(())
+    rise(&rising)?;
+    have_their_texts(rt.alloc(), &rising)
 }

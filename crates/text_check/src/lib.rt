@@ -8,9 +8,17 @@ mod code_tests;
 #[cfg(test)]
 mod event_tests;
 #[cfg(test)]
+mod line_tests;
+#[cfg(test)]
+mod load_tests;
+#[cfg(test)]
+mod programs;
+#[cfg(test)]
 mod report_tests;
 #[cfg(test)]
 mod rule_tests;
+#[cfg(test)]
+mod table;
 #[cfg(test)]
 mod text_tests;
 #[cfg(test)]

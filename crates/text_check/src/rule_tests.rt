@@ -1,111 +1,92 @@
 // Each rule at its place, the first place, and the lowest rule there; the places that the check keeps.
 
-ghost use Rattle.std.specs.Prelude.{IfOk};
-ghost use Rattle.behaviour_code.specs.WellFormed.{IsWellFormed};
-
+use crate::programs::program;
+use crate::table::{holds, same_text, table_holds};
 use behaviour_check::{CheckFault, check};
 use behaviour_code::{Instr, Names, Program};
-use behaviour_text::parse;
 use plain_list::Listed;
 use std::alloc::Global;
 use std::test::Fail;
 
-// Bodies of the first behaviour of the first kind, which has two fields, and the step and the rule
-// that fails first, zeros where none does.
-const BODIES: &[(&str, u64, u8)] = &[
-    ("print r15\nstore f1 r15\nload r15 f1\nnew r0 A\n", 0, 0),
-    ("send r0 start r15\nrow r15 r0\nadd r0 r1 r15\n", 0, 0),
-    ("print r0\nprint r16\nlabel x\nlabel x\n", 2, 5),
-    ("add r0 r1 r16\n", 1, 5),
-    ("add r0 r16 r1\n", 1, 5),
-    ("send r0 start r16\n", 1, 5),
-    ("row r0 r16\n", 1, 5),
-    ("store f2 r16\n", 1, 5),
-    ("load r0 f2\n", 1, 6),
-    ("print r0\nstore f2 r0\n", 2, 6),
-    ("new r16 B\n", 1, 3),
-    ("jzero r16 x\nlabel y\n", 1, 4),
-    ("jzero r0 x\njump x\nlabel x\n", 0, 0),
-    ("label x\njump x\n", 2, 4),
-    ("label x\nlabel y\nlabel x\nprint r16\n", 3, 2),
-];
+// Bodies of the first behaviour of the first kind, which has two fields, and where a rule fails
+// first: kind, behaviour, step and rule.
+const BODIES: &str = "
+no fault|print r15\nstore f1 r15\nload r15 f1\nnew r0 A\n;
+no fault|send r0 start r15\nrow r15 r0\nadd r0 r1 r15\n;
+1 1 2 5|print r0\nprint r16\nlabel x\nlabel x\n;
+1 1 1 5|add r0 r1 r16\n;
+1 1 1 5|add r0 r16 r1\n;
+1 1 1 5|send r0 start r16\n;
+1 1 1 5|row r0 r16\n;
+1 1 1 5|store f2 r16\n;
+1 1 1 6|load r0 f2\n;
+1 1 2 6|print r0\nstore f2 r0\n;
+1 1 1 3|new r16 B\n;
+1 1 1 4|jzero r16 x\nlabel y\n;
+no fault|jzero r0 x\njump x\nlabel x\n;
+1 1 2 4|label x\njump x\n;
+1 1 3 2|label x\nlabel y\nlabel x\nprint r16\n";
 
 // Kinds, and where a rule fails first: kind, behaviour, step and rule.
-const KINDS: &[(&str, [u64; 4])] = &[
-    ("", [0, 0, 0, 1]),
-    (
-        "kind A 2\non start 1\nlabel x\nend\non b 0\nlabel x\nend\nkind B 2\non start 0\nlabel x\nend\n",
-        [0, 0, 0, 1],
-    ),
-    (
-        "kind A 2\non b 2\nlabel x\nend\non start 0\nlabel x\nend\nkind B 2\non start 0\nlabel x\nend\n",
-        [0; 4],
-    ),
-    (
-        "kind A 2\non start 0\nend\nkind B 2\non b 0\nend\non c 0\nend\non b 1\nend\n",
-        [2, 3, 0, 2],
-    ),
-    (
-        "kind A 2\non start 0\nend\nkind B 2\nkind A 2\non b 0\nend\non b 0\nend\n",
-        [3, 0, 0, 2],
-    ),
-];
+const KINDS: &str = "\
+0 0 0 1|;\
+0 0 0 1|kind A 2\non start 1\nlabel x\nend\non b 0\nlabel x\nend\nkind B 2\non start 0\nlabel x\nend\n;\
+no fault|kind A 2\non b 2\nlabel x\nend\non start 0\nlabel x\nend\nkind B 2\non start 0\nlabel x\nend\n;\
+2 3 0 2|kind A 2\non start 0\nend\nkind B 2\non b 0\nend\non c 0\nend\non b 1\nend\n;\
+3 0 0 2|kind A 2\non start 0\nend\nkind B 2\nkind A 2\non b 0\nend\non b 0\nend\n";
 
-/// The program of a text.
-fn program(alloc: Global, text: &str) -> Result<Program, Fail>
-    ensures { IfOk result IsWellFormed }
-{
-    if text.len() > 4096 {
-        return Err(Fail::from("a long text"));
-    }
-    Ok(parse(alloc, text.as_bytes())?)
+/// Where a rule fails first in a text.
+fn broken_in(alloc: Global, text: &str) -> Result<String, Fail> {
+    Ok(match check(program(alloc, text)?) {
+        Err(fault) => told_of(alloc, &fault)?,
+        Ok(_) => String::from_str(alloc, "no fault")?,
+    })
 }
 
-/// Where a rule fails first in a text, zeros where none does.
-fn broken_in(alloc: Global, text: &str) -> Result<[u64; 4], Fail> {
-    Ok(match check(program(alloc, text)?) {
-        Err(fault) => [
-            fault.kind,
-            fault.behaviour,
-            fault.step,
-            u64::from(fault.rule),
-        ],
-        Ok(_) => [0; 4],
-    })
+fn told_of(alloc: Global, fault: &CheckFault) -> Result<String, Fail> {
+    let CheckFault {
+        kind,
+        behaviour,
+        step,
+        rule,
+    } = *fault;
+    Ok(format!(in alloc; "{kind} {behaviour} {step} {rule}")?)
+}
+
+/// Where a rule fails first in a body.
+fn broken_in_body(alloc: Global, steps: &str) -> Result<String, Fail> {
+    let text = format!(in alloc; "kind A 2\non start 0\n{steps}end\n")?;
+    broken_in(alloc, text.as_str())
 }
 
 #[test]
 fn bodies_are_refused_at_their_first_place(rt: HostRuntime) -> Result<(), Fail> {
-    for (i, (steps, step, rule)) in BODIES.iter().enumerate() {
-        let place = if *rule == 0 { 0 } else { 1 };
-        let want = [place, place, *step, u64::from(*rule)];
-        let text = format!(in rt.alloc(); "kind A 2\non start 0\n{steps}end\n")?;
-        assert_eq!(rt; broken_in(rt.alloc(), text.as_str())?, want, "at {i}");
-    }
-    Ok(())
+    table_holds(rt.alloc(), BODIES, broken_in_body)
 }
 
 #[test]
 fn names_are_given_once_and_a_start_is_there(rt: HostRuntime) -> Result<(), Fail> {
-    for (i, (text, want)) in KINDS.iter().enumerate() {
-        assert_eq!(rt; broken_in(rt.alloc(), text)?, *want, "at {i}");
-    }
-    Ok(())
+    table_holds(rt.alloc(), KINDS, broken_in)
+}
+
+/// The fault of a program without kinds.
+fn fault_without_kinds(alloc: Global) -> Option<CheckFault> {
+    let program = Program {
+        kinds: Listed::new(alloc),
+        names: Names::new(alloc),
+    };
+    check(program).err()
 }
 
 #[test]
-fn a_program_without_kinds_is_refused(rt: HostRuntime) {
-    let program = Program {
-        kinds: Listed::new(rt.alloc()),
-        names: Names::new(rt.alloc()),
-    };
+fn a_program_without_kinds_is_refused(rt: HostRuntime) -> Result<(), Fail> {
     let want = CheckFault {
         kind: 0,
         behaviour: 0,
         step: 0,
         rule: 1,
     };
-    assert!(rt; matches!(check(program), Err(fault) if fault == want));
+    holds(fault_without_kinds(rt.alloc()) == Some(want), "no kinds")
 }
 
 #[test]
@@ -116,9 +97,8 @@ fn a_fault_tells_its_rule_and_its_place(rt: HostRuntime) -> Result<(), Fail> {
         step: 3,
         rule: 4,
     };
-    let text = "rule 4 fails at kind 1, behaviour 2, step 3";
-    assert_eq!(rt; fault.to_string(rt.alloc())?.as_str(), text);
-    Ok(())
+    let told = fault.to_string(rt.alloc())?;
+    same_text(told.as_str(), "rule 4 fails at kind 1, behaviour 2, step 3")
 }
 
 /// The place that an instruction keeps beside a name.
@@ -130,16 +110,30 @@ fn place_in(instr: &Instr) -> Option<u32> {
     }
 }
 
+/// The places that a body keeps.
+fn places_in(alloc: Global, body: &[Instr]) -> Result<Vec<Option<u32>>, Fail> {
+    let mut places = Vec::new(alloc);
+    for instr in body {
+        places.push(place_in(instr))?;
+    }
+    Ok(places)
+}
+
+/// Fails where a body keeps other places.
+fn keeps(alloc: Global, body: &[Instr], want: &[Option<u32>]) -> Result<(), Fail> {
+    let places = places_in(alloc, body)?;
+    holds(places.as_slice() == want, "the places")
+}
+
+fn keeps_its_places(alloc: Global, program: &Program) -> Result<(), Fail> {
+    let want = [Some(5), Some(1), None, Some(5), Some(0), None];
+    keeps(alloc, program.body(1, 1), &want)
+}
+
 #[test]
 fn places_are_kept(rt: HostRuntime) -> Result<(), Fail> {
     let text =
         "kind A 0\non start 0\nend\nkind B 2\non b 0\nend\non c 0\njump x\nnew r0 B\nlabel y\njzero r0 x\nnew r0 A\nlabel x\nend\n";
     let placed = check(program(rt.alloc(), text)?)?;
-    let body = placed.program().body(1, 1);
-    assert_eq!(rt; body.len(), 6);
-    let want = [Some(5), Some(1), None, Some(5), Some(0), None];
-    for i in 0..6 {
-        assert_eq!(rt; place_in(&body[i]), want[i], "at {i}");
-    }
-    Ok(())
+    keeps_its_places(rt.alloc(), placed.program())
 }

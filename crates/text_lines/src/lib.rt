@@ -8,9 +8,6 @@ ghost use Rattle.text_lines.specs.Lines.{FollowFrom, is_space, is_allowed, line_
 use orca_names::{LINE_LIMIT, NoMemory};
 use std::alloc::Global;
 
-#[cfg(test)]
-mod tests;
-
 /// What may be wrong with a line by itself.
 #[derive(Clone, Copy, Debug, PartialEq, Eq)]
 pub enum LineKind {

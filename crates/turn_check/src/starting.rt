@@ -1,4 +1,4 @@
-// Where the turns of the tests start, and what they leave.
+// Where the turns of the tests start, and what they leave, as texts.
 
 ghost use Rattle.std.specs.Prelude.{IfOk, ◌≡◌, ◌∷◌, ◌&&◌, not, ◌==◌, [], true, false, None, Some, Contains, if◌then◌else◌};
 ghost use Rattle.std.proofs.Common.{refl, sym, arith};
@@ -11,18 +11,18 @@ use behaviour_check::{Checked, check};
 use behaviour_code::Program;
 use behaviour_text::parse;
 use orca_names::{
-    ActorName, Args, Fields, HeldTest, ObjName, Reading, Row, Rows, Serial, Thing, Value,
+    ActorName, Args, Fields, HeldTest, NoMemory, ObjName, Reading, Row, Rows, Serial, Thing, Value,
 };
-use std::alloc::Global;
+use std::alloc::{AllocError, Global};
 use std::test::Fail;
 use turn_rules::{Frame, RegisterFile};
 use turn_step::{Act, segment, segment_held};
 
-pub(crate) const ME: ActorName = ActorName(4);
+const ME: ActorName = ActorName(4);
 
-pub(crate) const OTHER: ActorName = ActorName(9);
+const OTHER: ActorName = ActorName(9);
 
-pub(crate) const fn object(owner: ActorName, serial: u64) -> Value {
+fn object(owner: ActorName, serial: u64) -> Value {
     Value::Obj(ObjName {
         owner,
         serial: Serial::of(serial),
@@ -139,8 +139,9 @@ impl Player {
         }
     }
 
-    /// It goes on up to its next act, over the row of its object 2; its next object is 3.
-    fn goes(&mut self, code: &Checked) -> Result<Act, Fail>
+    /// It goes on up to its next act, over the row of its object 2, and lacks a thing if one is given; its
+    /// next object is 3.
+    fn goes(&mut self, code: &Checked, lacked: Option<Thing>) -> Result<Act, NoMemory>
         requires { self.old.made.items ≡ [] }
     {
         let mut rows = Reading { rows: &own_row() };
@@ -149,79 +150,138 @@ impl Player {
             fields,
             made,
         } = self;
-        Ok(segment(code, ME, frame, fields, &mut rows, 3, made)?)
-    }
-
-    /// The same, where it lacks a thing.
-    fn goes_without(&mut self, code: &Checked, lacked: Thing) -> Result<Act, Fail>
-        requires { self.old.made.items ≡ [] }
-    {
-        let mut rows = Reading { rows: &own_row() };
-        let held = AllBut(lacked);
-        let Player {
-            frame,
-            fields,
-            made,
-        } = self;
-        Ok(segment_held(code, ME, frame, fields, &mut rows, &held, 3, made)?)
+        match lacked {
+            Some(thing) => {
+                let held = AllBut(thing);
+                segment_held(code, ME, frame, fields, &mut rows, &held, 3, made)
+            }
+            None => segment(code, ME, frame, fields, &mut rows, 3, made),
+        }
     }
 }
 
-/// What is seen of a turn: its act, and what it leaves.
-#[derive(Drop)]
-pub(crate) struct Seen {
-    pub(crate) act: Act,
-    pub(crate) place: u32,
-    pub(crate) registers: Vec<Value>,
-    pub(crate) fields: Vec<Value>,
-    pub(crate) pinned: bool,
-    pub(crate) made: Vec<Row>,
-}
-
-impl Seen {
-    /// Whether all but the act is the same.
-    pub(crate) fn leaves_as(&self, other: &Seen) -> bool {
-        self.place == other.place
-            && self.registers.as_slice() == other.registers.as_slice()
-            && self.fields.as_slice() == other.fields.as_slice()
-            && self.pinned == other.pinned
-            && self.made.as_slice() == other.made.as_slice()
+/// Appends an actor as `@9`, an object as `4.2`.
+fn push_thing(text: &mut String, thing: &Thing) -> Result<(), AllocError> {
+    match thing {
+        Thing::Actor(a) => write!(text, "@{}", a.0),
+        Thing::Obj(n) => write!(text, "{}.{}", n.owner.0, n.serial.get()),
     }
 }
 
-/// The turn of an actor, where it lacks a thing if one is given.
-fn seen_of(
+/// Appends a value: null as `-`, a number as it is.
+fn push_value(text: &mut String, value: &Value) -> Result<(), AllocError> {
+    match value {
+        Value::Null => text.push('-'),
+        Value::Num(n) => write!(text, "{n}"),
+        Value::Actor(a) => push_thing(text, &Thing::Actor(*a)),
+        Value::Obj(n) => push_thing(text, &Thing::Obj(*n)),
+    }
+}
+
+/// Appends values, each behind a space.
+fn push_values(text: &mut String, values: &[Value]) -> Result<(), AllocError> {
+    for value in values {
+        text.push(' ')?;
+        push_value(text, value)?;
+    }
+    Ok(())
+}
+
+/// Appends rows, each behind a comma.
+fn push_rows(text: &mut String, rows: &[Row]) -> Result<(), AllocError> {
+    for row in rows {
+        text.push(',')?;
+        push_values(text, row.as_slice())?;
+    }
+    Ok(())
+}
+
+/// Appends the name and arguments of a letter, or what else a turn does to others.
+fn push_act(text: &mut String, act: &Act) -> Result<(), AllocError> {
+    match act {
+        Act::Post {
+            to,
+            behaviour,
+            args,
+        } => {
+            write!(text, "send @{} {}", to.0, behaviour.0)?;
+            push_values(text, args.as_slice())
+        }
+        Act::New { kind, into } => write!(text, "new r{into} {kind}"),
+        Act::Print { value } => {
+            text.push_str("print ")?;
+            push_value(text, value)
+        }
+        Act::End => text.push_str("end"),
+        Act::Need { thing } => {
+            text.push_str("need ")?;
+            push_thing(text, thing)
+        }
+    }
+}
+
+/// Appends the place of a frame, and its registers.
+fn push_frame(text: &mut String, frame: &Frame) -> Result<(), AllocError> {
+    write!(text, " at {}:", frame.place)?;
+    push_values(text, frame.registers.as_slice())
+}
+
+/// Appends the fields, behind whether the actor is pinned.
+fn push_fields(text: &mut String, fields: &Fields) -> Result<(), AllocError> {
+    text.push_str(if fields.pinned { "; pinned" } else { ";" })?;
+    push_values(text, fields.values.as_slice())
+}
+
+/// What is seen of a turn that left its actor so.
+fn line_of(
+    alloc: Global,
+    act: &Act,
+    frame: &Frame,
+    fields: &Fields,
+    made: &[Row],
+) -> Result<String, AllocError> {
+    let mut text = String::new(alloc);
+    push_act(&mut text, act)?;
+    push_frame(&mut text, frame)?;
+    push_fields(&mut text, fields)?;
+    push_rows(&mut text, made)?;
+    Ok(text)
+}
+
+/// What is seen of an actor's turn.
+fn turn_of(
     alloc: Global,
     code: &Checked,
     player: &mut Player,
     lacked: Option<Thing>,
-) -> Result<Seen, Fail>
+) -> Result<String, Fail>
     requires { player.old.made.items ≡ [] }
 {
-    let act = match lacked {
-        Some(thing) => player.goes_without(code, thing)?,
-        None => player.goes(code)?,
-    };
-    Ok(Seen {
-        act,
-        place: player.frame.place,
-        registers: player.frame.registers.as_slice().to_vec(alloc)?,
-        fields: player.fields.values.as_slice().to_vec(alloc)?,
-        pinned: player.fields.pinned,
-        made: player.made.as_slice().to_vec(alloc)?,
-    })
+    let act = player.goes(code, lacked)?;
+    let Player {
+        frame,
+        fields,
+        made,
+    } = player;
+    Ok(line_of(alloc, &act, frame, fields, made.as_slice())?)
 }
 
-/// What is seen of a turn of this body from a place on.
-pub(crate) fn turn(alloc: Global, body: &str, place: u32) -> Result<Seen, Fail> {
+/// The actor of this number, if one is given.
+fn actor_of(number: Option<u32>) -> Option<Thing> {
+    match number {
+        Some(n) => Some(Thing::Actor(ActorName(n))),
+        None => None,
+    }
+}
+
+/// What is seen of a turn of this body from a place on, where its actor lacks one if one is given.
+pub(crate) fn told(
+    alloc: Global,
+    body: &str,
+    place: u32,
+    lacked: Option<u32>,
+) -> Result<String, Fail> {
     let code = code_of(alloc, body)?;
     let mut player = Player::at(alloc, place);
-    seen_of(alloc, &code, &mut player, None)
-}
-
-/// What is seen of a turn of this body, where its actor lacks a thing.
-pub(crate) fn turn_without(alloc: Global, body: &str, thing: Thing) -> Result<Seen, Fail> {
-    let code = code_of(alloc, body)?;
-    let mut player = Player::at(alloc, 0);
-    seen_of(alloc, &code, &mut player, Some(thing))
+    turn_of(alloc, &code, &mut player, actor_of(lacked))
 }

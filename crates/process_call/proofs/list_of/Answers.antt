@@ -2,7 +2,7 @@ use Rattle.std.proofs.Common.{rules, ◌≡◌, length, refl, vec_len}
 use Rattle.std.specs.Vec.Iter.{into_iter_items}
 use Rattle.std.proofs.lemmas.Result.{IfOk-weaker}
 use Rattle.std.proofs.lemmas.Iterator.Adapters.{YieldsList-from_vec, fact_from_collect}
-use Rattle.pony_cli.proofs.list_of.Goals as goal
+use Rattle.process_call.proofs.list_of.Goals as goal
 
 pub returns : goal.returns
 returns c =

@@ -1,5 +1,5 @@
 use Rattle.std.proofs.Common.{◌≡◌, map, string_bytes, take}
-use Rattle.pony_cli.proofs.texts_of.Given as goal
+use Rattle.process_call.proofs.texts_of.Given as goal
 
 -- the texts so far
 abbrev pub invariant-loop-argument : goal.invariant-loop-argument

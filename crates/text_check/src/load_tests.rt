@@ -1,6 +1,7 @@
 // The load program as literal bytes.
 
-use crate::{NODES_LIMIT, program_of};
+use crate::table::{holds, same_bytes};
+use load_maker::{NODES_LIMIT, program_of};
 use std::test::Fail;
 
 const THREE: &str = "kind Main 0
@@ -32,15 +33,22 @@ end
 #[test]
 fn three_nodes(rt: HostRuntime) -> Result<(), Fail> {
     let text = program_of(rt.alloc(), 3)?;
-    assert_eq!(rt; text.as_slice(), THREE.as_bytes());
-    assert_eq!(rt; text.len(), 279);
-    Ok(())
+    is_three(text.as_slice())
+}
+
+fn is_three(text: &[u8]) -> Result<(), Fail> {
+    holds(text.len() == 279, "the length")?;
+    same_bytes(text, THREE)
 }
 
 #[test]
 fn the_most_nodes(rt: HostRuntime) -> Result<(), Fail> {
     let text = program_of(rt.alloc(), NODES_LIMIT)?;
-    assert_eq!(rt; text.len(), 283);
-    assert!(rt; text.starts_with(b"kind Main 0\non start 0\nint r0 60000\nrow r1 r0\n"));
-    Ok(())
+    is_the_most(text.as_slice())
+}
+
+fn is_the_most(text: &[u8]) -> Result<(), Fail> {
+    let head = "kind Main 0\non start 0\nint r0 60000\nrow r1 r0\n";
+    holds(text.len() == 283, "the length")?;
+    holds(text.starts_with(head.as_bytes()), head)
 }

@@ -1,7 +1,9 @@
 // Where lines end, and the faults of lines by themselves.
 
-use crate::{LineKind, LineSpan, is_space, lines};
+use crate::table::holds;
+use std::alloc::Global;
 use std::test::Fail;
+use text_lines::{LineKind, LineSpan, is_space, lines};
 
 const fn span(from: usize, to: usize) -> LineSpan {
     LineSpan {
@@ -19,20 +21,23 @@ const fn faulty(from: usize, to: usize, fault: LineKind) -> LineSpan {
     }
 }
 
+/// Fails where a text has other lines.
+fn has_lines(alloc: Global, text: &[u8], want: &[LineSpan]) -> Result<(), Fail> {
+    let found = lines(alloc, text)?;
+    if found.as_slice() == want {
+        Ok(())
+    } else {
+        Err(Fail::new(format_args!("{found:?}")))
+    }
+}
+
 #[test]
 fn lines_end_at_line_feeds(rt: HostRuntime) -> Result<(), Fail> {
     let alloc = rt.alloc();
-    assert_eq!(rt; lines(alloc, b"")?.as_slice(), [].as_slice());
-    assert_eq!(rt;
-        lines(alloc, b"\n\n")?.as_slice(),
-        [span(0, 0), span(1, 1)].as_slice()
-    );
-    assert_eq!(rt;
-        lines(alloc, b"pin\r\nend")?.as_slice(),
-        [span(0, 4), span(5, 8)].as_slice()
-    );
-    assert!(rt; is_space(b'\t') && !is_space(b'\n'));
-    Ok(())
+    has_lines(alloc, b"", &[])?;
+    has_lines(alloc, b"\n\n", &[span(0, 0), span(1, 1)])?;
+    has_lines(alloc, "pin\r\nend".as_bytes(), &[span(0, 4), span(5, 8)])?;
+    holds(is_space(b'\t') && !is_space(b'\n'), "spaces")
 }
 
 #[test]
@@ -55,7 +60,5 @@ fn lines_tell_their_lowest_fault(rt: HostRuntime) -> Result<(), Fail> {
         faulty(775, 776, LineKind::NotAscii),
         faulty(777, 1030, LineKind::NotAscii),
     ];
-    let found = lines(rt.alloc(), &text)?;
-    assert_eq!(rt; found.as_slice(), want.as_slice());
-    Ok(())
+    has_lines(rt.alloc(), &text, &want)
 }

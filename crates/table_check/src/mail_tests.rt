@@ -1,0 +1,54 @@
+// Letters come out in the order in which they came.
+
+use letter_kinds::Letter;
+use mail_rows::MailRow;
+
+fn token_of(letter: &Letter) -> u64 {
+    match letter {
+        Letter::Confirm { token } => *token,
+        _ => 0,
+    }
+}
+
+/// Takes the first letter out, and answers its token.
+fn take_token(row: &mut MailRow) -> Option<u64> {
+    match row.take() {
+        Some(letter) => Some(token_of(&letter)),
+        None => None,
+    }
+}
+
+/// Two letters more. Whether there was memory for them.
+fn push_two(row: &mut MailRow) -> bool {
+    if row.reserve(2).is_err() {
+        return false;
+    }
+    row.push(Letter::Confirm { token: 3 });
+    row.push(Letter::Confirm { token: 5 });
+    true
+}
+
+fn stand_in_order(row: &MailRow) -> bool {
+    row.len() == 2 && row.front().map(token_of) == Some(3) && token_of(row.at(1)) == 5
+}
+
+fn leave_in_order(row: &mut MailRow) -> bool {
+    take_token(row) == Some(3) && take_token(row) == Some(5) && row.is_empty()
+}
+
+/// Whether two letters stand and leave in the order in which they came, and no other one leaves.
+fn come_in_order(row: &mut MailRow) -> bool {
+    take_token(row) == None
+        && push_two(row)
+        && stand_in_order(row)
+        && leave_in_order(row)
+        && take_token(row) == None
+}
+
+#[test]
+fn letters_come_first_in_first_out(rt: HostRuntime) {
+    let mut row = MailRow::new(rt.alloc());
+    let holds = come_in_order(&mut row);
+    drop(row);
+    assert!(rt; holds);
+}
