@@ -1,26 +1,16 @@
 // The hall that copies cells for claims, by its own calls.
 
-ghost use Rattle.orca_names.specs.declared.limits.TheConstants.{BOOK_LIMIT};
-ghost use Rattle.std.specs.Prelude.{◌≤◌};
-
 use crate::asking::Want::{At, Busy, Gone, Grants, NotReady, Tells, Unknown};
 use crate::asking::{
     Answer, BY_EVENTS, Call, GO, HEAR, ONE_ENTRY, TAKE, TWO_PASSES, Want, answer_of, entry, event,
 };
 use crate::programs::{SEVEN, TWO_PRINT, checked};
+use behaviour_check::Checked;
 use book_hall::{Hall, Proposal};
-use orca_core::Orca;
 use orca_names::{ActorName, Value};
 use std::alloc::Global;
 use std::test::Fail;
 use work_board::Refuse;
-
-/// A hall, and the proposal that is kept.
-#[derive(Drop)]
-struct Bench<'a> {
-    hall: Hall<'a>,
-    kept: Option<Proposal<'a>>,
-}
 
 /// A claim with its proposal, or why there is none.
 fn claim<'a>(
@@ -36,20 +26,31 @@ fn claim<'a>(
     }
 }
 
-fn keep(alloc: Global, bench: &mut Bench<'_>, pass: u32, actor: u32) -> Answer {
-    match claim(alloc, &mut bench.hall, pass, actor) {
+fn keep<'a>(
+    alloc: Global,
+    hall: &mut Hall<'a>,
+    kept: &mut Option<Proposal<'a>>,
+    pass: u32,
+    actor: u32,
+) -> Answer {
+    match claim(alloc, hall, pass, actor) {
         Ok(proposal) => {
             let event = proposal.event();
-            bench.kept = Some(proposal);
+            *kept = Some(proposal);
             Answer::Granted(event)
         }
         Err(refuse) => Answer::Refused(refuse),
     }
 }
 
-fn commit(alloc: Global, bench: &mut Bench<'_>, pass: u32) -> Answer {
-    match bench.kept.take() {
-        Some(proposal) => entry(bench.hall.commit(alloc, pass, proposal)),
+fn commit<'a>(
+    alloc: Global,
+    hall: &mut Hall<'a>,
+    kept: &mut Option<Proposal<'a>>,
+    pass: u32,
+) -> Answer {
+    match kept.take() {
+        Some(proposal) => entry(hall.commit(alloc, pass, proposal)),
         None => Answer::Nothing,
     }
 }
@@ -61,62 +62,98 @@ fn enter(alloc: Global, hall: &mut Hall<'_>, pass: u32, actor: u32) -> Answer {
     }
 }
 
-fn make(alloc: Global, bench: &mut Bench<'_>, call: Call) -> Answer {
+fn stop(hall: &mut Hall<'_>) -> Answer {
+    hall.ask_stop();
+    Answer::Nothing
+}
+
+/// A call of a hall, beside the proposal that is kept.
+fn make<'a>(
+    alloc: Global,
+    hall: &mut Hall<'a>,
+    kept: &mut Option<Proposal<'a>>,
+    call: Call,
+) -> Answer {
     match call {
-        Call::Look => Answer::Told(bench.hall.look()),
-        Call::Stop => {
-            bench.hall.ask_stop();
-            Answer::Nothing
-        }
-        Call::Claim(pass, actor) => keep(alloc, bench, pass, actor),
-        Call::Commit(pass) => commit(alloc, bench, pass),
-        Call::Enter(pass, actor) => enter(alloc, &mut bench.hall, pass, actor),
+        Call::Look => Answer::Told(hall.look()),
+        Call::Stop => stop(hall),
+        Call::Claim(pass, actor) => keep(alloc, hall, kept, pass, actor),
+        Call::Commit(pass) => commit(alloc, hall, kept, pass),
+        Call::Enter(pass, actor) => enter(alloc, hall, pass, actor),
         Call::Plain(pass, kind, number) => {
-            entry(bench.hall.commit_plain(alloc, pass, event(kind, number)))
+            entry(hall.commit_plain(alloc, pass, event(kind, number)))
         }
-        Call::Direct(kind, number) => entry(bench.hall.direct(alloc, event(kind, number))),
+        Call::Direct(kind, number) => entry(hall.direct(alloc, event(kind, number))),
     }
 }
 
 /// Whether each call answers as it is wanted.
-fn answers(alloc: Global, bench: &mut Bench<'_>, rows: &[(Call, Want)]) -> bool {
+fn answers<'a>(
+    alloc: Global,
+    hall: &mut Hall<'a>,
+    kept: &mut Option<Proposal<'a>>,
+    rows: &[(Call, Want)],
+) -> bool {
     for (call, wanted) in rows {
-        if make(alloc, bench, *call) != answer_of(*wanted) {
+        if make(alloc, hall, kept, *call) != answer_of(*wanted) {
             return false;
         }
     }
     true
 }
 
-/// What a machine has printed.
-fn prints_of(alloc: Global, orca: &Orca<'_>) -> Result<Vec<Value>, Fail> {
-    Ok(orca.prints().to_vec(alloc)?)
-}
-
-/// What the run of a hall has printed.
-fn printed(alloc: Global, hall: Hall<'_>) -> Result<Vec<Value>, Fail> {
-    let (orca, _book) = hall.into_parts();
-    prints_of(alloc, &orca)
-}
-
-/// Whether each call, of these and then of those, answers as it is wanted, and the run then has printed
-/// this.
-fn goes_so(
+/// Whether each call, of these and then of those, answers as it is wanted.
+fn all_answer(
     alloc: Global,
-    text: &str,
-    budget: u64,
+    hall: &mut Hall<'_>,
     rows: &[(Call, Want)],
     further: &[(Call, Want)],
-    prints: &[Value],
-) -> Result<bool, Fail>
-    requires { budget ≤ BOOK_LIMIT }
-{
-    let code = checked(alloc, text)?;
-    let hall = Hall::start(alloc, &code, budget, 256)?;
-    let mut bench = Bench { hall, kept: None };
-    let well = answers(alloc, &mut bench, rows) && answers(alloc, &mut bench, further);
-    let printed = printed(alloc, bench.hall)?;
-    Ok(well && printed.as_slice() == prints)
+) -> bool {
+    let mut kept = None;
+    answers(alloc, hall, &mut kept, rows) && answers(alloc, hall, &mut kept, further)
+}
+
+/// Whether a run printed this number alone, or nothing.
+fn is_all(prints: &[Value], number: Option<u64>) -> bool {
+    match number {
+        Some(number) => prints == [Value::Num(number)].as_slice(),
+        None => prints.is_empty(),
+    }
+}
+
+/// Whether the run of a hall has printed this number alone, or nothing.
+fn has_printed(hall: Hall<'_>, number: Option<u64>) -> bool {
+    let (orca, _book) = hall.into_parts();
+    is_all(orca.prints(), number)
+}
+
+/// A program, the budget of its run, calls of the hall with what they are to answer, in two parts, and
+/// the number that the run has then printed, if any.
+struct Case {
+    text: &'static str,
+    budget: u16,
+    rows: &'static [(Call, Want)],
+    further: &'static [(Call, Want)],
+    prints: Option<u64>,
+}
+
+/// Whether the calls of a case answer as it is wanted, and the run then has printed what it should.
+fn plays(alloc: Global, hall: Hall<'_>, case: &Case) -> bool {
+    let mut hall = hall;
+    let well = all_answer(alloc, &mut hall, case.rows, case.further);
+    has_printed(hall, case.prints) && well
+}
+
+fn plays_in(alloc: Global, code: &Checked, case: &Case) -> bool {
+    match Hall::start(alloc, code, u64::from(case.budget), 256) {
+        Ok(hall) => plays(alloc, hall, case),
+        Err(_) => false,
+    }
+}
+
+fn goes_so(alloc: Global, case: &Case) -> Result<bool, Fail> {
+    let code = checked(alloc, case.text)?;
+    Ok(plays_in(alloc, &code, case))
 }
 
 // The first of two passes claims an actor for a letter. Without a proposal the second is refused too.
@@ -148,12 +185,41 @@ const STALE: &[(Call, Want)] = &[
     (Call::Look, Want::Rest),
 ];
 
+const CASES: &[Case] = &[
+    Case {
+        text: TWO_PRINT,
+        budget: 100,
+        rows: TWO_PASSES,
+        further: CLAIMED,
+        prints: None,
+    },
+    Case {
+        text: SEVEN,
+        budget: 1,
+        rows: ONE_ENTRY,
+        further: &[],
+        prints: None,
+    },
+    Case {
+        text: SEVEN,
+        budget: 20,
+        rows: STALE,
+        further: &[],
+        prints: Some(7),
+    },
+    Case {
+        text: SEVEN,
+        budget: 20,
+        rows: BY_EVENTS,
+        further: &[],
+        prints: Some(7),
+    },
+];
+
 #[test]
 fn passes_answer_as_the_hall_says(rt: HostRuntime) -> Result<(), Fail> {
-    let seven = [Value::Num(7)];
-    assert!(rt; goes_so(rt.alloc(), TWO_PRINT, 100, TWO_PASSES, CLAIMED, &[])?);
-    assert!(rt; goes_so(rt.alloc(), SEVEN, 1, ONE_ENTRY, &[], &[])?);
-    assert!(rt; goes_so(rt.alloc(), SEVEN, 20, STALE, &[], &seven)?);
-    assert!(rt; goes_so(rt.alloc(), SEVEN, 20, BY_EVENTS, &[], &seven)?);
+    for (i, case) in CASES.iter().enumerate() {
+        assert!(rt; goes_so(rt.alloc(), case)?, "at {i}");
+    }
     Ok(())
 }

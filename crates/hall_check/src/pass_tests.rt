@@ -8,18 +8,19 @@ use crate::programs::{SEVEN, checked};
 use behaviour_check::Checked;
 use book_hall::{Hall, HallPass, HallTask, Naming, SharedHall};
 use event_rule::Event;
-use orca_names::ActorName;
+use orca_names::{ActorName, NoMemory};
+use std::alloc::Global;
 use std::marker::Brand;
 use std::process::Abort;
 use std::sync::Wait;
 use std::test::Fail;
-use work_board::Board;
+use work_board::{Board, Refuse};
 
-/// A pass, with the claim that it keeps.
+/// A pass, with the claims that it keeps.
 #[derive(Drop)]
 struct Passing<'h, 'a, J: Naming> {
     pass: HallPass<'h, 'a, J>,
-    kept: Option<HallTask<'a, J>>,
+    kept: Vec<HallTask<'a, J>>,
 }
 
 impl<'h, 'a, J: Naming> Keeper for Passing<'h, 'a, J> {
@@ -36,15 +37,17 @@ impl<'h, 'a, J: Naming> Keeper for Passing<'h, 'a, J> {
         match self.pass.claim(rt, rt.alloc(), ActorName(actor)) {
             Ok(task) => {
                 let segment = self.pass.segment_of(&task);
-                self.kept = Some(task);
-                Answer::Lent(segment)
+                match self.kept.push(task) {
+                    Ok(()) => Answer::Lent(segment),
+                    Err(_) => Answer::Refused(Refuse::NoMemory),
+                }
             }
             Err(refuse) => Answer::Refused(refuse),
         }
     }
 
     fn commit<R: AllocGlobal + Wait>(&mut self, rt: &R) -> Answer {
-        let Some(mut task) = self.kept.take() else {
+        let Some(mut task) = self.kept.pop() else {
             return Answer::Nothing;
         };
         let _ = self.pass.propose(rt.alloc(), &mut task);
@@ -57,12 +60,37 @@ impl<'h, 'a, J: Naming> Keeper for Passing<'h, 'a, J> {
 }
 
 impl<'h, 'a, J: Naming> Passing<'h, 'a, J> {
-    fn of(hall: &'h SharedHall<'a, J>, number: u32) -> Passing<'h, 'a, J> {
+    fn of(alloc: Global, hall: &'h SharedHall<'a, J>, number: u32) -> Passing<'h, 'a, J> {
         Passing {
             pass: hall.pass(number),
-            kept: None,
+            kept: Vec::new(alloc),
         }
     }
+}
+
+/// Whether two passes of a hall are answered so.
+fn both_answer<J: Naming, R: Abort + AllocGlobal + Wait>(
+    rt: &R,
+    hall: &SharedHall<'_, J>,
+    rows: &[(Call, Want)],
+) -> bool {
+    let mut first = Passing::of(rt.alloc(), hall, 0);
+    let mut second = Passing::of(rt.alloc(), hall, 1);
+    answers(rt, &mut first, &mut second, rows)
+}
+
+/// A hall over a program, which two passes share.
+fn shared<'a, J: Naming>(
+    alloc: Global,
+    code: &'a Checked,
+    budget: u64,
+) -> Result<SharedHall<'a, J>, NoMemory>
+    requires most { budget ≤ BOOK_LIMIT }
+    requires program { code.now ≡ J.program }
+    requires weight { 256 ≡ J.weight }
+    requires budget { budget ≡ J.budget }
+{
+    Ok(SharedHall::new(Hall::start(alloc, code, budget, 256)?))
 }
 
 /// Whether two passes of a hall over a program are answered so.
@@ -71,16 +99,16 @@ fn go_so<J: Naming, R: Abort + AllocGlobal + Wait>(
     code: &Checked,
     budget: u64,
     rows: &[(Call, Want)],
-) -> Result<bool, Fail>
+) -> bool
     requires most { budget ≤ BOOK_LIMIT }
     requires program { code.now ≡ J.program }
     requires weight { 256 ≡ J.weight }
     requires budget { budget ≡ J.budget }
 {
-    let hall = SharedHall::<J>::new(Hall::start(rt.alloc(), code, budget, 256)?);
-    let mut first = Passing::of(&hall, 0);
-    let mut second = Passing::of(&hall, 1);
-    Ok(answers(rt, &mut first, &mut second, rows))
+    match shared::<J>(rt.alloc(), code, budget) {
+        Ok(hall) => both_answer(rt, &hall, rows),
+        Err(_) => false,
+    }
 }
 
 fn goes_so<R: Abort + AllocGlobal + Wait>(
@@ -91,7 +119,7 @@ fn goes_so<R: Abort + AllocGlobal + Wait>(
     requires { budget ≤ BOOK_LIMIT }
 {
     let code = checked(rt.alloc(), SEVEN)?;
-    go_so::<Brand, R>(rt, &code, budget, rows)
+    Ok(go_so::<Brand, R>(rt, &code, budget, rows))
 }
 
 // Within a budget of one entry.

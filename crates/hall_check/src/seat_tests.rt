@@ -10,7 +10,9 @@ use crate::asking::{
 };
 use crate::programs::{SEVEN, TWO_PRINT, checked};
 use event_rule::Event;
-use orca_names::ActorName;
+use orca_core::Orca;
+use orca_names::{ActorName, Trace};
+use run_book::Book;
 use seat_hall::{Closing, HallSeat, Passes, SeatHall, SeatPass, SeatTask};
 use std::process::Abort;
 use std::sync::Wait;
@@ -33,6 +35,13 @@ impl<'h, 'a> Seated<'h, 'a> {
         Seated { pass, kept: None }
     }
 
+    /// The pass. A claim that it keeps stays out.
+    fn into_pass(self) -> SeatPass<'h, 'a>
+        ensures { result ≡ self.entry.pass }
+    {
+        self.pass
+    }
+
     /// The pass, which keeps no claim.
     fn into_free<R: Abort>(self, rt: &R) -> SeatPass<'h, 'a>
         ensures same { result ≡ self.entry.pass }
@@ -41,7 +50,7 @@ impl<'h, 'a> Seated<'h, 'a> {
         if self.kept.is_some() {
             panic!(rt; "a pass keeps a claim")
         }
-        self.pass
+        self.into_pass()
     }
 }
 
@@ -98,29 +107,29 @@ enum End {
     Lent(u32, u32),
 }
 
-fn end_of(closing: &Closing<'_>) -> End {
-    match closing {
-        Closing::Whole(orca, book) => End::Whole(book.len(), orca.prints().len()),
-        Closing::Turning { .. } => End::Turning,
-        Closing::Lent { holder, actor } => End::Lent(*holder, actor.0),
-    }
+/// How a whole hall ended, whose machine and book end here.
+fn whole(orca: Orca<'_>, book: Book) -> End {
+    End::Whole(book.len(), orca.prints().len())
 }
 
 /// How a hall ends with the seat of its last pass.
 fn ended<'a>(hall: SeatHall<'a>, seat: HallSeat<'a>) -> End
     requires { seat.token.table_id ≡ hall }
 {
-    let closing = hall.close(seat);
-    end_of(&closing)
+    match hall.close(seat) {
+        Closing::Whole(orca, book) => whole(orca, book),
+        Closing::Turning { .. } => End::Turning,
+        Closing::Lent { holder, actor } => End::Lent(holder, actor.0),
+    }
 }
 
-/// The first pass takes in the second, which keeps no claim.
-fn joined<'a, R: Abort>(rt: &R, first: Seated<'_, 'a>, second: Seated<'_, 'a>) -> HallSeat<'a>
-    requires { second.pass.token.table_id ≡ first.pass.token.table_id }
-    ensures { result.token.table_id ≡ first.entry.pass.token.table_id }
+/// The pass takes in another one.
+fn joined<'a>(pass: SeatPass<'_, 'a>, other: SeatPass<'_, 'a>) -> HallSeat<'a>
+    requires hall { other.token.table_id ≡ pass.token.table_id }
+    requires none { out_of other ≡ 0 }
+    ensures { result.token.table_id ≡ pass.entry.token.table_id }
 {
-    let other = second.into_free(rt);
-    let mut pass = first.pass;
+    let mut pass = pass;
     pass.join(other);
     pass.into_seat()
 }
@@ -141,7 +150,7 @@ fn played<'a, R: Abort + AllocGlobal + Wait>(
     let mut first = Seated::of(pass);
     let well = answers(rt, &mut first, &mut second, rows)
         && answers(rt, &mut first, &mut second, further);
-    let seat = joined(rt, first, second);
+    let seat = joined(first.into_pass(), second.into_free(rt));
     if well {
         Ok(seat)
     } else {
@@ -160,7 +169,7 @@ fn ends<R: Abort + AllocGlobal + Wait>(
     requires { budget ≤ BOOK_LIMIT }
 {
     let code = checked(rt.alloc(), text)?;
-    let (hall, seat) = SeatHall::start(rt.alloc(), &code, budget, 256)?;
+    let (hall, seat) = SeatHall::start(rt.alloc(), &code, budget, 256, Trace::Deep)?;
     let seat = played(rt, hall.first_pass(seat), rows, further)?;
     Ok(ended(hall, seat))
 }
@@ -183,13 +192,17 @@ fn seats_answer_as_the_hall_says(rt: HostRuntime) -> Result<(), Fail> {
     Ok(())
 }
 
-/// Splits a pass off and takes it in.
-fn split_and_join<R: Wait>(rt: &R, pass: &mut SeatPass<'_, '_>) -> Result<(), Passes>
+/// Splits a pass off and takes it in, unless all are made.
+fn split_and_join<R: Wait>(rt: &R, pass: &mut SeatPass<'_, '_>) -> bool
     ensures { pass.new.token.table_id ≡ pass.old.token.table_id }
 {
-    let other = pass.split(rt)?;
-    pass.join(other);
-    Ok(())
+    match pass.split(rt) {
+        Ok(other) => {
+            pass.join(other);
+            true
+        }
+        Err(Passes) => false,
+    }
 }
 
 /// How many times a pass splits another off and takes it in, of so many, before it can't.
@@ -197,7 +210,7 @@ fn splits<R: Wait>(rt: &R, pass: &mut SeatPass<'_, '_>, most: u32) -> u32
     ensures { pass.new.token.table_id ≡ pass.old.token.table_id }
 {
     for done in 0..most {
-        if split_and_join(rt, pass).is_err() {
+        if !split_and_join(rt, pass) {
             return done;
         }
     }
@@ -207,7 +220,7 @@ fn splits<R: Wait>(rt: &R, pass: &mut SeatPass<'_, '_>, most: u32) -> u32
 #[test]
 fn so_many_passes_are_split_off(rt: HostRuntime) -> Result<(), Fail> {
     let code = checked(rt.alloc(), SEVEN)?;
-    let (hall, seat) = SeatHall::start(rt.alloc(), &code, 20, 256)?;
+    let (hall, seat) = SeatHall::start(rt.alloc(), &code, 20, 256, Trace::Deep)?;
     let mut pass = hall.first_pass(seat);
     assert_eq!(rt; splits(&rt, &mut pass, 70_000), 65_535);
     let seat = pass.into_seat();

@@ -139,7 +139,7 @@ fn run_all<R: AllocGlobal + Threads + Wait + Sync, S: Source, K: Sink, G: Gate +
 /// give, and writes to the sink. The source has not answered its end yet.
 ///
 /// Several workers run the program together, each in a thread where one can be made, and pass the gate
-/// before each segment; then one worker ends the run. With root-only tracing one worker runs it all.
+/// before each segment; then one worker ends the run.
 ///
 /// The first clause says what the call did for the status that it answers, the second one when each
 /// status comes. `NoMemory` alone is free: it comes where memory was refused, and nothing is written

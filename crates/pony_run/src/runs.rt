@@ -1,7 +1,6 @@
 // A checked program is run, by one worker or by several, and its report is written.
 
 ghost use Rattle.std.specs.Prelude.{◌≡◌, ◌≢◌, []};
-ghost use Rattle.orca_names.specs.declared.trace.Trace.TheVariants.{Deep};
 ghost use Rattle.report_text.specs.Ends.{IsEnd};
 ghost use Rattle.word_line.specs.Orders.{IsInRange};
 ghost use Rattle.pony_run.specs.Inner.{IsAnswerOf, IsUnderWay, RunAnswers, WritesReport};
@@ -12,7 +11,7 @@ use crate::working::run_in;
 use crate::writing::write_text;
 use behaviour_check::Checked;
 use orca_core::Orca;
-use orca_names::{NoMemory, Trace};
+use orca_names::NoMemory;
 use outside_world::{Gate, Sink};
 use quiet_pass::{End, finish};
 use report_text::Status;
@@ -138,7 +137,6 @@ fn run_by_several<R: AllocGlobal + Threads + Wait + Sync, K: Sink, G: Gate + Syn
 ) -> Outcome
     requires range { IsInRange order.now }
     requires several { order.now.workers ≢ 1 }
-    requires deep { order.now.trace ≡ Deep }
     ensures { RunAnswers order.now code.now (sides K.written K.faults sink.old sink.new)
         result.book result.status }
 {
@@ -148,8 +146,7 @@ fn run_by_several<R: AllocGlobal + Threads + Wait + Sync, K: Sink, G: Gate + Syn
     }
 }
 
-/// Runs a checked program by as many workers as the order says, and writes its report. With root-only
-/// tracing one worker runs it.
+/// Runs a checked program by as many workers as the order says, and writes its report.
 pub(crate) fn run_checked<R: AllocGlobal + Threads + Wait + Sync, K: Sink, G: Gate + Sync>(
     rt: &R,
     order: &Order,
@@ -161,8 +158,9 @@ pub(crate) fn run_checked<R: AllocGlobal + Threads + Wait + Sync, K: Sink, G: Ga
     ensures { RunAnswers order.now code.now (sides K.written K.faults sink.old sink.new)
         result.book result.status }
 {
-    match order.trace {
-        Trace::Deep if order.workers != 1 => run_by_several(rt, order, code, sink, gate),
-        _ => run_by_one(rt.alloc(), order, code, sink),
+    if order.workers == 1 {
+        run_by_one(rt.alloc(), order, code, sink)
+    } else {
+        run_by_several(rt, order, code, sink, gate)
     }
 }

@@ -1,7 +1,6 @@
 // Several workers run a program, over a hall whose cells move out to them.
 
 ghost use Rattle.std.specs.Prelude.{◌≡◌, ◌≤◌, All, IfOk, length};
-ghost use Rattle.orca_names.specs.declared.trace.Trace.TheVariants.{Deep};
 ghost use Rattle.word_line.specs.Orders.{IsInRange};
 ghost use Rattle.orca_core.specs.Laws.{IsRunOf};
 ghost use Rattle.orca_core.specs.Machine.{NoneIsAway};
@@ -10,7 +9,7 @@ ghost use Rattle.seat_hall.specs.Boards.{out_of};
 
 use behaviour_check::Checked;
 use orca_core::Orca;
-use orca_names::{NoMemory, Trace};
+use orca_names::NoMemory;
 use outside_world::Gate;
 use run_book::Book;
 use seat_hall::{Closing, SeatHall, SeatPass};
@@ -67,13 +66,13 @@ pub(crate) fn run_in<'a, R: AllocGlobal + Threads + Wait + Sync, G: Gate + Sync>
     ensures home { IfOk result (λ parts. NoneIsAway parts.0) }
     ensures program { IfOk result (λ parts. parts.0.state.program ≡ code.now) }
     ensures options { IfOk result
-        (λ parts. parts.0.state.options ≡ record { weight = order.now.weight; trace = Deep }) }
+        (λ parts. parts.0.state.options ≡ record { weight = order.now.weight; trace = order.now.trace }) }
     ensures weight { IfOk result (λ parts. parts.1.weight ≡ order.now.weight) }
-    ensures trace { IfOk result (λ parts. parts.1.trace ≡ Deep) }
+    ensures trace { IfOk result (λ parts. parts.1.trace ≡ order.now.trace) }
     ensures within { IfOk result (λ parts. length parts.1.entries ≤ order.now.budget) }
 {
     let alloc = rt.alloc();
-    let (hall, seat) = SeatHall::start(alloc, code, order.budget, order.weight)?;
+    let (hall, seat) = SeatHall::start(alloc, code, order.budget, order.weight, order.trace)?;
     let mut first = hall.first_pass(seat);
     let mut passes = split_off(rt, &mut first, order.workers);
     work(rt, alloc, passes.as_mut_slice(), gate);
@@ -83,8 +82,8 @@ pub(crate) fn run_in<'a, R: AllocGlobal + Threads + Wait + Sync, G: Gate + Sync>
         Closing::Whole(orca, book) => Ok((orca, book)),
         // A call that never returned has the hall, or a cell of it: the run begins anew.
         Closing::Turning { .. } | Closing::Lent { .. } => {
-            let orca = Orca::start(alloc, code, order.weight, Trace::Deep)?;
-            Ok((orca, Book::new(alloc, order.weight, Trace::Deep)))
+            let orca = Orca::start(alloc, code, order.weight, order.trace)?;
+            Ok((orca, Book::new(alloc, order.weight, order.trace)))
         }
     }
 }

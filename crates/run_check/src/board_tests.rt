@@ -11,11 +11,11 @@ use crate::programs::{PASSED, PEERS, TWO_PRINT, checked};
 use behaviour_check::Checked;
 use book_hall::{Hall, HallPass, Naming, SharedHall};
 use orca_core::Orca;
-use orca_names::{ActorName, Thing};
+use orca_names::{ActorName, NoMemory, Thing, Trace};
 use outside_world::OpenGate;
 use quiet_pass::{End, finish};
 use run_book::Book;
-use seat_hall::{Closing, SeatHall, SeatPass};
+use seat_hall::{Closing, HallSeat, SeatHall, SeatPass};
 use std::alloc::Global;
 use std::marker::Brand;
 use std::sync::Wait;
@@ -30,7 +30,7 @@ type Wrong = &'static [(u64, u32)];
 /// No more entries than these.
 const BUDGET: u64 = 1000;
 
-fn names(alloc: Global, wrong: &[(u64, u32)]) -> Result<Vec<(u64, ActorName)>, Fail> {
+fn names(alloc: Global, wrong: &[(u64, u32)]) -> Result<Vec<(u64, ActorName)>, NoMemory> {
     let mut names = Vec::new(alloc);
     for (look, actor) in wrong {
         names.push((*look, ActorName(*actor)))?;
@@ -43,7 +43,7 @@ fn passes<'h, 'a, J: Naming>(
     alloc: Global,
     hall: &'h SharedHall<'a, J>,
     wrong: &[Wrong],
-) -> Result<Vec<TroubleBoard<HallPass<'h, 'a, J>>>, Fail> {
+) -> Result<Vec<TroubleBoard<HallPass<'h, 'a, J>>>, NoMemory> {
     let mut boards = Vec::new(alloc);
     let mut number = 0u32;
     for looks in wrong {
@@ -54,25 +54,33 @@ fn passes<'h, 'a, J: Naming>(
     Ok(boards)
 }
 
+/// Workers work in the hall that copies cells.
+fn work_in<J: Naming + Send + Sync, R: AllocGlobal + Threads + Wait + Sync>(
+    rt: &R,
+    hall: &SharedHall<'_, J>,
+    wrong: &[Wrong],
+) -> Result<(), NoMemory> {
+    let mut boards = passes(rt.alloc(), hall, wrong)?;
+    work(rt, rt.alloc(), boards.as_mut_slice(), &OpenGate);
+    Ok(())
+}
+
 /// What workers make of a program in the hall that copies cells.
 fn by_copies<'a, J: Naming + Send + Sync, R: AllocGlobal + Threads + Wait + Sync>(
     rt: &R,
     code: &'a Checked,
     wrong: &[Wrong],
-) -> Result<(Orca<'a>, Book), Fail>
+) -> Result<Hall<'a>, NoMemory>
     requires program { code.now ≡ J.program }
     requires weight { 256 ≡ J.weight }
     requires budget { BUDGET ≡ J.budget }
-    ensures run { IfOk result (λ parts. IsRunOf parts.0 parts.1.entries) }
-    ensures home { IfOk result (λ parts. NoneIsAway parts.0) }
-    ensures within { IfOk result (λ parts. length parts.1.entries ≤ BUDGET) }
+    ensures { IfOk result (λ hall. hall.budget ≡ BUDGET) }
 {
-    let alloc = rt.alloc();
-    let hall = SharedHall::<J>::new(Hall::start(alloc, code, BUDGET, 256)?);
-    let mut boards = passes(alloc, &hall, wrong)?;
-    work(rt, alloc, boards.as_mut_slice(), &OpenGate);
-    drop(boards);
-    Ok(hall.into_hall().into_parts())
+    let hall = SharedHall::<J>::new(Hall::start(rt.alloc(), code, BUDGET, 256)?);
+    match work_in(rt, &hall, wrong) {
+        Ok(()) => Ok(hall.into_hall()),
+        Err(fault) => Err(fault),
+    }
 }
 
 /// A pass of the hall whose cells move out, for each worker.
@@ -93,34 +101,56 @@ fn seats<'h, 'a, R: AllocGlobal + Wait>(
     Ok(boards)
 }
 
-/// What workers make of a program in the hall whose cells move out.
-fn by_moves<'a, R: AllocGlobal + Threads + Wait + Sync>(
+/// Workers work in the hall whose cells move out, whose first pass takes this seat and gives it back.
+fn work_from<'a, R: AllocGlobal + Threads + Wait + Sync>(
     rt: &R,
-    code: &'a Checked,
+    hall: &SeatHall<'a>,
+    seat: HallSeat<'a>,
     wrong: &[Wrong],
-) -> Result<(Orca<'a>, Book), Fail>
-    ensures run { IfOk result (λ parts. IsRunOf parts.0 parts.1.entries) }
-    ensures home { IfOk result (λ parts. NoneIsAway parts.0) }
-    ensures within { IfOk result (λ parts. length parts.1.entries ≤ BUDGET) }
+) -> Result<HallSeat<'a>, Fail>
+    requires { seat.token.table_id ≡ hall.now }
+    ensures hall { IfOk result (λ s. s.token.table_id ≡ hall.now) }
+    ensures run { IfOk result (λ s. (knows s.token).client ≡ (knows seat.entry.token).client) }
 {
-    let (hall, seat) = SeatHall::start(rt.alloc(), code, BUDGET, 256)?;
     let mut first = hall.first_pass(seat);
     let mut boards = seats(rt, &mut first, wrong)?;
     work(rt, rt.alloc(), boards.as_mut_slice(), &OpenGate);
     drop(boards);
-    let seat = first.into_seat();
-    match hall.close(seat) {
-        Closing::Whole(orca, book) => Ok((orca, book)),
-        _ => Err(Fail::from("a hall that is not whole")),
+    Ok(first.into_seat())
+}
+
+/// What workers make of a program in the hall whose cells move out, with the seat of the first pass.
+fn by_moves<'a, R: AllocGlobal + Threads + Wait + Sync>(
+    rt: &R,
+    code: &'a Checked,
+    wrong: &[Wrong],
+) -> Result<(SeatHall<'a>, HallSeat<'a>), Fail>
+    ensures hall { IfOk result (λ made. made.1.token.table_id ≡ made.0) }
+    ensures budget { IfOk result (λ made. (knows made.1.token).client.budget ≡ BUDGET) }
+{
+    let (hall, seat) = SeatHall::start(rt.alloc(), code, BUDGET, 256, Trace::Deep)?;
+    match work_from(rt, &hall, seat, wrong) {
+        Ok(seat) => Ok((hall, seat)),
+        Err(fault) => Err(fault),
     }
 }
 
 // Sixteen workers who are told no wrong names.
 const RIGHT: [Wrong; 16] = [&[]; 16];
 
-/// The book of a run, whose machine ends here.
-fn book_of(parts: (Orca<'_>, Book)) -> Book {
-    parts.1
+/// Whether the book of a run, whose machine ends here, is a whole run of both machines.
+fn is_followed(alloc: Global, code: &Checked, _orca: Orca<'_>, book: Book) -> bool {
+    is_whole_run(alloc, code, &book)
+}
+
+/// Whether a hall ends with the book of a whole run.
+fn ends_with_run<'a>(alloc: Global, code: &Checked, hall: SeatHall<'a>, seat: HallSeat<'a>) -> bool
+    requires { seat.token.table_id ≡ hall }
+{
+    match hall.close(seat) {
+        Closing::Whole(orca, book) => is_followed(alloc, code, orca, book),
+        _ => false,
+    }
 }
 
 /// Whether a run of a program by so many workers has a book that both machines follow.
@@ -129,8 +159,8 @@ fn agrees<R: AllocGlobal + Threads + Wait + Sync>(
     code: &Checked,
     workers: usize,
 ) -> Result<bool, Fail> {
-    let book = book_of(by_moves(rt, code, &RIGHT[..workers.min(RIGHT.len())])?);
-    is_whole_run(rt.alloc(), code, &book)
+    let (hall, seat) = by_moves(rt, code, &RIGHT[..workers.min(RIGHT.len())])?;
+    Ok(ends_with_run(rt.alloc(), code, hall, seat))
 }
 
 /// Whether several runs of a program by so many workers have books that both machines follow.
@@ -158,54 +188,72 @@ fn books_of_seats_are_runs(rt: HostRuntime) -> Result<(), Fail> {
     Ok(())
 }
 
-/// Takes a run to its end by one worker: how it ends, how many actors were made, and what is left.
-fn left_by(
-    alloc: Global,
-    orca: &mut Orca<'_>,
-    book: &mut Book,
-) -> Result<(End, u64, Vec<Thing>), Fail>
-    requires run { IsRunOf orca.old book.old.entries }
-    requires home { NoneIsAway orca.old }
-    requires within { length book.old.entries ≤ BUDGET }
+/// Whether what is left is the first actor alone.
+fn is_first_left(alloc: Global, orca: &Orca<'_>) -> bool
+    requires { NoneIsAway orca.now }
 {
-    let end = finish(alloc, orca, book, BUDGET);
-    Ok((end, orca.made(), orca.left(alloc)?))
+    match orca.left(alloc) {
+        Ok(left) => left.as_slice() == [Thing::Actor(ActorName(0))].as_slice(),
+        Err(_) => false,
+    }
 }
 
-/// What `left_by` tells of a run, whose machine and book end here.
-fn left(alloc: Global, parts: (Orca<'_>, Book)) -> Result<(End, u64, Vec<Thing>), Fail>
-    requires run { IsRunOf parts.0 parts.1.entries }
-    requires home { NoneIsAway parts.0 }
-    requires within { length parts.1.entries ≤ BUDGET }
+/// Whether a run, which one worker takes to its end, ends quiet with the first of three actors alone.
+fn ends_with_first(alloc: Global, orca: Orca<'_>, book: Book) -> bool
+    requires run { IsRunOf orca book.entries }
+    requires home { NoneIsAway orca }
+    requires within { length book.entries ≤ BUDGET }
 {
-    let (mut orca, mut book) = parts;
-    left_by(alloc, &mut orca, &mut book)
+    let mut orca = orca;
+    let mut book = book;
+    let end = finish(alloc, &mut orca, &mut book, BUDGET);
+    matches!(end, End::Quiet) && orca.made() == 3 && is_first_left(alloc, &orca)
+}
+
+/// Whether the run in a hall that copies cells ends quiet with the first of three actors alone.
+fn copies_end_with_first(alloc: Global, hall: Hall<'_>) -> bool
+    requires { hall.budget ≡ BUDGET }
+{
+    let (orca, book) = hall.into_parts();
+    ends_with_first(alloc, orca, book)
+}
+
+/// Whether the run in a hall whose cells move out ends quiet with the first of three actors alone.
+fn moves_end_with_first<'a>(alloc: Global, hall: SeatHall<'a>, seat: HallSeat<'a>) -> bool
+    requires own { seat.token.table_id ≡ hall }
+    requires budget { (knows seat.token).client.budget ≡ BUDGET }
+{
+    match hall.close(seat) {
+        Closing::Whole(orca, book) => ends_with_first(alloc, orca, book),
+        _ => false,
+    }
 }
 
 // The first of two workers is told of actors that there are not, and of one before its time.
 const WRONG: &[Wrong] = &[&[(1, 70000), (2, 1), (3, 70000), (4, 1)], &[]];
 
-/// Whether a run ended quiet with the first of three actors alone.
-fn is_of_peers(left: &(End, u64, Vec<Thing>)) -> bool {
-    let first = [Thing::Actor(ActorName(0))];
-    matches!(left.0, End::Quiet) && left.1 == 3 && left.2.as_slice() == first.as_slice()
+/// Whether workers who are told wrong names leave of the peers the first actor alone.
+fn copies_leave_first<R: AllocGlobal + Threads + Wait + Sync>(rt: &R) -> Result<bool, Fail> {
+    let code = checked(rt.alloc(), PEERS)?;
+    let hall = by_copies::<Brand, R>(rt, &code, WRONG)?;
+    Ok(copies_end_with_first(rt.alloc(), hall))
+}
+
+/// As `copies_leave_first`, where cells move.
+fn moves_leave_first<R: AllocGlobal + Threads + Wait + Sync>(rt: &R) -> Result<bool, Fail> {
+    let code = checked(rt.alloc(), PEERS)?;
+    let (hall, seat) = by_moves(rt, &code, WRONG)?;
+    Ok(moves_end_with_first(rt.alloc(), hall, seat))
 }
 
 #[test]
 fn wrong_names_change_nothing(rt: HostRuntime) -> Result<(), Fail> {
-    let code = checked(rt.alloc(), PEERS)?;
-    let copies = left(
-        rt.alloc(),
-        by_copies::<Brand, HostRuntime>(&rt, &code, WRONG)?,
-    )?;
-    assert!(rt; is_of_peers(&copies));
+    assert!(rt; copies_leave_first(&rt)?);
     Ok(())
 }
 
 #[test]
 fn wrong_names_change_nothing_where_cells_move(rt: HostRuntime) -> Result<(), Fail> {
-    let code = checked(rt.alloc(), PEERS)?;
-    let moves = left(rt.alloc(), by_moves(&rt, &code, WRONG)?)?;
-    assert!(rt; is_of_peers(&moves));
+    assert!(rt; moves_leave_first(&rt)?);
     Ok(())
 }

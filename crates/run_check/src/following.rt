@@ -2,17 +2,28 @@
 
 ghost use Rattle.orca_core.specs.Machine.{NoneIsAway};
 
+use crate::tally::{Deed, Tally};
 use behaviour_check::Checked;
 use event_rule::Event;
 use letter_kinds::Letter;
 use orca_core::Orca;
-use orca_names::{ActorName, Trace};
+use orca_names::ActorName;
 use plain_machine::Plain;
 use run_book::Book;
 use std::alloc::Global;
-use std::test::Fail;
 
 const MOST: u64 = 10_000;
+
+/// Where a book ends.
+#[derive(Clone, Copy, Debug, PartialEq, Eq)]
+pub(crate) enum Ending {
+    /// Nowhere: it is no run of one of the machines, or they print not the same.
+    Never,
+    /// Where an event is enabled.
+    Open,
+    /// Where none is.
+    Quiet,
+}
 
 /// Whether the first letter of an actor is one that a program sent.
 fn has_application_letter(orca: &Orca<'_>, a: ActorName) -> bool {
@@ -27,97 +38,121 @@ fn place_of(orca: &Orca<'_>, a: ActorName) -> Option<u32> {
     Some(orca.cell(a)?.frame.get()?.place)
 }
 
-/// Whether the event, which the machine that collects has done, was a choice, which the machine that
-/// frees nothing makes too: the take of a letter that a program sent, or a go after which the frame is
-/// another.
-fn does(alloc: Global, orca: &mut Orca<'_>, event: &Event) -> Result<bool, Fail>
+/// Does an event in the machine that collects, and tells whether it was not refused.
+fn step(alloc: Global, orca: &mut Orca<'_>, event: Event) -> bool
     requires { NoneIsAway orca.old }
     ensures { NoneIsAway orca.new }
 {
-    if orca.steps() >= MOST {
-        return Err(Fail::from("a long run"));
+    orca.steps() < MOST && orca.step(alloc, event).is_ok()
+}
+
+/// Does a go in the machine that collects, and tells what it was; `None` where it is refused.
+fn goes(alloc: Global, orca: &mut Orca<'_>, a: ActorName) -> Option<Deed>
+    requires { NoneIsAway orca.old }
+    ensures { NoneIsAway orca.new }
+{
+    let before = place_of(orca, a);
+    if !step(alloc, orca, Event::Go(a)) {
+        return None;
     }
-    match *event {
-        Event::Take(a) => {
-            let is_choice = has_application_letter(orca, a);
-            orca.step(alloc, *event)?;
-            Ok(is_choice)
-        }
-        Event::Go(a) => {
-            let before = place_of(orca, a);
-            orca.step(alloc, *event)?;
-            Ok(place_of(orca, a) != before)
-        }
-        _ => {
-            orca.step(alloc, *event)?;
-            Ok(false)
-        }
+    if place_of(orca, a) == before {
+        Some(Deed::Mint)
+    } else {
+        Some(Deed::Act)
     }
 }
 
-/// Does a choice in the machine that frees nothing.
-fn chooses(alloc: Global, plain: &mut Plain<'_>, event: &Event) -> Result<(), Fail> {
+/// Does an event in the machine that collects, and tells what it was; `None` where it is refused.
+fn does(alloc: Global, orca: &mut Orca<'_>, event: &Event) -> Option<Deed>
+    requires { NoneIsAway orca.old }
+    ensures { NoneIsAway orca.new }
+{
+    let deed = match event {
+        Event::Go(a) => return goes(alloc, orca, *a),
+        Event::Take(a) if has_application_letter(orca, *a) => Deed::Letter,
+        Event::Leave(_) => Deed::Leave,
+        Event::Reap(_) => Deed::Reap,
+        _ => Deed::Other,
+    };
+    step(alloc, orca, *event).then_some(deed)
+}
+
+/// Does the event in the machine that frees nothing, where it is a choice there too.
+fn chooses(alloc: Global, plain: &mut Plain<'_>, event: &Event, deed: Deed) -> bool {
     if plain.steps() >= MOST {
-        return Err(Fail::from("a long run"));
+        return false;
     }
     match *event {
-        Event::Take(a) => plain.take(a)?,
-        Event::Go(a) => plain.go(alloc, a)?,
-        _ => {}
+        Event::Take(a) if deed == Deed::Letter => plain.take(a).is_ok(),
+        Event::Go(a) if deed == Deed::Act => plain.go(alloc, a).is_ok(),
+        _ => true,
     }
-    Ok(())
 }
 
-/// Does an entry of a book in the machine that collects, and in the other one where it is a choice. It
-/// answers whether both then printed the same.
-fn enter(
-    alloc: Global,
-    orca: &mut Orca<'_>,
-    plain: &mut Plain<'_>,
-    event: &Event,
-) -> Result<bool, Fail>
+/// Whether both machines have printed the same.
+fn print_alike(orca: &Orca<'_>, plain: &Plain<'_>) -> bool {
+    orca.prints() == plain.prints()
+}
+
+/// Does an entry of a book in both machines, and tells what it was; `None` where one of them refuses it,
+/// or they then have not printed the same.
+fn enter(alloc: Global, orca: &mut Orca<'_>, plain: &mut Plain<'_>, event: &Event) -> Option<Deed>
     requires { NoneIsAway orca.old }
     ensures { NoneIsAway orca.new }
 {
-    if does(alloc, orca, event)? {
-        chooses(alloc, plain, event)?;
-    }
-    Ok(orca.prints() == plain.prints())
+    let deed = does(alloc, orca, event)?;
+    let both = chooses(alloc, plain, event, deed) && print_alike(orca, plain);
+    both.then_some(deed)
 }
 
-/// Whether both machines do all that a book says, and print the same.
+/// Where a book ends that both machines follow.
 fn follow(
     alloc: Global,
     orca: &mut Orca<'_>,
     plain: &mut Plain<'_>,
     book: &Book,
-) -> Result<bool, Fail>
+    tally: &mut Tally,
+) -> Ending
     requires { NoneIsAway orca.old }
-    ensures { NoneIsAway orca.new }
 {
     for i in 0..book.len() {
-        if !enter(alloc, orca, plain, &book.at(i))? {
-            return Ok(false);
-        }
+        let Some(deed) = enter(alloc, orca, plain, &book.at(i)) else {
+            return Ending::Never;
+        };
+        tally.add(deed);
     }
-    Ok(true)
+    tally.add_end(orca);
+    if orca.quiet() {
+        Ending::Quiet
+    } else {
+        Ending::Open
+    }
 }
 
-/// Whether both machines do all that a book says, print the same, and then nothing is enabled.
-fn follow_whole(
+fn follow_in(
     alloc: Global,
     orca: &mut Orca<'_>,
-    plain: &mut Plain<'_>,
+    code: &Checked,
     book: &Book,
-) -> Result<bool, Fail>
+    tally: &mut Tally,
+) -> Ending
     requires { NoneIsAway orca.old }
 {
-    Ok(follow(alloc, orca, plain, book)? && orca.quiet())
+    match Plain::start(alloc, code) {
+        Ok(mut plain) => follow(alloc, orca, &mut plain, book, tally),
+        Err(_) => Ending::Never,
+    }
+}
+
+/// Where a book ends that both machines follow, with its weight and tracing. What it has is tallied.
+pub(crate) fn ending_of(alloc: Global, code: &Checked, book: &Book, tally: &mut Tally) -> Ending {
+    match Orca::start(alloc, code, book.weight(), book.trace()) {
+        Ok(mut orca) => follow_in(alloc, &mut orca, code, book, tally),
+        Err(_) => Ending::Never,
+    }
 }
 
 /// Whether a book is a run of both machines that ends where nothing is enabled.
-pub(crate) fn is_whole_run(alloc: Global, code: &Checked, book: &Book) -> Result<bool, Fail> {
-    let mut plain = Plain::start(alloc, code)?;
-    let mut orca = Orca::start(alloc, code, 256, Trace::Deep)?;
-    follow_whole(alloc, &mut orca, &mut plain, book)
+pub(crate) fn is_whole_run(alloc: Global, code: &Checked, book: &Book) -> bool {
+    ending_of(alloc, code, book, &mut Tally::new()) == Ending::Quiet
 }

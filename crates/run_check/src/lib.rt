@@ -4,8 +4,16 @@
 #[cfg(test)]
 mod board_tests;
 #[cfg(test)]
+mod calling;
+#[cfg(test)]
 mod following;
 #[cfg(test)]
 mod programs;
+#[cfg(test)]
+mod random_programs;
+#[cfg(test)]
+mod random_tests;
+#[cfg(test)]
+mod tally;
 #[cfg(test)]
 mod worker_tests;

@@ -1,10 +1,10 @@
 // Runs by several workers: each book, whatever it has become, is a run of both machines.
 
+use crate::calling::{call, sink};
 use crate::following::is_whole_run;
 use crate::programs::{PASSED, PEERS, TWO_PRINT, checked};
-use outside_world::{MemSink, MemSource, OpenGate};
-use pony_run::run_words;
-use run_book::Book;
+use behaviour_check::Checked;
+use orca_names::NoMemory;
 use std::sync::Wait;
 use std::test::Fail;
 use std::thread::Threads;
@@ -12,21 +12,37 @@ use std::thread::Threads;
 /// How often each program is run by each number of workers: 200 times in all.
 const RUNS: u32 = 50;
 
-/// The book of a run by so many workers, and what it wrote.
-fn run<R: AllocGlobal + Threads + Wait + Sync>(
+/// Whether a run by these words has a book that is a whole run, and this report.
+fn agrees<R: AllocGlobal + Threads + Wait + Sync>(
     rt: &R,
+    code: &Checked,
+    words: &[&str],
     text: &str,
-    workers: &str,
-) -> Result<(Book, Vec<u8>), Fail> {
-    let alloc = rt.alloc();
-    let mut source = MemSource::new(text.as_bytes().to_vec(alloc)?, 4096, Vec::new(alloc));
-    let mut sink = MemSink::new(alloc, 4096, 4096, Vec::new(alloc))?;
-    let words = ["run", "--workers", workers];
-    let outcome = run_words(rt, &words, &mut source, &mut sink, &OpenGate);
-    Ok((outcome.book, sink.bytes().to_vec(alloc)?))
+    report: &str,
+) -> Result<bool, NoMemory> {
+    let mut sink = sink(rt.alloc())?;
+    let outcome = call(rt, words, text, &mut sink)?;
+    let is_report = sink.bytes() == report.as_bytes();
+    Ok(is_report && is_whole_run(rt.alloc(), code, &outcome.book))
 }
 
-/// Whether the runs of a program by so many workers have books that are runs, and all this report.
+/// Whether the runs of a program by these words have books that are whole runs, and all this report.
+fn all_agree<R: AllocGlobal + Threads + Wait + Sync>(
+    rt: &R,
+    code: &Checked,
+    words: &[&str],
+    text: &str,
+    report: &str,
+) -> Result<bool, NoMemory> {
+    for _ in 0..RUNS {
+        if !agrees(rt, code, words, text, report)? {
+            return Ok(false);
+        }
+    }
+    Ok(true)
+}
+
+/// Whether the runs of a program by so many workers have books that are whole runs, and all this report.
 fn agree<R: AllocGlobal + Threads + Wait + Sync>(
     rt: &R,
     text: &str,
@@ -34,13 +50,8 @@ fn agree<R: AllocGlobal + Threads + Wait + Sync>(
     report: &str,
 ) -> Result<bool, Fail> {
     let code = checked(rt.alloc(), text)?;
-    for _ in 0..RUNS {
-        let (book, written) = run(rt, text, workers)?;
-        if written.as_slice() != report.as_bytes() || !is_whole_run(rt.alloc(), &code, &book)? {
-            return Ok(false);
-        }
-    }
-    Ok(true)
+    let words = ["run", "--workers", workers];
+    Ok(all_agree(rt, &code, &words, text, report)?)
 }
 
 // Programs that end in one way, whatever the workers do, and their reports.

@@ -8,8 +8,10 @@ use mathlib.Core.Logic.{dite}
 use mathlib.Core.Option.{some}
 use native.Mathlib.Decide.{dec_le, ℕ_discrete}
 use lib.ListN.{get_elem?}
+use Rattle.orca_names.specs.declared.trace.Trace.{Trace}
 use Rattle.behaviour_code.specs.declared.code.Program.{Program}
 use Rattle.actor_cell.specs.declared.cell.Cell.{Cell}
+use Rattle.orca_core.specs.Machine.{options_of}
 use Rattle.turn_log.proofs.Sums.{each_term, sum_set, term_le}
 use Rattle.turn_log.proofs.Places.{at_other}
 use Rattle.turn_log.specs.Knowing.{newcomer}
@@ -24,7 +26,7 @@ use Rattle.seat_hall.specs.Stands.{CellsAreApart, EntriesStand, Has, IsOne, None
 use Rattle.seat_hall.proofs.Busy.{busy_of, none_reaped}
 use Rattle.seat_hall.proofs.Entries.{stands}
 use Rattle.seat_hall.proofs.Holding.{keeps_all, pass_or}
-use Rattle.seat_hall.proofs.Logs.{hall_append, legal_rest, terms_stay}
+use Rattle.seat_hall.proofs.Logs.{hall_append, legal_rest, terms_of}
 use Rattle.seat_hall.proofs.Runs.{IsRunOf, runs}
 
 -- what a pass with a number learns of the hall
@@ -34,11 +36,11 @@ shown log hall passes fair id k there =
     let mine = fair.each id k there in record {
       shows = λ some_number.
           let run = mine.run some_number in
-          fair.shows ∙ (λ i. hall_from (begins (sym run.0 i) (sym run.1 i) (sym run.2 i)) log);
+          fair.shows ∙ (λ i. hall_from (begins (sym run.0 i) (sym run.1 i) (sym run.2 i) (sym run.3 i)) log);
       legal = λ some_number.
           let run = mine.run some_number in
-          subst (λ (x : Program × ℕ × ℕ). Legal (begins x.0 x.1 x.2) log)
-          (λ i. (sym run.0 i, sym run.1 i, sym run.2 i)) fair.legal;
+          subst (λ (x : Program × ℕ × Trace × ℕ). Legal (begins x.0 x.1 x.2 x.3) log)
+          (λ i. (sym run.0 i, sym run.1 i, sym run.2 i, sym run.3 i)) fair.legal;
       heavy = λ some_number.
           let run = mine.run some_number in subst (λ (w : ℕ). 0 < w) (sym run.1) fair.heavy;
       own = mine.own;
@@ -62,8 +64,7 @@ legal_first l [] ys legal = tt
 legal_first l (x ∷ xs) ys legal = (legal.0, legal_first (after l x) xs ys legal.1)
 
 pub weight_of : (v : PassView) (log : List Item) → (hall_of v log).weight ≡ v.weight
-weight_of v log = (terms_stay v.program v.weight v.budget (start_of v) log
-    (record { program_is = refl; weight_is = refl; budget_is = refl })).weight_is
+weight_of v log = (terms_of v.program v.weight v.trace v.budget log).weight_is
 
 -- ---- cells
 
@@ -110,13 +111,12 @@ cells_apart log hall passes fair id pass a c k one has =
 pub none_is_reaped : NoneIsReaped
 none_is_reaped log hall passes fair id pass a c k one has number t on is =
     let l : Logged = hall.logged in
-    let start : Logged = begins fair.program fair.weight fair.budget in
+    let start : Logged = begins fair.program fair.weight fair.trace fair.budget in
     let mine = standing log hall passes fair id pass a c k one has in
     let run : IsRunOf l = subst IsRunOf (sym fair.shows) (runs start log (refl, omega arith) fair.legal) in
-    let weight = (terms_stay fair.program fair.weight fair.budget start log
-    (record { program_is = refl; weight_is = refl; budget_is = refl })).weight_is in
+    let weight = (terms_of fair.program fair.weight fair.trace fair.budget log).weight_is in
     let heavy : 0 < l.weight = subst (λ (w : ℕ). 0 < w) (sym (ap (λ (m : Logged). m.weight) fair.shows ∙ weight)) fair.heavy in
-    none_reaped l.program l.weight l.book (state_in l) heavy run.0 a (busy_of (state_in l) a mine.busy) number t on is
+    none_reaped l.program (options_of l.weight l.trace) l.book (state_in l) heavy run.0 a (busy_of (state_in l) a mine.busy) number t on is
 
 -- ---- entries
 

@@ -1,7 +1,6 @@
 -- An actor that has an enabled event keeps its cell and has one still, whatever others do.
 use Rattle.std.proofs.Common.{◌≡◌, ◌≢◌, ℕ, zero, suc, ◌<◌, ◌&&◌, ◌||◌, Bool, true, false, List, [], ◌∷◌, ◌++◌, length, Option, Some, None, refl, sym, ap, ◌∙◌, subst, arith, is_some, is_none}
 use Rattle.std.specs.Prelude.{if◌then◌else◌}
-use Rattle.orca_names.specs.declared.trace.Trace.TheVariants.{Deep}
 use Rattle.behaviour_code.specs.declared.code.Program.{Program}
 use Rattle.event_rule.specs.Events.{actor_of}
 use Rattle.event_rule.specs.Runs.{Goes, IsEnabled, IsFull, NotEnabled, Step}
@@ -21,7 +20,7 @@ use Rattle.machine_rules.proofs.Enabling.{enabled_exactly}
 use Rattle.count_laws.specs.Apart.{HasNoEvent, IsApart}
 use Rattle.count_laws.proofs.away.Untouched.{others_leave}
 use Rattle.machine_laws.proofs.Done.{runs_reap_the_done}
-use Rattle.orca_core.specs.Machine.{options_of}
+use Rattle.machine_rules.specs.Options.{Options}
 use Rattle.book_hall.specs.Causes.{event_at, is_enabled}
 
 -- ---- enabled, by a test
@@ -196,10 +195,10 @@ others_leave_busy s t a e apart goes busy =
     )
 
 -- a reap takes nobody who is busy
-pub none_reaped : (program : Program) (weight : ℕ) (book : List Event) (s : State) → 0 < weight
-    → IsRun program (options_of weight Deep) book s → (a : ℕ) → IsBusy s a → (number : ℕ) (t : Token)
+pub none_reaped : (program : Program) (options : Options) (book : List Event) (s : State) → 0 < options.weight
+    → IsRun program options book s → (a : ℕ) → IsBusy s a → (number : ℕ) (t : Token)
     → IsEnabled next s (Reap number) → token_numbered number s.detector ≡ Some t → has t.members a ≡ false
-none_reaped program weight book s heavy run a busy number t on is =
+none_reaped program options book s heavy run a busy number t on is =
     by (has t.members a) refl
   where
     token_or : Token → Option Token → Token
@@ -215,18 +214,18 @@ none_reaped program weight book s heavy run a busy number t on is =
     by : (b : Bool) → has t.members a ≡ b → has t.members a ≡ false
     by false none = none
     by true is_member =
-        let taken = runs_reap_the_done program (options_of weight Deep) heavy book s run number on in
+        let taken = runs_reap_the_done program options heavy book s run number on in
         let same : taken.token ≡ t = ap (token_or t) (sym taken.is_open ∙ is) in
         let done = taken.done a (ap (λ (z : Token). has z.members a) same ∙ is_member) in
         absurd (event_of s a busy (no_event s a done.still))
 
 -- so it stands apart from an event of others that happens
-pub stands_apart : (program : Program) (weight : ℕ) (book : List Event) (s t : State) (a : ℕ) (e : Event) → 0 < weight
-    → IsRun program (options_of weight Deep) book s → IsBusy s a → actor_of e ≢ Some a → next s e ≡ Goes t → IsApart s a e
-stands_apart program weight book s t a e heavy run busy others goes = record {
+pub stands_apart : (program : Program) (options : Options) (book : List Event) (s t : State) (a : ℕ) (e : Event) → 0 < options.weight
+    → IsRun program options book s → IsBusy s a → actor_of e ≢ Some a → next s e ≡ Goes t → IsApart s a e
+stands_apart program options book s t a e heavy run busy others goes = record {
   made = busy_made s a busy;
   others = others;
   spared = λ number token is there.
-      none_reaped program weight book s heavy run a busy number token
+      none_reaped program options book s heavy run a busy number token
       (λ off. let clash : NotEnabled ≡ Goes t = sym off ∙ (ap (next s) (sym is) ∙ goes) in cc) there;
 }

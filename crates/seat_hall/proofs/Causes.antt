@@ -9,14 +9,13 @@ use Rattle.machine_rules.specs.Next.{next}
 use Rattle.work_board.specs.declared.answers.Committed.{Committed}
 use Rattle.work_board.specs.declared.answers.Refuse.{Refuse}
 use Rattle.work_board.specs.declared.answers.Refuse.TheVariants as why
-use Rattle.book_hall.specs.Answers.{IsEntered}
-use Rattle.book_hall.specs.Causes.{IsRefusal, absent_cause, actor_cause, busy_cause, entry_cause, full_cause, spent_cause, unready_cause}
+use Rattle.book_hall.specs.Causes.{IsRefusal, absent_cause, actor_cause, busy_cause, full_cause, spent_cause, unready_cause}
 use Rattle.book_hall.specs.Claims.{holder, is_anothers}
 use Rattle.book_hall.proofs.Refusing.{or_none}
 use Rattle.seat_hall.specs.declared.item.Item.TheVariants.{Ended, Entered}
-use Rattle.seat_hall.specs.Answers.{Enters, RefusesEntry}
+use Rattle.seat_hall.specs.Answers.{Enters, IsEntered, RefusesEntry}
 use Rattle.seat_hall.specs.Halls.{HallView, says}
-use Rattle.seat_hall.specs.Log.{Logged, after, claim_in, grown, listed, plain, released, state_in}
+use Rattle.seat_hall.specs.Log.{Logged, after, claim_in, claims_in, entry_cause, grown, listed, released, state_in}
 use Rattle.seat_hall.proofs.Claims.{claim_unset, holder_is, of_another, unset_twice}
 use Rattle.seat_hall.proofs.Holding.{none_claimed, not_busy}
 
@@ -26,35 +25,35 @@ pub busy_is : (asker : Option ℕ) (a : ℕ) (claims : List (Option ℕ))
 busy_is asker a claims = ap (option_map why.Busy) (holder_is asker a claims)
 
 -- no claim is out on the actor of an event that is not refused to nobody
-pub event_is_free : (l : Logged) (e : Event) → actor_cause (state_in l) (plain l).claims None e ≡ None
+pub event_is_free : (l : Logged) (e : Event) → actor_cause (state_in l) (claims_in l) None e ≡ None
     → (a : ℕ) → actor_of e ≡ Some a → claim_in l.claims a ≡ None
 event_is_free l e none a its =
-    let cause : option_or (absent_cause (state_in l) a) (busy_cause (plain l).claims None a) ≡ None =
-    sym (ap (option_and_then (λ a. option_or (absent_cause (state_in l) a) (busy_cause (plain l).claims None a))) its) ∙ none in
+    let cause : option_or (absent_cause (state_in l) a) (busy_cause (claims_in l) None a) ≡ None =
+    sym (ap (option_and_then (λ a. option_or (absent_cause (state_in l) a) (busy_cause (claims_in l) None a))) its) ∙ none in
     none_claimed (claim_in l.claims a) (not_busy l None a (or_none (absent_cause (state_in l) a) _ cause).1)
 
 module _ (l : Logged) (e : Event) where
   abbrev by_actor : Option ℕ → Option Refuse
-  by_actor asker = actor_cause (state_in l) (plain l).claims asker e
+  by_actor asker = actor_cause (state_in l) (claims_in l) asker e
 
   abbrev later : Option Refuse
   later = option_or (unready_cause (next (state_in l) e)) (option_or (spent_cause (length l.book) l.budget) (full_cause (next (state_in l) e) e))
 
   -- an event that is refused to nobody is refused to no pass
-  pub none_for : (pass : ℕ) → entry_cause (plain l) None e ≡ None → entry_cause (plain l) (Some pass) e ≡ None
+  pub none_for : (pass : ℕ) → entry_cause l None e ≡ None → entry_cause l (Some pass) e ≡ None
   none_for pass none =
       let c = or_none (by_actor None) later none in
       ap (λ o. option_or o later) (by (actor_of e) refl c.0) ∙ c.1
     where
       by : (who : Option ℕ) → actor_of e ≡ who → by_actor None ≡ None → by_actor (Some pass) ≡ None
-      by None its none = ap (option_and_then (λ a. option_or (absent_cause (state_in l) a) (busy_cause (plain l).claims (Some pass) a))) its
+      by None its none = ap (option_and_then (λ a. option_or (absent_cause (state_in l) a) (busy_cause (claims_in l) (Some pass) a))) its
       by (Some a) its none =
-          let cause : option_or (absent_cause (state_in l) a) (busy_cause (plain l).claims None a) ≡ None =
-          sym (ap (option_and_then (λ a. option_or (absent_cause (state_in l) a) (busy_cause (plain l).claims None a))) its) ∙ none in
+          let cause : option_or (absent_cause (state_in l) a) (busy_cause (claims_in l) None a) ≡ None =
+          sym (ap (option_and_then (λ a. option_or (absent_cause (state_in l) a) (busy_cause (claims_in l) None a))) its) ∙ none in
           let there = (or_none (absent_cause (state_in l) a) _ cause).0 in
           let free = event_is_free l e none a its in
-          ap (option_and_then (λ a. option_or (absent_cause (state_in l) a) (busy_cause (plain l).claims (Some pass) a))) its
-          ∙ (ap (λ o. option_or o (busy_cause (plain l).claims (Some pass) a)) there
+          ap (option_and_then (λ a. option_or (absent_cause (state_in l) a) (busy_cause (claims_in l) (Some pass) a))) its
+          ∙ (ap (λ o. option_or o (busy_cause (claims_in l) (Some pass) a)) there
           ∙ (busy_is (Some pass) a l.claims ∙ ap (λ c. option_map why.Busy (of_another (Some pass) c)) free))
 
   -- ---- a commit puts the cell back first
@@ -64,19 +63,19 @@ module _ (l : Logged) (e : Event) where
     ended = after l (Ended pass a)
 
     -- who commits is refused as nobody is once its claim has ended
-    pub own_cause : entry_cause (plain ended) None e ≡ entry_cause (plain l) (Some pass) e
+    pub own_cause : entry_cause ended None e ≡ entry_cause l (Some pass) e
     own_cause = ap (λ o. option_or o later) (
-        ap (option_and_then (λ a. option_or (absent_cause (state_in l) a) (busy_cause (plain ended).claims None a))) its
+        ap (option_and_then (λ a. option_or (absent_cause (state_in l) a) (busy_cause (claims_in ended) None a))) its
         ∙ (ap (option_or (absent_cause (state_in l) a)) (then_none ∙ sym own_none)
-        ∙ sym (ap (option_and_then (λ a. option_or (absent_cause (state_in l) a) (busy_cause (plain l).claims (Some pass) a))) its)))
+        ∙ sym (ap (option_and_then (λ a. option_or (absent_cause (state_in l) a) (busy_cause (claims_in l) (Some pass) a))) its)))
       where
         same : (pass == pass) ≡ true
         same = grind (arith, nat_tests)
 
-        then_none : busy_cause (plain ended).claims None a ≡ None
+        then_none : busy_cause (claims_in ended) None a ≡ None
         then_none = busy_is None a (set l.claims a None) ∙ ap (λ c. option_map why.Busy (of_another None c)) (claim_unset l.claims a)
 
-        own_none : busy_cause (plain l).claims (Some pass) a ≡ None
+        own_none : busy_cause (claims_in l) (Some pass) a ≡ None
         own_none =
             busy_is (Some pass) a l.claims ∙ (ap (λ c. option_map why.Busy (of_another (Some pass) c)) mine
             ∙ ap (λ b. option_map why.Busy (if not b then Some pass else None)) same)
@@ -97,7 +96,7 @@ module _ (l : Logged) (e : Event) where
         → IfOk r (λ done. Enters (Some pass) pass e done l)
     own_answers (Ok done) enters = record {
       may = sym own_cause ∙ enters.may;
-      entered = subst (λ (m : Logged). IsEntered (plain l) e done (plain m)) own_entered (record {
+      entered = subst (λ (m : Logged). IsEntered l e done m) own_entered (record {
         place = enters.entered.place;
         book = enters.entered.book;
         goes = enters.entered.goes;

@@ -1,5 +1,5 @@
 -- What is known of a hall at its end.
-use Rattle.std.proofs.Common.{◌≡◌, ℕ, List, [], ◌∷◌, map, sym, refl, ap, ◌∙◌, subst, arith}
+use Rattle.std.proofs.Common.{◌≡◌, ℕ, List, [], ◌∷◌, map, sym, ap, ◌∙◌, subst, arith}
 use mathlib.Core.Option.{some}
 use mathlib.Core.List.{IsPrefix}
 use lib.ListN.{get_elem?}
@@ -11,13 +11,13 @@ use Rattle.seat_hall.specs.declared.closing.Closing.{Closing}
 use Rattle.seat_hall.specs.declared.closing.Closing.TheVariants.{Whole, Turning, Lent}
 use Rattle.seat_hall.specs.declared.item.Item.{Item}
 use Rattle.seat_hall.specs.Closes.{Closes, IsLastHall, Leaves}
-use Rattle.seat_hall.specs.Fair.{Calm, Fair, Knower, live, start_of}
+use Rattle.seat_hall.specs.Fair.{Calm, Fair, Knower, live}
 use Rattle.seat_hall.specs.Halls.{HallView}
 use Rattle.seat_hall.specs.Log.{Logged}
 use Rattle.seat_hall.specs.Passes.{IsPass, Token, hall, seen}
 use Rattle.seat_hall.proofs.Apart.{shown}
 use Rattle.seat_hall.proofs.Keeps.{one_number}
-use Rattle.seat_hall.proofs.Logs.{HasTerms, terms_stay}
+use Rattle.seat_hall.proofs.Logs.{HasTerms, terms_of}
 
 -- where nobody has the turn, the hall is that of the whole log
 pub last_hall : (pass : ℕ) (t : Token) (h : HallView) → IsPass pass t → IsClosed Fair live Calm (knows t) h
@@ -41,9 +41,9 @@ last_hall pass t h is closed =
 pub closes : (t : Token) (l : Logged) (closing : Closing) → IsLastHall t l → Leaves l closing → Closes t closing
 closes t l (Whole orca book) last leaves =
     let v = (knows t).client in
-    let terms : HasTerms v.program v.weight v.budget l =
-    subst (HasTerms v.program v.weight v.budget) (sym last.is)
-    (terms_stay v.program v.weight v.budget (start_of v) last.log (record { program_is = refl; weight_is = refl; budget_is = refl })) in
+    let terms : HasTerms v.program v.weight v.trace v.budget l =
+    subst (HasTerms v.program v.weight v.trace v.budget) (sym last.is)
+    (terms_of v.program v.weight v.trace v.budget last.log) in
     record {
       last = l;
       last_is = last;
@@ -51,6 +51,7 @@ closes t l (Whole orca book) last leaves =
       parts = leaves.1;
       program = terms.program_is;
       weight = terms.weight_is;
+      trace = terms.trace_is;
       budget = terms.budget_is;
     }
 closes t l (Turning ticket serving) last leaves = absurd leaves

@@ -10,18 +10,18 @@ use Rattle.orca_core.specs.Machine.{Machine}
 use Rattle.orca_core.specs.Woken.{IsLowestWoken}
 use Rattle.work_board.specs.declared.answers.Committed.{Committed}
 use Rattle.work_board.specs.declared.answers.Refuse.{Refuse}
-use Rattle.book_hall.specs.Causes.{IsRefusal, actor_cause, entry_cause, full_cause, spent_cause, unready_cause}
+use Rattle.book_hall.specs.Causes.{IsRefusal, actor_cause, full_cause, spent_cause, unready_cause}
 use Rattle.book_hall.proofs.Refusing.{late_is, or_none}
 use Rattle.seat_hall.specs.declared.item.Item.TheVariants.{Entered}
 use Rattle.seat_hall.specs.Answers.{Enters}
 use Rattle.seat_hall.specs.Halls.{HallView, says}
-use Rattle.seat_hall.specs.Log.{Logged, after, claim_in, entered, grown, plain, state_in}
+use Rattle.seat_hall.specs.Log.{Logged, after, claim_in, claims_in, entered, entry_cause, grown, state_in}
 use Rattle.seat_hall.proofs.Causes.{event_is_free}
 use Rattle.seat_hall.proofs.Claims.{released_free}
 
 module _ (l : Logged) (e : Event) where
   abbrev actor_refuses : Option Refuse
-  actor_refuses = actor_cause (state_in l) (plain l).claims None e
+  actor_refuses = actor_cause (state_in l) (claims_in l) None e
 
   abbrev not_ready : Option Refuse
   not_ready = unready_cause (next (state_in l) e)
@@ -44,11 +44,11 @@ module _ (l : Logged) (e : Event) where
     has_room = later.1
 
     -- so it is refused only as full
-    late : entry_cause (plain l) None e ≡ full_cause (next (state_in l) e) e
+    late : entry_cause l None e ≡ full_cause (next (state_in l) e) e
     late = late_is actor_refuses not_ready over (full_cause (next (state_in l) e) e) (sym none)
 
     pub late_refusal : (m : Machine) (refuse : Refuse) → m.state ≡ state_in l
-        → IsRefusal (full_cause (next m.state e) e) refuse → IsRefusal (entry_cause (plain l) None e) refuse
+        → IsRefusal (full_cause (next m.state e) e) refuse → IsRefusal (entry_cause l None e) refuse
     late_refusal m refuse state is =
         subst (λ cause. IsRefusal cause refuse) (ap (λ s. full_cause (next s e) e) state ∙ sym late) is
 

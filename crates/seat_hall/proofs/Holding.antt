@@ -3,7 +3,6 @@ use Rattle.std.proofs.Common.{◌≡◌, ◌≢◌, ℕ, ◌<◌, ◌==◌, Bool
 use Rattle.std.specs.Prelude.{if◌then◌else◌}
 use Rattle.std.specs.Option.{option_and_then, option_or}
 use Rattle.std.proofs.lemmas.Bool.Decides.{nat_tests}
-use Rattle.orca_names.specs.declared.trace.Trace.TheVariants.{Deep}
 use Rattle.event_rule.specs.Events.{actor_of}
 use Rattle.event_rule.specs.Runs.{Goes, NotEnabled}
 use Rattle.event_rule.specs.declared.event.Event.{Event}
@@ -13,13 +12,13 @@ use Rattle.machine_rules.specs.State.{State, first_state}
 use Rattle.orca_core.specs.Machine.{options_of}
 use Rattle.orca_core.proofs.Reached.{leads_more}
 use Rattle.work_board.specs.declared.answers.Refuse.TheVariants as why
-use Rattle.book_hall.specs.Causes.{absent_cause, actor_cause, busy_cause, claim_cause, entry_cause, event_at}
+use Rattle.book_hall.specs.Causes.{absent_cause, actor_cause, busy_cause, event_at}
 use Rattle.book_hall.specs.Claims.{holder}
 use Rattle.book_hall.proofs.Keeping.{leads_after}
 use Rattle.book_hall.proofs.Refusing.{or_none}
 use Rattle.seat_hall.specs.declared.item.Item.{Item}
 use Rattle.seat_hall.specs.declared.item.Item.TheVariants.{Claimed, Entered, Ended, Stopped, Made}
-use Rattle.seat_hall.specs.Log.{Legal, Logged, MayFollow, after, by, claim_in, hall_from, items_by, plain, state_in}
+use Rattle.seat_hall.specs.Log.{Legal, Logged, MayFollow, after, by, claim_cause, claim_in, claims_in, entry_cause, hall_from, items_by, state_in}
 use Rattle.seat_hall.proofs.Busy.{busy_of, event_of, others_leave_busy, stands_apart}
 use Rattle.seat_hall.proofs.Claims.{claim_grown, claim_released, claim_set, holder_is, of_another}
 use Rattle.seat_hall.proofs.Runs.{IsRunOf, can_enter, run_one}
@@ -34,9 +33,9 @@ abbrev pub pass_or : ℕ → Option ℕ → ℕ
 pass_or d (Some pass) = pass
 pass_or d None = d
 
-pub not_busy : (l : Logged) (asker : Option ℕ) (a : ℕ) → busy_cause (plain l).claims asker a ≡ None
+pub not_busy : (l : Logged) (asker : Option ℕ) (a : ℕ) → busy_cause (claims_in l) asker a ≡ None
     → of_another asker (claim_in l.claims a) ≡ None
-not_busy l asker a none = sym (holder_is asker a l.claims) ∙ free (holder asker a (plain l).claims) none
+not_busy l asker a none = sym (holder_is asker a l.claims) ∙ free (holder asker a (claims_in l)) none
   where
     free : (who : Option ℕ) → Rattle.std.specs.Prelude.option_map why.Busy who ≡ None → who ≡ None
     free None none = refl
@@ -67,20 +66,20 @@ about (Ended pass actor) = Some actor
 about (Stopped pass) = None
 about (Made pass) = None
 
-about_entered : (l : Logged) (pass q a : ℕ) (e : Event) → q ≢ pass → entry_cause (plain l) (Some q) e ≡ None
+about_entered : (l : Logged) (pass q a : ℕ) (e : Event) → q ≢ pass → entry_cause l (Some q) e ≡ None
     → claim_in l.claims a ≡ Some pass → actor_of e ≢ Some a
 about_entered l pass q a e apart none mine is =
-    let c = or_none (actor_cause (state_in l) (plain l).claims (Some q) e) _ none in
-    let cause : option_or (absent_cause (state_in l) a) (busy_cause (plain l).claims (Some q) a) ≡ None =
-    sym (ap (option_and_then (λ a. option_or (absent_cause (state_in l) a) (busy_cause (plain l).claims (Some q) a))) is) ∙ c.0 in
+    let c = or_none (actor_cause (state_in l) (claims_in l) (Some q) e) _ none in
+    let cause : option_or (absent_cause (state_in l) a) (busy_cause (claims_in l) (Some q) a) ≡ None =
+    sym (ap (option_and_then (λ a. option_or (absent_cause (state_in l) a) (busy_cause (claims_in l) (Some q) a))) is) ∙ c.0 in
     let d = or_none (absent_cause (state_in l) a) _ cause in
     not_mine (claim_in l.claims a) q pass apart (not_busy l (Some q) a d.1) mine
 
 -- a granted claim is on an actor that nobody has
-pub free_for : (l : Logged) (a : ℕ) → claim_cause (plain l) a ≡ None → claim_in l.claims a ≡ None
+pub free_for : (l : Logged) (a : ℕ) → claim_cause l a ≡ None → claim_in l.claims a ≡ None
 free_for l a none =
     let c = or_none (absent_cause (state_in l) a) _ none in
-    let d = or_none (busy_cause (plain l).claims None a) _ c.1 in
+    let d = or_none (busy_cause (claims_in l) None a) _ c.1 in
     none_claimed (claim_in l.claims a) (not_busy l None a d.0)
 
 -- an item of others is about no actor that this pass has
@@ -97,15 +96,15 @@ not_about pass a l (Made q) apart may mine same = cc
 -- ---- items about other actors
 
 keeps_entered : (pass q a : ℕ) (l : Logged) (e : Event) → actor_of e ≢ Some a → 0 < l.weight → IsRunOf l
-    → entry_cause (plain l) (Some q) e ≡ None → claim_in l.claims a ≡ Some pass → event_at (state_in l) a ≢ None
+    → entry_cause l (Some q) e ≡ None → claim_in l.claims a ≡ Some pass → event_at (state_in l) a ≢ None
     → Keeps pass a l (after l (Entered q e))
 keeps_entered pass q a l e others heavy run none mine busy =
     let can = can_enter l (Some q) e run.1 none in
-    let start : State = first_state l.program (options_of l.weight Deep) in
+    let start : State = first_state l.program (options_of l.weight l.trace) in
     let more = leads_more l.book start (state_in l) can.after_it e run.0 can.goes in
     let there : can.after_it ≡ state_in (after l (Entered q e)) = leads_after (l.book ++ e ∷ []) start can.after_it more in
     let b = busy_of (state_in l) a busy in
-    let apart = stands_apart l.program l.weight l.book (state_in l) can.after_it a e heavy run.0 b others can.goes in
+    let apart = stands_apart l.program (options_of l.weight l.trace) l.book (state_in l) can.after_it a e heavy run.0 b others can.goes in
     let left = others_leave_busy (state_in l) can.after_it a e apart can.goes b in record {
       claimed = claim_grown _ _ a ∙ (claim_released e l.claims a others ∙ mine);
       cell = ap (λ (s : State). cell_at s.actors a) (sym there) ∙ left.0;

@@ -6,7 +6,7 @@ use Rattle.std.proofs.lemmas.Bool.Decides.{nat_tests}
 use mathlib.Core.Logic.{dite}
 use native.Mathlib.Decide.{ℕ_discrete}
 use Rattle.orca_names.specs.declared.limits.TheConstants.{ACTORS_LIMIT, BOOK_LIMIT}
-use Rattle.orca_names.specs.declared.trace.Trace.TheVariants.{Deep}
+use Rattle.orca_names.specs.declared.trace.Trace.{Trace}
 use Rattle.behaviour_code.specs.declared.code.Program.{Program}
 use Rattle.event_rule.specs.Events.{actor_of}
 use Rattle.event_rule.specs.Runs.{Goes}
@@ -77,7 +77,7 @@ module _ (program : Program) (budget : ℕ) (m : Machine) (book : BookValue) (cl
   spared number t a acked member None free = free_is_home a free
   spared number t a acked member (Some p) mine =
       let open_is = acked_open number m.state.detector t acked in
-      let none = none_reaped program book.weight book.entries m.state heavy kept.run a
+      let none = none_reaped program (options_of book.weight book.trace) book.entries m.state heavy kept.run a
       (busy_of m.state a (kept.busy a p mine)) number t ((enabled_exactly m.state (Reap number)).1 (t, acked)) open_is.0 in
       absurd (let clash : true ≡ false = sym member ∙ none in cc)
 
@@ -95,13 +95,13 @@ module _ (program : Program) (budget : ℕ) (m : Machine) (book : BookValue) (cl
 
   pub few_claims : length claims ≤ ACTORS_LIMIT
   few_claims =
-      let few = runs_make_few program (options_of book.weight Deep) book.entries m.state kept.run in
+      let few = runs_make_few program (options_of book.weight book.trace) book.entries m.state kept.run in
       let s = kept.sized in omega arith
 
   -- the machine has the program and the options of the run, and the book is its run
-  pub machine_run : (m.state.program ≡ program) × (m.state.options ≡ options_of book.weight Deep) × IsRunOf m book.entries
+  pub machine_run : (m.state.program ≡ program) × (m.state.options ≡ options_of book.weight book.trace) × IsRunOf m book.entries
   machine_run =
-      let same = runs_keep_program program (options_of book.weight Deep) book.entries m.state kept.run in (
+      let same = runs_keep_program program (options_of book.weight book.trace) book.entries m.state kept.run in (
         same.same_program,
         same.same_options,
         record {
@@ -128,10 +128,9 @@ module _ (program : Program) (budget : ℕ) (m : Machine) (book : BookValue) (cl
       → IsKept program budget n book (set claims a (Some pass)) (lent + 1)
   kept_claimed n a pass state steps out lent_is free busy = record {
     state_is = state ∙ kept.state_is;
-    run = subst (IsRun program (options_of book.weight Deep) book.entries) (sym state) kept.run;
+    run = subst (IsRun program (options_of book.weight book.trace) book.entries) (sym state) kept.run;
     long = kept.long ∙ sym steps;
     weight = kept.weight;
-    deep = kept.deep;
     within = kept.within;
     most = kept.most;
     away = λ b. dite (ℕ_discrete b a)
@@ -151,10 +150,9 @@ module _ (program : Program) (budget : ℕ) (m : Machine) (book : BookValue) (cl
       → claim_in claims a ≡ Some pass → IsKept program budget n book (set claims a None) (lent - 1)
   kept_ended n a pass state steps out mine = record {
     state_is = state ∙ kept.state_is;
-    run = subst (IsRun program (options_of book.weight Deep) book.entries) (sym state) kept.run;
+    run = subst (IsRun program (options_of book.weight book.trace) book.entries) (sym state) kept.run;
     long = kept.long ∙ sym steps;
     weight = kept.weight;
-    deep = kept.deep;
     within = kept.within;
     most = kept.most;
     away = λ b. dite (ℕ_discrete b a)
@@ -180,10 +178,10 @@ module _ (program : Program) (budget : ℕ) (m : Machine) (book : BookValue) (cl
         → after.entries ≡ book.entries ++ e ∷ []
         → IsKept program budget n after (grown (length n.state.actors) claims) lent
     kept_entered e free room goes steps entry =
-        let start : State = first_state program (options_of book.weight Deep) in
+        let start : State = first_state program (options_of book.weight book.trace) in
         let more = leads_more book.entries start m.state n.state e kept.run goes in
-        let run : IsRun program (options_of after.weight Deep) after.entries n.state =
-        subst (λ (x : ℕ × List Event). IsRun program (options_of x.0 Deep) x.1 n.state) (λ i. (sym weight i, sym entry i)) more in
+        let run : IsRun program (options_of after.weight after.trace) after.entries n.state =
+        subst (λ (x : ℕ × Trace × List Event). IsRun program (options_of x.0 x.1) x.2 n.state) (λ i. (sym weight i, sym trace i, sym entry i)) more in
         let long : length after.entries ≡ length book.entries + 1 = ap length entry ∙ length-append book.entries (e ∷ []) in
         let was = kept.long in let few = kept.within in
         let below : length book.entries + 1 ≤ budget = grows (length book.entries == budget) refl room in
@@ -192,7 +190,6 @@ module _ (program : Program) (budget : ℕ) (m : Machine) (book : BookValue) (cl
           run = run;
           long = omega arith;
           weight = subst IsWeight (sym weight) kept.weight;
-          deep = trace ∙ kept.deep;
           within = omega arith;
           most = kept.most;
           away = λ a. away a ∙ (kept.away a ∙ sym (ap is_some (claim_grown (length n.state.actors) claims a)));
@@ -202,7 +199,7 @@ module _ (program : Program) (budget : ℕ) (m : Machine) (book : BookValue) (cl
               let mine : claim_in claims a ≡ Some p = sym (claim_grown (length n.state.actors) claims a) ∙ is in
               let b = busy_of m.state a (kept.busy a p mine) in
               let others : actor_of e ≢ Some a = λ acts. let clash : None ≡ Some p = sym (free a acts) ∙ mine in cc in
-              let apart = stands_apart program book.weight book.entries m.state n.state a e heavy kept.run b others goes in
+              let apart = stands_apart program (options_of book.weight book.trace) book.entries m.state n.state a e heavy kept.run b others goes in
               event_of n.state a (others_leave_busy m.state n.state a e apart goes b).1;
         }
       where
@@ -215,12 +212,11 @@ module _ (program : Program) (budget : ℕ) (m : Machine) (book : BookValue) (cl
     pub kept_same : IsSame m n → after.entries ≡ book.entries → IsKept program budget n after claims lent
     kept_same same entries = record {
       state_is = same.state ∙ (kept.state_is
-          ∙ (λ i. state_after (first_state program (options_of (sym weight i) Deep)) (sym entries i)));
-      run = subst (λ (x : ℕ × List Event × State). IsRun program (options_of x.0 Deep) x.1 x.2)
-          (λ i. (sym weight i, sym entries i, sym same.state i)) kept.run;
+          ∙ (λ i. state_after (first_state program (options_of (sym weight i) (sym trace i))) (sym entries i)));
+      run = subst (λ (x : ℕ × Trace × List Event × State). IsRun program (options_of x.0 x.1) x.2 x.3)
+          (λ i. (sym weight i, sym trace i, sym entries i, sym same.state i)) kept.run;
       long = ap length entries ∙ (kept.long ∙ sym same.steps);
       weight = subst IsWeight (sym weight) kept.weight;
-      deep = trace ∙ kept.deep;
       within = subst (λ xs. length xs ≤ budget) (sym entries) kept.within;
       most = kept.most;
       away = λ a. away a ∙ kept.away a;

@@ -18,5 +18,6 @@ pub mod Turns
 pub mod Unmade
 pub mod Commits
 pub mod Splits
+pub mod Plain
 pub mod Ends
 pub mod Sending

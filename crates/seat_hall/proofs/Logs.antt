@@ -1,9 +1,10 @@
 -- Logs, cut and put together.
-use Rattle.std.proofs.Common.{◌≡◌, ℕ, ◌≤◌, List, [], ◌∷◌, ◌++◌, refl, arith}
+use Rattle.std.proofs.Common.{◌≡◌, ℕ, ◌≤◌, List, [], ◌∷◌, ◌++◌, refl, ◌∙◌, arith}
+use Rattle.orca_names.specs.declared.trace.Trace.{Trace}
 use Rattle.behaviour_code.specs.declared.code.Program.{Program}
 use Rattle.seat_hall.specs.declared.item.Item.{Item}
 use Rattle.seat_hall.specs.declared.item.Item.TheVariants.{Claimed, Entered, Ended, Stopped, Made}
-use Rattle.seat_hall.specs.Log.{Legal, Logged, MayFollow, after, by, hall_from}
+use Rattle.seat_hall.specs.Log.{Legal, Logged, MayFollow, after, begins, by, hall_from}
 
 pub hall_append : (l : Logged) (xs ys : List Item) → hall_from l (xs ++ ys) ≡ hall_from (hall_from l xs) ys
 hall_append l [] ys = refl
@@ -17,25 +18,41 @@ pub legal_rest : (l : Logged) (xs ys : List Item) → Legal l (xs ++ ys) → Leg
 legal_rest l [] ys legal = legal
 legal_rest l (x ∷ xs) ys legal = legal_rest (after l x) xs ys legal.1
 
--- ---- program, weight and budget stay
+-- ---- program, weight, tracing and budget stay
 
-pub record HasTerms (program : Program) (weight budget : ℕ) (l : Logged) : Type 0 where
+pub record HasTerms (program : Program) (weight : ℕ) (trace : Trace) (budget : ℕ) (l : Logged) : Type 0 where
   pub program_is : l.program ≡ program
   pub weight_is : l.weight ≡ weight
+  pub trace_is : l.trace ≡ trace
   pub budget_is : l.budget ≡ budget
 
-terms_one : (program : Program) (weight budget : ℕ) (l : Logged) (i : Item) → HasTerms program weight budget l
-    → HasTerms program weight budget (after l i)
-terms_one program weight budget l (Claimed pass actor) t = record { program_is = t.program_is; weight_is = t.weight_is; budget_is = t.budget_is }
-terms_one program weight budget l (Entered pass event) t = record { program_is = t.program_is; weight_is = t.weight_is; budget_is = t.budget_is }
-terms_one program weight budget l (Ended pass actor) t = record { program_is = t.program_is; weight_is = t.weight_is; budget_is = t.budget_is }
-terms_one program weight budget l (Stopped pass) t = record { program_is = t.program_is; weight_is = t.weight_is; budget_is = t.budget_is }
-terms_one program weight budget l (Made pass) t = record { program_is = t.program_is; weight_is = t.weight_is; budget_is = t.budget_is }
+module _ (program : Program) (weight : ℕ) (trace : Trace) (budget : ℕ) where
+  abbrev Has : Logged → Type 0
+  Has l = HasTerms program weight trace budget l
 
-pub terms_stay : (program : Program) (weight budget : ℕ) (l : Logged) (log : List Item) → HasTerms program weight budget l
-    → HasTerms program weight budget (hall_from l log)
-terms_stay program weight budget l [] t = t
-terms_stay program weight budget l (i ∷ log) t = terms_stay program weight budget (after l i) log (terms_one program weight budget l i t)
+  stays : (l m : Logged) → m.program ≡ l.program → m.weight ≡ l.weight → m.trace ≡ l.trace → m.budget ≡ l.budget → Has l → Has m
+  stays l m p w t b has = record {
+    program_is = p ∙ has.program_is;
+    weight_is = w ∙ has.weight_is;
+    trace_is = t ∙ has.trace_is;
+    budget_is = b ∙ has.budget_is;
+  }
+
+  terms_one : (l : Logged) (i : Item) → Has l → Has (after l i)
+  terms_one l (Claimed pass actor) = stays l _ refl refl refl refl
+  terms_one l (Entered pass event) = stays l _ refl refl refl refl
+  terms_one l (Ended pass actor) = stays l _ refl refl refl refl
+  terms_one l (Stopped pass) = stays l _ refl refl refl refl
+  terms_one l (Made pass) = stays l _ refl refl refl refl
+
+  terms_stay : (l : Logged) (log : List Item) → Has l → Has (hall_from l log)
+  terms_stay l [] has = has
+  terms_stay l (i ∷ log) has = terms_stay (after l i) log (terms_one l i has)
+
+  -- so the hall of each log has those that it began with
+  pub terms_of : (log : List Item) → Has (hall_from (begins program weight trace budget) log)
+  terms_of log = terms_stay (begins program weight trace budget) log
+      (record { program_is = refl; weight_is = refl; trace_is = refl; budget_is = refl })
 
 -- ---- numbers
 

@@ -3,7 +3,7 @@ use Rattle.std.proofs.Common.{◌≡◌, ℕ, ◌+◌, ◌≤◌, ◌==◌, Bool
 use Rattle.std.specs.Prelude.{if◌then◌else◌}
 use Rattle.std.specs.Option.{option_map}
 use Rattle.std.proofs.lemmas.Bool.Decides.{nat_tests}
-use Rattle.orca_names.specs.declared.trace.Trace.TheVariants.{Deep}
+use Rattle.orca_names.specs.declared.trace.Trace.{Trace}
 use Rattle.behaviour_code.specs.declared.code.Program.{Program}
 use Rattle.event_rule.specs.Events.{actor_of}
 use Rattle.event_rule.specs.Runs.{Goes, IsFull, NotEnabled, Step}
@@ -15,14 +15,14 @@ use Rattle.machine_rules.specs.State.{State, first_state}
 use Rattle.orca_core.specs.Machine.{options_of}
 use Rattle.orca_core.proofs.Reached.{leads_more}
 use Rattle.work_board.specs.declared.answers.Refuse.TheVariants as why
-use Rattle.book_hall.specs.Causes.{actor_cause, entry_cause, full_cause, spent_cause, unready_cause}
+use Rattle.book_hall.specs.Causes.{actor_cause, full_cause, spent_cause, unready_cause}
 use Rattle.book_hall.proofs.Keeping.{leads_after}
 use Rattle.book_hall.proofs.Refusing.{or_none}
 use Rattle.seat_hall.specs.declared.item.Item.{Item}
 use Rattle.seat_hall.specs.declared.item.Item.TheVariants.{Claimed, Entered, Ended, Stopped, Made}
-use Rattle.seat_hall.specs.Log.{Legal, Logged, MayFollow, after, begins, hall_from, plain, state_in}
+use Rattle.seat_hall.specs.Log.{Legal, Logged, MayFollow, after, begins, claims_in, entry_cause, hall_from, state_in}
 use Rattle.seat_hall.specs.Stands.{BooksAreRuns}
-use Rattle.seat_hall.proofs.Logs.{terms_stay}
+use Rattle.seat_hall.proofs.Logs.{terms_of}
 
 -- what no cause refuses can happen
 pub record CanEnter (l : Logged) (e : Event) : Type 0 where
@@ -31,13 +31,13 @@ pub record CanEnter (l : Logged) (e : Event) : Type 0 where
   pub room : length l.book + 1 ≤ l.budget
 
 abbrev pub IsRunOf : Logged → Type 0
-IsRunOf l = IsRun l.program (options_of l.weight Deep) l.book (state_in l) × (length l.book ≤ l.budget)
+IsRunOf l = IsRun l.program (options_of l.weight l.trace) l.book (state_in l) × (length l.book ≤ l.budget)
 
 pub can_enter : (l : Logged) (asker : Option ℕ) (e : Event) → length l.book ≤ l.budget
-    → entry_cause (plain l) asker e ≡ None → CanEnter l e
+    → entry_cause l asker e ≡ None → CanEnter l e
 can_enter l asker e within none =
     let s : State = state_in l in
-    let a = or_none (actor_cause s (plain l).claims asker e) _ none in
+    let a = or_none (actor_cause s (claims_in l) asker e) _ none in
     let b = or_none (unready_cause (next s e)) _ a.1 in
     let c = or_none (spent_cause (length l.book) l.budget) _ b.1 in
     let g = goes (next s e) refl b.0 c.1 in
@@ -61,10 +61,10 @@ pub run_one : (l : Logged) (i : Item) → IsRunOf l → MayFollow l i → IsRunO
 run_one l (Claimed pass actor) run may = run
 run_one l (Entered pass event) run may =
     let can = can_enter l (Some pass) event run.1 may.1 in
-    let start : State = first_state l.program (options_of l.weight Deep) in
+    let start : State = first_state l.program (options_of l.weight l.trace) in
     let more = leads_more l.book start (state_in l) can.after_it event run.0 can.goes in
     let room = can.room in let long = length-append l.book (event ∷ []) in (
-      subst (IsRun l.program (options_of l.weight Deep) (l.book ++ event ∷ []))
+      subst (IsRun l.program (options_of l.weight l.trace) (l.book ++ event ∷ []))
           (leads_after (l.book ++ event ∷ []) start can.after_it more) more,
       omega arith,
     )
@@ -77,9 +77,9 @@ runs l [] run legal = run
 runs l (i ∷ log) run legal = runs (after l i) log (run_one l i run legal.0) legal.1
 
 pub books_run : BooksAreRuns
-books_run program weight budget log legal =
-    let start : Logged = begins program weight budget in
+books_run program weight budget trace log legal =
+    let start : Logged = begins program weight trace budget in
     let last : Logged = hall_from start log in
-    let terms = terms_stay program weight budget start log (record { program_is = refl; weight_is = refl; budget_is = refl }) in
-    subst (λ (x : Program × ℕ × ℕ). IsRun x.0 (options_of x.1 Deep) last.book (state_in last) × (length last.book ≤ x.2))
-    (λ i. (terms.program_is i, terms.weight_is i, terms.budget_is i)) (runs start log (refl, omega arith) legal)
+    let terms = terms_of program weight trace budget log in
+    subst (λ (x : Program × ℕ × Trace × ℕ). IsRun x.0 (options_of x.1 x.2) last.book (state_in last) × (length last.book ≤ x.3))
+    (λ i. (terms.program_is i, terms.weight_is i, terms.trace_is i, terms.budget_is i)) (runs start log (refl, omega arith) legal)

@@ -19,7 +19,7 @@ use Rattle.seat_hall.proofs.Keeps.{has_first, one_number, own_client, own_is}
 use Rattle.seat_hall.proofs.Counts.{out_all}
 use Rattle.seat_hall.proofs.Entries.{get_last}
 use Rattle.seat_hall.proofs.Holding.{about, keeps_about, keeps_all}
-use Rattle.seat_hall.proofs.Logs.{HasTerms, hall_append, legal_rest, terms_stay}
+use Rattle.seat_hall.proofs.Logs.{HasTerms, hall_append, legal_rest, terms_of}
 use Rattle.seat_hall.proofs.Runs.{IsRunOf, runs}
 
 pub at_hall : (pass : ℕ) (old new : Token) (h : HallView) → (knows old).client.numbers ≡ pass ∷ []
@@ -93,18 +93,19 @@ module _ (pass : ℕ) (old mid new : Token) (h : HallView) (at : IsAtHall pass o
       (sym (ap (λ (l : Logged). l.weight) at.shows ∙ weight_of (knows old).client (seen mid))) at.heavy
 
   -- and of the pass's run
-  terms_now : HasTerms (knows old).client.program (knows old).client.weight (knows old).client.budget h.logged
+  terms_now : HasTerms (knows old).client.program (knows old).client.weight (knows old).client.trace (knows old).client.budget h.logged
   terms_now =
       let v = (knows old).client in
-      subst (HasTerms v.program v.weight v.budget) (sym at.shows)
-      (terms_stay v.program v.weight v.budget (start_of v) (seen mid)
-      (record { program_is = refl; weight_is = refl; budget_is = refl }))
+      subst (HasTerms v.program v.weight v.trace v.budget) (sym at.shows) (terms_of v.program v.weight v.trace v.budget (seen mid))
 
   pub program_now : h.logged.program ≡ (knows old).client.program
   program_now = terms_now.program_is
 
   pub weight_now : h.logged.weight ≡ (knows old).client.weight
   weight_now = terms_now.weight_is
+
+  pub trace_now : h.logged.trace ≡ (knows old).client.trace
+  trace_now = terms_now.trace_is
 
   -- what the pass reckons at its turn is the hall
   pub reckons : h.logged ≡ hall_of (knows mid).client (knows mid).seen

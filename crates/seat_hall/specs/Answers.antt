@@ -1,31 +1,60 @@
--- What a call answers in the hall before its item: what the plain hall answers there.
-use Rattle.std.specs.Prelude.{ℕ, ◌≡◌, ◌+◌, ◌≤◌, length, Option, Some, None}
-use Rattle.orca_names.specs.declared.trace.Trace.TheVariants.{Deep}
+-- What a call answers in the hall before its item.
+use Rattle.std.specs.Prelude.{ℕ, ◌≡◌, ◌≢◌, ◌==◌, ◌+◌, ◌≤◌, ◌||◌, Bool, true, false, [], ◌∷◌, ◌++◌, length, Option, Some, None}
+use Rattle.orca_names.specs.declared.trace.Trace.{Trace}
 use Rattle.behaviour_code.specs.declared.code.Program.{Program}
 use Rattle.event_rule.specs.Events.{actor_of}
+use Rattle.event_rule.specs.Runs.{Goes, IsFirst, IsQuiet}
 use Rattle.event_rule.specs.declared.event.Event.{Event}
 use Rattle.actor_cell.specs.declared.cell.Cell.{Cell}
 use Rattle.actor_cell.specs.declared.found.Found.{Found}
 use Rattle.actor_cell.specs.Cells.{as_cell}
 use Rattle.actor_cell.specs.Founds.{IsFound}
 use Rattle.machine_rules.specs.Actors.{Actors, cell_at}
+use Rattle.machine_rules.specs.Next.{next}
+use Rattle.orca_core.specs.Firsts.{HasFirst, is_free, is_of_detector, next_of_kind}
+use Rattle.orca_core.specs.Woken.{IsLowestWoken}
 use Rattle.work_board.specs.declared.answers.Committed.{Committed}
 use Rattle.work_board.specs.declared.answers.Look.{Look}
+use Rattle.work_board.specs.declared.answers.Look.TheVariants.{Actor, Detector, Others, Rest, Stop}
 use Rattle.work_board.specs.declared.answers.Refuse.{Refuse}
-use Rattle.book_hall.specs.Answers.{IsEntered, TellsWork}
-use Rattle.book_hall.specs.Causes.{IsRefusal, claim_cause, entry_cause, event_at}
+use Rattle.book_hall.specs.Causes.{IsRefusal, event_at}
+use Rattle.book_hall.specs.Claims.{is_claimed}
 use Rattle.seat_hall.specs.declared.item.Item.TheVariants.{Entered}
 use Rattle.seat_hall.specs.declared.taken.Taken.{Taken}
-use Rattle.seat_hall.specs.Log.{Logged, after, most_made, plain, state_in}
+use Rattle.seat_hall.specs.Log.{Logged, after, claim_cause, claims_in, entry_cause, most_made, state_in}
 
--- what there is to do
+-- ---- what there is to do
+
+-- no worker goes on
+abbrev pub is_over : Logged → Bool
+is_over l = l.stopped || length l.book == l.budget
+
+-- the actors on which no claim is out have no event
+abbrev pub NoneIsFree : Logged → Type 0
+NoneIsFree l = IsQuiet (next_of_kind (is_free (is_claimed (claims_in l))) []) (state_in l)
+
+-- nor has the detector
+abbrev pub NothingIsFree : Logged → Type 0
+NothingIsFree l = NoneIsFree l × IsQuiet (next_of_kind is_of_detector []) (state_in l)
+
+-- the answer to a look: the actor with the first event of those on which no claim is out; else the
+-- detector's first event; else that others are at work, if a claim is out
 abbrev pub Tells : Look → Logged → Type 0
-Tells answer l = TellsWork (plain l) answer
+Tells Stop l = is_over l ≡ true
+Tells (Actor a) l = (is_over l ≡ false)
+    × HasFirst (next_of_kind (is_free (is_claimed (claims_in l))) []) (state_in l) a
+Tells (Detector e) l = (is_over l ≡ false) × NoneIsFree l
+    × IsFirst (next_of_kind is_of_detector []) (state_in l) e
+Tells Others l = (is_over l ≡ false) × NothingIsFree l × (claims_in l ≢ [])
+Tells Rest l = (is_over l ≡ false) × NothingIsFree l × (claims_in l ≡ [])
+
+-- ---- claims and entries
 
 -- in this run: the actor's first event, its cell, and the length of the book
 pub record IsTaken (a : ℕ) (taken : Taken) (l : Logged) : Type 0 where
   pub program : taken.code.now ≡ l.program
   pub weight : taken.weight ≡ l.weight
+  pub trace : taken.trace ≡ l.trace
   pub event : event_at (state_in l) a ≡ Some taken.event
   pub cell : cell_at (state_in l).actors a ≡ Some (as_cell taken.cell)
   pub owner : taken.cell.heap.owner ≡ a
@@ -33,27 +62,34 @@ pub record IsTaken (a : ℕ) (taken : Taken) (l : Logged) : Type 0 where
 
 -- the claim is granted, and this is what it gives
 abbrev pub Grants : ℕ → Taken → Logged → Type 0
-Grants a taken l = (claim_cause (plain l) a ≡ None) × IsTaken a taken l
+Grants a taken l = (claim_cause l a ≡ None) × IsTaken a taken l
 
 -- the claim is refused, and never for want of memory
 abbrev pub RefusesClaim : ℕ → Refuse → Logged → Type 0
-RefusesClaim a refuse l = claim_cause (plain l) a ≡ Some refuse
+RefusesClaim a refuse l = claim_cause l a ≡ Some refuse
+
+-- the event became the last entry, and its place and whom it woke were answered
+pub record IsEntered (l : Logged) (e : Event) (done : Committed) (m : Logged) : Type 0 where
+  pub place : done.place ≡ length l.book
+  pub book : m.book ≡ l.book ++ e ∷ []
+  pub goes : next (state_in l) e ≡ Goes (state_in m)
+  pub woke : IsLowestWoken (state_in l).actors (state_in m).actors done.woke
 
 -- the event becomes the last entry of the one who asks: the pass of a claim, or nobody
 pub record Enters (asker : Option ℕ) (pass : ℕ) (e : Event) (done : Committed) (l : Logged) : Type 0 where
-  pub may : entry_cause (plain l) asker e ≡ None
-  pub entered : IsEntered (plain l) e done (plain (after l (Entered pass e)))
+  pub may : entry_cause l asker e ≡ None
+  pub entered : IsEntered l e done (after l (Entered pass e))
 
 abbrev pub RefusesEntry : Option ℕ → Event → Refuse → Logged → Type 0
-RefusesEntry asker e refuse l = IsRefusal (entry_cause (plain l) asker e) refuse
+RefusesEntry asker e refuse l = IsRefusal (entry_cause l asker e) refuse
 
 -- this was found of the cell of the event's actor
-pub record IsFoundOf (weight : ℕ) (program : Program) (actors : Actors) (e : Event) (found : Found)
-    : Type 0 where
+pub record IsFoundOf (trace : Trace) (weight : ℕ) (program : Program) (actors : Actors) (e : Event)
+    (found : Found) : Type 0 where
   pub cell : Cell
   pub its : actor_of e ≡ Some cell.heap.owner
   pub there : cell_at actors cell.heap.owner ≡ Some (as_cell cell)
-  pub is : IsFound Deep weight program cell found
+  pub is : IsFound trace weight program cell found
 
 -- a pass is split off, with this number
 abbrev pub GivesNumber : ℕ → Logged → Type 0

@@ -1,15 +1,15 @@
 -- What is known of a hall at its end.
 use Rattle.std.specs.Prelude.{ℕ, ◌≡◌, ◌≢◌, ◌<◌, ◌≤◌, List, [], length, Some}
 use mathlib.Core.List.{IsPrefix}
-use Rattle.orca_names.specs.declared.trace.Trace.TheVariants.{Deep}
 use Rattle.run_book.specs.Books.{BookValue}
 use Rattle.orca_core.specs.Laws.{IsRunOf}
 use Rattle.orca_core.specs.Machine.{Machine, NoneIsAway, options_of}
+use Rattle.turn_log.specs.Ends.{IsStillOpen}
 use Rattle.turn_log.specs.Seats.{knows}
 use Rattle.seat_hall.specs.declared.closing.Closing.{Closing}
 use Rattle.seat_hall.specs.declared.closing.Closing.TheVariants.{Whole, Turning, Lent}
 use Rattle.seat_hall.specs.declared.item.Item.{Item}
-use Rattle.seat_hall.specs.Fair.{start_of}
+use Rattle.seat_hall.specs.Fair.{Calm, Fair, live, start_of}
 use Rattle.seat_hall.specs.Log.{Legal, Logged, claim_in, listed, state_in}
 use Rattle.seat_hall.specs.Passes.{Token, hall, seen}
 
@@ -28,10 +28,10 @@ pub record AreParts (l : Logged) (orca : Machine) (book : BookValue) : Type 0 wh
   pub run : IsRunOf orca book.entries
   pub home : NoneIsAway orca
   pub program : orca.state.program ≡ l.program
-  pub options : orca.state.options ≡ options_of l.weight Deep
+  pub options : orca.state.options ≡ options_of l.weight l.trace
   pub entries : book.entries ≡ l.book
   pub weight : book.weight ≡ l.weight
-  pub trace : book.trace ≡ Deep
+  pub trace : book.trace ≡ l.trace
   pub within : length book.entries ≤ l.budget
 
 -- the last hall's parts, where no claim is out; it is of the pass's run
@@ -42,6 +42,7 @@ pub record IsWhole (t : Token) (orca : Machine) (book : BookValue) : Type 0 wher
   pub parts : AreParts last orca book
   pub program : last.program ≡ (knows t).client.program
   pub weight : last.weight ≡ (knows t).client.weight
+  pub trace : last.trace ≡ (knows t).client.trace
   pub budget : last.budget ≡ (knows t).client.budget
 
 -- the pass `holder` has the lowest actor on which a claim is out
@@ -60,8 +61,12 @@ Leaves l (Whole orca book) = (listed 0 l.claims ≡ []) × AreParts l orca book
 Leaves l (Turning ticket serving) = ⊥
 Leaves l (Lent holder actor) = IsLowestClaim holder actor l
 
--- how the hall ends: whole; or, where the two words differ, with a turn out; or with a claim out
+-- some passes have a ticket, from the one that is served to the one that would be drawn next
+abbrev pub IsTurning : Token → ℕ → ℕ → Type 0
+IsTurning t ticket serving = (ticket ≢ serving) × IsStillOpen Fair live Calm (knows t) ticket serving
+
+-- how the hall ends: whole; or with a turn out; or with a claim out
 abbrev pub Closes : Token → Closing → Type 0
 Closes t (Whole orca book) = IsWhole t orca book
-Closes t (Turning ticket serving) = ticket ≢ serving
+Closes t (Turning ticket serving) = IsTurning t ticket serving
 Closes t (Lent holder actor) = IsLent t holder actor

@@ -2,6 +2,8 @@
 use Rattle.std.specs.Prelude.{ℕ, ◌≡◌, ◌==◌, ◌+◌, ◌<◌, ◌≤◌, min, List, [], ◌∷◌, ◌++◌, count_by, drop, length, sum_by, take}
 use mathlib.Core.Option.{some}
 use lib.ListN.{get_elem?}
+use Rattle.orca_names.specs.declared.trace.Trace.{Trace}
+use Rattle.orca_names.specs.declared.trace.Trace.TheVariants.{Deep}
 use Rattle.behaviour_code.specs.declared.code.Program.{Program}
 use Rattle.turn_log.specs.declared.rule.Known.{Known}
 use Rattle.seat_hall.specs.declared.item.Item.{Item}
@@ -16,18 +18,28 @@ Knower = Known Item PassView
 
 -- ---- what a pass knows beside the log
 
-abbrev pub first_view : Program → ℕ → ℕ → PassView
-first_view program weight budget =
-    record { program = program; weight = weight; budget = budget; numbers = 0 ∷ [] }
+abbrev pub first_view : Program → ℕ → Trace → ℕ → PassView
+first_view program weight trace budget = record {
+  program = program;
+  weight = weight;
+  trace = trace;
+  budget = budget;
+  numbers = 0 ∷ [];
+}
 
 -- a pass that another took in
 abbrev pub spent_view : PassView
-spent_view =
-    record { program = record { kinds = []; names = [] }; weight = 0; budget = 0; numbers = [] }
+spent_view = record {
+  program = record { kinds = []; names = [] };
+  weight = 0;
+  trace = Deep;
+  budget = 0;
+  numbers = [];
+}
 
 -- the hall of a log, as the pass reckons it
 abbrev pub start_of : PassView → Logged
-start_of v = begins v.program v.weight v.budget
+start_of v = begins v.program v.weight v.trace v.budget
 
 abbrev pub hall_of : PassView → List Item → Logged
 hall_of v log = hall_from (start_of v) log
@@ -69,9 +81,11 @@ has_number n k = count_by (λ m. m == n) k.client.numbers
 -- ---- the rule
 
 -- a pass that has a number is of this run, and the log has no item by its numbers that it has not seen
-pub record IsFair (program : Program) (weight budget : ℕ) (log : List Item) (k : Knower) : Type 0 where
+pub record IsFair (program : Program) (weight : ℕ) (trace : Trace) (budget : ℕ) (log : List Item)
+    (k : Knower) : Type 0 where
   pub run : 0 < numbers_of k →
-      (k.client.program ≡ program) × (k.client.weight ≡ weight) × (k.client.budget ≡ budget)
+      (k.client.program ≡ program) × (k.client.weight ≡ weight) × (k.client.trace ≡ trace)
+      × (k.client.budget ≡ budget)
   pub own : (n : ℕ) → 0 < has_number n k → items_by n log ≡ items_by n k.seen
 
 -- the hall under the turn is that of the log, each item of which may follow; numbers differ, and each
@@ -79,11 +93,12 @@ pub record IsFair (program : Program) (weight budget : ℕ) (log : List Item) (k
 pub record Fair (log : List Item) (hall : HallView) (passes : List Knower) : Type 0 where
   pub program : Program
   pub weight : ℕ
+  pub trace : Trace
   pub budget : ℕ
   pub heavy : 0 < weight
-  pub shows : hall.logged ≡ hall_from (begins program weight budget) log
-  pub legal : Legal (begins program weight budget) log
-  pub each : (id : ℕ) (k : Knower) → get_elem? passes id ≡ some k → IsFair program weight budget log k
+  pub shows : hall.logged ≡ hall_from (begins program weight trace budget) log
+  pub legal : Legal (begins program weight trace budget) log
+  pub each : (id : ℕ) (k : Knower) → get_elem? passes id ≡ some k → IsFair program weight trace budget log k
   pub once : (n : ℕ) → sum_by (has_number n) passes ≤ 1
   pub given : (n : ℕ) → hall.logged.made < n → sum_by (has_number n) passes ≡ 0
   pub few : sum_by numbers_of passes ≤ hall.logged.made + 1

@@ -1,7 +1,6 @@
 -- The hall as it lies under the turn, without the cells that are out.
 use Rattle.std.specs.Prelude.{ℕ, ◌≡◌, ◌≢◌, ◌≤◌, is_some, List, length, count_by, Option, Some, None}
 use Rattle.orca_names.specs.declared.limits.TheConstants.{BOOK_LIMIT}
-use Rattle.orca_names.specs.declared.trace.Trace.TheVariants.{Deep}
 use Rattle.behaviour_code.specs.declared.code.Program.{Program}
 use Rattle.machine_rules.specs.Run.{IsRun}
 use Rattle.machine_rules.specs.State.{State, first_state}
@@ -31,11 +30,10 @@ ClaimedAreBusy s claims = (a pass : ℕ) → claim_in claims a ≡ Some pass →
 pub record IsKept (program : Program) (budget : ℕ) (orca : Machine) (book : BookValue)
     (claims : List (Option ℕ)) (lent : ℕ) : Type 0 where
   pub state_is : orca.state
-      ≡ state_after (first_state program (options_of book.weight Deep)) book.entries
-  pub run : IsRun program (options_of book.weight Deep) book.entries orca.state
+      ≡ state_after (first_state program (options_of book.weight book.trace)) book.entries
+  pub run : IsRun program (options_of book.weight book.trace) book.entries orca.state
   pub long : length book.entries ≡ orca.steps
   pub weight : IsWeight book.weight
-  pub deep : book.trace ≡ Deep
   pub within : length book.entries ≤ budget
   pub most : budget ≤ BOOK_LIMIT
   pub away : (a : ℕ) → is_out orca.out a ≡ is_some (claim_in claims a)

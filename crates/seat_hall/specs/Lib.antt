@@ -5,4 +5,5 @@ pub mod Fair
 pub mod Passes
 pub mod Closes
 pub mod Stands
+pub mod Plain
 pub mod Boards

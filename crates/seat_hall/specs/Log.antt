@@ -1,21 +1,26 @@
 -- The hall as a function of its log.
 use Rattle.std.specs.Prelude.{ℕ, ◌≡◌, ◌==◌, ◌+◌, ◌≤◌, Bool, true, false, nat_lt, if◌then◌else◌, List, [], ◌∷◌, ◌++◌, filter, length, slice_index_or, slice_set, Option, Some, None, ⊤}
-use Rattle.std.specs.Option.{option_map_or}
+use Rattle.std.specs.Option.{option_map_or, option_or}
+use Rattle.orca_names.specs.declared.trace.Trace.{Trace}
 use Rattle.behaviour_code.specs.declared.code.Program.{Program}
 use Rattle.event_rule.specs.Events.{actor_of}
 use Rattle.event_rule.specs.declared.event.Event.{Event}
-use Rattle.machine_rules.specs.State.{State}
-use Rattle.book_hall.specs.Causes.{claim_cause, entry_cause}
-use Rattle.book_hall.specs.Halls.{HallValue, state_of}
+use Rattle.machine_rules.specs.Next.{next}
+use Rattle.machine_rules.specs.State.{State, first_state}
+use Rattle.orca_core.specs.Machine.{options_of}
+use Rattle.work_board.specs.declared.answers.Refuse.{Refuse}
+use Rattle.book_hall.specs.Causes.{absent_cause, actor_cause, busy_cause, event_at, full_cause, idle_cause, spent_cause, unready_cause}
+use Rattle.book_hall.specs.Halls.{state_after}
 use Rattle.book_hall.specs.declared.claims.Claim.{Claim}
 use Rattle.seat_hall.specs.declared.item.Item.{Item}
 use Rattle.seat_hall.specs.declared.item.Item.TheVariants.{Claimed, Entered, Ended, Stopped, Made}
 
--- the hall after a log: the run's program, weight and budget; its book; for each actor that was made
--- the pass whose claim on it is out; whether a stop was asked; and how many passes were split off
+-- the hall after a log: the run's program, weight, tracing and budget; its book; for each actor that was
+-- made the pass whose claim on it is out; whether a stop was asked; and how many passes were split off
 pub record Logged : Type 0 where
   pub program : Program
   pub weight : ℕ
+  pub trace : Trace
   pub budget : ℕ
   pub book : List Event
   pub claims : List (Option ℕ)
@@ -32,28 +37,36 @@ listed a [] = []
 listed a (None ∷ claims) = listed (a + 1) claims
 listed a (Some pass ∷ claims) = record { pass = pass; actor = a } ∷ listed (a + 1) claims
 
--- the plain hall of the same book and claims, whose answers are those of this hall
-abbrev pub plain : Logged → HallValue
-plain l = record {
-  program = l.program;
-  weight = l.weight;
-  budget = l.budget;
-  book = l.book;
-  claims = listed 0 l.claims;
-  stopped = l.stopped;
-}
+abbrev pub claims_in : Logged → List Claim
+claims_in l = listed 0 l.claims
 
 -- the state of the machine: the one to which the book leads
 abbrev pub state_in : Logged → State
-state_in l = state_of (plain l)
+state_in l = state_after (first_state l.program (options_of l.weight l.trace)) l.book
+
+-- ---- why a call is refused: the first cause that is there, in this order
+
+-- why the event does not become an entry of the one who asks
+abbrev pub entry_cause : Logged → Option ℕ → Event → Option Refuse
+entry_cause l asker e =
+    option_or (actor_cause (state_in l) (claims_in l) asker e)
+    (option_or (unready_cause (next (state_in l) e))
+    (option_or (spent_cause (length l.book) l.budget) (full_cause (next (state_in l) e) e)))
+
+-- why the claim is refused
+abbrev pub claim_cause : Logged → ℕ → Option Refuse
+claim_cause l a =
+    option_or (absent_cause (state_in l) a)
+    (option_or (busy_cause (claims_in l) None a) (idle_cause (event_at (state_in l) a)))
 
 -- ---- items
 
 -- before any item: one actor, nothing claimed
-abbrev pub begins : Program → ℕ → ℕ → Logged
-begins program weight budget = record {
+abbrev pub begins : Program → ℕ → Trace → ℕ → Logged
+begins program weight trace budget = record {
   program = program;
   weight = weight;
+  trace = trace;
   budget = budget;
   book = [];
   claims = None ∷ [];
@@ -110,8 +123,8 @@ most_made = 65535
 -- out; a claim that ends is the pass's own; and a new pass has the next number. Each pass but the first
 -- was split off before
 abbrev pub MayFollow : Logged → Item → Type 0
-MayFollow l (Claimed pass actor) = (pass ≤ l.made) × (claim_cause (plain l) actor ≡ None)
-MayFollow l (Entered pass event) = (pass ≤ l.made) × (entry_cause (plain l) (Some pass) event ≡ None)
+MayFollow l (Claimed pass actor) = (pass ≤ l.made) × (claim_cause l actor ≡ None)
+MayFollow l (Entered pass event) = (pass ≤ l.made) × (entry_cause l (Some pass) event ≡ None)
 MayFollow l (Ended pass actor) = (pass ≤ l.made) × (claim_in l.claims actor ≡ Some pass)
 MayFollow l (Stopped pass) = pass ≤ l.made
 MayFollow l (Made pass) = (pass ≡ l.made + 1) × (pass ≤ most_made)

@@ -89,6 +89,7 @@ pub record MayCommit (pass : ℕ) (t : Token) (task : SeatTask) : Type 0 where
   pub has : HasCell pass task.taken.cell.heap.owner task.taken.cell t
   pub program : task.taken.code.now ≡ (knows t).client.program
   pub weight : task.taken.weight ≡ (knows t).client.weight
+  pub trace : task.taken.trace ≡ (knows t).client.trace
 
 -- it keeps its cells
 abbrev pub KeepsCells : ℕ → Token → Token → Type 0

@@ -2,7 +2,6 @@
 
 ghost use Rattle.std.specs.Prelude.{◌≡◌, ℕ, ◌+◌, ◌-◌, ◌≤◌, ◌||◌, ◌∷◌, [], false, true, IfErr, IfOk, IsSomeAnd, None, OnErr, OnOk, Some, ⊤};
 ghost use Rattle.orca_names.specs.declared.limits.TheConstants.{BOOK_LIMIT};
-ghost use Rattle.orca_names.specs.declared.trace.Trace.TheVariants.{Deep};
 ghost use Rattle.run_book.specs.Books.{IsWeight};
 ghost use Rattle.event_rule.specs.Events.{actor_of};
 ghost use Rattle.actor_cell.specs.Founds.{IsFound};
@@ -23,7 +22,7 @@ use crate::seats::{HallSeat, Passes, close, join, split};
 use crate::task::SeatTask;
 use behaviour_check::Checked;
 use event_rule::Event;
-use orca_names::{ActorName, NoMemory};
+use orca_names::{ActorName, NoMemory, Trace};
 use std::alloc::Global;
 use std::marker::Model;
 use std::sync::Wait;
@@ -46,7 +45,7 @@ impl<'a> Model for SeatHall<'a> {
 
 impl<'a> SeatHall<'a> {
     /// A run before its first event, of at most `budget` entries, with the seat of pass 0. An increment
-    /// is by `weight`. Letters are traced deep.
+    /// is by `weight`, and `trace` says how far letters are traced.
     ///
     /// # Errors
     /// `NoMemory` where memory was refused.
@@ -55,14 +54,15 @@ impl<'a> SeatHall<'a> {
         code: &'a Checked,
         budget: u64,
         weight: u32,
+        trace: Trace,
     ) -> Result<(SeatHall<'a>, HallSeat<'a>), NoMemory>
         requires most { budget ≤ BOOK_LIMIT }
         requires weight { IsWeight weight }
         ensures seat { IfOk result (λ made. (made.1.number ≡ 0) × IsIdlePass made.0 0 made.1.token) }
         ensures knows { IfOk result
-            (λ made. knows made.1.token ≡ newcomer (first_view code.now weight budget)) }
+            (λ made. knows made.1.token ≡ newcomer (first_view code.now weight trace budget)) }
     {
-        let (log, token) = begin(alloc, code, budget, weight)?;
+        let (log, token) = begin(alloc, code, budget, weight, trace)?;
         Ok((SeatHall { log }, HallSeat { token, number: 0 }))
     }
 
@@ -210,9 +210,9 @@ impl<'h, 'a> Board for SeatPass<'h, 'a> {
     ghost tried = { λ task. task.tried };
 
     ghost found = { λ task. let taken = task.taken in
-        IsSomeAnd task.found (IsFound Deep taken.weight taken.code.now taken.cell) };
+        IsSomeAnd task.found (IsFound taken.trace taken.weight taken.code.now taken.cell) };
 
-    /// What there is to do, as the plain hall tells it.
+    /// What there is to do.
     fn look<R: Wait>(&mut self, rt: &R) -> Look
         ensures ended { self.new.ended ≡ is_end result }
         ensures spoilt { self.new.spoilt ≡ self.old.spoilt }

@@ -5,7 +5,7 @@ ghost use Rattle.book_hall.specs.Causes.{busy_cause, event_at};
 ghost use Rattle.seat_hall.specs.declared.item.Item.TheVariants.{Claimed, Ended};
 ghost use Rattle.seat_hall.specs.Answers.{Grants, IsTaken, RefusesClaim};
 ghost use Rattle.seat_hall.specs.Halls.{says};
-ghost use Rattle.seat_hall.specs.Log.{after, claim_in, plain, state_in};
+ghost use Rattle.seat_hall.specs.Log.{after, claim_in, claims_in, state_in};
 ghost use Rattle.seat_hall.specs.Passes.{HasIn};
 
 use crate::hall::Hall;
@@ -27,7 +27,7 @@ fn claim_in(claims: &[Option<u32>], a: ActorName) -> Option<u32>
 impl<'a> Hall<'a> {
     /// A claim on the actor is out.
     pub(crate) fn busy(&self, a: ActorName) -> Option<Refuse>
-        ensures { result ≡ busy_cause (plain self.now.logged).claims None a }
+        ensures { result ≡ busy_cause (claims_in self.now.logged) None a }
     {
         match claim_in(&self.claims, a) {
             Some(holder) => Some(Refuse::Busy { holder }),
@@ -81,6 +81,7 @@ impl<'a> Hall<'a> {
         Taken {
             code: self.code,
             weight: self.book.weight(),
+            trace: self.book.trace(),
             event,
             cell,
             at: self.book.len(),

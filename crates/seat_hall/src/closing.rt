@@ -9,8 +9,8 @@ use run_book::Book;
 pub enum Closing<'a> {
     /// No turn and no claim is out: the machine, and the book of its run.
     Whole(Orca<'a>, Book),
-    /// A turn is out: the words of the next ticket and of the ticket that is served differ. A call
-    /// never returned, and has the hall.
+    /// A turn is out: a call never returned, and has the hall. At the end passes had the tickets from
+    /// `serving`, the one that was served, up to `ticket`, the one that would have been drawn next.
     Turning { ticket: u64, serving: u64 },
     /// A claim is out: the pass `holder` has the cell of this actor, the lowest such.
     Lent { holder: u32, actor: ActorName },

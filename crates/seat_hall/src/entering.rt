@@ -2,7 +2,6 @@
 
 ghost use Rattle.std.specs.Prelude.{◌≡◌, ◌<◌, false, IfErr, IfOk, None, OnErr, OnOk, Some, length, vec_capacity, vec_len};
 ghost use Rattle.std.specs.Option.{ForSome, option_or};
-ghost use Rattle.orca_names.specs.declared.trace.Trace.TheVariants.{Deep};
 ghost use Rattle.machine_rules.specs.Next.{next};
 ghost use Rattle.actor_cell.specs.Founds.{IsFound};
 ghost use Rattle.orca_core.specs.Away.{is_out_for};
@@ -11,7 +10,7 @@ ghost use Rattle.book_hall.specs.Causes.{actor_cause, spent_cause, unready_cause
 ghost use Rattle.seat_hall.specs.declared.item.Item.TheVariants.{Ended, Entered};
 ghost use Rattle.seat_hall.specs.Answers.{Enters, IsFoundOf, RefusesEntry};
 ghost use Rattle.seat_hall.specs.Halls.{says};
-ghost use Rattle.seat_hall.specs.Log.{after, grown, plain, state_in};
+ghost use Rattle.seat_hall.specs.Log.{after, claims_in, grown, state_in};
 ghost use Rattle.seat_hall.specs.Passes.{HasIn};
 
 use crate::hall::Hall;
@@ -39,9 +38,9 @@ fn grow(claims: &mut Vec<Option<u32>>, made: u64)
 // What was found is of the cell that is at home: the machine may do it.
 fn may_install(orca: &Orca<'_>, e: &Event, found: &Option<Found>)
     requires home { is_out_for orca.now.out e.now ≡ false }
-    requires deep { orca.now.state.options.trace ≡ Deep }
     requires found { let s = orca.now.state in
-        ForSome found.now (IsFoundOf s.options.weight s.program s.actors e.now) }
+        ForSome found.now
+        (IsFoundOf s.options.trace s.options.weight s.program s.actors e.now) }
     ensures { ForSome found.now (λ known. IsFoundIn e.now known orca.now) }
 {
     if let Some(a) = actor_of(e) {
@@ -53,7 +52,7 @@ impl<'a> Hall<'a> {
     // The event's actor, if it has one, is not there, or a claim on it is out.
     fn actor_refuses(&self, e: &Event) -> Option<Refuse>
         ensures { let l = self.now.logged in
-            result ≡ actor_cause (state_in l) (plain l).claims None e.now }
+            result ≡ actor_cause (state_in l) (claims_in l) None e.now }
     {
         let a = actor_of(e)?;
         match absent(&self.orca, a) {
@@ -65,7 +64,7 @@ impl<'a> Hall<'a> {
     // Why the event does not become an entry, before it is tried.
     fn early_refusal(&self, e: &Event) -> Option<Refuse>
         ensures { let l = self.now.logged in
-            result ≡ option_or (actor_cause (state_in l) (plain l).claims None e.now)
+            result ≡ option_or (actor_cause (state_in l) (claims_in l) None e.now)
             (option_or (unready_cause (next (state_in l) e.now)) (spent_cause (length l.book) l.budget)) }
     {
         if let Some(refuse) = self.actor_refuses(e) {
@@ -94,7 +93,7 @@ impl<'a> Hall<'a> {
         found: Option<Found>,
     ) -> Result<Committed, Refuse>
         requires found { let l = self.old.logged in
-            ForSome found (IsFoundOf l.weight l.program (state_in l).actors e) }
+            ForSome found (IsFoundOf l.trace l.weight l.program (state_in l).actors e) }
         ensures ok { IfOk result (λ done. Enters None pass e done self.old.logged) }
         ensures entered { OnOk result
             (self.new ≡ says (after self.old.logged (Entered pass e)) (Entered pass e)) }
@@ -128,6 +127,7 @@ impl<'a> Hall<'a> {
         requires has { HasIn pass task.taken.cell.heap.owner task.taken.cell self.old.logged }
         requires program { task.taken.code.now ≡ self.old.logged.program }
         requires weight { task.taken.weight ≡ self.old.logged.weight }
+        requires trace { task.taken.trace ≡ self.old.logged.trace }
         ensures ok { IfOk result (λ done. Enters (Some pass) pass task.entry.taken.event done self.old.logged) }
         ensures entered { let i = Entered pass task.entry.taken.event in
             OnOk result (self.new ≡ says (after self.old.logged i) i) }

@@ -45,6 +45,7 @@ impl<'a> Model for Hall<'a> {
       logged = record {
         program = h.code.now;
         weight = h.book.weight;
+        trace = h.book.trace;
         budget = h.budget;
         book = h.book.entries;
         claims = h.claims.items;
@@ -84,7 +85,8 @@ fn lowest_in(claims: &[Option<u32>]) -> Option<(u32, ActorName)>
 }
 
 impl<'a> Hall<'a> {
-    /// A run before its first event, of at most `budget` entries. An increment is by `weight`.
+    /// A run before its first event, of at most `budget` entries. An increment is by `weight`, and
+    /// `trace` says how far letters are traced.
     ///
     /// # Errors
     /// `NoMemory` where memory was refused.
@@ -93,20 +95,21 @@ impl<'a> Hall<'a> {
         code: &'a Checked,
         budget: u64,
         weight: u32,
+        trace: Trace,
     ) -> Result<Hall<'a>, NoMemory>
         requires most { budget ≤ BOOK_LIMIT }
         requires weight { IsWeight weight }
-        ensures { IfOk result (λ hall. hall.logged ≡ begins code.now weight budget) }
+        ensures { IfOk result (λ hall. hall.logged ≡ begins code.now weight trace budget) }
     {
         // The machine last: what owns it is checked on each way that drops it.
         let mut claims = Vec::new(alloc);
         claims.push(None)?;
-        let orca = Orca::start(alloc, code, weight, Trace::Deep)?;
+        let orca = Orca::start(alloc, code, weight, trace)?;
         Ok(Hall {
             code,
             budget,
             orca,
-            book: Book::new(alloc, weight, Trace::Deep),
+            book: Book::new(alloc, weight, trace),
             claims,
             lent: 0,
             stopped: false,
@@ -141,7 +144,9 @@ impl<'a> Hall<'a> {
         self.made
     }
 
-    /// What there is to do, as the plain hall tells it.
+    /// What there is to do: the first actor, in the one-worker order, that has an event and on which no
+    /// claim is out; else the detector's first event; else others are at work, if a claim is out, or
+    /// nothing is left to do. A stop where one was asked, or where the book is as long as the budget.
     pub(crate) fn look(&self) -> Look
         ensures { Tells result self.now.logged }
     {

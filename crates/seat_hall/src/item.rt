@@ -2,7 +2,7 @@
 
 use behaviour_code::Program;
 use event_rule::Event;
-use orca_names::ActorName;
+use orca_names::{ActorName, Trace};
 use std::collections::LinkedList;
 
 /// What a call of a pass did to the hall: an item of the hall's log. Other calls add none.
@@ -26,6 +26,8 @@ pub struct PassView {
     pub program: Program,
     /// The weight of an increment.
     pub weight: u64,
+    /// How far letters are traced.
+    pub trace: Trace,
     /// The most entries that the book may have.
     pub budget: u64,
     /// Its own number, and behind it, under the turn alone, the number to give to a pass that is split

@@ -9,7 +9,7 @@ ghost use Rattle.seat_hall.specs.Halls.{HallView};
 ghost use Rattle.seat_hall.specs.Passes.{Calls, IsAtHall, IsPass, KeepsCells, KeepsOthers, MayCommit, StandsAt, Stays, out};
 ghost use Rattle.seat_hall.specs.declared.item.Item.TheVariants.{Claimed, Ended, Entered, Stopped};
 
-use crate::hall::Hall;
+use crate::boxed::BoxedHall;
 use crate::rule::{HallLog, PassSeat};
 use crate::task::SeatTask;
 use event_rule::Event;
@@ -24,7 +24,7 @@ pub(crate) fn turn<'a, R: Wait>(
     log: &HallLog<'a>,
     seat: &mut PassSeat<'a>,
     number: u32,
-) -> Hall<'a>
+) -> BoxedHall<'a>
     requires own { seat.old.table_id ≡ log.now }
     requires pass { IsPass number seat.old }
     ensures same { IsSame seat.old seat.new }
@@ -35,7 +35,12 @@ pub(crate) fn turn<'a, R: Wait>(
 }
 
 // Puts the hall back as it was, and passes the turn on.
-pub(crate) fn give_back<'a>(log: &HallLog<'a>, seat: &mut PassSeat<'a>, number: u32, hall: Hall<'a>)
+pub(crate) fn give_back<'a>(
+    log: &HallLog<'a>,
+    seat: &mut PassSeat<'a>,
+    number: u32,
+    hall: BoxedHall<'a>,
+)
     requires own { seat.old.table_id ≡ log.now }
     requires turn { IsAtTurn hall seat.old × Has None seat.old }
     requires number { (knows seat.old).client.numbers ≡ number ∷ [] }
@@ -52,7 +57,7 @@ pub(crate) fn write_back<'a>(
     log: &HallLog<'a>,
     seat: &mut PassSeat<'a>,
     number: u32,
-    hall: Hall<'a>,
+    hall: BoxedHall<'a>,
 )
     requires own { seat.old.table_id ≡ log.now }
     requires turn { (before : HallView) × IsAtTurn before seat.old × Has None seat.old }
@@ -82,7 +87,7 @@ pub(crate) fn look<'a, R: Wait>(
     ensures call { Calls number seat.old seat.new [] (Tells result) }
 {
     let hall = turn(rt, log, seat, number);
-    let answer = hall.look();
+    let answer = hall.hall.look();
     give_back(log, seat, number, hall);
     answer
 }
@@ -111,7 +116,7 @@ pub(crate) fn claim<'a, R: Wait>(
     ensures refused { IfErr result (λ refuse. Calls number seat.old seat.new [] (RefusesClaim a refuse)) }
 {
     let mut hall = turn(rt, log, seat, number);
-    match hall.claim(number, a) {
+    match hall.hall.claim(number, a) {
         Ok(taken) => {
             write_back(log, seat, number, hall);
             Ok(SeatTask::of(taken))
@@ -150,7 +155,7 @@ pub(crate) fn commit<'a, R: Wait>(
         (RefusesEntry (Some number) task.entry.taken.event refuse)) }
 {
     let mut hall = turn(rt, log, seat, number);
-    let answer = hall.commit(alloc, number, task);
+    let answer = hall.hall.commit(alloc, number, task);
     write_back(log, seat, number, hall);
     answer
 }
@@ -179,7 +184,7 @@ pub(crate) fn direct<'a, R: Wait>(
         Calls number seat.old seat.new [] (RefusesEntry None e refuse)) }
 {
     let mut hall = turn(rt, log, seat, number);
-    match hall.enter(alloc, number, e, None) {
+    match hall.hall.enter(alloc, number, e, None) {
         Ok(done) => {
             write_back(log, seat, number, hall);
             Ok(done)
@@ -201,6 +206,6 @@ pub(crate) fn ask_stop<'a, R: Wait>(rt: &R, log: &HallLog<'a>, seat: &mut PassSe
     ensures call { Calls number seat.old seat.new (Stopped number ∷ []) (λ _. ⊤) }
 {
     let mut hall = turn(rt, log, seat, number);
-    hall.ask_stop(number);
+    hall.hall.ask_stop(number);
     write_back(log, seat, number, hall);
 }

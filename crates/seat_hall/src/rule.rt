@@ -8,23 +8,24 @@ ghost use Rattle.turn_log.specs.Seats.{knows};
 ghost use Rattle.seat_hall.specs.Fair.{first_view};
 ghost use Rattle.seat_hall.specs.Passes.{IsIdlePass};
 
+use crate::boxed::BoxedHall;
 use crate::hall::Hall;
 use crate::item::{Item, PassView};
 use atomic_table::{Join, Split};
 use behaviour_check::Checked;
-use orca_names::NoMemory;
+use orca_names::{NoMemory, Trace};
 use std::alloc::Global;
 use turn_log::{LogRule, LogSeat, TurnLog};
 
 /// The hall is that of the log, and what passes know is fair.
 pub struct Fairly;
 
-impl<'a> LogRule<Hall<'a>, Item, PassView> for Fairly {
+impl<'a> LogRule<BoxedHall<'a>, Item, PassView> for Fairly {
     ghost use Rattle.seat_hall.specs.Fair.{Calm, Fair, Shown, after_item, first_view, live};
 
     ghost holds = { Fair };
 
-    ghost first = { λ h. first_view h.logged.program h.logged.weight h.logged.budget };
+    ghost first = { λ h. let l = h.logged in first_view l.program l.weight l.trace l.budget };
 
     ghost item = { λ h. h.last };
 
@@ -60,10 +61,10 @@ impl Join<PassView> for Absorbs {
 }
 
 /// The hall under a turn, with its log.
-pub type HallLog<'a> = TurnLog<Hall<'a>, Item, PassView, Fairly>;
+pub type HallLog<'a> = TurnLog<BoxedHall<'a>, Item, PassView, Fairly>;
 
 /// The token of a pass. It has no bytes.
-pub type PassSeat<'a> = LogSeat<Hall<'a>, Item, PassView>;
+pub type PassSeat<'a> = LogSeat<BoxedHall<'a>, Item, PassView>;
 
 /// A hall before its first event, and the token of pass 0.
 ///
@@ -74,12 +75,17 @@ pub(crate) fn begin<'a>(
     code: &'a Checked,
     budget: u64,
     weight: u32,
+    trace: Trace,
 ) -> Result<(HallLog<'a>, PassSeat<'a>), NoMemory>
     requires most { budget ≤ BOOK_LIMIT }
     requires weight { IsWeight weight }
     ensures pass { IfOk result (λ made. IsIdlePass made.0 0 made.1) }
-    ensures knows { IfOk result (λ made. knows made.1 ≡ newcomer (first_view code.now weight budget)) }
+    ensures knows { IfOk result
+        (λ made. knows made.1 ≡ newcomer (first_view code.now weight trace budget)) }
 {
-    let hall = Hall::start(alloc, code, budget, weight)?;
-    Ok(TurnLog::new(alloc, hall)?)
+    let hall = Hall::start(alloc, code, budget, weight, trace)?;
+    let Ok(hall) = Box::new(alloc, hall) else {
+        return Err(NoMemory);
+    };
+    Ok(TurnLog::new(alloc, BoxedHall { hall })?)
 }

@@ -10,8 +10,8 @@ ghost use Rattle.seat_hall.specs.Fair.{Follows, after_item, gets_other, keeps_ow
 ghost use Rattle.seat_hall.specs.Halls.{HallView};
 ghost use Rattle.seat_hall.specs.Passes.{Calls, IsIdlePass, IsPass, KeepsCells, SplitsOff, Stays, out, seen};
 
+use crate::boxed::BoxedHall;
 use crate::closing::Closing;
-use crate::hall::Hall;
 use crate::pass::{give_back, turn};
 use crate::rule::{Absorbs, HallLog, Halves, PassSeat};
 use std::sync::Wait;
@@ -39,7 +39,7 @@ fn write_made<'a>(
     seat: &mut PassSeat<'a>,
     number: u32,
     next: u32,
-    hall: Hall<'a>,
+    hall: BoxedHall<'a>,
 )
     requires own { seat.old.table_id ≡ log.now }
     requires turn { (before : HallView) × IsAtTurn before seat.old × Has None seat.old }
@@ -87,11 +87,11 @@ pub(crate) fn split<'a, R: Wait>(
     ensures passes { OnErr result (Calls number seat.old seat.new [] AllAreGiven) }
 {
     let mut hall = turn(rt, log, seat, number);
-    if hall.made() >= MOST_PASSES {
+    if hall.hall.made() >= MOST_PASSES {
         give_back(log, seat, number, hall);
         return Err(Passes);
     }
-    let next = hall.give_number();
+    let next = hall.hall.give_number();
     write_made(log, seat, number, next, hall);
     Ok(HallSeat {
         token: part(log, seat, number, next),
@@ -136,13 +136,13 @@ pub(crate) fn close<'a>(log: HallLog<'a>, seat: PassSeat<'a>, number: u32) -> Cl
 }
 
 // The last hall is whole, or the lowest claim that is out is told.
-fn leave(hall: Hall<'_>) -> Closing<'_>
+fn leave(hall: BoxedHall<'_>) -> Closing<'_>
     ensures { Leaves hall.entry.logged result }
 {
-    match hall.lowest_claim() {
+    match hall.hall.lowest_claim() {
         Some((holder, actor)) => Closing::Lent { holder, actor },
         None => {
-            let (orca, book) = hall.into_parts();
+            let (orca, book) = Box::into_inner(hall.hall).into_parts();
             Closing::Whole(orca, book)
         }
     }

@@ -2,7 +2,6 @@
 
 ghost use Rattle.std.specs.Prelude.{◌≡◌, ◌+◌, ◌<◌, ◌^◌, true, IfOk, IsSome, Some};
 ghost use Rattle.std.specs.Option.{ForSome};
-ghost use Rattle.orca_names.specs.declared.trace.Trace.TheVariants.{Deep};
 ghost use Rattle.event_rule.specs.Events.{actor_of};
 ghost use Rattle.actor_cell.specs.Founds.{IsFound};
 ghost use Rattle.actor_cell.specs.Sweeps.{KnowsOthersOnly};
@@ -20,6 +19,8 @@ pub struct Taken<'a> {
     pub code: &'a Checked,
     /// The weight of the run.
     pub weight: u32,
+    /// How far letters are traced.
+    pub trace: Trace,
     /// The first event that the actor had.
     pub event: Event,
     pub cell: Cell,
@@ -36,13 +37,13 @@ impl<'a> Taken<'a> {
     /// # Errors
     /// `NoMemory` where memory was refused.
     pub(crate) fn find(&self, alloc: Global) -> Result<Option<Found>, NoMemory>
-        ensures own { IfOk result
-            (λ found. ForSome found (IsFound Deep self.now.weight self.now.code.now self.now.cell)) }
+        ensures own { IfOk result (λ found. ForSome found
+            (IsFound self.now.trace self.now.weight self.now.code.now self.now.cell)) }
         ensures found { IfOk result (λ found. is_evaluated self.now.event ≡ true → IsSome found) }
     {
         match self.event {
             Event::Go(_) | Event::Collect(_) => {
-                let found = self.cell.found(alloc, self.code, self.weight, Trace::Deep)?;
+                let found = self.cell.found(alloc, self.code, self.weight, self.trace)?;
                 Ok(Some(found))
             }
             _ => Ok(None),

@@ -2,7 +2,6 @@
 
 ghost use Rattle.std.specs.Prelude.{◌≡◌, false, true, IsSome, None, OnOk};
 ghost use Rattle.std.specs.Option.{ForSome};
-ghost use Rattle.orca_names.specs.declared.trace.Trace.TheVariants.{Deep};
 ghost use Rattle.actor_cell.specs.Founds.{IsFound};
 ghost use Rattle.work_board.specs.Answered.{is_evaluated};
 ghost use Rattle.book_hall.specs.Facts.{is_found_prop};
@@ -19,7 +18,7 @@ pub struct SeatTask<'a> {
     pub found: Option<Found>,
     /// Its evaluation was asked for.
     pub tried: bool,
-    ghost own: { ForSome found (IsFound Deep taken.weight taken.code.now taken.cell) } by { Prim.hlevel is_found_prop },
+    ghost own: { ForSome found (IsFound taken.trace taken.weight taken.code.now taken.cell) } by { Prim.hlevel is_found_prop },
 }
 
 impl<'a> SeatTask<'a> {

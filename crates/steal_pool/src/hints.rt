@@ -1,15 +1,51 @@
-// The names of actors that workers keep for one another.
+// The names of actors that workers keep for one another, and what one sees of the others.
 
 use crossbeam_deque::{Steal, Stealer, Worker};
+use crossbeam_utils::CachePadded;
 use orca_names::ActorName;
 use std::alloc::Global;
+use std::hint;
 use std::sync::OnceLock;
+use std::sync::atomic::{AtomicU64, Ordering};
 
 /// The most names that a deque keeps.
 const DEQUE_ROOM: usize = 64;
 
-/// Where a worker lays the handle by which others steal from it.
-pub(crate) type Place = OnceLock<Stealer<ActorName>>;
+/// For how many turns of an empty loop an evaluation has to go on before others join: some two
+/// microseconds. Of shorter ones several workers would do less than one, since they would wait for one
+/// another at their boards.
+const A_WHILE: u32 = 32;
+
+/// What the others see of a worker.
+#[derive(Drop)]
+pub(crate) struct Place {
+    /// By what they steal from it.
+    stealer: OnceLock<Stealer<ActorName>>,
+    /// How many evaluations it began, and how many it ended: odd while it is at one.
+    steps: CachePadded<AtomicU64>,
+}
+
+impl Place {
+    /// The place of a worker that has not begun.
+    pub(crate) fn new() -> Place {
+        Place {
+            stealer: OnceLock::new(),
+            steps: CachePadded::new(AtomicU64::new(0)),
+        }
+    }
+
+    // Whether the worker is at one evaluation for a while.
+    fn is_long_at_one(&self) -> bool {
+        let steps = self.steps.load(Ordering::SeqCst);
+        if steps % 2 == 0 {
+            return false;
+        }
+        for _ in 0..A_WHILE {
+            hint::spin_loop();
+        }
+        self.steps.load(Ordering::SeqCst) == steps
+    }
+}
 
 /// The names that one worker may try: those on its own deque, and those on the others'. A name is only
 /// a hint: it may be lost, and its actor may have no event any more.
@@ -30,12 +66,14 @@ impl<'p> Hints<'p> {
         }
     }
 
-    /// The next name to try: the oldest of its own, or else one that is stolen.
+    /// The oldest name of its own.
     pub(crate) fn next(&mut self) -> Option<ActorName> {
-        match self.deque.as_mut()?.pop() {
-            Some(name) => Some(name),
-            None => steal(self.places, self.number),
-        }
+        self.deque.as_mut()?.pop()
+    }
+
+    /// A name of another worker.
+    pub(crate) fn steal(&self) -> Option<ActorName> {
+        steal(self.places, self.number)
     }
 
     /// Keeps a name. One that finds no room is forgotten.
@@ -44,6 +82,18 @@ impl<'p> Hints<'p> {
             let _ = deque.push(name);
         }
     }
+
+    /// Lets the others see that the worker begins an evaluation, or ends it.
+    pub(crate) fn step(&self) {
+        if let Some(place) = self.places.get(self.number) {
+            place.steps.fetch_add(1, Ordering::SeqCst);
+        }
+    }
+
+    /// Whether it pays to join the others: one of them is at an evaluation for a while, or none is seen.
+    pub(crate) fn may_join(&self) -> bool {
+        self.places.is_empty() || self.places.iter().any(|place| place.is_long_at_one())
+    }
 }
 
 // A deque from which others steal by its place.
@@ -51,7 +101,7 @@ fn open_deque(alloc: Global, places: &[Place], number: usize) -> Option<Worker<A
     let place = places.get(number)?;
     let deque = Worker::new_fifo(alloc, DEQUE_ROOM).ok()?;
     let stealer = deque.stealer().ok()?;
-    let _ = place.try_set(stealer);
+    let _ = place.stealer.try_set(stealer);
     Some(deque)
 }
 
@@ -62,7 +112,7 @@ fn steal(places: &[Place], number: usize) -> Option<ActorName> {
 }
 
 fn steal_from(place: &Place) -> Option<ActorName> {
-    match place.get()?.steal() {
+    match place.stealer.get()?.steal() {
         Steal::Success(name) => Some(name),
         _ => None,
     }

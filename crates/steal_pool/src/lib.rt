@@ -3,6 +3,7 @@
 //! All that a worker changes of the run goes by its board's calls.
 #![tactic(auto)]
 
+mod crew;
 mod hints;
 mod pool;
 mod worker;

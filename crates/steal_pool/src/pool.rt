@@ -2,12 +2,13 @@
 
 ghost use Rattle.std.specs.Prelude.{◌≡◌, All, map, true};
 
+use crate::crew::Crew;
 use crate::hints::{Hints, Place};
 use crate::worker::run;
 use orca_names::NoMemory;
 use outside_world::Gate;
 use std::alloc::Global;
-use std::sync::{OnceLock, Wait};
+use std::sync::Wait;
 use std::thread;
 use std::thread::Threads;
 use work_board::Board;
@@ -16,7 +17,7 @@ use work_board::Board;
 fn places_of(alloc: Global, count: usize) -> Result<Vec<Place>, NoMemory> {
     let mut places = Vec::with_capacity(alloc, count)?;
     for _ in 0..count {
-        places.push(OnceLock::new())?;
+        places.push(Place::new())?;
     }
     Ok(places)
 }
@@ -39,6 +40,7 @@ fn work_in<R: Threads + Wait + Sync, B: Board + Send, G: Gate + Sync>(
         return;
     }
     let gate = if count == 1 { None } else { Some(gate) };
+    let crew = Crew::new();
     thread::for_each_mut(
         rt,
         boards,
@@ -48,7 +50,16 @@ fn work_in<R: Threads + Wait + Sync, B: Board + Send, G: Gate + Sync>(
             ensures ended { B.ended board.exit.now ≡ true }
             ensures hall { B.hall board.exit.now ≡ B.hall board.entry.now }
             ensures out { B.out board.exit.now ≡ 0 }
-        { run(rt, alloc, board, Hints::open(alloc, places, number), gate) },
+        {
+            run(
+                rt,
+                alloc,
+                board,
+                Hints::open(alloc, places, number),
+                &crew,
+                gate,
+            )
+        },
     );
 }
 
@@ -57,7 +68,11 @@ fn work_in<R: Threads + Wait + Sync, B: Board + Send, G: Gate + Sync>(
 ///
 /// A worker takes the name of an actor from its own deque, or else steals one from another's, or else
 /// asks its board. Names are hints: one that is refused is forgotten. Where there is memory for no
-/// deque it goes by its board alone.
+/// deque it goes by its board alone. It stays with an actor while that seems to go on.
+///
+/// Who keeps no name rests, as long as others are awake and none of them is at an evaluation for a
+/// while: turns at the board cost more than short evaluations bring. The last one that is awake never
+/// rests, and it alone makes the detector's events entries.
 ///
 /// Several workers pass the gate before each segment that they evaluate.
 pub fn work<R: Threads + Wait + Sync, B: Board + Send, G: Gate + Sync>(

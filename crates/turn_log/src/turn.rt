@@ -38,6 +38,20 @@ impl<T, I, V, P: LogRule<T, I, V>, A: Allocator> TurnLog<T, I, V, P, A> {
         }
     }
 
+    // Stands by while passes have tickets, as two looks at the words tell it. So a pass that waits for
+    // long has none yet, and nobody waits behind one that does not run now.
+    fn stand_by<R: Wait>(&self, rt: &R) {
+        let backoff = Backoff::new();
+        for _ in rt.forever() {
+            let serving = self.table.shared.peek(SERVING);
+            if self.table.shared.peek(TICKET) == serving {
+                return;
+            }
+            backoff.snooze();
+        }
+        unreachable!()
+    }
+
     // Draws a ticket.
     fn draw(&self, seat: &mut LogSeat<T, I, V>) -> u64
         requires own { seat.old.table_id ≡ self.now }
@@ -83,6 +97,7 @@ impl<T, I, V, P: LogRule<T, I, V>, A: Allocator> TurnLog<T, I, V, P, A> {
         ensures known { knows seat.new ≡ at_turn (knows seat.new).seen (knows seat.old) }
         ensures learns { Learns P.shows (knows seat.old) (knows seat.new).seen result }
     {
+        self.stand_by(rt);
         let ticket = self.draw(seat);
         self.wait(rt, seat, ticket)
     }

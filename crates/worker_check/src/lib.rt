@@ -6,11 +6,15 @@ mod board_tests;
 #[cfg(test)]
 mod device_tests;
 #[cfg(test)]
+mod ending;
+#[cfg(test)]
 mod log_tests;
 #[cfg(test)]
 mod pool_tests;
 #[cfg(test)]
 mod sheet;
+#[cfg(test)]
+mod text_tests;
 #[cfg(test)]
 mod toy;
 #[cfg(test)]

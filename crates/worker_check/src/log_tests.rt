@@ -1,12 +1,14 @@
 // Passes that write on one sheet.
 
-ghost use Rattle.std.specs.Prelude.{◌≡◌, ◌≤◌};
-ghost use Rattle.turn_log.specs.Seats.{IsIdle, knows};
+ghost use Rattle.std.specs.Prelude.{◌≡◌, ◌≤◌, ◌<◌};
+ghost use Rattle.turn_log.specs.Seats.{IsIdle, IsSame, knows};
 
-use crate::sheet::{SheetLog, SheetSeat, begin, finish, note, split_off, take_for_good, take_in};
+use crate::sheet::{
+    Sheet, SheetLog, SheetSeat, begin, finish, note, split_off, take_for_good, take_in,
+};
 use std::sync::Wait;
-use std::test::Fail;
 use std::thread;
+use std::thread::Threads;
 use turn_log::StillOpen;
 
 /// How many numbers each writer writes.
@@ -18,8 +20,6 @@ struct Writer<'a> {
     log: &'a SheetLog,
     seat: SheetSeat,
     name: u64,
-    /// How many of its numbers found no memory.
-    lost: u64,
     ghost own: { seat.table_id ≡ log.now },
     ghost ready: { IsIdle seat × (1 ≤ (knows seat).client) },
 }
@@ -29,18 +29,12 @@ impl<'a> Writer<'a> {
         requires own { seat.table_id ≡ log.now }
         requires ready { IsIdle seat × (1 ≤ (knows seat).client) }
     {
-        Writer {
-            log,
-            seat,
-            name,
-            lost: 0,
-        }
+        Writer { log, seat, name }
     }
 
+    // A number that finds no memory is missing on the sheet.
     fn write<R: Wait>(&mut self, rt: &R, number: u64) {
-        if note(rt, self.log, &mut self.seat, number).is_err() {
-            self.lost = self.lost.saturating_add(1);
-        }
+        let _ = note(rt, self.log, &mut self.seat, number);
     }
 
     fn run<R: Wait>(&mut self, rt: &R) {
@@ -51,80 +45,135 @@ impl<'a> Writer<'a> {
     }
 }
 
-#[test]
-fn one_pass_writes_in_order(rt: HostRuntime) -> Result<(), Fail> {
-    let (log, mut seat) = begin(rt.alloc())?;
-    note(&rt, &log, &mut seat, 7)?;
-    note(&rt, &log, &mut seat, 7)?;
-    note(&rt, &log, &mut seat, 2)?;
-    let Ok(sheet) = finish(log, seat) else {
-        panic!(rt; "nobody has a ticket")
+/// Whether the sheet was given back, with these numbers on it.
+fn has(end: Result<Sheet, StillOpen>, numbers: &[u64]) -> bool {
+    let Ok(sheet) = end else {
+        return false;
     };
-    assert_eq!(rt; sheet.numbers.as_slice(), [7, 7, 2].as_slice());
-    Ok(())
+    sheet.numbers.as_slice() == numbers
+}
+
+/// Writes three numbers. Tells whether there was memory for them.
+fn write_three<R: Wait>(rt: &R, log: &SheetLog, seat: &mut SheetSeat) -> bool
+    requires own { seat.old.table_id ≡ log.now }
+    requires idle { IsIdle seat.old × (1 ≤ (knows seat.old).client) }
+    ensures { IsSame seat.old seat.new }
+{
+    let one = note(rt, log, seat, 7);
+    let two = note(rt, log, seat, 7);
+    let three = note(rt, log, seat, 2);
+    one.is_ok() && two.is_ok() && three.is_ok()
 }
 
 #[test]
-fn a_pass_is_split_off_and_taken_in(rt: HostRuntime) -> Result<(), Fail> {
-    let (log, mut seat) = begin(rt.alloc())?;
-    note(&rt, &log, &mut seat, 1)?;
-    let mut other = split_off(&rt, &log, &mut seat);
-    note(&rt, &log, &mut other, 2)?;
-    note(&rt, &log, &mut seat, 3)?;
-    note(&rt, &log, &mut other, 4)?;
-    take_in(&log, &mut seat, other);
-    note(&rt, &log, &mut seat, 5)?;
-    let Ok(sheet) = finish(log, seat) else {
-        panic!(rt; "nobody has a ticket")
-    };
-    assert_eq!(rt; sheet.numbers.as_slice(), [1, 2, 3, 4, 5].as_slice());
-    Ok(())
+fn one_pass_writes_in_order(rt: HostRuntime) {
+    let (log, mut seat) = begin(&rt);
+    let written = write_three(&rt, &log, &mut seat);
+    assert!(rt; has(finish(log, seat), &[7, 7, 2]) && written);
+}
+
+/// Writes five numbers, some by a pass that is split off and taken in. Tells whether there was memory
+/// for them.
+fn write_by_two<R: Wait>(rt: &R, log: &SheetLog, seat: &mut SheetSeat) -> bool
+    requires own { seat.old.table_id ≡ log.now }
+    requires idle { IsIdle seat.old × (2 ≤ (knows seat.old).client) }
+    ensures { IsSame seat.old seat.new }
+{
+    let one = note(rt, log, seat, 1);
+    let mut other = split_off(rt, log, seat);
+    let two = note(rt, log, &mut other, 2);
+    let three = note(rt, log, seat, 3);
+    let four = note(rt, log, &mut other, 4);
+    take_in(log, seat, other);
+    let five = note(rt, log, seat, 5);
+    one.is_ok() && two.is_ok() && three.is_ok() && four.is_ok() && five.is_ok()
 }
 
 #[test]
-fn a_turn_that_was_not_passed_on_shows_at_the_end(rt: HostRuntime) -> Result<(), Fail> {
-    let (log, mut seat) = begin(rt.alloc())?;
-    let mut other = split_off(&rt, &log, &mut seat);
-    note(&rt, &log, &mut seat, 1)?;
-    take_for_good(&rt, &log, &mut other);
-    let end = finish(log, seat).err();
-    assert_eq!(rt;
-        end,
-        Some(StillOpen {
-            ticket: 3,
-            serving: 2
-        })
-    );
-    Ok(())
+fn a_pass_is_split_off_and_taken_in(rt: HostRuntime) {
+    let (log, mut seat) = begin(&rt);
+    let written = write_by_two(&rt, &log, &mut seat);
+    assert!(rt; has(finish(log, seat), &[1, 2, 3, 4, 5]) && written);
+}
+
+/// Writes a number, and then keeps the turn of another pass. Tells whether there was memory for it.
+fn keep_a_turn<R: Wait>(rt: &R, log: &SheetLog, seat: &mut SheetSeat) -> bool
+    requires own { seat.old.table_id ≡ log.now }
+    requires idle { IsIdle seat.old × (2 ≤ (knows seat.old).client) }
+    ensures { IsSame seat.old seat.new }
+{
+    let mut other = split_off(rt, log, seat);
+    let one = note(rt, log, seat, 1);
+    take_for_good(rt, log, &mut other);
+    one.is_ok()
+}
+
+/// Whether the sheet was not given back, since the second of three tickets is served.
+fn is_open(end: Result<Sheet, StillOpen>) -> bool {
+    let Err(words) = end else {
+        return false;
+    };
+    words.ticket == 3 && words.serving == 2
 }
 
 #[test]
-fn four_passes_write_at_once(rt: HostRuntime) -> Result<(), Fail> {
-    let (log, mut seat) = begin(rt.alloc())?;
-    let one = split_off(&rt, &log, &mut seat);
-    let two = split_off(&rt, &log, &mut seat);
-    let three = split_off(&rt, &log, &mut seat);
-    let four = split_off(&rt, &log, &mut seat);
-    let mut writers = vec![in rt.alloc();
-        Writer::new(&log, one, 0),
-        Writer::new(&log, two, 1),
-        Writer::new(&log, three, 2),
-        Writer::new(&log, four, 3),
-    ]?;
-    thread::for_each_mut(&rt, &mut writers, 4, &|_, writer| writer.run(&rt));
-    assert!(rt; writers.iter().all(|writer| writer.lost == 0));
-    drop(writers);
-    let Ok(sheet) = finish(log, seat) else {
-        panic!(rt; "nobody has a ticket")
-    };
-    assert_eq!(rt; sheet.numbers.len(), 200);
-    for name in 0..4 {
-        let own = sheet
-            .numbers
-            .iter()
-            .filter(|number| **number / NUMBERS == name);
-        let expected = (0..NUMBERS).map(|number| name * NUMBERS + number);
-        assert!(rt; own.copied().eq(expected));
+fn a_turn_that_was_not_passed_on_shows_at_the_end(rt: HostRuntime) {
+    let (log, mut seat) = begin(&rt);
+    let written = keep_a_turn(&rt, &log, &mut seat);
+    assert!(rt; is_open(finish(log, seat)) && written);
+}
+
+/// Writes by four passes at once.
+fn write_by_four<R: Threads + Wait + Sync>(rt: &R, log: &SheetLog, seat: &mut SheetSeat)
+    requires own { seat.old.table_id ≡ log.now }
+    requires idle { IsIdle seat.old × (5 ≤ (knows seat.old).client) }
+    ensures { IsSame seat.old seat.new }
+{
+    let one = split_off(rt, log, seat);
+    let two = split_off(rt, log, seat);
+    let three = split_off(rt, log, seat);
+    let four = split_off(rt, log, seat);
+    let mut writers = [
+        Writer::new(log, one, 0),
+        Writer::new(log, two, 1),
+        Writer::new(log, three, 2),
+        Writer::new(log, four, 3),
+    ];
+    thread::for_each_mut(rt, &mut writers, 4, &|_, writer| writer.run(rt));
+}
+
+/// Whether the numbers of this writer are all there, in its order.
+fn are_in_order(numbers: &[u64], name: u64) -> bool {
+    let mut next = name.wrapping_mul(NUMBERS);
+    let end = next.wrapping_add(NUMBERS);
+    for number in numbers {
+        if *number / NUMBERS != name {
+            continue;
+        }
+        if *number != next {
+            return false;
+        }
+        next = next.wrapping_add(1);
     }
-    Ok(())
+    next == end
+}
+
+/// Whether four writers wrote on the sheet, and nobody else.
+fn is_of_four(end: Result<Sheet, StillOpen>) -> bool {
+    let Ok(sheet) = end else {
+        return false;
+    };
+    let numbers = sheet.numbers.as_slice();
+    numbers.len() == 200
+        && are_in_order(numbers, 0)
+        && are_in_order(numbers, 1)
+        && are_in_order(numbers, 2)
+        && are_in_order(numbers, 3)
+}
+
+#[test]
+fn four_passes_write_at_once(rt: HostRuntime) {
+    let (log, mut seat) = begin(&rt);
+    write_by_four(&rt, &log, &mut seat);
+    assert!(rt; is_of_four(finish(log, seat)));
 }

@@ -1,30 +1,30 @@
 // Workers over a toy run.
 
-use crate::toy::{Toy, ToyPass, passes};
+use crate::ending::{end_by, work_in_time};
+use crate::toy::{Toy, ToyPass};
 use orca_names::ActorName;
 use outside_world::{Gate, HoldGate, OpenGate};
+use std::process::Abort;
 use std::sync::atomic::{AtomicU64, Ordering};
 use std::sync::{Mutex, Wait};
-use std::test::Fail;
+use std::thread;
+use std::thread::Threads;
 use steal_pool::work;
 use work_board::TroubleBoard;
+
+/// How often one of two actors looks for the other.
+const TRIES: u64 = 1_000_000;
+
+/// How many workers there are where work comes late.
+const CREW: u32 = 16;
+
+/// Their passes, a bit for each.
+const ALL: u64 = 0xffff;
 
 /// A gate that counts who passes.
 #[derive(Drop)]
 struct Counter {
     passed: AtomicU64,
-}
-
-impl Counter {
-    fn new() -> Counter {
-        Counter {
-            passed: AtomicU64::new(0),
-        }
-    }
-
-    fn passed(&self) -> u64 {
-        self.passed.load(Ordering::SeqCst)
-    }
 }
 
 impl Gate for Counter {
@@ -33,23 +33,25 @@ impl Gate for Counter {
     }
 }
 
+// Whether so many workers leave nothing to do, and pass the gate so often.
+fn leave_nothing<R>(rt: &R, workers: u32, rich: bool, turns: u64) -> bool
+where
+    R: Abort + AllocGlobal + Threads + Wait + Sync,
+{
+    let toy = Toy::new(rt.alloc(), &[30, 0, 7, 100, 1]).expect(rt, "memory");
+    let passed = AtomicU64::new(0);
+    let gate = Counter { passed };
+    let end = end_by(rt, &Mutex::new(toy), workers, rich, &gate);
+    end.is_whole(139) && gate.passed.load(Ordering::SeqCst) == turns
+}
+
 #[test]
-fn workers_leave_nothing_to_do(rt: HostRuntime) -> Result<(), Fail> {
-    let alloc = rt.alloc();
-    let events = [30, 0, 7, 100, 1];
+fn workers_leave_nothing_to_do(rt: HostRuntime) {
     // Half of the events are turns. With one worker there is no gate, and without memory for
     // evaluations every event is committed all the same.
     for (workers, rich, turns) in [(1, true, 0), (2, true, 68), (4, true, 68), (3, false, 68)] {
-        let toy = Mutex::new(Toy::new(alloc, &events, None, 1000)?);
-        let mut boards = passes(alloc, &toy, workers, rich)?;
-        let gate = Counter::new();
-        work(&rt, alloc, &mut boards, &gate);
-        assert!(rt; boards.iter().all(|board| board.ended));
-        drop(boards);
-        assert_eq!(rt; toy.into_inner().entries, 139);
-        assert_eq!(rt; gate.passed(), turns);
+        assert!(rt; leave_nothing(&rt, workers, rich, turns));
     }
-    Ok(())
 }
 
 #[test]
@@ -58,56 +60,110 @@ fn no_worker_needs_no_board(rt: HostRuntime) {
     work(&rt, rt.alloc(), none, &OpenGate);
 }
 
-#[test]
-fn two_workers_stand_at_a_gate_at_once(rt: HostRuntime) -> Result<(), Fail> {
-    let toy = Mutex::new(Toy::new(rt.alloc(), &[2, 2], None, 1000)?);
-    let gate = HoldGate::new(ActorName(0), ActorName(1), 1_000_000);
-    let mut boards = passes(rt.alloc(), &toy, 2, true)?;
-    work(&rt, rt.alloc(), &mut boards, &gate);
-    assert!(rt; gate.met());
-    Ok(())
+// Whether two workers stand before segments of two actors at once.
+fn two_meet<R: Abort + AllocGlobal + Threads + Wait + Sync>(rt: &R) -> bool {
+    let toy = Toy::new(rt.alloc(), &[2, 2]).expect(rt, "memory");
+    let gate = HoldGate::new(ActorName(0), ActorName(1), TRIES);
+    let end = end_by(rt, &Mutex::new(toy), 2, true, &gate);
+    end.is_whole(5) && gate.met()
 }
 
 #[test]
-fn wrong_names_are_forgotten(rt: HostRuntime) -> Result<(), Fail> {
-    let alloc = rt.alloc();
-    let toy = Mutex::new(Toy::new(alloc, &[5, 4, 3], None, 1000)?);
-    let wrong = vec![in alloc;
-        (1u64, ActorName(70000)),
-        (2, ActorName(1)),
-        (4, ActorName(9)),
-    ]?;
-    let mut boards = Vec::new(alloc);
-    boards.push(TroubleBoard::new(ToyPass::new(&toy, 0, true), wrong))?;
-    boards.push(TroubleBoard::new(ToyPass::new(&toy, 1, true), Vec::new(alloc)))?;
-    work(&rt, alloc, &mut boards, &OpenGate);
-    drop(boards);
-    assert_eq!(rt; toy.into_inner().entries, 13);
-    Ok(())
+fn two_workers_stand_at_a_gate_at_once(rt: HostRuntime) {
+    for _ in 0..200 {
+        assert!(rt; two_meet(&rt));
+    }
+}
+
+/// A gate that holds the segment before the first entry until every worker has looked for work. Later
+/// ones meet.
+#[derive(Drop)]
+struct LateGate<'t> {
+    toy: &'t Mutex<Toy>,
+    meeting: HoldGate,
+}
+
+impl Gate for LateGate<'_> {
+    fn enter<R: Wait>(&self, rt: &R, who: ActorName, at: u64) {
+        if at > 0 {
+            self.meeting.enter(rt, who, at);
+            return;
+        }
+        for _ in rt.forever() {
+            if self.toy.lock(rt).looked == ALL {
+                return;
+            }
+            thread::yield_now();
+        }
+    }
+}
+
+// A run whose actors behind the first one have no event before they are woken.
+fn line_of<R: Abort + AllocGlobal>(rt: &R, left: &[u32]) -> Mutex<Toy> {
+    let mut toy = Toy::new(rt.alloc(), left).expect(rt, "memory");
+    toy.awake = 1;
+    Mutex::new(toy)
+}
+
+// Whether a worker that found nothing takes up what comes late, while another is held at its segment,
+// and all is done in the end.
+fn late_work_is_done<R: Abort + AllocGlobal + Threads + Wait + Sync>(rt: &R) -> bool {
+    let toy = line_of(rt, &[4, 2, 3, 3]);
+    let meeting = HoldGate::new(ActorName(0), ActorName(1), TRIES);
+    let gate = LateGate { toy: &toy, meeting };
+    let end = end_by(rt, &toy, CREW, true, &gate);
+    end.is_whole(13) && gate.meeting.met()
 }
 
 #[test]
-fn a_worker_without_room_stops_all(rt: HostRuntime) -> Result<(), Fail> {
-    let alloc = rt.alloc();
-    let toy = Mutex::new(Toy::new(alloc, &[50, 4, 50], Some(ActorName(1)), 1000)?);
-    let mut boards = passes(rt.alloc(), &toy, 2, true)?;
-    work(&rt, alloc, &mut boards, &OpenGate);
-    assert!(rt; boards.iter().all(|board| board.ended));
-    drop(boards);
-    let toy = toy.into_inner();
-    assert!(rt; toy.stops > 0);
-    assert!(rt; toy.entries <= 101);
-    Ok(())
+fn workers_at_rest_take_up_what_comes_late(rt: HostRuntime) {
+    for _ in 0..50 {
+        assert!(rt; late_work_is_done(&rt));
+    }
 }
 
 #[test]
-fn a_spent_budget_ends_all_without_a_stop(rt: HostRuntime) -> Result<(), Fail> {
-    let alloc = rt.alloc();
-    let toy = Mutex::new(Toy::new(alloc, &[50, 50], None, 60)?);
-    let mut boards = passes(rt.alloc(), &toy, 2, true)?;
-    work(&rt, alloc, &mut boards, &OpenGate);
-    drop(boards);
-    let toy = toy.into_inner();
-    assert_eq!(rt; (toy.entries, toy.stops), (60, 0));
-    Ok(())
+fn many_workers_follow_one_line(rt: HostRuntime) {
+    for _ in 0..200 {
+        let end = end_by(&rt, &line_of(&rt, &[1; 24]), CREW, true, &OpenGate);
+        assert!(rt; end.is_whole(25));
+    }
+}
+
+// How many entries are made where the looks of one of two workers answer these names.
+fn entries_despite<R>(rt: &R, toy: &Mutex<Toy>, wrong: Vec<(u64, ActorName)>) -> u64
+where
+    R: Abort + AllocGlobal + Threads + Wait + Sync,
+{
+    let mut boards = [
+        TroubleBoard::new(ToyPass::new(toy, 0, true), wrong),
+        TroubleBoard::new(ToyPass::new(toy, 1, true), Vec::new(rt.alloc())),
+    ];
+    work_in_time(rt, &mut boards, &OpenGate);
+    toy.lock(rt).entries
+}
+
+#[test]
+fn wrong_names_are_forgotten(rt: HostRuntime) {
+    let wrong = [(1, ActorName(70000)), (2, ActorName(1)), (4, ActorName(9))];
+    let wrong = wrong.to_vec(rt.alloc()).expect(&rt, "memory");
+    let toy = Toy::new(rt.alloc(), &[5, 4, 3]).expect(&rt, "memory");
+    let entries = entries_despite(&rt, &Mutex::new(toy), wrong);
+    assert!(rt; entries == 13);
+}
+
+#[test]
+fn a_worker_without_room_stops_all(rt: HostRuntime) {
+    let mut toy = Toy::new(rt.alloc(), &[50, 4, 50]).expect(&rt, "memory");
+    toy.full = Some(ActorName(1));
+    let end = end_by(&rt, &Mutex::new(toy), 2, true, &OpenGate);
+    assert!(rt; end.ended && end.stops > 0 && end.entries <= 101);
+}
+
+#[test]
+fn a_spent_budget_ends_all_without_a_stop(rt: HostRuntime) {
+    let mut toy = Toy::new(rt.alloc(), &[50, 50]).expect(&rt, "memory");
+    toy.budget = 60;
+    let end = end_by(&rt, &Mutex::new(toy), 2, true, &OpenGate);
+    assert!(rt; end.is_whole(60));
 }

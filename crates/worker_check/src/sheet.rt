@@ -5,8 +5,9 @@ ghost use mathlib.Core.List.{IsPrefix};
 ghost use Rattle.turn_log.specs.Seats.{IsIdle, IsSame, knows};
 
 use atomic_table::{Join, Split};
-use std::alloc::{AllocError, Global};
+use std::alloc::AllocError;
 use std::marker::Model;
+use std::process::Abort;
 use std::sync::Wait;
 use turn_log::{LogRule, LogSeat, StillOpen, TurnLog};
 
@@ -84,12 +85,11 @@ pub(crate) type SheetLog = TurnLog<Sheet, u64, u64, Written>;
 pub(crate) type SheetSeat = LogSeat<Sheet, u64, u64>;
 
 /// An empty sheet.
-pub(crate) fn begin(alloc: Global) -> Result<(SheetLog, SheetSeat), AllocError>
-    ensures { IfOk result (λ made. (made.1.table_id ≡ made.0) × IsIdle made.1
-        × ((knows made.1).client ≡ 8)) }
+pub(crate) fn begin<R: Abort + AllocGlobal>(rt: &R) -> (SheetLog, SheetSeat)
+    ensures { (result.1.table_id ≡ result.0) × IsIdle result.1 × ((knows result.1).client ≡ 8) }
 {
-    let numbers = Vec::new(alloc);
-    TurnLog::new(alloc, Sheet { numbers, last: 0 })
+    let numbers = Vec::new(rt.alloc());
+    TurnLog::new(rt.alloc(), Sheet { numbers, last: 0 }).expect(rt, "memory")
 }
 
 /// Writes a number. The pass has then seen all that stands on the sheet, this number last.

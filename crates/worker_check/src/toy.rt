@@ -22,11 +22,16 @@ struct Actor {
 #[derive(Drop)]
 pub(crate) struct Toy {
     actors: Vec<Actor>,
+    /// How many actors are awake: the first ones. The others have no event yet.
+    pub(crate) awake: u32,
     /// Whether the detector has its one event left.
     news: bool,
     /// The actor whose events find no room.
-    full: Option<ActorName>,
-    budget: u64,
+    pub(crate) full: Option<ActorName>,
+    pub(crate) budget: u64,
+    pub(crate) looks: u64,
+    /// The passes that have looked, a bit for each.
+    pub(crate) looked: u64,
     pub(crate) entries: u64,
     pub(crate) stops: u64,
 }
@@ -52,12 +57,8 @@ fn event_of(a: ActorName, left: u32) -> Event
 }
 
 impl Toy {
-    pub(crate) fn new(
-        alloc: Global,
-        left: &[u32],
-        full: Option<ActorName>,
-        budget: u64,
-    ) -> Result<Toy, NoMemory> {
+    /// A run whose actors are awake, and have so many events left.
+    pub(crate) fn new(alloc: Global, left: &[u32]) -> Result<Toy, NoMemory> {
         let mut actors = Vec::new(alloc);
         let mut number = 0u32;
         for &left in left {
@@ -70,29 +71,38 @@ impl Toy {
         }
         Ok(Toy {
             actors,
+            awake: u32::MAX,
             news: true,
-            full,
-            budget,
+            full: None,
+            budget: 1000,
+            looks: 0,
+            looked: 0,
             entries: 0,
             stops: 0,
         })
     }
 
-    fn look(&self) -> Look {
+    fn look(&mut self, pass: u32) -> Look {
+        self.looks = self.looks.saturating_add(1);
+        self.looked |= 1 << (pass % 64);
         if self.stops > 0 || self.entries >= self.budget {
             return Look::Stop;
         }
-        let ready = |actor: &&Actor| actor.left > 0 && actor.holder.is_none();
-        if let Some(actor) = self.actors.iter().find(ready) {
-            return Look::Actor(actor.name);
+        let mut held = false;
+        for actor in &self.actors {
+            if actor.holder.is_some() {
+                held = true;
+            } else if actor.left > 0 && actor.name.0 < self.awake {
+                return Look::Actor(actor.name);
+            }
         }
         if self.news {
-            return Look::Detector(Event::Scan);
+            Look::Detector(Event::Scan)
+        } else if held {
+            Look::Others
+        } else {
+            Look::Rest
         }
-        if self.actors.iter().any(|actor| actor.holder.is_some()) {
-            return Look::Others;
-        }
-        Look::Rest
     }
 
     fn claim(&mut self, pass: u32, a: ActorName) -> Result<Claim, Refuse>
@@ -100,13 +110,13 @@ impl Toy {
         ensures fresh { IfOk result (λ claim. claim.tried ≡ false) }
     {
         let made = self.actors.len() as u64;
-        let Some(actor) = self.actors.iter_mut().find(|actor| actor.name == a) else {
+        let Some(actor) = self.actors.get_mut(a.0 as usize) else {
             return Err(Refuse::Unknown { made });
         };
         if let Some(holder) = actor.holder {
             return Err(Refuse::Busy { holder });
         }
-        if actor.left == 0 {
+        if actor.left == 0 || a.0 >= self.awake {
             return Err(Refuse::NotReady);
         }
         actor.holder = Some(pass);
@@ -126,7 +136,7 @@ impl Toy {
     }
 
     fn commit(&mut self, a: ActorName) -> Result<Committed, Refuse> {
-        let Some(actor) = self.actors.iter_mut().find(|actor| actor.name == a) else {
+        let Some(actor) = self.actors.get_mut(a.0 as usize) else {
             return Err(Refuse::Gone);
         };
         actor.holder = None;
@@ -139,7 +149,9 @@ impl Toy {
             return Err(Refuse::Full { actor: a });
         }
         actor.left = actor.left.saturating_sub(1);
-        Ok(self.enter(Some(ActorName(a.0.wrapping_add(1)))))
+        let next = a.0.saturating_add(1);
+        self.awake = self.awake.max(next.saturating_add(1));
+        Ok(self.enter(Some(ActorName(next))))
     }
 
     fn direct(&mut self, e: Event) -> Result<Committed, Refuse> {
@@ -232,7 +244,7 @@ impl<'t> Board for ToyPass<'t> {
     ghost found = { λ _. Unit {0} };
 
     fn look<R: Wait>(&mut self, rt: &R) -> Look {
-        let answer = self.toy.lock(rt).look();
+        let answer = self.toy.lock(rt).look(self.number);
         self.ended = answer.is_end();
         answer
     }

@@ -1,11 +1,11 @@
 // What whole reads and writes ask of their devices: how much room each read offers, and how much each
 // write.
 
-ghost use Rattle.std.specs.Prelude.{None, false};
+ghost use Rattle.std.specs.Prelude.{◌≡◌, None, false};
 
-use outside_world::{Failed, MemSink, MemSource, ReadErr, Sink, Source, read_to_end, write_all};
+use crate::device_tests::{sink, source};
+use outside_world::{Failed, ReadErr, Sink, Source, read_to_end, write_all};
 use std::alloc::Global;
-use std::test::Fail;
 
 /// A source of line feeds that gives at most `piece` of them a call, and notes the room that each
 /// call offers.
@@ -51,55 +51,58 @@ impl Sink for NotedSink {
     }
 }
 
-/// The rooms that are offered to a source of so many bytes, of which it gives at most `piece` a call,
-/// where at most 10,001 are read; and how many bytes came.
-fn rooms_for(alloc: Global, left: usize, piece: usize) -> Result<(Vec<usize>, usize), Fail> {
+/// How many bytes come of the source, where at most 10,001 are read.
+fn count_of(alloc: Global, source: &mut NotedSource) -> Option<usize>
+    requires { source.old.ended ≡ false }
+{
+    let bytes = read_to_end(alloc, source, 10_001).ok()?;
+    Some(bytes.len())
+}
+
+/// Whether a source of so many bytes, of which it gives at most `piece` a call, is offered these rooms,
+/// and so many bytes come.
+fn offers(alloc: Global, left: usize, piece: usize, rooms: &[usize], count: usize) -> bool {
     let mut source = NotedSource {
         left,
         piece,
         rooms: Vec::new(alloc),
         ended: false,
     };
-    let count = match read_to_end(alloc, &mut source, 10_001) {
-        Ok(bytes) => bytes.len(),
-        Err(_) => return Err(Fail::from("no memory")),
-    };
-    Ok((source.rooms, count))
+    count_of(alloc, &mut source) == Some(count) && source.rooms.as_slice() == rooms
 }
 
 #[test]
-fn each_read_offers_a_whole_piece_or_what_is_missing(rt: HostRuntime) -> Result<(), Fail> {
-    let (rooms, count) = rooms_for(rt.alloc(), 10, 4)?;
-    assert_eq!(rt; rooms.as_slice(), [4096, 4096, 4096, 4096].as_slice());
-    assert_eq!(rt; count, 10);
-    let (rooms, count) = rooms_for(rt.alloc(), 10_000, 4096)?;
-    assert_eq!(rt; rooms.as_slice(), [4096, 4096, 1809, 1].as_slice());
-    assert_eq!(rt; count, 10_000);
-    let (rooms, count) = rooms_for(rt.alloc(), 20_000, 4096)?;
-    assert_eq!(rt; rooms.as_slice(), [4096, 4096, 1809].as_slice());
-    assert_eq!(rt; count, 10_001);
-    Ok(())
+fn each_read_offers_a_whole_piece_or_what_is_missing(rt: HostRuntime) {
+    let alloc = rt.alloc();
+    assert!(rt; offers(alloc, 10, 4, &[4096, 4096, 4096, 4096], 10));
+    assert!(rt; offers(alloc, 10_000, 4096, &[4096, 4096, 1809, 1], 10_000));
+    assert!(rt; offers(alloc, 20_000, 4096, &[4096, 4096, 1809], 10_001));
+}
+
+/// Whether each write offers all that is left, and none is made where nothing is.
+fn offers_all(sink: &mut NotedSink) -> bool {
+    let some = write_all(sink, &[7u8; 58]);
+    let none = write_all(sink, b"");
+    some == Ok(()) && none == Ok(()) && sink.offers.as_slice() == [58, 38, 18].as_slice()
 }
 
 #[test]
-fn each_write_offers_all_that_is_left(rt: HostRuntime) -> Result<(), Fail> {
+fn each_write_offers_all_that_is_left(rt: HostRuntime) {
     let mut sink = NotedSink {
         offers: Vec::new(rt.alloc()),
     };
-    assert_eq!(rt; write_all(&mut sink, &[7u8; 58]), Ok(()));
-    assert_eq!(rt; write_all(&mut sink, b""), Ok(()));
-    assert_eq!(rt; sink.offers.as_slice(), [58, 38, 18].as_slice());
-    Ok(())
+    assert!(rt; offers_all(&mut sink));
 }
 
 #[test]
-fn a_failure_ends_it(rt: HostRuntime) -> Result<(), Fail> {
-    let alloc = rt.alloc();
-    let mut source = MemSource::new(b"seven".to_vec(alloc)?, 2, [2].to_vec(alloc)?);
-    let read = read_to_end(alloc, &mut source, 9);
+fn a_failure_ends_a_read(rt: HostRuntime) {
+    let read = read_to_end(rt.alloc(), &mut source(&rt, 2), 9);
     assert!(rt; matches!(&read, Err(ReadErr::Failed)));
-    let mut sink = MemSink::new(alloc, 9, 2, [2].to_vec(alloc)?)?;
-    assert_eq!(rt; write_all(&mut sink, b"seven"), Err(Failed));
-    assert_eq!(rt; sink.bytes(), b"se".as_slice());
-    Ok(())
+}
+
+#[test]
+fn a_failure_ends_a_write(rt: HostRuntime) {
+    let mut sink = sink(&rt, 9, 2);
+    let written = write_all(&mut sink, b"seven");
+    assert!(rt; written.is_err() && sink.bytes() == b"se".as_slice());
 }

@@ -1,4 +1,4 @@
-use Rattle.std.proofs.Common.{◌≡◌, ℕ, ◌+◌, None, Some, ap, ◌∙◌, refl, sym}
+use Rattle.std.proofs.Common.{◌≡◌, None, Some, ap, ◌∙◌, refl, sym, rules, subst}
 use Rattle.turn_log.specs.Knowing.{having_written}
 use Rattle.turn_log.specs.Seats.{knows}
 use Rattle.seat_hall.specs.Fair.{after_item}
@@ -7,7 +7,8 @@ use Rattle.book_hall.specs.Causes.{actor_cause}
 use Rattle.book_hall.proofs.Refusing.{or_none}
 use Rattle.seat_hall.specs.declared.item.Item.TheVariants.{Entered}
 use Rattle.seat_hall.specs.Answers.{Enters, RefusesEntry}
-use Rattle.seat_hall.specs.Log.{plain, state_in}
+use Rattle.seat_hall.specs.Log.{claims_in, state_in}
+use Rattle.seat_hall.specs.Passes.{IsAtHall}
 use Rattle.seat_hall.proofs.Causes.{event_is_free, none_for}
 use Rattle.seat_hall.proofs.Counts.{out_direct}
 use Rattle.seat_hall.proofs.Turns.{follows, has_now, out_now, read_cells, read_out, reads, writes, wrote_cells, wrote_out, wrote_stands}
@@ -16,34 +17,38 @@ use Rattle.seat_hall.proofs.pass.direct.Goals as goal
 pub write_back-requires-clause-rule : goal.write_back-requires-clause-rule
 write_back-requires-clause-rule g c =
     let n = c.args.number in let old = c.args.seat.now in let mid = c.turn-hall.new.seat in
-    let h = c.turn-hall.result in let at = c.turn-hall.ensures.at in
+    let h = c.deref_mut.result.now in let is : c.turn-hall.result ≡ h = search rules in
+    let at = subst (IsAtHall n old mid) is c.turn-hall.ensures.at in
     let e = c.args.e in let enters = c.in-Ok.ensures.ok in
     follows n old mid mid h at (Entered n e) c.enter.new.self (at.given, none_for h.logged e n enters.may) c.in-Ok.ensures.entered
 
 pub returns-in-Ok-clause-cells : goal.returns-in-Ok-clause-cells
 returns-in-Ok-clause-cells g c =
     let n = c.args.number in let old = c.args.seat.now in let mid = c.turn-hall.new.seat in
-    let h = c.turn-hall.result in let at = c.turn-hall.ensures.at in
+    let h = c.deref_mut.result.now in let is : c.turn-hall.result ≡ h = search rules in
+    let at = subst (IsAtHall n old mid) is c.turn-hall.ensures.at in
     let new = c.write_back.new.seat in
     let wrote = c.write_back.ensures.knows ∙ ap (λ (v : HallView). having_written after_item v.last (knows mid)) c.in-Ok.ensures.entered in
     let e = c.args.e in let enters = c.in-Ok.ensures.ok in
     λ a cell has. wrote_cells n old mid new h at (Entered n e) refl wrote (at.given, none_for h.logged e n enters.may) a cell
     (λ acts. let mine = has_now n old mid new h at a cell has in
-    let clash : None ≡ Some n = sym ((event_is_free h.logged e (or_none (actor_cause (state_in h.logged) (plain h.logged).claims None e) _ enters.may).0) a acts) ∙ mine.claimed in cc) has
+    let clash : None ≡ Some n = sym ((event_is_free h.logged e (or_none (actor_cause (state_in h.logged) (claims_in h.logged) None e) _ enters.may).0) a acts) ∙ mine.claimed in cc) has
 
 pub returns-in-Ok-clause-out : goal.returns-in-Ok-clause-out
 returns-in-Ok-clause-out g c =
     let n = c.args.number in let old = c.args.seat.now in let mid = c.turn-hall.new.seat in
-    let h = c.turn-hall.result in let at = c.turn-hall.ensures.at in
+    let h = c.deref_mut.result.now in let is : c.turn-hall.result ≡ h = search rules in
+    let at = subst (IsAtHall n old mid) is c.turn-hall.ensures.at in
     let new = c.write_back.new.seat in
     let wrote = c.write_back.ensures.knows ∙ ap (λ (v : HallView). having_written after_item v.last (knows mid)) c.in-Ok.ensures.entered in
     let e = c.args.e in let enters = c.in-Ok.ensures.ok in
-    wrote_out n old mid new h at (Entered n e) refl wrote _ (out_direct n h.logged e (event_is_free h.logged e (or_none (actor_cause (state_in h.logged) (plain h.logged).claims None e) _ enters.may).0) ∙ out_now n old mid new h at)
+    wrote_out n old mid new h at (Entered n e) refl wrote _ (out_direct n h.logged e (event_is_free h.logged e (or_none (actor_cause (state_in h.logged) (claims_in h.logged) None e) _ enters.may).0) ∙ out_now n old mid new h at)
 
 pub returns-in-Ok-clause-ok : goal.returns-in-Ok-clause-ok
 returns-in-Ok-clause-ok g c =
     let n = c.args.number in let old = c.args.seat.now in let mid = c.turn-hall.new.seat in
-    let h = c.turn-hall.result in let at = c.turn-hall.ensures.at in
+    let h = c.deref_mut.result.now in let is : c.turn-hall.result ≡ h = search rules in
+    let at = subst (IsAtHall n old mid) is c.turn-hall.ensures.at in
     let new = c.write_back.new.seat in
     let wrote = c.write_back.ensures.knows ∙ ap (λ (v : HallView). having_written after_item v.last (knows mid)) c.in-Ok.ensures.entered in
     let e = c.args.e in let enters = c.in-Ok.ensures.ok in
@@ -52,7 +57,8 @@ returns-in-Ok-clause-ok g c =
 pub returns-in-Ok-clause-stands : goal.returns-in-Ok-clause-stands
 returns-in-Ok-clause-stands g c =
     let n = c.args.number in let old = c.args.seat.now in let mid = c.turn-hall.new.seat in
-    let h = c.turn-hall.result in let at = c.turn-hall.ensures.at in
+    let h = c.deref_mut.result.now in let is : c.turn-hall.result ≡ h = search rules in
+    let at = subst (IsAtHall n old mid) is c.turn-hall.ensures.at in
     let new = c.write_back.new.seat in
     let wrote = c.write_back.ensures.knows ∙ ap (λ (v : HallView). having_written after_item v.last (knows mid)) c.in-Ok.ensures.entered in
     let e = c.args.e in let enters = c.in-Ok.ensures.ok in
@@ -61,20 +67,23 @@ returns-in-Ok-clause-stands g c =
 pub returns-in-Err-clause-cells : goal.returns-in-Err-clause-cells
 returns-in-Err-clause-cells g c =
     let n = c.args.number in let old = c.args.seat.now in let mid = c.turn-hall.new.seat in
-    let h = c.turn-hall.result in let at = c.turn-hall.ensures.at in
+    let h = c.deref_mut.result.now in let is : c.turn-hall.result ≡ h = search rules in
+    let at = subst (IsAtHall n old mid) is c.turn-hall.ensures.at in
     let new = c.give_back.new.seat in let same = c.give_back.ensures.knows in
     read_cells n old mid new h at same
 
 pub returns-in-Err-clause-out : goal.returns-in-Err-clause-out
 returns-in-Err-clause-out g c =
     let n = c.args.number in let old = c.args.seat.now in let mid = c.turn-hall.new.seat in
-    let h = c.turn-hall.result in let at = c.turn-hall.ensures.at in
+    let h = c.deref_mut.result.now in let is : c.turn-hall.result ≡ h = search rules in
+    let at = subst (IsAtHall n old mid) is c.turn-hall.ensures.at in
     let new = c.give_back.new.seat in let same = c.give_back.ensures.knows in
     read_out n old mid new h at same
 
 pub returns-in-Err-clause-refused : goal.returns-in-Err-clause-refused
 returns-in-Err-clause-refused g c =
     let n = c.args.number in let old = c.args.seat.now in let mid = c.turn-hall.new.seat in
-    let h = c.turn-hall.result in let at = c.turn-hall.ensures.at in
+    let h = c.deref_mut.result.now in let is : c.turn-hall.result ≡ h = search rules in
+    let at = subst (IsAtHall n old mid) is c.turn-hall.ensures.at in
     let new = c.give_back.new.seat in let same = c.give_back.ensures.knows in
     reads n old mid new h at same (RefusesEntry None c.args.e c.in-Err.refuse) c.in-Err.ensures.refused

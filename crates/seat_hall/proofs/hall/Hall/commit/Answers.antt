@@ -1,5 +1,5 @@
 use Rattle.std.proofs.Common.{◌≡◌, ℕ, Option, Result, Ok, Err, IfErr, IfOk, OnOk, None, Some, sym, ap, subst, ◌∙◌}
-use Rattle.orca_names.specs.declared.trace.Trace.TheVariants.{Deep}
+use Rattle.orca_names.specs.declared.trace.Trace.{Trace}
 use Rattle.behaviour_code.specs.declared.code.Program.{Program}
 use Rattle.event_rule.specs.declared.event.Event.{Event}
 use Rattle.actor_cell.specs.Founds.{IsFound}
@@ -18,12 +18,13 @@ enter-requires c =
     let l = c.args.self.now.logged in
     let back = c.put_back.ensures in record {
       found = subst (λ (h : HallView). (found : _) → c.args.task.found ≡ Some found
-          → IsFoundOf h.logged.weight h.logged.program (state_in h.logged).actors taken.event found) (sym back)
+          → IsFoundOf h.logged.trace h.logged.weight h.logged.program (state_in h.logged).actors taken.event found) (sym back)
           (λ found is. record {
             cell = taken.cell;
             its = taken.its;
             there = c.requires.has.cell;
-            is = subst (λ (x : ℕ × Program). IsFound Deep x.0 x.1 taken.cell found) (λ i. (c.requires.weight i, c.requires.program i))
+            is = subst (λ (x : Trace × ℕ × Program). IsFound x.0 x.1 x.2 taken.cell found)
+                (λ i. (c.requires.trace i, c.requires.weight i, c.requires.program i))
                 (c.args.task.own found is);
           });
     }

@@ -1,11 +1,10 @@
-use Rattle.std.proofs.Common.{◌≡◌, ℕ, [], ◌∷◌, ◌++◌, length, sym, ap, subst, ◌∙◌}
+use Rattle.std.proofs.Common.{◌≡◌, [], ◌∷◌, ◌++◌, length, sym, ap, subst, ◌∙◌}
 use Rattle.std.proofs.lemmas.Result.{err_from_is_err_and}
 use Rattle.behaviour_code.specs.declared.code.Program.{Program}
 use Rattle.machine_rules.specs.Actors.{Actors}
 use Rattle.machine_rules.specs.Next.{next}
 use Rattle.machine_rules.specs.Options.{Options}
 use Rattle.machine_rules.specs.State.{first_state}
-use Rattle.orca_names.specs.declared.trace.Trace.TheVariants.{Deep}
 use Rattle.orca_core.specs.Machine.{options_of}
 use Rattle.book_hall.specs.Causes.{spent_cause, unready_cause}
 use Rattle.book_hall.specs.Halls.{state_after}
@@ -24,20 +23,15 @@ may_install-requires-clause-home c =
     (λ a acts. ap (λ (h : HallView). claim_in h.logged.claims a) c.self.view_is
     ∙ its_actor_is_free c.args.self.now.logged c.args.e c.in_default.ensures a acts)
 
-pub may_install-requires-clause-deep : goal.may_install-requires-clause-deep
-may_install-requires-clause-deep c =
-    let s = c.self.inside in
-    ap (λ (o : Options). o.trace) (machine_run s.code.now s.budget s.orca s.book s.claims.items s.lent c.self.invariant).1
-
 pub may_install-requires-clause-found : goal.may_install-requires-clause-found
 may_install-requires-clause-found c =
     let s = c.self.inside in
     let run = machine_run s.code.now s.budget s.orca s.book s.claims.items s.lent c.self.invariant in
     let program = run.0 ∙ ap (λ (h : HallView). h.logged.program) c.self.view_is in
-    let weight = ap (λ (o : Options). o.weight) run.1 ∙ ap (λ (h : HallView). h.logged.weight) c.self.view_is in
+    let options = run.1 ∙ ap (λ (h : HallView). options_of h.logged.weight h.logged.trace) c.self.view_is in
     let state = c.self.invariant.state_is ∙ ap (λ (h : HallView). state_in h.logged) c.self.view_is in
-    λ found is. subst (λ (x : ℕ × Program × Actors). IsFoundOf x.0 x.1 x.2 c.args.e found)
-    (λ i. (sym weight i, sym program i, (sym state i).actors)) (c.requires.found found is)
+    λ found is. subst (λ (x : Options × Program × Actors). IsFoundOf x.0.trace x.0.weight x.1 x.2 c.args.e found)
+    (λ i. (sym options i, sym program i, (sym state i).actors)) (c.requires.found found is)
 
 pub enter-requires-clause-home : goal.enter-requires-clause-home
 enter-requires-clause-home c =
@@ -96,7 +90,7 @@ returns-clause-ok c =
     let state = c.self.invariant.state_is ∙ ap (λ (h : HallView). state_in h.logged) view in
     let came : c.enter.new.orca.state ≡ state_in (record l { book = l.book ++ c.args.e ∷ [] }) =
     (invariant_of-self-2 c).state_is
-    ∙ ((λ i. state_after (first_state s.code.now (options_of (done.book.0 i) Deep)) (done.entry i))
+    ∙ ((λ i. state_after (first_state s.code.now (options_of (done.book.0 i) (done.book.1 i))) (done.entry i))
     ∙ ap (λ (h : HallView). state_in (record h.logged { book = h.logged.book ++ c.args.e ∷ [] })) view) in
     enters l c.args.e c.in_default.ensures s.orca c.enter.new.orca state came c.args.pass c.in_ok-done.done
     (done.place ∙ ap (λ (h : HallView). length h.logged.book) view) done.goes done.woke
@@ -110,13 +104,14 @@ returns-clause-entered c =
     let state = c.self.invariant.state_is ∙ ap (λ (h : HallView). state_in h.logged) view in
     let came : c.enter.new.orca.state ≡ state_in (record l { book = l.book ++ c.args.e ∷ [] }) =
     (invariant_of-self-2 c).state_is
-    ∙ ((λ i. state_after (first_state s.code.now (options_of (done.book.0 i) Deep)) (done.entry i))
+    ∙ ((λ i. state_after (first_state s.code.now (options_of (done.book.0 i) (done.book.1 i))) (done.entry i))
     ∙ ap (λ (h : HallView). state_in (record h.logged { book = h.logged.book ++ c.args.e ∷ [] })) view) in
     let grew : c.grow.new.claims.items ≡ grown (length c.enter.new.orca.state.actors) s.claims.items =
     c.grow.ensures ∙ (λ i. grown (c.made.ensures i) (c.reserve.ensures.items i)) in
     (λ i. says (record {
       program = s.code.now;
       weight = done.book.0 i;
+      trace = done.book.1 i;
       budget = s.budget;
       book = done.entry i;
       claims = grew i;

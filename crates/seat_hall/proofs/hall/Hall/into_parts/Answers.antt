@@ -1,5 +1,4 @@
 use Rattle.std.proofs.Common.{◌≡◌, ◌≤◌, ℕ, None, length, ap, subst, ◌∙◌}
-use Rattle.orca_names.specs.declared.trace.Trace.TheVariants.{Deep}
 use Rattle.orca_core.specs.Machine.{options_of}
 use Rattle.seat_hall.specs.Halls.{HallView}
 use Rattle.seat_hall.specs.Log.{claim_in, listed, state_in}
@@ -20,10 +19,10 @@ returns c =
         run = run.2;
         home = λ a. free_is_home s.code.now s.budget s.orca s.book s.claims.items s.lent kept a (free a);
         program = run.0 ∙ ap (λ (h : HallView). h.logged.program) view;
-        options = run.1 ∙ ap (λ (h : HallView). options_of h.logged.weight Deep) view;
+        options = run.1 ∙ ap (λ (h : HallView). options_of h.logged.weight h.logged.trace) view;
         entries = ap (λ (h : HallView). h.logged.book) view;
         weight = ap (λ (h : HallView). h.logged.weight) view;
-        trace = kept.deep;
+        trace = ap (λ (h : HallView). h.logged.trace) view;
         within = subst (λ (n : ℕ). length s.book.entries ≤ n) (ap (λ (h : HallView). h.logged.budget) view) kept.within;
       };
     }

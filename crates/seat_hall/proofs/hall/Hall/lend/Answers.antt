@@ -3,12 +3,14 @@ use Rattle.std.specs.Prelude.{if◌then◌else◌}
 use Rattle.orca_names.specs.declared.limits.TheConstants.{BOOK_LIMIT}
 use Rattle.behaviour_code.specs.WellFormed.{IsWellFormed}
 use Rattle.machine_rules.specs.Actors.{cell_at}
+use Rattle.orca_core.specs.Machine.{options_of}
 use Rattle.actor_cell.specs.Cells.{as_cell}
 use Rattle.book_hall.specs.Causes.{event_at}
-use Rattle.book_hall.proofs.Copying.{run_can_find}
 use Rattle.book_hall.proofs.Firsts.{event_of_actor}
 use Rattle.seat_hall.specs.Halls.{HallView, IsKept}
 use Rattle.seat_hall.specs.Log.{claim_in, state_in}
+use Rattle.seat_hall.proofs.Busy.{IsBusy, busy_of}
+use Rattle.seat_hall.proofs.Founds.{can_find}
 use Rattle.seat_hall.proofs.Kept.{free_is_home, kept_claimed}
 use Rattle.seat_hall.proofs.hall.Hall.lend.Goals as goal
 
@@ -40,8 +42,12 @@ invariant_of-result c =
     sym (c.in-Some.ensures.cell ∙ ap (λ b. if b then None else cell_at s.orca.state.actors c.args.a) home) in
     let good = subst IsWellFormed c.program-program.ensures.value c.program-program.ensures.kept.good in
     let short : length s.book.entries ≤ BOOK_LIMIT = omega arith in
-    let can = run_can_find s.code.now s.book.weight s.book.entries s.orca.state good kept.weight short kept.run cell
-    (ap (cell_at s.orca.state.actors) c.in-Some.ensures.owner ∙ there) in record {
+    let event : event_at s.orca.state c.args.a ≡ Some c.args.event =
+    ap (λ m. event_at m c.args.a) (kept.state_is ∙ ap (λ (h : HallView). state_in h.logged) c.self.view_is) ∙ c.requires.event in
+    let busy = busy_of s.orca.state c.args.a (λ none. (let clash : None ≡ Some c.args.event = sym none ∙ event in cc)) in
+    let can = can_find s.code.now (options_of s.book.weight s.book.trace) s.book.entries s.orca.state good kept.weight short kept.run cell
+    (ap (cell_at s.orca.state.actors) c.in-Some.ensures.owner ∙ there)
+    (subst (IsBusy s.orca.state) (sym c.in-Some.ensures.owner) busy) in record {
       its = event_of_actor (state_in c.args.self.now.logged) c.args.a c.args.event c.requires.event
           ∙ ap Some (sym c.in-Some.ensures.owner);
       serials = can.serials;

@@ -1,4 +1,4 @@
-use Rattle.run_check.proofs.board_tests.wrong_names_change_nothing.Given as goal
+use Rattle.run_check.proofs.board_tests.copies_leave_first.Given as goal
 
 -- the hall is of this run
 abbrev pub ghosts-by_copies : goal.ghosts-by_copies

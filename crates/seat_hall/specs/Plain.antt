@@ -1,0 +1,36 @@
+-- With deep tracing a hall answers what the plain hall of the same book and claims answers.
+use Rattle.std.specs.Prelude.{ℕ, ◌≡◌, ◌↔◌, Option}
+use Rattle.orca_names.specs.declared.trace.Trace.TheVariants.{Deep}
+use Rattle.event_rule.specs.declared.event.Event.{Event}
+use Rattle.work_board.specs.declared.answers.Committed.{Committed}
+use Rattle.work_board.specs.declared.answers.Look.{Look}
+use Rattle.book_hall.specs.Answers as plain_answers
+use Rattle.book_hall.specs.Causes as plain_causes
+use Rattle.book_hall.specs.Halls.{HallValue, state_of}
+use Rattle.seat_hall.specs.declared.item.Item.TheVariants.{Entered}
+use Rattle.seat_hall.specs.Answers.{IsEntered, Tells}
+use Rattle.seat_hall.specs.Log.{Logged, after, claim_cause, claims_in, entry_cause, state_in}
+
+abbrev pub plain : Logged → HallValue
+plain l = record {
+  program = l.program;
+  weight = l.weight;
+  budget = l.budget;
+  book = l.book;
+  claims = claims_in l;
+  stopped = l.stopped;
+}
+
+-- its state, the causes for which it refuses, what it tells to do, and what its entries do are those of
+-- the plain hall
+pub record IsAsPlain (l : Logged) : Type 0 where
+  pub state : state_in l ≡ state_of (plain l)
+  pub claims : (a : ℕ) → claim_cause l a ≡ plain_causes.claim_cause (plain l) a
+  pub entries : (asker : Option ℕ) (e : Event)
+      → entry_cause l asker e ≡ plain_causes.entry_cause (plain l) asker e
+  pub tells : (answer : Look) → Tells answer l ↔ plain_answers.TellsWork (plain l) answer
+  pub enters : (pass : ℕ) (e : Event) (done : Committed) → let m = after l (Entered pass e) in
+      IsEntered l e done m ↔ plain_answers.IsEntered (plain l) e done (plain m)
+
+abbrev pub DeepIsPlain : Type 0
+DeepIsPlain = (l : Logged) → l.trace ≡ Deep → IsAsPlain l

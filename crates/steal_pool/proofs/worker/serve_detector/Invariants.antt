@@ -1,0 +1,6 @@
+use Rattle.std.proofs.Common.{◌≡◌}
+use Rattle.steal_pool.proofs.worker.serve_detector.Given as goal
+
+abbrev pub invariant-loop-entries : goal.invariant-loop-entries
+invariant-loop-entries g l =
+    (g.B.Board.out l.board ≡ g.B.Board.out l.fn.board) × (g.B.Board.hall l.board ≡ g.B.Board.hall l.fn.board)
