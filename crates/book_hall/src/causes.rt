@@ -1,10 +1,10 @@
 // Why a claim or an entry is refused, one cause each.
 
-ghost use Rattle.std.specs.Prelude.{◌≡◌, false};
+ghost use Rattle.std.specs.Prelude.{◌≡◌, false, option_map};
 ghost use Rattle.event_rule.specs.Events.{actor_of};
 ghost use Rattle.machine_rules.specs.Next.{next};
 ghost use Rattle.orca_core.specs.Away.{is_out, is_out_for};
-ghost use Rattle.book_hall.specs.Causes.{absent_cause, actor_cause, busy_cause, event_at, spent_cause, unready_cause};
+ghost use Rattle.book_hall.specs.Causes.{absent_cause, actor_cause, event_at, spent_cause, unready_cause};
 
 use crate::claims::Claims;
 use event_rule::Event;
@@ -38,11 +38,11 @@ pub fn absent(orca: &Orca<'_>, a: ActorName) -> Option<Refuse>
     }
 }
 
-/// A pass, other than the one that asks, has a claim on the actor.
-pub(crate) fn busy(claims: &Claims, asker: Option<u32>, a: ActorName) -> Option<Refuse>
-    ensures { result ≡ busy_cause claims.now asker a }
+/// The pass that has a claim on the actor, if one has.
+pub fn busy(holder: Option<u32>) -> Option<Refuse>
+    ensures { result ≡ option_map Refuse.Busy holder }
 {
-    match claims.holder(asker, a) {
+    match holder {
         Some(holder) => Some(Refuse::Busy { holder }),
         None => None,
     }
@@ -62,7 +62,7 @@ pub(crate) fn actor_refuses(
     };
     match absent(orca, a) {
         Some(refuse) => Some(refuse),
-        None => busy(claims, asker, a),
+        None => busy(claims.holder(asker, a)),
     }
 }
 

@@ -130,7 +130,7 @@ impl<'a> Hall<'a> {
         if let Some(refuse) = absent(&self.orca, a) {
             return Err(refuse);
         }
-        if let Some(refuse) = busy(&self.claims, None, a) {
+        if let Some(refuse) = busy(self.claims.holder(None, a)) {
             return Err(refuse);
         }
         let Some(event) = event_at(&self.orca, a) else {

@@ -13,7 +13,7 @@ mod hall;
 mod programs;
 mod shared;
 
-pub use causes::{absent, actor_of, event_at, spent, unready};
+pub use causes::{absent, actor_of, busy, event_at, spent, unready};
 pub use claims::Claim;
 pub use copy::{CellCopy, Proposal, ProposeErr};
 pub use entering::enter;
