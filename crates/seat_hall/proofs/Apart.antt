@@ -1,6 +1,6 @@
 -- Laws of the rule, at every moment of a hall.
 use Rattle.std.proofs.Common.{◌≡◌, ℕ, ◌<◌, ◌≤◌, ◌==◌, List, [], ◌∷◌, ◌++◌, length, set, sum_by, refl, sym, ap, ◌∙◌, subst, arith, append_assoc, append-nil}
-use Rattle.std.specs.Prelude.{slice_get}
+use Rattle.std.specs.Prelude.{is_some, slice_get}
 use Rattle.std.proofs.lemmas.List.{append_cancel_left}
 use Rattle.std.proofs.lemmas.List.Elements.{filter-append}
 use Rattle.std.proofs.lemmas.List.Sums.{count_by-le-length}
@@ -19,7 +19,7 @@ use Rattle.seat_hall.specs.declared.item.Item.{Item}
 use Rattle.seat_hall.specs.declared.item.Item.TheVariants.{Entered}
 use Rattle.seat_hall.specs.declared.item.PassView.{PassView}
 use Rattle.seat_hall.specs.Fair.{Fair, Knower, Shown, has_number, hall_of, numbers_of, spent_view, start_of}
-use Rattle.seat_hall.specs.Halls.{HallView}
+use Rattle.seat_hall.specs.Halls.{HallView, LacksCell}
 use Rattle.seat_hall.specs.Log.{Legal, Logged, after, begins, by, hall_from, items_by, state_in}
 use Rattle.seat_hall.specs.Passes.{HasIn}
 use Rattle.seat_hall.specs.Stands.{CellsAreApart, EntriesStand, Has, IsOne, NoneIsReaped}
@@ -97,10 +97,15 @@ one_pass passes n i j v w at there has has' most = dite (ℕ_discrete j i)
     let other = term_le (has_number n) (set passes i spent) j w (at_other passes i j w spent apart there) in
     absurd (omega arith))
 
+-- whose claim is out is away from the machine behind the hall
+pub lacks_cell : (pass a : ℕ) (c : Cell) (l : Logged) → HasIn pass a c l → LacksCell a l
+lacks_cell pass a c l has orca book lent kept = kept.away a ∙ ap is_some has.claimed
+
 pub cells_apart : CellsAreApart
 cells_apart log hall passes fair id pass a c k one has =
     let mine = standing log hall passes fair id pass a c k one has in (
       mine,
+      lacks_cell pass a c hall.logged mine,
       λ other number d w one' has'.
           let theirs = standing log hall passes fair other number a d w one' has' in
           let same : pass ≡ number = ap (pass_or 0) (sym mine.claimed ∙ theirs.claimed) in

@@ -1,5 +1,5 @@
 -- The hall as it lies under the turn, without the cells that are out.
-use Rattle.std.specs.Prelude.{ℕ, ◌≡◌, ◌≢◌, ◌≤◌, is_some, List, length, count_by, Option, Some, None}
+use Rattle.std.specs.Prelude.{ℕ, ◌≡◌, ◌≢◌, ◌≤◌, is_some, true, List, length, count_by, Option, Some, None}
 use Rattle.orca_names.specs.declared.limits.TheConstants.{BOOK_LIMIT}
 use Rattle.behaviour_code.specs.declared.code.Program.{Program}
 use Rattle.machine_rules.specs.Run.{IsRun}
@@ -40,3 +40,9 @@ pub record IsKept (program : Program) (budget : ℕ) (orca : Machine) (book : Bo
   pub sized : length claims ≡ length orca.state.actors
   pub counted : lent ≡ count_by is_some claims
   pub busy : ClaimedAreBusy orca.state claims
+
+-- no machine that may stand behind the hall has the actor's cell
+abbrev pub LacksCell : ℕ → Logged → Type 0
+LacksCell a l =
+    (orca : Machine) (book : BookValue) (lent : ℕ) → IsKept l.program l.budget orca book l.claims lent
+    → is_out orca.out a ≡ true

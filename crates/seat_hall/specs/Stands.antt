@@ -17,7 +17,7 @@ use Rattle.seat_hall.specs.declared.item.Item.{Item}
 use Rattle.seat_hall.specs.declared.item.Item.TheVariants.{Entered}
 use Rattle.seat_hall.specs.declared.item.PassView.{PassView}
 use Rattle.seat_hall.specs.Fair.{Fair, Knower, has_number, hall_of}
-use Rattle.seat_hall.specs.Halls.{HallView}
+use Rattle.seat_hall.specs.Halls.{HallView, LacksCell}
 use Rattle.seat_hall.specs.Log.{Legal, begins, hall_from, state_in}
 use Rattle.seat_hall.specs.Passes.{HasIn}
 
@@ -39,12 +39,13 @@ pub record IsOne (log : List Item) (passes : List Knower) (id pass : ℕ) (k : K
 abbrev pub Has : ℕ → ℕ → Cell → Knower → Type 0
 Has pass a c k = HasIn pass a c (hall_of k.client k.seen)
 
--- a cell that a pass has is the book's, the hall has given it to this pass, and no other pass has it
+-- a cell that a pass has is the book's, and the hall's claim on it is this pass's; the hall lacks it, and so
+-- does each other pass
 abbrev pub CellsAreApart : Type 0
 CellsAreApart =
     (log : List Item) (hall : HallView) (passes : List Knower) → Fair log hall passes
     → (id pass a : ℕ) (c : Cell) (k : Knower) → IsOne log passes id pass k → Has pass a c k
-    → HasIn pass a c hall.logged
+    → HasIn pass a c hall.logged × LacksCell a hall.logged
     × ((other number : ℕ) (d : Cell) (w : Knower) → IsOne log passes other number w → Has number a d w
     → other ≡ id)
 

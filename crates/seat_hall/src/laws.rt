@@ -8,7 +8,7 @@ pub fn books_are_runs()
     ensures { BooksAreRuns }
 {}
 
-/// A cell that a pass has is the book's, its claim stands in the hall, and no other pass has it.
+/// A cell that a pass has is the book's, and its claim stands in the hall; neither the hall has it nor another pass.
 pub fn cells_are_apart()
     ensures { CellsAreApart }
 {}
