@@ -8,7 +8,7 @@ ghost use Rattle.hall_check.specs.Keeping.{KeepsClaim, keeps_claim_prop};
 use crate::asking::{
     Answer, BY_EVENTS, Call, Keeper, ONE_ENTRY, TAKE, TWO_PASSES, Want, answers, entry,
 };
-use crate::programs::{SEVEN, TWO_PRINT, checked};
+use crate::programs::{PRINTS_TWICE, SEVEN, TWO_PRINT, checked};
 use event_rule::Event;
 use orca_core::Orca;
 use orca_names::{ActorName, Trace};
@@ -17,7 +17,7 @@ use seat_hall::{Closing, HallSeat, Passes, SeatHall, SeatPass, SeatTask};
 use std::process::Abort;
 use std::sync::Wait;
 use std::test::Fail;
-use work_board::Board;
+use work_board::{Board, Committed, Refuse};
 
 /// A pass, with the one claim of it that is out.
 #[derive(Drop)]
@@ -225,5 +225,67 @@ fn so_many_passes_are_split_off(rt: HostRuntime) -> Result<(), Fail> {
     assert_eq!(rt; splits(&rt, &mut pass, 70_000), 65_535);
     let seat = pass.into_seat();
     assert_eq!(rt; ended(hall, seat), End::Whole(0, 0));
+    Ok(())
+}
+
+/// Whether it is an entry at this place.
+fn is_at(answer: Result<Committed, Refuse>, place: u64) -> bool {
+    match answer {
+        Ok(done) => done.place == place,
+        Err(_) => false,
+    }
+}
+
+/// Whether a pass tells of entries at just these places while it goes on with an actor.
+fn goes_on<R: AllocGlobal + Wait>(
+    rt: &R,
+    pass: &mut SeatPass<'_, '_>,
+    actor: ActorName,
+    places: &[u64],
+) -> bool
+    ensures { pass.new.token.table_id ≡ pass.old.token.table_id }
+{
+    let Ok(mut task) = pass.claim(rt, rt.alloc(), actor) else {
+        return false;
+    };
+    let mut well = true;
+    for place in places {
+        let _ = pass.propose(rt.alloc(), &mut task);
+        let mut next = None;
+        let answer = pass.advance(rt, rt.alloc(), actor, task, &mut next);
+        well = well && is_at(answer, *place);
+        match next {
+            Some(claim) => task = claim,
+            None => return well && places.last() == Some(place),
+        }
+    }
+    false
+}
+
+/// The seat of a pass that goes on with the first actor and then with the second, and whether it tells of
+/// entries at these places.
+fn both_go_on<'a, R: AllocGlobal + Wait>(
+    rt: &R,
+    pass: SeatPass<'_, 'a>,
+    first: &[u64],
+    second: &[u64],
+) -> (HallSeat<'a>, bool)
+    ensures { result.0.token.table_id ≡ pass.entry.token.table_id }
+{
+    let mut pass = pass;
+    let well = goes_on(rt, &mut pass, ActorName(0), first)
+        && goes_on(rt, &mut pass, ActorName(1), second);
+    (pass.into_seat(), well)
+}
+
+#[test]
+fn a_commit_goes_on_with_its_actor(rt: HostRuntime) -> Result<(), Fail> {
+    let code = checked(rt.alloc(), PRINTS_TWICE)?;
+    let (hall, seat) = SeatHall::start(rt.alloc(), &code, 100, 256, Trace::Deep)?;
+    // The second actor's second letter is taken behind its first turn, at place 8, by the commit of that turn.
+    let pass = hall.first_pass(seat);
+    let (seat, well) = both_go_on(&rt, pass, &[0, 1, 2, 3, 4], &[5, 6, 7, 9, 10]);
+    assert_eq!(rt; ended(hall, seat), End::Whole(11, 2));
+    assert!(rt; well);
     Ok(())
 }

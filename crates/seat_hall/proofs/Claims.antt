@@ -13,6 +13,11 @@ abbrev pub of_another : Option ℕ → Option ℕ → Option ℕ
 of_another asker None = None
 of_another asker (Some pass) = if is_anothers asker pass then Some pass else None
 
+-- who has no claim of its own is told each
+pub of_any : (o : Option ℕ) → of_another None o ≡ o
+of_any None = refl
+of_any (Some pass) = refl
+
 same : (n : ℕ) → (n == n) ≡ true
 same n = grind (arith, nat_tests)
 

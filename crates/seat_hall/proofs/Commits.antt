@@ -1,5 +1,5 @@
 -- What a commit tells, whatever it answers.
-use Rattle.std.proofs.Common.{◌≡◌, ℕ, ◌+◌, [], ◌∷◌, Option, Some, None, Result, Ok, Err, IfOk, IfErr, OnOk, OnErr, refl, sym, ap, subst, ◌∙◌}
+use Rattle.std.proofs.Common.{◌≡◌, ℕ, ◌+◌, [], ◌∷◌, Some, Result, Ok, Err, IfOk, IfErr, OnOk, OnErr, refl, sym, ap, subst, ◌∙◌}
 use Rattle.turn_log.specs.Knowing.{having_written}
 use Rattle.turn_log.specs.Seats.{knows}
 use Rattle.event_rule.specs.Events.{actor_of}
@@ -12,7 +12,7 @@ use Rattle.seat_hall.specs.declared.item.Item.TheVariants.{Ended, Entered}
 use Rattle.seat_hall.specs.Answers.{Enters, RefusesEntry}
 use Rattle.seat_hall.specs.Fair.{Follows, IsOwn, after_item}
 use Rattle.seat_hall.specs.Halls.{HallView, says}
-use Rattle.seat_hall.specs.Log.{Logged, MayFollow, after}
+use Rattle.seat_hall.specs.Log.{MayFollow, after}
 use Rattle.seat_hall.specs.Passes.{Calls, HasCell, HasIn, IsAtHall, KeepsOthers, StandsAt, Token, out}
 use Rattle.seat_hall.proofs.Counts.{out_committed, out_ended}
 use Rattle.seat_hall.proofs.Holding.{pass_or}
@@ -26,7 +26,7 @@ module _ (n a : ℕ) (old mid : Token) (h : HallView) (at : IsAtHall n old mid h
   may_enter : (done : Committed) → Enters (Some n) n e done h.logged → MayFollow h.logged (Entered n e)
   may_enter done enters = (at.given, enters.may)
 
-  may_end : MayFollow h.logged (Ended n a)
+  pub may_end : MayFollow h.logged (Ended n a)
   may_end = (at.given, mine.claimed)
 
   -- the hall that it leaves, and its answer
@@ -56,7 +56,7 @@ module _ (n a : ℕ) (old mid : Token) (h : HallView) (at : IsAtHall n old mid h
       commit_client (Err refuse) none is = client_then n old mid new h at (Ended n a) refl (wrote_as (Ended n a) is)
 
       pub commit_turns : (r : Result Committed Refuse) → OnOk r (Leaves (Entered n e)) → OnErr r (Leaves (Ended n a))
-          → (knows new).turns ≡ (knows old).turns + 1
+          → (knows mid).turns ≡ (knows old).turns + 1 → (knows new).turns ≡ (knows old).turns + 1
       commit_turns (Ok done) is none = turns_then n old mid new h at (Entered n e) refl (wrote_as (Entered n e) is)
       commit_turns (Err refuse) none is = turns_then n old mid new h at (Ended n a) refl (wrote_as (Ended n a) is)
 

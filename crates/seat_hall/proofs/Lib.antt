@@ -17,6 +17,9 @@ pub mod Parting
 pub mod Turns
 pub mod Unmade
 pub mod Commits
+pub mod Items
+pub mod Under
+pub mod Advances
 pub mod Splits
 pub mod Plain
 pub mod Ends

@@ -40,7 +40,7 @@ at_hall pass old new h number now learns =
       heavy = shown.heavy voiced;
       given = shown.given pass has;
       number = ap (λ k. k.client.numbers) now ∙ number;
-      now = now;
+      client = ap (λ k. k.client) now;
     }
 
 -- ---- a call, whose turn was from old to mid, and which left the pass at new
@@ -71,7 +71,7 @@ module _ (pass : ℕ) (old mid new : Token) (h : HallView) (at : IsAtHall pass o
   has_now a c has = subst (HasIn pass a c) (sym at.shows) (still_has a c has)
 
   pub client_still : (knows mid).client ≡ (knows old).client
-  client_still = ap (λ k. k.client) at.now
+  client_still = at.client
 
   -- as many of its claims are out
   pub out_now : count_by (is_of pass) h.logged.claims ≡ out pass old
@@ -143,14 +143,14 @@ module _ (pass : ℕ) (old mid new : Token) (h : HallView) (at : IsAtHall pass o
 
   -- where the call wrote an item of its own
   module _ (i : Item) (own : IsOwn pass i) (wrote : knows new ≡ having_written after_item i (knows mid)) where
-    seen_then : seen new ≡ seen mid ++ i ∷ []
+    pub seen_then : seen new ≡ seen mid ++ i ∷ []
     seen_then = ap (λ k. k.seen) wrote
 
     pub client_then : (knows new).client ≡ (knows old).client
     client_then = ap (λ k. k.client) wrote ∙ (own_client pass i (knows mid).client own ∙ client_still)
 
-    pub turns_then : (knows new).turns ≡ (knows old).turns + 1
-    turns_then = ap (λ k. k.turns) wrote ∙ ap (λ k. k.turns) at.now
+    pub turns_then : (knows mid).turns ≡ (knows old).turns + 1 → (knows new).turns ≡ (knows old).turns + 1
+    turns_then had = ap (λ k. k.turns) wrote ∙ had
 
     pub writes : (Q : Logged → Type 0) → Q h.logged → Calls pass old new (i ∷ []) Q
     writes Q answer = record {
@@ -166,7 +166,7 @@ module _ (pass : ℕ) (old mid new : Token) (h : HallView) (at : IsAtHall pass o
         same = let e = own_is pass i own in grind (arith, nat_tests)
 
     -- the hall that it leaves
-    hall_then : after h.logged i ≡ hall new (seen new)
+    pub hall_then : after h.logged i ≡ hall new (seen new)
     hall_then =
         ap (λ (l : Logged). after l i) at.shows
         ∙ (sym (hall_append (start_of (knows old).client) (seen mid) (i ∷ []))

@@ -1,10 +1,11 @@
 -- What a call answers in the hall before its item.
-use Rattle.std.specs.Prelude.{ℕ, ◌≡◌, ◌≢◌, ◌==◌, ◌+◌, ◌≤◌, ◌||◌, Bool, true, false, [], ◌∷◌, ◌++◌, length, Option, Some, None}
+use Rattle.std.specs.Prelude.{ℕ, ◌≡◌, ◌≢◌, ◌==◌, ◌+◌, ◌≤◌, ◌||◌, Bool, true, false, [], ◌∷◌, ◌++◌, length, Option, Some, None, IfSome}
 use Rattle.orca_names.specs.declared.trace.Trace.{Trace}
 use Rattle.behaviour_code.specs.declared.code.Program.{Program}
 use Rattle.event_rule.specs.Events.{actor_of}
 use Rattle.event_rule.specs.Runs.{Goes, IsFirst, IsQuiet}
 use Rattle.event_rule.specs.declared.event.Event.{Event}
+use Rattle.event_rule.specs.declared.event.Event.TheVariants.{Take, Go, Collect, Leave, Block, Hear, Scan, Reap}
 use Rattle.actor_cell.specs.declared.cell.Cell.{Cell}
 use Rattle.actor_cell.specs.declared.found.Found.{Found}
 use Rattle.actor_cell.specs.Cells.{as_cell}
@@ -60,9 +61,24 @@ pub record IsTaken (a : ℕ) (taken : Taken) (l : Logged) : Type 0 where
   pub owner : taken.cell.heap.owner ≡ a
   pub at : taken.at ≡ length l.book
 
+-- the event is an act of its actor: it takes a letter, or goes on with its turn
+abbrev pub is_act : Event → Bool
+is_act (Take a) = true
+is_act (Go a) = true
+is_act (Collect a) = false
+is_act (Leave a) = false
+is_act (Block a) = false
+is_act Hear = false
+is_act Scan = false
+is_act (Reap token) = false
+
 -- the claim is granted, and this is what it gives
 abbrev pub Grants : ℕ → Taken → Logged → Type 0
 Grants a taken l = (claim_cause l a ≡ None) × IsTaken a taken l
+
+-- a claim is refused, or would be for no act
+abbrev pub NoAct : ℕ → Logged → Type 0
+NoAct a l = claim_cause l a ≡ None → IfSome (event_at (state_in l) a) (λ e. is_act e ≡ false)
 
 -- the claim is refused, and never for want of memory
 abbrev pub RefusesClaim : ℕ → Refuse → Logged → Type 0

@@ -3,6 +3,7 @@ pub mod Halls
 pub mod Answers
 pub mod Fair
 pub mod Passes
+pub mod Advances
 pub mod Closes
 pub mod Stands
 pub mod Plain

@@ -9,7 +9,6 @@ use Rattle.actor_cell.specs.declared.cell.Cell.{Cell}
 use Rattle.actor_cell.specs.Cells.{as_cell}
 use Rattle.machine_rules.specs.Actors.{cell_at}
 use Rattle.turn_log.specs.declared.table.SeatView.{SeatView}
-use Rattle.turn_log.specs.Knowing.{at_turn}
 use Rattle.turn_log.specs.Seats.{IsIdle, IsSame, knows}
 use Rattle.book_hall.specs.Causes.{event_at}
 use Rattle.seat_hall.specs.declared.item.Item.{Item}
@@ -61,7 +60,7 @@ pub record IsAtHall (pass : ℕ) (old new : Token) (h : HallView) : Type 0 where
   pub heavy : 0 < (knows old).client.weight
   pub given : pass ≤ h.logged.made
   pub number : (knows new).client.numbers ≡ pass ∷ []
-  pub now : knows new ≡ at_turn (seen new) (knows old)
+  pub client : (knows new).client ≡ (knows old).client
 
 -- a call at its own step: its answer is that of the hall after the whole log, of which its own item, if
 -- any, is then the last; and of the pass's items the log has those from before and this one

@@ -1,6 +1,6 @@
 // A hall whose cells move out, and one worker's pass to it.
 
-ghost use Rattle.std.specs.Prelude.{◌≡◌, ℕ, ◌+◌, ◌-◌, ◌≤◌, ◌||◌, ◌∷◌, [], false, true, IfErr, IfOk, IsSomeAnd, None, OnErr, OnOk, Some, ⊤};
+ghost use Rattle.std.specs.Prelude.{◌≡◌, ℕ, ◌+◌, ◌-◌, ◌≤◌, ◌||◌, ◌∷◌, [], false, true, IfErr, IfNone, IfOk, IfSome, IsSomeAnd, None, OnErr, OnOk, Some, ⊤};
 ghost use Rattle.orca_names.specs.declared.limits.TheConstants.{BOOK_LIMIT};
 ghost use Rattle.run_book.specs.Books.{IsWeight};
 ghost use Rattle.event_rule.specs.Events.{actor_of};
@@ -9,12 +9,14 @@ ghost use Rattle.work_board.specs.Answered.{is_end, is_spoiling};
 ghost use Rattle.turn_log.specs.Knowing.{longer, newcomer};
 ghost use Rattle.turn_log.specs.Seats.{knows};
 ghost use Rattle.seat_hall.specs.declared.item.Item.TheVariants.{Claimed, Ended, Entered, Stopped};
+ghost use Rattle.seat_hall.specs.Advances.{Advances};
 ghost use Rattle.seat_hall.specs.Answers.{AllAreGiven, Enters, Grants, RefusesClaim, RefusesEntry, Tells};
 ghost use Rattle.seat_hall.specs.Boards.{CallsAs, KeepsItsCells, StaysPass, out_of};
 ghost use Rattle.seat_hall.specs.Closes.{Closes};
 ghost use Rattle.seat_hall.specs.Fair.{first_view};
 ghost use Rattle.seat_hall.specs.Passes.{IsIdlePass, KeepsOthers, MayCommit, SplitsOff, StandsAt, seen};
 
+use crate::advancing::advance;
 use crate::closing::Closing;
 use crate::pass::{ask_stop, claim, commit, direct, look};
 use crate::rule::{HallLog, PassSeat, begin};
@@ -303,6 +305,57 @@ impl<'h, 'a> Board for SeatPass<'h, 'a> {
             (RefusesEntry (Some n) taken.event refuse)) }
     {
         let answer = commit(rt, alloc, self.log, &mut self.token, self.number, task);
+        self.spoilt = noted(self.spoilt, &answer);
+        answer
+    }
+
+    /// Commits the task, as `commit` does, and goes on with its actor: where it has a letter to take this
+    /// becomes an entry at once, unless that is refused, and where its next event is an act it is claimed.
+    /// All is done under one turn.
+    ///
+    /// # Errors
+    /// As `commit`. The actor isn't claimed then.
+    fn advance<R: Wait>(
+        &mut self,
+        rt: &R,
+        alloc: Global,
+        a: ActorName,
+        task: SeatTask<'a>,
+        next: &mut Option<SeatTask<'a>>,
+    ) -> Result<Committed, Refuse>
+        requires actor { actor_of task.taken.event ≡ Some a }
+        requires tried { task.tried ≡ true }
+        requires owns { MayCommit self.old.number self.old.token task }
+        requires free { next.old ≡ None }
+        ensures actor { IfSome next.new (λ claim. actor_of claim.taken.event ≡ Some a) }
+        ensures fresh { IfSome next.new (λ claim. claim.tried ≡ false) }
+        ensures owns { IfSome next.new (λ claim. MayCommit self.new.number self.new.token claim) }
+        ensures one { IfSome next.new (λ _. out_of self.new ≤ out_of self.old - 1 + 1) }
+        ensures none { IfNone next.new (out_of self.new ≡ out_of self.old - 1) }
+        ensures free { OnErr result (next.new ≡ None) }
+        ensures ended { self.new.ended ≡ self.old.ended }
+        ensures spoilt { (self.old.spoilt || is_spoiling result) ≡ true → self.new.spoilt ≡ true }
+        ensures hall { self.new.token.table_id ≡ self.old.token.table_id }
+        ensures stays { StaysPass 1 self.old self.new }
+        ensures cells { KeepsOthers self.old.number a self.old.token self.new.token }
+        ensures spoils { self.new.spoilt ≡ (self.old.spoilt || is_spoiling result) }
+        ensures went { IfSome next.new (λ _. out_of self.new ≡ out_of self.old) }
+        ensures left { IfNone next.new (out_of self.old ≡ out_of self.new + 1) }
+        ensures ok { let n = self.old.number in let e = task.entry.taken.event in IfOk result
+            (λ done. Advances n a e done next.new self.old.token self.new.token) }
+        ensures stands { IfOk result (λ done. StandsAt self.new.token done.place task.entry.taken.event) }
+        ensures refused { let n = self.old.number in IfErr result (λ refuse.
+            CallsAs self.old self.new (Ended n a ∷ []) (RefusesEntry (Some n) task.entry.taken.event refuse)) }
+    {
+        let answer = advance(
+            rt,
+            alloc,
+            self.log,
+            &mut self.token,
+            self.number,
+            task,
+            next,
+        );
         self.spoilt = noted(self.spoilt, &answer);
         answer
     }

@@ -1,18 +1,18 @@
 // Claims, which take cells out of a hall, and their ends.
 
-ghost use Rattle.std.specs.Prelude.{◌≡◌, ◌<◌, length, IfErr, IfOk, None, OnErr, OnOk, Some};
+ghost use Rattle.std.specs.Prelude.{◌≡◌, ◌<◌, true, length, IfErr, IfNone, IfOk, IfSome, None, OnErr, OnOk, Some};
 ghost use Rattle.book_hall.specs.Causes.{busy_cause, event_at};
 ghost use Rattle.seat_hall.specs.declared.item.Item.TheVariants.{Claimed, Ended};
-ghost use Rattle.seat_hall.specs.Answers.{Grants, IsTaken, RefusesClaim};
+ghost use Rattle.seat_hall.specs.Answers.{Grants, IsTaken, NoAct, RefusesClaim, is_act};
 ghost use Rattle.seat_hall.specs.Halls.{says};
-ghost use Rattle.seat_hall.specs.Log.{after, claim_in, claims_in, state_in};
+ghost use Rattle.seat_hall.specs.Log.{after, claim_cause, claim_in, claims_in, state_in};
 ghost use Rattle.seat_hall.specs.Passes.{HasIn};
 
 use crate::hall::Hall;
 use crate::item::Item;
 use crate::taken::Taken;
 use actor_cell::Cell;
-use book_hall::{absent, event_at};
+use book_hall::{absent, busy, event_at};
 use event_rule::Event;
 use orca_names::ActorName;
 use work_board::Refuse;
@@ -24,14 +24,37 @@ fn claim_in(claims: &[Option<u32>], a: ActorName) -> Option<u32>
     *claims.get(a.0 as usize)?
 }
 
+// The event takes a letter, or goes on with a turn.
+fn is_act(e: &Event) -> bool
+    ensures { result ≡ is_act e.now }
+{
+    matches!(e, Event::Take(_) | Event::Go(_))
+}
+
 impl<'a> Hall<'a> {
     /// A claim on the actor is out.
     pub(crate) fn busy(&self, a: ActorName) -> Option<Refuse>
         ensures { result ≡ busy_cause (claims_in self.now.logged) None a }
     {
-        match claim_in(&self.claims, a) {
-            Some(holder) => Some(Refuse::Busy { holder }),
-            None => None,
+        busy(claim_in(&self.claims, a))
+    }
+
+    // The first enabled event of an actor on which a claim is granted.
+    fn ready(&self, a: ActorName) -> Result<Event, Refuse>
+        ensures ok { OnOk result (claim_cause self.now.logged a ≡ None) }
+        ensures free { OnOk result (claim_in self.now.logged.claims a ≡ None) }
+        ensures event { IfOk result (λ e. event_at (state_in self.now.logged) a ≡ Some e) }
+        ensures refused { IfErr result (λ refuse. RefusesClaim a refuse self.now.logged) }
+    {
+        if let Some(refuse) = absent(&self.orca, a) {
+            return Err(refuse);
+        }
+        if let Some(refuse) = self.busy(a) {
+            return Err(refuse);
+        }
+        match event_at(&self.orca, a) {
+            Some(event) => Ok(event),
+            None => Err(Refuse::NotReady),
         }
     }
 
@@ -50,16 +73,33 @@ impl<'a> Hall<'a> {
         ensures refused { IfErr result (λ refuse. RefusesClaim a refuse self.old.logged) }
         ensures same { OnErr result (self.new ≡ self.old) }
     {
-        if let Some(refuse) = absent(&self.orca, a) {
-            return Err(refuse);
+        match self.ready(a) {
+            Ok(event) => Ok(self.lend(pass, a, event)),
+            Err(refuse) => Err(refuse),
         }
-        if let Some(refuse) = self.busy(a) {
-            return Err(refuse);
+    }
+
+    /// As `claim`, where the event is an act: to take a letter, or a segment of a turn. Else there is no
+    /// claim.
+    pub(crate) fn claim_act(&mut self, pass: u32, a: ActorName) -> Option<Taken<'a>>
+        ensures some { IfSome result (λ taken. Grants a taken self.old.logged) }
+        ensures act { IfSome result (λ taken. is_act taken.event ≡ true) }
+        ensures claimed { IfSome result (λ _.
+            self.new ≡ says (after self.old.logged (Claimed pass a)) (Claimed pass a)) }
+        ensures within { IfSome result (λ _. a < length self.old.logged.claims) }
+        ensures none { IfNone result (NoAct a self.old.logged) }
+        ensures same { IfNone result (self.new ≡ self.old) }
+    {
+        match self.ready(a) {
+            Ok(event) => {
+                if is_act(&event) {
+                    Some(self.lend(pass, a, event))
+                } else {
+                    None
+                }
+            }
+            Err(_refuse) => None,
         }
-        let Some(event) = event_at(&self.orca, a) else {
-            return Err(Refuse::NotReady);
-        };
-        Ok(self.lend(pass, a, event))
     }
 
     // Lends the cell of an actor that has this event, and on which no claim is out.

@@ -5,6 +5,7 @@
 //! (`book_hall`) answers after the same log.
 #![tactic(auto)]
 
+mod advancing;
 mod board;
 mod boxed;
 mod claiming;

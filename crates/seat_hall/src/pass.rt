@@ -30,6 +30,7 @@ pub(crate) fn turn<'a, R: Wait>(
     ensures same { IsSame seat.old seat.new }
     ensures turn { IsAtTurn result seat.new × Has None seat.new }
     ensures at { IsAtHall number seat.old seat.new result }
+    ensures turns { (knows seat.new).turns ≡ (knows seat.old).turns + 1 }
 {
     log.take_turn(rt, seat)
 }
@@ -52,7 +53,26 @@ pub(crate) fn give_back<'a>(
     log.pass_on(seat);
 }
 
-// Puts the hall back as a call of the pass left it, writes the call's item, and passes the turn on.
+// Puts the hall back as a call of the pass left it, and writes the call's item.
+pub(crate) fn write_item<'a>(
+    log: &HallLog<'a>,
+    seat: &mut PassSeat<'a>,
+    number: u32,
+    hall: BoxedHall<'a>,
+)
+    requires own { seat.old.table_id ≡ log.now }
+    requires turn { (before : HallView) × IsAtTurn before seat.old × Has None seat.old }
+    requires own_item { IsOwn number hall.last }
+    requires rule { Follows number hall.last (knows seat.old) hall }
+    ensures same { IsSame seat.old seat.new }
+    ensures turn { IsAtTurn hall.entry seat.new × Has (Some hall.entry) seat.new }
+    ensures knows { knows seat.new ≡ having_written after_item hall.entry.last (knows seat.old) }
+{
+    log.put(seat, hall);
+    log.write(seat);
+}
+
+// As `write_item`, and passes the turn on.
 pub(crate) fn write_back<'a>(
     log: &HallLog<'a>,
     seat: &mut PassSeat<'a>,
@@ -67,8 +87,7 @@ pub(crate) fn write_back<'a>(
     ensures pass { IsPass number seat.new }
     ensures knows { knows seat.new ≡ having_written after_item hall.entry.last (knows seat.old) }
 {
-    log.put(seat, hall);
-    log.write(seat);
+    write_item(log, seat, number, hall);
     log.pass_on(seat);
 }
 

@@ -21,7 +21,7 @@ const A_WHILE: u32 = 32;
 pub(crate) struct Place {
     /// By what they steal from it.
     stealer: OnceLock<Stealer<ActorName>>,
-    /// How many evaluations it began, and how many it ended: odd while it is at one.
+    /// How many evaluations it began and ended, counted together: odd while it is at one.
     steps: CachePadded<AtomicU64>,
 }
 

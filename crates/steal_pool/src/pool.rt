@@ -68,11 +68,12 @@ fn work_in<R: Threads + Wait + Sync, B: Board + Send, G: Gate + Sync>(
 ///
 /// A worker takes the name of an actor from its own deque, or else steals one from another's, or else
 /// asks its board. Names are hints: one that is refused is forgotten. Where there is memory for no
-/// deque it goes by its board alone. It stays with an actor while that seems to go on.
+/// deque it goes by its board alone. It stays with an actor while its board goes on with it.
 ///
-/// Who keeps no name rests, as long as others are awake and none of them is at an evaluation for a
-/// while: turns at the board cost more than short evaluations bring. The last one that is awake never
-/// rests, and it alone makes the detector's events entries.
+/// Who keeps no name asks others, and its board, only where it alone is awake or another is at an
+/// evaluation for a while: turns at the board cost more than short evaluations bring. Else, or where it
+/// finds nothing, it rests, and looks up again after some milliseconds at most, or when a worker ends.
+/// The last one that is awake never rests, and it alone makes the detector's events entries.
 ///
 /// Several workers pass the gate before each segment that they evaluate.
 pub fn work<R: Threads + Wait + Sync, B: Board + Send, G: Gate + Sync>(

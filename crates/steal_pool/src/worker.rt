@@ -1,11 +1,10 @@
 // One worker.
 
-ghost use Rattle.std.specs.Prelude.{◌≡◌, true};
+ghost use Rattle.std.specs.Prelude.{◌≡◌, ◌≤◌, true};
 ghost use Rattle.work_board.specs.Answered.{is_end, is_spoiling};
 
 use crate::crew::{Crew, FIRST_PAUSE};
 use crate::hints::Hints;
-use crossbeam_utils::Backoff;
 use event_rule::Event;
 use orca_names::ActorName;
 use outside_world::Gate;
@@ -13,15 +12,19 @@ use std::alloc::Global;
 use std::sync::Wait;
 use work_board::{Board, Committed, Look, Refuse};
 
-/// How many events in a row a worker enters of one actor, and of the detector.
+/// How often in a row a worker commits a task of one actor, and enters an event of the detector.
 const STREAK: u32 = 64;
 
 // What a worker tries that keeps no name: the actor of another's hint, or else what the board knows of.
-fn from_others<R: Wait, B: Board>(rt: &R, board: &mut B, hints: &Hints) -> Look
+// Where it isn't to ask it tries nothing, unless another worker is at an evaluation for a while.
+fn from_others<R: Wait, B: Board>(rt: &R, board: &mut B, hints: &Hints, asks: bool) -> Look
     ensures ended { is_end result ≡ true → B.ended board.new ≡ true }
     ensures hall { B.hall board.new ≡ B.hall board.old }
     ensures out { B.out board.new ≡ B.out board.old }
 {
+    if !asks && !hints.may_join() {
+        return Look::Others;
+    }
     match hints.steal() {
         Some(a) => Look::Actor(a),
         None => board.look(rt),
@@ -50,54 +53,73 @@ fn settle<R: Wait, B: Board>(
     }
 }
 
-/// An entry of an actor.
-#[derive(Clone, Copy)]
-struct Done {
-    /// It was a segment of a turn.
-    segment: bool,
-    woke: Option<ActorName>,
-}
-
-// Claims the actor, evaluates its event and commits it, and tells what was entered. Where the evaluation
-// found no memory the board evaluates at the commit.
-fn try_actor<R: Wait, B: Board, G: Gate>(
+// Evaluates the task, past the gate where it is a segment of a turn. Where the evaluation finds no memory the
+// board evaluates at the commit.
+fn evaluate<R: Wait, B: Board, G: Gate>(
     rt: &R,
     alloc: Global,
     board: &mut B,
     hints: &Hints,
     gate: Option<&G>,
-    a: ActorName,
-) -> Option<Done>
-    requires { B.out board.old ≡ 0 }
-    ensures hall { B.hall board.new ≡ B.hall board.old }
-    ensures out { B.out board.new ≡ 0 }
+    task: &mut B::Task,
+)
+    ensures tried { B.tried task.new ≡ true }
+    ensures event { B.event task.new ≡ B.event task.old }
+    ensures owns { B.owns board.old task.old → B.owns board.new task.new }
+    ensures same { board.new ≡ board.old }
 {
-    let mut task = match board.claim(rt, alloc, a) {
-        Ok(task) => task,
-        Err(refuse) => {
-            settle(rt, board, Err(refuse));
-            return None;
-        }
-    };
-    let segment = board.segment_of(&task);
+    let segment = board.segment_of(task);
     hints.step();
     if let (Some(gate), Some((who, at))) = (gate, segment) {
         gate.enter(rt, who, at);
     }
-    let _ = board.propose(alloc, &mut task);
+    let _ = board.propose(alloc, task);
     hints.step();
-    let answer = board.commit(rt, alloc, task);
-    let done = settle(rt, board, answer)?;
-    Some(Done {
-        segment: segment.is_some(),
-        woke: done.woke,
-    })
 }
 
-// Enters events of the actor, one after the other, while it seems to go on: after an act by which some
-// actor is woken its turn isn't over, and a letter that it took may begin one. Where it could merely
-// collect or report it is left, since others may write to it yet. Keeps the names that are woken. Tells
-// whether it entered any.
+// Keeps the name of the actor that an entry woke, or settles why there is none. Tells whether there is one.
+fn keep_woken<R: Wait, B: Board>(
+    rt: &R,
+    board: &mut B,
+    hints: &mut Hints,
+    answer: Result<Committed, Refuse>,
+) -> bool
+    requires { is_spoiling answer ≡ true → B.spoilt board.old ≡ true }
+    ensures hall { B.hall board.new ≡ B.hall board.old }
+    ensures out { B.out board.new ≡ B.out board.old }
+{
+    let Some(done) = settle(rt, board, answer) else {
+        return false;
+    };
+    if let Some(name) = done.woke {
+        hints.keep(name);
+    }
+    true
+}
+
+// Enters the last event for now of an actor that seems to go on, and keeps the actor's name.
+fn enter_last<R: Wait, B: Board, G: Gate>(
+    rt: &R,
+    alloc: Global,
+    board: &mut B,
+    hints: &mut Hints,
+    gate: Option<&G>,
+    a: ActorName,
+    mut task: B::Task,
+)
+    requires owns { B.owns board.old task }
+    requires one { B.out board.old ≤ 1 }
+    ensures hall { B.hall board.new ≡ B.hall board.old }
+    ensures out { B.out board.new ≡ 0 }
+{
+    evaluate(rt, alloc, board, hints, gate, &mut task);
+    let answer = board.commit(rt, alloc, task);
+    keep_woken(rt, board, hints, answer);
+    hints.keep(a);
+}
+
+// Enters events of the actor, one after the other, while the board goes on with it. Keeps the names that are
+// woken. Tells whether it entered any.
 fn stay_with<R: Wait, B: Board, G: Gate>(
     rt: &R,
     alloc: Global,
@@ -110,25 +132,33 @@ fn stay_with<R: Wait, B: Board, G: Gate>(
     ensures hall { B.hall board.new ≡ B.hall board.old }
     ensures out { B.out board.new ≡ 0 }
 {
-    let mut between = false;
-    for entries in 0..STREAK {
-        let Some(done) = try_actor(rt, alloc, board, hints, gate, a) else {
-            return entries > 0;
-        };
-        if let Some(name) = done.woke {
-            hints.keep(name);
+    let mut task = match board.claim(rt, alloc, a) {
+        Ok(task) => task,
+        Err(refuse) => {
+            settle(rt, board, Err(refuse));
+            return false;
         }
-        let over = if done.segment {
-            done.woke.is_none()
-        } else {
-            between
-        };
-        if over {
-            return true;
+    };
+    for entries in 1..STREAK {
+        evaluate(rt, alloc, board, hints, gate, &mut task);
+        let mut next = None;
+        let answer = board.advance(rt, alloc, a, task, &mut next);
+        match next {
+            Some(claim) => task = claim,
+            None => return keep_woken(rt, board, hints, answer) || entries > 1,
         }
-        between = !done.segment;
+        // Its own name it needn't keep, since it goes on with it.
+        match answer {
+            Ok(
+                Committed {
+                    woke: Some(name),
+                    ..
+                },
+            ) if name != a => hints.keep(name),
+            _ => {}
+        }
     }
-    hints.keep(a);
+    enter_last(rt, alloc, board, hints, gate, a, task);
     true
 }
 
@@ -175,33 +205,19 @@ pub(crate) fn run<R: Wait, B: Board, G: Gate>(
     ensures hall { B.hall board.new ≡ B.hall board.old }
     ensures out { B.out board.new ≡ 0 }
 {
-    let backoff = Backoff::new();
     let mut pause = FIRST_PAUSE;
     let mut rested = false;
     crew.rise();
     for _ in rt.forever() {
         if let Some(a) = hints.next() {
             stay_with(rt, alloc, board, &mut hints, gate, a);
-            backoff.reset();
             continue;
         }
         let alone = crew.is_alone();
-        let asks = alone || rested || hints.may_join();
-        let found = if asks {
-            from_others(rt, board, &hints)
-        } else {
-            Look::Others
-        };
-        let busy = match found {
+        let busy = match from_others(rt, board, &hints, alone || rested) {
             Look::Actor(a) => stay_with(rt, alloc, board, &mut hints, gate, a),
             Look::Detector(e) if alone => serve_detector(rt, alloc, board, &mut hints, e),
-            Look::Detector(_) => false,
-            Look::Others => {
-                if alone {
-                    backoff.snooze();
-                }
-                false
-            }
+            Look::Detector(_) | Look::Others => false,
             Look::Rest | Look::Stop => {
                 crew.leave();
                 return;

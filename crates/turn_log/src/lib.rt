@@ -1,10 +1,10 @@
 //! A value that threads change in turns, and a log of what they did to it.
 //!
 //! It is a ticket lock (Mellor-Crummey and Scott, 1991): who wants the value draws a ticket, waits
-//! until that ticket is served, has the value alone, and then passes the turn on. Beside the value
-//! stands a log, to which each change adds an item. The log exists in proofs alone; what is kept of it
-//! when the program runs is its length. A rule of the user's ties the value, the log and what each
-//! pass knows.
+//! until that ticket is served, has the value alone, and then passes the turn on. Before it draws, it
+//! stands by while others have tickets. Beside the value stands a log, to which each change adds an
+//! item. The log exists in proofs alone; what is kept of it when the program runs is its length. A rule
+//! of the user's ties the value, the log and what each pass knows.
 #![tactic(auto)]
 
 mod closing;

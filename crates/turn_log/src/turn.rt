@@ -1,4 +1,4 @@
-// A turn: draw a ticket, wait, take the value, write, pass on.
+// A turn: stand by, draw a ticket, wait, take the value, write, pass on.
 
 ghost use Rattle.std.specs.Prelude.{◌≡◌, ◌≤◌, [], ◌∷◌, Some, None, IfOk};
 ghost use Rattle.turn_log.specs.Knowing.{at_turn, half, having_joined, having_written, newcomer};
@@ -38,8 +38,8 @@ impl<T, I, V, P: LogRule<T, I, V>, A: Allocator> TurnLog<T, I, V, P, A> {
         }
     }
 
-    // Stands by while passes have tickets, as two looks at the words tell it. So a pass that waits for
-    // long has none yet, and nobody waits behind one that does not run now.
+    // Stands by while passes have tickets, as two looks at the words tell it. So who waits for long has
+    // none yet, and hardly anybody waits behind a thread that does not run now.
     fn stand_by<R: Wait>(&self, rt: &R) {
         let backoff = Backoff::new();
         for _ in rt.forever() {
@@ -112,6 +112,17 @@ impl<T, I, V, P: LogRule<T, I, V>, A: Allocator> TurnLog<T, I, V, P, A> {
         ensures full { Has (Some value) seat.new }
     {
         self.table.shared.exchange(seat, VALUE, Some(value));
+    }
+
+    /// Takes the value out of the slot once more, under the turn: what `put` laid into it.
+    pub fn take(&self, seat: &mut LogSeat<T, I, V>) -> T
+        requires own { seat.old.table_id ≡ self.now }
+        requires full { (value : T) × Has (Some value) seat.old }
+        ensures same { IsSame seat.old seat.new × (seat.new.me.0 ≡ seat.old.me.0) }
+        ensures value { Has (Some result) seat.old }
+        ensures empty { Has None seat.new }
+    {
+        self.table.shared.exchange(seat, VALUE, None).unwrap()
     }
 
     /// Writes: the item of the value that lies in the slot becomes the last of the log, which then leads

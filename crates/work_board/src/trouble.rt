@@ -131,6 +131,17 @@ impl<B: Board> Board for TroubleBoard<B> {
         self.inner.commit(rt, alloc, task)
     }
 
+    fn advance<R: Wait>(
+        &mut self,
+        rt: &R,
+        alloc: Global,
+        a: ActorName,
+        task: B::Task,
+        next: &mut Option<B::Task>,
+    ) -> Result<Committed, Refuse> {
+        self.inner.advance(rt, alloc, a, task, next)
+    }
+
     fn direct<R: Wait>(&mut self, rt: &R, alloc: Global, e: Event) -> Result<Committed, Refuse> {
         self.inner.direct(rt, alloc, e)
     }

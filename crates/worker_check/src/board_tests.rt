@@ -62,3 +62,40 @@ fn all_else_is_passed_on(rt: HostRuntime) {
     let toy = toy.lock(&rt);
     assert!(rt; passed && toy.looks == 0 && toy.entries == 1 && toy.stops == 1);
 }
+
+/// What an entry answers that wakes the second actor.
+fn entered(place: u64) -> Result<Committed, Refuse> {
+    Ok(Committed {
+        place,
+        woke: Some(ActorName(1)),
+    })
+}
+
+/// Whether a board goes on with an actor behind a letter and behind a segment, and then no further.
+fn goes_on<R: AllocGlobal + Wait>(rt: &R, board: &mut TroubleBoard<ToyPass<'_>>) -> bool {
+    let Ok(mut task) = board.claim(rt, rt.alloc(), ActorName(0)) else {
+        return false;
+    };
+    for place in 0..3 {
+        let _ = board.propose(rt.alloc(), &mut task);
+        let mut next = None;
+        let answer = board.advance(rt, rt.alloc(), ActorName(0), task, &mut next);
+        match next {
+            Some(claim) => task = claim,
+            None => return place == 2 && answer == entered(place),
+        }
+        if answer != entered(place) {
+            return false;
+        }
+    }
+    false
+}
+
+#[test]
+fn a_board_goes_on_with_an_actor(rt: HostRuntime) {
+    let toy = Mutex::new(Toy::new(rt.alloc(), &[3]).expect(&rt, "memory"));
+    let pass = ToyPass::new(&toy, 0, true);
+    let well = goes_on(&rt, &mut TroubleBoard::new(pass, Vec::new(rt.alloc())));
+    let toy = toy.lock(&rt);
+    assert!(rt; well && toy.entries == 3 && toy.looks == 0);
+}

@@ -59,7 +59,7 @@ returns-clause-stays g' c =
       same = (after.0 ∙ before.0, after.1 ∙ before.1);
       pass_is = c.write_back.ensures.pass;
       client = commit_client n taken.cell.heap.owner old mid h at taken.event taken.cell taken.its c.requires.may.has g new wrote r told.entered told.ended;
-      turns_had = commit_turns n taken.cell.heap.owner old mid h at taken.event taken.cell taken.its c.requires.may.has g new wrote r told.entered told.ended;
+      turns_had = commit_turns n taken.cell.heap.owner old mid h at taken.event taken.cell taken.its c.requires.may.has g new wrote r told.entered told.ended c.turn-hall.ensures.turns;
     }
 
 pub returns-clause-cells : goal.returns-clause-cells

@@ -1,17 +1,13 @@
-use Rattle.std.proofs.Common.{◌≡◌, None, Some, ap, ◌∙◌, refl, sym, rules, subst}
+use Rattle.std.proofs.Common.{◌≡◌, None, ap, ◌∙◌, refl, rules, subst}
 use Rattle.turn_log.specs.Knowing.{having_written}
 use Rattle.turn_log.specs.Seats.{knows}
 use Rattle.seat_hall.specs.Fair.{after_item}
 use Rattle.seat_hall.specs.Halls.{HallView}
-use Rattle.book_hall.specs.Causes.{actor_cause}
-use Rattle.book_hall.proofs.Refusing.{or_none}
 use Rattle.seat_hall.specs.declared.item.Item.TheVariants.{Entered}
 use Rattle.seat_hall.specs.Answers.{Enters, RefusesEntry}
-use Rattle.seat_hall.specs.Log.{claims_in, state_in}
 use Rattle.seat_hall.specs.Passes.{IsAtHall}
-use Rattle.seat_hall.proofs.Causes.{event_is_free, none_for}
-use Rattle.seat_hall.proofs.Counts.{out_direct}
-use Rattle.seat_hall.proofs.Turns.{follows, has_now, out_now, read_cells, read_out, reads, writes, wrote_cells, wrote_out, wrote_stands}
+use Rattle.seat_hall.proofs.Items.{entry_cells, entry_may, entry_out}
+use Rattle.seat_hall.proofs.Turns.{follows, read_cells, read_out, reads, writes, wrote_stands}
 use Rattle.seat_hall.proofs.pass.direct.Goals as goal
 
 pub write_back-requires-clause-rule : goal.write_back-requires-clause-rule
@@ -19,8 +15,8 @@ write_back-requires-clause-rule g c =
     let n = c.args.number in let old = c.args.seat.now in let mid = c.turn-hall.new.seat in
     let h = c.deref_mut.result.now in let is : c.turn-hall.result ≡ h = search rules in
     let at = subst (IsAtHall n old mid) is c.turn-hall.ensures.at in
-    let e = c.args.e in let enters = c.in-Ok.ensures.ok in
-    follows n old mid mid h at (Entered n e) c.enter.new.self (at.given, none_for h.logged e n enters.may) c.in-Ok.ensures.entered
+    follows n old mid mid h at (Entered n c.args.e) c.enter.new.self (entry_may n old mid h at c.args.e c.in-Ok.ensures.ok.may)
+    c.in-Ok.ensures.entered
 
 pub returns-in-Ok-clause-cells : goal.returns-in-Ok-clause-cells
 returns-in-Ok-clause-cells g c =
@@ -29,10 +25,7 @@ returns-in-Ok-clause-cells g c =
     let at = subst (IsAtHall n old mid) is c.turn-hall.ensures.at in
     let new = c.write_back.new.seat in
     let wrote = c.write_back.ensures.knows ∙ ap (λ (v : HallView). having_written after_item v.last (knows mid)) c.in-Ok.ensures.entered in
-    let e = c.args.e in let enters = c.in-Ok.ensures.ok in
-    λ a cell has. wrote_cells n old mid new h at (Entered n e) refl wrote (at.given, none_for h.logged e n enters.may) a cell
-    (λ acts. let mine = has_now n old mid new h at a cell has in
-    let clash : None ≡ Some n = sym ((event_is_free h.logged e (or_none (actor_cause (state_in h.logged) (claims_in h.logged) None e) _ enters.may).0) a acts) ∙ mine.claimed in cc) has
+    entry_cells n old mid h at c.args.e c.in-Ok.ensures.ok.may new wrote
 
 pub returns-in-Ok-clause-out : goal.returns-in-Ok-clause-out
 returns-in-Ok-clause-out g c =
@@ -41,8 +34,7 @@ returns-in-Ok-clause-out g c =
     let at = subst (IsAtHall n old mid) is c.turn-hall.ensures.at in
     let new = c.write_back.new.seat in
     let wrote = c.write_back.ensures.knows ∙ ap (λ (v : HallView). having_written after_item v.last (knows mid)) c.in-Ok.ensures.entered in
-    let e = c.args.e in let enters = c.in-Ok.ensures.ok in
-    wrote_out n old mid new h at (Entered n e) refl wrote _ (out_direct n h.logged e (event_is_free h.logged e (or_none (actor_cause (state_in h.logged) (claims_in h.logged) None e) _ enters.may).0) ∙ out_now n old mid new h at)
+    entry_out n old mid h at c.args.e c.in-Ok.ensures.ok.may new wrote
 
 pub returns-in-Ok-clause-ok : goal.returns-in-Ok-clause-ok
 returns-in-Ok-clause-ok g c =

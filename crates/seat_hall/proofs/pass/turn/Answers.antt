@@ -1,4 +1,4 @@
-use Rattle.std.proofs.Common.{arith, ℕ, List, ◌≤◌, length, min, sym, subst}
+use Rattle.std.proofs.Common.{arith, ℕ, List, ◌≤◌, length, min, sym, subst, ap}
 use Rattle.seat_hall.proofs.Keeps.{few, may_look}
 use Rattle.seat_hall.proofs.Turns.{at_hall}
 use Rattle.seat_hall.proofs.pass.turn.Goals as goal
@@ -15,3 +15,6 @@ take_turn-requires g c = record {
 pub returns-clause-at : goal.returns-clause-at
 returns-clause-at g c = at_hall c.args.number c.args.seat.now c.take_turn.new.seat c.take_turn.result
     c.requires.pass.1 c.take_turn.ensures.known c.take_turn.ensures.learns
+
+pub returns-clause-turns : goal.returns-clause-turns
+returns-clause-turns g c = ap (λ k. k.turns) c.take_turn.ensures.known

@@ -1,0 +1,58 @@
+use Rattle.std.proofs.Common.{◌≡◌, ◌+◌, ℕ, [], ◌∷◌, Some, IfErr, IfNone, IfOk, IfSome, ap, subst, sym, ◌∙◌}
+use Rattle.seat_hall.specs.Boards.{PassValue, out_of}
+use Rattle.seat_hall.specs.declared.item.Item.TheVariants.{Ended}
+use Rattle.seat_hall.specs.Advances.{Advances}
+use Rattle.seat_hall.specs.Answers.{RefusesEntry}
+use Rattle.seat_hall.specs.Passes.{Calls, KeepsOthers, out}
+use Rattle.seat_hall.proofs.Advances.{next_actor, next_none, next_one}
+use Rattle.seat_hall.proofs.Holding.{pass_or}
+use Rattle.seat_hall.proofs.board.SeatPassBoard.advance.Goals as goal
+
+pub returns-clause-actor : goal.returns-clause-actor
+returns-clause-actor g c =
+    let taken = c.args.task.taken in
+    next_actor c.advance-answer.new.next c.args.a taken.cell.heap.owner (ap (pass_or 0) (sym taken.its ∙ c.requires.actor))
+    c.advance-answer.ensures.actor
+
+pub returns-clause-one : goal.returns-clause-one
+returns-clause-one g c =
+    let new = c.advance-answer.new.seat in let next = c.advance-answer.new.next in
+    next_one next (out_of c.args.self.now) (out c.self.inside.number new)
+    (subst (λ (p : PassValue). IfSome next (λ _. out c.self.inside.number new ≡ out_of p)) c.self.view_is c.advance-answer.ensures.went)
+
+pub returns-clause-none : goal.returns-clause-none
+returns-clause-none g c =
+    let new = c.advance-answer.new.seat in let next = c.advance-answer.new.next in
+    next_none next (out_of c.args.self.now) (out c.self.inside.number new)
+    (subst (λ (p : PassValue). IfNone next (out_of p ≡ out c.self.inside.number new + 1)) c.self.view_is c.advance-answer.ensures.left)
+
+pub returns-clause-went : goal.returns-clause-went
+returns-clause-went g c =
+    let new = c.advance-answer.new.seat in
+    subst (λ (p : PassValue). IfSome c.advance-answer.new.next (λ _. out c.self.inside.number new ≡ out_of p)) c.self.view_is c.advance-answer.ensures.went
+
+pub returns-clause-left : goal.returns-clause-left
+returns-clause-left g c =
+    let new = c.advance-answer.new.seat in
+    subst (λ (p : PassValue). IfNone c.advance-answer.new.next (out_of p ≡ out c.self.inside.number new + 1)) c.self.view_is c.advance-answer.ensures.left
+
+pub returns-clause-cells : goal.returns-clause-cells
+returns-clause-cells g c =
+    let taken = c.args.task.taken in
+    let same = ap (pass_or 0) (sym taken.its ∙ c.requires.actor) in
+    subst (λ (x : PassValue × ℕ). KeepsOthers x.0.number x.1 x.0.token c.advance-answer.new.seat)
+    (λ i. (c.self.view_is i, same i)) c.advance-answer.ensures.cells
+
+pub returns-clause-ok : goal.returns-clause-ok
+returns-clause-ok g c =
+    let taken = c.args.task.taken in let new = c.advance-answer.new.seat in let next = c.advance-answer.new.next in
+    let same = ap (pass_or 0) (sym taken.its ∙ c.requires.actor) in
+    subst (λ (x : PassValue × ℕ). IfOk c.advance-answer.result (λ done. Advances x.0.number x.1 taken.event done next x.0.token new))
+    (λ i. (c.self.view_is i, same i)) c.advance-answer.ensures.ok
+
+pub returns-clause-refused : goal.returns-clause-refused
+returns-clause-refused g c =
+    let taken = c.args.task.taken in let new = c.advance-answer.new.seat in
+    let same = ap (pass_or 0) (sym taken.its ∙ c.requires.actor) in
+    subst (λ (x : PassValue × ℕ). IfErr c.advance-answer.result (λ refuse. Calls x.0.number x.0.token new (Ended x.0.number x.1 ∷ [])
+    (RefusesEntry (Some x.0.number) taken.event refuse))) (λ i. (c.self.view_is i, same i)) c.advance-answer.ensures.refused

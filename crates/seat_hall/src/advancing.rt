@@ -1,0 +1,120 @@
+// A commit that goes on with its actor, under the same turn.
+
+ghost use Rattle.std.specs.Prelude.{◌≡◌, ◌+◌, ◌∷◌, [], false, IfErr, IfNone, IfOk, IfSome, None, OnErr, Some};
+ghost use Rattle.turn_log.specs.Seats.{IsSame, knows};
+ghost use Rattle.seat_hall.specs.Advances.{Advances, ClaimedOn, IsUnder, Took};
+ghost use Rattle.seat_hall.specs.Answers.{RefusesEntry};
+ghost use Rattle.seat_hall.specs.Passes.{Calls, IsPass, KeepsOthers, MayCommit, StandsAt, Stays, out};
+ghost use Rattle.seat_hall.specs.declared.item.Item.TheVariants.{Ended};
+
+use crate::pass::{give_back, turn, write_back, write_item};
+use crate::rule::{HallLog, PassSeat};
+use crate::task::SeatTask;
+use event_rule::Event;
+use orca_names::ActorName;
+use std::alloc::Global;
+use std::sync::Wait;
+use work_board::{Committed, Refuse};
+
+// Makes the taking of the actor's first letter an entry, unless that is refused. The turn stays.
+fn take_on<'a>(
+    alloc: Global,
+    log: &HallLog<'a>,
+    seat: &mut PassSeat<'a>,
+    number: u32,
+    a: ActorName,
+) -> bool
+    requires own { seat.old.table_id ≡ log.now }
+    requires under { IsUnder number seat.old }
+    ensures same { IsSame seat.old seat.new }
+    ensures under { IsUnder number seat.new }
+    ensures took { Took number a result (knows seat.old) (knows seat.new) }
+{
+    let mut hall = log.take(seat);
+    match hall.hall.enter(alloc, number, Event::Take(a), None) {
+        Ok(_done) => {
+            write_item(log, seat, number, hall);
+            true
+        }
+        Err(_refuse) => {
+            log.put(seat, hall);
+            false
+        }
+    }
+}
+
+// Claims the actor where its next event is an act, and passes the turn on.
+fn claim_on<'a>(
+    log: &HallLog<'a>,
+    seat: &mut PassSeat<'a>,
+    number: u32,
+    a: ActorName,
+    next: &mut Option<SeatTask<'a>>,
+)
+    requires own { seat.old.table_id ≡ log.now }
+    requires under { IsUnder number seat.old }
+    requires free { next.old ≡ None }
+    ensures same { IsSame seat.old seat.new }
+    ensures pass { IsPass number seat.new }
+    ensures fresh { IfSome next.new (λ task. task.tried ≡ false) }
+    ensures claimed { ClaimedOn number a next.new (knows seat.old) (knows seat.new) }
+{
+    let mut hall = log.take(seat);
+    match hall.hall.claim_act(number, a) {
+        Some(taken) => {
+            write_back(log, seat, number, hall);
+            *next = Some(SeatTask::of(taken));
+        }
+        None => give_back(log, seat, number, hall),
+    }
+}
+
+/// Commits the task, and goes on with its actor: where it has a letter to take this becomes an entry at
+/// once, and where its next event is an act it is claimed. All is done under one turn.
+///
+/// # Errors
+/// As `commit`. The actor isn't claimed then.
+pub(crate) fn advance<'a, R: Wait>(
+    rt: &R,
+    alloc: Global,
+    log: &HallLog<'a>,
+    seat: &mut PassSeat<'a>,
+    number: u32,
+    task: SeatTask<'a>,
+    next: &mut Option<SeatTask<'a>>,
+) -> Result<Committed, Refuse>
+    requires own { seat.old.table_id ≡ log.now }
+    requires pass { IsPass number seat.old }
+    requires may { MayCommit number seat.old task }
+    requires free { next.old ≡ None }
+    ensures stays { Stays number 1 seat.old seat.new }
+    ensures cells { KeepsOthers number task.entry.taken.cell.heap.owner seat.old seat.new }
+    ensures went { IfSome next.new (λ _. out number seat.new ≡ out number seat.old) }
+    ensures left { IfNone next.new (out number seat.old ≡ out number seat.new + 1) }
+    ensures may { IfSome next.new (λ claim. MayCommit number seat.new claim) }
+    ensures fresh { IfSome next.new (λ claim. claim.tried ≡ false) }
+    ensures actor { let a = task.entry.taken.cell.heap.owner in
+        IfSome next.new (λ claim. claim.taken.cell.heap.owner ≡ a) }
+    ensures ok { let taken = task.entry.taken in IfOk result (λ done.
+        Advances number taken.cell.heap.owner taken.event done next.new seat.old seat.new) }
+    ensures stands { IfOk result (λ done. StandsAt seat.new done.place task.entry.taken.event) }
+    ensures refused { let a = task.entry.taken.cell.heap.owner in IfErr result (λ refuse.
+        Calls number seat.old seat.new (Ended number a ∷ [])
+        (RefusesEntry (Some number) task.entry.taken.event refuse)) }
+    ensures none { OnErr result (next.new ≡ None) }
+{
+    let a = task.taken.cell.heap.owner();
+    let mut hall = turn(rt, log, seat, number);
+    match hall.hall.commit(alloc, number, task) {
+        Ok(done) => {
+            write_item(log, seat, number, hall);
+            take_on(alloc, log, seat, number, a);
+            claim_on(log, seat, number, a, next);
+            Ok(done)
+        }
+        Err(refuse) => {
+            write_back(log, seat, number, hall);
+            Err(refuse)
+        }
+    }
+}

@@ -1,0 +1,6 @@
+use Rattle.std.proofs.Common.{◌≡◌, Some}
+use Rattle.event_rule.specs.Events.{actor_of}
+use Rattle.worker_check.proofs.board_tests.goes_on.Given as goal
+
+abbrev pub invariant-loop-place : goal.invariant-loop-place
+invariant-loop-place g l = actor_of l.task.event ≡ Some 0
