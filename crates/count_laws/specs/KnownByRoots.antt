@@ -67,12 +67,18 @@ IsCountedAfter c mail k y =
     sum_by (dec_of y) (take k mail) + sum_by (load_count y) (take k mail) < own_in c.holdings y
     + sum_by (inc_of y) (take k mail)
 
--- then it or an own thing that leads to it through own rows is counted
-pub record IsBacked (a : ℕ) (c : Cell) (mail : List Letter) (k : ℕ) (x : Thing) : Type 0 where
-  pub from : Thing
-  pub own : owner_of from ≡ a
-  pub counted : IsCountedAfter c mail k from
-  pub leads : ReachesThrough (thing_row (own_row_of a c.holdings)) (λ y. y ≡ from) x
+-- it is there, and own rows lead to it from an own object that is counted then
+pub record IsLedTo (a : ℕ) (c : Cell) (mail : List Letter) (k : ℕ) (n : ObjName) : Type 0 where
+  pub there : has_own c.holdings (Obj n) ≡ true
+  pub from : ObjName
+  pub own : from.owner ≡ a
+  pub counted : IsCountedAfter c mail k (Obj from)
+  pub leads : ReachesThrough (thing_row (own_row_of a c.holdings)) (λ y. y ≡ Obj from) (Obj n)
+
+-- then it is counted; or it is an object, and led to
+pub data IsBacked (a : ℕ) (c : Cell) (mail : List Letter) (k : ℕ) : Thing → Type 0 where
+  by_count : {x : Thing} → IsCountedAfter c mail k x → IsBacked a c mail k x
+  by_path : {n : ObjName} → IsLedTo a c mail k n → IsBacked a c mail k (Obj n)
 
 -- ---- all of it
 

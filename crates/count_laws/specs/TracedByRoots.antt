@@ -26,7 +26,7 @@ pub record AreTracedByRoots (actors : Actors) : Type 0 where
   -- fields, registers and rows of own objects name own or held things, and with an object its owner
   pub named : Every (λ a c mail. (x : Thing) → IsNamedIn a c x
       → IsKnownWithOwner a c.holdings x) actors
-  -- after each prefix that counts for a thing, it or an own thing that leads to it through own rows
-  -- is counted
+  -- after each prefix that counts for a thing, it is counted; or it is an own object, and a counted
+  -- one leads to it through own rows
   pub backed : Every (λ a c mail. (x : Thing) (k : ℕ) → owner_of x ≡ a → CountsFor actors mail k x
       → IsBacked a c mail k x) actors

@@ -66,7 +66,7 @@ module _ (s : Actors) (a : ℕ) (c : Cell) (ls : List Letter) (at : seat_at s a 
   block_keeps options.Roots all ps keeps =
       let q = keeps.sound a c ls at in
       block_put options.Roots all ps keeps (every_set (IsRootsAt all) s a (reporting c) ls within
-      (same_roots all a c (reporting c) ls q (own_self a c.holdings) (λ x. refl) refl refl refl ls q.letters (λ x k o h. backed_more a c (reporting c) ls k x (λ y o. omega arith) (λ n row e. e) (q.backed x k o h))) keeps.sound)
+      (same_roots all a c (reporting c) ls q (own_self a c.holdings) (λ x. refl) refl refl refl ls q.letters (λ x k o h. backed_more a c (reporting c) ls k x o (λ y o. omega arith) (λ n row e. e) (q.backed x k o h))) keeps.sound)
   block_keeps Deep all ps keeps =
       let here = keeps.sound a c ls at in
       block_put Deep all ps keeps (every_set (IsSoundAt all) s a (reporting c) ls within

@@ -27,8 +27,8 @@ pub fn every_run_has_all_facts()
 {}
 
 /// With root-only tracing, after each run: no count is overdrawn, idle actors that did nothing have just
-/// what is marked, what fields, registers and rows name is known with its owner, and each thing that a
-/// prefix of letters counts for is counted, or led to by what is counted.
+/// what is marked, what fields, registers and rows name is known with its owner, and after each prefix of
+/// letters that counts for a thing, it is counted, or is an own object that a counted one leads to.
 pub fn every_run_is_traced_by_roots()
     ensures { RunsAreTracedByRoots }
 {}

@@ -6,6 +6,7 @@ use Rattle.orca_names.specs.declared.trace.Trace.TheVariants.{Deep, Roots}
 use Rattle.event_rule.specs.Runs.{IsQuiet, Leads}
 use Rattle.event_rule.specs.declared.event.Event.{Event}
 use Rattle.count_laws.specs.LeftByRoots.{IsReachedOrHeld}
+use Rattle.count_laws.specs.TracedByRoots.{AreTracedByRoots}
 use Rattle.machine_laws.specs.Bounds.{OfEachCount, OfTold}
 use Rattle.machine_laws.specs.Laws.{AwaitsChoices, CanRest, IsNeverTooEarly}
 use Rattle.machine_laws.specs.Work.{work_left}
@@ -29,6 +30,10 @@ pub record KeepsTheReachable (m : Machine) : Type 0 where
   pub book : List Event
   pub run : IsRunOf m book
   pub kept : IsNeverTooEarly m.state.program m.state.options book m.state
+
+-- with root-only tracing, the facts of that tracing hold
+abbrev pub IsTracedByRoots : Machine → Type 0
+IsTracedByRoots m = m.state.options.trace ≡ Roots → AreTracedByRoots m.state.actors
 
 -- exactly what is reachable is left; with root-only tracing, exactly what is reachable or held
 abbrev pub IsLeftExactly : Trace → PlainState → Actors → Type 0

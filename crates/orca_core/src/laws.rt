@@ -1,7 +1,7 @@
 // What holds of the machine at every moment, whatever was done with it.
 
 ghost use Rattle.std.specs.Prelude.{◌<◌};
-ghost use Rattle.orca_core.specs.Laws.{ComesToRest, CountsInFewBits, IsExactAtQuiet, KeepsTheReachable};
+ghost use Rattle.orca_core.specs.Laws.{ComesToRest, CountsInFewBits, IsExactAtQuiet, IsTracedByRoots, KeepsTheReachable};
 
 use crate::machine::Orca;
 
@@ -12,6 +12,16 @@ impl<'a> Orca<'a> {
     /// balance.
     pub fn keeps_the_reachable(&self)
         ensures { KeepsTheReachable self.now }
+    {
+        let _ = &self.parts;
+    }
+
+    /// With root-only tracing its four facts hold: no letter takes from a count what is not there; an idle
+    /// actor that did nothing since it collected has just what is marked; what fields, registers and own rows
+    /// name is owned or held, with its owner; and each thing that a prefix of letters counts for is counted
+    /// after it, or is an own object that a counted one leads to.
+    pub fn is_traced_by_roots(&self)
+        ensures { IsTracedByRoots self.now }
     {
         let _ = &self.parts;
     }

@@ -14,7 +14,7 @@ use Rattle.machine_rules.specs.Next.{next}
 use Rattle.machine_rules.specs.Options.{Options}
 use Rattle.machine_rules.specs.Run.{IsPlainBeside, IsRun}
 use Rattle.machine_rules.specs.State.{State, first_state}
-use Rattle.machine_laws.proofs.AtQuiet.{exactly_at_quiet, quiet_by_roots}
+use Rattle.machine_laws.proofs.AtQuiet.{exactly_at_quiet, quiet_by_roots, traced_by_roots}
 use Rattle.machine_laws.proofs.WholeRuns.{never_too_early}
 use Rattle.orca_core.specs.Laws.{IsLeftExactly, IsRunOf}
 use Rattle.orca_core.specs.Machine.{NoneIsAway, Machine as Orca}
@@ -43,6 +43,9 @@ every_run order program book t heavy weight trace within run in_order = (
     run = run;
     in_order = in_order;
     safe = λ front later e. never_too_early program (options_in order) heavy front later t (subst (λ b. IsRun program (options_in order) b t) e run);
+    traced = λ roots front later e.
+        let z = never_too_early program (options_in order) heavy front later t (subst (λ b. IsRun program (options_in order) b t) e run) in
+        (z.0, z.1, traced_by_roots program (options_in order) heavy roots front z.0 z.1);
     exact = exact_after order.trace program (options_in order) refl heavy book.entries t run;
   },
   refl,

@@ -40,7 +40,7 @@ use Rattle.machine_rules.specs.Cell.{Cell, listed_objects, own_row_of, row_by_ro
 use Rattle.machine_rules.specs.Collect.{after_collect, is_in_use, is_marked_by_roots, start_of_marks, without_unused}
 use Rattle.count_laws.specs.Facts.{KeepsCounts}
 use Rattle.count_laws.specs.Known.{InFrame, IsKnown, Names, ReachesThrough}
-use Rattle.count_laws.specs.KnownByRoots.{IsBacked, IsKnownWithOwner, IsNamedIn, IsRootsAt, WalkRoots, by_field, by_frame, by_row, held, mine, named}
+use Rattle.count_laws.specs.KnownByRoots.{IsBacked, IsCountedAfter, IsKnownWithOwner, IsNamedIn, IsRootsAt, WalkRoots, by_count, by_field, by_frame, by_path, by_row, held, mine, named}
 use Rattle.orca_names.specs.declared.trace.Trace.TheVariants as options
 use Rattle.count_laws.proofs.roots.Starts.{starts, starts_counted, starts_field}
 use Rattle.count_laws.specs.Clean.{StartsMarks, of_count, of_field}
@@ -255,12 +255,14 @@ module _ (all : Thing → Option Row) (ps : List Person) (s : Actors) (inv : Kee
   counted_kept (Obj n) o h = inl (root (starts_counted a c n o h))
 
   -- what is backed now is kept
-  pub backed_kept : (x : Thing) → IsBacked a c ls 0 x → IsKept x
-  backed_kept x b =
-      leads_kept (λ y e. subst IsKept (sym e) (counted_kept b.from b.own (let w = b.counted in omega (arith, sum-nil (dec_of b.from), sum-nil (load_count b.from), sum-nil (inc_of b.from))))) b.leads
+  pub backed_kept : (x : Thing) → owner_of x ≡ a → IsBacked a c ls 0 x → IsKept x
+  backed_kept x o (by_count counted) = counted_kept x o (omega (arith, sum-nil (dec_of x), sum-nil (load_count x), sum-nil (inc_of x)))
+  backed_kept x o (by_path path) =
+      let y = Obj path.from in
+      leads_kept (λ z e. subst IsKept (sym e) (counted_kept y path.own (let w = path.counted in omega (arith, sum-nil (dec_of y), sum-nil (load_count y), sum-nil (inc_of y))))) path.leads
 
   waiting_kept : (x : Thing) → owner_of x ≡ a → 0 < sum_by (inc_of x) ls → IsKept x
-  waiting_kept x o h = backed_kept x (here.backed x 0 o h)
+  waiting_kept x o h = backed_kept x o (here.backed x 0 o h)
 
   after_kept : (k : ℕ) (x : Thing) → owner_of x ≡ a → 0 < own_in c.holdings x + sum_by (inc_of x) (take k ls) → IsKept x
   after_kept k x o h = either (own_in c.holdings x) refl
@@ -269,26 +271,36 @@ module _ (all : Thing → Option Row) (ps : List Person) (s : Actors) (inv : Kee
       either zero e = waiting_kept x o (let w = sum-parts (inc_of x) k ls in omega arith)
       either (suc n) e = counted_kept x o (omega arith)
 
-  backed_after : (x : Thing) (k : ℕ) → IsBacked a c ls k x → IsBacked a d ls k x
-  backed_after x k b = record {
-    from = b.from;
-    own = b.own;
-    counted = let w = b.counted in let z = own-sweep marked a c.holdings b.from in omega arith;
-    leads = (reach_into (thing_row (own_row_of a c.holdings)) (λ y. IsKept y × ReachesThrough (thing_row (own_row_of a d.holdings)) (λ y. y ≡ b.from) y)
-        (λ y e. (subst IsKept (sym e) from_kept, root e))
-        (λ y z r p e n. (leads_kept {roots = λ q. q ≡ y} (λ q e. subst IsKept (sym e) p.0) (along_row (thing_row (own_row_of a c.holdings)) (root refl) e n), along_row (thing_row (own_row_of a d.holdings)) p.1 (row_on y r p.0 e) n))
-        (λ n p. (⊎_elim (λ k. inl (owned k)) (λ self. absurd (obj_actor n self)) p.0, owned p.1)) b.leads).1;
-  }
-    where
-      obj_actor : (n : ObjName) → Obj n ≢ Actor a
-      obj_actor n e = cc
+  not_self : (n : ObjName) → Obj n ≢ Actor a
+  not_self n e = cc
 
-      from_kept : IsKept b.from
-      from_kept = after_kept k b.from b.own (let w = b.counted in omega arith)
+  kept_row : (y : Thing) (r : Row) → IsKept y → thing_row (own_row_of a c.holdings) y ≡ Some r → thing_row (own_row_of a d.holdings) y ≡ Some r
+  kept_row (Actor i) r kept e = cc
+  kept_row (Obj n) r kept e = own_row-marked marked a c.holdings n r (marks_whole a c (Obj n) (⊎_elim (λ k. k) (λ self. absurd (not_self n self)) kept)) e
 
-      row_on : (y : Thing) (r : Row) → IsKept y → thing_row (own_row_of a c.holdings) y ≡ Some r → thing_row (own_row_of a d.holdings) y ≡ Some r
-      row_on (Actor i) r kept e = cc
-      row_on (Obj n) r kept e = own_row-marked marked a c.holdings n r (marks_whole a c (Obj n) (⊎_elim (λ k. k) (λ self. absurd (obj_actor n self)) kept)) e
+  -- what own rows lead to from what is kept is kept, and they lead to it afterwards
+  led_on : (y : Thing) → IsKept y → {x : Thing} → ReachesThrough (thing_row (own_row_of a c.holdings)) (λ z. z ≡ y) x
+      → IsKept x × ReachesThrough (thing_row (own_row_of a d.holdings)) (λ z. z ≡ y) x
+  led_on y kept h = reach_into (thing_row (own_row_of a c.holdings)) (λ z. IsKept z × ReachesThrough (thing_row (own_row_of a d.holdings)) (λ z. z ≡ y) z)
+      (λ z e. (subst IsKept (sym e) kept, root e))
+      (λ z w r p e n. (leads_kept {roots = λ q. q ≡ z} (λ q e. subst IsKept (sym e) p.0) (along_row (thing_row (own_row_of a c.holdings)) (root refl) e n), along_row (thing_row (own_row_of a d.holdings)) p.1 (kept_row z r p.0 e) n))
+      (λ n p. (⊎_elim (λ k. inl (owned k)) (λ self. absurd (not_self n self)) p.0, owned p.1)) h
+
+  counted_after : (k : ℕ) (x : Thing) → IsCountedAfter c ls k x → IsCountedAfter d ls k x
+  counted_after k x counted = let z = own-sweep marked a c.holdings x in omega arith
+
+  backed_after : (x : Thing) (k : ℕ) → owner_of x ≡ a → IsBacked a c ls k x → IsBacked a d ls k x
+  backed_after x k o (by_count counted) = by_count (counted_after k x counted)
+  backed_after x k o (by_path {n = n} path) =
+      let kept = led_on (Obj path.from) (after_kept k (Obj path.from) path.own (let w = path.counted in omega arith)) path.leads in
+      let row = has_own_row a c.holdings n o path.there in
+      by_path (record {
+        there = (own_row_has a d.holdings n row.0 (kept_row (Obj n) row.0 kept.0 row.1)).1;
+        from = path.from;
+        own = path.own;
+        counted = counted_after k (Obj path.from) path.counted;
+        leads = kept.1;
+      })
 
   swept_roots : IsRootsAt all a d ls
   swept_roots = record {
@@ -299,7 +311,7 @@ module _ (all : Thing → Option Row) (ps : List Person) (s : Actors) (inv : Kee
     brought = brought_after;
     led = led_after;
     letters = here.letters;
-    backed = λ x k o h. backed_after x k (here.backed x k o h);
+    backed = λ x k o h. backed_after x k o (here.backed x k o h);
   }
 
   pub collect_keeps_roots : KeepsCounts options.Roots all ps (after_collect (is_marked_by_roots a c) a (without_unused options.Roots a c) ls s)

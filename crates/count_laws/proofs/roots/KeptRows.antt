@@ -136,7 +136,7 @@ module _ (all : Thing → Option Row) (ps : List Person) (s : Actors) (inv : Kee
       let same : own.0 ≡ r = let z = q.mine n own.0 own.1 in cc in
       let holds = by_known left.seat.cell (q.named y (by_row n own.0 own.1 (subst (λ r. Names r y) (sym same) nm))).0 in
       let below = held_below y s n.owner left.seat.cell left.seat.mail left.present in
-      backed_kept all ps s inv a c ls at idle y (held_backed all s bal inv.sound inv.bare y a c ls at o (omega arith) 0)
+      backed_kept all ps s inv a c ls at idle y o (held_backed all s bal inv.sound inv.bare y a c ls at o (omega arith) 0)
     where
       by_known : (e : Cell) → IsKnown n.owner e.holdings y → 0 < held_in e.holdings y
       by_known e (inl own) = absurd (out (sym own.0 ∙ o))

@@ -7,7 +7,6 @@ use Rattle.orca_names.specs.Names.{owner_of}
 use Rattle.orca_names.specs.declared.names.ObjName.{ObjName}
 use Rattle.orca_names.specs.declared.names.Thing.{Thing}
 use Rattle.orca_names.specs.declared.names.Thing.TheVariants.{Actor, Obj}
-use Rattle.reach_walk.specs.Reach.{root, thing_row}
 use Rattle.letter_kinds.proofs.Counts.{counted_has, has_actor}
 use Rattle.letter_kinds.proofs.Sums.{sum-at, sum-nil}
 use Rattle.letter_kinds.specs.Holdings.{Row, has_own, held_in, own_in}
@@ -25,36 +24,22 @@ use Rattle.count_laws.proofs.balance.Sends.{held_below}
 use Rattle.machine_rules.specs.Actors.{Actors, Seat, seat, seat_at, Every}
 use Rattle.count_laws.specs.Agreement.{Agrees, IsRootPerson, Person, app_letters, person_at, person_of}
 use Rattle.machine_rules.specs.Balance.{held_sum, incs_at, load_sum, loads_at, own_at, owner_seat}
-use Rattle.machine_rules.specs.Cell.{Cell, own_row_of}
+use Rattle.machine_rules.specs.Cell.{Cell}
 use Rattle.count_laws.specs.Known.{IsKnown, Names, ReachesThrough}
-use Rattle.count_laws.specs.KnownByRoots.{AreRootLetters, IsBacked, IsKnownWithOwner, IsRootsAt, WalkRoots, by_field, by_frame, by_row, held, mine, named, stands as stands_in}
+use Rattle.count_laws.specs.KnownByRoots.{AreRootLetters, IsBacked, IsRootsAt, WalkRoots, by_count, by_field, by_frame, by_path, by_row, held, mine, named, stands as stands_in}
 use Rattle.machine_rules.specs.Left.{IsLeft}
 
 -- ---- at one actor
 
 module _ (all : Thing → Option Row) (a : ℕ) (c : Cell) (mail : List Letter) (q : IsRootsAt all a c mail) where
-  pub own_known : (x : Thing) → owner_of x ≡ a → has_own c.holdings x ≡ true → IsKnownWithOwner a c.holdings x
-  own_known x o h = (inl (o, h), inl (o, has_actor c.holdings (owner_of x)))
-
-  row_known : (x y : Thing) (r : Row) → thing_row (own_row_of a c.holdings) x ≡ Some r → Names r y → IsKnownWithOwner a c.holdings y
-  row_known (Actor i) y r e n = cc
-  row_known (Obj i) y r e n = q.named y (by_row i r e n)
-
-  -- own rows lead from what is known with its owner to what is so
-  pub own_walk : {roots : Thing → Type 0} → ((x : Thing) → roots x → IsKnownWithOwner a c.holdings x) → {x : Thing} → ReachesThrough (thing_row (own_row_of a c.holdings)) roots x → IsKnownWithOwner a c.holdings x
-  own_walk from h = reach_into (thing_row (own_row_of a c.holdings)) (IsKnownWithOwner a c.holdings) from (λ x y r p e n. row_known x y r e n) (λ n p. (p.1, p.1)) h
-
   -- what is backed now is there
-  pub backed_there : (x : Thing) → owner_of x ≡ a → IsBacked a c mail 0 x → has_own c.holdings x ≡ true
-  backed_there x o b =
-      let y = b.from in
-      let has : has_own c.holdings y ≡ true = counted_has c.holdings y (let w = b.counted in omega (arith, sum-nil (dec_of y), sum-nil (load_count y), sum-nil (inc_of y))) in
-      let known = own_walk (λ z e. subst (IsKnownWithOwner a c.holdings) (sym e) (own_known y b.own has)) b.leads in
-      ⊎_elim (λ own. own.1) (λ other. absurd (other.0 o)) known.0
+  backed_there : {x : Thing} → IsBacked a c mail 0 x → has_own c.holdings x ≡ true
+  backed_there (by_count {x = x} counted) = counted_has c.holdings x (omega (arith, sum-nil (dec_of x), sum-nil (load_count x), sum-nil (inc_of x)))
+  backed_there (by_path path) = path.there
 
   -- so is that for which an Inc waits
   pub inc_there : (x : Thing) → owner_of x ≡ a → 0 < sum_by (inc_of x) mail → has_own c.holdings x ≡ true
-  inc_there x o h = backed_there x o (q.backed x 0 o h)
+  inc_there x o h = backed_there (q.backed x 0 o h)
 
 -- ---- among all
 
@@ -151,21 +136,16 @@ module _ (all : Thing → Option Row) (s : Actors) (bal : Balanced s) (sound : E
         (λ none.
         let z = rw (ap (seat_at s) o ∙ at) at (bal x) in
         let w = rw at at (sum-at (loads_at x) s b None (present_below s b _ at)) in
-        record {
-          from = x;
-          own = o;
-          counted = omega (
-            arith,
-            own_at-seat x d ms,
-            incs_at-seat x d ms,
-            decs_at-seat x d ms,
-            loads_at-seat x d ms,
-            sum-parts (inc_of x) k ms,
-            sum-parts (dec_of x) k ms,
-            sum-parts (load_count x) k ms,
-          );
-          leads = root refl;
-        })
+        by_count (omega (
+          arith,
+          own_at-seat x d ms,
+          incs_at-seat x d ms,
+          decs_at-seat x d ms,
+          loads_at-seat x d ms,
+          sum-parts (inc_of x) k ms,
+          sum-parts (dec_of x) k ms,
+          sum-parts (load_count x) k ms,
+        )))
         (λ some. (sound b d ms at).backed x k o (omega arith))
         (cases_eq (sum_by (inc_of x) (drop k ms)) 0)
 

@@ -12,20 +12,20 @@ use Rattle.behaviour_code.specs.declared.code.Program.{Program}
 use Rattle.reach_walk.proofs.Elements.{Contains-cons_cases, Contains-head, Contains-later, none_in_nil, only_one}
 use Rattle.reach_walk.proofs.InOrder.{in_order-has, in_order-only}
 use Rattle.reach_walk.specs.Marks.{in_order, with_owners}
-use Rattle.reach_walk.specs.Reach.{named_by, owned, thing_row}
+use Rattle.reach_walk.specs.Reach.{named_by, owned}
 use Rattle.turn_rules.specs.Segment.{gets_of}
 use Rattle.turn_rules.specs.declared.act.Frame.{Frame}
 use Rattle.letter_kinds.proofs.Amounts.{held-mint_all}
 use Rattle.letter_kinds.proofs.Counts.{amount-nil, amount-same, amount-other, has_actor}
 use Rattle.letter_kinds.specs.Counting.{Amount, mint_all}
-use Rattle.letter_kinds.specs.Holdings.{Holdings, Row, held_in}
+use Rattle.letter_kinds.specs.Holdings.{Holdings, Row, has_own, held_in}
 use Rattle.letter_kinds.specs.Sums.{amount_of}
 use Rattle.letter_kinds.specs.declared.letter.Letter.{Letter}
 use Rattle.count_laws.proofs.balance.InHand.{AllCounted, Balanced, in_hand}
-use Rattle.count_laws.proofs.knowledge.Paths.{along_row, reach_into}
+use Rattle.count_laws.proofs.knowledge.Paths.{reach_into}
 use Rattle.count_laws.proofs.roots.Left.{along_left, held_backed, owner_left, reached_left, root_left}
 use Rattle.count_laws.proofs.roots.Post.{mint_keeps_roots}
-use Rattle.count_laws.proofs.roots.Same.{has_own_row}
+use Rattle.count_laws.proofs.roots.Same.{backed_along, has_own_row}
 use Rattle.count_laws.proofs.roots.Turn.{MadeAny, find_some, got_from, not_lacking}
 use Rattle.count_laws.proofs.balance.Seats.{some_seat}
 use Rattle.count_laws.proofs.balance.Sends.{held_below}
@@ -130,7 +130,7 @@ module _ (all : Thing → Option Row) (ps : List Person) (s : Actors) (inv : Kee
       (λ same.
       let z = p.1 (λ o. out (same ∙ o)) in (
         subst (λ i. 0 < held_sum (Actor i) s) (sym same) z.0,
-        subst (λ i. (d : Cell) (ms : List Letter) → seat_at s i ≡ seat d ms → (k : ℕ) → IsBacked i d ms k y) (sym same) (λ d ms is k. on d ms is k (z.1 d ms is k)),
+        subst (λ i. (d : Cell) (ms : List Letter) → seat_at s i ≡ seat d ms → (k : ℕ) → IsBacked i d ms k y) (sym same) (λ d ms is k. on y same nm d ms is k z.0 (z.1 d ms is k)),
       ))
       (λ other. by_holder y n.owner left.seat.cell left.seat.mail left.present other (q.named y (by_row n own.0 own.1 (subst (λ r. Names r y) (sym row_is) nm))))
       (cases_eq (owner_of y) n.owner)
@@ -147,15 +147,19 @@ module _ (all : Thing → Option Row) (ps : List Person) (s : Actors) (inv : Kee
       row_is : own.0 ≡ r
       row_is = let z = q.mine n own.0 own.1 in cc
 
-      on : (d : Cell) (ms : List Letter) → seat_at s n.owner ≡ seat d ms → (k : ℕ) → IsBacked n.owner d ms k (Obj n) → IsBacked n.owner d ms k y
-      on d ms is k b =
+      has : (m : ObjName) → IsKnown n.owner left.seat.cell.holdings (Obj m) → m.owner ≡ n.owner → has_own left.seat.cell.holdings (Obj m) ≡ true
+      has m (inl own) same = own.1
+      has m (inr other) same = absurd (other.0 same)
+
+      -- its owner is held, so it is counted
+      on : (y : Thing) → owner_of y ≡ n.owner → Names r y → (d : Cell) (ms : List Letter) → seat_at s n.owner ≡ seat d ms → (k : ℕ) → 0 < held_sum (Actor n.owner) s
+          → IsBacked n.owner d ms k (Obj n) → IsBacked n.owner d ms k y
+      on (Actor i) same nm d ms is k owner b = held_backed all s bal inv.sound inv.bare (Actor i) n.owner d ms is same (subst (λ i. 0 < held_sum (Actor i) s) (sym same) owner) k
+      on (Obj m) same nm d ms is k owner b =
           let z = some_seat left.seat.cell d left.seat.mail ms (sym left.present ∙ is) in
-          record {
-            from = b.from;
-            own = b.own;
-            counted = b.counted;
-            leads = along_row (thing_row (own_row_of n.owner d.holdings)) b.leads (subst (λ (e : Cell). own_row_of n.owner e.holdings n ≡ Some own.0) z.0 own.1) (subst (λ r. Names r y) (sym row_is) nm);
-          }
+          let names = subst (λ r. Names r (Obj m)) (sym row_is) nm in
+          backed_along n.owner d ms k n m own.0 refl (subst (λ (e : Cell). own_row_of n.owner e.holdings n ≡ Some own.0) z.0 own.1) names
+          (subst (λ (e : Cell). has_own e.holdings (Obj m) ≡ true) z.0 (has m (q.named (Obj m) (by_row n own.0 own.1 names)).0 same)) b
 
   up : (n : ObjName) → Kept (Obj n) → Kept (Actor n.owner)
   up n kept = λ out. let z = kept out in (z.0, λ d ms is k. held_backed all s bal inv.sound inv.bare (Actor n.owner) n.owner d ms is refl z.0 k)

@@ -114,7 +114,7 @@ module _ (all : Thing → Option Row) (ps : List Person) (s : Actors) (inv : Kee
 
   sender_roots : IsRootsAt all a sender ls
   sender_roots = still_roots all a c sender ls here (own_sent a load c.holdings) sent_held held_sent refl refl refl ls here.letters
-      (λ x k o h. backed_more a c sender ls k x up (same_rows_more a c.holdings sender.holdings (own_sent a load c.holdings)) (here.backed x k o h))
+      (λ x k o h. backed_more a c sender ls k x o up (same_rows_more a c.holdings sender.holdings (own_sent a load c.holdings)) (here.backed x k o h))
 
   target : IsPresent s to
   target = let left = known_left all s bal inv.sound a c ls (Actor to) at known_to in (left.seat, left.present)
@@ -169,7 +169,7 @@ module _ (all : Thing → Option Row) (ps : List Person) (s : Actors) (inv : Kee
             (⊎_elim (λ old. old) (λ new. reach_more all (λ x r. walk x r) new) (walks all a c minter ls mint_here same mint_kept New (λ x n. inl n) (λ x n. inl n) mint_holds mint_new (Obj n) h)) is;
         led = λ n row got. reach_more all (λ x k. root (minted x k)) (mint_here.led n row got);
         letters = mint_here.letters;
-        backed = λ x k own h. backed_more a c minter ls k x (λ y own. let z = own-mint_all y es c.holdings in omega arith) (same_rows_more a c.holdings minter.holdings same) (mint_here.backed x k own h);
+        backed = λ x k own h. backed_more a c minter ls k x own (λ y own. let z = own-mint_all y es c.holdings in omega arith) (same_rows_more a c.holdings minter.holdings same) (mint_here.backed x k own h);
       }
 
   pub mint_keeps_roots : KeepsCounts options.Roots all ps (mint a c ls b es s)
@@ -254,7 +254,7 @@ module _ (wt : ℕ) (heavy : 0 < wt) (all : Thing → Option Row) (ps : List Per
         (⊎_elim (λ old. old) (λ new. absurd (obj_actor q (no_object (Obj q) new))) (walks all a c maker ls make_here make_same make_kept NewActor (λ x n. inl n) make_frame make_holds make_new (Obj q) h)) is;
     led = λ q row got. reach_more all (λ x k. root (still_known all a c maker ls make_here make_same make_kept NewActor (λ x n. inl n) make_frame make_holds make_new x k)) (make_here.led q row got);
     letters = make_here.letters;
-    backed = λ x k own h. backed_more a c maker ls k x (λ y own. let z = own_set_held (λ h. h + wt) y (Actor n) None c.holdings in omega arith) (same_rows_more a c.holdings maker.holdings make_same) (make_here.backed x k own h);
+    backed = λ x k own h. backed_more a c maker ls k x own (λ y own. let z = own_set_held (λ h. h + wt) y (Actor n) None c.holdings in omega arith) (same_rows_more a c.holdings maker.holdings make_same) (make_here.backed x k own h);
   }
     where
       obj_actor : (q : ObjName) → Obj q ≢ Actor n

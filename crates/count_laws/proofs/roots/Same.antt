@@ -24,7 +24,7 @@ use Rattle.count_laws.proofs.knowledge.Sending.{has-mint_all, has-send, row-mint
 use Rattle.count_laws.proofs.events.Take.{Alike}
 use Rattle.machine_rules.specs.Cell.{Cell, own_row_of}
 use Rattle.count_laws.specs.Known.{InFrame, IsKnown, Names, ReachesThrough, row_at}
-use Rattle.count_laws.specs.KnownByRoots.{AreRootLetters, IsBacked, IsKnownWithOwner, IsNamedIn, IsRootsAt, WalkRoots, by_field, by_frame, by_row, held, mine, named}
+use Rattle.count_laws.specs.KnownByRoots.{AreRootLetters, IsBacked, IsCountedAfter, IsKnownWithOwner, IsNamedIn, IsRootsAt, WalkRoots, by_count, by_field, by_frame, by_path, by_row, held, mine, named}
 
 -- ---- own rows
 
@@ -143,20 +143,36 @@ module _ (all : Thing → Option Row) (a : ℕ) (c d : Cell) (mail : List Letter
 
 -- ---- what is backed
 
--- the counts of own things rise, or stay
-pub backed_more : (a : ℕ) (c d : Cell) (mail : List Letter) (k : ℕ) (x : Thing) → ((y : Thing) → owner_of y ≡ a → own_in c.holdings y ≤ own_in d.holdings y)
-    → ((n : ObjName) (row : Row) → own_row_of a c.holdings n ≡ Some row → own_row_of a d.holdings n ≡ Some row) → IsBacked a c mail k x → IsBacked a d mail k x
-backed_more a c d mail k x up rows b = record {
-  from = b.from;
-  own = b.own;
-  counted = let z = up b.from b.own in let w = b.counted in omega arith;
-  leads = reach_into (thing_row (own_row_of a c.holdings)) (ReachesThrough (thing_row (own_row_of a d.holdings)) (λ y. y ≡ b.from)) (λ y e. root e)
-      (λ y z r p e n. along_row _ p (grown y r e) n) (λ n p. owned p) b.leads;
-}
+-- what is counted after some letters is counted after others, and own rows stay
+pub backed_on : (a : ℕ) (c d : Cell) (mail later : List Letter) (j k : ℕ) → ((y : Thing) → owner_of y ≡ a → IsCountedAfter c mail j y → IsCountedAfter d later k y)
+    → ((n : ObjName) (row : Row) → own_row_of a c.holdings n ≡ Some row → own_row_of a d.holdings n ≡ Some row)
+    → (x : Thing) → owner_of x ≡ a → IsBacked a c mail j x → IsBacked a d later k x
+backed_on a c d mail later j k up rows x o (by_count counted) = by_count (up x o counted)
+backed_on a c d mail later j k up rows x o (by_path {n = n} path) = by_path (record {
+  there = let row = has_own_row a c.holdings n o path.there in (own_row_has a d.holdings n row.0 (rows n row.0 row.1)).1;
+  from = path.from;
+  own = path.own;
+  counted = up (Obj path.from) path.own path.counted;
+  leads = reach_into (thing_row (own_row_of a c.holdings)) (ReachesThrough (thing_row (own_row_of a d.holdings)) (λ y. y ≡ Obj path.from)) (λ y e. root e)
+      (λ y z r p e n. along_row _ p (grown y r e) n) (λ n p. owned p) path.leads;
+})
   where
     grown : (y : Thing) (r : Row) → thing_row (own_row_of a c.holdings) y ≡ Some r → thing_row (own_row_of a d.holdings) y ≡ Some r
     grown (Actor i) r e = cc
     grown (Obj n) r e = rows n r e
+
+-- so is an own object that a row of a backed one names
+pub backed_along : (a : ℕ) (c : Cell) (mail : List Letter) (k : ℕ) (n m : ObjName) (row : Row) → n.owner ≡ a → own_row_of a c.holdings n ≡ Some row → Names row (Obj m) → has_own c.holdings (Obj m) ≡ true
+    → IsBacked a c mail k (Obj n) → IsBacked a c mail k (Obj m)
+backed_along a c mail k n m row o e nm there (by_count counted) =
+    by_path (record { there = there; from = n; own = o; counted = counted; leads = along_row (thing_row (own_row_of a c.holdings)) (root refl) e nm })
+backed_along a c mail k n m row o e nm there (by_path path) =
+    by_path (record { there = there; from = path.from; own = path.own; counted = path.counted; leads = along_row (thing_row (own_row_of a c.holdings)) path.leads e nm })
+
+-- the counts of own things rise, or stay
+pub backed_more : (a : ℕ) (c d : Cell) (mail : List Letter) (k : ℕ) (x : Thing) → owner_of x ≡ a → ((y : Thing) → owner_of y ≡ a → own_in c.holdings y ≤ own_in d.holdings y)
+    → ((n : ObjName) (row : Row) → own_row_of a c.holdings n ≡ Some row → own_row_of a d.holdings n ≡ Some row) → IsBacked a c mail k x → IsBacked a d mail k x
+backed_more a c d mail k x o up rows b = backed_on a c d mail mail k k (λ y own counted. let z = up y own in omega arith) rows x o b
 
 pub same_rows_more : (a : ℕ) (h k : Holdings) → SameOwn a h k → (n : ObjName) (row : Row) → own_row_of a h n ≡ Some row → own_row_of a k n ≡ Some row
 same_rows_more a h k same n row e = same.rows n ∙ e
@@ -165,13 +181,9 @@ same_rows_more a h k same n row e = same.rows n ∙ e
 prefix_same : (f : Letter → ℕ) (k : ℕ) (mail : List Letter) (l : Letter) → k ≤ length mail → sum_by f (take k (mail ++ l ∷ [])) ≡ sum_by f (take k mail)
 prefix_same f k mail l h = ap (sum_by f) (take-append-le k mail (l ∷ []) h)
 
-backed_longer : (a : ℕ) (c : Cell) (mail : List Letter) (l : Letter) (k : ℕ) (x : Thing) → k ≤ length mail → IsBacked a c mail k x → IsBacked a c (mail ++ l ∷ []) k x
-backed_longer a c mail l k x h b = record {
-  from = b.from;
-  own = b.own;
-  counted = let w = b.counted in omega (arith, prefix_same (dec_of b.from) k mail l h, prefix_same (load_count b.from) k mail l h, prefix_same (inc_of b.from) k mail l h);
-  leads = b.leads;
-}
+backed_longer : (a : ℕ) (c : Cell) (mail : List Letter) (l : Letter) (k : ℕ) (x : Thing) → owner_of x ≡ a → k ≤ length mail → IsBacked a c mail k x → IsBacked a c (mail ++ l ∷ []) k x
+backed_longer a c mail l k x o h b = backed_on a c c mail (mail ++ l ∷ []) k k
+    (λ y own counted. omega (arith, prefix_same (dec_of y) k mail l h, prefix_same (load_count y) k mail l h, prefix_same (inc_of y) k mail l h)) (λ n row e. e) x o b
 
 -- a letter comes; where it is an Inc for an own thing, that is backed after each prefix
 pub backed_push : (a : ℕ) (c : Cell) (mail : List Letter) (l : Letter)
@@ -182,7 +194,7 @@ backed_push a c mail l old new x k o h = ⊎_elim
     (λ past.
     let long : length (mail ++ l ∷ []) ≤ k = omega (arith, length-append mail (l ∷ [])) in
     absurd (let z : sum_by (inc_of x) (drop k (mail ++ l ∷ [])) ≡ 0 = rw (drop_of_length-le (mail ++ l ∷ []) long) (sum-nil (inc_of x)) in omega arith))
-    (λ within. backed_longer a c mail l k x within (⊎_elim
+    (λ within. backed_longer a c mail l k x o within (⊎_elim
     (λ later. old x k o later)
     (λ none. new x k o (let z = ap (sum_by (inc_of x)) (drop-push k mail l within) in omega (arith, sum_by_push (inc_of x) (drop k mail) l)))
     (some_or (sum_by (inc_of x) (drop k mail)))))

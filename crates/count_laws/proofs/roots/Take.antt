@@ -13,7 +13,7 @@ use Rattle.orca_names.specs.declared.names.Thing.TheVariants.{Actor, Obj}
 use Rattle.orca_names.specs.declared.names.Value.{Value}
 use Rattle.behaviour_code.specs.declared.code.Program.{Program}
 use Rattle.turn_rules.specs.declared.act.Frame.{Frame}
-use Rattle.reach_walk.specs.Reach.{root, owned, thing_row}
+use Rattle.reach_walk.specs.Reach.{root, owned}
 use Rattle.letter_kinds.proofs.Counts.{held-receive, held-receive_own, loaded-nil, loaded-other, loaded-same, loaded_more}
 use Rattle.letter_kinds.specs.Counting.{Loaded, receive}
 use Rattle.letter_kinds.specs.Holdings.{Holdings, Row, has_own, held_in, own_in}
@@ -22,9 +22,9 @@ use Rattle.letter_kinds.specs.declared.letter.Letter.{Letter}
 use Rattle.letter_kinds.specs.declared.letter.Letter.TheVariants.{App, Inc, Dec, Confirm}
 use Rattle.count_laws.proofs.agreement.Agreeing.{agrees_set}
 use Rattle.count_laws.proofs.balance.InHand.{take_letter}
-use Rattle.count_laws.proofs.knowledge.Paths.{along_row, reach_into, reach_more}
+use Rattle.count_laws.proofs.knowledge.Paths.{reach_into, reach_more}
 use Rattle.count_laws.proofs.roots.Left.{inc_there}
-use Rattle.count_laws.proofs.roots.Same.{SameOwn, carried_mine, carried_named, carried_owners, own_alike, own_received, walks}
+use Rattle.count_laws.proofs.roots.Same.{SameOwn, backed_on, carried_mine, carried_named, carried_owners, own_alike, own_received, same_rows_more, walks}
 use Rattle.count_laws.proofs.balance.SeatReads.{letter_App}
 use Rattle.machine_rules.proofs.Present.{present_below}
 use Rattle.count_laws.proofs.events.Take.{Alike, alike_lower, alike_put, alike_raise, alike_self, firm_receive, load_there, next_receive, people_after, starts_named, take_put, held_alike}
@@ -32,7 +32,7 @@ use Rattle.count_laws.proofs.balance.Takes.{own-taken}
 use Rattle.machine_rules.specs.Actors.{Actors, seat, seat_at}
 use Rattle.count_laws.specs.Agreement.{Person, app_letters}
 use Rattle.count_laws.specs.Prefixes.{IsCoveredAt}
-use Rattle.machine_rules.specs.Cell.{Cell, own_row_of}
+use Rattle.machine_rules.specs.Cell.{Cell}
 use Rattle.count_laws.specs.Facts.{KeepsCounts}
 use Rattle.count_laws.specs.Known.{InFrame, IsKnown, Names, ReachesThrough, RowsAreIn}
 use Rattle.count_laws.specs.KnownByRoots.{AreRootLetters, IsBacked, IsKnownWithOwner, IsRootLetter, IsRootOf, IsRootsAt, WalkRoots, stands, owns}
@@ -238,28 +238,15 @@ same_roots all a c d mail here same held_same fields frame known ls letters back
 taken_backed : (a : ℕ) (c d : Cell) (l : Letter) (ls : List Letter) → ((y : Thing) → owner_of y ≡ a → own_in d.holdings y + load_count y l + dec_of y l ≡ own_in c.holdings y + inc_of y l)
     → SameOwn a c.holdings d.holdings → ((x : Thing) (k : ℕ) → owner_of x ≡ a → 0 < sum_by (inc_of x) (drop k (l ∷ ls)) → IsBacked a c (l ∷ ls) k x)
     → (x : Thing) (k : ℕ) → owner_of x ≡ a → 0 < sum_by (inc_of x) (drop k ls) → IsBacked a d ls k x
-taken_backed a c d l ls took same old x k o h =
-    let b = old x (suc k) o h in
-    record {
-      from = b.from;
-      own = b.own;
-      counted = let w = b.counted in omega (
-        arith,
-        took b.from b.own,
-        sum_by-cons (dec_of b.from) l (take k ls),
-        sum_by-cons (load_count b.from) l (take k ls),
-        sum_by-cons (inc_of b.from) l (take k ls),
-      );
-      leads = own_leads a c d same b.from x b.leads;
-    }
-  where
-    own_leads : (a : ℕ) (c d : Cell) → SameOwn a c.holdings d.holdings → (y x : Thing) → ReachesThrough (thing_row (own_row_of a c.holdings)) (λ z. z ≡ y) x → ReachesThrough (thing_row (own_row_of a d.holdings)) (λ z. z ≡ y) x
-    own_leads a c d same y x h = reach_into (thing_row (own_row_of a c.holdings)) (ReachesThrough (thing_row (own_row_of a d.holdings)) (λ z. z ≡ y)) (λ z e. root e)
-        (λ z w r p e n. along_row _ p (grown a c d same z r e) n) (λ n p. owned p) h
-      where
-        grown : (a : ℕ) (c d : Cell) → SameOwn a c.holdings d.holdings → (z : Thing) (r : Row) → thing_row (own_row_of a c.holdings) z ≡ Some r → thing_row (own_row_of a d.holdings) z ≡ Some r
-        grown a c d same (Actor i) r e = cc
-        grown a c d same (Obj n) r e = same.rows n ∙ e
+taken_backed a c d l ls took same old x k o h = backed_on a c d (l ∷ ls) ls (suc k) k
+    (λ y own counted. omega (
+      arith,
+      took y own,
+      sum_by-cons (dec_of y) l (take k ls),
+      sum_by-cons (load_count y) l (take k ls),
+      sum_by-cons (inc_of y) l (take k ls),
+    ))
+    (same_rows_more a c.holdings d.holdings same) x o (old x (suc k) o h)
 
 module _ (program : Program) (all : Thing → Option Row) (ps : List Person) (s : Actors) (inv : KeepsCounts options.Roots all ps s)
     (a : ℕ) (c : Cell) (l : Letter) (ls : List Letter) (at : seat_at s a ≡ seat c (l ∷ ls)) where

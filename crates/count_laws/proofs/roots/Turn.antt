@@ -394,7 +394,7 @@ module _ (program : Program) (all all' : Thing → Option Row) (ps : List Person
         brought = brought_after;
         led = λ n row got. grown (reach_more all (λ x k. root (still x k)) (here.led n row got));
         letters = letters_grown ls (λ x h. loaded_left all s bal inv.sound a c ls x at h) here.letters;
-        backed = λ x k own h. backed_more a c c1 ls k x (λ y o. let z = same_own y in omega arith) (own_row_kept a made c.holdings fresh) (here.backed x k own h);
+        backed = λ x k own h. backed_more a c c1 ls k x own (λ y o. let z = same_own y in omega arith) (own_row_kept a made c.holdings fresh) (here.backed x k own h);
       }
 
       pub turn_keeps_roots : KeepsCounts options.Roots all' (set ps a (person_of c1 ls)) (set s a (seat c1 ls))
