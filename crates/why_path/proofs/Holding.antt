@@ -9,7 +9,7 @@ use Rattle.orca_names.specs.declared.reason.Reason.{Reason}
 use Rattle.orca_names.specs.declared.reason.Why.{Why}
 use Rattle.orca_names.specs.declared.reason.Why.TheVariants.{Pinned, Frame, Letter, By, Loose}
 use Rattle.machine_rules.specs.Actors.{Actors, Seat, seat_at}
-use Rattle.why_path.specs.Checks.{Holds, HoldsUp, IsClosedAt, IsNotLoose, LineHolds, RootHolds, StandsBelow, applies_to, is_loose, line_of}
+use Rattle.why_path.specs.Checks.{Holds, HoldsUp, IsClosedAt, IsNotLoose, LineHolds, StandsBelow, applies_to, is_loose, line_of}
 use Rattle.why_path.specs.Edges.{LeadsTo, leads_of}
 use Rattle.why_path.specs.Laws.{IsKeptIn}
 use Rattle.why_path.specs.Reasons.{AreReasons, IsLedTo, IsLevel, IsReason, IsReasonOf, IsRoot, applies, cause_at, cause_of}
@@ -131,32 +131,34 @@ module _ (actors : Actors) (rs : List Reason) (holds : HoldsUp actors rs) (left 
   holding : (r : Reason) → Contains rs r → Holds actors rs r
   holding r c = All-contains (Holds actors rs) rs r holds.lines c
 
-  -- a root's line
-  root_kept : (x : Thing) (level : ℕ) (w : Why) → RootHolds actors x level w → (k : ℕ) → level ≡ k → IsLedTo actors k x
-  root_kept x level w h k at = subst (λ k. IsLedTo actors k x) (sym h.0 ∙ at) (root_led actors x (root_where actors x w h.1))
+  -- to a root
+  root_kept : (x : Thing) (w : Why) → applies_to actors x w ≡ true → (k : ℕ) × IsLedTo actors k x
+  root_kept x w h = (0, root_led actors x (root_where actors x w h))
 
-  -- a path leads to what is kept
-  kept_led : (k : ℕ) (r : Reason) → Contains rs r → r.level ≡ k → is_loose r.why ≡ false → IsLedTo actors k r.thing
+  -- a path leads to what is kept: each parent's line stands lower
+  kept_led : (level : ℕ) (r : Reason) → Contains rs r → r.level ≡ level → is_loose r.why ≡ false → (k : ℕ) × IsLedTo actors k r.thing
   kept_led zero r c at kept = by r.why (holding r c) kept
     where
-      by : (w : Why) → LineHolds actors rs r.thing r.level w → is_loose w ≡ false → IsLedTo actors 0 r.thing
-      by Pinned h kept = root_kept r.thing r.level Pinned h 0 at
-      by Frame h kept = root_kept r.thing r.level Frame h 0 at
-      by Letter h kept = root_kept r.thing r.level Letter h 0 at
+      by : (w : Why) → LineHolds actors rs r.thing r.level w → is_loose w ≡ false → (k : ℕ) × IsLedTo actors k r.thing
+      by Pinned h kept = root_kept r.thing Pinned h
+      by Frame h kept = root_kept r.thing Frame h
+      by Letter h kept = root_kept r.thing Letter h
       by (By parent edge) h kept = let line = below_line rs parent r.level h.0 in absurd (omega (arith, line.3, at))
       by Loose h kept = cc
-  kept_led (suc k) r c at kept = by (kept_led k) r.why (holding r c) kept
+  kept_led (suc level) r c at kept = by (kept_led level) r.why (holding r c) kept
     where
-      by : ((r : Reason) → Contains rs r → r.level ≡ k → is_loose r.why ≡ false → IsLedTo actors k r.thing)
-          → (w : Why) → LineHolds actors rs r.thing r.level w → is_loose w ≡ false → IsLedTo actors (suc k) r.thing
-      by deeper Pinned h kept = root_kept r.thing r.level Pinned h (suc k) at
-      by deeper Frame h kept = root_kept r.thing r.level Frame h (suc k) at
-      by deeper Letter h kept = root_kept r.thing r.level Letter h (suc k) at
+      by : ((r : Reason) → Contains rs r → r.level ≡ level → is_loose r.why ≡ false → (k : ℕ) × IsLedTo actors k r.thing)
+          → (w : Why) → LineHolds actors rs r.thing r.level w → is_loose w ≡ false → (k : ℕ) × IsLedTo actors k r.thing
+      by deeper Pinned h kept = root_kept r.thing Pinned h
+      by deeper Frame h kept = root_kept r.thing Frame h
+      by deeper Letter h kept = root_kept r.thing Letter h
       by deeper (By parent edge) h kept =
           let line = below_line rs parent r.level h.0 in
           let found = found_line parent rs line.0 line.1 in
-          let led = deeper line.0 found.0 (omega (arith, line.3, at)) line.2 in
-          led_more actors k parent r.thing (subst (IsLedTo actors k) found.1 led) (edge, h.1)
+          let led = deeper line.0 found.0 (omega (arith, line.3, at)) line.2 in (
+            suc led.0,
+            led_more actors led.0 parent r.thing (subst (IsLedTo actors led.0) found.1 led.1) (edge, h.1),
+          )
       by deeper Loose h kept = cc
 
   -- what a path leads to is kept
@@ -195,7 +197,8 @@ module _ (actors : Actors) (rs : List Reason) (holds : HoldsUp actors rs) (left 
       to h =
           let line = kept_line rs x h in
           let found = found_line x rs line.0 line.1 in
-          (line.0.level, subst (IsLedTo actors line.0.level) found.1 (kept_led line.0.level line.0 found.0 refl line.2))
+          let led = kept_led line.0.level line.0 found.0 refl line.2 in
+          (led.0, subst (IsLedTo actors led.0) found.1 led.1)
 
 -- ---- reasons hold up
 
@@ -234,9 +237,9 @@ module _ (actors : Actors) (rs : List Reason) (are : AreReasons actors rs) (left
               (subst (IsLedTo actors n) (sym found.1) led))
 
   line_holds : (x : Thing) (level : ℕ) (w : Why) → IsReasonOf actors x level w → LineHolds actors rs x level w
-  line_holds x level Pinned h = (h.0, cause_applies actors x Pinned h.1)
-  line_holds x level Frame h = (h.0, cause_applies actors x Frame h.1)
-  line_holds x level Letter h = (h.0, cause_applies actors x Letter h.1)
+  line_holds x level Pinned h = cause_applies actors x Pinned h.1
+  line_holds x level Frame h = cause_applies actors x Frame h.1
+  line_holds x level Letter h = cause_applies actors x Letter h.1
   line_holds x level (By parent edge) h =
       let line = led_there parent h.lower h.below.led in
       let same = one_level actors parent line.0.level h.lower line.3 h.below in (

@@ -37,16 +37,12 @@ abbrev pub StandsBelow : List Reason → Thing → ℕ → Type 0
 StandsBelow reasons x level =
     IsSomeAnd (line_of reasons x) (λ r. (is_loose r.why ≡ false) × (r.level + 1 ≡ level))
 
--- a root's level is 0, and what makes it a root applies
-abbrev pub RootHolds : Actors → Thing → ℕ → Why → Type 0
-RootHolds actors x level why = (level ≡ 0) × (applies_to actors x why ≡ true)
-
 -- each root reason applies; each parent is not loose and stands one level lower, with that edge; no
--- loose thing is a root
+-- loose thing is a root; the level of a root, and of a loose thing, is free
 abbrev pub LineHolds : Actors → List Reason → Thing → ℕ → Why → Type 0
-LineHolds actors reasons x level Pinned = RootHolds actors x level Pinned
-LineHolds actors reasons x level Frame = RootHolds actors x level Frame
-LineHolds actors reasons x level Letter = RootHolds actors x level Letter
+LineHolds actors reasons x level Pinned = applies_to actors x Pinned ≡ true
+LineHolds actors reasons x level Frame = applies_to actors x Frame ≡ true
+LineHolds actors reasons x level Letter = applies_to actors x Letter ≡ true
 LineHolds actors reasons x level (By parent edge) =
     StandsBelow reasons parent level × LeadsBy actors parent edge x
 LineHolds actors reasons x level Loose = ¬ IsRoot actors x

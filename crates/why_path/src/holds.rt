@@ -139,9 +139,7 @@ fn line_holds(orca: &Orca<'_>, reasons: &[Reason], line: &Reason) -> bool
             stands_below(reasons, parent, line.level) && leads_by(orca, parent, edge, &line.thing)
         }
         Why::Loose => cause_of(orca, &line.thing).is_none(),
-        Why::Pinned | Why::Frame | Why::Letter => {
-            line.level == 0 && applies_to(orca, &line.thing, &line.why)
-        }
+        Why::Pinned | Why::Frame | Why::Letter => applies_to(orca, &line.thing, &line.why),
     }
 }
 
