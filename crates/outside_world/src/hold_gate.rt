@@ -105,7 +105,8 @@ impl HoldGate {
         }
     }
 
-    /// Whether a segment of each was entered and neither gave up.
+    /// Whether a segment of each was entered and neither gave up. No clause says so: it reads flags that
+    /// threads share, and a contract knows nothing of what such a flag has.
     pub fn met(&self) -> bool {
         have_met(self.one.standing(), self.other.standing())
     }

@@ -17,11 +17,13 @@ use Rattle.word_line.specs.declared.order.Order.{Order}
 use Rattle.behaviour_code.specs.declared.code.Program.{Program}
 use Rattle.machine_rules.specs.State.{State}
 use Rattle.outside_world.specs.Pieces.{TakesAll, TakesPart}
-use Rattle.pony_run.specs.Headline.{Answers, Begins, BeginsAudit, EndsWith, EveryRun, HasText, IsAudited, IsCut, IsInput, IsReport, IsReportOf, MayRead, Reads, ReadsFor, Refuses, TakesInput, Writes}
-use Rattle.pony_run.specs.Inner.{AuditAnswers, BeginsRun, GivesBegun, HasBehind, InputStops, IsBegun, IsBookStop, IsReadStop, IsRunnable, IsStop, IsTextStop, IsTold, IsWritten, RunAnswers, StopsWith, WritesAudit, WritesReport}
-use Rattle.pony_run.specs.Streams.{CountsNoFault, IsUntouched, Sides, most_bytes}
-use Rattle.pony_run.specs.declared.beginning.Begun.{Begun}
-use Rattle.pony_run.specs.declared.beginning.Begun.TheVariants as begun
+use Rattle.job_input.specs.Inputs.{HasText, IsInput, Reads, ReadsFor, TakesInput}
+use Rattle.pony_run.specs.Headline.{Answers, Begins, BeginsAudit, EndsWith, EveryRun, IsAudited, IsCut, IsReport, IsReportOf, MayRead, Refuses, Writes}
+use Rattle.job_input.specs.Begins.{BeginsRun, GivesBegun, HasBehind, InputStops, IsBegun, IsBookStop, IsReadStop, IsRunnable, IsStop, IsTextStop}
+use Rattle.pony_run.specs.Inner.{AuditAnswers, IsTold, IsWritten, RunAnswers, StopsWith, WritesAudit, WritesReport}
+use Rattle.job_input.specs.Streams.{CountsNoFault, IsUntouched, Sides, most_bytes}
+use Rattle.job_input.specs.declared.beginning.Begun.{Begun}
+use Rattle.job_input.specs.declared.beginning.Begun.TheVariants as begun
 
 -- ---- what was read
 

@@ -22,8 +22,8 @@ use Rattle.book_audit.specs.Verdicts.{IsARun, IsRefuted, options_of_book}
 use Rattle.book_audit.specs.declared.auditing.Verdict.TheVariants.{Not}
 use Rattle.book_audit.proofs.Exactly.{refuted_exactly, run_exactly}
 use Rattle.pony_run.specs.Causes.{AuditCauses, IsGiven, IsGivenAudit, IsOfAudit, IsUnlessMemory}
-use Rattle.pony_run.specs.Headline.{HasText, IsInput, IsProgramText, Spells}
-use Rattle.pony_run.specs.Streams.{CountsNoFault, HasFailed, Sides}
+use Rattle.job_input.specs.Inputs.{HasText, IsInput, IsProgramText, Spells}
+use Rattle.job_input.specs.Streams.{CountsNoFault, HasFailed, Sides}
 use Rattle.pony_run.proofs.Given.{no_fault, no_run, one_program, one_text, read_is}
 use Rattle.pony_run.proofs.Seen.{AuditSeen, HasProgram, Seen, of_audit}
 

@@ -13,8 +13,9 @@ use Rattle.behaviour_text.specs.Faults.{told_fault}
 use Rattle.behaviour_check.specs.Rules.{fault_at, first_broken}
 use Rattle.behaviour_check.specs.declared.checked.CheckFault.{CheckFault}
 use Rattle.pony_run.specs.Causes.{Causes, ComesOnly, ComesWherever, IsGiven, IsOfAudit, IsUnlessMemory, OrderCauses, ReadsWell}
-use Rattle.pony_run.specs.Headline.{Answers, EndsWith, EveryRun, HasText, IsInput, IsProgramText, RunsProgram, Spells, TakesInput}
-use Rattle.pony_run.specs.Streams.{CountsFault, CountsNoFault, HasFailed, Sides, most_bytes}
+use Rattle.job_input.specs.Inputs.{HasText, IsInput, IsProgramText, RunsProgram, Spells, TakesInput}
+use Rattle.pony_run.specs.Headline.{Answers, EndsWith, EveryRun}
+use Rattle.job_input.specs.Streams.{CountsFault, CountsNoFault, HasFailed, Sides, most_bytes}
 use Rattle.pony_run.proofs.AuditCaused.{audit_caused}
 use Rattle.pony_run.proofs.Given.{ends_no_audit, input_is_well, no_fault, no_run, one_program, one_text, read_is, well_read}
 use Rattle.pony_run.proofs.Seen.{HasProgram, Seen, of_audit, see}

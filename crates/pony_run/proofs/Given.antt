@@ -13,8 +13,8 @@ use Rattle.behaviour_text.specs.Faults.{told_fault}
 use Rattle.behaviour_text.proofs.Again.{again, no_fault_told}
 use Rattle.outside_world.specs.Pieces.{TakesAll}
 use Rattle.pony_run.specs.Causes.{IsGiven, IsOfAudit, ReadsWell, Tells}
-use Rattle.pony_run.specs.Headline.{IsInput, IsProgramText, RunsProgram, Spells, TakesInput}
-use Rattle.pony_run.specs.Streams.{CountsNoFault, HasFailed, Sides, most_bytes}
+use Rattle.job_input.specs.Inputs.{IsInput, IsProgramText, RunsProgram, Spells, TakesInput}
+use Rattle.job_input.specs.Streams.{CountsNoFault, HasFailed, Sides, most_bytes}
 
 -- ---- what was read is what was given
 

@@ -14,8 +14,9 @@ use Rattle.word_line.specs.declared.order.Order.{Order}
 use Rattle.behaviour_code.specs.declared.code.Program.{Program}
 use Rattle.behaviour_check.specs.Rules.{fault_at, first_broken}
 use Rattle.pony_run.specs.Causes.{IsOfAudit}
-use Rattle.pony_run.specs.Headline.{Answers, Begins, BeginsAudit, EndsWith, EveryRun, HasText, IsFaulty, IsInput, IsNoBook, IsProgramText, RunsProgram, Spells, TakesInput}
-use Rattle.pony_run.specs.Streams.{CountsNoFault, HasFailed, Sides, most_bytes}
+use Rattle.job_input.specs.Inputs.{HasText, IsFaulty, IsInput, IsNoBook, IsProgramText, RunsProgram, Spells, TakesInput}
+use Rattle.pony_run.specs.Headline.{Answers, Begins, BeginsAudit, EndsWith, EveryRun}
+use Rattle.job_input.specs.Streams.{CountsNoFault, HasFailed, Sides, most_bytes}
 
 -- the program of an order, which keeps the rules
 pub record HasProgram (order : Order) (source : Sides) (program : Program) : Type 0 where

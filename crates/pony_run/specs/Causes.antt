@@ -17,8 +17,9 @@ use Rattle.report_text.specs.declared.status.Status.TheVariants as status
 use Rattle.behaviour_code.specs.declared.code.Program.{Program}
 use Rattle.behaviour_text.specs.Faults.{told_fault}
 use Rattle.behaviour_check.specs.Rules.{fault_at, first_broken}
-use Rattle.pony_run.specs.Headline.{EndsWith, EveryRun, HasText, IsProgramText, RunsProgram, Spells, TakesInput}
-use Rattle.pony_run.specs.Streams.{CountsFault, CountsNoFault, HasFailed, Sides, most_bytes}
+use Rattle.job_input.specs.Inputs.{HasText, IsProgramText, RunsProgram, Spells, TakesInput}
+use Rattle.pony_run.specs.Headline.{EndsWith, EveryRun}
+use Rattle.job_input.specs.Streams.{CountsFault, CountsNoFault, HasFailed, Sides, most_bytes}
 
 -- this answer, or want of memory
 abbrev pub IsUnlessMemory : Status → Status → Type 0

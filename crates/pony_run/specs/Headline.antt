@@ -3,8 +3,9 @@
 -- `Answers`, at the end, has a constructor for each answer, with its premises in the order of the
 -- causes: the words, what is read, its length, its text, the rules of its program, the run, or the book
 -- and its audit, and what is written. What every run promises, however it ends, is `EveryRun`; it is a
--- premise of each answer behind which a run began.
-use Rattle.std.specs.Prelude.{◌≡◌, ◌↔◌, ◌⊎◌, ℕ, ◌<◌, ◌≤◌, Bool, true, false, not, List, [], ◌++◌, Contains, count_by, length, Some, None, ⊤}
+-- premise of each answer behind which a run began. What a job takes as its input, and what is a
+-- program's text there (`IsInput`, `HasText`, `Spells`, `IsFaulty`, `IsNoBook`), stands in `job_input`.
+use Rattle.std.specs.Prelude.{◌≡◌, ◌↔◌, ◌⊎◌, ℕ, ◌<◌, ◌≤◌, Bool, true, false, not, List, [], ◌++◌, Contains, count_by, length, All, Some, None}
 use Rattle.std.specs.declared.option.Option.{Option}
 use Rattle.std.specs.Io.KnownBytes.{Appends}
 use Rattle.std.specs.List.Sorted.{IsStrictlySortedBy}
@@ -13,10 +14,11 @@ use Rattle.orca_names.specs.declared.names.Thing.{Thing}
 use Rattle.orca_names.specs.declared.names.Thing.TheVariants.{Actor, Obj}
 use Rattle.orca_names.specs.declared.reason.Reason.{Reason}
 use Rattle.orca_names.specs.declared.tally.Sums.{Sums}
+use Rattle.orca_names.specs.declared.trace.Trace.TheVariants.{Deep, Roots}
 use Rattle.event_rule.specs.Runs.{ActorsFull, Budget, EndsAs, IsQuiet, LeadsInOrder, Quiet}
 use Rattle.event_rule.specs.declared.event.Event.{Event}
 use Rattle.run_book.specs.Books.{BookValue}
-use Rattle.run_book.specs.Reading.{IsBookText, IsFirstFault}
+use Rattle.run_book.specs.Reading.{IsBookText}
 use Rattle.run_book.specs.Splits.{IsSplit}
 use Rattle.report_text.specs.Refusals.{refusal_of}
 use Rattle.report_text.specs.Reports.{audit_report_of, report_of}
@@ -24,82 +26,38 @@ use Rattle.report_text.specs.WhyLines.{why_lines}
 use Rattle.report_text.specs.declared.numbers.Numbers.{Numbers}
 use Rattle.report_text.specs.declared.status.Status.{Status}
 use Rattle.report_text.specs.declared.status.Status.TheVariants as status
-use Rattle.load_maker.specs.Loads.{load_text}
 use Rattle.word_line.specs.declared.order.Job.{Job}
-use Rattle.word_line.specs.declared.order.Job.TheVariants.{Load, Audit, Why}
+use Rattle.word_line.specs.declared.order.Job.TheVariants.{Audit, Why}
 use Rattle.word_line.specs.declared.order.Order.{Order}
-use Rattle.behaviour_code.specs.WellFormed.{IsWellFormed}
 use Rattle.behaviour_code.specs.declared.code.Program.{Program}
-use Rattle.behaviour_text.specs.Faults.{told_fault}
-use Rattle.behaviour_text.specs.Text.{IsText}
 use Rattle.behaviour_check.specs.Rules.{fault_at, first_broken}
 use Rattle.plain_rules.specs.Machine.{PlainState}
+use Rattle.plain_rules.specs.Reach.{IsReachable}
 use Rattle.machine_rules.specs.Actors.{Actors}
 use Rattle.machine_rules.specs.Left.{IsLeft}
 use Rattle.machine_rules.specs.Next.{next}
 use Rattle.machine_rules.specs.Options.{Options}
 use Rattle.machine_rules.specs.Run.{IsPlainBeside, IsRun}
 use Rattle.machine_rules.specs.State.{State, first_state}
+use Rattle.count_laws.specs.TracedByRoots.{AreTracedByRoots}
 use Rattle.machine_laws.specs.Laws.{IsNeverTooEarly}
 use Rattle.orca_core.specs.Laws.{IsLeftExactly}
 use Rattle.book_audit.specs.Verdicts.{IsRefuted, options_of_book}
 use Rattle.count_ledger.specs.Tally.{IsTally}
-use Rattle.why_path.specs.Partings.{partings_of}
+use Rattle.why_path.specs.Checks.{HoldsUp, is_loose}
+use Rattle.why_path.specs.Laws.{IsKeptIn}
+use Rattle.why_path.specs.Partings.{IsClosedParting, partings_of}
 use Rattle.why_path.specs.Reasons.{AreReasons}
-use Rattle.outside_world.specs.Pieces.{GivesPart, TakesAll, TakesPart}
-use Rattle.pony_run.specs.Streams.{CountsNoFault, HasFailed, IsUntouched, Sides, most_bytes}
+use Rattle.outside_world.specs.Pieces.{GivesPart}
+use Rattle.job_input.specs.Inputs.{Reads, TakesInput, ReadsFor, IsInput, HasText, Spells, IsFaulty, RunsProgram, IsNoBook}
+use Rattle.job_input.specs.Streams.{CountsNoFault, HasFailed, IsUntouched, Sides, most_bytes}
 
 -- ---- what is read
 
--- the source was read, if at all, from where it stood, and its count of faults did not fall
-pub record Reads (source : Sides) : Type 0 where
-  pub part : TakesPart source.before source.after
-  pub stays : source.faults_before ≤ source.faults_after
-
--- the job takes its input from the source; `load` makes its own
-abbrev pub TakesInput : Job → Type 0
-TakesInput (Load count) = ⊥
-TakesInput other = ⊤
-
 -- what is read, however the call ends: without an order, and for `load`, nothing
-abbrev pub ReadsFor : Job → Sides → Type 0
-ReadsFor (Load count) source = IsUntouched source
-ReadsFor other source = Reads source
-
 abbrev pub MayRead : Option Order → Sides → Type 0
 MayRead None source = IsUntouched source
 MayRead (Some order) source = ReadsFor order.job source
-
--- the input: for `load` the text of its program, and nothing was read; for the rest all that the
--- source had left, or the first of it where there is more than a text may have, and no read failed
-abbrev pub IsInput : Job → Sides → List ℕ → Type 0
-IsInput (Load count) source input = IsUntouched source × (input ≡ load_text count)
-IsInput other source input = CountsNoFault source × TakesAll most_bytes source.before source.after input
-
--- the program's text: for `audit` what stands in the input before the book, for the rest all of it
-abbrev pub IsProgramText : Job → (input text : List ℕ) → Type 0
-IsProgramText Audit input text = (book : List ℕ) × IsSplit input text book
-IsProgramText other input text = text ≡ input
-
--- the input is not too long, and this is the program's text in it
-pub record HasText (job : Job) (input text : List ℕ) : Type 0 where
-  pub short : length input < most_bytes
-  pub part : IsProgramText job input text
-
--- the text is that of this program
-pub record Spells (text : List ℕ) (program : Program) : Type 0 where
-  pub says : IsText text program
-  pub good : IsWellFormed program
-
--- the text is that of no program, and this is its first fault
-pub record IsFaulty (text : List ℕ) (line kind : ℕ) : Type 0 where
-  pub first : told_fault text ≡ Some (line, kind)
-  pub no_program : (program : Program) → IsText text program → ¬ IsWellFormed program
-
--- the job runs a program; `audit` follows a book
-abbrev pub RunsProgram : Job → Type 0
-RunsProgram Audit = ⊥
-RunsProgram other = ⊤
 
 -- the words have a program run: this one, which keeps the rules
 pub record Begins (reading : Option Order) (source : Sides) (order : Order) (program : Program)
@@ -127,11 +85,6 @@ pub record BeginsAudit (reading : Option Order) (source : Sides) (order : Order)
   pub spells : Spells text program
   pub kept : first_broken program ≡ None
 
--- the bytes are no book's text, and this is their first fault
-pub record IsNoBook (bytes : List ℕ) (line kind : ℕ) : Type 0 where
-  pub first : IsFirstFault bytes line kind
-  pub no_book : (book : BookValue) → ¬ IsBookText bytes book
-
 -- ---- the run
 
 -- the same order, given to one worker
@@ -147,6 +100,12 @@ options_in order = record { weight = order.weight; trace = order.trace }
 abbrev pub IsSafeAfter : Program → Options → List Event → Type 0
 IsSafeAfter program options book =
     (s : State) × IsRun program options book s × IsNeverTooEarly program options book s
+
+-- after this book, by root-only tracing: no count is overdrawn, who rests has just what is marked, what
+-- is named is held with its owner, and what is held or under way is counted or led to
+abbrev pub IsTracedAfter : Program → Options → List Event → Type 0
+IsTracedAfter program options book =
+    (s : State) × IsRun program options book s × AreTracedByRoots s.actors
 
 -- after this book exactly what the machine that frees nothing still reaches is left; with root-only
 -- tracing, where an actor leads to its own objects that some actor that is left holds, too
@@ -170,6 +129,9 @@ pub record EveryRun (order : Order) (program : Program) (book : BookValue) : Typ
   -- after each front of it, nothing was freed too early
   pub safe : (front later : List Event) → book.entries ≡ front ++ later
       → IsSafeAfter program (options_in order) front
+  -- with root-only tracing, after each front of it, the facts of that tracing hold
+  pub traced : order.trace ≡ Roots → (front later : List Event) → book.entries ≡ front ++ later
+      → IsTracedAfter program (options_in order) front
   -- where no event is enabled any more, nothing else is left than what has to be
   pub exact : IsQuiet next state → IsExactAfter program (options_in order) book.entries state
 
@@ -212,12 +174,26 @@ pub record AreNumbers (s : State) (actors objects : Numbers) : Type 0 where
   pub objects_made : objects.made ≡ s.objects
   pub left : AreLeft s.actors actors.left objects.left
 
--- the lines behind a report: for `why` who went by each leave and each reap of the book, and why each
--- thing is left; else none
+-- the lines tell who went by each leave and each reap of the book, and why each thing is left in the
+-- state to which it leads
+pub record TellWhy (book : List Event) (s : State) (lines : List ℕ) : Type 0 where
+  pub reasons : List Reason
+  pub each : AreReasons s.actors reasons
+  -- the reasons hold up, which anyone may check without walking a path
+  pub hold : HoldsUp s.actors reasons
+  -- exactly what the machine that frees nothing still reaches is called kept
+  pub kept : (plain : PlainState) × IsPlainBeside s.program s.options book plain
+      × ((x : Thing) → IsKeptIn reasons x ↔ IsReachable plain x)
+  -- with deep tracing nothing is called loose where no event is enabled
+  pub none_loose : s.options.trace ≡ Deep → IsQuiet next s
+      → All (λ r. is_loose r.why ≡ false) reasons
+  -- each set that was reaped is closed by the numbers that are told of it
+  pub closed : All IsClosedParting (partings_of book (first_state s.program s.options))
+  pub said : lines ≡ why_lines (partings_of book (first_state s.program s.options)) reasons
+
+-- the lines behind a report: for `why` these; else none
 abbrev pub AreWhys : Job → List Event → State → List ℕ → Type 0
-AreWhys Why book s lines =
-    (reasons : List Reason) × AreReasons s.actors reasons
-    × (lines ≡ why_lines (partings_of book (first_state s.program s.options)) reasons)
+AreWhys Why book s lines = TellWhy book s lines
 AreWhys other book s lines = lines ≡ []
 
 -- the text is the report of the run of this book, which ended so in this state: its prints, its end,
@@ -349,7 +325,9 @@ pub data Answers (reading : Option Order) (source sink : Sides) (book : BookValu
   write_fault : (order : Order) (program : Program) → Begins reading source order program
       → (run : EveryRun order program book) (end : Status) (text : List ℕ) → IsReportOf end run text
       → IsCut sink text → Answers reading source sink book status.WriteFault
-  -- memory was refused before a run began or a book was read, and nothing was written
+  -- memory was refused before a run began or a book was read, the book is empty, and nothing was
+  -- written. Memory may be refused while a book is read, so an answer alone can't tell that none was;
+  -- that one which was read is kept is a clause of `audit_book`
   starved : MayRead reading source → book.entries ≡ []
       → Writes sink [] → Answers reading source sink book status.NoMemory
   -- memory was refused after it began, and nothing was written

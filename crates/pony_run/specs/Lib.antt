@@ -1,4 +1,3 @@
 pub mod Causes
 pub mod Headline
 pub mod Inner
-pub mod Streams

@@ -7,7 +7,7 @@ ghost use Rattle.machine_rules.specs.Run.{IsRun};
 ghost use Rattle.orca_core.specs.Machine.{NoneIsAway};
 ghost use Rattle.book_audit.specs.Verdicts.{options_of_book};
 ghost use Rattle.pony_run.specs.Inner.{AuditAnswers, WritesAudit};
-ghost use Rattle.pony_run.specs.Streams.{sides};
+ghost use Rattle.job_input.specs.Streams.{sides};
 
 use crate::reporting::report_of_audit;
 use crate::runs::Outcome;

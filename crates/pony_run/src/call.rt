@@ -6,12 +6,12 @@ ghost use Rattle.word_line.specs.Orders.{IsInRange, order_of};
 ghost use Rattle.pony_run.specs.Causes.{Causes, OrderCauses};
 ghost use Rattle.pony_run.specs.Headline.{Answers, alone};
 ghost use Rattle.pony_run.specs.Inner.{StopsWith};
-ghost use Rattle.pony_run.specs.Streams.{sides};
+ghost use Rattle.job_input.specs.Streams.{sides};
 
 use crate::auditing::audit_book;
-use crate::beginning::{Begun, begin};
 use crate::runs::{Outcome, run_by_one, run_checked};
 use crate::writing::tell;
+use job_input::{Begun, begin};
 use orca_names::Trace;
 use outside_world::{Gate, Sink, Source};
 use report_text::Status;

@@ -3,7 +3,6 @@
 #![tactic(auto)]
 
 mod auditing;
-mod beginning;
 mod call;
 mod reporting;
 mod runs;

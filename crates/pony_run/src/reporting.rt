@@ -101,6 +101,8 @@ fn whys(
 {
     match job {
         Job::Why => {
+            // What is told of reasons holds for any weight above 0.
+            orca.weight_is_above_zero();
             let partings = partings(alloc, code, book)?;
             let reasons = explain(alloc, orca)?;
             why_lines(alloc, &partings, &reasons)

@@ -4,7 +4,7 @@ ghost use Rattle.std.specs.Prelude.{◌≡◌, ◌≢◌, []};
 ghost use Rattle.report_text.specs.Ends.{IsEnd};
 ghost use Rattle.word_line.specs.Orders.{IsInRange};
 ghost use Rattle.pony_run.specs.Inner.{IsAnswerOf, IsUnderWay, RunAnswers, WritesReport};
-ghost use Rattle.pony_run.specs.Streams.{sides};
+ghost use Rattle.job_input.specs.Streams.{sides};
 
 use crate::reporting::report_of_run;
 use crate::working::run_in;
@@ -21,7 +21,8 @@ use std::sync::Wait;
 use std::thread::Threads;
 use word_line::Order;
 
-/// What a call answers: its status, and the book of the run, which is empty where no run began.
+/// What a call answers: its status, and the book of the run, or the one that was read for an audit. It is
+/// empty where no run began and no book was read.
 #[derive(Debug, Drop)]
 pub struct Outcome {
     pub status: Status,

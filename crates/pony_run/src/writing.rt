@@ -2,7 +2,7 @@
 
 ghost use Rattle.report_text.specs.Refusals.{HasRefusal};
 ghost use Rattle.pony_run.specs.Inner.{IsTold, IsWritten};
-ghost use Rattle.pony_run.specs.Streams.{sides};
+ghost use Rattle.job_input.specs.Streams.{sides};
 
 use outside_world::{Sink, write_all};
 use report_text::{Status, refusal_line};

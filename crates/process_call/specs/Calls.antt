@@ -7,7 +7,7 @@ use Rattle.report_text.specs.declared.status.Status.TheVariants as status
 use Rattle.word_line.specs.Orders.{order_of}
 use Rattle.pony_run.specs.Causes.{Causes}
 use Rattle.pony_run.specs.Headline.{Answers}
-use Rattle.pony_run.specs.Streams.{IsUntouched, Sides}
+use Rattle.job_input.specs.Streams.{IsUntouched, Sides}
 
 -- the source and the sink were called with these words, and the code is that of the answer
 pub record Exits (words : List (List ℕ)) (source sink : Sides) (code : ℕ) : Type 0 where

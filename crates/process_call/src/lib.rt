@@ -5,7 +5,7 @@ ghost use Rattle.std.specs.Prelude.{◌≡◌, ◌≢◌, [], ◌∷◌, drop, f
 ghost use Rattle.std.specs.IoError.{error_kind};
 ghost use Rattle.std.specs.Process.{exit_status};
 ghost use Rattle.std.specs.Vec.Iter.{into_iter_items};
-ghost use Rattle.pony_run.specs.Streams.{sides};
+ghost use Rattle.job_input.specs.Streams.{sides};
 ghost use Rattle.process_call.specs.Calls.{Exits, ExitsStarved, ExitsUnlessStarved};
 
 use outside_world::{OpenGate, Sink, Source};

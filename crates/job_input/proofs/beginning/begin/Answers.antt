@@ -1,8 +1,8 @@
 use Rattle.std.proofs.Common.{inr, subst, sym}
 use Rattle.std.proofs.lemmas.Result.{IfErr-weaker}
-use Rattle.pony_run.specs.Headline.{IsInput}
-use Rattle.pony_run.specs.Streams.{sides}
-use Rattle.pony_run.proofs.beginning.begin.Goals as goal
+use Rattle.job_input.specs.Inputs.{IsInput}
+use Rattle.job_input.specs.Streams.{sides}
+use Rattle.job_input.proofs.beginning.begin.Goals as goal
 
 pub returns-clause-stop : goal.returns-clause-stop
 returns-clause-stop g c =

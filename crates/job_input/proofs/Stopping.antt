@@ -5,9 +5,9 @@ use Rattle.report_text.specs.declared.status.Status.{Status}
 use Rattle.word_line.specs.declared.order.Job.{Job}
 use Rattle.word_line.specs.declared.order.Job.TheVariants.{Run, Load, Audit, Why}
 use Rattle.behaviour_code.specs.declared.code.Program.{Program}
-use Rattle.pony_run.specs.Headline.{IsProgramText, RunsProgram}
-use Rattle.pony_run.specs.Inner.{InputStops, IsBookStop, IsRunnable, IsTextStop}
-use Rattle.pony_run.specs.Streams.{most_bytes}
+use Rattle.job_input.specs.Inputs.{IsProgramText, RunsProgram}
+use Rattle.job_input.specs.Begins.{InputStops, IsBookStop, IsRunnable, IsTextStop}
+use Rattle.job_input.specs.Streams.{most_bytes}
 
 -- of a job that runs a program all of the input is its text
 all_is_text : (job : Job) (input : List ℕ) → RunsProgram job → IsProgramText job input input

@@ -6,9 +6,9 @@ ghost use Rattle.word_line.specs.declared.order.Job.TheVariants.{Audit as audit_
 ghost use Rattle.behaviour_code.specs.WellFormed.{IsWellFormed};
 ghost use Rattle.behaviour_check.specs.Rules.{first_broken};
 ghost use Rattle.run_book.specs.Reading.{IsBookText};
-ghost use Rattle.pony_run.specs.Headline.{IsInput, RunsProgram};
-ghost use Rattle.pony_run.specs.Inner.{BreaksRule, GivesBegun, InputStops, IsBegun, IsBookStop, IsReadStop, IsRunnable, IsStop, IsTextStop};
-ghost use Rattle.pony_run.specs.Streams.{most_bytes, sides};
+ghost use Rattle.job_input.specs.Inputs.{IsInput, RunsProgram};
+ghost use Rattle.job_input.specs.Begins.{BreaksRule, GivesBegun, InputStops, IsBegun, IsBookStop, IsReadStop, IsRunnable, IsStop, IsTextStop};
+ghost use Rattle.job_input.specs.Streams.{most_bytes, sides};
 
 use behaviour_check::{Checked, check};
 use behaviour_code::Program;
@@ -26,7 +26,7 @@ const MOST_BYTES: usize = TEXT_LIMIT + 1;
 
 /// What a job begins.
 #[derive(Drop)]
-pub(crate) enum Begun {
+pub enum Begun {
     /// The run of a program.
     Run { code: Checked },
     /// The audit of a book against a program.
@@ -165,7 +165,7 @@ fn begin_with(alloc: Global, job: Job, input: &[u8]) -> Result<Begun, Status>
 ///
 /// # Errors
 /// Why nothing begins.
-pub(crate) fn begin<S: Source>(alloc: Global, job: Job, source: &mut S) -> Result<Begun, Status>
+pub fn begin<S: Source>(alloc: Global, job: Job, source: &mut S) -> Result<Begun, Status>
     requires range { IsJobInRange job }
     requires goes_on { S.ended source.old ≡ false }
     ensures ok { IfOk result (GivesBegun job (sides S.left S.faults source.old source.new)) }

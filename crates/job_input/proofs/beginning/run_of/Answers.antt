@@ -1,6 +1,6 @@
 use Rattle.std.proofs.lemmas.Result.{err_from_is_err_and}
-use Rattle.pony_run.proofs.Stopping.{stops_at_input}
-use Rattle.pony_run.proofs.beginning.run_of.Goals as goal
+use Rattle.job_input.proofs.Stopping.{stops_at_input}
+use Rattle.job_input.proofs.beginning.run_of.Goals as goal
 
 pub returns-in_err-code-clause-stop : goal.returns-in_err-code-clause-stop
 returns-in_err-code-clause-stop c =

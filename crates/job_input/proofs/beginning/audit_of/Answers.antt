@@ -1,6 +1,6 @@
 use Rattle.std.proofs.lemmas.Result.{err_from_is_err_and}
-use Rattle.pony_run.proofs.Stopping.{stops_at_book, stops_at_text}
-use Rattle.pony_run.proofs.beginning.audit_of.Goals as goal
+use Rattle.job_input.proofs.Stopping.{stops_at_book, stops_at_text}
+use Rattle.job_input.proofs.beginning.audit_of.Goals as goal
 
 pub returns-in_err-code-clause-stop : goal.returns-in_err-code-clause-stop
 returns-in_err-code-clause-stop c =
