@@ -2,4 +2,8 @@
 #![tactic(auto)]
 
 #[cfg(test)]
+mod count_tests;
+#[cfg(test)]
+mod going;
+#[cfg(test)]
 mod tests;

@@ -2,31 +2,20 @@
 
 ghost use Rattle.std.specs.Prelude.{◌≡◌, None};
 
-use actor_cell::{Cell, Doing, Turned};
-use behaviour_check::{Checked, check};
+use crate::going::{checked, collects, goes};
+use actor_cell::Cell;
+use behaviour_check::Checked;
 use behaviour_code::Name;
-use behaviour_text::parse;
-use known_rows::KnownPlaces;
 use letter_kinds::{Letter, Note};
-use orca_names::{Args, Trace, Value};
+use orca_names::{Args, Value};
 use plain_list::Listed;
 use std::alloc::Global;
 use std::test::Fail;
-use turn_step::Turn;
-
-const WEIGHT: u32 = 256;
 
 /// It makes an object that nothing keeps, and prints a number.
 const PRINTS: &str = "kind Main 1\non start 0\nint r0 7\nrow r1 r0\nprint r0\nend\n";
 
-fn checked(alloc: Global, text: &str) -> Result<Checked, Fail> {
-    if text.len() > 4096 {
-        return Err(Fail::from("a long text"));
-    }
-    Ok(check(parse(alloc, text.as_bytes())?)?)
-}
-
-/// The idle actor takes a letter for this behaviour.
+/// The idle actor takes a letter for this behaviour, which loads nothing.
 fn take(alloc: Global, code: &Checked, cell: &mut Cell, behaviour: Name) -> Result<(), Fail>
     requires idle { cell.old.frame ≡ None }
 {
@@ -44,42 +33,14 @@ fn take(alloc: Global, code: &Checked, cell: &mut Cell, behaviour: Name) -> Resu
     }
 }
 
-/// What the actor prints as it goes on, if what it would do spends and mints nothing.
-fn go_over(
-    alloc: Global,
-    code: &Checked,
-    cell: &mut Cell,
-    turn: &mut Turn,
-    found: &mut Turned,
-) -> Result<Option<Value>, Fail> {
-    if !cell.frame.is_some() || cell.heap.made() > 1000 {
-        return Err(Fail::from("it cannot go"));
-    }
-    cell.found_go(alloc, code, WEIGHT, Trace::Deep, turn, found)?;
-    match found.doing {
-        Doing::Post { .. } | Doing::Mint { .. } => Err(Fail::from("it sends")),
-        Doing::New { .. } | Doing::Print { .. } | Doing::End | Doing::Rest => {
-            Ok(cell.go(alloc, code, WEIGHT, Trace::Deep)?.print)
-        }
-    }
-}
-
-/// The same, in a turn of its own.
+/// What the actor prints as it goes on.
 fn go(alloc: Global, code: &Checked, cell: &mut Cell) -> Result<Option<Value>, Fail> {
-    let mut turn = Turn::new(alloc);
-    let mut found = Turned::new(alloc);
-    go_over(alloc, code, cell, &mut turn, &mut found)
+    Ok(goes(alloc, code, cell)?.print)
 }
 
-/// Whether it gives nothing back as it collects, if it holds others' things alone.
+/// Whether it gives nothing back as it collects.
 fn sweeps_alone(alloc: Global, cell: &mut Cell) -> Result<bool, Fail> {
-    if !KnownPlaces::of(&cell.heap, &cell.foreign).holds_others_only() {
-        return Err(Fail::from("it holds things of its own"));
-    }
-    if !KnownPlaces::of(&cell.heap, cell.known.held()).holds_others_only() {
-        return Err(Fail::from("it knows things of its own"));
-    }
-    Ok(cell.collect(alloc, Trace::Deep)?.letters.is_empty())
+    Ok(collects(alloc, cell)?.letters.is_empty())
 }
 
 /// Whether it reports that nobody holds it.

@@ -45,21 +45,31 @@ fn does(alloc: Global, machine: &mut Plain<'_>, event: Event) -> Result<(), Plai
     }
 }
 
-/// Which of these events were enabled, each after those before it.
-fn enabled(alloc: Global, text: &str, events: &[(bool, u32)]) -> Result<Vec<bool>, Fail> {
-    let code = checked(alloc, text)?;
-    let mut machine = Plain::start(alloc, &code)?;
-    let mut done = Vec::new(alloc);
-    for (goes, actor) in events {
+/// Whether these events were enabled where this is wanted, each after those before it.
+fn answers(alloc: Global, machine: &mut Plain<'_>, events: &[(bool, u32, bool)]) -> bool {
+    for (goes, actor, enabled) in events {
         let name = ActorName(*actor);
         let event = if *goes {
             Event::Go(name)
         } else {
             Event::Take(name)
         };
-        done.push(does(alloc, &mut machine, event).is_ok())?;
+        if does(alloc, machine, event).is_ok() != *enabled {
+            return false;
+        }
     }
-    Ok(done)
+    true
+}
+
+fn answers_over(alloc: Global, code: &Checked, events: &[(bool, u32, bool)]) -> Result<bool, Fail> {
+    let mut machine = Plain::start(alloc, code)?;
+    Ok(answers(alloc, &mut machine, events))
+}
+
+/// Whether these events of a program were enabled where this is wanted.
+fn answers_of(alloc: Global, text: &str, events: &[(bool, u32, bool)]) -> Result<bool, Fail> {
+    let code = checked(alloc, text)?;
+    answers_over(alloc, &code, events)
 }
 
 /// Does the first enabled events, at most as many as these, and answers how many they were.
@@ -73,67 +83,75 @@ fn run(alloc: Global, machine: &mut Plain<'_>, most: u64) -> Result<u64, Fail> {
     Ok(most)
 }
 
-/// What is reachable after so many events, what was printed, and how many events, actors and objects
-/// there were.
-fn after(alloc: Global, text: &str, most: u64) -> Result<(Vec<Thing>, Vec<Value>, [u64; 3]), Fail> {
-    let code = checked(alloc, text)?;
-    let mut machine = Plain::start(alloc, &code)?;
-    let done = run(alloc, &mut machine, most)?;
+/// What is expected of a machine after some events: what is reachable, what was printed, and how many
+/// events, actors and objects there were.
+type Seen<'a> = (&'a [Thing], &'a [Value], [u64; 3]);
+
+/// Whether this is seen of a machine after its first events, at most so many.
+fn is_seen(
+    alloc: Global,
+    machine: &mut Plain<'_>,
+    most: u64,
+    want: Seen<'_>,
+) -> Result<bool, Fail> {
+    let done = run(alloc, machine, most)?;
     let things = machine.reach(alloc)?;
-    let prints = machine.prints().to_vec(alloc)?;
-    Ok((
-        things,
-        prints,
-        [done, machine.made(), machine.objects_made()],
-    ))
+    let numbers = [done, machine.made(), machine.objects_made()];
+    Ok(things.as_slice() == want.0 && machine.prints() == want.1 && numbers == want.2)
+}
+
+fn shows_over(alloc: Global, code: &Checked, most: u64, want: Seen<'_>) -> Result<bool, Fail> {
+    let mut machine = Plain::start(alloc, code)?;
+    is_seen(alloc, &mut machine, most, want)
+}
+
+/// Whether this is seen of a program after its first events, at most so many.
+fn shows(alloc: Global, text: &str, most: u64, want: Seen<'_>) -> Result<bool, Fail> {
+    let code = checked(alloc, text)?;
+    shows_over(alloc, &code, most, want)
 }
 
 // Events of the program that prints, some of them before or after their time: whether an actor goes,
-// else it takes a letter, and which one.
-const EVENTS: &[(bool, u32)] = &[
-    (true, 0),
-    (false, 1),
-    (false, 0),
-    (false, 0),
-    (true, 1),
-    (true, 0),
-    (true, 0),
-    (true, 0),
-    (false, 0),
+// else it takes a letter, which one, and whether the event is enabled.
+const EVENTS: &[(bool, u32, bool)] = &[
+    (true, 0, false),
+    (false, 1, false),
+    (false, 0, true),
+    (false, 0, false),
+    (true, 1, false),
+    (true, 0, true),
+    (true, 0, true),
+    (true, 0, false),
+    (false, 0, false),
 ];
-
-const ENABLED: &[bool] = &[false, false, true, false, false, true, true, false, false];
 
 #[test]
 fn events_that_are_not_enabled_change_nothing(rt: HostRuntime) -> Result<(), Fail> {
-    let done = enabled(rt.alloc(), SEVEN, EVENTS)?;
-    assert!(rt; done.as_slice() == ENABLED);
+    assert!(rt; answers_of(rt.alloc(), SEVEN, EVENTS)?);
     Ok(())
 }
 
 #[test]
 fn letters_hold_what_they_bring(rt: HostRuntime) -> Result<(), Fail> {
-    let (things, _, counts) = after(rt.alloc(), TWO_LETTERS, 5)?;
     // The turn has ended; the letters hold the cell, the object and by it its owner.
     let held = [
         Thing::Actor(MAIN),
         Thing::Obj(first_object()),
         Thing::Actor(CELL),
     ];
-    assert!(rt; things.as_slice() == held.as_slice() && counts == [5, 2, 2]);
+    assert!(rt; shows(rt.alloc(), TWO_LETTERS, 5, (&held, &[], [5, 2, 2]))?);
     Ok(())
 }
 
 #[test]
 fn letters_come_in_their_order(rt: HostRuntime) -> Result<(), Fail> {
-    let (things, prints, counts) = after(rt.alloc(), TWO_LETTERS, 99)?;
-    let want = [
+    let prints = [
         Value::Obj(first_object()),
         Value::Num(4),
         Value::Num(4),
         Value::Actor(CELL),
     ];
-    assert!(rt; prints.as_slice() == want.as_slice() && things.is_empty() && counts == [13, 2, 2]);
+    assert!(rt; shows(rt.alloc(), TWO_LETTERS, 99, (&[], &prints, [13, 2, 2]))?);
     Ok(())
 }
 

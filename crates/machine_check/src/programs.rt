@@ -58,3 +58,8 @@ pub(crate) const VALUES: &str =
 /// A letter names an object, whose row names another one.
 pub(crate) const OPENED: &str =
     "kind Main 0\non start 0\npin\nnew r0 A\nint r1 4\nrow r2 r1\nrow r3 r2\nsend r0 open r3\nend\nkind A 0\non open 1\nget r1 r0 0\nget r2 r1 0\nprint r2\nend\n";
+
+/// A thousand nodes, each of which makes the next one. The first half are a ring that also leads to the
+/// other half, which is a ring that keeps an object; its first node is pinned.
+pub(crate) const HALVES: &str =
+    "kind Main 0\non start 0\nint r0 1000\nrow r1 r0\nnew r2 Node\nsend r2 grow r0 r2 r1\nend\nkind Node 2\non grow 3\nstore f1 r2\nint r3 501\nsame r4 r0 r3\njzero r4 first\nstore f1 r1\nlabel first\nint r3 500\nsame r4 r0 r3\njzero r4 second\npin\nself r1\nlabel second\nint r3 1\nsub r0 r0 r3\njzero r0 last\nnew r6 Node\nstore f0 r6\nsend r6 grow r0 r1 r2\njump done\nlabel last\nstore f0 r1\nget r5 r2 0\nprint r5\nlabel done\nend\n";

@@ -4,6 +4,7 @@ ghost use Rattle.orca_core.specs.Machine.{NoneIsAway};
 
 use crate::plain_tests::checked;
 use crate::programs::{OPENED, PING, SEVEN};
+use behaviour_check::Checked;
 use event_rule::Event;
 use orca_core::{Orca, StepFault};
 use orca_names::{ActorName, Trace, Value};
@@ -186,12 +187,14 @@ fn run(alloc: Global, machine: &mut Orca<'_>, events: &[(u8, u32, Want)]) -> Res
     Ok(())
 }
 
-/// What the machine printed, and how many actors, objects and events there were, how many things are
-/// left, and whether it is quiet.
-fn seen(alloc: Global, machine: &Orca<'_>) -> Result<(Vec<Value>, [u64; 4], bool), Fail>
+/// What is expected of a machine after its events: what it printed, how many actors, objects and events
+/// there were and how many things are left, and whether it is quiet.
+type Seen<'a> = (&'a [Value], [u64; 4], bool);
+
+/// Whether this is seen of a machine.
+fn is_seen(alloc: Global, machine: &Orca<'_>, want: Seen<'_>) -> Result<bool, Fail>
     requires { NoneIsAway machine.now }
 {
-    let prints = machine.prints().to_vec(alloc)?;
     let left = machine.left(alloc)?.len() as u64;
     let numbers = [
         machine.made(),
@@ -199,61 +202,74 @@ fn seen(alloc: Global, machine: &Orca<'_>) -> Result<(Vec<Value>, [u64; 4], bool
         machine.steps(),
         left,
     ];
-    Ok((prints, numbers, machine.quiet()))
+    Ok(machine.prints() == want.0 && numbers == want.1 && machine.quiet() == want.2)
 }
 
-/// What is seen of a machine after these events and then those.
-fn seen_after(
+/// Whether this is seen of a machine after these events and then those.
+fn is_seen_after(
     alloc: Global,
     machine: &mut Orca<'_>,
     events: &[(u8, u32, Want)],
     further: &[(u8, u32, Want)],
-) -> Result<(Vec<Value>, [u64; 4], bool), Fail>
+    want: Seen<'_>,
+) -> Result<bool, Fail>
     requires { NoneIsAway machine.old }
 {
     run(alloc, machine, events)?;
     run(alloc, machine, further)?;
-    seen(alloc, machine)
+    is_seen(alloc, machine, want)
 }
 
-/// What is seen of a program after these events and then those.
-fn after(
+fn shows_over(
+    alloc: Global,
+    code: &Checked,
+    trace: Trace,
+    events: &[(u8, u32, Want)],
+    further: &[(u8, u32, Want)],
+    want: Seen<'_>,
+) -> Result<bool, Fail> {
+    let mut machine = Orca::start(alloc, code, 256, trace)?;
+    is_seen_after(alloc, &mut machine, events, further, want)
+}
+
+/// Whether this is seen of a program after these events and then those.
+fn shows(
     alloc: Global,
     text: &str,
     trace: Trace,
     events: &[(u8, u32, Want)],
     further: &[(u8, u32, Want)],
-) -> Result<(Vec<Value>, [u64; 4], bool), Fail> {
+    want: Seen<'_>,
+) -> Result<bool, Fail> {
     let code = checked(alloc, text)?;
-    let mut machine = Orca::start(alloc, &code, 256, trace)?;
-    seen_after(alloc, &mut machine, events, further)
+    shows_over(alloc, &code, trace, events, further, want)
 }
 
 #[test]
 fn two_peers_are_reaped_and_their_maker_goes(rt: HostRuntime) -> Result<(), Fail> {
+    let one = [Value::Num(1)];
     for (further, steps) in [(BY_LEAVING, 41), (BY_A_TOKEN, 46)] {
-        let (prints, numbers, quiet) = after(rt.alloc(), PING, Trace::Deep, TO_THE_REAP, further)?;
-        assert_eq!(rt; prints.as_slice(), [Value::Num(1)].as_slice());
-        assert_eq!(rt; numbers, [3, 0, steps, 0]);
-        assert!(rt; quiet);
+        let want: Seen<'_> = (&one, [3, 0, steps, 0], true);
+        assert!(rt;
+            shows(rt.alloc(), PING, Trace::Deep, TO_THE_REAP, further, want)?,
+            "by {steps}"
+        );
     }
     Ok(())
 }
 
 #[test]
 fn events_that_are_not_enabled_change_nothing(rt: HostRuntime) -> Result<(), Fail> {
-    let (prints, numbers, quiet) = after(rt.alloc(), SEVEN, Trace::Deep, FIRST, &[])?;
-    assert!(rt; prints.is_empty() && !quiet);
-    assert_eq!(rt; numbers, [1, 0, 1, 1]);
+    let want: Seen<'_> = (&[], [1, 0, 1, 1], false);
+    assert!(rt; shows(rt.alloc(), SEVEN, Trace::Deep, FIRST, &[], want)?);
     Ok(())
 }
 
 #[test]
 fn what_a_row_gives_is_minted_first(rt: HostRuntime) -> Result<(), Fail> {
-    let (prints, numbers, quiet) = after(rt.alloc(), OPENED, Trace::Roots, MINTED, &[])?;
-    assert_eq!(rt; prints.as_slice(), [Value::Num(4)].as_slice());
-    assert_eq!(rt; numbers, [2, 2, 8, 4]);
-    assert!(rt; !quiet);
+    let four = [Value::Num(4)];
+    let want: Seen<'_> = (&four, [2, 2, 8, 4], false);
+    assert!(rt; shows(rt.alloc(), OPENED, Trace::Roots, MINTED, &[], want)?);
     Ok(())
 }
 
@@ -265,11 +281,15 @@ fn lends(machine: &mut Orca<'_>, a: ActorName, e: &Event) -> bool {
     before && lent && none && machine.lives(a)
 }
 
+fn lends_the_first_of(alloc: Global, code: &Checked) -> Result<bool, Fail> {
+    let mut machine = Orca::start(alloc, code, 256, Trace::Deep)?;
+    Ok(lends(&mut machine, ActorName(0), &event(TAKE, 0)))
+}
+
 /// Whether the first actor of a program is lent so, before its first letter is taken.
 fn lends_the_first(alloc: Global, text: &str) -> Result<bool, Fail> {
     let code = checked(alloc, text)?;
-    let mut machine = Orca::start(alloc, &code, 256, Trace::Deep)?;
-    Ok(lends(&mut machine, ActorName(0), &event(TAKE, 0)))
+    lends_the_first_of(alloc, &code)
 }
 
 #[test]
@@ -292,11 +312,15 @@ fn does_prepared(alloc: Global, machine: &mut Orca<'_>, e: Event) -> Result<bool
     Ok(waits && machine.steps() == steps + 1 && !machine.enabled(e))
 }
 
+fn takes_prepared_over(alloc: Global, code: &Checked) -> Result<bool, Fail> {
+    let mut machine = Orca::start(alloc, code, 256, Trace::Deep)?;
+    does_prepared(alloc, &mut machine, event(TAKE, 0))
+}
+
 /// Whether the first letter of a program is taken as it was prepared, and not before.
 fn takes_prepared(alloc: Global, text: &str) -> Result<bool, Fail> {
     let code = checked(alloc, text)?;
-    let mut machine = Orca::start(alloc, &code, 256, Trace::Deep)?;
-    does_prepared(alloc, &mut machine, event(TAKE, 0))
+    takes_prepared_over(alloc, &code)
 }
 
 #[test]

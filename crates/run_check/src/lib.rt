@@ -10,8 +10,6 @@ mod following;
 #[cfg(test)]
 mod programs;
 #[cfg(test)]
-mod random_programs;
-#[cfg(test)]
 mod random_tests;
 #[cfg(test)]
 mod tally;

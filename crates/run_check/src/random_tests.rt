@@ -3,8 +3,8 @@
 use crate::calling::answer;
 use crate::following::{Ending, ending_of};
 use crate::programs::checked;
-use crate::random_programs::{Lot, program};
 use crate::tally::Tally;
+use drawn_program::{Lot, program};
 use orca_names::NoMemory;
 use pony_run::{Outcome, Status};
 use std::alloc::Global;

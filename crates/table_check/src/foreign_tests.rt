@@ -49,6 +49,15 @@ fn number(table: &ForeignTable, serial: u64) -> Option<Value> {
     }
 }
 
+// What is held on a thing: its count, and the number in its row.
+fn entry(table: &ForeignTable, thing: &Thing) -> Option<(u64, Option<Value>)> {
+    match table.entry(thing) {
+        Some((count, Some(row))) => Some((count, row.get(0))),
+        Some((count, None)) => Some((count, None)),
+        None => None,
+    }
+}
+
 fn gains_three(table: &mut ForeignTable) -> bool {
     gains(table, &object(3, 0), Some(7))
         && gains(table, &Thing::Actor(ActorName(5)), None)
@@ -117,6 +126,9 @@ fn keeps_rows(table: &mut ForeignTable) -> bool {
         && number(table, 1) == None
         && number(table, 2) == Some(Value::Num(2))
         && table.len() == 8
+        && entry(table, &object(3, 2)) == Some((256, Some(Value::Num(2))))
+        && entry(table, &object(2, 3)) == Some((256, None))
+        && entry(table, &object(2, 4)) == None
 }
 
 #[test]

@@ -56,6 +56,35 @@ fn makes_two(alloc: Global, heap: &mut ObjectHeap) -> bool {
         && heap.made() == 2
 }
 
+fn remove(heap: &mut ObjectHeap, n: &ObjName) {
+    if heap.has(*n) {
+        heap.remove(*n);
+    }
+}
+
+/// Whether of two objects the second stays with its number once the first is removed.
+fn removes_one(heap: &mut ObjectHeap) -> bool {
+    let Some(first) = make(heap, 7) else {
+        return false;
+    };
+    let Some(second) = make(heap, 8) else {
+        return false;
+    };
+    remove(heap, &first);
+    !heap.has(first)
+        && look(heap, &second) == (Some(Value::Num(8)), Some(0))
+        && heap.len() == 1
+        && heap.made() == 2
+}
+
+#[test]
+fn an_object_is_removed_alone(rt: HostRuntime) {
+    let mut heap = ObjectHeap::new(rt.alloc(), ActorName(4));
+    let holds = removes_one(&mut heap);
+    drop(heap);
+    assert!(rt; holds);
+}
+
 #[test]
 fn objects_are_made_and_copied(rt: HostRuntime) {
     let mut heap = ObjectHeap::new(rt.alloc(), ActorName(4));

@@ -47,12 +47,12 @@ const STEP: &str =
     "on step 4\njzero r0 done\nint r15 1\nsub r0 r0 r15\nload r4 f0\nload r5 f1\nself r6\nrow r7 r1 r6\nget r8 r2 0\nprint r8\nIIIIIIIIlabel done\nend\non keep 1\nstore f0 r0\nend\n";
 
 /// A row of numbers, which its first one determines.
-#[derive(Clone, Copy)]
-pub(crate) struct Lot(pub(crate) u64);
+#[derive(Clone, Copy, Debug)]
+pub struct Lot(pub u64);
 
 impl Lot {
-    /// One of these texts.
-    pub(crate) fn draw(&mut self, texts: &[&'static str]) -> &'static str {
+    /// One of these texts; an empty one where there are none.
+    pub fn draw(&mut self, texts: &[&'static str]) -> &'static str {
         self.0 = self
             .0
             .wrapping_mul(6364136223846793005)
@@ -91,8 +91,11 @@ fn add(out: &mut String, lot: &mut Lot, text: &str) -> Result<(), NoMemory> {
     Ok(())
 }
 
-/// A program that ends by itself.
-pub(crate) fn program(alloc: Global, lot: &mut Lot) -> Result<String, NoMemory> {
+/// A program that keeps the checker's rules and ends by itself.
+///
+/// # Errors
+/// `NoMemory` where memory was refused.
+pub fn program(alloc: Global, lot: &mut Lot) -> Result<String, NoMemory> {
     let mut out = String::new(alloc);
     for text in [START, STEP, "kind A 2\n", STEP, "kind B 2\n", STEP] {
         add(&mut out, lot, text)?;

@@ -1,0 +1,13 @@
+use Rattle.orca_names.specs.declared.trace.Trace.TheVariants.{Deep}
+use Rattle.actor_cell.specs.Cells.{as_cell}
+use Rattle.actor_cell.specs.Moves.{act_in}
+use Rattle.cell_check.proofs.Few.{can_go}
+use Rattle.cell_check.proofs.going.goes_over.Goals as goal
+
+pub go-requires-clause-can : goal.go-requires-clause-can
+go-requires-clause-can c =
+    let cell = c.args.cell.now in
+    let turn = c.found_go.new.turn in
+    let found = c.found_go.new.found in
+    can_go Deep 256 c.args.code.now cell.heap.owner (as_cell cell) turn found.place (act_in found)
+    c.in_ok-found_go.ensures.found (c.allows.ensures turn c.if-not-allows.false)
