@@ -1,13 +1,16 @@
 //! Runs each example, the programs in `data/` with some words each, and writes the file's name and the
-//! words, what the call writes, and the call's exit code.
+//! words, what the call writes, and the call's exit code; last one of them by the words that this process was
+//! given, with whose exit code it ends.
 #![tactic(auto)]
 
 use outside_world::{OpenGate, ReadSource, StdSink};
 use pony_run::run_words;
+use process_call::answer;
 use std::fs::File;
-use std::io;
+use std::process::ExitCode;
 use std::sync::Wait;
 use std::thread::Threads;
+use std::{env, io};
 
 /// The examples: each file, and the words of a run of it.
 const RUNS: &[(&str, &[&str])] = &[
@@ -71,9 +74,21 @@ fn run_example<R: AllocGlobal + Threads + Wait + Sync>(
     println!(rt; "code {}", outcome.status.code())
 }
 
-fn main(rt: HostRuntime) -> io::Result<()> {
+/// The call over this file with the words of this process, and its exit code.
+fn run_by_arguments<R: AllocGlobal + Threads + Wait + Sync>(
+    threads: &R,
+    rt: &HostRuntime,
+    name: &str,
+) -> io::Result<ExitCode> {
+    println!(rt; "{name} by the words of this process")?;
+    let mut source = ReadSource::new(File::open(rt, name)?);
+    let mut sink = StdSink::new(rt.stdout());
+    Ok(answer(threads, env::args(rt), &mut source, &mut sink))
+}
+
+fn main(rt: HostRuntime) -> io::Result<ExitCode> {
     for (name, words) in RUNS {
         run_example(&rt, &rt, name, words)?;
     }
-    Ok(())
+    run_by_arguments(&rt, &rt, "prints_seven.txt")
 }
