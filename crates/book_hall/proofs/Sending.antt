@@ -22,7 +22,7 @@ use Rattle.behaviour_code.specs.contracts.code.Kind as Kind
 use Rattle.behaviour_code.specs.contracts.code.Program as Program
 use Rattle.behaviour_code.specs.contracts.instr.Instr as Instr
 use Rattle.letter_kinds.specs.contracts.note.Note as Note
-use Rattle.cycle_detect.specs.contracts.token.Token as Token
+use Rattle.detector_tokens.specs.contracts.token.Token as Token
 
 place_send : IsSend (Place.the_field).row
 place_send = search (sendable, crosses) depth 100 fits 100000

@@ -8,11 +8,11 @@ use Rattle.std.specs.Option.{option_map_or}
 use Rattle.letter_kinds.specs.Detector.{Detector, Token, all_acked, close_token, has, note_ack, token_numbered}
 use Rattle.letter_kinds.specs.Reports.{drop_report}
 use Rattle.letter_kinds.specs.declared.note.Report.{Report}
-use Rattle.cycle_detect.specs.Open.{acked_by_all, first_acked, IsLowestAcked, numbers}
+use Rattle.detector_tokens.specs.Open.{acked_by_all, first_acked, IsLowestAcked, numbers}
 use Rattle.std.specs.List.Sorted.{IsStrictlySortedBy}
 use Rattle.std.specs.Ordering.{nat_cmp}
-use Rattle.cycle_detect.proofs.OpenLemmas.{first-above}
-use Rattle.cycle_detect.proofs.RisingLemmas.{AllAbove, first_above, rest_rises}
+use Rattle.detector_tokens.proofs.OpenLemmas.{first-above}
+use Rattle.detector_tokens.proofs.RisingLemmas.{AllAbove, first_above, rest_rises}
 
 -- no number is above that of the last token that was opened
 pub opened-acks : (m a n : ℕ) (ts : List Token) → AllByRecursion (λ t. t.number ≤ n) ts

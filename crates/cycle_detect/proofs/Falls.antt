@@ -10,13 +10,13 @@ use Rattle.letter_kinds.specs.Reports.{told_on, told_on_by}
 use Rattle.letter_kinds.specs.declared.note.Report.{Report}
 use Rattle.cycle_detect.specs.Falling.{AreFalling, LosesNone, count_at, held_count, held_left, is_unmarked, told_in, told_without}
 use Rattle.cycle_detect.specs.Kept.{actors_of}
-use Rattle.cycle_detect.specs.Marks.{mark_of, off_count}
+use Rattle.detector_tokens.specs.Marks.{mark_of, off_count}
 use Rattle.std.specs.List.Sorted.{IsStrictlySortedBy}
 use Rattle.std.specs.Ordering.{nat_cmp}
-use Rattle.cycle_detect.proofs.MarksLemmas.{mark_of-set, off_count-none, off_count-set}
+use Rattle.detector_tokens.proofs.MarksLemmas.{mark_of-set, off_count-none, off_count-set}
 use Rattle.cycle_detect.proofs.Sums.{told_here}
 use Rattle.cycle_detect.proofs.Work.{In, less_kept, lowered, take_out, without}
-use Rattle.cycle_detect.proofs.RisingLemmas.{above-get, first_above, place_is, rest_rises}
+use Rattle.detector_tokens.proofs.RisingLemmas.{above-get, first_above, place_is, rest_rises}
 
 pub on_ok : {A E P : Type 0} (r : Result A E) → P → OnOk r P
 on_ok (Ok x) h = h

@@ -11,7 +11,7 @@ use Rattle.ready_set.specs.Next.{IsNext}
 use Rattle.letter_kinds.specs.declared.note.Report.{Report}
 use Rattle.letter_kinds.specs.Reports.{keep_report, drop_report, kept_report}
 use Rattle.cycle_detect.specs.Kept.{actors_of, AreByActor, AreFrom, reports_in, slot_at}
-use Rattle.cycle_detect.proofs.RisingLemmas.{AllAbove, first_above, none_rise, rest_rises, rising-cons}
+use Rattle.detector_tokens.proofs.RisingLemmas.{AllAbove, first_above, none_rise, rest_rises, rising-cons}
 
 -- ---- the reports in slots rise
 

@@ -1,12 +1,6 @@
 pub mod Closing
 pub mod Falls
-pub mod Indexing
 pub mod KeptLemmas
-pub mod MarksLemmas
-pub mod MarksSteps
-pub mod OpenLemmas
-pub mod RisingLemmas
 pub mod Settled
 pub mod Sums
-pub mod Telling
 pub mod Work

@@ -12,13 +12,13 @@ use Rattle.letter_kinds.specs.declared.note.Report.{Report}
 use Rattle.letter_kinds.proofs.Rounds.{largest_by_rounds, rounds_among, same_largest}
 use Rattle.cycle_detect.specs.Falling.{AreFalling, count_at, held_count, is_unmarked, told_without}
 use Rattle.cycle_detect.specs.Kept.{actors_of}
-use Rattle.cycle_detect.specs.Marks.{mark_of}
+use Rattle.detector_tokens.specs.Marks.{mark_of}
 use Rattle.std.specs.List.Sorted.{IsStrictlySortedBy}
 use Rattle.std.specs.Ordering.{nat_cmp}
 use Rattle.cycle_detect.proofs.Sums.{at_default, length-names}
 use Rattle.cycle_detect.proofs.Work.{In, place_In, work_done}
 use Rattle.cycle_detect.proofs.Falls.{actor_at, count_is, length-actors, mark_at, filter-alike, none_without}
-use Rattle.cycle_detect.proofs.RisingLemmas.{AllAbove, first_above, none_rise, rest_rises, rising-cons}
+use Rattle.detector_tokens.proofs.RisingLemmas.{AllAbove, first_above, none_rise, rest_rises, rising-cons}
 
 -- ---- at last
 

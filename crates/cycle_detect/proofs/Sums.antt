@@ -10,7 +10,7 @@ use Rattle.cycle_detect.specs.Falling.{count_at, held_count, told_in}
 use Rattle.cycle_detect.specs.Kept.{actors_of}
 use Rattle.std.specs.List.Sorted.{IsStrictlySortedBy}
 use Rattle.std.specs.Ordering.{nat_cmp}
-use Rattle.cycle_detect.proofs.RisingLemmas.{above-get, first_above, place_is, rest_rises}
+use Rattle.detector_tokens.proofs.RisingLemmas.{above-get, first_above, place_is, rest_rises}
 
 -- names at two places differ
 pub apart : (ns : List ℕ) (i j : ℕ) → IsStrictlySortedBy nat_cmp ns → i < length ns → j < length ns → i ≢ j

@@ -10,7 +10,7 @@ use Rattle.cycle_detect.specs.Falling.{LosesNone}
 use Rattle.cycle_detect.specs.Kept.{actors_of}
 use Rattle.std.specs.List.Sorted.{IsStrictlySortedBy}
 use Rattle.std.specs.Ordering.{nat_cmp}
-use Rattle.cycle_detect.proofs.RisingLemmas.{AllAbove, first_above, rest_rises}
+use Rattle.detector_tokens.proofs.RisingLemmas.{AllAbove, first_above, rest_rises}
 
 -- the report is among these, by cases
 abbrev pub In : Report → List Report → Type 0

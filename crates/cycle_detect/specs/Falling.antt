@@ -6,7 +6,7 @@ use Rattle.letter_kinds.specs.Detector.{Token, has, in_token}
 use Rattle.letter_kinds.specs.Reports.{told_on_by}
 use Rattle.letter_kinds.specs.declared.note.Report.{Report}
 use Rattle.cycle_detect.specs.Kept.{actors_of}
-use Rattle.cycle_detect.specs.Marks.{mark_of}
+use Rattle.detector_tokens.specs.Marks.{mark_of}
 
 -- the reports of actors in no token
 abbrev pub free_reports : List Token → List Report → List Report

@@ -3,7 +3,7 @@ use Rattle.std.specs.Prelude.{ℕ, ◌≡◌, ◌+◌, ◌<◌, ◌≤◌, ◌�
 use Rattle.letter_kinds.specs.declared.note.Report.{Report}
 use Rattle.cycle_detect.specs.declared.scan.Standing.{Standing}
 use Rattle.cycle_detect.specs.Falling.{AreFalling, told_without}
-use Rattle.cycle_detect.specs.Marks.{off_count}
+use Rattle.detector_tokens.specs.Marks.{off_count}
 use Rattle.cycle_detect.specs.Sums.{AreEnough}
 
 -- a sum and a mark for each of so many reports

@@ -6,15 +6,15 @@ ghost use Rattle.letter_kinds.specs.Detector.{close_token, closed_set, fresh_det
 ghost use Rattle.cycle_detect.specs.Falling.{step_bound};
 ghost use Rattle.cycle_detect.specs.Kept.{reports_of};
 ghost use Rattle.cycle_detect.specs.Notes.{IsBlock};
-ghost use Rattle.cycle_detect.specs.Open.{acked_by_all, acked_numbered, CanOpen, first_acked, IsLowestAcked, new_token};
+ghost use Rattle.detector_tokens.specs.Open.{acked_by_all, acked_numbered, CanOpen, first_acked, IsLowestAcked, new_token};
 ghost use Rattle.std.specs.List.Sorted.{IsStrictlySortedBy};
 ghost use Rattle.std.specs.Ordering.{nat_cmp};
-ghost use Rattle.cycle_detect.specs.Room.{CanHear, Fits, KeepsRoom, with_state};
+ghost use Rattle.cycle_detect.specs.Room.{CanHear, with_state};
+ghost use Rattle.detector_tokens.specs.Room.{Fits, KeepsRoom};
 
 use crate::reports::Reports;
 use crate::scan;
-use crate::token::Token;
-use crate::tokens::Tokens;
+use detector_tokens::{Token, Tokens};
 use letter_kinds::{Note, Report};
 use orca_names::{ActorName, KeptReport, NoMemory};
 use std::alloc::Global;

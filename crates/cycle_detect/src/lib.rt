@@ -6,9 +6,6 @@ mod detector;
 mod names;
 mod reports;
 mod scan;
-mod token;
-mod tokens;
-mod told;
 
 pub use detector::{Detector, TOKENS_LIMIT};
-pub use token::Token;
+pub use detector_tokens::Token;

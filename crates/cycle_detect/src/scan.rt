@@ -6,15 +6,15 @@ ghost use Rattle.letter_kinds.specs.Detector.{has, in_token};
 ghost use Rattle.letter_kinds.specs.Reports.{told_on, told_on_by};
 ghost use Rattle.cycle_detect.specs.Falling.{free_reports, held_count, held_left, step_bound, those_left, told_in, told_without};
 ghost use Rattle.cycle_detect.specs.Kept.{actors_of, reports_at};
-ghost use Rattle.cycle_detect.specs.Marks.{unmarked_names};
+ghost use Rattle.detector_tokens.specs.Marks.{unmarked_names};
 ghost use Rattle.std.specs.List.Sorted.{IsStrictlySortedBy};
 ghost use Rattle.std.specs.Ordering.{nat_cmp};
 ghost use Rattle.cycle_detect.specs.Sums.{AreEnough, AreLowered, AreRaised, AreSums};
 ghost use Rattle.cycle_detect.specs.Worklist.{Falls, IsFalling, IsLong, StayFalling, Stays, unsettled};
 
-use crate::names::{number_of, place_of};
+use crate::names::number_of;
 use crate::reports::Reports;
-use crate::tokens::Tokens;
+use detector_tokens::{Tokens, place_of};
 use letter_kinds::Report;
 use orca_names::{ActorName, NoMemory};
 use std::alloc::Global;

@@ -5,9 +5,10 @@ use Rattle.std.specs.List.Sorted.{IsStrictlySortedBy}
 use Rattle.std.specs.Ordering.{nat_cmp}
 use Rattle.std.proofs.lemmas.Bool.Decides.{nat_tests}
 use Rattle.letter_kinds.specs.Detector.{Token, closed_set}
-use Rattle.cycle_detect.specs.Open.{CanOpen, new_token}
-use Rattle.cycle_detect.specs.Room.{DetectorValue, Fits}
-use Rattle.cycle_detect.proofs.RisingLemmas.{AllAbove, first_above, rest_rises}
+use Rattle.detector_tokens.specs.Open.{CanOpen, new_token}
+use Rattle.cycle_detect.specs.Room.{DetectorValue}
+use Rattle.detector_tokens.specs.Room.{Fits}
+use Rattle.detector_tokens.proofs.RisingLemmas.{AllAbove, first_above, rest_rises}
 use Rattle.actor_table.specs.declared.slot.Slot.{Slot}
 use Rattle.orca_core.specs.Fits.{CanOpenThen}
 use Rattle.orca_core.specs.Letters.{FitLetters, asks, letters_to}

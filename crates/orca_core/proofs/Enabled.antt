@@ -22,7 +22,7 @@ use Rattle.machine_rules.specs.State.{State}
 use Rattle.machine_rules.specs.Take.{take}
 use Rattle.machine_rules.proofs.Enabling.{enabled_exactly}
 use Rattle.machine_rules.proofs.Guards.{acked_is, acked_open}
-use Rattle.cycle_detect.specs.Open.{acked_by_all}
+use Rattle.detector_tokens.specs.Open.{acked_by_all}
 use Rattle.actor_cell.specs.Cells.{as_cell}
 use Rattle.actor_table.specs.declared.slot.Slot.{Slot}
 use Rattle.actor_table.specs.declared.slot.Place.{Place}

@@ -11,7 +11,7 @@ use Rattle.letter_kinds.specs.Detector.{Token, all_acked}
 use Rattle.letter_kinds.specs.declared.letter.Letter.{Letter}
 use Rattle.machine_rules.specs.Guards.{may_block, may_collect, may_go, may_leave, may_take}
 use Rattle.machine_rules.specs.State.{State}
-use Rattle.cycle_detect.specs.Open.{IsLowestAcked, first_acked}
+use Rattle.detector_tokens.specs.Open.{IsLowestAcked, first_acked}
 use Rattle.actor_table.specs.declared.slot.Slot.{Slot}
 use Rattle.actor_table.specs.declared.slot.Place.{Place}
 use Rattle.actor_table.specs.declared.slot.Place.TheVariants.{Home, Away, Gone}

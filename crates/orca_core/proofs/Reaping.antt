@@ -9,7 +9,7 @@ use Rattle.letter_kinds.specs.declared.letter.Letter.{Letter}
 use Rattle.letter_kinds.specs.declared.letter.Letter.TheVariants.{Dec}
 use Rattle.letter_kinds.specs.Counting.{by_owner}
 use Rattle.letter_kinds.specs.Detector.{Detector, Token}
-use Rattle.cycle_detect.proofs.RisingLemmas.{AllAbove, first_above}
+use Rattle.detector_tokens.proofs.RisingLemmas.{AllAbove, first_above}
 use Rattle.machine_rules.specs.Actors.{Actors, seat_at}
 use Rattle.machine_rules.specs.Detect.{acked_token, held_outside, reap_decs}
 use Rattle.actor_cell.specs.declared.cell.Cell.{Cell}

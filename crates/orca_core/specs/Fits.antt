@@ -3,8 +3,9 @@ use Rattle.std.specs.Prelude.{ℕ, ◌≡◌, ◌<◌, true, false, Bool, List, 
 use Rattle.letter_kinds.specs.declared.letter.Letter.{Letter}
 use Rattle.letter_kinds.specs.declared.note.Note.{Note}
 use Rattle.letter_kinds.specs.Detector.{Token, closed_set}
-use Rattle.cycle_detect.specs.Room.{CanHear, DetectorValue, Fits}
-use Rattle.cycle_detect.specs.Open.{CanOpen, new_token}
+use Rattle.cycle_detect.specs.Room.{CanHear, DetectorValue}
+use Rattle.detector_tokens.specs.Room.{Fits}
+use Rattle.detector_tokens.specs.Open.{CanOpen, new_token}
 use Rattle.machine_rules.specs.Detect.{acked_token, reap_decs}
 use Rattle.machine_rules.specs.Collect.{is_marked}
 use Rattle.orca_names.specs.declared.trace.Trace.{Trace}

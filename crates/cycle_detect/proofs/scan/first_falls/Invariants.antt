@@ -1,6 +1,6 @@
 use Rattle.std.proofs.Common.{◌≡◌, ◌+◌, ◌≤◌, false, map, length, replicate}
 use Rattle.cycle_detect.specs.Falling.{AreFalling}
-use Rattle.cycle_detect.specs.Marks.{off_count}
+use Rattle.detector_tokens.specs.Marks.{off_count}
 use Rattle.cycle_detect.proofs.scan.first_falls.Given as goal
 
 abbrev pub invariant-loop-k : goal.invariant-loop-k

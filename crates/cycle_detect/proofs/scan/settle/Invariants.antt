@@ -1,7 +1,7 @@
 use Rattle.std.proofs.Common.{◌≡◌, ℕ, ◌+◌, ◌*◌, ◌<◌, ◌≤◌, map, length}
 use Rattle.std.specs.Prelude.{slice_index}
 use Rattle.cycle_detect.specs.Falling.{AreFalling, held_left, told_without}
-use Rattle.cycle_detect.specs.Marks.{off_count}
+use Rattle.detector_tokens.specs.Marks.{off_count}
 use Rattle.cycle_detect.proofs.scan.settle.Given as goal
 
 abbrev pub invariant-loop-i : goal.invariant-loop-i

@@ -1,6 +1,6 @@
 use Rattle.std.proofs.Common.{◌<◌, length, ap, get_or, arith}
 use Rattle.cycle_detect.proofs.Falls.{check_size, on_ok, on_ok_two, take_falls}
-use Rattle.cycle_detect.proofs.RisingLemmas.{place_is}
+use Rattle.detector_tokens.proofs.RisingLemmas.{place_is}
 use Rattle.cycle_detect.proofs.Sums.{count_of, entry_taken, left_value, length-names}
 use Rattle.cycle_detect.proofs.scan.take_entry.Goals as goal
 

@@ -2,7 +2,7 @@ use Rattle.std.proofs.Common.{◌≡◌, ℕ, ◌+◌, ◌*◌, ◌<◌, ◌≤�
 use Rattle.std.specs.Prelude.{slice_index}
 use Rattle.letter_kinds.specs.Reports.{told_on, report_told}
 use Rattle.cycle_detect.specs.Falling.{AreFalling, told_without}
-use Rattle.cycle_detect.specs.Marks.{off_count}
+use Rattle.detector_tokens.specs.Marks.{off_count}
 use Rattle.cycle_detect.proofs.scan.take_told.Given as goal
 
 abbrev pub invariant-loop-entry : goal.invariant-loop-entry

@@ -1,5 +1,5 @@
 use Rattle.std.proofs.Common.{◌≡◌, ◌+◌, ◌≤◌, filter, not, take}
-use Rattle.cycle_detect.specs.Marks.{mark_of}
+use Rattle.detector_tokens.specs.Marks.{mark_of}
 use Rattle.cycle_detect.proofs.scan.unmarked.Given as goal
 
 abbrev pub invariant-loop-k : goal.invariant-loop-k

@@ -2,7 +2,7 @@ use Rattle.std.proofs.Common.{◌∙◌, ◌++◌, ap, drop, subst, sym, ◌+◌
 use Rattle.std.proofs.lemmas.List.{append-nil, append_assoc}
 use Rattle.std.specs.List.Sorted.{IsStrictlySortedBy}
 use Rattle.std.specs.Ordering.{nat_cmp}
-use Rattle.cycle_detect.proofs.RisingLemmas.{rest_rises}
+use Rattle.detector_tokens.proofs.RisingLemmas.{rest_rises}
 use Rattle.actor_cell.specs.Cells.{as_cell}
 use Rattle.actor_cell.specs.Outs.{left_outside, letters_of}
 use Rattle.actor_table.specs.Slots.{slot_at}

@@ -3,7 +3,7 @@ use Rattle.std.specs.List.{AllByRecursion}
 use Rattle.letter_kinds.specs.Detector.{Detector, Token, close_token, token_numbered}
 use Rattle.cycle_detect.specs.Room.{DetectorValue}
 use Rattle.cycle_detect.proofs.Closing.{closed_is, if_found}
-use Rattle.cycle_detect.proofs.OpenLemmas.{each-filter}
+use Rattle.detector_tokens.proofs.OpenLemmas.{each-filter}
 use Rattle.cycle_detect.proofs.detector.Detector.close.Goals as goal
 
 pub invariant_of-self : goal.invariant_of-self

@@ -2,7 +2,7 @@ use Rattle.std.proofs.Common.{subst, sym, ◌≤◌}
 use Rattle.std.specs.List.{AllByRecursion}
 use Rattle.letter_kinds.specs.Detector.{Token}
 use Rattle.cycle_detect.proofs.Closing.{opened-acks}
-use Rattle.cycle_detect.proofs.OpenLemmas.{each-filter}
+use Rattle.detector_tokens.proofs.OpenLemmas.{each-filter}
 use Rattle.cycle_detect.proofs.detector.Detector.hear_prepared.Goals as goal
 
 pub invariant_of-self-in-Unblock : goal.invariant_of-self-in-Unblock

@@ -1,6 +1,6 @@
 use Rattle.std.proofs.Common.{subst, sym, IfSome}
 use Rattle.letter_kinds.specs.Detector.{Detector}
-use Rattle.cycle_detect.specs.Open.{IsLowestAcked}
+use Rattle.detector_tokens.specs.Open.{IsLowestAcked}
 use Rattle.cycle_detect.specs.Room.{DetectorValue}
 use Rattle.cycle_detect.proofs.Closing.{lowest_acked}
 use Rattle.cycle_detect.proofs.detector.Detector.ready.Goals as goal

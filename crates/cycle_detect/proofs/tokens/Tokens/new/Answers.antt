@@ -1,6 +1,0 @@
-use Rattle.std.proofs.Common.{refl}
-use Rattle.cycle_detect.proofs.RisingLemmas.{none_rise}
-use Rattle.cycle_detect.proofs.tokens.Tokens.new.Goals as goal
-
-pub invariant_of-result : goal.invariant_of-result
-invariant_of-result c = rw c.new.ensures.items record { numbered = none_rise; members = tt; first = refl }
