@@ -4,20 +4,22 @@ use Rattle.std.specs.Prelude.{unwrap_or}
 use Rattle.std.specs.Ordering.{nat_cmp}
 use Rattle.std.specs.Cmp.{nat_cmp_total}
 use Rattle.std.proofs.lemmas.Bool.{eqb-true}
-use Rattle.std.proofs.lemmas.Cmp.{tied_itself}
-use Rattle.std.proofs.lemmas.List.{length-append, map-append, take_more, take_all, take-append-le}
+use Rattle.std.proofs.lemmas.Cmp.{nat_eq_equiv, tied_itself}
+use Rattle.std.proofs.lemmas.List.{length-append, length-map, map-append, take_more, take_all, take-append-le}
 use Rattle.std.proofs.lemmas.List.Elements.{Contains-append_left, Contains-append_right, Contains-append_cases, Contains-push_cases}
+use Rattle.std.proofs.lemmas.Map.Made.{length-le_from_is_member}
 use Rattle.std.proofs.lemmas.Map.Steps.{length-le_from_distinct_below}
-use Rattle.std.proofs.lemmas.Map.Views.{Contains-from_any}
+use Rattle.std.proofs.lemmas.Map.Views.{Contains-from_any, list_any-from_Contains}
 use Rattle.orca_names.specs.Names.{owner_of, thing_cmp}
 use Rattle.orca_names.specs.declared.names.ObjName.{ObjName}
 use Rattle.orca_names.specs.declared.names.Thing.{Thing}
 use Rattle.orca_names.specs.declared.names.Thing.TheVariants.{Actor, Obj}
 use Rattle.orca_names.specs.declared.names.Value.{Value}
 use Rattle.orca_names.proofs.ThingOrder.{thing_exact}
-use Rattle.reach_walk.specs.Met.{Grows, HasMet, HasUnplaced, ListsRows, met_by}
+use Rattle.reach_walk.specs.Met.{Grows, HasMet, HasReached, HasUnplaced, ListsRows, met_by}
 use Rattle.reach_walk.specs.Reach.{named_by, row_edges, thing_row, AreReached, Reaches, root, step, owned}
 use Rattle.reach_walk.specs.Marks.{Covers, load_of, marks_of}
+use Rattle.reach_walk.specs.Rows.{Contains-map}
 use Rattle.reach_walk.specs.Walk.{AreTold, IsOn}
 use Rattle.reach_walk.specs.declared.noted.Noted.{Noted}
 use Rattle.reach_walk.specs.declared.met.Met.{Met}
@@ -48,12 +50,15 @@ met_reached edges roots values each x c =
 
 module _ (place : Thing → Option ℕ) (in_order : (x y : Thing) (p q : ℕ) → place x ≡ Some p → place y ≡ Some q → thing_cmp x y ≡ nat_cmp p q) where
   -- a place has one thing
-  pub one_thing : (x y : Thing) (p : ℕ) → place x ≡ Some p → place y ≡ Some p → x ≡ y
+  one_thing : (x y : Thing) (p : ℕ) → place x ≡ Some p → place y ≡ Some p → x ≡ y
   one_thing x y p e f = thing_exact x y (in_order x y p p e f ∙ tied_itself nat_cmp_total p)
 
--- the row at the place of an object
-pub row_there : (rows : ObjName → Option (List Value)) (t u : Thing) (o r : Option (List Value)) → t ≡ u → o ≡ thing_row rows t → o ≡ r → unwrap_or r [] ≡ row_edges rows u
-row_there rows t u o r same has is = ap (λ v. unwrap_or v []) (sym is ∙ has) ∙ ap (row_edges rows) same
+  -- the row at the place of an object
+  pub row_there : (rows : ObjName → Option (List Value)) (count : ℕ) (t : Thing) (n : ObjName) (at : ℕ) (entry row : Option (List Value)) → ((x : Thing) (p : ℕ) → place x ≡ Some p → p < count) → (at < count → place t ≡ Some at) → (at < count → entry ≡ thing_row rows t) → place (Obj n) ≡ Some at → entry ≡ row
+      → unwrap_or row [] ≡ row_edges rows (Obj n)
+  row_there rows count t n at entry row below there has here is =
+      let within = below (Obj n) at here in
+      ap (λ v. unwrap_or v []) (sym is ∙ has within) ∙ ap (row_edges rows) (one_thing t (Obj n) at (there within) here)
 
 -- these things were met, and the first of the queued objects are done with
 pub record Goes (place : Thing → Option ℕ) (edges : Thing → List Value) (roots things : List Thing) (queue : List ℕ) (done : ℕ) : Type 0 where
@@ -101,6 +106,16 @@ few_queued place count met things below has =
     length-le_from_distinct_below met.queue.items count has.once (λ q any.
     let it = has.only q (Contains-from_any (λ x y e. eqb-true x y e) q met.queue.items any) in
     below (Obj it.0) q it.2)
+
+-- no more objects are queued than things were met
+pub queued_met : (place : Thing → Option ℕ) (count : ℕ) (met : Met) (things all : List Thing) → HasMet place count met things → ((x : Thing) → Contains things x → Contains all x) → length met.queue.items ≤ length all
+queued_met place count met things all has among =
+    let place_or : Thing → ℕ = λ x. unwrap_or (place x) 0 in
+    let places = map place_or all in
+    let few = length-le_from_is_member nat_eq_equiv met.queue.items places has.once (λ q any.
+    let it = has.only q (Contains-from_any (λ x y e. eqb-true x y e) q met.queue.items any) in
+    list_any-from_Contains nat_eq_equiv q places (subst (Contains places) (ap (λ o. unwrap_or o 0) it.2) (Contains-map place_or all (Obj it.0) (among (Obj it.0) it.1)))) in
+    omega (arith, few, length-map all place_or)
 
 module _ (place : Thing → Option ℕ) (count : ℕ) (rows : ObjName → Option (List Value)) (only_placed : (n : ObjName) → place (Obj n) ≡ None → rows n ≡ None) where
   -- an object that was met leads only to what was met
@@ -153,3 +168,12 @@ module _ (rows : ObjName → Option (List Value)) (all : List ObjName) (args : L
         let met = (reached some.0).1 (marks-reached rows all args some.0 some.1) in
         let key = (told.others some.0).1 (met, some.2) in
         omega (arith, key.1, none)
+
+  -- no more objects are queued than there are marks
+  pub queued_marks : (place : Thing → Option ℕ) (count : ℕ) (met : Met) → HasReached place count rows args met → length met.queue.items ≤ length (marks_of rows all args)
+  queued_marks place count met found = queued_met place count met found.0 (marks_of rows all args) found.1 (λ x there. reached-marks rows all args covers x ((found.2 x).0 there))
+
+  -- nor than the load has things
+  pub queued_load : (place : Thing → Option ℕ) (count : ℕ) (met : Met) → HasReached place count rows args met → length met.queue.items ≤ length (load_of rows all args)
+  queued_load place count met found =
+      omega (arith, queued_marks place count met found, length-map {B = Thing × Option (List Value)} (marks_of rows all args) (λ x. (x, thing_row rows x)))

@@ -1,6 +1,6 @@
 // The walk by places: marks and loads of what lies in tables.
 
-ghost use Rattle.std.specs.Prelude.{◌≡◌, ◌↔◌, ◌≤◌, ◌<◌, ◌++◌, ◌∷◌, [], ℕ, IfOk, IfSome, List, OnOk, Some, false, length, slice_index_or, true, vec_capacity, vec_len};
+ghost use Rattle.std.specs.Prelude.{◌≡◌, ◌↔◌, ◌+◌, ◌*◌, ◌≤◌, ◌<◌, ◌++◌, ◌∷◌, [], ℕ, IfOk, IfSome, List, OnOk, Some, false, length, slice_index_or, true, vec_capacity, vec_len};
 ghost use Rattle.std.specs.Option.{IsNone};
 ghost use Rattle.orca_names.specs.declared.names.Thing.{Thing as any_thing};
 ghost use Rattle.orca_names.specs.declared.names.Thing.TheVariants.{Obj as object};
@@ -15,13 +15,21 @@ use orca_names::{Args, NoMemory, Row, Thing, Value};
 use plain_list::Listed;
 use ready_set::PlaceSet;
 use std::alloc::Global;
+use std::marker::Brand;
+use std::sync::ledger::{Blank, Ledger};
+use step_count::Steps;
 
 // The owners of a load's things are few.
 const GUESSED_OWNERS: usize = 8;
 
-// Meets what the row at a place names.
+// The thing at a place is taken from the queue, which is a step: what its row names is met.
 #[inline(always)]
-fn take<R: PlacedRows>(rows: &R, met: &mut Met, at: usize) -> Result<(), NoMemory>
+fn take<R: PlacedRows, L: Ledger>(
+    rows: &R,
+    met: &mut Met,
+    at: usize,
+    steps: &mut Steps<L>,
+) -> Result<(), NoMemory>
     requires room { R.count rows.now ≤ length met.old.noted.bits }
     ensures met { let place = R.place rows.now in let count = R.count rows.now in
         (things : List any_thing) (n : object_name)
@@ -30,31 +38,85 @@ fn take<R: PlacedRows>(rows: &R, met: &mut Met, at: usize) -> Result<(), NoMemor
         (things ++ met_by (row_edges (R.rows rows.now) (object n)))) }
     ensures queue { OnOk result (Grows met.old.queue.items met.new.queue.items) }
     ensures same { length met.new.noted.bits ≡ length met.old.noted.bits }
+    ensures steps { (n : object_name) → R.place rows.now (object n) ≡ Some at →
+        let row = row_edges (R.rows rows.now) (object n) in
+        OnOk result ((steps.new ≡ steps.old + 1 + length row) × (length row ≤ 8)) }
 {
+    steps.tick();
     let (_, row) = rows.entry_at(at);
     match row {
-        Some(row) => met.meet_all(row.as_slice(), rows),
+        Some(row) => met.meet_all(row.as_slice(), rows, steps),
         None => Ok(()),
     }
 }
 
 // Meets all that the values reach.
-fn walk_places<R: PlacedRows>(alloc: Global, rows: &R, roots: &[Value]) -> Result<Met, NoMemory>
-    ensures { IfOk result
+fn walk_places<R: PlacedRows, L: Ledger>(
+    alloc: Global,
+    rows: &R,
+    roots: &[Value],
+    steps: &mut Steps<L>,
+) -> Result<Met, NoMemory>
+    ensures reached { IfOk result
         (HasReached (R.place rows.now) (R.count rows.now) (R.rows rows.now) roots.now) }
+    ensures steps { IfOk result (λ met.
+        steps.new ≤ steps.old + (9 * length met.queue.items + length roots.now)) }
 {
     let mut met = Met::new(alloc, rows)?;
-    met.meet_all(roots, rows)?;
+    met.meet_all(roots, rows, steps)?;
     let mut i = 0;
     while i < met.queue.len() {
         let at = met.queue[i];
-        take(rows, &mut met, at)?;
+        take(rows, &mut met, at, steps)?;
         i += 1;
     }
     Ok(met)
 }
 
-/// The marks of the values by place, as a sweep wants them: no list of them is made.
+/// The marks of the values by place, as a sweep wants them: no list of them is made. A step is one
+/// thing taken from the worklist or one value looked at; looking up a place, and clearing and setting
+/// bits, are no steps.
+///
+/// # Errors
+/// `NoMemory` where memory was refused.
+#[inline(always)]
+pub fn mark_bits_within<R: PlacedRows, L: Ledger>(
+    alloc: Global,
+    roots: &[Value],
+    rows: &R,
+    steps: &mut Steps<L>,
+) -> Result<PlaceSet, NoMemory>
+    ensures marks { let marks = marks_of (R.rows rows.now) (R.all rows.now) roots.now in
+        IfOk result (λ bits. TellMarks (R.place rows.now) bits marks) }
+    ensures room { IfOk result (λ bits. R.count rows.now ≤ length bits) }
+    ensures steps { let marks = marks_of (R.rows rows.now) (R.all rows.now) roots.now in
+        OnOk result (steps.new ≤ steps.old + (9 * length marks + length roots.now)) }
+{
+    let met = walk_places(alloc, rows, roots, steps)?;
+    Ok(met.noted.bits)
+}
+
+// The same, with steps that are counted on a ledger of their own.
+#[inline(always)]
+fn mark_bits_counted<R: PlacedRows, L: Ledger>(
+    alloc: Global,
+    roots: &[Value],
+    rows: &R,
+    blank: Blank,
+) -> Result<PlaceSet, NoMemory>
+    requires name { blank.name ≡ L.name }
+    requires parts { blank.parts ≡ L.parts }
+    requires some { 0 < blank.parts }
+    ensures marks { let marks = marks_of (R.rows rows.now) (R.all rows.now) roots.now in
+        IfOk result (λ bits. TellMarks (R.place rows.now) bits marks) }
+    ensures room { IfOk result (λ bits. R.count rows.now ≤ length bits) }
+{
+    let mut steps: Steps<L> = Steps::none(blank);
+    mark_bits_within(alloc, roots, rows, &mut steps)
+}
+
+/// The marks of the values by place, as a sweep wants them: no list of them is made. It takes as many
+/// steps as `mark_bits_within`; they are not told.
 ///
 /// # Errors
 /// `NoMemory` where memory was refused.
@@ -68,8 +130,7 @@ pub fn mark_bits<R: PlacedRows>(
         IfOk result (λ bits. TellMarks (R.place rows.now) bits marks) }
     ensures room { IfOk result (λ bits. R.count rows.now ≤ length bits) }
 {
-    let met = walk_places(alloc, rows, roots)?;
-    Ok(met.noted.bits)
+    mark_bits_counted::<R, Brand>(alloc, roots, rows, Blank::new(1))
 }
 
 // Appends a thing with its row. The row is copied once, into its place: as a part of what is appended
@@ -133,10 +194,61 @@ fn listed<R: PlacedRows>(
 }
 
 /// The load of a letter with these arguments: each thing that they reach, with its row; `None`
-/// exactly where they reach a thing that has no place.
+/// exactly where they reach a thing that has no place. A step is one thing taken from the worklist
+/// or one value looked at; looking up a place, clearing, setting and finding bits, and copying rows
+/// into the load are no steps.
 ///
 /// # Errors
 /// `NoMemory` where memory was refused.
+pub fn load_by_place_within<R: PlacedRows, L: Ledger>(
+    alloc: Global,
+    args: &Args,
+    rows: &R,
+    steps: &mut Steps<L>,
+) -> Result<Option<Listed<(Thing, Option<Row>)>>, NoMemory>
+    ensures load { IfOk result (λ found. IfSome found (λ load.
+        load ≡ its_load (R.rows rows.now) (R.all rows.now) args.now)) }
+    ensures none { let marks = marks_of (R.rows rows.now) (R.all rows.now) args.now in
+        IfOk result (λ found. IsNone found ↔ HasUnplaced (R.place rows.now) marks) }
+    ensures steps { let load = its_load (R.rows rows.now) (R.all rows.now) args.now in
+        OnOk result (steps.new ≤ steps.old + (9 * length load + length args.now)) }
+{
+    let met = walk_places(alloc, rows, args.as_slice(), steps)?;
+    if !met.noted.others.is_empty() {
+        return Ok(None);
+    }
+    let guess = met.queue.len().saturating_add(GUESSED_OWNERS);
+    let load = listed(alloc, rows, &met.noted.bits, guess)?;
+    Ok(Some(Listed::from(load)))
+}
+
+// The same, with steps that are counted on a ledger of their own.
+#[inline(always)]
+fn load_counted<R: PlacedRows, L: Ledger>(
+    alloc: Global,
+    args: &Args,
+    rows: &R,
+    blank: Blank,
+) -> Result<Option<Listed<(Thing, Option<Row>)>>, NoMemory>
+    requires name { blank.name ≡ L.name }
+    requires parts { blank.parts ≡ L.parts }
+    requires some { 0 < blank.parts }
+    ensures load { IfOk result (λ found. IfSome found (λ load.
+        load ≡ its_load (R.rows rows.now) (R.all rows.now) args.now)) }
+    ensures none { let marks = marks_of (R.rows rows.now) (R.all rows.now) args.now in
+        IfOk result (λ found. IsNone found ↔ HasUnplaced (R.place rows.now) marks) }
+{
+    let mut steps: Steps<L> = Steps::none(blank);
+    load_by_place_within(alloc, args, rows, &mut steps)
+}
+
+/// The load of a letter with these arguments: each thing that they reach, with its row; `None`
+/// exactly where they reach a thing that has no place. It takes as many steps as
+/// `load_by_place_within`; they are not told.
+///
+/// # Errors
+/// `NoMemory` where memory was refused.
+#[inline(always)]
 pub fn load_by_place<R: PlacedRows>(
     alloc: Global,
     args: &Args,
@@ -147,11 +259,5 @@ pub fn load_by_place<R: PlacedRows>(
     ensures none { let marks = marks_of (R.rows rows.now) (R.all rows.now) args.now in
         IfOk result (λ found. IsNone found ↔ HasUnplaced (R.place rows.now) marks) }
 {
-    let met = walk_places(alloc, rows, args.as_slice())?;
-    if !met.noted.others.is_empty() {
-        return Ok(None);
-    }
-    let guess = met.queue.len().saturating_add(GUESSED_OWNERS);
-    let load = listed(alloc, rows, &met.noted.bits, guess)?;
-    Ok(Some(Listed::from(load)))
+    load_counted::<R, Brand>(alloc, args, rows, Blank::new(1))
 }

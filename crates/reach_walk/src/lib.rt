@@ -18,7 +18,7 @@ mod seen;
 mod thing_list;
 mod walk_rows;
 
-pub use by_place::{load_by_place, mark_bits};
+pub use by_place::{load_by_place, load_by_place_within, mark_bits, mark_bits_within};
 pub use edges::Edges;
 pub use flat::{find_flat, lead_no_further};
 pub use laws::{loads_are_exact, marks_are_exact, marks_are_unique};

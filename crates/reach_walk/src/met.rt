@@ -1,6 +1,6 @@
 // What a walk by places has met.
 
-ghost use Rattle.std.specs.Prelude.{◌≡◌, ◌≤◌, ◌∷◌, ◌++◌, [], List, IfOk, OnOk, length};
+ghost use Rattle.std.specs.Prelude.{◌≡◌, ◌+◌, ◌≤◌, ◌∷◌, ◌++◌, [], List, IfOk, OnOk, length};
 ghost use Rattle.std.specs.Option.{option_to_list};
 ghost use Rattle.orca_names.specs.declared.names.Thing.{Thing as any_thing};
 ghost use Rattle.orca_names.specs.declared.names.Thing.TheVariants.{Actor as actor, Obj as object};
@@ -10,6 +10,8 @@ use crate::noted::Noted;
 use crate::places::Places;
 use orca_names::{ActorName, NoMemory, ObjName, Thing, Value};
 use std::alloc::Global;
+use std::sync::ledger::Ledger;
+use step_count::Steps;
 
 /// The things that a walk by places has met, with their owners.
 #[derive(Drop)]
@@ -84,9 +86,14 @@ impl Met {
         self.meet_owner(n.owner, places)
     }
 
-    // Meets what a value names, and its owner.
+    // Meets what a value names, and its owner: a look at the value, which is a step.
     #[inline(always)]
-    fn meet<P: Places>(&mut self, value: &Value, places: &P) -> Result<(), NoMemory>
+    fn meet<P: Places, L: Ledger>(
+        &mut self,
+        value: &Value,
+        places: &P,
+        steps: &mut Steps<L>,
+    ) -> Result<(), NoMemory>
         requires room { P.count places.now ≤ length self.old.noted.bits }
         ensures met { (things : List any_thing)
             → HasMet (P.place places.now) (P.count places.now) self.old things
@@ -94,7 +101,9 @@ impl Met {
             (things ++ met_by (value.now ∷ []))) }
         ensures queue { OnOk result (Grows self.old.queue.items self.new.queue.items) }
         ensures same { length self.new.noted.bits ≡ length self.old.noted.bits }
+        ensures step { steps.new ≡ steps.old + 1 }
     {
+        steps.tick();
         match value {
             Value::Obj(n) => self.meet_object(*n, places),
             Value::Actor(a) => self.meet_owner(*a, places),
@@ -102,12 +111,13 @@ impl Met {
         }
     }
 
-    /// Meets what the values name, and the owners of that.
+    /// Meets what the values name, and the owners of that, by a step for each value.
     #[inline(always)]
-    pub(crate) fn meet_all<P: Places>(
+    pub(crate) fn meet_all<P: Places, L: Ledger>(
         &mut self,
         values: &[Value],
         places: &P,
+        steps: &mut Steps<L>,
     ) -> Result<(), NoMemory>
         requires room { P.count places.now ≤ length self.old.noted.bits }
         ensures met { (things : List any_thing)
@@ -116,9 +126,10 @@ impl Met {
             (things ++ met_by values.now)) }
         ensures queue { OnOk result (Grows self.old.queue.items self.new.queue.items) }
         ensures same { length self.new.noted.bits ≡ length self.old.noted.bits }
+        ensures steps { OnOk result (steps.new ≡ steps.old + length values.now) }
     {
         for value in values {
-            self.meet(value, places)?;
+            self.meet(value, places, steps)?;
         }
         Ok(())
     }

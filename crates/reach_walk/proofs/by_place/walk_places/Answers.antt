@@ -11,6 +11,7 @@ loop-i-init g c =
     let met = c.in_ok-meet_all.ensures.met [] c.in_ok-met.ensures.met in
     record {
       goes = (met_by c.args.roots.now, met, begins (g.R.Places.place rows) (row_edges (g.R.RowReader.rows rows)) c.args.roots.now c.meet_all.new.self.queue.items);
+      counted = omega (arith, c.in_ok-meet_all.ensures.steps);
       room = omega (arith, c.meet_all.ensures.same, c.in_ok-met.ensures.met.tells.told.room);
     }
 
@@ -34,17 +35,22 @@ loop-i-preserved g c =
     let inside : i < length queue = omega (arith, c.len.ensures) in
     let here : get_or queue i at ≡ at = sym c.index-at.ensures in
     let its = goes.1.only at (i, inside, here) in
+    let ticked = c.in_ok-take.ensures.steps its.0 its.2 in
     record {
       goes = (
         goes.0 ++ met_by (edges (Obj its.0)),
         c.in_ok-take.ensures.met goes.0 its.0 goes.1 its.2,
         goes_on place edges (g.met.R.Places.in_order rows) roots goes.0 queue c.take.new.met.queue.items i its.0 at goes.2 inside here its.1 its.2 c.in_ok-take.ensures.queue,
       );
+      counted = omega (arith, ticked.0, ticked.1, c.loop-i.invariant.counted);
       room = omega (arith, c.take.ensures.same, c.loop-i.invariant.room);
     }
 
-pub returns : goal.returns
-returns g c =
+pub returns-clause-reached : goal.returns-clause-reached
+returns-clause-reached g c =
     let rows = c.args.rows.now in
     let goes = c.loop-i.invariant.goes in
     (goes.0, goes.1, ends (g.R.Places.place rows) (g.R.Places.count rows) (g.R.RowReader.rows rows) (g.met.R.PlacedRows.only_placed rows) (named_by c.args.roots.now) goes.0 c.loop-i.met c.loop-i.i (omega (arith, c.len.ensures)) goes.1 goes.2)
+
+pub returns-clause-steps : goal.returns-clause-steps
+returns-clause-steps g c = omega (arith, c.loop-i.invariant.counted, c.loop-i.invariant.goes.2.within)

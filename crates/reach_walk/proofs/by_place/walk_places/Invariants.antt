@@ -1,4 +1,4 @@
-use Rattle.std.proofs.Common.{◌-◌, ◌≤◌, List, length}
+use Rattle.std.proofs.Common.{◌+◌, ◌-◌, ◌*◌, ◌≤◌, List, length}
 use Rattle.orca_names.specs.declared.names.Thing.{Thing}
 use Rattle.reach_walk.specs.Met.{HasMet}
 use Rattle.reach_walk.specs.Reach.{named_by, row_edges}
@@ -9,6 +9,7 @@ abbrev pub invariant-loop-i : goal.invariant-loop-i
 invariant-loop-i g l = record {
   goes : (things : List Thing) × HasMet (g.R.Places.place l.rows) (g.R.Places.count l.rows) l.met things
       × Goes (g.R.Places.place l.rows) (row_edges (g.R.RowReader.rows l.rows)) (named_by l.roots) things l.met.queue.items l.i;
+  counted : l.steps ≤ l.fn.steps + length l.roots + 9 * l.i;
   room : g.R.Places.count l.rows ≤ length l.met.noted.bits;
 }
 

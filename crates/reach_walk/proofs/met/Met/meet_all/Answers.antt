@@ -13,6 +13,7 @@ loop-value-preserved g c =
       met = λ things met. subst (HasMet (g.P.Places.place c.args.places.now) (g.P.Places.count c.args.places.now) now) (met_more things values i c.value-item.result (omega arith) c.value-item.is)
           (c.in_ok-meet.ensures.met (things ++ met_by (take i values)) (c.loop-value.invariant.met things met));
       queue = Grows-append c.args.self.now.queue.items c.loop-value.self.queue.items now.queue.items c.loop-value.invariant.queue c.in_ok-meet.ensures.queue;
+      steps = omega (arith, c.meet.ensures.step);
       same = c.meet.ensures.same ∙ c.loop-value.invariant.same;
     }
 
