@@ -1,6 +1,6 @@
 // What values name that lead no further, as most letters and fields have them: no walk is wanted.
 
-ghost use Rattle.std.specs.Prelude.{All, Contains, IfOk, IsTrue, OnOk, ◌≡◌, ◌↔◌, [], ◌∷◌};
+ghost use Rattle.std.specs.Prelude.{All, Contains, IfOk, IsTrue, OnOk, ◌≡◌, ◌↔◌, ◌+◌, ◌*◌, ◌<◌, ◌≤◌, [], ◌∷◌, length};
 ghost use Rattle.std.specs.List.Sorted.{IsStrictlySortedBy};
 ghost use Rattle.std.specs.declared.cmp.Ordering.TheVariants.{Less};
 ghost use Rattle.orca_names.specs.Names.{thing_cmp};
@@ -8,12 +8,15 @@ ghost use Rattle.orca_names.specs.declared.names.Thing.{Thing as any_thing};
 ghost use Rattle.orca_names.specs.declared.names.Thing.TheVariants.{Obj as object};
 ghost use Rattle.reach_walk.specs.Flat.{LeadsNowhere, Puts};
 ghost use Rattle.reach_walk.specs.Marks.{marks_of, with_owners};
-ghost use Rattle.reach_walk.specs.Reach.{named_by};
+ghost use Rattle.reach_walk.specs.Reach.{named_by, row_edges};
 
-use crate::load::names_nothing;
+use crate::load::names_nothing_within;
 use crate::seen::is_among;
 use crate::thing_list::ThingList;
 use orca_names::{Args, NoMemory, ObjName, Rows, Thing, Value};
+use std::marker::Brand;
+use std::sync::ledger::{Blank, Ledger};
+use step_count::Steps;
 
 // Whether the thing comes behind all of these, which are in order.
 #[inline(always)]
@@ -53,52 +56,92 @@ fn put(things: &mut ThingList, thing: Thing) -> Result<(), NoMemory>
     }
 }
 
-// Whether the object leads nowhere.
+// Whether the object leads nowhere. It is taken, which is a step, and the values of its row are
+// looked at.
 #[inline(always)]
-fn leads_nowhere<R: Rows>(n: &ObjName, rows: &R) -> bool
-    ensures { IsTrue result ↔ LeadsNowhere (R.rows rows.now) (object n.now) }
+fn leads_nowhere<R: Rows, L: Ledger>(n: &ObjName, rows: &R, steps: &mut Steps<L>) -> bool
+    ensures flat { IsTrue result ↔ LeadsNowhere (R.rows rows.now) (object n.now) }
+    ensures all { IsTrue result
+        → steps.new ≡ steps.old + 1 + length (row_edges (R.rows rows.now) (object n.now)) }
+    ensures steps { (steps.old < steps.new) × (steps.new ≤ steps.old + 9) }
 {
+    steps.tick();
     match rows.row_of(*n) {
-        Some(row) => names_nothing(row.as_slice()),
+        Some(row) => names_nothing_within(row.as_slice(), steps),
         None => true,
     }
 }
 
-// Whether the value leads no further than to what it names.
+// Whether the value leads no further than to what it names. A look at it is a step.
 #[inline(always)]
-fn leads_no_further<R: Rows>(value: &Value, rows: &R) -> bool
-    ensures { IsTrue result ↔
+fn leads_no_further<R: Rows, L: Ledger>(value: &Value, rows: &R, steps: &mut Steps<L>) -> bool
+    ensures flat { IsTrue result ↔
         All (LeadsNowhere (R.rows rows.now)) (named_by (value.now ∷ [])) }
+    ensures steps { (steps.old < steps.new) × (steps.new ≤ steps.old + 10) }
 {
+    steps.tick();
     match value {
-        Value::Obj(n) => leads_nowhere(n, rows),
+        Value::Obj(n) => leads_nowhere(n, rows, steps),
         _ => true,
     }
 }
 
-/// Whether the values lead no further than to what they name.
+/// Whether the values lead no further than to what they name. A step is one value looked at, or one
+/// object taken whose row is looked at.
 #[inline(always)]
-pub fn lead_no_further<R: Rows>(values: &[Value], rows: &R) -> bool
-    ensures { IsTrue result ↔ All (LeadsNowhere (R.rows rows.now)) (named_by values.now) }
+pub fn lead_no_further_within<R: Rows, L: Ledger>(
+    values: &[Value],
+    rows: &R,
+    steps: &mut Steps<L>,
+) -> bool
+    ensures flat { IsTrue result ↔ All (LeadsNowhere (R.rows rows.now)) (named_by values.now) }
+    ensures steps { steps.new ≤ steps.old + 10 * length values.now }
 {
     for value in values {
-        if !leads_no_further(value, rows) {
+        if !leads_no_further(value, rows, steps) {
             return false;
         }
     }
     true
 }
 
+// The same, with steps that are counted on a ledger of their own.
+#[inline(always)]
+fn lead_no_further_counted<R: Rows, L: Ledger>(values: &[Value], rows: &R, blank: Blank) -> bool
+    requires name { blank.name ≡ L.name }
+    requires parts { blank.parts ≡ L.parts }
+    requires some { 0 < blank.parts }
+    ensures { IsTrue result ↔ All (LeadsNowhere (R.rows rows.now)) (named_by values.now) }
+{
+    let mut steps: Steps<L> = Steps::none(blank);
+    lead_no_further_within(values, rows, &mut steps)
+}
+
+/// Whether the values lead no further than to what they name. It takes as many steps as
+/// `lead_no_further_within`; they are not told.
+#[inline(always)]
+pub fn lead_no_further<R: Rows>(values: &[Value], rows: &R) -> bool
+    ensures { IsTrue result ↔ All (LeadsNowhere (R.rows rows.now)) (named_by values.now) }
+{
+    lead_no_further_counted::<R, Brand>(values, rows, Blank::new(1))
+}
+
 // Puts what the value names in its place, and the owner; `false` where that leads on.
 #[inline(always)]
-fn put_named<R: Rows>(things: &mut ThingList, value: &Value, rows: &R) -> Result<bool, NoMemory>
+fn put_named<R: Rows, L: Ledger>(
+    things: &mut ThingList,
+    value: &Value,
+    rows: &R,
+    steps: &mut Steps<L>,
+) -> Result<bool, NoMemory>
     requires { IsStrictlySortedBy thing_cmp things.old }
     ensures puts { IfOk result (λ flat. IsTrue flat
         → Puts (with_owners (named_by (value.now ∷ []))) things.old things.new) }
     ensures flat { IfOk result (λ flat. IsTrue flat
         ↔ All (LeadsNowhere (R.rows rows.now)) (named_by (value.now ∷ []))) }
+    ensures steps { (steps.old < steps.new) × (steps.new ≤ steps.old + 10) }
 {
-    if !leads_no_further(value, rows) {
+    if !leads_no_further(value, rows, steps) {
         return Ok(false);
     }
     match value {
@@ -114,7 +157,56 @@ fn put_named<R: Rows>(things: &mut ThingList, value: &Value, rows: &R) -> Result
 
 /// Finds the things of the load of a letter with these arguments, in the order of things, where they
 /// lead no further than to what they name: `true` exactly there. Where they lead on, what `things`
-/// holds is left open.
+/// holds is left open. A step is one value looked at, or one object taken whose row is looked at; to
+/// put a thing in its place is no step.
+///
+/// # Errors
+/// `NoMemory` where memory was refused; what `things` holds then is left open too.
+#[inline(always)]
+pub fn find_flat_within<R: Rows, L: Ledger>(
+    args: &Args,
+    rows: &R,
+    things: &mut ThingList,
+    steps: &mut Steps<L>,
+) -> Result<bool, NoMemory>
+    ensures things { IfOk result (λ flat. IsTrue flat
+        → things.new ≡ marks_of (R.rows rows.now) (R.all rows.now) args.now) }
+    ensures flat { IfOk result (λ flat. IsTrue flat
+        ↔ All (LeadsNowhere (R.rows rows.now)) (named_by args.now)) }
+    ensures steps { OnOk result (steps.new ≤ steps.old + 10 * length args.now) }
+{
+    things.clear();
+    for value in args.as_slice() {
+        if !put_named(things, value, rows, steps)? {
+            return Ok(false);
+        }
+    }
+    Ok(true)
+}
+
+// The same, with steps that are counted on a ledger of their own.
+#[inline(always)]
+fn find_flat_counted<R: Rows, L: Ledger>(
+    args: &Args,
+    rows: &R,
+    things: &mut ThingList,
+    blank: Blank,
+) -> Result<bool, NoMemory>
+    requires name { blank.name ≡ L.name }
+    requires parts { blank.parts ≡ L.parts }
+    requires some { 0 < blank.parts }
+    ensures things { IfOk result (λ flat. IsTrue flat
+        → things.new ≡ marks_of (R.rows rows.now) (R.all rows.now) args.now) }
+    ensures flat { IfOk result (λ flat. IsTrue flat
+        ↔ All (LeadsNowhere (R.rows rows.now)) (named_by args.now)) }
+{
+    let mut steps: Steps<L> = Steps::none(blank);
+    find_flat_within(args, rows, things, &mut steps)
+}
+
+/// Finds the things of the load of a letter with these arguments, in the order of things, where they
+/// lead no further than to what they name: `true` exactly there. Where they lead on, what `things`
+/// holds is left open. It takes as many steps as `find_flat_within`; they are not told.
 ///
 /// # Errors
 /// `NoMemory` where memory was refused; what `things` holds then is left open too.
@@ -125,11 +217,5 @@ pub fn find_flat<R: Rows>(args: &Args, rows: &R, things: &mut ThingList) -> Resu
     ensures flat { IfOk result (λ flat. IsTrue flat
         ↔ All (LeadsNowhere (R.rows rows.now)) (named_by args.now)) }
 {
-    things.clear();
-    for value in args.as_slice() {
-        if !put_named(things, value, rows)? {
-            return Ok(false);
-        }
-    }
-    Ok(true)
+    find_flat_counted::<R, Brand>(args, rows, things, Blank::new(1))
 }

@@ -20,7 +20,7 @@ mod walk_rows;
 
 pub use by_place::{load_by_place, load_by_place_within, mark_bits, mark_bits_within};
 pub use edges::Edges;
-pub use flat::{find_flat, lead_no_further};
+pub use flat::{find_flat, find_flat_within, lead_no_further, lead_no_further_within};
 pub use laws::{loads_are_exact, marks_are_exact, marks_are_unique};
 pub use load::{find_loaded, load_of, load_within, with_rows};
 pub use marks::{Marks, mark, mark_within};

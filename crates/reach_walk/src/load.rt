@@ -11,20 +11,46 @@ use crate::walk_rows::{walk_freely, walk_rows};
 use orca_names::{Args, NoMemory, Row, RowReader, Thing, Value};
 use plain_list::Listed;
 use std::alloc::Global;
-use std::sync::ledger::Ledger;
+use std::marker::Brand;
+use std::sync::ledger::{Blank, Ledger};
 use step_count::Steps;
 
-/// Whether no value names a thing.
+/// Whether no value names a thing. The values are looked at up to the first that names one, by a step
+/// for each.
 #[inline(always)]
-pub(crate) fn names_nothing(values: &[Value]) -> bool
-    ensures { IsTrue result ↔ (named_by values.now ≡ []) }
+pub(crate) fn names_nothing_within<L: Ledger>(values: &[Value], steps: &mut Steps<L>) -> bool
+    ensures nothing { IsTrue result ↔ (named_by values.now ≡ []) }
+    ensures all { IsTrue result → steps.new ≡ steps.old + length values.now }
+    ensures least { steps.old ≤ steps.new }
+    ensures most { steps.new ≤ steps.old + length values.now }
 {
     for value in values {
+        steps.tick();
         if value.thing().is_some() {
             return false;
         }
     }
     true
+}
+
+// The same, with steps that are counted on a ledger of their own.
+#[inline(always)]
+fn names_nothing_counted<L: Ledger>(values: &[Value], blank: Blank) -> bool
+    requires name { blank.name ≡ L.name }
+    requires parts { blank.parts ≡ L.parts }
+    requires some { 0 < blank.parts }
+    ensures { IsTrue result ↔ (named_by values.now ≡ []) }
+{
+    let mut steps: Steps<L> = Steps::none(blank);
+    names_nothing_within(values, &mut steps)
+}
+
+// Whether no value names a thing; the steps are not told.
+#[inline(always)]
+fn names_nothing(values: &[Value]) -> bool
+    ensures { IsTrue result ↔ (named_by values.now ≡ []) }
+{
+    names_nothing_counted::<Brand>(values, Blank::new(1))
 }
 
 /// Each of these things with its row.

@@ -1,11 +1,4 @@
-use Rattle.std.proofs.Common.{All, take, []}
-use Rattle.reach_walk.specs.Flat.{LeadsNowhere, Puts}
-use Rattle.reach_walk.specs.Marks.{with_owners}
-use Rattle.reach_walk.specs.Reach.{named_by}
 use Rattle.reach_walk.proofs.flat.find_flat.Given as goal
 
-abbrev pub invariant-loop-value : goal.invariant-loop-value
-invariant-loop-value g l =
-    let named = named_by (take l.value-index l.value-items) in
-    Puts (with_owners named) [] l.things
-    × All (LeadsNowhere (g.R.Rows.rows l.rows)) named
+abbrev pub ghosts-find_flat_counted : goal.ghosts-find_flat_counted
+ghosts-find_flat_counted g a = record { name = a.blank.name; parts = a.blank.parts }

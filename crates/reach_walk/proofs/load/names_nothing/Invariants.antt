@@ -1,6 +1,4 @@
-use Rattle.std.proofs.Common.{◌≡◌, take, []}
-use Rattle.reach_walk.specs.Reach.{named_by}
 use Rattle.reach_walk.proofs.load.names_nothing.Given as goal
 
-abbrev pub invariant-loop-value : goal.invariant-loop-value
-invariant-loop-value l = named_by (take l.value-index l.values) ≡ []
+abbrev pub ghosts-names_nothing_counted : goal.ghosts-names_nothing_counted
+ghosts-names_nothing_counted a = record { name = a.blank.name; parts = a.blank.parts }

@@ -1,17 +1,21 @@
-use Rattle.std.proofs.Common.{◌≡◌, [], All, take, sym, subst, ◌∙◌, arith}
+use Rattle.std.proofs.Common.{◌≡◌, [], All, length, take, sym, ap, subst, ◌∙◌, arith}
 use Rattle.std.proofs.lemmas.List.{take_all}
 use Rattle.std.proofs.lemmas.List.Elements.{All-nil}
 use Rattle.reach_walk.specs.Flat.{LeadsNowhere, Puts}
 use Rattle.reach_walk.specs.Marks.{with_owners}
 use Rattle.reach_walk.specs.Reach.{named_by}
 use Rattle.reach_walk.proofs.Flatly.{all_next, all_one, flat_marks, puts_next, puts_none}
-use Rattle.reach_walk.proofs.flat.find_flat.Goals as goal
+use Rattle.reach_walk.proofs.flat.find_flat_within.Goals as goal
 
 pub loop-value-init : goal.loop-value-init
-loop-value-init g c = (subst (Puts [] []) (sym c.clear.ensures) puts_none, All-nil (LeadsNowhere (g.R.Rows.rows c.args.rows.now)))
+loop-value-init g c = record {
+  puts = subst (Puts [] []) (sym c.clear.ensures) puts_none;
+  flat = All-nil (LeadsNowhere (g.R.Rows.rows c.args.rows.now));
+  steps = omega arith;
+}
 
 pub put_named-requires : goal.put_named-requires
-put_named-requires g c = c.loop-value.invariant.0.rising
+put_named-requires g c = c.loop-value.invariant.puts.rising
 
 pub returns-then-not-branch-clause-flat : goal.returns-then-not-branch-clause-flat
 returns-then-not-branch-clause-flat g c = (
@@ -29,12 +33,14 @@ loop-value-preserved g c =
     let values = c.as_slice-value-items.result.now in
     let i = c.loop-value.value-index in
     let v = c.value-item.result in
-    let done = c.in_ok-put_named.ensures in (
-      puts_next values i v c.loop-value-test.true c.value-item.is c.loop-value.things c.put_named.new.things
-          c.loop-value.invariant.0 (done.puts c.if-not-branch.false),
-      all_next values i v c.loop-value-test.true c.value-item.is (LeadsNowhere (g.R.Rows.rows c.args.rows.now))
-          c.loop-value.invariant.1 (done.flat.0 c.if-not-branch.false),
-    )
+    let done = c.in_ok-put_named.ensures in
+    record {
+      puts = puts_next values i v c.loop-value-test.true c.value-item.is c.loop-value.things c.put_named.new.things
+          c.loop-value.invariant.puts (done.puts c.if-not-branch.false);
+      flat = all_next values i v c.loop-value-test.true c.value-item.is (LeadsNowhere (g.R.Rows.rows c.args.rows.now))
+          c.loop-value.invariant.flat (done.flat.0 c.if-not-branch.false);
+      steps = omega (arith, c.loop-value.invariant.steps, c.put_named.ensures.steps.1);
+    }
 
 pub returns-clause-things : goal.returns-clause-things
 returns-clause-things g c = λ _.
@@ -43,5 +49,12 @@ returns-clause-things g c = λ _.
     let i = c.loop-value.value-index in
     let whole : take i values ≡ c.args.args.now = take_all i values (omega (arith, c.loop-value-test.false)) ∙ c.as_slice-value-items.ensures.value in
     flat_marks rows (g.R.Rows.all c.args.rows.now) c.args.args.now c.loop-value.things (g.met.R.Rows.within c.args.rows.now)
-    (subst (λ ws. All (LeadsNowhere rows) (named_by ws)) whole c.loop-value.invariant.1)
-    (subst (λ ws. Puts (with_owners (named_by ws)) [] c.loop-value.things) whole c.loop-value.invariant.0)
+    (subst (λ ws. All (LeadsNowhere rows) (named_by ws)) whole c.loop-value.invariant.flat)
+    (subst (λ ws. Puts (with_owners (named_by ws)) [] c.loop-value.things) whole c.loop-value.invariant.puts)
+
+pub returns-then-not-branch-clause-steps : goal.returns-then-not-branch-clause-steps
+returns-then-not-branch-clause-steps g c =
+    omega (arith, c.loop-value.invariant.steps, c.put_named.ensures.steps.1, c.loop-value-test.true, ap length c.as_slice-value-items.ensures.value)
+
+pub returns-clause-steps : goal.returns-clause-steps
+returns-clause-steps g c = omega (arith, c.loop-value.invariant.steps, ap length c.as_slice-value-items.ensures.value)
