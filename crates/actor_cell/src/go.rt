@@ -292,7 +292,7 @@ impl Cell {
             OnOk result (act_in found.new ≡ mint (owner_of thing.now) things) }
         ensures awaited { found.new.awaited ≡ found.old.awaited }
     {
-        let lacked = missing(alloc, thing, self.heap.owner(), &self.foreign)?;
+        let lacked = missing(alloc, *thing, self.heap.owner(), &self.foreign)?;
         found.things = amounts_of(alloc, lacked.as_slice(), weight)?;
         let owner = thing.owner();
         found.doing = Doing::Mint { owner };

@@ -141,7 +141,7 @@ pub fn enter(
     ensures same_book { OnErr result (book.new.entries ≡ book.old.entries) }
 {
     let ready = reserve(alloc, orca, book, e, found)?;
-    let woke = orca.apply_ready(alloc, ready);
+    let woke = orca.apply_ready(ready);
     let place = book.len();
     book.push(*e);
     Ok(Committed { place, woke })

@@ -330,12 +330,12 @@ impl ForeignTable {
     }
 
     /// What is held on a thing: its count and its row; `None` exactly where it is not held.
-    pub fn entry(&self, thing: &Thing) -> Option<(u64, Option<&Row>)>
-        ensures entry { MatchOption result (m.get self.now.entries thing.now ≡ None)
-            (λ e. m.get self.now.entries thing.now ≡ Some (e.0, option_copied e.1)) }
+    pub fn entry(&self, thing: Thing) -> Option<(u64, Option<&Row>)>
+        ensures entry { MatchOption result (m.get self.now.entries thing ≡ None)
+            (λ e. m.get self.now.entries thing ≡ Some (e.0, option_copied e.1)) }
         ensures bound { IfSome result (λ e. e.0 < count_limit) }
     {
-        match place_of(self.held.as_slice(), *thing) {
+        match place_of(self.held.as_slice(), thing) {
             Ok(i) => {
                 let entry = &self.held[i];
                 Some((entry.count.get(), entry.row.as_ref()))

@@ -47,7 +47,7 @@ fn input_of<S: Source>(alloc: Global, job: Job, source: &mut S) -> Result<Vec<u8
         (sides S.left S.faults source.old source.new)) }
 {
     match job {
-        Job::Load { count } => match program_of(alloc, count) {
+        Job::Load(count) => match program_of(alloc, count) {
             Ok(text) => Ok(text),
             Err(_) => Err(Status::NoMemory),
         },
@@ -157,7 +157,7 @@ fn begin_with(alloc: Global, job: Job, input: &[u8]) -> Result<Begun, Status>
     }
     match job {
         Job::Audit => audit_of(alloc, input),
-        Job::Run | Job::Load { .. } | Job::Why => run_of(alloc, job, input),
+        Job::Run | Job::Load(_) | Job::Why => run_of(alloc, job, input),
     }
 }
 

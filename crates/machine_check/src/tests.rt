@@ -308,7 +308,7 @@ fn does_prepared(alloc: Global, machine: &mut Orca<'_>, e: Event) -> Result<bool
     }
     let ready = machine.prepare(alloc, e)?;
     let waits = machine.steps() == steps && machine.enabled(e);
-    machine.apply_ready(alloc, ready);
+    machine.apply_ready(ready);
     Ok(waits && machine.steps() == steps + 1 && !machine.enabled(e))
 }
 

@@ -170,6 +170,6 @@ impl<'a> Orca<'a> {
         ensures woken { IfOk result (IsLowestWoken self.old.state.actors self.new.state.actors) }
     {
         let ready = self.prepare_found(alloc, e, found)?;
-        Ok(self.apply_ready(alloc, ready))
+        Ok(self.apply_ready(ready))
     }
 }

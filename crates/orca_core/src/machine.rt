@@ -173,11 +173,17 @@ impl<'a> Orca<'a> {
         Ok(Ready { event: e })
     }
 
+    // What moves out leaves empty lists behind, which keep it for their later memory.
+    #[inline(always)]
+    fn allocator(&self) -> Global {
+        *self.parts.prints.allocator()
+    }
+
     /// Does the event that was prepared: the machine's next step is exactly that of its rules. It takes
     /// no memory, and tells the lowest actor that gets a letter or is made by the event, `None` where
     /// none is.
     #[inline(always)]
-    pub fn apply_ready(&mut self, alloc: Global, ready: Ready) -> Option<ActorName>
+    pub fn apply_ready(&mut self, ready: Ready) -> Option<ActorName>
         requires early { self.old.steps < BOOK_LIMIT }
         requires fits { Fits ready self.old }
         ensures state { next self.old.state (event_of ready) ≡ Goes self.new.state }
@@ -185,6 +191,7 @@ impl<'a> Orca<'a> {
         ensures out { KeepsAway self.old.out self.new.out }
         ensures woken { IsLowestWoken self.old.state.actors self.new.state.actors result }
     {
+        let alloc = self.allocator();
         stand_when_done(&mut self.stands, &ready.event);
         let woken = apply(
             alloc,
@@ -217,7 +224,7 @@ impl<'a> Orca<'a> {
         ensures woken { IfOk result (IsLowestWoken self.old.state.actors self.new.state.actors) }
     {
         let ready = self.prepare(alloc, e)?;
-        Ok(self.apply_ready(alloc, ready))
+        Ok(self.apply_ready(ready))
     }
 
     /// What was printed, in its order.

@@ -107,7 +107,7 @@ fn whys(
             let reasons = explain(alloc, orca)?;
             why_lines(alloc, &partings, &reasons)
         }
-        Job::Run | Job::Load { .. } | Job::Audit => Ok(Vec::new(alloc)),
+        Job::Run | Job::Load(_) | Job::Audit => Ok(Vec::new(alloc)),
     }
 }
 

@@ -45,18 +45,18 @@ fn push_lacked(
 /// `NoMemory` where memory was refused.
 pub fn missing(
     alloc: Global,
-    thing: &Thing,
+    thing: Thing,
     me: ActorName,
     foreign: &ForeignTable,
 ) -> Result<Vec<Thing>, NoMemory>
     ensures { (count : ℕ) (heap : Heap) →
-        let its = missing_of me (holdings_of count heap foreign.now) thing.now in
+        let its = missing_of me (holdings_of count heap foreign.now) thing in
         IfOk result (λ found. found.items ≡ its) }
 {
     let mut lacked = Vec::new(alloc);
     push_lacked(&mut lacked, &Thing::Actor(thing.owner()), me, foreign)?;
     if let Thing::Obj(_) = thing {
-        push_lacked(&mut lacked, thing, me, foreign)?;
+        push_lacked(&mut lacked, &thing, me, foreign)?;
     }
     Ok(lacked)
 }

@@ -51,7 +51,7 @@ fn number(table: &ForeignTable, serial: u64) -> Option<Value> {
 
 // What is held on a thing: its count, and the number in its row.
 fn entry(table: &ForeignTable, thing: &Thing) -> Option<(u64, Option<Value>)> {
-    match table.entry(thing) {
+    match table.entry(*thing) {
         Some((count, Some(row))) => Some((count, row.get(0))),
         Some((count, None)) => Some((count, None)),
         None => None,

@@ -82,12 +82,12 @@ fn lacked(
     owner: Thing,
     thing: Thing,
 ) -> Result<(Vec<Thing>, Vec<Thing>), Fail> {
-    let before = missing(alloc, &thing, ActorName(1), foreign)?;
+    let before = missing(alloc, thing, ActorName(1), foreign)?;
     foreign.reserve(1)?;
     if foreign.count(owner) == 0 {
         foreign.gain(owner, &None, 1);
     }
-    Ok((before, missing(alloc, &thing, ActorName(1), foreign)?))
+    Ok((before, missing(alloc, thing, ActorName(1), foreign)?))
 }
 
 #[test]
@@ -99,7 +99,7 @@ fn owners_are_lacked_too(rt: HostRuntime) -> Result<(), Fail> {
     assert_eq!(rt; before.as_slice(), [owner, thing].as_slice());
     assert_eq!(rt; then.as_slice(), [thing].as_slice());
     assert_eq!(rt;
-        missing(rt.alloc(), &thing, ActorName(0), &foreign)?.len(),
+        missing(rt.alloc(), thing, ActorName(0), &foreign)?.len(),
         0
     );
     Ok(())

@@ -146,7 +146,7 @@ fn workers_and_budget_of(alloc: Global, line: &str) -> Result<String, Fail> {
 fn job_of(alloc: Global, line: &str) -> Result<String, Fail> {
     Ok(match order(alloc, line)?.job {
         Job::Run => String::from_str(alloc, "run")?,
-        Job::Load { count } => format!(in alloc; "load {count}")?,
+        Job::Load(count) => format!(in alloc; "load {count}")?,
         Job::Audit => String::from_str(alloc, "audit")?,
         Job::Why => String::from_str(alloc, "why")?,
     })

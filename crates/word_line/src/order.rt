@@ -16,11 +16,8 @@ pub const MOST_WEIGHT: u32 = 65_536;
 pub enum Job {
     /// The program that the source gives is run.
     Run,
-    /// The load program is run.
-    Load {
-        /// How many nodes it makes, 1 to 60,000.
-        count: u32,
-    },
+    /// The load program of so many nodes, 1 to 60,000, is run.
+    Load(u32),
     /// The book that the source gives behind its program is audited.
     Audit,
     /// The program that the source gives is run by one worker, and the report says why each thing is

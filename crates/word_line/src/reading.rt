@@ -127,7 +127,7 @@ fn load_with(matches: &ArgMatches<'_>) -> Option<Order>
 {
     let text = text_of(matches, "count")?;
     let count = number_in(text, 1, u64::from(NODES_LIMIT))? as u32;
-    order_with(matches, Job::Load { count })
+    order_with(matches, Job::Load(count))
 }
 
 /// The order that the options of `why` give.

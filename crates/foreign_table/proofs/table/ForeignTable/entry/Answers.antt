@@ -13,7 +13,7 @@ place_of-requires c = subst DoRise (sym c.as_slice.ensures.value) c.self.invaria
 pub returns-in-Ok-clause-entry : goal.returns-in-Ok-clause-entry
 returns-in-Ok-clause-entry c =
     let s = c.self.inside in
-    let x = c.args.thing.now in
+    let x = c.args.thing in
     let p = subst (λ es. IsAt thing_cmp (map pair_of es) x c.in-Ok.i) c.as_slice.ensures.value c.in-Ok.ensures in
     ap (λ t. m.get t.entries x) (sym c.self.view_is)
     ∙ value_at s.held.items c.self.invariant x c.in-Ok.i c.index-entry.result.now p c.index-entry.ensures
@@ -22,6 +22,6 @@ returns-in-Ok-clause-entry c =
 pub returns-in-Err-clause-entry : goal.returns-in-Err-clause-entry
 returns-in-Err-clause-entry c =
     let s = c.self.inside in
-    let x = c.args.thing.now in
+    let x = c.args.thing in
     let p = subst (λ es. IsGap thing_cmp (map pair_of es) x c.in-Err.field-0) c.as_slice.ensures.value c.in-Err.ensures in
     ap (λ t. m.get t.entries x) (sym c.self.view_is) ∙ none_at s.held.items c.self.invariant x c.in-Err.field-0 p
