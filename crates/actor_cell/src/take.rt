@@ -10,6 +10,7 @@ use crate::cell::Cell;
 use crate::learning::learn_all;
 use crate::out::Out;
 use behaviour_check::Checked;
+use block_report::note_on;
 use letter_kinds::{Letter, Note};
 use orca_names::NoMemory;
 use plain_list::Listed;
@@ -47,17 +48,7 @@ impl Cell {
         ensures { let note = note_of self.now.heap.owner letter.now in
             result ≡ (if self.now.reported then Some note else None) }
     {
-        if !self.reported {
-            return None;
-        }
-        let actor = self.heap.owner();
-        match letter {
-            Letter::Confirm { token } => Some(Note::Ack {
-                token: *token,
-                actor,
-            }),
-            _ => Some(Note::Unblock { actor }),
-        }
+        note_on(self.heap.owner(), self.reported, letter)
     }
 
     /// Takes the memory for what the letter brings.

@@ -1,13 +1,15 @@
-//! What a blocked actor reports to the detector (MAC, OOPSLA 2013).
+//! What a blocked actor tells the detector (MAC, OOPSLA 2013): its report, and, where this is out, what
+//! it makes of a letter that it takes.
 #![tactic(auto)]
 
-ghost use Rattle.std.specs.Prelude.{◌≡◌, IfOk};
+ghost use Rattle.std.specs.Prelude.{◌≡◌, if◌then◌else◌, IfOk, None, Some};
 ghost use Rattle.std.specs.FinMap as m;
 ghost use Rattle.foreign_table.specs.Table.{on_actors};
 ghost use Rattle.letter_kinds.specs.Reports.{block_note, report_told};
+ghost use Rattle.machine_rules.specs.Take.{note_of};
 
 use foreign_table::ForeignTable;
-use letter_kinds::Note;
+use letter_kinds::{Letter, Note};
 use orca_names::{ActorName, NoMemory};
 use plain_list::Listed;
 use std::alloc::Global;
@@ -32,4 +34,22 @@ pub fn report(
         count,
         held: Listed::from(held),
     })
+}
+
+/// What the detector is to hear where the actor takes the letter: that it is unblocked, or that it is
+/// still blocked, if its report is out.
+#[inline(always)]
+pub fn note_on(actor: ActorName, reported: bool, letter: &Letter) -> Option<Note>
+    ensures { result ≡ (if reported then Some (note_of actor letter.now) else None) }
+{
+    if !reported {
+        return None;
+    }
+    match letter {
+        Letter::Confirm { token } => Some(Note::Ack {
+            token: *token,
+            actor,
+        }),
+        _ => Some(Note::Unblock { actor }),
+    }
 }
