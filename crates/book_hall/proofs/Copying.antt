@@ -1,5 +1,5 @@
 -- A copy of a cell can be evaluated: serials are left, and what it holds and knows is others'.
-use Rattle.std.proofs.Common.{◌≡◌, ◌<◌, ◌≤◌, ◌+◌, ◌^◌, ℕ, List, length, Option, Some, None, refl, sym, ap, ◌∙◌, arith}
+use Rattle.std.proofs.Common.{◌≡◌, ◌≤◌, ℕ, List, length, Option, Some, None, refl, sym, ap, ◌∙◌, arith}
 use Rattle.std.specs.Prelude.{if◌then◌else◌}
 use Rattle.orca_names.specs.declared.limits.TheConstants.{BOOK_LIMIT}
 use Rattle.orca_names.specs.declared.trace.Trace.TheVariants.{Deep}
@@ -13,13 +13,13 @@ use Rattle.machine_rules.specs.Run.{IsRun}
 use Rattle.machine_rules.specs.State.{State}
 use Rattle.run_book.specs.Books.{BookValue, IsWeight}
 use Rattle.actor_cell.specs.Cells.{as_cell}
-use Rattle.actor_cell.specs.Sweeps.{KnowsOthersOnly}
 use Rattle.actor_cell.specs.declared.cell.Cell.{Cell}
 use Rattle.cell_laws.specs.Runs.{IsShortRun}
 use Rattle.cell_laws.proofs.Cells.{cells_know_others_only}
 use Rattle.cell_laws.proofs.Keeping.{runs_have_serials}
 use Rattle.orca_core.specs.Machine.{Machine, cell_here, options_of}
-use Rattle.book_hall.specs.Halls.{IsKept}
+use Rattle.hall_rules.proofs.Finding.{CanFind}
+use Rattle.book_hall.specs.Kept.{IsKept}
 
 -- whose cell is there has letters too
 seat_of_cell : (actors : Actors) (a : ℕ) (k : rules.Cell) → cell_at actors a ≡ Some k
@@ -33,11 +33,7 @@ seat_of_cell actors a k is = by (seat_at actors a) refl is
         let same : o.cell ≡ k = (let z : Some o.cell ≡ Some k = is in cc) in
         (o.mail, at ∙ ap (λ c. seat c o.mail) same)
 
-pub record CanFind (copy : Cell) : Type 0 where
-  pub serials : copy.heap.next + 1024 < 2 ^ 64
-  pub others : KnowsOthersOnly copy
-
--- so it is with a cell of a run
+-- a cell of a run can be evaluated
 pub run_can_find : (program : Program) (weight : ℕ) (book : List Event) (s : State) → IsWellFormed program → IsWeight weight
     → length book ≤ BOOK_LIMIT → IsRun program (options_of weight Deep) book s
     → (cell : Cell) → cell_at s.actors cell.heap.owner ≡ Some (as_cell cell) → CanFind cell

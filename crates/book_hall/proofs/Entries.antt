@@ -10,9 +10,10 @@ use Rattle.orca_core.specs.Machine.{Machine}
 use Rattle.orca_core.specs.Woken.{IsLowestWoken}
 use Rattle.work_board.specs.declared.answers.Committed.{Committed}
 use Rattle.work_board.specs.declared.answers.Refuse.{Refuse}
-use Rattle.book_hall.specs.declared.claims.Claim.{Claim}
-use Rattle.book_hall.specs.Answers.{IsEntered}
-use Rattle.book_hall.specs.Halls.{HallValue, IsKept, state_of}
+use Rattle.hall_rules.specs.declared.claim.Claim.{Claim}
+use Rattle.hall_rules.specs.Answers.{IsEntered}
+use Rattle.hall_rules.specs.Halls.{HallValue, state_of}
+use Rattle.book_hall.specs.Kept.{IsKept}
 
 module _ (program : Program) (budget : ℕ) (claims : List Claim) (stopped : Bool) where
   -- the hall with this book

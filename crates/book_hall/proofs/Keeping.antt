@@ -6,13 +6,12 @@ use Rattle.std.proofs.lemmas.Bool.Decides.{nat_tests}
 use Rattle.orca_names.specs.declared.limits.TheConstants.{BOOK_LIMIT}
 use Rattle.orca_names.specs.declared.trace.Trace.TheVariants.{Deep}
 use Rattle.behaviour_code.specs.declared.code.Program.{Program}
-use Rattle.event_rule.specs.Runs.{Goes, Leads}
+use Rattle.event_rule.specs.Runs.{Goes}
 use Rattle.event_rule.specs.Events.{actor_of}
 use Rattle.event_rule.specs.declared.event.Event.{Event}
 use Rattle.event_rule.specs.declared.event.Event.TheVariants.{Take, Go, Collect, Leave, Block, Hear, Scan, Reap}
 use Rattle.machine_rules.specs.Next.{next}
 use Rattle.machine_rules.specs.Run.{IsRun}
-use Rattle.machine_rules.specs.State.{State}
 use Rattle.run_book.specs.Books.{BookValue}
 use Rattle.cell_laws.proofs.Keeping.{runs_keep_program}
 use Rattle.orca_core.specs.Away.{is_out, is_out_for}
@@ -22,14 +21,9 @@ use Rattle.orca_core.proofs.Reached.{leads_more}
 use Rattle.work_board.specs.declared.answers.Committed.{Committed}
 use Rattle.work_board.specs.declared.answers.Refuse.{Refuse}
 use Rattle.work_board.specs.declared.answers.Refuse.TheVariants.{Budget}
-use Rattle.book_hall.specs.Causes.{spent_cause}
-use Rattle.book_hall.specs.Halls.{IsKept, moved, state_after}
-
--- the state to which a book leads is the one after it
-pub leads_after : (book : List Event) (s t : State) → Leads next s book t → t ≡ state_after s book
-leads_after [] s t same = sym same
-leads_after (e ∷ book) s t (u, goes, leads) =
-    subst (λ v. t ≡ state_after v book) (sym (ap (moved s) goes)) (leads_after book u t leads)
+use Rattle.hall_rules.specs.Causes.{spent_cause}
+use Rattle.hall_rules.proofs.Leading.{leads_after}
+use Rattle.book_hall.specs.Kept.{IsKept}
 
 -- where no cell is away, that of no event's actor is
 pub home_for : (m : Machine) → NoneIsAway m → (e : Event) → is_out_for m.out e ≡ false

@@ -1,6 +1,2 @@
-pub mod Answers
-pub mod Causes
-pub mod Claims
-pub mod Facts
-pub mod Halls
+pub mod Kept
 pub mod Proposals

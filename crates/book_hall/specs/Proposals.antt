@@ -1,8 +1,22 @@
--- A proposal that is of the present run.
-use Rattle.std.specs.Prelude.{ℕ, ◌≡◌}
+-- A copy of a cell, and a proposal that is of the present run.
+use Rattle.std.specs.Prelude.{ℕ, ◌≡◌, length, Some}
 use Rattle.behaviour_code.specs.declared.code.Program.{Program}
 use Rattle.event_rule.specs.declared.event.Event.{Event}
+use Rattle.actor_cell.specs.Cells.{as_cell}
+use Rattle.machine_rules.specs.Actors.{cell_at}
+use Rattle.hall_rules.specs.Causes.{event_at}
+use Rattle.hall_rules.specs.Halls.{HallValue, state_of}
+use Rattle.book_hall.specs.declared.copy.CellCopy.{CellCopy}
 use Rattle.book_hall.specs.declared.copy.Proposal.{Proposal}
+
+-- this is a copy of the actor's cell, with its first event
+pub record IsCopy (h : HallValue) (a : ℕ) (copy : CellCopy) : Type 0 where
+  pub program : copy.code.now ≡ h.program
+  pub weight : copy.weight ≡ h.weight
+  pub event : event_at (state_of h) a ≡ Some copy.event
+  pub at : copy.at ≡ length h.book
+  pub owner : copy.cell.heap.owner ≡ a
+  pub cell : cell_at (state_of h).actors a ≡ Some (as_cell copy.cell)
 
 -- it is of a run of this program with this weight, and for this event
 pub record IsOf (program : Program) (weight : ℕ) (e : Event) (proposal : Proposal) : Type 0 where

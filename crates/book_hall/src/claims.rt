@@ -2,19 +2,13 @@
 
 ghost use Rattle.std.specs.Prelude.{◌≡◌, ◌==◌, ◌++◌, ◌∷◌, [], length, not, OnErr, OnOk};
 ghost use Rattle.std.specs.List.{list_any};
-ghost use Rattle.book_hall.specs.Claims.{holder, is_anothers, is_claimed, without};
+ghost use Rattle.hall_rules.specs.Claims.{holder, is_anothers, is_claimed, without};
 
+use hall_rules::Claim;
 use orca_core::SetAside;
 use orca_names::{ActorName, NoMemory};
 use std::alloc::Global;
 use std::marker::Model;
-
-/// A claim of a pass on an actor.
-#[derive(Clone, Copy, Debug, PartialEq, Eq)]
-pub struct Claim {
-    pub pass: u32,
-    pub actor: ActorName,
-}
 
 /// The claims that are out, in the order in which they were made, seen by contracts as their list.
 #[derive(Drop)]
@@ -24,7 +18,7 @@ pub(crate) struct Claims {
 
 impl Model for Claims {
     ghost use Rattle.std.specs.Prelude.{List};
-    ghost use Rattle.book_hall.specs.declared.claims.Claim.{Claim};
+    ghost use Rattle.hall_rules.specs.declared.claim.Claim.{Claim};
 
     ghost Value = { List Claim };
 

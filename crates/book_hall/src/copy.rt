@@ -7,7 +7,7 @@ ghost use Rattle.event_rule.specs.Events.{actor_of};
 ghost use Rattle.actor_cell.specs.Founds.{IsFound};
 ghost use Rattle.actor_cell.specs.Sweeps.{KnowsOthersOnly};
 ghost use Rattle.work_board.specs.Answered.{is_evaluated};
-ghost use Rattle.book_hall.specs.Facts.{is_found_prop};
+ghost use Rattle.hall_rules.specs.Facts.{is_found_prop};
 
 use crate::programs::is_same_program;
 use actor_cell::{Cell, Found};

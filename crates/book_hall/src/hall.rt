@@ -8,24 +8,38 @@ ghost use Rattle.machine_rules.specs.Next.{next};
 ghost use Rattle.run_book.specs.Books.{IsWeight};
 ghost use Rattle.orca_core.specs.Laws.{IsRunOf};
 ghost use Rattle.orca_core.specs.Machine.{NoneIsAway, options_of};
-ghost use Rattle.book_hall.specs.Causes.{IsRefusal, absent_cause, actor_cause, claim_cause, entry_cause, event_at, spent_cause, unready_cause};
-ghost use Rattle.book_hall.specs.Claims.{without, without_for};
-ghost use Rattle.book_hall.specs.Answers.{IsCopy, IsEntered, TellsWork};
-ghost use Rattle.book_hall.specs.Halls.{HasRun, state_of};
-ghost use Rattle.book_hall.specs.Proposals.{IsOf};
+ghost use Rattle.hall_rules.specs.Causes.{IsRefusal, absent_cause, actor_cause, claim_cause, entry_cause, event_at, spent_cause, unready_cause};
+ghost use Rattle.hall_rules.specs.Claims.{without, without_for};
+ghost use Rattle.hall_rules.specs.Answers.{IsEntered, TellsWork};
+ghost use Rattle.hall_rules.specs.Halls.{state_of};
+ghost use Rattle.book_hall.specs.Kept.{HasRun};
+ghost use Rattle.book_hall.specs.Proposals.{IsCopy, IsOf};
 
-use crate::causes::{absent, actor_of, actor_refuses, busy, event_at, spent, unready};
-use crate::claims::{Claim, Claims};
+use crate::claims::Claims;
 use crate::copy::{CellCopy, Proposal};
-use crate::entering::{enter, fitting};
+use crate::found::fitting;
 use behaviour_check::Checked;
 use event_rule::Event;
+use hall_rules::{Claim, absent, actor_of, busy, enter, event_at, spent, unready};
 use orca_core::Orca;
 use orca_names::{ActorName, NoMemory, Trace};
 use run_book::Book;
 use std::alloc::Global;
 use std::marker::Model;
 use work_board::{Committed, Look, Refuse};
+
+// The event's actor, if it has one, is not there or is another pass's.
+fn actor_refuses(orca: &Orca<'_>, claims: &Claims, asker: Option<u32>, e: &Event) -> Option<Refuse>
+    ensures { result ≡ actor_cause orca.now.state claims.now asker e.now }
+{
+    let Some(a) = actor_of(e) else {
+        return None;
+    };
+    match absent(orca, a) {
+        Some(refuse) => Some(refuse),
+        None => busy(claims.holder(asker, a)),
+    }
+}
 
 /// A run that several workers change, seen by contracts as its program, its weight, its budget, its
 /// book, the claims that are out, and whether a stop was asked. Its state is the one that the book
@@ -41,7 +55,8 @@ pub struct Hall<'a> {
 }
 
 impl<'a> Model for Hall<'a> {
-    ghost use Rattle.book_hall.specs.Halls.{HallValue, IsKept};
+    ghost use Rattle.hall_rules.specs.Halls.{HallValue};
+    ghost use Rattle.book_hall.specs.Kept.{IsKept};
 
     ghost Value = { HallValue };
 

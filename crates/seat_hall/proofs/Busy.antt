@@ -21,7 +21,7 @@ use Rattle.count_laws.specs.Apart.{HasNoEvent, IsApart}
 use Rattle.count_laws.proofs.away.Untouched.{others_leave}
 use Rattle.machine_laws.proofs.Done.{runs_reap_the_done}
 use Rattle.machine_rules.specs.Options.{Options}
-use Rattle.book_hall.specs.Causes.{event_at, is_enabled}
+use Rattle.hall_rules.specs.Causes.{event_at, is_enabled}
 
 -- ---- enabled, by a test
 

@@ -9,9 +9,9 @@ use Rattle.machine_rules.specs.Next.{next}
 use Rattle.work_board.specs.declared.answers.Committed.{Committed}
 use Rattle.work_board.specs.declared.answers.Refuse.{Refuse}
 use Rattle.work_board.specs.declared.answers.Refuse.TheVariants as why
-use Rattle.book_hall.specs.Causes.{IsRefusal, absent_cause, actor_cause, busy_cause, full_cause, spent_cause, unready_cause}
-use Rattle.book_hall.specs.Claims.{holder, is_anothers}
-use Rattle.book_hall.proofs.Refusing.{or_none}
+use Rattle.hall_rules.specs.Causes.{IsRefusal, absent_cause, actor_cause, busy_cause, full_cause, spent_cause, unready_cause}
+use Rattle.hall_rules.specs.Claims.{holder, is_anothers}
+use Rattle.hall_rules.proofs.Refusing.{or_none}
 use Rattle.seat_hall.specs.declared.item.Item.TheVariants.{Ended, Entered}
 use Rattle.seat_hall.specs.Answers.{Enters, IsEntered, RefusesEntry}
 use Rattle.seat_hall.specs.Halls.{HallView, says}

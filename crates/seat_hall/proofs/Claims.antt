@@ -4,8 +4,8 @@ use Rattle.std.specs.Prelude.{find, option_map, if◌then◌else◌, nat_lt}
 use Rattle.std.proofs.lemmas.Bool.Decides.{nat_tests}
 use Rattle.event_rule.specs.Events.{actor_of}
 use Rattle.event_rule.specs.declared.event.Event.{Event}
-use Rattle.book_hall.specs.Claims.{holder, is_anothers, is_claimed}
-use Rattle.book_hall.specs.declared.claims.Claim.{Claim}
+use Rattle.hall_rules.specs.Claims.{holder, is_anothers, is_claimed}
+use Rattle.hall_rules.specs.declared.claim.Claim.{Claim}
 use Rattle.seat_hall.specs.Log.{claim_in, grown, listed, released}
 
 -- the claim, unless it is of the one who asks

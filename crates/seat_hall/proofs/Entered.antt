@@ -10,8 +10,8 @@ use Rattle.orca_core.specs.Machine.{Machine}
 use Rattle.orca_core.specs.Woken.{IsLowestWoken}
 use Rattle.work_board.specs.declared.answers.Committed.{Committed}
 use Rattle.work_board.specs.declared.answers.Refuse.{Refuse}
-use Rattle.book_hall.specs.Causes.{IsRefusal, actor_cause, full_cause, spent_cause, unready_cause}
-use Rattle.book_hall.proofs.Refusing.{late_is, or_none}
+use Rattle.hall_rules.specs.Causes.{IsRefusal, actor_cause, full_cause, spent_cause, unready_cause}
+use Rattle.hall_rules.proofs.Refusing.{late_is, or_none}
 use Rattle.seat_hall.specs.declared.item.Item.TheVariants.{Entered}
 use Rattle.seat_hall.specs.Answers.{Enters}
 use Rattle.seat_hall.specs.Halls.{HallView, says}

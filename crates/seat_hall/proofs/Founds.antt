@@ -27,7 +27,7 @@ use Rattle.actor_table.specs.Slots.{home_in, home_of, slot_at}
 use Rattle.orca_core.specs.Away.{is_out, is_out_for}
 use Rattle.orca_core.specs.Founds.{IsFoundIn}
 use Rattle.orca_core.specs.Machine.{Machine, cell_here}
-use Rattle.book_hall.proofs.Copying.{CanFind}
+use Rattle.hall_rules.proofs.Finding.{CanFind}
 use Rattle.seat_hall.specs.Answers.{IsFoundOf}
 use Rattle.seat_hall.proofs.Busy.{IsBusy}
 

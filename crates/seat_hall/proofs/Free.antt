@@ -9,7 +9,7 @@ use Rattle.machine_rules.specs.Next.{next}
 use Rattle.machine_rules.specs.State.{State}
 use Rattle.orca_core.specs.Away.{is_out}
 use Rattle.orca_core.specs.Firsts.{is_free, is_of, is_of_detector, next_of_kind}
-use Rattle.book_hall.specs.Claims.{is_claimed}
+use Rattle.hall_rules.specs.Claims.{is_claimed}
 use Rattle.seat_hall.specs.Log.{claim_in, listed}
 use Rattle.seat_hall.proofs.Claims.{claimed_is}
 

@@ -12,10 +12,10 @@ use Rattle.machine_rules.specs.State.{State, first_state}
 use Rattle.orca_core.specs.Machine.{options_of}
 use Rattle.orca_core.proofs.Reached.{leads_more}
 use Rattle.work_board.specs.declared.answers.Refuse.TheVariants as why
-use Rattle.book_hall.specs.Causes.{absent_cause, actor_cause, busy_cause, event_at}
-use Rattle.book_hall.specs.Claims.{holder}
-use Rattle.book_hall.proofs.Keeping.{leads_after}
-use Rattle.book_hall.proofs.Refusing.{or_none}
+use Rattle.hall_rules.specs.Causes.{absent_cause, actor_cause, busy_cause, event_at}
+use Rattle.hall_rules.specs.Claims.{holder}
+use Rattle.hall_rules.proofs.Leading.{leads_after}
+use Rattle.hall_rules.proofs.Refusing.{or_none}
 use Rattle.seat_hall.specs.declared.item.Item.{Item}
 use Rattle.seat_hall.specs.declared.item.Item.TheVariants.{Claimed, Entered, Ended, Stopped, Made}
 use Rattle.seat_hall.specs.Log.{Legal, Logged, MayFollow, after, by, claim_cause, claim_in, claims_in, entry_cause, hall_from, items_by, state_in}

@@ -4,8 +4,8 @@ use Rattle.event_rule.specs.Events.{actor_of}
 use Rattle.event_rule.specs.declared.event.Event.{Event}
 use Rattle.turn_log.specs.Knowing.{having_written}
 use Rattle.turn_log.specs.Seats.{knows}
-use Rattle.book_hall.specs.Causes.{actor_cause}
-use Rattle.book_hall.proofs.Refusing.{or_none}
+use Rattle.hall_rules.specs.Causes.{actor_cause}
+use Rattle.hall_rules.proofs.Refusing.{or_none}
 use Rattle.seat_hall.specs.declared.item.Item.TheVariants.{Claimed, Entered}
 use Rattle.seat_hall.specs.declared.item.PassView.{PassView}
 use Rattle.seat_hall.specs.declared.task.SeatTask.{SeatTask}

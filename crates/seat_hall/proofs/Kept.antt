@@ -28,9 +28,9 @@ use Rattle.orca_core.specs.Laws.{IsRunOf}
 use Rattle.orca_core.specs.Machine.{IsSame, Machine, ReapsNoneAway, options_of}
 use Rattle.orca_core.proofs.Reached.{leads_more}
 use Rattle.work_board.specs.declared.answers.Refuse.TheVariants.{Budget}
-use Rattle.book_hall.specs.Causes.{event_at, spent_cause}
-use Rattle.book_hall.specs.Halls.{state_after}
-use Rattle.book_hall.proofs.Keeping.{leads_after}
+use Rattle.hall_rules.specs.Causes.{event_at, spent_cause}
+use Rattle.hall_rules.specs.Halls.{state_after}
+use Rattle.hall_rules.proofs.Leading.{leads_after}
 use Rattle.seat_hall.specs.Halls.{ClaimedAreBusy, IsKept}
 use Rattle.seat_hall.specs.Log.{claim_in, grown}
 use Rattle.seat_hall.proofs.Busy.{busy_made, busy_of, event_of, none_reaped, others_leave_busy, stands_apart}

@@ -4,7 +4,7 @@ use Rattle.orca_names.specs.declared.trace.Trace.{Trace}
 use Rattle.orca_names.specs.declared.trace.Trace.TheVariants.{Deep}
 use Rattle.work_board.specs.declared.answers.Look.{Look}
 use Rattle.work_board.specs.declared.answers.Look.TheVariants.{Actor, Detector, Others, Rest, Stop}
-use Rattle.book_hall.specs.Answers.{TellsWork}
+use Rattle.hall_rules.specs.Answers.{TellsWork}
 use Rattle.seat_hall.specs.Answers.{Tells}
 use Rattle.seat_hall.specs.Log.{Logged}
 use Rattle.seat_hall.specs.Plain.{DeepIsPlain, IsAsPlain, plain}

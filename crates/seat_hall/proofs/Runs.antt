@@ -15,9 +15,9 @@ use Rattle.machine_rules.specs.State.{State, first_state}
 use Rattle.orca_core.specs.Machine.{options_of}
 use Rattle.orca_core.proofs.Reached.{leads_more}
 use Rattle.work_board.specs.declared.answers.Refuse.TheVariants as why
-use Rattle.book_hall.specs.Causes.{actor_cause, full_cause, spent_cause, unready_cause}
-use Rattle.book_hall.proofs.Keeping.{leads_after}
-use Rattle.book_hall.proofs.Refusing.{or_none}
+use Rattle.hall_rules.specs.Causes.{actor_cause, full_cause, spent_cause, unready_cause}
+use Rattle.hall_rules.proofs.Leading.{leads_after}
+use Rattle.hall_rules.proofs.Refusing.{or_none}
 use Rattle.seat_hall.specs.declared.item.Item.{Item}
 use Rattle.seat_hall.specs.declared.item.Item.TheVariants.{Claimed, Entered, Ended, Stopped, Made}
 use Rattle.seat_hall.specs.Log.{Legal, Logged, MayFollow, after, begins, claims_in, entry_cause, hall_from, state_in}

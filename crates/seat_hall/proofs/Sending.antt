@@ -4,7 +4,7 @@ use denote.Struct.Declared.{shape}
 use Rattle.std.proofs.Crossing.{crosses}
 use Rattle.atomic_table.proofs.shared.Seat.TheSendSync.{the_send as seat_send}
 use Rattle.turn_log.proofs.table.TurnLog.TheSendSync.{the_sync as log_sync}
-use Rattle.book_hall.proofs.Sending.{book_send, checked_sync, orca_send}
+use Rattle.hall_rules.proofs.Sending.{book_send, checked_sync, orca_send}
 use Rattle.seat_hall.specs.contracts.board.SeatPass as SeatPass
 use Rattle.seat_hall.specs.contracts.hall.Hall as Hall
 use Rattle.seat_hall.specs.contracts.hall.Hall.TheInside as inside

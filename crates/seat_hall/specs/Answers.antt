@@ -18,8 +18,8 @@ use Rattle.work_board.specs.declared.answers.Committed.{Committed}
 use Rattle.work_board.specs.declared.answers.Look.{Look}
 use Rattle.work_board.specs.declared.answers.Look.TheVariants.{Actor, Detector, Others, Rest, Stop}
 use Rattle.work_board.specs.declared.answers.Refuse.{Refuse}
-use Rattle.book_hall.specs.Causes.{IsRefusal, event_at}
-use Rattle.book_hall.specs.Claims.{is_claimed}
+use Rattle.hall_rules.specs.Causes.{IsRefusal, event_at}
+use Rattle.hall_rules.specs.Claims.{is_claimed}
 use Rattle.seat_hall.specs.declared.item.Item.TheVariants.{Entered}
 use Rattle.seat_hall.specs.declared.taken.Taken.{Taken}
 use Rattle.seat_hall.specs.Log.{Logged, after, claim_cause, claims_in, entry_cause, most_made, state_in}

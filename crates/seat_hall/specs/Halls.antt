@@ -7,8 +7,8 @@ use Rattle.machine_rules.specs.State.{State, first_state}
 use Rattle.run_book.specs.Books.{BookValue, IsWeight}
 use Rattle.orca_core.specs.Away.{is_out}
 use Rattle.orca_core.specs.Machine.{Machine, options_of}
-use Rattle.book_hall.specs.Causes.{event_at}
-use Rattle.book_hall.specs.Halls.{state_after}
+use Rattle.hall_rules.specs.Causes.{event_at}
+use Rattle.hall_rules.specs.Halls.{state_after}
 use Rattle.seat_hall.specs.declared.item.Item.{Item}
 use Rattle.seat_hall.specs.Log.{Logged, claim_in}
 

@@ -9,9 +9,9 @@ use Rattle.machine_rules.specs.Next.{next}
 use Rattle.machine_rules.specs.State.{State, first_state}
 use Rattle.orca_core.specs.Machine.{options_of}
 use Rattle.work_board.specs.declared.answers.Refuse.{Refuse}
-use Rattle.book_hall.specs.Causes.{absent_cause, actor_cause, busy_cause, event_at, full_cause, idle_cause, spent_cause, unready_cause}
-use Rattle.book_hall.specs.Halls.{state_after}
-use Rattle.book_hall.specs.declared.claims.Claim.{Claim}
+use Rattle.hall_rules.specs.Causes.{absent_cause, actor_cause, busy_cause, event_at, full_cause, idle_cause, spent_cause, unready_cause}
+use Rattle.hall_rules.specs.Halls.{state_after}
+use Rattle.hall_rules.specs.declared.claim.Claim.{Claim}
 use Rattle.seat_hall.specs.declared.item.Item.{Item}
 use Rattle.seat_hall.specs.declared.item.Item.TheVariants.{Claimed, Entered, Ended, Stopped, Made}
 

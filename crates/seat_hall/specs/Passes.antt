@@ -10,7 +10,7 @@ use Rattle.actor_cell.specs.Cells.{as_cell}
 use Rattle.machine_rules.specs.Actors.{cell_at}
 use Rattle.turn_log.specs.declared.table.SeatView.{SeatView}
 use Rattle.turn_log.specs.Seats.{IsIdle, IsSame, knows}
-use Rattle.book_hall.specs.Causes.{event_at}
+use Rattle.hall_rules.specs.Causes.{event_at}
 use Rattle.seat_hall.specs.declared.item.Item.{Item}
 use Rattle.seat_hall.specs.declared.item.Item.TheVariants.{Made}
 use Rattle.seat_hall.specs.declared.item.PassView.{PassView}

@@ -4,9 +4,9 @@ use Rattle.orca_names.specs.declared.trace.Trace.TheVariants.{Deep}
 use Rattle.event_rule.specs.declared.event.Event.{Event}
 use Rattle.work_board.specs.declared.answers.Committed.{Committed}
 use Rattle.work_board.specs.declared.answers.Look.{Look}
-use Rattle.book_hall.specs.Answers as plain_answers
-use Rattle.book_hall.specs.Causes as plain_causes
-use Rattle.book_hall.specs.Halls.{HallValue, state_of}
+use Rattle.hall_rules.specs.Answers as plain_answers
+use Rattle.hall_rules.specs.Causes as plain_causes
+use Rattle.hall_rules.specs.Halls.{HallValue, state_of}
 use Rattle.seat_hall.specs.declared.item.Item.TheVariants.{Entered}
 use Rattle.seat_hall.specs.Answers.{IsEntered, Tells}
 use Rattle.seat_hall.specs.Log.{Logged, after, claim_cause, claims_in, entry_cause, state_in}

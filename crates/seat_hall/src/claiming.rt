@@ -1,7 +1,7 @@
 // Claims, which take cells out of a hall, and their ends.
 
 ghost use Rattle.std.specs.Prelude.{◌≡◌, ◌<◌, true, length, IfErr, IfNone, IfOk, IfSome, None, OnErr, OnOk, Some};
-ghost use Rattle.book_hall.specs.Causes.{busy_cause, event_at};
+ghost use Rattle.hall_rules.specs.Causes.{busy_cause, event_at};
 ghost use Rattle.seat_hall.specs.declared.item.Item.TheVariants.{Claimed, Ended};
 ghost use Rattle.seat_hall.specs.Answers.{Grants, IsTaken, NoAct, RefusesClaim, is_act};
 ghost use Rattle.seat_hall.specs.Halls.{says};
@@ -12,8 +12,8 @@ use crate::hall::Hall;
 use crate::item::Item;
 use crate::taken::Taken;
 use actor_cell::Cell;
-use book_hall::{absent, busy, event_at};
 use event_rule::Event;
+use hall_rules::{absent, busy, event_at};
 use orca_names::ActorName;
 use work_board::Refuse;
 

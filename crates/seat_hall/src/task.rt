@@ -4,7 +4,7 @@ ghost use Rattle.std.specs.Prelude.{◌≡◌, false, true, IsSome, None, OnOk};
 ghost use Rattle.std.specs.Option.{ForSome};
 ghost use Rattle.actor_cell.specs.Founds.{IsFound};
 ghost use Rattle.work_board.specs.Answered.{is_evaluated};
-ghost use Rattle.book_hall.specs.Facts.{is_found_prop};
+ghost use Rattle.hall_rules.specs.Facts.{is_found_prop};
 
 use crate::taken::Taken;
 use actor_cell::Found;

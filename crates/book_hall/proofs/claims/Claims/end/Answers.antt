@@ -1,8 +1,8 @@
 use Rattle.std.proofs.Common.{◌≡◌, ◌==◌, ◌&&◌, List, rules, subst}
 use Rattle.std.specs.Prelude.{not}
 use Rattle.std.proofs.lemmas.Fn.{filter_same}
-use Rattle.book_hall.specs.Claims.{without}
-use Rattle.book_hall.specs.declared.claims.Claim.{Claim}
+use Rattle.hall_rules.specs.Claims.{without}
+use Rattle.hall_rules.specs.declared.claim.Claim.{Claim}
 use Rattle.book_hall.proofs.claims.Claims.end.Goals as goal
 
 pub returns : goal.returns

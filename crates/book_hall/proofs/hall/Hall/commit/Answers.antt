@@ -1,6 +1,6 @@
 use Rattle.std.proofs.Common.{IfErr, IfOk, Some, subst}
-use Rattle.book_hall.specs.Causes.{IsRefusal, entry_cause}
-use Rattle.book_hall.specs.Answers.{IsEntered}
+use Rattle.hall_rules.specs.Causes.{IsRefusal, entry_cause}
+use Rattle.hall_rules.specs.Answers.{IsEntered}
 use Rattle.book_hall.proofs.hall.Hall.commit.Goals as goal
 
 pub returns-else-is_of-clause-ok : goal.returns-else-is_of-clause-ok

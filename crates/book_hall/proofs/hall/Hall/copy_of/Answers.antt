@@ -2,9 +2,9 @@ use Rattle.std.proofs.Common.{◌≡◌, Some, ap, sym, subst, ◌∙◌}
 use Rattle.behaviour_code.specs.WellFormed.{IsWellFormed}
 use Rattle.run_book.specs.Books.{IsWeight}
 use Rattle.orca_core.specs.Machine.{cell_here}
-use Rattle.book_hall.specs.Halls.{state_of}
+use Rattle.hall_rules.specs.Halls.{state_of}
 use Rattle.book_hall.proofs.Copying.{copy_can_find}
-use Rattle.book_hall.proofs.Firsts.{event_of_actor}
+use Rattle.hall_rules.proofs.Firsts.{event_of_actor}
 use Rattle.book_hall.proofs.hall.Hall.copy_of.Goals as goal
 
 pub invariant_of-result : goal.invariant_of-result

@@ -1,8 +1,8 @@
 use Rattle.std.proofs.Common.{◌≡◌, length, ap, sym, ◌∙◌}
 use Rattle.machine_rules.specs.Next.{next}
-use Rattle.book_hall.specs.Causes.{actor_cause, spent_cause, unready_cause}
-use Rattle.book_hall.specs.Halls.{HallValue, state_of}
-use Rattle.book_hall.proofs.Refusing.{or_first, or_next}
+use Rattle.hall_rules.specs.Causes.{actor_cause, spent_cause, unready_cause}
+use Rattle.hall_rules.specs.Halls.{HallValue, state_of}
+use Rattle.hall_rules.proofs.Refusing.{or_first, or_next}
 use Rattle.book_hall.proofs.hall.Hall.early_refusal.Goals as goal
 
 pub returns-in-Some : goal.returns-in-Some

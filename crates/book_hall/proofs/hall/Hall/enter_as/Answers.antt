@@ -2,11 +2,11 @@ use Rattle.std.proofs.Common.{◌≡◌, length, IfErr, ap, subst, sym, ◌∙�
 use Rattle.std.specs.Option.{option_or}
 use Rattle.machine_rules.specs.Next.{next}
 use Rattle.machine_rules.specs.Options.{Options}
-use Rattle.book_hall.specs.Causes.{IsRefusal, actor_cause, full_cause, spent_cause, unready_cause}
-use Rattle.book_hall.specs.Halls.{HallValue, state_of}
+use Rattle.hall_rules.specs.Causes.{IsRefusal, actor_cause, full_cause, spent_cause, unready_cause}
+use Rattle.hall_rules.specs.Halls.{HallValue, state_of}
 use Rattle.book_hall.proofs.Entries.{entered}
 use Rattle.book_hall.proofs.Keeping.{home_for, kept_on, kept_run, reaps_at_home}
-use Rattle.book_hall.proofs.Refusing.{late_is, or_none}
+use Rattle.hall_rules.proofs.Refusing.{late_is, or_none}
 use Rattle.book_hall.proofs.hall.Hall.enter_as.Goals as goal
 
 pub enter-requires-clause-ready : goal.enter-requires-clause-ready

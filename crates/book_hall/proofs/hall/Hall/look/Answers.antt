@@ -3,10 +3,10 @@ use Rattle.std.proofs.lemmas.Bool.Decides.{nat_tests}
 use Rattle.event_rule.specs.Runs.{Machine}
 use Rattle.machine_rules.specs.State.{State}
 use Rattle.orca_core.specs.Firsts.{HasFirst, is_free, next_of_kind}
-use Rattle.book_hall.specs.Claims.{is_claimed}
-use Rattle.book_hall.specs.Answers.{is_over}
-use Rattle.book_hall.specs.Halls.{HallValue, state_of}
-use Rattle.book_hall.proofs.Firsts.{same_kind}
+use Rattle.hall_rules.specs.Claims.{is_claimed}
+use Rattle.hall_rules.specs.Answers.{is_over}
+use Rattle.hall_rules.specs.Halls.{HallValue, state_of}
+use Rattle.hall_rules.proofs.Firsts.{same_kind}
 use Rattle.book_hall.proofs.hall.Hall.look.Goals as goal
 
 pub returns-in-Some : goal.returns-in-Some

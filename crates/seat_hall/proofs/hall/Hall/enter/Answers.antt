@@ -6,8 +6,8 @@ use Rattle.machine_rules.specs.Next.{next}
 use Rattle.machine_rules.specs.Options.{Options}
 use Rattle.machine_rules.specs.State.{first_state}
 use Rattle.orca_core.specs.Machine.{options_of}
-use Rattle.book_hall.specs.Causes.{spent_cause, unready_cause}
-use Rattle.book_hall.specs.Halls.{state_after}
+use Rattle.hall_rules.specs.Causes.{spent_cause, unready_cause}
+use Rattle.hall_rules.specs.Halls.{state_after}
 use Rattle.seat_hall.specs.declared.item.Item.TheVariants.{Entered}
 use Rattle.seat_hall.specs.Answers.{IsFoundOf}
 use Rattle.seat_hall.specs.Halls.{HallView, IsKept, says}

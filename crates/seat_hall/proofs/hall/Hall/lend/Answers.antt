@@ -5,8 +5,8 @@ use Rattle.behaviour_code.specs.WellFormed.{IsWellFormed}
 use Rattle.machine_rules.specs.Actors.{cell_at}
 use Rattle.orca_core.specs.Machine.{options_of}
 use Rattle.actor_cell.specs.Cells.{as_cell}
-use Rattle.book_hall.specs.Causes.{event_at}
-use Rattle.book_hall.proofs.Firsts.{event_of_actor}
+use Rattle.hall_rules.specs.Causes.{event_at}
+use Rattle.hall_rules.proofs.Firsts.{event_of_actor}
 use Rattle.seat_hall.specs.Halls.{HallView, IsKept}
 use Rattle.seat_hall.specs.Log.{claim_in, state_in}
 use Rattle.seat_hall.proofs.Busy.{IsBusy, busy_of}

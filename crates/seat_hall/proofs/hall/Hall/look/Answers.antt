@@ -4,7 +4,7 @@ use Rattle.event_rule.specs.Runs.{IsFirst, IsQuiet, Machine}
 use Rattle.machine_rules.specs.State.{State}
 use Rattle.orca_core.specs.Firsts.{HasFirst, is_free, is_of_detector, next_of_kind}
 use Rattle.work_board.specs.declared.answers.Look.TheVariants.{Actor, Detector, Others, Rest}
-use Rattle.book_hall.specs.Claims.{is_claimed}
+use Rattle.hall_rules.specs.Claims.{is_claimed}
 use Rattle.seat_hall.specs.Answers.{Tells}
 use Rattle.seat_hall.specs.Halls.{HallView}
 use Rattle.seat_hall.specs.Log.{listed}

@@ -4,9 +4,8 @@ ghost use Rattle.std.specs.Prelude.{◌≡◌, false, option_map};
 ghost use Rattle.event_rule.specs.Events.{actor_of};
 ghost use Rattle.machine_rules.specs.Next.{next};
 ghost use Rattle.orca_core.specs.Away.{is_out, is_out_for};
-ghost use Rattle.book_hall.specs.Causes.{absent_cause, actor_cause, event_at, spent_cause, unready_cause};
+ghost use Rattle.hall_rules.specs.Causes.{absent_cause, event_at, spent_cause, unready_cause};
 
-use crate::claims::Claims;
 use event_rule::Event;
 use orca_core::Orca;
 use orca_names::ActorName;
@@ -45,24 +44,6 @@ pub fn busy(holder: Option<u32>) -> Option<Refuse>
     match holder {
         Some(holder) => Some(Refuse::Busy { holder }),
         None => None,
-    }
-}
-
-/// The event's actor, if it has one, is not there or is another pass's.
-pub(crate) fn actor_refuses(
-    orca: &Orca<'_>,
-    claims: &Claims,
-    asker: Option<u32>,
-    e: &Event,
-) -> Option<Refuse>
-    ensures { result ≡ actor_cause orca.now.state claims.now asker e.now }
-{
-    let Some(a) = actor_of(e) else {
-        return None;
-    };
-    match absent(orca, a) {
-        Some(refuse) => Some(refuse),
-        None => busy(claims.holder(asker, a)),
     }
 }
 

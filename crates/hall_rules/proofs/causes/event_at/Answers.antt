@@ -2,8 +2,8 @@ use Rattle.std.proofs.Common.{subst}
 use Rattle.std.specs.Prelude.{MatchOption}
 use Rattle.event_rule.specs.Runs.{IsFirst, IsQuiet, Machine}
 use Rattle.machine_rules.specs.State.{State}
-use Rattle.book_hall.proofs.Firsts.{event_is, same_of}
-use Rattle.book_hall.proofs.causes.event_at.Goals as goal
+use Rattle.hall_rules.proofs.Firsts.{event_is, same_of}
+use Rattle.hall_rules.proofs.causes.event_at.Goals as goal
 
 pub returns : goal.returns
 returns c =

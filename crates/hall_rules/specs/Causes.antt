@@ -10,9 +10,9 @@ use Rattle.machine_rules.specs.Next.{next}
 use Rattle.machine_rules.specs.State.{State}
 use Rattle.work_board.specs.declared.answers.Refuse.{Refuse}
 use Rattle.work_board.specs.declared.answers.Refuse.TheVariants as why
-use Rattle.book_hall.specs.declared.claims.Claim.{Claim}
-use Rattle.book_hall.specs.Claims.{holder}
-use Rattle.book_hall.specs.Halls.{HallValue, state_of}
+use Rattle.hall_rules.specs.declared.claim.Claim.{Claim}
+use Rattle.hall_rules.specs.Claims.{holder}
+use Rattle.hall_rules.specs.Halls.{HallValue, state_of}
 
 -- the actor was not made, or is gone
 abbrev pub absent_cause : State → ℕ → Option Refuse

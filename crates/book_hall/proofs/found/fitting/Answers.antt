@@ -2,7 +2,7 @@ use Rattle.std.proofs.Common.{◌≡◌, Some, ap, sym, ◌∙◌}
 use Rattle.event_rule.specs.Events.{actor_of}
 use Rattle.actor_table.specs.Slots.{home_of, slot_at}
 use Rattle.book_hall.proofs.Fitting.{still_found}
-use Rattle.book_hall.proofs.entering.fitting.Goals as goal
+use Rattle.book_hall.proofs.found.fitting.Goals as goal
 
 pub returns-then-same : goal.returns-then-same
 returns-then-same c = λ found is.

@@ -1,28 +1,15 @@
--- What a claim gives, what an entry does, and what a look answers.
-use Rattle.std.specs.Prelude.{ℕ, ◌≡◌, ◌≢◌, ◌==◌, ◌||◌, Bool, true, false, [], ◌∷◌, ◌++◌, length, Some}
+-- What an entry does, and what a look answers.
+use Rattle.std.specs.Prelude.{◌≡◌, ◌≢◌, ◌==◌, ◌||◌, Bool, true, false, [], ◌∷◌, ◌++◌, length}
 use Rattle.event_rule.specs.Runs.{Goes, IsFirst, IsQuiet}
 use Rattle.event_rule.specs.declared.event.Event.{Event}
-use Rattle.actor_cell.specs.Cells.{as_cell}
-use Rattle.machine_rules.specs.Actors.{cell_at}
 use Rattle.machine_rules.specs.Next.{next}
 use Rattle.orca_core.specs.Firsts.{HasFirst, is_free, is_of_detector, next_of_kind}
 use Rattle.orca_core.specs.Woken.{IsLowestWoken}
 use Rattle.work_board.specs.declared.answers.Committed.{Committed}
 use Rattle.work_board.specs.declared.answers.Look.{Look}
 use Rattle.work_board.specs.declared.answers.Look.TheVariants.{Actor, Detector, Others, Rest, Stop}
-use Rattle.book_hall.specs.declared.copy.CellCopy.{CellCopy}
-use Rattle.book_hall.specs.Causes.{event_at}
-use Rattle.book_hall.specs.Claims.{is_claimed}
-use Rattle.book_hall.specs.Halls.{HallValue, state_of}
-
--- this is a copy of the actor's cell, with its first event
-pub record IsCopy (h : HallValue) (a : ℕ) (copy : CellCopy) : Type 0 where
-  pub program : copy.code.now ≡ h.program
-  pub weight : copy.weight ≡ h.weight
-  pub event : event_at (state_of h) a ≡ Some copy.event
-  pub at : copy.at ≡ length h.book
-  pub owner : copy.cell.heap.owner ≡ a
-  pub cell : cell_at (state_of h).actors a ≡ Some (as_cell copy.cell)
+use Rattle.hall_rules.specs.Claims.{is_claimed}
+use Rattle.hall_rules.specs.Halls.{HallValue, state_of}
 
 -- the event became the last entry, and its place and whom it woke were answered
 pub record IsEntered (h : HallValue) (e : Event) (done : Committed) (after : HallValue) : Type 0 where

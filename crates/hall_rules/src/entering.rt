@@ -3,7 +3,6 @@
 ghost use Rattle.std.specs.Prelude.{◌≡◌, ◌+◌, ◌<◌, ◌≤◌, ◌++◌, ◌∷◌, [], false, length, IfErr, IfOk, None, OnErr, OnOk};
 ghost use Rattle.std.specs.Option.{ForSome};
 ghost use Rattle.orca_names.specs.declared.limits.TheConstants.{BOOK_LIMIT};
-ghost use Rattle.orca_names.specs.declared.trace.Trace.TheVariants.{Deep};
 ghost use Rattle.event_rule.specs.Runs.{Goes, Step};
 ghost use Rattle.event_rule.specs.declared.event.Event.{Event};
 ghost use Rattle.machine_rules.specs.State.{State};
@@ -14,34 +13,14 @@ ghost use Rattle.orca_core.specs.Founds.{IsFoundIn};
 ghost use Rattle.orca_core.specs.Machine.{Fits, IsSame, ReapsNoneAway};
 ghost use Rattle.orca_core.specs.Ready.{event_of};
 ghost use Rattle.orca_core.specs.Woken.{IsLowestWoken};
-ghost use Rattle.book_hall.specs.Causes.{IsRefusal, full_cause, unready_cause};
-ghost use Rattle.book_hall.specs.Proposals.{IsOf};
+ghost use Rattle.hall_rules.specs.Causes.{IsRefusal, full_cause, unready_cause};
 
-use crate::causes::actor_of;
-use crate::copy::Proposal;
 use actor_cell::Found;
 use event_rule::Event;
 use orca_core::{Orca, Ready, StepFault};
 use run_book::Book;
 use std::alloc::Global;
 use work_board::{Committed, Refuse};
-
-/// What was found, if it is of the cell that the event's actor has now.
-pub(crate) fn fitting(orca: &Orca<'_>, e: &Event, proposal: Option<Proposal<'_>>) -> Option<Found>
-    requires own { ForSome proposal
-        (IsOf orca.now.state.program orca.now.state.options.weight e.now) }
-    requires deep { orca.now.state.options.trace ≡ Deep }
-    ensures { ForSome result (λ found. IsFoundIn e.now found orca.now) }
-{
-    let proposal = proposal?;
-    let start = &proposal.copy.cell;
-    let cell = orca.cell(actor_of(e)?)?;
-    if cell.same(start) {
-        proposal.found
-    } else {
-        None
-    }
-}
 
 /// As `Orca::prepare`. What was found is not evaluated again.
 fn prepare(

@@ -14,7 +14,7 @@ use Rattle.orca_core.specs.Firsts.{is_of, next_of_kind}
 use Rattle.orca_core.proofs.Enabled.{in_kind, of_kind, with_none_away}
 use Rattle.orca_core.proofs.Firsts.{off}
 use Rattle.orca_core.proofs.Order.{itself, own, own_upto, stand}
-use Rattle.book_hall.specs.Causes.{event_at, is_enabled}
+use Rattle.hall_rules.specs.Causes.{event_at, is_enabled}
 
 -- where no cell is away, the events of a kind lead where they do
 pub same_kind : (kind : Event → Bool) (away : List Bool) → ((a : ℕ) → is_out away a ≡ false)

@@ -4,7 +4,7 @@ use Rattle.std.specs.Option.{option_map_or}
 use Rattle.std.specs.List.{list_any}
 use Rattle.event_rule.specs.Events.{actor_of}
 use Rattle.event_rule.specs.declared.event.Event.{Event}
-use Rattle.book_hall.specs.declared.claims.Claim.{Claim}
+use Rattle.hall_rules.specs.declared.claim.Claim.{Claim}
 
 -- a claim of this pass is another's than the one that asks, if a pass does
 abbrev pub is_anothers : Option ℕ → ℕ → Bool

@@ -1,5 +1,5 @@
 use Rattle.machine_rules.specs.Next.{next}
-use Rattle.book_hall.proofs.entering.reserve.Goals as goal
+use Rattle.hall_rules.proofs.entering.reserve.Goals as goal
 
 pub returns-in-Err-clause-refused : goal.returns-in-Err-clause-refused
 returns-in-Err-clause-refused c =

@@ -1,0 +1,30 @@
+// What was found of a copy, once its event is to become an entry.
+
+ghost use Rattle.std.specs.Prelude.{◌≡◌};
+ghost use Rattle.std.specs.Option.{ForSome};
+ghost use Rattle.orca_names.specs.declared.trace.Trace.TheVariants.{Deep};
+ghost use Rattle.orca_core.specs.Founds.{IsFoundIn};
+ghost use Rattle.book_hall.specs.Proposals.{IsOf};
+
+use crate::copy::Proposal;
+use actor_cell::Found;
+use event_rule::Event;
+use hall_rules::actor_of;
+use orca_core::Orca;
+
+/// What was found, if it is of the cell that the event's actor has now.
+pub(crate) fn fitting(orca: &Orca<'_>, e: &Event, proposal: Option<Proposal<'_>>) -> Option<Found>
+    requires own { ForSome proposal
+        (IsOf orca.now.state.program orca.now.state.options.weight e.now) }
+    requires deep { orca.now.state.options.trace ≡ Deep }
+    ensures { ForSome result (λ found. IsFoundIn e.now found orca.now) }
+{
+    let proposal = proposal?;
+    let start = &proposal.copy.cell;
+    let cell = orca.cell(actor_of(e)?)?;
+    if cell.same(start) {
+        proposal.found
+    } else {
+        None
+    }
+}

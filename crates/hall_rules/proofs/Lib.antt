@@ -1,0 +1,5 @@
+pub mod Finding
+pub mod Firsts
+pub mod Leading
+pub mod Refusing
+pub mod Sending

@@ -1,0 +1,5 @@
+pub mod Answers
+pub mod Causes
+pub mod Claims
+pub mod Facts
+pub mod Halls
