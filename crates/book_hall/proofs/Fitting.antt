@@ -52,17 +52,16 @@ module _ (weight : ℕ) (program : Program) (c d : Cell) (same : IsSame c d) whe
   found_same Nothing is = (frame_same ∙ is.0, dirty_same ∙ is.1)
 
 -- so it may be done in place of evaluating the event again
-pub still_found : (m : Machine) (e : Event) (weight : ℕ) (program : Program) (cell start : Cell) (found : Found)
+pub still_found : (m : Machine) (e : Event) (weight : ℕ) (program : Program) (start : Cell) (found : Found)
     → program ≡ m.state.program → weight ≡ m.state.options.weight → m.state.options.trace ≡ Deep
-    → actor_of e ≡ Some start.heap.owner → Some cell ≡ home_of (slot_at m.kept.table.slots start.heap.owner)
-    → IsSame cell start → IsFound Deep weight program start found → IsFoundIn e found m
-still_found m e weight program cell start found its_program its_weight deep its home same is = λ a acts c at.
+    → actor_of e ≡ Some start.heap.owner
+    → IsSomeAnd (home_of (slot_at m.kept.table.slots start.heap.owner)) (λ c. IsSame c start)
+    → IsFound Deep weight program start found → IsFoundIn e found m
+still_found m e weight program start found its_program its_weight deep its has is = λ a acts c at.
     let a_is : a ≡ start.heap.owner = (let z : Some a ≡ Some start.heap.owner = sym acts ∙ its in cc) in
-    let c_is : Some c ≡ Some cell =
-    sym (ap home_in at) ∙ ap (λ b. home_of (slot_at m.kept.table.slots b)) a_is ∙ sym home in
-    let c_same : c ≡ cell = (let z = c_is in cc) in
-    let here = found_same weight program cell start same found is in
-    subst (λ k. IsFound m.state.options.trace m.state.options.weight m.state.program k found) (sym c_same)
-    (subst (λ t. IsFound t m.state.options.weight m.state.program cell found) (sym deep)
-    (subst (λ w. IsFound Deep w m.state.program cell found) its_weight
-    (subst (λ p. IsFound Deep weight p cell found) its_program here)))
+    let there : home_of (slot_at m.kept.table.slots start.heap.owner) ≡ Some c =
+    sym (ap (λ b. home_of (slot_at m.kept.table.slots b)) a_is) ∙ ap home_in at in
+    let same : IsSame c start = subst (λ o. IsSomeAnd o (λ k. IsSame k start)) there has in
+    subst (λ t. IsFound t m.state.options.weight m.state.program c found) (sym deep)
+    (subst (λ w. IsFound Deep w m.state.program c found) its_weight
+    (subst (λ p. IsFound Deep weight p c found) its_program (found_same weight program c start same found is)))

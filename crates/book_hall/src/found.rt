@@ -9,7 +9,7 @@ ghost use Rattle.book_hall.specs.Proposals.{IsOf};
 use crate::copy::Proposal;
 use actor_cell::Found;
 use event_rule::Event;
-use hall_rules::actor_of;
+use hall_rules::{actor_of, has_cell};
 use orca_core::Orca;
 
 /// What was found, if it is of the cell that the event's actor has now.
@@ -20,9 +20,7 @@ pub(crate) fn fitting(orca: &Orca<'_>, e: &Event, proposal: Option<Proposal<'_>>
     ensures { ForSome result (λ found. IsFoundIn e.now found orca.now) }
 {
     let proposal = proposal?;
-    let start = &proposal.copy.cell;
-    let cell = orca.cell(actor_of(e)?)?;
-    if cell.same(start) {
+    if has_cell(orca, actor_of(e)?, &proposal.copy.cell) {
         proposal.found
     } else {
         None

@@ -3,9 +3,11 @@
 #![tactic(auto)]
 
 mod causes;
+mod cells;
 mod claim;
 mod entering;
 
 pub use causes::{absent, actor_of, busy, event_at, spent, unready};
+pub use cells::has_cell;
 pub use claim::Claim;
 pub use entering::enter;
