@@ -49,17 +49,6 @@ pub(crate) fn is_present(slot: &Slot) -> bool
     }
 }
 
-/// Whether its cell is away.
-pub(crate) fn is_away(slot: &Slot) -> bool
-    ensures { result ≡ is_away slot.now }
-{
-    match &slot.place {
-        Place::Home(_) => false,
-        Place::Away(_) => true,
-        Place::Gone => false,
-    }
-}
-
 /// Its cell, where this is at home.
 pub(crate) fn cell_of(slot: &Slot) -> Option<&Cell>
     ensures { option_copied result ≡ home_of slot.now }

@@ -19,7 +19,7 @@ ghost use Rattle.actor_table.specs.Slots.{actors_of, away_of, can_act, can_settl
 use crate::rounds::Round;
 use crate::slot::{
     Place, Slot, can_act, can_block, can_collect, can_leave, can_settle, can_take, cell_of,
-    is_away, is_present, mail_of, next_event, note_on,
+    is_present, mail_of, next_event, note_on,
 };
 use crate::slots::{
     block_at, clear_at, collect_at, go_at, lift_at, push_at, put_acting, put_back_at, put_bits,
@@ -121,16 +121,6 @@ impl ActorTable {
         match self.slots.get(a.0 as usize) {
             Some(slot) => mail_of(slot),
             None => None,
-        }
-    }
-
-    /// Whether the cell of the actor is away.
-    pub fn is_away(&self, a: ActorName) -> bool
-        ensures { result ≡ is_away (slot_at self.now.slots a) }
-    {
-        match self.slots.get(a.0 as usize) {
-            Some(slot) => is_away(slot),
-            None => false,
         }
     }
 
