@@ -5,6 +5,8 @@
 #[cfg(test)]
 mod both_tests;
 #[cfg(test)]
+mod driving;
+#[cfg(test)]
 mod left_by_roots;
 #[cfg(test)]
 mod plain_tests;

@@ -61,17 +61,6 @@ fn answers(alloc: Global, machine: &mut Plain<'_>, events: &[(bool, u32, bool)])
     true
 }
 
-fn answers_over(alloc: Global, code: &Checked, events: &[(bool, u32, bool)]) -> Result<bool, Fail> {
-    let mut machine = Plain::start(alloc, code)?;
-    Ok(answers(alloc, &mut machine, events))
-}
-
-/// Whether these events of a program were enabled where this is wanted.
-fn answers_of(alloc: Global, text: &str, events: &[(bool, u32, bool)]) -> Result<bool, Fail> {
-    let code = checked(alloc, text)?;
-    answers_over(alloc, &code, events)
-}
-
 /// Does the first enabled events, at most as many as these, and answers how many they were.
 fn run(alloc: Global, machine: &mut Plain<'_>, most: u64) -> Result<u64, Fail> {
     for done in 0..most {
@@ -87,28 +76,43 @@ fn run(alloc: Global, machine: &mut Plain<'_>, most: u64) -> Result<u64, Fail> {
 /// events, actors and objects there were.
 type Seen<'a> = (&'a [Thing], &'a [Value], [u64; 3]);
 
-/// Whether this is seen of a machine after its first events, at most so many.
+/// Whether these events were enabled where this is wanted, and this is seen of the machine after them and its
+/// first events then, at most so many.
 fn is_seen(
     alloc: Global,
     machine: &mut Plain<'_>,
+    events: &[(bool, u32, bool)],
     most: u64,
     want: Seen<'_>,
 ) -> Result<bool, Fail> {
+    let well = answers(alloc, machine, events);
     let done = run(alloc, machine, most)?;
     let things = machine.reach(alloc)?;
     let numbers = [done, machine.made(), machine.objects_made()];
-    Ok(things.as_slice() == want.0 && machine.prints() == want.1 && numbers == want.2)
+    Ok(well && things.as_slice() == want.0 && machine.prints() == want.1 && numbers == want.2)
 }
 
-fn shows_over(alloc: Global, code: &Checked, most: u64, want: Seen<'_>) -> Result<bool, Fail> {
+fn shows_over(
+    alloc: Global,
+    code: &Checked,
+    events: &[(bool, u32, bool)],
+    most: u64,
+    want: Seen<'_>,
+) -> Result<bool, Fail> {
     let mut machine = Plain::start(alloc, code)?;
-    is_seen(alloc, &mut machine, most, want)
+    is_seen(alloc, &mut machine, events, most, want)
 }
 
-/// Whether this is seen of a program after its first events, at most so many.
-fn shows(alloc: Global, text: &str, most: u64, want: Seen<'_>) -> Result<bool, Fail> {
+/// The same, of the machine of a program.
+fn shows(
+    alloc: Global,
+    text: &str,
+    events: &[(bool, u32, bool)],
+    most: u64,
+    want: Seen<'_>,
+) -> Result<bool, Fail> {
     let code = checked(alloc, text)?;
-    shows_over(alloc, &code, most, want)
+    shows_over(alloc, &code, events, most, want)
 }
 
 // Events of the program that prints, some of them before or after their time: whether an actor goes,
@@ -127,7 +131,8 @@ const EVENTS: &[(bool, u32, bool)] = &[
 
 #[test]
 fn events_that_are_not_enabled_change_nothing(rt: HostRuntime) -> Result<(), Fail> {
-    assert!(rt; answers_of(rt.alloc(), SEVEN, EVENTS)?);
+    let seven = [Value::Num(7)];
+    assert!(rt; shows(rt.alloc(), SEVEN, EVENTS, 0, (&[], &seven, [0, 1, 0]))?);
     Ok(())
 }
 
@@ -139,7 +144,7 @@ fn letters_hold_what_they_bring(rt: HostRuntime) -> Result<(), Fail> {
         Thing::Obj(first_object()),
         Thing::Actor(CELL),
     ];
-    assert!(rt; shows(rt.alloc(), TWO_LETTERS, 5, (&held, &[], [5, 2, 2]))?);
+    assert!(rt; shows(rt.alloc(), TWO_LETTERS, &[], 5, (&held, &[], [5, 2, 2]))?);
     Ok(())
 }
 
@@ -151,7 +156,7 @@ fn letters_come_in_their_order(rt: HostRuntime) -> Result<(), Fail> {
         Value::Num(4),
         Value::Actor(CELL),
     ];
-    assert!(rt; shows(rt.alloc(), TWO_LETTERS, 99, (&[], &prints, [13, 2, 2]))?);
+    assert!(rt; shows(rt.alloc(), TWO_LETTERS, &[], 99, (&[], &prints, [13, 2, 2]))?);
     Ok(())
 }
 

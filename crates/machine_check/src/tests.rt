@@ -1,7 +1,9 @@
 // The machine that collects, driven event by event over checked texts.
 
+ghost use Rattle.machine_check.specs.Driven.{IsDriven};
 ghost use Rattle.orca_core.specs.Machine.{NoneIsAway};
 
+use crate::driving::{Drive, WEIGHT, does};
 use crate::plain_tests::checked;
 use crate::programs::{OPENED, PING, SEVEN};
 use behaviour_check::Checked;
@@ -42,9 +44,12 @@ enum Want {
 
 use Want::{Done, Refused, Wakes, WakesNone};
 
+/// Events by their kinds and numbers, with what is expected of each.
+type Events = &'static [(u8, u32, Want)];
+
 // A run of the program that pokes. Each peer reports; one acknowledges the first token, and the letter
 // that waits for the other cancels it. Neither may leave then. The second token takes both.
-const TO_THE_REAP: &[(u8, u32, Want)] = &[
+const TO_THE_REAP: Events = &[
     (TAKE, 0, WakesNone),
     (GO, 0, Wakes(1)),
     (GO, 0, Wakes(2)),
@@ -92,14 +97,10 @@ const TO_THE_REAP: &[(u8, u32, Want)] = &[
 ];
 
 // After that the first actor leaves, and nothing can happen.
-const BY_LEAVING: &[(u8, u32, Want)] = &[
-    (LEAVE, 0, Done),
-    (LEAVE, 0, Refused),
-    (BLOCK, 0, Refused),
-];
+const BY_LEAVING: Events = &[(LEAVE, 0, Done), (LEAVE, 0, Refused), (BLOCK, 0, Refused)];
 
 // Or it goes by a token of its own.
-const BY_A_TOKEN: &[(u8, u32, Want)] = &[
+const BY_A_TOKEN: Events = &[
     (BLOCK, 0, Done),
     (HEAR, 0, Done),
     (SCAN, 0, Done),
@@ -110,7 +111,7 @@ const BY_A_TOKEN: &[(u8, u32, Want)] = &[
 
 // Before its first letter is taken, the program that prints can do nothing else; and it can't take that
 // twice.
-const FIRST: &[(u8, u32, Want)] = &[
+const FIRST: Events = &[
     (GO, 0, Refused),
     (COLLECT, 0, Refused),
     (LEAVE, 0, Refused),
@@ -124,7 +125,7 @@ const FIRST: &[(u8, u32, Want)] = &[
 ];
 
 // With root-only tracing what a row gives is minted first.
-const MINTED: &[(u8, u32, Want)] = &[
+const MINTED: Events = &[
     (TAKE, 0, Done),
     (GO, 0, Done),
     (GO, 0, Done),
@@ -149,23 +150,18 @@ fn event(kind: u8, number: u32) -> Event {
     }
 }
 
-/// Does this event, if the machine is young enough, and tells the lowest actor that it woke.
-fn does(alloc: Global, machine: &mut Orca<'_>, event: Event) -> Result<Option<ActorName>, StepFault>
-    requires { NoneIsAway machine.old }
-    ensures { NoneIsAway machine.new }
-{
-    if machine.steps() > 1000 {
-        return Err(StepFault::NoMemory);
-    }
-    machine.step(alloc, event)
-}
-
 /// Whether an event has the answer that is expected.
-fn answers_so(alloc: Global, machine: &mut Orca<'_>, kind: u8, number: u32, want: Want) -> bool
-    requires { NoneIsAway machine.old }
-    ensures { NoneIsAway machine.new }
+fn answers_so(
+    alloc: Global,
+    drive: &Drive<'_>,
+    machine: &mut Orca<'_>,
+    event: Event,
+    want: Want,
+) -> bool
+    requires { IsDriven drive.now.code.now drive.now.trace machine.old }
+    ensures { IsDriven drive.now.code.now drive.now.trace machine.new }
 {
-    let told = does(alloc, machine, event(kind, number));
+    let told = does(alloc, drive, machine, event);
     match want {
         Refused => told == Err(StepFault::NotEnabled),
         Done => told.is_ok(),
@@ -174,25 +170,79 @@ fn answers_so(alloc: Global, machine: &mut Orca<'_>, kind: u8, number: u32, want
     }
 }
 
-/// Does these events, each of which is to have the answer that is expected.
-fn run(alloc: Global, machine: &mut Orca<'_>, events: &[(u8, u32, Want)]) -> Result<(), Fail>
-    requires { NoneIsAway machine.old }
-    ensures { NoneIsAway machine.new }
+/// Whether these events, one after another, have the answers that are expected.
+fn does_all(alloc: Global, drive: &Drive<'_>, machine: &mut Orca<'_>, events: Events) -> bool
+    requires { IsDriven drive.now.code.now drive.now.trace machine.old }
+    ensures { IsDriven drive.now.code.now drive.now.trace machine.new }
 {
     for (kind, number, want) in events {
-        if !answers_so(alloc, machine, *kind, *number, *want) {
-            return Err(Fail::from("another answer"));
+        if !answers_so(alloc, drive, machine, event(*kind, *number), *want) {
+            return false;
         }
     }
-    Ok(())
+    true
 }
 
-/// What is expected of a machine after its events: what it printed, how many actors, objects and events
-/// there were and how many things are left, and whether it is quiet.
-type Seen<'a> = (&'a [Value], [u64; 4], bool);
+/// A program, with events and then further ones, and what is expected of the machine after them.
+#[derive(Drop)]
+struct Run {
+    text: &'static str,
+    trace: Trace,
+    events: Events,
+    further: Events,
+    /// The one number that it printed, if any.
+    prints: Option<u64>,
+    /// How many actors, objects and events there were, and how many things are left.
+    numbers: [u64; 4],
+    quiet: bool,
+}
 
-/// Whether this is seen of a machine.
-fn is_seen(alloc: Global, machine: &Orca<'_>, want: Seen<'_>) -> Result<bool, Fail>
+const LEFT: Run = Run {
+    text: PING,
+    trace: Trace::Deep,
+    events: TO_THE_REAP,
+    further: BY_LEAVING,
+    prints: Some(1),
+    numbers: [3, 0, 41, 0],
+    quiet: true,
+};
+
+const REAPED: Run = Run {
+    further: BY_A_TOKEN,
+    numbers: [3, 0, 46, 0],
+    ..LEFT
+};
+
+const NOT_ENABLED: Run = Run {
+    text: SEVEN,
+    trace: Trace::Deep,
+    events: FIRST,
+    further: &[],
+    prints: None,
+    numbers: [1, 0, 1, 1],
+    quiet: false,
+};
+
+const GOT: Run = Run {
+    text: OPENED,
+    trace: Trace::Roots,
+    events: MINTED,
+    further: &[],
+    prints: Some(4),
+    numbers: [2, 2, 8, 4],
+    quiet: false,
+};
+
+/// Whether this number alone was printed, or nothing.
+fn is_all(prints: &[Value], number: Option<u64>) -> bool {
+    match number {
+        Some(number) => prints == [Value::Num(number)].as_slice(),
+        None => prints.is_empty(),
+    }
+}
+
+/// Whether a machine is as it should be after a run.
+fn is_seen(alloc: Global, machine: &Orca<'_>, run: &Run) -> Result<bool, Fail>
     requires { NoneIsAway machine.now }
 {
     let left = machine.left(alloc)?.len() as u64;
@@ -202,75 +252,17 @@ fn is_seen(alloc: Global, machine: &Orca<'_>, want: Seen<'_>) -> Result<bool, Fa
         machine.steps(),
         left,
     ];
-    Ok(machine.prints() == want.0 && numbers == want.1 && machine.quiet() == want.2)
+    let printed = is_all(machine.prints(), run.prints);
+    Ok(printed && numbers == run.numbers && machine.quiet() == run.quiet)
 }
 
-/// Whether this is seen of a machine after these events and then those.
-fn is_seen_after(
-    alloc: Global,
-    machine: &mut Orca<'_>,
-    events: &[(u8, u32, Want)],
-    further: &[(u8, u32, Want)],
-    want: Seen<'_>,
-) -> Result<bool, Fail>
-    requires { NoneIsAway machine.old }
+/// Whether the machine does the events of a run as they should be done, and then is as it should be.
+fn shows(alloc: Global, drive: &Drive<'_>, machine: &mut Orca<'_>, run: &Run) -> Result<bool, Fail>
+    requires { IsDriven drive.now.code.now drive.now.trace machine.old }
 {
-    run(alloc, machine, events)?;
-    run(alloc, machine, further)?;
-    is_seen(alloc, machine, want)
-}
-
-fn shows_over(
-    alloc: Global,
-    code: &Checked,
-    trace: Trace,
-    events: &[(u8, u32, Want)],
-    further: &[(u8, u32, Want)],
-    want: Seen<'_>,
-) -> Result<bool, Fail> {
-    let mut machine = Orca::start(alloc, code, 256, trace)?;
-    is_seen_after(alloc, &mut machine, events, further, want)
-}
-
-/// Whether this is seen of a program after these events and then those.
-fn shows(
-    alloc: Global,
-    text: &str,
-    trace: Trace,
-    events: &[(u8, u32, Want)],
-    further: &[(u8, u32, Want)],
-    want: Seen<'_>,
-) -> Result<bool, Fail> {
-    let code = checked(alloc, text)?;
-    shows_over(alloc, &code, trace, events, further, want)
-}
-
-#[test]
-fn two_peers_are_reaped_and_their_maker_goes(rt: HostRuntime) -> Result<(), Fail> {
-    let one = [Value::Num(1)];
-    for (further, steps) in [(BY_LEAVING, 41), (BY_A_TOKEN, 46)] {
-        let want: Seen<'_> = (&one, [3, 0, steps, 0], true);
-        assert!(rt;
-            shows(rt.alloc(), PING, Trace::Deep, TO_THE_REAP, further, want)?,
-            "by {steps}"
-        );
-    }
-    Ok(())
-}
-
-#[test]
-fn events_that_are_not_enabled_change_nothing(rt: HostRuntime) -> Result<(), Fail> {
-    let want: Seen<'_> = (&[], [1, 0, 1, 1], false);
-    assert!(rt; shows(rt.alloc(), SEVEN, Trace::Deep, FIRST, &[], want)?);
-    Ok(())
-}
-
-#[test]
-fn what_a_row_gives_is_minted_first(rt: HostRuntime) -> Result<(), Fail> {
-    let four = [Value::Num(4)];
-    let want: Seen<'_> = (&four, [2, 2, 8, 4], false);
-    assert!(rt; shows(rt.alloc(), OPENED, Trace::Roots, MINTED, &[], want)?);
-    Ok(())
+    let well = does_all(alloc, drive, machine, run.events)
+        && does_all(alloc, drive, machine, run.further);
+    Ok(well && is_seen(alloc, machine, run)?)
 }
 
 /// Whether an actor has its event, none while its cell is lent, and is there all the time.
@@ -279,23 +271,6 @@ fn lends(machine: &mut Orca<'_>, a: ActorName, e: &Event) -> bool {
     let lent = machine.lift(a).is_some();
     let none = !machine.enabled(*e) && machine.next_of(a).is_none() && machine.cell(a).is_none();
     before && lent && none && machine.lives(a)
-}
-
-fn lends_the_first_of(alloc: Global, code: &Checked) -> Result<bool, Fail> {
-    let mut machine = Orca::start(alloc, code, 256, Trace::Deep)?;
-    Ok(lends(&mut machine, ActorName(0), &event(TAKE, 0)))
-}
-
-/// Whether the first actor of a program is lent so, before its first letter is taken.
-fn lends_the_first(alloc: Global, text: &str) -> Result<bool, Fail> {
-    let code = checked(alloc, text)?;
-    lends_the_first_of(alloc, &code)
-}
-
-#[test]
-fn a_lent_cell_has_no_event(rt: HostRuntime) -> Result<(), Fail> {
-    assert!(rt; lends_the_first(rt.alloc(), SEVEN)?);
-    Ok(())
 }
 
 /// Whether an event is done as it was prepared, and not before.
@@ -312,19 +287,94 @@ fn does_prepared(alloc: Global, machine: &mut Orca<'_>, e: Event) -> Result<bool
     Ok(waits && machine.steps() == steps + 1 && !machine.enabled(e))
 }
 
-fn takes_prepared_over(alloc: Global, code: &Checked) -> Result<bool, Fail> {
-    let mut machine = Orca::start(alloc, code, 256, Trace::Deep)?;
-    does_prepared(alloc, &mut machine, event(TAKE, 0))
+/// What is looked at: a run, that a cell is lent, or that an event is done as it was
+/// prepared.
+#[derive(Clone, Copy)]
+enum Look<'a> {
+    Run(&'a Run),
+    Lent,
+    Prepared,
 }
 
-/// Whether the first letter of a program is taken as it was prepared, and not before.
-fn takes_prepared(alloc: Global, text: &str) -> Result<bool, Fail> {
+/// Whether it is so with a machine that did nothing yet.
+fn holds(
+    alloc: Global,
+    drive: &Drive<'_>,
+    machine: &mut Orca<'_>,
+    look: Look<'_>,
+) -> Result<bool, Fail>
+    requires { IsDriven drive.now.code.now drive.now.trace machine.old }
+{
+    match look {
+        Look::Run(run) => shows(alloc, drive, machine, run),
+        Look::Lent => Ok(lends(machine, ActorName(0), &event(TAKE, 0))),
+        Look::Prepared => does_prepared(alloc, machine, event(TAKE, 0)),
+    }
+}
+
+fn holds_at_start(alloc: Global, drive: &Drive<'_>, look: Look<'_>) -> Result<bool, Fail> {
+    let mut machine = Orca::start(alloc, drive.code, WEIGHT, drive.trace)?;
+    holds(alloc, drive, &mut machine, look)
+}
+
+/// Whether it is so with the machine of a program; what turns and collections do may be found on the actor's
+/// cell before.
+fn holds_of(
+    alloc: Global,
+    text: &str,
+    trace: Trace,
+    finds: bool,
+    look: Look<'_>,
+) -> Result<bool, Fail> {
     let code = checked(alloc, text)?;
-    takes_prepared_over(alloc, &code)
+    let drive = Drive {
+        code: &code,
+        trace,
+        finds,
+    };
+    holds_at_start(alloc, &drive, look)
+}
+
+/// Whether a run goes as it should; what turns and collections do may be found before.
+fn goes(alloc: Global, run: &Run, finds: bool) -> Result<bool, Fail> {
+    holds_of(alloc, run.text, run.trace, finds, Look::Run(run))
+}
+
+#[test]
+fn two_peers_are_reaped_and_their_maker_goes(rt: HostRuntime) -> Result<(), Fail> {
+    assert!(rt; goes(rt.alloc(), &LEFT, false)?);
+    assert!(rt; goes(rt.alloc(), &REAPED, false)?);
+    Ok(())
+}
+
+#[test]
+fn events_that_are_not_enabled_change_nothing(rt: HostRuntime) -> Result<(), Fail> {
+    assert!(rt; goes(rt.alloc(), &NOT_ENABLED, false)?);
+    Ok(())
+}
+
+#[test]
+fn what_a_row_gives_is_minted_first(rt: HostRuntime) -> Result<(), Fail> {
+    assert!(rt; goes(rt.alloc(), &GOT, false)?);
+    Ok(())
+}
+
+#[test]
+fn what_was_found_is_done_as_a_step_does_it(rt: HostRuntime) -> Result<(), Fail> {
+    for run in [&LEFT, &REAPED, &NOT_ENABLED, &GOT] {
+        assert!(rt; goes(rt.alloc(), run, true)?, "over {}", run.text);
+    }
+    Ok(())
+}
+
+#[test]
+fn a_lent_cell_has_no_event(rt: HostRuntime) -> Result<(), Fail> {
+    assert!(rt; holds_of(rt.alloc(), SEVEN, Trace::Deep, false, Look::Lent)?);
+    Ok(())
 }
 
 #[test]
 fn what_was_prepared_is_done(rt: HostRuntime) -> Result<(), Fail> {
-    assert!(rt; takes_prepared(rt.alloc(), SEVEN)?);
+    assert!(rt; holds_of(rt.alloc(), SEVEN, Trace::Deep, false, Look::Prepared)?);
     Ok(())
 }
