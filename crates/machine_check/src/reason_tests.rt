@@ -4,8 +4,8 @@ ghost use Rattle.std.specs.Prelude.{◌≡◌, ◌<◌, ◌≤◌, length};
 ghost use Rattle.orca_names.specs.declared.limits.TheConstants.{BOOK_LIMIT};
 ghost use Rattle.orca_core.specs.Machine.{NoneIsAway};
 
-use behaviour_check::{Checked, check};
-use behaviour_text::parse;
+use crate::plain_tests::checked;
+use behaviour_check::Checked;
 use book_audit::{Verdict, audit};
 use orca_core::Orca;
 use orca_names::{ActorName, Edge, NoMemory, Reason, Thing, Why};
@@ -133,11 +133,8 @@ fn hold_after(alloc: Global, code: &Checked, book: &Book) -> Result<bool, NoMemo
 }
 
 fn hold_after_text(alloc: Global, program: &str, book: &str) -> Result<bool, Fail> {
-    if program.len() > 4096 {
-        return Err(Fail::from("a long text"));
-    }
-    let code = check(parse(alloc, program.as_bytes())?)?;
     let book = read_text(alloc, book.as_bytes())?;
+    let code = checked(alloc, program)?;
     Ok(hold_after(alloc, &code, &book)?)
 }
 
