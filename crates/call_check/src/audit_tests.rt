@@ -1,9 +1,9 @@
 // Books that are audited: those of runs, and such as are no run, or no book.
 
-use crate::calling::{answer, gives};
+use crate::calling::{gives, tell};
 use crate::programs::{PASSED, PEERS, PING, SEVEN, TWO_PRINT};
 use orca_names::NoMemory;
-use pony_run::{Outcome, Status};
+use pony_run::Status;
 use std::sync::Wait;
 use std::test::Fail;
 use std::thread::Threads;
@@ -125,35 +125,17 @@ fn audits_answer_what_they_should(rt: HostRuntime) -> Result<(), Fail> {
     Ok(())
 }
 
-/// Whether the audit of this input says that it is a run, of so many entries.
-fn is_run<R: AllocGlobal + Threads + Wait + Sync>(
-    rt: &R,
-    input: &str,
-    entries: u64,
-) -> Result<bool, NoMemory> {
-    let audit = answer(rt, &["audit"], input)?;
-    Ok(audit.status == Status::Audited && audit.book.len() == entries)
-}
-
-/// Whether the audit of a run's book says that it is a run of the program, of as many entries.
-fn is_run_of<R: AllocGlobal + Threads + Wait + Sync>(
-    rt: &R,
-    program: &str,
-    run: &Outcome,
-) -> Result<bool, NoMemory> {
-    let book = &run.book;
-    let input = format!(in rt.alloc(); "{program}{book}")?;
-    is_run(rt, &input, book.len())
-}
-
 /// Whether the book of a run by these words is audited, with as many entries.
 fn is_audited<R: AllocGlobal + Threads + Wait + Sync>(
     rt: &R,
     words: &[&str],
     program: &str,
 ) -> Result<bool, NoMemory> {
-    let run = answer(rt, words, program)?;
-    is_run_of(rt, program, &run)
+    let run = tell(rt, words, program.as_bytes())?;
+    let mut input = program.as_bytes().to_vec(rt.alloc())?;
+    input.extend_from_slice(&run.book)?;
+    let audit = tell(rt, &["audit"], &input)?;
+    Ok(audit.status == Status::Audited && audit.entries == run.entries)
 }
 
 // How many workers made the run.

@@ -44,49 +44,48 @@ pub(crate) fn sink(alloc: Global, device: Device) -> Result<MemSink, NoMemory> {
     MemSink::new(alloc, 4096, device.piece.max(1), fails(alloc, device)?)
 }
 
-/// What a call answers over a source of these bytes.
-fn call<R: AllocGlobal + Threads + Wait + Sync, G: Gate + Sync>(
+/// What is told of a call: how it ended, and its book by its length and its text.
+#[derive(Drop)]
+pub(crate) struct Told {
+    pub(crate) status: Status,
+    pub(crate) entries: u64,
+    pub(crate) book: Vec<u8>,
+}
+
+/// What is told of what a call answers.
+pub(crate) fn told_of(alloc: Global, outcome: &Outcome) -> Result<Told, NoMemory> {
+    Ok(Told {
+        status: outcome.status,
+        entries: outcome.book.len(),
+        book: outcome.book.text(alloc)?,
+    })
+}
+
+/// What is told of a call over a source of these bytes.
+pub(crate) fn tell_by<R: AllocGlobal + Threads + Wait + Sync, G: Gate + Sync>(
     rt: &R,
     words: &[&str],
     input: &[u8],
     reads: Device,
     sink: &mut MemSink,
     gate: &G,
-) -> Result<Outcome, NoMemory> {
+) -> Result<Told, NoMemory> {
     let mut source = source(rt.alloc(), input, reads)?;
-    Ok(run_words(rt, words, &mut source, sink, gate))
+    let outcome = run_words(rt, words, &mut source, sink, gate);
+    told_of(rt.alloc(), &outcome)
 }
 
-/// What is told of a call: how it ended, and how many entries its book has.
-#[derive(Clone, Copy, Debug, PartialEq, Eq)]
-pub(crate) struct Told {
-    pub(crate) status: Status,
-    pub(crate) entries: u64,
-}
-
-/// What is told of a call, whose book ends here.
-fn told_of(outcome: Outcome) -> Told {
-    Told {
-        status: outcome.status,
-        entries: outcome.book.len(),
-    }
-}
-
-/// What is told of a call over such devices, the source first, where it writes this.
-pub(crate) fn tell<R: AllocGlobal + Threads + Wait + Sync, G: Gate + Sync>(
+/// What is told of a call.
+pub(crate) fn tell<R: AllocGlobal + Threads + Wait + Sync>(
     rt: &R,
     words: &[&str],
     input: &[u8],
-    devices: (Device, Device),
-    gate: &G,
-    written: &[u8],
-) -> Result<Option<Told>, NoMemory> {
-    let mut sink = sink(rt.alloc(), devices.1)?;
-    let told = told_of(call(rt, words, input, devices.0, &mut sink, gate)?);
-    Ok((sink.bytes() == written).then_some(told))
+) -> Result<Told, NoMemory> {
+    let mut sink = sink(rt.alloc(), SURE)?;
+    tell_by(rt, words, input, SURE, &mut sink, &OpenGate)
 }
 
-/// Whether a call over such devices ends with this code, and writes this.
+/// Whether a call over such devices, the source first, ends with this code, and writes this.
 pub(crate) fn gives_by<R: AllocGlobal + Threads + Wait + Sync, G: Gate + Sync>(
     rt: &R,
     words: &[&str],
@@ -96,10 +95,9 @@ pub(crate) fn gives_by<R: AllocGlobal + Threads + Wait + Sync, G: Gate + Sync>(
     code: u8,
     written: &[u8],
 ) -> Result<bool, NoMemory> {
-    match tell(rt, words, input, devices, gate, written)? {
-        Some(told) => Ok(told.status.code() == code),
-        None => Ok(false),
-    }
+    let mut sink = sink(rt.alloc(), devices.1)?;
+    let told = tell_by(rt, words, input, devices.0, &mut sink, gate)?;
+    Ok(told.status.code() == code && sink.bytes() == written)
 }
 
 /// Whether a call ends with this code, and writes this.
@@ -121,12 +119,18 @@ pub(crate) fn gives<R: AllocGlobal + Threads + Wait + Sync>(
     )
 }
 
-/// What a call answers.
-pub(crate) fn answer<R: AllocGlobal + Threads + Wait + Sync>(
+/// Words, input, exit code and what is written.
+pub(crate) type Case = (&'static [&'static str], &'static str, u8, &'static str);
+
+/// The first case that is not as it should be.
+pub(crate) fn first_wrong<R: AllocGlobal + Threads + Wait + Sync>(
     rt: &R,
-    words: &[&str],
-    input: &str,
-) -> Result<Outcome, NoMemory> {
-    let mut sink = sink(rt.alloc(), SURE)?;
-    call(rt, words, input.as_bytes(), SURE, &mut sink, &OpenGate)
+    cases: &[Case],
+) -> Result<Option<usize>, NoMemory> {
+    for (i, (words, input, code, written)) in cases.iter().enumerate() {
+        if !gives(rt, *words, *input, *code, *written)? {
+            return Ok(Some(i));
+        }
+    }
+    Ok(None)
 }

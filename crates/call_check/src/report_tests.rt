@@ -1,20 +1,18 @@
 // Programs and their reports, by the words that the call is given.
 
-use crate::calling::{SURE, Told, answer, gives, tell};
+use crate::calling::{Case, SURE, Told, first_wrong, sink, tell, tell_by};
 use crate::programs::{
     ALL_LEAVES, CHAIN, DROPPED, KEPT, NAMED, ONE_LEAF_MORE, OPENED, PASSED, PEERS, PING, PINNED,
     REACHED_TWICE, SENT_TWICE, SEVEN, TO_ITSELF, UNHEARD,
 };
 use orca_names::{ActorName, NoMemory};
 use outside_world::OpenGate;
-use pony_run::{Outcome, Status};
-use std::alloc::Global;
+use pony_run::Status;
 use std::sync::Wait;
 use std::test::Fail;
 use std::thread::Threads;
 
-// Words, input, exit code and what is written.
-const REPORTS: &[(&[&str], &str, u8, &str)] = &[
+const REPORTS: &[Case] = &[
     (
         &["run", "--workers", "1", "--book"],
         SEVEN,
@@ -41,6 +39,12 @@ const REPORTS: &[(&[&str], &str, u8, &str)] = &[
     ),
     (
         &["run", "--workers", "1"],
+        PASSED,
+        0,
+        "9\n--\nend quiet\nactors made 3 left 1\nobjects made 1 left 0\n",
+    ),
+    (
+        &["run", "--workers", "1", "--weight", "2"],
         PASSED,
         0,
         "9\n--\nend quiet\nactors made 3 left 1\nobjects made 1 left 0\n",
@@ -287,14 +291,20 @@ const REPORTS: &[(&[&str], &str, u8, &str)] = &[
 
 #[test]
 fn runs_have_their_reports(rt: HostRuntime) -> Result<(), Fail> {
-    for (i, (words, input, code, written)) in REPORTS.iter().enumerate() {
-        assert!(rt; gives(&rt, *words, *input, *code, *written)?, "at {i}");
-    }
+    assert_eq!(rt; first_wrong(&rt, REPORTS)?, None);
     Ok(())
 }
 
 // Words, input, how many entries the run book has, and how its text begins and ends.
-const BOOKS: &[(&[&str], &str, u64, &str, &str)] = &[
+type Entered = (
+    &'static [&'static str],
+    &'static str,
+    u64,
+    &'static str,
+    &'static str,
+);
+
+const BOOKS: &[Entered] = &[
     (
         &["run", "--workers=1"],
         PASSED,
@@ -360,39 +370,22 @@ const BOOKS: &[(&[&str], &str, u64, &str, &str)] = &[
     ),
 ];
 
-/// Whether the book of a call has so many entries, and its text begins and ends so.
-fn is_book(
-    alloc: Global,
-    outcome: &Outcome,
-    length: u64,
-    begins: &str,
-    ends: &str,
-) -> Result<bool, NoMemory> {
-    let text = outcome.book.text(alloc)?;
-    let is_long = outcome.book.len() == length;
-    Ok(is_long && text.starts_with(begins.as_bytes()) && text.ends_with(ends.as_bytes()))
-}
-
 /// Whether a call has a book of so many entries, whose text begins and ends so.
 fn has_book<R: AllocGlobal + Threads + Wait + Sync>(
     rt: &R,
-    words: &[&str],
-    input: &str,
-    length: u64,
-    begins: &str,
-    ends: &str,
+    case: &Entered,
 ) -> Result<bool, NoMemory> {
-    let outcome = answer(rt, words, input)?;
-    is_book(rt.alloc(), &outcome, length, begins, ends)
+    let (words, input, length, begins, ends) = *case;
+    let told = tell(rt, words, input.as_bytes())?;
+    let book = told.book.as_slice();
+    let is_long = told.entries == length;
+    Ok(is_long && book.starts_with(begins.as_bytes()) && book.ends_with(ends.as_bytes()))
 }
 
 #[test]
 fn runs_have_their_books(rt: HostRuntime) -> Result<(), Fail> {
-    for (i, (words, input, length, begins, ends)) in BOOKS.iter().enumerate() {
-        assert!(rt;
-            has_book(&rt, *words, *input, *length, *begins, *ends)?,
-            "at {i}"
-        );
+    for (i, case) in BOOKS.iter().enumerate() {
+        assert!(rt; has_book(&rt, case)?, "at {i}");
     }
     Ok(())
 }
@@ -402,31 +395,21 @@ fn ends_so<R: AllocGlobal + Threads + Wait + Sync>(
     rt: &R,
     input: &str,
     budget: &str,
-    end: Told,
+    end: (Status, u64),
     written: &str,
 ) -> Result<bool, NoMemory> {
     let words = ["run", "--workers", "1", "--budget", budget];
-    let devices = (SURE, SURE);
-    let found = tell(
-        rt,
-        &words,
-        input.as_bytes(),
-        devices,
-        &OpenGate,
-        written.as_bytes(),
-    )?;
-    Ok(found == Some(end))
+    let mut sink = sink(rt.alloc(), SURE)?;
+    let told = tell_by(rt, &words, input.as_bytes(), SURE, &mut sink, &OpenGate)?;
+    let is_long = told.entries == end.1;
+    Ok(told.status == end.0 && is_long && sink.bytes() == written.as_bytes())
 }
 
 #[test]
 fn a_run_ends_where_all_actors_are_made(rt: HostRuntime) -> Result<(), Fail> {
     let report = "--\nend actors\nactors made 65536 left 65536\nobjects made 0 left 0\n";
-    let end = Told {
-        status: Status::ActorsFull {
-            actor: ActorName(0),
-        },
-        entries: 262_144,
-    };
+    let actor = ActorName(0);
+    let end = (Status::ActorsFull { actor }, 262_144);
     assert!(rt; ends_so(&rt, ONE_LEAF_MORE, "1000000", end, report)?);
     Ok(())
 }
@@ -434,10 +417,7 @@ fn a_run_ends_where_all_actors_are_made(rt: HostRuntime) -> Result<(), Fail> {
 #[test]
 fn a_run_ends_by_its_budget(rt: HostRuntime) -> Result<(), Fail> {
     let report = "--\nend budget\nactors made 65536 left 65536\nobjects made 0 left 0\n";
-    let end = Told {
-        status: Status::Budget,
-        entries: 262_145,
-    };
+    let end = (Status::Budget, 262_145);
     assert!(rt; ends_so(&rt, ALL_LEAVES, "262145", end, report)?);
     Ok(())
 }

@@ -1,11 +1,11 @@
 // The whole call from outside of the contracts: inputs and their refusals, and devices that fail at each
 // call in turn.
 
-use crate::calling::{Device, SURE, gives, gives_by, sink, source};
+use crate::calling::{Case, Device, SURE, first_wrong, gives_by, sink, source, told_of};
 use crate::programs::{MOST, SEVEN, SEVEN_REPORT, VALUES, WRAPS};
 use orca_names::{NoMemory, Trace};
 use outside_world::OpenGate;
-use pony_run::{Job, Order, Outcome, run_single};
+use pony_run::{Job, Order, run_single};
 use std::alloc::Global;
 use std::sync::Wait;
 use std::test::Fail;
@@ -20,18 +20,27 @@ const WRAPS_REPORT: &str =
 const VALUES_REPORT: &str =
     "actor 0\nobject 0.0\nactor 0\nnull\n0\n--\nend quiet\nactors made 1 left 0\nobjects made 1 left 0\n";
 
-const SEVEN_WITH_RETURNS: &str = "kind Main 0\r\non start 0\r\nint r0 7\r\nprint r0\r\nend";
+const SEVEN_WITH_RETURNS: &str = "kind Main 0\r\non start 0\r\nint r0 7\r\nprint r0\r\nend\r\n";
+
+const CUT_WITH_RETURNS: &str = "kind Main 0\r\non start 0\r\nint r0 7\r\nprint r0\r\nend";
 
 const ZERO_SEVEN: &str = "kind Main 0\non start 0\nint r0 07\nend\n";
 
-const ONE_PAST: &str = "kind Main 0\non start 0\nint r0 18446744073709551616\nend\n";
+// The program whose sum is past the largest number, with another third line.
+const ONE_PAST: &str =
+    "kind Main 0\non start 0\nint r0 18446744073709551616\nprint r0\nint r1 1\nadd r0 r0 r1\nprint r0\nend\n";
+
+const ZERO_ONE: &str =
+    "kind Main 0\non start 0\nint r01 0\nprint r0\nint r1 1\nadd r0 r0 r1\nprint r0\nend\n";
+
+const SIXTEEN: &str =
+    "kind Main 0\non start 0\nint r16 0\nprint r0\nint r1 1\nadd r0 r0 r1\nprint r0\nend\n";
 
 const BACKWARDS: &str = "kind Main 0\non start 0\nlabel a\njump a\nend\n";
 
 const NO_REGISTER: &str = "kind Main 0\non start 0\nprint r16\nend";
 
-// Words, input, exit code and what is written.
-const CALLS: &[(&[&str], &str, u8, &str)] = &[
+const CALLS: &[Case] = &[
     (&[], SEVEN, 0, SEVEN_REPORT),
     (&["run"], SEVEN, 0, SEVEN_REPORT),
     (&["walk"], SEVEN, 2, "refused words\n"),
@@ -43,30 +52,72 @@ const CALLS: &[(&[&str], &str, u8, &str)] = &[
     (&["run", "--weight", "1"], SEVEN, 2, "refused words\n"),
     (&["run", "--weight", "65537"], SEVEN, 2, "refused words\n"),
     (&["run", "--trace", "none"], SEVEN, 2, "refused words\n"),
-    (&[], SEVEN_WITH_RETURNS, 0, SEVEN_REPORT),
-    (&[], MOST, 0, MOST_REPORT),
-    (&[], WRAPS, 0, WRAPS_REPORT),
-    (&[], VALUES, 0, VALUES_REPORT),
-    (&[], ZERO_SEVEN, 3, "refused text line 3 kind 5\n"),
-    (&[], ONE_PAST, 3, "refused text line 3 kind 5\n"),
+];
+
+// Input, exit code and what is written.
+const INPUTS: &[(&str, u8, &str)] = &[
+    (SEVEN, 0, SEVEN_REPORT),
+    (SEVEN_WITH_RETURNS, 0, SEVEN_REPORT),
+    (CUT_WITH_RETURNS, 0, SEVEN_REPORT),
+    (MOST, 0, MOST_REPORT),
+    (WRAPS, 0, WRAPS_REPORT),
+    (VALUES, 0, VALUES_REPORT),
+    (ZERO_SEVEN, 3, "refused text line 3 kind 5\n"),
+    (ONE_PAST, 3, "refused text line 3 kind 5\n"),
+    (ZERO_ONE, 3, "refused text line 3 kind 5\n"),
     (
-        &[],
+        SIXTEEN,
+        4,
+        "refused program kind 1 behaviour 1 step 1 rule 5\n",
+    ),
+    (
         BACKWARDS,
         4,
         "refused program kind 1 behaviour 1 step 2 rule 4\n",
     ),
     (
-        &[],
         NO_REGISTER,
         4,
         "refused program kind 1 behaviour 1 step 1 rule 5\n",
     ),
 ];
 
+// The words of a run by as many workers as are usual, and by one.
+const RUNS: &[&[&str]] = &[&[], &["run"], &["run", "--workers", "1"]];
+
+/// Whether a run over such devices, by any of these words, ends with this code, and writes this.
+fn runs_give<R: AllocGlobal + Threads + Wait + Sync>(
+    rt: &R,
+    input: &[u8],
+    devices: (Device, Device),
+    code: u8,
+    written: &str,
+) -> Result<bool, NoMemory> {
+    for words in RUNS {
+        if !gives_by(
+            rt,
+            *words,
+            input,
+            devices,
+            &OpenGate,
+            code,
+            written.as_bytes(),
+        )? {
+            return Ok(false);
+        }
+    }
+    Ok(true)
+}
+
 #[test]
 fn words_and_inputs_give_what_they_should(rt: HostRuntime) -> Result<(), Fail> {
-    for (i, (words, input, code, written)) in CALLS.iter().enumerate() {
-        assert!(rt; gives(&rt, *words, *input, *code, *written)?, "at {i}");
+    assert_eq!(rt; first_wrong(&rt, CALLS)?, None);
+    for (i, (input, code, written)) in INPUTS.iter().enumerate() {
+        let devices = (SURE, SURE);
+        assert!(rt;
+            runs_give(&rt, input.as_bytes(), devices, *code, *written)?,
+            "at {i}"
+        );
     }
     Ok(())
 }
@@ -113,15 +164,7 @@ fn cuts_give<R: AllocGlobal + Threads + Wait + Sync>(
         let Some(cut) = SEVEN.as_bytes().get(..length) else {
             return Ok(false);
         };
-        if !gives_by(
-            rt,
-            &[],
-            cut,
-            (SURE, SURE),
-            &OpenGate,
-            code,
-            written.as_bytes(),
-        )? {
+        if !runs_give(rt, cut, (SURE, SURE), code, written)? {
             return Ok(false);
         }
     }
@@ -136,68 +179,89 @@ fn cut_texts_are_refused_where_they_end(rt: HostRuntime) -> Result<(), Fail> {
     Ok(())
 }
 
-/// Whether so many line feeds are answered with this code, and this is written.
-fn line_feeds_give<R: AllocGlobal + Threads + Wait + Sync>(
-    rt: &R,
-    count: usize,
-    code: u8,
-    written: &str,
-) -> Result<bool, NoMemory> {
-    let input = vec![in rt.alloc(); b'\n'; count]?;
-    let devices = (SURE, SURE);
-    gives_by(
-        rt,
-        &["run"],
-        &input,
-        devices,
-        &OpenGate,
-        code,
-        written.as_bytes(),
-    )
+/// What stands before a piece, the piece, how often it stands there, and what follows.
+type Text = (&'static str, &'static [u8], usize, &'static str);
+
+fn bytes_of(alloc: Global, text: &Text) -> Result<Vec<u8>, NoMemory> {
+    let (head, piece, times, tail) = *text;
+    let mut bytes = head.as_bytes().to_vec(alloc)?;
+    for _ in 0..times {
+        bytes.extend_from_slice(piece)?;
+    }
+    bytes.extend_from_slice(tail.as_bytes())?;
+    Ok(bytes)
 }
 
-// How many line feeds, exit code and what is written.
-const LINE_FEEDS: &[(usize, u8, &str)] = &[
+// A text, exit code and what is written.
+const LIMITS: &[(Text, u8, &str)] = &[
     (
-        1_048_576,
+        (
+            "",
+            b"#",
+            256,
+            "\nkind Main 0\non start 0\nint r0 7\nprint r0\nend\n",
+        ),
+        0,
+        SEVEN_REPORT,
+    ),
+    (
+        (
+            "",
+            b"#",
+            257,
+            "\nkind Main 0\non start 0\nint r0 7\nprint r0\nend\n",
+        ),
+        3,
+        "refused text line 1 kind 2\n",
+    ),
+    (
+        (
+            "kind Main 0\non start 0\nint r0 7\nprint r0",
+            b"\xC8",
+            1,
+            "\nend\n",
+        ),
+        3,
+        "refused text line 4 kind 1\n",
+    ),
+    (
+        ("kind Main 0\non start 0\n", b"pin\n", 1025, "end\n"),
+        3,
+        "refused text line 1027 kind 9\n",
+    ),
+    (
+        ("", b"\n", 1_048_576, ""),
         4,
         "refused program kind 0 behaviour 0 step 0 rule 1\n",
     ),
-    (1_048_577, 10, "refused length\n"),
+    (("", b"\n", 1_048_577, ""), 10, "refused length\n"),
 ];
+
+/// Whether runs of a text end with this code, and write this.
+fn text_gives<R: AllocGlobal + Threads + Wait + Sync>(
+    rt: &R,
+    text: &Text,
+    code: u8,
+    written: &str,
+) -> Result<bool, NoMemory> {
+    let bytes = bytes_of(rt.alloc(), text)?;
+    runs_give(rt, &bytes, (SURE, SURE), code, written)
+}
 
 #[test]
 fn a_text_is_read_to_its_limit(rt: HostRuntime) -> Result<(), Fail> {
-    for (count, code, written) in LINE_FEEDS {
-        assert!(rt;
-            line_feeds_give(&rt, *count, *code, *written)?,
-            "of {count}"
-        );
+    for (i, (text, code, written)) in LIMITS.iter().enumerate() {
+        assert!(rt; text_gives(&rt, text, *code, *written)?, "at {i}");
     }
     Ok(())
 }
 
-/// Whether a call whose source fails at its call of this number ends with this code, and writes this.
-fn reads_give<R: AllocGlobal + Threads + Wait + Sync>(
-    rt: &R,
-    number: u64,
-    code: u8,
-    written: &str,
-) -> Result<bool, NoMemory> {
-    let reads = Device {
-        piece: 9,
+/// A device that takes so many bytes in a call, and fails at its call of this number.
+fn failing(piece: usize, number: u64) -> Device {
+    Device {
+        piece,
         fails: Some(number),
-    };
-    let devices = (reads, SURE);
-    gives_by(
-        rt,
-        &[],
-        SEVEN.as_bytes(),
-        devices,
-        &OpenGate,
-        code,
-        written.as_bytes(),
-    )
+    }
 }
 
 #[test]
@@ -208,55 +272,41 @@ fn a_source_fails_at_each_call_in_turn(rt: HostRuntime) -> Result<(), Fail> {
         } else {
             (0, SEVEN_REPORT)
         };
-        assert!(rt; reads_give(&rt, number, code, written)?, "{number}");
+        let devices = (failing(9, number), SURE);
+        assert!(rt;
+            runs_give(&rt, SEVEN.as_bytes(), devices, code, written)?,
+            "{number}"
+        );
     }
     Ok(())
 }
 
-/// Whether a call whose sink fails at its call of this number ends with this code, and so many bytes of
-/// the report were written.
-fn writes_give<R: AllocGlobal + Threads + Wait + Sync>(
-    rt: &R,
-    words: &[&str],
-    number: u64,
-    code: u8,
-    length: usize,
-) -> Result<bool, NoMemory> {
-    let writes = Device {
-        piece: 20,
-        fails: Some(number),
-    };
-    let Some(written) = SEVEN_REPORT.as_bytes().get(..length) else {
-        return Ok(false);
-    };
-    let devices = (SURE, writes);
-    gives_by(
-        rt,
-        words,
-        SEVEN.as_bytes(),
-        devices,
-        &OpenGate,
-        code,
-        written,
-    )
-}
-
 #[test]
 fn a_sink_fails_at_each_call_in_turn(rt: HostRuntime) -> Result<(), Fail> {
-    for (number, code, length) in [(1, 8, 0), (2, 8, 20), (3, 8, 40), (4, 0, 58)] {
-        assert!(rt; writes_give(&rt, &[], number, code, length)?, "{number}");
+    for (number, code, written) in [
+        (1, 8, ""),
+        (2, 8, "7\n--\nend quiet\nactor"),
+        (3, 8, "7\n--\nend quiet\nactors made 1 left 0\nobje"),
+        (4, 0, SEVEN_REPORT),
+    ] {
+        let devices = (SURE, failing(20, number));
+        assert!(rt;
+            runs_give(&rt, SEVEN.as_bytes(), devices, code, written)?,
+            "{number}"
+        );
     }
     Ok(())
 }
 
 #[test]
 fn a_refusal_stands_where_its_line_fails(rt: HostRuntime) -> Result<(), Fail> {
-    assert!(rt; writes_give(&rt, &["walk"], 1, 2, 0)?);
+    let devices = (SURE, failing(20, 1));
+    assert!(rt; gives_by(&rt, &["walk"], SEVEN.as_bytes(), devices, &OpenGate, 2, b"")?);
     Ok(())
 }
 
-/// What one worker answers, whose book may have three entries at the most.
-fn single(alloc: Global, input: &[u8]) -> Result<Outcome, NoMemory> {
+/// Whether the book of a run by one worker, which may have three entries at the most, has this text.
+fn has_book(alloc: Global, input: &str, book: &str) -> Result<bool, NoMemory> {
     let order = Order {
         job: Job::Run,
         workers: 1,
@@ -266,21 +316,11 @@ fn single(alloc: Global, input: &[u8]) -> Result<Outcome, NoMemory> {
         weight: 256,
         trace: Trace::Deep,
     };
-    let mut source = source(alloc, input, SURE)?;
+    let mut source = source(alloc, input.as_bytes(), SURE)?;
     let mut sink = sink(alloc, SURE)?;
-    Ok(run_single(alloc, &order, &mut source, &mut sink))
-}
-
-/// Whether the book of such a run has this text.
-fn has_book(alloc: Global, input: &str, book: &str) -> Result<bool, NoMemory> {
-    let outcome = single(alloc, input.as_bytes())?;
-    has_text(alloc, &outcome, book)
-}
-
-/// Whether the book of a run has this text.
-fn has_text(alloc: Global, outcome: &Outcome, book: &str) -> Result<bool, NoMemory> {
-    let text = outcome.book.text(alloc)?;
-    Ok(text.as_slice() == book.as_bytes())
+    let outcome = run_single(alloc, &order, &mut source, &mut sink);
+    let told = told_of(alloc, &outcome)?;
+    Ok(told.book.as_slice() == book.as_bytes())
 }
 
 #[test]

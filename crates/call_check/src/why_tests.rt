@@ -1,11 +1,10 @@
 // Why each thing is left, and who went.
 
-use crate::calling::gives;
+use crate::calling::{Case, first_wrong};
 use crate::programs::{KEPT, LOOSE, NESTED, PEERS, PINNED, REACHED_TWICE, SEVEN};
 use std::test::Fail;
 
-// Words, input, exit code and what is written.
-const WHYS: &[(&[&str], &str, u8, &str)] = &[
+const WHYS: &[Case] = &[
     (
         &["why"],
         PINNED,
@@ -58,8 +57,6 @@ const WHYS: &[(&[&str], &str, u8, &str)] = &[
 
 #[test]
 fn each_thing_has_its_reason(rt: HostRuntime) -> Result<(), Fail> {
-    for (i, (words, input, code, written)) in WHYS.iter().enumerate() {
-        assert!(rt; gives(&rt, *words, *input, *code, *written)?, "at {i}");
-    }
+    assert_eq!(rt; first_wrong(&rt, WHYS)?, None);
     Ok(())
 }
