@@ -5,6 +5,7 @@ use crate::asking::{
     Answer, BY_EVENTS, Call, GO, HEAR, ONE_ENTRY, TAKE, TWO_PASSES, Want, answer_of, entry, event,
 };
 use crate::programs::{SEVEN, TWO_PRINT, checked};
+use crate::telling::is_of;
 use behaviour_check::Checked;
 use book_hall::{Hall, Proposal};
 use orca_names::{ActorName, Value};
@@ -137,10 +138,12 @@ struct Case {
     prints: Option<u64>,
 }
 
-/// Whether the calls of a case answer as it is wanted, and the run then has printed what it should.
+/// Whether the calls of a case answer as it is wanted, the hall is still of its program and budget, and the
+/// run has printed what it should.
 fn plays(alloc: Global, hall: Hall<'_>, case: &Case) -> bool {
     let mut hall = hall;
-    let well = all_answer(alloc, &mut hall, case.rows, case.further);
+    let well = all_answer(alloc, &mut hall, case.rows, case.further)
+        && is_of(alloc, &hall, case.text, u64::from(case.budget));
     has_printed(hall, case.prints) && well
 }
 

@@ -12,3 +12,5 @@ mod pass_tests;
 mod programs;
 #[cfg(test)]
 mod seat_tests;
+#[cfg(test)]
+mod telling;
