@@ -6,6 +6,7 @@ ghost use Rattle.orca_core.specs.Machine.{NoneIsAway};
 ghost use Rattle.turn_log.specs.Seats.{knows};
 ghost use Rattle.seat_hall.specs.Boards.{out_of};
 
+use crate::ending::{PEERS_REPORT, has_report};
 use crate::following::is_whole_run;
 use crate::programs::{PASSED, PEERS, TWO_PRINT, checked};
 use behaviour_check::Checked;
@@ -198,7 +199,8 @@ fn is_first_left(alloc: Global, orca: &Orca<'_>) -> bool
     }
 }
 
-/// Whether a run, which one worker takes to its end, ends quiet with the first of three actors alone.
+/// Whether a run, which one worker takes to its end, ends quiet with the first actor alone and the report of
+/// the peers.
 fn ends_with_first(alloc: Global, orca: Orca<'_>, book: Book) -> bool
     requires run { IsRunOf orca book.entries }
     requires home { NoneIsAway orca }
@@ -207,7 +209,9 @@ fn ends_with_first(alloc: Global, orca: Orca<'_>, book: Book) -> bool
     let mut orca = orca;
     let mut book = book;
     let end = finish(alloc, &mut orca, &mut book, BUDGET);
-    matches!(end, End::Quiet) && orca.made() == 3 && is_first_left(alloc, &orca)
+    matches!(end, End::Quiet)
+        && is_first_left(alloc, &orca)
+        && has_report(alloc, &orca, PEERS_REPORT)
 }
 
 /// Whether the run in a hall that copies cells ends quiet with the first of three actors alone.

@@ -6,6 +6,8 @@ mod board_tests;
 #[cfg(test)]
 mod calling;
 #[cfg(test)]
+mod ending;
+#[cfg(test)]
 mod following;
 #[cfg(test)]
 mod programs;
