@@ -1,6 +1,6 @@
 // A book that is filled and written, and texts that are read.
 
-use crate::table::{holds, same_bytes, same_text, table_holds};
+use crate::table::{Asked, Table, fault_text, holds, same_bytes, same_text};
 use event_rule::Event;
 use orca_names::{ActorName, Trace};
 use run_book::{Book, BookErr, read_again, read_text, split_at_book};
@@ -8,25 +8,30 @@ use std::alloc::Global;
 use std::test::Fail;
 
 // The line and the kind of the fault.
-const FAULTS: &str = "
-1 1|;
-1 1|\n;
-1 1|book 2 1\n;
-1 1|book 2 65537;
-1 1|book 2 0256\n;
-1 1|book 2 256 root\n;
-1 1|book 2 256  roots\n;
-1 1|book 1 roots\n;
-1 1|book 1\r\n;
-1 4|book 1;
-2 2|book 1\nleave 0\n;
-2 2|book 1\ntake 01\n;
-2 2|book 1\n\ntake 0\n;
-2 2|book 2 256\ntake 4294967296\n;
-3 2|book 2 256\nhear\nreap 18446744073709551616\n;
-3 2|book 2 256\nhear\nscan ;
-3 2|book 2 256\nhear\ntake  1\n;
-3 4|book 2 256\nhear\nscan";
+const FAULTS: Table = Table {
+    asked: Asked::Book,
+    head: "",
+    rows: "\
+1 1|;\
+1 1|\n;\
+1 1|book 2 1\n;\
+1 1|book 2 65537;\
+1 1|book 2 0256\n;\
+1 1|book 2 256 root\n;\
+1 1|book 2 256  roots\n;\
+1 1|book 1 roots\n;\
+1 1|book 1\r\n;\
+1 4|book 1;\
+2 2|book 1\nleave 0\n;\
+2 2|book 1\ntake 01\n;\
+2 2|book 1\n\ntake 0\n;\
+2 2|book 2 256\ntake 4294967296\n;\
+3 2|book 2 256\nhear\nreap 18446744073709551616\n;\
+3 2|book 2 256\nhear\nscan ;\
+3 2|book 2 256\nhear\ntake  1\n;\
+3 4|book 2 256\nhear\nscan",
+    tail: "",
+};
 
 // A program and the book behind it.
 const SPLITS: &str = "\
@@ -118,9 +123,9 @@ fn the_former_form_is_read(rt: HostRuntime) -> Result<(), Fail> {
 }
 
 /// The line and the kind of the fault of a text.
-fn fault_of(alloc: Global, text: &str) -> Result<String, Fail> {
+pub fn fault_of_book(alloc: Global, text: &str) -> Result<String, Fail> {
     match read_text(alloc, text.as_bytes()) {
-        Err(BookErr::Fault { line, kind }) => Ok(format!(in alloc; "{line} {kind}")?),
+        Err(BookErr::Fault { line, kind }) => fault_text(alloc, line, kind),
         Err(BookErr::NoMemory) => Err(Fail::from("no memory")),
         Ok(_) => Err(Fail::from("a book")),
     }
@@ -128,18 +133,26 @@ fn fault_of(alloc: Global, text: &str) -> Result<String, Fail> {
 
 #[test]
 fn faults_are_told(rt: HostRuntime) -> Result<(), Fail> {
-    table_holds(rt.alloc(), FAULTS, fault_of)
+    FAULTS.holds(rt.alloc())
+}
+
+/// Fails where a text isn't split behind its program.
+fn is_split_so(text: &str, program: &str, book: &str) -> Result<(), Fail> {
+    let (before, behind) = split_at_book(text.as_bytes());
+    same_bytes(before, program)?;
+    same_bytes(behind, book)
+}
+
+fn is_split_at_its_bar(alloc: Global, row: &str) -> Result<(), Fail> {
+    let (program, book) = row.split_once('|').ok_or("a row without its bar")?;
+    let text = format!(in alloc; "{program}{book}")?;
+    is_split_so(text.as_str(), program, book)
 }
 
 #[test]
 fn books_begin_at_their_first_line(rt: HostRuntime) -> Result<(), Fail> {
-    let alloc = rt.alloc();
     for row in SPLITS.split(';') {
-        let (program, book) = row.split_once('|').ok_or("a row without its bar")?;
-        let text = format!(in alloc; "{program}{book}")?;
-        let (before, behind) = split_at_book(text.as_bytes());
-        same_bytes(before, program)?;
-        same_bytes(behind, book)?;
+        is_split_at_its_bar(rt.alloc(), row)?;
     }
     Ok(())
 }

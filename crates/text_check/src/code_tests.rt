@@ -1,6 +1,7 @@
 // Names that are given once, what stands where no kind does, and guesses of places.
 
 use crate::programs::program;
+use crate::rule_tests::place_in;
 use crate::table::holds;
 use behaviour_code::{Behaviour, Behaviours, Instr, Name, Names, Program, Target};
 use plain_list::Listed;
@@ -87,22 +88,21 @@ fn places_are_guessed_by_names(rt: HostRuntime) -> Result<(), Fail> {
     )
 }
 
-/// The place beside the name that an instruction leads to, once it is set, if the instruction is as before.
-fn placed(instr: &Instr) -> Result<Option<u32>, Fail> {
-    let mut placed = instr.clone()?;
-    placed.set_place(9);
-    Ok(match &placed {
-        Instr::Jump(target) | Instr::JumpZero(_, target) if placed == *instr => Some(
-            target.place(),
-        ),
-        Instr::New(_, target) if placed == *instr => Some(target.clone()?.place()),
-        _ => None,
+/// The place that a copy of an instruction keeps, if the copy is equal to another one.
+fn copied_place(instr: &Instr, other: &Instr) -> Result<Option<u32>, Fail> {
+    let copy = instr.clone()?;
+    Ok(if copy == *other {
+        place_in(&copy)
+    } else {
+        None
     })
 }
 
-/// Fails where the place of such an instruction isn't set, or is a part of it.
+/// Fails where the place of such an instruction isn't set and copied, or is a part of it.
 fn is_placed(instr: &Instr, what: &str) -> Result<(), Fail> {
-    holds(placed(instr)? == Some(9), what)
+    let mut placed = instr.clone()?;
+    placed.set_place(9);
+    holds(copied_place(&placed, instr)? == Some(9), what)
 }
 
 #[test]

@@ -1,7 +1,7 @@
 // Examples from outside of the contracts: where texts are refused, what is read, what is printed.
 
 use crate::programs::program;
-use crate::table::{holds, same_bytes, same_text, table_holds};
+use crate::table::{Asked, Table, fault_text, holds, same_bytes, same_text};
 use behaviour_code::Instr;
 use behaviour_text::{FaultKind, TextErr, parse, print};
 use orca_names::TEXT_LIMIT;
@@ -12,97 +12,105 @@ const PRINTS_SEVEN: &str = "kind Main 0\non start 0\nint r0 7\nprint r0\nend\n";
 
 // The line and the kind of the first fault of the first bytes of that text, by their number from
 // none to 45, zeros where there is none.
-const CUTS: &str = "
-0 0, 1 3, 1 3, 1 3, 1 4, 1 4, 1 4, 1 4, 1 4, 1 4, 1 4, 0 0, 0 0, 2 3, 2 4, 2 4,
-2 4, 2 4, 2 4, 2 4, 2 4, 2 4, 2 8, 2 8, 3 3, 3 3, 3 4, 3 4, 3 4, 3 4, 3 4, 3 8,
-3 8, 4 3, 4 3, 4 3, 4 3, 4 4, 4 4, 4 5, 4 8, 4 8, 5 3, 5 3, 0 0, 0 0";
+const CUTS: &str = "\
+0 0,1 3,1 3,1 3,1 4,1 4,1 4,1 4,1 4,1 4,1 4,0 0,0 0,2 3,2 4,2 4,\
+2 4,2 4,2 4,2 4,2 4,2 4,2 8,2 8,3 3,3 3,3 4,3 4,3 4,3 4,3 4,3 8,\
+3 8,4 3,4 3,4 3,4 3,4 4,4 4,4 5,4 8,4 8,5 3,5 3,0 0,0 0";
 
 // The line and the kind of the first fault, zeros where there is none, of a line within a
 // behaviour, which is the third of its text.
-const LINES: &str = "
-0 0|drop r0;
-0 0|int r1 18446744073709551615;
-0 0|self r2;
-0 0|copy r3 r4;
-0 0|add r1 r2 r3;
-0 0|sub r1 r2 r3;
-0 0|mul r1 r2 r3;
-0 0|less r1 r2 r3;
-0 0|same r1 r2 r3;
-0 0|row r1 r2;
-0 0|row r1 r2 r3 r4 r5 r6 r7 r8 r9;
-0 0|get r1 r2 0;
-0 0|load r1 f0;
-0 0|store f18446744073709551615 r1;
-0 0|jump a;
-0 0|jzero r1 _;
-0 0|label abcdefghijklmnopqrstuvwxyz_AZ089;
-3 6|label abcdefghijklmnopqrstuvwxyz_AZ0189;
-0 0|label 7;
-0 0|pin;
-0 0|unpin;
-0 0|new r1 A;
-0 0|send r1 m;
-0 0|send r1 m r2 r3 r4 r5 r6 r7 r8 r9;
-0 0|print r99;
-0 0|\tprint  r0 \r;
-0 0|;
-0 0| # anything;
-0 0|#pin r;
-3 1|pin\x7f;
-3 1|\x0b;
-3 3|Pin;
-3 3|pins;
-3 3|7;
-3 3|int# r0 7;
-3 4|drop;
-3 4|drop r0 r1;
-3 4|int r0;
-3 4|int 0 x;
-3 4|self R;
-3 4|copy r0 f0;
-3 4|add r0 r1;
-3 4|sub r0 r1 r2 r3;
-3 4|mul r0 r1 2;
-3 4|less r0 r1 r2 r3;
-3 4|same r0 r1;
-3 4|row r0;
-3 4|row r0 r1 r2 r3 r4 r5 r6 r7 r8 r9;
-3 4|get r0 r1;
-3 4|load r0 r1;
-3 4|store r0 f1;
-3 4|jump;
-3 4|jzero a- b;
-3 4|label a b;
-3 4|pin r0;
-3 4|unpin r0;
-3 4|new A r0;
-3 4|send r0;
-3 4|send r0 m 1;
-3 4|send r0 m r1 r2 r3 r4 r5 r6 r7 r8 r9;
-3 4|print 7;
-3 4|end now;
-3 5|drop r;
-3 5|int r0 07;
-3 5|int r0 18446744073709551616;
-3 5|int r0 +7;
-3 5|copy r0 r-1;
-3 5|get r0 r1 r2;
-3 5|load r0 f;
-3 5|store f00 r1;
-3 5|row r0 r1x;
-3 5|jzero rx a-b;
-3 5|send r0 m! r;
-3 6|jump a-b;
-3 6|new r0 A.B;
-3 6|send r0 m! r1;
-3 5|kind B x;
-3 6|on c- 0;
-3 8|kind B 9;
-3 8|on c 9";
+const LINES: Table = Table {
+    asked: Asked::Program,
+    head: "kind A 0\non b 0\n",
+    rows: "\
+0 0|drop r0;\
+0 0|int r1 18446744073709551615;\
+0 0|self r2;\
+0 0|copy r3 r4;\
+0 0|add r1 r2 r3;\
+0 0|sub r1 r2 r3;\
+0 0|mul r1 r2 r3;\
+0 0|less r1 r2 r3;\
+0 0|same r1 r2 r3;\
+0 0|row r1 r2;\
+0 0|row r1 r2 r3 r4 r5 r6 r7 r8 r9;\
+0 0|get r1 r2 0;\
+0 0|load r1 f0;\
+0 0|store f18446744073709551615 r1;\
+0 0|jump a;\
+0 0|jzero r1 _;\
+0 0|label abcdefghijklmnopqrstuvwxyz_AZ089;\
+3 6|label abcdefghijklmnopqrstuvwxyz_AZ0189;\
+0 0|label 7;\
+0 0|pin;\
+0 0|unpin;\
+0 0|new r1 A;\
+0 0|send r1 m;\
+0 0|send r1 m r2 r3 r4 r5 r6 r7 r8 r9;\
+0 0|print r99;\
+0 0|\tprint  r0 \r;\
+0 0|;\
+0 0| # anything;\
+0 0|#pin r;\
+3 1|pin\x7f;\
+3 1|\x0b;\
+3 3|Pin;\
+3 3|pins;\
+3 3|7;\
+3 3|int# r0 7;\
+3 4|drop;\
+3 4|drop r0 r1;\
+3 4|int r0;\
+3 4|int 0 x;\
+3 4|self R;\
+3 4|copy r0 f0;\
+3 4|add r0 r1;\
+3 4|sub r0 r1 r2 r3;\
+3 4|mul r0 r1 2;\
+3 4|less r0 r1 r2 r3;\
+3 4|same r0 r1;\
+3 4|row r0;\
+3 4|row r0 r1 r2 r3 r4 r5 r6 r7 r8 r9;\
+3 4|get r0 r1;\
+3 4|load r0 r1;\
+3 4|store r0 f1;\
+3 4|jump;\
+3 4|jzero a- b;\
+3 4|label a b;\
+3 4|pin r0;\
+3 4|unpin r0;\
+3 4|new A r0;\
+3 4|send r0;\
+3 4|send r0 m 1;\
+3 4|send r0 m r1 r2 r3 r4 r5 r6 r7 r8 r9;\
+3 4|print 7;\
+3 4|end now;\
+3 5|drop r;\
+3 5|int r0 07;\
+3 5|int r0 18446744073709551616;\
+3 5|int r0 +7;\
+3 5|copy r0 r-1;\
+3 5|get r0 r1 r2;\
+3 5|load r0 f;\
+3 5|store f00 r1;\
+3 5|row r0 r1x;\
+3 5|jzero rx a-b;\
+3 5|send r0 m! r;\
+3 6|jump a-b;\
+3 6|new r0 A.B;\
+3 6|send r0 m! r1;\
+3 5|kind B x;\
+3 6|on c- 0;\
+3 8|kind B 9;\
+3 8|on c 9",
+    tail: "\nend\n",
+};
 
 // The line and the kind of the first fault of a text, zeros where there is none.
-const TEXTS: &str = "\
+const TEXTS: Table = Table {
+    asked: Asked::Program,
+    head: "",
+    rows: "\
 0 0|\n \n#;\
 0 0|kind A 8;\
 0 0|kind A 0\nkind A 0\non b 8\nend;\
@@ -118,7 +126,9 @@ const TEXTS: &str = "\
 4 7|kind A 0\non b 0\nend\nend;\
 3 8|kind A 0\non b 0\non c 0\nend;\
 4 8|kind A 0\non b 0\n\n# end\n;\
-3 3|kind A 0\non b 0\nhello";
+3 3|kind A 0\non b 0\nhello",
+    tail: "",
+};
 
 // A head, a piece, how often it stands behind the head, a middle, and how often the piece stands
 // behind that; and the line and the kind of the first fault of the text, zeros where there is none.
@@ -175,25 +185,27 @@ const HIGH_LINES: &[Row] = &[
 const HIGH_TEXTS: &[Row] = &[("hello\nkind A 9\n", b"\xC8", 1, "", 0, "1 3")];
 
 /// The line and the kind of the first fault of a text, zeros where it has none.
-fn fault(alloc: Global, text: &[u8]) -> Result<String, Fail> {
+pub fn fault_of_text(alloc: Global, text: &[u8]) -> Result<String, Fail> {
     if text.len() > TEXT_LIMIT {
         return Err(Fail::from("the text is too long"));
     }
-    let (line, kind) = match parse(alloc, text) {
-        Ok(_) => (0, 0),
-        Err(TextErr::Fault { line, kind }) => (line, kind.number()),
-        Err(TextErr::NoMemory) => return Err(Fail::from("out of memory")),
-    };
-    Ok(format!(in alloc; "{line} {kind}")?)
+    match parse(alloc, text) {
+        Ok(_) => fault_text(alloc, 0, 0),
+        Err(TextErr::Fault { line, kind }) => fault_text(alloc, line, kind.number()),
+        Err(TextErr::NoMemory) => Err(Fail::from("out of memory")),
+    }
 }
 
-fn text_fault(alloc: Global, text: &str) -> Result<String, Fail> {
-    fault(alloc, text.as_bytes())
+/// Fails where a text has another first fault.
+fn has_fault(alloc: Global, text: &[u8], want: &str) -> Result<(), Fail> {
+    same_text(fault_of_text(alloc, text)?.as_str(), want)
 }
 
-fn line_fault(alloc: Global, line: &str) -> Result<String, Fail> {
-    let text = format!(in alloc; "kind A 0\non b 0\n{line}\nend\n")?;
-    text_fault(alloc, text.as_str())
+fn push_times(text: &mut Vec<u8>, piece: &[u8], times: usize) -> Result<(), Fail> {
+    for _ in 0..times {
+        text.extend_from_slice(piece)?;
+    }
+    Ok(())
 }
 
 /// A text with a piece that stands in it several times, and again behind a middle.
@@ -206,43 +218,48 @@ fn repeated(
     more: usize,
 ) -> Result<Vec<u8>, Fail> {
     let mut text = head.as_bytes().to_vec(alloc)?;
-    for _ in 0..times {
-        text.extend_from_slice(piece)?;
-    }
+    push_times(&mut text, piece, times)?;
     text.extend_from_slice(middle.as_bytes())?;
-    for _ in 0..more {
-        text.extend_from_slice(piece)?;
-    }
+    push_times(&mut text, piece, more)?;
     Ok(text)
 }
 
+fn row_holds(alloc: Global, row: &Row) -> Result<(), Fail> {
+    let (head, piece, times, middle, more, want) = *row;
+    let text = repeated(alloc, head, piece, times, middle, more)?;
+    has_fault(alloc, text.as_slice(), want)
+}
+
 fn rows_hold(alloc: Global, rows: &[Row]) -> Result<(), Fail> {
-    for (head, piece, times, middle, more, want) in rows {
-        let text = repeated(alloc, head, piece, *times, middle, *more)?;
-        same_text(fault(alloc, text.as_slice())?.as_str(), want)?;
+    for row in rows {
+        row_holds(alloc, row)?;
     }
     Ok(())
 }
 
+/// Fails where the first `n` bytes of that text have another first fault.
+fn cut_has_fault(alloc: Global, n: usize, want: &str) -> Result<(), Fail> {
+    let text = PRINTS_SEVEN.as_bytes().get(..n).ok_or("no such cut")?;
+    has_fault(alloc, text, want)
+}
+
 #[test]
 fn cut_texts_are_refused_where_they_end(rt: HostRuntime) -> Result<(), Fail> {
-    let alloc = rt.alloc();
     for (n, want) in CUTS.split(',').enumerate() {
-        let text = PRINTS_SEVEN.as_bytes().get(..n).ok_or("no such cut")?;
-        same_text(fault(alloc, text)?.as_str(), want.trim())?;
+        cut_has_fault(rt.alloc(), n, want)?;
     }
     Ok(())
 }
 
 #[test]
 fn lines_have_their_lowest_fault(rt: HostRuntime) -> Result<(), Fail> {
-    table_holds(rt.alloc(), LINES, line_fault)?;
+    LINES.holds(rt.alloc())?;
     rows_hold(rt.alloc(), HIGH_LINES)
 }
 
 #[test]
 fn texts_have_their_first_fault(rt: HostRuntime) -> Result<(), Fail> {
-    table_holds(rt.alloc(), TEXTS, text_fault)?;
+    TEXTS.holds(rt.alloc())?;
     rows_hold(rt.alloc(), HIGH_TEXTS)
 }
 
@@ -278,21 +295,22 @@ fn has_numbers(alloc: Global, body: &[Instr], want: &[[u64; 4]]) -> Result<(), F
     holds(found.as_slice() == want, "the operands")
 }
 
+const OPERANDS: &[[u64; 4]] = &[
+    [1, 1, 2, 3],
+    [2, 1, 2, 9],
+    [3, 6, 7, 0],
+    [4, 4, 5, 0],
+    [5, 3, 1, 0],
+    [6, 8, 2, 2],
+];
+
 #[test]
 fn operands_stand_in_their_order(rt: HostRuntime) -> Result<(), Fail> {
     let alloc = rt.alloc();
     let text =
         "kind A 2\non b 3\nsub r1 r2 r3\nget r1 r2 9\nload r6 f7\nstore f4 r5\njzero r3 b\nsend r8 c r1 r2\nend";
-    let want = [
-        [1, 1, 2, 3],
-        [2, 1, 2, 9],
-        [3, 6, 7, 0],
-        [4, 4, 5, 0],
-        [5, 3, 1, 0],
-        [6, 8, 2, 2],
-    ];
     let program = program(alloc, text)?;
-    has_numbers(alloc, program.body(0, 0), &want)
+    has_numbers(alloc, program.body(0, 0), OPERANDS)
 }
 
 /// Fails where the program of a text is printed as another text.
@@ -311,16 +329,16 @@ fn programs_are_printed_as_their_canonical_texts(rt: HostRuntime) -> Result<(), 
     is_printed_as(alloc, all, all)
 }
 
+fn is_told_as(alloc: Global, error: TextErr, want: &str) -> Result<(), Fail> {
+    same_text(error.to_string(alloc)?.as_str(), want)
+}
+
 #[test]
 fn errors_as_texts(rt: HostRuntime) -> Result<(), Fail> {
     let fault = TextErr::Fault {
         line: 3,
         kind: FaultKind::TooMany,
     };
-    let told = fault.to_string(rt.alloc())?;
-    same_text(told.as_str(), "line 3 has a fault of kind 9")?;
-    same_text(
-        TextErr::NoMemory.to_string(rt.alloc())?.as_str(),
-        "out of memory",
-    )
+    is_told_as(rt.alloc(), fault, "line 3 has a fault of kind 9")?;
+    is_told_as(rt.alloc(), TextErr::NoMemory, "out of memory")
 }

@@ -1,223 +1,205 @@
 // The words that have a reading, and those that have none.
 
-use crate::table::{holds, same_text, table_holds};
-use orca_names::Trace;
+use crate::table::same_text;
 use std::alloc::Global;
 use std::test::Fail;
-use word_line::{Job, Order, WordErr, read_words};
+use word_line::{WordErr, read_words};
+
+// A line of a table is what is told of the reading, and behind a bar the words.
 
 // The number of workers and the budget.
-const WORKERS: &str = "
-2 1000000|;
-2 1000000|run;
-2 1000000|run --;
-1 1000000|run --workers 1;
-16 1000000|run --workers=16;
-5 1|run --workers +5 --budget 1;
-5 100000000|run --budget 100000000 --workers 05;
-4 9|load 3 --workers 4 --budget 9;
-2 1000000|audit;
-1 1000000|why;
-1 4|why --budget 4;
-1 9|why --weight 2 --budget=9";
+const WORKERS: &str = "\
+workers: 2, budget: 1000000, |
+workers: 2, budget: 1000000, |run
+workers: 2, budget: 1000000, |run --
+workers: 1, budget: 1000000, |run --workers 1
+workers: 16, budget: 1000000, |run --workers=16
+workers: 5, budget: 1, |run --workers +5 --budget 1
+workers: 5, budget: 100000000, |run --budget 100000000 --workers 05
+workers: 4, budget: 9, |load 3 --workers 4 --budget 9
+workers: 2, budget: 1000000, |audit
+workers: 1, budget: 1000000, |why
+workers: 1, budget: 4, |why --budget 4
+workers: 1, budget: 9, |why --weight 2 --budget=9";
 
-const JOBS: &str = "
-run|;
-run|run;
-run|run --counts;
-load 1|load 1;
-load 60000|load 60000;
-load 5|load +5;
-load 5|load 05;
-load 7|load -- 7;
-load 3|load --workers 2 3;
-audit|audit;
-audit|audit --;
-why|why;
-why|why --budget 4;
-why|why --weight 2 --budget=9";
+const JOBS: &str = "\
+job: Run, |
+job: Run, |run
+job: Run, |run --counts
+job: Load(1), |load 1
+job: Load(60000), |load 60000
+job: Load(5), |load +5
+job: Load(5), |load 05
+job: Load(7), |load -- 7
+job: Load(3), |load --workers 2 3
+job: Audit, |audit
+job: Audit, |audit --
+job: Why, |why
+job: Why, |why --budget 4
+job: Why, |why --weight 2 --budget=9";
 
 // Whether the report has the counts, and whether it has the book.
-const REPORTS: &str = "
-false false|;
-false false|run;
-true false|run --counts;
-false true|run --book;
-true true|run --book --counts;
-false false|load 3;
-true false|load 3 --counts;
-false true|load --book 3;
-false false|audit;
-false false|why";
+const REPORTS: &str = "\
+counts: false, book: false, |
+counts: false, book: false, |run
+counts: true, book: false, |run --counts
+counts: false, book: true, |run --book
+counts: true, book: true, |run --book --counts
+counts: false, book: false, |load 3
+counts: true, book: false, |load 3 --counts
+counts: false, book: true, |load --book 3
+counts: false, book: false, |audit
+counts: false, book: false, |why";
 
 // The weight and the tracing.
-const WEIGHTS: &str = "
-256 deep|;
-256 deep|run;
-256 deep|load 3;
-2 deep|run --weight 2;
-65536 deep|run --weight=65536 --trace deep;
-256 roots|run --trace roots;
-7 roots|load 3 --trace=roots --weight 07;
-256 deep|audit --;
-256 deep|why --budget 4;
-2 deep|why --weight 2 --budget=9";
+const WEIGHTS: &str = "\
+weight: 256, trace: Deep |
+weight: 256, trace: Deep |run
+weight: 256, trace: Deep |load 3
+weight: 2, trace: Deep |run --weight 2
+weight: 65536, trace: Deep |run --weight=65536 --trace deep
+weight: 256, trace: Roots |run --trace roots
+weight: 7, trace: Roots |load 3 --trace=roots --weight 07
+weight: 256, trace: Deep |audit --
+weight: 256, trace: Deep |why --budget 4
+weight: 2, trace: Deep |why --weight 2 --budget=9";
 
 const WITHOUT_A_READING: &str = "\
-run --workers 0
-run --workers 17
-run --budget 0
-run --budget 100000001
-run --workers -1
-run --workers 18446744073709551616
-run --workers two
-run --workers
-run --workers 4 --workers 5
-run --worker 2
-run -w 2
---workers 2 run
-run run
-run 3
-walk
---
---help
-run --help
-help
-run help
--h
--V
---version";
+BadWords|run --workers 0
+BadWords|run --workers 17
+BadWords|run --budget 0
+BadWords|run --budget 100000001
+BadWords|run --workers -1
+BadWords|run --workers 18446744073709551616
+BadWords|run --workers two
+BadWords|run --workers
+BadWords|run --workers 4 --workers 5
+BadWords|run --worker 2
+BadWords|run -w 2
+BadWords|--workers 2 run
+BadWords|run run
+BadWords|run 3
+BadWords|walk
+BadWords|--
+BadWords|--help
+BadWords|run --help
+BadWords|help
+BadWords|run help
+BadWords|-h
+BadWords|-V
+BadWords|--version";
 
 const LOADS_AND_OPTIONS: &str = "\
-load
-load 0
-load 60001
-load -3
-load three
-load 3 4
-load load
-load 3 --help
-load --counts
-3
-run --counts --counts
-run --counts=true
-run --book 1
---book run
-run --weight 1
-run --weight 65537
-run --weight
-load 3 --weight 0
-run --trace deeper
-run --trace Deep
-run --trace
-run --trace deep --trace deep
-run --rows";
+BadWords|load
+BadWords|load 0
+BadWords|load 60001
+BadWords|load -3
+BadWords|load three
+BadWords|load 3 4
+BadWords|load load
+BadWords|load 3 --help
+BadWords|load --counts
+BadWords|3
+BadWords|run --counts --counts
+BadWords|run --counts=true
+BadWords|run --book 1
+BadWords|--book run
+BadWords|run --weight 1
+BadWords|run --weight 65537
+BadWords|run --weight
+BadWords|load 3 --weight 0
+BadWords|run --trace deeper
+BadWords|run --trace Deep
+BadWords|run --trace
+BadWords|run --trace deep --trace deep
+BadWords|run --rows";
 
 const AUDITS_AND_REASONS: &str = "\
-audit 3
-audit --budget 4
-audit --workers 1
-why --workers 1
-why --counts
-why --book
-why --trace deep
-why 3
-why --budget 0
-why --weight 1";
+BadWords|audit 3
+BadWords|audit --budget 4
+BadWords|audit --workers 1
+BadWords|why --workers 1
+BadWords|why --counts
+BadWords|why --book
+BadWords|why --trace deep
+BadWords|why 3
+BadWords|why --budget 0
+BadWords|why --weight 1";
 
-fn reading(alloc: Global, line: &str) -> Result<Option<Order>, Fail> {
+/// What is told of the words' reading.
+fn told(alloc: Global, words: &[&str]) -> Result<String, Fail> {
+    Ok(format!(in alloc; "{:?}", read_words(alloc, words))?)
+}
+
+fn told_of_line(alloc: Global, line: &str) -> Result<String, Fail> {
     let words: Vec<&str> = line.split_whitespace().collect(alloc)?;
-    match read_words(alloc, words.as_slice()) {
-        Ok(order) => Ok(Some(order)),
-        Err(WordErr::BadWords) => Ok(None),
-        Err(WordErr::NoMemory) => Err(Fail::from("no memory")),
+    told(alloc, words.as_slice())
+}
+
+/// Fails where a part that is wanted isn't in what is told of the words.
+fn has_part(words: &str, told: &str, want: &str) -> Result<(), Fail> {
+    if told.contains(want) {
+        Ok(())
+    } else {
+        Err(Fail::new(format_args!("{words}\ntold: {told}\nwanted: {want}")))
     }
 }
 
-fn order(alloc: Global, line: &str) -> Result<Order, Fail> {
-    Ok(reading(alloc, line)?.ok_or("no reading")?)
-}
-
-fn workers_and_budget_of(alloc: Global, line: &str) -> Result<String, Fail> {
-    let order = order(alloc, line)?;
-    Ok(format!(in alloc; "{} {}", order.workers, order.budget)?)
-}
-
-fn job_of(alloc: Global, line: &str) -> Result<String, Fail> {
-    Ok(match order(alloc, line)?.job {
-        Job::Run => String::from_str(alloc, "run")?,
-        Job::Load(count) => format!(in alloc; "load {count}")?,
-        Job::Audit => String::from_str(alloc, "audit")?,
-        Job::Why => String::from_str(alloc, "why")?,
-    })
-}
-
-fn report_of(alloc: Global, line: &str) -> Result<String, Fail> {
-    let order = order(alloc, line)?;
-    Ok(format!(in alloc; "{} {}", order.counts, order.book)?)
-}
-
-fn weight_and_tracing_of(alloc: Global, line: &str) -> Result<String, Fail> {
-    let order = order(alloc, line)?;
-    let trace = match order.trace {
-        Trace::Deep => "deep",
-        Trace::Roots => "roots",
-    };
-    Ok(format!(in alloc; "{} {trace}", order.weight)?)
-}
-
-/// Fails where a line has a reading.
-fn have_no_reading(alloc: Global, lines: &str) -> Result<(), Fail> {
-    for line in lines.lines() {
-        holds(reading(alloc, line)?.is_none(), line)?;
+/// Fails where a line of a table isn't read as it is wanted.
+fn are_read_so(alloc: Global, table: &str) -> Result<(), Fail> {
+    for row in table.lines() {
+        let (want, line) = row.split_once('|').ok_or("a row without its bar")?;
+        has_part(line, told_of_line(alloc, line)?.as_str(), want)?;
     }
     Ok(())
 }
 
 #[test]
 fn workers_and_budget(rt: HostRuntime) -> Result<(), Fail> {
-    table_holds(rt.alloc(), WORKERS, workers_and_budget_of)
+    are_read_so(rt.alloc(), WORKERS)
 }
 
 #[test]
 fn jobs(rt: HostRuntime) -> Result<(), Fail> {
-    table_holds(rt.alloc(), JOBS, job_of)
+    are_read_so(rt.alloc(), JOBS)
 }
 
 #[test]
 fn what_the_report_has(rt: HostRuntime) -> Result<(), Fail> {
-    table_holds(rt.alloc(), REPORTS, report_of)
+    are_read_so(rt.alloc(), REPORTS)
 }
 
 #[test]
 fn weights_and_tracing(rt: HostRuntime) -> Result<(), Fail> {
-    table_holds(rt.alloc(), WEIGHTS, weight_and_tracing_of)
+    are_read_so(rt.alloc(), WEIGHTS)
 }
 
 #[test]
 fn words_without_a_reading(rt: HostRuntime) -> Result<(), Fail> {
-    have_no_reading(rt.alloc(), WITHOUT_A_READING)?;
-    let empty = read_words(rt.alloc(), &[""]);
-    holds(empty == Err(WordErr::BadWords), "an empty word is refused")
+    are_read_so(rt.alloc(), WITHOUT_A_READING)?;
+    has_part(
+        "an empty word",
+        told(rt.alloc(), &[""])?.as_str(),
+        "BadWords",
+    )
 }
 
 #[test]
 fn loads_and_options_without_a_reading(rt: HostRuntime) -> Result<(), Fail> {
-    have_no_reading(rt.alloc(), LOADS_AND_OPTIONS)
+    are_read_so(rt.alloc(), LOADS_AND_OPTIONS)
 }
 
 #[test]
 fn audits_and_reasons_without_a_reading(rt: HostRuntime) -> Result<(), Fail> {
-    have_no_reading(rt.alloc(), AUDITS_AND_REASONS)
+    are_read_so(rt.alloc(), AUDITS_AND_REASONS)
+}
+
+fn is_told_as(alloc: Global, error: WordErr, want: &str) -> Result<(), Fail> {
+    same_text(error.to_string(alloc)?.as_str(), want)
 }
 
 #[test]
 fn errors_as_texts(rt: HostRuntime) -> Result<(), Fail> {
-    let alloc = rt.alloc();
-    let words = WordErr::BadWords.to_string(alloc)?;
-    same_text(words.as_str(), "the words have no reading")?;
-    same_text(
-        WordErr::NoMemory.to_string(alloc)?.as_str(),
-        "out of memory",
-    )
+    is_told_as(rt.alloc(), WordErr::BadWords, "the words have no reading")?;
+    is_told_as(rt.alloc(), WordErr::NoMemory, "out of memory")
 }
