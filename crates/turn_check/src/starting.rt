@@ -29,6 +29,28 @@ fn object(owner: ActorName, serial: u64) -> Value {
     })
 }
 
+/// The registers before a turn; the others are null.
+fn registers() -> RegisterFile {
+    RegisterFile::of(&Args::of(&[
+        Value::Num(7),
+        Value::Num(18_446_744_073_709_551_615),
+        Value::Null,
+        Value::Actor(OTHER),
+        object(ME, 2),
+        object(OTHER, 0),
+        Value::Num(0),
+        object(ME, 2),
+    ]))
+}
+
+/// The fields before a turn.
+fn fields() -> Fields {
+    Fields {
+        values: Args::of(&[Value::Num(3), Value::Null]),
+        pinned: false,
+    }
+}
+
 // The one row of before.
 #[derive(Drop)]
 struct OneRow {
@@ -94,11 +116,24 @@ pub(crate) fn program(alloc: Global, text: &str) -> Result<Program, Fail>
     Ok(parse(alloc, text.as_bytes())?)
 }
 
+fn checked(alloc: Global, text: &str) -> Result<Checked, Fail> {
+    Ok(check(program(alloc, text)?)?)
+}
+
 /// The program whose first kind `Main`, name 0, has two fields and the behaviour `start`, name 1, of this
 /// body, and whose second kind, `start`, has nothing.
 pub(crate) fn code_of(alloc: Global, body: &str) -> Result<Checked, Fail> {
     let text = format!(in alloc; "kind Main 2\non start 0\n{body}end\nkind start 0\n")?;
-    Ok(check(program(alloc, text.as_str())?)?)
+    checked(alloc, text.as_str())
+}
+
+/// Fails where another text is told of this than the one that is wanted.
+pub(crate) fn same_text(what: &str, told: &str, want: &str) -> Result<(), Fail> {
+    if told == want {
+        Ok(())
+    } else {
+        Err(Fail::new(format_args!("{what}\ntold: {told}\nwanted: {want}")))
+    }
 }
 
 /// What an actor in its turn has: its frame and fields, and the rows that it made.
@@ -114,34 +149,20 @@ impl Player {
     fn at(alloc: Global, place: u32) -> Player
         ensures { result.made.items ≡ [] }
     {
-        let values = [
-            Value::Num(7),
-            Value::Num(18_446_744_073_709_551_615),
-            Value::Null,
-            Value::Actor(OTHER),
-            object(ME, 2),
-            object(OTHER, 0),
-            Value::Num(0),
-            object(ME, 2),
-        ];
         Player {
             frame: Frame {
                 kind: 0,
                 behaviour: 0,
                 place,
-                registers: RegisterFile::of(&Args::of(&values)),
+                registers: registers(),
             },
-            fields: Fields {
-                values: Args::of(&[Value::Num(3), Value::Null]),
-                pinned: false,
-            },
+            fields: fields(),
             made: Vec::new(alloc),
         }
     }
 
-    /// It goes on up to its next act, over the row of its object 2, and lacks a thing if one is given; its
-    /// next object is 3.
-    fn goes(&mut self, code: &Checked, lacked: Option<Thing>) -> Result<Act, NoMemory>
+    /// It goes on up to its next act, over the row of its object 2; its next object is 3.
+    fn goes(&mut self, code: &Checked) -> Result<Act, NoMemory>
         requires { self.old.made.items ≡ [] }
     {
         let mut rows = Reading { rows: &own_row() };
@@ -150,12 +171,30 @@ impl Player {
             fields,
             made,
         } = self;
+        segment(code, ME, frame, fields, &mut rows, 3, made)
+    }
+
+    /// It goes on as far as it can while it lacks this thing.
+    fn goes_without(&mut self, code: &Checked, lacked: Thing) -> Result<Act, NoMemory>
+        requires { self.old.made.items ≡ [] }
+    {
+        let mut rows = Reading { rows: &own_row() };
+        let held = AllBut(lacked);
+        let Player {
+            frame,
+            fields,
+            made,
+        } = self;
+        segment_held(code, ME, frame, fields, &mut rows, &held, 3, made)
+    }
+
+    /// It goes on, and lacks a thing if one is given.
+    fn goes_lacking(&mut self, code: &Checked, lacked: Option<Thing>) -> Result<Act, NoMemory>
+        requires { self.old.made.items ≡ [] }
+    {
         match lacked {
-            Some(thing) => {
-                let held = AllBut(thing);
-                segment_held(code, ME, frame, fields, &mut rows, &held, 3, made)
-            }
-            None => segment(code, ME, frame, fields, &mut rows, 3, made),
+            Some(thing) => self.goes_without(code, thing),
+            None => self.goes(code),
         }
     }
 }
@@ -232,8 +271,21 @@ fn push_fields(text: &mut String, fields: &Fields) -> Result<(), AllocError> {
     push_values(text, fields.values.as_slice())
 }
 
-/// What is seen of a turn that left its actor so.
-fn line_of(
+/// Appends what is seen of a turn that left its actor so.
+fn push_turn(
+    text: &mut String,
+    act: &Act,
+    frame: &Frame,
+    fields: &Fields,
+    made: &[Row],
+) -> Result<(), AllocError> {
+    push_act(text, act)?;
+    push_frame(text, frame)?;
+    push_fields(text, fields)?;
+    push_rows(text, made)
+}
+
+fn text_of(
     alloc: Global,
     act: &Act,
     frame: &Frame,
@@ -241,10 +293,7 @@ fn line_of(
     made: &[Row],
 ) -> Result<String, AllocError> {
     let mut text = String::new(alloc);
-    push_act(&mut text, act)?;
-    push_frame(&mut text, frame)?;
-    push_fields(&mut text, fields)?;
-    push_rows(&mut text, made)?;
+    push_turn(&mut text, act, frame, fields, made)?;
     Ok(text)
 }
 
@@ -257,13 +306,22 @@ fn turn_of(
 ) -> Result<String, Fail>
     requires { player.old.made.items ≡ [] }
 {
-    let act = player.goes(code, lacked)?;
+    let act = player.goes_lacking(code, lacked)?;
     let Player {
         frame,
         fields,
         made,
     } = player;
-    Ok(line_of(alloc, &act, frame, fields, made.as_slice())?)
+    Ok(text_of(alloc, &act, frame, fields, made.as_slice())?)
+}
+
+fn turn_from(
+    alloc: Global,
+    code: &Checked,
+    place: u32,
+    lacked: Option<Thing>,
+) -> Result<String, Fail> {
+    turn_of(alloc, code, &mut Player::at(alloc, place), lacked)
 }
 
 /// The actor of this number, if one is given.
@@ -281,7 +339,5 @@ pub(crate) fn told(
     place: u32,
     lacked: Option<u32>,
 ) -> Result<String, Fail> {
-    let code = code_of(alloc, body)?;
-    let mut player = Player::at(alloc, place);
-    turn_of(alloc, &code, &mut player, actor_of(lacked))
+    turn_from(alloc, &code_of(alloc, body)?, place, actor_of(lacked))
 }
