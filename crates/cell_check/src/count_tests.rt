@@ -168,19 +168,6 @@ fn passes_on(alloc: Global, code: &Checked, cell: &mut Cell) -> Result<bool, Fai
     Ok(got && minted && sent && gives_back(alloc, code, cell)?)
 }
 
-fn second_passes_on(alloc: Global, code: &Checked) -> Result<bool, Fail> {
-    let mut cell = Cell::fresh(alloc, code, SECOND, 1, COUNT);
-    passes_on(alloc, code, &mut cell)
-}
-
-#[test]
-fn what_is_passed_on_is_counted(rt: HostRuntime) -> Result<(), Fail> {
-    let code = checked(rt.alloc(), PASSED)?;
-    let well = second_passes_on(rt.alloc(), &code)?;
-    assert!(rt; well);
-    Ok(())
-}
-
 /// Counts an object once.
 fn count_once(heap: &mut ObjectHeap, object: &ObjName) {
     if heap.has(*object) {
@@ -219,19 +206,6 @@ fn keeps_counted(alloc: Global, cell: &mut Cell) -> Result<bool, Fail> {
     Ok(is_told && cell.heap.has(object_of(1)) && cell.foreign.len() == 0)
 }
 
-fn second_keeps_counted(alloc: Global, code: &Checked) -> Result<bool, Fail> {
-    let mut cell = Cell::fresh(alloc, code, SECOND, 1, COUNT);
-    keeps_counted(alloc, &mut cell)
-}
-
-#[test]
-fn what_is_counted_is_kept_by_itself(rt: HostRuntime) -> Result<(), Fail> {
-    let code = checked(rt.alloc(), PASSED)?;
-    let well = second_keeps_counted(rt.alloc(), &code)?;
-    assert!(rt; well);
-    Ok(())
-}
-
 /// One thing, with the amount 1.
 fn once(alloc: Global, thing: Thing) -> Result<Amounts, NoMemory>
     ensures { IfOk result (λ things. things ≡ (thing, 1) ∷ []) }
@@ -262,11 +236,6 @@ fn unblocks(alloc: Global, code: &Checked, cell: &mut Cell) -> Result<bool, Fail
     Ok(is_told && cell.dirty && !cell.reported && cell.count.get() == 255)
 }
 
-fn second_unblocks(alloc: Global, code: &Checked) -> Result<bool, Fail> {
-    let mut cell = Cell::fresh(alloc, code, SECOND, 1, COUNT);
-    unblocks(alloc, code, &mut cell)
-}
-
 /// Whether the second actor acknowledges the token that it is asked for after it reported.
 fn acknowledges(alloc: Global, code: &Checked, cell: &mut Cell) -> Result<bool, Fail>
     requires idle { cell.old.frame ≡ None }
@@ -278,16 +247,54 @@ fn acknowledges(alloc: Global, code: &Checked, cell: &mut Cell) -> Result<bool, 
     Ok(is_told && !cell.dirty && cell.reported)
 }
 
-fn second_acknowledges(alloc: Global, code: &Checked) -> Result<bool, Fail> {
+/// What the second actor is to do by itself.
+#[derive(Clone, Copy)]
+enum Scene {
+    PassOn,
+    KeepCounted,
+    Unblock,
+    Acknowledge,
+}
+
+/// Whether the fresh actor does so.
+fn does(alloc: Global, code: &Checked, cell: &mut Cell, scene: Scene) -> Result<bool, Fail>
+    requires idle { cell.old.frame ≡ None }
+    requires fresh { (as_cell cell.old).holdings ≡ nothing_held 256 }
+{
+    match scene {
+        Scene::PassOn => passes_on(alloc, code, cell),
+        Scene::KeepCounted => keeps_counted(alloc, cell),
+        Scene::Unblock => unblocks(alloc, code, cell),
+        Scene::Acknowledge => acknowledges(alloc, code, cell),
+    }
+}
+
+fn second_does(alloc: Global, code: &Checked, scene: Scene) -> Result<bool, Fail> {
     let mut cell = Cell::fresh(alloc, code, SECOND, 1, COUNT);
-    acknowledges(alloc, code, &mut cell)
+    does(alloc, code, &mut cell, scene)
+}
+
+/// Whether the second actor of the program does so.
+fn plays(alloc: Global, scene: Scene) -> Result<bool, Fail> {
+    let code = checked(alloc, PASSED)?;
+    second_does(alloc, &code, scene)
+}
+
+#[test]
+fn what_is_passed_on_is_counted(rt: HostRuntime) -> Result<(), Fail> {
+    assert!(rt; plays(rt.alloc(), Scene::PassOn)?);
+    Ok(())
+}
+
+#[test]
+fn what_is_counted_is_kept_by_itself(rt: HostRuntime) -> Result<(), Fail> {
+    assert!(rt; plays(rt.alloc(), Scene::KeepCounted)?);
+    Ok(())
 }
 
 #[test]
 fn a_reported_actor_tells_what_it_took(rt: HostRuntime) -> Result<(), Fail> {
-    let code = checked(rt.alloc(), PASSED)?;
-    let unblocked = second_unblocks(rt.alloc(), &code)?;
-    let acknowledged = second_acknowledges(rt.alloc(), &code)?;
-    assert!(rt; unblocked && acknowledged);
+    assert!(rt; plays(rt.alloc(), Scene::Unblock)?);
+    assert!(rt; plays(rt.alloc(), Scene::Acknowledge)?);
     Ok(())
 }
