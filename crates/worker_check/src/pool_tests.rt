@@ -1,7 +1,7 @@
 // Workers over a toy run.
 
 use crate::ending::{end_by, work_in_time};
-use crate::toy::{Toy, ToyPass};
+use crate::toy::{Toy, ToyPass, run_of};
 use orca_names::ActorName;
 use outside_world::{Gate, HoldGate, OpenGate};
 use std::process::Abort;
@@ -38,10 +38,10 @@ fn leave_nothing<R>(rt: &R, workers: u32, rich: bool, turns: u64) -> bool
 where
     R: Abort + AllocGlobal + Threads + Wait + Sync,
 {
-    let toy = Toy::new(rt.alloc(), &[30, 0, 7, 100, 1]).expect(rt, "memory");
+    let toy = run_of(rt, &[30, 0, 7, 100, 1]);
     let passed = AtomicU64::new(0);
     let gate = Counter { passed };
-    let end = end_by(rt, &Mutex::new(toy), workers, rich, &gate);
+    let end = end_by(rt, &toy, workers, rich, &gate);
     end.is_whole(139) && gate.passed.load(Ordering::SeqCst) == turns
 }
 
@@ -62,9 +62,9 @@ fn no_worker_needs_no_board(rt: HostRuntime) {
 
 // Whether two workers stand before segments of two actors at once.
 fn two_meet<R: Abort + AllocGlobal + Threads + Wait + Sync>(rt: &R) -> bool {
-    let toy = Toy::new(rt.alloc(), &[2, 2]).expect(rt, "memory");
+    let toy = run_of(rt, &[2, 2]);
     let gate = HoldGate::new(ActorName(0), ActorName(1), TRIES);
-    let end = end_by(rt, &Mutex::new(toy), 2, true, &gate);
+    let end = end_by(rt, &toy, 2, true, &gate);
     end.is_whole(5) && gate.met()
 }
 
@@ -99,10 +99,10 @@ impl Gate for LateGate<'_> {
 }
 
 // A run whose actors behind the first one have no event before they are woken.
-fn line_of<R: Abort + AllocGlobal>(rt: &R, left: &[u32]) -> Mutex<Toy> {
-    let mut toy = Toy::new(rt.alloc(), left).expect(rt, "memory");
-    toy.awake = 1;
-    Mutex::new(toy)
+fn line_of<R: Abort + AllocGlobal + Wait>(rt: &R, left: &[u32]) -> Mutex<Toy> {
+    let toy = run_of(rt, left);
+    toy.lock(rt).awake = 1;
+    toy
 }
 
 // Whether a worker that found nothing takes up what comes late, while another is held at its segment,
@@ -147,23 +147,23 @@ where
 fn wrong_names_are_forgotten(rt: HostRuntime) {
     let wrong = [(1, ActorName(70000)), (2, ActorName(1)), (4, ActorName(9))];
     let wrong = wrong.to_vec(rt.alloc()).expect(&rt, "memory");
-    let toy = Toy::new(rt.alloc(), &[5, 4, 3]).expect(&rt, "memory");
-    let entries = entries_despite(&rt, &Mutex::new(toy), wrong);
+    let toy = run_of(&rt, &[5, 4, 3]);
+    let entries = entries_despite(&rt, &toy, wrong);
     assert!(rt; entries == 13);
 }
 
 #[test]
 fn a_worker_without_room_stops_all(rt: HostRuntime) {
-    let mut toy = Toy::new(rt.alloc(), &[50, 4, 50]).expect(&rt, "memory");
-    toy.full = Some(ActorName(1));
-    let end = end_by(&rt, &Mutex::new(toy), 2, true, &OpenGate);
+    let toy = run_of(&rt, &[50, 4, 50]);
+    toy.lock(&rt).full = Some(ActorName(1));
+    let end = end_by(&rt, &toy, 2, true, &OpenGate);
     assert!(rt; end.ended && end.stops > 0 && end.entries <= 101);
 }
 
 #[test]
 fn a_spent_budget_ends_all_without_a_stop(rt: HostRuntime) {
-    let mut toy = Toy::new(rt.alloc(), &[50, 50]).expect(&rt, "memory");
-    toy.budget = 60;
-    let end = end_by(&rt, &Mutex::new(toy), 2, true, &OpenGate);
+    let toy = run_of(&rt, &[50, 50]);
+    toy.lock(&rt).budget = 60;
+    let end = end_by(&rt, &toy, 2, true, &OpenGate);
     assert!(rt; end.is_whole(60));
 }

@@ -7,6 +7,7 @@ ghost use Rattle.work_board.specs.Answered.{is_spoiling};
 use event_rule::Event;
 use orca_names::{ActorName, NoMemory};
 use std::alloc::Global;
+use std::process::Abort;
 use std::sync::{Mutex, Wait};
 use work_board::{Board, Committed, Look, Refuse};
 
@@ -56,32 +57,37 @@ fn event_of(a: ActorName, left: u32) -> Event
     }
 }
 
-impl Toy {
-    /// A run whose actors are awake, and have so many events left.
-    pub(crate) fn new(alloc: Global, left: &[u32]) -> Result<Toy, NoMemory> {
-        let mut actors = Vec::new(alloc);
-        let mut number = 0u32;
-        for &left in left {
-            actors.push(Actor {
-                name: ActorName(number),
-                left,
-                holder: None,
-            })?;
-            number = number.saturating_add(1);
-        }
-        Ok(Toy {
-            actors,
-            awake: u32::MAX,
-            news: true,
-            full: None,
-            budget: 1000,
-            looks: 0,
-            looked: 0,
-            entries: 0,
-            stops: 0,
-        })
+/// Actors that have so many events left.
+fn actors_of(alloc: Global, left: &[u32]) -> Result<Vec<Actor>, NoMemory> {
+    let mut actors = Vec::new(alloc);
+    let mut number = 0u32;
+    for &left in left {
+        actors.push(Actor {
+            name: ActorName(number),
+            left,
+            holder: None,
+        })?;
+        number = number.saturating_add(1);
     }
+    Ok(actors)
+}
 
+/// A run whose actors are awake, and have so many events left.
+pub(crate) fn run_of<R: Abort + AllocGlobal>(rt: &R, left: &[u32]) -> Mutex<Toy> {
+    Mutex::new(Toy {
+        actors: actors_of(rt.alloc(), left).expect(rt, "memory"),
+        awake: u32::MAX,
+        news: true,
+        full: None,
+        budget: 1000,
+        looks: 0,
+        looked: 0,
+        entries: 0,
+        stops: 0,
+    })
+}
+
+impl Toy {
     fn look(&mut self, pass: u32) -> Look {
         self.looks = self.looks.saturating_add(1);
         self.looked |= 1 << (pass % 64);

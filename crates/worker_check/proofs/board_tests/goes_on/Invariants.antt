@@ -3,4 +3,4 @@ use Rattle.event_rule.specs.Events.{actor_of}
 use Rattle.worker_check.proofs.board_tests.goes_on.Given as goal
 
 abbrev pub invariant-loop-place : goal.invariant-loop-place
-invariant-loop-place g l = actor_of l.task.event ≡ Some 0
+invariant-loop-place g l = (actor_of (g.B.Board.event l.task) ≡ Some 0) × g.B.Board.owns l.board l.task
