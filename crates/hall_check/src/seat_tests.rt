@@ -9,6 +9,7 @@ use crate::asking::{
     Answer, BY_EVENTS, Call, Keeper, ONE_ENTRY, TAKE, TWO_PASSES, Want, answers, entry,
 };
 use crate::programs::{PRINTS_TWICE, SEVEN, TWO_PRINT, checked};
+use behaviour_check::Checked;
 use event_rule::Event;
 use orca_core::Orca;
 use orca_names::{ActorName, Trace};
@@ -123,7 +124,7 @@ fn ended<'a>(hall: SeatHall<'a>, seat: HallSeat<'a>) -> End
     }
 }
 
-/// The pass takes in another one.
+/// The seat of a pass that takes in another one.
 fn joined<'a>(pass: SeatPass<'_, 'a>, other: SeatPass<'_, 'a>) -> HallSeat<'a>
     requires hall { other.token.table_id ≡ pass.token.table_id }
     requires none { out_of other ≡ 0 }
@@ -134,63 +135,52 @@ fn joined<'a>(pass: SeatPass<'_, 'a>, other: SeatPass<'_, 'a>) -> HallSeat<'a>
     pass.into_seat()
 }
 
-/// The seat of a pass, once it has split off a second one, these calls of both and then those were
-/// answered as it is wanted, and it has taken the second one in.
+/// Calls of two passes, with what they are to answer, in two parts.
+#[derive(Clone, Copy)]
+struct Rows {
+    rows: &'static [(Call, Want)],
+    further: &'static [(Call, Want)],
+}
+
+/// Whether these calls of two passes are answered as it is wanted, and the seat of the first one, which
+/// has taken the second one in.
+fn both_played<'a, R: Abort + AllocGlobal + Wait>(
+    rt: &R,
+    first: SeatPass<'_, 'a>,
+    second: SeatPass<'_, 'a>,
+    calls: Rows,
+) -> (HallSeat<'a>, bool)
+    requires hall { second.token.table_id ≡ first.token.table_id }
+    requires first { out_of first ≡ 0 }
+    requires second { out_of second ≡ 0 }
+    ensures { result.0.token.table_id ≡ first.entry.token.table_id }
+{
+    let mut first = Seated::of(first);
+    let mut second = Seated::of(second);
+    let well = answers(rt, &mut first, &mut second, calls.rows)
+        && answers(rt, &mut first, &mut second, calls.further);
+    (joined(first.into_pass(), second.into_free(rt)), well)
+}
+
+/// Whether calls of a pass, and of a second one that it splits off, are answered as it is wanted, and the
+/// seat of the pass, which has taken the second one in.
 fn played<'a, R: Abort + AllocGlobal + Wait>(
     rt: &R,
     pass: SeatPass<'_, 'a>,
-    rows: &[(Call, Want)],
-    further: &[(Call, Want)],
-) -> Result<HallSeat<'a>, Fail>
+    calls: Rows,
+) -> (HallSeat<'a>, bool)
     requires { out_of pass ≡ 0 }
-    ensures { IfOk result (λ seat. seat.token.table_id ≡ pass.entry.token.table_id) }
+    ensures { result.0.token.table_id ≡ pass.entry.token.table_id }
 {
     let mut pass = pass;
-    let mut second = Seated::of(pass.split(rt)?);
-    let mut first = Seated::of(pass);
-    let well = answers(rt, &mut first, &mut second, rows)
-        && answers(rt, &mut first, &mut second, further);
-    let seat = joined(first.into_pass(), second.into_free(rt));
-    if well {
-        Ok(seat)
-    } else {
-        Err(Fail::from("another answer"))
+    match pass.split(rt) {
+        Ok(second) => both_played(rt, pass, second, calls),
+        Err(Passes) => (pass.into_seat(), false),
     }
-}
-
-/// How the hall of a program ends after these calls of two passes, and then those.
-fn ends<R: Abort + AllocGlobal + Wait>(
-    rt: &R,
-    text: &str,
-    budget: u64,
-    rows: &[(Call, Want)],
-    further: &[(Call, Want)],
-) -> Result<End, Fail>
-    requires { budget ≤ BOOK_LIMIT }
-{
-    let code = checked(rt.alloc(), text)?;
-    let (hall, seat) = SeatHall::start(rt.alloc(), &code, budget, 256, Trace::Deep)?;
-    let seat = played(rt, hall.first_pass(seat), rows, further)?;
-    Ok(ended(hall, seat))
 }
 
 // The first pass claims an actor for a letter.
 const CLAIMED: &[(Call, Want)] = &[(Call::Claim(0, 1), Want::Grants(TAKE, 1))];
-
-#[test]
-fn seats_answer_as_the_hall_says(rt: HostRuntime) -> Result<(), Fail> {
-    assert_eq!(rt; ends(&rt, SEVEN, 1, ONE_ENTRY, &[])?, End::Whole(1, 0));
-    assert_eq!(rt; ends(&rt, SEVEN, 20, BY_EVENTS, &[])?, End::Whole(10, 1));
-    assert_eq!(rt;
-        ends(&rt, TWO_PRINT, 100, TWO_PASSES, &[])?,
-        End::Whole(4, 0)
-    );
-    assert_eq!(rt;
-        ends(&rt, TWO_PRINT, 100, TWO_PASSES, CLAIMED)?,
-        End::Lent(0, 1)
-    );
-    Ok(())
-}
 
 /// Splits a pass off and takes it in, unless all are made.
 fn split_and_join<R: Wait>(rt: &R, pass: &mut SeatPass<'_, '_>) -> bool
@@ -215,17 +205,6 @@ fn splits<R: Wait>(rt: &R, pass: &mut SeatPass<'_, '_>, most: u32) -> u32
         }
     }
     most
-}
-
-#[test]
-fn so_many_passes_are_split_off(rt: HostRuntime) -> Result<(), Fail> {
-    let code = checked(rt.alloc(), SEVEN)?;
-    let (hall, seat) = SeatHall::start(rt.alloc(), &code, 20, 256, Trace::Deep)?;
-    let mut pass = hall.first_pass(seat);
-    assert_eq!(rt; splits(&rt, &mut pass, 70_000), 65_535);
-    let seat = pass.into_seat();
-    assert_eq!(rt; ended(hall, seat), End::Whole(0, 0));
-    Ok(())
 }
 
 /// Whether it is an entry at this place.
@@ -278,14 +257,142 @@ fn both_go_on<'a, R: AllocGlobal + Wait>(
     (pass.into_seat(), well)
 }
 
+/// The seat of a pass, and whether it splits just so many others off and takes them in, before it can't.
+fn all_split<'a, R: Wait>(rt: &R, pass: SeatPass<'_, 'a>, most: u32) -> (HallSeat<'a>, bool)
+    ensures { result.0.token.table_id ≡ pass.entry.token.table_id }
+{
+    let mut pass = pass;
+    let well = splits(rt, &mut pass, 70_000) == most;
+    (pass.into_seat(), well)
+}
+
+/// What the first pass of a hall does.
+#[derive(Clone, Copy)]
+enum Play {
+    /// These calls, with a second pass.
+    Calls(Rows),
+    /// It splits so many others off and takes them in, before it can't.
+    Splits(u32),
+    /// It goes on with the first actor, with entries at these places, and then with the second.
+    GoesOn(&'static [u64], &'static [u64]),
+}
+
+/// The seat of the pass once it has done so, and whether it could.
+fn done<'a, R: Abort + AllocGlobal + Wait>(
+    rt: &R,
+    pass: SeatPass<'_, 'a>,
+    play: Play,
+) -> (HallSeat<'a>, bool)
+    requires { out_of pass ≡ 0 }
+    ensures { result.0.token.table_id ≡ pass.entry.token.table_id }
+{
+    match play {
+        Play::Calls(calls) => played(rt, pass, calls),
+        Play::Splits(most) => all_split(rt, pass, most),
+        Play::GoesOn(first, second) => both_go_on(rt, pass, first, second),
+    }
+}
+
+/// How the hall of a checked program ends after this play, and whether it went so.
+fn ends_in<R: Abort + AllocGlobal + Wait>(
+    rt: &R,
+    code: &Checked,
+    budget: u64,
+    play: Play,
+) -> Result<(End, bool), Fail>
+    requires { budget ≤ BOOK_LIMIT }
+{
+    let (hall, seat) = SeatHall::start(rt.alloc(), code, budget, 256, Trace::Deep)?;
+    let (seat, well) = done(rt, hall.first_pass(seat), play);
+    Ok((ended(hall, seat), well))
+}
+
+/// How the hall of a program ends after this play, and whether it went so.
+fn ends<R: Abort + AllocGlobal + Wait>(
+    rt: &R,
+    text: &str,
+    budget: u64,
+    play: Play,
+) -> Result<(End, bool), Fail>
+    requires { budget ≤ BOOK_LIMIT }
+{
+    let code = checked(rt.alloc(), text)?;
+    ends_in(rt, &code, budget, play)
+}
+
+/// A program, the budget of its run, calls of two passes, in two parts, and how the hall then ends.
+struct Case {
+    text: &'static str,
+    budget: u16,
+    calls: Rows,
+    end: End,
+}
+
+const CASES: &[Case] = &[
+    Case {
+        text: SEVEN,
+        budget: 1,
+        calls: Rows {
+            rows: ONE_ENTRY,
+            further: &[],
+        },
+        end: End::Whole(1, 0),
+    },
+    Case {
+        text: SEVEN,
+        budget: 20,
+        calls: Rows {
+            rows: BY_EVENTS,
+            further: &[],
+        },
+        end: End::Whole(10, 1),
+    },
+    Case {
+        text: TWO_PRINT,
+        budget: 100,
+        calls: Rows {
+            rows: TWO_PASSES,
+            further: &[],
+        },
+        end: End::Whole(4, 0),
+    },
+    Case {
+        text: TWO_PRINT,
+        budget: 100,
+        calls: Rows {
+            rows: TWO_PASSES,
+            further: CLAIMED,
+        },
+        end: End::Lent(0, 1),
+    },
+];
+
+#[test]
+fn seats_answer_as_the_hall_says(rt: HostRuntime) -> Result<(), Fail> {
+    for (i, case) in CASES.iter().enumerate() {
+        let end = ends(
+            &rt,
+            case.text,
+            u64::from(case.budget),
+            Play::Calls(case.calls),
+        )?;
+        assert!(rt; end == (case.end, true), "at {i}");
+    }
+    Ok(())
+}
+
+#[test]
+fn so_many_passes_are_split_off(rt: HostRuntime) -> Result<(), Fail> {
+    let end = ends(&rt, SEVEN, 20, Play::Splits(65_535))?;
+    assert!(rt; end == (End::Whole(0, 0), true));
+    Ok(())
+}
+
+// The second actor's second letter is taken behind its first turn, at place 8, by the commit of that turn.
 #[test]
 fn a_commit_goes_on_with_its_actor(rt: HostRuntime) -> Result<(), Fail> {
-    let code = checked(rt.alloc(), PRINTS_TWICE)?;
-    let (hall, seat) = SeatHall::start(rt.alloc(), &code, 100, 256, Trace::Deep)?;
-    // The second actor's second letter is taken behind its first turn, at place 8, by the commit of that turn.
-    let pass = hall.first_pass(seat);
-    let (seat, well) = both_go_on(&rt, pass, &[0, 1, 2, 3, 4], &[5, 6, 7, 9, 10]);
-    assert_eq!(rt; ended(hall, seat), End::Whole(11, 2));
-    assert!(rt; well);
+    let play = Play::GoesOn(&[0, 1, 2, 3, 4], &[5, 6, 7, 9, 10]);
+    let end = ends(&rt, PRINTS_TWICE, 100, play)?;
+    assert!(rt; end == (End::Whole(11, 2), true));
     Ok(())
 }
