@@ -44,44 +44,43 @@ fn passes<'h, 'a, J: Naming>(
     alloc: Global,
     hall: &'h SharedHall<'a, J>,
     wrong: &[Wrong],
-) -> Result<Vec<TroubleBoard<HallPass<'h, 'a, J>>>, NoMemory> {
-    let mut boards = Vec::new(alloc);
+    boards: &mut Vec<TroubleBoard<HallPass<'h, 'a, J>>>,
+) -> Result<(), NoMemory> {
     let mut number = 0u32;
     for looks in wrong {
-        let pass = hall.pass(number);
-        boards.push(TroubleBoard::new(pass, names(alloc, *looks)?))?;
+        let told = names(alloc, *looks)?;
+        boards.push(TroubleBoard::new(hall.pass(number), told))?;
         number = number.wrapping_add(1);
     }
-    Ok(boards)
+    Ok(())
 }
 
-/// Workers work in the hall that copies cells.
+/// Workers work in the hall that copies cells, as many as there was memory for.
 fn work_in<J: Naming + Send + Sync, R: AllocGlobal + Threads + Wait + Sync>(
     rt: &R,
     hall: &SharedHall<'_, J>,
     wrong: &[Wrong],
 ) -> Result<(), NoMemory> {
-    let mut boards = passes(rt.alloc(), hall, wrong)?;
+    let mut boards = Vec::new(rt.alloc());
+    let made = passes(rt.alloc(), hall, wrong, &mut boards);
     work(rt, rt.alloc(), boards.as_mut_slice(), &OpenGate);
-    Ok(())
+    made
 }
 
-/// What workers make of a program in the hall that copies cells.
+/// What workers make of a program in the hall that copies cells, and whether there was memory for all.
 fn by_copies<'a, J: Naming + Send + Sync, R: AllocGlobal + Threads + Wait + Sync>(
     rt: &R,
     code: &'a Checked,
     wrong: &[Wrong],
-) -> Result<Hall<'a>, NoMemory>
+) -> Result<(Hall<'a>, Result<(), NoMemory>), NoMemory>
     requires program { code.now ≡ J.program }
     requires weight { 256 ≡ J.weight }
     requires budget { BUDGET ≡ J.budget }
-    ensures { IfOk result (λ hall. hall.budget ≡ BUDGET) }
+    ensures { IfOk result (λ made. made.0.budget ≡ BUDGET) }
 {
     let hall = SharedHall::<J>::new(Hall::start(rt.alloc(), code, BUDGET, 256)?);
-    match work_in(rt, &hall, wrong) {
-        Ok(()) => Ok(hall.into_hall()),
-        Err(fault) => Err(fault),
-    }
+    let worked = work_in(rt, &hall, wrong);
+    Ok((hall.into_hall(), worked))
 }
 
 /// A pass of the hall whose cells move out, for each worker.
@@ -89,51 +88,54 @@ fn seats<'h, 'a, R: AllocGlobal + Wait>(
     rt: &R,
     first: &mut SeatPass<'h, 'a>,
     wrong: &[Wrong],
-) -> Result<Vec<TroubleBoard<SeatPass<'h, 'a>>>, Fail>
+    boards: &mut Vec<TroubleBoard<SeatPass<'h, 'a>>>,
+) -> Result<(), Fail>
+    requires { All (λ b. out_of b.inner ≡ 0) boards.old.items }
     ensures hall { first.new.token.table_id ≡ first.old.token.table_id }
     ensures run { (knows first.new.token).client ≡ (knows first.old.token).client }
-    ensures idle { IfOk result (λ boards. All (λ b. out_of b.inner ≡ 0) boards.items) }
+    ensures idle { All (λ b. out_of b.inner ≡ 0) boards.new.items }
 {
-    let mut boards = Vec::new(rt.alloc());
     for looks in wrong {
+        let told = names(rt.alloc(), *looks)?;
         let pass = first.split(rt)?;
-        boards.push(TroubleBoard::new(pass, names(rt.alloc(), *looks)?))?;
+        boards.push(TroubleBoard::new(pass, told))?;
     }
-    Ok(boards)
+    Ok(())
 }
 
 /// Workers work in the hall whose cells move out, whose first pass takes this seat and gives it back.
+/// Tells whether each worker had a pass.
 fn work_from<'a, R: AllocGlobal + Threads + Wait + Sync>(
     rt: &R,
     hall: &SeatHall<'a>,
     seat: HallSeat<'a>,
     wrong: &[Wrong],
-) -> Result<HallSeat<'a>, Fail>
+) -> (HallSeat<'a>, Result<(), Fail>)
     requires { seat.token.table_id ≡ hall.now }
-    ensures hall { IfOk result (λ s. s.token.table_id ≡ hall.now) }
-    ensures run { IfOk result (λ s. (knows s.token).client ≡ (knows seat.entry.token).client) }
+    ensures hall { result.0.token.table_id ≡ hall.now }
+    ensures run { (knows result.0.token).client ≡ (knows seat.entry.token).client }
 {
     let mut first = hall.first_pass(seat);
-    let mut boards = seats(rt, &mut first, wrong)?;
+    let mut boards = Vec::new(rt.alloc());
+    let made = seats(rt, &mut first, wrong, &mut boards);
     work(rt, rt.alloc(), boards.as_mut_slice(), &OpenGate);
     drop(boards);
-    Ok(first.into_seat())
+    (first.into_seat(), made)
 }
 
-/// What workers make of a program in the hall whose cells move out, with the seat of the first pass.
+/// What workers make of a program in the hall whose cells move out, with the seat of the first pass, and
+/// whether each worker had a pass.
 fn by_moves<'a, R: AllocGlobal + Threads + Wait + Sync>(
     rt: &R,
     code: &'a Checked,
     wrong: &[Wrong],
-) -> Result<(SeatHall<'a>, HallSeat<'a>), Fail>
+) -> Result<(SeatHall<'a>, HallSeat<'a>, Result<(), Fail>), NoMemory>
     ensures hall { IfOk result (λ made. made.1.token.table_id ≡ made.0) }
     ensures budget { IfOk result (λ made. (knows made.1.token).client.budget ≡ BUDGET) }
 {
     let (hall, seat) = SeatHall::start(rt.alloc(), code, BUDGET, 256, Trace::Deep)?;
-    match work_from(rt, &hall, seat, wrong) {
-        Ok(seat) => Ok((hall, seat)),
-        Err(fault) => Err(fault),
-    }
+    let (seat, worked) = work_from(rt, &hall, seat, wrong);
+    Ok((hall, seat, worked))
 }
 
 // Sixteen workers who are told no wrong names.
@@ -160,23 +162,33 @@ fn agrees<R: AllocGlobal + Threads + Wait + Sync>(
     code: &Checked,
     workers: usize,
 ) -> Result<bool, Fail> {
-    let (hall, seat) = by_moves(rt, code, &RIGHT[..workers.min(RIGHT.len())])?;
-    Ok(ends_with_run(rt.alloc(), code, hall, seat))
+    let (hall, seat, worked) = by_moves(rt, code, &RIGHT[..workers.min(RIGHT.len())])?;
+    let well = ends_with_run(rt.alloc(), code, hall, seat);
+    worked?;
+    Ok(well)
 }
 
 /// Whether several runs of a program by so many workers have books that both machines follow.
+fn all_agree<R: AllocGlobal + Threads + Wait + Sync>(
+    rt: &R,
+    code: &Checked,
+    workers: usize,
+) -> Result<bool, Fail> {
+    for _ in 0..5 {
+        if !agrees(rt, code, workers)? {
+            return Ok(false);
+        }
+    }
+    Ok(true)
+}
+
 fn agree<R: AllocGlobal + Threads + Wait + Sync>(
     rt: &R,
     text: &str,
     workers: usize,
 ) -> Result<bool, Fail> {
     let code = checked(rt.alloc(), text)?;
-    for _ in 0..5 {
-        if !agrees(rt, &code, workers)? {
-            return Ok(false);
-        }
-    }
-    Ok(true)
+    all_agree(rt, &code, workers)
 }
 
 #[test]
@@ -199,8 +211,18 @@ fn is_first_left(alloc: Global, orca: &Orca<'_>) -> bool
     }
 }
 
-/// Whether a run, which one worker takes to its end, ends quiet with the first actor alone and the report of
-/// the peers.
+/// Whether one worker takes a run to its end, which is quiet with the first actor alone and the report of the
+/// peers.
+fn finishes_with_first(alloc: Global, orca: &mut Orca<'_>, book: &mut Book) -> bool
+    requires run { IsRunOf orca.old book.old.entries }
+    requires home { NoneIsAway orca.old }
+    requires within { length book.old.entries ≤ BUDGET }
+{
+    let end = finish(alloc, orca, book, BUDGET);
+    matches!(end, End::Quiet) && is_first_left(alloc, orca) && has_report(alloc, orca, PEERS_REPORT)
+}
+
+/// Whether a run does so, whose machine and book end here.
 fn ends_with_first(alloc: Global, orca: Orca<'_>, book: Book) -> bool
     requires run { IsRunOf orca book.entries }
     requires home { NoneIsAway orca }
@@ -208,10 +230,7 @@ fn ends_with_first(alloc: Global, orca: Orca<'_>, book: Book) -> bool
 {
     let mut orca = orca;
     let mut book = book;
-    let end = finish(alloc, &mut orca, &mut book, BUDGET);
-    matches!(end, End::Quiet)
-        && is_first_left(alloc, &orca)
-        && has_report(alloc, &orca, PEERS_REPORT)
+    finishes_with_first(alloc, &mut orca, &mut book)
 }
 
 /// Whether the run in a hall that copies cells ends quiet with the first of three actors alone.
@@ -236,28 +255,52 @@ fn moves_end_with_first<'a>(alloc: Global, hall: SeatHall<'a>, seat: HallSeat<'a
 // The first of two workers is told of actors that there are not, and of one before its time.
 const WRONG: &[Wrong] = &[&[(1, 70000), (2, 1), (3, 70000), (4, 1)], &[]];
 
-/// Whether workers who are told wrong names leave of the peers the first actor alone.
-fn copies_leave_first<R: AllocGlobal + Threads + Wait + Sync>(rt: &R) -> Result<bool, Fail> {
-    let code = checked(rt.alloc(), PEERS)?;
-    let hall = by_copies::<Brand, R>(rt, &code, WRONG)?;
-    Ok(copies_end_with_first(rt.alloc(), hall))
+/// Whether workers who are told wrong names leave of the program the first actor alone.
+fn copies_leave_first<J: Naming + Send + Sync, R: AllocGlobal + Threads + Wait + Sync>(
+    rt: &R,
+    code: &Checked,
+) -> Result<bool, Fail>
+    requires program { code.now ≡ J.program }
+    requires weight { 256 ≡ J.weight }
+    requires budget { BUDGET ≡ J.budget }
+{
+    let (hall, worked) = by_copies::<J, R>(rt, code, WRONG)?;
+    let well = copies_end_with_first(rt.alloc(), hall);
+    worked?;
+    Ok(well)
 }
 
 /// As `copies_leave_first`, where cells move.
-fn moves_leave_first<R: AllocGlobal + Threads + Wait + Sync>(rt: &R) -> Result<bool, Fail> {
+fn moves_leave_first<R: AllocGlobal + Threads + Wait + Sync>(
+    rt: &R,
+    code: &Checked,
+) -> Result<bool, Fail> {
+    let (hall, seat, worked) = by_moves(rt, code, WRONG)?;
+    let well = moves_end_with_first(rt.alloc(), hall, seat);
+    worked?;
+    Ok(well)
+}
+
+/// Whether they leave of the peers the first actor alone.
+fn copies_leave_first_peer<R: AllocGlobal + Threads + Wait + Sync>(rt: &R) -> Result<bool, Fail> {
     let code = checked(rt.alloc(), PEERS)?;
-    let (hall, seat) = by_moves(rt, &code, WRONG)?;
-    Ok(moves_end_with_first(rt.alloc(), hall, seat))
+    copies_leave_first::<Brand, R>(rt, &code)
+}
+
+/// As `copies_leave_first_peer`, where cells move.
+fn moves_leave_first_peer<R: AllocGlobal + Threads + Wait + Sync>(rt: &R) -> Result<bool, Fail> {
+    let code = checked(rt.alloc(), PEERS)?;
+    moves_leave_first(rt, &code)
 }
 
 #[test]
 fn wrong_names_change_nothing(rt: HostRuntime) -> Result<(), Fail> {
-    assert!(rt; copies_leave_first(&rt)?);
+    assert!(rt; copies_leave_first_peer(&rt)?);
     Ok(())
 }
 
 #[test]
 fn wrong_names_change_nothing_where_cells_move(rt: HostRuntime) -> Result<(), Fail> {
-    assert!(rt; moves_leave_first(&rt)?);
+    assert!(rt; moves_leave_first_peer(&rt)?);
     Ok(())
 }

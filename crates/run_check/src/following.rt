@@ -15,7 +15,7 @@ use std::alloc::Global;
 const MOST: u64 = 10_000;
 
 /// Where a book ends.
-#[derive(Clone, Copy, Debug, PartialEq, Eq)]
+#[derive(Clone, Copy, PartialEq, Eq)]
 pub(crate) enum Ending {
     /// Nowhere: it is no run of one of the machines, or they print not the same.
     Never,

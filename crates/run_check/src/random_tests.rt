@@ -59,6 +59,16 @@ fn is_followed(alloc: Global, text: &str, run: &Outcome, tally: &mut Tally) -> R
     Ok(ends_as(run.status, ending_of(alloc, &code, &run.book, tally)))
 }
 
+/// Whether the book of a run is a run of the program, to the end that the run had.
+fn is_right<R: AllocGlobal + Threads + Wait + Sync>(
+    rt: &R,
+    text: &str,
+    run: &Outcome,
+    tally: &mut Tally,
+) -> Result<bool, Fail> {
+    Ok(is_audited(rt, text, run)? && is_followed(rt.alloc(), text, run, tally)?)
+}
+
 /// Whether the book of a run by these words is a run.
 fn holds<R: AllocGlobal + Threads + Wait + Sync>(
     rt: &R,
@@ -67,7 +77,7 @@ fn holds<R: AllocGlobal + Threads + Wait + Sync>(
     tally: &mut Tally,
 ) -> Result<bool, Fail> {
     let run = answer(rt, words, text)?;
-    Ok(is_audited(rt, text, &run)? && is_followed(rt.alloc(), text, &run, tally)?)
+    is_right(rt, text, &run, tally)
 }
 
 /// Whether the book of a run is one, whose program and words this number determines.

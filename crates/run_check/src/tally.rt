@@ -5,7 +5,7 @@ ghost use Rattle.orca_core.specs.Machine.{NoneIsAway};
 use orca_core::Orca;
 
 /// What an event of a book was.
-#[derive(Clone, Copy, Debug, PartialEq, Eq)]
+#[derive(Clone, Copy, PartialEq, Eq)]
 pub(crate) enum Deed {
     /// The take of a letter that a program sent.
     Letter,

@@ -5,6 +5,7 @@ use crate::following::is_whole_run;
 use crate::programs::{PASSED, PEERS, TWO_PRINT, checked};
 use behaviour_check::Checked;
 use orca_names::NoMemory;
+use outside_world::MemSink;
 use std::sync::Wait;
 use std::test::Fail;
 use std::thread::Threads;
@@ -12,30 +13,42 @@ use std::thread::Threads;
 /// How often each program is run by each number of workers: 200 times in all.
 const RUNS: u32 = 50;
 
-/// Whether a run by these words has a book that is a whole run, and this report.
-fn agrees<R: AllocGlobal + Threads + Wait + Sync>(
-    rt: &R,
-    code: &Checked,
-    words: &[&str],
-    text: &str,
-    report: &str,
-) -> Result<bool, NoMemory> {
-    let mut sink = sink(rt.alloc())?;
-    let outcome = call(rt, words, text, &mut sink)?;
-    let is_report = sink.bytes() == report.as_bytes();
-    Ok(is_report && is_whole_run(rt.alloc(), code, &outcome.book))
+/// A program, the words of a run of it, and the report of the run.
+#[derive(Clone, Copy)]
+struct Asked<'a> {
+    code: &'a Checked,
+    words: &'a [&'a str],
+    text: &'a str,
+    report: &'a str,
 }
 
-/// Whether the runs of a program by these words have books that are whole runs, and all this report.
+/// Whether a run has a book that is a whole run, and writes the report that is asked for.
+fn agrees_in<R: AllocGlobal + Threads + Wait + Sync>(
+    rt: &R,
+    asked: &Asked<'_>,
+    sink: &mut MemSink,
+) -> Result<bool, NoMemory> {
+    let outcome = call(rt, asked.words, asked.text, sink)?;
+    let is_report = sink.bytes() == asked.report.as_bytes();
+    Ok(is_report && is_whole_run(rt.alloc(), asked.code, &outcome.book))
+}
+
+/// The same, of a run that writes into a sink of its own.
+fn agrees<R: AllocGlobal + Threads + Wait + Sync>(
+    rt: &R,
+    asked: &Asked<'_>,
+) -> Result<bool, NoMemory> {
+    let mut sink = sink(rt.alloc())?;
+    agrees_in(rt, asked, &mut sink)
+}
+
+/// Whether all runs have books that are whole runs, and the report that is asked for.
 fn all_agree<R: AllocGlobal + Threads + Wait + Sync>(
     rt: &R,
-    code: &Checked,
-    words: &[&str],
-    text: &str,
-    report: &str,
-) -> Result<bool, NoMemory> {
+    asked: &Asked<'_>,
+) -> Result<bool, Fail> {
     for _ in 0..RUNS {
-        if !agrees(rt, code, words, text, report)? {
+        if !agrees(rt, asked)? {
             return Ok(false);
         }
     }
@@ -50,8 +63,13 @@ fn agree<R: AllocGlobal + Threads + Wait + Sync>(
     report: &str,
 ) -> Result<bool, Fail> {
     let code = checked(rt.alloc(), text)?;
-    let words = ["run", "--workers", workers];
-    Ok(all_agree(rt, &code, &words, text, report)?)
+    let asked = Asked {
+        code: &code,
+        words: &["run", "--workers", workers],
+        text,
+        report,
+    };
+    all_agree(rt, &asked)
 }
 
 // Programs that end in one way, whatever the workers do, and their reports.
