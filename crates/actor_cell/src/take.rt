@@ -10,7 +10,7 @@ use crate::cell::Cell;
 use crate::learning::learn_all;
 use crate::out::Out;
 use behaviour_check::Checked;
-use block_report::note_on;
+use block_report::{Tells, tells_on};
 use letter_kinds::{Letter, Note};
 use orca_names::NoMemory;
 use plain_list::Listed;
@@ -48,7 +48,12 @@ impl Cell {
         ensures { let note = note_of self.now.heap.owner letter.now in
             result ≡ (if self.now.reported then Some note else None) }
     {
-        note_on(self.heap.owner(), self.reported, letter)
+        let actor = self.heap.owner();
+        match tells_on(self.reported, letter) {
+            Tells::Nothing => None,
+            Tells::Unblocked => Some(Note::Unblock { actor }),
+            Tells::Acknowledged { token } => Some(Note::Ack { token, actor }),
+        }
     }
 
     /// Takes the memory for what the letter brings.

@@ -2,17 +2,19 @@
 //! it makes of a letter that it takes.
 #![tactic(auto)]
 
-ghost use Rattle.std.specs.Prelude.{◌≡◌, if◌then◌else◌, IfOk, None, Some};
+mod telling;
+
+ghost use Rattle.std.specs.Prelude.{◌≡◌, IfOk};
 ghost use Rattle.std.specs.FinMap as m;
 ghost use Rattle.foreign_table.specs.Table.{on_actors};
 ghost use Rattle.letter_kinds.specs.Reports.{block_note, report_told};
-ghost use Rattle.machine_rules.specs.Take.{note_of};
 
 use foreign_table::ForeignTable;
-use letter_kinds::{Letter, Note};
+use letter_kinds::Note;
 use orca_names::{ActorName, NoMemory};
 use plain_list::Listed;
 use std::alloc::Global;
+pub use telling::{Tells, tells_on};
 
 /// The note that the actor is blocked, with this count of its own and all counts that it holds on
 /// other actors.
@@ -34,22 +36,4 @@ pub fn report(
         count,
         held: Listed::from(held),
     })
-}
-
-/// What the detector is to hear where the actor takes the letter: that it is unblocked, or that it is
-/// still blocked, if its report is out.
-#[inline(always)]
-pub fn note_on(actor: ActorName, reported: bool, letter: &Letter) -> Option<Note>
-    ensures { result ≡ (if reported then Some (note_of actor letter.now) else None) }
-{
-    if !reported {
-        return None;
-    }
-    match letter {
-        Letter::Confirm { token } => Some(Note::Ack {
-            token: *token,
-            actor,
-        }),
-        _ => Some(Note::Unblock { actor }),
-    }
 }
