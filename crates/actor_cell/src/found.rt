@@ -1,6 +1,6 @@
 // What an actor would do next of itself.
 
-ghost use Rattle.std.specs.Prelude.{◌+◌, ◌^◌, ◌<◌, IfOk};
+ghost use Rattle.std.specs.Prelude.{◌+◌, ◌^◌, ◌<◌, IfOk, IsSome, OnOk};
 ghost use Rattle.actor_cell.specs.Founds.{IsFound};
 ghost use Rattle.actor_cell.specs.Sweeps.{KnowsOthersOnly};
 
@@ -39,16 +39,59 @@ impl Cell {
         requires others { KnowsOthersOnly self.now }
         ensures { IfOk result (IsFound trace weight code.now self.now) }
     {
+        let mut found = Found::Nothing;
+        self.find_in(alloc, code, weight, trace, &mut found)?;
+        Ok(found)
+    }
+
+    /// As `found`, into a place. Where a turn was found there before, its room serves again.
+    ///
+    /// # Errors
+    /// `NoMemory` where memory was refused; what the place holds then is left open.
+    pub fn find_in(
+        &self,
+        alloc: Global,
+        code: &Checked,
+        weight: u32,
+        trace: Trace,
+        found: &mut Found,
+    ) -> Result<(), NoMemory>
+        requires serials { self.now.heap.next + 1024 < 2 ^ 64 }
+        requires others { KnowsOthersOnly self.now }
+        ensures { OnOk result (IsFound trace weight code.now self.now found.new) }
+    {
         if self.frame.is_some() {
-            let mut turn = Turn::new(alloc);
-            let mut turned = Turned::new(alloc);
-            self.found_go(alloc, code, weight, trace, &mut turn, &mut turned)?;
-            return Ok(Found::Goes { turn, turned });
+            return self.find_turn(alloc, code, weight, trace, found);
         }
-        if self.dirty {
+        *found = if self.dirty {
             let sweep = self.found_collect(alloc, trace)?;
-            return Ok(Found::Collects { sweep });
+            Found::Collects { sweep }
+        } else {
+            Found::Nothing
+        };
+        Ok(())
+    }
+
+    // Evaluates its turn into the place.
+    fn find_turn(
+        &self,
+        alloc: Global,
+        code: &Checked,
+        weight: u32,
+        trace: Trace,
+        found: &mut Found,
+    ) -> Result<(), NoMemory>
+        requires running { IsSome self.now.frame }
+        requires serials { self.now.heap.next + 1024 < 2 ^ 64 }
+        ensures { OnOk result (IsFound trace weight code.now self.now found.new) }
+    {
+        if let Found::Goes { turn, turned } = found {
+            return self.found_go(alloc, code, weight, trace, turn, turned);
         }
-        Ok(Found::Nothing)
+        let mut turn = Turn::new(alloc);
+        let mut turned = Turned::new(alloc);
+        self.found_go(alloc, code, weight, trace, &mut turn, &mut turned)?;
+        *found = Found::Goes { turn, turned };
+        Ok(())
     }
 }

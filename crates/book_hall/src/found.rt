@@ -1,6 +1,6 @@
 // What was found of a copy, once its event is to become an entry.
 
-ghost use Rattle.std.specs.Prelude.{◌≡◌};
+ghost use Rattle.std.specs.Prelude.{◌≡◌, Some};
 ghost use Rattle.std.specs.Option.{ForSome};
 ghost use Rattle.orca_names.specs.declared.trace.Trace.TheVariants.{Deep};
 ghost use Rattle.orca_core.specs.Founds.{IsFoundIn};
@@ -11,6 +11,7 @@ use actor_cell::Found;
 use event_rule::Event;
 use hall_rules::{actor_of, has_cell};
 use orca_core::Orca;
+use std::alloc::Global;
 
 /// What was found, if it is of the cell that the event's actor has now.
 pub(crate) fn fitting(orca: &Orca<'_>, e: &Event, proposal: Option<Proposal<'_>>) -> Option<Found>
@@ -25,4 +26,11 @@ pub(crate) fn fitting(orca: &Orca<'_>, e: &Event, proposal: Option<Proposal<'_>>
     } else {
         None
     }
+}
+
+/// What was found in a box, where there is memory for it.
+pub(crate) fn boxed(alloc: Global, found: Option<Found>) -> Option<Box<Found>>
+    ensures { ForSome result (λ place. found ≡ Some place.value) }
+{
+    Box::new(alloc, found?).ok()
 }

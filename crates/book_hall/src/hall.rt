@@ -17,7 +17,7 @@ ghost use Rattle.book_hall.specs.Proposals.{IsCopy, IsOf};
 
 use crate::claims::Claims;
 use crate::copy::{CellCopy, Proposal};
-use crate::found::fitting;
+use crate::found::{boxed, fitting};
 use behaviour_check::Checked;
 use event_rule::Event;
 use hall_rules::{Claim, absent, actor_of, busy, enter, event_at, spent, unready};
@@ -349,7 +349,8 @@ impl<'a> Hall<'a> {
             return Err(refuse);
         }
         let found = fitting(&self.orca, &e, proposal);
-        enter(alloc, &mut self.orca, &mut self.book, &e, found)
+        let mut found = boxed(alloc, found);
+        enter(alloc, &mut self.orca, &mut self.book, &e, &mut found)
     }
 
     // The pass has no claim on the event's actor any more.

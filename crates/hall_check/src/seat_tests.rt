@@ -224,21 +224,17 @@ fn goes_on<R: AllocGlobal + Wait>(
 ) -> bool
     ensures { pass.new.token.table_id ≡ pass.old.token.table_id }
 {
-    let Ok(mut task) = pass.claim(rt, rt.alloc(), actor) else {
-        return false;
-    };
+    let mut task = pass.claim(rt, rt.alloc(), actor).ok();
     let mut well = true;
     for place in places {
-        let _ = pass.propose(rt.alloc(), &mut task);
-        let mut next = None;
-        let answer = pass.advance(rt, rt.alloc(), actor, task, &mut next);
+        let Some(claim) = &mut task else {
+            return false;
+        };
+        let _ = pass.propose(rt.alloc(), claim);
+        let answer = pass.advance(rt, rt.alloc(), actor, &mut task);
         well = well && is_at(answer, *place);
-        match next {
-            Some(claim) => task = claim,
-            None => return well && places.last() == Some(place),
-        }
     }
-    false
+    well && task.is_none()
 }
 
 /// The seat of a pass that goes on with the first actor and then with the second, and whether it tells of

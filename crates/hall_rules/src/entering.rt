@@ -22,24 +22,24 @@ use run_book::Book;
 use std::alloc::Global;
 use work_board::{Committed, Refuse};
 
-/// As `Orca::prepare`. What was found is not evaluated again.
+/// As `Orca::prepare`. What was found is not evaluated again, and its place serves again.
 fn prepare(
     alloc: Global,
     orca: &mut Orca<'_>,
     e: Event,
-    found: Option<Found>,
+    found: &mut Option<Box<Found>>,
 ) -> Result<Ready, StepFault>
     requires early { orca.old.steps < BOOK_LIMIT }
     requires home { is_out_for orca.old.out e ≡ false }
     requires spares { ReapsNoneAway e orca.old }
-    requires found { ForSome found (λ known. IsFoundIn e known orca.old) }
+    requires found { ForSome found.old (λ known. IsFoundIn e known.value orca.old) }
     ensures same { IsSame orca.old orca.new }
     ensures event { IfOk result (λ ready. event_of ready ≡ e) }
     ensures ok { IfOk result (λ ready. Fits ready orca.new) }
     ensures fault { IfErr result (IsFault (next orca.old.state e) e) }
 {
     match found {
-        Some(found) => orca.prepare_found(alloc, e, found),
+        Some(found) => orca.prepare_from(alloc, e, found),
         None => orca.prepare(alloc, e),
     }
 }
@@ -65,13 +65,13 @@ fn reserve(
     orca: &mut Orca<'_>,
     book: &mut Book,
     e: &Event,
-    found: Option<Found>,
+    found: &mut Option<Box<Found>>,
 ) -> Result<Ready, Refuse>
     requires early { orca.old.steps < BOOK_LIMIT }
     requires home { is_out_for orca.old.out e.now ≡ false }
     requires spares { ReapsNoneAway e.now orca.old }
     requires ready { unready_cause (next orca.old.state e.now) ≡ None }
-    requires found { ForSome found (λ known. IsFoundIn e.now known orca.old) }
+    requires found { ForSome found.old (λ known. IsFoundIn e.now known.value orca.old) }
     ensures same { IsSame orca.old orca.new }
     ensures entries { book.new.entries ≡ book.old.entries }
     ensures book { (book.new.weight ≡ book.old.weight) × (book.new.trace ≡ book.old.trace) }
@@ -90,7 +90,7 @@ fn reserve(
 }
 
 /// Does the event, which is enabled and not of an actor whose cell is away, and enters it into the book.
-/// What was found of it is not evaluated again. All memory is taken before anything changes.
+/// What was found of it is not evaluated again, and its place serves again. All memory is taken before anything changes.
 ///
 /// # Errors
 /// `Full` exactly where the event's actor would make one actor too many; `NoMemory` where memory was
@@ -100,13 +100,13 @@ pub fn enter(
     orca: &mut Orca<'_>,
     book: &mut Book,
     e: &Event,
-    found: Option<Found>,
+    found: &mut Option<Box<Found>>,
 ) -> Result<Committed, Refuse>
     requires early { orca.old.steps < BOOK_LIMIT }
     requires home { is_out_for orca.old.out e.now ≡ false }
     requires spares { ReapsNoneAway e.now orca.old }
     requires ready { unready_cause (next orca.old.state e.now) ≡ None }
-    requires found { ForSome found (λ known. IsFoundIn e.now known orca.old) }
+    requires found { ForSome found.old (λ known. IsFoundIn e.now known.value orca.old) }
     ensures goes { OnOk result (next orca.old.state e.now ≡ Goes orca.new.state) }
     ensures steps { OnOk result (orca.new.steps ≡ orca.old.steps + 1) }
     ensures entry { OnOk result (book.new.entries ≡ book.old.entries ++ e.now ∷ []) }

@@ -31,6 +31,7 @@ use behaviour_check::Checked;
 use event_rule::Event;
 use orca_names::{ActorName, Trace};
 use std::alloc::Global;
+use std::mem::{replace, swap};
 
 // Takes all memory for what was found of the actor's turn; the state stays as it was.
 fn install_go(
@@ -39,9 +40,9 @@ fn install_go(
     trace: Trace,
     parts: &mut Parts,
     a: ActorName,
-    found: Found,
+    found: &mut Found,
 ) -> Result<(), StepFault>
-    requires found { IsFoundAt trace weight code.now found (slot_at parts.old.table.slots a) }
+    requires found { IsFoundAt trace weight code.now found.old (slot_at parts.old.table.slots a) }
     ensures same { OnlyRoom parts.old parts.new }
     ensures ok { OnOk result (FitsGo trace weight code.now a parts.new.turned parts.new) }
     ensures fault { (options : Options) → options.weight ≡ weight → options.trace ≡ trace →
@@ -57,8 +58,8 @@ fn install_go(
     let Found::Goes { turn, turned } = found else {
         return Err(StepFault::NotEnabled);
     };
-    parts.turn = turn;
-    parts.turned = turned;
+    swap(&mut parts.turn, turn);
+    swap(&mut parts.turned, turned);
     prepare_turn(parts, a)
 }
 
@@ -67,17 +68,17 @@ fn install_collect(
     trace: Trace,
     parts: &mut Parts,
     a: ActorName,
-    found: Found,
+    found: &mut Found,
 ) -> Result<(), StepFault>
     requires found { (weight : ℕ) × (program : Program)
-        × IsFoundAt trace weight program found (slot_at parts.old.table.slots a) }
+        × IsFoundAt trace weight program found.old (slot_at parts.old.table.slots a) }
     ensures same { OnlyRoom parts.old parts.new }
     ensures ok { OnOk result (FitsCollect trace a parts.new.sweep parts.new) }
     ensures fault { let away = away_of parts.old.table.slots in
         (program : Program) (options : Options) → IfErr result
         (IsFault (next_without away (state_of program options parts.old) (collect_event a)) (collect_event a)) }
 {
-    let Found::Collects { sweep } = found else {
+    let Found::Collects { sweep } = replace(found, Found::Nothing) else {
         return Err(StepFault::NotEnabled);
     };
     if !parts.table.may_collect(a) {
@@ -97,11 +98,11 @@ fn install(
     trace: Trace,
     parts: &mut Parts,
     e: &Event,
-    found: Found,
+    found: &mut Found,
 ) -> Result<(), StepFault>
     requires can { CanStep trace weight code.now parts.old e.now }
     requires home { ReapsAtHome e.now parts.old }
-    requires found { IsFoundFor trace weight code.now found e.now parts.old.table.slots }
+    requires found { IsFoundFor trace weight code.now found.old e.now parts.old.table.slots }
     ensures same { OnlyRoom parts.old parts.new }
     ensures ok { OnOk result (FitsEvent trace weight code.now e.now parts.new) }
     ensures fault { let s = state_of code.now (options_of weight trace) parts.old in
@@ -128,6 +129,30 @@ impl<'a> Orca<'a> {
         requires early { self.old.steps < BOOK_LIMIT }
         requires home { ReapsNoneAway e self.old }
         requires found { IsFoundIn e found self.old }
+        ensures same { IsSame self.old self.new }
+        ensures event { IfOk result (λ ready. event_of ready ≡ e) }
+        ensures ok { IfOk result (λ ready. Fits ready self.new) }
+        ensures home { OnOk result (is_out_for self.old.out e ≡ false) }
+        ensures fault { IfErr result (IsFault (next_without self.old.out self.old.state e) e) }
+    {
+        let mut found = found;
+        self.prepare_from(alloc, e, &mut found)
+    }
+
+    /// As `prepare_found`, out of a place, which gets the machine's own room for it: that serves again for
+    /// what is found there next.
+    ///
+    /// # Errors
+    /// As `prepare`.
+    pub fn prepare_from(
+        &mut self,
+        alloc: Global,
+        e: Event,
+        found: &mut Found,
+    ) -> Result<Ready, StepFault>
+        requires early { self.old.steps < BOOK_LIMIT }
+        requires home { ReapsNoneAway e self.old }
+        requires found { IsFoundIn e found.old self.old }
         ensures same { IsSame self.old self.new }
         ensures event { IfOk result (λ ready. event_of ready ≡ e) }
         ensures ok { IfOk result (λ ready. Fits ready self.new) }

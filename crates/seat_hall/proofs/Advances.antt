@@ -1,6 +1,6 @@
 -- A commit that goes on with its actor, put together of its items.
 use Rattle.std.proofs.Common.{◌≡◌, ℕ, ◌+◌, ◌-◌, ◌<◌, ◌≤◌, ◌==◌, Bool, true, false, List, [], ◌∷◌, ◌++◌, length, Option, Some, None, IfSome, IfNone, Ok, refl, sym, ap, ◌∙◌, subst, arith, append-nil, append_assoc}
-use Rattle.std.specs.Prelude.{if◌then◌else◌, slice_get}
+use Rattle.std.specs.Prelude.{if◌then◌else◌, IsSomeAnd, slice_get}
 use Rattle.std.proofs.lemmas.Bool.Decides.{nat_tests}
 use Rattle.std.proofs.lemmas.List.Elements.{filter-append}
 use Rattle.event_rule.specs.Events.{actor_of}
@@ -21,6 +21,7 @@ use Rattle.seat_hall.specs.Log.{Logged, after, by, entry_cause, hall_from, items
 use Rattle.seat_hall.specs.Passes.{HasCell, IsAtHall, KeepsCells, KeepsOthers, MayCommit, StandsAt, Token, hall, out, seen}
 use Rattle.seat_hall.proofs.Commits.{commit_cells, commit_out}
 use Rattle.seat_hall.proofs.Entries.{stands}
+use Rattle.seat_hall.proofs.Holding.{pass_or}
 use Rattle.seat_hall.proofs.Items.{claim_cells, claim_out, claim_owns, entry_cells, entry_out}
 use Rattle.seat_hall.proofs.Turns.{client_then, hall_then, own_still, read_cells, read_out}
 use Rattle.seat_hall.proofs.Under.{at_again, reckons_then}
@@ -236,6 +237,12 @@ module _ (n a : ℕ) (old mid s t new : Token) (h : HallView) (at : IsAtHall n o
   }
 
 -- ---- as a board tells it
+
+-- the task is of this actor
+pub task_of : (a : ℕ) (task : Option SeatTask) (was : SeatTask) → task ≡ Some was → IsSomeAnd task (λ t. actor_of t.taken.event ≡ Some a)
+    → was.taken.cell.heap.owner ≡ a
+task_of a task was is acts =
+    ap (pass_or 0) (sym was.taken.its ∙ subst (λ o. IsSomeAnd o (λ t. actor_of t.taken.event ≡ Some a)) is acts)
 
 pub next_actor : (next : Option SeatTask) (a owner : ℕ) → owner ≡ a → IfSome next (λ task. task.taken.cell.heap.owner ≡ owner)
     → IfSome next (λ task. actor_of task.taken.event ≡ Some a)

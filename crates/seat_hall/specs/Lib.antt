@@ -1,4 +1,5 @@
 pub mod Log
+pub mod Found
 pub mod Halls
 pub mod Answers
 pub mod Fair

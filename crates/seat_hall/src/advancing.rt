@@ -10,6 +10,7 @@ ghost use Rattle.seat_hall.specs.declared.item.Item.TheVariants.{Ended};
 use crate::pass::{give_back, turn, write_back, write_item};
 use crate::rule::{HallLog, PassSeat};
 use crate::task::SeatTask;
+use actor_cell::Found;
 use event_rule::Event;
 use orca_names::ActorName;
 use std::alloc::Global;
@@ -31,7 +32,7 @@ fn take_on<'a>(
     ensures took { Took number a result (knows seat.old) (knows seat.new) }
 {
     let mut hall = log.take(seat);
-    match hall.hall.enter(alloc, number, Event::Take(a), None) {
+    match hall.hall.enter(alloc, number, Event::Take(a), &mut None) {
         Ok(_done) => {
             write_item(log, seat, number, hall);
             true
@@ -43,12 +44,13 @@ fn take_on<'a>(
     }
 }
 
-// Claims the actor where its next event is an act, and passes the turn on.
+// Claims the actor where its next event is an act, with room from before, and passes the turn on.
 fn claim_on<'a>(
     log: &HallLog<'a>,
     seat: &mut PassSeat<'a>,
     number: u32,
     a: ActorName,
+    room: Option<Box<Found>>,
     next: &mut Option<SeatTask<'a>>,
 )
     requires own { seat.old.table_id ≡ log.now }
@@ -63,7 +65,7 @@ fn claim_on<'a>(
     match hall.hall.claim_act(number, a) {
         Some(taken) => {
             write_back(log, seat, number, hall);
-            *next = Some(SeatTask::of(taken));
+            *next = Some(SeatTask::of(taken, room));
         }
         None => give_back(log, seat, number, hall),
     }
@@ -103,13 +105,19 @@ pub(crate) fn advance<'a, R: Wait>(
         (RefusesEntry (Some number) task.entry.taken.event refuse)) }
     ensures none { OnErr result (next.new ≡ None) }
 {
-    let a = task.taken.cell.heap.owner();
+    let SeatTask {
+        taken,
+        mut found,
+        room,
+        ..
+    } = task;
+    let a = taken.cell.heap.owner();
     let mut hall = turn(rt, log, seat, number);
-    match hall.hall.commit(alloc, number, task) {
+    match hall.hall.commit(alloc, number, taken, &mut found) {
         Ok(done) => {
             write_item(log, seat, number, hall);
             take_on(alloc, log, seat, number, a);
-            claim_on(log, seat, number, a, next);
+            claim_on(log, seat, number, a, found.or(room), next);
             Ok(done)
         }
         Err(refuse) => {

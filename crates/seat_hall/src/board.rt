@@ -4,7 +4,6 @@ ghost use Rattle.std.specs.Prelude.{◌≡◌, ℕ, ◌+◌, ◌-◌, ◌≤◌,
 ghost use Rattle.orca_names.specs.declared.limits.TheConstants.{BOOK_LIMIT};
 ghost use Rattle.run_book.specs.Books.{IsWeight};
 ghost use Rattle.event_rule.specs.Events.{actor_of};
-ghost use Rattle.actor_cell.specs.Founds.{IsFound};
 ghost use Rattle.work_board.specs.Answered.{is_end, is_spoiling};
 ghost use Rattle.turn_log.specs.Knowing.{longer, newcomer};
 ghost use Rattle.turn_log.specs.Seats.{knows};
@@ -14,6 +13,7 @@ ghost use Rattle.seat_hall.specs.Answers.{AllAreGiven, Enters, Grants, RefusesCl
 ghost use Rattle.seat_hall.specs.Boards.{CallsAs, KeepsItsCells, StaysPass, out_of};
 ghost use Rattle.seat_hall.specs.Closes.{Closes};
 ghost use Rattle.seat_hall.specs.Fair.{first_view};
+ghost use Rattle.seat_hall.specs.Found.{IsFoundOn};
 ghost use Rattle.seat_hall.specs.Passes.{IsIdlePass, KeepsOthers, MayCommit, SplitsOff, StandsAt, seen};
 
 use crate::advancing::advance;
@@ -212,7 +212,7 @@ impl<'h, 'a> Board for SeatPass<'h, 'a> {
     ghost tried = { λ task. task.tried };
 
     ghost found = { λ task. let taken = task.taken in
-        IsSomeAnd task.found (IsFound taken.trace taken.weight taken.code.now taken.cell) };
+        IsSomeAnd task.found (λ known. IsFoundOn taken known.value) };
 
     /// What there is to do.
     fn look<R: Wait>(&mut self, rt: &R) -> Look
@@ -320,42 +320,36 @@ impl<'h, 'a> Board for SeatPass<'h, 'a> {
         rt: &R,
         alloc: Global,
         a: ActorName,
-        task: SeatTask<'a>,
-        next: &mut Option<SeatTask<'a>>,
+        task: &mut Option<SeatTask<'a>>,
     ) -> Result<Committed, Refuse>
-        requires actor { actor_of task.taken.event ≡ Some a }
-        requires tried { task.tried ≡ true }
-        requires owns { MayCommit self.old.number self.old.token task }
-        requires free { next.old ≡ None }
-        ensures actor { IfSome next.new (λ claim. actor_of claim.taken.event ≡ Some a) }
-        ensures fresh { IfSome next.new (λ claim. claim.tried ≡ false) }
-        ensures owns { IfSome next.new (λ claim. MayCommit self.new.number self.new.token claim) }
-        ensures one { IfSome next.new (λ _. out_of self.new ≤ out_of self.old - 1 + 1) }
-        ensures none { IfNone next.new (out_of self.new ≡ out_of self.old - 1) }
-        ensures free { OnErr result (next.new ≡ None) }
+        requires actor { IsSomeAnd task.old (λ was. actor_of was.taken.event ≡ Some a) }
+        requires tried { IfSome task.old (λ was. was.tried ≡ true) }
+        requires owns { IfSome task.old (MayCommit self.old.number self.old.token) }
+        ensures actor { IfSome task.new (λ claim. actor_of claim.taken.event ≡ Some a) }
+        ensures fresh { IfSome task.new (λ claim. claim.tried ≡ false) }
+        ensures owns { IfSome task.new (MayCommit self.new.number self.new.token) }
+        ensures one { IfSome task.new (λ _. out_of self.new ≤ out_of self.old - 1 + 1) }
+        ensures none { IfNone task.new (out_of self.new ≡ out_of self.old - 1) }
+        ensures free { OnErr result (task.new ≡ None) }
         ensures ended { self.new.ended ≡ self.old.ended }
         ensures spoilt { (self.old.spoilt || is_spoiling result) ≡ true → self.new.spoilt ≡ true }
         ensures hall { self.new.token.table_id ≡ self.old.token.table_id }
         ensures stays { StaysPass 1 self.old self.new }
         ensures cells { KeepsOthers self.old.number a self.old.token self.new.token }
         ensures spoils { self.new.spoilt ≡ (self.old.spoilt || is_spoiling result) }
-        ensures went { IfSome next.new (λ _. out_of self.new ≡ out_of self.old) }
-        ensures left { IfNone next.new (out_of self.old ≡ out_of self.new + 1) }
-        ensures ok { let n = self.old.number in let e = task.entry.taken.event in IfOk result
-            (λ done. Advances n a e done next.new self.old.token self.new.token) }
-        ensures stands { IfOk result (λ done. StandsAt self.new.token done.place task.entry.taken.event) }
-        ensures refused { let n = self.old.number in IfErr result (λ refuse.
-            CallsAs self.old self.new (Ended n a ∷ []) (RefusesEntry (Some n) task.entry.taken.event refuse)) }
+        ensures went { IfSome task.new (λ _. out_of self.new ≡ out_of self.old) }
+        ensures left { IfNone task.new (out_of self.old ≡ out_of self.new + 1) }
+        ensures ok { let n = self.old.number in IfSome task.old (λ was. IfOk result (λ done.
+            Advances n a was.taken.event done task.new self.old.token self.new.token)) }
+        ensures stands { IfSome task.old
+            (λ was. IfOk result (λ done. StandsAt self.new.token done.place was.taken.event)) }
+        ensures refused { let n = self.old.number in IfSome task.old (λ was. IfErr result (λ refuse.
+            CallsAs self.old self.new (Ended n a ∷ []) (RefusesEntry (Some n) was.taken.event refuse))) }
     {
-        let answer = advance(
-            rt,
-            alloc,
-            self.log,
-            &mut self.token,
-            self.number,
-            task,
-            next,
-        );
+        let Some(was) = task.take() else {
+            unreachable!()
+        };
+        let answer = advance(rt, alloc, self.log, &mut self.token, self.number, was, task);
         self.spoilt = noted(self.spoilt, &answer);
         answer
     }

@@ -3,19 +3,19 @@
 ghost use Rattle.std.specs.Prelude.{◌≡◌, ◌<◌, false, IfErr, IfOk, None, OnErr, OnOk, Some, length, vec_capacity, vec_len};
 ghost use Rattle.std.specs.Option.{ForSome, option_or};
 ghost use Rattle.machine_rules.specs.Next.{next};
-ghost use Rattle.actor_cell.specs.Founds.{IsFound};
 ghost use Rattle.orca_core.specs.Away.{is_out_for};
 ghost use Rattle.orca_core.specs.Founds.{IsFoundIn};
 ghost use Rattle.hall_rules.specs.Causes.{actor_cause, spent_cause, unready_cause};
 ghost use Rattle.seat_hall.specs.declared.item.Item.TheVariants.{Ended, Entered};
 ghost use Rattle.seat_hall.specs.Answers.{Enters, IsFoundOf, RefusesEntry};
+ghost use Rattle.seat_hall.specs.Found.{IsFoundOn};
 ghost use Rattle.seat_hall.specs.Halls.{says};
 ghost use Rattle.seat_hall.specs.Log.{after, claims_in, grown, state_in};
 ghost use Rattle.seat_hall.specs.Passes.{HasIn};
 
 use crate::hall::Hall;
 use crate::item::Item;
-use crate::task::SeatTask;
+use crate::taken::Taken;
 use actor_cell::Found;
 use event_rule::Event;
 use hall_rules::{absent, actor_of, enter, spent, unready};
@@ -36,12 +36,12 @@ fn grow(claims: &mut Vec<Option<u32>>, made: u64)
 }
 
 // What was found is of the cell that is at home: the machine may do it.
-fn may_install(orca: &Orca<'_>, e: &Event, found: &Option<Found>)
+fn may_install(orca: &Orca<'_>, e: &Event, found: &Option<Box<Found>>)
     requires home { is_out_for orca.now.out e.now ≡ false }
     requires found { let s = orca.now.state in
         ForSome found.now
-        (IsFoundOf s.options.trace s.options.weight s.program s.actors e.now) }
-    ensures { ForSome found.now (λ known. IsFoundIn e.now known orca.now) }
+        (λ known. IsFoundOf s.options.trace s.options.weight s.program s.actors e.now known.value) }
+    ensures { ForSome found.now (λ known. IsFoundIn e.now known.value orca.now) }
 {
     if let Some(a) = actor_of(e) {
         let _cell = orca.cell(a);
@@ -90,10 +90,10 @@ impl<'a> Hall<'a> {
         alloc: Global,
         pass: u32,
         e: Event,
-        found: Option<Found>,
+        found: &mut Option<Box<Found>>,
     ) -> Result<Committed, Refuse>
-        requires found { let l = self.old.logged in
-            ForSome found (IsFoundOf l.trace l.weight l.program (state_in l).actors e) }
+        requires found { let l = self.old.logged in ForSome found.old
+            (λ known. IsFoundOf l.trace l.weight l.program (state_in l).actors e known.value) }
         ensures ok { IfOk result (λ done. Enters None pass e done self.old.logged) }
         ensures entered { OnOk result
             (self.new ≡ says (after self.old.logged (Entered pass e)) (Entered pass e)) }
@@ -106,15 +106,15 @@ impl<'a> Hall<'a> {
         if self.claims.reserve(1).is_err() {
             return Err(Refuse::NoMemory);
         }
-        may_install(&self.orca, &e, &found);
+        may_install(&self.orca, &e, found);
         let done = enter(alloc, &mut self.orca, &mut self.book, &e, found)?;
         grow(&mut self.claims, self.orca.made());
         self.last = Item::Entered { pass, event: e };
         Ok(done)
     }
 
-    /// Puts the task's cell back, and makes its event an entry of the pass. Whatever it answers, the
-    /// claim has ended.
+    /// Puts the cell back, and makes its event, of which this was found, an entry of the pass. Whatever it
+    /// answers, the claim has ended.
     ///
     /// # Errors
     /// As `enter`, but for `Busy`, which comes exactly where another pass has a claim on the actor.
@@ -122,22 +122,24 @@ impl<'a> Hall<'a> {
         &mut self,
         alloc: Global,
         pass: u32,
-        task: SeatTask<'a>,
+        taken: Taken<'a>,
+        found: &mut Option<Box<Found>>,
     ) -> Result<Committed, Refuse>
-        requires has { HasIn pass task.taken.cell.heap.owner task.taken.cell self.old.logged }
-        requires program { task.taken.code.now ≡ self.old.logged.program }
-        requires weight { task.taken.weight ≡ self.old.logged.weight }
-        requires trace { task.taken.trace ≡ self.old.logged.trace }
-        ensures ok { IfOk result (λ done. Enters (Some pass) pass task.entry.taken.event done self.old.logged) }
-        ensures entered { let i = Entered pass task.entry.taken.event in
+        requires has { HasIn pass taken.cell.heap.owner taken.cell self.old.logged }
+        requires program { taken.code.now ≡ self.old.logged.program }
+        requires weight { taken.weight ≡ self.old.logged.weight }
+        requires trace { taken.trace ≡ self.old.logged.trace }
+        requires found { ForSome found.old (λ known. IsFoundOn taken known.value) }
+        ensures ok { IfOk result (λ done. Enters (Some pass) pass taken.entry.event done self.old.logged) }
+        ensures entered { let i = Entered pass taken.entry.event in
             OnOk result (self.new ≡ says (after self.old.logged i) i) }
         ensures refused { IfErr result
-            (λ refuse. RefusesEntry (Some pass) task.entry.taken.event refuse self.old.logged) }
-        ensures ended { let i = Ended pass task.entry.taken.cell.heap.owner in
+            (λ refuse. RefusesEntry (Some pass) taken.entry.event refuse self.old.logged) }
+        ensures ended { let i = Ended pass taken.entry.cell.heap.owner in
             OnErr result (self.new ≡ says (after self.old.logged i) i) }
     {
-        let e = task.taken.event;
-        self.put_back(pass, task.taken.cell);
-        self.enter(alloc, pass, e, task.found)
+        let e = taken.event;
+        self.put_back(pass, taken.cell);
+        self.enter(alloc, pass, e, found)
     }
 }

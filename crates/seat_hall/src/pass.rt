@@ -138,7 +138,7 @@ pub(crate) fn claim<'a, R: Wait>(
     match hall.hall.claim(number, a) {
         Ok(taken) => {
             write_back(log, seat, number, hall);
-            Ok(SeatTask::of(taken))
+            Ok(SeatTask::of(taken, None))
         }
         Err(refuse) => {
             give_back(log, seat, number, hall);
@@ -173,8 +173,13 @@ pub(crate) fn commit<'a, R: Wait>(
         Calls number seat.old seat.new (Ended number a ∷ [])
         (RefusesEntry (Some number) task.entry.taken.event refuse)) }
 {
+    let SeatTask {
+        taken,
+        mut found,
+        ..
+    } = task;
     let mut hall = turn(rt, log, seat, number);
-    let answer = hall.hall.commit(alloc, number, task);
+    let answer = hall.hall.commit(alloc, number, taken, &mut found);
     write_back(log, seat, number, hall);
     answer
 }
@@ -203,7 +208,7 @@ pub(crate) fn direct<'a, R: Wait>(
         Calls number seat.old seat.new [] (RefusesEntry None e refuse)) }
 {
     let mut hall = turn(rt, log, seat, number);
-    match hall.hall.enter(alloc, number, e, None) {
+    match hall.hall.enter(alloc, number, e, &mut None) {
         Ok(done) => {
             write_back(log, seat, number, hall);
             Ok(done)

@@ -1,7 +1,6 @@
 // What a claim gives.
 
-ghost use Rattle.std.specs.Prelude.{◌≡◌, ◌+◌, ◌<◌, ◌^◌, true, IfOk, IsSome, Some};
-ghost use Rattle.std.specs.Option.{ForSome};
+ghost use Rattle.std.specs.Prelude.{◌≡◌, ◌+◌, ◌<◌, ◌^◌, OnOk, Some};
 ghost use Rattle.event_rule.specs.Events.{actor_of};
 ghost use Rattle.actor_cell.specs.Founds.{IsFound};
 ghost use Rattle.actor_cell.specs.Sweeps.{KnowsOthersOnly};
@@ -32,21 +31,22 @@ pub struct Taken<'a> {
 }
 
 impl<'a> Taken<'a> {
-    /// What the event does, where it is a turn or a collection.
+    /// Evaluates the actor's turn or collection into a place.
     ///
     /// # Errors
     /// `NoMemory` where memory was refused.
-    pub(crate) fn find(&self, alloc: Global) -> Result<Option<Found>, NoMemory>
-        ensures own { IfOk result (λ found. ForSome found
-            (IsFound self.now.trace self.now.weight self.now.code.now self.now.cell)) }
-        ensures found { IfOk result (λ found. is_evaluated self.now.event ≡ true → IsSome found) }
+    pub(crate) fn find_in(&self, alloc: Global, found: &mut Found) -> Result<(), NoMemory>
+        ensures { OnOk result
+            (IsFound self.now.trace self.now.weight self.now.code.now self.now.cell found.new) }
     {
-        match self.event {
-            Event::Go(_) | Event::Collect(_) => {
-                let found = self.cell.found(alloc, self.code, self.weight, self.trace)?;
-                Ok(Some(found))
-            }
-            _ => Ok(None),
-        }
+        self.cell
+            .find_in(alloc, self.code, self.weight, self.trace, found)
+    }
+
+    /// The event is evaluated: it is a turn or a collection.
+    pub(crate) fn is_evaluated(&self) -> bool
+        ensures { result ≡ is_evaluated self.now.event }
+    {
+        matches!(self.event, Event::Go(_) | Event::Collect(_))
     }
 }

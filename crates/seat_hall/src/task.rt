@@ -1,10 +1,10 @@
 // A claim, with what was found of its cell.
 
-ghost use Rattle.std.specs.Prelude.{◌≡◌, false, true, IsSome, None, OnOk};
+ghost use Rattle.std.specs.Prelude.{◌≡◌, false, true, IsSome, OnOk};
 ghost use Rattle.std.specs.Option.{ForSome};
-ghost use Rattle.actor_cell.specs.Founds.{IsFound};
 ghost use Rattle.work_board.specs.Answered.{is_evaluated};
 ghost use Rattle.hall_rules.specs.Facts.{is_found_prop};
+ghost use Rattle.seat_hall.specs.Found.{IsFoundOn};
 
 use crate::taken::Taken;
 use actor_cell::Found;
@@ -15,15 +15,17 @@ use std::alloc::Global;
 #[derive(Drop)]
 pub struct SeatTask<'a> {
     pub taken: Taken<'a>,
-    pub found: Option<Found>,
+    pub found: Option<Box<Found>>,
     /// Its evaluation was asked for.
     pub tried: bool,
-    ghost own: { ForSome found (IsFound taken.trace taken.weight taken.code.now taken.cell) } by { Prim.hlevel is_found_prop },
+    /// Room of an earlier evaluation, which serves again.
+    pub room: Option<Box<Found>>,
+    ghost own: { ForSome found (λ known. IsFoundOn taken known.value) } by { Prim.hlevel is_found_prop },
 }
 
 impl<'a> SeatTask<'a> {
-    /// The claim, of whose cell nothing was found yet.
-    pub(crate) fn of(taken: Taken<'a>) -> SeatTask<'a>
+    /// The claim, of whose cell nothing was found yet, with room from before.
+    pub(crate) fn of(taken: Taken<'a>, room: Option<Box<Found>>) -> SeatTask<'a>
         ensures taken { result.taken ≡ taken.entry }
         ensures fresh { result.tried ≡ false }
     {
@@ -31,6 +33,7 @@ impl<'a> SeatTask<'a> {
             taken,
             found: None,
             tried: false,
+            room,
         }
     }
 
@@ -45,7 +48,15 @@ impl<'a> SeatTask<'a> {
             (is_evaluated self.old.taken.event ≡ true → IsSome self.new.found) }
     {
         self.tried = true;
-        self.found = self.taken.find(alloc)?;
+        if !self.taken.is_evaluated() {
+            return Ok(());
+        }
+        let mut place = match self.room.take() {
+            Some(room) => room,
+            None => Box::new(alloc, Found::Nothing)?,
+        };
+        self.taken.find_in(alloc, &mut place)?;
+        self.found = Some(place);
         Ok(())
     }
 }

@@ -133,19 +133,21 @@ fn stay_with<R: Wait, B: Board, G: Gate>(
     ensures out { B.out board.new ≡ 0 }
 {
     let mut task = match board.claim(rt, alloc, a) {
-        Ok(task) => task,
+        Ok(task) => Some(task),
         Err(refuse) => {
             settle(rt, board, Err(refuse));
             return false;
         }
     };
     for entries in 1..STREAK {
-        evaluate(rt, alloc, board, hints, gate, &mut task);
-        let mut next = None;
-        let answer = board.advance(rt, alloc, a, task, &mut next);
-        match next {
-            Some(claim) => task = claim,
-            None => return keep_woken(rt, board, hints, answer) || entries > 1,
+        let Some(claim) = &mut task else {
+            unreachable!()
+        };
+        evaluate(rt, alloc, board, hints, gate, claim);
+        let answer = board.advance(rt, alloc, a, &mut task);
+        if task.is_none() {
+            let None = task else { unreachable!() };
+            return keep_woken(rt, board, hints, answer) || entries > 1;
         }
         // Its own name it needn't keep, since it goes on with it.
         match answer {
@@ -158,7 +160,8 @@ fn stay_with<R: Wait, B: Board, G: Gate>(
             _ => {}
         }
     }
-    enter_last(rt, alloc, board, hints, gate, a, task);
+    let Some(claim) = task else { unreachable!() };
+    enter_last(rt, alloc, board, hints, gate, a, claim);
     true
 }
 

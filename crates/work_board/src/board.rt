@@ -1,6 +1,6 @@
 // The board.
 
-ghost use Rattle.std.specs.Prelude.{◌≡◌, ℕ, ◌+◌, ◌-◌, ◌≤◌, ◌||◌, Bool, true, false, IfNone, IfOk, IfSome, None, OnOk, OnErr, Some};
+ghost use Rattle.std.specs.Prelude.{◌≡◌, ℕ, ◌+◌, ◌-◌, ◌≤◌, ◌||◌, Bool, true, false, IfNone, IfOk, IfSome, IsSomeAnd, None, OnOk, OnErr, Some};
 ghost use Rattle.event_rule.specs.Events.{actor_of};
 ghost use Rattle.event_rule.specs.declared.event.Event.{Event};
 ghost use Rattle.work_board.specs.Answered.{is_end, is_evaluated, is_spoiling, segment};
@@ -106,9 +106,9 @@ pub trait Board {
         ensures spoilt { spoilt self.new ≡ (spoilt self.old || is_spoiling result) }
         ensures hall { hall self.new ≡ hall self.old };
 
-    /// Commits the task of the actor, and may go on with the actor: then it is claimed again, for its next
-    /// event, and `next` has that task. How far it goes on says the board. Here it goes on unless a segment
-    /// woke nobody, since the turn may be over then.
+    /// Commits the actor's task, and may go on with the actor: then this is claimed again, for its next
+    /// event, and the task is that claim; else there is none any more. How far it goes on says the board. Here
+    /// it goes on unless a segment woke nobody, since the turn may be over then.
     ///
     /// # Errors
     /// Why the task's event is no entry. The actor isn't claimed again then.
@@ -117,31 +117,32 @@ pub trait Board {
         rt: &R,
         alloc: Global,
         a: ActorName,
-        task: Self::Task,
-        next: &mut Option<Self::Task>,
+        task: &mut Option<Self::Task>,
     ) -> Result<Committed, Refuse>
-        requires actor { actor_of (event task) ≡ Some a }
-        requires tried { tried task ≡ true }
-        requires owns { owns self.old task }
-        requires free { next.old ≡ None }
-        ensures actor { IfSome next.new (λ claim. actor_of (event claim) ≡ Some a) }
-        ensures fresh { IfSome next.new (λ claim. tried claim ≡ false) }
-        ensures owns { IfSome next.new (λ claim. owns self.new claim) }
-        ensures one { IfSome next.new (λ _. out self.new ≤ out self.old - 1 + 1) }
-        ensures none { IfNone next.new (out self.new ≡ out self.old - 1) }
-        ensures free { OnErr result (next.new ≡ None) }
+        requires actor { IsSomeAnd task.old (λ was. actor_of (event was) ≡ Some a) }
+        requires tried { IfSome task.old (λ was. tried was ≡ true) }
+        requires owns { IfSome task.old (λ was. owns self.old was) }
+        ensures actor { IfSome task.new (λ claim. actor_of (event claim) ≡ Some a) }
+        ensures fresh { IfSome task.new (λ claim. tried claim ≡ false) }
+        ensures owns { IfSome task.new (λ claim. owns self.new claim) }
+        ensures one { IfSome task.new (λ _. out self.new ≤ out self.old - 1 + 1) }
+        ensures none { IfNone task.new (out self.new ≡ out self.old - 1) }
+        ensures free { OnErr result (task.new ≡ None) }
         ensures ended { ended self.new ≡ ended self.old }
         ensures spoilt { (spoilt self.old || is_spoiling result) ≡ true → spoilt self.new ≡ true }
         ensures hall { hall self.new ≡ hall self.old }
     {
-        let segment = self.segment_of(&task);
-        let done = self.commit(rt, alloc, task)?;
+        let Some(claim) = task.take() else {
+            unreachable!()
+        };
+        let segment = self.segment_of(&claim);
+        let done = self.commit(rt, alloc, claim)?;
         if segment.is_some() && done.woke.is_none() {
             return Ok(done);
         }
         match self.claim(rt, alloc, a) {
             Ok(claim) => {
-                let before = next.replace(claim);
+                let before = task.replace(claim);
                 let None = before else { unreachable!() };
                 Ok(done)
             }

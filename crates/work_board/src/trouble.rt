@@ -136,10 +136,9 @@ impl<B: Board> Board for TroubleBoard<B> {
         rt: &R,
         alloc: Global,
         a: ActorName,
-        task: B::Task,
-        next: &mut Option<B::Task>,
+        task: &mut Option<B::Task>,
     ) -> Result<Committed, Refuse> {
-        self.inner.advance(rt, alloc, a, task, next)
+        self.inner.advance(rt, alloc, a, task)
     }
 
     fn direct<R: Wait>(&mut self, rt: &R, alloc: Global, e: Event) -> Result<Committed, Refuse> {

@@ -89,22 +89,18 @@ fn goes_on<R: AllocGlobal + Wait, B: Board>(rt: &R, board: &mut B) -> bool
 where
     B::Task: Drop,
 {
-    let Ok(mut task) = board.claim(rt, rt.alloc(), ActorName(0)) else {
-        return false;
-    };
+    let mut task = board.claim(rt, rt.alloc(), ActorName(0)).ok();
     for place in 0..3 {
-        let _ = board.propose(rt.alloc(), &mut task);
-        let mut next = None;
-        let answer = board.advance(rt, rt.alloc(), ActorName(0), task, &mut next);
-        match next {
-            Some(claim) => task = claim,
-            None => return place == 2 && answer == entered(place),
-        }
+        let Some(claim) = &mut task else {
+            return false;
+        };
+        let _ = board.propose(rt.alloc(), claim);
+        let answer = board.advance(rt, rt.alloc(), ActorName(0), &mut task);
         if answer != entered(place) {
             return false;
         }
     }
-    false
+    task.is_none()
 }
 
 #[test]

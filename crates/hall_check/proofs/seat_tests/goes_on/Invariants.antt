@@ -1,9 +1,9 @@
-use Rattle.std.proofs.Common.{◌≡◌, Some}
+use Rattle.std.proofs.Common.{◌≡◌, IfSome, Some}
 use Rattle.event_rule.specs.Events.{actor_of}
 use Rattle.seat_hall.specs.Passes.{MayCommit}
 use Rattle.hall_check.proofs.seat_tests.goes_on.Given as goal
 
 abbrev pub invariant-loop-place : goal.invariant-loop-place
 invariant-loop-place g l =
-    MayCommit l.pass.number l.pass.token l.task × (actor_of l.task.taken.event ≡ Some l.fn.actor)
+    IfSome l.task (λ task. MayCommit l.pass.number l.pass.token task × (actor_of task.taken.event ≡ Some l.fn.actor))
     × (l.pass.token.table_id ≡ l.fn.pass.token.table_id)

@@ -56,8 +56,8 @@ returns-in-Ok-clause-took c =
       wrote ∙ ap (λ v. having_written after_item (Entered n (Take c.args.a)) v.known) c.take-hall.ensures.same.1,
     )
 
-pub returns-in-Err-clause-under : goal.returns-in-Err-clause-under
-returns-in-Err-clause-under c =
+pub returns-clause-under : goal.returns-clause-under
+returns-clause-under c =
     let n = c.args.number in let u = c.requires.under in let seat = c.take-hall.new.seat in
     let h = c.deref_mut.result.now in let is : c.take-hall.result ≡ h = search rules in
     let same = lies_once c.args.seat.now u.lying c.take-hall.result u.lies c.take-hall.ensures.value ∙ is in
@@ -70,8 +70,8 @@ returns-in-Err-clause-under c =
       reckons = subst (λ (k : Knower). Reckons n k u.lying) (ap (λ v. v.known) (sym still)) u.reckons;
     }
 
-pub returns-in-Err-clause-took : goal.returns-in-Err-clause-took
-returns-in-Err-clause-took c =
+pub returns-clause-took : goal.returns-clause-took
+returns-clause-took c =
     let n = c.args.number in let u = c.requires.under in
     let h = c.deref_mut.result.now in let is : c.take-hall.result ≡ h = search rules in
     let same = lies_once c.args.seat.now u.lying c.take-hall.result u.lies c.take-hall.ensures.value ∙ is in (

@@ -56,24 +56,24 @@ returns-in-Ok-clause-stands g c =
     let e = c.args.e in let enters = c.in-Ok.ensures.ok in
     wrote_stands n old mid new h at e wrote c.in-Ok.done.place enters.entered.place
 
-pub returns-in-Err-clause-cells : goal.returns-in-Err-clause-cells
-returns-in-Err-clause-cells g c =
+pub returns-clause-cells : goal.returns-clause-cells
+returns-clause-cells g c =
     let n = c.args.number in let old = c.args.seat.now in let mid = c.turn-hall.new.seat in
     let h = c.deref_mut.result.now in let is : c.turn-hall.result ≡ h = search rules in
     let at = subst (IsAtHall n old mid) is c.turn-hall.ensures.at in
     let new = c.give_back.new.seat in let same = c.give_back.ensures.knows in
     read_cells n old mid new h at same
 
-pub returns-in-Err-clause-out : goal.returns-in-Err-clause-out
-returns-in-Err-clause-out g c =
+pub returns-clause-out : goal.returns-clause-out
+returns-clause-out g c =
     let n = c.args.number in let old = c.args.seat.now in let mid = c.turn-hall.new.seat in
     let h = c.deref_mut.result.now in let is : c.turn-hall.result ≡ h = search rules in
     let at = subst (IsAtHall n old mid) is c.turn-hall.ensures.at in
     let new = c.give_back.new.seat in let same = c.give_back.ensures.knows in
     read_out n old mid new h at same
 
-pub returns-in-Err-clause-refused : goal.returns-in-Err-clause-refused
-returns-in-Err-clause-refused g c =
+pub returns-clause-refused : goal.returns-clause-refused
+returns-clause-refused g c =
     let n = c.args.number in let old = c.args.seat.now in let mid = c.turn-hall.new.seat in
     let h = c.deref_mut.result.now in let is : c.turn-hall.result ≡ h = search rules in
     let at = subst (IsAtHall n old mid) is c.turn-hall.ensures.at in

@@ -1,6 +1,7 @@
-use Rattle.std.proofs.Common.{◌≡◌, Some}
+use Rattle.std.proofs.Common.{◌≡◌, IfSome, Some}
 use Rattle.event_rule.specs.Events.{actor_of}
 use Rattle.worker_check.proofs.board_tests.goes_on.Given as goal
 
 abbrev pub invariant-loop-place : goal.invariant-loop-place
-invariant-loop-place g l = (actor_of (g.B.Board.event l.task) ≡ Some 0) × g.B.Board.owns l.board l.task
+invariant-loop-place g l =
+    IfSome l.task (λ task. (actor_of (g.B.Board.event task) ≡ Some 0) × g.B.Board.owns l.board task)

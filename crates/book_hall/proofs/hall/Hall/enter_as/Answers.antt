@@ -34,6 +34,9 @@ fitting-found-requires-clause-deep c =
     let h = c.self.inside in
     ap (λ (o : Options). o.trace) (kept_run h.code.now h.budget h.orca h.book c.self.invariant).1
 
+pub enter-requires-clause-found : goal.enter-requires-clause-found
+enter-requires-clause-found c = λ place is. c.fitting-found.ensures place.value (c.boxed-found.ensures place is)
+
 pub enter-requires-clause-home : goal.enter-requires-clause-home
 enter-requires-clause-home c = home_for c.self.inside.orca c.self.invariant.home c.args.e
 

@@ -1,17 +1,23 @@
-use Rattle.std.proofs.Common.{◌≡◌, ◌+◌, ℕ, [], ◌∷◌, Some, IfErr, IfNone, IfOk, IfSome, ap, subst, sym, ◌∙◌}
+use Rattle.std.proofs.Common.{◌≡◌, ◌+◌, ℕ, [], ◌∷◌, Option, Some, IfErr, IfNone, IfOk, IfSome, rules, subst, sym}
 use Rattle.seat_hall.specs.Boards.{PassValue, out_of}
 use Rattle.seat_hall.specs.declared.item.Item.TheVariants.{Ended}
+use Rattle.seat_hall.specs.declared.task.SeatTask.{SeatTask}
 use Rattle.seat_hall.specs.Advances.{Advances}
 use Rattle.seat_hall.specs.Answers.{RefusesEntry}
-use Rattle.seat_hall.specs.Passes.{Calls, KeepsOthers, out}
-use Rattle.seat_hall.proofs.Advances.{next_actor, next_none, next_one}
-use Rattle.seat_hall.proofs.Holding.{pass_or}
+use Rattle.seat_hall.specs.Passes.{Calls, KeepsOthers, MayCommit, StandsAt, out}
+use Rattle.seat_hall.proofs.Advances.{next_actor, next_none, next_one, task_of}
 use Rattle.seat_hall.proofs.board.SeatPassBoard.advance.Goals as goal
+
+pub advance-answer-requires-clause-may : goal.advance-answer-requires-clause-may
+advance-answer-requires-clause-may g c =
+    let was = c.in-Some.was in let is : c.args.task.now ≡ Some was = search rules in
+    subst (λ (p : PassValue). MayCommit p.number p.token was) (sym c.self.view_is)
+    (subst (λ (o : Option SeatTask). IfSome o (MayCommit c.args.self.now.number c.args.self.now.token)) is c.requires.owns)
 
 pub returns-clause-actor : goal.returns-clause-actor
 returns-clause-actor g c =
-    let taken = c.args.task.taken in
-    next_actor c.advance-answer.new.next c.args.a taken.cell.heap.owner (ap (pass_or 0) (sym taken.its ∙ c.requires.actor))
+    let was = c.in-Some.was in let is : c.args.task.now ≡ Some was = search rules in
+    next_actor c.advance-answer.new.next c.args.a was.taken.cell.heap.owner (task_of c.args.a c.args.task.now was is c.requires.actor)
     c.advance-answer.ensures.actor
 
 pub returns-clause-one : goal.returns-clause-one
@@ -38,21 +44,34 @@ returns-clause-left g c =
 
 pub returns-clause-cells : goal.returns-clause-cells
 returns-clause-cells g c =
-    let taken = c.args.task.taken in
-    let same = ap (pass_or 0) (sym taken.its ∙ c.requires.actor) in
+    let was = c.in-Some.was in let is : c.args.task.now ≡ Some was = search rules in
+    let same = task_of c.args.a c.args.task.now was is c.requires.actor in
     subst (λ (x : PassValue × ℕ). KeepsOthers x.0.number x.1 x.0.token c.advance-answer.new.seat)
     (λ i. (c.self.view_is i, same i)) c.advance-answer.ensures.cells
 
 pub returns-clause-ok : goal.returns-clause-ok
 returns-clause-ok g c =
-    let taken = c.args.task.taken in let new = c.advance-answer.new.seat in let next = c.advance-answer.new.next in
-    let same = ap (pass_or 0) (sym taken.its ∙ c.requires.actor) in
-    subst (λ (x : PassValue × ℕ). IfOk c.advance-answer.result (λ done. Advances x.0.number x.1 taken.event done next x.0.token new))
-    (λ i. (c.self.view_is i, same i)) c.advance-answer.ensures.ok
+    let was = c.in-Some.was in let is : c.args.task.now ≡ Some was = search rules in
+    let same = task_of c.args.a c.args.task.now was is c.requires.actor in
+    let new = c.advance-answer.new.seat in let next = c.advance-answer.new.next in let p = c.args.self.now in
+    subst (λ (o : Option SeatTask). IfSome o (λ t. IfOk c.advance-answer.result
+    (λ done. Advances p.number c.args.a t.taken.event done next p.token new))) (sym is)
+    (subst (λ (x : PassValue × ℕ). IfOk c.advance-answer.result (λ done. Advances x.0.number x.1 was.taken.event done next x.0.token new))
+    (λ i. (c.self.view_is i, same i)) c.advance-answer.ensures.ok)
+
+pub returns-clause-stands : goal.returns-clause-stands
+returns-clause-stands g c =
+    let was = c.in-Some.was in let is : c.args.task.now ≡ Some was = search rules in
+    let new = c.advance-answer.new.seat in
+    subst (λ (o : Option SeatTask). IfSome o (λ t. IfOk c.advance-answer.result (λ done. StandsAt new done.place t.taken.event))) (sym is)
+    c.advance-answer.ensures.stands
 
 pub returns-clause-refused : goal.returns-clause-refused
 returns-clause-refused g c =
-    let taken = c.args.task.taken in let new = c.advance-answer.new.seat in
-    let same = ap (pass_or 0) (sym taken.its ∙ c.requires.actor) in
-    subst (λ (x : PassValue × ℕ). IfErr c.advance-answer.result (λ refuse. Calls x.0.number x.0.token new (Ended x.0.number x.1 ∷ [])
-    (RefusesEntry (Some x.0.number) taken.event refuse))) (λ i. (c.self.view_is i, same i)) c.advance-answer.ensures.refused
+    let was = c.in-Some.was in let is : c.args.task.now ≡ Some was = search rules in
+    let same = task_of c.args.a c.args.task.now was is c.requires.actor in
+    let new = c.advance-answer.new.seat in let p = c.args.self.now in
+    subst (λ (o : Option SeatTask). IfSome o (λ t. IfErr c.advance-answer.result (λ refuse. Calls p.number p.token new
+    (Ended p.number c.args.a ∷ []) (RefusesEntry (Some p.number) t.taken.event refuse)))) (sym is)
+    (subst (λ (x : PassValue × ℕ). IfErr c.advance-answer.result (λ refuse. Calls x.0.number x.0.token new (Ended x.0.number x.1 ∷ [])
+    (RefusesEntry (Some x.0.number) was.taken.event refuse))) (λ i. (c.self.view_is i, same i)) c.advance-answer.ensures.refused)

@@ -30,7 +30,7 @@ may_install-requires-clause-found c =
     let program = run.0 ∙ ap (λ (h : HallView). h.logged.program) c.self.view_is in
     let options = run.1 ∙ ap (λ (h : HallView). options_of h.logged.weight h.logged.trace) c.self.view_is in
     let state = c.self.invariant.state_is ∙ ap (λ (h : HallView). state_in h.logged) c.self.view_is in
-    λ found is. subst (λ (x : Options × Program × Actors). IsFoundOf x.0.trace x.0.weight x.1 x.2 c.args.e found)
+    λ found is. subst (λ (x : Options × Program × Actors). IsFoundOf x.0.trace x.0.weight x.1 x.2 c.args.e found.value)
     (λ i. (sym options i, sym program i, (sym state i).actors)) (c.requires.found found is)
 
 pub enter-requires-clause-home : goal.enter-requires-clause-home

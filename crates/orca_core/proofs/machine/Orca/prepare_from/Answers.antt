@@ -6,7 +6,7 @@ use Rattle.orca_core.specs.Parts.{state_of}
 use Rattle.orca_core.specs.Machine.{IsSame, Machine, ReapsNoneAway, options_of}
 use Rattle.orca_core.proofs.Readied.{fits_home}
 use Rattle.orca_core.proofs.Reached.{can_step, early_still, reached_still, reaps_at_home, same_still}
-use Rattle.orca_core.proofs.machine.Orca.prepare_found.Goals as goal
+use Rattle.orca_core.proofs.machine.Orca.prepare_from.Goals as goal
 
 pub install-requires-clause-can : goal.install-requires-clause-can
 install-requires-clause-can c =
@@ -20,7 +20,7 @@ install-requires-clause-home c =
     reaps_at_home m.code.now m.weight m.trace m.parts m.steps c.self.invariant.reached c.args.e (subst (ReapsNoneAway c.args.e) (sym c.self.view_is) c.requires.home)
 
 pub install-requires-clause-found : goal.install-requires-clause-found
-install-requires-clause-found c = subst (IsFoundIn c.args.e c.args.found) (sym c.self.view_is) c.requires.found
+install-requires-clause-found c = subst (IsFoundIn c.args.e c.args.found.now) (sym c.self.view_is) c.requires.found
 
 pub invariant_of-self : goal.invariant_of-self
 invariant_of-self c =
