@@ -97,6 +97,14 @@ fn keep_woken<R: Wait, B: Board>(
     true
 }
 
+// Keeps the name of the actor that was woken, if it is another than the one that the worker stays with.
+fn keep_other(hints: &mut Hints, a: ActorName, woke: Option<ActorName>) {
+    match woke {
+        Some(name) if name != a => hints.keep(name),
+        _ => {}
+    }
+}
+
 // Enters the last event for now of an actor that seems to go on, and keeps the actor's name.
 fn enter_last<R: Wait, B: Board, G: Gate>(
     rt: &R,
@@ -114,7 +122,9 @@ fn enter_last<R: Wait, B: Board, G: Gate>(
 {
     evaluate(rt, alloc, board, hints, gate, &mut task);
     let answer = board.commit(rt, alloc, task);
-    keep_woken(rt, board, hints, answer);
+    if let Some(done) = settle(rt, board, answer) {
+        keep_other(hints, a, done.woke);
+    }
     hints.keep(a);
 }
 
@@ -149,15 +159,8 @@ fn stay_with<R: Wait, B: Board, G: Gate>(
             let None = task else { unreachable!() };
             return keep_woken(rt, board, hints, answer) || entries > 1;
         }
-        // Its own name it needn't keep, since it goes on with it.
-        match answer {
-            Ok(
-                Committed {
-                    woke: Some(name),
-                    ..
-                },
-            ) if name != a => hints.keep(name),
-            _ => {}
+        if let Ok(done) = answer {
+            keep_other(hints, a, done.woke);
         }
     }
     let Some(claim) = task else { unreachable!() };
