@@ -1,4 +1,4 @@
-//! Programs that are drawn by lot, as texts, for the crates of tests.
+//! Tests alone: programs that are drawn by lot, as texts.
 #![tactic(auto)]
 
 mod drawing;

@@ -1,4 +1,4 @@
-//! The machine that frees nothing: the slow machine against which the collector is measured.
+//! Tests alone: the machine that frees nothing, against which the collector is measured.
 #![tactic(auto)]
 
 mod actor;
