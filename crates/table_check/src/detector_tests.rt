@@ -1,4 +1,4 @@
-// The detector, note by note. A test drops it by name, since the proof of that is one for all of them.
+// The detector, note by note. One function makes it for all tests and drops it.
 
 ghost use Rattle.std.specs.Prelude.{◌≡◌, ◌+◌, ◌<◌, ◌≤◌, length};
 ghost use Rattle.cycle_detect.specs.Falling.{held_count};
@@ -21,13 +21,6 @@ fn held_on(alloc: Global, other: Option<u32>) -> Result<Listed<(ActorName, u64)>
     Ok(held)
 }
 
-/// Hears the note. Whether there was memory for it.
-fn hears(detector: &mut Detector, note: Note) -> bool
-    ensures { detector.new.state.opened ≡ detector.old.state.opened }
-{
-    detector.hear(note).is_ok()
-}
-
 /// Hears that the actor is blocked with this count, and holds 1 on this other one. Whether there was
 /// memory for it.
 fn hears_block(
@@ -42,7 +35,7 @@ fn hears_block(
     match held_on(alloc, other) {
         Ok(held) => {
             let actor = ActorName(actor);
-            hears(detector, Note::Block { actor, count, held })
+            detector.hear(Note::Block { actor, count, held }).is_ok()
         }
         Err(_) => false,
     }
@@ -53,6 +46,14 @@ fn ack(token: u64, actor: u32) -> Note {
         token,
         actor: ActorName(actor),
     }
+}
+
+/// The token that is ready once the note is heard, which takes no memory.
+fn ready_after(detector: &mut Detector, note: Note) -> Option<u64> {
+    if detector.hear(note).is_err() {
+        return Some(u64::MAX);
+    }
+    detector.ready()
 }
 
 /// Whether this is the largest closed set.
@@ -157,14 +158,6 @@ fn opens_for_two(alloc: Global, detector: &mut Detector) -> bool
         && opens_first(alloc, detector)
 }
 
-#[test]
-fn two_hold_each_other(rt: HostRuntime) {
-    let mut detector = Detector::new(rt.alloc());
-    let holds = opens_for_two(rt.alloc(), &mut detector);
-    drop(detector);
-    assert!(rt; holds);
-}
-
 /// Whether nobody is found closed where one count of the first is held by nobody.
 fn finds_none(alloc: Global, detector: &mut Detector) -> bool {
     hears_block(alloc, detector, 1, 2, Some(2))
@@ -173,131 +166,55 @@ fn finds_none(alloc: Global, detector: &mut Detector) -> bool {
         && is_closed(alloc, detector, &[])
 }
 
-#[test]
-fn one_more_count_leaves_none(rt: HostRuntime) {
-    let mut detector = Detector::new(rt.alloc());
-    let holds = finds_none(rt.alloc(), &mut detector);
-    drop(detector);
-    assert!(rt; holds);
-}
-
-/// Whether no token is ready once the note is heard.
-fn hears_unready(detector: &mut Detector, note: Note) -> bool {
-    hears(detector, note) && detector.ready() == None
-}
-
-/// Whether the token is ready once the note is heard, and both of its members acknowledged.
-fn hears_ready(detector: &mut Detector, note: Note) -> bool {
+/// Whether the token is ready, and both of its members acknowledged.
+fn is_acked(detector: &Detector) -> bool {
     let members = [ActorName(1), ActorName(2)];
-    hears(detector, note)
-        && detector.ready() == Some(1)
-        && detector.acked(1)
-        && detector.acked_members(1) == Some(members.as_slice())
+    detector.acked(1) && detector.acked_members(1) == Some(members.as_slice())
 }
 
-/// Whether a token is ready once both of its members acknowledged, and not before.
-fn waits_for_both(alloc: Global, detector: &mut Detector) -> bool
-    requires { detector.old.state.opened ≡ 0 }
-{
-    asks(alloc, detector)
-        && hears_unready(detector, ack(1, 1))
+/// Whether the token is ready once both of its members acknowledged, and not before.
+fn waits_for_both(detector: &mut Detector) -> bool {
+    ready_after(detector, ack(1, 1)) == None
         && detector.acked_members(1).is_none()
-        && hears_ready(detector, ack(1, 2))
+        && ready_after(detector, ack(1, 2)) == Some(1)
+        && is_acked(detector)
 }
 
-#[test]
-fn both_acknowledge(rt: HostRuntime) {
-    let mut detector = Detector::new(rt.alloc());
-    let holds = waits_for_both(rt.alloc(), &mut detector);
-    drop(detector);
-    assert!(rt; holds);
-}
-
-/// Whether a token is gone once one of its members is blocked no more, whoever acknowledges.
-fn is_cancelled(alloc: Global, detector: &mut Detector) -> bool
-    requires { detector.old.state.opened ≡ 0 }
-{
+/// Whether the token is gone once one of its members is blocked no more, whoever acknowledges.
+fn is_cancelled(detector: &mut Detector) -> bool {
     let actor = ActorName(2);
-    asks(alloc, detector)
-        && hears(detector, ack(1, 1))
-        && hears_unready(detector, Note::Unblock { actor })
-        && hears_unready(detector, ack(1, 2))
+    ready_after(detector, ack(1, 1)) == None
+        && ready_after(detector, Note::Unblock { actor }) == None
+        && ready_after(detector, ack(1, 2)) == None
         && detector.members(1).is_none()
 }
 
-#[test]
-fn cancelled_between(rt: HostRuntime) {
-    let mut detector = Detector::new(rt.alloc());
-    let holds = is_cancelled(rt.alloc(), &mut detector);
-    drop(detector);
-    assert!(rt; holds);
-}
-
-/// Whether a token that is closed is gone, with the reports of its members.
-fn closes(alloc: Global, detector: &mut Detector) -> bool
-    requires { detector.old.state.opened ≡ 0 }
-{
-    let asked = asks(alloc, detector);
+/// Whether the token is gone once it is closed, with the reports of its members.
+fn closes(alloc: Global, detector: &mut Detector) -> bool {
     if detector.members(1).is_some() {
         detector.close(1);
     }
-    asked && detector.members(1).is_none() && is_closed(alloc, detector, &[])
-}
-
-#[test]
-fn closed_with_its_reports(rt: HostRuntime) {
-    let mut detector = Detector::new(rt.alloc());
-    let holds = closes(rt.alloc(), &mut detector);
-    drop(detector);
-    assert!(rt; holds);
-}
-
-fn tells_none(alloc: Global, detector: &Detector, token: u64) -> bool {
-    matches!(detector.token_reports(alloc, token), Ok(None))
+    detector.members(1).is_none() && is_closed(alloc, detector, &[])
 }
 
 fn count_one_each(reports: &[KeptReport]) -> bool {
-    reports
-        .iter()
-        .all(|report| report.count == 1 && report.held.len() == 1)
+    for report in reports {
+        if report.count != 1 || report.held.len() != 1 {
+            return false;
+        }
+    }
+    true
 }
 
-fn tells_two(alloc: Global, detector: &Detector, token: u64) -> bool {
-    match detector.token_reports(alloc, token) {
+fn tells_two(alloc: Global, detector: &Detector) -> bool {
+    match detector.token_reports(alloc, 1) {
         Ok(Some(reports)) => reports.len() == 2 && count_one_each(&reports),
         _ => false,
     }
 }
 
-/// Whether the reports of a token's members are told, and none of a token that there is not.
-fn tells_reports(alloc: Global, detector: &mut Detector) -> bool
-    requires { detector.old.state.opened ≡ 0 }
-{
-    asks(alloc, detector) && tells_none(alloc, detector, 2) && tells_two(alloc, detector, 1)
-}
-
-#[test]
-fn hands_out_reports(rt: HostRuntime) {
-    let mut detector = Detector::new(rt.alloc());
-    let holds = tells_reports(rt.alloc(), &mut detector);
-    drop(detector);
-    assert!(rt; holds);
-}
-
-#[test]
-fn chain_falls(rt: HostRuntime) {
-    let mut detector = Detector::new(rt.alloc());
-    let closed = closed_in_a_row(rt.alloc(), &mut detector, 999, None);
-    drop(detector);
-    assert!(rt; closed == Some(0));
-}
-
-#[test]
-fn ring_stands(rt: HostRuntime) {
-    let mut detector = Detector::new(rt.alloc());
-    let closed = closed_in_a_row(rt.alloc(), &mut detector, 999, Some(0));
-    drop(detector);
-    assert!(rt; closed == Some(1000));
+fn tells_none(alloc: Global, detector: &Detector) -> bool {
+    matches!(detector.token_reports(alloc, 2), Ok(None))
 }
 
 /// Whether the note, once it was prepared, is news when it is heard, and not before.
@@ -319,10 +236,76 @@ fn hears_as_prepared(alloc: Global, detector: &mut Detector) -> bool {
     is_news_once_heard(detector, note) && is_closed(alloc, detector, &[ActorName(70)])
 }
 
-#[test]
-fn hears_what_was_prepared(rt: HostRuntime) {
-    let mut detector = Detector::new(rt.alloc());
-    let holds = hears_as_prepared(rt.alloc(), &mut detector);
+/// What a token of two actors that hold each other is tried for.
+#[derive(Clone, Copy)]
+enum Asked {
+    WaitsForBoth,
+    IsCancelled,
+    Closes,
+    TellsReports,
+}
+
+/// What a detector is tried for that heard nothing yet.
+#[derive(Clone, Copy)]
+enum Tried {
+    OpensForTwo,
+    FindsNone,
+    ChainFalls,
+    RingStands,
+    HearsAsPrepared,
+    Asks(Asked),
+}
+
+fn holds_once_asked(alloc: Global, detector: &mut Detector, asked: Asked) -> bool {
+    match asked {
+        Asked::WaitsForBoth => waits_for_both(detector),
+        Asked::IsCancelled => is_cancelled(detector),
+        Asked::Closes => closes(alloc, detector),
+        Asked::TellsReports => tells_none(alloc, detector) && tells_two(alloc, detector),
+    }
+}
+
+fn holds_from_the_start(alloc: Global, detector: &mut Detector, tried: Tried) -> bool
+    requires { detector.old.state.opened ≡ 0 }
+{
+    match tried {
+        Tried::OpensForTwo => opens_for_two(alloc, detector),
+        Tried::FindsNone => finds_none(alloc, detector),
+        Tried::ChainFalls => closed_in_a_row(alloc, detector, 999, None) == Some(0),
+        Tried::RingStands => closed_in_a_row(alloc, detector, 999, Some(0)) == Some(1000),
+        Tried::HearsAsPrepared => hears_as_prepared(alloc, detector),
+        Tried::Asks(asked) => asks(alloc, detector) && holds_once_asked(alloc, detector, asked),
+    }
+}
+
+fn holds(alloc: Global, tried: Tried) -> bool {
+    let mut detector = Detector::new(alloc);
+    let holds = holds_from_the_start(alloc, &mut detector, tried);
     drop(detector);
-    assert!(rt; holds);
+    holds
+}
+
+#[test]
+fn two_hold_each_other_and_one_more_count_leaves_none(rt: HostRuntime) {
+    assert!(rt; holds(rt.alloc(), Tried::OpensForTwo));
+    assert!(rt; holds(rt.alloc(), Tried::FindsNone));
+}
+
+#[test]
+fn a_chain_falls_and_a_ring_stands(rt: HostRuntime) {
+    assert!(rt; holds(rt.alloc(), Tried::ChainFalls));
+    assert!(rt; holds(rt.alloc(), Tried::RingStands));
+}
+
+#[test]
+fn a_token_waits_for_both_or_is_cancelled_or_closed(rt: HostRuntime) {
+    assert!(rt; holds(rt.alloc(), Tried::Asks(Asked::WaitsForBoth)));
+    assert!(rt; holds(rt.alloc(), Tried::Asks(Asked::IsCancelled)));
+    assert!(rt; holds(rt.alloc(), Tried::Asks(Asked::Closes)));
+}
+
+#[test]
+fn reports_are_handed_out_and_what_was_prepared_is_heard(rt: HostRuntime) {
+    assert!(rt; holds(rt.alloc(), Tried::Asks(Asked::TellsReports)));
+    assert!(rt; holds(rt.alloc(), Tried::HearsAsPrepared));
 }

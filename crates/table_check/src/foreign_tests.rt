@@ -1,73 +1,24 @@
 // A table through its calls that may want memory.
 
+use crate::cases::{Given, Holding, Named, gains_all, number_in, object, thing_of};
 use foreign_table::ForeignTable;
 use letter_kinds::Amounts;
-use orca_names::{ActorName, NoMemory, ObjName, Row, Serial, Thing, Value};
+use orca_names::{ActorName, NoMemory};
 use std::alloc::Global;
 
-const fn name(owner: u32, serial: u64) -> ObjName {
-    ObjName {
-        owner: ActorName(owner),
-        serial: Serial::of(serial),
-    }
-}
-
-const fn object(owner: u32, serial: u64) -> Thing {
-    Thing::Obj(name(owner, serial))
-}
-
-/// Gains 256 on the thing, with this number in its row, if any. Whether there was memory.
-fn gains(table: &mut ForeignTable, thing: &Thing, number: Option<u64>) -> bool {
-    let row = match number {
-        Some(number) => Some(Row::of(&[Value::Num(number)])),
-        None => None,
-    };
-    if table.reserve(1).is_err() || table.count(*thing) > 1_000_000 {
-        return false;
-    }
-    table.gain(*thing, &row, 256);
-    true
-}
-
-fn spend(table: &mut ForeignTable, thing: &Thing) {
-    if table.count(*thing) > 0 {
-        table.spend(*thing);
-    }
-}
-
-fn take_out(table: &mut ForeignTable, thing: &Thing) {
-    if table.count(*thing) > 0 {
-        table.take_out(*thing);
-    }
-}
-
-// The number in the row of an object of actor 3.
-fn number(table: &ForeignTable, serial: u64) -> Option<Value> {
-    match table.row(name(3, serial)) {
-        Some(row) => row.get(0),
-        None => None,
-    }
-}
-
-// What is held on a thing: its count, and the number in its row.
-fn entry(table: &ForeignTable, thing: &Thing) -> Option<(u64, Option<Value>)> {
-    match table.entry(*thing) {
-        Some((count, Some(row))) => Some((count, row.get(0))),
-        Some((count, None)) => Some((count, None)),
-        None => None,
-    }
-}
-
-fn gains_three(table: &mut ForeignTable) -> bool {
-    gains(table, &object(3, 0), Some(7))
-        && gains(table, &Thing::Actor(ActorName(5)), None)
-        && gains(table, &Thing::Actor(ActorName(3)), None)
-        && gains(table, &Thing::Actor(ActorName(3)), None)
-}
+const COUNTED: &[Holding] = &[
+    (Named::Object(3, 0), &[Given::Num(7)], 256),
+    (Named::Actor(5), &[], 256),
+    (Named::Actor(3), &[], 256),
+    (Named::Actor(3), &[], 256),
+];
 
 fn differs_once_spent(table: &mut ForeignTable, before: &ForeignTable) -> bool {
+    let five = &thing_of(Named::Actor(5));
     let same = table.same(before);
-    spend(table, &Thing::Actor(ActorName(5)));
+    if table.count(*five) > 0 {
+        table.spend(*five);
+    }
     same && !table.same(before)
 }
 
@@ -89,10 +40,10 @@ fn tells_two_actors(alloc: Global, table: &ForeignTable) -> bool {
 
 /// Whether a table differs from its copy once a count is spent, and then has these counts and places.
 fn counts_so(alloc: Global, table: &mut ForeignTable) -> bool {
-    gains_three(table)
+    gains_all(table, COUNTED)
         && differs_from_copy(alloc, table)
         && tells_two_actors(alloc, table)
-        && table.place(&object(3, 0)) == Some(1)
+        && table.place(&thing_of(Named::Object(3, 0))) == Some(1)
         && table.len() == 3
 }
 
@@ -104,31 +55,55 @@ fn counts_are_held_and_copied(rt: HostRuntime) {
     assert!(rt; holds);
 }
 
-/// Gains on five objects of actor 3 with their numbers, and on five of actor 2 with none.
-fn gains_ten(table: &mut ForeignTable) -> bool {
-    for serial in 0..5 {
-        if !(gains(table, &object(3, serial), Some(serial))
-            && gains(table, &object(2, serial), None))
-        {
-            return false;
-        }
+// Five objects of actor 3 with their numbers, and five of actor 2 with none.
+const TEN: &[Holding] = &[
+    (Named::Object(3, 0), &[Given::Num(0)], 256),
+    (Named::Object(2, 0), &[], 256),
+    (Named::Object(3, 1), &[Given::Num(1)], 256),
+    (Named::Object(2, 1), &[], 256),
+    (Named::Object(3, 2), &[Given::Num(2)], 256),
+    (Named::Object(2, 2), &[], 256),
+    (Named::Object(3, 3), &[Given::Num(3)], 256),
+    (Named::Object(2, 3), &[], 256),
+    (Named::Object(3, 4), &[Given::Num(4)], 256),
+    (Named::Object(2, 4), &[], 256),
+];
+
+fn take_out(table: &mut ForeignTable, named: Named) {
+    let thing = &thing_of(named);
+    if table.count(*thing) > 0 {
+        table.take_out(*thing);
     }
-    true
+}
+
+// The number in the row of an object of actor 3.
+fn number(table: &ForeignTable, serial: u64) -> Option<u64> {
+    number_in(table.row(object(3, serial)))
+}
+
+// What is held on a thing: its count, and the number in its row.
+fn entry(table: &ForeignTable, named: Named) -> Option<(u64, Option<u64>)> {
+    let (count, row) = table.entry(thing_of(named))?;
+    Some((count, number_in(row)))
+}
+
+/// Whether of ten objects all but two are there, with their rows.
+fn has_eight(table: &ForeignTable) -> bool {
+    number(table, 0) == Some(0)
+        && number(table, 1) == None
+        && number(table, 2) == Some(2)
+        && table.len() == 8
+        && entry(table, Named::Object(3, 2)) == Some((256, Some(2)))
+        && entry(table, Named::Object(2, 3)) == Some((256, None))
+        && entry(table, Named::Object(2, 4)) == None
 }
 
 /// Whether the objects of actor 3 keep their rows once the second is taken out.
 fn keeps_rows(table: &mut ForeignTable) -> bool {
-    let gained = gains_ten(table);
-    take_out(table, &object(3, 1));
-    take_out(table, &object(2, 4));
-    gained
-        && number(table, 0) == Some(Value::Num(0))
-        && number(table, 1) == None
-        && number(table, 2) == Some(Value::Num(2))
-        && table.len() == 8
-        && entry(table, &object(3, 2)) == Some((256, Some(Value::Num(2))))
-        && entry(table, &object(2, 3)) == Some((256, None))
-        && entry(table, &object(2, 4)) == None
+    let gained = gains_all(table, TEN);
+    take_out(table, Named::Object(3, 1));
+    take_out(table, Named::Object(2, 4));
+    gained && has_eight(table)
 }
 
 #[test]
@@ -139,10 +114,13 @@ fn rows_stay_with_their_things(rt: HostRuntime) {
     assert!(rt; holds);
 }
 
+// One of nine objects of actor 3.
+const FIFTH: &[Holding] = &[(Named::Object(3, 4), &[], 256)];
+
 fn nine_objects(alloc: Global) -> Result<Amounts, NoMemory> {
     let mut things = Amounts::new(alloc);
     for serial in 0..9 {
-        things.push((object(3, serial), 1))?;
+        things.push((thing_of(Named::Object(3, serial)), 1))?;
     }
     Ok(things)
 }
@@ -157,12 +135,12 @@ fn stays_for_nine(alloc: Global, table: &mut ForeignTable, before: &ForeignTable
 
 /// Whether a table that takes room for nine things, one of which it holds, has what it had.
 fn is_as_before(alloc: Global, table: &mut ForeignTable) -> bool {
-    let gained = gains(table, &object(3, 4), None);
+    let gained = gains_all(table, FIFTH);
     let stays = match table.copy(alloc) {
         Ok(before) => stays_for_nine(alloc, table, &before),
         Err(_) => false,
     };
-    gained && stays && table.count(object(3, 4)) == 256 && table.len() == 1
+    gained && stays && table.count(thing_of(Named::Object(3, 4))) == 256 && table.len() == 1
 }
 
 #[test]

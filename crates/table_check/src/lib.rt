@@ -2,6 +2,8 @@
 #![tactic(auto)]
 
 #[cfg(test)]
+mod cases;
+#[cfg(test)]
 mod count_tests;
 #[cfg(test)]
 mod detector_tests;

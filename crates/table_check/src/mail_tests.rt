@@ -29,20 +29,21 @@ fn push_two(row: &mut MailRow) -> bool {
 }
 
 fn stand_in_order(row: &MailRow) -> bool {
-    row.len() == 2 && row.front().map(token_of) == Some(3) && token_of(row.at(1)) == 5
-}
-
-fn leave_in_order(row: &mut MailRow) -> bool {
-    take_token(row) == Some(3) && take_token(row) == Some(5) && row.is_empty()
+    let Some(first) = row.front() else {
+        return false;
+    };
+    token_of(first) == 3 && row.len() == 2 && token_of(row.at(1)) == 5
 }
 
 /// Whether two letters stand and leave in the order in which they came, and no other one leaves.
 fn come_in_order(row: &mut MailRow) -> bool {
-    take_token(row) == None
-        && push_two(row)
-        && stand_in_order(row)
-        && leave_in_order(row)
-        && take_token(row) == None
+    let before = take_token(row);
+    let stand = push_two(row) && stand_in_order(row);
+    let first = take_token(row);
+    let second = take_token(row);
+    let empty = row.is_empty();
+    let behind = take_token(row);
+    stand && empty && (first, second) == (Some(3), Some(5)) && (before, behind) == (None, None)
 }
 
 #[test]

@@ -2,55 +2,58 @@
 
 ghost use Rattle.std.specs.Prelude.{◌≡◌, length};
 
-use orca_names::{ActorName, Args, Fields, ObjName, Row, Serial, Thing, Value};
+use crate::cases::{Named, are_things, thing_of, things_of};
+use orca_names::{ActorName, Args, Fields, Row, Value};
 use std::alloc::Global;
 
-const fn object(owner: u32, serial: u64) -> Thing {
-    Thing::Obj(ObjName {
-        owner: ActorName(owner),
-        serial: Serial::of(serial),
-    })
-}
+const RISING: &[Named] = &[
+    Named::Actor(0),
+    Named::Object(0, 0),
+    Named::Object(0, 7),
+    Named::Actor(1),
+    Named::Object(1, 3),
+    Named::Actor(2),
+];
 
-/// Whether six things, mixed and then sorted, rise as they are written here.
+// The same, mixed.
+const MIXED: &[Named] = &[
+    Named::Object(1, 3),
+    Named::Object(0, 0),
+    Named::Actor(2),
+    Named::Actor(0),
+    Named::Actor(1),
+    Named::Object(0, 7),
+];
+
+/// Whether the mixed things, once sorted, rise.
 fn rise_once_sorted(alloc: Global) -> bool {
-    let rising = [
-        Thing::Actor(ActorName(0)),
-        object(0, 0),
-        object(0, 7),
-        Thing::Actor(ActorName(1)),
-        object(1, 3),
-        Thing::Actor(ActorName(2)),
-    ];
-    let mut mixed = [
-        rising[4], rising[1], rising[5], rising[0], rising[3], rising[2],
-    ];
-    mixed.sort(alloc).is_ok() && mixed == rising && rising[4].owner() == ActorName(1)
+    let Ok(mut things) = things_of(alloc, MIXED) else {
+        return false;
+    };
+    things.sort().is_ok() && are_things(things.as_slice(), RISING)
 }
 
 #[test]
 fn things_rise_by_owner_and_serial(rt: HostRuntime) {
+    assert!(rt; thing_of(Named::Object(1, 3)).owner() == ActorName(1));
     assert!(rt; rise_once_sorted(rt.alloc()));
 }
 
-fn pushed_and_set() -> Args {
+fn nulls_are_null() -> bool {
+    Args::nulls(2).as_slice() == [Value::Null; 2].as_slice()
+}
+
+fn arguments_keep_their_places() -> bool {
+    let want = [Value::Num(7), Value::Num(9), Value::Actor(ActorName(2))];
     let mut args = Args::of(&[Value::Num(7), Value::Null]);
     args.push(Value::Actor(ActorName(2)));
     args.set(1, Value::Num(9));
-    args
+    args.as_slice() == want.as_slice()
 }
 
-fn keep_their_places() -> bool {
-    let want = [Value::Num(7), Value::Num(9), Value::Actor(ActorName(2))];
-    let row = Row::of(&want);
-    let ends_so = row.len() == 3 && row.at(2) == Value::Actor(ActorName(2));
-    ends_so && pushed_and_set().as_slice() == want.as_slice()
-}
-
-#[test]
-fn values_keep_their_places(rt: HostRuntime) {
-    let nulls = Args::nulls(2).as_slice() == [Value::Null; 2].as_slice();
-    assert!(rt; nulls && keep_their_places());
+fn rows_keep_their_places() -> bool {
+    let row = Row::of(&[Value::Num(7), Value::Num(9), Value::Actor(ActorName(2))]);
+    row.len() == 3 && row.at(2) == Value::Actor(ActorName(2))
 }
 
 fn two_values() -> Args
@@ -80,6 +83,8 @@ fn rows_are_copied() -> bool {
 }
 
 #[test]
-fn copies_are_equal(rt: HostRuntime) {
+fn values_keep_their_places_and_are_copied(rt: HostRuntime) {
+    assert!(rt; nulls_are_null());
+    assert!(rt; arguments_keep_their_places() && rows_keep_their_places());
     assert!(rt; fields_are_copied() && rows_are_copied());
 }

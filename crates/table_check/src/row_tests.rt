@@ -1,31 +1,33 @@
 // What is told of others' objects.
 
-use orca_names::{ActorName, ObjName, Row, Serial, Thing, Value};
+use crate::cases::{number_in, object};
+use orca_names::{Row, Thing, Value};
 use row_table::RowTable;
 use std::alloc::Global;
 
-const fn name(serial: u64) -> ObjName {
-    ObjName {
-        owner: ActorName(3),
-        serial: Serial::of(serial),
-    }
-}
-
-/// Learns that an object has this number. Whether there was memory.
+/// Learns that an object of actor 3 has this number. Whether there was memory.
 fn learns(table: &mut RowTable, serial: u64, number: u64) -> bool {
     if table.reserve(1).is_err() {
         return false;
     }
     let row = Some(Row::of(&[Value::Num(number)]));
-    table.learn(Thing::Obj(name(serial)), &row);
+    table.learn(Thing::Obj(object(3, serial)), &row);
     true
 }
 
-fn number(table: &RowTable, serial: u64) -> Option<Value> {
-    match table.held().row(name(serial)) {
-        Some(row) => row.get(0),
-        None => None,
-    }
+/// The number that is known of an object of actor 3.
+fn number(table: &RowTable, serial: u64) -> Option<u64> {
+    number_in(table.held().row(object(3, serial)))
+}
+
+/// Whether a table knows what it was told last.
+fn knows_the_last(table: &mut RowTable) -> bool {
+    learns(table, 5, 1)
+        && learns(table, 4, 2)
+        && learns(table, 5, 3)
+        && number(table, 5) == Some(3)
+        && number(table, 4) == Some(2)
+        && number(table, 6) == None
 }
 
 fn differs_once_told(table: &mut RowTable, copied: &RowTable) -> bool {
@@ -38,16 +40,6 @@ fn differs_from_copy(alloc: Global, table: &mut RowTable) -> bool {
         Ok(copied) => differs_once_told(table, &copied),
         Err(_) => false,
     }
-}
-
-/// Whether a table knows what it was told last.
-fn knows_the_last(table: &mut RowTable) -> bool {
-    learns(table, 5, 1)
-        && learns(table, 4, 2)
-        && learns(table, 5, 3)
-        && number(table, 5) == Some(Value::Num(3))
-        && number(table, 4) == Some(Value::Num(2))
-        && number(table, 6) == None
 }
 
 #[test]

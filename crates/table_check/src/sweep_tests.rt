@@ -1,207 +1,276 @@
-// What an actor frees and gives back once its fields are empty.
+// What an actor frees and gives back.
 
+use crate::cases::{
+    Amount, Given, Holding, Named, are_amounts, args_of, gains_all, makes_all, object, raise,
+};
 use foreign_table::ForeignTable;
 use known_rows::KnownPlaces;
-use letter_kinds::SweepPlan;
+use letter_kinds::{Amounts, SweepPlan};
 use local_sweep::{apply, plan, plan_of_marks};
 use object_heap::ObjectHeap;
-use orca_names::{ActorName, Args, Fields, NoMemory, ObjName, Row, Serial, Thing, Value};
+use orca_names::{ActorName, Fields};
 use reach_walk::Places;
 use ready_set::PlaceSet;
+use root_trace::plan_roots;
 use std::alloc::Global;
-use std::test::Fail;
 
-fn shared() -> Thing {
-    Thing::Obj(ObjName {
-        owner: ActorName(0),
-        serial: Serial::of(0),
-    })
+/// What keeps a thing.
+#[derive(Clone, Copy)]
+enum Keeper {
+    /// The field that has this value, if there is one, and all rows. The sweep is planned and done.
+    Field(&'static [Given]),
+
+    /// The field that has this value, and the rows of own objects alone. The sweep is planned alone.
+    FieldAndOwnRows(&'static [Given]),
+
+    /// The mark on this place. The sweep is planned alone.
+    Mark(usize),
 }
 
-fn gain(
-    table: &mut ForeignTable,
-    thing: &Thing,
-    row: &Option<Row>,
-    by: u64,
-) -> Result<(), NoMemory> {
-    table.reserve(1)?;
-    if by < 1_000_000 {
-        if table.count(*thing) < 1_000_000 {
-            table.gain(*thing, row, by);
+/// An actor and its sweep.
+struct Sweep {
+    actor: u32,
+    held: &'static [Holding],
+
+    /// The rows of its objects, and how often the first of these is counted.
+    rows: &'static [&'static [Given]],
+    counted: u32,
+    keeper: Keeper,
+
+    /// The serial of the object that is freed, if one is, and what goes back to each owner.
+    freed: Option<u64>,
+    back: &'static [(u32, &'static [Amount])],
+
+    /// Whether the first object is there then, and how many things are held.
+    stays: bool,
+    left: usize,
+}
+
+const ALL_THAT_IS_HELD_GOES_BACK: Sweep = Sweep {
+    actor: 1,
+    held: &[
+        (Named::Actor(0), &[], 256),
+        (Named::Actor(2), &[], 1),
+        (Named::Object(0, 0), &[Given::Num(9)], 256),
+    ],
+    rows: &[],
+    counted: 0,
+    keeper: Keeper::Field(&[]),
+    freed: None,
+    back: &[
+        (0, &[(Named::Actor(0), 256), (Named::Object(0, 0), 256)]),
+        (2, &[(Named::Actor(2), 1)]),
+    ],
+    stays: false,
+    left: 0,
+};
+
+const A_COUNTED_OBJECT_STAYS_BUT_NOT_WHAT_IT_NAMES: Sweep = Sweep {
+    actor: 1,
+    held: &[(Named::Actor(2), &[], 256)],
+    rows: &[&[Given::Actor(2)]],
+    counted: 1,
+    keeper: Keeper::Field(&[]),
+    freed: None,
+    back: &[(2, &[(Named::Actor(2), 256)])],
+    stays: true,
+    left: 0,
+};
+
+// Actors 0 and 2 and an object of 0.
+const THREE_HELD: &[Holding] = &[
+    (Named::Actor(0), &[], 256),
+    (Named::Actor(2), &[], 1),
+    (Named::Object(0, 0), &[Given::Num(9)], 7),
+];
+
+const WHAT_THE_FIELDS_NAME_STAYS: Sweep = Sweep {
+    actor: 1,
+    held: THREE_HELD,
+    rows: &[&[Given::Actor(2)]],
+    counted: 0,
+    keeper: Keeper::Field(&[Given::Object(0, 0)]),
+    freed: Some(0),
+    back: &[(2, &[(Named::Actor(2), 1)])],
+    stays: false,
+    left: 2,
+};
+
+const WHAT_ROWS_LEAD_TO_STAYS: Sweep = Sweep {
+    actor: 1,
+    held: THREE_HELD,
+    rows: &[&[Given::Actor(2)]],
+    counted: 0,
+    keeper: Keeper::Field(&[Given::Object(1, 0)]),
+    freed: None,
+    back: &[(0, &[(Named::Actor(0), 256), (Named::Object(0, 0), 7)])],
+    stays: true,
+    left: 1,
+};
+
+const WHAT_OWN_ROWS_REACH_STAYS: Sweep = Sweep {
+    actor: 0,
+    held: &[],
+    rows: &[&[Given::Num(4)], &[Given::Null], &[Given::Object(0, 0)]],
+    counted: 0,
+    keeper: Keeper::FieldAndOwnRows(&[Given::Object(0, 2)]),
+    freed: Some(1),
+    back: &[],
+    stays: true,
+    left: 0,
+};
+
+// Actor 1 stands before what it holds of actor 2.
+const MARKED_PLACES_STAY: Sweep = Sweep {
+    actor: 1,
+    held: &[(Named::Actor(0), &[], 256), (Named::Actor(2), &[], 1)],
+    rows: &[],
+    counted: 0,
+    keeper: Keeper::Mark(2),
+    freed: None,
+    back: &[(0, &[(Named::Actor(0), 256)])],
+    stays: false,
+    left: 2,
+};
+
+fn gives_back(back: &[(ActorName, Amounts)], want: &[(u32, &[Amount])]) -> bool {
+    if back.len() != want.len() {
+        return false;
+    }
+    for (group, wanted) in back.iter().zip(want.iter()) {
+        if group.0 != ActorName(wanted.0) || !are_amounts(group.1.as_slice(), wanted.1) {
+            return false;
         }
     }
-    Ok(())
+    true
 }
 
-fn raise(heap: &mut ObjectHeap, n: &ObjName) {
-    if heap.has(*n) {
-        if heap.count(*n) < 1_000_000 {
-            heap.raise(*n, 1);
-        }
+/// Whether the plan frees and gives back what is wanted.
+fn is_wanted(plan: &SweepPlan, sweep: &Sweep) -> bool {
+    let free = plan.free.as_slice();
+    let frees = match sweep.freed {
+        Some(serial) => free == [object(sweep.actor, serial)].as_slice(),
+        None => free.is_empty(),
+    };
+    frees && gives_back(plan.back.as_slice(), sweep.back)
+}
+
+fn fields_of(values: &[Given]) -> Fields {
+    Fields {
+        values: args_of(values),
+        pinned: false,
     }
 }
 
-fn make(heap: &mut ObjectHeap, row: Row) -> Result<ObjName, Fail> {
-    heap.reserve(1)?;
-    if heap.made() < 1_000_000 {
-        return Ok(heap.make(row));
-    }
-    Err(Fail::from("too many objects"))
-}
-
-// Plans a sweep with these values in the fields and does it.
-fn sweep(
+/// Plans the sweep by the fields, and does it.
+fn sweeps(
     alloc: Global,
-    values: Args,
+    fields: &Fields,
+    sweep: &Sweep,
     heap: &mut ObjectHeap,
     foreign: &mut ForeignTable,
-) -> Result<SweepPlan, Fail> {
+) -> bool {
     let known = KnownPlaces::of(heap, foreign);
     if !known.holds_others_only() {
-        return Err(Fail::from("it holds things of its own"));
+        return false;
     }
-    let fields = Fields {
-        values,
-        pinned: false,
-    };
-    let plan = plan(alloc, &fields, heap, foreign)?;
-    apply(&plan, heap, foreign);
-    Ok(plan)
+    match plan(alloc, fields, heap, foreign) {
+        Ok(plan) => {
+            apply(&plan, heap, foreign);
+            is_wanted(&plan, sweep)
+        }
+        Err(_) => false,
+    }
 }
 
-// The plan of a sweep that keeps these places.
-fn plan_of(
+fn plans_by_own_rows(
     alloc: Global,
-    marks: &PlaceSet,
+    fields: &Fields,
+    sweep: &Sweep,
     heap: &ObjectHeap,
     foreign: &ForeignTable,
-) -> Result<SweepPlan, Fail> {
+) -> bool {
+    let known = KnownPlaces::of(heap, foreign);
+    if !known.holds_others_only() {
+        return false;
+    }
+    match plan_roots(alloc, fields, heap, foreign) {
+        Ok(plan) => is_wanted(&plan, sweep),
+        Err(_) => false,
+    }
+}
+
+fn plans_by_marks(
+    alloc: Global,
+    marks: &PlaceSet,
+    sweep: &Sweep,
+    heap: &ObjectHeap,
+    foreign: &ForeignTable,
+) -> bool {
     let known = KnownPlaces::of(heap, foreign);
     if known.places() > marks.len() {
-        return Err(Fail::from("too few marks"));
+        return false;
     }
-    Ok(plan_of_marks(alloc, marks, heap, foreign)?)
-}
-
-// Whether this group of a plan is the owner's, with these amounts.
-fn is_group(plan: &SweepPlan, i: usize, owner: u32, amounts: &[(Thing, u64)]) -> bool {
-    let back = &plan.back;
-    match back.get(i) {
-        Some(group) => group.0 == ActorName(owner) && group.1.as_slice() == amounts,
-        None => false,
+    match plan_of_marks(alloc, marks, heap, foreign) {
+        Ok(plan) => is_wanted(&plan, sweep),
+        Err(_) => false,
     }
 }
 
-/// Whether an actor whose fields are empty frees nothing, and gives back all that it holds.
-fn gives_all_back(
+/// Plans the sweep by a mark on this place of three.
+fn plans_by_a_mark(
     alloc: Global,
-    heap: &mut ObjectHeap,
-    foreign: &mut ForeignTable,
-) -> Result<bool, Fail> {
-    let row = Some(Row::of(&[Value::Num(9)]));
-    gain(foreign, &Thing::Actor(ActorName(0)), &None, 256)?;
-    gain(foreign, &Thing::Actor(ActorName(2)), &None, 1)?;
-    gain(foreign, &shared(), &row, 256)?;
-    let plan = sweep(alloc, Args::new(), heap, foreign)?;
-    let first = [(Thing::Actor(ActorName(0)), 256), (shared(), 256)];
-    let second = [(Thing::Actor(ActorName(2)), 1)];
-    let groups = is_group(&plan, 0, 0, &first) && is_group(&plan, 1, 2, &second);
-    let alone = plan.free.len() == 0 && plan.back.len() == 2;
-    Ok(groups && alone && foreign.len() == 0)
-}
-
-#[test]
-fn all_that_is_held_goes_back(rt: HostRuntime) -> Result<(), Fail> {
-    let mut heap = ObjectHeap::new(rt.alloc(), ActorName(1));
-    let mut foreign = ForeignTable::new(rt.alloc());
-    assert!(rt; gives_all_back(rt.alloc(), &mut heap, &mut foreign)?);
-    Ok(())
-}
-
-/// Whether an object that is counted stays, and the actor that its row names goes back.
-fn keeps_the_counted(
-    alloc: Global,
-    heap: &mut ObjectHeap,
-    foreign: &mut ForeignTable,
-) -> Result<bool, Fail> {
-    gain(foreign, &Thing::Actor(ActorName(2)), &None, 256)?;
-    let n = make(heap, Row::of(&[Value::Actor(ActorName(2))]))?;
-    raise(heap, &n);
-    let plan = sweep(alloc, Args::new(), heap, foreign)?;
-    let back = is_group(&plan, 0, 2, &[(Thing::Actor(ActorName(2)), 256)]);
-    Ok(back && plan.free.len() == 0 && heap.has(n) && foreign.len() == 0)
-}
-
-#[test]
-fn a_counted_object_stays_but_not_what_it_names(rt: HostRuntime) -> Result<(), Fail> {
-    let mut heap = ObjectHeap::new(rt.alloc(), ActorName(1));
-    let mut foreign = ForeignTable::new(rt.alloc());
-    assert!(rt; keeps_the_counted(rt.alloc(), &mut heap, &mut foreign)?);
-    Ok(())
-}
-
-// Sweeps an actor 1 that holds actors 0 and 2 and an object of 0, and has an own object that names
-// actor 2. Its field is the object of 0, or its own. Answers the plan.
-fn sweep_over(
-    alloc: Global,
-    heap: &mut ObjectHeap,
-    foreign: &mut ForeignTable,
-    is_shared: bool,
-) -> Result<SweepPlan, Fail> {
-    gain(foreign, &Thing::Actor(ActorName(0)), &None, 256)?;
-    gain(foreign, &Thing::Actor(ActorName(2)), &None, 1)?;
-    gain(foreign, &shared(), &Some(Row::of(&[Value::Num(9)])), 7)?;
-    let own = make(heap, Row::of(&[Value::Actor(ActorName(2))]))?;
-    let field = match shared() {
-        Thing::Obj(n) if is_shared => n,
-        _ => own,
-    };
-    sweep(alloc, Args::of(&[Value::Obj(field)]), heap, foreign)
-}
-
-fn sweep_one(alloc: Global, is_shared: bool) -> Result<SweepPlan, Fail> {
-    let mut heap = ObjectHeap::new(alloc, ActorName(1));
-    let mut foreign = ForeignTable::new(alloc);
-    sweep_over(alloc, &mut heap, &mut foreign, is_shared)
-}
-
-#[test]
-fn what_the_fields_name_stays(rt: HostRuntime) -> Result<(), Fail> {
-    let plan = sweep_one(rt.alloc(), true)?;
-    assert_eq!(rt; (plan.free.len(), plan.back.len()), (1, 1));
-    assert!(rt; is_group(&plan, 0, 2, &[(Thing::Actor(ActorName(2)), 1)]));
-    Ok(())
-}
-
-#[test]
-fn what_rows_lead_to_stays(rt: HostRuntime) -> Result<(), Fail> {
-    let plan = sweep_one(rt.alloc(), false)?;
-    assert_eq!(rt; (plan.free.len(), plan.back.len()), (0, 1));
-    let back = [(Thing::Actor(ActorName(0)), 256), (shared(), 7)];
-    assert!(rt; is_group(&plan, 0, 0, &back));
-    Ok(())
-}
-
-/// Whether of two actors that are held the one whose place is marked stays.
-fn keeps_the_marked(
-    alloc: Global,
+    place: usize,
+    sweep: &Sweep,
     heap: &ObjectHeap,
-    foreign: &mut ForeignTable,
-) -> Result<bool, Fail> {
-    gain(foreign, &Thing::Actor(ActorName(0)), &None, 256)?;
-    gain(foreign, &Thing::Actor(ActorName(2)), &None, 1)?;
-    let mut marks = PlaceSet::with_places(alloc, 3)?;
-    if marks.len() > 2 {
-        marks.insert(2);
+    foreign: &ForeignTable,
+) -> bool {
+    let Ok(mut marks) = PlaceSet::with_places(alloc, 3) else {
+        return false;
+    };
+    if marks.len() > place {
+        marks.insert(place);
     }
-    let plan = plan_of(alloc, &marks, heap, foreign)?;
-    Ok(plan.back.len() == 1 && is_group(&plan, 0, 0, &[(Thing::Actor(ActorName(0)), 256)]))
+    plans_by_marks(alloc, &marks, sweep, heap, foreign)
+}
+
+/// Whether an actor that holds nothing yet and has no object sweeps as is wanted once it has all this.
+fn ends_so(
+    alloc: Global,
+    sweep: &Sweep,
+    heap: &mut ObjectHeap,
+    foreign: &mut ForeignTable,
+) -> bool {
+    let first = &object(sweep.actor, 0);
+    let ready = gains_all(foreign, sweep.held) && makes_all(heap, sweep.rows);
+    if sweep.counted > 0 {
+        raise(heap, first, sweep.counted);
+    }
+    let swept = match sweep.keeper {
+        Keeper::Field(field) => sweeps(alloc, &fields_of(field), sweep, heap, foreign),
+        Keeper::FieldAndOwnRows(field) => {
+            plans_by_own_rows(alloc, &fields_of(field), sweep, heap, foreign)
+        }
+        Keeper::Mark(place) => plans_by_a_mark(alloc, place, sweep, heap, foreign),
+    };
+    ready && swept && heap.has(*first) == sweep.stays && foreign.len() == sweep.left
+}
+
+fn holds(alloc: Global, sweep: &Sweep) -> bool {
+    let mut heap = ObjectHeap::new(alloc, ActorName(sweep.actor));
+    let mut foreign = ForeignTable::new(alloc);
+    let holds = ends_so(alloc, sweep, &mut heap, &mut foreign);
+    drop(foreign);
+    drop(heap);
+    holds
 }
 
 #[test]
-fn marked_places_stay(rt: HostRuntime) -> Result<(), Fail> {
-    let heap = ObjectHeap::new(rt.alloc(), ActorName(1));
-    let mut foreign = ForeignTable::new(rt.alloc());
-    assert!(rt; keeps_the_marked(rt.alloc(), &heap, &mut foreign)?);
-    Ok(())
+fn what_nothing_keeps_is_freed_or_goes_back(rt: HostRuntime) {
+    assert!(rt; holds(rt.alloc(), &ALL_THAT_IS_HELD_GOES_BACK));
+    assert!(rt; holds(rt.alloc(), &A_COUNTED_OBJECT_STAYS_BUT_NOT_WHAT_IT_NAMES));
+    assert!(rt; holds(rt.alloc(), &WHAT_THE_FIELDS_NAME_STAYS));
+    assert!(rt; holds(rt.alloc(), &WHAT_ROWS_LEAD_TO_STAYS));
+    assert!(rt; holds(rt.alloc(), &WHAT_OWN_ROWS_REACH_STAYS));
+    assert!(rt; holds(rt.alloc(), &MARKED_PLACES_STAY));
 }

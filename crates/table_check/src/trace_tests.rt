@@ -2,59 +2,66 @@
 
 ghost use Rattle.std.specs.Prelude.{◌≡◌, ◌∷◌, [], IfOk};
 
+use crate::cases::{
+    Amount, Given, Holding, Loaded, Named, are_amounts, gains_all, row_of, thing_of,
+};
 use foreign_table::ForeignTable;
 use letter_kinds::Load;
 use object_heap::ObjectHeap;
-use orca_names::{ActorName, NoMemory, ObjName, Row, Serial, Thing, Value};
+use orca_names::{ActorName, NoMemory, Row, Thing};
 use ref_weights::OwnCount;
 use std::alloc::Global;
-use std::test::Fail;
 use trace_send::{lacking, receive_trace, send_trace};
 
-// The thing is held with so many counts more.
-fn hold(
-    foreign: &mut ForeignTable,
-    thing: &Thing,
-    row: &Option<Row>,
-    by: u32,
-) -> Result<(), NoMemory> {
-    foreign.reserve(1)?;
-    if foreign.count(*thing) < 1000 {
-        foreign.gain(*thing, row, u64::from(by));
+const ONE_EACH: &[Holding] = &[
+    (Named::Actor(0), &[], 1),
+    (Named::Object(0, 0), &[Given::Num(9)], 1),
+    (Named::Actor(2), &[], 1),
+];
+
+const MORE_EACH: &[Holding] = &[
+    (Named::Actor(0), &[], 256),
+    (Named::Object(0, 0), &[Given::Num(9)], 256),
+    (Named::Actor(2), &[], 256),
+];
+
+// What the sender of a letter that loads all of these is to get of actor 0.
+const LACKED: &[Amount] = &[(Named::Actor(0), 256), (Named::Object(0, 0), 256)];
+
+/// Whether the sender that holds these lacks those of actor 0.
+fn lacks_first(alloc: Global, things: &[Thing], foreign: &ForeignTable) -> bool {
+    match lacking(alloc, things, ActorName(1), foreign, 256) {
+        Ok(Some((owner, amounts))) => {
+            owner == ActorName(0) && are_amounts(amounts.as_slice(), LACKED)
+        }
+        _ => false,
     }
-    Ok(())
+}
+
+fn lacks_none(alloc: Global, things: &[Thing], foreign: &ForeignTable) -> bool {
+    matches!(lacking(alloc, things, ActorName(1), foreign, 256), Ok(None))
+}
+
+/// Whether a sender that holds one of each thing lacks those of the first owner, and one that holds more
+/// lacks none.
+fn lacks_what_it_holds_once(alloc: Global, foreign: &mut ForeignTable) -> bool {
+    let things = [
+        thing_of(Named::Actor(0)),
+        thing_of(Named::Object(0, 0)),
+        thing_of(Named::Actor(2)),
+    ];
+    gains_all(foreign, ONE_EACH)
+        && lacks_first(alloc, &things, foreign)
+        && gains_all(foreign, MORE_EACH)
+        && lacks_none(alloc, &things, foreign)
 }
 
 #[test]
-fn the_first_owner_is_told_what_is_lacked(rt: HostRuntime) -> Result<(), Fail> {
-    let alloc = rt.alloc();
-    let row = Some(Row::of(&[Value::Num(9)]));
-    let first = Thing::Actor(ActorName(0));
-    let object = Thing::Obj(ObjName {
-        owner: ActorName(0),
-        serial: Serial::of(0),
-    });
-    let last = Thing::Actor(ActorName(2));
-    let things = [first, object, last];
-    let mut foreign = ForeignTable::new(alloc);
-    hold(&mut foreign, &first, &None, 1)?;
-    hold(&mut foreign, &object, &row, 1)?;
-    hold(&mut foreign, &last, &None, 1)?;
-    let me = ActorName(1);
-    let lacked = lacking(alloc, &things, me, &foreign, 256)?;
-    assert!(rt; lacked.is_some());
-    if let Some((owner, amounts)) = lacked {
-        assert_eq!(rt; owner, ActorName(0));
-        assert_eq!(rt;
-            amounts.as_slice(),
-            [(first, 256), (object, 256)].as_slice()
-        );
-    }
-    hold(&mut foreign, &first, &None, 256)?;
-    hold(&mut foreign, &object, &row, 256)?;
-    hold(&mut foreign, &last, &None, 256)?;
-    assert!(rt; lacking(alloc, &things, me, &foreign, 256)?.is_none());
-    Ok(())
+fn the_first_owner_is_told_what_is_lacked(rt: HostRuntime) {
+    let mut foreign = ForeignTable::new(rt.alloc());
+    let holds = lacks_what_it_holds_once(rt.alloc(), &mut foreign);
+    drop(foreign);
+    assert!(rt; holds);
 }
 
 // The load of one thing.
@@ -66,71 +73,121 @@ fn load_with(alloc: Global, thing: &Thing, row: &Option<Row>) -> Result<Load, No
     Ok(load)
 }
 
-// The actor takes a letter that loads this thing of another.
+// The actor takes a letter that loads this thing of another. Whether it could.
 fn take(
     alloc: Global,
     heap: &mut ObjectHeap,
     foreign: &mut ForeignTable,
     thing: &Thing,
     row: &Option<Row>,
-) -> Result<(), NoMemory> {
-    let load = load_with(alloc, thing, row)?;
-    foreign.reserve(1)?;
+) -> bool {
     let me = heap.owner();
+    if foreign.reserve(1).is_err() {
+        return false;
+    }
     if thing.owner() == me {
-        return Ok(());
+        return false;
     }
-    if foreign.count(*thing) < 1000 {
-        let mut own = OwnCount::new();
-        receive_trace(&load, me, &mut own, heap, foreign);
+    if foreign.count(*thing) > 1000 {
+        return false;
     }
-    Ok(())
+    match load_with(alloc, thing, row) {
+        Ok(load) => {
+            let mut own = OwnCount::new();
+            receive_trace(&load, me, &mut own, heap, foreign);
+            true
+        }
+        Err(_) => false,
+    }
 }
 
-// The actor sends a letter that loads this thing of another.
+// The actor sends a letter that loads this thing of another. Whether it could.
 fn send(
     alloc: Global,
     heap: &mut ObjectHeap,
     foreign: &mut ForeignTable,
     thing: &Thing,
     row: &Option<Row>,
-) -> Result<(), NoMemory> {
-    let load = load_with(alloc, thing, row)?;
+) -> bool {
     let me = heap.owner();
     if thing.owner() == me {
-        return Ok(());
+        return false;
     }
-    if foreign.count(*thing) > 0 {
-        let mut own = OwnCount::new();
-        send_trace(&load, me, &mut own, heap, foreign);
+    if foreign.count(*thing) == 0 {
+        return false;
     }
-    Ok(())
+    match load_with(alloc, thing, row) {
+        Ok(load) => {
+            let mut own = OwnCount::new();
+            send_trace(&load, me, &mut own, heap, foreign);
+            true
+        }
+        Err(_) => false,
+    }
+}
+
+const TAKEN: &[Loaded] = &[
+    (Named::Actor(0), &[]),
+    (Named::Object(0, 0), &[Given::Num(9)]),
+    (Named::Actor(2), &[]),
+];
+
+const MINTED: &[Holding] = &[
+    (Named::Actor(0), &[], 256),
+    (Named::Object(0, 0), &[Given::Num(9)], 256),
+];
+
+const SENT: &[Loaded] = &[
+    (Named::Actor(0), &[]),
+    (Named::Object(0, 0), &[Given::Num(9)]),
+];
+
+/// Sends letters, or else takes them, each of which loads one of these things. Whether it could.
+fn moves_all(
+    alloc: Global,
+    heap: &mut ObjectHeap,
+    foreign: &mut ForeignTable,
+    loads: &[Loaded],
+    sends: bool,
+) -> bool {
+    for (named, values) in loads {
+        let thing = thing_of(*named);
+        let row = row_of(values);
+        let moved = if sends {
+            send(alloc, heap, foreign, &thing, &row)
+        } else {
+            take(alloc, heap, foreign, &thing, &row)
+        };
+        if !moved {
+            return false;
+        }
+    }
+    true
+}
+
+/// What is held of each thing.
+fn held(foreign: &ForeignTable) -> (u64, u64, u64) {
+    (
+        foreign.count(thing_of(Named::Actor(0))),
+        foreign.count(thing_of(Named::Object(0, 0))),
+        foreign.count(thing_of(Named::Actor(2))),
+    )
+}
+
+/// Whether an actor that takes three things, mints two of them and sends these on counts so.
+fn counts_so(alloc: Global, heap: &mut ObjectHeap, foreign: &mut ForeignTable) -> bool {
+    moves_all(alloc, heap, foreign, TAKEN, false)
+        && gains_all(foreign, MINTED)
+        && moves_all(alloc, heap, foreign, SENT, true)
+        && held(foreign) == (256, 256, 1)
 }
 
 #[test]
-fn letters_are_counted(rt: HostRuntime) -> Result<(), Fail> {
-    let alloc = rt.alloc();
-    let row = Some(Row::of(&[Value::Num(9)]));
-    let owner = Thing::Actor(ActorName(0));
-    let object = Thing::Obj(ObjName {
-        owner: ActorName(0),
-        serial: Serial::of(0),
-    });
-    let other = Thing::Actor(ActorName(2));
-    let mut heap = ObjectHeap::new(alloc, ActorName(1));
-    let mut foreign = ForeignTable::new(alloc);
-    take(alloc, &mut heap, &mut foreign, &owner, &None)?;
-    take(alloc, &mut heap, &mut foreign, &object, &row)?;
-    take(alloc, &mut heap, &mut foreign, &other, &None)?;
-    hold(&mut foreign, &owner, &None, 256)?;
-    hold(&mut foreign, &object, &row, 256)?;
-    send(alloc, &mut heap, &mut foreign, &owner, &None)?;
-    send(alloc, &mut heap, &mut foreign, &object, &row)?;
-    let held = [
-        foreign.count(owner),
-        foreign.count(object),
-        foreign.count(other),
-    ];
-    assert_eq!(rt; held, [256, 256, 1]);
-    Ok(())
+fn letters_are_counted(rt: HostRuntime) {
+    let mut heap = ObjectHeap::new(rt.alloc(), ActorName(1));
+    let mut foreign = ForeignTable::new(rt.alloc());
+    let holds = counts_so(rt.alloc(), &mut heap, &mut foreign);
+    drop(foreign);
+    drop(heap);
+    assert!(rt; holds);
 }

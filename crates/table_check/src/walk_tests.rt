@@ -9,20 +9,15 @@ ghost use Rattle.std.proofs.lemmas.List.FromFn.{length-range_with_len, get_or-ma
 ghost use Rattle.std.proofs.lemmas.Option.{none-some, slice_get_within};
 ghost use Rattle.orca_names.specs.declared.names.ObjName.{ObjName as object_name};
 
-use orca_names::{ActorName, Args, NoMemory, ObjName, Reading, Row, Rows, Serial, Thing, Value};
+use crate::cases::{
+    Given, Loaded, Named, are_loaded, are_things, args_of, object, row_of, thing_of,
+};
+use orca_names::{ActorName, NoMemory, ObjName, Reading, Row, Rows, Thing, Value};
 use reach_walk::{Edges, ThingList, find_flat, load_of, load_within, mark, mark_within, walk};
 use std::alloc::Global;
 use std::marker::Brand;
 use std::sync::ledger::{Blank, Ledger};
-use std::test::Fail;
 use step_count::Steps;
-
-const fn object(owner: u32, serial: u64) -> ObjName {
-    ObjName {
-        owner: ActorName(owner),
-        serial: Serial::of(serial),
-    }
-}
 
 // The rows of the objects of actor 0, in the order of their serials.
 #[derive(Drop)]
@@ -78,67 +73,103 @@ impl Edges for Nowhere {
     ghost same_edges = { λ _ _ _. refl };
 }
 
-#[test]
-fn marks_are_what_rows_reach(rt: HostRuntime) -> Result<(), Fail> {
-    let alloc = rt.alloc();
-    let rows = [
-        Row::of(&[Value::Obj(object(0, 1)), Value::Num(5)]),
-        Row::of(&[Value::Obj(object(0, 3)), Value::Actor(ActorName(7))]),
-        Row::of(&[Value::Obj(object(0, 3))]),
-        Row::of(&[Value::Null, Value::Obj(object(4, 9))]),
-        Row::of(&[Value::Obj(object(0, 4))]),
-    ];
-    let shelf = Shelf {
-        rows: rows.to_vec(alloc)?,
-    };
-    let mut rows = Reading { rows: &shelf };
-    let roots = [
-        Value::Obj(object(0, 2)),
-        Value::Null,
-        Value::Obj(object(0, 0)),
-        Value::Obj(object(0, 2)),
-    ];
-    let reached = [
-        Thing::Actor(ActorName(0)),
-        Thing::Obj(object(0, 0)),
-        Thing::Obj(object(0, 1)),
-        Thing::Obj(object(0, 2)),
-        Thing::Obj(object(0, 3)),
-        Thing::Actor(ActorName(4)),
-        Thing::Obj(object(4, 9)),
-        Thing::Actor(ActorName(7)),
-    ];
-    assert_eq!(rt;
-        mark(alloc, &roots, &mut rows)?.as_slice(),
-        reached.as_slice()
-    );
-    let ring = [Thing::Actor(ActorName(0)), Thing::Obj(object(0, 4))];
-    let root = [Value::Obj(object(0, 4))];
-    assert_eq!(rt; mark(alloc, &root, &mut rows)?.as_slice(), ring.as_slice());
-    assert_eq!(rt; mark(alloc, &[Value::Num(3)], &mut rows)?.len(), 0);
-    Ok(())
+/// A shelf with these rows.
+fn shelf_of(alloc: Global, rows: &[&[Given]]) -> Result<Shelf, NoMemory> {
+    let mut shelf = Vec::new(alloc);
+    for values in rows {
+        if let Some(row) = row_of(values) {
+            shelf.push(row)?;
+        }
+    }
+    Ok(Shelf { rows: shelf })
+}
+
+const FIVE_ROWS: &[&[Given]] = &[
+    &[Given::Object(0, 1), Given::Num(5)],
+    &[Given::Object(0, 3), Given::Actor(7)],
+    &[Given::Object(0, 3)],
+    &[Given::Null, Given::Object(4, 9)],
+    &[Given::Object(0, 4)],
+];
+
+// Roots, and what they reach through these rows.
+const REACHED: &[(&[Given], &[Named])] = &[
+    (
+        &[
+            Given::Object(0, 2),
+            Given::Null,
+            Given::Object(0, 0),
+            Given::Object(0, 2),
+        ],
+        &[
+            Named::Actor(0),
+            Named::Object(0, 0),
+            Named::Object(0, 1),
+            Named::Object(0, 2),
+            Named::Object(0, 3),
+            Named::Actor(4),
+            Named::Object(4, 9),
+            Named::Actor(7),
+        ],
+    ),
+    (
+        &[Given::Object(0, 4)],
+        &[Named::Actor(0), Named::Object(0, 4)],
+    ),
+    (&[Given::Num(3)], &[]),
+];
+
+/// Whether the roots reach these things.
+fn reach(alloc: Global, shelf: &Shelf, roots: &[Given], want: &[Named]) -> bool {
+    let roots = args_of(roots);
+    match mark(alloc, roots.as_slice(), &mut Reading { rows: shelf }) {
+        Ok(marks) => are_things(marks.as_slice(), want),
+        Err(_) => false,
+    }
+}
+
+fn all_reach(alloc: Global, shelf: &Shelf) -> bool {
+    for (roots, want) in REACHED {
+        if !reach(alloc, shelf, roots, want) {
+            return false;
+        }
+    }
+    true
 }
 
 #[test]
-fn loads_have_each_thing_with_its_row(rt: HostRuntime) -> Result<(), Fail> {
-    let alloc = rt.alloc();
-    let first = Row::of(&[Value::Num(4)]);
-    let second = Row::of(&[Value::Obj(object(0, 0))]);
-    let shelf = Shelf {
-        rows: [first, second].to_vec(alloc)?,
+fn marks_are_what_rows_reach(rt: HostRuntime) {
+    let holds = match shelf_of(rt.alloc(), FIVE_ROWS) {
+        Ok(shelf) => all_reach(rt.alloc(), &shelf),
+        Err(_) => false,
     };
-    let mut rows = Reading { rows: &shelf };
-    let args = Args::of(&[Value::Obj(object(0, 0)), Value::Obj(object(0, 1))]);
-    let load = [
-        (Thing::Actor(ActorName(0)), None),
-        (Thing::Obj(object(0, 0)), Some(first)),
-        (Thing::Obj(object(0, 1)), Some(second)),
-    ];
-    assert_eq!(rt;
-        load_of(alloc, &args, &mut rows)?.as_slice(),
-        load.as_slice()
-    );
-    Ok(())
+    assert!(rt; holds);
+}
+
+const TWO_ROWS: &[&[Given]] = &[&[Given::Num(4)], &[Given::Object(0, 0)]];
+
+const LOAD: &[Loaded] = &[
+    (Named::Actor(0), &[]),
+    (Named::Object(0, 0), &[Given::Num(4)]),
+    (Named::Object(0, 1), &[Given::Object(0, 0)]),
+];
+
+/// Whether both objects are loaded with their rows, and their owner.
+fn loads_both(alloc: Global, shelf: &Shelf) -> bool {
+    let args = args_of(&[Given::Object(0, 0), Given::Object(0, 1)]);
+    match load_of(alloc, &args, &mut Reading { rows: shelf }) {
+        Ok(load) => are_loaded(load.as_slice(), LOAD),
+        Err(_) => false,
+    }
+}
+
+#[test]
+fn loads_have_each_thing_with_its_row(rt: HostRuntime) {
+    let holds = match shelf_of(rt.alloc(), TWO_ROWS) {
+        Ok(shelf) => loads_both(rt.alloc(), &shelf),
+        Err(_) => false,
+    };
+    assert!(rt; holds);
 }
 
 // A row that names an object of actor 0 twice.
@@ -156,84 +187,119 @@ fn chain(alloc: Global, count: u64) -> Result<Shelf, NoMemory> {
     Ok(Shelf { rows })
 }
 
+// How many marks the first row has.
+fn marks_of_first<L: Ledger>(
+    alloc: Global,
+    shelf: &Shelf,
+    steps: &mut Steps<L>,
+) -> Result<usize, NoMemory> {
+    let root = [Value::Obj(object(0, 0))];
+    let marks = mark_within(alloc, &root, &mut Reading { rows: shelf }, steps)?;
+    Ok(marks.len())
+}
+
 // The load of the last of 40 rows; how many things it has.
-fn load_of_chain<L: Ledger>(alloc: Global, steps: &mut Steps<L>) -> Result<usize, NoMemory>
+fn load_of_chain<L: Ledger>(
+    alloc: Global,
+    shelf: &Shelf,
+    steps: &mut Steps<L>,
+) -> Result<usize, NoMemory>
     ensures { IfOk result (λ count. count ≡ 41 → steps.new ≤ steps.old + 378) }
 {
-    let shelf = chain(alloc, 40)?;
-    let mut rows = Reading { rows: &shelf };
-    let args = Args::of(&[Value::Obj(object(0, 39))]);
-    let load = load_within(alloc, &args, &mut rows, steps)?;
+    let args = args_of(&[Given::Object(0, 39)]);
+    let load = load_within(alloc, &args, &mut Reading { rows: shelf }, steps)?;
     Ok(load.len())
 }
 
-// The marks of the first row, and then that load, on one ledger.
-fn walk_chain<L: Ledger>(alloc: Global, blank: Blank) -> Result<(usize, usize), NoMemory>
+// The marks of one row, and then the load of a chain, on one ledger.
+fn walk_both<L: Ledger>(
+    alloc: Global,
+    row: &Shelf,
+    chain: &Shelf,
+    blank: Blank,
+) -> Result<(usize, usize), NoMemory>
     requires name { blank.name ≡ L.name }
     requires parts { blank.parts ≡ L.parts }
     requires some { 0 < blank.parts }
 {
-    let shelf = chain(alloc, 1)?;
-    let mut rows = Reading { rows: &shelf };
     let mut steps: Steps<L> = Steps::none(blank);
-    let root = [Value::Obj(object(0, 0))];
-    let marks = mark_within(alloc, &root, &mut rows, &mut steps)?;
-    Ok((marks.len(), load_of_chain(alloc, &mut steps)?))
+    let marks = marks_of_first(alloc, row, &mut steps)?;
+    let things = load_of_chain(alloc, chain, &mut steps)?;
+    Ok((marks, things))
 }
 
-#[test]
-fn chains_are_walked_once(rt: HostRuntime) -> Result<(), Fail> {
-    assert_eq!(rt; walk_chain::<Brand>(rt.alloc(), Blank::new(1))?, (2, 41));
-    Ok(())
-}
-
-#[test]
-fn walks_begin_at_their_roots(rt: HostRuntime) -> Result<(), Fail> {
-    let roots = [
-        Thing::Obj(object(6, 1)),
-        Thing::Actor(ActorName(2)),
-        Thing::Obj(object(6, 1)),
-    ];
-    let reached = [
-        Thing::Actor(ActorName(2)),
-        Thing::Actor(ActorName(6)),
-        Thing::Obj(object(6, 1)),
-    ];
-    assert_eq!(rt;
-        walk(rt.alloc(), &roots, &mut Nowhere)?.as_slice(),
-        reached.as_slice()
-    );
-    Ok(())
-}
-
-#[test]
-fn what_leads_nowhere_is_found_flat(rt: HostRuntime) -> Result<(), Fail> {
-    let alloc = rt.alloc();
-    let rows = [
-        Row::of(&[Value::Num(5)]),
-        Row::of(&[Value::Obj(object(0, 0))]),
-    ];
-    let shelf = Shelf {
-        rows: rows.to_vec(alloc)?,
+/// Whether the first row has two marks, and the last of 40 rows a load of 41 things.
+fn walks_once(alloc: Global, row: &Shelf) -> bool {
+    let Ok(rows) = chain(alloc, 40) else {
+        return false;
     };
-    let args = Args::of(&[
-        Value::Actor(ActorName(3)),
-        Value::Obj(object(0, 0)),
-        Value::Obj(object(4, 9)),
-        Value::Null,
-        Value::Obj(object(0, 0)),
-    ]);
-    let mut things = ThingList::new(alloc);
-    assert!(rt; find_flat(&args, &shelf, &mut things)?);
-    let found = [
-        Thing::Actor(ActorName(0)),
-        Thing::Obj(object(0, 0)),
-        Thing::Actor(ActorName(3)),
-        Thing::Actor(ActorName(4)),
-        Thing::Obj(object(4, 9)),
+    let walked = walk_both::<Brand>(alloc, row, &rows, Blank::new(1));
+    matches!(walked, Ok((2, 41)))
+}
+
+#[test]
+fn chains_are_walked_once(rt: HostRuntime) {
+    let holds = match chain(rt.alloc(), 1) {
+        Ok(row) => walks_once(rt.alloc(), &row),
+        Err(_) => false,
+    };
+    assert!(rt; holds);
+}
+
+const WALKED: &[Named] = &[Named::Actor(2), Named::Actor(6), Named::Object(6, 1)];
+
+#[test]
+fn walks_begin_at_their_roots(rt: HostRuntime) {
+    let roots = [
+        thing_of(Named::Object(6, 1)),
+        thing_of(Named::Actor(2)),
+        thing_of(Named::Object(6, 1)),
     ];
-    assert_eq!(rt; things.as_slice(), found.as_slice());
-    let on = Args::of(&[Value::Obj(object(0, 1))]);
-    assert!(rt; !find_flat(&on, &shelf, &mut things)?);
-    Ok(())
+    let holds = match walk(rt.alloc(), &roots, &mut Nowhere) {
+        Ok(found) => are_things(found.as_slice(), WALKED),
+        Err(_) => false,
+    };
+    assert!(rt; holds);
+}
+
+const FLAT_ROWS: &[&[Given]] = &[&[Given::Num(5)], &[Given::Object(0, 0)]];
+
+const FLAT: &[Given] = &[
+    Given::Actor(3),
+    Given::Object(0, 0),
+    Given::Object(4, 9),
+    Given::Null,
+    Given::Object(0, 0),
+];
+
+const FOUND: &[Named] = &[
+    Named::Actor(0),
+    Named::Object(0, 0),
+    Named::Actor(3),
+    Named::Actor(4),
+    Named::Object(4, 9),
+];
+
+/// Whether those that lead nowhere are found flat, and what leads on is not.
+fn finds_flat(shelf: &Shelf, things: &mut ThingList) -> bool {
+    let flat = matches!(find_flat(&args_of(FLAT), shelf, things), Ok(true));
+    let found = are_things(things.as_slice(), FOUND);
+    let leads_on = args_of(&[Given::Object(0, 1)]);
+    flat && found && matches!(find_flat(&leads_on, shelf, things), Ok(false))
+}
+
+fn is_found_flat(alloc: Global, shelf: &Shelf) -> bool {
+    let mut things = ThingList::new(alloc);
+    let holds = finds_flat(shelf, &mut things);
+    drop(things);
+    holds
+}
+
+#[test]
+fn what_leads_nowhere_is_found_flat(rt: HostRuntime) {
+    let holds = match shelf_of(rt.alloc(), FLAT_ROWS) {
+        Ok(shelf) => is_found_flat(rt.alloc(), &shelf),
+        Err(_) => false,
+    };
+    assert!(rt; holds);
 }

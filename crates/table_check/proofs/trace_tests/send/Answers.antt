@@ -15,11 +15,11 @@ send_trace-requires-clause-can c =
     (ap not (ap (λ a. eqb a me) (sym c.owner.ensures) ∙ sym c.eq.ensures ∙ c.if-eq.false)) in
     let held = held-is own c.args.heap.now foreign thing ∙ sym c.count.ensures.count in
     subst (λ load. CanSend me load (holdings_of own c.args.heap.now foreign))
-    (sym c.in_ok-load.ensures) (
+    (sym c.in-Ok.ensures) (
       record {
         there = λ same. absurd (other same);
         own = λ same. absurd (other same);
-        held = λ _. omega (arith, held, c.if-count-gt0.true);
+        held = λ _. omega (arith, held, c.if-count-eq0.false);
       },
       tt,
     )

@@ -15,10 +15,10 @@ receive_trace-requires-clause-can c =
     (ap not (ap (λ a. eqb a me) (sym c.owner.ensures) ∙ sym c.eq.ensures ∙ c.if-eq.false)) in
     let held = held-is own c.args.heap.now foreign thing ∙ sym c.count.ensures.count in
     subst (λ load. CanReceive me load (holdings_of own c.args.heap.now foreign))
-    (sym c.in_ok-load.ensures) (
+    (sym c.in-Ok.ensures) (
       record {
         own = λ same. absurd (other same);
-        held = λ _. omega (arith, held, c.if-count-lt1000.true);
+        held = λ _. omega (arith, held, c.if-count-gt1000.false);
       },
       tt,
     )

@@ -1,6 +1,6 @@
 use Rattle.std.proofs.Common.{length, ap, ◌∙◌, arith}
 use Rattle.known_rows.specs.Places.{placed_things}
-use Rattle.table_check.proofs.sweep_tests.plan_of.Goals as goal
+use Rattle.table_check.proofs.sweep_tests.plans_by_marks.Goals as goal
 
 pub plan_of_marks-requires : goal.plan_of_marks-requires
 plan_of_marks-requires c =
