@@ -154,10 +154,15 @@ impl<'a> TurnPlaces<'a> {
 }
 
 impl RowReader for TurnPlaces<'_> {
+    ghost use Rattle.std.specs.Prelude.{⊤};
     ghost use Rattle.machine_rules.specs.Cell.{known_objects};
     ghost use Rattle.letter_kinds.specs.Holdings.{row_of, with_made};
     ghost use Rattle.known_rows.specs.Holdings.{holdings_of};
     ghost use Rattle.actor_cell.specs.InTurn.{row_is_known};
+
+    ghost Beside = { ⊤ };
+
+    ghost beside = { λ _. tt };
 
     ghost rows = { λ s. row_of s.known.rows.heap.now.owner
         (with_made s.made.now (holdings_of 0 s.known.rows.heap.now s.known.rows.foreign.now)) };

@@ -179,7 +179,12 @@ impl KnownPlaces<'_> {
 }
 
 impl RowReader for KnownPlaces<'_> {
+    ghost use Rattle.std.specs.Prelude.{⊤};
     ghost use Rattle.known_rows.specs.Known.{row_known, names_known, row_known-within};
+
+    ghost Beside = { ⊤ };
+
+    ghost beside = { λ _. tt };
 
     ghost rows = { λ s. row_known s.rows.heap.now s.rows.foreign.now };
 

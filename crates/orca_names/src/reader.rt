@@ -1,6 +1,6 @@
 // Reading rows one at a time.
 
-ghost use Rattle.std.specs.Prelude.{◌≡◌, List, Option, Some, Contains, option_and_then, slice_get};
+ghost use Rattle.std.specs.Prelude.{◌≡◌, ⊤, List, Option, Some, Contains, option_and_then, slice_get};
 ghost use Rattle.orca_names.specs.declared.names.ObjName.{ObjName as object_name};
 ghost use Rattle.orca_names.specs.declared.names.Value as names;
 
@@ -11,6 +11,11 @@ use crate::rows::Rows;
 /// Finitely many rows, read one at a time by the names of their objects. A read may use the reader
 /// up to its own ends, as one does that reads shared memory, but the rows stay as they are.
 pub trait RowReader {
+    /// What the reader stands beside: all else that reading leaves as it is.
+    ghost Beside: { Type 0 };
+
+    ghost beside: { Self → Beside };
+
     /// The row at each name, if there is one.
     ghost rows: { Self → object_name → Option (List names.Value) };
 
@@ -20,13 +25,15 @@ pub trait RowReader {
     /// The row of an object; `None` exactly where it is not there.
     fn read_row(&mut self, n: ObjName) -> Option<Row>
         ensures row { result ≡ rows self.old n }
-        ensures same { (rows self.new ≡ rows self.old) × (all self.new ≡ all self.old) };
+        ensures same { (rows self.new ≡ rows self.old) × (all self.new ≡ all self.old)
+            × (beside self.new ≡ beside self.old) };
 
     /// The value at a place of an object's row, counted from 0; `None` exactly where there is no
     /// such row or place.
     fn read_place(&mut self, n: ObjName, i: u64) -> Option<Value>
         ensures value { result ≡ option_and_then (λ row. slice_get row i) (rows self.old n) }
-        ensures same { (rows self.new ≡ rows self.old) × (all self.new ≡ all self.old) }
+        ensures same { (rows self.new ≡ rows self.old) × (all self.new ≡ all self.old)
+            × (beside self.new ≡ beside self.old) }
     {
         let row = self.read_row(n)?;
         row.get(i)
@@ -44,6 +51,10 @@ pub struct Reading<'a, R> {
 }
 
 impl<R: Rows> RowReader for Reading<'_, R> {
+    ghost Beside = { ⊤ };
+
+    ghost beside = { λ _. tt };
+
     ghost rows = { λ s. R.rows s.rows.now };
 
     ghost all = { λ s. R.all s.rows.now };

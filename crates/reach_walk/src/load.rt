@@ -65,7 +65,8 @@ pub fn with_rows<R: RowReader>(
 ) -> Result<Listed<(Thing, Option<Row>)>, NoMemory>
     ensures load { IfOk result (λ load.
         load ≡ map (λ x. (x, thing_row (R.rows rows.old) x)) things.now) }
-    ensures rows { (R.rows rows.new ≡ R.rows rows.old) × (R.all rows.new ≡ R.all rows.old) }
+    ensures rows { (R.rows rows.new ≡ R.rows rows.old) × (R.all rows.new ≡ R.all rows.old)
+        × (R.beside rows.new ≡ R.beside rows.old) }
 {
     let mut load = Vec::with_capacity(alloc, things.len())?;
     let mut row = Row::of(&[Value::Null]);
@@ -95,7 +96,8 @@ pub fn load_within<R: RowReader, L: Ledger>(
         load ≡ its_load (R.rows rows.old) (R.all rows.old) args.now) }
     ensures nothing { named_by args.now ≡ [] → IsOk result }
     ensures steps { IfOk result (λ load. steps.new ≤ steps.old + (9 * length load + 9)) }
-    ensures rows { (R.rows rows.new ≡ R.rows rows.old) × (R.all rows.new ≡ R.all rows.old) }
+    ensures rows { (R.rows rows.new ≡ R.rows rows.old) × (R.all rows.new ≡ R.all rows.old)
+        × (R.beside rows.new ≡ R.beside rows.old) }
 {
     if names_nothing(args.as_slice()) {
         return Ok(Listed::new(alloc));
@@ -121,7 +123,8 @@ pub fn find_loaded<R: RowReader>(
     ensures things { OnOk result
         (things.new ≡ marks_of (R.rows rows.old) (R.all rows.old) args.now) }
     ensures nothing { named_by args.now ≡ [] → IsOk result }
-    ensures rows { (R.rows rows.new ≡ R.rows rows.old) × (R.all rows.new ≡ R.all rows.old) }
+    ensures rows { (R.rows rows.new ≡ R.rows rows.old) × (R.all rows.new ≡ R.all rows.old)
+        × (R.beside rows.new ≡ R.beside rows.old) }
 {
     if names_nothing(args.as_slice()) {
         things.clear();
@@ -148,7 +151,8 @@ pub fn load_of<R: RowReader>(
     ensures load { IfOk result (λ load.
         load ≡ its_load (R.rows rows.old) (R.all rows.old) args.now) }
     ensures nothing { named_by args.now ≡ [] → IsOk result }
-    ensures rows { (R.rows rows.new ≡ R.rows rows.old) × (R.all rows.new ≡ R.all rows.old) }
+    ensures rows { (R.rows rows.new ≡ R.rows rows.old) × (R.all rows.new ≡ R.all rows.old)
+        × (R.beside rows.new ≡ R.beside rows.old) }
 {
     if names_nothing(args.as_slice()) {
         return Ok(Listed::new(alloc));

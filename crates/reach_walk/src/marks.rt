@@ -34,7 +34,8 @@ pub fn mark_within<R: RowReader, L: Ledger>(
         IfOk result (λ found. found.items ≡ marks) }
     ensures steps { IfOk result (λ found.
         steps.new ≤ steps.old + (9 * length found.items + length roots.now)) }
-    ensures rows { (R.rows rows.new ≡ R.rows rows.old) × (R.all rows.new ≡ R.all rows.old) }
+    ensures rows { (R.rows rows.new ≡ R.rows rows.old) × (R.all rows.new ≡ R.all rows.old)
+        × (R.beside rows.new ≡ R.beside rows.old) }
 {
     let mut seen = Seen::new(alloc);
     walk_rows(rows, &mut seen, roots, steps)?;
@@ -53,7 +54,8 @@ pub fn mark<R: RowReader>(alloc: Global, roots: &[Value], rows: &mut R) -> Resul
     ensures rising { IfOk result (λ found. IsStrictlySortedBy thing_cmp found.items) }
     ensures list { let marks = marks_of (R.rows rows.old) (R.all rows.old) roots.now in
         IfOk result (λ found. found.items ≡ marks) }
-    ensures rows { (R.rows rows.new ≡ R.rows rows.old) × (R.all rows.new ≡ R.all rows.old) }
+    ensures rows { (R.rows rows.new ≡ R.rows rows.old) × (R.all rows.new ≡ R.all rows.old)
+        × (R.beside rows.new ≡ R.beside rows.old) }
 {
     let mut seen = Seen::new(alloc);
     walk_freely(rows, &mut seen, roots)?;

@@ -8,7 +8,8 @@ use orca_names::{Row, RowReader, Thing};
 /// Whether a thing has a row, which is then written to the last parameter.
 pub(crate) fn read_row<R: RowReader>(rows: &mut R, thing: &Thing, row: &mut Row) -> bool
     ensures row { thing_row (R.rows rows.old) thing.now ≡ (if result then Some row.new else None) }
-    ensures rows { (R.rows rows.new ≡ R.rows rows.old) × (R.all rows.new ≡ R.all rows.old) }
+    ensures rows { (R.rows rows.new ≡ R.rows rows.old) × (R.all rows.new ≡ R.all rows.old)
+        × (R.beside rows.new ≡ R.beside rows.old) }
 {
     if let Thing::Obj(n) = thing {
         if let Some(found) = rows.read_row(*n) {

@@ -32,7 +32,8 @@ fn take<R: RowReader, L: Ledger>(
         (steps.new ≡ steps.old + 1 + length (row_edges (R.rows rows.old) t)) }
     ensures few { (t : thing) → slice_get seen.old.things i ≡ Some t → OnOk result
         (length (row_edges (R.rows rows.old) t) ≤ 8) }
-    ensures rows { (R.rows rows.new ≡ R.rows rows.old) × (R.all rows.new ≡ R.all rows.old) }
+    ensures rows { (R.rows rows.new ≡ R.rows rows.old) × (R.all rows.new ≡ R.all rows.old)
+        × (R.beside rows.new ≡ R.beside rows.old) }
 {
     steps.tick();
     let thing = seen.things.at(i);
@@ -58,7 +59,8 @@ pub(crate) fn walk_rows<R: RowReader, L: Ledger>(
         (AreReached (row_edges (R.rows rows.old)) (named_by roots.now) seen.new.things) }
     ensures steps { OnOk result
         (steps.new ≤ steps.old + (9 * length seen.new.things + length roots.now)) }
-    ensures rows { (R.rows rows.new ≡ R.rows rows.old) × (R.all rows.new ≡ R.all rows.old) }
+    ensures rows { (R.rows rows.new ≡ R.rows rows.old) × (R.all rows.new ≡ R.all rows.old)
+        × (R.beside rows.new ≡ R.beside rows.old) }
 {
     let mut row = Row::of(&[Value::Null]);
     look_all(seen, roots, steps)?;
@@ -85,7 +87,8 @@ fn walk_counted<R: RowReader, L: Ledger>(
     ensures seen { OnOk result (IsSeen seen.new) }
     ensures reached { OnOk result
         (AreReached (row_edges (R.rows rows.old)) (named_by roots.now) seen.new.things) }
-    ensures rows { (R.rows rows.new ≡ R.rows rows.old) × (R.all rows.new ≡ R.all rows.old) }
+    ensures rows { (R.rows rows.new ≡ R.rows rows.old) × (R.all rows.new ≡ R.all rows.old)
+        × (R.beside rows.new ≡ R.beside rows.old) }
 {
     let mut steps: Steps<L> = Steps::none(blank);
     walk_rows(rows, seen, roots, &mut steps)
@@ -102,7 +105,8 @@ pub(crate) fn walk_freely<R: RowReader>(
     ensures seen { OnOk result (IsSeen seen.new) }
     ensures reached { OnOk result
         (AreReached (row_edges (R.rows rows.old)) (named_by roots.now) seen.new.things) }
-    ensures rows { (R.rows rows.new ≡ R.rows rows.old) × (R.all rows.new ≡ R.all rows.old) }
+    ensures rows { (R.rows rows.new ≡ R.rows rows.old) × (R.all rows.new ≡ R.all rows.old)
+        × (R.beside rows.new ≡ R.beside rows.old) }
 {
     walk_counted::<R, Brand>(rows, seen, roots, Blank::new(1))
 }

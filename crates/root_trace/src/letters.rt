@@ -39,7 +39,8 @@ pub fn without_rows(alloc: Global, things: &[Thing]) -> Result<Load, NoMemory>
 pub fn rows_of<R: RowReader>(alloc: Global, args: &Args, known: &mut R) -> Result<Load, NoMemory>
     ensures rows { IfOk result (λ rows.
         rows ≡ deep_load (R.rows known.old) (R.all known.old) args.now) }
-    ensures same { (R.rows known.new ≡ R.rows known.old) × (R.all known.new ≡ R.all known.old) }
+    ensures same { (R.rows known.new ≡ R.rows known.old) × (R.all known.new ≡ R.all known.old)
+        × (R.beside known.new ≡ R.beside known.old) }
 {
     load_of(alloc, args, known)
 }

@@ -10,6 +10,12 @@ use orca_names::{ObjName, Row, RowReader};
 pub struct NoRows;
 
 impl RowReader for NoRows {
+    ghost use Rattle.std.specs.Prelude.{⊤};
+
+    ghost Beside = { ⊤ };
+
+    ghost beside = { λ _. tt };
+
     ghost rows = { λ _ _. None };
 
     ghost all = { λ _. [] };

@@ -14,8 +14,13 @@ pub(crate) struct OwnRows<'a> {
 }
 
 impl RowReader for OwnRows<'_> {
+    ghost use Rattle.std.specs.Prelude.{⊤};
     ghost use Rattle.object_heap.specs.Heap.{own_row};
     ghost use Rattle.root_trace.specs.Own.{own_names, own_named};
+
+    ghost Beside = { ⊤ };
+
+    ghost beside = { λ _. tt };
 
     ghost rows = { λ s. own_row s.known.rows.heap.now };
 

@@ -44,7 +44,8 @@ pub fn segment_held<R: RowReader, H: HeldTest>(
     ensures frame { OnErr result (frame.new ≡ frame.old) }
     ensures fields { OnErr result (fields.new ≡ fields.old) }
     ensures made { OnErr result (made.new.items ≡ made.old.items) }
-    ensures same { (R.rows rows.new ≡ R.rows rows.old) × (R.all rows.new ≡ R.all rows.old) }
+    ensures same { (R.rows rows.new ≡ R.rows rows.old) × (R.all rows.new ≡ R.all rows.old)
+        × (R.beside rows.new ≡ R.beside rows.old) }
 {
     let setting = Setting { code, me, base };
     let mut turn = Turn::new(*made.allocator());
@@ -88,7 +89,8 @@ pub fn segment<R: RowReader>(
     ensures frame { OnErr result (frame.new ≡ frame.old) }
     ensures fields { OnErr result (fields.new ≡ fields.old) }
     ensures made { OnErr result (made.new.items ≡ made.old.items) }
-    ensures same { (R.rows rows.new ≡ R.rows rows.old) × (R.all rows.new ≡ R.all rows.old) }
+    ensures same { (R.rows rows.new ≡ R.rows rows.old) × (R.all rows.new ≡ R.all rows.old)
+        × (R.beside rows.new ≡ R.beside rows.old) }
 {
     segment_held(code, me, frame, fields, rows, &AllHeld, base, made)
 }

@@ -78,7 +78,8 @@ fn run<'p, R: RowReader, H: HeldTest>(
         let needed = first_needed (H.held held.now) (gets_from p rest None place turn.old) in
         IfOk result (λ halt. HaltsAt needed (run_from p rest None place turn.old) halt turn.new) }
     ensures few { OnOk result (length turn.new.made ≤ length turn.old.made + length body.now) }
-    ensures same { (R.rows rows.new ≡ R.rows rows.old) × (R.all rows.new ≡ R.all rows.old) }
+    ensures same { (R.rows rows.new ≡ R.rows rows.old) × (R.all rows.new ≡ R.all rows.old)
+        × (R.beside rows.new ≡ R.beside rows.old) }
 {
     let mut at = place as usize;
     while at < body.len() {
@@ -122,7 +123,8 @@ pub fn segment_held_at<'p, R: RowReader, H: HeldTest>(
         let needed = needed_in (H.held held.now) p frame.now fields.now in
         IfOk result (λ halt. HaltsAt needed (segment_of p frame.now fields.now) halt turn.new) }
     ensures few { OnOk result (length turn.new.made ≤ BODY_LIMIT) }
-    ensures same { (R.rows rows.new ≡ R.rows rows.old) × (R.all rows.new ≡ R.all rows.old) }
+    ensures same { (R.rows rows.new ≡ R.rows rows.old) × (R.all rows.new ≡ R.all rows.old)
+        × (R.beside rows.new ≡ R.beside rows.old) }
 {
     turn.begin(&frame.registers, fields);
     let body = setting.code.program().body(frame.kind, frame.behaviour);
@@ -145,7 +147,8 @@ pub fn segment_at<'p, R: RowReader>(
         IfOk result (λ stop. segment_of p frame.now fields.now
         ≡ record { act = act_of stop.deed turn.new; place = stop.place; turn = turn.new }) }
     ensures few { OnOk result (length turn.new.made ≤ BODY_LIMIT) }
-    ensures same { (R.rows rows.new ≡ R.rows rows.old) × (R.all rows.new ≡ R.all rows.old) }
+    ensures same { (R.rows rows.new ≡ R.rows rows.old) × (R.all rows.new ≡ R.all rows.old)
+        × (R.beside rows.new ≡ R.beside rows.old) }
 {
     match segment_held_at(setting, frame, fields, rows, &AllHeld, turn) {
         Ok(halt) => match halt {

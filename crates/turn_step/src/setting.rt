@@ -67,7 +67,8 @@ impl<'p> Setting<'p> {
     ) -> Option<Value>
         ensures value { let row = row_in (setting_of self.now (R.rows rows.old)) made.now n in
             result ≡ option_and_then (λ values. slice_get values i) row }
-        ensures same { (R.rows rows.new ≡ R.rows rows.old) × (R.all rows.new ≡ R.all rows.old) }
+        ensures same { (R.rows rows.new ≡ R.rows rows.old) × (R.all rows.new ≡ R.all rows.old)
+            × (R.beside rows.new ≡ R.beside rows.old) }
     {
         let serial = n.serial.get();
         if n.owner == self.me && self.base <= serial {

@@ -31,7 +31,8 @@ pub(crate) fn step<'p, R: RowReader, H: HeldTest>(
         let needed = first_needed (H.held held.now) (got_by p instr.now turn.old) in
         IfOk result (λ lead. LeadsTo needed (step_of p instr.now turn.old) turn.old lead turn.new) }
     ensures err { OnErr result (turn.new ≡ turn.old) }
-    ensures same { (R.rows rows.new ≡ R.rows rows.old) × (R.all rows.new ≡ R.all rows.old) }
+    ensures same { (R.rows rows.new ≡ R.rows rows.old) × (R.all rows.new ≡ R.all rows.old)
+        × (R.beside rows.new ≡ R.beside rows.old) }
 {
     match instr {
         Instr::Drop(d) => turn.put(*d, Value::Null),
@@ -73,7 +74,8 @@ fn get<R: RowReader, H: HeldTest>(
     ensures ok { let p = setting_of setting.now (R.rows rows.old) in
         let needed = first_needed (H.held held.now) (got_by p (Instr.Get d s i) turn.old) in
         LeadsTo needed (step_of p (Instr.Get d s i) turn.old) turn.old result turn.new }
-    ensures same { (R.rows rows.new ≡ R.rows rows.old) × (R.all rows.new ≡ R.all rows.old) }
+    ensures same { (R.rows rows.new ≡ R.rows rows.old) × (R.all rows.new ≡ R.all rows.old)
+        × (R.beside rows.new ≡ R.beside rows.old) }
 {
     let value = place(setting, rows, turn, s, i);
     match needed(held, &value) {
@@ -89,7 +91,8 @@ fn get<R: RowReader, H: HeldTest>(
 fn place<R: RowReader>(setting: &Setting<'_>, rows: &mut R, turn: &Turn, s: u64, i: u64) -> Value
     ensures value { let p = setting_of setting.now (R.rows rows.old) in
         result ≡ value_at_place p turn.now (value_at turn.now s) i }
-    ensures same { (R.rows rows.new ≡ R.rows rows.old) × (R.all rows.new ≡ R.all rows.old) }
+    ensures same { (R.rows rows.new ≡ R.rows rows.old) × (R.all rows.new ≡ R.all rows.old)
+        × (R.beside rows.new ≡ R.beside rows.old) }
 {
     match turn.value(s) {
         Value::Obj(n) => setting.look(rows, turn.made(), n, i).unwrap_or(Value::Null),

@@ -9,4 +9,5 @@ invariant-loop-thing g l = record {
   room : length l.things ≤ vec_capacity l.load;
   rows : g.R.RowReader.rows l.rows ≡ g.R.RowReader.rows l.fn.rows;
   all : g.R.RowReader.all l.rows ≡ g.R.RowReader.all l.fn.rows;
+  beside : g.R.RowReader.beside l.rows ≡ g.R.RowReader.beside l.fn.rows;
 }

@@ -18,6 +18,7 @@ loop-i-init g c = record {
   counted = omega (arith, c.in_ok-look_all.ensures.steps);
   rows = refl;
   all = refl;
+  beside = refl;
 }
 
 pub loop-i-smaller : goal.loop-i-smaller
@@ -48,6 +49,7 @@ loop-i-preserved g c =
       counted = omega (arith, c.in_ok-take.ensures.steps t at, c.in_ok-take.ensures.few t at, kept.counted);
       rows = now.rows.0 ∙ kept.rows;
       all = now.rows.1 ∙ kept.all;
+      beside = now.rows.2 ∙ kept.beside;
     }
 
 pub returns-clause-reached : goal.returns-clause-reached

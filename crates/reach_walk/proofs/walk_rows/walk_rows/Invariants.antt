@@ -13,6 +13,7 @@ invariant-loop-i g l = record {
   counted : l.steps ≤ l.fn.steps + length l.roots + 9 * l.i;
   rows : g.R.RowReader.rows l.rows ≡ g.R.RowReader.rows l.fn.rows;
   all : g.R.RowReader.all l.rows ≡ g.R.RowReader.all l.fn.rows;
+  beside : g.R.RowReader.beside l.rows ≡ g.R.RowReader.beside l.fn.rows;
 }
 
 abbrev pub decreases-loop-i : goal.decreases-loop-i

@@ -27,4 +27,5 @@ loop-at-preserved g c =
       gets = gets_from-leap p held body i c.after_label-at.result c.in-Leap.label.now instr t u c.loop-at-test.true c.index-body-at.is led c.after_label-at.ensures.place ∙ c.loop-at.invariant.gets;
       rows = c.step-done.ensures.same.0 ∙ c.loop-at.invariant.rows;
       names = c.step-done.ensures.same.1 ∙ c.loop-at.invariant.names;
+      beside = c.step-done.ensures.same.2 ∙ c.loop-at.invariant.beside;
     }

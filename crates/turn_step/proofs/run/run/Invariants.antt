@@ -16,6 +16,7 @@ invariant-loop-at g l =
       gets : first_needed held (gets_from p (drop l.at l.body) None l.at l.turn) ≡ first_needed held (gets_from p (drop l.place l.body) None l.place l.fn.turn);
       rows : g.R.RowReader.rows l.rows ≡ g.R.RowReader.rows l.fn.rows;
       names : g.R.RowReader.all l.rows ≡ g.R.RowReader.all l.fn.rows;
+      beside : g.R.RowReader.beside l.rows ≡ g.R.RowReader.beside l.fn.rows;
     }
 
 abbrev pub decreases-loop-at : goal.decreases-loop-at
