@@ -15,26 +15,7 @@ use Rattle.turn_rules.specs.Segment.{Setting, Turn, Stop, run_from, on_effect, s
 -- an instruction makes at most one row
 pub step_makes : (p : Setting) (i : Instr) (t : Turn) → length (step_of p i t).1.made ≤ length t.made + 1
 step_makes p (I.Row d values) t = omega (arith, length-append t.made (map (value_at t) values ∷ []))
-step_makes p (I.Drop d) t = omega arith
-step_makes p (I.Int d n) t = omega arith
-step_makes p (I.Own d) t = omega arith
-step_makes p (I.Copy d s) t = omega arith
-step_makes p (I.Add d a b) t = omega arith
-step_makes p (I.Sub d a b) t = omega arith
-step_makes p (I.Mul d a b) t = omega arith
-step_makes p (I.Less d a b) t = omega arith
-step_makes p (I.Same d a b) t = omega arith
-step_makes p (I.Get d s i) t = omega arith
-step_makes p (I.Load d f) t = omega arith
-step_makes p (I.Store f s) t = omega arith
-step_makes p (I.Jump l) t = omega arith
-step_makes p (I.JumpZero a l) t = omega arith
-step_makes p (I.Label l) t = omega arith
-step_makes p I.Pin t = omega arith
-step_makes p I.Unpin t = omega arith
-step_makes p (I.New d kind) t = omega arith
-step_makes p (I.Send to behaviour values) t = omega arith
-step_makes p (I.Print a) t = omega arith
+step_makes p i t = omega arith
 
 effect_makes : (go_on : Option ℕ → ℕ → Turn → Stop) (bound place : ℕ) → ((sought : Option ℕ) (n : ℕ) (t : Turn) → length (go_on sought n t).turn.made ≤ length t.made + bound) →
     (r : Effect × Turn) → length (on_effect go_on place r).turn.made ≤ length r.1.made + bound

@@ -42,26 +42,7 @@ module _ (p : Setting) (others : ObjName → Option (List Value)) (frame : Frame
   step_of-same (I.Get d s i) t h =
       ap (λ (v : Value). (Next, record t { registers = slice_set t.registers d v }))
       (same_place (length t.made) t (value_at t s) i (Knows-at (Known p frame fields (length t.made)) t.registers s h.registers))
-  step_of-same (I.Drop d) t h = refl
-  step_of-same (I.Int d n) t h = refl
-  step_of-same (I.Own d) t h = refl
-  step_of-same (I.Copy d s) t h = refl
-  step_of-same (I.Add d a b) t h = refl
-  step_of-same (I.Sub d a b) t h = refl
-  step_of-same (I.Mul d a b) t h = refl
-  step_of-same (I.Less d a b) t h = refl
-  step_of-same (I.Same d a b) t h = refl
-  step_of-same (I.Row d values) t h = refl
-  step_of-same (I.Load d f) t h = refl
-  step_of-same (I.Store f s) t h = refl
-  step_of-same (I.Jump l) t h = refl
-  step_of-same (I.JumpZero a l) t h = refl
-  step_of-same (I.Label l) t h = refl
-  step_of-same I.Pin t h = refl
-  step_of-same I.Unpin t h = refl
-  step_of-same (I.New d kind) t h = refl
-  step_of-same (I.Send to behaviour values) t h = refl
-  step_of-same (I.Print a) t h = refl
+  step_of-same i t h = refl
 
   -- both go on alike from what an instruction leads to
   on_effect-same : (go_on go_there : Option ℕ → ℕ → Turn → Stop) (place : ℕ) → ((sought : Option ℕ) (n : ℕ) (t : Turn) → TurnKnown p frame fields t → go_on sought n t ≡ go_there sought n t) →
