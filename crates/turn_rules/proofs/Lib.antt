@@ -1,5 +1,6 @@
 pub mod Bounds
 pub mod Known
+pub mod Leaving
 pub mod Local
 pub mod Names
 pub mod Gets

@@ -14,7 +14,8 @@ use Rattle.orca_names.specs.declared.names.Value.{Value}
 use Rattle.behaviour_code.specs.declared.code.Program.{Program}
 use Rattle.reach_walk.proofs.Elements.{Contains-cons_cases, Contains-head, Contains-later, none_in_nil}
 use Rattle.reach_walk.specs.Reach.{named_by, root, owned, thing_row}
-use Rattle.turn_rules.proofs.Gets.{gets_known, leaves_only, LeavesOnly}
+use Rattle.turn_rules.proofs.Gets.{gets_known, leaves_only}
+use Rattle.turn_rules.proofs.Leaving.{LeavesOnly}
 use Rattle.turn_rules.specs.Laws as laws
 use Rattle.turn_rules.specs.Segment.{Stop, gets_of, segment_of}
 use Rattle.turn_rules.specs.declared.act.Frame.{Frame}
@@ -181,7 +182,7 @@ module _ (program : Program) (all all' : Thing → Option Row) (ps : List Person
         (λ other. inr other)
         (got_from x n)
 
-    leaves : LeavesOnly (setting_of options.Roots program a c) (λ k x. May x) (λ i j le x h. h) (λ k. inr (inl refl)) (λ i k l. inr (inr (i, refl))) stop
+    leaves : LeavesOnly (λ k x. May x) stop
     leaves = leaves_only (setting_of options.Roots program a c) (λ k x. May x) (λ i j le x h. h) (λ k. inr (inl refl)) (λ i k l. inr (inr (i, refl))) f c.fields
         (λ x n. inl (here.named x (by_frame (subst (λ o. InFrame o x) (sym frame) n)))) (λ x n. inl (here.named x (by_field n))) got_may
 

@@ -1,4 +1,4 @@
-use Rattle.std.proofs.Common.{◌≡◌, ◌-◌, ◌≤◌, ◌++◌, ◌∙◌, length, replicate, ap, arith, length-append}
+use Rattle.std.proofs.Common.{◌-◌, ◌≤◌, ◌++◌, ◌∙◌, length, replicate, ap, arith, length-append}
 use Rattle.std.proofs.lemmas.List.{length-replicate}
 use Rattle.orca_names.specs.declared.names.Value.TheVariants.{Null}
 use Rattle.turn_rules.proofs.Places.{padded_more}
