@@ -273,49 +273,13 @@ record SpelledWell (code : Opcode) : Type 0 where
 
 spelled_well : (code : Opcode) → SpelledWell code
 spelled_well C.Drop = record { some = omega arith; seen = refl; short = omega arith }
-spelled_well C.Int = record { some = omega arith; seen = refl; short = omega arith }
-spelled_well C.Own = record { some = omega arith; seen = refl; short = omega arith }
-spelled_well C.Copy = record { some = omega arith; seen = refl; short = omega arith }
-spelled_well C.Add = record { some = omega arith; seen = refl; short = omega arith }
-spelled_well C.Sub = record { some = omega arith; seen = refl; short = omega arith }
-spelled_well C.Mul = record { some = omega arith; seen = refl; short = omega arith }
-spelled_well C.Less = record { some = omega arith; seen = refl; short = omega arith }
-spelled_well C.Same = record { some = omega arith; seen = refl; short = omega arith }
-spelled_well C.Row = record { some = omega arith; seen = refl; short = omega arith }
-spelled_well C.Get = record { some = omega arith; seen = refl; short = omega arith }
-spelled_well C.Load = record { some = omega arith; seen = refl; short = omega arith }
-spelled_well C.Store = record { some = omega arith; seen = refl; short = omega arith }
-spelled_well C.Jump = record { some = omega arith; seen = refl; short = omega arith }
-spelled_well C.JumpZero = record { some = omega arith; seen = refl; short = omega arith }
-spelled_well C.Label = record { some = omega arith; seen = refl; short = omega arith }
-spelled_well C.Pin = record { some = omega arith; seen = refl; short = omega arith }
-spelled_well C.Unpin = record { some = omega arith; seen = refl; short = omega arith }
-spelled_well C.New = record { some = omega arith; seen = refl; short = omega arith }
-spelled_well C.Send = record { some = omega arith; seen = refl; short = omega arith }
-spelled_well C.Print = record { some = omega arith; seen = refl; short = omega arith }
+spelled_well code = record { some = omega arith; seen = refl; short = omega arith }
 
 few_widths : (i : Instr) → HasItsCount i → widths (operands_in i) ≤ 250
 few_widths (I.Drop d) h = omega arith
-few_widths (I.Int d n) h = omega arith
-few_widths (I.Own d) h = omega arith
-few_widths (I.Copy d s) h = omega arith
-few_widths (I.Add d a b) h = omega arith
-few_widths (I.Sub d a b) h = omega arith
-few_widths (I.Mul d a b) h = omega arith
-few_widths (I.Less d a b) h = omega arith
-few_widths (I.Same d a b) h = omega arith
 few_widths (I.Row d values) h = let most = h.1 in omega (arith, widths_behind values)
-few_widths (I.Get d s n) h = omega arith
-few_widths (I.Load d f) h = omega arith
-few_widths (I.Store f s) h = omega arith
-few_widths (I.Jump l) h = omega arith
-few_widths (I.JumpZero a l) h = omega arith
-few_widths (I.Label l) h = omega arith
-few_widths I.Pin h = omega arith
-few_widths I.Unpin h = omega arith
-few_widths (I.New d k) h = omega arith
 few_widths (I.Send to b values) h = let most = h.1 in omega (arith, widths_behind values)
-few_widths (I.Print a) h = omega arith
+few_widths i h = omega arith
 
 instr_line : (all : List (List ℕ)) (i : Instr) → InstrIsWellFormed all i → Line (instr_words (text_of all) i)
 instr_line all i g =

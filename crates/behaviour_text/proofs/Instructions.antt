@@ -39,12 +39,7 @@ matches (I.Int d n) = (refl, (refl, tt))
 matches (I.Own d) = (refl, tt)
 matches (I.Copy d s) = (refl, (refl, tt))
 matches (I.Add d a b) = (refl, (refl, (refl, tt)))
-matches (I.Sub d a b) = (refl, (refl, (refl, tt)))
-matches (I.Mul d a b) = (refl, (refl, (refl, tt)))
-matches (I.Less d a b) = (refl, (refl, (refl, tt)))
-matches (I.Same d a b) = (refl, (refl, (refl, tt)))
 matches (I.Row d values) = (refl, row values)
-matches (I.Get d s n) = (refl, (refl, (refl, tt)))
 matches (I.Load d f) = (refl, (refl, tt))
 matches (I.Store f s) = (refl, (refl, tt))
 matches (I.Jump l) = (refl, tt)
@@ -55,6 +50,7 @@ matches I.Unpin = tt
 matches (I.New d k) = (refl, (refl, tt))
 matches (I.Send to b values) = (refl, (refl, behind_match values))
 matches (I.Print a) = (refl, tt)
+matches i = (refl, (refl, (refl, tt)))
 
 pub unnamed : (numbers : List ℕ) → filter_map named_by (map O.Register numbers) ≡ []
 unnamed [] = refl
@@ -75,12 +71,7 @@ names_all P (I.Int d n) h = (tt, (tt, tt))
 names_all P (I.Own d) h = (tt, tt)
 names_all P (I.Copy d s) h = (tt, (tt, tt))
 names_all P (I.Add d a b) h = (tt, (tt, (tt, tt)))
-names_all P (I.Sub d a b) h = (tt, (tt, (tt, tt)))
-names_all P (I.Mul d a b) h = (tt, (tt, (tt, tt)))
-names_all P (I.Less d a b) h = (tt, (tt, (tt, tt)))
-names_all P (I.Same d a b) h = (tt, (tt, (tt, tt)))
 names_all P (I.Row d values) h = (tt, none_named P values)
-names_all P (I.Get d s n) h = (tt, (tt, (tt, tt)))
 names_all P (I.Load d f) h = (tt, (tt, tt))
 names_all P (I.Store f s) h = (tt, (tt, tt))
 names_all P (I.Jump l) h = (h, tt)
@@ -91,6 +82,7 @@ names_all P I.Unpin h = tt
 names_all P (I.New d k) h = (tt, (h, tt))
 names_all P (I.Send to b values) h = (tt, (h, none_named P values))
 names_all P (I.Print a) h = (tt, tt)
+names_all P i h = (tt, (tt, (tt, tt)))
 
 pub words_behind : (text : ℕ → List ℕ) (numbers : List ℕ) → map (operand_word text) (map O.Register numbers) ≡ map register numbers
 words_behind text [] = refl

@@ -49,10 +49,6 @@ instr_small C.Int name ws h = ((omega arith, omega arith), (number_small (drop 1
 instr_small C.Own name ws h = ((omega arith, omega arith), (number_small (drop 1 (word_at ws 0)), tt))
 instr_small C.Copy name ws h = ((omega arith, omega arith), (number_small (drop 1 (word_at ws 0)), (number_small (drop 1 (word_at ws 1)), tt)))
 instr_small C.Add name ws h = ((omega arith, omega arith), (number_small (drop 1 (word_at ws 0)), (number_small (drop 1 (word_at ws 1)), (number_small (drop 1 (word_at ws 2)), tt))))
-instr_small C.Sub name ws h = ((omega arith, omega arith), (number_small (drop 1 (word_at ws 0)), (number_small (drop 1 (word_at ws 1)), (number_small (drop 1 (word_at ws 2)), tt))))
-instr_small C.Mul name ws h = ((omega arith, omega arith), (number_small (drop 1 (word_at ws 0)), (number_small (drop 1 (word_at ws 1)), (number_small (drop 1 (word_at ws 2)), tt))))
-instr_small C.Less name ws h = ((omega arith, omega arith), (number_small (drop 1 (word_at ws 0)), (number_small (drop 1 (word_at ws 1)), (number_small (drop 1 (word_at ws 2)), tt))))
-instr_small C.Same name ws h = ((omega arith, omega arith), (number_small (drop 1 (word_at ws 0)), (number_small (drop 1 (word_at ws 1)), (number_small (drop 1 (word_at ws 2)), tt))))
 instr_small C.Row name ws h =
     let e = enough (W.Instr C.Row) (length ws) h in
     let values = map register_of (drop 1 ws) in
@@ -75,6 +71,7 @@ instr_small C.Send name ws h =
     omega (arith, length-map values O.Register, length-map (drop 2 ws) register_of, length-drop 2 ws) in
     ((omega arith, omega arith), (number_small (drop 1 (word_at ws 0)), (tt, registers_small (drop 2 ws))))
 instr_small C.Print name ws h = ((omega arith, omega arith), (number_small (drop 1 (word_at ws 0)), tt))
+instr_small code name ws h = ((omega arith, omega arith), (number_small (drop 1 (word_at ws 0)), (number_small (drop 1 (word_at ws 1)), (number_small (drop 1 (word_at ws 2)), tt))))
 
 pub record BehaviourSmall (b : Behaviour) : Type 0 where
   pub few : b.parameters ≤ 8

@@ -140,26 +140,8 @@ read_adds n r s (line ∷ lines) e =
 -- the names of a program's lines are those of the program
 operand_name : (text : ℕ → List ℕ) (i : Instr) → named_word (Some (W.Instr (opcode_of i))) (map (operand_word text) (operands_in i)) ≡ option_map text (name_in i)
 operand_name text (I.Drop d) = refl
-operand_name text (I.Int d n) = refl
-operand_name text (I.Own d) = refl
-operand_name text (I.Copy d s) = refl
-operand_name text (I.Add d a b) = refl
-operand_name text (I.Sub d a b) = refl
-operand_name text (I.Mul d a b) = refl
-operand_name text (I.Less d a b) = refl
-operand_name text (I.Same d a b) = refl
 operand_name text (I.Row d values) = ap (option_map text) (row_unnamed values)
-operand_name text (I.Get d s n) = refl
-operand_name text (I.Load d f) = refl
-operand_name text (I.Store f s) = refl
-operand_name text (I.Jump l) = refl
-operand_name text (I.JumpZero a l) = refl
-operand_name text (I.Label l) = refl
-operand_name text I.Pin = refl
-operand_name text I.Unpin = refl
-operand_name text (I.New d k) = refl
-operand_name text (I.Send to b values) = refl
-operand_name text (I.Print a) = refl
+operand_name text i = refl
 
 by_name : (names : List (List ℕ)) (text : ℕ → List ℕ) (o : Option ℕ) → with_line names (option_map text o) ≡ instr_names text names o
 by_name names text None = refl

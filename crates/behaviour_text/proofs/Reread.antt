@@ -87,29 +87,8 @@ registers_read text (n ∷ ns) h = ap₂ (λ (x : ℕ) (xs : List ℕ). x ∷ xs
 pub spelled_word : (word : LineWord) → line_word (word_spelling word) ≡ Some word
 unfolding line_word
 spelled_word W.Kind = refl
-spelled_word W.On = refl
-spelled_word W.End = refl
 spelled_word (W.Instr C.Drop) = refl
-spelled_word (W.Instr C.Int) = refl
-spelled_word (W.Instr C.Own) = refl
-spelled_word (W.Instr C.Copy) = refl
-spelled_word (W.Instr C.Add) = refl
-spelled_word (W.Instr C.Sub) = refl
-spelled_word (W.Instr C.Mul) = refl
-spelled_word (W.Instr C.Less) = refl
-spelled_word (W.Instr C.Same) = refl
-spelled_word (W.Instr C.Row) = refl
-spelled_word (W.Instr C.Get) = refl
-spelled_word (W.Instr C.Load) = refl
-spelled_word (W.Instr C.Store) = refl
-spelled_word (W.Instr C.Jump) = refl
-spelled_word (W.Instr C.JumpZero) = refl
-spelled_word (W.Instr C.Label) = refl
-spelled_word (W.Instr C.Pin) = refl
-spelled_word (W.Instr C.Unpin) = refl
-spelled_word (W.Instr C.New) = refl
-spelled_word (W.Instr C.Send) = refl
-spelled_word (W.Instr C.Print) = refl
+spelled_word word = refl
 
 counted : (word : LineWord) (n : ℕ) (rest : Option FaultKind) → length (word_operands word) ≤ n → n ≤ length (word_operands word) + word_further word → rest ≡ None → (if fits_count word n then rest else Some K.WrongOperands) ≡ None
 counted word n rest least most h =

@@ -137,11 +137,6 @@ spelled_again text C.Int name ws h k intern_name = subst (λ (xs : List (List �
 spelled_again text C.Own name ws h k intern_name = subst (λ (xs : List (List ℕ)). word_spelling (W.Instr C.Own) ∷ respelled (word_operands (W.Instr C.Own)) xs ≡ instr_words text (instr_of C.Own name xs)) (one_of ws (omega arith) (omega arith)) refl
 spelled_again text C.Copy name ws h k intern_name = subst (λ (xs : List (List ℕ)). word_spelling (W.Instr C.Copy) ∷ respelled (word_operands (W.Instr C.Copy)) xs ≡ instr_words text (instr_of C.Copy name xs)) (two_of ws (omega arith) (omega arith)) refl
 spelled_again text C.Add name ws h k intern_name = subst (λ (xs : List (List ℕ)). word_spelling (W.Instr C.Add) ∷ respelled (word_operands (W.Instr C.Add)) xs ≡ instr_words text (instr_of C.Add name xs)) (three_of ws (omega arith) (omega arith)) refl
-spelled_again text C.Sub name ws h k intern_name = subst (λ (xs : List (List ℕ)). word_spelling (W.Instr C.Sub) ∷ respelled (word_operands (W.Instr C.Sub)) xs ≡ instr_words text (instr_of C.Sub name xs)) (three_of ws (omega arith) (omega arith)) refl
-spelled_again text C.Mul name ws h k intern_name = subst (λ (xs : List (List ℕ)). word_spelling (W.Instr C.Mul) ∷ respelled (word_operands (W.Instr C.Mul)) xs ≡ instr_words text (instr_of C.Mul name xs)) (three_of ws (omega arith) (omega arith)) refl
-spelled_again text C.Less name ws h k intern_name = subst (λ (xs : List (List ℕ)). word_spelling (W.Instr C.Less) ∷ respelled (word_operands (W.Instr C.Less)) xs ≡ instr_words text (instr_of C.Less name xs)) (three_of ws (omega arith) (omega arith)) refl
-spelled_again text C.Same name ws h k intern_name = subst (λ (xs : List (List ℕ)). word_spelling (W.Instr C.Same) ∷ respelled (word_operands (W.Instr C.Same)) xs ≡ instr_words text (instr_of C.Same name xs)) (three_of ws (omega arith) (omega arith)) refl
-spelled_again text C.Get name ws h k intern_name = subst (λ (xs : List (List ℕ)). word_spelling (W.Instr C.Get) ∷ respelled (word_operands (W.Instr C.Get)) xs ≡ instr_words text (instr_of C.Get name xs)) (three_of ws (omega arith) (omega arith)) refl
 spelled_again text C.Load name ws h k intern_name = subst (λ (xs : List (List ℕ)). word_spelling (W.Instr C.Load) ∷ respelled (word_operands (W.Instr C.Load)) xs ≡ instr_words text (instr_of C.Load name xs)) (two_of ws (omega arith) (omega arith)) refl
 spelled_again text C.Store name ws h k intern_name = subst (λ (xs : List (List ℕ)). word_spelling (W.Instr C.Store) ∷ respelled (word_operands (W.Instr C.Store)) xs ≡ instr_words text (instr_of C.Store name xs)) (two_of ws (omega arith) (omega arith)) refl
 spelled_again text C.Print name ws h k intern_name = subst (λ (xs : List (List ℕ)). word_spelling (W.Instr C.Print) ∷ respelled (word_operands (W.Instr C.Print)) xs ≡ instr_words text (instr_of C.Print name xs)) (one_of ws (omega arith) (omega arith)) refl
@@ -167,6 +162,7 @@ spelled_again text C.Send name ws h k intern_name =
     ∙ ap (λ (t : List ℕ). word_spelling (W.Instr C.Send) ∷ register (register_at ws 0) ∷ t ∷ map (operand_word text) (map O.Register (map register_of (drop 2 ws)))) (sym intern_name)
 spelled_again text C.Pin name ws h k intern_name = subst (λ (xs : List (List ℕ)). word_spelling (W.Instr C.Pin) ∷ respelled [] xs ≡ codes "pin" ∷ []) (none_of ws (omega arith)) refl
 spelled_again text C.Unpin name ws h k intern_name = subst (λ (xs : List (List ℕ)). word_spelling (W.Instr C.Unpin) ∷ respelled [] xs ≡ codes "unpin" ∷ []) (none_of ws (omega arith)) refl
+spelled_again text code name ws h k intern_name = subst (λ (xs : List (List ℕ)). word_spelling (W.Instr code) ∷ respelled (word_operands (W.Instr code)) xs ≡ instr_words text (instr_of code name xs)) (three_of ws (omega arith) (omega arith)) refl
 
 -- the words of an instruction without a fault
 pub instr_again : (text : ℕ → List ℕ) (code : Opcode) (name : ℕ) (w : List ℕ) (ws : List (List ℕ)) → line_word w ≡ Some (W.Instr code) → shape_fault (W.Instr code) ws ≡ None →

@@ -57,52 +57,13 @@ instr_named-texts names text (Some name) = refl
 
 named_for : (names : List (List ℕ)) (text : ℕ → List ℕ) (i : Instr) → intern_name names (name_place (W.Instr (opcode_of i))) (map (operand_word text) (operands_in i)) ≡ instr_named names text (name_in i)
 named_for names text (I.Drop d) = refl
-named_for names text (I.Int d n) = refl
-named_for names text (I.Own d) = refl
-named_for names text (I.Copy d s) = refl
-named_for names text (I.Add d a b) = refl
-named_for names text (I.Sub d a b) = refl
-named_for names text (I.Mul d a b) = refl
-named_for names text (I.Less d a b) = refl
-named_for names text (I.Same d a b) = refl
 named_for names text (I.Row d values) = ap (instr_named names text) (row_unnamed values)
-named_for names text (I.Get d s n) = refl
-named_for names text (I.Load d f) = refl
-named_for names text (I.Store f s) = refl
-named_for names text (I.Jump l) = refl
-named_for names text (I.JumpZero a l) = refl
-named_for names text (I.Label l) = refl
-named_for names text I.Pin = refl
-named_for names text I.Unpin = refl
-named_for names text (I.New d k) = refl
-named_for names text (I.Send to b values) = refl
-named_for names text (I.Print a) = refl
+named_for names text i = refl
 
 pub no_hash : (word : LineWord) → starts_with 35 (word_spelling word) ≡ false
 no_hash W.Kind = refl
-no_hash W.On = refl
-no_hash W.End = refl
 no_hash (W.Instr C.Drop) = refl
-no_hash (W.Instr C.Int) = refl
-no_hash (W.Instr C.Own) = refl
-no_hash (W.Instr C.Copy) = refl
-no_hash (W.Instr C.Add) = refl
-no_hash (W.Instr C.Sub) = refl
-no_hash (W.Instr C.Mul) = refl
-no_hash (W.Instr C.Less) = refl
-no_hash (W.Instr C.Same) = refl
-no_hash (W.Instr C.Row) = refl
-no_hash (W.Instr C.Get) = refl
-no_hash (W.Instr C.Load) = refl
-no_hash (W.Instr C.Store) = refl
-no_hash (W.Instr C.Jump) = refl
-no_hash (W.Instr C.JumpZero) = refl
-no_hash (W.Instr C.Label) = refl
-no_hash (W.Instr C.Pin) = refl
-no_hash (W.Instr C.Unpin) = refl
-no_hash (W.Instr C.New) = refl
-no_hash (W.Instr C.Send) = refl
-no_hash (W.Instr C.Print) = refl
+no_hash word = refl
 
 few_enough : (n : ℕ) → n < 1024 → body_fault n ≡ None
 few_enough n h = ap (λ (b : Bool). if◌then◌else◌ {A = Option FaultKind} b (Some K.TooMany) None) (le-ltb 1023 n (omega arith))
