@@ -1,10 +1,8 @@
 -- Reports by their actors.
-use Rattle.std.specs.Prelude.{ℕ, suc, ◌≡◌, ◌≤◌, ⊤, Bool, false, List, [], ◌∷◌, IfSome, length, map, Option, None, is_some, option_map, slice_index_or}
+use Rattle.std.specs.Prelude.{ℕ, suc, ◌≡◌, ◌≤◌, ⊤, Bool, false, List, [], ◌∷◌, IfSome, length, map, Option, None, is_some, slice_index_or}
 use Rattle.std.specs.Borrow.{Bor}
 use Rattle.std.specs.List.{filter_map}
-use Rattle.letter_kinds.specs.Reports.{kept_report}
 use Rattle.letter_kinds.specs.declared.note.Report.{Report}
-use Rattle.orca_names.specs.declared.kept_report.KeptReport.{KeptReport}
 
 -- the reports in these slots
 abbrev pub reports_in : List (Option Report) → List Report
@@ -33,15 +31,3 @@ reports_at references = map (λ r. r.now) references
 -- the actors of reports
 abbrev pub actors_of : List Report → List ℕ
 actors_of reports = map (λ r. r.actor) reports
-
--- a report as it is handed out
-abbrev pub handed_out : Report → KeptReport
-handed_out r = record { actor = r.actor; count = r.count; held = r.held }
-
--- the report of an actor, as it is handed out
-abbrev pub handed_of : List Report → ℕ → Option KeptReport
-handed_of kept a = option_map handed_out (kept_report kept a)
-
--- the reports of these actors, in their order
-abbrev pub reports_of : List Report → List ℕ → List KeptReport
-reports_of kept actors = filter_map (handed_of kept) actors

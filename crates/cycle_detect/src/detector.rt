@@ -2,9 +2,8 @@
 
 ghost use Rattle.std.specs.Prelude.{◌≡◌, ◌+◌, ◌<◌, ◌≤◌, suc, IfErr, IfOk, IfSome, IsSome, is_some, OnErr, OnOk};
 ghost use Rattle.std.specs.Option.{option_map};
-ghost use Rattle.letter_kinds.specs.Detector.{close_token, closed_set, fresh_detector, hear_note, open_token, token_numbered, without_news};
+ghost use Rattle.letter_kinds.specs.Detector.{close_token, closed_set, fresh_detector, hear_note, open_token, token_numbered, without_news, reports_of};
 ghost use Rattle.cycle_detect.specs.Falling.{step_bound};
-ghost use Rattle.cycle_detect.specs.Kept.{reports_of};
 ghost use Rattle.cycle_detect.specs.Notes.{IsBlock};
 ghost use Rattle.detector_tokens.specs.Open.{acked_by_all, acked_numbered, CanOpen, first_acked, IsLowestAcked, new_token};
 ghost use Rattle.std.specs.List.Sorted.{IsStrictlySortedBy};

@@ -5,8 +5,8 @@ ghost use Rattle.std.specs.List.{find};
 ghost use Rattle.std.specs.List.Sorted.{IsStrictlySortedBy};
 ghost use Rattle.std.specs.Option.{option_copied};
 ghost use Rattle.std.specs.Ordering.{nat_cmp};
-ghost use Rattle.letter_kinds.specs.Detector.{has};
-ghost use Rattle.cycle_detect.specs.Kept.{actors_of, handed_out, reports_of};
+ghost use Rattle.letter_kinds.specs.Detector.{has, handed_out, reports_of};
+ghost use Rattle.cycle_detect.specs.Kept.{actors_of};
 ghost use Rattle.cycle_detect.specs.Room.{no_reports};
 ghost use Rattle.letter_kinds.specs.Reports.{drop_report, keep_report, kept_report};
 

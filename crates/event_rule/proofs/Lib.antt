@@ -1,3 +1,4 @@
 pub mod OneRun
+pub mod Order
 pub mod Ordered
 pub mod Steps

@@ -1,5 +1,6 @@
 -- The order of events and their text.
-use Rattle.std.specs.Prelude.{ℕ, List, ◌++◌, Option, Some, None, codes}
+use Rattle.std.specs.Prelude.{ℕ, Bool, false, ◌==◌, is_none, List, [], ◌∷◌, ◌++◌, find, Option, Some, None, codes}
+use Rattle.std.specs.Option.{option_map_or}
 use Rattle.std.specs.Ordering.{nat_cmp, on, then_cmp}
 use Rattle.std.specs.declared.cmp.Ordering.{Ordering}
 use Rattle.std.specs.Fmt.{decimal}
@@ -66,3 +67,19 @@ actor_of (Block a) = Some a
 actor_of Hear = None
 actor_of Scan = None
 actor_of (Reap token) = None
+
+-- it is an event of this actor
+abbrev pub is_of : ℕ → Event → Bool
+is_of a e = option_map_or (λ b. b == a) (actor_of e) false
+
+-- it is an event of the detector
+abbrev pub is_of_detector : Event → Bool
+is_of_detector e = is_none (actor_of e)
+
+-- the events of an actor, in the one-worker order
+abbrev pub events_of : ℕ → List Event
+events_of a = Go a ∷ Take a ∷ Collect a ∷ Leave a ∷ Block a ∷ []
+
+-- the first of them that passes
+abbrev pub first_of : (Event → Bool) → ℕ → Option Event
+first_of passes a = find passes (events_of a)

@@ -2,7 +2,7 @@
 use Rattle.std.proofs.Common.{◌≡◌, ◌≢◌, ◌≤◌, ℕ, ◌==◌, Bool, true, false, List, [], Option, Some, None, refl, sym, ap, subst, ◌∙◌, arith, eqb-true}
 use Rattle.std.specs.Prelude.{if◌then◌else◌, MatchOption}
 use Rattle.std.specs.Option.{option_map_or}
-use Rattle.event_rule.specs.Events.{actor_of}
+use Rattle.event_rule.specs.Events.{actor_of, is_of}
 use Rattle.event_rule.specs.Runs.{Goes, IsFirst, IsFull, IsQuiet, Machine, NotEnabled, Step}
 use Rattle.event_rule.specs.declared.event.Event.{Event}
 use Rattle.event_rule.specs.declared.event.Event.TheVariants.{Take, Go, Collect, Leave, Block}
@@ -10,10 +10,10 @@ use Rattle.event_rule.proofs.OneRun.{none_at_quiet, one_is_first}
 use Rattle.machine_rules.specs.Next.{next}
 use Rattle.machine_rules.specs.State.{State}
 use Rattle.orca_core.specs.Away.{is_out, next_without}
-use Rattle.orca_core.specs.Firsts.{is_of, next_of_kind}
+use Rattle.orca_core.specs.Firsts.{next_of_kind}
 use Rattle.orca_core.proofs.Enabled.{in_kind, of_kind, with_none_away}
 use Rattle.orca_core.proofs.Firsts.{off}
-use Rattle.orca_core.proofs.Order.{itself, own, own_upto, stand}
+use Rattle.event_rule.proofs.Order.{itself, own, own_upto, stand}
 use Rattle.hall_rules.specs.Causes.{event_at, is_enabled}
 
 -- where no cell is away, the events of a kind lead where they do

@@ -3,7 +3,8 @@ use Rattle.std.specs.Prelude.{◌≡◌, ◌≢◌, ◌==◌, ◌||◌, Bool, tr
 use Rattle.event_rule.specs.Runs.{Goes, IsFirst, IsQuiet}
 use Rattle.event_rule.specs.declared.event.Event.{Event}
 use Rattle.machine_rules.specs.Next.{next}
-use Rattle.orca_core.specs.Firsts.{HasFirst, is_free, is_of_detector, next_of_kind}
+use Rattle.orca_core.specs.Firsts.{HasFirst, is_free, next_of_kind}
+use Rattle.event_rule.specs.Events.{is_of_detector}
 use Rattle.orca_core.specs.Woken.{IsLowestWoken}
 use Rattle.work_board.specs.declared.answers.Committed.{Committed}
 use Rattle.work_board.specs.declared.answers.Look.{Look}

@@ -1,12 +1,13 @@
 -- The detector of blocked actors: the reports that it keeps, its open tokens, and what it makes of
 -- notes.
-use Rattle.std.specs.Prelude.{ℕ, suc, ◌==◌, ◌||◌, not, if◌then◌else◌, Bool, true, false, List, [], ◌∷◌, ◌++◌, filter, map, Option}
-use Rattle.std.specs.List.{list_all, list_any, find}
+use Rattle.std.specs.Prelude.{ℕ, suc, ◌==◌, ◌||◌, not, if◌then◌else◌, Bool, true, false, List, [], ◌∷◌, ◌++◌, filter, map, Option, option_map}
+use Rattle.std.specs.List.{filter_map, list_all, list_any, find}
+use Rattle.orca_names.specs.declared.kept_report.KeptReport.{KeptReport}
 use Rattle.letter_kinds.specs.declared.note.Note.{Note}
 use Rattle.letter_kinds.specs.declared.note.Note.TheVariants.{Block, Unblock, Ack}
 use Rattle.letter_kinds.specs.declared.note.Report.{Report}
 use Rattle.letter_kinds.specs.Closed.{largest_closed}
-use Rattle.letter_kinds.specs.Reports.{report_told, keep_report, drop_report}
+use Rattle.letter_kinds.specs.Reports.{report_told, keep_report, kept_report, drop_report}
 
 -- a closed set that was found: its members are asked, and some acknowledged that they are still
 -- blocked
@@ -101,3 +102,17 @@ close_token t d =
       kept = filter (λ r. not (has t.members r.actor)) d.kept;
       tokens = filter (λ u. not (u.number == t.number)) d.tokens;
     }
+
+-- ---- reports that are handed out
+
+-- a report as it is handed out
+abbrev pub handed_out : Report → KeptReport
+handed_out r = record { actor = r.actor; count = r.count; held = r.held }
+
+-- the report of an actor, as it is handed out
+abbrev pub handed_of : List Report → ℕ → Option KeptReport
+handed_of kept a = option_map handed_out (kept_report kept a)
+
+-- the reports of these actors, in their order
+abbrev pub reports_of : List Report → List ℕ → List KeptReport
+reports_of kept actors = filter_map (handed_of kept) actors

@@ -23,7 +23,8 @@ use Rattle.machine_rules.specs.Collect.{after_collect}
 use Rattle.count_laws.specs.Facts.{IsFirm}
 use Rattle.count_laws.specs.Known.{IsKnown}
 use Rattle.detector_laws.specs.Events.{Moves}
-use Rattle.machine_laws.proofs.Moving.{Adds, adds_none, adds_then, adds_push, push_other, push_loads, moves}
+use Rattle.machine_laws.proofs.Moving.{Adds, adds_none, adds_then, adds_push, push_loads, moves}
+use Rattle.machine_rules.proofs.Posting.{push_other}
 use Rattle.machine_laws.proofs.Noted.{noted}
 use Rattle.machine_laws.proofs.Seen.{world_of}
 use Rattle.count_laws.proofs.balance.Sends.{cond_zero}

@@ -29,7 +29,8 @@ use Rattle.machine_rules.specs.Go.{post, mint, make, cell_after_turn}
 use Rattle.count_laws.specs.Known.{IsKnown}
 use Rattle.detector_laws.specs.Events.{Moves}
 use Rattle.machine_laws.proofs.Collecting.{HoldsOwners, owner_held, same_loads}
-use Rattle.machine_laws.proofs.Moving.{not_same, unheld, adds_none, adds_push, push_other, push_loads, moves}
+use Rattle.machine_laws.proofs.Moving.{not_same, unheld, adds_none, adds_push, push_loads, moves}
+use Rattle.machine_rules.proofs.Posting.{push_other}
 use Rattle.machine_laws.proofs.Noted.{noted}
 use Rattle.machine_laws.proofs.Seen.{world_of}
 use Rattle.count_laws.proofs.local.NoSelf.{held-with_made}

@@ -1,7 +1,6 @@
 -- What every event of an actor does to the detector's world.
 use Rattle.std.proofs.Common.{◌≡◌, ◌≢◌, ◌⊎◌, ℕ, zero, suc, ◌+◌, ◌<◌, ◌≤◌, true, false, Option, Some, None, is_some, List, [], ◌∷◌, ◌++◌, length, set, refl, ap, sym, ◌∙◌, arith, inl, inr, ⊎_elim, get_or-set_same, get_or-set_other, length-set, append-nil, append_assoc}
 use Rattle.std.proofs.lemmas.Bool.{cases_eq, cases_lt}
-use Rattle.std.proofs.lemmas.List.{get_or_past}
 use Rattle.std.proofs.lemmas.List.Sums.{sum_by-cons, sum_by-set}
 use Rattle.std.specs.Prelude.{sum_by}
 use Rattle.orca_names.specs.declared.names.Thing.{Thing}
@@ -11,7 +10,7 @@ use Rattle.letter_kinds.specs.Holdings.{held_in}
 use Rattle.letter_kinds.specs.Sums.{load_count}
 use Rattle.letter_kinds.specs.declared.letter.Letter.{Letter}
 use Rattle.letter_kinds.specs.declared.note.Note.{Note}
-use Rattle.count_laws.proofs.events.Every.{length-push}
+use Rattle.machine_rules.proofs.Posting.{added_cell, length-push, push_here, push_other}
 use Rattle.count_laws.proofs.balance.Posting.{loads_at_push}
 use Rattle.count_laws.proofs.balance.SeatReads.{loads_at-none}
 use Rattle.machine_rules.proofs.Present.{present_below}
@@ -40,17 +39,6 @@ loads_more x l None = omega (arith, loads_at-none x)
 loads_more x l (Some o) = omega (arith, loads_at_push x o l)
 
 module _ (s : Actors) (b : ℕ) (l : Letter) where
-  pub push_other : (i : ℕ) → i ≢ b → seat_at (push_letter b l s) i ≡ seat_at s i
-  unfolding push_letter
-  push_other i n = get_or-set_other s b i (with_letter_more l (seat_at s b)) None n
-
-  pub push_here : seat_at (push_letter b l s) b ≡ with_letter_more l (seat_at s b)
-  unfolding push_letter
-  push_here = ⊎_elim
-      (λ lt. get_or-set_same s b (with_letter_more l (seat_at s b)) None lt)
-      (λ ge. get_or_past (set s b (with_letter_more l (seat_at s b))) b None (rw (length-set s b (with_letter_more l (seat_at s b))) ge) ∙ sym (ap (with_letter_more l) (get_or_past s b None ge)))
-      (cases_lt b (length s))
-
   pub push_loads : (x : Thing) → load_sum x (push_letter b l s) ≤ load_sum x s + load_count x l
   unfolding push_letter
   push_loads x = ⊎_elim
@@ -86,10 +74,6 @@ adds_then s t u p q = record {
   cell = λ b. q.cell b ∙ p.cell b;
   mail = λ b. let x = p.mail b in let y = q.mail b in (x.0 ++ y.0, y.1 ∙ ap (λ (m : List Letter). m ++ y.0) x.1 ∙ append_assoc (mail_at s b) x.0 y.0, no_confirms-append x.0 y.0 x.2 y.2);
 }
-
-pub added_cell : (l : Letter) (o : Option Seat) → cell_of (with_letter_more l o) ≡ cell_of o
-added_cell l None = refl
-added_cell l (Some o) = refl
 
 added_mail : (l : Letter) (o : Option Seat) → is_confirm l ≡ false → (come : List Letter) × (letters_of (with_letter_more l o) ≡ letters_of o ++ come) × NoConfirms come
 added_mail l None k = ([], refl, tt)

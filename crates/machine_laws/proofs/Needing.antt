@@ -32,7 +32,8 @@ use Rattle.orca_names.specs.declared.trace.Trace.TheVariants.{Deep}
 use Rattle.orca_names.specs.declared.trace.Trace.TheVariants as options
 use Rattle.detector_laws.specs.Events.{IsApart, Moves}
 use Rattle.machine_laws.proofs.Collecting.{same_loads}
-use Rattle.machine_laws.proofs.Moving.{adds_push, moves_apart, not_same, push_loads, push_other, unheld}
+use Rattle.machine_laws.proofs.Moving.{adds_push, moves_apart, not_same, push_loads, unheld}
+use Rattle.machine_rules.proofs.Posting.{push_other}
 use Rattle.machine_laws.proofs.Noted.{noted}
 use Rattle.machine_laws.proofs.Seen.{world_of}
 

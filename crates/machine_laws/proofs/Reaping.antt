@@ -31,7 +31,8 @@ use Rattle.detector_laws.specs.Cells.{held_on}
 use Rattle.detector_laws.specs.Confirms.{NoConfirms}
 use Rattle.detector_laws.specs.Events.{Departs, Reaps}
 use Rattle.machine_laws.proofs.Collecting.{owner_held, NotTo, not_to, decs_quiet, decs_adds, decs_loads}
-use Rattle.machine_laws.proofs.Moving.{push_other, push_here, sum_by-set_past}
+use Rattle.machine_laws.proofs.Moving.{sum_by-set_past}
+use Rattle.machine_rules.proofs.Posting.{push_other, push_here}
 use Rattle.machine_laws.proofs.Seen.{world_of}
 
 -- ---- the members are gone

@@ -21,7 +21,7 @@ use Rattle.letter_kinds.specs.declared.note.Note.{Note}
 use Rattle.letter_kinds.specs.declared.note.Report.{Report}
 use Rattle.count_laws.proofs.roots.Same.{roots_push}
 use Rattle.count_laws.proofs.agreement.Agreeing.{agrees_push_other}
-use Rattle.count_laws.proofs.events.Every.{every_push, length-push}
+use Rattle.count_laws.proofs.events.Every.{every_push}
 use Rattle.count_laws.proofs.knowledge.Global.{mail_push}
 use Rattle.count_laws.proofs.balance.InHand.{Balanced, in_hand, none, out_of_hand}
 use Rattle.count_laws.proofs.balance.Posting.{push_balanced}
@@ -46,7 +46,8 @@ use Rattle.detector_laws.proofs.Order.{AllAbove, rising_parts}
 use Rattle.detector_laws.specs.Reports.{IsRising}
 use Rattle.detector_laws.specs.World as view
 use Rattle.detector_laws.specs.World.{World, ReportsAreExact}
-use Rattle.machine_laws.proofs.Moving.{push_here, push_other, added_cell, push_loads_same}
+use Rattle.machine_laws.proofs.Moving.{push_loads_same}
+use Rattle.machine_rules.proofs.Posting.{push_here, push_other, added_cell, length-push}
 use Rattle.machine_laws.proofs.Seen.{world_of}
 use Rattle.count_laws.proofs.bounds.Bounding.{length-asked}
 

@@ -6,7 +6,7 @@ use Rattle.event_rule.specs.declared.event.Event.{Event}
 use Rattle.letter_kinds.specs.Reports.{kept_report}
 use Rattle.letter_kinds.specs.declared.letter.Letter.{Letter}
 use Rattle.letter_kinds.specs.declared.note.Report.{Report}
-use Rattle.machine_rules.specs.Actors.{seat, seat_at}
+use Rattle.machine_rules.specs.Actors.{Actors, seat, seat_at}
 use Rattle.machine_rules.specs.Balance.{IsBalanced}
 use Rattle.count_laws.specs.Prefixes.{NeverOverdraws}
 use Rattle.machine_rules.specs.Cell.{Cell}
@@ -84,6 +84,11 @@ NeverTooEarly =
     (s : State) × IsRun program options book s × IsNeverTooEarly program options book s
 
 -- ---- at quiet
+
+-- exactly what is reachable is left; with root-only tracing, exactly what is reachable or held
+abbrev pub IsLeftExactly : Trace → PlainState → Actors → Type 0
+IsLeftExactly Deep p actors = (x : Thing) → IsLeft actors x ↔ IsReachable p x
+IsLeftExactly Roots p actors = (x : Thing) → IsLeft actors x ↔ IsReachedOrHeld p actors x
 
 -- where no event is enabled, exactly what is reachable is left, cycles of actors and objects included
 abbrev pub ExactlyAtQuiet : Type 0

@@ -4,6 +4,7 @@ pub mod Enabling
 pub mod Finite
 pub mod Firsts
 pub mod Guards
+pub mod Posting
 pub mod Present
 pub mod Rest
 pub mod Stepping

@@ -1,6 +1,8 @@
 -- What an actor that is present may do, by its cell and the letters that wait for it.
-use Rattle.std.specs.Prelude.{Bool, ◌&&◌, ◌||◌, ◌==◌, not, is_none, is_some, List}
+use Rattle.std.specs.Prelude.{Bool, false, ◌&&◌, ◌||◌, ◌==◌, not, is_none, is_some, List}
 use Rattle.plain_list.specs.Lists.{is_empty}
+use Rattle.event_rule.specs.declared.event.Event.{Event}
+use Rattle.event_rule.specs.declared.event.Event.TheVariants.{Take, Go, Collect, Leave, Block}
 use Rattle.letter_kinds.specs.declared.letter.Letter.{Letter}
 use Rattle.machine_rules.specs.Cell.{Cell}
 
@@ -25,3 +27,12 @@ may_block c mail = is_idle c && (is_empty mail && not (c.dirty || (c.fields.pinn
 -- it might report, and nobody holds it
 abbrev pub may_leave : Cell → List Letter → Bool
 may_leave c mail = may_block c mail && (c.holdings.count == 0)
+
+-- what it may do of itself; the detector's events are no actor's
+abbrev pub may_do : Cell → List Letter → Event → Bool
+may_do c mail (Take a) = may_take c mail
+may_do c mail (Go a) = may_go c mail
+may_do c mail (Collect a) = may_collect c mail
+may_do c mail (Leave a) = may_leave c mail
+may_do c mail (Block a) = may_block c mail
+may_do c mail _ = false

@@ -18,12 +18,12 @@ use Rattle.turn_rules.specs.Segment.{Stop, Turn, segment_of}
 use Rattle.letter_kinds.specs.declared.letter.Letter.{Letter}
 use Rattle.letter_kinds.specs.Counting.{Amount, Loaded, mint_all, mint_one, set_held}
 use Rattle.letter_kinds.specs.Holdings.{Holdings, Row, row_of, with_made}
-use Rattle.count_laws.proofs.knowledge.Sending.{row-mint_all}
+use Rattle.letter_kinds.proofs.Minting.{row-mint_all}
 use Rattle.machine_rules.specs.Actors.{Actors, Seat, cell_at, cell_of, push_letter, seat, seat_at, with_letter_more}
 use Rattle.machine_rules.specs.Cell.{Cell, known_objects}
 use Rattle.machine_rules.specs.Go.{turn_of_cell}
 use Rattle.machine_rules.proofs.Finite.{known_objects-cover}
-use Rattle.machine_laws.proofs.Moving.{added_cell}
+use Rattle.machine_rules.proofs.Posting.{added_cell}
 use Rattle.actor_cell.specs.declared.turning.Awaited.{Awaited}
 use Rattle.actor_cell.specs.declared.turning.Turned.{Turned}
 use Rattle.actor_cell.specs.Awaiting.{Awaits, AwaitsAt, awaited_by}
@@ -64,7 +64,7 @@ module _ (me : ℕ) (things : List Amount) (h : Holdings) (made : List Row) wher
   rows_stand = λ i n.
       (let minted = held_alone things h in
       ap (λ k. row_of me (with_made made k) n) minted
-      ∙ other_rows (n.owner == me) _ _ _ _ (sym (ap (λ k. row_of me k n) minted) ∙ row-mint_all me (Obj n) things h)) i
+      ∙ other_rows (n.owner == me) _ _ _ _ (sym (ap (λ k. row_of me k n) minted) ∙ row-mint_all me n things h)) i
 
   pub things_stand : (args : List Value) → things_from Deep me after args ≡ things_from Deep me before args
   things_stand args = λ i. map (λ (e : Loaded). e.0) (map (λ (x : Thing). (x, thing_row (rows_stand i) x)) (marks i))
@@ -90,7 +90,7 @@ module _ (program : Program) (me : ℕ) (c : Cell) (things : List Amount) where
         program = program;
         me = me;
         base = next-mint_all things c.holdings i;
-        rows = λ n. row-mint_all me (Obj n) things c.holdings i;
+        rows = λ n. row-mint_all me n things c.holdings i;
       }) frame c.fields
 
   deep_awaits : (turn : Turn) (found : Turned) (letter : Awaited) → Awaits Deep program me c turn found letter → Awaits Deep program me minted turn found letter

@@ -16,9 +16,10 @@ use Rattle.actor_table.specs.declared.slot.Slot.{Slot}
 use Rattle.actor_table.specs.declared.slot.Place.{Place}
 use Rattle.actor_table.specs.declared.slot.Place.TheVariants.{Home, Away, Gone}
 use Rattle.actor_table.specs.Slots.{actors_of, away_of, event_in, event_of, is_away_in, may_at, may_in, seat_in, slot_at}
-use Rattle.orca_core.specs.Firsts.{is_of, is_of_detector, next_of_kind}
+use Rattle.orca_core.specs.Firsts.{next_of_kind}
+use Rattle.event_rule.specs.Events.{is_of, is_of_detector}
 use Rattle.orca_core.proofs.Enabled.{Can, IsFound, first_of_kind, quiet_of_kind}
-use Rattle.orca_core.proofs.Order.{itself, own, own_upto, stand, theirs, upto_by}
+use Rattle.event_rule.proofs.Order.{itself, own, own_upto, stand, theirs, upto_by}
 
 -- a test that fails does not hold
 pub off : {A : Type 0} (b : Bool) → b ≡ false → b ≡ true → A

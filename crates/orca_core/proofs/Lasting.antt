@@ -14,13 +14,13 @@ use Rattle.machine_rules.specs.State.{State, first_state}
 use Rattle.plain_rules.specs.Machine.{PlainState, start_of}
 use Rattle.plain_rules.specs.Run.{plain_next}
 use Rattle.machine_laws.specs.AllFacts.{AllFacts}
-use Rattle.machine_laws.specs.Laws.{AwaitsChoices, IsNeverTooEarly}
+use Rattle.machine_laws.specs.Laws.{AwaitsChoices, IsNeverTooEarly, IsLeftExactly}
 use Rattle.machine_laws.proofs.AtQuiet.{quiet_exact, quiet_exact_by_roots, traced_by_roots}
 use Rattle.machine_laws.proofs.ComesToRest.{rests_between_choices}
 use Rattle.machine_laws.proofs.Counting.{runs_count_in_few_bits}
 use Rattle.machine_laws.proofs.GoesToRest.{garbage_is_gone, garbage_is_gone_by_roots, runs_can_rest}
 use Rattle.machine_laws.proofs.WholeRuns.{never_too_early, run_has_facts}
-use Rattle.orca_core.specs.Laws.{ComesToRest, CountsInFewBits, IsExactAtQuiet, IsLeftExactly, IsTracedByRoots, KeepsTheReachable}
+use Rattle.orca_core.specs.Laws.{ComesToRest, CountsInFewBits, IsExactAtQuiet, IsTracedByRoots, KeepsTheReachable}
 use Rattle.orca_core.specs.Machine.{IsReached, Machine}
 
 -- a whole run is never too early

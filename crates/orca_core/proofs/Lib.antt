@@ -11,7 +11,6 @@ pub mod Homes
 pub mod Lasting
 pub mod Listing
 pub mod Naming
-pub mod Order
 pub mod Posting
 pub mod Prepared
 pub mod Preparing

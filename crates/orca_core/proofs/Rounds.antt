@@ -8,7 +8,7 @@ use Rattle.std.proofs.lemmas.Bool.{cases_Bool, cases_lt, or_cases, or_left, or_r
 use Rattle.std.proofs.lemmas.List.{get_or_past}
 use Rattle.std.proofs.lemmas.List.Quantifiers.{position-Some}
 use Rattle.std.proofs.lemmas.List.Sums.{fails_before_first}
-use Rattle.event_rule.specs.Events.{actor_of, actor_or_token, round_of}
+use Rattle.event_rule.specs.Events.{actor_of, actor_or_token, round_of, is_of, is_of_detector}
 use Rattle.event_rule.specs.Runs.{IsFirst, IsQuiet, NotEnabled}
 use Rattle.event_rule.specs.declared.event.Event.{Event}
 use Rattle.event_rule.specs.declared.event.Event.TheVariants.{Take, Go, Collect, Leave, Block, Hear, Scan, Reap}
@@ -28,10 +28,10 @@ use Rattle.actor_table.specs.declared.rounds.Round.TheVariants.{Acting, Settling
 use Rattle.actor_table.specs.Rounds.{IsNextThat, has_event}
 use Rattle.actor_table.specs.Slots.{actors_of, acts, away_of, can_act, can_settle, event_of, gone, is_away_in, may_at, may_in, seat_in, settles, slot_at}
 use Rattle.orca_core.specs.Away.{next_without}
-use Rattle.orca_core.specs.Firsts.{HasFirst, is_free, is_of, is_of_detector, next_of_kind}
+use Rattle.orca_core.specs.Firsts.{HasFirst, is_free, next_of_kind}
 use Rattle.orca_core.proofs.Enabled.{Can, IsFound, any, enabled_here, first_of_kind, in_kind, of_kind, quiet_of_kind}
 use Rattle.orca_core.proofs.Firsts.{first_of_actor, off}
-use Rattle.orca_core.proofs.Order.{itself, own, number_of, of_number, of_rest, rounds_rise, upto_by}
+use Rattle.event_rule.proofs.Order.{itself, own, number_of, of_number, of_rest, rounds_rise, upto_by}
 
 -- ---- who has events
 

@@ -6,8 +6,7 @@ use Rattle.std.proofs.lemmas.Bool.{cases_eq, cases_lt}
 use Rattle.std.proofs.lemmas.List.{get_or-set_other, length-set}
 use Rattle.std.proofs.Math.ListN.{get_or-append}
 use Rattle.letter_kinds.specs.declared.letter.Letter.{Letter}
-use Rattle.count_laws.proofs.events.Every.{length-push}
-use Rattle.machine_laws.proofs.Moving.{push_here, push_other}
+use Rattle.machine_rules.proofs.Posting.{push_here, push_other, length-push}
 use Rattle.machine_rules.specs.Actors.{Actors, Seat, letters_of, mail_at, push_letter, seat_at, with_letter_more}
 use Rattle.machine_rules.specs.Cell.{Cell}
 use Rattle.machine_rules.specs.Detect.{empty_seats}

@@ -1,19 +1,11 @@
 -- Which events of some kind are enabled, and which of them is the first.
-use Rattle.std.specs.Prelude.{ℕ, ◌≡◌, ◌==◌, Bool, false, is_none, not, if◌then◌else◌, List, Some}
+use Rattle.std.specs.Prelude.{ℕ, ◌≡◌, Bool, false, not, if◌then◌else◌, List, Some}
 use Rattle.std.specs.Option.{option_map_or}
 use Rattle.event_rule.specs.Events.{actor_of}
 use Rattle.event_rule.specs.Runs.{IsFirst, Machine, NotEnabled, Step}
 use Rattle.event_rule.specs.declared.event.Event.{Event}
 use Rattle.machine_rules.specs.State.{State}
 use Rattle.orca_core.specs.Away.{next_without}
-
--- it is an event of this actor
-abbrev pub is_of : ℕ → Event → Bool
-is_of a e = option_map_or (λ b. b == a) (actor_of e) false
-
--- it is an event of the detector
-abbrev pub is_of_detector : Event → Bool
-is_of_detector e = is_none (actor_of e)
 
 -- it is an event of an actor that is not set aside
 abbrev pub is_free : (ℕ → Bool) → Event → Bool

@@ -1,21 +1,15 @@
 -- What holds of the machine at every moment, whatever was done with it.
-use Rattle.std.specs.Prelude.{◌≡◌, ◌↔◌, ◌+◌, ◌≤◌, ◌<◌, ◌^◌, List, [], length}
-use Rattle.orca_names.specs.declared.names.Thing.{Thing}
-use Rattle.orca_names.specs.declared.trace.Trace.{Trace}
-use Rattle.orca_names.specs.declared.trace.Trace.TheVariants.{Deep, Roots}
+use Rattle.std.specs.Prelude.{◌≡◌, ◌+◌, ◌≤◌, ◌<◌, ◌^◌, List, [], length}
+use Rattle.orca_names.specs.declared.trace.Trace.TheVariants.{Roots}
 use Rattle.event_rule.specs.Runs.{IsQuiet, Leads}
 use Rattle.event_rule.specs.declared.event.Event.{Event}
-use Rattle.count_laws.specs.LeftByRoots.{IsReachedOrHeld}
 use Rattle.count_laws.specs.TracedByRoots.{AreTracedByRoots}
 use Rattle.machine_laws.specs.Bounds.{OfEachCount, OfTold}
-use Rattle.machine_laws.specs.Laws.{AwaitsChoices, CanRest, IsNeverTooEarly}
+use Rattle.machine_laws.specs.Laws.{AwaitsChoices, CanRest, IsLeftExactly, IsNeverTooEarly}
 use Rattle.machine_laws.specs.Work.{work_left}
-use Rattle.machine_rules.specs.Actors.{Actors}
-use Rattle.machine_rules.specs.Left.{IsLeft}
 use Rattle.machine_rules.specs.Next.{next}
 use Rattle.machine_rules.specs.Run.{IsPlainBeside, IsRun, choices}
 use Rattle.plain_rules.specs.Machine.{PlainState}
-use Rattle.plain_rules.specs.Reach.{IsReachable}
 use Rattle.plain_rules.specs.Run.{plain_next}
 use Rattle.orca_core.specs.Machine.{Machine}
 
@@ -35,12 +29,7 @@ pub record KeepsTheReachable (m : Machine) : Type 0 where
 abbrev pub IsTracedByRoots : Machine → Type 0
 IsTracedByRoots m = m.state.options.trace ≡ Roots → AreTracedByRoots m.state.actors
 
--- exactly what is reachable is left; with root-only tracing, exactly what is reachable or held
-abbrev pub IsLeftExactly : Trace → PlainState → Actors → Type 0
-IsLeftExactly Deep p actors = (x : Thing) → IsLeft actors x ↔ IsReachable p x
-IsLeftExactly Roots p actors = (x : Thing) → IsLeft actors x ↔ IsReachedOrHeld p actors x
-
--- so it is where no event is enabled
+-- exactly what is reachable is left where no event is enabled
 pub record IsExactAtQuiet (m : Machine) : Type 0 where
   pub book : List Event
   pub run : IsRunOf m book

@@ -2,8 +2,7 @@
 
 ghost use Rattle.std.specs.Prelude.{◌≡◌, ◌↔◌, true, is_some, option_map, IfOk, IfSome, MatchOption};
 ghost use Rattle.std.specs.Option.{option_copied};
-ghost use Rattle.cycle_detect.specs.Kept.{reports_of};
-ghost use Rattle.letter_kinds.specs.Detector.{token_numbered};
+ghost use Rattle.letter_kinds.specs.Detector.{token_numbered, reports_of};
 ghost use Rattle.event_rule.specs.Runs.{IsEnabled, IsFirst, IsQuiet};
 ghost use Rattle.machine_rules.specs.Actors.{seat_at};
 ghost use Rattle.machine_rules.specs.Next.{next};
@@ -11,7 +10,8 @@ ghost use Rattle.machine_rules.specs.Guards.{may_go};
 ghost use Rattle.actor_table.specs.Slots.{home_of, may_at, slot_at};
 ghost use Rattle.actor_cell.specs.Cells.{as_cell};
 ghost use Rattle.orca_core.specs.Away.{next_without};
-ghost use Rattle.orca_core.specs.Firsts.{is_of, is_of_detector, next_of_kind};
+ghost use Rattle.orca_core.specs.Firsts.{next_of_kind};
+ghost use Rattle.event_rule.specs.Events.{is_of, is_of_detector};
 ghost use Rattle.orca_core.specs.Machine.{NoneIsAway, cell_here, mail_here};
 
 use crate::machine::Orca;

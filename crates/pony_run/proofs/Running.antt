@@ -16,7 +16,8 @@ use Rattle.machine_rules.specs.Run.{IsPlainBeside, IsRun}
 use Rattle.machine_rules.specs.State.{State, first_state}
 use Rattle.machine_laws.proofs.AtQuiet.{exactly_at_quiet, quiet_by_roots, traced_by_roots}
 use Rattle.machine_laws.proofs.WholeRuns.{never_too_early}
-use Rattle.orca_core.specs.Laws.{IsLeftExactly, IsRunOf}
+use Rattle.orca_core.specs.Laws.{IsRunOf}
+use Rattle.machine_laws.specs.Laws.{IsLeftExactly}
 use Rattle.orca_core.specs.Machine.{NoneIsAway, Machine as Orca}
 use Rattle.quiet_pass.specs.Ends.{EndsSo, GoesOnTo}
 use Rattle.quiet_pass.specs.declared.ending.End.{End}

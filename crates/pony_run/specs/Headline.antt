@@ -40,8 +40,7 @@ use Rattle.machine_rules.specs.Options.{Options}
 use Rattle.machine_rules.specs.Run.{IsPlainBeside, IsRun}
 use Rattle.machine_rules.specs.State.{State, first_state}
 use Rattle.count_laws.specs.TracedByRoots.{AreTracedByRoots}
-use Rattle.machine_laws.specs.Laws.{IsNeverTooEarly}
-use Rattle.orca_core.specs.Laws.{IsLeftExactly}
+use Rattle.machine_laws.specs.Laws.{IsNeverTooEarly, IsLeftExactly}
 use Rattle.book_audit.specs.Verdicts.{IsRefuted, options_of_book}
 use Rattle.count_ledger.specs.Tally.{IsTally}
 use Rattle.why_path.specs.Checks.{HoldsUp, is_loose}

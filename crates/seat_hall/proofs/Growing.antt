@@ -14,7 +14,8 @@ use Rattle.machine_rules.specs.Rules as rule
 use Rattle.machine_rules.specs.State.{State}
 use Rattle.machine_rules.proofs.Stepping.{step_of}
 use Rattle.count_laws.proofs.bounds.Bounding.{length-asked}
-use Rattle.count_laws.proofs.events.Every.{length-decs, length-push}
+use Rattle.count_laws.proofs.events.Every.{length-decs}
+use Rattle.machine_rules.proofs.Posting.{length-push}
 use Rattle.count_laws.proofs.events.Reap.{length-reap}
 
 -- at most one more

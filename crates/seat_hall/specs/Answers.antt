@@ -2,7 +2,7 @@
 use Rattle.std.specs.Prelude.{ℕ, ◌≡◌, ◌≢◌, ◌==◌, ◌+◌, ◌≤◌, ◌||◌, Bool, true, false, [], ◌∷◌, ◌++◌, length, Option, Some, None, IfSome}
 use Rattle.orca_names.specs.declared.trace.Trace.{Trace}
 use Rattle.behaviour_code.specs.declared.code.Program.{Program}
-use Rattle.event_rule.specs.Events.{actor_of}
+use Rattle.event_rule.specs.Events.{actor_of, is_of_detector}
 use Rattle.event_rule.specs.Runs.{Goes, IsFirst, IsQuiet}
 use Rattle.event_rule.specs.declared.event.Event.{Event}
 use Rattle.event_rule.specs.declared.event.Event.TheVariants.{Take, Go, Collect, Leave, Block, Hear, Scan, Reap}
@@ -12,7 +12,7 @@ use Rattle.actor_cell.specs.Cells.{as_cell}
 use Rattle.actor_cell.specs.Founds.{IsFound}
 use Rattle.machine_rules.specs.Actors.{Actors, cell_at}
 use Rattle.machine_rules.specs.Next.{next}
-use Rattle.orca_core.specs.Firsts.{HasFirst, is_free, is_of_detector, next_of_kind}
+use Rattle.orca_core.specs.Firsts.{HasFirst, is_free, next_of_kind}
 use Rattle.orca_core.specs.Woken.{IsLowestWoken}
 use Rattle.work_board.specs.declared.answers.Committed.{Committed}
 use Rattle.work_board.specs.declared.answers.Look.{Look}

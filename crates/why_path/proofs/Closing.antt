@@ -14,13 +14,12 @@ use Rattle.reach_walk.proofs.Elements.{Contains-from_map}
 use Rattle.event_rule.specs.declared.event.Event.{Event}
 use Rattle.event_rule.specs.declared.event.Event.TheVariants.{Take, Go, Collect, Leave, Block, Hear, Scan, Reap}
 use Rattle.event_rule.specs.Runs.{Goes, Leads}
-use Rattle.letter_kinds.specs.Detector.{Detector, Token, after_scan, candidates, close_token, closed_set, has, hear_note, note_ack}
+use Rattle.letter_kinds.specs.Detector.{Detector, Token, after_scan, candidates, close_token, closed_set, has, hear_note, note_ack, handed_out, reports_of}
 use Rattle.letter_kinds.specs.Closed.{largest_closed}
 use Rattle.letter_kinds.specs.Reports.{count_on, kept_report}
 use Rattle.letter_kinds.specs.declared.note.Note.{Note}
 use Rattle.letter_kinds.specs.declared.note.Note.TheVariants as notes
 use Rattle.letter_kinds.specs.declared.note.Report.{Report}
-use Rattle.cycle_detect.specs.Kept.{handed_out, reports_of}
 use Rattle.plain_rules.specs.Machine.{PlainState, start_of}
 use Rattle.machine_rules.specs.Next.{next}
 use Rattle.machine_rules.specs.State.{State, first_state}

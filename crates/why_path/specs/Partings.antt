@@ -4,11 +4,10 @@ use Rattle.std.specs.List.{cons_option}
 use Rattle.orca_names.specs.declared.kept_report.KeptReport.{KeptReport}
 use Rattle.orca_names.specs.declared.parting.Parting.{Parting}
 use Rattle.orca_names.specs.declared.parting.Parting.TheVariants.{Left, Reaped}
-use Rattle.cycle_detect.specs.Kept.{reports_of}
 use Rattle.event_rule.specs.declared.event.Event.{Event}
 use Rattle.event_rule.specs.declared.event.Event.TheVariants.{Take, Go, Collect, Leave, Block, Hear, Scan, Reap}
 use Rattle.event_rule.specs.Runs.{Step, NotEnabled, IsFull, Goes}
-use Rattle.letter_kinds.specs.Detector.{token_numbered}
+use Rattle.letter_kinds.specs.Detector.{token_numbered, reports_of}
 use Rattle.letter_kinds.specs.Reports.{count_on}
 use Rattle.machine_rules.specs.Next.{next}
 use Rattle.machine_rules.specs.State.{State}

@@ -19,7 +19,7 @@ use Rattle.letter_kinds.specs.declared.letter.Letter.{Letter}
 use Rattle.letter_kinds.specs.declared.letter.Letter.TheVariants.{Confirm, Dec}
 use Rattle.letter_kinds.specs.declared.note.Note.{Note}
 use Rattle.letter_kinds.specs.declared.note.Note.TheVariants as notes
-use Rattle.count_laws.proofs.events.Every.{length-push}
+use Rattle.machine_rules.proofs.Posting.{length-push}
 use Rattle.count_laws.proofs.events.Reap.{length-emptied}
 use Rattle.count_laws.proofs.away.Untouched.{alone_spared, spared_first}
 use Rattle.machine_rules.specs.Actors.{Actors, Seat, push_decs, push_letter, seat, seat_at, with_letter_more}

@@ -31,7 +31,8 @@ use Rattle.letter_kinds.specs.declared.note.Note.TheVariants.{Block, Unblock, Ac
 use Rattle.machine_rules.proofs.Stepping.{step_of}
 use Rattle.machine_rules.specs.Rules.{IsStep, cell_kept, later_frame}
 use Rattle.machine_rules.specs.Rules as rule
-use Rattle.count_laws.proofs.events.Every.{length-decs, length-push, push_none, set_none}
+use Rattle.count_laws.proofs.events.Every.{length-decs, push_none, set_none}
+use Rattle.machine_rules.proofs.Posting.{length-push}
 use Rattle.count_laws.proofs.balance.Makes.{more_last, more_other}
 use Rattle.count_laws.proofs.letters.Once.{load_once, minted_once, needed_once}
 use Rattle.count_laws.proofs.balance.Posting.{incs_at_push, own_at_push}

@@ -4,6 +4,7 @@ use Rattle.std.proofs.lemmas.Bool.{cases_eq, cases_lt}
 use Rattle.std.proofs.lemmas.List.{get_or_past}
 use Rattle.count_laws.proofs.balance.Seats.{some_seat}
 use Rattle.machine_rules.proofs.Present.{present_below}
+use Rattle.machine_rules.proofs.Posting.{length-push}
 use Rattle.count_laws.proofs.balance.Makes.{more_last, more_other}
 use Rattle.count_laws.proofs.agreement.Agreeing.{agrees_push_other}
 use Rattle.letter_kinds.specs.declared.letter.Letter.{Letter}
@@ -74,7 +75,7 @@ unfolding push_decs
 every_decs Q stable [] s every = every
 every_decs Q stable (g ∷ gs) s every = every_decs Q stable gs (push_letter g.0 (Dec g.1) s) (every_push Q (Dec g.1) (stable g.1) s g.0 every)
 
--- the same for the agreement, and the length
+-- the same for the agreement
 agrees_seat : (ps : List Person) (s : Actors) (b : ℕ) (es : List (Thing × ℕ)) (o : Option Seat) → seat_at s b ≡ o → Agrees ps s → Agrees ps (push_letter b (Dec es) s)
 agrees_seat ps s b es None e ag = rw (push_none s b (Dec es) e) (record {
   present = λ a d ms at. ag.present a d ms (sym (set_none s b a e) ∙ at);
@@ -86,10 +87,6 @@ pub agrees_decs : (ps : List Person) (gs : List (ℕ × List (Thing × ℕ))) (s
 unfolding push_decs
 agrees_decs ps [] s ag = ag
 agrees_decs ps (g ∷ gs) s ag = agrees_decs ps gs (push_letter g.0 (Dec g.1) s) (agrees_seat ps s g.0 g.1 (seat_at s g.0) refl ag)
-
-pub length-push : (b : ℕ) (l : Letter) (s : Actors) → length (push_letter b l s) ≡ length s
-unfolding push_letter
-length-push b l s = length-set s b _
 
 pub length-decs : (gs : List (ℕ × List (Thing × ℕ))) (s : Actors) → length (push_decs gs s) ≡ length s
 unfolding push_decs

@@ -13,7 +13,8 @@ use Rattle.letter_kinds.specs.Sums.{amount_of, times_loaded}
 use Rattle.letter_kinds.specs.declared.letter.Letter.{Letter}
 use Rattle.letter_kinds.specs.declared.letter.Letter.TheVariants.{App, Inc}
 use Rattle.count_laws.proofs.agreement.Agreeing.{agrees_push_app, agrees_push_other, agrees_same, agrees_set, with_letter}
-use Rattle.count_laws.proofs.events.Every.{every_push, every_set, length-push}
+use Rattle.count_laws.proofs.events.Every.{every_push, every_set}
+use Rattle.machine_rules.proofs.Posting.{length-push}
 use Rattle.count_laws.proofs.knowledge.Freed.{known_left}
 use Rattle.count_laws.proofs.knowledge.Global.{sound_push, sound_set}
 use Rattle.count_laws.proofs.knowledge.Going.{left_present}

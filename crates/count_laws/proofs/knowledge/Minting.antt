@@ -1,13 +1,14 @@
 -- Who mints knows what it knew.
-use Rattle.std.proofs.Common.{◌≡◌, ℕ, zero, suc, ◌+◌, ◌<◌, Option, List, sym, ◌∙◌, arith, inl, inr}
+use Rattle.std.proofs.Common.{◌≡◌, ℕ, zero, suc, ◌+◌, ◌<◌, Option, List, sym, ap, ◌∙◌, arith, inl, inr}
 use Rattle.orca_names.specs.declared.names.Thing.{Thing}
-use Rattle.reach_walk.specs.Reach.{root}
+use Rattle.reach_walk.specs.Reach.{root, thing_row}
 use Rattle.letter_kinds.proofs.Amounts.{held-mint_all}
 use Rattle.letter_kinds.specs.Counting.{mint_all}
 use Rattle.letter_kinds.specs.Holdings.{Row, held_in}
 use Rattle.letter_kinds.specs.Sums.{amount_of}
 use Rattle.count_laws.proofs.knowledge.Paths.{reach_more}
-use Rattle.count_laws.proofs.knowledge.Sending.{row-mint_all, has-mint_all}
+use Rattle.count_laws.proofs.knowledge.Sending.{has-mint_all}
+use Rattle.letter_kinds.proofs.Minting.{row-mint_all}
 use Rattle.machine_rules.specs.Cell.{Cell}
 use Rattle.count_laws.specs.Known.{IsKnown, StartsWalks, in_fields, in_frame, in_table, IsClosedAt, RowsAreAt}
 
@@ -40,4 +41,4 @@ module _ (all : Thing → Option Row) (me : ℕ) (c : Cell) (es : List (Thing ×
   mint_closed x h = minted_on x (closed x (reach_more _ (λ x r. root (minted_root x r)) h))
 
   pub mint_rows : RowsAreAt all me minted.holdings
-  mint_rows x k = row-mint_all me x es c.holdings ∙ rows x (minted_back x k)
+  mint_rows x k = ap (λ rows. thing_row rows x) (λ i n. row-mint_all me n es c.holdings i) ∙ rows x (minted_back x k)

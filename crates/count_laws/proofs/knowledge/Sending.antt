@@ -1,41 +1,27 @@
 -- Sending and minting change no row, and who sends knows what it knew.
-use Rattle.std.proofs.Common.{◌≡◌, ◌≢◌, ℕ, ◌+◌, ◌-◌, ◌<◌, Option, List, [], ◌∷◌, refl, sym, ◌∙◌, arith, subst, inl, inr, ⊎_elim, ne_eqb}
+use Rattle.std.proofs.Common.{◌≡◌, ◌≢◌, ℕ, ◌+◌, ◌-◌, ◌<◌, Option, List, [], ◌∷◌, refl, sym, ◌∙◌, arith, subst, inl, inr, ⊎_elim}
 use Rattle.std.proofs.lemmas.Bool.{cases_eq}
 use Rattle.std.specs.FinMap as m
-use Rattle.orca_names.proofs.ThingOrder.{cases_thing}
 use Rattle.orca_names.specs.Names.{owner_of}
-use Rattle.orca_names.specs.declared.names.ObjName.{ObjName}
 use Rattle.orca_names.specs.declared.names.Thing.{Thing}
 use Rattle.orca_names.specs.declared.names.Thing.TheVariants.{Actor, Obj}
 use Rattle.orca_names.specs.declared.names.Value.{Value}
 use Rattle.reach_walk.specs.Reach.{root, owned}
 use Rattle.letter_kinds.proofs.Counts.{cond_eq, cond_ne, has_set_own, has_set_held, held-send, held-send_own}
+use Rattle.letter_kinds.proofs.Minting.{row-set_held}
 use Rattle.letter_kinds.specs.Counting.{Amount, Loaded, raise, set_held, spend, send_one, send, mint_one, mint_all}
-use Rattle.letter_kinds.specs.Holdings.{Row, Holdings, held_in, has_own, row_of, entry_row}
+use Rattle.letter_kinds.specs.Holdings.{Row, Holdings, held_in, has_own, entry_row}
 use Rattle.letter_kinds.specs.Sums.{times_loaded}
 use Rattle.count_laws.proofs.knowledge.Paths.{along_row, reach_into, reach_more}
-use Rattle.count_laws.proofs.knowledge.Receiving.{row_set_own, row_set_held_other, row_set_held_own, row_set_held_same}
+use Rattle.count_laws.proofs.knowledge.Receiving.{row_set_own}
 use Rattle.machine_rules.specs.Cell.{Cell}
 use Rattle.count_laws.specs.Known.{Names, ReachesThrough, row_at, IsKnown, StartsWalks, in_fields, in_frame, in_table, IsClosedAt, RowsAreAt}
 
 -- ---- a count is changed and the row stays
 
-row_of_other : (q : ObjName) (me : ℕ) (c : Holdings) → q.owner ≢ me → row_at me c (Obj q) ≡ entry_row (m.get c.foreign (Obj q))
-unfolding row_of
-row_of_other q me c n = rw (ne_eqb q.owner me n) refl
-
-row_kept_same : (me : ℕ) (f : ℕ → ℕ) (y : Thing) (c : Holdings) → row_at me (set_held f y (entry_row (m.get c.foreign y)) c) y ≡ row_at me c y
-row_kept_same me f (Actor a) c = refl
-row_kept_same me f (Obj q) c = ⊎_elim
-    (λ same. row_set_held_own me f (Obj q) (entry_row (m.get c.foreign (Obj q))) (Obj q) c same)
-    (λ other. row_set_held_same me f q (entry_row (m.get c.foreign (Obj q))) c other ∙ sym (row_of_other q me c other))
-    (cases_eq q.owner me)
-
 row_kept : (me : ℕ) (f : ℕ → ℕ) (y x : Thing) (c : Holdings) → row_at me (set_held f y (entry_row (m.get c.foreign y)) c) x ≡ row_at me c x
-row_kept me f y x c = ⊎_elim
-    (λ same. subst (λ x. row_at me (set_held f y (entry_row (m.get c.foreign y)) c) x ≡ row_at me c x) (sym same) (row_kept_same me f y c))
-    (λ other. row_set_held_other me f y (entry_row (m.get c.foreign y)) x c other)
-    (cases_thing x y)
+row_kept me f y (Actor a) c = refl
+row_kept me f y (Obj n) c = row-set_held me f y n c
 
 -- ---- sending a load
 
@@ -62,11 +48,6 @@ has-send me x [] c = refl
 has-send me x (e ∷ es) c = has-send me x es (send_one me e c) ∙ send_has_one me x e c
 
 -- ---- minting
-
-pub row-mint_all : (me : ℕ) (x : Thing) (es : List Amount) (c : Holdings) → row_at me (mint_all es c) x ≡ row_at me c x
-unfolding mint_all
-row-mint_all me x [] c = refl
-row-mint_all me x (e ∷ es) c = row-mint_all me x es (mint_one e c) ∙ row_kept me (λ h. h + e.1) e.0 x c
 
 pub has-mint_all : (x : Thing) (es : List Amount) (c : Holdings) → has_own (mint_all es c) x ≡ has_own c x
 unfolding mint_all

@@ -20,7 +20,8 @@ use Rattle.letter_kinds.specs.declared.letter.Letter.TheVariants.{App, Inc, Dec,
 use Rattle.count_laws.proofs.knowledge.Paths.{along_row, reach_into}
 use Rattle.count_laws.proofs.knowledge.Receiving.{has-receive, own_row, row_set_held_own, row_set_own}
 use Rattle.count_laws.proofs.balance.Safety.{drop-push}
-use Rattle.count_laws.proofs.knowledge.Sending.{has-mint_all, has-send, row-mint_all, row-send}
+use Rattle.count_laws.proofs.knowledge.Sending.{has-mint_all, has-send, row-send}
+use Rattle.letter_kinds.proofs.Minting.{row-mint_all}
 use Rattle.count_laws.proofs.events.Take.{Alike}
 use Rattle.machine_rules.specs.Cell.{Cell, own_row_of}
 use Rattle.count_laws.specs.Known.{InFrame, IsKnown, Names, ReachesThrough, row_at}
@@ -83,7 +84,7 @@ pub own_sent : (me : ℕ) (es : List Loaded) (h : Holdings) → SameOwn me h (se
 own_sent me es h = from_rows me h (send me es h) (λ x. has-send me x es h) (λ n o. row-send me (Obj n) es h)
 
 pub own_minted : (me : ℕ) (es : List Amount) (h : Holdings) → SameOwn me h (mint_all es h)
-own_minted me es h = from_rows me h (mint_all es h) (λ x. has-mint_all x es h) (λ n o. row-mint_all me (Obj n) es h)
+own_minted me es h = from_rows me h (mint_all es h) (λ x. has-mint_all x es h) (λ n o. row-mint_all me n es h)
 
 pub own_gained : (me : ℕ) (f : ℕ → ℕ) (y : Thing) (r : Option Row) (h : Holdings) → SameOwn me h (set_held f y r h)
 own_gained me f y r h = from_rows me h (set_held f y r h) (λ x. has_set_held f x y r h) (λ n o. row_set_held_own me f y r (Obj n) h o)

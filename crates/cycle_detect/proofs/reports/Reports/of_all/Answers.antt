@@ -1,7 +1,7 @@
 use Rattle.std.proofs.Common.{◌∙◌, ◌++◌, ◌∷◌, [], Vec, Global, ap, sym}
 use Rattle.std.specs.Option.{option_copied, option_map}
 use Rattle.orca_names.specs.declared.kept_report.KeptReport.{KeptReport}
-use Rattle.cycle_detect.specs.Kept.{handed_of, handed_out}
+use Rattle.letter_kinds.specs.Detector.{handed_of, handed_out}
 use Rattle.cycle_detect.proofs.KeptLemmas.{mapped_more, mapped_none}
 use Rattle.cycle_detect.proofs.reports.Reports.of_all.Goals.{in-Some+in_ok-handed_out+in_ok-push, in_default}
 use Rattle.cycle_detect.proofs.reports.Reports.of_all.Goals as goal

@@ -1,5 +1,5 @@
 use Rattle.std.proofs.Common.{◌≡◌, take}
-use Rattle.cycle_detect.specs.Kept.{reports_of}
+use Rattle.letter_kinds.specs.Detector.{reports_of}
 use Rattle.cycle_detect.proofs.reports.Reports.of_all.Given as goal
 
 abbrev pub invariant-loop-actor : goal.invariant-loop-actor

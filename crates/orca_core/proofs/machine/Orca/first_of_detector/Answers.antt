@@ -3,7 +3,8 @@ use Rattle.std.proofs.lemmas.List.{nil_from_length}
 use Rattle.event_rule.specs.Runs.{IsFirst, IsQuiet}
 use Rattle.event_rule.specs.declared.event.Event.TheVariants.{Reap}
 use Rattle.actor_table.specs.Slots.{away_of}
-use Rattle.orca_core.specs.Firsts.{is_of_detector, next_of_kind}
+use Rattle.orca_core.specs.Firsts.{next_of_kind}
+use Rattle.event_rule.specs.Events.{is_of_detector}
 use Rattle.orca_core.specs.Machine.{Machine, options_of}
 use Rattle.orca_core.specs.Parts.{state_of}
 use Rattle.orca_core.proofs.Firsts.{first_of_tokens}

@@ -2,7 +2,8 @@ use Rattle.std.proofs.Common.{◌≡◌, ◌≢◌, ◌==◌, ◌||◌, false, [
 use Rattle.std.proofs.lemmas.Bool.Decides.{nat_tests}
 use Rattle.event_rule.specs.Runs.{IsFirst, IsQuiet, Machine}
 use Rattle.machine_rules.specs.State.{State}
-use Rattle.orca_core.specs.Firsts.{HasFirst, is_free, is_of_detector, next_of_kind}
+use Rattle.orca_core.specs.Firsts.{HasFirst, is_free, next_of_kind}
+use Rattle.event_rule.specs.Events.{is_of_detector}
 use Rattle.work_board.specs.declared.answers.Look.TheVariants.{Actor, Detector, Others, Rest}
 use Rattle.hall_rules.specs.Claims.{is_claimed}
 use Rattle.seat_hall.specs.Answers.{Tells}

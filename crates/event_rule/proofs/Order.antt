@@ -1,16 +1,16 @@
 -- The one-worker order by round, number and turn, and whose events are in which round.
-use Rattle.std.proofs.Common.{◌≡◌, ◌≢◌, ◌≤◌, ◌<◌, ◌==◌, ◌+◌, ◌*◌, ℕ, true, refl, sym, ap, subst, ◌∙◌, arith, ⊎_elim, eqb-true}
+use Rattle.std.proofs.Common.{◌≡◌, ◌≢◌, ◌≤◌, ◌<◌, ◌==◌, ◌+◌, ◌*◌, ℕ, Bool, true, false, Some, None, refl, sym, ap, subst, ◌∙◌, arith, ⊎_elim, eqb-true}
+use Rattle.std.specs.Prelude.{if◌then◌else◌, MatchOption}
 use Rattle.std.specs.Ordering.{nat_cmp, ordering_then}
 use Rattle.std.specs.Cmp.{nat_cmp_is}
 use Rattle.std.specs.declared.cmp.Ordering.{Ordering}
 use Rattle.std.specs.declared.cmp.Ordering.TheVariants.{Less, Equal, Greater}
 use Rattle.std.proofs.lemmas.Bool.{cases_lt}
 use Rattle.std.proofs.lemmas.Bool.Decides.{nat_tests}
-use Rattle.event_rule.specs.Events.{actor_or_token, round_of, turn_in_round}
+use Rattle.event_rule.specs.Events.{actor_or_token, first_of, is_of, is_of_detector, round_of, turn_in_round}
 use Rattle.event_rule.specs.declared.event.Event.{Event}
 use Rattle.event_rule.specs.declared.event.Event.TheVariants.{Take, Go, Collect, Leave, Block, Hear, Scan, Reap}
 use Rattle.event_rule.proofs.Ordered.{Upto}
-use Rattle.orca_core.specs.Firsts.{is_of, is_of_detector}
 
 -- ---- the order
 
@@ -131,19 +131,62 @@ own_upto a e f mine its upto =
     let same : actor_or_token e ≡ actor_or_token f = number_of a e mine ∙ sym (number_of a f its) in
     upto_by e f (omega arith) (λ r. omega arith) (λ r n. omega arith)
 
+-- a test that fails does not hold
+pub off : {A : Type 0} (b : Bool) → b ≡ false → b ≡ true → A
+off b is_off is_on = absurd (let z = sym is_off ∙ is_on in cc)
+
+module _ (passes : Event → Bool) (a : ℕ) where
+  -- it is an event of this actor that passes, and comes before the others that pass
+  abbrev pub IsFirstOf : Event → Type 0
+  IsFirstOf e = (is_of a e ≡ true) × (passes e ≡ true)
+      × ((f : Event) → is_of a f ≡ true → passes f ≡ true → Upto e f)
+
+  -- none of its events passes
+  abbrev pub NonePasses : Type 0
+  NonePasses = (f : Event) → is_of a f ≡ true → passes f ≡ true → ⊥
+
+  -- another that passes does not stand before this one
+  abbrev StandsFrom : Event → Event → Type 0
+  StandsFrom e f = passes f ≡ true → stand e ≤ stand f
+
+  first : (e : Event) → is_of a e ≡ true → passes e ≡ true → ((f : Event) → is_of a f ≡ true → StandsFrom e f) → IsFirstOf e
+  first e mine on least = (mine, on, λ f its its_on. own_upto a e f mine its (least f its its_on))
+
+  -- the first of an actor's events that pass comes before the others that pass; none: none passes
+  pub first_is : MatchOption (first_of passes a) NonePasses IsFirstOf
+  first_is = by (passes (Go a)) (passes (Take a)) (passes (Collect a)) (passes (Leave a)) (passes (Block a)) refl refl refl refl refl
+    where
+      by : (go take collect leave block : Bool) → passes (Go a) ≡ go → passes (Take a) ≡ take → passes (Collect a) ≡ collect
+          → passes (Leave a) ≡ leave → passes (Block a) ≡ block
+          → MatchOption (if go then Some (Go a) else (if take then Some (Take a) else (if collect then Some (Collect a)
+          else (if leave then Some (Leave a) else (if block then Some (Block a) else None))))) NonePasses IsFirstOf
+      by true take collect leave block g t c l b = first (Go a) (itself a) g (own (StandsFrom (Go a)) a
+          (λ on. omega arith) (λ on. omega arith) (λ on. omega arith) (λ on. omega arith) (λ on. omega arith))
+      by false true collect leave block g t c l b = first (Take a) (itself a) t (own (StandsFrom (Take a)) a
+          (off (passes (Go a)) g)
+          (λ on. omega arith) (λ on. omega arith) (λ on. omega arith) (λ on. omega arith))
+      by false false true leave block g t c l b = first (Collect a) (itself a) c (own (StandsFrom (Collect a)) a
+          (off (passes (Go a)) g) (off (passes (Take a)) t)
+          (λ on. omega arith) (λ on. omega arith) (λ on. omega arith))
+      by false false false true block g t c l b = first (Leave a) (itself a) l (own (StandsFrom (Leave a)) a
+          (off (passes (Go a)) g) (off (passes (Take a)) t) (off (passes (Collect a)) c)
+          (λ on. omega arith) (λ on. omega arith))
+      by false false false false true g t c l b = first (Block a) (itself a) b (own (StandsFrom (Block a)) a
+          (off (passes (Go a)) g) (off (passes (Take a)) t) (off (passes (Collect a)) c) (off (passes (Leave a)) l)
+          (λ on. omega arith))
+      by false false false false false g t c l b = own (λ f. passes f ≡ true → ⊥) a
+          (off (passes (Go a)) g) (off (passes (Take a)) t) (off (passes (Collect a)) c) (off (passes (Leave a)) l)
+          (off (passes (Block a)) b)
+
 -- ---- the events of the detector
 
 -- what holds of the events of the detector holds of each of its events
 pub theirs : (P : Event → Type 0) → P Hear → P Scan → ((number : ℕ) → P (Reap number))
     → (f : Event) → is_of_detector f ≡ true → P f
-theirs P hear scan reap (Go a) is = cc
-theirs P hear scan reap (Take a) is = cc
-theirs P hear scan reap (Collect a) is = cc
-theirs P hear scan reap (Leave a) is = cc
-theirs P hear scan reap (Block a) is = cc
 theirs P hear scan reap Hear is = hear
 theirs P hear scan reap Scan is = scan
 theirs P hear scan reap (Reap number) is = reap number
+theirs P hear scan reap e is = absurd (let z : false ≡ true = is in cc)
 
 -- an event of the last rounds is the detector's
 pub of_rest : (f : Event) → 2 ≤ round_of f → is_of_detector f ≡ true
