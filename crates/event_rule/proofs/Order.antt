@@ -115,9 +115,7 @@ of_number (Take a) early = itself a
 of_number (Collect a) early = itself a
 of_number (Leave a) early = itself a
 of_number (Block a) early = itself a
-of_number Hear early = absurd (omega (arith, early))
-of_number Scan early = absurd (omega (arith, early))
-of_number (Reap number) early = absurd (omega (arith, early))
+of_number f early = absurd (omega (arith, early))
 
 -- where an event stands among those of its actor
 abbrev pub stand : Event → ℕ
@@ -190,11 +188,7 @@ theirs P hear scan reap e is = absurd (let z : false ≡ true = is in cc)
 
 -- an event of the last rounds is the detector's
 pub of_rest : (f : Event) → 2 ≤ round_of f → is_of_detector f ≡ true
-of_rest (Go a) late = absurd (omega (arith, late))
-of_rest (Take a) late = absurd (omega (arith, late))
-of_rest (Collect a) late = absurd (omega (arith, late))
-of_rest (Leave a) late = absurd (omega (arith, late))
-of_rest (Block a) late = absurd (omega (arith, late))
 of_rest Hear late = refl
 of_rest Scan late = refl
 of_rest (Reap number) late = refl
+of_rest f late = absurd (omega (arith, late))

@@ -55,13 +55,7 @@ event_at (suc (suc (suc (suc n)))) a turn = Reap a
 
 event_back : (e : Event) → event_at (round_of e) (actor_or_token e) (turn_in_round e) ≡ e
 event_back (Take a) = refl
-event_back (Go a) = refl
-event_back (Collect a) = refl
-event_back (Leave a) = refl
-event_back (Block a) = refl
-event_back Hear = refl
-event_back Scan = refl
-event_back (Reap token) = refl
+event_back e = refl
 
 both_equal : (o p : Ordering) → ordering_then o p ≡ Equal → (o ≡ Equal) × (p ≡ Equal)
 both_equal Less p e = cc

@@ -1,7 +1,7 @@
 -- What a board's answers say of the run, and what a task asks of its worker.
 use Rattle.std.specs.Prelude.{ℕ, Bool, true, false, Option, Some, None, Result, Ok, Err}
 use Rattle.event_rule.specs.declared.event.Event.{Event}
-use Rattle.event_rule.specs.declared.event.Event.TheVariants.{Take, Go, Collect, Leave, Block, Hear, Scan, Reap}
+use Rattle.event_rule.specs.declared.event.Event.TheVariants.{Go, Collect}
 use Rattle.work_board.specs.declared.answers.Refuse.{Refuse}
 use Rattle.work_board.specs.declared.answers.Refuse.TheVariants as why
 use Rattle.work_board.specs.declared.answers.Look.{Look}
@@ -30,24 +30,14 @@ abbrev pub is_spoiling : {A : Type 0} → Result A Refuse → Bool
 is_spoiling (Ok done) = false
 is_spoiling (Err refuse) = spoils refuse
 
--- the event is evaluated before it is entered: a turn and a collection are
+-- the event is evaluated before it is entered: a turn and a collection alone are
 abbrev pub is_evaluated : Event → Bool
-is_evaluated (Take a) = false
 is_evaluated (Go a) = true
 is_evaluated (Collect a) = true
-is_evaluated (Leave a) = false
-is_evaluated (Block a) = false
-is_evaluated Hear = false
-is_evaluated Scan = false
-is_evaluated (Reap token) = false
+is_evaluated _ = false
 
--- the actor whose segment an event evaluates, if it does, with the length of the book at its claim
+-- the actor whose segment an event evaluates, with the length of the book at its claim: a turn alone
+-- evaluates one
 abbrev pub segment : Event → ℕ → Option (ℕ × ℕ)
-segment (Take a) at = None
 segment (Go a) at = Some (a, at)
-segment (Collect a) at = None
-segment (Leave a) at = None
-segment (Block a) at = None
-segment Hear at = None
-segment Scan at = None
-segment (Reap token) at = None
+segment _ at = None
