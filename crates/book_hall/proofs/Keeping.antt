@@ -35,14 +35,8 @@ home_for m home e = by (actor_of e)
 
 -- so none is reaped whose cell is away
 pub reaps_at_home : (m : Machine) → NoneIsAway m → (e : Event) → ReapsNoneAway e m
-reaps_at_home m home (Take a) = tt
-reaps_at_home m home (Go a) = tt
-reaps_at_home m home (Collect a) = tt
-reaps_at_home m home (Leave a) = tt
-reaps_at_home m home (Block a) = tt
-reaps_at_home m home Hear = tt
-reaps_at_home m home Scan = tt
 reaps_at_home m home (Reap number) = λ t a is member. home a
+reaps_at_home m home e = tt
 
 module _ (program : Program) (budget : ℕ) where
   kept_by_run : (m : Machine) (book : BookValue) → IsRun program (options_of book.weight Deep) book.entries m.state

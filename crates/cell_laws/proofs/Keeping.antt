@@ -45,19 +45,11 @@ turn_made trace s t a c f program options made = record {
 }
 
 grows : (trace : Trace) (s : State) {e : Event} {t : State} → IsStep trace s e t → Grows 1 s t
-grows trace s (rule.takes a c l mail at is) = none_made s _ refl refl refl
 grows trace s (rule.ends a c mail f stops) = turn_made trace s _ a c f refl refl refl
 grows trace s (rule.prints a c mail f v stops) = turn_made trace s _ a c f refl refl refl
 grows trace s (rule.makes a c mail f kind register stops room) = turn_made trace s _ a c f refl refl refl
 grows trace s (rule.posts a c mail f to behaviour args stops none) = turn_made trace s _ a c f refl refl refl
-grows trace s (rule.mints a c mail f to behaviour args e lacked stops is) = none_made s _ refl refl refl
-grows trace s (rule.gets a c mail f x going need) = none_made s _ refl refl refl
-grows trace s (rule.collects a c mail at may) = none_made s _ refl refl refl
-grows trace s (rule.leaves a c mail at may) = none_made s _ refl refl refl
-grows trace s (rule.blocks a c mail at may) = none_made s _ refl refl refl
-grows trace s (rule.hears note later is) = none_made s _ refl refl refl
-grows trace s (rule.scans news) = none_made s _ refl refl refl
-grows trace s (rule.reaps number token is) = none_made s _ refl refl refl
+grows trace s step = none_made s _ refl refl refl
 
 grows_on : (n : ℕ) (s t u : State) → Grows 1 s t → Grows n t u → Grows (suc n) s u
 grows_on n s t u one more = record {

@@ -74,12 +74,7 @@ taking s a enabled = of_actor (slice_get s.actors a) refl
 enabled_can_do : (s : PlainState) (e : Event) → IsEnabled plain_next s e → CanDo s e
 enabled_can_do s (Go a) enabled = going s a enabled
 enabled_can_do s (Take a) enabled = taking s a enabled
-enabled_can_do s (Collect a) enabled = absurd (enabled refl)
-enabled_can_do s (Leave a) enabled = absurd (enabled refl)
-enabled_can_do s (Block a) enabled = absurd (enabled refl)
-enabled_can_do s Hear enabled = absurd (enabled refl)
-enabled_can_do s Scan enabled = absurd (enabled refl)
-enabled_can_do s (Reap t) enabled = absurd (enabled refl)
+enabled_can_do s e enabled = absurd (enabled refl)
 
 -- ---- and what an actor can do is enabled
 

@@ -100,49 +100,20 @@ module _ (reading : Option Order) (order : Order) (source sink : Sides) (book : 
   read_stops : (stop : Status) → IsReadStop stop order.job source → Refuses stop sink book → Answers reading source sink book stop
   read_stops status.ReadFault h refuses = Answers.read_fault order words h.0 h.1 h.2 refuses
   read_stops status.NoMemory h refuses = untold h refuses
-  read_stops status.Quiet h refuses = absurd h
-  read_stops status.BadWords h refuses = absurd h
-  read_stops status.Budget h refuses = absurd h
-  read_stops (status.ActorsFull a) h refuses = absurd h
-  read_stops status.WriteFault h refuses = absurd h
-  read_stops status.Audited h refuses = absurd h
-  read_stops (status.NotARun p c) h refuses = absurd h
-  read_stops (status.BadText l k) h refuses = absurd h
-  read_stops (status.BadProgram k b s r) h refuses = absurd h
-  read_stops status.TooLong h refuses = absurd h
-  read_stops (status.BadBook l k) h refuses = absurd h
+  read_stops stop h refuses = absurd h
 
   module _ (input : List ℕ) (read : IsInput order.job source input) where
     text_stops : (stop : Status) (text : List ℕ) → HasText order.job input text → IsTextStop stop text → Refuses stop sink book → Answers reading source sink book stop
     text_stops (status.BadText l k) text has h refuses = Answers.bad_text order words input read text has l k h refuses
     text_stops (status.BadProgram k b s r) text has h refuses = Answers.bad_program order words input read text has h.0 h.1 k b s r h.2 refuses
     text_stops status.NoMemory text has h refuses = untold (input_reads order.job source input read) refuses
-    text_stops status.Quiet text has h refuses = absurd h
-    text_stops status.BadWords text has h refuses = absurd h
-    text_stops status.Budget text has h refuses = absurd h
-    text_stops (status.ActorsFull a) text has h refuses = absurd h
-    text_stops status.WriteFault text has h refuses = absurd h
-    text_stops status.Audited text has h refuses = absurd h
-    text_stops (status.NotARun p c) text has h refuses = absurd h
-    text_stops status.TooLong text has h refuses = absurd h
-    text_stops status.ReadFault text has h refuses = absurd h
-    text_stops (status.BadBook l k) text has h refuses = absurd h
+    text_stops stop text has h refuses = absurd h
 
     book_stops : (stop : Status) (bytes : List ℕ) (program : Program) → BeginsAudit reading source order program bytes → IsBookStop stop bytes → Refuses stop sink book
         → Answers reading source sink book stop
     book_stops (status.BadBook l k) bytes program begins h refuses = Answers.bad_book order program bytes begins l k h refuses
     book_stops status.NoMemory bytes program begins h refuses = untold (input_reads order.job source input read) refuses
-    book_stops status.Quiet bytes program begins h refuses = absurd h
-    book_stops status.BadWords bytes program begins h refuses = absurd h
-    book_stops status.Budget bytes program begins h refuses = absurd h
-    book_stops (status.ActorsFull a) bytes program begins h refuses = absurd h
-    book_stops status.WriteFault bytes program begins h refuses = absurd h
-    book_stops status.Audited bytes program begins h refuses = absurd h
-    book_stops (status.NotARun p c) bytes program begins h refuses = absurd h
-    book_stops (status.BadText l k) bytes program begins h refuses = absurd h
-    book_stops (status.BadProgram k b s r) bytes program begins h refuses = absurd h
-    book_stops status.TooLong bytes program begins h refuses = absurd h
-    book_stops status.ReadFault bytes program begins h refuses = absurd h
+    book_stops stop bytes program begins h refuses = absurd h
 
     input_stops : (stop : Status) → InputStops order.job input stop → Refuses stop sink book → Answers reading source sink book stop
     input_stops stop (InputStops.long is_long e) refuses =
@@ -158,17 +129,7 @@ module _ (reading : Option Order) (order : Order) (source sink : Sides) (book : 
   read_stop_reads : (stop : Status) → IsReadStop stop order.job source → ReadsFor order.job source
   read_stop_reads status.ReadFault h = taken_reads order.job source h.0 h.1
   read_stop_reads status.NoMemory h = h
-  read_stop_reads status.Quiet h = absurd h
-  read_stop_reads status.BadWords h = absurd h
-  read_stop_reads status.Budget h = absurd h
-  read_stop_reads (status.ActorsFull a) h = absurd h
-  read_stop_reads status.WriteFault h = absurd h
-  read_stop_reads status.Audited h = absurd h
-  read_stop_reads (status.NotARun p c) h = absurd h
-  read_stop_reads (status.BadText l k) h = absurd h
-  read_stop_reads (status.BadProgram k b s r) h = absurd h
-  read_stop_reads status.TooLong h = absurd h
-  read_stop_reads (status.BadBook l k) h = absurd h
+  read_stop_reads stop h = absurd h
 
   stop_reads : (stop : Status) → IsStop stop order.job source → ReadsFor order.job source
   stop_reads stop (inl h) = read_stop_reads stop h
@@ -224,16 +185,7 @@ module _ (reading : Option Order) (source sink : Sides) (book : BookValue) (orde
   whole status.Quiet run text report written = Answers.quiet order program begins run text report written
   whole status.Budget run text report written = Answers.budget order program begins run text report written
   whole (status.ActorsFull a) run text report written = Answers.actors_full order program begins run a text report written
-  whole status.BadWords run text report written = absurd report.ends
-  whole (status.BadText l k) run text report written = absurd report.ends
-  whole (status.BadProgram k b s r) run text report written = absurd report.ends
-  whole status.ReadFault run text report written = absurd report.ends
-  whole status.WriteFault run text report written = absurd report.ends
-  whole status.NoMemory run text report written = absurd report.ends
-  whole status.TooLong run text report written = absurd report.ends
-  whole status.Audited run text report written = absurd report.ends
-  whole (status.BadBook l k) run text report written = absurd report.ends
-  whole (status.NotARun p c) run text report written = absurd report.ends
+  whole end run text report written = absurd report.ends
 
   pub run_answers : (answer : Status) → RunAnswers order program sink book answer → Answers reading source sink book answer
   run_answers answer (RunAnswers.ended run end text report written) = whole end run text report written

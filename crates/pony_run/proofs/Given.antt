@@ -70,16 +70,7 @@ pub ends_no_audit : (answer : Status) → IsEnd answer → IsOfAudit answer → 
 ends_no_audit status.Quiet end audits = audits
 ends_no_audit status.Budget end audits = audits
 ends_no_audit (status.ActorsFull a) end audits = audits
-ends_no_audit status.BadWords end audits = end
-ends_no_audit (status.BadText l k) end audits = end
-ends_no_audit (status.BadProgram k b s r) end audits = end
-ends_no_audit status.ReadFault end audits = end
-ends_no_audit status.WriteFault end audits = end
-ends_no_audit status.NoMemory end audits = end
-ends_no_audit status.TooLong end audits = end
-ends_no_audit status.Audited end audits = end
-ends_no_audit (status.BadBook l k) end audits = end
-ends_no_audit (status.NotARun p c) end audits = end
+ends_no_audit answer end audits = end
 
 -- an audit runs no program
 pub no_run : (job : Job) → RunsProgram job → job ≡ Audit → ⊥
