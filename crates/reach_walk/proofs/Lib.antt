@@ -17,6 +17,5 @@ pub mod Owners
 pub mod Placed
 pub mod Seeing
 pub mod Sets
-pub mod Settling
 pub mod Strictly
 pub mod Walking

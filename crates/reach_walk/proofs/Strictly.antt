@@ -1,11 +1,10 @@
 -- Things in order of which none stands twice.
-use Rattle.std.proofs.Common.{◌≡◌, ◌≢◌, ◌↔◌, suc, ◌+◌, inl, inr, Bool, false, List, [], ◌∷◌, get_or, Contains, OnOk, refl, sym, ap, subst, ◌∙◌, arith}
+use Rattle.std.proofs.Common.{◌≡◌, ◌↔◌, suc, ◌+◌, inl, inr, Bool, false, List, [], ◌∷◌, get_or, Contains, OnOk, subst, arith}
 use Rattle.std.specs.List.{IsDistinct}
 use Rattle.std.specs.Cmp.{eq_by_cmp_equiv}
 use Rattle.std.specs.List.Sorted.{IsPermutation, IsSorted, IsSortedBy, IsStrictlySortedBy}
-use Rattle.std.specs.Ordering.{is_lt, ordering_reverse}
-use Rattle.std.specs.declared.cmp.Ordering.{Ordering}
-use Rattle.std.specs.declared.cmp.Ordering.TheVariants.{Less, Equal, Greater}
+use Rattle.std.specs.Ordering.{is_lt}
+use Rattle.std.specs.declared.cmp.Ordering.TheVariants.{Less}
 use Rattle.std.proofs.lemmas.List.Elements.{All-from_recursion, All-contains}
 use Rattle.std.proofs.lemmas.List.Sorted.{Contains-permutation, IsPermutation-sym}
 use Rattle.std.proofs.lemmas.Map.Keys.{IsDistinct-head, IsDistinct-tail, IsDistinct-IsPermutation}
@@ -14,18 +13,10 @@ use Rattle.std.specs.declared.result.Result.{Result}
 use Rattle.std.specs.declared.result.Result.TheVariants.{Ok, Err}
 use Rattle.orca_names.specs.Names.{is_thing, thing_cmp}
 use Rattle.orca_names.specs.declared.names.Thing.{Thing}
-use Rattle.orca_names.proofs.ThingOrder.{thing_total, thing_exact, is_eq_true}
+use Rattle.orca_names.proofs.ThingOrder.{thing_total, is_eq_true}
 use Rattle.reach_walk.proofs.Elements.{Contains-head, Contains-cons_cases, none_in_nil}
 use Rattle.reach_walk.proofs.InOrder.{first_less, sorted_nil, sorted_cons}
-
--- neither behind the other nor the other
-pub less_of : (x y : Thing) → is_lt (thing_cmp y x) ≡ false → x ≢ y → thing_cmp x y ≡ Less
-less_of x y behind other = cases (thing_cmp x y) refl
-  where
-    cases : (o : Ordering) → thing_cmp x y ≡ o → o ≡ Less
-    cases Less e = refl
-    cases Equal e = absurd (other (thing_exact x y e))
-    cases Greater e = let flipped = thing_total.antisymm y x ∙ ap ordering_reverse e in let not_less = sym (ap is_lt flipped) ∙ behind in cc
+use Rattle.thing_list.proofs.InOrder.{less_of}
 
 sorted_later : (lt : Thing → Thing → Bool) (x : Thing) (xs : List Thing) → IsSortedBy lt (x ∷ xs) → IsSortedBy lt xs
 sorted_later lt x xs sorted = λ k d low high.

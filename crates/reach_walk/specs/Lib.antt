@@ -1,5 +1,4 @@
 pub mod Flat
-pub mod Listed
 pub mod MarkLaws
 pub mod Marks
 pub mod Met

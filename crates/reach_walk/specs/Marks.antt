@@ -1,13 +1,13 @@
 -- Marks and loads: what values reach through finitely many rows, as lists.
 use Rattle.std.specs.Prelude.{ℕ, zero, suc, ◌≡◌, Bool, false, List, [], ◌∷◌, ◌++◌, Option, Some, None, Contains, length, map, slice_index_or}
-use Rattle.std.specs.FinMap.Entries.{by_order}
 use Rattle.std.specs.List.{flat_map, list_any}
-use Rattle.orca_names.specs.Names.{is_thing, owner_of, thing_cmp}
+use Rattle.orca_names.specs.Names.{is_thing, owner_of}
 use Rattle.orca_names.specs.declared.names.ObjName.{ObjName}
 use Rattle.orca_names.specs.declared.names.Thing.{Thing}
 use Rattle.orca_names.specs.declared.names.Thing.TheVariants.{Actor}
 use Rattle.orca_names.specs.declared.names.Value.{Value}
 use Rattle.reach_walk.specs.Reach.{named_by, row_edges, thing_row}
+pub use Rattle.thing_list.specs.Putting.{put_in_order}
 
 -- every object that has a row is listed
 abbrev pub Covers : List ObjName → (ObjName → Option (List Value)) → Type 0
@@ -16,11 +16,6 @@ Covers all rows = (n : ObjName) (row : List Value) → rows n ≡ Some row → C
 -- things and their owners
 abbrev pub with_owners : List Thing → List Thing
 with_owners things = things ++ map (λ x. Actor (owner_of x)) things
-
--- a thing in its place among things in order, where it stands once
-abbrev pub put_in_order : Thing → List Thing → List Thing
-put_in_order x [] = x ∷ []
-put_in_order x (y ∷ ys) = by_order (thing_cmp x y) (x ∷ y ∷ ys) (y ∷ ys) (y ∷ put_in_order x ys)
 
 -- things in their order, each once
 abbrev pub in_order : List Thing → List Thing

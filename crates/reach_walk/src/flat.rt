@@ -11,50 +11,11 @@ ghost use Rattle.reach_walk.specs.Marks.{marks_of, with_owners};
 ghost use Rattle.reach_walk.specs.Reach.{named_by, row_edges};
 
 use crate::load::names_nothing_within;
-use crate::seen::is_among;
-use crate::thing_list::ThingList;
 use orca_names::{Args, NoMemory, ObjName, Rows, Thing, Value};
 use std::marker::Brand;
 use std::sync::ledger::{Blank, Ledger};
 use step_count::Steps;
-
-// Whether the thing comes behind all of these, which are in order.
-#[inline(always)]
-fn comes_last(things: &[Thing], thing: &Thing) -> bool
-    requires { IsStrictlySortedBy thing_cmp things.now }
-    ensures { IsTrue result → (x : any_thing) → Contains things.now x
-        → thing_cmp x thing.now ≡ Less }
-{
-    match things.last() {
-        Some(last) => last.cmp(thing).is_lt(),
-        None => true,
-    }
-}
-
-// Puts a thing in its place among things in order, where it does not come last.
-#[inline(never)]
-fn put_among(things: &mut ThingList, thing: Thing) -> Result<(), NoMemory>
-    requires { IsStrictlySortedBy thing_cmp things.old }
-    ensures { OnOk result (Puts (thing ∷ []) things.old things.new) }
-{
-    if is_among(things.as_slice(), &thing) {
-        return Ok(());
-    }
-    things.insert(thing)
-}
-
-// Puts a thing in its place among things in order. One that is there stays.
-#[inline(always)]
-fn put(things: &mut ThingList, thing: Thing) -> Result<(), NoMemory>
-    requires { IsStrictlySortedBy thing_cmp things.old }
-    ensures { OnOk result (Puts (thing ∷ []) things.old things.new) }
-{
-    if comes_last(things.as_slice(), &thing) {
-        things.push(thing)
-    } else {
-        put_among(things, thing)
-    }
-}
+use thing_list::{ThingList, put};
 
 // Whether the object leads nowhere. It is taken, which is a step, and the values of its row are
 // looked at.

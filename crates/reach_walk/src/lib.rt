@@ -15,7 +15,6 @@ mod places;
 mod reach;
 mod reading;
 mod seen;
-mod thing_list;
 mod walk_rows;
 
 pub use by_place::{load_by_place, load_by_place_within, mark_bits, mark_bits_within};

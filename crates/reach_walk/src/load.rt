@@ -6,7 +6,6 @@ ghost use Rattle.reach_walk.specs.Reach.{named_by, thing_row};
 
 use crate::reading::read_row;
 use crate::seen::Seen;
-use crate::thing_list::ThingList;
 use crate::walk_rows::{walk_freely, walk_rows};
 use orca_names::{Args, NoMemory, Row, RowReader, Thing, Value};
 use plain_list::Listed;
@@ -14,6 +13,7 @@ use std::alloc::Global;
 use std::marker::Brand;
 use std::sync::ledger::{Blank, Ledger};
 use step_count::Steps;
+use thing_list::ThingList;
 
 /// Whether no value names a thing. The values are looked at up to the first that names one, by a step
 /// for each.

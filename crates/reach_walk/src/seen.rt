@@ -7,10 +7,10 @@ ghost use Rattle.orca_names.specs.declared.names.Thing.{Thing as any_thing};
 ghost use Rattle.orca_names.specs.declared.names.Thing.TheVariants.{Actor as actor};
 ghost use Rattle.reach_walk.specs.Walk.{Adds, IsSeen};
 
-use crate::thing_list::{FEW, ThingList};
 use orca_names::{ActorName, NoMemory, Thing};
 use std::alloc::Global;
 use std::collections::BTreeSet;
+use thing_list::{FEW, ThingList, is_among};
 
 /// The things that a walk has met, in the order in which they came, each once.
 #[derive(Drop)]
@@ -20,19 +20,6 @@ pub(crate) struct Seen {
     pub(crate) noted: Option<BTreeSet<Thing>>,
     // The last owner that was seen: the next thing mostly has the same one.
     pub(crate) owner: Option<ActorName>,
-}
-
-/// Whether the thing is one of these.
-#[inline(always)]
-pub(crate) fn is_among(things: &[Thing], thing: &Thing) -> bool
-    ensures { IsTrue result ↔ Contains things.now thing.now }
-{
-    for other in things {
-        if *other == *thing {
-            return true;
-        }
-    }
-    false
 }
 
 // The things as a set.

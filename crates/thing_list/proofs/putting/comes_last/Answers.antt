@@ -1,7 +1,7 @@
 use Rattle.std.proofs.Common.{sym, ap, ◌∙◌}
 use Rattle.std.specs.Ordering.{is_lt}
-use Rattle.reach_walk.proofs.Flatly.{behind_all}
-use Rattle.reach_walk.proofs.flat.comes_last.Goals as goal
+use Rattle.thing_list.proofs.Puts.{behind_all}
+use Rattle.thing_list.proofs.putting.comes_last.Goals as goal
 
 pub returns-in-Some : goal.returns-in-Some
 returns-in-Some c = λ less.

@@ -1,5 +1,5 @@
 use Rattle.std.proofs.Common.{take, Contains}
-use Rattle.reach_walk.proofs.seen.is_among.Given as goal
+use Rattle.thing_list.proofs.putting.is_among.Given as goal
 
 abbrev pub invariant-loop-other : goal.invariant-loop-other
 invariant-loop-other l = Contains (take l.other-index l.things) l.thing → ⊥

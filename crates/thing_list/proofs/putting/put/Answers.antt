@@ -3,9 +3,9 @@ use Rattle.std.specs.declared.cmp.Ordering.TheVariants.{Less}
 use Rattle.std.proofs.lemmas.Result.{on_ok_weaker}
 use Rattle.orca_names.specs.Names.{thing_cmp}
 use Rattle.orca_names.specs.declared.names.Thing.{Thing}
-use Rattle.reach_walk.specs.Flat.{Puts}
-use Rattle.reach_walk.proofs.Flatly.{puts_last}
-use Rattle.reach_walk.proofs.flat.put.Goals as goal
+use Rattle.thing_list.specs.Putting.{Puts}
+use Rattle.thing_list.proofs.Puts.{puts_last}
+use Rattle.thing_list.proofs.putting.put.Goals as goal
 
 pub returns-then-comes_last : goal.returns-then-comes_last
 returns-then-comes_last c =

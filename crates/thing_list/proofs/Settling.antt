@@ -14,10 +14,9 @@ use Rattle.std.proofs.lemmas.Option.{slice_get_within, slice_get-get_or, get_or_
 use Rattle.orca_names.specs.Names.{thing_cmp}
 use Rattle.orca_names.specs.declared.names.Thing.{Thing}
 use Rattle.orca_names.proofs.ThingOrder.{thing_total}
-use Rattle.reach_walk.specs.Marks.{put_in_order}
-use Rattle.reach_walk.proofs.Elements.{Contains-head, Contains-later, Contains-cons_cases, none_in_nil}
-use Rattle.reach_walk.proofs.InOrder.{first_less}
-use Rattle.reach_walk.proofs.Strictly.{less_of}
+use Rattle.thing_list.specs.Putting.{put_in_order}
+use Rattle.thing_list.proofs.Elements.{Contains-head, Contains-later, Contains-cons_cases, none_in_nil}
+use Rattle.thing_list.proofs.InOrder.{first_less, less_of}
 
 pub less_from : (o : Ordering) → is_lt o ≡ true → o ≡ Less
 less_from Less e = refl

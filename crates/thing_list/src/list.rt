@@ -4,14 +4,14 @@ ghost use Rattle.std.specs.Prelude.{◌≡◌, ◌<◌, ◌++◌, ◌∷◌, [],
 ghost use Rattle.std.specs.List.Sorted.{IsPermutation, IsSorted, IsStrictlySortedBy};
 ghost use Rattle.orca_names.specs.Names.{thing_cmp};
 ghost use Rattle.orca_names.specs.declared.names.Thing.{Thing as any_thing};
-ghost use Rattle.reach_walk.specs.Marks.{put_in_order};
+ghost use Rattle.thing_list.specs.Putting.{put_in_order};
 
 use orca_names::{ActorName, NoMemory, Thing};
 use std::alloc::Global;
 use std::marker::Model;
 
-/// As many things stand in the list itself: most loads have no more.
-pub(crate) const FEW: usize = 8;
+/// So many things stand in the list itself: most loads have no more.
+pub const FEW: usize = 8;
 
 /// Things in the order in which they came, seen by contracts as that list. A short list takes no
 /// memory.
@@ -28,7 +28,7 @@ pub struct ThingList {
 impl Model for ThingList {
     ghost use Rattle.std.specs.Prelude.{List};
     ghost use Rattle.orca_names.specs.declared.names.Thing.{Thing as thing};
-    ghost use Rattle.reach_walk.specs.Listed.{listed_in, HasPlaces};
+    ghost use Rattle.thing_list.specs.Listed.{listed_in, HasPlaces};
 
     ghost Value = { List thing };
 
@@ -80,12 +80,12 @@ impl ThingList {
     }
 
     /// The allocator that longer lists take their memory from.
-    pub(crate) fn allocator(&self) -> Global {
+    pub fn allocator(&self) -> Global {
         *self.many.allocator()
     }
 
     /// How many there are.
-    pub(crate) fn len(&self) -> usize
+    pub fn len(&self) -> usize
         ensures { result ≡ length self.now }
     {
         if self.many.is_empty() {
@@ -108,7 +108,7 @@ impl ThingList {
     }
 
     /// The thing at a place, counted from 0.
-    pub(crate) fn at(&self, i: usize) -> Thing
+    pub fn at(&self, i: usize) -> Thing
         requires { i < length self.now }
         ensures { slice_get self.now i ≡ Some result }
     {
@@ -116,8 +116,11 @@ impl ThingList {
     }
 
     /// One thing more, at the end.
+    ///
+    /// # Errors
+    /// `NoMemory` where memory was refused; what is held then is left open.
     #[inline(always)]
-    pub(crate) fn push(&mut self, thing: Thing) -> Result<(), NoMemory>
+    pub fn push(&mut self, thing: Thing) -> Result<(), NoMemory>
         ensures { OnOk result (self.new ≡ self.old ++ thing ∷ []) }
     {
         if !self.many.is_empty() {
@@ -150,7 +153,7 @@ impl ThingList {
     }
 
     /// Drops all of them, and keeps what memory it took.
-    pub(crate) fn clear(&mut self)
+    pub fn clear(&mut self)
         ensures { self.new ≡ [] }
     {
         self.count = 0;
@@ -159,7 +162,10 @@ impl ThingList {
 
     /// Puts them in the order of things. It goes over them only a few times where they were put
     /// together from a few lists in order, and takes no memory while they are few.
-    pub(crate) fn sort(&mut self) -> Result<(), NoMemory>
+    ///
+    /// # Errors
+    /// `NoMemory` where memory was refused; what is held then is left open.
+    pub fn sort(&mut self) -> Result<(), NoMemory>
         ensures same { OnOk result (IsPermutation self.old self.new) }
         ensures sorted { OnOk result (IsSorted thing_cmp self.new) }
     {
@@ -173,7 +179,10 @@ impl ThingList {
     }
 
     /// The things as a `Vec`, in their order.
-    pub(crate) fn into_vec(self, alloc: Global) -> Result<Vec<Thing>, NoMemory>
+    ///
+    /// # Errors
+    /// `NoMemory` where memory was refused.
+    pub fn into_vec(self, alloc: Global) -> Result<Vec<Thing>, NoMemory>
         ensures { IfOk result (λ things. things.items ≡ self) }
     {
         if self.many.is_empty() {

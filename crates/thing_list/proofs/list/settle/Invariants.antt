@@ -1,6 +1,6 @@
 use Rattle.std.proofs.Common.{◌-◌, length, take}
-use Rattle.reach_walk.proofs.Settling.{Settles}
-use Rattle.reach_walk.proofs.thing_list.settle.Given as goal
+use Rattle.thing_list.proofs.Settling.{Settles}
+use Rattle.thing_list.proofs.list.settle.Given as goal
 
 abbrev pub invariant-loop-i : goal.invariant-loop-i
 invariant-loop-i l =

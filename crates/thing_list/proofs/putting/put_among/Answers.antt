@@ -1,9 +1,9 @@
 use Rattle.std.proofs.Common.{◌≡◌, ◌↔◌, ◌∷◌, [], true, Contains, sym, subst, ◌∙◌}
 use Rattle.std.proofs.lemmas.Bool.{true≢false}
 use Rattle.std.proofs.lemmas.Result.{on_ok_weaker}
-use Rattle.reach_walk.specs.Flat.{Puts}
-use Rattle.reach_walk.proofs.Flatly.{puts_inserted, puts_known}
-use Rattle.reach_walk.proofs.flat.put_among.Goals as goal
+use Rattle.thing_list.specs.Putting.{Puts}
+use Rattle.thing_list.proofs.Puts.{puts_inserted, puts_known}
+use Rattle.thing_list.proofs.putting.put_among.Goals as goal
 
 pub insert-requires-clause-fresh : goal.insert-requires-clause-fresh
 insert-requires-clause-fresh c = λ there.

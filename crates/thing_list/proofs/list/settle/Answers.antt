@@ -1,10 +1,10 @@
 use Rattle.std.proofs.Common.{◌≡◌, ◌-◌, Some, length, sym, ap, ◌∙◌, arith}
 use Rattle.std.specs.Prelude.{slice_get}
-use Rattle.reach_walk.proofs.Settling.{settles_begin, settles_down, settled_down, settled_down_first}
+use Rattle.thing_list.proofs.Settling.{settles_begin, settles_down, settled_down, settled_down_first}
 use Rattle.std.specs.Ordering.{is_lt}
 use Rattle.orca_names.specs.Names.{thing_cmp}
-use Rattle.reach_walk.proofs.thing_list.settle.Goals as goal
-use Rattle.reach_walk.proofs.thing_list.settle.Goals.{then-loop-i-test+else-is_lt, else-loop-i-test}
+use Rattle.thing_list.proofs.list.settle.Goals as goal
+use Rattle.thing_list.proofs.list.settle.Goals.{then-loop-i-test+else-is_lt, else-loop-i-test}
 
 pub loop-i-init : goal.loop-i-init
 loop-i-init c =

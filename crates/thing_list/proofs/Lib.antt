@@ -1,0 +1,4 @@
+pub mod Elements
+pub mod InOrder
+pub mod Puts
+pub mod Settling
