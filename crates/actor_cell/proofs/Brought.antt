@@ -11,7 +11,7 @@ use Rattle.orca_names.specs.declared.names.Value.{Value}
 use Rattle.orca_names.specs.declared.trace.Trace.{Trace}
 use Rattle.orca_names.specs.declared.trace.Trace.TheVariants.{Deep, Roots}
 use Rattle.reach_walk.specs.Marks.{load_of, marks_of}
-use Rattle.letter_kinds.specs.Holdings.{Holdings, Row, entry_row, row_of, with_made}
+use Rattle.letter_kinds.specs.Holdings.{Holdings, Row, entry_row, known_objects, object_name, row_of, with_made}
 use Rattle.known_rows.specs.Holdings.{holdings_of}
 use Rattle.known_rows.specs.Known.{row_known}
 use Rattle.known_rows.proofs.Rows.{row_known-row_of}
@@ -20,7 +20,7 @@ use Rattle.row_table.specs.Table.{Rows, as_held, bare_entry, uncounted}
 use Rattle.row_table.proofs.Mapped.{entries-mapped, get-mapped}
 use Rattle.root_trace.specs.Own.{roots_in}
 use Rattle.machine_rules.specs.Cell as rules
-use Rattle.machine_rules.specs.Cell.{known_objects, listed_objects, object_name, row_by, row_by_roots}
+use Rattle.machine_rules.specs.Cell.{listed_objects, row_by, row_by_roots}
 use Rattle.machine_rules.specs.Collect.{is_in_use, start_of_marks}
 use Rattle.machine_rules.specs.Go.{rows_from}
 use Rattle.actor_cell.specs.declared.cell.Cell.{Cell}

@@ -5,14 +5,13 @@ use Rattle.orca_names.specs.declared.names.Value.{Value}
 use Rattle.reach_walk.specs.Marks.{Covers, marks_of}
 use Rattle.reach_walk.proofs.MarkLaws.{marks-exact, marks-unique}
 use Rattle.letter_kinds.specs.Counting.{by_owner, given_back}
-use Rattle.letter_kinds.specs.Holdings.{Row, row_of}
+use Rattle.letter_kinds.specs.Holdings.{Row, known_objects, row_of}
 use Rattle.object_heap.specs.Heap.{Heap}
 use Rattle.foreign_table.specs.Table.{Table}
 use Rattle.known_rows.specs.Holdings.{holdings_of}
 use Rattle.known_rows.specs.Known.{names_known, row_known, row_known-within}
 use Rattle.known_rows.proofs.Rows.{row_known-row_of}
-use Rattle.machine_rules.specs.Cell.{known_objects}
-use Rattle.machine_rules.proofs.Finite.{known_objects-cover}
+use Rattle.letter_kinds.proofs.Known.{known_objects-cover}
 use Rattle.orca_names.specs.declared.names.Thing.{Thing}
 
 module _ (count : ℕ) (heap : Heap) (foreign : Table) where

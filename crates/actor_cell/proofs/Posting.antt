@@ -10,11 +10,10 @@ use Rattle.reach_walk.specs.Marks.{load_of, marks_of}
 use Rattle.reach_walk.specs.Reach.{thing_row}
 use Rattle.letter_kinds.specs.declared.letter.Letter.TheVariants.{App}
 use Rattle.letter_kinds.specs.Counting.{Amount, Loaded, is_lacking, lacking_of, to_mint}
-use Rattle.letter_kinds.specs.Holdings.{Holdings, Row, held_in, row_of, with_made}
+use Rattle.letter_kinds.specs.Holdings.{Holdings, Row, held_in, known_objects, row_of, with_made}
 use Rattle.object_heap.specs.Heap.{Heap}
 use Rattle.foreign_table.specs.Table.{Table}
 use Rattle.known_rows.specs.Holdings.{holdings_of}
-use Rattle.machine_rules.specs.Cell.{known_objects}
 use Rattle.machine_rules.specs.Go.{load_from}
 use Rattle.trace_send.specs.Lacking.{of_first_owner}
 use Rattle.actor_cell.specs.Moves.{Mint, Post}

@@ -7,12 +7,11 @@ use Rattle.orca_names.specs.declared.names.Thing.{Thing}
 use Rattle.orca_names.specs.declared.names.Thing.TheVariants.{Obj}
 use Rattle.orca_names.specs.declared.trace.Trace.{Trace}
 use Rattle.orca_names.specs.declared.trace.Trace.TheVariants.{Deep, Roots}
-use Rattle.letter_kinds.specs.Holdings.{Holdings, Row, row_of}
+use Rattle.letter_kinds.specs.Holdings.{Holdings, Row, known_objects, row_of}
 use Rattle.object_heap.specs.Heap.{Heap}
 use Rattle.foreign_table.specs.Table.{Table, count_on}
 use Rattle.row_table.specs.Table.{as_held}
-use Rattle.machine_rules.specs.Cell.{known_objects}
-use Rattle.machine_rules.proofs.Finite.{known_objects-cover}
+use Rattle.letter_kinds.proofs.Known.{known_objects-cover}
 use Rattle.actor_cell.specs.declared.cell.Cell.{Cell}
 
 -- the table in which the actor finds the rows of others' objects: they stand with what it holds, or

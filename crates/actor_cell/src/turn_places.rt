@@ -155,8 +155,7 @@ impl<'a> TurnPlaces<'a> {
 
 impl RowReader for TurnPlaces<'_> {
     ghost use Rattle.std.specs.Prelude.{⊤};
-    ghost use Rattle.machine_rules.specs.Cell.{known_objects};
-    ghost use Rattle.letter_kinds.specs.Holdings.{row_of, with_made};
+    ghost use Rattle.letter_kinds.specs.Holdings.{known_objects, row_of, with_made};
     ghost use Rattle.known_rows.specs.Holdings.{holdings_of};
     ghost use Rattle.actor_cell.specs.InTurn.{row_is_known};
 

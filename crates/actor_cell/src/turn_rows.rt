@@ -29,8 +29,7 @@ fn made_row<'a>(made: &'a [Row], me: ActorName, first: u64, n: &ObjName) -> Opti
 }
 
 impl Rows for TurnRows<'_> {
-    ghost use Rattle.machine_rules.specs.Cell.{known_objects};
-    ghost use Rattle.letter_kinds.specs.Holdings.{row_of, with_made};
+    ghost use Rattle.letter_kinds.specs.Holdings.{known_objects, row_of, with_made};
     ghost use Rattle.known_rows.specs.Holdings.{holdings_of};
     ghost use Rattle.actor_cell.specs.InTurn.{row_is_known};
 

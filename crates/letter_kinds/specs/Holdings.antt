@@ -1,7 +1,8 @@
 -- What an actor counts: how often it is held, its own objects, and what it holds of others
 -- (Orca, OOPSLA 2017).
-use Rattle.std.specs.Prelude.{ℕ, suc, ◌+◌, ◌==◌, Bool, true, if◌then◌else◌, Option, List, [], ◌∷◌, length, is_some, option_map, option_and_then}
+use Rattle.std.specs.Prelude.{ℕ, suc, ◌+◌, ◌==◌, Bool, true, if◌then◌else◌, Option, Some, None, List, [], ◌∷◌, ◌++◌, length, map, is_some, option_map, option_and_then}
 use Rattle.std.specs.Option.{option_map_or}
+use Rattle.std.specs.List.{filter_map}
 use Rattle.std.specs.FinMap as m
 use Rattle.std.specs.Ordering.{nat_cmp}
 use Rattle.orca_names.specs.Names.{thing_cmp}
@@ -64,6 +65,17 @@ unfoldable pub row_of : ℕ → Holdings → ObjName → Option Row
 row_of me h n =
     if n.owner == me then option_map (λ e. e.0) (m.get h.rows n.serial)
     else entry_row (m.get h.foreign (Obj n))
+
+-- the object that a thing is
+abbrev pub object_name : Thing → Option ObjName
+object_name (Actor a) = None
+object_name (Obj n) = Some n
+
+-- the objects of which an actor may have a row: its own, and those that it holds
+unfoldable pub known_objects : ℕ → Holdings → List ObjName
+known_objects me h =
+    map (λ e. record { owner = me; serial = e.0 }) (m.entries h.rows)
+    ++ filter_map (λ e. object_name e.0) (m.entries h.foreign)
 
 -- ---- new objects
 

@@ -16,9 +16,9 @@ use Rattle.orca_names.specs.declared.names.Value.{Value}
 use Rattle.orca_names.specs.declared.names.Value.TheVariants as values
 use Rattle.reach_walk.specs.Marks.{in_order, marks_of, with_owners}
 use Rattle.letter_kinds.specs.Counting.{Amount, Loaded}
-use Rattle.letter_kinds.specs.Holdings.{Row}
+use Rattle.letter_kinds.specs.Holdings.{Row, object_name}
 use Rattle.machine_examples.proofs.Ledgers.{Ledger, entries-in_order, held_in-told, held_told, in_key_order, insert-put, own_entry, retain-where, told}
-use Rattle.machine_rules.specs.Cell.{Cell, listed_objects, object_name, own_row_of, row_by_roots}
+use Rattle.machine_rules.specs.Cell.{Cell, listed_objects, own_row_of, row_by_roots}
 use Rattle.machine_rules.specs.Collect.{is_in_use, is_marked_by_roots, start_of_marks, without_unused}
 use Rattle.machine_rules.specs.Go.{lacks, needs, to_need}
 use Rattle.orca_names.specs.declared.trace.Trace.TheVariants.{Roots}

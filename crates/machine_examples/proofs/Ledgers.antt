@@ -13,10 +13,9 @@ use Rattle.orca_names.specs.Names.{owner_of, thing_cmp}
 use Rattle.orca_names.specs.declared.names.ObjName.{ObjName}
 use Rattle.orca_names.specs.declared.names.Thing.{Thing}
 use Rattle.orca_names.specs.declared.names.Thing.TheVariants.{Actor, Obj}
-use Rattle.letter_kinds.specs.Holdings.{Row, Holdings, row_count, entry_count, entry_row, held_in, row_of, add_rows, with_made}
+use Rattle.letter_kinds.specs.Holdings.{Row, Holdings, row_count, entry_count, entry_row, held_in, row_of, add_rows, with_made, known_objects, object_name}
 use Rattle.letter_kinds.specs.Counting.{Amount, Loaded, with_row_count, set_own, set_held, receive, send, raise_all, lower_all, lacking_of, mint_all, sweep, given_back}
 use Rattle.machine_rules.specs.Block.{actor_entry, held_actors}
-use Rattle.machine_rules.specs.Cell.{known_objects, object_name}
 
 -- ---- maps
 

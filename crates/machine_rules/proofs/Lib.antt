@@ -1,7 +1,6 @@
 pub mod Acting
 pub mod Choices
 pub mod Enabling
-pub mod Finite
 pub mod Firsts
 pub mod Guards
 pub mod Posting

@@ -1,10 +1,9 @@
 -- What an actor keeps in the machine that collects.
-use Rattle.std.specs.Prelude.{ℕ, false, Bool, List, ◌++◌, map, replicate, Option, Some, None, ◌==◌, if◌then◌else◌, option_map}
+use Rattle.std.specs.Prelude.{ℕ, false, Bool, List, ◌++◌, map, replicate, Option, None, ◌==◌, if◌then◌else◌, option_map}
 use Rattle.std.specs.List.{filter_map}
 use Rattle.std.specs.FinMap as m
 use Rattle.orca_names.specs.Names.{thing_cmp}
 use Rattle.orca_names.specs.declared.names.ObjName.{ObjName}
-use Rattle.orca_names.specs.declared.names.Thing.{Thing}
 use Rattle.orca_names.specs.declared.names.Thing.TheVariants as things
 use Rattle.orca_names.specs.declared.names.Value.TheVariants.{Null}
 use Rattle.orca_names.specs.declared.row.Fields.{Fields}
@@ -13,7 +12,7 @@ use Rattle.behaviour_code.specs.Find.{field_count}
 use Rattle.turn_rules.specs.declared.act.Frame.{Frame}
 use Rattle.orca_names.specs.declared.trace.Trace.{Trace}
 use Rattle.orca_names.specs.declared.trace.Trace.TheVariants.{Deep, Roots}
-use Rattle.letter_kinds.specs.Holdings.{Holdings, Row, nothing_held, row_of}
+use Rattle.letter_kinds.specs.Holdings.{Holdings, Row, nothing_held, object_name, row_of}
 
 pub record Cell : Type 0 where
   pub kind : ℕ
@@ -47,17 +46,6 @@ first_cell program = clean_cell program 0 0
 -- an actor that was just made; its maker holds it with the weight
 abbrev pub fresh_cell : ℕ → Program → ℕ → Cell
 fresh_cell weight program kind = clean_cell program kind weight
-
--- the object that a thing is
-abbrev pub object_name : Thing → Option ObjName
-object_name (things.Actor a) = None
-object_name (things.Obj n) = Some n
-
--- the objects of which an actor may have a row: its own, and those that it holds
-unfoldable pub known_objects : ℕ → Holdings → List ObjName
-known_objects me h =
-    map (λ e. record { owner = me; serial = e.0 }) (m.entries h.rows)
-    ++ filter_map (λ e. object_name e.0) (m.entries h.foreign)
 
 -- ---- root-only tracing
 

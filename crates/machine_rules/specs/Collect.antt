@@ -8,10 +8,10 @@ use Rattle.orca_names.specs.declared.names.Value.{Value}
 use Rattle.orca_names.specs.declared.names.Value.TheVariants as values
 use Rattle.reach_walk.specs.Marks.{marks_of}
 use Rattle.letter_kinds.specs.declared.letter.Letter.{Letter}
-use Rattle.letter_kinds.specs.Holdings.{row_of}
+use Rattle.letter_kinds.specs.Holdings.{known_objects, row_of}
 use Rattle.letter_kinds.specs.Counting.{by_owner, given_back, sweep}
 use Rattle.machine_rules.specs.Actors.{Actors, push_decs, seat}
-use Rattle.machine_rules.specs.Cell.{Cell, known_objects, listed_objects, own_row_of, row_by_roots}
+use Rattle.machine_rules.specs.Cell.{Cell, listed_objects, own_row_of, row_by_roots}
 use Rattle.orca_names.specs.declared.trace.Trace.{Trace}
 use Rattle.orca_names.specs.declared.trace.Trace.TheVariants.{Deep, Roots}
 use Rattle.event_rule.specs.Runs.{Step, Goes}

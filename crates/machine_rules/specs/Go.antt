@@ -15,10 +15,10 @@ use Rattle.reach_walk.specs.Marks.{in_order, load_of, load_roots, with_owners}
 use Rattle.reach_walk.specs.Reach.{named_by}
 use Rattle.letter_kinds.specs.declared.letter.Letter.{Letter}
 use Rattle.letter_kinds.specs.declared.letter.Letter.TheVariants.{App, Inc}
-use Rattle.letter_kinds.specs.Holdings.{Holdings, held_in, row_of, with_made}
+use Rattle.letter_kinds.specs.Holdings.{Holdings, held_in, known_objects, row_of, with_made}
 use Rattle.letter_kinds.specs.Counting.{Amount, Loaded, gain, lacking_of, mint_all, send, to_mint}
 use Rattle.machine_rules.specs.Actors.{Actors, push_letter, seat}
-use Rattle.machine_rules.specs.Cell.{Cell, fresh_cell, known_objects, listed_objects, row_by, row_by_roots}
+use Rattle.machine_rules.specs.Cell.{Cell, fresh_cell, listed_objects, row_by, row_by_roots}
 use Rattle.orca_names.specs.declared.trace.Trace.{Trace}
 use Rattle.orca_names.specs.declared.trace.Trace.TheVariants.{Deep, Roots}
 use Rattle.event_rule.specs.Runs.{Step, NotEnabled, IsFull, Goes}

@@ -17,13 +17,13 @@ use Rattle.turn_rules.specs.declared.act.Frame.{Frame}
 use Rattle.turn_rules.specs.Segment.{Stop, Turn, segment_of}
 use Rattle.letter_kinds.specs.declared.letter.Letter.{Letter}
 use Rattle.letter_kinds.specs.Counting.{Amount, Loaded, mint_all, mint_one, set_held}
-use Rattle.letter_kinds.specs.Holdings.{Holdings, Row, row_of, with_made}
+use Rattle.letter_kinds.specs.Holdings.{Holdings, Row, row_of, with_made, known_objects}
 use Rattle.letter_kinds.proofs.Minting.{row-mint_all}
 use Rattle.machine_rules.specs.Actors.{Actors, Seat, cell_at, cell_of, push_letter, seat, seat_at, with_letter_more}
-use Rattle.machine_rules.specs.Cell.{Cell, known_objects}
+use Rattle.machine_rules.specs.Cell.{Cell}
 use Rattle.machine_rules.specs.Go.{turn_of_cell}
-use Rattle.machine_rules.proofs.Finite.{known_objects-cover}
 use Rattle.machine_rules.proofs.Posting.{added_cell}
+use Rattle.letter_kinds.proofs.Known.{known_objects-cover}
 use Rattle.actor_cell.specs.declared.turning.Awaited.{Awaited}
 use Rattle.actor_cell.specs.declared.turning.Turned.{Turned}
 use Rattle.actor_cell.specs.Awaiting.{Awaits, AwaitsAt, awaited_by}

@@ -12,11 +12,11 @@ use Rattle.reach_walk.proofs.MarkLaws.{marks-reached, marks-sorted, reached-mark
 use Rattle.reach_walk.specs.Marks.{Covers, marks_of, load_of}
 use Rattle.reach_walk.specs.Reach.{thing_row}
 use Rattle.letter_kinds.specs.Counting.{Loaded}
-use Rattle.letter_kinds.specs.Holdings.{Row, Holdings, row_of}
+use Rattle.letter_kinds.specs.Holdings.{Row, Holdings, row_of, known_objects}
 use Rattle.letter_kinds.specs.Sums.{times_loaded}
-use Rattle.machine_rules.proofs.Finite.{known_objects-cover}
+use Rattle.letter_kinds.proofs.Known.{known_objects-cover}
 use Rattle.count_laws.proofs.knowledge.Turns.{along_edges, along_rows}
-use Rattle.machine_rules.specs.Cell.{Cell, known_objects}
+use Rattle.machine_rules.specs.Cell.{Cell}
 use Rattle.machine_rules.specs.Collect.{is_marked_deep}
 use Rattle.machine_rules.specs.Go.{load_from}
 use Rattle.orca_names.specs.declared.trace.Trace.TheVariants.{Deep}

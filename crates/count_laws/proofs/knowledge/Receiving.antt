@@ -21,7 +21,7 @@ use Rattle.letter_kinds.specs.Sums.{times_loaded}
 use Rattle.count_laws.proofs.knowledge.Paths.{along_row, reach_into}
 use Rattle.machine_rules.specs.Cell.{Cell}
 use Rattle.count_laws.specs.Known.{Names, ReachesThrough, row_at, IsKnown, InFrame, StartsWalks, in_fields, in_frame, in_table, IsClosedAt, RowsAreAt, RowsAreIn, IsLoadOf}
-pub use Rattle.machine_rules.proofs.Finite.{own_row}
+pub use Rattle.letter_kinds.proofs.Known.{own_row}
 
 -- ---- rows through changes of counts
 

@@ -14,10 +14,10 @@ use Rattle.reach_walk.specs.Marks.{Covers, load_of, load_roots}
 use Rattle.reach_walk.specs.Reach.{root, owned, thing_row}
 use Rattle.letter_kinds.proofs.Counts.{loaded-same, loaded_more}
 use Rattle.letter_kinds.specs.Counting.{Loaded}
-use Rattle.letter_kinds.specs.Holdings.{Row, has_own}
+use Rattle.letter_kinds.specs.Holdings.{Row, has_own, object_name}
 use Rattle.letter_kinds.specs.Sums.{times_loaded}
 use Rattle.letter_kinds.specs.declared.letter.Letter.{Letter}
-use Rattle.machine_rules.proofs.Finite.{first_option, later_option, own_found}
+use Rattle.letter_kinds.proofs.Known.{first_option, later_option, own_found}
 use Rattle.count_laws.proofs.balance.InHand.{Balanced}
 use Rattle.count_laws.proofs.knowledge.Loads.{load_exact}
 use Rattle.count_laws.proofs.knowledge.Paths.{along_row, reach_into}
@@ -27,7 +27,7 @@ use Rattle.count_laws.proofs.roots.Same.{has_own_row}
 use Rattle.count_laws.proofs.roots.Take.{owner_root, root_reached}
 use Rattle.count_laws.proofs.balance.Seats.{some_seat}
 use Rattle.machine_rules.specs.Actors.{Actors, seat, seat_at, Every}
-use Rattle.machine_rules.specs.Cell.{Cell, listed_objects, object_name, own_row_of, row_by_roots}
+use Rattle.machine_rules.specs.Cell.{Cell, listed_objects, own_row_of, row_by_roots}
 use Rattle.count_laws.specs.Known.{IsLoadOf, Names, ReachesThrough, RowsAreIn}
 use Rattle.count_laws.specs.KnownByRoots.{IsRootLetter, IsRootOf, IsRootsAt, WalkRoots, stands}
 

@@ -1,9 +1,8 @@
 use Rattle.std.proofs.Common.{◌≡◌, ◌∙◌, subst}
 use Rattle.std.specs.Prelude.{IfOk, IfSome}
 use Rattle.reach_walk.specs.Marks.{load_of}
-use Rattle.letter_kinds.specs.Holdings.{row_of, with_made}
+use Rattle.letter_kinds.specs.Holdings.{known_objects, row_of, with_made}
 use Rattle.known_rows.specs.Holdings.{holdings_of}
-use Rattle.machine_rules.specs.Cell.{known_objects}
 use Rattle.actor_cell.proofs.Posting.{load_same}
 use Rattle.actor_cell.proofs.cell.Cell.load_of_many.Goals as goal
 

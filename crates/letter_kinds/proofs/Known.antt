@@ -1,5 +1,5 @@
 -- Every object of which an actor has a row is among those that it knows.
-use Rattle.std.proofs.Common.{◌≡◌, ℕ, cond, true, false, Option, Some, None, List, [], ◌∷◌, map, Contains, refl, ap, sym, ◌∙◌, subst, ⊎_elim, eqb-true, eq-eqb, ne_eqb}
+use Rattle.std.proofs.Common.{◌≡◌, ℕ, suc, cond, true, false, Option, Some, None, List, [], ◌∷◌, map, Contains, refl, ap, sym, ◌∙◌, subst, ⊎_elim, eqb-true, eq-eqb, ne_eqb, arith}
 use Rattle.std.specs.Prelude.{option_map}
 use Rattle.std.specs.List.{cons_option, filter_map}
 use Rattle.std.proofs.lemmas.Bool.{cases_eq}
@@ -12,10 +12,7 @@ use Rattle.orca_names.specs.Names.{is_thing, thing_cmp}
 use Rattle.orca_names.specs.declared.names.ObjName.{ObjName}
 use Rattle.orca_names.specs.declared.names.Thing.{Thing}
 use Rattle.orca_names.specs.declared.names.Thing.TheVariants.{Obj}
-use Rattle.reach_walk.proofs.Elements.{Contains-head, Contains-later}
-use Rattle.reach_walk.specs.Marks.{Covers}
-use Rattle.letter_kinds.specs.Holdings.{Row, Holdings, row_of, entry_row}
-use Rattle.machine_rules.specs.Cell.{known_objects, object_name}
+use Rattle.letter_kinds.specs.Holdings.{Row, Holdings, known_objects, object_name, row_of, entry_row}
 
 -- the row of an own object
 abbrev pub own_row : Option (Row × ℕ) → Option Row
@@ -30,17 +27,17 @@ pub own_found : (me k : ℕ) (es : List (ℕ × (Row × ℕ))) (r : Row) → own
 own_found me k [] r h = cc
 own_found me k (e ∷ es) r h = elim (eq_by_cmp nat_cmp k e.0) as
     (λ t. eq_by_cmp nat_cmp k e.0 ≡ t → own_row (cond t (Some e.1) (m.find nat_cmp k es)) ≡ Some r → Contains (own_names me (e ∷ es)) (record { owner = me; serial = k })) [
-      | true ↦ λ t h. subst (λ i. Contains (own_names me (e ∷ es)) (record { owner = me; serial = i })) (sym (eqb-true k e.0 (sym (unsigned_tied k e.0) ∙ t))) (Contains-head _ _)
-      | false ↦ λ t h. Contains-later _ _ _ (own_found me k es r h)
+      | true ↦ λ t h. subst (λ i. Contains (own_names me (e ∷ es)) (record { owner = me; serial = i })) (sym (eqb-true k e.0 (sym (unsigned_tied k e.0) ∙ t))) (0, omega arith, refl)
+      | false ↦ λ t h. let c = own_found me k es r h in (suc c.0, omega (arith, c.1), c.2)
     ] refl h
 
 pub first_option : (o : Option ObjName) (n : ObjName) (ns : List ObjName) → o ≡ Some n → Contains (cons_option o ns) n
 first_option None n ns e = cc
-first_option (Some q) n ns e = let same : q ≡ n = cc in subst (λ q. Contains (q ∷ ns) n) (sym same) (Contains-head n ns)
+first_option (Some q) n ns e = let same : q ≡ n = cc in subst (λ q. Contains (q ∷ ns) n) (sym same) (0, omega arith, refl)
 
 pub later_option : (o : Option ObjName) (n : ObjName) (ns : List ObjName) → Contains ns n → Contains (cons_option o ns) n
 later_option None n ns c = c
-later_option (Some q) n ns c = Contains-later q ns n c
+later_option (Some q) n ns c = (suc c.0, omega (arith, c.1), c.2)
 
 entry_found : (n : ObjName) (es : List (Thing × (ℕ × Option Row))) (r : Row) → entry_row (m.find thing_cmp (Obj n) es) ≡ Some r
     → Contains (filter_map (λ e. object_name e.0) es) n
@@ -51,7 +48,7 @@ entry_found n (e ∷ es) r h = elim (is_thing (Obj n) e.0) as
       | false ↦ λ t h. later_option (object_name e.0) n _ (entry_found n es r h)
     ] refl h
 
-pub known_objects-cover : (me : ℕ) (c : Holdings) → Covers (known_objects me c) (row_of me c)
+pub known_objects-cover : (me : ℕ) (c : Holdings) → (n : ObjName) (row : Row) → row_of me c n ≡ Some row → Contains (known_objects me c) n
 unfolding known_objects row_of
 known_objects-cover me c n r h = ⊎_elim
     (λ same. Contains-append_left _ _ n (subst (Contains (own_names me (m.entries c.rows))) (name same)
