@@ -1,6 +1,6 @@
 // Room for a frame.
 
-ghost use Rattle.std.specs.Prelude.{◌≡◌, ◌-◌, ◌++◌, false, is_some, length, option_map, replicate, None, Some};
+ghost use Rattle.std.specs.Prelude.{◌≡◌, ◌-◌, ◌++◌, ◌↔◌, false, is_some, length, option_map, replicate, IsTrue, None, Some};
 ghost use Rattle.std.specs.Option.{option_copied};
 ghost use Rattle.orca_names.specs.declared.names.Value.TheVariants.{Null};
 ghost use Rattle.turn_rules.specs.Frames.{with_value};
@@ -40,6 +40,30 @@ impl FrameRoom {
                 place: 0,
                 registers: RegisterFile::nulls(),
             },
+        }
+    }
+
+    /// Room in which the same frame runs, if one does.
+    pub fn copy(&self) -> FrameRoom
+        ensures { result ≡ self.now }
+    {
+        let mut copied = FrameRoom::new();
+        if let Some(frame) = self.get() {
+            copied.keep(frame.kind, frame.behaviour, frame.place, &frame.registers);
+        }
+        copied
+    }
+
+    /// Whether the same frame runs, or none in both.
+    pub fn same(&self, other: &FrameRoom) -> bool
+        ensures { IsTrue result ↔ (self.now ≡ other.now) }
+    {
+        match self.get() {
+            Some(frame) => match other.get() {
+                Some(its) => frame == its,
+                None => false,
+            },
+            None => !other.is_some(),
         }
     }
 
