@@ -19,11 +19,8 @@ get_last [] e = refl
 get_last (x ∷ xs) e = get_last xs e
 
 stays_one : (l : Logged) (i : Item) (n : ℕ) (x : Event) → slice_get l.book n ≡ Some x → slice_get (after l i).book n ≡ Some x
-stays_one l (Claimed pass actor) n x there = there
 stays_one l (Entered pass event) n x there = get_snoc l.book event x n there
-stays_one l (Ended pass actor) n x there = there
-stays_one l (Stopped pass) n x there = there
-stays_one l (Made pass) n x there = there
+stays_one l i n x there = there
 
 pub entry_stays : (l : Logged) (log : List Item) (n : ℕ) (x : Event) → slice_get l.book n ≡ Some x
     → slice_get (hall_from l log).book n ≡ Some x
@@ -31,11 +28,8 @@ entry_stays l [] n x there = there
 entry_stays l (i ∷ log) n x there = entry_stays (after l i) log n x (stays_one l i n x there)
 
 longer_one : (l : Logged) (i : Item) → length l.book ≤ length (after l i).book
-longer_one l (Claimed pass actor) = omega arith
 longer_one l (Entered pass event) = let n = length-append l.book (event ∷ []) in omega arith
-longer_one l (Ended pass actor) = omega arith
-longer_one l (Stopped pass) = omega arith
-longer_one l (Made pass) = omega arith
+longer_one l i = omega arith
 
 longer : (l : Logged) (log : List Item) → length l.book ≤ length (hall_from l log).book
 longer l [] = omega arith

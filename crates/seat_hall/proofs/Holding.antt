@@ -153,7 +153,4 @@ keeps_all pass a l (i ∷ log) heavy run legal none mine busy =
   where
     heavy_one : (l : Logged) (i : Item) → 0 < l.weight → 0 < (after l i).weight
     heavy_one l (Claimed q b) heavy = heavy
-    heavy_one l (Entered q e) heavy = heavy
-    heavy_one l (Ended q b) heavy = heavy
-    heavy_one l (Stopped q) heavy = heavy
-    heavy_one l (Made q) heavy = heavy
+    heavy_one l i heavy = heavy

@@ -82,14 +82,8 @@ module _ (program : Program) (budget : ℕ) (m : Machine) (book : BookValue) (cl
       absurd (let clash : true ≡ false = sym member ∙ none in cc)
 
   pub reaps_none_away : (e : Event) → ReapsNoneAway e m
-  reaps_none_away (Take a) = tt
-  reaps_none_away (Go a) = tt
-  reaps_none_away (Collect a) = tt
-  reaps_none_away (Leave a) = tt
-  reaps_none_away (Block a) = tt
-  reaps_none_away Hear = tt
-  reaps_none_away Scan = tt
   reaps_none_away (Reap number) = λ t a acked member. spared number t a acked member (claim_in claims a) refl
+  reaps_none_away e = tt
 
   -- ---- the run
 

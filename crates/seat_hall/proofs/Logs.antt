@@ -40,10 +40,7 @@ module _ (program : Program) (weight : ℕ) (trace : Trace) (budget : ℕ) where
 
   terms_one : (l : Logged) (i : Item) → Has l → Has (after l i)
   terms_one l (Claimed pass actor) = stays l _ refl refl refl refl
-  terms_one l (Entered pass event) = stays l _ refl refl refl refl
-  terms_one l (Ended pass actor) = stays l _ refl refl refl refl
-  terms_one l (Stopped pass) = stays l _ refl refl refl refl
-  terms_one l (Made pass) = stays l _ refl refl refl refl
+  terms_one l i = stays l _ refl refl refl refl
 
   terms_stay : (l : Logged) (log : List Item) → Has l → Has (hall_from l log)
   terms_stay l [] has = has

@@ -14,17 +14,11 @@ deep l = record l { trace = Deep }
 
 tells : (l : Logged) (answer : Look) → Tells answer (deep l) → TellsWork (plain (deep l)) answer
 tells l Stop is = is
-tells l (Actor a) is = is
-tells l (Detector e) is = is
-tells l Others is = is
-tells l Rest is = is
+tells l answer is = is
 
 told : (l : Logged) (answer : Look) → TellsWork (plain (deep l)) answer → Tells answer (deep l)
 told l Stop is = is
-told l (Actor a) is = is
-told l (Detector e) is = is
-told l Others is = is
-told l Rest is = is
+told l answer is = is
 
 as_plain : (l : Logged) → IsAsPlain (deep l)
 as_plain l = record {

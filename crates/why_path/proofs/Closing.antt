@@ -217,13 +217,6 @@ module _ (trace : Trace) (p : PlainState) (s : State) (facts : AllFacts trace p 
     (once : MembersStandOnce s.detector) where
   -- whoever goes by an entry is closed
   goes_closed : (u : State) (e : Event) → next s e ≡ Goes u → IfSome (parting_at s e) IsClosedParting
-  goes_closed u (Take a) goes = tt
-  goes_closed u (Go a) goes = tt
-  goes_closed u (Collect a) goes = tt
-  goes_closed u (Leave a) goes = tt
-  goes_closed u (Block a) goes = tt
-  goes_closed u Hear goes = tt
-  goes_closed u Scan goes = tt
   goes_closed u (Reap number) goes =
       let taken = reaps_take_the_done trace p s facts number (λ off. let both = sym goes ∙ off in cc) in
       let token = taken.token in
@@ -233,6 +226,7 @@ module _ (trace : Trace) (p : PlainState) (s : State) (facts : AllFacts trace p 
       subst (λ o. IfSome (option_map parting o) IsClosedParting) (sym taken.is_open)
       (closed (world s) token bal facts.detector.reports facts.detector.tokens is_open taken.sealed
       (once token is_open))
+  goes_closed u e goes = tt
 
 closed_from : (trace : Trace) (book : List Event) (p : PlainState) (s t : State) → AllFacts trace p s
     → MembersStandOnce s.detector → Leads next s book t

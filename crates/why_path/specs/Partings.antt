@@ -5,7 +5,7 @@ use Rattle.orca_names.specs.declared.kept_report.KeptReport.{KeptReport}
 use Rattle.orca_names.specs.declared.parting.Parting.{Parting}
 use Rattle.orca_names.specs.declared.parting.Parting.TheVariants.{Left, Reaped}
 use Rattle.event_rule.specs.declared.event.Event.{Event}
-use Rattle.event_rule.specs.declared.event.Event.TheVariants.{Take, Go, Collect, Leave, Block, Hear, Scan, Reap}
+use Rattle.event_rule.specs.declared.event.Event.TheVariants.{Leave, Reap}
 use Rattle.event_rule.specs.Runs.{Step, NotEnabled, IsFull, Goes}
 use Rattle.letter_kinds.specs.Detector.{token_numbered, reports_of}
 use Rattle.letter_kinds.specs.Reports.{count_on}
@@ -13,18 +13,13 @@ use Rattle.machine_rules.specs.Next.{next}
 use Rattle.machine_rules.specs.State.{State}
 
 -- who goes by an entry: the actor that leaves, or the members of the token that is reaped, with what
--- the detector has kept of each
+-- the detector has kept of each; nobody by another
 abbrev pub parting_at : State → Event → Option Parting
-parting_at s (Take a) = None
-parting_at s (Go a) = None
-parting_at s (Collect a) = None
 parting_at s (Leave a) = Some (Left a)
-parting_at s (Block a) = None
-parting_at s Hear = None
-parting_at s Scan = None
 parting_at s (Reap token) =
     option_map (λ t. Reaped token (reports_of s.detector.kept t.members))
     (token_numbered token s.detector)
+parting_at s _ = None
 
 abbrev pub partings_after : (State → List Parting) → Step State → List Parting
 partings_after later NotEnabled = []
