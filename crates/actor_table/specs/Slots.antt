@@ -2,13 +2,13 @@
 use Rattle.std.specs.Prelude.{ℕ, ◌≡◌, ◌≤◌, ◌&&◌, ◌||◌, if◌then◌else◌, is_some, not, option_and_then, Bool, true, false, List, [], length, map, Option, None, Some, get_or, ⊤}
 use Rattle.std.specs.Option.{option_map_or}
 use Rattle.orca_names.specs.declared.limits.TheConstants.{ACTORS_LIMIT}
+use Rattle.event_rule.specs.Events.{first_of}
 use Rattle.event_rule.specs.declared.event.Event.{Event}
-use Rattle.event_rule.specs.declared.event.Event.TheVariants.{Take, Go, Collect, Leave, Block}
 use Rattle.letter_kinds.specs.declared.letter.Letter.{Letter}
 use Rattle.mail_rows.specs.Mail.{Mail}
 use Rattle.machine_rules.specs.Actors.{Actors, Seat, seat}
 use Rattle.machine_rules.specs.Cell as rules
-use Rattle.machine_rules.specs.Guards.{may_block, may_collect, may_go, may_leave, may_take}
+use Rattle.machine_rules.specs.Guards.{may_do, may_go, may_take}
 use Rattle.actor_cell.specs.declared.cell.Cell.{Cell}
 use Rattle.actor_cell.specs.Cells.{as_cell}
 use Rattle.actor_table.specs.declared.slot.Slot.{Slot}
@@ -86,12 +86,7 @@ may_at may x = may_in may x.place x.mail.letters
 
 -- the first of its events, in the one-worker order
 abbrev pub event_in : ℕ → Seat → Option Event
-event_in a o =
-    if may_go o.cell o.mail then Some (Go a)
-    else (if may_take o.cell o.mail then Some (Take a)
-    else (if may_collect o.cell o.mail then Some (Collect a)
-    else (if may_leave o.cell o.mail then Some (Leave a)
-    else (if may_block o.cell o.mail then Some (Block a) else None))))
+event_in a o = first_of (may_do o.cell o.mail) a
 
 -- none while its cell is away
 abbrev pub event_of : ℕ → Slot → Option Event

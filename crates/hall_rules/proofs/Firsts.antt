@@ -5,15 +5,13 @@ use Rattle.std.specs.Option.{option_map_or}
 use Rattle.event_rule.specs.Events.{actor_of, is_of}
 use Rattle.event_rule.specs.Runs.{Goes, IsFirst, IsFull, IsQuiet, Machine, NotEnabled, Step}
 use Rattle.event_rule.specs.declared.event.Event.{Event}
-use Rattle.event_rule.specs.declared.event.Event.TheVariants.{Take, Go, Collect, Leave, Block}
+use Rattle.event_rule.proofs.Order.{IsFirstOf, NonePasses, first_is, own}
 use Rattle.event_rule.proofs.OneRun.{none_at_quiet, one_is_first}
 use Rattle.machine_rules.specs.Next.{next}
 use Rattle.machine_rules.specs.State.{State}
 use Rattle.orca_core.specs.Away.{is_out, next_without}
 use Rattle.orca_core.specs.Firsts.{next_of_kind}
 use Rattle.orca_core.proofs.Enabled.{in_kind, of_kind, with_none_away}
-use Rattle.orca_core.proofs.Firsts.{off}
-use Rattle.event_rule.proofs.Order.{itself, own, own_upto, stand}
 use Rattle.hall_rules.specs.Causes.{event_at, is_enabled}
 
 -- where no cell is away, the events of a kind lead where they do
@@ -70,15 +68,6 @@ not_enabled NotEnabled is = refl
 not_enabled IsFull is = cc
 not_enabled (Goes t) is = cc
 
--- the first of five
-abbrev first_of_five : ℕ → Bool → Bool → Bool → Bool → Bool → Option Event
-first_of_five a go take collect leave block =
-    if go then Some (Go a)
-    else (if take then Some (Take a)
-    else (if collect then Some (Collect a)
-    else (if leave then Some (Leave a)
-    else (if block then Some (Block a) else None))))
-
 module _ (s : State) (a : ℕ) where
   abbrev here : Machine State
   here = next_of_kind (is_of a) []
@@ -90,18 +79,16 @@ module _ (s : State) (a : ℕ) where
   plain : (e : Event) → next_without [] s e ≡ next s e
   plain e = ap (λ (step : Machine State). step s e) (with_none_away [] (λ b. refl))
 
-  abbrev StandsFrom : Event → Event → Type 0
-  StandsFrom e f = on f ≡ true → stand e ≤ stand f
-
-  first : (e : Event) → is_of a e ≡ true → on e ≡ true → ((f : Event) → is_of a f ≡ true → StandsFrom e f) → IsFirst here s e
-  first e mine is least = record {
-    enabled = in_kind (is_of a e) (next_without [] s e) mine (λ none. enabled_on (next s e) is (sym (plain e) ∙ none));
+  -- an event of it that passes is first where none that passes comes before
+  first : (e : Event) → IsFirstOf on a e → IsFirst here s e
+  first e is = record {
+    enabled = in_kind (is_of a e) (next_without [] s e) is.0 (λ none. enabled_on (next s e) is.1 (sym (plain e) ∙ none));
     least = λ f f_on.
         let z = of_kind (is_of a f) (next_without [] s f) f_on in
-        own_upto a e f mine z.0 (least f z.0 (enabled_if (next s f) (λ none. z.1 (plain f ∙ none))));
+        is.2 f z.0 (enabled_if (next s f) (λ none. z.1 (plain f ∙ none)));
   }
 
-  quiet : ((f : Event) → is_of a f ≡ true → on f ≡ true → ⊥) → IsQuiet here s
+  quiet : NonePasses on a → IsQuiet here s
   quiet none f = by (is_of a f) refl (is_enabled (next s f)) refl
     where
       by : (b : Bool) → is_of a f ≡ b → (c : Bool) → is_enabled (next s f) ≡ c → here s f ≡ NotEnabled
@@ -111,38 +98,15 @@ module _ (s : State) (a : ℕ) where
           ap (λ b. if b then next_without [] s f else NotEnabled) is ∙ plain f ∙ not_enabled (next s f) on_is
 
   -- the first of them that is enabled is first
-  first_found : (go take collect leave block : Bool) → on (Go a) ≡ go → on (Take a) ≡ take → on (Collect a) ≡ collect
-      → on (Leave a) ≡ leave → on (Block a) ≡ block → IsFound here s (first_of_five a go take collect leave block)
-  first_found true take collect leave block g t c l b = first (Go a) (itself a) g (own (StandsFrom (Go a)) a
-      (λ on. omega arith) (λ on. omega arith) (λ on. omega arith) (λ on. omega arith) (λ on. omega arith))
-  first_found false true collect leave block g t c l b = first (Take a) (itself a) t (own (StandsFrom (Take a)) a
-      (off (on (Go a)) g)
-      (λ on. omega arith) (λ on. omega arith) (λ on. omega arith) (λ on. omega arith))
-  first_found false false true leave block g t c l b = first (Collect a) (itself a) c (own (StandsFrom (Collect a)) a
-      (off (on (Go a)) g) (off (on (Take a)) t)
-      (λ on. omega arith) (λ on. omega arith) (λ on. omega arith))
-  first_found false false false true block g t c l b = first (Leave a) (itself a) l (own (StandsFrom (Leave a)) a
-      (off (on (Go a)) g) (off (on (Take a)) t) (off (on (Collect a)) c)
-      (λ on. omega arith) (λ on. omega arith))
-  first_found false false false false true g t c l b = first (Block a) (itself a) b (own (StandsFrom (Block a)) a
-      (off (on (Go a)) g) (off (on (Take a)) t) (off (on (Collect a)) c) (off (on (Leave a)) l)
-      (λ on. omega arith))
-  first_found false false false false false g t c l b = quiet (own (λ f. on f ≡ true → ⊥) a
-      (off (on (Go a)) g) (off (on (Take a)) t) (off (on (Collect a)) c) (off (on (Leave a)) l) (off (on (Block a)) b))
+  first_found : (found : Option Event) → MatchOption found (NonePasses on a) (IsFirstOf on a) → IsFound here s found
+  first_found None none = quiet none
+  first_found (Some e) is = first e is
 
   -- so it is what is found of the actor
   pub event_is : (found : Option Event) → IsFound here s found → found ≡ event_at s a
-  event_is found is = one_found here s found (event_at s a) is
-      (first_found (on (Go a)) (on (Take a)) (on (Collect a)) (on (Leave a)) (on (Block a)) refl refl refl refl refl)
+  event_is found is = one_found here s found (event_at s a) is (first_found (event_at s a) (first_is on a))
 
   -- and an event of the actor
   pub event_of_actor : (e : Event) → event_at s a ≡ Some e → actor_of e ≡ Some a
-  event_of_actor e is = by (on (Go a)) (on (Take a)) (on (Collect a)) (on (Leave a)) (on (Block a)) is
-    where
-      by : (go take collect leave block : Bool) → first_of_five a go take collect leave block ≡ Some e → actor_of e ≡ Some a
-      by true take collect leave block is = let z : Go a ≡ e = cc in subst (λ f. actor_of f ≡ Some a) z refl
-      by false true collect leave block is = let z : Take a ≡ e = cc in subst (λ f. actor_of f ≡ Some a) z refl
-      by false false true leave block is = let z : Collect a ≡ e = cc in subst (λ f. actor_of f ≡ Some a) z refl
-      by false false false true block is = let z : Leave a ≡ e = cc in subst (λ f. actor_of f ≡ Some a) z refl
-      by false false false false true is = let z : Block a ≡ e = cc in subst (λ f. actor_of f ≡ Some a) z refl
-      by false false false false false is = cc
+  event_of_actor e is = own (λ f. actor_of f ≡ Some a) a refl refl refl refl refl e
+      (subst (λ o. MatchOption o (NonePasses on a) (IsFirstOf on a)) is (first_is on a)).0

@@ -1,10 +1,9 @@
 -- Why a hall refuses a claim or an entry: the first cause that is there, in this order.
-use Rattle.std.specs.Prelude.{ℕ, ◌≡◌, ◌==◌, Bool, true, false, nat_lt, is_some, List, [], ◌∷◌, find, length, Option, None, Some, option_map, if◌then◌else◌, ⊤}
+use Rattle.std.specs.Prelude.{ℕ, ◌≡◌, ◌==◌, Bool, true, false, nat_lt, is_some, List, length, Option, None, Some, option_map, if◌then◌else◌, ⊤}
 use Rattle.std.specs.Option.{option_and_then, option_or}
-use Rattle.event_rule.specs.Events.{actor_of}
+use Rattle.event_rule.specs.Events.{actor_of, first_of}
 use Rattle.event_rule.specs.Runs.{Step, NotEnabled, IsFull, Goes}
 use Rattle.event_rule.specs.declared.event.Event.{Event}
-use Rattle.event_rule.specs.declared.event.Event.TheVariants as events
 use Rattle.machine_rules.specs.Actors.{seat_at}
 use Rattle.machine_rules.specs.Next.{next}
 use Rattle.machine_rules.specs.State.{State}
@@ -61,8 +60,7 @@ is_enabled (Goes t) = true
 
 -- the first of the actor's events that is enabled
 abbrev pub event_at : State → ℕ → Option Event
-event_at s a = find (λ e. is_enabled (next s e))
-    (events.Go a ∷ events.Take a ∷ events.Collect a ∷ events.Leave a ∷ events.Block a ∷ [])
+event_at s = first_of (λ e. is_enabled (next s e))
 
 -- it has none
 abbrev pub idle_cause : Option Event → Option Refuse

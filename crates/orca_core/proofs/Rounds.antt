@@ -30,8 +30,8 @@ use Rattle.actor_table.specs.Slots.{actors_of, acts, away_of, can_act, can_settl
 use Rattle.orca_core.specs.Away.{next_without}
 use Rattle.orca_core.specs.Firsts.{HasFirst, is_free, next_of_kind}
 use Rattle.orca_core.proofs.Enabled.{Can, IsFound, any, enabled_here, first_of_kind, in_kind, of_kind, quiet_of_kind}
-use Rattle.orca_core.proofs.Firsts.{first_of_actor, off}
-use Rattle.event_rule.proofs.Order.{itself, own, number_of, of_number, of_rest, rounds_rise, upto_by}
+use Rattle.orca_core.proofs.Firsts.{first_of_actor}
+use Rattle.event_rule.proofs.Order.{itself, off, own, number_of, of_number, of_rest, rounds_rise, upto_by}
 
 -- ---- who has events
 
