@@ -9,10 +9,10 @@ use Rattle.event_rule.specs.declared.event.Event.{Event}
 use Rattle.machine_rules.specs.Next.{next}
 use Rattle.machine_rules.specs.Run.{IsRun}
 use Rattle.machine_rules.specs.State.{State, first_state}
-use Rattle.orca_core.specs.Away.{is_out, next_without}
-use Rattle.orca_core.specs.Faults.{IsFault}
-use Rattle.orca_core.specs.declared.fault.StepFault.{StepFault}
-use Rattle.orca_core.specs.declared.fault.StepFault.TheVariants as faults
+use Rattle.orca_parts.specs.Away.{is_out, next_without}
+use Rattle.orca_parts.specs.Faults.{IsFault}
+use Rattle.orca_parts.specs.declared.fault.StepFault.{StepFault}
+use Rattle.orca_parts.specs.declared.fault.StepFault.TheVariants as faults
 use Rattle.orca_core.proofs.Enabled.{with_none_away}
 use Rattle.orca_core.proofs.Reached.{leads_more}
 use Rattle.run_book.specs.Books.{BookValue}

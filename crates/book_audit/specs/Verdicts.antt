@@ -7,7 +7,8 @@ use Rattle.machine_rules.specs.Next.{next}
 use Rattle.machine_rules.specs.Options.{Options}
 use Rattle.machine_rules.specs.Run.{IsRun}
 use Rattle.machine_rules.specs.State.{State}
-use Rattle.orca_core.specs.Machine.{Machine, NoneIsAway, options_of}
+use Rattle.orca_core.specs.Machine.{Machine, NoneIsAway}
+use Rattle.orca_parts.specs.Parts.{options_of}
 use Rattle.run_book.specs.Books.{BookValue}
 use Rattle.book_audit.specs.declared.auditing.Verdict.{Verdict}
 use Rattle.book_audit.specs.declared.auditing.Verdict.TheVariants.{Run, Not}

@@ -17,7 +17,8 @@ use Rattle.actor_cell.specs.declared.cell.Cell.{Cell}
 use Rattle.cell_laws.specs.Runs.{IsShortRun}
 use Rattle.cell_laws.proofs.Cells.{cells_know_others_only}
 use Rattle.cell_laws.proofs.Keeping.{runs_have_serials}
-use Rattle.orca_core.specs.Machine.{Machine, cell_here, options_of}
+use Rattle.orca_core.specs.Machine.{Machine, cell_here}
+use Rattle.orca_parts.specs.Parts.{options_of}
 use Rattle.hall_rules.proofs.Finding.{CanFind}
 use Rattle.book_hall.specs.Kept.{IsKept}
 

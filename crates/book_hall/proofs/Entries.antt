@@ -7,7 +7,7 @@ use Rattle.machine_rules.specs.Next.{next}
 use Rattle.machine_rules.specs.State.{State}
 use Rattle.run_book.specs.Books.{BookValue}
 use Rattle.orca_core.specs.Machine.{Machine}
-use Rattle.orca_core.specs.Woken.{IsLowestWoken}
+use Rattle.orca_parts.specs.Woken.{IsLowestWoken}
 use Rattle.work_board.specs.declared.answers.Committed.{Committed}
 use Rattle.work_board.specs.declared.answers.Refuse.{Refuse}
 use Rattle.hall_rules.specs.declared.claim.Claim.{Claim}

@@ -20,8 +20,7 @@ use Rattle.actor_cell.specs.Goes.{IsTold}
 use Rattle.actor_cell.specs.Moves.{act_in}
 use Rattle.actor_cell.specs.Sweeps.{sweep_of}
 use Rattle.actor_table.specs.Slots.{home_in, home_of, slot_at}
-use Rattle.orca_core.specs.Founds.{IsFoundIn}
-use Rattle.orca_core.specs.Machine.{Machine}
+use Rattle.orca_core.specs.Machine.{Machine, IsFoundIn}
 
 -- what is swept of the cell of this actor
 sweep_by : ℕ → rules.Cell → Sweep

@@ -14,9 +14,10 @@ use Rattle.machine_rules.specs.Next.{next}
 use Rattle.machine_rules.specs.Run.{IsRun}
 use Rattle.run_book.specs.Books.{BookValue}
 use Rattle.cell_laws.proofs.Keeping.{runs_keep_program}
-use Rattle.orca_core.specs.Away.{is_out, is_out_for}
+use Rattle.orca_parts.specs.Away.{is_out, is_out_for}
 use Rattle.orca_core.specs.Laws.{IsRunOf}
-use Rattle.orca_core.specs.Machine.{IsSame, Machine, NoneIsAway, ReapsNoneAway, options_of}
+use Rattle.orca_core.specs.Machine.{IsSame, Machine, NoneIsAway, ReapsNoneAway}
+use Rattle.orca_parts.specs.Parts.{options_of}
 use Rattle.orca_core.proofs.Reached.{leads_more}
 use Rattle.work_board.specs.declared.answers.Committed.{Committed}
 use Rattle.work_board.specs.declared.answers.Refuse.{Refuse}

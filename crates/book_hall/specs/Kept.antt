@@ -6,7 +6,8 @@ use Rattle.behaviour_code.specs.declared.code.Program.{Program}
 use Rattle.machine_rules.specs.Run.{IsRun}
 use Rattle.machine_rules.specs.State.{first_state}
 use Rattle.run_book.specs.Books.{BookValue}
-use Rattle.orca_core.specs.Machine.{Machine, NoneIsAway, options_of}
+use Rattle.orca_core.specs.Machine.{Machine, NoneIsAway}
+use Rattle.orca_parts.specs.Parts.{options_of}
 use Rattle.hall_rules.specs.Halls.{HallValue, options_in, state_after, state_of}
 
 -- the book is a run of the program, with at most as many entries as the budget

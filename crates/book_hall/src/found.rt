@@ -3,7 +3,7 @@
 ghost use Rattle.std.specs.Prelude.{◌≡◌, Some};
 ghost use Rattle.std.specs.Option.{ForSome};
 ghost use Rattle.orca_names.specs.declared.trace.Trace.TheVariants.{Deep};
-ghost use Rattle.orca_core.specs.Founds.{IsFoundIn};
+ghost use Rattle.orca_core.specs.Machine.{IsFoundIn};
 ghost use Rattle.book_hall.specs.Proposals.{IsOf};
 
 use crate::copy::Proposal;

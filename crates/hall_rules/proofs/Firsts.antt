@@ -9,7 +9,7 @@ use Rattle.event_rule.proofs.Order.{IsFirstOf, NonePasses, first_is, own}
 use Rattle.event_rule.proofs.OneRun.{none_at_quiet, one_is_first}
 use Rattle.machine_rules.specs.Next.{next}
 use Rattle.machine_rules.specs.State.{State}
-use Rattle.orca_core.specs.Away.{is_out, next_without}
+use Rattle.orca_parts.specs.Away.{is_out, next_without}
 use Rattle.orca_core.specs.Firsts.{next_of_kind}
 use Rattle.orca_core.proofs.Enabled.{in_kind, of_kind, with_none_away}
 use Rattle.hall_rules.specs.Causes.{event_at, is_enabled}

@@ -13,7 +13,7 @@ use Rattle.turn_step.specs.contracts.turn.Turn as Turn
 use Rattle.cycle_detect.specs.contracts.detector.Detector as Detector
 use Rattle.orca_core.specs.contracts.machine.Orca as Orca
 use Rattle.run_book.specs.contracts.book.Book as Book
-use Rattle.orca_core.specs.contracts.parts.Parts as Parts
+use Rattle.orca_parts.specs.contracts.parts.Parts as Parts
 use Rattle.behaviour_check.specs.contracts.checked.Checked as Checked
 use Rattle.behaviour_code.specs.contracts.code.Behaviour as Behaviour
 use Rattle.behaviour_code.specs.contracts.code.Kind as Kind

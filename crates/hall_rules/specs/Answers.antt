@@ -5,7 +5,7 @@ use Rattle.event_rule.specs.declared.event.Event.{Event}
 use Rattle.machine_rules.specs.Next.{next}
 use Rattle.orca_core.specs.Firsts.{HasFirst, is_free, next_of_kind}
 use Rattle.event_rule.specs.Events.{is_of_detector}
-use Rattle.orca_core.specs.Woken.{IsLowestWoken}
+use Rattle.orca_parts.specs.Woken.{IsLowestWoken}
 use Rattle.work_board.specs.declared.answers.Committed.{Committed}
 use Rattle.work_board.specs.declared.answers.Look.{Look}
 use Rattle.work_board.specs.declared.answers.Look.TheVariants.{Actor, Detector, Others, Rest, Stop}

@@ -7,7 +7,7 @@ use Rattle.event_rule.specs.declared.event.Event.{Event}
 use Rattle.machine_rules.specs.Next.{next}
 use Rattle.machine_rules.specs.Options.{Options}
 use Rattle.machine_rules.specs.State.{State, first_state}
-use Rattle.orca_core.specs.Machine.{options_of}
+use Rattle.orca_parts.specs.Parts.{options_of}
 use Rattle.hall_rules.specs.declared.claim.Claim.{Claim}
 
 -- its program, the weight of its run, how many entries it may make, the book, the claims that are out,

@@ -3,7 +3,7 @@
 ghost use Rattle.std.specs.Prelude.{◌≡◌, false, option_map};
 ghost use Rattle.event_rule.specs.Events.{actor_of};
 ghost use Rattle.machine_rules.specs.Next.{next};
-ghost use Rattle.orca_core.specs.Away.{is_out, is_out_for};
+ghost use Rattle.orca_parts.specs.Away.{is_out, is_out_for};
 ghost use Rattle.hall_rules.specs.Causes.{absent_cause, event_at, spent_cause, unready_cause};
 
 use event_rule::Event;

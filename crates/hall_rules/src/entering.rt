@@ -7,12 +7,11 @@ ghost use Rattle.event_rule.specs.Runs.{Goes, Step};
 ghost use Rattle.event_rule.specs.declared.event.Event.{Event};
 ghost use Rattle.machine_rules.specs.State.{State};
 ghost use Rattle.machine_rules.specs.Next.{next};
-ghost use Rattle.orca_core.specs.Away.{KeepsAway, is_out_for};
-ghost use Rattle.orca_core.specs.Faults.{IsFault};
-ghost use Rattle.orca_core.specs.Founds.{IsFoundIn};
-ghost use Rattle.orca_core.specs.Machine.{Fits, IsSame, ReapsNoneAway};
-ghost use Rattle.orca_core.specs.Ready.{event_of};
-ghost use Rattle.orca_core.specs.Woken.{IsLowestWoken};
+ghost use Rattle.orca_parts.specs.Away.{KeepsAway, is_out_for};
+ghost use Rattle.orca_parts.specs.Faults.{IsFault};
+ghost use Rattle.orca_core.specs.Machine.{Fits, IsSame, ReapsNoneAway, IsFoundIn};
+ghost use Rattle.orca_parts.specs.Ready.{event_of};
+ghost use Rattle.orca_parts.specs.Woken.{IsLowestWoken};
 ghost use Rattle.hall_rules.specs.Causes.{IsRefusal, full_cause, unready_cause};
 
 use actor_cell::Found;

@@ -20,7 +20,8 @@ use Rattle.cell_laws.specs.Runs.{IsShortRun}
 use Rattle.cell_laws.proofs.Cells.{cells_know_others_only}
 use Rattle.cell_laws.proofs.Keeping.{runs_have_serials, runs_keep_program}
 use Rattle.orca_core.specs.Laws.{IsRunOf}
-use Rattle.orca_core.specs.Machine.{IsSame, Machine, NoneIsAway, cell_here, options_of}
+use Rattle.orca_core.specs.Machine.{IsSame, Machine, NoneIsAway, cell_here}
+use Rattle.orca_parts.specs.Parts.{options_of}
 use Rattle.orca_core.proofs.Listing.{here_at_home}
 use Rattle.orca_core.proofs.Reached.{leads_more}
 

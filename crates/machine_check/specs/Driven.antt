@@ -2,7 +2,8 @@
 use Rattle.orca_names.specs.declared.trace.Trace.{Trace}
 use Rattle.behaviour_code.specs.declared.code.Program.{Program}
 use Rattle.cell_laws.specs.Limits.{IsOf}
-use Rattle.orca_core.specs.Machine.{Machine, NoneIsAway, options_of}
+use Rattle.orca_core.specs.Machine.{Machine, NoneIsAway}
+use Rattle.orca_parts.specs.Parts.{options_of}
 
 -- it runs this program by this tracing, and no cell is away
 pub record IsDriven (program : Program) (trace : Trace) (m : Machine) : Type 0 where

@@ -29,10 +29,10 @@ use Rattle.actor_table.specs.declared.slot.Place.{Place}
 use Rattle.actor_table.specs.declared.slot.Place.TheVariants.{Home, Away, Gone}
 use Rattle.actor_table.specs.Slots.{actors_of, away_of, is_away_in, may_at, may_in, seat_in, slot_at}
 use Rattle.actor_table.proofs.Changing.{seat_read}
-use Rattle.orca_core.specs.Away.{is_out, is_out_for, next_without}
+use Rattle.orca_parts.specs.Away.{is_out, is_out_for, next_without}
 use Rattle.orca_core.specs.Firsts.{next_of_kind}
-use Rattle.orca_core.proofs.Homes.{away_read}
-use Rattle.orca_core.proofs.Preparing.{no_step}
+use Rattle.orca_parts.proofs.Homes.{away_read}
+use Rattle.orca_parts.proofs.Preparing.{no_step}
 
 -- ---- where no cell is away
 
@@ -50,9 +50,7 @@ with_none_away away home = λ i s e. home_same away s e (none e) i
     none (Collect a) = home a
     none (Leave a) = home a
     none (Block a) = home a
-    none Hear = refl
-    none Scan = refl
-    none (Reap token) = refl
+    none e = refl
 
 module _ (away : List Bool) (home : (a : ℕ) → is_out away a ≡ false) (s : State) where
   -- the first event is then the first by the rules

@@ -24,7 +24,7 @@ use Rattle.machine_rules.specs.Cell as rules
 use Rattle.machine_rules.specs.Left.{IsLeft}
 use Rattle.actor_cell.specs.declared.cell.Cell.{Cell}
 use Rattle.actor_cell.specs.Cells.{as_cell}
-use Rattle.orca_core.specs.Away.{is_out}
+use Rattle.orca_parts.specs.Away.{is_out}
 use Rattle.orca_core.specs.Left.{things_of}
 use Rattle.orca_core.specs.Machine.{Machine, cell_here}
 

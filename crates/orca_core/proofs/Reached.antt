@@ -5,7 +5,7 @@ use Rattle.orca_names.specs.declared.trace.Trace.{Trace}
 use Rattle.behaviour_code.specs.declared.code.Program.{Program}
 use Rattle.event_rule.specs.Runs.{Goes, Leads}
 use Rattle.event_rule.specs.declared.event.Event.{Event}
-use Rattle.event_rule.specs.declared.event.Event.TheVariants.{Take, Go, Collect, Leave, Block, Hear, Scan, Reap}
+use Rattle.event_rule.specs.declared.event.Event.TheVariants.{Take, Go, Collect, Scan, Reap}
 use Rattle.machine_rules.specs.Next.{next}
 use Rattle.machine_rules.specs.State.{State}
 use Rattle.actor_table.specs.Slots.{away_of, slot_at}
@@ -16,14 +16,14 @@ use Rattle.cell_laws.proofs.Holding.{runs_hold_the_made_only}
 use Rattle.cell_laws.proofs.Keeping.{runs_have_room, runs_have_serials}
 use Rattle.cell_laws.proofs.Reaping.{the_acknowledged_are_done}
 use Rattle.cell_laws.proofs.Taking.{runs_allow_takes}
-use Rattle.orca_core.specs.Fits.{OnlyRoom}
-use Rattle.orca_core.specs.Machine.{IsReached, IsSame, Machine, ReapsNoneAway, options_of}
-use Rattle.orca_core.specs.Parts.{state_of}
-use Rattle.orca_core.specs.Steps.{CanStep, ReapsAtHome}
-use Rattle.orca_core.specs.declared.parts.Parts.{Parts}
-use Rattle.orca_core.proofs.Giving.{seat_here}
-use Rattle.orca_core.proofs.Homes.{away_read}
-use Rattle.orca_core.proofs.Prepared.{at_home}
+use Rattle.orca_parts.specs.Fits.{OnlyRoom}
+use Rattle.orca_core.specs.Machine.{IsReached, IsSame, Machine, ReapsNoneAway}
+use Rattle.orca_parts.specs.Parts.{state_of, options_of}
+use Rattle.orca_parts.specs.Steps.{CanStep, ReapsAtHome}
+use Rattle.orca_parts.specs.declared.parts.Parts.{Parts}
+use Rattle.orca_parts.proofs.Giving.{seat_here}
+use Rattle.orca_parts.proofs.Homes.{away_read}
+use Rattle.orca_parts.proofs.Prepared.{at_home}
 
 -- ---- runs
 
@@ -85,24 +85,15 @@ module _ (program : Program) (weight : ℕ) (trace : Trace) (parts : Parts) (ste
       let r = short reached in
       cells_know_others_only program (options_of weight trace) reached.book s r c (slot_at parts.table.slots c.heap.owner).mail.letters
       (seat_here parts.table.slots c.heap.owner c (ap (λ b. (slot_at parts.table.slots b).place) owner ∙ at))
-  can_step reached early (Leave a) = tt
-  can_step reached early (Block a) = tt
-  can_step reached early Hear = tt
   can_step reached early Scan =
       let r = short reached in
       (runs_have_room program (options_of weight trace) reached.book s r).tokens (omega (arith, reached.long, early))
-  can_step reached early (Reap number) = tt
+  can_step reached early e = tt
 
   -- whom a run can reap is present, so a cell that is not away is at home
   pub reaps_at_home : IsReached s steps → (e : Event) → ReapsNoneAway e machine → ReapsAtHome e parts
-  reaps_at_home reached (Take a) none = tt
-  reaps_at_home reached (Go a) none = tt
-  reaps_at_home reached (Collect a) none = tt
-  reaps_at_home reached (Leave a) none = tt
-  reaps_at_home reached (Block a) none = tt
-  reaps_at_home reached Hear none = tt
-  reaps_at_home reached Scan none = tt
   reaps_at_home reached (Reap number) none = λ t acked m member.
       let done = the_acknowledged_are_done program (options_of weight trace) reached.heavy reached.book s reached.run number t acked m member in
       let x = at_home parts.table.slots m done.cell [] done.present (sym (away_read parts.table.slots m) ∙ none t m acked member) in
       record { cell = x.cell; home = x.home; so = tt }
+  reaps_at_home reached e none = tt

@@ -27,7 +27,7 @@ use Rattle.actor_table.specs.declared.rounds.Round.{Round}
 use Rattle.actor_table.specs.declared.rounds.Round.TheVariants.{Acting, Settling}
 use Rattle.actor_table.specs.Rounds.{IsNextThat, has_event}
 use Rattle.actor_table.specs.Slots.{actors_of, acts, away_of, can_act, can_settle, event_of, gone, is_away_in, may_at, may_in, seat_in, settles, slot_at}
-use Rattle.orca_core.specs.Away.{next_without}
+use Rattle.orca_parts.specs.Away.{next_without}
 use Rattle.orca_core.specs.Firsts.{HasFirst, is_free, next_of_kind}
 use Rattle.orca_core.proofs.Enabled.{Can, IsFound, any, enabled_here, first_of_kind, in_kind, of_kind, quiet_of_kind}
 use Rattle.orca_core.proofs.Firsts.{first_of_actor}
@@ -137,12 +137,7 @@ module _ (slots : List Slot) (away : List Bool) (s : State)
       all : (f : Event) → Can slots s f → round_of f ≡ 0 → can_act (slot_at slots (actor_or_token f)) ≡ true
       all (Go a) can is = can_act_by (slot_at slots a) ∙ or_left _ _ can
       all (Take a) can is = can_act_by (slot_at slots a) ∙ or_right _ _ can
-      all (Collect a) can is = absurd (omega (arith, is))
-      all (Leave a) can is = absurd (omega (arith, is))
-      all (Block a) can is = absurd (omega (arith, is))
-      all Hear can is = absurd (omega (arith, is))
-      all Scan can is = absurd (omega (arith, is))
-      all (Reap number) can is = absurd (omega (arith, is))
+      all f can is = absurd (omega (arith, is))
 
       some : (a : ℕ) → can_act (slot_at slots a) ≡ true → HasEvent 0 a
       some a on = ⊎_elim
@@ -164,11 +159,7 @@ module _ (slots : List Slot) (away : List Bool) (s : State)
       all (Collect a) plays can is = by a plays ∙ or_left _ _ can
       all (Leave a) plays can is = by a plays ∙ or_right _ _ (or_left _ _ can)
       all (Block a) plays can is = by a plays ∙ or_right _ _ (or_right _ _ can)
-      all (Go a) plays can is = absurd (omega (arith, is))
-      all (Take a) plays can is = absurd (omega (arith, is))
-      all Hear plays can is = absurd (omega (arith, is))
-      all Scan plays can is = absurd (omega (arith, is))
-      all (Reap number) plays can is = absurd (omega (arith, is))
+      all f plays can is = absurd (omega (arith, is))
 
       some : (a : ℕ) → in_play a ≡ true → can_settle (slot_at slots a) ≡ true → HasEvent 1 a
       some a plays on = ⊎_elim
@@ -302,14 +293,10 @@ module _ (slots : List Slot) (away : List Bool) (s : State)
     IsFoundFree found = MatchOption found (IsQuiet (next_of_kind free away) s) (HasFirst (next_of_kind free away) s)
 
     only_stays : (f : Event) → free f ≡ true → not (is_aside (actor_or_token f)) ≡ true
-    only_stays (Go a) is = is
-    only_stays (Take a) is = is
-    only_stays (Collect a) is = is
-    only_stays (Leave a) is = is
-    only_stays (Block a) is = is
     only_stays Hear is = cc
     only_stays Scan is = cc
     only_stays (Reap number) is = cc
+    only_stays f is = is
 
     of_free : IsOf stays free
     of_free = record {
@@ -318,14 +305,10 @@ module _ (slots : List Slot) (away : List Bool) (s : State)
     }
 
     free_not_detector : (f : Event) → free f ≡ true → is_of_detector f ≡ false
-    free_not_detector (Go a) is = refl
-    free_not_detector (Take a) is = refl
-    free_not_detector (Collect a) is = refl
-    free_not_detector (Leave a) is = refl
-    free_not_detector (Block a) is = refl
     free_not_detector Hear is = cc
     free_not_detector Scan is = cc
     free_not_detector (Reap number) is = cc
+    free_not_detector f is = refl
 
     -- an actor that has an event in the round and is not set aside
     abbrev in_round : Round → ℕ → Bool

@@ -5,7 +5,7 @@ use Rattle.event_rule.specs.Events.{actor_of}
 use Rattle.event_rule.specs.Runs.{IsFirst, Machine, NotEnabled, Step}
 use Rattle.event_rule.specs.declared.event.Event.{Event}
 use Rattle.machine_rules.specs.State.{State}
-use Rattle.orca_core.specs.Away.{next_without}
+use Rattle.orca_parts.specs.Away.{next_without}
 
 -- it is an event of an actor that is not set aside
 abbrev pub is_free : (ℕ → Bool) → Event → Bool

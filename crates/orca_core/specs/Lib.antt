@@ -1,16 +1,4 @@
-pub mod Awaiting
-pub mod Away
-pub mod Faults
 pub mod Firsts
-pub mod Fits
-pub mod Founds
-pub mod Goes
 pub mod Laws
 pub mod Left
-pub mod Letters
 pub mod Machine
-pub mod Parts
-pub mod Ready
-pub mod Reaping
-pub mod Steps
-pub mod Woken

@@ -5,21 +5,22 @@ use Rattle.orca_names.specs.declared.trace.Trace.{Trace}
 use Rattle.behaviour_check.specs.Rules.{IsChecked}
 use Rattle.behaviour_code.specs.declared.code.Program.{Program}
 use Rattle.event_rule.specs.declared.event.Event.{Event}
-use Rattle.event_rule.specs.declared.event.Event.TheVariants.{Take, Go, Collect, Leave, Block, Hear, Scan, Reap}
+use Rattle.event_rule.specs.declared.event.Event.TheVariants.{Reap}
 use Rattle.letter_kinds.specs.Detector.{Token, has}
 use Rattle.letter_kinds.specs.declared.letter.Letter.{Letter}
 use Rattle.machine_rules.specs.Actors.{Seat, cell_at, seat_at}
 use Rattle.machine_rules.specs.Cell.{Cell}
 use Rattle.machine_rules.specs.Detect.{acked_token}
-use Rattle.machine_rules.specs.Options.{Options}
 use Rattle.machine_rules.specs.Run.{IsRun}
 use Rattle.machine_rules.specs.State.{State}
-use Rattle.orca_core.specs.Awaiting.{IsAwaited}
-use Rattle.orca_core.specs.Away.{is_out}
-use Rattle.orca_core.specs.Parts.{state_of}
-use Rattle.orca_core.specs.Ready.{FitsReady}
-use Rattle.orca_core.specs.declared.parts.Parts.{Parts}
-use Rattle.orca_core.specs.declared.ready.Ready.{Ready}
+use Rattle.actor_cell.specs.declared.found.Found.{Found}
+use Rattle.orca_parts.specs.Awaiting.{IsAwaited}
+use Rattle.orca_parts.specs.Away.{is_out}
+use Rattle.orca_parts.specs.Founds.{IsFoundFor}
+use Rattle.orca_parts.specs.Parts.{options_of, state_of}
+use Rattle.orca_parts.specs.Ready.{FitsReady}
+use Rattle.orca_parts.specs.declared.parts.Parts.{Parts}
+use Rattle.orca_parts.specs.declared.ready.Ready.{Ready}
 
 -- its state, with the cells that are away; how many events were done; whose cells are away; and how
 -- all this is kept, with its room
@@ -28,9 +29,6 @@ pub record Machine : Type 0 where
   pub steps : ℕ
   pub out : List Bool
   pub kept : Parts
-
-abbrev pub options_of : ℕ → Trace → Options
-options_of weight trace = record { weight = weight; trace = trace }
 
 -- the state is reached by a run of the program with as many events
 pub record IsReached (state : State) (steps : ℕ) : Type 0 where
@@ -54,21 +52,20 @@ pub record IsSame (old new : Machine) : Type 0 where
   pub steps : new.steps ≡ old.steps
   pub out : new.out ≡ old.out
 
--- the event reaps no actor whose cell is away
+-- the event reaps no actor whose cell is away; a reap alone reaps
 abbrev pub ReapsNoneAway : Event → Machine → Type 0
-ReapsNoneAway (Take a) m = ⊤
-ReapsNoneAway (Go a) m = ⊤
-ReapsNoneAway (Collect a) m = ⊤
-ReapsNoneAway (Leave a) m = ⊤
-ReapsNoneAway (Block a) m = ⊤
-ReapsNoneAway Hear m = ⊤
-ReapsNoneAway Scan m = ⊤
 ReapsNoneAway (Reap number) m = (t : Token) (a : ℕ) → acked_token number m.state.detector ≡ Some t
     → has t.members a ≡ true → is_out m.out a ≡ false
+ReapsNoneAway e m = ⊤
 
 -- what was prepared fits the machine
 abbrev pub Fits : Ready → Machine → Type 0
 Fits ready m = FitsReady m.state.options.trace m.state.options.weight m.state.program ready m.kept
+
+-- what was found of the event's actor is that of its cell
+abbrev pub IsFoundIn : Event → Found → Machine → Type 0
+IsFoundIn e found m = IsFoundFor m.state.options.trace m.state.options.weight m.state.program found e
+    m.kept.table.slots
 
 -- no cell is away
 abbrev pub NoneIsAway : Machine → Type 0

@@ -8,16 +8,13 @@ ghost use Rattle.machine_rules.specs.Cell.{first_cell};
 ghost use Rattle.machine_rules.specs.Next.{next};
 ghost use Rattle.machine_rules.specs.State.{first_state, start_letters};
 ghost use Rattle.actor_table.specs.Slots.{actors_of, away_of};
-ghost use Rattle.orca_core.specs.Away.{KeepsAway, is_out_for, next_without};
-ghost use Rattle.orca_core.specs.Faults.{IsFault};
-ghost use Rattle.orca_core.specs.Machine.{Fits, IsSame, NoneIsAway, ReapsNoneAway, options_of};
-ghost use Rattle.orca_core.specs.Ready.{event_of};
-ghost use Rattle.orca_core.specs.Woken.{IsLowestWoken};
+ghost use Rattle.orca_parts.specs.Away.{KeepsAway, is_out_for, next_without};
+ghost use Rattle.orca_parts.specs.Faults.{IsFault};
+ghost use Rattle.orca_parts.specs.Parts.{options_of};
+ghost use Rattle.orca_core.specs.Machine.{Fits, IsSame, NoneIsAway, ReapsNoneAway};
+ghost use Rattle.orca_parts.specs.Ready.{event_of};
+ghost use Rattle.orca_parts.specs.Woken.{IsLowestWoken};
 
-use crate::fault::StepFault;
-use crate::parts::Parts;
-use crate::ready::Ready;
-use crate::steps::{apply, prepare, stand_for_go, stand_for_take, stand_when_done};
 use actor_cell::{Cell, Sweep, Turned};
 use actor_table::ActorTable;
 use behaviour_check::Checked;
@@ -26,6 +23,9 @@ use event_rule::Event;
 use letter_kinds::Letter;
 use mail_rows::MailRow;
 use orca_names::{ActorName, Args, NoMemory, Trace, Value};
+use orca_parts::{
+    Parts, Ready, StepFault, apply, prepare, stand_for_go, stand_for_take, stand_when_done,
+};
 use plain_list::Listed;
 use std::alloc::Global;
 use std::collections::VecDeque;
@@ -49,7 +49,7 @@ impl<'a> Model for Orca<'a> {
     ghost use Rattle.std.specs.Coded.{codes};
     ghost use Rattle.actor_table.specs.Codes.{coded_entries, coded_known, coded_own};
     ghost use Rattle.orca_core.specs.Machine as machine;
-    ghost use Rattle.orca_core.specs.Parts.{state_of};
+    ghost use Rattle.orca_parts.specs.Parts.{options_of, state_of};
     ghost use Rattle.actor_table.specs.Slots.{away_of};
 
     ghost Value = { machine.Machine };
@@ -57,7 +57,7 @@ impl<'a> Model for Orca<'a> {
     ghost coded = { Prim.hlevel (codes, coded_own, coded_entries, coded_known) };
 
     ghost view = { λ m. record {
-      state = state_of m.code.now (machine.options_of m.weight m.trace) m.parts;
+      state = state_of m.code.now (options_of m.weight m.trace) m.parts;
       steps = m.steps;
       out = away_of m.parts.table.slots;
       kept = m.parts;

@@ -5,7 +5,7 @@ ghost use Rattle.machine_rules.specs.Actors.{cell_at};
 ghost use Rattle.actor_cell.specs.Cells.{as_cell};
 ghost use Rattle.actor_table.specs.declared.slot.Place.TheVariants.{Home};
 ghost use Rattle.actor_table.specs.Slots.{slot_at};
-ghost use Rattle.orca_core.specs.Away.{is_out};
+ghost use Rattle.orca_parts.specs.Away.{is_out};
 ghost use Rattle.orca_core.specs.Machine.{cell_here};
 
 use crate::machine::Orca;

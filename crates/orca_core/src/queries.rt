@@ -9,7 +9,7 @@ ghost use Rattle.machine_rules.specs.Next.{next};
 ghost use Rattle.machine_rules.specs.Guards.{may_go};
 ghost use Rattle.actor_table.specs.Slots.{home_of, may_at, slot_at};
 ghost use Rattle.actor_cell.specs.Cells.{as_cell};
-ghost use Rattle.orca_core.specs.Away.{next_without};
+ghost use Rattle.orca_parts.specs.Away.{next_without};
 ghost use Rattle.orca_core.specs.Firsts.{next_of_kind};
 ghost use Rattle.event_rule.specs.Events.{is_of, is_of_detector};
 ghost use Rattle.orca_core.specs.Machine.{NoneIsAway, cell_here, mail_here};

@@ -17,7 +17,7 @@ use Rattle.behaviour_text.specs.Faults.{told_fault}
 use Rattle.behaviour_check.specs.Rules.{first_broken}
 use Rattle.machine_rules.specs.Options.{Options}
 use Rattle.machine_rules.specs.Run.{IsRun}
-use Rattle.orca_core.specs.Machine.{options_of}
+use Rattle.orca_parts.specs.Parts.{options_of}
 use Rattle.book_audit.specs.Verdicts.{IsARun, IsRefuted, options_of_book}
 use Rattle.book_audit.specs.declared.auditing.Verdict.TheVariants.{Not}
 use Rattle.book_audit.proofs.Exactly.{refuted_exactly, run_exactly}

@@ -4,7 +4,8 @@ ghost use Rattle.std.specs.Prelude.{◌≡◌, ◌≤◌, count_by, length, not,
 ghost use Rattle.orca_names.specs.declared.limits.TheConstants.{BOOK_LIMIT};
 ghost use Rattle.report_text.specs.Ends.{IsEnd};
 ghost use Rattle.orca_core.specs.Laws.{IsRunOf};
-ghost use Rattle.orca_core.specs.Machine.{NoneIsAway, options_of};
+ghost use Rattle.orca_core.specs.Machine.{NoneIsAway};
+ghost use Rattle.orca_parts.specs.Parts.{options_of};
 ghost use Rattle.pony_run.specs.Headline.{AreCounts, AreLeft, AreNumbers, AreWhys, IsAuditReport, IsReport, book_in, is_actor};
 
 use behaviour_check::Checked;

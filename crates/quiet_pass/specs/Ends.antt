@@ -4,8 +4,8 @@ use Rattle.event_rule.specs.Runs.{ActorsFull, Budget, EndsAs, LeadsInOrder, Quie
 use Rattle.event_rule.specs.declared.event.Event.{Event}
 use Rattle.machine_rules.specs.Next.{next}
 use Rattle.machine_rules.specs.State.{State}
-use Rattle.orca_core.specs.declared.fault.StepFault.{StepFault}
-use Rattle.orca_core.specs.declared.fault.StepFault.TheVariants as faults
+use Rattle.orca_parts.specs.declared.fault.StepFault.{StepFault}
+use Rattle.orca_parts.specs.declared.fault.StepFault.TheVariants as faults
 use Rattle.quiet_pass.specs.declared.ending.End.{End}
 use Rattle.quiet_pass.specs.declared.ending.End.TheVariants as ends
 

@@ -4,7 +4,7 @@ ghost use Rattle.std.specs.Prelude.{◌≡◌, ◌≢◌, ◌<◌, ◌≤◌, �
 ghost use Rattle.orca_names.specs.declared.limits.TheConstants.{BOOK_LIMIT};
 ghost use Rattle.event_rule.specs.Runs.{Goes};
 ghost use Rattle.machine_rules.specs.Next.{next};
-ghost use Rattle.orca_core.specs.Faults.{IsFault};
+ghost use Rattle.orca_parts.specs.Faults.{IsFault};
 ghost use Rattle.orca_core.specs.Laws.{IsRunOf};
 ghost use Rattle.orca_core.specs.Machine.{IsSame, NoneIsAway};
 ghost use Rattle.quiet_pass.specs.Ends.{EndsSo, GoesOnTo, IsEndOf};

@@ -11,7 +11,7 @@ use lib.ListN.{get_elem?}
 use Rattle.orca_names.specs.declared.trace.Trace.{Trace}
 use Rattle.behaviour_code.specs.declared.code.Program.{Program}
 use Rattle.actor_cell.specs.declared.cell.Cell.{Cell}
-use Rattle.orca_core.specs.Machine.{options_of}
+use Rattle.orca_parts.specs.Parts.{options_of}
 use Rattle.turn_log.proofs.Sums.{each_term, sum_set, term_le}
 use Rattle.turn_log.proofs.Places.{at_other}
 use Rattle.turn_log.specs.Knowing.{newcomer}

@@ -24,9 +24,8 @@ use Rattle.actor_cell.specs.declared.found.Found.TheVariants.{Collects, Goes, No
 use Rattle.actor_cell.specs.Cells.{IsSame, as_cell}
 use Rattle.actor_cell.specs.Founds.{IsFound}
 use Rattle.actor_table.specs.Slots.{home_in, home_of, slot_at}
-use Rattle.orca_core.specs.Away.{is_out, is_out_for}
-use Rattle.orca_core.specs.Founds.{IsFoundIn}
-use Rattle.orca_core.specs.Machine.{Machine, cell_here}
+use Rattle.orca_parts.specs.Away.{is_out, is_out_for}
+use Rattle.orca_core.specs.Machine.{Machine, cell_here, IsFoundIn}
 use Rattle.hall_rules.proofs.Finding.{CanFind}
 use Rattle.seat_hall.specs.Answers.{IsFoundOf}
 use Rattle.seat_hall.proofs.Busy.{IsBusy}

@@ -7,7 +7,7 @@ use Rattle.event_rule.specs.Runs.{NotEnabled, Step}
 use Rattle.event_rule.specs.declared.event.Event.{Event}
 use Rattle.machine_rules.specs.Next.{next}
 use Rattle.machine_rules.specs.State.{State}
-use Rattle.orca_core.specs.Away.{is_out}
+use Rattle.orca_parts.specs.Away.{is_out}
 use Rattle.orca_core.specs.Firsts.{is_free, next_of_kind}
 use Rattle.hall_rules.specs.Claims.{is_claimed}
 use Rattle.seat_hall.specs.Log.{claim_in, listed}

@@ -9,7 +9,7 @@ use Rattle.event_rule.specs.declared.event.Event.{Event}
 use Rattle.machine_rules.specs.Actors.{cell_at}
 use Rattle.machine_rules.specs.Next.{next}
 use Rattle.machine_rules.specs.State.{State, first_state}
-use Rattle.orca_core.specs.Machine.{options_of}
+use Rattle.orca_parts.specs.Parts.{options_of}
 use Rattle.orca_core.proofs.Reached.{leads_more}
 use Rattle.work_board.specs.declared.answers.Refuse.TheVariants as why
 use Rattle.hall_rules.specs.Causes.{absent_cause, actor_cause, busy_cause, event_at}

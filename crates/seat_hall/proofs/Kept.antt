@@ -23,9 +23,10 @@ use Rattle.machine_rules.proofs.Guards.{acked_open}
 use Rattle.run_book.specs.Books.{BookValue, IsWeight}
 use Rattle.count_laws.proofs.bounds.Bounding.{runs_make_few}
 use Rattle.cell_laws.proofs.Keeping.{runs_keep_program}
-use Rattle.orca_core.specs.Away.{KeepsAway, is_out, is_out_for}
+use Rattle.orca_parts.specs.Away.{KeepsAway, is_out, is_out_for}
 use Rattle.orca_core.specs.Laws.{IsRunOf}
-use Rattle.orca_core.specs.Machine.{IsSame, Machine, ReapsNoneAway, options_of}
+use Rattle.orca_core.specs.Machine.{IsSame, Machine, ReapsNoneAway}
+use Rattle.orca_parts.specs.Parts.{options_of}
 use Rattle.orca_core.proofs.Reached.{leads_more}
 use Rattle.work_board.specs.declared.answers.Refuse.TheVariants.{Budget}
 use Rattle.hall_rules.specs.Causes.{event_at, spent_cause}

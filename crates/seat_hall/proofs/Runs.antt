@@ -12,7 +12,7 @@ use Rattle.machine_rules.proofs.Enabling.{full_exactly}
 use Rattle.machine_rules.specs.Next.{next}
 use Rattle.machine_rules.specs.Run.{IsRun}
 use Rattle.machine_rules.specs.State.{State, first_state}
-use Rattle.orca_core.specs.Machine.{options_of}
+use Rattle.orca_parts.specs.Parts.{options_of}
 use Rattle.orca_core.proofs.Reached.{leads_more}
 use Rattle.work_board.specs.declared.answers.Refuse.TheVariants as why
 use Rattle.hall_rules.specs.Causes.{actor_cause, full_cause, spent_cause, unready_cause}

@@ -13,7 +13,7 @@ use Rattle.actor_cell.specs.Founds.{IsFound}
 use Rattle.machine_rules.specs.Actors.{Actors, cell_at}
 use Rattle.machine_rules.specs.Next.{next}
 use Rattle.orca_core.specs.Firsts.{HasFirst, is_free, next_of_kind}
-use Rattle.orca_core.specs.Woken.{IsLowestWoken}
+use Rattle.orca_parts.specs.Woken.{IsLowestWoken}
 use Rattle.work_board.specs.declared.answers.Committed.{Committed}
 use Rattle.work_board.specs.declared.answers.Look.{Look}
 use Rattle.work_board.specs.declared.answers.Look.TheVariants.{Actor, Detector, Others, Rest, Stop}

@@ -3,7 +3,8 @@ use Rattle.std.specs.Prelude.{ℕ, ◌≡◌, ◌≢◌, ◌<◌, ◌≤◌, Lis
 use mathlib.Core.List.{IsPrefix}
 use Rattle.run_book.specs.Books.{BookValue}
 use Rattle.orca_core.specs.Laws.{IsRunOf}
-use Rattle.orca_core.specs.Machine.{Machine, NoneIsAway, options_of}
+use Rattle.orca_core.specs.Machine.{Machine, NoneIsAway}
+use Rattle.orca_parts.specs.Parts.{options_of}
 use Rattle.turn_log.specs.Ends.{IsStillOpen}
 use Rattle.turn_log.specs.Seats.{knows}
 use Rattle.seat_hall.specs.declared.closing.Closing.{Closing}

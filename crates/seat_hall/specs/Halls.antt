@@ -5,8 +5,9 @@ use Rattle.behaviour_code.specs.declared.code.Program.{Program}
 use Rattle.machine_rules.specs.Run.{IsRun}
 use Rattle.machine_rules.specs.State.{State, first_state}
 use Rattle.run_book.specs.Books.{BookValue, IsWeight}
-use Rattle.orca_core.specs.Away.{is_out}
-use Rattle.orca_core.specs.Machine.{Machine, options_of}
+use Rattle.orca_parts.specs.Away.{is_out}
+use Rattle.orca_core.specs.Machine.{Machine}
+use Rattle.orca_parts.specs.Parts.{options_of}
 use Rattle.hall_rules.specs.Causes.{event_at}
 use Rattle.hall_rules.specs.Halls.{state_after}
 use Rattle.seat_hall.specs.declared.item.Item.{Item}

@@ -7,7 +7,7 @@ use Rattle.event_rule.specs.Events.{actor_of}
 use Rattle.event_rule.specs.declared.event.Event.{Event}
 use Rattle.machine_rules.specs.Next.{next}
 use Rattle.machine_rules.specs.State.{State, first_state}
-use Rattle.orca_core.specs.Machine.{options_of}
+use Rattle.orca_parts.specs.Parts.{options_of}
 use Rattle.work_board.specs.declared.answers.Refuse.{Refuse}
 use Rattle.hall_rules.specs.Causes.{absent_cause, actor_cause, busy_cause, event_at, full_cause, idle_cause, spent_cause, unready_cause}
 use Rattle.hall_rules.specs.Halls.{state_after}

@@ -12,7 +12,7 @@ use Rattle.letter_kinds.specs.Detector.{Token, has, token_numbered}
 use Rattle.actor_cell.specs.declared.cell.Cell.{Cell}
 use Rattle.machine_rules.specs.Next.{next}
 use Rattle.machine_rules.specs.Run.{IsRun}
-use Rattle.orca_core.specs.Machine.{options_of}
+use Rattle.orca_parts.specs.Parts.{options_of}
 use Rattle.seat_hall.specs.declared.item.Item.{Item}
 use Rattle.seat_hall.specs.declared.item.Item.TheVariants.{Entered}
 use Rattle.seat_hall.specs.declared.item.PassView.{PassView}

@@ -3,8 +3,8 @@
 ghost use Rattle.std.specs.Prelude.{◌≡◌, ◌<◌, false, IfErr, IfOk, None, OnErr, OnOk, Some, length, vec_capacity, vec_len};
 ghost use Rattle.std.specs.Option.{ForSome, option_or};
 ghost use Rattle.machine_rules.specs.Next.{next};
-ghost use Rattle.orca_core.specs.Away.{is_out_for};
-ghost use Rattle.orca_core.specs.Founds.{IsFoundIn};
+ghost use Rattle.orca_parts.specs.Away.{is_out_for};
+ghost use Rattle.orca_core.specs.Machine.{IsFoundIn};
 ghost use Rattle.hall_rules.specs.Causes.{actor_cause, spent_cause, unready_cause};
 ghost use Rattle.seat_hall.specs.declared.item.Item.TheVariants.{Ended, Entered};
 ghost use Rattle.seat_hall.specs.Answers.{Enters, IsFoundOf, RefusesEntry};

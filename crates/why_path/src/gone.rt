@@ -7,7 +7,8 @@ ghost use Rattle.machine_rules.specs.Next.{next};
 ghost use Rattle.machine_rules.specs.State.{State, first_state};
 ghost use Rattle.machine_rules.specs.Run.{IsRun};
 ghost use Rattle.orca_names.specs.declared.limits.TheConstants.{BOOK_LIMIT};
-ghost use Rattle.orca_core.specs.Machine.{NoneIsAway, options_of};
+ghost use Rattle.orca_core.specs.Machine.{NoneIsAway};
+ghost use Rattle.orca_parts.specs.Parts.{options_of};
 ghost use Rattle.why_path.specs.Partings.{parting_at, partings_of};
 
 use behaviour_check::Checked;

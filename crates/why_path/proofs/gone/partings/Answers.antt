@@ -4,7 +4,7 @@ use Rattle.std.proofs.lemmas.List.{drop_all}
 use Rattle.event_rule.specs.Runs.{Leads}
 use Rattle.machine_rules.specs.Next.{next}
 use Rattle.machine_rules.specs.State.{first_state}
-use Rattle.orca_core.specs.Machine.{options_of}
+use Rattle.orca_parts.specs.Parts.{options_of}
 use Rattle.why_path.specs.Partings.{partings_of}
 use Rattle.why_path.proofs.Parting.{entry_leads, entry_told, others_lead}
 use Rattle.why_path.proofs.gone.partings.Goals as goal

@@ -2,7 +2,8 @@ use Rattle.std.proofs.Common.{◌≡◌, ◌++◌, drop}
 use Rattle.event_rule.specs.Runs.{Leads}
 use Rattle.machine_rules.specs.Next.{next}
 use Rattle.machine_rules.specs.State.{State, first_state}
-use Rattle.orca_core.specs.Machine.{NoneIsAway, options_of}
+use Rattle.orca_core.specs.Machine.{NoneIsAway}
+use Rattle.orca_parts.specs.Parts.{options_of}
 use Rattle.why_path.specs.Partings.{partings_of}
 use Rattle.why_path.proofs.gone.partings.Given as goal
 

@@ -1,7 +1,7 @@
 use Rattle.std.proofs.Common.{sym, subst, ◌∙◌}
-use Rattle.orca_core.specs.Away.{next_without}
-use Rattle.orca_core.specs.Faults.{IsFault}
-use Rattle.orca_core.specs.declared.fault.StepFault.TheVariants as faults
+use Rattle.orca_parts.specs.Away.{next_without}
+use Rattle.orca_parts.specs.Faults.{IsFault}
+use Rattle.orca_parts.specs.declared.fault.StepFault.TheVariants as faults
 use Rattle.orca_core.proofs.Enabled.{with_none_away}
 use Rattle.why_path.proofs.gone.step.Goals as goal
 

@@ -1,6 +1,6 @@
 use Rattle.std.proofs.Common.{◌∙◌, ap}
 use Rattle.orca_names.specs.declared.trace.Trace.TheVariants.{Deep}
-use Rattle.orca_core.specs.Machine.{options_of}
+use Rattle.orca_parts.specs.Parts.{options_of}
 use Rattle.hall_rules.specs.Halls.{HallValue}
 use Rattle.book_hall.proofs.Keeping.{kept_run}
 use Rattle.book_hall.proofs.hall.Hall.into_parts.Goals as goal

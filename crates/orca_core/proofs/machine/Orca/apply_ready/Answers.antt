@@ -1,8 +1,8 @@
 use Rattle.std.proofs.Common.{subst, sym, ◌∙◌}
 use Rattle.actor_table.specs.Slots.{actors_of}
 use Rattle.orca_core.specs.Machine.{Machine}
-use Rattle.orca_core.specs.Ready.{event_of}
-use Rattle.orca_core.specs.Woken.{IsLowestWoken}
+use Rattle.orca_parts.specs.Ready.{event_of}
+use Rattle.orca_parts.specs.Woken.{IsLowestWoken}
 use Rattle.turn_step.proofs.Resting.{both}
 use Rattle.orca_core.proofs.Reached.{can_step, early_still, reached_more}
 use Rattle.orca_core.proofs.machine.Orca.apply_ready.Goals as goal

@@ -5,8 +5,8 @@ use Rattle.event_rule.specs.declared.event.Event.TheVariants.{Reap}
 use Rattle.actor_table.specs.Slots.{away_of}
 use Rattle.orca_core.specs.Firsts.{next_of_kind}
 use Rattle.event_rule.specs.Events.{is_of_detector}
-use Rattle.orca_core.specs.Machine.{Machine, options_of}
-use Rattle.orca_core.specs.Parts.{state_of}
+use Rattle.orca_core.specs.Machine.{Machine}
+use Rattle.orca_parts.specs.Parts.{state_of, options_of}
 use Rattle.orca_core.proofs.Firsts.{first_of_tokens}
 use Rattle.orca_core.proofs.machine.Orca.first_of_detector.Goals as goal
 

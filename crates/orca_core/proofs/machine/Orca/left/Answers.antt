@@ -3,7 +3,8 @@ use Rattle.machine_rules.specs.Actors.{cell_at}
 use Rattle.count_laws.proofs.bounds.Bounding.{runs_make_few}
 use Rattle.actor_cell.specs.Cells.{as_cell}
 use Rattle.actor_table.specs.Slots.{actors_of}
-use Rattle.orca_core.specs.Machine.{Machine, cell_here, options_of}
+use Rattle.orca_core.specs.Machine.{Machine, cell_here}
+use Rattle.orca_parts.specs.Parts.{options_of}
 use Rattle.orca_core.proofs.Listing.{IsLeftBelow, all_below, gone_below, here_at_home, more_below, none_below}
 use Rattle.orca_core.proofs.machine.Orca.left.Goals as goal
 use Rattle.orca_core.proofs.machine.Orca.left.Goals.{in-Some+in_ok-push_things, in_default}

@@ -1,10 +1,9 @@
 use Rattle.std.proofs.Common.{◌≡◌, false, rules, ap, subst, sym, ◌∙◌}
 use Rattle.actor_table.specs.Slots.{away_of}
-use Rattle.orca_core.specs.Away.{is_out_for}
-use Rattle.orca_core.specs.Founds.{IsFoundIn}
-use Rattle.orca_core.specs.Parts.{state_of}
-use Rattle.orca_core.specs.Machine.{IsSame, Machine, ReapsNoneAway, options_of}
-use Rattle.orca_core.proofs.Readied.{fits_home}
+use Rattle.orca_parts.specs.Away.{is_out_for}
+use Rattle.orca_parts.specs.Parts.{state_of, options_of}
+use Rattle.orca_core.specs.Machine.{IsSame, Machine, ReapsNoneAway, IsFoundIn}
+use Rattle.orca_parts.proofs.Readied.{fits_home}
 use Rattle.orca_core.proofs.Reached.{can_step, early_still, reached_still, reaps_at_home, same_still}
 use Rattle.orca_core.proofs.machine.Orca.prepare_from.Goals as goal
 

@@ -1,8 +1,8 @@
 use Rattle.std.proofs.Common.{◌≡◌, ℕ, zero, suc, Bool, false, List, [], ◌∷◌, ap, refl, subst, sym, arith}
 use Rattle.behaviour_check.specs.Rules.{IsChecked}
 use Rattle.machine_rules.specs.State.{first_state}
-use Rattle.orca_core.specs.Away.{is_out}
-use Rattle.orca_core.specs.Machine.{options_of}
+use Rattle.orca_parts.specs.Away.{is_out}
+use Rattle.orca_parts.specs.Parts.{options_of}
 use Rattle.orca_core.proofs.machine.Orca.start.Goals as goal
 
 pub invariant_of-result : goal.invariant_of-result

@@ -5,7 +5,7 @@ use Rattle.machine_rules.specs.Actors.{Actors}
 use Rattle.machine_rules.specs.Next.{next}
 use Rattle.machine_rules.specs.Options.{Options}
 use Rattle.machine_rules.specs.State.{first_state}
-use Rattle.orca_core.specs.Machine.{options_of}
+use Rattle.orca_parts.specs.Parts.{options_of}
 use Rattle.hall_rules.specs.Causes.{spent_cause, unready_cause}
 use Rattle.hall_rules.specs.Halls.{state_after}
 use Rattle.seat_hall.specs.declared.item.Item.TheVariants.{Entered}

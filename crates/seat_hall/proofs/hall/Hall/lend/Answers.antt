@@ -3,7 +3,7 @@ use Rattle.std.specs.Prelude.{if◌then◌else◌}
 use Rattle.orca_names.specs.declared.limits.TheConstants.{BOOK_LIMIT}
 use Rattle.behaviour_code.specs.WellFormed.{IsWellFormed}
 use Rattle.machine_rules.specs.Actors.{cell_at}
-use Rattle.orca_core.specs.Machine.{options_of}
+use Rattle.orca_parts.specs.Parts.{options_of}
 use Rattle.actor_cell.specs.Cells.{as_cell}
 use Rattle.hall_rules.specs.Causes.{event_at}
 use Rattle.hall_rules.proofs.Firsts.{event_of_actor}

@@ -1,0 +1,95 @@
+-- Where cells are, and that whose cells are away stays so.
+use Rattle.std.proofs.Common.{◌≡◌, ℕ, zero, suc, Bool, false, List, [], ◌∷◌, ◌++◌, length, get_or, map, set, Some, true, arith, inl, inr, refl, sym, ap, subst, ◌∙◌}
+use Rattle.std.proofs.lemmas.Bool.{cases_eq, cases_lt}
+use Rattle.std.proofs.lemmas.Bool.Decides.{nat_tests}
+use Rattle.std.proofs.lemmas.List.{get_or-set_same, get_or-set_other, set_past}
+use Rattle.std.proofs.Math.ListN.{get_or-map}
+use Rattle.letter_kinds.specs.Detector.{has}
+use Rattle.actor_table.specs.declared.slot.Slot.{Slot}
+use Rattle.letter_kinds.specs.declared.letter.Letter.{Letter}
+use Rattle.machine_rules.specs.Actors.{Actors}
+use Rattle.actor_cell.specs.declared.cell.Cell.{Cell}
+use Rattle.actor_table.specs.declared.slot.Place.{Place}
+use Rattle.actor_table.specs.declared.slot.Place.TheVariants.{Home, Away, Gone}
+use Rattle.actor_table.specs.Slots.{actors_of, away_of, gone, home_in, home_of, is_away, is_away_in, letters_in, places_of, seat_in, slot_at}
+use Rattle.orca_parts.specs.Away.{KeepsAway, is_out}
+use Rattle.orca_parts.specs.Fits.{without_all}
+
+pub away_read : (slots : List Slot) (a : ℕ) → is_out (away_of slots) a ≡ is_away (slot_at slots a)
+away_read slots a = get_or-map is_away slots a gone
+
+pub place_read : (slots : List Slot) (a : ℕ) → get_or (places_of slots) a Gone ≡ (slot_at slots a).place
+place_read slots a = get_or-map (λ (x : Slot). x.place) slots a gone
+
+-- ---- what is told by the places and the letters
+
+seats_of : List Place → List (List Letter) → Actors
+seats_of [] rows = []
+seats_of (p ∷ places) [] = []
+seats_of (p ∷ places) (letters ∷ rows) = seat_in p letters ∷ seats_of places rows
+
+actors_read : (slots : List Slot) → actors_of slots ≡ seats_of (places_of slots) (letters_in slots)
+unfolding seats_of
+actors_read [] = refl
+actors_read (x ∷ slots) = ap (λ os. seat_in x.place x.mail.letters ∷ os) (actors_read slots)
+
+-- tables of the same places and letters have the same actors
+pub same_actors : (new old : List Slot) → places_of new ≡ places_of old → letters_in new ≡ letters_in old → actors_of new ≡ actors_of old
+same_actors new old places letters = actors_read new ∙ (λ i. seats_of (places i) (letters i)) ∙ sym (actors_read old)
+
+aways_read : (slots : List Slot) → away_of slots ≡ map is_away_in (places_of slots)
+aways_read [] = refl
+aways_read (x ∷ slots) = ap (λ bs. is_away_in x.place ∷ bs) (aways_read slots)
+
+-- and the same ones are away
+pub same_away : (new old : List Slot) → places_of new ≡ places_of old → away_of new ≡ away_of old
+same_away new old places = aways_read new ∙ ap (map is_away_in) places ∙ sym (aways_read old)
+
+-- ---- one place
+
+-- a cell that is lent of a place is at home there
+pub home_place : (place : Place) (c : Cell) → home_in place ≡ Some c → place ≡ Home c
+home_place (Home d) c is = ap Home (let z : Some d ≡ Some c = is in cc)
+home_place (Away d) c is = cc
+home_place Gone c is = cc
+
+pub home_is : (x : Slot) (c : Cell) → Some c ≡ home_of x → x.place ≡ Home c
+home_is x c lent = home_place x.place c (sym lent)
+
+-- and not away
+pub home_stays : (slots : List Slot) (a : ℕ) (c : Cell) → (slot_at slots a).place ≡ Home c → is_out (away_of slots) a ≡ false
+home_stays slots a c home = away_read slots a ∙ ap is_away_in home
+
+-- ---- the same cells are away
+
+-- where one comes whose cell is at home
+pub pushed_keeps : (slots : List Slot) (x : Slot) → is_away x ≡ false → KeepsAway (away_of slots) (away_of (slots ++ x ∷ []))
+pushed_keeps [] x is zero = is
+pushed_keeps [] x is (suc a) = refl
+pushed_keeps (y ∷ slots) x is zero = refl
+pushed_keeps (y ∷ slots) x is (suc a) = pushed_keeps slots x is a
+
+-- where one goes whose cell is at home
+pub without_keeps : (away : List Bool) (m : ℕ) → is_out away m ≡ false → KeepsAway away (set away m false)
+without_keeps away m home b = elim (cases_lt m (length away)) as (λ _. is_out (set away m false) b ≡ is_out away b) [
+  | inl h ↦ elim (cases_eq b m) as (λ _. is_out (set away m false) b ≡ is_out away b) [
+    | inl same ↦ subst (λ c. is_out (set away m false) c ≡ is_out away c) (sym same) (get_or-set_same away m false false h ∙ sym home)
+    | inr other ↦ get_or-set_other away m b false false other
+  ]
+  | inr past ↦ ap (λ xs. is_out xs b) (set_past away m false past)
+]
+
+-- where these go
+pub without_all_keeps : (members : List ℕ) (away : List Bool) → ((m : ℕ) → has members m ≡ true → is_out away m ≡ false)
+    → KeepsAway away (without_all members away)
+without_all_keeps [] away home a = refl
+without_all_keeps (m ∷ members) away home a =
+    let first : is_out away m ≡ false = home m (has_first m members) in
+    without_all_keeps members (set away m false) (λ n member. without_keeps away m first n ∙ home n (has_later m n members member)) a
+    ∙ without_keeps away m first a
+  where
+    has_first : (m : ℕ) (members : List ℕ) → has (m ∷ members) m ≡ true
+    has_first m members = grind (arith, nat_tests)
+
+    has_later : (m n : ℕ) (members : List ℕ) → has members n ≡ true → has (m ∷ members) n ≡ true
+    has_later m n members member = grind (arith, nat_tests)

@@ -1,0 +1,17 @@
+pub mod Allowing
+pub mod Asking
+pub mod Awaiting
+pub mod Fitting
+pub mod Founding
+pub mod Giving
+pub mod Gone
+pub mod Homes
+pub mod Naming
+pub mod Posting
+pub mod Prepared
+pub mod Preparing
+pub mod Readied
+pub mod Reaping
+pub mod Reserving
+pub mod Stepped
+pub mod Waking

@@ -1,0 +1,148 @@
+-- A turn that was found, and what it takes to be prepared.
+use Rattle.std.proofs.Common.{Bool, ◌≡◌, ◌≤◌, ℕ, false, List, length, get_or, Option, None, Some, refl, sym, ap, subst, ◌∙◌}
+use Rattle.std.specs.Prelude.{if◌then◌else◌, is_err, is_some, IfErr, IsSomeAnd, OnOk}
+use Rattle.std.specs.declared.result.Result.{Result}
+use Rattle.std.specs.declared.result.Result.TheVariants.{Ok, Err}
+use Rattle.std.specs.Option.{option_map_or}
+use Rattle.orca_names.specs.declared.limits.TheConstants.{BODY_LIMIT}
+use Rattle.behaviour_code.specs.declared.code.Program.{Program}
+use Rattle.turn_rules.specs.Segment.{Turn}
+use Rattle.turn_rules.specs.declared.act.Frame.{Frame}
+use Rattle.event_rule.specs.Runs.{NotEnabled}
+use Rattle.event_rule.specs.declared.event.Event.{Event}
+use Rattle.event_rule.specs.declared.event.Event.TheVariants.{Go as go_event}
+use Rattle.letter_kinds.specs.declared.letter.Letter.{Letter}
+use Rattle.machine_rules.specs.Actors.{Seat, seat, seat_at}
+use Rattle.machine_rules.specs.Cell as rules
+use Rattle.machine_rules.specs.Go.{go}
+use Rattle.machine_rules.specs.Guards.{may_go}
+use Rattle.machine_rules.specs.Next.{acting}
+use Rattle.machine_rules.specs.State.{State}
+use Rattle.orca_names.specs.declared.trace.Trace.{Trace}
+use Rattle.actor_cell.specs.declared.cell.Cell.{Cell}
+use Rattle.actor_cell.specs.Moves.{act_in}
+use Rattle.actor_cell.specs.declared.turning.Turned.{Turned}
+use Rattle.actor_cell.specs.Cells.{as_cell}
+use Rattle.actor_cell.specs.Goes.{IsTold, told, turned_in}
+use Rattle.actor_table.specs.declared.slot.Slot.{Slot}
+use Rattle.actor_table.specs.declared.slot.Place.{Place}
+use Rattle.actor_table.specs.declared.slot.Place.TheVariants.{Home, Away, Gone}
+use Rattle.actor_table.specs.Changes.{HasCell, HasRoomToGo}
+use Rattle.actor_table.specs.Slots.{Table, actors_of, away_of, is_away, is_away_in, places_of, seat_in, slot_at}
+use Rattle.actor_table.proofs.Changing.{seat_read}
+use Rattle.orca_parts.specs.Away.{is_out, next_without}
+use Rattle.orca_parts.specs.Faults.{IsFault}
+use Rattle.orca_parts.proofs.Homes.{away_read, place_read}
+use Rattle.orca_parts.specs.Fits.{OnlyRoom}
+use Rattle.orca_parts.specs.Goes.{FitsGo, HasRoomOut, IsFoundGo, NotGoing}
+use Rattle.orca_parts.specs.Parts.{state_of}
+use Rattle.orca_parts.specs.declared.parts.Parts.{Parts}
+use Rattle.orca_parts.proofs.Giving.{seat_here}
+use Rattle.orca_parts.specs.declared.fault.StepFault.{StepFault}
+use Rattle.orca_parts.specs.declared.fault.StepFault.TheVariants as faults
+
+-- an actor that is present and not away has its cell at home
+pub at_home : (slots : List Slot) (a : ℕ) (c : rules.Cell) (mail : List Letter) → seat_at (actors_of slots) a ≡ seat c mail
+    → is_away (slot_at slots a) ≡ false → HasCell (slot_at slots a) (λ x. as_cell x ≡ c)
+at_home slots a c mail there home = by (slot_at slots a).place refl
+  where
+    x : Slot
+    x = slot_at slots a
+
+    seated : seat_in x.place x.mail.letters ≡ seat c mail
+    seated = sym (seat_read slots a) ∙ there
+
+    by : (place : Place) → x.place ≡ place → HasCell x (λ y. as_cell y ≡ c)
+    by (Home y) is = record {
+      cell = y;
+      home = is;
+      so = ap (λ o. option_map_or (λ (s : Seat). s.cell) o c) (sym (ap (λ p. seat_in p x.mail.letters) is) ∙ seated);
+    }
+    by (Away y) is = let z = sym (ap is_away_in is) ∙ home in cc
+    by Gone is = let z = sym (ap (λ p. seat_in p x.mail.letters) is) ∙ seated in cc
+
+-- where no turn was found, a go is not enabled, the cell is away, or memory was refused
+pub not_going : (trace : Trace) (s : State) (slots : List Slot) (a : ℕ) (fault : StepFault) → s.actors ≡ actors_of slots
+    → NotGoing (slot_at slots a) fault
+    → IsFault (if is_out (away_of slots) a then NotEnabled else acting may_go (go trace s a) (seat_at s.actors a)) (go_event a) fault
+not_going trace s slots a faults.NotEnabled same none = by (slot_at slots a).place refl
+  where
+    x : Slot
+    x = slot_at slots a
+
+    read : (if is_out (away_of slots) a then NotEnabled else acting may_go (go trace s a) (seat_at s.actors a))
+        ≡ (if is_away_in x.place then NotEnabled else acting may_go (go trace s a) (seat_in x.place x.mail.letters))
+    read = λ i. if away_read slots a i then NotEnabled else acting may_go (go trace s a) ((ap (λ xs. seat_at xs a) same ∙ seat_read slots a) i)
+
+    by : (place : Place) → x.place ≡ place → (if is_out (away_of slots) a then NotEnabled else acting may_go (go trace s a) (seat_at s.actors a)) ≡ NotEnabled
+    by place is = read ∙ ap (λ p. if is_away_in p then NotEnabled else acting may_go (go trace s a) (seat_in p x.mail.letters)) is ∙ off place is
+      where
+        off : (place : Place) → x.place ≡ place → (if is_away_in place then NotEnabled else acting may_go (go trace s a) (seat_in place x.mail.letters)) ≡ NotEnabled
+        off (Home c) at = ap (λ f. if is_some f then go trace s a (as_cell c) x.mail.letters else NotEnabled) (none c at)
+        off (Away c) at = refl
+        off Gone at = refl
+not_going trace s slots a (faults.ActorsFull b) same none = absurd none
+not_going trace s slots a faults.NoMemory same none = tt
+
+-- the fault of an event is that of what the event is
+pub fault_same : {A : Type 0} (away : List Bool) (s : State) (e f : Event) (r : Result A StepFault) → e ≡ f
+    → IfErr r (IsFault (next_without away s f) f) → IfErr r (IsFault (next_without away s e) e)
+fault_same away s e f r same is = subst (λ g. IfErr r (IsFault (next_without away s g) g)) (sym same) is
+
+-- ---- one after another
+
+-- what comes with Ok, where there is no Err
+pub when_ok : {A E P : Type 0} (r : Result A E) → false ≡ is_err r → OnOk r P → P
+when_ok (Ok x) none so = so
+when_ok (Err x) none so = cc
+
+pub only_room_then : (one two three : Parts) → OnlyRoom one two → OnlyRoom two three → OnlyRoom one three
+only_room_then one two three first second =
+    record { state = λ p o. second.state p o ∙ first.state p o; away = second.away ∙ first.away }
+
+-- the table has more room, and the room for a turn is used
+pub table_room : (m : Parts) (table : Table) (turn : Turn) → actors_of table.slots ≡ actors_of m.table.slots → away_of table.slots ≡ away_of m.table.slots
+    → OnlyRoom m (record m { table = table; turn = turn })
+table_room m table turn actors away =
+    record { state = λ p o. ap (λ xs. record (state_of p o m) { actors = xs }) actors; away = away }
+
+-- what was found fits, once the memory was taken
+module _ (trace : Trace) (weight : ℕ) (program : Program) (a : ℕ) (found : Turned) (old : List Slot) (turn : Turn) (mid : List Slot) (m : Parts) where
+  fits_with : (c : Cell) → (slot_at old a).place ≡ Home c → (frame : Frame) → c.frame ≡ Some frame
+      → IsTold trace weight program a (as_cell c) turn found.place (act_in found) frame
+      → (x : Cell) → (slot_at mid a).place ≡ Home x → as_cell x ≡ as_cell c
+      → HasRoomToGo turn (act_in found) (slot_at mid a) → places_of m.table.slots ≡ places_of mid → m.turn ≡ turn
+      → HasRoomOut (act_in found) m → length turn.made ≤ BODY_LIMIT
+      → FitsGo trace weight program a found m
+  fits_with c home frame framed is x at same room places kept out few =
+      let sizes = room x at in
+      record {
+        cell = x;
+        home = sym (place_read m.table.slots a) ∙ ap (λ ps. get_or ps a Gone) places ∙ place_read mid a ∙ at;
+        frame = frame;
+        framed = ap (λ (y : rules.Cell). y.frame) same ∙ framed;
+        found_is = ap (λ y. turned_in trace weight program a y frame) same ∙ is ∙ (λ i. told frame (sym same i) (sym kept i) found.place (act_in found));
+        few = subst (λ (t : Turn). length t.made ≤ BODY_LIMIT) (sym kept) few;
+        objects = subst (λ (t : Turn). length t.made ≤ x.heap.spare) (sym kept) sizes.0;
+        entries = sizes.1;
+        room = out;
+      }
+
+  pub fits_go : HasCell (slot_at old a) (IsFoundGo trace weight program a turn found)
+      → actors_of mid ≡ actors_of old → away_of mid ≡ away_of old
+      → HasRoomToGo turn (act_in found) (slot_at mid a) → places_of m.table.slots ≡ places_of mid → m.turn ≡ turn
+      → HasRoomOut (act_in found) m → length turn.made ≤ BODY_LIMIT
+      → FitsGo trace weight program a found m
+  fits_go cell actors away room places kept out few =
+      let c = cell.cell in
+      let home : is_away (slot_at mid a) ≡ false =
+      sym (away_read mid a) ∙ ap (λ bs. get_or bs a false) away ∙ away_read old a ∙ ap is_away_in cell.home in
+      let x = at_home mid a (as_cell c) (slot_at old a).mail.letters (ap (λ xs. seat_at xs a) actors ∙ seat_here old a c cell.home) home in
+      by c.frame refl cell.so x
+    where
+      by : (f : Option Frame) → cell.cell.frame ≡ f
+          → IsSomeAnd f (IsTold trace weight program a (as_cell cell.cell) turn found.place (act_in found))
+          → HasCell (slot_at mid a) (λ x. as_cell x ≡ as_cell cell.cell) → FitsGo trace weight program a found m
+      by None framed is x = absurd is
+      by (Some frame) framed is x =
+          fits_with cell.cell cell.home frame framed is x.cell x.home x.so room places kept out few

@@ -1,0 +1,181 @@
+-- What a step finds of its actor before it changes anything.
+use Rattle.std.proofs.Common.{◌≡◌, ℕ, ◌<◌, ◌≤◌, subst, inl, inr, Bool, true, false, List, [], ◌∷◌, map, get_or, length, Option, Some, None, refl, sym, ap, ◌∙◌, arith}
+use Rattle.std.specs.Prelude.{◌&&◌, if◌then◌else◌, is_none}
+use Rattle.std.specs.Option.{option_map_or}
+use Rattle.std.proofs.lemmas.Bool.{cases_lt}
+use Rattle.std.proofs.lemmas.List.{get_or-map, get_or_past, length-map}
+use Rattle.event_rule.specs.Runs.{NotEnabled, Step}
+use Rattle.std.specs.VecDeque.{deque_capacity, deque_len}
+use Rattle.letter_kinds.specs.declared.letter.Letter.{Letter}
+use Rattle.letter_kinds.specs.declared.note.Note.{Note}
+use Rattle.turn_rules.specs.declared.act.Frame.{Frame}
+use Rattle.machine_rules.specs.Actors.{Seat, seat_at}
+use Rattle.machine_rules.specs.Cell as rules
+use Rattle.machine_rules.specs.Next.{acting}
+use Rattle.machine_rules.specs.State.{State}
+use Rattle.machine_rules.specs.Guards.{may_block, may_collect, may_leave, may_take}
+use Rattle.machine_rules.specs.Collect.{is_marked}
+use Rattle.orca_names.specs.declared.trace.Trace.{Trace}
+use Rattle.letter_kinds.specs.Counting.{by_owner, given_back}
+use Rattle.known_rows.specs.Holdings.{holdings_of}
+use Rattle.local_sweep.proofs.GivenBack.{back_rises}
+use Rattle.actor_cell.specs.declared.cell.Cell.{Cell}
+use Rattle.actor_cell.specs.Cells.{as_cell}
+use Rattle.actor_cell.specs.Outs.{left_behind, letters_of, report_of}
+use Rattle.actor_cell.specs.declared.sweeping.Sweep.{Sweep}
+use Rattle.actor_cell.specs.Sweeps.{sweep_of}
+use Rattle.actor_cell.proofs.Marked.{back_same}
+use Rattle.actor_table.specs.declared.slot.Place.{Place}
+use Rattle.actor_table.specs.declared.slot.Place.TheVariants.{Home, Away, Gone}
+use Rattle.actor_table.specs.declared.slot.Slot.{Slot}
+use Rattle.actor_table.specs.Changes.{HasRoomToTake}
+use Rattle.actor_table.specs.Slots.{actors_of, away_of, gone, home_of, is_away, is_away_in, letters_in, may_at, may_in, places_of, seat_in, seat_of, slot_at}
+use Rattle.actor_table.proofs.Changing.{seat_read}
+use Rattle.orca_parts.specs.declared.parts.Parts.{Parts}
+use Rattle.orca_parts.specs.Fits.{FitsBlock, FitsCollect, FitsLeave, FitsTake, OnlyRoom}
+use Rattle.orca_parts.specs.Letters.{FitLetters, letters_to}
+use Rattle.orca_parts.specs.Away.{is_out}
+use Rattle.orca_parts.proofs.Homes.{away_read, home_is}
+use Rattle.orca_parts.proofs.Reserving.{once_each}
+
+module _ (may : rules.Cell → List Letter → Bool) where
+  -- an actor that may not act at home is away, or its event is not enabled
+  pub no_step : (act : rules.Cell → List Letter → Step State) (slots : List Slot) (a : ℕ) → may_at may (slot_at slots a) ≡ false
+      → (if is_out (away_of slots) a then NotEnabled else acting may act (seat_at (actors_of slots) a)) ≡ NotEnabled
+  no_step act slots a off =
+      (λ i. if away_read slots a i then NotEnabled else acting may act (seat_read slots a i)) ∙ by (slot_at slots a).place (slot_at slots a).mail.letters off
+    where
+      by : (p : Place) (letters : List Letter) → may_in may p letters ≡ false → (if is_away_in p then NotEnabled else acting may act (seat_in p letters)) ≡ NotEnabled
+      by (Home c) letters off = ap (λ q. if q then act (as_cell c) letters else NotEnabled) off
+      by (Away c) letters off = refl
+      by Gone letters off = refl
+
+  -- what it may, the cell at home may
+  pub may_here : (x : Slot) (c : Cell) → x.place ≡ Home c → may_at may x ≡ true → may (as_cell c) x.mail.letters ≡ true
+  may_here x c home on = sym (ap (λ p. may_in may p x.mail.letters) home) ∙ on
+
+pub fits_block : (a : ℕ) (note : Note) (m : Parts) (c : Cell) → m.report ≡ Some note → Some c ≡ home_of (slot_at m.table.slots a) → c.heap.owner ≡ a
+    → may_at may_block (slot_at m.table.slots a) ≡ true → note ≡ report_of c.heap.owner (as_cell c)
+    → deque_len m.notes < deque_capacity m.notes → FitsBlock a m
+fits_block a note m c told lent own may is room =
+    let home = home_is (slot_at m.table.slots a) c lent in
+    record {
+      cell = c;
+      home = home;
+      may = may_here may_block (slot_at m.table.slots a) c home may;
+      report = told ∙ ap (λ n. Some n) (is ∙ ap (λ me. report_of me (as_cell c)) own);
+      room = room;
+    }
+
+-- what is read of a place
+pub read_by : {A : Type 0} (f : Slot → A) (slots : List Slot) (a : ℕ) → get_or (map f slots) a (f gone) ≡ f (slot_at slots a)
+read_by f slots a = elim (cases_lt a (length slots)) as (λ _. get_or (map f slots) a (f gone) ≡ f (slot_at slots a)) [
+  | inl h ↦ get_or-map f slots a gone (f gone) h
+  | inr h ↦ get_or_past (map f slots) a (f gone) (omega (arith, length-map slots f)) ∙ ap f (sym (get_or_past slots a gone h))
+]
+
+-- what is the same of all places is the same of each
+pub same_at : {A : Type 0} (f : Slot → A) (new old : List Slot) → map f new ≡ map f old → (a : ℕ) → f (slot_at new a) ≡ f (slot_at old a)
+same_at f new old same a = sym (read_by f new a) ∙ ap (λ xs. get_or xs a (f gone)) same ∙ read_by f old a
+
+-- whether it may is a matter of its seat, and of whether its cell is away
+may_by : (may : rules.Cell → List Letter → Bool) (p : Place) (letters : List Letter)
+    → may_in may p letters ≡ (if is_away_in p then false else option_map_or (λ (o : Seat). may o.cell o.mail) (seat_in p letters) false)
+may_by may (Home c) letters = refl
+may_by may (Away c) letters = refl
+may_by may Gone letters = refl
+
+pub may_stays : (may : rules.Cell → List Letter → Bool) (x y : Slot) → seat_of y ≡ seat_of x → is_away y ≡ is_away x → may_at may y ≡ may_at may x
+may_stays may x y seat away =
+    may_by may y.place y.mail.letters
+    ∙ (λ i. if away i then false else option_map_or (λ (o : Seat). may o.cell o.mail) (seat i) false)
+    ∙ sym (may_by may x.place x.mail.letters)
+
+idle_and : (frame : Option Frame) (b : Bool) → (is_none frame && b) ≡ true → (frame ≡ None) × (b ≡ true)
+idle_and None b on = (refl, on)
+idle_and (Some f) b on = cc
+
+pub fits_take : (a : ℕ) (m : Parts) (old : List Slot) → actors_of m.table.slots ≡ actors_of old → away_of m.table.slots ≡ away_of old
+    → may_at may_take (slot_at old a) ≡ true → HasRoomToTake (slot_at m.table.slots a) → deque_len m.notes < deque_capacity m.notes → FitsTake a m
+fits_take a m old actors away may room note =
+    by x.place refl x.mail.letters refl (may_stays may_take (slot_at old a) x (same_at seat_of m.table.slots old actors a) (same_at is_away m.table.slots old away a) ∙ may)
+  where
+    x : Slot
+    x = slot_at m.table.slots a
+
+    by : (p : Place) → x.place ≡ p → (letters : List Letter) → x.mail.letters ≡ letters → may_in may_take p letters ≡ true → FitsTake a m
+    by (Home c) home [] is on = let z = (idle_and c.frame false on).1 in cc
+    by (Home c) home (letter ∷ later) is on = record {
+      cell = c;
+      home = home;
+      letter = letter;
+      later = later;
+      letters = is;
+      idle = (idle_and c.frame true on).0;
+      room = room c letter later home is;
+      note = λ _. note;
+    }
+    by (Away c) home letters is on = cc
+    by Gone home letters is on = cc
+
+-- but for room all is the same where the actors, and what is to be heard, are
+pub only_room : (old new : Parts) → new.detector ≡ old.detector → new.prints ≡ old.prints → new.objects ≡ old.objects → actors_of new.table.slots ≡ actors_of old.table.slots
+    → away_of new.table.slots ≡ away_of old.table.slots → new.notes.items ≡ old.notes.items → OnlyRoom old new
+only_room old new detector prints objects actors away notes = record {
+  state = λ program options. λ i. record {
+    program = program;
+    options = options;
+    actors = actors i;
+    detector = (detector i).state;
+    notes = notes i;
+    prints = (prints i).items;
+    objects = objects i;
+  };
+  away = away;
+}
+
+-- ---- where the places and the letters stay
+
+module _ (a : ℕ) (m : Parts) (old : List Slot) (places : places_of m.table.slots ≡ places_of old) (rows : letters_in m.table.slots ≡ letters_in old) where
+  abbrev new_slot : Slot
+  new_slot = slot_at m.table.slots a
+
+  home_still : (c : Cell) → Some c ≡ home_of (slot_at old a) → new_slot.place ≡ Home c
+  home_still c lent = same_at (λ x. x.place) m.table.slots old places a ∙ home_is (slot_at old a) c lent
+
+  may_still : (may : rules.Cell → List Letter → Bool) (c : Cell) → Some c ≡ home_of (slot_at old a) → may_at may (slot_at old a) ≡ true → may (as_cell c) new_slot.mail.letters ≡ true
+  may_still may c lent on =
+      ap (may (as_cell c)) (same_at (λ x. x.mail.letters) m.table.slots old rows a)
+      ∙ may_here may (slot_at old a) c (home_is (slot_at old a) c lent) on
+
+  pub fits_leave : (letters : List (ℕ × Letter)) (c : Cell) → Some c ≡ home_of (slot_at old a) → may_at may_leave (slot_at old a) ≡ true
+      → letters ≡ letters_of (left_behind a (as_cell c)) → FitLetters letters m.table.slots → FitsLeave a letters m
+  fits_leave letters c lent may returns fit = record {
+    cell = c;
+    home = home_still c lent;
+    may = may_still may_leave c lent may;
+    returns = returns;
+    fit = fit;
+  }
+
+  pub fits_collect : (trace : Trace) (found : Sweep) (c : Cell) → Some c ≡ home_of (slot_at old a) → c.heap.owner ≡ a
+      → may_at may_collect (slot_at old a) ≡ true → found ≡ sweep_of trace c
+      → FitLetters (letters_of found.plan.back) m.table.slots → FitsCollect trace a found m
+  fits_collect trace found c lent own may is fit = record {
+    cell = c;
+    home = home_still c lent;
+    may = may_still may_collect c lent may;
+    collects = record {
+      found_is = is;
+      back_is = ap (λ (f : Sweep). f.plan.back) is ∙ back_same c.count c.heap c.foreign (is_marked trace c.heap.owner (as_cell c))
+          ∙ ap (λ me. by_owner (given_back (is_marked trace me (as_cell c)) (as_cell c).holdings)) own;
+    };
+    fit = fit;
+  }
+
+-- at most one letter returns what goes back to an owner
+pub once_back : (trace : Trace) (found : Sweep) (c : Cell) → found ≡ sweep_of trace c → (b : ℕ) → letters_to b (letters_of found.plan.back) ≤ 1
+once_back trace found c is b =
+    let marked = is_marked trace c.heap.owner (as_cell c) in
+    subst (λ (f : Sweep). letters_to b (letters_of f.plan.back) ≤ 1) (sym is)
+    (once_each (sweep_of trace c).plan.back (back_rises marked (holdings_of 0 c.heap c.foreign)).owners b)

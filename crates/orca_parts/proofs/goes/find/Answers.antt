@@ -1,0 +1,19 @@
+use Rattle.std.proofs.Common.{ap, subst, sym, ◌∙◌}
+use Rattle.machine_rules.specs.Actors.{cell_at, cell_of}
+use Rattle.actor_cell.specs.Awaiting.{Awaits}
+use Rattle.actor_cell.specs.Cells.{as_cell}
+use Rattle.actor_table.specs.Slots.{actors_of}
+use Rattle.orca_parts.proofs.Awaiting.{awaited_is, awaited_its}
+use Rattle.orca_parts.proofs.Giving.{seat_here}
+use Rattle.orca_parts.proofs.goes.find.Goals as goal
+
+pub find_again-requires : goal.find_again-requires
+find_again-requires c = record {
+  awaited = λ cell home.
+      let slots = c.args.table.now.slots in
+      let letter = c.in-Some.letter in
+      let its = awaited_its c.args.a c.args.found.now.awaited letter (sym c.in-Some.ensures) in
+      subst (λ b. Awaits c.args.trace c.args.code.now b (as_cell cell) c.args.turn.now c.args.found.now letter) its
+      (c.requires.awaited c.if-stands.true letter (as_cell cell) (awaited_is c.args.a c.args.found.now.awaited letter (sym c.in-Some.ensures))
+      (ap (cell_at (actors_of slots)) its ∙ ap cell_of (seat_here slots c.args.a cell home)));
+}

@@ -1,0 +1,17 @@
+use Rattle.std.proofs.Common.{refl}
+use Rattle.cycle_detect.proofs.Falls.{on_ok}
+use Rattle.orca_parts.specs.Parts.{state_of}
+use Rattle.orca_parts.specs.declared.parts.Parts.{Parts}
+use Rattle.orca_parts.proofs.Awaiting.{found_awaited}
+use Rattle.orca_parts.proofs.Prepared.{not_going}
+use Rattle.orca_parts.proofs.goes.prepare_go.Goals as goal
+
+pub returns-in-Err-clause-fault : goal.returns-in-Err-clause-fault
+returns-in-Err-clause-fault c = λ options weight trace.
+    not_going options.trace (state_of c.args.code.now options c.args.parts.now) c.args.parts.now.table.slots c.args.a c.in-Err.fault refl c.in-Err.ensures.fault
+
+pub returns-in-Ok-clause-awaited : goal.returns-in-Ok-clause-awaited
+returns-in-Ok-clause-awaited c =
+    let mid : Parts = record c.args.parts.now { turn = c.find.new.turn; turned = c.find.new.found } in
+    let does = c.prepare_turn.ensures in
+    on_ok c.prepare_turn.result (found_awaited c.args.trace c.args.code.now c.args.a mid c.prepare_turn.new.parts c.in-Ok.ensures.awaited does.same does.turn does.turned)

@@ -1,0 +1,118 @@
+-- What the state of the machine allows, and for what it has room.
+use Rattle.std.specs.Prelude.{ℕ, ◌≡◌, ◌<◌, true, false, Bool, List, [], ◌∷◌, Option, None, Some, set}
+use Rattle.letter_kinds.specs.declared.letter.Letter.{Letter}
+use Rattle.letter_kinds.specs.declared.note.Note.{Note}
+use Rattle.letter_kinds.specs.Detector.{Token, closed_set}
+use Rattle.cycle_detect.specs.Room.{CanHear, DetectorValue}
+use Rattle.detector_tokens.specs.Room.{Fits}
+use Rattle.detector_tokens.specs.Open.{CanOpen, new_token}
+use Rattle.machine_rules.specs.Detect.{acked_token, reap_decs}
+use Rattle.machine_rules.specs.Collect.{is_marked}
+use Rattle.orca_names.specs.declared.trace.Trace.{Trace}
+use Rattle.letter_kinds.specs.Counting.{by_owner, given_back}
+use Rattle.actor_cell.specs.declared.cell.Cell.{Cell}
+use Rattle.actor_cell.specs.declared.sweeping.Sweep.{Sweep}
+use Rattle.actor_cell.specs.Cells.{as_cell}
+use Rattle.actor_cell.specs.Outs.{left_behind, letters_of, report_of, returning}
+use Rattle.actor_cell.specs.Sweeps.{sweep_of}
+use Rattle.std.specs.VecDeque.{deque_capacity, deque_len}
+use Rattle.behaviour_code.specs.declared.code.Program.{Program}
+use Rattle.machine_rules.specs.Guards.{may_block, may_collect, may_leave}
+use Rattle.machine_rules.specs.Options.{Options}
+use Rattle.actor_cell.specs.Takes.{HasRoomFor}
+use Rattle.actor_table.specs.declared.slot.Slot.{Slot}
+use Rattle.actor_table.specs.declared.slot.Place.TheVariants.{Home}
+use Rattle.orca_parts.specs.declared.parts.Parts.{Parts}
+use Rattle.orca_parts.specs.Parts.{state_of}
+use Rattle.actor_table.specs.Slots.{actors_of, away_of, slot_at}
+use Rattle.orca_parts.specs.Letters.{FitLetters, asks}
+use Rattle.orca_parts.specs.Reaping.{AreHome}
+
+-- there is a note, and the first can be heard
+abbrev pub CanHearFirst : List Note → DetectorValue → Type 0
+CanHearFirst [] d = ⊥
+CanHearFirst (note ∷ later) d = CanHear note d
+
+-- the token is the one that the closed set becomes; without one the set is empty
+pub record CanOpenNow (token : Token) (slots : List Slot) (d : DetectorValue) : Type 0 where
+  pub first : ℕ
+  pub rest : List ℕ
+  pub closed : closed_set d.state ≡ first ∷ rest
+  pub token_is : token ≡ new_token (first ∷ rest) d.state
+  pub apart : CanOpen (first ∷ rest) d.state
+  pub fits : Fits (first ∷ rest) d.room
+  pub letters : FitLetters (asks token.number (first ∷ rest)) slots
+
+abbrev pub CanOpenThen : Option Token → List Slot → DetectorValue → Type 0
+CanOpenThen None slots d = closed_set d.state ≡ []
+CanOpenThen (Some token) slots d = CanOpenNow token slots d
+
+-- there is news, and what the scan leads to fits
+pub record CanScan (token : Option Token) (slots : List Slot) (d : DetectorValue) : Type 0 where
+  pub news : d.state.news ≡ true
+  pub open_then : CanOpenThen token slots d
+
+-- all members of the open token acknowledged, their cells are at home, and these letters give back
+-- what they held outside
+pub record FitsReap (number : ℕ) (members : List ℕ) (letters : List (ℕ × Letter)) (m : Parts)
+    : Type 0 where
+  pub token : Token
+  pub acked : acked_token number m.detector.state ≡ Some token
+  pub its : token.members ≡ members
+  pub home : AreHome members m.table.slots
+  pub decs : letters ≡ letters_of (reap_decs members members (actors_of m.table.slots))
+  pub fit : FitLetters letters m.table.slots
+
+-- none of these is away
+abbrev pub without_all : List ℕ → List Bool → List Bool
+without_all [] away = away
+without_all (a ∷ members) away = without_all members (set away a false)
+
+-- the sweep is that of the cell with this tracing, and gives back what the cell holds and does not mark
+pub record CollectsWith (trace : Trace) (a : ℕ) (found : Sweep) (c : Cell) : Type 0 where
+  pub found_is : found ≡ sweep_of trace c
+  pub back_is : found.plan.back
+      ≡ by_owner (given_back (is_marked trace a (as_cell c)) (as_cell c).holdings)
+
+-- ---- what was prepared fits
+
+-- the actor is idle and has a letter, and there is room for what this brings and for what is noted
+pub record FitsTake (a : ℕ) (m : Parts) : Type 0 where
+  pub cell : Cell
+  pub home : (slot_at m.table.slots a).place ≡ Home cell
+  pub letter : Letter
+  pub later : List Letter
+  pub letters : (slot_at m.table.slots a).mail.letters ≡ letter ∷ later
+  pub idle : cell.frame ≡ None
+  pub room : HasRoomFor letter cell.foreign.spare cell.known.spare
+  pub note : cell.reported ≡ true → deque_len m.notes < deque_capacity m.notes
+
+-- the sweep is that of the actor with this tracing, and the letters that return what it gives back fit
+pub record FitsCollect (trace : Trace) (a : ℕ) (found : Sweep) (m : Parts) : Type 0 where
+  pub cell : Cell
+  pub home : (slot_at m.table.slots a).place ≡ Home cell
+  pub may : may_collect (as_cell cell) (slot_at m.table.slots a).mail.letters ≡ true
+  pub collects : CollectsWith trace a found cell
+  pub fit : FitLetters (letters_of found.plan.back) m.table.slots
+
+-- the actor may leave, the letters return what it held, and fit
+pub record FitsLeave (a : ℕ) (letters : List (ℕ × Letter)) (m : Parts) : Type 0 where
+  pub cell : Cell
+  pub home : (slot_at m.table.slots a).place ≡ Home cell
+  pub may : may_leave (as_cell cell) (slot_at m.table.slots a).mail.letters ≡ true
+  pub returns : letters ≡ (returning (left_behind a (as_cell cell))).letters
+  pub fit : FitLetters letters m.table.slots
+
+-- the actor may report, its report stands there, and there is room for it
+pub record FitsBlock (a : ℕ) (m : Parts) : Type 0 where
+  pub cell : Cell
+  pub home : (slot_at m.table.slots a).place ≡ Home cell
+  pub may : may_block (as_cell cell) (slot_at m.table.slots a).mail.letters ≡ true
+  pub report : m.report ≡ Some (report_of a (as_cell cell))
+  pub room : deque_len m.notes < deque_capacity m.notes
+
+-- but for room all is the same
+pub record OnlyRoom (old new : Parts) : Type 0 where
+  pub state : (program : Program) (options : Options)
+      → state_of program options new ≡ state_of program options old
+  pub away : away_of new.table.slots ≡ away_of old.table.slots

@@ -1,0 +1,95 @@
+-- What a turn that was found asks of the machine.
+use Rattle.std.specs.Prelude.{ℕ, ◌≡◌, ◌+◌, ◌<◌, ◌≤◌, ◌^◌, ⊤, true, is_some, List, [], ◌∷◌, ◌++◌, length, None, Some, IsSomeAnd, vec_capacity, vec_len}
+use Rattle.std.specs.FinMap as m
+use Rattle.orca_names.specs.declared.limits.TheConstants.{ACTORS_LIMIT, BODY_LIMIT}
+use Rattle.orca_names.specs.declared.names.Thing.TheVariants.{Actor}
+use Rattle.orca_names.specs.declared.trace.Trace.{Trace}
+use Rattle.behaviour_code.specs.declared.code.Program.{Program}
+use Rattle.turn_rules.specs.declared.act.Frame.{Frame}
+use Rattle.letter_kinds.specs.declared.letter.Letter.TheVariants.{Inc}
+use Rattle.machine_rules.specs.Actors.{push_letter, seat, seat_at}
+use Rattle.turn_rules.specs.Segment.{Turn}
+use Rattle.machine_rules.specs.Cell.{fresh_cell}
+use Rattle.machine_rules.specs.State.{State}
+use Rattle.actor_cell.specs.declared.cell.Cell.{Cell}
+use Rattle.actor_cell.specs.Moves.{Move, Post, Mint, New, Print, End, Rest, act_in}
+use Rattle.actor_cell.specs.declared.turning.Turned.{Turned}
+use Rattle.actor_cell.specs.Cells.{as_cell, settled}
+use Rattle.actor_cell.specs.Goes.{CanMove, IsTold, new_entries}
+use Rattle.actor_table.specs.declared.slot.Slot.{Slot}
+use Rattle.actor_table.specs.declared.slot.Place.TheVariants.{Home}
+use Rattle.actor_table.specs.Changes.{CanSettleNew, changed_at, with_cell_by}
+use Rattle.actor_table.specs.Slots.{actors_of, slot_at}
+use Rattle.orca_parts.specs.declared.fault.StepFault.{StepFault}
+use Rattle.orca_parts.specs.declared.fault.StepFault.TheVariants as faults
+use Rattle.orca_parts.specs.declared.parts.Parts.{Parts}
+
+-- an actor that is present has room for a letter
+abbrev pub HasRoomForOne : ℕ → List Slot → Type 0
+HasRoomForOne to slots =
+    is_some (seat_at (actors_of slots) to) ≡ true → 0 < (slot_at slots to).mail.spare
+
+-- there is room for what the act gives out
+abbrev pub HasRoomOut : Move → Parts → Type 0
+HasRoomOut (Post to letter) m = HasRoomForOne to m.table.slots
+HasRoomOut (Mint owner things) m = HasRoomForOne owner m.table.slots
+HasRoomOut (New kind register) m =
+    (length m.table.slots < ACTORS_LIMIT) × (0 < m.table.spare)
+HasRoomOut (Print value) m = vec_len m.prints < vec_capacity m.prints
+HasRoomOut End m = ⊤
+HasRoomOut Rest m = ⊤
+
+-- this was found of the turn of the cell, which has a frame
+abbrev pub IsFoundGo : Trace → ℕ → Program → ℕ → Turn → Turned → Cell → Type 0
+IsFoundGo trace weight program a turn found c = IsSomeAnd c.frame
+    (IsTold trace weight program a (as_cell c) turn found.place (act_in found))
+
+-- no turn was found: no cell is at home that has a frame, or memory was refused
+abbrev pub NotGoing : Slot → StepFault → Type 0
+NotGoing x faults.NotEnabled = (c : Cell) → x.place ≡ Home c → c.frame ≡ None
+NotGoing x (faults.ActorsFull b) = ⊥
+NotGoing x faults.NoMemory = ⊤
+
+-- this was found of the actor's turn, and there is room for it
+pub record FitsGo (trace : Trace) (weight : ℕ) (program : Program) (a : ℕ) (found : Turned)
+    (m : Parts) : Type 0 where
+  pub cell : Cell
+  pub home : (slot_at m.table.slots a).place ≡ Home cell
+  pub frame : Frame
+  pub framed : cell.frame ≡ Some frame
+  pub found_is : IsTold trace weight program a (as_cell cell) m.turn found.place (act_in found) frame
+  pub few : length m.turn.made ≤ BODY_LIMIT
+  pub objects : length m.turn.made ≤ cell.heap.spare
+  pub entries : new_entries (act_in found) cell.foreign.entries ≤ cell.foreign.spare
+  pub room : HasRoomOut (act_in found) m
+
+-- the actor's counts and serials allow it, and it holds nothing of the actor that is made next
+pub record CountsAllow (a : ℕ) (act : Move) (parts : Parts) (c : Cell) : Type 0 where
+  pub can : CanMove a (as_cell c).holdings parts.turn act
+  pub serials : c.heap.next + BODY_LIMIT < 2 ^ 64
+  pub unnamed : m.get c.foreign.entries (Actor (length parts.table.slots)) ≡ None
+
+-- the maker can hold the actor that is made with the weight; one act alone makes one
+abbrev pub CanNameNew : ℕ → ℕ → Move → List Slot → Type 0
+CanNameNew weight a (New kind register) slots = CanSettleNew weight (length slots) (slot_at slots a)
+CanNameNew weight a act slots = ⊤
+
+-- ---- what becomes of the state
+
+-- once the actor's cell is that after its turn, which made so many objects
+abbrev pub given : ℕ → Program → ℕ → Move → ℕ → State → State
+given weight program a (Post to letter) made s =
+    record s { actors = push_letter to letter s.actors; objects = s.objects + made }
+given weight program a (Mint owner things) made s =
+    record s { actors = push_letter owner (Inc things) s.actors }
+given weight program a (New kind register) made s =
+    let name = length s.actors in
+    record s {
+      actors = changed_at (with_cell_by (settled weight register name)) a s.actors
+          ++ seat (fresh_cell weight program kind) [] ∷ [];
+      objects = s.objects + made;
+    }
+given weight program a (Print value) made s =
+    record s { prints = s.prints ++ value ∷ []; objects = s.objects + made }
+given weight program a End made s = record s { objects = s.objects + made }
+given weight program a Rest made s = record s { objects = s.objects + made }

@@ -1,0 +1,12 @@
+pub mod Awaiting
+pub mod Away
+pub mod Faults
+pub mod Fits
+pub mod Founds
+pub mod Goes
+pub mod Letters
+pub mod Parts
+pub mod Ready
+pub mod Reaping
+pub mod Steps
+pub mod Woken

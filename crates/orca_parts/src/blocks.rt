@@ -1,0 +1,64 @@
+// Block: an actor with nothing to do reports.
+
+ghost use Rattle.std.specs.Prelude.{◌≡◌, IfErr, OnOk};
+ghost use Rattle.event_rule.specs.Runs.{Goes};
+ghost use Rattle.event_rule.specs.declared.event.Event.TheVariants.{Block as block_event};
+ghost use Rattle.machine_rules.specs.Next.{next};
+ghost use Rattle.machine_rules.specs.Options.{Options};
+ghost use Rattle.actor_table.specs.Slots.{actors_of, away_of};
+ghost use Rattle.behaviour_code.specs.declared.code.Program.{Program};
+ghost use Rattle.orca_parts.specs.Away.{next_without};
+ghost use Rattle.orca_parts.specs.Faults.{IsFault};
+ghost use Rattle.orca_parts.specs.Fits.{FitsBlock, OnlyRoom};
+ghost use Rattle.orca_parts.specs.Parts.{state_of};
+ghost use Rattle.orca_parts.specs.Woken.{IsLowestWoken};
+
+use crate::fault::StepFault;
+use crate::parts::Parts;
+use orca_names::ActorName;
+use std::alloc::Global;
+
+/// The report that the actor makes, and the memory for it. Nothing changes.
+///
+/// # Errors
+/// `NotEnabled` exactly where the actor may not report, or its cell is away. `NoMemory` where memory
+/// was refused.
+pub(crate) fn prepare_block(alloc: Global, parts: &mut Parts, a: ActorName) -> Result<(), StepFault>
+    ensures same { OnlyRoom parts.old parts.new }
+    ensures ok { OnOk result (FitsBlock a parts.new) }
+    ensures fault { let away = away_of parts.old.table.slots in
+        (program : Program) (options : Options) → IfErr result
+        (IsFault (next_without away (state_of program options parts.old) (block_event a)) (block_event a)) }
+{
+    if !parts.table.may_block(a) {
+        return Err(StepFault::NotEnabled);
+    }
+    let Some(cell) = parts.table.cell(a) else {
+        unreachable!();
+    };
+    let Ok(note) = cell.report(alloc) else {
+        return Err(StepFault::NoMemory);
+    };
+    if parts.notes.reserve(1).is_err() {
+        return Err(StepFault::NoMemory);
+    }
+    parts.report = Some(note);
+    Ok(())
+}
+
+/// The actor reports what was prepared. It takes no memory, and wakes nobody.
+pub(crate) fn apply_block(parts: &mut Parts, a: ActorName) -> Option<ActorName>
+    requires { FitsBlock a parts.old }
+    ensures state { (program : Program) (options : Options)
+        → next (state_of program options parts.old) (block_event a)
+        ≡ Goes (state_of program options parts.new) }
+    ensures away { away_of parts.new.table.slots ≡ away_of parts.old.table.slots }
+    ensures woken { IsLowestWoken (actors_of parts.old.table.slots) (actors_of parts.new.table.slots) result }
+{
+    let Some(note) = parts.report.take() else {
+        unreachable!();
+    };
+    parts.table.block(a);
+    parts.notes.push_back_reserved(note);
+    None
+}

@@ -1,0 +1,411 @@
+// Go: a frame runs up to its next act.
+
+ghost use Rattle.std.specs.Prelude.{ℕ, ◌≡◌, ◌+◌, ◌<◌, ◌≤◌, ◌^◌, ◌++◌, ◌∷◌, [], true, is_some, length, IfErr, IsSome, OnOk, None, Some};
+ghost use Rattle.std.specs.FinMap as m;
+ghost use Rattle.orca_names.specs.declared.limits.TheConstants.{ACTORS_LIMIT, BODY_LIMIT};
+ghost use Rattle.orca_names.specs.declared.trace.Trace.{Trace as tracing};
+ghost use Rattle.behaviour_code.specs.declared.code.Program.{Program};
+ghost use Rattle.event_rule.specs.Runs.{Goes};
+ghost use Rattle.event_rule.specs.declared.event.Event.TheVariants.{Go as go_event};
+ghost use Rattle.machine_rules.specs.Actors.{push_letter, seat};
+ghost use Rattle.machine_rules.specs.Cell.{fresh_cell};
+ghost use Rattle.machine_rules.specs.Next.{next};
+ghost use Rattle.machine_rules.specs.Options.{Options};
+ghost use Rattle.actor_cell.specs.Cells.{as_cell, settled};
+ghost use Rattle.actor_cell.specs.declared.cell.Cell.{Cell as a_cell};
+ghost use Rattle.actor_table.specs.declared.slot.Place.TheVariants.{Home};
+ghost use Rattle.actor_table.specs.Changes.{CanSettleNew, HasCell, changed_at, with_cell_by};
+ghost use Rattle.actor_table.specs.Slots.{actors_of, away_of, places_of, slot_at};
+ghost use Rattle.ref_weights.specs.Limit.{count_limit};
+ghost use Rattle.actor_cell.specs.Awaiting.{Awaits};
+ghost use Rattle.actor_cell.specs.Goes.{out_of};
+ghost use Rattle.actor_cell.specs.Moves.{act_in};
+ghost use Rattle.letter_kinds.specs.declared.letter.Letter.TheVariants.{App as app, Inc as inc};
+ghost use Rattle.orca_parts.specs.Away.{KeepsAway, next_without};
+ghost use Rattle.orca_parts.specs.Awaiting.{AwaitedIn, AwaitsMinted, IsAwaited, IsAwaitedHere};
+ghost use Rattle.orca_parts.specs.Faults.{IsFault};
+ghost use Rattle.orca_parts.specs.Fits.{OnlyRoom};
+ghost use Rattle.orca_parts.specs.Goes.{CanNameNew, CountsAllow, FitsGo, HasRoomForOne, HasRoomOut, IsFoundGo, NotGoing, given};
+ghost use Rattle.orca_parts.specs.Parts.{state_of};
+ghost use Rattle.orca_parts.specs.Woken.{IsLowestWoken};
+
+use crate::fault::StepFault;
+use crate::letters::post;
+use crate::parts::Parts;
+use actor_cell::{Awaited, Cell, Doing, Turned};
+use actor_table::ActorTable;
+use behaviour_check::Checked;
+use behaviour_code::Name;
+use letter_kinds::Letter;
+use mail_rows::MailRow;
+use orca_names::{ACTORS_LIMIT, ActorName, NoMemory, Trace};
+use std::alloc::Global;
+use turn_step::Turn;
+
+// What is found of the actor's turn, in this room for a turn.
+#[inline(always)]
+fn find_go(
+    alloc: Global,
+    code: &Checked,
+    weight: u32,
+    trace: Trace,
+    table: &ActorTable,
+    turn: &mut Turn,
+    found: &mut Turned,
+    a: ActorName,
+) -> Result<(), StepFault>
+    requires serials { (c : a_cell) → (slot_at table.now.slots a).place ≡ Home c
+        → c.heap.next + BODY_LIMIT < 2 ^ 64 }
+    ensures found { OnOk result (HasCell (slot_at table.now.slots a)
+        (IsFoundGo trace weight code.now a turn.new found.new)) }
+    ensures few { OnOk result (length turn.new.made ≤ BODY_LIMIT) }
+    ensures awaited { OnOk result (HasCell (slot_at table.now.slots a)
+        (IsAwaitedHere trace code.now a turn.new found.new)) }
+    ensures fault { IfErr result (NotGoing (slot_at table.now.slots a)) }
+{
+    let Some(cell) = table.cell(a) else {
+        return Err(StepFault::NotEnabled);
+    };
+    if !cell.frame.is_some() {
+        return Err(StepFault::NotEnabled);
+    }
+    match cell.found_go(alloc, code, weight, trace, turn, found) {
+        Ok(()) => Ok(()),
+        Err(NoMemory) => Err(StepFault::NoMemory),
+    }
+}
+
+// What is found again of the actor's turn, which stopped at this letter.
+#[inline(never)]
+fn find_again(
+    alloc: Global,
+    code: &Checked,
+    weight: u32,
+    trace: Trace,
+    table: &ActorTable,
+    turn: &Turn,
+    found: &mut Turned,
+    a: ActorName,
+    letter: Awaited,
+) -> Result<(), StepFault>
+    requires awaited { (c : a_cell) → (slot_at table.now.slots a).place ≡ Home c
+        → Awaits trace code.now a (as_cell c) turn.now found.old letter }
+    ensures found { OnOk result (HasCell (slot_at table.now.slots a)
+        (IsFoundGo trace weight code.now a turn.now found.new)) }
+    ensures few { OnOk result (length turn.now.made ≤ BODY_LIMIT) }
+    ensures awaited { OnOk result (HasCell (slot_at table.now.slots a)
+        (IsAwaitedHere trace code.now a turn.now found.new)) }
+    ensures fault { IfErr result (NotGoing (slot_at table.now.slots a)) }
+{
+    // The behaviours of a checked program are short.
+    let _program = code.program();
+    let Some(cell) = table.cell(a) else {
+        return Err(StepFault::NotEnabled);
+    };
+    match cell.found_again(alloc, code, weight, trace, turn, letter, found) {
+        Ok(()) => Ok(()),
+        Err(NoMemory) => Err(StepFault::NoMemory),
+    }
+}
+
+// Takes the memory for what the act that was found gives out.
+#[inline(always)]
+fn reserve_out(parts: &mut Parts) -> Result<(), NoMemory>
+    requires { IsSome (out_of (act_in parts.old.turned)).made → length parts.old.table.slots < ACTORS_LIMIT }
+    ensures same { OnlyRoom parts.old parts.new }
+    ensures places { places_of parts.new.table.slots ≡ places_of parts.old.table.slots }
+    ensures turn { parts.new.turn ≡ parts.old.turn }
+    ensures turned { parts.new.turned ≡ parts.old.turned }
+    ensures ok { OnOk result (HasRoomOut (act_in parts.old.turned) parts.new) }
+{
+    match &parts.turned.doing {
+        Doing::Post { to, behaviour: _ } => parts.table.reserve_letters(*to, 1),
+        Doing::Mint { owner } => parts.table.reserve_letters(*owner, 1),
+        Doing::New {
+            kind: _,
+            register: _,
+        } => parts.table.reserve_actor(),
+        Doing::Print { value: _ } => Ok(parts.prints.reserve(1)?),
+        Doing::End | Doing::Rest => Ok(()),
+    }
+}
+
+// Whether what was found makes an actor.
+fn makes(found: &Turned) -> bool
+    ensures { result ≡ is_some (out_of (act_in found.now)).made }
+{
+    matches!(
+        found.doing,
+        Doing::New {
+            kind: _,
+            register: _
+        }
+    )
+}
+
+/// Takes all memory for what was found of the actor's turn; the state stays as it was.
+///
+/// # Errors
+/// `ActorsFull` exactly where the act would make an actor too many, and `NoMemory` where memory was
+/// refused.
+#[inline(always)]
+pub(crate) fn prepare_turn(parts: &mut Parts, a: ActorName) -> Result<(), StepFault>
+    requires few { length parts.old.turn.made ≤ BODY_LIMIT }
+    ensures same { OnlyRoom parts.old parts.new }
+    ensures turn { parts.new.turn ≡ parts.old.turn }
+    ensures turned { parts.new.turned ≡ parts.old.turned }
+    ensures ok { (trace : tracing) (weight : ℕ) (program : Program)
+        → HasCell (slot_at parts.old.table.slots a)
+        (IsFoundGo trace weight program a parts.old.turn parts.old.turned)
+        → OnOk result (FitsGo trace weight program a parts.new.turned parts.new) }
+    ensures fault { (program : Program) (options : Options) → HasCell (slot_at parts.old.table.slots a)
+        (IsFoundGo options.trace options.weight program a parts.old.turn parts.old.turned) →
+        let s = state_of program options parts.old in
+        IfErr result (IsFault (next_without (away_of parts.old.table.slots) s (go_event a)) (go_event a)) }
+{
+    if makes(&parts.turned) && parts.table.len() >= ACTORS_LIMIT {
+        return Err(StepFault::ActorsFull { actor: a });
+    }
+    if parts
+        .table
+        .reserve_go(a, &parts.turn, &parts.turned)
+        .is_err()
+    {
+        return Err(StepFault::NoMemory);
+    }
+    if reserve_out(parts).is_err() {
+        return Err(StepFault::NoMemory);
+    }
+    Ok(())
+}
+
+// What is found of the actor's turn, in this room for a turn. Where what was found last `stands` and
+// awaits a letter of the actor, its turn isn't run again.
+#[inline(always)]
+fn find(
+    alloc: Global,
+    code: &Checked,
+    weight: u32,
+    trace: Trace,
+    stands: bool,
+    table: &ActorTable,
+    turn: &mut Turn,
+    found: &mut Turned,
+    a: ActorName,
+) -> Result<(), StepFault>
+    requires serials { (c : a_cell) → (slot_at table.now.slots a).place ≡ Home c
+        → c.heap.next + BODY_LIMIT < 2 ^ 64 }
+    requires awaited { stands ≡ true
+        → AwaitedIn trace code.now turn.old found.old (actors_of table.now.slots) }
+    ensures found { OnOk result (HasCell (slot_at table.now.slots a)
+        (IsFoundGo trace weight code.now a turn.new found.new)) }
+    ensures few { OnOk result (length turn.new.made ≤ BODY_LIMIT) }
+    ensures awaited { OnOk result (HasCell (slot_at table.now.slots a)
+        (IsAwaitedHere trace code.now a turn.new found.new)) }
+    ensures fault { IfErr result (NotGoing (slot_at table.now.slots a)) }
+{
+    if stands {
+        if let Some(letter) = found.awaits(a) {
+            return find_again(alloc, code, weight, trace, table, turn, found, a, letter);
+        }
+    }
+    find_go(alloc, code, weight, trace, table, turn, found, a)
+}
+
+/// Finds the actor's turn, and takes all memory for what it does; the state stays as it was. Where what
+/// was found last `stands`, it serves again.
+#[inline(always)]
+pub(crate) fn prepare_go(
+    alloc: Global,
+    code: &Checked,
+    weight: u32,
+    trace: Trace,
+    stands: bool,
+    parts: &mut Parts,
+    a: ActorName,
+) -> Result<(), StepFault>
+    requires serials { (c : a_cell) → (slot_at parts.old.table.slots a).place ≡ Home c
+        → c.heap.next + BODY_LIMIT < 2 ^ 64 }
+    requires awaited { stands ≡ true → IsAwaited trace code.now parts.old }
+    ensures same { OnlyRoom parts.old parts.new }
+    ensures ok { OnOk result (FitsGo trace weight code.now a parts.new.turned parts.new) }
+    ensures awaited { OnOk result (IsAwaited trace code.now parts.new) }
+    ensures fault { (options : Options) → options.weight ≡ weight → options.trace ≡ trace →
+        let s = state_of code.now options parts.old in
+        IfErr result (IsFault (next_without (away_of parts.old.table.slots) s (go_event a)) (go_event a)) }
+{
+    let turn = &mut parts.turn;
+    match find(
+        alloc,
+        code,
+        weight,
+        trace,
+        stands,
+        &parts.table,
+        turn,
+        &mut parts.turned,
+        a,
+    ) {
+        Ok(()) => prepare_turn(parts, a),
+        Err(fault) => Err(fault),
+    }
+}
+
+impl Parts {
+    // The turn is kept: its objects count as made, and no letter is awaited.
+    fn keep_turn(&mut self)
+        requires { self.old.objects + length self.old.turn.made < 2 ^ 64 }
+        ensures { self.new ≡ record self.old {
+          objects = self.old.objects + length self.old.turn.made;
+          turned = record self.old.turned { awaited = None };
+        } }
+    {
+        self.objects += self.turn.made().len() as u64;
+        self.turned.forget_letter();
+    }
+}
+
+// An actor of the kind comes behind all others, and its maker has its name; it is told.
+fn make(
+    alloc: Global,
+    code: &Checked,
+    weight: u32,
+    table: &mut ActorTable,
+    a: ActorName,
+    kind: u32,
+    register: u8,
+) -> ActorName
+    requires light { weight < count_limit }
+    requires few { length table.old.slots < ACTORS_LIMIT }
+    requires room { 0 < table.old.spare }
+    requires can { CanSettleNew weight (length table.old.slots) (slot_at table.old.slots a) }
+    ensures actors { actors_of table.new.slots ≡ changed_at
+        (with_cell_by (settled weight register (length table.old.slots))) a (actors_of table.old.slots)
+        ++ seat (fresh_cell weight code.now kind) [] ∷ [] }
+    ensures away { KeepsAway (away_of table.old.slots) (away_of table.new.slots) }
+    ensures woken { IsLowestWoken (actors_of table.old.slots) (actors_of table.new.slots) (Some result) }
+{
+    let name = ActorName(table.len() as u32);
+    table.settle_new(a, register, name, weight);
+    let cell = Cell::fresh(alloc, code, name, kind, u64::from(weight));
+    table.push_actor(cell, MailRow::new(alloc));
+    name
+}
+
+// The letter that was found moves to its actor, which is told where it is present.
+#[inline(always)]
+fn post_letter(
+    alloc: Global,
+    table: &mut ActorTable,
+    found: &mut Turned,
+    to: ActorName,
+    behaviour: Name,
+) -> Option<ActorName>
+    requires { HasRoomForOne to table.old.slots }
+    ensures actors { actors_of table.new.slots
+        ≡ push_letter to (app behaviour found.old.args found.old.load found.old.rows)
+        (actors_of table.old.slots) }
+    ensures awaited { found.new.awaited ≡ found.old.awaited }
+    ensures away { away_of table.new.slots ≡ away_of table.old.slots }
+    ensures woken { IsLowestWoken (actors_of table.old.slots) (actors_of table.new.slots) result }
+{
+    post(table, to, found.take_letter(alloc, behaviour))
+}
+
+// What is minted is told to its owner, which is told where it is present.
+#[inline(always)]
+fn post_things(
+    alloc: Global,
+    table: &mut ActorTable,
+    found: &mut Turned,
+    owner: ActorName,
+) -> Option<ActorName>
+    requires { HasRoomForOne owner table.old.slots }
+    ensures actors { actors_of table.new.slots
+        ≡ push_letter owner (inc found.old.things) (actors_of table.old.slots) }
+    ensures rest { found.new ≡ record found.old { things = found.new.things } }
+    ensures away { away_of table.new.slots ≡ away_of table.old.slots }
+    ensures woken { IsLowestWoken (actors_of table.old.slots) (actors_of table.new.slots) result }
+{
+    let things = found.take_things(alloc);
+    post(table, owner, Letter::Inc { things })
+}
+
+// What the actor does where its turn stopped is given out, and the actor that gets it or is made is
+// told. What was found stays where it is but for a letter or its things, which move out.
+fn give_out(
+    alloc: Global,
+    code: &Checked,
+    weight: u32,
+    parts: &mut Parts,
+    a: ActorName,
+) -> Option<ActorName>
+    requires light { weight < count_limit }
+    requires room { HasRoomOut (act_in parts.old.turned) parts.old }
+    requires can { CanNameNew weight a (act_in parts.old.turned) parts.old.table.slots }
+    requires objects { parts.old.objects + length parts.old.turn.made < 2 ^ 64 }
+    ensures state { (options : Options) → state_of code.now options parts.new
+        ≡ given weight code.now a (act_in parts.old.turned) (length parts.old.turn.made)
+        (state_of code.now options parts.old) }
+    ensures awaited { (trace : tracing) → AwaitsMinted trace code.now parts.old
+        → IsAwaited trace code.now parts.new }
+    ensures away { KeepsAway (away_of parts.old.table.slots) (away_of parts.new.table.slots) }
+    ensures woken { IsLowestWoken (actors_of parts.old.table.slots) (actors_of parts.new.table.slots) result }
+{
+    match &parts.turned.doing {
+        Doing::Post { to, behaviour } => {
+            let to = *to;
+            let behaviour = *behaviour;
+            parts.keep_turn();
+            post_letter(alloc, &mut parts.table, &mut parts.turned, to, behaviour)
+        }
+        Doing::Mint { owner } => {
+            let owner = *owner;
+            post_things(alloc, &mut parts.table, &mut parts.turned, owner)
+        }
+        Doing::New { kind, register } => {
+            let kind = *kind;
+            let register = *register;
+            parts.keep_turn();
+            let name = make(alloc, code, weight, &mut parts.table, a, kind, register);
+            Some(name)
+        }
+        Doing::Print { value } => {
+            let value = *value;
+            parts.keep_turn();
+            parts.prints.push_reserved(value);
+            None
+        }
+        Doing::End | Doing::Rest => {
+            parts.keep_turn();
+            None
+        }
+    }
+}
+
+/// What was found of the actor's turn is done, and the actor that gets a letter or is made is told. It
+/// takes no memory.
+pub(crate) fn apply_go(
+    alloc: Global,
+    code: &Checked,
+    weight: u32,
+    trace: Trace,
+    parts: &mut Parts,
+    a: ActorName,
+) -> Option<ActorName>
+    requires light { weight ≤ 65536 }
+    requires fits { FitsGo trace weight code.now a parts.old.turned parts.old }
+    requires can { (c : a_cell) → (slot_at parts.old.table.slots a).place ≡ Home c
+        → CountsAllow a (act_in parts.old.turned) parts.old c }
+    requires objects { parts.old.objects + BODY_LIMIT < 2 ^ 64 }
+    ensures state { (options : Options) → options.weight ≡ weight → options.trace ≡ trace
+        → next (state_of code.now options parts.old) (go_event a)
+        ≡ Goes (state_of code.now options parts.new) }
+    ensures awaited { IsAwaited trace code.now parts.old → IsAwaited trace code.now parts.new }
+    ensures away { KeepsAway (away_of parts.old.table.slots) (away_of parts.new.table.slots) }
+    ensures woken { IsLowestWoken (actors_of parts.old.table.slots) (actors_of parts.new.table.slots) result }
+{
+    let _trace = trace;
+    parts.table.go(a, &parts.turn, &parts.turned);
+    give_out(alloc, code, weight, parts, a)
+}

@@ -1,0 +1,36 @@
+// What the machine keeps.
+
+use actor_cell::{Sweep, Turned};
+use actor_table::ActorTable;
+use cycle_detect::{Detector, Token};
+use letter_kinds::{Letter, Note};
+use orca_names::{ActorName, Value};
+use std::collections::VecDeque;
+use turn_step::Turn;
+
+/// The parts of the machine's state, and what was found of the event that was prepared last. This is
+/// kept here since it is large: room that serves again for the next event.
+#[derive(Drop)]
+pub struct Parts {
+    pub table: ActorTable,
+    pub detector: Detector,
+    /// What the detector has still to hear.
+    pub notes: VecDeque<Note>,
+    pub prints: Vec<Value>,
+    /// How many objects were ever made.
+    pub objects: u64,
+    /// What the turn left.
+    pub turn: Turn,
+    /// Where the turn stopped, and what the actor does there.
+    pub turned: Turned,
+    /// What the collection frees, gives back and forgets.
+    pub sweep: Sweep,
+    /// The letters that the event gives out.
+    pub letters: Vec<(ActorName, Letter)>,
+    /// What the actor reports.
+    pub report: Option<Note>,
+    /// The token that the scan opens.
+    pub token: Option<Token>,
+    /// Who is reaped.
+    pub members: Vec<ActorName>,
+}

@@ -1,0 +1,138 @@
+// Reap: the members of a token that all acknowledged go (MAC, OOPSLA 2013).
+
+ghost use Rattle.std.specs.Prelude.{◌≡◌, IfErr, IfOk, OnOk, Some, List, ℕ};
+ghost use Rattle.std.specs.List.Sorted.{IsStrictlySortedBy};
+ghost use Rattle.std.specs.Ordering.{nat_cmp};
+ghost use Rattle.behaviour_code.specs.declared.code.Program.{Program};
+ghost use Rattle.event_rule.specs.Runs.{Goes};
+ghost use Rattle.event_rule.specs.declared.event.Event.TheVariants.{Reap as reap_event};
+ghost use Rattle.letter_kinds.specs.declared.letter.Letter.{Letter as a_letter};
+ghost use Rattle.machine_rules.specs.Detect.{empty_seats, reap_decs};
+ghost use Rattle.machine_rules.specs.Next.{next};
+ghost use Rattle.machine_rules.specs.Options.{Options};
+ghost use Rattle.actor_table.specs.Slots.{actors_of, away_of, places_of};
+ghost use Rattle.actor_cell.specs.Outs.{letters_of};
+ghost use Rattle.orca_parts.specs.Away.{KeepsAway};
+ghost use Rattle.orca_parts.specs.Faults.{IsFault};
+ghost use Rattle.orca_parts.specs.Fits.{FitsReap, OnlyRoom, without_all};
+ghost use Rattle.orca_parts.specs.Letters.{FitLetters};
+ghost use Rattle.orca_parts.specs.Parts.{state_of};
+ghost use Rattle.orca_parts.specs.Reaping.{AckedAreHome, AreHome};
+ghost use Rattle.orca_parts.specs.Woken.{IsLowestWoken};
+
+use crate::fault::StepFault;
+use crate::letters::{push_all, reserve_all};
+use crate::parts::Parts;
+use actor_table::ActorTable;
+use letter_kinds::Letter;
+use orca_names::{ActorName, NoMemory};
+use std::alloc::Global;
+use std::mem;
+
+/// Who goes, and the letters that return what they held on things of those who stay.
+#[derive(Drop)]
+struct Going {
+    members: Vec<ActorName>,
+    letters: Vec<(ActorName, Letter)>,
+}
+
+/// The letters that return what each of these held on things of those who stay.
+fn letters_outside(
+    alloc: Global,
+    table: &ActorTable,
+    members: &[ActorName],
+) -> Result<Vec<(ActorName, Letter)>, NoMemory>
+    requires rising { IsStrictlySortedBy nat_cmp members.now }
+    requires home { AreHome members.now table.now.slots }
+    ensures { IfOk result (λ letters. letters.items
+        ≡ letters_of (reap_decs members.now members.now (actors_of table.now.slots))) }
+{
+    let mut letters = Vec::new(alloc);
+    for member in members {
+        let Some(cell) = table.cell(*member) else {
+            unreachable!();
+        };
+        let mut returned = cell.give_back(alloc, members)?.into_vec();
+        letters.append(&mut returned)?;
+    }
+    Ok(letters)
+}
+
+/// These members, their letters, and the memory to push those.
+fn prepare_going(
+    alloc: Global,
+    table: &mut ActorTable,
+    members: &[ActorName],
+) -> Result<Going, NoMemory>
+    requires rising { IsStrictlySortedBy nat_cmp members.now }
+    requires home { AreHome members.now table.old.slots }
+    ensures actors { actors_of table.new.slots ≡ actors_of table.old.slots }
+    ensures away { away_of table.new.slots ≡ away_of table.old.slots }
+    ensures places { places_of table.new.slots ≡ places_of table.old.slots }
+    ensures members { IfOk result (λ going. going.members.items ≡ members.now) }
+    ensures letters { IfOk result (λ going. going.letters.items
+        ≡ letters_of (reap_decs members.now members.now (actors_of table.old.slots))) }
+    ensures fit { IfOk result (λ going. FitLetters going.letters.items table.new.slots) }
+{
+    let letters = letters_outside(alloc, table, members)?;
+    reserve_all(alloc, table, &letters)?;
+    let members = Vec::from_slice(alloc, members)?;
+    Ok(Going { members, letters })
+}
+
+/// Takes the memory for a reap: who goes, and the letters that return what they held outside. Nothing
+/// changes but room.
+///
+/// # Errors
+/// `NotEnabled` exactly where no open token of this number is acknowledged by all its members, and
+/// `NoMemory` where memory was refused.
+#[tactic(auto, using(crate::proofs::Reaping::none_acked))]
+pub(crate) fn prepare_reap(alloc: Global, parts: &mut Parts, number: u64) -> Result<(), StepFault>
+    requires home { AckedAreHome number parts.old.detector.state parts.old.table.slots }
+    ensures same { OnlyRoom parts.old parts.new }
+    ensures ok { let members = parts.new.members.items in
+        OnOk result (FitsReap number members parts.new.letters.items parts.new) }
+    ensures fault { (program : Program) (options : Options) → IfErr result
+        (IsFault (next (state_of program options parts.old) (reap_event number)) (reap_event number)) }
+{
+    let Some(members) = parts.detector.acked_members(number) else {
+        return Err(StepFault::NotEnabled);
+    };
+    match prepare_going(alloc, &mut parts.table, members) {
+        Ok(going) => {
+            parts.members = going.members;
+            parts.letters = going.letters;
+            Ok(())
+        }
+        Err(NoMemory) => Err(StepFault::NoMemory),
+    }
+}
+
+/// The actors go, with their cells and letters.
+fn clear_all(alloc: Global, table: &mut ActorTable, members: &[ActorName])
+    ensures actors { actors_of table.new.slots ≡ empty_seats members.now (actors_of table.old.slots) }
+    ensures away { away_of table.new.slots ≡ without_all members.now (away_of table.old.slots) }
+    ensures room { (letters : List (ℕ × a_letter)) → FitLetters letters table.old.slots
+        → FitLetters letters table.new.slots }
+{
+    for member in members {
+        table.clear(alloc, *member);
+    }
+}
+
+/// The members of the token go, and what they held outside goes back; the lowest to whom a letter goes
+/// is told. It takes no memory.
+pub(crate) fn apply_reap(alloc: Global, parts: &mut Parts, number: u64) -> Option<ActorName>
+    requires { FitsReap number parts.old.members.items parts.old.letters.items parts.old }
+    ensures state { (program : Program) (options : Options)
+        → next (state_of program options parts.old) (reap_event number)
+        ≡ Goes (state_of program options parts.new) }
+    ensures away { KeepsAway (away_of parts.old.table.slots) (away_of parts.new.table.slots) }
+    ensures woken { IsLowestWoken (actors_of parts.old.table.slots) (actors_of parts.new.table.slots) result }
+{
+    let letters = mem::replace(&mut parts.letters, Vec::new(alloc));
+    clear_all(alloc, &mut parts.table, parts.members.as_slice());
+    let woken = push_all(&mut parts.table, letters);
+    parts.detector.close(number);
+    woken
+}

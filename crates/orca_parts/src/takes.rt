@@ -1,0 +1,68 @@
+// Take: an idle actor takes the first of its letters.
+
+ghost use Rattle.std.specs.Prelude.{◌≡◌, ◌<◌, ◌-◌, IfErr, IsSome, OnOk};
+ghost use Rattle.orca_names.specs.declared.trace.Trace.{Trace as tracing};
+ghost use Rattle.behaviour_code.specs.declared.code.Program.{Program};
+ghost use Rattle.std.specs.VecDeque.{deque_capacity, deque_len};
+ghost use Rattle.event_rule.specs.Runs.{Goes};
+ghost use Rattle.event_rule.specs.declared.event.Event.TheVariants.{Take as take_event};
+ghost use Rattle.machine_rules.specs.Actors.{seat_at};
+ghost use Rattle.machine_rules.specs.Next.{next};
+ghost use Rattle.machine_rules.specs.Options.{Options};
+ghost use Rattle.actor_table.specs.Changes.{CanTakeHere, note_taken};
+ghost use Rattle.actor_table.specs.Slots.{actors_of, away_of, slot_at};
+ghost use Rattle.orca_parts.specs.Awaiting.{IsAwaited};
+ghost use Rattle.orca_parts.specs.Away.{next_without};
+ghost use Rattle.orca_parts.specs.Faults.{IsFault};
+ghost use Rattle.orca_parts.specs.Fits.{FitsTake, OnlyRoom};
+ghost use Rattle.orca_parts.specs.Parts.{state_of};
+ghost use Rattle.orca_parts.specs.Woken.{IsLowestWoken};
+
+use crate::fault::StepFault;
+use crate::parts::Parts;
+use behaviour_check::Checked;
+use orca_names::ActorName;
+
+/// The memory for what the actor's first letter brings and for what is noted of it. Nothing changes.
+///
+/// # Errors
+/// `NotEnabled` exactly where the actor may not take a letter, or its cell is away. `NoMemory` where
+/// memory was refused.
+#[tactic(auto, using(crate::proofs::Preparing::only_room))]
+#[inline(always)]
+pub(crate) fn prepare_take(parts: &mut Parts, a: ActorName) -> Result<(), StepFault>
+    ensures same { OnlyRoom parts.old parts.new }
+    ensures turn { parts.new.turn ≡ parts.old.turn }
+    ensures turned { parts.new.turned ≡ parts.old.turned }
+    ensures ok { OnOk result (FitsTake a parts.new) }
+    ensures fault { let away = away_of parts.old.table.slots in
+        (program : Program) (options : Options) → IfErr result
+        (IsFault (next_without away (state_of program options parts.old) (take_event a)) (take_event a)) }
+{
+    if !parts.table.may_take(a) {
+        return Err(StepFault::NotEnabled);
+    }
+    if parts.table.reserve_take(a).is_err() || parts.notes.reserve(1).is_err() {
+        return Err(StepFault::NoMemory);
+    }
+    Ok(())
+}
+
+/// The idle actor takes the first of its letters. It takes no memory, and wakes nobody.
+pub(crate) fn apply_take(code: &Checked, parts: &mut Parts, a: ActorName) -> Option<ActorName>
+    requires can { CanTakeHere a (slot_at parts.old.table.slots a) }
+    requires room { IsSome (note_taken a (seat_at (actors_of parts.old.table.slots) a))
+        → deque_len parts.old.notes < deque_capacity parts.old.notes }
+    ensures state { (options : Options) → next (state_of code.now options parts.old) (take_event a)
+        ≡ Goes (state_of code.now options parts.new) }
+    ensures awaited { (trace : tracing) → IsAwaited trace code.now parts.old
+        → IsAwaited trace code.now parts.new }
+    ensures away { away_of parts.new.table.slots ≡ away_of parts.old.table.slots }
+    ensures woken { IsLowestWoken (actors_of parts.old.table.slots) (actors_of parts.new.table.slots) result }
+{
+    if let Some(note) = parts.table.note_on(a) {
+        parts.notes.push_back_reserved(note);
+    }
+    parts.table.take(code, a);
+    None
+}
