@@ -109,7 +109,7 @@ prefix_leads (e ∷ book) later s t leads = let rest = prefix_leads book later l
 pub reachable_left : (trace : Trace) (p : PlainState) (s : State) → AllFacts trace p s → (x : Thing) → IsReachable p x → IsLeft s.actors x
 reachable_left trace p s facts x r = lives_left trace (thing_row (plain_row p.actors)) (people_of p.actors) s.actors facts.beside.counts x (reachable_lives p r)
 
-never_early : (program : Program) (options : Options) → 0 < options.weight → (book : List Event) (s : State) → IsRun program options book s → IsNeverTooEarly program options book s
+pub never_early : (program : Program) (options : Options) → 0 < options.weight → (book : List Event) (s : State) → IsRun program options book s → IsNeverTooEarly program options book s
 never_early program options heavy book s run =
     let facts = run_has_facts program options heavy book s run in
     record {

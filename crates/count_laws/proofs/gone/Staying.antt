@@ -84,7 +84,7 @@ next_lowered : (k : ℕ) (y : Thing) (h : Holdings) (b : Bool) → (cond b (lowe
 next_lowered k y h true = next_own (λ c. c - k) y h
 next_lowered k y h false = refl
 
-has-raise_all : (me : ℕ) (es : List Amount) (h : Holdings) (x : Thing) → has_own (raise_all me es h) x ≡ has_own h x
+pub has-raise_all : (me : ℕ) (es : List Amount) (h : Holdings) (x : Thing) → has_own (raise_all me es h) x ≡ has_own h x
 unfolding raise_all
 has-raise_all me [] h x = refl
 has-raise_all me (e ∷ es) h x = has-raise_all me es _ x ∙ has_raised me e.1 x e.0 h (owner_of e.0 == me)
@@ -94,7 +94,7 @@ unfolding raise_all
 next-raise_all me [] h = refl
 next-raise_all me (e ∷ es) h = next-raise_all me es _ ∙ next_raised e.1 e.0 h (owner_of e.0 == me)
 
-has-lower_all : (me : ℕ) (es : List Amount) (h : Holdings) (x : Thing) → has_own (lower_all me es h) x ≡ has_own h x
+pub has-lower_all : (me : ℕ) (es : List Amount) (h : Holdings) (x : Thing) → has_own (lower_all me es h) x ≡ has_own h x
 unfolding lower_all
 has-lower_all me [] h x = refl
 has-lower_all me (e ∷ es) h x = has-lower_all me es _ x ∙ has_lowered me e.1 x e.0 h (owner_of e.0 == me)
@@ -113,7 +113,7 @@ keeps_taken program a (Confirm token) c = keeps_same _ _ refl (λ x. refl)
 -- ---- the actors
 
 -- a name that was given stays given, and what it names is left only where it was left
-abbrev Stays : Actors → Actors → Type 0
+abbrev pub Stays : Actors → Actors → Type 0
 Stays s t = (x : Thing) → HasName s x → HasName t x × (IsLeft t x → IsLeft s x)
 
 -- a name that was given is given where the actors are no fewer, and no serial is taken back
@@ -146,10 +146,10 @@ stays_read s t long same = stays_by s t long (λ i o below now. (o, sym (same i 
 stays_trans : (s mid t : Actors) → Stays s mid → Stays mid t → Stays s t
 stays_trans s mid t one two x named = let a = one x named in let b = two x a.0 in (b.0, λ left. a.1 (b.1 left))
 
-stays_self : (s : Actors) → Stays s s
+pub stays_self : (s : Actors) → Stays s s
 stays_self s x named = (named, λ left. left)
 
-stays_push : (s : Actors) (b : ℕ) (l : Letter) → Stays s (push_letter b l s)
+pub stays_push : (s : Actors) (b : ℕ) (l : Letter) → Stays s (push_letter b l s)
 stays_push s b l = by_seat (seat_at s b) refl
   where
     by_seat : (o : Option Seat) → seat_at s b ≡ o → Stays s (push_letter b l s)
@@ -182,7 +182,7 @@ stays_emptied (a ∷ members) s x named = stays_trans s (set s a None) _ (stays_
 stays_reaped : (members : List ℕ) (s : Actors) → Stays s (reap_members members s)
 stays_reaped members s = stays_trans s (empty_seats members s) _ (stays_emptied members s) (stays_decs (reap_decs members members s) (empty_seats members s))
 
-stays_more : (s : Actors) (new : Option Seat) → Stays s (s ++ new ∷ [])
+pub stays_more : (s : Actors) (new : Option Seat) → Stays s (s ++ new ∷ [])
 stays_more s new = stays_read s (s ++ new ∷ []) (let l = length-append s (new ∷ []) in omega arith) (λ i below. more_other s new i (omega arith))
 
 -- ---- an actor goes on
@@ -228,10 +228,10 @@ module _ (s : Actors) (a : ℕ) (c : Cell) (mail : List Letter) (at : seat_at s 
 
 -- ---- each event
 
-abbrev StaysAfter : State → Event → State → Type 0
+abbrev pub StaysAfter : State → Event → State → Type 0
 StaysAfter s e t = Stays s.actors t.actors
 
-stays : (trace : Trace) (s : State) {e : Event} {t : State} → IsStep trace s e t → StaysAfter s e t
+pub stays : (trace : Trace) (s : State) {e : Event} {t : State} → IsStep trace s e t → StaysAfter s e t
 stays trace s (rule.takes a c l mail at is) = stays_cell s.actors a c (cell_after s.program a l c) (l ∷ mail) mail at (keeps_taken s.program a l c)
 stays trace s (rule.ends a c mail f stops) = stays_turned s.actors a c mail stops.going.present (turn_of_cell trace s.program a c f) None true
 stays trace s (rule.prints a c mail f v stops) = stays_turned s.actors a c mail stops.going.present (turn_of_cell trace s.program a c f) (Some (stopped_at f (turn_of_cell trace s.program a c f))) c.dirty

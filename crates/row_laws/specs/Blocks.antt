@@ -1,0 +1,120 @@
+-- Which block each object's row has.
+use Rattle.std.specs.Prelude.{ℕ, zero, suc, ◌+◌, ◌-◌, ◌<◌, ◌≤◌, ◌≡◌, Bool, false, if◌then◌else◌, List, [], ◌∷◌, length, map, replicate, slice_get, Option, Some, None}
+use Rattle.std.specs.FinMap as m
+use Rattle.std.specs.Option.{option_map_or}
+use Rattle.orca_names.specs.declared.names.ObjName.{ObjName}
+use Rattle.orca_names.specs.declared.names.Thing.TheVariants.{Obj}
+use Rattle.behaviour_code.specs.declared.code.Program.{Program}
+use Rattle.event_rule.specs.Runs.{Goes}
+use Rattle.event_rule.specs.declared.event.Event.{Event}
+use Rattle.event_rule.specs.declared.event.Event.TheVariants.{Go}
+use Rattle.letter_kinds.specs.Holdings.{has_own}
+use Rattle.machine_rules.specs.Actors.{Actors, Seat, seat_at}
+use Rattle.machine_rules.specs.Left.{IsLeft}
+use Rattle.machine_rules.specs.Next.{next}
+use Rattle.machine_rules.specs.Options.{Options}
+use Rattle.machine_rules.specs.State.{State, first_state}
+
+-- for each block the object whose row lies in it; none where it is free
+abbrev pub Blocks : Type 0
+Blocks = List (Option ObjName)
+
+-- so many blocks, all of them free
+abbrev pub free_blocks : ℕ → Blocks
+free_blocks count = replicate count None
+
+-- ---- the objects that an event makes
+
+-- so many names of an owner, from this serial on
+unfoldable pub names_from : ℕ → ℕ → ℕ → List ObjName
+names_from owner serial zero = []
+names_from owner serial (suc count) =
+    record { owner = owner; serial = serial } ∷ names_from owner (suc serial) count
+
+-- the serial that the actor's next object gets
+abbrev pub next_at : Actors → ℕ → ℕ
+next_at actors a = option_map_or (λ o. o.cell.holdings.next) (seat_at actors a) 0
+
+-- the objects that an event makes on its way from a state to another, in their order: a go alone
+-- makes any
+abbrev pub made_by : State → Event → State → List ObjName
+made_by s (Go a) t = names_from a (next_at s.actors a) (t.objects - s.objects)
+made_by s e t = []
+
+-- ---- the blocks after an event
+
+-- its owner is present and has it
+abbrev pub is_left : Actors → ObjName → Bool
+is_left actors n =
+    option_map_or (λ o. has_own o.cell.holdings (Obj n)) (seat_at actors n.owner) false
+
+-- what is left keeps its block
+abbrev pub kept_of : Actors → Option ObjName → Option ObjName
+kept_of actors None = None
+kept_of actors (Some n) = if is_left actors n then Some n else None
+
+-- these take the lowest free blocks, in their order
+unfoldable pub fill : List ObjName → Blocks → Blocks
+fill [] blocks = blocks
+fill (n ∷ ns) [] = []
+fill (n ∷ ns) (None ∷ blocks) = Some n ∷ fill ns blocks
+fill (n ∷ ns) (Some m ∷ blocks) = Some m ∷ fill (n ∷ ns) blocks
+
+-- what is left keeps its block, and what the event made takes those that are free then
+abbrev pub blocks_after : State → Event → State → Blocks → Blocks
+blocks_after s e t blocks = fill (made_by s e t) (map (kept_of t.actors) blocks)
+
+-- ---- room
+
+-- one where the block is free
+abbrev pub is_free : Option ObjName → ℕ
+is_free None = 1
+is_free (Some n) = 0
+
+-- how many blocks are free
+abbrev pub count_free : Blocks → ℕ
+count_free [] = 0
+count_free (b ∷ blocks) = is_free b + count_free blocks
+
+-- how many objects an actor has, none where it is gone
+abbrev pub rows_at : Option Seat → ℕ
+rows_at actor = option_map_or (λ o. m.len o.cell.holdings.rows) actor 0
+
+-- how many objects are left
+abbrev pub objects_left : Actors → ℕ
+objects_left [] = 0
+objects_left (actor ∷ actors) = rows_at actor + objects_left actors
+
+-- there are free blocks for all that the event makes
+abbrev pub Fits : State → Event → State → Blocks → Type 0
+Fits s e t blocks = length (made_by s e t) ≤ count_free blocks
+
+-- the event would go, but makes more rows than there are free blocks
+pub record LacksBlocks (s : State) (e : Event) (blocks : Blocks) : Type 0 where
+  pub to : State
+  pub goes : next s e ≡ Goes to
+  pub more : count_free blocks < length (made_by s e to)
+
+-- ---- what holds of them
+
+-- a block has an object that is left, each of which has just one block
+pub record AreBlocksOf (actors : Actors) (blocks : Blocks) : Type 0 where
+  pub left : (k : ℕ) (n : ObjName) → slice_get blocks k ≡ Some (Some n) → IsLeft actors (Obj n)
+  pub has : (n : ObjName) → IsLeft actors (Obj n) → (k : ℕ) × (slice_get blocks k ≡ Some (Some n))
+  pub once : (j k : ℕ) (n : ObjName) → slice_get blocks j ≡ Some (Some n)
+      → slice_get blocks k ≡ Some (Some n) → j ≡ k
+
+-- ---- books
+
+-- t is the state after the events of the book, each of which is enabled in its turn and refused
+-- neither as full nor for rows, and these are its blocks
+abbrev pub LeadsWithBlocks : State → Blocks → List Event → State → Blocks → Type 0
+LeadsWithBlocks s blocks [] t later = (s ≡ t) × (blocks ≡ later)
+LeadsWithBlocks s blocks (e ∷ book) t later =
+    (u : State) × (next s e ≡ Goes u) × Fits s e u blocks
+    × LeadsWithBlocks u (blocks_after s e u blocks) book t later
+
+-- the book is a run of the program with so many blocks
+abbrev pub IsRowRun : Program → Options → ℕ → List Event → State → Blocks → Type 0
+IsRowRun program options count book t blocks =
+    LeadsWithBlocks (first_state program options) (free_blocks count) book t blocks
