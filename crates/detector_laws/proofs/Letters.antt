@@ -2,21 +2,17 @@
 use Rattle.std.proofs.Common.{◌≡◌, ℕ, ◌+◌, ◌<◌, true, false, List, [], ◌∷◌, ◌++◌, arith, refl, sym}
 use Rattle.std.proofs.lemmas.Bool.{false≢true}
 use Rattle.letter_kinds.specs.declared.letter.Letter.{Letter}
-use Rattle.letter_kinds.specs.declared.letter.Letter.TheVariants.{App, Inc, Dec, Confirm}
+use Rattle.letter_kinds.specs.declared.letter.Letter.TheVariants.{Confirm}
 use Rattle.detector_laws.specs.Confirms.{is_confirm, confirms, confirm_count, has_confirm, other_before_confirm, NoConfirms, EndsInConfirm, OnlyConfirms}
 
 -- the Confirm of a token is a Confirm
 pub confirms_some : (t : ℕ) (l : Letter) → confirms t l ≡ true → is_confirm l ≡ true
-confirms_some t (App behaviour args load rows) h = h
-confirms_some t (Inc things) h = h
-confirms_some t (Dec things) h = h
 confirms_some t (Confirm u) h = refl
+confirms_some t l h = h
 
 confirms_none : (t : ℕ) (l : Letter) → is_confirm l ≡ false → confirms t l ≡ false
-confirms_none t (App behaviour args load rows) h = refl
-confirms_none t (Inc things) h = refl
-confirms_none t (Dec things) h = refl
 confirms_none t (Confirm u) h = absurd (false≢true (sym h))
+confirms_none t l h = refl
 
 pub confirm_count-append : (t : ℕ) (ls ms : List Letter) → confirm_count t (ls ++ ms) ≡ confirm_count t ls + confirm_count t ms
 confirm_count-append t [] ms = omega arith

@@ -11,7 +11,7 @@ use Rattle.letter_kinds.specs.Detector.{Detector}
 use Rattle.letter_kinds.specs.Holdings.{own_in}
 use Rattle.letter_kinds.specs.Sums.{inc_of, dec_of}
 use Rattle.letter_kinds.specs.declared.letter.Letter.{Letter}
-use Rattle.letter_kinds.specs.declared.letter.Letter.TheVariants.{App, Inc, Dec, Confirm}
+use Rattle.letter_kinds.specs.declared.letter.Letter.TheVariants.{Confirm}
 use Rattle.letter_kinds.specs.declared.note.Note.{Note}
 use Rattle.count_laws.proofs.balance.SeatReads.{letter_Confirm}
 use Rattle.machine_rules.specs.Actors.{Actors, cell_at, Seat, cell_of, letters_of, seat, seat_at, Every}
@@ -35,13 +35,11 @@ sum_list w (x ∷ xs) d h e = omega (arith, shift (length xs) h, e 0, sum_by-con
 
 pub no_amounts : (x : Thing) (ls : List Letter) → OnlyConfirms ls → (sum_by (inc_of x) ls ≡ 0) × (sum_by (dec_of x) ls ≡ 0)
 no_amounts x [] h = (sum-nil (inc_of x), sum-nil (dec_of x))
-no_amounts x (App b vs load rows ∷ ls) h = absurd (false≢true h.0)
-no_amounts x (Inc es ∷ ls) h = absurd (false≢true h.0)
-no_amounts x (Dec es ∷ ls) h = absurd (false≢true h.0)
 no_amounts x (Confirm t ∷ ls) h =
     let rest = no_amounts x ls h.1 in
     let l = letter_Confirm x t in
     (omega (arith, rest.0, l.0, sum_by-cons (inc_of x) (Confirm t) ls), omega (arith, rest.1, l.1, sum_by-cons (dec_of x) (Confirm t) ls))
+no_amounts x (l ∷ ls) h = absurd (false≢true h.0)
 
 foreign_is : (x : ℕ) (o : Option Seat) → held_on (cell_of o) x ≡ held_at (Actor x) o
 unfolding held_at

@@ -2,7 +2,7 @@
 use Rattle.std.proofs.Common.{◌≡◌, ◌≢◌, ℕ, true, false, Option, Some, None, List, [], refl, ap, sym, ◌∙◌}
 use Rattle.std.proofs.lemmas.Bool.{false≢true}
 use Rattle.event_rule.specs.declared.event.Event.{Event}
-use Rattle.event_rule.specs.declared.event.Event.TheVariants.{Take, Go, Collect, Leave, Block, Hear, Scan, Reap}
+use Rattle.event_rule.specs.declared.event.Event.TheVariants.{Take, Go, Collect, Leave, Block, Reap}
 use Rattle.letter_kinds.specs.Detector.{Token}
 use Rattle.letter_kinds.specs.declared.letter.Letter.{Letter}
 use Rattle.machine_rules.proofs.Enabling.{enabled_exactly}
@@ -55,9 +55,7 @@ module _ (s : State) (a : ℕ) (c : Cell) (at : seat_at s.actors a ≡ seat c []
       let same : b ≡ a = cc in false≢true (sym (leaver d mail may).0.unreported ∙ (ap (λ (q : Cell). q.reported) (sym (there d mail (ap (seat_at s.actors) (sym same) ∙ now)).0) ∙ reported))
   never (Block b) mine (d, mail, now, may) =
       let same : b ≡ a = cc in false≢true (sym (may_report d mail may).unreported ∙ (ap (λ (q : Cell). q.reported) (sym (there d mail (ap (seat_at s.actors) (sym same) ∙ now)).0) ∙ reported))
-  never Hear mine can = cc
-  never Scan mine can = cc
-  never (Reap token) mine can = cc
+  never e mine can = cc
 
   has_no_event : HasNoEvent s a
   has_no_event e mine = off s e (never e mine)

@@ -10,7 +10,7 @@ use Rattle.letter_kinds.specs.Detector.{has, Token}
 use Rattle.letter_kinds.specs.Holdings.{held_in, Row}
 use Rattle.letter_kinds.specs.Sums.{load_count}
 use Rattle.letter_kinds.specs.declared.letter.Letter.{Letter}
-use Rattle.letter_kinds.specs.declared.letter.Letter.TheVariants.{App, Inc, Dec, Confirm}
+use Rattle.letter_kinds.specs.declared.letter.Letter.TheVariants.{Confirm}
 use Rattle.letter_kinds.specs.declared.note.Note.{Note}
 use Rattle.count_laws.proofs.events.EitherMode.{reap_keeps}
 use Rattle.count_laws.proofs.events.Reap.{AllSealed, Sealed}
@@ -32,10 +32,8 @@ use Rattle.detector_laws.specs.Tokens.{IsSealed}
 
 only : (ls : List Letter) → OnlyConfirms ls → (app_letters ls ≡ []) × ((x : Thing) → sum_by (load_count x) ls ≡ 0)
 only [] h = (refl, λ x. sum-nil (load_count x))
-only (App b args load rows ∷ ls) h = absurd (false≢true h.0)
-only (Inc es ∷ ls) h = absurd (false≢true h.0)
-only (Dec es ∷ ls) h = absurd (false≢true h.0)
 only (Confirm t ∷ ls) h = let rest = only ls h.1 in (rest.0, λ x. omega (arith, sum_by-cons (load_count x) (Confirm t) ls, rest.1 x, (letter_Confirm x t).2))
+only (l ∷ ls) h = absurd (false≢true h.0)
 
 module _ (s : Actors) (ns : List Note) (t : Token) (trace : Trace) (all : Thing → Option Row) (ps : List Person) (keeps : KeepsCounts trace all ps s)
     (seal : IsSealed (cell_at s) (mail_at s) (λ x. load_sum (Actor x) s) ns t) where

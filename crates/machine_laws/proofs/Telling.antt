@@ -10,7 +10,7 @@ use Rattle.letter_kinds.specs.Detector.{Detector, closed_set, has, hear_note, af
 use Rattle.letter_kinds.specs.Holdings.{held_in}
 use Rattle.letter_kinds.specs.Reports.{count_on, keep_report, report_told, told_on, told_on_by}
 use Rattle.letter_kinds.specs.declared.letter.Letter.{Letter}
-use Rattle.letter_kinds.specs.declared.letter.Letter.TheVariants.{App, Inc, Dec, Confirm}
+use Rattle.letter_kinds.specs.declared.letter.Letter.TheVariants.{App}
 use Rattle.letter_kinds.specs.declared.note.Note.{Note}
 use Rattle.letter_kinds.specs.declared.note.Note.TheVariants.{Block, Unblock, Ack}
 use Rattle.letter_kinds.specs.declared.note.Report.{Report}
@@ -65,9 +65,7 @@ module _ (P : ℕ → Type 0) where
 
   told_note : (a : ℕ) (l : Letter) → OfNote P (note_of a l)
   told_note a (App behaviour args load rows) = tt
-  told_note a (Inc things) = tt
-  told_note a (Dec things) = tt
-  told_note a (Confirm token) = tt
+  told_note a l = tt
 
   told_after : (reported : Bool) (n : Note) (ns : List Note) → OfNote P n → AllByRecursion (OfNote P) ns → AllByRecursion (OfNote P) (notes_after reported n ns)
   told_after true n ns new h = all_push ns n h new
@@ -83,14 +81,6 @@ module _ (P : ℕ → Type 0) where
 
   tells : (trace : Trace) (s : State) {e : Event} {t : State} → IsStep trace s e t → Tells s e t
   tells trace s (rule.takes a c l mail at is) counts h = record { notes = told_after c.reported (note_of a l) s.notes (told_note a l) h.notes; kept = h.kept }
-  tells trace s (rule.ends a c mail f stops) counts h = record { notes = h.notes; kept = h.kept }
-  tells trace s (rule.prints a c mail f v stops) counts h = record { notes = h.notes; kept = h.kept }
-  tells trace s (rule.makes a c mail f kind register stops room) counts h = record { notes = h.notes; kept = h.kept }
-  tells trace s (rule.posts a c mail f to behaviour args stops none) counts h = record { notes = h.notes; kept = h.kept }
-  tells trace s (rule.mints a c mail f to behaviour args e lacked stops is) counts h = record { notes = h.notes; kept = h.kept }
-  tells trace s (rule.gets a c mail f x going need) counts h = record { notes = h.notes; kept = h.kept }
-  tells trace s (rule.collects a c mail at may) counts h = record { notes = h.notes; kept = h.kept }
-  tells trace s (rule.leaves a c mail at may) counts h = record { notes = h.notes; kept = h.kept }
   tells trace s (rule.blocks a c mail at may) counts h =
       let z = counts a c mail at in
       record {
@@ -103,6 +93,7 @@ module _ (P : ℕ → Type 0) where
       record { notes = ns.1; kept = told_heard note s.detector ns.0 h.kept }
   tells trace s (rule.scans news) counts h = record { notes = h.notes; kept = told_scanned s.detector (closed_set s.detector) h.kept }
   tells trace s (rule.reaps number token is) counts h = record { notes = h.notes; kept = all_filter (λ r. not (has token.members r.actor)) s.detector.kept h.kept }
+  tells trace s is counts h = record { notes = h.notes; kept = h.kept }
 
   pub event_tells : (s t : State) (e : Event) → next s e ≡ Goes t → Counts s → OfTold P s → OfTold P t
   event_tells s t e goes = tells s.options.trace s (step_of s t e goes)

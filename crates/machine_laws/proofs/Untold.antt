@@ -7,7 +7,7 @@ use Rattle.event_rule.specs.declared.event.Event.TheVariants.{Reap}
 use Rattle.letter_kinds.proofs.Counts.{has_actor}
 use Rattle.letter_kinds.specs.Detector.{closed_set, has, hear_note}
 use Rattle.letter_kinds.specs.declared.letter.Letter.{Letter}
-use Rattle.letter_kinds.specs.declared.letter.Letter.TheVariants.{App, Inc, Dec, Confirm}
+use Rattle.letter_kinds.specs.declared.letter.Letter.TheVariants.{Confirm}
 use Rattle.letter_kinds.specs.declared.note.Note.{Note}
 use Rattle.letter_kinds.specs.declared.note.Note.TheVariants.{Block}
 use Rattle.letter_kinds.specs.declared.note.Report.{Report}
@@ -75,10 +75,8 @@ other : (s : State) (a b : ℕ) (o : Seat) → IsGone s.actors (Actor a) → sea
 other s a b o gone at same = gone.1 (record { seat = o; present = ap (seat_at s.actors) (sym same) ∙ at; kept = has_actor o.cell.holdings a })
 
 note_of_other : (a b : ℕ) (l : Letter) → b ≢ a → SaysNothing a (note_of b l)
-note_of_other a b (App behaviour args load rows) apart = apart
-note_of_other a b (Inc things) apart = apart
-note_of_other a b (Dec things) apart = apart
 note_of_other a b (Confirm token) apart = tt
+note_of_other a b l apart = apart
 
 silent_after : (a : ℕ) (reported : Bool) (note : Note) (notes : List Note) → SaysNothing a note → IsSilentOn a notes → IsSilentOn a (notes_after reported note notes)
 silent_after a true note notes says silent = IsSilentOn-push a notes note silent says
@@ -99,18 +97,11 @@ without_members members kept a none = ⊎_elim
 
 stays : (trace : Trace) (s : State) {e : Event} {t : State} → IsStep trace s e t → Stays s e t
 stays trace s (rule.takes b c l mail at is) a gone un = same s _ a refl (silent_after a c.reported (note_of b l) s.notes (note_of_other a b l (other s a b _ gone at)) un.silent) un
-stays trace s (rule.ends b c mail f stops) a gone un = same s _ a refl un.silent un
-stays trace s (rule.prints b c mail f v stops) a gone un = same s _ a refl un.silent un
-stays trace s (rule.makes b c mail f kind register stops room) a gone un = same s _ a refl un.silent un
-stays trace s (rule.posts b c mail f to behaviour args stops none) a gone un = same s _ a refl un.silent un
-stays trace s (rule.mints b c mail f to behaviour args e lacked stops is) a gone un = same s _ a refl un.silent un
-stays trace s (rule.gets b c mail f x going need) a gone un = same s _ a refl un.silent un
-stays trace s (rule.collects b c mail at may) a gone un = same s _ a refl un.silent un
-stays trace s (rule.leaves b c mail at may) a gone un = same s _ a refl un.silent un
 stays trace s (rule.blocks b c mail at may) a gone un = same s _ a refl (IsSilentOn-push a s.notes (Block b c.holdings.count (held_actors c.holdings)) un.silent (other s a b _ gone at)) un
 stays trace s (rule.hears note later is) a gone un = let z = heard_after s a note later is un in record { unkept = z.0; silent = z.1 }
 stays trace s (rule.scans news) a gone un = same s _ a (ap (λ kept. kept_report kept a) (scanned_kept s.detector (closed_set s.detector))) un.silent un
 stays trace s (rule.reaps number token is) a gone un = record { unkept = without_members token.members s.detector.kept a un.unkept; silent = un.silent }
+stays trace s is a gone un = same s _ a refl un.silent un
 
 pub untold_stays : UntoldStaysUntold
 untold_stays [] s t a is gone un = subst (λ (u : State). IsUntold u a) is un

@@ -6,7 +6,7 @@ use Rattle.machine_rules.proofs.Present.{present_below}
 use Rattle.count_laws.proofs.balance.Sends.{push_is}
 use Rattle.letter_kinds.specs.Holdings.{Row}
 use Rattle.letter_kinds.specs.declared.letter.Letter.{Letter}
-use Rattle.letter_kinds.specs.declared.letter.Letter.TheVariants.{App, Inc, Dec, Confirm}
+use Rattle.letter_kinds.specs.declared.letter.Letter.TheVariants.{App}
 use Rattle.machine_rules.specs.Actors.{Seat, Actors, seat_at, push_letter, seat}
 use Rattle.count_laws.specs.Agreement.{Person, nobody, person_at, person_of, IsRootPerson, app_letters, Agrees}
 use Rattle.machine_rules.specs.Cell.{Cell}
@@ -55,9 +55,7 @@ agrees_same ps s a c c' ls ls' at alike ag =
 app_more : (ls : List Letter) (l : Letter) → app_letters (ls ++ l ∷ []) ≡ app_letters ls ++ app_letters (l ∷ [])
 app_more [] l = refl
 app_more (App b args load rows ∷ ls) l = ap (λ r. record { behaviour = b; args = args } ∷ r) (app_more ls l)
-app_more (Inc es ∷ ls) l = app_more ls l
-app_more (Dec es ∷ ls) l = app_more ls l
-app_more (Confirm t ∷ ls) l = app_more ls l
+app_more (m ∷ ls) l = app_more ls l
 
 abbrev pub with_letter : ℕ → List Value → Person → Person
 with_letter b args p = record p { letters = p.letters ++ record { behaviour = b; args = args } ∷ [] }

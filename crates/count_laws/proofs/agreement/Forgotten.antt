@@ -16,7 +16,7 @@ use Rattle.turn_rules.specs.declared.act.Act.{Act}
 use Rattle.turn_rules.specs.declared.act.Act.TheVariants.{Post, New, Print, End}
 use Rattle.turn_rules.specs.declared.act.Frame.{Frame}
 use Rattle.event_rule.specs.declared.event.Event.{Event}
-use Rattle.event_rule.specs.declared.event.Event.TheVariants.{Take, Go, Collect, Leave, Block, Hear, Scan, Reap}
+use Rattle.event_rule.specs.declared.event.Event.TheVariants.{Take, Go}
 use Rattle.reach_walk.specs.Reach.{thing_row}
 use Rattle.letter_kinds.specs.Holdings.{Row}
 use Rattle.plain_rules.proofs.Changing.{length-with_changed}
@@ -431,12 +431,7 @@ module _ (p : PlainState) where
   traced : (e : Event) (q : PlainState) → plain_next p e ≡ Goes q → Traced q
   traced (Take a) q e = on_take a (slice_get p.actors a) refl q e
   traced (Go a) q e = on_go a (slice_get p.actors a) refl q e
-  traced (Collect a) q e = cc
-  traced (Leave a) q e = cc
-  traced (Block a) q e = cc
-  traced Hear q e = cc
-  traced Scan q e = cc
-  traced (Reap token) q e = cc
+  traced event q e = cc
 
 -- ---- runs
 

@@ -50,12 +50,10 @@ root_parts false None [] e = cc
 
 parts_root : (pinned : Bool) (frame : Option Frame) (letters : List PlainLetter) → (pinned ≡ true) ⊎ ((frame ≢ None) ⊎ (letters ≢ []))
     → (pinned || is_some frame || not (is_empty letters)) ≡ true
-parts_root true frame letters r = refl
-parts_root false (Some f) letters r = refl
-parts_root false None (l ∷ letters) r = refl
 parts_root false None [] (inl e) = cc
 parts_root false None [] (inr (inl f)) = absurd (f refl)
 parts_root false None [] (inr (inr f)) = absurd (f refl)
+parts_root pinned frame letters r = refl
 
 root_person : (x : PlainActor) → is_root x ≡ true → IsRootPerson (person_of_plain x)
 root_person x e = root_parts x.fields.pinned x.frame x.letters e

@@ -8,11 +8,9 @@ slice_set_same (x ∷ xs) zero y h = refl
 slice_set_same (x ∷ xs) (suc a) y h = slice_set_same xs a y (omega arith)
 
 pub slice_set_other : {A : Type 0} (xs : List A) (a b : ℕ) (y : A) → b ≢ a → slice_get (set xs a y) b ≡ slice_get xs b
-slice_set_other [] a b y n = refl
 slice_set_other (x ∷ xs) zero zero y n = absurd (n refl)
-slice_set_other (x ∷ xs) zero (suc b) y n = refl
-slice_set_other (x ∷ xs) (suc a) zero y n = refl
 slice_set_other (x ∷ xs) (suc a) (suc b) y n = slice_set_other xs a b y (λ e. n (ap suc e))
+slice_set_other xs a b y n = refl
 
 pub slice_push_other : {A : Type 0} (xs : List A) (y : A) (b : ℕ) → b ≢ length xs → slice_get (xs ++ y ∷ []) b ≡ slice_get xs b
 slice_push_other [] y zero n = absurd (n refl)

@@ -43,11 +43,9 @@ use Rattle.machine_rules.proofs.Guards.{acked_open}
 -- ---- lists
 
 set_apart : {A : Type 0} (xs : List A) (a b : ℕ) (x y : A) → b ≢ a → set (set xs a x) b y ≡ set (set xs b y) a x
-set_apart [] a b x y not = refl
 set_apart (z ∷ xs) zero zero x y not = absurd (not refl)
-set_apart (z ∷ xs) zero (suc b) x y not = refl
-set_apart (z ∷ xs) (suc a) zero x y not = refl
 set_apart (z ∷ xs) (suc a) (suc b) x y not = ap (λ ys. z ∷ ys) (set_apart xs a b x y (λ e. not (ap suc e)))
+set_apart xs a b x y not = refl
 
 set_twice : {A : Type 0} (xs : List A) (a : ℕ) (x y : A) → set (set xs a x) a y ≡ set xs a y
 set_twice [] a x y = refl

@@ -253,19 +253,9 @@ abbrev Opens : State → Event → State → Type 0
 Opens s e t = t.detector.opened ≤ suc s.detector.opened
 
 opens : (trace : Trace) (s : State) {e : Event} {t : State} → IsStep trace s e t → Opens s e t
-opens trace s (rule.takes a c l mail at is) = omega arith
-opens trace s (rule.ends a c mail f stops) = omega arith
-opens trace s (rule.prints a c mail f v stops) = omega arith
-opens trace s (rule.makes a c mail f kind register stops room) = omega arith
-opens trace s (rule.posts a c mail f to behaviour args stops none) = omega arith
-opens trace s (rule.mints a c mail f to behaviour args e lacked stops is) = omega arith
-opens trace s (rule.gets a c mail f y going need) = omega arith
-opens trace s (rule.collects a c mail at may) = omega arith
-opens trace s (rule.leaves a c mail at may) = omega arith
-opens trace s (rule.blocks a c mail at may) = omega arith
 opens trace s (rule.hears note later is) = let z = heard_opened note s.detector in omega arith
 opens trace s (rule.scans news) = scanned_opened s.detector (closed_set s.detector)
-opens trace s (rule.reaps number token is) = omega arith
+opens trace s is = omega arith
 
 pub events_open : EventsOpenOneToken
 events_open s t e goes = opens s.options.trace s (step_of s t e goes)
@@ -321,18 +311,7 @@ Stays s e t = t.options ≡ s.options
 
 stays : (trace : Trace) (s : State) {e : Event} {t : State} → IsStep trace s e t → Stays s e t
 stays trace s (rule.takes a c l mail at is) = refl
-stays trace s (rule.ends a c mail f stops) = refl
-stays trace s (rule.prints a c mail f v stops) = refl
-stays trace s (rule.makes a c mail f kind register stops room) = refl
-stays trace s (rule.posts a c mail f to behaviour args stops none) = refl
-stays trace s (rule.mints a c mail f to behaviour args e lacked stops is) = refl
-stays trace s (rule.gets a c mail f y going need) = refl
-stays trace s (rule.collects a c mail at may) = refl
-stays trace s (rule.leaves a c mail at may) = refl
-stays trace s (rule.blocks a c mail at may) = refl
-stays trace s (rule.hears note later is) = refl
-stays trace s (rule.scans news) = refl
-stays trace s (rule.reaps number token is) = refl
+stays trace s is = refl
 
 pub options_stay : (s t : State) (e : Event) → next s e ≡ Goes t → t.options ≡ s.options
 options_stay s t e goes = stays s.options.trace s (step_of s t e goes)

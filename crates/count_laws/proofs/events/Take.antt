@@ -209,9 +209,7 @@ module _ (program : Program) (all : Thing → Option Row) (ps : List Person) (s 
 -- who stands beside it afterwards in the plain machine
 abbrev pub people_after : Program → ℕ → Cell → Letter → List Letter → List Person → List Person
 people_after program a c (App b args load rows) ls ps = set ps a (person_of (cell_after program a (App b args load rows) c) ls)
-people_after program a c (Inc es) ls ps = ps
-people_after program a c (Dec es) ls ps = ps
-people_after program a c (Confirm t) ls ps = ps
+people_after program a c l ls ps = ps
 
 pub take_keeps_counts : (program : Program) (all : Thing → Option Row) (ps : List Person) (s : Actors) (inv : KeepsCounts Deep all ps s)
     (a : ℕ) (c : Cell) (l : Letter) (ls : List Letter) (at : seat_at s a ≡ seat c (l ∷ ls)) → KeepsCounts Deep all (people_after program a c l ls ps) (take_letter program a c l ls s)

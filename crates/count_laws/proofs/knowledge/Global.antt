@@ -12,7 +12,7 @@ use Rattle.count_laws.proofs.knowledge.Freed.{known_left, loaded_left}
 use Rattle.letter_kinds.specs.Holdings.{Row}
 use Rattle.letter_kinds.specs.Sums.{times_loaded, load_count}
 use Rattle.letter_kinds.specs.declared.letter.Letter.{Letter}
-use Rattle.letter_kinds.specs.declared.letter.Letter.TheVariants.{App, Inc, Dec, Confirm}
+use Rattle.letter_kinds.specs.declared.letter.Letter.TheVariants.{App}
 use Rattle.count_laws.proofs.balance.InHand.{Sound, Balanced}
 use Rattle.orca_names.specs.declared.trace.Trace.TheVariants.{Deep}
 use Rattle.machine_rules.specs.Actors.{Seat, Actors, seat_at, push_letter, seat}
@@ -77,9 +77,7 @@ module _ (all all' : Thing → Option Row) (New : Thing → Type 0) (only : (x :
         whole = λ x h. ok.whole x (shrunk (Names args) (λ x q. left' x (ok.whole x q)) x h);
         rows = rows_in load left' ok.rows;
       }
-  letter_grown (Inc es) left ok = tt
-  letter_grown (Dec es) left ok = tt
-  letter_grown (Confirm t) left ok = tt
+  letter_grown l left ok = tt
 
   mail_grown : (ls : List Letter) → ((x : Thing) → 0 < sum_by (load_count x) ls → IsLeft s x) → AreExactLetters all ls → AreExactLetters all' ls
   mail_grown [] left ok = tt

@@ -16,7 +16,7 @@ use Rattle.letter_kinds.specs.Counting.{Amount, Loaded, gain, lower, mint_all, r
 use Rattle.letter_kinds.specs.Holdings.{Holdings, Row, has_own, held_in, own_in, row_of}
 use Rattle.letter_kinds.specs.Sums.{dec_of, inc_of, load_count}
 use Rattle.letter_kinds.specs.declared.letter.Letter.{Letter}
-use Rattle.letter_kinds.specs.declared.letter.Letter.TheVariants.{App, Inc, Dec, Confirm}
+use Rattle.letter_kinds.specs.declared.letter.Letter.TheVariants.{App}
 use Rattle.count_laws.proofs.knowledge.Paths.{along_row, reach_into}
 use Rattle.count_laws.proofs.knowledge.Receiving.{has-receive, own_row, row_set_held_own, row_set_own}
 use Rattle.count_laws.proofs.balance.Safety.{drop-push}
@@ -209,9 +209,7 @@ backed_push a c mail l old new x k o h = ⊎_elim
 pub letters_push : (all : Thing → Option Row) (ls : List Letter) (l : Letter) → AreRootLetters all (l ∷ []) → AreRootLetters all ls → AreRootLetters all (ls ++ l ∷ [])
 letters_push all [] l ok h = ok
 letters_push all (App b args load rows ∷ ls) l ok h = (h.0, letters_push all ls l ok h.1)
-letters_push all (Inc es ∷ ls) l ok h = letters_push all ls l ok h
-letters_push all (Dec es ∷ ls) l ok h = letters_push all ls l ok h
-letters_push all (Confirm t ∷ ls) l ok h = letters_push all ls l ok h
+letters_push all (m ∷ ls) l ok h = letters_push all ls l ok h
 
 -- a letter with no Inc for an own thing comes
 pub roots_push : (all : Thing → Option Row) (l : Letter) → AreRootLetters all (l ∷ []) → ((x : Thing) → inc_of x l ≡ 0) → (a : ℕ) (c : Cell) (ls : List Letter) → IsRootsAt all a c ls → IsRootsAt all a c (ls ++ l ∷ [])
