@@ -11,7 +11,7 @@ use Rattle.seat_hall.specs.declared.closing.Closing.{Closing}
 use Rattle.seat_hall.specs.declared.closing.Closing.TheVariants.{Whole, Turning, Lent}
 use Rattle.seat_hall.specs.declared.item.Item.{Item}
 use Rattle.seat_hall.specs.Closes.{Closes, IsLastHall, Leaves}
-use Rattle.seat_hall.specs.Fair.{Calm, Fair, Knower, live}
+use Rattle.seat_hall.specs.Fair.{Calm, HallRule, Knower, live}
 use Rattle.seat_hall.specs.Halls.{HallView}
 use Rattle.seat_hall.specs.Log.{Logged}
 use Rattle.seat_hall.specs.Passes.{IsPass, Token, hall, seen}
@@ -20,9 +20,9 @@ use Rattle.seat_hall.proofs.Keeps.{one_number}
 use Rattle.seat_hall.proofs.Logs.{HasTerms, terms_of}
 
 -- where nobody has the turn, the hall is that of the whole log
-pub last_hall : (pass : ℕ) (t : Token) (h : HallView) → IsPass pass t → IsClosed Fair live Calm (knows t) h
-    → IsLastHall t h.logged
-last_hall pass t h is closed =
+pub last_hall : (pass : ℕ) (t : Token) (h : HallView) (words : List ℕ) → IsPass pass t
+    → IsClosed HallRule live Calm (knows t) h words → IsLastHall t h.logged
+last_hall pass t h words is closed =
     let queue = closed.0 in
     let last = closed.1 in
     let seat = last.seats.each last.id last.mine last.there in

@@ -16,15 +16,15 @@ use Rattle.turn_log.proofs.Sums.{each_term, sum_set}
 use Rattle.seat_hall.specs.declared.item.Item.{Item}
 use Rattle.seat_hall.specs.declared.item.Item.TheVariants.{Claimed, Entered, Ended, Stopped, Made}
 use Rattle.seat_hall.specs.declared.item.PassView.{PassView}
-use Rattle.seat_hall.specs.Fair.{Fair, Follows, IsFair, IsOwn, Knower, Shown, after_item, hall_of, has_number, live, numbers_of}
+use Rattle.seat_hall.specs.Fair.{Fair, Follows, HallRule, IsFair, IsOwn, Knower, Shown, after_item, hall_of, has_number, live, numbers_of}
 use Rattle.seat_hall.specs.Halls.{HallView}
 use Rattle.seat_hall.specs.Log.{Logged, MayFollow, after, begins, by, hall_from, items_by}
 use Rattle.seat_hall.proofs.Apart.{one_pass, shown}
 use Rattle.seat_hall.proofs.Logs.{few_made, hall_append, legal_snoc}
 
 -- few passes have tickets
-pub few : FewTickets Fair live
-few log hall passes fair =
+pub few : FewTickets HallRule live
+few log hall passes words fair =
     let le = sum_by-le-sum_by (λ (k : Knower). live k.client) numbers_of passes (λ k. at_most k) in
     let most = fair.few in
     let made = few_made (begins fair.program fair.weight fair.trace fair.budget) log (omega arith) fair.legal in
@@ -57,8 +57,8 @@ with_pass log hall passes fair id k w at same mine = record {
     numbers : (n : ℕ) → has_number n w ≡ has_number n k
     numbers n = ap (count_by (λ m. m == n)) same
 
-pub may_look : MayLook Fair Shown
-may_look log hall passes id k fair at saw =
+pub may_look : MayLook HallRule Shown
+may_look log hall passes words id k fair at saw =
     let mine = fair.each id k at in (
       with_pass log hall passes fair id k (at_turn log k) at refl (record { run = mine.run; own = λ n has. refl }),
       shown log hall passes fair id k at,
@@ -119,9 +119,9 @@ pub one_number : (p : ℕ) (ns : List ℕ) (k : Knower) → k.client.numbers ≡
 one_number p ns k is = let e = ap (λ (xs : List ℕ). length xs) is in omega arith
 
 -- an item of the pass's own call
-pub may_write_own : (id p : ℕ) (i : Item) (k : Knower) (before value : HallView) → IsOwn p i → Follows p i k value
-    → MayWrite Fair after_item id k before value i
-may_write_own id p i k before value own follows passes fair at =
+pub may_write_own : (id p : ℕ) (i : Item) (k : Knower) (puts : List (ℕ × ℕ)) (before value : HallView) → IsOwn p i
+    → Follows p i k value → MayWrite HallRule after_item id k puts before value i
+may_write_own id p i k puts before value own follows passes words fair at stand =
     let voiced = one_number p [] k follows.number in
     let start : Logged = begins fair.program fair.weight fair.trace fair.budget in
     let here = same_hall k.seen before passes fair id k at voiced k.seen in
@@ -165,9 +165,9 @@ may_write_own id p i k before value own follows passes fair at =
     }
 
 -- the pass gives a number
-pub may_give : (id p q : ℕ) (k : Knower) (before value : HallView) → Follows p (Made q) k value
-    → MayWrite Fair after_item id k before value (Made q)
-may_give id p q k before value follows passes fair at =
+pub may_give : (id p q : ℕ) (k : Knower) (puts : List (ℕ × ℕ)) (before value : HallView) → Follows p (Made q) k value
+    → MayWrite HallRule after_item id k puts before value (Made q)
+may_give id p q k puts before value follows passes words fair at stand =
     let voiced = one_number p [] k follows.number in
     let start : Logged = begins fair.program fair.weight fair.trace fair.budget in
     let here = same_hall k.seen before passes fair id k at voiced k.seen in

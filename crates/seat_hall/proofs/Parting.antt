@@ -11,7 +11,7 @@ use Rattle.turn_log.specs.Owed.{MayJoin, MaySplit}
 use Rattle.turn_log.proofs.Places.{at_other}
 use Rattle.turn_log.proofs.Sums.{sum_set}
 use Rattle.seat_hall.specs.declared.item.Item.{Item}
-use Rattle.seat_hall.specs.Fair.{Fair, IsFair, Knower, gets_other, has_number, keeps_own, numbers_of, spent_view, stays_itself}
+use Rattle.seat_hall.specs.Fair.{HallRule, IsFair, Knower, gets_other, has_number, keeps_own, numbers_of, spent_view, stays_itself}
 use Rattle.seat_hall.proofs.Keeps.{with_pass}
 
 -- ---- a pass with a number to give is split
@@ -44,8 +44,8 @@ module _ (id p q : ℕ) (k : Knower) (two : k.client.numbers ≡ p ∷ q ∷ [])
       let b = ap (λ (ns : List ℕ). length ns) right_is in
       let c = ap (λ (ns : List ℕ). length ns) two in omega arith
 
-  pub may_split : MaySplit Fair id k left right
-  may_split log hall passes fair at =
+  pub may_split : MaySplit HallRule id k left right
+  may_split log hall passes words fair at =
       let mine = fair.each id k at in
       let c = ap (λ (ns : List ℕ). length ns) two in record {
         program = fair.program;
@@ -84,8 +84,8 @@ module _ (id p q : ℕ) (k : Knower) (two : k.client.numbers ≡ p ∷ q ∷ [])
 -- ---- a pass takes in another
 
 pub may_join : (id : ℕ) (k : Knower) (other : ℕ) (w : Knower)
-    → MayJoin Fair id k other w (having_joined stays_itself w k) (newcomer spent_view)
-may_join id k other w log hall passes fair at apart there saw saw' =
+    → MayJoin HallRule id k other w (having_joined stays_itself w k) (newcomer spent_view)
+may_join id k other w log hall passes words fair at apart there saw saw' =
     let both : Knower = having_joined stays_itself w k in
     let spent : Knower = newcomer spent_view in
     let mine = fair.each id k at in

@@ -10,7 +10,7 @@ use Rattle.turn_log.specs.Seats.{knows}
 use Rattle.seat_hall.specs.declared.closing.Closing.{Closing}
 use Rattle.seat_hall.specs.declared.closing.Closing.TheVariants.{Whole, Turning, Lent}
 use Rattle.seat_hall.specs.declared.item.Item.{Item}
-use Rattle.seat_hall.specs.Fair.{Calm, Fair, live, start_of}
+use Rattle.seat_hall.specs.Fair.{Calm, HallRule, live, start_of}
 use Rattle.seat_hall.specs.Log.{Legal, Logged, claim_in, listed, state_in}
 use Rattle.seat_hall.specs.Passes.{Token, hall, seen}
 
@@ -64,7 +64,7 @@ Leaves l (Lent holder actor) = IsLowestClaim holder actor l
 
 -- some passes have a ticket, from the one that is served to the one that would be drawn next
 abbrev pub IsTurning : Token → ℕ → ℕ → Type 0
-IsTurning t ticket serving = (ticket ≢ serving) × IsStillOpen Fair live Calm (knows t) ticket serving
+IsTurning t ticket serving = (ticket ≢ serving) × IsStillOpen HallRule live Calm (knows t) ticket serving
 
 -- how the hall ends: whole; or with a turn out; or with a claim out
 abbrev pub Closes : Token → Closing → Type 0

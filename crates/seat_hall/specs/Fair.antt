@@ -103,6 +103,10 @@ pub record Fair (log : List Item) (hall : HallView) (passes : List Knower) : Typ
   pub given : (n : ℕ) → hall.logged.made < n → sum_by (has_number n) passes ≡ 0
   pub few : sum_by numbers_of passes ≤ hall.logged.made + 1
 
+-- the rule of the log, which asks nothing of the words beside the hall
+abbrev pub HallRule : List Item → HallView → List Knower → List ℕ → Type 0
+HallRule log hall passes words = Fair log hall passes
+
 -- what a pass with a number learns at its turn: the hall is that of the log, which has no items by its
 -- numbers but those that it has seen
 pub record Shown (k : Knower) (log : List Item) (hall : HallView) : Type 0 where

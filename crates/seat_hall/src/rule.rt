@@ -21,9 +21,9 @@ use turn_log::{LogRule, LogSeat, TurnLog};
 pub struct Fairly;
 
 impl<'a> LogRule<BoxedHall<'a>, Item, PassView> for Fairly {
-    ghost use Rattle.seat_hall.specs.Fair.{Calm, Fair, Shown, after_item, first_view, live};
+    ghost use Rattle.seat_hall.specs.Fair.{Calm, HallRule, Shown, after_item, first_view, live};
 
-    ghost holds = { Fair };
+    ghost holds = { HallRule };
 
     ghost first = { λ h. let l = h.logged in first_view l.program l.weight l.trace l.budget };
 
@@ -87,5 +87,5 @@ pub(crate) fn begin<'a>(
     let Ok(hall) = Box::new(alloc, hall) else {
         return Err(NoMemory);
     };
-    Ok(TurnLog::new(alloc, BoxedHall { hall })?)
+    Ok(TurnLog::new(alloc, BoxedHall { hall }, &[])?)
 }

@@ -131,7 +131,10 @@ pub(crate) fn close<'a>(log: HallLog<'a>, seat: PassSeat<'a>, number: u32) -> Cl
             ticket: words.ticket,
             serving: words.serving,
         },
-        Ok(hall) => leave(hall),
+        Ok((hall, words)) => {
+            drop(words);
+            leave(hall)
+        }
     }
 }
 

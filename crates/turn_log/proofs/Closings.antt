@@ -12,8 +12,9 @@ use Rattle.turn_log.specs.declared.table.Stage.TheVariants.{Idle, Waits, HasTurn
 use Rattle.turn_log.specs.Ends.{IsClosed, IsLast, IsStillOpen}
 use Rattle.turn_log.specs.Knowing.{newcomer}
 use Rattle.turn_log.specs.Owed.{FewTickets}
-use Rattle.turn_log.specs.Queue.{IsRuled, IsSeat, Queue, known_of, slot, tickets, tickets_of, turns, turns_of}
+use Rattle.turn_log.specs.Queue.{IsPutter, IsRuled, IsSeat, Queue, known_of, slot, tickets, tickets_of, turns, turns_of, user_words}
 use Rattle.turn_log.specs.Seats.{idle}
+use Rattle.turn_log.proofs.Putters.{nothing_put}
 use Rattle.turn_log.proofs.Queues.{few}
 use Rattle.turn_log.proofs.Sums.{each_term, no_terms}
 
@@ -22,13 +23,13 @@ index_at [] i v e = absurd (some-ne-none v (sym e))
 index_at (x ∷ xs) zero v e = some-injective x v e
 index_at (x ∷ xs) (suc i) v e = index_at xs i v e
 
-module _ {T I V : Type 0} (holds : List I → T → List (Known I V) → Type 0) (live : V → ℕ)
+module _ {T I V : Type 0} (holds : List I → T → List (Known I V) → List ℕ → Type 0) (live : V → ℕ)
     (calm : V → Type 0) where
-  pub begins : (value : T) (v : V) → holds [] value (newcomer v ∷ []) → calm v
-      → IsRuled holds live calm (opening (0 ∷ 0 ∷ 0 ∷ []) (Some value ∷ []) (idle (newcomer v)))
-  begins value v kept calm_v = record {
+  pub begins : (value : T) (v : V) (words : List ℕ) → holds [] value (newcomer v ∷ []) words → calm v
+      → IsRuled holds live calm (opening (0 ∷ 0 ∷ 0 ∷ words) (Some value ∷ []) (idle (newcomer v)))
+  begins value v words kept calm_v = record {
     queue = q;
-    wide = refl;
+    wide = omega arith;
     deep = refl;
     length_is = refl;
     ticket_is = refl;
@@ -40,6 +41,7 @@ module _ {T I V : Type 0} (holds : List I → T → List (Known I V) → Type 0)
       each = alone;
       apart = λ j k d e a b has _ _. absurd (none_has j d a has);
     };
+    puts = alone_puts;
     whole = (0, idle (newcomer v), refl, refl);
     kept = kept;
   }
@@ -53,6 +55,10 @@ module _ {T I V : Type 0} (holds : List I → T → List (Known I V) → Type 0)
           (record { stage = calm_v; may = omega arith; saw = ([], refl); heard = ([], refl) })
       alone (suc j) d e = absurd (some-ne-none d (sym e))
 
+      alone_puts : (j : ℕ) (d : SeatView T I V) → get_elem? (idle (newcomer v) ∷ []) j ≡ some d → IsPutter words d
+      alone_puts zero d e = subst (IsPutter words) (some-injective (idle (newcomer v)) d e) (nothing_put words (newcomer v))
+      alone_puts (suc j) d e = absurd (some-ne-none d (sym e))
+
       none_has : (j : ℕ) (d : SeatView T I V) → get_elem? (idle (newcomer v) ∷ []) j ≡ some d
           → 0 < tickets d.stage → ⊥
       none_has zero d e has =
@@ -61,7 +67,7 @@ module _ {T I V : Type 0} (holds : List I → T → List (Known I V) → Type 0)
       none_has (suc j) d e has = some-ne-none d (sym e)
 
   last : (s : State (Option T) (SeatView T I V)) (r : IsRuled holds live calm s) (id : ℕ) (d : SeatView T I V)
-      → get_elem? s.views id ≡ some d → IsLast holds live calm d.known r.queue
+      → get_elem? s.views id ≡ some d → IsLast holds live calm d.known r.queue (user_words s.words)
   last s r id d at = record {
     views = s.views;
     seats = r.seats;
@@ -83,10 +89,10 @@ module _ {T I V : Type 0} (holds : List I → T → List (Known I V) → Type 0)
       → FewTickets holds live → IsRuled holds live calm s → get_elem? s.views id ≡ some d → s.words ≡ ws
       → ((k : ℕ) (y : Option T) → get_elem? s.homes k ≡ some (some y) → get_elem? xs k ≡ some y)
       → get_or ws 1 0 ≡ get_or ws 2 0
-      → (value : T) × (get_elem? xs 0 ≡ some (Some value)) × IsClosed holds live calm d.known value
+      → (value : T) × (get_elem? xs 0 ≡ some (Some value)) × IsClosed holds live calm d.known value (user_words ws)
   closes s id d ws xs bounded r at words homes same =
       let q = r.queue in
-      let bound = few live calm holds q s.views bounded r.kept r.seats in
+      let bound = few live calm holds q s.views (user_words s.words) bounded r.kept r.seats in
       let small = r.small in
       let ticket = r.ticket_is in
       let served = r.served_is in
@@ -97,7 +103,7 @@ module _ {T I V : Type 0} (holds : List I → T → List (Known I V) → Type 0)
       (λ j e there. no_turns e.stage (each_term tickets_of s.views (r.seats.count ∙ none) j e there)) in (
         q.value,
         homes 0 (Some q.value) (r.slot_is ∙ ap (λ n. some (slot q.value n)) nobody),
-        (q, last s r id d at, none, refl),
+        (q, subst (λ zs. IsLast holds live calm d.known q (user_words zs)) words (last s r id d at), none, refl),
       )
 
   -- where they are not, somebody has a ticket
@@ -107,22 +113,22 @@ module _ {T I V : Type 0} (holds : List I → T → List (Known I V) → Type 0)
       → IsStillOpen holds live calm d.known ticket serving
   stays_open s id d ticket serving r at is is' differ =
       let q = r.queue in let t = r.ticket_is in let v = r.served_is in let small = r.small in
-      (q, last s r id d at, some_long q.long refl, sym is' ∙ v, sym is ∙ t)
+      (q, user_words s.words, last s r id d at, some_long q.long refl, sym is' ∙ v, sym is ∙ t)
     where
       some_long : (n : ℕ) → r.queue.long ≡ n → 0 < r.queue.long
       some_long zero none = let t = r.ticket_is in let v = r.served_is in let small = r.small in absurd (differ (omega arith))
       some_long (suc n) more = omega arith
 
   -- at the end the rule holds of the whole log, which begins with what the seat's pass saw and heard
-  pub ended : (k : Known I V) (value : T) → IsClosed holds live calm k value
-      → (log : List I) × (passes : List (Known I V)) × (id : ℕ) × holds log value passes
+  pub ended : (k : Known I V) (value : T) (words : List ℕ) → IsClosed holds live calm k value words
+      → (log : List I) × (passes : List (Known I V)) × (id : ℕ) × holds log value passes words
       × (get_elem? passes id ≡ some k) × IsPrefix k.seen log × IsPrefix k.heard log
-  ended k value closed =
+  ended k value words closed =
       let q = closed.0 in let last = closed.1 in let seat = last.seats.each last.id last.mine last.there in (
         q.log,
         map known_of last.views,
         last.id,
-        subst (λ (v : T). holds q.log v (map known_of last.views)) closed.3 last.kept,
+        subst (λ (v : T). holds q.log v (map known_of last.views) words) closed.3 last.kept,
         at_map known_of last.views last.id last.mine last.there ∙ ap some last.knew,
         subst (λ (w : Known I V). IsPrefix w.seen q.log) last.knew seat.saw,
         subst (λ (w : Known I V). IsPrefix w.heard q.log) last.knew seat.heard,

@@ -1,19 +1,21 @@
 -- Who draws a ticket stands last in the queue.
-use Rattle.std.proofs.Common.{◌≡◌, ◌≢◌, ℕ, ◌+◌, ◌%◌, ◌^◌, ◌<◌, ◌≤◌, List, get_or, set, sum_by, sym, refl, ap, ◌∙◌, subst, arith, length-set, get_or-set_other, get_or-set_same, Option}
+use Rattle.std.proofs.Common.{◌≡◌, ◌≢◌, ℕ, ◌+◌, ◌%◌, ◌^◌, ◌<◌, ◌≤◌, List, map, get_or, set, sum_by, sym, refl, ap, ◌∙◌, subst, arith, length-set, get_or-set_other, get_or-set_same, Option}
 use mathlib.Core.Option.{some, none}
 use Rattle.atomic_table.specs.Table.{Allows, Me, keeps, step}
 use Rattle.turn_log.specs.declared.rule.Known.{Known}
 use Rattle.turn_log.specs.declared.table.SeatView.{SeatView}
 use Rattle.turn_log.specs.declared.table.Stage.{Stage}
 use Rattle.turn_log.specs.declared.table.Stage.TheVariants.{Idle, Waits, HasTurn}
-use Rattle.turn_log.specs.Queue.{Queue, IsAtStage, IsRuled, slot, tickets, turns, turns_of}
+use Rattle.turn_log.specs.Queue.{Queue, IsAtStage, IsRuled, known_of, slot, tickets, turns, turns_of, user_words}
 use Rattle.turn_log.specs.Seats.{view_of}
 use Rattle.turn_log.specs.Told.{drew}
 use Rattle.turn_log.proofs.Places.{put, put_else, put_here}
 use Rattle.turn_log.proofs.Queues.{has_place, moves, same_passes, still_heard}
+use Rattle.turn_log.proofs.Putters.{nothing_put_at, putters, putters_words}
 use Rattle.turn_log.proofs.Sums.{sum_set}
+use Rattle.turn_log.proofs.UserWords.{queue_word}
 
-module _ {T I V : Type 0} (holds : List I → T → List (Known I V) → Type 0) (live : V → ℕ)
+module _ {T I V : Type 0} (holds : List I → T → List (Known I V) → List ℕ → Type 0) (live : V → ℕ)
     (calm : V → Type 0) where
   -- the queue with one more at its end
   abbrev with_last : Queue T I → ℕ → Queue T I
@@ -53,7 +55,7 @@ module _ {T I V : Type 0} (holds : List I → T → List (Known I V) → Type 0)
         tt,
         record {
           queue = with_last q id;
-          wide = length-set s.words 1 next ∙ wide;
+          wide = let n = length-set s.words 1 next in omega arith;
           deep = r.deep;
           length_is = get_or-set_other s.words 1 0 next 0 (λ e. omega arith) ∙ r.length_is;
           ticket_is = let now = get_or-set_same s.words 1 next 0 (omega arith) in omega arith;
@@ -76,8 +78,12 @@ module _ {T I V : Type 0} (holds : List I → T → List (Known I V) → Type 0)
               (λ k e other there _ has p.
               let l = has_place live calm q k e.known e.stage (r.seats.each k e there).stage has in
               let p' : q.long ≡ q.place k = sym here ∙ (p ∙ put_else q.place id q.long k other) in omega arith);
+          puts = putters_words s.words 1 next (set s.views id w) (omega arith)
+              (putters (user_words s.words) s.views id w (nothing_put_at (user_words s.words) (Waits ticket) me.0.known) r.puts);
           whole = still_heard live calm q.log s.views id me.0 w at refl r.whole;
-          kept = same_passes live calm holds q s.views id me.0 (Waits ticket) at r.kept;
+          kept = subst (λ ws. holds q.log q.value (map known_of (set s.views id w)) ws)
+              (sym (queue_word s.words 1 next (omega arith)))
+              (same_passes live calm holds q s.views (user_words s.words) id me.0 (Waits ticket) at r.kept);
         },
         refl,
       )

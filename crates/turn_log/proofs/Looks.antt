@@ -13,11 +13,12 @@ use Rattle.turn_log.specs.declared.table.Stage.{Stage}
 use Rattle.turn_log.specs.declared.table.Stage.TheVariants.{Waits, HasTurn}
 use Rattle.turn_log.specs.Knowing.{at_turn}
 use Rattle.turn_log.specs.Owed.{FewTickets, MayLook}
-use Rattle.turn_log.specs.Queue.{IsAtStage, IsRuled, known_of, slot, tickets, turns, turns_of}
+use Rattle.turn_log.specs.Queue.{IsAtStage, IsPutter, IsRuled, known_of, slot, tickets, turns, turns_of, user_words}
 use Rattle.turn_log.specs.Seats.{view_of}
 use Rattle.turn_log.specs.Told.{looked}
 use Rattle.turn_log.proofs.Places.{at_mine, at_one}
 use Rattle.turn_log.proofs.Queues.{few, others_wait, stays}
+use Rattle.turn_log.proofs.Putters.{nothing_put_at, putters}
 use Rattle.turn_log.proofs.Sums.{no_terms, sum_set}
 
 abbrev pub ticket_of : {T : Type 0} → Stage T → ℕ
@@ -25,7 +26,7 @@ ticket_of (Waits t) = t
 ticket_of (HasTurn t x) = t
 ticket_of _ = 0
 
-module _ {T I V : Type 0} (holds : List I → T → List (Known I V) → Type 0) (live : V → ℕ)
+module _ {T I V : Type 0} (holds : List I → T → List (Known I V) → List ℕ → Type 0) (live : V → ℕ)
     (calm : V → Type 0) (shows : Known I V → List I → T → Type 0) where
   -- while a seat waits at place 0, no seat has the turn
   none_turns : (s : State (Option T) (SeatView T I V)) (r : IsRuled holds live calm s) (id : ℕ) (me : SeatView T I V) (ticket : ℕ)
@@ -46,7 +47,7 @@ module _ {T I V : Type 0} (holds : List I → T → List (Known I V) → Type 0)
       let stage = subst (λ (z : Stage T). IsAtStage live calm q id z me.0.known) waits mine.stage in
       let below = stage.1 in
       let is = stage.2 in
-      let small = few live calm holds q s.views bounded r.kept r.seats in
+      let small = few live calm holds q s.views (user_words s.words) bounded r.kept r.seats in
       let small' = r.small in
       let with_turn : ℕ → Me (Option T) (SeatView T I V) = λ z.
       (view_of (HasTurn z q.value) (at_turn q.log me.0.known), (0, Some q.value) ∷ me.1) in
@@ -55,7 +56,7 @@ module _ {T I V : Type 0} (holds : List I → T → List (Known I V) → Type 0)
       let first : q.place id ≡ 0 = omega arith in
       let w : SeatView T I V = view_of (HasTurn ticket q.value) (at_turn q.log me.0.known) in
       let here = at_map known_of s.views id me.0 at in
-      let shown = may q.log q.value (map known_of s.views) id me.0.known r.kept here mine.saw in
+      let shown = may q.log q.value (map known_of s.views) (user_words s.words) id me.0.known r.kept here mine.saw in
       let nobody = none_turns s r id me.0 ticket waits at first in
       let turning = sum_set turns_of s.views id me.0 w at in
       let stood : turns me.0.stage ≡ 0 = ap turns waits in
@@ -67,7 +68,7 @@ module _ {T I V : Type 0} (holds : List I → T → List (Known I V) → Type 0)
         r.slot_is ∙ ap (λ n. some (slot q.value n)) nobody,
         record {
           queue = q;
-          wide = ap length (set-get_or s.words 2 0) ∙ r.wide;
+          wide = let n = ap length (set-get_or s.words 2 0) in let wide = r.wide in omega arith;
           deep = length-set s.homes 0 none ∙ r.deep;
           length_is = ap (λ (ws : List ℕ). get_or ws 0 0) (set-get_or s.words 2 0) ∙ r.length_is;
           ticket_is = ap (λ (ws : List ℕ). get_or ws 1 0) (set-get_or s.words 2 0) ∙ r.ticket_is;
@@ -82,8 +83,13 @@ module _ {T I V : Type 0} (holds : List I → T → List (Known I V) → Type 0)
                 saw = ([], append-nil q.log);
                 heard = ([], append-nil q.log);
               });
+          puts = subst (λ ws. (j : ℕ) (d : SeatView T I V) → get_elem? (set s.views id w) j ≡ some d → IsPutter (user_words ws) d)
+              (sym (set-get_or s.words 2 0))
+              (putters (user_words s.words) s.views id w
+              (nothing_put_at (user_words s.words) (HasTurn ticket q.value) (at_turn q.log me.0.known)) r.puts);
           whole = (id, w, at_mine s.views id me.0 w at, refl);
-          kept = subst (holds q.log q.value) (sym (map-set known_of s.views id w)) shown.0;
+          kept = subst (λ (z : List (Known I V) × List ℕ). holds q.log q.value z.0 z.1)
+              (λ i. (sym (map-set known_of s.views id w) i, sym (ap user_words (set-get_or s.words 2 0)) i)) shown.0;
         },
         (λ t waits'.
             let same : ticket ≡ t = ap ticket_of (sym waits ∙ waits') in (

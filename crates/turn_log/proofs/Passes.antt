@@ -1,5 +1,5 @@
 -- Who passes the turn on gives the slot back, and all others go up by a place.
-use Rattle.std.proofs.Common.{◌≡◌, ◌≢◌, ℕ, ◌+◌, ◌-◌, ◌%◌, ◌^◌, ◌<◌, List, [], ◌∷◌, get_or, set, sum_by, sym, refl, ap, ◌∙◌, subst, arith, length-set, get_or-set_other, get_or-set_same, Option, Some}
+use Rattle.std.proofs.Common.{◌≡◌, ◌≢◌, ℕ, ◌+◌, ◌-◌, ◌%◌, ◌^◌, ◌<◌, List, [], ◌∷◌, map, get_or, set, sum_by, sym, refl, ap, ◌∙◌, subst, arith, length-set, get_or-set_other, get_or-set_same, Option, Some}
 use mathlib.Core.Logic.{dite}
 use mathlib.Core.Option.{some, none}
 use native.Mathlib.Decide.{ℕ_discrete}
@@ -10,14 +10,16 @@ use Rattle.turn_log.specs.declared.rule.Known.{Known}
 use Rattle.turn_log.specs.declared.table.SeatView.{SeatView}
 use Rattle.turn_log.specs.declared.table.Stage.{Stage}
 use Rattle.turn_log.specs.declared.table.Stage.TheVariants.{Idle, Waits, HasTurn}
-use Rattle.turn_log.specs.Queue.{Queue, IsAtStage, IsRuled, slot, tickets, turns, turns_of}
+use Rattle.turn_log.specs.Queue.{Queue, IsAtStage, IsRuled, known_of, slot, tickets, turns, turns_of, user_words}
 use Rattle.turn_log.specs.Seats.{idle}
 use Rattle.turn_log.specs.Told.{passed}
 use Rattle.turn_log.proofs.Queues.{moves, others_wait, same_passes, still_heard}
+use Rattle.turn_log.proofs.Putters.{nothing_put, putters, putters_words}
 use Rattle.turn_log.proofs.Sums.{no_terms}
+use Rattle.turn_log.proofs.UserWords.{queue_word}
 use Rattle.std.proofs.Common.{⊎_elim}
 
-module _ {T I V : Type 0} (holds : List I → T → List (Known I V) → Type 0) (live : V → ℕ)
+module _ {T I V : Type 0} (holds : List I → T → List (Known I V) → List ℕ → Type 0) (live : V → ℕ)
     (calm : V → Type 0) where
   -- the queue without its first
   abbrev without_first : Queue T I → Queue T I
@@ -66,7 +68,7 @@ module _ {T I V : Type 0} (holds : List I → T → List (Known I V) → Type 0)
         tt,
         record {
           queue = without_first q;
-          wide = length-set s.words 2 next ∙ wide;
+          wide = let n = length-set s.words 2 next in omega arith;
           deep = length-set s.homes 0 (some (Some value)) ∙ r.deep;
           length_is = get_or-set_other s.words 2 0 next 0 (λ e. omega arith) ∙ r.length_is;
           ticket_is = let t = get_or-set_other s.words 2 1 next 0 (λ e. omega arith) in let u = r.ticket_is in omega arith;
@@ -84,8 +86,12 @@ module _ {T I V : Type 0} (holds : List I → T → List (Known I V) → Type 0)
               (record { stage = calm_now; may = omega arith; saw = mine.saw; heard = mine.heard })
               (λ j l d e c f g h u v p. let m = behind j d c g u in let o = behind l e f h v in omega arith)
               (λ l e other there z _ _. absurd (omega arith));
+          puts = putters_words s.words 2 next (set s.views id w) (omega arith)
+              (putters (user_words s.words) s.views id w (nothing_put (user_words s.words) k) r.puts);
           whole = still_heard live calm q.log s.views id me.0 w at refl r.whole;
-          kept = same_passes live calm holds q s.views id me.0 Idle at r.kept;
+          kept = subst (λ ws. holds q.log q.value (map known_of (set s.views id w)) ws)
+              (sym (queue_word s.words 2 next (omega arith)))
+              (same_passes live calm holds q s.views (user_words s.words) id me.0 Idle at r.kept);
         },
         refl,
       )

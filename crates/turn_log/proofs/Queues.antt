@@ -125,22 +125,23 @@ module _ {T I V : Type 0} (live : V → ℕ) (calm : V → Type 0) where
   waits_on q value log id k (HasTurn t x) z at = absurd (omega arith)
 
   -- fewer have a ticket than there are numbers
-  pub few : (holds : List I → T → List (Known I V) → Type 0) (q : Queue T I) (views : List (SeatView T I V))
-      → FewTickets holds live → holds q.log q.value (map known_of views) → IsQueue live calm q views
+  pub few : (holds : List I → T → List (Known I V) → List ℕ → Type 0) (q : Queue T I) (views : List (SeatView T I V))
+      (words : List ℕ)
+      → FewTickets holds live → holds q.log q.value (map known_of views) words → IsQueue live calm q views
       → q.long < 18446744073709551616
-  few holds q views bounded kept queue =
+  few holds q views words bounded kept queue =
       let c = queue.count in
       let l = sum_map tickets_of (λ (k : Known I V). live k.client) known_of views (λ i v e. (queue.each i v e).may) in
-      let b = bounded q.log q.value (map known_of views) kept in omega arith
+      let b = bounded q.log q.value (map known_of views) words kept in omega arith
 
   -- ---- what the user sees
 
   -- a change of stage alone changes no pass
-  pub same_passes : (holds : List I → T → List (Known I V) → Type 0) (q : Queue T I)
-      (views : List (SeatView T I V)) (id : ℕ) (v : SeatView T I V) (stage : Stage T)
-      → get_elem? views id ≡ some v → holds q.log q.value (map known_of views)
-      → holds q.log q.value (map known_of (set views id (view_of stage v.known)))
-  same_passes holds q views id v stage at = subst (holds q.log q.value)
+  pub same_passes : (holds : List I → T → List (Known I V) → List ℕ → Type 0) (q : Queue T I)
+      (views : List (SeatView T I V)) (words : List ℕ) (id : ℕ) (v : SeatView T I V) (stage : Stage T)
+      → get_elem? views id ≡ some v → holds q.log q.value (map known_of views) words
+      → holds q.log q.value (map known_of (set views id (view_of stage v.known))) words
+  same_passes holds q views words id v stage at = subst (λ ps. holds q.log q.value ps words)
       (sym (map-set known_of views id (view_of stage v.known)
       ∙ set_again (map known_of views) id v.known (at_map known_of views id v at)))
 

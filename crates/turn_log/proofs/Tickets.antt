@@ -8,10 +8,10 @@ use Rattle.turn_log.specs.declared.table.SeatView.{SeatView}
 use Rattle.turn_log.specs.declared.table.Stage.{Stage}
 use Rattle.turn_log.specs.declared.table.Stage.TheVariants.{Waits, HasTurn}
 use Rattle.turn_log.specs.Laws.{HasTicket, IsAt, OneHasTurn, TicketsDiffer}
-use Rattle.turn_log.specs.Queue.{IsAtStage, IsRuled, tickets}
+use Rattle.turn_log.specs.Queue.{IsAtStage, IsRuled, tickets, user_words}
 use Rattle.turn_log.proofs.Queues.{few}
 
-module _ {T I V : Type 0} (holds : List I → T → List (Known I V) → Type 0) (live : V → ℕ)
+module _ {T I V : Type 0} (holds : List I → T → List (Known I V) → List ℕ → Type 0) (live : V → ℕ)
     (calm : V → Type 0) where
   -- a seat that stands in the queue at this place
   record Stands (s : State (Option T) (SeatView T I V)) (r : IsRuled holds live calm s) (id place : ℕ) : Type 0 where
@@ -63,6 +63,6 @@ module _ {T I V : Type 0} (holds : List I → T → List (Known I V) → Type 0)
   pub ticket_is_one : TicketsDiffer holds live calm
   ticket_is_one bounded s r j k t one other =
       let p = place_of s r j t one in let q = place_of s r k t other in
-      let bound = few live calm holds r.queue s.views bounded r.kept r.seats in
+      let bound = few live calm holds r.queue s.views (user_words s.words) bounded r.kept r.seats in
       let pl = p.2 in let ql = q.2 in let pt = p.3 in let qt = q.3 in let small = r.small in
       same_place s r j k p.0 q.0 p.1 q.1 (omega arith)

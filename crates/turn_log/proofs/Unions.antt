@@ -14,10 +14,11 @@ use Rattle.turn_log.specs.declared.table.SeatView.{SeatView}
 use Rattle.turn_log.specs.declared.table.Stage.TheVariants.{Idle}
 use Rattle.turn_log.specs.Knowing.{having_joined, longer, newcomer}
 use Rattle.turn_log.specs.Owed.{MayJoin}
-use Rattle.turn_log.specs.Queue.{IsHeard, IsRuled, known_of, slot, tickets, turns, turns_of}
+use Rattle.turn_log.specs.Queue.{IsHeard, IsRuled, known_of, slot, tickets, turns, turns_of, user_words}
 use Rattle.turn_log.specs.Seats.{idle}
 use Rattle.turn_log.proofs.Places.{at_mine, at_one, at_other}
 use Rattle.turn_log.proofs.Queues.{stays}
+use Rattle.turn_log.proofs.Putters.{nothing_put, putters}
 use Rattle.turn_log.proofs.Sums.{sum_set}
 
 module _ {I : Type 0} where
@@ -49,7 +50,7 @@ module _ {I : Type 0} where
           let more : length ys ≤ length xs = grind (arith, nat_tests) in
           ⊎_elim (λ e. e) (λ e. let z = ap (λ (l : List I). length l) e in begins_whole xs log p (omega arith)) one
 
-module _ {T I V : Type 0} (holds : List I → T → List (Known I V) → Type 0) (live : V → ℕ)
+module _ {T I V : Type 0} (holds : List I → T → List (Known I V) → List ℕ → Type 0) (live : V → ℕ)
     (calm : V → Type 0) where
   -- who takes in another has heard of the whole log, if one of both had
   hears : (log : List I) (views : List (SeatView T I V)) (id other : ℕ) (d e w o : SeatView T I V) → other ≢ id
@@ -111,9 +112,11 @@ module _ {T I V : Type 0} (holds : List I → T → List (Known I V) → Type 0)
         slot_is = r.slot_is ∙ ap (λ n. some (slot q.value n)) (sym still);
         seats = stays live calm q q.value q.log (set s.views id w) other e o there first (sym (ap tickets idle_e)) (λ j x _ _ f. f)
             (record { stage = calm_spent; may = omega arith; saw = (q.log, refl); heard = (q.log, refl) });
+        puts = putters (user_words s.words) (set s.views id w) other o (nothing_put (user_words s.words) (newcomer spent))
+            (putters (user_words s.words) s.views id w (nothing_put (user_words s.words) (having_joined both e.known d.known)) r.puts);
         whole = hears q.log s.views id other d e w o apart at was
             (longer_is_whole d.known.heard e.known.heard q.log mine.heard theirs.heard) r.whole;
-        kept = subst (holds q.log q.value) (sym (map-set known_of (set s.views id w) other o ∙ ap (λ l. set l other (known_of o)) same))
-            (may q.log q.value (map known_of s.views) r.kept (at_map known_of s.views id d at) apart
+        kept = subst (λ ps. holds q.log q.value ps (user_words s.words)) (sym (map-set known_of (set s.views id w) other o ∙ ap (λ l. set l other (known_of o)) same))
+            (may q.log q.value (map known_of s.views) (user_words s.words) r.kept (at_map known_of s.views id d at) apart
             (at_map known_of s.views other e was) mine.saw theirs.saw);
       }

@@ -2,7 +2,6 @@
 use Rattle.std.proofs.Common.{◌≡◌, ℕ, zero, suc, ◌+◌, ◌%◌, ◌^◌, ◌<◌, ◌≤◌, List, [], ◌∷◌, ◌++◌, map, get_or, length, set, sum_by, sym, refl, ap, ◌∙◌, subst, arith, length-set, length-append, get_or-set_other, get_or-set_same, append-nil, append_assoc, Option, Some}
 use mathlib.Core.Option.{some, none}
 use mathlib.Core.List.{IsPrefix}
-use lib.ListN.{get_elem?}
 use lib.Seq.{map-set}
 use Rattle.atomic_table.specs.Table.{Allows, Me, keeps, step}
 use Rattle.atomic_table.proofs.Lists.{at_map}
@@ -12,13 +11,14 @@ use Rattle.turn_log.specs.declared.table.Stage.{Stage}
 use Rattle.turn_log.specs.declared.table.Stage.TheVariants.{HasTurn}
 use Rattle.turn_log.specs.Knowing.{having_written}
 use Rattle.turn_log.specs.Owed.{MayWrite}
-use Rattle.turn_log.specs.Queue.{IsAtStage, IsRuled, known_of, slot, tickets, turns, turns_of}
-use Rattle.turn_log.specs.Seats.{view_of}
+use Rattle.turn_log.specs.Queue.{IsAtStage, IsRuled, known_of, slot, tickets, turns, turns_of, user_words}
 use Rattle.turn_log.specs.Told.{wrote}
 use Rattle.turn_log.proofs.Looks.{ticket_of}
 use Rattle.turn_log.proofs.Places.{at_mine}
 use Rattle.turn_log.proofs.Queues.{leading, others_wait, stays, waits_on}
+use Rattle.turn_log.proofs.Putters.{putters, putters_words}
 use Rattle.turn_log.proofs.Sums.{sum_set, term_le}
+use Rattle.turn_log.proofs.UserWords.{queue_word}
 
 -- what lies in the slot that was taken last
 abbrev lies_in : {T : Type 0} → T → List (ℕ × Option T) → T
@@ -30,12 +30,12 @@ longer_prefix : {I : Type 0} (xs ys log : List I) (i : I) → ys ≡ log → IsP
 longer_prefix xs ys log i same p =
     (p.0 ++ i ∷ [], sym (append_assoc xs p.0 (i ∷ [])) ∙ ap (λ l. l ++ i ∷ []) (p.1 ∙ sym same))
 
-module _ {T I V : Type 0} (holds : List I → T → List (Known I V) → Type 0) (live : V → ℕ)
+module _ {T I V : Type 0} (holds : List I → T → List (Known I V) → List ℕ → Type 0) (live : V → ℕ)
     (calm : V → Type 0) (item : T → I) (after : I → V → V) where
   pub writes : (slots id : ℕ) (me : Me (Option T) (SeatView T I V)) (ticket : ℕ) (before value : T)
       → me.0.stage ≡ HasTurn ticket before → me.1 ≡ (0, Some value) ∷ []
       → 1 ≤ live (after (item value) me.0.known.client)
-      → MayWrite holds after id me.0.known before value (item value)
+      → MayWrite holds after id me.0.known me.0.puts before value (item value)
       → Allows (IsRuled holds live calm) slots id me 0 (λ n. (n + 1) % 2 ^ 64) (wrote item after (step slots 0 1 0 none) me)
   writes slots id me ticket before value turn lies lives may s r deep at fits =
       let q = r.queue in
@@ -47,7 +47,11 @@ module _ {T I V : Type 0} (holds : List I → T → List (Known I V) → Type 0)
       let now : ℕ = (get_or s.words 0 0 + 1) % 18446744073709551616 in
       let wide = r.wide in
       let log : List I = k.seen ++ item value ∷ [] in
-      let w : SeatView T I V = view_of (HasTurn ticket value) (having_written after (item value) k) in
+      let w : SeatView T I V = record me.0 {
+        stage = HasTurn ticket value;
+        known = having_written after (item value) k;
+      } in
+      let mine_puts = r.puts id me.0 at in
       let longer_by_one : length log ≡ length q.log + 1 = length-append k.seen (item value ∷ []) ∙ ap (λ (l : List I). length l + 1) stage.4 in
       let old = r.length_is in
       let turning = sum_set turns_of s.views id me.0 w at in
@@ -58,7 +62,7 @@ module _ {T I V : Type 0} (holds : List I → T → List (Known I V) → Type 0)
         tt,
         record {
           queue = leading live calm q value log;
-          wide = length-set s.words 0 now ∙ wide;
+          wide = let n = length-set s.words 0 now in omega arith;
           deep = r.deep;
           length_is = let here = get_or-set_same s.words 0 now 0 (omega arith) in omega arith;
           ticket_is = get_or-set_other s.words 0 1 now 0 (λ e. omega arith) ∙ r.ticket_is;
@@ -80,17 +84,21 @@ module _ {T I V : Type 0} (holds : List I → T → List (Known I V) → Type 0)
                 saw = ([], append-nil log);
                 heard = ([], append-nil log);
               });
+          puts = putters_words s.words 0 now (set s.views id w) (omega arith)
+              (putters (user_words s.words) s.views id w
+              (record { stand = mine_puts.stand; turn = λ none. absurd (omega arith) }) r.puts);
           whole = (id, w, at_mine s.views id me.0 w at, refl);
-          kept = subst (holds log value) (sym (map-set known_of s.views id w))
-              (may (map known_of s.views)
-              (subst (λ (z : List I × T). holds z.0 z.1 (map known_of s.views))
+          kept = subst (λ (z : List (Known I V) × List ℕ). holds log value z.0 z.1)
+              (λ i. (sym (map-set known_of s.views id w) i, sym (queue_word s.words 0 now (omega arith)) i))
+              (may (map known_of s.views) (user_words s.words)
+              (subst (λ (z : List I × T). holds z.0 z.1 (map known_of s.views) (user_words s.words))
               (λ i. (sym stage.4 i, sym stage.3 i)) r.kept)
-              (at_map known_of s.views id me.0 at));
+              (at_map known_of s.views id me.0 at) mine_puts.stand);
         },
         (λ t before' value' turn' lies'.
             let same : ticket ≡ t = ap ticket_of (sym turn ∙ turn') in
             let same_value : value ≡ value' = ap (lies_in value) (sym lies ∙ lies') in
-            λ i. (view_of (HasTurn (same i) (same_value i)) (having_written after (item (same_value i)) k), me.1)),
+            λ i. (record me.0 { stage = HasTurn (same i) (same_value i); known = having_written after (item (same_value i)) k }, me.1)),
       )
     where
       -- where the slot is out, it doesn't matter what the value is

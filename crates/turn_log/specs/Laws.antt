@@ -19,7 +19,7 @@ IsAt {T} {I} {V} s id stage =
 abbrev pub HasTicket : {T I V : Type 0} → State (Option T) (SeatView T I V) → ℕ → ℕ → Type 0
 HasTicket {T} s id ticket = IsAt s id (Waits ticket) ⊎ ((value : T) × IsAt s id (HasTurn ticket value))
 
-module _ {T I V : Type 0} (holds : List I → T → List (Known I V) → Type 0) (live : V → ℕ)
+module _ {T I V : Type 0} (holds : List I → T → List (Known I V) → List ℕ → Type 0) (live : V → ℕ)
     (calm : V → Type 0) where
   -- two seats that have the turn are one
   abbrev pub OneHasTurn : Type 0

@@ -1,6 +1,6 @@
 -- The rule of the table. The seats that have a ticket stand in a queue: the one at place 0 is served,
 -- and has the value when it has seen so; the others wait behind it.
-use Rattle.std.specs.Prelude.{ℕ, zero, suc, ◌≡◌, ◌+◌, ◌%◌, ◌^◌, ◌<◌, ◌≤◌, List, map, length, slice_index, sum_by, Option, Some}
+use Rattle.std.specs.Prelude.{ℕ, zero, suc, ◌==◌, if◌then◌else◌, ◌≡◌, ◌+◌, ◌%◌, ◌^◌, ◌<◌, ◌≤◌, List, [], ◌∷◌, drop, map, length, slice_index, sum_by, Option, Some, None}
 use mathlib.Core.Option as maybe
 use mathlib.Core.Option.{some, none}
 use mathlib.Core.List.{IsPrefix}
@@ -10,6 +10,10 @@ use Rattle.turn_log.specs.declared.rule.Known.{Known}
 use Rattle.turn_log.specs.declared.table.SeatView.{SeatView}
 use Rattle.turn_log.specs.declared.table.Stage.{Stage}
 use Rattle.turn_log.specs.declared.table.Stage.TheVariants.{Idle, Waits, HasTurn}
+
+-- the words of the log's user: those behind the three of the queue
+abbrev pub user_words : List ℕ → List ℕ
+user_words words = drop 3 words
 
 -- how many stand in the queue, the ticket that is served, the place of each seat that has a ticket,
 -- the value, and the whole log
@@ -38,7 +42,22 @@ module _ {T : Type 0} where
   slot value zero = some (Some value)
   slot value (suc n) = none
 
+-- the word that was put last at a place
+abbrev pub last_put : List (ℕ × ℕ) → ℕ → Option ℕ
+last_put [] at = None
+last_put (p ∷ puts) at = if p.0 == at then Some p.1 else last_put puts at
+
+-- what was put stands in its place
+abbrev pub PutsStand : List (ℕ × ℕ) → List ℕ → Type 0
+PutsStand puts words =
+    (at w : ℕ) → last_put puts at ≡ Some w → at < length words → slice_index words at ≡ w
+
 module _ {T I V : Type 0} where
+  -- a seat without the turn has put nothing, and what it put under its turn stands
+  pub record IsPutter (words : List ℕ) (view : SeatView T I V) : Type 0 where
+    pub stand : PutsStand view.puts words
+    pub turn : turns view.stage ≡ 0 → view.puts ≡ []
+
   abbrev pub tickets_of : SeatView T I V → ℕ
   tickets_of view = tickets view.stage
 
@@ -78,12 +97,13 @@ module _ {T I V : Type 0} (live : V → ℕ) (calm : V → Type 0) (queue : Queu
         → get_elem? views j ≡ some one → get_elem? views k ≡ some other
         → 0 < tickets one.stage → 0 < tickets other.stage → queue.place j ≡ queue.place k → j ≡ k
 
--- the words are the log's length, the next ticket and the ticket that is served, modulo 2^64; the slot
--- is out exactly while a seat has the turn; and the rule of the log's user holds
-pub record IsRuled {T I V : Type 0} (holds : List I → T → List (Known I V) → Type 0) (live : V → ℕ)
+-- the first three words are the log's length, the next ticket and the ticket that is served, modulo
+-- 2^64; the slot is out exactly while a seat has the turn; and the rule of the log's user holds, also of
+-- the words behind these three
+pub record IsRuled {T I V : Type 0} (holds : List I → T → List (Known I V) → List ℕ → Type 0) (live : V → ℕ)
     (calm : V → Type 0) (s : State (Option T) (SeatView T I V)) : Type 0 where
   pub queue : Queue T I
-  pub wide : length s.words ≡ 3
+  pub wide : 3 ≤ length s.words
   pub deep : length s.homes ≡ 1
   pub length_is : slice_index s.words 0 ≡ length queue.log % 2 ^ 64
   pub ticket_is : slice_index s.words 1 ≡ (queue.served + queue.long) % 2 ^ 64
@@ -92,4 +112,6 @@ pub record IsRuled {T I V : Type 0} (holds : List I → T → List (Known I V) �
   pub slot_is : get_elem? s.homes 0 ≡ some (slot queue.value (sum_by turns_of s.views))
   pub seats : IsQueue live calm queue s.views
   pub whole : IsHeard queue.log s.views
-  pub kept : holds queue.log queue.value (map known_of s.views)
+  pub kept : holds queue.log queue.value (map known_of s.views) (user_words s.words)
+  pub puts : (id : ℕ) (view : SeatView T I V) → get_elem? s.views id ≡ some view
+      → IsPutter (user_words s.words) view

@@ -1,5 +1,5 @@
 -- What each step on the table tells of a seat.
-use Rattle.std.specs.Prelude.{ℕ, ◌≡◌, ◌≢◌, List, [], ◌∷◌, Option, Some}
+use Rattle.std.specs.Prelude.{ℕ, ◌-◌, ◌≡◌, ◌≢◌, List, [], ◌∷◌, Option, Some}
 use mathlib.Core.List.{IsPrefix}
 use Rattle.atomic_table.specs.Table.{Me, Step}
 use Rattle.turn_log.specs.declared.rule.Known.{Known}
@@ -37,8 +37,24 @@ module _ {T I V : Type 0} where
       → Step (Option T) → Mine T I V → ℕ → Mine T I V → Type 0
   wrote item after step old found new = (ticket : ℕ) (before value : T)
       → old.0.stage ≡ HasTurn ticket before → old.1 ≡ (0, Some value) ∷ []
-      → new ≡ (view_of (HasTurn ticket value) (having_written after (item value) old.0.known), old.1)
+      → new ≡ (
+        record old.0 {
+          stage = HasTurn ticket value;
+          known = having_written after (item value) old.0.known;
+        },
+        old.1,
+      )
 
   -- it has neither ticket nor slot
   abbrev pub passed : Step (Option T) → Mine T I V → ℕ → Mine T I V → Type 0
   passed step old found new = new ≡ (idle old.0.known, [])
+
+  -- the word stands at the place, counted from the first of the user's
+  abbrev pub put_there : Step (Option T) → Mine T I V → ℕ → Mine T I V → Type 0
+  put_there step old found new =
+      new ≡ (record old.0 { puts = (step.word - 3, step.first) ∷ old.0.puts }, old.1)
+
+  -- nothing changed, and the word that was found tells something
+  abbrev pub read_there : (SeatView T I V → ℕ → ℕ → Type 0)
+      → Step (Option T) → Mine T I V → ℕ → Mine T I V → Type 0
+  read_there tells step old found new = (new ≡ old) × tells old.0 (step.word - 3) found

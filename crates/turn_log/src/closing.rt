@@ -5,6 +5,7 @@ ghost use Rattle.turn_log.specs.Ends.{IsClosed, IsStillOpen};
 ghost use Rattle.turn_log.specs.Owed.{FewTickets};
 ghost use Rattle.turn_log.specs.Seats.{knows};
 
+use crate::last::LastWords;
 use crate::rule::LogRule;
 use crate::table::{LogSeat, SERVING, TICKET, TurnLog, VALUE};
 use std::alloc::Allocator;
@@ -19,17 +20,19 @@ pub struct StillOpen {
 }
 
 impl<T, I, V, P: LogRule<T, I, V>, A: Allocator> TurnLog<T, I, V, P, A> {
-    /// Ends the log, and gives the value that it led to.
+    /// Ends the log, and gives the value that it led to, and the words where they lie. It takes no
+    /// memory.
     ///
     /// # Errors
     /// Some pass still has a ticket: a call of its never returned, and the value may be there. This
     /// comes exactly where the two words differ.
-    pub fn close(self, seat: LogSeat<T, I, V>) -> Result<T, StillOpen>
+    pub fn close(self, seat: LogSeat<T, I, V>) -> Result<(T, LastWords<T, A>), StillOpen>
     where
         T: Drop,
         requires own { seat.table_id ≡ self }
         requires few { FewTickets P.holds P.live }
-        ensures closed { IfOk result (λ value. IsClosed P.holds P.live P.calm (knows seat) value) }
+        ensures closed { IfOk result (λ end.
+            IsClosed P.holds P.live P.calm (knows seat) end.0 end.1) }
         ensures still { IfErr result (λ words. (words.ticket ≢ words.serving)
             × IsStillOpen P.holds P.live P.calm (knows seat) words.ticket words.serving) }
     {
@@ -38,10 +41,10 @@ impl<T, I, V, P: LogRule<T, I, V>, A: Allocator> TurnLog<T, I, V, P, A> {
         let ticket = closed.word(TICKET);
         let serving = closed.word(SERVING);
         let value = closed.take(VALUE);
-        closed.free();
         if ticket != serving {
+            closed.free();
             return Err(StillOpen { ticket, serving });
         }
-        Ok(value.unwrap())
+        Ok((value.unwrap(), LastWords::of(closed)))
     }
 }

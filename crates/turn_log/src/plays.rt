@@ -1,10 +1,10 @@
 // What each step on the table tells its seat.
 
 ghost use Rattle.turn_log.specs.Knowing.{half, having_joined, newcomer};
-ghost use Rattle.turn_log.specs.Seats.{idle, view_of};
-ghost use Rattle.turn_log.specs.Told.{drew, looked, passed, wrote};
+ghost use Rattle.turn_log.specs.Seats.{idle};
+ghost use Rattle.turn_log.specs.Told.{drew, looked, passed, put_there, read_there, wrote};
 
-use crate::rule::LogRule;
+use crate::rule::{Lesson, LogRule};
 use crate::table::SeatView;
 use atomic_table::{Join, Play, Split};
 use std::marker::PhantomData;
@@ -34,6 +34,22 @@ impl<T, I, V, P: LogRule<T, I, V>> Play<Option<T>, SeatView<T, I, V>> for Write<
     ghost then = { wrote P.item P.after };
 }
 
+/// A word is put.
+pub(crate) struct Put;
+
+impl<T, I, V> Play<Option<T>, SeatView<T, I, V>> for Put {
+    ghost then = { put_there };
+}
+
+/// A word is read.
+pub(crate) struct Read<M> {
+    lesson: PhantomData<M>,
+}
+
+impl<T, I, V, M: Lesson<T, I, V>> Play<Option<T>, SeatView<T, I, V>> for Read<M> {
+    ghost then = { read_there M.tells };
+}
+
 /// The next ticket is served, and the slot is given back.
 pub(crate) struct PassOn;
 
@@ -47,7 +63,7 @@ pub(crate) struct Cut<M> {
 }
 
 impl<T, I, V, M: Split<V>> Split<SeatView<T, I, V>> for Cut<M> {
-    ghost left = { λ d. view_of d.stage (half M.left d.known) };
+    ghost left = { λ d. record d { known = half M.left d.known } };
 
     ghost right = { λ d. idle (half M.right d.known) };
 }

@@ -23,8 +23,8 @@ pub struct Known<I, V> {
 pub trait LogRule<T, I, V> {
     ghost use Rattle.turn_log.specs.declared.rule.Known.{Known};
 
-    /// What holds of the log, the value and what all passes know.
-    ghost holds: { List I → T → List (Known I V) → Type 0 };
+    /// What holds of the log, the value, what all passes know, and the words.
+    ghost holds: { List I → T → List (Known I V) → List ℕ → Type 0 };
 
     /// What the first pass knows, where the log begins with this value.
     ghost first: { T → V };
@@ -43,4 +43,12 @@ pub trait LogRule<T, I, V> {
 
     /// What a pass learns when it gets its turn, of what it knew, the log and the value.
     ghost shows: { Known I V → List I → T → Type 0 };
+}
+
+/// What a read tells.
+pub trait Lesson<T, I, V> {
+    ghost use Rattle.turn_log.specs.declared.table.SeatView.{SeatView};
+
+    /// Of what the table keeps of the seat, the place that was read and the word that stood there.
+    ghost tells: { SeatView T I V → ℕ → ℕ → Type 0 };
 }

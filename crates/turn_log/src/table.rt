@@ -1,8 +1,10 @@
-// The table on which a log stands: three words, a slot for the value, and what each seat knows.
+// The table on which a log stands: three words and then the user's, a slot for the value, and what each
+// seat knows.
 
 use crate::rule::{Known, LogRule};
 use atomic_table::{Seat, Table, TableRule};
 use std::alloc::{Allocator, Global};
+use std::collections::LinkedList;
 use std::marker::{Model, PhantomData};
 use std::snapshot::Snapshot;
 
@@ -14,6 +16,9 @@ pub(crate) const TICKET: usize = 1;
 
 /// The word with the ticket that is served.
 pub(crate) const SERVING: usize = 2;
+
+/// How many words stand before those of the user.
+pub(crate) const FIRST: usize = 3;
 
 /// The slot that has the value.
 pub(crate) const VALUE: usize = 0;
@@ -32,6 +37,8 @@ pub enum Stage<T> {
 pub struct SeatView<T, I, V> {
     pub stage: Stage<T>,
     pub known: Known<I, V>,
+    /// The words that it put under its turn, each with its place, the last one first.
+    pub puts: LinkedList<(u64, u64)>,
 }
 
 /// The rule of the table, for a rule of the log.
@@ -53,19 +60,20 @@ impl<T, I, V, P: LogRule<T, I, V>> TableRule<Option<T>, SeatView<T, I, V>, Snaps
 /// The seat of a pass, by which it takes part in a log. It has no bytes.
 pub type LogSeat<T, I, V> = Seat<Option<T>, SeatView<T, I, V>>;
 
-/// A value that passes change in turns, with its log. Contracts see it as the table that it stands on.
+/// A value that passes change in turns, with its log and its words. Contracts see it as the table that
+/// it stands on.
 #[derive(Drop)]
 pub struct TurnLog<T, I, V, P: LogRule<T, I, V>, A: Allocator = Global> {
     pub(crate) table: Table<Option<T>, SeatView<T, I, V>, Snapshot<T>, ByTurns<P>, A>,
 }
 
 impl<T, I, V, P: LogRule<T, I, V>, A: Allocator> Model for TurnLog<T, I, V, P, A> {
-    ghost use Rattle.std.specs.Prelude.{◌≡◌};
+    ghost use Rattle.std.specs.Prelude.{◌≡◌, ◌≤◌};
     ghost use Rattle.atomic_table.specs.Seated.{TableId};
 
     ghost Value = { TableId };
 
     ghost view = { λ l. l.table.shared.table_id };
 
-    ghost invariant = { λ l. (l.table.shared.table_id.words ≡ 3) × (l.table.shared.table_id.slots ≡ 1) };
+    ghost invariant = { λ l. (3 ≤ l.table.shared.table_id.words) × (l.table.shared.table_id.slots ≡ 1) };
 }

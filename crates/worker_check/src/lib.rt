@@ -1,4 +1,5 @@
-//! Tests alone: devices and gates, the value that threads change in turns, and workers over a toy run.
+//! Tests alone: devices and gates, the value that threads change in turns, rows in shared words, and
+//! workers over a toy run.
 #![tactic(auto)]
 
 #[cfg(test)]
@@ -8,9 +9,13 @@ mod device_tests;
 #[cfg(test)]
 mod ending;
 #[cfg(test)]
+mod filled;
+#[cfg(test)]
 mod log_tests;
 #[cfg(test)]
 mod pool_tests;
+#[cfg(test)]
+mod row_tests;
 #[cfg(test)]
 mod sheet;
 #[cfg(test)]
@@ -19,3 +24,5 @@ mod text_tests;
 mod toy;
 #[cfg(test)]
 mod whole_tests;
+#[cfg(test)]
+mod word_tests;

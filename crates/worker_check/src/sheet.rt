@@ -43,7 +43,7 @@ pub(crate) struct Written;
 impl LogRule<Sheet, u64, u64> for Written {
     ghost use Rattle.std.specs.Prelude.{◌≡◌, sum_by, ⊤};
 
-    ghost holds = { λ log sheet passes. (sheet.0 ≡ log) × (sum_by (λ k. k.client) passes ≡ 8) };
+    ghost holds = { λ log sheet passes _. (sheet.0 ≡ log) × (sum_by (λ k. k.client) passes ≡ 8) };
 
     ghost first = { λ _. 8 };
 
@@ -89,7 +89,7 @@ pub(crate) fn begin<R: Abort + AllocGlobal>(rt: &R) -> (SheetLog, SheetSeat)
     ensures { (result.1.table_id ≡ result.0) × IsIdle result.1 × ((knows result.1).client ≡ 8) }
 {
     let numbers = Vec::new(rt.alloc());
-    TurnLog::new(rt.alloc(), Sheet { numbers, last: 0 }).expect(rt, "memory")
+    TurnLog::new(rt.alloc(), Sheet { numbers, last: 0 }, &[]).expect(rt, "memory")
 }
 
 /// Writes a number. The pass has then seen all that stands on the sheet, this number last.
@@ -162,5 +162,11 @@ pub(crate) fn finish(log: SheetLog, seat: SheetSeat) -> Result<Sheet, StillOpen>
     ensures { IfOk result (λ sheet. IsPrefix (knows seat).seen sheet.0
         × IsPrefix (knows seat).heard sheet.0) }
 {
-    log.close(seat)
+    match log.close(seat) {
+        Ok((sheet, words)) => {
+            drop(words);
+            Ok(sheet)
+        }
+        Err(open) => Err(open),
+    }
 }

@@ -16,7 +16,7 @@ write-requires-clause-rule c =
       turn = (turn.1.0, ap (λ v. v.stage) same ∙ turn.1.1);
       lies = c.put.ensures.full;
       may_have = subst (λ (ns : List ℕ). 1 ≤ min 1 (length ns)) (sym (ap (λ v. v.numbers) client ∙ follows.number)) (omega arith);
-      rule = may_write_own c.put.new.seat.id c.args.number hall.last (knows c.put.new.seat) turn.0 hall c.requires.own_item follows;
+      rule = may_write_own c.put.new.seat.id c.args.number hall.last (knows c.put.new.seat) _ turn.0 hall c.requires.own_item follows;
     }
 
 pub returns-clause-turn : goal.returns-clause-turn

@@ -1,10 +1,10 @@
 use Rattle.std.proofs.Common.{◌≡◌, ◌≤◌, ◌++◌, ◌∷◌, [], ℕ, List, length, min, arith, sym, ap, ◌∙◌, subst}
 use Rattle.turn_log.specs.Knowing.{having_written}
 use Rattle.turn_log.specs.Owed.{MayWrite}
-use Rattle.turn_log.specs.Seats.{knows}
+use Rattle.turn_log.specs.Seats.{has_put, knows}
 use Rattle.seat_hall.specs.declared.item.Item.{Item}
 use Rattle.seat_hall.specs.declared.item.Item.TheVariants.{Made}
-use Rattle.seat_hall.specs.Fair.{Fair, Follows, after_item, live}
+use Rattle.seat_hall.specs.Fair.{Follows, HallRule, after_item, live}
 use Rattle.seat_hall.proofs.Keeps.{may_give}
 use Rattle.seat_hall.proofs.seats.write_made.Goals as goal
 
@@ -23,8 +23,8 @@ write-requires-clause-rule c =
       turn = (turn.1.0, ap (λ v. v.stage) same ∙ turn.1.1);
       lies = c.put.ensures.full;
       may_have = subst (λ (i : Item). 1 ≤ live (after_item i (knows seat).client)) (sym follows.last) some_number;
-      rule = subst (λ (i : Item). MayWrite Fair after_item seat.id (knows seat) turn.0 hall i) (sym follows.last)
-          (may_give seat.id c.args.number next (knows seat) turn.0 hall follows);
+      rule = subst (λ (i : Item). MayWrite HallRule after_item seat.id (knows seat) (has_put seat) turn.0 hall i) (sym follows.last)
+          (may_give seat.id c.args.number next (knows seat) (has_put seat) turn.0 hall follows);
     }
 
 pub returns-clause-turn : goal.returns-clause-turn

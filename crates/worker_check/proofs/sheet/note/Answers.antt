@@ -17,7 +17,7 @@ write-requires-clause-rule g c =
       turn = (turn.0, ap (λ v. v.stage) c.put.ensures.same.1 ∙ turn.1);
       lies = c.put.ensures.full;
       may_have = search rules;
-      rule = may_write (λ (s : List ℕ × ℕ). s.0) _ _ sheet written written.1
+      rule = may_write (λ (s : List ℕ × ℕ). s.0) _ _ _ sheet written written.1
           (ap (λ s. s.0) added ∙ ap (λ n. sheet.0 ++ n ∷ []) (ap (λ s. s.1) (sym added)));
     }
 

@@ -1,6 +1,8 @@
-use Rattle.std.proofs.Common.{rules, ◌≡◌, sym, ap, ◌∙◌, subst, Some, IsSome, refl, get_or}
+use Rattle.std.proofs.Common.{ℕ, List, rules, ◌≡◌, sym, ap, ◌∙◌, subst, Some, IsSome, refl, get_or}
 use mathlib.Core.Option.{some-injective}
 use Rattle.turn_log.specs.Ends.{IsClosed}
+use Rattle.std.specs.Slots.{slots_items}
+use Rattle.turn_log.specs.Queue.{user_words}
 use Rattle.turn_log.specs.Seats.{knows}
 use Rattle.turn_log.proofs.Closings.{closes, index_at, stays_open}
 use Rattle.turn_log.proofs.table.TurnLog.close.Goals as goal
@@ -23,7 +25,8 @@ returns-clause-closed g c =
     (index_at _ 1 _ c.word-ticket.ensures ∙ (same ∙ sym (index_at _ 2 _ c.word-serving.ensures))) in
     let is : Some at_end.0 ≡ c.take-value.result = some-injective _ _ (sym at_end.1 ∙ c.take-value.ensures.value) in
     let value : at_end.0 ≡ c.unwrap.result = search rules in
-    subst (IsClosed rule.holds rule.live rule.calm (knows c.args.seat)) value at_end.2
+    let words = c.of.ensures ∙ ap (λ (ws : _). user_words (slots_items ws)) c.take-value.ensures.others.3 in
+    subst (λ (z : g.row.T.Denot × List ℕ). IsClosed rule.holds rule.live rule.calm (knows c.args.seat) z.0 z.1) (λ i. (value i, sym words i)) at_end.2
 
 pub returns-then-ticket-serving-clause-still : goal.returns-then-ticket-serving-clause-still
 returns-then-ticket-serving-clause-still g c =

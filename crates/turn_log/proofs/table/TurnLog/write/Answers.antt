@@ -23,3 +23,8 @@ returns-clause-wrote g c = λ value lies.
     let r = c.requires.rule in
     let e = c.fetch_add.ensures.2 r.turn.0 r.before value r.turn.1 lies in
     ((r.turn.0, ap (λ m. m.0.stage) e), ap (λ m. m.0.known) e)
+
+pub returns-clause-puts : goal.returns-clause-puts
+returns-clause-puts g c =
+    let r = c.requires.rule in
+    ap (λ m. m.0.puts) (c.fetch_add.ensures.2 r.turn.0 r.before r.value r.turn.1 r.lies)
