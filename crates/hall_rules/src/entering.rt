@@ -89,7 +89,8 @@ fn reserve(
 }
 
 /// Does the event, which is enabled and not of an actor whose cell is away, and enters it into the book.
-/// What was found of it is not evaluated again, and its place serves again. All memory is taken before anything changes.
+/// What was found of it is not evaluated again, and its place serves again. All memory is taken before
+/// anything changes.
 ///
 /// # Errors
 /// `Full` exactly where the event's actor would make one actor too many; `NoMemory` where memory was

@@ -41,8 +41,8 @@ impl<'a> Orca<'a> {
         self.prepare_from(alloc, e, &mut found)
     }
 
-    /// As `prepare_found`, out of a place, which gets the machine's own room for it: that serves again for
-    /// what is found there next.
+    /// As `prepare_found`, out of a place, where the next event's may be found. A turn is swapped with the
+    /// machine's own, so its room serves again there.
     ///
     /// # Errors
     /// As `prepare`.

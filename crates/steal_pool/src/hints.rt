@@ -11,9 +11,9 @@ use std::sync::atomic::{AtomicU64, Ordering};
 /// The most names that a deque keeps.
 const DEQUE_ROOM: usize = 64;
 
-/// For how many turns of an empty loop an evaluation has to go on before others join: some two
-/// microseconds. Of shorter ones several workers would do less than one, since they would wait for one
-/// another at their boards.
+/// For how many pauses of a spinning loop an evaluation has to go on before others join: two microseconds
+/// on some processors, a fifth of one on others. Of shorter ones several workers would do less than one,
+/// since they would wait for one another at their boards.
 const A_WHILE: u32 = 32;
 
 /// What the others see of a worker.
