@@ -1,11 +1,11 @@
 -- The table of an actor.
-use Rattle.std.specs.Prelude.{ℕ, ◌+◌, ◌-◌, if◌then◌else◌, is_some, List, [], ◌∷◌, Option, T, refl, map}
+use Rattle.std.specs.Prelude.{ℕ, ◌+◌, ◌-◌, ◌==◌, ◌||◌, not, Bool, if◌then◌else◌, is_some, List, [], ◌∷◌, Option, T, refl, map}
 use Rattle.std.specs.FinMap as m
 use Rattle.std.specs.FinMap.Entries.{is_sorted}
 use Rattle.std.specs.List.{sum_by}
 use Rattle.std.specs.Coded.{Coded, code_by, coded×, coded_ℕ, coded_option}
 use Rattle.orca_names.specs.Codes.{coded_thing, coded_row}
-use Rattle.orca_names.specs.Names.{thing_cmp}
+use Rattle.orca_names.specs.Names.{owner_of, thing_cmp}
 use Rattle.orca_names.specs.declared.names.ObjName.{ObjName}
 use Rattle.orca_names.specs.declared.names.Thing.{Thing}
 use Rattle.orca_names.specs.declared.names.Thing.TheVariants.{Actor, Obj}
@@ -35,6 +35,10 @@ DoRise held = T (is_sorted thing_cmp (map pair_of held))
 -- the count that is held on a thing
 abbrev pub count_on : Table → Thing → ℕ
 count_on t x = entry_count (m.get t.entries x)
+
+-- the thing is the actor's own, or held by the table
+abbrev pub holds_in : ℕ → Table → Thing → Bool
+holds_in me foreign x = (owner_of x == me) || not (count_on foreign x == 0)
 
 -- the row that is known of an object
 abbrev pub known_row : Table → ObjName → Option Row

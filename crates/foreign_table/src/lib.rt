@@ -2,9 +2,11 @@
 #![tactic(auto)]
 
 mod back;
+mod holding;
 mod keep;
 mod search;
 mod span;
 mod table;
 
+pub use holding::Holding;
 pub use table::ForeignTable;
