@@ -72,3 +72,13 @@ abbrev pub RowsAreOfHoldings : Type 0
 RowsAreOfHoldings =
     (count : ℕ) (heap : Heap) (foreign : Table) (n : ObjName)
     → row_known heap foreign n ≡ row_of heap.owner (holdings_of count heap foreign) n
+
+tested_twice : {A : Type 0} (b : Bool) (x y : Option A) → cond b (cond b x None) y ≡ cond b x y
+tested_twice true x y = refl
+tested_twice false x y = refl
+
+pub row_known-row_of : RowsAreOfHoldings
+unfolding row_of
+row_known-row_of count heap foreign n =
+    tested_twice (n.owner == heap.owner) (option_map (λ e. e.0) (m.get heap.rows n.serial))
+    (known_row foreign n)

@@ -1,4 +1,4 @@
-use Rattle.known_rows.proofs.Rows.{row_known-row_of}
+use Rattle.known_rows.specs.Known.{row_known-row_of}
 use Rattle.known_rows.proofs.laws.rows_are_of_holdings.Goals as goal
 
 pub returns : goal.returns

@@ -1,0 +1,52 @@
+// The rows that an actor has in a turn.
+
+ghost use Rattle.std.specs.Prelude.{◌≡◌};
+ghost use Rattle.std.specs.Option.{option_copied};
+ghost use Rattle.known_rows.specs.InTurn.{made_in_turn};
+
+use crate::known::KnownRows;
+use orca_names::{ActorName, ObjName, Row, Rows};
+
+/// The rows that an actor has where a turn stops: those of before, and those that the turn made.
+#[derive(Clone, Copy)]
+pub struct TurnRows<'a> {
+    pub known: KnownRows<'a>,
+    pub made: &'a [Row],
+}
+
+// A row that the turn made; the first of them has this serial.
+fn made_row<'a>(made: &'a [Row], me: ActorName, first: u64, n: &ObjName) -> Option<&'a Row>
+    ensures { option_copied result ≡ made_in_turn me first made.now n.now }
+{
+    if n.owner != me {
+        return None;
+    }
+    let serial = n.serial.get();
+    if serial < first {
+        return None;
+    }
+    made.get((serial - first) as usize)
+}
+
+impl Rows for TurnRows<'_> {
+    ghost use Rattle.letter_kinds.specs.Holdings.{known_objects, row_of, with_made};
+    ghost use Rattle.known_rows.specs.Holdings.{holdings_of};
+    ghost use Rattle.known_rows.specs.InTurn.{row_is_known};
+
+    ghost rows = { λ s. row_of s.known.heap.now.owner
+        (with_made s.made.now (holdings_of 0 s.known.heap.now s.known.foreign.now)) };
+
+    ghost all = { λ s. known_objects s.known.heap.now.owner
+        (with_made s.made.now (holdings_of 0 s.known.heap.now s.known.foreign.now)) };
+
+    ghost within = { λ s n row e. row_is_known s.known.heap.now.owner
+        (with_made s.made.now (holdings_of 0 s.known.heap.now s.known.foreign.now)) n row e };
+
+    fn row_of(&self, n: ObjName) -> Option<&Row> {
+        let heap = self.known.heap;
+        match made_row(self.made, heap.owner(), heap.made(), &n) {
+            Some(row) => Some(row),
+            None => self.known.row_of(n),
+        }
+    }
+}
