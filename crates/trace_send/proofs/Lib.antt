@@ -1,3 +1,4 @@
 pub mod First
 pub mod Once
+pub mod Raising
 pub mod Steps

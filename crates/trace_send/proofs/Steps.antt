@@ -1,5 +1,5 @@
 -- One thing of a load, in the tables.
-use Rattle.std.proofs.Common.{◌≡◌, ◌≢◌, not, false, eq-eqb, zero, suc, ℕ, ◌+◌, ◌-◌, ◌<◌, ◌≤◌, eqb, true, Option, Some, None, IsSome, List, [], ◌∷◌, length, get_or, drop, refl, sym, ap, ◌∙◌, arith}
+use Rattle.std.proofs.Common.{◌≡◌, ◌≢◌, not, false, eq-eqb, ℕ, ◌+◌, ◌-◌, ◌<◌, ◌≤◌, eqb, true, Option, Some, None, IsSome, List, [], ◌∷◌, length, get_or, drop, refl, sym, ap, ◌∙◌, arith}
 use Rattle.std.specs.Prelude.{is_some}
 use Rattle.std.specs.FinMap as m
 use Rattle.std.proofs.lemmas.Bool.{eqb-true, not-false}
@@ -91,7 +91,7 @@ pub send-cons : (me : ℕ) (e : Loaded) (load : List Loaded) (h : Holdings) → 
 unfolding send
 send-cons me e load h = refl
 
-pub rest_of : (load : List Loaded) (i : ℕ) (e : Loaded) → i < length load → e ≡ get_or load i e → drop i load ≡ e ∷ drop (i + 1) load
+pub rest_of : {A : Type 0} (load : List A) (i : ℕ) (e : A) → i < length load → e ≡ get_or load i e → drop i load ≡ e ∷ drop (i + 1) load
 rest_of load i e l is = drop_more load i e l ∙ ap (λ f. f ∷ drop (i + 1) load) (sym is)
 
 -- ---- tests on owners
@@ -137,9 +137,3 @@ module _ (count : ℕ) (heap : Heap) (foreign : Table) where
 
   pub set-object-at : (f : ℕ → ℕ) (x : Thing) (n : ObjName) → x ≡ Obj n → holdings_of count (counted f n heap) foreign ≡ set_own f x (holdings_of count heap foreign)
   set-object-at f x n is = sym (ap (λ y. set_own f y (holdings_of count heap foreign)) is ∙ set-object count heap foreign f n)
-
-pub drop_past : (i : ℕ) (load : List Loaded) → length load ≤ i → drop i load ≡ []
-drop_past zero [] l = refl
-drop_past zero (e ∷ load) l = absurd (omega arith)
-drop_past (suc i) [] l = refl
-drop_past (suc i) (e ∷ load) l = drop_past i load (omega arith)

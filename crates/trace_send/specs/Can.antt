@@ -1,5 +1,5 @@
--- When the counts of an actor allow a load: there is enough to lower or spend, and no count becomes
--- too large.
+-- When the counts of an actor allow a load, an increment, a decrement or a mint: there is enough to
+-- lower or spend, and no count becomes too large.
 use Rattle.std.specs.Prelude.{ℕ, ◌≡◌, ◌≢◌, ◌+◌, ◌<◌, ◌≤◌, true, All, List, [], ◌∷◌, Option, ⊤}
 use Rattle.orca_names.specs.Names.{owner_of}
 use Rattle.orca_names.specs.declared.names.ObjName.{ObjName}
@@ -7,7 +7,7 @@ use Rattle.orca_names.specs.declared.names.Thing.{Thing}
 use Rattle.orca_names.specs.declared.names.Value.{Value}
 use Rattle.reach_walk.specs.Marks.{Covers, load_of}
 use Rattle.ref_weights.specs.Limit.{count_limit}
-use Rattle.letter_kinds.specs.Counting.{Loaded, receive_one, send_one}
+use Rattle.letter_kinds.specs.Counting.{Amount, Loaded, lower_all, mint_one, raise_all, receive_one, send_one}
 use Rattle.letter_kinds.specs.Holdings.{Holdings, Row, own_in, held_in, has_own}
 use Rattle.letter_kinds.specs.Sums.{times_loaded}
 
@@ -31,6 +31,27 @@ pub record CanSendOne (me : ℕ) (e : Loaded) (h : Holdings) : Type 0 where
 abbrev pub CanSend : ℕ → List Loaded → Holdings → Type 0
 CanSend me [] h = ⊤
 CanSend me (e ∷ load) h = CanSendOne me e h × CanSend me load (send_one me e h)
+
+-- ---- amounts
+
+-- what an increment names of one's own has room for the amount
+abbrev pub CanRaise : ℕ → List Amount → Holdings → Type 0
+CanRaise me [] h = ⊤
+CanRaise me (e ∷ things) h =
+    (owner_of e.0 ≡ me → own_in h e.0 + e.1 < count_limit)
+    × CanRaise me things (raise_all me (e ∷ []) h)
+
+-- what a decrement names of one's own has at least the amount
+abbrev pub CanLower : ℕ → List Amount → Holdings → Type 0
+CanLower me [] h = ⊤
+CanLower me (e ∷ things) h =
+    (owner_of e.0 ≡ me → e.1 ≤ own_in h e.0) × CanLower me things (lower_all me (e ∷ []) h)
+
+-- what is minted has room for the amount
+abbrev pub CanMint : List Amount → Holdings → Type 0
+CanMint [] h = ⊤
+CanMint (e ∷ things) h =
+    (held_in h e.0 + e.1 < count_limit) × CanMint things (mint_one e h)
 
 -- ---- in terms of the counts before the first thing
 

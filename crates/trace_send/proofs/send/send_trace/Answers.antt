@@ -1,8 +1,9 @@
 use Rattle.std.proofs.Common.{◌<◌, ◌+◌, get_or, length, drop, sym, ap, ◌∙◌, subst, arith}
+use Rattle.std.proofs.lemmas.List.{drop_all}
 use Rattle.letter_kinds.specs.Counting.{send}
 use Rattle.known_rows.specs.Holdings.{holdings_of}
 use Rattle.trace_send.specs.Can.{CanSend}
-use Rattle.trace_send.proofs.Steps.{rest_of, drop_past, send-cons, send-nil}
+use Rattle.trace_send.proofs.Steps.{rest_of, send-cons, send-nil}
 use Rattle.trace_send.proofs.send.send_trace.Goals as goal
 
 pub send_thing-requires-clause-can : goal.send_thing-requires-clause-can
@@ -37,5 +38,5 @@ pub returns-clause-counts : goal.returns-clause-counts
 returns-clause-counts c =
     let load = c.args.load.now in
     let now = holdings_of c.loop-loaded.own c.loop-loaded.heap c.loop-loaded.foreign in
-    let done = drop_past c.loop-loaded.loaded-index load (omega (arith, ap length c.as_slice-loaded-items.ensures)) in
+    let done = drop_all c.loop-loaded.loaded-index load (omega (arith, ap length c.as_slice-loaded-items.ensures)) in
     sym (send-nil c.args.me now) ∙ ap (λ xs. send c.args.me xs now) (sym done) ∙ c.loop-loaded.invariant.counts
