@@ -5,4 +5,5 @@ pub mod GivenBack
 pub mod Groups
 pub mod LastGroup
 pub mod Naming
+pub mod Owners
 pub mod SamePlan

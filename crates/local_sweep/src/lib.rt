@@ -4,10 +4,12 @@
 
 mod amounts;
 mod kept;
+mod leaving;
 mod named;
 mod plans;
 mod sweep;
 
 pub use amounts::push_amount;
+pub use leaving::gather_held;
 pub use plans::{plan, plan_of_marks};
 pub use sweep::apply;
