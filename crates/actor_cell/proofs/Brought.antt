@@ -13,8 +13,7 @@ use Rattle.orca_names.specs.declared.trace.Trace.TheVariants.{Deep, Roots}
 use Rattle.reach_walk.specs.Marks.{load_of, marks_of}
 use Rattle.letter_kinds.specs.Holdings.{Holdings, Row, entry_row, known_objects, object_name, row_of, with_made}
 use Rattle.known_rows.specs.Holdings.{holdings_of}
-use Rattle.known_rows.specs.Known.{row_known}
-use Rattle.known_rows.proofs.Rows.{row_known-row_of}
+use Rattle.known_rows.specs.Known.{row_known, row_known-row_of}
 use Rattle.local_sweep.specs.Marked.{is_reached}
 use Rattle.row_table.specs.Table.{Rows, as_held, bare_entry, uncounted}
 use Rattle.row_table.proofs.Mapped.{entries-mapped, get-mapped}
@@ -24,9 +23,8 @@ use Rattle.machine_rules.specs.Cell.{listed_objects, row_by, row_by_roots}
 use Rattle.machine_rules.specs.Collect.{is_in_use, start_of_marks}
 use Rattle.machine_rules.specs.Go.{rows_from}
 use Rattle.actor_cell.specs.declared.cell.Cell.{Cell}
-use Rattle.actor_cell.specs.Cells.{as_cell}
+use Rattle.actor_cell.specs.Cells.{as_cell, table_by}
 use Rattle.actor_cell.specs.Goes.{having_made}
-use Rattle.actor_cell.specs.InTurn.{table_by}
 use Rattle.actor_cell.proofs.Marked.{marks_same}
 
 brought_row : (known : Rows) (x : Thing) → entry_row (m.get (uncounted known) x) ≡ m.get known x

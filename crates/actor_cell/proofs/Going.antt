@@ -3,8 +3,8 @@ use Rattle.std.proofs.Common.{◌≡◌, ℕ, suc, ◌+◌, ◌-◌, Some, List,
 use Rattle.turn_rules.specs.declared.act.Frame.{Frame}
 use Rattle.turn_rules.specs.Segment.{Turn}
 use Rattle.letter_kinds.specs.declared.letter.Letter.{Letter}
-use Rattle.letter_kinds.specs.Counting.{Amount, mint_all, mint_one, send}
-use Rattle.letter_kinds.specs.Holdings.{Holdings, Row, add_rows}
+use Rattle.letter_kinds.specs.Counting.{send}
+use Rattle.letter_kinds.specs.Holdings.{Row, add_rows}
 use Rattle.object_heap.specs.Heap.{Heap, with_new}
 use Rattle.machine_rules.specs.Cell.{Cell}
 use Rattle.actor_cell.specs.Moves.{Post}
@@ -26,16 +26,6 @@ with_new-cons row made h =
     let spare : (h.spare - 1) - length made ≡ h.spare - suc (length made) = omega arith in
     let first : h.next + 1 ≡ suc h.next = omega arith in
     λ i. record h { next = next i; spare = spare i; rows = ap (λ n. add_rows n made (add_rows h.next (row ∷ []) h.rows)) first i }
-
--- ---- mints, one by one
-
-pub mint_all-nil : (h : Holdings) → mint_all [] h ≡ h
-unfolding mint_all
-mint_all-nil h = refl
-
-pub mint_all-cons : (e : Amount) (things : List Amount) (h : Holdings) → mint_all (e ∷ things) h ≡ mint_all things (mint_one e h)
-unfolding mint_all
-mint_all-cons e things h = refl
 
 -- ---- what is done, step by step
 

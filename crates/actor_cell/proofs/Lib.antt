@@ -1,16 +1,11 @@
-pub mod Between
 pub mod Brought
 pub mod GoParts
 pub mod Going
-pub mod Known
-pub mod Later
 pub mod Learnt
 pub mod Marked
 pub mod Needing
-pub mod Owners
 pub mod Parts
 pub mod Posting
-pub mod Raising
 pub mod Registers
 pub mod Reporting
 pub mod Swept

@@ -9,8 +9,7 @@ use Rattle.letter_kinds.specs.Holdings.{Row, known_objects, row_of}
 use Rattle.object_heap.specs.Heap.{Heap}
 use Rattle.foreign_table.specs.Table.{Table}
 use Rattle.known_rows.specs.Holdings.{holdings_of}
-use Rattle.known_rows.specs.Known.{names_known, row_known, row_known-within}
-use Rattle.known_rows.proofs.Rows.{row_known-row_of}
+use Rattle.known_rows.specs.Known.{names_known, row_known, row_known-row_of, row_known-within}
 use Rattle.letter_kinds.proofs.Known.{known_objects-cover}
 use Rattle.orca_names.specs.declared.names.Thing.{Thing}
 

@@ -5,11 +5,10 @@ use Rattle.orca_names.specs.declared.names.Thing.{Thing}
 use Rattle.orca_names.specs.declared.names.Thing.TheVariants.{Actor}
 use Rattle.letter_kinds.specs.Holdings.{held_in}
 use Rattle.object_heap.specs.Heap.{Heap}
-use Rattle.foreign_table.specs.Table.{Table, count_on}
+use Rattle.foreign_table.specs.Table.{Table, count_on, holds_in}
 use Rattle.known_rows.specs.Holdings.{holdings_of}
 use Rattle.turn_step.specs.Held.{is_needed}
 use Rattle.machine_rules.specs.Go.{lacks, needs}
-use Rattle.actor_cell.specs.InTurn.{holds_in}
 
 neither : (mine none : Bool) → not (mine || not none) ≡ (not mine && none)
 neither true none = refl

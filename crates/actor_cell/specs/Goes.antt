@@ -18,8 +18,8 @@ use Rattle.foreign_table.specs.Table.{count_unheld}
 use Rattle.trace_send.specs.Can.{CanSend}
 use Rattle.machine_rules.specs.Cell.{Cell}
 use Rattle.machine_rules.specs.Go.{lacking_from, load_from, needed, rows_from, to_need, turn_of_cell}
-use Rattle.actor_cell.specs.Can.{CanMint}
-use Rattle.actor_cell.specs.declared.out.Out.{Out}
+use Rattle.trace_send.specs.Can.{CanMint}
+use Rattle.actor_cell.specs.declared.whole.Out.{Out}
 use Rattle.actor_cell.specs.Moves.{Move, Post, Mint, New, Print, End, Rest}
 
 -- ---- what is found

@@ -1,10 +1,7 @@
 pub mod Awaiting
-pub mod Can
 pub mod Cells
 pub mod Founds
 pub mod Goes
-pub mod HavePlaces
-pub mod InTurn
 pub mod Laws
 pub mod Moves
 pub mod Outs

@@ -9,7 +9,7 @@ use Rattle.letter_kinds.specs.Counting.{Amount, by_owner, given_back}
 use Rattle.letter_kinds.specs.Detector.{has}
 use Rattle.machine_rules.specs.Block.{held_actors}
 use Rattle.machine_rules.specs.Cell.{Cell}
-use Rattle.actor_cell.specs.declared.out.Out.{Out}
+use Rattle.actor_cell.specs.declared.whole.Out.{Out}
 
 -- these notes, and nothing else
 abbrev pub noting : List Note → Out

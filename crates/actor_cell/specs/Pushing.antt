@@ -7,7 +7,7 @@ use Rattle.letter_kinds.specs.declared.letter.Letter.{Letter}
 use Rattle.machine_rules.specs.Actors.{Actors, push_letter, seat}
 use Rattle.machine_rules.specs.Cell.{Cell, fresh_cell}
 use Rattle.machine_rules.specs.State.{State}
-use Rattle.actor_cell.specs.declared.out.Out.{Out}
+use Rattle.actor_cell.specs.declared.whole.Out.{Out}
 use Rattle.actor_cell.specs.Cells.{settled}
 
 -- each letter goes to its actor, in their order

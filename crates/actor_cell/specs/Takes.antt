@@ -4,7 +4,7 @@ use Rattle.letter_kinds.specs.declared.letter.Letter.{Letter}
 use Rattle.letter_kinds.specs.declared.letter.Letter.TheVariants.{App, Inc, Dec, Confirm}
 use Rattle.letter_kinds.specs.Holdings.{Holdings}
 use Rattle.trace_send.specs.Can.{CanReceive}
-use Rattle.actor_cell.specs.Can.{CanLower, CanRaise}
+use Rattle.trace_send.specs.Can.{CanLower, CanRaise}
 
 -- its counts allow what the letter does to them
 abbrev pub CanTake : ℕ → Letter → Holdings → Type 0

@@ -4,53 +4,8 @@ ghost use Rattle.std.specs.Prelude.{◌≡◌, ◌↔◌, IfOk, IsTrue};
 ghost use Rattle.actor_cell.specs.Cells.{as_cell, IsSame};
 
 use crate::cell::Cell;
-use orca_names::{Fields, NoMemory, Value};
+use orca_names::NoMemory;
 use std::alloc::Global;
-use turn_rules::{Frame, FrameRoom};
-
-// The same frame, if one runs.
-fn copied_frame(frame: &FrameRoom) -> FrameRoom
-    ensures { result ≡ frame.now }
-{
-    let mut copied = FrameRoom::new();
-    if let Some(f) = frame.get() {
-        copied.keep(f.kind, f.behaviour, f.place, &f.registers);
-    }
-    copied
-}
-
-fn same_values(values: &[Value], other: &[Value]) -> bool
-    ensures { IsTrue result ↔ (values.now ≡ other.now) }
-{
-    values == other
-}
-
-fn same_fields(fields: &Fields, other: &Fields) -> bool
-    ensures { IsTrue result ↔ (fields.now ≡ other.now) }
-{
-    fields.pinned == other.pinned && same_values(fields.values.as_slice(), other.values.as_slice())
-}
-
-fn same_frame(frame: &Frame, other: &Frame) -> bool
-    ensures { IsTrue result ↔ (frame.now ≡ other.now) }
-{
-    frame.kind == other.kind
-        && frame.behaviour == other.behaviour
-        && frame.place == other.place
-        && same_values(frame.registers.as_slice(), other.registers.as_slice())
-}
-
-fn same_room(frame: &FrameRoom, other: &FrameRoom) -> bool
-    ensures { IsTrue result ↔ (frame.now ≡ other.now) }
-{
-    match frame.get() {
-        Some(f) => match other.get() {
-            Some(g) => same_frame(f, g),
-            None => false,
-        },
-        None => !other.is_some(),
-    }
-}
 
 impl Cell {
     // Kind, fields, frame and marks are those of another cell.
@@ -63,8 +18,8 @@ impl Cell {
         self.kind == other.kind
             && self.dirty == other.dirty
             && self.reported == other.reported
-            && same_fields(&self.fields, &other.fields)
-            && same_room(&self.frame, &other.frame)
+            && self.fields == other.fields
+            && self.frame.same(&other.frame)
     }
 
     /// The same cell.
@@ -81,7 +36,7 @@ impl Cell {
         Ok(Cell {
             kind: self.kind,
             fields: self.fields,
-            frame: copied_frame(&self.frame),
+            frame: self.frame.copy(),
             heap,
             foreign,
             known,

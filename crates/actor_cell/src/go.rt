@@ -7,19 +7,17 @@ ghost use Rattle.machine_rules.specs.Go.{lacking_from, load_from, needed, rows_f
 ghost use Rattle.turn_step.specs.Turns.{HaltsAt, act_of};
 ghost use Rattle.turn_rules.specs.declared.act.Act.TheVariants.{Post as sends};
 ghost use Rattle.actor_cell.specs.Awaiting.{Awaits, AwaitsAt, AwaitsIn};
-ghost use Rattle.actor_cell.specs.Cells.{as_cell};
+ghost use Rattle.actor_cell.specs.Cells.{as_cell, table_by};
 ghost use Rattle.actor_cell.specs.Goes.{having_made, move_by, post_or_mint, things_from, FitsRegister, IsTold};
-ghost use Rattle.actor_cell.specs.InTurn.{table_by};
 ghost use Rattle.actor_cell.specs.Moves.{act_in, Mint as mint, Post as posted};
 ghost use Rattle.letter_kinds.specs.declared.letter.Letter.TheVariants.{App as app};
 ghost use Rattle.letter_kinds.specs.Holdings.{with_made};
 
 use crate::cell::Cell;
-use crate::holding::Holding;
 use crate::turning::{Awaited, Doing, Turned};
 use behaviour_check::Checked;
 use behaviour_code::Name;
-use foreign_table::ForeignTable;
+use foreign_table::{ForeignTable, Holding};
 use known_rows::KnownRows;
 use letter_kinds::{Amounts, Load};
 use orca_names::{ActorName, Args, NoMemory, Reading, Row, Thing, Trace};

@@ -1,95 +1,20 @@
 // Leave and reap: who goes gives back what it held on things of those who stay.
 
-ghost use Rattle.std.specs.Prelude.{◌≡◌, ◌<◌, ◌++◌, ◌∷◌, [], if◌then◌else◌, IfOk, IsTrue, List, Option, OnOk, Some, not, slice_get, true, ℕ};
-ghost use Rattle.std.specs.FinMap as m;
+ghost use Rattle.std.specs.Prelude.{◌≡◌, IfOk};
 ghost use Rattle.std.specs.List.Sorted.{IsStrictlySortedBy};
 ghost use Rattle.std.specs.Ordering.{nat_cmp};
-ghost use Rattle.orca_names.specs.Names.{owner_of};
-ghost use Rattle.orca_names.specs.declared.names.Thing.{Thing as thing};
-ghost use Rattle.letter_kinds.specs.Counting.{Amount, by_owner};
-ghost use Rattle.letter_kinds.specs.Detector.{has};
-ghost use Rattle.letter_kinds.specs.Holdings.{Row};
 ghost use Rattle.actor_cell.specs.Cells.{as_cell};
-ghost use Rattle.actor_cell.specs.Outs.{left_behind, left_outside, letters_of, returning};
+ghost use Rattle.actor_cell.specs.Outs.{left_outside, letters_of};
 
 use crate::cell::Cell;
 use crate::letters::{decs_of, letter_room};
-use crate::out::Out;
-use foreign_table::ForeignTable;
-use letter_kinds::{Amounts, Letter};
-use local_sweep::push_amount;
+use letter_kinds::Letter;
+use local_sweep::gather_held;
 use orca_names::{ActorName, NoMemory};
 use plain_list::Listed;
 use std::alloc::Global;
 
-// Whether the actor stands where it does if those who go are numbered without a gap.
-#[tactic(auto, using(crate::proofs::Owners::has_at))]
-fn is_seen_at_once(gone: &[ActorName], actor: ActorName) -> bool
-    ensures { IsTrue result → has gone.now actor ≡ true }
-{
-    let Some(first) = gone.first() else {
-        return false;
-    };
-    let place = actor.0.wrapping_sub(first.0) as usize;
-    if place >= gone.len() {
-        return false;
-    }
-    gone[place] == actor
-}
-
-// Whether the actor is one of those who go.
-fn is_gone(gone: &[ActorName], actor: ActorName) -> bool
-    requires { IsStrictlySortedBy nat_cmp gone.now }
-    ensures { result ≡ has gone.now actor }
-{
-    if is_seen_at_once(gone, actor) {
-        return true;
-    }
-    gone.binary_search(&actor).is_ok()
-}
-
-// Adds the count on a thing, by its place in the order of things, to what goes back, if the owner
-// of the thing stays.
-fn note_held(
-    alloc: Global,
-    back: &mut Vec<(ActorName, Amounts)>,
-    gone: &[ActorName],
-    foreign: &ForeignTable,
-    j: usize,
-) -> Result<(), NoMemory>
-    requires rises { IsStrictlySortedBy nat_cmp gone.now }
-    requires within { j < m.len foreign.now.entries }
-    ensures { (e : thing × (ℕ × Option Row)) (given : List Amount)
-        → slice_get (m.entries foreign.now.entries) j ≡ Some e
-        → back.old.items ≡ by_owner given →
-        let more = (if not (has gone.now (owner_of e.0)) then (e.0, e.1.0) ∷ [] else []) in
-        OnOk result (back.new.items ≡ by_owner (given ++ more)) }
-{
-    let (thing, count, _) = foreign.at(j);
-    if is_gone(gone, thing.owner()) {
-        return Ok(());
-    }
-    push_amount(alloc, back, &thing, count)
-}
-
 impl Cell {
-    // What it holds on things of those who stay, in groups of their owners.
-    fn gather_held(
-        &self,
-        alloc: Global,
-        gone: &[ActorName],
-    ) -> Result<Vec<(ActorName, Amounts)>, NoMemory>
-        requires { IsStrictlySortedBy nat_cmp gone.now }
-        ensures { IfOk result (λ back. back.items ≡ left_outside gone.now (as_cell self.now)) }
-    {
-        let mut back = Vec::new(alloc);
-        let foreign = &self.foreign;
-        for j in 0..foreign.len() {
-            note_held(alloc, &mut back, gone, foreign, j)?;
-        }
-        Ok(back)
-    }
-
     /// What it gives back where it goes with all of these, by rising names: to each owner that stays,
     /// what it held of this owner's things.
     ///
@@ -104,25 +29,8 @@ impl Cell {
         ensures { let its = left_outside gone.now (as_cell self.now) in
             IfOk result (λ letters. letters ≡ letters_of its) }
     {
-        let back = self.gather_held(alloc, gone)?;
+        let back = gather_held(alloc, gone, &self.foreign)?;
         let room = letter_room(alloc, back.len())?;
         Ok(decs_of(room, back))
-    }
-
-    /// What it gives back where it goes alone: to each owner what it held.
-    ///
-    /// # Errors
-    /// `NoMemory` where memory was refused.
-    pub fn leave(&self, alloc: Global) -> Result<Out, NoMemory>
-        ensures { let its = left_behind self.now.heap.owner (as_cell self.now) in
-            IfOk result (λ out. out ≡ returning its) }
-    {
-        let gone = [self.heap.owner()];
-        Ok(Out {
-            letters: self.give_back(alloc, &gone)?,
-            notes: Listed::new(alloc),
-            print: None,
-            made: None,
-        })
     }
 }

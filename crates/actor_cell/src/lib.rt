@@ -4,7 +4,6 @@
 //! `machine_rules`; the laws here tie the two.
 #![tactic(auto)]
 
-mod amounts;
 mod apply;
 mod block;
 mod cell;
@@ -12,22 +11,19 @@ mod collect;
 mod copy;
 mod found;
 mod go;
-mod holding;
 mod laws;
 mod learning;
 mod leave;
 mod letters;
 mod loads;
-mod out;
 mod sweeping;
 mod take;
-mod turn_places;
-mod turn_rows;
 mod turning;
+mod whole;
 
 pub use cell::Cell;
 pub use found::Found;
 pub use laws::events_are_of_parts;
-pub use out::Out;
 pub use sweeping::Sweep;
 pub use turning::{Awaited, Doing, Turned};
+pub use whole::Out;

@@ -10,10 +10,8 @@ ghost use Rattle.actor_cell.specs.Cells.{as_cell};
 ghost use Rattle.actor_cell.specs.Goes.{having_made, things_from};
 
 use crate::cell::Cell;
-use crate::turn_places::{TurnPlaces, may_reach_many};
-use crate::turn_rows::TurnRows;
 use foreign_table::ForeignTable;
-use known_rows::KnownRows;
+use known_rows::{KnownRows, TurnPlaces, TurnRows, may_reach_many};
 use letter_kinds::Load;
 use orca_names::{Args, NoMemory, Reading, Row, Thing, Trace};
 use plain_list::Listed;

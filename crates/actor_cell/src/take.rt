@@ -1,34 +1,18 @@
 // Take: an actor without a frame takes a letter.
 
-ghost use Rattle.std.specs.Prelude.{◌≡◌, ◌<◌, [], if◌then◌else◌, IfErr, IfOk, None, OnErr, OnOk, Some, false, true, vec_capacity};
-ghost use Rattle.machine_rules.specs.Take.{cell_after, note_of, notes_after};
+ghost use Rattle.std.specs.Prelude.{◌≡◌, if◌then◌else◌, None, OnOk, Some, false, true};
+ghost use Rattle.machine_rules.specs.Take.{cell_after, note_of};
 ghost use Rattle.actor_cell.specs.Cells.{as_cell};
-ghost use Rattle.actor_cell.specs.Outs.{noting};
 ghost use Rattle.actor_cell.specs.Takes.{CanTake, HasRoomFor};
 
 use crate::cell::Cell;
 use crate::learning::learn_all;
-use crate::out::Out;
 use behaviour_check::Checked;
 use block_report::{Tells, tells_on};
 use letter_kinds::{Letter, Note};
 use orca_names::NoMemory;
-use plain_list::Listed;
-use std::alloc::{AllocError, Global};
-use trace_send::receive_trace;
+use trace_send::{lower_counts, raise_counts, receive_trace};
 use turn_step::start_frame;
-
-// Room for one note, where one will come.
-fn note_room(alloc: Global, comes: bool) -> Result<Vec<Note>, AllocError>
-    ensures none { IfOk result (λ notes. notes.items ≡ []) }
-    ensures room { IfOk result (λ notes. comes ≡ true → 0 < vec_capacity notes) }
-{
-    let mut notes = Vec::new(alloc);
-    if comes {
-        notes.reserve(1)?;
-    }
-    Ok(notes)
-}
 
 impl Cell {
     // It has something to do, and did not report that it is blocked.
@@ -89,6 +73,7 @@ impl Cell {
             ≡ cell_after code.now self.old.heap.owner letter.now (as_cell self.old) }
         ensures owner { self.new.heap.owner ≡ self.old.heap.owner }
     {
+        let me = self.heap.owner();
         match letter {
             Letter::App {
                 behaviour,
@@ -96,55 +81,21 @@ impl Cell {
                 load,
                 rows,
             } => {
-                let me = self.heap.owner();
                 receive_trace(load, me, &mut self.count, &mut self.heap, &mut self.foreign);
                 learn_all(&mut self.known, me, rows);
                 start_frame(code, self.kind, *behaviour, args, &mut self.frame);
                 self.wake();
             }
             Letter::Inc { things } => {
-                self.raise_all(things);
+                raise_counts(things, me, &mut self.count, &mut self.heap);
                 self.wake();
             }
             Letter::Dec { things } => {
-                self.lower_all(things);
+                lower_counts(things, me, &mut self.count, &mut self.heap);
                 self.wake();
             }
             // It asks, and changes nothing.
             Letter::Confirm { token: _ } => {}
         }
-    }
-
-    /// The idle actor takes a letter.
-    ///
-    /// # Errors
-    /// The letter, where memory was refused; the cell is then as it was.
-    pub fn take(&mut self, alloc: Global, code: &Checked, letter: Letter) -> Result<Out, Letter>
-        requires idle { self.old.frame ≡ None }
-        requires can { CanTake self.old.heap.owner letter (as_cell self.old).holdings }
-        ensures out { let note = note_of self.old.heap.owner letter in
-            IfOk result (λ out. out ≡ noting (notes_after self.old.reported note [])) }
-        ensures cell { OnOk result (as_cell self.new
-            ≡ cell_after code.now self.old.heap.owner letter (as_cell self.old)) }
-        ensures back { IfErr result (λ back. back ≡ letter) }
-        ensures same { OnErr result (as_cell self.new ≡ as_cell self.old) }
-        ensures owner { self.new.heap.owner ≡ self.old.heap.owner }
-    {
-        let Ok(mut notes) = note_room(alloc, self.reported) else {
-            return Err(letter);
-        };
-        if self.reserve_take(&letter).is_err() {
-            return Err(letter);
-        }
-        if let Some(note) = self.note_on(&letter) {
-            notes.push_reserved(note);
-        }
-        self.apply_take(code, &letter);
-        Ok(Out {
-            letters: Listed::new(alloc),
-            notes: Listed::from(notes),
-            print: None,
-            made: None,
-        })
     }
 }

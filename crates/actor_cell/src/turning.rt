@@ -1,12 +1,9 @@
 // What a turn is found to do.
 
-ghost use Rattle.std.specs.Prelude.{◌≡◌, ◌<◌, [], None, vec_capacity};
+ghost use Rattle.std.specs.Prelude.{◌≡◌, None};
 ghost use Rattle.letter_kinds.specs.declared.letter.Letter.TheVariants.{App as app};
 ghost use Rattle.actor_cell.specs.Awaiting.{awaited_by};
-ghost use Rattle.actor_cell.specs.Goes.{out_of};
-ghost use Rattle.actor_cell.specs.Moves.{act_in};
 
-use crate::out::Out;
 use behaviour_code::Name;
 use letter_kinds::{Amounts, Letter, Load};
 use orca_names::{ActorName, Args, Value};
@@ -122,44 +119,5 @@ impl Turned {
         ensures rest { self.new ≡ record self.old { things = self.new.things } }
     {
         mem::replace(&mut self.things, Listed::new(alloc))
-    }
-
-    /// What it gives out. It takes no memory but the room that is handed in.
-    pub(crate) fn into_out(self, alloc: Global, mut room: Vec<(ActorName, Letter)>) -> Out
-        requires none { room.items ≡ [] }
-        requires room { 0 < vec_capacity room }
-        ensures { result ≡ out_of (act_in self) }
-    {
-        let Turned {
-            doing,
-            args,
-            load,
-            rows,
-            things,
-            ..
-        } = self;
-        let mut print = None;
-        let mut made = None;
-        match doing {
-            Doing::Post { to, behaviour } => {
-                let letter = Letter::App {
-                    behaviour,
-                    args,
-                    load,
-                    rows,
-                };
-                room.push_reserved((to, letter));
-            }
-            Doing::Mint { owner } => room.push_reserved((owner, Letter::Inc { things })),
-            Doing::New { kind, register } => made = Some((kind, register)),
-            Doing::Print { value } => print = Some(value),
-            Doing::End | Doing::Rest => {}
-        }
-        Out {
-            letters: Listed::from(room),
-            notes: Listed::new(alloc),
-            print,
-            made,
-        }
     }
 }

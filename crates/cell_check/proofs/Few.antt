@@ -20,7 +20,7 @@ use Rattle.letter_kinds.specs.Holdings.{Holdings, Row, held_in, nothing_held, wi
 use Rattle.letter_kinds.specs.Sums.{amount_of, times_loaded}
 use Rattle.trace_send.specs.Can.{CanReceive, CanSend}
 use Rattle.machine_rules.specs.Cell.{Cell}
-use Rattle.actor_cell.specs.Can.{CanMint}
+use Rattle.trace_send.specs.Can.{CanMint}
 use Rattle.actor_cell.specs.Goes.{CanGo, CanMove, IsTold, told, turned_in}
 use Rattle.actor_cell.specs.Moves.{Move, Post, Mint, New, Print, End, Rest, move_of}
 use Rattle.actor_cell.specs.declared.turning.Doing.{Doing}

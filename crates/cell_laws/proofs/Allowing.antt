@@ -12,7 +12,7 @@ use Rattle.letter_kinds.proofs.Raising.{own_le-raise_all}
 use Rattle.letter_kinds.specs.Counting.{Amount, Loaded, lower_all, mint_all, mint_one, raise_all}
 use Rattle.letter_kinds.specs.Holdings.{Holdings, held_in, own_in}
 use Rattle.letter_kinds.specs.Sums.{amount_of, times_loaded}
-use Rattle.actor_cell.specs.Can.{CanLower, CanMint, CanRaise}
+use Rattle.trace_send.specs.Can.{CanLower, CanMint, CanRaise}
 
 -- what holds of each thing that is loaded holds of each element
 pub each_loaded : (P : Loaded → Type 0) (load : List Loaded) → ((e : Loaded) → 0 < times_loaded e.0 load → P e) → All P load

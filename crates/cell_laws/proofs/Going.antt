@@ -26,7 +26,7 @@ use Rattle.count_laws.proofs.agreement.FollowingGo.{load_known}
 use Rattle.count_laws.proofs.letters.Once.{load_once, minted_once, needed_once}
 use Rattle.count_laws.specs.Facts.{Facts}
 use Rattle.count_laws.specs.Known.{IsKnown}
-use Rattle.actor_cell.specs.Can.{CanMint}
+use Rattle.trace_send.specs.Can.{CanMint}
 use Rattle.actor_cell.specs.Goes.{CanGo, CanMove, having_made, move_by, post_or_mint, turned_in, turned_or_needs}
 use Rattle.cell_laws.proofs.Allowing.{can_mint, each_loaded}
 use Rattle.cell_laws.proofs.Keeping.{runs_keep_program}

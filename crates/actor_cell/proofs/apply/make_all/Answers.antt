@@ -1,7 +1,8 @@
 use Rattle.std.proofs.Common.{◌≡◌, ◌+◌, ◌-◌, drop, sym, ap, ◌∙◌, arith}
 use Rattle.object_heap.specs.Heap.{Heap, with_new}
 use Rattle.actor_cell.proofs.Going.{with_new-cons, with_new-nil}
-use Rattle.actor_cell.proofs.Raising.{drop_past, rest_of}
+use Rattle.std.proofs.lemmas.List.{drop_all}
+use Rattle.trace_send.proofs.Steps.{rest_of}
 use Rattle.actor_cell.proofs.apply.make_all.Goals as goal
 
 pub loop-row-preserved : goal.loop-row-preserved
@@ -23,5 +24,5 @@ loop-row-preserved c =
 pub returns : goal.returns
 returns c =
     let heap = c.loop-row.heap in
-    let done = drop_past c.loop-row.row-index c.args.made.now c.loop-row-test.false in
+    let done = drop_all c.loop-row.row-index c.args.made.now c.loop-row-test.false in
     sym (with_new-nil heap) ∙ ap (λ xs. with_new xs heap) (sym done) ∙ c.loop-row.invariant.heap

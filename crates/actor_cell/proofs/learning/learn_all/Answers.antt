@@ -1,7 +1,8 @@
 use Rattle.std.proofs.Common.{◌+◌, ◌<◌, get_or, length, drop, sym, ap, ◌∙◌, arith}
 use Rattle.machine_rules.specs.Take.{learn}
 use Rattle.actor_cell.proofs.Learnt.{learn-cons, learn-nil}
-use Rattle.actor_cell.proofs.Raising.{drop_past, rest_of}
+use Rattle.std.proofs.lemmas.List.{drop_all}
+use Rattle.trace_send.proofs.Steps.{rest_of}
 use Rattle.actor_cell.proofs.learning.learn_all.Goals as goal
 
 pub learn_one-requires : goal.learn_one-requires
@@ -31,5 +32,5 @@ loop-brought-preserved c =
 pub returns : goal.returns
 returns c =
     let now = c.loop-brought.known.rows in
-    let done = drop_past c.loop-brought.brought-index c.args.rows.now (omega (arith, ap length c.as_slice-brought-items.ensures)) in
+    let done = drop_all c.loop-brought.brought-index c.args.rows.now (omega (arith, ap length c.as_slice-brought-items.ensures)) in
     sym (learn-nil c.args.me now) ∙ ap (λ xs. learn c.args.me xs now) (sym done) ∙ c.loop-brought.invariant.rows

@@ -1,7 +1,7 @@
 use Rattle.std.proofs.Common.{sym, subst, arith}
 use Rattle.known_rows.specs.Holdings.{holdings_of}
 use Rattle.trace_send.proofs.Steps.{own-actor}
-use Rattle.actor_cell.specs.Can.{CanLower}
+use Rattle.trace_send.specs.Can.{CanLower}
 use Rattle.cell_check.proofs.count_tests.lowered.Goals as goal
 
 pub takes-requires-clause-can : goal.takes-requires-clause-can

@@ -1,5 +1,6 @@
 use Rattle.std.proofs.Common.{◌+◌, ap, ◌∙◌, drop, arith}
-use Rattle.actor_cell.proofs.Raising.{drop_past, rest_of}
+use Rattle.std.proofs.lemmas.List.{drop_all}
+use Rattle.trace_send.proofs.Steps.{rest_of}
 use Rattle.orca_parts.specs.Letters.{counted, letters_to}
 use Rattle.orca_parts.proofs.Homes.{same_actors}
 use Rattle.orca_parts.proofs.Reserving.{counted_fits, first_counts, one_fits, to_few}
@@ -42,7 +43,7 @@ returns-clause-ok c = λ b there.
       arith,
       c.loop-letter.invariant.fits b there,
       c.loop-letter.invariant.told b,
-      ap (letters_to b) (drop_past c.loop-letter.letter-index letters c.loop-letter-test.false),
+      ap (letters_to b) (drop_all c.loop-letter.letter-index letters c.loop-letter-test.false),
     )
 
 pub returns-then-letters-eq1-clause-ok : goal.returns-then-letters-eq1-clause-ok

@@ -1,6 +1,7 @@
 use Rattle.std.proofs.Common.{◌≤◌, ◌+◌, ap, subst, ◌∙◌, drop, arith}
 use Rattle.letter_kinds.specs.declared.letter.Letter.TheVariants.{Dec}
-use Rattle.actor_cell.proofs.Raising.{drop_past, rest_of}
+use Rattle.std.proofs.lemmas.List.{drop_all}
+use Rattle.trace_send.proofs.Steps.{rest_of}
 use Rattle.actor_cell.specs.Outs.{letters_of}
 use Rattle.actor_table.specs.Slots.{slot_at}
 use Rattle.orca_parts.specs.Letters.{letters_to}
@@ -35,5 +36,5 @@ returns-clause-ok c = λ b there.
     omega (
       arith,
       c.loop-group.invariant.fits b there,
-      ap (λ gs. letters_to b (letters_of gs)) (drop_past c.loop-group.group-index groups c.loop-group-test.false),
+      ap (λ gs. letters_to b (letters_of gs)) (drop_all c.loop-group.group-index groups c.loop-group-test.false),
     )

@@ -1,6 +1,7 @@
 use Rattle.std.proofs.Common.{ap, sym, ◌∙◌, drop, ◌+◌}
 use Rattle.machine_rules.specs.Detect.{empty_seats}
-use Rattle.actor_cell.proofs.Raising.{drop_past, rest_of}
+use Rattle.std.proofs.lemmas.List.{drop_all}
+use Rattle.trace_send.proofs.Steps.{rest_of}
 use Rattle.actor_table.specs.Slots.{actors_of, away_of}
 use Rattle.orca_parts.specs.Fits.{without_all}
 use Rattle.orca_parts.proofs.Giving.{fits_without, seats_emptied, none_emptied}
@@ -27,5 +28,5 @@ pub returns-clause-actors : goal.returns-clause-actors
 returns-clause-actors c =
     let slots = c.loop-member.table.slots in
     sym (none_emptied (actors_of slots))
-    ∙ sym (ap (λ ms. empty_seats ms (actors_of slots)) (drop_past c.loop-member.member-index c.args.members.now c.loop-member-test.false))
+    ∙ sym (ap (λ ms. empty_seats ms (actors_of slots)) (drop_all c.loop-member.member-index c.args.members.now c.loop-member-test.false))
     ∙ c.loop-member.invariant.actors

@@ -1,12 +1,12 @@
 use Rattle.std.proofs.Common.{◌∙◌, ◌++◌, ap, drop, subst, sym, ◌+◌}
-use Rattle.std.proofs.lemmas.List.{append-nil, append_assoc}
+use Rattle.std.proofs.lemmas.List.{append-nil, append_assoc, drop_all}
 use Rattle.std.specs.List.Sorted.{IsStrictlySortedBy}
 use Rattle.std.specs.Ordering.{nat_cmp}
 use Rattle.detector_tokens.proofs.RisingLemmas.{rest_rises}
 use Rattle.actor_cell.specs.Cells.{as_cell}
 use Rattle.actor_cell.specs.Outs.{left_outside, letters_of}
 use Rattle.actor_table.specs.Slots.{slot_at}
-use Rattle.actor_cell.proofs.Raising.{drop_past, rest_of}
+use Rattle.trace_send.proofs.Steps.{rest_of}
 use Rattle.orca_parts.proofs.Homes.{home_is}
 use Rattle.orca_parts.proofs.Reaping.{first_returned, none_returned, returned}
 use Rattle.orca_parts.proofs.reaps.letters_outside.Goals as goal
@@ -39,5 +39,5 @@ returns c =
     let sofar = c.loop-member.letters.items in
     let left = drop c.loop-member.member-index members in
     sym (append-nil sofar)
-    ∙ ap (λ ls. sofar ++ ls) (sym (none_returned members left slots (drop_past c.loop-member.member-index members c.loop-member-test.false)))
+    ∙ ap (λ ls. sofar ++ ls) (sym (none_returned members left slots (drop_all c.loop-member.member-index members c.loop-member-test.false)))
     ∙ c.loop-member.invariant.letters

@@ -1,7 +1,8 @@
 use Rattle.std.proofs.Common.{ap, refl, subst, sym, ◌∙◌, drop, ◌+◌}
 use Rattle.letter_kinds.specs.declared.letter.Letter.TheVariants.{Confirm}
 use Rattle.machine_rules.specs.Detect.{ask_all}
-use Rattle.actor_cell.proofs.Raising.{drop_past, rest_of}
+use Rattle.std.proofs.lemmas.List.{drop_all}
+use Rattle.trace_send.proofs.Steps.{rest_of}
 use Rattle.actor_table.specs.Slots.{actors_of}
 use Rattle.orca_parts.specs.Letters.{FitLetters, asks}
 use Rattle.orca_parts.specs.Woken.{IsLowestWoken}
@@ -53,5 +54,5 @@ loop-member-preserved c =
 pub returns-clause-actors : goal.returns-clause-actors
 returns-clause-actors c =
     let slots = c.loop-member.table.slots in
-    sym (ap (λ ms. ask_all ms c.args.number (actors_of slots)) (drop_past c.loop-member.member-index c.args.members.now c.loop-member-test.false))
+    sym (ap (λ ms. ask_all ms c.args.number (actors_of slots)) (drop_all c.loop-member.member-index c.args.members.now c.loop-member-test.false))
     ∙ c.loop-member.invariant.actors

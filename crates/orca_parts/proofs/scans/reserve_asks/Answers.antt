@@ -1,6 +1,7 @@
 use Rattle.std.proofs.Common.{◌∙◌, ap, arith, drop, subst, ◌+◌, ◌≤◌}
 use Rattle.letter_kinds.specs.declared.letter.Letter.TheVariants.{Confirm}
-use Rattle.actor_cell.proofs.Raising.{drop_past, rest_of}
+use Rattle.std.proofs.lemmas.List.{drop_all}
+use Rattle.trace_send.proofs.Steps.{rest_of}
 use Rattle.orca_parts.specs.Letters.{asks, letters_to}
 use Rattle.orca_parts.proofs.Asking.{asked_once}
 use Rattle.orca_parts.proofs.Fitting.{FitBut, fit_all, fit_more}
@@ -31,4 +32,4 @@ returns-clause-ok c = λ number.
     let members = c.args.members.now in
     let rest = drop c.loop-member.member-index members in
     fit_all (asks number rest) (asks number members) c.loop-member.table.slots
-    (ap (asks number) (drop_past c.loop-member.member-index members c.loop-member-test.false)) (c.loop-member.invariant.fits number)
+    (ap (asks number) (drop_all c.loop-member.member-index members c.loop-member-test.false)) (c.loop-member.invariant.fits number)

@@ -1,7 +1,12 @@
-use Rattle.std.proofs.Common.{true, false, sym, ap, ◌∙◌}
-use Rattle.letter_kinds.specs.Counting.{receive}
+use Rattle.std.proofs.Common.{true, false, sym, subst, ap, ◌∙◌}
+use Rattle.letter_kinds.specs.declared.letter.Letter.{Letter}
+use Rattle.letter_kinds.specs.Counting.{lower_all, raise_all, receive}
+use Rattle.known_rows.specs.Holdings.{holdings_of}
+use Rattle.trace_send.specs.Can.{CanLower, CanRaise}
+use Rattle.trace_send.proofs.Raising.{can_lower_with, can_raise_with}
 use Rattle.machine_rules.specs.Take.{cell_after, learn}
 use Rattle.actor_cell.specs.Cells.{as_cell}
+use Rattle.actor_cell.specs.Takes.{CanTake}
 use Rattle.actor_cell.proofs.cell.Cell.apply_take.Goals as goal
 
 pub returns-in-App-clause-cell : goal.returns-in-App-clause-cell
@@ -13,3 +18,35 @@ returns-in-App-clause-cell c =
     c.wake.ensures.cell
     ∙ (λ i. record s { frame = c.start_frame.ensures i; holdings = counts i; known = known i; dirty = true; reported = false })
     ∙ ap (λ l. cell_after c.args.code.now me l s) (sym c.in-App.is)
+
+pub raise_counts-requires-clause-can : goal.raise_counts-requires-clause-can
+raise_counts-requires-clause-can c = λ foreign.
+    let s = c.args.self.now in
+    let its : CanRaise s.heap.owner c.in-Inc.things (as_cell s).holdings =
+    subst (λ (l : Letter). CanTake s.heap.owner l (as_cell s).holdings) c.in-Inc.is c.requires.can in
+    subst (λ a. CanRaise a c.in-Inc.things (holdings_of s.count s.heap foreign)) (sym c.owner-me.ensures)
+    (can_raise_with foreign.entries s.heap.owner c.in-Inc.things (as_cell s).holdings its)
+
+pub returns-in-Inc-clause-cell : goal.returns-in-Inc-clause-cell
+returns-in-Inc-clause-cell c =
+    let s = as_cell c.args.self.now in
+    let me = c.args.self.now.heap.owner in
+    let counts = c.raise_counts.ensures.counts c.args.self.now.foreign ∙ ap (λ a. raise_all a c.in-Inc.things s.holdings) c.owner-me.ensures in
+    c.wake-in-Inc.ensures.cell ∙ (λ i. record s { holdings = counts i; dirty = true; reported = false })
+    ∙ ap (λ l. cell_after c.args.code.now me l s) (sym c.in-Inc.is)
+
+pub lower_counts-requires-clause-can : goal.lower_counts-requires-clause-can
+lower_counts-requires-clause-can c = λ foreign.
+    let s = c.args.self.now in
+    let its : CanLower s.heap.owner c.in-Dec.things (as_cell s).holdings =
+    subst (λ (l : Letter). CanTake s.heap.owner l (as_cell s).holdings) c.in-Dec.is c.requires.can in
+    subst (λ a. CanLower a c.in-Dec.things (holdings_of s.count s.heap foreign)) (sym c.owner-me.ensures)
+    (can_lower_with foreign.entries s.heap.owner c.in-Dec.things (as_cell s).holdings its)
+
+pub returns-in-Dec-clause-cell : goal.returns-in-Dec-clause-cell
+returns-in-Dec-clause-cell c =
+    let s = as_cell c.args.self.now in
+    let me = c.args.self.now.heap.owner in
+    let counts = c.lower_counts.ensures.counts c.args.self.now.foreign ∙ ap (λ a. lower_all a c.in-Dec.things s.holdings) c.owner-me.ensures in
+    c.wake-in-Dec.ensures.cell ∙ (λ i. record s { holdings = counts i; dirty = true; reported = false })
+    ∙ ap (λ l. cell_after c.args.code.now me l s) (sym c.in-Dec.is)

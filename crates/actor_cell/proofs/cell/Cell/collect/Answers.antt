@@ -1,6 +1,6 @@
 use Rattle.std.proofs.Common.{None, ap, ◌∙◌}
 use Rattle.machine_rules.specs.Collect.{is_marked}
-use Rattle.actor_cell.specs.declared.out.Out.{Out}
+use Rattle.actor_cell.specs.declared.whole.Out.{Out}
 use Rattle.actor_cell.specs.declared.sweeping.Sweep.{Sweep}
 use Rattle.actor_cell.specs.Cells.{as_cell}
 use Rattle.actor_cell.specs.Outs.{letters_of}

@@ -11,8 +11,8 @@ use Rattle.turn_step.specs.Turns.{HaltsAt, setting_in}
 use Rattle.known_rows.specs.Known.{row_known}
 use Rattle.machine_rules.specs.Cell.{row_by}
 use Rattle.machine_rules.specs.Go.{needed, setting_of, turn_of_cell}
-use Rattle.actor_cell.specs.Cells.{as_cell}
-use Rattle.actor_cell.specs.InTurn.{holds_in, table_by}
+use Rattle.actor_cell.specs.Cells.{as_cell, table_by}
+use Rattle.foreign_table.specs.Table.{holds_in}
 use Rattle.actor_cell.proofs.Brought.{found_is}
 use Rattle.actor_cell.proofs.Needing.{needs_is}
 use Rattle.actor_cell.proofs.cell.Cell.run_turn.Goals as goal

@@ -1,6 +1,0 @@
-use Rattle.std.proofs.Common.{◌∙◌}
-use Rattle.actor_cell.proofs.Owners.{search_is_has}
-use Rattle.actor_cell.proofs.leave.is_gone.Goals as goal
-
-pub returns : goal.returns
-returns c = c.is_ok.ensures.value ∙ search_is_has c.args.gone.now c.args.actor c.binary_search.result c.requires c.binary_search.ensures.position

@@ -1,8 +1,0 @@
-use Rattle.std.proofs.Common.{◌+◌, length, sym, ap, ◌∙◌}
-use Rattle.actor_cell.proofs.Later.{turn_count}
-use Rattle.actor_cell.proofs.turn_places.TurnPlacesPlaces.places.Goals as goal
-
-pub returns : goal.returns
-returns c =
-    let s = c.args.self.now in
-    ap (λ n. n + length s.made.now) c.places.ensures ∙ sym (turn_count s.known.rows.heap.now s.known.rows.foreign.now s.made.now s.later)
