@@ -32,10 +32,8 @@ EffectFits (Leap label) = ⊤
 EffectFits (Acts a) = FitsRegister a
 
 post_fits : (v : Value) (behaviour : ℕ) (args : List Value) → EffectFits (post_to v behaviour args)
-post_fits values.Null behaviour args = tt
-post_fits (values.Num n) behaviour args = tt
 post_fits (values.Actor a) behaviour args = tt
-post_fits (values.Obj n) behaviour args = tt
+post_fits v behaviour args = tt
 
 leap_fits : (n label : ℕ) → EffectFits (leap_if_zero n label)
 leap_fits zero label = tt
@@ -46,27 +44,10 @@ new_fits d None h = tt
 new_fits d (Some k) h = h
 
 step_fits : (p : Setting) (i : Instr) (t : Turn) → HasRegisters i → EffectFits (step_of p i t).0
-step_fits p (I.Drop d) t h = tt
-step_fits p (I.Int d n) t h = tt
-step_fits p (I.Own d) t h = tt
-step_fits p (I.Copy d s) t h = tt
-step_fits p (I.Add d a b) t h = tt
-step_fits p (I.Sub d a b) t h = tt
-step_fits p (I.Mul d a b) t h = tt
-step_fits p (I.Less d a b) t h = tt
-step_fits p (I.Same d a b) t h = tt
-step_fits p (I.Row d vs) t h = tt
-step_fits p (I.Get d s i) t h = tt
-step_fits p (I.Load d f) t h = tt
-step_fits p (I.Store f s) t h = tt
-step_fits p (I.Jump l) t h = tt
 step_fits p (I.JumpZero a l) t h = leap_fits (number_at t a) l
-step_fits p (I.Label l) t h = tt
-step_fits p I.Pin t h = tt
-step_fits p I.Unpin t h = tt
 step_fits p (I.New d kind) t h = new_fits d (kind_named p.program kind) (All-slice_get (λ r. r < REGISTERS) (d ∷ []) h 0 d refl)
 step_fits p (I.Send to behaviour vs) t h = post_fits (value_at t to) behaviour _
-step_fits p (I.Print a) t h = tt
+step_fits p i t h = tt
 
 -- ---- up to the next act
 

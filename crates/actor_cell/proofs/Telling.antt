@@ -17,7 +17,7 @@ use Rattle.letter_kinds.specs.Counting.{Loaded}
 use Rattle.letter_kinds.specs.Holdings.{Holdings}
 use Rattle.machine_rules.specs.Cell.{Cell}
 use Rattle.machine_rules.specs.Go.{lacking_from, load_from, needed, needs, rows_from, setting_of, turn_of_cell}
-use Rattle.actor_cell.specs.Moves.{Move, Post, Mint, New, Print, End, Rest}
+use Rattle.actor_cell.specs.Moves.{Move, End, Rest}
 use Rattle.actor_cell.specs.Goes.{CanMove, Gone, IsTold, Turned, cell_by, gone_by, move_by, out_of, post_or_mint, told, turned_in, turned_or_needs}
 
 module _ (frame : Frame) (c : Cell) (turn : Turn) (place : ℕ) where
@@ -32,36 +32,22 @@ module _ (frame : Frame) (c : Cell) (turn : Turn) (place : ℕ) where
       → (let m = move_by trace weight me k does in record { turn = turn; place = place; act = m } ≡ told frame c turn place m)
   moves_told trace weight me k (act.Post to behaviour args) =
       posts_told weight to behaviour args (load_from trace me k.holdings args) (rows_from trace me k args) (lacking_from trace me k.holdings args)
-  moves_told trace weight me k (act.New kind register) = refl
-  moves_told trace weight me k (act.Print value) = refl
-  moves_told trace weight me k act.End = refl
+  moves_told trace weight me k does = refl
 
   -- the rows that it made are told
   pub told_made : (does : Move) → (told frame c turn place does).turn.made ≡ turn.made
-  told_made (Post to letter) = refl
-  told_made (Mint owner things) = refl
-  told_made (New kind register) = refl
-  told_made (Print value) = refl
-  told_made End = refl
   told_made Rest = refl
+  told_made does = refl
 
   -- what becomes of the cell, and what is given out
   pub told_gone : (me : ℕ) (does : Move) → gone_by me c frame (told frame c turn place does) ≡ record { cell = cell_by me c frame turn place does; out = out_of does }
-  told_gone me (Post to letter) = refl
-  told_gone me (Mint owner things) = refl
-  told_gone me (New kind register) = refl
-  told_gone me (Print value) = refl
-  told_gone me End = refl
   told_gone me Rest = refl
+  told_gone me does = refl
 
   -- what is allowed of the turn is allowed of what is told
   pub told_can : (me : ℕ) (h : Holdings) (does : Move) → (let t = told frame c turn place does in CanMove me h t.turn t.act) → CanMove me h turn does
-  told_can me h (Post to letter) can = can
-  told_can me h (Mint owner things) can = can
-  told_can me h (New kind register) can = can
-  told_can me h (Print value) can = can
-  told_can me h End can = can
   told_can me h Rest can = tt
+  told_can me h does can = can
 
 -- where nothing but labels is left, the turn needs nothing
 rest_needs_nothing : (trace : Trace) (program : Program) (me : ℕ) (c : Cell) (frame : Frame) (end : ℕ) → rests_at program frame ≡ Some end → needed trace program me c frame ≡ None
