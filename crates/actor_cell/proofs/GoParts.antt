@@ -23,7 +23,7 @@ use Rattle.letter_kinds.specs.Counting.{Amount, Loaded, mint_all, mint_one, rais
 use Rattle.letter_kinds.specs.Holdings.{Holdings, Row, entry_row, with_made}
 use Rattle.machine_rules.specs.Actors.{Seat, push_letter, seat}
 use Rattle.machine_rules.specs.Cell.{Cell, fresh_cell, listed_objects, row_by_roots}
-use Rattle.machine_rules.specs.Go.{act_in, cell_after_turn, lacking_from, load_from, needed, needing, post_or_mint, rows_from, to_need, turn_in, turn_of_cell}
+use Rattle.machine_rules.specs.Go.{done_by, cell_after_turn, lacking_from, load_from, needed, needing, post_or_mint, rows_from, to_need, turn_in, turn_of_cell}
 use Rattle.machine_rules.specs.State.{State}
 use Rattle.actor_cell.specs.Moves.{Move}
 use Rattle.actor_cell.specs.Cells.{settled}
@@ -108,7 +108,7 @@ module _ (trace : Trace) (s : State) (a : ℕ) (c : Cell) (mail : List Letter) (
   abbrev newcomer : ℕ → Option Seat
   newcomer kind = seat (fresh_cell s.options.weight s.program kind) []
 
-  acts : (does : Act) → act_in trace s a c mail (stopped_at frame stop) stop does ≡ after_go s a c mail (gone_by a c frame (with_move (move_by trace s.options.weight a (having_made stop.turn.made c) does)))
+  acts : (does : Act) → done_by trace s a c mail (stopped_at frame stop) stop does ≡ after_go s a c mail (gone_by a c frame (with_move (move_by trace s.options.weight a (having_made stop.turn.made c) does)))
   acts act.End = λ i. Goes (record s {
     actors = set s.actors a (seat (cell_after_turn stop None true c) mail);
     notes = sym (append-nil s.notes) i;
@@ -143,7 +143,7 @@ module _ (trace : Trace) (s : State) (a : ℕ) (c : Cell) (mail : List Letter) (
         objects = none i;
       })
 
-  pub turned : (first : Option Thing) → needing s a c mail first (act_in trace s a c mail (stopped_at frame stop) stop stop.act)
+  pub turned : (first : Option Thing) → needing s a c mail first (done_by trace s a c mail (stopped_at frame stop) stop stop.act)
       ≡ after_go s a c mail (gone_by a c frame (turned_or_needs trace s.options.weight a c frame first stop))
   turned None = acts stop.act
   turned (Some x) = minted x

@@ -9,8 +9,8 @@ use Rattle.machine_rules.specs.Next.{next}
 use Rattle.machine_rules.specs.Run.{IsRun}
 use Rattle.machine_rules.specs.State.{State, first_state}
 use Rattle.machine_laws.proofs.StayingFreed.{split_leads}
-use Rattle.run_book.specs.Books.{BookValue}
-use Rattle.book_audit.specs.Verdicts.{IsARun, IsCause, IsRefuted, IsVerdict, SaysRun, options_of_book}
+use Rattle.run_book.specs.Books.{BookValue, options_of_book}
+use Rattle.book_audit.specs.Verdicts.{IsARun, IsCause, IsRefuted, IsVerdict, SaysRun}
 use Rattle.book_audit.specs.declared.auditing.Verdict.{Verdict}
 use Rattle.book_audit.specs.declared.auditing.Verdict.TheVariants.{Run, Not}
 

@@ -15,8 +15,8 @@ use Rattle.orca_parts.specs.declared.fault.StepFault.{StepFault}
 use Rattle.orca_parts.specs.declared.fault.StepFault.TheVariants as faults
 use Rattle.orca_core.proofs.Enabled.{with_none_away}
 use Rattle.orca_core.proofs.Reached.{leads_more}
-use Rattle.run_book.specs.Books.{BookValue}
-use Rattle.book_audit.specs.Verdicts.{IsCause, IsRefuted, options_of_book}
+use Rattle.run_book.specs.Books.{BookValue, options_of_book}
+use Rattle.book_audit.specs.Verdicts.{IsCause, IsRefuted}
 
 -- ---- what a fault says where no cell is away
 

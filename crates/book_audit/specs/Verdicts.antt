@@ -4,18 +4,12 @@ use Rattle.behaviour_code.specs.declared.code.Program.{Program}
 use Rattle.event_rule.specs.Runs.{IsFull, NotEnabled}
 use Rattle.event_rule.specs.declared.event.Event.{Event}
 use Rattle.machine_rules.specs.Next.{next}
-use Rattle.machine_rules.specs.Options.{Options}
 use Rattle.machine_rules.specs.Run.{IsRun}
 use Rattle.machine_rules.specs.State.{State}
 use Rattle.orca_core.specs.Machine.{Machine, NoneIsAway}
-use Rattle.orca_parts.specs.Parts.{options_of}
-use Rattle.run_book.specs.Books.{BookValue}
+use Rattle.run_book.specs.Books.{BookValue, options_of_book}
 use Rattle.book_audit.specs.declared.auditing.Verdict.{Verdict}
 use Rattle.book_audit.specs.declared.auditing.Verdict.TheVariants.{Run, Not}
-
--- the weight and the tracing of the book
-abbrev pub options_of_book : BookValue → Options
-options_of_book book = options_of book.weight book.trace
 
 -- the book is a run of the program, whatever state it leads to
 abbrev pub IsARun : Program → BookValue → Type 0

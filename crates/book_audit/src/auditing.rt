@@ -4,7 +4,8 @@ ghost use Rattle.std.specs.Prelude.{◌≡◌, ◌≤◌, ◌↔◌, ℕ, IfOk, 
 ghost use Rattle.orca_names.specs.declared.limits.TheConstants.{BOOK_LIMIT};
 ghost use Rattle.machine_rules.specs.State.{first_state};
 ghost use Rattle.orca_core.specs.Machine.{NoneIsAway};
-ghost use Rattle.book_audit.specs.Verdicts.{IsARun, IsAuditedRun, IsRefuted, IsVerdict, SaysRun, options_of_book};
+ghost use Rattle.book_audit.specs.Verdicts.{IsARun, IsAuditedRun, IsRefuted, IsVerdict, SaysRun};
+ghost use Rattle.run_book.specs.Books.{options_of_book};
 
 use behaviour_check::Checked;
 use orca_core::{Orca, StepFault};

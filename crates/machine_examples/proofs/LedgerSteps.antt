@@ -28,7 +28,7 @@ use Rattle.machine_rules.specs.Actors.{push_decs, push_letter, seat, seat_at}
 use Rattle.machine_rules.specs.Cell.{Cell, fresh_cell, row_by}
 use Rattle.machine_rules.specs.Collect.{after_collect, is_marked, is_marked_deep, without_unused, collect}
 use Rattle.machine_rules.specs.Detect.{acked_token}
-use Rattle.machine_rules.specs.Go.{act_in, load_from, needed, needing, mint, post_or_mint, rows_from, setting_of, turn_of_cell, cell_after_turn, go, turn_in}
+use Rattle.machine_rules.specs.Go.{done_by, load_from, needed, needing, mint, post_or_mint, rows_from, setting_of, turn_of_cell, cell_after_turn, go, turn_in}
 use Rattle.event_rule.specs.Runs.{Leads, Step, IsFull, Goes, NotEnabled}
 use Rattle.machine_rules.specs.Next.{next, acting}
 use Rattle.orca_names.specs.declared.trace.Trace.{Trace}
@@ -199,7 +199,7 @@ acted b a o frame stop (Post to behaviour args) =
     Some (post_or_mint_told b a o after stop to behaviour args load (rows_sent (traced b) a after args) (lacking_told a after.ledger load))
 
 act-follows : (b : Page) (a : ℕ) (o : Place) (frame : Frame) (stop : Stop) (act : Act)
-    → Follows (acted b a o frame stop act) (act_in (traced b) (state_told b) a (cell_told o) o.mail frame stop act)
+    → Follows (acted b a o frame stop act) (done_by (traced b) (state_told b) a (cell_told o) o.mail frame stop act)
 act-follows b a o frame stop End =
     ap (λ actors. Goes (record (state_told b) { actors = actors; objects = b.state.objects + length stop.turn.made }))
     (set-told b.places a _ (Some (place_turned stop None true o)) (ap (λ c. seat c o.mail) (turned-told stop None true o)))
@@ -304,10 +304,10 @@ go-follows b a o (Some frame) =
     let found = needed_told (traced b) b.state.program a o frame in
     let page = acted b a o (stopped_at frame stop) stop stop.act in
     subst (λ (s : Stop). Follows (needing_told b a o found page)
-    (needing (state_told b) a (cell_told o) o.mail (needed (traced b) b.state.program a (cell_told o) frame) (act_in (traced b) (state_told b) a (cell_told o) o.mail (stopped_at frame s) s s.act)))
+    (needing (state_told b) a (cell_told o) o.mail (needed (traced b) b.state.program a (cell_told o) frame) (done_by (traced b) (state_told b) a (cell_told o) o.mail (stopped_at frame s) s s.act)))
     (sym (turn-told (traced b) b.state.program a o frame))
     (subst (λ (f : Option Thing). Follows (needing_told b a o found page)
-    (needing (state_told b) a (cell_told o) o.mail f (act_in (traced b) (state_told b) a (cell_told o) o.mail (stopped_at frame stop) stop stop.act)))
+    (needing (state_told b) a (cell_told o) o.mail f (done_by (traced b) (state_told b) a (cell_told o) o.mail (stopped_at frame stop) stop stop.act)))
     (sym (needed-told (traced b) b.state.program a o frame))
     (need-follows b a o found page _ (act-follows b a o (stopped_at frame stop) stop stop.act)))
 

@@ -21,7 +21,7 @@ use Rattle.machine_rules.specs.Cell.{Cell}
 use Rattle.machine_rules.specs.Collect.{collect}
 use Rattle.machine_rules.specs.Detect.{acked_token, hear, reap, scan}
 use Rattle.machine_rules.specs.Enabled.{CanHappen, IsPresentWith, IsRefusedAsFull}
-use Rattle.machine_rules.specs.Go.{act_in, go, needed, needing, turn_in, turn_of_cell}
+use Rattle.machine_rules.specs.Go.{done_by, go, needed, needing, turn_in, turn_of_cell}
 use Rattle.machine_rules.specs.Guards.{may_block, may_collect, may_go, may_leave, may_take}
 use Rattle.machine_rules.specs.Laws.{EnabledExactly, FullExactly}
 use Rattle.machine_rules.specs.Leave.{leave}
@@ -67,7 +67,7 @@ room_enables : (t : State) (room : Bool) → (if room then Goes t else IsFull) �
 room_enables t true e = cc
 room_enables t false e = cc
 
-act_enables : (trace : Trace) (s : State) (a : ℕ) (c : Cell) (mail : List Letter) (f : Frame) (stop : Stop) (act : Act) → act_in trace s a c mail f stop act ≢ NotEnabled
+act_enables : (trace : Trace) (s : State) (a : ℕ) (c : Cell) (mail : List Letter) (f : Frame) (stop : Stop) (act : Act) → done_by trace s a c mail f stop act ≢ NotEnabled
 act_enables trace s a c mail f stop End e = cc
 act_enables trace s a c mail f stop (Print v) e = cc
 act_enables trace s a c mail f stop (New kind register) e = room_enables _ (nat_lt (length s.actors) 65536) e
@@ -78,7 +78,7 @@ take_enables s a c [] some e = some refl
 take_enables s a c (l ∷ mail) some e = cc
 
 turn_enables : (trace : Trace) (s : State) (a : ℕ) (c : Cell) (mail : List Letter) (f : Frame) (need : Option Thing)
-    → needing s a c mail need (act_in trace s a c mail (stopped_at f (turn_of_cell trace s.program a c f)) (turn_of_cell trace s.program a c f) (turn_of_cell trace s.program a c f).act) ≢ NotEnabled
+    → needing s a c mail need (done_by trace s a c mail (stopped_at f (turn_of_cell trace s.program a c f)) (turn_of_cell trace s.program a c f) (turn_of_cell trace s.program a c f).act) ≢ NotEnabled
 turn_enables trace s a c mail f None e = let stop = turn_of_cell trace s.program a c f in act_enables trace s a c mail (stopped_at f stop) stop stop.act e
 turn_enables trace s a c mail f (Some x) e = cc
 
@@ -128,7 +128,7 @@ module _ (s : State) (a : ℕ) (c : Cell) (mail : List Letter) (at : seat_at s.a
   abbrev stop : Stop
   stop = turn_of_cell trace s.program a c f
 
-  full_act : (act : Act) → needed trace s.program a c f ≡ None → stop.act ≡ act → act_in trace s a c mail (stopped_at f stop) stop act ≡ IsFull → IsRefusedAsFull s (Go a)
+  full_act : (act : Act) → needed trace s.program a c f ≡ None → stop.act ≡ act → done_by trace s a c mail (stopped_at f stop) stop act ≡ IsFull → IsRefusedAsFull s (Go a)
   full_act End held is e = cc
   full_act (Print v) held is e = cc
   full_act (Post to behaviour args) held is e = cc
@@ -147,7 +147,7 @@ module _ (s : State) (a : ℕ) (c : Cell) (mail : List Letter) (at : seat_at s.a
     made = room_left _ (length s.actors) e;
   }
 
-  full_turn : (need : Option Thing) → needed trace s.program a c f ≡ need → needing s a c mail need (act_in trace s a c mail (stopped_at f stop) stop stop.act) ≡ IsFull → IsRefusedAsFull s (Go a)
+  full_turn : (need : Option Thing) → needed trace s.program a c f ≡ need → needing s a c mail need (done_by trace s a c mail (stopped_at f stop) stop stop.act) ≡ IsFull → IsRefusedAsFull s (Go a)
   full_turn None held e = full_act stop.act held refl e
   full_turn (Some x) is e = cc
 
@@ -157,8 +157,8 @@ module _ (s : State) (a : ℕ) (c : Cell) (mail : List Letter) (at : seat_at s.a
   refused : (kind register : ℕ) → needed trace s.program a c f ≡ None → stop.act ≡ New kind register → 65536 ≤ length s.actors → go trace s a c mail ≡ IsFull
   refused kind register held makes from =
       ap (λ g. option_map_or (turn_in trace s a c mail) g NotEnabled) framed_so
-      ∙ ap (λ need. needing s a c mail need (act_in trace s a c mail (stopped_at f stop) stop stop.act)) held
-      ∙ ap (act_in trace s a c mail (stopped_at f stop) stop) makes ∙ no_room _ (length s.actors) from
+      ∙ ap (λ need. needing s a c mail need (done_by trace s a c mail (stopped_at f stop) stop stop.act)) held
+      ∙ ap (done_by trace s a c mail (stopped_at f stop) stop) makes ∙ no_room _ (length s.actors) from
 
 -- ---- none but a go
 

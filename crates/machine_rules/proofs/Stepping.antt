@@ -22,7 +22,7 @@ use Rattle.machine_rules.specs.Block.{block}
 use Rattle.machine_rules.specs.Cell.{Cell, fresh_cell}
 use Rattle.machine_rules.specs.Collect.{collect}
 use Rattle.machine_rules.specs.Detect.{acked_token, hear, reap, scan}
-use Rattle.machine_rules.specs.Go.{act_in, go, lacking_from, load_from, make, needed, needing, post_or_mint, rows_from, turn_in, turn_of_cell, with_turn_kept}
+use Rattle.machine_rules.specs.Go.{done_by, go, lacking_from, load_from, make, needed, needing, post_or_mint, rows_from, turn_in, turn_of_cell, with_turn_kept}
 use Rattle.machine_rules.specs.Guards.{may_block, may_collect, may_go, may_leave, may_take}
 use Rattle.machine_rules.specs.Leave.{leave}
 use Rattle.machine_rules.specs.Next.{acting, next, next_by}
@@ -71,14 +71,14 @@ module _ (trace : Trace) (s t : State) where
         arrived (Go a) _ e (makes a c mail f kind register (record { going = going; held = held; stop = is }) (ltb-true (length s.actors) 65536 room))
     on_new kind register is false full e = absurd (not_full t e)
 
-    on_act : (act : Act) → stop.act ≡ act → act_in trace s a c mail (later_frame trace s a c f) stop act ≡ Goes t → Steps (Go a) t
+    on_act : (act : Act) → stop.act ≡ act → done_by trace s a c mail (later_frame trace s a c f) stop act ≡ Goes t → Steps (Go a) t
     on_act End is e = arrived (Go a) _ e (ends a c mail f (record { going = going; held = held; stop = is }))
     on_act (Print v) is e = arrived (Go a) _ e (prints a c mail f v (record { going = going; held = held; stop = is }))
     on_act (New kind register) is e = on_new kind register is (nat_lt (length s.actors) 65536) refl e
     on_act (Post to behaviour args) is e = arrived (Go a) _ e (on_post to behaviour args is (lacking_from trace a after.holdings args) refl)
 
   on_turn : (a : ℕ) (c : Cell) (mail : List Letter) (f : Frame) → IsGoing s a c mail f → (found : Option Thing) → needed trace s.program a c f ≡ found
-      → needing s a c mail found (act_in trace s a c mail (later_frame trace s a c f) (turn_of_cell trace s.program a c f) (turn_of_cell trace s.program a c f).act) ≡ Goes t → Steps (Go a) t
+      → needing s a c mail found (done_by trace s a c mail (later_frame trace s a c f) (turn_of_cell trace s.program a c f) (turn_of_cell trace s.program a c f).act) ≡ Goes t → Steps (Go a) t
   on_turn a c mail f going None held e = on_act a c mail f going held (turn_of_cell trace s.program a c f).act refl e
   on_turn a c mail f going (Some x) need e = arrived (Go a) _ e (gets a c mail f x going need)
 

@@ -120,10 +120,11 @@ post_or_mint s a before after mail stop to behaviour args load rows (e ∷ lacke
           (to_mint s.options.weight (owner_of e.0) (e ∷ lacked)) s.actors;
     }
 
-abbrev pub act_in : Trace → State → ℕ → Cell → List Letter → Frame → Stop → Act → Step State
-act_in trace s a c mail frame stop End =
+-- the state after what the turn does where it stops
+abbrev pub done_by : Trace → State → ℕ → Cell → List Letter → Frame → Stop → Act → Step State
+done_by trace s a c mail frame stop End =
     Goes (with_turn_kept s stop (set s.actors a (seat (cell_after_turn stop None true c) mail)))
-act_in trace s a c mail frame stop (Print value) =
+done_by trace s a c mail frame stop (Print value) =
     Goes (record
     (with_turn_kept s stop
     (set s.actors a
@@ -131,7 +132,7 @@ act_in trace s a c mail frame stop (Print value) =
       prints = s.prints ++ value
           ∷ [];
     })
-act_in trace s a c mail frame stop (New kind register) =
+done_by trace s a c mail frame stop (New kind register) =
     if nat_lt (length s.actors) ACTORS_LIMIT
     then Goes
     (with_turn_kept s stop
@@ -139,7 +140,7 @@ act_in trace s a c mail frame stop (New kind register) =
     (cell_after_turn stop (Some (with_name frame register (length s.actors))) c.dirty c) mail
     (fresh_cell s.options.weight s.program kind) s.actors))
     else IsFull
-act_in trace s a c mail frame stop (Post to behaviour args) =
+done_by trace s a c mail frame stop (Post to behaviour args) =
     let after = cell_after_turn stop (Some frame) c.dirty c in
     Goes (post_or_mint s a c after mail stop to behaviour args
     (load_from trace a after.holdings args) (rows_from trace a after args)
@@ -160,7 +161,7 @@ abbrev pub turn_in : Trace → State → ℕ → Cell → List Letter → Frame 
 turn_in trace s a c mail frame =
     let stop = turn_of_cell trace s.program a c frame in
     needing s a c mail (needed trace s.program a c frame)
-    (act_in trace s a c mail (stopped_at frame stop) stop stop.act)
+    (done_by trace s a c mail (stopped_at frame stop) stop stop.act)
 
 -- the actor goes on in its frame
 abbrev pub go : Trace → State → ℕ → Cell → List Letter → Step State

@@ -8,6 +8,7 @@ mod kept_report;
 mod limits;
 mod memory;
 mod names;
+mod options;
 mod parting;
 mod reader;
 mod reason;
@@ -24,6 +25,7 @@ pub use limits::{
 };
 pub use memory::NoMemory;
 pub use names::{ActorName, ObjName, Serial, Thing, Value};
+pub use options::Options;
 pub use parting::Parting;
 pub use reader::{Reading, RowReader};
 pub use reason::{Edge, Reason, Why};

@@ -2,11 +2,11 @@
 use Rattle.std.proofs.Common.{◌≡◌, ◌⊎◌, inl, inr, ℕ, List, [], Some, None, refl, sym, subst, arith}
 use Rattle.std.specs.declared.option.Option.{Option}
 use Rattle.std.proofs.KnownBytes.{Appends-nil, Consumes-nil}
-use Rattle.run_book.specs.Books.{BookValue}
+use Rattle.run_book.specs.Books.{BookValue, options_of_book}
 use Rattle.run_book.specs.Reading.{IsBookText}
 use Rattle.machine_rules.specs.Run.{IsRun}
 use Rattle.orca_core.specs.Machine.{Machine}
-use Rattle.book_audit.specs.Verdicts.{IsRefuted, IsVerdict, options_of_book}
+use Rattle.book_audit.specs.Verdicts.{IsRefuted, IsVerdict}
 use Rattle.book_audit.specs.declared.auditing.Verdict.{Verdict}
 use Rattle.book_audit.specs.declared.auditing.Verdict.TheVariants as verdicts
 use Rattle.report_text.specs.declared.status.Status.{Status}

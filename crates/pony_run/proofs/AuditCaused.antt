@@ -1,7 +1,7 @@
 -- When each answer to an audit comes, from the promise of the call.
 use Rattle.std.proofs.Common.{◌≡◌, ◌⊎◌, inl, inr, ℕ, ◌<◌, ◌≤◌, List, length, sym, ap, ap₂, ◌∙◌, subst, arith}
 use Rattle.event_rule.specs.declared.event.Event.{Event}
-use Rattle.run_book.specs.Books.{BookValue}
+use Rattle.run_book.specs.Books.{BookValue, options_of_book}
 use Rattle.run_book.specs.Reading.{AreAlike, IsBookText, IsFirstFault}
 use Rattle.run_book.specs.Splits.{IsSplit}
 use Rattle.run_book.proofs.Alike.{one_book}
@@ -18,7 +18,7 @@ use Rattle.behaviour_check.specs.Rules.{first_broken}
 use Rattle.machine_rules.specs.Options.{Options}
 use Rattle.machine_rules.specs.Run.{IsRun}
 use Rattle.orca_parts.specs.Parts.{options_of}
-use Rattle.book_audit.specs.Verdicts.{IsARun, IsRefuted, options_of_book}
+use Rattle.book_audit.specs.Verdicts.{IsARun, IsRefuted}
 use Rattle.book_audit.specs.declared.auditing.Verdict.TheVariants.{Not}
 use Rattle.book_audit.proofs.Exactly.{refuted_exactly, run_exactly}
 use Rattle.pony_run.specs.Causes.{AuditCauses, IsGiven, IsGivenAudit, IsOfAudit, IsUnlessMemory}

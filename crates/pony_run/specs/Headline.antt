@@ -17,7 +17,7 @@ use Rattle.orca_names.specs.declared.tally.Sums.{Sums}
 use Rattle.orca_names.specs.declared.trace.Trace.TheVariants.{Deep, Roots}
 use Rattle.event_rule.specs.Runs.{ActorsFull, Budget, EndsAs, IsQuiet, LeadsInOrder, Quiet}
 use Rattle.event_rule.specs.declared.event.Event.{Event}
-use Rattle.run_book.specs.Books.{BookValue}
+use Rattle.run_book.specs.Books.{BookValue, options_of_book}
 use Rattle.run_book.specs.Reading.{IsBookText}
 use Rattle.run_book.specs.Splits.{IsSplit}
 use Rattle.report_text.specs.Refusals.{refusal_of}
@@ -41,7 +41,7 @@ use Rattle.machine_rules.specs.Run.{IsPlainBeside, IsRun}
 use Rattle.machine_rules.specs.State.{State, first_state}
 use Rattle.count_laws.specs.TracedByRoots.{AreTracedByRoots}
 use Rattle.machine_laws.specs.Laws.{IsNeverTooEarly, IsLeftExactly}
-use Rattle.book_audit.specs.Verdicts.{IsRefuted, options_of_book}
+use Rattle.book_audit.specs.Verdicts.{IsRefuted}
 use Rattle.count_ledger.specs.Tally.{IsTally}
 use Rattle.why_path.specs.Checks.{HoldsUp, is_loose}
 use Rattle.why_path.specs.Laws.{IsKeptIn}

@@ -1,11 +1,11 @@
 // A book is audited against a program, and what it proves to be is written.
 
+ghost use Rattle.run_book.specs.Books.{options_of_book};
 ghost use Rattle.std.specs.Prelude.{◌≡◌, ◌≤◌, length};
 ghost use Rattle.orca_names.specs.declared.limits.TheConstants.{BOOK_LIMIT};
 ghost use Rattle.behaviour_code.specs.declared.code.Program.{Program};
 ghost use Rattle.machine_rules.specs.Run.{IsRun};
 ghost use Rattle.orca_core.specs.Machine.{NoneIsAway};
-ghost use Rattle.book_audit.specs.Verdicts.{options_of_book};
 ghost use Rattle.pony_run.specs.Inner.{AuditAnswers, WritesAudit};
 ghost use Rattle.job_input.specs.Streams.{sides};
 

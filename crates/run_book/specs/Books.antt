@@ -2,6 +2,7 @@
 use Rattle.std.specs.Prelude.{ℕ, List, [], ◌++◌, codes, ◌≤◌}
 use Rattle.std.specs.Fmt.{decimal}
 use Rattle.std.specs.List.{flat_map}
+use Rattle.orca_names.specs.declared.options.Options.{Options}
 use Rattle.orca_names.specs.declared.trace.Trace.{Trace}
 use Rattle.orca_names.specs.declared.trace.Trace.TheVariants.{Deep, Roots}
 use Rattle.event_rule.specs.declared.event.Event.{Event}
@@ -14,6 +15,10 @@ pub record BookValue : Type 0 where
   pub spare : ℕ
   pub weight : ℕ
   pub trace : Trace
+
+-- the weight and the tracing of the book
+abbrev pub options_of_book : BookValue → Options
+options_of_book book = record { weight = book.weight; trace = book.trace }
 
 -- a weight that a run may have
 abbrev pub IsWeight : ℕ → Type 0

@@ -28,7 +28,7 @@ use Rattle.machine_rules.specs.Block.{held_actors, block}
 use Rattle.machine_rules.specs.Cell.{Cell, fresh_cell}
 use Rattle.machine_rules.specs.Collect.{is_marked, without_unused, collect}
 use Rattle.machine_rules.specs.Detect.{ask_all, empty_seats, held_outside, reap_decs, reap_members, acked_token, hear, reap, scan}
-use Rattle.machine_rules.specs.Go.{act_in, needed, needing, post_or_mint, turn_of_cell, cell_after_turn, with_turn_kept, go, turn_in}
+use Rattle.machine_rules.specs.Go.{done_by, needed, needing, post_or_mint, turn_of_cell, cell_after_turn, with_turn_kept, go, turn_in}
 use Rattle.orca_names.specs.declared.trace.Trace.{Trace}
 use Rattle.event_rule.specs.Runs.{Step, IsFull, Goes, NotEnabled}
 use Rattle.plain_rules.specs.Machine.{stopped_at, with_name}
@@ -179,7 +179,7 @@ module _ (a : ℕ) (c : Cell) where
           ap (λ actors. Goes (with_turn_kept s stop (actors ++ fresh ∷ []))) (put_set s.actors b maker not)
           ∙ ap (λ actors. Goes (with_turn_kept s stop actors)) (put_more (set s.actors b maker) fresh (let l = length-set s.actors b maker in omega arith))
 
-      act_away : (act : Act) → act_in trace away b d mail f stop act ≡ step_with_cell a c (act_in trace s b d mail f stop act)
+      act_away : (act : Act) → done_by trace away b d mail f stop act ≡ step_with_cell a c (done_by trace s b d mail f stop act)
       act_away End = ap (λ actors. Goes (with_turn_kept s stop actors)) (put_set s.actors b _ not)
       act_away (Print v) = ap (λ actors. Goes (record (with_turn_kept s stop actors) { prints = s.prints ++ v ∷ [] })) (put_set s.actors b _ not)
       act_away (New kind register) =

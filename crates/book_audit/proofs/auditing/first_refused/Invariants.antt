@@ -1,7 +1,7 @@
+use Rattle.run_book.specs.Books.{options_of_book}
 use Rattle.std.proofs.Common.{◌≡◌, take}
 use Rattle.machine_rules.specs.Run.{IsRun}
 use Rattle.orca_core.specs.Machine.{NoneIsAway}
-use Rattle.book_audit.specs.Verdicts.{options_of_book}
 use Rattle.book_audit.proofs.auditing.first_refused.Given as goal
 
 abbrev pub invariant-loop-place : goal.invariant-loop-place
