@@ -1,21 +1,24 @@
 -- One place of the table changes.
 use Rattle.std.proofs.Common.{◌≡◌, ℕ, zero, suc, ◌+◌, ◌-◌, ◌<◌, ◌≤◌, inl, inr, Bool, true, false, List, [], ◌∷◌, ◌++◌, length, length-append, get_or, set, Option, Some, None, refl, sym, ap, subst, ◌∙◌, arith}
-use Rattle.std.specs.Prelude.{◌&&◌, if◌then◌else◌, is_some, not, IfNone, IfSome}
+use Rattle.std.specs.Prelude.{◌&&◌, if◌then◌else◌, is_some, not, IsSomeAnd}
 use Rattle.std.specs.Option.{option_map_or}
 use Rattle.std.proofs.lemmas.Bool.{cases_eq, cases_lt, or_left}
 use Rattle.std.proofs.lemmas.List.{get_or-append_right, get_or-map, get_or_append_left, get_or_default, get_or-set_same, get_or-set_other, get_or_past, length-map, length-set, map-set, set_past}
+use Rattle.std.proofs.Math.ListN as lists
 use Rattle.std.proofs.Math.Seq.{map-set_same}
 use Rattle.orca_names.specs.declared.limits.TheConstants.{ACTORS_LIMIT}
 use Rattle.letter_kinds.specs.declared.letter.Letter.{Letter}
 use Rattle.machine_rules.specs.Actors.{Actors, Seat, push_letter, seat_at, with_letter_more}
 use Rattle.machine_rules.specs.Guards.{may_go}
 use Rattle.actor_cell.specs.declared.cell.Cell.{Cell}
+use Rattle.actor_table.specs.declared.change.Change.{Change}
+use Rattle.actor_table.specs.declared.change.Change.TheVariants.{Take, Go, Collect, Block}
 use Rattle.actor_table.specs.declared.slot.Slot.{Slot}
 use Rattle.actor_table.specs.declared.slot.Place.{Place}
 use Rattle.actor_table.specs.declared.slot.Place.TheVariants.{Home, Away, Gone}
-use Rattle.actor_table.specs.Changes.{IsChangedAt, KeepsRoom}
+use Rattle.actor_table.specs.Changes.{CanChange, IsChangedAt, KeepsRoom, is_go}
 use Rattle.actor_table.specs.Index.{IsIndex}
-use Rattle.actor_table.specs.Slots.{AreIndexed, IsOwnedBy, actors_of, away_of, can_act, can_settle, gone, is_away, is_away_in, letters_in, may_at, may_in, places_of, seat_in, seat_of, settles, slot_at, acts}
+use Rattle.actor_table.specs.Slots.{AreIndexed, IsOwnedBy, actors_of, away_of, can_act, can_settle, gone, home_in, home_of, is_away, is_away_in, letters_in, may_at, may_in, places_of, seat_in, seat_of, settles, slot_at, acts}
 use Rattle.actor_table.proofs.Indexing.{index_push, index_set, same_index}
 
 -- an actor's seat is that of its place
@@ -46,10 +49,10 @@ pub away_set : (slots : List Slot) (a : ℕ) (x : Slot) (b : Bool) → is_away x
 away_set slots a x b is = map-set is_away slots a x ∙ ap (set (away_of slots) a) is
 
 -- where a cell was lent it is away
-pub away_lent : (slots : List Slot) (a : ℕ) (old x : Slot) (lent : Option Cell) → old ≡ slot_at slots a → IfSome lent (λ _. is_away x ≡ true) → IfNone lent (is_away x ≡ is_away old)
+pub away_lent : (slots : List Slot) (a : ℕ) (old x : Slot) (lent : Option Cell) → old ≡ slot_at slots a → is_away x ≡ (if is_some lent then true else is_away old)
     → away_of (set slots a x) ≡ (if is_some lent then set (away_of slots) a true else away_of slots)
-away_lent slots a old x (Some cell) read away home = away_set slots a x true away
-away_lent slots a old x None read away home = away_kept slots a x (home ∙ ap is_away read)
+away_lent slots a old x (Some cell) read away = away_set slots a x true away
+away_lent slots a old x None read away = away_kept slots a x (away ∙ ap is_away read)
 
 owned_set : (slots : List Slot) (a : ℕ) (x : Slot) → ((b : ℕ) → IsOwnedBy b (slot_at slots b).place) → a < length slots → IsOwnedBy a x.place → (b : ℕ) → IsOwnedBy b (slot_at (set slots a x) b).place
 owned_set slots a x owned h own b = elim (cases_eq b a) as (λ _. IsOwnedBy b (slot_at (set slots a x) b).place) [
@@ -92,6 +95,12 @@ changed_by slots a old x h read own =
           (own a (subst (λ (y : Slot). IsOwnedBy a y.place) (sym (read ∙ get_or_default slots a old gone h)) was));
     }
 
+-- a cell at home that allows a change is its actor's
+pub change_here : (a : ℕ) (change : Change) (x : Slot) → IsOwnedBy a x.place → CanChange a change x → IsSomeAnd (home_of x) (λ c. CanChange c.heap.owner change x)
+change_here a change x own can =
+    subst (λ p. IsSomeAnd (home_in p) (λ c. CanChange c.heap.owner change x)) (sym can.home)
+    (subst (λ me. CanChange me change x) (sym (subst (IsOwnedBy a) can.home own)) can)
+
 -- the indexes follow it
 pub bits_follow : (old new : List Slot) (acting settling acting_after settling_after : List Bool) (a : ℕ) (x : Slot) (acts settles : Bool) → AreIndexed old acting settling → IsChangedAt a old new
     → a < length new → x ≡ get_or new a x → acts ≡ can_act x → settles ≡ can_settle x
@@ -103,12 +112,16 @@ bits_follow old new acting settling acting_after settling_after a x acts settles
     (indexed_set old acting settling acting_after settling_after a (slot_at new a) all changed.within (changed.owned (all.owned a))
     (one ∙ ap (set acting a) (act ∙ ap can_act is)) (two ∙ ap (set settling a) (settle ∙ ap can_settle is)))
 
+pub away_read : (slots : List Slot) (a : ℕ) → get_or (away_of slots) a false ≡ is_away (slot_at slots a)
+away_read slots a = lists.get_or-map is_away slots a gone
+
 -- a change that the indexes don't tell
 pub index_stays : (old new : List Slot) (acting settling : List Bool) (a : ℕ) → AreIndexed old acting settling → IsChangedAt a old new
-    → seat_of (slot_at new a) ≡ seat_of (slot_at old a) → is_away (slot_at new a) ≡ is_away (slot_at old a)
-    → AreIndexed new acting settling
-index_stays old new acting settling a all changed same away =
+    → actors_of new ≡ actors_of old → away_of new ≡ away_of old → AreIndexed new acting settling
+index_stays old new acting settling a all changed actors aways =
     let x = slot_at new a in
+    let same : seat_of x ≡ seat_of (slot_at old a) = sym (seat_read new a) ∙ ap (λ xs. seat_at xs a) actors ∙ seat_read old a in
+    let away : is_away x ≡ is_away (slot_at old a) = sym (away_read new a) ∙ ap (λ bs. get_or bs a false) aways ∙ away_read old a in
     let act : can_act x ≡ can_act (slot_at old a) = ap (λ b. not b && option_map_or acts (seat_of x) false) away ∙ ap (λ o. not (is_away (slot_at old a)) && option_map_or acts o false) same in
     let settle : can_settle x ≡ can_settle (slot_at old a) = ap (λ b. not b && option_map_or settles (seat_of x) false) away ∙ ap (λ o. not (is_away (slot_at old a)) && option_map_or settles o false) same in
     subst (λ xs. AreIndexed xs acting settling) (sym changed.others) (record {
@@ -128,14 +141,21 @@ going x = elim x.place as (λ (p : Place). may_in may_go p x.mail.letters ≡ tr
       | Gone ↦ λ e. cc
     ]
 
+-- who may do what its turn found has a behaviour that runs
+running : (a : ℕ) (change : Change) (x : Slot) → CanChange a change x → is_go change ≡ true → may_at may_go x ≡ true
+running a (Go turn found name weight) x can goes = ap (λ p. may_in may_go p x.mail.letters) can.home ∙ can.so.running
+running a Take x can goes = cc
+running a (Collect found trace) x can goes = cc
+running a Block x can goes = cc
+
 -- a turn that goes on changes no index
-pub bits_stay : (old new : List Slot) (acting settling : List Bool) (a : ℕ) (x : Slot) → AreIndexed old acting settling → IsChangedAt a old new
-    → may_at may_go (slot_at old a) ≡ true → a < length new → x ≡ get_or new a x → (goes : Bool) → goes ≡ may_at may_go x → goes ≡ true
+pub bits_stay : (old new : List Slot) (acting settling : List Bool) (a : ℕ) (change : Change) (x : Slot) → AreIndexed old acting settling → IsChangedAt a old new
+    → CanChange a change (slot_at old a) → is_go change ≡ true → a < length new → x ≡ get_or new a x → may_at may_go x ≡ true
     → AreIndexed new acting settling
-bits_stay old new acting settling a x all changed before h read goes told after =
+bits_stay old new acting settling a change x all changed can step h read after =
     let here : x ≡ slot_at new a = read ∙ get_or_default new a x gone h in
-    let was = going (slot_at old a) before in
-    let is = subst (λ y. (can_act y ≡ true) × (can_settle y ≡ true)) here (going x (sym told ∙ after)) in
+    let was = going (slot_at old a) (running a change (slot_at old a) can step) in
+    let is = subst (λ y. (can_act y ≡ true) × (can_settle y ≡ true)) here (going x after) in
     let y = slot_at new a in
     subst (λ xs. AreIndexed xs acting settling) (sym changed.others) (record {
       owned = owned_set old a y all.owned changed.within (changed.owned (all.owned a));

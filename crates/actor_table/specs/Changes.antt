@@ -1,27 +1,28 @@
 -- What becomes of an actor by its part of an event, and when this can be done at its place.
-use Rattle.std.specs.Prelude.{ℕ, ◌≡◌, ◌≤◌, ◌+◌, ◌<◌, ◌^◌, true, if◌then◌else◌, List, [], ◌∷◌, Option, None, Some, IsSome, length, option_map, set}
+use Rattle.std.specs.Prelude.{ℕ, ◌≡◌, ◌≤◌, ◌+◌, ◌<◌, ◌^◌, ⊤, Bool, true, false, if◌then◌else◌, List, [], ◌∷◌, Option, None, Some, IsSome, length, option_map, set, vec_capacity, vec_len}
+use Rattle.std.specs.Global.{Vec}
 use Rattle.std.specs.Option.{option_map_or}
-use Rattle.std.specs.FinMap as m
 use Rattle.orca_names.specs.declared.names.Thing.TheVariants.{Actor}
 use Rattle.behaviour_code.specs.declared.code.Program.{Program}
 use Rattle.turn_rules.specs.Segment.{Turn}
 use Rattle.foreign_table.specs.Table.{count_on}
 use Rattle.letter_kinds.specs.declared.letter.Letter.{Letter}
 use Rattle.letter_kinds.specs.declared.note.Note.{Note}
-use Rattle.actor_cell.specs.declared.sweeping.Sweep.{Sweep}
-use Rattle.actor_cell.specs.Sweeps.{IsSweep}
+use Rattle.actor_cell.specs.Sweeps.{sweep_of, swept}
 use Rattle.machine_rules.specs.Actors.{Actors, Seat, seat_at, seat}
 use Rattle.machine_rules.specs.Cell as rules
 use Rattle.machine_rules.specs.Take.{cell_after, note_of}
 use Rattle.actor_cell.specs.declared.cell.Cell.{Cell}
-use Rattle.actor_cell.specs.Moves.{Move}
-use Rattle.actor_cell.specs.Cells.{as_cell}
-use Rattle.actor_cell.specs.Goes.{CanMove, cell_by, new_entries}
+use Rattle.actor_cell.specs.Moves.{Move, New, act_in}
+use Rattle.actor_cell.specs.Cells.{as_cell, settled}
+use Rattle.actor_cell.specs.Goes.{CanMove, cell_by, new_entries, out_of}
 use Rattle.actor_cell.specs.Takes.{CanTake, HasRoomFor}
 use Rattle.ref_weights.specs.Limit.{count_limit}
+use Rattle.actor_table.specs.declared.change.Change.{Change}
+use Rattle.actor_table.specs.declared.change.Change.TheVariants.{Take, Go, Collect, Block}
 use Rattle.actor_table.specs.declared.slot.Slot.{Slot}
 use Rattle.actor_table.specs.declared.slot.Place.TheVariants.{Home}
-use Rattle.actor_table.specs.Slots.{IsOwnedBy, slot_at}
+use Rattle.actor_table.specs.Slots.{IsOwnedBy, Table, away_of, is_away, slot_at}
 
 -- ---- what becomes of its seat
 
@@ -55,9 +56,28 @@ with_cell_by change actor = option_map (λ (o : Seat). record o { cell = change 
 abbrev pub moved : ℕ → Turn → ℕ → Move → rules.Cell → rules.Cell
 moved a turn place act c = option_map_or (λ frame. cell_by a c frame turn place act) c.frame c
 
+-- the actor that was made gets its name; other acts make none
+abbrev pub named : ℕ → ℕ → Move → rules.Cell → rules.Cell
+named weight name (New kind register) c = settled weight register name c
+named weight name act c = c
+
 -- it reported
 abbrev pub told : rules.Cell → rules.Cell
 told c = record c { reported = true }
+
+-- the actor's seat after the change
+abbrev pub seat_after : Program → ℕ → Change → Option Seat → Option Seat
+seat_after program a Take = taken program a
+seat_after program a (Go turn found name weight) =
+    let act = act_in found.now in
+    with_cell_by (λ c. named weight name act (moved a turn.now found.now.place act c))
+seat_after program a (Collect found trace) = with_cell_by (swept trace a)
+seat_after program a Block = with_cell_by told
+
+-- it is a step of a turn
+abbrev pub is_go : Change → Bool
+is_go (Go turn found name weight) = true
+is_go change = false
 
 -- ---- when that can be done
 
@@ -68,56 +88,74 @@ pub record HasCell (x : Slot) (Q : Cell → Type 0) : Type 0 where
   pub so : Q cell
 
 -- it is idle and has a letter, its counts allow what the letter does, and there is room for it
-pub record CanTakeHere (a : ℕ) (x : Slot) : Type 0 where
-  pub cell : Cell
-  pub home : x.place ≡ Home cell
+pub record CanTakeFirst (a : ℕ) (letters : List Letter) (c : Cell) : Type 0 where
   pub letter : Letter
   pub later : List Letter
-  pub letters : x.mail.letters ≡ letter ∷ later
-  pub idle : cell.frame ≡ None
-  pub can : CanTake a letter (as_cell cell).holdings
-  pub room : HasRoomFor letter cell.foreign.spare cell.known.spare
+  pub first : letters ≡ letter ∷ later
+  pub idle : c.frame ≡ None
+  pub can : CanTake a letter (as_cell c).holdings
+  pub room : HasRoomFor letter c.foreign.spare c.known.spare
 
--- it has a frame, its counts allow what was found of its turn, and there is room for it
-pub record CanGoHere (a : ℕ) (turn : Turn) (act : Move) (x : Slot) : Type 0 where
-  pub cell : Cell
-  pub home : x.place ≡ Home cell
-  pub running : IsSome cell.frame
-  pub can : CanMove a (as_cell cell).holdings turn act
-  pub objects : length turn.made ≤ cell.heap.spare
-  pub entries : new_entries act cell.foreign.entries ≤ cell.foreign.spare
-  pub serials : cell.heap.next + length turn.made < 2 ^ 64
+-- it has a frame, its counts allow what was found of its turn, also to hold an actor that this makes,
+-- and there is room for it
+pub record CanGoOn (a weight name : ℕ) (turn : Turn) (act : Move) (c : Cell) : Type 0 where
+  pub running : IsSome c.frame
+  pub can : CanMove a (as_cell c).holdings turn act
+  pub objects : length turn.made ≤ c.heap.spare
+  pub entries : new_entries act c.foreign.entries ≤ c.foreign.spare
+  pub serials : c.heap.next + length turn.made < 2 ^ 64
+  pub fits : IsSome (out_of act).made → count_on c.foreign (Actor name) + weight < count_limit
 
--- it has a frame, and room to hold the new actor with the weight
-pub record CanSettleNew (weight name : ℕ) (x : Slot) : Type 0 where
-  pub cell : Cell
-  pub home : x.place ≡ Home cell
-  pub running : IsSome cell.frame
-  pub entry : m.get cell.foreign.entries (Actor name) ≡ None → 0 < cell.foreign.spare
-  pub fits : count_on cell.foreign (Actor name) + weight < count_limit
+-- the change is allowed with this cell and these letters
+abbrev pub AllowsChange : ℕ → Change → List Letter → Cell → Type 0
+AllowsChange a Take letters c = CanTakeFirst a letters c
+AllowsChange a (Go turn found name weight) letters c =
+    CanGoOn a weight name turn.now (act_in found.now) c
+AllowsChange a (Collect found trace) letters c = found.now ≡ sweep_of trace c
+AllowsChange a Block letters c = ⊤
 
--- its cell is at home, and the sweep is one of it
-pub record CanCollectHere (found : Sweep) (x : Slot) : Type 0 where
-  pub cell : Cell
-  pub home : x.place ≡ Home cell
-  pub planned : IsSweep cell found
+-- its cell is at home, which allows the change
+abbrev pub CanChange : ℕ → Change → Slot → Type 0
+CanChange a change x = HasCell x (AllowsChange a change x.mail.letters)
 
--- where its cell is at home, there is room for what its first letter brings
-abbrev pub HasRoomToTake : Slot → Type 0
-HasRoomToTake x = (c : Cell) (letter : Letter) (later : List Letter) → x.place ≡ Home c
-    → x.mail.letters ≡ letter ∷ later → HasRoomFor letter c.foreign.spare c.known.spare
+-- the cell has room for the change
+abbrev pub HasRoomIn : Change → List Letter → Cell → Type 0
+HasRoomIn Take letters c = (letter : Letter) (later : List Letter)
+    → letters ≡ letter ∷ later → HasRoomFor letter c.foreign.spare c.known.spare
+HasRoomIn (Go turn found name weight) letters c = (length turn.now.made ≤ c.heap.spare)
+    × (new_entries (act_in found.now) c.foreign.entries ≤ c.foreign.spare)
+HasRoomIn change letters c = ⊤
 
--- and for what was found of its turn
-abbrev pub HasRoomToGo : Turn → Move → Slot → Type 0
-HasRoomToGo turn act x = (c : Cell) → x.place ≡ Home c
-    → (length turn.made ≤ c.heap.spare) × (new_entries act c.foreign.entries ≤ c.foreign.spare)
+-- where its cell is at home, it has room for the change
+abbrev pub HasRoomToChange : Change → Slot → Type 0
+HasRoomToChange change x = (c : Cell) → x.place ≡ Home c → HasRoomIn change x.mail.letters c
+
+-- ---- what stays
 
 -- no place has less room for letters than before
 abbrev pub KeepsRoom : List Slot → List Slot → Type 0
 KeepsRoom old new = (b : ℕ) → (slot_at old b).mail.spare ≤ (slot_at new b).mail.spare
+
+-- but for one seat and room all is the same
+pub record KeepsRest (old new : Table) : Type 0 where
+  pub spare : new.spare ≡ old.spare
+  pub away : away_of new.slots ≡ away_of old.slots
+  pub room : KeepsRoom old.slots new.slots
+
+-- its cell is of the same actor and away or not as before, and there is no less room for letters
+pub record KeepsPlace (old new : Slot) : Type 0 where
+  pub away : is_away new ≡ is_away old
+  pub owned : (a : ℕ) → IsOwnedBy a old.place → IsOwnedBy a new.place
+  pub room : old.mail.spare ≤ new.mail.spare
 
 -- one place alone is another, of the same actor
 pub record IsChangedAt (a : ℕ) (old new : List Slot) : Type 0 where
   pub within : a < length old
   pub others : new ≡ set old a (slot_at new a)
   pub owned : IsOwnedBy a (slot_at old a).place → IsOwnedBy a (slot_at new a).place
+
+-- and there is room for as many as before
+pub record ChangesOne (a : ℕ) (old new : Vec Slot) : Type 0 where
+  pub changed : IsChangedAt a old.items new.items
+  pub length : vec_len new ≡ vec_len old
+  pub capacity : vec_capacity new ≡ vec_capacity old

@@ -84,6 +84,10 @@ may_in may Gone letters = false
 abbrev pub may_at : (rules.Cell → List Letter → Bool) → Slot → Bool
 may_at may x = may_in may x.place x.mail.letters
 
+-- its cell is at home, and it may do this event of its own
+abbrev pub may_event : Event → Slot → Bool
+may_event e x = may_at (λ c mail. may_do c mail e) x
+
 -- the first of its events, in the one-worker order
 abbrev pub event_in : ℕ → Seat → Option Event
 event_in a o = first_of (may_do o.cell o.mail) a

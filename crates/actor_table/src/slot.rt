@@ -1,19 +1,17 @@
 // One actor in the table.
 
-ghost use Rattle.std.specs.Prelude.{◌≡◌, ◌+◌, ◌<◌, ◌≤◌, ◌||◌, ℕ, IfNone, IfSome, IsSome, IsSomeAnd, OnOk, is_some, None, Some, true, ⊤};
+ghost use Rattle.std.specs.Prelude.{◌≡◌, ◌+◌, ◌<◌, ◌≤◌, ◌||◌, ℕ, IsSomeAnd, OnOk, if◌then◌else◌, is_some, Some, true, false, ⊤};
 ghost use Rattle.std.specs.Option.{option_copied};
-ghost use Rattle.orca_names.specs.declared.trace.Trace.{Trace as tracing};
 ghost use Rattle.machine_rules.specs.Actors.{seat, with_letter_more};
-ghost use Rattle.machine_rules.specs.Guards.{may_block, may_collect, may_go, may_leave, may_take};
-ghost use Rattle.actor_cell.specs.Cells.{as_cell, settled};
-ghost use Rattle.actor_cell.specs.Goes.{out_of};
+ghost use Rattle.machine_rules.specs.Guards.{may_block, may_do, may_go};
+ghost use Rattle.actor_cell.specs.Cells.{as_cell};
 ghost use Rattle.actor_cell.specs.Moves.{act_in};
-ghost use Rattle.actor_cell.specs.Sweeps.{sweep_of, swept};
-ghost use Rattle.actor_table.specs.Changes.{CanCollectHere, CanGoHere, CanSettleNew, CanTakeHere, HasRoomToGo, HasRoomToTake, moved, note_taken, taken, told, with_cell_by};
+ghost use Rattle.actor_table.specs.Changes.{CanChange, CanGoOn, CanTakeFirst, HasRoomToChange, KeepsPlace, moved, named, note_taken, seat_after, taken};
 ghost use Rattle.actor_table.specs.declared.slot.Place.TheVariants.{Home};
-ghost use Rattle.actor_table.specs.Slots.{can_act, can_settle, event_in, event_of, home_of, is_away, mail_of, may_at, seat_of, IsOwnedBy};
+ghost use Rattle.actor_table.specs.Slots.{can_act, can_settle, event_in, event_of, home_of, is_away, mail_of, may_at, may_event, seat_of, IsOwnedBy};
 
-use actor_cell::{Cell, Sweep, Turned};
+use crate::change::Change;
+use actor_cell::{Cell, Doing, Turned};
 use behaviour_check::Checked;
 use event_rule::Event;
 use letter_kinds::{Letter, Note};
@@ -70,26 +68,35 @@ pub(crate) fn mail_of(slot: &Slot) -> Option<&MailRow>
     }
 }
 
-/// Whether an actor with this cell and these letters may collect.
-pub(crate) fn may_collect(cell: &Cell, mail: &MailRow) -> bool
-    ensures { result ≡ may_collect (as_cell cell.now) mail.now.letters }
-{
-    !cell.frame.is_some() && cell.dirty
-}
-
-/// Whether it may report that it is blocked.
-pub(crate) fn may_block(cell: &Cell, mail: &MailRow) -> bool
+/// Whether an actor with this cell and these letters may report that it is blocked.
+fn may_block(cell: &Cell, mail: &MailRow) -> bool
     ensures { result ≡ may_block (as_cell cell.now) mail.now.letters }
 {
     !cell.frame.is_some() && mail.is_empty() && !(cell.dirty || cell.fields.pinned || cell.reported)
 }
 
-/// Whether its cell is at home, and it may take a letter.
-pub(crate) fn can_take(slot: &Slot) -> bool
-    ensures { result ≡ may_at may_take slot.now }
+/// Whether it may do this event of its own.
+#[inline(always)]
+fn may_do(cell: &Cell, mail: &MailRow, e: &Event) -> bool
+    ensures { result ≡ may_do (as_cell cell.now) mail.now.letters e.now }
+{
+    match *e {
+        Event::Take(_) => !cell.frame.is_some() && !mail.is_empty(),
+        Event::Go(_) => cell.frame.is_some(),
+        Event::Collect(_) => !cell.frame.is_some() && cell.dirty,
+        Event::Leave(_) => may_block(cell, mail) && cell.count.get() == 0,
+        Event::Block(_) => may_block(cell, mail),
+        Event::Hear | Event::Scan | Event::Reap(_) => false,
+    }
+}
+
+/// Whether its cell is at home, and it may do this event of its own.
+#[inline(always)]
+pub(crate) fn may_event(slot: &Slot, e: &Event) -> bool
+    ensures { result ≡ may_event e.now slot.now }
 {
     match &slot.place {
-        Place::Home(cell) => !cell.frame.is_some() && !slot.mail.is_empty(),
+        Place::Home(cell) => may_do(cell, &slot.mail, e),
         Place::Away(_) => false,
         Place::Gone => false,
     }
@@ -101,39 +108,6 @@ pub(crate) fn goes_on(slot: &Slot) -> bool
 {
     match &slot.place {
         Place::Home(cell) => cell.frame.is_some(),
-        Place::Away(_) => false,
-        Place::Gone => false,
-    }
-}
-
-/// Whether its cell is at home, and it may collect.
-pub(crate) fn can_collect(slot: &Slot) -> bool
-    ensures { result ≡ may_at may_collect slot.now }
-{
-    match &slot.place {
-        Place::Home(cell) => may_collect(cell, &slot.mail),
-        Place::Away(_) => false,
-        Place::Gone => false,
-    }
-}
-
-/// Whether its cell is at home, and it may report.
-pub(crate) fn can_block(slot: &Slot) -> bool
-    ensures { result ≡ may_at may_block slot.now }
-{
-    match &slot.place {
-        Place::Home(cell) => may_block(cell, &slot.mail),
-        Place::Away(_) => false,
-        Place::Gone => false,
-    }
-}
-
-/// Whether its cell is at home, and it may leave.
-pub(crate) fn can_leave(slot: &Slot) -> bool
-    ensures { result ≡ may_at may_leave slot.now }
-{
-    match &slot.place {
-        Place::Home(cell) => may_block(cell, &slot.mail) && cell.count.get() == 0,
         Place::Away(_) => false,
         Place::Gone => false,
     }
@@ -194,35 +168,29 @@ pub(crate) fn next_event(slot: &Slot, a: ActorName) -> Option<Event>
     }
 }
 
-/// Takes the memory for what the first letter brings, where the cell is at home.
-pub(crate) fn reserve_take(slot: &mut Slot) -> Result<(), NoMemory>
+/// Takes the memory for the change, where the cell is at home.
+#[inline(always)]
+pub(crate) fn reserve(slot: &mut Slot, change: &Change<'_>) -> Result<(), NoMemory>
     ensures seat { seat_of slot.new ≡ seat_of slot.old }
-    ensures away { is_away slot.new ≡ is_away slot.old }
-    ensures owned { (a : ℕ) → IsOwnedBy a slot.old.place → IsOwnedBy a slot.new.place }
-    ensures mail { slot.new.mail ≡ slot.old.mail }
-    ensures ok { OnOk result (HasRoomToTake slot.new) }
+    ensures kept { KeepsPlace slot.old slot.new }
+    ensures ok { OnOk result (HasRoomToChange change.now slot.new) }
 {
     let Place::Home(cell) = &mut slot.place else {
         return Ok(());
     };
-    match slot.mail.front() {
-        Some(letter) => cell.reserve_take(letter),
-        None => Ok(()),
+    match change {
+        Change::Take => match slot.mail.front() {
+            Some(letter) => cell.reserve_take(letter),
+            None => Ok(()),
+        },
+        Change::Go {
+            turn,
+            found,
+            name: _,
+            weight: _,
+        } => cell.reserve_go(turn, found),
+        Change::Collect { found: _, trace: _ } | Change::Block => Ok(()),
     }
-}
-
-/// Takes the memory for what was found of the actor's turn, where the cell is at home.
-pub(crate) fn reserve_go(slot: &mut Slot, turn: &Turn, found: &Turned) -> Result<(), NoMemory>
-    ensures seat { seat_of slot.new ≡ seat_of slot.old }
-    ensures away { is_away slot.new ≡ is_away slot.old }
-    ensures owned { (a : ℕ) → IsOwnedBy a slot.old.place → IsOwnedBy a slot.new.place }
-    ensures mail { slot.new.mail ≡ slot.old.mail }
-    ensures ok { OnOk result (HasRoomToGo turn.now (act_in found.now) slot.new) }
-{
-    let Place::Home(cell) = &mut slot.place else {
-        return Ok(());
-    };
-    cell.reserve_go(turn, found)
 }
 
 /// Takes the memory for so many letters, if the actor is present.
@@ -242,8 +210,7 @@ pub(crate) fn reserve_letters(slot: &mut Slot, n: usize) -> Result<(), NoMemory>
 pub(crate) fn lift(slot: &mut Slot) -> Option<Cell>
     ensures cell { result ≡ home_of slot.old }
     ensures seat { seat_of slot.new ≡ seat_of slot.old }
-    ensures away { IfSome result (λ c. is_away slot.new ≡ true) }
-    ensures home { IfNone result (is_away slot.new ≡ is_away slot.old) }
+    ensures away { is_away slot.new ≡ (if is_some result then true else is_away slot.old) }
     ensures owned { (a : ℕ) → IsOwnedBy a slot.old.place → IsOwnedBy a slot.new.place }
     ensures mail { slot.new.mail ≡ slot.old.mail }
 {
@@ -285,83 +252,55 @@ pub(crate) fn note_on(slot: &Slot) -> Option<Note>
 }
 
 /// The idle actor takes the first of its letters.
-pub(crate) fn take_letter(code: &Checked, slot: &mut Slot)
-    requires { IsSomeAnd (home_of slot.old) (λ c. CanTakeHere c.heap.owner slot.old) }
-    ensures seat { (a : ℕ) → IsOwnedBy a slot.old.place
-        → seat_of slot.new ≡ taken code.now a (seat_of slot.old) }
-    ensures away { is_away slot.new ≡ is_away slot.old }
-    ensures owned { (a : ℕ) → IsOwnedBy a slot.old.place → IsOwnedBy a slot.new.place }
-    ensures room { slot.old.mail.spare ≤ slot.new.mail.spare }
+fn take_first(code: &Checked, cell: &mut Cell, mail: &mut MailRow)
+    requires { CanTakeFirst cell.old.heap.owner mail.old.letters cell.old }
+    ensures seat { let me = cell.old.heap.owner in seat (as_cell cell.new) mail.new.letters
+        ≡ taken code.now me (seat (as_cell cell.old) mail.old.letters) }
+    ensures owner { cell.new.heap.owner ≡ cell.old.heap.owner }
+    ensures room { mail.old.spare ≤ mail.new.spare }
 {
-    let Place::Home(cell) = &mut slot.place else {
-        unreachable!();
-    };
-    let Some(letter) = slot.mail.front() else {
+    let Some(letter) = mail.front() else {
         unreachable!();
     };
     cell.apply_take(code, letter);
-    let _ = slot.mail.take();
+    let _ = mail.take();
 }
 
-/// The actor's turn is done as it was found.
-pub(crate) fn go_on(slot: &mut Slot, turn: &Turn, found: &Turned)
-    requires { IsSomeAnd (home_of slot.old) (λ c. CanGoHere c.heap.owner turn.now (act_in found.now) slot.old) }
-    ensures seat { (a : ℕ) → IsOwnedBy a slot.old.place → seat_of slot.new
-        ≡ with_cell_by (moved a turn.now found.now.place (act_in found.now)) (seat_of slot.old) }
-    ensures away { is_away slot.new ≡ is_away slot.old }
-    ensures owned { (a : ℕ) → IsOwnedBy a slot.old.place → IsOwnedBy a slot.new.place }
-    ensures entry { IsSome (out_of (act_in found.now)).made
-        → IsSomeAnd (home_of slot.new) (λ c. 0 < c.foreign.spare) }
-    ensures mail { slot.new.mail ≡ slot.old.mail }
+/// The actor's turn is done as it was found, and an actor that it makes has its name.
+fn go_on(cell: &mut Cell, turn: &Turn, found: &Turned, name: ActorName, weight: u32)
+    requires { CanGoOn cell.old.heap.owner weight name turn.now (act_in found.now) cell.old }
+    ensures cell { let me = cell.old.heap.owner in let act = act_in found.now in as_cell cell.new
+        ≡ named weight name act (moved me turn.now found.now.place act (as_cell cell.old)) }
+    ensures owner { cell.new.heap.owner ≡ cell.old.heap.owner }
 {
-    let Place::Home(cell) = &mut slot.place else {
-        unreachable!();
-    };
     cell.apply_go(turn, found);
+    if let Doing::New { kind: _, register } = found.doing {
+        cell.settle_new(register, name, weight);
+    }
 }
 
-/// The actor that it made gets its name.
-pub(crate) fn settle_new(slot: &mut Slot, register: u8, name: ActorName, weight: u32)
-    requires { IsSomeAnd (home_of slot.old) (λ c. CanSettleNew weight name slot.old) }
-    ensures seat { seat_of slot.new ≡ with_cell_by (settled weight register name) (seat_of slot.old) }
-    ensures away { is_away slot.new ≡ is_away slot.old }
-    ensures owned { (a : ℕ) → IsOwnedBy a slot.old.place → IsOwnedBy a slot.new.place }
-    ensures mail { slot.new.mail ≡ slot.old.mail }
+/// The change is done, where the cell is at home.
+#[inline(always)]
+pub(crate) fn change(code: &Checked, slot: &mut Slot, change: &Change<'_>)
+    requires { IsSomeAnd (home_of slot.old) (λ c. CanChange c.heap.owner change.now slot.old) }
+    ensures seat { (a : ℕ) → IsOwnedBy a slot.old.place
+        → seat_of slot.new ≡ seat_after code.now a change.now (seat_of slot.old) }
+    ensures kept { KeepsPlace slot.old slot.new }
 {
     let Place::Home(cell) = &mut slot.place else {
         unreachable!();
     };
-    cell.settle_new(register, name, weight);
-}
-
-/// The actor's collection is done as it was planned.
-pub(crate) fn collect(slot: &mut Slot, found: &Sweep)
-    requires { IsSomeAnd (home_of slot.old) (λ c. CanCollectHere found.now slot.old) }
-    ensures seat { (a : ℕ) (trace : tracing) → IsOwnedBy a slot.old.place
-        → IsSomeAnd (home_of slot.old) (λ c. found.now ≡ sweep_of trace c)
-        → seat_of slot.new ≡ with_cell_by (swept trace a) (seat_of slot.old) }
-    ensures away { is_away slot.new ≡ is_away slot.old }
-    ensures owned { (a : ℕ) → IsOwnedBy a slot.old.place → IsOwnedBy a slot.new.place }
-    ensures mail { slot.new.mail ≡ slot.old.mail }
-{
-    let Place::Home(cell) = &mut slot.place else {
-        unreachable!();
-    };
-    cell.apply_collect(found);
-}
-
-/// The actor reported that it is blocked.
-pub(crate) fn block(slot: &mut Slot)
-    requires { IsSomeAnd (home_of slot.old) (λ c. ⊤) }
-    ensures seat { seat_of slot.new ≡ with_cell_by told (seat_of slot.old) }
-    ensures away { is_away slot.new ≡ is_away slot.old }
-    ensures owned { (a : ℕ) → IsOwnedBy a slot.old.place → IsOwnedBy a slot.new.place }
-    ensures mail { slot.new.mail ≡ slot.old.mail }
-{
-    let Place::Home(cell) = &mut slot.place else {
-        unreachable!();
-    };
-    cell.apply_block();
+    match change {
+        Change::Take => take_first(code, cell, &mut slot.mail),
+        Change::Go {
+            turn,
+            found,
+            name,
+            weight,
+        } => go_on(cell, turn, found, *name, *weight),
+        Change::Collect { found, trace: _ } => cell.apply_collect(found),
+        Change::Block => cell.apply_block(),
+    }
 }
 
 /// One letter more, if the actor is present.

@@ -1,119 +1,41 @@
 // All places, and what becomes of one of them.
 
-ghost use Rattle.std.specs.Prelude.{◌≡◌, ◌+◌, ◌<◌, ◌≤◌, ◌==◌, ◌≢◌, List, if◌then◌else◌, is_some, option_map, ℕ, Bool, length, Some, None, set, true, false, ⊤, IsSome, IsSomeAnd, OnOk, vec_len, vec_capacity};
+ghost use Rattle.std.specs.Prelude.{◌≡◌, ◌+◌, ◌<◌, ◌≤◌, ◌==◌, ◌≢◌, List, if◌then◌else◌, is_some, option_map, ℕ, Bool, length, Some, None, set, true, false, OnOk};
 ghost use Rattle.orca_names.specs.declared.limits.TheConstants.{ACTORS_LIMIT};
 ghost use Rattle.actor_table.specs.declared.slot.Slot.{Slot as a_slot};
-ghost use Rattle.orca_names.specs.declared.trace.Trace.{Trace as tracing};
 ghost use Rattle.machine_rules.specs.Actors.{push_letter, seat_at};
-ghost use Rattle.machine_rules.specs.Guards.{may_go};
-ghost use Rattle.actor_cell.specs.Cells.{as_cell, settled};
-ghost use Rattle.actor_cell.specs.Goes.{out_of};
-ghost use Rattle.actor_cell.specs.Moves.{act_in};
-ghost use Rattle.actor_cell.specs.Sweeps.{sweep_of, swept};
-ghost use Rattle.actor_table.specs.Changes.{changed_at, moved, taken, told, with_cell_by, CanCollectHere, CanGoHere, CanSettleNew, CanTakeHere, HasCell, HasRoomToGo, HasRoomToTake, IsChangedAt, KeepsRoom};
+ghost use Rattle.actor_cell.specs.Cells.{as_cell};
+ghost use Rattle.actor_table.specs.Changes.{CanChange, ChangesOne, HasRoomToChange, IsChangedAt, KeepsRoom, changed_at, seat_after};
 ghost use Rattle.actor_table.specs.Index.{IsIndex};
 ghost use Rattle.actor_table.specs.declared.slot.Place.TheVariants.{Home};
-ghost use Rattle.actor_table.specs.Slots.{actors_of, away_of, can_act, can_settle, home_of, AreIndexed, IsOwnedBy, is_away, letters_in, may_at, places_of, seat_of, slot_at};
+ghost use Rattle.actor_table.specs.Slots.{actors_of, away_of, can_act, can_settle, home_of, AreIndexed, IsOwnedBy, is_away, letters_in, places_of, seat_of, slot_at};
 
+use crate::change::Change;
+use crate::slot;
 use crate::slot::{
-    Place, Slot, block, can_act, can_settle, collect, go_on, goes_on, lift, push_letter, put_back,
-    reserve_go, reserve_letters, reserve_take, settle_new, take_letter,
+    Place, Slot, can_act, can_settle, goes_on, lift, push_letter, put_back, reserve_letters,
 };
-use actor_cell::{Cell, Sweep, Turned};
+use actor_cell::Cell;
 use behaviour_check::Checked;
 use letter_kinds::Letter;
 use mail_rows::MailRow;
-use orca_names::{ActorName, NoMemory};
+use orca_names::NoMemory;
 use ready_set::ReadySet;
 use std::alloc::Global;
-use turn_step::Turn;
 
-/// The idle actor takes the first of its letters.
+/// The change of the actor is done.
 #[tactic(auto, using(crate::proofs::Changing::actors_set, crate::proofs::Changing::away_kept, crate::proofs::Changing::seat_read, crate::proofs::Changing::room_kept))]
-pub(crate) fn take_at(slots: &mut Vec<Slot>, code: &Checked, a: usize)
-    requires within { a < length slots.old.items }
+#[inline(always)]
+pub(crate) fn change_at(code: &Checked, slots: &mut Vec<Slot>, a: usize, change: &Change<'_>)
     requires owned { IsOwnedBy a (slot_at slots.old.items a).place }
-    requires can { CanTakeHere a (slot_at slots.old.items a) }
+    requires can { CanChange a change.now (slot_at slots.old.items a) }
     ensures actors { actors_of slots.new.items
-        ≡ changed_at (taken code.now a) a (actors_of slots.old.items) }
+        ≡ changed_at (seat_after code.now a change.now) a (actors_of slots.old.items) }
     ensures away { away_of slots.new.items ≡ away_of slots.old.items }
     ensures room { KeepsRoom slots.old.items slots.new.items }
-    ensures changed { IsChangedAt a slots.old.items slots.new.items }
-    ensures length { vec_len slots.new ≡ vec_len slots.old }
-    ensures capacity { vec_capacity slots.new ≡ vec_capacity slots.old }
+    ensures one { ChangesOne a slots.old slots.new }
 {
-    take_letter(code, &mut slots[a]);
-}
-
-/// The actor's turn is done as it was found.
-#[tactic(auto, using(crate::proofs::Changing::actors_set, crate::proofs::Changing::away_kept, crate::proofs::Changing::seat_read, crate::proofs::Changing::room_kept))]
-pub(crate) fn go_at(slots: &mut Vec<Slot>, a: usize, turn: &Turn, found: &Turned)
-    requires within { a < length slots.old.items }
-    requires owned { IsOwnedBy a (slot_at slots.old.items a).place }
-    requires can { CanGoHere a turn.now (act_in found.now) (slot_at slots.old.items a) }
-    ensures actors { actors_of slots.new.items
-        ≡ changed_at (with_cell_by (moved a turn.now found.now.place (act_in found.now))) a
-        (actors_of slots.old.items) }
-    ensures entry { IsSome (out_of (act_in found.now)).made
-        → IsSomeAnd (home_of (slot_at slots.new.items a)) (λ c. 0 < c.foreign.spare) }
-    ensures away { away_of slots.new.items ≡ away_of slots.old.items }
-    ensures room { KeepsRoom slots.old.items slots.new.items }
-    ensures changed { IsChangedAt a slots.old.items slots.new.items }
-    ensures length { vec_len slots.new ≡ vec_len slots.old }
-    ensures capacity { vec_capacity slots.new ≡ vec_capacity slots.old }
-{
-    go_on(&mut slots[a], turn, found);
-}
-
-/// The actor that it made gets its name.
-#[tactic(auto, using(crate::proofs::Changing::actors_set, crate::proofs::Changing::away_kept, crate::proofs::Changing::seat_read, crate::proofs::Changing::room_kept))]
-pub(crate) fn settle_at(slots: &mut Vec<Slot>, a: usize, register: u8, name: ActorName, weight: u32)
-    requires within { a < length slots.old.items }
-    requires can { CanSettleNew weight name (slot_at slots.old.items a) }
-    ensures actors { actors_of slots.new.items
-        ≡ changed_at (with_cell_by (settled weight register name)) a (actors_of slots.old.items) }
-    ensures away { away_of slots.new.items ≡ away_of slots.old.items }
-    ensures room { KeepsRoom slots.old.items slots.new.items }
-    ensures changed { IsChangedAt a slots.old.items slots.new.items }
-    ensures length { vec_len slots.new ≡ vec_len slots.old }
-    ensures capacity { vec_capacity slots.new ≡ vec_capacity slots.old }
-{
-    settle_new(&mut slots[a], register, name, weight);
-}
-
-/// The actor's collection is done as it was planned.
-#[tactic(auto, using(crate::proofs::Changing::actors_set, crate::proofs::Changing::away_kept, crate::proofs::Changing::seat_read, crate::proofs::Changing::room_kept))]
-pub(crate) fn collect_at(slots: &mut Vec<Slot>, a: usize, found: &Sweep)
-    requires within { a < length slots.old.items }
-    requires owned { IsOwnedBy a (slot_at slots.old.items a).place }
-    requires can { CanCollectHere found.now (slot_at slots.old.items a) }
-    ensures actors { (trace : tracing)
-        → IsSomeAnd (home_of (slot_at slots.old.items a)) (λ c. found.now ≡ sweep_of trace c)
-        → actors_of slots.new.items
-        ≡ changed_at (with_cell_by (swept trace a)) a (actors_of slots.old.items) }
-    ensures away { away_of slots.new.items ≡ away_of slots.old.items }
-    ensures room { KeepsRoom slots.old.items slots.new.items }
-    ensures changed { IsChangedAt a slots.old.items slots.new.items }
-    ensures length { vec_len slots.new ≡ vec_len slots.old }
-    ensures capacity { vec_capacity slots.new ≡ vec_capacity slots.old }
-{
-    collect(&mut slots[a], found);
-}
-
-/// The actor reported that it is blocked.
-#[tactic(auto, using(crate::proofs::Changing::actors_set, crate::proofs::Changing::away_kept, crate::proofs::Changing::seat_read, crate::proofs::Changing::room_kept))]
-pub(crate) fn block_at(slots: &mut Vec<Slot>, a: usize)
-    requires within { a < length slots.old.items }
-    requires can { HasCell (slot_at slots.old.items a) (λ c. ⊤) }
-    ensures actors { actors_of slots.new.items
-        ≡ changed_at (with_cell_by told) a (actors_of slots.old.items) }
-    ensures away { away_of slots.new.items ≡ away_of slots.old.items }
-    ensures room { KeepsRoom slots.old.items slots.new.items }
-    ensures changed { IsChangedAt a slots.old.items slots.new.items }
-    ensures length { vec_len slots.new ≡ vec_len slots.old }
-    ensures capacity { vec_capacity slots.new ≡ vec_capacity slots.old }
-{
-    block(&mut slots[a]);
+    slot::change(code, &mut slots[a], change);
 }
 
 /// A letter for the actor, if it is present.
@@ -129,52 +51,27 @@ pub(crate) fn push_at(slots: &mut Vec<Slot>, a: usize, letter: Letter)
     ensures away { away_of slots.new.items ≡ away_of slots.old.items }
     ensures room { (b : ℕ) → (slot_at slots.old.items b).mail.spare
         ≤ (slot_at slots.new.items b).mail.spare + (if b == a then 1 else 0) }
-    ensures changed { IsChangedAt a slots.old.items slots.new.items }
-    ensures length { vec_len slots.new ≡ vec_len slots.old }
-    ensures capacity { vec_capacity slots.new ≡ vec_capacity slots.old }
+    ensures one { ChangesOne a slots.old slots.new }
 {
     push_letter(&mut slots[a], letter);
 }
 
-/// Takes the memory for what the actor's first letter brings.
+/// Takes the memory for the change of the actor.
 #[tactic(auto, using(crate::proofs::Changing::actors_kept, crate::proofs::Changing::away_kept, crate::proofs::Changing::seat_read, crate::proofs::Changing::room_kept))]
-pub(crate) fn reserve_take_at(slots: &mut Vec<Slot>, a: usize) -> Result<(), NoMemory>
-    requires within { a < length slots.old.items }
-    ensures actors { actors_of slots.new.items
-        ≡ actors_of slots.old.items }
-    ensures seat { seat_of (slot_at slots.new.items a) ≡ seat_of (slot_at slots.old.items a) }
-    ensures same { is_away (slot_at slots.new.items a) ≡ is_away (slot_at slots.old.items a) }
-    ensures ok { OnOk result (HasRoomToTake (slot_at slots.new.items a)) }
-    ensures away { away_of slots.new.items ≡ away_of slots.old.items }
-    ensures room { KeepsRoom slots.old.items slots.new.items }
-    ensures changed { IsChangedAt a slots.old.items slots.new.items }
-    ensures length { vec_len slots.new ≡ vec_len slots.old }
-    ensures capacity { vec_capacity slots.new ≡ vec_capacity slots.old }
-{
-    reserve_take(&mut slots[a])
-}
-
-/// Takes the memory for what was found of the actor's turn.
-#[tactic(auto, using(crate::proofs::Changing::actors_kept, crate::proofs::Changing::away_kept, crate::proofs::Changing::seat_read, crate::proofs::Changing::room_kept))]
-pub(crate) fn reserve_go_at(
+#[inline(always)]
+pub(crate) fn reserve_at(
     slots: &mut Vec<Slot>,
     a: usize,
-    turn: &Turn,
-    found: &Turned,
+    change: &Change<'_>,
 ) -> Result<(), NoMemory>
     requires within { a < length slots.old.items }
-    ensures actors { actors_of slots.new.items
-        ≡ actors_of slots.old.items }
-    ensures seat { seat_of (slot_at slots.new.items a) ≡ seat_of (slot_at slots.old.items a) }
-    ensures same { is_away (slot_at slots.new.items a) ≡ is_away (slot_at slots.old.items a) }
-    ensures ok { OnOk result (HasRoomToGo turn.now (act_in found.now) (slot_at slots.new.items a)) }
+    ensures actors { actors_of slots.new.items ≡ actors_of slots.old.items }
+    ensures ok { OnOk result (HasRoomToChange change.now (slot_at slots.new.items a)) }
     ensures away { away_of slots.new.items ≡ away_of slots.old.items }
     ensures room { KeepsRoom slots.old.items slots.new.items }
-    ensures changed { IsChangedAt a slots.old.items slots.new.items }
-    ensures length { vec_len slots.new ≡ vec_len slots.old }
-    ensures capacity { vec_capacity slots.new ≡ vec_capacity slots.old }
+    ensures one { ChangesOne a slots.old slots.new }
 {
-    reserve_go(&mut slots[a], turn, found)
+    slot::reserve(&mut slots[a], change)
 }
 
 /// Makes sure that the index has a place for one actor more.
@@ -217,14 +114,10 @@ pub(crate) fn reserve_letters_at(slots: &mut Vec<Slot>, a: usize, n: usize) -> R
     ensures away { away_of slots.new.items ≡ away_of slots.old.items }
     ensures places { places_of slots.new.items ≡ places_of slots.old.items }
     ensures letters { letters_in slots.new.items ≡ letters_in slots.old.items }
-    ensures seat { seat_of (slot_at slots.new.items a) ≡ seat_of (slot_at slots.old.items a) }
-    ensures same { is_away (slot_at slots.new.items a) ≡ is_away (slot_at slots.old.items a) }
     ensures ok { OnOk result (is_some (seat_at (actors_of slots.old.items) a) ≡ true
         → n ≤ (slot_at slots.new.items a).mail.spare) }
     ensures room { KeepsRoom slots.old.items slots.new.items }
-    ensures changed { IsChangedAt a slots.old.items slots.new.items }
-    ensures length { vec_len slots.new ≡ vec_len slots.old }
-    ensures capacity { vec_capacity slots.new ≡ vec_capacity slots.old }
+    ensures one { ChangesOne a slots.old slots.new }
 {
     reserve_letters(&mut slots[a], n)
 }
@@ -236,9 +129,7 @@ pub(crate) fn clear_at(alloc: Global, slots: &mut Vec<Slot>, a: usize)
     ensures actors { actors_of slots.new.items ≡ set (actors_of slots.old.items) a None }
     ensures away { away_of slots.new.items ≡ set (away_of slots.old.items) a false }
     ensures room { (b : ℕ) → b ≢ a → slot_at slots.new.items b ≡ slot_at slots.old.items b }
-    ensures changed { IsChangedAt a slots.old.items slots.new.items }
-    ensures length { vec_len slots.new ≡ vec_len slots.old }
-    ensures capacity { vec_capacity slots.new ≡ vec_capacity slots.old }
+    ensures one { ChangesOne a slots.old slots.new }
 {
     slots[a] = Slot {
         place: Place::Gone,
@@ -255,9 +146,7 @@ pub(crate) fn lift_at(slots: &mut Vec<Slot>, a: usize) -> Option<Cell>
     ensures away { away_of slots.new.items
         ≡ (if is_some result then set (away_of slots.old.items) a true else away_of slots.old.items) }
     ensures room { KeepsRoom slots.old.items slots.new.items }
-    ensures changed { IsChangedAt a slots.old.items slots.new.items }
-    ensures length { vec_len slots.new ≡ vec_len slots.old }
-    ensures capacity { vec_capacity slots.new ≡ vec_capacity slots.old }
+    ensures one { ChangesOne a slots.old slots.new }
 {
     lift(&mut slots[a])
 }
@@ -274,9 +163,7 @@ pub(crate) fn put_back_at(slots: &mut Vec<Slot>, a: usize, cell: Cell)
     ensures actors { actors_of slots.new.items ≡ actors_of slots.old.items }
     ensures away { away_of slots.new.items ≡ set (away_of slots.old.items) a false }
     ensures room { KeepsRoom slots.old.items slots.new.items }
-    ensures changed { IsChangedAt a slots.old.items slots.new.items }
-    ensures length { vec_len slots.new ≡ vec_len slots.old }
-    ensures capacity { vec_capacity slots.new ≡ vec_capacity slots.old }
+    ensures one { ChangesOne a slots.old slots.new }
 {
     put_back(&mut slots[a], cell);
 }
@@ -286,8 +173,8 @@ pub(crate) fn put_back_at(slots: &mut Vec<Slot>, a: usize, cell: Cell)
 #[inline(always)]
 pub(crate) fn put_bits(slots: &[Slot], acting: &mut ReadySet, settling: &mut ReadySet, a: u32)
     requires within { a < length slots.now }
-    requires acting { length slots.now ≤ length acting.old }
-    requires settling { length slots.now ≤ length settling.old }
+    requires room { (length slots.now ≤ length acting.old)
+        × (length slots.now ≤ length settling.old) }
     ensures indexed { (old : List a_slot) → AreIndexed old acting.old settling.old
         → IsChangedAt a old slots.now → AreIndexed slots.now acting.new settling.new }
     ensures lengths { (length acting.new ≡ length acting.old)
@@ -298,26 +185,28 @@ pub(crate) fn put_bits(slots: &[Slot], acting: &mut ReadySet, settling: &mut Rea
     settling.put(a, can_settle(slot));
 }
 
-/// Writes the same after a step of a turn: while the turn goes on, both indexes tell the same.
+/// Writes the same after a change: while a turn goes on, both indexes tell the same.
 #[inline(always)]
-pub(crate) fn put_bits_in_turn(
+pub(crate) fn put_bits_after(
     slots: &[Slot],
     acting: &mut ReadySet,
     settling: &mut ReadySet,
     a: u32,
+    change: &Change<'_>,
 )
     requires within { a < length slots.now }
-    requires acting { length slots.now ≤ length acting.old }
-    requires settling { length slots.now ≤ length settling.old }
-    ensures indexed { (old : List a_slot) → may_at may_go (slot_at old a) ≡ true
+    requires room { (length slots.now ≤ length acting.old)
+        × (length slots.now ≤ length settling.old) }
+    ensures indexed { (old : List a_slot) → CanChange a change.now (slot_at old a)
         → AreIndexed old acting.old settling.old
         → IsChangedAt a old slots.now → AreIndexed slots.now acting.new settling.new }
     ensures lengths { (length acting.new ≡ length acting.old)
         × (length settling.new ≡ length settling.old) }
 {
-    if !goes_on(&slots[a as usize]) {
-        put_bits(slots, acting, settling, a);
+    if change.is_go() && goes_on(&slots[a as usize]) {
+        return;
     }
+    put_bits(slots, acting, settling, a);
 }
 
 /// Writes in its index whether the actor at this place acts, where its place is the same: the other

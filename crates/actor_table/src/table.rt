@@ -1,32 +1,26 @@
 // The table.
 
-ghost use Rattle.std.specs.Prelude.{◌≡◌, ◌==◌, ◌+◌, ◌<◌, ◌≤◌, ◌++◌, ◌∷◌, ◌≢◌, [], ℕ, false, length, if◌then◌else◌, is_some, option_map, position, IfSome, IsSome, IsSomeAnd, OnOk, Some, None, set, true, ⊤};
+ghost use Rattle.std.specs.Prelude.{◌≡◌, ◌==◌, ◌+◌, ◌<◌, ◌≤◌, ◌++◌, ◌∷◌, ◌≢◌, [], ℕ, false, length, if◌then◌else◌, is_some, option_map, position, IfSome, OnOk, Some, None, set, true, ⊤};
 ghost use Rattle.std.specs.Option.{option_copied};
-ghost use Rattle.orca_names.specs.declared.trace.Trace.{Trace as tracing};
 ghost use Rattle.machine_rules.specs.Actors.{push_letter, seat_at};
-ghost use Rattle.machine_rules.specs.Guards.{may_block, may_collect, may_leave, may_take};
-ghost use Rattle.actor_cell.specs.Cells.{as_cell, settled};
-ghost use Rattle.actor_cell.specs.Goes.{out_of};
-ghost use Rattle.actor_cell.specs.Moves.{act_in};
+ghost use Rattle.actor_cell.specs.Cells.{as_cell};
 ghost use Rattle.orca_names.specs.declared.limits.TheConstants.{ACTORS_LIMIT};
 ghost use Rattle.actor_table.specs.declared.slot.Place.TheVariants.{Home};
-ghost use Rattle.actor_cell.specs.Sweeps.{sweep_of, swept};
-ghost use Rattle.actor_table.specs.Changes.{CanCollectHere, CanGoHere, CanSettleNew, CanTakeHere, HasCell, HasRoomToGo, HasRoomToTake, KeepsRoom, changed_at, moved, note_taken, taken, told, with_cell_by};
+ghost use Rattle.actor_table.specs.Changes.{CanChange, HasCell, HasRoomToChange, KeepsRest, KeepsRoom, changed_at, note_taken, seat_after};
 ghost use Rattle.ready_set.specs.Next.{IsNext};
 ghost use Rattle.actor_table.specs.Rounds.{IsNextThat, has_event};
-ghost use Rattle.actor_table.specs.Slots.{actors_of, away_of, can_act, can_settle, event_of, home_of, is_away, letters_in, mail_of, may_at, places_of, slot_at};
+ghost use Rattle.actor_table.specs.Slots.{actors_of, away_of, can_act, can_settle, event_of, home_of, is_away, letters_in, mail_of, may_event, places_of, slot_at};
 
+use crate::change::Change;
 use crate::rounds::Round;
 use crate::slot::{
-    Place, Slot, can_act, can_block, can_collect, can_leave, can_settle, can_take, cell_of,
-    is_present, mail_of, next_event, note_on,
+    Place, Slot, can_act, can_settle, cell_of, is_present, mail_of, may_event, next_event, note_on,
 };
 use crate::slots::{
-    block_at, clear_at, collect_at, go_at, lift_at, push_at, put_acting, put_back_at, put_bits,
-    put_bits_in_turn, reserve_bits, reserve_go_at, reserve_letters_at, reserve_take_at, settle_at,
-    take_at,
+    change_at, clear_at, lift_at, push_at, put_acting, put_back_at, put_bits, put_bits_after,
+    reserve_at, reserve_bits, reserve_letters_at,
 };
-use actor_cell::{Cell, Sweep, Turned};
+use actor_cell::Cell;
 use behaviour_check::Checked;
 use event_rule::Event;
 use letter_kinds::{Letter, Note};
@@ -35,7 +29,6 @@ use orca_names::{ActorName, NoMemory};
 use ready_set::ReadySet;
 use std::alloc::Global;
 use std::marker::Model;
-use turn_step::Turn;
 
 /// All actors ever made, by number, seen by contracts as their places and the room for further
 /// ones. Two indexes tell who acts, and who settles once nothing else is to be done.
@@ -93,6 +86,13 @@ impl ActorTable {
         self.slots.len()
     }
 
+    /// The name that the next actor gets.
+    pub fn next_name(&self) -> ActorName
+        ensures { result ≡ length self.now.slots }
+    {
+        ActorName(self.slots.len() as u32)
+    }
+
     /// Whether the actor is present.
     pub fn lives(&self, a: ActorName) -> bool
         ensures { result ≡ is_some (seat_at (actors_of self.now.slots) a) }
@@ -124,43 +124,28 @@ impl ActorTable {
         }
     }
 
-    /// Whether the cell of the actor is at home, and it may take a letter.
-    pub fn may_take(&self, a: ActorName) -> bool
-        ensures { result ≡ may_at may_take (slot_at self.now.slots a) }
+    /// Whether the cell of the actor is at home, and it may do this event of its own.
+    #[inline(always)]
+    pub fn may(&self, a: ActorName, e: &Event) -> bool
+        ensures { result ≡ may_event e.now (slot_at self.now.slots a) }
     {
         match self.slots.get(a.0 as usize) {
-            Some(slot) => can_take(slot),
+            Some(slot) => may_event(slot, e),
             None => false,
         }
     }
 
-    /// Whether the cell of the actor is at home, and it may collect.
-    pub fn may_collect(&self, a: ActorName) -> bool
-        ensures { result ≡ may_at may_collect (slot_at self.now.slots a) }
+    /// The cell of an actor that may do this event of its own; `None` exactly where it may not, or its
+    /// cell is away.
+    #[inline(always)]
+    pub fn acting(&self, a: ActorName, e: &Event) -> Option<&Cell>
+        ensures cell { let x = slot_at self.now.slots a in
+            option_copied result ≡ (if may_event e.now x then home_of x else None) }
+        ensures owner { IfSome result (λ c. c.now.heap.owner ≡ a) }
     {
         match self.slots.get(a.0 as usize) {
-            Some(slot) => can_collect(slot),
-            None => false,
-        }
-    }
-
-    /// Whether the cell of the actor is at home, and it may leave.
-    pub fn may_leave(&self, a: ActorName) -> bool
-        ensures { result ≡ may_at may_leave (slot_at self.now.slots a) }
-    {
-        match self.slots.get(a.0 as usize) {
-            Some(slot) => can_leave(slot),
-            None => false,
-        }
-    }
-
-    /// Whether the cell of the actor is at home, and it may report that it is blocked.
-    pub fn may_block(&self, a: ActorName) -> bool
-        ensures { result ≡ may_at may_block (slot_at self.now.slots a) }
-    {
-        match self.slots.get(a.0 as usize) {
-            Some(slot) => can_block(slot),
-            None => false,
+            Some(slot) if may_event(slot, e) => cell_of(slot),
+            _ => None,
         }
     }
 
@@ -210,41 +195,21 @@ impl ActorTable {
         }
     }
 
-    /// Takes the memory for what the actor's first letter brings.
-    ///
-    /// # Errors
-    /// `NoMemory` where memory was refused.
-    #[tactic(auto, using(crate::proofs::Changing::index_stays))]
-    pub fn reserve_take(&mut self, a: ActorName) -> Result<(), NoMemory>
-        ensures actors { actors_of self.new.slots ≡ actors_of self.old.slots }
-        ensures away { away_of self.new.slots ≡ away_of self.old.slots }
-        ensures room { KeepsRoom self.old.slots self.new.slots }
-        ensures spare { self.new.spare ≡ self.old.spare }
-        ensures ok { OnOk result (HasRoomToTake (slot_at self.new.slots a)) }
-    {
-        if a.0 as usize >= self.slots.len() {
-            return Ok(());
-        }
-        reserve_take_at(&mut self.slots, a.0 as usize)
-    }
-
-    /// Takes the memory for what was found of the actor's turn.
+    /// Takes the memory for the change of an actor.
     ///
     /// # Errors
     /// `NoMemory` where memory was refused.
     #[tactic(auto, using(crate::proofs::Changing::index_stays))]
     #[inline(always)]
-    pub fn reserve_go(&mut self, a: ActorName, turn: &Turn, found: &Turned) -> Result<(), NoMemory>
+    pub fn reserve(&mut self, a: ActorName, change: &Change<'_>) -> Result<(), NoMemory>
         ensures actors { actors_of self.new.slots ≡ actors_of self.old.slots }
-        ensures away { away_of self.new.slots ≡ away_of self.old.slots }
-        ensures room { KeepsRoom self.old.slots self.new.slots }
-        ensures spare { self.new.spare ≡ self.old.spare }
-        ensures ok { OnOk result (HasRoomToGo turn.now (act_in found.now) (slot_at self.new.slots a)) }
+        ensures rest { KeepsRest self.old self.new }
+        ensures ok { OnOk result (HasRoomToChange change.now (slot_at self.new.slots a)) }
     {
         if a.0 as usize >= self.slots.len() {
             return Ok(());
         }
-        reserve_go_at(&mut self.slots, a.0 as usize, turn, found)
+        reserve_at(&mut self.slots, a.0 as usize, change)
     }
 
     /// Takes the memory for so many letters to an actor.
@@ -254,11 +219,9 @@ impl ActorTable {
     #[tactic(auto, using(crate::proofs::Changing::index_stays))]
     pub fn reserve_letters(&mut self, to: ActorName, n: usize) -> Result<(), NoMemory>
         ensures actors { actors_of self.new.slots ≡ actors_of self.old.slots }
-        ensures away { away_of self.new.slots ≡ away_of self.old.slots }
         ensures places { places_of self.new.slots ≡ places_of self.old.slots }
         ensures letters { letters_in self.new.slots ≡ letters_in self.old.slots }
-        ensures room { KeepsRoom self.old.slots self.new.slots }
-        ensures spare { self.new.spare ≡ self.old.spare }
+        ensures rest { KeepsRest self.old self.new }
         ensures ok { OnOk result (is_some (seat_at (actors_of self.old.slots) to) ≡ true
             → n ≤ (slot_at self.new.slots to).mail.spare) }
     {
@@ -312,74 +275,22 @@ impl ActorTable {
         note_on(&self.slots[a.0 as usize])
     }
 
-    /// The idle actor takes the first of its letters.
-    pub fn take(&mut self, code: &Checked, a: ActorName)
-        requires { CanTakeHere a (slot_at self.old.slots a) }
+    /// The change of an actor is done. It takes no memory.
+    #[inline(always)]
+    pub fn change(&mut self, code: &Checked, a: ActorName, change: &Change<'_>)
+        requires { CanChange a change.now (slot_at self.old.slots a) }
         ensures actors { actors_of self.new.slots
-            ≡ changed_at (taken code.now a) a (actors_of self.old.slots) }
-        ensures spare { self.new.spare ≡ self.old.spare }
-        ensures away { away_of self.new.slots ≡ away_of self.old.slots }
-        ensures room { KeepsRoom self.old.slots self.new.slots }
+            ≡ changed_at (seat_after code.now a change.now) a (actors_of self.old.slots) }
+        ensures rest { KeepsRest self.old self.new }
     {
-        take_at(&mut self.slots, code, a.0 as usize);
-        put_bits(&self.slots, &mut self.acting, &mut self.settling, a.0);
-    }
-
-    /// The actor's turn is done as it was found.
-    pub fn go(&mut self, a: ActorName, turn: &Turn, found: &Turned)
-        requires { CanGoHere a turn.now (act_in found.now) (slot_at self.old.slots a) }
-        ensures actors { actors_of self.new.slots
-            ≡ changed_at (with_cell_by (moved a turn.now found.now.place (act_in found.now))) a
-            (actors_of self.old.slots) }
-        ensures entry { IsSome (out_of (act_in found.now)).made
-            → IsSomeAnd (home_of (slot_at self.new.slots a)) (λ c. 0 < c.foreign.spare) }
-        ensures spare { self.new.spare ≡ self.old.spare }
-        ensures away { away_of self.new.slots ≡ away_of self.old.slots }
-        ensures room { KeepsRoom self.old.slots self.new.slots }
-    {
-        go_at(&mut self.slots, a.0 as usize, turn, found);
-        put_bits_in_turn(&self.slots, &mut self.acting, &mut self.settling, a.0);
-    }
-
-    /// The actor that was made last by this one gets its name.
-    pub fn settle_new(&mut self, a: ActorName, register: u8, name: ActorName, weight: u32)
-        requires { CanSettleNew weight name (slot_at self.old.slots a) }
-        ensures actors { actors_of self.new.slots
-            ≡ changed_at (with_cell_by (settled weight register name)) a (actors_of self.old.slots) }
-        ensures spare { self.new.spare ≡ self.old.spare }
-        ensures away { away_of self.new.slots ≡ away_of self.old.slots }
-        ensures room { KeepsRoom self.old.slots self.new.slots }
-    {
-        settle_at(&mut self.slots, a.0 as usize, register, name, weight);
-        put_bits_in_turn(&self.slots, &mut self.acting, &mut self.settling, a.0);
-    }
-
-    /// The actor's collection is done as it was planned.
-    pub fn collect(&mut self, a: ActorName, found: &Sweep)
-        requires { CanCollectHere found.now (slot_at self.old.slots a) }
-        ensures actors { (trace : tracing)
-            → IsSomeAnd (home_of (slot_at self.old.slots a)) (λ c. found.now ≡ sweep_of trace c)
-            → actors_of self.new.slots
-            ≡ changed_at (with_cell_by (swept trace a)) a (actors_of self.old.slots) }
-        ensures spare { self.new.spare ≡ self.old.spare }
-        ensures away { away_of self.new.slots ≡ away_of self.old.slots }
-        ensures room { KeepsRoom self.old.slots self.new.slots }
-    {
-        collect_at(&mut self.slots, a.0 as usize, found);
-        put_bits(&self.slots, &mut self.acting, &mut self.settling, a.0);
-    }
-
-    /// The actor reported that it is blocked.
-    pub fn block(&mut self, a: ActorName)
-        requires { HasCell (slot_at self.old.slots a) (λ c. ⊤) }
-        ensures actors { actors_of self.new.slots
-            ≡ changed_at (with_cell_by told) a (actors_of self.old.slots) }
-        ensures spare { self.new.spare ≡ self.old.spare }
-        ensures away { away_of self.new.slots ≡ away_of self.old.slots }
-        ensures room { KeepsRoom self.old.slots self.new.slots }
-    {
-        block_at(&mut self.slots, a.0 as usize);
-        put_bits(&self.slots, &mut self.acting, &mut self.settling, a.0);
+        change_at(code, &mut self.slots, a.0 as usize, change);
+        put_bits_after(
+            &self.slots,
+            &mut self.acting,
+            &mut self.settling,
+            a.0,
+            change,
+        );
     }
 
     /// A letter for an actor; where this is gone, the letter is lost.

@@ -22,7 +22,7 @@ use Rattle.orca_parts.specs.Parts.{state_of, options_of}
 use Rattle.orca_parts.specs.Steps.{CanStep, ReapsAtHome}
 use Rattle.orca_parts.specs.declared.parts.Parts.{Parts}
 use Rattle.orca_parts.proofs.Giving.{seat_here}
-use Rattle.orca_parts.proofs.Homes.{away_read}
+use Rattle.actor_table.proofs.Changing.{away_read}
 use Rattle.orca_parts.proofs.Prepared.{at_home}
 
 -- ---- runs

@@ -6,8 +6,7 @@ ghost use Rattle.letter_kinds.specs.Detector.{token_numbered, reports_of};
 ghost use Rattle.event_rule.specs.Runs.{IsEnabled, IsFirst, IsQuiet};
 ghost use Rattle.machine_rules.specs.Actors.{seat_at};
 ghost use Rattle.machine_rules.specs.Next.{next};
-ghost use Rattle.machine_rules.specs.Guards.{may_go};
-ghost use Rattle.actor_table.specs.Slots.{home_of, may_at, slot_at};
+ghost use Rattle.actor_table.specs.Slots.{home_of, slot_at};
 ghost use Rattle.actor_cell.specs.Cells.{as_cell};
 ghost use Rattle.orca_parts.specs.Away.{next_without};
 ghost use Rattle.orca_core.specs.Firsts.{next_of_kind};
@@ -16,21 +15,10 @@ ghost use Rattle.orca_core.specs.Machine.{NoneIsAway, cell_here, mail_here};
 
 use crate::machine::Orca;
 use actor_cell::Cell;
-use actor_table::ActorTable;
 use event_rule::Event;
 use mail_rows::MailRow;
 use orca_names::{ActorName, KeptReport, NoMemory};
 use std::alloc::Global;
-
-// Whether the cell of the actor is at home, and has a frame.
-fn may_go(table: &ActorTable, a: ActorName) -> bool
-    ensures { result ≡ may_at may_go (slot_at table.now.slots a) }
-{
-    match table.cell(a) {
-        Some(cell) => cell.frame.is_some(),
-        None => false,
-    }
-}
 
 impl<'a> Orca<'a> {
     /// Whether an event is enabled; of an actor whose cell is away none is.
@@ -38,11 +26,11 @@ impl<'a> Orca<'a> {
         ensures { result ≡ true ↔ IsEnabled (next_without self.now.out) self.now.state e }
     {
         match e {
-            Event::Take(a) => self.parts.table.may_take(a),
-            Event::Go(a) => may_go(&self.parts.table, a),
-            Event::Collect(a) => self.parts.table.may_collect(a),
-            Event::Leave(a) => self.parts.table.may_leave(a),
-            Event::Block(a) => self.parts.table.may_block(a),
+            Event::Take(a)
+            | Event::Go(a)
+            | Event::Collect(a)
+            | Event::Leave(a)
+            | Event::Block(a) => self.parts.table.may(a, &e),
             Event::Hear => !self.parts.notes.is_empty(),
             Event::Scan => self.parts.detector.news(),
             Event::Reap(token) => self.parts.detector.acked(token),

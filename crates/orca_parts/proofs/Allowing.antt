@@ -16,7 +16,7 @@ use Rattle.actor_cell.specs.Goes.{CanMove, turned_in}
 use Rattle.actor_cell.proofs.Telling.{told_can}
 use Rattle.actor_table.specs.declared.slot.Place.{Place}
 use Rattle.actor_table.specs.declared.slot.Place.TheVariants.{Home}
-use Rattle.actor_table.specs.Changes.{CanTakeHere}
+use Rattle.actor_table.specs.Changes.{CanTakeFirst, HasCell}
 use Rattle.actor_table.specs.Slots.{actors_of, seat_of, slot_at}
 use Rattle.orca_parts.specs.declared.parts.Parts.{Parts}
 use Rattle.orca_parts.specs.Fits.{FitsTake}
@@ -27,19 +27,21 @@ use Rattle.orca_parts.proofs.Giving.{seat_here}
 same_cell : (place : Place) (c d : Cell) → place ≡ Home c → place ≡ Home d → c ≡ d
 same_cell place c d one two = let z : Home c ≡ Home d = sym one ∙ two in cc
 
-pub can_take : (a : ℕ) (m : Parts) → FitsTake a m → AllowsTake a (actors_of m.table.slots) → CanTakeHere a (slot_at m.table.slots a)
-can_take a m fits allow =
-    record {
-      cell = fits.cell;
-      home = fits.home;
-      letter = fits.letter;
-      later = fits.later;
-      letters = fits.letters;
-      idle = fits.idle;
-      can = allow (as_cell fits.cell) fits.letter fits.later
-          (seat_here m.table.slots a fits.cell fits.home ∙ ap (λ ls. seat (as_cell fits.cell) ls) fits.letters);
-      room = fits.room;
-    }
+pub can_take : (a : ℕ) (m : Parts) → FitsTake a m → AllowsTake a (actors_of m.table.slots)
+    → HasCell (slot_at m.table.slots a) (CanTakeFirst a (slot_at m.table.slots a).mail.letters)
+can_take a m fits allow = record {
+  cell = fits.cell;
+  home = fits.home;
+  so = record {
+    letter = fits.letter;
+    later = fits.later;
+    first = fits.letters;
+    idle = fits.idle;
+    can = allow (as_cell fits.cell) fits.letter fits.later
+        (seat_here m.table.slots a fits.cell fits.home ∙ ap (λ ls. seat (as_cell fits.cell) ls) fits.letters);
+    room = fits.room;
+  };
+}
 
 pub counts_allow : (trace : Trace) (weight : ℕ) (program : Program) (a : ℕ) (found : Turned) (m : Parts)
     → FitsGo trace weight program a found m → AllowsGo trace weight program a (actors_of m.table.slots)

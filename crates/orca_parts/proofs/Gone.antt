@@ -1,8 +1,8 @@
 -- What a go leads to, by the act that was found.
-use Rattle.std.proofs.Common.{◌≡◌, ◌+◌, ◌-◌, ◌<◌, ℕ, nat_lt, List, [], ◌∷◌, ◌++◌, length, set, None, Some, refl, sym, ap, ◌∙◌, arith, lt-ltb}
+use Rattle.std.proofs.Common.{◌≡◌, ◌+◌, ◌-◌, ◌<◌, ℕ, nat_lt, List, [], ◌∷◌, ◌++◌, length, set, set-set, Some, refl, sym, ap, ◌∙◌, arith, lt-ltb}
 use Rattle.std.specs.Prelude.{if◌then◌else◌, is_some, option_map, ⊤}
 use Rattle.std.specs.Option.{option_map_or}
-use Rattle.std.proofs.lemmas.List.{append-nil, get_or-set_same, length-set}
+use Rattle.std.proofs.lemmas.List.{append-nil, length-map, length-set}
 use Rattle.orca_names.specs.declared.limits.TheConstants.{ACTORS_LIMIT}
 use Rattle.orca_names.specs.declared.names.Value.{Value}
 use Rattle.turn_rules.specs.Segment as segment
@@ -24,8 +24,10 @@ use Rattle.actor_cell.specs.Cells.{settled}
 use Rattle.actor_cell.specs.Goes.{IsTold, cell_by, gone_by, load_in, turned_in}
 use Rattle.actor_cell.specs.Laws.{after_go}
 use Rattle.actor_cell.specs.Moves.{Move, Post, Mint, New, Print, End, Rest}
-use Rattle.actor_table.specs.Changes.{changed_at, moved, with_cell_by}
-use Rattle.orca_parts.specs.Goes.{given}
+use Rattle.actor_table.specs.Changes.{changed_at, moved, named, with_cell_by}
+use Rattle.actor_table.specs.Slots.{actors_of, seat_of}
+use Rattle.orca_parts.specs.declared.parts.Parts.{Parts}
+use Rattle.orca_parts.specs.Goes.{HasRoomOut, given}
 use Rattle.actor_cell.proofs.Telling.{told_gone}
 use Rattle.actor_cell.proofs.GoParts.{gone, next-mint_all, next-send}
 
@@ -33,6 +35,10 @@ use Rattle.actor_cell.proofs.GoParts.{gone, next-mint_all, next-send}
 abbrev pub FitsLimit : Move → ℕ → Type 0
 FitsLimit (New kind register) made = made < ACTORS_LIMIT
 FitsLimit act made = ⊤
+
+pub fits_limit : (act : Move) (parts : Parts) → HasRoomOut act parts → FitsLimit act (length (actors_of parts.table.slots))
+fits_limit (New kind register) parts room = omega (arith, room.0, length-map parts.table.slots seat_of)
+fits_limit act parts room = tt
 
 -- an actor that is present has a frame, and this was found of its turn
 pub record Going (s : State) (a : ℕ) (c : Cell) (mail : List Letter) (frame : Frame) (turn : segment.Turn) (place : ℕ) (act : Move) : Type 0 where
@@ -111,7 +117,7 @@ module _ (s : State) (a : ℕ) (c : Cell) (mail : List Letter) (frame : Frame) (
   -- where there is room for one actor more
   pub new_goes : (kind register : ℕ) (actors : Actors) (objects : ℕ) → Going s a c mail frame turn place (New kind register)
       → length s.actors < ACTORS_LIMIT
-      → actors ≡ set (after (New kind register)) a (seat (settled s.options.weight register (length s.actors) (cell_by a c frame turn place (New kind register))) mail)
+      → actors ≡ set s.actors a (seat (settled s.options.weight register (length s.actors) (cell_by a c frame turn place (New kind register))) mail)
       ++ seat (fresh_cell s.options.weight s.program kind) [] ∷ []
       → objects ≡ s.objects + length turn.made
       → next s (Go a) ≡ Goes (record s { actors = actors; objects = objects })
@@ -129,45 +135,45 @@ module _ (s : State) (a : ℕ) (c : Cell) (mail : List Letter) (frame : Frame) (
         actors = set (after (New kind register)) a (seat (settled s.options.weight register (length s.actors) cell) mail) ++ seat (fresh_cell s.options.weight s.program kind) [] ∷ [];
         objects = s.objects + length turn.made;
       }) else IsFull) (lt-ltb (length s.actors) ACTORS_LIMIT few)
-      ∙ (λ i. Goes (record s { actors = sym is i; objects = sym made i }))
+      ∙ (λ i. Goes (record s {
+        actors = (ap (λ xs. xs ++ seat (fresh_cell s.options.weight s.program kind) [] ∷ []) (set-set s.actors a (seat cell mail) (seat (settled s.options.weight register (length s.actors) cell) mail)) ∙ sym is) i;
+        objects = sym made i;
+      }))
 
--- what the parts lead to, once the cell is that after the turn
+-- what the parts lead to, once the cell is that after the turn, and an actor that this makes has its name
 pub go_goes : (s : State) (a : ℕ) (c : Cell) (mail : List Letter) (frame : Frame) (turn : segment.Turn) (place : ℕ) (act : Move)
-    → Going s a c mail frame turn place act → FitsLimit act (length s.actors) → a < length s.actors
-    → next s (Go a) ≡ Goes (given s.options.weight s.program a act (length turn.made) (record s { actors = changed_at (with_cell_by (moved a turn place act)) a s.actors }))
-go_goes s a c mail frame turn place act going few here = by act going few
+    → Going s a c mail frame turn place act → FitsLimit act (length s.actors)
+    → next s (Go a) ≡ Goes (given s.options.weight s.program act (length turn.made)
+    (record s { actors = changed_at (with_cell_by (λ x. named s.options.weight (length s.actors) act (moved a turn place act x))) a s.actors }))
+go_goes s a c mail frame turn place act going few = by act going few
   where
+    weight : ℕ
+    weight = s.options.weight
+
+    after_by : Move → Actors
+    after_by does = changed_at (with_cell_by (λ x. named weight (length s.actors) does (moved a turn place does x))) a s.actors
+
     is_moved : (does : Move) → Going s a c mail frame turn place does
-        → changed_at (with_cell_by (moved a turn place does)) a s.actors ≡ set s.actors a (seat (cell_by a c frame turn place does) mail)
-    is_moved does g = ap (λ o. set s.actors a (with_cell_by (moved a turn place does) o)) g.present
-        ∙ ap (λ f. set s.actors a (seat (option_map_or (λ frame'. cell_by a c frame' turn place does) f c) mail)) g.framed
+        → after_by does ≡ set s.actors a (seat (named weight (length s.actors) does (cell_by a c frame turn place does)) mail)
+    is_moved does g = ap (λ o. set s.actors a (with_cell_by (λ x. named weight (length s.actors) does (moved a turn place does x)) o)) g.present
+        ∙ ap (λ f. set s.actors a (seat (named weight (length s.actors) does (option_map_or (λ frame'. cell_by a c frame' turn place does) f c)) mail)) g.framed
 
     by : (does : Move) → Going s a c mail frame turn place does → FitsLimit does (length s.actors)
-        → next s (Go a) ≡ Goes (given s.options.weight s.program a does (length turn.made) (record s { actors = changed_at (with_cell_by (moved a turn place does)) a s.actors }))
+        → next s (Go a) ≡ Goes (given weight s.program does (length turn.made) (record s { actors = after_by does }))
     by (Post to letter) g fits =
-        post_goes s a c mail frame turn place to letter (push_letter to letter (changed_at (with_cell_by (moved a turn place (Post to letter))) a s.actors)) (s.objects + length turn.made) g
+        post_goes s a c mail frame turn place to letter (push_letter to letter (after_by (Post to letter))) (s.objects + length turn.made) g
         (ap (push_letter to letter) (is_moved (Post to letter) g)) refl
     by (Mint owner things) g fits =
-        mint_goes s a c mail frame turn place owner things (push_letter owner (Inc things) (changed_at (with_cell_by (moved a turn place (Mint owner things))) a s.actors)) g
+        mint_goes s a c mail frame turn place owner things (push_letter owner (Inc things) (after_by (Mint owner things))) g
         (ap (push_letter owner (Inc things)) (is_moved (Mint owner things) g))
     by (New kind register) g fits =
-        let does = New kind register in
-        let cell = cell_by a c frame turn place does in
-        let before = changed_at (with_cell_by (moved a turn place does)) a s.actors in
-        let moved_is = is_moved does g in
-        let long : length before ≡ length s.actors = ap length moved_is ∙ length-set s.actors a (seat cell mail) in
-        let read : seat_at before a ≡ seat cell mail = ap (λ xs. seat_at xs a) moved_is ∙ get_or-set_same s.actors a (seat cell mail) None here in
-        let settle = settled s.options.weight register in
-        new_goes s a c mail frame turn place kind register
-        (changed_at (with_cell_by (settle (length before))) a before ++ seat (fresh_cell s.options.weight s.program kind) [] ∷ []) (s.objects + length turn.made) g fits
-        (ap (λ xs. xs ++ seat (fresh_cell s.options.weight s.program kind) [] ∷ [])
-        (ap (λ n. changed_at (with_cell_by (settle n)) a before) long
-        ∙ ap (λ o. set before a (with_cell_by (settle (length s.actors)) o)) read
-        ∙ ap (λ xs. set xs a (seat (settle (length s.actors) cell) mail)) moved_is)) refl
+        let fresh = seat (fresh_cell weight s.program kind) [] ∷ [] in
+        new_goes s a c mail frame turn place kind register (after_by (New kind register) ++ fresh) (s.objects + length turn.made) g fits
+        (ap (λ xs. xs ++ fresh) (is_moved (New kind register) g)) refl
     by (Print value) g fits =
-        print_goes s a c mail frame turn place value (changed_at (with_cell_by (moved a turn place (Print value))) a s.actors) (s.prints ++ value ∷ []) (s.objects + length turn.made) g
+        print_goes s a c mail frame turn place value (after_by (Print value)) (s.prints ++ value ∷ []) (s.objects + length turn.made) g
         (is_moved (Print value) g) refl refl
     by End g fits =
-        end_goes s a c mail frame turn place (changed_at (with_cell_by (moved a turn place End)) a s.actors) (s.objects + length turn.made) g (is_moved End g) refl
+        end_goes s a c mail frame turn place (after_by End) (s.objects + length turn.made) g (is_moved End g) refl
     by Rest g fits =
-        rest_goes s a c mail frame turn place (changed_at (with_cell_by (moved a turn place Rest)) a s.actors) (s.objects + length turn.made) g (is_moved Rest g) refl
+        rest_goes s a c mail frame turn place (after_by Rest) (s.objects + length turn.made) g (is_moved Rest g) refl

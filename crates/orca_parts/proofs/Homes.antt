@@ -12,11 +12,9 @@ use Rattle.actor_cell.specs.declared.cell.Cell.{Cell}
 use Rattle.actor_table.specs.declared.slot.Place.{Place}
 use Rattle.actor_table.specs.declared.slot.Place.TheVariants.{Home, Away, Gone}
 use Rattle.actor_table.specs.Slots.{actors_of, away_of, gone, home_in, home_of, is_away, is_away_in, letters_in, places_of, seat_in, slot_at}
+use Rattle.actor_table.proofs.Changing.{away_read}
 use Rattle.orca_parts.specs.Away.{KeepsAway, is_out}
 use Rattle.orca_parts.specs.Fits.{without_all}
-
-pub away_read : (slots : List Slot) (a : ℕ) → is_out (away_of slots) a ≡ is_away (slot_at slots a)
-away_read slots a = get_or-map is_away slots a gone
 
 pub place_read : (slots : List Slot) (a : ℕ) → get_or (places_of slots) a Gone ≡ (slot_at slots a).place
 place_read slots a = get_or-map (λ (x : Slot). x.place) slots a gone

@@ -6,7 +6,6 @@ pub mod Founding
 pub mod Giving
 pub mod Gone
 pub mod Homes
-pub mod Naming
 pub mod Posting
 pub mod Prepared
 pub mod Preparing

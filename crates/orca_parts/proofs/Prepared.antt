@@ -23,16 +23,16 @@ use Rattle.actor_cell.specs.declared.cell.Cell.{Cell}
 use Rattle.actor_cell.specs.Moves.{act_in}
 use Rattle.actor_cell.specs.declared.turning.Turned.{Turned}
 use Rattle.actor_cell.specs.Cells.{as_cell}
-use Rattle.actor_cell.specs.Goes.{IsTold, told, turned_in}
+use Rattle.actor_cell.specs.Goes.{IsTold, new_entries, told, turned_in}
 use Rattle.actor_table.specs.declared.slot.Slot.{Slot}
 use Rattle.actor_table.specs.declared.slot.Place.{Place}
 use Rattle.actor_table.specs.declared.slot.Place.TheVariants.{Home, Away, Gone}
-use Rattle.actor_table.specs.Changes.{HasCell, HasRoomToGo}
+use Rattle.actor_table.specs.Changes.{HasCell}
 use Rattle.actor_table.specs.Slots.{Table, actors_of, away_of, is_away, is_away_in, places_of, seat_in, slot_at}
-use Rattle.actor_table.proofs.Changing.{seat_read}
+use Rattle.actor_table.proofs.Changing.{away_read, seat_read}
 use Rattle.orca_parts.specs.Away.{is_out, next_without}
 use Rattle.orca_parts.specs.Faults.{IsFault}
-use Rattle.orca_parts.proofs.Homes.{away_read, place_read}
+use Rattle.orca_parts.proofs.Homes.{place_read}
 use Rattle.orca_parts.specs.Fits.{OnlyRoom}
 use Rattle.orca_parts.specs.Goes.{FitsGo, HasRoomOut, IsFoundGo, NotGoing}
 use Rattle.orca_parts.specs.Parts.{state_of}
@@ -108,10 +108,14 @@ table_room m table turn actors away =
 
 -- what was found fits, once the memory was taken
 module _ (trace : Trace) (weight : ℕ) (program : Program) (a : ℕ) (found : Turned) (old : List Slot) (turn : Turn) (mid : List Slot) (m : Parts) where
+  -- where its cell is at home, there is room for what was found
+  abbrev HasRoomToGo : Slot → Type 0
+  HasRoomToGo x = (y : Cell) → x.place ≡ Home y → (length turn.made ≤ y.heap.spare) × (new_entries (act_in found) y.foreign.entries ≤ y.foreign.spare)
+
   fits_with : (c : Cell) → (slot_at old a).place ≡ Home c → (frame : Frame) → c.frame ≡ Some frame
       → IsTold trace weight program a (as_cell c) turn found.place (act_in found) frame
       → (x : Cell) → (slot_at mid a).place ≡ Home x → as_cell x ≡ as_cell c
-      → HasRoomToGo turn (act_in found) (slot_at mid a) → places_of m.table.slots ≡ places_of mid → m.turn ≡ turn
+      → HasRoomToGo (slot_at mid a) → places_of m.table.slots ≡ places_of mid → m.turn ≡ turn
       → HasRoomOut (act_in found) m → length turn.made ≤ BODY_LIMIT
       → FitsGo trace weight program a found m
   fits_with c home frame framed is x at same room places kept out few =
@@ -130,7 +134,7 @@ module _ (trace : Trace) (weight : ℕ) (program : Program) (a : ℕ) (found : T
 
   pub fits_go : HasCell (slot_at old a) (IsFoundGo trace weight program a turn found)
       → actors_of mid ≡ actors_of old → away_of mid ≡ away_of old
-      → HasRoomToGo turn (act_in found) (slot_at mid a) → places_of m.table.slots ≡ places_of mid → m.turn ≡ turn
+      → HasRoomToGo (slot_at mid a) → places_of m.table.slots ≡ places_of mid → m.turn ≡ turn
       → HasRoomOut (act_in found) m → length turn.made ≤ BODY_LIMIT
       → FitsGo trace weight program a found m
   fits_go cell actors away room places kept out few =

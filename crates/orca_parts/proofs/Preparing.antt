@@ -5,6 +5,7 @@ use Rattle.std.specs.Option.{option_map_or}
 use Rattle.std.proofs.lemmas.Bool.{cases_lt}
 use Rattle.std.proofs.lemmas.List.{get_or-map, get_or_past, length-map}
 use Rattle.event_rule.specs.Runs.{NotEnabled, Step}
+use Rattle.event_rule.specs.declared.event.Event.{Event}
 use Rattle.std.specs.VecDeque.{deque_capacity, deque_len}
 use Rattle.letter_kinds.specs.declared.letter.Letter.{Letter}
 use Rattle.letter_kinds.specs.declared.note.Note.{Note}
@@ -13,7 +14,7 @@ use Rattle.machine_rules.specs.Actors.{Seat, seat_at}
 use Rattle.machine_rules.specs.Cell as rules
 use Rattle.machine_rules.specs.Next.{acting}
 use Rattle.machine_rules.specs.State.{State}
-use Rattle.machine_rules.specs.Guards.{may_block, may_collect, may_leave, may_take}
+use Rattle.machine_rules.specs.Guards.{may_block, may_collect, may_do, may_leave, may_take}
 use Rattle.machine_rules.specs.Collect.{is_marked}
 use Rattle.orca_names.specs.declared.trace.Trace.{Trace}
 use Rattle.letter_kinds.specs.Counting.{by_owner, given_back}
@@ -28,14 +29,14 @@ use Rattle.actor_cell.proofs.Marked.{back_same}
 use Rattle.actor_table.specs.declared.slot.Place.{Place}
 use Rattle.actor_table.specs.declared.slot.Place.TheVariants.{Home, Away, Gone}
 use Rattle.actor_table.specs.declared.slot.Slot.{Slot}
-use Rattle.actor_table.specs.Changes.{HasRoomToTake}
-use Rattle.actor_table.specs.Slots.{actors_of, away_of, gone, home_of, is_away, is_away_in, letters_in, may_at, may_in, places_of, seat_in, seat_of, slot_at}
-use Rattle.actor_table.proofs.Changing.{seat_read}
+use Rattle.actor_cell.specs.Takes.{HasRoomFor}
+use Rattle.actor_table.specs.Slots.{actors_of, away_of, gone, home_in, home_of, is_away, is_away_in, letters_in, may_at, may_event, may_in, places_of, seat_in, seat_of, slot_at}
+use Rattle.actor_table.proofs.Changing.{away_read, seat_read}
 use Rattle.orca_parts.specs.declared.parts.Parts.{Parts}
 use Rattle.orca_parts.specs.Fits.{FitsBlock, FitsCollect, FitsLeave, FitsTake, OnlyRoom}
 use Rattle.orca_parts.specs.Letters.{FitLetters, letters_to}
 use Rattle.orca_parts.specs.Away.{is_out}
-use Rattle.orca_parts.proofs.Homes.{away_read, home_is}
+use Rattle.orca_parts.proofs.Homes.{home_is}
 use Rattle.orca_parts.proofs.Reserving.{once_each}
 
 module _ (may : rules.Cell → List Letter → Bool) where
@@ -53,6 +54,27 @@ module _ (may : rules.Cell → List Letter → Bool) where
   -- what it may, the cell at home may
   pub may_here : (x : Slot) (c : Cell) → x.place ≡ Home c → may_at may x ≡ true → may (as_cell c) x.mail.letters ≡ true
   may_here x c home on = sym (ap (λ p. may_in may p x.mail.letters) home) ∙ on
+
+-- the table lends no cell where the actor may not do the event, or its cell is away
+pub not_acting : (e : Event) (x : Slot) → None ≡ (if may_event e x then home_of x else None) → may_event e x ≡ false
+not_acting e x none = by x.place none
+  where
+    which : (c : Cell) (b : Bool) → None ≡ (if b then Some c else None) → b ≡ false
+    which c true is = cc
+    which c false is = refl
+
+    by : (p : Place) → None ≡ (if may_in (λ c mail. may_do c mail e) p x.mail.letters then home_in p else None) → may_in (λ c mail. may_do c mail e) p x.mail.letters ≡ false
+    by (Home c) is = which c (may_do (as_cell c) x.mail.letters e) is
+    by (Away c) is = refl
+    by Gone is = refl
+
+-- and the one at home where it may
+pub acts_home : (e : Event) (x : Slot) (c : Cell) → Some c ≡ (if may_event e x then home_of x else None) → (Some c ≡ home_of x) × (may_event e x ≡ true)
+acts_home e x c lent = by (may_event e x) lent
+  where
+    by : (b : Bool) → Some c ≡ (if b then home_of x else None) → (Some c ≡ home_of x) × (b ≡ true)
+    by true is = (is, refl)
+    by false is = cc
 
 pub fits_block : (a : ℕ) (note : Note) (m : Parts) (c : Cell) → m.report ≡ Some note → Some c ≡ home_of (slot_at m.table.slots a) → c.heap.owner ≡ a
     → may_at may_block (slot_at m.table.slots a) ≡ true → note ≡ report_of c.heap.owner (as_cell c)
@@ -96,7 +118,8 @@ idle_and None b on = (refl, on)
 idle_and (Some f) b on = cc
 
 pub fits_take : (a : ℕ) (m : Parts) (old : List Slot) → actors_of m.table.slots ≡ actors_of old → away_of m.table.slots ≡ away_of old
-    → may_at may_take (slot_at old a) ≡ true → HasRoomToTake (slot_at m.table.slots a) → deque_len m.notes < deque_capacity m.notes → FitsTake a m
+    → may_at may_take (slot_at old a) ≡ true → ((c : Cell) → (slot_at m.table.slots a).place ≡ Home c → (letter : Letter) (later : List Letter) → (slot_at m.table.slots a).mail.letters ≡ letter ∷ later → HasRoomFor letter c.foreign.spare c.known.spare)
+    → deque_len m.notes < deque_capacity m.notes → FitsTake a m
 fits_take a m old actors away may room note =
     by x.place refl x.mail.letters refl (may_stays may_take (slot_at old a) x (same_at seat_of m.table.slots old actors a) (same_at is_away m.table.slots old away a) ∙ may)
   where
@@ -112,7 +135,7 @@ fits_take a m old actors away may room note =
       later = later;
       letters = is;
       idle = (idle_and c.frame true on).0;
-      room = room c letter later home is;
+      room = room c home letter later is;
       note = λ _. note;
     }
     by (Away c) home letters is on = cc

@@ -14,11 +14,10 @@ use Rattle.machine_rules.specs.State.{State}
 use Rattle.actor_cell.specs.declared.cell.Cell.{Cell}
 use Rattle.actor_cell.specs.Moves.{Move, Post, Mint, New, Print, End, Rest, act_in}
 use Rattle.actor_cell.specs.declared.turning.Turned.{Turned}
-use Rattle.actor_cell.specs.Cells.{as_cell, settled}
+use Rattle.actor_cell.specs.Cells.{as_cell}
 use Rattle.actor_cell.specs.Goes.{CanMove, IsTold, new_entries}
 use Rattle.actor_table.specs.declared.slot.Slot.{Slot}
 use Rattle.actor_table.specs.declared.slot.Place.TheVariants.{Home}
-use Rattle.actor_table.specs.Changes.{CanSettleNew, changed_at, with_cell_by}
 use Rattle.actor_table.specs.Slots.{actors_of, slot_at}
 use Rattle.orca_parts.specs.declared.fault.StepFault.{StepFault}
 use Rattle.orca_parts.specs.declared.fault.StepFault.TheVariants as faults
@@ -69,27 +68,19 @@ pub record CountsAllow (a : ℕ) (act : Move) (parts : Parts) (c : Cell) : Type 
   pub serials : c.heap.next + BODY_LIMIT < 2 ^ 64
   pub unnamed : m.get c.foreign.entries (Actor (length parts.table.slots)) ≡ None
 
--- the maker can hold the actor that is made with the weight; one act alone makes one
-abbrev pub CanNameNew : ℕ → ℕ → Move → List Slot → Type 0
-CanNameNew weight a (New kind register) slots = CanSettleNew weight (length slots) (slot_at slots a)
-CanNameNew weight a act slots = ⊤
-
 -- ---- what becomes of the state
 
 -- once the actor's cell is that after its turn, which made so many objects
-abbrev pub given : ℕ → Program → ℕ → Move → ℕ → State → State
-given weight program a (Post to letter) made s =
+abbrev pub given : ℕ → Program → Move → ℕ → State → State
+given weight program (Post to letter) made s =
     record s { actors = push_letter to letter s.actors; objects = s.objects + made }
-given weight program a (Mint owner things) made s =
+given weight program (Mint owner things) made s =
     record s { actors = push_letter owner (Inc things) s.actors }
-given weight program a (New kind register) made s =
-    let name = length s.actors in
-    record s {
-      actors = changed_at (with_cell_by (settled weight register name)) a s.actors
-          ++ seat (fresh_cell weight program kind) [] ∷ [];
-      objects = s.objects + made;
-    }
-given weight program a (Print value) made s =
+given weight program (New kind register) made s = record s {
+  actors = s.actors ++ seat (fresh_cell weight program kind) [] ∷ [];
+  objects = s.objects + made;
+}
+given weight program (Print value) made s =
     record s { prints = s.prints ++ value ∷ []; objects = s.objects + made }
-given weight program a End made s = record s { objects = s.objects + made }
-given weight program a Rest made s = record s { objects = s.objects + made }
+given weight program End made s = record s { objects = s.objects + made }
+given weight program Rest made s = record s { objects = s.objects + made }

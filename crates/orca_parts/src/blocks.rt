@@ -15,6 +15,9 @@ ghost use Rattle.orca_parts.specs.Woken.{IsLowestWoken};
 
 use crate::fault::StepFault;
 use crate::parts::Parts;
+use actor_table::Change;
+use behaviour_check::Checked;
+use event_rule::Event;
 use orca_names::ActorName;
 use std::alloc::Global;
 
@@ -30,11 +33,8 @@ pub(crate) fn prepare_block(alloc: Global, parts: &mut Parts, a: ActorName) -> R
         (program : Program) (options : Options) → IfErr result
         (IsFault (next_without away (state_of program options parts.old) (block_event a)) (block_event a)) }
 {
-    if !parts.table.may_block(a) {
+    let Some(cell) = parts.table.acting(a, &Event::Block(a)) else {
         return Err(StepFault::NotEnabled);
-    }
-    let Some(cell) = parts.table.cell(a) else {
-        unreachable!();
     };
     let Ok(note) = cell.report(alloc) else {
         return Err(StepFault::NoMemory);
@@ -47,7 +47,7 @@ pub(crate) fn prepare_block(alloc: Global, parts: &mut Parts, a: ActorName) -> R
 }
 
 /// The actor reports what was prepared. It takes no memory, and wakes nobody.
-pub(crate) fn apply_block(parts: &mut Parts, a: ActorName) -> Option<ActorName>
+pub(crate) fn apply_block(code: &Checked, parts: &mut Parts, a: ActorName) -> Option<ActorName>
     requires { FitsBlock a parts.old }
     ensures state { (program : Program) (options : Options)
         → next (state_of program options parts.old) (block_event a)
@@ -58,7 +58,7 @@ pub(crate) fn apply_block(parts: &mut Parts, a: ActorName) -> Option<ActorName>
     let Some(note) = parts.report.take() else {
         unreachable!();
     };
-    parts.table.block(a);
+    parts.table.change(code, a, &Change::Block);
     parts.notes.push_back_reserved(note);
     None
 }

@@ -6,9 +6,8 @@ ghost use Rattle.event_rule.specs.Runs.{Goes};
 ghost use Rattle.event_rule.specs.declared.event.Event.TheVariants.{Collect as collect_event};
 ghost use Rattle.machine_rules.specs.Next.{next};
 ghost use Rattle.machine_rules.specs.Options.{Options};
-ghost use Rattle.machine_rules.specs.Guards.{may_collect};
 ghost use Rattle.actor_table.specs.Changes.{HasCell};
-ghost use Rattle.actor_table.specs.Slots.{actors_of, away_of, may_at, slot_at};
+ghost use Rattle.actor_table.specs.Slots.{actors_of, away_of, may_event, slot_at};
 ghost use Rattle.actor_cell.specs.declared.cell.Cell.{Cell};
 ghost use Rattle.actor_cell.specs.Sweeps.{KnowsOthersOnly, sweep_of};
 ghost use Rattle.actor_table.specs.declared.slot.Place.TheVariants.{Home};
@@ -23,6 +22,9 @@ use crate::fault::StepFault;
 use crate::letters::{push_decs, reserve_each};
 use crate::parts::Parts;
 use actor_cell::Sweep;
+use actor_table::Change;
+use behaviour_check::Checked;
+use event_rule::Event;
 use orca_names::{ActorName, Trace};
 use plain_list::Listed;
 use std::alloc::Global;
@@ -40,7 +42,7 @@ pub(crate) fn prepare_sweep(
     a: ActorName,
     found: Sweep,
 ) -> Result<(), StepFault>
-    requires may { may_at may_collect (slot_at parts.old.table.slots a) ≡ true }
+    requires may { may_event (collect_event a) (slot_at parts.old.table.slots a) ≡ true }
     requires found { HasCell (slot_at parts.old.table.slots a)
         (λ c. (c.heap.owner ≡ a) × (found ≡ sweep_of trace c)) }
     ensures same { OnlyRoom parts.old parts.new }
@@ -76,11 +78,8 @@ pub(crate) fn prepare_collect(
         (program : Program) (options : Options) → IfErr result
         (IsFault (next_without away (state_of program options parts.old) (collect_event a)) (collect_event a)) }
 {
-    if !parts.table.may_collect(a) {
+    let Some(cell) = parts.table.acting(a, &Event::Collect(a)) else {
         return Err(StepFault::NotEnabled);
-    }
-    let Some(cell) = parts.table.cell(a) else {
-        unreachable!();
     };
     let Ok(found) = cell.found_collect(alloc, trace) else {
         return Err(StepFault::NoMemory);
@@ -92,8 +91,9 @@ pub(crate) fn prepare_collect(
 /// takes no memory.
 pub(crate) fn apply_collect(
     alloc: Global,
-    parts: &mut Parts,
+    code: &Checked,
     trace: Trace,
+    parts: &mut Parts,
     a: ActorName,
 ) -> Option<ActorName>
     requires { FitsCollect trace a parts.old.sweep parts.old }
@@ -103,8 +103,10 @@ pub(crate) fn apply_collect(
     ensures away { away_of parts.new.table.slots ≡ away_of parts.old.table.slots }
     ensures woken { IsLowestWoken (actors_of parts.old.table.slots) (actors_of parts.new.table.slots) result }
 {
-    let _trace = trace;
-    parts.table.collect(a, &parts.sweep);
+    let found = &parts.sweep;
+    parts
+        .table
+        .change(code, a, &Change::Collect { found, trace });
     let back = mem::replace(&mut parts.sweep.plan.back, Listed::new(alloc));
     push_decs(&mut parts.table, back.into_vec())
 }

@@ -11,10 +11,10 @@ ghost use Rattle.machine_rules.specs.Actors.{push_letter, seat};
 ghost use Rattle.machine_rules.specs.Cell.{fresh_cell};
 ghost use Rattle.machine_rules.specs.Next.{next};
 ghost use Rattle.machine_rules.specs.Options.{Options};
-ghost use Rattle.actor_cell.specs.Cells.{as_cell, settled};
+ghost use Rattle.actor_cell.specs.Cells.{as_cell};
 ghost use Rattle.actor_cell.specs.declared.cell.Cell.{Cell as a_cell};
 ghost use Rattle.actor_table.specs.declared.slot.Place.TheVariants.{Home};
-ghost use Rattle.actor_table.specs.Changes.{CanSettleNew, HasCell, changed_at, with_cell_by};
+ghost use Rattle.actor_table.specs.Changes.{HasCell};
 ghost use Rattle.actor_table.specs.Slots.{actors_of, away_of, places_of, slot_at};
 ghost use Rattle.ref_weights.specs.Limit.{count_limit};
 ghost use Rattle.actor_cell.specs.Awaiting.{Awaits};
@@ -25,7 +25,7 @@ ghost use Rattle.orca_parts.specs.Away.{KeepsAway, next_without};
 ghost use Rattle.orca_parts.specs.Awaiting.{AwaitedIn, AwaitsMinted, IsAwaited, IsAwaitedHere};
 ghost use Rattle.orca_parts.specs.Faults.{IsFault};
 ghost use Rattle.orca_parts.specs.Fits.{OnlyRoom};
-ghost use Rattle.orca_parts.specs.Goes.{CanNameNew, CountsAllow, FitsGo, HasRoomForOne, HasRoomOut, IsFoundGo, NotGoing, given};
+ghost use Rattle.orca_parts.specs.Goes.{CountsAllow, FitsGo, HasRoomForOne, HasRoomOut, IsFoundGo, NotGoing, given};
 ghost use Rattle.orca_parts.specs.Parts.{state_of};
 ghost use Rattle.orca_parts.specs.Woken.{IsLowestWoken};
 
@@ -33,7 +33,7 @@ use crate::fault::StepFault;
 use crate::letters::post;
 use crate::parts::Parts;
 use actor_cell::{Awaited, Cell, Doing, Turned};
-use actor_table::ActorTable;
+use actor_table::{ActorTable, Change};
 use behaviour_check::Checked;
 use behaviour_code::Name;
 use letter_kinds::Letter;
@@ -149,7 +149,7 @@ fn makes(found: &Turned) -> bool
 /// `ActorsFull` exactly where the act would make an actor too many, and `NoMemory` where memory was
 /// refused.
 #[inline(always)]
-pub(crate) fn prepare_turn(parts: &mut Parts, a: ActorName) -> Result<(), StepFault>
+pub(crate) fn prepare_turn(weight: u32, parts: &mut Parts, a: ActorName) -> Result<(), StepFault>
     requires few { length parts.old.turn.made ≤ BODY_LIMIT }
     ensures same { OnlyRoom parts.old parts.new }
     ensures turn { parts.new.turn ≡ parts.old.turn }
@@ -166,11 +166,13 @@ pub(crate) fn prepare_turn(parts: &mut Parts, a: ActorName) -> Result<(), StepFa
     if makes(&parts.turned) && parts.table.len() >= ACTORS_LIMIT {
         return Err(StepFault::ActorsFull { actor: a });
     }
-    if parts
-        .table
-        .reserve_go(a, &parts.turn, &parts.turned)
-        .is_err()
-    {
+    let change = Change::Go {
+        turn: &parts.turn,
+        found: &parts.turned,
+        name: parts.table.next_name(),
+        weight,
+    };
+    if parts.table.reserve(a, &change).is_err() {
         return Err(StepFault::NoMemory);
     }
     if reserve_out(parts).is_err() {
@@ -246,7 +248,7 @@ pub(crate) fn prepare_go(
         &mut parts.turned,
         a,
     ) {
-        Ok(()) => prepare_turn(parts, a),
+        Ok(()) => prepare_turn(weight, parts, a),
         Err(fault) => Err(fault),
     }
 }
@@ -265,28 +267,17 @@ impl Parts {
     }
 }
 
-// An actor of the kind comes behind all others, and its maker has its name; it is told.
-fn make(
-    alloc: Global,
-    code: &Checked,
-    weight: u32,
-    table: &mut ActorTable,
-    a: ActorName,
-    kind: u32,
-    register: u8,
-) -> ActorName
+// An actor of the kind comes behind all others, and is told.
+fn make(alloc: Global, code: &Checked, weight: u32, table: &mut ActorTable, kind: u32) -> ActorName
     requires light { weight < count_limit }
     requires few { length table.old.slots < ACTORS_LIMIT }
     requires room { 0 < table.old.spare }
-    requires can { CanSettleNew weight (length table.old.slots) (slot_at table.old.slots a) }
-    ensures actors { actors_of table.new.slots ≡ changed_at
-        (with_cell_by (settled weight register (length table.old.slots))) a (actors_of table.old.slots)
-        ++ seat (fresh_cell weight code.now kind) [] ∷ [] }
+    ensures actors { actors_of table.new.slots
+        ≡ actors_of table.old.slots ++ seat (fresh_cell weight code.now kind) [] ∷ [] }
     ensures away { KeepsAway (away_of table.old.slots) (away_of table.new.slots) }
     ensures woken { IsLowestWoken (actors_of table.old.slots) (actors_of table.new.slots) (Some result) }
 {
-    let name = ActorName(table.len() as u32);
-    table.settle_new(a, register, name, weight);
+    let name = table.next_name();
     let cell = Cell::fresh(alloc, code, name, kind, u64::from(weight));
     table.push_actor(cell, MailRow::new(alloc));
     name
@@ -333,19 +324,12 @@ fn post_things(
 
 // What the actor does where its turn stopped is given out, and the actor that gets it or is made is
 // told. What was found stays where it is but for a letter or its things, which move out.
-fn give_out(
-    alloc: Global,
-    code: &Checked,
-    weight: u32,
-    parts: &mut Parts,
-    a: ActorName,
-) -> Option<ActorName>
+fn give_out(alloc: Global, code: &Checked, weight: u32, parts: &mut Parts) -> Option<ActorName>
     requires light { weight < count_limit }
     requires room { HasRoomOut (act_in parts.old.turned) parts.old }
-    requires can { CanNameNew weight a (act_in parts.old.turned) parts.old.table.slots }
     requires objects { parts.old.objects + length parts.old.turn.made < 2 ^ 64 }
     ensures state { (options : Options) → state_of code.now options parts.new
-        ≡ given weight code.now a (act_in parts.old.turned) (length parts.old.turn.made)
+        ≡ given weight code.now (act_in parts.old.turned) (length parts.old.turn.made)
         (state_of code.now options parts.old) }
     ensures awaited { (trace : tracing) → AwaitsMinted trace code.now parts.old
         → IsAwaited trace code.now parts.new }
@@ -363,12 +347,10 @@ fn give_out(
             let owner = *owner;
             post_things(alloc, &mut parts.table, &mut parts.turned, owner)
         }
-        Doing::New { kind, register } => {
+        Doing::New { kind, register: _ } => {
             let kind = *kind;
-            let register = *register;
             parts.keep_turn();
-            let name = make(alloc, code, weight, &mut parts.table, a, kind, register);
-            Some(name)
+            Some(make(alloc, code, weight, &mut parts.table, kind))
         }
         Doing::Print { value } => {
             let value = *value;
@@ -406,6 +388,12 @@ pub(crate) fn apply_go(
     ensures woken { IsLowestWoken (actors_of parts.old.table.slots) (actors_of parts.new.table.slots) result }
 {
     let _trace = trace;
-    parts.table.go(a, &parts.turn, &parts.turned);
-    give_out(alloc, code, weight, parts, a)
+    let change = Change::Go {
+        turn: &parts.turn,
+        found: &parts.turned,
+        name: parts.table.next_name(),
+        weight,
+    };
+    parts.table.change(code, a, &change);
+    give_out(alloc, code, weight, parts)
 }

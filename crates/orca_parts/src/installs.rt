@@ -43,7 +43,7 @@ fn install_go(
         let s = state_of code.now options parts.old in
         IfErr result (IsFault (next_without (away_of parts.old.table.slots) s (go_event a)) (go_event a)) }
 {
-    let _options = (weight, trace);
+    let _trace = trace;
     // The behaviours of a checked program are short.
     let _program = code.program();
     let Some(_cell) = parts.table.cell(a) else {
@@ -54,7 +54,7 @@ fn install_go(
     };
     swap(&mut parts.turn, turn);
     swap(&mut parts.turned, turned);
-    prepare_turn(parts, a)
+    prepare_turn(weight, parts, a)
 }
 
 // Takes all memory for what was found of the actor's collection; the state stays as it was.
@@ -75,11 +75,8 @@ fn install_collect(
     let Found::Collects { sweep } = replace(found, Found::Nothing) else {
         return Err(StepFault::NotEnabled);
     };
-    if !parts.table.may_collect(a) {
+    let Some(_cell) = parts.table.acting(a, &Event::Collect(a)) else {
         return Err(StepFault::NotEnabled);
-    }
-    let Some(_cell) = parts.table.cell(a) else {
-        unreachable!();
     };
     prepare_sweep(trace, parts, a, sweep)
 }

@@ -16,6 +16,7 @@ ghost use Rattle.orca_parts.specs.Woken.{IsLowestWoken};
 use crate::fault::StepFault;
 use crate::letters::{push_all, reserve_all};
 use crate::parts::Parts;
+use event_rule::Event;
 use orca_names::ActorName;
 use std::alloc::Global;
 use std::mem;
@@ -33,11 +34,8 @@ pub(crate) fn prepare_leave(alloc: Global, parts: &mut Parts, a: ActorName) -> R
         (program : Program) (options : Options) → IfErr result
         (IsFault (next_without away (state_of program options parts.old) (leave_event a)) (leave_event a)) }
 {
-    if !parts.table.may_leave(a) {
+    let Some(cell) = parts.table.acting(a, &Event::Leave(a)) else {
         return Err(StepFault::NotEnabled);
-    }
-    let Some(cell) = parts.table.cell(a) else {
-        unreachable!();
     };
     let gone = [a];
     let Ok(given) = cell.give_back(alloc, &gone) else {

@@ -120,9 +120,9 @@ pub fn apply(
     match e {
         Event::Take(actor) => apply_take(code, parts, actor),
         Event::Go(actor) => apply_go(alloc, code, weight, trace, parts, actor),
-        Event::Collect(actor) => apply_collect(alloc, parts, trace, actor),
+        Event::Collect(actor) => apply_collect(alloc, code, trace, parts, actor),
         Event::Leave(actor) => apply_leave(alloc, parts, actor),
-        Event::Block(actor) => apply_block(parts, actor),
+        Event::Block(actor) => apply_block(code, parts, actor),
         Event::Hear => apply_hear(parts),
         Event::Scan => apply_scan(parts),
         Event::Reap(token) => apply_reap(alloc, parts, token),

@@ -9,7 +9,7 @@ ghost use Rattle.event_rule.specs.declared.event.Event.TheVariants.{Take as take
 ghost use Rattle.machine_rules.specs.Actors.{seat_at};
 ghost use Rattle.machine_rules.specs.Next.{next};
 ghost use Rattle.machine_rules.specs.Options.{Options};
-ghost use Rattle.actor_table.specs.Changes.{CanTakeHere, note_taken};
+ghost use Rattle.actor_table.specs.Changes.{CanTakeFirst, HasCell, note_taken};
 ghost use Rattle.actor_table.specs.Slots.{actors_of, away_of, slot_at};
 ghost use Rattle.orca_parts.specs.Awaiting.{IsAwaited};
 ghost use Rattle.orca_parts.specs.Away.{next_without};
@@ -20,7 +20,9 @@ ghost use Rattle.orca_parts.specs.Woken.{IsLowestWoken};
 
 use crate::fault::StepFault;
 use crate::parts::Parts;
+use actor_table::Change;
 use behaviour_check::Checked;
+use event_rule::Event;
 use orca_names::ActorName;
 
 /// The memory for what the actor's first letter brings and for what is noted of it. Nothing changes.
@@ -39,10 +41,10 @@ pub(crate) fn prepare_take(parts: &mut Parts, a: ActorName) -> Result<(), StepFa
         (program : Program) (options : Options) → IfErr result
         (IsFault (next_without away (state_of program options parts.old) (take_event a)) (take_event a)) }
 {
-    if !parts.table.may_take(a) {
+    let Some(_cell) = parts.table.acting(a, &Event::Take(a)) else {
         return Err(StepFault::NotEnabled);
-    }
-    if parts.table.reserve_take(a).is_err() || parts.notes.reserve(1).is_err() {
+    };
+    if parts.table.reserve(a, &Change::Take).is_err() || parts.notes.reserve(1).is_err() {
         return Err(StepFault::NoMemory);
     }
     Ok(())
@@ -50,7 +52,8 @@ pub(crate) fn prepare_take(parts: &mut Parts, a: ActorName) -> Result<(), StepFa
 
 /// The idle actor takes the first of its letters. It takes no memory, and wakes nobody.
 pub(crate) fn apply_take(code: &Checked, parts: &mut Parts, a: ActorName) -> Option<ActorName>
-    requires can { CanTakeHere a (slot_at parts.old.table.slots a) }
+    requires can { let x = slot_at parts.old.table.slots a in
+        HasCell x (CanTakeFirst a x.mail.letters) }
     requires room { IsSome (note_taken a (seat_at (actors_of parts.old.table.slots) a))
         → deque_len parts.old.notes < deque_capacity parts.old.notes }
     ensures state { (options : Options) → next (state_of code.now options parts.old) (take_event a)
@@ -63,6 +66,6 @@ pub(crate) fn apply_take(code: &Checked, parts: &mut Parts, a: ActorName) -> Opt
     if let Some(note) = parts.table.note_on(a) {
         parts.notes.push_back_reserved(note);
     }
-    parts.table.take(code, a);
+    parts.table.change(code, a, &Change::Take);
     None
 }

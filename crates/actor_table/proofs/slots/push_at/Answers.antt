@@ -1,14 +1,17 @@
-use Rattle.std.proofs.Common.{subst, sym, ap, ◌∙◌}
+use Rattle.std.proofs.Common.{rules, subst, sym, ap, ◌∙◌}
 use Rattle.std.proofs.lemmas.List.{get_or_default}
 use Rattle.machine_rules.specs.Actors.{seat_at, with_letter_more}
 use Rattle.actor_table.specs.Slots.{IsOwnedBy, actors_of, gone, seat_of}
 use Rattle.actor_table.proofs.Changing.{actors_set, changed_by, pushed, seat_read}
 use Rattle.actor_table.proofs.slots.push_at.Goals as goal
 
-pub returns-clause-changed : goal.returns-clause-changed
-returns-clause-changed c =
-    changed_by c.args.slots.now.items c.args.a c.index_mut.result.now c.push_letter.new.slot c.requires.within
-    c.index_mut.ensures.value (λ b was. subst (IsOwnedBy b) (sym c.push_letter.ensures.place) was)
+pub returns-clause-one : goal.returns-clause-one
+returns-clause-one c = record {
+  changed = changed_by c.args.slots.now.items c.args.a c.index_mut.result.now c.push_letter.new.slot c.requires.within
+      c.index_mut.ensures.value (λ b was. subst (IsOwnedBy b) (sym c.push_letter.ensures.place) was);
+  length = search rules;
+  capacity = search rules;
+}
 
 pub returns-clause-actors : goal.returns-clause-actors
 returns-clause-actors c =

@@ -1,4 +1,4 @@
-use Rattle.std.proofs.Common.{◌≡◌, rules, subst, sym, ◌∙◌}
+use Rattle.std.proofs.Common.{◌≡◌, subst, sym, ◌∙◌}
 use Rattle.behaviour_check.specs.Rules.{IsChecked}
 use Rattle.actor_cell.specs.declared.found.Found.TheVariants.{Goes}
 use Rattle.actor_table.specs.Changes.{HasCell}

@@ -29,10 +29,10 @@ loop-letter-preserved c =
     record {
       places = does.places ∙ before.places;
       rows = does.letters ∙ before.rows;
-      room = λ b. omega (arith, before.room b, does.room b);
-      spare = does.spare ∙ before.spare;
+      room = λ b. omega (arith, before.room b, does.rest.room b);
+      spare = does.rest.spare ∙ before.spare;
       told = λ b. omega (arith, before.told b, ap (letters_to b) rest, c.in_ok-n.ensures.counted b);
-      fits = counted_fits old new actors does.room l.0 c.in_ok-n.n (counted c.loop-letter.counts) (counted c.count_one.new.counts)
+      fits = counted_fits old new actors does.rest.room l.0 c.in_ok-n.n (counted c.loop-letter.counts) (counted c.count_one.new.counts)
           before.fits c.in_ok-reserve_letters-2.ensures.ok c.in_ok-n.ensures.is c.in_ok-n.ensures.counted;
     }
 
@@ -51,5 +51,5 @@ returns-then-letters-eq1-clause-ok c =
     let does = c.reserve_letters.ensures in
     let old = c.args.table.now.slots in
     let new = c.reserve_letters.new.self.slots in
-    one_fits old new (same_actors new old does.places does.letters) does.room c.args.letters.now c.index-letters-0.result
+    one_fits old new (same_actors new old does.places does.letters) does.rest.room c.args.letters.now c.index-letters-0.result
     c.if-letters-eq1.true c.in_ok-reserve_letters.ensures.ok

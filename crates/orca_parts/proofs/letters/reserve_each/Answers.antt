@@ -23,9 +23,9 @@ loop-group-preserved c =
     record {
       places = does.places ∙ before.places;
       rows = does.letters ∙ before.rows;
-      room = λ b. omega (arith, before.room b, does.room b);
-      spare = does.spare ∙ before.spare;
-      fits = each_fits old new actors does.room g.0 (λ b. letters_to b (letters_of groups)) (Dec g.1) (letters_of (drop (i + 1) groups)) c.requires
+      room = λ b. omega (arith, before.room b, does.rest.room b);
+      spare = does.rest.spare ∙ before.spare;
+      fits = each_fits old new actors does.rest.room g.0 (λ b. letters_to b (letters_of groups)) (Dec g.1) (letters_of (drop (i + 1) groups)) c.requires
           (λ b there. subst (λ gs. letters_to b (letters_of groups) ≤ (slot_at old b).mail.spare + letters_to b (letters_of gs)) rest (before.fits b there))
           c.in_ok-reserve_letters.ensures.ok;
     }

@@ -24,7 +24,7 @@ loop-member-preserved c =
           let enough : letters_to m (asks number members) ≤ 1 + letters_to m (asks number (drop (i + 1) members)) = omega (arith, asked_once number m members c.requires) in
           fit_more 1 m (Confirm number) (asks number (drop (i + 1) members)) (asks number members) before after
           (subst (λ ms. FitBut (asks number ms) (asks number members) before) rest (c.loop-member.invariant.fits number))
-          c.reserve_letters.ensures.room same enough c.in_ok-reserve_letters.ensures.ok;
+          c.reserve_letters.ensures.rest.room same enough c.in_ok-reserve_letters.ensures.ok;
     }
 
 pub returns-clause-ok : goal.returns-clause-ok
