@@ -90,7 +90,7 @@ module _ (trace : Trace) (s : State) (a : ℕ) (c : Cell) (mail : List Letter) (
 
   posted : (to behaviour : ℕ) (args : List Value) (load rows lacked : List Loaded)
       → Goes (post_or_mint s a c kept mail stop to behaviour args load rows lacked)
-      ≡ after_go s a c mail (gone_by a c frame (with_move (goes.post_or_mint s.options.weight to behaviour args load rows lacked)))
+      ≡ after_go s a c mail (gone_by a c frame (with_move (goes.letter_or_mint s.options.weight to behaviour args load rows lacked)))
   posted to behaviour args load rows [] = λ i. Goes (record s {
     actors = push_letter to (App behaviour args load rows) (set s.actors a (seat (record kept { holdings = send a load h }) mail));
     notes = sym (append-nil s.notes) i;
@@ -130,7 +130,7 @@ module _ (trace : Trace) (s : State) (a : ℕ) (c : Cell) (mail : List Letter) (
       }) else IsFull
   acts (act.Post to behaviour args) =
       posted to behaviour args (load_from trace a h args) (rows_from trace a kept args) (lacking_from trace a h args)
-      ∙ ap (λ rows. after_go s a c mail (gone_by a c frame (with_move (goes.post_or_mint s.options.weight to behaviour args (load_from trace a h args) rows (lacking_from trace a h args))))) (rows_kept trace args)
+      ∙ ap (λ rows. after_go s a c mail (gone_by a c frame (with_move (goes.letter_or_mint s.options.weight to behaviour args (load_from trace a h args) rows (lacking_from trace a h args))))) (rows_kept trace args)
 
   minted : (x : Thing) → needing s a c mail (Some x) NotEnabled
       ≡ after_go s a c mail (gone_by a c frame (turned_or_needs trace s.options.weight a c frame (Some x) stop))

@@ -17,7 +17,7 @@ use Rattle.known_rows.specs.Holdings.{holdings_of}
 use Rattle.machine_rules.specs.Go.{load_from}
 use Rattle.trace_send.specs.Lacking.{of_first_owner}
 use Rattle.actor_cell.specs.Moves.{Mint, Post}
-use Rattle.actor_cell.specs.Goes.{post_or_mint, things_from}
+use Rattle.actor_cell.specs.Goes.{letter_or_mint, things_from}
 
 -- the things of pairs that were made of things
 firsts : (row : Thing → Option Row) (things : List Thing) → map (λ (e : Loaded). e.0) (map (λ (x : Thing). (x, row x)) things) ≡ things
@@ -118,13 +118,13 @@ same_pair p q e = cc
 
 module _ (weight to behaviour : ℕ) (args : List Value) (load rows : List Loaded) where
   pub mints : (lacked : List Loaded) (owner : ℕ) (things : List Amount) → Some (owner, things) ≡ of_first_owner weight (map thing_in lacked)
-      → Mint owner things ≡ post_or_mint weight to behaviour args load rows lacked
+      → Mint owner things ≡ letter_or_mint weight to behaviour args load rows lacked
   mints [] owner things e = cc
   mints (l ∷ lacked) owner things e =
       let p : ℕ × List Amount = (owner, things) in
       let q : ℕ × List Amount = (owner_of l.0, to_mint weight (owner_of l.0) (l ∷ lacked)) in
       ap (λ (r : ℕ × List Amount). Mint r.0 r.1) (same_pair p q (e ∙ ap (λ xs. Some (owner_of l.0, xs)) (minted weight (owner_of l.0) (l ∷ lacked))))
 
-  pub posts : (lacked : List Loaded) → None ≡ of_first_owner weight (map thing_in lacked) → Post to (App behaviour args load rows) ≡ post_or_mint weight to behaviour args load rows lacked
+  pub posts : (lacked : List Loaded) → None ≡ of_first_owner weight (map thing_in lacked) → Post to (App behaviour args load rows) ≡ letter_or_mint weight to behaviour args load rows lacked
   posts [] e = refl
   posts (l ∷ lacked) e = cc

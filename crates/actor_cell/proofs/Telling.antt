@@ -18,12 +18,12 @@ use Rattle.letter_kinds.specs.Holdings.{Holdings}
 use Rattle.machine_rules.specs.Cell.{Cell}
 use Rattle.machine_rules.specs.Go.{lacking_from, load_from, needed, needs, rows_from, setting_of, turn_of_cell}
 use Rattle.actor_cell.specs.Moves.{Move, End, Rest}
-use Rattle.actor_cell.specs.Goes.{CanMove, Gone, IsTold, Turned, cell_by, gone_by, move_by, out_of, post_or_mint, told, turned_in, turned_or_needs}
+use Rattle.actor_cell.specs.Goes.{CanMove, Gone, IsTold, Turned, cell_by, gone_by, letter_or_mint, move_by, out_of, told, turned_in, turned_or_needs}
 
 module _ (frame : Frame) (c : Cell) (turn : Turn) (place : ℕ) where
   -- what is told is all of it, where a letter goes or is awaited
   pub posts_told : (weight to behaviour : ℕ) (args : List Value) (load rows lacked : List Loaded)
-      → (let m = post_or_mint weight to behaviour args load rows lacked in record { turn = turn; place = place; act = m } ≡ told frame c turn place m)
+      → (let m = letter_or_mint weight to behaviour args load rows lacked in record { turn = turn; place = place; act = m } ≡ told frame c turn place m)
   posts_told weight to behaviour args load rows [] = refl
   posts_told weight to behaviour args load rows (e ∷ lacked) = refl
 

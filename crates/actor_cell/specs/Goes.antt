@@ -30,10 +30,10 @@ things_from trace me h args = map (λ e. e.0) (load_from trace me h args)
 
 -- the letter with its load and rows; where the actor lacks some of the load, what it mints first for
 -- the owner of the first that it lacks
-abbrev pub post_or_mint : ℕ → ℕ → ℕ → List Value → List Loaded → List Loaded → List Loaded
+abbrev pub letter_or_mint : ℕ → ℕ → ℕ → List Value → List Loaded → List Loaded → List Loaded
     → Move
-post_or_mint weight to behaviour args load rows [] = Post to (App behaviour args load rows)
-post_or_mint weight to behaviour args load rows (e ∷ lacked) =
+letter_or_mint weight to behaviour args load rows [] = Post to (App behaviour args load rows)
+letter_or_mint weight to behaviour args load rows (e ∷ lacked) =
     Mint (owner_of e.0) (to_mint weight (owner_of e.0) (e ∷ lacked))
 
 -- the register of a new actor is one of a frame
@@ -46,7 +46,7 @@ FitsRegister act.End = ⊤
 -- what an actor with this cell does by an act
 abbrev pub move_by : Trace → ℕ → ℕ → Cell → Act → Move
 move_by trace weight me c (act.Post to behaviour args) =
-    post_or_mint weight to behaviour args (load_from trace me c.holdings args)
+    letter_or_mint weight to behaviour args (load_from trace me c.holdings args)
     (rows_from trace me c args) (lacking_from trace me c.holdings args)
 move_by trace weight me c (act.New kind register) = New kind register
 move_by trace weight me c (act.Print value) = Print value

@@ -8,7 +8,7 @@ ghost use Rattle.turn_step.specs.Turns.{HaltsAt, act_of};
 ghost use Rattle.turn_rules.specs.declared.act.Act.TheVariants.{Post as sends};
 ghost use Rattle.actor_cell.specs.Awaiting.{Awaits, AwaitsAt, AwaitsIn};
 ghost use Rattle.actor_cell.specs.Cells.{as_cell, table_by};
-ghost use Rattle.actor_cell.specs.Goes.{having_made, move_by, post_or_mint, things_from, FitsRegister, IsTold};
+ghost use Rattle.actor_cell.specs.Goes.{having_made, letter_or_mint, move_by, things_from, FitsRegister, IsTold};
 ghost use Rattle.actor_cell.specs.Moves.{act_in, Mint as mint, Post as posted};
 ghost use Rattle.letter_kinds.specs.declared.letter.Letter.TheVariants.{App as app};
 ghost use Rattle.letter_kinds.specs.Holdings.{with_made};
@@ -84,7 +84,7 @@ impl Cell {
         ensures done { let me = self.now.heap.owner in
             let c = having_made made.now (as_cell self.now) in
             let args = found.old.args in
-            IfOk result (λ done. IsTrue done → act_in found.new ≡ post_or_mint weight to behaviour args
+            IfOk result (λ done. IsTrue done → act_in found.new ≡ letter_or_mint weight to behaviour args
             (load_from deep me c.holdings args) (rows_from deep me c args)
             (lacking_from deep me c.holdings args)) }
         ensures args { found.new.args ≡ found.old.args }
@@ -156,7 +156,7 @@ impl Cell {
         ensures act { let me = self.now.heap.owner in
             let c = having_made made.now (as_cell self.now) in
             let args = found.old.args in
-            OnOk result (act_in found.new ≡ post_or_mint weight to behaviour args
+            OnOk result (act_in found.new ≡ letter_or_mint weight to behaviour args
             (load_from trace me c.holdings args) (rows_from trace me c args)
             (lacking_from trace me c.holdings args)) }
         ensures awaited { let h = with_made made.now (as_cell self.now).holdings in
@@ -192,7 +192,7 @@ impl Cell {
         ensures act { let me = self.now.heap.owner in
             let c = having_made made.now (as_cell self.now) in
             let args = found.old.args in
-            OnOk result (act_in found.new ≡ post_or_mint weight to behaviour args
+            OnOk result (act_in found.new ≡ letter_or_mint weight to behaviour args
             (load_from trace me c.holdings args) (rows_from trace me c args)
             (lacking_from trace me c.holdings args)) }
         ensures awaited { let h = with_made made.now (as_cell self.now).holdings in
@@ -217,7 +217,7 @@ impl Cell {
         ensures act { let me = self.now.heap.owner in
             let c = having_made made.now (as_cell self.now) in
             let args = found.old.args in
-            OnOk result (act_in found.new ≡ post_or_mint weight to behaviour args
+            OnOk result (act_in found.new ≡ letter_or_mint weight to behaviour args
             (load_from trace me c.holdings args) (rows_from trace me c args)
             (lacking_from trace me c.holdings args)) }
         ensures awaited { let h = with_made made.now (as_cell self.now).holdings in

@@ -27,7 +27,7 @@ use Rattle.count_laws.proofs.letters.Once.{load_once, minted_once, needed_once}
 use Rattle.count_laws.specs.Facts.{Facts}
 use Rattle.count_laws.specs.Known.{IsKnown}
 use Rattle.trace_send.specs.Can.{CanMint}
-use Rattle.actor_cell.specs.Goes.{CanGo, CanMove, having_made, move_by, post_or_mint, turned_in, turned_or_needs}
+use Rattle.actor_cell.specs.Goes.{CanGo, CanMove, having_made, letter_or_mint, move_by, turned_in, turned_or_needs}
 use Rattle.cell_laws.proofs.Allowing.{can_mint, each_loaded}
 use Rattle.cell_laws.proofs.Keeping.{runs_keep_program}
 use Rattle.cell_laws.proofs.Room.{facts, held_fits, own_fits}
@@ -68,7 +68,7 @@ module _ (trace : Trace) (p : PlainState) (s : State) (kept : Facts trace p s) (
           (λ x. let r = held_room x in let k = minted_once trace weight a (owner_of e.0) turned args x (e ∷ lacked) l in omega arith)
 
       can_post : (lacked : List Loaded) → lacking_from trace a turned args ≡ lacked
-          → CanMove a c.holdings stop.turn (post_or_mint weight to behaviour args load (rows_from trace a (having_made stop.turn.made c) args) lacked)
+          → CanMove a c.holdings stop.turn (letter_or_mint weight to behaviour args load (rows_from trace a (having_made stop.turn.made c) args) lacked)
       can_post [] l = can_send
       can_post (e ∷ lacked) l = can_mint_lacked e lacked l
 

@@ -9,7 +9,7 @@ use Rattle.machine_rules.specs.Go.{load_from}
 use Rattle.trace_send.specs.Lacking.{of_first_owner}
 use Rattle.actor_cell.specs.Moves.{Post}
 use Rattle.actor_cell.specs.Cells.{as_cell}
-use Rattle.actor_cell.specs.Goes.{post_or_mint}
+use Rattle.actor_cell.specs.Goes.{letter_or_mint}
 use Rattle.actor_cell.proofs.Posting.{lacked_in, mints, none_lacked}
 use Rattle.actor_cell.proofs.cell.Cell.posting_many.Goals as goal
 
@@ -25,7 +25,7 @@ returns-then-not-lacks_any-clause-done c = λ _.
     let any = sym c.if-not-lacks_any.true ∙ c.lacks_any.ensures s.count s.heap
     ∙ (λ i. list_any (λ (e : Loaded). is_lacking (c.owner-me.ensures i) h e.0) (loaded i)) in
     (λ i. Post c.args.to (App c.args.behaviour args (loaded i) (c.new.ensures i)))
-    ∙ ap (post_or_mint c.args.weight c.args.to c.args.behaviour args load []) (sym (none_lacked me made h load (sym any)))
+    ∙ ap (letter_or_mint c.args.weight c.args.to c.args.behaviour args load []) (sym (none_lacked me made h load (sym any)))
 
 pub returns-clause-done : goal.returns-clause-done
 returns-clause-done c = λ _.
