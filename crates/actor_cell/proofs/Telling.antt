@@ -1,7 +1,6 @@
 -- What the code tells of a turn.
-use Rattle.std.proofs.Common.{◌≡◌, ℕ, List, [], ◌∷◌, length, Option, None, Some, refl, sym, ap, ◌∙◌}
+use Rattle.std.proofs.Common.{◌≡◌, ℕ, List, [], ◌∷◌, None, Some, refl, sym, ap, ◌∙◌}
 use Rattle.std.specs.List.{find}
-use Rattle.orca_names.specs.declared.names.Thing.{Thing}
 use Rattle.orca_names.specs.declared.names.Value.{Value}
 use Rattle.orca_names.specs.declared.trace.Trace.{Trace}
 use Rattle.orca_names.specs.declared.trace.Trace.TheVariants.{Deep, Roots}
@@ -10,15 +9,15 @@ use Rattle.reach_walk.specs.Reach.{named_by}
 use Rattle.turn_rules.specs.declared.act.Act.{Act}
 use Rattle.turn_rules.specs.declared.act.Act.TheVariants as act
 use Rattle.turn_rules.specs.declared.act.Frame.{Frame}
-use Rattle.turn_rules.specs.Segment.{Stop, Turn}
+use Rattle.turn_rules.specs.Segment.{Turn}
 use Rattle.turn_step.specs.Rests.{rests_at}
 use Rattle.turn_step.proofs.Resting.{gets_nothing, segment_rests}
 use Rattle.letter_kinds.specs.Counting.{Loaded}
 use Rattle.letter_kinds.specs.Holdings.{Holdings}
 use Rattle.machine_rules.specs.Cell.{Cell}
-use Rattle.machine_rules.specs.Go.{lacking_from, load_from, needed, needs, rows_from, setting_of, turn_of_cell}
+use Rattle.machine_rules.specs.Go.{lacking_from, load_from, needed, needs, rows_from, setting_of}
 use Rattle.actor_cell.specs.Moves.{Move, End, Rest}
-use Rattle.actor_cell.specs.Goes.{CanMove, Gone, IsTold, Turned, cell_by, gone_by, letter_or_mint, move_by, out_of, told, turned_in, turned_or_needs}
+use Rattle.actor_cell.specs.Goes.{CanMove, IsTold, cell_by, gone_by, letter_or_mint, move_by, out_of, told, turned_or_needs}
 
 module _ (frame : Frame) (c : Cell) (turn : Turn) (place : ℕ) where
   -- what is told is all of it, where a letter goes or is awaited

@@ -1,5 +1,4 @@
 use Rattle.std.proofs.Common.{refl, subst}
-use Rattle.letter_kinds.specs.declared.letter.Letter.{Letter}
 use Rattle.known_rows.specs.Holdings.{holdings_of}
 use Rattle.trace_send.specs.Can.{CanMint}
 use Rattle.trace_send.proofs.Raising.{can_mint_with}

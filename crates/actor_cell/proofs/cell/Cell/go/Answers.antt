@@ -3,7 +3,7 @@ use Rattle.std.specs.Prelude.{IsSomeAnd, option_map}
 use Rattle.turn_rules.specs.declared.act.Frame.{Frame}
 use Rattle.machine_rules.specs.Cell as rules
 use Rattle.actor_cell.specs.Cells.{as_cell}
-use Rattle.actor_cell.specs.Goes.{Gone, IsTold, cell_by, gone_by, turned_in}
+use Rattle.actor_cell.specs.Goes.{IsTold, cell_by, gone_by, turned_in}
 use Rattle.actor_cell.specs.Moves.{act_in}
 use Rattle.actor_cell.proofs.Telling.{told_gone}
 use Rattle.actor_cell.proofs.cell.Cell.go.Goals as goal
