@@ -1,5 +1,6 @@
 -- What a letter loads, and what is minted first.
-use Rattle.std.proofs.Common.{◌≡◌, ℕ, Bool, true, false, cond, Option, Some, None, List, [], ◌∷◌, ◌==◌, map, ◌||◌, refl, sym, ap, ◌∙◌}
+use Rattle.std.proofs.Common.{◌≡◌, ℕ, Bool, true, false, cond, Option, Some, None, List, [], ◌∷◌, ◌==◌, map, ◌||◌, refl, sym, ap, ◌∙◌, subst}
+use Rattle.std.specs.Prelude.{IfSome}
 use Rattle.std.specs.List.{filter, list_any}
 use Rattle.orca_names.specs.Names.{owner_of}
 use Rattle.orca_names.specs.declared.names.ObjName.{ObjName}
@@ -14,10 +15,12 @@ use Rattle.letter_kinds.specs.Holdings.{Holdings, Row, held_in, known_objects, r
 use Rattle.object_heap.specs.Heap.{Heap}
 use Rattle.foreign_table.specs.Table.{Table}
 use Rattle.known_rows.specs.Holdings.{holdings_of}
-use Rattle.machine_rules.specs.Go.{load_from}
+use Rattle.machine_rules.specs.Go.{load_from, rows_from}
 use Rattle.trace_send.specs.Lacking.{of_first_owner}
-use Rattle.actor_cell.specs.Moves.{Mint, Post}
-use Rattle.actor_cell.specs.Goes.{letter_or_mint, things_from}
+use Rattle.actor_cell.specs.declared.go.Sending.{Sending}
+use Rattle.actor_cell.specs.Cells.{as_cell}
+use Rattle.actor_cell.specs.Goes.{having_made, letter_or_mint, things_from}
+use Rattle.actor_cell.specs.Moves.{Move, Mint, Post}
 
 -- the things of pairs that were made of things
 firsts : (row : Thing → Option Row) (things : List Thing) → map (λ (e : Loaded). e.0) (map (λ (x : Thing). (x, row x)) things) ≡ things
@@ -66,11 +69,6 @@ pub bare_is : (me : ℕ) (h : Holdings) (args : List Value) (things : List Thing
 bare_is me h args things is =
     ap (map (λ (x : Thing). (x, thing_row (λ n. None) x))) (is ∙ firsts (thing_row (λ n. None)) (marks_of (λ n. None) [] args))
 
--- nor are objects that were made to what is lacked
-pub lacking_same : (me : ℕ) (made : List Row) (h : Holdings) (load : List Loaded) → lacking_of me h load ≡ lacking_of me (with_made made h) load
-unfolding held_in
-lacking_same me made h load = refl
-
 abbrev thing_in : Loaded → Thing
 thing_in e = e.0
 
@@ -94,12 +92,6 @@ weighed weight (e ∷ load) = ap (λ xs. with_weight weight e.0 ∷ xs) (weighed
 minted : (weight b : ℕ) (load : List Loaded) → map (with_weight weight) (filter (λ x. owner_of x == b) (map thing_in load)) ≡ to_mint weight b load
 minted weight b load = ap (map (with_weight weight)) (tested (λ x. owner_of x == b) load) ∙ weighed weight (filter (λ (e : Loaded). owner_of e.0 == b) load)
 
--- what is lacked of these things is that of the load
-pub lacked_in : (me : ℕ) (made : List Row) (h : Holdings) (load : List Loaded) (things : List Thing) → things ≡ map thing_in load
-    → filter (is_lacking me h) things ≡ map thing_in (lacking_of me (with_made made h) load)
-lacked_in me made h load things is =
-    ap (filter (is_lacking me h)) is ∙ tested (is_lacking me h) load ∙ ap (map thing_in) (lacking_same me made h load)
-
 none_pass : {X : Type 0} (p : X → Bool) (xs : List X) → list_any p xs ≡ false → filter p xs ≡ []
 none_pass p [] e = refl
 none_pass {X} p (x ∷ xs) e = by (p x) e (none_pass p xs)
@@ -108,23 +100,50 @@ none_pass {X} p (x ∷ xs) e = by (p x) e (none_pass p xs)
     by true e rest = cc
     by false e rest = rest e
 
--- where none is lacked
-pub none_lacked : (me : ℕ) (made : List Row) (h : Holdings) (load : List Loaded) → list_any (λ (e : Loaded). is_lacking me h e.0) load ≡ false
-    → lacking_of me (with_made made h) load ≡ []
-none_lacked me made h load e = sym (lacking_same me made h load) ∙ none_pass (λ (e : Loaded). is_lacking me h e.0) load e
+-- what is done about a letter with these arguments
+module _ (s : Sending) (args : List Value) where
+  abbrev me : ℕ
+  me = s.cell.now.heap.owner
 
-same_pair : {A B : Type 0} (p q : A × B) → Some p ≡ Some q → p ≡ q
-same_pair p q e = cc
+  abbrev h : Holdings
+  h = (as_cell s.cell.now).holdings
 
-module _ (weight to behaviour : ℕ) (args : List Value) (load rows : List Loaded) where
-  pub mints : (lacked : List Loaded) (owner : ℕ) (things : List Amount) → Some (owner, things) ≡ of_first_owner weight (map thing_in lacked)
-      → Mint owner things ≡ letter_or_mint weight to behaviour args load rows lacked
-  mints [] owner things e = cc
-  mints (l ∷ lacked) owner things e =
-      let p : ℕ × List Amount = (owner, things) in
-      let q : ℕ × List Amount = (owner_of l.0, to_mint weight (owner_of l.0) (l ∷ lacked)) in
-      ap (λ (r : ℕ × List Amount). Mint r.0 r.1) (same_pair p q (e ∙ ap (λ xs. Some (owner_of l.0, xs)) (minted weight (owner_of l.0) (l ∷ lacked))))
+  abbrev load : List Loaded
+  load = load_from s.options.trace me (with_made s.made.now h) args
 
-  pub posts : (lacked : List Loaded) → None ≡ of_first_owner weight (map thing_in lacked) → Post to (App behaviour args load rows) ≡ letter_or_mint weight to behaviour args load rows lacked
-  posts [] e = refl
-  posts (l ∷ lacked) e = cc
+  abbrev rows : List Loaded
+  rows = rows_from s.options.trace me (having_made s.made.now (as_cell s.cell.now)) args
+
+  abbrev its : List Loaded → Move
+  its = letter_or_mint s.options.weight s.to s.behaviour args load rows
+
+  -- what is minted first of these is what is lacked first, and where there is none, the letter goes
+  abbrev done : Option (ℕ × List Amount) → Move
+  done None = Post s.to (App s.behaviour args load rows)
+  done (Some first) = Mint first.0 first.1
+
+  done_is : (lacked : List Loaded) → done (of_first_owner s.options.weight (map thing_in lacked)) ≡ its lacked
+  done_is [] = refl
+  done_is (e ∷ lacked) = ap (Mint (owner_of e.0)) (minted s.options.weight (owner_of e.0) (e ∷ lacked))
+
+  -- objects that were made are no matter to what is lacked
+  pub done_first : (a : ℕ) → a ≡ me → (things : List Thing) → things ≡ map thing_in load
+      → (first : Option (ℕ × List Amount)) → first ≡ of_first_owner s.options.weight (filter (is_lacking a h) things)
+      → done first ≡ its (lacking_of me (with_made s.made.now h) load)
+  unfolding held_in
+  done_first a mine things loads first is =
+      ap done (is ∙ ap (of_first_owner s.options.weight) ((λ i. filter (is_lacking (mine i) h) (loads i)) ∙ tested (is_lacking me h) load))
+      ∙ done_is (lacking_of me h load)
+
+  module _ (deep : s.options.trace ≡ Deep) where
+    pub loaded_deeply : (o : Option (List Loaded)) (found : List Loaded) → o ≡ Some found → IfSome o (λ l. l ≡ load_from Deep me (with_made s.made.now h) args) → found ≡ load
+    loaded_deeply o found is all = subst (λ o. IfSome o (λ l. l ≡ load)) is (subst (λ t. IfSome o (λ l. l ≡ load_from t me (with_made s.made.now h) args)) (sym deep) all)
+
+    pub sent_deeply : (a : ℕ) → a ≡ me → (found carried : List Loaded) → found ≡ load → carried ≡ [] → false ≡ list_any (λ (e : Loaded). is_lacking a h e.0) found
+        → Post s.to (App s.behaviour args found carried) ≡ its (lacking_of me (with_made s.made.now h) load)
+    unfolding held_in
+    sent_deeply a mine found carried loads none any =
+        let all = any ∙ (λ i. list_any (λ (e : Loaded). is_lacking (mine i) h e.0) (loads i)) in
+        let bare = none ∙ ap (λ t. rows_from t me (having_made s.made.now (as_cell s.cell.now)) args) (sym deep) in
+        (λ i. Post s.to (App s.behaviour args (loads i) (bare i)))
+        ∙ ap its (sym (none_pass (λ (e : Loaded). is_lacking me h e.0) load (sym all)))

@@ -1,5 +1,6 @@
 pub mod Awaiting
 pub mod Cells
+pub mod Finding
 pub mod Founds
 pub mod Goes
 pub mod Laws

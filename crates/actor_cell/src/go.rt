@@ -1,16 +1,15 @@
 // Go: a frame runs up to its next act.
 
-ghost use Rattle.std.specs.Prelude.{◌≡◌, ◌+◌, ◌<◌, ◌≤◌, ◌^◌, IfOk, IfSome, IsSome, IsSomeAnd, IsTrue, None, OnOk, length, map};
+ghost use Rattle.std.specs.Prelude.{◌≡◌, ◌+◌, ◌<◌, ◌≤◌, ◌^◌, false, IfOk, IfSome, IsSome, IsSomeAnd, IsTrue, OnOk, length, map};
 ghost use Rattle.orca_names.specs.Names.{owner_of};
 ghost use Rattle.orca_names.specs.declared.trace.Trace.TheVariants.{Deep as deep};
-ghost use Rattle.machine_rules.specs.Go.{lacking_from, load_from, needed, rows_from, to_need, turn_of_cell};
+ghost use Rattle.machine_rules.specs.Go.{needed, to_need, turn_of_cell};
 ghost use Rattle.turn_step.specs.Turns.{HaltsAt, act_of};
-ghost use Rattle.turn_rules.specs.declared.act.Act.TheVariants.{Post as sends};
-ghost use Rattle.actor_cell.specs.Awaiting.{Awaits, AwaitsAt, AwaitsIn};
+ghost use Rattle.actor_cell.specs.Awaiting.{Awaits, AwaitsAt};
 ghost use Rattle.actor_cell.specs.Cells.{as_cell, table_by};
-ghost use Rattle.actor_cell.specs.Goes.{having_made, letter_or_mint, move_by, things_from, FitsRegister, IsTold};
-ghost use Rattle.actor_cell.specs.Moves.{act_in, Mint as mint, Post as posted};
-ghost use Rattle.letter_kinds.specs.declared.letter.Letter.TheVariants.{App as app};
+ghost use Rattle.actor_cell.specs.Finding.{Finds, FindsLetter};
+ghost use Rattle.actor_cell.specs.Goes.{things_from, FitsRegister, IsTold};
+ghost use Rattle.actor_cell.specs.Moves.{act_in, Mint as mint};
 ghost use Rattle.letter_kinds.specs.Holdings.{with_made};
 
 use crate::cell::Cell;
@@ -20,7 +19,7 @@ use behaviour_code::Name;
 use foreign_table::{ForeignTable, Holding};
 use known_rows::KnownRows;
 use letter_kinds::{Amounts, Load};
-use orca_names::{ActorName, Args, NoMemory, Reading, Row, Thing, Trace};
+use orca_names::{ActorName, Args, NoMemory, Options, Reading, Row, Thing, Trace};
 use plain_list::Listed;
 use reach_walk::ThingList;
 use root_trace::missing;
@@ -51,57 +50,100 @@ fn things_of(alloc: Global, load: &Load) -> Result<Listed<Thing>, NoMemory>
     Ok(things)
 }
 
-// The letter that the actor awaits, by deep tracing: otherwise what it mints may be what its turn needs.
-#[inline(always)]
-fn awaited(trace: Trace, actor: ActorName, to: ActorName, behaviour: Name) -> Option<Awaited>
-    ensures deep { IfSome result (λ letter. trace ≡ deep) }
-    ensures letter { IfSome result (λ letter. letter
-        ≡ record { actor = actor; to = to; behaviour = behaviour }) }
-{
-    match trace {
-        Trace::Deep => Some(Awaited {
-            actor,
-            to,
-            behaviour,
-        }),
-        Trace::Roots => None,
-    }
+// A letter of a turn, with that over which is found what it loads.
+#[derive(Clone, Copy)]
+struct Sending<'a> {
+    cell: &'a Cell,
+    options: Options,
+    // The rows that the turn made.
+    made: &'a [Row],
+    to: ActorName,
+    behaviour: Name,
 }
 
-impl Cell {
-    // The letter of a deep trace with the arguments found, its load by places, or what it mints first;
-    // `false` where places do not serve.
-    #[inline(never)]
-    fn posting_many(
-        &self,
-        alloc: Global,
-        weight: u32,
-        made: &[Row],
-        to: ActorName,
-        behaviour: Name,
-        found: &mut Turned,
-    ) -> Result<bool, NoMemory>
-        ensures done { let me = self.now.heap.owner in
-            let c = having_made made.now (as_cell self.now) in
-            let args = found.old.args in
-            IfOk result (λ done. IsTrue done → act_in found.new ≡ letter_or_mint weight to behaviour args
-            (load_from deep me c.holdings args) (rows_from deep me c args)
-            (lacking_from deep me c.holdings args)) }
-        ensures args { found.new.args ≡ found.old.args }
-        ensures awaited { found.new.awaited ≡ found.old.awaited }
+impl Sending<'_> {
+    // The letter that the actor awaits, by deep tracing: otherwise what it mints may be what its turn needs.
+    #[inline(always)]
+    fn awaited(&self, actor: ActorName) -> Option<Awaited>
+        ensures { IfSome result (λ letter. (self.now.options.trace ≡ deep)
+            × (letter ≡ record { actor = actor; to = self.now.to; behaviour = self.now.behaviour })) }
     {
-        let Some(load) = self.load_of_many(alloc, made, &found.args)? else {
+        match self.options.trace {
+            Trace::Deep => Some(Awaited {
+                actor,
+                to: self.to,
+                behaviour: self.behaviour,
+            }),
+            Trace::Roots => None,
+        }
+    }
+
+    // Finds its load and rows, by the things found that it loads, or what is minted first: it is awaited
+    // then.
+    #[inline(always)]
+    fn find_found(&self, alloc: Global, found: &mut Turned) -> Result<(), NoMemory>
+        requires { let h = with_made self.now.made.now (as_cell self.now.cell.now).holdings in
+            let me = self.now.cell.now.heap.owner in
+            found.old.seen ≡ things_from self.now.options.trace me h found.old.args }
+        ensures { OnOk result (FindsLetter self.now found.old found.new) }
+    {
+        let cell = self.cell;
+        let trace = self.options.trace;
+        let weight = self.options.weight;
+        let me = cell.heap.owner();
+        match lacking(alloc, found.seen.as_slice(), me, &cell.foreign, weight)? {
+            Some(minted) => {
+                found.things = minted.1;
+                found.doing = Doing::Mint { owner: minted.0 };
+                found.awaited = self.awaited(me);
+                Ok(())
+            }
+            None => {
+                found.doing = Doing::Post {
+                    to: self.to,
+                    behaviour: self.behaviour,
+                };
+                found.load = cell.load(alloc, trace, self.made, found.seen.as_slice())?;
+                found.rows = cell.carried(alloc, trace, self.made, &found.args)?;
+                Ok(())
+            }
+        }
+    }
+
+    // Finds this by a list of the things that it loads.
+    #[inline(always)]
+    fn find_few(&self, alloc: Global, found: &mut Turned) -> Result<(), NoMemory>
+        ensures { OnOk result (FindsLetter self.now found.old found.new) }
+    {
+        let cell = self.cell;
+        let trace = self.options.trace;
+        cell.find_things(alloc, trace, self.made, &found.args, &mut found.seen)?;
+        self.find_found(alloc, found)
+    }
+
+    // Finds this by places, where it is traced deeply; `false` where they do not serve.
+    fn find_many(&self, alloc: Global, found: &mut Turned) -> Result<bool, NoMemory>
+        requires { self.now.options.trace ≡ deep }
+        ensures done { IfOk result (λ done. IsTrue done → FindsLetter self.now found.old found.new) }
+        ensures left { IfOk result (λ done. done ≡ false → found.new ≡ found.old) }
+    {
+        let cell = self.cell;
+        let Some(load) = cell.load_of_many(alloc, self.made, &found.args)? else {
             return Ok(false);
         };
-        let me = self.heap.owner();
-        if !lacks_any(&load, me, &self.foreign) {
+        let me = cell.heap.owner();
+        if !lacks_any(&load, me, &cell.foreign) {
             found.load = load;
             found.rows = Listed::new(alloc);
-            found.doing = Doing::Post { to, behaviour };
+            found.doing = Doing::Post {
+                to: self.to,
+                behaviour: self.behaviour,
+            };
             return Ok(true);
         }
         let loaded = things_of(alloc, &load)?;
-        let minted = lacking(alloc, loaded.as_slice(), me, &self.foreign, weight)?;
+        let weight = self.options.weight;
+        let minted = lacking(alloc, loaded.as_slice(), me, &cell.foreign, weight)?;
         let Some(lacked) = minted else {
             return Ok(false);
         };
@@ -110,145 +152,34 @@ impl Cell {
         Ok(true)
     }
 
-    // The letter with the arguments and the things found, its load and its rows.
-    #[inline(always)]
-    fn post(
-        &self,
-        alloc: Global,
-        trace: Trace,
-        made: &[Row],
-        to: ActorName,
-        behaviour: Name,
-        found: &mut Turned,
-    ) -> Result<(), NoMemory>
-        requires { let h = with_made made.now (as_cell self.now).holdings in
-            found.old.seen ≡ things_from trace self.now.heap.owner h found.old.args }
-        ensures act { let me = self.now.heap.owner in
-            let c = having_made made.now (as_cell self.now) in
-            let args = found.old.args in
-            OnOk result (act_in found.new ≡ posted to (app behaviour args
-            (load_from trace me c.holdings args) (rows_from trace me c args))) }
-        ensures awaited { found.new.awaited ≡ found.old.awaited }
-        ensures place { found.new.place ≡ found.old.place }
+    // Finds its load and rows, with the arguments found, or what is minted first.
+    fn find(&self, alloc: Global, found: &mut Turned) -> Result<(), NoMemory>
+        ensures { OnOk result (FindsLetter self.now found.old found.new) }
     {
-        found.load = self.load(alloc, trace, made, found.seen.as_slice())?;
-        found.rows = self.carried(alloc, trace, made, &found.args)?;
-        found.doing = Doing::Post { to, behaviour };
-        Ok(())
-    }
-
-    // The letter with the arguments and the things found, its load and its rows, or what it mints first;
-    // it is awaited then.
-    #[inline(always)]
-    fn posting_found(
-        &self,
-        alloc: Global,
-        weight: u32,
-        trace: Trace,
-        made: &[Row],
-        to: ActorName,
-        behaviour: Name,
-        found: &mut Turned,
-    ) -> Result<(), NoMemory>
-        requires things { let h = with_made made.now (as_cell self.now).holdings in
-            found.old.seen ≡ things_from trace self.now.heap.owner h found.old.args }
-        requires none { found.old.awaited ≡ None }
-        ensures act { let me = self.now.heap.owner in
-            let c = having_made made.now (as_cell self.now) in
-            let args = found.old.args in
-            OnOk result (act_in found.new ≡ letter_or_mint weight to behaviour args
-            (load_from trace me c.holdings args) (rows_from trace me c args)
-            (lacking_from trace me c.holdings args)) }
-        ensures awaited { let h = with_made made.now (as_cell self.now).holdings in
-            OnOk result (AwaitsIn trace self.now.heap.owner h (sends to behaviour found.old.args) found.new) }
-        ensures place { found.new.place ≡ found.old.place }
-    {
-        let me = self.heap.owner();
-        match lacking(alloc, found.seen.as_slice(), me, &self.foreign, weight)? {
-            Some(minted) => {
-                found.things = minted.1;
-                found.doing = Doing::Mint { owner: minted.0 };
-                found.awaited = awaited(trace, me, to, behaviour);
-                Ok(())
-            }
-            None => self.post(alloc, trace, made, to, behaviour, found),
-        }
-    }
-
-    // The letter with the arguments found, its load and its rows, or what it mints first, by a list of
-    // the things of the load.
-    #[inline(always)]
-    fn posting_few(
-        &self,
-        alloc: Global,
-        weight: u32,
-        trace: Trace,
-        made: &[Row],
-        to: ActorName,
-        behaviour: Name,
-        found: &mut Turned,
-    ) -> Result<(), NoMemory>
-        requires { found.old.awaited ≡ None }
-        ensures act { let me = self.now.heap.owner in
-            let c = having_made made.now (as_cell self.now) in
-            let args = found.old.args in
-            OnOk result (act_in found.new ≡ letter_or_mint weight to behaviour args
-            (load_from trace me c.holdings args) (rows_from trace me c args)
-            (lacking_from trace me c.holdings args)) }
-        ensures awaited { let h = with_made made.now (as_cell self.now).holdings in
-            OnOk result (AwaitsIn trace self.now.heap.owner h (sends to behaviour found.old.args) found.new) }
-    {
-        self.find_things(alloc, trace, made, &found.args, &mut found.seen)?;
-        self.posting_found(alloc, weight, trace, made, to, behaviour, found)
-    }
-
-    // The letter with the arguments found, its load and its rows, or what it mints first.
-    fn posting(
-        &self,
-        alloc: Global,
-        weight: u32,
-        trace: Trace,
-        made: &[Row],
-        to: ActorName,
-        behaviour: Name,
-        found: &mut Turned,
-    ) -> Result<(), NoMemory>
-        requires { found.old.awaited ≡ None }
-        ensures act { let me = self.now.heap.owner in
-            let c = having_made made.now (as_cell self.now) in
-            let args = found.old.args in
-            OnOk result (act_in found.new ≡ letter_or_mint weight to behaviour args
-            (load_from trace me c.holdings args) (rows_from trace me c args)
-            (lacking_from trace me c.holdings args)) }
-        ensures awaited { let h = with_made made.now (as_cell self.now).holdings in
-            OnOk result (AwaitsIn trace self.now.heap.owner h (sends to behaviour found.old.args) found.new) }
-    {
-        if self.reaches_many(trace, made, &found.args) {
-            let done = self.posting_many(alloc, weight, made, to, behaviour, found)?;
+        let cell = self.cell;
+        if cell.reaches_many(self.options.trace, self.made, &found.args) {
+            let done = self.find_many(alloc, found)?;
             if done {
                 return Ok(());
             }
         }
-        self.posting_few(alloc, weight, trace, made, to, behaviour, found)
+        self.find_few(alloc, found)
     }
+}
 
+impl Cell {
     // What it does by a deed of its turn.
     fn move_of(
         &self,
         alloc: Global,
-        weight: u32,
-        trace: Trace,
+        options: Options,
         turn: &Turn,
         deed: &Deed<'_>,
         found: &mut Turned,
     ) -> Result<(), NoMemory>
-        requires register { FitsRegister (act_of deed.now turn.now) }
-        requires none { found.old.awaited ≡ None }
-        ensures act { let me = self.now.heap.owner in
-            let c = having_made turn.now.made (as_cell self.now) in
-            OnOk result (act_in found.new ≡ move_by trace weight me c (act_of deed.now turn.now)) }
-        ensures awaited { let h = with_made turn.now.made (as_cell self.now).holdings in
-            OnOk result (AwaitsIn trace self.now.heap.owner h (act_of deed.now turn.now) found.new) }
+        requires { FitsRegister (act_of deed.now turn.now) }
+        ensures { let does = act_of deed.now turn.now in
+            OnOk result (Finds options self.now turn.now.made does found.old found.new) }
     {
         match *deed {
             Deed::Post {
@@ -258,7 +189,14 @@ impl Cell {
             } => {
                 found.args = Args::new();
                 turn.gather_into(values.as_slice(), &mut found.args);
-                self.posting(alloc, weight, trace, turn.made(), to, behaviour, found)
+                let sending = Sending {
+                    cell: self,
+                    options,
+                    made: turn.made(),
+                    to,
+                    behaviour,
+                };
+                sending.find(alloc, found)
             }
             Deed::New { kind, into } => {
                 let register = into as u8;
@@ -387,7 +325,8 @@ impl Cell {
         match self.run_turn(code, trace, frame, turn) {
             Ok(halt) => match halt {
                 Halt::Stops(stop) => {
-                    self.move_of(alloc, weight, trace, turn, &stop.deed, found)?;
+                    let options = Options { weight, trace };
+                    self.move_of(alloc, options, turn, &stop.deed, found)?;
                     found.place = stop.place;
                     Ok(())
                 }
@@ -427,14 +366,13 @@ impl Cell {
     {
         let _code = code;
         found.forget_letter();
-        self.posting_found(
-            alloc,
-            weight,
-            trace,
-            turn.made(),
-            letter.to,
-            letter.behaviour,
-            found,
-        )
+        let sending = Sending {
+            cell: self,
+            options: Options { weight, trace },
+            made: turn.made(),
+            to: letter.to,
+            behaviour: letter.behaviour,
+        };
+        sending.find_found(alloc, found)
     }
 }

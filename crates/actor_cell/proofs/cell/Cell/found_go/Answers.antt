@@ -1,4 +1,4 @@
-use Rattle.std.proofs.Common.{Some, sym, ap, ◌∙◌, subst}
+use Rattle.std.proofs.Common.{sym, ap, ◌∙◌, subst}
 use Rattle.std.specs.Prelude.{IsSomeAnd}
 use Rattle.std.proofs.lemmas.Option.{none-some}
 use Rattle.actor_cell.specs.declared.turning.Turned.{Turned}
@@ -14,8 +14,8 @@ use Rattle.actor_cell.proofs.Telling.{moves_told, rest_told}
 use Rattle.actor_cell.proofs.Registers.{segment_fits}
 use Rattle.actor_cell.proofs.cell.Cell.found_go.Goals as goal
 
-pub move_of-requires-clause-register : goal.move_of-requires-clause-register
-move_of-requires-clause-register c =
+pub move_of-requires : goal.move_of-requires
+move_of-requires c =
     let s = c.args.self.now in
     let code = c.args.code.now in
     let frame = c.in-Some.frame.now in
@@ -74,7 +74,7 @@ returns-in_ok-move_of-in-Stops-clause-awaited c = λ letter e.
     let first = needed c.args.trace code me (as_cell s) frame in
     let its_stop = turn_of_cell c.args.trace code me (as_cell s) frame in
     let halts = subst (λ halt. HaltsAt first its_stop halt c.run_turn.new.turn) c.in-Stops.is c.in-Ok.ensures.halt in
-    let is = c.in_ok-move_of-in-Stops.ensures.awaited letter e in
+    let is = c.in_ok-move_of-in-Stops.ensures.awaited (ap (λ (t : Turned). t.awaited) c.forget_letter.ensures) letter e in
     record {
       frame = frame;
       framed = sym c.in-Some.ensures;

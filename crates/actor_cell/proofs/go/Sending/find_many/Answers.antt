@@ -1,0 +1,29 @@
+use Rattle.std.proofs.Common.{rules, Some, map, sym, ap, ◌∙◌, refl}
+use Rattle.letter_kinds.specs.Counting.{Loaded}
+use Rattle.actor_cell.proofs.Posting.{done_first, loaded_deeply, sent_deeply}
+use Rattle.actor_cell.proofs.go.Sending.find_many.Goals as goal
+
+pub returns-then-not-lacks_any-clause-done : goal.returns-then-not-lacks_any-clause-done
+returns-then-not-lacks_any-clause-done c = λ _.
+    let s = c.args.self.now in
+    let args = c.args.found.now.args in
+    let loads = loaded_deeply s args c.requires c.in_ok-load.field-0 c.in-Some.load c.in-Some.is c.in_ok-load.ensures in
+    let any = sym c.if-not-lacks_any.true ∙ c.lacks_any.ensures s.cell.now.count s.cell.now.heap in
+    record {
+      act = sent_deeply s args c.requires c.owner-me.result c.owner-me.ensures c.in-Some.load c.new.result loads c.new.ensures any;
+      awaited = search rules;
+      place = refl;
+    }
+
+pub returns-clause-done : goal.returns-clause-done
+returns-clause-done c = λ _.
+    let s = c.args.self.now in
+    let args = c.args.found.now.args in
+    let loads = loaded_deeply s args c.requires c.in_ok-load.field-0 c.in-Some.load c.in-Some.is c.in_ok-load.ensures in
+    let things = c.as_slice.ensures ∙ c.in_ok-loaded.ensures ∙ ap (map (λ (e : Loaded). e.0)) loads in
+    let is = sym c.in-Some-minted.is ∙ c.in_ok-minted.ensures s.cell.now.count s.cell.now.heap in
+    record {
+      act = done_first s args c.owner-me.result c.owner-me.ensures c.as_slice.result.now things (Some c.in-Some-minted.lacked) is;
+      awaited = search rules;
+      place = refl;
+    }
