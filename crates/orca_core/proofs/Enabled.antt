@@ -28,10 +28,9 @@ use Rattle.actor_table.specs.declared.slot.Slot.{Slot}
 use Rattle.actor_table.specs.declared.slot.Place.{Place}
 use Rattle.actor_table.specs.declared.slot.Place.TheVariants.{Home, Away, Gone}
 use Rattle.actor_table.specs.Slots.{actors_of, away_of, is_away_in, may_at, may_in, seat_in, slot_at}
-use Rattle.actor_table.proofs.Changing.{seat_read}
+use Rattle.actor_table.proofs.Changing.{away_read, seat_read}
 use Rattle.orca_parts.specs.Away.{is_out, is_out_for, next_without}
 use Rattle.orca_core.specs.Firsts.{next_of_kind}
-use Rattle.orca_parts.proofs.Homes.{away_read}
 use Rattle.orca_parts.proofs.Preparing.{no_step}
 
 -- ---- where no cell is away

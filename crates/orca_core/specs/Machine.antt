@@ -1,9 +1,7 @@
 -- The machine that collects, as contracts see its code.
 use Rattle.std.specs.Prelude.{ℕ, ◌≡◌, ◌<◌, ◌≤◌, Bool, true, false, if◌then◌else◌, List, length, Option, Some, None, option_map, ⊤}
 use Rattle.orca_names.specs.declared.limits.TheConstants.{BOOK_LIMIT}
-use Rattle.orca_names.specs.declared.trace.Trace.{Trace}
 use Rattle.behaviour_check.specs.Rules.{IsChecked}
-use Rattle.behaviour_code.specs.declared.code.Program.{Program}
 use Rattle.event_rule.specs.declared.event.Event.{Event}
 use Rattle.event_rule.specs.declared.event.Event.TheVariants.{Reap}
 use Rattle.letter_kinds.specs.Detector.{Token, has}
@@ -14,10 +12,10 @@ use Rattle.machine_rules.specs.Detect.{acked_token}
 use Rattle.machine_rules.specs.Run.{IsRun}
 use Rattle.machine_rules.specs.State.{State}
 use Rattle.actor_cell.specs.declared.found.Found.{Found}
-use Rattle.orca_parts.specs.Awaiting.{IsAwaited}
 use Rattle.orca_parts.specs.Away.{is_out}
 use Rattle.orca_parts.specs.Founds.{IsFoundFor}
-use Rattle.orca_parts.specs.Parts.{options_of, state_of}
+use Rattle.orca_parts.specs.declared.insides.Core.{Core}
+use Rattle.orca_parts.specs.Core.{StandsWell, state_in}
 use Rattle.orca_parts.specs.Ready.{FitsReady}
 use Rattle.orca_parts.specs.declared.parts.Parts.{Parts}
 use Rattle.orca_parts.specs.declared.ready.Ready.{Ready}
@@ -41,10 +39,9 @@ pub record IsReached (state : State) (steps : ℕ) : Type 0 where
   pub early : steps ≤ BOOK_LIMIT
 
 -- it is reached, and what was found last awaits a letter still, where it stands
-pub record IsKept (program : Program) (weight : ℕ) (trace : Trace) (parts : Parts) (steps : ℕ)
-    (stands : Bool) : Type 0 where
-  pub reached : IsReached (state_of program (options_of weight trace) parts) steps
-  pub awaited : stands ≡ true → IsAwaited trace program parts
+pub record IsKept (m : Core) (steps : ℕ) : Type 0 where
+  pub reached : IsReached (state_in m) steps
+  pub stands : StandsWell m
 
 -- nothing but room is another
 pub record IsSame (old new : Machine) : Type 0 where
@@ -60,12 +57,12 @@ ReapsNoneAway e m = ⊤
 
 -- what was prepared fits the machine
 abbrev pub Fits : Ready → Machine → Type 0
-Fits ready m = FitsReady m.state.options.trace m.state.options.weight m.state.program ready m.kept
+Fits ready m = FitsReady m.state.options m.state.program ready m.kept
 
 -- what was found of the event's actor is that of its cell
 abbrev pub IsFoundIn : Event → Found → Machine → Type 0
-IsFoundIn e found m = IsFoundFor m.state.options.trace m.state.options.weight m.state.program found e
-    m.kept.table.slots
+IsFoundIn e found m =
+    IsFoundFor m.state.options m.state.program found e m.kept.table.slots
 
 -- no cell is away
 abbrev pub NoneIsAway : Machine → Type 0

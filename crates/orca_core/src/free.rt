@@ -46,9 +46,9 @@ impl<'a> Orca<'a> {
         ensures { let kind = next_of_kind (is_free (S.is_aside aside.now)) self.now.out in
             MatchOption result (IsQuiet kind self.now.state) (HasFirst kind self.now.state) }
     {
-        if let Some(a) = first_in(&self.parts.table, Round::Acting, aside) {
+        if let Some(a) = first_in(&self.core.parts.table, Round::Acting, aside) {
             return Some(a);
         }
-        first_in(&self.parts.table, Round::Settling, aside)
+        first_in(&self.core.parts.table, Round::Settling, aside)
     }
 }

@@ -14,7 +14,7 @@ use crate::machine::Orca;
 use actor_cell::Found;
 use event_rule::Event;
 use orca_names::ActorName;
-use orca_parts::{Ready, StepFault, install};
+use orca_parts::{Ready, StepFault, prepare, stand};
 use std::alloc::Global;
 
 impl<'a> Orca<'a> {
@@ -41,8 +41,8 @@ impl<'a> Orca<'a> {
         self.prepare_from(alloc, e, &mut found)
     }
 
-    /// As `prepare_found`, out of a place, where the next event's may be found. A turn is swapped with the
-    /// machine's own, so its room serves again there.
+    /// As `prepare_found`, out of a place, where the next event's may be found: it is swapped with what the
+    /// machine found last, whose room serves again there.
     ///
     /// # Errors
     /// As `prepare`.
@@ -61,17 +61,8 @@ impl<'a> Orca<'a> {
         ensures home { OnOk result (is_out_for self.old.out e ≡ false) }
         ensures fault { IfErr result (IsFault (next_without self.old.out self.old.state e) e) }
     {
-        // What is found elsewhere awaits no letter here.
-        self.stands = false;
-        install(
-            alloc,
-            self.code,
-            self.weight,
-            self.trace,
-            &mut self.parts,
-            &e,
-            found,
-        )?;
+        stand(&mut self.core, found);
+        prepare(alloc, &mut self.core, &e, true)?;
         Ok(Ready { event: e })
     }
 

@@ -13,7 +13,7 @@ impl<'a> Orca<'a> {
     pub fn keeps_the_reachable(&self)
         ensures { KeepsTheReachable self.now }
     {
-        let _ = &self.parts;
+        let _ = &self.core;
     }
 
     /// With root-only tracing its four facts hold: no letter takes from a count what is not there; an idle
@@ -23,34 +23,34 @@ impl<'a> Orca<'a> {
     pub fn is_traced_by_roots(&self)
         ensures { IsTracedByRoots self.now }
     {
-        let _ = &self.parts;
+        let _ = &self.core;
     }
 
     /// Where no event is enabled, exactly what is reachable is left, cycles of actors included.
     pub fn is_exact_at_quiet(&self)
         ensures { IsExactAtQuiet self.now }
     {
-        let _ = &self.parts;
+        let _ = &self.core;
     }
 
     /// Without choices the machine comes to rest: each further event leaves less work to do.
     pub fn comes_to_rest(&self)
         ensures { ComesToRest self.now }
     {
-        let _ = &self.parts;
+        let _ = &self.core;
     }
 
     /// No count, and no count that is told of, needs more than 43 bits.
     pub fn counts_in_few_bits(&self)
         ensures { CountsInFewBits self.now }
     {
-        let _ = &self.parts;
+        let _ = &self.core;
     }
 
     /// An increment is by at least 1.
     pub fn weight_is_above_zero(&self)
         ensures { 0 < self.now.state.options.weight }
     {
-        let _ = &self.parts;
+        let _ = &self.core;
     }
 }

@@ -37,7 +37,7 @@ impl<'a> Orca<'a> {
         ensures rising { IfOk result (λ found. IsStrictlySortedBy thing_cmp found.items) }
     {
         // The state is reached by a run, so few actors were made.
-        let _ = &self.parts;
+        let _ = &self.core;
         let mut things = Vec::new(alloc);
         for a in 0..self.made() {
             if let Some(cell) = self.cell(ActorName(a as u32)) {

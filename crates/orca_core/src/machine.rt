@@ -22,10 +22,8 @@ use cycle_detect::Detector;
 use event_rule::Event;
 use letter_kinds::Letter;
 use mail_rows::MailRow;
-use orca_names::{ActorName, Args, NoMemory, Trace, Value};
-use orca_parts::{
-    Parts, Ready, StepFault, apply, prepare, stand_for_go, stand_for_take, stand_when_done,
-};
+use orca_names::{ActorName, Args, NoMemory, Options, Trace, Value};
+use orca_parts::{Core, Parts, Ready, StepFault, apply, prepare};
 use plain_list::Listed;
 use std::alloc::Global;
 use std::collections::VecDeque;
@@ -36,20 +34,15 @@ use turn_step::Turn;
 /// state is reached by a run of the program.
 #[derive(Drop)]
 pub struct Orca<'a> {
-    pub(crate) code: &'a Checked,
-    pub(crate) weight: u32,
-    pub(crate) trace: Trace,
-    pub(crate) parts: Parts,
+    pub(crate) core: Core<'a>,
     steps: u64,
-    /// What was found last of a turn stands, where it awaits a letter.
-    pub(crate) stands: bool,
 }
 
 impl<'a> Model for Orca<'a> {
     ghost use Rattle.std.specs.Coded.{codes};
     ghost use Rattle.actor_table.specs.Codes.{coded_entries, coded_known, coded_own};
     ghost use Rattle.orca_core.specs.Machine as machine;
-    ghost use Rattle.orca_parts.specs.Parts.{options_of, state_of};
+    ghost use Rattle.orca_parts.specs.Core.{state_in};
     ghost use Rattle.actor_table.specs.Slots.{away_of};
 
     ghost Value = { machine.Machine };
@@ -57,14 +50,13 @@ impl<'a> Model for Orca<'a> {
     ghost coded = { Prim.hlevel (codes, coded_own, coded_entries, coded_known) };
 
     ghost view = { λ m. record {
-      state = state_of m.code.now (options_of m.weight m.trace) m.parts;
+      state = state_in m.core;
       steps = m.steps;
-      out = away_of m.parts.table.slots;
-      kept = m.parts;
+      out = away_of m.core.parts.table.slots;
+      kept = m.core.parts;
     } };
 
-    ghost invariant = { λ m.
-        machine.IsKept m.code.now m.weight m.trace m.parts m.steps m.stands };
+    ghost invariant = { λ m. machine.IsKept m.core m.steps };
 }
 
 // The letters of the first actor: `start`, where the program has it.
@@ -118,27 +110,27 @@ impl<'a> Orca<'a> {
         // The program was checked.
         let _program = code.program();
         let table = first_table(alloc, code)?;
-        Ok(Orca {
+        let parts = Parts {
+            table,
+            detector: Detector::new(alloc),
+            notes: VecDeque::new(alloc),
+            prints: Vec::new(alloc),
+            objects: 0,
+            turn: Turn::new(alloc),
+            turned: Turned::new(alloc),
+            sweep: Sweep::new(alloc),
+            letters: Vec::new(alloc),
+            report: None,
+            token: None,
+            members: Vec::new(alloc),
+        };
+        let core = Core {
             code,
-            weight,
-            trace,
-            parts: Parts {
-                table,
-                detector: Detector::new(alloc),
-                notes: VecDeque::new(alloc),
-                prints: Vec::new(alloc),
-                objects: 0,
-                turn: Turn::new(alloc),
-                turned: Turned::new(alloc),
-                sweep: Sweep::new(alloc),
-                letters: Vec::new(alloc),
-                report: None,
-                token: None,
-                members: Vec::new(alloc),
-            },
-            steps: 0,
+            options: Options { weight, trace },
+            parts,
             stands: false,
-        })
+        };
+        Ok(Orca { core, steps: 0 })
     }
 
     /// Evaluates an event and takes all its memory. Nothing changes but room, so the event can then be
@@ -158,25 +150,14 @@ impl<'a> Orca<'a> {
         ensures home { OnOk result (is_out_for self.old.out e ≡ false) }
         ensures fault { IfErr result (IsFault (next_without self.old.out self.old.state e) e) }
     {
-        let stands = self.stands;
-        stand_for_take(&mut self.stands, &e);
-        prepare(
-            alloc,
-            self.code,
-            self.weight,
-            self.trace,
-            stands,
-            &mut self.parts,
-            &e,
-        )?;
-        stand_for_go(&mut self.stands, &e);
+        prepare(alloc, &mut self.core, &e, false)?;
         Ok(Ready { event: e })
     }
 
     // What moves out leaves empty lists behind, which keep it for their later memory.
     #[inline(always)]
     fn allocator(&self) -> Global {
-        *self.parts.prints.allocator()
+        *self.core.parts.prints.allocator()
     }
 
     /// Does the event that was prepared: the machine's next step is exactly that of its rules. It takes
@@ -192,15 +173,7 @@ impl<'a> Orca<'a> {
         ensures woken { IsLowestWoken self.old.state.actors self.new.state.actors result }
     {
         let alloc = self.allocator();
-        stand_when_done(&mut self.stands, &ready.event);
-        let woken = apply(
-            alloc,
-            self.code,
-            self.weight,
-            self.trace,
-            &mut self.parts,
-            ready.event,
-        );
+        let woken = apply(alloc, &mut self.core, ready.event);
         self.steps += 1;
         woken
     }
@@ -231,21 +204,21 @@ impl<'a> Orca<'a> {
     pub fn prints(&self) -> &[Value]
         ensures { result.now ≡ self.now.state.prints }
     {
-        self.parts.prints.as_slice()
+        self.core.parts.prints.as_slice()
     }
 
     /// How many actors were made.
     pub fn made(&self) -> u64
         ensures { result ≡ length self.now.state.actors }
     {
-        self.parts.table.len() as u64
+        self.core.parts.table.len() as u64
     }
 
     /// How many objects were made.
     pub fn objects_made(&self) -> u64
         ensures { result ≡ self.now.state.objects }
     {
-        self.parts.objects
+        self.core.parts.objects
     }
 
     /// How many events were done.

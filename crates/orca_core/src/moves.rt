@@ -24,7 +24,7 @@ impl<'a> Orca<'a> {
         ensures out { self.new.out ≡ (if is_some result then set self.old.out a true else self.old.out) }
         ensures lent { IfSome result (λ _. is_out self.new.out a ≡ true) }
     {
-        self.parts.table.lift(a)
+        self.core.parts.table.lift(a)
     }
 
     /// Takes back the cell that was lent, as it was. It takes no memory.
@@ -37,6 +37,6 @@ impl<'a> Orca<'a> {
         ensures out { self.new.out ≡ set self.old.out a false }
         ensures place { (slot_at self.new.kept.table.slots a).place ≡ Home cell }
     {
-        self.parts.table.put_back(a, cell);
+        self.core.parts.table.put_back(a, cell);
     }
 }

@@ -26,14 +26,14 @@ impl<'a> Orca<'a> {
         ensures { result ≡ true ↔ IsEnabled (next_without self.now.out) self.now.state e }
     {
         match e {
-            Event::Take(a)
-            | Event::Go(a)
-            | Event::Collect(a)
-            | Event::Leave(a)
-            | Event::Block(a) => self.parts.table.may(a, &e),
-            Event::Hear => !self.parts.notes.is_empty(),
-            Event::Scan => self.parts.detector.news(),
-            Event::Reap(token) => self.parts.detector.acked(token),
+            Event::Take(a) => self.core.parts.table.may(a, &e),
+            Event::Go(a) => self.core.parts.table.may(a, &e),
+            Event::Collect(a) => self.core.parts.table.may(a, &e),
+            Event::Leave(a) => self.core.parts.table.may(a, &e),
+            Event::Block(a) => self.core.parts.table.may(a, &e),
+            Event::Hear => !self.core.parts.notes.is_empty(),
+            Event::Scan => self.core.parts.detector.news(),
+            Event::Reap(token) => self.core.parts.detector.acked(token),
         }
     }
 
@@ -42,7 +42,7 @@ impl<'a> Orca<'a> {
         ensures { let kind = next_of_kind (is_of a) self.now.out in
             MatchOption result (IsQuiet kind self.now.state) (IsFirst kind self.now.state) }
     {
-        self.parts.table.next_of(a)
+        self.core.parts.table.next_of(a)
     }
 
     /// The first enabled event of the detector, in the one-worker order: it hears, scans, or reaps the
@@ -51,13 +51,13 @@ impl<'a> Orca<'a> {
         ensures { let kind = next_of_kind is_of_detector self.now.out in
             MatchOption result (IsQuiet kind self.now.state) (IsFirst kind self.now.state) }
     {
-        if !self.parts.notes.is_empty() {
+        if !self.core.parts.notes.is_empty() {
             return Some(Event::Hear);
         }
-        if self.parts.detector.news() {
+        if self.core.parts.detector.news() {
             return Some(Event::Scan);
         }
-        match self.parts.detector.ready() {
+        match self.core.parts.detector.ready() {
             Some(token) => Some(Event::Reap(token)),
             None => None,
         }
@@ -71,10 +71,10 @@ impl<'a> Orca<'a> {
         ensures whole { NoneIsAway self.now
             → MatchOption result (IsQuiet next self.now.state) (IsFirst next self.now.state) }
     {
-        if let Some(a) = self.parts.table.first_acting() {
+        if let Some(a) = self.core.parts.table.first_acting() {
             return self.next_of(a);
         }
-        if let Some(a) = self.parts.table.first_settling() {
+        if let Some(a) = self.core.parts.table.first_settling() {
             return self.next_of(a);
         }
         self.first_of_detector()
@@ -92,7 +92,7 @@ impl<'a> Orca<'a> {
     pub fn lives(&self, a: ActorName) -> bool
         ensures { result ≡ is_some (seat_at self.now.state.actors a) }
     {
-        self.parts.table.lives(a)
+        self.core.parts.table.lives(a)
     }
 
     /// The cell of an actor; `None` exactly where the actor is not present, or its cell is away.
@@ -101,14 +101,14 @@ impl<'a> Orca<'a> {
         ensures owner { IfSome result (λ c. c.now.heap.owner ≡ a) }
         ensures kept { option_copied result ≡ home_of (slot_at self.now.kept.table.slots a) }
     {
-        self.parts.table.cell(a)
+        self.core.parts.table.cell(a)
     }
 
     /// The letters that wait for an actor; `None` exactly where the actor is not present.
     pub fn mail(&self, a: ActorName) -> Option<&MailRow>
         ensures { option_map (λ m. m.now.letters) result ≡ mail_here self.now a }
     {
-        self.parts.table.mail(a)
+        self.core.parts.table.mail(a)
     }
 
     /// The kept reports of the members of an open token, in the order of the members; `None` exactly
@@ -125,6 +125,6 @@ impl<'a> Orca<'a> {
             IfOk result (λ found. option_map (λ v. v.items) found
             ≡ option_map (λ t. reports_of known.kept t.members) (token_numbered token known)) }
     {
-        self.parts.detector.token_reports(alloc, token)
+        self.core.parts.detector.token_reports(alloc, token)
     }
 }

@@ -4,7 +4,7 @@ use Rattle.std.specs.Prelude.{IsSomeAnd}
 use Rattle.std.specs.FinMap as map_of
 use Rattle.std.proofs.lemmas.List.{length-map}
 use Rattle.orca_names.specs.declared.names.Thing.TheVariants.{Actor}
-use Rattle.orca_names.specs.declared.trace.Trace.{Trace}
+use Rattle.orca_names.specs.declared.options.Options.{Options}
 use Rattle.behaviour_code.specs.declared.code.Program.{Program}
 use Rattle.machine_rules.specs.Actors.{seat}
 use Rattle.actor_cell.specs.declared.cell.Cell.{Cell}
@@ -43,14 +43,14 @@ can_take a m fits allow = record {
   };
 }
 
-pub counts_allow : (trace : Trace) (weight : ℕ) (program : Program) (a : ℕ) (found : Turned) (m : Parts)
-    → FitsGo trace weight program a found m → AllowsGo trace weight program a (actors_of m.table.slots)
+pub counts_allow : (options : Options) (program : Program) (a : ℕ) (found : Turned) (m : Parts)
+    → FitsGo options program a found m → AllowsGo options program a (actors_of m.table.slots)
     → (c : Cell) → (slot_at m.table.slots a).place ≡ Home c → CountsAllow a (act_in found) m c
-counts_allow trace weight program a found m fits allow c home =
+counts_allow options program a found m fits allow c home =
     subst (CountsAllow a (act_in found) m) (same_cell (slot_at m.table.slots a).place fits.cell c fits.home home) (record {
       can = told_can fits.frame (as_cell x) m.turn found.place a (as_cell x).holdings (act_in found)
           (subst (λ (t : goes.Turned). CanMove a (as_cell x).holdings t.turn t.act) fits.found_is
-          (subst (λ o. IsSomeAnd o (λ frame. let t = turned_in trace weight program a (as_cell x) frame in CanMove a (as_cell x).holdings t.turn t.act)) fits.framed (its.can fits.frame fits.framed)));
+          (subst (λ o. IsSomeAnd o (λ frame. let t = turned_in options.trace options.weight program a (as_cell x) frame in CanMove a (as_cell x).holdings t.turn t.act)) fits.framed (its.can fits.frame fits.framed)));
       serials = its.serials;
       unnamed = ap (λ n. map_of.get x.foreign.entries (Actor n)) (sym (length-map m.table.slots seat_of)) ∙ its.unnamed;
     })
@@ -58,5 +58,5 @@ counts_allow trace weight program a found m fits allow c home =
     x : Cell
     x = fits.cell
 
-    its : TurnFits trace weight program a (length (actors_of m.table.slots)) (as_cell fits.cell)
+    its : TurnFits options program a (length (actors_of m.table.slots)) (as_cell fits.cell)
     its = allow (as_cell fits.cell) (slot_at m.table.slots a).mail.letters (seat_here m.table.slots a fits.cell fits.home)

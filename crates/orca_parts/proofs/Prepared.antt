@@ -1,5 +1,5 @@
 -- A turn that was found, and what it takes to be prepared.
-use Rattle.std.proofs.Common.{Bool, ◌≡◌, ◌≤◌, ℕ, false, List, length, get_or, Option, None, Some, refl, sym, ap, subst, ◌∙◌}
+use Rattle.std.proofs.Common.{◌≡◌, ◌≤◌, ℕ, false, List, length, get_or, Option, None, Some, refl, sym, ap, subst, ◌∙◌}
 use Rattle.std.specs.Prelude.{if◌then◌else◌, is_err, is_some, IfErr, IsSomeAnd, OnOk}
 use Rattle.std.specs.declared.result.Result.{Result}
 use Rattle.std.specs.declared.result.Result.TheVariants.{Ok, Err}
@@ -18,6 +18,7 @@ use Rattle.machine_rules.specs.Go.{go}
 use Rattle.machine_rules.specs.Guards.{may_go}
 use Rattle.machine_rules.specs.Next.{acting}
 use Rattle.machine_rules.specs.State.{State}
+use Rattle.orca_names.specs.declared.options.Options.{Options}
 use Rattle.orca_names.specs.declared.trace.Trace.{Trace}
 use Rattle.actor_cell.specs.declared.cell.Cell.{Cell}
 use Rattle.actor_cell.specs.Moves.{act_in}
@@ -30,7 +31,9 @@ use Rattle.actor_table.specs.declared.slot.Place.TheVariants.{Home, Away, Gone}
 use Rattle.actor_table.specs.Changes.{HasCell}
 use Rattle.actor_table.specs.Slots.{Table, actors_of, away_of, is_away, is_away_in, places_of, seat_in, slot_at}
 use Rattle.actor_table.proofs.Changing.{away_read, seat_read}
-use Rattle.orca_parts.specs.Away.{is_out, next_without}
+use Rattle.orca_parts.specs.declared.insides.Core.{Core}
+use Rattle.orca_parts.specs.Away.{is_out}
+use Rattle.orca_parts.specs.Core.{next_in}
 use Rattle.orca_parts.specs.Faults.{IsFault}
 use Rattle.orca_parts.proofs.Homes.{place_read}
 use Rattle.orca_parts.specs.Fits.{OnlyRoom}
@@ -85,9 +88,14 @@ not_going trace s slots a (faults.ActorsFull b) same none = absurd none
 not_going trace s slots a faults.NoMemory same none = tt
 
 -- the fault of an event is that of what the event is
-pub fault_same : {A : Type 0} (away : List Bool) (s : State) (e f : Event) (r : Result A StepFault) → e ≡ f
-    → IfErr r (IsFault (next_without away s f) f) → IfErr r (IsFault (next_without away s e) e)
-fault_same away s e f r same is = subst (λ g. IfErr r (IsFault (next_without away s g) g)) (sym same) is
+pub fault_same : {A : Type 0} (m : Core) (e f : Event) (r : Result A StepFault) → e ≡ f
+    → IfErr r (IsFault (next_in m f) f) → IfErr r (IsFault (next_in m e) e)
+fault_same m e f r same is = subst (λ g. IfErr r (IsFault (next_in m g) g)) (sym same) is
+
+-- what comes with Ok gives something more
+pub ok_by : {A E P Q : Type 0} (r : Result A E) → (P → Q) → OnOk r P → OnOk r Q
+ok_by (Ok x) more so = more so
+ok_by (Err x) more so = tt
 
 -- ---- one after another
 
@@ -107,17 +115,17 @@ table_room m table turn actors away =
     record { state = λ p o. ap (λ xs. record (state_of p o m) { actors = xs }) actors; away = away }
 
 -- what was found fits, once the memory was taken
-module _ (trace : Trace) (weight : ℕ) (program : Program) (a : ℕ) (found : Turned) (old : List Slot) (turn : Turn) (mid : List Slot) (m : Parts) where
+module _ (options : Options) (program : Program) (a : ℕ) (found : Turned) (old : List Slot) (turn : Turn) (mid : List Slot) (m : Parts) where
   -- where its cell is at home, there is room for what was found
   abbrev HasRoomToGo : Slot → Type 0
   HasRoomToGo x = (y : Cell) → x.place ≡ Home y → (length turn.made ≤ y.heap.spare) × (new_entries (act_in found) y.foreign.entries ≤ y.foreign.spare)
 
   fits_with : (c : Cell) → (slot_at old a).place ≡ Home c → (frame : Frame) → c.frame ≡ Some frame
-      → IsTold trace weight program a (as_cell c) turn found.place (act_in found) frame
+      → IsTold options.trace options.weight program a (as_cell c) turn found.place (act_in found) frame
       → (x : Cell) → (slot_at mid a).place ≡ Home x → as_cell x ≡ as_cell c
       → HasRoomToGo (slot_at mid a) → places_of m.table.slots ≡ places_of mid → m.turn ≡ turn
       → HasRoomOut (act_in found) m → length turn.made ≤ BODY_LIMIT
-      → FitsGo trace weight program a found m
+      → FitsGo options program a found m
   fits_with c home frame framed is x at same room places kept out few =
       let sizes = room x at in
       record {
@@ -125,18 +133,18 @@ module _ (trace : Trace) (weight : ℕ) (program : Program) (a : ℕ) (found : T
         home = sym (place_read m.table.slots a) ∙ ap (λ ps. get_or ps a Gone) places ∙ place_read mid a ∙ at;
         frame = frame;
         framed = ap (λ (y : rules.Cell). y.frame) same ∙ framed;
-        found_is = ap (λ y. turned_in trace weight program a y frame) same ∙ is ∙ (λ i. told frame (sym same i) (sym kept i) found.place (act_in found));
+        found_is = ap (λ y. turned_in options.trace options.weight program a y frame) same ∙ is ∙ (λ i. told frame (sym same i) (sym kept i) found.place (act_in found));
         few = subst (λ (t : Turn). length t.made ≤ BODY_LIMIT) (sym kept) few;
         objects = subst (λ (t : Turn). length t.made ≤ x.heap.spare) (sym kept) sizes.0;
         entries = sizes.1;
         room = out;
       }
 
-  pub fits_go : HasCell (slot_at old a) (IsFoundGo trace weight program a turn found)
+  pub fits_go : HasCell (slot_at old a) (IsFoundGo options program a turn found)
       → actors_of mid ≡ actors_of old → away_of mid ≡ away_of old
       → HasRoomToGo (slot_at mid a) → places_of m.table.slots ≡ places_of mid → m.turn ≡ turn
       → HasRoomOut (act_in found) m → length turn.made ≤ BODY_LIMIT
-      → FitsGo trace weight program a found m
+      → FitsGo options program a found m
   fits_go cell actors away room places kept out few =
       let c = cell.cell in
       let home : is_away (slot_at mid a) ≡ false =
@@ -145,8 +153,8 @@ module _ (trace : Trace) (weight : ℕ) (program : Program) (a : ℕ) (found : T
       by c.frame refl cell.so x
     where
       by : (f : Option Frame) → cell.cell.frame ≡ f
-          → IsSomeAnd f (IsTold trace weight program a (as_cell cell.cell) turn found.place (act_in found))
-          → HasCell (slot_at mid a) (λ x. as_cell x ≡ as_cell cell.cell) → FitsGo trace weight program a found m
+          → IsSomeAnd f (IsTold options.trace options.weight program a (as_cell cell.cell) turn found.place (act_in found))
+          → HasCell (slot_at mid a) (λ x. as_cell x ≡ as_cell cell.cell) → FitsGo options program a found m
       by None framed is x = absurd is
       by (Some frame) framed is x =
           fits_with cell.cell cell.home frame framed is x.cell x.home x.so room places kept out few

@@ -117,6 +117,10 @@ idle_and : (frame : Option Frame) (b : Bool) → (is_none frame && b) ≡ true �
 idle_and None b on = (refl, on)
 idle_and (Some f) b on = cc
 
+-- who may collect rests and is dirty
+pub rests_dirty : (c : Cell) (letters : List Letter) → may_collect (as_cell c) letters ≡ true → (c.frame ≡ None) × (c.dirty ≡ true)
+rests_dirty c letters on = idle_and c.frame c.dirty on
+
 pub fits_take : (a : ℕ) (m : Parts) (old : List Slot) → actors_of m.table.slots ≡ actors_of old → away_of m.table.slots ≡ away_of old
     → may_at may_take (slot_at old a) ≡ true → ((c : Cell) → (slot_at m.table.slots a).place ≡ Home c → (letter : Letter) (later : List Letter) → (slot_at m.table.slots a).mail.letters ≡ letter ∷ later → HasRoomFor letter c.foreign.spare c.known.spare)
     → deque_len m.notes < deque_capacity m.notes → FitsTake a m

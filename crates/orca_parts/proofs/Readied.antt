@@ -1,6 +1,6 @@
 -- What was prepared is no event of an actor whose cell is away.
-use Rattle.std.proofs.Common.{◌≡◌, ℕ, false, refl}
-use Rattle.orca_names.specs.declared.trace.Trace.{Trace}
+use Rattle.std.proofs.Common.{◌≡◌, false, refl}
+use Rattle.orca_names.specs.declared.options.Options.{Options}
 use Rattle.behaviour_code.specs.declared.code.Program.{Program}
 use Rattle.event_rule.specs.declared.event.Event.{Event}
 use Rattle.event_rule.specs.declared.event.Event.TheVariants.{Take, Go, Collect, Leave, Block}
@@ -10,8 +10,8 @@ use Rattle.orca_parts.specs.Ready.{FitsEvent}
 use Rattle.orca_parts.specs.declared.parts.Parts.{Parts}
 use Rattle.orca_parts.proofs.Homes.{home_stays}
 
-module _ (trace : Trace) (weight : ℕ) (program : Program) (m : Parts) where
-  pub fits_home : (e : Event) → FitsEvent trace weight program e m → is_out_for (away_of m.table.slots) e ≡ false
+module _ (options : Options) (program : Program) (m : Parts) where
+  pub fits_home : (e : Event) → FitsEvent options program e m → is_out_for (away_of m.table.slots) e ≡ false
   fits_home (Take a) fits = home_stays m.table.slots a fits.cell fits.home
   fits_home (Go a) fits = home_stays m.table.slots a fits.cell fits.home
   fits_home (Collect a) fits = home_stays m.table.slots a fits.cell fits.home

@@ -1,9 +1,7 @@
 -- A letter that an actor awaits while others go on.
-use Rattle.std.specs.Prelude.{ℕ, ◌≡◌, Bool, true, false, Some}
+use Rattle.std.specs.Prelude.{ℕ, ◌≡◌, Some}
 use Rattle.orca_names.specs.declared.trace.Trace.{Trace}
 use Rattle.behaviour_code.specs.declared.code.Program.{Program}
-use Rattle.event_rule.specs.declared.event.Event.{Event}
-use Rattle.event_rule.specs.declared.event.Event.TheVariants.{Take, Go}
 use Rattle.turn_rules.specs.Segment.{Turn}
 use Rattle.machine_rules.specs.Actors.{Actors, cell_at}
 use Rattle.machine_rules.specs.Cell as rules
@@ -33,13 +31,3 @@ IsAwaited trace program m = AwaitedIn trace program m.turn m.turned (actors_of m
 abbrev pub AwaitsMinted : Trace → Program → Parts → Type 0
 AwaitsMinted trace program m =
     (owner : ℕ) → m.turned.doing ≡ Mint owner → IsAwaited trace program m
-
--- of a take alone: it changes nothing of an actor that has a frame
-abbrev pub is_take : Event → Bool
-is_take (Take a) = true
-is_take e = false
-
--- of a go alone: it finds its turn anew
-abbrev pub is_go : Event → Bool
-is_go (Go a) = true
-is_go e = false

@@ -1,10 +1,16 @@
 -- When each fault comes.
-use Rattle.std.specs.Prelude.{◌≡◌, Some, ⊤}
+use Rattle.std.specs.Prelude.{◌≡◌, Bool, false, Some, ⊤}
 use Rattle.event_rule.specs.Events.{actor_of}
 use Rattle.event_rule.specs.Runs.{Step, NotEnabled, IsFull}
 use Rattle.event_rule.specs.declared.event.Event.{Event}
 use Rattle.orca_parts.specs.declared.fault.StepFault.{StepFault}
 use Rattle.orca_parts.specs.declared.fault.StepFault.TheVariants as faults
+
+-- it is refused where it may not be, or memory was
+abbrev pub IsRefusal : Bool → StepFault → Type 0
+IsRefusal may faults.NotEnabled = may ≡ false
+IsRefusal may (faults.ActorsFull a) = ⊥
+IsRefusal may faults.NoMemory = ⊤
 
 -- the fault says what the event leads to; want of memory says nothing
 abbrev pub IsFault : {S : Type 0} → Step S → Event → StepFault → Type 0

@@ -74,6 +74,11 @@ pub record CollectsWith (trace : Trace) (a : ℕ) (found : Sweep) (c : Cell) : T
   pub back_is : found.plan.back
       ≡ by_owner (given_back (is_marked trace a (as_cell c)) (as_cell c).holdings)
 
+-- this is known of the sweep of the cell at home, where it is idle and dirty
+abbrev pub IsKnownSweep : Trace → Sweep → Slot → Type 0
+IsKnownSweep trace found x = (c : Cell) → x.place ≡ Home c → c.frame ≡ None → c.dirty ≡ true
+    → found ≡ sweep_of trace c
+
 -- ---- what was prepared fits
 
 -- the actor is idle and has a letter, and there is room for what this brings and for what is noted

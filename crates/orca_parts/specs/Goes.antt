@@ -1,9 +1,9 @@
 -- What a turn that was found asks of the machine.
-use Rattle.std.specs.Prelude.{ℕ, ◌≡◌, ◌+◌, ◌<◌, ◌≤◌, ◌^◌, ⊤, true, is_some, List, [], ◌∷◌, ◌++◌, length, None, Some, IsSomeAnd, vec_capacity, vec_len}
+use Rattle.std.specs.Prelude.{ℕ, ◌≡◌, ◌+◌, ◌<◌, ◌≤◌, ◌^◌, ⊤, true, is_some, List, [], ◌∷◌, ◌++◌, length, None, Some, IsSome, IsSomeAnd, vec_capacity, vec_len}
 use Rattle.std.specs.FinMap as m
 use Rattle.orca_names.specs.declared.limits.TheConstants.{ACTORS_LIMIT, BODY_LIMIT}
 use Rattle.orca_names.specs.declared.names.Thing.TheVariants.{Actor}
-use Rattle.orca_names.specs.declared.trace.Trace.{Trace}
+use Rattle.orca_names.specs.declared.options.Options.{Options}
 use Rattle.behaviour_code.specs.declared.code.Program.{Program}
 use Rattle.turn_rules.specs.declared.act.Frame.{Frame}
 use Rattle.letter_kinds.specs.declared.letter.Letter.TheVariants.{Inc}
@@ -39,9 +39,14 @@ HasRoomOut End m = ⊤
 HasRoomOut Rest m = ⊤
 
 -- this was found of the turn of the cell, which has a frame
-abbrev pub IsFoundGo : Trace → ℕ → Program → ℕ → Turn → Turned → Cell → Type 0
-IsFoundGo trace weight program a turn found c = IsSomeAnd c.frame
-    (IsTold trace weight program a (as_cell c) turn found.place (act_in found))
+abbrev pub IsFoundGo : Options → Program → ℕ → Turn → Turned → Cell → Type 0
+IsFoundGo options program a turn found c = IsSomeAnd c.frame
+    (IsTold options.trace options.weight program a (as_cell c) turn found.place (act_in found))
+
+-- this is known of the turn of the cell at home, where it has a frame
+abbrev pub IsKnownGo : Options → Program → Turn → Turned → Slot → Type 0
+IsKnownGo options program turn found x =
+    (c : Cell) → x.place ≡ Home c → IsSome c.frame → IsFoundGo options program c.heap.owner turn found c
 
 -- no turn was found: no cell is at home that has a frame, or memory was refused
 abbrev pub NotGoing : Slot → StepFault → Type 0
@@ -50,13 +55,13 @@ NotGoing x (faults.ActorsFull b) = ⊥
 NotGoing x faults.NoMemory = ⊤
 
 -- this was found of the actor's turn, and there is room for it
-pub record FitsGo (trace : Trace) (weight : ℕ) (program : Program) (a : ℕ) (found : Turned)
+pub record FitsGo (options : Options) (program : Program) (a : ℕ) (found : Turned)
     (m : Parts) : Type 0 where
   pub cell : Cell
   pub home : (slot_at m.table.slots a).place ≡ Home cell
   pub frame : Frame
   pub framed : cell.frame ≡ Some frame
-  pub found_is : IsTold trace weight program a (as_cell cell) m.turn found.place (act_in found) frame
+  pub found_is : IsTold options.trace options.weight program a (as_cell cell) m.turn found.place (act_in found) frame
   pub few : length m.turn.made ≤ BODY_LIMIT
   pub objects : length m.turn.made ≤ cell.heap.spare
   pub entries : new_entries (act_in found) cell.foreign.entries ≤ cell.foreign.spare

@@ -1,5 +1,6 @@
 pub mod Awaiting
 pub mod Away
+pub mod Core
 pub mod Faults
 pub mod Fits
 pub mod Founds

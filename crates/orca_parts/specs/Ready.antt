@@ -1,6 +1,5 @@
 -- An event that was prepared.
-use Rattle.std.specs.Prelude.{ℕ}
-use Rattle.orca_names.specs.declared.trace.Trace.{Trace}
+use Rattle.orca_names.specs.declared.options.Options.{Options}
 use Rattle.behaviour_code.specs.declared.code.Program.{Program}
 use Rattle.event_rule.specs.declared.event.Event.{Event}
 use Rattle.event_rule.specs.declared.event.Event.TheVariants.{Take, Go, Collect, Leave, Block, Hear, Scan, Reap}
@@ -14,16 +13,16 @@ abbrev pub event_of : Ready → Event
 event_of ready = ready.event
 
 -- what was found of the event is so, and there is room for it
-abbrev pub FitsEvent : Trace → ℕ → Program → Event → Parts → Type 0
-FitsEvent trace weight program (Take a) m = FitsTake a m
-FitsEvent trace weight program (Go a) m = FitsGo trace weight program a m.turned m
-FitsEvent trace weight program (Collect a) m = FitsCollect trace a m.sweep m
-FitsEvent trace weight program (Leave a) m = FitsLeave a m.letters.items m
-FitsEvent trace weight program (Block a) m = FitsBlock a m
-FitsEvent trace weight program Hear m = CanHearFirst m.notes.items m.detector
-FitsEvent trace weight program Scan m = CanScan m.token m.table.slots m.detector
-FitsEvent trace weight program (Reap number) m =
+abbrev pub FitsEvent : Options → Program → Event → Parts → Type 0
+FitsEvent options program (Take a) m = FitsTake a m
+FitsEvent options program (Go a) m = FitsGo options program a m.turned m
+FitsEvent options program (Collect a) m = FitsCollect options.trace a m.sweep m
+FitsEvent options program (Leave a) m = FitsLeave a m.letters.items m
+FitsEvent options program (Block a) m = FitsBlock a m
+FitsEvent options program Hear m = CanHearFirst m.notes.items m.detector
+FitsEvent options program Scan m = CanScan m.token m.table.slots m.detector
+FitsEvent options program (Reap number) m =
     FitsReap number m.members.items m.letters.items m
 
-abbrev pub FitsReady : Trace → ℕ → Program → Ready → Parts → Type 0
-FitsReady trace weight program ready m = FitsEvent trace weight program (event_of ready) m
+abbrev pub FitsReady : Options → Program → Ready → Parts → Type 0
+FitsReady options program ready m = FitsEvent options program (event_of ready) m

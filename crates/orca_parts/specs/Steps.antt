@@ -3,7 +3,7 @@ use Rattle.std.specs.Prelude.{ℕ, ◌≡◌, ◌+◌, ◌<◌, ◌^◌, List, �
 use Rattle.std.specs.FinMap as m
 use Rattle.orca_names.specs.declared.limits.TheConstants.{BODY_LIMIT}
 use Rattle.orca_names.specs.declared.names.Thing.TheVariants.{Actor}
-use Rattle.orca_names.specs.declared.trace.Trace.{Trace}
+use Rattle.orca_names.specs.declared.options.Options.{Options}
 use Rattle.behaviour_code.specs.declared.code.Program.{Program}
 use Rattle.turn_rules.specs.declared.act.Frame.{Frame}
 use Rattle.letter_kinds.specs.declared.letter.Letter.{Letter}
@@ -27,25 +27,25 @@ AllowsTake a actors = (c : Cell) (letter : Letter) (later : List Letter)
     → seat_at actors a ≡ seat c (letter ∷ later) → CanTake a letter c.holdings
 
 -- the actor's counts and serials allow its turn, and it holds nothing of the actor that is made next
-pub record TurnFits (trace : Trace) (weight : ℕ) (program : Program) (a made : ℕ)
+pub record TurnFits (options : Options) (program : Program) (a made : ℕ)
     (c : Cell) : Type 0 where
-  pub can : (frame : Frame) → c.frame ≡ Some frame → CanGo trace weight program a c
+  pub can : (frame : Frame) → c.frame ≡ Some frame → CanGo options.trace options.weight program a c
   pub serials : c.holdings.next + BODY_LIMIT < 2 ^ 64
   pub unnamed : m.get c.holdings.foreign (Actor made) ≡ None
 
-abbrev pub AllowsGo : Trace → ℕ → Program → ℕ → Actors → Type 0
-AllowsGo trace weight program a actors = (c : Cell) (mail : List Letter)
-    → seat_at actors a ≡ seat c mail → TurnFits trace weight program a (length actors) c
+abbrev pub AllowsGo : Options → Program → ℕ → Actors → Type 0
+AllowsGo options program a actors = (c : Cell) (mail : List Letter)
+    → seat_at actors a ≡ seat c mail → TurnFits options program a (length actors) c
 
 -- what an event needs; a take, a go, a collection and a scan alone need anything
-abbrev pub CanStep : Trace → ℕ → Program → Parts → Event → Type 0
-CanStep trace weight program m (Take a) = AllowsTake a (actors_of m.table.slots)
-CanStep trace weight program m (Go a) =
-    AllowsGo trace weight program a (actors_of m.table.slots) × (m.objects + BODY_LIMIT < 2 ^ 64)
-CanStep trace weight program m (Collect a) = (c : cell.Cell)
+abbrev pub CanStep : Options → Program → Parts → Event → Type 0
+CanStep options program m (Take a) = AllowsTake a (actors_of m.table.slots)
+CanStep options program m (Go a) =
+    AllowsGo options program a (actors_of m.table.slots) × (m.objects + BODY_LIMIT < 2 ^ 64)
+CanStep options program m (Collect a) = (c : cell.Cell)
     → (slot_at m.table.slots a).place ≡ Home c → c.heap.owner ≡ a → KnowsOthersOnly c
-CanStep trace weight program m Scan = m.detector.state.opened < TOKENS_LIMIT
-CanStep trace weight program m e = ⊤
+CanStep options program m Scan = m.detector.state.opened < TOKENS_LIMIT
+CanStep options program m e = ⊤
 
 -- the cells of those whom the event reaps are at home; a reap alone reaps
 abbrev pub ReapsAtHome : Event → Parts → Type 0

@@ -1,6 +1,6 @@
 // Go: a frame runs up to its next act.
 
-ghost use Rattle.std.specs.Prelude.{ℕ, ◌≡◌, ◌+◌, ◌<◌, ◌≤◌, ◌^◌, ◌++◌, ◌∷◌, [], true, is_some, length, IfErr, IsSome, OnOk, None, Some};
+ghost use Rattle.std.specs.Prelude.{ℕ, ◌≡◌, ◌+◌, ◌<◌, ◌≤◌, ◌^◌, ◌++◌, ◌∷◌, [], true, false, is_some, length, IfErr, IsSome, OnOk, None, Some};
 ghost use Rattle.std.specs.FinMap as m;
 ghost use Rattle.orca_names.specs.declared.limits.TheConstants.{ACTORS_LIMIT, BODY_LIMIT};
 ghost use Rattle.orca_names.specs.declared.trace.Trace.{Trace as tracing};
@@ -10,7 +10,7 @@ ghost use Rattle.event_rule.specs.declared.event.Event.TheVariants.{Go as go_eve
 ghost use Rattle.machine_rules.specs.Actors.{push_letter, seat};
 ghost use Rattle.machine_rules.specs.Cell.{fresh_cell};
 ghost use Rattle.machine_rules.specs.Next.{next};
-ghost use Rattle.machine_rules.specs.Options.{Options};
+ghost use Rattle.machine_rules.specs.Options.{Options as choices};
 ghost use Rattle.actor_cell.specs.Cells.{as_cell};
 ghost use Rattle.actor_cell.specs.declared.cell.Cell.{Cell as a_cell};
 ghost use Rattle.actor_table.specs.declared.slot.Place.TheVariants.{Home};
@@ -25,7 +25,7 @@ ghost use Rattle.orca_parts.specs.Away.{KeepsAway, next_without};
 ghost use Rattle.orca_parts.specs.Awaiting.{AwaitedIn, AwaitsMinted, IsAwaited, IsAwaitedHere};
 ghost use Rattle.orca_parts.specs.Faults.{IsFault};
 ghost use Rattle.orca_parts.specs.Fits.{OnlyRoom};
-ghost use Rattle.orca_parts.specs.Goes.{CountsAllow, FitsGo, HasRoomForOne, HasRoomOut, IsFoundGo, NotGoing, given};
+ghost use Rattle.orca_parts.specs.Goes.{CountsAllow, FitsGo, HasRoomForOne, HasRoomOut, IsFoundGo, IsKnownGo, NotGoing, given};
 ghost use Rattle.orca_parts.specs.Parts.{state_of};
 ghost use Rattle.orca_parts.specs.Woken.{IsLowestWoken};
 
@@ -38,7 +38,7 @@ use behaviour_check::Checked;
 use behaviour_code::Name;
 use letter_kinds::Letter;
 use mail_rows::MailRow;
-use orca_names::{ACTORS_LIMIT, ActorName, NoMemory, Trace};
+use orca_names::{ACTORS_LIMIT, ActorName, NoMemory, Options};
 use std::alloc::Global;
 use turn_step::Turn;
 
@@ -47,8 +47,7 @@ use turn_step::Turn;
 fn find_go(
     alloc: Global,
     code: &Checked,
-    weight: u32,
-    trace: Trace,
+    options: Options,
     table: &ActorTable,
     turn: &mut Turn,
     found: &mut Turned,
@@ -57,10 +56,10 @@ fn find_go(
     requires serials { (c : a_cell) → (slot_at table.now.slots a).place ≡ Home c
         → c.heap.next + BODY_LIMIT < 2 ^ 64 }
     ensures found { OnOk result (HasCell (slot_at table.now.slots a)
-        (IsFoundGo trace weight code.now a turn.new found.new)) }
+        (IsFoundGo options code.now a turn.new found.new)) }
     ensures few { OnOk result (length turn.new.made ≤ BODY_LIMIT) }
     ensures awaited { OnOk result (HasCell (slot_at table.now.slots a)
-        (IsAwaitedHere trace code.now a turn.new found.new)) }
+        (IsAwaitedHere options.trace code.now a turn.new found.new)) }
     ensures fault { IfErr result (NotGoing (slot_at table.now.slots a)) }
 {
     let Some(cell) = table.cell(a) else {
@@ -69,7 +68,7 @@ fn find_go(
     if !cell.frame.is_some() {
         return Err(StepFault::NotEnabled);
     }
-    match cell.found_go(alloc, code, weight, trace, turn, found) {
+    match cell.found_go(alloc, code, options.weight, options.trace, turn, found) {
         Ok(()) => Ok(()),
         Err(NoMemory) => Err(StepFault::NoMemory),
     }
@@ -80,8 +79,7 @@ fn find_go(
 fn find_again(
     alloc: Global,
     code: &Checked,
-    weight: u32,
-    trace: Trace,
+    options: Options,
     table: &ActorTable,
     turn: &Turn,
     found: &mut Turned,
@@ -89,12 +87,12 @@ fn find_again(
     letter: Awaited,
 ) -> Result<(), StepFault>
     requires awaited { (c : a_cell) → (slot_at table.now.slots a).place ≡ Home c
-        → Awaits trace code.now a (as_cell c) turn.now found.old letter }
+        → Awaits options.trace code.now a (as_cell c) turn.now found.old letter }
     ensures found { OnOk result (HasCell (slot_at table.now.slots a)
-        (IsFoundGo trace weight code.now a turn.now found.new)) }
+        (IsFoundGo options code.now a turn.now found.new)) }
     ensures few { OnOk result (length turn.now.made ≤ BODY_LIMIT) }
     ensures awaited { OnOk result (HasCell (slot_at table.now.slots a)
-        (IsAwaitedHere trace code.now a turn.now found.new)) }
+        (IsAwaitedHere options.trace code.now a turn.now found.new)) }
     ensures fault { IfErr result (NotGoing (slot_at table.now.slots a)) }
 {
     // The behaviours of a checked program are short.
@@ -102,10 +100,33 @@ fn find_again(
     let Some(cell) = table.cell(a) else {
         return Err(StepFault::NotEnabled);
     };
-    match cell.found_again(alloc, code, weight, trace, turn, letter, found) {
+    match cell.found_again(
+        alloc,
+        code,
+        options.weight,
+        options.trace,
+        turn,
+        letter,
+        found,
+    ) {
         Ok(()) => Ok(()),
         Err(NoMemory) => Err(StepFault::NoMemory),
     }
+}
+
+// Whether a behaviour of the actor runs, so that it may go.
+fn runs(table: &ActorTable, a: ActorName) -> Result<(), StepFault>
+    ensures ok { OnOk result (HasCell (slot_at table.now.slots a)
+        (λ c. (c.heap.owner ≡ a) × IsSome c.frame)) }
+    ensures fault { IfErr result (NotGoing (slot_at table.now.slots a)) }
+{
+    let Some(cell) = table.cell(a) else {
+        return Err(StepFault::NotEnabled);
+    };
+    if !cell.frame.is_some() {
+        return Err(StepFault::NotEnabled);
+    }
+    Ok(())
 }
 
 // Takes the memory for what the act that was found gives out.
@@ -143,24 +164,19 @@ fn makes(found: &Turned) -> bool
     )
 }
 
-/// Takes all memory for what was found of the actor's turn; the state stays as it was.
-///
-/// # Errors
-/// `ActorsFull` exactly where the act would make an actor too many, and `NoMemory` where memory was
-/// refused.
+// Takes all memory for what was found of the actor's turn; the state stays as it was.
 #[inline(always)]
-pub(crate) fn prepare_turn(weight: u32, parts: &mut Parts, a: ActorName) -> Result<(), StepFault>
+fn prepare_turn(options: Options, parts: &mut Parts, a: ActorName) -> Result<(), StepFault>
     requires few { length parts.old.turn.made ≤ BODY_LIMIT }
     ensures same { OnlyRoom parts.old parts.new }
     ensures turn { parts.new.turn ≡ parts.old.turn }
     ensures turned { parts.new.turned ≡ parts.old.turned }
-    ensures ok { (trace : tracing) (weight : ℕ) (program : Program)
-        → HasCell (slot_at parts.old.table.slots a)
-        (IsFoundGo trace weight program a parts.old.turn parts.old.turned)
-        → OnOk result (FitsGo trace weight program a parts.new.turned parts.new) }
-    ensures fault { (program : Program) (options : Options) → HasCell (slot_at parts.old.table.slots a)
-        (IsFoundGo options.trace options.weight program a parts.old.turn parts.old.turned) →
-        let s = state_of program options parts.old in
+    ensures ok { (program : Program) → HasCell (slot_at parts.old.table.slots a)
+        (IsFoundGo options program a parts.old.turn parts.old.turned)
+        → OnOk result (FitsGo options program a parts.new.turned parts.new) }
+    ensures fault { (program : Program) → HasCell (slot_at parts.old.table.slots a)
+        (IsFoundGo options program a parts.old.turn parts.old.turned)
+        → let s = state_of program options parts.old in
         IfErr result (IsFault (next_without (away_of parts.old.table.slots) s (go_event a)) (go_event a)) }
 {
     if makes(&parts.turned) && parts.table.len() >= ACTORS_LIMIT {
@@ -170,7 +186,7 @@ pub(crate) fn prepare_turn(weight: u32, parts: &mut Parts, a: ActorName) -> Resu
         turn: &parts.turn,
         found: &parts.turned,
         name: parts.table.next_name(),
-        weight,
+        weight: options.weight,
     };
     if parts.table.reserve(a, &change).is_err() {
         return Err(StepFault::NoMemory);
@@ -181,15 +197,15 @@ pub(crate) fn prepare_turn(weight: u32, parts: &mut Parts, a: ActorName) -> Resu
     Ok(())
 }
 
-// What is found of the actor's turn, in this room for a turn. Where what was found last `stands` and
-// awaits a letter of the actor, its turn isn't run again.
+// What is found of the actor's turn, in this room for a turn, where it is not known. Where what was
+// found last `stands` and awaits a letter of the actor, its turn isn't run again.
 #[inline(always)]
 fn find(
     alloc: Global,
     code: &Checked,
-    weight: u32,
-    trace: Trace,
+    options: Options,
     stands: bool,
+    known: bool,
     table: &ActorTable,
     turn: &mut Turn,
     found: &mut Turned,
@@ -198,57 +214,68 @@ fn find(
     requires serials { (c : a_cell) → (slot_at table.now.slots a).place ≡ Home c
         → c.heap.next + BODY_LIMIT < 2 ^ 64 }
     requires awaited { stands ≡ true
-        → AwaitedIn trace code.now turn.old found.old (actors_of table.now.slots) }
+        → AwaitedIn options.trace code.now turn.old found.old (actors_of table.now.slots) }
+    requires known { known ≡ true → IsKnownGo options code.now turn.old found.old (slot_at table.now.slots a) }
     ensures found { OnOk result (HasCell (slot_at table.now.slots a)
-        (IsFoundGo trace weight code.now a turn.new found.new)) }
+        (IsFoundGo options code.now a turn.new found.new)) }
     ensures few { OnOk result (length turn.new.made ≤ BODY_LIMIT) }
-    ensures awaited { OnOk result (HasCell (slot_at table.now.slots a)
-        (IsAwaitedHere trace code.now a turn.new found.new)) }
+    ensures awaited { known ≡ false → OnOk result (HasCell (slot_at table.now.slots a)
+        (IsAwaitedHere options.trace code.now a turn.new found.new)) }
     ensures fault { IfErr result (NotGoing (slot_at table.now.slots a)) }
 {
+    if known {
+        // The behaviours of a checked program are short.
+        let _program = code.program();
+        return runs(table, a);
+    }
     if stands {
         if let Some(letter) = found.awaits(a) {
-            return find_again(alloc, code, weight, trace, table, turn, found, a, letter);
+            return find_again(alloc, code, options, table, turn, found, a, letter);
         }
     }
-    find_go(alloc, code, weight, trace, table, turn, found, a)
+    find_go(alloc, code, options, table, turn, found, a)
 }
 
-/// Finds the actor's turn, and takes all memory for what it does; the state stays as it was. Where what
-/// was found last `stands`, it serves again.
+/// Finds the actor's turn, where it is not known, and takes all memory for what it does; the state stays
+/// as it was. Where what was found last `stands`, it serves again.
+///
+/// # Errors
+/// `NotEnabled` exactly where the actor has no frame, or its cell is away; `ActorsFull` exactly where the
+/// act would make an actor too many; `NoMemory` where memory was refused.
 #[inline(always)]
 pub(crate) fn prepare_go(
     alloc: Global,
     code: &Checked,
-    weight: u32,
-    trace: Trace,
+    options: Options,
     stands: bool,
+    known: bool,
     parts: &mut Parts,
     a: ActorName,
 ) -> Result<(), StepFault>
     requires serials { (c : a_cell) → (slot_at parts.old.table.slots a).place ≡ Home c
         → c.heap.next + BODY_LIMIT < 2 ^ 64 }
-    requires awaited { stands ≡ true → IsAwaited trace code.now parts.old }
+    requires awaited { stands ≡ true → IsAwaited options.trace code.now parts.old }
+    requires known { known ≡ true
+        → IsKnownGo options code.now parts.old.turn parts.old.turned (slot_at parts.old.table.slots a) }
     ensures same { OnlyRoom parts.old parts.new }
-    ensures ok { OnOk result (FitsGo trace weight code.now a parts.new.turned parts.new) }
-    ensures awaited { OnOk result (IsAwaited trace code.now parts.new) }
-    ensures fault { (options : Options) → options.weight ≡ weight → options.trace ≡ trace →
-        let s = state_of code.now options parts.old in
+    ensures ok { OnOk result (FitsGo options code.now a parts.new.turned parts.new) }
+    ensures awaited { known ≡ false → OnOk result (IsAwaited options.trace code.now parts.new) }
+    ensures fault { let s = state_of code.now options parts.old in
         IfErr result (IsFault (next_without (away_of parts.old.table.slots) s (go_event a)) (go_event a)) }
 {
     let turn = &mut parts.turn;
     match find(
         alloc,
         code,
-        weight,
-        trace,
+        options,
         stands,
+        known,
         &parts.table,
         turn,
         &mut parts.turned,
         a,
     ) {
-        Ok(()) => prepare_turn(weight, parts, a),
+        Ok(()) => prepare_turn(options, parts, a),
         Err(fault) => Err(fault),
     }
 }
@@ -328,7 +355,7 @@ fn give_out(alloc: Global, code: &Checked, weight: u32, parts: &mut Parts) -> Op
     requires light { weight < count_limit }
     requires room { HasRoomOut (act_in parts.old.turned) parts.old }
     requires objects { parts.old.objects + length parts.old.turn.made < 2 ^ 64 }
-    ensures state { (options : Options) → state_of code.now options parts.new
+    ensures state { (options : choices) → state_of code.now options parts.new
         ≡ given weight code.now (act_in parts.old.turned) (length parts.old.turn.made)
         (state_of code.now options parts.old) }
     ensures awaited { (trace : tracing) → AwaitsMinted trace code.now parts.old
@@ -370,30 +397,27 @@ fn give_out(alloc: Global, code: &Checked, weight: u32, parts: &mut Parts) -> Op
 pub(crate) fn apply_go(
     alloc: Global,
     code: &Checked,
-    weight: u32,
-    trace: Trace,
+    options: Options,
     parts: &mut Parts,
     a: ActorName,
 ) -> Option<ActorName>
-    requires light { weight ≤ 65536 }
-    requires fits { FitsGo trace weight code.now a parts.old.turned parts.old }
+    requires light { options.weight ≤ 65536 }
+    requires fits { FitsGo options code.now a parts.old.turned parts.old }
     requires can { (c : a_cell) → (slot_at parts.old.table.slots a).place ≡ Home c
         → CountsAllow a (act_in parts.old.turned) parts.old c }
     requires objects { parts.old.objects + BODY_LIMIT < 2 ^ 64 }
-    ensures state { (options : Options) → options.weight ≡ weight → options.trace ≡ trace
-        → next (state_of code.now options parts.old) (go_event a)
+    ensures state { next (state_of code.now options parts.old) (go_event a)
         ≡ Goes (state_of code.now options parts.new) }
-    ensures awaited { IsAwaited trace code.now parts.old → IsAwaited trace code.now parts.new }
+    ensures awaited { IsAwaited options.trace code.now parts.old → IsAwaited options.trace code.now parts.new }
     ensures away { KeepsAway (away_of parts.old.table.slots) (away_of parts.new.table.slots) }
     ensures woken { IsLowestWoken (actors_of parts.old.table.slots) (actors_of parts.new.table.slots) result }
 {
-    let _trace = trace;
     let change = Change::Go {
         turn: &parts.turn,
         found: &parts.turned,
         name: parts.table.next_name(),
-        weight,
+        weight: options.weight,
     };
     parts.table.change(code, a, &change);
-    give_out(alloc, code, weight, parts)
+    give_out(alloc, code, options.weight, parts)
 }

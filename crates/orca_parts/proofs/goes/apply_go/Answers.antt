@@ -3,7 +3,6 @@ use Rattle.std.specs.FinMap.{get}
 use Rattle.std.proofs.lemmas.List.{length-map}
 use Rattle.orca_names.specs.declared.names.Thing.TheVariants.{Actor}
 use Rattle.event_rule.specs.Runs.{Goes}
-use Rattle.actor_cell.specs.Goes.{turned_in}
 use Rattle.actor_cell.specs.Cells.{as_cell}
 use Rattle.actor_cell.specs.Moves.{act_in, move_of}
 use Rattle.actor_table.specs.Slots.{actors_of, seat_of, slot_at}
@@ -33,13 +32,14 @@ change-requires c =
         objects = fits.objects;
         entries = fits.entries;
         serials = omega (arith, fits.few, allow.serials);
-        fits = λ _. can_hold fits.cell.foreign c.next_name.result c.args.weight
+        fits = λ _. can_hold fits.cell.foreign c.next_name.result c.args.options.weight
             (ap (λ n. get fits.cell.foreign.entries (Actor n)) c.next_name.ensures ∙ allow.unnamed) c.requires.light;
       };
     }
 
 pub returns-clause-state : goal.returns-clause-state
-returns-clause-state c = λ options weight trace.
+returns-clause-state c =
+    let options = c.args.options in
     let fits = c.requires.fits in
     let slots = c.args.parts.now.table.slots in
     let a = c.args.a in
@@ -51,29 +51,28 @@ returns-clause-state c = λ options weight trace.
     let act = act_in c.args.parts.now.turned in
     let made = length turn.made in
     let name : c.next_name.result ≡ length s.actors = c.next_name.ensures ∙ sym (length-map slots seat_of) in
-    let after = λ (w n : ℕ). given w program act made (record s { actors = changed_at (with_cell_by (λ x. named w n act (moved a turn place act x))) a s.actors }) in
+    let after = λ (n : ℕ). given options.weight program act made (record s { actors = changed_at (with_cell_by (λ x. named options.weight n act (moved a turn place act x))) a s.actors }) in
     go_goes s a cell (slot_at slots a).mail.letters fits.frame turn place act
     (record {
       present = seat_here slots a fits.cell fits.home;
       framed = fits.framed;
-      found = ap (λ t. turned_in t options.weight program a cell fits.frame) trace
-          ∙ ap (λ w. turned_in c.args.trace w program a cell fits.frame) weight ∙ fits.found_is;
+      found = fits.found_is;
     })
     (fits_limit act c.args.parts.now fits.room)
-    ∙ ap Goes (ap (λ w. after w (length s.actors)) weight ∙ ap (after c.args.weight) (sym name)
-    ∙ ap (λ xs. given c.args.weight program act made (record s { actors = xs })) (sym c.change.ensures.actors)
+    ∙ ap Goes (ap after (sym name)
+    ∙ ap (λ xs. given options.weight program act made (record s { actors = xs })) (sym c.change.ensures.actors)
     ∙ sym (c.give_out.ensures.state options))
 
 pub returns-clause-woken : goal.returns-clause-woken
 returns-clause-woken c =
     let m = c.args.parts.now in
     let act = act_in m.turned in
-    woken_changed (λ x. named c.args.weight c.next_name.result act (moved c.args.a m.turn m.turned.place act x)) c.args.a (actors_of m.table.slots)
+    woken_changed (λ x. named c.args.options.weight c.next_name.result act (moved c.args.a m.turn m.turned.place act x)) c.args.a (actors_of m.table.slots)
     (actors_of c.change.new.self.slots) (actors_of c.give_out.new.parts.table.slots) c.give_out.result c.change.ensures.actors c.give_out.ensures.woken
 
 pub returns-clause-awaited : goal.returns-clause-awaited
 returns-clause-awaited c = λ awaited.
-    c.give_out.ensures.awaited c.args.trace
+    c.give_out.ensures.awaited c.args.options.trace
     (λ owner mints.
     let fits = c.requires.fits in
     let m = c.args.parts.now in
@@ -81,7 +80,7 @@ returns-clause-awaited c = λ awaited.
     let t = m.turned in
     let act = ap (λ d. move_of d t.args t.load t.rows t.things) mints in
     let went = c.change.ensures.actors
-    ∙ ap (λ does. changed_at (with_cell_by (λ x. named c.args.weight c.next_name.result does (moved c.args.a m.turn t.place does x))) c.args.a (actors_of slots)) act in
-    subst (AwaitedIn c.args.trace c.args.code.now m.turn t) (sym went)
-    (mint_awaits c.args.trace c.args.code.now m.turn t c.args.a (as_cell fits.cell) (slot_at slots c.args.a).mail.letters t.place owner t.things (actors_of slots)
+    ∙ ap (λ does. changed_at (with_cell_by (λ x. named c.args.options.weight c.next_name.result does (moved c.args.a m.turn t.place does x))) c.args.a (actors_of slots)) act in
+    subst (AwaitedIn c.args.options.trace c.args.code.now m.turn t) (sym went)
+    (mint_awaits c.args.options.trace c.args.code.now m.turn t c.args.a (as_cell fits.cell) (slot_at slots c.args.a).mail.letters t.place owner t.things (actors_of slots)
     (seat_here slots c.args.a fits.cell fits.home) (omega (arith, home_within slots c.args.a fits.cell fits.home, length-map slots seat_of)) awaited))

@@ -19,9 +19,9 @@ returns-clause-same c =
     (table_room m c.reserve.new.self m.turn c.reserve.ensures.actors c.reserve.ensures.rest.away) c.reserve_out.ensures.same
 
 pub returns-clause-ok : goal.returns-clause-ok
-returns-clause-ok c = λ trace weight program found.
+returns-clause-ok c = λ program found.
     let m = c.args.parts.now in
-    subst (λ t. FitsGo trace weight program c.args.a t c.reserve_out.new.parts) (sym c.reserve_out.ensures.turned)
-    (fits_go trace weight program c.args.a m.turned m.table.slots m.turn c.reserve.new.self.slots c.reserve_out.new.parts
+    subst (λ t. FitsGo c.args.options program c.args.a t c.reserve_out.new.parts) (sym c.reserve_out.ensures.turned)
+    (fits_go c.args.options program c.args.a m.turned m.table.slots m.turn c.reserve.new.self.slots c.reserve_out.new.parts
     found c.reserve.ensures.actors c.reserve.ensures.rest.away (when_ok c.reserve.result c.if-is_err.ensures.value c.reserve.ensures.ok)
     c.reserve_out.ensures.places c.reserve_out.ensures.turn (when_ok c.reserve_out.result c.if-is_err-2.ensures.value c.reserve_out.ensures.ok) c.requires.few)

@@ -6,7 +6,7 @@ use Rattle.orca_core.proofs.machine.Orca.first_enabled.Goals as goal
 
 pub returns-in-Some-clause-here : goal.returns-in-Some-clause-here
 returns-in-Some-clause-here c =
-    first_acting c.self.inside.parts.table.slots c.args.self.now.out c.args.self.now.state
+    first_acting c.self.inside.core.parts.table.slots c.args.self.now.out c.args.self.now.state
     (ap (λ (m : Machine). m.out) (sym c.self.view_is)) (ap (λ (m : Machine). m.state.actors) (sym c.self.view_is))
     c.in-Some.a c.in-Some.ensures c.next_of.result c.next_of.ensures
 
@@ -16,7 +16,7 @@ returns-in-Some-clause-whole c =
 
 pub returns-in-Some-first_settling-clause-here : goal.returns-in-Some-first_settling-clause-here
 returns-in-Some-first_settling-clause-here c =
-    first_settling c.self.inside.parts.table.slots c.args.self.now.out c.args.self.now.state
+    first_settling c.self.inside.core.parts.table.slots c.args.self.now.out c.args.self.now.state
     (ap (λ (m : Machine). m.out) (sym c.self.view_is)) (ap (λ (m : Machine). m.state.actors) (sym c.self.view_is))
     c.in_default.ensures c.in-Some-first_settling.a c.in-Some-first_settling.ensures
     c.next_of-in-Some-first_settling.result c.next_of-in-Some-first_settling.ensures
@@ -28,7 +28,7 @@ returns-in-Some-first_settling-clause-whole c =
 
 pub returns-clause-here : goal.returns-clause-here
 returns-clause-here c =
-    first_of_rest c.self.inside.parts.table.slots c.args.self.now.out c.args.self.now.state
+    first_of_rest c.self.inside.core.parts.table.slots c.args.self.now.out c.args.self.now.state
     (ap (λ (m : Machine). m.out) (sym c.self.view_is)) (ap (λ (m : Machine). m.state.actors) (sym c.self.view_is))
     c.in_default.ensures c.in_default-first_settling.ensures c.first_of_detector.result c.first_of_detector.ensures
 

@@ -4,7 +4,6 @@ use Rattle.count_laws.proofs.bounds.Bounding.{runs_make_few}
 use Rattle.actor_cell.specs.Cells.{as_cell}
 use Rattle.actor_table.specs.Slots.{actors_of}
 use Rattle.orca_core.specs.Machine.{Machine, cell_here}
-use Rattle.orca_parts.specs.Parts.{options_of}
 use Rattle.orca_core.proofs.Listing.{IsLeftBelow, all_below, gone_below, here_at_home, more_below, none_below}
 use Rattle.orca_core.proofs.machine.Orca.left.Goals as goal
 use Rattle.orca_core.proofs.machine.Orca.left.Goals.{in-Some+in_ok-push_things, in_default}
@@ -18,9 +17,8 @@ pub overflow_cast-a : goal.overflow_cast-a
 overflow_cast-a c =
     let self = c.self.inside in
     let m = c.self.invariant.reached in
-    let actors = actors_of self.parts.table.slots in
-    let options = options_of self.weight self.trace in
-    let few : length actors ≤ 65536 = runs_make_few self.code.now options m.book _ m.run in
+    let actors = actors_of self.core.parts.table.slots in
+    let few : length actors ≤ 65536 = runs_make_few self.core.code.now self.core.options m.book _ m.run in
     let same : length c.args.self.now.state.actors ≡ length actors =
     sym (ap (λ (m : Machine). length m.state.actors) c.self.view_is) in
     omega (arith, few, same, c.loop-a-test.true, c.made-a-end.ensures)

@@ -1,60 +1,70 @@
+use Rattle.std.specs.Prelude.{IfErr}
 use Rattle.std.proofs.Common.{◌≡◌, false, rules, ap, subst, sym, ◌∙◌}
 use Rattle.actor_table.specs.Slots.{away_of}
 use Rattle.orca_parts.specs.Away.{is_out_for}
-use Rattle.orca_parts.specs.Parts.{state_of, options_of}
-use Rattle.orca_core.specs.Machine.{IsSame, Machine, ReapsNoneAway, IsFoundIn}
+use Rattle.orca_parts.specs.Core.{state_in}
+use Rattle.orca_parts.specs.Faults.{IsFault}
+use Rattle.orca_core.specs.Machine.{IsFoundIn, IsSame, Machine, ReapsNoneAway}
 use Rattle.orca_parts.proofs.Readied.{fits_home}
-use Rattle.orca_core.proofs.Reached.{can_step, early_still, reached_still, reaps_at_home, same_still}
+use Rattle.orca_core.proofs.Reached.{can_step, early_still, keeps_then, next_still, reached_still, reaps_at_home, reaps_still, same_still}
 use Rattle.orca_core.proofs.machine.Orca.prepare_from.Goals as goal
 
-pub install-requires-clause-can : goal.install-requires-clause-can
-install-requires-clause-can c =
+pub prepare-requires-clause-can : goal.prepare-requires-clause-can
+prepare-requires-clause-can c =
     let m = c.self.inside in
-    can_step m.code.now m.weight m.trace m.parts m.steps c.self.invariant.reached
-    (early_still m.code.now m.weight m.trace m.parts m.steps c.args.self.now c.self.view_is c.requires.early) c.args.e
+    let mid = c.stand.new.m in
+    can_step mid m.steps (reached_still m.core m.steps mid c.stand.ensures.same c.self.invariant.reached)
+    (early_still m.core m.steps c.args.self.now c.self.view_is c.requires.early) c.args.e
 
-pub install-requires-clause-home : goal.install-requires-clause-home
-install-requires-clause-home c =
+pub prepare-requires-clause-home : goal.prepare-requires-clause-home
+prepare-requires-clause-home c =
     let m = c.self.inside in
-    reaps_at_home m.code.now m.weight m.trace m.parts m.steps c.self.invariant.reached c.args.e (subst (ReapsNoneAway c.args.e) (sym c.self.view_is) c.requires.home)
+    let mid = c.stand.new.m in
+    reaps_at_home mid m.steps (reached_still m.core m.steps mid c.stand.ensures.same c.self.invariant.reached) c.args.e
+    (reaps_still m.core m.steps mid c.stand.ensures.same c.args.e (subst (ReapsNoneAway c.args.e) (sym c.self.view_is) c.requires.home))
 
-pub install-requires-clause-found : goal.install-requires-clause-found
-install-requires-clause-found c = subst (IsFoundIn c.args.e c.args.found.now) (sym c.self.view_is) c.requires.found
+pub prepare-requires-clause-known : goal.prepare-requires-clause-known
+prepare-requires-clause-known c = λ on. c.stand.ensures.known c.args.e (subst (IsFoundIn c.args.e c.args.found.now) (sym c.self.view_is) c.requires.found)
 
 pub invariant_of-self : goal.invariant_of-self
 invariant_of-self c =
     let m = c.self.inside in
-    record {
-      reached = reached_still m.code.now m.weight m.trace m.parts m.steps c.install.new.parts c.install.ensures.same c.self.invariant.reached;
-      awaited = λ on. cc;
-    }
+    let same = keeps_then m.core c.stand.new.m c.prepare.new.m c.stand.ensures.same c.prepare.ensures.same in
+    record { reached = reached_still m.core m.steps c.prepare.new.m same c.self.invariant.reached; stands = c.prepare.ensures.stands }
 
 pub invariant_of-self-2 : goal.invariant_of-self-2
 invariant_of-self-2 c =
     let m = c.self.inside in
-    record {
-      reached = reached_still m.code.now m.weight m.trace m.parts m.steps c.install.new.parts c.install.ensures.same c.self.invariant.reached;
-      awaited = λ on. cc;
-    }
+    let same = keeps_then m.core c.stand.new.m c.prepare.new.m c.stand.ensures.same c.prepare.ensures.same in
+    record { reached = reached_still m.core m.steps c.prepare.new.m same c.self.invariant.reached; stands = c.prepare.ensures.stands }
 
 pub returns-clause-same : goal.returns-clause-same
 returns-clause-same c =
     let m = c.self.inside in
-    let parts = c.install.new.parts in
-    subst (λ old. IsSame old (record { state = state_of m.code.now (options_of m.weight m.trace) parts; steps = m.steps; out = away_of parts.table.slots; kept = parts }))
-    c.self.view_is (same_still m.code.now m.weight m.trace m.parts m.steps parts c.install.ensures.same)
+    let new = c.prepare.new.m in
+    let same = keeps_then m.core c.stand.new.m new c.stand.ensures.same c.prepare.ensures.same in
+    subst (λ old. IsSame old (record { state = state_in new; steps = m.steps; out = away_of new.parts.table.slots; kept = new.parts }))
+    c.self.view_is (same_still m.core m.steps new same)
 
-pub returns-in_err-install-clause-same : goal.returns-in_err-install-clause-same
-returns-in_err-install-clause-same c =
+pub returns-in_err-prepare-clause-same : goal.returns-in_err-prepare-clause-same
+returns-in_err-prepare-clause-same c =
     let m = c.self.inside in
-    let parts = c.install.new.parts in
-    subst (λ old. IsSame old (record { state = state_of m.code.now (options_of m.weight m.trace) parts; steps = m.steps; out = away_of parts.table.slots; kept = parts }))
-    c.self.view_is (same_still m.code.now m.weight m.trace m.parts m.steps parts c.install.ensures.same)
+    let new = c.prepare.new.m in
+    let same = keeps_then m.core c.stand.new.m new c.stand.ensures.same c.prepare.ensures.same in
+    subst (λ old. IsSame old (record { state = state_in new; steps = m.steps; out = away_of new.parts.table.slots; kept = new.parts }))
+    c.self.view_is (same_still m.core m.steps new same)
 
 pub returns-clause-home : goal.returns-clause-home
 returns-clause-home c =
     let m = c.self.inside in
-    let parts = c.install.new.parts in
-    let out = c.install.ensures.same.away ∙ ap (λ (x : Machine). x.out) c.self.view_is in
+    let new = c.prepare.new.m in
+    let same = keeps_then m.core c.stand.new.m new c.stand.ensures.same c.prepare.ensures.same in
+    let out = same.room.away ∙ ap (λ (x : Machine). x.out) c.self.view_is in
     subst (λ away. is_out_for away c.args.e ≡ false) out
-    (fits_home m.trace m.weight m.code.now parts c.args.e (search rules))
+    (fits_home new.options new.code.now new.parts c.args.e (search rules))
+
+pub returns-in_err-prepare-clause-fault : goal.returns-in_err-prepare-clause-fault
+returns-in_err-prepare-clause-fault c =
+    let m = c.self.inside in
+    subst (λ step. IfErr c.from_residual.result (IsFault step c.args.e))
+    (next_still m.core m.steps c.args.self.now c.self.view_is c.stand.new.m c.stand.ensures.same c.args.e) (search rules)

@@ -23,7 +23,7 @@ invariant_of-result c =
         long = refl;
         early = omega arith;
       };
-      awaited = λ stands. cc;
+      stands = λ on. cc;
     }
 
 -- where one actor is at home, none is away

@@ -1,0 +1,43 @@
+use Rattle.event_rule.specs.declared.event.Event.TheVariants.{Collect}
+use Rattle.actor_table.specs.Slots.{slot_at}
+use Rattle.orca_parts.proofs.Homes.{home_is}
+use Rattle.orca_parts.proofs.Preparing.{acts_home, may_here, not_acting, rests_dirty}
+use Rattle.machine_rules.specs.Guards.{may_collect}
+use Rattle.orca_parts.proofs.collects.find_collect.Goals as goal
+
+pub returns-in_default : goal.returns-in_default
+returns-in_default c = record {
+  ok = tt;
+  found = tt;
+  fault = not_acting (Collect c.args.a) (slot_at c.args.table.now.slots c.args.a) c.in_default.ensures.cell;
+}
+
+pub returns-then-known : goal.returns-then-known
+returns-then-known c =
+    let x = slot_at c.args.table.now.slots c.args.a in
+    let cell = c.in-Some.cell.now in
+    let its = acts_home (Collect c.args.a) x cell c.in-Some.ensures.cell in
+    let home = home_is x cell its.0 in
+    let rests = rests_dirty cell x.mail.letters (may_here may_collect x cell home its.1) in
+    record {
+      ok = its.1;
+      found = record { cell = cell; home = home; so = (c.in-Some.ensures.owner, c.requires.known c.if-known.true cell home rests.0 rests.1) };
+      fault = tt;
+    }
+
+pub found_collect-requires : goal.found_collect-requires
+found_collect-requires c =
+    let x = slot_at c.args.table.now.slots c.args.a in
+    let its = acts_home (Collect c.args.a) x c.in-Some.cell.now c.in-Some.ensures.cell in
+    c.requires.others c.in-Some.cell.now (home_is x c.in-Some.cell.now its.0) c.in-Some.ensures.owner
+
+pub returns-in-Ok : goal.returns-in-Ok
+returns-in-Ok c =
+    let x = slot_at c.args.table.now.slots c.args.a in
+    let cell = c.in-Some.cell.now in
+    let its = acts_home (Collect c.args.a) x cell c.in-Some.ensures.cell in
+    record {
+      ok = its.1;
+      found = record { cell = cell; home = home_is x cell its.0; so = (c.in-Some.ensures.owner, c.in-Ok.ensures) };
+      fault = tt;
+    }

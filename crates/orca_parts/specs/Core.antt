@@ -1,0 +1,43 @@
+-- The machine's insides, as contracts see them.
+use Rattle.std.specs.Prelude.{◌≡◌, true, ⊤}
+use Rattle.event_rule.specs.Runs.{Step}
+use Rattle.event_rule.specs.declared.event.Event.{Event}
+use Rattle.event_rule.specs.declared.event.Event.TheVariants.{Go, Collect}
+use Rattle.machine_rules.specs.State.{State}
+use Rattle.actor_table.specs.Slots.{away_of, slot_at}
+use Rattle.orca_parts.specs.declared.insides.Core.{Core}
+use Rattle.orca_parts.specs.Awaiting.{IsAwaited}
+use Rattle.orca_parts.specs.Away.{next_without}
+use Rattle.orca_parts.specs.Fits.{IsKnownSweep, OnlyRoom}
+use Rattle.orca_parts.specs.Goes.{IsKnownGo}
+use Rattle.orca_parts.specs.Parts.{state_of}
+
+-- its state
+abbrev pub state_in : Core → State
+state_in m = state_of m.code.now m.options m.parts
+
+-- what an event leads to while cells are away
+abbrev pub next_in : Core → Event → Step State
+next_in m e = next_without (away_of m.parts.table.slots) (state_in m) e
+
+-- what was found last awaits its letter still, where it stands
+abbrev pub StandsWell : Core → Type 0
+StandsWell m = m.stands ≡ true → IsAwaited m.options.trace m.code.now m.parts
+
+-- it is of the same program with the same choices
+pub record IsAlike (old new : Core) : Type 0 where
+  pub code : new.code ≡ old.code
+  pub options : new.options ≡ old.options
+
+-- but for room all is the same
+pub record KeepsCore (old new : Core) : Type 0 where
+  pub alike : IsAlike old new
+  pub room : OnlyRoom old.parts new.parts
+
+-- what the event's actor does stands there: its turn, where it has a frame; its sweep, where it has none
+-- and is dirty; of other events nothing
+abbrev pub IsKnown : Event → Core → Type 0
+IsKnown (Go a) m = IsKnownGo m.options m.code.now m.parts.turn m.parts.turned
+    (slot_at m.parts.table.slots a)
+IsKnown (Collect a) m = IsKnownSweep m.options.trace m.parts.sweep (slot_at m.parts.table.slots a)
+IsKnown e m = ⊤
