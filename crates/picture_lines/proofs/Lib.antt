@@ -1,0 +1,4 @@
+mod Gone
+mod Marks
+mod Spans
+mod Steps

@@ -1,0 +1,9 @@
+use Rattle.std.proofs.Common.{◌≡◌, ◌++◌, map, take, string_bytes}
+use Rattle.std.specs.FinMap as m
+use Rattle.picture_rules.specs.Words.{text_of_lines}
+use Rattle.picture_rules.specs.Seats.{holds_line}
+use Rattle.picture_lines.proofs.tables.push_holds.Given as goal
+
+abbrev pub invariant-loop-i : goal.invariant-loop-i
+invariant-loop-i l =
+    string_bytes l.out ≡ string_bytes l.fn.out ++ text_of_lines (map holds_line (take l.i (m.entries l.foreign.entries)))

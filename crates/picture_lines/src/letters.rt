@@ -1,0 +1,115 @@
+// The lines of letters.
+
+ghost use Rattle.std.specs.Prelude.{◌≡◌, ◌++◌, ◌∷◌, [], codes, flat_map, map, OnOk, string_bytes};
+ghost use Rattle.std.specs.Option.{option_copied, option_map_or};
+ghost use Rattle.behaviour_code.specs.Names.{text_of};
+ghost use Rattle.behaviour_text.specs.Text.{line_of};
+ghost use Rattle.picture_rules.specs.Words.{amount_words, text_of_lines, thing_word, value_words};
+ghost use Rattle.picture_rules.specs.Seats.{brings_line, letter_lines, loads_lines};
+
+use crate::words::{end_with_amounts, end_with_things, end_with_values, push_thing};
+use behaviour_code::Names;
+use letter_kinds::{Amounts, Letter, Load};
+use mail_rows::MailRow;
+use orca_names::{Args, Row, Thing, Value};
+use std::alloc::AllocError;
+
+/// The values of a row, none where there is none.
+fn values_of(row: Option<&Row>) -> &[Value]
+    ensures { result.now ≡ option_map_or (λ r. r) (option_copied row.entry) [] }
+{
+    match row {
+        Some(row) => row.as_slice(),
+        None => &[],
+    }
+}
+
+/// A line of a thing and its row.
+pub(crate) fn push_row(
+    out: &mut String,
+    word: &str,
+    thing: &Thing,
+    row: Option<&Row>,
+) -> Result<(), AllocError>
+    ensures { OnOk result (string_bytes out.new ≡ string_bytes out.old
+        ++ line_of (word.now ∷ thing_word thing.now
+        ∷ value_words (option_map_or (λ r. r) (option_copied row.entry) []))) }
+{
+    out.push_str(word)?;
+    push_thing(out, thing)?;
+    end_with_values(out, values_of(row))
+}
+
+/// The line of the behaviour and the arguments.
+fn push_call(out: &mut String, name: &str, args: &Args) -> Result<(), AllocError>
+    ensures { OnOk result (string_bytes out.new ≡ string_bytes out.old
+        ++ line_of (codes "letter" ∷ name.now ∷ value_words args.now)) }
+{
+    write!(out, "letter {name}")?;
+    end_with_values(out, args.as_slice())
+}
+
+/// The line of what a letter loads, if it loads anything.
+fn push_loads(out: &mut String, load: &Load) -> Result<(), AllocError>
+    ensures { OnOk result (string_bytes out.new
+        ≡ string_bytes out.old ++ text_of_lines (loads_lines load.now)) }
+{
+    if load.len() == 0 {
+        return Ok(());
+    }
+    out.push_str("loads")?;
+    end_with_things(out, load.as_slice())
+}
+
+/// The lines of the rows that a letter brings.
+fn push_brought(out: &mut String, rows: &Load) -> Result<(), AllocError>
+    ensures { OnOk result (string_bytes out.new
+        ≡ string_bytes out.old ++ text_of_lines (map brings_line rows.now)) }
+{
+    for (thing, row) in rows.as_slice() {
+        push_row(out, "brings", thing, row.as_ref())?;
+    }
+    Ok(())
+}
+
+/// A line of things and amounts.
+fn push_amounts(out: &mut String, word: &str, things: &Amounts) -> Result<(), AllocError>
+    ensures { OnOk result (string_bytes out.new ≡ string_bytes out.old
+        ++ line_of (word.now ∷ flat_map amount_words things.now)) }
+{
+    out.push_str(word)?;
+    end_with_amounts(out, things.as_slice())
+}
+
+/// The lines of a letter.
+fn push_letter(out: &mut String, names: &Names, letter: &Letter) -> Result<(), AllocError>
+    ensures { OnOk result (string_bytes out.new
+        ≡ string_bytes out.old ++ text_of_lines (letter_lines names.now letter.now)) }
+{
+    match letter {
+        Letter::App {
+            behaviour,
+            args,
+            load,
+            rows,
+        } => {
+            push_call(out, names.text_or_empty(*behaviour), args)?;
+            push_loads(out, load)?;
+            push_brought(out, rows)
+        }
+        Letter::Inc { things } => push_amounts(out, "inc", things),
+        Letter::Dec { things } => push_amounts(out, "dec", things),
+        Letter::Confirm { token } => write!(out, "confirm {token}\n"),
+    }
+}
+
+/// The lines of the letters that wait for an actor.
+pub(crate) fn push_mail(out: &mut String, names: &Names, mail: &MailRow) -> Result<(), AllocError>
+    ensures { OnOk result (string_bytes out.new
+        ≡ string_bytes out.old ++ text_of_lines (flat_map (letter_lines names.now) mail.now.letters)) }
+{
+    for i in 0..mail.len() {
+        push_letter(out, names, mail.at(i))?;
+    }
+    Ok(())
+}

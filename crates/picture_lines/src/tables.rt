@@ -1,0 +1,72 @@
+// The lines of what an actor owns, holds and knows.
+
+ghost use Rattle.std.specs.Prelude.{◌≡◌, ◌++◌, ◌∷◌, [], codes, map, OnOk, string_bytes};
+ghost use Rattle.std.specs.FinMap as m;
+ghost use Rattle.std.specs.Fmt.{decimal};
+ghost use Rattle.behaviour_text.specs.Text.{line_of};
+ghost use Rattle.picture_rules.specs.Words.{text_of_lines, thing_word, value_words};
+ghost use Rattle.picture_rules.specs.Seats.{holds_line, knows_line, object_line};
+
+use crate::letters::push_row;
+use crate::words::{end_with_values, push_thing};
+use foreign_table::ForeignTable;
+use object_heap::ObjectHeap;
+use orca_names::{Row, Thing};
+use row_table::RowTable;
+use std::alloc::AllocError;
+
+/// The line of an own object.
+fn push_object(out: &mut String, serial: u64, row: &Row, count: u64) -> Result<(), AllocError>
+    ensures { OnOk result (string_bytes out.new ≡ string_bytes out.old
+        ++ line_of (object_line (serial, (row.now, count)))) }
+{
+    write!(out, "object {serial} {count}")?;
+    end_with_values(out, row.as_slice())
+}
+
+/// The lines of the own objects.
+pub(crate) fn push_objects(out: &mut String, heap: &ObjectHeap) -> Result<(), AllocError>
+    ensures { OnOk result (string_bytes out.new
+        ≡ string_bytes out.old ++ text_of_lines (map object_line (m.entries heap.now.rows))) }
+{
+    for i in 0..heap.len() {
+        let (name, row, count) = heap.at(i);
+        push_object(out, name.serial.get(), row, count)?;
+    }
+    Ok(())
+}
+
+/// The line of a thing that is held.
+fn push_hold(out: &mut String, thing: &Thing, count: u64) -> Result<(), AllocError>
+    ensures { OnOk result (string_bytes out.new ≡ string_bytes out.old
+        ++ line_of (codes "holds" ∷ thing_word thing.now ∷ decimal count ∷ [])) }
+{
+    out.push_str("holds")?;
+    push_thing(out, thing)?;
+    write!(out, " {count}\n")
+}
+
+/// The lines of what is held.
+pub(crate) fn push_holds(out: &mut String, foreign: &ForeignTable) -> Result<(), AllocError>
+    ensures { OnOk result (string_bytes out.new
+        ≡ string_bytes out.old ++ text_of_lines (map holds_line (m.entries foreign.now.entries))) }
+{
+    for i in 0..foreign.len() {
+        let (thing, count, _) = foreign.at(i);
+        push_hold(out, &thing, count)?;
+    }
+    Ok(())
+}
+
+/// The lines of the rows that letters brought.
+pub(crate) fn push_known(out: &mut String, known: &RowTable) -> Result<(), AllocError>
+    ensures { OnOk result (string_bytes out.new
+        ≡ string_bytes out.old ++ text_of_lines (map knows_line (m.entries known.now.rows))) }
+{
+    let held = known.held();
+    for i in 0..held.len() {
+        let (thing, _, row) = held.at(i);
+        push_row(out, "knows", &thing, row)?;
+    }
+    Ok(())
+}

@@ -1,0 +1,5 @@
+pub mod Words
+pub mod Seats
+pub mod Blocked
+pub mod Parts
+pub mod Pictures
