@@ -1,13 +1,13 @@
 // The lines of the detector of blocked actors, and of the notes to it.
 
-ghost use Rattle.std.specs.Prelude.{◌≡◌, ◌++◌, ◌∷◌, [], codes, flat_map, length, map, OnOk, string_bytes};
+ghost use Rattle.std.specs.Prelude.{◌≡◌, ◌++◌, ◌∷◌, [], codes, length, map, OnOk, string_bytes};
 ghost use Rattle.std.specs.Fmt.{decimal};
 ghost use Rattle.std.specs.List.Sorted.{IsStrictlySortedBy};
 ghost use Rattle.std.specs.Ordering.{nat_cmp};
 ghost use Rattle.behaviour_text.specs.Text.{line_of, rest_of_line};
 ghost use Rattle.detector_tokens.specs.Marks.{picked};
 ghost use Rattle.letter_kinds.specs.declared.note.Note.TheVariants.{Block};
-ghost use Rattle.picture_rules.specs.Words.{bit_word, held_words, text_of_lines};
+ghost use Rattle.picture_rules.specs.Words.{bit_word, text_of_lines};
 ghost use Rattle.picture_rules.specs.Blocked.{detector_line, member_line, note_line, open_lines, report_line, told_words};
 
 use crate::words::{end_with_held, push_bit};

@@ -2,7 +2,6 @@
 
 ghost use Rattle.std.specs.Prelude.{◌≡◌, ◌++◌, ◌∷◌, [], codes, flat_map, map, OnOk, string_bytes};
 ghost use Rattle.std.specs.Option.{option_copied, option_map_or};
-ghost use Rattle.behaviour_code.specs.Names.{text_of};
 ghost use Rattle.behaviour_text.specs.Text.{line_of};
 ghost use Rattle.picture_rules.specs.Words.{amount_words, text_of_lines, thing_word, value_words};
 ghost use Rattle.picture_rules.specs.Seats.{brings_line, letter_lines, loads_lines};

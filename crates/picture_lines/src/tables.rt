@@ -4,7 +4,7 @@ ghost use Rattle.std.specs.Prelude.{◌≡◌, ◌++◌, ◌∷◌, [], codes, m
 ghost use Rattle.std.specs.FinMap as m;
 ghost use Rattle.std.specs.Fmt.{decimal};
 ghost use Rattle.behaviour_text.specs.Text.{line_of};
-ghost use Rattle.picture_rules.specs.Words.{text_of_lines, thing_word, value_words};
+ghost use Rattle.picture_rules.specs.Words.{text_of_lines, thing_word};
 ghost use Rattle.picture_rules.specs.Seats.{holds_line, knows_line, object_line};
 
 use crate::letters::push_row;

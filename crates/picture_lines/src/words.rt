@@ -1,6 +1,6 @@
 // Words, each behind a space, and lists of words that end a line.
 
-ghost use Rattle.std.specs.Prelude.{◌≡◌, ◌++◌, ◌∷◌, [], flat_map, map, OnOk, string_bytes};
+ghost use Rattle.std.specs.Prelude.{◌≡◌, ◌++◌, ◌∷◌, flat_map, map, OnOk, string_bytes};
 ghost use Rattle.behaviour_text.specs.Text.{rest_of_line};
 ghost use Rattle.picture_rules.specs.Words.{amount_words, bit_word, held_words, thing_word, value_word, value_words};
 

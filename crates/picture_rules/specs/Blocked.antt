@@ -12,6 +12,7 @@ use Rattle.picture_rules.specs.Words.{Line, Word, bit_word, held_words}
 abbrev pub detector_line : Bool → ℕ → Line
 detector_line news opened = codes "detector" ∷ bit_word news ∷ decimal opened ∷ []
 
+-- the detector's one line
 abbrev pub detector_lines : Detector → List Line
 detector_lines d = detector_line d.news d.opened ∷ []
 
@@ -23,6 +24,7 @@ told_words a count held = decimal a ∷ decimal count ∷ flat_map held_words he
 abbrev pub report_line : ℕ → ℕ → List (ℕ × ℕ) → Line
 report_line a count held = codes "report" ∷ told_words a count held
 
+-- that line, if one is kept
 abbrev pub report_lines : Option Report → List Line
 report_lines report = option_map_or (λ r. report_line r.actor r.count r.held ∷ []) report []
 
@@ -34,6 +36,7 @@ member_line acked a = codes "member" ∷ decimal a ∷ bit_word (has acked a) �
 abbrev pub open_lines : Token → List Line
 open_lines t = (codes "token" ∷ decimal t.number ∷ []) ∷ map (member_line t.acked) t.members
 
+-- those lines, if it is open
 abbrev pub token_lines : Option Token → List Line
 token_lines token = option_map_or open_lines token []
 

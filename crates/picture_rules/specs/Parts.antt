@@ -26,22 +26,22 @@ or_gone gone (line ∷ lines) = line ∷ lines
 abbrev pub part_change : Line → List Line → List Line → List Line
 part_change gone before after = where_changed before after (or_gone gone after)
 
--- an actor
+-- what changes of an actor, whose letters' behaviours have their texts among these
 abbrev pub seat_change : List (List ℕ) → ℕ → Option Seat → Option Seat → List Line
 seat_change texts a before after =
     part_change (codes "gone" ∷ decimal a ∷ []) (seat_lines texts a before) (seat_lines texts a after)
 
--- the detector, which is always there
+-- what changes of the detector, which is always there
 abbrev pub detector_change : Detector → Detector → List Line
 detector_change before after =
     where_changed (detector_lines before) (detector_lines after) (detector_lines after)
 
--- the report of an actor
+-- what changes of the report of an actor
 abbrev pub report_change : ℕ → Option Report → Option Report → List Line
 report_change a before after =
     part_change (codes "withdrawn" ∷ decimal a ∷ []) (report_lines before) (report_lines after)
 
--- the token of a number
+-- what changes of the token of a number
 abbrev pub token_change : ℕ → Option Token → Option Token → List Line
 token_change n before after =
     part_change (codes "closed" ∷ decimal n ∷ []) (token_lines before) (token_lines after)
@@ -53,7 +53,7 @@ abbrev pub numbers_below : ℕ → List ℕ
 numbers_below zero = []
 numbers_below (suc n) = numbers_below n ++ n ∷ []
 
--- a number above all of these
+-- one more than the greatest of these, 0 where there is none
 abbrev pub above : List ℕ → ℕ
 above [] = 0
 above (n ∷ ns) = max (suc n) (above ns)
@@ -93,6 +93,7 @@ changes s t =
 
 -- ---- a state by itself, as if nothing had been before
 
+-- its actors, the detector, the reports and the tokens
 abbrev pub state_lines : State → List Line
 state_lines s =
     flat_map (λ a. seat_lines s.program.names a (seat_at s.actors a)) (numbers_below (length s.actors))

@@ -38,6 +38,7 @@ printed s t = drop (length s.prints) t.prints
 abbrev pub entry_line : Event → Line
 entry_line e = codes "entry" ∷ event_text e ∷ []
 
+-- a value that was printed
 abbrev pub print_line : Value → Line
 print_line v = codes "print" ∷ value_word v ∷ []
 
@@ -48,6 +49,7 @@ entry_lines e s t =
 
 -- ---- the whole
 
+-- how is traced
 abbrev pub trace_word : Trace → Word
 trace_word Deep = codes "deep"
 trace_word Roots = codes "roots"

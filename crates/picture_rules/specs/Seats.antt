@@ -47,6 +47,7 @@ actor_line a c =
 abbrev pub turn_line : Frame → Line
 turn_line f = codes "turn" ∷ decimal f.behaviour ∷ decimal f.place ∷ value_words f.registers
 
+-- that line, if it is in a behaviour
 abbrev pub turn_lines : Option Frame → List Line
 turn_lines frame = option_map_or (λ f. turn_line f ∷ []) frame []
 
@@ -67,6 +68,7 @@ holds_line e = codes "holds" ∷ thing_word e.0 ∷ decimal e.1.0 ∷ []
 abbrev pub knows_line : Thing × Row → Line
 knows_line e = codes "knows" ∷ thing_word e.0 ∷ value_words e.1
 
+-- the actor, its turn and fields, what it owns, holds and knows
 abbrev pub cell_lines : ℕ → Cell → List Line
 cell_lines a c =
     actor_line a c

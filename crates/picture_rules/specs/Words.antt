@@ -46,6 +46,7 @@ value_word (values.Num n) = decimal n
 value_word (values.Actor a) = actor_word a
 value_word (values.Obj n) = object_word n
 
+-- the words of values, as of a row
 abbrev pub value_words : List Value → List Word
 value_words values = map value_word values
 

@@ -1,0 +1,16 @@
+mod Bytes
+mod Lines
+mod Shown
+mod Kept
+mod Program
+mod Names
+mod Alphabet
+mod Opening
+mod Walking
+mod Apart
+mod Blocks
+mod Cover
+mod Telling
+mod Example
+mod Touched
+mod One

@@ -1,0 +1,4 @@
+pub mod Alphabet
+pub mod Applying
+pub mod Example
+pub mod Touched
