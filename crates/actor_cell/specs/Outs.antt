@@ -16,13 +16,13 @@ abbrev pub noting : List Note → Out
 noting notes = record { letters = []; notes = notes; print = None; made = None }
 
 -- to each owner one Dec with its amounts
-abbrev pub letters_of : List (ℕ × List Amount) → List (ℕ × Letter)
-letters_of groups = map (λ g. (g.0, Dec g.1)) groups
+abbrev pub decs_to : List (ℕ × List Amount) → List (ℕ × Letter)
+decs_to groups = map (λ g. (g.0, Dec g.1)) groups
 
 -- to each owner one Dec with its amounts, and nothing else
 abbrev pub returning : List (ℕ × List Amount) → Out
 returning groups = record {
-  letters = letters_of groups;
+  letters = decs_to groups;
   notes = [];
   print = None;
   made = None;

@@ -16,7 +16,7 @@ use std::alloc::Global;
 
 impl Cell {
     // What it frees and gives back with deep tracing.
-    fn found_deep(&self, alloc: Global) -> Result<Sweep, NoMemory>
+    fn find_deep(&self, alloc: Global) -> Result<Sweep, NoMemory>
         requires { KnowsOthersOnly self.now }
         ensures { IfOk result (λ found. found ≡ sweep_of deep self.now) }
     {
@@ -28,7 +28,7 @@ impl Cell {
     }
 
     // What it frees, gives back and forgets with root-only tracing.
-    fn found_roots(&self, alloc: Global) -> Result<Sweep, NoMemory>
+    fn find_roots(&self, alloc: Global) -> Result<Sweep, NoMemory>
         requires { KnowsOthersOnly self.now }
         ensures { IfOk result (λ found. found ≡ sweep_of roots self.now) }
     {
@@ -44,13 +44,13 @@ impl Cell {
     ///
     /// # Errors
     /// `NoMemory` where memory was refused.
-    pub fn found_collect(&self, alloc: Global, trace: Trace) -> Result<Sweep, NoMemory>
+    pub fn find_collect(&self, alloc: Global, trace: Trace) -> Result<Sweep, NoMemory>
         requires { KnowsOthersOnly self.now }
         ensures { IfOk result (λ found. found ≡ sweep_of trace self.now) }
     {
         match trace {
-            Trace::Deep => self.found_deep(alloc),
-            Trace::Roots => self.found_roots(alloc),
+            Trace::Deep => self.find_deep(alloc),
+            Trace::Roots => self.find_roots(alloc),
         }
     }
 

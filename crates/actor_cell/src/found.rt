@@ -64,7 +64,7 @@ impl Cell {
             return self.find_turn(alloc, code, weight, trace, found);
         }
         *found = if self.dirty {
-            let sweep = self.found_collect(alloc, trace)?;
+            let sweep = self.find_collect(alloc, trace)?;
             Found::Collects { sweep }
         } else {
             Found::Nothing
@@ -86,11 +86,11 @@ impl Cell {
         ensures { OnOk result (IsFound trace weight code.now self.now found.new) }
     {
         if let Found::Goes { turn, turned } = found {
-            return self.found_go(alloc, code, weight, trace, turn, turned);
+            return self.find_go(alloc, code, weight, trace, turn, turned);
         }
         let mut turn = Turn::new(alloc);
         let mut turned = Turned::new(alloc);
-        self.found_go(alloc, code, weight, trace, &mut turn, &mut turned)?;
+        self.find_go(alloc, code, weight, trace, &mut turn, &mut turned)?;
         *found = Found::Goes { turn, turned };
         Ok(())
     }

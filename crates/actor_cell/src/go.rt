@@ -291,7 +291,7 @@ impl Cell {
     ///
     /// # Errors
     /// `NoMemory` where memory was refused; what `turn` and `found` hold then is left open.
-    pub fn found_go(
+    pub fn find_go(
         &self,
         alloc: Global,
         code: &Checked,
@@ -345,7 +345,7 @@ impl Cell {
     ///
     /// # Errors
     /// `NoMemory` where memory was refused; what `found` holds then is left open.
-    pub fn found_again(
+    pub fn find_again(
         &self,
         alloc: Global,
         code: &Checked,

@@ -4,7 +4,7 @@ ghost use Rattle.std.specs.Prelude.{◌≡◌, IfOk};
 ghost use Rattle.std.specs.List.Sorted.{IsStrictlySortedBy};
 ghost use Rattle.std.specs.Ordering.{nat_cmp};
 ghost use Rattle.actor_cell.specs.Cells.{as_cell};
-ghost use Rattle.actor_cell.specs.Outs.{left_outside, letters_of};
+ghost use Rattle.actor_cell.specs.Outs.{left_outside, decs_to};
 
 use crate::cell::Cell;
 use crate::letters::{decs_of, letter_room};
@@ -27,7 +27,7 @@ impl Cell {
     ) -> Result<Listed<(ActorName, Letter)>, NoMemory>
         requires { IsStrictlySortedBy nat_cmp gone.now }
         ensures { let its = left_outside gone.now (as_cell self.now) in
-            IfOk result (λ letters. letters ≡ letters_of its) }
+            IfOk result (λ letters. letters ≡ decs_to its) }
     {
         let back = gather_held(alloc, gone, &self.foreign)?;
         let room = letter_room(alloc, back.len())?;

@@ -1,7 +1,7 @@
 // Letters that an event gives out: room for them, and those that return what was held.
 
 ghost use Rattle.std.specs.Prelude.{◌≡◌, ◌≤◌, [], IfOk, length, vec_capacity};
-ghost use Rattle.actor_cell.specs.Outs.{letters_of};
+ghost use Rattle.actor_cell.specs.Outs.{decs_to};
 
 use letter_kinds::{Amounts, Letter};
 use orca_names::{ActorName, NoMemory};
@@ -25,7 +25,7 @@ pub(crate) fn decs_of(
 ) -> Listed<(ActorName, Letter)>
     requires none { room.items ≡ [] }
     requires room { length groups.items ≤ vec_capacity room }
-    ensures { result ≡ letters_of groups.items }
+    ensures { result ≡ decs_to groups.items }
 {
     for (owner, things) in groups {
         room.push_reserved((owner, Letter::Dec { things }));

@@ -144,7 +144,7 @@ impl Cell {
     {
         let mut turn = Turn::new(alloc);
         let mut found = Turned::new(alloc);
-        self.found_go(alloc, code, weight, trace, &mut turn, &mut found)?;
+        self.find_go(alloc, code, weight, trace, &mut turn, &mut found)?;
         let room = letter_room(alloc, 1)?;
         self.reserve_go(&turn, &found)?;
         self.apply_go(&turn, &found);
@@ -166,7 +166,7 @@ impl Cell {
         ensures same { OnErr result (as_cell self.new ≡ as_cell self.old) }
         ensures owner { self.new.heap.owner ≡ self.old.heap.owner }
     {
-        let found = self.found_collect(alloc, trace)?;
+        let found = self.find_collect(alloc, trace)?;
         let room = letter_room(alloc, found.plan.back.len())?;
         self.apply_collect(&found);
         Ok(Out {

@@ -61,10 +61,6 @@ abbrev pub named : ℕ → ℕ → Move → rules.Cell → rules.Cell
 named weight name (New kind register) c = settled weight register name c
 named weight name act c = c
 
--- it reported
-abbrev pub told : rules.Cell → rules.Cell
-told c = record c { reported = true }
-
 -- the actor's seat after the change
 abbrev pub seat_after : Program → ℕ → Change → Option Seat → Option Seat
 seat_after program a Take = taken program a
@@ -72,7 +68,7 @@ seat_after program a (Go turn found name weight) =
     let act = act_in found.now in
     with_cell_by (λ c. named weight name act (moved a turn.now found.now.place act c))
 seat_after program a (Collect found trace) = with_cell_by (swept trace a)
-seat_after program a Block = with_cell_by told
+seat_after program a Block = with_cell_by (λ c. record c { reported = true })
 
 -- it is a step of a turn
 abbrev pub is_go : Change → Bool
@@ -135,6 +131,11 @@ HasRoomToChange change x = (c : Cell) → x.place ≡ Home c → HasRoomIn chang
 -- no place has less room for letters than before
 abbrev pub KeepsRoom : List Slot → List Slot → Type 0
 KeepsRoom old new = (b : ℕ) → (slot_at old b).mail.spare ≤ (slot_at new b).mail.spare
+
+-- there is room for as many actors more, and for no fewer letters to each
+pub record KeepsSpace (old new : Table) : Type 0 where
+  pub spare : new.spare ≡ old.spare
+  pub room : KeepsRoom old.slots new.slots
 
 -- but for one seat and room all is the same
 pub record KeepsRest (old new : Table) : Type 0 where

@@ -6,7 +6,7 @@ ghost use Rattle.machine_rules.specs.Actors.{push_letter, seat_at};
 ghost use Rattle.actor_cell.specs.Cells.{as_cell};
 ghost use Rattle.orca_names.specs.declared.limits.TheConstants.{ACTORS_LIMIT};
 ghost use Rattle.actor_table.specs.declared.slot.Place.TheVariants.{Home};
-ghost use Rattle.actor_table.specs.Changes.{CanChange, HasCell, HasRoomToChange, KeepsRest, KeepsRoom, changed_at, note_taken, seat_after};
+ghost use Rattle.actor_table.specs.Changes.{CanChange, HasCell, HasRoomToChange, KeepsRest, KeepsSpace, changed_at, note_taken, seat_after};
 ghost use Rattle.ready_set.specs.Next.{IsNext};
 ghost use Rattle.actor_table.specs.Rounds.{IsNextThat, has_event};
 ghost use Rattle.actor_table.specs.Slots.{actors_of, away_of, can_act, can_settle, event_of, home_of, is_away, letters_in, mail_of, may_event, places_of, slot_at};
@@ -335,8 +335,7 @@ impl ActorTable {
         ensures actors { actors_of self.new.slots ≡ actors_of self.old.slots }
         ensures away { away_of self.new.slots
             ≡ (if is_some result then set (away_of self.old.slots) a true else away_of self.old.slots) }
-        ensures room { KeepsRoom self.old.slots self.new.slots }
-        ensures spare { self.new.spare ≡ self.old.spare }
+        ensures space { KeepsSpace self.old self.new }
     {
         if a.0 as usize >= self.slots.len() {
             return None;
@@ -355,8 +354,7 @@ impl ActorTable {
         ensures place { (slot_at self.new.slots a).place ≡ Home cell }
         ensures actors { actors_of self.new.slots ≡ actors_of self.old.slots }
         ensures away { away_of self.new.slots ≡ set (away_of self.old.slots) a false }
-        ensures room { KeepsRoom self.old.slots self.new.slots }
-        ensures spare { self.new.spare ≡ self.old.spare }
+        ensures space { KeepsSpace self.old self.new }
     {
         put_back_at(&mut self.slots, a.0 as usize, cell);
         put_bits(&self.slots, &mut self.acting, &mut self.settling, a.0);

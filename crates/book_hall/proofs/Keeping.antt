@@ -24,7 +24,7 @@ use Rattle.work_board.specs.declared.answers.Refuse.{Refuse}
 use Rattle.work_board.specs.declared.answers.Refuse.TheVariants.{Budget}
 use Rattle.hall_rules.specs.Causes.{spent_cause}
 use Rattle.hall_rules.proofs.Leading.{leads_after}
-use Rattle.book_hall.specs.Kept.{IsKept}
+use Rattle.book_hall.specs.Kept.{HallKeeps}
 
 -- where no cell is away, that of no event's actor is
 pub home_for : (m : Machine) → NoneIsAway m → (e : Event) → is_out_for m.out e ≡ false
@@ -42,7 +42,7 @@ reaps_at_home m home e = tt
 module _ (program : Program) (budget : ℕ) where
   kept_by_run : (m : Machine) (book : BookValue) → IsRun program (options_of book.weight Deep) book.entries m.state
       → length book.entries ≡ m.steps → NoneIsAway m → book.trace ≡ Deep → length book.entries ≤ budget → budget ≤ BOOK_LIMIT
-      → IsKept program budget m book
+      → HallKeeps program budget m book
   kept_by_run m book run long home deep within most = record {
     state_is = leads_after book.entries _ m.state run;
     run = run;
@@ -53,7 +53,7 @@ module _ (program : Program) (budget : ℕ) where
     most = most;
   }
 
-  module _ (m n : Machine) (book after : BookValue) (kept : IsKept program budget m book)
+  module _ (m n : Machine) (book after : BookValue) (kept : HallKeeps program budget m book)
       (weight : after.weight ≡ book.weight) (trace : after.trace ≡ book.trace) (home : NoneIsAway n) where
     -- a run of the book is one of what it became
     run_in : (entries : List Event) → after.entries ≡ entries → IsRun program (options_of book.weight Deep) entries n.state
@@ -64,7 +64,7 @@ module _ (program : Program) (budget : ℕ) where
     -- with an entry more
     kept_more : (e : Event) → next m.state e ≡ Goes n.state → n.steps ≡ m.steps + 1
         → after.entries ≡ book.entries ++ e ∷ [] → spent_cause (length book.entries) budget ≡ None
-        → IsKept program budget n after
+        → HallKeeps program budget n after
     kept_more e goes steps entry room =
         let more = leads_more book.entries _ m.state n.state e kept.run goes in
         let long : length after.entries ≡ length book.entries + 1 = ap length entry ∙ length-append book.entries (e ∷ []) in
@@ -79,7 +79,7 @@ module _ (program : Program) (budget : ℕ) where
         grows false is none = let was = kept.within in grind (arith, nat_tests)
 
     -- and unchanged
-    kept_same : IsSame m n → after.entries ≡ book.entries → IsKept program budget n after
+    kept_same : IsSame m n → after.entries ≡ book.entries → HallKeeps program budget n after
     kept_same same entries =
         let run = subst (λ s. IsRun program (options_of book.weight Deep) book.entries s) (sym same.state) kept.run in
         kept_by_run n after (run_in book.entries entries run) (ap length entries ∙ kept.long ∙ sym same.steps) home
@@ -89,12 +89,12 @@ module _ (program : Program) (budget : ℕ) where
     pub kept_on : (e : Event) (r : Result Committed Refuse) → spent_cause (length book.entries) budget ≡ None
         → OnOk r (next m.state e ≡ Goes n.state) → OnOk r (n.steps ≡ m.steps + 1)
         → OnOk r (after.entries ≡ book.entries ++ e ∷ []) → OnErr r (IsSame m n) → OnErr r (after.entries ≡ book.entries)
-        → IsKept program budget n after
+        → HallKeeps program budget n after
     kept_on e (Ok done) room goes steps entry same entries = kept_more e goes steps entry room
     kept_on e (Err refuse) room goes steps entry same entries = kept_same same entries
 
   -- the machine has the program and the options of the run, and the book is its run
-  pub kept_run : (m : Machine) (book : BookValue) → IsKept program budget m book
+  pub kept_run : (m : Machine) (book : BookValue) → HallKeeps program budget m book
       → (m.state.program ≡ program) × (m.state.options ≡ options_of book.weight Deep) × IsRunOf m book.entries
   kept_run m book kept =
       let same = runs_keep_program program (options_of book.weight Deep) book.entries m.state kept.run in (

@@ -8,16 +8,16 @@ use Rattle.machine_rules.specs.State.{first_state}
 use Rattle.run_book.specs.Books.{BookValue}
 use Rattle.orca_core.specs.Machine.{Machine, NoneIsAway}
 use Rattle.orca_parts.specs.Parts.{options_of}
-use Rattle.hall_rules.specs.Halls.{HallValue, options_in, state_after, state_of}
+use Rattle.hall_rules.specs.Halls.{HallValue, state_after, hall_state}
 
 -- the book is a run of the program, with at most as many entries as the budget
 pub record HasRun (h : HallValue) : Type 0 where
-  pub run : IsRun h.program (options_in h) h.book (state_of h)
+  pub run : IsRun h.program (options_of h.weight Deep) h.book (hall_state h)
   pub within : length h.book ≤ h.budget
 
 -- what a hall keeps: the book is a run, which leads to the machine's state and has as many entries as
 -- the machine did events, and at most as many as the budget; and no cell is away
-pub record IsKept (program : Program) (budget : ℕ) (orca : Machine) (book : BookValue) : Type 0 where
+pub record HallKeeps (program : Program) (budget : ℕ) (orca : Machine) (book : BookValue) : Type 0 where
   pub state_is : orca.state ≡ state_after (first_state program (options_of book.weight Deep)) book.entries
   pub run : IsRun program (options_of book.weight Deep) book.entries orca.state
   pub long : length book.entries ≡ orca.steps

@@ -5,7 +5,7 @@ use Rattle.event_rule.specs.declared.event.Event.{Event}
 use Rattle.actor_cell.specs.Cells.{as_cell}
 use Rattle.machine_rules.specs.Actors.{cell_at}
 use Rattle.hall_rules.specs.Causes.{event_at}
-use Rattle.hall_rules.specs.Halls.{HallValue, state_of}
+use Rattle.hall_rules.specs.Halls.{HallValue, hall_state}
 use Rattle.book_hall.specs.declared.copy.CellCopy.{CellCopy}
 use Rattle.book_hall.specs.declared.copy.Proposal.{Proposal}
 
@@ -13,10 +13,10 @@ use Rattle.book_hall.specs.declared.copy.Proposal.{Proposal}
 pub record IsCopy (h : HallValue) (a : ℕ) (copy : CellCopy) : Type 0 where
   pub program : copy.code.now ≡ h.program
   pub weight : copy.weight ≡ h.weight
-  pub event : event_at (state_of h) a ≡ Some copy.event
+  pub event : event_at (hall_state h) a ≡ Some copy.event
   pub at : copy.at ≡ length h.book
   pub owner : copy.cell.heap.owner ≡ a
-  pub cell : cell_at (state_of h).actors a ≡ Some (as_cell copy.cell)
+  pub cell : cell_at (hall_state h).actors a ≡ Some (as_cell copy.cell)
 
 -- it is of a run of this program with this weight, and for this event
 pub record IsOf (program : Program) (weight : ℕ) (e : Event) (proposal : Proposal) : Type 0 where

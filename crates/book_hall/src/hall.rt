@@ -12,7 +12,7 @@ ghost use Rattle.orca_parts.specs.Parts.{options_of};
 ghost use Rattle.hall_rules.specs.Causes.{IsRefusal, absent_cause, actor_cause, claim_cause, entry_cause, event_at, spent_cause, unready_cause};
 ghost use Rattle.hall_rules.specs.Claims.{without, without_for};
 ghost use Rattle.hall_rules.specs.Answers.{IsEntered, TellsWork};
-ghost use Rattle.hall_rules.specs.Halls.{state_of};
+ghost use Rattle.hall_rules.specs.Halls.{hall_state};
 ghost use Rattle.book_hall.specs.Kept.{HasRun};
 ghost use Rattle.book_hall.specs.Proposals.{IsCopy, IsOf};
 
@@ -57,7 +57,7 @@ pub struct Hall<'a> {
 
 impl<'a> Model for Hall<'a> {
     ghost use Rattle.hall_rules.specs.Halls.{HallValue};
-    ghost use Rattle.book_hall.specs.Kept.{IsKept};
+    ghost use Rattle.book_hall.specs.Kept.{HallKeeps};
 
     ghost Value = { HallValue };
 
@@ -70,7 +70,7 @@ impl<'a> Model for Hall<'a> {
       stopped = h.stopped;
     } };
 
-    ghost invariant = { λ h. IsKept h.code.now h.budget h.orca h.book };
+    ghost invariant = { λ h. HallKeeps h.code.now h.budget h.orca h.book };
 }
 
 impl<'a> Hall<'a> {
@@ -283,7 +283,7 @@ impl<'a> Hall<'a> {
 
     /// The machine, whose state is that of the book, and the book.
     pub fn into_parts(self) -> (Orca<'a>, Book)
-        ensures state { result.0.state ≡ state_of self.entry }
+        ensures state { result.0.state ≡ hall_state self.entry }
         ensures run { IsRunOf result.0 result.1.entries }
         ensures home { NoneIsAway result.0 }
         ensures program { result.0.state.program ≡ self.entry.program }
@@ -298,8 +298,8 @@ impl<'a> Hall<'a> {
 
     // A copy of the cell of an actor that is present.
     fn copy_of(&self, alloc: Global, a: ActorName, event: Event) -> Result<CellCopy<'a>, NoMemory>
-        requires present { absent_cause (state_of self.now) a ≡ None }
-        requires event { event_at (state_of self.now) a ≡ Some event }
+        requires present { absent_cause (hall_state self.now) a ≡ None }
+        requires event { event_at (hall_state self.now) a ≡ Some event }
         ensures { IfOk result (IsCopy self.now a) }
     {
         // The program was checked.
@@ -318,8 +318,8 @@ impl<'a> Hall<'a> {
 
     // Why the event does not become an entry, before it is tried.
     fn early_refusal(&self, asker: Option<u32>, e: &Event) -> Option<Refuse>
-        ensures { result ≡ option_or (actor_cause (state_of self.now) self.now.claims asker e.now)
-            (option_or (unready_cause (next (state_of self.now) e.now))
+        ensures { result ≡ option_or (actor_cause (hall_state self.now) self.now.claims asker e.now)
+            (option_or (unready_cause (next (hall_state self.now) e.now))
             (spent_cause (length self.now.book) self.now.budget)) }
     {
         if let Some(refuse) = actor_refuses(&self.orca, &self.claims, asker, e) {

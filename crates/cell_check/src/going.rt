@@ -116,7 +116,7 @@ fn goes_over(
     if !cell.frame.is_some() || cell.heap.made() > 1000 {
         return Err(Fail::from("it cannot go"));
     }
-    cell.found_go(alloc, code, WEIGHT, Trace::Deep, turn, found)?;
+    cell.find_go(alloc, code, WEIGHT, Trace::Deep, turn, found)?;
     if !allows(cell, found) {
         return Err(Fail::from("its counts do not allow what it would do"));
     }

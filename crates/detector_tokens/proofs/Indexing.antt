@@ -4,7 +4,7 @@ use Rattle.std.specs.Option.{option_eq}
 use Rattle.std.proofs.lemmas.Bool.{false≢true}
 use Rattle.std.specs.List.{AllByRecursion, find, remove}
 use Rattle.letter_kinds.specs.Detector.{Token, has, in_token, note_ack, all_acked}
-use Rattle.detector_tokens.specs.Open.{first_acked, AreIndexed, HasMemberAt, IsNumberedAt, IsTold, first_with, lower_of, numbers}
+use Rattle.detector_tokens.specs.Open.{first_acked, AreIndexed, HasMemberAt, IsNumberedAt, IsTold, first_with, lower_with, numbers}
 use Rattle.std.specs.List.Sorted.{IsStrictlySortedBy}
 use Rattle.std.specs.Ordering.{nat_cmp}
 use Rattle.detector_tokens.proofs.OpenLemmas.{acks_at, cancel-one, first-filter, first-pending, first-push, first-ready, numbered-filter, numbered-push, numbers-acks, remove-numbered, told-acks, told-push, each-filter, none_first}
@@ -23,14 +23,14 @@ acks_all ts told ready n a i t u k at is e =
 
 pub acked_index : (ts : List Token) (told : ℕ → Option ℕ) (ready : Option ℕ) (n a i : ℕ) (t u : Token)
     → AreIndexed ts told ready → IsNumberedAt ts n i → t ≡ get_or ts i t → u ≡ note_ack t.number a t
-    → all_acked u ≡ true → AreIndexed (set ts i u) told (Some (lower_of ready n))
+    → all_acked u ≡ true → AreIndexed (set ts i u) told (Some (lower_with ready n))
 acked_index ts told ready n a i t u k at is e on =
     let all = acks_all ts told ready n a i t u k at is e in
     let same : u.number ≡ n = ap (λ (x : Token). x.number) e ∙ (ap (λ (x : Token). x.number) is ∙ at.same t) in
     record {
       numbered = subst (λ us. IsStrictlySortedBy nat_cmp (numbers us)) (sym all) (subst (IsStrictlySortedBy nat_cmp) (sym (numbers-acks n a ts)) k.numbered);
       members = subst (AllByRecursion (IsTold told)) (sym all) (told-acks told n a ts k.members);
-      first = ap (λ o. Some (lower_of o n)) k.first ∙ sym (first-ready n u ts i t k.numbered at.within (at.same t) same on);
+      first = ap (λ o. Some (lower_with o n)) k.first ∙ sym (first-ready n u ts i t k.numbered at.within (at.same t) same on);
     }
 
 pub pending_index : (ts : List Token) (told : ℕ → Option ℕ) (ready : Option ℕ) (n a i : ℕ) (t u : Token)

@@ -8,7 +8,7 @@ use Rattle.std.specs.List.Sorted.{IsBinarySearchResult, IsNonDecreasingBy, IsSea
 use Rattle.std.specs.Ordering.{nat_cmp, ordering_index}
 use Rattle.std.specs.Result.{result_ok}
 use Rattle.letter_kinds.specs.Detector.{Token, has, in_token, note_ack, all_acked}
-use Rattle.detector_tokens.specs.Open.{first_acked, HasMemberAt, IsNumberedAt, IsTold, first_with, lower_of, numbers}
+use Rattle.detector_tokens.specs.Open.{first_acked, HasMemberAt, IsNumberedAt, IsTold, first_with, lower_with, numbers}
 use Rattle.detector_tokens.proofs.RisingLemmas.{AllAbove, first_above, none_rise, rest_rises, rising-cons}
 
 -- ---- by number
@@ -199,14 +199,14 @@ first-pending n a (t ∷ ts) zero d lt h = rw (h, not_before n a t h) refl
 first-pending n a (t ∷ ts) (suc i) d lt h =
     ⊎_elim (λ (on : all_acked t ≡ true). rw on refl) (λ (off : all_acked t ≡ false). rw off (first-pending n a ts i d (omega arith) h)) (cases_Bool (all_acked t))
 
-lower_above : (o : Option ℕ) (n : ℕ) → IfSome o (λ k. n < k) → lower_of o n ≡ n
+lower_above : (o : Option ℕ) (n : ℕ) → IfSome o (λ k. n < k) → lower_with o n ≡ n
 lower_above None n h = refl
 lower_above (Some k) n h = grind arith
 
 -- once it is, it may be the first
 pub first-ready : (n : ℕ) (u : Token) (ts : List Token) (i : ℕ) (d : Token) → IsStrictlySortedBy nat_cmp (numbers ts)
     → i < length ts → (get_or ts i d).number ≡ n → u.number ≡ n → all_acked u ≡ true
-    → first_acked (set ts i u) ≡ Some (lower_of (first_acked ts) n)
+    → first_acked (set ts i u) ≡ Some (lower_with (first_acked ts) n)
 first-ready n u [] i d h lt e f on = absurd (omega arith)
 first-ready n u (t ∷ ts) zero d h lt e f on =
     let above : AllAbove n (numbers ts) = subst (λ k. AllAbove k (numbers ts)) e (first_above t.number (numbers ts) h) in

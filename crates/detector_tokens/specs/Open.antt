@@ -25,9 +25,9 @@ first_with None t = if all_acked t then Some t.number else None
 first_with (Some k) t = Some k
 
 -- the lower of two numbers, where there is a first one
-abbrev pub lower_of : Option ℕ → ℕ → ℕ
-lower_of None n = n
-lower_of (Some k) n = min k n
+abbrev pub lower_with : Option ℕ → ℕ → ℕ
+lower_with None n = n
+lower_with (Some k) n = min k n
 
 -- each member is told the token's number
 abbrev pub IsTold : (ℕ → Option ℕ) → Token → Type 0

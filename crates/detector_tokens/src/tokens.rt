@@ -4,7 +4,7 @@ ghost use Rattle.std.specs.Prelude.{◌≡◌, ℕ, ◌<◌, ◌==◌, ◌++◌,
 ghost use Rattle.std.specs.List.{AllByRecursion, find};
 ghost use Rattle.std.specs.Option.{option_copied};
 ghost use Rattle.letter_kinds.specs.Detector.{has, in_token, note_ack};
-ghost use Rattle.detector_tokens.specs.Open.{first_acked, first_with, HasMemberAt, IsNumberedAt, IsTold, lower_of, numbers};
+ghost use Rattle.detector_tokens.specs.Open.{first_acked, first_with, HasMemberAt, IsNumberedAt, IsTold, lower_with, numbers};
 ghost use Rattle.std.specs.List.Sorted.{IsStrictlySortedBy};
 ghost use Rattle.std.specs.Ordering.{nat_cmp};
 ghost use Rattle.detector_tokens.specs.Room.{Fits, KeepsRoom, nothing_open};
@@ -37,8 +37,8 @@ fn first_acked(tokens: &[Token]) -> Option<u64>
 }
 
 /// The lower of two numbers, where there is a first one.
-fn lower_of(first: Option<u64>, number: u64) -> u64
-    ensures { result ≡ lower_of first number }
+fn lower_with(first: Option<u64>, number: u64) -> u64
+    ensures { result ≡ lower_with first number }
 {
     match first {
         Some(first) => first.min(number),
@@ -166,7 +166,7 @@ impl Tokens {
             let token = &mut self.open[i];
             token.note_ack(actor);
             if token.is_acked() {
-                self.ready = Some(lower_of(self.ready, number));
+                self.ready = Some(lower_with(self.ready, number));
             }
         }
     }

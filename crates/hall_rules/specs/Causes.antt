@@ -11,7 +11,7 @@ use Rattle.work_board.specs.declared.answers.Refuse.{Refuse}
 use Rattle.work_board.specs.declared.answers.Refuse.TheVariants as why
 use Rattle.hall_rules.specs.declared.claim.Claim.{Claim}
 use Rattle.hall_rules.specs.Claims.{holder}
-use Rattle.hall_rules.specs.Halls.{HallValue, state_of}
+use Rattle.hall_rules.specs.Halls.{HallValue, hall_state}
 
 -- the actor was not made, or is gone
 abbrev pub absent_cause : State → ℕ → Option Refuse
@@ -47,9 +47,9 @@ full_cause (Goes t) e = None
 -- why the event does not become an entry
 abbrev pub entry_cause : HallValue → Option ℕ → Event → Option Refuse
 entry_cause h asker e =
-    option_or (actor_cause (state_of h) h.claims asker e)
-    (option_or (unready_cause (next (state_of h) e))
-    (option_or (spent_cause (length h.book) h.budget) (full_cause (next (state_of h) e) e)))
+    option_or (actor_cause (hall_state h) h.claims asker e)
+    (option_or (unready_cause (next (hall_state h) e))
+    (option_or (spent_cause (length h.book) h.budget) (full_cause (next (hall_state h) e) e)))
 
 -- ---- of a claim
 
@@ -70,8 +70,8 @@ idle_cause (Some e) = None
 -- why the claim is refused
 abbrev pub claim_cause : HallValue → ℕ → Option Refuse
 claim_cause h a =
-    option_or (absent_cause (state_of h) a)
-    (option_or (busy_cause h.claims None a) (idle_cause (event_at (state_of h) a)))
+    option_or (absent_cause (hall_state h) a)
+    (option_or (busy_cause h.claims None a) (idle_cause (event_at (hall_state h) a)))
 
 -- ---- the answer
 

@@ -5,7 +5,6 @@ use Rattle.behaviour_code.specs.declared.code.Program.{Program}
 use Rattle.event_rule.specs.Runs.{Step, NotEnabled, IsFull, Goes}
 use Rattle.event_rule.specs.declared.event.Event.{Event}
 use Rattle.machine_rules.specs.Next.{next}
-use Rattle.machine_rules.specs.Options.{Options}
 use Rattle.machine_rules.specs.State.{State, first_state}
 use Rattle.orca_parts.specs.Parts.{options_of}
 use Rattle.hall_rules.specs.declared.claim.Claim.{Claim}
@@ -21,19 +20,16 @@ pub record HallValue : Type 0 where
   pub stopped : Bool
 
 -- where a step leads; where it leads nowhere, the state stays
-abbrev pub moved : State → Step State → State
-moved s NotEnabled = s
-moved s IsFull = s
-moved s (Goes t) = t
+abbrev pub after_step : State → Step State → State
+after_step s NotEnabled = s
+after_step s IsFull = s
+after_step s (Goes t) = t
 
 -- the state after the events of a book
 abbrev pub state_after : State → List Event → State
 state_after s [] = s
-state_after s (e ∷ book) = state_after (moved s (next s e)) book
+state_after s (e ∷ book) = state_after (after_step s (next s e)) book
 
--- letters are traced deep
-abbrev pub options_in : HallValue → Options
-options_in h = options_of h.weight Deep
-
-abbrev pub state_of : HallValue → State
-state_of h = state_after (first_state h.program (options_in h)) h.book
+-- its state, with letters traced deep
+abbrev pub hall_state : HallValue → State
+hall_state h = state_after (first_state h.program (options_of h.weight Deep)) h.book

@@ -10,7 +10,6 @@ ghost use Rattle.machine_rules.specs.Next.{next};
 ghost use Rattle.orca_parts.specs.Away.{KeepsAway, is_out_for};
 ghost use Rattle.orca_parts.specs.Faults.{IsFault};
 ghost use Rattle.orca_core.specs.Machine.{Fits, IsSame, ReapsNoneAway, IsFoundIn};
-ghost use Rattle.orca_parts.specs.Ready.{event_of};
 ghost use Rattle.orca_parts.specs.Woken.{IsLowestWoken};
 ghost use Rattle.hall_rules.specs.Causes.{IsRefusal, full_cause, unready_cause};
 
@@ -33,7 +32,7 @@ fn prepare(
     requires spares { ReapsNoneAway e orca.old }
     requires found { ForSome found.old (λ known. IsFoundIn e known.value orca.old) }
     ensures same { IsSame orca.old orca.new }
-    ensures event { IfOk result (λ ready. event_of ready ≡ e) }
+    ensures event { IfOk result (λ ready. ready.event ≡ e) }
     ensures ok { IfOk result (λ ready. Fits ready orca.new) }
     ensures fault { IfErr result (IsFault (next orca.old.state e) e) }
 {
@@ -75,7 +74,7 @@ fn reserve(
     ensures entries { book.new.entries ≡ book.old.entries }
     ensures book { (book.new.weight ≡ book.old.weight) × (book.new.trace ≡ book.old.trace) }
     ensures spare { OnOk result (1 ≤ book.new.spare) }
-    ensures event { IfOk result (λ ready. event_of ready ≡ e.now) }
+    ensures event { IfOk result (λ ready. ready.event ≡ e.now) }
     ensures ok { IfOk result (λ ready. Fits ready orca.new) }
     ensures refused { IfErr result (IsRefusal (full_cause (next orca.old.state e.now) e.now)) }
 {

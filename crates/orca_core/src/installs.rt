@@ -7,7 +7,6 @@ ghost use Rattle.machine_rules.specs.Next.{next};
 ghost use Rattle.orca_parts.specs.Away.{KeepsAway, is_out_for, next_without};
 ghost use Rattle.orca_parts.specs.Faults.{IsFault};
 ghost use Rattle.orca_core.specs.Machine.{Fits, IsSame, ReapsNoneAway, IsFoundIn};
-ghost use Rattle.orca_parts.specs.Ready.{event_of};
 ghost use Rattle.orca_parts.specs.Woken.{IsLowestWoken};
 
 use crate::machine::Orca;
@@ -32,7 +31,7 @@ impl<'a> Orca<'a> {
         requires home { ReapsNoneAway e self.old }
         requires found { IsFoundIn e found self.old }
         ensures same { IsSame self.old self.new }
-        ensures event { IfOk result (λ ready. event_of ready ≡ e) }
+        ensures event { IfOk result (λ ready. ready.event ≡ e) }
         ensures ok { IfOk result (λ ready. Fits ready self.new) }
         ensures home { OnOk result (is_out_for self.old.out e ≡ false) }
         ensures fault { IfErr result (IsFault (next_without self.old.out self.old.state e) e) }
@@ -56,7 +55,7 @@ impl<'a> Orca<'a> {
         requires home { ReapsNoneAway e self.old }
         requires found { IsFoundIn e found.old self.old }
         ensures same { IsSame self.old self.new }
-        ensures event { IfOk result (λ ready. event_of ready ≡ e) }
+        ensures event { IfOk result (λ ready. ready.event ≡ e) }
         ensures ok { IfOk result (λ ready. Fits ready self.new) }
         ensures home { OnOk result (is_out_for self.old.out e ≡ false) }
         ensures fault { IfErr result (IsFault (next_without self.old.out self.old.state e) e) }

@@ -12,7 +12,6 @@ ghost use Rattle.orca_parts.specs.Away.{KeepsAway, is_out_for, next_without};
 ghost use Rattle.orca_parts.specs.Faults.{IsFault};
 ghost use Rattle.orca_parts.specs.Parts.{options_of};
 ghost use Rattle.orca_core.specs.Machine.{Fits, IsSame, NoneIsAway, ReapsNoneAway};
-ghost use Rattle.orca_parts.specs.Ready.{event_of};
 ghost use Rattle.orca_parts.specs.Woken.{IsLowestWoken};
 
 use actor_cell::{Cell, Sweep, Turned};
@@ -145,7 +144,7 @@ impl<'a> Orca<'a> {
         requires early { self.old.steps < BOOK_LIMIT }
         requires home { ReapsNoneAway e self.old }
         ensures same { IsSame self.old self.new }
-        ensures event { IfOk result (λ ready. event_of ready ≡ e) }
+        ensures event { IfOk result (λ ready. ready.event ≡ e) }
         ensures ok { IfOk result (λ ready. Fits ready self.new) }
         ensures home { OnOk result (is_out_for self.old.out e ≡ false) }
         ensures fault { IfErr result (IsFault (next_without self.old.out self.old.state e) e) }
@@ -167,7 +166,7 @@ impl<'a> Orca<'a> {
     pub fn apply_ready(&mut self, ready: Ready) -> Option<ActorName>
         requires early { self.old.steps < BOOK_LIMIT }
         requires fits { Fits ready self.old }
-        ensures state { next self.old.state (event_of ready) ≡ Goes self.new.state }
+        ensures state { next self.old.state ready.event ≡ Goes self.new.state }
         ensures steps { self.new.steps ≡ self.old.steps + 1 }
         ensures out { KeepsAway self.old.out self.new.out }
         ensures woken { IsLowestWoken self.old.state.actors self.new.state.actors result }

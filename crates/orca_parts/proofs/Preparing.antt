@@ -22,7 +22,7 @@ use Rattle.known_rows.specs.Holdings.{holdings_of}
 use Rattle.local_sweep.proofs.GivenBack.{back_rises}
 use Rattle.actor_cell.specs.declared.cell.Cell.{Cell}
 use Rattle.actor_cell.specs.Cells.{as_cell}
-use Rattle.actor_cell.specs.Outs.{left_behind, letters_of, report_of}
+use Rattle.actor_cell.specs.Outs.{left_behind, decs_to, report_of}
 use Rattle.actor_cell.specs.declared.sweeping.Sweep.{Sweep}
 use Rattle.actor_cell.specs.Sweeps.{sweep_of}
 use Rattle.actor_cell.proofs.Marked.{back_same}
@@ -176,7 +176,7 @@ module _ (a : ℕ) (m : Parts) (old : List Slot) (places : places_of m.table.slo
       ∙ may_here may (slot_at old a) c (home_is (slot_at old a) c lent) on
 
   pub fits_leave : (letters : List (ℕ × Letter)) (c : Cell) → Some c ≡ home_of (slot_at old a) → may_at may_leave (slot_at old a) ≡ true
-      → letters ≡ letters_of (left_behind a (as_cell c)) → FitLetters letters m.table.slots → FitsLeave a letters m
+      → letters ≡ decs_to (left_behind a (as_cell c)) → FitLetters letters m.table.slots → FitsLeave a letters m
   fits_leave letters c lent may returns fit = record {
     cell = c;
     home = home_still c lent;
@@ -187,7 +187,7 @@ module _ (a : ℕ) (m : Parts) (old : List Slot) (places : places_of m.table.slo
 
   pub fits_collect : (trace : Trace) (found : Sweep) (c : Cell) → Some c ≡ home_of (slot_at old a) → c.heap.owner ≡ a
       → may_at may_collect (slot_at old a) ≡ true → found ≡ sweep_of trace c
-      → FitLetters (letters_of found.plan.back) m.table.slots → FitsCollect trace a found m
+      → FitLetters (decs_to found.plan.back) m.table.slots → FitsCollect trace a found m
   fits_collect trace found c lent own may is fit = record {
     cell = c;
     home = home_still c lent;
@@ -201,8 +201,8 @@ module _ (a : ℕ) (m : Parts) (old : List Slot) (places : places_of m.table.slo
   }
 
 -- at most one letter returns what goes back to an owner
-pub once_back : (trace : Trace) (found : Sweep) (c : Cell) → found ≡ sweep_of trace c → (b : ℕ) → letters_to b (letters_of found.plan.back) ≤ 1
+pub once_back : (trace : Trace) (found : Sweep) (c : Cell) → found ≡ sweep_of trace c → (b : ℕ) → letters_to b (decs_to found.plan.back) ≤ 1
 once_back trace found c is b =
     let marked = is_marked trace c.heap.owner (as_cell c) in
-    subst (λ (f : Sweep). letters_to b (letters_of f.plan.back) ≤ 1) (sym is)
+    subst (λ (f : Sweep). letters_to b (decs_to f.plan.back) ≤ 1) (sym is)
     (once_each (sweep_of trace c).plan.back (back_rises marked (holdings_of 0 c.heap c.foreign)).owners b)

@@ -14,7 +14,7 @@ use Rattle.machine_rules.specs.Actors.{Actors, seat_at}
 use Rattle.machine_rules.specs.Detect.{acked_token, held_outside, reap_decs}
 use Rattle.actor_cell.specs.declared.cell.Cell.{Cell}
 use Rattle.actor_cell.specs.Cells.{as_cell}
-use Rattle.actor_cell.specs.Outs.{left_outside, letters_of}
+use Rattle.actor_cell.specs.Outs.{left_outside, decs_to}
 use Rattle.actor_table.specs.declared.slot.Slot.{Slot}
 use Rattle.actor_table.specs.declared.slot.Place.TheVariants.{Home}
 use Rattle.actor_table.specs.Slots.{actors_of, places_of, slot_at}
@@ -52,21 +52,21 @@ reaped_without members (b ∷ rest) actors a above =
 
 -- the letters of those of the rest
 abbrev pub returned : List ℕ → List ℕ → List Slot → List (ℕ × Letter)
-returned members rest slots = letters_of (reap_decs members rest (actors_of slots))
+returned members rest slots = decs_to (reap_decs members rest (actors_of slots))
 
 pub first_returned : (members : List ℕ) (a : ℕ) (rest : List ℕ) (slots : List Slot) (c : Cell) → IsStrictlySortedBy nat_cmp (a ∷ rest)
     → (slot_at slots a).place ≡ Home c
-    → returned members (a ∷ rest) slots ≡ letters_of (left_outside members (as_cell c)) ++ returned members rest slots
+    → returned members (a ∷ rest) slots ≡ decs_to (left_outside members (as_cell c)) ++ returned members rest slots
 first_returned members a rest slots c rises home =
     let actors = actors_of slots in
-    ap letters_of (first_reaped members a rest actors
+    ap decs_to (first_reaped members a rest actors
     ∙ ap (λ ds. by_owner (held_outside members (seat_at actors a)) ++ ds) (reaped_without members rest actors a (first_above a rest rises))
     ∙ ap (λ o. by_owner (held_outside members o) ++ reap_decs members rest actors) (seat_here slots a c home))
     ∙ map-append (λ (g : ℕ × List (Rattle.letter_kinds.specs.Counting.Amount)). (g.0, Dec g.1)) (left_outside members (as_cell c)) (reap_decs members rest actors)
 
 pub none_returned : (members rest : List ℕ) (slots : List Slot) → rest ≡ [] → returned members rest slots ≡ []
 none_returned members rest slots none =
-    ap (λ ms. returned members ms slots) none ∙ ap letters_of (none_reaped members (actors_of slots))
+    ap (λ ms. returned members ms slots) none ∙ ap decs_to (none_reaped members (actors_of slots))
 
 -- ---- the token
 
@@ -105,6 +105,6 @@ can_reap number members letters old m found is same home fit =
       acked = its.1;
       its = its.2;
       home = home;
-      decs = is ∙ ap (λ actors. letters_of (reap_decs members members actors)) (sym same);
+      decs = is ∙ ap (λ actors. decs_to (reap_decs members members actors)) (sym same);
       fit = fit;
     }

@@ -10,18 +10,18 @@ use Rattle.std.proofs.lemmas.Bool.Decides.{nat_tests}
 use Rattle.letter_kinds.specs.declared.letter.Letter.{Letter}
 use Rattle.letter_kinds.specs.Counting.{Amount}
 use Rattle.machine_rules.specs.Actors.{seat_at}
-use Rattle.actor_cell.specs.Outs.{letters_of}
+use Rattle.actor_cell.specs.Outs.{decs_to}
 use Rattle.actor_table.specs.declared.slot.Slot.{Slot}
 use Rattle.actor_table.specs.Changes.{KeepsRoom}
 use Rattle.actor_table.specs.Slots.{actors_of, slot_at}
-use Rattle.orca_parts.specs.Letters.{FitLetters, counted, letters_to}
+use Rattle.orca_parts.specs.Letters.{FitLetters, count_for, letters_to}
 
--- ---- letters are counted
+-- ---- letters are count_for
 
--- one letter more to the actor is counted
-pub counted_up : (old new : BTreeMap ℕ ℕ) (to n : ℕ) → Updates nat_cmp old new to (Some n) → n ≡ counted old to + 1 → (b : ℕ) → counted new b ≡ counted old b + (if to == b then 1 else 0)
-counted_up old new to n updates is b = elim (cases_eq to b) as (λ _. counted new b ≡ counted old b + (if to == b then 1 else 0)) [
-  | inl same ↦ grind (arith, nat_tests, updates.0 b, is, ap (counted old) same)
+-- one letter more to the actor is count_for
+pub counted_up : (old new : BTreeMap ℕ ℕ) (to n : ℕ) → Updates nat_cmp old new to (Some n) → n ≡ count_for old to + 1 → (b : ℕ) → count_for new b ≡ count_for old b + (if to == b then 1 else 0)
+counted_up old new to n updates is b = elim (cases_eq to b) as (λ _. count_for new b ≡ count_for old b + (if to == b then 1 else 0)) [
+  | inl same ↦ grind (arith, nat_tests, updates.0 b, is, ap (count_for old) same)
   | inr other ↦ grind (arith, nat_tests, updates.0 b)
 ]
 
@@ -42,7 +42,7 @@ module _ (old new : List Slot) (actors : actors_of new ≡ actors_of old) (room 
   was_there : (b : ℕ) → is_some (seat_at (actors_of new) b) ≡ true → is_some (seat_at (actors_of old) b) ≡ true
   was_there b there = sym (ap (λ os. is_some (seat_at os b)) actors) ∙ there
 
-  -- what is counted fits where there is room for one letter more to the actor
+  -- what is count_for fits where there is room for one letter more to the actor
   pub counted_fits : (to n : ℕ) (was now : ℕ → ℕ) → ((b : ℕ) → is_some (seat_at (actors_of old) b) ≡ true → was b ≤ (slot_at old b).mail.spare)
       → (is_some (seat_at (actors_of old) to) ≡ true → n ≤ (slot_at new to).mail.spare) → n ≡ was to + 1 → ((b : ℕ) → now b ≡ was b + (if to == b then 1 else 0))
       → (b : ℕ) → is_some (seat_at (actors_of new) b) ≡ true → now b ≤ (slot_at new b).mail.spare
@@ -91,24 +91,24 @@ module _ (old new : List Slot) (actors : actors_of new ≡ actors_of old) (room 
 
 -- ---- groups that rise
 
-none_below : (a b : ℕ) (groups : List (ℕ × List Amount)) → T (below_all nat_cmp b groups) → a ≤ b → letters_to a (letters_of groups) ≡ 0
+none_below : (a b : ℕ) (groups : List (ℕ × List Amount)) → T (below_all nat_cmp b groups) → a ≤ b → letters_to a (decs_to groups) ≡ 0
 none_below a b [] below le = refl
 none_below a b (g ∷ groups) below le =
     let above = first (is_lt (nat_cmp b g.0)) (below_all nat_cmp b groups) below in
     let rest = none_below a b groups (second (is_lt (nat_cmp b g.0)) (below_all nat_cmp b groups) below) le in
     by (is_lt (nat_cmp b g.0)) refl above rest
   where
-    by : (q : Bool) → is_lt (nat_cmp b g.0) ≡ q → T q → letters_to a (letters_of groups) ≡ 0 → letters_to a (letters_of (g ∷ groups)) ≡ 0
+    by : (q : Bool) → is_lt (nat_cmp b g.0) ≡ q → T q → letters_to a (decs_to groups) ≡ 0 → letters_to a (decs_to (g ∷ groups)) ≡ 0
     by true e t rest = grind (arith, nat_tests)
     by false e t rest = absurd t
 
 -- one letter goes to the owner of each
-pub once_each : (groups : List (ℕ × List Amount)) → T (is_sorted nat_cmp groups) → (a : ℕ) → letters_to a (letters_of groups) ≤ 1
+pub once_each : (groups : List (ℕ × List Amount)) → T (is_sorted nat_cmp groups) → (a : ℕ) → letters_to a (decs_to groups) ≤ 1
 once_each [] rises a = omega arith
 once_each (g ∷ groups) rises a =
     let below = first (below_all nat_cmp g.0 groups) (is_sorted nat_cmp groups) rises in
     let rest = second (below_all nat_cmp g.0 groups) (is_sorted nat_cmp groups) rises in
-    elim (cases_eq g.0 a) as (λ _. letters_to a (letters_of (g ∷ groups)) ≤ 1) [
+    elim (cases_eq g.0 a) as (λ _. letters_to a (decs_to (g ∷ groups)) ≤ 1) [
       | inl same ↦ omega (arith, few (g.0 == a), none_below a g.0 groups below (omega (arith, same)))
       | inr other ↦ grind (arith, nat_tests, once_each groups rest a)
     ]

@@ -13,7 +13,7 @@ use Rattle.letter_kinds.specs.Counting.{by_owner, given_back}
 use Rattle.actor_cell.specs.declared.cell.Cell.{Cell}
 use Rattle.actor_cell.specs.declared.sweeping.Sweep.{Sweep}
 use Rattle.actor_cell.specs.Cells.{as_cell}
-use Rattle.actor_cell.specs.Outs.{left_behind, letters_of, report_of, returning}
+use Rattle.actor_cell.specs.Outs.{left_behind, decs_to, report_of, returning}
 use Rattle.actor_cell.specs.Sweeps.{sweep_of}
 use Rattle.std.specs.VecDeque.{deque_capacity, deque_len}
 use Rattle.behaviour_code.specs.declared.code.Program.{Program}
@@ -60,7 +60,7 @@ pub record FitsReap (number : ℕ) (members : List ℕ) (letters : List (ℕ × 
   pub acked : acked_token number m.detector.state ≡ Some token
   pub its : token.members ≡ members
   pub home : AreHome members m.table.slots
-  pub decs : letters ≡ letters_of (reap_decs members members (actors_of m.table.slots))
+  pub decs : letters ≡ decs_to (reap_decs members members (actors_of m.table.slots))
   pub fit : FitLetters letters m.table.slots
 
 -- none of these is away
@@ -98,7 +98,7 @@ pub record FitsCollect (trace : Trace) (a : ℕ) (found : Sweep) (m : Parts) : T
   pub home : (slot_at m.table.slots a).place ≡ Home cell
   pub may : may_collect (as_cell cell) (slot_at m.table.slots a).mail.letters ≡ true
   pub collects : CollectsWith trace a found cell
-  pub fit : FitLetters (letters_of found.plan.back) m.table.slots
+  pub fit : FitLetters (decs_to found.plan.back) m.table.slots
 
 -- the actor may leave, the letters return what it held, and fit
 pub record FitsLeave (a : ℕ) (letters : List (ℕ × Letter)) (m : Parts) : Type 0 where

@@ -13,9 +13,9 @@ abbrev pub letters_to : ℕ → List (ℕ × Letter) → ℕ
 letters_to a [] = 0
 letters_to a (l ∷ letters) = (if l.0 == a then 1 else 0) + letters_to a letters
 
--- how many to an actor are counted
-abbrev pub counted : BTreeMap ℕ ℕ → ℕ → ℕ
-counted counts a = unwrap_or (get nat_cmp counts a) 0
+-- how many to an actor are count_for
+abbrev pub count_for : BTreeMap ℕ ℕ → ℕ → ℕ
+count_for counts a = unwrap_or (get nat_cmp counts a) 0
 
 -- each actor that is present has room for those that go to it
 abbrev pub FitLetters : List (ℕ × Letter) → List Slot → Type 0

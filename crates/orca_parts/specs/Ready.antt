@@ -8,10 +8,6 @@ use Rattle.orca_parts.specs.Goes.{FitsGo}
 use Rattle.orca_parts.specs.declared.parts.Parts.{Parts}
 use Rattle.orca_parts.specs.declared.ready.Ready.{Ready}
 
--- which event it is
-abbrev pub event_of : Ready → Event
-event_of ready = ready.event
-
 -- what was found of the event is so, and there is room for it
 abbrev pub FitsEvent : Options → Program → Event → Parts → Type 0
 FitsEvent options program (Take a) m = FitsTake a m
@@ -25,4 +21,4 @@ FitsEvent options program (Reap number) m =
     FitsReap number m.members.items m.letters.items m
 
 abbrev pub FitsReady : Options → Program → Ready → Parts → Type 0
-FitsReady options program ready m = FitsEvent options program (event_of ready) m
+FitsReady options program ready m = FitsEvent options program ready.event m

@@ -52,7 +52,7 @@ fn find_collect(
     if known {
         return Ok(());
     }
-    match cell.found_collect(alloc, trace) {
+    match cell.find_collect(alloc, trace) {
         Ok(found) => {
             *sweep = found;
             Ok(())

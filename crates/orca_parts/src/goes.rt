@@ -68,7 +68,7 @@ fn find_go(
     if !cell.frame.is_some() {
         return Err(StepFault::NotEnabled);
     }
-    match cell.found_go(alloc, code, options.weight, options.trace, turn, found) {
+    match cell.find_go(alloc, code, options.weight, options.trace, turn, found) {
         Ok(()) => Ok(()),
         Err(NoMemory) => Err(StepFault::NoMemory),
     }
@@ -100,7 +100,7 @@ fn find_again(
     let Some(cell) = table.cell(a) else {
         return Err(StepFault::NotEnabled);
     };
-    match cell.found_again(
+    match cell.find_again(
         alloc,
         code,
         options.weight,

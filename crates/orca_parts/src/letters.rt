@@ -1,12 +1,12 @@
 // Letters that an event gives out.
 
 ghost use Rattle.std.specs.Prelude.{◌≡◌, ◌==◌, ◌≤◌, ◌<◌, ◌+◌, ◌^◌, ℕ, true, is_some, None, Some, OnOk, IfOk, if◌then◌else◌};
-ghost use Rattle.actor_cell.specs.Outs.{letters_of};
+ghost use Rattle.actor_cell.specs.Outs.{decs_to};
 ghost use Rattle.actor_cell.specs.Pushing.{push_all};
 ghost use Rattle.machine_rules.specs.Actors.{push_letter, seat_at};
 ghost use Rattle.actor_table.specs.Slots.{actors_of, away_of, letters_in, places_of, slot_at};
 ghost use Rattle.actor_table.specs.Changes.{KeepsRoom};
-ghost use Rattle.orca_parts.specs.Letters.{FitLetters, counted, letters_to};
+ghost use Rattle.orca_parts.specs.Letters.{FitLetters, count_for, letters_to};
 ghost use Rattle.orca_parts.specs.Woken.{IsLowestWoken, lower_of};
 
 use actor_table::ActorTable;
@@ -18,10 +18,10 @@ use std::collections::BTreeMap;
 // Counts one letter more to the actor, and tells how many they are then.
 #[tactic(auto, using(crate::proofs::Reserving::counted_up))]
 fn count_one(counts: &mut BTreeMap<ActorName, usize>, to: ActorName) -> Result<usize, NoMemory>
-    requires { counted counts.old to + 1 < 2 ^ 64 }
-    ensures is { IfOk result (λ n. n ≡ counted counts.old to + 1) }
-    ensures counted { OnOk result ((b : ℕ) → counted counts.new b
-        ≡ counted counts.old b + (if to == b then 1 else 0)) }
+    requires { count_for counts.old to + 1 < 2 ^ 64 }
+    ensures is { IfOk result (λ n. n ≡ count_for counts.old to + 1) }
+    ensures count_for { OnOk result ((b : ℕ) → count_for counts.new b
+        ≡ count_for counts.old b + (if to == b then 1 else 0)) }
 {
     let n = match counts.get(&to) {
         Some(n) => *n + 1,
@@ -70,14 +70,14 @@ pub(crate) fn reserve_each(
     table: &mut ActorTable,
     groups: &[(ActorName, Amounts)],
 ) -> Result<(), NoMemory>
-    requires { (b : ℕ) → letters_to b (letters_of groups.now) ≤ 1 }
+    requires { (b : ℕ) → letters_to b (decs_to groups.now) ≤ 1 }
     ensures places { places_of table.new.slots ≡ places_of table.old.slots }
     ensures letters { letters_in table.new.slots ≡ letters_in table.old.slots }
     ensures actors { actors_of table.new.slots ≡ actors_of table.old.slots }
     ensures away { away_of table.new.slots ≡ away_of table.old.slots }
     ensures room { KeepsRoom table.old.slots table.new.slots }
     ensures spare { table.new.spare ≡ table.old.spare }
-    ensures ok { OnOk result (FitLetters (letters_of groups.now) table.new.slots) }
+    ensures ok { OnOk result (FitLetters (decs_to groups.now) table.new.slots) }
 {
     for group in groups {
         table.reserve_letters(group.0, 1)?;
@@ -146,9 +146,9 @@ pub(crate) fn push_decs(
     table: &mut ActorTable,
     groups: Vec<(ActorName, Amounts)>,
 ) -> Option<ActorName>
-    requires { FitLetters (letters_of groups.items) table.old.slots }
+    requires { FitLetters (decs_to groups.items) table.old.slots }
     ensures actors { actors_of table.new.slots
-        ≡ push_all (letters_of groups.items) (actors_of table.old.slots) }
+        ≡ push_all (decs_to groups.items) (actors_of table.old.slots) }
     ensures away { away_of table.new.slots ≡ away_of table.old.slots }
     ensures woken { IsLowestWoken (actors_of table.old.slots) (actors_of table.new.slots) result }
 {

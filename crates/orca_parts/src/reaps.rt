@@ -11,7 +11,7 @@ ghost use Rattle.machine_rules.specs.Detect.{empty_seats, reap_decs};
 ghost use Rattle.machine_rules.specs.Next.{next};
 ghost use Rattle.machine_rules.specs.Options.{Options};
 ghost use Rattle.actor_table.specs.Slots.{actors_of, away_of, places_of};
-ghost use Rattle.actor_cell.specs.Outs.{letters_of};
+ghost use Rattle.actor_cell.specs.Outs.{decs_to};
 ghost use Rattle.orca_parts.specs.Away.{KeepsAway};
 ghost use Rattle.orca_parts.specs.Faults.{IsFault};
 ghost use Rattle.orca_parts.specs.Fits.{FitsReap, OnlyRoom, without_all};
@@ -45,7 +45,7 @@ fn letters_outside(
     requires rising { IsStrictlySortedBy nat_cmp members.now }
     requires home { AreHome members.now table.now.slots }
     ensures { IfOk result (λ letters. letters.items
-        ≡ letters_of (reap_decs members.now members.now (actors_of table.now.slots))) }
+        ≡ decs_to (reap_decs members.now members.now (actors_of table.now.slots))) }
 {
     let mut letters = Vec::new(alloc);
     for member in members {
@@ -71,7 +71,7 @@ fn prepare_going(
     ensures places { places_of table.new.slots ≡ places_of table.old.slots }
     ensures members { IfOk result (λ going. going.members.items ≡ members.now) }
     ensures letters { IfOk result (λ going. going.letters.items
-        ≡ letters_of (reap_decs members.now members.now (actors_of table.old.slots))) }
+        ≡ decs_to (reap_decs members.now members.now (actors_of table.old.slots))) }
     ensures fit { IfOk result (λ going. FitLetters going.letters.items table.new.slots) }
 {
     let letters = letters_outside(alloc, table, members)?;

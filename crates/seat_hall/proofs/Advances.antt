@@ -18,7 +18,7 @@ use Rattle.seat_hall.specs.Answers.{Enters}
 use Rattle.seat_hall.specs.Fair.{after_item, start_of}
 use Rattle.seat_hall.specs.Halls.{HallView, says}
 use Rattle.seat_hall.specs.Log.{Logged, after, by, entry_cause, hall_from, items_by}
-use Rattle.seat_hall.specs.Passes.{HasCell, IsAtHall, KeepsCells, KeepsOthers, MayCommit, StandsAt, Token, hall, out, seen}
+use Rattle.seat_hall.specs.Passes.{HasItsCell, IsAtHall, KeepsCells, KeepsOthers, MayCommit, StandsAt, Token, hall, out, seen}
 use Rattle.seat_hall.proofs.Commits.{commit_cells, commit_out}
 use Rattle.seat_hall.proofs.Entries.{stands}
 use Rattle.seat_hall.proofs.Holding.{pass_or}
@@ -130,7 +130,7 @@ own_taking n a true rest is = own_one n (Entered n (Take a)) rest refl is
 own_taking n a false rest is = is
 
 module _ (n a : ℕ) (old mid s t new : Token) (h : HallView) (at : IsAtHall n old mid h) (e : Event) (c : Cell)
-    (its : actor_of e ≡ Some a) (has : HasCell n a c old) (done : Committed) (enters : Enters (Some n) n e done h.logged)
+    (its : actor_of e ≡ Some a) (has : HasItsCell n a c old) (done : Committed) (enters : Enters (Some n) n e done h.logged)
     (wrote : knows s ≡ having_written after_item (Entered n e) (knows mid))
     (took : Bool) (takes : Took n a took (knows s) (knows t))
     (u : HallView) (reckons : Reckons n (knows t) u)

@@ -13,13 +13,13 @@ use Rattle.seat_hall.specs.Answers.{Enters, RefusesEntry}
 use Rattle.seat_hall.specs.Fair.{Follows, IsOwn, after_item}
 use Rattle.seat_hall.specs.Halls.{HallView, says}
 use Rattle.seat_hall.specs.Log.{MayFollow, after}
-use Rattle.seat_hall.specs.Passes.{Calls, HasCell, HasIn, IsAtHall, KeepsOthers, StandsAt, Token, out}
+use Rattle.seat_hall.specs.Passes.{Calls, HasItsCell, HasIn, IsAtHall, KeepsOthers, StandsAt, Token, out}
 use Rattle.seat_hall.proofs.Counts.{out_committed, out_ended}
 use Rattle.seat_hall.proofs.Holding.{pass_or}
 use Rattle.seat_hall.proofs.Turns.{client_then, follows, has_now, out_now, turns_then, writes, wrote_cells, wrote_out, wrote_stands}
 
 module _ (n a : ℕ) (old mid : Token) (h : HallView) (at : IsAtHall n old mid h) (e : Event) (c : Cell)
-    (its : actor_of e ≡ Some a) (has : HasCell n a c old) where
+    (its : actor_of e ≡ Some a) (has : HasItsCell n a c old) where
   mine : HasIn n a c h.logged
   mine = has_now n old mid mid h at a c has
 

@@ -13,7 +13,7 @@ use Rattle.seat_hall.specs.Answers.{IsTaken}
 use Rattle.seat_hall.specs.Fair.{after_item}
 use Rattle.seat_hall.specs.Halls.{HallView}
 use Rattle.seat_hall.specs.Log.{MayFollow, claim_cause, claim_in, claims_in, entry_cause, state_in}
-use Rattle.seat_hall.specs.Passes.{HasCell, IsAtHall, KeepsCells, MayCommit, Token, out}
+use Rattle.seat_hall.specs.Passes.{HasItsCell, IsAtHall, KeepsCells, MayCommit, Token, out}
 use Rattle.seat_hall.proofs.Causes.{event_is_free, none_for}
 use Rattle.seat_hall.proofs.Counts.{out_claimed, out_direct}
 use Rattle.seat_hall.proofs.Holding.{free_for, pass_or}
@@ -59,7 +59,7 @@ module _ (n : ℕ) (old mid : Token) (h : HallView) (at : IsAtHall n old mid h) 
       claim_owns within task is =
           let taken = task.taken in
           let client = client_then n old mid new h at (Claimed n a) refl wrote in record {
-            has = subst (λ (a : ℕ). HasCell n a taken.cell new) (sym is.owner)
+            has = subst (λ (a : ℕ). HasItsCell n a taken.cell new) (sym is.owner)
                 (has_then n old mid new h at (Claimed n a) refl wrote a taken.cell (record {
                   claimed = get_or-set_same h.logged.claims a (Some n) None within;
                   cell = is.cell;

@@ -32,7 +32,7 @@ use Rattle.work_board.specs.declared.answers.Refuse.TheVariants.{Budget}
 use Rattle.hall_rules.specs.Causes.{event_at, spent_cause}
 use Rattle.hall_rules.specs.Halls.{state_after}
 use Rattle.hall_rules.proofs.Leading.{leads_after}
-use Rattle.seat_hall.specs.Halls.{ClaimedAreBusy, IsKept}
+use Rattle.seat_hall.specs.Halls.{ClaimedAreBusy, HallKeeps}
 use Rattle.seat_hall.specs.Log.{claim_in, grown}
 use Rattle.seat_hall.proofs.Busy.{busy_made, busy_of, event_of, none_reaped, others_leave_busy, stands_apart}
 use Rattle.seat_hall.proofs.Claims.{claim_grown, claim_set, claim_unset}
@@ -54,7 +54,7 @@ long_grown n claims low high = by (nat_lt (length claims) n) refl
     by false is = let more : n ≤ length claims = grind (arith, nat_tests) in omega arith
 
 module _ (program : Program) (budget : ℕ) (m : Machine) (book : BookValue) (claims : List (Option ℕ)) (lent : ℕ)
-    (kept : IsKept program budget m book claims lent) where
+    (kept : HallKeeps program budget m book claims lent) where
   -- ---- whose cells are away
 
   pub free_is_home : (a : ℕ) → claim_in claims a ≡ None → is_out m.out a ≡ false
@@ -120,7 +120,7 @@ module _ (program : Program) (budget : ℕ) (m : Machine) (book : BookValue) (cl
   -- with a cell lent
   pub kept_claimed : (n : Machine) (a pass : ℕ) → n.state ≡ m.state → n.steps ≡ m.steps → n.out ≡ set m.out a true
       → is_out n.out a ≡ true → claim_in claims a ≡ None → event_at m.state a ≢ None
-      → IsKept program budget n book (set claims a (Some pass)) (lent + 1)
+      → HallKeeps program budget n book (set claims a (Some pass)) (lent + 1)
   kept_claimed n a pass state steps out lent_is free busy = record {
     state_is = state ∙ kept.state_is;
     run = subst (IsRun program (options_of book.weight book.trace) book.entries) (sym state) kept.run;
@@ -142,7 +142,7 @@ module _ (program : Program) (budget : ℕ) (m : Machine) (book : BookValue) (cl
   }
 
   pub kept_ended : (n : Machine) (a pass : ℕ) → n.state ≡ m.state → n.steps ≡ m.steps → n.out ≡ set m.out a false
-      → claim_in claims a ≡ Some pass → IsKept program budget n book (set claims a None) (lent - 1)
+      → claim_in claims a ≡ Some pass → HallKeeps program budget n book (set claims a None) (lent - 1)
   kept_ended n a pass state steps out mine = record {
     state_is = state ∙ kept.state_is;
     run = subst (IsRun program (options_of book.weight book.trace) book.entries) (sym state) kept.run;
@@ -171,7 +171,7 @@ module _ (program : Program) (budget : ℕ) (m : Machine) (book : BookValue) (cl
     pub kept_entered : (e : Event) → ((a : ℕ) → actor_of e ≡ Some a → claim_in claims a ≡ None)
         → spent_cause (length book.entries) budget ≡ None → next m.state e ≡ Goes n.state → n.steps ≡ m.steps + 1
         → after.entries ≡ book.entries ++ e ∷ []
-        → IsKept program budget n after (grown (length n.state.actors) claims) lent
+        → HallKeeps program budget n after (grown (length n.state.actors) claims) lent
     kept_entered e free room goes steps entry =
         let start : State = first_state program (options_of book.weight book.trace) in
         let more = leads_more book.entries start m.state n.state e kept.run goes in
@@ -204,7 +204,7 @@ module _ (program : Program) (budget : ℕ) (m : Machine) (book : BookValue) (cl
         grows false is none = let was = kept.within in grind (arith, nat_tests)
 
     -- unchanged but for room
-    pub kept_same : IsSame m n → after.entries ≡ book.entries → IsKept program budget n after claims lent
+    pub kept_same : IsSame m n → after.entries ≡ book.entries → HallKeeps program budget n after claims lent
     kept_same same entries = record {
       state_is = same.state ∙ (kept.state_is
           ∙ (λ i. state_after (first_state program (options_of (sym weight i) (sym trace i))) (sym entries i)));

@@ -13,7 +13,7 @@ use Rattle.seat_hall.specs.Answers.{AllAreGiven, GivesNumber}
 use Rattle.seat_hall.specs.Fair.{after_item, gets_other, hall_of, keeps_own, start_of}
 use Rattle.seat_hall.specs.Halls.{HallView}
 use Rattle.seat_hall.specs.Log.{Logged, after, by, claim_in, items_by, most_made}
-use Rattle.seat_hall.specs.Passes.{HasCell, HasIn, IsAtHall, IsPass, KeepsCells, SplitsOff, Token, hall, is_of, out, seen}
+use Rattle.seat_hall.specs.Passes.{HasItsCell, HasIn, IsAtHall, IsPass, KeepsCells, SplitsOff, Token, hall, is_of, out, seen}
 use Rattle.seat_hall.proofs.Keeps.{not_by}
 use Rattle.seat_hall.proofs.Logs.{few_made, hall_append}
 use Rattle.seat_hall.proofs.Turns.{client_still, has_now, out_now, own_still}

@@ -13,7 +13,7 @@ use Rattle.seat_hall.specs.declared.item.Item.TheVariants.{Entered}
 use Rattle.seat_hall.specs.Fair.{Follows, IsOwn, Shown, after_item, hall_of, start_of}
 use Rattle.seat_hall.specs.Halls.{HallView, says}
 use Rattle.seat_hall.specs.Log.{Legal, Logged, MayFollow, after, by, hall_from, items_by}
-use Rattle.seat_hall.specs.Passes.{Calls, HasCell, HasIn, IsAtHall, KeepsCells, StandsAt, Token, hall, is_of, out, seen}
+use Rattle.seat_hall.specs.Passes.{Calls, HasItsCell, HasIn, IsAtHall, KeepsCells, StandsAt, Token, hall, is_of, out, seen}
 use Rattle.seat_hall.proofs.Apart.{legal_first, none_between, weight_of}
 use Rattle.seat_hall.proofs.Keeps.{has_first, one_number, own_client, own_is}
 use Rattle.seat_hall.proofs.Counts.{out_all}
@@ -54,7 +54,7 @@ module _ (pass : ℕ) (old mid new : Token) (h : HallView) (at : IsAtHall pass o
       ∙ (ap (λ xs. items_by pass (seen old) ++ xs) at.whole.others ∙ append-nil (items_by pass (seen old))))
 
   -- and so are its cells
-  still_has : (a : ℕ) (c : Cell) → HasCell pass a c old → HasIn pass a c (hall old (seen mid))
+  still_has : (a : ℕ) (c : Cell) → HasItsCell pass a c old → HasIn pass a c (hall old (seen mid))
   still_has a c has =
       let start : Logged = start_of (knows old).client in
       let here : Logged = hall old (seen old) in
@@ -67,7 +67,7 @@ module _ (pass : ℕ) (old mid new : Token) (h : HallView) (at : IsAtHall pass o
       sym (hall_append start (seen old) rest) ∙ ap (hall_from start) (sym at.whole.saw) in
       subst (HasIn pass a c) same (record { claimed = kept.claimed; cell = kept.cell ∙ has.cell; busy = kept.busy })
 
-  pub has_now : (a : ℕ) (c : Cell) → HasCell pass a c old → HasIn pass a c h.logged
+  pub has_now : (a : ℕ) (c : Cell) → HasItsCell pass a c old → HasIn pass a c h.logged
   has_now a c has = subst (HasIn pass a c) (sym at.shows) (still_has a c has)
 
   pub client_still : (knows mid).client ≡ (knows old).client
@@ -172,11 +172,11 @@ module _ (pass : ℕ) (old mid new : Token) (h : HallView) (at : IsAtHall pass o
         ∙ (sym (hall_append (start_of (knows old).client) (seen mid) (i ∷ []))
         ∙ (λ j. hall_of (sym client_then j) (sym seen_then j)))
 
-    pub has_then : (a : ℕ) (c : Cell) → HasIn pass a c (after h.logged i) → HasCell pass a c new
+    pub has_then : (a : ℕ) (c : Cell) → HasIn pass a c (after h.logged i) → HasItsCell pass a c new
     has_then a c has = subst (HasIn pass a c) hall_then has
 
     -- what it has of other actors it keeps
-    pub wrote_cells : MayFollow h.logged i → (a : ℕ) (c : Cell) → about i ≢ Some a → HasCell pass a c old → HasCell pass a c new
+    pub wrote_cells : MayFollow h.logged i → (a : ℕ) (c : Cell) → about i ≢ Some a → HasItsCell pass a c old → HasItsCell pass a c new
     wrote_cells may a c others has =
         let now = has_now a c has in
         let kept = keeps_about pass a h.logged i others heavy_now run_now may now.claimed now.busy in

@@ -28,7 +28,7 @@ ClaimedAreBusy s claims = (a pass : ℕ) → claim_in claims a ≡ Some pass →
 
 -- what the hall keeps: the book is a run, within the budget, that leads to the machine's state; the
 -- cells that are away are those of the claims; each actor has a place for claims; and how many are out
-pub record IsKept (program : Program) (budget : ℕ) (orca : Machine) (book : BookValue)
+pub record HallKeeps (program : Program) (budget : ℕ) (orca : Machine) (book : BookValue)
     (claims : List (Option ℕ)) (lent : ℕ) : Type 0 where
   pub state_is : orca.state
       ≡ state_after (first_state program (options_of book.weight book.trace)) book.entries
@@ -45,5 +45,5 @@ pub record IsKept (program : Program) (budget : ℕ) (orca : Machine) (book : Bo
 -- no machine that may stand behind the hall has the actor's cell
 abbrev pub LacksCell : ℕ → Logged → Type 0
 LacksCell a l =
-    (orca : Machine) (book : BookValue) (lent : ℕ) → IsKept l.program l.budget orca book l.claims lent
+    (orca : Machine) (book : BookValue) (lent : ℕ) → HallKeeps l.program l.budget orca book l.claims lent
     → is_out orca.out a ≡ true

@@ -80,24 +80,24 @@ pub record HasIn (pass a : ℕ) (c : Cell) (l : Logged) : Type 0 where
   pub busy : event_at (state_in l) a ≢ None
 
 -- as far as the pass has seen, it has the cell
-abbrev pub HasCell : ℕ → ℕ → Cell → Token → Type 0
-HasCell pass a c t = HasIn pass a c (hall t (seen t))
+abbrev pub HasItsCell : ℕ → ℕ → Cell → Token → Type 0
+HasItsCell pass a c t = HasIn pass a c (hall t (seen t))
 
 -- the pass may commit the task: it has the task's cell, in this run
 pub record MayCommit (pass : ℕ) (t : Token) (task : SeatTask) : Type 0 where
-  pub has : HasCell pass task.taken.cell.heap.owner task.taken.cell t
+  pub has : HasItsCell pass task.taken.cell.heap.owner task.taken.cell t
   pub program : task.taken.code.now ≡ (knows t).client.program
   pub weight : task.taken.weight ≡ (knows t).client.weight
   pub trace : task.taken.trace ≡ (knows t).client.trace
 
 -- it keeps its cells
 abbrev pub KeepsCells : ℕ → Token → Token → Type 0
-KeepsCells pass old new = (a : ℕ) (c : Cell) → HasCell pass a c old → HasCell pass a c new
+KeepsCells pass old new = (a : ℕ) (c : Cell) → HasItsCell pass a c old → HasItsCell pass a c new
 
 -- it keeps its other cells
 abbrev pub KeepsOthers : ℕ → ℕ → Token → Token → Type 0
 KeepsOthers pass a old new =
-    (b : ℕ) (c : Cell) → b ≢ a → HasCell pass b c old → HasCell pass b c new
+    (b : ℕ) (c : Cell) → b ≢ a → HasItsCell pass b c old → HasItsCell pass b c new
 
 -- the claim is of this pass
 abbrev pub is_of : ℕ → Option ℕ → Bool

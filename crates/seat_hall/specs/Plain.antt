@@ -6,7 +6,7 @@ use Rattle.work_board.specs.declared.answers.Committed.{Committed}
 use Rattle.work_board.specs.declared.answers.Look.{Look}
 use Rattle.hall_rules.specs.Answers as plain_answers
 use Rattle.hall_rules.specs.Causes as plain_causes
-use Rattle.hall_rules.specs.Halls.{HallValue, state_of}
+use Rattle.hall_rules.specs.Halls.{HallValue, hall_state}
 use Rattle.seat_hall.specs.declared.item.Item.TheVariants.{Entered}
 use Rattle.seat_hall.specs.Answers.{IsEntered, Tells}
 use Rattle.seat_hall.specs.Log.{Logged, after, claim_cause, claims_in, entry_cause, state_in}
@@ -24,7 +24,7 @@ plain l = record {
 -- its state, the causes for which it refuses, what it tells to do, and what its entries do are those of
 -- the plain hall
 pub record IsAsPlain (l : Logged) : Type 0 where
-  pub state : state_in l ≡ state_of (plain l)
+  pub state : state_in l ≡ hall_state (plain l)
   pub claims : (a : ℕ) → claim_cause l a ≡ plain_causes.claim_cause (plain l) a
   pub entries : (asker : Option ℕ) (e : Event)
       → entry_cause l asker e ≡ plain_causes.entry_cause (plain l) asker e

@@ -37,7 +37,7 @@ pub struct Hall<'a> {
 }
 
 impl<'a> Model for Hall<'a> {
-    ghost use Rattle.seat_hall.specs.Halls.{HallView, IsKept};
+    ghost use Rattle.seat_hall.specs.Halls.{HallView, HallKeeps};
 
     ghost Value = { HallView };
 
@@ -55,7 +55,7 @@ impl<'a> Model for Hall<'a> {
       last = h.last;
     } };
 
-    ghost invariant = { λ h. IsKept h.code.now h.budget h.orca h.book h.claims.items h.lent };
+    ghost invariant = { λ h. HallKeeps h.code.now h.budget h.orca h.book h.claims.items h.lent };
 }
 
 /// No actor is set aside: the cells of claimed ones are out.

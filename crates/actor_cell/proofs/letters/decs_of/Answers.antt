@@ -4,7 +4,7 @@ use Rattle.std.proofs.lemmas.Iterator.Adapters.{YieldsList-from_vec}
 use Rattle.std.proofs.lemmas.Iterator.Consumers.{YieldsList-turn, YieldsList-end}
 use Rattle.letter_kinds.specs.Counting.{Amount}
 use Rattle.letter_kinds.specs.declared.letter.Letter.TheVariants.{Dec}
-use Rattle.actor_cell.specs.Outs.{letters_of}
+use Rattle.actor_cell.specs.Outs.{decs_to}
 use Rattle.actor_cell.proofs.letters.decs_of.Goals as goal
 
 pub push_reserved-requires : goal.push_reserved-requires
@@ -34,4 +34,4 @@ returns c =
     let all : vec_len c.args.groups ≡ length groups = omega arith in
     let road = YieldsList-from_vec groups gives.0 (gives.1 ∙ all) in
     let end = YieldsList-end road c.loop-owner.yielded _ c.loop-owner.yielded_by _ c.next.new.self c.in-None.is c.next.ensures.steps in
-    c.from.ensures ∙ c.loop-owner.invariant.letters ∙ ap letters_of (sym (map-id _) ∙ end.0)
+    c.from.ensures ∙ c.loop-owner.invariant.letters ∙ ap decs_to (sym (map-id _) ∙ end.0)

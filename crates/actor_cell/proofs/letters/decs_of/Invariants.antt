@@ -1,10 +1,10 @@
 use Rattle.std.proofs.Common.{◌≡◌, ◌≤◌, length, vec_capacity, vec_len}
-use Rattle.actor_cell.specs.Outs.{letters_of}
+use Rattle.actor_cell.specs.Outs.{decs_to}
 use Rattle.actor_cell.proofs.letters.decs_of.Given as goal
 
 abbrev pub invariant-loop-owner : goal.invariant-loop-owner
 invariant-loop-owner l = record {
-  letters : l.room.items ≡ letters_of l.yielded;
+  letters : l.room.items ≡ decs_to l.yielded;
   count : vec_len l.room ≡ length l.yielded;
   room : length l.fn.groups.items ≤ vec_capacity l.room;
 }

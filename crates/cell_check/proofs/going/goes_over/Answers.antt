@@ -7,7 +7,7 @@ use Rattle.cell_check.proofs.going.goes_over.Goals as goal
 pub go-requires-clause-can : goal.go-requires-clause-can
 go-requires-clause-can c =
     let cell = c.args.cell.now in
-    let turn = c.found_go.new.turn in
-    let found = c.found_go.new.found in
+    let turn = c.find_go.new.turn in
+    let found = c.find_go.new.found in
     can_go Deep 256 c.args.code.now cell.heap.owner (as_cell cell) turn found.place (act_in found)
-    c.in_ok-found_go.ensures.found (c.allows.ensures turn c.if-not-allows.false)
+    c.in_ok-find_go.ensures.found (c.allows.ensures turn c.if-not-allows.false)

@@ -25,8 +25,8 @@ returns-then-known c =
       fault = tt;
     }
 
-pub found_collect-requires : goal.found_collect-requires
-found_collect-requires c =
+pub find_collect-requires : goal.find_collect-requires
+find_collect-requires c =
     let x = slot_at c.args.table.now.slots c.args.a in
     let its = acts_home (Collect c.args.a) x c.in-Some.cell.now c.in-Some.ensures.cell in
     c.requires.others c.in-Some.cell.now (home_is x c.in-Some.cell.now its.0) c.in-Some.ensures.owner

@@ -4,7 +4,7 @@ use Rattle.event_rule.specs.declared.event.Event.TheVariants.{Collect}
 use Rattle.letter_kinds.specs.Counting.{Amount}
 use Rattle.machine_rules.specs.Guards.{may_collect}
 use Rattle.machine_rules.specs.Collect.{collect}
-use Rattle.actor_cell.specs.Outs.{letters_of}
+use Rattle.actor_cell.specs.Outs.{decs_to}
 use Rattle.actor_table.specs.Slots.{away_of, home_in, may_event, slot_at}
 use Rattle.machine_rules.specs.Options.{Options}
 use Rattle.orca_parts.specs.declared.fault.StepFault.{StepFault}
@@ -29,7 +29,7 @@ returns-in-Err-clause-fault c = λ program options. refused c.args.parts.now pro
 pub reserve_each-requires : goal.reserve_each-requires
 reserve_each-requires c = λ b.
     let its = c.in-Ok.ensures.found in
-    subst (λ (gs : List (ℕ × List Amount)). letters_to b (letters_of gs) ≤ 1) (sym c.as_slice-back.ensures)
+    subst (λ (gs : List (ℕ × List Amount)). letters_to b (decs_to gs) ≤ 1) (sym c.as_slice-back.ensures)
     (once_back c.args.trace c.find_collect.new.sweep its.cell its.so.1 b)
 
 pub returns-in-Ok-reserve_each-clause-ok : goal.returns-in-Ok-reserve_each-clause-ok
@@ -40,4 +40,4 @@ returns-in-Ok-reserve_each-clause-ok c =
     fits_collect c.args.a m c.args.parts.now.table.slots does.places does.letters
     c.args.trace c.find_collect.new.sweep its.cell (sym (ap home_in its.home)) its.so.0
     c.in-Ok.ensures.ok its.so.1
-    (subst (λ (gs : List (ℕ × List Amount)). FitLetters (letters_of gs) m.table.slots) c.as_slice-back.ensures (search rules))
+    (subst (λ (gs : List (ℕ × List Amount)). FitLetters (decs_to gs) m.table.slots) c.as_slice-back.ensures (search rules))

@@ -9,8 +9,8 @@ use Rattle.orca_parts.proofs.Founding.{found_few}
 use Rattle.orca_parts.proofs.Homes.{home_place}
 use Rattle.orca_parts.proofs.goes.find_again.Goals as goal
 
-pub found_again-requires : goal.found_again-requires
-found_again-requires c =
+pub find_again-requires : goal.find_again-requires
+find_again-requires c =
     let cell = c.in-Some.cell.now in
     subst (λ me. Awaits c.args.options.trace c.args.code.now me (as_cell cell) c.args.turn.now c.args.found.now c.args.letter) (sym c.in-Some.ensures.owner)
     (c.requires.awaited cell (home_place (slot_at c.args.table.now.slots c.args.a).place cell (sym c.in-Some.ensures.cell)))
@@ -19,7 +19,7 @@ pub returns-in-Ok-clause-few : goal.returns-in-Ok-clause-few
 returns-in-Ok-clause-few c =
     let cell = c.in-Some.cell.now in
     let checked = subst IsChecked c.program-program.ensures.value c.program-program.ensures.kept in
-    found_few c.args.options c.args.code.now cell.heap.owner c.args.turn.now c.found_again.new.found cell checked.good c.in-Ok.ensures.found
+    found_few c.args.options c.args.code.now cell.heap.owner c.args.turn.now c.find_again.new.found cell checked.good c.in-Ok.ensures.found
 
 pub returns-in-Ok-clause-found : goal.returns-in-Ok-clause-found
 returns-in-Ok-clause-found c =
@@ -27,7 +27,7 @@ returns-in-Ok-clause-found c =
     record {
       cell = cell;
       home = home_place (slot_at c.args.table.now.slots c.args.a).place cell (sym c.in-Some.ensures.cell);
-      so = subst (λ me. IsFoundGo c.args.options c.args.code.now me c.args.turn.now c.found_again.new.found cell)
+      so = subst (λ me. IsFoundGo c.args.options c.args.code.now me c.args.turn.now c.find_again.new.found cell)
           c.in-Some.ensures.owner c.in-Ok.ensures.found;
     }
 
@@ -37,6 +37,6 @@ returns-in-Ok-clause-awaited c =
     record {
       cell = cell;
       home = home_place (slot_at c.args.table.now.slots c.args.a).place cell (sym c.in-Some.ensures.cell);
-      so = subst (λ me. IsAwaitedHere c.args.options.trace c.args.code.now me c.args.turn.now c.found_again.new.found cell)
+      so = subst (λ me. IsAwaitedHere c.args.options.trace c.args.code.now me c.args.turn.now c.find_again.new.found cell)
           c.in-Some.ensures.owner c.in-Ok.ensures.awaited;
     }

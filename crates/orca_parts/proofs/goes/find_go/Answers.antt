@@ -11,7 +11,7 @@ returns-in-Ok-clause-found c =
     record {
       cell = cell;
       home = home_place (slot_at c.args.table.now.slots c.args.a).place cell (sym c.in-Some.ensures.cell);
-      so = subst (λ me. IsFoundGo c.args.options c.args.code.now me c.found_go.new.turn c.found_go.new.found cell)
+      so = subst (λ me. IsFoundGo c.args.options c.args.code.now me c.find_go.new.turn c.find_go.new.found cell)
           c.in-Some.ensures.owner c.in-Ok.ensures.found;
     }
 
@@ -21,6 +21,6 @@ returns-in-Ok-clause-awaited c =
     record {
       cell = cell;
       home = home_place (slot_at c.args.table.now.slots c.args.a).place cell (sym c.in-Some.ensures.cell);
-      so = subst (λ me. IsAwaitedHere c.args.options.trace c.args.code.now me c.found_go.new.turn c.found_go.new.found cell)
+      so = subst (λ me. IsAwaitedHere c.args.options.trace c.args.code.now me c.find_go.new.turn c.find_go.new.found cell)
           c.in-Some.ensures.owner c.in-Ok.ensures.awaited;
     }

@@ -1,7 +1,7 @@
 use Rattle.std.proofs.Common.{ap, refl, rules, subst, sym, ◌∙◌}
 use Rattle.std.specs.Vec.Iter.{into_iter_items}
 use Rattle.letter_kinds.specs.declared.letter.Letter.TheVariants.{Dec}
-use Rattle.actor_cell.specs.Outs.{letters_of}
+use Rattle.actor_cell.specs.Outs.{decs_to}
 use Rattle.actor_cell.specs.Pushing.{push_all}
 use Rattle.actor_table.specs.Slots.{actors_of}
 use Rattle.orca_parts.specs.Letters.{FitLetters}
@@ -12,8 +12,8 @@ use Rattle.orca_parts.proofs.letters.push_decs.Goals as goal
 
 pub post-woken-requires : goal.post-woken-requires
 post-woken-requires c =
-    first_fits c.in-Some.group.0 (Dec c.in-Some.group.1) (letters_of (into_iter_items c.next.new.self)) c.loop-group.table.slots
-    (subst (λ gs. FitLetters (letters_of gs) c.loop-group.table.slots) c.in-Some.ensures.steps.0 c.loop-group.invariant.fits)
+    first_fits c.in-Some.group.0 (Dec c.in-Some.group.1) (decs_to (into_iter_items c.next.new.self)) c.loop-group.table.slots
+    (subst (λ gs. FitLetters (decs_to gs) c.loop-group.table.slots) c.in-Some.ensures.steps.0 c.loop-group.invariant.fits)
 
 pub loop-group-init : goal.loop-group-init
 loop-group-init c =
@@ -32,7 +32,7 @@ pub loop-group-preserved : goal.loop-group-preserved
 loop-group-preserved c =
     let to = c.in-Some.group.0 in
     let letter = Dec c.in-Some.group.1 in
-    let rest = letters_of (into_iter_items c.next.new.self) in
+    let rest = decs_to (into_iter_items c.next.new.self) in
     let items = c.in-Some.ensures.steps.0 in
     let before = c.loop-group.table.slots in
     let old = actors_of c.args.table.now.slots in
@@ -45,9 +45,9 @@ loop-group-preserved c =
       next = tt;
       finite = tt;
       fits = rest_fits to letter rest before c.post-woken.new.table.slots
-          (subst (λ gs. FitLetters (letters_of gs) before) items c.loop-group.invariant.fits) does.actors does.room;
+          (subst (λ gs. FitLetters (decs_to gs) before) items c.loop-group.invariant.fits) does.actors does.room;
       actors = ap (push_all rest) does.actors
-          ∙ sym (ap (λ gs. push_all (letters_of gs) (actors_of before)) items) ∙ c.loop-group.invariant.actors;
+          ∙ sym (ap (λ gs. push_all (decs_to gs) (actors_of before)) items) ∙ c.loop-group.invariant.actors;
       away = does.away ∙ c.loop-group.invariant.away;
       grows = grows_then old mid new grows goes;
       woken = subst (IsLowestWoken old new) (sym c.lower-lowest.ensures)

@@ -1,7 +1,7 @@
 use Rattle.std.proofs.Common.{◌+◌, ap, ◌∙◌, drop, arith}
 use Rattle.std.proofs.lemmas.List.{drop_all}
 use Rattle.trace_send.proofs.Steps.{rest_of}
-use Rattle.orca_parts.specs.Letters.{counted, letters_to}
+use Rattle.orca_parts.specs.Letters.{count_for, letters_to}
 use Rattle.orca_parts.proofs.Homes.{same_actors}
 use Rattle.orca_parts.proofs.Reserving.{counted_fits, first_counts, one_fits, to_few}
 use Rattle.orca_parts.proofs.letters.reserve_all.Goals as goal
@@ -32,7 +32,7 @@ loop-letter-preserved c =
       room = λ b. omega (arith, before.room b, does.rest.room b);
       spare = does.rest.spare ∙ before.spare;
       told = λ b. omega (arith, before.told b, ap (letters_to b) rest, c.in_ok-n.ensures.counted b);
-      fits = counted_fits old new actors does.rest.room l.0 c.in_ok-n.n (counted c.loop-letter.counts) (counted c.count_one.new.counts)
+      fits = counted_fits old new actors does.rest.room l.0 c.in_ok-n.n (count_for c.loop-letter.counts) (count_for c.count_one.new.counts)
           before.fits c.in_ok-reserve_letters-2.ensures.ok c.in_ok-n.ensures.is c.in_ok-n.ensures.counted;
     }
 

@@ -2,7 +2,7 @@ use Rattle.std.proofs.Common.{◌≤◌, ◌+◌, ap, subst, ◌∙◌, drop, ar
 use Rattle.letter_kinds.specs.declared.letter.Letter.TheVariants.{Dec}
 use Rattle.std.proofs.lemmas.List.{drop_all}
 use Rattle.trace_send.proofs.Steps.{rest_of}
-use Rattle.actor_cell.specs.Outs.{letters_of}
+use Rattle.actor_cell.specs.Outs.{decs_to}
 use Rattle.actor_table.specs.Slots.{slot_at}
 use Rattle.orca_parts.specs.Letters.{letters_to}
 use Rattle.orca_parts.proofs.Homes.{same_actors}
@@ -25,8 +25,8 @@ loop-group-preserved c =
       rows = does.letters ∙ before.rows;
       room = λ b. omega (arith, before.room b, does.rest.room b);
       spare = does.rest.spare ∙ before.spare;
-      fits = each_fits old new actors does.rest.room g.0 (λ b. letters_to b (letters_of groups)) (Dec g.1) (letters_of (drop (i + 1) groups)) c.requires
-          (λ b there. subst (λ gs. letters_to b (letters_of groups) ≤ (slot_at old b).mail.spare + letters_to b (letters_of gs)) rest (before.fits b there))
+      fits = each_fits old new actors does.rest.room g.0 (λ b. letters_to b (decs_to groups)) (Dec g.1) (decs_to (drop (i + 1) groups)) c.requires
+          (λ b there. subst (λ gs. letters_to b (decs_to groups) ≤ (slot_at old b).mail.spare + letters_to b (decs_to gs)) rest (before.fits b there))
           c.in_ok-reserve_letters.ensures.ok;
     }
 
@@ -36,5 +36,5 @@ returns-clause-ok c = λ b there.
     omega (
       arith,
       c.loop-group.invariant.fits b there,
-      ap (λ gs. letters_to b (letters_of gs)) (drop_all c.loop-group.group-index groups c.loop-group-test.false),
+      ap (λ gs. letters_to b (decs_to gs)) (drop_all c.loop-group.group-index groups c.loop-group-test.false),
     )

@@ -4,7 +4,7 @@ use Rattle.std.specs.List.Sorted.{IsStrictlySortedBy}
 use Rattle.std.specs.Ordering.{nat_cmp}
 use Rattle.detector_tokens.proofs.RisingLemmas.{rest_rises}
 use Rattle.actor_cell.specs.Cells.{as_cell}
-use Rattle.actor_cell.specs.Outs.{left_outside, letters_of}
+use Rattle.actor_cell.specs.Outs.{left_outside, decs_to}
 use Rattle.actor_table.specs.Slots.{slot_at}
 use Rattle.trace_send.proofs.Steps.{rest_of}
 use Rattle.orca_parts.proofs.Homes.{home_is}
@@ -21,7 +21,7 @@ loop-member-preserved c =
     let slots = c.args.table.now.slots in
     let rising = subst (IsStrictlySortedBy nat_cmp) rest c.loop-member.invariant.rising in
     let cell = c.in-Some.cell.now in
-    let its = letters_of (left_outside members (as_cell cell)) in
+    let its = decs_to (left_outside members (as_cell cell)) in
     let sofar = c.loop-member.letters.items in
     record {
       rising = rest_rises m later rising;

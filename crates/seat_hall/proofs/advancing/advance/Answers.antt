@@ -4,7 +4,7 @@ use Rattle.turn_log.specs.Seats.{knows}
 use Rattle.seat_hall.specs.declared.item.Item.TheVariants.{Ended, Entered}
 use Rattle.seat_hall.specs.Fair.{after_item}
 use Rattle.seat_hall.specs.Halls.{HallView}
-use Rattle.seat_hall.specs.Passes.{HasCell, IsAtHall, out}
+use Rattle.seat_hall.specs.Passes.{HasItsCell, IsAtHall, out}
 use Rattle.seat_hall.proofs.Advances.{WentOn, all_turns, went_on}
 use Rattle.seat_hall.proofs.Commits.{commit_cells, commit_client, commit_out, commit_refused, commit_turns, may_end}
 use Rattle.seat_hall.proofs.Turns.{follows, has_now, program_now, trace_now, weight_now}
@@ -68,7 +68,7 @@ returns-in-Ok g c =
     let at = subst (IsAtHall n old mid) is c.turn-hall.ensures.at in
     let taken = c.args.task.taken in let e = taken.event in let a = c.owner-a.result in let same = c.owner-a.ensures in
     let its = taken.its ∙ ap Some (sym same) in
-    let has = subst (λ (b : ℕ). HasCell n b taken.cell old) (sym same) c.requires.may.has in
+    let has = subst (λ (b : ℕ). HasItsCell n b taken.cell old) (sym same) c.requires.may.has in
     let one = c.write_item.new.seat in let two = c.take_on.new.seat in let new = c.claim_on.new.seat in
     let done = c.in-Ok.done in let next = c.claim_on.new.next in
     let wrote = c.write_item.ensures.knows ∙ ap (λ (v : HallView). having_written after_item v.last (knows mid)) c.in-Ok.ensures.entered in

@@ -3,7 +3,7 @@ use Rattle.machine_rules.specs.Collect.{is_marked}
 use Rattle.actor_cell.specs.declared.whole.Out.{Out}
 use Rattle.actor_cell.specs.declared.sweeping.Sweep.{Sweep}
 use Rattle.actor_cell.specs.Cells.{as_cell}
-use Rattle.actor_cell.specs.Outs.{letters_of}
+use Rattle.actor_cell.specs.Outs.{decs_to}
 use Rattle.actor_cell.proofs.Marked.{back_same}
 use Rattle.actor_cell.proofs.cell.Cell.collect.Goals as goal
 
@@ -19,4 +19,4 @@ returns-clause-out c =
     let back = c.into_vec.ensures ∙ ap (λ (found : Sweep). found.plan.back) c.in_ok-found.ensures
     ∙ back_same s.count s.heap s.foreign (is_marked c.args.trace s.heap.owner (as_cell s)) in
     let out : Out → Out = λ o. o in
-    ap out (λ i. record { letters = (c.decs_of.ensures ∙ ap letters_of back) i; notes = c.new.ensures i; print = None; made = None })
+    ap out (λ i. record { letters = (c.decs_of.ensures ∙ ap decs_to back) i; notes = c.new.ensures i; print = None; made = None })

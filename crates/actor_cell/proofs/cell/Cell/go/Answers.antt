@@ -9,11 +9,11 @@ use Rattle.actor_cell.proofs.Telling.{told_gone}
 use Rattle.actor_cell.proofs.cell.Cell.go.Goals as goal
 
 pub returns-clause-gone : goal.returns-clause-gone
-returns-clause-gone c = by c.args.self.now.frame refl c.in_ok-found_go.ensures.found
+returns-clause-gone c = by c.args.self.now.frame refl c.in_ok-find_go.ensures.found
   where
     by : (frame : Option Frame) → c.args.self.now.frame ≡ frame
         → IsSomeAnd frame (IsTold c.args.trace c.args.weight c.args.code.now c.args.self.now.heap.owner (as_cell c.args.self.now)
-        c.found_go.new.turn c.found_go.new.found.place (act_in c.found_go.new.found))
+        c.find_go.new.turn c.find_go.new.found.place (act_in c.find_go.new.found))
         → option_map (λ f. gone_by c.args.self.now.heap.owner (as_cell c.args.self.now) f
         (turned_in c.args.trace c.args.weight c.args.code.now c.args.self.now.heap.owner (as_cell c.args.self.now) f)) frame
         ≡ Some (record { cell = as_cell c.apply_go.new.self; out = c.into_out.result })
@@ -21,9 +21,9 @@ returns-clause-gone c = by c.args.self.now.frame refl c.in_ok-found_go.ensures.f
     by (Some frame) at tells =
         let s = c.args.self.now in
         let me = s.heap.owner in
-        let turn = c.found_go.new.turn in
-        let place = c.found_go.new.found.place in
-        let does = act_in c.found_go.new.found in
+        let turn = c.find_go.new.turn in
+        let place = c.find_go.new.found.place in
+        let does = act_in c.find_go.new.found in
         let kept = c.in_ok-reserve_go.ensures in
         let its : as_cell c.apply_go.new.self ≡ cell_by me (as_cell s) frame turn place does =
         c.apply_go.ensures.cell frame (ap (λ (k : rules.Cell). k.frame) kept.cell ∙ at)

@@ -2,7 +2,7 @@ use Rattle.std.proofs.Common.{◌≡◌, Some, ap, sym, subst, ◌∙◌}
 use Rattle.behaviour_code.specs.WellFormed.{IsWellFormed}
 use Rattle.run_book.specs.Books.{IsWeight}
 use Rattle.orca_core.specs.Machine.{cell_here}
-use Rattle.hall_rules.specs.Halls.{state_of}
+use Rattle.hall_rules.specs.Halls.{hall_state}
 use Rattle.book_hall.proofs.Copying.{copy_can_find}
 use Rattle.hall_rules.proofs.Firsts.{event_of_actor}
 use Rattle.book_hall.proofs.hall.Hall.copy_of.Goals as goal
@@ -18,7 +18,7 @@ invariant_of-result c =
     let can = copy_can_find h.code.now h.budget h.orca h.book c.self.invariant good
     weight c.in-Some.cell.now copy here c.in_ok-copy.ensures.cell in
     record {
-      its = event_of_actor (state_of c.args.self.now) c.args.a c.args.event c.requires.event ∙ ap Some (sym owner);
+      its = event_of_actor (hall_state c.args.self.now) c.args.a c.args.event c.requires.event ∙ ap Some (sym owner);
       serials = can.serials;
       others = can.others;
     }

@@ -3,7 +3,7 @@ use Rattle.std.specs.Option.{option_or}
 use Rattle.machine_rules.specs.Next.{next}
 use Rattle.machine_rules.specs.Options.{Options}
 use Rattle.hall_rules.specs.Causes.{IsRefusal, actor_cause, full_cause, spent_cause, unready_cause}
-use Rattle.hall_rules.specs.Halls.{HallValue, state_of}
+use Rattle.hall_rules.specs.Halls.{HallValue, hall_state}
 use Rattle.book_hall.proofs.Entries.{entered}
 use Rattle.book_hall.proofs.Keeping.{home_for, kept_on, kept_run, reaps_at_home}
 use Rattle.hall_rules.proofs.Refusing.{late_is, or_none}
@@ -13,11 +13,11 @@ pub enter-requires-clause-ready : goal.enter-requires-clause-ready
 enter-requires-clause-ready c =
     let h = c.args.self.now in
     let e = c.args.e in
-    let state : c.self.inside.orca.state ≡ state_of h = c.self.invariant.state_is ∙ ap state_of c.self.view_is in
-    let none = or_none (actor_cause (state_of h) h.claims c.args.asker e)
-    (option_or (unready_cause (next (state_of h) e)) (spent_cause (length h.book) h.budget)) (sym c.in_default.ensures) in
+    let state : c.self.inside.orca.state ≡ hall_state h = c.self.invariant.state_is ∙ ap hall_state c.self.view_is in
+    let none = or_none (actor_cause (hall_state h) h.claims c.args.asker e)
+    (option_or (unready_cause (next (hall_state h) e)) (spent_cause (length h.book) h.budget)) (sym c.in_default.ensures) in
     ap (λ s. unready_cause (next s e)) state
-    ∙ (or_none (unready_cause (next (state_of h) e)) (spent_cause (length h.book) h.budget) none.1).0
+    ∙ (or_none (unready_cause (next (hall_state h) e)) (spent_cause (length h.book) h.budget) none.1).0
 
 pub fitting-found-requires-clause-own : goal.fitting-found-requires-clause-own
 fitting-found-requires-clause-own c =
@@ -49,10 +49,10 @@ invariant_of-self c =
     let e = c.args.e in
     let old = c.self.inside in
     let done = c.enter.ensures in
-    let none = or_none (actor_cause (state_of h) h.claims c.args.asker e)
-    (option_or (unready_cause (next (state_of h) e)) (spent_cause (length h.book) h.budget)) (sym c.in_default.ensures) in
+    let none = or_none (actor_cause (hall_state h) h.claims c.args.asker e)
+    (option_or (unready_cause (next (hall_state h) e)) (spent_cause (length h.book) h.budget)) (sym c.in_default.ensures) in
     let room = ap (λ (v : HallValue). spent_cause (length v.book) v.budget) c.self.view_is
-    ∙ (or_none (unready_cause (next (state_of h) e)) (spent_cause (length h.book) h.budget) none.1).1 in
+    ∙ (or_none (unready_cause (next (hall_state h) e)) (spent_cause (length h.book) h.budget) none.1).1 in
     kept_on old.code.now old.budget old.orca c.enter.new.orca old.book c.enter.new.book c.self.invariant
     done.book.0 done.book.1 (λ a. done.away a ∙ c.self.invariant.home a) e c.enter.result room done.goes done.steps done.entry done.same done.same_book
 
@@ -67,9 +67,9 @@ pub returns-clause-refused : goal.returns-clause-refused
 returns-clause-refused c =
     let h = c.args.self.now in
     let e = c.args.e in
-    let state : c.self.inside.orca.state ≡ state_of h = c.self.invariant.state_is ∙ ap state_of c.self.view_is in
-    let last = full_cause (next (state_of h) e) e in
-    let late = late_is (actor_cause (state_of h) h.claims c.args.asker e) (unready_cause (next (state_of h) e))
+    let state : c.self.inside.orca.state ≡ hall_state h = c.self.invariant.state_is ∙ ap hall_state c.self.view_is in
+    let last = full_cause (next (hall_state h) e) e in
+    let late = late_is (actor_cause (hall_state h) h.claims c.args.asker e) (unready_cause (next (hall_state h) e))
     (spent_cause (length h.book) h.budget) last (sym c.in_default.ensures) in
     subst (λ cause. IfErr c.enter.result (IsRefusal cause)) (ap (λ s. full_cause (next s e) e) state ∙ sym late)
     c.enter.ensures.refused

@@ -5,7 +5,7 @@ use Rattle.machine_rules.specs.State.{State}
 use Rattle.orca_core.specs.Firsts.{HasFirst, is_free, next_of_kind}
 use Rattle.hall_rules.specs.Claims.{is_claimed}
 use Rattle.hall_rules.specs.Answers.{is_over}
-use Rattle.hall_rules.specs.Halls.{HallValue, state_of}
+use Rattle.hall_rules.specs.Halls.{HallValue, hall_state}
 use Rattle.hall_rules.proofs.Firsts.{same_kind}
 use Rattle.book_hall.proofs.hall.Hall.look.Goals as goal
 
@@ -19,5 +19,5 @@ returns-in-Some c =
     let goes_on : (h.stopped || length h.book.entries == h.budget) ≡ false =
     grind (arith, nat_tests, c.if-self.false, c.if-len-self.false, c.len.ensures) in
     subst (λ (v : HallValue). (is_over v ≡ false)
-    × HasFirst (next_of_kind (is_free (is_claimed v.claims)) []) (state_of v) c.in-Some.a)
+    × HasFirst (next_of_kind (is_free (is_claimed v.claims)) []) (hall_state v) c.in-Some.a)
     c.self.view_is (goes_on, here)

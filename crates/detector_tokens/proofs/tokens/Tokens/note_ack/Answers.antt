@@ -10,7 +10,7 @@ use Rattle.detector_tokens.proofs.tokens.Tokens.note_ack.Goals as goal
 pub invariant_of-self : goal.invariant_of-self
 invariant_of-self c =
     let at : IsNumberedAt c.self.inside.open.items c.args.number c.in-Some.i = subst (λ ts. IsNumberedAt ts c.args.number c.in-Some.i) c.deref.ensures.value c.in-Some.ensures.some in
-    rw c.lower_of.ensures (acked_index c.self.inside.open.items (slice_get c.self.inside.told) c.self.inside.ready c.args.number c.args.actor c.in-Some.i c.index_mut-token.result.now c.note_ack.new.self
+    rw c.lower_with.ensures (acked_index c.self.inside.open.items (slice_get c.self.inside.told) c.self.inside.ready c.args.number c.args.actor c.in-Some.i c.index_mut-token.result.now c.note_ack.new.self
     c.self.invariant at c.index_mut-token.ensures.value c.note_ack.ensures (sym c.is_acked.ensures ∙ c.if-is_acked.true))
 
 pub invariant_of-self-else-is_acked : goal.invariant_of-self-else-is_acked

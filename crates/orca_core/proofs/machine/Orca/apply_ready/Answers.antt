@@ -1,7 +1,6 @@
 use Rattle.std.proofs.Common.{subst}
 use Rattle.actor_table.specs.Slots.{actors_of}
 use Rattle.orca_core.specs.Machine.{Machine}
-use Rattle.orca_parts.specs.Ready.{event_of}
 use Rattle.orca_parts.specs.Woken.{IsLowestWoken}
 use Rattle.orca_core.proofs.Reached.{can_step, early_still, reached_more}
 use Rattle.orca_core.proofs.machine.Orca.apply_ready.Goals as goal
@@ -9,14 +8,14 @@ use Rattle.orca_core.proofs.machine.Orca.apply_ready.Goals as goal
 pub apply-woken-requires-clause-can : goal.apply-woken-requires-clause-can
 apply-woken-requires-clause-can c =
     let m = c.self.inside in
-    can_step m.core m.steps c.self.invariant.reached (early_still m.core m.steps c.args.self.now c.self.view_is c.requires.early) (event_of c.args.ready)
+    can_step m.core m.steps c.self.invariant.reached (early_still m.core m.steps c.args.self.now c.self.view_is c.requires.early) c.args.ready.event
 
 pub invariant_of-self : goal.invariant_of-self
 invariant_of-self c =
     let m = c.self.inside in
     let does = c.apply-woken.ensures in
     record {
-      reached = reached_more m.core m.steps c.apply-woken.new.m (event_of c.args.ready) does.alike c.self.invariant.reached
+      reached = reached_more m.core m.steps c.apply-woken.new.m c.args.ready.event does.alike c.self.invariant.reached
           (early_still m.core m.steps c.args.self.now c.self.view_is c.requires.early) does.state;
       stands = does.stands;
     }

@@ -10,7 +10,7 @@ use Rattle.hall_rules.specs.Causes.{spent_cause, unready_cause}
 use Rattle.hall_rules.specs.Halls.{state_after}
 use Rattle.seat_hall.specs.declared.item.Item.TheVariants.{Entered}
 use Rattle.seat_hall.specs.Answers.{IsFoundOf}
-use Rattle.seat_hall.specs.Halls.{HallView, IsKept, says}
+use Rattle.seat_hall.specs.Halls.{HallView, HallKeeps, says}
 use Rattle.seat_hall.specs.Log.{claim_in, grown, state_in}
 use Rattle.seat_hall.proofs.Entered.{enters, has_room, is_ready, its_actor_is_free, late_refusal, says_entered}
 use Rattle.seat_hall.proofs.Kept.{event_is_home, kept_entered, kept_same, machine_run, reaps_none_away}
@@ -55,7 +55,7 @@ pub invariant_of-self-in_err-done : goal.invariant_of-self-in_err-done
 invariant_of-self-in_err-done c =
     let s = c.self.inside in
     let done = c.in_err-done.ensures in
-    subst (λ claims. IsKept s.code.now s.budget c.enter.new.orca c.enter.new.book claims s.lent)
+    subst (λ claims. HallKeeps s.code.now s.budget c.enter.new.orca c.enter.new.book claims s.lent)
     (sym c.reserve.ensures.items)
     (kept_same s.code.now s.budget s.orca s.book s.claims.items s.lent c.self.invariant c.enter.new.orca c.enter.new.book
     done.book.0 done.book.1 done.away done.same done.same_book)
@@ -73,7 +73,7 @@ invariant_of-self-2 c =
     let l = c.args.self.now.logged in
     let grew : c.grow.new.claims.items ≡ grown (length c.enter.new.orca.state.actors) s.claims.items =
     c.grow.ensures ∙ (λ i. grown (c.made.ensures i) (c.reserve.ensures.items i)) in
-    subst (λ claims. IsKept s.code.now s.budget c.enter.new.orca c.enter.new.book claims s.lent) (sym grew)
+    subst (λ claims. HallKeeps s.code.now s.budget c.enter.new.orca c.enter.new.book claims s.lent) (sym grew)
     (kept_entered s.code.now s.budget s.orca s.book s.claims.items s.lent c.self.invariant c.enter.new.orca c.enter.new.book
     done.book.0 done.book.1 done.away c.args.e
     (λ a acts. ap (λ (h : HallView). claim_in h.logged.claims a) c.self.view_is

@@ -7,7 +7,7 @@ use Rattle.orca_parts.specs.Parts.{options_of}
 use Rattle.actor_cell.specs.Cells.{as_cell}
 use Rattle.hall_rules.specs.Causes.{event_at}
 use Rattle.hall_rules.proofs.Firsts.{event_of_actor}
-use Rattle.seat_hall.specs.Halls.{HallView, IsKept}
+use Rattle.seat_hall.specs.Halls.{HallView, HallKeeps}
 use Rattle.seat_hall.specs.Log.{claim_in, state_in}
 use Rattle.seat_hall.proofs.Busy.{IsBusy, busy_of}
 use Rattle.seat_hall.proofs.Founds.{can_find}
@@ -23,7 +23,7 @@ invariant_of-self c =
     let event : event_at s.orca.state c.args.a ≡ Some c.args.event =
     ap (λ m. event_at m c.args.a) (c.self.invariant.state_is ∙ ap (λ (h : HallView). state_in h.logged) c.self.view_is) ∙ c.requires.event in
     let busy : event_at s.orca.state c.args.a ≢ None = λ none. (let clash : None ≡ Some c.args.event = sym none ∙ event in cc) in
-    subst (λ (a : ℕ). IsKept s.code.now s.budget c.lift.new.self s.book (set s.claims.items a (Some c.args.pass)) (s.lent + 1))
+    subst (λ (a : ℕ). HallKeeps s.code.now s.budget c.lift.new.self s.book (set s.claims.items a (Some c.args.pass)) (s.lent + 1))
     (sym c.a.view_is)
     (kept_claimed s.code.now s.budget s.orca s.book s.claims.items s.lent c.self.invariant c.lift.new.self c.args.a c.args.pass
     lent.state lent.steps lent.out lent.lent free busy)

@@ -9,7 +9,7 @@ use Rattle.row_table.specs.Table.{as_held}
 use Rattle.root_trace.specs.Own.{roots_in}
 use Rattle.actor_cell.specs.Cells.{as_cell}
 use Rattle.actor_cell.proofs.Brought.{in_use_is}
-use Rattle.actor_cell.proofs.cell.Cell.found_roots.Goals as goal
+use Rattle.actor_cell.proofs.cell.Cell.find_roots.Goals as goal
 
 pub plan_in_use-requires : goal.plan_in_use-requires
 plan_in_use-requires c = subst (HoldsOthersOnly c.args.self.now.heap) (sym c.held.ensures) c.requires.1

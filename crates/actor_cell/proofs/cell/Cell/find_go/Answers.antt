@@ -12,7 +12,7 @@ use Rattle.actor_cell.specs.Goes.{FitsRegister, IsTold, having_made, told, turne
 use Rattle.actor_cell.specs.Moves.{Mint, Rest, act_in}
 use Rattle.actor_cell.proofs.Telling.{moves_told, rest_told}
 use Rattle.actor_cell.proofs.Registers.{segment_fits}
-use Rattle.actor_cell.proofs.cell.Cell.found_go.Goals as goal
+use Rattle.actor_cell.proofs.cell.Cell.find_go.Goals as goal
 
 pub move_of-requires : goal.move_of-requires
 move_of-requires c =

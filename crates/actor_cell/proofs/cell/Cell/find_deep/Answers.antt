@@ -4,7 +4,7 @@ use Rattle.orca_names.specs.Names.{is_thing}
 use Rattle.local_sweep.specs.Plan.{plan_of}
 use Rattle.machine_rules.specs.Collect.{is_marked_deep}
 use Rattle.actor_cell.proofs.Marked.{marks_same}
-use Rattle.actor_cell.proofs.cell.Cell.found_deep.Goals as goal
+use Rattle.actor_cell.proofs.cell.Cell.find_deep.Goals as goal
 
 pub returns : goal.returns
 unfolding is_marked_deep
