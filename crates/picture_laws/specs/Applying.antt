@@ -79,12 +79,14 @@ is_note line = bytes_eq (word_at line 0) (codes "note")
 
 -- ---- numbers of 64 bits, which words tell apart
 
+-- the number of the part is one of these
 abbrev pub PartFits : Part → Type 0
 PartFits (AnActor a) = a < 2 ^ 64
 PartFits TheDetector = ⊤
 PartFits (AReport a) = a < 2 ^ 64
 PartFits (AToken n) = n < 2 ^ 64
 
+-- so are the numbers of all actors, reports and tokens
 pub record NumbersFit (s : State) : Type 0 where
   pub actors : length s.actors ≤ 2 ^ 64
   pub reports : above (reporters s.detector) ≤ 2 ^ 64
