@@ -103,6 +103,7 @@ impl Cell {
     }
 
     /// Does what was found of its turn. It takes no memory.
+    #[inline(always)]
     pub fn apply_go(&mut self, turn: &Turn, found: &Turned)
         requires running { IsSome self.old.frame }
         requires can { let me = self.old.heap.owner in

@@ -75,6 +75,7 @@ impl Cell {
 
     /// The actor that the last turn made gets its name: it stands in the register, and is held with
     /// the weight. It takes no memory.
+    #[inline(always)]
     pub fn settle_new(&mut self, register: u8, name: ActorName, weight: u32)
         requires running { IsSome self.old.frame }
         requires room { m.get self.old.foreign.entries (actor_thing name) ≡ None

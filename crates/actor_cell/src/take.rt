@@ -65,6 +65,7 @@ impl Cell {
     }
 
     /// The idle actor takes the letter. It takes no memory.
+    #[inline(always)]
     pub fn apply_take(&mut self, code: &Checked, letter: &Letter)
         requires idle { self.old.frame ≡ None }
         requires can { CanTake self.old.heap.owner letter.now (as_cell self.old).holdings }

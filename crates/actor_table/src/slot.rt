@@ -252,6 +252,7 @@ pub(crate) fn note_on(slot: &Slot) -> Option<Note>
 }
 
 /// The idle actor takes the first of its letters.
+#[inline(always)]
 fn take_first(code: &Checked, cell: &mut Cell, mail: &mut MailRow)
     requires { CanTakeFirst cell.old.heap.owner mail.old.letters cell.old }
     ensures seat { let me = cell.old.heap.owner in seat (as_cell cell.new) mail.new.letters
@@ -267,6 +268,7 @@ fn take_first(code: &Checked, cell: &mut Cell, mail: &mut MailRow)
 }
 
 /// The actor's turn is done as it was found, and an actor that it makes has its name.
+#[inline(always)]
 fn go_on(cell: &mut Cell, turn: &Turn, found: &Turned, name: ActorName, weight: u32)
     requires { CanGoOn cell.old.heap.owner weight name turn.now (act_in found.now) cell.old }
     ensures cell { let me = cell.old.heap.owner in let act = act_in found.now in as_cell cell.new

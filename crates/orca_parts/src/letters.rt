@@ -20,7 +20,7 @@ use std::collections::BTreeMap;
 fn count_one(counts: &mut BTreeMap<ActorName, usize>, to: ActorName) -> Result<usize, NoMemory>
     requires { count_for counts.old to + 1 < 2 ^ 64 }
     ensures is { IfOk result (λ n. n ≡ count_for counts.old to + 1) }
-    ensures count_for { OnOk result ((b : ℕ) → count_for counts.new b
+    ensures counted { OnOk result ((b : ℕ) → count_for counts.new b
         ≡ count_for counts.old b + (if to == b then 1 else 0)) }
 {
     let n = match counts.get(&to) {

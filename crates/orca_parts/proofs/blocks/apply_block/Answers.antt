@@ -1,3 +1,4 @@
+use Rattle.std.proofs.Common.{true}
 use Rattle.machine_rules.specs.Cell.{Cell}
 use Rattle.actor_table.specs.Slots.{actors_of}
 use Rattle.orca_parts.proofs.Waking.{none_woken_by}
