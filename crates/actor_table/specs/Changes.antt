@@ -84,7 +84,7 @@ pub record HasCell (x : Slot) (Q : Cell → Type 0) : Type 0 where
   pub so : Q cell
 
 -- it is idle and has a letter, its counts allow what the letter does, and there is room for it
-pub record CanTakeFirst (a : ℕ) (letters : List Letter) (c : Cell) : Type 0 where
+pub record CanTakeHere (a : ℕ) (letters : List Letter) (c : Cell) : Type 0 where
   pub letter : Letter
   pub later : List Letter
   pub first : letters ≡ letter ∷ later
@@ -104,7 +104,7 @@ pub record CanGoOn (a weight name : ℕ) (turn : Turn) (act : Move) (c : Cell) :
 
 -- the change is allowed with this cell and these letters
 abbrev pub AllowsChange : ℕ → Change → List Letter → Cell → Type 0
-AllowsChange a Take letters c = CanTakeFirst a letters c
+AllowsChange a Take letters c = CanTakeHere a letters c
 AllowsChange a (Go turn found name weight) letters c =
     CanGoOn a weight name turn.now (act_in found.now) c
 AllowsChange a (Collect found trace) letters c = found.now ≡ sweep_of trace c

@@ -6,7 +6,7 @@ ghost use Rattle.machine_rules.specs.Actors.{seat, with_letter_more};
 ghost use Rattle.machine_rules.specs.Guards.{may_block, may_do, may_go};
 ghost use Rattle.actor_cell.specs.Cells.{as_cell};
 ghost use Rattle.actor_cell.specs.Moves.{act_in};
-ghost use Rattle.actor_table.specs.Changes.{CanChange, CanGoOn, CanTakeFirst, HasRoomToChange, KeepsPlace, moved, named, note_taken, seat_after, taken};
+ghost use Rattle.actor_table.specs.Changes.{CanChange, CanGoOn, CanTakeHere, HasRoomToChange, KeepsPlace, moved, named, note_taken, seat_after, taken};
 ghost use Rattle.actor_table.specs.declared.slot.Place.TheVariants.{Home};
 ghost use Rattle.actor_table.specs.Slots.{can_act, can_settle, event_in, event_of, home_of, is_away, mail_of, may_at, may_event, seat_of, IsOwnedBy};
 
@@ -254,7 +254,7 @@ pub(crate) fn note_on(slot: &Slot) -> Option<Note>
 /// The idle actor takes the first of its letters.
 #[inline(always)]
 fn take_first(code: &Checked, cell: &mut Cell, mail: &mut MailRow)
-    requires { CanTakeFirst cell.old.heap.owner mail.old.letters cell.old }
+    requires { CanTakeHere cell.old.heap.owner mail.old.letters cell.old }
     ensures seat { let me = cell.old.heap.owner in seat (as_cell cell.new) mail.new.letters
         ≡ taken code.now me (seat (as_cell cell.old) mail.old.letters) }
     ensures owner { cell.new.heap.owner ≡ cell.old.heap.owner }

@@ -20,7 +20,7 @@ use Rattle.orca_core.specs.Machine.{IsReached, IsSame, Machine, ReapsNoneAway}
 use Rattle.orca_parts.specs.declared.insides.Core.{Core}
 use Rattle.machine_rules.specs.Detect.{acked_token}
 use Rattle.orca_parts.specs.Away.{is_out, next_without}
-use Rattle.orca_parts.specs.Core.{IsAlike, KeepsCore, next_in, state_in}
+use Rattle.orca_parts.specs.Core.{IsAlike, KeepsCore, next_in, core_state}
 use Rattle.orca_parts.specs.Parts.{state_of}
 use Rattle.orca_parts.specs.Steps.{CanStep, ReapsAtHome}
 use Rattle.orca_parts.specs.declared.parts.Parts.{Parts}
@@ -35,7 +35,7 @@ leads_more [] s t u e same goes = (u, subst (λ v. next v e ≡ Goes u) (sym sam
 leads_more (f ∷ book) s t u e first goes = (first.0, first.1, leads_more book first.0 t u e first.2 goes)
 
 -- what is alike has the same program and choices
-alike_state : (m after : Core) → IsAlike m after → state_in after ≡ state_of m.code.now m.options after.parts
+alike_state : (m after : Core) → IsAlike m after → core_state after ≡ state_of m.code.now m.options after.parts
 alike_state m after alike = λ i. state_of (alike.code i).now (alike.options i) after.parts
 
 -- one after the other
@@ -56,7 +56,7 @@ module _ (m : Core) (steps : ℕ) where
   parts = m.parts
 
   abbrev s : State
-  s = state_in m
+  s = core_state m
 
   abbrev machine : Machine
   machine = record { state = s; steps = steps; out = away_of parts.table.slots; kept = parts }
@@ -65,20 +65,20 @@ module _ (m : Core) (steps : ℕ) where
   pub early_still : (seen : Machine) → machine ≡ seen → seen.steps < BOOK_LIMIT → steps < BOOK_LIMIT
   early_still seen is early = omega (arith, ap (λ (x : Machine). x.steps) is, early)
 
-  same_state : (after : Core) → KeepsCore m after → state_in after ≡ s
+  same_state : (after : Core) → KeepsCore m after → core_state after ≡ s
   same_state after same = alike_state m after same.alike ∙ same.room.state program options
 
   -- where there is more room alone, it is reached still, and the same
-  pub reached_still : (after : Core) → KeepsCore m after → IsReached s steps → IsReached (state_in after) steps
+  pub reached_still : (after : Core) → KeepsCore m after → IsReached s steps → IsReached (core_state after) steps
   reached_still after same = subst (λ t. IsReached t steps) (sym (same_state after same))
 
   pub same_still : (after : Core) → KeepsCore m after
-      → IsSame machine (record { state = state_in after; steps = steps; out = away_of after.parts.table.slots; kept = after.parts })
+      → IsSame machine (record { state = core_state after; steps = steps; out = away_of after.parts.table.slots; kept = after.parts })
   same_still after same = record { state = same_state after same; steps = refl; out = same.room.away }
 
   -- whom a reap reaps is at home still
   pub reaps_still : (after : Core) → KeepsCore m after → (e : Event) → ReapsNoneAway e machine
-      → ReapsNoneAway e (record { state = state_in after; steps = steps; out = away_of after.parts.table.slots; kept = after.parts })
+      → ReapsNoneAway e (record { state = core_state after; steps = steps; out = away_of after.parts.table.slots; kept = after.parts })
   reaps_still after same (Reap number) none = λ t a acked member.
       subst (λ away. is_out away a ≡ false) (sym same.room.away)
       (none t a (ap (λ (x : State). acked_token number x.detector) (sym (same_state after same)) ∙ acked) member)
@@ -91,7 +91,7 @@ module _ (m : Core) (steps : ℕ) where
       λ i. next_without ((same.room.away ∙ ap (λ (x : Machine). x.out) is) i) ((same_state after same ∙ ap (λ (x : Machine). x.state) is) i) e
 
   pub reached_more : (after : Core) (e : Event) → IsAlike m after → IsReached s steps → steps < BOOK_LIMIT
-      → next s e ≡ Goes (state_in after) → IsReached (state_in after) (steps + 1)
+      → next s e ≡ Goes (core_state after) → IsReached (core_state after) (steps + 1)
   reached_more after e alike reached early goes =
       let t = state_of program options after.parts in
       let is = alike_state m after alike in

@@ -15,7 +15,7 @@ use Rattle.actor_cell.specs.declared.found.Found.{Found}
 use Rattle.orca_parts.specs.Away.{is_out}
 use Rattle.orca_parts.specs.Founds.{IsFoundFor}
 use Rattle.orca_parts.specs.declared.insides.Core.{Core}
-use Rattle.orca_parts.specs.Core.{StandsWell, state_in}
+use Rattle.orca_parts.specs.Core.{StandsWell, core_state}
 use Rattle.orca_parts.specs.Ready.{FitsReady}
 use Rattle.orca_parts.specs.declared.parts.Parts.{Parts}
 use Rattle.orca_parts.specs.declared.ready.Ready.{Ready}
@@ -40,7 +40,7 @@ pub record IsReached (state : State) (steps : ℕ) : Type 0 where
 
 -- it is reached, and what was found last awaits a letter still, where it stands
 pub record IsKept (m : Core) (steps : ℕ) : Type 0 where
-  pub reached : IsReached (state_in m) steps
+  pub reached : IsReached (core_state m) steps
   pub stands : StandsWell m
 
 -- nothing but room is another

@@ -41,7 +41,7 @@ impl<'a> Model for Orca<'a> {
     ghost use Rattle.std.specs.Coded.{codes};
     ghost use Rattle.actor_table.specs.Codes.{coded_entries, coded_known, coded_own};
     ghost use Rattle.orca_core.specs.Machine as machine;
-    ghost use Rattle.orca_parts.specs.Core.{state_in};
+    ghost use Rattle.orca_parts.specs.Core.{core_state};
     ghost use Rattle.actor_table.specs.Slots.{away_of};
 
     ghost Value = { machine.Machine };
@@ -49,7 +49,7 @@ impl<'a> Model for Orca<'a> {
     ghost coded = { Prim.hlevel (codes, coded_own, coded_entries, coded_known) };
 
     ghost view = { λ m. record {
-      state = state_in m.core;
+      state = core_state m.core;
       steps = m.steps;
       out = away_of m.core.parts.table.slots;
       kept = m.core.parts;

@@ -16,7 +16,7 @@ use Rattle.actor_cell.specs.Goes.{CanMove, turned_in}
 use Rattle.actor_cell.proofs.Telling.{told_can}
 use Rattle.actor_table.specs.declared.slot.Place.{Place}
 use Rattle.actor_table.specs.declared.slot.Place.TheVariants.{Home}
-use Rattle.actor_table.specs.Changes.{CanTakeFirst, HasCell}
+use Rattle.actor_table.specs.Changes.{CanTakeHere, HasCell}
 use Rattle.actor_table.specs.Slots.{actors_of, seat_of, slot_at}
 use Rattle.orca_parts.specs.declared.parts.Parts.{Parts}
 use Rattle.orca_parts.specs.Fits.{FitsTake}
@@ -28,7 +28,7 @@ same_cell : (place : Place) (c d : Cell) → place ≡ Home c → place ≡ Home
 same_cell place c d one two = let z : Home c ≡ Home d = sym one ∙ two in cc
 
 pub can_take : (a : ℕ) (m : Parts) → FitsTake a m → AllowsTake a (actors_of m.table.slots)
-    → HasCell (slot_at m.table.slots a) (CanTakeFirst a (slot_at m.table.slots a).mail.letters)
+    → HasCell (slot_at m.table.slots a) (CanTakeHere a (slot_at m.table.slots a).mail.letters)
 can_take a m fits allow = record {
   cell = fits.cell;
   home = fits.home;

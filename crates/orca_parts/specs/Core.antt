@@ -13,12 +13,12 @@ use Rattle.orca_parts.specs.Goes.{IsKnownGo}
 use Rattle.orca_parts.specs.Parts.{state_of}
 
 -- its state
-abbrev pub state_in : Core → State
-state_in m = state_of m.code.now m.options m.parts
+abbrev pub core_state : Core → State
+core_state m = state_of m.code.now m.options m.parts
 
 -- what an event leads to while cells are away
 abbrev pub next_in : Core → Event → Step State
-next_in m e = next_without (away_of m.parts.table.slots) (state_in m) e
+next_in m e = next_without (away_of m.parts.table.slots) (core_state m) e
 
 -- what was found last awaits its letter still, where it stands
 abbrev pub StandsWell : Core → Type 0
@@ -36,8 +36,8 @@ pub record KeepsCore (old new : Core) : Type 0 where
 
 -- what the event's actor does stands there: its turn, where it has a frame; its sweep, where it has none
 -- and is dirty; of other events nothing
-abbrev pub IsKnown : Event → Core → Type 0
-IsKnown (Go a) m = IsKnownGo m.options m.code.now m.parts.turn m.parts.turned
+abbrev pub HasFound : Event → Core → Type 0
+HasFound (Go a) m = IsKnownGo m.options m.code.now m.parts.turn m.parts.turned
     (slot_at m.parts.table.slots a)
-IsKnown (Collect a) m = IsKnownSweep m.options.trace m.parts.sweep (slot_at m.parts.table.slots a)
-IsKnown e m = ⊤
+HasFound (Collect a) m = IsKnownSweep m.options.trace m.parts.sweep (slot_at m.parts.table.slots a)
+HasFound e m = ⊤

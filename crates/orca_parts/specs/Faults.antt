@@ -7,10 +7,10 @@ use Rattle.orca_parts.specs.declared.fault.StepFault.{StepFault}
 use Rattle.orca_parts.specs.declared.fault.StepFault.TheVariants as faults
 
 -- it is refused where it may not be, or memory was
-abbrev pub IsRefusal : Bool → StepFault → Type 0
-IsRefusal may faults.NotEnabled = may ≡ false
-IsRefusal may (faults.ActorsFull a) = ⊥
-IsRefusal may faults.NoMemory = ⊤
+abbrev pub RefusedBy : Bool → StepFault → Type 0
+RefusedBy may faults.NotEnabled = may ≡ false
+RefusedBy may (faults.ActorsFull a) = ⊥
+RefusedBy may faults.NoMemory = ⊤
 
 -- the fault says what the event leads to; want of memory says nothing
 abbrev pub IsFault : {S : Type 0} → Step S → Event → StepFault → Type 0

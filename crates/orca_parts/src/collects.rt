@@ -12,7 +12,7 @@ ghost use Rattle.actor_cell.specs.declared.cell.Cell.{Cell};
 ghost use Rattle.actor_cell.specs.Sweeps.{KnowsOthersOnly, sweep_of};
 ghost use Rattle.actor_table.specs.declared.slot.Place.TheVariants.{Home};
 ghost use Rattle.orca_parts.specs.Away.{next_without};
-ghost use Rattle.orca_parts.specs.Faults.{IsFault, IsRefusal};
+ghost use Rattle.orca_parts.specs.Faults.{IsFault, RefusedBy};
 ghost use Rattle.orca_parts.specs.Fits.{FitsCollect, IsKnownSweep, OnlyRoom};
 ghost use Rattle.orca_parts.specs.Parts.{state_of};
 ghost use Rattle.orca_parts.specs.Woken.{IsLowestWoken};
@@ -44,7 +44,7 @@ fn find_collect(
     ensures ok { OnOk result (may_event (collect_event a) (slot_at table.now.slots a) ≡ true) }
     ensures found { OnOk result (HasCell (slot_at table.now.slots a)
         (λ c. (c.heap.owner ≡ a) × (sweep.new ≡ sweep_of trace c))) }
-    ensures fault { IfErr result (IsRefusal (may_event (collect_event a) (slot_at table.now.slots a))) }
+    ensures fault { IfErr result (RefusedBy (may_event (collect_event a) (slot_at table.now.slots a))) }
 {
     let Some(cell) = table.acting(a, &Event::Collect(a)) else {
         return Err(StepFault::NotEnabled);

@@ -2,7 +2,7 @@
 
 ghost use Rattle.std.specs.Prelude.{◌≡◌, false};
 ghost use Rattle.event_rule.specs.declared.event.Event.{Event as an_event};
-ghost use Rattle.orca_parts.specs.Core.{IsKnown, KeepsCore};
+ghost use Rattle.orca_parts.specs.Core.{HasFound, KeepsCore};
 ghost use Rattle.orca_parts.specs.Founds.{IsFoundFor};
 
 use crate::insides::Core;
@@ -14,7 +14,7 @@ use std::mem::swap;
 pub fn stand(m: &mut Core<'_>, found: &mut Found)
     ensures same { KeepsCore m.old m.new }
     ensures known { (e : an_event) → IsFoundFor m.old.options m.old.code.now found.old e m.old.parts.table.slots
-        → IsKnown e m.new }
+        → HasFound e m.new }
     ensures stands { m.new.stands ≡ false }
 {
     m.stands = false;

@@ -5,7 +5,7 @@ ghost use Rattle.event_rule.specs.Runs.{Goes};
 ghost use Rattle.machine_rules.specs.Next.{next};
 ghost use Rattle.actor_table.specs.Slots.{actors_of, away_of};
 ghost use Rattle.orca_parts.specs.Away.{KeepsAway};
-ghost use Rattle.orca_parts.specs.Core.{IsAlike, IsKnown, KeepsCore, StandsWell, next_in, state_in};
+ghost use Rattle.orca_parts.specs.Core.{IsAlike, HasFound, KeepsCore, StandsWell, next_in, core_state};
 ghost use Rattle.orca_parts.specs.Faults.{IsFault};
 ghost use Rattle.orca_parts.specs.Ready.{FitsEvent};
 ghost use Rattle.orca_parts.specs.Steps.{CanStep, ReapsAtHome};
@@ -36,7 +36,7 @@ use std::alloc::Global;
 pub fn prepare(alloc: Global, m: &mut Core<'_>, e: &Event, known: bool) -> Result<(), StepFault>
     requires can { CanStep m.old.options m.old.code.now m.old.parts e.now }
     requires home { ReapsAtHome e.now m.old.parts }
-    requires known { known ≡ true → IsKnown e.now m.old }
+    requires known { known ≡ true → HasFound e.now m.old }
     requires stands { StandsWell m.old }
     ensures same { KeepsCore m.old m.new }
     ensures ok { OnOk result (FitsEvent m.new.options m.new.code.now e.now m.new.parts) }
@@ -79,7 +79,7 @@ pub fn apply(alloc: Global, m: &mut Core<'_>, e: Event) -> Option<ActorName>
     requires fits { FitsEvent m.old.options m.old.code.now e m.old.parts }
     requires can { CanStep m.old.options m.old.code.now m.old.parts e }
     requires stands { StandsWell m.old }
-    ensures state { next (state_in m.old) e ≡ Goes (state_in m.new) }
+    ensures state { next (core_state m.old) e ≡ Goes (core_state m.new) }
     ensures alike { IsAlike m.old m.new }
     ensures stands { StandsWell m.new }
     ensures away { KeepsAway (away_of m.old.parts.table.slots) (away_of m.new.parts.table.slots) }

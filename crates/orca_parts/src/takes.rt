@@ -9,7 +9,7 @@ ghost use Rattle.event_rule.specs.declared.event.Event.TheVariants.{Take as take
 ghost use Rattle.machine_rules.specs.Actors.{seat_at};
 ghost use Rattle.machine_rules.specs.Next.{next};
 ghost use Rattle.machine_rules.specs.Options.{Options};
-ghost use Rattle.actor_table.specs.Changes.{CanTakeFirst, HasCell, note_taken};
+ghost use Rattle.actor_table.specs.Changes.{CanTakeHere, HasCell, note_taken};
 ghost use Rattle.actor_table.specs.Slots.{actors_of, away_of, slot_at};
 ghost use Rattle.orca_parts.specs.Awaiting.{IsAwaited};
 ghost use Rattle.orca_parts.specs.Away.{next_without};
@@ -53,7 +53,7 @@ pub(crate) fn prepare_take(parts: &mut Parts, a: ActorName) -> Result<(), StepFa
 /// The idle actor takes the first of its letters. It takes no memory, and wakes nobody.
 pub(crate) fn apply_take(code: &Checked, parts: &mut Parts, a: ActorName) -> Option<ActorName>
     requires can { let x = slot_at parts.old.table.slots a in
-        HasCell x (CanTakeFirst a x.mail.letters) }
+        HasCell x (CanTakeHere a x.mail.letters) }
     requires room { IsSome (note_taken a (seat_at (actors_of parts.old.table.slots) a))
         → deque_len parts.old.notes < deque_capacity parts.old.notes }
     ensures state { (options : Options) → next (state_of code.now options parts.old) (take_event a)

@@ -11,13 +11,13 @@ use Rattle.orca_parts.specs.declared.fault.StepFault.{StepFault}
 use Rattle.orca_parts.specs.declared.fault.StepFault.TheVariants as faults
 use Rattle.orca_parts.specs.declared.parts.Parts.{Parts}
 use Rattle.orca_parts.specs.Away.{next_without}
-use Rattle.orca_parts.specs.Faults.{IsFault, IsRefusal}
+use Rattle.orca_parts.specs.Faults.{IsFault, RefusedBy}
 use Rattle.orca_parts.specs.Letters.{FitLetters, letters_to}
 use Rattle.orca_parts.specs.Parts.{state_of}
 use Rattle.orca_parts.proofs.Preparing.{fits_collect, no_step, once_back}
 use Rattle.orca_parts.proofs.collects.prepare_collect.Goals as goal
 
-refused : (m : Parts) (program : Program) (options : Options) (a : ℕ) (fault : StepFault) → IsRefusal (may_event (Collect a) (slot_at m.table.slots a)) fault
+refused : (m : Parts) (program : Program) (options : Options) (a : ℕ) (fault : StepFault) → RefusedBy (may_event (Collect a) (slot_at m.table.slots a)) fault
     → IsFault (next_without (away_of m.table.slots) (state_of program options m) (Collect a)) (Collect a) fault
 refused m program options a faults.NotEnabled off = no_step may_collect (collect options.trace (state_of program options m) a) m.table.slots a off
 refused m program options a (faults.ActorsFull b) none = absurd none

@@ -1,6 +1,6 @@
 use Rattle.std.proofs.Common.{ap, subst, ◌∙◌}
 use Rattle.machine_rules.specs.Next.{next}
-use Rattle.orca_parts.specs.Core.{state_in}
+use Rattle.orca_parts.specs.Core.{core_state}
 use Rattle.orca_parts.specs.Ready.{FitsEvent}
 use Rattle.orca_parts.specs.Steps.{CanStep}
 use Rattle.orca_parts.proofs.Allowing.{can_take, counts_allow}
@@ -21,7 +21,7 @@ apply_go-requires-clause-can c =
     (subst (CanStep m.options m.code.now m.parts) c.in-Go.is c.requires.can).0
 
 pub returns-in-Go-clause-state : goal.returns-in-Go-clause-state
-returns-in-Go-clause-state c = ap (next (state_in c.args.m.now)) c.in-Go.is ∙ c.apply_go.ensures.state
+returns-in-Go-clause-state c = ap (next (core_state c.args.m.now)) c.in-Go.is ∙ c.apply_go.ensures.state
 
 pub returns-in-Collect-clause-state : goal.returns-in-Collect-clause-state
-returns-in-Collect-clause-state c = ap (next (state_in c.args.m.now)) c.in-Collect.is ∙ c.apply_collect.ensures.state
+returns-in-Collect-clause-state c = ap (next (core_state c.args.m.now)) c.in-Collect.is ∙ c.apply_collect.ensures.state

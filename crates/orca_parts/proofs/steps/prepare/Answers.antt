@@ -3,7 +3,7 @@ use Rattle.std.proofs.lemmas.Bool.{not-true}
 use Rattle.event_rule.specs.declared.event.Event.TheVariants.{Take, Collect, Leave, Block, Hear, Scan, Reap}
 use Rattle.actor_cell.specs.Cells.{as_cell}
 use Rattle.actor_table.specs.Slots.{slot_at}
-use Rattle.orca_parts.specs.Core.{IsKnown, next_in}
+use Rattle.orca_parts.specs.Core.{HasFound, next_in}
 use Rattle.orca_parts.specs.Faults.{IsFault}
 use Rattle.orca_parts.specs.Steps.{CanStep}
 use Rattle.orca_parts.proofs.Awaiting.{still_awaited}
@@ -20,7 +20,7 @@ prepare_go-requires c =
     record {
       serials = λ x home. (can.0 (as_cell x) (slot_at slots a).mail.letters (seat_here slots a x home)).serials;
       awaited = c.requires.stands;
-      known = λ on. subst (λ e. IsKnown e m) c.in-Go.is (c.requires.known on);
+      known = λ on. subst (λ e. HasFound e m) c.in-Go.is (c.requires.known on);
     }
 
 pub prepare_collect-requires : goal.prepare_collect-requires
@@ -28,7 +28,7 @@ prepare_collect-requires c =
     let m = c.args.m.now in
     record {
       others = subst (CanStep m.options m.code.now m.parts) c.in-Collect.is c.requires.can;
-      known = λ on. subst (λ e. IsKnown e m) c.in-Collect.is (c.requires.known on);
+      known = λ on. subst (λ e. HasFound e m) c.in-Collect.is (c.requires.known on);
     }
 
 pub returns-in-Take-clause-stands : goal.returns-in-Take-clause-stands

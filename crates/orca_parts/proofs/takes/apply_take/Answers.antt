@@ -1,6 +1,6 @@
 use Rattle.std.proofs.Common.{subst, sym}
 use Rattle.actor_cell.specs.Cells.{as_cell}
-use Rattle.actor_table.specs.Changes.{CanTakeFirst, HasCell, changed_at, taken}
+use Rattle.actor_table.specs.Changes.{CanTakeHere, HasCell, changed_at, taken}
 use Rattle.actor_table.specs.Slots.{actors_of, slot_at}
 use Rattle.orca_parts.specs.declared.parts.Parts.{Parts}
 use Rattle.orca_parts.specs.Awaiting.{AwaitedIn}
@@ -11,7 +11,7 @@ use Rattle.orca_parts.proofs.takes.apply_take.Goals.{in-Some, in_default}
 
 pub change-requires : goal.change-requires
 change-requires c =
-    let here = λ (m : Parts). HasCell (slot_at m.table.slots c.args.a) (CanTakeFirst c.args.a (slot_at m.table.slots c.args.a).mail.letters) in
+    let here = λ (m : Parts). HasCell (slot_at m.table.slots c.args.a) (CanTakeHere c.args.a (slot_at m.table.slots c.args.a).mail.letters) in
     elim c.match-note_on.branch as (λ _. here c.match-note_on.parts) [
       | in-Some w ↦ subst here (sym w.parts-is) c.requires.can
       | in_default w ↦ subst here (sym w.parts-is) c.requires.can

@@ -6,7 +6,7 @@ use Rattle.actor_table.specs.Slots.{away_of}
 use Rattle.orca_core.specs.Firsts.{next_of_kind}
 use Rattle.event_rule.specs.Events.{is_of_detector}
 use Rattle.orca_core.specs.Machine.{Machine}
-use Rattle.orca_parts.specs.Core.{state_in}
+use Rattle.orca_parts.specs.Core.{core_state}
 use Rattle.orca_core.proofs.Firsts.{first_of_tokens}
 use Rattle.orca_core.proofs.machine.Orca.first_of_detector.Goals as goal
 
@@ -15,7 +15,7 @@ returns-in-Some c =
     let m = c.self.inside in
     let slots = m.core.parts.table.slots in
     subst (λ (v : Machine). IsFirst (next_of_kind is_of_detector v.out) v.state (Reap c.in-Some.token)) c.self.view_is
-    (first_of_tokens slots (away_of slots) (state_in m.core) refl refl
+    (first_of_tokens slots (away_of slots) (core_state m.core) refl refl
     (nil_from_length m.core.parts.notes.items (search rules)) (sym c.news.ensures ∙ c.if-news.false)
     (Some c.in-Some.token) c.in-Some.ensures.value c.in-Some.ensures.lowest)
 
@@ -24,6 +24,6 @@ returns-in-None c =
     let m = c.self.inside in
     let slots = m.core.parts.table.slots in
     subst (λ (v : Machine). IsQuiet (next_of_kind is_of_detector v.out) v.state) c.self.view_is
-    (first_of_tokens slots (away_of slots) (state_in m.core) refl refl
+    (first_of_tokens slots (away_of slots) (core_state m.core) refl refl
     (nil_from_length m.core.parts.notes.items (search rules)) (sym c.news.ensures ∙ c.if-news.false)
     None c.in-None.ensures.value tt)

@@ -1,7 +1,7 @@
 use Rattle.std.proofs.Common.{◌≡◌, false, rules, ap, subst, sym, ◌∙◌}
 use Rattle.actor_table.specs.Slots.{away_of}
 use Rattle.orca_parts.specs.Away.{is_out_for}
-use Rattle.orca_parts.specs.Core.{state_in}
+use Rattle.orca_parts.specs.Core.{core_state}
 use Rattle.orca_core.specs.Machine.{IsSame, Machine, ReapsNoneAway}
 use Rattle.orca_parts.proofs.Readied.{fits_home}
 use Rattle.orca_core.proofs.Reached.{can_step, early_still, reached_still, reaps_at_home, same_still}
@@ -31,14 +31,14 @@ pub returns-clause-same : goal.returns-clause-same
 returns-clause-same c =
     let m = c.self.inside in
     let new = c.prepare.new.m in
-    subst (λ old. IsSame old (record { state = state_in new; steps = m.steps; out = away_of new.parts.table.slots; kept = new.parts }))
+    subst (λ old. IsSame old (record { state = core_state new; steps = m.steps; out = away_of new.parts.table.slots; kept = new.parts }))
     c.self.view_is (same_still m.core m.steps new c.prepare.ensures.same)
 
 pub returns-in_err-prepare-clause-same : goal.returns-in_err-prepare-clause-same
 returns-in_err-prepare-clause-same c =
     let m = c.self.inside in
     let new = c.prepare.new.m in
-    subst (λ old. IsSame old (record { state = state_in new; steps = m.steps; out = away_of new.parts.table.slots; kept = new.parts }))
+    subst (λ old. IsSame old (record { state = core_state new; steps = m.steps; out = away_of new.parts.table.slots; kept = new.parts }))
     c.self.view_is (same_still m.core m.steps new c.prepare.ensures.same)
 
 pub returns-clause-home : goal.returns-clause-home

@@ -2,7 +2,7 @@ use Rattle.std.specs.Prelude.{IfErr}
 use Rattle.std.proofs.Common.{◌≡◌, false, rules, ap, subst, sym, ◌∙◌}
 use Rattle.actor_table.specs.Slots.{away_of}
 use Rattle.orca_parts.specs.Away.{is_out_for}
-use Rattle.orca_parts.specs.Core.{state_in}
+use Rattle.orca_parts.specs.Core.{core_state}
 use Rattle.orca_parts.specs.Faults.{IsFault}
 use Rattle.orca_core.specs.Machine.{IsFoundIn, IsSame, Machine, ReapsNoneAway}
 use Rattle.orca_parts.proofs.Readied.{fits_home}
@@ -43,7 +43,7 @@ returns-clause-same c =
     let m = c.self.inside in
     let new = c.prepare.new.m in
     let same = keeps_then m.core c.stand.new.m new c.stand.ensures.same c.prepare.ensures.same in
-    subst (λ old. IsSame old (record { state = state_in new; steps = m.steps; out = away_of new.parts.table.slots; kept = new.parts }))
+    subst (λ old. IsSame old (record { state = core_state new; steps = m.steps; out = away_of new.parts.table.slots; kept = new.parts }))
     c.self.view_is (same_still m.core m.steps new same)
 
 pub returns-in_err-prepare-clause-same : goal.returns-in_err-prepare-clause-same
@@ -51,7 +51,7 @@ returns-in_err-prepare-clause-same c =
     let m = c.self.inside in
     let new = c.prepare.new.m in
     let same = keeps_then m.core c.stand.new.m new c.stand.ensures.same c.prepare.ensures.same in
-    subst (λ old. IsSame old (record { state = state_in new; steps = m.steps; out = away_of new.parts.table.slots; kept = new.parts }))
+    subst (λ old. IsSame old (record { state = core_state new; steps = m.steps; out = away_of new.parts.table.slots; kept = new.parts }))
     c.self.view_is (same_still m.core m.steps new same)
 
 pub returns-clause-home : goal.returns-clause-home
