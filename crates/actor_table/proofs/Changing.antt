@@ -11,12 +11,10 @@ use Rattle.letter_kinds.specs.declared.letter.Letter.{Letter}
 use Rattle.machine_rules.specs.Actors.{Actors, Seat, push_letter, seat_at, with_letter_more}
 use Rattle.machine_rules.specs.Guards.{may_go}
 use Rattle.actor_cell.specs.declared.cell.Cell.{Cell}
-use Rattle.actor_table.specs.declared.change.Change.{Change}
-use Rattle.actor_table.specs.declared.change.Change.TheVariants.{Take, Go, Collect, Block}
 use Rattle.actor_table.specs.declared.slot.Slot.{Slot}
 use Rattle.actor_table.specs.declared.slot.Place.{Place}
 use Rattle.actor_table.specs.declared.slot.Place.TheVariants.{Home, Away, Gone}
-use Rattle.actor_table.specs.Changes.{CanChange, IsChangedAt, KeepsRoom, is_go}
+use Rattle.actor_table.specs.Changes.{CanChange, Change, IsChangedAt, KeepsRoom, Take, Go, Collect, Block, is_go}
 use Rattle.actor_table.specs.Index.{IsIndex}
 use Rattle.actor_table.specs.Slots.{AreIndexed, IsOwnedBy, actors_of, away_of, can_act, can_settle, gone, home_in, home_of, is_away, is_away_in, letters_in, may_at, may_in, places_of, seat_in, seat_of, settles, slot_at, acts}
 use Rattle.actor_table.proofs.Indexing.{index_push, index_set, same_index}

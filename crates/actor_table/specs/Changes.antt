@@ -8,6 +8,9 @@ use Rattle.turn_rules.specs.Segment.{Turn}
 use Rattle.foreign_table.specs.Table.{count_on}
 use Rattle.letter_kinds.specs.declared.letter.Letter.{Letter}
 use Rattle.letter_kinds.specs.declared.note.Note.{Note}
+use Rattle.orca_names.specs.declared.trace.Trace.{Trace}
+use Rattle.actor_cell.specs.declared.sweeping.Sweep.{Sweep}
+use Rattle.actor_cell.specs.declared.turning.Turned.{Turned}
 use Rattle.actor_cell.specs.Sweeps.{sweep_of, swept}
 use Rattle.machine_rules.specs.Actors.{Actors, Seat, seat_at, seat}
 use Rattle.machine_rules.specs.Cell as rules
@@ -18,11 +21,17 @@ use Rattle.actor_cell.specs.Cells.{as_cell, settled}
 use Rattle.actor_cell.specs.Goes.{CanMove, cell_by, new_entries, out_of}
 use Rattle.actor_cell.specs.Takes.{CanTake, HasRoomFor}
 use Rattle.ref_weights.specs.Limit.{count_limit}
-use Rattle.actor_table.specs.declared.change.Change.{Change}
-use Rattle.actor_table.specs.declared.change.Change.TheVariants.{Take, Go, Collect, Block}
 use Rattle.actor_table.specs.declared.slot.Slot.{Slot}
 use Rattle.actor_table.specs.declared.slot.Place.TheVariants.{Home}
 use Rattle.actor_table.specs.Slots.{IsOwnedBy, Table, away_of, is_away, slot_at}
+
+-- an actor takes the first of its letters; its turn is done as it was found, where one that it makes has
+-- the name and is held with the weight; its collection is done as it was found; or it has reported
+pub data Change : Type 0 where
+  Take : Change
+  Go : Turn → Turned → ℕ → ℕ → Change
+  Collect : Sweep → Trace → Change
+  Block : Change
 
 -- ---- what becomes of its seat
 
@@ -65,8 +74,8 @@ named weight name act c = c
 abbrev pub seat_after : Program → ℕ → Change → Option Seat → Option Seat
 seat_after program a Take = taken program a
 seat_after program a (Go turn found name weight) =
-    let act = act_in found.now in
-    with_cell_by (λ c. named weight name act (moved a turn.now found.now.place act c))
+    let act = act_in found in
+    with_cell_by (λ c. named weight name act (moved a turn found.place act c))
 seat_after program a (Collect found trace) = with_cell_by (swept trace a)
 seat_after program a Block = with_cell_by (λ c. record c { reported = true })
 
@@ -106,8 +115,8 @@ pub record CanGoOn (a weight name : ℕ) (turn : Turn) (act : Move) (c : Cell) :
 abbrev pub AllowsChange : ℕ → Change → List Letter → Cell → Type 0
 AllowsChange a Take letters c = CanTakeHere a letters c
 AllowsChange a (Go turn found name weight) letters c =
-    CanGoOn a weight name turn.now (act_in found.now) c
-AllowsChange a (Collect found trace) letters c = found.now ≡ sweep_of trace c
+    CanGoOn a weight name turn (act_in found) c
+AllowsChange a (Collect found trace) letters c = found ≡ sweep_of trace c
 AllowsChange a Block letters c = ⊤
 
 -- its cell is at home, which allows the change
@@ -118,8 +127,8 @@ CanChange a change x = HasCell x (AllowsChange a change x.mail.letters)
 abbrev pub HasRoomIn : Change → List Letter → Cell → Type 0
 HasRoomIn Take letters c = (letter : Letter) (later : List Letter)
     → letters ≡ letter ∷ later → HasRoomFor letter c.foreign.spare c.known.spare
-HasRoomIn (Go turn found name weight) letters c = (length turn.now.made ≤ c.heap.spare)
-    × (new_entries (act_in found.now) c.foreign.entries ≤ c.foreign.spare)
+HasRoomIn (Go turn found name weight) letters c = (length turn.made ≤ c.heap.spare)
+    × (new_entries (act_in found) c.foreign.entries ≤ c.foreign.spare)
 HasRoomIn change letters c = ⊤
 
 -- where its cell is at home, it has room for the change

@@ -1,47 +1,159 @@
 // What becomes of one actor by its part of an event.
 
-ghost use Rattle.std.specs.Prelude.{◌≡◌};
-ghost use Rattle.actor_table.specs.Changes.{is_go};
+ghost use Rattle.std.specs.Prelude.{◌≡◌, ◌≤◌, OnOk};
+ghost use Rattle.machine_rules.specs.Actors.{seat};
+ghost use Rattle.actor_cell.specs.Cells.{as_cell};
+ghost use Rattle.actor_table.specs.Changes.{AllowsChange, Change, HasRoomIn, is_go, seat_after};
 
-use actor_cell::{Sweep, Turned};
-use orca_names::{ActorName, Trace};
+use actor_cell::{Cell, Doing, Sweep, Turned};
+use behaviour_check::Checked;
+use mail_rows::MailRow;
+use orca_names::{ActorName, NoMemory, Trace};
 use turn_step::Turn;
 
-/// What becomes of an actor whose cell is at home, in an event that was prepared.
-#[derive(Clone, Copy)]
-pub enum Change<'a> {
-    /// It takes the first of its letters.
-    Take,
-    /// What was found of its turn is done. An actor that it makes has this name, and is held with the
-    /// weight.
-    Go {
-        turn: &'a Turn,
-        found: &'a Turned,
-        name: ActorName,
-        weight: u32,
-    },
-    /// What was found of its collection with this tracing is done.
-    Collect {
-        found: &'a Sweep,
-        trace: Trace,
-    },
-    /// It has reported that it is blocked.
-    Block,
+/// What becomes of an actor whose cell is at home, in an event that was prepared. Each is a type, so that
+/// the calls of the table are compiled for each event by itself.
+pub trait Changes {
+    /// What it is to the rules.
+    ghost as_change: { Self → Change };
+
+    /// Whether it is a step of a turn.
+    fn is_go(&self) -> bool
+        ensures { result ≡ is_go (as_change self.now) };
+
+    /// Takes the memory for it, in the cell of an actor with these letters.
+    ///
+    /// # Errors
+    /// `NoMemory` where memory was refused.
+    fn reserve(&self, cell: &mut Cell, mail: &MailRow) -> Result<(), NoMemory>
+        ensures cell { as_cell cell.new ≡ as_cell cell.old }
+        ensures owner { cell.new.heap.owner ≡ cell.old.heap.owner }
+        ensures ok { OnOk result (HasRoomIn (as_change self.now) mail.now.letters cell.new) };
+
+    /// It is done to the cell and the letters of the actor. It takes no memory.
+    fn apply(&self, code: &Checked, cell: &mut Cell, mail: &mut MailRow)
+        requires { AllowsChange cell.old.heap.owner (as_change self.now) mail.old.letters cell.old }
+        ensures seat { let me = cell.old.heap.owner in seat (as_cell cell.new) mail.new.letters
+            ≡ seat_after code.now me (as_change self.now) (seat (as_cell cell.old) mail.old.letters) }
+        ensures owner { cell.new.heap.owner ≡ cell.old.heap.owner }
+        ensures room { mail.old.spare ≤ mail.new.spare };
 }
 
-impl Change<'_> {
-    /// Whether it is a step of a turn.
-    pub(crate) fn is_go(&self) -> bool
-        ensures { result ≡ is_go self.now }
-    {
-        matches!(
-            self,
-            Change::Go {
-                turn: _,
-                found: _,
-                name: _,
-                weight: _
-            }
-        )
+/// An idle actor takes the first of its letters.
+#[derive(Clone, Copy)]
+pub struct Take;
+
+impl Changes for Take {
+    ghost use Rattle.actor_table.specs.Changes.{Take as take};
+
+    ghost as_change = { λ s. take };
+
+    #[inline(always)]
+    fn is_go(&self) -> bool {
+        false
+    }
+
+    #[inline(always)]
+    fn reserve(&self, cell: &mut Cell, mail: &MailRow) -> Result<(), NoMemory> {
+        match mail.front() {
+            Some(letter) => cell.reserve_take(letter),
+            None => Ok(()),
+        }
+    }
+
+    #[inline(always)]
+    fn apply(&self, code: &Checked, cell: &mut Cell, mail: &mut MailRow) {
+        let Some(letter) = mail.front() else {
+            unreachable!();
+        };
+        cell.apply_take(code, letter);
+        let _ = mail.take();
+    }
+}
+
+/// What was found of an actor's turn is done. An actor that it makes has this name, and is held with the
+/// weight.
+#[derive(Clone, Copy)]
+pub struct Go<'a> {
+    pub turn: &'a Turn,
+    pub found: &'a Turned,
+    pub name: ActorName,
+    pub weight: u32,
+}
+
+impl Changes for Go<'_> {
+    ghost use Rattle.actor_table.specs.Changes.{Go as go};
+
+    ghost as_change = { λ s. go s.turn.now s.found.now s.name s.weight };
+
+    #[inline(always)]
+    fn is_go(&self) -> bool {
+        true
+    }
+
+    #[inline(always)]
+    fn reserve(&self, cell: &mut Cell, _mail: &MailRow) -> Result<(), NoMemory> {
+        cell.reserve_go(self.turn, self.found)
+    }
+
+    #[inline(always)]
+    fn apply(&self, _code: &Checked, cell: &mut Cell, _mail: &mut MailRow) {
+        cell.apply_go(self.turn, self.found);
+        if let Doing::New { kind: _, register } = self.found.doing {
+            cell.settle_new(register, self.name, self.weight);
+        }
+    }
+}
+
+/// What was found of an actor's collection with this tracing is done.
+#[derive(Clone, Copy)]
+pub struct Collect<'a> {
+    pub found: &'a Sweep,
+    pub trace: Trace,
+}
+
+impl Changes for Collect<'_> {
+    ghost use Rattle.actor_table.specs.Changes.{Collect as collect};
+
+    ghost as_change = { λ s. collect s.found.now s.trace };
+
+    #[inline(always)]
+    fn is_go(&self) -> bool {
+        false
+    }
+
+    #[inline(always)]
+    fn reserve(&self, _cell: &mut Cell, _mail: &MailRow) -> Result<(), NoMemory> {
+        Ok(())
+    }
+
+    #[inline(always)]
+    fn apply(&self, _code: &Checked, cell: &mut Cell, _mail: &mut MailRow) {
+        cell.apply_collect(self.found);
+    }
+}
+
+/// An actor has reported that it is blocked.
+#[derive(Clone, Copy)]
+pub struct Block;
+
+impl Changes for Block {
+    ghost use Rattle.actor_table.specs.Changes.{Block as block};
+
+    ghost as_change = { λ s. block };
+
+    #[inline(always)]
+    fn is_go(&self) -> bool {
+        false
+    }
+
+    #[inline(always)]
+    fn reserve(&self, _cell: &mut Cell, _mail: &MailRow) -> Result<(), NoMemory> {
+        Ok(())
+    }
+
+    #[inline(always)]
+    fn apply(&self, _code: &Checked, cell: &mut Cell, _mail: &mut MailRow) {
+        cell.apply_block();
     }
 }

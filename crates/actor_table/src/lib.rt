@@ -7,7 +7,7 @@ mod slot;
 mod slots;
 mod table;
 
-pub use change::Change;
+pub use change::{Block, Changes, Collect, Go, Take};
 pub use rounds::Round;
 pub use slot::{Place, Slot};
 pub use table::ActorTable;

@@ -2,16 +2,15 @@
 
 ghost use Rattle.std.specs.Prelude.{◌≡◌, ◌+◌, ◌<◌, ◌≤◌, ◌||◌, ℕ, IsSomeAnd, OnOk, if◌then◌else◌, is_some, Some, true, false, ⊤};
 ghost use Rattle.std.specs.Option.{option_copied};
-ghost use Rattle.machine_rules.specs.Actors.{seat, with_letter_more};
+ghost use Rattle.machine_rules.specs.Actors.{with_letter_more};
 ghost use Rattle.machine_rules.specs.Guards.{may_block, may_do, may_go};
 ghost use Rattle.actor_cell.specs.Cells.{as_cell};
-ghost use Rattle.actor_cell.specs.Moves.{act_in};
-ghost use Rattle.actor_table.specs.Changes.{CanChange, CanGoOn, CanTakeHere, HasRoomToChange, KeepsPlace, moved, named, note_taken, seat_after, taken};
+ghost use Rattle.actor_table.specs.Changes.{CanChange, HasRoomToChange, KeepsPlace, note_taken, seat_after};
 ghost use Rattle.actor_table.specs.declared.slot.Place.TheVariants.{Home};
 ghost use Rattle.actor_table.specs.Slots.{can_act, can_settle, event_in, event_of, home_of, is_away, mail_of, may_at, may_event, seat_of, IsOwnedBy};
 
-use crate::change::Change;
-use actor_cell::{Cell, Doing, Turned};
+use crate::change::Changes;
+use actor_cell::Cell;
 use behaviour_check::Checked;
 use event_rule::Event;
 use letter_kinds::{Letter, Note};
@@ -19,7 +18,6 @@ use mail_rows::MailRow;
 use orca_names::{ActorName, NoMemory};
 use std::mem;
 use std::snapshot::Snapshot;
-use turn_step::Turn;
 
 /// Where an actor's cell is. Of one that is away, proofs remember the cell.
 #[derive(Drop)]
@@ -170,27 +168,15 @@ pub(crate) fn next_event(slot: &Slot, a: ActorName) -> Option<Event>
 
 /// Takes the memory for the change, where the cell is at home.
 #[inline(always)]
-pub(crate) fn reserve(slot: &mut Slot, change: &Change<'_>) -> Result<(), NoMemory>
+pub(crate) fn reserve<C: Changes>(slot: &mut Slot, change: &C) -> Result<(), NoMemory>
     ensures seat { seat_of slot.new ≡ seat_of slot.old }
     ensures kept { KeepsPlace slot.old slot.new }
-    ensures ok { OnOk result (HasRoomToChange change.now slot.new) }
+    ensures ok { OnOk result (HasRoomToChange (C.as_change change.now) slot.new) }
 {
     let Place::Home(cell) = &mut slot.place else {
         return Ok(());
     };
-    match change {
-        Change::Take => match slot.mail.front() {
-            Some(letter) => cell.reserve_take(letter),
-            None => Ok(()),
-        },
-        Change::Go {
-            turn,
-            found,
-            name: _,
-            weight: _,
-        } => cell.reserve_go(turn, found),
-        Change::Collect { found: _, trace: _ } | Change::Block => Ok(()),
-    }
+    change.reserve(cell, &slot.mail)
 }
 
 /// Takes the memory for so many letters, if the actor is present.
@@ -251,58 +237,18 @@ pub(crate) fn note_on(slot: &Slot) -> Option<Note>
     }
 }
 
-/// The idle actor takes the first of its letters.
-#[inline(always)]
-fn take_first(code: &Checked, cell: &mut Cell, mail: &mut MailRow)
-    requires { CanTakeHere cell.old.heap.owner mail.old.letters cell.old }
-    ensures seat { let me = cell.old.heap.owner in seat (as_cell cell.new) mail.new.letters
-        ≡ taken code.now me (seat (as_cell cell.old) mail.old.letters) }
-    ensures owner { cell.new.heap.owner ≡ cell.old.heap.owner }
-    ensures room { mail.old.spare ≤ mail.new.spare }
-{
-    let Some(letter) = mail.front() else {
-        unreachable!();
-    };
-    cell.apply_take(code, letter);
-    let _ = mail.take();
-}
-
-/// The actor's turn is done as it was found, and an actor that it makes has its name.
-#[inline(always)]
-fn go_on(cell: &mut Cell, turn: &Turn, found: &Turned, name: ActorName, weight: u32)
-    requires { CanGoOn cell.old.heap.owner weight name turn.now (act_in found.now) cell.old }
-    ensures cell { let me = cell.old.heap.owner in let act = act_in found.now in as_cell cell.new
-        ≡ named weight name act (moved me turn.now found.now.place act (as_cell cell.old)) }
-    ensures owner { cell.new.heap.owner ≡ cell.old.heap.owner }
-{
-    cell.apply_go(turn, found);
-    if let Doing::New { kind: _, register } = found.doing {
-        cell.settle_new(register, name, weight);
-    }
-}
-
 /// The change is done, where the cell is at home.
 #[inline(always)]
-pub(crate) fn change(code: &Checked, slot: &mut Slot, change: &Change<'_>)
-    requires { IsSomeAnd (home_of slot.old) (λ c. CanChange c.heap.owner change.now slot.old) }
+pub(crate) fn change<C: Changes>(code: &Checked, slot: &mut Slot, change: &C)
+    requires { IsSomeAnd (home_of slot.old) (λ c. CanChange c.heap.owner (C.as_change change.now) slot.old) }
     ensures seat { (a : ℕ) → IsOwnedBy a slot.old.place
-        → seat_of slot.new ≡ seat_after code.now a change.now (seat_of slot.old) }
+        → seat_of slot.new ≡ seat_after code.now a (C.as_change change.now) (seat_of slot.old) }
     ensures kept { KeepsPlace slot.old slot.new }
 {
     let Place::Home(cell) = &mut slot.place else {
         unreachable!();
     };
-    match change {
-        Change::Take => take_first(code, cell, &mut slot.mail),
-        Change::Go {
-            turn,
-            found,
-            name,
-            weight,
-        } => go_on(cell, turn, found, *name, *weight),
-        Change::Collect { found, trace: _ } => cell.apply_collect(found),
-        Change::Block => cell.apply_block(),
-    }
+    change.apply(code, cell, &mut slot.mail);
 }
 
 /// One letter more, if the actor is present.

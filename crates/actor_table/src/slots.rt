@@ -10,7 +10,7 @@ ghost use Rattle.actor_table.specs.Index.{IsIndex};
 ghost use Rattle.actor_table.specs.declared.slot.Place.TheVariants.{Home};
 ghost use Rattle.actor_table.specs.Slots.{actors_of, away_of, can_act, can_settle, home_of, AreIndexed, IsOwnedBy, is_away, letters_in, places_of, seat_of, slot_at};
 
-use crate::change::Change;
+use crate::change::Changes;
 use crate::slot;
 use crate::slot::{
     Place, Slot, can_act, can_settle, goes_on, lift, push_letter, put_back, reserve_letters,
@@ -26,11 +26,11 @@ use std::alloc::Global;
 /// The change of the actor is done.
 #[tactic(auto, using(crate::proofs::Changing::actors_set, crate::proofs::Changing::away_kept, crate::proofs::Changing::seat_read, crate::proofs::Changing::room_kept))]
 #[inline(always)]
-pub(crate) fn change_at(code: &Checked, slots: &mut Vec<Slot>, a: usize, change: &Change<'_>)
+pub(crate) fn change_at<C: Changes>(code: &Checked, slots: &mut Vec<Slot>, a: usize, change: &C)
     requires owned { IsOwnedBy a (slot_at slots.old.items a).place }
-    requires can { CanChange a change.now (slot_at slots.old.items a) }
+    requires can { CanChange a (C.as_change change.now) (slot_at slots.old.items a) }
     ensures actors { actors_of slots.new.items
-        ≡ changed_at (seat_after code.now a change.now) a (actors_of slots.old.items) }
+        ≡ changed_at (seat_after code.now a (C.as_change change.now)) a (actors_of slots.old.items) }
     ensures away { away_of slots.new.items ≡ away_of slots.old.items }
     ensures room { KeepsRoom slots.old.items slots.new.items }
     ensures one { ChangesOne a slots.old slots.new }
@@ -59,14 +59,14 @@ pub(crate) fn push_at(slots: &mut Vec<Slot>, a: usize, letter: Letter)
 /// Takes the memory for the change of the actor.
 #[tactic(auto, using(crate::proofs::Changing::actors_kept, crate::proofs::Changing::away_kept, crate::proofs::Changing::seat_read, crate::proofs::Changing::room_kept))]
 #[inline(always)]
-pub(crate) fn reserve_at(
+pub(crate) fn reserve_at<C: Changes>(
     slots: &mut Vec<Slot>,
     a: usize,
-    change: &Change<'_>,
+    change: &C,
 ) -> Result<(), NoMemory>
     requires within { a < length slots.old.items }
     ensures actors { actors_of slots.new.items ≡ actors_of slots.old.items }
-    ensures ok { OnOk result (HasRoomToChange change.now (slot_at slots.new.items a)) }
+    ensures ok { OnOk result (HasRoomToChange (C.as_change change.now) (slot_at slots.new.items a)) }
     ensures away { away_of slots.new.items ≡ away_of slots.old.items }
     ensures room { KeepsRoom slots.old.items slots.new.items }
     ensures one { ChangesOne a slots.old slots.new }
@@ -187,17 +187,17 @@ pub(crate) fn put_bits(slots: &[Slot], acting: &mut ReadySet, settling: &mut Rea
 
 /// Writes the same after a change: while a turn goes on, both indexes tell the same.
 #[inline(always)]
-pub(crate) fn put_bits_after(
+pub(crate) fn put_bits_after<C: Changes>(
     slots: &[Slot],
     acting: &mut ReadySet,
     settling: &mut ReadySet,
     a: u32,
-    change: &Change<'_>,
+    change: &C,
 )
     requires within { a < length slots.now }
     requires room { (length slots.now ≤ length acting.old)
         × (length slots.now ≤ length settling.old) }
-    ensures indexed { (old : List a_slot) → CanChange a change.now (slot_at old a)
+    ensures indexed { (old : List a_slot) → CanChange a (C.as_change change.now) (slot_at old a)
         → AreIndexed old acting.old settling.old
         → IsChangedAt a old slots.now → AreIndexed slots.now acting.new settling.new }
     ensures lengths { (length acting.new ≡ length acting.old)

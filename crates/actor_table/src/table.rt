@@ -11,7 +11,7 @@ ghost use Rattle.ready_set.specs.Next.{IsNext};
 ghost use Rattle.actor_table.specs.Rounds.{IsNextThat, has_event};
 ghost use Rattle.actor_table.specs.Slots.{actors_of, away_of, can_act, can_settle, event_of, home_of, is_away, letters_in, mail_of, may_event, places_of, slot_at};
 
-use crate::change::Change;
+use crate::change::Changes;
 use crate::rounds::Round;
 use crate::slot::{
     Place, Slot, can_act, can_settle, cell_of, is_present, mail_of, may_event, next_event, note_on,
@@ -201,10 +201,10 @@ impl ActorTable {
     /// `NoMemory` where memory was refused.
     #[tactic(auto, using(crate::proofs::Changing::index_stays))]
     #[inline(always)]
-    pub fn reserve(&mut self, a: ActorName, change: &Change<'_>) -> Result<(), NoMemory>
+    pub fn reserve<C: Changes>(&mut self, a: ActorName, change: &C) -> Result<(), NoMemory>
         ensures actors { actors_of self.new.slots ≡ actors_of self.old.slots }
         ensures rest { KeepsRest self.old self.new }
-        ensures ok { OnOk result (HasRoomToChange change.now (slot_at self.new.slots a)) }
+        ensures ok { OnOk result (HasRoomToChange (C.as_change change.now) (slot_at self.new.slots a)) }
     {
         if a.0 as usize >= self.slots.len() {
             return Ok(());
@@ -277,10 +277,10 @@ impl ActorTable {
 
     /// The change of an actor is done. It takes no memory.
     #[inline(always)]
-    pub fn change(&mut self, code: &Checked, a: ActorName, change: &Change<'_>)
-        requires { CanChange a change.now (slot_at self.old.slots a) }
+    pub fn change<C: Changes>(&mut self, code: &Checked, a: ActorName, change: &C)
+        requires { CanChange a (C.as_change change.now) (slot_at self.old.slots a) }
         ensures actors { actors_of self.new.slots
-            ≡ changed_at (seat_after code.now a change.now) a (actors_of self.old.slots) }
+            ≡ changed_at (seat_after code.now a (C.as_change change.now)) a (actors_of self.old.slots) }
         ensures rest { KeepsRest self.old self.new }
     {
         change_at(code, &mut self.slots, a.0 as usize, change);

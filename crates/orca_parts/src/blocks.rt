@@ -15,7 +15,7 @@ ghost use Rattle.orca_parts.specs.Woken.{IsLowestWoken};
 
 use crate::fault::StepFault;
 use crate::parts::Parts;
-use actor_table::Change;
+use actor_table::Block;
 use behaviour_check::Checked;
 use event_rule::Event;
 use orca_names::ActorName;
@@ -58,7 +58,7 @@ pub(crate) fn apply_block(code: &Checked, parts: &mut Parts, a: ActorName) -> Op
     let Some(note) = parts.report.take() else {
         unreachable!();
     };
-    parts.table.change(code, a, &Change::Block);
+    parts.table.change(code, a, &Block);
     parts.notes.push_back_reserved(note);
     None
 }

@@ -21,7 +21,7 @@ use crate::fault::StepFault;
 use crate::letters::{push_decs, reserve_each};
 use crate::parts::Parts;
 use actor_cell::Sweep;
-use actor_table::{ActorTable, Change};
+use actor_table::{ActorTable, Collect};
 use behaviour_check::Checked;
 use event_rule::Event;
 use orca_names::{ActorName, NoMemory, Options, Trace};
@@ -111,7 +111,7 @@ pub(crate) fn apply_collect(
     ensures away { away_of parts.new.table.slots ≡ away_of parts.old.table.slots }
     ensures woken { IsLowestWoken (actors_of parts.old.table.slots) (actors_of parts.new.table.slots) result }
 {
-    let change = Change::Collect {
+    let change = Collect {
         found: &parts.sweep,
         trace: options.trace,
     };

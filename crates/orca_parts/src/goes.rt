@@ -33,7 +33,7 @@ use crate::fault::StepFault;
 use crate::letters::post;
 use crate::parts::Parts;
 use actor_cell::{Awaited, Cell, Doing, Turned};
-use actor_table::{ActorTable, Change};
+use actor_table::{ActorTable, Go};
 use behaviour_check::Checked;
 use behaviour_code::Name;
 use letter_kinds::Letter;
@@ -182,7 +182,7 @@ fn prepare_turn(options: Options, parts: &mut Parts, a: ActorName) -> Result<(),
     if makes(&parts.turned) && parts.table.len() >= ACTORS_LIMIT {
         return Err(StepFault::ActorsFull { actor: a });
     }
-    let change = Change::Go {
+    let change = Go {
         turn: &parts.turn,
         found: &parts.turned,
         name: parts.table.next_name(),
@@ -412,7 +412,7 @@ pub(crate) fn apply_go(
     ensures away { KeepsAway (away_of parts.old.table.slots) (away_of parts.new.table.slots) }
     ensures woken { IsLowestWoken (actors_of parts.old.table.slots) (actors_of parts.new.table.slots) result }
 {
-    let change = Change::Go {
+    let change = Go {
         turn: &parts.turn,
         found: &parts.turned,
         name: parts.table.next_name(),

@@ -20,7 +20,7 @@ ghost use Rattle.orca_parts.specs.Woken.{IsLowestWoken};
 
 use crate::fault::StepFault;
 use crate::parts::Parts;
-use actor_table::Change;
+use actor_table::Take;
 use behaviour_check::Checked;
 use event_rule::Event;
 use orca_names::ActorName;
@@ -44,7 +44,7 @@ pub(crate) fn prepare_take(parts: &mut Parts, a: ActorName) -> Result<(), StepFa
     let Some(_cell) = parts.table.acting(a, &Event::Take(a)) else {
         return Err(StepFault::NotEnabled);
     };
-    if parts.table.reserve(a, &Change::Take).is_err() || parts.notes.reserve(1).is_err() {
+    if parts.table.reserve(a, &Take).is_err() || parts.notes.reserve(1).is_err() {
         return Err(StepFault::NoMemory);
     }
     Ok(())
@@ -66,6 +66,6 @@ pub(crate) fn apply_take(code: &Checked, parts: &mut Parts, a: ActorName) -> Opt
     if let Some(note) = parts.table.note_on(a) {
         parts.notes.push_back_reserved(note);
     }
-    parts.table.change(code, a, &Change::Take);
+    parts.table.change(code, a, &Take);
     None
 }
