@@ -1,11 +1,12 @@
 // What the detector makes of notes, and its tokens.
 
-ghost use Rattle.std.specs.Prelude.{◌≡◌, ◌+◌, ◌<◌, ◌≤◌, suc, IfErr, IfOk, IfSome, IsSome, is_some, OnErr, OnOk};
-ghost use Rattle.std.specs.Option.{option_map};
-ghost use Rattle.letter_kinds.specs.Detector.{close_token, closed_set, fresh_detector, hear_note, open_token, token_numbered, without_news, reports_of};
+ghost use Rattle.std.specs.Prelude.{◌≡◌, ◌+◌, ◌<◌, ◌≤◌, false, suc, IfErr, IfNone, IfOk, IfSome, IsSome, is_some, OnErr, OnOk};
+ghost use Rattle.std.specs.Option.{option_copied, option_map};
+ghost use Rattle.letter_kinds.specs.Detector.{close_token, closed_set, fresh_detector, hear_note, in_token, open_token, token_numbered, without_news, reports_of};
+ghost use Rattle.letter_kinds.specs.Reports.{kept_report};
 ghost use Rattle.cycle_detect.specs.Falling.{step_bound};
 ghost use Rattle.cycle_detect.specs.Notes.{IsBlock};
-ghost use Rattle.detector_tokens.specs.Open.{acked_by_all, acked_numbered, CanOpen, first_acked, IsLowestAcked, new_token};
+ghost use Rattle.detector_tokens.specs.Open.{acked_by_all, acked_numbered, CanOpen, first_acked, IsLowestAcked, IsTokenOf, new_token, token_of};
 ghost use Rattle.std.specs.List.Sorted.{IsStrictlySortedBy};
 ghost use Rattle.std.specs.Ordering.{nat_cmp};
 ghost use Rattle.cycle_detect.specs.Room.{CanHear, with_state};
@@ -85,6 +86,36 @@ impl Detector {
         ensures { result ≡ self.now.state.news }
     {
         self.news
+    }
+
+    /// How many tokens were ever opened.
+    pub fn opened(&self) -> u64
+        ensures { result ≡ self.now.state.opened }
+    {
+        self.opened
+    }
+
+    /// The report that is kept of an actor.
+    pub fn report(&self, actor: ActorName) -> Option<&Report>
+        ensures { option_copied result ≡ kept_report self.now.state.kept actor }
+    {
+        self.reports.get(actor)
+    }
+
+    /// The open token of this number.
+    pub fn token(&self, number: u64) -> Option<&Token>
+        ensures { option_copied result ≡ token_numbered number self.now.state }
+    {
+        self.tokens.get(number)
+    }
+
+    /// The open token of which the actor is a member; `None` exactly where it is a member of none.
+    pub fn token_of(&self, actor: ActorName) -> Option<&Token>
+        ensures value { option_copied result ≡ token_of actor self.now.state.tokens }
+        ensures one { IfSome result (λ t. IsTokenOf self.now.state.tokens actor t.now) }
+        ensures none { IfNone result (in_token self.now.state.tokens actor ≡ false) }
+    {
+        self.tokens.of_member(actor)
     }
 
     /// There is no news any more.

@@ -4,10 +4,10 @@ use Rattle.std.specs.Option.{option_eq}
 use Rattle.std.proofs.lemmas.Bool.{false≢true}
 use Rattle.std.specs.List.{AllByRecursion, find, remove}
 use Rattle.letter_kinds.specs.Detector.{Token, has, in_token, note_ack, all_acked}
-use Rattle.detector_tokens.specs.Open.{first_acked, AreIndexed, HasMemberAt, IsNumberedAt, IsTold, first_with, lower_with, numbers}
+use Rattle.detector_tokens.specs.Open.{first_acked, AreIndexed, HasMemberAt, IsNumberedAt, IsTokenOf, IsTold, first_with, lower_with, numbers, token_of}
 use Rattle.std.specs.List.Sorted.{IsStrictlySortedBy}
 use Rattle.std.specs.Ordering.{nat_cmp}
-use Rattle.detector_tokens.proofs.OpenLemmas.{acks_at, cancel-one, first-filter, first-pending, first-push, first-ready, numbered-filter, numbered-push, numbers-acks, remove-numbered, told-acks, told-push, each-filter, none_first}
+use Rattle.detector_tokens.proofs.OpenLemmas.{acks_at, cancel-one, find_at, first-filter, first-member, first-pending, first-push, first-ready, numbered-filter, numbered-push, numbers-acks, remove-numbered, told-acks, told-push, each-filter, none_first}
 
 -- the token at the place, after the acknowledgement
 noted : (ts : List Token) (n a i : ℕ) (t u : Token) → IsNumberedAt ts n i → t ≡ get_or ts i t
@@ -70,6 +70,12 @@ pub first_stays : (ts us : List Token) (told : ℕ → Option ℕ) (ready : Opti
 first_stays ts us told ready i t k lt is e other =
     k.first ∙ sym (ap first_acked (taken ts us told ready i t k lt is e) ∙ first-filter t.number ts (λ f. other (k.first ∙ f)))
 
+pub place_gives : (ts : List Token) (i : ℕ) (t : Token) → i < length ts → t ≡ get_or ts i t
+    → slice_get ts i ≡ Some t
+place_gives [] i t lt e = absurd (omega arith)
+place_gives (x ∷ xs) zero t lt e = ap (λ (y : Token). Some y) (sym e)
+place_gives (x ∷ xs) (suc i) t lt e = place_gives xs i t (omega arith) e
+
 at_place : (ts : List Token) (i : ℕ) (t d : Token) → slice_get ts i ≡ Some t → get_or ts i d ≡ t
 at_place [] i t d e = absurd (cc)
 at_place (x ∷ xs) zero t d e = cc
@@ -81,6 +87,23 @@ pub cancels : (ts : List Token) (told : ℕ → Option ℕ) (ready : Option ℕ)
 cancels ts told ready a i t k at got =
     let is : get_or ts i t ≡ t = at_place ts i t t got in
     ap (λ (x : Token). filter (λ (u : Token). not (u.number == x.number)) ts) (sym is) ∙ cancel-one told a ts i t k.numbered k.members at.within (at.member t)
+
+-- ---- one has a member
+
+pub is_token_of : (ts : List Token) (told : ℕ → Option ℕ) (ready : Option ℕ) (a i : ℕ) (t : Token)
+    → AreIndexed ts told ready → HasMemberAt ts a i → t ≡ get_or ts i t → IsTokenOf ts a t
+is_token_of ts told ready a i t k at is =
+    let got = place_gives ts i t at.within is in
+    record {
+      member = ap (λ (x : Token). has x.members a) is ∙ at.member t;
+      found = sym (find_at ts t.number i t k.numbered at.within (ap (λ (x : Token). x.number) (sym is))) ∙ got;
+      alone = sym (cancels ts told ready a i t k at got);
+    }
+
+pub token_of_member : (ts : List Token) (told : ℕ → Option ℕ) (ready : Option ℕ) (a i : ℕ) (t : Token)
+    → AreIndexed ts told ready → HasMemberAt ts a i → t ≡ get_or ts i t → Some t ≡ token_of a ts
+token_of_member ts told ready a i t k at is =
+    ap (λ (x : Token). Some x) is ∙ sym (first-member told a ts i t k.numbered k.members at.within (at.member t))
 
 -- ---- one comes
 
@@ -100,12 +123,6 @@ pushed_index ts told later ready t k below apart new same =
 
 pub other_ready : (ready : Option ℕ) (n : ℕ) → option_eq eqb ready (Some n) ≡ false → ready ≢ Some n
 other_ready ready n off e = false≢true (sym off ∙ (ap (λ o. option_eq eqb o (Some n)) e ∙ eq-eqb n n refl))
-
-pub place_gives : (ts : List Token) (i : ℕ) (t : Token) → i < length ts → t ≡ get_or ts i t
-    → slice_get ts i ≡ Some t
-place_gives [] i t lt e = absurd (omega arith)
-place_gives (x ∷ xs) zero t lt e = ap (λ (y : Token). Some y) (sym e)
-place_gives (x ∷ xs) (suc i) t lt e = place_gives xs i t (omega arith) e
 
 pub none_numbered : (ts : List Token) (n : ℕ) → find (λ t. t.number == n) ts ≡ None
     → filter (λ t. not (t.number == n)) ts ≡ ts

@@ -31,7 +31,7 @@ comparisons_rise : (ts : List Token) (n : ℕ) → IsStrictlySortedBy nat_cmp (n
     → IsNonDecreasingBy (λ t. ordering_index (nat_cmp t.number n)) ts
 comparisons_rise ts n h = λ i j d le lt. let rise = numbers_rise ts h i j d le lt in grind (arith, nat_tests)
 
-find_at : (ts : List Token) (n i : ℕ) (d : Token) → IsStrictlySortedBy nat_cmp (numbers ts) → i < length ts
+pub find_at : (ts : List Token) (n i : ℕ) (d : Token) → IsStrictlySortedBy nat_cmp (numbers ts) → i < length ts
     → (get_or ts i d).number ≡ n → slice_get ts i ≡ find (λ t. t.number == n) ts
 find_at [] n i d h lt e = absurd (omega arith)
 find_at (t ∷ ts) n zero d h lt e = grind (arith, nat_tests)
@@ -305,6 +305,25 @@ cancel-one told a (t ∷ ts) (suc i) d up h lt e =
     (λ (on : has t.members a ≡ true). absurd (let one : Some (get_or ts i d).number ≡ Some t.number = sym is ∙ h.0 a on in let eq : (get_or ts i d).number ≡ t.number = cc in omega arith))
     (λ (off : has t.members a ≡ false). grind (arith, nat_tests))
     (cases_Bool (has t.members a))
+
+-- and the first of which the actor is a member
+pub first-member : (told : ℕ → Option ℕ) (a : ℕ) (ts : List Token) (i : ℕ) (d : Token)
+    → IsStrictlySortedBy nat_cmp (numbers ts) → AllByRecursion (IsTold told) ts → i < length ts
+    → has (get_or ts i d).members a ≡ true → find (λ t. has t.members a) ts ≡ Some (get_or ts i d)
+first-member told a [] i d up h lt e = absurd (omega arith)
+first-member told a (t ∷ ts) zero d up h lt e = rw e refl
+first-member told a (t ∷ ts) (suc i) d up h lt e =
+    let above = above_number t.number ts i d (first_above t.number (numbers ts) up) (omega arith) in
+    let is = told_number told a ts i d h.1 (omega arith) e in
+    let more = first-member told a ts i d (rest_rises t.number (numbers ts) up) h.1 (omega arith) e in
+    ⊎_elim
+    (λ (on : has t.members a ≡ true). absurd (let one : Some (get_or ts i d).number ≡ Some t.number = sym is ∙ h.0 a on in let eq : (get_or ts i d).number ≡ t.number = cc in omega arith))
+    (λ (off : has t.members a ≡ false). rw off more)
+    (cases_Bool (has t.members a))
+
+pub no-member : (a : ℕ) (ts : List Token) → in_token ts a ≡ false → find (λ t. has t.members a) ts ≡ None
+no-member a [] h = refl
+no-member a (t ∷ ts) h = grind (arith, no-member a ts)
 
 -- what holds of all holds of some
 pub each-filter : (P : Token → Type 0) (p : Token → Bool) (ts : List Token) → AllByRecursion P ts

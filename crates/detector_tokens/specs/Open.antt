@@ -1,5 +1,5 @@
 -- Open tokens, in rising order of their numbers.
-use Rattle.std.specs.Prelude.{ℕ, ◌≡◌, ◌<◌, ◌==◌, true, false, List, map, length, Option, Some, None, min, slice_get, slice_index_or, option_and_then, option_map, if◌then◌else◌, suc, [], ◌≤◌, Bool}
+use Rattle.std.specs.Prelude.{ℕ, ◌≡◌, ◌<◌, ◌==◌, true, false, List, filter, map, not, length, Option, Some, None, min, slice_get, slice_index_or, option_and_then, option_map, if◌then◌else◌, suc, [], ◌≤◌, Bool}
 use Rattle.std.specs.List.{AllByRecursion, find}
 use Rattle.std.specs.Option.{option_map_or}
 use Rattle.letter_kinds.specs.Detector.{Detector, Token, all_acked, has, in_token, token_numbered}
@@ -43,6 +43,17 @@ pub record AreIndexed (tokens : List Token) (told : ℕ → Option ℕ) (ready :
 pub record HasMemberAt (tokens : List Token) (actor i : ℕ) : Type 0 where
   pub within : i < length tokens
   pub member : (d : Token) → has (slice_index_or tokens i d).members actor ≡ true
+
+-- the first of these tokens of which the actor is a member
+abbrev pub token_of : ℕ → List Token → Option Token
+token_of actor tokens = find (λ t. has t.members actor) tokens
+
+-- the actor is a member of this open token, and of no other
+pub record IsTokenOf (tokens : List Token) (actor : ℕ) (t : Token) : Type 0 where
+  pub member : has t.members actor ≡ true
+  pub found : find (λ u. u.number == t.number) tokens ≡ Some t
+  pub alone : filter (λ u. not (has u.members actor)) tokens
+      ≡ filter (λ u. not (u.number == t.number)) tokens
 
 -- these may be the members of a further token: they rise, and none of them is in an open one
 pub record CanOpen (members : List ℕ) (d : Detector) : Type 0 where

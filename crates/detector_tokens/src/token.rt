@@ -1,7 +1,8 @@
 // An open token.
 
-ghost use Rattle.std.specs.Prelude.{◌≡◌, [], IfOk};
+ghost use Rattle.std.specs.Prelude.{◌≡◌, [], IfOk, length};
 ghost use Rattle.letter_kinds.specs.Detector.{all_acked, has, note_ack};
+ghost use Rattle.detector_tokens.specs.Marks.{picked};
 ghost use Rattle.std.specs.List.Sorted.{IsStrictlySortedBy};
 ghost use Rattle.std.specs.Ordering.{nat_cmp};
 
@@ -63,6 +64,14 @@ impl Token {
         ensures rising { IsStrictlySortedBy nat_cmp self.now.members }
     {
         &self.members
+    }
+
+    /// For each member, whether it acknowledged.
+    pub fn marks(&self) -> &[bool]
+        ensures long { length result.now ≡ length self.now.members }
+        ensures picked { picked self.now.members result.now ≡ self.now.acked }
+    {
+        &self.acked
     }
 
     /// Whether the actor is a member.

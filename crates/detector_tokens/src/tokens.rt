@@ -4,7 +4,7 @@ ghost use Rattle.std.specs.Prelude.{◌≡◌, ℕ, ◌<◌, ◌==◌, ◌++◌,
 ghost use Rattle.std.specs.List.{AllByRecursion, find};
 ghost use Rattle.std.specs.Option.{option_copied};
 ghost use Rattle.letter_kinds.specs.Detector.{has, in_token, note_ack};
-ghost use Rattle.detector_tokens.specs.Open.{first_acked, first_with, HasMemberAt, IsNumberedAt, IsTold, lower_with, numbers};
+ghost use Rattle.detector_tokens.specs.Open.{first_acked, first_with, HasMemberAt, IsNumberedAt, IsTokenOf, IsTold, lower_with, numbers, token_of};
 ghost use Rattle.std.specs.List.Sorted.{IsStrictlySortedBy};
 ghost use Rattle.std.specs.Ordering.{nat_cmp};
 ghost use Rattle.detector_tokens.specs.Room.{Fits, KeepsRoom, nothing_open};
@@ -111,6 +111,18 @@ impl Tokens {
         ensures { option_copied result ≡ find (λ t. t.number == number) self.now.list }
     {
         match place_of_token(&self.open, number) {
+            Some(i) => Some(&self.open[i]),
+            None => None,
+        }
+    }
+
+    /// The token of which the actor is a member; `None` exactly where it is a member of none.
+    pub fn of_member(&self, actor: ActorName) -> Option<&Token>
+        ensures value { option_copied result ≡ token_of actor self.now.list }
+        ensures one { IfSome result (λ t. IsTokenOf self.now.list actor t.now) }
+        ensures none { IfNone result (in_token self.now.list actor ≡ false) }
+    {
+        match place_of_member(&self.open, &self.told, actor) {
             Some(i) => Some(&self.open[i]),
             None => None,
         }

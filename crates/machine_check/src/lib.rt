@@ -19,3 +19,5 @@ mod programs;
 mod reason_tests;
 #[cfg(test)]
 mod tests;
+#[cfg(test)]
+mod touch_tests;

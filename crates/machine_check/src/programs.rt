@@ -23,6 +23,9 @@ pub(crate) const TO_ITSELF: &str =
 pub(crate) const PEERS: &str =
     "kind Main 0\non start 0\npin\nnew r0 Peer\nnew r1 Peer\nsend r0 meet r1\nsend r1 meet r0\nend\nkind Peer 1\non meet 1\nstore f0 r0\nend\n";
 
+/// Keeps an actor that it makes.
+pub(crate) const HOLDER: &str = "kind Main 1\non start 0\nnew r0 A\nstore f0 r0\nend\nkind A 0\n";
+
 /// A pinned actor keeps an object of another one.
 pub(crate) const KEPT: &str =
     "kind Main 1\non start 0\npin\nnew r0 Maker\nself r1\nsend r0 make r1\nend\non got 1\nstore f0 r0\nend\nkind Maker 0\non make 1\nint r1 3\nrow r2 r1\nsend r0 got r2\nend\n";

@@ -13,21 +13,21 @@ use orca_names::{ActorName, Trace, Value};
 use std::alloc::Global;
 use std::test::Fail;
 
-const TAKE: u8 = 0;
+pub(crate) const TAKE: u8 = 0;
 
-const GO: u8 = 1;
+pub(crate) const GO: u8 = 1;
 
-const COLLECT: u8 = 2;
+pub(crate) const COLLECT: u8 = 2;
 
-const LEAVE: u8 = 3;
+pub(crate) const LEAVE: u8 = 3;
 
-const BLOCK: u8 = 4;
+pub(crate) const BLOCK: u8 = 4;
 
-const HEAR: u8 = 5;
+pub(crate) const HEAR: u8 = 5;
 
-const SCAN: u8 = 6;
+pub(crate) const SCAN: u8 = 6;
 
-const REAP: u8 = 7;
+pub(crate) const REAP: u8 = 7;
 
 /// What is expected of an event.
 #[derive(Clone, Copy)]
@@ -136,7 +136,8 @@ const MINTED: Events = &[
     (GO, 1, Done),
 ];
 
-fn event(kind: u8, number: u32) -> Event {
+/// The event of a kind and a number.
+pub(crate) fn event(kind: u8, number: u32) -> Event {
     let actor = ActorName(number);
     match kind {
         TAKE => Event::Take(actor),

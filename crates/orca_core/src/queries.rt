@@ -9,16 +9,22 @@ ghost use Rattle.machine_rules.specs.Next.{next};
 ghost use Rattle.actor_table.specs.Slots.{home_of, slot_at};
 ghost use Rattle.actor_cell.specs.Cells.{as_cell};
 ghost use Rattle.orca_parts.specs.Away.{next_without};
+ghost use Rattle.orca_parts.specs.Parts.{state_of};
+ghost use Rattle.orca_parts.specs.Touched.{touched_of, touched_token};
 ghost use Rattle.orca_core.specs.Firsts.{next_of_kind};
 ghost use Rattle.event_rule.specs.Events.{is_of, is_of_detector};
 ghost use Rattle.orca_core.specs.Machine.{NoneIsAway, cell_here, mail_here};
 
 use crate::machine::Orca;
 use actor_cell::Cell;
+use cycle_detect::Detector;
 use event_rule::Event;
+use letter_kinds::Note;
 use mail_rows::MailRow;
 use orca_names::{ActorName, KeptReport, NoMemory};
+use orca_parts::{Ready, touched, touched_token};
 use std::alloc::Global;
+use std::collections::VecDeque;
 
 impl<'a> Orca<'a> {
     /// Whether an event is enabled; of an actor whose cell is away none is.
@@ -109,6 +115,41 @@ impl<'a> Orca<'a> {
         ensures { option_map (λ m. m.now.letters) result ≡ mail_here self.now a }
     {
         self.core.parts.table.mail(a)
+    }
+
+    /// The detector of blocked actors.
+    pub fn detector(&self) -> &Detector
+        ensures state { result.now.state ≡ self.now.state.detector }
+        ensures kept { result.now ≡ self.now.kept.detector }
+    {
+        &self.core.parts.detector
+    }
+
+    /// The notes that the detector has still to hear, in the order in which it will.
+    pub fn notes(&self) -> &VecDeque<Note>
+        ensures state { result.now.items ≡ self.now.state.notes }
+        ensures kept { result.now ≡ self.now.kept.notes }
+    {
+        &self.core.parts.notes
+    }
+
+    /// The actors whose seat or kept report the event, which was prepared, may change; some perhaps
+    /// twice.
+    ///
+    /// # Errors
+    /// `NoMemory` where memory was refused.
+    pub fn touched(&self, alloc: Global, ready: &Ready) -> Result<Vec<ActorName>, NoMemory>
+        ensures names { IfOk result (λ names. names.items ≡ touched_of ready.now.event self.now.kept) }
+        ensures state { let s = self.now.state in s ≡ state_of s.program s.options self.now.kept }
+    {
+        touched(alloc, &self.core.parts, &ready.event)
+    }
+
+    /// The number of the token that the event, which was prepared, may open, change or close.
+    pub fn touched_token(&self, ready: &Ready) -> Option<u64>
+        ensures { result ≡ touched_token ready.now.event self.now.kept }
+    {
+        touched_token(&self.core.parts, &ready.event)
     }
 
     /// The kept reports of the members of an open token, in the order of the members; `None` exactly

@@ -10,4 +10,5 @@ pub mod Parts
 pub mod Ready
 pub mod Reaping
 pub mod Steps
+pub mod Touched
 pub mod Woken

@@ -18,6 +18,7 @@ mod scans;
 mod stands;
 mod steps;
 mod takes;
+mod touches;
 
 pub use fault::StepFault;
 pub use insides::Core;
@@ -25,3 +26,4 @@ pub use parts::Parts;
 pub use ready::Ready;
 pub use stands::stand;
 pub use steps::{apply, prepare};
+pub use touches::{touched, touched_token};

@@ -1,4 +1,4 @@
 mod Gone
 mod Marks
 mod Spans
-mod Steps
+pub mod Steps

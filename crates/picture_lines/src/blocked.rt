@@ -11,8 +11,8 @@ ghost use Rattle.picture_rules.specs.Words.{bit_word, text_of_lines};
 ghost use Rattle.picture_rules.specs.Blocked.{detector_line, member_line, note_line, open_lines, report_line, told_words};
 
 use crate::words::{end_with_held, push_bit};
-use letter_kinds::Note;
-use orca_names::{ActorName, KeptReport};
+use letter_kinds::{Note, Report};
+use orca_names::ActorName;
 use std::alloc::AllocError;
 
 /// The line of the detector: is there news, and how many tokens were ever opened.
@@ -46,7 +46,7 @@ fn end_with_told(
 ///
 /// # Errors
 /// `AllocError` where memory was refused.
-pub fn push_report(out: &mut String, report: &KeptReport) -> Result<(), AllocError>
+pub fn push_report(out: &mut String, report: &Report) -> Result<(), AllocError>
     ensures { let r = report.now in OnOk result (string_bytes out.new
         ≡ string_bytes out.old ++ line_of (report_line r.actor r.count r.held)) }
 {

@@ -3,7 +3,7 @@
 ghost use Rattle.std.specs.Prelude.{◌≡◌, ◌+◌, ◌<◌, ◌≤◌, length};
 ghost use Rattle.cycle_detect.specs.Falling.{held_count};
 
-use cycle_detect::Detector;
+use cycle_detect::{Detector, Token};
 use letter_kinds::Note;
 use orca_names::{ActorName, KeptReport, NoMemory};
 use plain_list::Listed;
@@ -236,6 +236,47 @@ fn hears_as_prepared(alloc: Global, detector: &mut Detector) -> bool {
     is_news_once_heard(detector, note) && is_closed(alloc, detector, &[ActorName(70)])
 }
 
+/// Whether the first token has these marks beside its members, actors 1 and 2.
+fn is_marked(token: Option<&Token>, marks: [bool; 2]) -> bool {
+    let members = [ActorName(1), ActorName(2)];
+    match token {
+        Some(token) => {
+            token.number() == 1
+                && token.members() == members.as_slice()
+                && token.marks() == marks.as_slice()
+        }
+        None => false,
+    }
+}
+
+/// Whether the report of actor 1 is kept, which holds 1 on actor 2.
+fn keeps_first(detector: &Detector) -> bool {
+    match detector.report(ActorName(1)) {
+        Some(report) => {
+            let held = [(ActorName(2), 1)];
+            report.actor == ActorName(1)
+                && report.count == 1
+                && report.held.as_slice() == held.as_slice()
+        }
+        None => false,
+    }
+}
+
+/// Whether what is known is found by its actor or number, and nothing of others.
+fn tells_parts(detector: &mut Detector) -> bool {
+    let fresh = is_marked(detector.token(1), [false, false]);
+    let noted = ready_after(detector, ack(1, 2)) == None;
+    let none = detector.token(2).is_none()
+        && detector.token_of(ActorName(3)).is_none()
+        && detector.report(ActorName(3)).is_none();
+    fresh
+        && noted
+        && none
+        && is_marked(detector.token_of(ActorName(1)), [false, true])
+        && keeps_first(detector)
+        && detector.opened() == 1
+}
+
 /// What a token of two actors that hold each other is tried for.
 #[derive(Clone, Copy)]
 enum Asked {
@@ -243,6 +284,7 @@ enum Asked {
     IsCancelled,
     Closes,
     TellsReports,
+    TellsParts,
 }
 
 /// What a detector is tried for that heard nothing yet.
@@ -262,6 +304,7 @@ fn holds_once_asked(alloc: Global, detector: &mut Detector, asked: Asked) -> boo
         Asked::IsCancelled => is_cancelled(detector),
         Asked::Closes => closes(alloc, detector),
         Asked::TellsReports => tells_none(alloc, detector) && tells_two(alloc, detector),
+        Asked::TellsParts => tells_parts(detector),
     }
 }
 
@@ -307,5 +350,6 @@ fn a_token_waits_for_both_or_is_cancelled_or_closed(rt: HostRuntime) {
 #[test]
 fn reports_are_handed_out_and_what_was_prepared_is_heard(rt: HostRuntime) {
     assert!(rt; holds(rt.alloc(), Tried::Asks(Asked::TellsReports)));
+    assert!(rt; holds(rt.alloc(), Tried::Asks(Asked::TellsParts)));
     assert!(rt; holds(rt.alloc(), Tried::HearsAsPrepared));
 }
