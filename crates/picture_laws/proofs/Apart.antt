@@ -1,41 +1,43 @@
 -- Lines of words are told by their text.
-use Rattle.std.proofs.Common.{◌≡◌, ◌<◌, ℕ, true, false, List, [], ◌∷◌, ◌++◌, drop, get_or, length, refl, ap, sym, ◌∙◌, arith, append_assoc, length-append}
+use Rattle.std.proofs.Common.{◌≡◌, ◌<◌, ℕ, Bool, true, false, List, [], ◌∷◌, ◌++◌, drop, get_or, length, refl, ap, sym, ◌∙◌, arith, append_assoc, length-append}
 use Rattle.behaviour_text.specs.Text.{line_of, rest_of_line}
 use Rattle.picture_rules.specs.Words.{Line, Word, text_of_lines}
 use Rattle.picture_laws.specs.Alphabet.{is_word_byte}
-use Rattle.picture_laws.proofs.Bytes.{AreWords, IsWord, said}
+use Rattle.picture_laws.proofs.Bytes.{AreWords, IsWord, Pass, said}
 use Rattle.picture_laws.proofs.Lines.{AreLines}
 use Rattle.picture_laws.proofs.Shown.{first_passes, others_pass}
 
--- a byte that is of no word comes first
-pub record Ends (r : List ℕ) : Type 0 where
+-- a byte that does not pass the test comes first
+pub record Ends (p : ℕ → Bool) (r : List ℕ) : Type 0 where
   pub byte : ℕ
   pub rest : List ℕ
   pub is : r ≡ byte ∷ rest
-  pub no_word : is_word_byte byte ≡ false
+  pub fails : p byte ≡ false
 
-unlike : (a b : ℕ) → a ≡ b → is_word_byte a ≡ true → is_word_byte b ≡ false → ⊥
-unlike a b e h k = let x : true ≡ false = sym h ∙ ap is_word_byte e ∙ k in absurd cc
+module _ (p : ℕ → Bool) where
+  unlike : (a b : ℕ) → a ≡ b → p a ≡ true → p b ≡ false → ⊥
+  unlike a b e h k = let x : true ≡ false = sym h ∙ ap p e ∙ k in absurd cc
 
-word_end : (v w : Word) (r s : List ℕ) → IsWord v → IsWord w → Ends r → Ends s → v ++ r ≡ w ++ s → (v ≡ w) × (r ≡ s)
-word_end [] [] r s h k f g e = (refl, e)
-word_end [] (b ∷ w) r s h k f g e =
-    absurd (unlike b f.byte (sym (ap (λ l. get_or l 0 0) (sym f.is ∙ e))) (first_passes k) f.no_word)
-word_end (a ∷ v) [] r s h k f g e =
-    absurd (unlike a g.byte (ap (λ l. get_or l 0 0) (e ∙ g.is)) (first_passes h) g.no_word)
-word_end (a ∷ v) (b ∷ w) r s h k f g e =
-    let same : a ≡ b = ap (λ l. get_or l 0 0) e in
-    let later = word_end v w r s (others_pass h) (others_pass k) f g (ap (drop 1) e) in
-    (ap (λ x. x ∷ v) same ∙ ap (λ x. b ∷ x) later.0, later.1)
+  -- bytes that pass are told from what is behind them
+  pub front_end : (v w r s : List ℕ) → Pass p v → Pass p w → Ends p r → Ends p s → v ++ r ≡ w ++ s → (v ≡ w) × (r ≡ s)
+  front_end [] [] r s h k f g e = (refl, e)
+  front_end [] (b ∷ w) r s h k f g e =
+      absurd (unlike b f.byte (sym (ap (λ l. get_or l 0 0) (sym f.is ∙ e))) (first_passes k) f.fails)
+  front_end (a ∷ v) [] r s h k f g e =
+      absurd (unlike a g.byte (ap (λ l. get_or l 0 0) (e ∙ g.is)) (first_passes h) g.fails)
+  front_end (a ∷ v) (b ∷ w) r s h k f g e =
+      let same : a ≡ b = ap (λ l. get_or l 0 0) e in
+      let later = front_end v w r s (others_pass h) (others_pass k) f g (ap (drop 1) e) in
+      (ap (λ x. x ∷ v) same ∙ ap (λ x. b ∷ x) later.0, later.1)
 
-rest_ends : (ws : Line) (x : List ℕ) → Ends (rest_of_line ws ++ x)
-rest_ends [] x = record { byte = 10; rest = x; is = refl; no_word = refl }
-rest_ends (w ∷ ws) x = record { byte = 32; rest = (w ++ rest_of_line ws) ++ x; is = refl; no_word = refl }
+rest_ends : (ws : Line) (x : List ℕ) → Ends is_word_byte (rest_of_line ws ++ x)
+rest_ends [] x = record { byte = 10; rest = x; is = refl; fails = refl }
+rest_ends (w ∷ ws) x = record { byte = 32; rest = (w ++ rest_of_line ws) ++ x; is = refl; fails = refl }
 
 words_end : (u w : Word) (us ws : Line) (x y : List ℕ) → IsWord u → IsWord w → (u ++ rest_of_line us) ++ x ≡ (w ++ rest_of_line ws) ++ y
     → (u ≡ w) × (rest_of_line us ++ x ≡ rest_of_line ws ++ y)
 words_end u w us ws x y h k e =
-    word_end u w (rest_of_line us ++ x) (rest_of_line ws ++ y) h k (rest_ends us x) (rest_ends ws y)
+    front_end is_word_byte u w (rest_of_line us ++ x) (rest_of_line ws ++ y) h k (rest_ends us x) (rest_ends ws y)
     (sym (append_assoc u (rest_of_line us) x) ∙ e ∙ append_assoc w (rest_of_line ws) y)
 
 rest_apart : (us ws : Line) (x y : List ℕ) → AreWords us → AreWords ws → rest_of_line us ++ x ≡ rest_of_line ws ++ y → (us ≡ ws) × (x ≡ y)

@@ -1,6 +1,6 @@
 -- The lines of a part: its first, and further ones.
 use Rattle.std.proofs.Common.{◌≡◌, ℕ, Bool, true, false, ◌&&◌, not, if◌then◌else◌, List, [], ◌∷◌, ◌++◌, map, Option, Some, None, refl, ap, ◌∙◌}
-use Rattle.std.specs.Prelude.{bytes_eq}
+use Rattle.std.specs.Prelude.{bytes_eq, flat_map}
 use Rattle.std.specs.Fmt.{decimal}
 use Rattle.std.specs.FinMap as m
 use Rattle.std.proofs.lemmas.Slice.Eq.{bytes_eq-Decides}
@@ -18,19 +18,20 @@ use Rattle.picture_rules.specs.Parts.{detector_change, or_gone, part_change, whe
 use Rattle.picture_rules.specs.Seats.{brings_line, fields_lines, holds_line, knows_line, letter_lines, loads_lines, object_line, seat_lines, turn_lines}
 use Rattle.picture_rules.specs.Words.{Line, Word, text_of_lines}
 use Rattle.picture_laws.specs.Applying.{AReport, AToken, AnActor, Part, TheDetector, begins, is_further, is_note, says_gone}
+use Rattle.picture_laws.specs.Runs.{is_entry}
 use Rattle.picture_laws.proofs.Apart.{texts_apart}
 use Rattle.picture_laws.proofs.Bytes.{Pass, all_append, all_cons, all_flat, all_map, all_weaker, said}
 use Rattle.picture_laws.proofs.Lines.{AreLines, detector_are}
 use Rattle.picture_laws.proofs.Shown.{first_true, second_true}
 use Rattle.picture_laws.proofs.Walking.{Tells, anew, gone, same}
 
--- neither the first line of a part nor a note's
-abbrev pub is_inner : Line → Bool
-is_inner line = is_further line && not (is_note line)
-
--- no note's
+-- neither a note's nor the first of an entry
 abbrev pub is_other : Line → Bool
-is_other line = not (is_note line)
+is_other line = not (is_note line) && not (is_entry line)
+
+-- and not the first of a part
+abbrev pub is_inner : Line → Bool
+is_inner line = is_further line && is_other line
 
 -- nothing, or the part's first line and further ones
 pub data Begun (q : Part) : List Line → Type 0 where
@@ -65,12 +66,17 @@ cell_in c =
     (all_map holds_line (m.entries c.holdings.foreign) (λ e. refl)))
     (all_map knows_line (m.entries c.known) (λ e. refl))
 
+pub seat_inner : (texts : List (List ℕ)) (c : Cell) (mail : List Letter) → Pass is_inner (turn_lines c.frame ++ fields_lines c.fields.values
+    ++ map object_line (m.entries c.holdings.rows) ++ map holds_line (m.entries c.holdings.foreign) ++ map knows_line (m.entries c.known)
+    ++ flat_map (letter_lines texts) mail)
+seat_inner texts c mail = all_append (cell_in c) (all_flat (letter_lines texts) mail (letter_in texts))
+
 pub same_bytes : (w : Word) → bytes_eq w w ≡ true
 same_bytes w = (bytes_eq-Decides w w).1 refl
 
 pub seat_begun : (texts : List (List ℕ)) (a : ℕ) (o : Option Seat) → Begun (AnActor a) (seat_lines texts a o)
 seat_begun texts a None = none
-seat_begun texts a (Some o) = some _ _ (same_bytes (decimal a)) refl (all_append (cell_in o.cell) (all_flat (letter_lines texts) o.mail (letter_in texts)))
+seat_begun texts a (Some o) = some _ _ (same_bytes (decimal a)) refl (seat_inner texts o.cell o.mail)
 
 pub detector_begun : (d : Detector) → Begun TheDetector (detector_lines d)
 detector_begun d = some _ _ refl refl (said refl)
@@ -86,7 +92,7 @@ token_begun n (Some t) named =
 
 -- ---- what changes of a part tells it
 
-inner_further : (line : Line) → is_inner line ≡ true → is_further line ≡ true
+pub inner_further : (line : Line) → is_inner line ≡ true → is_further line ≡ true
 inner_further line h = first_true (is_further line) (is_other line) h
 
 inner_other : (line : Line) → is_inner line ≡ true → is_other line ≡ true
@@ -121,7 +127,7 @@ detector_tells_by d e false h =
 pub detector_tells : (d e : Detector) → Tells TheDetector (detector_change d e) (detector_lines d) (detector_lines e)
 detector_tells d e = detector_tells_by d e (bytes_eq (text_of_lines (detector_lines d)) (text_of_lines (detector_lines e))) refl
 
--- ---- none of its lines is a note's
+-- ---- none of its lines is a note's or begins an entry
 
 unless_other : (b : Bool) (lines : List Line) → Pass is_other lines → Pass is_other (if b then [] else lines)
 unless_other true lines h = said refl

@@ -1,7 +1,9 @@
 -- Words of letters, digits and the like.
-use Rattle.std.proofs.Common.{◌≡◌, ◌<◌, ℕ, zero, suc, ◌/◌, ◌%◌, ◌==◌, ◌&&◌, Bool, true, false, List, [], ◌∷◌, ◌++◌, map, if◌then◌else◌, refl, ap, ◌∙◌, arith}
+use Rattle.std.proofs.Common.{◌≡◌, ◌<◌, ℕ, zero, suc, ◌/◌, ◌%◌, ◌==◌, ◌&&◌, ◌||◌, Bool, true, false, List, [], ◌∷◌, ◌++◌, map, if◌then◌else◌, refl, ap, ◌∙◌, arith}
 use Rattle.std.specs.Prelude.{codes, flat_map}
+use Rattle.std.specs.Char.{is_ascii_digit}
 use Rattle.std.specs.Fmt.{decimal, digit_glyph, digits, digits_onto}
+use Rattle.std.specs.Int.{is_in_range}
 use Rattle.std.specs.List.{list_all}
 use Rattle.std.proofs.lemmas.List.Folds.{list_all-append}
 use Rattle.orca_names.specs.declared.names.Thing.{Thing}
@@ -62,33 +64,43 @@ no_words = said refl
 
 -- ---- numbers
 
-glyph_word : (d : ℕ) → d < 10 → is_word_byte (digit_glyph false d) ≡ true
-glyph_word zero h = refl
-glyph_word (suc zero) h = refl
-glyph_word (suc (suc zero)) h = refl
-glyph_word (suc (suc (suc zero))) h = refl
-glyph_word (suc (suc (suc (suc zero)))) h = refl
-glyph_word (suc (suc (suc (suc (suc zero))))) h = refl
-glyph_word (suc (suc (suc (suc (suc (suc zero)))))) h = refl
-glyph_word (suc (suc (suc (suc (suc (suc (suc zero))))))) h = refl
-glyph_word (suc (suc (suc (suc (suc (suc (suc (suc zero)))))))) h = refl
-glyph_word (suc (suc (suc (suc (suc (suc (suc (suc (suc zero))))))))) h = refl
-glyph_word (suc (suc (suc (suc (suc (suc (suc (suc (suc (suc n)))))))))) h = absurd (omega (arith, h))
+glyph_digit : (d : ℕ) → d < 10 → is_ascii_digit (digit_glyph false d) ≡ true
+glyph_digit zero h = refl
+glyph_digit (suc zero) h = refl
+glyph_digit (suc (suc zero)) h = refl
+glyph_digit (suc (suc (suc zero))) h = refl
+glyph_digit (suc (suc (suc (suc zero)))) h = refl
+glyph_digit (suc (suc (suc (suc (suc zero))))) h = refl
+glyph_digit (suc (suc (suc (suc (suc (suc zero)))))) h = refl
+glyph_digit (suc (suc (suc (suc (suc (suc (suc zero))))))) h = refl
+glyph_digit (suc (suc (suc (suc (suc (suc (suc (suc zero)))))))) h = refl
+glyph_digit (suc (suc (suc (suc (suc (suc (suc (suc (suc zero))))))))) h = refl
+glyph_digit (suc (suc (suc (suc (suc (suc (suc (suc (suc (suc n)))))))))) h = absurd (omega (arith, h))
 
-either_word : (b : Bool) (x y : Word) → IsWord x → IsWord y → IsWord (if b then x else y)
-either_word true x y h k = h
-either_word false x y h k = k
+abbrev pub AreDigits : Word → Type 0
+AreDigits w = Pass is_ascii_digit w
 
-digits_word : (k n : ℕ) (acc : Word) → IsWord acc → IsWord (digits_onto k 10 false n acc)
-digits_word zero n acc h = h
-digits_word (suc k) n acc h =
-    let more = all_cons {x = digit_glyph false (n % 10)} (glyph_word (n % 10) (omega arith)) h in
-    either_word (n / 10 == 0) (digit_glyph false (n % 10) ∷ acc)
-    (digits_onto k 10 false (n / 10) (digit_glyph false (n % 10) ∷ acc)) more (digits_word k (n / 10) (digit_glyph false (n % 10) ∷ acc) more)
+either_digits : (b : Bool) (x y : Word) → AreDigits x → AreDigits y → AreDigits (if b then x else y)
+either_digits true x y h k = h
+either_digits false x y h k = k
+
+more_digits : (k n : ℕ) (acc : Word) → AreDigits acc → AreDigits (digits_onto k 10 false n acc)
+more_digits zero n acc h = h
+more_digits (suc k) n acc h =
+    let more = all_cons {x = digit_glyph false (n % 10)} (glyph_digit (n % 10) (omega arith)) h in
+    either_digits (n / 10 == 0) (digit_glyph false (n % 10) ∷ acc)
+    (digits_onto k 10 false (n / 10) (digit_glyph false (n % 10) ∷ acc)) more (more_digits k (n / 10) (digit_glyph false (n % 10) ∷ acc) more)
+
+pub decimal_digits : (n : ℕ) → AreDigits (decimal n)
+unfolding digits
+decimal_digits n = more_digits 64 n [] (said refl)
+
+digit_shown : (b : ℕ) → is_ascii_digit b ≡ true → is_word_byte b ≡ true
+digit_shown b h =
+    ap (λ (x : Bool). (((x || is_in_range 65 90 b) || is_in_range 97 122 b) || (b == 95)) || (b == 46) || (b == 45)) h
 
 pub decimal_word : (n : ℕ) → IsWord (decimal n)
-unfolding digits
-decimal_word n = digits_word 64 n [] (said refl)
+decimal_word n = all_weaker digit_shown (decimal_digits n)
 
 -- ---- names and values
 

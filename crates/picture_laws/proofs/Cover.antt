@@ -7,7 +7,8 @@ use Rattle.letter_kinds.specs.Detector.{Token}
 use Rattle.letter_kinds.specs.Reports.{kept_report}
 use Rattle.letter_kinds.specs.declared.note.Report.{Report}
 use Rattle.picture_rules.specs.Parts.{above}
-use Rattle.picture_laws.specs.Applying.{Part, PartFits}
+use Rattle.picture_laws.specs.Applying.{Part}
+use Rattle.picture_laws.proofs.Opening.{PartFits}
 use Rattle.picture_laws.proofs.Walking.{AllFit, In}
 
 -- ---- numbers

@@ -1,3 +1,4 @@
+mod Numerals
 mod Bytes
 mod Lines
 mod Shown
@@ -9,8 +10,20 @@ mod Opening
 mod Walking
 mod Apart
 mod Blocks
-mod Cover
+pub mod Cover
+mod Parts
 mod Telling
+mod States
+mod Numbered
+mod Runs
 mod Example
-mod Touched
+pub mod Touched
 mod One
+mod Things
+mod Amounts
+mod Tables
+mod Silent
+mod SeatSums
+mod Totals
+mod CountsFit
+mod AllSums

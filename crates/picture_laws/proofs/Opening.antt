@@ -1,14 +1,21 @@
 -- The lines with which parts begin, or which say that they are no more.
 use Rattle.std.proofs.Common.{◌≡◌, ◌⊎◌, ℕ, true, false, not, if◌then◌else◌, inl, inr, refl, ap, sym, ◌∙◌, arith}
-use Rattle.std.specs.Prelude.{bytes_eq, codes}
+use Rattle.std.specs.Prelude.{◌<◌, ◌^◌, bytes_eq, codes, ⊤}
 use Rattle.std.specs.Fmt.{decimal}
 use Rattle.std.specs.List.{list_any}
-use Rattle.std.proofs.lemmas.Fmt.{decimal_injective}
 use Rattle.std.proofs.lemmas.Slice.Eq.{bytes_eq-Decides}
 use Rattle.behaviour_text.specs.Words.{word_at}
 use Rattle.picture_rules.specs.Words.{Line, Word}
-use Rattle.picture_laws.specs.Applying.{AReport, AToken, AnActor, Part, PartFits, TheDetector, begins, has_words, is_further, part_words, says_gone}
+use Rattle.picture_laws.specs.Applying.{AReport, AToken, AnActor, Part, TheDetector, begins, has_words, is_further, part_words, says_gone}
+use Rattle.picture_laws.proofs.Numerals.{told_apart}
 use Rattle.picture_laws.proofs.Shown.{first_true, second_true}
+
+-- the number of the part has 64 bits
+abbrev pub PartFits : Part → Type 0
+PartFits (AnActor a) = a < 2 ^ 64
+PartFits TheDetector = ⊤
+PartFits (AReport a) = a < 2 ^ 64
+PartFits (AToken n) = n < 2 ^ 64
 
 abbrev pub Opens : Part → Line → Type 0
 Opens p line = (begins p line ≡ true) ⊎ (says_gone p line ≡ true)
@@ -67,24 +74,24 @@ token_no : (n : ℕ) (line : Line) → Opens (AToken n) line → word_at line 1 
 token_no n line (inl h) = second_word (codes "token") (decimal n) line h
 token_no n line (inr h) = second_word (codes "closed") (decimal n) line h
 
-same_part : (p q : Part) (line : Line) → kind_no p ≡ kind_no q → Opens p line → Opens q line → PartFits p → PartFits q → p ≡ q
-same_part (AnActor a) (AnActor b) line k h j f g = ap AnActor (decimal_injective a b f g (sym (actor_no a line h) ∙ actor_no b line j))
-same_part TheDetector TheDetector line k h j f g = refl
-same_part (AReport a) (AReport b) line k h j f g = ap AReport (decimal_injective a b f g (sym (report_no a line h) ∙ report_no b line j))
-same_part (AToken a) (AToken b) line k h j f g = ap AToken (decimal_injective a b f g (sym (token_no a line h) ∙ token_no b line j))
-same_part (AnActor a) TheDetector line k h j f g = absurd (omega (arith, k))
-same_part (AnActor a) (AReport b) line k h j f g = absurd (omega (arith, k))
-same_part (AnActor a) (AToken b) line k h j f g = absurd (omega (arith, k))
-same_part TheDetector (AnActor b) line k h j f g = absurd (omega (arith, k))
-same_part TheDetector (AReport b) line k h j f g = absurd (omega (arith, k))
-same_part TheDetector (AToken b) line k h j f g = absurd (omega (arith, k))
-same_part (AReport a) (AnActor b) line k h j f g = absurd (omega (arith, k))
-same_part (AReport a) TheDetector line k h j f g = absurd (omega (arith, k))
-same_part (AReport a) (AToken b) line k h j f g = absurd (omega (arith, k))
-same_part (AToken a) (AnActor b) line k h j f g = absurd (omega (arith, k))
-same_part (AToken a) TheDetector line k h j f g = absurd (omega (arith, k))
-same_part (AToken a) (AReport b) line k h j f g = absurd (omega (arith, k))
+same_part : (p q : Part) (line : Line) → kind_no p ≡ kind_no q → Opens p line → Opens q line → PartFits q → p ≡ q
+same_part (AnActor a) (AnActor b) line k h j f = ap AnActor (told_apart a b f (sym (actor_no a line h) ∙ actor_no b line j))
+same_part TheDetector TheDetector line k h j f = refl
+same_part (AReport a) (AReport b) line k h j f = ap AReport (told_apart a b f (sym (report_no a line h) ∙ report_no b line j))
+same_part (AToken a) (AToken b) line k h j f = ap AToken (told_apart a b f (sym (token_no a line h) ∙ token_no b line j))
+same_part (AnActor a) TheDetector line k h j f = absurd (omega (arith, k))
+same_part (AnActor a) (AReport b) line k h j f = absurd (omega (arith, k))
+same_part (AnActor a) (AToken b) line k h j f = absurd (omega (arith, k))
+same_part TheDetector (AnActor b) line k h j f = absurd (omega (arith, k))
+same_part TheDetector (AReport b) line k h j f = absurd (omega (arith, k))
+same_part TheDetector (AToken b) line k h j f = absurd (omega (arith, k))
+same_part (AReport a) (AnActor b) line k h j f = absurd (omega (arith, k))
+same_part (AReport a) TheDetector line k h j f = absurd (omega (arith, k))
+same_part (AReport a) (AToken b) line k h j f = absurd (omega (arith, k))
+same_part (AToken a) (AnActor b) line k h j f = absurd (omega (arith, k))
+same_part (AToken a) TheDetector line k h j f = absurd (omega (arith, k))
+same_part (AToken a) (AReport b) line k h j f = absurd (omega (arith, k))
 
 -- it is of one part alone
-pub one_part : (p q : Part) (line : Line) → Opens p line → Opens q line → PartFits p → PartFits q → p ≡ q
-one_part p q line h j f g = same_part p q line (sym (kind_is p line h) ∙ kind_is q line j) h j f g
+pub one_part : (p q : Part) (line : Line) → Opens p line → Opens q line → PartFits q → p ≡ q
+one_part p q line h j f = same_part p q line (sym (kind_is p line h) ∙ kind_is q line j) h j f

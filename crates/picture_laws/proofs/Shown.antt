@@ -1,5 +1,5 @@
 -- The bytes of lines whose words are of the alphabet.
-use Rattle.std.proofs.Common.{◌≡◌, ℕ, Bool, true, false, ◌&&◌, ◌||◌, ◌==◌, List, [], ◌∷◌, ◌++◌, refl, ap}
+use Rattle.std.proofs.Common.{◌≡◌, ℕ, Bool, true, false, ◌&&◌, ◌||◌, ◌==◌, not, List, [], ◌∷◌, ◌++◌, refl, ap}
 use Rattle.std.specs.Prelude.{codes}
 use Rattle.std.specs.Fmt.{decimal}
 use Rattle.std.specs.List.{list_all}
@@ -19,6 +19,10 @@ first_true false b h = cc
 pub second_true : (a b : Bool) → (a && b) ≡ true → b ≡ true
 second_true true b h = h
 second_true false b h = cc
+
+pub off : (b : Bool) → not b ≡ true → b ≡ false
+off true h = cc
+off false h = refl
 
 pub first_passes : {X : Type 0} {p : X → Bool} {x : X} {xs : List X} → Pass p (x ∷ xs) → p x ≡ true
 first_passes {p = p} {x = x} {xs = xs} h = first_true (p x) (list_all p xs) h.all

@@ -1,5 +1,5 @@
 -- Of all numbers below one those that are touched tell all.
-use Rattle.std.proofs.Common.{◌≡◌, ◌<◌, ◌≤◌, ℕ, zero, suc, ◌+◌, Bool, true, false, if◌then◌else◌, List, [], ◌∷◌, ◌++◌, inl, inr, refl, ap, sym, ◌∙◌, arith}
+use Rattle.std.proofs.Common.{◌≡◌, ◌<◌, ◌≤◌, ℕ, zero, suc, ◌+◌, Bool, false, if◌then◌else◌, List, [], ◌∷◌, ◌++◌, inl, inr, refl, ap, sym, ◌∙◌, arith}
 use Rattle.std.specs.Prelude.{flat_map}
 use Rattle.std.specs.List.{AllByRecursion}
 use Rattle.std.specs.List.Sorted.{IsStrictlySortedBy}
@@ -58,12 +58,6 @@ not_among : (k : ℕ) (xs : List ℕ) → AllFrom (suc k) xs → has xs k ≡ fa
 not_among k [] h = refl
 not_among k (x ∷ xs) h = grind (arith, nat_tests, h.0, not_among k xs h.1)
 
-first_among : (x : ℕ) (xs : List ℕ) → has (x ∷ xs) x ≡ true
-first_among x xs = grind (arith, nat_tests)
-
-later_among : (x a : ℕ) (xs : List ℕ) → has xs a ≡ true → has (x ∷ xs) a ≡ true
-later_among x a xs h = grind (arith, nat_tests, h)
-
 still_not : (x a : ℕ) (xs : List ℕ) → x < a → has xs a ≡ false → has (x ∷ xs) a ≡ false
 still_not x a xs lt h = grind (arith, nat_tests, lt, h)
 
@@ -72,24 +66,28 @@ module _ (change : ℕ → List Line) where
   abbrev Quiet : ℕ → List ℕ → Type 0
   Quiet k xs = (a : ℕ) → k ≤ a → has xs a ≡ false → change a ≡ []
 
-  cut : (c k : ℕ) (xs : List ℕ) → AllFrom k xs → IsStrictlySortedBy nat_cmp xs → ((a : ℕ) → has xs a ≡ true → a < k + c) → Quiet k xs
+  -- nothing is told of these, where nothing is told of numbers from k on
+  none_told : (k : ℕ) (xs : List ℕ) → AllFrom k xs → ((a : ℕ) → k ≤ a → change a ≡ []) → flat_map change xs ≡ []
+  none_told k [] from past = refl
+  none_told k (x ∷ xs) from past = ap (λ ls. ls ++ flat_map change xs) (past x from.0) ∙ none_told k xs from.1 past
+
+  cut : (c k : ℕ) (xs : List ℕ) → AllFrom k xs → IsStrictlySortedBy nat_cmp xs → ((a : ℕ) → k + c ≤ a → change a ≡ []) → Quiet k xs
       → flat_map change (numbers_from k c) ≡ flat_map change xs
-  cut zero k [] from rise within quiet = refl
-  cut zero k (x ∷ xs) from rise within quiet = absurd (omega (arith, from.0, within x (first_among x xs)))
-  cut (suc c) k [] from rise within quiet =
+  cut zero k xs from rise past quiet = sym (none_told k xs from (λ a le. past a (omega (arith, le))))
+  cut (suc c) k [] from rise past quiet =
       ap (λ ls. ls ++ flat_map change (numbers_from (suc k) c)) (quiet k (omega arith) refl)
-      ∙ cut c (suc k) [] tt rise (λ a h. absurd cc) (λ a le h. quiet a (omega (arith, le)) h)
-  cut (suc c) k (x ∷ xs) from rise within quiet = elim (cases_lt k x) [
+      ∙ cut c (suc k) [] tt rise (λ a le. past a (omega (arith, le))) (λ a le h. quiet a (omega (arith, le)) h)
+  cut (suc c) k (x ∷ xs) from rise past quiet = elim (cases_lt k x) [
     | inl less ↦
         let later = lower (suc k) (suc x) xs (omega (arith, less)) (all_above x xs rise) in
         ap (λ ls. ls ++ flat_map change (numbers_from (suc k) c)) (quiet k (omega arith) (not_among k (x ∷ xs) (omega (arith, less), later)))
-        ∙ cut c (suc k) (x ∷ xs) (omega (arith, less), later) rise (λ a h. omega (arith, within a h)) (λ a le h. quiet a (omega (arith, le)) h)
-    | inr past ↦
-        let same : k ≡ x = omega (arith, past, from.0) in
+        ∙ cut c (suc k) (x ∷ xs) (omega (arith, less), later) rise (λ a le. past a (omega (arith, le))) (λ a le h. quiet a (omega (arith, le)) h)
+    | inr least ↦
+        let same : k ≡ x = omega (arith, least, from.0) in
         let later = lower (suc k) (suc x) xs (omega (arith, same)) (all_above x xs rise) in
         ap (λ n. change n ++ flat_map change (numbers_from (suc k) c)) same
         ∙ ap (λ ls. change x ++ ls)
-        (cut c (suc k) xs later (rest_rise x xs rise) (λ a h. omega (arith, within a (later_among x a xs h)))
+        (cut c (suc k) xs later (rest_rise x xs rise) (λ a le. past a (omega (arith, le)))
         (λ a le h. quiet a (omega (arith, le)) (still_not x a xs (omega (arith, le, same)) h)))
   ]
 
@@ -98,6 +96,6 @@ from_none [] = tt
 from_none (x ∷ xs) = (omega arith, from_none xs)
 
 pub touched_tell_all : TouchedTellAll
-touched_tell_all change n touched rise within quiet =
+touched_tell_all change n touched rise past quiet =
     ap (flat_map change) (below_from n)
-    ∙ cut change n 0 touched (from_none touched) rise (λ a h. omega (arith, within a h)) (λ a le h. quiet a h)
+    ∙ cut change n 0 touched (from_none touched) rise (λ a le. past a (omega (arith, le))) (λ a le h. quiet a h)

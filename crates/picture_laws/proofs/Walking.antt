@@ -2,9 +2,9 @@
 use Rattle.std.proofs.Common.{◌≡◌, ◌⊎◌, Bool, true, false, if◌then◌else◌, List, [], ◌∷◌, ◌++◌, inl, inr, refl, ap, sym, ◌∙◌, subst}
 use Rattle.std.specs.Prelude.{flat_map, ⊤}
 use Rattle.picture_rules.specs.Words.{Line}
-use Rattle.picture_laws.specs.Applying.{Part, PartFits, apply, begins, further, is_further, says_gone}
+use Rattle.picture_laws.specs.Applying.{Part, apply, begins, further, is_further, says_gone}
 use Rattle.picture_laws.proofs.Bytes.{Pass}
-use Rattle.picture_laws.proofs.Opening.{one_part, opens_anew}
+use Rattle.picture_laws.proofs.Opening.{PartFits, one_part, opens_anew}
 use Rattle.picture_laws.proofs.Shown.{first_passes, others_pass}
 
 -- what a part's lines tell: nothing, or the part anew, or that it is no more
@@ -13,7 +13,7 @@ pub data Tells (q : Part) (block old new : List Line) : Type 0 where
   anew : (line : Line) (body : List Line) → block ≡ line ∷ body → begins q line ≡ true → Pass is_further body → new ≡ line ∷ body → Tells q block old new
   gone : (line : Line) → block ≡ line ∷ [] → begins q line ≡ false → says_gone q line ≡ true → new ≡ [] → Tells q block old new
 
-abbrev Stops : List Line → Type 0
+abbrev pub Stops : List Line → Type 0
 Stops [] = ⊤
 Stops (line ∷ lines) = is_further line ≡ false
 
@@ -78,7 +78,7 @@ module _ (old new block : Part → List Line) (tells : (q : Part) → Tells q (b
   stops_all [] = tt
   stops_all (q ∷ ps) = stops_at q ps (tells q) (stops_all ps)
 
-  module _ (p : Part) (fits : PartFits p) where
+  module _ (p : Part) where
     -- the part after these lines is the new one, or it is the old one and none of the lines is of it
     abbrev Told : List Part → Type 0
     Told ps = (apply (flat_map block ps) old p ≡ new p) ⊎ ((apply (flat_map block ps) old p ≡ old p) × (In p ps → old p ≡ new p))
@@ -90,11 +90,11 @@ module _ (old new block : Part → List Line) (tells : (q : Part) → Tells q (b
     on_anew : (q : Part) (ps : List Part) (line : Line) (body : List Line) (b g : Bool) → PartFits q → block q ≡ line ∷ body → begins q line ≡ true
         → Pass is_further body → new q ≡ line ∷ body → begins p line ≡ b → says_gone p line ≡ g → Told ps → Told (q ∷ ps)
     on_anew q ps line body true g f at h further e begun_is gone_is rest =
-        let is = one_part p q line (inl begun_is) (inl h) fits f in
+        let is = one_part p q line (inl begun_is) (inl h) f in
         inl (ap (λ (x : List Line). apply (x ++ flat_map block ps) old p) at ∙ begun old p line body (flat_map block ps) begun_is further (stops_all ps)
         ∙ sym e ∙ ap new (sym is))
     on_anew q ps line body false true f at h further e begun_is gone_is rest =
-        let is = one_part p q line (inr gone_is) (inl h) fits f in
+        let is = one_part p q line (inr gone_is) (inl h) f in
         absurd (clash (begins p line) (ap (λ r. begins r line) is ∙ h) begun_is)
     on_anew q ps line body false false f at h further e begun_is gone_is rest =
         on_other q ps
@@ -105,10 +105,10 @@ module _ (old new block : Part → List Line) (tells : (q : Part) → Tells q (b
     on_gone : (q : Part) (ps : List Part) (line : Line) (b g : Bool) → PartFits q → block q ≡ line ∷ [] → begins q line ≡ false
         → says_gone q line ≡ true → new q ≡ [] → begins p line ≡ b → says_gone p line ≡ g → Told ps → Told (q ∷ ps)
     on_gone q ps line true g f at h k e begun_is gone_is rest =
-        let is = one_part p q line (inl begun_is) (inr k) fits f in
+        let is = one_part p q line (inl begun_is) (inr k) f in
         absurd (clash (begins p line) begun_is (ap (λ r. begins r line) is ∙ h))
     on_gone q ps line false true f at h k e begun_is gone_is rest =
-        let is = one_part p q line (inr gone_is) (inr k) fits f in
+        let is = one_part p q line (inr gone_is) (inr k) f in
         inl (ap (λ (x : List Line). apply (x ++ flat_map block ps) old p) at ∙ ended old p line (flat_map block ps) begun_is gone_is ∙ sym e ∙ ap new (sym is))
     on_gone q ps line false false f at h k e begun_is gone_is rest =
         on_other q ps (ap (λ (x : List Line). apply (x ++ flat_map block ps) old p) at ∙ passed old p line (flat_map block ps) begun_is gone_is)

@@ -1,5 +1,5 @@
 -- What the lines of an entry say of each part of a state, and of the notes that wait.
-use Rattle.std.specs.Prelude.{ℕ, ◌≡◌, ◌<◌, ◌≤◌, ◌^◌, ◌&&◌, not, Bool, false, ⊤, List, [], ◌∷◌, ◌++◌, bytes_eq, codes, drop, filter, length, map, if◌then◌else◌}
+use Rattle.std.specs.Prelude.{ℕ, ◌≡◌, ◌≤◌, ◌^◌, ◌&&◌, not, Bool, false, List, [], ◌∷◌, ◌++◌, bytes_eq, codes, drop, filter, length, map, if◌then◌else◌}
 use Rattle.std.specs.Fmt.{decimal}
 use Rattle.std.specs.List.{list_any}
 use Rattle.behaviour_code.specs.WellFormed.{IsWellFormed}
@@ -79,14 +79,7 @@ is_note line = bytes_eq (word_at line 0) (codes "note")
 
 -- ---- numbers of 64 bits, which words tell apart
 
--- the number of the part is one of these
-abbrev pub PartFits : Part → Type 0
-PartFits (AnActor a) = a < 2 ^ 64
-PartFits TheDetector = ⊤
-PartFits (AReport a) = a < 2 ^ 64
-PartFits (AToken n) = n < 2 ^ 64
-
--- so are the numbers of all actors, reports and tokens
+-- the numbers of all actors, reports and tokens are such
 pub record NumbersFit (s : State) : Type 0 where
   pub actors : length s.actors ≤ 2 ^ 64
   pub reports : above (reporters s.detector) ≤ 2 ^ 64
@@ -98,7 +91,7 @@ pub record NumbersFit (s : State) : Type 0 where
 abbrev pub TellsParts : Type 0
 TellsParts =
     (e : Event) (s t : State) → IsWellFormed s.program → NumbersFit s → NumbersFit t
-    → next s e ≡ Goes t → (p : Part) → PartFits p
+    → next s e ≡ Goes t → (p : Part)
     → apply (entry_lines e s t) (part_lines s) p ≡ part_lines t p
 
 -- the notes that wait after an entry are those before, without the one heard, and those of its lines
