@@ -245,10 +245,16 @@ module _ (order : Order) (source sink : Sides) (program : Program) (bytes : List
   audit_answers answer (AuditAnswers.followed written) = audit_written answer written
   audit_answers answer (AuditAnswers.starved written e) = subst (Answers (Some order) source sink book) (sym e) (Answers.starved_in_audit order program bytes begins of written)
 
+-- the bytes that the words have audited, and their book
+pub audit_of_begun : (order : Order) (source : Sides) (program : Program) (book : BookValue) (b : Begun) → b ≡ begun.Audit program book → GivesBegun order.job source b
+    → (bytes : List ℕ) × BeginsAudit (Some order) source order program bytes × IsBookText bytes book
+audit_of_begun order source program book b is h =
+    let begins = subst (IsBegun order.job h.input) is h.begins in
+    (begins.bytes, begins_audit order source program h.input begins.text begins.bytes refl begins.audits h.read begins.has begins.runnable, begins.book_text)
+
 pub audit_begun : (order : Order) (source sink : Sides) (program : Program) (book found : BookValue) (answer : Status) (b : Begun) → b ≡ begun.Audit program book
     → GivesBegun order.job source b → found ≡ book → AuditAnswers program book sink answer → Answers (Some order) source sink found answer
 audit_begun order source sink program book found answer b is h same answers =
-    let begins = subst (IsBegun order.job h.input) is h.begins in
+    let begins = audit_of_begun order source program book b is h in
     subst (λ (x : BookValue). Answers (Some order) source sink x answer) (sym same)
-    (audit_answers order source sink program begins.bytes book
-    (begins_audit order source program h.input begins.text begins.bytes refl begins.audits h.read begins.has begins.runnable) begins.book_text answer answers)
+    (audit_answers order source sink program begins.0 book begins.1 begins.2 answer answers)

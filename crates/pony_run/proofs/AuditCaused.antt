@@ -94,7 +94,7 @@ module _ (order : Order) (source sink : Sides) (book : BookValue) (answer : Stat
       (one_way given.input of.text behind given.text bytes (subst (λ (i : List ℕ). IsSplit i of.text behind) (same_input of.input of.read) split) given.behind).1
 
   what_is_found : Seen order source sink book answer → Found program bytes sink book answer
-  what_is_found (Seen.no_memory e) = Found.starved e
+  what_is_found (Seen.no_memory e unfailed) = Found.starved e
   what_is_found (Seen.failed takes fails e) = absurd (given.well fails)
   what_is_found (Seen.long read h is e) = let same = ap length (same_input read h) in let short = given.short in absurd (omega arith)
   what_is_found (Seen.faulty read h text has l k faulty e) =

@@ -18,7 +18,7 @@ use Rattle.pony_run.specs.Headline.{Answers, EndsWith, EveryRun}
 use Rattle.job_input.specs.Streams.{CountsFault, CountsNoFault, HasFailed, Sides, most_bytes}
 use Rattle.pony_run.proofs.AuditCaused.{audit_caused}
 use Rattle.pony_run.proofs.Given.{ends_no_audit, input_is_well, no_fault, no_run, one_program, one_text, read_is, well_read}
-use Rattle.pony_run.proofs.Seen.{HasProgram, Seen, of_audit, see}
+use Rattle.pony_run.proofs.Seen.{AuditSeen, HasProgram, Seen, of_audit, see}
 
 module _ (order : Order) (source sink : Sides) (book : BookValue) (answer : Status) where
   module _ (input : List ℕ) (given : IsGiven order.job source input) where
@@ -37,7 +37,7 @@ module _ (order : Order) (source sink : Sides) (book : BookValue) (answer : Stat
     -- ---- where a cause is there, its answer comes
 
     when_too_long : ReadsWell order.job source → length input ≡ most_bytes → Seen order source sink book answer → IsUnlessMemory answer status.TooLong
-    when_too_long well long (Seen.no_memory e) = inr e
+    when_too_long well long (Seen.no_memory e unfailed) = inr e
     when_too_long well long (Seen.failed takes fails e) = absurd (well_read order.job source well takes fails)
     when_too_long well long (Seen.long read h is e) = inl e
     when_too_long well long (Seen.faulty read h text has line kind fault e) = absurd (not_long read text h has long)
@@ -63,7 +63,7 @@ module _ (order : Order) (source sink : Sides) (book : BookValue) (answer : Stat
 
       when_bad_text : (line kind : ℕ) → ReadsWell order.job source → told_fault text ≡ Some (line, kind)
           → Seen order source sink book answer → IsUnlessMemory answer (status.BadText line kind)
-      when_bad_text line kind well fault (Seen.no_memory e) = inr e
+      when_bad_text line kind well fault (Seen.no_memory e unfailed) = inr e
       when_bad_text line kind well fault (Seen.failed takes fails e) = absurd (well_read order.job source well takes fails)
       when_bad_text line kind well fault (Seen.long read h is e) = absurd (short_read read h is)
       when_bad_text line kind well fault (Seen.faulty read h other of l k faulty e) =
@@ -95,7 +95,7 @@ module _ (order : Order) (source sink : Sides) (book : BookValue) (answer : Stat
 
         when_bad_program : (kind behaviour step rule : ℕ) → ReadsWell order.job source → first_broken program ≡ Some (fault_at kind behaviour step rule)
             → Seen order source sink book answer → IsUnlessMemory answer (status.BadProgram kind behaviour step rule)
-        when_bad_program kind behaviour step rule well fault (Seen.no_memory e) = inr e
+        when_bad_program kind behaviour step rule well fault (Seen.no_memory e unfailed) = inr e
         when_bad_program kind behaviour step rule well fault (Seen.failed takes fails e) = absurd (well_read order.job source well takes fails)
         when_bad_program kind behaviour step rule well fault (Seen.long read h is e) = absurd (short_read read h is)
         when_bad_program kind behaviour step rule well fault (Seen.faulty read h other of l k faulty e) = absurd (not_faulty read other h of l k faulty.first)
@@ -114,7 +114,7 @@ module _ (order : Order) (source sink : Sides) (book : BookValue) (answer : Stat
 
         when_it_ends : RunsProgram order.job → ReadsWell order.job source → ¬ HasFailed sink → first_broken program ≡ None → Seen order source sink book answer
             → IsEnd answer ⊎ (answer ≡ status.NoMemory)
-        when_it_ends runs well able kept (Seen.no_memory e) = inr e
+        when_it_ends runs well able kept (Seen.no_memory e unfailed) = inr e
         when_it_ends runs well able kept (Seen.failed takes fails e) = absurd (well_read order.job source well takes fails)
         when_it_ends runs well able kept (Seen.long read h is e) = absurd (short_read read h is)
         when_it_ends runs well able kept (Seen.faulty read h other of l k faulty e) = absurd (not_faulty read other h of l k faulty.first)
@@ -126,7 +126,7 @@ module _ (order : Order) (source sink : Sides) (book : BookValue) (answer : Stat
 
         of_end : IsEnd answer → Seen order source sink book answer
             → (first_broken program ≡ None) × (run : EveryRun order program book) × EndsWith answer run.state book.entries order.budget
-        of_end end (Seen.no_memory e) = absurd (subst IsEnd e end)
+        of_end end (Seen.no_memory e unfailed) = absurd (subst IsEnd e end)
         of_end end (Seen.failed takes fails e) = absurd (subst IsEnd e end)
         of_end end (Seen.long read h is e) = absurd (subst IsEnd e end)
         of_end end (Seen.faulty read h other of l k faulty e) = absurd (subst IsEnd e end)
@@ -139,7 +139,7 @@ module _ (order : Order) (source sink : Sides) (book : BookValue) (answer : Stat
         of_end end (Seen.audit is p of bytes behind audit) = absurd (ends_no_audit answer end (of_audit p bytes sink book answer audit))
 
   when_read_fails : CountsFault source → Seen order source sink book answer → IsUnlessMemory answer status.ReadFault
-  when_read_fails fault (Seen.no_memory e) = inr e
+  when_read_fails fault (Seen.no_memory e unfailed) = inr e
   when_read_fails fault (Seen.failed takes fails e) = inl e
   when_read_fails fault (Seen.long read h is e) = let well = input_is_well order.job source read h in absurd (omega arith)
   when_read_fails fault (Seen.faulty read h other of l k faulty e) = let well = input_is_well order.job source read h in absurd (omega arith)
@@ -152,7 +152,7 @@ module _ (order : Order) (source sink : Sides) (book : BookValue) (answer : Stat
   -- ---- each answer comes only where its cause is there
 
   at_end : IsEnd answer → Seen order source sink book answer → RunsProgram order.job × CountsNoFault source × CountsNoFault sink
-  at_end end (Seen.no_memory e) = absurd (subst IsEnd e end)
+  at_end end (Seen.no_memory e unfailed) = absurd (subst IsEnd e end)
   at_end end (Seen.failed takes fails e) = absurd (subst IsEnd e end)
   at_end end (Seen.long read h is e) = absurd (subst IsEnd e end)
   at_end end (Seen.faulty read h other of l k faulty e) = absurd (subst IsEnd e end)
@@ -163,7 +163,7 @@ module _ (order : Order) (source sink : Sides) (book : BookValue) (answer : Stat
   at_end end (Seen.audit is p of bytes behind audit) = absurd (ends_no_audit answer end (of_audit p bytes sink book answer audit))
 
   at_audit : IsOfAudit answer → Seen order source sink book answer → order.job ≡ Audit
-  at_audit audits (Seen.no_memory e) = absurd (subst IsOfAudit e audits)
+  at_audit audits (Seen.no_memory e unfailed) = absurd (subst IsOfAudit e audits)
   at_audit audits (Seen.failed takes fails e) = absurd (subst IsOfAudit e audits)
   at_audit audits (Seen.long read h is e) = absurd (subst IsOfAudit e audits)
   at_audit audits (Seen.faulty read h other of l k faulty e) = absurd (subst IsOfAudit e audits)
@@ -173,35 +173,37 @@ module _ (order : Order) (source sink : Sides) (book : BookValue) (answer : Stat
   at_audit audits (Seen.ended p of ended) = absurd (ends_no_audit answer ended.is_end audits)
   at_audit audits (Seen.audit is p of bytes behind audit) = is
 
--- ---- both, for an order
+  -- where the sink failed, a report or the line of a refusal was cut
+  sink_failed : CountsFault sink → Seen order source sink book answer → (answer ≡ status.WriteFault) ⊎ HasRefusal answer
+  sink_failed fault (Seen.no_memory e unfailed) = absurd (omega arith)
+  sink_failed fault (Seen.failed takes fails e) = inr (subst HasRefusal (sym e) tt)
+  sink_failed fault (Seen.long read h is e) = inr (subst HasRefusal (sym e) tt)
+  sink_failed fault (Seen.faulty read h other of l k faulty e) = inr (subst HasRefusal (sym e) tt)
+  sink_failed fault (Seen.broken read h other of p spells k b s r breaks e) = inr (subst HasRefusal (sym e) tt)
+  sink_failed fault (Seen.cut p of runs fails e) = inl e
+  sink_failed fault (Seen.audit_cut is p of bytes behind written run fails e) = inl e
+  sink_failed fault (Seen.ended p of ended) = let well = ended.well in absurd (omega arith)
+  sink_failed fault (Seen.audit is p of bytes behind (AuditSeen.no_book line kind first e)) = inr (subst HasRefusal (sym e) tt)
+  sink_failed fault (Seen.audit is p of bytes behind (AuditSeen.refuted written place cause wrong e)) = inr (subst HasRefusal (sym e) tt)
+  sink_failed fault (Seen.audit is p of bytes behind (AuditSeen.audited written run well e)) = absurd (omega arith)
 
--- where the sink failed, a report or the line of a refusal was cut
-sink_failed : (reading : Option Order) (source sink : Sides) (book : BookValue) (answer : Status) → CountsFault sink → Answers reading source sink book answer
-    → (answer ≡ status.WriteFault) ⊎ HasRefusal answer
-sink_failed reading source sink book answer fault (Answers.bad_words none unread refuses) = inr tt
-sink_failed reading source sink book answer fault (Answers.read_fault o words is_run reads fails refuses) = inr tt
-sink_failed reading source sink book answer fault (Answers.too_long o words input read is_long refuses) = inr tt
-sink_failed reading source sink book answer fault (Answers.bad_text o words input read text has line kind is refuses) = inr tt
-sink_failed reading source sink book answer fault (Answers.bad_program o words input read text has program spells k b s r breaks refuses) = inr tt
-sink_failed reading source sink book answer fault (Answers.bad_book o program bytes begins line kind is refuses) = inr tt
-sink_failed reading source sink book answer fault (Answers.not_a_run o program bytes begins of place cause refuted line) = inr tt
-sink_failed reading source sink book answer fault (Answers.audited o program bytes begins of text audited written) = let well = written.well in absurd (omega arith)
-sink_failed reading source sink book answer fault (Answers.audit_cut o program bytes begins of text audited is_cut) = inl refl
-sink_failed reading source sink book answer fault (Answers.quiet o program begins run text report written) = let well = written.well in absurd (omega arith)
-sink_failed reading source sink book answer fault (Answers.budget o program begins run text report written) = let well = written.well in absurd (omega arith)
-sink_failed reading source sink book answer fault (Answers.actors_full o program begins run a text report written) = let well = written.well in absurd (omega arith)
-sink_failed reading source sink book answer fault (Answers.write_fault o program begins run end text report is_cut) = inl refl
-sink_failed reading source sink book answer fault (Answers.starved reads none written) = let well = written.well in absurd (omega arith)
-sink_failed reading source sink book answer fault (Answers.starved_in_run o program begins run written) = let well = written.well in absurd (omega arith)
-sink_failed reading source sink book answer fault (Answers.starved_in_audit o program bytes begins of written) = let well = written.well in absurd (omega arith)
+-- ---- both, for an order
 
 module _ (order : Order) (source sink : Sides) (book : BookValue) where
   -- each answer with a refusal, or of a failed sink, tells its cause
-  no_bad_words : ¬ Answers (Some order) source sink book status.BadWords
-  no_bad_words (Answers.bad_words none unread refuses) = cc
+  no_bad_words : ¬ Seen order source sink book status.BadWords
+  no_bad_words (Seen.no_memory e unfailed) = cc
+  no_bad_words (Seen.failed takes fails e) = cc
+  no_bad_words (Seen.long read h is e) = cc
+  no_bad_words (Seen.faulty read h other of l k faulty e) = cc
+  no_bad_words (Seen.broken read h other of p p_spells k b s r breaks e) = cc
+  no_bad_words (Seen.cut p of runs fails e) = cc
+  no_bad_words (Seen.audit_cut is p of bytes behind written run fails e) = cc
+  no_bad_words (Seen.ended p of ended) = ended.is_end
+  no_bad_words (Seen.audit is p of bytes behind audit) = of_audit p bytes sink book status.BadWords audit
 
   of_read_fault : Seen order source sink book status.ReadFault → TakesInput order.job × HasFailed source
-  of_read_fault (Seen.no_memory e) = absurd (cc)
+  of_read_fault (Seen.no_memory e unfailed) = absurd (cc)
   of_read_fault (Seen.failed takes fails e) = (takes, fails)
   of_read_fault (Seen.long read h is e) = absurd (cc)
   of_read_fault (Seen.faulty read h other of l k faulty e) = absurd (cc)
@@ -212,7 +214,7 @@ module _ (order : Order) (source sink : Sides) (book : BookValue) where
   of_read_fault (Seen.audit is p of bytes behind audit) = absurd (of_audit p bytes sink book status.ReadFault audit)
 
   of_write_fault : Seen order source sink book status.WriteFault → HasFailed sink
-  of_write_fault (Seen.no_memory e) = absurd (cc)
+  of_write_fault (Seen.no_memory e unfailed) = absurd (cc)
   of_write_fault (Seen.failed takes fails e) = absurd (cc)
   of_write_fault (Seen.long read h is e) = absurd (cc)
   of_write_fault (Seen.faulty read h other of l k faulty e) = absurd (cc)
@@ -224,7 +226,7 @@ module _ (order : Order) (source sink : Sides) (book : BookValue) where
 
   module _ (input : List ℕ) (given : IsGiven order.job source input) where
     of_too_long : Seen order source sink book status.TooLong → length input ≡ most_bytes
-    of_too_long (Seen.no_memory e) = absurd (cc)
+    of_too_long (Seen.no_memory e unfailed) = absurd (cc)
     of_too_long (Seen.failed takes fails e) = absurd (cc)
     of_too_long (Seen.long read h is e) = ap length (sym (read_is order.job source input read given h)) ∙ is
     of_too_long (Seen.faulty read h other of l k faulty e) = absurd (cc)
@@ -236,7 +238,7 @@ module _ (order : Order) (source sink : Sides) (book : BookValue) where
 
     of_bad_text : (text : List ℕ) (line kind : ℕ) → IsProgramText order.job input text → Seen order source sink book (status.BadText line kind)
         → told_fault text ≡ Some (line, kind)
-    of_bad_text text line kind part (Seen.no_memory e) = absurd (cc)
+    of_bad_text text line kind part (Seen.no_memory e unfailed) = absurd (cc)
     of_bad_text text line kind part (Seen.failed takes fails e) = absurd (cc)
     of_bad_text text line kind part (Seen.long read h is e) = absurd (cc)
     of_bad_text text line kind part (Seen.faulty read h other of l k faulty e) =
@@ -252,7 +254,7 @@ module _ (order : Order) (source sink : Sides) (book : BookValue) where
 
     of_bad_program : (text : List ℕ) (has : HasText order.job input text) (program : Program) (kind behaviour step rule : ℕ) → Spells text program
         → Seen order source sink book (status.BadProgram kind behaviour step rule) → first_broken program ≡ Some (fault_at kind behaviour step rule)
-    of_bad_program text has program kind behaviour step rule spells (Seen.no_memory e) = absurd (cc)
+    of_bad_program text has program kind behaviour step rule spells (Seen.no_memory e unfailed) = absurd (cc)
     of_bad_program text has program kind behaviour step rule spells (Seen.failed takes fails e) = absurd (cc)
     of_bad_program text has program kind behaviour step rule spells (Seen.long read h is e) = absurd (cc)
     of_bad_program text has program kind behaviour step rule spells (Seen.faulty read h other of l k faulty e) = absurd (cc)
@@ -269,17 +271,14 @@ module _ (order : Order) (source sink : Sides) (book : BookValue) where
     of_bad_program text has program kind behaviour step rule spells (Seen.ended p of ended) = absurd ended.is_end
     of_bad_program text has program kind behaviour step rule spells (Seen.audit is p of bytes behind audit) = absurd (of_audit p bytes sink book (status.BadProgram kind behaviour step rule) audit)
 
-module _ (order : Order) (source sink : Sides) (book : BookValue) (answer : Status) (answers : Answers (Some order) source sink book answer) where
+module _ (order : Order) (source sink : Sides) (book : BookValue) (answer : Status) (saw : Seen order source sink book answer) where
   -- what is seen, at the answer that came
-  saw : Seen order source sink book answer
-  saw = see order source sink book answer answers
-
   as_seen : (a : Status) → answer ≡ a → Seen order source sink book a
   as_seen a e = subst (Seen order source sink book) e saw
 
   comes_only : ComesOnly order source sink answer book
   comes_only = record {
-    bad_words = λ e. no_bad_words order source sink book (subst (Answers (Some order) source sink book) e answers);
+    bad_words = λ e. no_bad_words order source sink book (as_seen status.BadWords e);
     read_fault = λ e. of_read_fault order source sink book (as_seen status.ReadFault e);
     too_long = λ input given e. of_too_long order source sink book input given (as_seen status.TooLong e);
     bad_text = λ input text line kind given part e. of_bad_text order source sink book input given text line kind part (as_seen (status.BadText line kind) e);
@@ -300,15 +299,19 @@ module _ (order : Order) (source sink : Sides) (book : BookValue) (answer : Stat
     bad_program = λ input text program kind behaviour step rule given well has spells fault.
         when_bad_program order source sink book answer input given text has program spells kind behaviour step rule well fault saw;
     end = λ input text program runs given well able has spells kept. when_it_ends order source sink book answer input given text has program spells runs well able kept saw;
-    write_fault = λ fault. sink_failed (Some order) source sink book answer fault answers;
+    write_fault = λ fault. sink_failed order source sink book answer fault saw;
   }
 
-  pub order_caused : OrderCauses order source sink answer book
-  order_caused = record {
+  pub caused_as_seen : OrderCauses order source sink answer book
+  caused_as_seen = record {
     only = comes_only;
     wherever = comes_wherever;
     audit = λ is program bytes given. audit_caused order source sink book answer program bytes is given saw;
   }
+
+pub order_caused : (order : Order) (source sink : Sides) (book : BookValue) (answer : Status) → Answers (Some order) source sink book answer
+    → OrderCauses order source sink answer book
+order_caused order source sink book answer answers = caused_as_seen order source sink book answer (see order source sink book answer answers)
 
 -- ---- for words
 

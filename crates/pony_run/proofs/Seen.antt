@@ -42,7 +42,7 @@ pub data AuditSeen (program : Program) (bytes : List ℕ) (sink : Sides) (book :
   audited : IsBookText bytes book → IsARun program book → CountsNoFault sink → answer ≡ status.Audited → AuditSeen program bytes sink book answer
 
 pub data Seen (order : Order) (source sink : Sides) (book : BookValue) (answer : Status) : Type 0 where
-  no_memory : answer ≡ status.NoMemory → Seen order source sink book answer
+  no_memory : answer ≡ status.NoMemory → CountsNoFault sink → Seen order source sink book answer
   failed : TakesInput order.job → HasFailed source → answer ≡ status.ReadFault → Seen order source sink book answer
   long : (input : List ℕ) → IsInput order.job source input → length input ≡ most_bytes → answer ≡ status.TooLong → Seen order source sink book answer
   faulty : (input : List ℕ) → IsInput order.job source input → (text : List ℕ) → HasText order.job input text → (line kind : ℕ) → IsFaulty text line kind
@@ -85,10 +85,16 @@ module _ (order : Order) (source sink : Sides) (book : BookValue) where
     kept = b.kept;
   }
 
-  see_audit : (o : Order) (program : Program) (bytes : List ℕ) (answer : Status) → BeginsAudit (Some order) source o program bytes → AuditSeen program bytes sink book answer
+  pub see_audit : (o : Order) (program : Program) (bytes : List ℕ) (answer : Status) → BeginsAudit (Some order) source o program bytes → AuditSeen program bytes sink book answer
       → Seen order source sink book answer
   unfolding has_audited
   see_audit o program bytes answer b seen = seen_of o answer b.words (Seen.audit b.audits program (has_audited o program bytes b) bytes b.behind seen)
+
+  pub see_audit_cut : (o : Order) (program : Program) (bytes : List ℕ) → BeginsAudit (Some order) source o program bytes → IsBookText bytes book → IsARun program book
+      → HasFailed sink → Seen order source sink book status.WriteFault
+  unfolding has_audited
+  see_audit_cut o program bytes b of run fails =
+      seen_of o status.WriteFault b.words (Seen.audit_cut b.audits program (has_audited o program bytes b) bytes b.behind of run fails refl)
 
   see_end : (o : Order) (program : Program) (answer : Status) (b : Begins (Some order) source o program) (run : EveryRun o program book) → IsEnd answer
       → EndsWith answer run.state book.entries o.budget → CountsNoFault sink → Seen order source sink book answer
@@ -96,7 +102,6 @@ module _ (order : Order) (source sink : Sides) (book : BookValue) where
       seen_of o answer b.words (Seen.ended program (has_program o program b) (record { runs = b.runs; run = run; is_end = is_end; ends = ends; well = well }))
 
   pub see : (answer : Status) → Answers (Some order) source sink book answer → Seen order source sink book answer
-  unfolding has_audited
   see answer (Answers.bad_words none unread refuses) = absurd (cc)
   see answer (Answers.read_fault o words takes reads fails refuses) = seen_of o answer words (Seen.failed takes fails refl)
   see answer (Answers.too_long o words input read is_long refuses) = seen_of o answer words (Seen.long input read is_long refl)
@@ -107,14 +112,12 @@ module _ (order : Order) (source sink : Sides) (book : BookValue) where
   see answer (Answers.not_a_run o program bytes begins of place cause wrong line) = see_audit o program bytes answer begins (AuditSeen.refuted of place cause wrong refl)
   see answer (Answers.audited o program bytes begins of text right written) =
       see_audit o program bytes answer begins (AuditSeen.audited of (right.state, right.run) written.well refl)
-  see answer (Answers.audit_cut o program bytes begins of text right is_cut) =
-      seen_of o answer begins.words (Seen.audit_cut begins.audits program (has_audited o program bytes begins) bytes begins.behind of (right.state, right.run)
-      is_cut.failed refl)
+  see answer (Answers.audit_cut o program bytes begins of text right is_cut) = see_audit_cut o program bytes begins of (right.state, right.run) is_cut.failed
   see answer (Answers.quiet o program begins run text report written) = see_end o program answer begins run tt report.ends written.well
   see answer (Answers.budget o program begins run text report written) = see_end o program answer begins run tt report.ends written.well
   see answer (Answers.actors_full o program begins run a text report written) = see_end o program answer begins run tt report.ends written.well
   see answer (Answers.write_fault o program begins run end text report is_cut) =
       seen_of o answer begins.words (Seen.cut program (has_program o program begins) begins.runs is_cut.failed refl)
-  see answer (Answers.starved reads none written) = Seen.no_memory refl
-  see answer (Answers.starved_in_run o program begins run written) = Seen.no_memory refl
-  see answer (Answers.starved_in_audit o program bytes begins of written) = Seen.no_memory refl
+  see answer (Answers.starved reads none written) = Seen.no_memory refl written.well
+  see answer (Answers.starved_in_run o program begins run written) = Seen.no_memory refl written.well
+  see answer (Answers.starved_in_audit o program bytes begins of written) = Seen.no_memory refl written.well

@@ -42,8 +42,9 @@ fn refuse<K: Sink>(alloc: Global, refusal: Status, sink: &mut K) -> Outcome
     idle(alloc, status)
 }
 
-/// The answer of a call in which nothing begins: a refusal, or want of memory.
-fn stop<K: Sink>(alloc: Global, answer: Status, sink: &mut K) -> Outcome
+/// Ends a call in which nothing begins: writes the line of the refusal as far as the sink takes it, and
+/// answers the refusal, or want of memory, with an empty book. For `NoMemory` nothing is written.
+pub fn stop<K: Sink>(alloc: Global, answer: Status, sink: &mut K) -> Outcome
     requires { answer ≢ Status.NoMemory → HasRefusal answer }
     ensures { StopsWith answer (sides K.written K.faults sink.old sink.new)
         result.book result.status }

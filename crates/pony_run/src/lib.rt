@@ -9,7 +9,8 @@ mod runs;
 mod working;
 mod writing;
 
-pub use call::{run_single, run_words};
+pub use call::{run_single, run_words, stop};
 pub use report_text::Status;
 pub use runs::Outcome;
 pub use word_line::{Job, Order};
+pub use writing::{tell, write_text};
