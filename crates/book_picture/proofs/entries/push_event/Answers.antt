@@ -1,0 +1,27 @@
+use Rattle.std.proofs.Common.{◌≡◌, ◌++◌, ◌-◌, ap, length, sym, subst, ◌∙◌, string_bytes}
+use Rattle.std.proofs.lemmas.Result.{on_ok_weaker}
+use Rattle.event_rule.specs.Runs.{Goes}
+use Rattle.machine_rules.specs.Next.{next}
+use Rattle.picture_rules.specs.Pictures.{heard}
+use Rattle.picture_rules.specs.Words.{text_of_lines}
+use Rattle.book_picture.proofs.Events.{keeps_program, told_at}
+use Rattle.book_picture.proofs.entries.push_event.Goals as goal
+
+pub returns-clause-told : goal.returns-clause-told
+returns-clause-told c =
+    let start = c.args.orca.now.state in
+    let e = c.args.event in
+    let m = c.prepared.new.orca in
+    let x = c.in_ok-ready.ready.event in
+    let t = c.apply_ready.new.self.state in
+    let same = c.in_ok-ready.ensures.same.state in
+    let is = c.in_ok-ready.ensures.event in
+    let its = c.in_ok-before.ensures.before in
+    let goes = c.apply_ready.ensures.state in
+    let goes_on = subst (λ s. next s e ≡ Goes t) same (subst (λ y. next m.state y ≡ Goes t) is goes) in
+    on_ok_weaker c.push_after.result
+    (λ told. told ∙ ap (λ ls. string_bytes c.args.out.now ++ text_of_lines ls)
+    (told_at start m e x t c.args.names.now c.in_ok-before.before same is its c.in_ok-before.ensures.state c.weight_is_above_zero.ensures c.requires.run
+    c.in_ok-ready.ensures.ok goes))
+    (c.push_after.ensures m.state its.texts its.prints (its.notes ∙ ap (λ y. length m.state.notes - heard y) is)
+    (c.requires.names ∙ ap (λ p. p.names) (sym (keeps_program start t e c.requires.run goes_on))))
