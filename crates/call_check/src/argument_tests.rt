@@ -5,7 +5,8 @@ use crate::programs::{SEVEN, SEVEN_REPORT};
 use orca_names::NoMemory;
 use outside_world::MemSink;
 use process_call::answer;
-use std::env::{Env, FillError};
+use std::alloc::Global;
+use std::env::{Args, Env, FillError};
 use std::process::ExitCode;
 use std::sync::Wait;
 use std::test::Fail;
@@ -15,7 +16,7 @@ use std::{env, io};
 const SEVEN_CUT: &str = "7\n--\nend budget\nactors made 1 left 1\nobjects made 0 left 0\n";
 
 /// It stands for an argument that is no text.
-const NO_TEXT: &str = "?";
+pub(crate) const NO_TEXT: &str = "?";
 
 fn bytes_of(argument: &'static str) -> &'static [u8] {
     if argument == NO_TEXT {
@@ -27,7 +28,7 @@ fn bytes_of(argument: &'static str) -> &'static [u8] {
 
 /// A process that was given these arguments.
 #[derive(Clone, Copy)]
-struct Given(&'static [&'static str]);
+pub(crate) struct Given(pub(crate) &'static [&'static str]);
 
 impl Env for Given {
     fn arg(&self, i: usize, buf: &mut [u8]) -> Result<usize, FillError> {
@@ -51,6 +52,14 @@ impl Env for Given {
     }
 }
 
+/// The arguments of a process that was given these, or none for want of memory.
+pub(crate) fn arguments_of(alloc: Global, given: Option<Given>) -> io::Result<Args> {
+    match given {
+        Some(given) => env::args(&(given, alloc)),
+        None => Err(io::Error::from(io::ErrorKind::OutOfMemory)),
+    }
+}
+
 /// The exit code of the program that is given these arguments, or none for want of memory.
 fn code_of<R: AllocGlobal + Threads + Wait + Sync>(
     rt: &R,
@@ -58,10 +67,7 @@ fn code_of<R: AllocGlobal + Threads + Wait + Sync>(
     sink: &mut MemSink,
 ) -> Result<ExitCode, NoMemory> {
     let mut source = source(rt.alloc(), SEVEN.as_bytes(), SURE)?;
-    let arguments = match given {
-        Some(given) => env::args(&(given, rt.alloc())),
-        None => Err(io::Error::from(io::ErrorKind::OutOfMemory)),
-    };
+    let arguments = arguments_of(rt.alloc(), given);
     Ok(answer(rt, arguments, &mut source, sink))
 }
 

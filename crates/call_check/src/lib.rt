@@ -9,6 +9,8 @@ mod audit_tests;
 #[cfg(test)]
 mod calling;
 #[cfg(test)]
+mod picture_tests;
+#[cfg(test)]
 mod programs;
 #[cfg(test)]
 mod report_tests;

@@ -180,9 +180,9 @@ fn cut_texts_are_refused_where_they_end(rt: HostRuntime) -> Result<(), Fail> {
 }
 
 /// What stands before a piece, the piece, how often it stands there, and what follows.
-type Text = (&'static str, &'static [u8], usize, &'static str);
+pub(crate) type Text = (&'static str, &'static [u8], usize, &'static str);
 
-fn bytes_of(alloc: Global, text: &Text) -> Result<Vec<u8>, NoMemory> {
+pub(crate) fn bytes_of(alloc: Global, text: &Text) -> Result<Vec<u8>, NoMemory> {
     let (head, piece, times, tail) = *text;
     let mut bytes = head.as_bytes().to_vec(alloc)?;
     for _ in 0..times {
