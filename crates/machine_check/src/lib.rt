@@ -12,10 +12,6 @@ mod driving;
 #[cfg(test)]
 mod left_by_roots;
 #[cfg(test)]
-mod picture_tests;
-#[cfg(test)]
-mod pictures;
-#[cfg(test)]
 mod plain_tests;
 #[cfg(test)]
 mod programs;
