@@ -2,6 +2,8 @@
 use Rattle.std.specs.Prelude.{◌≡◌, ℕ, ◌<◌, List}
 use Rattle.std.specs.declared.option.Option.{Option}
 use Rattle.outside_world.specs.Device.{Rose}
+use Rattle.report_text.specs.Ends.{code_of}
+use Rattle.report_text.specs.declared.status.Status.TheVariants as status
 
 -- one byte more than a text may have
 abbrev pub most_bytes : ℕ
@@ -37,3 +39,9 @@ CountsNoFault device = device.faults_after ≡ device.faults_before
 -- the device was not touched
 abbrev pub IsUntouched : Sides → Type 0
 IsUntouched device = (device.after ≡ device.before) × CountsNoFault device
+
+-- memory was refused before any call: nothing was read, and nothing written
+pub record ExitsStarved (source sink : Sides) (code : ℕ) : Type 0 where
+  pub unread : IsUntouched source
+  pub unwritten : IsUntouched sink
+  pub exit : code ≡ code_of status.NoMemory

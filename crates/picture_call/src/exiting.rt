@@ -4,8 +4,7 @@ ghost use Rattle.std.specs.Prelude.{◌≡◌, ◌≢◌, ◌≤◌, ℕ, List, 
 ghost use Rattle.std.specs.IoError.{error_kind};
 ghost use Rattle.std.specs.Process.{exit_status};
 ghost use Rattle.std.specs.Vec.Iter.{into_iter_items};
-ghost use Rattle.job_input.specs.Streams.{IsUntouched, Sides, sides};
-ghost use Rattle.process_call.specs.Calls.{ExitsStarved};
+ghost use Rattle.job_input.specs.Streams.{ExitsStarved, IsUntouched, Sides, sides};
 ghost use Rattle.picture_call.specs.Exits.{PictureExits};
 
 use crate::drawing::draw_source;

@@ -3,11 +3,10 @@ use Rattle.std.specs.Prelude.{◌≡◌, ◌⊎◌, ℕ, List}
 use Rattle.run_book.specs.Books.{BookValue}
 use Rattle.report_text.specs.Ends.{code_of}
 use Rattle.report_text.specs.declared.status.Status.{Status}
-use Rattle.report_text.specs.declared.status.Status.TheVariants as status
 use Rattle.word_line.specs.Orders.{order_of}
 use Rattle.pony_run.specs.Causes.{Causes}
 use Rattle.pony_run.specs.Headline.{Answers}
-use Rattle.job_input.specs.Streams.{IsUntouched, Sides}
+use Rattle.job_input.specs.Streams.{ExitsStarved, Sides}
 
 -- the source and the sink were called with these words, and the code is that of the answer
 pub record Exits (words : List (List ℕ)) (source sink : Sides) (code : ℕ) : Type 0 where
@@ -16,12 +15,6 @@ pub record Exits (words : List (List ℕ)) (source sink : Sides) (code : ℕ) : 
   pub answers : Answers (order_of words) source sink book answer
   pub causes : Causes (order_of words) source sink answer book
   pub exit : code ≡ code_of answer
-
--- memory was refused before any call: nothing was read, and nothing written
-pub record ExitsStarved (source sink : Sides) (code : ℕ) : Type 0 where
-  pub unread : IsUntouched source
-  pub unwritten : IsUntouched sink
-  pub exit : code ≡ code_of status.NoMemory
 
 -- there was the call, or memory was refused before it
 abbrev pub ExitsUnlessStarved : List (List ℕ) → Sides → Sides → ℕ → Type 0

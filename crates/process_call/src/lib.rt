@@ -5,8 +5,8 @@ ghost use Rattle.std.specs.Prelude.{◌≡◌, ◌≢◌, [], ◌∷◌, drop, f
 ghost use Rattle.std.specs.IoError.{error_kind};
 ghost use Rattle.std.specs.Process.{exit_status};
 ghost use Rattle.std.specs.Vec.Iter.{into_iter_items};
-ghost use Rattle.job_input.specs.Streams.{sides};
-ghost use Rattle.process_call.specs.Calls.{Exits, ExitsStarved, ExitsUnlessStarved};
+ghost use Rattle.job_input.specs.Streams.{ExitsStarved, sides};
+ghost use Rattle.process_call.specs.Calls.{Exits, ExitsUnlessStarved};
 
 use outside_world::{OpenGate, Sink, Source};
 use pony_run::{Status, run_words};
