@@ -9,6 +9,7 @@ use Rattle.orca_names.specs.declared.names.Thing.{Thing}
 use Rattle.orca_names.specs.declared.names.Thing.TheVariants.{Actor, Obj}
 use Rattle.orca_names.specs.declared.names.Value.{Value}
 use Rattle.std.specs.FinMap as m
+use Rattle.orca_names.specs.declared.options.Options.{Options}
 use Rattle.orca_names.specs.declared.trace.Trace.{Trace}
 use Rattle.orca_names.specs.declared.trace.Trace.TheVariants.{Deep, Roots}
 use Rattle.orca_names.specs.declared.limits.TheConstants.{ACTORS_LIMIT}
@@ -66,6 +67,9 @@ set_twice (z ∷ xs) zero x y = refl
 set_twice (z ∷ xs) (suc a) x y = ap (λ ys. z ∷ ys) (set_twice xs a x y)
 
 module _ (trace : Trace) (s : State) (a : ℕ) (c : Cell) (mail : List Letter) (frame : Frame) (stop : Stop) where
+  abbrev options : Options
+  options = record s.options { trace = trace }
+
   abbrev n : ℕ
   n = length stop.turn.made
 
@@ -108,7 +112,7 @@ module _ (trace : Trace) (s : State) (a : ℕ) (c : Cell) (mail : List Letter) (
   abbrev newcomer : ℕ → Option Seat
   newcomer kind = seat (fresh_cell s.options.weight s.program kind) []
 
-  acts : (does : Act) → done_by trace s a c mail (stopped_at frame stop) stop does ≡ after_go s a c mail (gone_by a c frame (with_move (move_by trace s.options.weight a (having_made stop.turn.made c) does)))
+  acts : (does : Act) → done_by trace s a c mail (stopped_at frame stop) stop does ≡ after_go s a c mail (gone_by a c frame (with_move (move_by options a (having_made stop.turn.made c) does)))
   acts act.End = λ i. Goes (record s {
     actors = set s.actors a (seat (cell_after_turn stop None true c) mail);
     notes = sym (append-nil s.notes) i;
@@ -133,7 +137,7 @@ module _ (trace : Trace) (s : State) (a : ℕ) (c : Cell) (mail : List Letter) (
       ∙ ap (λ rows. after_go s a c mail (gone_by a c frame (with_move (goes.letter_or_mint s.options.weight to behaviour args (load_from trace a h args) rows (lacking_from trace a h args))))) (rows_kept trace args)
 
   minted : (x : Thing) → needing s a c mail (Some x) NotEnabled
-      ≡ after_go s a c mail (gone_by a c frame (turned_or_needs trace s.options.weight a c frame (Some x) stop))
+      ≡ after_go s a c mail (gone_by a c frame (turned_or_needs options a c frame (Some x) stop))
   minted x =
       let things = to_need s.options.weight a c.holdings x in
       let none : s.objects ≡ s.objects + ((mint_all things c.holdings).next - c.holdings.next) = (let z = next-mint_all things c.holdings in omega arith) in
@@ -144,7 +148,7 @@ module _ (trace : Trace) (s : State) (a : ℕ) (c : Cell) (mail : List Letter) (
       })
 
   pub turned : (first : Option Thing) → needing s a c mail first (done_by trace s a c mail (stopped_at frame stop) stop stop.act)
-      ≡ after_go s a c mail (gone_by a c frame (turned_or_needs trace s.options.weight a c frame first stop))
+      ≡ after_go s a c mail (gone_by a c frame (turned_or_needs options a c frame first stop))
   turned None = acts stop.act
   turned (Some x) = minted x
 
@@ -152,6 +156,6 @@ pub gone : GoesByParts
 gone trace s a c mail = by_frame c.frame
   where
     by_frame : (o : Option Frame) → option_map_or (turn_in trace s a c mail) o NotEnabled
-        ≡ option_map_or (after_go s a c mail) (option_map (λ f. gone_by a c f (turned_in trace s.options.weight s.program a c f)) o) NotEnabled
+        ≡ option_map_or (after_go s a c mail) (option_map (λ f. gone_by a c f (turned_in (record s.options { trace = trace }) s.program a c f)) o) NotEnabled
     by_frame None = refl
     by_frame (Some f) = turned trace s a c mail f (turn_of_cell trace s.program a c f) (needed trace s.program a c f)

@@ -2,6 +2,7 @@
 use Rattle.std.proofs.Common.{◌≡◌, ℕ, List, [], ◌∷◌, None, Some, refl, sym, ap, ◌∙◌}
 use Rattle.std.specs.List.{find}
 use Rattle.orca_names.specs.declared.names.Value.{Value}
+use Rattle.orca_names.specs.declared.options.Options.{Options}
 use Rattle.orca_names.specs.declared.trace.Trace.{Trace}
 use Rattle.orca_names.specs.declared.trace.Trace.TheVariants.{Deep, Roots}
 use Rattle.behaviour_code.specs.declared.code.Program.{Program}
@@ -27,11 +28,12 @@ module _ (frame : Frame) (c : Cell) (turn : Turn) (place : ℕ) where
   posts_told weight to behaviour args load rows (e ∷ lacked) = refl
 
   -- and for each act of a turn
-  pub moves_told : (trace : Trace) (weight me : ℕ) (k : Cell) (does : Act)
-      → (let m = move_by trace weight me k does in record { turn = turn; place = place; act = m } ≡ told frame c turn place m)
-  moves_told trace weight me k (act.Post to behaviour args) =
-      posts_told weight to behaviour args (load_from trace me k.holdings args) (rows_from trace me k args) (lacking_from trace me k.holdings args)
-  moves_told trace weight me k does = refl
+  pub moves_told : (options : Options) (me : ℕ) (k : Cell) (does : Act)
+      → (let m = move_by options me k does in record { turn = turn; place = place; act = m } ≡ told frame c turn place m)
+  moves_told options me k (act.Post to behaviour args) =
+      let trace = options.trace in
+      posts_told options.weight to behaviour args (load_from trace me k.holdings args) (rows_from trace me k args) (lacking_from trace me k.holdings args)
+  moves_told options me k does = refl
 
   -- the rows that it made are told
   pub told_made : (does : Move) → (told frame c turn place does).turn.made ≡ turn.made
@@ -55,8 +57,9 @@ rest_needs_nothing Roots program me c frame end rests =
     ap (λ values. find (needs me c.holdings) (named_by values)) (gets_nothing (setting_of Roots program me c) frame c.fields end rests)
 
 -- it rests
-pub rest_told : (trace : Trace) (weight : ℕ) (program : Program) (me : ℕ) (c : Cell) (frame : Frame) (end : ℕ) (turn : Turn) → rests_at program frame ≡ Some end → turn.made ≡ []
-    → IsTold trace weight program me c turn end Rest frame
-rest_told trace weight program me c frame end turn rests none =
-    (λ i. turned_or_needs trace weight me c frame (rest_needs_nothing trace program me c frame end rests i) (segment_rests (setting_of trace program me c) frame c.fields end rests i))
+pub rest_told : (options : Options) (program : Program) (me : ℕ) (c : Cell) (frame : Frame) (end : ℕ) (turn : Turn) → rests_at program frame ≡ Some end → turn.made ≡ []
+    → IsTold options program me c turn end Rest frame
+rest_told options program me c frame end turn rests none =
+    let trace = options.trace in
+    (λ i. turned_or_needs options me c frame (rest_needs_nothing trace program me c frame end rests i) (segment_rests (setting_of trace program me c) frame c.fields end rests i))
     ∙ (λ i. record { turn = record { registers = frame.registers; fields = c.fields; made = sym none i }; place = end; act = End })

@@ -35,6 +35,10 @@ abbrev pub table_by : Trace → Cell → Table
 table_by Deep c = c.foreign
 table_by Roots c = as_held c.known
 
+-- to the rules it is this cell, and it is of this actor
+abbrev pub IsCellOf : ℕ → rules.Cell → Cell → Type 0
+IsCellOf a k c = (as_cell c ≡ k) × (c.heap.owner ≡ a)
+
 -- the same, of the same actor
 abbrev pub IsSame : Cell → Cell → Type 0
-IsSame c d = (as_cell c ≡ as_cell d) × (c.heap.owner ≡ d.heap.owner)
+IsSame c d = IsCellOf d.heap.owner (as_cell d) c

@@ -1,6 +1,7 @@
 -- What a turn of an actor does.
 use Rattle.std.specs.Prelude.{ℕ, ◌≡◌, ◌<◌, ⊤, true, List, [], ◌∷◌, Option, Some, None, option_map, map, IsSomeAnd}
 use Rattle.orca_names.specs.Names.{owner_of}
+use Rattle.orca_names.specs.declared.options.Options.{Options}
 use Rattle.orca_names.specs.declared.trace.Trace.{Trace}
 use Rattle.orca_names.specs.declared.limits.TheConstants.{REGISTERS}
 use Rattle.orca_names.specs.declared.names.Thing.{Thing}
@@ -44,13 +45,13 @@ FitsRegister (act.Print value) = ⊤
 FitsRegister act.End = ⊤
 
 -- what an actor with this cell does by an act
-abbrev pub move_by : Trace → ℕ → ℕ → Cell → Act → Move
-move_by trace weight me c (act.Post to behaviour args) =
-    letter_or_mint weight to behaviour args (load_from trace me c.holdings args)
-    (rows_from trace me c args) (lacking_from trace me c.holdings args)
-move_by trace weight me c (act.New kind register) = New kind register
-move_by trace weight me c (act.Print value) = Print value
-move_by trace weight me c act.End = End
+abbrev pub move_by : Options → ℕ → Cell → Act → Move
+move_by options me c (act.Post to behaviour args) =
+    letter_or_mint options.weight to behaviour args (load_from options.trace me c.holdings args)
+    (rows_from options.trace me c args) (lacking_from options.trace me c.holdings args)
+move_by options me c (act.New kind register) = New kind register
+move_by options me c (act.Print value) = Print value
+move_by options me c act.End = End
 
 -- the cell with the objects of these rows
 abbrev pub having_made : List Row → Cell → Cell
@@ -63,27 +64,27 @@ pub record Turned : Type 0 where
   pub act : Move
 
 -- of the turn of an actor in this frame: it has what it made in the turn
-abbrev pub turned_at : Trace → ℕ → ℕ → Cell → Stop → Turned
-turned_at trace weight me c stop = record {
+abbrev pub turned_at : Options → ℕ → Cell → Stop → Turned
+turned_at options me c stop = record {
   turn = stop.turn;
   place = stop.place;
-  act = move_by trace weight me (having_made stop.turn.made c) stop.act;
+  act = move_by options me (having_made stop.turn.made c) stop.act;
 }
 
 -- where it got a thing that the actor needs, all is as before the turn, and the actor mints for
 -- that
-abbrev pub turned_or_needs : Trace → ℕ → ℕ → Cell → Frame → Option Thing → Stop → Turned
-turned_or_needs trace weight me c frame None stop = turned_at trace weight me c stop
-turned_or_needs trace weight me c frame (Some x) stop = record {
+abbrev pub turned_or_needs : Options → ℕ → Cell → Frame → Option Thing → Stop → Turned
+turned_or_needs options me c frame None stop = turned_at options me c stop
+turned_or_needs options me c frame (Some x) stop = record {
   turn = record { registers = frame.registers; fields = c.fields; made = [] };
   place = frame.place;
-  act = Mint (owner_of x) (to_need weight me c.holdings x);
+  act = Mint (owner_of x) (to_need options.weight me c.holdings x);
 }
 
-abbrev pub turned_in : Trace → ℕ → Program → ℕ → Cell → Frame → Turned
-turned_in trace weight program me c frame =
-    turned_or_needs trace weight me c frame (needed trace program me c frame)
-    (turn_of_cell trace program me c frame)
+abbrev pub turned_in : Options → Program → ℕ → Cell → Frame → Turned
+turned_in options program me c frame =
+    turned_or_needs options me c frame (needed options.trace program me c frame)
+    (turn_of_cell options.trace program me c frame)
 
 -- ---- what the code tells of it
 
@@ -103,9 +104,9 @@ told frame c turn place act =
     record { turn = told_turn frame c turn act; place = place; act = told_act act }
 
 -- this is told of the turn of an actor in this frame
-abbrev pub IsTold : Trace → ℕ → Program → ℕ → Cell → Turn → ℕ → Move → Frame → Type 0
-IsTold trace weight program me c turn place act frame =
-    turned_in trace weight program me c frame ≡ told frame c turn place act
+abbrev pub IsTold : Options → Program → ℕ → Cell → Turn → ℕ → Move → Frame → Type 0
+IsTold options program me c turn place act frame =
+    turned_in options program me c frame ≡ told frame c turn place act
 
 -- ---- what it changes
 
@@ -176,9 +177,9 @@ abbrev pub gone_by : ℕ → Cell → Frame → Turned → Gone
 gone_by me c frame t =
     record { cell = cell_by me c frame t.turn t.place t.act; out = out_of t.act }
 
-abbrev pub gone_of : Trace → ℕ → Program → ℕ → Cell → Option Gone
-gone_of trace weight program me c =
-    option_map (λ frame. gone_by me c frame (turned_in trace weight program me c frame)) c.frame
+abbrev pub gone_of : Options → Program → ℕ → Cell → Option Gone
+gone_of options program me c =
+    option_map (λ frame. gone_by me c frame (turned_in options program me c frame)) c.frame
 
 -- ---- when it can be
 
@@ -192,7 +193,7 @@ CanMove me h turn End = ⊤
 CanMove me h turn Rest = ⊤
 
 -- there is a frame, and what it does is allowed
-abbrev pub CanGo : Trace → ℕ → Program → ℕ → Cell → Type 0
-CanGo trace weight program me c =
-    IsSomeAnd c.frame (λ frame. let t = turned_in trace weight program me c frame in
+abbrev pub CanGo : Options → Program → ℕ → Cell → Type 0
+CanGo options program me c =
+    IsSomeAnd c.frame (λ frame. let t = turned_in options program me c frame in
     CanMove me c.holdings t.turn t.act)

@@ -60,4 +60,5 @@ abbrev pub GoesByParts : Type 0
 GoesByParts =
     (trace : Trace) (s : State) (a : ℕ) (c : Cell) (mail : List Letter)
     → go trace s a c mail
-    ≡ option_map_or (after_go s a c mail) (gone_of trace s.options.weight s.program a c) NotEnabled
+    ≡ option_map_or (after_go s a c mail)
+    (gone_of (record s.options { trace = trace }) s.program a c) NotEnabled

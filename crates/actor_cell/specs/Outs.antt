@@ -1,5 +1,6 @@
 -- What an event gives out.
-use Rattle.std.specs.Prelude.{ℕ, List, [], ◌∷◌, None, map}
+use Rattle.std.specs.Prelude.{ℕ, ◌≡◌, ◌≤◌, List, [], ◌∷◌, None, map, vec_capacity}
+use Rattle.std.specs.Global.{Vec}
 use Rattle.orca_names.specs.Names.{owner_of}
 use Rattle.letter_kinds.specs.declared.letter.Letter.{Letter}
 use Rattle.letter_kinds.specs.declared.letter.Letter.TheVariants.{Dec}
@@ -10,6 +11,10 @@ use Rattle.letter_kinds.specs.Detector.{has}
 use Rattle.machine_rules.specs.Block.{held_actors}
 use Rattle.machine_rules.specs.Cell.{Cell}
 use Rattle.actor_cell.specs.declared.whole.Out.{Out}
+
+-- no letter stands in the room yet, which suffices for so many
+abbrev pub IsRoomFor : ℕ → Vec (ℕ × Letter) → Type 0
+IsRoomFor count room = (room.items ≡ []) × (count ≤ vec_capacity room)
 
 -- these notes, and nothing else
 abbrev pub noting : List Note → Out

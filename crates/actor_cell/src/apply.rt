@@ -5,7 +5,8 @@ ghost use Rattle.turn_rules.specs.declared.act.Frame.{Frame as frame_of_rules};
 ghost use Rattle.letter_kinds.specs.Counting.{send};
 ghost use Rattle.object_heap.specs.Heap.{with_new};
 ghost use Rattle.trace_send.specs.Can.{CanSend};
-ghost use Rattle.actor_cell.specs.Cells.{as_cell};
+ghost use Rattle.actor_cell.specs.Cells.{IsCellOf, IsSame, as_cell};
+ghost use Rattle.actor_cell.specs.Finding.{HasRoomToMove};
 ghost use Rattle.actor_cell.specs.Goes.{CanMove, cell_by, cell_kept, frame_left, new_entries, out_of};
 ghost use Rattle.actor_cell.specs.Moves.{act_in};
 
@@ -48,10 +49,9 @@ impl Cell {
     // A letter with this load is sent.
     fn send(&mut self, load: &Load)
         requires { CanSend self.old.heap.owner load.now (as_cell self.old).holdings }
-        ensures counts { as_cell self.new ≡ record (as_cell self.old) {
-          holdings = send self.old.heap.owner load.now (as_cell self.old).holdings;
-        } }
-        ensures owner { self.new.heap.owner ≡ self.old.heap.owner }
+        ensures { let me = self.old.heap.owner in
+            let h = send me load.now (as_cell self.old).holdings in
+            IsCellOf me (record (as_cell self.old) { holdings = h }) self.new }
     {
         let me = self.heap.owner();
         send_trace(load, me, &mut self.count, &mut self.heap, &mut self.foreign);
@@ -62,8 +62,8 @@ impl Cell {
     fn keep_turn(&mut self, turn: &Turn)
         requires room { length turn.now.made ≤ self.old.heap.spare }
         requires serials { self.old.heap.next + length turn.now.made < 2 ^ 64 }
-        ensures cell { as_cell self.new ≡ cell_kept turn.now self.old.frame (as_cell self.old) }
-        ensures owner { self.new.heap.owner ≡ self.old.heap.owner }
+        ensures cell { IsCellOf self.old.heap.owner
+            (cell_kept turn.now self.old.frame (as_cell self.old)) self.new }
         ensures foreign { self.new.foreign ≡ self.old.foreign }
     {
         make_all(&mut self.heap, turn.made());
@@ -92,11 +92,8 @@ impl Cell {
     /// # Errors
     /// `NoMemory` where memory was refused.
     pub fn reserve_go(&mut self, turn: &Turn, found: &Turned) -> Result<(), NoMemory>
-        ensures cell { as_cell self.new ≡ as_cell self.old }
-        ensures owner { self.new.heap.owner ≡ self.old.heap.owner }
-        ensures objects { OnOk result (length turn.now.made ≤ self.new.heap.spare) }
-        ensures entries { let held = self.new.foreign in
-            OnOk result (new_entries (act_in found.now) held.entries ≤ held.spare) }
+        ensures same { IsSame self.new self.old }
+        ensures room { OnOk result (HasRoomToMove turn.now (act_in found.now) self.new) }
     {
         self.heap.reserve(turn.made().len())?;
         reserve_entries(&mut self.foreign, found)
@@ -108,9 +105,7 @@ impl Cell {
         requires running { IsSome self.old.frame }
         requires can { let me = self.old.heap.owner in
             CanMove me (as_cell self.old).holdings turn.now (act_in found.now) }
-        requires room { length turn.now.made ≤ self.old.heap.spare }
-        requires entries { let held = self.old.foreign in
-            new_entries (act_in found.now) held.entries ≤ held.spare }
+        requires room { HasRoomToMove turn.now (act_in found.now) self.old }
         requires serials { self.old.heap.next + length turn.now.made < 2 ^ 64 }
         ensures cell { let me = self.old.heap.owner in
             (frame : frame_of_rules) → self.old.frame ≡ Some frame → as_cell self.new

@@ -1,7 +1,7 @@
 // Block: an actor with nothing to do reports (MAC, OOPSLA 2013).
 
 ghost use Rattle.std.specs.Prelude.{◌≡◌, true, IfOk};
-ghost use Rattle.actor_cell.specs.Cells.{as_cell};
+ghost use Rattle.actor_cell.specs.Cells.{IsCellOf, as_cell};
 ghost use Rattle.actor_cell.specs.Outs.{report_of};
 
 use crate::cell::Cell;
@@ -23,8 +23,8 @@ impl Cell {
 
     /// It reported.
     pub fn apply_block(&mut self)
-        ensures cell { as_cell self.new ≡ record (as_cell self.old) { reported = true } }
-        ensures owner { self.new.heap.owner ≡ self.old.heap.owner }
+        ensures { IsCellOf self.old.heap.owner
+            (record (as_cell self.old) { reported = true }) self.new }
     {
         self.reported = true;
     }

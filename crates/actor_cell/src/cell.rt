@@ -6,7 +6,7 @@ ghost use Rattle.orca_names.specs.declared.names.Thing.TheVariants.{Actor as act
 ghost use Rattle.foreign_table.specs.Table.{count_on};
 ghost use Rattle.machine_rules.specs.Cell.{clean_cell, first_cell};
 ghost use Rattle.ref_weights.specs.Limit.{count_limit};
-ghost use Rattle.actor_cell.specs.Cells.{as_cell, settled};
+ghost use Rattle.actor_cell.specs.Cells.{IsCellOf, as_cell, settled};
 
 use behaviour_check::Checked;
 use foreign_table::ForeignTable;
@@ -41,8 +41,7 @@ impl Cell {
     /// The cell of the first actor, which nobody holds. It takes no memory.
     #[inline(always)]
     pub fn first(alloc: Global, code: &Checked) -> Cell
-        ensures cell { as_cell result ≡ first_cell code.now }
-        ensures owner { result.heap.owner ≡ 0 }
+        ensures { IsCellOf 0 (first_cell code.now) result }
     {
         Cell::fresh(alloc, code, ActorName(0), 0, 0)
     }
@@ -52,8 +51,7 @@ impl Cell {
     #[inline(always)]
     pub fn fresh(alloc: Global, code: &Checked, me: ActorName, kind: u32, count: u64) -> Cell
         requires { count < count_limit }
-        ensures cell { as_cell result ≡ clean_cell code.now kind count }
-        ensures owner { result.heap.owner ≡ me }
+        ensures { IsCellOf me (clean_cell code.now kind count) result }
     {
         let mut own = OwnCount::new();
         own.raise(count);

@@ -1,7 +1,7 @@
 // Cells copied and compared.
 
 ghost use Rattle.std.specs.Prelude.{◌≡◌, ◌↔◌, IfOk, IsTrue};
-ghost use Rattle.actor_cell.specs.Cells.{as_cell, IsSame};
+ghost use Rattle.actor_cell.specs.Cells.{IsSame};
 
 use crate::cell::Cell;
 use orca_names::NoMemory;
@@ -27,8 +27,7 @@ impl Cell {
     /// # Errors
     /// `NoMemory` where memory was refused.
     pub fn copy(&self, alloc: Global) -> Result<Cell, NoMemory>
-        ensures cell { IfOk result (λ copied. as_cell copied ≡ as_cell self.now) }
-        ensures owner { IfOk result (λ copied. copied.heap.owner ≡ self.now.heap.owner) }
+        ensures { IfOk result (λ copied. IsSame copied self.now) }
     {
         let heap = self.heap.copy(alloc)?;
         let foreign = self.foreign.copy(alloc)?;

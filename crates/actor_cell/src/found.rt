@@ -1,6 +1,7 @@
 // What an actor would do next of itself.
 
 ghost use Rattle.std.specs.Prelude.{◌+◌, ◌^◌, ◌<◌, IfOk, IsSome, OnOk};
+ghost use Rattle.orca_names.specs.declared.options.Options.{Options as choices};
 ghost use Rattle.actor_cell.specs.Founds.{IsFound};
 ghost use Rattle.actor_cell.specs.Sweeps.{KnowsOthersOnly};
 
@@ -8,7 +9,7 @@ use crate::cell::Cell;
 use crate::sweeping::Sweep;
 use crate::turning::Turned;
 use behaviour_check::Checked;
-use orca_names::{NoMemory, Trace};
+use orca_names::{NoMemory, Options, Trace};
 use std::alloc::Global;
 use turn_step::Turn;
 
@@ -37,10 +38,12 @@ impl Cell {
     ) -> Result<Found, NoMemory>
         requires serials { self.now.heap.next + 1024 < 2 ^ 64 }
         requires others { KnowsOthersOnly self.now }
-        ensures { IfOk result (IsFound trace weight code.now self.now) }
+        ensures { let options : choices = record { weight = weight; trace = trace } in
+            IfOk result (IsFound options code.now self.now) }
     {
+        let options = Options { weight, trace };
         let mut found = Found::Nothing;
-        self.find_in(alloc, code, weight, trace, &mut found)?;
+        self.find_in(alloc, code, options, &mut found)?;
         Ok(found)
     }
 
@@ -52,19 +55,18 @@ impl Cell {
         &self,
         alloc: Global,
         code: &Checked,
-        weight: u32,
-        trace: Trace,
+        options: Options,
         found: &mut Found,
     ) -> Result<(), NoMemory>
         requires serials { self.now.heap.next + 1024 < 2 ^ 64 }
         requires others { KnowsOthersOnly self.now }
-        ensures { OnOk result (IsFound trace weight code.now self.now found.new) }
+        ensures { OnOk result (IsFound options code.now self.now found.new) }
     {
         if self.frame.is_some() {
-            return self.find_turn(alloc, code, weight, trace, found);
+            return self.find_turn(alloc, code, options, found);
         }
         *found = if self.dirty {
-            let sweep = self.find_collect(alloc, trace)?;
+            let sweep = self.find_collect(alloc, options.trace)?;
             Found::Collects { sweep }
         } else {
             Found::Nothing
@@ -77,20 +79,19 @@ impl Cell {
         &self,
         alloc: Global,
         code: &Checked,
-        weight: u32,
-        trace: Trace,
+        options: Options,
         found: &mut Found,
     ) -> Result<(), NoMemory>
         requires running { IsSome self.now.frame }
         requires serials { self.now.heap.next + 1024 < 2 ^ 64 }
-        ensures { OnOk result (IsFound trace weight code.now self.now found.new) }
+        ensures { OnOk result (IsFound options code.now self.now found.new) }
     {
         if let Found::Goes { turn, turned } = found {
-            return self.find_go(alloc, code, weight, trace, turn, turned);
+            return self.find_go(alloc, code, options, turn, turned);
         }
         let mut turn = Turn::new(alloc);
         let mut turned = Turned::new(alloc);
-        self.find_go(alloc, code, weight, trace, &mut turn, &mut turned)?;
+        self.find_go(alloc, code, options, &mut turn, &mut turned)?;
         *found = Found::Goes { turn, turned };
         Ok(())
     }

@@ -1,14 +1,14 @@
 // Go: a frame runs up to its next act.
 
-ghost use Rattle.std.specs.Prelude.{◌≡◌, ◌+◌, ◌<◌, ◌≤◌, ◌^◌, false, IfOk, IfSome, IsSome, IsSomeAnd, IsTrue, OnOk, length, map};
+ghost use Rattle.std.specs.Prelude.{◌≡◌, ◌+◌, ◌<◌, ◌≤◌, ◌^◌, false, IfOk, IfSome, IsSome, IsTrue, OnOk, length, map};
 ghost use Rattle.orca_names.specs.Names.{owner_of};
 ghost use Rattle.orca_names.specs.declared.trace.Trace.TheVariants.{Deep as deep};
 ghost use Rattle.machine_rules.specs.Go.{needed, to_need, turn_of_cell};
 ghost use Rattle.turn_step.specs.Turns.{HaltsAt, act_of};
-ghost use Rattle.actor_cell.specs.Awaiting.{Awaits, AwaitsAt};
+ghost use Rattle.actor_cell.specs.Awaiting.{Awaits};
 ghost use Rattle.actor_cell.specs.Cells.{as_cell, table_by};
-ghost use Rattle.actor_cell.specs.Finding.{Finds, FindsLetter};
-ghost use Rattle.actor_cell.specs.Goes.{things_from, FitsRegister, IsTold};
+ghost use Rattle.actor_cell.specs.Finding.{Finds, FindsLetter, FindsTurn};
+ghost use Rattle.actor_cell.specs.Goes.{things_from, FitsRegister};
 ghost use Rattle.actor_cell.specs.Moves.{act_in, Mint as mint};
 ghost use Rattle.letter_kinds.specs.Holdings.{with_made};
 
@@ -295,20 +295,14 @@ impl Cell {
         &self,
         alloc: Global,
         code: &Checked,
-        weight: u32,
-        trace: Trace,
+        options: Options,
         turn: &mut Turn,
         found: &mut Turned,
     ) -> Result<(), NoMemory>
         requires running { IsSome self.now.frame }
         requires serials { self.now.heap.next + 1024 < 2 ^ 64 }
-        ensures found { let me = self.now.heap.owner in
-            let does = act_in found.new in
-            let tells = IsTold trace weight code.now me (as_cell self.now) turn.new found.new.place does in
-            OnOk result (IsSomeAnd self.now.frame tells) }
+        ensures found { OnOk result (FindsTurn options code.now self.now turn.new found.new) }
         ensures few { OnOk result (length turn.new.made ≤ 1024) }
-        ensures awaited { let me = self.now.heap.owner in
-            OnOk result (AwaitsAt trace code.now me (as_cell self.now) turn.new found.new) }
     {
         found.forget_letter();
         let Some(frame) = self.frame.get() else {
@@ -322,17 +316,16 @@ impl Cell {
             found.doing = Doing::Rest;
             return Ok(());
         }
-        match self.run_turn(code, trace, frame, turn) {
+        match self.run_turn(code, options.trace, frame, turn) {
             Ok(halt) => match halt {
                 Halt::Stops(stop) => {
-                    let options = Options { weight, trace };
                     self.move_of(alloc, options, turn, &stop.deed, found)?;
                     found.place = stop.place;
                     Ok(())
                 }
                 Halt::Needs(thing) => {
                     turn.begin(&frame.registers, &self.fields);
-                    self.needing(alloc, weight, &thing, found)?;
+                    self.needing(alloc, options.weight, &thing, found)?;
                     found.place = frame.place;
                     Ok(())
                 }
@@ -349,26 +342,20 @@ impl Cell {
         &self,
         alloc: Global,
         code: &Checked,
-        weight: u32,
-        trace: Trace,
+        options: Options,
         turn: &Turn,
         letter: Awaited,
         found: &mut Turned,
     ) -> Result<(), NoMemory>
         requires { let me = self.now.heap.owner in
-            Awaits trace code.now me (as_cell self.now) turn.now found.old letter }
-        ensures found { let me = self.now.heap.owner in
-            let does = act_in found.new in
-            let tells = IsTold trace weight code.now me (as_cell self.now) turn.now found.new.place does in
-            OnOk result (IsSomeAnd self.now.frame tells) }
-        ensures awaited { let me = self.now.heap.owner in
-            OnOk result (AwaitsAt trace code.now me (as_cell self.now) turn.now found.new) }
+            Awaits options.trace code.now me (as_cell self.now) turn.now found.old letter }
+        ensures { OnOk result (FindsTurn options code.now self.now turn.now found.new) }
     {
         let _code = code;
         found.forget_letter();
         let sending = Sending {
             cell: self,
-            options: Options { weight, trace },
+            options,
             made: turn.made(),
             to: letter.to,
             behaviour: letter.behaviour,

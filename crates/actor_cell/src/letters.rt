@@ -1,7 +1,7 @@
 // Letters that an event gives out: room for them, and those that return what was held.
 
-ghost use Rattle.std.specs.Prelude.{◌≡◌, ◌≤◌, [], IfOk, length, vec_capacity};
-ghost use Rattle.actor_cell.specs.Outs.{decs_to};
+ghost use Rattle.std.specs.Prelude.{◌≡◌, IfOk, length};
+ghost use Rattle.actor_cell.specs.Outs.{IsRoomFor, decs_to};
 
 use letter_kinds::{Amounts, Letter};
 use orca_names::{ActorName, NoMemory};
@@ -10,8 +10,7 @@ use std::alloc::Global;
 
 /// Room for so many letters.
 pub(crate) fn letter_room(alloc: Global, count: usize) -> Result<Vec<(ActorName, Letter)>, NoMemory>
-    ensures none { IfOk result (λ room. room.items ≡ []) }
-    ensures room { IfOk result (λ room. count ≤ vec_capacity room) }
+    ensures { IfOk result (IsRoomFor count) }
 {
     let mut room = Vec::new(alloc);
     room.reserve(count)?;
@@ -23,8 +22,7 @@ pub(crate) fn decs_of(
     mut room: Vec<(ActorName, Letter)>,
     groups: Vec<(ActorName, Amounts)>,
 ) -> Listed<(ActorName, Letter)>
-    requires none { room.items ≡ [] }
-    requires room { length groups.items ≤ vec_capacity room }
+    requires { IsRoomFor (length groups.items) room }
     ensures { result ≡ decs_to groups.items }
 {
     for (owner, things) in groups {

@@ -2,7 +2,7 @@
 
 ghost use Rattle.std.specs.Prelude.{◌≡◌, if◌then◌else◌, None, OnOk, Some, false, true};
 ghost use Rattle.machine_rules.specs.Take.{cell_after, note_of};
-ghost use Rattle.actor_cell.specs.Cells.{as_cell};
+ghost use Rattle.actor_cell.specs.Cells.{IsCellOf, IsSame, as_cell};
 ghost use Rattle.actor_cell.specs.Takes.{CanTake, HasRoomFor};
 
 use crate::cell::Cell;
@@ -17,9 +17,8 @@ use turn_step::start_frame;
 impl Cell {
     // It has something to do, and did not report that it is blocked.
     fn wake(&mut self)
-        ensures cell { as_cell self.new
-            ≡ record (as_cell self.old) { dirty = true; reported = false } }
-        ensures owner { self.new.heap.owner ≡ self.old.heap.owner }
+        ensures { IsCellOf self.old.heap.owner
+            (record (as_cell self.old) { dirty = true; reported = false }) self.new }
     {
         self.dirty = true;
         self.reported = false;
@@ -45,8 +44,7 @@ impl Cell {
     /// # Errors
     /// `NoMemory` where memory was refused.
     pub fn reserve_take(&mut self, letter: &Letter) -> Result<(), NoMemory>
-        ensures cell { as_cell self.new ≡ as_cell self.old }
-        ensures owner { self.new.heap.owner ≡ self.old.heap.owner }
+        ensures same { IsSame self.new self.old }
         ensures room { let held = self.new.foreign.spare in
             OnOk result (HasRoomFor letter.now held self.new.known.spare) }
     {
@@ -70,9 +68,8 @@ impl Cell {
         requires idle { self.old.frame ≡ None }
         requires can { CanTake self.old.heap.owner letter.now (as_cell self.old).holdings }
         requires room { HasRoomFor letter.now self.old.foreign.spare self.old.known.spare }
-        ensures cell { as_cell self.new
-            ≡ cell_after code.now self.old.heap.owner letter.now (as_cell self.old) }
-        ensures owner { self.new.heap.owner ≡ self.old.heap.owner }
+        ensures { let me = self.old.heap.owner in
+            IsCellOf me (cell_after code.now me letter.now (as_cell self.old)) self.new }
     {
         let me = self.heap.owner();
         match letter {

@@ -5,10 +5,11 @@ ghost use Rattle.std.specs.Prelude.{◌≡◌, ◌+◌, ◌<◌, ◌^◌, [], �
 ghost use Rattle.letter_kinds.specs.Counting.{by_owner, given_back};
 ghost use Rattle.machine_rules.specs.Collect.{is_marked};
 ghost use Rattle.machine_rules.specs.Take.{cell_after, note_of, notes_after};
+ghost use Rattle.orca_names.specs.declared.options.Options.{Options as choices};
 ghost use Rattle.actor_cell.specs.Cells.{as_cell};
 ghost use Rattle.actor_cell.specs.Goes.{CanGo, gone_of, out_of};
 ghost use Rattle.actor_cell.specs.Moves.{act_in};
-ghost use Rattle.actor_cell.specs.Outs.{left_behind, noting, report_of, returning};
+ghost use Rattle.actor_cell.specs.Outs.{IsRoomFor, left_behind, noting, report_of, returning};
 ghost use Rattle.actor_cell.specs.Sweeps.{KnowsOthersOnly, swept};
 ghost use Rattle.actor_cell.specs.Takes.{CanTake};
 
@@ -17,7 +18,7 @@ use crate::letters::{decs_of, letter_room};
 use crate::turning::{Doing, Turned};
 use behaviour_check::Checked;
 use letter_kinds::{Letter, Note};
-use orca_names::{ActorName, NoMemory, Trace, Value};
+use orca_names::{ActorName, NoMemory, Options, Trace, Value};
 use plain_list::Listed;
 use std::alloc::{AllocError, Global};
 use turn_step::Turn;
@@ -50,8 +51,7 @@ fn note_room(alloc: Global, comes: bool) -> Result<Vec<Note>, AllocError>
 impl Turned {
     // What it gives out. It takes no memory but the room that is handed in.
     fn into_out(self, alloc: Global, mut room: Vec<(ActorName, Letter)>) -> Out
-        requires none { room.items ≡ [] }
-        requires room { 0 < vec_capacity room }
+        requires { IsRoomFor 1 room }
         ensures { result ≡ out_of (act_in self) }
     {
         let Turned {
@@ -133,18 +133,21 @@ impl Cell {
         weight: u32,
         trace: Trace,
     ) -> Result<Out, NoMemory>
-        requires can { CanGo trace weight code.now self.old.heap.owner (as_cell self.old) }
+        requires can { let options : choices = record { weight = weight; trace = trace } in
+            CanGo options code.now self.old.heap.owner (as_cell self.old) }
         requires serials { self.old.heap.next + 1024 < 2 ^ 64 }
-        ensures gone { let me = self.old.heap.owner in
-            IfOk result (λ out. gone_of trace weight code.now me (as_cell self.old)
+        ensures gone { let options : choices = record { weight = weight; trace = trace } in
+            let me = self.old.heap.owner in
+            IfOk result (λ out. gone_of options code.now me (as_cell self.old)
             ≡ Some (record { cell = as_cell self.new; out = out })) }
         ensures room { IfOk result (λ out. IsSome out.made → 0 < self.new.foreign.spare) }
         ensures same { OnErr result (as_cell self.new ≡ as_cell self.old) }
         ensures owner { self.new.heap.owner ≡ self.old.heap.owner }
     {
+        let options = Options { weight, trace };
         let mut turn = Turn::new(alloc);
         let mut found = Turned::new(alloc);
-        self.find_go(alloc, code, weight, trace, &mut turn, &mut found)?;
+        self.find_go(alloc, code, options, &mut turn, &mut found)?;
         let room = letter_room(alloc, 1)?;
         self.reserve_go(&turn, &found)?;
         self.apply_go(&turn, &found);

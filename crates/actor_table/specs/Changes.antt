@@ -18,6 +18,7 @@ use Rattle.machine_rules.specs.Take.{cell_after, note_of}
 use Rattle.actor_cell.specs.declared.cell.Cell.{Cell}
 use Rattle.actor_cell.specs.Moves.{Move, New, act_in}
 use Rattle.actor_cell.specs.Cells.{as_cell, settled}
+use Rattle.actor_cell.specs.Finding.{HasRoomToMove}
 use Rattle.actor_cell.specs.Goes.{CanMove, cell_by, new_entries, out_of}
 use Rattle.actor_cell.specs.Takes.{CanTake, HasRoomFor}
 use Rattle.ref_weights.specs.Limit.{count_limit}
@@ -127,8 +128,7 @@ CanChange a change x = HasCell x (AllowsChange a change x.mail.letters)
 abbrev pub HasRoomIn : Change → List Letter → Cell → Type 0
 HasRoomIn Take letters c = (letter : Letter) (later : List Letter)
     → letters ≡ letter ∷ later → HasRoomFor letter c.foreign.spare c.known.spare
-HasRoomIn (Go turn found name weight) letters c = (length turn.made ≤ c.heap.spare)
-    × (new_entries (act_in found) c.foreign.entries ≤ c.foreign.spare)
+HasRoomIn (Go turn found name weight) letters c = HasRoomToMove turn (act_in found) c
 HasRoomIn change letters c = ⊤
 
 -- where its cell is at home, it has room for the change

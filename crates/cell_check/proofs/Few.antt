@@ -8,7 +8,7 @@ use Rattle.orca_names.proofs.ThingOrder.{cases_thing}
 use Rattle.orca_names.specs.Names.{owner_of, thing_cmp}
 use Rattle.orca_names.specs.declared.names.Thing.{Thing}
 use Rattle.orca_names.specs.declared.names.Value.{Value}
-use Rattle.orca_names.specs.declared.trace.Trace.{Trace}
+use Rattle.orca_names.specs.declared.options.Options.{Options}
 use Rattle.behaviour_code.specs.declared.code.Program.{Program}
 use Rattle.turn_rules.specs.declared.act.Frame.{Frame}
 use Rattle.turn_rules.specs.Segment.{Turn}
@@ -145,12 +145,12 @@ can_told frame c me h turn place End can = can
 can_told frame c me h turn place Rest can = can
 
 -- a turn that was found can be gone where what it does can be done
-pub can_go : (trace : Trace) (weight : ℕ) (program : Program) (me : ℕ) (c : Cell) (turn : Turn) (place : ℕ) (act : Move)
-    → IsSomeAnd c.frame (IsTold trace weight program me c turn place act) → CanMove me c.holdings turn act
-    → CanGo trace weight program me c
-can_go trace weight program me c turn place act is can = in_frame c.frame is
+pub can_go : (options : Options) (program : Program) (me : ℕ) (c : Cell) (turn : Turn) (place : ℕ) (act : Move)
+    → IsSomeAnd c.frame (IsTold options program me c turn place act) → CanMove me c.holdings turn act
+    → CanGo options program me c
+can_go options program me c turn place act is can = in_frame c.frame is
   where
-    in_frame : (frame : Option Frame) → IsSomeAnd frame (IsTold trace weight program me c turn place act)
-        → IsSomeAnd frame (λ f. let t = turned_in trace weight program me c f in CanMove me c.holdings t.turn t.act)
+    in_frame : (frame : Option Frame) → IsSomeAnd frame (IsTold options program me c turn place act)
+        → IsSomeAnd frame (λ f. let t = turned_in options program me c f in CanMove me c.holdings t.turn t.act)
     in_frame None none = absurd none
     in_frame (Some f) same = rw same (can_told f c me c.holdings turn place act can)

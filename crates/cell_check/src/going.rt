@@ -13,7 +13,7 @@ use behaviour_check::{Checked, check};
 use behaviour_text::parse;
 use known_rows::KnownPlaces;
 use letter_kinds::{Amounts, Letter, Load};
-use orca_names::{Row, Thing, Trace};
+use orca_names::{Options, Row, Thing, Trace};
 use std::alloc::Global;
 use std::test::Fail;
 use turn_step::Turn;
@@ -116,7 +116,11 @@ fn goes_over(
     if !cell.frame.is_some() || cell.heap.made() > 1000 {
         return Err(Fail::from("it cannot go"));
     }
-    cell.find_go(alloc, code, WEIGHT, Trace::Deep, turn, found)?;
+    let options = Options {
+        weight: WEIGHT,
+        trace: Trace::Deep,
+    };
+    cell.find_go(alloc, code, options, turn, found)?;
     if !allows(cell, found) {
         return Err(Fail::from("its counts do not allow what it would do"));
     }

@@ -4,6 +4,7 @@ use Rattle.std.specs.Prelude.{IsSomeAnd}
 use Rattle.orca_names.specs.Names.{owner_of}
 use Rattle.orca_names.specs.declared.names.Thing.{Thing}
 use Rattle.orca_names.specs.declared.names.Value.{Value}
+use Rattle.orca_names.specs.declared.options.Options.{Options}
 use Rattle.orca_names.specs.declared.trace.Trace.{Trace}
 use Rattle.turn_rules.specs.Segment.{Stop}
 use Rattle.turn_rules.specs.declared.act.Act.{Act}
@@ -41,9 +42,15 @@ can_send_one me h e known room = record {
   held = λ others. ⊎_elim (λ own. absurd (others own.0)) (λ other. other.1) known;
 }
 
-module _ (trace : Trace) (p : PlainState) (s : State) (kept : Facts trace p s) (a : ℕ) (c : Cell) (mail : List Letter) (at : seat_at s.actors a ≡ seat c mail)
-    (weight : ℕ) (held_room : (x : Thing) → held_in c.holdings x + weight < count_limit) (own_room : (x : Thing) → owner_of x ≡ a → own_in c.holdings x + 1 < count_limit)
+module _ (options : Options) (p : PlainState) (s : State) (kept : Facts options.trace p s) (a : ℕ) (c : Cell) (mail : List Letter) (at : seat_at s.actors a ≡ seat c mail)
+    (held_room : (x : Thing) → held_in c.holdings x + options.weight < count_limit) (own_room : (x : Thing) → owner_of x ≡ a → own_in c.holdings x + 1 < count_limit)
     (frame : Frame) (framed : c.frame ≡ Some frame) where
+  abbrev trace : Trace
+  trace = options.trace
+
+  abbrev weight : ℕ
+  weight = options.weight
+
   abbrev stop : Stop
   stop = turn_of_cell trace s.program a c frame
 
@@ -72,24 +79,24 @@ module _ (trace : Trace) (p : PlainState) (s : State) (kept : Facts trace p s) (
       can_post [] l = can_send
       can_post (e ∷ lacked) l = can_mint_lacked e lacked l
 
-    can_act : (act : Act) → stop.act ≡ act → CanMove a c.holdings stop.turn (move_by trace weight a (having_made stop.turn.made c) act)
+    can_act : (act : Act) → stop.act ≡ act → CanMove a c.holdings stop.turn (move_by options a (having_made stop.turn.made c) act)
     can_act (Post to behaviour args) is = can_post to behaviour args is (lacking_from trace a turned args) refl
     can_act (New kind register) is = tt
     can_act (Print value) is = tt
     can_act End is = tt
 
   can_turn : (first : Option Thing) → needed trace s.program a c frame ≡ first
-      → (let t = turned_or_needs trace weight a c frame first stop in CanMove a c.holdings t.turn t.act)
+      → (let t = turned_or_needs options a c frame first stop in CanMove a c.holdings t.turn t.act)
   can_turn None none = can_act none stop.act refl
   can_turn (Some x) needs = can_mint (to_need weight a c.holdings x) c.holdings (λ y. let r = held_room y in let k = needed_once weight a c.holdings x y in omega arith)
 
-  can_go : CanGo trace weight s.program a c
-  can_go = subst (λ o. IsSomeAnd o (λ f. let t = turned_in trace weight s.program a c f in CanMove a c.holdings t.turn t.act)) (sym framed) (can_turn (needed trace s.program a c frame) refl)
+  can_go : CanGo options s.program a c
+  can_go = subst (λ o. IsSomeAnd o (λ f. let t = turned_in options s.program a c f in CanMove a c.holdings t.turn t.act)) (sym framed) (can_turn (needed trace s.program a c frame) refl)
 
 pub runs_allow_goes : RunsAllowGoes
 runs_allow_goes program options book t short a c mail at frame framed =
     let all = facts program options book t short in
-    subst (λ q. CanGo options.trace options.weight q a c) (runs_keep_program program options book t short.run).same_program
-    (can_go options.trace all.0 t all.1.beside a c mail at options.weight (held_fits program options book t short a c mail at)
+    subst (λ q. CanGo options q a c) (runs_keep_program program options book t short.run).same_program
+    (can_go options all.0 t all.1.beside a c mail at (held_fits program options book t short a c mail at)
     (λ x mine. let r = own_fits program options book t short a c mail at x mine in let heavy = short.heavy in omega arith)
     frame framed)

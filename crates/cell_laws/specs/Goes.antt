@@ -7,4 +7,4 @@ use Rattle.cell_laws.specs.Runs.{AfterShortRuns}
 abbrev pub RunsAllowGoes : Type 0
 RunsAllowGoes =
     AfterShortRuns (λ program options t a c mail. (frame : Frame) → c.frame ≡ Some frame
-    → CanGo options.trace options.weight program a c)
+    → CanGo options program a c)

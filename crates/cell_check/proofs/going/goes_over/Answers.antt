@@ -9,5 +9,5 @@ go-requires-clause-can c =
     let cell = c.args.cell.now in
     let turn = c.find_go.new.turn in
     let found = c.find_go.new.found in
-    can_go Deep 256 c.args.code.now cell.heap.owner (as_cell cell) turn found.place (act_in found)
-    c.in_ok-find_go.ensures.found (c.allows.ensures turn c.if-not-allows.false)
+    can_go (record { weight = 256; trace = Deep }) c.args.code.now cell.heap.owner (as_cell cell) turn found.place (act_in found)
+    c.in_ok-find_go.ensures.found.told (c.allows.ensures turn c.if-not-allows.false)

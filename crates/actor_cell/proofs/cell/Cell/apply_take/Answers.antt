@@ -9,15 +9,16 @@ use Rattle.actor_cell.specs.Cells.{as_cell}
 use Rattle.actor_cell.specs.Takes.{CanTake}
 use Rattle.actor_cell.proofs.cell.Cell.apply_take.Goals as goal
 
-pub returns-in-App-clause-cell : goal.returns-in-App-clause-cell
-returns-in-App-clause-cell c =
+pub returns-in-App : goal.returns-in-App
+returns-in-App c =
     let s = as_cell c.args.self.now in
     let me = c.args.self.now.heap.owner in
     let counts = c.receive_trace.ensures.counts ∙ ap (λ a. receive a c.in-App.load s.holdings) c.owner-me.ensures in
     let known = c.learn_all.ensures ∙ ap (λ a. learn a c.in-App.rows s.known) c.owner-me.ensures in
-    c.wake.ensures.cell
+    let cell = c.wake.ensures.0
     ∙ (λ i. record s { frame = c.start_frame.ensures i; holdings = counts i; known = known i; dirty = true; reported = false })
-    ∙ ap (λ l. cell_after c.args.code.now me l s) (sym c.in-App.is)
+    ∙ ap (λ l. cell_after c.args.code.now me l s) (sym c.in-App.is) in
+    (cell, c.wake.ensures.1 ∙ c.receive_trace.ensures.heap.0)
 
 pub raise_counts-requires-clause-can : goal.raise_counts-requires-clause-can
 raise_counts-requires-clause-can c = λ foreign.
@@ -27,13 +28,14 @@ raise_counts-requires-clause-can c = λ foreign.
     subst (λ a. CanRaise a c.in-Inc.things (holdings_of s.count s.heap foreign)) (sym c.owner-me.ensures)
     (can_raise_with foreign.entries s.heap.owner c.in-Inc.things (as_cell s).holdings its)
 
-pub returns-in-Inc-clause-cell : goal.returns-in-Inc-clause-cell
-returns-in-Inc-clause-cell c =
+pub returns-in-Inc : goal.returns-in-Inc
+returns-in-Inc c =
     let s = as_cell c.args.self.now in
     let me = c.args.self.now.heap.owner in
     let counts = c.raise_counts.ensures.counts c.args.self.now.foreign ∙ ap (λ a. raise_all a c.in-Inc.things s.holdings) c.owner-me.ensures in
-    c.wake-in-Inc.ensures.cell ∙ (λ i. record s { holdings = counts i; dirty = true; reported = false })
-    ∙ ap (λ l. cell_after c.args.code.now me l s) (sym c.in-Inc.is)
+    let cell = c.wake-in-Inc.ensures.0 ∙ (λ i. record s { holdings = counts i; dirty = true; reported = false })
+    ∙ ap (λ l. cell_after c.args.code.now me l s) (sym c.in-Inc.is) in
+    (cell, c.wake-in-Inc.ensures.1 ∙ c.raise_counts.ensures.owner)
 
 pub lower_counts-requires-clause-can : goal.lower_counts-requires-clause-can
 lower_counts-requires-clause-can c = λ foreign.
@@ -43,10 +45,11 @@ lower_counts-requires-clause-can c = λ foreign.
     subst (λ a. CanLower a c.in-Dec.things (holdings_of s.count s.heap foreign)) (sym c.owner-me.ensures)
     (can_lower_with foreign.entries s.heap.owner c.in-Dec.things (as_cell s).holdings its)
 
-pub returns-in-Dec-clause-cell : goal.returns-in-Dec-clause-cell
-returns-in-Dec-clause-cell c =
+pub returns-in-Dec : goal.returns-in-Dec
+returns-in-Dec c =
     let s = as_cell c.args.self.now in
     let me = c.args.self.now.heap.owner in
     let counts = c.lower_counts.ensures.counts c.args.self.now.foreign ∙ ap (λ a. lower_all a c.in-Dec.things s.holdings) c.owner-me.ensures in
-    c.wake-in-Dec.ensures.cell ∙ (λ i. record s { holdings = counts i; dirty = true; reported = false })
-    ∙ ap (λ l. cell_after c.args.code.now me l s) (sym c.in-Dec.is)
+    let cell = c.wake-in-Dec.ensures.0 ∙ (λ i. record s { holdings = counts i; dirty = true; reported = false })
+    ∙ ap (λ l. cell_after c.args.code.now me l s) (sym c.in-Dec.is) in
+    (cell, c.wake-in-Dec.ensures.1 ∙ c.lower_counts.ensures.owner)

@@ -9,13 +9,13 @@ use Rattle.actor_cell.proofs.Telling.{told_gone}
 use Rattle.actor_cell.proofs.cell.Cell.go.Goals as goal
 
 pub returns-clause-gone : goal.returns-clause-gone
-returns-clause-gone c = by c.args.self.now.frame refl c.in_ok-find_go.ensures.found
+returns-clause-gone c = by c.args.self.now.frame refl c.in_ok-find_go.ensures.found.told
   where
     by : (frame : Option Frame) → c.args.self.now.frame ≡ frame
-        → IsSomeAnd frame (IsTold c.args.trace c.args.weight c.args.code.now c.args.self.now.heap.owner (as_cell c.args.self.now)
+        → IsSomeAnd frame (IsTold (record { weight = c.args.weight; trace = c.args.trace }) c.args.code.now c.args.self.now.heap.owner (as_cell c.args.self.now)
         c.find_go.new.turn c.find_go.new.found.place (act_in c.find_go.new.found))
         → option_map (λ f. gone_by c.args.self.now.heap.owner (as_cell c.args.self.now) f
-        (turned_in c.args.trace c.args.weight c.args.code.now c.args.self.now.heap.owner (as_cell c.args.self.now) f)) frame
+        (turned_in (record { weight = c.args.weight; trace = c.args.trace }) c.args.code.now c.args.self.now.heap.owner (as_cell c.args.self.now) f)) frame
         ≡ Some (record { cell = as_cell c.apply_go.new.self; out = c.into_out.result })
     by None at tells = absurd tells
     by (Some frame) at tells =
@@ -26,8 +26,8 @@ returns-clause-gone c = by c.args.self.now.frame refl c.in_ok-find_go.ensures.fo
         let does = act_in c.find_go.new.found in
         let kept = c.in_ok-reserve_go.ensures in
         let its : as_cell c.apply_go.new.self ≡ cell_by me (as_cell s) frame turn place does =
-        c.apply_go.ensures.cell frame (ap (λ (k : rules.Cell). k.frame) kept.cell ∙ at)
-        ∙ (λ i. cell_by (kept.owner i) (kept.cell i) frame turn place does)
+        c.apply_go.ensures.cell frame (ap (λ (k : rules.Cell). k.frame) kept.same.0 ∙ at)
+        ∙ (λ i. cell_by (kept.same.1 i) (kept.same.0 i) frame turn place does)
         in
         ap Some (ap (gone_by me (as_cell s) frame) tells ∙ told_gone frame (as_cell s) turn place me does
         ∙ (λ i. record { cell = sym its i; out = sym c.into_out.ensures i }))
