@@ -58,14 +58,14 @@ module _ (options : Options) (program : Program) (m : Parts) (a : ℕ) (t : Stat
   pub collect_leaves : FitsCollect options.trace a m.sweep m → next s (Collect a) ≡ Goes t
       → LeavesOthers (a ∷ receivers m.sweep.plan.back) None s t
   collect_leaves fits seen =
-      let cell = as_cell fits.cell in
+      let cell = as_cell fits.acts.cell in
       let mail = (slot_at m.table.slots a).mail.letters in
       let back = m.sweep.plan.back in
       let names = a ∷ receivers back in
       let own = set s.actors a (seat (swept options.trace a cell) mail) in
       there (LeavesOthers names None s) (next s (Collect a)) _ t
-      (collect_goes s a cell mail (decs_to back) (push_all (decs_to back) own) (seat_here m.table.slots a fits.cell fits.home) fits.may
-      (ap decs_to fits.collects.back_is) refl) seen
+      (collect_goes s a cell mail (decs_to back) (push_all (decs_to back) own) (seat_here m.table.slots a fits.acts.cell fits.acts.home) fits.acts.may
+      (ap decs_to fits.acts.so.back_is) refl) seen
       (only_seats names s _ refl (λ b out.
       let apart = spared_first a (receivers back) b out in
       decs_leave back own b apart.1 ∙ get_or-set_other s.actors a b _ None apart.0))
@@ -76,8 +76,8 @@ module _ (options : Options) (program : Program) (m : Parts) (a : ℕ) (t : Stat
       let letters = m.letters.items in
       let names = a ∷ receivers letters in
       there (LeavesOthers names None s) (next s (Leave a)) _ t
-      (leave_goes s a (as_cell fits.cell) (slot_at m.table.slots a).mail.letters letters (push_all letters (set s.actors a None))
-      (seat_here m.table.slots a fits.cell fits.home) fits.may fits.returns refl) seen
+      (leave_goes s a (as_cell fits.acts.cell) (slot_at m.table.slots a).mail.letters letters (push_all letters (set s.actors a None))
+      (seat_here m.table.slots a fits.acts.cell fits.acts.home) fits.acts.may fits.acts.so refl) seen
       (only_seats names s _ refl (λ b out.
       let apart = spared_first a (receivers letters) b out in
       letters_leave letters (set s.actors a None) b apart.1 ∙ get_or-set_other s.actors a b None None apart.0))
@@ -85,6 +85,6 @@ module _ (options : Options) (program : Program) (m : Parts) (a : ℕ) (t : Stat
   pub block_leaves : FitsBlock a m → next s (Block a) ≡ Goes t → LeavesOthers (a ∷ []) None s t
   block_leaves fits seen =
       there (LeavesOthers (a ∷ []) None s) (next s (Block a)) _ t
-      (acting-is may_block (block s a) (seat_at s.actors a) (as_cell fits.cell) (slot_at m.table.slots a).mail.letters
-      (seat_here m.table.slots a fits.cell fits.home) fits.may) seen
+      (acting-is may_block (block s a) (seat_at s.actors a) (as_cell fits.acts.cell) (slot_at m.table.slots a).mail.letters
+      (seat_here m.table.slots a fits.acts.cell fits.acts.home) fits.acts.may) seen
       (only_seats (a ∷ []) s _ refl (λ b out. get_or-set_other s.actors a b _ None (not_one a b out)))

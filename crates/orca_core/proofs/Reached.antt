@@ -26,7 +26,7 @@ use Rattle.orca_parts.specs.Steps.{CanStep, ReapsAtHome}
 use Rattle.orca_parts.specs.declared.parts.Parts.{Parts}
 use Rattle.orca_parts.proofs.Giving.{seat_here}
 use Rattle.actor_table.proofs.Changing.{away_read}
-use Rattle.orca_parts.proofs.Prepared.{at_home, only_room_then}
+use Rattle.orca_parts.proofs.Prepared.{at_home}
 
 -- ---- runs
 
@@ -37,13 +37,6 @@ leads_more (f ∷ book) s t u e first goes = (first.0, first.1, leads_more book 
 -- what is alike has the same program and choices
 alike_state : (m after : Core) → IsAlike m after → core_state after ≡ state_of m.code.now m.options after.parts
 alike_state m after alike = λ i. state_of (alike.code i).now (alike.options i) after.parts
-
--- one after the other
-pub keeps_then : (one two three : Core) → KeepsCore one two → KeepsCore two three → KeepsCore one three
-keeps_then one two three first second = record {
-  alike = record { code = second.alike.code ∙ first.alike.code; options = second.alike.options ∙ first.alike.options };
-  room = only_room_then one.parts two.parts three.parts first.room second.room;
-}
 
 module _ (m : Core) (steps : ℕ) where
   abbrev program : Program

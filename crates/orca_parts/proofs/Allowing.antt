@@ -50,7 +50,7 @@ counts_allow options program a found m fits allow c home =
     subst (CountsAllow a (act_in found) m) (same_cell (slot_at m.table.slots a).place fits.cell c fits.home home) (record {
       can = told_can fits.frame (as_cell x) m.turn found.place a (as_cell x).holdings (act_in found)
           (subst (λ (t : goes.Turned). CanMove a (as_cell x).holdings t.turn t.act) fits.found_is
-          (subst (λ o. IsSomeAnd o (λ frame. let t = turned_in options.trace options.weight program a (as_cell x) frame in CanMove a (as_cell x).holdings t.turn t.act)) fits.framed (its.can fits.frame fits.framed)));
+          (subst (λ o. IsSomeAnd o (λ frame. let t = turned_in options program a (as_cell x) frame in CanMove a (as_cell x).holdings t.turn t.act)) fits.framed (its.can fits.frame fits.framed)));
       serials = its.serials;
       unnamed = ap (λ n. map_of.get x.foreign.entries (Actor n)) (sym (length-map m.table.slots seat_of)) ∙ its.unnamed;
     })

@@ -209,10 +209,9 @@ still_awaited trace program old new room turn turned awaited letter c e there =
     let its = awaited letter c (sym (ap (λ (t : Turned). t.awaited) turned) ∙ e) (sym (ap (λ xs. cell_at xs letter.actor) actors) ∙ there) in
     subst (λ t. Awaits trace program letter.actor c t new.turned letter) (sym turn) (subst (λ f. Awaits trace program letter.actor c old.turn f letter) (sym turned) its)
 
--- where it was found just now, and memory was taken
-pub found_awaited : (trace : Trace) (program : Program) (a : ℕ) (mid new : Parts) → HasCell (slot_at mid.table.slots a) (IsAwaitedHere trace program a mid.turn mid.turned)
-    → OnlyRoom mid new → new.turn ≡ mid.turn → new.turned ≡ mid.turned → IsAwaited trace program new
-found_awaited trace program a mid new here room turn turned =
-    still_awaited trace program mid new room turn turned
-    (awaited_here trace program mid.turn mid.turned a (as_cell here.cell) (slot_at mid.table.slots a).mail.letters (actors_of mid.table.slots)
-    (seat_here mid.table.slots a here.cell here.home) here.so)
+-- where it was found just now
+pub found_awaited : (trace : Trace) (program : Program) (a : ℕ) (m : Parts) → HasCell (slot_at m.table.slots a) (IsAwaitedHere trace program a m.turn m.turned)
+    → IsAwaited trace program m
+found_awaited trace program a m here =
+    awaited_here trace program m.turn m.turned a (as_cell here.cell) (slot_at m.table.slots a).mail.letters (actors_of m.table.slots)
+    (seat_here m.table.slots a here.cell here.home) here.so

@@ -44,7 +44,7 @@ fits_limit act parts room = tt
 pub record Going (s : State) (a : ℕ) (c : Cell) (mail : List Letter) (frame : Frame) (turn : segment.Turn) (place : ℕ) (act : Move) : Type 0 where
   pub present : seat_at s.actors a ≡ seat c mail
   pub framed : c.frame ≡ Some frame
-  pub found : IsTold s.options.trace s.options.weight s.program a c turn place act frame
+  pub found : IsTold s.options s.program a c turn place act frame
 
 module _ (s : State) (a : ℕ) (c : Cell) (mail : List Letter) (frame : Frame) (turn : segment.Turn) (place : ℕ) where
   -- the state after it is that of the parts
@@ -54,7 +54,7 @@ module _ (s : State) (a : ℕ) (c : Cell) (mail : List Letter) (frame : Frame) (
       let trace = s.options.trace in
       acting-is may_go (go trace s a) (seat_at s.actors a) c mail going.present (ap is_some going.framed)
       ∙ gone trace s a c mail
-      ∙ ap (λ o. option_map_or (after_go s a c mail) (option_map (λ f. gone_by a c f (turned_in trace s.options.weight s.program a c f)) o) NotEnabled) going.framed
+      ∙ ap (λ o. option_map_or (after_go s a c mail) (option_map (λ f. gone_by a c f (turned_in s.options s.program a c f)) o) NotEnabled) going.framed
       ∙ ap (λ t. after_go s a c mail (gone_by a c frame t)) going.found ∙ ap (after_go s a c mail) (told_gone frame c turn place a act)
 
   -- the cell after it, in its seat

@@ -1,6 +1,6 @@
 -- A turn that was found, and what it takes to be prepared.
 use Rattle.std.proofs.Common.{◌≡◌, ◌≤◌, ℕ, false, List, length, get_or, Option, None, Some, refl, sym, ap, subst, ◌∙◌}
-use Rattle.std.specs.Prelude.{if◌then◌else◌, is_err, is_some, IfErr, IsSomeAnd, OnOk}
+use Rattle.std.specs.Prelude.{if◌then◌else◌, is_err, is_some, IsSomeAnd, OnOk}
 use Rattle.std.specs.declared.result.Result.{Result}
 use Rattle.std.specs.declared.result.Result.TheVariants.{Ok, Err}
 use Rattle.std.specs.Option.{option_map_or}
@@ -9,7 +9,6 @@ use Rattle.behaviour_code.specs.declared.code.Program.{Program}
 use Rattle.turn_rules.specs.Segment.{Turn}
 use Rattle.turn_rules.specs.declared.act.Frame.{Frame}
 use Rattle.event_rule.specs.Runs.{NotEnabled}
-use Rattle.event_rule.specs.declared.event.Event.{Event}
 use Rattle.event_rule.specs.declared.event.Event.TheVariants.{Go as go_event}
 use Rattle.letter_kinds.specs.declared.letter.Letter.{Letter}
 use Rattle.machine_rules.specs.Actors.{Seat, seat, seat_at}
@@ -24,7 +23,8 @@ use Rattle.actor_cell.specs.declared.cell.Cell.{Cell}
 use Rattle.actor_cell.specs.Moves.{act_in}
 use Rattle.actor_cell.specs.declared.turning.Turned.{Turned}
 use Rattle.actor_cell.specs.Cells.{as_cell}
-use Rattle.actor_cell.specs.Goes.{IsTold, new_entries, told, turned_in}
+use Rattle.actor_cell.specs.Finding.{HasRoomToMove}
+use Rattle.actor_cell.specs.Goes.{IsTold, told, turned_in}
 use Rattle.actor_table.specs.declared.slot.Slot.{Slot}
 use Rattle.actor_table.specs.declared.slot.Place.{Place}
 use Rattle.actor_table.specs.declared.slot.Place.TheVariants.{Home, Away, Gone}
@@ -33,7 +33,7 @@ use Rattle.actor_table.specs.Slots.{Table, actors_of, away_of, is_away, is_away_
 use Rattle.actor_table.proofs.Changing.{away_read, seat_read}
 use Rattle.orca_parts.specs.declared.insides.Core.{Core}
 use Rattle.orca_parts.specs.Away.{is_out}
-use Rattle.orca_parts.specs.Core.{next_in}
+use Rattle.orca_parts.specs.Core.{KeepsCore}
 use Rattle.orca_parts.specs.Faults.{IsFault}
 use Rattle.orca_parts.proofs.Homes.{place_read}
 use Rattle.orca_parts.specs.Fits.{OnlyRoom}
@@ -87,11 +87,6 @@ not_going trace s slots a faults.NotEnabled same none = by (slot_at slots a).pla
 not_going trace s slots a (faults.ActorsFull b) same none = absurd none
 not_going trace s slots a faults.NoMemory same none = tt
 
--- the fault of an event is that of what the event is
-pub fault_same : {A : Type 0} (m : Core) (e f : Event) (r : Result A StepFault) → e ≡ f
-    → IfErr r (IsFault (next_in m f) f) → IfErr r (IsFault (next_in m e) e)
-fault_same m e f r same is = subst (λ g. IfErr r (IsFault (next_in m g) g)) (sym same) is
-
 -- what comes with Ok gives something more
 pub ok_by : {A E P Q : Type 0} (r : Result A E) → (P → Q) → OnOk r P → OnOk r Q
 ok_by (Ok x) more so = more so
@@ -108,6 +103,12 @@ pub only_room_then : (one two three : Parts) → OnlyRoom one two → OnlyRoom t
 only_room_then one two three first second =
     record { state = λ p o. second.state p o ∙ first.state p o; away = second.away ∙ first.away }
 
+pub keeps_then : (one two three : Core) → KeepsCore one two → KeepsCore two three → KeepsCore one three
+keeps_then one two three first second = record {
+  alike = record { code = second.alike.code ∙ first.alike.code; options = second.alike.options ∙ first.alike.options };
+  room = only_room_then one.parts two.parts three.parts first.room second.room;
+}
+
 -- the table has more room, and the room for a turn is used
 pub table_room : (m : Parts) (table : Table) (turn : Turn) → actors_of table.slots ≡ actors_of m.table.slots → away_of table.slots ≡ away_of m.table.slots
     → OnlyRoom m (record m { table = table; turn = turn })
@@ -118,10 +119,10 @@ table_room m table turn actors away =
 module _ (options : Options) (program : Program) (a : ℕ) (found : Turned) (old : List Slot) (turn : Turn) (mid : List Slot) (m : Parts) where
   -- where its cell is at home, there is room for what was found
   abbrev HasRoomToGo : Slot → Type 0
-  HasRoomToGo x = (y : Cell) → x.place ≡ Home y → (length turn.made ≤ y.heap.spare) × (new_entries (act_in found) y.foreign.entries ≤ y.foreign.spare)
+  HasRoomToGo x = (y : Cell) → x.place ≡ Home y → HasRoomToMove turn (act_in found) y
 
   fits_with : (c : Cell) → (slot_at old a).place ≡ Home c → (frame : Frame) → c.frame ≡ Some frame
-      → IsTold options.trace options.weight program a (as_cell c) turn found.place (act_in found) frame
+      → IsTold options program a (as_cell c) turn found.place (act_in found) frame
       → (x : Cell) → (slot_at mid a).place ≡ Home x → as_cell x ≡ as_cell c
       → HasRoomToGo (slot_at mid a) → places_of m.table.slots ≡ places_of mid → m.turn ≡ turn
       → HasRoomOut (act_in found) m → length turn.made ≤ BODY_LIMIT
@@ -133,7 +134,7 @@ module _ (options : Options) (program : Program) (a : ℕ) (found : Turned) (old
         home = sym (place_read m.table.slots a) ∙ ap (λ ps. get_or ps a Gone) places ∙ place_read mid a ∙ at;
         frame = frame;
         framed = ap (λ (y : rules.Cell). y.frame) same ∙ framed;
-        found_is = ap (λ y. turned_in options.trace options.weight program a y frame) same ∙ is ∙ (λ i. told frame (sym same i) (sym kept i) found.place (act_in found));
+        found_is = ap (λ y. turned_in options program a y frame) same ∙ is ∙ (λ i. told frame (sym same i) (sym kept i) found.place (act_in found));
         few = subst (λ (t : Turn). length t.made ≤ BODY_LIMIT) (sym kept) few;
         objects = subst (λ (t : Turn). length t.made ≤ x.heap.spare) (sym kept) sizes.0;
         entries = sizes.1;
@@ -153,7 +154,7 @@ module _ (options : Options) (program : Program) (a : ℕ) (found : Turned) (old
       by c.frame refl cell.so x
     where
       by : (f : Option Frame) → cell.cell.frame ≡ f
-          → IsSomeAnd f (IsTold options.trace options.weight program a (as_cell cell.cell) turn found.place (act_in found))
+          → IsSomeAnd f (IsTold options program a (as_cell cell.cell) turn found.place (act_in found))
           → HasCell (slot_at mid a) (λ x. as_cell x ≡ as_cell cell.cell) → FitsGo options program a found m
       by None framed is x = absurd is
       by (Some frame) framed is x =

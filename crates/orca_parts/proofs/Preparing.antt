@@ -1,20 +1,22 @@
 -- What a step finds of its actor before it changes anything.
 use Rattle.std.proofs.Common.{◌≡◌, ℕ, ◌<◌, ◌≤◌, subst, inl, inr, Bool, true, false, List, [], ◌∷◌, map, get_or, length, Option, Some, None, refl, sym, ap, ◌∙◌, arith}
-use Rattle.std.specs.Prelude.{◌&&◌, if◌then◌else◌, is_none}
+use Rattle.std.specs.Prelude.{◌&&◌, if◌then◌else◌, is_none, IfErr, OnOk}
+use Rattle.std.specs.declared.result.Result.{Result}
+use Rattle.std.specs.declared.result.Result.TheVariants.{Ok, Err}
 use Rattle.std.specs.Option.{option_map_or}
 use Rattle.std.proofs.lemmas.Bool.{cases_lt}
 use Rattle.std.proofs.lemmas.List.{get_or-map, get_or_past, length-map}
 use Rattle.event_rule.specs.Runs.{NotEnabled, Step}
 use Rattle.event_rule.specs.declared.event.Event.{Event}
+use Rattle.event_rule.specs.declared.event.Event.TheVariants.{Collect}
 use Rattle.std.specs.VecDeque.{deque_capacity, deque_len}
 use Rattle.letter_kinds.specs.declared.letter.Letter.{Letter}
-use Rattle.letter_kinds.specs.declared.note.Note.{Note}
 use Rattle.turn_rules.specs.declared.act.Frame.{Frame}
 use Rattle.machine_rules.specs.Actors.{Seat, seat_at}
 use Rattle.machine_rules.specs.Cell as rules
 use Rattle.machine_rules.specs.Next.{acting}
 use Rattle.machine_rules.specs.State.{State}
-use Rattle.machine_rules.specs.Guards.{may_block, may_collect, may_do, may_leave, may_take}
+use Rattle.machine_rules.specs.Guards.{may_collect, may_do, may_take}
 use Rattle.machine_rules.specs.Collect.{is_marked}
 use Rattle.orca_names.specs.declared.trace.Trace.{Trace}
 use Rattle.letter_kinds.specs.Counting.{by_owner, given_back}
@@ -22,7 +24,7 @@ use Rattle.known_rows.specs.Holdings.{holdings_of}
 use Rattle.local_sweep.proofs.GivenBack.{back_rises}
 use Rattle.actor_cell.specs.declared.cell.Cell.{Cell}
 use Rattle.actor_cell.specs.Cells.{as_cell}
-use Rattle.actor_cell.specs.Outs.{left_behind, decs_to, report_of}
+use Rattle.actor_cell.specs.Outs.{decs_to}
 use Rattle.actor_cell.specs.declared.sweeping.Sweep.{Sweep}
 use Rattle.actor_cell.specs.Sweeps.{sweep_of}
 use Rattle.actor_cell.proofs.Marked.{back_same}
@@ -33,8 +35,15 @@ use Rattle.actor_cell.specs.Takes.{HasRoomFor}
 use Rattle.actor_table.specs.Slots.{actors_of, away_of, gone, home_in, home_of, is_away, is_away_in, letters_in, may_at, may_event, may_in, places_of, seat_in, seat_of, slot_at}
 use Rattle.actor_table.proofs.Changing.{away_read, seat_read}
 use Rattle.orca_parts.specs.declared.parts.Parts.{Parts}
-use Rattle.orca_parts.specs.Fits.{FitsBlock, FitsCollect, FitsLeave, FitsTake, OnlyRoom}
-use Rattle.orca_parts.specs.Letters.{FitLetters, letters_to}
+use Rattle.orca_parts.specs.Core.{next_in}
+use Rattle.orca_parts.specs.Faults.{IsFault}
+use Rattle.orca_parts.specs.Fits.{ActsAt, CollectsWith, FitsTake, KeepsTurn, OnlyRoom}
+use Rattle.orca_parts.specs.Ready.{FitsEvent, Prepares}
+use Rattle.orca_parts.specs.declared.fault.StepFault.{StepFault}
+use Rattle.orca_parts.specs.declared.fault.StepFault.TheVariants as faults
+use Rattle.orca_parts.specs.declared.insides.Core.{Core}
+use Rattle.orca_parts.proofs.Awaiting.{still_awaited}
+use Rattle.orca_parts.specs.Letters.{letters_to}
 use Rattle.orca_parts.specs.Away.{is_out}
 use Rattle.orca_parts.proofs.Homes.{home_is}
 use Rattle.orca_parts.proofs.Reserving.{once_each}
@@ -76,18 +85,12 @@ acts_home e x c lent = by (may_event e x) lent
     by true is = (is, refl)
     by false is = cc
 
-pub fits_block : (a : ℕ) (note : Note) (m : Parts) (c : Cell) → m.report ≡ Some note → Some c ≡ home_of (slot_at m.table.slots a) → c.heap.owner ≡ a
-    → may_at may_block (slot_at m.table.slots a) ≡ true → note ≡ report_of c.heap.owner (as_cell c)
-    → deque_len m.notes < deque_capacity m.notes → FitsBlock a m
-fits_block a note m c told lent own may is room =
-    let home = home_is (slot_at m.table.slots a) c lent in
-    record {
-      cell = c;
-      home = home;
-      may = may_here may_block (slot_at m.table.slots a) c home may;
-      report = told ∙ ap (λ n. Some n) (is ∙ ap (λ me. report_of me (as_cell c)) own);
-      room = room;
-    }
+-- so the actor acts at its place
+pub acts_here : (e : Event) (x : Slot) (c : Cell) (Q : Cell → Type 0) → Some c ≡ (if may_event e x then home_of x else None) → Q c → ActsAt e x Q
+acts_here e x c Q lent so =
+    let its = acts_home e x c lent in
+    let home = home_is x c its.0 in
+    record { cell = c; home = home; may = may_here (λ d mail. may_do d mail e) x c home its.1; so = so }
 
 -- what is read of a place
 pub read_by : {A : Type 0} (f : Slot → A) (slots : List Slot) (a : ℕ) → get_or (map f slots) a (f gone) ≡ f (slot_at slots a)
@@ -146,59 +149,82 @@ fits_take a m old actors away may room note =
     by Gone home letters is on = cc
 
 -- but for room all is the same where the actors, and what is to be heard, are
-pub only_room : (old new : Parts) → new.detector ≡ old.detector → new.prints ≡ old.prints → new.objects ≡ old.objects → actors_of new.table.slots ≡ actors_of old.table.slots
-    → away_of new.table.slots ≡ away_of old.table.slots → new.notes.items ≡ old.notes.items → OnlyRoom old new
+pub only_room : (old new : Parts) → new.detector.state ≡ old.detector.state → new.prints.items ≡ old.prints.items → new.objects ≡ old.objects
+    → actors_of new.table.slots ≡ actors_of old.table.slots → away_of new.table.slots ≡ away_of old.table.slots → new.notes.items ≡ old.notes.items
+    → OnlyRoom old new
 only_room old new detector prints objects actors away notes = record {
   state = λ program options. λ i. record {
     program = program;
     options = options;
     actors = actors i;
-    detector = (detector i).state;
+    detector = detector i;
     notes = notes i;
-    prints = (prints i).items;
+    prints = prints i;
     objects = objects i;
   };
   away = away;
 }
 
--- ---- where the places and the letters stay
+-- ---- how the preparing of an event ends
 
-module _ (a : ℕ) (m : Parts) (old : List Slot) (places : places_of m.table.slots ≡ places_of old) (rows : letters_in m.table.slots ≡ letters_in old) where
-  abbrev new_slot : Slot
-  new_slot = slot_at m.table.slots a
+-- the event is not enabled, or its actor's cell is away
+pub refused : {T : Type 0} (e : Event) (m : Core) → next_in m e ≡ NotEnabled → Prepares {T = T} e m m (Err faults.NotEnabled)
+refused e m off = record {
+  same = record { alike = record { code = refl; options = refl }; room = record { state = λ p o. refl; away = refl } };
+  ok = tt;
+  fault = off;
+  stands = λ well. well;
+}
 
-  home_still : (c : Cell) → Some c ≡ home_of (slot_at old a) → new_slot.place ≡ Home c
-  home_still c lent = same_at (λ x. x.place) m.table.slots old places a ∙ home_is (slot_at old a) c lent
-
-  may_still : (may : rules.Cell → List Letter → Bool) (c : Cell) → Some c ≡ home_of (slot_at old a) → may_at may (slot_at old a) ≡ true → may (as_cell c) new_slot.mail.letters ≡ true
-  may_still may c lent on =
-      ap (may (as_cell c)) (same_at (λ x. x.mail.letters) m.table.slots old rows a)
-      ∙ may_here may (slot_at old a) c (home_is (slot_at old a) c lent) on
-
-  pub fits_leave : (letters : List (ℕ × Letter)) (c : Cell) → Some c ≡ home_of (slot_at old a) → may_at may_leave (slot_at old a) ≡ true
-      → letters ≡ decs_to (left_behind a (as_cell c)) → FitLetters letters m.table.slots → FitsLeave a letters m
-  fits_leave letters c lent may returns fit = record {
-    cell = c;
-    home = home_still c lent;
-    may = may_still may_leave c lent may;
-    returns = returns;
-    fit = fit;
+module _ {T : Type 0} (e : Event) (m : Core) (parts : Parts) (room : OnlyRoom m.parts parts) (turn : KeepsTurn m.parts parts) where
+  prepares_by : (r : Result T StepFault) → OnOk r (FitsEvent m.options m.code.now e parts) → IfErr r (IsFault (next_in m e) e)
+      → Prepares e m (record m { parts = parts }) r
+  prepares_by r ok fault = record {
+    same = record { alike = record { code = refl; options = refl }; room = room };
+    ok = ok;
+    fault = fault;
+    stands = λ well on. still_awaited m.options.trace m.code.now m.parts parts room turn.turn turn.turned (well on);
   }
 
-  pub fits_collect : (trace : Trace) (found : Sweep) (c : Cell) → Some c ≡ home_of (slot_at old a) → c.heap.owner ≡ a
-      → may_at may_collect (slot_at old a) ≡ true → found ≡ sweep_of trace c
-      → FitLetters (decs_to found.plan.back) m.table.slots → FitsCollect trace a found m
-  fits_collect trace found c lent own may is fit = record {
-    cell = c;
-    home = home_still c lent;
-    may = may_still may_collect c lent may;
-    collects = record {
-      found_is = is;
-      back_is = ap (λ (f : Sweep). f.plan.back) is ∙ back_same c.count c.heap c.foreign (is_marked trace c.heap.owner (as_cell c))
-          ∙ ap (λ me. by_owner (given_back (is_marked trace me (as_cell c)) (as_cell c).holdings)) own;
-    };
-    fit = fit;
-  }
+  -- what was found fits
+  pub prepared : {x : T} → FitsEvent m.options m.code.now e parts → Prepares e m (record m { parts = parts }) (Ok x)
+  prepared {x} fits = prepares_by (Ok x) fits tt
+
+  -- it was refused otherwise
+  pub refused_by : {fault : StepFault} → IsFault (next_in m e) e fault → Prepares {T = T} e m (record m { parts = parts }) (Err fault)
+  refused_by {fault} is = prepares_by (Err fault) tt is
+
+  -- memory was refused
+  pub no_memory : Prepares {T = T} e m (record m { parts = parts }) (Err faults.NoMemory)
+  no_memory = prepares_by (Err faults.NoMemory) tt tt
+
+-- ---- a collection, and what stays
+
+-- who acts at its place does so where the places and the letters stay
+pub acts_still : (e : Event) (a : ℕ) (old new : List Slot) (Q : Cell → Type 0) → places_of new ≡ places_of old → letters_in new ≡ letters_in old
+    → ActsAt e (slot_at old a) Q → ActsAt e (slot_at new a) Q
+acts_still e a old new Q places rows acts = record {
+  cell = acts.cell;
+  home = same_at (λ x. x.place) new old places a ∙ acts.home;
+  may = ap (λ mail. may_do (as_cell acts.cell) mail e) (same_at (λ x. x.mail.letters) new old rows a) ∙ acts.may;
+  so = acts.so;
+}
+
+-- the sweep of a cell gives back what this does not mark
+pub collects_with : (trace : Trace) (a : ℕ) (found : Sweep) (x : Slot) → ActsAt (Collect a) x (λ c. (c.heap.owner ≡ a) × (found ≡ sweep_of trace c))
+    → ActsAt (Collect a) x (CollectsWith trace a found)
+collects_with trace a found x acts =
+    let c = acts.cell in
+    record {
+      cell = c;
+      home = acts.home;
+      may = acts.may;
+      so = record {
+        found_is = acts.so.1;
+        back_is = ap (λ (f : Sweep). f.plan.back) acts.so.1 ∙ back_same c.count c.heap c.foreign (is_marked trace c.heap.owner (as_cell c))
+            ∙ ap (λ me. by_owner (given_back (is_marked trace me (as_cell c)) (as_cell c).holdings)) acts.so.0;
+      };
+    }
 
 -- at most one letter returns what goes back to an owner
 pub once_back : (trace : Trace) (found : Sweep) (c : Cell) → found ≡ sweep_of trace c → (b : ℕ) → letters_to b (decs_to found.plan.back) ≤ 1

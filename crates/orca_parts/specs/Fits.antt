@@ -6,6 +6,8 @@ use Rattle.letter_kinds.specs.Detector.{Token, closed_set}
 use Rattle.cycle_detect.specs.Room.{CanHear, DetectorValue}
 use Rattle.detector_tokens.specs.Room.{Fits}
 use Rattle.detector_tokens.specs.Open.{CanOpen, new_token}
+use Rattle.event_rule.specs.declared.event.Event.{Event}
+use Rattle.event_rule.specs.declared.event.Event.TheVariants.{Block, Collect, Leave}
 use Rattle.machine_rules.specs.Detect.{acked_token, reap_decs}
 use Rattle.machine_rules.specs.Collect.{is_marked}
 use Rattle.orca_names.specs.declared.trace.Trace.{Trace}
@@ -17,7 +19,7 @@ use Rattle.actor_cell.specs.Outs.{left_behind, decs_to, report_of, returning}
 use Rattle.actor_cell.specs.Sweeps.{sweep_of}
 use Rattle.std.specs.VecDeque.{deque_capacity, deque_len}
 use Rattle.behaviour_code.specs.declared.code.Program.{Program}
-use Rattle.machine_rules.specs.Guards.{may_block, may_collect, may_leave}
+use Rattle.machine_rules.specs.Guards.{may_do}
 use Rattle.machine_rules.specs.Options.{Options}
 use Rattle.actor_cell.specs.Takes.{HasRoomFor}
 use Rattle.actor_table.specs.declared.slot.Slot.{Slot}
@@ -79,6 +81,13 @@ abbrev pub IsKnownSweep : Trace → Sweep → Slot → Type 0
 IsKnownSweep trace found x = (c : Cell) → x.place ≡ Home c → c.frame ≡ None → c.dirty ≡ true
     → found ≡ sweep_of trace c
 
+-- the actor's cell is at home and may do this event, and something holds of it
+pub record ActsAt (e : Event) (x : Slot) (Q : Cell → Type 0) : Type 0 where
+  pub cell : Cell
+  pub home : x.place ≡ Home cell
+  pub may : may_do (as_cell cell) x.mail.letters e ≡ true
+  pub so : Q cell
+
 -- ---- what was prepared fits
 
 -- the actor is idle and has a letter, and there is room for what this brings and for what is noted
@@ -94,26 +103,19 @@ pub record FitsTake (a : ℕ) (m : Parts) : Type 0 where
 
 -- the sweep is that of the actor with this tracing, and the letters that return what it gives back fit
 pub record FitsCollect (trace : Trace) (a : ℕ) (found : Sweep) (m : Parts) : Type 0 where
-  pub cell : Cell
-  pub home : (slot_at m.table.slots a).place ≡ Home cell
-  pub may : may_collect (as_cell cell) (slot_at m.table.slots a).mail.letters ≡ true
-  pub collects : CollectsWith trace a found cell
+  pub acts : ActsAt (Collect a) (slot_at m.table.slots a) (CollectsWith trace a found)
   pub fit : FitLetters (decs_to found.plan.back) m.table.slots
 
 -- the actor may leave, the letters return what it held, and fit
 pub record FitsLeave (a : ℕ) (letters : List (ℕ × Letter)) (m : Parts) : Type 0 where
-  pub cell : Cell
-  pub home : (slot_at m.table.slots a).place ≡ Home cell
-  pub may : may_leave (as_cell cell) (slot_at m.table.slots a).mail.letters ≡ true
-  pub returns : letters ≡ (returning (left_behind a (as_cell cell))).letters
+  pub acts : ActsAt (Leave a) (slot_at m.table.slots a)
+      (λ c. letters ≡ (returning (left_behind a (as_cell c))).letters)
   pub fit : FitLetters letters m.table.slots
 
 -- the actor may report, its report stands there, and there is room for it
 pub record FitsBlock (a : ℕ) (m : Parts) : Type 0 where
-  pub cell : Cell
-  pub home : (slot_at m.table.slots a).place ≡ Home cell
-  pub may : may_block (as_cell cell) (slot_at m.table.slots a).mail.letters ≡ true
-  pub report : m.report ≡ Some (report_of a (as_cell cell))
+  pub acts : ActsAt (Block a) (slot_at m.table.slots a)
+      (λ c. m.report ≡ Some (report_of a (as_cell c)))
   pub room : deque_len m.notes < deque_capacity m.notes
 
 -- but for room all is the same
@@ -121,3 +123,8 @@ pub record OnlyRoom (old new : Parts) : Type 0 where
   pub state : (program : Program) (options : Options)
       → state_of program options new ≡ state_of program options old
   pub away : away_of new.table.slots ≡ away_of old.table.slots
+
+-- what was found of a turn stays
+pub record KeepsTurn (old new : Parts) : Type 0 where
+  pub turn : new.turn ≡ old.turn
+  pub turned : new.turned ≡ old.turned

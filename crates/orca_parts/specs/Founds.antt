@@ -15,4 +15,4 @@ use Rattle.actor_table.specs.Slots.{slot_at}
 abbrev pub IsFoundFor : Options → Program → Found → Event → List Slot → Type 0
 IsFoundFor options program found e slots =
     (a : ℕ) → actor_of e ≡ Some a → (c : Cell) → (slot_at slots a).place ≡ Home c
-    → IsFound options.trace options.weight program c found
+    → IsFound options program c found

@@ -15,7 +15,9 @@ use Rattle.actor_cell.specs.declared.cell.Cell.{Cell}
 use Rattle.actor_cell.specs.Moves.{Move, Post, Mint, New, Print, End, Rest, act_in}
 use Rattle.actor_cell.specs.declared.turning.Turned.{Turned}
 use Rattle.actor_cell.specs.Cells.{as_cell}
+use Rattle.actor_cell.specs.Finding.{FindsTurn}
 use Rattle.actor_cell.specs.Goes.{CanMove, IsTold, new_entries}
+use Rattle.actor_table.specs.Changes.{HasCell}
 use Rattle.actor_table.specs.declared.slot.Slot.{Slot}
 use Rattle.actor_table.specs.declared.slot.Place.TheVariants.{Home}
 use Rattle.actor_table.specs.Slots.{actors_of, slot_at}
@@ -41,7 +43,13 @@ HasRoomOut Rest m = ⊤
 -- this was found of the turn of the cell, which has a frame
 abbrev pub IsFoundGo : Options → Program → ℕ → Turn → Turned → Cell → Type 0
 IsFoundGo options program a turn found c = IsSomeAnd c.frame
-    (IsTold options.trace options.weight program a (as_cell c) turn found.place (act_in found))
+    (IsTold options program a (as_cell c) turn found.place (act_in found))
+
+-- this was found of the turn of the actor, whose cell is at home, and it makes few objects
+pub record IsTurnAt (options : Options) (program : Program) (a : ℕ) (turn : Turn) (found : Turned)
+    (x : Slot) : Type 0 where
+  pub here : HasCell x (λ c. (c.heap.owner ≡ a) × FindsTurn options program c turn found)
+  pub few : length turn.made ≤ BODY_LIMIT
 
 -- this is known of the turn of the cell at home, where it has a frame
 abbrev pub IsKnownGo : Options → Program → Turn → Turned → Slot → Type 0
@@ -61,7 +69,7 @@ pub record FitsGo (options : Options) (program : Program) (a : ℕ) (found : Tur
   pub home : (slot_at m.table.slots a).place ≡ Home cell
   pub frame : Frame
   pub framed : cell.frame ≡ Some frame
-  pub found_is : IsTold options.trace options.weight program a (as_cell cell) m.turn found.place (act_in found) frame
+  pub found_is : IsTold options program a (as_cell cell) m.turn found.place (act_in found) frame
   pub few : length m.turn.made ≤ BODY_LIMIT
   pub objects : length m.turn.made ≤ cell.heap.spare
   pub entries : new_entries (act_in found) cell.foreign.entries ≤ cell.foreign.spare

@@ -1,12 +1,14 @@
--- Room for the letters that an event gives out.
-use Rattle.std.specs.Prelude.{ℕ, ◌≡◌, ◌≤◌, ◌+◌, ◌==◌, true, if◌then◌else◌, is_some, unwrap_or, List, [], ◌∷◌, map}
+-- The letters that an event gives out, and room for them.
+use Rattle.std.specs.Prelude.{ℕ, ◌≡◌, ◌≤◌, ◌+◌, ◌==◌, true, if◌then◌else◌, is_some, unwrap_or, List, [], ◌∷◌, map, Option}
 use Rattle.std.specs.BTreeMap.{BTreeMap, get}
 use Rattle.std.specs.Ordering.{nat_cmp}
 use Rattle.letter_kinds.specs.declared.letter.Letter.{Letter}
 use Rattle.letter_kinds.specs.declared.letter.Letter.TheVariants.{Confirm}
-use Rattle.machine_rules.specs.Actors.{seat_at}
+use Rattle.machine_rules.specs.Actors.{Actors, seat_at}
+use Rattle.actor_table.specs.Changes.{KeepsSpace}
 use Rattle.actor_table.specs.declared.slot.Slot.{Slot}
-use Rattle.actor_table.specs.Slots.{actors_of, slot_at}
+use Rattle.actor_table.specs.Slots.{Table, actors_of, away_of, letters_in, places_of, slot_at}
+use Rattle.orca_parts.specs.Woken.{IsLowestWoken}
 
 -- how many of these letters go to an actor
 abbrev pub letters_to : ℕ → List (ℕ × Letter) → ℕ
@@ -25,3 +27,18 @@ FitLetters letters slots = (a : ℕ) → is_some (seat_at (actors_of slots) a) �
 -- a Confirm of the token to each of these
 abbrev pub asks : ℕ → List ℕ → List (ℕ × Letter)
 asks number members = map (λ m. (m, Confirm number)) members
+
+-- but for room for letters all is the same
+pub record OnlyTableRoom (old new : Table) : Type 0 where
+  pub places : places_of new.slots ≡ places_of old.slots
+  pub letters : letters_in new.slots ≡ letters_in old.slots
+  pub actors : actors_of new.slots ≡ actors_of old.slots
+  pub away : away_of new.slots ≡ away_of old.slots
+  pub space : KeepsSpace old new
+
+-- this becomes of the actors, the same cells are away, and the lowest actor that wakes is told
+pub record Posts (become : Actors → Actors) (old new : List Slot) (lowest : Option ℕ)
+    : Type 0 where
+  pub actors : actors_of new ≡ become (actors_of old)
+  pub away : away_of new ≡ away_of old
+  pub woken : IsLowestWoken (actors_of old) (actors_of new) lowest

@@ -1,24 +1,54 @@
--- An event that was prepared.
+-- An event that is prepared, and then done.
+use Rattle.std.specs.Prelude.{ℕ, ◌≡◌, Option, IfErr, OnOk}
+use Rattle.std.specs.declared.result.Result.{Result}
 use Rattle.orca_names.specs.declared.options.Options.{Options}
 use Rattle.behaviour_code.specs.declared.code.Program.{Program}
+use Rattle.event_rule.specs.Runs.{Goes}
 use Rattle.event_rule.specs.declared.event.Event.{Event}
-use Rattle.event_rule.specs.declared.event.Event.TheVariants.{Take, Go, Collect, Leave, Block, Hear, Scan, Reap}
+use Rattle.event_rule.specs.declared.event.Event.TheVariants as events
+use Rattle.machine_rules.specs.Next.{next}
+use Rattle.actor_table.specs.Slots.{actors_of, away_of}
+use Rattle.orca_parts.specs.Away.{KeepsAway}
+use Rattle.orca_parts.specs.Core.{IsAlike, KeepsCore, StandsWell, core_state, next_in}
+use Rattle.orca_parts.specs.Faults.{IsFault}
 use Rattle.orca_parts.specs.Fits.{CanHearFirst, CanScan, FitsBlock, FitsCollect, FitsLeave, FitsReap, FitsTake}
 use Rattle.orca_parts.specs.Goes.{FitsGo}
+use Rattle.orca_parts.specs.Woken.{IsLowestWoken}
+use Rattle.orca_parts.specs.declared.fault.StepFault.{StepFault}
+use Rattle.orca_parts.specs.declared.insides.Core.{Core}
 use Rattle.orca_parts.specs.declared.parts.Parts.{Parts}
 use Rattle.orca_parts.specs.declared.ready.Ready.{Ready}
 
 -- what was found of the event is so, and there is room for it
 abbrev pub FitsEvent : Options → Program → Event → Parts → Type 0
-FitsEvent options program (Take a) m = FitsTake a m
-FitsEvent options program (Go a) m = FitsGo options program a m.turned m
-FitsEvent options program (Collect a) m = FitsCollect options.trace a m.sweep m
-FitsEvent options program (Leave a) m = FitsLeave a m.letters.items m
-FitsEvent options program (Block a) m = FitsBlock a m
-FitsEvent options program Hear m = CanHearFirst m.notes.items m.detector
-FitsEvent options program Scan m = CanScan m.token m.table.slots m.detector
-FitsEvent options program (Reap number) m =
+FitsEvent options program (events.Take a) m = FitsTake a m
+FitsEvent options program (events.Go a) m = FitsGo options program a m.turned m
+FitsEvent options program (events.Collect a) m = FitsCollect options.trace a m.sweep m
+FitsEvent options program (events.Leave a) m = FitsLeave a m.letters.items m
+FitsEvent options program (events.Block a) m = FitsBlock a m
+FitsEvent options program events.Hear m = CanHearFirst m.notes.items m.detector
+FitsEvent options program events.Scan m = CanScan m.token m.table.slots m.detector
+FitsEvent options program (events.Reap number) m =
     FitsReap number m.members.items m.letters.items m
 
 abbrev pub FitsReady : Options → Program → Ready → Parts → Type 0
 FitsReady options program ready m = FitsEvent options program ready.event m
+
+-- the event is prepared: but for room all is the same, what was found of it fits, or it is refused for
+-- what it leads to; what was found last stands well still
+pub record Prepares {T : Type 0} (e : Event) (old new : Core) (result : Result T StepFault)
+    : Type 0 where
+  pub same : KeepsCore old new
+  pub ok : OnOk result (FitsEvent new.options new.code.now e new.parts)
+  pub fault : IfErr result (IsFault (next_in old e) e)
+  pub stands : StandsWell old → StandsWell new
+
+-- the event is done: the state is the one that it leads to, the same cells are away, and the lowest actor
+-- that it wakes is told; what was found last stands well still
+pub record Applies (e : Event) (old new : Core) (lowest : Option ℕ) : Type 0 where
+  pub state : next (core_state old) e ≡ Goes (core_state new)
+  pub alike : IsAlike old new
+  pub away : KeepsAway (away_of old.parts.table.slots) (away_of new.parts.table.slots)
+  pub woken : IsLowestWoken (actors_of old.parts.table.slots) (actors_of new.parts.table.slots)
+      lowest
+  pub stands : StandsWell old → StandsWell new

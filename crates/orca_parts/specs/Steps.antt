@@ -29,7 +29,7 @@ AllowsTake a actors = (c : Cell) (letter : Letter) (later : List Letter)
 -- the actor's counts and serials allow its turn, and it holds nothing of the actor that is made next
 pub record TurnFits (options : Options) (program : Program) (a made : ℕ)
     (c : Cell) : Type 0 where
-  pub can : (frame : Frame) → c.frame ≡ Some frame → CanGo options.trace options.weight program a c
+  pub can : (frame : Frame) → c.frame ≡ Some frame → CanGo options program a c
   pub serials : c.holdings.next + BODY_LIMIT < 2 ^ 64
   pub unnamed : m.get c.holdings.foreign (Actor made) ≡ None
 

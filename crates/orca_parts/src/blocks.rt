@@ -1,19 +1,19 @@
 // Block: an actor with nothing to do reports.
 
-ghost use Rattle.std.specs.Prelude.{◌≡◌, IfErr, OnOk};
-ghost use Rattle.event_rule.specs.Runs.{Goes};
 ghost use Rattle.event_rule.specs.declared.event.Event.TheVariants.{Block as block_event};
+ghost use Rattle.orca_parts.specs.Fits.{FitsBlock};
+ghost use Rattle.std.specs.Prelude.{◌≡◌};
+ghost use Rattle.event_rule.specs.Runs.{Goes};
+ghost use Rattle.behaviour_code.specs.declared.code.Program.{Program};
 ghost use Rattle.machine_rules.specs.Next.{next};
 ghost use Rattle.machine_rules.specs.Options.{Options};
 ghost use Rattle.actor_table.specs.Slots.{actors_of, away_of};
-ghost use Rattle.behaviour_code.specs.declared.code.Program.{Program};
-ghost use Rattle.orca_parts.specs.Away.{next_without};
-ghost use Rattle.orca_parts.specs.Faults.{IsFault};
-ghost use Rattle.orca_parts.specs.Fits.{FitsBlock, OnlyRoom};
 ghost use Rattle.orca_parts.specs.Parts.{state_of};
+ghost use Rattle.orca_parts.specs.Ready.{Prepares};
 ghost use Rattle.orca_parts.specs.Woken.{IsLowestWoken};
 
 use crate::fault::StepFault;
+use crate::insides::Core;
 use crate::parts::Parts;
 use actor_table::Block;
 use behaviour_check::Checked;
@@ -26,23 +26,20 @@ use std::alloc::Global;
 /// # Errors
 /// `NotEnabled` exactly where the actor may not report, or its cell is away. `NoMemory` where memory
 /// was refused.
-pub(crate) fn prepare_block(alloc: Global, parts: &mut Parts, a: ActorName) -> Result<(), StepFault>
-    ensures same { OnlyRoom parts.old parts.new }
-    ensures ok { OnOk result (FitsBlock a parts.new) }
-    ensures fault { let away = away_of parts.old.table.slots in
-        (program : Program) (options : Options) → IfErr result
-        (IsFault (next_without away (state_of program options parts.old) (block_event a)) (block_event a)) }
+#[tactic(auto, using(crate::proofs::Preparing::no_memory, crate::proofs::Preparing::only_room))]
+pub(crate) fn prepare_block(alloc: Global, m: &mut Core<'_>, a: ActorName) -> Result<(), StepFault>
+    ensures { Prepares (block_event a) m.old m.new result }
 {
-    let Some(cell) = parts.table.acting(a, &Event::Block(a)) else {
+    let Some(cell) = m.parts.table.acting(a, &Event::Block(a)) else {
         return Err(StepFault::NotEnabled);
     };
     let Ok(note) = cell.report(alloc) else {
         return Err(StepFault::NoMemory);
     };
-    if parts.notes.reserve(1).is_err() {
+    if m.parts.notes.reserve(1).is_err() {
         return Err(StepFault::NoMemory);
     }
-    parts.report = Some(note);
+    m.parts.report = Some(note);
     Ok(())
 }
 

@@ -1,30 +1,23 @@
 // Collect: an idle actor frees what its fields do not reach (Orca, OOPSLA 2017).
 
 ghost use Rattle.std.specs.Prelude.{◌≡◌, true, IfErr, OnOk};
-ghost use Rattle.behaviour_code.specs.declared.code.Program.{Program};
-ghost use Rattle.event_rule.specs.Runs.{Goes};
 ghost use Rattle.event_rule.specs.declared.event.Event.TheVariants.{Collect as collect_event};
-ghost use Rattle.machine_rules.specs.Next.{next};
-ghost use Rattle.machine_rules.specs.Options.{Options as choices};
-ghost use Rattle.actor_table.specs.Changes.{HasCell};
-ghost use Rattle.actor_table.specs.Slots.{actors_of, away_of, may_event, slot_at};
+ghost use Rattle.actor_table.specs.Slots.{may_event, slot_at};
 ghost use Rattle.actor_cell.specs.declared.cell.Cell.{Cell};
 ghost use Rattle.actor_cell.specs.Sweeps.{KnowsOthersOnly, sweep_of};
 ghost use Rattle.actor_table.specs.declared.slot.Place.TheVariants.{Home};
-ghost use Rattle.orca_parts.specs.Away.{next_without};
-ghost use Rattle.orca_parts.specs.Faults.{IsFault, RefusedBy};
-ghost use Rattle.orca_parts.specs.Fits.{FitsCollect, IsKnownSweep, OnlyRoom};
-ghost use Rattle.orca_parts.specs.Parts.{state_of};
-ghost use Rattle.orca_parts.specs.Woken.{IsLowestWoken};
+ghost use Rattle.orca_parts.specs.Faults.{RefusedBy};
+ghost use Rattle.orca_parts.specs.Fits.{ActsAt, FitsCollect, IsKnownSweep};
+ghost use Rattle.orca_parts.specs.Core.{HasFound};
+ghost use Rattle.orca_parts.specs.Ready.{Applies, Prepares};
 
 use crate::fault::StepFault;
+use crate::insides::Core;
 use crate::letters::{push_decs, reserve_each};
-use crate::parts::Parts;
 use actor_cell::Sweep;
 use actor_table::{ActorTable, Collect};
-use behaviour_check::Checked;
 use event_rule::Event;
-use orca_names::{ActorName, NoMemory, Options, Trace};
+use orca_names::{ActorName, NoMemory, Trace};
 use plain_list::Listed;
 use std::alloc::Global;
 use std::mem;
@@ -41,8 +34,7 @@ fn find_collect(
     requires others { (c : Cell) → (slot_at table.now.slots a).place ≡ Home c → c.heap.owner ≡ a
         → KnowsOthersOnly c }
     requires known { known ≡ true → IsKnownSweep trace sweep.old (slot_at table.now.slots a) }
-    ensures ok { OnOk result (may_event (collect_event a) (slot_at table.now.slots a) ≡ true) }
-    ensures found { OnOk result (HasCell (slot_at table.now.slots a)
+    ensures ok { OnOk result (ActsAt (collect_event a) (slot_at table.now.slots a)
         (λ c. (c.heap.owner ≡ a) × (sweep.new ≡ sweep_of trace c))) }
     ensures fault { IfErr result (RefusedBy (may_event (collect_event a) (slot_at table.now.slots a))) }
 {
@@ -67,27 +59,23 @@ fn find_collect(
 /// # Errors
 /// `NotEnabled` exactly where the actor may not collect, or its cell is away. `NoMemory` where memory
 /// was refused.
-#[tactic(auto, using(crate::proofs::Preparing::only_room))]
+#[tactic(auto, using(crate::proofs::Preparing::no_memory, crate::proofs::Preparing::only_room))]
 pub(crate) fn prepare_collect(
     alloc: Global,
-    trace: Trace,
+    m: &mut Core<'_>,
     known: bool,
-    parts: &mut Parts,
     a: ActorName,
 ) -> Result<(), StepFault>
-    requires others { (c : Cell) → (slot_at parts.old.table.slots a).place ≡ Home c → c.heap.owner ≡ a
+    requires others { (c : Cell) → (slot_at m.old.parts.table.slots a).place ≡ Home c → c.heap.owner ≡ a
         → KnowsOthersOnly c }
-    requires known { known ≡ true → IsKnownSweep trace parts.old.sweep (slot_at parts.old.table.slots a) }
-    ensures same { OnlyRoom parts.old parts.new }
-    ensures ok { OnOk result (FitsCollect trace a parts.new.sweep parts.new) }
-    ensures fault { let away = away_of parts.old.table.slots in
-        (program : Program) (options : choices) → IfErr result
-        (IsFault (next_without away (state_of program options parts.old) (collect_event a)) (collect_event a)) }
+    requires known { known ≡ true → HasFound (collect_event a) m.old }
+    ensures { Prepares (collect_event a) m.old m.new result }
 {
-    match find_collect(alloc, trace, known, &parts.table, &mut parts.sweep, a) {
+    let trace = m.options.trace;
+    match find_collect(alloc, trace, known, &m.parts.table, &mut m.parts.sweep, a) {
         Ok(()) => {
-            let back = parts.sweep.plan.back.as_slice();
-            match reserve_each(&mut parts.table, back) {
+            let back = m.parts.sweep.plan.back.as_slice();
+            match reserve_each(&mut m.parts.table, back) {
                 Ok(()) => Ok(()),
                 Err(NoMemory) => Err(StepFault::NoMemory),
             }
@@ -98,24 +86,16 @@ pub(crate) fn prepare_collect(
 
 /// The actor's collection is done as it was found, and the lowest to whom a letter goes is told. It
 /// takes no memory.
-pub(crate) fn apply_collect(
-    alloc: Global,
-    code: &Checked,
-    options: Options,
-    parts: &mut Parts,
-    a: ActorName,
-) -> Option<ActorName>
-    requires { FitsCollect options.trace a parts.old.sweep parts.old }
-    ensures state { next (state_of code.now options parts.old) (collect_event a)
-        ≡ Goes (state_of code.now options parts.new) }
-    ensures away { away_of parts.new.table.slots ≡ away_of parts.old.table.slots }
-    ensures woken { IsLowestWoken (actors_of parts.old.table.slots) (actors_of parts.new.table.slots) result }
+pub(crate) fn apply_collect(alloc: Global, m: &mut Core<'_>, a: ActorName) -> Option<ActorName>
+    requires { FitsCollect m.old.options.trace a m.old.parts.sweep m.old.parts }
+    ensures { Applies (collect_event a) m.old m.new result }
 {
+    m.stands = false;
     let change = Collect {
-        found: &parts.sweep,
-        trace: options.trace,
+        found: &m.parts.sweep,
+        trace: m.options.trace,
     };
-    parts.table.change(code, a, &change);
-    let back = mem::replace(&mut parts.sweep.plan.back, Listed::new(alloc));
-    push_decs(&mut parts.table, back.into_vec())
+    m.parts.table.change(m.code, a, &change);
+    let back = mem::replace(&mut m.parts.sweep.plan.back, Listed::new(alloc));
+    push_decs(&mut m.parts.table, back.into_vec())
 }

@@ -4,12 +4,9 @@ ghost use Rattle.std.specs.Prelude.{ℕ, ◌≡◌, ◌+◌, ◌<◌, ◌≤◌,
 ghost use Rattle.std.specs.FinMap as m;
 ghost use Rattle.orca_names.specs.declared.limits.TheConstants.{ACTORS_LIMIT, BODY_LIMIT};
 ghost use Rattle.orca_names.specs.declared.trace.Trace.{Trace as tracing};
-ghost use Rattle.behaviour_code.specs.declared.code.Program.{Program};
-ghost use Rattle.event_rule.specs.Runs.{Goes};
 ghost use Rattle.event_rule.specs.declared.event.Event.TheVariants.{Go as go_event};
 ghost use Rattle.machine_rules.specs.Actors.{push_letter, seat};
 ghost use Rattle.machine_rules.specs.Cell.{fresh_cell};
-ghost use Rattle.machine_rules.specs.Next.{next};
 ghost use Rattle.machine_rules.specs.Options.{Options as choices};
 ghost use Rattle.actor_cell.specs.Cells.{as_cell};
 ghost use Rattle.actor_cell.specs.declared.cell.Cell.{Cell as a_cell};
@@ -21,15 +18,18 @@ ghost use Rattle.actor_cell.specs.Awaiting.{Awaits};
 ghost use Rattle.actor_cell.specs.Goes.{out_of};
 ghost use Rattle.actor_cell.specs.Moves.{act_in};
 ghost use Rattle.letter_kinds.specs.declared.letter.Letter.TheVariants.{App as app, Inc as inc};
-ghost use Rattle.orca_parts.specs.Away.{KeepsAway, next_without};
+ghost use Rattle.orca_parts.specs.Away.{KeepsAway};
 ghost use Rattle.orca_parts.specs.Awaiting.{AwaitedIn, AwaitsMinted, IsAwaited, IsAwaitedHere};
-ghost use Rattle.orca_parts.specs.Faults.{IsFault};
-ghost use Rattle.orca_parts.specs.Fits.{OnlyRoom};
-ghost use Rattle.orca_parts.specs.Goes.{CountsAllow, FitsGo, HasRoomForOne, HasRoomOut, IsFoundGo, IsKnownGo, NotGoing, given};
+ghost use Rattle.orca_parts.specs.Fits.{KeepsTurn, OnlyRoom};
+ghost use Rattle.orca_parts.specs.Goes.{CountsAllow, FitsGo, HasRoomForOne, HasRoomOut, IsFoundGo, IsKnownGo, IsTurnAt, NotGoing, given};
+ghost use Rattle.orca_parts.specs.Core.{HasFound, StandsWell};
+ghost use Rattle.orca_parts.specs.Letters.{Posts};
 ghost use Rattle.orca_parts.specs.Parts.{state_of};
+ghost use Rattle.orca_parts.specs.Ready.{Applies, Prepares};
 ghost use Rattle.orca_parts.specs.Woken.{IsLowestWoken};
 
 use crate::fault::StepFault;
+use crate::insides::Core;
 use crate::letters::post;
 use crate::parts::Parts;
 use actor_cell::{Awaited, Cell, Doing, Turned};
@@ -55,11 +55,8 @@ fn find_go(
 ) -> Result<(), StepFault>
     requires serials { (c : a_cell) → (slot_at table.now.slots a).place ≡ Home c
         → c.heap.next + BODY_LIMIT < 2 ^ 64 }
-    ensures found { OnOk result (HasCell (slot_at table.now.slots a)
-        (IsFoundGo options code.now a turn.new found.new)) }
-    ensures few { OnOk result (length turn.new.made ≤ BODY_LIMIT) }
-    ensures awaited { OnOk result (HasCell (slot_at table.now.slots a)
-        (IsAwaitedHere options.trace code.now a turn.new found.new)) }
+    ensures found { let x = slot_at table.now.slots a in
+        OnOk result (IsTurnAt options code.now a turn.new found.new x) }
     ensures fault { IfErr result (NotGoing (slot_at table.now.slots a)) }
 {
     let Some(cell) = table.cell(a) else {
@@ -68,7 +65,7 @@ fn find_go(
     if !cell.frame.is_some() {
         return Err(StepFault::NotEnabled);
     }
-    match cell.find_go(alloc, code, options.weight, options.trace, turn, found) {
+    match cell.find_go(alloc, code, options, turn, found) {
         Ok(()) => Ok(()),
         Err(NoMemory) => Err(StepFault::NoMemory),
     }
@@ -88,11 +85,8 @@ fn find_again(
 ) -> Result<(), StepFault>
     requires awaited { (c : a_cell) → (slot_at table.now.slots a).place ≡ Home c
         → Awaits options.trace code.now a (as_cell c) turn.now found.old letter }
-    ensures found { OnOk result (HasCell (slot_at table.now.slots a)
-        (IsFoundGo options code.now a turn.now found.new)) }
-    ensures few { OnOk result (length turn.now.made ≤ BODY_LIMIT) }
-    ensures awaited { OnOk result (HasCell (slot_at table.now.slots a)
-        (IsAwaitedHere options.trace code.now a turn.now found.new)) }
+    ensures found { let x = slot_at table.now.slots a in
+        OnOk result (IsTurnAt options code.now a turn.now found.new x) }
     ensures fault { IfErr result (NotGoing (slot_at table.now.slots a)) }
 {
     // The behaviours of a checked program are short.
@@ -100,15 +94,7 @@ fn find_again(
     let Some(cell) = table.cell(a) else {
         return Err(StepFault::NotEnabled);
     };
-    match cell.find_again(
-        alloc,
-        code,
-        options.weight,
-        options.trace,
-        turn,
-        letter,
-        found,
-    ) {
+    match cell.find_again(alloc, code, options, turn, letter, found) {
         Ok(()) => Ok(()),
         Err(NoMemory) => Err(StepFault::NoMemory),
     }
@@ -135,8 +121,7 @@ fn reserve_out(parts: &mut Parts) -> Result<(), NoMemory>
     requires { IsSome (out_of (act_in parts.old.turned)).made → length parts.old.table.slots < ACTORS_LIMIT }
     ensures same { OnlyRoom parts.old parts.new }
     ensures places { places_of parts.new.table.slots ≡ places_of parts.old.table.slots }
-    ensures turn { parts.new.turn ≡ parts.old.turn }
-    ensures turned { parts.new.turned ≡ parts.old.turned }
+    ensures turn { KeepsTurn parts.old parts.new }
     ensures ok { OnOk result (HasRoomOut (act_in parts.old.turned) parts.new) }
 {
     match &parts.turned.doing {
@@ -165,33 +150,27 @@ fn makes(found: &Turned) -> bool
 }
 
 // Takes all memory for what was found of the actor's turn; the state stays as it was.
+#[tactic(auto, using(crate::proofs::Preparing::no_memory, crate::proofs::Preparing::only_room))]
 #[inline(always)]
-fn prepare_turn(options: Options, parts: &mut Parts, a: ActorName) -> Result<(), StepFault>
-    requires few { length parts.old.turn.made ≤ BODY_LIMIT }
-    ensures same { OnlyRoom parts.old parts.new }
-    ensures turn { parts.new.turn ≡ parts.old.turn }
-    ensures turned { parts.new.turned ≡ parts.old.turned }
-    ensures ok { (program : Program) → HasCell (slot_at parts.old.table.slots a)
-        (IsFoundGo options program a parts.old.turn parts.old.turned)
-        → OnOk result (FitsGo options program a parts.new.turned parts.new) }
-    ensures fault { (program : Program) → HasCell (slot_at parts.old.table.slots a)
-        (IsFoundGo options program a parts.old.turn parts.old.turned)
-        → let s = state_of program options parts.old in
-        IfErr result (IsFault (next_without (away_of parts.old.table.slots) s (go_event a)) (go_event a)) }
+fn prepare_turn(m: &mut Core<'_>, a: ActorName) -> Result<(), StepFault>
+    requires few { length m.old.parts.turn.made ≤ BODY_LIMIT }
+    requires found { HasCell (slot_at m.old.parts.table.slots a)
+        (IsFoundGo m.old.options m.old.code.now a m.old.parts.turn m.old.parts.turned) }
+    ensures { Prepares (go_event a) m.old m.new result }
 {
-    if makes(&parts.turned) && parts.table.len() >= ACTORS_LIMIT {
+    if makes(&m.parts.turned) && m.parts.table.len() >= ACTORS_LIMIT {
         return Err(StepFault::ActorsFull { actor: a });
     }
     let change = Go {
-        turn: &parts.turn,
-        found: &parts.turned,
-        name: parts.table.next_name(),
-        weight: options.weight,
+        turn: &m.parts.turn,
+        found: &m.parts.turned,
+        name: m.parts.table.next_name(),
+        weight: m.options.weight,
     };
-    if parts.table.reserve(a, &change).is_err() {
+    if m.parts.table.reserve(a, &change).is_err() {
         return Err(StepFault::NoMemory);
     }
-    if reserve_out(parts).is_err() {
+    if reserve_out(&mut m.parts).is_err() {
         return Err(StepFault::NoMemory);
     }
     Ok(())
@@ -237,7 +216,7 @@ fn find(
 }
 
 /// Finds the actor's turn, where it is not known, and takes all memory for what it does; the state stays
-/// as it was. Where what was found last `stands`, it serves again.
+/// as it was. Where what was found last stands, it serves again.
 ///
 /// # Errors
 /// `NotEnabled` exactly where the actor has no frame, or its cell is away; `ActorsFull` exactly where the
@@ -245,37 +224,36 @@ fn find(
 #[inline(always)]
 pub(crate) fn prepare_go(
     alloc: Global,
-    code: &Checked,
-    options: Options,
-    stands: bool,
+    m: &mut Core<'_>,
     known: bool,
-    parts: &mut Parts,
     a: ActorName,
 ) -> Result<(), StepFault>
-    requires serials { (c : a_cell) → (slot_at parts.old.table.slots a).place ≡ Home c
+    requires serials { (c : a_cell) → (slot_at m.old.parts.table.slots a).place ≡ Home c
         → c.heap.next + BODY_LIMIT < 2 ^ 64 }
-    requires awaited { stands ≡ true → IsAwaited options.trace code.now parts.old }
-    requires known { known ≡ true
-        → IsKnownGo options code.now parts.old.turn parts.old.turned (slot_at parts.old.table.slots a) }
-    ensures same { OnlyRoom parts.old parts.new }
-    ensures ok { OnOk result (FitsGo options code.now a parts.new.turned parts.new) }
-    ensures awaited { known ≡ false → OnOk result (IsAwaited options.trace code.now parts.new) }
-    ensures fault { let s = state_of code.now options parts.old in
-        IfErr result (IsFault (next_without (away_of parts.old.table.slots) s (go_event a)) (go_event a)) }
+    requires stands { StandsWell m.old }
+    requires known { known ≡ true → HasFound (go_event a) m.old }
+    ensures { Prepares (go_event a) m.old m.new result }
 {
-    let turn = &mut parts.turn;
+    let stands = m.stands;
+    m.stands = false;
+    let (code, options) = (m.code, m.options);
+    let turn = &mut m.parts.turn;
+    let turned = &mut m.parts.turned;
     match find(
         alloc,
         code,
         options,
         stands,
         known,
-        &parts.table,
+        &m.parts.table,
         turn,
-        &mut parts.turned,
+        turned,
         a,
     ) {
-        Ok(()) => prepare_turn(options, parts, a),
+        Ok(()) => {
+            m.stands = !known;
+            prepare_turn(m, a)
+        }
         Err(fault) => Err(fault),
     }
 }
@@ -320,12 +298,9 @@ fn post_letter(
     behaviour: Name,
 ) -> Option<ActorName>
     requires { HasRoomForOne to table.old.slots }
-    ensures actors { actors_of table.new.slots
-        ≡ push_letter to (app behaviour found.old.args found.old.load found.old.rows)
-        (actors_of table.old.slots) }
+    ensures posts { let letter = app behaviour found.old.args found.old.load found.old.rows in
+        Posts (push_letter to letter) table.old.slots table.new.slots result }
     ensures awaited { found.new.awaited ≡ found.old.awaited }
-    ensures away { away_of table.new.slots ≡ away_of table.old.slots }
-    ensures woken { IsLowestWoken (actors_of table.old.slots) (actors_of table.new.slots) result }
 {
     post(table, to, found.take_letter(alloc, behaviour))
 }
@@ -339,11 +314,8 @@ fn post_things(
     owner: ActorName,
 ) -> Option<ActorName>
     requires { HasRoomForOne owner table.old.slots }
-    ensures actors { actors_of table.new.slots
-        ≡ push_letter owner (inc found.old.things) (actors_of table.old.slots) }
+    ensures posts { Posts (push_letter owner (inc found.old.things)) table.old.slots table.new.slots result }
     ensures rest { found.new ≡ record found.old { things = found.new.things } }
-    ensures away { away_of table.new.slots ≡ away_of table.old.slots }
-    ensures woken { IsLowestWoken (actors_of table.old.slots) (actors_of table.new.slots) result }
 {
     let things = found.take_things(alloc);
     post(table, owner, Letter::Inc { things })
@@ -394,30 +366,20 @@ fn give_out(alloc: Global, code: &Checked, weight: u32, parts: &mut Parts) -> Op
 
 /// What was found of the actor's turn is done, and the actor that gets a letter or is made is told. It
 /// takes no memory.
-pub(crate) fn apply_go(
-    alloc: Global,
-    code: &Checked,
-    options: Options,
-    parts: &mut Parts,
-    a: ActorName,
-) -> Option<ActorName>
-    requires light { options.weight ≤ 65536 }
-    requires fits { FitsGo options code.now a parts.old.turned parts.old }
-    requires can { (c : a_cell) → (slot_at parts.old.table.slots a).place ≡ Home c
-        → CountsAllow a (act_in parts.old.turned) parts.old c }
-    requires objects { parts.old.objects + BODY_LIMIT < 2 ^ 64 }
-    ensures state { next (state_of code.now options parts.old) (go_event a)
-        ≡ Goes (state_of code.now options parts.new) }
-    ensures awaited { IsAwaited options.trace code.now parts.old → IsAwaited options.trace code.now parts.new }
-    ensures away { KeepsAway (away_of parts.old.table.slots) (away_of parts.new.table.slots) }
-    ensures woken { IsLowestWoken (actors_of parts.old.table.slots) (actors_of parts.new.table.slots) result }
+pub(crate) fn apply_go(alloc: Global, m: &mut Core<'_>, a: ActorName) -> Option<ActorName>
+    requires light { m.old.options.weight ≤ 65536 }
+    requires fits { FitsGo m.old.options m.old.code.now a m.old.parts.turned m.old.parts }
+    requires can { (c : a_cell) → (slot_at m.old.parts.table.slots a).place ≡ Home c
+        → CountsAllow a (act_in m.old.parts.turned) m.old.parts c }
+    requires objects { m.old.parts.objects + BODY_LIMIT < 2 ^ 64 }
+    ensures { Applies (go_event a) m.old m.new result }
 {
     let change = Go {
-        turn: &parts.turn,
-        found: &parts.turned,
-        name: parts.table.next_name(),
-        weight: options.weight,
+        turn: &m.parts.turn,
+        found: &m.parts.turned,
+        name: m.parts.table.next_name(),
+        weight: m.options.weight,
     };
-    parts.table.change(code, a, &change);
-    give_out(alloc, code, options.weight, parts)
+    m.parts.table.change(m.code, a, &change);
+    give_out(alloc, m.code, m.options.weight, &mut m.parts)
 }

@@ -1,51 +1,39 @@
 // Hear: the detector takes the first of its notes.
 
-ghost use Rattle.std.specs.Prelude.{◌≡◌, IfErr, IfOk};
-ghost use Rattle.event_rule.specs.Runs.{Goes};
+ghost use Rattle.std.specs.Prelude.{◌≡◌};
 ghost use Rattle.event_rule.specs.declared.event.Event.TheVariants.{Hear as hear_event};
-ghost use Rattle.machine_rules.specs.Next.{next};
-ghost use Rattle.machine_rules.specs.Options.{Options};
-ghost use Rattle.actor_table.specs.Slots.{actors_of};
-ghost use Rattle.behaviour_code.specs.declared.code.Program.{Program};
-ghost use Rattle.orca_parts.specs.Faults.{IsFault};
-ghost use Rattle.orca_parts.specs.Fits.{CanHearFirst, OnlyRoom};
-ghost use Rattle.orca_parts.specs.Parts.{state_of};
-ghost use Rattle.orca_parts.specs.Woken.{IsLowestWoken};
+ghost use Rattle.orca_parts.specs.Fits.{CanHearFirst};
+ghost use Rattle.orca_parts.specs.Ready.{Applies, Prepares};
 
 use crate::fault::StepFault;
-use crate::parts::Parts;
+use crate::insides::Core;
 use orca_names::{ActorName, NoMemory};
 
 /// Takes the memory to hear the first of the notes. Nothing changes but room.
 ///
 /// # Errors
 /// `NotEnabled` exactly where there is no note, and `NoMemory` where memory was refused.
-pub(crate) fn prepare_hear(parts: &mut Parts) -> Result<(), StepFault>
-    ensures same { OnlyRoom parts.old parts.new }
-    ensures ok { IfOk result (λ done. CanHearFirst parts.new.notes.items parts.new.detector) }
-    ensures fault { (program : Program) (options : Options)
-        → IfErr result (IsFault (next (state_of program options parts.old) hear_event) hear_event) }
+pub(crate) fn prepare_hear(m: &mut Core<'_>) -> Result<(), StepFault>
+    ensures { Prepares hear_event m.old m.new result }
 {
-    let Some(note) = parts.notes.front() else {
+    let Some(note) = m.parts.notes.front() else {
         return Err(StepFault::NotEnabled);
     };
-    match parts.detector.prepare_hear(note) {
+    match m.parts.detector.prepare_hear(note) {
         Ok(()) => Ok(()),
         Err(NoMemory) => Err(StepFault::NoMemory),
     }
 }
 
 /// The detector takes the first of its notes. It takes no memory, and wakes nobody.
-pub(crate) fn apply_hear(parts: &mut Parts) -> Option<ActorName>
-    requires { CanHearFirst parts.old.notes.items parts.old.detector }
-    ensures state { (program : Program) (options : Options)
-        → next (state_of program options parts.old) hear_event
-        ≡ Goes (state_of program options parts.new) }
-    ensures table { parts.new.table ≡ parts.old.table }
-    ensures woken { IsLowestWoken (actors_of parts.old.table.slots) (actors_of parts.new.table.slots) result }
+pub(crate) fn apply_hear(m: &mut Core<'_>) -> Option<ActorName>
+    requires { CanHearFirst m.old.parts.notes.items m.old.parts.detector }
+    ensures applies { Applies hear_event m.old m.new result }
+    ensures table { m.new.parts.table ≡ m.old.parts.table }
 {
-    if let Some(note) = parts.notes.pop_front() {
-        parts.detector.hear_prepared(note);
+    m.stands = false;
+    if let Some(note) = m.parts.notes.pop_front() {
+        m.parts.detector.hear_prepared(note);
     }
     None
 }

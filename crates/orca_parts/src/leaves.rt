@@ -1,21 +1,12 @@
 // Leave: an actor that nobody holds goes by itself.
 
-ghost use Rattle.std.specs.Prelude.{◌≡◌, IfErr, OnOk};
-ghost use Rattle.behaviour_code.specs.declared.code.Program.{Program};
-ghost use Rattle.event_rule.specs.Runs.{Goes};
 ghost use Rattle.event_rule.specs.declared.event.Event.TheVariants.{Leave as leave_event};
-ghost use Rattle.machine_rules.specs.Next.{next};
-ghost use Rattle.machine_rules.specs.Options.{Options};
-ghost use Rattle.actor_table.specs.Slots.{actors_of, away_of};
-ghost use Rattle.orca_parts.specs.Away.{KeepsAway, next_without};
-ghost use Rattle.orca_parts.specs.Faults.{IsFault};
-ghost use Rattle.orca_parts.specs.Fits.{FitsLeave, OnlyRoom};
-ghost use Rattle.orca_parts.specs.Parts.{state_of};
-ghost use Rattle.orca_parts.specs.Woken.{IsLowestWoken};
+ghost use Rattle.orca_parts.specs.Fits.{FitsLeave};
+ghost use Rattle.orca_parts.specs.Ready.{Applies, Prepares};
 
 use crate::fault::StepFault;
+use crate::insides::Core;
 use crate::letters::{push_all, reserve_all};
-use crate::parts::Parts;
 use event_rule::Event;
 use orca_names::ActorName;
 use std::alloc::Global;
@@ -26,15 +17,11 @@ use std::mem;
 /// # Errors
 /// `NotEnabled` exactly where the actor may not leave, or its cell is away. `NoMemory` where memory
 /// was refused.
-#[tactic(auto, using(crate::proofs::Preparing::only_room))]
-pub(crate) fn prepare_leave(alloc: Global, parts: &mut Parts, a: ActorName) -> Result<(), StepFault>
-    ensures same { OnlyRoom parts.old parts.new }
-    ensures ok { OnOk result (FitsLeave a parts.new.letters.items parts.new) }
-    ensures fault { let away = away_of parts.old.table.slots in
-        (program : Program) (options : Options) → IfErr result
-        (IsFault (next_without away (state_of program options parts.old) (leave_event a)) (leave_event a)) }
+#[tactic(auto, using(crate::proofs::Preparing::no_memory, crate::proofs::Preparing::only_room))]
+pub(crate) fn prepare_leave(alloc: Global, m: &mut Core<'_>, a: ActorName) -> Result<(), StepFault>
+    ensures { Prepares (leave_event a) m.old m.new result }
 {
-    let Some(cell) = parts.table.acting(a, &Event::Leave(a)) else {
+    let Some(cell) = m.parts.table.acting(a, &Event::Leave(a)) else {
         return Err(StepFault::NotEnabled);
     };
     let gone = [a];
@@ -42,24 +29,21 @@ pub(crate) fn prepare_leave(alloc: Global, parts: &mut Parts, a: ActorName) -> R
         return Err(StepFault::NoMemory);
     };
     let letters = given.into_vec();
-    if reserve_all(alloc, &mut parts.table, &letters).is_err() {
+    if reserve_all(alloc, &mut m.parts.table, &letters).is_err() {
         return Err(StepFault::NoMemory);
     }
-    parts.letters = letters;
+    m.parts.letters = letters;
     Ok(())
 }
 
 /// The actor goes, and gives back what it held; the lowest to whom a letter goes is told. It takes no
 /// memory.
-pub(crate) fn apply_leave(alloc: Global, parts: &mut Parts, a: ActorName) -> Option<ActorName>
-    requires { FitsLeave a parts.old.letters.items parts.old }
-    ensures state { (program : Program) (options : Options)
-        → next (state_of program options parts.old) (leave_event a)
-        ≡ Goes (state_of program options parts.new) }
-    ensures away { KeepsAway (away_of parts.old.table.slots) (away_of parts.new.table.slots) }
-    ensures woken { IsLowestWoken (actors_of parts.old.table.slots) (actors_of parts.new.table.slots) result }
+pub(crate) fn apply_leave(alloc: Global, m: &mut Core<'_>, a: ActorName) -> Option<ActorName>
+    requires { FitsLeave a m.old.parts.letters.items m.old.parts }
+    ensures { Applies (leave_event a) m.old m.new result }
 {
-    let letters = mem::replace(&mut parts.letters, Vec::new(alloc));
-    parts.table.clear(alloc, a);
-    push_all(&mut parts.table, letters)
+    m.stands = false;
+    let letters = mem::replace(&mut m.parts.letters, Vec::new(alloc));
+    m.parts.table.clear(alloc, a);
+    push_all(&mut m.parts.table, letters)
 }

@@ -4,10 +4,9 @@ ghost use Rattle.std.specs.Prelude.{◌≡◌, ◌==◌, ◌≤◌, ◌<◌, ◌
 ghost use Rattle.actor_cell.specs.Outs.{decs_to};
 ghost use Rattle.actor_cell.specs.Pushing.{push_all};
 ghost use Rattle.machine_rules.specs.Actors.{push_letter, seat_at};
-ghost use Rattle.actor_table.specs.Slots.{actors_of, away_of, letters_in, places_of, slot_at};
-ghost use Rattle.actor_table.specs.Changes.{KeepsRoom};
-ghost use Rattle.orca_parts.specs.Letters.{FitLetters, count_for, letters_to};
-ghost use Rattle.orca_parts.specs.Woken.{IsLowestWoken, lower_of};
+ghost use Rattle.actor_table.specs.Slots.{actors_of, slot_at};
+ghost use Rattle.orca_parts.specs.Letters.{FitLetters, OnlyTableRoom, Posts, count_for, letters_to};
+ghost use Rattle.orca_parts.specs.Woken.{lower_of};
 
 use actor_table::ActorTable;
 use letter_kinds::{Amounts, Letter};
@@ -41,12 +40,7 @@ pub(crate) fn reserve_all(
     table: &mut ActorTable,
     letters: &[(ActorName, Letter)],
 ) -> Result<(), NoMemory>
-    ensures places { places_of table.new.slots ≡ places_of table.old.slots }
-    ensures letters { letters_in table.new.slots ≡ letters_in table.old.slots }
-    ensures actors { actors_of table.new.slots ≡ actors_of table.old.slots }
-    ensures away { away_of table.new.slots ≡ away_of table.old.slots }
-    ensures room { KeepsRoom table.old.slots table.new.slots }
-    ensures spare { table.new.spare ≡ table.old.spare }
+    ensures same { OnlyTableRoom table.old table.new }
     ensures ok { OnOk result (FitLetters letters.now table.new.slots) }
 {
     if letters.len() == 1 {
@@ -71,12 +65,7 @@ pub(crate) fn reserve_each(
     groups: &[(ActorName, Amounts)],
 ) -> Result<(), NoMemory>
     requires { (b : ℕ) → letters_to b (decs_to groups.now) ≤ 1 }
-    ensures places { places_of table.new.slots ≡ places_of table.old.slots }
-    ensures letters { letters_in table.new.slots ≡ letters_in table.old.slots }
-    ensures actors { actors_of table.new.slots ≡ actors_of table.old.slots }
-    ensures away { away_of table.new.slots ≡ away_of table.old.slots }
-    ensures room { KeepsRoom table.old.slots table.new.slots }
-    ensures spare { table.new.spare ≡ table.old.spare }
+    ensures same { OnlyTableRoom table.old table.new }
     ensures ok { OnOk result (FitLetters (decs_to groups.now) table.new.slots) }
 {
     for group in groups {
@@ -109,11 +98,9 @@ pub(crate) fn lower(one: Option<ActorName>, two: Option<ActorName>) -> Option<Ac
 pub(crate) fn post(table: &mut ActorTable, to: ActorName, letter: Letter) -> Option<ActorName>
     requires { is_some (seat_at (actors_of table.old.slots) to) ≡ true
         → 0 < (slot_at table.old.slots to).mail.spare }
-    ensures actors { actors_of table.new.slots ≡ push_letter to letter (actors_of table.old.slots) }
-    ensures away { away_of table.new.slots ≡ away_of table.old.slots }
+    ensures posts { Posts (push_letter to letter) table.old.slots table.new.slots result }
     ensures room { (b : ℕ) → (slot_at table.old.slots b).mail.spare
         ≤ (slot_at table.new.slots b).mail.spare + (if b == to then 1 else 0) }
-    ensures woken { IsLowestWoken (actors_of table.old.slots) (actors_of table.new.slots) result }
 {
     let woken = present(table, to);
     table.push_letter(to, letter);
@@ -127,10 +114,7 @@ pub(crate) fn push_all(
     letters: Vec<(ActorName, Letter)>,
 ) -> Option<ActorName>
     requires { FitLetters letters.items table.old.slots }
-    ensures actors { actors_of table.new.slots
-        ≡ push_all letters.items (actors_of table.old.slots) }
-    ensures away { away_of table.new.slots ≡ away_of table.old.slots }
-    ensures woken { IsLowestWoken (actors_of table.old.slots) (actors_of table.new.slots) result }
+    ensures { Posts (push_all letters.items) table.old.slots table.new.slots result }
 {
     let mut lowest = None;
     for letter in letters {
@@ -147,10 +131,7 @@ pub(crate) fn push_decs(
     groups: Vec<(ActorName, Amounts)>,
 ) -> Option<ActorName>
     requires { FitLetters (decs_to groups.items) table.old.slots }
-    ensures actors { actors_of table.new.slots
-        ≡ push_all (decs_to groups.items) (actors_of table.old.slots) }
-    ensures away { away_of table.new.slots ≡ away_of table.old.slots }
-    ensures woken { IsLowestWoken (actors_of table.old.slots) (actors_of table.new.slots) result }
+    ensures { Posts (push_all (decs_to groups.items)) table.old.slots table.new.slots result }
 {
     let mut lowest = None;
     for group in groups {

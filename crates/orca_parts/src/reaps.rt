@@ -1,28 +1,21 @@
 // Reap: the members of a token that all acknowledged go (MAC, OOPSLA 2013).
 
-ghost use Rattle.std.specs.Prelude.{◌≡◌, IfErr, IfOk, OnOk, Some, List, ℕ};
+ghost use Rattle.std.specs.Prelude.{◌≡◌, IfOk, List, ℕ};
 ghost use Rattle.std.specs.List.Sorted.{IsStrictlySortedBy};
 ghost use Rattle.std.specs.Ordering.{nat_cmp};
-ghost use Rattle.behaviour_code.specs.declared.code.Program.{Program};
-ghost use Rattle.event_rule.specs.Runs.{Goes};
 ghost use Rattle.event_rule.specs.declared.event.Event.TheVariants.{Reap as reap_event};
 ghost use Rattle.letter_kinds.specs.declared.letter.Letter.{Letter as a_letter};
 ghost use Rattle.machine_rules.specs.Detect.{empty_seats, reap_decs};
-ghost use Rattle.machine_rules.specs.Next.{next};
-ghost use Rattle.machine_rules.specs.Options.{Options};
-ghost use Rattle.actor_table.specs.Slots.{actors_of, away_of, places_of};
+ghost use Rattle.actor_table.specs.Slots.{actors_of, away_of};
 ghost use Rattle.actor_cell.specs.Outs.{decs_to};
-ghost use Rattle.orca_parts.specs.Away.{KeepsAway};
-ghost use Rattle.orca_parts.specs.Faults.{IsFault};
-ghost use Rattle.orca_parts.specs.Fits.{FitsReap, OnlyRoom, without_all};
-ghost use Rattle.orca_parts.specs.Letters.{FitLetters};
-ghost use Rattle.orca_parts.specs.Parts.{state_of};
+ghost use Rattle.orca_parts.specs.Fits.{FitsReap, without_all};
+ghost use Rattle.orca_parts.specs.Letters.{FitLetters, OnlyTableRoom};
+ghost use Rattle.orca_parts.specs.Ready.{Applies, Prepares};
 ghost use Rattle.orca_parts.specs.Reaping.{AckedAreHome, AreHome};
-ghost use Rattle.orca_parts.specs.Woken.{IsLowestWoken};
 
 use crate::fault::StepFault;
+use crate::insides::Core;
 use crate::letters::{push_all, reserve_all};
-use crate::parts::Parts;
 use actor_table::ActorTable;
 use letter_kinds::Letter;
 use orca_names::{ActorName, NoMemory};
@@ -66,9 +59,7 @@ fn prepare_going(
 ) -> Result<Going, NoMemory>
     requires rising { IsStrictlySortedBy nat_cmp members.now }
     requires home { AreHome members.now table.old.slots }
-    ensures actors { actors_of table.new.slots ≡ actors_of table.old.slots }
-    ensures away { away_of table.new.slots ≡ away_of table.old.slots }
-    ensures places { places_of table.new.slots ≡ places_of table.old.slots }
+    ensures same { OnlyTableRoom table.old table.new }
     ensures members { IfOk result (λ going. going.members.items ≡ members.now) }
     ensures letters { IfOk result (λ going. going.letters.items
         ≡ decs_to (reap_decs members.now members.now (actors_of table.old.slots))) }
@@ -87,21 +78,17 @@ fn prepare_going(
 /// `NotEnabled` exactly where no open token of this number is acknowledged by all its members, and
 /// `NoMemory` where memory was refused.
 #[tactic(auto, using(crate::proofs::Reaping::none_acked))]
-pub(crate) fn prepare_reap(alloc: Global, parts: &mut Parts, number: u64) -> Result<(), StepFault>
-    requires home { AckedAreHome number parts.old.detector.state parts.old.table.slots }
-    ensures same { OnlyRoom parts.old parts.new }
-    ensures ok { let members = parts.new.members.items in
-        OnOk result (FitsReap number members parts.new.letters.items parts.new) }
-    ensures fault { (program : Program) (options : Options) → IfErr result
-        (IsFault (next (state_of program options parts.old) (reap_event number)) (reap_event number)) }
+pub(crate) fn prepare_reap(alloc: Global, m: &mut Core<'_>, number: u64) -> Result<(), StepFault>
+    requires home { AckedAreHome number m.old.parts.detector.state m.old.parts.table.slots }
+    ensures { Prepares (reap_event number) m.old m.new result }
 {
-    let Some(members) = parts.detector.acked_members(number) else {
+    let Some(members) = m.parts.detector.acked_members(number) else {
         return Err(StepFault::NotEnabled);
     };
-    match prepare_going(alloc, &mut parts.table, members) {
+    match prepare_going(alloc, &mut m.parts.table, members) {
         Ok(going) => {
-            parts.members = going.members;
-            parts.letters = going.letters;
+            m.parts.members = going.members;
+            m.parts.letters = going.letters;
             Ok(())
         }
         Err(NoMemory) => Err(StepFault::NoMemory),
@@ -122,17 +109,14 @@ fn clear_all(alloc: Global, table: &mut ActorTable, members: &[ActorName])
 
 /// The members of the token go, and what they held outside goes back; the lowest to whom a letter goes
 /// is told. It takes no memory.
-pub(crate) fn apply_reap(alloc: Global, parts: &mut Parts, number: u64) -> Option<ActorName>
-    requires { FitsReap number parts.old.members.items parts.old.letters.items parts.old }
-    ensures state { (program : Program) (options : Options)
-        → next (state_of program options parts.old) (reap_event number)
-        ≡ Goes (state_of program options parts.new) }
-    ensures away { KeepsAway (away_of parts.old.table.slots) (away_of parts.new.table.slots) }
-    ensures woken { IsLowestWoken (actors_of parts.old.table.slots) (actors_of parts.new.table.slots) result }
+pub(crate) fn apply_reap(alloc: Global, m: &mut Core<'_>, number: u64) -> Option<ActorName>
+    requires { FitsReap number m.old.parts.members.items m.old.parts.letters.items m.old.parts }
+    ensures { Applies (reap_event number) m.old m.new result }
 {
-    let letters = mem::replace(&mut parts.letters, Vec::new(alloc));
-    clear_all(alloc, &mut parts.table, parts.members.as_slice());
-    let woken = push_all(&mut parts.table, letters);
-    parts.detector.close(number);
+    m.stands = false;
+    let letters = mem::replace(&mut m.parts.letters, Vec::new(alloc));
+    clear_all(alloc, &mut m.parts.table, m.parts.members.as_slice());
+    let woken = push_all(&mut m.parts.table, letters);
+    m.parts.detector.close(number);
     woken
 }

@@ -1,25 +1,19 @@
 // Scan: the largest closed set becomes a token, and its members are asked (MAC, OOPSLA 2013).
 
-ghost use Rattle.std.specs.Prelude.{◌≡◌, ◌<◌, IfErr, IfOk, OnOk, ℕ};
+ghost use Rattle.std.specs.Prelude.{◌≡◌, ◌<◌, IfOk, OnOk, ℕ};
 ghost use Rattle.std.specs.List.Sorted.{IsStrictlySortedBy};
 ghost use Rattle.std.specs.Ordering.{nat_cmp};
-ghost use Rattle.behaviour_code.specs.declared.code.Program.{Program};
-ghost use Rattle.event_rule.specs.Runs.{Goes};
 ghost use Rattle.event_rule.specs.declared.event.Event.TheVariants.{Scan as scan_event};
 ghost use Rattle.machine_rules.specs.Detect.{ask_all};
-ghost use Rattle.machine_rules.specs.Next.{next};
-ghost use Rattle.machine_rules.specs.Options.{Options};
 ghost use Rattle.actor_table.specs.Slots.{actors_of, away_of};
 ghost use Rattle.cycle_detect.specs.declared.detector.TheConstants.{TOKENS_LIMIT};
-ghost use Rattle.orca_parts.specs.Faults.{IsFault};
-ghost use Rattle.orca_parts.specs.Fits.{CanOpenThen, CanScan, OnlyRoom};
-ghost use Rattle.orca_parts.specs.Letters.{FitLetters, asks};
-ghost use Rattle.orca_parts.specs.Parts.{state_of};
-ghost use Rattle.orca_parts.specs.Woken.{IsLowestWoken};
+ghost use Rattle.orca_parts.specs.Fits.{CanOpenThen, CanScan};
+ghost use Rattle.orca_parts.specs.Letters.{FitLetters, Posts, asks};
+ghost use Rattle.orca_parts.specs.Ready.{Applies, Prepares};
 
 use crate::fault::StepFault;
+use crate::insides::Core;
 use crate::letters::{lower, post};
-use crate::parts::Parts;
 use actor_table::ActorTable;
 use cycle_detect::{Detector, Token};
 use letter_kinds::Letter;
@@ -68,20 +62,16 @@ fn prepare_open(
 ///
 /// # Errors
 /// `NotEnabled` exactly where there is no news, and `NoMemory` where memory was refused.
-pub(crate) fn prepare_scan(alloc: Global, parts: &mut Parts) -> Result<(), StepFault>
-    requires few { parts.old.detector.state.opened < TOKENS_LIMIT }
-    ensures same { OnlyRoom parts.old parts.new }
-    ensures ok { let token = parts.new.token in
-        OnOk result (CanScan token parts.new.table.slots parts.new.detector) }
-    ensures fault { (program : Program) (options : Options)
-        → IfErr result (IsFault (next (state_of program options parts.old) scan_event) scan_event) }
+pub(crate) fn prepare_scan(alloc: Global, m: &mut Core<'_>) -> Result<(), StepFault>
+    requires few { m.old.parts.detector.state.opened < TOKENS_LIMIT }
+    ensures { Prepares scan_event m.old m.new result }
 {
-    if !parts.detector.news() {
+    if !m.parts.detector.news() {
         return Err(StepFault::NotEnabled);
     }
-    match prepare_open(alloc, &mut parts.table, &mut parts.detector) {
+    match prepare_open(alloc, &mut m.parts.table, &mut m.parts.detector) {
         Ok(token) => {
-            parts.token = token;
+            m.parts.token = token;
             Ok(())
         }
         Err(NoMemory) => Err(StepFault::NoMemory),
@@ -91,10 +81,7 @@ pub(crate) fn prepare_scan(alloc: Global, parts: &mut Parts) -> Result<(), StepF
 /// Each of these actors is asked whether it is still blocked, and the lowest that is present is told.
 fn ask_all(table: &mut ActorTable, members: &[ActorName], number: u64) -> Option<ActorName>
     requires { FitLetters (asks number members.now) table.old.slots }
-    ensures actors { actors_of table.new.slots
-        ≡ ask_all members.now number (actors_of table.old.slots) }
-    ensures away { away_of table.new.slots ≡ away_of table.old.slots }
-    ensures woken { IsLowestWoken (actors_of table.old.slots) (actors_of table.new.slots) result }
+    ensures { Posts (ask_all members.now number) table.old.slots table.new.slots result }
 {
     let mut lowest = None;
     for member in members {
@@ -106,19 +93,16 @@ fn ask_all(table: &mut ActorTable, members: &[ActorName], number: u64) -> Option
 
 /// There is no news any more; the token that was prepared, if one was, is opened, and its members are
 /// asked. It takes no memory, and tells the lowest that is present.
-pub(crate) fn apply_scan(parts: &mut Parts) -> Option<ActorName>
-    requires { CanScan parts.old.token parts.old.table.slots parts.old.detector }
-    ensures state { (program : Program) (options : Options)
-        → next (state_of program options parts.old) scan_event
-        ≡ Goes (state_of program options parts.new) }
-    ensures away { away_of parts.new.table.slots ≡ away_of parts.old.table.slots }
-    ensures woken { IsLowestWoken (actors_of parts.old.table.slots) (actors_of parts.new.table.slots) result }
+pub(crate) fn apply_scan(m: &mut Core<'_>) -> Option<ActorName>
+    requires { CanScan m.old.parts.token m.old.parts.table.slots m.old.parts.detector }
+    ensures { Applies scan_event m.old m.new result }
 {
-    parts.detector.clear_news();
-    let Some(token) = parts.token.take() else {
+    m.stands = false;
+    m.parts.detector.clear_news();
+    let Some(token) = m.parts.token.take() else {
         return None;
     };
-    let woken = ask_all(&mut parts.table, token.members(), token.number());
-    parts.detector.open_prepared(token);
+    let woken = ask_all(&mut m.parts.table, token.members(), token.number());
+    m.parts.detector.open_prepared(token);
     woken
 }

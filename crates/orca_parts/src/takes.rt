@@ -1,24 +1,22 @@
 // Take: an idle actor takes the first of its letters.
 
-ghost use Rattle.std.specs.Prelude.{◌≡◌, ◌<◌, ◌-◌, IfErr, IsSome, OnOk};
-ghost use Rattle.orca_names.specs.declared.trace.Trace.{Trace as tracing};
-ghost use Rattle.behaviour_code.specs.declared.code.Program.{Program};
+ghost use Rattle.std.specs.Prelude.{◌≡◌, ◌<◌, IsSome};
 ghost use Rattle.std.specs.VecDeque.{deque_capacity, deque_len};
-ghost use Rattle.event_rule.specs.Runs.{Goes};
 ghost use Rattle.event_rule.specs.declared.event.Event.TheVariants.{Take as take_event};
 ghost use Rattle.machine_rules.specs.Actors.{seat_at};
-ghost use Rattle.machine_rules.specs.Next.{next};
-ghost use Rattle.machine_rules.specs.Options.{Options};
 ghost use Rattle.actor_table.specs.Changes.{CanTakeHere, HasCell, note_taken};
 ghost use Rattle.actor_table.specs.Slots.{actors_of, away_of, slot_at};
+ghost use Rattle.orca_names.specs.declared.trace.Trace.{Trace as tracing};
+ghost use Rattle.event_rule.specs.Runs.{Goes};
+ghost use Rattle.machine_rules.specs.Next.{next};
+ghost use Rattle.machine_rules.specs.Options.{Options};
 ghost use Rattle.orca_parts.specs.Awaiting.{IsAwaited};
-ghost use Rattle.orca_parts.specs.Away.{next_without};
-ghost use Rattle.orca_parts.specs.Faults.{IsFault};
-ghost use Rattle.orca_parts.specs.Fits.{FitsTake, OnlyRoom};
 ghost use Rattle.orca_parts.specs.Parts.{state_of};
 ghost use Rattle.orca_parts.specs.Woken.{IsLowestWoken};
+ghost use Rattle.orca_parts.specs.Ready.{Prepares};
 
 use crate::fault::StepFault;
+use crate::insides::Core;
 use crate::parts::Parts;
 use actor_table::Take;
 use behaviour_check::Checked;
@@ -30,21 +28,15 @@ use orca_names::ActorName;
 /// # Errors
 /// `NotEnabled` exactly where the actor may not take a letter, or its cell is away. `NoMemory` where
 /// memory was refused.
-#[tactic(auto, using(crate::proofs::Preparing::only_room))]
+#[tactic(auto, using(crate::proofs::Preparing::no_memory, crate::proofs::Preparing::only_room))]
 #[inline(always)]
-pub(crate) fn prepare_take(parts: &mut Parts, a: ActorName) -> Result<(), StepFault>
-    ensures same { OnlyRoom parts.old parts.new }
-    ensures turn { parts.new.turn ≡ parts.old.turn }
-    ensures turned { parts.new.turned ≡ parts.old.turned }
-    ensures ok { OnOk result (FitsTake a parts.new) }
-    ensures fault { let away = away_of parts.old.table.slots in
-        (program : Program) (options : Options) → IfErr result
-        (IsFault (next_without away (state_of program options parts.old) (take_event a)) (take_event a)) }
+pub(crate) fn prepare_take(m: &mut Core<'_>, a: ActorName) -> Result<(), StepFault>
+    ensures { Prepares (take_event a) m.old m.new result }
 {
-    let Some(_cell) = parts.table.acting(a, &Event::Take(a)) else {
+    let Some(_cell) = m.parts.table.acting(a, &Event::Take(a)) else {
         return Err(StepFault::NotEnabled);
     };
-    if parts.table.reserve(a, &Take).is_err() || parts.notes.reserve(1).is_err() {
+    if m.parts.table.reserve(a, &Take).is_err() || m.parts.notes.reserve(1).is_err() {
         return Err(StepFault::NoMemory);
     }
     Ok(())

@@ -1,14 +1,16 @@
+use Rattle.std.proofs.Common.{◌≡◌}
 use Rattle.event_rule.specs.declared.event.Event.TheVariants.{Collect}
+use Rattle.actor_cell.specs.declared.cell.Cell.{Cell}
+use Rattle.actor_cell.specs.Sweeps.{sweep_of}
 use Rattle.actor_table.specs.Slots.{slot_at}
 use Rattle.orca_parts.proofs.Homes.{home_is}
-use Rattle.orca_parts.proofs.Preparing.{acts_home, may_here, not_acting, rests_dirty}
+use Rattle.orca_parts.proofs.Preparing.{acts_here, acts_home, may_here, not_acting, rests_dirty}
 use Rattle.machine_rules.specs.Guards.{may_collect}
 use Rattle.orca_parts.proofs.collects.find_collect.Goals as goal
 
 pub returns-in_default : goal.returns-in_default
 returns-in_default c = record {
   ok = tt;
-  found = tt;
   fault = not_acting (Collect c.args.a) (slot_at c.args.table.now.slots c.args.a) c.in_default.ensures.cell;
 }
 
@@ -20,8 +22,8 @@ returns-then-known c =
     let home = home_is x cell its.0 in
     let rests = rests_dirty cell x.mail.letters (may_here may_collect x cell home its.1) in
     record {
-      ok = its.1;
-      found = record { cell = cell; home = home; so = (c.in-Some.ensures.owner, c.requires.known c.if-known.true cell home rests.0 rests.1) };
+      ok = acts_here (Collect c.args.a) x cell (λ (y : Cell). (y.heap.owner ≡ c.args.a) × (c.args.sweep.now ≡ sweep_of c.args.trace y)) c.in-Some.ensures.cell
+          (c.in-Some.ensures.owner, c.requires.known c.if-known.true cell home rests.0 rests.1);
       fault = tt;
     }
 
@@ -32,12 +34,8 @@ find_collect-requires c =
     c.requires.others c.in-Some.cell.now (home_is x c.in-Some.cell.now its.0) c.in-Some.ensures.owner
 
 pub returns-in-Ok : goal.returns-in-Ok
-returns-in-Ok c =
-    let x = slot_at c.args.table.now.slots c.args.a in
-    let cell = c.in-Some.cell.now in
-    let its = acts_home (Collect c.args.a) x cell c.in-Some.ensures.cell in
-    record {
-      ok = its.1;
-      found = record { cell = cell; home = home_is x cell its.0; so = (c.in-Some.ensures.owner, c.in-Ok.ensures) };
-      fault = tt;
-    }
+returns-in-Ok c = record {
+  ok = acts_here (Collect c.args.a) (slot_at c.args.table.now.slots c.args.a) c.in-Some.cell.now
+      (λ (y : Cell). (y.heap.owner ≡ c.args.a) × (c.in-Ok.found ≡ sweep_of c.args.trace y)) c.in-Some.ensures.cell (c.in-Some.ensures.owner, c.in-Ok.ensures);
+  fault = tt;
+}

@@ -5,7 +5,7 @@ use Rattle.actor_cell.specs.Awaiting.{Awaits}
 use Rattle.actor_cell.specs.Cells.{as_cell}
 use Rattle.actor_table.specs.Slots.{actors_of, slot_at}
 use Rattle.orca_parts.proofs.Awaiting.{awaited_is, awaited_its}
-use Rattle.orca_parts.proofs.Founding.{found_few, known_goes}
+use Rattle.orca_parts.proofs.Founding.{found_few, known_goes, turn_is}
 use Rattle.orca_parts.proofs.Giving.{seat_here}
 use Rattle.orca_parts.proofs.Prepared.{ok_by}
 use Rattle.orca_parts.proofs.goes.find.Goals as goal
@@ -34,3 +34,15 @@ returns-then-known c =
       awaited = λ unknown. let z = sym c.if-known.true ∙ unknown in cc;
       fault = c.runs.ensures.fault;
     }
+
+pub returns-in-Some : goal.returns-in-Some
+returns-in-Some c =
+    let its = turn_is c.args.options c.args.code.now c.args.a c.args.turn.now c.find_again.new.found (slot_at c.args.table.now.slots c.args.a)
+    c.find_again.result c.find_again.ensures.found in
+    record { found = its.0; few = its.1; awaited = λ _. its.2; fault = c.find_again.ensures.fault }
+
+pub returns : goal.returns
+returns c =
+    let its = turn_is c.args.options c.args.code.now c.args.a c.find_go.new.turn c.find_go.new.found (slot_at c.args.table.now.slots c.args.a)
+    c.find_go.result c.find_go.ensures.found in
+    record { found = its.0; few = its.1; awaited = λ _. its.2; fault = c.find_go.ensures.fault }

@@ -18,7 +18,7 @@ returns-in-Mint-clause-awaited c = λ trace minted.
     let does = c.post_things.ensures in
     let code = c.args.code.now in
     let its : AwaitedIn trace code m.turn t (actors_of c.post_things.new.table.slots) =
-    subst (AwaitedIn trace code m.turn t) (sym does.actors)
+    subst (AwaitedIn trace code m.turn t) (sym does.posts.actors)
     (push_awaits trace code m.turn t c.in-Mint.owner (Inc t.things) (actors_of m.table.slots) (minted c.in-Mint.owner c.in-Mint.is))
     in
     subst (λ found. AwaitedIn trace code m.turn found (actors_of c.post_things.new.table.slots)) (sym does.rest)

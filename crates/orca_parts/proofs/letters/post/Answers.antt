@@ -5,9 +5,13 @@ use Rattle.orca_parts.specs.Woken.{IsLowestWoken}
 use Rattle.orca_parts.proofs.Waking.{push_wakes}
 use Rattle.orca_parts.proofs.letters.post.Goals as goal
 
-pub returns-clause-woken : goal.returns-clause-woken
-returns-clause-woken c =
+pub returns-clause-posts : goal.returns-clause-posts
+returns-clause-posts c =
     let actors = actors_of c.args.table.now.slots in
-    subst (λ xs. IsLowestWoken actors xs c.present-woken.result) (sym c.push_letter.ensures.actors)
-    (subst (IsLowestWoken actors (push_letter c.args.to c.args.letter actors)) (sym c.present-woken.ensures)
-    (push_wakes c.args.to c.args.letter actors))
+    record {
+      actors = c.push_letter.ensures.actors;
+      away = c.push_letter.ensures.away;
+      woken = subst (λ xs. IsLowestWoken actors xs c.present-woken.result) (sym c.push_letter.ensures.actors)
+          (subst (IsLowestWoken actors (push_letter c.args.to c.args.letter actors)) (sym c.present-woken.ensures)
+          (push_wakes c.args.to c.args.letter actors));
+    }

@@ -36,14 +36,14 @@ loop-letter-preserved c =
     let old = actors_of c.args.table.now.slots in
     let mid = actors_of before in
     let new = actors_of c.post-woken.new.table.slots in
-    let does = c.post-woken.ensures in
+    let does = c.post-woken.ensures.posts in
     let goes = subst (Grows mid) (sym does.actors) (push_grows to letter mid) in
     let grows = c.loop-letter.invariant.grows in
     record {
       next = tt;
       finite = tt;
       fits = rest_fits to letter rest before c.post-woken.new.table.slots
-          (subst (λ xs. FitLetters xs before) items c.loop-letter.invariant.fits) does.actors does.room;
+          (subst (λ xs. FitLetters xs before) items c.loop-letter.invariant.fits) does.actors c.post-woken.ensures.room;
       actors = ap (push_all rest) does.actors
           ∙ sym (ap (λ xs. push_all xs (actors_of before)) items) ∙ c.loop-letter.invariant.actors;
       away = does.away ∙ c.loop-letter.invariant.away;

@@ -38,14 +38,14 @@ loop-group-preserved c =
     let old = actors_of c.args.table.now.slots in
     let mid = actors_of before in
     let new = actors_of c.post-woken.new.table.slots in
-    let does = c.post-woken.ensures in
+    let does = c.post-woken.ensures.posts in
     let goes = subst (Grows mid) (sym does.actors) (push_grows to letter mid) in
     let grows = c.loop-group.invariant.grows in
     record {
       next = tt;
       finite = tt;
       fits = rest_fits to letter rest before c.post-woken.new.table.slots
-          (subst (λ gs. FitLetters (decs_to gs) before) items c.loop-group.invariant.fits) does.actors does.room;
+          (subst (λ gs. FitLetters (decs_to gs) before) items c.loop-group.invariant.fits) does.actors c.post-woken.ensures.room;
       actors = ap (push_all rest) does.actors
           ∙ sym (ap (λ gs. push_all (decs_to gs) (actors_of before)) items) ∙ c.loop-group.invariant.actors;
       away = does.away ∙ c.loop-group.invariant.away;

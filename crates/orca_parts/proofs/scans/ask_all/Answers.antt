@@ -37,12 +37,12 @@ loop-member-preserved c =
     let old = actors_of c.args.table.now.slots in
     let mid = actors_of slots in
     let new = actors_of c.post-woken.new.table.slots in
-    let does = c.post-woken.ensures in
+    let does = c.post-woken.ensures.posts in
     let goes = subst (Grows mid) (sym does.actors) (push_grows m (Confirm number) mid) in
     let grows = c.loop-member.invariant.grows in
     record {
       fits = rest_fits m (Confirm number) (asks number (drop (i + 1) members)) slots c.post-woken.new.table.slots
-          (subst (λ ms. FitLetters (asks number ms) slots) rest c.loop-member.invariant.fits) does.actors does.room;
+          (subst (λ ms. FitLetters (asks number ms) slots) rest c.loop-member.invariant.fits) does.actors c.post-woken.ensures.room;
       actors = ap (ask_all (drop (i + 1) members) number) does.actors
           ∙ sym (ap (λ ms. ask_all ms number mid) rest) ∙ c.loop-member.invariant.actors;
       away = does.away ∙ c.loop-member.invariant.away;
@@ -51,8 +51,12 @@ loop-member-preserved c =
           (woken_then old mid new grows goes c.loop-member.lowest c.post-woken.result c.loop-member.invariant.woken does.woken);
     }
 
-pub returns-clause-actors : goal.returns-clause-actors
-returns-clause-actors c =
+pub returns : goal.returns
+returns c =
     let slots = c.loop-member.table.slots in
-    sym (ap (λ ms. ask_all ms c.args.number (actors_of slots)) (drop_all c.loop-member.member-index c.args.members.now c.loop-member-test.false))
-    ∙ c.loop-member.invariant.actors
+    record {
+      actors = sym (ap (λ ms. ask_all ms c.args.number (actors_of slots)) (drop_all c.loop-member.member-index c.args.members.now c.loop-member-test.false))
+          ∙ c.loop-member.invariant.actors;
+      away = c.loop-member.invariant.away;
+      woken = c.loop-member.invariant.woken;
+    }

@@ -1,5 +1,6 @@
-use Rattle.std.proofs.Common.{ap, subst, ◌∙◌}
+use Rattle.std.proofs.Common.{ap, refl, subst, ◌∙◌}
 use Rattle.machine_rules.specs.Next.{next}
+use Rattle.orca_parts.specs.Away.{is_out}
 use Rattle.orca_parts.specs.Core.{core_state}
 use Rattle.orca_parts.specs.Ready.{FitsEvent}
 use Rattle.orca_parts.specs.Steps.{CanStep}
@@ -20,8 +21,26 @@ apply_go-requires-clause-can c =
     (subst (λ e. FitsEvent m.options m.code.now e m.parts) c.in-Go.is c.requires.fits)
     (subst (CanStep m.options m.code.now m.parts) c.in-Go.is c.requires.can).0
 
-pub returns-in-Go-clause-state : goal.returns-in-Go-clause-state
-returns-in-Go-clause-state c = ap (next (core_state c.args.m.now)) c.in-Go.is ∙ c.apply_go.ensures.state
+pub returns-in-Take : goal.returns-in-Take
+returns-in-Take c =
+    let m = c.args.m.now in
+    let does = c.apply_take.ensures in
+    record {
+      state = ap (next (core_state m)) c.in-Take.is ∙ does.state m.options;
+      alike = record { code = refl; options = refl };
+      away = λ b. ap (λ bs. is_out bs b) does.away;
+      woken = does.woken;
+      stands = λ well on. does.awaited m.options.trace (well on);
+    }
 
-pub returns-in-Collect-clause-state : goal.returns-in-Collect-clause-state
-returns-in-Collect-clause-state c = ap (next (core_state c.args.m.now)) c.in-Collect.is ∙ c.apply_collect.ensures.state
+pub returns-in-Block : goal.returns-in-Block
+returns-in-Block c =
+    let m = c.args.m.now in
+    let does = c.apply_block.ensures in
+    record {
+      state = ap (next (core_state m)) c.in-Block.is ∙ does.state m.code.now m.options;
+      alike = record { code = refl; options = refl };
+      away = λ b. ap (λ bs. is_out bs b) does.away;
+      woken = does.woken;
+      stands = λ well on. cc;
+    }

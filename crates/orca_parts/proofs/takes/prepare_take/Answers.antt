@@ -1,22 +1,26 @@
-use Rattle.std.proofs.Common.{rules}
+use Rattle.std.proofs.Common.{refl, rules}
 use Rattle.event_rule.specs.declared.event.Event.TheVariants.{Take}
 use Rattle.machine_rules.specs.Guards.{may_take}
 use Rattle.machine_rules.specs.Take.{take}
 use Rattle.actor_table.specs.Slots.{slot_at}
+use Rattle.orca_parts.specs.Core.{core_state}
 use Rattle.orca_parts.specs.declared.parts.Parts.{Parts}
-use Rattle.orca_parts.specs.Parts.{state_of}
-use Rattle.orca_parts.proofs.Preparing.{acts_home, fits_take, no_step, not_acting}
+use Rattle.orca_parts.proofs.Preparing.{acts_home, fits_take, no_step, not_acting, only_room, prepared, refused}
 use Rattle.orca_parts.proofs.takes.prepare_take.Goals as goal
 
-pub returns-in_default-clause-fault : goal.returns-in_default-clause-fault
-returns-in_default-clause-fault c = λ program options.
-    let parts = c.args.parts.now in
-    let a = c.args.a in
-    no_step may_take (take (state_of program options parts) a) parts.table.slots a
-    (not_acting (Take a) (slot_at parts.table.slots a) c.in_default.ensures.cell)
+pub returns-in_default : goal.returns-in_default
+returns-in_default c =
+    let m = c.args.m.now in
+    let slots = m.parts.table.slots in
+    refused (Take c.args.a) m
+    (no_step may_take (take (core_state m) c.args.a) slots c.args.a (not_acting (Take c.args.a) (slot_at slots c.args.a) c.in_default.ensures.cell))
 
-pub returns-clause-ok : goal.returns-clause-ok
-returns-clause-ok c =
-    let m : Parts = record c.args.parts.now { table = c.reserve.new.self; notes = c.reserve-else-is_err.new.self } in
-    fits_take c.args.a m c.args.parts.now.table.slots c.reserve.ensures.actors c.reserve.ensures.rest.away
-    (acts_home (Take c.args.a) (slot_at c.args.parts.now.table.slots c.args.a) c.in-Some._cell.now c.in-Some.ensures.cell).1 (search rules) (search rules)
+pub returns : goal.returns
+returns c =
+    let m = c.args.m.now in
+    let slots = m.parts.table.slots in
+    let parts : Parts = record m.parts { table = c.reserve.new.self; notes = c.reserve-else-is_err.new.self } in
+    let actors = c.reserve.ensures.actors in
+    let away = c.reserve.ensures.rest.away in
+    prepared (Take c.args.a) m parts (only_room m.parts parts refl refl refl actors away (search rules)) (record { turn = refl; turned = refl })
+    (fits_take c.args.a parts slots actors away (acts_home (Take c.args.a) (slot_at slots c.args.a) c.in-Some._cell.now c.in-Some.ensures.cell).1 (search rules) (search rules))

@@ -17,7 +17,7 @@ invariant_of-self c =
     record {
       reached = reached_more m.core m.steps c.apply-woken.new.m c.args.ready.event does.alike c.self.invariant.reached
           (early_still m.core m.steps c.args.self.now c.self.view_is c.requires.early) does.state;
-      stands = does.stands;
+      stands = does.stands c.self.invariant.stands;
     }
 
 pub returns-clause-woken : goal.returns-clause-woken

@@ -20,12 +20,12 @@ prepare-requires-clause-home c =
 pub invariant_of-self : goal.invariant_of-self
 invariant_of-self c =
     let m = c.self.inside in
-    record { reached = reached_still m.core m.steps c.prepare.new.m c.prepare.ensures.same c.self.invariant.reached; stands = c.prepare.ensures.stands }
+    record { reached = reached_still m.core m.steps c.prepare.new.m c.prepare.ensures.same c.self.invariant.reached; stands = c.prepare.ensures.stands c.self.invariant.stands }
 
 pub invariant_of-self-2 : goal.invariant_of-self-2
 invariant_of-self-2 c =
     let m = c.self.inside in
-    record { reached = reached_still m.core m.steps c.prepare.new.m c.prepare.ensures.same c.self.invariant.reached; stands = c.prepare.ensures.stands }
+    record { reached = reached_still m.core m.steps c.prepare.new.m c.prepare.ensures.same c.self.invariant.reached; stands = c.prepare.ensures.stands c.self.invariant.stands }
 
 pub returns-clause-same : goal.returns-clause-same
 returns-clause-same c =

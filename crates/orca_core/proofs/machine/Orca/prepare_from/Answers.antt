@@ -5,8 +5,9 @@ use Rattle.orca_parts.specs.Away.{is_out_for}
 use Rattle.orca_parts.specs.Core.{core_state}
 use Rattle.orca_parts.specs.Faults.{IsFault}
 use Rattle.orca_core.specs.Machine.{IsFoundIn, IsSame, Machine, ReapsNoneAway}
+use Rattle.orca_parts.proofs.Prepared.{keeps_then}
 use Rattle.orca_parts.proofs.Readied.{fits_home}
-use Rattle.orca_core.proofs.Reached.{can_step, early_still, keeps_then, next_still, reached_still, reaps_at_home, reaps_still, same_still}
+use Rattle.orca_core.proofs.Reached.{can_step, early_still, next_still, reached_still, reaps_at_home, reaps_still, same_still}
 use Rattle.orca_core.proofs.machine.Orca.prepare_from.Goals as goal
 
 pub prepare-requires-clause-can : goal.prepare-requires-clause-can
@@ -30,13 +31,13 @@ pub invariant_of-self : goal.invariant_of-self
 invariant_of-self c =
     let m = c.self.inside in
     let same = keeps_then m.core c.stand.new.m c.prepare.new.m c.stand.ensures.same c.prepare.ensures.same in
-    record { reached = reached_still m.core m.steps c.prepare.new.m same c.self.invariant.reached; stands = c.prepare.ensures.stands }
+    record { reached = reached_still m.core m.steps c.prepare.new.m same c.self.invariant.reached; stands = c.prepare.ensures.stands (λ on. let z = sym c.stand.ensures.stands ∙ on in cc) }
 
 pub invariant_of-self-2 : goal.invariant_of-self-2
 invariant_of-self-2 c =
     let m = c.self.inside in
     let same = keeps_then m.core c.stand.new.m c.prepare.new.m c.stand.ensures.same c.prepare.ensures.same in
-    record { reached = reached_still m.core m.steps c.prepare.new.m same c.self.invariant.reached; stands = c.prepare.ensures.stands }
+    record { reached = reached_still m.core m.steps c.prepare.new.m same c.self.invariant.reached; stands = c.prepare.ensures.stands (λ on. let z = sym c.stand.ensures.stands ∙ on in cc) }
 
 pub returns-clause-same : goal.returns-clause-same
 returns-clause-same c =
