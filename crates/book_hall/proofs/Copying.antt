@@ -20,7 +20,7 @@ use Rattle.cell_laws.proofs.Keeping.{runs_have_serials}
 use Rattle.orca_core.specs.Machine.{Machine, cell_here}
 use Rattle.orca_parts.specs.Parts.{options_of}
 use Rattle.hall_rules.proofs.Finding.{CanFind}
-use Rattle.book_hall.specs.Kept.{HallKeeps}
+use Rattle.book_hall.specs.Kept.{AreOneRun}
 
 -- whose cell is there has letters too
 seat_of_cell : (actors : Actors) (a : ℕ) (k : rules.Cell) → cell_at actors a ≡ Some k
@@ -49,7 +49,7 @@ run_can_find program weight book s good fits short run cell at =
     }
 
 -- and with a copy of a cell of a hall
-pub copy_can_find : (program : Program) (budget : ℕ) (m : Machine) (book : BookValue) → HallKeeps program budget m book
+pub copy_can_find : (program : Program) (budget : ℕ) (m : Machine) (book : BookValue) → AreOneRun program budget m book
     → IsWellFormed program → IsWeight book.weight → (cell copy : Cell) → Some (as_cell cell) ≡ cell_here m copy.heap.owner
     → as_cell copy ≡ as_cell cell → CanFind copy
 copy_can_find program budget m book kept good weight cell copy here same =

@@ -20,6 +20,7 @@ use Rattle.actor_cell.specs.Goes.{IsTold}
 use Rattle.actor_cell.specs.Moves.{act_in}
 use Rattle.actor_cell.specs.Sweeps.{sweep_of}
 use Rattle.actor_table.specs.Slots.{home_in, home_of, slot_at}
+use Rattle.orca_parts.specs.Parts.{options_of}
 use Rattle.orca_core.specs.Machine.{Machine, IsFoundIn}
 
 -- what is swept of the cell of this actor
@@ -43,24 +44,23 @@ module _ (weight : ℕ) (program : Program) (c d : Cell) (same : IsSame c d) whe
   dirty_same : c.dirty ≡ d.dirty
   dirty_same = ap (λ (k : rules.Cell). k.dirty) same.0
 
-  found_same : (found : Found) → IsFound Deep weight program d found → IsFound Deep weight program c found
+  found_same : (found : Found) → IsFound (options_of weight Deep) program d found → IsFound (options_of weight Deep) program c found
   found_same (Goes turn turned) is =
-      let tells : ℕ → rules.Cell → Type 0 = λ me k. IsSomeAnd k.frame (IsTold Deep weight program me k turn turned.place (act_in turned)) in
+      let tells : ℕ → rules.Cell → Type 0 = λ me k. IsSomeAnd k.frame (IsTold (options_of weight Deep) program me k turn turned.place (act_in turned)) in
       subst (tells c.heap.owner) (sym same.0) (subst (λ me. tells me (as_cell d)) (sym same.1) is)
   found_same (Collects sweep) is = (frame_same ∙ is.0, dirty_same ∙ is.1, is.2 ∙ sym sweep_same)
   found_same Nothing is = (frame_same ∙ is.0, dirty_same ∙ is.1)
 
 -- so it may be done in place of evaluating the event again
 pub still_found : (m : Machine) (e : Event) (weight : ℕ) (program : Program) (start : Cell) (found : Found)
-    → program ≡ m.state.program → weight ≡ m.state.options.weight → m.state.options.trace ≡ Deep
+    → program ≡ m.state.program → options_of weight Deep ≡ m.state.options
     → actor_of e ≡ Some start.heap.owner
     → IsSomeAnd (home_of (slot_at m.kept.table.slots start.heap.owner)) (λ c. IsSame c start)
-    → IsFound Deep weight program start found → IsFoundIn e found m
-still_found m e weight program start found its_program its_weight deep its has is = λ a acts c at.
+    → IsFound (options_of weight Deep) program start found → IsFoundIn e found m
+still_found m e weight program start found its_program its_options its has is = λ a acts c at.
     let a_is : a ≡ start.heap.owner = (let z : Some a ≡ Some start.heap.owner = sym acts ∙ its in cc) in
     let there : home_of (slot_at m.kept.table.slots start.heap.owner) ≡ Some c =
     sym (ap (λ b. home_of (slot_at m.kept.table.slots b)) a_is) ∙ ap home_in at in
     let same : IsSame c start = subst (λ o. IsSomeAnd o (λ k. IsSame k start)) there has in
-    subst (λ t. IsFound t m.state.options.weight m.state.program c found) (sym deep)
-    (subst (λ w. IsFound Deep w m.state.program c found) its_weight
-    (subst (λ p. IsFound Deep weight p c found) its_program (found_same weight program c start same found is)))
+    subst (λ o. IsFound o m.state.program c found) its_options
+    (subst (λ p. IsFound (options_of weight Deep) p c found) its_program (found_same weight program c start same found is))

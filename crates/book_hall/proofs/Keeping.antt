@@ -1,8 +1,6 @@
 -- A hall goes on by an entry: its book stays a run, and its state is the one that the book leads to.
-use Rattle.std.proofs.Common.{◌≡◌, ◌≤◌, ◌+◌, ◌==◌, ℕ, Bool, true, false, List, [], ◌∷◌, ◌++◌, length, length-append, Option, Some, None, Result, Ok, Err, OnOk, OnErr, refl, sym, ap, subst, ◌∙◌, arith}
-use Rattle.std.specs.Prelude.{if◌then◌else◌}
+use Rattle.std.proofs.Common.{◌≡◌, ◌<◌, ◌≤◌, ◌+◌, ℕ, false, List, [], ◌∷◌, ◌++◌, length, length-append, Option, Some, None, Result, Ok, Err, OnOk, OnErr, refl, sym, ap, subst, ◌∙◌, arith}
 use Rattle.std.specs.Option.{option_map_or}
-use Rattle.std.proofs.lemmas.Bool.Decides.{nat_tests}
 use Rattle.orca_names.specs.declared.limits.TheConstants.{BOOK_LIMIT}
 use Rattle.orca_names.specs.declared.trace.Trace.TheVariants.{Deep}
 use Rattle.behaviour_code.specs.declared.code.Program.{Program}
@@ -21,10 +19,10 @@ use Rattle.orca_parts.specs.Parts.{options_of}
 use Rattle.orca_core.proofs.Reached.{leads_more}
 use Rattle.work_board.specs.declared.answers.Committed.{Committed}
 use Rattle.work_board.specs.declared.answers.Refuse.{Refuse}
-use Rattle.work_board.specs.declared.answers.Refuse.TheVariants.{Budget}
 use Rattle.hall_rules.specs.Causes.{spent_cause}
 use Rattle.hall_rules.proofs.Leading.{leads_after}
-use Rattle.book_hall.specs.Kept.{HallKeeps}
+use Rattle.hall_rules.proofs.Refusing.{room_for_one}
+use Rattle.book_hall.specs.Kept.{AreOneRun}
 
 -- where no cell is away, that of no event's actor is
 pub home_for : (m : Machine) → NoneIsAway m → (e : Event) → is_out_for m.out e ≡ false
@@ -42,7 +40,7 @@ reaps_at_home m home e = tt
 module _ (program : Program) (budget : ℕ) where
   kept_by_run : (m : Machine) (book : BookValue) → IsRun program (options_of book.weight Deep) book.entries m.state
       → length book.entries ≡ m.steps → NoneIsAway m → book.trace ≡ Deep → length book.entries ≤ budget → budget ≤ BOOK_LIMIT
-      → HallKeeps program budget m book
+      → AreOneRun program budget m book
   kept_by_run m book run long home deep within most = record {
     state_is = leads_after book.entries _ m.state run;
     run = run;
@@ -53,7 +51,13 @@ module _ (program : Program) (budget : ℕ) where
     most = most;
   }
 
-  module _ (m n : Machine) (book after : BookValue) (kept : HallKeeps program budget m book)
+  -- where the book isn't as long as the budget, the machine may do one event more
+  pub is_early : (m : Machine) (book : BookValue) → AreOneRun program budget m book
+      → spent_cause (length book.entries) budget ≡ None → m.steps < BOOK_LIMIT
+  is_early m book kept room =
+      omega (arith, room_for_one (length book.entries) budget kept.within room, kept.long, kept.most)
+
+  module _ (m n : Machine) (book after : BookValue) (kept : AreOneRun program budget m book)
       (weight : after.weight ≡ book.weight) (trace : after.trace ≡ book.trace) (home : NoneIsAway n) where
     -- a run of the book is one of what it became
     run_in : (entries : List Event) → after.entries ≡ entries → IsRun program (options_of book.weight Deep) entries n.state
@@ -64,22 +68,17 @@ module _ (program : Program) (budget : ℕ) where
     -- with an entry more
     kept_more : (e : Event) → next m.state e ≡ Goes n.state → n.steps ≡ m.steps + 1
         → after.entries ≡ book.entries ++ e ∷ [] → spent_cause (length book.entries) budget ≡ None
-        → HallKeeps program budget n after
+        → AreOneRun program budget n after
     kept_more e goes steps entry room =
         let more = leads_more book.entries _ m.state n.state e kept.run goes in
         let long : length after.entries ≡ length book.entries + 1 = ap length entry ∙ length-append book.entries (e ∷ []) in
         let was = kept.long in
-        let below : length book.entries + 1 ≤ budget = grows (length book.entries == budget) refl room in
+        let below = room_for_one (length book.entries) budget kept.within room in
         kept_by_run n after (run_in (book.entries ++ e ∷ []) entry more) (omega arith) home (trace ∙ kept.deep)
         (omega arith) kept.most
-      where
-        grows : (full : Bool) → (length book.entries == budget) ≡ full
-            → (if full then Some (Budget (length book.entries)) else None) ≡ None → length book.entries + 1 ≤ budget
-        grows true is none = absurd (cc)
-        grows false is none = let was = kept.within in grind (arith, nat_tests)
 
     -- and unchanged
-    kept_same : IsSame m n → after.entries ≡ book.entries → HallKeeps program budget n after
+    kept_same : IsSame m n → after.entries ≡ book.entries → AreOneRun program budget n after
     kept_same same entries =
         let run = subst (λ s. IsRun program (options_of book.weight Deep) book.entries s) (sym same.state) kept.run in
         kept_by_run n after (run_in book.entries entries run) (ap length entries ∙ kept.long ∙ sym same.steps) home
@@ -89,12 +88,12 @@ module _ (program : Program) (budget : ℕ) where
     pub kept_on : (e : Event) (r : Result Committed Refuse) → spent_cause (length book.entries) budget ≡ None
         → OnOk r (next m.state e ≡ Goes n.state) → OnOk r (n.steps ≡ m.steps + 1)
         → OnOk r (after.entries ≡ book.entries ++ e ∷ []) → OnErr r (IsSame m n) → OnErr r (after.entries ≡ book.entries)
-        → HallKeeps program budget n after
+        → AreOneRun program budget n after
     kept_on e (Ok done) room goes steps entry same entries = kept_more e goes steps entry room
     kept_on e (Err refuse) room goes steps entry same entries = kept_same same entries
 
   -- the machine has the program and the options of the run, and the book is its run
-  pub kept_run : (m : Machine) (book : BookValue) → HallKeeps program budget m book
+  pub kept_run : (m : Machine) (book : BookValue) → AreOneRun program budget m book
       → (m.state.program ≡ program) × (m.state.options ≡ options_of book.weight Deep) × IsRunOf m book.entries
   kept_run m book kept =
       let same = runs_keep_program program (options_of book.weight Deep) book.entries m.state kept.run in (

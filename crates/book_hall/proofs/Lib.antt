@@ -1,3 +1,4 @@
+pub mod Answering
 pub mod Comparing
 pub mod Copying
 pub mod Entries

@@ -1,9 +1,12 @@
 -- A copy of a cell, and a proposal that is of the present run.
 use Rattle.std.specs.Prelude.{ℕ, ◌≡◌, length, Some}
+use Rattle.orca_names.specs.declared.options.Options.{Options}
+use Rattle.orca_names.specs.declared.trace.Trace.TheVariants.{Deep}
 use Rattle.behaviour_code.specs.declared.code.Program.{Program}
 use Rattle.event_rule.specs.declared.event.Event.{Event}
 use Rattle.actor_cell.specs.Cells.{as_cell}
 use Rattle.machine_rules.specs.Actors.{cell_at}
+use Rattle.orca_parts.specs.Parts.{options_of}
 use Rattle.hall_rules.specs.Causes.{event_at}
 use Rattle.hall_rules.specs.Halls.{HallValue, hall_state}
 use Rattle.book_hall.specs.declared.copy.CellCopy.{CellCopy}
@@ -18,8 +21,8 @@ pub record IsCopy (h : HallValue) (a : ℕ) (copy : CellCopy) : Type 0 where
   pub owner : copy.cell.heap.owner ≡ a
   pub cell : cell_at (hall_state h).actors a ≡ Some (as_cell copy.cell)
 
--- it is of a run of this program with this weight, and for this event
-pub record IsOf (program : Program) (weight : ℕ) (e : Event) (proposal : Proposal) : Type 0 where
+-- it is of a run of this program with these options, and for this event
+pub record IsOf (program : Program) (options : Options) (e : Event) (proposal : Proposal) : Type 0 where
   pub program_is : proposal.copy.code.now ≡ program
-  pub weight_is : proposal.copy.weight ≡ weight
+  pub options_is : options_of proposal.copy.weight Deep ≡ options
   pub event : proposal.copy.event ≡ e

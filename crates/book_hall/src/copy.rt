@@ -5,6 +5,7 @@ ghost use Rattle.std.specs.Option.{ForSome};
 ghost use Rattle.orca_names.specs.declared.trace.Trace.TheVariants.{Deep};
 ghost use Rattle.event_rule.specs.Events.{actor_of};
 ghost use Rattle.actor_cell.specs.Founds.{IsFound};
+ghost use Rattle.orca_parts.specs.Parts.{options_of};
 ghost use Rattle.actor_cell.specs.Sweeps.{KnowsOthersOnly};
 ghost use Rattle.work_board.specs.Answered.{is_evaluated};
 ghost use Rattle.hall_rules.specs.Facts.{is_found_prop};
@@ -39,7 +40,7 @@ pub struct CellCopy<'a> {
 pub struct Proposal<'a> {
     pub copy: CellCopy<'a>,
     pub found: Option<Found>,
-    ghost own: { ForSome found (IsFound Deep copy.weight copy.code.now copy.cell) } by { Prim.hlevel is_found_prop },
+    ghost own: { ForSome found (IsFound (options_of copy.weight Deep) copy.code.now copy.cell) } by { Prim.hlevel is_found_prop },
 }
 
 /// Memory was refused; the copy comes back.
@@ -117,7 +118,8 @@ impl<'a> CellCopy<'a> {
     /// What the event does, where it is a turn or a collection.
     fn find(&self, alloc: Global) -> Result<Option<Found>, NoMemory>
         ensures own { IfOk result
-            (λ found. ForSome found (IsFound Deep self.now.weight self.now.code.now self.now.cell)) }
+            (λ found. ForSome found
+            (IsFound (options_of self.now.weight Deep) self.now.code.now self.now.cell)) }
         ensures found { IfOk result (λ found. is_evaluated self.now.event ≡ true → IsSome found) }
     {
         match self.event {

@@ -2,7 +2,6 @@
 
 ghost use Rattle.std.specs.Prelude.{◌≡◌, Some};
 ghost use Rattle.std.specs.Option.{ForSome};
-ghost use Rattle.orca_names.specs.declared.trace.Trace.TheVariants.{Deep};
 ghost use Rattle.orca_core.specs.Machine.{IsFoundIn};
 ghost use Rattle.book_hall.specs.Proposals.{IsOf};
 
@@ -15,9 +14,7 @@ use std::alloc::Global;
 
 /// What was found, if it is of the cell that the event's actor has now.
 pub(crate) fn fitting(orca: &Orca<'_>, e: &Event, proposal: Option<Proposal<'_>>) -> Option<Found>
-    requires own { ForSome proposal
-        (IsOf orca.now.state.program orca.now.state.options.weight e.now) }
-    requires deep { orca.now.state.options.trace ≡ Deep }
+    requires { ForSome proposal (IsOf orca.now.state.program orca.now.state.options e.now) }
     ensures { ForSome result (λ found. IsFoundIn e.now found orca.now) }
 {
     let proposal = proposal?;

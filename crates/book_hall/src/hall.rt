@@ -6,14 +6,13 @@ ghost use Rattle.orca_names.specs.declared.limits.TheConstants.{BOOK_LIMIT};
 ghost use Rattle.orca_names.specs.declared.trace.Trace.TheVariants.{Deep};
 ghost use Rattle.machine_rules.specs.Next.{next};
 ghost use Rattle.run_book.specs.Books.{IsWeight};
-ghost use Rattle.orca_core.specs.Laws.{IsRunOf};
-ghost use Rattle.orca_core.specs.Machine.{NoneIsAway};
 ghost use Rattle.orca_parts.specs.Parts.{options_of};
-ghost use Rattle.hall_rules.specs.Causes.{IsRefusal, absent_cause, actor_cause, claim_cause, entry_cause, event_at, spent_cause, unready_cause};
+ghost use Rattle.hall_rules.specs.Causes.{IsRefusal, absent_cause, actor_cause, claim_cause, event_at, spent_cause, unready_cause};
 ghost use Rattle.hall_rules.specs.Claims.{without, without_for};
-ghost use Rattle.hall_rules.specs.Answers.{IsEntered, TellsWork};
+ghost use Rattle.hall_rules.specs.Answers.{TellsWork};
 ghost use Rattle.hall_rules.specs.Halls.{hall_state};
-ghost use Rattle.book_hall.specs.Kept.{HasRun};
+ghost use Rattle.book_hall.specs.Answers.{AnswersCommit, AnswersEntry};
+ghost use Rattle.book_hall.specs.Kept.{AreOfHall, HasRun};
 ghost use Rattle.book_hall.specs.Proposals.{IsCopy, IsOf};
 
 use crate::claims::Claims;
@@ -57,7 +56,7 @@ pub struct Hall<'a> {
 
 impl<'a> Model for Hall<'a> {
     ghost use Rattle.hall_rules.specs.Halls.{HallValue};
-    ghost use Rattle.book_hall.specs.Kept.{HallKeeps};
+    ghost use Rattle.book_hall.specs.Kept.{AreOneRun};
 
     ghost Value = { HallValue };
 
@@ -70,7 +69,7 @@ impl<'a> Model for Hall<'a> {
       stopped = h.stopped;
     } };
 
-    ghost invariant = { λ h. HallKeeps h.code.now h.budget h.orca h.book };
+    ghost invariant = { λ h. AreOneRun h.code.now h.budget h.orca h.book };
 }
 
 impl<'a> Hall<'a> {
@@ -173,15 +172,7 @@ impl<'a> Hall<'a> {
         pass: u32,
         proposal: Proposal<'a>,
     ) -> Result<Committed, Refuse>
-        ensures may { OnOk result (entry_cause self.old (Some pass) proposal.entry.copy.event ≡ None) }
-        ensures ok { IfOk result (λ done. IsEntered self.old proposal.entry.copy.event done self.new) }
-        ensures rest { self.new ≡ record self.old {
-          book = self.new.book;
-          claims = without_for pass proposal.entry.copy.event self.old.claims;
-        } }
-        ensures refused { IfErr result
-            (IsRefusal (entry_cause self.old (Some pass) proposal.entry.copy.event)) }
-        ensures same { OnErr result (self.new.book ≡ self.old.book) }
+        ensures { AnswersCommit self.old pass proposal.entry.copy.event result self.new }
     {
         if proposal.is_of(self.code, self.book.weight()) {
             self.commit_own(alloc, pass, proposal)
@@ -197,17 +188,9 @@ impl<'a> Hall<'a> {
         pass: u32,
         proposal: Proposal<'a>,
     ) -> Result<Committed, Refuse>
-        requires program { proposal.copy.code.now ≡ self.old.program }
-        requires weight { proposal.copy.weight ≡ self.old.weight }
-        ensures may { OnOk result (entry_cause self.old (Some pass) proposal.entry.copy.event ≡ None) }
-        ensures ok { IfOk result (λ done. IsEntered self.old proposal.entry.copy.event done self.new) }
-        ensures rest { self.new ≡ record self.old {
-          book = self.new.book;
-          claims = without_for pass proposal.entry.copy.event self.old.claims;
-        } }
-        ensures refused { IfErr result
-            (IsRefusal (entry_cause self.old (Some pass) proposal.entry.copy.event)) }
-        ensures same { OnErr result (self.new.book ≡ self.old.book) }
+        requires { let options = options_of self.old.weight Deep in
+            IsOf self.old.program options proposal.copy.event proposal }
+        ensures { AnswersCommit self.old pass proposal.entry.copy.event result self.new }
     {
         let e = proposal.event();
         let answer = self.enter_as(alloc, Some(pass), e, Some(proposal));
@@ -220,14 +203,7 @@ impl<'a> Hall<'a> {
     /// # Errors
     /// As `commit`.
     pub fn commit_plain(&mut self, alloc: Global, pass: u32, e: Event) -> Result<Committed, Refuse>
-        ensures may { OnOk result (entry_cause self.old (Some pass) e ≡ None) }
-        ensures ok { IfOk result (λ done. IsEntered self.old e done self.new) }
-        ensures rest { self.new ≡ record self.old {
-          book = self.new.book;
-          claims = without_for pass e self.old.claims;
-        } }
-        ensures refused { IfErr result (IsRefusal (entry_cause self.old (Some pass) e)) }
-        ensures same { OnErr result (self.new.book ≡ self.old.book) }
+        ensures { AnswersCommit self.old pass e result self.new }
     {
         let answer = self.enter_as(alloc, Some(pass), e, None);
         self.end_claim(pass, &e);
@@ -243,11 +219,7 @@ impl<'a> Hall<'a> {
     /// else `Full` exactly where the event's actor would make one actor too many. `NoMemory` where
     /// memory was refused. All stays as it was then.
     pub fn direct(&mut self, alloc: Global, e: Event) -> Result<Committed, Refuse>
-        ensures may { OnOk result (entry_cause self.old None e ≡ None) }
-        ensures ok { IfOk result (λ done. IsEntered self.old e done self.new) }
-        ensures rest { self.new ≡ record self.old { book = self.new.book } }
-        ensures refused { IfErr result (IsRefusal (entry_cause self.old None e)) }
-        ensures same { OnErr result (self.new ≡ self.old) }
+        ensures { AnswersEntry self.old None e self.old.claims result self.new }
     {
         self.enter_as(alloc, None, e, None)
     }
@@ -283,15 +255,7 @@ impl<'a> Hall<'a> {
 
     /// The machine, whose state is that of the book, and the book.
     pub fn into_parts(self) -> (Orca<'a>, Book)
-        ensures state { result.0.state ≡ hall_state self.entry }
-        ensures run { IsRunOf result.0 result.1.entries }
-        ensures home { NoneIsAway result.0 }
-        ensures program { result.0.state.program ≡ self.entry.program }
-        ensures options { result.0.state.options ≡ options_of self.entry.weight Deep }
-        ensures book { result.1.entries ≡ self.entry.book }
-        ensures weight { result.1.weight ≡ self.entry.weight }
-        ensures trace { result.1.trace ≡ Deep }
-        ensures within { length self.entry.book ≤ self.entry.budget }
+        ensures { AreOfHall self.entry result.0 result.1 }
     {
         (self.orca, self.book)
     }
@@ -339,12 +303,8 @@ impl<'a> Hall<'a> {
         e: Event,
         proposal: Option<Proposal<'a>>,
     ) -> Result<Committed, Refuse>
-        requires own { ForSome proposal (IsOf self.old.program self.old.weight e) }
-        ensures may { OnOk result (entry_cause self.old asker e ≡ None) }
-        ensures ok { IfOk result (λ done. IsEntered self.old e done self.new) }
-        ensures rest { self.new ≡ record self.old { book = self.new.book } }
-        ensures refused { IfErr result (IsRefusal (entry_cause self.old asker e)) }
-        ensures same { OnErr result (self.new ≡ self.old) }
+        requires { ForSome proposal (IsOf self.old.program (options_of self.old.weight Deep) e) }
+        ensures { AnswersEntry self.old asker e self.old.claims result self.new }
     {
         if let Some(refuse) = self.early_refusal(asker, &e) {
             return Err(refuse);

@@ -4,6 +4,7 @@ ghost use Rattle.std.specs.Prelude.{◌≡◌, ◌||◌, Bool, false, true, IfOk
 ghost use Rattle.orca_names.specs.declared.trace.Trace.TheVariants.{Deep};
 ghost use Rattle.event_rule.specs.Events.{actor_of};
 ghost use Rattle.actor_cell.specs.Founds.{IsFound};
+ghost use Rattle.orca_parts.specs.Parts.{options_of};
 ghost use Rattle.work_board.specs.Answered.{is_evaluated, is_spoiling};
 
 use crate::copy::Proposal;
@@ -187,7 +188,8 @@ impl<'h, 'a, J: Naming> Board for HallPass<'h, 'a, J> {
     ghost tried = { λ task. task.tried };
 
     ghost found = { λ task. let copy = task.proposal.copy in
-        IsSomeAnd task.proposal.found (IsFound Deep copy.weight copy.code.now copy.cell) };
+        IsSomeAnd task.proposal.found
+        (IsFound (options_of copy.weight Deep) copy.code.now copy.cell) };
 
     fn look<R: Wait>(&mut self, rt: &R) -> Look {
         let answer = self.hall.hall.lock(rt).hall.look();

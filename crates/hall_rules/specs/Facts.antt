@@ -1,8 +1,8 @@
 -- What was found of a cell is a fact: there are not two ways for it to be so.
-use Rattle.std.proofs.Common.{ℕ, Option, None, Some}
+use Rattle.std.proofs.Common.{Option, None, Some}
 use Rattle.std.specs.Prelude.{IsSomeAnd}
 use Rattle.std.specs.Coded.{codes}
-use Rattle.orca_names.specs.declared.trace.Trace.{Trace}
+use Rattle.orca_names.specs.declared.options.Options.{Options}
 use Rattle.behaviour_code.specs.declared.code.Program.{Program}
 use Rattle.actor_cell.specs.declared.cell.Cell.{Cell}
 use Rattle.actor_cell.specs.declared.found.Found.{Found}
@@ -14,12 +14,12 @@ use Rattle.actor_cell.specs.Goes.{IsTold}
 use Rattle.actor_cell.specs.Moves.{act_in}
 use Rattle.actor_table.specs.Codes.{coded_entries, coded_known, coded_own}
 
-pub is_found_prop : (trace : Trace) (weight : ℕ) (program : Program) (c : Cell) (found : Found) → IsProp (IsFound trace weight program c found)
-is_found_prop trace weight program c (Goes turn turned) = by c.frame
+pub is_found_prop : (options : Options) (program : Program) (c : Cell) (found : Found) → IsProp (IsFound options program c found)
+is_found_prop options program c (Goes turn turned) = by c.frame
   where
     by : (frame : Option Frame) → IsProp (IsSomeAnd frame
-        (IsTold trace weight program c.heap.owner (as_cell c) turn turned.place (act_in turned)))
+        (IsTold options program c.heap.owner (as_cell c) turn turned.place (act_in turned)))
     by None = Prim.hlevel (codes, coded_own, coded_entries, coded_known)
     by (Some frame) = Prim.hlevel (codes, coded_own, coded_entries, coded_known)
-is_found_prop trace weight program c (Collects sweep) = Prim.hlevel (codes, coded_own, coded_entries, coded_known)
-is_found_prop trace weight program c Nothing = Prim.hlevel (codes, coded_own, coded_entries, coded_known)
+is_found_prop options program c (Collects sweep) = Prim.hlevel (codes, coded_own, coded_entries, coded_known)
+is_found_prop options program c Nothing = Prim.hlevel (codes, coded_own, coded_entries, coded_known)

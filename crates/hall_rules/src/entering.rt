@@ -1,17 +1,16 @@
 // An event becomes the last entry of the book.
 
-ghost use Rattle.std.specs.Prelude.{◌≡◌, ◌+◌, ◌<◌, ◌≤◌, ◌++◌, ◌∷◌, [], false, length, IfErr, IfOk, None, OnErr, OnOk};
-ghost use Rattle.std.specs.Option.{ForSome};
-ghost use Rattle.orca_names.specs.declared.limits.TheConstants.{BOOK_LIMIT};
+ghost use Rattle.std.specs.Prelude.{◌≡◌, ◌+◌, ◌≤◌, ◌++◌, ◌∷◌, [], length, IfErr, IfOk, None, OnErr, OnOk};
 ghost use Rattle.event_rule.specs.Runs.{Goes, Step};
 ghost use Rattle.event_rule.specs.declared.event.Event.{Event};
 ghost use Rattle.machine_rules.specs.State.{State};
 ghost use Rattle.machine_rules.specs.Next.{next};
-ghost use Rattle.orca_parts.specs.Away.{KeepsAway, is_out_for};
+ghost use Rattle.orca_parts.specs.Away.{KeepsAway};
 ghost use Rattle.orca_parts.specs.Faults.{IsFault};
-ghost use Rattle.orca_core.specs.Machine.{Fits, IsSame, ReapsNoneAway, IsFoundIn};
+ghost use Rattle.orca_core.specs.Machine.{Fits, IsSame};
 ghost use Rattle.orca_parts.specs.Woken.{IsLowestWoken};
 ghost use Rattle.hall_rules.specs.Causes.{IsRefusal, full_cause, unready_cause};
+ghost use Rattle.hall_rules.specs.Entering.{MayEnter};
 
 use actor_cell::Found;
 use event_rule::Event;
@@ -27,10 +26,7 @@ fn prepare(
     e: Event,
     found: &mut Option<Box<Found>>,
 ) -> Result<Ready, StepFault>
-    requires early { orca.old.steps < BOOK_LIMIT }
-    requires home { is_out_for orca.old.out e ≡ false }
-    requires spares { ReapsNoneAway e orca.old }
-    requires found { ForSome found.old (λ known. IsFoundIn e known.value orca.old) }
+    requires { MayEnter e found.old orca.old }
     ensures same { IsSame orca.old orca.new }
     ensures event { IfOk result (λ ready. ready.event ≡ e) }
     ensures ok { IfOk result (λ ready. Fits ready orca.new) }
@@ -65,11 +61,7 @@ fn reserve(
     e: &Event,
     found: &mut Option<Box<Found>>,
 ) -> Result<Ready, Refuse>
-    requires early { orca.old.steps < BOOK_LIMIT }
-    requires home { is_out_for orca.old.out e.now ≡ false }
-    requires spares { ReapsNoneAway e.now orca.old }
-    requires ready { unready_cause (next orca.old.state e.now) ≡ None }
-    requires found { ForSome found.old (λ known. IsFoundIn e.now known.value orca.old) }
+    requires { MayEnter e.now found.old orca.old }
     ensures same { IsSame orca.old orca.new }
     ensures entries { book.new.entries ≡ book.old.entries }
     ensures book { (book.new.weight ≡ book.old.weight) × (book.new.trace ≡ book.old.trace) }
@@ -101,11 +93,7 @@ pub fn enter(
     e: &Event,
     found: &mut Option<Box<Found>>,
 ) -> Result<Committed, Refuse>
-    requires early { orca.old.steps < BOOK_LIMIT }
-    requires home { is_out_for orca.old.out e.now ≡ false }
-    requires spares { ReapsNoneAway e.now orca.old }
-    requires ready { unready_cause (next orca.old.state e.now) ≡ None }
-    requires found { ForSome found.old (λ known. IsFoundIn e.now known.value orca.old) }
+    requires { MayEnter e.now found.old orca.old }
     ensures goes { OnOk result (next orca.old.state e.now ≡ Goes orca.new.state) }
     ensures steps { OnOk result (orca.new.steps ≡ orca.old.steps + 1) }
     ensures entry { OnOk result (book.new.entries ≡ book.old.entries ++ e.now ∷ []) }

@@ -11,10 +11,10 @@ returns-then-has_cell c = λ found is.
     let proposal = c.in_ok-proposal.proposal in
     let copy = proposal.copy in
     let m = c.args.orca.now in
-    let own = c.requires.own proposal c.in_ok-proposal.was in
+    let own = c.requires proposal c.in_ok-proposal.was in
     let its : actor_of c.args.e.now ≡ Some copy.cell.heap.owner = ap actor_of (sym own.event) ∙ copy.its in
     let there : c.in_ok-actor_of.field-0 ≡ copy.cell.heap.owner =
     (let z : Some c.in_ok-actor_of.field-0 ≡ Some copy.cell.heap.owner = c.in_ok-actor_of.ensures ∙ its in cc) in
-    still_found m c.args.e.now copy.weight copy.code.now copy.cell found own.program_is own.weight_is c.requires.deep its
+    still_found m c.args.e.now copy.weight copy.code.now copy.cell found own.program_is own.options_is its
     (subst (λ a. IsSomeAnd (home_of (slot_at m.kept.table.slots a)) (λ k. IsSame k copy.cell)) there
     (c.has_cell.ensures.0 c.if-has_cell.true)) (proposal.own found is)
