@@ -2,6 +2,7 @@
 use Rattle.std.proofs.Common.{◌≡◌, ℕ, ◌+◌, ◌-◌, ◌<◌, ◌≤◌, ◌==◌, Bool, true, false, List, [], ◌∷◌, ◌++◌, length, Option, Some, None, IfSome, IfNone, Ok, refl, sym, ap, ◌∙◌, subst, arith, append-nil, append_assoc}
 use Rattle.std.specs.Prelude.{if◌then◌else◌, IsSomeAnd, slice_get}
 use Rattle.std.proofs.lemmas.Bool.Decides.{nat_tests}
+use Rattle.std.proofs.lemmas.Option.{IfSome_then}
 use Rattle.std.proofs.lemmas.List.Elements.{filter-append}
 use Rattle.event_rule.specs.Events.{actor_of}
 use Rattle.event_rule.specs.declared.event.Event.{Event}
@@ -13,12 +14,12 @@ use Rattle.work_board.specs.declared.answers.Committed.{Committed}
 use Rattle.seat_hall.specs.declared.item.Item.{Item}
 use Rattle.seat_hall.specs.declared.item.Item.TheVariants.{Claimed, Entered}
 use Rattle.seat_hall.specs.declared.task.SeatTask.{SeatTask}
-use Rattle.seat_hall.specs.Advances.{Advances, ClaimedOn, Claims, GoesOn, Reckons, Takes, Took, claiming, hall_by, taking}
+use Rattle.seat_hall.specs.Advances.{Advances, ClaimedOn, Claims, GoesOn, IsNext, Reckons, Takes, Took, claiming, hall_by, taking}
 use Rattle.seat_hall.specs.Answers.{Enters}
 use Rattle.seat_hall.specs.Fair.{after_item, start_of}
 use Rattle.seat_hall.specs.Halls.{HallView, says}
 use Rattle.seat_hall.specs.Log.{Logged, after, by, entry_cause, hall_from, items_by}
-use Rattle.seat_hall.specs.Passes.{HasItsCell, IsAtHall, KeepsCells, KeepsOthers, MayCommit, StandsAt, Token, hall, out, seen}
+use Rattle.seat_hall.specs.Passes.{HasItsCell, IsAtHall, KeepsCells, KeepsOthers, StandsAt, Token, hall, out, seen}
 use Rattle.seat_hall.proofs.Commits.{commit_cells, commit_out}
 use Rattle.seat_hall.proofs.Entries.{stands}
 use Rattle.seat_hall.proofs.Holding.{pass_or}
@@ -69,24 +70,21 @@ module _ (n a : ℕ) (s t : Token) (g : HallView) (r : Reckons n (knows s) g) wh
   claimed_cells (Some task) claim = claim_cells n s s g at_s a (granted task claim.claims).0.0 t claim.wrote
   claimed_cells None claim = read_cells n s s t g at_s claim.wrote
 
-  pub claimed_more : (next : Option SeatTask) → ClaimedOn n a next (knows s) (knows t) → IfSome next (λ _. out n t ≡ out n s + 1)
-  claimed_more (Some task) claim = claim_out n s s g at_s a (granted task claim.claims).0.0 t claim.wrote
-      (subst (λ (l : Logged). a < length l.claims) (sym r.shows) claim.within)
-  claimed_more None claim = tt
+  pub claimed_next : (next : Option SeatTask) → ClaimedOn n a next (knows s) (knows t) → (before : Token)
+      → out n before ≡ out n s + 1 → IfSome next (IsNext n a before t)
+  claimed_next (Some task) claim before less =
+      let may = granted task claim.claims in
+      let within = subst (λ (l : Logged). a < length l.claims) (sym r.shows) claim.within in record {
+        owner = claim.claims.0.1.owner;
+        may = claim_owns n s s g at_s a may.0.0 t claim.wrote within task may.0.1;
+        fresh = claim.fresh;
+        out_is = claim_out n s s g at_s a may.0.0 t claim.wrote within ∙ sym less;
+      }
+  claimed_next None claim before less = tt
 
   pub claimed_none : (next : Option SeatTask) → ClaimedOn n a next (knows s) (knows t) → IfNone next (out n t ≡ out n s)
   claimed_none (Some task) claim = tt
   claimed_none None claim = read_out n s s t g at_s claim.wrote
-
-  pub claimed_owns : (next : Option SeatTask) → ClaimedOn n a next (knows s) (knows t) → IfSome next (λ task. MayCommit n t task)
-  claimed_owns (Some task) claim = claim_owns n s s g at_s a (granted task claim.claims).0.0 t claim.wrote
-      (subst (λ (l : Logged). a < length l.claims) (sym r.shows) claim.within) task (granted task claim.claims).0.1
-  claimed_owns None claim = tt
-
-  pub claimed_owner : (next : Option SeatTask) → ClaimedOn n a next (knows s) (knows t)
-      → IfSome next (λ task. task.taken.cell.heap.owner ≡ a)
-  claimed_owner (Some task) claim = claim.claims.0.1.owner
-  claimed_owner None claim = tt
 
   pub claimed_client : (next : Option SeatTask) → ClaimedOn n a next (knows s) (knows t) → (knows t).client ≡ (knows s).client
   claimed_client (Some task) claim = client_then n s s t g at_s (Claimed n a) refl claim.wrote
@@ -105,13 +103,10 @@ module _ (n a : ℕ) (s t : Token) (g : HallView) (r : Reckons n (knows s) g) wh
 -- what it tells
 pub record WentOn (n a : ℕ) (old new : Token) (e : Event) (done : Committed) (next : Option SeatTask) : Type 0 where
   pub cells : KeepsOthers n a old new
-  pub went : IfSome next (λ _. out n new ≡ out n old)
+  pub next_is : IfSome next (IsNext n a old new)
   pub left : IfNone next (out n old ≡ out n new + 1)
-  pub may : IfSome next (λ task. MayCommit n new task)
-  pub owner : IfSome next (λ task. task.taken.cell.heap.owner ≡ a)
   pub client : (knows new).client ≡ (knows old).client
   pub calls : Advances n a e done next old new
-  pub stands : StandsAt new done.place e
 
 -- all items after the first are the pass's own
 own_one : (n : ℕ) (i : Item) (own : List Item) → by i ≡ n → items_by n own ≡ own → items_by n (i ∷ own) ≡ i ∷ own
@@ -151,12 +146,8 @@ module _ (n a : ℕ) (old mid s t new : Token) (h : HallView) (at : IsAtHall n o
   less = commit_out n a old mid h at e c its has first s wrote (Ok done) refl tt
       ∙ ap (λ (k : ℕ). k + 1) (sym (took_out n a s t first reckons_first took takes))
 
-  all_went : IfSome next (λ _. out n new ≡ out n old)
-  all_went = cases next (claimed_more n a t new u reckons next claims)
-    where
-      cases : (next : Option SeatTask) → IfSome next (λ _. out n new ≡ out n t + 1) → IfSome next (λ _. out n new ≡ out n old)
-      cases (Some task) more = more ∙ sym less
-      cases None none = tt
+  all_next : IfSome next (IsNext n a old new)
+  all_next = claimed_next n a t new u reckons next claims old less
 
   all_left : IfNone next (out n old ≡ out n new + 1)
   all_left = cases next (claimed_none n a t new u reckons next claims)
@@ -164,12 +155,6 @@ module _ (n a : ℕ) (old mid s t new : Token) (h : HallView) (at : IsAtHall n o
       cases : (next : Option SeatTask) → IfNone next (out n new ≡ out n t) → IfNone next (out n old ≡ out n new + 1)
       cases (Some task) none = tt
       cases None same = less ∙ ap (λ (k : ℕ). k + 1) (sym same)
-
-  all_owns : IfSome next (λ task. MayCommit n new task)
-  all_owns = claimed_owns n a t new u reckons next claims
-
-  all_owner : IfSome next (λ task. task.taken.cell.heap.owner ≡ a)
-  all_owner = claimed_owner n a t new u reckons next claims
 
   all_client : (knows new).client ≡ (knows old).client
   all_client = claimed_client n a t new u reckons next claims
@@ -200,6 +185,16 @@ module _ (n a : ℕ) (old mid s t new : Token) (h : HallView) (at : IsAtHall n o
         ∙ ap (λ (l : Logged). hall_from l (taking n a took)) (sym second)) claims.claims;
   }
 
+  all_stands : StandsAt new done.place e
+  all_stands =
+      let start : Logged = start_of (knows old).client in
+      let rest : List Item = taking n a took ++ claiming n a next in
+      let place : done.place ≡ length (hall_from start (seen mid)).book = enters.entered.place ∙ ap (λ (l : Logged). length l.book) at.shows in
+      let now : hall new (seen new) ≡ hall_from start (seen mid ++ own) =
+      λ i. hall_from (start_of (all_client i)) (saw_all i) in
+      ap (λ (l : Logged). slice_get l.book done.place) now
+      ∙ (ap (slice_get (hall_from start (seen mid ++ own)).book) place ∙ stands start (seen mid) rest n e)
+
   all_calls : Advances n a e done next old new
   all_calls = record {
     took = took;
@@ -212,28 +207,16 @@ module _ (n a : ℕ) (old mid s t new : Token) (h : HallView) (at : IsAtHall n o
           (own_taking n a took (claiming n a next) (own_claiming n a next)) i)));
       answers = subst (GoesOn n a e done took next) at.shows goes_on;
     };
+    stands = all_stands;
   }
-
-  all_stands : StandsAt new done.place e
-  all_stands =
-      let start : Logged = start_of (knows old).client in
-      let rest : List Item = taking n a took ++ claiming n a next in
-      let place : done.place ≡ length (hall_from start (seen mid)).book = enters.entered.place ∙ ap (λ (l : Logged). length l.book) at.shows in
-      let now : hall new (seen new) ≡ hall_from start (seen mid ++ own) =
-      λ i. hall_from (start_of (all_client i)) (saw_all i) in
-      ap (λ (l : Logged). slice_get l.book done.place) now
-      ∙ (ap (slice_get (hall_from start (seen mid ++ own)).book) place ∙ stands start (seen mid) rest n e)
 
   pub went_on : WentOn n a old new e done next
   went_on = record {
     cells = all_cells;
-    went = all_went;
+    next_is = all_next;
     left = all_left;
-    may = all_owns;
-    owner = all_owner;
     client = all_client;
     calls = all_calls;
-    stands = all_stands;
   }
 
 -- ---- as a board tells it
@@ -244,14 +227,14 @@ pub task_of : (a : ℕ) (task : Option SeatTask) (was : SeatTask) → task ≡ S
 task_of a task was is acts =
     ap (pass_or 0) (sym was.taken.its ∙ subst (λ o. IsSomeAnd o (λ t. actor_of t.taken.event ≡ Some a)) is acts)
 
-pub next_actor : (next : Option SeatTask) (a owner : ℕ) → owner ≡ a → IfSome next (λ task. task.taken.cell.heap.owner ≡ owner)
-    → IfSome next (λ task. actor_of task.taken.event ≡ Some a)
-next_actor (Some task) a owner same is = task.taken.its ∙ ap Some (is ∙ same)
-next_actor None a owner same is = tt
+pub next_actor : (n a : ℕ) (old new : Token) (next : Option SeatTask) (b : ℕ) → a ≡ b → IfSome next (IsNext n a old new)
+    → IfSome next (λ task. actor_of task.taken.event ≡ Some b)
+next_actor n a old new next b same is =
+    IfSome_then next is (λ task its. task.taken.its ∙ ap Some (its.owner ∙ same))
 
-pub next_one : (next : Option SeatTask) (before after : ℕ) → IfSome next (λ _. after ≡ before) → IfSome next (λ _. after ≤ before - 1 + 1)
-next_one (Some task) before after same = omega arith
-next_one None before after none = tt
+pub next_one : (n a : ℕ) (old new : Token) (next : Option SeatTask) → IfSome next (IsNext n a old new)
+    → IfSome next (λ _. out n new ≤ out n old - 1 + 1)
+next_one n a old new next is = IfSome_then next is (λ task its. let same = its.out_is in omega arith)
 
 pub next_none : (next : Option SeatTask) (before after : ℕ) → IfNone next (before ≡ after + 1) → IfNone next (after ≡ before - 1)
 next_none (Some task) before after none = tt

@@ -8,10 +8,9 @@ use mathlib.Core.Logic.{dite}
 use mathlib.Core.Option.{some}
 use native.Mathlib.Decide.{dec_le, ℕ_discrete}
 use lib.ListN.{get_elem?}
-use Rattle.orca_names.specs.declared.trace.Trace.{Trace}
+use Rattle.orca_names.specs.declared.options.Options.{Options}
 use Rattle.behaviour_code.specs.declared.code.Program.{Program}
 use Rattle.actor_cell.specs.declared.cell.Cell.{Cell}
-use Rattle.orca_parts.specs.Parts.{options_of}
 use Rattle.turn_log.proofs.Sums.{each_term, sum_set, term_le}
 use Rattle.turn_log.proofs.Places.{at_other}
 use Rattle.turn_log.specs.Knowing.{newcomer}
@@ -36,13 +35,13 @@ shown log hall passes fair id k there =
     let mine = fair.each id k there in record {
       shows = λ some_number.
           let run = mine.run some_number in
-          fair.shows ∙ (λ i. hall_from (begins (sym run.0 i) (sym run.1 i) (sym run.2 i) (sym run.3 i)) log);
+          fair.shows ∙ (λ i. hall_from (begins (sym run.0 i) (sym run.1 i) (sym run.2 i)) log);
       legal = λ some_number.
           let run = mine.run some_number in
-          subst (λ (x : Program × ℕ × Trace × ℕ). Legal (begins x.0 x.1 x.2 x.3) log)
-          (λ i. (sym run.0 i, sym run.1 i, sym run.2 i, sym run.3 i)) fair.legal;
+          subst (λ (x : Program × Options × ℕ). Legal (begins x.0 x.1 x.2) log)
+          (λ i. (sym run.0 i, sym run.1 i, sym run.2 i)) fair.legal;
       heavy = λ some_number.
-          let run = mine.run some_number in subst (λ (w : ℕ). 0 < w) (sym run.1) fair.heavy;
+          let run = mine.run some_number in subst (λ (o : Options). 0 < o.weight) (sym run.1) fair.heavy;
       own = mine.own;
       given = λ n has. dite (dec_le n hall.logged.made)
           (λ le. le)
@@ -63,8 +62,8 @@ pub legal_first : (l : Logged) (xs ys : List Item) → Legal l (xs ++ ys) → Le
 legal_first l [] ys legal = tt
 legal_first l (x ∷ xs) ys legal = (legal.0, legal_first (after l x) xs ys legal.1)
 
-pub weight_of : (v : PassView) (log : List Item) → (hall_of v log).weight ≡ v.weight
-weight_of v log = (terms_of v.program v.weight v.trace v.budget log).weight_is
+pub options_after : (v : PassView) (log : List Item) → (hall_of v log).options ≡ v.options
+options_after v log = (terms_of v.program v.options v.budget log).options_is
 
 -- ---- cells
 
@@ -79,7 +78,7 @@ standing log hall passes fair id pass a c k one has =
     let whole = one.saw.1 in
     let legal : Legal start (k.seen ++ rest) = subst (Legal start) (sym whole) (s.legal some) in
     let run : IsRunOf here = runs start k.seen (refl, omega arith) (legal_first start k.seen rest legal) in
-    let heavy : 0 < here.weight = subst (λ (w : ℕ). 0 < w) (sym (weight_of k.client k.seen)) (s.heavy some) in
+    let heavy : 0 < here.options.weight = subst (λ (o : Options). 0 < o.weight) (sym (options_after k.client k.seen)) (s.heavy some) in
     let own = none_between pass k.seen rest (ap (items_by pass) whole ∙ s.own pass one.number) in
     let kept = keeps_all pass a here rest heavy run (legal_rest start k.seen rest legal) own has.claimed has.busy in
     let same : hall_from here rest ≡ hall.logged =
@@ -99,7 +98,7 @@ one_pass passes n i j v w at there has has' most = dite (ℕ_discrete j i)
 
 -- whose claim is out is away from the machine behind the hall
 pub lacks_cell : (pass a : ℕ) (c : Cell) (l : Logged) → HasIn pass a c l → LacksCell a l
-lacks_cell pass a c l has orca book lent kept = kept.away a ∙ ap is_some has.claimed
+lacks_cell pass a c l has orca book rooms kept = kept.away a ∙ ap is_some has.claimed
 
 pub cells_apart : CellsAreApart
 cells_apart log hall passes fair id pass a c k one has =
@@ -116,12 +115,13 @@ cells_apart log hall passes fair id pass a c k one has =
 pub none_is_reaped : NoneIsReaped
 none_is_reaped log hall passes fair id pass a c k one has number t on is =
     let l : Logged = hall.logged in
-    let start : Logged = begins fair.program fair.weight fair.trace fair.budget in
+    let start : Logged = begins fair.program fair.options fair.budget in
     let mine = standing log hall passes fair id pass a c k one has in
     let run : IsRunOf l = subst IsRunOf (sym fair.shows) (runs start log (refl, omega arith) fair.legal) in
-    let weight = (terms_of fair.program fair.weight fair.trace fair.budget log).weight_is in
-    let heavy : 0 < l.weight = subst (λ (w : ℕ). 0 < w) (sym (ap (λ (m : Logged). m.weight) fair.shows ∙ weight)) fair.heavy in
-    none_reaped l.program (options_of l.weight l.trace) l.book (state_in l) heavy run.0 a (busy_of (state_in l) a mine.busy) number t on is
+    let options = (terms_of fair.program fair.options fair.budget log).options_is in
+    let heavy : 0 < l.options.weight =
+    subst (λ (o : Options). 0 < o.weight) (sym (ap (λ (m : Logged). m.options) fair.shows ∙ options)) fair.heavy in
+    none_reaped l.program l.options l.book (state_in l) heavy run.0 a (busy_of (state_in l) a mine.busy) number t on is
 
 -- ---- entries
 

@@ -41,17 +41,16 @@ last_hall pass t h words is closed =
 pub closes : (t : Token) (l : Logged) (closing : Closing) → IsLastHall t l → Leaves l closing → Closes t closing
 closes t l (Whole orca book) last leaves =
     let v = (knows t).client in
-    let terms : HasTerms v.program v.weight v.trace v.budget l =
-    subst (HasTerms v.program v.weight v.trace v.budget) (sym last.is)
-    (terms_of v.program v.weight v.trace v.budget last.log) in
+    let terms : HasTerms v.program v.options v.budget l =
+    subst (HasTerms v.program v.options v.budget) (sym last.is)
+    (terms_of v.program v.options v.budget last.log) in
     record {
       last = l;
       last_is = last;
       none = leaves.0;
       parts = leaves.1;
       program = terms.program_is;
-      weight = terms.weight_is;
-      trace = terms.trace_is;
+      options = terms.options_is;
       budget = terms.budget_is;
     }
 closes t l (Turning ticket serving) last leaves = absurd leaves

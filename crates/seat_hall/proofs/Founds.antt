@@ -25,6 +25,7 @@ use Rattle.actor_cell.specs.Cells.{IsSame, as_cell}
 use Rattle.actor_cell.specs.Founds.{IsFound}
 use Rattle.actor_table.specs.Slots.{home_in, home_of, slot_at}
 use Rattle.orca_parts.specs.Away.{is_out, is_out_for}
+use Rattle.orca_parts.specs.Parts.{options_of}
 use Rattle.orca_core.specs.Machine.{Machine, cell_here, IsFoundIn}
 use Rattle.hall_rules.proofs.Finding.{CanFind}
 use Rattle.seat_hall.specs.Answers.{IsFoundOf}
@@ -67,9 +68,9 @@ module _ (weight : ℕ) (program : Program) (c d : Cell) (same : IsSame c d) whe
   alike Q = subst Q (λ i. (sym same.1 i, sym same.0 i))
 
   abbrev finds : Trace → Found → ℕ × rules.Cell → Type 0
-  finds trace found x = IsFound trace weight program (with_room c x.0 x.1) found
+  finds trace found x = IsFound (options_of weight trace) program (with_room c x.0 x.1) found
 
-  found_same : (trace : Trace) (found : Found) → IsFound trace weight program d found → IsFound trace weight program c found
+  found_same : (trace : Trace) (found : Found) → IsFound (options_of weight trace) program d found → IsFound (options_of weight trace) program c found
   found_same trace (Goes turn turned) is = alike (finds trace (Goes turn turned)) is
   found_same Deep (Collects sweep) is = alike (finds Deep (Collects sweep)) is
   found_same Roots (Collects sweep) is = alike (finds Roots (Collects sweep)) is
@@ -77,7 +78,7 @@ module _ (weight : ℕ) (program : Program) (c d : Cell) (same : IsSame c d) whe
 
 pub installable : (m : Machine) (e : Event) (found : Found) (a : ℕ) (here : Option (Bor Cell)) → actor_of e ≡ Some a
     → is_out_for m.out e ≡ false
-    → IsFoundOf m.state.options.trace m.state.options.weight m.state.program m.state.actors e found
+    → IsFoundOf m.state.options m.state.program m.state.actors e found
     → option_map (λ c. as_cell c.now) here ≡ cell_here m a → IfSome here (λ c. c.now.heap.owner ≡ a)
     → option_copied here ≡ home_of (slot_at m.kept.table.slots a) → IsFoundIn e found m
 installable m e found a here acts home of cell owner kept = by here cell owner kept
@@ -100,5 +101,5 @@ installable m e found a here acts home of cell owner kept = by here cell owner k
         let d_is : Some d ≡ Some c.now =
         sym (ap home_in at) ∙ (ap (λ x. home_of (slot_at m.kept.table.slots x)) b_is ∙ sym kept) in
         let d_same : d ≡ c.now = (let z = d_is in cc) in
-        subst (λ k. IsFound m.state.options.trace m.state.options.weight m.state.program k found) (sym d_same)
+        subst (λ k. IsFound m.state.options m.state.program k found) (sym d_same)
         (found_same m.state.options.weight m.state.program c.now of.cell (same, owner ∙ there) m.state.options.trace found of.is)

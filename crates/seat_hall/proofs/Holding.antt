@@ -9,7 +9,6 @@ use Rattle.event_rule.specs.declared.event.Event.{Event}
 use Rattle.machine_rules.specs.Actors.{cell_at}
 use Rattle.machine_rules.specs.Next.{next}
 use Rattle.machine_rules.specs.State.{State, first_state}
-use Rattle.orca_parts.specs.Parts.{options_of}
 use Rattle.orca_core.proofs.Reached.{leads_more}
 use Rattle.work_board.specs.declared.answers.Refuse.TheVariants as why
 use Rattle.hall_rules.specs.Causes.{absent_cause, actor_cause, busy_cause, event_at}
@@ -95,23 +94,23 @@ not_about pass a l (Made q) apart may mine same = cc
 
 -- ---- items about other actors
 
-keeps_entered : (pass q a : ℕ) (l : Logged) (e : Event) → actor_of e ≢ Some a → 0 < l.weight → IsRunOf l
+keeps_entered : (pass q a : ℕ) (l : Logged) (e : Event) → actor_of e ≢ Some a → 0 < l.options.weight → IsRunOf l
     → entry_cause l (Some q) e ≡ None → claim_in l.claims a ≡ Some pass → event_at (state_in l) a ≢ None
     → Keeps pass a l (after l (Entered q e))
 keeps_entered pass q a l e others heavy run none mine busy =
     let can = can_enter l (Some q) e run.1 none in
-    let start : State = first_state l.program (options_of l.weight l.trace) in
+    let start : State = first_state l.program l.options in
     let more = leads_more l.book start (state_in l) can.after_it e run.0 can.goes in
     let there : can.after_it ≡ state_in (after l (Entered q e)) = leads_after (l.book ++ e ∷ []) start can.after_it more in
     let b = busy_of (state_in l) a busy in
-    let apart = stands_apart l.program (options_of l.weight l.trace) l.book (state_in l) can.after_it a e heavy run.0 b others can.goes in
+    let apart = stands_apart l.program l.options l.book (state_in l) can.after_it a e heavy run.0 b others can.goes in
     let left = others_leave_busy (state_in l) can.after_it a e apart can.goes b in record {
       claimed = claim_grown _ _ a ∙ (claim_released e l.claims a others ∙ mine);
       cell = ap (λ (s : State). cell_at s.actors a) (sym there) ∙ left.0;
       busy = subst (λ (s : State). event_at s a ≢ None) there (event_of can.after_it a left.1);
     }
 
-pub keeps_about : (pass a : ℕ) (l : Logged) (i : Item) → about i ≢ Some a → 0 < l.weight → IsRunOf l → MayFollow l i
+pub keeps_about : (pass a : ℕ) (l : Logged) (i : Item) → about i ≢ Some a → 0 < l.options.weight → IsRunOf l → MayFollow l i
     → claim_in l.claims a ≡ Some pass → event_at (state_in l) a ≢ None → Keeps pass a l (after l i)
 keeps_about pass a l (Claimed q b) others heavy run may mine busy = record {
   claimed = claim_set l.claims b a (Some q) (λ same. others (ap Some (sym same))) ∙ mine;
@@ -141,7 +140,7 @@ none_by pass i log none = pick (by i == pass) refl none
     )
 
 -- through all items of others
-pub keeps_all : (pass a : ℕ) (l : Logged) (log : List Item) → 0 < l.weight → IsRunOf l → Legal l log
+pub keeps_all : (pass a : ℕ) (l : Logged) (log : List Item) → 0 < l.options.weight → IsRunOf l → Legal l log
     → items_by pass log ≡ [] → claim_in l.claims a ≡ Some pass → event_at (state_in l) a ≢ None
     → Keeps pass a l (hall_from l log)
 keeps_all pass a l [] heavy run legal none mine busy = record { claimed = mine; cell = refl; busy = busy }
@@ -151,6 +150,6 @@ keeps_all pass a l (i ∷ log) heavy run legal none mine busy =
     let rest = keeps_all pass a (after l i) log (heavy_one l i heavy) (run_one l i run legal.0) legal.1 n.1 one.claimed one.busy in
     record { claimed = rest.claimed; cell = rest.cell ∙ one.cell; busy = rest.busy }
   where
-    heavy_one : (l : Logged) (i : Item) → 0 < l.weight → 0 < (after l i).weight
+    heavy_one : (l : Logged) (i : Item) → 0 < l.options.weight → 0 < (after l i).options.weight
     heavy_one l (Claimed q b) heavy = heavy
     heavy_one l i heavy = heavy

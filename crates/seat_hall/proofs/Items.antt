@@ -7,17 +7,16 @@ use Rattle.turn_log.specs.Seats.{knows}
 use Rattle.hall_rules.specs.Causes.{actor_cause}
 use Rattle.hall_rules.proofs.Refusing.{or_none}
 use Rattle.seat_hall.specs.declared.item.Item.TheVariants.{Claimed, Entered}
-use Rattle.seat_hall.specs.declared.item.PassView.{PassView}
 use Rattle.seat_hall.specs.declared.task.SeatTask.{SeatTask}
 use Rattle.seat_hall.specs.Answers.{IsTaken}
 use Rattle.seat_hall.specs.Fair.{after_item}
 use Rattle.seat_hall.specs.Halls.{HallView}
-use Rattle.seat_hall.specs.Log.{MayFollow, claim_cause, claim_in, claims_in, entry_cause, state_in}
-use Rattle.seat_hall.specs.Passes.{HasItsCell, IsAtHall, KeepsCells, MayCommit, Token, out}
+use Rattle.seat_hall.specs.Log.{MayFollow, after, claim_cause, claim_in, claims_in, entry_cause, state_in}
+use Rattle.seat_hall.specs.Passes.{HasIn, IsAtHall, IsClaimOf, KeepsCells, MayCommit, Token, out}
 use Rattle.seat_hall.proofs.Causes.{event_is_free, none_for}
 use Rattle.seat_hall.proofs.Counts.{out_claimed, out_direct}
 use Rattle.seat_hall.proofs.Holding.{free_for, pass_or}
-use Rattle.seat_hall.proofs.Turns.{client_then, has_now, has_then, out_now, program_now, trace_now, weight_now, wrote_cells, wrote_out}
+use Rattle.seat_hall.proofs.Turns.{hall_then, has_now, out_now, wrote_cells, wrote_out}
 
 module _ (n : ℕ) (old mid : Token) (h : HallView) (at : IsAtHall n old mid h) where
   -- an event on whose actor no claim is out
@@ -58,14 +57,13 @@ module _ (n : ℕ) (old mid : Token) (h : HallView) (at : IsAtHall n old mid h) 
       pub claim_owns : a < length h.logged.claims → (task : SeatTask) → IsTaken a task.taken h.logged → MayCommit n new task
       claim_owns within task is =
           let taken = task.taken in
-          let client = client_then n old mid new h at (Claimed n a) refl wrote in record {
-            has = subst (λ (a : ℕ). HasItsCell n a taken.cell new) (sym is.owner)
-                (has_then n old mid new h at (Claimed n a) refl wrote a taken.cell (record {
-                  claimed = get_or-set_same h.logged.claims a (Some n) None within;
-                  cell = is.cell;
-                  busy = λ none. let clash : None ≡ Some taken.event = sym none ∙ is.event in cc;
-                }));
-            program = is.program ∙ (program_now n old mid new h at ∙ sym (ap (λ (v : PassView). v.program) client));
-            weight = is.weight ∙ (weight_now n old mid new h at ∙ sym (ap (λ (v : PassView). v.weight) client));
-            trace = is.trace ∙ (trace_now n old mid new h at ∙ sym (ap (λ (v : PassView). v.trace) client));
-          }
+          let l = after h.logged (Claimed n a) in
+          subst (IsClaimOf n taken) (hall_then n old mid new h at (Claimed n a) refl wrote) (record {
+            has = subst (λ (a : ℕ). HasIn n a taken.cell l) (sym is.owner) (record {
+              claimed = get_or-set_same h.logged.claims a (Some n) None within;
+              cell = is.cell;
+              busy = λ none. let clash : None ≡ Some taken.event = sym none ∙ is.event in cc;
+            });
+            program = is.program;
+            options = is.options;
+          })

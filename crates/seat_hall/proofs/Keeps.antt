@@ -27,7 +27,7 @@ pub few : FewTickets HallRule live
 few log hall passes words fair =
     let le = sum_by-le-sum_by (λ (k : Knower). live k.client) numbers_of passes (λ k. at_most k) in
     let most = fair.few in
-    let made = few_made (begins fair.program fair.weight fair.trace fair.budget) log (omega arith) fair.legal in
+    let made = few_made (begins fair.program fair.options fair.budget) log (omega arith) fair.legal in
     let same = ap (λ (l : Logged). l.made) fair.shows in omega arith
   where
     at_most : (k : Knower) → live k.client ≤ numbers_of k
@@ -36,17 +36,16 @@ few log hall passes words fair =
 -- a pass that keeps its numbers may come to know something else
 pub with_pass : (log : List Item) (hall : HallView) (passes : List Knower) (fair : Fair log hall passes) (id : ℕ) (k w : Knower)
     → get_elem? passes id ≡ some k → w.client.numbers ≡ k.client.numbers
-    → IsFair fair.program fair.weight fair.trace fair.budget log w → Fair log hall (set passes id w)
+    → IsFair fair.program fair.options fair.budget log w → Fair log hall (set passes id w)
 with_pass log hall passes fair id k w at same mine = record {
   program = fair.program;
-  weight = fair.weight;
-  trace = fair.trace;
+  options = fair.options;
   budget = fair.budget;
   heavy = fair.heavy;
   shows = fair.shows;
   legal = fair.legal;
   each = λ j d there. ⊎_elim
-      (λ (t : (j ≡ id) × (w ≡ d)). subst (IsFair fair.program fair.weight fair.trace fair.budget log) t.1 mine)
+      (λ (t : (j ≡ id) × (w ≡ d)). subst (IsFair fair.program fair.options fair.budget log) t.1 mine)
       (λ (t : (j ≢ id) × (get_elem? passes j ≡ some d)). fair.each j d t.1)
       (at_set passes id j w d there);
   once = λ n. let s = sum_set (has_number n) passes id k w at in let e = numbers n in let o = fair.once n in omega arith;
@@ -111,9 +110,9 @@ has_first p ns v is =
 -- the pass's reckoning is the rule's
 same_hall : (log : List Item) (hall : HallView) (passes : List Knower) (fair : Fair log hall passes) (id : ℕ) (k : Knower)
     → get_elem? passes id ≡ some k → 0 < numbers_of k → (xs : List Item)
-    → hall_of k.client xs ≡ hall_from (begins fair.program fair.weight fair.trace fair.budget) xs
+    → hall_of k.client xs ≡ hall_from (begins fair.program fair.options fair.budget) xs
 same_hall log hall passes fair id k at voiced xs =
-    let run = (fair.each id k at).run voiced in λ i. hall_from (begins (run.0 i) (run.1 i) (run.2 i) (run.3 i)) xs
+    let run = (fair.each id k at).run voiced in λ i. hall_from (begins (run.0 i) (run.1 i) (run.2 i)) xs
 
 pub one_number : (p : ℕ) (ns : List ℕ) (k : Knower) → k.client.numbers ≡ p ∷ ns → 0 < numbers_of k
 one_number p ns k is = let e = ap (λ (xs : List ℕ). length xs) is in omega arith
@@ -123,7 +122,7 @@ pub may_write_own : (id p : ℕ) (i : Item) (k : Knower) (puts : List (ℕ × �
     → Follows p i k value → MayWrite HallRule after_item id k puts before value i
 may_write_own id p i k puts before value own follows passes words fair at stand =
     let voiced = one_number p [] k follows.number in
-    let start : Logged = begins fair.program fair.weight fair.trace fair.budget in
+    let start : Logged = begins fair.program fair.options fair.budget in
     let here = same_hall k.seen before passes fair id k at voiced k.seen in
     let client = own_client p i k.client own in
     let w : Knower = having_written after_item i k in
@@ -136,15 +135,14 @@ may_write_own id p i k puts before value own follows passes words fair at stand 
     let numbers : w.client.numbers ≡ k.client.numbers = ap (λ (v : PassView). v.numbers) client in
     let mine = fair.each id k at in record {
       program = fair.program;
-      weight = fair.weight;
-      trace = fair.trace;
+      options = fair.options;
       budget = fair.budget;
       heavy = fair.heavy;
       shows = shows;
       legal = legal_snoc start k.seen i fair.legal (subst (λ (l : Logged). MayFollow l i) here follows.may);
       each = λ j d there. ⊎_elim
-          (λ (t : (j ≡ id) × (w ≡ d)). subst (IsFair fair.program fair.weight fair.trace fair.budget log) t.1 (record {
-            run = λ _. subst (λ (v : PassView). (v.program ≡ fair.program) × (v.weight ≡ fair.weight) × (v.trace ≡ fair.trace) × (v.budget ≡ fair.budget))
+          (λ (t : (j ≡ id) × (w ≡ d)). subst (IsFair fair.program fair.options fair.budget log) t.1 (record {
+            run = λ _. subst (λ (v : PassView). (v.program ≡ fair.program) × (v.options ≡ fair.options) × (v.budget ≡ fair.budget))
                 (sym client) (mine.run voiced);
             own = λ n has. refl;
           }))
@@ -169,7 +167,7 @@ pub may_give : (id p q : ℕ) (k : Knower) (puts : List (ℕ × ℕ)) (before va
     → MayWrite HallRule after_item id k puts before value (Made q)
 may_give id p q k puts before value follows passes words fair at stand =
     let voiced = one_number p [] k follows.number in
-    let start : Logged = begins fair.program fair.weight fair.trace fair.budget in
+    let start : Logged = begins fair.program fair.options fair.budget in
     let here = same_hall k.seen before passes fair id k at voiced k.seen in
     let w : Knower = having_written after_item (Made q) k in
     let log : List Item = k.seen ++ Made q ∷ [] in
@@ -182,14 +180,13 @@ may_give id p q k puts before value follows passes words fair at stand =
     let more : (n : ℕ) → has_number n w ≡ has_number n k + cond (q == n) 1 0 = λ n.
     sum_by_push (λ x. cond (x == n) 1 0) k.client.numbers q in record {
       program = fair.program;
-      weight = fair.weight;
-      trace = fair.trace;
+      options = fair.options;
       budget = fair.budget;
       heavy = fair.heavy;
       shows = follows.logged ∙ (ap (λ l. after l (Made q)) here ∙ sym (hall_append start k.seen (Made q ∷ [])));
       legal = legal_snoc start k.seen (Made q) fair.legal (subst (λ (l : Logged). MayFollow l (Made q)) here follows.may);
       each = λ j d there. ⊎_elim
-          (λ (t : (j ≡ id) × (w ≡ d)). subst (IsFair fair.program fair.weight fair.trace fair.budget log) t.1
+          (λ (t : (j ≡ id) × (w ≡ d)). subst (IsFair fair.program fair.options fair.budget log) t.1
           (record { run = λ _. mine.run voiced; own = λ n has. refl }))
           (λ (t : (j ≢ id) × (get_elem? passes j ≡ some d)). let theirs = fair.each j d t.1 in record {
             run = theirs.run;

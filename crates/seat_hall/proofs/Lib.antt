@@ -15,6 +15,7 @@ pub mod Apart
 pub mod Keeps
 pub mod Parting
 pub mod Turns
+pub mod Boards
 pub mod Unmade
 pub mod Commits
 pub mod Items

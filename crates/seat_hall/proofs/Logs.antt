@@ -1,6 +1,6 @@
 -- Logs, cut and put together.
 use Rattle.std.proofs.Common.{◌≡◌, ℕ, ◌≤◌, List, [], ◌∷◌, ◌++◌, refl, ◌∙◌, arith}
-use Rattle.orca_names.specs.declared.trace.Trace.{Trace}
+use Rattle.orca_names.specs.declared.options.Options.{Options}
 use Rattle.behaviour_code.specs.declared.code.Program.{Program}
 use Rattle.seat_hall.specs.declared.item.Item.{Item}
 use Rattle.seat_hall.specs.declared.item.Item.TheVariants.{Claimed, Entered, Ended, Stopped, Made}
@@ -18,38 +18,36 @@ pub legal_rest : (l : Logged) (xs ys : List Item) → Legal l (xs ++ ys) → Leg
 legal_rest l [] ys legal = legal
 legal_rest l (x ∷ xs) ys legal = legal_rest (after l x) xs ys legal.1
 
--- ---- program, weight, tracing and budget stay
+-- ---- program, options and budget stay
 
-pub record HasTerms (program : Program) (weight : ℕ) (trace : Trace) (budget : ℕ) (l : Logged) : Type 0 where
+pub record HasTerms (program : Program) (options : Options) (budget : ℕ) (l : Logged) : Type 0 where
   pub program_is : l.program ≡ program
-  pub weight_is : l.weight ≡ weight
-  pub trace_is : l.trace ≡ trace
+  pub options_is : l.options ≡ options
   pub budget_is : l.budget ≡ budget
 
-module _ (program : Program) (weight : ℕ) (trace : Trace) (budget : ℕ) where
+module _ (program : Program) (options : Options) (budget : ℕ) where
   abbrev Has : Logged → Type 0
-  Has l = HasTerms program weight trace budget l
+  Has l = HasTerms program options budget l
 
-  stays : (l m : Logged) → m.program ≡ l.program → m.weight ≡ l.weight → m.trace ≡ l.trace → m.budget ≡ l.budget → Has l → Has m
-  stays l m p w t b has = record {
+  stays : (l m : Logged) → m.program ≡ l.program → m.options ≡ l.options → m.budget ≡ l.budget → Has l → Has m
+  stays l m p o b has = record {
     program_is = p ∙ has.program_is;
-    weight_is = w ∙ has.weight_is;
-    trace_is = t ∙ has.trace_is;
+    options_is = o ∙ has.options_is;
     budget_is = b ∙ has.budget_is;
   }
 
   terms_one : (l : Logged) (i : Item) → Has l → Has (after l i)
-  terms_one l (Claimed pass actor) = stays l _ refl refl refl refl
-  terms_one l i = stays l _ refl refl refl refl
+  terms_one l (Claimed pass actor) = stays l _ refl refl refl
+  terms_one l i = stays l _ refl refl refl
 
   terms_stay : (l : Logged) (log : List Item) → Has l → Has (hall_from l log)
   terms_stay l [] has = has
   terms_stay l (i ∷ log) has = terms_stay (after l i) log (terms_one l i has)
 
   -- so the hall of each log has those that it began with
-  pub terms_of : (log : List Item) → Has (hall_from (begins program weight trace budget) log)
-  terms_of log = terms_stay (begins program weight trace budget) log
-      (record { program_is = refl; weight_is = refl; trace_is = refl; budget_is = refl })
+  pub terms_of : (log : List Item) → Has (hall_from (begins program options budget) log)
+  terms_of log = terms_stay (begins program options budget) log
+      (record { program_is = refl; options_is = refl; budget_is = refl })
 
 -- ---- numbers
 

@@ -49,21 +49,20 @@ module _ (id p q : ℕ) (k : Knower) (two : k.client.numbers ≡ p ∷ q ∷ [])
       let mine = fair.each id k at in
       let c = ap (λ (ns : List ℕ). length ns) two in record {
         program = fair.program;
-        weight = fair.weight;
-        trace = fair.trace;
+        options = fair.options;
         budget = fair.budget;
         heavy = fair.heavy;
         shows = fair.shows;
         legal = fair.legal;
         each = λ j d there. ⊎_elim
             (λ (x : get_elem? (set passes id left) j ≡ some d). ⊎_elim
-            (λ (t : (j ≡ id) × (left ≡ d)). subst (IsFair fair.program fair.weight fair.trace fair.budget log) t.1 (record {
+            (λ (t : (j ≡ id) × (left ≡ d)). subst (IsFair fair.program fair.options fair.budget log) t.1 (record {
               run = λ _. mine.run (omega arith);
               own = λ n has. mine.own n (let s = shared n in omega arith);
             }))
             (λ (t : (j ≢ id) × (get_elem? passes j ≡ some d)). fair.each j d t.1)
             (at_set passes id j left d x))
-            (λ (x : right ≡ d). subst (IsFair fair.program fair.weight fair.trace fair.budget log) x (record {
+            (λ (x : right ≡ d). subst (IsFair fair.program fair.options fair.budget log) x (record {
               run = λ _. mine.run (omega arith);
               own = λ n has. mine.own n (let s = shared n in omega arith);
             }))
@@ -92,14 +91,13 @@ may_join id k other w log hall passes words fair at apart there saw saw' =
     let first = with_pass log hall passes fair id k both at refl (record { run = mine.run; own = mine.own }) in
     let here = at_other passes id other w both apart there in record {
       program = first.program;
-      weight = first.weight;
-      trace = first.trace;
+      options = first.options;
       budget = first.budget;
       heavy = first.heavy;
       shows = first.shows;
       legal = first.legal;
       each = λ j d at_j. ⊎_elim
-          (λ (t : (j ≡ other) × (spent ≡ d)). subst (IsFair first.program first.weight first.trace first.budget log) t.1 (record {
+          (λ (t : (j ≡ other) × (spent ≡ d)). subst (IsFair first.program first.options first.budget log) t.1 (record {
             run = λ some_number. absurd (omega arith);
             own = λ n has. absurd (none n has);
           }))

@@ -10,7 +10,7 @@ use Rattle.seat_hall.specs.Log.{Logged}
 use Rattle.seat_hall.specs.Plain.{DeepIsPlain, IsAsPlain, plain}
 
 abbrev deep : Logged → Logged
-deep l = record l { trace = Deep }
+deep l = record l { options = record l.options { trace = Deep } }
 
 tells : (l : Logged) (answer : Look) → Tells answer (deep l) → TellsWork (plain (deep l)) answer
 tells l Stop is = is
@@ -33,4 +33,5 @@ as_plain l = record {
 }
 
 pub deep_is_plain : DeepIsPlain
-deep_is_plain l is = subst (λ (t : Trace). IsAsPlain (record l { trace = t })) (sym is) (as_plain l)
+deep_is_plain l is =
+    subst (λ (t : Trace). IsAsPlain (record l { options = record l.options { trace = t } })) (sym is) (as_plain l)

@@ -3,7 +3,7 @@ use Rattle.std.proofs.Common.{◌≡◌, ℕ, ◌+◌, ◌≤◌, ◌==◌, Bool
 use Rattle.std.specs.Prelude.{if◌then◌else◌}
 use Rattle.std.specs.Option.{option_map}
 use Rattle.std.proofs.lemmas.Bool.Decides.{nat_tests}
-use Rattle.orca_names.specs.declared.trace.Trace.{Trace}
+use Rattle.orca_names.specs.declared.options.Options.{Options}
 use Rattle.behaviour_code.specs.declared.code.Program.{Program}
 use Rattle.event_rule.specs.Events.{actor_of}
 use Rattle.event_rule.specs.Runs.{Goes, IsFull, NotEnabled, Step}
@@ -12,7 +12,6 @@ use Rattle.machine_rules.proofs.Enabling.{full_exactly}
 use Rattle.machine_rules.specs.Next.{next}
 use Rattle.machine_rules.specs.Run.{IsRun}
 use Rattle.machine_rules.specs.State.{State, first_state}
-use Rattle.orca_parts.specs.Parts.{options_of}
 use Rattle.orca_core.proofs.Reached.{leads_more}
 use Rattle.work_board.specs.declared.answers.Refuse.TheVariants as why
 use Rattle.hall_rules.specs.Causes.{actor_cause, full_cause, spent_cause, unready_cause}
@@ -31,7 +30,7 @@ pub record CanEnter (l : Logged) (e : Event) : Type 0 where
   pub room : length l.book + 1 ≤ l.budget
 
 abbrev pub IsRunOf : Logged → Type 0
-IsRunOf l = IsRun l.program (options_of l.weight l.trace) l.book (state_in l) × (length l.book ≤ l.budget)
+IsRunOf l = IsRun l.program l.options l.book (state_in l) × (length l.book ≤ l.budget)
 
 pub can_enter : (l : Logged) (asker : Option ℕ) (e : Event) → length l.book ≤ l.budget
     → entry_cause l asker e ≡ None → CanEnter l e
@@ -61,10 +60,10 @@ pub run_one : (l : Logged) (i : Item) → IsRunOf l → MayFollow l i → IsRunO
 run_one l (Claimed pass actor) run may = run
 run_one l (Entered pass event) run may =
     let can = can_enter l (Some pass) event run.1 may.1 in
-    let start : State = first_state l.program (options_of l.weight l.trace) in
+    let start : State = first_state l.program l.options in
     let more = leads_more l.book start (state_in l) can.after_it event run.0 can.goes in
     let room = can.room in let long = length-append l.book (event ∷ []) in (
-      subst (IsRun l.program (options_of l.weight l.trace) (l.book ++ event ∷ []))
+      subst (IsRun l.program l.options (l.book ++ event ∷ []))
           (leads_after (l.book ++ event ∷ []) start can.after_it more) more,
       omega arith,
     )
@@ -77,9 +76,9 @@ runs l [] run legal = run
 runs l (i ∷ log) run legal = runs (after l i) log (run_one l i run legal.0) legal.1
 
 pub books_run : BooksAreRuns
-books_run program weight budget trace log legal =
-    let start : Logged = begins program weight trace budget in
+books_run program options budget log legal =
+    let start : Logged = begins program options budget in
     let last : Logged = hall_from start log in
-    let terms = terms_of program weight trace budget log in
-    subst (λ (x : Program × ℕ × Trace × ℕ). IsRun x.0 (options_of x.1 x.2) last.book (state_in last) × (length last.book ≤ x.3))
-    (λ i. (terms.program_is i, terms.weight_is i, terms.trace_is i, terms.budget_is i)) (runs start log (refl, omega arith) legal)
+    let terms = terms_of program options budget log in
+    subst (λ (x : Program × Options × ℕ). IsRun x.0 x.1 last.book (state_in last) × (length last.book ≤ x.2))
+    (λ i. (terms.program_is i, terms.options_is i, terms.budget_is i)) (runs start log (refl, omega arith) legal)

@@ -9,12 +9,20 @@ use Rattle.seat_hall.specs.contracts.board.SeatPass as SeatPass
 use Rattle.seat_hall.specs.contracts.hall.Hall as Hall
 use Rattle.seat_hall.specs.contracts.hall.Hall.TheInside as inside
 use Rattle.seat_hall.specs.contracts.item.Item as Item
+use Rattle.seat_hall.specs.contracts.rooms.CellRoom as CellRoom
+use Rattle.seat_hall.specs.contracts.rooms.Rooms as Rooms
 
 item_send : IsSend (Item.the_field).row
 item_send = search (sendable, crosses) depth 100 fits 100000
 
+room_send : IsSend CellRoom.the_row
+room_send = search (sendable, crosses) depth 100 fits 100000
+
+rooms_send : IsSend Rooms.the_row
+rooms_send = search (sendable, crosses, room_send) depth 100 fits 100000
+
 fields_send : (l : _) → IsSend (inside.the_field l).row
-fields_send l = struct_send (shape (inside.the_type l)) (search (shr_send, checked_sync) depth 20, (search sendable, (orca_send l, (book_send, (search (sendable, crosses) depth 40, (search sendable, (search sendable, (search sendable, (item_send, tt)))))))))
+fields_send l = struct_send (shape (inside.the_type l)) (search (shr_send, checked_sync) depth 20, (search sendable, (orca_send l, (book_send, (search (sendable, crosses) depth 40, (rooms_send, (search sendable, (search sendable, (item_send, tt)))))))))
 
 hall_send : (l : _) → IsSend (Hall.the_row l)
 hall_send l = search (view_send, recorded_send, fields_send) depth 20

@@ -3,18 +3,21 @@ use Rattle.std.proofs.Common.{◌≡◌, ◌≢◌, ◌<◌, ℕ, List, [], ◌�
 use Rattle.std.specs.Prelude.{if◌then◌else◌, slice_get}
 use Rattle.std.proofs.lemmas.Bool.Decides.{nat_tests}
 use Rattle.std.proofs.lemmas.List.Elements.{filter-append}
+use Rattle.atomic_table.specs.Seated.{TableId}
 use Rattle.turn_log.specs.Knowing.{at_turn, having_written}
 use Rattle.turn_log.specs.Seats.{knows}
 use Rattle.turn_log.specs.Told.{Learns}
+use Rattle.orca_names.specs.declared.options.Options.{Options}
 use Rattle.event_rule.specs.declared.event.Event.{Event}
 use Rattle.actor_cell.specs.declared.cell.Cell.{Cell}
 use Rattle.seat_hall.specs.declared.item.Item.{Item}
 use Rattle.seat_hall.specs.declared.item.Item.TheVariants.{Entered}
-use Rattle.seat_hall.specs.Fair.{Follows, IsOwn, Shown, after_item, hall_of, start_of}
+use Rattle.seat_hall.specs.declared.task.SeatTask.{SeatTask}
+use Rattle.seat_hall.specs.Fair.{IsOwn, MayLeave, Shown, after_item, hall_of, start_of}
 use Rattle.seat_hall.specs.Halls.{HallView, says}
 use Rattle.seat_hall.specs.Log.{Legal, Logged, MayFollow, after, by, hall_from, items_by}
-use Rattle.seat_hall.specs.Passes.{Calls, HasItsCell, HasIn, IsAtHall, KeepsCells, StandsAt, Token, hall, is_of, out, seen}
-use Rattle.seat_hall.proofs.Apart.{legal_first, none_between, weight_of}
+use Rattle.seat_hall.specs.Passes.{Calls, GetsTurn, HasItsCell, HasIn, IsAtHall, IsClaimOf, KeepsCells, MayCommit, PassesOn, StandsAt, Stays, StaysWhole, Token, hall, is_of, out, seen}
+use Rattle.seat_hall.proofs.Apart.{legal_first, none_between, options_after}
 use Rattle.seat_hall.proofs.Keeps.{has_first, one_number, own_client, own_is}
 use Rattle.seat_hall.proofs.Counts.{out_all}
 use Rattle.seat_hall.proofs.Entries.{get_last}
@@ -61,7 +64,8 @@ module _ (pass : ℕ) (old mid new : Token) (h : HallView) (at : IsAtHall pass o
       let rest : List Item = at.whole.between in
       let legal : Legal start (seen old ++ rest) = subst (Legal start) at.whole.saw at.whole.legal in
       let run : IsRunOf here = runs start (seen old) (refl, omega arith) (legal_first start (seen old) rest legal) in
-      let heavy : 0 < here.weight = subst (λ (w : ℕ). 0 < w) (sym (weight_of (knows old).client (seen old))) at.heavy in
+      let heavy : 0 < here.options.weight =
+      subst (λ (o : Options). 0 < o.weight) (sym (options_after (knows old).client (seen old))) at.heavy in
       let kept = keeps_all pass a here rest heavy run (legal_rest start (seen old) rest legal) at.whole.others has.claimed has.busy in
       let same : hall_from here rest ≡ hall old (seen mid) =
       sym (hall_append start (seen old) rest) ∙ ap (hall_from start) (sym at.whole.saw) in
@@ -88,37 +92,41 @@ module _ (pass : ℕ) (old mid new : Token) (h : HallView) (at : IsAtHall pass o
   run_now = subst IsRunOf (sym at.shows)
       (runs (start_of (knows old).client) (seen mid) (refl, omega arith) at.whole.legal)
 
-  heavy_now : 0 < h.logged.weight
-  heavy_now = subst (λ (w : ℕ). 0 < w)
-      (sym (ap (λ (l : Logged). l.weight) at.shows ∙ weight_of (knows old).client (seen mid))) at.heavy
+  heavy_now : 0 < h.logged.options.weight
+  heavy_now = subst (λ (o : Options). 0 < o.weight)
+      (sym (ap (λ (l : Logged). l.options) at.shows ∙ options_after (knows old).client (seen mid))) at.heavy
 
   -- and of the pass's run
-  terms_now : HasTerms (knows old).client.program (knows old).client.weight (knows old).client.trace (knows old).client.budget h.logged
+  terms_now : HasTerms (knows old).client.program (knows old).client.options (knows old).client.budget h.logged
   terms_now =
       let v = (knows old).client in
-      subst (HasTerms v.program v.weight v.trace v.budget) (sym at.shows) (terms_of v.program v.weight v.trace v.budget (seen mid))
+      subst (HasTerms v.program v.options v.budget) (sym at.shows) (terms_of v.program v.options v.budget (seen mid))
 
-  pub program_now : h.logged.program ≡ (knows old).client.program
-  program_now = terms_now.program_is
-
-  pub weight_now : h.logged.weight ≡ (knows old).client.weight
-  weight_now = terms_now.weight_is
-
-  pub trace_now : h.logged.trace ≡ (knows old).client.trace
-  trace_now = terms_now.trace_is
+  -- so the claims of the pass are of this run
+  pub claim_now : (task : SeatTask) → MayCommit pass old task → IsClaimOf pass task.taken h.logged
+  claim_now task may =
+      let v = (knows old).client in
+      let before = terms_of v.program v.options v.budget (seen old) in record {
+        has = has_now task.taken.cell.heap.owner task.taken.cell may.has;
+        program = may.program ∙ (before.program_is ∙ sym terms_now.program_is);
+        options = may.options ∙ (before.options_is ∙ sym terms_now.options_is);
+      }
 
   -- what the pass reckons at its turn is the hall
   pub reckons : h.logged ≡ hall_of (knows mid).client (knows mid).seen
   reckons = at.shows ∙ ap (λ v. hall_of v (seen mid)) (sym client_still)
 
-  -- the hall that a call leaves may follow
-  pub follows : (i : Item) (g : HallView) → MayFollow h.logged i → g ≡ says (after h.logged i) i
-      → Follows pass g.last (knows mid) g
-  follows i g may is = subst (λ (g : HallView). Follows pass g.last (knows mid) g) (sym is) (record {
-    number = at.number;
-    last = refl;
-    may = subst (λ (l : Logged). MayFollow l i) reckons may;
-    logged = ap (λ (l : Logged). after l i) reckons;
+  -- a call may leave the hall that follows by its item
+  pub may_leave : (i : Item) → IsOwn pass i → (g : HallView) → MayFollow h.logged i → g ≡ says (after h.logged i) i
+      → MayLeave pass (knows mid) g
+  may_leave i own g may is = subst (MayLeave pass (knows mid)) (sym is) (record {
+    own = own;
+    follows = record {
+      number = at.number;
+      last = refl;
+      may = subst (λ (l : Logged). MayFollow l i) reckons may;
+      logged = ap (λ (l : Logged). after l i) reckons;
+    };
   })
 
   -- where the call wrote nothing
@@ -191,3 +199,33 @@ module _ (pass : ℕ) (old mid new : Token) (h : HallView) (at : IsAtHall pass o
   wrote_stands e wrote place is =
       ap (λ (l : Logged). slice_get l.book place) (sym (hall_then (Entered pass e) refl wrote))
       ∙ (ap (slice_get (h.logged.book ++ e ∷ [])) is ∙ get_last h.logged.book e)
+
+-- ---- the whole call, which passes the turn on
+
+module _ (table : TableId) (pass : ℕ) (old mid new : Token) (h : HallView) (turn : GetsTurn table pass old mid h) where
+  -- where it wrote nothing
+  pub read_whole : PassesOn pass mid new (knows mid) → StaysWhole pass 1 old new
+  read_whole passed = record {
+    stays = record {
+      same = (passed.same.0 ∙ turn.same.0, passed.same.1 ∙ turn.same.1);
+      pass_is = passed.pass_is;
+      client = ap (λ k. k.client) passed.knew ∙ turn.at.client;
+      turns_had = ap (λ k. k.turns) passed.knew ∙ turn.turns;
+    };
+    cells = read_cells pass old mid new h turn.at passed.knew;
+    out_is = read_out pass old mid new h turn.at passed.knew;
+  }
+
+  -- where it left the hall that follows by an item of its own
+  module _ (i : Item) (own : IsOwn pass i) (g : HallView) (is : g ≡ says (after h.logged i) i)
+      (passed : PassesOn pass mid new (having_written after_item g.last (knows mid))) where
+    pub wrote : knows new ≡ having_written after_item i (knows mid)
+    wrote = passed.knew ∙ ap (λ (v : HallView). having_written after_item v.last (knows mid)) is
+
+    pub wrote_stays : Stays pass 1 old new
+    wrote_stays = record {
+      same = (passed.same.0 ∙ turn.same.0, passed.same.1 ∙ turn.same.1);
+      pass_is = passed.pass_is;
+      client = client_then pass old mid new h turn.at i own wrote;
+      turns_had = turns_then pass old mid new h turn.at i own wrote turn.turns;
+    }

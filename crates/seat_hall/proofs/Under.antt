@@ -1,15 +1,16 @@
 -- A pass at its turn, between two of its items.
-use Rattle.std.proofs.Common.{◌≡◌, ℕ, ◌<◌, ◌≤◌, List, [], ◌∷◌, Option, Some, refl, sym, ap, ◌∙◌, subst, arith, append-nil}
+use Rattle.std.proofs.Common.{◌≡◌, ℕ, ◌<◌, ◌≤◌, List, [], ◌∷◌, Option, None, Some, refl, sym, ap, ◌∙◌, subst, arith, append-nil}
 use mathlib.Core.List.{IsPrefix}
+use Rattle.atomic_table.specs.Seated.{TableId}
 use Rattle.turn_log.specs.Knowing.{having_written}
-use Rattle.turn_log.specs.Seats.{Has, knows}
+use Rattle.turn_log.specs.Seats.{Has, IsSame, knows}
 use Rattle.seat_hall.specs.declared.item.Item.{Item}
 use Rattle.seat_hall.specs.declared.item.PassView.{PassView}
 use Rattle.seat_hall.specs.Advances.{IsUnder, Reckons}
 use Rattle.seat_hall.specs.Fair.{IsOwn, Knower, after_item, start_of}
 use Rattle.seat_hall.specs.Halls.{HallView, says}
 use Rattle.seat_hall.specs.Log.{Legal, Logged, MayFollow, after}
-use Rattle.seat_hall.specs.Passes.{IsAtHall, Token, seen}
+use Rattle.seat_hall.specs.Passes.{Holds, IsAtHall, Token, seen}
 use Rattle.seat_hall.proofs.Logs.{legal_snoc, made_one}
 use Rattle.seat_hall.proofs.Turns.{client_still, client_then, hall_then, seen_then}
 
@@ -51,13 +52,21 @@ reckons_then n old mid new h at i own wrote g may is =
           (λ j. (sym client j, sym (seen_then n old mid new h at i own wrote) j))
           (legal_snoc start (seen mid) i at.whole.legal (subst (λ (l : Logged). MayFollow l i) at.shows may));
       shows = ap (λ (v : HallView). v.logged) is ∙ hall_then n old mid new h at i own wrote;
-      heavy = subst (λ (v : PassView). 0 < v.weight) (sym client) at.heavy;
+      heavy = subst (λ (v : PassView). 0 < v.options.weight) (sym client) at.heavy;
       given = subst (λ (v : HallView). n ≤ v.logged.made) (sym is)
           (let made = (made_one h.logged i may).0 in let had = at.given in omega arith);
     }
 
--- the hall is taken out of the slot again
-pub taken_out : (n : ℕ) (s t : Token) (h : HallView) (u : IsUnder n s) → Has (Some h) s → t.me.0 ≡ s.me.0
+-- the hall is taken out of the slot again: the pass holds it, and reckons as it did
+pub holds_then : (table : TableId) (n : ℕ) (s t : Token) (u : IsUnder table n s) → IsSame s t × (t.me.0 ≡ s.me.0)
+    → Has None t → Holds table u.lying t
+holds_then table n s t u same empty = record {
+  own = same.0.0 ∙ u.own;
+  turn = (u.turn.0, ap (λ v. v.stage) same.1 ∙ u.turn.1);
+  empty = empty;
+}
+
+pub taken_out : (table : TableId) (n : ℕ) (s t : Token) (h : HallView) (u : IsUnder table n s) → Has (Some h) s → t.me.0 ≡ s.me.0
     → Reckons n (knows t) h
-taken_out n s t h u lies same = subst (λ (x : Knower × HallView). Reckons n x.0 x.1)
+taken_out table n s t h u lies same = subst (λ (x : Knower × HallView). Reckons n x.0 x.1)
     (λ i. (ap (λ v. v.known) (sym same) i, lies_once s u.lying h u.lies lies i)) u.reckons

@@ -1,9 +1,10 @@
 -- A call that goes on with its actor under the same turn.
 use Rattle.std.specs.Prelude.{ℕ, ◌≡◌, ◌<◌, ◌≤◌, Bool, true, false, List, [], ◌∷◌, ◌++◌, length, Option, Some, None, IfSome}
+use Rattle.atomic_table.specs.Seated.{TableId}
 use Rattle.event_rule.specs.declared.event.Event.{Event}
 use Rattle.event_rule.specs.declared.event.Event.TheVariants.{Take}
 use Rattle.turn_log.specs.Knowing.{having_written}
-use Rattle.turn_log.specs.Seats.{Has, IsAtTurn, knows}
+use Rattle.turn_log.specs.Seats.{Has, IsAtTurn, IsSame, knows}
 use Rattle.work_board.specs.declared.answers.Committed.{Committed}
 use Rattle.work_board.specs.declared.answers.Refuse.{Refuse}
 use Rattle.seat_hall.specs.declared.item.Item.{Item}
@@ -13,7 +14,7 @@ use Rattle.seat_hall.specs.Answers.{Enters, Grants, NoAct, RefusesEntry, is_act}
 use Rattle.seat_hall.specs.Fair.{Knower, after_item, hall_of, start_of}
 use Rattle.seat_hall.specs.Halls.{HallView}
 use Rattle.seat_hall.specs.Log.{Legal, Logged, after, hall_from}
-use Rattle.seat_hall.specs.Passes.{Calls, Token}
+use Rattle.seat_hall.specs.Passes.{Calls, IsPass, MayCommit, StandsAt, Token, out}
 
 -- ---- what the whole call does
 
@@ -44,12 +45,20 @@ pub record GoesOn (pass a : ℕ) (e : Event) (done : Committed) (took : Bool) (n
   pub takes : Takes pass a took (after l (Entered pass e))
   pub claims : Claims a next (hall_from (after l (Entered pass e)) (taking pass a took))
 
--- a call that made the event an entry and went on with the actor
+-- a call that made the event an entry, at the place that was told, and went on with the actor
 pub record Advances (pass a : ℕ) (e : Event) (done : Committed) (next : Option SeatTask) (old new : Token)
     : Type 0 where
   pub took : Bool
   pub calls : Calls pass old new (Entered pass e ∷ taking pass a took ++ claiming pass a next)
       (GoesOn pass a e done took next)
+  pub stands : StandsAt new done.place e
+
+-- the pass has a claim on the actor in place of the one committed; nothing was found of it yet
+pub record IsNext (pass a : ℕ) (old new : Token) (task : SeatTask) : Type 0 where
+  pub owner : task.taken.cell.heap.owner ≡ a
+  pub may : MayCommit pass new task
+  pub fresh : task.tried ≡ false
+  pub out_is : out pass new ≡ out pass old
 
 -- ---- a pass at its turn, between two of its items
 
@@ -63,11 +72,12 @@ pub record Reckons (pass : ℕ) (k : Knower) (h : HallView) : Type 0 where
   pub heard : k.heard ≡ k.seen
   pub legal : Legal (start_of k.client) k.seen
   pub shows : h.logged ≡ hall_by k
-  pub heavy : 0 < k.client.weight
+  pub heavy : 0 < k.client.options.weight
   pub given : pass ≤ h.logged.made
 
--- it has the turn, and the hall lies in its slot
-pub record IsUnder (pass : ℕ) (t : Token) : Type 0 where
+-- it is a token of this table, whose pass has the turn, and the hall lies in its slot
+pub record IsUnder (table : TableId) (pass : ℕ) (t : Token) : Type 0 where
+  pub own : t.table_id ≡ table
   pub lying : HallView
   pub turn : IsAtTurn lying t
   pub lies : Has (Some lying) t
@@ -81,6 +91,12 @@ having_taken pass a false k = k
 abbrev pub Took : ℕ → ℕ → Bool → Knower → Knower → Type 0
 Took pass a took k w = Takes pass a took (hall_by k) × (w ≡ having_taken pass a took k)
 
+-- the turn stays
+pub record TakesOn (table : TableId) (pass a : ℕ) (took : Bool) (old new : Token) : Type 0 where
+  pub same : IsSame old new
+  pub under : IsUnder table pass new
+  pub took_is : Took pass a took (knows old) (knows new)
+
 -- it wrote that it has the actor's claim, or nothing
 abbrev pub having_claimed : ℕ → ℕ → Option SeatTask → Knower → Knower
 having_claimed pass a (Some task) k = having_written after_item (Claimed pass a) k
@@ -89,4 +105,11 @@ having_claimed pass a None k = k
 pub record ClaimedOn (pass a : ℕ) (next : Option SeatTask) (k w : Knower) : Type 0 where
   pub claims : Claims a next (hall_by k)
   pub within : IfSome next (λ task. a < length (hall_by k).claims)
+  pub fresh : IfSome next (λ task. task.tried ≡ false)
   pub wrote : w ≡ having_claimed pass a next k
+
+-- the turn is passed on
+pub record ClaimsOn (pass a : ℕ) (next : Option SeatTask) (old new : Token) : Type 0 where
+  pub same : IsSame old new
+  pub pass_is : IsPass pass new
+  pub claimed : ClaimedOn pass a next (knows old) (knows new)

@@ -1,6 +1,6 @@
 -- What a call answers in the hall before its item.
 use Rattle.std.specs.Prelude.{ℕ, ◌≡◌, ◌≢◌, ◌==◌, ◌+◌, ◌≤◌, ◌||◌, Bool, true, false, [], ◌∷◌, ◌++◌, length, Option, Some, None, IfSome}
-use Rattle.orca_names.specs.declared.trace.Trace.{Trace}
+use Rattle.orca_names.specs.declared.options.Options.{Options}
 use Rattle.behaviour_code.specs.declared.code.Program.{Program}
 use Rattle.event_rule.specs.Events.{actor_of, is_of_detector}
 use Rattle.event_rule.specs.Runs.{Goes, IsFirst, IsQuiet}
@@ -54,8 +54,7 @@ Tells Rest l = (is_over l ≡ false) × NothingIsFree l × (claims_in l ≡ [])
 -- in this run: the actor's first event, its cell, and the length of the book
 pub record IsTaken (a : ℕ) (taken : Taken) (l : Logged) : Type 0 where
   pub program : taken.code.now ≡ l.program
-  pub weight : taken.weight ≡ l.weight
-  pub trace : taken.trace ≡ l.trace
+  pub options : taken.options ≡ l.options
   pub event : event_at (state_in l) a ≡ Some taken.event
   pub cell : cell_at (state_in l).actors a ≡ Some (as_cell taken.cell)
   pub owner : taken.cell.heap.owner ≡ a
@@ -100,12 +99,12 @@ abbrev pub RefusesEntry : Option ℕ → Event → Refuse → Logged → Type 0
 RefusesEntry asker e refuse l = IsRefusal (entry_cause l asker e) refuse
 
 -- this was found of the cell of the event's actor
-pub record IsFoundOf (trace : Trace) (weight : ℕ) (program : Program) (actors : Actors) (e : Event)
+pub record IsFoundOf (options : Options) (program : Program) (actors : Actors) (e : Event)
     (found : Found) : Type 0 where
   pub cell : Cell
   pub its : actor_of e ≡ Some cell.heap.owner
   pub there : cell_at actors cell.heap.owner ≡ Some (as_cell cell)
-  pub is : IsFound trace weight program cell found
+  pub is : IsFound options program cell found
 
 -- a pass is split off, with this number
 abbrev pub GivesNumber : ℕ → Logged → Type 0

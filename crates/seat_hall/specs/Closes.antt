@@ -4,7 +4,6 @@ use mathlib.Core.List.{IsPrefix}
 use Rattle.run_book.specs.Books.{BookValue}
 use Rattle.orca_core.specs.Laws.{IsRunOf}
 use Rattle.orca_core.specs.Machine.{Machine, NoneIsAway}
-use Rattle.orca_parts.specs.Parts.{options_of}
 use Rattle.turn_log.specs.Ends.{IsStillOpen}
 use Rattle.turn_log.specs.Seats.{knows}
 use Rattle.seat_hall.specs.declared.closing.Closing.{Closing}
@@ -29,10 +28,10 @@ pub record AreParts (l : Logged) (orca : Machine) (book : BookValue) : Type 0 wh
   pub run : IsRunOf orca book.entries
   pub home : NoneIsAway orca
   pub program : orca.state.program ≡ l.program
-  pub options : orca.state.options ≡ options_of l.weight l.trace
+  pub options : orca.state.options ≡ l.options
   pub entries : book.entries ≡ l.book
-  pub weight : book.weight ≡ l.weight
-  pub trace : book.trace ≡ l.trace
+  pub weight : book.weight ≡ l.options.weight
+  pub trace : book.trace ≡ l.options.trace
   pub within : length book.entries ≤ l.budget
 
 -- the last hall's parts, where no claim is out; it is of the pass's run
@@ -42,8 +41,7 @@ pub record IsWhole (t : Token) (orca : Machine) (book : BookValue) : Type 0 wher
   pub none : listed 0 last.claims ≡ []
   pub parts : AreParts last orca book
   pub program : last.program ≡ (knows t).client.program
-  pub weight : last.weight ≡ (knows t).client.weight
-  pub trace : last.trace ≡ (knows t).client.trace
+  pub options : last.options ≡ (knows t).client.options
   pub budget : last.budget ≡ (knows t).client.budget
 
 -- the pass `holder` has the lowest actor on which a claim is out

@@ -2,7 +2,7 @@
 use Rattle.std.specs.Prelude.{ℕ, ◌≡◌, ◌==◌, ◌+◌, ◌<◌, ◌≤◌, min, List, [], ◌∷◌, ◌++◌, count_by, drop, length, sum_by, take}
 use mathlib.Core.Option.{some}
 use lib.ListN.{get_elem?}
-use Rattle.orca_names.specs.declared.trace.Trace.{Trace}
+use Rattle.orca_names.specs.declared.options.Options.{Options}
 use Rattle.orca_names.specs.declared.trace.Trace.TheVariants.{Deep}
 use Rattle.behaviour_code.specs.declared.code.Program.{Program}
 use Rattle.turn_log.specs.declared.rule.Known.{Known}
@@ -18,11 +18,10 @@ Knower = Known Item PassView
 
 -- ---- what a pass knows beside the log
 
-abbrev pub first_view : Program → ℕ → Trace → ℕ → PassView
-first_view program weight trace budget = record {
+abbrev pub first_view : Program → Options → ℕ → PassView
+first_view program options budget = record {
   program = program;
-  weight = weight;
-  trace = trace;
+  options = options;
   budget = budget;
   numbers = 0 ∷ [];
 }
@@ -31,15 +30,14 @@ first_view program weight trace budget = record {
 abbrev pub spent_view : PassView
 spent_view = record {
   program = record { kinds = []; names = [] };
-  weight = 0;
-  trace = Deep;
+  options = record { weight = 0; trace = Deep };
   budget = 0;
   numbers = [];
 }
 
 -- the hall of a log, as the pass reckons it
 abbrev pub start_of : PassView → Logged
-start_of v = begins v.program v.weight v.trace v.budget
+start_of v = begins v.program v.options v.budget
 
 abbrev pub hall_of : PassView → List Item → Logged
 hall_of v log = hall_from (start_of v) log
@@ -81,24 +79,22 @@ has_number n k = count_by (λ m. m == n) k.client.numbers
 -- ---- the rule
 
 -- a pass that has a number is of this run, and the log has no item by its numbers that it has not seen
-pub record IsFair (program : Program) (weight : ℕ) (trace : Trace) (budget : ℕ) (log : List Item)
+pub record IsFair (program : Program) (options : Options) (budget : ℕ) (log : List Item)
     (k : Knower) : Type 0 where
   pub run : 0 < numbers_of k →
-      (k.client.program ≡ program) × (k.client.weight ≡ weight) × (k.client.trace ≡ trace)
-      × (k.client.budget ≡ budget)
+      (k.client.program ≡ program) × (k.client.options ≡ options) × (k.client.budget ≡ budget)
   pub own : (n : ℕ) → 0 < has_number n k → items_by n log ≡ items_by n k.seen
 
 -- the hall under the turn is that of the log, each item of which may follow; numbers differ, and each
 -- but 0 is that of a pass that was split off
 pub record Fair (log : List Item) (hall : HallView) (passes : List Knower) : Type 0 where
   pub program : Program
-  pub weight : ℕ
-  pub trace : Trace
+  pub options : Options
   pub budget : ℕ
-  pub heavy : 0 < weight
-  pub shows : hall.logged ≡ hall_from (begins program weight trace budget) log
-  pub legal : Legal (begins program weight trace budget) log
-  pub each : (id : ℕ) (k : Knower) → get_elem? passes id ≡ some k → IsFair program weight trace budget log k
+  pub heavy : 0 < options.weight
+  pub shows : hall.logged ≡ hall_from (begins program options budget) log
+  pub legal : Legal (begins program options budget) log
+  pub each : (id : ℕ) (k : Knower) → get_elem? passes id ≡ some k → IsFair program options budget log k
   pub once : (n : ℕ) → sum_by (has_number n) passes ≤ 1
   pub given : (n : ℕ) → hall.logged.made < n → sum_by (has_number n) passes ≡ 0
   pub few : sum_by numbers_of passes ≤ hall.logged.made + 1
@@ -112,7 +108,7 @@ HallRule log hall passes words = Fair log hall passes
 pub record Shown (k : Knower) (log : List Item) (hall : HallView) : Type 0 where
   pub shows : 0 < numbers_of k → hall.logged ≡ hall_of k.client log
   pub legal : 0 < numbers_of k → Legal (start_of k.client) log
-  pub heavy : 0 < numbers_of k → 0 < k.client.weight
+  pub heavy : 0 < numbers_of k → 0 < k.client.options.weight
   pub own : (n : ℕ) → 0 < has_number n k → items_by n log ≡ items_by n k.seen
   pub given : (n : ℕ) → 0 < has_number n k → n ≤ hall.logged.made
 
@@ -132,3 +128,8 @@ pub record Follows (pass : ℕ) (i : Item) (k : Knower) (hall : HallView) : Type
   pub last : hall.last ≡ i
   pub may : MayFollow (hall_of k.client k.seen) i
   pub logged : hall.logged ≡ after (hall_of k.client k.seen) i
+
+-- a call of the pass may leave the hall: its last item is the call's own
+pub record MayLeave (pass : ℕ) (k : Knower) (hall : HallView) : Type 0 where
+  pub own : IsOwn pass hall.last
+  pub follows : Follows pass hall.last k hall

@@ -5,4 +5,4 @@ use Rattle.seat_hall.specs.declared.taken.Taken.{Taken}
 
 -- this is what the claim's cell would do
 abbrev pub IsFoundOn : Taken → Found → Type 0
-IsFoundOn taken found = IsFound taken.trace taken.weight taken.code.now taken.cell found
+IsFoundOn taken found = IsFound taken.options taken.code.now taken.cell found

@@ -1,17 +1,17 @@
 -- The hall as it lies under the turn, without the cells that are out.
-use Rattle.std.specs.Prelude.{ℕ, ◌≡◌, ◌≢◌, ◌≤◌, is_some, true, List, length, count_by, Option, Some, None}
+use Rattle.std.specs.Prelude.{ℕ, ◌≡◌, ◌≢◌, ◌+◌, ◌≤◌, is_some, true, List, length, count_by, Option, Some, None}
 use Rattle.orca_names.specs.declared.limits.TheConstants.{BOOK_LIMIT}
 use Rattle.behaviour_code.specs.declared.code.Program.{Program}
 use Rattle.machine_rules.specs.Run.{IsRun}
 use Rattle.machine_rules.specs.State.{State, first_state}
-use Rattle.run_book.specs.Books.{BookValue, IsWeight}
+use Rattle.run_book.specs.Books.{BookValue, IsWeight, options_of_book}
 use Rattle.orca_parts.specs.Away.{is_out}
 use Rattle.orca_core.specs.Machine.{Machine}
-use Rattle.orca_parts.specs.Parts.{options_of}
 use Rattle.hall_rules.specs.Causes.{event_at}
 use Rattle.hall_rules.specs.Halls.{state_after}
 use Rattle.seat_hall.specs.declared.item.Item.{Item}
 use Rattle.seat_hall.specs.Log.{Logged, claim_in}
+use Rattle.seat_hall.specs.Rooms.{RoomsView}
 
 -- a hall as its callers see it: with all its cells, and the item by which it came to be
 pub record HallView : Type 0 where
@@ -27,23 +27,24 @@ abbrev pub ClaimedAreBusy : State → List (Option ℕ) → Type 0
 ClaimedAreBusy s claims = (a pass : ℕ) → claim_in claims a ≡ Some pass → event_at s a ≢ None
 
 -- what the hall keeps: the book is a run, within the budget, that leads to the machine's state; the
--- cells that are away are those of the claims; each actor has a place for claims; and how many are out
+-- cells that are away are those of the claims; each actor has a place for claims; as many rooms are out as
+-- claims; and there is a room for each actor
 pub record HallKeeps (program : Program) (budget : ℕ) (orca : Machine) (book : BookValue)
-    (claims : List (Option ℕ)) (lent : ℕ) : Type 0 where
-  pub state_is : orca.state
-      ≡ state_after (first_state program (options_of book.weight book.trace)) book.entries
-  pub run : IsRun program (options_of book.weight book.trace) book.entries orca.state
+    (claims : List (Option ℕ)) (rooms : RoomsView) : Type 0 where
+  pub state_is : orca.state ≡ state_after (first_state program (options_of_book book)) book.entries
+  pub run : IsRun program (options_of_book book) book.entries orca.state
   pub long : length book.entries ≡ orca.steps
   pub weight : IsWeight book.weight
   pub within : length book.entries ≤ budget
   pub most : budget ≤ BOOK_LIMIT
   pub away : (a : ℕ) → is_out orca.out a ≡ is_some (claim_in claims a)
   pub sized : length claims ≡ length orca.state.actors
-  pub counted : lent ≡ count_by is_some claims
+  pub counted : rooms.out ≡ count_by is_some claims
+  pub enough : length claims ≤ rooms.free + rooms.out
   pub busy : ClaimedAreBusy orca.state claims
 
 -- no machine that may stand behind the hall has the actor's cell
 abbrev pub LacksCell : ℕ → Logged → Type 0
 LacksCell a l =
-    (orca : Machine) (book : BookValue) (lent : ℕ) → HallKeeps l.program l.budget orca book l.claims lent
-    → is_out orca.out a ≡ true
+    (orca : Machine) (book : BookValue) (rooms : RoomsView)
+    → HallKeeps l.program l.budget orca book l.claims rooms → is_out orca.out a ≡ true

@@ -1,5 +1,6 @@
 pub mod Log
 pub mod Found
+pub mod Rooms
 pub mod Halls
 pub mod Answers
 pub mod Fair

@@ -1,13 +1,12 @@
 -- The hall as a function of its log.
 use Rattle.std.specs.Prelude.{ℕ, ◌≡◌, ◌==◌, ◌+◌, ◌≤◌, Bool, true, false, nat_lt, if◌then◌else◌, List, [], ◌∷◌, ◌++◌, filter, length, slice_index_or, slice_set, Option, Some, None, ⊤}
 use Rattle.std.specs.Option.{option_map_or, option_or}
-use Rattle.orca_names.specs.declared.trace.Trace.{Trace}
+use Rattle.orca_names.specs.declared.options.Options.{Options}
 use Rattle.behaviour_code.specs.declared.code.Program.{Program}
 use Rattle.event_rule.specs.Events.{actor_of}
 use Rattle.event_rule.specs.declared.event.Event.{Event}
 use Rattle.machine_rules.specs.Next.{next}
 use Rattle.machine_rules.specs.State.{State, first_state}
-use Rattle.orca_parts.specs.Parts.{options_of}
 use Rattle.work_board.specs.declared.answers.Refuse.{Refuse}
 use Rattle.hall_rules.specs.Causes.{absent_cause, actor_cause, busy_cause, event_at, full_cause, idle_cause, spent_cause, unready_cause}
 use Rattle.hall_rules.specs.Halls.{state_after}
@@ -15,12 +14,11 @@ use Rattle.hall_rules.specs.declared.claim.Claim.{Claim}
 use Rattle.seat_hall.specs.declared.item.Item.{Item}
 use Rattle.seat_hall.specs.declared.item.Item.TheVariants.{Claimed, Entered, Ended, Stopped, Made}
 
--- the hall after a log: the run's program, weight, tracing and budget; its book; for each actor that was
+-- the hall after a log: the run's program, options and budget; its book; for each actor that was
 -- made the pass whose claim on it is out; whether a stop was asked; and how many passes were split off
 pub record Logged : Type 0 where
   pub program : Program
-  pub weight : ℕ
-  pub trace : Trace
+  pub options : Options
   pub budget : ℕ
   pub book : List Event
   pub claims : List (Option ℕ)
@@ -42,7 +40,7 @@ claims_in l = listed 0 l.claims
 
 -- the state of the machine: the one to which the book leads
 abbrev pub state_in : Logged → State
-state_in l = state_after (first_state l.program (options_of l.weight l.trace)) l.book
+state_in l = state_after (first_state l.program l.options) l.book
 
 -- ---- why a call is refused: the first cause that is there, in this order
 
@@ -62,11 +60,10 @@ claim_cause l a =
 -- ---- items
 
 -- before any item: one actor, nothing claimed
-abbrev pub begins : Program → ℕ → Trace → ℕ → Logged
-begins program weight trace budget = record {
+abbrev pub begins : Program → Options → ℕ → Logged
+begins program options budget = record {
   program = program;
-  weight = weight;
-  trace = trace;
+  options = options;
   budget = budget;
   book = [];
   claims = None ∷ [];

@@ -14,7 +14,7 @@ use Rattle.seat_hall.specs.Log.{Logged, after, claim_cause, claims_in, entry_cau
 abbrev pub plain : Logged → HallValue
 plain l = record {
   program = l.program;
-  weight = l.weight;
+  weight = l.options.weight;
   budget = l.budget;
   book = l.book;
   claims = claims_in l;
@@ -33,4 +33,4 @@ pub record IsAsPlain (l : Logged) : Type 0 where
       IsEntered l e done m ↔ plain_answers.IsEntered (plain l) e done (plain m)
 
 abbrev pub DeepIsPlain : Type 0
-DeepIsPlain = (l : Logged) → l.trace ≡ Deep → IsAsPlain l
+DeepIsPlain = (l : Logged) → l.options.trace ≡ Deep → IsAsPlain l

@@ -3,7 +3,7 @@ use Rattle.std.specs.Prelude.{ℕ, ◌≡◌, ◌<◌, ◌≤◌, List, ◌∷�
 use mathlib.Core.Option.{some}
 use mathlib.Core.List.{IsPrefix}
 use lib.ListN.{get_elem?}
-use Rattle.orca_names.specs.declared.trace.Trace.{Trace}
+use Rattle.orca_names.specs.declared.options.Options.{Options}
 use Rattle.behaviour_code.specs.declared.code.Program.{Program}
 use Rattle.event_rule.specs.Runs.{IsEnabled}
 use Rattle.event_rule.specs.declared.event.Event.{Event}
@@ -12,7 +12,6 @@ use Rattle.letter_kinds.specs.Detector.{Token, has, token_numbered}
 use Rattle.actor_cell.specs.declared.cell.Cell.{Cell}
 use Rattle.machine_rules.specs.Next.{next}
 use Rattle.machine_rules.specs.Run.{IsRun}
-use Rattle.orca_parts.specs.Parts.{options_of}
 use Rattle.seat_hall.specs.declared.item.Item.{Item}
 use Rattle.seat_hall.specs.declared.item.Item.TheVariants.{Entered}
 use Rattle.seat_hall.specs.declared.item.PassView.{PassView}
@@ -24,10 +23,10 @@ use Rattle.seat_hall.specs.Passes.{HasIn}
 -- the book of a log is a run of the program, within the budget
 abbrev pub BooksAreRuns : Type 0
 BooksAreRuns =
-    (program : Program) (weight budget : ℕ) (trace : Trace) (log : List Item)
-    → Legal (begins program weight trace budget) log
-    → let last = hall_from (begins program weight trace budget) log in
-    IsRun program (options_of weight trace) last.book (state_in last) × (length last.book ≤ budget)
+    (program : Program) (options : Options) (budget : ℕ) (log : List Item)
+    → Legal (begins program options budget) log
+    → let last = hall_from (begins program options budget) log in
+    IsRun program options last.book (state_in last) × (length last.book ≤ budget)
 
 -- a pass, at any moment of a hall: it has this number, and has seen a beginning of the log
 pub record IsOne (log : List Item) (passes : List Knower) (id pass : ℕ) (k : Knower) : Type 0 where

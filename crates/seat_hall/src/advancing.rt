@@ -1,10 +1,9 @@
 // A commit that goes on with its actor, under the same turn.
 
-ghost use Rattle.std.specs.Prelude.{◌≡◌, ◌+◌, ◌∷◌, [], false, IfErr, IfNone, IfOk, IfSome, None, OnErr, Some};
-ghost use Rattle.turn_log.specs.Seats.{IsSame, knows};
-ghost use Rattle.seat_hall.specs.Advances.{Advances, ClaimedOn, IsUnder, Took};
+ghost use Rattle.std.specs.Prelude.{◌≡◌, ◌+◌, ◌∷◌, [], IfErr, IfNone, IfOk, IfSome, None, OnErr, Some};
+ghost use Rattle.seat_hall.specs.Advances.{Advances, ClaimsOn, IsNext, IsUnder, TakesOn};
 ghost use Rattle.seat_hall.specs.Answers.{RefusesEntry};
-ghost use Rattle.seat_hall.specs.Passes.{Calls, IsPass, KeepsOthers, MayCommit, StandsAt, Stays, out};
+ghost use Rattle.seat_hall.specs.Passes.{Calls, IsSeated, MayCommit, StaysWithout, out};
 ghost use Rattle.seat_hall.specs.declared.item.Item.TheVariants.{Ended};
 
 use crate::pass::{give_back, turn, write_back, write_item};
@@ -25,11 +24,8 @@ fn take_on<'a>(
     number: u32,
     a: ActorName,
 ) -> bool
-    requires own { seat.old.table_id ≡ log.now }
-    requires under { IsUnder number seat.old }
-    ensures same { IsSame seat.old seat.new }
-    ensures under { IsUnder number seat.new }
-    ensures took { Took number a result (knows seat.old) (knows seat.new) }
+    requires { IsUnder log.now number seat.old }
+    ensures { TakesOn log.now number a result seat.old seat.new }
 {
     let mut hall = log.take(seat);
     match hall.hall.enter(alloc, number, Event::Take(a), &mut None) {
@@ -53,13 +49,9 @@ fn claim_on<'a>(
     room: Option<Box<Found>>,
     next: &mut Option<SeatTask<'a>>,
 )
-    requires own { seat.old.table_id ≡ log.now }
-    requires under { IsUnder number seat.old }
+    requires under { IsUnder log.now number seat.old }
     requires free { next.old ≡ None }
-    ensures same { IsSame seat.old seat.new }
-    ensures pass { IsPass number seat.new }
-    ensures fresh { IfSome next.new (λ task. task.tried ≡ false) }
-    ensures claimed { ClaimedOn number a next.new (knows seat.old) (knows seat.new) }
+    ensures { ClaimsOn number a next.new seat.old seat.new }
 {
     let mut hall = log.take(seat);
     match hall.hall.claim_act(number, a) {
@@ -85,21 +77,15 @@ pub(crate) fn advance<'a, R: Wait>(
     task: SeatTask<'a>,
     next: &mut Option<SeatTask<'a>>,
 ) -> Result<Committed, Refuse>
-    requires own { seat.old.table_id ≡ log.now }
-    requires pass { IsPass number seat.old }
+    requires seated { IsSeated log.now number seat.old }
     requires may { MayCommit number seat.old task }
     requires free { next.old ≡ None }
-    ensures stays { Stays number 1 seat.old seat.new }
-    ensures cells { KeepsOthers number task.entry.taken.cell.heap.owner seat.old seat.new }
-    ensures went { IfSome next.new (λ _. out number seat.new ≡ out number seat.old) }
+    ensures stays { StaysWithout number task.entry.taken.cell.heap.owner seat.old seat.new }
+    ensures claim { let a = task.entry.taken.cell.heap.owner in
+        IfSome next.new (IsNext number a seat.old seat.new) }
     ensures left { IfNone next.new (out number seat.old ≡ out number seat.new + 1) }
-    ensures may { IfSome next.new (λ claim. MayCommit number seat.new claim) }
-    ensures fresh { IfSome next.new (λ claim. claim.tried ≡ false) }
-    ensures actor { let a = task.entry.taken.cell.heap.owner in
-        IfSome next.new (λ claim. claim.taken.cell.heap.owner ≡ a) }
     ensures ok { let taken = task.entry.taken in IfOk result (λ done.
         Advances number taken.cell.heap.owner taken.event done next.new seat.old seat.new) }
-    ensures stands { IfOk result (λ done. StandsAt seat.new done.place task.entry.taken.event) }
     ensures refused { let a = task.entry.taken.cell.heap.owner in IfErr result (λ refuse.
         Calls number seat.old seat.new (Ended number a ∷ [])
         (RefusesEntry (Some number) task.entry.taken.event refuse)) }
@@ -111,7 +97,7 @@ pub(crate) fn advance<'a, R: Wait>(
         room,
         ..
     } = task;
-    let a = taken.cell.heap.owner();
+    let a = taken.cell.owner();
     let mut hall = turn(rt, log, seat, number);
     match hall.hall.commit(alloc, number, taken, &mut found) {
         Ok(done) => {

@@ -4,17 +4,18 @@ ghost use Rattle.std.specs.Prelude.{◌≡◌, ℕ, ◌+◌, ◌-◌, ◌≤◌,
 ghost use Rattle.orca_names.specs.declared.limits.TheConstants.{BOOK_LIMIT};
 ghost use Rattle.run_book.specs.Books.{IsWeight};
 ghost use Rattle.event_rule.specs.Events.{actor_of};
+ghost use Rattle.orca_parts.specs.Parts.{options_of};
 ghost use Rattle.work_board.specs.Answered.{is_end, is_spoiling};
-ghost use Rattle.turn_log.specs.Knowing.{longer, newcomer};
+ghost use Rattle.turn_log.specs.Knowing.{newcomer};
 ghost use Rattle.turn_log.specs.Seats.{knows};
-ghost use Rattle.seat_hall.specs.declared.item.Item.TheVariants.{Claimed, Ended, Entered, Stopped};
+ghost use Rattle.seat_hall.specs.declared.item.Item.TheVariants.{Claimed, Ended, Stopped};
 ghost use Rattle.seat_hall.specs.Advances.{Advances};
-ghost use Rattle.seat_hall.specs.Answers.{AllAreGiven, Enters, Grants, RefusesClaim, RefusesEntry, Tells};
-ghost use Rattle.seat_hall.specs.Boards.{CallsAs, KeepsItsCells, StaysPass, out_of};
+ghost use Rattle.seat_hall.specs.Answers.{AllAreGiven, Grants, RefusesClaim, RefusesEntry, Tells};
+ghost use Rattle.seat_hall.specs.Boards.{CallsAs, GivesUp, StaysPass, out_of};
 ghost use Rattle.seat_hall.specs.Closes.{Closes};
 ghost use Rattle.seat_hall.specs.Fair.{first_view};
 ghost use Rattle.seat_hall.specs.Found.{IsFoundOn};
-ghost use Rattle.seat_hall.specs.Passes.{IsIdlePass, KeepsOthers, MayCommit, SplitsOff, StandsAt, seen};
+ghost use Rattle.seat_hall.specs.Passes.{IsIdlePass, MakesEntry, MayCommit, SplitsOff, TakesIn};
 
 use crate::advancing::advance;
 use crate::closing::Closing;
@@ -24,7 +25,7 @@ use crate::seats::{HallSeat, Passes, close, join, split};
 use crate::task::SeatTask;
 use behaviour_check::Checked;
 use event_rule::Event;
-use orca_names::{ActorName, NoMemory, Trace};
+use orca_names::{ActorName, NoMemory, Options, Trace};
 use std::alloc::Global;
 use std::marker::Model;
 use std::sync::Wait;
@@ -61,10 +62,10 @@ impl<'a> SeatHall<'a> {
         requires most { budget ≤ BOOK_LIMIT }
         requires weight { IsWeight weight }
         ensures seat { IfOk result (λ made. (made.1.number ≡ 0) × IsIdlePass made.0 0 made.1.token) }
-        ensures knows { IfOk result
-            (λ made. knows made.1.token ≡ newcomer (first_view code.now weight trace budget)) }
+        ensures knows { let first = first_view code.now (options_of weight trace) budget in
+            IfOk result (λ made. knows made.1.token ≡ newcomer first) }
     {
-        let (log, token) = begin(alloc, code, budget, weight, trace)?;
+        let (log, token) = begin(alloc, code, budget, Options { weight, trace })?;
         Ok((SeatHall { log }, HallSeat { token, number: 0 }))
     }
 
@@ -111,7 +112,8 @@ pub struct SeatPass<'h, 'a> {
 }
 
 impl<'h, 'a> Model for SeatPass<'h, 'a> {
-    ghost use Rattle.seat_hall.specs.Boards.{IsSeated, PassValue};
+    ghost use Rattle.seat_hall.specs.Boards.{PassValue};
+    ghost use Rattle.seat_hall.specs.Passes.{IsSeated};
 
     ghost Value = { PassValue };
 
@@ -153,7 +155,6 @@ impl<'h, 'a> SeatPass<'h, 'a> {
     pub fn split<R: Wait>(&mut self, rt: &R) -> Result<SeatPass<'h, 'a>, Passes>
         ensures flags { (self.new.ended ≡ self.old.ended) × (self.new.spoilt ≡ self.old.spoilt) }
         ensures stays { StaysPass 1 self.old self.new }
-        ensures cells { KeepsItsCells self.old self.new }
         ensures out { out_of self.new ≡ out_of self.old }
         ensures ok { IfOk result
             (λ p. SplitsOff self.old.number p.number self.old.token self.new.token p.token) }
@@ -177,11 +178,8 @@ impl<'h, 'a> SeatPass<'h, 'a> {
         requires none { out_of other ≡ 0 }
         ensures flags { (self.new.ended ≡ self.old.ended) × (self.new.spoilt ≡ self.old.spoilt) }
         ensures stays { StaysPass 0 self.old self.new }
-        ensures cells { KeepsItsCells self.old self.new }
         ensures out { out_of self.new ≡ out_of self.old }
-        ensures seen { seen self.new.token ≡ seen self.old.token }
-        ensures heard { (knows self.new.token).heard
-            ≡ longer (knows self.old.token).heard (knows other.entry.token).heard }
+        ensures takes { TakesIn self.old.token other.entry.token self.new.token }
     {
         let HallSeat { token, number } = other.into_seat();
         join(self.log, &mut self.token, self.number, token, number);
@@ -221,7 +219,6 @@ impl<'h, 'a> Board for SeatPass<'h, 'a> {
         ensures hall { self.new.token.table_id ≡ self.old.token.table_id }
         ensures out { out_of self.new ≡ out_of self.old }
         ensures stays { StaysPass 1 self.old self.new }
-        ensures cells { KeepsItsCells self.old self.new }
         ensures call { CallsAs self.old self.new [] (Tells result) }
     {
         let answer = look(rt, self.log, &mut self.token, self.number);
@@ -250,7 +247,6 @@ impl<'h, 'a> Board for SeatPass<'h, 'a> {
         ensures spoilt { self.new.spoilt ≡ (self.old.spoilt || is_spoiling result) }
         ensures hall { self.new.token.table_id ≡ self.old.token.table_id }
         ensures stays { StaysPass 1 self.old self.new }
-        ensures cells { KeepsItsCells self.old self.new }
         ensures more { OnOk result (out_of self.new ≡ out_of self.old + 1) }
         ensures ok { IfOk result (λ task.
             CallsAs self.old self.new (Claimed self.old.number a ∷ []) (Grants a task.taken)) }
@@ -293,13 +289,10 @@ impl<'h, 'a> Board for SeatPass<'h, 'a> {
         ensures ended { self.new.ended ≡ self.old.ended }
         ensures spoilt { self.new.spoilt ≡ (self.old.spoilt || is_spoiling result) }
         ensures hall { self.new.token.table_id ≡ self.old.token.table_id }
-        ensures stays { StaysPass 1 self.old self.new }
+        ensures stays { GivesUp task.entry.taken.cell.heap.owner self.old self.new }
         ensures less { out_of self.old ≡ out_of self.new + 1 }
-        ensures cells { let a = task.entry.taken.cell.heap.owner in
-            KeepsOthers self.old.number a self.old.token self.new.token }
         ensures ok { let e = task.entry.taken.event in let n = self.old.number in
-            IfOk result (λ done. CallsAs self.old self.new (Entered n e ∷ []) (Enters (Some n) n e done)) }
-        ensures stands { IfOk result (λ done. StandsAt self.new.token done.place task.entry.taken.event) }
+            IfOk result (λ done. MakesEntry (Some n) n e done self.old.token self.new.token) }
         ensures refused { let taken = task.entry.taken in let n = self.old.number in
             IfErr result (λ refuse. CallsAs self.old self.new (Ended n taken.cell.heap.owner ∷ [])
             (RefusesEntry (Some n) taken.event refuse)) }
@@ -334,15 +327,12 @@ impl<'h, 'a> Board for SeatPass<'h, 'a> {
         ensures ended { self.new.ended ≡ self.old.ended }
         ensures spoilt { (self.old.spoilt || is_spoiling result) ≡ true → self.new.spoilt ≡ true }
         ensures hall { self.new.token.table_id ≡ self.old.token.table_id }
-        ensures stays { StaysPass 1 self.old self.new }
-        ensures cells { KeepsOthers self.old.number a self.old.token self.new.token }
+        ensures stays { GivesUp a self.old self.new }
         ensures spoils { self.new.spoilt ≡ (self.old.spoilt || is_spoiling result) }
         ensures went { IfSome task.new (λ _. out_of self.new ≡ out_of self.old) }
         ensures left { IfNone task.new (out_of self.old ≡ out_of self.new + 1) }
         ensures ok { let n = self.old.number in IfSome task.old (λ was. IfOk result (λ done.
             Advances n a was.taken.event done task.new self.old.token self.new.token)) }
-        ensures stands { IfSome task.old
-            (λ was. IfOk result (λ done. StandsAt self.new.token done.place was.taken.event)) }
         ensures refused { let n = self.old.number in IfSome task.old (λ was. IfErr result (λ refuse.
             CallsAs self.old self.new (Ended n a ∷ []) (RefusesEntry (Some n) was.taken.event refuse))) }
     {
@@ -368,10 +358,8 @@ impl<'h, 'a> Board for SeatPass<'h, 'a> {
         ensures hall { self.new.token.table_id ≡ self.old.token.table_id }
         ensures out { out_of self.new ≡ out_of self.old }
         ensures stays { StaysPass 1 self.old self.new }
-        ensures cells { KeepsItsCells self.old self.new }
         ensures ok { let n = self.old.number in
-            IfOk result (λ done. CallsAs self.old self.new (Entered n e ∷ []) (Enters None n e done)) }
-        ensures stands { IfOk result (λ done. StandsAt self.new.token done.place e) }
+            IfOk result (λ done. MakesEntry None n e done self.old.token self.new.token) }
         ensures refused { IfErr result
             (λ refuse. CallsAs self.old self.new [] (RefusesEntry None e refuse)) }
     {
@@ -388,7 +376,6 @@ impl<'h, 'a> Board for SeatPass<'h, 'a> {
         ensures hall { self.new.token.table_id ≡ self.old.token.table_id }
         ensures out { out_of self.new ≡ out_of self.old }
         ensures stays { StaysPass 1 self.old self.new }
-        ensures cells { KeepsItsCells self.old self.new }
         ensures call { CallsAs self.old self.new (Stopped self.old.number ∷ []) (λ _. ⊤) }
     {
         ask_stop(rt, self.log, &mut self.token, self.number);

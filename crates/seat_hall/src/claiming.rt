@@ -10,11 +10,12 @@ ghost use Rattle.seat_hall.specs.Passes.{HasIn};
 
 use crate::hall::Hall;
 use crate::item::Item;
+use crate::rooms::CellRoom;
 use crate::taken::Taken;
-use actor_cell::Cell;
 use event_rule::Event;
 use hall_rules::{absent, busy, event_at};
 use orca_names::ActorName;
+use std::alloc::Global;
 use work_board::Refuse;
 
 // The pass whose claim on the actor is out.
@@ -112,16 +113,16 @@ impl<'a> Hall<'a> {
     {
         // The program was checked.
         let _program = self.code.program();
+        let options = self.options();
         let Some(cell) = self.orca.lift(a) else {
             unreachable!()
         };
+        let cell = self.rooms.fill(cell);
         self.claims[a.0 as usize] = Some(pass);
-        self.lent += 1;
         self.last = Item::Claimed { pass, actor: a };
         Taken {
             code: self.code,
-            weight: self.book.weight(),
-            trace: self.book.trace(),
+            options,
             event,
             cell,
             at: self.book.len(),
@@ -129,14 +130,15 @@ impl<'a> Hall<'a> {
     }
 
     /// Puts the pass's cell back as it was, and ends the claim. It takes no memory.
-    pub(crate) fn put_back(&mut self, pass: u32, cell: Cell)
-        requires has { HasIn pass cell.heap.owner cell self.old.logged }
-        ensures { let i = Ended pass cell.heap.owner in self.new ≡ says (after self.old.logged i) i }
+    pub(crate) fn put_back(&mut self, alloc: Global, pass: u32, room: CellRoom)
+        requires has { HasIn pass room.heap.owner room self.old.logged }
+        ensures { let i = Ended pass room.heap.owner in
+            self.new ≡ says (after self.old.logged i) i }
     {
-        let a = cell.heap.owner();
+        let a = room.owner();
+        let cell = self.rooms.empty(alloc, self.code, room);
         self.orca.put_back(a, cell);
         self.claims[a.0 as usize] = None;
-        self.lent -= 1;
         self.last = Item::Ended { pass, actor: a };
     }
 }

@@ -11,7 +11,7 @@ ghost use Rattle.seat_hall.specs.Answers.{Enters, IsFoundOf, RefusesEntry};
 ghost use Rattle.seat_hall.specs.Found.{IsFoundOn};
 ghost use Rattle.seat_hall.specs.Halls.{says};
 ghost use Rattle.seat_hall.specs.Log.{after, claims_in, grown, state_in};
-ghost use Rattle.seat_hall.specs.Passes.{HasIn};
+ghost use Rattle.seat_hall.specs.Passes.{IsClaimOf};
 
 use crate::hall::Hall;
 use crate::item::Item;
@@ -39,8 +39,7 @@ fn grow(claims: &mut Vec<Option<u32>>, made: u64)
 fn may_install(orca: &Orca<'_>, e: &Event, found: &Option<Box<Found>>)
     requires home { is_out_for orca.now.out e.now ≡ false }
     requires found { let s = orca.now.state in
-        ForSome found.now
-        (λ known. IsFoundOf s.options.trace s.options.weight s.program s.actors e.now known.value) }
+        ForSome found.now (λ known. IsFoundOf s.options s.program s.actors e.now known.value) }
     ensures { ForSome found.now (λ known. IsFoundIn e.now known.value orca.now) }
 {
     if let Some(a) = actor_of(e) {
@@ -93,7 +92,7 @@ impl<'a> Hall<'a> {
         found: &mut Option<Box<Found>>,
     ) -> Result<Committed, Refuse>
         requires found { let l = self.old.logged in ForSome found.old
-            (λ known. IsFoundOf l.trace l.weight l.program (state_in l).actors e known.value) }
+            (λ known. IsFoundOf l.options l.program (state_in l).actors e known.value) }
         ensures ok { IfOk result (λ done. Enters None pass e done self.old.logged) }
         ensures entered { OnOk result
             (self.new ≡ says (after self.old.logged (Entered pass e)) (Entered pass e)) }
@@ -106,6 +105,10 @@ impl<'a> Hall<'a> {
         if self.claims.reserve(1).is_err() {
             return Err(Refuse::NoMemory);
         }
+        let actors = self.orca.made();
+        let Ok(()) = self.rooms.provide(alloc, self.code, actors) else {
+            return Err(Refuse::NoMemory);
+        };
         may_install(&self.orca, &e, found);
         let done = enter(alloc, &mut self.orca, &mut self.book, &e, found)?;
         grow(&mut self.claims, self.orca.made());
@@ -125,10 +128,7 @@ impl<'a> Hall<'a> {
         taken: Taken<'a>,
         found: &mut Option<Box<Found>>,
     ) -> Result<Committed, Refuse>
-        requires has { HasIn pass taken.cell.heap.owner taken.cell self.old.logged }
-        requires program { taken.code.now ≡ self.old.logged.program }
-        requires weight { taken.weight ≡ self.old.logged.weight }
-        requires trace { taken.trace ≡ self.old.logged.trace }
+        requires claim { IsClaimOf pass taken self.old.logged }
         requires found { ForSome found.old (λ known. IsFoundOn taken known.value) }
         ensures ok { IfOk result (λ done. Enters (Some pass) pass taken.entry.event done self.old.logged) }
         ensures entered { let i = Entered pass taken.entry.event in
@@ -139,7 +139,7 @@ impl<'a> Hall<'a> {
             OnErr result (self.new ≡ says (after self.old.logged i) i) }
     {
         let e = taken.event;
-        self.put_back(pass, taken.cell);
+        self.put_back(alloc, pass, taken.cell);
         self.enter(alloc, pass, e, found)
     }
 }

@@ -10,9 +10,10 @@ ghost use Rattle.seat_hall.specs.Halls.{says};
 ghost use Rattle.seat_hall.specs.Log.{after, begins, claim_in, listed, most_made};
 
 use crate::item::Item;
+use crate::rooms::Rooms;
 use behaviour_check::Checked;
 use orca_core::{Orca, SetAside};
-use orca_names::{ActorName, NoMemory, Trace};
+use orca_names::{ActorName, NoMemory, Options};
 use run_book::Book;
 use std::alloc::Global;
 use std::marker::Model;
@@ -28,8 +29,8 @@ pub struct Hall<'a> {
     pub(crate) book: Book,
     /// For each actor that was made, the pass whose claim on it is out.
     pub(crate) claims: Vec<Option<u32>>,
-    /// How many claims are out.
-    pub(crate) lent: u64,
+    /// The rooms, of which as many are out as claims.
+    pub(crate) rooms: Rooms,
     stopped: bool,
     /// How many passes were split off.
     made: u32,
@@ -37,6 +38,7 @@ pub struct Hall<'a> {
 }
 
 impl<'a> Model for Hall<'a> {
+    ghost use Rattle.run_book.specs.Books.{options_of_book};
     ghost use Rattle.seat_hall.specs.Halls.{HallView, HallKeeps};
 
     ghost Value = { HallView };
@@ -44,8 +46,7 @@ impl<'a> Model for Hall<'a> {
     ghost view = { λ h. record {
       logged = record {
         program = h.code.now;
-        weight = h.book.weight;
-        trace = h.book.trace;
+        options = options_of_book h.book;
         budget = h.budget;
         book = h.book.entries;
         claims = h.claims.items;
@@ -55,7 +56,7 @@ impl<'a> Model for Hall<'a> {
       last = h.last;
     } };
 
-    ghost invariant = { λ h. HallKeeps h.code.now h.budget h.orca h.book h.claims.items h.lent };
+    ghost invariant = { λ h. HallKeeps h.code.now h.budget h.orca h.book h.claims.items h.rooms };
 }
 
 /// No actor is set aside: the cells of claimed ones are out.
@@ -85,8 +86,7 @@ fn lowest_in(claims: &[Option<u32>]) -> Option<(u32, ActorName)>
 }
 
 impl<'a> Hall<'a> {
-    /// A run before its first event, of at most `budget` entries. An increment is by `weight`, and
-    /// `trace` says how far letters are traced.
+    /// A run before its first event, of at most `budget` entries.
     ///
     /// # Errors
     /// `NoMemory` where memory was refused.
@@ -94,28 +94,39 @@ impl<'a> Hall<'a> {
         alloc: Global,
         code: &'a Checked,
         budget: u64,
-        weight: u32,
-        trace: Trace,
+        options: Options,
     ) -> Result<Hall<'a>, NoMemory>
         requires most { budget ≤ BOOK_LIMIT }
-        requires weight { IsWeight weight }
-        ensures { IfOk result (λ hall. hall.logged ≡ begins code.now weight trace budget) }
+        requires weight { IsWeight options.weight }
+        ensures { IfOk result (λ hall. hall.logged ≡ begins code.now options budget) }
     {
         // The machine last: what owns it is checked on each way that drops it.
         let mut claims = Vec::new(alloc);
         claims.push(None)?;
-        let orca = Orca::start(alloc, code, weight, trace)?;
+        let mut rooms = Rooms::new(alloc);
+        rooms.provide(alloc, code, 0)?;
+        let orca = Orca::start(alloc, code, options.weight, options.trace)?;
         Ok(Hall {
             code,
             budget,
             orca,
-            book: Book::new(alloc, weight, trace),
+            book: Book::new(alloc, options.weight, options.trace),
             claims,
-            lent: 0,
+            rooms,
             stopped: false,
             made: 0,
             last: Item::Made { pass: 0 },
         })
+    }
+
+    /// Those of the run.
+    pub(crate) fn options(&self) -> Options
+        ensures { result ≡ self.now.logged.options }
+    {
+        Options {
+            weight: self.book.weight(),
+            trace: self.book.trace(),
+        }
     }
 
     /// Asks all workers to stop.
@@ -159,7 +170,7 @@ impl<'a> Hall<'a> {
         if let Some(e) = self.orca.first_of_detector() {
             return Look::Detector(e);
         }
-        if self.lent == 0 {
+        if self.rooms.all_are_free() {
             Look::Rest
         } else {
             Look::Others

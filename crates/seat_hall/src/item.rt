@@ -2,7 +2,7 @@
 
 use behaviour_code::Program;
 use event_rule::Event;
-use orca_names::{ActorName, Trace};
+use orca_names::{ActorName, Options};
 use std::collections::LinkedList;
 
 /// What a call of a pass did to the hall: an item of the hall's log. Other calls add none.
@@ -24,10 +24,8 @@ pub enum Item {
 pub struct PassView {
     /// The program that runs.
     pub program: Program,
-    /// The weight of an increment.
-    pub weight: u64,
-    /// How far letters are traced.
-    pub trace: Trace,
+    /// The weight of an increment, and how far letters are traced.
+    pub options: Options,
     /// The most entries that the book may have.
     pub budget: u64,
     /// Its own number, and behind it, under the turn alone, the number to give to a pass that is split

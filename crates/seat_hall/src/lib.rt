@@ -15,6 +15,7 @@ mod hall;
 mod item;
 mod laws;
 mod pass;
+mod rooms;
 mod rule;
 mod seats;
 mod taken;
@@ -29,6 +30,7 @@ pub use laws::{
     books_are_runs, cells_are_apart, cells_are_never_reaped, deep_halls_are_plain, entries_stand,
     entries_stand_once,
 };
+pub use rooms::CellRoom;
 pub use rule::{Absorbs, Fairly, HallLog, Halves, PassSeat};
 pub use seats::{HallSeat, Passes};
 pub use taken::Taken;

@@ -1,13 +1,13 @@
 // What passes do under their turns.
 
-ghost use Rattle.std.specs.Prelude.{◌≡◌, ◌+◌, ◌∷◌, [], false, IfErr, IfOk, None, OnErr, OnOk, Some, ⊤};
-ghost use Rattle.turn_log.specs.Seats.{Has, IsAtTurn, IsSame, knows};
+ghost use Rattle.std.specs.Prelude.{◌≡◌, ◌+◌, ◌∷◌, [], IfErr, IfOk, None, OnErr, Some, ⊤};
+ghost use Rattle.turn_log.specs.Seats.{knows};
 ghost use Rattle.turn_log.specs.Knowing.{having_written};
-ghost use Rattle.seat_hall.specs.Answers.{Enters, Grants, RefusesClaim, RefusesEntry, Tells};
-ghost use Rattle.seat_hall.specs.Fair.{Follows, IsOwn, after_item};
+ghost use Rattle.seat_hall.specs.Answers.{RefusesClaim, RefusesEntry, Tells};
+ghost use Rattle.seat_hall.specs.Fair.{MayLeave, after_item};
 ghost use Rattle.seat_hall.specs.Halls.{HallView};
-ghost use Rattle.seat_hall.specs.Passes.{Calls, IsAtHall, IsPass, KeepsCells, KeepsOthers, MayCommit, StandsAt, Stays, out};
-ghost use Rattle.seat_hall.specs.declared.item.Item.TheVariants.{Claimed, Ended, Entered, Stopped};
+ghost use Rattle.seat_hall.specs.Passes.{Calls, GetsClaim, GetsTurn, Holds, IsSeated, MakesEntry, MayCommit, PassesOn, PutsBack, StaysWhole, StaysWith, StaysWithout, out};
+ghost use Rattle.seat_hall.specs.declared.item.Item.TheVariants.{Ended, Stopped};
 
 use crate::boxed::BoxedHall;
 use crate::rule::{HallLog, PassSeat};
@@ -25,12 +25,8 @@ pub(crate) fn turn<'a, R: Wait>(
     seat: &mut PassSeat<'a>,
     number: u32,
 ) -> BoxedHall<'a>
-    requires own { seat.old.table_id ≡ log.now }
-    requires pass { IsPass number seat.old }
-    ensures same { IsSame seat.old seat.new }
-    ensures turn { IsAtTurn result seat.new × Has None seat.new }
-    ensures at { IsAtHall number seat.old seat.new result }
-    ensures turns { (knows seat.new).turns ≡ (knows seat.old).turns + 1 }
+    requires seated { IsSeated log.now number seat.old }
+    ensures { GetsTurn log.now number seat.old seat.new result }
 {
     log.take_turn(rt, seat)
 }
@@ -42,12 +38,9 @@ pub(crate) fn give_back<'a>(
     number: u32,
     hall: BoxedHall<'a>,
 )
-    requires own { seat.old.table_id ≡ log.now }
-    requires turn { IsAtTurn hall seat.old × Has None seat.old }
+    requires holds { Holds log.now hall seat.old }
     requires number { (knows seat.old).client.numbers ≡ number ∷ [] }
-    ensures same { IsSame seat.old seat.new }
-    ensures pass { IsPass number seat.new }
-    ensures knows { knows seat.new ≡ knows seat.old }
+    ensures { PassesOn number seat.old seat.new (knows seat.old) }
 {
     log.put(seat, hall);
     log.pass_on(seat);
@@ -60,13 +53,10 @@ pub(crate) fn write_item<'a>(
     number: u32,
     hall: BoxedHall<'a>,
 )
-    requires own { seat.old.table_id ≡ log.now }
-    requires turn { (before : HallView) × IsAtTurn before seat.old × Has None seat.old }
-    requires own_item { IsOwn number hall.last }
-    requires rule { Follows number hall.last (knows seat.old) hall }
-    ensures same { IsSame seat.old seat.new }
-    ensures turn { IsAtTurn hall.entry seat.new × Has (Some hall.entry) seat.new }
-    ensures knows { knows seat.new ≡ having_written after_item hall.entry.last (knows seat.old) }
+    requires holds { (before : HallView) × Holds log.now before seat.old }
+    requires may { MayLeave number (knows seat.old) hall }
+    ensures { let h = hall.entry in
+        PutsBack seat.old seat.new h (having_written after_item h.last (knows seat.old)) }
 {
     log.put(seat, hall);
     log.write(seat);
@@ -79,13 +69,10 @@ pub(crate) fn write_back<'a>(
     number: u32,
     hall: BoxedHall<'a>,
 )
-    requires own { seat.old.table_id ≡ log.now }
-    requires turn { (before : HallView) × IsAtTurn before seat.old × Has None seat.old }
-    requires own_item { IsOwn number hall.last }
-    requires rule { Follows number hall.last (knows seat.old) hall }
-    ensures same { IsSame seat.old seat.new }
-    ensures pass { IsPass number seat.new }
-    ensures knows { knows seat.new ≡ having_written after_item hall.entry.last (knows seat.old) }
+    requires holds { (before : HallView) × Holds log.now before seat.old }
+    requires may { MayLeave number (knows seat.old) hall }
+    ensures { PassesOn number seat.old seat.new
+        (having_written after_item hall.entry.last (knows seat.old)) }
 {
     write_item(log, seat, number, hall);
     log.pass_on(seat);
@@ -98,11 +85,8 @@ pub(crate) fn look<'a, R: Wait>(
     seat: &mut PassSeat<'a>,
     number: u32,
 ) -> Look
-    requires own { seat.old.table_id ≡ log.now }
-    requires pass { IsPass number seat.old }
-    ensures stays { Stays number 1 seat.old seat.new }
-    ensures cells { KeepsCells number seat.old seat.new }
-    ensures out { out number seat.new ≡ out number seat.old }
+    requires seated { IsSeated log.now number seat.old }
+    ensures stays { StaysWhole number 1 seat.old seat.new }
     ensures call { Calls number seat.old seat.new [] (Tells result) }
 {
     let hall = turn(rt, log, seat, number);
@@ -122,16 +106,10 @@ pub(crate) fn claim<'a, R: Wait>(
     number: u32,
     a: ActorName,
 ) -> Result<SeatTask<'a>, Refuse>
-    requires own { seat.old.table_id ≡ log.now }
-    requires pass { IsPass number seat.old }
-    ensures stays { Stays number 1 seat.old seat.new }
-    ensures cells { KeepsCells number seat.old seat.new }
-    ensures one { OnOk result (out number seat.new ≡ out number seat.old + 1) }
+    requires seated { IsSeated log.now number seat.old }
+    ensures stays { StaysWith number 1 seat.old seat.new }
+    ensures ok { IfOk result (λ task. GetsClaim number a task seat.old seat.new) }
     ensures none { OnErr result (out number seat.new ≡ out number seat.old) }
-    ensures may { IfOk result (λ task. MayCommit number seat.new task) }
-    ensures fresh { IfOk result (λ task. task.tried ≡ false) }
-    ensures ok { IfOk result (λ task.
-        Calls number seat.old seat.new (Claimed number a ∷ []) (Grants a task.taken)) }
     ensures refused { IfErr result (λ refuse. Calls number seat.old seat.new [] (RefusesClaim a refuse)) }
 {
     let mut hall = turn(rt, log, seat, number);
@@ -160,15 +138,12 @@ pub(crate) fn commit<'a, R: Wait>(
     number: u32,
     task: SeatTask<'a>,
 ) -> Result<Committed, Refuse>
-    requires own { seat.old.table_id ≡ log.now }
-    requires pass { IsPass number seat.old }
+    requires seated { IsSeated log.now number seat.old }
     requires may { MayCommit number seat.old task }
-    ensures stays { Stays number 1 seat.old seat.new }
-    ensures cells { KeepsOthers number task.entry.taken.cell.heap.owner seat.old seat.new }
+    ensures stays { StaysWithout number task.entry.taken.cell.heap.owner seat.old seat.new }
     ensures out { out number seat.old ≡ out number seat.new + 1 }
-    ensures ok { let e = task.entry.taken.event in IfOk result (λ done.
-        Calls number seat.old seat.new (Entered number e ∷ []) (Enters (Some number) number e done)) }
-    ensures stands { IfOk result (λ done. StandsAt seat.new done.place task.entry.taken.event) }
+    ensures ok { let e = task.entry.taken.event in
+        IfOk result (λ done. MakesEntry (Some number) number e done seat.old seat.new) }
     ensures refused { let a = task.entry.taken.cell.heap.owner in IfErr result (λ refuse.
         Calls number seat.old seat.new (Ended number a ∷ [])
         (RefusesEntry (Some number) task.entry.taken.event refuse)) }
@@ -196,14 +171,9 @@ pub(crate) fn direct<'a, R: Wait>(
     number: u32,
     e: Event,
 ) -> Result<Committed, Refuse>
-    requires own { seat.old.table_id ≡ log.now }
-    requires pass { IsPass number seat.old }
-    ensures stays { Stays number 1 seat.old seat.new }
-    ensures cells { KeepsCells number seat.old seat.new }
-    ensures out { out number seat.new ≡ out number seat.old }
-    ensures ok { IfOk result (λ done.
-        Calls number seat.old seat.new (Entered number e ∷ []) (Enters None number e done)) }
-    ensures stands { IfOk result (λ done. StandsAt seat.new done.place e) }
+    requires seated { IsSeated log.now number seat.old }
+    ensures stays { StaysWhole number 1 seat.old seat.new }
+    ensures ok { IfOk result (λ done. MakesEntry None number e done seat.old seat.new) }
     ensures refused { IfErr result (λ refuse.
         Calls number seat.old seat.new [] (RefusesEntry None e refuse)) }
 {
@@ -222,11 +192,8 @@ pub(crate) fn direct<'a, R: Wait>(
 
 /// Asks all workers to stop.
 pub(crate) fn ask_stop<'a, R: Wait>(rt: &R, log: &HallLog<'a>, seat: &mut PassSeat<'a>, number: u32)
-    requires own { seat.old.table_id ≡ log.now }
-    requires pass { IsPass number seat.old }
-    ensures stays { Stays number 1 seat.old seat.new }
-    ensures cells { KeepsCells number seat.old seat.new }
-    ensures out { out number seat.new ≡ out number seat.old }
+    requires seated { IsSeated log.now number seat.old }
+    ensures stays { StaysWhole number 1 seat.old seat.new }
     ensures call { Calls number seat.old seat.new (Stopped number ∷ []) (λ _. ⊤) }
 {
     let mut hall = turn(rt, log, seat, number);

@@ -13,7 +13,7 @@ use crate::hall::Hall;
 use crate::item::{Item, PassView};
 use atomic_table::{Join, Split};
 use behaviour_check::Checked;
-use orca_names::{NoMemory, Trace};
+use orca_names::{NoMemory, Options};
 use std::alloc::Global;
 use turn_log::{LogRule, LogSeat, TurnLog};
 
@@ -25,7 +25,7 @@ impl<'a> LogRule<BoxedHall<'a>, Item, PassView> for Fairly {
 
     ghost holds = { HallRule };
 
-    ghost first = { λ h. let l = h.logged in first_view l.program l.weight l.trace l.budget };
+    ghost first = { λ h. let l = h.logged in first_view l.program l.options l.budget };
 
     ghost item = { λ h. h.last };
 
@@ -74,16 +74,15 @@ pub(crate) fn begin<'a>(
     alloc: Global,
     code: &'a Checked,
     budget: u64,
-    weight: u32,
-    trace: Trace,
+    options: Options,
 ) -> Result<(HallLog<'a>, PassSeat<'a>), NoMemory>
     requires most { budget ≤ BOOK_LIMIT }
-    requires weight { IsWeight weight }
+    requires weight { IsWeight options.weight }
     ensures pass { IfOk result (λ made. IsIdlePass made.0 0 made.1) }
     ensures knows { IfOk result
-        (λ made. knows made.1 ≡ newcomer (first_view code.now weight trace budget)) }
+        (λ made. knows made.1 ≡ newcomer (first_view code.now options budget)) }
 {
-    let hall = Hall::start(alloc, code, budget, weight, trace)?;
+    let hall = Hall::start(alloc, code, budget, options)?;
     let Ok(hall) = Box::new(alloc, hall) else {
         return Err(NoMemory);
     };

@@ -1,14 +1,14 @@
 // Seats of passes: split off, taken in, and given up at the end.
 
 ghost use Rattle.std.specs.Prelude.{◌≡◌, ◌∷◌, [], IfOk, None, OnErr, Some};
-ghost use Rattle.turn_log.specs.Knowing.{half, having_written, longer};
-ghost use Rattle.turn_log.specs.Seats.{Has, IsAtTurn, IsSame, knows};
+ghost use Rattle.turn_log.specs.Knowing.{half, having_written};
+ghost use Rattle.turn_log.specs.Seats.{Has, IsAtTurn, knows};
 ghost use Rattle.seat_hall.specs.declared.item.Item.TheVariants.{Made};
 ghost use Rattle.seat_hall.specs.Answers.{AllAreGiven};
 ghost use Rattle.seat_hall.specs.Closes.{Closes, Leaves};
 ghost use Rattle.seat_hall.specs.Fair.{Follows, after_item, gets_other, keeps_own};
 ghost use Rattle.seat_hall.specs.Halls.{HallView};
-ghost use Rattle.seat_hall.specs.Passes.{Calls, IsIdlePass, IsPass, KeepsCells, SplitsOff, Stays, out, seen};
+ghost use Rattle.seat_hall.specs.Passes.{Calls, Holds, IsIdlePass, IsPass, IsSeated, PassesOn, PutsBack, SplitsOff, StaysWhole, TakesIn};
 
 use crate::boxed::BoxedHall;
 use crate::closing::Closing;
@@ -41,12 +41,10 @@ fn write_made<'a>(
     next: u32,
     hall: BoxedHall<'a>,
 )
-    requires own { seat.old.table_id ≡ log.now }
-    requires turn { (before : HallView) × IsAtTurn before seat.old × Has None seat.old }
+    requires holds { (before : HallView) × Holds log.now before seat.old }
     requires rule { Follows number (Made next) (knows seat.old) hall }
-    ensures same { IsSame seat.old seat.new }
-    ensures turn { IsAtTurn hall.entry seat.new × Has (Some hall.entry) seat.new }
-    ensures knows { knows seat.new ≡ having_written after_item (Made next) (knows seat.old) }
+    ensures { let known = having_written after_item (Made next) (knows seat.old) in
+        PutsBack seat.old seat.new hall.entry known }
 {
     log.put(seat, hall);
     log.write(seat);
@@ -57,10 +55,8 @@ fn part<'a>(log: &HallLog<'a>, seat: &mut PassSeat<'a>, number: u32, next: u32) 
     requires own { seat.old.table_id ≡ log.now }
     requires turn { (hall : HallView) × IsAtTurn hall seat.old × Has (Some hall) seat.old }
     requires two { (knows seat.old).client.numbers ≡ number ∷ next ∷ [] }
-    ensures same { IsSame seat.old seat.new }
-    ensures pass { IsPass number seat.new }
-    ensures knows { knows seat.new ≡ half keeps_own (knows seat.old) }
-    ensures other { (result.table_id ≡ seat.old.table_id) × IsPass next result }
+    ensures own { PassesOn number seat.old seat.new (half keeps_own (knows seat.old)) }
+    ensures other { IsSeated seat.old.table_id next result }
     ensures knew { knows result ≡ half gets_other (knows seat.old) }
 {
     let other = log.split::<Halves>(seat);
@@ -78,11 +74,8 @@ pub(crate) fn split<'a, R: Wait>(
     seat: &mut PassSeat<'a>,
     number: u32,
 ) -> Result<HallSeat<'a>, Passes>
-    requires own { seat.old.table_id ≡ log.now }
-    requires pass { IsPass number seat.old }
-    ensures stays { Stays number 1 seat.old seat.new }
-    ensures cells { KeepsCells number seat.old seat.new }
-    ensures out { out number seat.new ≡ out number seat.old }
+    requires seated { IsSeated log.now number seat.old }
+    ensures stays { StaysWhole number 1 seat.old seat.new }
     ensures ok { IfOk result (λ other. SplitsOff number other.number seat.old seat.new other.token) }
     ensures passes { OnErr result (Calls number seat.old seat.new [] AllAreGiven) }
 {
@@ -108,22 +101,17 @@ pub(crate) fn join<'a>(
     other: PassSeat<'a>,
     others: u32,
 )
-    requires own { seat.old.table_id ≡ log.now }
-    requires pass { IsPass number seat.old }
+    requires seated { IsSeated log.now number seat.old }
     requires idle { IsIdlePass log.now others other }
-    ensures stays { Stays number 0 seat.old seat.new }
-    ensures seen { seen seat.new ≡ seen seat.old }
-    ensures cells { KeepsCells number seat.old seat.new }
-    ensures out { out number seat.new ≡ out number seat.old }
-    ensures heard { (knows seat.new).heard ≡ longer (knows seat.old).heard (knows other.entry).heard }
+    ensures stays { StaysWhole number 0 seat.old seat.new }
+    ensures takes { TakesIn seat.old other.entry seat.new }
 {
     log.join::<Absorbs>(seat, other);
 }
 
 /// Ends the hall.
 pub(crate) fn close<'a>(log: HallLog<'a>, seat: PassSeat<'a>, number: u32) -> Closing<'a>
-    requires own { seat.table_id ≡ log }
-    requires pass { IsPass number seat }
+    requires seated { IsSeated log number seat }
     ensures { Closes seat.entry result }
 {
     match log.close(seat) {

@@ -6,23 +6,22 @@ ghost use Rattle.actor_cell.specs.Founds.{IsFound};
 ghost use Rattle.actor_cell.specs.Sweeps.{KnowsOthersOnly};
 ghost use Rattle.work_board.specs.Answered.{is_evaluated};
 
-use actor_cell::{Cell, Found};
+use crate::rooms::CellRoom;
+use actor_cell::Found;
 use behaviour_check::Checked;
 use event_rule::Event;
-use orca_names::{NoMemory, Trace};
+use orca_names::{NoMemory, Options};
 use std::alloc::Global;
 
 /// An actor's cell, which is out of the hall now, with the event that the claim is for.
 #[derive(Drop)]
 pub struct Taken<'a> {
     pub code: &'a Checked,
-    /// The weight of the run.
-    pub weight: u32,
-    /// How far letters are traced.
-    pub trace: Trace,
+    /// Those of the run.
+    pub options: Options,
     /// The first event that the actor had.
     pub event: Event,
-    pub cell: Cell,
+    pub cell: CellRoom,
     /// The length of the book at the claim.
     pub at: u64,
     ghost its: { actor_of event ≡ Some cell.heap.owner },
@@ -36,11 +35,12 @@ impl<'a> Taken<'a> {
     /// # Errors
     /// `NoMemory` where memory was refused.
     pub(crate) fn find_in(&self, alloc: Global, found: &mut Found) -> Result<(), NoMemory>
-        ensures { OnOk result
-            (IsFound self.now.trace self.now.weight self.now.code.now self.now.cell found.new) }
+        ensures { let taken = self.now in
+            OnOk result (IsFound taken.options taken.code.now taken.cell found.new) }
     {
         self.cell
-            .find_in(alloc, self.code, self.weight, self.trace, found)
+            .inside()
+            .find_in(alloc, self.code, self.options, found)
     }
 
     /// The event is evaluated: it is a turn or a collection.

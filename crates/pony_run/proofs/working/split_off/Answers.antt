@@ -10,8 +10,8 @@ loop-preserved g c =
     let split = c.in-Ok.ensures.ok in
     let old = c.loop.passes.items in
     let new = c.push.new.self.items in record {
-      hall = c.split.ensures.stays.1.same.0 ∙ before.hall;
-      run = c.split.ensures.stays.1.client ∙ before.run;
+      hall = c.split.ensures.stays.stays.same.0 ∙ before.hall;
+      run = c.split.ensures.stays.stays.client ∙ before.run;
       halls = all_pushed (λ (p : PassValue). p.token.table_id ≡ c.args.first.now.token.table_id) (is_ok c.push.result) c.in-Ok.pass old new
           c.push.ensures.items (split.idle.own ∙ before.hall) before.halls;
       idle = all_pushed (λ (p : PassValue). out_of p ≡ 0) (is_ok c.push.result) c.in-Ok.pass old new c.push.ensures.items split.idle.none before.idle;

@@ -16,6 +16,6 @@ loop-pass-preserved c =
       finite = tt;
       halls = All-tail IsOf c.in-Some.pass rest (subst (All IsOf) items before.halls);
       idle = All-tail (λ p. out_of p ≡ 0) c.in-Some.pass rest (subst (All (λ p. out_of p ≡ 0)) items before.idle);
-      hall = c.join.ensures.stays.1.same.0 ∙ before.hall;
-      run = c.join.ensures.stays.1.client ∙ before.run;
+      hall = c.join.ensures.stays.stays.same.0 ∙ before.hall;
+      run = c.join.ensures.stays.stays.client ∙ before.run;
     }

@@ -9,8 +9,8 @@ pub loop-looks-preserved : goal.loop-looks-preserved
 loop-looks-preserved g c =
     let before = c.loop-looks.invariant in
     record {
-      hall = c.split.ensures.stays.1.same.0 ∙ before.hall;
-      run = c.split.ensures.stays.1.client ∙ before.run;
+      hall = c.split.ensures.stays.stays.same.0 ∙ before.hall;
+      run = c.split.ensures.stays.stays.client ∙ before.run;
       idle = all_pushed (λ (b : Troubled PassValue). out_of b.inner ≡ 0) (is_ok c.push.result) c.new.result c.loop-looks.boards.items c.push.new.self.items
           c.push.ensures.items (ap (λ (b : Troubled PassValue). out_of b.inner) c.new.ensures ∙ c.in_ok-pass.ensures.ok.idle.none) before.idle;
     }

@@ -8,4 +8,4 @@ close-requires-clause-few c = few
 pub returns-in-Ok : goal.returns-in-Ok
 returns-in-Ok c =
     closes c.args.seat c.in-Ok.hall.logged c.leave.result
-    (last_hall c.args.number c.args.seat c.in-Ok.hall _ c.requires.pass c.in-Ok.ensures.closed) c.leave.ensures
+    (last_hall c.args.number c.args.seat c.in-Ok.hall _ c.requires.seated.1 c.in-Ok.ensures.closed) c.leave.ensures

@@ -17,3 +17,12 @@ pub pass_on-requires-clause-calm : goal.pass_on-requires-clause-calm
 pass_on-requires-clause-calm c =
     subst (λ (ns : List ℕ). length ns ≤ 1)
     (sym (ap (λ k. k.client.numbers) c.split-other.ensures.left ∙ ap (take 1) c.requires.two)) (omega arith)
+
+pub returns-clause-own : goal.returns-clause-own
+returns-clause-own c =
+    let on = c.pass_on.ensures in let same = c.split-other.ensures.same.0 in
+    let knew = on.idle.1 ∙ c.split-other.ensures.left in record {
+      same = (on.same.0 ∙ same.0, on.same.1 ∙ same.1);
+      pass_is = (on.idle.0, ap (λ k. k.client.numbers) knew ∙ ap (take 1) c.requires.two);
+      knew = knew;
+    }

@@ -1,12 +1,9 @@
-use Rattle.std.proofs.Common.{subst}
-use Rattle.seat_hall.specs.Boards.{PassValue}
-use Rattle.seat_hall.specs.Passes.{KeepsCells}
+use Rattle.std.proofs.Common.{refl}
+use Rattle.seat_hall.proofs.Boards.{stays}
 use Rattle.seat_hall.proofs.board.SeatPass.split.Goals as goal
 
-pub returns-in_err-seat-clause-cells : goal.returns-in_err-seat-clause-cells
-returns-in_err-seat-clause-cells g c =
-    subst (λ (p : PassValue). KeepsCells p.number p.token c.split.new.seat) c.self.view_is c.split.ensures.cells
+pub returns-in_err-seat-clause-stays : goal.returns-in_err-seat-clause-stays
+returns-in_err-seat-clause-stays g c = stays _ _ _ c.self.view_is refl 1 c.split.ensures.stays.stays c.split.ensures.stays.cells
 
-pub returns-clause-cells : goal.returns-clause-cells
-returns-clause-cells g c =
-    subst (λ (p : PassValue). KeepsCells p.number p.token c.split.new.seat) c.self.view_is c.split.ensures.cells
+pub returns-clause-stays : goal.returns-clause-stays
+returns-clause-stays g c = stays _ _ _ c.self.view_is refl 1 c.split.ensures.stays.stays c.split.ensures.stays.cells

@@ -1,8 +1,6 @@
-use Rattle.std.proofs.Common.{subst}
-use Rattle.seat_hall.specs.Boards.{PassValue}
-use Rattle.seat_hall.specs.Passes.{KeepsCells}
+use Rattle.std.proofs.Common.{refl}
+use Rattle.seat_hall.proofs.Boards.{stays}
 use Rattle.seat_hall.proofs.board.SeatPassBoard.ask_stop.Goals as goal
 
-pub returns-clause-cells : goal.returns-clause-cells
-returns-clause-cells g c =
-    subst (λ (p : PassValue). KeepsCells p.number p.token c.ask_stop.new.seat) c.self.view_is c.ask_stop.ensures.cells
+pub returns-clause-stays : goal.returns-clause-stays
+returns-clause-stays g c = stays _ _ _ c.self.view_is refl 1 c.ask_stop.ensures.stays.stays c.ask_stop.ensures.stays.cells

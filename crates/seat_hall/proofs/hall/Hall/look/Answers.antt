@@ -1,4 +1,4 @@
-use Rattle.std.proofs.Common.{◌≡◌, ◌≢◌, ◌==◌, ◌||◌, false, [], length, count_by, is_some, arith, sym, ap, subst, ◌∙◌}
+use Rattle.std.proofs.Common.{◌≡◌, ◌≢◌, ◌==◌, ◌||◌, true, false, [], length, count_by, is_some, arith, sym, ap, subst, ◌∙◌}
 use Rattle.std.proofs.lemmas.Bool.Decides.{nat_tests}
 use Rattle.event_rule.specs.Runs.{IsFirst, IsQuiet, Machine}
 use Rattle.machine_rules.specs.State.{State}
@@ -42,8 +42,8 @@ returns-in-Some-first_of_detector c =
       subst (λ m. IsFirst (next_of_kind is_of_detector []) m e) c.self.invariant.state_is found,
     )
 
-pub returns-then-self-eq0 : goal.returns-then-self-eq0
-returns-then-self-eq0 c =
+pub returns-then-all_are_free : goal.returns-then-all_are_free
+returns-then-all_are_free c =
     let s = c.self.inside in
     let none = subst (λ (step : Machine State). IsQuiet step s.orca.state)
     (free_events s.orca.out s.claims.items c.self.invariant.away) c.in_default.ensures in
@@ -52,15 +52,16 @@ returns-then-self-eq0 c =
     let goes_on : (s.stopped || length s.book.entries == s.budget) ≡ false =
     grind (arith, nat_tests, c.if-self.false, c.if-len-self.false, c.len.ensures) in
     let count = c.self.invariant.counted in
-    let zero : count_by is_some s.claims.items ≡ 0 = omega (arith, c.if-self-eq0.true) in
+    let zero : count_by is_some s.claims.items ≡ 0 =
+    grind (arith, nat_tests, count, c.all_are_free.ensures, c.if-all_are_free.true) in
     subst (λ (h : HallView). Tells Rest h.logged) c.self.view_is (
       goes_on,
       (subst (λ m. IsQuiet (next_of_kind (is_free (is_claimed (listed 0 s.claims.items))) []) m) c.self.invariant.state_is none, subst (λ m. IsQuiet (next_of_kind is_of_detector []) m) c.self.invariant.state_is still),
       none_listed 0 s.claims.items zero,
     )
 
-pub returns-else-self-eq0 : goal.returns-else-self-eq0
-returns-else-self-eq0 c =
+pub returns-else-all_are_free : goal.returns-else-all_are_free
+returns-else-all_are_free c =
     let s = c.self.inside in
     let none = subst (λ (step : Machine State). IsQuiet step s.orca.state)
     (free_events s.orca.out s.claims.items c.self.invariant.away) c.in_default.ensures in
@@ -71,7 +72,8 @@ returns-else-self-eq0 c =
     let count = c.self.invariant.counted in
     let some : listed 0 s.claims.items ≢ [] = λ none_is.
     (let zero = none_counted s.claims.items (none_out_listed 0 s.claims.items none_is) in
-    absurd (omega (arith, c.if-self-eq0.false))) in
+    let free : (s.rooms.out == 0) ≡ true = grind (arith, nat_tests, count, zero) in
+    let clash : true ≡ false = sym free ∙ (sym c.all_are_free.ensures ∙ c.if-all_are_free.false) in cc) in
     subst (λ (h : HallView). Tells Others h.logged) c.self.view_is (
       goes_on,
       (subst (λ m. IsQuiet (next_of_kind (is_free (is_claimed (listed 0 s.claims.items))) []) m) c.self.invariant.state_is none, subst (λ m. IsQuiet (next_of_kind is_of_detector []) m) c.self.invariant.state_is still),

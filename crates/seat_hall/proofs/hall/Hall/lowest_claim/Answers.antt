@@ -7,4 +7,4 @@ pub lowest_in-requires : goal.lowest_in-requires
 lowest_in-requires c =
     let s = c.self.inside in
     subst (λ (claims : List (Option ℕ)). length claims ≤ ACTORS_LIMIT) (sym c.deref.ensures.value)
-    (few_claims s.code.now s.budget s.orca s.book s.claims.items s.lent c.self.invariant)
+    (few_claims s.code.now s.budget s.orca s.book s.claims.items s.rooms c.self.invariant)
