@@ -138,13 +138,26 @@ fn count_unheld(held: &[Entry], things: &Amounts) -> usize
     count
 }
 
+// How many of the things are actors.
+fn count_actors(held: &[Entry]) -> usize
+    ensures { result ≡ length (on_actors (map pair_of held.now)) }
+{
+    let mut count = 0;
+    for entry in held {
+        if let Thing::Actor(_) = entry.thing {
+            count += 1;
+        }
+    }
+    count
+}
+
 fn actors_of(alloc: Global, held: &[Entry]) -> Result<Vec<(ActorName, u64)>, NoMemory>
     ensures { IfOk result (λ found. found.items ≡ on_actors (map pair_of held.now)) }
 {
-    let mut found = Vec::new(alloc);
+    let mut found = Vec::with_capacity(alloc, count_actors(held))?;
     for entry in held {
         if let Thing::Actor(a) = entry.thing {
-            found.push((a, entry.count.get()))?;
+            found.push_reserved((a, entry.count.get()));
         }
     }
     Ok(found)
