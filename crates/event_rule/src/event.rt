@@ -7,7 +7,7 @@ ghost use Rattle.std.specs.Cmp.Rules.{comparing};
 ghost use Rattle.std.specs.Ordering.{as_partial_cmp};
 ghost use Rattle.event_rule.specs.Events.{event_cmp, event_text, actor_or_token, round_of, turn_in_round};
 
-use orca_names::ActorName;
+use orca_names::{ActorName, Serial};
 use std::cmp::Ordering;
 use std::fmt;
 
@@ -28,8 +28,9 @@ pub enum Event {
     Hear,
     /// The detector looks for the largest closed set of reported actors.
     Scan,
-    /// The actors of this token go, with all that they own.
-    Reap(u64),
+    /// The actors of this token go, with all that they own. The token's number stands in two halves, as
+    /// a serial does, so that an event takes twelve bytes.
+    Reap(Serial),
 }
 
 impl Event {
@@ -54,7 +55,7 @@ impl Event {
             Event::Take(a) | Event::Go(a) => u64::from(a.0),
             Event::Collect(a) | Event::Leave(a) | Event::Block(a) => u64::from(a.0),
             Event::Hear | Event::Scan => 0,
-            Event::Reap(token) => *token,
+            Event::Reap(token) => token.get(),
         }
     }
 
@@ -111,7 +112,7 @@ impl fmt::Display for Event {
             Event::Block(a) => write!(f, "block {}", a.0),
             Event::Hear => write!(f, "hear"),
             Event::Scan => write!(f, "scan"),
-            Event::Reap(token) => write!(f, "reap {token}"),
+            Event::Reap(token) => write!(f, "reap {}", token.get()),
         }
     }
 }

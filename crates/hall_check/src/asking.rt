@@ -3,7 +3,7 @@
 ghost use Rattle.std.specs.Prelude.{◌≡◌};
 
 use event_rule::Event;
-use orca_names::ActorName;
+use orca_names::{ActorName, Serial};
 use std::process::Abort;
 use std::sync::Wait;
 use work_board::{Committed, Look, Refuse};
@@ -32,7 +32,7 @@ pub(crate) fn event(kind: u8, number: u32) -> Event {
         BLOCK => Event::Block(actor),
         HEAR => Event::Hear,
         SCAN => Event::Scan,
-        _ => Event::Reap(u64::from(number)),
+        _ => Event::Reap(Serial::of(u64::from(number))),
     }
 }
 

@@ -1,6 +1,6 @@
 // The machine that collects does an event, where what a turn or a collection does may be found before.
 
-ghost use Rattle.std.specs.Prelude.{◌≡◌, ◌≤◌, Some};
+ghost use Rattle.std.specs.Prelude.{◌≡◌, ◌≤◌, IfSome, Some};
 ghost use Rattle.event_rule.specs.Events.{actor_of};
 ghost use Rattle.machine_check.specs.Driven.{IsDriven};
 
@@ -47,6 +47,16 @@ fn installs(
     }
 }
 
+// The actor whose turn or collection the event is.
+fn evaluated(event: &Event) -> Option<ActorName>
+    ensures { IfSome result (λ a. actor_of event.now ≡ Some a) }
+{
+    match event {
+        Event::Go(a) | Event::Collect(a) => Some(*a),
+        _ => None,
+    }
+}
+
 /// Does this event, if the machine is young enough, and tells the lowest actor that it woke.
 pub(crate) fn does(
     alloc: Global,
@@ -60,14 +70,12 @@ pub(crate) fn does(
     if machine.steps() > 1000 {
         return Err(StepFault::NoMemory);
     }
-    match event {
-        Event::Go(a) | Event::Collect(a) if drive.finds => {
-            installs(alloc, drive, machine, a, event)
-        }
-        _ => {
-            // A run led to the machine, and an event keeps its program.
-            machine.keeps_the_reachable();
-            machine.step(alloc, event)
+    if drive.finds {
+        if let Some(a) = evaluated(&event) {
+            return installs(alloc, drive, machine, a, event);
         }
     }
+    // A run led to the machine, and an event keeps its program.
+    machine.keeps_the_reachable();
+    machine.step(alloc, event)
 }

@@ -9,7 +9,7 @@ use crate::programs::{OPENED, PING, SEVEN};
 use behaviour_check::Checked;
 use event_rule::Event;
 use orca_core::{Orca, StepFault};
-use orca_names::{ActorName, Trace, Value};
+use orca_names::{ActorName, Serial, Trace, Value};
 use std::alloc::Global;
 use std::test::Fail;
 
@@ -147,7 +147,7 @@ pub(crate) fn event(kind: u8, number: u32) -> Event {
         BLOCK => Event::Block(actor),
         HEAR => Event::Hear,
         SCAN => Event::Scan,
-        _ => Event::Reap(u64::from(number)),
+        _ => Event::Reap(Serial::of(u64::from(number))),
     }
 }
 

@@ -21,7 +21,7 @@ use cycle_detect::Detector;
 use event_rule::Event;
 use letter_kinds::Note;
 use mail_rows::MailRow;
-use orca_names::{ActorName, KeptReport, NoMemory};
+use orca_names::{ActorName, KeptReport, NoMemory, Serial};
 use orca_parts::{Ready, touched, touched_token};
 use std::alloc::Global;
 use std::collections::VecDeque;
@@ -39,7 +39,7 @@ impl<'a> Orca<'a> {
             Event::Block(a) => self.core.parts.table.may(a, &e),
             Event::Hear => !self.core.parts.notes.is_empty(),
             Event::Scan => self.core.parts.detector.news(),
-            Event::Reap(token) => self.core.parts.detector.acked(token),
+            Event::Reap(token) => self.core.parts.detector.acked(token.get()),
         }
     }
 
@@ -64,7 +64,7 @@ impl<'a> Orca<'a> {
             return Some(Event::Scan);
         }
         match self.core.parts.detector.ready() {
-            Some(token) => Some(Event::Reap(token)),
+            Some(token) => Some(Event::Reap(Serial::of(token))),
             None => None,
         }
     }

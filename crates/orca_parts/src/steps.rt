@@ -42,7 +42,7 @@ pub fn prepare(alloc: Global, m: &mut Core<'_>, e: &Event, known: bool) -> Resul
         Event::Block(actor) => prepare_block(alloc, m, actor),
         Event::Hear => prepare_hear(m),
         Event::Scan => prepare_scan(alloc, m),
-        Event::Reap(token) => prepare_reap(alloc, m, token),
+        Event::Reap(token) => prepare_reap(alloc, m, token.get()),
     }
 }
 
@@ -65,6 +65,6 @@ pub fn apply(alloc: Global, m: &mut Core<'_>, e: Event) -> Option<ActorName>
         }
         Event::Hear => apply_hear(m),
         Event::Scan => apply_scan(m),
-        Event::Reap(token) => apply_reap(alloc, m, token),
+        Event::Reap(token) => apply_reap(alloc, m, token.get()),
     }
 }

@@ -137,7 +137,7 @@ pub fn touched_token(parts: &Parts, e: &Event) -> Option<u64>
             Some(token) => Some(token.number()),
             None => None,
         },
-        Event::Reap(number) => Some(number),
+        Event::Reap(token) => Some(token.get()),
         _ => None,
     }
 }

@@ -7,7 +7,7 @@ ghost use Rattle.run_book.specs.Reading.{IsEntry};
 
 use event_rule::Event;
 use itoa::Buffer;
-use orca_names::ActorName;
+use orca_names::{ActorName, Serial};
 use std::str;
 
 /// The number that a text is the one spelling of.
@@ -90,7 +90,7 @@ fn lasting_entry_of(line: &[u8]) -> Option<Event>
         return Some(Event::Block(actor));
     }
     match token_after(line, b"reap ") {
-        Some(token) => Some(Event::Reap(token)),
+        Some(token) => Some(Event::Reap(Serial::of(token))),
         None => None,
     }
 }

@@ -2,7 +2,7 @@
 
 use crate::table::{Asked, Table, fault_text, holds, same_bytes, same_text};
 use event_rule::Event;
-use orca_names::{ActorName, Trace};
+use orca_names::{ActorName, Serial, Trace};
 use run_book::{Book, BookErr, read_again, read_text, split_at_book};
 use std::alloc::Global;
 use std::test::Fail;
@@ -61,7 +61,7 @@ fn is_written(alloc: Global, book: &Book, text: &str) -> Result<(), Fail> {
 /// Fails where the new book isn't filled and written.
 fn is_filled_and_written(alloc: Global, book: &mut Book) -> Result<(), Fail> {
     is_written(alloc, book, "book 2 256\n")?;
-    let last = Event::Reap(u64::MAX);
+    let last = Event::Reap(Serial::of(u64::MAX));
     fill(book, &[Event::Take(ActorName(0)), Event::Hear, last])?;
     let is_filled = book.len() == 3 && book.weight() == 256 && book.at(2) == last;
     holds(
@@ -110,7 +110,7 @@ fn has_ten_entries(book: &Book) -> Result<(), Fail> {
         "the first line",
     )?;
     holds(
-        book.len() == 10 && book.at(9) == Event::Reap(1),
+        book.len() == 10 && book.at(9) == Event::Reap(Serial::of(1)),
         "the entries",
     )
 }

@@ -2,7 +2,7 @@
 
 use crate::table::{holds, same_text};
 use event_rule::Event;
-use orca_names::ActorName;
+use orca_names::{ActorName, Serial};
 use std::alloc::Global;
 use std::test::Fail;
 
@@ -36,9 +36,12 @@ fn events_rise_as_one_worker_does_them(rt: HostRuntime) -> Result<(), Fail> {
         (Event::Block(ActorName(65535)), "block 65535"),
         (Event::Hear, "hear"),
         (Event::Scan, "scan"),
-        (Event::Reap(1), "reap 1"),
-        (Event::Reap(2), "reap 2"),
-        (Event::Reap(u64::MAX), "reap 18446744073709551615"),
+        (Event::Reap(Serial::of(1)), "reap 1"),
+        (Event::Reap(Serial::of(2)), "reap 2"),
+        (
+            Event::Reap(Serial::of(u64::MAX)),
+            "reap 18446744073709551615",
+        ),
     ];
     rise(&rising)?;
     have_their_texts(rt.alloc(), &rising)

@@ -25,9 +25,9 @@ fn parting_at(alloc: Global, orca: &Orca<'_>, e: &Event) -> Result<Option<Partin
 {
     match *e {
         Event::Leave(actor) => Ok(Some(Parting::Left { actor })),
-        Event::Reap(token) => match orca.token_reports(alloc, token)? {
+        Event::Reap(token) => match orca.token_reports(alloc, token.get())? {
             Some(members) => Ok(Some(Parting::Reaped {
-                token,
+                token: token.get(),
                 members: Listed::from(members),
             })),
             None => Ok(None),

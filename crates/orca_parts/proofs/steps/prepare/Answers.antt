@@ -1,8 +1,9 @@
-use Rattle.std.proofs.Common.{subst}
+use Rattle.std.proofs.Common.{subst, sym}
 use Rattle.actor_cell.specs.Cells.{as_cell}
 use Rattle.actor_table.specs.Slots.{slot_at}
 use Rattle.orca_parts.specs.Core.{HasFound}
-use Rattle.orca_parts.specs.Steps.{CanStep}
+use Rattle.orca_parts.specs.Reaping.{AckedAreHome}
+use Rattle.orca_parts.specs.Steps.{CanStep, ReapsAtHome}
 use Rattle.orca_parts.proofs.Giving.{seat_here}
 use Rattle.orca_parts.proofs.steps.prepare.Goals as goal
 
@@ -24,4 +25,12 @@ prepare_collect-requires c =
     record {
       others = subst (CanStep m.options m.code.now m.parts) c.in-Collect.is c.requires.can;
       known = λ on. subst (λ e. HasFound e m) c.in-Collect.is (c.requires.known on);
+    }
+
+pub prepare_reap-requires : goal.prepare_reap-requires
+prepare_reap-requires c =
+    let m = c.args.m.now in
+    record {
+      home = subst (λ t. AckedAreHome t m.parts.detector.state m.parts.table.slots) (sym c.get.ensures)
+          (subst (λ e. ReapsAtHome e m.parts) c.in-Reap.is c.requires.home);
     }

@@ -14,10 +14,11 @@ pub returns-in-Some : goal.returns-in-Some
 returns-in-Some c =
     let m = c.self.inside in
     let slots = m.core.parts.table.slots in
-    subst (λ (v : Machine). IsFirst (next_of_kind is_of_detector v.out) v.state (Reap c.in-Some.token)) c.self.view_is
+    subst (λ t. IsFirst (next_of_kind is_of_detector c.args.self.now.out) c.args.self.now.state (Reap t)) (sym c.of.ensures)
+    (subst (λ (v : Machine). IsFirst (next_of_kind is_of_detector v.out) v.state (Reap c.in-Some.token)) c.self.view_is
     (first_of_tokens slots (away_of slots) (core_state m.core) refl refl
     (nil_from_length m.core.parts.notes.items (search rules)) (sym c.news.ensures ∙ c.if-news.false)
-    (Some c.in-Some.token) c.in-Some.ensures.value c.in-Some.ensures.lowest)
+    (Some c.in-Some.token) c.in-Some.ensures.value c.in-Some.ensures.lowest))
 
 pub returns-in-None : goal.returns-in-None
 returns-in-None c =
