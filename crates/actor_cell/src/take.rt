@@ -81,7 +81,7 @@ impl Cell {
             } => {
                 receive_trace(load, me, &mut self.count, &mut self.heap, &mut self.foreign);
                 learn_all(&mut self.known, me, rows);
-                start_frame(code, self.kind, *behaviour, args, &mut self.frame);
+                start_frame(code, self.kind, *behaviour, args.as_args(), &mut self.frame);
                 self.wake();
             }
             Letter::Inc { things } => {

@@ -1,12 +1,12 @@
 // What a turn is found to do.
 
-ghost use Rattle.std.specs.Prelude.{◌≡◌, None};
+ghost use Rattle.std.specs.Prelude.{◌≡◌, IsSome, None, OnOk};
 ghost use Rattle.letter_kinds.specs.declared.letter.Letter.TheVariants.{App as app};
 ghost use Rattle.actor_cell.specs.Awaiting.{awaited_by};
 
 use behaviour_code::Name;
-use letter_kinds::{Amounts, Letter, Load};
-use orca_names::{ActorName, Args, Value};
+use letter_kinds::{Amounts, Letter, Load, SentArgs};
+use orca_names::{ActorName, Args, NoMemory, Value};
 use plain_list::Listed;
 use reach_walk::ThingList;
 use std::alloc::Global;
@@ -59,6 +59,8 @@ pub struct Turned {
     pub seen: ThingList,
     /// The letter that it can send once it minted what this loads, with the arguments and the things found.
     pub awaited: Option<Awaited>,
+    /// Memory for the arguments of the next letter.
+    pub room: Option<SentArgs>,
 }
 
 impl Turned {
@@ -73,6 +75,7 @@ impl Turned {
             things: Listed::new(alloc),
             seen: ThingList::new(alloc),
             awaited: None,
+            room: None,
         }
     }
 
@@ -99,15 +102,53 @@ impl Turned {
         self.awaited = None;
     }
 
-    /// The letter that starts the behaviour, with its load and rows, which move out. It takes no memory.
+    /// Takes the memory for the arguments of a letter, if there is none.
+    ///
+    /// # Errors
+    /// `NoMemory` where memory was refused.
+    #[inline(always)]
+    pub fn reserve_letter(&mut self, alloc: Global) -> Result<(), NoMemory>
+        ensures rest { self.new ≡ record self.old { room = self.new.room } }
+        ensures ok { OnOk result (IsSome self.new.room) }
+    {
+        if self.room.is_none() {
+            self.room = Some(SentArgs::new(alloc)?);
+        }
+        Ok(())
+    }
+
+    /// Keeps the memory of a letter that was taken, if it has arguments.
+    #[inline(always)]
+    pub fn keep_room(&mut self, letter: Letter)
+        ensures rest { self.new ≡ record self.old { room = self.new.room } }
+        ensures kept { IsSome self.old.room → IsSome self.new.room }
+    {
+        if let Letter::App {
+            behaviour: _,
+            args,
+            load: _,
+            rows: _,
+        } = letter
+        {
+            self.room = Some(args);
+        }
+    }
+
+    /// The letter that starts the behaviour, with its load and rows, which move out, as does the memory
+    /// for its arguments. It takes no memory.
     #[inline(always)]
     pub fn take_letter(&mut self, alloc: Global, behaviour: Name) -> Letter
+        requires { IsSome self.old.room }
         ensures letter { result ≡ app behaviour self.old.args self.old.load self.old.rows }
         ensures awaited { self.new.awaited ≡ self.old.awaited }
     {
+        let Some(mut args) = self.room.take() else {
+            unreachable!();
+        };
+        args.copy_from(&self.args);
         Letter::App {
             behaviour,
-            args: self.args,
+            args,
             load: mem::replace(&mut self.load, Listed::new(alloc)),
             rows: mem::replace(&mut self.rows, Listed::new(alloc)),
         }

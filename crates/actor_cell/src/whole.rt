@@ -49,32 +49,24 @@ fn note_room(alloc: Global, comes: bool) -> Result<Vec<Note>, AllocError>
 }
 
 impl Turned {
-    // What it gives out. It takes no memory but the room that is handed in.
-    fn into_out(self, alloc: Global, mut room: Vec<(ActorName, Letter)>) -> Out
-        requires { IsRoomFor 1 room }
-        ensures { result ≡ out_of (act_in self) }
+    // What it gives out. It takes no memory but the room that is handed in, and that of its letter.
+    fn give_out(&mut self, alloc: Global, mut room: Vec<(ActorName, Letter)>) -> Out
+        requires room { IsRoomFor 1 room }
+        requires letter { IsSome self.old.room }
+        ensures { result ≡ out_of (act_in self.old) }
     {
-        let Turned {
-            doing,
-            args,
-            load,
-            rows,
-            things,
-            ..
-        } = self;
         let mut print = None;
         let mut made = None;
+        let doing = self.doing;
         match doing {
             Doing::Post { to, behaviour } => {
-                let letter = Letter::App {
-                    behaviour,
-                    args,
-                    load,
-                    rows,
-                };
+                let letter = self.take_letter(alloc, behaviour);
                 room.push_reserved((to, letter));
             }
-            Doing::Mint { owner } => room.push_reserved((owner, Letter::Inc { things })),
+            Doing::Mint { owner } => {
+                let things = self.take_things(alloc);
+                room.push_reserved((owner, Letter::Inc { things }));
+            }
             Doing::New { kind, register } => made = Some((kind, register)),
             Doing::Print { value } => print = Some(value),
             Doing::End | Doing::Rest => {}
@@ -149,9 +141,10 @@ impl Cell {
         let mut found = Turned::new(alloc);
         self.find_go(alloc, code, options, &mut turn, &mut found)?;
         let room = letter_room(alloc, 1)?;
+        found.reserve_letter(alloc)?;
         self.reserve_go(&turn, &found)?;
         self.apply_go(&turn, &found);
-        Ok(found.into_out(alloc, room))
+        Ok(found.give_out(alloc, room))
     }
 
     /// The idle actor frees what is not marked, gives back what it holds no more, and forgets the

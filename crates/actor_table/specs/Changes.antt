@@ -1,5 +1,5 @@
 -- What becomes of an actor by its part of an event, and when this can be done at its place.
-use Rattle.std.specs.Prelude.{ℕ, ◌≡◌, ◌≤◌, ◌+◌, ◌<◌, ◌^◌, ⊤, Bool, true, false, if◌then◌else◌, List, [], ◌∷◌, Option, None, Some, IsSome, length, option_map, set, vec_capacity, vec_len}
+use Rattle.std.specs.Prelude.{ℕ, ◌≡◌, ◌≤◌, ◌+◌, ◌<◌, ◌^◌, ⊤, Bool, true, false, if◌then◌else◌, List, [], ◌∷◌, Option, None, Some, IsSome, length, option_map, set, slice_get, vec_capacity, vec_len}
 use Rattle.std.specs.Global.{Vec}
 use Rattle.std.specs.Option.{option_map_or}
 use Rattle.orca_names.specs.declared.names.Thing.TheVariants.{Actor}
@@ -79,6 +79,11 @@ seat_after program a (Go turn found name weight) =
     with_cell_by (λ c. named weight name act (moved a turn found.place act c))
 seat_after program a (Collect found trace) = with_cell_by (swept trace a)
 seat_after program a Block = with_cell_by (λ c. record c { reported = true })
+
+-- what it takes of the letters
+abbrev pub letter_taken : Change → List Letter → Option Letter
+letter_taken Take letters = slice_get letters 0
+letter_taken change letters = None
 
 -- it is a step of a turn
 abbrev pub is_go : Change → Bool

@@ -3,10 +3,11 @@
 ghost use Rattle.std.specs.Prelude.{◌≡◌, ◌≤◌, OnOk};
 ghost use Rattle.machine_rules.specs.Actors.{seat};
 ghost use Rattle.actor_cell.specs.Cells.{as_cell};
-ghost use Rattle.actor_table.specs.Changes.{AllowsChange, Change, HasRoomIn, is_go, seat_after};
+ghost use Rattle.actor_table.specs.Changes.{AllowsChange, Change, HasRoomIn, is_go, letter_taken, seat_after};
 
 use actor_cell::{Cell, Doing, Sweep, Turned};
 use behaviour_check::Checked;
+use letter_kinds::Letter;
 use mail_rows::MailRow;
 use orca_names::{ActorName, NoMemory, Trace};
 use turn_step::Turn;
@@ -30,13 +31,15 @@ pub trait Changes {
         ensures owner { cell.new.heap.owner ≡ cell.old.heap.owner }
         ensures ok { OnOk result (HasRoomIn (as_change self.now) mail.now.letters cell.new) };
 
-    /// It is done to the cell and the letters of the actor. It takes no memory.
-    fn apply(&self, code: &Checked, cell: &mut Cell, mail: &mut MailRow)
+    /// It is done to the cell and the letters of the actor, and gives the letter that it takes. It
+    /// takes no memory.
+    fn apply(&self, code: &Checked, cell: &mut Cell, mail: &mut MailRow) -> Option<Letter>
         requires { AllowsChange cell.old.heap.owner (as_change self.now) mail.old.letters cell.old }
         ensures seat { let me = cell.old.heap.owner in seat (as_cell cell.new) mail.new.letters
             ≡ seat_after code.now me (as_change self.now) (seat (as_cell cell.old) mail.old.letters) }
         ensures owner { cell.new.heap.owner ≡ cell.old.heap.owner }
-        ensures room { mail.old.spare ≤ mail.new.spare };
+        ensures room { mail.old.spare ≤ mail.new.spare }
+        ensures taken { result ≡ letter_taken (as_change self.now) mail.old.letters };
 }
 
 /// An idle actor takes the first of its letters.
@@ -62,12 +65,12 @@ impl Changes for Take {
     }
 
     #[inline(always)]
-    fn apply(&self, code: &Checked, cell: &mut Cell, mail: &mut MailRow) {
+    fn apply(&self, code: &Checked, cell: &mut Cell, mail: &mut MailRow) -> Option<Letter> {
         let Some(letter) = mail.front() else {
             unreachable!();
         };
         cell.apply_take(code, letter);
-        let _ = mail.take();
+        mail.take()
     }
 }
 
@@ -97,11 +100,12 @@ impl Changes for Go<'_> {
     }
 
     #[inline(always)]
-    fn apply(&self, _code: &Checked, cell: &mut Cell, _mail: &mut MailRow) {
+    fn apply(&self, _code: &Checked, cell: &mut Cell, _mail: &mut MailRow) -> Option<Letter> {
         cell.apply_go(self.turn, self.found);
         if let Doing::New { kind: _, register } = self.found.doing {
             cell.settle_new(register, self.name, self.weight);
         }
+        None
     }
 }
 
@@ -128,8 +132,9 @@ impl Changes for Collect<'_> {
     }
 
     #[inline(always)]
-    fn apply(&self, _code: &Checked, cell: &mut Cell, _mail: &mut MailRow) {
+    fn apply(&self, _code: &Checked, cell: &mut Cell, _mail: &mut MailRow) -> Option<Letter> {
         cell.apply_collect(self.found);
+        None
     }
 }
 
@@ -153,7 +158,8 @@ impl Changes for Block {
     }
 
     #[inline(always)]
-    fn apply(&self, _code: &Checked, cell: &mut Cell, _mail: &mut MailRow) {
+    fn apply(&self, _code: &Checked, cell: &mut Cell, _mail: &mut MailRow) -> Option<Letter> {
         cell.apply_block();
+        None
     }
 }

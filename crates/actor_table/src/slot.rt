@@ -5,7 +5,7 @@ ghost use Rattle.std.specs.Option.{option_copied};
 ghost use Rattle.machine_rules.specs.Actors.{with_letter_more};
 ghost use Rattle.machine_rules.specs.Guards.{may_block, may_do, may_go};
 ghost use Rattle.actor_cell.specs.Cells.{as_cell};
-ghost use Rattle.actor_table.specs.Changes.{CanChange, HasRoomToChange, KeepsPlace, note_taken, seat_after};
+ghost use Rattle.actor_table.specs.Changes.{CanChange, HasRoomToChange, KeepsPlace, note_taken, letter_taken, seat_after};
 ghost use Rattle.actor_table.specs.declared.slot.Place.TheVariants.{Home};
 ghost use Rattle.actor_table.specs.Slots.{can_act, can_settle, event_in, event_of, home_of, is_away, mail_of, may_at, may_event, seat_of, IsOwnedBy};
 
@@ -237,18 +237,19 @@ pub(crate) fn note_on(slot: &Slot) -> Option<Note>
     }
 }
 
-/// The change is done, where the cell is at home.
+/// The change is done, where the cell is at home, and gives the letter that it takes.
 #[inline(always)]
-pub(crate) fn change<C: Changes>(code: &Checked, slot: &mut Slot, change: &C)
+pub(crate) fn change<C: Changes>(code: &Checked, slot: &mut Slot, change: &C) -> Option<Letter>
     requires { IsSomeAnd (home_of slot.old) (λ c. CanChange c.heap.owner (C.as_change change.now) slot.old) }
     ensures seat { (a : ℕ) → IsOwnedBy a slot.old.place
         → seat_of slot.new ≡ seat_after code.now a (C.as_change change.now) (seat_of slot.old) }
     ensures kept { KeepsPlace slot.old slot.new }
+    ensures taken { result ≡ letter_taken (C.as_change change.now) slot.old.mail.letters }
 {
     let Place::Home(cell) = &mut slot.place else {
         unreachable!();
     };
-    change.apply(code, cell, &mut slot.mail);
+    change.apply(code, cell, &mut slot.mail)
 }
 
 /// One letter more, if the actor is present.

@@ -5,7 +5,7 @@ ghost use Rattle.orca_names.specs.declared.limits.TheConstants.{ACTORS_LIMIT};
 ghost use Rattle.actor_table.specs.declared.slot.Slot.{Slot as a_slot};
 ghost use Rattle.machine_rules.specs.Actors.{push_letter, seat_at};
 ghost use Rattle.actor_cell.specs.Cells.{as_cell};
-ghost use Rattle.actor_table.specs.Changes.{CanChange, ChangesOne, HasRoomToChange, IsChangedAt, KeepsRoom, changed_at, seat_after};
+ghost use Rattle.actor_table.specs.Changes.{CanChange, ChangesOne, HasRoomToChange, IsChangedAt, KeepsRoom, changed_at, letter_taken, seat_after};
 ghost use Rattle.actor_table.specs.Index.{IsIndex};
 ghost use Rattle.actor_table.specs.declared.slot.Place.TheVariants.{Home};
 ghost use Rattle.actor_table.specs.Slots.{actors_of, away_of, can_act, can_settle, home_of, AreIndexed, IsOwnedBy, is_away, letters_in, places_of, seat_of, slot_at};
@@ -23,10 +23,15 @@ use orca_names::NoMemory;
 use ready_set::ReadySet;
 use std::alloc::Global;
 
-/// The change of the actor is done.
+/// The change of the actor is done, and gives the letter that it takes.
 #[tactic(auto, using(crate::proofs::Changing::actors_set, crate::proofs::Changing::away_kept, crate::proofs::Changing::seat_read, crate::proofs::Changing::room_kept))]
 #[inline(always)]
-pub(crate) fn change_at<C: Changes>(code: &Checked, slots: &mut Vec<Slot>, a: usize, change: &C)
+pub(crate) fn change_at<C: Changes>(
+    code: &Checked,
+    slots: &mut Vec<Slot>,
+    a: usize,
+    change: &C,
+) -> Option<Letter>
     requires owned { IsOwnedBy a (slot_at slots.old.items a).place }
     requires can { CanChange a (C.as_change change.now) (slot_at slots.old.items a) }
     ensures actors { actors_of slots.new.items
@@ -34,8 +39,10 @@ pub(crate) fn change_at<C: Changes>(code: &Checked, slots: &mut Vec<Slot>, a: us
     ensures away { away_of slots.new.items ≡ away_of slots.old.items }
     ensures room { KeepsRoom slots.old.items slots.new.items }
     ensures one { ChangesOne a slots.old slots.new }
+    ensures taken { result
+        ≡ letter_taken (C.as_change change.now) (slot_at slots.old.items a).mail.letters }
 {
-    slot::change(code, &mut slots[a], change);
+    slot::change(code, &mut slots[a], change)
 }
 
 /// A letter for the actor, if it is present.

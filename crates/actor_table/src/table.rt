@@ -6,7 +6,7 @@ ghost use Rattle.machine_rules.specs.Actors.{push_letter, seat_at};
 ghost use Rattle.actor_cell.specs.Cells.{as_cell};
 ghost use Rattle.orca_names.specs.declared.limits.TheConstants.{ACTORS_LIMIT};
 ghost use Rattle.actor_table.specs.declared.slot.Place.TheVariants.{Home};
-ghost use Rattle.actor_table.specs.Changes.{CanChange, HasCell, HasRoomToChange, KeepsRest, KeepsSpace, changed_at, note_taken, seat_after};
+ghost use Rattle.actor_table.specs.Changes.{CanChange, HasCell, HasRoomToChange, KeepsRest, KeepsSpace, changed_at, letter_taken, note_taken, seat_after};
 ghost use Rattle.ready_set.specs.Next.{IsNext};
 ghost use Rattle.actor_table.specs.Rounds.{IsNextThat, has_event};
 ghost use Rattle.actor_table.specs.Slots.{actors_of, away_of, can_act, can_settle, event_of, home_of, is_away, letters_in, mail_of, may_event, places_of, slot_at};
@@ -275,15 +275,17 @@ impl ActorTable {
         note_on(&self.slots[a.0 as usize])
     }
 
-    /// The change of an actor is done. It takes no memory.
+    /// The change of an actor is done, and gives the letter that it takes. It takes no memory.
     #[inline(always)]
-    pub fn change<C: Changes>(&mut self, code: &Checked, a: ActorName, change: &C)
+    pub fn change<C: Changes>(&mut self, code: &Checked, a: ActorName, change: &C) -> Option<Letter>
         requires { CanChange a (C.as_change change.now) (slot_at self.old.slots a) }
         ensures actors { actors_of self.new.slots
             ≡ changed_at (seat_after code.now a (C.as_change change.now)) a (actors_of self.old.slots) }
         ensures rest { KeepsRest self.old self.new }
+        ensures taken { result
+            ≡ letter_taken (C.as_change change.now) (slot_at self.old.slots a).mail.letters }
     {
-        change_at(code, &mut self.slots, a.0 as usize, change);
+        let taken = change_at(code, &mut self.slots, a.0 as usize, change);
         put_bits_after(
             &self.slots,
             &mut self.acting,
@@ -291,6 +293,7 @@ impl ActorTable {
             a.0,
             change,
         );
+        taken
     }
 
     /// A letter for an actor; where this is gone, the letter is lost.

@@ -9,7 +9,7 @@ use actor_cell::{Cell, Out};
 use behaviour_check::Checked;
 use behaviour_code::Name;
 use foreign_table::ForeignTable;
-use letter_kinds::{Amounts, Letter, Load, Note};
+use letter_kinds::{Amounts, Letter, Load, Note, SentArgs};
 use object_heap::ObjectHeap;
 use orca_names::{ActorName, Args, NoMemory, ObjName, Row, Serial, Thing, Value};
 use plain_list::Listed;
@@ -119,9 +119,11 @@ fn gets(alloc: Global, code: &Checked, cell: &mut Cell, behaviour: Name) -> Resu
     if !are_spare(&load, cell, 0) {
         return Err(Fail::from("its own things are loaded"));
     }
+    let mut args = SentArgs::new(alloc)?;
+    args.copy_from(&Args::of(&[Value::Obj(object_of(0)), Value::Actor(ActorName(2))]));
     let letter = Letter::App {
         behaviour,
-        args: Args::of(&[Value::Obj(object_of(0)), Value::Actor(ActorName(2))]),
+        args,
         load,
         rows: Listed::new(alloc),
     };

@@ -6,8 +6,8 @@ use crate::going::{checked, collects, goes, takes};
 use actor_cell::{Cell, Out};
 use behaviour_check::Checked;
 use behaviour_code::Name;
-use letter_kinds::{Letter, Note};
-use orca_names::{Args, Value};
+use letter_kinds::{Letter, Note, SentArgs};
+use orca_names::Value;
 use plain_list::Listed;
 use std::alloc::Global;
 use std::test::Fail;
@@ -26,7 +26,7 @@ fn take(alloc: Global, code: &Checked, cell: &mut Cell, behaviour: Name) -> Resu
 {
     let letter = Letter::App {
         behaviour,
-        args: Args::new(),
+        args: SentArgs::new(alloc)?,
         load: Listed::new(alloc),
         rows: Listed::new(alloc),
     };

@@ -1,7 +1,8 @@
 // Letters between actors.
 
+use crate::sent::SentArgs;
 use behaviour_code::Name;
-use orca_names::{Args, Row, Thing};
+use orca_names::{Row, Thing};
 use plain_list::Listed;
 
 /// Things, in the order of things, each once; an object may come with its row (Orca, OOPSLA 2017).
@@ -18,7 +19,7 @@ pub enum Letter {
     /// that, and the rows that they reach come uncounted.
     App {
         behaviour: Name,
-        args: Args,
+        args: SentArgs,
         load: Load,
         rows: Load,
     },

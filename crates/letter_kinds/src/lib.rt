@@ -7,6 +7,7 @@ mod laws;
 mod letter;
 mod note;
 mod plan;
+mod sent;
 
 pub use laws::{
     a_scan_leaves_no_news, acked_by_all_is_by_each, one_largest, rounds_give_the_largest,
@@ -15,3 +16,4 @@ pub use laws::{
 pub use letter::{Amounts, Letter, Load};
 pub use note::{Note, Report};
 pub use plan::SweepPlan;
+pub use sent::SentArgs;

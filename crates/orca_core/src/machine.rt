@@ -19,9 +19,9 @@ use actor_table::ActorTable;
 use behaviour_check::Checked;
 use cycle_detect::Detector;
 use event_rule::Event;
-use letter_kinds::Letter;
+use letter_kinds::{Letter, SentArgs};
 use mail_rows::MailRow;
-use orca_names::{ActorName, Args, NoMemory, Options, Trace, Value};
+use orca_names::{ActorName, NoMemory, Options, Trace, Value};
 use orca_parts::{Core, Parts, Ready, StepFault, apply, prepare};
 use plain_list::Listed;
 use std::alloc::Global;
@@ -65,9 +65,10 @@ fn first_mail(alloc: Global, code: &Checked) -> Result<MailRow, NoMemory>
     let mut mail = MailRow::new(alloc);
     if let Some(behaviour) = code.program().start_name() {
         mail.reserve(1)?;
+        let args = SentArgs::new(alloc)?;
         mail.push(Letter::App {
             behaviour,
-            args: Args::new(),
+            args,
             load: Listed::new(alloc),
             rows: Listed::new(alloc),
         });

@@ -34,7 +34,7 @@ use Rattle.actor_table.specs.Changes.{HasCell, changed_at, moved, with_cell_by}
 use Rattle.actor_table.specs.Slots.{actors_of, slot_at}
 use Rattle.machine_rules.specs.State.{State}
 use Rattle.orca_parts.specs.Awaiting.{AwaitedIn, IsAwaited, IsAwaitedHere}
-use Rattle.orca_parts.specs.Fits.{OnlyRoom}
+use Rattle.orca_parts.specs.Fits.{KeepsTurn, OnlyRoom}
 use Rattle.orca_parts.specs.declared.parts.Parts.{Parts}
 use Rattle.orca_parts.proofs.Giving.{seat_here}
 
@@ -114,17 +114,6 @@ module _ (program : Program) (me : ℕ) (c : Cell) (things : List Amount) where
   minted_awaits trace turn found letter w =
       subst (λ t. Awaits t program me c turn found letter → Awaits t program me minted turn found letter) (sym w.letter_is.deep) (deep_awaits turn found letter) w
 
--- what it minted is no matter
-pub awaits_without : (trace : Trace) (program : Program) (me : ℕ) (c : Cell) (turn : Turn) (found : Turned) (things : List Amount) (letter : Awaited)
-    → Awaits trace program me c turn found letter → Awaits trace program me c turn (record found { things = things }) letter
-awaits_without trace program me c turn found things letter w = record {
-  frame = w.frame;
-  framed = w.framed;
-  left = w.left;
-  place = w.place;
-  letter_is = record { its = w.letter_is.its; deep = w.letter_is.deep; sent = w.letter_is.sent; things = w.letter_is.things };
-}
-
 -- ---- all actors
 
 -- the cell of an actor that gets a letter stays
@@ -144,6 +133,19 @@ push_cell to l actors a = elim (cases_eq a to) as (λ _. cell_at (push_letter to
 module _ (trace : Trace) (program : Program) (turn : Turn) (found : Turned) where
   abbrev pub In : Actors → Type 0
   In = AwaitedIn trace program turn found
+
+  -- what it minted is no matter, nor memory for a letter
+  pub awaited_without : (things : List Amount) (room : Option (List Value)) (actors : Actors) → In actors
+      → AwaitedIn trace program turn (record found { things = things; room = room }) actors
+  awaited_without things room actors awaited letter d e there =
+      let w = awaited letter d e there in
+      record {
+        frame = w.frame;
+        framed = w.framed;
+        left = w.left;
+        place = w.place;
+        letter_is = record { its = w.letter_is.its; deep = w.letter_is.deep; sent = w.letter_is.sent; things = w.letter_is.things };
+      }
 
   -- the actor whose turn it is awaits it
   pub awaited_here : (a : ℕ) (c : Cell) (mail : List Letter) (actors : Actors) → seat_at actors a ≡ seat c mail
@@ -202,12 +204,14 @@ awaited_its a (Some l) letter e = elim (cases_eq l.actor a) as (λ _. letter.act
 -- ---- events
 
 -- where there is more room alone
-pub still_awaited : (trace : Trace) (program : Program) (old new : Parts) → OnlyRoom old new → new.turn ≡ old.turn → new.turned ≡ old.turned
+pub still_awaited : (trace : Trace) (program : Program) (old new : Parts) → OnlyRoom old new → KeepsTurn old new
     → IsAwaited trace program old → IsAwaited trace program new
-still_awaited trace program old new room turn turned awaited letter c e there =
+still_awaited trace program old new room kept awaited =
     let actors = ap (λ (s : State). s.actors) (room.state program (record { weight = 0; trace = trace })) in
-    let its = awaited letter c (sym (ap (λ (t : Turned). t.awaited) turned) ∙ e) (sym (ap (λ xs. cell_at xs letter.actor) actors) ∙ there) in
-    subst (λ t. Awaits trace program letter.actor c t new.turned letter) (sym turn) (subst (λ f. Awaits trace program letter.actor c old.turn f letter) (sym turned) its)
+    let its = awaited_without trace program old.turn old.turned old.turned.things new.turned.room (actors_of old.table.slots) awaited in
+    subst (λ t. AwaitedIn trace program t new.turned (actors_of new.table.slots)) (sym kept.turn)
+    (subst (λ f. AwaitedIn trace program old.turn f (actors_of new.table.slots)) (sym kept.turned)
+    (subst (AwaitedIn trace program old.turn (record old.turned { room = new.turned.room })) (sym actors) its))
 
 -- where it was found just now
 pub found_awaited : (trace : Trace) (program : Program) (a : ℕ) (m : Parts) → HasCell (slot_at m.table.slots a) (IsAwaitedHere trace program a m.turn m.turned)

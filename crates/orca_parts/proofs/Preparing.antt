@@ -183,7 +183,7 @@ module _ {T : Type 0} (e : Event) (m : Core) (parts : Parts) (room : OnlyRoom m.
     same = record { alike = record { code = refl; options = refl }; room = room };
     ok = ok;
     fault = fault;
-    stands = λ well on. still_awaited m.options.trace m.code.now m.parts parts room turn.turn turn.turned (well on);
+    stands = λ well on. still_awaited m.options.trace m.code.now m.parts parts room turn (well on);
   }
 
   -- what was found fits

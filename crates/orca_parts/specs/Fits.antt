@@ -124,7 +124,7 @@ pub record OnlyRoom (old new : Parts) : Type 0 where
       → state_of program options new ≡ state_of program options old
   pub away : away_of new.table.slots ≡ away_of old.table.slots
 
--- what was found of a turn stays
+-- what was found of a turn stays; memory for a letter may come
 pub record KeepsTurn (old new : Parts) : Type 0 where
   pub turn : new.turn ≡ old.turn
-  pub turned : new.turned ≡ old.turned
+  pub turned : new.turned ≡ record old.turned { room = new.turned.room }

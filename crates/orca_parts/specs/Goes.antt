@@ -32,7 +32,7 @@ HasRoomForOne to slots =
 
 -- there is room for what the act gives out
 abbrev pub HasRoomOut : Move → Parts → Type 0
-HasRoomOut (Post to letter) m = HasRoomForOne to m.table.slots
+HasRoomOut (Post to letter) m = HasRoomForOne to m.table.slots × IsSome m.turned.room
 HasRoomOut (Mint owner things) m = HasRoomForOne owner m.table.slots
 HasRoomOut (New kind register) m =
     (length m.table.slots < ACTORS_LIMIT) × (0 < m.table.spare)

@@ -1,6 +1,6 @@
 // Go: a frame runs up to its next act.
 
-ghost use Rattle.std.specs.Prelude.{ℕ, ◌≡◌, ◌+◌, ◌<◌, ◌≤◌, ◌^◌, ◌++◌, ◌∷◌, [], true, false, is_some, length, IfErr, IsSome, OnOk, None, Some};
+ghost use Rattle.std.specs.Prelude.{◌≡◌, ◌+◌, ◌<◌, ◌≤◌, ◌^◌, ◌++◌, ◌∷◌, [], true, false, is_some, length, IfErr, IsSome, OnOk, None, Some};
 ghost use Rattle.std.specs.FinMap as m;
 ghost use Rattle.orca_names.specs.declared.limits.TheConstants.{ACTORS_LIMIT, BODY_LIMIT};
 ghost use Rattle.orca_names.specs.declared.trace.Trace.{Trace as tracing};
@@ -117,7 +117,7 @@ fn runs(table: &ActorTable, a: ActorName) -> Result<(), StepFault>
 
 // Takes the memory for what the act that was found gives out.
 #[inline(always)]
-fn reserve_out(parts: &mut Parts) -> Result<(), NoMemory>
+fn reserve_out(alloc: Global, parts: &mut Parts) -> Result<(), NoMemory>
     requires { IsSome (out_of (act_in parts.old.turned)).made → length parts.old.table.slots < ACTORS_LIMIT }
     ensures same { OnlyRoom parts.old parts.new }
     ensures places { places_of parts.new.table.slots ≡ places_of parts.old.table.slots }
@@ -125,7 +125,11 @@ fn reserve_out(parts: &mut Parts) -> Result<(), NoMemory>
     ensures ok { OnOk result (HasRoomOut (act_in parts.old.turned) parts.new) }
 {
     match &parts.turned.doing {
-        Doing::Post { to, behaviour: _ } => parts.table.reserve_letters(*to, 1),
+        Doing::Post { to, behaviour: _ } => {
+            let to = *to;
+            parts.turned.reserve_letter(alloc)?;
+            parts.table.reserve_letters(to, 1)
+        }
         Doing::Mint { owner } => parts.table.reserve_letters(*owner, 1),
         Doing::New {
             kind: _,
@@ -152,7 +156,7 @@ fn makes(found: &Turned) -> bool
 // Takes all memory for what was found of the actor's turn; the state stays as it was.
 #[tactic(auto, using(crate::proofs::Preparing::no_memory, crate::proofs::Preparing::only_room))]
 #[inline(always)]
-fn prepare_turn(m: &mut Core<'_>, a: ActorName) -> Result<(), StepFault>
+fn prepare_turn(alloc: Global, m: &mut Core<'_>, a: ActorName) -> Result<(), StepFault>
     requires few { length m.old.parts.turn.made ≤ BODY_LIMIT }
     requires found { HasCell (slot_at m.old.parts.table.slots a)
         (IsFoundGo m.old.options m.old.code.now a m.old.parts.turn m.old.parts.turned) }
@@ -170,7 +174,7 @@ fn prepare_turn(m: &mut Core<'_>, a: ActorName) -> Result<(), StepFault>
     if m.parts.table.reserve(a, &change).is_err() {
         return Err(StepFault::NoMemory);
     }
-    if reserve_out(&mut m.parts).is_err() {
+    if reserve_out(alloc, &mut m.parts).is_err() {
         return Err(StepFault::NoMemory);
     }
     Ok(())
@@ -252,7 +256,7 @@ pub(crate) fn prepare_go(
     ) {
         Ok(()) => {
             m.stands = !known;
-            prepare_turn(m, a)
+            prepare_turn(alloc, m, a)
         }
         Err(fault) => Err(fault),
     }
@@ -297,7 +301,8 @@ fn post_letter(
     to: ActorName,
     behaviour: Name,
 ) -> Option<ActorName>
-    requires { HasRoomForOne to table.old.slots }
+    requires room { HasRoomForOne to table.old.slots }
+    requires letter { IsSome found.old.room }
     ensures posts { let letter = app behaviour found.old.args found.old.load found.old.rows in
         Posts (push_letter to letter) table.old.slots table.new.slots result }
     ensures awaited { found.new.awaited ≡ found.old.awaited }

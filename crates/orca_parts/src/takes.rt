@@ -1,6 +1,7 @@
 // Take: an idle actor takes the first of its letters.
 
-ghost use Rattle.std.specs.Prelude.{◌≡◌, ◌<◌, IsSome};
+ghost use Rattle.std.specs.Prelude.{◌≡◌, ◌<◌, ◌++◌, ◌∷◌, [], IsSome, ⊤};
+ghost use Rattle.std.specs.Option.{option_map_or};
 ghost use Rattle.std.specs.VecDeque.{deque_capacity, deque_len};
 ghost use Rattle.event_rule.specs.declared.event.Event.TheVariants.{Take as take_event};
 ghost use Rattle.machine_rules.specs.Actors.{seat_at};
@@ -18,10 +19,12 @@ ghost use Rattle.orca_parts.specs.Ready.{Prepares};
 use crate::fault::StepFault;
 use crate::insides::Core;
 use crate::parts::Parts;
-use actor_table::Take;
+use actor_table::{ActorTable, Take};
 use behaviour_check::Checked;
 use event_rule::Event;
+use letter_kinds::Note;
 use orca_names::ActorName;
+use std::collections::VecDeque;
 
 /// The memory for what the actor's first letter brings and for what is noted of it. Nothing changes.
 ///
@@ -42,7 +45,22 @@ pub(crate) fn prepare_take(m: &mut Core<'_>, a: ActorName) -> Result<(), StepFau
     Ok(())
 }
 
-/// The idle actor takes the first of its letters. It takes no memory, and wakes nobody.
+// What the detector is to hear where the actor takes the first of its letters goes behind the notes.
+#[inline(always)]
+fn push_note(table: &ActorTable, notes: &mut VecDeque<Note>, a: ActorName)
+    requires here { HasCell (slot_at table.now.slots a) (λ c. ⊤) }
+    requires room { IsSome (note_taken a (seat_at (actors_of table.now.slots) a))
+        → deque_len notes.old < deque_capacity notes.old }
+    ensures { notes.new.items ≡ option_map_or (λ note. notes.old.items ++ note ∷ [])
+        (note_taken a (seat_at (actors_of table.now.slots) a)) notes.old.items }
+{
+    if let Some(note) = table.note_on(a) {
+        notes.push_back_reserved(note);
+    }
+}
+
+/// The idle actor takes the first of its letters; the memory of its arguments serves again. It takes no
+/// memory, and wakes nobody.
 pub(crate) fn apply_take(code: &Checked, parts: &mut Parts, a: ActorName) -> Option<ActorName>
     requires can { let x = slot_at parts.old.table.slots a in
         HasCell x (CanTakeHere a x.mail.letters) }
@@ -55,9 +73,10 @@ pub(crate) fn apply_take(code: &Checked, parts: &mut Parts, a: ActorName) -> Opt
     ensures away { away_of parts.new.table.slots ≡ away_of parts.old.table.slots }
     ensures woken { IsLowestWoken (actors_of parts.old.table.slots) (actors_of parts.new.table.slots) result }
 {
-    if let Some(note) = parts.table.note_on(a) {
-        parts.notes.push_back_reserved(note);
-    }
-    parts.table.change(code, a, &Take);
+    push_note(&parts.table, &mut parts.notes, a);
+    let Some(letter) = parts.table.change(code, a, &Take) else {
+        unreachable!();
+    };
+    parts.turned.keep_room(letter);
     None
 }

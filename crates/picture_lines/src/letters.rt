@@ -92,7 +92,7 @@ fn push_letter(out: &mut String, names: &Names, letter: &Letter) -> Result<(), A
             load,
             rows,
         } => {
-            push_call(out, names.text_or_empty(*behaviour), args)?;
+            push_call(out, names.text_or_empty(*behaviour), args.as_args())?;
             push_loads(out, load)?;
             push_brought(out, rows)
         }

@@ -21,7 +21,7 @@ pub(crate) fn args_of(letter: &Letter) -> &[Value]
             args,
             load: _,
             rows: _,
-        } => args.as_slice(),
+        } => args.as_args().as_slice(),
         Letter::Inc { things: _ } => &[],
         Letter::Dec { things: _ } => &[],
         Letter::Confirm { token: _ } => &[],

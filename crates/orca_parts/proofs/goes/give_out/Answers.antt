@@ -4,7 +4,7 @@ use Rattle.letter_kinds.specs.declared.letter.Letter.TheVariants.{Inc}
 use Rattle.actor_table.specs.Slots.{actors_of}
 use Rattle.orca_parts.specs.declared.parts.Parts.{Parts}
 use Rattle.orca_parts.specs.Awaiting.{AwaitedIn}
-use Rattle.orca_parts.proofs.Awaiting.{awaits_without, push_awaits}
+use Rattle.orca_parts.proofs.Awaiting.{awaited_without, push_awaits}
 use Rattle.orca_parts.proofs.goes.give_out.Goals as goal
 
 pub returns-in-Post-clause-awaited : goal.returns-in-Post-clause-awaited
@@ -22,4 +22,4 @@ returns-in-Mint-clause-awaited c = λ trace minted.
     (push_awaits trace code m.turn t c.in-Mint.owner (Inc t.things) (actors_of m.table.slots) (minted c.in-Mint.owner c.in-Mint.is))
     in
     subst (λ found. AwaitedIn trace code m.turn found (actors_of c.post_things.new.table.slots)) (sym does.rest)
-    (λ letter x e there. awaits_without trace code letter.actor x m.turn t c.post_things.new.found.things letter (its letter x e there))
+    (awaited_without trace code m.turn t c.post_things.new.found.things t.room (actors_of c.post_things.new.table.slots) its)

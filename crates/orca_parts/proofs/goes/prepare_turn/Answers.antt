@@ -25,6 +25,6 @@ returns c =
     let turn = c.reserve_out.ensures.turn in
     prepared (Go c.args.a) core c.reserve_out.new.parts room (record { turn = turn.turn; turned = turn.turned })
     (subst (λ t. FitsGo core.options core.code.now c.args.a t c.reserve_out.new.parts) (sym turn.turned)
-    (fits_go core.options core.code.now c.args.a m.turned m.table.slots m.turn c.reserve.new.self.slots c.reserve_out.new.parts
+    (fits_go core.options core.code.now c.args.a (record m.turned { room = c.reserve_out.new.parts.turned.room }) m.table.slots m.turn c.reserve.new.self.slots c.reserve_out.new.parts
     c.requires.found c.reserve.ensures.actors c.reserve.ensures.rest.away (when_ok c.reserve.result c.if-is_err.ensures.value c.reserve.ensures.ok)
     c.reserve_out.ensures.places turn.turn (when_ok c.reserve_out.result c.if-is_err-2.ensures.value c.reserve_out.ensures.ok) c.requires.few))

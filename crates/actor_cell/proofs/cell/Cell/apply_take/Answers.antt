@@ -4,6 +4,7 @@ use Rattle.letter_kinds.specs.Counting.{lower_all, raise_all, receive}
 use Rattle.known_rows.specs.Holdings.{holdings_of}
 use Rattle.trace_send.specs.Can.{CanLower, CanRaise}
 use Rattle.trace_send.proofs.Raising.{can_lower_with, can_raise_with}
+use Rattle.turn_rules.specs.Frames.{frame_for}
 use Rattle.machine_rules.specs.Take.{cell_after, learn}
 use Rattle.actor_cell.specs.Cells.{as_cell}
 use Rattle.actor_cell.specs.Takes.{CanTake}
@@ -15,8 +16,9 @@ returns-in-App c =
     let me = c.args.self.now.heap.owner in
     let counts = c.receive_trace.ensures.counts ∙ ap (λ a. receive a c.in-App.load s.holdings) c.owner-me.ensures in
     let known = c.learn_all.ensures ∙ ap (λ a. learn a c.in-App.rows s.known) c.owner-me.ensures in
+    let frame = c.start_frame.ensures ∙ ap (frame_for c.args.code.now s.kind c.in-App.behaviour) c.as_args.ensures in
     let cell = c.wake.ensures.0
-    ∙ (λ i. record s { frame = c.start_frame.ensures i; holdings = counts i; known = known i; dirty = true; reported = false })
+    ∙ (λ i. record s { frame = frame i; holdings = counts i; known = known i; dirty = true; reported = false })
     ∙ ap (λ l. cell_after c.args.code.now me l s) (sym c.in-App.is) in
     (cell, c.wake.ensures.1 ∙ c.receive_trace.ensures.heap.0)
 

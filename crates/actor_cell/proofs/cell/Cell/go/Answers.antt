@@ -3,7 +3,7 @@ use Rattle.std.specs.Prelude.{IsSomeAnd, option_map}
 use Rattle.turn_rules.specs.declared.act.Frame.{Frame}
 use Rattle.machine_rules.specs.Cell as rules
 use Rattle.actor_cell.specs.Cells.{as_cell}
-use Rattle.actor_cell.specs.Goes.{IsTold, cell_by, gone_by, turned_in}
+use Rattle.actor_cell.specs.Goes.{IsTold, cell_by, gone_by, out_of, turned_in}
 use Rattle.actor_cell.specs.Moves.{act_in}
 use Rattle.actor_cell.proofs.Telling.{told_gone}
 use Rattle.actor_cell.proofs.cell.Cell.go.Goals as goal
@@ -16,7 +16,7 @@ returns-clause-gone c = by c.args.self.now.frame refl c.in_ok-find_go.ensures.fo
         c.find_go.new.turn c.find_go.new.found.place (act_in c.find_go.new.found))
         → option_map (λ f. gone_by c.args.self.now.heap.owner (as_cell c.args.self.now) f
         (turned_in (record { weight = c.args.weight; trace = c.args.trace }) c.args.code.now c.args.self.now.heap.owner (as_cell c.args.self.now) f)) frame
-        ≡ Some (record { cell = as_cell c.apply_go.new.self; out = c.into_out.result })
+        ≡ Some (record { cell = as_cell c.apply_go.new.self; out = c.give_out.result })
     by None at tells = absurd tells
     by (Some frame) at tells =
         let s = c.args.self.now in
@@ -25,9 +25,10 @@ returns-clause-gone c = by c.args.self.now.frame refl c.in_ok-find_go.ensures.fo
         let place = c.find_go.new.found.place in
         let does = act_in c.find_go.new.found in
         let kept = c.in_ok-reserve_go.ensures in
+        let found = c.in_ok-reserve_letter.ensures.rest in
         let its : as_cell c.apply_go.new.self ≡ cell_by me (as_cell s) frame turn place does =
         c.apply_go.ensures.cell frame (ap (λ (k : rules.Cell). k.frame) kept.same.0 ∙ at)
-        ∙ (λ i. cell_by (kept.same.1 i) (kept.same.0 i) frame turn place does)
+        ∙ (λ i. cell_by (kept.same.1 i) (kept.same.0 i) frame turn (found i).place (act_in (found i)))
         in
         ap Some (ap (gone_by me (as_cell s) frame) tells ∙ told_gone frame (as_cell s) turn place me does
-        ∙ (λ i. record { cell = sym its i; out = sym c.into_out.ensures i }))
+        ∙ (λ i. record { cell = sym its i; out = sym (c.give_out.ensures ∙ ap (λ t. out_of (act_in t)) found) i }))
