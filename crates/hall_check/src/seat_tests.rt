@@ -1,8 +1,10 @@
 // Two passes of the hall whose cells move out, on one thread.
 
 ghost use Rattle.orca_names.specs.declared.limits.TheConstants.{BOOK_LIMIT};
-ghost use Rattle.std.specs.Prelude.{◌≡◌, ◌≤◌, IfOk};
+ghost use Rattle.std.specs.Prelude.{◌≡◌, ◌≤◌, IfOk, IfSome, Some};
+ghost use Rattle.event_rule.specs.Events.{actor_of};
 ghost use Rattle.seat_hall.specs.Boards.{out_of};
+ghost use Rattle.seat_hall.specs.Passes.{MayCommit};
 ghost use Rattle.hall_check.specs.Keeping.{KeepsClaim, keeps_claim_prop};
 
 use crate::asking::{
@@ -215,16 +217,53 @@ fn is_at(answer: Result<Committed, Refuse>, place: u64) -> bool {
     }
 }
 
-/// Whether a pass tells of entries at just these places while it goes on with an actor.
+/// The claim that a pass gets when it takes an actor up, with the entry of a letter.
+fn taken_up<'a, R: AllocGlobal + Wait>(
+    rt: &R,
+    pass: &mut SeatPass<'_, 'a>,
+    actor: ActorName,
+) -> Option<SeatTask<'a>>
+    ensures hall { pass.new.token.table_id ≡ pass.old.token.table_id }
+    ensures owns { IfSome result (MayCommit pass.new.number pass.new.token) }
+    ensures actor { IfSome result (λ task. actor_of task.taken.event ≡ Some actor) }
+{
+    let mut task = None;
+    match pass.take_up(rt, rt.alloc(), actor, &mut task) {
+        Ok(true) => task,
+        _ => None,
+    }
+}
+
+/// The claim by which a pass begins with an actor.
+fn begun<'a, R: AllocGlobal + Wait>(
+    rt: &R,
+    pass: &mut SeatPass<'_, 'a>,
+    actor: ActorName,
+    up: bool,
+) -> Option<SeatTask<'a>>
+    ensures hall { pass.new.token.table_id ≡ pass.old.token.table_id }
+    ensures owns { IfSome result (MayCommit pass.new.number pass.new.token) }
+    ensures actor { IfSome result (λ task. actor_of task.taken.event ≡ Some actor) }
+{
+    if up {
+        taken_up(rt, pass, actor)
+    } else {
+        pass.claim(rt, rt.alloc(), actor).ok()
+    }
+}
+
+/// Whether a pass tells of entries at just these places while it goes on with an actor, which it takes up
+/// first, or claims.
 fn goes_on<R: AllocGlobal + Wait>(
     rt: &R,
     pass: &mut SeatPass<'_, '_>,
     actor: ActorName,
+    up: bool,
     places: &[u64],
 ) -> bool
     ensures { pass.new.token.table_id ≡ pass.old.token.table_id }
 {
-    let mut task = pass.claim(rt, rt.alloc(), actor).ok();
+    let mut task = begun(rt, pass, actor, up);
     let mut well = true;
     for place in places {
         let Some(claim) = &mut task else {
@@ -237,19 +276,40 @@ fn goes_on<R: AllocGlobal + Wait>(
     well && task.is_none()
 }
 
-/// The seat of a pass that goes on with the first actor and then with the second, and whether it tells of
-/// entries at these places.
+/// The seat of a pass that goes on with the first actor and then with the second, which it takes up or claims,
+/// and whether it tells of entries at these places.
 fn both_go_on<'a, R: AllocGlobal + Wait>(
     rt: &R,
     pass: SeatPass<'_, 'a>,
+    up: bool,
     first: &[u64],
     second: &[u64],
 ) -> (HallSeat<'a>, bool)
     ensures { result.0.token.table_id ≡ pass.entry.token.table_id }
 {
     let mut pass = pass;
-    let well = goes_on(rt, &mut pass, ActorName(0), first)
-        && goes_on(rt, &mut pass, ActorName(1), second);
+    let well = goes_on(rt, &mut pass, ActorName(0), up, first)
+        && goes_on(rt, &mut pass, ActorName(1), up, second);
+    (pass.into_seat(), well)
+}
+
+/// Whether a pass enters what the first actor has to do at once, at these places, before and behind its turn.
+fn enters_at_once<R: AllocGlobal + Wait>(rt: &R, pass: &mut SeatPass<'_, '_>) -> bool
+    ensures { pass.new.token.table_id ≡ pass.old.token.table_id }
+{
+    is_at(pass.enter_first(rt, rt.alloc(), ActorName(0)), 0)
+        && pass.enter_first(rt, rt.alloc(), ActorName(0)) == Err(Refuse::NotReady)
+        && goes_on(rt, pass, ActorName(0), false, &[1, 2])
+        && is_at(pass.enter_first(rt, rt.alloc(), ActorName(0)), 3)
+        && is_at(pass.enter_first(rt, rt.alloc(), ActorName(0)), 4)
+}
+
+/// The seat of a pass that did so, and whether it could.
+fn all_at_once<'a, R: AllocGlobal + Wait>(rt: &R, pass: SeatPass<'_, 'a>) -> (HallSeat<'a>, bool)
+    ensures { result.0.token.table_id ≡ pass.entry.token.table_id }
+{
+    let mut pass = pass;
+    let well = enters_at_once(rt, &mut pass);
     (pass.into_seat(), well)
 }
 
@@ -271,6 +331,10 @@ enum Play {
     Splits(u32),
     /// It goes on with the first actor, with entries at these places, and then with the second.
     GoesOn(&'static [u64], &'static [u64]),
+    /// It enters what the first actor has to do at once, but for its turn.
+    AtOnce,
+    /// As `GoesOn`, but it takes both actors up, with the entry of a letter before those at these places.
+    TakesUp(&'static [u64], &'static [u64]),
 }
 
 /// The seat of the pass once it has done so, and whether it could.
@@ -285,7 +349,9 @@ fn done<'a, R: Abort + AllocGlobal + Wait>(
     match play {
         Play::Calls(calls) => played(rt, pass, calls),
         Play::Splits(most) => all_split(rt, pass, most),
-        Play::GoesOn(first, second) => both_go_on(rt, pass, first, second),
+        Play::GoesOn(first, second) => both_go_on(rt, pass, false, first, second),
+        Play::AtOnce => all_at_once(rt, pass),
+        Play::TakesUp(first, second) => both_go_on(rt, pass, true, first, second),
     }
 }
 
@@ -390,5 +456,22 @@ fn a_commit_goes_on_with_its_actor(rt: HostRuntime) -> Result<(), Fail> {
     let play = Play::GoesOn(&[0, 1, 2, 3, 4], &[5, 6, 7, 9, 10]);
     let end = ends(&rt, PRINTS_TWICE, 100, play)?;
     assert!(rt; end == (End::Whole(11, 2), true));
+    Ok(())
+}
+
+// Each actor's first letter is taken when it is taken up, at places 0 and 5.
+#[test]
+fn an_actor_is_taken_up_with_its_letter(rt: HostRuntime) -> Result<(), Fail> {
+    let play = Play::TakesUp(&[1, 2, 3, 4], &[6, 7, 9, 10]);
+    let end = ends(&rt, PRINTS_TWICE, 100, play)?;
+    assert!(rt; end == (End::Whole(11, 2), true));
+    Ok(())
+}
+
+// A letter is taken, and behind the turn a collection and a report are made, with no claim.
+#[test]
+fn what_is_short_is_entered_at_once(rt: HostRuntime) -> Result<(), Fail> {
+    let end = ends(&rt, SEVEN, 20, Play::AtOnce)?;
+    assert!(rt; end == (End::Whole(5, 1), true));
     Ok(())
 }

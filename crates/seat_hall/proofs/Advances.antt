@@ -14,12 +14,12 @@ use Rattle.work_board.specs.declared.answers.Committed.{Committed}
 use Rattle.seat_hall.specs.declared.item.Item.{Item}
 use Rattle.seat_hall.specs.declared.item.Item.TheVariants.{Claimed, Entered}
 use Rattle.seat_hall.specs.declared.task.SeatTask.{SeatTask}
-use Rattle.seat_hall.specs.Advances.{Advances, ClaimedOn, Claims, GoesOn, IsNext, Reckons, Takes, Took, claiming, hall_by, taking}
+use Rattle.seat_hall.specs.Advances.{Advances, ClaimedOn, Claims, GoesOn, IsNext, IsTakenUp, Reckons, Takes, TakesUp, Took, claiming, hall_by, taking}
 use Rattle.seat_hall.specs.Answers.{Enters}
-use Rattle.seat_hall.specs.Fair.{after_item, start_of}
+use Rattle.seat_hall.specs.Fair.{after_item, hall_of, start_of}
 use Rattle.seat_hall.specs.Halls.{HallView, says}
 use Rattle.seat_hall.specs.Log.{Logged, after, by, entry_cause, hall_from, items_by}
-use Rattle.seat_hall.specs.Passes.{HasItsCell, IsAtHall, KeepsCells, KeepsOthers, StandsAt, Token, hall, out, seen}
+use Rattle.seat_hall.specs.Passes.{Calls, HasItsCell, IsAtHall, KeepsCells, KeepsOthers, StandsAt, Token, hall, out, seen}
 use Rattle.seat_hall.proofs.Commits.{commit_cells, commit_out}
 use Rattle.seat_hall.proofs.Entries.{stands}
 use Rattle.seat_hall.proofs.Holding.{pass_or}
@@ -81,6 +81,18 @@ module _ (n a : ℕ) (s t : Token) (g : HallView) (r : Reckons n (knows s) g) wh
         out_is = claim_out n s s g at_s a may.0.0 t claim.wrote within ∙ sym less;
       }
   claimed_next None claim before less = tt
+
+  pub claimed_up : (next : Option SeatTask) → ClaimedOn n a next (knows s) (knows t) → (before : Token)
+      → out n s ≡ out n before → IfSome next (IsTakenUp n a before t)
+  claimed_up (Some task) claim before same =
+      let may = granted task claim.claims in
+      let within = subst (λ (l : Logged). a < length l.claims) (sym r.shows) claim.within in record {
+        owner = claim.claims.0.1.owner;
+        may = claim_owns n s s g at_s a may.0.0 t claim.wrote within task may.0.1;
+        fresh = claim.fresh;
+        more = claim_out n s s g at_s a may.0.0 t claim.wrote within ∙ ap (λ (k : ℕ). k + 1) same;
+      }
+  claimed_up None claim before same = tt
 
   pub claimed_none : (next : Option SeatTask) → ClaimedOn n a next (knows s) (knows t) → IfNone next (out n t ≡ out n s)
   claimed_none (Some task) claim = tt
@@ -219,6 +231,79 @@ module _ (n a : ℕ) (old mid s t new : Token) (h : HallView) (at : IsAtHall n o
     calls = all_calls;
   }
 
+-- ---- the call that takes an actor up
+
+pub record WentUp (n a : ℕ) (old new : Token) (took : Bool) (next : Option SeatTask) : Type 0 where
+  pub cells : KeepsCells n old new
+  pub next_is : IfSome next (IsTakenUp n a old new)
+  pub none : IfNone next (out n new ≡ out n old)
+  pub client : (knows new).client ≡ (knows old).client
+  pub calls : Calls n old new (taking n a took ++ claiming n a next) (TakesUp n a took next)
+
+module _ (n a : ℕ) (old mid s t new : Token) (h : HallView) (at : IsAtHall n old mid h) (still : knows s ≡ knows mid)
+    (begins : Reckons n (knows s) h)
+    (took : Bool) (takes : Took n a took (knows s) (knows t))
+    (u : HallView) (reckons : Reckons n (knows t) u)
+    (next : Option SeatTask) (claims : ClaimedOn n a next (knows t) (knows new)) where
+  up_cells : KeepsCells n old new
+  up_cells b d has =
+      claimed_cells n a t new u reckons next claims b d
+      (took_cells n a s t h begins took takes b d (read_cells n old mid s h at still b d has))
+
+  up_out : out n t ≡ out n old
+  up_out = took_out n a s t h begins took takes ∙ read_out n old mid s h at still
+
+  up_none : IfNone next (out n new ≡ out n old)
+  up_none = cases next (claimed_none n a t new u reckons next claims)
+    where
+      cases : (next : Option SeatTask) → IfNone next (out n new ≡ out n t) → IfNone next (out n new ≡ out n old)
+      cases (Some task) none = tt
+      cases None same = same ∙ up_out
+
+  up_client : (knows new).client ≡ (knows old).client
+  up_client = claimed_client n a t new u reckons next claims
+      ∙ (took_client n a s t h begins took takes ∙ (ap (λ k. k.client) still ∙ at.client))
+
+  pub up_turns : (knows mid).turns ≡ (knows old).turns + 1 → (knows new).turns ≡ (knows old).turns + 1
+  up_turns had = claimed_turns n a t new u reckons next claims
+      ∙ (took_turns n a s t h begins took takes ∙ (ap (λ k. k.turns) still ∙ had))
+
+  abbrev up_own : List Item
+  up_own = taking n a took ++ claiming n a next
+
+  up_saw : seen new ≡ seen mid ++ up_own
+  up_saw = claimed_seen n a t new u reckons next claims
+      ∙ (ap (λ xs. xs ++ claiming n a next) (took_seen n a s t h begins took takes
+      ∙ ap (λ k. k.seen ++ taking n a took) still)
+      ∙ append_assoc (seen mid) (taking n a took) (claiming n a next))
+
+  up_hall : hall_by (knows s) ≡ hall old (seen mid)
+  up_hall = ap hall_by still ∙ (λ i. hall_of (at.client i) (seen mid))
+
+  up_answers : TakesUp n a took next (hall old (seen mid))
+  up_answers = record {
+    takes = subst (Takes n a took) up_hall takes.0;
+    claims = subst (Claims a next) (took_hall n a s t h begins took takes
+        ∙ ap (λ (l : Logged). hall_from l (taking n a took)) up_hall) claims.claims;
+  }
+
+  pub went_up : WentUp n a old new took next
+  went_up = record {
+    cells = up_cells;
+    next_is = claimed_up n a t new u reckons next claims old up_out;
+    none = up_none;
+    client = up_client;
+    calls = record {
+      log = seen mid;
+      whole = at.whole;
+      now = up_saw;
+      mine = ap (items_by n) up_saw ∙ (filter-append (λ i. by i == n) (seen mid) up_own
+          ∙ ((λ i. own_still n old mid new h at i
+          ++ own_taking n a took (claiming n a next) (own_claiming n a next) i)));
+      answers = up_answers;
+    };
+  }
+
 -- ---- as a board tells it
 
 -- the task is of this actor
@@ -235,6 +320,14 @@ next_actor n a old new next b same is =
 pub next_one : (n a : ℕ) (old new : Token) (next : Option SeatTask) → IfSome next (IsNext n a old new)
     → IfSome next (λ _. out n new ≤ out n old - 1 + 1)
 next_one n a old new next is = IfSome_then next is (λ task its. let same = its.out_is in omega arith)
+
+pub taken_up_actor : (n a : ℕ) (old new : Token) (next : Option SeatTask) → IfSome next (IsTakenUp n a old new)
+    → IfSome next (λ task. actor_of task.taken.event ≡ Some a)
+taken_up_actor n a old new next is = IfSome_then next is (λ task its. task.taken.its ∙ ap Some its.owner)
+
+pub taken_up_one : (n a : ℕ) (old new : Token) (next : Option SeatTask) → IfSome next (IsTakenUp n a old new)
+    → IfSome next (λ _. out n new ≤ out n old + 1)
+taken_up_one n a old new next is = IfSome_then next is (λ task its. let more = its.more in omega arith)
 
 pub next_none : (next : Option SeatTask) (before after : ℕ) → IfNone next (before ≡ after + 1) → IfNone next (after ≡ before - 1)
 next_none (Some task) before after none = tt

@@ -12,7 +12,7 @@ use Rattle.seat_hall.specs.Halls.{HallView, says}
 use Rattle.seat_hall.specs.Log.{Legal, Logged, MayFollow, after}
 use Rattle.seat_hall.specs.Passes.{Holds, IsAtHall, Token, seen}
 use Rattle.seat_hall.proofs.Logs.{legal_snoc, made_one}
-use Rattle.seat_hall.proofs.Turns.{client_still, client_then, hall_then, seen_then}
+use Rattle.seat_hall.proofs.Turns.{client_still, client_then, hall_then, reckons, seen_then}
 
 -- what lies in the slot that was taken last
 abbrev lies_in : HallView → List (ℕ × Option HallView) → HallView
@@ -37,6 +37,18 @@ at_again n t h r = record {
   given = r.given;
   number = r.number;
   client = refl;
+}
+
+-- and at a turn that has just begun it reckons so
+pub reckons_at : (n : ℕ) (old mid : Token) (h : HallView) → IsAtHall n old mid h → (knows mid).heard ≡ seen mid
+    → Reckons n (knows mid) h
+reckons_at n old mid h at heard = record {
+  number = at.number;
+  heard = heard;
+  legal = subst (λ (v : PassView). Legal (start_of v) (seen mid)) (sym at.client) at.whole.legal;
+  shows = reckons n old mid mid h at;
+  heavy = subst (λ (v : PassView). 0 < v.options.weight) (sym at.client) at.heavy;
+  given = at.given;
 }
 
 -- and it reckons so again when it wrote an item

@@ -1,5 +1,5 @@
 -- A call that goes on with its actor under the same turn.
-use Rattle.std.specs.Prelude.{ℕ, ◌≡◌, ◌<◌, ◌≤◌, Bool, true, false, List, [], ◌∷◌, ◌++◌, length, Option, Some, None, IfSome}
+use Rattle.std.specs.Prelude.{ℕ, ◌≡◌, ◌+◌, ◌<◌, ◌≤◌, Bool, true, false, List, [], ◌∷◌, ◌++◌, length, Option, Some, None, IfSome}
 use Rattle.atomic_table.specs.Seated.{TableId}
 use Rattle.event_rule.specs.declared.event.Event.{Event}
 use Rattle.event_rule.specs.declared.event.Event.TheVariants.{Take}
@@ -59,6 +59,18 @@ pub record IsNext (pass a : ℕ) (old new : Token) (task : SeatTask) : Type 0 wh
   pub may : MayCommit pass new task
   pub fresh : task.tried ≡ false
   pub out_is : out pass new ≡ out pass old
+
+-- a call that takes an actor up: each of its answers is that of the hall before the item
+pub record TakesUp (pass a : ℕ) (took : Bool) (next : Option SeatTask) (l : Logged) : Type 0 where
+  pub takes : Takes pass a took l
+  pub claims : Claims a next (hall_from l (taking pass a took))
+
+-- the pass has one claim more, which is on the actor; nothing was found of it yet
+pub record IsTakenUp (pass a : ℕ) (old new : Token) (task : SeatTask) : Type 0 where
+  pub owner : task.taken.cell.heap.owner ≡ a
+  pub may : MayCommit pass new task
+  pub fresh : task.tried ≡ false
+  pub more : out pass new ≡ out pass old + 1
 
 -- ---- a pass at its turn, between two of its items
 

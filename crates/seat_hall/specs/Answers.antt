@@ -1,5 +1,5 @@
 -- What a call answers in the hall before its item.
-use Rattle.std.specs.Prelude.{ℕ, ◌≡◌, ◌≢◌, ◌==◌, ◌+◌, ◌≤◌, ◌||◌, Bool, true, false, [], ◌∷◌, ◌++◌, length, Option, Some, None, IfSome}
+use Rattle.std.specs.Prelude.{ℕ, ◌≡◌, ◌≢◌, ◌==◌, ◌+◌, ◌≤◌, ◌||◌, ◌⊎◌, Bool, true, false, [], ◌∷◌, ◌++◌, length, Option, Some, None, IfSome}
 use Rattle.orca_names.specs.declared.options.Options.{Options}
 use Rattle.behaviour_code.specs.declared.code.Program.{Program}
 use Rattle.event_rule.specs.Events.{actor_of, is_of_detector}
@@ -14,10 +14,12 @@ use Rattle.machine_rules.specs.Actors.{Actors, cell_at}
 use Rattle.machine_rules.specs.Next.{next}
 use Rattle.orca_core.specs.Firsts.{HasFirst, is_free, next_of_kind}
 use Rattle.orca_parts.specs.Woken.{IsLowestWoken}
+use Rattle.work_board.specs.Answered.{is_evaluated, segment}
 use Rattle.work_board.specs.declared.answers.Committed.{Committed}
 use Rattle.work_board.specs.declared.answers.Look.{Look}
 use Rattle.work_board.specs.declared.answers.Look.TheVariants.{Actor, Detector, Others, Rest, Stop}
 use Rattle.work_board.specs.declared.answers.Refuse.{Refuse}
+use Rattle.work_board.specs.declared.answers.Refuse.TheVariants.{NotReady}
 use Rattle.hall_rules.specs.Causes.{IsRefusal, event_at}
 use Rattle.hall_rules.specs.Claims.{is_claimed}
 use Rattle.seat_hall.specs.declared.item.Item.TheVariants.{Entered}
@@ -97,6 +99,20 @@ pub record Enters (asker : Option ℕ) (pass : ℕ) (e : Event) (done : Committe
 
 abbrev pub RefusesEntry : Option ℕ → Event → Refuse → Logged → Type 0
 RefusesEntry asker e refuse l = IsRefusal (entry_cause l asker e) refuse
+
+-- the event is the actor's first, and no segment of a turn
+abbrev pub IsShort : ℕ → Event → Logged → Type 0
+IsShort a e l = (event_at (state_in l) a ≡ Some e) × (segment e 0 ≡ None)
+
+-- the event is left to a claim, as it is a segment of a turn, or a collection that may be long; or its entry is
+-- refused
+abbrev pub RefusesShort : Event → Refuse → Logged → Type 0
+RefusesShort e refuse l = ((is_evaluated e ≡ true) × (refuse ≡ NotReady)) ⊎ RefusesEntry None e refuse l
+
+-- a claim on the actor would be refused so; or none would, and its first event is not entered
+abbrev pub RefusesFirst : ℕ → Refuse → Logged → Type 0
+RefusesFirst a refuse l = RefusesClaim a refuse l
+    ⊎ ((claim_cause l a ≡ None) × IfSome (event_at (state_in l) a) (λ e. RefusesShort e refuse l))
 
 -- this was found of the cell of the event's actor
 pub record IsFoundOf (options : Options) (program : Program) (actors : Actors) (e : Event)

@@ -18,7 +18,7 @@ use Rattle.seat_hall.specs.declared.item.Item.TheVariants.{Claimed, Entered, Mad
 use Rattle.seat_hall.specs.declared.item.PassView.{PassView}
 use Rattle.seat_hall.specs.declared.task.SeatTask.{SeatTask}
 use Rattle.seat_hall.specs.declared.taken.Taken.{Taken}
-use Rattle.seat_hall.specs.Answers.{Enters, GivesNumber, Grants}
+use Rattle.seat_hall.specs.Answers.{Enters, GivesNumber, Grants, IsShort}
 use Rattle.seat_hall.specs.Fair.{Knower, hall_of, start_of}
 use Rattle.seat_hall.specs.Halls.{HallView}
 use Rattle.seat_hall.specs.Log.{Legal, Logged, claim_in, items_by, state_in}
@@ -82,6 +82,7 @@ pub record GetsTurn (table : TableId) (pass : ℕ) (old new : Token) (h : HallVi
   pub same : IsSame old new
   pub holds : Holds table h new
   pub at : IsAtHall pass old new h
+  pub heard : (knows new).heard ≡ seen new
   pub turns : (knows new).turns ≡ (knows old).turns + 1
 
 -- it put the hall back, has the turn still, and knows this
@@ -179,6 +180,12 @@ StandsAt t place e = slice_get (hall t (seen t)).book place ≡ Some e
 pub record MakesEntry (asker : Option ℕ) (pass : ℕ) (e : Event) (done : Committed) (old new : Token)
     : Type 0 where
   pub calls : Calls pass old new (Entered pass e ∷ []) (Enters asker pass e done)
+  pub stands : StandsAt new done.place e
+
+-- the actor's first event became an entry, though nobody claimed it, and is no segment of a turn
+pub record EntersFirst (pass a : ℕ) (done : Committed) (old new : Token) : Type 0 where
+  pub e : Event
+  pub calls : Calls pass old new (Entered pass e ∷ []) (λ l. IsShort a e l × Enters None pass e done l)
   pub stands : StandsAt new done.place e
 
 -- the actor is claimed, and the pass may commit the claim, of which nothing was found yet

@@ -1,6 +1,6 @@
 // A hall whose cells move out, and one worker's pass to it.
 
-ghost use Rattle.std.specs.Prelude.{◌≡◌, ℕ, ◌+◌, ◌-◌, ◌≤◌, ◌||◌, ◌∷◌, [], false, true, IfErr, IfNone, IfOk, IfSome, IsSomeAnd, None, OnErr, OnOk, Some, ⊤};
+ghost use Rattle.std.specs.Prelude.{◌≡◌, ℕ, ◌+◌, ◌-◌, ◌≤◌, ◌||◌, ◌∷◌, ◌++◌, [], false, true, IfErr, IfNone, IfOk, IfSome, IsOk, IsSomeAnd, None, OnErr, OnOk, Some, ⊤};
 ghost use Rattle.orca_names.specs.declared.limits.TheConstants.{BOOK_LIMIT};
 ghost use Rattle.run_book.specs.Books.{IsWeight};
 ghost use Rattle.event_rule.specs.Events.{actor_of};
@@ -9,20 +9,21 @@ ghost use Rattle.work_board.specs.Answered.{is_end, is_spoiling};
 ghost use Rattle.turn_log.specs.Knowing.{newcomer};
 ghost use Rattle.turn_log.specs.Seats.{knows};
 ghost use Rattle.seat_hall.specs.declared.item.Item.TheVariants.{Claimed, Ended, Stopped};
-ghost use Rattle.seat_hall.specs.Advances.{Advances};
-ghost use Rattle.seat_hall.specs.Answers.{AllAreGiven, Grants, RefusesClaim, RefusesEntry, Tells};
+ghost use Rattle.seat_hall.specs.Advances.{Advances, TakesUp, claiming, taking};
+ghost use Rattle.seat_hall.specs.Answers.{AllAreGiven, Grants, RefusesClaim, RefusesEntry, RefusesFirst, Tells};
 ghost use Rattle.seat_hall.specs.Boards.{CallsAs, GivesUp, StaysPass, out_of};
 ghost use Rattle.seat_hall.specs.Closes.{Closes};
 ghost use Rattle.seat_hall.specs.Fair.{first_view};
 ghost use Rattle.seat_hall.specs.Found.{IsFoundOn};
-ghost use Rattle.seat_hall.specs.Passes.{IsIdlePass, MakesEntry, MayCommit, SplitsOff, TakesIn};
+ghost use Rattle.seat_hall.specs.Passes.{EntersFirst, IsIdlePass, MakesEntry, MayCommit, SplitsOff, TakesIn};
 
-use crate::advancing::advance;
+use crate::advancing::{advance, take_up};
 use crate::closing::Closing;
-use crate::pass::{ask_stop, claim, commit, direct, look};
+use crate::pass::{ask_stop, claim, commit, direct, enter_first, look};
 use crate::rule::{HallLog, PassSeat, begin};
 use crate::seats::{HallSeat, Passes, close, join, split};
 use crate::task::SeatTask;
+use actor_cell::Found;
 use behaviour_check::Checked;
 use event_rule::Event;
 use orca_names::{ActorName, NoMemory, Options, Trace};
@@ -85,6 +86,7 @@ impl<'a> SeatHall<'a> {
             number: seat.number,
             ended: false,
             spoilt: false,
+            room: None,
         }
     }
 
@@ -109,6 +111,8 @@ pub struct SeatPass<'h, 'a> {
     number: u32,
     ended: bool,
     spoilt: bool,
+    /// Room of an earlier evaluation, which serves again.
+    room: Option<Box<Found>>,
 }
 
 impl<'h, 'a> Model for SeatPass<'h, 'a> {
@@ -168,6 +172,7 @@ impl<'h, 'a> SeatPass<'h, 'a> {
             number: seat.number,
             ended: false,
             spoilt: false,
+            room: None,
         })
     }
 
@@ -269,7 +274,7 @@ impl<'h, 'a> Board for SeatPass<'h, 'a> {
     }
 
     fn propose(&mut self, alloc: Global, task: &mut SeatTask<'a>) -> Result<(), NoMemory> {
-        task.evaluate(alloc)
+        task.evaluate(alloc, &mut self.room)
     }
 
     /// Puts the task's cell back, and makes its event an entry. What was found is not evaluated again.
@@ -297,7 +302,16 @@ impl<'h, 'a> Board for SeatPass<'h, 'a> {
             IfErr result (λ refuse. CallsAs self.old self.new (Ended n taken.cell.heap.owner ∷ [])
             (RefusesEntry (Some n) taken.event refuse)) }
     {
-        let answer = commit(rt, alloc, self.log, &mut self.token, self.number, task);
+        let room = &mut self.room;
+        let answer = commit(
+            rt,
+            alloc,
+            self.log,
+            &mut self.token,
+            self.number,
+            task,
+            room,
+        );
         self.spoilt = noted(self.spoilt, &answer);
         answer
     }
@@ -339,7 +353,74 @@ impl<'h, 'a> Board for SeatPass<'h, 'a> {
         let Some(was) = task.take() else {
             unreachable!()
         };
-        let answer = advance(rt, alloc, self.log, &mut self.token, self.number, was, task);
+        let answer = advance(
+            rt,
+            alloc,
+            self.log,
+            &mut self.token,
+            self.number,
+            was,
+            task,
+            &mut self.room,
+        );
+        self.spoilt = noted(self.spoilt, &answer);
+        answer
+    }
+
+    /// Takes up an actor: where it has a letter to take this becomes an entry at once, unless that is refused,
+    /// and where its next event is an act it is claimed. All is done under one turn.
+    ///
+    /// # Errors
+    /// None.
+    fn take_up<R: Wait>(
+        &mut self,
+        rt: &R,
+        alloc: Global,
+        a: ActorName,
+        task: &mut Option<SeatTask<'a>>,
+    ) -> Result<bool, Refuse>
+        requires free { task.old ≡ None }
+        ensures actor { IfSome task.new (λ claim. actor_of claim.taken.event ≡ Some a) }
+        ensures fresh { IfSome task.new (λ claim. claim.tried ≡ false) }
+        ensures owns { IfSome task.new (MayCommit self.new.number self.new.token) }
+        ensures one { IfSome task.new (λ _. out_of self.new ≤ out_of self.old + 1) }
+        ensures none { IfNone task.new (out_of self.new ≡ out_of self.old) }
+        ensures free { OnErr result (task.new ≡ None) }
+        ensures ended { self.new.ended ≡ self.old.ended }
+        ensures spoilt { (self.old.spoilt || is_spoiling result) ≡ true → self.new.spoilt ≡ true }
+        ensures hall { self.new.token.table_id ≡ self.old.token.table_id }
+        ensures stays { StaysPass 1 self.old self.new }
+        ensures same { self.new.spoilt ≡ self.old.spoilt }
+        ensures more { IfSome task.new (λ _. out_of self.new ≡ out_of self.old + 1) }
+        ensures ok { let n = self.old.number in IfOk result (λ took. CallsAs self.old self.new
+            (taking n a took ++ claiming n a task.new) (TakesUp n a took task.new)) }
+        ensures never { IsOk result }
+    {
+        let took = take_up(rt, alloc, self.log, &mut self.token, self.number, a, task);
+        Ok(took)
+    }
+
+    /// Makes the actor's first event an entry at once, without a claim, where it is short to do: it is no segment
+    /// of a turn, and no collection of many things.
+    ///
+    /// # Errors
+    /// `NotReady` where it isn't short, and else as `claim` and `direct`. Nothing is written then.
+    fn enter_first<R: Wait>(
+        &mut self,
+        rt: &R,
+        alloc: Global,
+        a: ActorName,
+    ) -> Result<Committed, Refuse>
+        ensures ended { self.new.ended ≡ self.old.ended }
+        ensures spoilt { self.new.spoilt ≡ (self.old.spoilt || is_spoiling result) }
+        ensures hall { self.new.token.table_id ≡ self.old.token.table_id }
+        ensures out { out_of self.new ≡ out_of self.old }
+        ensures stays { StaysPass 1 self.old self.new }
+        ensures ok { let n = self.old.number in
+            IfOk result (λ done. EntersFirst n a done self.old.token self.new.token) }
+        ensures refused { IfErr result (λ refuse. CallsAs self.old self.new [] (RefusesFirst a refuse)) }
+    {
+        let answer = enter_first(rt, alloc, self.log, &mut self.token, self.number, a);
         self.spoilt = noted(self.spoilt, &answer);
         answer
     }

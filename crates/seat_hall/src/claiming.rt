@@ -40,8 +40,8 @@ impl<'a> Hall<'a> {
         busy(claim_in(&self.claims, a))
     }
 
-    // The first enabled event of an actor on which a claim is granted.
-    fn ready(&self, a: ActorName) -> Result<Event, Refuse>
+    /// The first enabled event of an actor on which a claim is granted.
+    pub(crate) fn ready(&self, a: ActorName) -> Result<Event, Refuse>
         ensures ok { OnOk result (claim_cause self.now.logged a ≡ None) }
         ensures free { OnOk result (claim_in self.now.logged.claims a ≡ None) }
         ensures event { IfOk result (λ e. event_at (state_in self.now.logged) a ≡ Some e) }

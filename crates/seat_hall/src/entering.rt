@@ -1,13 +1,14 @@
 // Events become entries of a hall's book.
 
-ghost use Rattle.std.specs.Prelude.{◌≡◌, ◌<◌, false, IfErr, IfOk, None, OnErr, OnOk, Some, length, vec_capacity, vec_len};
+ghost use Rattle.std.specs.Prelude.{◌≡◌, ◌<◌, false, true, IfErr, IfOk, None, OnErr, OnOk, Some, length, vec_capacity, vec_len};
 ghost use Rattle.std.specs.Option.{ForSome, option_or};
 ghost use Rattle.machine_rules.specs.Next.{next};
 ghost use Rattle.orca_parts.specs.Away.{is_out_for};
 ghost use Rattle.orca_core.specs.Machine.{IsFoundIn};
+ghost use Rattle.work_board.specs.Answered.{is_evaluated, segment};
 ghost use Rattle.hall_rules.specs.Causes.{actor_cause, spent_cause, unready_cause};
 ghost use Rattle.seat_hall.specs.declared.item.Item.TheVariants.{Ended, Entered};
-ghost use Rattle.seat_hall.specs.Answers.{Enters, IsFoundOf, RefusesEntry};
+ghost use Rattle.seat_hall.specs.Answers.{Enters, IsFoundOf, IsShort, RefusesEntry, RefusesFirst};
 ghost use Rattle.seat_hall.specs.Found.{IsFoundOn};
 ghost use Rattle.seat_hall.specs.Halls.{says};
 ghost use Rattle.seat_hall.specs.Log.{after, claims_in, grown, state_in};
@@ -20,8 +21,12 @@ use actor_cell::Found;
 use event_rule::Event;
 use hall_rules::{absent, actor_of, enter, spent, unready};
 use orca_core::Orca;
+use orca_names::ActorName;
 use std::alloc::Global;
 use work_board::{Committed, Refuse};
+
+/// Of how many objects, and of how many things of others, a collection is short at most.
+const FEW: usize = 64;
 
 // A place for claims on the actor that was made, if one was.
 fn grow(claims: &mut Vec<Option<u32>>, made: u64)
@@ -114,6 +119,53 @@ impl<'a> Hall<'a> {
         grow(&mut self.claims, self.orca.made());
         self.last = Item::Entered { pass, event: e };
         Ok(done)
+    }
+
+    // Whether the actor's event is short to do: it is no segment of a turn, and no collection of many things.
+    fn is_short(&self, a: ActorName, e: &Event) -> bool
+        ensures short { result ≡ true → segment e.now 0 ≡ None }
+        ensures long { result ≡ false → is_evaluated e.now ≡ true }
+    {
+        match e {
+            Event::Go(_) => false,
+            Event::Collect(_) => match self.orca.cell(a) {
+                Some(cell) => cell.heap.len() <= FEW && cell.foreign.len() <= FEW,
+                None => false,
+            },
+            _ => true,
+        }
+    }
+
+    /// Makes the first event of an actor on which a claim would be granted an entry of the pass, where it is
+    /// short to do, and tells it.
+    ///
+    /// # Errors
+    /// `NotReady` where it isn't short, and else as `claim` and `enter`. All stays as it was then.
+    pub(crate) fn enter_first(
+        &mut self,
+        alloc: Global,
+        pass: u32,
+        a: ActorName,
+    ) -> Result<(Event, Committed), Refuse>
+        ensures first { IfOk result (λ made. IsShort a made.0 self.old.logged) }
+        ensures ok { IfOk result (λ made. Enters None pass made.0 made.1 self.old.logged) }
+        ensures entered { IfOk result (λ made.
+            self.new ≡ says (after self.old.logged (Entered pass made.0)) (Entered pass made.0)) }
+        ensures refused { IfErr result (λ refuse. RefusesFirst a refuse self.old.logged) }
+        ensures same { OnErr result (self.new ≡ self.old) }
+    {
+        match self.ready(a) {
+            Ok(e) => {
+                if !self.is_short(a, &e) {
+                    return Err(Refuse::NotReady);
+                }
+                match self.enter(alloc, pass, e, &mut None) {
+                    Ok(done) => Ok((e, done)),
+                    Err(refuse) => Err(refuse),
+                }
+            }
+            Err(refuse) => Err(refuse),
+        }
     }
 
     /// Puts the cell back, and makes its event, of which this was found, an entry of the pass. Whatever it

@@ -3,15 +3,16 @@
 ghost use Rattle.std.specs.Prelude.{◌≡◌, ◌+◌, ◌∷◌, [], IfErr, IfOk, None, OnErr, Some, ⊤};
 ghost use Rattle.turn_log.specs.Seats.{knows};
 ghost use Rattle.turn_log.specs.Knowing.{having_written};
-ghost use Rattle.seat_hall.specs.Answers.{RefusesClaim, RefusesEntry, Tells};
+ghost use Rattle.seat_hall.specs.Answers.{RefusesClaim, RefusesEntry, RefusesFirst, Tells};
 ghost use Rattle.seat_hall.specs.Fair.{MayLeave, after_item};
 ghost use Rattle.seat_hall.specs.Halls.{HallView};
-ghost use Rattle.seat_hall.specs.Passes.{Calls, GetsClaim, GetsTurn, Holds, IsSeated, MakesEntry, MayCommit, PassesOn, PutsBack, StaysWhole, StaysWith, StaysWithout, out};
+ghost use Rattle.seat_hall.specs.Passes.{Calls, EntersFirst, GetsClaim, GetsTurn, Holds, IsSeated, MakesEntry, MayCommit, PassesOn, PutsBack, StaysWhole, StaysWith, StaysWithout, out};
 ghost use Rattle.seat_hall.specs.declared.item.Item.TheVariants.{Ended, Stopped};
 
 use crate::boxed::BoxedHall;
 use crate::rule::{HallLog, PassSeat};
 use crate::task::SeatTask;
+use actor_cell::Found;
 use event_rule::Event;
 use orca_names::ActorName;
 use std::alloc::Global;
@@ -78,6 +79,13 @@ pub(crate) fn write_back<'a>(
     log.pass_on(seat);
 }
 
+// Keeps the room of what was found, if there is any.
+pub(crate) fn keep_room(room: &mut Option<Box<Found>>, found: Option<Box<Found>>) {
+    if found.is_some() {
+        *room = found;
+    }
+}
+
 /// What there is to do.
 pub(crate) fn look<'a, R: Wait>(
     rt: &R,
@@ -116,7 +124,7 @@ pub(crate) fn claim<'a, R: Wait>(
     match hall.hall.claim(number, a) {
         Ok(taken) => {
             write_back(log, seat, number, hall);
-            Ok(SeatTask::of(taken, None))
+            Ok(SeatTask::of(taken))
         }
         Err(refuse) => {
             give_back(log, seat, number, hall);
@@ -126,7 +134,7 @@ pub(crate) fn claim<'a, R: Wait>(
 }
 
 /// Puts the task's cell back, and makes its event an entry. Whatever it answers, the claim has ended;
-/// after a refusal the cell is as it was.
+/// after a refusal the cell is as it was. The room of what was found is kept.
 ///
 /// # Errors
 /// As `Hall::commit`.
@@ -137,6 +145,7 @@ pub(crate) fn commit<'a, R: Wait>(
     seat: &mut PassSeat<'a>,
     number: u32,
     task: SeatTask<'a>,
+    room: &mut Option<Box<Found>>,
 ) -> Result<Committed, Refuse>
     requires seated { IsSeated log.now number seat.old }
     requires may { MayCommit number seat.old task }
@@ -156,6 +165,7 @@ pub(crate) fn commit<'a, R: Wait>(
     let mut hall = turn(rt, log, seat, number);
     let answer = hall.hall.commit(alloc, number, taken, &mut found);
     write_back(log, seat, number, hall);
+    keep_room(room, found);
     answer
 }
 
@@ -180,6 +190,36 @@ pub(crate) fn direct<'a, R: Wait>(
     let mut hall = turn(rt, log, seat, number);
     match hall.hall.enter(alloc, number, e, &mut None) {
         Ok(done) => {
+            write_back(log, seat, number, hall);
+            Ok(done)
+        }
+        Err(refuse) => {
+            give_back(log, seat, number, hall);
+            Err(refuse)
+        }
+    }
+}
+
+/// Makes the actor's first event an entry at once, without a claim, where it is short to do.
+///
+/// # Errors
+/// As `Hall::enter_first`.
+pub(crate) fn enter_first<'a, R: Wait>(
+    rt: &R,
+    alloc: Global,
+    log: &HallLog<'a>,
+    seat: &mut PassSeat<'a>,
+    number: u32,
+    a: ActorName,
+) -> Result<Committed, Refuse>
+    requires seated { IsSeated log.now number seat.old }
+    ensures stays { StaysWhole number 1 seat.old seat.new }
+    ensures ok { IfOk result (λ done. EntersFirst number a done seat.old seat.new) }
+    ensures refused { IfErr result (λ refuse. Calls number seat.old seat.new [] (RefusesFirst a refuse)) }
+{
+    let mut hall = turn(rt, log, seat, number);
+    match hall.hall.enter_first(alloc, number, a) {
+        Ok((_e, done)) => {
             write_back(log, seat, number, hall);
             Ok(done)
         }

@@ -18,14 +18,12 @@ pub struct SeatTask<'a> {
     pub found: Option<Box<Found>>,
     /// Its evaluation was asked for.
     pub tried: bool,
-    /// Room of an earlier evaluation, which serves again.
-    pub room: Option<Box<Found>>,
     ghost own: { ForSome found (λ known. IsFoundOn taken known.value) } by { Prim.hlevel is_found_prop },
 }
 
 impl<'a> SeatTask<'a> {
-    /// The claim, of whose cell nothing was found yet, with room from before.
-    pub(crate) fn of(taken: Taken<'a>, room: Option<Box<Found>>) -> SeatTask<'a>
+    /// The claim, of whose cell nothing was found yet.
+    pub(crate) fn of(taken: Taken<'a>) -> SeatTask<'a>
         ensures taken { result.taken ≡ taken.entry }
         ensures fresh { result.tried ≡ false }
     {
@@ -33,15 +31,19 @@ impl<'a> SeatTask<'a> {
             taken,
             found: None,
             tried: false,
-            room,
         }
     }
 
-    /// Evaluates the actor's turn or collection, where the event is one.
+    /// Evaluates the actor's turn or collection, where the event is one, into the room of an earlier
+    /// evaluation if there is one.
     ///
     /// # Errors
     /// `NoMemory` where memory was refused.
-    pub(crate) fn evaluate(&mut self, alloc: Global) -> Result<(), NoMemory>
+    pub(crate) fn evaluate(
+        &mut self,
+        alloc: Global,
+        room: &mut Option<Box<Found>>,
+    ) -> Result<(), NoMemory>
         ensures tried { self.new.tried ≡ true }
         ensures taken { self.new.taken ≡ self.old.taken }
         ensures found { OnOk result
@@ -51,7 +53,7 @@ impl<'a> SeatTask<'a> {
         if !self.taken.is_evaluated() {
             return Ok(());
         }
-        let mut place = match self.room.take() {
+        let mut place = match room.take() {
             Some(room) => room,
             None => Box::new(alloc, Found::Nothing)?,
         };

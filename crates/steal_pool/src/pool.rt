@@ -68,7 +68,8 @@ fn work_in<R: Threads + Wait + Sync, B: Board + Send, G: Gate + Sync>(
 ///
 /// A worker takes the name of an actor from its own deque, or else steals one from another's, or else
 /// asks its board. Names are hints: one that is refused is forgotten. Where there is memory for no
-/// deque it goes by its board alone. It stays with an actor while its board goes on with it.
+/// deque it goes by its board alone. It takes the actor up, and stays with it while its board goes on with
+/// it; what else the actor has to do it enters at once where its board finds that short.
 ///
 /// Who keeps no name asks others, and its board, only where it alone is awake or another is at an
 /// evaluation for a while: turns at the board cost more than short evaluations bring. Else, or where it

@@ -1,7 +1,8 @@
 // One worker.
 
-ghost use Rattle.std.specs.Prelude.{◌≡◌, ◌≤◌, true};
-ghost use Rattle.work_board.specs.Answered.{is_end, is_spoiling};
+ghost use Rattle.std.specs.Prelude.{◌≡◌, ◌≤◌, true, IfNone, IsSomeAnd, Some};
+ghost use Rattle.event_rule.specs.Events.{actor_of};
+ghost use Rattle.work_board.specs.Answered.{is_spoiling};
 
 use crate::crew::{Crew, FIRST_PAUSE};
 use crate::hints::Hints;
@@ -14,22 +15,6 @@ use work_board::{Board, Committed, Look, Refuse};
 
 /// How often in a row a worker commits a task of one actor, and enters an event of the detector.
 const STREAK: u32 = 64;
-
-// What a worker tries that keeps no name: the actor of another's hint, or else what the board knows of.
-// Where it isn't to ask it tries nothing, unless another worker is at an evaluation for a while.
-fn from_others<R: Wait, B: Board>(rt: &R, board: &mut B, hints: &Hints, asks: bool) -> Look
-    ensures ended { is_end result ≡ true → B.ended board.new ≡ true }
-    ensures hall { B.hall board.new ≡ B.hall board.old }
-    ensures out { B.out board.new ≡ B.out board.old }
-{
-    if !asks && !hints.may_join() {
-        return Look::Others;
-    }
-    match hints.steal() {
-        Some(a) => Look::Actor(a),
-        None => board.look(rt),
-    }
-}
 
 // The entry that was made. After a refusal that spoils the run it asks a stop; the other refusals are
 // forgotten.
@@ -128,8 +113,8 @@ fn enter_last<R: Wait, B: Board, G: Gate>(
     hints.keep(a);
 }
 
-// Enters events of the actor, one after the other, while the board goes on with it. Keeps the names that are
-// woken. Tells whether it entered any.
+// Enters events of the actor, one after the other, from this claim on, while the board goes on with it. Keeps
+// the names that are woken. Tells whether it entered any.
 fn stay_with<R: Wait, B: Board, G: Gate>(
     rt: &R,
     alloc: Global,
@@ -137,18 +122,14 @@ fn stay_with<R: Wait, B: Board, G: Gate>(
     hints: &mut Hints,
     gate: Option<&G>,
     a: ActorName,
+    mut task: Option<B::Task>,
 ) -> bool
-    requires { B.out board.old ≡ 0 }
+    requires one { B.out board.old ≤ 1 }
+    requires owns { IsSomeAnd task (B.owns board.old) }
+    requires actor { IsSomeAnd task (λ claim. actor_of (B.event claim) ≡ Some a) }
     ensures hall { B.hall board.new ≡ B.hall board.old }
     ensures out { B.out board.new ≡ 0 }
 {
-    let mut task = match board.claim(rt, alloc, a) {
-        Ok(task) => Some(task),
-        Err(refuse) => {
-            settle(rt, board, Err(refuse));
-            return false;
-        }
-    };
     for entries in 1..STREAK {
         let Some(claim) = &mut task else {
             unreachable!()
@@ -166,6 +147,63 @@ fn stay_with<R: Wait, B: Board, G: Gate>(
     let Some(claim) = task else { unreachable!() };
     enter_last(rt, alloc, board, hints, gate, a, claim);
     true
+}
+
+// Enters what the actor has to do beside letters and its turn: at once where that is short, else by a claim, and
+// then it stays with the actor. Tells whether it entered any event.
+fn enter_rest<R: Wait, B: Board, G: Gate>(
+    rt: &R,
+    alloc: Global,
+    board: &mut B,
+    hints: &mut Hints,
+    gate: Option<&G>,
+    a: ActorName,
+) -> bool
+    requires { B.out board.old ≡ 0 }
+    ensures hall { B.hall board.new ≡ B.hall board.old }
+    ensures out { B.out board.new ≡ 0 }
+{
+    let answer = board.enter_first(rt, alloc, a);
+    if keep_woken(rt, board, hints, answer) {
+        return true;
+    }
+    match board.claim(rt, alloc, a) {
+        Ok(claim) => stay_with(rt, alloc, board, hints, gate, a, Some(claim)),
+        Err(refuse) => {
+            settle(rt, board, Err(refuse));
+            false
+        }
+    }
+}
+
+// Takes the actor up, and stays with it where it is claimed then. Where it had no letter to take it does what else
+// the actor has to do. Tells whether it entered any event.
+fn try_actor<R: Wait, B: Board, G: Gate>(
+    rt: &R,
+    alloc: Global,
+    board: &mut B,
+    hints: &mut Hints,
+    gate: Option<&G>,
+    a: ActorName,
+) -> bool
+    requires { B.out board.old ≡ 0 }
+    ensures hall { B.hall board.new ≡ B.hall board.old }
+    ensures out { B.out board.new ≡ 0 }
+{
+    let mut task = None;
+    let answer = board.take_up(rt, alloc, a, &mut task);
+    if task.is_some() {
+        return stay_with(rt, alloc, board, hints, gate, a, task) || matches!(answer, Ok(true));
+    }
+    let None = task else { unreachable!() };
+    match answer {
+        Ok(true) => true,
+        Ok(false) => enter_rest(rt, alloc, board, hints, gate, a),
+        Err(refuse) => {
+            settle(rt, board, Err(refuse));
+            false
+        }
+    }
 }
 
 // Makes the detector's event an entry, and goes on while it hears what wakes nobody. Tells whether it
@@ -196,8 +234,35 @@ fn serve_detector<R: Wait, B: Board>(
     true
 }
 
+// What a worker does that keeps no name: it follows another's hint, or else does what the board knows of, the
+// detector's events only where it alone is awake. Tells whether it entered any event; `None` where it ends.
+fn serve_others<R: Wait, B: Board, G: Gate>(
+    rt: &R,
+    alloc: Global,
+    board: &mut B,
+    hints: &mut Hints,
+    gate: Option<&G>,
+    alone: bool,
+) -> Option<bool>
+    requires { B.out board.old ≡ 0 }
+    ensures ended { IfNone result (B.ended board.new ≡ true) }
+    ensures hall { B.hall board.new ≡ B.hall board.old }
+    ensures out { B.out board.new ≡ 0 }
+{
+    if let Some(a) = hints.steal() {
+        return Some(try_actor(rt, alloc, board, hints, gate, a));
+    }
+    match board.look(rt) {
+        Look::Actor(a) => Some(try_actor(rt, alloc, board, hints, gate, a)),
+        Look::Detector(e) if alone => Some(serve_detector(rt, alloc, board, hints, e)),
+        Look::Detector(_) | Look::Others => Some(false),
+        Look::Rest | Look::Stop => None,
+    }
+}
+
 /// Works until there is nothing to do, or a stop was asked. It passes the gate, if there is one, before
-/// each segment that it evaluates.
+/// each segment that it evaluates. Where it keeps no name and isn't to ask others, it tries nothing, unless
+/// another worker is at an evaluation for a while.
 pub(crate) fn run<R: Wait, B: Board, G: Gate>(
     rt: &R,
     alloc: Global,
@@ -216,19 +281,18 @@ pub(crate) fn run<R: Wait, B: Board, G: Gate>(
     crew.rise();
     for _ in rt.forever() {
         if let Some(a) = hints.next() {
-            stay_with(rt, alloc, board, &mut hints, gate, a);
+            try_actor(rt, alloc, board, &mut hints, gate, a);
             continue;
         }
         let alone = crew.is_alone();
-        let busy = match from_others(rt, board, &hints, alone || rested) {
-            Look::Actor(a) => stay_with(rt, alloc, board, &mut hints, gate, a),
-            Look::Detector(e) if alone => serve_detector(rt, alloc, board, &mut hints, e),
-            Look::Detector(_) | Look::Others => false,
-            Look::Rest | Look::Stop => {
+        let mut busy = false;
+        if alone || rested || hints.may_join() {
+            let Some(did) = serve_others(rt, alloc, board, &mut hints, gate, alone) else {
                 crew.leave();
                 return;
-            }
-        };
+            };
+            busy = did;
+        }
         rested = !busy && !alone;
         pause = if rested {
             crew.rest(rt, &hints, pause)

@@ -150,6 +150,55 @@ pub trait Board {
         }
     }
 
+    /// Takes up an actor that was woken: where it has a letter to take this may become an entry at once, and
+    /// the actor may be claimed: then the task is that claim. Tells whether there is an entry. How far it goes
+    /// says the board. Here it claims the actor.
+    ///
+    /// # Errors
+    /// Why there is neither, where the board knows a reason.
+    fn take_up<R: Wait>(
+        &mut self,
+        rt: &R,
+        alloc: Global,
+        a: ActorName,
+        task: &mut Option<Self::Task>,
+    ) -> Result<bool, Refuse>
+        requires free { task.old ≡ None }
+        ensures actor { IfSome task.new (λ claim. actor_of (event claim) ≡ Some a) }
+        ensures fresh { IfSome task.new (λ claim. tried claim ≡ false) }
+        ensures owns { IfSome task.new (λ claim. owns self.new claim) }
+        ensures one { IfSome task.new (λ _. out self.new ≤ out self.old + 1) }
+        ensures none { IfNone task.new (out self.new ≡ out self.old) }
+        ensures free { OnErr result (task.new ≡ None) }
+        ensures ended { ended self.new ≡ ended self.old }
+        ensures spoilt { (spoilt self.old || is_spoiling result) ≡ true → spoilt self.new ≡ true }
+        ensures hall { hall self.new ≡ hall self.old }
+    {
+        let claim = self.claim(rt, alloc, a)?;
+        let before = task.replace(claim);
+        let None = before else { unreachable!() };
+        Ok(false)
+    }
+
+    /// Makes the actor's first event an entry at once, without a claim, where the board knows that this is short;
+    /// never a segment of a turn. Here it knows of none.
+    ///
+    /// # Errors
+    /// Why there is no entry.
+    fn enter_first<R: Wait>(
+        &mut self,
+        _rt: &R,
+        _alloc: Global,
+        _a: ActorName,
+    ) -> Result<Committed, Refuse>
+        ensures ended { ended self.new ≡ ended self.old }
+        ensures spoilt { spoilt self.new ≡ (spoilt self.old || is_spoiling result) }
+        ensures hall { hall self.new ≡ hall self.old }
+        ensures out { out self.new ≡ out self.old }
+    {
+        Err(Refuse::NotReady)
+    }
+
     /// Makes an event an entry at once, without a claim.
     ///
     /// # Errors

@@ -141,6 +141,25 @@ impl<B: Board> Board for TroubleBoard<B> {
         self.inner.advance(rt, alloc, a, task)
     }
 
+    fn take_up<R: Wait>(
+        &mut self,
+        rt: &R,
+        alloc: Global,
+        a: ActorName,
+        task: &mut Option<B::Task>,
+    ) -> Result<bool, Refuse> {
+        self.inner.take_up(rt, alloc, a, task)
+    }
+
+    fn enter_first<R: Wait>(
+        &mut self,
+        rt: &R,
+        alloc: Global,
+        a: ActorName,
+    ) -> Result<Committed, Refuse> {
+        self.inner.enter_first(rt, alloc, a)
+    }
+
     fn direct<R: Wait>(&mut self, rt: &R, alloc: Global, e: Event) -> Result<Committed, Refuse> {
         self.inner.direct(rt, alloc, e)
     }

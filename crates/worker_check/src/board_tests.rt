@@ -111,3 +111,22 @@ fn a_board_goes_on_with_an_actor(rt: HostRuntime) {
     let toy = toy.lock(&rt);
     assert!(rt; well && toy.entries == 3 && toy.looks == 0);
 }
+
+/// Whether a board that takes an actor up claims it, as the toy run knows no entry without a claim.
+fn takes_up<R: AllocGlobal + Wait, B: Board>(rt: &R, board: &mut B) -> bool
+where
+    B::Task: Drop,
+{
+    let mut none = None;
+    let unknown = board.take_up(rt, rt.alloc(), ActorName(1), &mut none);
+    let mut task = None;
+    let answer = board.take_up(rt, rt.alloc(), ActorName(0), &mut task);
+    unknown == Err(Refuse::Unknown { made: 1 }) && answer == Ok(false) && task.is_some()
+}
+
+#[test]
+fn a_board_takes_an_actor_up(rt: HostRuntime) {
+    let toy = run_of(&rt, &[3]);
+    let pass = ToyPass::new(&toy, 0, true);
+    assert!(rt; takes_up(&rt, &mut TroubleBoard::new(pass, Vec::new(rt.alloc()))));
+}

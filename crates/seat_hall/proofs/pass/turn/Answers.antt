@@ -17,5 +17,6 @@ returns g c = let told = c.take_turn.ensures in record {
   same = told.same;
   holds = record { own = told.same.0 ∙ c.requires.seated.0; turn = told.turn.0; empty = told.turn.1 };
   at = at_hall c.args.number c.args.seat.now c.take_turn.new.seat c.take_turn.result c.requires.seated.1.1 told.known told.learns;
+  heard = ap (λ k. k.heard) told.known;
   turns = ap (λ k. k.turns) told.known;
 }
