@@ -4,7 +4,9 @@ use crate::cases::{
     Given, Holding, Loaded, Named, are_loaded, are_things, args_of, gains_all, thing_of,
 };
 use foreign_table::ForeignTable;
-use orca_names::{ActorName, Args};
+use known_rows::KnownRows;
+use object_heap::ObjectHeap;
+use orca_names::{ActorName, Args, Reading};
 use reach_walk::ThingList;
 use root_trace::{NoRows, find_loaded_roots, missing, rows_of, without_rows};
 use std::alloc::Global;
@@ -48,6 +50,38 @@ fn loads_are_what_stands_in_letters(rt: HostRuntime) {
     let found = finds_load(rt.alloc(), &args, &mut things);
     drop(things);
     assert!(rt; found && carries_load(rt.alloc(), &args));
+}
+
+// An object of actor 0 whose row names another one, and both as they are carried.
+const HELD: &[Holding] = &[(Named::Object(0, 1), &[Given::Object(0, 2)], 1)];
+
+const CARRIED: &[Loaded] = &[
+    (Named::Actor(0), &[]),
+    (Named::Object(0, 1), &[Given::Object(0, 2)]),
+    (Named::Object(0, 2), &[]),
+];
+
+/// Whether a letter whose sender holds that object carries its row, and what that leads to.
+fn carries_rows(alloc: Global, heap: &ObjectHeap, foreign: &mut ForeignTable) -> bool {
+    if !gains_all(foreign, HELD) {
+        return false;
+    }
+    let args = args_of(&[Given::Object(0, 1)]);
+    let known = KnownRows { heap, foreign };
+    match rows_of(alloc, &args, &mut Reading { rows: &known }) {
+        Ok(rows) => are_loaded(rows.as_slice(), CARRIED),
+        Err(_) => false,
+    }
+}
+
+#[test]
+fn letters_carry_the_rows_that_are_known(rt: HostRuntime) {
+    let heap = ObjectHeap::new(rt.alloc(), ActorName(1));
+    let mut foreign = ForeignTable::new(rt.alloc());
+    let holds = carries_rows(rt.alloc(), &heap, &mut foreign);
+    drop(foreign);
+    drop(heap);
+    assert!(rt; holds);
 }
 
 // What actor 1 holds then.

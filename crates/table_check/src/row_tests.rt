@@ -1,7 +1,10 @@
 // What is told of others' objects.
 
+ghost use Rattle.std.specs.Prelude.{◌≡◌, ◌∷◌, [], IfOk};
+
 use crate::cases::{number_in, object};
-use orca_names::{Row, Thing, Value};
+use letter_kinds::Amounts;
+use orca_names::{ActorName, NoMemory, Row, Thing, Value};
 use row_table::RowTable;
 use std::alloc::Global;
 
@@ -20,7 +23,7 @@ fn number(table: &RowTable, serial: u64) -> Option<u64> {
     number_in(table.held().row(object(3, serial)))
 }
 
-/// Whether a table knows what it was told last.
+/// Whether a table knows what it was told last, and counts none of it.
 fn knows_the_last(table: &mut RowTable) -> bool {
     learns(table, 5, 1)
         && learns(table, 4, 2)
@@ -28,6 +31,7 @@ fn knows_the_last(table: &mut RowTable) -> bool {
         && number(table, 5) == Some(3)
         && number(table, 4) == Some(2)
         && number(table, 6) == None
+        && table.held().count(Thing::Obj(object(3, 5))) == 0
 }
 
 fn differs_once_told(table: &mut RowTable, copied: &RowTable) -> bool {
@@ -42,10 +46,35 @@ fn differs_from_copy(alloc: Global, table: &mut RowTable) -> bool {
     }
 }
 
+/// This thing alone.
+fn one(alloc: Global, thing: Thing) -> Result<Amounts, NoMemory>
+    ensures { IfOk result (λ things. things ≡ (thing, 0) ∷ []) }
+{
+    let mut things = Amounts::new(alloc);
+    things.push((thing, 0))?;
+    Ok(things)
+}
+
+/// Whether a table forgets an object of actor 3, and none else.
+fn forgets_one(alloc: Global, table: &mut RowTable) -> bool {
+    match one(alloc, Thing::Obj(object(3, 5))) {
+        Ok(things) => {
+            table.forget(&[(ActorName(3), things)]);
+            number(table, 5) == None && number(table, 4) == Some(7)
+        }
+        Err(_) => false,
+    }
+}
+
+/// Whether a table knows what it is told, and forgets what it is to forget.
+fn changes(alloc: Global, table: &mut RowTable) -> bool {
+    knows_the_last(table) && differs_from_copy(alloc, table) && forgets_one(alloc, table)
+}
+
 #[test]
 fn what_was_told_last_is_known(rt: HostRuntime) {
     let mut table = RowTable::new(rt.alloc());
-    let holds = knows_the_last(&mut table) && differs_from_copy(rt.alloc(), &mut table);
+    let holds = changes(rt.alloc(), &mut table);
     drop(table);
     assert!(rt; holds);
 }

@@ -120,6 +120,18 @@ const WHAT_OWN_ROWS_REACH_STAYS: Sweep = Sweep {
     left: 0,
 };
 
+const WHAT_A_ROW_COUNTED_ONCE_REACHES_STAYS: Sweep = Sweep {
+    actor: 0,
+    held: &[],
+    rows: &[&[Given::Object(0, 1)], &[Given::Null]],
+    counted: 1,
+    keeper: Keeper::FieldAndOwnRows(&[]),
+    freed: None,
+    back: &[],
+    stays: true,
+    left: 0,
+};
+
 // Actor 1 stands before what it holds of actor 2.
 const MARKED_PLACES_STAY: Sweep = Sweep {
     actor: 1,
@@ -272,5 +284,6 @@ fn what_nothing_keeps_is_freed_or_goes_back(rt: HostRuntime) {
     assert!(rt; holds(rt.alloc(), &WHAT_THE_FIELDS_NAME_STAYS));
     assert!(rt; holds(rt.alloc(), &WHAT_ROWS_LEAD_TO_STAYS));
     assert!(rt; holds(rt.alloc(), &WHAT_OWN_ROWS_REACH_STAYS));
+    assert!(rt; holds(rt.alloc(), &WHAT_A_ROW_COUNTED_ONCE_REACHES_STAYS));
     assert!(rt; holds(rt.alloc(), &MARKED_PLACES_STAY));
 }

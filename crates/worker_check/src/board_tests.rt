@@ -31,6 +31,11 @@ fn chosen_looks_answer_wrong_names(rt: HostRuntime) {
     assert!(rt; looks_twice(&rt, &toy, &mut board));
 }
 
+#[test]
+fn a_worker_ends_at_rest_or_at_a_stop(rt: HostRuntime) {
+    assert!(rt; Look::Rest.is_end() && Look::Stop.is_end() && !Look::Others.is_end());
+}
+
 /// Whether a pass of the board finds no memory for the second of two actors, and then no room.
 fn finds_no_room<R: AllocGlobal + Wait, B: Board>(rt: &R, board: &mut B) -> bool
     ensures { IsTrue result → B.spoilt board.new ≡ true }
