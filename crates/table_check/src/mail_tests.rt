@@ -18,13 +18,14 @@ fn take_token(row: &mut MailRow) -> Option<u64> {
     }
 }
 
-/// Two letters more. Whether there was memory for them.
-fn push_two(row: &mut MailRow) -> bool {
-    if row.reserve(2).is_err() {
+/// Three letters more. Whether there was memory for them.
+fn push_three(row: &mut MailRow) -> bool {
+    if row.reserve(3).is_err() {
         return false;
     }
     row.push(Letter::Confirm { token: 3 });
     row.push(Letter::Confirm { token: 5 });
+    row.push(Letter::Confirm { token: 8 });
     true
 }
 
@@ -32,18 +33,17 @@ fn stand_in_order(row: &MailRow) -> bool {
     let Some(first) = row.front() else {
         return false;
     };
-    token_of(first) == 3 && row.len() == 2 && token_of(row.at(1)) == 5
+    token_of(first) == 3 && row.len() == 3 && token_of(row.at(1)) == 5 && token_of(row.at(2)) == 8
 }
 
-/// Whether two letters stand and leave in the order in which they came, and no other one leaves.
+/// Whether three letters stand and leave in the order in which they came, and no other one leaves.
 fn come_in_order(row: &mut MailRow) -> bool {
     let before = take_token(row);
-    let stand = push_two(row) && stand_in_order(row);
-    let first = take_token(row);
-    let second = take_token(row);
+    let stand = push_three(row) && stand_in_order(row);
+    let tokens = [take_token(row), take_token(row), take_token(row)];
     let empty = row.is_empty();
     let behind = take_token(row);
-    stand && empty && (first, second) == (Some(3), Some(5)) && (before, behind) == (None, None)
+    stand && empty && tokens == [Some(3), Some(5), Some(8)] && (before, behind) == (None, None)
 }
 
 #[test]
