@@ -25,11 +25,12 @@ impl Model for ActorName {
 }
 
 /// The number of an object among those of its owner, seen as that number. It is kept in two halves,
-/// so that a name takes twelve bytes and a value sixteen.
+/// so that a name takes twelve bytes and a value sixteen; the low half first, so that the processor
+/// reads both at once.
 #[derive(Clone, Copy, Debug, Hash)]
 pub struct Serial {
-    high: u32,
     low: u32,
+    high: u32,
 }
 
 impl Model for Serial {
