@@ -1,16 +1,15 @@
 -- Where nothing but labels is left of a behaviour.
-use Rattle.std.proofs.Common.{◌≡◌, ℕ, ◌+◌, Bool, true, false, cond, ◌&&◌, List, [], ◌∷◌, ◌++◌, length, drop, Option, None, Some, refl, sym, ap, ◌∙◌, arith}
+use Rattle.std.proofs.Common.{◌≡◌, ℕ, ◌+◌, Bool, true, false, cond, ◌&&◌, List, [], ◌∷◌, length, drop, None, Some, refl, ap, ◌∙◌, arith}
 use Rattle.std.specs.List.{list_all}
 use Rattle.std.specs.Option.{option_map_or}
 use Rattle.std.proofs.lemmas.Option.{none-some}
 use Rattle.behaviour_code.specs.declared.instr.Instr.{Instr}
 use Rattle.behaviour_code.specs.declared.instr.Instr.TheVariants.{Label}
 use Rattle.behaviour_code.specs.Find.{body_of}
-use Rattle.orca_names.specs.declared.names.Value.{Value}
 use Rattle.orca_names.specs.declared.row.Fields.{Fields}
 use Rattle.turn_rules.specs.declared.act.Act.TheVariants.{End}
 use Rattle.turn_rules.specs.declared.act.Frame.{Frame}
-use Rattle.turn_rules.specs.Segment.{Setting, Stop, Turn, gets_from, gets_of, run_from, segment_of}
+use Rattle.turn_rules.specs.Segment.{Setting, Turn, gets_from, gets_of, run_from, segment_of}
 use Rattle.turn_step.specs.Rests.{is_mark, rest_of, rests_at}
 
 -- a label is passed

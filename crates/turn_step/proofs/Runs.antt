@@ -1,9 +1,9 @@
 -- A turn goes on by one instruction, or to a label.
-use Rattle.std.proofs.Common.{◌≡◌, ℕ, ◌+◌, ◌<◌, cond, true, false, List, [], ◌∷◌, ◌++◌, length, drop, get_or, Option, None, Some, Bool, refl, sym, ap, ◌∙◌}
+use Rattle.std.proofs.Common.{◌≡◌, ℕ, ◌+◌, ◌-◌, ◌≤◌, arith, cond, true, false, List, [], ◌∷◌, ◌++◌, length, drop, Option, None, Some, Bool, refl, sym, ap, ◌∙◌}
 use Rattle.std.specs.Prelude.{option_and_then, slice_get, slice_index_or, unwrap_or}
 use Rattle.std.specs.List.{find}
 use Rattle.std.specs.Option.{option_map_or, option_or}
-use Rattle.std.proofs.lemmas.List.{at_drop_more, drop-drop}
+use Rattle.std.proofs.lemmas.List.{drop-drop}
 use Rattle.std.proofs.lemmas.List.Elements.{filter_map-append}
 use Rattle.std.proofs.lemmas.List.Folds.{find-append}
 use Rattle.std.proofs.lemmas.Option.{unwrap_or-slice_get}
@@ -16,7 +16,7 @@ use Rattle.behaviour_code.specs.Find.{is_label}
 use Rattle.reach_walk.specs.Reach.{named_by}
 use Rattle.turn_rules.specs.declared.act.Effect.{Effect}
 use Rattle.turn_rules.specs.declared.act.Effect.TheVariants as E
-use Rattle.turn_rules.specs.Segment.{Setting, Turn, Stop, got_by, gets_from, gets_on, run_from, on_effect, step_of}
+use Rattle.turn_rules.specs.Segment.{Setting, Turn, got_by, gets_from, gets_on, run_from, on_effect, step_of}
 use Rattle.turn_step.specs.Held.{first_needed, is_needed}
 use Rattle.turn_step.specs.Turns.{place_after}
 
@@ -46,22 +46,53 @@ first_needed-append : (held : Thing → Bool) (xs ys : List Value) → first_nee
 first_needed-append held xs ys none =
     ap (find (is_needed held)) (filter_map-append thing_of xs ys) ∙ find-append (is_needed held) (named_by xs) (named_by ys) ∙ ap (λ o. option_or o (first_needed held ys)) none
 
-module _ (p : Setting) (held : Thing → Bool) (body : List Instr) (i place label : ℕ) (d : Instr) (t u : Turn) (inside : i < length body) (at : d ≡ get_or body i d)
-    (leads : (first_needed held (got_by p d t) ≡ None) × (step_of p d t ≡ (E.Leap label, u))) (found : place ≡ place_after label (drop (i + 1) body) (i + 1)) where
-  -- a leap goes on behind the label
-  pub run_from-leap : run_from p (drop place body) None place u ≡ run_from p (drop i body) None i t
-  run_from-leap =
-      let go_on : Effect × Turn → Stop = on_effect (run_from p (drop (i + 1) body)) i in
-      to_label (run_from p) u (λ name k. refl) (λ name k x xs. refl) body label (i + 1) place found
-      ∙ sym (ap go_on leads.1)
-      ∙ ap (λ (x : Instr). go_on (step_of p x t)) at
-      ∙ sym (at_drop_more (λ xs. run_from p xs None i t) body i d inside)
+-- what is left of a body, from which the next instruction is taken; `end` is the body's length
+module _ (p : Setting) (held : Thing → Bool) (body rest behind : List Instr) (end before : ℕ) (d : Instr) (t u : Turn)
+    (is : rest ≡ d ∷ behind) (left : rest ≡ drop (end - length rest) body) (within : length rest + before ≤ end) where
+  at_next : end - length behind ≡ end - length rest + 1
+  at_next = omega (arith, ap length is, within)
 
-  -- so do the values that it gets
-  pub gets_from-leap : first_needed held (gets_from p (drop place body) None place u) ≡ first_needed held (gets_from p (drop i body) None i t)
-  gets_from-leap =
-      let go_on : Effect × Turn → List Value = gets_on (gets_from p (drop (i + 1) body)) i in
-      ap (first_needed held) (to_label (gets_from p) u (λ name k. refl) (λ name k x xs. refl) body label (i + 1) place found ∙ sym (ap go_on leads.1))
-      ∙ sym (first_needed-append held (got_by p d t) (go_on (step_of p d t)) leads.0)
-      ∙ ap (λ (x : Instr). first_needed held (got_by p x t ++ go_on (step_of p x t))) at
-      ∙ sym (ap (first_needed held) (at_drop_more (λ xs. gets_from p xs None i t) body i d inside))
+  pub left_behind : behind ≡ drop (end - length behind) body
+  left_behind = ap (drop 1) (sym is ∙ left) ∙ drop-drop 1 (end - length rest) body ∙ ap (λ (n : ℕ). drop n body) (sym at_next)
+
+  -- a turn goes on at the next instruction
+  module _ (leads : (first_needed held (got_by p d t) ≡ None) × (step_of p d t ≡ (E.Next, u))) where
+    pub run_from-next : run_from p behind None (end - length behind) u ≡ run_from p rest None (end - length rest) t
+    run_from-next =
+        ap (λ (n : ℕ). run_from p behind None n u) at_next
+        ∙ sym (ap (on_effect (run_from p behind) (end - length rest)) leads.1)
+        ∙ sym (ap (λ (xs : List Instr). run_from p xs None (end - length rest) t) is)
+
+    -- so do the values that it gets
+    pub gets_from-next : first_needed held (gets_from p behind None (end - length behind) u) ≡ first_needed held (gets_from p rest None (end - length rest) t)
+    gets_from-next =
+        let go_on : Effect × Turn → List Value = gets_on (gets_from p behind) (end - length rest) in
+        ap (λ (n : ℕ). first_needed held (gets_from p behind None n u)) at_next
+        ∙ sym (ap (λ (e : Effect × Turn). first_needed held (go_on e)) leads.1)
+        ∙ sym (first_needed-append held (got_by p d t) (go_on (step_of p d t)) leads.0)
+        ∙ sym (ap (λ (xs : List Instr). first_needed held (gets_from p xs None (end - length rest) t)) is)
+
+  -- or behind a label
+  module _ (place label : ℕ) (leads : (first_needed held (got_by p d t) ≡ None) × (step_of p d t ≡ (E.Leap label, u)))
+      (found : place ≡ place_after label (drop (end - length behind) body) (end - length behind)) where
+    to_place : {A : Type 0} (go : List Instr → Option ℕ → ℕ → Turn → A)
+        → ((name i : ℕ) → go [] (Some name) i u ≡ go [] None i u)
+        → ((name i : ℕ) (x : Instr) (xs : List Instr) → go (x ∷ xs) (Some name) i u ≡ go xs (cond (is_label name x) None (Some name)) (i + 1) u)
+        → go (drop place body) None place u ≡ go behind (Some label) (end - length rest + 1) u
+    to_place go stops passes =
+        to_label go u stops passes body label (end - length behind) place found
+        ∙ ap (λ (xs : List Instr). go xs (Some label) (end - length behind) u) (sym left_behind)
+        ∙ ap (λ (n : ℕ). go behind (Some label) n u) at_next
+
+    pub run_from-leap : run_from p (drop place body) None place u ≡ run_from p rest None (end - length rest) t
+    run_from-leap =
+        to_place (run_from p) (λ name k. refl) (λ name k x xs. refl)
+        ∙ sym (ap (on_effect (run_from p behind) (end - length rest)) leads.1)
+        ∙ sym (ap (λ (xs : List Instr). run_from p xs None (end - length rest) t) is)
+
+    pub gets_from-leap : first_needed held (gets_from p (drop place body) None place u) ≡ first_needed held (gets_from p rest None (end - length rest) t)
+    gets_from-leap =
+        let go_on : Effect × Turn → List Value = gets_on (gets_from p behind) (end - length rest) in
+        ap (first_needed held) (to_place (gets_from p) (λ name k. refl) (λ name k x xs. refl) ∙ sym (ap go_on leads.1))
+        ∙ sym (first_needed-append held (got_by p d t) (go_on (step_of p d t)) leads.0)
+        ∙ sym (ap (λ (xs : List Instr). first_needed held (gets_from p xs None (end - length rest) t)) is)

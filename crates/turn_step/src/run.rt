@@ -81,18 +81,23 @@ fn run<'p, R: RowReader, H: HeldTest>(
     ensures same { (R.rows rows.new ≡ R.rows rows.old) × (R.all rows.new ≡ R.all rows.old)
         × (R.beside rows.new ≡ R.beside rows.old) }
 {
-    let mut at = place as usize;
-    while at < body.len() {
-        let done = step(setting, rows, held, &body[at], turn);
-        at += 1;
-        match done {
+    let mut rest = body.get(place as usize..).unwrap_or(&[]);
+    while let Some((instr, behind)) = rest.split_first() {
+        rest = behind;
+        match step(setting, rows, held, instr, turn) {
             Ok(lead) => match lead {
                 Lead::Next => {}
-                Lead::Leap(label) => at = after_label(body, at, label),
-                Lead::Does(deed) => return Ok(Halt::Stops(Stopped {
-                    deed,
-                    place: at as u32,
-                })),
+                Lead::Leap(label) => {
+                    let at = after_label(body, body.len() - rest.len(), label);
+                    rest = &body[at..];
+                }
+                Lead::Does(deed) => {
+                    let at = body.len() - rest.len();
+                    return Ok(Halt::Stops(Stopped {
+                        deed,
+                        place: at as u32,
+                    }));
+                }
                 Lead::Needs(thing) => return Ok(Halt::Needs(thing)),
             },
             Err(e) => return Err(e),
@@ -100,7 +105,7 @@ fn run<'p, R: RowReader, H: HeldTest>(
     }
     Ok(Halt::Stops(Stopped {
         deed: Deed::End,
-        place: at as u32,
+        place: place.max(body.len() as u32),
     }))
 }
 

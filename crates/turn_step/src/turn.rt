@@ -102,14 +102,28 @@ impl Turn {
         self.registers.read(r)
     }
 
-    /// What a field holds, null past the last.
-    pub(crate) fn field(&self, f: u64) -> Value
-        ensures { result ≡ slice_index_or self.now.fields.values f Null }
+    /// A register becomes what another holds, null past the last. Each way writes for itself, so that the
+    /// value is copied once.
+    pub(crate) fn copy(&mut self, d: u64, r: u64)
+        ensures { self.new ≡ with_register self.old d (value_at self.old r) }
+    {
+        match self.registers.as_slice().get(r as usize) {
+            Some(value) => {
+                let value = *value;
+                self.registers.write(d, value)
+            }
+            None => self.registers.write(d, Value::Null),
+        }
+    }
+
+    /// A register becomes what a field holds, null past the last.
+    pub(crate) fn load(&mut self, d: u64, f: u64)
+        ensures { self.new ≡ with_register self.old d (slice_index_or self.old.fields.values f Null) }
     {
         if f < self.fields.values.len() {
-            self.fields.values.at(f)
+            self.registers.write(d, self.fields.values.at(f));
         } else {
-            Value::Null
+            self.registers.write(d, Value::Null);
         }
     }
 
