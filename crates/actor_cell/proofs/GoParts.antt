@@ -18,8 +18,7 @@ use Rattle.turn_rules.specs.declared.act.Act.TheVariants as act
 use Rattle.turn_rules.specs.declared.act.Frame.{Frame}
 use Rattle.turn_rules.specs.Segment.{Stop}
 use Rattle.plain_rules.specs.Machine.{stopped_at}
-use Rattle.letter_kinds.specs.declared.letter.Letter.{Letter}
-use Rattle.letter_kinds.specs.declared.letter.Letter.TheVariants.{App, Inc}
+use Rattle.letter_kinds.specs.Letters.{Letter, App, Inc}
 use Rattle.letter_kinds.specs.Counting.{Amount, Loaded, mint_all, mint_one, raise, send, send_one, set_held, set_own, spend, to_mint}
 use Rattle.letter_kinds.specs.Holdings.{Holdings, Row, entry_row, with_made}
 use Rattle.machine_rules.specs.Actors.{Seat, push_letter, seat}

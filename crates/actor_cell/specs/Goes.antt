@@ -11,8 +11,7 @@ use Rattle.turn_rules.specs.declared.act.Act.{Act}
 use Rattle.turn_rules.specs.declared.act.Act.TheVariants as act
 use Rattle.turn_rules.specs.declared.act.Frame.{Frame}
 use Rattle.turn_rules.specs.Segment.{Stop, Turn}
-use Rattle.letter_kinds.specs.declared.letter.Letter.{Letter}
-use Rattle.letter_kinds.specs.declared.letter.Letter.TheVariants.{App, Inc, Dec, Confirm}
+use Rattle.letter_kinds.specs.Letters.{Letter, App, Inc, Dec, Confirm}
 use Rattle.letter_kinds.specs.Counting.{Loaded, mint_all, send, to_mint}
 use Rattle.letter_kinds.specs.Holdings.{Entries, Holdings, Row, with_made}
 use Rattle.foreign_table.specs.Table.{count_unheld}
@@ -20,7 +19,7 @@ use Rattle.trace_send.specs.Can.{CanSend}
 use Rattle.machine_rules.specs.Cell.{Cell}
 use Rattle.machine_rules.specs.Go.{lacking_from, load_from, needed, rows_from, to_need, turn_of_cell}
 use Rattle.trace_send.specs.Can.{CanMint}
-use Rattle.actor_cell.specs.declared.whole.Out.{Out}
+use Rattle.actor_cell.specs.Outs.{Out}
 use Rattle.actor_cell.specs.Moves.{Move, Post, Mint, New, Print, End, Rest}
 
 -- ---- what is found

@@ -3,7 +3,7 @@ use Rattle.std.specs.Prelude.{ℕ, ◌≡◌, true, List, [], ◌∷◌}
 use Rattle.std.specs.Option.{option_map_or}
 use Rattle.event_rule.specs.Runs.{Step, Goes, NotEnabled}
 use Rattle.orca_names.specs.declared.trace.Trace.{Trace}
-use Rattle.letter_kinds.specs.declared.letter.Letter.{Letter}
+use Rattle.letter_kinds.specs.Letters.{Letter}
 use Rattle.letter_kinds.specs.Counting.{by_owner, given_back}
 use Rattle.machine_rules.specs.Actors.{seat, seat_at}
 use Rattle.machine_rules.specs.Block.{block}

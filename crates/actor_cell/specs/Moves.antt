@@ -1,9 +1,9 @@
 -- What an actor does where its turn stops.
 use Rattle.std.specs.Prelude.{ℕ, List}
 use Rattle.orca_names.specs.declared.names.Value.{Value}
-use Rattle.letter_kinds.specs.declared.letter.Letter.{Letter}
-use Rattle.letter_kinds.specs.declared.letter.Letter.TheVariants.{App}
+use Rattle.letter_kinds.specs.Letters.{Letter, App}
 use Rattle.letter_kinds.specs.Counting.{Amount, Loaded}
+use Rattle.row_store.specs.Told.{as_load}
 use Rattle.actor_cell.specs.declared.turning.Doing.{Doing}
 use Rattle.actor_cell.specs.declared.turning.Doing.TheVariants as doing
 use Rattle.actor_cell.specs.declared.turning.Turned.{Turned}
@@ -33,4 +33,4 @@ move_of doing.Rest args load rows things = Rest
 
 -- what was found
 abbrev pub act_in : Turned → Move
-act_in t = move_of t.doing t.args t.load t.rows t.things
+act_in t = move_of t.doing t.args (as_load t.load) (as_load t.rows) t.things

@@ -1,20 +1,38 @@
 -- What an event gives out.
-use Rattle.std.specs.Prelude.{ℕ, ◌≡◌, ◌≤◌, List, [], ◌∷◌, None, map, vec_capacity}
+use Rattle.std.specs.Prelude.{ℕ, ◌≡◌, ◌≤◌, List, [], ◌∷◌, Option, None, map, vec_capacity}
 use Rattle.std.specs.Global.{Vec}
 use Rattle.orca_names.specs.Names.{owner_of}
-use Rattle.letter_kinds.specs.declared.letter.Letter.{Letter}
-use Rattle.letter_kinds.specs.declared.letter.Letter.TheVariants.{Dec}
+use Rattle.orca_names.specs.declared.names.Value.{Value}
+use Rattle.letter_kinds.specs.Letters.{Letter, Dec, as_sent}
+use Rattle.letter_kinds.specs.declared.letter.Letter as code
 use Rattle.letter_kinds.specs.declared.note.Note.{Note}
 use Rattle.letter_kinds.specs.declared.note.Note.TheVariants.{Block}
 use Rattle.letter_kinds.specs.Counting.{Amount, by_owner, given_back}
 use Rattle.letter_kinds.specs.Detector.{has}
 use Rattle.machine_rules.specs.Block.{held_actors}
 use Rattle.machine_rules.specs.Cell.{Cell}
-use Rattle.actor_cell.specs.declared.whole.Out.{Out}
+use Rattle.actor_cell.specs.declared.whole.Out as whole
 
 -- no letter stands in the room yet, which suffices for so many
-abbrev pub IsRoomFor : ℕ → Vec (ℕ × Letter) → Type 0
+abbrev pub IsRoomFor : ℕ → Vec (ℕ × code.Letter) → Type 0
 IsRoomFor count room = (room.items ≡ []) × (count ≤ vec_capacity room)
+
+-- letters, each with the actor to which it goes, notes to the detector, the value that is printed, and
+-- the kind of the actor that is made with the register that it becomes
+pub record Out : Type 0 where
+  pub letters : List (ℕ × Letter)
+  pub notes : List Note
+  pub print : Option Value
+  pub made : Option (ℕ × ℕ)
+
+-- what the code gives out
+abbrev pub as_out : whole.Out → Out
+as_out out = record {
+  letters = map as_sent out.letters;
+  notes = out.notes;
+  print = out.print;
+  made = out.made;
+}
 
 -- these notes, and nothing else
 abbrev pub noting : List Note → Out

@@ -3,11 +3,11 @@ use Rattle.std.specs.Prelude.{ℕ, ◌+◌, ◌-◌, nat_lt, if◌then◌else◌
 use Rattle.event_rule.specs.Runs.{Step, Goes, IsFull}
 use Rattle.orca_names.specs.declared.limits.TheConstants.{ACTORS_LIMIT}
 use Rattle.orca_names.specs.declared.names.Value.{Value}
-use Rattle.letter_kinds.specs.declared.letter.Letter.{Letter}
+use Rattle.letter_kinds.specs.Letters.{Letter}
 use Rattle.machine_rules.specs.Actors.{Actors, push_letter, seat}
 use Rattle.machine_rules.specs.Cell.{Cell, fresh_cell}
 use Rattle.machine_rules.specs.State.{State}
-use Rattle.actor_cell.specs.declared.whole.Out.{Out}
+use Rattle.actor_cell.specs.Outs.{Out}
 use Rattle.actor_cell.specs.Cells.{settled}
 
 -- each letter goes to its actor, in their order

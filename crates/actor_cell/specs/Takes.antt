@@ -1,7 +1,6 @@
 -- When a cell can take a letter.
 use Rattle.std.specs.Prelude.{ℕ, ◌≤◌, ⊤, length}
-use Rattle.letter_kinds.specs.declared.letter.Letter.{Letter}
-use Rattle.letter_kinds.specs.declared.letter.Letter.TheVariants.{App, Inc, Dec, Confirm}
+use Rattle.letter_kinds.specs.Letters.{Letter, App, Inc, Dec, Confirm}
 use Rattle.letter_kinds.specs.Holdings.{Holdings}
 use Rattle.trace_send.specs.Can.{CanReceive}
 use Rattle.trace_send.specs.Can.{CanLower, CanRaise}

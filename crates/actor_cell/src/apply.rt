@@ -3,6 +3,7 @@
 ghost use Rattle.std.specs.Prelude.{◌≡◌, ◌+◌, ◌<◌, ◌≤◌, ◌^◌, IsSome, OnOk, Some, length};
 ghost use Rattle.turn_rules.specs.declared.act.Frame.{Frame as frame_of_rules};
 ghost use Rattle.letter_kinds.specs.Counting.{send};
+ghost use Rattle.row_store.specs.Told.{as_load};
 ghost use Rattle.object_heap.specs.Heap.{with_new};
 ghost use Rattle.trace_send.specs.Can.{CanSend};
 ghost use Rattle.actor_cell.specs.Cells.{IsCellOf, IsSame, as_cell};
@@ -48,9 +49,9 @@ fn reserve_entries(foreign: &mut ForeignTable, found: &Turned) -> Result<(), NoM
 impl Cell {
     // A letter with this load is sent.
     fn send(&mut self, load: &Load)
-        requires { CanSend self.old.heap.owner load.now (as_cell self.old).holdings }
+        requires { CanSend self.old.heap.owner (as_load load.now) (as_cell self.old).holdings }
         ensures { let me = self.old.heap.owner in
-            let h = send me load.now (as_cell self.old).holdings in
+            let h = send me (as_load load.now) (as_cell self.old).holdings in
             IsCellOf me (record (as_cell self.old) { holdings = h }) self.new }
     {
         let me = self.heap.owner();

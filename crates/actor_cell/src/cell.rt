@@ -13,6 +13,7 @@ use foreign_table::ForeignTable;
 use object_heap::ObjectHeap;
 use orca_names::{ActorName, Args, Fields, Thing, Value};
 use ref_weights::OwnCount;
+use row_store::Told;
 use row_table::RowTable;
 use std::alloc::Global;
 use turn_rules::FrameRoom;
@@ -84,6 +85,6 @@ impl Cell {
     {
         self.frame.put(register, Value::Actor(name));
         self.foreign
-            .gain(Thing::Actor(name), &None, u64::from(weight));
+            .gain(Thing::Actor(name), &Told::Nothing, u64::from(weight));
     }
 }

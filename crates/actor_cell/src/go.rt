@@ -11,6 +11,7 @@ ghost use Rattle.actor_cell.specs.Finding.{Finds, FindsLetter, FindsTurn};
 ghost use Rattle.actor_cell.specs.Goes.{things_from, FitsRegister};
 ghost use Rattle.actor_cell.specs.Moves.{act_in, Mint as mint};
 ghost use Rattle.letter_kinds.specs.Holdings.{with_made};
+ghost use Rattle.row_store.specs.Told.{as_load};
 
 use crate::cell::Cell;
 use crate::turning::{Awaited, Doing, Turned};
@@ -41,7 +42,7 @@ fn amounts_of(alloc: Global, things: &[Thing], weight: u32) -> Result<Amounts, N
 
 // The things of a load, without their rows.
 fn things_of(alloc: Global, load: &Load) -> Result<Listed<Thing>, NoMemory>
-    ensures { IfOk result (λ things. things ≡ map (λ e. e.0) load.now) }
+    ensures { IfOk result (λ things. things ≡ map (λ e. e.0) (as_load load.now)) }
 {
     let mut things = Listed::new(alloc);
     for loaded in load.as_slice() {

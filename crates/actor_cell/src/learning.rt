@@ -1,16 +1,18 @@
 // Rows that letters bring uncounted.
 
 ghost use Rattle.std.specs.Prelude.{◌≡◌, ◌+◌, ◌<◌, ◌≤◌, [], ◌∷◌, length};
+ghost use Rattle.row_store.specs.Told.{as_load, as_loaded};
 ghost use Rattle.machine_rules.specs.Take.{learn};
 
 use letter_kinds::Load;
-use orca_names::{ActorName, Row, Thing};
+use orca_names::{ActorName, Thing};
+use row_store::Told;
 use row_table::RowTable;
 
 // The row of another's object is known.
-fn learn_one(known: &mut RowTable, me: ActorName, brought: &(Thing, Option<Row>))
+fn learn_one(known: &mut RowTable, me: ActorName, brought: &(Thing, Told))
     requires { 0 < known.old.spare }
-    ensures rows { known.new.rows ≡ learn me (brought.now ∷ []) known.old.rows }
+    ensures rows { known.new.rows ≡ learn me (as_loaded brought.now ∷ []) known.old.rows }
     ensures room { known.old.spare ≤ known.new.spare + 1 }
 {
     if brought.0.owner() != me {
@@ -21,7 +23,7 @@ fn learn_one(known: &mut RowTable, me: ActorName, brought: &(Thing, Option<Row>)
 /// The rows of others' objects are known. It takes no memory.
 pub(crate) fn learn_all(known: &mut RowTable, me: ActorName, rows: &Load)
     requires { length rows.now ≤ known.old.spare }
-    ensures { known.new.rows ≡ learn me rows.now known.old.rows }
+    ensures { known.new.rows ≡ learn me (as_load rows.now) known.old.rows }
 {
     for brought in rows.as_slice() {
         learn_one(known, me, brought);

@@ -4,14 +4,12 @@ ghost use Rattle.std.specs.Prelude.{◌≡◌, IfOk};
 ghost use Rattle.std.specs.List.Sorted.{IsStrictlySortedBy};
 ghost use Rattle.std.specs.Ordering.{nat_cmp};
 ghost use Rattle.actor_cell.specs.Cells.{as_cell};
-ghost use Rattle.actor_cell.specs.Outs.{left_outside, decs_to};
+ghost use Rattle.actor_cell.specs.Outs.{left_outside};
 
 use crate::cell::Cell;
-use crate::letters::{decs_of, letter_room};
-use letter_kinds::Letter;
+use letter_kinds::Amounts;
 use local_sweep::gather_held;
 use orca_names::{ActorName, NoMemory};
-use plain_list::Listed;
 use std::alloc::Global;
 
 impl Cell {
@@ -24,13 +22,11 @@ impl Cell {
         &self,
         alloc: Global,
         gone: &[ActorName],
-    ) -> Result<Listed<(ActorName, Letter)>, NoMemory>
+    ) -> Result<Vec<(ActorName, Amounts)>, NoMemory>
         requires { IsStrictlySortedBy nat_cmp gone.now }
         ensures { let its = left_outside gone.now (as_cell self.now) in
-            IfOk result (λ letters. letters ≡ decs_to its) }
+            IfOk result (λ back. back.items ≡ its) }
     {
-        let back = gather_held(alloc, gone, &self.foreign)?;
-        let room = letter_room(alloc, back.len())?;
-        Ok(decs_of(room, back))
+        gather_held(alloc, gone, &self.foreign)
     }
 }

@@ -1,6 +1,7 @@
 // Letters that an event gives out: room for them, and those that return what was held.
 
-ghost use Rattle.std.specs.Prelude.{◌≡◌, IfOk, length};
+ghost use Rattle.std.specs.Prelude.{◌≡◌, IfOk, length, map};
+ghost use Rattle.letter_kinds.specs.Letters.{as_sent};
 ghost use Rattle.actor_cell.specs.Outs.{IsRoomFor, decs_to};
 
 use letter_kinds::{Amounts, Letter};
@@ -23,7 +24,7 @@ pub(crate) fn decs_of(
     groups: Vec<(ActorName, Amounts)>,
 ) -> Listed<(ActorName, Letter)>
     requires { IsRoomFor (length groups.items) room }
-    ensures { result ≡ decs_to groups.items }
+    ensures { map as_sent result ≡ decs_to groups.items }
 {
     for (owner, things) in groups {
         room.push_reserved((owner, Letter::Dec { things }));

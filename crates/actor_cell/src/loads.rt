@@ -5,6 +5,7 @@ ghost use Rattle.orca_names.specs.declared.names.Value.{Value as value};
 ghost use Rattle.orca_names.specs.declared.trace.Trace.TheVariants.{Deep as deep, Roots as roots};
 ghost use Rattle.reach_walk.specs.Reach.{thing_row};
 ghost use Rattle.letter_kinds.specs.Holdings.{row_of, with_made};
+ghost use Rattle.row_store.specs.Told.{as_load};
 ghost use Rattle.machine_rules.specs.Go.{load_from, rows_from};
 ghost use Rattle.actor_cell.specs.Cells.{as_cell};
 ghost use Rattle.actor_cell.specs.Goes.{having_made, things_from};
@@ -73,7 +74,7 @@ impl Cell {
     ) -> Result<Option<Load>, NoMemory>
         ensures { let h = with_made made.now (as_cell self.now).holdings in
             IfOk result (λ found. IfSome found (λ load.
-            load ≡ load_from deep self.now.heap.owner h args.now)) }
+            as_load load ≡ load_from deep self.now.heap.owner h args.now)) }
     {
         let rows = self.rows_with(&self.foreign, made);
         match TurnPlaces::of(rows) {
@@ -86,7 +87,7 @@ impl Cell {
     #[inline(always)]
     fn rowed(&self, alloc: Global, made: &[Row], things: &[Thing]) -> Result<Load, NoMemory>
         ensures { let rows = row_of self.now.heap.owner (with_made made.now (as_cell self.now).holdings) in
-            IfOk result (λ load. load ≡ map (λ x. (x, thing_row rows x)) things.now) }
+            IfOk result (λ load. as_load load ≡ map (λ x. (x, thing_row rows x)) things.now) }
     {
         let rows = self.rows_with(&self.foreign, made);
         with_rows(alloc, things, &mut Reading { rows: &rows })
@@ -121,7 +122,7 @@ impl Cell {
     ) -> Result<Load, NoMemory>
         ensures { let h = with_made made.now (as_cell self.now).holdings in
             (args : List value) → things.now ≡ things_from trace self.now.heap.owner h args
-            → IfOk result (λ load. load ≡ load_from trace self.now.heap.owner h args) }
+            → IfOk result (λ load. as_load load ≡ load_from trace self.now.heap.owner h args) }
     {
         match trace {
             Trace::Deep => self.rowed(alloc, made, things),
@@ -134,7 +135,7 @@ impl Cell {
     #[inline(never)]
     fn brought(&self, alloc: Global, made: &[Row], args: &Args) -> Result<Load, NoMemory>
         ensures { let c = having_made made.now (as_cell self.now) in
-            IfOk result (λ rows. rows ≡ rows_from roots self.now.heap.owner c args.now) }
+            IfOk result (λ rows. as_load rows ≡ rows_from roots self.now.heap.owner c args.now) }
     {
         let rows = self.rows_with(self.known.held(), made);
         rows_of(alloc, args, &mut Reading { rows: &rows })
@@ -150,7 +151,7 @@ impl Cell {
         args: &Args,
     ) -> Result<Load, NoMemory>
         ensures { let c = having_made made.now (as_cell self.now) in
-            IfOk result (λ rows. rows ≡ rows_from trace self.now.heap.owner c args.now) }
+            IfOk result (λ rows. as_load rows ≡ rows_from trace self.now.heap.owner c args.now) }
     {
         match trace {
             Trace::Deep => Ok(Listed::new(alloc)),

@@ -1,6 +1,7 @@
 // Take: an actor without a frame takes a letter.
 
 ghost use Rattle.std.specs.Prelude.{◌≡◌, if◌then◌else◌, None, OnOk, Some, false, true};
+ghost use Rattle.letter_kinds.specs.Letters.{as_letter};
 ghost use Rattle.machine_rules.specs.Take.{cell_after, note_of};
 ghost use Rattle.actor_cell.specs.Cells.{IsCellOf, IsSame, as_cell};
 ghost use Rattle.actor_cell.specs.Takes.{CanTake, HasRoomFor};
@@ -28,7 +29,7 @@ impl Cell {
     /// it is still blocked, if it reported that it is.
     #[inline(always)]
     pub fn note_on(&self, letter: &Letter) -> Option<Note>
-        ensures { let note = note_of self.now.heap.owner letter.now in
+        ensures { let note = note_of self.now.heap.owner (as_letter letter.now) in
             result ≡ (if self.now.reported then Some note else None) }
     {
         let actor = self.heap.owner();
@@ -46,7 +47,7 @@ impl Cell {
     pub fn reserve_take(&mut self, letter: &Letter) -> Result<(), NoMemory>
         ensures same { IsSame self.new self.old }
         ensures room { let held = self.new.foreign.spare in
-            OnOk result (HasRoomFor letter.now held self.new.known.spare) }
+            OnOk result (HasRoomFor (as_letter letter.now) held self.new.known.spare) }
     {
         match letter {
             Letter::App {
@@ -66,10 +67,10 @@ impl Cell {
     #[inline(always)]
     pub fn apply_take(&mut self, code: &Checked, letter: &Letter)
         requires idle { self.old.frame ≡ None }
-        requires can { CanTake self.old.heap.owner letter.now (as_cell self.old).holdings }
-        requires room { HasRoomFor letter.now self.old.foreign.spare self.old.known.spare }
+        requires can { CanTake self.old.heap.owner (as_letter letter.now) (as_cell self.old).holdings }
+        requires room { HasRoomFor (as_letter letter.now) self.old.foreign.spare self.old.known.spare }
         ensures { let me = self.old.heap.owner in
-            IsCellOf me (cell_after code.now me letter.now (as_cell self.old)) self.new }
+            IsCellOf me (cell_after code.now me (as_letter letter.now) (as_cell self.old)) self.new }
     {
         let me = self.heap.owner();
         match letter {

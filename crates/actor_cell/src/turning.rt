@@ -1,7 +1,8 @@
 // What a turn is found to do.
 
 ghost use Rattle.std.specs.Prelude.{◌≡◌, IsSome, None, OnOk};
-ghost use Rattle.letter_kinds.specs.declared.letter.Letter.TheVariants.{App as app};
+ghost use Rattle.letter_kinds.specs.Letters.{App as app, as_letter};
+ghost use Rattle.row_store.specs.Told.{as_load};
 ghost use Rattle.actor_cell.specs.Awaiting.{awaited_by};
 
 use behaviour_code::Name;
@@ -139,7 +140,8 @@ impl Turned {
     #[inline(always)]
     pub fn take_letter(&mut self, alloc: Global, behaviour: Name) -> Letter
         requires { IsSome self.old.room }
-        ensures letter { result ≡ app behaviour self.old.args self.old.load self.old.rows }
+        ensures letter { as_letter result
+            ≡ app behaviour self.old.args (as_load self.old.load) (as_load self.old.rows) }
         ensures awaited { self.new.awaited ≡ self.old.awaited }
     {
         let Some(mut args) = self.room.take() else {

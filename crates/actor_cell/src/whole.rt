@@ -3,13 +3,14 @@
 
 ghost use Rattle.std.specs.Prelude.{◌≡◌, ◌+◌, ◌<◌, ◌^◌, [], ◌∷◌, IfErr, IfOk, IsSome, None, OnErr, OnOk, Some, true, vec_capacity};
 ghost use Rattle.letter_kinds.specs.Counting.{by_owner, given_back};
+ghost use Rattle.letter_kinds.specs.Letters.{as_letter};
 ghost use Rattle.machine_rules.specs.Collect.{is_marked};
 ghost use Rattle.machine_rules.specs.Take.{cell_after, note_of, notes_after};
 ghost use Rattle.orca_names.specs.declared.options.Options.{Options as choices};
 ghost use Rattle.actor_cell.specs.Cells.{as_cell};
 ghost use Rattle.actor_cell.specs.Goes.{CanGo, gone_of, out_of};
 ghost use Rattle.actor_cell.specs.Moves.{act_in};
-ghost use Rattle.actor_cell.specs.Outs.{IsRoomFor, left_behind, noting, report_of, returning};
+ghost use Rattle.actor_cell.specs.Outs.{IsRoomFor, as_out, left_behind, noting, report_of, returning};
 ghost use Rattle.actor_cell.specs.Sweeps.{KnowsOthersOnly, swept};
 ghost use Rattle.actor_cell.specs.Takes.{CanTake};
 
@@ -53,7 +54,7 @@ impl Turned {
     fn give_out(&mut self, alloc: Global, mut room: Vec<(ActorName, Letter)>) -> Out
         requires room { IsRoomFor 1 room }
         requires letter { IsSome self.old.room }
-        ensures { result ≡ out_of (act_in self.old) }
+        ensures { as_out result ≡ out_of (act_in self.old) }
     {
         let mut print = None;
         let mut made = None;
@@ -87,11 +88,11 @@ impl Cell {
     /// The letter, where memory was refused; the cell is then as it was.
     pub fn take(&mut self, alloc: Global, code: &Checked, letter: Letter) -> Result<Out, Letter>
         requires idle { self.old.frame ≡ None }
-        requires can { CanTake self.old.heap.owner letter (as_cell self.old).holdings }
-        ensures out { let note = note_of self.old.heap.owner letter in
-            IfOk result (λ out. out ≡ noting (notes_after self.old.reported note [])) }
+        requires can { CanTake self.old.heap.owner (as_letter letter) (as_cell self.old).holdings }
+        ensures out { let note = note_of self.old.heap.owner (as_letter letter) in
+            IfOk result (λ out. as_out out ≡ noting (notes_after self.old.reported note [])) }
         ensures cell { OnOk result (as_cell self.new
-            ≡ cell_after code.now self.old.heap.owner letter (as_cell self.old)) }
+            ≡ cell_after code.now self.old.heap.owner (as_letter letter) (as_cell self.old)) }
         ensures back { IfErr result (λ back. back ≡ letter) }
         ensures same { OnErr result (as_cell self.new ≡ as_cell self.old) }
         ensures owner { self.new.heap.owner ≡ self.old.heap.owner }
@@ -131,7 +132,7 @@ impl Cell {
         ensures gone { let options : choices = record { weight = weight; trace = trace } in
             let me = self.old.heap.owner in
             IfOk result (λ out. gone_of options code.now me (as_cell self.old)
-            ≡ Some (record { cell = as_cell self.new; out = out })) }
+            ≡ Some (record { cell = as_cell self.new; out = as_out out })) }
         ensures room { IfOk result (λ out. IsSome out.made → 0 < self.new.foreign.spare) }
         ensures same { OnErr result (as_cell self.new ≡ as_cell self.old) }
         ensures owner { self.new.heap.owner ≡ self.old.heap.owner }
@@ -157,7 +158,7 @@ impl Cell {
         ensures cell { let me = self.old.heap.owner in
             OnOk result (as_cell self.new ≡ swept trace me (as_cell self.old)) }
         ensures out { let marked = is_marked trace self.old.heap.owner (as_cell self.old) in
-            IfOk result (λ out. out
+            IfOk result (λ out. as_out out
             ≡ returning (by_owner (given_back marked (as_cell self.old).holdings))) }
         ensures same { OnErr result (as_cell self.new ≡ as_cell self.old) }
         ensures owner { self.new.heap.owner ≡ self.old.heap.owner }
@@ -179,11 +180,13 @@ impl Cell {
     /// `NoMemory` where memory was refused.
     pub fn leave(&self, alloc: Global) -> Result<Out, NoMemory>
         ensures { let its = left_behind self.now.heap.owner (as_cell self.now) in
-            IfOk result (λ out. out ≡ returning its) }
+            IfOk result (λ out. as_out out ≡ returning its) }
     {
         let gone = [self.heap.owner()];
+        let back = self.give_back(alloc, &gone)?;
+        let room = letter_room(alloc, back.len())?;
         Ok(Out {
-            letters: self.give_back(alloc, &gone)?,
+            letters: decs_of(room, back),
             notes: Listed::new(alloc),
             print: None,
             made: None,
@@ -195,7 +198,7 @@ impl Cell {
     /// # Errors
     /// `NoMemory` where memory was refused; the cell is then as it was.
     pub fn block(&mut self, alloc: Global) -> Result<Out, NoMemory>
-        ensures out { IfOk result (λ out. out
+        ensures out { IfOk result (λ out. as_out out
             ≡ noting (report_of self.old.heap.owner (as_cell self.old) ∷ [])) }
         ensures cell { let before = as_cell self.old in
             OnOk result (as_cell self.new ≡ record before { reported = true }) }

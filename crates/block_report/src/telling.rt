@@ -2,6 +2,7 @@
 
 ghost use Rattle.std.specs.Prelude.{◌≡◌, ℕ, if◌then◌else◌, None, Some};
 ghost use Rattle.block_report.specs.Telling.{note_told};
+ghost use Rattle.letter_kinds.specs.Letters.{as_letter};
 ghost use Rattle.machine_rules.specs.Take.{note_of};
 
 use letter_kinds::Letter;
@@ -22,7 +23,7 @@ pub enum Tells {
 #[inline(always)]
 pub fn tells_on(reported: bool, letter: &Letter) -> Tells
     ensures { (actor : ℕ) → note_told actor result
-        ≡ (if reported then Some (note_of actor letter.now) else None) }
+        ≡ (if reported then Some (note_of actor (as_letter letter.now)) else None) }
 {
     if !reported {
         return Tells::Nothing;

@@ -13,6 +13,7 @@ use letter_kinds::{Amounts, Letter, Load, Note, SentArgs};
 use object_heap::ObjectHeap;
 use orca_names::{ActorName, Args, NoMemory, ObjName, Row, Serial, Thing, Value};
 use plain_list::Listed;
+use row_store::Told;
 use std::alloc::Global;
 use std::test::Fail;
 
@@ -53,9 +54,9 @@ fn nine() -> Row {
 /// What the letter that gives the first actor's object and the last actor loads.
 fn given_load(alloc: Global) -> Result<Load, Fail> {
     let mut load = Load::new(alloc);
-    load.push((FIRST, None))?;
-    load.push((Thing::Obj(object_of(0)), Some(nine())))?;
-    load.push((LAST, None))?;
+    load.push((FIRST, Told::Nothing))?;
+    load.push((Thing::Obj(object_of(0)), Told::Here(nine())))?;
+    load.push((LAST, Told::Nothing))?;
     Ok(load)
 }
 
@@ -85,11 +86,12 @@ fn lowers(out: &(ActorName, Letter), to: u32, want: &[(Thing, u64)]) -> bool {
 }
 
 /// Whether a load is the first actor and its object with the row.
-fn is_passed(load: &[(Thing, Option<Row>)]) -> bool {
+fn is_passed(load: &[(Thing, Told)]) -> bool {
     let [first, object] = load else {
         return false;
     };
-    let has_row = matches!(&object.1, Some(row) if row.as_slice() == [Value::Num(9)].as_slice());
+    let has_row =
+        matches!(&object.1, Told::Here(row) if row.as_slice() == [Value::Num(9)].as_slice());
     first.0 == FIRST && object.0 == Thing::Obj(object_of(0)) && has_row
 }
 
@@ -194,7 +196,7 @@ fn own_counted(heap: &mut ObjectHeap) -> Result<(), Fail> {
 fn hold_last(foreign: &mut ForeignTable) -> Result<(), Fail> {
     foreign.reserve(1)?;
     if foreign.count(LAST) < 1000 {
-        foreign.gain(LAST, &None, COUNT);
+        foreign.gain(LAST, &Told::Nothing, COUNT);
     }
     Ok(())
 }

@@ -5,6 +5,8 @@ ghost use Rattle.actor_cell.specs.Cells.{as_cell};
 ghost use Rattle.actor_cell.specs.Goes.{CanMove};
 ghost use Rattle.actor_cell.specs.Moves.{act_in};
 ghost use Rattle.actor_cell.specs.Takes.{CanTake};
+ghost use Rattle.letter_kinds.specs.Letters.{as_letter};
+ghost use Rattle.row_store.specs.Told.{as_load, as_loaded};
 ghost use Rattle.cell_check.specs.Spare.{AreLow, AreSpare, IsLow, IsSpare};
 ghost use Rattle.turn_rules.specs.Segment as segments;
 
@@ -13,7 +15,8 @@ use behaviour_check::{Checked, check};
 use behaviour_text::parse;
 use known_rows::KnownPlaces;
 use letter_kinds::{Amounts, Letter, Load};
-use orca_names::{Options, Row, Thing, Trace};
+use orca_names::{Options, Thing, Trace};
+use row_store::Told;
 use std::alloc::Global;
 use std::test::Fail;
 use turn_step::Turn;
@@ -36,7 +39,7 @@ pub(crate) fn takes(
     letter: Letter,
 ) -> Result<Out, Fail>
     requires idle { cell.old.frame ≡ None }
-    requires can { CanTake cell.old.heap.owner letter (as_cell cell.old).holdings }
+    requires can { CanTake cell.old.heap.owner (as_letter letter) (as_cell cell.old).holdings }
 {
     match cell.take(alloc, code, letter) {
         Ok(out) => Ok(out),
@@ -45,9 +48,9 @@ pub(crate) fn takes(
 }
 
 /// Whether another's thing is held so often at least.
-fn is_spare(loaded: &(Thing, Option<Row>), cell: &Cell, least: u64) -> bool
+fn is_spare(loaded: &(Thing, Told), cell: &Cell, least: u64) -> bool
     ensures { IsTrue result
-        → IsSpare cell.now.heap.owner (as_cell cell.now).holdings least loaded.now }
+        → IsSpare cell.now.heap.owner (as_cell cell.now).holdings least (as_loaded loaded.now) }
 {
     let me = cell.heap.owner();
     if loaded.0.owner() == me {
@@ -59,7 +62,7 @@ fn is_spare(loaded: &(Thing, Option<Row>), cell: &Cell, least: u64) -> bool
 /// Whether a load has few things, each another's that is held so often at least.
 pub(crate) fn are_spare(load: &Load, cell: &Cell, least: u64) -> bool
     ensures { IsTrue result
-        → AreSpare cell.now.heap.owner (as_cell cell.now).holdings least load.now }
+        → AreSpare cell.now.heap.owner (as_cell cell.now).holdings least (as_load load.now) }
 {
     if load.len() > 8 {
         return false;

@@ -15,7 +15,7 @@ use Rattle.letter_kinds.proofs.Raising.{own_le-with_made}
 use Rattle.letter_kinds.specs.Counting.{Loaded, to_mint}
 use Rattle.letter_kinds.specs.Holdings.{Holdings, held_in, own_in, with_made}
 use Rattle.letter_kinds.specs.Sums.{times_loaded}
-use Rattle.letter_kinds.specs.declared.letter.Letter.{Letter}
+use Rattle.letter_kinds.specs.Letters.{Letter}
 use Rattle.trace_send.proofs.Once.{once-sent}
 use Rattle.trace_send.specs.Can.{CanSend, CanSendOne}
 use Rattle.machine_rules.specs.Actors.{seat, seat_at}

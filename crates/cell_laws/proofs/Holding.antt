@@ -6,7 +6,7 @@ use Rattle.orca_names.specs.Names.{owner_of}
 use Rattle.orca_names.specs.declared.names.Thing.{Thing}
 use Rattle.orca_names.specs.declared.trace.Trace.{Trace}
 use Rattle.letter_kinds.specs.Holdings.{Holdings, Row, entry_count, held_in}
-use Rattle.letter_kinds.specs.declared.letter.Letter.{Letter}
+use Rattle.letter_kinds.specs.Letters.{Letter}
 use Rattle.machine_rules.specs.Actors.{seat, seat_at}
 use Rattle.machine_rules.specs.Balance.{incs_at, own_at, owner_seat}
 use Rattle.machine_rules.specs.Cell.{Cell}

@@ -9,7 +9,7 @@ use Rattle.reach_walk.specs.Reach.{thing_row}
 use Rattle.turn_rules.proofs.Bounds.{segment_makes}
 use Rattle.turn_rules.specs.declared.act.Frame.{Frame}
 use Rattle.letter_kinds.proofs.Sums.{sum-at}
-use Rattle.letter_kinds.specs.declared.letter.Letter.{Letter}
+use Rattle.letter_kinds.specs.Letters.{Letter}
 use Rattle.machine_rules.proofs.Stepping.{step_of}
 use Rattle.machine_rules.specs.Actors.{seat, seat_at}
 use Rattle.machine_rules.specs.Cell.{Cell}

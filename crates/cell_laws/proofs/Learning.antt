@@ -13,8 +13,7 @@ use Rattle.event_rule.specs.declared.event.Event.{Event}
 use Rattle.letter_kinds.proofs.Counts.{cond_eq, cond_ne}
 use Rattle.letter_kinds.specs.Counting.{Loaded}
 use Rattle.letter_kinds.specs.Holdings.{Row}
-use Rattle.letter_kinds.specs.declared.letter.Letter.{Letter}
-use Rattle.letter_kinds.specs.declared.letter.Letter.TheVariants.{App, Confirm, Dec, Inc}
+use Rattle.letter_kinds.specs.Letters.{Letter, App, Confirm, Dec, Inc}
 use Rattle.machine_rules.specs.Actors.{Every}
 use Rattle.machine_rules.specs.Cell.{Cell}
 use Rattle.machine_rules.specs.Collect.{is_in_use, without_unused}

@@ -9,7 +9,7 @@ use Rattle.event_rule.specs.declared.event.Event.{Event}
 use Rattle.ref_weights.specs.Limit.{count_limit}
 use Rattle.letter_kinds.specs.Holdings.{held_in, own_in}
 use Rattle.letter_kinds.specs.Sums.{inc_of}
-use Rattle.letter_kinds.specs.declared.letter.Letter.{Letter}
+use Rattle.letter_kinds.specs.Letters.{Letter}
 use Rattle.machine_rules.specs.Actors.{seat, seat_at}
 use Rattle.machine_rules.specs.Balance.{held_at, incs_at, own_at, owner_seat}
 use Rattle.machine_rules.specs.Cell.{Cell}

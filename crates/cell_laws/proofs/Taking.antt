@@ -12,8 +12,7 @@ use Rattle.reach_walk.specs.Reach.{thing_row}
 use Rattle.letter_kinds.specs.Counting.{Loaded}
 use Rattle.letter_kinds.specs.Holdings.{Row, own_in}
 use Rattle.letter_kinds.specs.Sums.{dec_of, inc_of, load_count}
-use Rattle.letter_kinds.specs.declared.letter.Letter.{Letter}
-use Rattle.letter_kinds.specs.declared.letter.Letter.TheVariants.{App, Confirm, Dec, Inc}
+use Rattle.letter_kinds.specs.Letters.{Letter, App, Confirm, Dec, Inc}
 use Rattle.trace_send.proofs.Once.{once-received}
 use Rattle.trace_send.specs.Can.{CanReceiveOne, IsOnce}
 use Rattle.machine_rules.specs.Actors.{seat, seat_at}

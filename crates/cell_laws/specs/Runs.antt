@@ -2,7 +2,7 @@
 use Rattle.std.specs.Prelude.{ℕ, ◌<◌, ◌≤◌, ◌≡◌, List, length}
 use Rattle.behaviour_code.specs.declared.code.Program.{Program}
 use Rattle.event_rule.specs.declared.event.Event.{Event}
-use Rattle.letter_kinds.specs.declared.letter.Letter.{Letter}
+use Rattle.letter_kinds.specs.Letters.{Letter}
 use Rattle.machine_rules.specs.Actors.{seat, seat_at}
 use Rattle.machine_rules.specs.Cell.{Cell}
 use Rattle.machine_rules.specs.Options.{Options}

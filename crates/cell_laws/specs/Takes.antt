@@ -1,7 +1,7 @@
 -- After each run, each actor's counts allow the letter that it takes next.
 use Rattle.std.specs.Prelude.{ℕ, List, [], ◌∷◌, ⊤}
 use Rattle.letter_kinds.specs.Holdings.{Holdings}
-use Rattle.letter_kinds.specs.declared.letter.Letter.{Letter}
+use Rattle.letter_kinds.specs.Letters.{Letter}
 use Rattle.actor_cell.specs.Takes.{CanTake}
 use Rattle.cell_laws.specs.Runs.{AfterShortRuns}
 

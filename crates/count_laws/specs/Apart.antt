@@ -4,7 +4,7 @@ use Rattle.event_rule.specs.Events.{actor_of}
 use Rattle.event_rule.specs.declared.event.Event.{Event}
 use Rattle.event_rule.specs.declared.event.Event.TheVariants.{Take, Go, Collect, Leave, Block, Reap}
 use Rattle.letter_kinds.specs.Detector.{Token, has, token_numbered}
-use Rattle.letter_kinds.specs.declared.letter.Letter.{Letter}
+use Rattle.letter_kinds.specs.Letters.{Letter}
 use Rattle.machine_rules.specs.Actors.{Actors, Seat, cell_at, mail_at, seat_at}
 use Rattle.machine_rules.specs.Cell.{Cell}
 use Rattle.event_rule.specs.Runs.{IsEnabled, Step, NotEnabled, IsFull, Goes}

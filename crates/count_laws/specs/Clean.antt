@@ -6,7 +6,7 @@ use Rattle.orca_names.specs.declared.names.ObjName.{ObjName}
 use Rattle.orca_names.specs.declared.names.Thing.{Thing}
 use Rattle.orca_names.specs.declared.names.Thing.TheVariants.{Obj}
 use Rattle.reach_walk.specs.Reach.{thing_row}
-use Rattle.letter_kinds.specs.declared.letter.Letter.{Letter}
+use Rattle.letter_kinds.specs.Letters.{Letter}
 use Rattle.letter_kinds.specs.Holdings.{Row, has_own, held_in, own_in}
 use Rattle.machine_rules.specs.Actors.{Actors, Every}
 use Rattle.machine_rules.specs.Cell.{Cell, own_row_of}

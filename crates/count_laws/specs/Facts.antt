@@ -4,7 +4,7 @@ use Rattle.std.specs.FinMap as m
 use Rattle.orca_names.specs.declared.names.Thing.{Thing}
 use Rattle.orca_names.specs.declared.names.Thing.TheVariants.{Actor}
 use Rattle.reach_walk.specs.Reach.{thing_row}
-use Rattle.letter_kinds.specs.declared.letter.Letter.{Letter}
+use Rattle.letter_kinds.specs.Letters.{Letter}
 use Rattle.letter_kinds.specs.Holdings.{Holdings, Row}
 use Rattle.machine_rules.specs.Actors.{Actors, Every}
 use Rattle.count_laws.specs.Agreement.{Agrees, Person, people_of}

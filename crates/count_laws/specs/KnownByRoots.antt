@@ -11,8 +11,7 @@ use Rattle.reach_walk.specs.Reach.{thing_row}
 use Rattle.letter_kinds.specs.Counting.{Loaded}
 use Rattle.letter_kinds.specs.Holdings.{Holdings, Row, has_own, held_in, own_in}
 use Rattle.letter_kinds.specs.Sums.{dec_of, inc_of, load_count, times_loaded}
-use Rattle.letter_kinds.specs.declared.letter.Letter.{Letter}
-use Rattle.letter_kinds.specs.declared.letter.Letter.TheVariants.{App, Inc, Dec, Confirm}
+use Rattle.letter_kinds.specs.Letters.{Letter, App, Inc, Dec, Confirm}
 use Rattle.machine_rules.specs.Cell.{Cell, own_row_of}
 use Rattle.count_laws.specs.Known.{InFrame, IsKnown, IsLoadOf, Names, ReachesThrough}
 

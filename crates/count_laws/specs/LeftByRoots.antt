@@ -5,7 +5,7 @@ use Rattle.orca_names.specs.declared.names.Thing.{Thing}
 use Rattle.orca_names.specs.declared.names.Thing.TheVariants.{Actor, Obj}
 use Rattle.reach_walk.specs.Reach.{named_by}
 use Rattle.letter_kinds.specs.Holdings.{held_in}
-use Rattle.letter_kinds.specs.declared.letter.Letter.{Letter}
+use Rattle.letter_kinds.specs.Letters.{Letter}
 use Rattle.machine_rules.specs.Actors.{Actors, seat, seat_at}
 use Rattle.machine_rules.specs.Cell.{Cell}
 use Rattle.plain_rules.specs.Machine.{PlainState}

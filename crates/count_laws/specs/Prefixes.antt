@@ -1,7 +1,7 @@
 -- Prefixes of an actor's letters never take from a count what is not there.
 use Rattle.std.specs.Prelude.{ℕ, ◌+◌, ◌≤◌, min, drop, take, List, Option, Some, None, sum_by, ⊤}
 use Rattle.orca_names.specs.declared.names.Thing.{Thing}
-use Rattle.letter_kinds.specs.declared.letter.Letter.{Letter}
+use Rattle.letter_kinds.specs.Letters.{Letter}
 use Rattle.letter_kinds.specs.Holdings.{own_in}
 use Rattle.letter_kinds.specs.Sums.{dec_of, inc_of, load_count}
 use Rattle.machine_rules.specs.Actors.{Actors, Seat}

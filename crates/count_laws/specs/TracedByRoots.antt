@@ -3,7 +3,7 @@ use Rattle.std.specs.Prelude.{ℕ, ◌+◌, ◌<◌, ◌≡◌, ◌⊎◌, drop,
 use Rattle.orca_names.specs.Names.{owner_of}
 use Rattle.orca_names.specs.declared.names.Thing.{Thing}
 use Rattle.letter_kinds.specs.Sums.{inc_of, load_count}
-use Rattle.letter_kinds.specs.declared.letter.Letter.{Letter}
+use Rattle.letter_kinds.specs.Letters.{Letter}
 use Rattle.machine_rules.specs.Actors.{Actors, Every}
 use Rattle.machine_rules.specs.Balance.{held_sum, load_sum}
 use Rattle.count_laws.specs.Prefixes.{NeverOverdraws}

@@ -1,18 +1,22 @@
 -- What letters add to a line.
 use Rattle.std.proofs.Common.{◌≡◌, ◌≤◌, ◌<◌, ◌+◌, ◌^◌, ℕ, List, [], ◌∷◌, ◌++◌, Some, take, refl, sym, ap, ◌∙◌, arith, slice_get}
-use Rattle.std.specs.Prelude.{sum_by}
+use Rattle.std.specs.Prelude.{if◌then◌else◌, sum_by}
 use Rattle.std.specs.List.{All}
 use Rattle.std.proofs.lemmas.List.{take_more}
 use Rattle.std.proofs.lemmas.List.Elements.{All-weaker}
 use Rattle.std.proofs.lemmas.Option.{get_or_from_slice_get, slice_get_within}
+use Rattle.std.proofs.lemmas.List.Folds.{fold-map}
 use Rattle.std.proofs.lemmas.List.Sums.{sum_by-append, sum_by-take-le}
+use Rattle.orca_names.specs.Names.{is_thing, times_among}
 use Rattle.orca_names.specs.declared.names.Thing.{Thing}
 use Rattle.orca_names.specs.declared.tally.Sums.{Sums}
-use Rattle.orca_names.specs.declared.row.Args.{Args}
+use Rattle.orca_names.specs.declared.names.Value.{Value}
+use Rattle.row_store.specs.Told.{as_load, as_loaded}
+use Rattle.row_store.specs.declared.told.Told.{Told}
 use Rattle.letter_kinds.specs.Counting.{Amount, Loaded}
 use Rattle.letter_kinds.specs.Sums.{amount_of, dec_of, inc_of, load_count, times_loaded}
-use Rattle.letter_kinds.specs.declared.letter.Letter.{Letter}
-use Rattle.letter_kinds.specs.declared.letter.Letter.TheVariants as letters
+use Rattle.letter_kinds.specs.Letters.{Letter}
+use Rattle.letter_kinds.specs.Letters as letters
 use Rattle.count_ledger.specs.Lines.{Fits, HasRoom, own_only, raised, raised_by, read, with_mail}
 use Rattle.count_ledger.specs.declared.lines.Column.{Column}
 use Rattle.count_ledger.specs.declared.lines.Column.TheVariants.{Inc, Dec, Held, Letters}
@@ -72,6 +76,11 @@ letters_alone n s =
 one_of : (f : Letter → ℕ) (l : Letter) → sum_by f (l ∷ []) ≡ f l
 one_of f l = omega arith
 
+-- a load has a thing as often with rows as values
+loaded_as : (x : Thing) (load : List (Thing × Told)) → times_loaded x (as_load load) ≡ times_among x load
+unfolding times_loaded
+loaded_as x load = fold-map (λ n (e : Loaded). n + (if is_thing x e.0 then 1 else 0)) as_loaded 0 load
+
 module _ (to : ℕ) where
   -- what increments to an actor say of its own things
   abbrev incs : List Letter → Thing → ℕ
@@ -129,15 +138,15 @@ module _ (to : ℕ) where
   -- ---- of each kind of letter
 
   -- a load
-  pub app_line : (behaviour : ℕ) (args : Args) (load rows : List Loaded) (s : Sums)
-      → raised_by Letters (λ x. times_loaded x load) s
-      ≡ with_mail to (letters.App behaviour args load rows ∷ []) s
+  pub app_line : (behaviour : ℕ) (args : List Value) (load rows : List (Thing × Told)) (s : Sums)
+      → raised_by Letters (λ x. times_among x load) s
+      ≡ with_mail to (letters.App behaviour args (as_load load) (as_load rows) ∷ []) s
   unfolding inc_of dec_of load_count
   app_line behaviour args load rows s =
       let none = own_none to (λ x. 0) (λ x. refl) s.thing in
-      let n = times_loaded s.thing load in
-      sym (one_letter (letters.App behaviour args load rows) s ∙ more_same _ 0 _ 0 _ n s none none refl
-      ∙ letters_alone n s)
+      let n = times_among s.thing load in
+      sym (one_letter (letters.App behaviour args (as_load load) (as_load rows)) s
+      ∙ more_same _ 0 _ 0 _ n s none none (loaded_as s.thing load) ∙ letters_alone n s)
 
   -- increments
   pub inc_line : (things : List Amount) (s : Sums)

@@ -3,10 +3,10 @@ use Rattle.std.proofs.Common.{◌≡◌, ◌≢◌, ◌<◌, ◌≤◌, ◌+◌,
 use Rattle.std.specs.Prelude.{T, sum_by}
 use Rattle.std.proofs.lemmas.Bool.{eq-eqb, ne_eqb, cases_eq}
 use Rattle.std.proofs.lemmas.List.Sums.{sum_by-cons, sum_by_more, sum_by_more_le}
-use Rattle.orca_names.specs.Names.{is_thing, owner_of, thing_cmp}
+use Rattle.orca_names.specs.Names.{is_thing, owner_of, thing_cmp, times_among}
 use Rattle.orca_names.specs.declared.names.Thing.{Thing}
 use Rattle.letter_kinds.specs.Holdings.{Row, entry_count}
-use Rattle.letter_kinds.specs.Sums.{amount_of, times_loaded}
+use Rattle.letter_kinds.specs.Sums.{amount_of}
 use Rattle.std.specs.FinMap.Entries.{below_all, find, is_sorted}
 use Rattle.orca_names.proofs.ThingOrder.{is_same}
 use Rattle.std.specs.Ordering.{is_lt}
@@ -141,51 +141,26 @@ to_thing e = e.0
 abbrev to_amount : Thing × ℕ → ℕ
 to_amount e = e.1
 
--- the thing of a load, and one letter for it
-abbrev loaded_thing : Thing × Option Row → Thing
-loaded_thing e = e.0
-
-abbrev one_letter : Thing × Option Row → ℕ
-one_letter e = 1
-
 -- amounts as a list says them
 amount_said : (things : List (Thing × ℕ)) (x : Thing) → amount_of x things ≡ said to_thing to_amount things x
 unfolding amount_of
 amount_said things x = refl
-
--- a load as a list says it
-load_said : (load : List (Thing × Option Row)) (x : Thing)
-    → times_loaded x load ≡ said loaded_thing one_letter load x
-unfolding times_loaded
-load_said load x = refl
 
 -- an empty list says nothing
 pub amount_none : (x : Thing) → amount_of x [] ≡ 0
 unfolding amount_of
 amount_none x = refl
 
--- nor does an empty load
-pub load_none : (x : Thing) → times_loaded x [] ≡ 0
-unfolding times_loaded
-load_none x = refl
-
-module _ (load : List (Thing × Option Row)) (i : ℕ) (e : Thing × Option Row) (l : i < length load)
+module _ {A : Type 0} (load : List (Thing × A)) (i : ℕ) (e : Thing × A) (l : i < length load)
     (is : e ≡ get_or load i e) where
   -- one thing of a load more
-  pub load_more : (x : Thing) → times_loaded x (take i load) + only e.0 1 x
-      ≡ times_loaded x (take (i + 1) load)
-  load_more x = ap (λ n. n + only e.0 1 x) (load_said (take i load) x)
-      ∙ said_more loaded_thing one_letter load i e l is x
-      ∙ sym (load_said (take (i + 1) load) x)
+  pub load_more : (x : Thing) → times_among x (take i load) + only e.0 1 x
+      ≡ times_among x (take (i + 1) load)
+  load_more x = said_more (λ (t : Thing × A). t.0) (λ t. 1) load i e l is x
 
   -- no more than the whole load
-  pub load_more_le : (x : Thing) → times_loaded x (take i load) + only e.0 1 x ≤ times_loaded x load
-  load_more_le x = omega (
-    arith,
-    load_said (take i load) x,
-    load_said load x,
-    said_more_le loaded_thing one_letter load i e l is x,
-  )
+  pub load_more_le : (x : Thing) → times_among x (take i load) + only e.0 1 x ≤ times_among x load
+  load_more_le x = said_more_le (λ (t : Thing × A). t.0) (λ t. 1) load i e l is x
 
 module _ (a : ℕ) (things : List (Thing × ℕ)) (i : ℕ) (e : Thing × ℕ) (l : i < length things)
     (is : e ≡ get_or things i e) where

@@ -6,7 +6,7 @@ use Rattle.orca_names.specs.Names.{is_thing, owner_of, thing_cmp}
 use Rattle.orca_names.specs.declared.names.Thing.{Thing}
 use Rattle.orca_names.specs.declared.tally.Sums.{Sums}
 use Rattle.letter_kinds.specs.Sums.{dec_of, inc_of, load_count}
-use Rattle.letter_kinds.specs.declared.letter.Letter.{Letter}
+use Rattle.letter_kinds.specs.Letters.{Letter}
 use Rattle.machine_rules.specs.Actors.{Actors, Seat, letters_of}
 use Rattle.machine_rules.specs.Balance.{decs_at, held_at, incs_at, loads_at, own_at, owner_seat}
 use Rattle.count_ledger.specs.declared.lines.Column.{Column}

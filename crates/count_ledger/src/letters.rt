@@ -1,7 +1,9 @@
 // What letters say of things.
 
 ghost use Rattle.std.specs.Prelude.{◌≡◌, ◌∷◌, [], map};
-ghost use Rattle.letter_kinds.specs.Sums.{amount_of, times_loaded};
+ghost use Rattle.orca_names.specs.Names.{times_among};
+ghost use Rattle.letter_kinds.specs.Letters.{as_letter};
+ghost use Rattle.letter_kinds.specs.Sums.{amount_of};
 ghost use Rattle.count_ledger.specs.Lines.{HasRoom, HasRoomForMail, Rise, own_only, raised_by, with_mail};
 ghost use Rattle.count_ledger.specs.declared.lines.Column.TheVariants.{Letters};
 
@@ -26,8 +28,8 @@ fn add_amounts(sums: &mut [Sums], column: Column, owner: ActorName, things: &Amo
 // One letter more for each of these things.
 fn add_load(sums: &mut [Sums], load: &Load)
     requires rising { Rise sums.old }
-    requires room { HasRoom Letters (λ x. times_loaded x load.now) sums.old }
-    ensures { sums.new ≡ map (raised_by Letters (λ x. times_loaded x load.now)) sums.old }
+    requires room { HasRoom Letters (λ x. times_among x load.now) sums.old }
+    ensures { sums.new ≡ map (raised_by Letters (λ x. times_among x load.now)) sums.old }
 {
     for loaded in load.as_slice() {
         add(sums, Column::Letters, &loaded.0, 1);
@@ -37,8 +39,8 @@ fn add_load(sums: &mut [Sums], load: &Load)
 // What a letter to this actor says.
 fn add_letter(sums: &mut [Sums], to: ActorName, letter: &Letter)
     requires rising { Rise sums.old }
-    requires room { HasRoomForMail to (letter.now ∷ []) sums.old }
-    ensures { sums.new ≡ map (with_mail to (letter.now ∷ [])) sums.old }
+    requires room { HasRoomForMail to (as_letter letter.now ∷ []) sums.old }
+    ensures { sums.new ≡ map (with_mail to (as_letter letter.now ∷ [])) sums.old }
 {
     match letter {
         Letter::App {

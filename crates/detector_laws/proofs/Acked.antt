@@ -3,7 +3,7 @@ use Rattle.std.proofs.Common.{◌≡◌, ℕ, ◌+◌, ◌<◌, true, List, [], 
 use Rattle.std.proofs.lemmas.Bool.{false≢true}
 use Rattle.letter_kinds.proofs.Acked.{acked_each}
 use Rattle.letter_kinds.specs.Detector.{Token, all_acked, has}
-use Rattle.letter_kinds.specs.declared.letter.Letter.{Letter}
+use Rattle.letter_kinds.specs.Letters.{Letter}
 use Rattle.detector_laws.specs.Confirms.{EndsInConfirm, confirm_count}
 use Rattle.detector_laws.specs.Tokens.{IsSealed, ack_count}
 use Rattle.detector_laws.specs.World.{TokensAreSound, World}

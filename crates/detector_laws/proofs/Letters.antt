@@ -1,8 +1,7 @@
 -- Confirms among letters.
 use Rattle.std.proofs.Common.{◌≡◌, ℕ, ◌+◌, ◌<◌, true, false, List, [], ◌∷◌, ◌++◌, arith, refl, sym}
 use Rattle.std.proofs.lemmas.Bool.{false≢true}
-use Rattle.letter_kinds.specs.declared.letter.Letter.{Letter}
-use Rattle.letter_kinds.specs.declared.letter.Letter.TheVariants.{Confirm}
+use Rattle.letter_kinds.specs.Letters.{Letter, Confirm}
 use Rattle.detector_laws.specs.Confirms.{is_confirm, confirms, confirm_count, has_confirm, other_before_confirm, NoConfirms, EndsInConfirm, OnlyConfirms}
 
 -- the Confirm of a token is a Confirm

@@ -8,8 +8,7 @@ use Rattle.letter_kinds.proofs.Rounds.{largest_by_rounds}
 use Rattle.letter_kinds.specs.Closed.{IsClosed, largest_closed}
 use Rattle.letter_kinds.specs.Detector.{Token, Detector, has, in_token, candidates, closed_set, open_token, without_news, after_scan}
 use Rattle.letter_kinds.specs.Reports.{count_on, told_on, told_on_by, kept_report}
-use Rattle.letter_kinds.specs.declared.letter.Letter.{Letter}
-use Rattle.letter_kinds.specs.declared.letter.Letter.TheVariants.{Confirm}
+use Rattle.letter_kinds.specs.Letters.{Letter, Confirm}
 use Rattle.letter_kinds.specs.declared.note.Note.{Note}
 use Rattle.letter_kinds.specs.declared.note.Report.{Report}
 use Rattle.machine_rules.specs.Cell.{Cell}

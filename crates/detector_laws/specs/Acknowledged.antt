@@ -1,7 +1,7 @@
 -- Members alone acknowledge a token.
 use Rattle.std.specs.Prelude.{ℕ, ◌≡◌, false, List, Contains}
 use Rattle.letter_kinds.specs.Detector.{Detector, Token, has}
-use Rattle.letter_kinds.specs.declared.letter.Letter.{Letter}
+use Rattle.letter_kinds.specs.Letters.{Letter}
 use Rattle.letter_kinds.specs.declared.note.Note.{Note}
 use Rattle.detector_laws.specs.Confirms.{confirm_count}
 use Rattle.detector_laws.specs.Tokens.{ack_count}

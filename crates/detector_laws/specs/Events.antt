@@ -3,7 +3,7 @@ use Rattle.std.specs.Prelude.{ℕ, ◌<◌, ◌≤◌, ◌≡◌, ◌≢◌, ◌
 use Rattle.orca_names.specs.declared.names.Thing.TheVariants.{Actor}
 use Rattle.letter_kinds.specs.Detector.{Token, has, all_acked, close_token}
 use Rattle.letter_kinds.specs.Holdings.{held_in}
-use Rattle.letter_kinds.specs.declared.letter.Letter.{Letter}
+use Rattle.letter_kinds.specs.Letters.{Letter}
 use Rattle.letter_kinds.specs.declared.note.Note.TheVariants.{Unblock}
 use Rattle.letter_kinds.specs.declared.note.Report.{Report}
 use Rattle.machine_rules.specs.Cell.{Cell}

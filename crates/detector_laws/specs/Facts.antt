@@ -1,7 +1,7 @@
 -- All that every event keeps.
 use Rattle.std.specs.Prelude.{ℕ, List, Option}
 use Rattle.letter_kinds.specs.Detector.{Detector}
-use Rattle.letter_kinds.specs.declared.letter.Letter.{Letter}
+use Rattle.letter_kinds.specs.Letters.{Letter}
 use Rattle.letter_kinds.specs.declared.note.Note.{Note}
 use Rattle.machine_rules.specs.Cell.{Cell}
 use Rattle.detector_laws.specs.Acknowledged.{OnlyMembersAcknowledge}

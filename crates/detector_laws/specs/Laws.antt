@@ -7,8 +7,7 @@ use Rattle.detector_laws.specs.Reports.{IsRising}
 use Rattle.detector_laws.specs.Run.{IsRun, IsStart, IsStep}
 use Rattle.detector_laws.specs.Tokens.{IsSealed}
 use Rattle.detector_laws.specs.World.{block_in_world, FactsHold, hear_in_world, ReportsAreExact, scan_in_world, take_confirm, TokensAreSound, World}
-use Rattle.letter_kinds.specs.declared.letter.Letter.{Letter}
-use Rattle.letter_kinds.specs.declared.letter.Letter.TheVariants.{Confirm}
+use Rattle.letter_kinds.specs.Letters.{Letter, Confirm}
 use Rattle.letter_kinds.specs.declared.note.Note.{Note}
 use Rattle.letter_kinds.specs.declared.note.Note.TheVariants.{Ack}
 use Rattle.letter_kinds.specs.declared.note.Report.{Report}

@@ -1,8 +1,7 @@
 -- The start, steps and runs of the world that the detector's laws speak of.
 use Rattle.std.specs.Prelude.{ℕ, ◌≡◌, true, false, List, [], ◌∷◌}
 use Rattle.letter_kinds.specs.Detector.{Token, fresh_detector}
-use Rattle.letter_kinds.specs.declared.letter.Letter.{Letter}
-use Rattle.letter_kinds.specs.declared.letter.Letter.TheVariants.{Confirm}
+use Rattle.letter_kinds.specs.Letters.{Letter, Confirm}
 use Rattle.letter_kinds.specs.declared.note.Note.{Note}
 use Rattle.letter_kinds.specs.declared.note.Report.{Report}
 use Rattle.machine_rules.specs.Cell.{Cell}

@@ -11,6 +11,7 @@ ghost use Rattle.foreign_table.specs.Entry.{pair_of};
 ghost use Rattle.foreign_table.specs.Span.{IsSpan};
 ghost use Rattle.foreign_table.specs.Table.{DoRise, Table, count_on, count_unheld, counted, entered, entries_in, known_row, on_actors, without};
 ghost use Rattle.letter_kinds.specs.Holdings.{entry_row};
+ghost use Rattle.row_store.specs.Told.{told_row};
 ghost use Rattle.ref_weights.specs.Limit.{count_limit};
 
 use crate::keep::keep_others;
@@ -19,6 +20,7 @@ use crate::span::span;
 use letter_kinds::Amounts;
 use orca_names::{ActorName, NoMemory, ObjName, Row, Thing};
 use ref_weights::Held;
+use row_store::Told;
 use std::alloc::Global;
 use std::marker::Model;
 
@@ -60,41 +62,45 @@ fn place_there(held: &[Entry], thing: Thing) -> usize
     }
 }
 
-// The count of an entry rises, and its row is this one.
+// The count of an entry rises, and its row is the one that is told.
 #[inline(always)]
-fn raise(entry: &mut Entry, by: u64, row: &Option<Row>)
+fn raise(entry: &mut Entry, by: u64, told: &Told)
     requires { entry.old.count + by < count_limit }
-    ensures { entry.new ≡ record { thing = entry.old.thing; count = entry.old.count + by; row = row.now } }
+    ensures { let row = told_row told.now in
+        entry.new ≡ record { thing = entry.old.thing; count = entry.old.count + by; row = row } }
 {
     entry.count.gain(by);
-    entry.row = *row;
+    match told {
+        Told::Here(row) => entry.row = Some(*row),
+        Told::Nothing => entry.row = None,
+    }
 }
 
 // There is room.
 #[inline(always)]
-fn put_entry(held: &mut Vec<Entry>, i: usize, thing: &Thing, by: u64, row: &Option<Row>)
+fn put_entry(held: &mut Vec<Entry>, i: usize, thing: &Thing, by: u64, told: &Told)
     requires fits { by < count_limit }
     requires room { vec_len held.old < vec_capacity held.old }
     requires within { i ≤ vec_len held.old }
     ensures items { held.new.items
-        ≡ insert held.old.items i (record { thing = thing.now; count = by; row = row.now }) }
+        ≡ insert held.old.items i (record { thing = thing.now; count = by; row = told_row told.now }) }
     ensures len { vec_len held.new ≡ vec_len held.old + 1 }
     ensures capacity { vec_capacity held.new ≡ vec_capacity held.old }
 {
     let thing = *thing;
     let count = Held::new(by);
     if i < held.len() {
-        let row = *row;
+        let row = told.here().copied();
         let _done = held.insert(i, Entry { thing, count, row }).is_ok();
         return;
     }
     // None is written as such: to copy it would move the room of a row.
-    match row {
-        Some(row) => {
+    match told {
+        Told::Here(row) => {
             let row = Some(*row);
             held.push_reserved(Entry { thing, count, row });
         }
-        None => {
+        Told::Nothing => {
             let row = None;
             held.push_reserved(Entry { thing, count, row });
         }
@@ -213,18 +219,18 @@ impl ForeignTable {
         self.reserve(n)
     }
 
-    /// The count on a thing rises, from 0 where nothing was held, and its row is this one. It takes
-    /// no memory.
+    /// The count on a thing rises, from 0 where nothing was held, and its row is the one that is told.
+    /// It takes no memory.
     #[inline(always)]
-    pub fn gain(&mut self, thing: Thing, row: &Option<Row>, by: u64)
+    pub fn gain(&mut self, thing: Thing, told: &Told, by: u64)
         requires room { m.get self.old.entries thing ≡ None → 0 < self.old.spare }
         requires fits { count_on self.old thing + by < count_limit }
-        ensures { self.new ≡ entered (λ count. count + by) thing row.now self.old }
+        ensures { self.new ≡ entered (λ count. count + by) thing (told_row told.now) self.old }
     {
         let place = place_of(self.held.as_slice(), thing);
         match place {
-            Ok(i) => raise(&mut self.held[i], by, row),
-            Err(i) => put_entry(&mut self.held, i, &thing, by, row),
+            Ok(i) => raise(&mut self.held[i], by, told),
+            Err(i) => put_entry(&mut self.held, i, &thing, by, told),
         }
     }
 
@@ -259,7 +265,7 @@ impl ForeignTable {
     {
         match place_of(self.held.as_slice(), thing) {
             Ok(i) => self.held[i].count.mint(by),
-            Err(i) => put_entry(&mut self.held, i, &thing, by, &None),
+            Err(i) => put_entry(&mut self.held, i, &thing, by, &Told::Nothing),
         }
     }
 

@@ -1,3 +1,4 @@
+pub mod Letters
 pub mod Closed
 pub mod Counting
 pub mod Detector

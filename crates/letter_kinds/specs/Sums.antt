@@ -2,8 +2,7 @@
 use Rattle.std.specs.Prelude.{ℕ, List, if◌then◌else◌, sum_by}
 use Rattle.orca_names.specs.Names.{is_thing, times_among}
 use Rattle.orca_names.specs.declared.names.Thing.{Thing}
-use Rattle.letter_kinds.specs.declared.letter.Letter.{Letter}
-use Rattle.letter_kinds.specs.declared.letter.Letter.TheVariants.{App, Inc, Dec, Confirm}
+use Rattle.letter_kinds.specs.Letters.{Letter, App, Inc, Dec, Confirm}
 use Rattle.letter_kinds.specs.Counting.{Amount, Loaded}
 
 -- the amounts for x in a list

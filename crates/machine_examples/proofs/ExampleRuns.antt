@@ -33,7 +33,7 @@ use Rattle.machine_rules.specs.Guards.{may_block, may_collect, may_go, may_leave
 use Rattle.machine_rules.specs.Leave.{leave}
 use Rattle.machine_rules.specs.Take.{take}
 use Rattle.machine_rules.specs.Cell.{Cell}
-use Rattle.letter_kinds.specs.declared.letter.Letter.{Letter}
+use Rattle.letter_kinds.specs.Letters.{Letter}
 
 -- what is there, or else the page that is given
 abbrev pub page_or : Page → Option Page → Page

@@ -19,8 +19,7 @@ use Rattle.turn_rules.specs.declared.act.Act.TheVariants.{Post, New, Print, End}
 use Rattle.turn_rules.specs.declared.act.Frame.{Frame}
 use Rattle.letter_kinds.specs.Counting.{Amount, Loaded, by_owner, gain, lacking_of, to_mint}
 use Rattle.letter_kinds.specs.Holdings.{Row}
-use Rattle.letter_kinds.specs.declared.letter.Letter.{Letter}
-use Rattle.letter_kinds.specs.declared.letter.Letter.TheVariants.{App, Inc, Dec, Confirm}
+use Rattle.letter_kinds.specs.Letters.{Letter, App, Inc, Dec, Confirm}
 use Rattle.letter_kinds.specs.declared.note.Note.TheVariants as notes
 use Rattle.machine_examples.proofs.Brought.{Brought, cell_with, learn_told, learn-told, listed_told, listed-told, marked_by_roots_told, marked_by_roots-told, need_told, need-told, needs_told, needs-told, row_brought, row_brought-told, used_told, used-told}
 use Rattle.machine_examples.proofs.Ledgers.{Ledger, told, empty_ledger, row_told, row_of-told, objects_told, known_objects-told, actors_told, held_actors-told, change_held, set_held-told, take_load, receive-told, give_load, send-told, raise_told, raise_all-told, lower_told, lower_all-told, mint_told, mint_all-told, lacking_told, lacking-told, make_told, with_made-told, sweep_told, sweep-told, back_told, given_back-told}

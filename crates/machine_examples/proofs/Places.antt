@@ -2,8 +2,7 @@
 use Rattle.std.proofs.Common.{◌≡◌, ℕ, zero, suc, List, [], ◌∷◌, ◌++◌, map, set, get_or, Option, Some, None, refl, ap, sym, ◌∙◌}
 use Rattle.std.proofs.lemmas.List.{map-set}
 use Rattle.letter_kinds.specs.Counting.{Amount}
-use Rattle.letter_kinds.specs.declared.letter.Letter.{Letter}
-use Rattle.letter_kinds.specs.declared.letter.Letter.TheVariants.{Dec, Confirm}
+use Rattle.letter_kinds.specs.Letters.{Letter, Dec, Confirm}
 use Rattle.machine_examples.proofs.Brought.{Brought, cell_with}
 use Rattle.machine_examples.proofs.Ledgers.{Ledger}
 use Rattle.machine_rules.specs.Actors.{Actors, Seat, push_decs, push_letter, seat, seat_at, with_letter_more}

@@ -10,7 +10,7 @@ use Rattle.orca_names.specs.declared.names.Thing.TheVariants.{Actor, Obj}
 use Rattle.letter_kinds.proofs.Sums.{sum-nil}
 use Rattle.letter_kinds.specs.Holdings.{Holdings, has_own, nothing_held, own_in, row_count}
 use Rattle.letter_kinds.specs.Sums.{dec_of, inc_of, load_count}
-use Rattle.letter_kinds.specs.declared.letter.Letter.{Letter}
+use Rattle.letter_kinds.specs.Letters.{Letter}
 use Rattle.machine_examples.proofs.Brought.{brought_map}
 use Rattle.machine_examples.proofs.Ledgers.{Ledger, held_in-told, held_told, own_entry, told}
 use Rattle.machine_examples.proofs.Places.{Place, Places, place_at, seat_at-told, seat_told, seats_told}

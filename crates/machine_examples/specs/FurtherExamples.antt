@@ -8,7 +8,7 @@ use Rattle.behaviour_code.specs.declared.instr.Instr.TheVariants as I
 use Rattle.event_rule.specs.declared.event.Event.{Event}
 use Rattle.event_rule.specs.declared.event.Event.TheVariants.{Take, Go, Collect, Leave, Hear, Scan}
 use Rattle.letter_kinds.specs.Reports.{report_told}
-use Rattle.letter_kinds.specs.declared.letter.Letter.TheVariants.{Inc}
+use Rattle.letter_kinds.specs.Letters.{Inc}
 use Rattle.letter_kinds.specs.declared.note.Note.TheVariants.{Unblock}
 use Rattle.machine_examples.specs.RootsExamples.{by_roots, first_object, second_object}
 use Rattle.machine_examples.specs.SmallExamples.{by_five, makes_one, up_to_no_token}

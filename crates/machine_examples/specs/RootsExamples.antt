@@ -9,7 +9,7 @@ use Rattle.behaviour_code.specs.declared.instr.Instr.TheVariants as I
 use Rattle.turn_rules.specs.declared.act.Frame.{Frame}
 use Rattle.event_rule.specs.declared.event.Event.{Event}
 use Rattle.event_rule.specs.declared.event.Event.TheVariants.{Take, Go, Collect, Leave, Block, Hear, Scan}
-use Rattle.letter_kinds.specs.declared.letter.Letter.TheVariants.{App, Inc}
+use Rattle.letter_kinds.specs.Letters.{App, Inc}
 use Rattle.machine_rules.specs.Actors.{Actors, cell_at, mail_at}
 use Rattle.machine_rules.specs.Balance.{decs_at, held_sum, incs_at, load_sum, own_at, owner_seat}
 use Rattle.machine_rules.specs.Cell.{Cell}

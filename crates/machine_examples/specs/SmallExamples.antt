@@ -8,7 +8,7 @@ use Rattle.behaviour_code.specs.declared.instr.Instr.TheVariants as I
 use Rattle.event_rule.specs.declared.event.Event.{Event}
 use Rattle.event_rule.specs.declared.event.Event.TheVariants.{Take, Go, Collect, Leave, Block, Hear, Scan, Reap}
 use Rattle.letter_kinds.specs.Reports.{report_told}
-use Rattle.letter_kinds.specs.declared.letter.Letter.TheVariants.{Dec, Inc}
+use Rattle.letter_kinds.specs.Letters.{Dec, Inc}
 use Rattle.machine_rules.specs.Actors.{mail_at}
 use Rattle.machine_examples.specs.Examples.{usual}
 use Rattle.machine_rules.specs.Left.{IsLeft}

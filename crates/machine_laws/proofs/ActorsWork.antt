@@ -8,8 +8,7 @@ use Rattle.std.specs.Prelude.{sum_by}
 use Rattle.orca_names.specs.Names.{owner_of}
 use Rattle.letter_kinds.specs.Counting.{Amount, by_owner}
 use Rattle.letter_kinds.specs.Detector.{has}
-use Rattle.letter_kinds.specs.declared.letter.Letter.{Letter}
-use Rattle.letter_kinds.specs.declared.letter.Letter.TheVariants.{Confirm, Dec}
+use Rattle.letter_kinds.specs.Letters.{Letter, Confirm, Dec}
 use Rattle.machine_rules.specs.Actors.{Actors, Seat, push_decs, push_letter, seat_at, with_letter_more}
 use Rattle.machine_rules.specs.Detect.{ask_all, empty_seats, held_outside, reap_decs, reap_members}
 use Rattle.machine_laws.proofs.Moving.{sum_by-set_past}

@@ -8,8 +8,7 @@ use Rattle.letter_kinds.specs.Counting.{sweep, given_back, by_owner}
 use Rattle.letter_kinds.specs.Detector.{Detector}
 use Rattle.letter_kinds.specs.Holdings.{held_in}
 use Rattle.letter_kinds.specs.Sums.{amount_of}
-use Rattle.letter_kinds.specs.declared.letter.Letter.{Letter}
-use Rattle.letter_kinds.specs.declared.letter.Letter.TheVariants.{Dec}
+use Rattle.letter_kinds.specs.Letters.{Letter, Dec}
 use Rattle.letter_kinds.specs.declared.note.Note.{Note}
 use Rattle.count_laws.proofs.balance.SeatReads.{letter_Dec, loads_at-seat}
 use Rattle.count_laws.proofs.balance.Seats.{load_sum-set}

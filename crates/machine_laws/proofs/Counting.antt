@@ -11,7 +11,7 @@ use Rattle.orca_names.specs.declared.names.Thing.TheVariants.{Actor}
 use Rattle.event_rule.specs.declared.event.Event.{Event}
 use Rattle.letter_kinds.proofs.Sums.{sum-at}
 use Rattle.letter_kinds.specs.Holdings.{held_in, own_in}
-use Rattle.letter_kinds.specs.declared.letter.Letter.{Letter}
+use Rattle.letter_kinds.specs.Letters.{Letter}
 use Rattle.letter_kinds.specs.declared.note.Note.{Note}
 use Rattle.letter_kinds.specs.declared.note.Report.{Report}
 use Rattle.count_laws.proofs.bounds.Bounding.{events_raise, options_stay, runs_count, runs_make_few, runs_open}

@@ -4,7 +4,7 @@ use Rattle.std.proofs.lemmas.Bool.{false≢true}
 use Rattle.event_rule.specs.declared.event.Event.{Event}
 use Rattle.event_rule.specs.declared.event.Event.TheVariants.{Take, Go, Collect, Leave, Block, Reap}
 use Rattle.letter_kinds.specs.Detector.{Token}
-use Rattle.letter_kinds.specs.declared.letter.Letter.{Letter}
+use Rattle.letter_kinds.specs.Letters.{Letter}
 use Rattle.machine_rules.proofs.Enabling.{enabled_exactly}
 use Rattle.count_laws.proofs.balance.Seats.{some_seat}
 use Rattle.machine_rules.specs.Actors.{Seat, cell_of, letters_of, seat, seat_at}

@@ -20,8 +20,7 @@ use Rattle.letter_kinds.proofs.Filters.{length-filter_le}
 use Rattle.letter_kinds.specs.Counting.{Amount, mint_all, mint_one, set_held}
 use Rattle.letter_kinds.specs.Holdings.{Holdings, held_in}
 use Rattle.letter_kinds.specs.Sums.{amount_of}
-use Rattle.letter_kinds.specs.declared.letter.Letter.{Letter}
-use Rattle.letter_kinds.specs.declared.letter.Letter.TheVariants.{Confirm, Dec}
+use Rattle.letter_kinds.specs.Letters.{Letter, Confirm, Dec}
 use Rattle.count_laws.proofs.roots.Need.{itself_minted, owner_minted}
 use Rattle.machine_rules.specs.Actors.{Actors, Seat, push_decs, push_letter, seat, seat_at, with_letter_more}
 use Rattle.machine_rules.specs.Cell.{Cell, row_by_roots}

@@ -16,8 +16,7 @@ use Rattle.letter_kinds.specs.Counting.{send, mint_all, gain}
 use Rattle.letter_kinds.specs.Detector.{Detector}
 use Rattle.letter_kinds.specs.Holdings.{Row, held_in}
 use Rattle.letter_kinds.specs.Sums.{amount_of, times_loaded, load_count}
-use Rattle.letter_kinds.specs.declared.letter.Letter.{Letter}
-use Rattle.letter_kinds.specs.declared.letter.Letter.TheVariants.{App, Inc}
+use Rattle.letter_kinds.specs.Letters.{Letter, App, Inc}
 use Rattle.letter_kinds.specs.declared.note.Note.{Note}
 use Rattle.count_laws.proofs.balance.Makes.{more_last, more_other}
 use Rattle.count_laws.proofs.balance.SeatReads.{letter_App, letter_Inc, loads_at-seat}

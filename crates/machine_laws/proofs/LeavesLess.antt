@@ -16,8 +16,7 @@ use Rattle.letter_kinds.specs.Counting.{Loaded, by_owner, given_back, is_lacking
 use Rattle.letter_kinds.specs.Detector.{Detector, Token, close_token, closed_set, has, hear_note, note_ack, after_scan}
 use Rattle.letter_kinds.specs.Holdings.{Holdings, Row, held_in, with_made}
 use Rattle.letter_kinds.specs.Sums.{amount_of}
-use Rattle.letter_kinds.specs.declared.letter.Letter.{Letter}
-use Rattle.letter_kinds.specs.declared.letter.Letter.TheVariants.{App, Inc, Dec, Confirm}
+use Rattle.letter_kinds.specs.Letters.{Letter, App, Inc, Dec, Confirm}
 use Rattle.letter_kinds.specs.declared.note.Note.{Note}
 use Rattle.letter_kinds.specs.declared.note.Note.TheVariants as notes
 use Rattle.count_laws.proofs.balance.InHand.{AllCounted}

@@ -10,8 +10,7 @@ use Rattle.letter_kinds.specs.Counting.{Amount, mint_all}
 use Rattle.letter_kinds.specs.Detector.{Detector, has}
 use Rattle.letter_kinds.specs.Holdings.{Row}
 use Rattle.letter_kinds.specs.Sums.{amount_of}
-use Rattle.letter_kinds.specs.declared.letter.Letter.{Letter}
-use Rattle.letter_kinds.specs.declared.letter.Letter.TheVariants.{Inc}
+use Rattle.letter_kinds.specs.Letters.{Letter, Inc}
 use Rattle.letter_kinds.specs.declared.note.Note.{Note}
 use Rattle.count_laws.proofs.balance.InHand.{in_hand}
 use Rattle.count_laws.proofs.knowledge.Paths.{reach_into}

@@ -9,7 +9,7 @@ use Rattle.letter_kinds.proofs.Sums.{sum-nil, sum-zero}
 use Rattle.letter_kinds.specs.Detector.{Token}
 use Rattle.letter_kinds.specs.Holdings.{Row}
 use Rattle.letter_kinds.specs.Sums.{load_count}
-use Rattle.letter_kinds.specs.declared.letter.Letter.{Letter}
+use Rattle.letter_kinds.specs.Letters.{Letter}
 use Rattle.machine_rules.proofs.Rest.{is_nil, none_can, quiet_rest, quiet_told}
 use Rattle.count_laws.proofs.balance.SeatReads.{loads_at-none, loads_at-seat}
 use Rattle.orca_names.specs.declared.trace.Trace.{Trace}

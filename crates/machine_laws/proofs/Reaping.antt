@@ -9,8 +9,7 @@ use Rattle.orca_names.specs.declared.names.Thing.TheVariants.{Actor}
 use Rattle.letter_kinds.specs.Counting.{given_back, by_owner}
 use Rattle.letter_kinds.specs.Detector.{all_acked, has, Detector, Token, close_token}
 use Rattle.letter_kinds.specs.Holdings.{Row, held_in}
-use Rattle.letter_kinds.specs.declared.letter.Letter.{Letter}
-use Rattle.letter_kinds.specs.declared.letter.Letter.TheVariants.{Dec}
+use Rattle.letter_kinds.specs.Letters.{Letter, Dec}
 use Rattle.letter_kinds.specs.declared.note.Note.{Note}
 use Rattle.count_laws.proofs.away.Untouched.{emptied_other}
 use Rattle.count_laws.proofs.events.EitherMode.{held_owner}

@@ -15,8 +15,7 @@ use Rattle.letter_kinds.specs.Detector.{Detector, after_scan, has, closed_set, c
 use Rattle.letter_kinds.specs.Holdings.{Row}
 use Rattle.letter_kinds.specs.Reports.{kept_report}
 use Rattle.letter_kinds.specs.Sums.{inc_of, dec_of}
-use Rattle.letter_kinds.specs.declared.letter.Letter.{Letter}
-use Rattle.letter_kinds.specs.declared.letter.Letter.TheVariants.{Confirm}
+use Rattle.letter_kinds.specs.Letters.{Letter, Confirm}
 use Rattle.letter_kinds.specs.declared.note.Note.{Note}
 use Rattle.letter_kinds.specs.declared.note.Report.{Report}
 use Rattle.count_laws.proofs.roots.Same.{roots_push}

@@ -9,8 +9,7 @@ use Rattle.letter_kinds.proofs.Sums.{sum-at, sum-nil}
 use Rattle.letter_kinds.specs.Detector.{has, Token}
 use Rattle.letter_kinds.specs.Holdings.{held_in, Row}
 use Rattle.letter_kinds.specs.Sums.{load_count}
-use Rattle.letter_kinds.specs.declared.letter.Letter.{Letter}
-use Rattle.letter_kinds.specs.declared.letter.Letter.TheVariants.{Confirm}
+use Rattle.letter_kinds.specs.Letters.{Letter, Confirm}
 use Rattle.letter_kinds.specs.declared.note.Note.{Note}
 use Rattle.count_laws.proofs.events.EitherMode.{reap_keeps}
 use Rattle.count_laws.proofs.events.Reap.{AllSealed, Sealed}

@@ -3,7 +3,7 @@ use Rattle.std.proofs.Common.{◌≡◌, ℕ, false, zero, suc, Option, Some, No
 use Rattle.std.specs.Option.{option_map_or}
 use Rattle.behaviour_code.specs.Find.{start_name}
 use Rattle.behaviour_code.specs.declared.code.Program.{Program}
-use Rattle.letter_kinds.specs.declared.letter.Letter.TheVariants.{App}
+use Rattle.letter_kinds.specs.Letters.{App}
 use Rattle.machine_rules.specs.Actors.{Actors, cell_at, mail_at}
 use Rattle.machine_rules.specs.Options.{Options}
 use Rattle.machine_rules.specs.State.{first_state}

@@ -11,7 +11,7 @@ use Rattle.count_laws.proofs.agreement.Forgotten.{forgotten_stays}
 use Rattle.machine_rules.proofs.Present.{present_below}
 use Rattle.count_laws.proofs.agreement.PlainSide.{length-people, made_within, stands_beside}
 use Rattle.count_laws.proofs.gone.Staying.{gone_stays}
-use Rattle.letter_kinds.specs.declared.letter.Letter.{Letter}
+use Rattle.letter_kinds.specs.Letters.{Letter}
 use Rattle.reach_walk.specs.Reach.{thing_row}
 use Rattle.count_laws.specs.Agreement.{Person}
 use Rattle.std.proofs.lemmas.Option.{slice_get_within}

@@ -14,8 +14,7 @@ use Rattle.turn_rules.specs.declared.act.Frame.{Frame}
 use Rattle.letter_kinds.specs.Counting.{Loaded, to_mint}
 use Rattle.letter_kinds.specs.Holdings.{Row}
 use Rattle.letter_kinds.specs.Sums.{amount_of}
-use Rattle.letter_kinds.specs.declared.letter.Letter.{Letter}
-use Rattle.letter_kinds.specs.declared.letter.Letter.TheVariants.{App, Inc, Dec, Confirm}
+use Rattle.letter_kinds.specs.Letters.{Letter, App, Inc, Dec, Confirm}
 use Rattle.letter_kinds.specs.declared.note.Note.TheVariants.{Unblock}
 use Rattle.count_laws.proofs.events.EitherMode.{held_owner}
 use Rattle.count_laws.proofs.agreement.FollowingGo.{load_known, target_known}

@@ -9,8 +9,7 @@ use Rattle.letter_kinds.proofs.Sums.{sum-nil}
 use Rattle.letter_kinds.specs.Detector.{Detector, closed_set, has, hear_note, after_scan}
 use Rattle.letter_kinds.specs.Holdings.{held_in}
 use Rattle.letter_kinds.specs.Reports.{count_on, keep_report, report_told, told_on, told_on_by}
-use Rattle.letter_kinds.specs.declared.letter.Letter.{Letter}
-use Rattle.letter_kinds.specs.declared.letter.Letter.TheVariants.{App}
+use Rattle.letter_kinds.specs.Letters.{Letter, App}
 use Rattle.letter_kinds.specs.declared.note.Note.{Note}
 use Rattle.letter_kinds.specs.declared.note.Note.TheVariants.{Block, Unblock, Ack}
 use Rattle.letter_kinds.specs.declared.note.Report.{Report}

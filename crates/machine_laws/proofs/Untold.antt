@@ -6,8 +6,7 @@ use Rattle.event_rule.specs.declared.event.Event.{Event}
 use Rattle.event_rule.specs.declared.event.Event.TheVariants.{Reap}
 use Rattle.letter_kinds.proofs.Counts.{has_actor}
 use Rattle.letter_kinds.specs.Detector.{closed_set, has, hear_note}
-use Rattle.letter_kinds.specs.declared.letter.Letter.{Letter}
-use Rattle.letter_kinds.specs.declared.letter.Letter.TheVariants.{Confirm}
+use Rattle.letter_kinds.specs.Letters.{Letter, Confirm}
 use Rattle.letter_kinds.specs.declared.note.Note.{Note}
 use Rattle.letter_kinds.specs.declared.note.Note.TheVariants.{Block}
 use Rattle.letter_kinds.specs.declared.note.Report.{Report}

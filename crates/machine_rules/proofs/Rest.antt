@@ -4,7 +4,7 @@ use Rattle.std.proofs.lemmas.Bool.{false_from_ne_true}
 use Rattle.event_rule.specs.declared.event.Event.{Event}
 use Rattle.event_rule.specs.declared.event.Event.TheVariants.{Take, Go, Collect, Block}
 use Rattle.event_rule.specs.Runs.{IsQuiet}
-use Rattle.letter_kinds.specs.declared.letter.Letter.{Letter}
+use Rattle.letter_kinds.specs.Letters.{Letter}
 use Rattle.machine_rules.proofs.Enabling.{enabled}
 use Rattle.machine_rules.proofs.Guards.{may_collect-dirty, may_take-first, reporter}
 use Rattle.machine_rules.specs.Actors.{Actors, Every}

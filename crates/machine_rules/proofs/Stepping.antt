@@ -12,7 +12,7 @@ use Rattle.event_rule.specs.Runs.{Step, NotEnabled, IsFull, Goes}
 use Rattle.event_rule.specs.declared.event.Event.{Event}
 use Rattle.event_rule.specs.declared.event.Event.TheVariants.{Take, Go, Collect, Leave, Block, Hear, Scan, Reap}
 use Rattle.event_rule.proofs.Steps.{goes_to, not_enabled, not_full}
-use Rattle.letter_kinds.specs.declared.letter.Letter.{Letter}
+use Rattle.letter_kinds.specs.Letters.{Letter}
 use Rattle.letter_kinds.specs.declared.note.Note.{Note}
 use Rattle.letter_kinds.specs.Counting.{Loaded}
 use Rattle.letter_kinds.specs.Detector.{Token}

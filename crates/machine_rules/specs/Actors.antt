@@ -1,8 +1,7 @@
 -- The actors by number, and the letters that wait for each.
 use Rattle.std.specs.Prelude.{ℕ, ◌≡◌, List, [], ◌∷◌, ◌++◌, get_or, set, Option, Some, None, option_map}
 use Rattle.std.specs.Option.{option_map_or}
-use Rattle.letter_kinds.specs.declared.letter.Letter.{Letter}
-use Rattle.letter_kinds.specs.declared.letter.Letter.TheVariants.{Dec}
+use Rattle.letter_kinds.specs.Letters.{Letter, Dec}
 use Rattle.letter_kinds.specs.Counting.{Amount}
 use Rattle.machine_rules.specs.Cell.{Cell}
 

@@ -4,7 +4,7 @@ use Rattle.std.specs.List.{filter_map}
 use Rattle.std.specs.FinMap as m
 use Rattle.orca_names.specs.declared.names.Thing.{Thing}
 use Rattle.orca_names.specs.declared.names.Thing.TheVariants.{Actor, Obj}
-use Rattle.letter_kinds.specs.declared.letter.Letter.{Letter}
+use Rattle.letter_kinds.specs.Letters.{Letter}
 use Rattle.letter_kinds.specs.declared.note.Note.TheVariants.{Block}
 use Rattle.letter_kinds.specs.Holdings.{Holdings, Row}
 use Rattle.machine_rules.specs.Actors.{seat}

@@ -5,7 +5,7 @@ use Rattle.event_rule.specs.declared.event.Event.TheVariants.{Take, Go, Collect,
 use Rattle.turn_rules.specs.declared.act.Act.TheVariants.{New}
 use Rattle.turn_rules.specs.declared.act.Frame.{Frame}
 use Rattle.letter_kinds.specs.Detector.{Token}
-use Rattle.letter_kinds.specs.declared.letter.Letter.{Letter}
+use Rattle.letter_kinds.specs.Letters.{Letter}
 use Rattle.machine_rules.specs.Actors.{seat, seat_at}
 use Rattle.machine_rules.specs.Cell.{Cell}
 use Rattle.machine_rules.specs.Detect.{acked_token}

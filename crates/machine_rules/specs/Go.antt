@@ -13,8 +13,7 @@ use Rattle.turn_rules.specs.declared.act.Frame.{Frame}
 use Rattle.turn_rules.specs.Segment.{Setting, Stop, gets_of, segment_of}
 use Rattle.reach_walk.specs.Marks.{in_order, load_of, load_roots, with_owners}
 use Rattle.reach_walk.specs.Reach.{named_by}
-use Rattle.letter_kinds.specs.declared.letter.Letter.{Letter}
-use Rattle.letter_kinds.specs.declared.letter.Letter.TheVariants.{App, Inc}
+use Rattle.letter_kinds.specs.Letters.{Letter, App, Inc}
 use Rattle.letter_kinds.specs.Holdings.{Holdings, held_in, known_objects, row_of, with_made}
 use Rattle.letter_kinds.specs.Counting.{Amount, Loaded, gain, lacking_of, mint_all, send, to_mint}
 use Rattle.machine_rules.specs.Actors.{Actors, push_letter, seat}

@@ -1,7 +1,7 @@
 -- Leave: an actor that nobody holds goes by itself, with all that it owns.
 use Rattle.std.specs.Prelude.{ℕ, List, [], ◌∷◌}
 use Rattle.event_rule.specs.Runs.{Step, Goes}
-use Rattle.letter_kinds.specs.declared.letter.Letter.{Letter}
+use Rattle.letter_kinds.specs.Letters.{Letter}
 use Rattle.machine_rules.specs.Cell.{Cell}
 use Rattle.machine_rules.specs.Detect.{reap_members}
 use Rattle.machine_rules.specs.State.{State}

@@ -1,6 +1,7 @@
 // Letters in memory of their own.
 
-ghost use Rattle.std.specs.Prelude.{◌≡◌, ◌≤◌, ◌<◌, ◌+◌, ◌^◌, ◌++◌, ◌∷◌, [], drop, length, slice_get, IfOk, IsOk, OnOk, Some};
+ghost use Rattle.std.specs.Prelude.{◌≡◌, ◌≤◌, ◌<◌, ◌+◌, ◌^◌, ◌++◌, ◌∷◌, [], drop, length, option_map, slice_get, IfOk, IsOk, OnOk, Some};
+ghost use Rattle.letter_kinds.specs.Letters.{as_letter};
 
 use letter_kinds::Letter;
 use orca_names::NoMemory;
@@ -15,14 +16,15 @@ pub(crate) struct LetterQueue {
 }
 
 impl Model for LetterQueue {
-    ghost use Rattle.std.specs.Prelude.{◌-◌};
+    ghost use Rattle.std.specs.Prelude.{◌-◌, map};
     ghost use Rattle.std.specs.VecDeque.{deque_len, deque_capacity};
+    ghost use Rattle.letter_kinds.specs.Letters.{as_letter};
     ghost use Rattle.mail_rows.specs.Mail.{Mail};
 
     ghost Value = { Mail };
 
     ghost view = { λ queue. record {
-      letters = queue.letters.items;
+      letters = map as_letter queue.letters.items;
       spare = deque_capacity queue.letters - deque_len queue.letters;
     } };
 }
@@ -56,7 +58,7 @@ impl LetterQueue {
     /// One letter more, behind the others. It takes no memory.
     pub(crate) fn push(&mut self, letter: Letter)
         requires { 1 ≤ self.old.spare }
-        ensures letters { self.new.letters ≡ self.old.letters ++ letter ∷ [] }
+        ensures letters { self.new.letters ≡ self.old.letters ++ as_letter letter ∷ [] }
         ensures spare { self.new.spare + 1 ≡ self.old.spare }
     {
         self.letters.push_back_reserved(letter);
@@ -64,7 +66,7 @@ impl LetterQueue {
 
     /// Takes the first letter out; `None` exactly where there is none. Its room is free again.
     pub(crate) fn take(&mut self) -> Option<Letter>
-        ensures first { result ≡ slice_get self.old.letters 0 }
+        ensures first { option_map as_letter result ≡ slice_get self.old.letters 0 }
         ensures others { self.new.letters ≡ drop 1 self.old.letters }
         ensures spare { self.new.spare + length self.new.letters
             ≡ self.old.spare + length self.old.letters }
@@ -83,7 +85,7 @@ impl LetterQueue {
     /// The letter at a place, counted from 0.
     pub(crate) fn at(&self, i: u64) -> &Letter
         requires { i < length self.now.letters }
-        ensures { slice_get self.now.letters i ≡ Some result.now }
+        ensures { slice_get self.now.letters i ≡ Some (as_letter result.now) }
     {
         &self.letters[i as usize]
     }

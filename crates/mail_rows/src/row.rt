@@ -1,7 +1,8 @@
 // The letters of one actor.
 
-ghost use Rattle.std.specs.Prelude.{◌≡◌, ◌↔◌, ◌≤◌, ◌<◌, ◌+◌, ◌++◌, ◌∷◌, [], drop, length, slice_get, IsOk, IsTrue, OnOk, Some};
+ghost use Rattle.std.specs.Prelude.{◌≡◌, ◌↔◌, ◌≤◌, ◌<◌, ◌+◌, ◌++◌, ◌∷◌, [], drop, length, option_map, slice_get, IsOk, IsTrue, OnOk, Some};
 ghost use Rattle.std.specs.Option.{option_copied};
+ghost use Rattle.letter_kinds.specs.Letters.{as_letter};
 ghost use Rattle.mail_rows.specs.Mail.{behind};
 
 use crate::queue::LetterQueue;
@@ -58,7 +59,7 @@ fn reserve_behind(
 #[inline(never)]
 fn push_behind(rest: &mut Option<Box<LetterQueue>>, letter: Letter)
     requires { 1 ≤ (behind rest.old).spare }
-    ensures letters { (behind rest.new).letters ≡ (behind rest.old).letters ++ letter ∷ [] }
+    ensures letters { (behind rest.new).letters ≡ (behind rest.old).letters ++ as_letter letter ∷ [] }
     ensures spare { (behind rest.new).spare + 1 ≡ (behind rest.old).spare }
 {
     match rest {
@@ -70,7 +71,7 @@ fn push_behind(rest: &mut Option<Box<LetterQueue>>, letter: Letter)
 // Puts the first of the letters behind in front, if there is one.
 #[inline(never)]
 fn draw_up(first: &mut Option<Letter>, rest: &mut Option<Box<LetterQueue>>)
-    ensures first { first.new ≡ slice_get (behind rest.old).letters 0 }
+    ensures first { option_map as_letter first.new ≡ slice_get (behind rest.old).letters 0 }
     ensures others { (behind rest.new).letters ≡ drop 1 (behind rest.old).letters }
     ensures spare { (behind rest.new).spare + length (behind rest.new).letters
         ≡ (behind rest.old).spare + length (behind rest.old).letters }
@@ -119,7 +120,7 @@ impl MailRow {
     #[inline(always)]
     pub fn push(&mut self, letter: Letter)
         requires { 1 ≤ self.old.spare }
-        ensures letters { self.new.letters ≡ self.old.letters ++ letter ∷ [] }
+        ensures letters { self.new.letters ≡ self.old.letters ++ as_letter letter ∷ [] }
         ensures spare { self.new.spare + 1 ≡ self.old.spare }
     {
         if self.first.is_none() {
@@ -132,7 +133,7 @@ impl MailRow {
     /// Takes the first letter out; `None` exactly where no letter waits. Its room is free again.
     #[inline(always)]
     pub fn take(&mut self) -> Option<Letter>
-        ensures first { result ≡ slice_get self.old.letters 0 }
+        ensures first { option_map as_letter result ≡ slice_get self.old.letters 0 }
         ensures others { self.new.letters ≡ drop 1 self.old.letters }
         ensures spare { self.new.spare + length self.new.letters
             ≡ self.old.spare + length self.old.letters }
@@ -147,7 +148,7 @@ impl MailRow {
     /// The first letter; `None` exactly where no letter waits.
     #[inline(always)]
     pub fn front(&self) -> Option<&Letter>
-        ensures { option_copied result ≡ slice_get self.now.letters 0 }
+        ensures { option_map as_letter (option_copied result) ≡ slice_get self.now.letters 0 }
     {
         self.first.as_ref()
     }
@@ -176,7 +177,7 @@ impl MailRow {
     /// The letter at a place, counted from 0.
     pub fn at(&self, i: u64) -> &Letter
         requires { i < length self.now.letters }
-        ensures { slice_get self.now.letters i ≡ Some result.now }
+        ensures { slice_get self.now.letters i ≡ Some (as_letter result.now) }
     {
         if i == 0 {
             match &self.first {

@@ -19,8 +19,7 @@ use Rattle.letter_kinds.proofs.Counts.{counted_has}
 use Rattle.letter_kinds.proofs.Sums.{sum-at}
 use Rattle.letter_kinds.specs.Holdings.{Holdings, held_in, own_in}
 use Rattle.letter_kinds.specs.Sums.{dec_of, inc_of, load_count}
-use Rattle.letter_kinds.specs.declared.letter.Letter.{Letter}
-use Rattle.letter_kinds.specs.declared.letter.Letter.TheVariants.{App, Inc, Dec, Confirm}
+use Rattle.letter_kinds.specs.Letters.{Letter, App, Inc, Dec, Confirm}
 use Rattle.plain_rules.specs.Machine.{PlainState, objects_made, plain_row, start_of}
 use Rattle.plain_rules.specs.Run.{plain_next}
 use Rattle.plain_rules.specs.declared.PlainActor.{PlainActor}

@@ -9,7 +9,7 @@ use Rattle.std.specs.Prelude.{codes}
 use Rattle.event_rule.proofs.Steps.{goes_to}
 use Rattle.event_rule.specs.declared.event.Event.TheVariants.{Take}
 use Rattle.letter_kinds.specs.Counting.{receive}
-use Rattle.letter_kinds.specs.declared.letter.Letter.TheVariants.{App}
+use Rattle.letter_kinds.specs.Letters.{App}
 use Rattle.machine_rules.specs.Actors.{seat}
 use Rattle.machine_rules.specs.Cell.{first_cell}
 use Rattle.machine_rules.specs.State.{State}

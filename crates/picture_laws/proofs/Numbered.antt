@@ -7,8 +7,7 @@ use Rattle.event_rule.specs.Runs.{Leads}
 use Rattle.event_rule.specs.declared.event.Event.{Event}
 use Rattle.letter_kinds.specs.Detector.{Detector, Token, after_scan, close_token, closed_set, has, hear_note, note_ack}
 use Rattle.letter_kinds.specs.Reports.{keep_report, report_told}
-use Rattle.letter_kinds.specs.declared.letter.Letter.{Letter}
-use Rattle.letter_kinds.specs.declared.letter.Letter.TheVariants.{Confirm}
+use Rattle.letter_kinds.specs.Letters.{Letter, Confirm}
 use Rattle.letter_kinds.specs.declared.note.Note.{Note}
 use Rattle.letter_kinds.specs.declared.note.Note.TheVariants.{Block, Unblock, Ack}
 use Rattle.letter_kinds.specs.declared.note.Report.{Report}

@@ -14,8 +14,7 @@ use Rattle.letter_kinds.proofs.Counts.{loaded-nil}
 use Rattle.letter_kinds.specs.Counting.{Loaded}
 use Rattle.letter_kinds.specs.Holdings.{Row, held_in, own_in}
 use Rattle.letter_kinds.specs.Sums.{dec_of, inc_of, load_count, times_loaded}
-use Rattle.letter_kinds.specs.declared.letter.Letter.{Letter}
-use Rattle.letter_kinds.specs.declared.letter.Letter.TheVariants.{App, Inc, Dec, Confirm}
+use Rattle.letter_kinds.specs.Letters.{Letter, App, Inc, Dec, Confirm}
 use Rattle.machine_rules.specs.Cell.{Cell}
 use Rattle.count_laws.proofs.balance.SeatReads.{letter_App, letter_Confirm, letter_Dec, letter_Inc}
 use Rattle.picture_rules.specs.Seats.{actor_line, brings_line, cell_lines, fields_lines, holds_line, knows_line, letter_lines, loads_lines, object_line, turn_lines}

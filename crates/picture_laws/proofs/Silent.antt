@@ -9,8 +9,7 @@ use Rattle.turn_rules.specs.declared.act.Frame.{Frame}
 use Rattle.letter_kinds.specs.Counting.{Loaded}
 use Rattle.letter_kinds.specs.Detector.{Detector, Token}
 use Rattle.letter_kinds.specs.Holdings.{Row}
-use Rattle.letter_kinds.specs.declared.letter.Letter.{Letter}
-use Rattle.letter_kinds.specs.declared.letter.Letter.TheVariants.{App, Inc, Dec, Confirm}
+use Rattle.letter_kinds.specs.Letters.{Letter, App, Inc, Dec, Confirm}
 use Rattle.letter_kinds.specs.declared.note.Report.{Report}
 use Rattle.picture_rules.specs.Blocked.{detector_lines, member_line, report_lines, token_lines}
 use Rattle.picture_rules.specs.Seats.{brings_line, fields_lines, holds_line, knows_line, letter_lines, loads_lines, object_line, turn_lines}

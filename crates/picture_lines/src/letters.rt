@@ -3,6 +3,8 @@
 ghost use Rattle.std.specs.Prelude.{◌≡◌, ◌++◌, ◌∷◌, [], codes, flat_map, map, OnOk, string_bytes};
 ghost use Rattle.std.specs.Option.{option_copied, option_map_or};
 ghost use Rattle.behaviour_text.specs.Text.{line_of};
+ghost use Rattle.letter_kinds.specs.Letters.{as_letter};
+ghost use Rattle.row_store.specs.Told.{as_load};
 ghost use Rattle.picture_rules.specs.Words.{amount_words, text_of_lines, thing_word, value_words};
 ghost use Rattle.picture_rules.specs.Seats.{brings_line, letter_lines, loads_lines};
 
@@ -51,7 +53,7 @@ fn push_call(out: &mut String, name: &str, args: &Args) -> Result<(), AllocError
 /// The line of what a letter loads, if it loads anything.
 fn push_loads(out: &mut String, load: &Load) -> Result<(), AllocError>
     ensures { OnOk result (string_bytes out.new
-        ≡ string_bytes out.old ++ text_of_lines (loads_lines load.now)) }
+        ≡ string_bytes out.old ++ text_of_lines (loads_lines (as_load load.now))) }
 {
     if load.len() == 0 {
         return Ok(());
@@ -63,10 +65,10 @@ fn push_loads(out: &mut String, load: &Load) -> Result<(), AllocError>
 /// The lines of the rows that a letter brings.
 fn push_brought(out: &mut String, rows: &Load) -> Result<(), AllocError>
     ensures { OnOk result (string_bytes out.new
-        ≡ string_bytes out.old ++ text_of_lines (map brings_line rows.now)) }
+        ≡ string_bytes out.old ++ text_of_lines (map brings_line (as_load rows.now))) }
 {
     for (thing, row) in rows.as_slice() {
-        push_row(out, "brings", thing, row.as_ref())?;
+        push_row(out, "brings", thing, row.here())?;
     }
     Ok(())
 }
@@ -83,7 +85,7 @@ fn push_amounts(out: &mut String, word: &str, things: &Amounts) -> Result<(), Al
 /// The lines of a letter.
 fn push_letter(out: &mut String, names: &Names, letter: &Letter) -> Result<(), AllocError>
     ensures { OnOk result (string_bytes out.new
-        ≡ string_bytes out.old ++ text_of_lines (letter_lines names.now letter.now)) }
+        ≡ string_bytes out.old ++ text_of_lines (letter_lines names.now (as_letter letter.now))) }
 {
     match letter {
         Letter::App {

@@ -4,7 +4,8 @@ ghost use Rattle.std.specs.Prelude.{◌≡◌, ◌++◌, ◌∷◌, flat_map, ma
 ghost use Rattle.behaviour_text.specs.Text.{rest_of_line};
 ghost use Rattle.picture_rules.specs.Words.{amount_words, bit_word, held_words, thing_word, value_word, value_words};
 
-use orca_names::{ActorName, Row, Thing, Value};
+use orca_names::{ActorName, Thing, Value};
+use row_store::Told;
 use std::alloc::AllocError;
 
 pub(crate) fn push_thing(out: &mut String, thing: &Thing) -> Result<(), AllocError>
@@ -45,10 +46,7 @@ pub(crate) fn end_with_values(out: &mut String, values: &[Value]) -> Result<(), 
 }
 
 /// The things that end a line, whatever rows come with them.
-pub(crate) fn end_with_things(
-    out: &mut String,
-    things: &[(Thing, Option<Row>)],
-) -> Result<(), AllocError>
+pub(crate) fn end_with_things(out: &mut String, things: &[(Thing, Told)]) -> Result<(), AllocError>
     ensures { OnOk result (string_bytes out.new
         ≡ string_bytes out.old ++ rest_of_line (map (λ l. thing_word l.0) things.now)) }
 {

@@ -5,7 +5,7 @@ use Rattle.std.proofs.lemmas.List.{length-map}
 use Rattle.orca_names.specs.declared.names.ObjName.{ObjName}
 use Rattle.orca_names.specs.declared.names.Thing.TheVariants.{Obj}
 use Rattle.letter_kinds.specs.Holdings.{Holdings, has_own, nothing_held}
-use Rattle.letter_kinds.specs.declared.letter.Letter.{Letter}
+use Rattle.letter_kinds.specs.Letters.{Letter}
 use Rattle.machine_rules.specs.Cell.{Cell, first_cell}
 use Rattle.machine_rules.specs.State.{start_letters}
 use Rattle.count_laws.proofs.balance.Seats.{some_seat}

@@ -12,8 +12,7 @@ use Rattle.letter_kinds.proofs.Counts.{has_set_held}
 use Rattle.letter_kinds.specs.Counting.{Amount, by_owner, gain, given_back, mint_all, send, sweep}
 use Rattle.letter_kinds.specs.Detector.{closed_set}
 use Rattle.letter_kinds.specs.Holdings.{Holdings, Row, has_own, nothing_held, with_made}
-use Rattle.letter_kinds.specs.declared.letter.Letter.{Letter}
-use Rattle.letter_kinds.specs.declared.letter.Letter.TheVariants.{App, Inc, Dec, Confirm}
+use Rattle.letter_kinds.specs.Letters.{Letter, App, Inc, Dec, Confirm}
 use Rattle.plain_rules.specs.Machine.{with_name}
 use Rattle.machine_rules.specs.Actors.{Actors, Seat, seat, seat_at}
 use Rattle.machine_rules.specs.Cell.{Cell, fresh_cell}

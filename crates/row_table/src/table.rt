@@ -2,13 +2,15 @@
 
 ghost use Rattle.std.specs.Prelude.{◌≡◌, ◌↔◌, ◌<◌, ◌≤◌, None, not, IfOk, IsTrue, OnOk};
 ghost use Rattle.std.specs.FinMap as m;
+ghost use Rattle.row_store.specs.Told.{told_row};
 ghost use Rattle.foreign_table.specs.Back.{BackRises, goes_back};
 ghost use Rattle.foreign_table.specs.Table.{Table};
 ghost use Rattle.row_table.specs.Table.{KnownRows, as_held, learnt, rows_in, uncounted};
 
 use foreign_table::ForeignTable;
 use letter_kinds::Amounts;
-use orca_names::{ActorName, NoMemory, Row, Thing};
+use orca_names::{ActorName, NoMemory, Thing};
+use row_store::Told;
 use std::alloc::Global;
 use std::marker::Model;
 
@@ -54,13 +56,13 @@ impl RowTable {
         self.held.reserve(n)
     }
 
-    /// The row of a thing is this one from now on. It takes no memory.
-    pub fn learn(&mut self, thing: Thing, row: &Option<Row>)
+    /// The row of a thing is from now on the one that is told, if one is. It takes no memory.
+    pub fn learn(&mut self, thing: Thing, told: &Told)
         requires room { 0 < self.old.spare }
-        ensures { self.new ≡ learnt thing row.now self.old }
+        ensures { self.new ≡ learnt thing (told_row told.now) self.old }
     {
-        if row.is_some() {
-            self.held.gain(thing, row, 0);
+        if told.is_told() {
+            self.held.gain(thing, told, 0);
         }
     }
 

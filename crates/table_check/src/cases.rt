@@ -3,6 +3,7 @@
 use foreign_table::ForeignTable;
 use object_heap::ObjectHeap;
 use orca_names::{ActorName, Args, NoMemory, ObjName, Row, Serial, Thing, Value};
+use row_store::Told;
 use std::alloc::Global;
 
 /// A thing by numbers, since a constant can't hold a name.
@@ -82,6 +83,14 @@ pub(crate) fn row_of(values: &[Given]) -> Option<Row> {
     Some(Row::from_args(args))
 }
 
+/// What is told of the row of these values: nothing where there are none.
+pub(crate) fn told_of(values: &[Given]) -> Told {
+    match row_of(values) {
+        Some(row) => Told::Here(row),
+        None => Told::Nothing,
+    }
+}
+
 /// The number that a row begins with; one that no table writes where it begins with no number.
 pub(crate) fn number_in(row: Option<&Row>) -> Option<u64> {
     match row?.get(0) {
@@ -117,12 +126,12 @@ pub(crate) fn are_amounts(found: &[(Thing, u64)], want: &[Amount]) -> bool {
 }
 
 /// Whether these things were found with these rows, in this order.
-pub(crate) fn are_loaded(found: &[(Thing, Option<Row>)], want: &[Loaded]) -> bool {
+pub(crate) fn are_loaded(found: &[(Thing, Told)], want: &[Loaded]) -> bool {
     if found.len() != want.len() {
         return false;
     }
     for (loaded, wanted) in found.iter().zip(want.iter()) {
-        if loaded.0 != thing_of(wanted.0) || loaded.1 != row_of(wanted.1) {
+        if loaded.0 != thing_of(wanted.0) || loaded.1 != told_of(wanted.1) {
             return false;
         }
     }
@@ -130,18 +139,18 @@ pub(crate) fn are_loaded(found: &[(Thing, Option<Row>)], want: &[Loaded]) -> boo
 }
 
 /// Gains so much on the thing. Whether there was memory, and no more than a million was held.
-fn gains(table: &mut ForeignTable, thing: &Thing, row: &Option<Row>, by: u64) -> bool {
+fn gains(table: &mut ForeignTable, thing: &Thing, told: &Told, by: u64) -> bool {
     if by > 1_000_000 || table.reserve(1).is_err() || table.count(*thing) > 1_000_000 {
         return false;
     }
-    table.gain(*thing, row, by);
+    table.gain(*thing, told, by);
     true
 }
 
 /// Gains so much on each of these things. Whether there was memory.
 pub(crate) fn gains_all(table: &mut ForeignTable, holdings: &[Holding]) -> bool {
     for (named, values, by) in holdings {
-        if !gains(table, &thing_of(*named), &row_of(values), *by) {
+        if !gains(table, &thing_of(*named), &told_of(values), *by) {
             return false;
         }
     }

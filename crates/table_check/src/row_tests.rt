@@ -5,6 +5,7 @@ ghost use Rattle.std.specs.Prelude.{◌≡◌, ◌∷◌, [], IfOk};
 use crate::cases::{number_in, object};
 use letter_kinds::Amounts;
 use orca_names::{ActorName, NoMemory, Row, Thing, Value};
+use row_store::Told;
 use row_table::RowTable;
 use std::alloc::Global;
 
@@ -13,8 +14,8 @@ fn learns(table: &mut RowTable, serial: u64, number: u64) -> bool {
     if table.reserve(1).is_err() {
         return false;
     }
-    let row = Some(Row::of(&[Value::Num(number)]));
-    table.learn(Thing::Obj(object(3, serial)), &row);
+    let told = Told::Here(Row::of(&[Value::Num(number)]));
+    table.learn(Thing::Obj(object(3, serial)), &told);
     true
 }
 

@@ -3,13 +3,14 @@
 ghost use Rattle.std.specs.Prelude.{◌≡◌, ◌∷◌, [], IfOk};
 
 use crate::cases::{
-    Amount, Given, Holding, Loaded, Named, are_amounts, gains_all, row_of, thing_of,
+    Amount, Given, Holding, Loaded, Named, are_amounts, gains_all, thing_of, told_of,
 };
 use foreign_table::ForeignTable;
 use letter_kinds::Load;
 use object_heap::ObjectHeap;
-use orca_names::{ActorName, NoMemory, Row, Thing};
+use orca_names::{ActorName, NoMemory, Thing};
 use ref_weights::OwnCount;
+use row_store::Told;
 use std::alloc::Global;
 use trace_send::{lacking, receive_trace, send_trace};
 
@@ -65,11 +66,11 @@ fn the_first_owner_is_told_what_is_lacked(rt: HostRuntime) {
 }
 
 // The load of one thing.
-fn load_with(alloc: Global, thing: &Thing, row: &Option<Row>) -> Result<Load, NoMemory>
-    ensures { IfOk result (λ load. load ≡ (thing.now, row.now) ∷ []) }
+fn load_with(alloc: Global, thing: &Thing, told: &Told) -> Result<Load, NoMemory>
+    ensures { IfOk result (λ load. load ≡ (thing.now, told.now) ∷ []) }
 {
     let mut load = Load::new(alloc);
-    load.push((*thing, *row))?;
+    load.push((*thing, *told))?;
     Ok(load)
 }
 
@@ -79,7 +80,7 @@ fn take(
     heap: &mut ObjectHeap,
     foreign: &mut ForeignTable,
     thing: &Thing,
-    row: &Option<Row>,
+    told: &Told,
 ) -> bool {
     let me = heap.owner();
     if foreign.reserve(1).is_err() {
@@ -91,7 +92,7 @@ fn take(
     if foreign.count(*thing) > 1000 {
         return false;
     }
-    match load_with(alloc, thing, row) {
+    match load_with(alloc, thing, told) {
         Ok(load) => {
             let mut own = OwnCount::new();
             receive_trace(&load, me, &mut own, heap, foreign);
@@ -107,7 +108,7 @@ fn send(
     heap: &mut ObjectHeap,
     foreign: &mut ForeignTable,
     thing: &Thing,
-    row: &Option<Row>,
+    told: &Told,
 ) -> bool {
     let me = heap.owner();
     if thing.owner() == me {
@@ -116,7 +117,7 @@ fn send(
     if foreign.count(*thing) == 0 {
         return false;
     }
-    match load_with(alloc, thing, row) {
+    match load_with(alloc, thing, told) {
         Ok(load) => {
             let mut own = OwnCount::new();
             send_trace(&load, me, &mut own, heap, foreign);
@@ -152,11 +153,11 @@ fn moves_all(
 ) -> bool {
     for (named, values) in loads {
         let thing = thing_of(*named);
-        let row = row_of(values);
+        let told = told_of(values);
         let moved = if sends {
-            send(alloc, heap, foreign, &thing, &row)
+            send(alloc, heap, foreign, &thing, &told)
         } else {
-            take(alloc, heap, foreign, &thing, &row)
+            take(alloc, heap, foreign, &thing, &told)
         };
         if !moved {
             return false;

@@ -1,9 +1,11 @@
 -- The first thing that is lacked, and those of its owner.
-use Rattle.std.proofs.Common.{◌≡◌, ℕ, zero, suc, ◌<◌, ◌==◌, ◌&&◌, Bool, true, false, cond, List, [], ◌∷◌, length, get_or, take, map, Some, None, refl, sym, ap, ◌∙◌, arith}
+use Rattle.std.proofs.Common.{◌≡◌, ℕ, zero, suc, ◌<◌, ◌==◌, ◌&&◌, ◌||◌, Bool, true, false, cond, List, [], ◌∷◌, length, get_or, take, map, Some, None, refl, sym, ap, ◌∙◌, arith}
 use Rattle.std.specs.Prelude.{slice_get, option_map}
 use Rattle.std.specs.List.{filter, list_any}
 use Rattle.orca_names.specs.Names.{owner_of}
 use Rattle.orca_names.specs.declared.names.Thing.{Thing}
+use Rattle.row_store.specs.declared.told.Told.{Told}
+use Rattle.row_store.specs.Told.{as_load}
 use Rattle.letter_kinds.specs.Counting.{Amount, Loaded, is_lacking}
 use Rattle.letter_kinds.specs.Holdings.{held_in}
 use Rattle.foreign_table.specs.Table.{Table}
@@ -56,6 +58,7 @@ unfolding held_in
 lacking-is me count heap foreign things = refl
 
 -- so is whether some of a load is lacked
-pub any_lacking-is : (me count : ℕ) (heap : Heap) (foreign : Table) (load : List Loaded) → list_any (λ (e : Loaded). is_lacked me foreign e.0) load ≡ list_any (λ (e : Loaded). is_lacking me (holdings_of count heap foreign) e.0) load
+pub any_lacking-is : (me count : ℕ) (heap : Heap) (foreign : Table) (load : List (Thing × Told)) → list_any (λ (e : Thing × Told). is_lacked me foreign e.0) load ≡ list_any (λ (e : Loaded). is_lacking me (holdings_of count heap foreign) e.0) (as_load load)
 unfolding held_in
-any_lacking-is me count heap foreign load = refl
+any_lacking-is me count heap foreign [] = refl
+any_lacking-is me count heap foreign (e ∷ load) = ap (λ b. is_lacked me foreign e.0 || b) (any_lacking-is me count heap foreign load)

@@ -3,6 +3,7 @@
 ghost use Rattle.std.specs.Prelude.{◌≡◌, ℕ, ◌==◌, ◌&&◌, IfOk, filter, map, slice_get, option_map};
 ghost use Rattle.std.specs.List.{list_any};
 ghost use Rattle.orca_names.specs.Names.{owner_of};
+ghost use Rattle.row_store.specs.Told.{as_load};
 ghost use Rattle.letter_kinds.specs.Counting.{is_lacking};
 ghost use Rattle.object_heap.specs.Heap.{Heap};
 ghost use Rattle.known_rows.specs.Holdings.{holdings_of};
@@ -41,7 +42,7 @@ fn first_owner(things: &[Thing], me: ActorName, foreign: &ForeignTable) -> Optio
 /// some thing of it.
 pub fn lacks_any(load: &Load, me: ActorName, foreign: &ForeignTable) -> bool
     ensures { (count : ℕ) (heap : Heap) → let held = holdings_of count heap foreign.now in
-        result ≡ list_any (λ e. is_lacking me held e.0) load.now }
+        result ≡ list_any (λ e. is_lacking me held e.0) (as_load load.now) }
 {
     for loaded in load.as_slice() {
         if is_lacked(&loaded.0, me, foreign) {

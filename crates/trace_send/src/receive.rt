@@ -1,6 +1,7 @@
 // Who takes a letter counts what it loads.
 
 ghost use Rattle.std.specs.Prelude.{◌≡◌, ◌+◌, ◌≤◌, length};
+ghost use Rattle.row_store.specs.Told.{as_load, as_loaded};
 ghost use Rattle.letter_kinds.specs.Counting.{receive, receive_one};
 ghost use Rattle.known_rows.specs.Holdings.{holdings_of};
 ghost use Rattle.trace_send.specs.Can.{CanReceive, CanReceiveOne};
@@ -8,22 +9,23 @@ ghost use Rattle.trace_send.specs.Can.{CanReceive, CanReceiveOne};
 use foreign_table::ForeignTable;
 use letter_kinds::Load;
 use object_heap::ObjectHeap;
-use orca_names::{ActorName, Row, Thing};
+use orca_names::{ActorName, Thing};
 use ref_weights::OwnCount;
+use row_store::Told;
 
 // One less on a thing of its own, which the letter held so far; one more on another's.
 fn receive_thing(
-    loaded: &(Thing, Option<Row>),
+    loaded: &(Thing, Told),
     me: ActorName,
     own: &mut OwnCount,
     heap: &mut ObjectHeap,
     foreign: &mut ForeignTable,
 )
     requires mine { heap.old.owner ≡ me }
-    requires can { CanReceiveOne me loaded.now (holdings_of own.old heap.old foreign.old) }
+    requires can { CanReceiveOne me (as_loaded loaded.now) (holdings_of own.old heap.old foreign.old) }
     requires room { 1 ≤ foreign.old.spare }
     ensures counts { holdings_of own.new heap.new foreign.new
-        ≡ receive_one me loaded.now (holdings_of own.old heap.old foreign.old) }
+        ≡ receive_one me (as_loaded loaded.now) (holdings_of own.old heap.old foreign.old) }
     ensures heap { (heap.new.owner ≡ heap.old.owner) × (heap.new.spare ≡ heap.old.spare) }
     ensures room { foreign.old.spare ≤ foreign.new.spare + 1 }
 {
@@ -48,10 +50,10 @@ pub fn receive_trace(
     foreign: &mut ForeignTable,
 )
     requires mine { heap.old.owner ≡ me }
-    requires can { CanReceive me load.now (holdings_of own.old heap.old foreign.old) }
+    requires can { CanReceive me (as_load load.now) (holdings_of own.old heap.old foreign.old) }
     requires room { length load.now ≤ foreign.old.spare }
     ensures counts { holdings_of own.new heap.new foreign.new
-        ≡ receive me load.now (holdings_of own.old heap.old foreign.old) }
+        ≡ receive me (as_load load.now) (holdings_of own.old heap.old foreign.old) }
     ensures heap { (heap.new.owner ≡ heap.old.owner) × (heap.new.spare ≡ heap.old.spare) }
     ensures room { foreign.old.spare ≤ foreign.new.spare + length load.now }
 {

@@ -1,6 +1,7 @@
 // Who sends a letter counts what it loads, the other way round.
 
 ghost use Rattle.std.specs.Prelude.{◌≡◌};
+ghost use Rattle.row_store.specs.Told.{as_load, as_loaded};
 ghost use Rattle.letter_kinds.specs.Counting.{send, send_one};
 ghost use Rattle.known_rows.specs.Holdings.{holdings_of};
 ghost use Rattle.trace_send.specs.Can.{CanSend, CanSendOne};
@@ -8,21 +9,22 @@ ghost use Rattle.trace_send.specs.Can.{CanSend, CanSendOne};
 use foreign_table::ForeignTable;
 use letter_kinds::Load;
 use object_heap::ObjectHeap;
-use orca_names::{ActorName, Row, Thing};
+use orca_names::{ActorName, Thing};
 use ref_weights::OwnCount;
+use row_store::Told;
 
 // One more on a thing of its own, one less on another's.
 fn send_thing(
-    loaded: &(Thing, Option<Row>),
+    loaded: &(Thing, Told),
     me: ActorName,
     own: &mut OwnCount,
     heap: &mut ObjectHeap,
     foreign: &mut ForeignTable,
 )
     requires mine { heap.old.owner ≡ me }
-    requires can { CanSendOne me loaded.now (holdings_of own.old heap.old foreign.old) }
+    requires can { CanSendOne me (as_loaded loaded.now) (holdings_of own.old heap.old foreign.old) }
     ensures counts { holdings_of own.new heap.new foreign.new
-        ≡ send_one me loaded.now (holdings_of own.old heap.old foreign.old) }
+        ≡ send_one me (as_loaded loaded.now) (holdings_of own.old heap.old foreign.old) }
     ensures heap { (heap.new.owner ≡ heap.old.owner) × (heap.new.spare ≡ heap.old.spare) }
     ensures room { foreign.new.spare ≡ foreign.old.spare }
 {
@@ -47,9 +49,9 @@ pub fn send_trace(
     foreign: &mut ForeignTable,
 )
     requires mine { heap.old.owner ≡ me }
-    requires can { CanSend me load.now (holdings_of own.old heap.old foreign.old) }
+    requires can { CanSend me (as_load load.now) (holdings_of own.old heap.old foreign.old) }
     ensures counts { holdings_of own.new heap.new foreign.new
-        ≡ send me load.now (holdings_of own.old heap.old foreign.old) }
+        ≡ send me (as_load load.now) (holdings_of own.old heap.old foreign.old) }
     ensures heap { (heap.new.owner ≡ heap.old.owner) × (heap.new.spare ≡ heap.old.spare) }
     ensures room { foreign.new.spare ≡ foreign.old.spare }
 {

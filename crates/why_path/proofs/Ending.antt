@@ -10,7 +10,7 @@ use Rattle.orca_names.specs.declared.names.Thing.TheVariants.{Actor, Obj}
 use Rattle.orca_names.specs.declared.names.Value.{Value}
 use Rattle.orca_names.specs.declared.reason.Edge.{Edge}
 use Rattle.orca_names.specs.declared.reason.Edge.TheVariants.{Field, Register, Letter, Place, Owner}
-use Rattle.letter_kinds.specs.declared.letter.Letter as letters
+use Rattle.letter_kinds.specs.Letters as letters
 use Rattle.machine_rules.specs.Actors.{Actors, Seat, seat_at}
 use Rattle.reach_walk.proofs.Elements.{Contains-head, Contains-cons_cases, none_in_nil}
 use Rattle.why_path.specs.Edges.{Lead, LeadsBy, args_of, lead_of, leads_from, leads_of, leads_of_letters, leads_of_seat, registers_of, row_left}

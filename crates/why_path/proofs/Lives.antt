@@ -15,8 +15,8 @@ use Rattle.orca_names.specs.declared.trace.Trace.{Trace}
 use Rattle.orca_names.specs.declared.trace.Trace.TheVariants.{Deep, Roots}
 use Rattle.turn_rules.specs.declared.act.Frame as frames
 use Rattle.letter_kinds.specs.Holdings.{Row, entry_row, has_own, row_of}
-use Rattle.letter_kinds.specs.declared.letter.Letter as letters
-use Rattle.letter_kinds.specs.declared.letter.Letter.TheVariants.{App, Inc, Dec, Confirm}
+use Rattle.letter_kinds.specs.Letters as letters
+use Rattle.letter_kinds.specs.Letters.{App, Inc, Dec, Confirm}
 use Rattle.machine_rules.specs.Actors.{Actors, Seat, seat_at}
 use Rattle.machine_rules.specs.Cell.{own_row_of}
 use Rattle.machine_rules.specs.Left.{IsLeft}

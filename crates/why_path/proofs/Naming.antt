@@ -13,7 +13,7 @@ use Rattle.orca_names.specs.declared.names.Value.{Value}
 use Rattle.orca_names.specs.declared.reason.Edge.{Edge}
 use Rattle.orca_names.specs.declared.reason.Edge.TheVariants as edges
 use Rattle.orca_names.specs.declared.reason.Reason.{Reason}
-use Rattle.letter_kinds.specs.declared.letter.Letter.{Letter}
+use Rattle.letter_kinds.specs.Letters.{Letter}
 use Rattle.machine_rules.specs.Actors.{Actors, Seat, seat_at}
 use Rattle.reach_walk.specs.Reach.{named_by}
 use Rattle.reach_walk.specs.Rows.{Contains-map}

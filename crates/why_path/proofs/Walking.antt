@@ -14,7 +14,7 @@ use Rattle.orca_names.specs.declared.reason.Edge.{Edge}
 use Rattle.orca_names.specs.declared.reason.Edge.TheVariants as edges
 use Rattle.orca_names.specs.declared.reason.Reason.{Reason}
 use Rattle.orca_names.specs.declared.reason.Why.TheVariants.{By}
-use Rattle.letter_kinds.specs.declared.letter.Letter.{Letter}
+use Rattle.letter_kinds.specs.Letters.{Letter}
 use Rattle.machine_rules.specs.Actors.{Actors, Seat, seat_at}
 use Rattle.reach_walk.proofs.Elements.{Contains-head, Contains-later}
 use Rattle.why_path.specs.Checks.{is_loose}

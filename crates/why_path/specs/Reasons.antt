@@ -10,8 +10,8 @@ use Rattle.orca_names.specs.declared.reason.Edge.{Edge}
 use Rattle.orca_names.specs.declared.reason.Reason.{Reason}
 use Rattle.orca_names.specs.declared.reason.Why.{Why}
 use Rattle.orca_names.specs.declared.reason.Why.TheVariants.{Pinned, Frame, Letter, By, Loose}
-use Rattle.letter_kinds.specs.declared.letter.Letter as letters
-use Rattle.letter_kinds.specs.declared.letter.Letter.TheVariants.{App, Inc, Dec, Confirm}
+use Rattle.letter_kinds.specs.Letters as letters
+use Rattle.letter_kinds.specs.Letters.{App, Inc, Dec, Confirm}
 use Rattle.machine_rules.specs.Actors.{Actors, Seat, seat_at}
 use Rattle.machine_rules.specs.Left.{IsLeft}
 use Rattle.why_path.specs.Edges.{LeadsTo, first_to, leads_of}

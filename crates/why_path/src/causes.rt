@@ -2,6 +2,7 @@
 
 ghost use Rattle.std.specs.Prelude.{◌≡◌};
 ghost use Rattle.std.specs.List.{list_any};
+ghost use Rattle.letter_kinds.specs.Letters.{as_letter};
 ghost use Rattle.orca_core.specs.Machine.{NoneIsAway};
 ghost use Rattle.why_path.specs.Checks.{applies_to};
 ghost use Rattle.why_path.specs.Reasons.{applies, cause_at, cause_of, is_app};
@@ -14,7 +15,7 @@ use orca_core::Orca;
 use orca_names::{Thing, Why};
 
 fn is_app(letter: &Letter) -> bool
-    ensures { result ≡ is_app letter.now }
+    ensures { result ≡ is_app (as_letter letter.now) }
 {
     match letter {
         Letter::App {

@@ -1,6 +1,7 @@
 // The values by which a thing leads to others.
 
 ghost use Rattle.std.specs.Prelude.{◌≡◌, ◌≤◌, length};
+ghost use Rattle.letter_kinds.specs.Letters.{as_letter};
 ghost use Rattle.orca_core.specs.Machine.{NoneIsAway};
 ghost use Rattle.why_path.specs.Edges.{args_of, registers_of, row_left};
 ghost use Rattle.why_path.specs.Seats.{as_seat};
@@ -12,7 +13,7 @@ use orca_names::{ObjName, Value};
 
 /// The arguments of an application letter; another letter has none.
 pub(crate) fn args_of(letter: &Letter) -> &[Value]
-    ensures value { result.now ≡ args_of letter.now }
+    ensures value { result.now ≡ args_of (as_letter letter.now) }
     ensures few { length result.now ≤ 8 }
 {
     match letter {

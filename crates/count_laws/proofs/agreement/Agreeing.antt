@@ -5,8 +5,7 @@ use Rattle.count_laws.proofs.balance.Seats.{at_same, at_other, some_seat}
 use Rattle.machine_rules.proofs.Present.{present_below}
 use Rattle.count_laws.proofs.balance.Sends.{push_is}
 use Rattle.letter_kinds.specs.Holdings.{Row}
-use Rattle.letter_kinds.specs.declared.letter.Letter.{Letter}
-use Rattle.letter_kinds.specs.declared.letter.Letter.TheVariants.{App}
+use Rattle.letter_kinds.specs.Letters.{Letter, App}
 use Rattle.machine_rules.specs.Actors.{Seat, Actors, seat_at, push_letter, seat}
 use Rattle.count_laws.specs.Agreement.{Person, nobody, person_at, person_of, IsRootPerson, app_letters, Agrees}
 use Rattle.machine_rules.specs.Cell.{Cell}

@@ -15,8 +15,7 @@ use Rattle.event_rule.specs.declared.event.Event.TheVariants.{Take, Go, Collect,
 use Rattle.letter_kinds.specs.Counting.{Amount, Loaded, by_owner, gain, given_back, sweep}
 use Rattle.letter_kinds.specs.Detector.{Token, close_token, closed_set, has, after_scan}
 use Rattle.letter_kinds.specs.Holdings.{with_made}
-use Rattle.letter_kinds.specs.declared.letter.Letter.{Letter}
-use Rattle.letter_kinds.specs.declared.letter.Letter.TheVariants.{Confirm, Dec}
+use Rattle.letter_kinds.specs.Letters.{Letter, Confirm, Dec}
 use Rattle.letter_kinds.specs.declared.note.Note.{Note}
 use Rattle.letter_kinds.specs.declared.note.Note.TheVariants as notes
 use Rattle.machine_rules.proofs.Posting.{length-push}

@@ -5,8 +5,7 @@ use Rattle.event_rule.specs.declared.event.Event.{Event}
 use Rattle.event_rule.specs.declared.event.Event.TheVariants.{Take, Go, Collect, Leave, Block}
 use Rattle.letter_kinds.specs.Counting.{Amount, by_owner, given_back}
 use Rattle.letter_kinds.specs.Detector.{closed_set, has}
-use Rattle.letter_kinds.specs.declared.letter.Letter.{Letter}
-use Rattle.letter_kinds.specs.declared.letter.Letter.TheVariants.{Confirm, Dec}
+use Rattle.letter_kinds.specs.Letters.{Letter, Confirm, Dec}
 use Rattle.machine_rules.proofs.Stepping.{step_of}
 use Rattle.machine_rules.specs.Rules.{IsStep, cell_kept, later_frame}
 use Rattle.machine_rules.specs.Rules as rule

@@ -13,7 +13,7 @@ use Rattle.count_laws.proofs.balance.Sends.{cell_balanced, cell_prefix}
 use Rattle.letter_kinds.specs.Counting.{gain}
 use Rattle.letter_kinds.specs.Holdings.{Holdings, own_in, held_in}
 use Rattle.letter_kinds.specs.Sums.{inc_of, dec_of, load_count}
-use Rattle.letter_kinds.specs.declared.letter.Letter.{Letter}
+use Rattle.letter_kinds.specs.Letters.{Letter}
 use Rattle.count_laws.proofs.balance.InHand.{BalancedWith, none, Balanced}
 use Rattle.orca_names.specs.declared.trace.Trace.{Trace}
 use Rattle.machine_rules.specs.Actors.{Seat, Actors, seat_at, seat}

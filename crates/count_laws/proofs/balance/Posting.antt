@@ -5,7 +5,7 @@ use Rattle.letter_kinds.proofs.Counts.{cond_eq, cond_ne}
 use Rattle.count_laws.proofs.balance.Seats.{balanced-set, IsPresent}
 use Rattle.machine_rules.proofs.Present.{present_below}
 use Rattle.letter_kinds.specs.Sums.{inc_of, dec_of, load_count}
-use Rattle.letter_kinds.specs.declared.letter.Letter.{Letter}
+use Rattle.letter_kinds.specs.Letters.{Letter}
 use Rattle.count_laws.proofs.balance.InHand.{BalancedWith, credit, debit}
 use Rattle.machine_rules.specs.Actors.{Seat, Actors, with_letter_more, push_letter}
 use Rattle.machine_rules.specs.Balance.{own_at, incs_at, decs_at, held_at, loads_at}

@@ -6,7 +6,7 @@ use Rattle.std.proofs.lemmas.List.Sums.{sum_by-cons, sum_by-append, sum_by_push}
 use Rattle.letter_kinds.proofs.Sums.{sum-nil}
 use Rattle.count_laws.proofs.balance.Seats.{at_same, at_other}
 use Rattle.letter_kinds.specs.Sums.{inc_of, dec_of, load_count}
-use Rattle.letter_kinds.specs.declared.letter.Letter.{Letter}
+use Rattle.letter_kinds.specs.Letters.{Letter}
 use Rattle.orca_names.specs.declared.trace.Trace.{Trace}
 use Rattle.orca_names.specs.declared.trace.Trace.TheVariants.{Deep, Roots}
 use Rattle.machine_rules.specs.Actors.{Seat, Actors, seat_at}

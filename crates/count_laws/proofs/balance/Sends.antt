@@ -13,8 +13,7 @@ use Rattle.count_laws.proofs.balance.SeatReads.{own_at-seat, held_at-seat, incs_
 use Rattle.letter_kinds.specs.Counting.{send, mint_all}
 use Rattle.letter_kinds.specs.Holdings.{Row, own_in, held_in, has_own}
 use Rattle.letter_kinds.specs.Sums.{amount_of, times_loaded, inc_of, dec_of, load_count}
-use Rattle.letter_kinds.specs.declared.letter.Letter.{Letter}
-use Rattle.letter_kinds.specs.declared.letter.Letter.TheVariants.{App, Inc}
+use Rattle.letter_kinds.specs.Letters.{Letter, App, Inc}
 use Rattle.count_laws.proofs.balance.InHand.{BalancedWith, credit, debit, none, Balanced}
 use Rattle.orca_names.specs.declared.trace.Trace.{Trace}
 use Rattle.orca_names.specs.declared.trace.Trace.TheVariants.{Deep}

@@ -11,8 +11,7 @@ use Rattle.count_laws.proofs.balance.Sends.{cell_balanced, cell_prefix, present_
 use Rattle.letter_kinds.specs.Counting.{sweep, given_back, join_owner, by_owner}
 use Rattle.letter_kinds.specs.Holdings.{held_in, own_in}
 use Rattle.letter_kinds.specs.Sums.{amount_of, inc_of}
-use Rattle.letter_kinds.specs.declared.letter.Letter.{Letter}
-use Rattle.letter_kinds.specs.declared.letter.Letter.TheVariants.{Dec}
+use Rattle.letter_kinds.specs.Letters.{Letter, Dec}
 use Rattle.count_laws.proofs.balance.InHand.{BalancedWith, debit, none, AllCounted, Balanced}
 use Rattle.count_laws.proofs.balance.Seats.{IsPresent}
 use Rattle.orca_names.specs.declared.trace.Trace.{Trace}

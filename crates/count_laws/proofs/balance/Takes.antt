@@ -9,8 +9,7 @@ use Rattle.count_laws.proofs.balance.Safety.{safe_taken, safe_first, prefix-set}
 use Rattle.count_laws.proofs.balance.SeatReads.{own_at-seat, held_at-seat, incs_at-seat, decs_at-seat, loads_at-seat, letter_App, letter_Inc, letter_Dec, letter_Confirm}
 use Rattle.letter_kinds.specs.Holdings.{own_in, held_in, has_own}
 use Rattle.letter_kinds.specs.Sums.{inc_of, dec_of, load_count}
-use Rattle.letter_kinds.specs.declared.letter.Letter.{Letter}
-use Rattle.letter_kinds.specs.declared.letter.Letter.TheVariants.{App, Inc, Dec, Confirm}
+use Rattle.letter_kinds.specs.Letters.{Letter, App, Inc, Dec, Confirm}
 use Rattle.count_laws.proofs.balance.InHand.{none, take_letter, Balanced}
 use Rattle.orca_names.specs.declared.trace.Trace.{Trace}
 use Rattle.machine_rules.specs.Actors.{Actors, seat_at, seat}

@@ -24,8 +24,7 @@ use Rattle.letter_kinds.specs.Counting.{Amount, Loaded, by_owner, gain, given_ba
 use Rattle.letter_kinds.specs.Detector.{Detector, closed_set, hear_note, after_scan}
 use Rattle.letter_kinds.specs.Holdings.{Holdings, Row, own_in, with_made}
 use Rattle.letter_kinds.specs.Sums.{amount_of, inc_of}
-use Rattle.letter_kinds.specs.declared.letter.Letter.{Letter}
-use Rattle.letter_kinds.specs.declared.letter.Letter.TheVariants.{App, Inc, Dec, Confirm}
+use Rattle.letter_kinds.specs.Letters.{Letter, App, Inc, Dec, Confirm}
 use Rattle.letter_kinds.specs.declared.note.Note.{Note}
 use Rattle.letter_kinds.specs.declared.note.Note.TheVariants.{Block, Unblock, Ack}
 use Rattle.machine_rules.proofs.Stepping.{step_of}

@@ -3,8 +3,7 @@ use Rattle.std.proofs.Common.{◌≡◌, subst, refl, ℕ, ◌<◌, Bool, true, 
 use Rattle.orca_names.specs.declared.names.Thing.{Thing}
 use Rattle.letter_kinds.specs.Counting.{by_owner, given_back, sweep}
 use Rattle.letter_kinds.specs.Holdings.{Row}
-use Rattle.letter_kinds.specs.declared.letter.Letter.{Letter}
-use Rattle.letter_kinds.specs.declared.letter.Letter.TheVariants.{Dec}
+use Rattle.letter_kinds.specs.Letters.{Letter, Dec}
 use Rattle.count_laws.proofs.agreement.Agreeing.{agrees_same}
 use Rattle.count_laws.proofs.events.Every.{every_set, every_decs, agrees_decs, length-decs}
 use Rattle.count_laws.proofs.knowledge.Global.{mail_push}

@@ -17,7 +17,7 @@ use Rattle.letter_kinds.specs.Counting.{Amount, gain, lacking_of, mint_all, send
 use Rattle.letter_kinds.specs.Detector.{has}
 use Rattle.letter_kinds.specs.Holdings.{Row, held_in}
 use Rattle.letter_kinds.specs.Sums.{amount_of, load_count, times_loaded}
-use Rattle.letter_kinds.specs.declared.letter.Letter.{Letter}
+use Rattle.letter_kinds.specs.Letters.{Letter}
 use Rattle.count_laws.proofs.agreement.Agreeing.{with_letter}
 use Rattle.count_laws.proofs.events.Collect.{collect_keeps_counts}
 use Rattle.count_laws.proofs.knowledge.Freed as freed

@@ -7,8 +7,7 @@ use Rattle.machine_rules.proofs.Present.{present_below}
 use Rattle.machine_rules.proofs.Posting.{length-push}
 use Rattle.count_laws.proofs.balance.Makes.{more_last, more_other}
 use Rattle.count_laws.proofs.agreement.Agreeing.{agrees_push_other}
-use Rattle.letter_kinds.specs.declared.letter.Letter.{Letter}
-use Rattle.letter_kinds.specs.declared.letter.Letter.TheVariants.{Dec}
+use Rattle.letter_kinds.specs.Letters.{Letter, Dec}
 use Rattle.machine_rules.specs.Actors.{Seat, Actors, seat_at, push_letter, push_decs, seat, Every}
 use Rattle.count_laws.specs.Agreement.{Person, Agrees}
 use Rattle.machine_rules.specs.Cell.{Cell}

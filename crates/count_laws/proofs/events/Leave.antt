@@ -9,7 +9,7 @@ use Rattle.letter_kinds.proofs.Sums.{sum-at, sum-nil}
 use Rattle.letter_kinds.specs.Detector.{has}
 use Rattle.letter_kinds.specs.Holdings.{Row, held_in, own_in}
 use Rattle.letter_kinds.specs.Sums.{inc_of, load_count}
-use Rattle.letter_kinds.specs.declared.letter.Letter.{Letter}
+use Rattle.letter_kinds.specs.Letters.{Letter}
 use Rattle.count_laws.proofs.events.EitherMode.{reap_keeps}
 use Rattle.count_laws.proofs.events.Reap.{Sealed}
 use Rattle.count_laws.proofs.balance.SeatReads.{incs_at-seat, loads_at-seat, own_at-seat}

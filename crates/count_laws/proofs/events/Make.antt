@@ -12,7 +12,7 @@ use Rattle.turn_rules.specs.declared.act.Frame.{Frame}
 use Rattle.letter_kinds.proofs.Counts.{has_set_held}
 use Rattle.letter_kinds.specs.Counting.{gain}
 use Rattle.letter_kinds.specs.Holdings.{Holdings, Row, has_own, held_in}
-use Rattle.letter_kinds.specs.declared.letter.Letter.{Letter}
+use Rattle.letter_kinds.specs.Letters.{Letter}
 use Rattle.count_laws.proofs.agreement.Agreeing.{agrees_set, apart}
 use Rattle.count_laws.proofs.events.Every.{every_more, every_set}
 use Rattle.count_laws.proofs.balance.InHand.{in_hand, out_of_hand}

@@ -10,8 +10,7 @@ use Rattle.letter_kinds.proofs.Counts.{cond_eq, cond_ne, held_one_sent, loaded-s
 use Rattle.letter_kinds.specs.Counting.{Amount, Loaded, is_lacking, lacking_of, mint_all, mint_one, raise, send, send_one, spend}
 use Rattle.letter_kinds.specs.Holdings.{Holdings, Row, entry_row, has_own, held_in}
 use Rattle.letter_kinds.specs.Sums.{amount_of, times_loaded}
-use Rattle.letter_kinds.specs.declared.letter.Letter.{Letter}
-use Rattle.letter_kinds.specs.declared.letter.Letter.TheVariants.{App, Inc}
+use Rattle.letter_kinds.specs.Letters.{Letter, App, Inc}
 use Rattle.count_laws.proofs.agreement.Agreeing.{agrees_push_app, agrees_push_other, agrees_same, agrees_set, with_letter}
 use Rattle.count_laws.proofs.events.Every.{every_push, every_set}
 use Rattle.machine_rules.proofs.Posting.{length-push}

@@ -17,8 +17,7 @@ use Rattle.reach_walk.proofs.InOrder.{in_order-sorted}
 use Rattle.letter_kinds.proofs.Counts.{loaded-nil}
 use Rattle.letter_kinds.specs.Holdings.{Row, has_own, held_in, own_in, row_of}
 use Rattle.letter_kinds.specs.Sums.{dec_of, inc_of, load_count}
-use Rattle.letter_kinds.specs.declared.letter.Letter.{Letter}
-use Rattle.letter_kinds.specs.declared.letter.Letter.TheVariants.{App}
+use Rattle.letter_kinds.specs.Letters.{Letter, App}
 use Rattle.count_laws.proofs.knowledge.Naming.{nulls_name_nothing}
 use Rattle.count_laws.proofs.knowledge.Paths.{reach_into}
 use Rattle.count_laws.proofs.roots.Same.{own_row_has}

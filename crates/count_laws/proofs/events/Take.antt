@@ -5,8 +5,8 @@ use Rattle.letter_kinds.proofs.Counts.{cond_eq, cond_ne, has_set_own, counted_ha
 use Rattle.letter_kinds.specs.Counting.{Amount, Loaded, set_own, lower, set_held, gain, raise_all, lower_all, receive_one, receive}
 use Rattle.letter_kinds.specs.Holdings.{Entries, Holdings, Row, own_in, held_in, has_own, entry_count}
 use Rattle.letter_kinds.specs.Sums.{inc_of, times_loaded, load_count}
-use Rattle.letter_kinds.specs.declared.letter.Letter.TheVariants.{App, Inc, Dec, Confirm}
-use Rattle.letter_kinds.specs.declared.letter.Letter.{Letter}
+use Rattle.letter_kinds.specs.Letters.{App, Inc, Dec, Confirm}
+use Rattle.letter_kinds.specs.Letters.{Letter}
 use Rattle.count_laws.proofs.agreement.Agreeing.{agrees_set, agrees_same}
 use Rattle.count_laws.proofs.events.Every.{every_set}
 use Rattle.count_laws.proofs.balance.InHand.{take_letter, in_hand, out_of_hand}

@@ -6,7 +6,7 @@ use Rattle.behaviour_code.specs.declared.code.Program.{Program}
 use Rattle.turn_rules.specs.Segment.{Stop}
 use Rattle.turn_rules.specs.declared.act.Frame.{Frame}
 use Rattle.letter_kinds.specs.Holdings.{Row, held_in, own_in}
-use Rattle.letter_kinds.specs.declared.letter.Letter.{Letter}
+use Rattle.letter_kinds.specs.Letters.{Letter}
 use Rattle.count_laws.proofs.agreement.Agreeing.{agrees_set}
 use Rattle.count_laws.proofs.events.Every.{every_set}
 use Rattle.count_laws.proofs.knowledge.Global.{sound_set}

@@ -15,8 +15,7 @@ use Rattle.letter_kinds.proofs.Counts.{has_actor, has_set_held, has_set_own}
 use Rattle.letter_kinds.specs.Counting.{Amount, Loaded, by_owner, gain, given_back, lower, lower_all, mint_all, raise, raise_all, send, sweep}
 use Rattle.letter_kinds.specs.Detector.{closed_set}
 use Rattle.letter_kinds.specs.Holdings.{Holdings, Row, has_own, with_made}
-use Rattle.letter_kinds.specs.declared.letter.Letter.{Letter}
-use Rattle.letter_kinds.specs.declared.letter.Letter.TheVariants.{App, Inc, Dec, Confirm}
+use Rattle.letter_kinds.specs.Letters.{Letter, App, Inc, Dec, Confirm}
 use Rattle.machine_rules.proofs.Stepping.{step_of}
 use Rattle.machine_rules.specs.Rules.{IsStep, cell_kept, later_frame}
 use Rattle.machine_rules.specs.Rules as rule

@@ -9,8 +9,7 @@ use Rattle.count_laws.proofs.balance.SeatReads.{own_at-seat, incs_at-seat, own_a
 use Rattle.count_laws.proofs.balance.Sends.{held_below}
 use Rattle.letter_kinds.specs.Holdings.{Row, own_in, has_own}
 use Rattle.letter_kinds.specs.Sums.{times_loaded, inc_of, load_count}
-use Rattle.letter_kinds.specs.declared.letter.Letter.{Letter}
-use Rattle.letter_kinds.specs.declared.letter.Letter.TheVariants.{App, Inc, Dec, Confirm}
+use Rattle.letter_kinds.specs.Letters.{Letter, App, Inc, Dec, Confirm}
 use Rattle.count_laws.proofs.balance.InHand.{Sound, Balanced}
 use Rattle.count_laws.proofs.knowledge.Living.{Letters, here, later, Holds, Lives, stands, holds, row, owner}
 use Rattle.count_laws.proofs.knowledge.Paths.{along_row}

@@ -11,8 +11,7 @@ use Rattle.count_laws.proofs.knowledge.Paths.{reach_into, along_row}
 use Rattle.count_laws.proofs.knowledge.Freed.{known_left, loaded_left}
 use Rattle.letter_kinds.specs.Holdings.{Row}
 use Rattle.letter_kinds.specs.Sums.{times_loaded, load_count}
-use Rattle.letter_kinds.specs.declared.letter.Letter.{Letter}
-use Rattle.letter_kinds.specs.declared.letter.Letter.TheVariants.{App}
+use Rattle.letter_kinds.specs.Letters.{Letter, App}
 use Rattle.count_laws.proofs.balance.InHand.{Sound, Balanced}
 use Rattle.orca_names.specs.declared.trace.Trace.TheVariants.{Deep}
 use Rattle.machine_rules.specs.Actors.{Seat, Actors, seat_at, push_letter, seat}

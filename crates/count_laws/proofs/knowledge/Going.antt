@@ -16,7 +16,7 @@ use Rattle.letter_kinds.proofs.Counts.{loaded-same, loaded_more}
 use Rattle.letter_kinds.specs.Counting.{Loaded}
 use Rattle.letter_kinds.specs.Holdings.{Holdings, Row, has_own, held_in, own_in, row_of}
 use Rattle.letter_kinds.specs.Sums.{times_loaded}
-use Rattle.letter_kinds.specs.declared.letter.Letter.{Letter}
+use Rattle.letter_kinds.specs.Letters.{Letter}
 use Rattle.count_laws.proofs.knowledge.Global.{sound_grown}
 use Rattle.count_laws.proofs.balance.InHand.{Sound, in_hand}
 use Rattle.count_laws.proofs.knowledge.Paths.{along_row, reach_into}

@@ -5,7 +5,7 @@ use Rattle.orca_names.specs.Names.{owner_of}
 use Rattle.orca_names.specs.declared.names.Thing.{Thing}
 use Rattle.letter_kinds.specs.Holdings.{Row}
 use Rattle.letter_kinds.specs.Sums.{dec_of, inc_of}
-use Rattle.letter_kinds.specs.declared.letter.Letter.{Letter}
+use Rattle.letter_kinds.specs.Letters.{Letter}
 use Rattle.plain_rules.specs.declared.PlainLetter.{PlainLetter}
 use Rattle.count_laws.proofs.agreement.Reachable.{letters_in}
 use Rattle.count_laws.proofs.knowledge.Living.{Holds, Letters, here as first, holds, later, stands}

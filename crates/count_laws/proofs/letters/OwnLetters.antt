@@ -13,8 +13,7 @@ use Rattle.letter_kinds.proofs.Sums.{sum-nil}
 use Rattle.letter_kinds.specs.Counting.{Amount, by_owner, given_back, to_mint}
 use Rattle.letter_kinds.specs.Detector.{closed_set, has}
 use Rattle.letter_kinds.specs.Sums.{amount_of, dec_of, inc_of}
-use Rattle.letter_kinds.specs.declared.letter.Letter.{Letter}
-use Rattle.letter_kinds.specs.declared.letter.Letter.TheVariants.{App, Inc, Dec, Confirm}
+use Rattle.letter_kinds.specs.Letters.{Letter, App, Inc, Dec, Confirm}
 use Rattle.machine_rules.proofs.Stepping.{step_of}
 use Rattle.machine_rules.specs.Rules.{IsStep, cell_kept, later_frame}
 use Rattle.machine_rules.specs.Rules as rule

@@ -10,8 +10,7 @@ use Rattle.behaviour_code.specs.declared.code.Program.{Program}
 use Rattle.turn_rules.specs.declared.act.Frame.{Frame}
 use Rattle.event_rule.specs.declared.event.Event.{Event}
 use Rattle.reach_walk.specs.Reach.{root, owned}
-use Rattle.letter_kinds.specs.declared.letter.Letter.{Letter}
-use Rattle.letter_kinds.specs.declared.letter.Letter.TheVariants.{App, Inc, Dec, Confirm}
+use Rattle.letter_kinds.specs.Letters.{Letter, App, Inc, Dec, Confirm}
 use Rattle.letter_kinds.specs.Counting.{sweep}
 use Rattle.letter_kinds.specs.Holdings.{Holdings, Row, entry_row, has_own, nothing_held, own_in, row_count, row_of}
 use Rattle.count_laws.proofs.knowledge.Loads.{marked_reached, reached_marked}

@@ -5,7 +5,7 @@ use Rattle.orca_names.specs.declared.names.Thing.{Thing}
 use Rattle.orca_names.specs.declared.names.Thing.TheVariants.{Actor}
 use Rattle.behaviour_code.specs.declared.code.Program.{Program}
 use Rattle.turn_rules.specs.declared.act.Frame.{Frame}
-use Rattle.letter_kinds.specs.declared.letter.Letter.{Letter}
+use Rattle.letter_kinds.specs.Letters.{Letter}
 use Rattle.letter_kinds.specs.Counting.{Amount, Loaded, gain, mint_all, send, sweep}
 use Rattle.letter_kinds.specs.Sums.{amount_of}
 use Rattle.machine_rules.specs.Cell.{Cell, first_cell, fresh_cell}

@@ -6,8 +6,7 @@ use Rattle.orca_names.specs.declared.names.Thing.TheVariants.{Actor}
 use Rattle.behaviour_code.specs.declared.code.Program.{Program}
 use Rattle.turn_rules.specs.declared.act.Frame.{Frame}
 use Rattle.event_rule.specs.declared.event.Event.{Event}
-use Rattle.letter_kinds.specs.declared.letter.Letter.{Letter}
-use Rattle.letter_kinds.specs.declared.letter.Letter.TheVariants.{App, Inc, Dec, Confirm}
+use Rattle.letter_kinds.specs.Letters.{Letter, App, Inc, Dec, Confirm}
 use Rattle.letter_kinds.specs.Counting.{by_owner, gain, given_back, mint_all, send, sweep, to_mint, Amount}
 use Rattle.letter_kinds.specs.Detector.{closed_set}
 use Rattle.letter_kinds.specs.Sums.{amount_of}

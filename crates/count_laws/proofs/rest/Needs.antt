@@ -4,7 +4,7 @@ use Rattle.std.proofs.Common.{◌≡◌, ◌↔◌, ℕ, ◌<◌, true, Option, 
 use Rattle.orca_names.specs.declared.names.Thing.{Thing}
 use Rattle.orca_names.specs.declared.names.Thing.TheVariants.{Actor}
 use Rattle.reach_walk.specs.Reach.{thing_row}
-use Rattle.letter_kinds.specs.declared.letter.Letter.{Letter}
+use Rattle.letter_kinds.specs.Letters.{Letter}
 use Rattle.letter_kinds.specs.Holdings.{Row, held_in}
 use Rattle.count_laws.proofs.knowledge.Living.{Lives, stands}
 use Rattle.count_laws.proofs.rest.ObjectsAtQuiet.{by_rows, exactly_left, held_reached, over_all}

@@ -10,7 +10,7 @@ use Rattle.orca_names.specs.declared.names.Thing.{Thing}
 use Rattle.orca_names.specs.declared.names.Thing.TheVariants.{Actor, Obj}
 use Rattle.reach_walk.specs.Reach.{root, owned}
 use Rattle.letter_kinds.proofs.Sums.{sum-nil, sum-zero}
-use Rattle.letter_kinds.specs.declared.letter.Letter.{Letter}
+use Rattle.letter_kinds.specs.Letters.{Letter}
 use Rattle.letter_kinds.specs.Holdings.{Row, entry_count, held_in, own_in}
 use Rattle.letter_kinds.specs.Sums.{dec_of, inc_of, load_count}
 use Rattle.count_laws.proofs.knowledge.Freed.{lives_left}

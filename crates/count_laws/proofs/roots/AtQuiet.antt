@@ -9,7 +9,7 @@ use Rattle.orca_names.specs.declared.names.Thing.TheVariants.{Actor, Obj}
 use Rattle.orca_names.specs.declared.names.Value.{Value}
 use Rattle.reach_walk.specs.Reach.{thing_row}
 use Rattle.letter_kinds.specs.Holdings.{Row, own_in}
-use Rattle.letter_kinds.specs.declared.letter.Letter.{Letter}
+use Rattle.letter_kinds.specs.Letters.{Letter}
 use Rattle.count_laws.proofs.events.EitherMode.{lives_left}
 use Rattle.count_laws.proofs.balance.InHand.{Balanced, in_hand}
 use Rattle.count_laws.proofs.knowledge.Living.{Holds, stands}

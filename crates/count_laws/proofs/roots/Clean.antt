@@ -11,8 +11,7 @@ use Rattle.event_rule.specs.declared.event.Event.{Event}
 use Rattle.reach_walk.specs.Reach.{root, owned, thing_row}
 use Rattle.letter_kinds.specs.Counting.{sweep}
 use Rattle.letter_kinds.specs.Holdings.{Row, has_own, nothing_held}
-use Rattle.letter_kinds.specs.declared.letter.Letter.{Letter}
-use Rattle.letter_kinds.specs.declared.letter.Letter.TheVariants.{App, Inc, Dec, Confirm}
+use Rattle.letter_kinds.specs.Letters.{Letter, App, Inc, Dec, Confirm}
 use Rattle.count_laws.proofs.local.Local.{Local}
 use Rattle.count_laws.proofs.local.Locals.{every_first, every_next}
 use Rattle.count_laws.proofs.knowledge.Paths.{along_row, reach_into}

@@ -20,8 +20,7 @@ use Rattle.letter_kinds.proofs.Sums.{sum-nil}
 use Rattle.letter_kinds.specs.Counting.{by_owner, given_back, sweep}
 use Rattle.letter_kinds.specs.Holdings.{Holdings, Row, held_in, own_in, row_count}
 use Rattle.letter_kinds.specs.Sums.{dec_of, inc_of, load_count}
-use Rattle.letter_kinds.specs.declared.letter.Letter.{Letter}
-use Rattle.letter_kinds.specs.declared.letter.Letter.TheVariants.{Dec}
+use Rattle.letter_kinds.specs.Letters.{Letter, Dec}
 use Rattle.count_laws.proofs.events.Collect.{collect_put}
 use Rattle.count_laws.proofs.events.Every.{every_decs, every_set}
 use Rattle.count_laws.proofs.balance.InHand.{Balanced, in_hand}

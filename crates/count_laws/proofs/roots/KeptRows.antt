@@ -12,7 +12,7 @@ use Rattle.reach_walk.specs.Reach.{root, owned, thing_row}
 use Rattle.letter_kinds.proofs.Counts.{counted_has}
 use Rattle.letter_kinds.specs.Counting.{by_owner, given_back, sweep}
 use Rattle.letter_kinds.specs.Holdings.{Row, held_in}
-use Rattle.letter_kinds.specs.declared.letter.Letter.{Letter}
+use Rattle.letter_kinds.specs.Letters.{Letter}
 use Rattle.machine_rules.proofs.Present.{present_below}
 use Rattle.machine_rules.specs.Actors.{Actors, cell_at, cell_of, seat, seat_at}
 use Rattle.machine_rules.specs.Cell.{Cell, own_row_of, row_by_roots}

@@ -11,8 +11,7 @@ use Rattle.letter_kinds.proofs.Counts.{counted_has, has_actor}
 use Rattle.letter_kinds.proofs.Sums.{sum-at, sum-nil}
 use Rattle.letter_kinds.specs.Holdings.{Row, has_own, held_in, own_in}
 use Rattle.letter_kinds.specs.Sums.{dec_of, inc_of, load_count}
-use Rattle.letter_kinds.specs.declared.letter.Letter.{Letter}
-use Rattle.letter_kinds.specs.declared.letter.Letter.TheVariants.{App, Inc, Dec, Confirm}
+use Rattle.letter_kinds.specs.Letters.{Letter, App, Inc, Dec, Confirm}
 use Rattle.count_laws.proofs.balance.InHand.{Balanced}
 use Rattle.count_laws.proofs.knowledge.Living.{Letters, here, later, Holds, Lives, stands, holds, row, owner}
 use Rattle.count_laws.proofs.knowledge.Paths.{reach_into}

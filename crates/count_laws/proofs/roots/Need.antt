@@ -20,7 +20,7 @@ use Rattle.letter_kinds.proofs.Counts.{amount-nil, amount-same, amount-other, ha
 use Rattle.letter_kinds.specs.Counting.{Amount, mint_all}
 use Rattle.letter_kinds.specs.Holdings.{Holdings, Row, has_own, held_in}
 use Rattle.letter_kinds.specs.Sums.{amount_of}
-use Rattle.letter_kinds.specs.declared.letter.Letter.{Letter}
+use Rattle.letter_kinds.specs.Letters.{Letter}
 use Rattle.count_laws.proofs.balance.InHand.{AllCounted, Balanced, in_hand}
 use Rattle.count_laws.proofs.knowledge.Paths.{reach_into}
 use Rattle.count_laws.proofs.roots.Left.{along_left, held_backed, owner_left, reached_left, root_left}

@@ -20,8 +20,7 @@ use Rattle.letter_kinds.specs.Counting.{Amount, Loaded, gain, lacking_of, mint_a
 use Rattle.letter_kinds.specs.Detector.{has}
 use Rattle.letter_kinds.specs.Holdings.{Row, has_own, held_in, own_in}
 use Rattle.letter_kinds.specs.Sums.{amount_of, inc_of, load_count, times_loaded}
-use Rattle.letter_kinds.specs.declared.letter.Letter.{Letter}
-use Rattle.letter_kinds.specs.declared.letter.Letter.TheVariants.{App, Inc, Dec, Confirm}
+use Rattle.letter_kinds.specs.Letters.{Letter, App, Inc, Dec, Confirm}
 use Rattle.count_laws.proofs.agreement.Agreeing.{with_letter}
 use Rattle.count_laws.proofs.events.Every.{every_more, every_push, every_set}
 use Rattle.count_laws.proofs.balance.InHand.{AllCounted, Balanced, in_hand}

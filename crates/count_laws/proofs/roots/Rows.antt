@@ -16,7 +16,7 @@ use Rattle.letter_kinds.proofs.Counts.{loaded-same, loaded_more}
 use Rattle.letter_kinds.specs.Counting.{Loaded}
 use Rattle.letter_kinds.specs.Holdings.{Row, has_own, object_name}
 use Rattle.letter_kinds.specs.Sums.{times_loaded}
-use Rattle.letter_kinds.specs.declared.letter.Letter.{Letter}
+use Rattle.letter_kinds.specs.Letters.{Letter}
 use Rattle.letter_kinds.proofs.Known.{first_option, later_option, own_found}
 use Rattle.count_laws.proofs.balance.InHand.{Balanced}
 use Rattle.count_laws.proofs.knowledge.Loads.{load_exact}

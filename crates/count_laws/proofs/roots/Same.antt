@@ -15,8 +15,7 @@ use Rattle.letter_kinds.proofs.Sums.{sum-nil}
 use Rattle.letter_kinds.specs.Counting.{Amount, Loaded, gain, lower, mint_all, receive, receive_one, send, set_held}
 use Rattle.letter_kinds.specs.Holdings.{Holdings, Row, has_own, held_in, own_in, row_of}
 use Rattle.letter_kinds.specs.Sums.{dec_of, inc_of, load_count}
-use Rattle.letter_kinds.specs.declared.letter.Letter.{Letter}
-use Rattle.letter_kinds.specs.declared.letter.Letter.TheVariants.{App}
+use Rattle.letter_kinds.specs.Letters.{Letter, App}
 use Rattle.count_laws.proofs.knowledge.Paths.{along_row, reach_into}
 use Rattle.count_laws.proofs.knowledge.Receiving.{has-receive, own_row, row_set_held_own, row_set_own}
 use Rattle.count_laws.proofs.balance.Safety.{drop-push}

@@ -18,8 +18,7 @@ use Rattle.letter_kinds.proofs.Counts.{held-receive, held-receive_own, loaded-ni
 use Rattle.letter_kinds.specs.Counting.{Loaded, receive}
 use Rattle.letter_kinds.specs.Holdings.{Holdings, Row, has_own, held_in, own_in}
 use Rattle.letter_kinds.specs.Sums.{dec_of, inc_of, load_count, times_loaded}
-use Rattle.letter_kinds.specs.declared.letter.Letter.{Letter}
-use Rattle.letter_kinds.specs.declared.letter.Letter.TheVariants.{App, Inc, Dec, Confirm}
+use Rattle.letter_kinds.specs.Letters.{Letter, App, Inc, Dec, Confirm}
 use Rattle.count_laws.proofs.agreement.Agreeing.{agrees_set}
 use Rattle.count_laws.proofs.balance.InHand.{take_letter}
 use Rattle.count_laws.proofs.knowledge.Paths.{reach_into, reach_more}

@@ -23,8 +23,7 @@ use Rattle.letter_kinds.proofs.Counts.{has_actor, loaded-same, loaded_more}
 use Rattle.letter_kinds.specs.Counting.{Loaded}
 use Rattle.letter_kinds.specs.Holdings.{Holdings, Row, has_own, held_in, own_in}
 use Rattle.letter_kinds.specs.Sums.{load_count, times_loaded}
-use Rattle.letter_kinds.specs.declared.letter.Letter.{Letter}
-use Rattle.letter_kinds.specs.declared.letter.Letter.TheVariants.{App, Inc, Dec, Confirm}
+use Rattle.letter_kinds.specs.Letters.{Letter, App, Inc, Dec, Confirm}
 use Rattle.count_laws.proofs.events.Every.{every_but}
 use Rattle.count_laws.proofs.knowledge.Going.{Grows, object}
 use Rattle.count_laws.proofs.balance.InHand.{Balanced, in_hand}

@@ -1,4 +1,5 @@
 use Rattle.std.proofs.Common.{◌+◌, ◌<◌, get_or, length, drop, sym, ap, ◌∙◌, arith}
+use Rattle.row_store.specs.Told.{as_load, as_loaded}
 use Rattle.machine_rules.specs.Take.{learn}
 use Rattle.actor_cell.proofs.Learnt.{learn-cons, learn-nil}
 use Rattle.std.proofs.lemmas.List.{drop_all}
@@ -24,8 +25,8 @@ loop-brought-preserved c =
     let room = c.loop-brought.invariant.room in
     let less = c.learn_one.ensures.room in
     record {
-      rows = ap (learn me (drop (i + 1) rows)) c.learn_one.ensures.rows ∙ learn-cons me e (drop (i + 1) rows) before
-          ∙ ap (λ xs. learn me xs before) (sym rest) ∙ c.loop-brought.invariant.rows;
+      rows = ap (learn me (as_load (drop (i + 1) rows))) c.learn_one.ensures.rows ∙ learn-cons me (as_loaded e) (as_load (drop (i + 1) rows)) before
+          ∙ ap (λ xs. learn me (as_load xs) before) (sym rest) ∙ c.loop-brought.invariant.rows;
       room = omega arith;
     }
 
@@ -33,4 +34,4 @@ pub returns : goal.returns
 returns c =
     let now = c.loop-brought.known.rows in
     let done = drop_all c.loop-brought.brought-index c.args.rows.now (omega (arith, ap length c.as_slice-brought-items.ensures)) in
-    sym (learn-nil c.args.me now) ∙ ap (λ xs. learn c.args.me xs now) (sym done) ∙ c.loop-brought.invariant.rows
+    sym (learn-nil c.args.me now) ∙ ap (λ xs. learn c.args.me (as_load xs) now) (sym done) ∙ c.loop-brought.invariant.rows

@@ -1,3 +1,4 @@
+use Rattle.row_store.specs.Told.{as_load}
 use Rattle.actor_cell.specs.Cells.{as_cell}
 use Rattle.cell_check.proofs.Few.{few_received}
 use Rattle.cell_check.proofs.count_tests.gets.Goals as goal
@@ -5,4 +6,4 @@ use Rattle.cell_check.proofs.count_tests.gets.Goals as goal
 pub takes-requires-clause-can : goal.takes-requires-clause-can
 takes-requires-clause-can c =
     let cell = c.args.cell.now in
-    few_received cell.heap.owner c.in_ok-load.load (as_cell cell).holdings c.requires.fresh (c.are_spare.ensures c.if-not-are_spare.false)
+    few_received cell.heap.owner (as_load c.in_ok-load.load) (as_cell cell).holdings c.requires.fresh (c.are_spare.ensures c.if-not-are_spare.false)

@@ -2,6 +2,7 @@ use Rattle.std.proofs.Common.{◌+◌, [], ◌∷◌, map, take, refl, sym, ap, 
 use Rattle.std.proofs.lemmas.List.Elements.{All-map, All-weaker}
 use Rattle.std.proofs.lemmas.Simd.{map-map}
 use Rattle.orca_names.specs.declared.tally.Sums.{Sums}
+use Rattle.letter_kinds.specs.Letters.{as_letter}
 use Rattle.count_ledger.specs.Lines.{Fits, HasRoomForMail, Rise, with_mail}
 use Rattle.count_ledger.proofs.Adding.{map_itself, map_same, rise_kept}
 use Rattle.count_ledger.proofs.Mailed.{next_fits, next_mail, no_mail}
@@ -22,7 +23,7 @@ add_letter-requires-clause-room c =
     let to = c.args.to in
     let ls = c.args.mail.now.letters in
     let i = c.loop-i.i in
-    let l = c.at.result.now in
+    let l = as_letter c.at.result.now in
     let f = with_mail to (take i ls) in
     let room = All-weaker (λ s. Fits (with_mail to ls s)) (λ s. Fits (with_mail to (l ∷ []) (f s)))
     (next_fits to ls i l c.at.ensures) sums c.requires.room in
@@ -35,7 +36,7 @@ loop-i-preserved c =
     let to = c.args.to in
     let ls = c.args.mail.now.letters in
     let i = c.loop-i.i in
-    let l = c.at.result.now in
+    let l = as_letter c.at.result.now in
     c.add_letter.ensures ∙ ap (map (with_mail to (l ∷ []))) c.loop-i.invariant
     ∙ map-map (with_mail to (l ∷ [])) (with_mail to (take i ls)) sums
     ∙ map_same (λ s. with_mail to (l ∷ []) (with_mail to (take i ls) s)) (with_mail to (take (i + 1) ls))

@@ -1,4 +1,5 @@
 use Rattle.std.proofs.Common.{◌≡◌, ◌+◌, ◌≤◌, drop}
+use Rattle.row_store.specs.Told.{as_load}
 use Rattle.letter_kinds.specs.Counting.{receive}
 use Rattle.known_rows.specs.Holdings.{holdings_of}
 use Rattle.trace_send.specs.Can.{CanReceive}
@@ -6,8 +7,8 @@ use Rattle.trace_send.proofs.receive.receive_trace.Given as goal
 
 abbrev pub invariant-loop-loaded : goal.invariant-loop-loaded
 invariant-loop-loaded l = record {
-  counts : receive l.me (drop l.loaded-index l.load) (holdings_of l.own l.heap l.foreign) ≡ receive l.me l.load (holdings_of l.fn.own l.fn.heap l.fn.foreign);
-  can : CanReceive l.me (drop l.loaded-index l.load) (holdings_of l.own l.heap l.foreign);
+  counts : receive l.me (as_load (drop l.loaded-index l.load)) (holdings_of l.own l.heap l.foreign) ≡ receive l.me (as_load l.load) (holdings_of l.fn.own l.fn.heap l.fn.foreign);
+  can : CanReceive l.me (as_load (drop l.loaded-index l.load)) (holdings_of l.own l.heap l.foreign);
   owner : l.heap.owner ≡ l.fn.heap.owner;
   spare : l.heap.spare ≡ l.fn.heap.spare;
   room : l.fn.foreign.spare ≤ l.foreign.spare + l.loaded-index;

@@ -1,5 +1,6 @@
 use Rattle.std.proofs.Common.{not, eqb, ◌≢◌, ◌+◌, sym, ap, ◌∙◌}
 use Rattle.orca_names.specs.Names.{owner_of}
+use Rattle.row_store.specs.Told.{as_loaded}
 use Rattle.known_rows.specs.Holdings.{holdings_of}
 use Rattle.trace_send.proofs.Steps.{apart, alike, enough-held, there-held, fits-actor, fits-object, there-object, set-actor-at, set-object-at, sends_other, sends_own}
 use Rattle.trace_send.proofs.send.send_thing.Goals as goal
@@ -17,7 +18,7 @@ spend-requires-clause-enough c =
 pub returns-then-ne-clause-counts : goal.returns-then-ne-clause-counts
 returns-then-ne-clause-counts c =
     let other : owner_of c.args.loaded.now.0 ≢ c.args.me = apart (owner_of c.args.loaded.now.0) c.args.me (ap (λ a. not (eqb a c.args.me)) (sym c.owner.ensures) ∙ sym c.ne.ensures ∙ c.if-ne.true) in
-    ap (holdings_of c.args.own.now c.args.heap.now) c.spend.ensures ∙ sends_other c.args.me c.args.own.now c.args.heap.now c.args.foreign.now c.args.loaded.now other
+    ap (holdings_of c.args.own.now c.args.heap.now) c.spend.ensures ∙ sends_other c.args.me c.args.own.now c.args.heap.now c.args.foreign.now (as_loaded c.args.loaded.now) other
 
 pub raise-requires : goal.raise-requires
 raise-requires c =
@@ -39,11 +40,11 @@ returns-in-Actor-clause-counts c =
     let same = alike (owner_of c.args.loaded.now.0) c.args.me (ap (λ a. not (eqb a c.args.me)) (sym c.owner.ensures) ∙ sym c.ne.ensures ∙ c.if-ne.false) in
     ap (λ n. holdings_of n c.args.heap.now c.args.foreign.now) c.raise.ensures
     ∙ set-actor-at c.args.own.now c.args.heap.now c.args.foreign.now (λ n. n + 1) c.args.loaded.now.0 c.in-Actor.field-0 c.in-Actor.is
-    ∙ sends_own c.args.me c.args.own.now c.args.heap.now c.args.foreign.now c.args.loaded.now same
+    ∙ sends_own c.args.me c.args.own.now c.args.heap.now c.args.foreign.now (as_loaded c.args.loaded.now) same
 
 pub returns-in-Obj-clause-counts : goal.returns-in-Obj-clause-counts
 returns-in-Obj-clause-counts c =
     let same = alike (owner_of c.args.loaded.now.0) c.args.me (ap (λ a. not (eqb a c.args.me)) (sym c.owner.ensures) ∙ sym c.ne.ensures ∙ c.if-ne.false) in
     ap (λ heap. holdings_of c.args.own.now heap c.args.foreign.now) c.raise-in-Obj.ensures
     ∙ set-object-at c.args.own.now c.args.heap.now c.args.foreign.now (λ n. n + 1) c.args.loaded.now.0 c.in-Obj.n c.in-Obj.is
-    ∙ sends_own c.args.me c.args.own.now c.args.heap.now c.args.foreign.now c.args.loaded.now same
+    ∙ sends_own c.args.me c.args.own.now c.args.heap.now c.args.foreign.now (as_loaded c.args.loaded.now) same

@@ -1,7 +1,7 @@
 use Rattle.std.proofs.Common.{◌<◌, ◌≤◌, length, sym, subst, arith}
 use Rattle.std.specs.Prelude.{All}
 use Rattle.std.proofs.lemmas.Option.{get_or_from_slice_get}
-use Rattle.letter_kinds.specs.declared.letter.Letter.{Letter}
+use Rattle.letter_kinds.specs.Letters.{Letter, as_letter}
 use Rattle.why_path.specs.Edges.{args_of}
 use Rattle.why_path.specs.Named.{NamesNoneLoose}
 use Rattle.why_path.proofs.Answering.{all_more, all_so, not_all, not_so}
@@ -11,7 +11,7 @@ pub loop-k-preserved : goal.loop-k-preserved
 loop-k-preserved c =
     let rs = c.args.reasons.now in
     let ls = c.args.mail.now.letters in
-    let l = c.at.result.now in
+    let l = as_letter c.at.result.now in
     let within : c.loop-k.k < length ls = omega (arith, c.loop-k-test.true, c.len-k-end.ensures) in
     let none = c.name_none_loose.ensures.0 c.if-not-name_none_loose.false in
     all_more (λ (m : Letter). All (NamesNoneLoose rs) (args_of m)) ls c.loop-k.k l within
@@ -22,7 +22,7 @@ pub returns-then-not-name_none_loose : goal.returns-then-not-name_none_loose
 returns-then-not-name_none_loose c =
     let rs = c.args.reasons.now in
     let ls = c.args.mail.now.letters in
-    let l = c.at.result.now in
+    let l = as_letter c.at.result.now in
     let within : c.loop-k.k < length ls = omega (arith, c.loop-k-test.true, c.len-k-end.ensures) in
     not_all (λ (m : Letter). All (NamesNoneLoose rs) (args_of m)) ls c.loop-k.k l within
     (sym (get_or_from_slice_get ls c.loop-k.k l l c.at.ensures))

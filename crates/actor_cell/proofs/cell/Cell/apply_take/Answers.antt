@@ -1,5 +1,6 @@
 use Rattle.std.proofs.Common.{true, false, sym, subst, ap, ◌∙◌}
-use Rattle.letter_kinds.specs.declared.letter.Letter.{Letter}
+use Rattle.letter_kinds.specs.Letters.{as_letter}
+use Rattle.row_store.specs.Told.{as_load}
 use Rattle.letter_kinds.specs.Counting.{lower_all, raise_all, receive}
 use Rattle.known_rows.specs.Holdings.{holdings_of}
 use Rattle.trace_send.specs.Can.{CanLower, CanRaise}
@@ -14,19 +15,19 @@ pub returns-in-App : goal.returns-in-App
 returns-in-App c =
     let s = as_cell c.args.self.now in
     let me = c.args.self.now.heap.owner in
-    let counts = c.receive_trace.ensures.counts ∙ ap (λ a. receive a c.in-App.load s.holdings) c.owner-me.ensures in
-    let known = c.learn_all.ensures ∙ ap (λ a. learn a c.in-App.rows s.known) c.owner-me.ensures in
+    let counts = c.receive_trace.ensures.counts ∙ ap (λ a. receive a (as_load c.in-App.load) s.holdings) c.owner-me.ensures in
+    let known = c.learn_all.ensures ∙ ap (λ a. learn a (as_load c.in-App.rows) s.known) c.owner-me.ensures in
     let frame = c.start_frame.ensures ∙ ap (frame_for c.args.code.now s.kind c.in-App.behaviour) c.as_args.ensures in
     let cell = c.wake.ensures.0
     ∙ (λ i. record s { frame = frame i; holdings = counts i; known = known i; dirty = true; reported = false })
-    ∙ ap (λ l. cell_after c.args.code.now me l s) (sym c.in-App.is) in
+    ∙ ap (λ l. cell_after c.args.code.now me (as_letter l) s) (sym c.in-App.is) in
     (cell, c.wake.ensures.1 ∙ c.receive_trace.ensures.heap.0)
 
 pub raise_counts-requires-clause-can : goal.raise_counts-requires-clause-can
 raise_counts-requires-clause-can c = λ foreign.
     let s = c.args.self.now in
     let its : CanRaise s.heap.owner c.in-Inc.things (as_cell s).holdings =
-    subst (λ (l : Letter). CanTake s.heap.owner l (as_cell s).holdings) c.in-Inc.is c.requires.can in
+    subst (λ l. CanTake s.heap.owner (as_letter l) (as_cell s).holdings) c.in-Inc.is c.requires.can in
     subst (λ a. CanRaise a c.in-Inc.things (holdings_of s.count s.heap foreign)) (sym c.owner-me.ensures)
     (can_raise_with foreign.entries s.heap.owner c.in-Inc.things (as_cell s).holdings its)
 
@@ -36,14 +37,14 @@ returns-in-Inc c =
     let me = c.args.self.now.heap.owner in
     let counts = c.raise_counts.ensures.counts c.args.self.now.foreign ∙ ap (λ a. raise_all a c.in-Inc.things s.holdings) c.owner-me.ensures in
     let cell = c.wake-in-Inc.ensures.0 ∙ (λ i. record s { holdings = counts i; dirty = true; reported = false })
-    ∙ ap (λ l. cell_after c.args.code.now me l s) (sym c.in-Inc.is) in
+    ∙ ap (λ l. cell_after c.args.code.now me (as_letter l) s) (sym c.in-Inc.is) in
     (cell, c.wake-in-Inc.ensures.1 ∙ c.raise_counts.ensures.owner)
 
 pub lower_counts-requires-clause-can : goal.lower_counts-requires-clause-can
 lower_counts-requires-clause-can c = λ foreign.
     let s = c.args.self.now in
     let its : CanLower s.heap.owner c.in-Dec.things (as_cell s).holdings =
-    subst (λ (l : Letter). CanTake s.heap.owner l (as_cell s).holdings) c.in-Dec.is c.requires.can in
+    subst (λ l. CanTake s.heap.owner (as_letter l) (as_cell s).holdings) c.in-Dec.is c.requires.can in
     subst (λ a. CanLower a c.in-Dec.things (holdings_of s.count s.heap foreign)) (sym c.owner-me.ensures)
     (can_lower_with foreign.entries s.heap.owner c.in-Dec.things (as_cell s).holdings its)
 
@@ -53,5 +54,5 @@ returns-in-Dec c =
     let me = c.args.self.now.heap.owner in
     let counts = c.lower_counts.ensures.counts c.args.self.now.foreign ∙ ap (λ a. lower_all a c.in-Dec.things s.holdings) c.owner-me.ensures in
     let cell = c.wake-in-Dec.ensures.0 ∙ (λ i. record s { holdings = counts i; dirty = true; reported = false })
-    ∙ ap (λ l. cell_after c.args.code.now me l s) (sym c.in-Dec.is) in
+    ∙ ap (λ l. cell_after c.args.code.now me (as_letter l) s) (sym c.in-Dec.is) in
     (cell, c.wake-in-Dec.ensures.1 ∙ c.lower_counts.ensures.owner)

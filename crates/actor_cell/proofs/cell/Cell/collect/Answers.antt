@@ -1,9 +1,8 @@
 use Rattle.std.proofs.Common.{None, ap, ◌∙◌}
 use Rattle.machine_rules.specs.Collect.{is_marked}
-use Rattle.actor_cell.specs.declared.whole.Out.{Out}
 use Rattle.actor_cell.specs.declared.sweeping.Sweep.{Sweep}
 use Rattle.actor_cell.specs.Cells.{as_cell}
-use Rattle.actor_cell.specs.Outs.{decs_to}
+use Rattle.actor_cell.specs.Outs.{Out, decs_to}
 use Rattle.actor_cell.proofs.Marked.{back_same}
 use Rattle.actor_cell.proofs.cell.Cell.collect.Goals as goal
 

@@ -5,6 +5,7 @@ use Rattle.machine_rules.specs.Cell as rules
 use Rattle.actor_cell.specs.Cells.{as_cell}
 use Rattle.actor_cell.specs.Goes.{IsTold, cell_by, gone_by, out_of, turned_in}
 use Rattle.actor_cell.specs.Moves.{act_in}
+use Rattle.actor_cell.specs.Outs.{as_out}
 use Rattle.actor_cell.proofs.Telling.{told_gone}
 use Rattle.actor_cell.proofs.cell.Cell.go.Goals as goal
 
@@ -16,7 +17,7 @@ returns-clause-gone c = by c.args.self.now.frame refl c.in_ok-find_go.ensures.fo
         c.find_go.new.turn c.find_go.new.found.place (act_in c.find_go.new.found))
         → option_map (λ f. gone_by c.args.self.now.heap.owner (as_cell c.args.self.now) f
         (turned_in (record { weight = c.args.weight; trace = c.args.trace }) c.args.code.now c.args.self.now.heap.owner (as_cell c.args.self.now) f)) frame
-        ≡ Some (record { cell = as_cell c.apply_go.new.self; out = c.give_out.result })
+        ≡ Some (record { cell = as_cell c.apply_go.new.self; out = as_out c.give_out.result })
     by None at tells = absurd tells
     by (Some frame) at tells =
         let s = c.args.self.now in

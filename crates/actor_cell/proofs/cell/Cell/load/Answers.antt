@@ -1,5 +1,6 @@
 use Rattle.std.proofs.Common.{◌≡◌, ap, sym, ◌∙◌}
 use Rattle.std.proofs.lemmas.Result.{IfOk-weaker}
+use Rattle.row_store.specs.Told.{as_load}
 use Rattle.letter_kinds.specs.Holdings.{with_made}
 use Rattle.machine_rules.specs.Go.{load_from}
 use Rattle.actor_cell.specs.Cells.{as_cell}
@@ -13,7 +14,7 @@ returns-in-Deep c = λ args is.
     let me = s.heap.owner in
     let h = with_made c.args.made.now (as_cell s).holdings in
     let its = rowed_is me h args c.args.things.now (is ∙ ap (λ t. things_from t me h args) c.in-Deep.is) in
-    IfOk-weaker c.rowed.result _ (λ load. load ≡ load_from c.args.trace me h args)
+    IfOk-weaker c.rowed.result _ (λ load. as_load load ≡ load_from c.args.trace me h args)
     (λ load e. e ∙ its ∙ ap (λ t. load_from t me h args) (sym c.in-Deep.is)) c.rowed.ensures
 
 pub returns-in-Roots : goal.returns-in-Roots
@@ -22,5 +23,5 @@ returns-in-Roots c = λ args is.
     let me = s.heap.owner in
     let h = with_made c.args.made.now (as_cell s).holdings in
     let its = bare_is me h args c.args.things.now (is ∙ ap (λ t. things_from t me h args) c.in-Roots.is) in
-    IfOk-weaker c.without_rows.result _ (λ load. load ≡ load_from c.args.trace me h args)
+    IfOk-weaker c.without_rows.result _ (λ load. as_load load ≡ load_from c.args.trace me h args)
     (λ load e. e ∙ its ∙ ap (λ t. load_from t me h args) (sym c.in-Roots.is)) c.without_rows.ensures

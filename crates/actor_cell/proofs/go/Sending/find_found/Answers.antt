@@ -1,5 +1,5 @@
 use Rattle.std.proofs.Common.{rules, None, Some, sym, ◌∙◌, refl}
-use Rattle.letter_kinds.specs.declared.letter.Letter.TheVariants.{App}
+use Rattle.letter_kinds.specs.Letters.{App}
 use Rattle.actor_cell.specs.Moves.{Post}
 use Rattle.actor_cell.proofs.Posting.{done_first}
 use Rattle.actor_cell.proofs.go.Sending.find_found.Goals as goal

@@ -1,4 +1,5 @@
 use Rattle.std.proofs.Common.{rules, Some, map, sym, ap, ◌∙◌, refl}
+use Rattle.row_store.specs.Told.{as_load}
 use Rattle.letter_kinds.specs.Counting.{Loaded}
 use Rattle.actor_cell.proofs.Posting.{done_first, loaded_deeply, sent_deeply}
 use Rattle.actor_cell.proofs.go.Sending.find_many.Goals as goal
@@ -10,7 +11,7 @@ returns-then-not-lacks_any-clause-done c = λ _.
     let loads = loaded_deeply s args c.requires c.in_ok-load.field-0 c.in-Some.load c.in-Some.is c.in_ok-load.ensures in
     let any = sym c.if-not-lacks_any.true ∙ c.lacks_any.ensures s.cell.now.count s.cell.now.heap in
     record {
-      act = sent_deeply s args c.requires c.owner-me.result c.owner-me.ensures c.in-Some.load c.new.result loads c.new.ensures any;
+      act = sent_deeply s args c.requires c.owner-me.result c.owner-me.ensures (as_load c.in-Some.load) (as_load c.new.result) loads (ap as_load c.new.ensures) any;
       awaited = search rules;
       place = refl;
     }

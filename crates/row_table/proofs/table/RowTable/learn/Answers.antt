@@ -1,4 +1,5 @@
-use Rattle.std.proofs.Common.{ap, ◌∙◌, arith}
+use Rattle.std.proofs.Common.{sym, ap, ◌∙◌, arith}
+use Rattle.row_store.specs.Told.{told_row}
 use Rattle.foreign_table.specs.Table.{Table}
 use Rattle.row_table.specs.Table.{KnownRows, learnt, rows_in}
 use Rattle.row_table.proofs.Mapped.{again, not_counted, rows_are, told}
@@ -13,15 +14,15 @@ pub invariant_of-self : goal.invariant_of-self
 invariant_of-self c =
     let before = c.self.inside.held in
     let start : KnownRows = record { spare = before.spare; rows = rows_in before.entries } in
-    let is = c.gain.ensures ∙ told before.entries c.self.invariant c.args.thing c.args.row.now before.spare c.if-is_some.ensures in
-    again c.gain.new.self.entries (learnt c.args.thing c.args.row.now start).rows (ap (λ (t : Table). t.entries) is)
+    let is = c.gain.ensures ∙ told before.entries c.self.invariant c.args.thing (told_row c.args.told.now) before.spare (sym c.if-is_told.true ∙ c.is_told.ensures) in
+    again c.gain.new.self.entries (learnt c.args.thing (told_row c.args.told.now) start).rows (ap (λ (t : Table). t.entries) is)
 
-pub returns-then-is_some : goal.returns-then-is_some
-returns-then-is_some c =
+pub returns-then-is_told : goal.returns-then-is_told
+returns-then-is_told c =
     let before = c.self.inside.held in
     let start : KnownRows = record { spare = before.spare; rows = rows_in before.entries } in
-    let is = c.gain.ensures ∙ told before.entries c.self.invariant c.args.thing c.args.row.now before.spare c.if-is_some.ensures in
+    let is = c.gain.ensures ∙ told before.entries c.self.invariant c.args.thing (told_row c.args.told.now) before.spare (sym c.if-is_told.true ∙ c.is_told.ensures) in
     (λ i. record {
       spare = ap (λ (t : Table). t.spare) is i;
-      rows = rows_are c.gain.new.self.entries (learnt c.args.thing c.args.row.now start).rows (ap (λ (t : Table). t.entries) is) i;
-    }) ∙ ap (learnt c.args.thing c.args.row.now) c.self.view_is
+      rows = rows_are c.gain.new.self.entries (learnt c.args.thing (told_row c.args.told.now) start).rows (ap (λ (t : Table). t.entries) is) i;
+    }) ∙ ap (learnt c.args.thing (told_row c.args.told.now)) c.self.view_is

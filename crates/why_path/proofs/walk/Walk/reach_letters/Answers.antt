@@ -1,6 +1,7 @@
 use Rattle.std.proofs.Common.{◌≡◌, ◌≤◌, ◌+◌, ◌++◌, map, take, length, sym, ap, ◌∙◌, arith}
 use Rattle.std.proofs.lemmas.List.{take_all}
 use Rattle.orca_names.specs.declared.reason.Edge.TheVariants as edges
+use Rattle.letter_kinds.specs.Letters.{as_letter}
 use Rattle.why_path.specs.Edges.{args_of, leads_from, leads_of_letters}
 use Rattle.why_path.specs.Walk.{reached}
 use Rattle.why_path.proofs.Walking.{letters_more, map_more, map_nil}
@@ -18,7 +19,7 @@ loop-k-preserved c =
     let step = c.args.step.now in
     let ls = c.args.mail.now.letters in
     let k = c.loop-k.k in
-    let l = c.at.result.now in
+    let l = as_letter c.at.result.now in
     let args = c.args_of.result.now in
     let place : 0 + k ≡ k = omega arith in
     let whole = letters_more 0 ls k l c.at.ensures
