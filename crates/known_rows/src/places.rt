@@ -8,6 +8,7 @@ ghost use Rattle.known_rows.specs.Known.{row_known};
 ghost use Rattle.known_rows.specs.Places.{HoldsOthersOnly, held_below, own_things, place_in, placed_things};
 ghost use Rattle.orca_names.specs.declared.names.ObjName.{ObjName as object_name};
 ghost use Rattle.std.specs.Option.{option_copied};
+ghost use Rattle.reach_walk.specs.Dense.{StandTogether};
 ghost use Rattle.reach_walk.specs.Reach.{thing_row};
 ghost use Rattle.orca_names.specs.Names.{owner_of};
 ghost use Rattle.orca_names.specs.declared.names.Thing.{Thing as thing};
@@ -17,7 +18,7 @@ use crate::known::KnownRows;
 use foreign_table::ForeignTable;
 use object_heap::ObjectHeap;
 use orca_names::{ObjName, Row, RowReader, Rows, Thing, Value};
-use reach_walk::{PlacedRows, Places};
+use reach_walk::{Dense, PlacedRows, Places};
 
 /// The rows that an actor has in both of its tables, with places: first what it holds of actors
 /// with lower numbers, then the actor itself, its own objects, and what it holds of actors with
@@ -210,6 +211,24 @@ impl PlacedRows for KnownPlaces<'_> {
             self.entry_there(at)
         } else {
             (Thing::Actor(self.rows.heap.owner()), None)
+        }
+    }
+
+    fn dense(&self) -> Dense<'_>
+        ensures together { let heap = self.now.rows.heap.now in let foreign = self.now.rows.foreign.now in
+            StandTogether (place_in heap foreign) (row_known heap foreign) result }
+        ensures owner { result.owner ≡ self.now.rows.heap.now.owner }
+        ensures end { let heap = self.now.rows.heap.now in
+            let below = held_below heap self.now.rows.foreign.now in
+            result.base + length result.items.now ≡ length (below ++ actor heap.owner ∷ own_things heap) }
+    {
+        let heap = self.rows.heap;
+        Dense {
+            base: self.first + 1,
+            first: heap.first_serial(),
+            whole: heap.is_whole(),
+            owner: heap.owner(),
+            items: heap.objects(),
         }
     }
 

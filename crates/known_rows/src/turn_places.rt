@@ -10,7 +10,7 @@ use crate::places::KnownPlaces;
 use crate::turn_rows::TurnRows;
 use object_heap::ObjectHeap;
 use orca_names::{Args, ObjName, Row, RowReader, Rows, Serial, Thing, Value};
-use reach_walk::{PlacedRows, Places};
+use reach_walk::{Dense, PlacedRows, Places};
 
 // Among so few things places are not worth while.
 const FEW: usize = 8;
@@ -196,6 +196,10 @@ impl PlacedRows for TurnPlaces<'_> {
             return (self.made_thing(i), Some(&self.made[i]));
         }
         self.known.entry_at(at - self.made.len())
+    }
+
+    fn dense(&self) -> Dense<'_> {
+        self.known.dense()
     }
 
     ghost only_placed = { λ s n none.

@@ -16,8 +16,7 @@ use Rattle.letter_kinds.specs.Holdings.{OwnRows, Row, row_count, add_rows}
 use Rattle.orca_names.specs.declared.names.ObjName.{ObjName}
 use Rattle.plain_list.specs.Rising.{IsAt, IsGap}
 use Rattle.plain_list.proofs.Rising.{key_at_place, get_at, get_gap, item_len, item_entry, place_itself, item_get, item_key, item_set, item_insert, item_remove, item_filter}
-use Rattle.object_heap.specs.declared.search.Own.{Own}
-use Rattle.object_heap.specs.Entry.{pair_of}
+use Rattle.object_heap.specs.Entry.{Own, pair_of}
 use Rattle.object_heap.specs.Free.{stays}
 use Rattle.object_heap.specs.Heap.{Heap, AreOwn, rows_in, own_row}
 

@@ -1,7 +1,62 @@
--- Own objects as entries of a map from serials.
-use Rattle.std.specs.Prelude.{ℕ, List}
-use Rattle.orca_names.specs.declared.names.Value.{Value}
-use Rattle.object_heap.specs.declared.search.Own.{Own}
+-- Own objects: how they are kept, and as entries of a map from serials.
+use Rattle.std.specs.Prelude.{ℕ, ◌≡◌, ◌+◌, List, [], ◌∷◌, Some, T, map, slice_get, slice_index_or, unwrap_or}
+use Rattle.std.specs.Ordering.{nat_cmp}
+use Rattle.std.specs.FinMap.Entries.{is_sorted}
+use Rattle.plain_list.specs.Rising.{IsGap}
+use Rattle.orca_names.specs.declared.names.Thing.{Thing}
+use Rattle.orca_names.specs.declared.names.Thing.TheVariants.{Obj}
+use Rattle.letter_kinds.specs.Holdings.{Row}
+use Rattle.row_store.specs.Told.{told_row}
+use Rattle.row_store.specs.declared.told.Told.{Told}
+use Rattle.row_store.specs.declared.told.Told.TheVariants.{Here}
+use Rattle.object_heap.specs.declared.search.Key.{Key}
 
-abbrev pub pair_of : Own → ℕ × (List Value × ℕ)
+-- an own object
+pub record Own : Type 0 where
+  pub serial : ℕ
+  pub count : ℕ
+  pub row : Row
+
+abbrev pub pair_of : Own → ℕ × (Row × ℕ)
 pair_of e = (e.serial, (e.row, e.count))
+
+abbrev pub key_pair : Key → ℕ × ℕ
+key_pair k = (k.serial, k.count)
+
+abbrev pub serial_in : Key → ℕ
+serial_in k = k.serial
+
+-- keys rise, and one of them has the serial
+abbrev pub HasKey : List Key → ℕ → Type 0
+HasKey keys serial =
+    T (is_sorted nat_cmp (map key_pair keys))
+    × ((i : ℕ) → IsGap nat_cmp (map key_pair keys) serial i → ⊥)
+
+-- what is kept of it: its key, and the thing with its row as a load has it
+abbrev pub key_of : Own → Key
+key_of e = record { serial = e.serial; count = e.count }
+
+abbrev pub Item : Type 0
+Item = Thing × Told
+
+abbrev pub object_of : ℕ → Own → Item
+object_of owner e = (Obj (record { owner = owner; serial = e.serial }), Here e.row)
+
+-- these are kept so, each at its place
+abbrev pub AreKept : ℕ → List Key → List Item → List Own → Type 0
+AreKept owner keys objects own = (keys ≡ map key_of own) × (objects ≡ map (object_of owner) own)
+
+-- what is kept so
+abbrev pub joined : List Key → List Item → List Own
+joined [] objects = []
+joined (k ∷ keys) [] = []
+joined (k ∷ keys) (e ∷ objects) =
+    record { serial = k.serial; count = k.count; row = unwrap_or (told_row e.1) [] } ∷ joined keys objects
+
+-- the first serial; 0 where there is none
+abbrev pub first_of : List ℕ → ℕ
+first_of serials = slice_index_or serials 0 0
+
+-- none is missing from the first one on
+abbrev pub FollowOn : List ℕ → Type 0
+FollowOn serials = (i k : ℕ) → slice_get serials i ≡ Some k → k ≡ first_of serials + i

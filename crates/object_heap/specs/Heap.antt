@@ -6,10 +6,12 @@ use Rattle.std.specs.FinMap.Entries.{is_sorted}
 use Rattle.std.specs.Coded.{Coded, code_by, coded×, coded_ℕ}
 use Rattle.orca_names.specs.Codes.{coded_row}
 use Rattle.orca_names.specs.declared.names.ObjName.{ObjName}
+use Rattle.orca_names.specs.declared.names.Thing.TheVariants.{Obj}
 use Rattle.letter_kinds.specs.Counting.{with_row_count}
 use Rattle.letter_kinds.specs.Holdings.{OwnRows, Row, add_rows}
-use Rattle.object_heap.specs.declared.search.Own.{Own}
-use Rattle.object_heap.specs.Entry.{pair_of}
+use Rattle.row_store.specs.declared.told.Told.TheVariants.{Here}
+use Rattle.object_heap.specs.declared.search.Key.{Key}
+use Rattle.object_heap.specs.Entry.{AreKept, Item, Own, joined, pair_of}
 
 -- whose it is, the serial of the next object, the room for new ones, and the objects
 pub record Heap : Type 0 where
@@ -36,6 +38,20 @@ rows_in own = m.from_sorted (map pair_of own)
 pub record AreOwn (next : ℕ) (own : List Own) : Type 0 where
   pub sorted : T (is_sorted nat_cmp (map pair_of own))
   pub below : (k : ℕ) → next ≤ k → m.get (rows_in own) k ≡ None
+
+-- the objects as they are kept
+pub record AreStored (owner next : ℕ) (keys : List Key) (objects : List Item) : Type 0 where
+  pub own : AreOwn next (joined keys objects)
+  pub kept : AreKept owner keys objects (joined keys objects)
+
+-- the smaller one
+abbrev pub lesser : ℕ → ℕ → ℕ
+lesser a b = a - (a - b)
+
+-- the objects with their rows, as a load has them
+abbrev pub own_objects : Heap → List Item
+own_objects h =
+    map (λ e. (Obj (record { owner = h.owner; serial = e.0 }), Here e.1.0)) (m.entries h.rows)
 
 -- an object of this actor that is there
 pub record Has (h : Heap) (n : ObjName) : Type 0 where

@@ -1,14 +1,14 @@
 // Many objects freed in one pass.
 
-ghost use Rattle.std.specs.Prelude.{◌≡◌, ◌==◌, true, false, ◌+◌, ◌-◌, ◌<◌, ◌≤◌, List, length, slice_index_or, vec_len, vec_capacity, IsTrue};
+ghost use Rattle.std.specs.Prelude.{◌≡◌, ◌==◌, true, false, ◌+◌, ◌-◌, ◌<◌, ◌≤◌, ℕ, List, length, slice_index_or, vec_len, vec_capacity, IsTrue};
 ghost use Rattle.std.specs.List.{filter, list_any};
-ghost use Rattle.std.proofs.lemmas.List.Filters.{FiltersInPlace};
 ghost use Rattle.orca_names.specs.declared.names.ObjName.{ObjName as object_name};
-ghost use Rattle.object_heap.specs.declared.search.Own.{Own as own};
-ghost use Rattle.object_heap.specs.Free.{SerialsRise, is_kept, stays};
+ghost use Rattle.object_heap.specs.Entry.{AreKept, Own};
+ghost use Rattle.object_heap.specs.Free.{FiltersKept, SerialsRise, is_kept, stays};
 
-use crate::search::Own;
-use orca_names::ObjName;
+use crate::search::Key;
+use orca_names::{ObjName, Thing};
+use row_store::Told;
 
 // Whether the one at this place has the serial.
 fn is_at(gone: &[ObjName], place: usize, serial: u64) -> bool
@@ -80,38 +80,53 @@ fn is_kept(gone: &[ObjName], near: usize, serial: u64) -> bool
 }
 
 // The object at place i goes to place kept, if it stays. Before it went i - kept others.
-fn keep_one(entries: &mut Vec<Own>, gone: &[ObjName], kept: usize, i: usize) -> usize
+fn keep_one(
+    keys: &mut Vec<Key>,
+    objects: &mut Vec<(Thing, Told)>,
+    gone: &[ObjName],
+    kept: usize,
+    i: usize,
+) -> usize
     requires rising { SerialsRise gone.now }
-    requires within { i < vec_len entries.old }
+    requires within { (i < vec_len keys.old) × (i < vec_len objects.old) }
     requires behind { kept ≤ i }
-    ensures filters { (es : List own) → FiltersInPlace (is_kept gone.now) es entries.old.items kept i
-        → FiltersInPlace (is_kept gone.now) es entries.new.items result (i + 1) }
+    ensures filters { (owner : ℕ) (all : List Own)
+        → FiltersKept owner gone.now all keys.old.items objects.old.items kept i
+        → FiltersKept owner gone.now all keys.new.items objects.new.items result (i + 1) }
     ensures behind { result ≤ i + 1 }
-    ensures len { vec_len entries.new ≡ vec_len entries.old }
-    ensures capacity { vec_capacity entries.new ≡ vec_capacity entries.old }
+    ensures len { (vec_len keys.new ≡ vec_len keys.old) × (vec_len objects.new ≡ vec_len objects.old) }
+    ensures capacity { (vec_capacity keys.new ≡ vec_capacity keys.old)
+        × (vec_capacity objects.new ≡ vec_capacity objects.old) }
 {
-    if !is_kept(gone, i - kept, entries[i].serial) {
+    if !is_kept(gone, i - kept, keys[i].serial) {
         return kept;
     }
     if kept == i {
         return kept + 1;
     }
-    let own = entries[i];
-    entries[kept] = own;
+    let key = keys[i];
+    keys[kept] = key;
+    let object = objects[i];
+    objects[kept] = object;
     kept + 1
 }
 
 /// Only the objects whose serials stay.
-pub(crate) fn keep_others(entries: &mut Vec<Own>, gone: &[ObjName])
-    requires { SerialsRise gone.now }
-    ensures items { entries.new.items ≡ filter (is_kept gone.now) entries.old.items }
-    ensures shorter { vec_len entries.new ≤ vec_len entries.old }
-    ensures capacity { vec_capacity entries.new ≡ vec_capacity entries.old }
+pub(crate) fn keep_others(keys: &mut Vec<Key>, objects: &mut Vec<(Thing, Told)>, gone: &[ObjName])
+    requires rising { SerialsRise gone.now }
+    requires alike { vec_len keys.old ≡ vec_len objects.old }
+    ensures kept { (owner : ℕ) (own : List Own) → AreKept owner keys.old.items objects.old.items own
+        → AreKept owner keys.new.items objects.new.items (filter (is_kept gone.now) own) }
+    ensures shorter { (vec_len keys.new ≤ vec_len keys.old)
+        × (vec_len keys.new ≡ vec_len objects.new) }
+    ensures capacity { (vec_capacity keys.new ≡ vec_capacity keys.old)
+        × (vec_capacity objects.new ≡ vec_capacity objects.old) }
 {
     let mut kept = 0;
-    let count = entries.len();
+    let count = keys.len();
     for i in 0..count {
-        kept = keep_one(entries, gone, kept, i);
+        kept = keep_one(keys, objects, gone, kept, i);
     }
-    entries.truncate(kept);
+    keys.truncate(kept);
+    objects.truncate(kept);
 }

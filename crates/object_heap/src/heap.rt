@@ -2,19 +2,19 @@
 
 ghost use Rattle.std.specs.Prelude.{◌≡◌, ◌↔◌, ◌+◌, ◌-◌, ◌^◌, ◌<◌, ◌≤◌, Some, [], ◌∷◌, length, map, slice_get, IfOk, IfSome, IsOk, IsSome, IsTrue, OnOk, option_map};
 ghost use Rattle.std.specs.Option.{option_copied};
-ghost use Rattle.std.specs.Ordering.{nat_cmp};
 ghost use Rattle.std.specs.FinMap as m;
-ghost use Rattle.plain_list.specs.Rising.{IsAt};
 ghost use Rattle.letter_kinds.specs.Holdings.{row_count};
-ghost use Rattle.object_heap.specs.Entry.{pair_of};
+ghost use Rattle.object_heap.specs.Entry.{FollowOn, first_of};
 ghost use Rattle.object_heap.specs.Free.{SerialsRise, freed};
-ghost use Rattle.object_heap.specs.Heap.{AreOwn, Has, Heap, IsSame, counted, own_row, rows_in, with_new, without};
+ghost use Rattle.object_heap.specs.Heap.{Has, IsSame, counted, own_objects, own_row, with_new, without};
 ghost use Rattle.ref_weights.specs.Limit.{count_limit};
+ghost use Rattle.row_store.specs.Told.{told_row};
 
 use crate::free::keep_others;
-use crate::search::{Own, place_of};
-use orca_names::{ActorName, NoMemory, ObjName, Row, Serial};
+use crate::search::{Key, first_serial, follow_on, place_of, place_there};
+use orca_names::{ActorName, NoMemory, ObjName, Row, Serial, Thing};
 use ref_weights::OwnCount;
+use row_store::Told;
 use std::alloc::Global;
 use std::marker::Model;
 
@@ -24,12 +24,16 @@ use std::marker::Model;
 pub struct ObjectHeap {
     owner: ActorName,
     next: u64,
-    entries: Vec<Own>,
+    // Serials with counts, and the objects with their rows as a load has them: all in the order of
+    // serials.
+    keys: Vec<Key>,
+    objects: Vec<(Thing, Told)>,
 }
 
 impl Model for ObjectHeap {
     ghost use Rattle.std.specs.Prelude.{◌-◌, vec_len, vec_capacity};
-    ghost use Rattle.object_heap.specs.Heap.{Heap, AreOwn, coded_heap, rows_in};
+    ghost use Rattle.object_heap.specs.Entry.{joined};
+    ghost use Rattle.object_heap.specs.Heap.{Heap, AreStored, coded_heap, lesser, rows_in};
 
     ghost Value = { Heap };
 
@@ -38,29 +42,36 @@ impl Model for ObjectHeap {
     ghost view = { λ s. record {
       owner = s.owner;
       next = s.next;
-      spare = vec_capacity s.entries - vec_len s.entries;
-      rows = rows_in s.entries.items;
+      spare = lesser (vec_capacity s.keys - vec_len s.keys)
+          (vec_capacity s.objects - vec_len s.objects);
+      rows = rows_in (joined s.keys.items s.objects.items);
     } };
 
-    ghost invariant = { λ s. AreOwn s.next s.entries.items };
+    ghost invariant = { λ s. AreStored s.owner s.next s.keys.items s.objects.items };
 }
 
-// The place of an object that is there.
-fn place_there(next: u64, entries: &[Own], serial: Serial) -> usize
-    requires own { AreOwn next entries.now }
-    requires there { IsSome (m.get (rows_in entries.now) serial) }
-    ensures { IsAt nat_cmp (map pair_of entries.now) serial result }
+fn same_keys(keys: &[Key], others: &[Key]) -> bool
+    ensures { IsTrue result ↔ (keys.now ≡ others.now) }
 {
-    match place_of(entries, serial) {
-        Ok(i) => i,
-        Err(_) => unreachable!(),
+    keys == others
+}
+
+fn same_objects(objects: &[(Thing, Told)], others: &[(Thing, Told)]) -> bool
+    ensures { IsTrue result ↔ (objects.now ≡ others.now) }
+{
+    objects == others
+}
+
+// The row of an object, which is there.
+#[inline(always)]
+fn row_there(object: &(Thing, Told)) -> &Row
+    requires { IsSome (told_row object.now.1) }
+    ensures { told_row object.now.1 ≡ Some result.now }
+{
+    match &object.1 {
+        Told::Here(row) => row,
+        Told::Nothing => unreachable!(),
     }
-}
-
-fn same_objects(entries: &[Own], others: &[Own]) -> bool
-    ensures { IsTrue result ↔ (entries.now ≡ others.now) }
-{
-    entries == others
 }
 
 impl ObjectHeap {
@@ -71,7 +82,8 @@ impl ObjectHeap {
         ObjectHeap {
             owner,
             next: 0,
-            entries: Vec::new(alloc),
+            keys: Vec::new(alloc),
+            objects: Vec::new(alloc),
         }
     }
 
@@ -102,7 +114,8 @@ impl ObjectHeap {
         if n == 0 {
             return Ok(());
         }
-        self.entries.reserve(n)?;
+        self.keys.reserve(n)?;
+        self.objects.reserve(n)?;
         Ok(())
     }
 
@@ -113,15 +126,21 @@ impl ObjectHeap {
         ensures name { result ≡ record { owner = self.old.owner; serial = self.old.next } }
         ensures made { self.new ≡ with_new (row ∷ []) self.old }
     {
+        let owner = self.owner;
         let serial = self.next;
-        self.entries.push_reserved(Own {
+        self.keys.push_reserved(Key {
             serial,
             count: OwnCount::new(),
-            row,
         });
+        let name = ObjName {
+            owner,
+            serial: Serial::of(serial),
+        };
+        self.objects
+            .push_reserved((Thing::Obj(name), Told::Here(row)));
         self.next += 1;
         ObjName {
-            owner: self.owner,
+            owner,
             serial: Serial::of(serial),
         }
     }
@@ -133,8 +152,8 @@ impl ObjectHeap {
         if n.owner != self.owner {
             return None;
         }
-        match place_of(self.entries.as_slice(), n.serial) {
-            Ok(i) => Some(&self.entries[i].row),
+        match place_of(self.keys.as_slice(), n.serial) {
+            Ok(i) => Some(row_there(&self.objects[i])),
             Err(_) => None,
         }
     }
@@ -147,7 +166,7 @@ impl ObjectHeap {
         if n.owner != self.owner {
             return None;
         }
-        match place_of(self.entries.as_slice(), n.serial) {
+        match place_of(self.keys.as_slice(), n.serial) {
             Ok(i) => Some(i),
             Err(_) => None,
         }
@@ -166,28 +185,30 @@ impl ObjectHeap {
         ensures count { result ≡ row_count (m.get self.now.rows n.serial) }
         ensures bound { result < count_limit }
     {
-        let i = place_there(self.next, self.entries.as_slice(), n.serial);
-        self.entries[i].count.get()
+        let i = place_there(self.next, self.keys.as_slice(), n.serial);
+        self.keys[i].count.get()
     }
 
     /// The count of an object rises.
+    #[inline(always)]
     pub fn raise(&mut self, n: ObjName, by: u64)
         requires there { Has self.old n }
         requires fits { row_count (m.get self.old.rows n.serial) + by < count_limit }
         ensures { self.new ≡ counted (λ count. count + by) n self.old }
     {
-        let i = place_there(self.next, self.entries.as_slice(), n.serial);
-        self.entries[i].count.raise(by);
+        let i = place_there(self.next, self.keys.as_slice(), n.serial);
+        self.keys[i].count.raise(by);
     }
 
     /// The count of an object falls.
+    #[inline(always)]
     pub fn lower(&mut self, n: ObjName, by: u64)
         requires there { Has self.old n }
         requires enough { by ≤ row_count (m.get self.old.rows n.serial) }
         ensures { self.new ≡ counted (λ count. count - by) n self.old }
     {
-        let i = place_there(self.next, self.entries.as_slice(), n.serial);
-        self.entries[i].count.lower(by);
+        let i = place_there(self.next, self.keys.as_slice(), n.serial);
+        self.keys[i].count.lower(by);
     }
 
     /// Frees one object.
@@ -195,8 +216,9 @@ impl ObjectHeap {
         requires there { Has self.old n }
         ensures { self.new ≡ without n self.old }
     {
-        let i = place_there(self.next, self.entries.as_slice(), n.serial);
-        self.entries.remove(i);
+        let i = place_there(self.next, self.keys.as_slice(), n.serial);
+        self.keys.remove(i);
+        self.objects.remove(i);
     }
 
     /// Frees these objects, whose serials rise, in one pass.
@@ -204,7 +226,7 @@ impl ObjectHeap {
         requires { SerialsRise gone.now }
         ensures { self.new ≡ freed gone.now self.old }
     {
-        keep_others(&mut self.entries, gone);
+        keep_others(&mut self.keys, &mut self.objects, gone);
     }
 
     /// How many objects there are.
@@ -212,7 +234,29 @@ impl ObjectHeap {
         ensures count { result ≡ m.len self.now.rows }
         ensures bound { result < 2 ^ 63 }
     {
-        self.entries.len()
+        self.keys.len()
+    }
+
+    /// The objects with their rows, as a load has them, in the order of serials.
+    #[inline(always)]
+    pub fn objects(&self) -> &[(Thing, Told)]
+        ensures { result.now ≡ own_objects self.now }
+    {
+        self.objects.as_slice()
+    }
+
+    /// The serial of the first object; 0 where there is none.
+    pub fn first_serial(&self) -> u64
+        ensures { result ≡ first_of (m.keys self.now.rows) }
+    {
+        first_serial(self.keys.as_slice())
+    }
+
+    /// Whether each serial from the first object's to the last one's is an object's.
+    pub fn is_whole(&self) -> bool
+        ensures { IsTrue result ↔ FollowOn (m.keys self.now.rows) }
+    {
+        follow_on(self.keys.as_slice())
     }
 
     /// An object by its place in the order of serials: its name, its row and its count.
@@ -223,12 +267,12 @@ impl ObjectHeap {
             ≡ Some (result.0.serial, (result.1.now, result.2)) }
         ensures bound { result.2 < count_limit }
     {
-        let own = &self.entries[i];
+        let key = &self.keys[i];
         let name = ObjName {
             owner: self.owner,
-            serial: Serial::of(own.serial),
+            serial: Serial::of(key.serial),
         };
-        (name, &own.row, own.count.get())
+        (name, row_there(&self.objects[i]), key.count.get())
     }
 
     /// The same objects, of the same owner.
@@ -238,11 +282,13 @@ impl ObjectHeap {
     pub fn copy(&self, alloc: Global) -> Result<ObjectHeap, NoMemory>
         ensures { IfOk result (λ copied. copied ≡ record self.now { spare = copied.spare }) }
     {
-        let entries = self.entries.as_slice().to_vec(alloc)?;
+        let keys = self.keys.as_slice().to_vec(alloc)?;
+        let objects = self.objects.as_slice().to_vec(alloc)?;
         Ok(ObjectHeap {
             owner: self.owner,
             next: self.next,
-            entries,
+            keys,
+            objects,
         })
     }
 
@@ -256,6 +302,9 @@ impl ObjectHeap {
         if self.next != other.next {
             return false;
         }
-        same_objects(self.entries.as_slice(), other.entries.as_slice())
+        if !same_keys(self.keys.as_slice(), other.keys.as_slice()) {
+            return false;
+        }
+        same_objects(self.objects.as_slice(), other.objects.as_slice())
     }
 }

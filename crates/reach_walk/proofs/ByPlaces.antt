@@ -50,7 +50,7 @@ met_reached edges roots values each x c =
 
 module _ (place : Thing → Option ℕ) (in_order : (x y : Thing) (p q : ℕ) → place x ≡ Some p → place y ≡ Some q → thing_cmp x y ≡ nat_cmp p q) where
   -- a place has one thing
-  one_thing : (x y : Thing) (p : ℕ) → place x ≡ Some p → place y ≡ Some p → x ≡ y
+  pub one_thing : (x y : Thing) (p : ℕ) → place x ≡ Some p → place y ≡ Some p → x ≡ y
   one_thing x y p e f = thing_exact x y (in_order x y p p e f ∙ tied_itself nat_cmp_total p)
 
   -- the row at the place of an object

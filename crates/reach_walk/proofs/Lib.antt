@@ -18,4 +18,5 @@ pub mod Placed
 pub mod Seeing
 pub mod Sets
 pub mod Strictly
+pub mod Together
 pub mod Walking

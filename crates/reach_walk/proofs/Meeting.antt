@@ -19,7 +19,7 @@ use Rattle.orca_names.proofs.ThingOrder.{thing_exact}
 use Rattle.orca_names.specs.declared.names.Value.{Value}
 use Rattle.reach_walk.specs.Reach.{named_by}
 use Rattle.reach_walk.specs.Met.{Grows, HasMet, Tells, met_by}
-use Rattle.reach_walk.specs.Walk.{AreTold}
+use Rattle.reach_walk.specs.Walk.{AreTold, Notes}
 use Rattle.reach_walk.specs.declared.met.Met.{Met}
 use Rattle.reach_walk.proofs.Elements.{Contains-head, Contains-later, Contains-cons_cases, none_in_nil}
 use Rattle.reach_walk.proofs.Named.{named_by-push}
@@ -188,6 +188,18 @@ module _ (place : Thing → Option ℕ) (count : ℕ) where
     told = told;
     owner = λ a e. Contains-append_left things (x ∷ []) (Actor a) (tells.owner a (sym owner ∙ e));
   }
+
+  -- an object that was not met before, whose owner was
+  pub met_owned : (in_order : (x y : Thing) (p q : ℕ) → place x ≡ Some p → place y ≡ Some q → thing_cmp x y ≡ nat_cmp p q)
+      (old new : Met) (things : List Thing) (n : ObjName) (at : ℕ) → HasMet place count old things → place (Obj n) ≡ Some at → new.queue.items ≡ old.queue.items ++ at ∷ [] → new.owner ≡ old.owner → Notes place count new.noted things (Obj n) true → Contains things (Actor n.owner)
+      → HasMet place count new (things ++ Obj n ∷ Actor n.owner ∷ [])
+  met_owned in_order old new things n at met here queue owner notes owned =
+      let noted = tells_before old new things (Obj n) met.tells owner notes.0 in
+      let more = things ++ Obj n ∷ [] in
+      met_new in_order old new things n (Some at) met (sym here) queue notes.1 (record {
+        told = tells_more place count new.noted more (Actor n.owner) false (noted.told, Contains-append_left things (Obj n ∷ []) (Actor n.owner) owned);
+        owner = λ a e. Contains-append_left more (Actor n.owner ∷ []) (Actor a) (noted.owner a e);
+      })
 
   -- an owner that is told twice
   pub met_twice : (m : Met) (things : List Thing) (a : ℕ) → HasMet place count m (things ++ Actor a ∷ []) → HasMet place count m (things ++ Actor a ∷ Actor a ∷ [])

@@ -1,3 +1,4 @@
+pub mod Dense
 pub mod Flat
 pub mod MarkLaws
 pub mod Marks

@@ -1,19 +1,26 @@
 // The walk by places: marks and loads of what lies in tables.
 
-ghost use Rattle.std.specs.Prelude.{◌≡◌, ◌↔◌, ◌+◌, ◌*◌, ◌≤◌, ◌<◌, ◌++◌, ◌∷◌, [], ℕ, IfOk, IfSome, List, OnOk, Some, false, length, slice_index_or, true, vec_capacity, vec_len};
+ghost use Rattle.std.specs.Prelude.{◌≡◌, ◌↔◌, ◌+◌, ◌*◌, ◌≤◌, ◌<◌, ◌++◌, ◌∷◌, [], ℕ, Contains, IfOk, IfSome, List, OnOk, Some, false, length, slice_index_or, true, vec_capacity, vec_len};
 ghost use Rattle.std.specs.Option.{IsNone};
 ghost use Rattle.orca_names.specs.declared.names.Thing.{Thing as any_thing};
 ghost use Rattle.orca_names.specs.declared.names.Thing.TheVariants.{Obj as object};
 ghost use Rattle.orca_names.specs.declared.names.ObjName.{ObjName as object_name};
+ghost use Rattle.ready_set.specs.Next.{AreOn};
+ghost use Rattle.reach_walk.specs.Dense.{PushesFrom, StandTogether};
+ghost use Rattle.row_store.specs.Told.{as_load};
+ghost use Rattle.row_store.specs.declared.told.Told.TheVariants.{Here as here};
 ghost use Rattle.reach_walk.specs.Reach.{row_edges, thing_row};
 ghost use Rattle.reach_walk.specs.Marks.{TellMarks, load_of as its_load, marks_of};
 ghost use Rattle.reach_walk.specs.Met.{Grows, HasMet, HasReached, HasUnplaced, ListsRows, met_by};
 
+use crate::dense::Dense;
 use crate::met::Met;
+use crate::near::meet_row;
 use crate::places::PlacedRows;
 use orca_names::{Args, NoMemory, Row, Thing, Value};
 use plain_list::Listed;
 use ready_set::PlaceSet;
+use row_store::Told;
 use std::alloc::Global;
 use std::marker::Brand;
 use std::sync::ledger::{Blank, Ledger};
@@ -22,9 +29,10 @@ use step_count::Steps;
 // The owners of a load's things are few.
 const GUESSED_OWNERS: usize = 8;
 
-// The thing at a place is taken from the queue, which is a step: what its row names is met.
-#[inline(always)]
-fn take<R: PlacedRows, L: Ledger>(
+// The thing at a place is taken from the queue, which is a step: what its row names is met. Out of line,
+// so that the walk from objects that stand together stays short.
+#[inline(never)]
+fn take_far<R: PlacedRows, L: Ledger>(
     rows: &R,
     met: &mut Met,
     at: usize,
@@ -33,7 +41,8 @@ fn take<R: PlacedRows, L: Ledger>(
     requires room { R.count rows.now ≤ length met.old.noted.bits }
     ensures met { let place = R.place rows.now in let count = R.count rows.now in
         (things : List any_thing) (n : object_name)
-        → HasMet place count met.old things → place (object n) ≡ Some at
+        → HasMet place count met.old things → Contains things (object n)
+        → place (object n) ≡ Some at
         → OnOk result (HasMet place count met.new
         (things ++ met_by (row_edges (R.rows rows.now) (object n)))) }
     ensures queue { OnOk result (Grows met.old.queue.items met.new.queue.items) }
@@ -47,6 +56,38 @@ fn take<R: PlacedRows, L: Ledger>(
     match row {
         Some(row) => met.meet_all(row.as_slice(), rows, steps),
         None => Ok(()),
+    }
+}
+
+// The same, where the objects that stand together are known.
+#[inline(always)]
+fn take<R: PlacedRows, L: Ledger>(
+    rows: &R,
+    dense: &Dense<'_>,
+    met: &mut Met,
+    at: usize,
+    steps: &mut Steps<L>,
+) -> Result<(), NoMemory>
+    requires together { StandTogether (R.place rows.now) (R.rows rows.now) dense.now }
+    requires room { R.count rows.now ≤ length met.old.noted.bits }
+    ensures met { let place = R.place rows.now in let count = R.count rows.now in
+        (things : List any_thing) (n : object_name)
+        → HasMet place count met.old things → Contains things (object n)
+        → place (object n) ≡ Some at
+        → OnOk result (HasMet place count met.new
+        (things ++ met_by (row_edges (R.rows rows.now) (object n)))) }
+    ensures queue { OnOk result (Grows met.old.queue.items met.new.queue.items) }
+    ensures same { length met.new.noted.bits ≡ length met.old.noted.bits }
+    ensures steps { (n : object_name) → R.place rows.now (object n) ≡ Some at →
+        let row = row_edges (R.rows rows.now) (object n) in
+        OnOk result ((steps.new ≡ steps.old + 1 + length row) × (length row ≤ 8)) }
+{
+    match dense.row_at(at) {
+        Some(row) => {
+            steps.tick();
+            meet_row(rows, dense, met, row.as_slice(), steps)
+        }
+        None => take_far(rows, met, at, steps),
     }
 }
 
@@ -64,10 +105,11 @@ fn walk_places<R: PlacedRows, L: Ledger>(
 {
     let mut met = Met::new(alloc, rows)?;
     met.meet_all(roots, rows, steps)?;
+    let dense = rows.dense();
     let mut i = 0;
     while i < met.queue.len() {
         let at = met.queue[i];
-        take(rows, &mut met, at, steps)?;
+        take(rows, &dense, &mut met, at, steps)?;
         i += 1;
     }
     Ok(met)
@@ -136,13 +178,13 @@ pub fn mark_bits<R: PlacedRows>(
 // Appends a thing with its row. The row is copied once, into its place: as a part of what is appended
 // it would be copied twice.
 #[inline(always)]
-fn push_with_row(load: &mut Vec<(Thing, Option<Row>)>, thing: Thing, row: &Row)
+fn push_with_row(load: &mut Vec<(Thing, Told)>, thing: Thing, row: &Row)
     requires { vec_len load.old < vec_capacity load.old }
-    ensures { load.new.items ≡ load.old.items ++ (thing, Some row.now) ∷ [] }
+    ensures { load.new.items ≡ load.old.items ++ (thing, here row.now) ∷ [] }
 {
     let at = load.len();
-    load.push_reserved((thing, Some(Row::from_args(Args::nulls(1)))));
-    if let Some(place) = &mut load[at].1 {
+    load.push_reserved((thing, Told::Here(Row::from_args(Args::nulls(1)))));
+    if let Told::Here(place) = &mut load[at].1 {
         place.copy_from(row);
     }
 }
@@ -152,19 +194,48 @@ fn push_with_row(load: &mut Vec<(Thing, Option<Row>)>, thing: Thing, row: &Row)
 fn push_entry<R: PlacedRows>(
     rows: &R,
     at: usize,
-    load: &mut Vec<(Thing, Option<Row>)>,
+    load: &mut Vec<(Thing, Told)>,
 ) -> Result<(), NoMemory>
     requires { at < R.count rows.now }
     ensures { OnOk result ((x : any_thing) × (R.place rows.now x ≡ Some at)
-        × (load.new.items ≡ load.old.items ++ (x, thing_row (R.rows rows.now) x) ∷ [])) }
+        × (as_load load.new.items
+        ≡ as_load load.old.items ++ (x, thing_row (R.rows rows.now) x) ∷ [])) }
 {
     load.reserve(1)?;
     let (thing, row) = rows.entry_at(at);
     match row {
         Some(row) => push_with_row(load, thing, row),
-        None => load.push_reserved((thing, None)),
+        None => load.push_reserved((thing, Told::Nothing)),
     }
     Ok(())
+}
+
+// Appends the thing at a place that is on, or some that stand together there, with their rows; how
+// many.
+#[inline(always)]
+fn push_run<R: PlacedRows>(
+    rows: &R,
+    dense: &Dense<'_>,
+    bits: &PlaceSet,
+    at: usize,
+    load: &mut Vec<(Thing, Told)>,
+) -> Result<usize, NoMemory>
+    requires together { StandTogether (R.place rows.now) (R.rows rows.now) dense.now }
+    requires within { at < R.count rows.now }
+    requires on { slice_index_or bits.now at false ≡ true }
+    ensures some { IfOk result (λ count. 0 < count) }
+    ensures on { IfOk result (λ count. AreOn bits.now at (at + count)) }
+    ensures pushed { IfOk result (λ count.
+        PushesFrom (R.place rows.now) (R.rows rows.now) at count (as_load load.old.items)
+        (as_load load.new.items)) }
+{
+    let run = dense.run_at(bits, at);
+    if run.is_empty() {
+        push_entry(rows, at, load)?;
+        return Ok(1);
+    }
+    load.extend_from_slice(run)?;
+    Ok(run.len())
 }
 
 // The things whose places are on, each with its row.
@@ -173,19 +244,19 @@ fn listed<R: PlacedRows>(
     rows: &R,
     bits: &PlaceSet,
     guess: usize,
-) -> Result<Vec<(Thing, Option<Row>)>, NoMemory>
+) -> Result<Vec<(Thing, Told)>, NoMemory>
     requires within { (p : ℕ) → slice_index_or bits.now p false ≡ true → p < R.count rows.now }
     ensures { IfOk result (λ load.
-        ListsRows (R.place rows.now) (R.rows rows.now) bits.now load.items) }
+        ListsRows (R.place rows.now) (R.rows rows.now) bits.now (as_load load.items)) }
 {
     let mut load = Vec::with_capacity(alloc, guess)?;
+    let dense = rows.dense();
     let count = rows.places();
     let mut from = 0;
     while from < count {
         match bits.next(from) {
             Some(at) => {
-                push_entry(rows, at, &mut load)?;
-                from = at + 1;
+                from = at + push_run(rows, &dense, bits, at, &mut load)?;
             }
             None => return Ok(load),
         }
@@ -205,9 +276,9 @@ pub fn load_by_place_within<R: PlacedRows, L: Ledger>(
     args: &Args,
     rows: &R,
     steps: &mut Steps<L>,
-) -> Result<Option<Listed<(Thing, Option<Row>)>>, NoMemory>
+) -> Result<Option<Listed<(Thing, Told)>>, NoMemory>
     ensures load { IfOk result (λ found. IfSome found (λ load.
-        load ≡ its_load (R.rows rows.now) (R.all rows.now) args.now)) }
+        as_load load ≡ its_load (R.rows rows.now) (R.all rows.now) args.now)) }
     ensures none { let marks = marks_of (R.rows rows.now) (R.all rows.now) args.now in
         IfOk result (λ found. IsNone found ↔ HasUnplaced (R.place rows.now) marks) }
     ensures steps { let load = its_load (R.rows rows.now) (R.all rows.now) args.now in
@@ -229,12 +300,12 @@ fn load_counted<R: PlacedRows, L: Ledger>(
     args: &Args,
     rows: &R,
     blank: Blank,
-) -> Result<Option<Listed<(Thing, Option<Row>)>>, NoMemory>
+) -> Result<Option<Listed<(Thing, Told)>>, NoMemory>
     requires name { blank.name ≡ L.name }
     requires parts { blank.parts ≡ L.parts }
     requires some { 0 < blank.parts }
     ensures load { IfOk result (λ found. IfSome found (λ load.
-        load ≡ its_load (R.rows rows.now) (R.all rows.now) args.now)) }
+        as_load load ≡ its_load (R.rows rows.now) (R.all rows.now) args.now)) }
     ensures none { let marks = marks_of (R.rows rows.now) (R.all rows.now) args.now in
         IfOk result (λ found. IsNone found ↔ HasUnplaced (R.place rows.now) marks) }
 {
@@ -253,9 +324,9 @@ pub fn load_by_place<R: PlacedRows>(
     alloc: Global,
     args: &Args,
     rows: &R,
-) -> Result<Option<Listed<(Thing, Option<Row>)>>, NoMemory>
+) -> Result<Option<Listed<(Thing, Told)>>, NoMemory>
     ensures load { IfOk result (λ found. IfSome found (λ load.
-        load ≡ its_load (R.rows rows.now) (R.all rows.now) args.now)) }
+        as_load load ≡ its_load (R.rows rows.now) (R.all rows.now) args.now)) }
     ensures none { let marks = marks_of (R.rows rows.now) (R.all rows.now) args.now in
         IfOk result (λ found. IsNone found ↔ HasUnplaced (R.place rows.now) marks) }
 {

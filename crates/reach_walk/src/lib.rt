@@ -3,6 +3,7 @@
 #![tactic(auto)]
 
 mod by_place;
+mod dense;
 mod edges;
 mod flat;
 mod laws;
@@ -10,6 +11,7 @@ mod load;
 mod look;
 mod marks;
 mod met;
+mod near;
 mod noted;
 mod places;
 mod reach;
@@ -18,6 +20,7 @@ mod seen;
 mod walk_rows;
 
 pub use by_place::{load_by_place, load_by_place_within, mark_bits, mark_bits_within};
+pub use dense::Dense;
 pub use edges::Edges;
 pub use flat::{find_flat, find_flat_within, lead_no_further, lead_no_further_within};
 pub use laws::{loads_are_exact, marks_are_exact, marks_are_unique};

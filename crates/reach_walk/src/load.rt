@@ -1,6 +1,7 @@
 // Loads: what a letter's arguments reach, with the rows.
 
 ghost use Rattle.std.specs.Prelude.{◌≡◌, ◌↔◌, ◌+◌, ◌*◌, ◌<◌, ◌≤◌, [], IfOk, IsOk, IsTrue, OnOk, length, map};
+ghost use Rattle.row_store.specs.Told.{as_load};
 ghost use Rattle.reach_walk.specs.Marks.{load_of as its_load, marks_of};
 ghost use Rattle.reach_walk.specs.Reach.{named_by, thing_row};
 
@@ -9,6 +10,7 @@ use crate::seen::Seen;
 use crate::walk_rows::{walk_freely, walk_rows};
 use orca_names::{Args, NoMemory, Row, RowReader, Thing, Value};
 use plain_list::Listed;
+use row_store::Told;
 use std::alloc::Global;
 use std::marker::Brand;
 use std::sync::ledger::{Blank, Ledger};
@@ -62,9 +64,9 @@ pub fn with_rows<R: RowReader>(
     alloc: Global,
     things: &[Thing],
     rows: &mut R,
-) -> Result<Listed<(Thing, Option<Row>)>, NoMemory>
+) -> Result<Listed<(Thing, Told)>, NoMemory>
     ensures load { IfOk result (λ load.
-        load ≡ map (λ x. (x, thing_row (R.rows rows.old) x)) things.now) }
+        as_load load ≡ map (λ x. (x, thing_row (R.rows rows.old) x)) things.now) }
     ensures rows { (R.rows rows.new ≡ R.rows rows.old) × (R.all rows.new ≡ R.all rows.old)
         × (R.beside rows.new ≡ R.beside rows.old) }
 {
@@ -72,9 +74,9 @@ pub fn with_rows<R: RowReader>(
     let mut row = Row::of(&[Value::Null]);
     for thing in things {
         if read_row(rows, thing, &mut row) {
-            load.push_reserved((*thing, Some(row)));
+            load.push_reserved((*thing, Told::Here(row)));
         } else {
-            load.push_reserved((*thing, None));
+            load.push_reserved((*thing, Told::Nothing));
         }
     }
     Ok(Listed::from(load))
@@ -91,9 +93,9 @@ pub fn load_within<R: RowReader, L: Ledger>(
     args: &Args,
     rows: &mut R,
     steps: &mut Steps<L>,
-) -> Result<Listed<(Thing, Option<Row>)>, NoMemory>
+) -> Result<Listed<(Thing, Told)>, NoMemory>
     ensures load { IfOk result (λ load.
-        load ≡ its_load (R.rows rows.old) (R.all rows.old) args.now) }
+        as_load load ≡ its_load (R.rows rows.old) (R.all rows.old) args.now) }
     ensures nothing { named_by args.now ≡ [] → IsOk result }
     ensures steps { IfOk result (λ load. steps.new ≤ steps.old + (9 * length load + 9)) }
     ensures rows { (R.rows rows.new ≡ R.rows rows.old) × (R.all rows.new ≡ R.all rows.old)
@@ -147,9 +149,9 @@ pub fn load_of<R: RowReader>(
     alloc: Global,
     args: &Args,
     rows: &mut R,
-) -> Result<Listed<(Thing, Option<Row>)>, NoMemory>
+) -> Result<Listed<(Thing, Told)>, NoMemory>
     ensures load { IfOk result (λ load.
-        load ≡ its_load (R.rows rows.old) (R.all rows.old) args.now) }
+        as_load load ≡ its_load (R.rows rows.old) (R.all rows.old) args.now) }
     ensures nothing { named_by args.now ≡ [] → IsOk result }
     ensures rows { (R.rows rows.new ≡ R.rows rows.old) × (R.all rows.new ≡ R.all rows.old)
         × (R.beside rows.new ≡ R.beside rows.old) }

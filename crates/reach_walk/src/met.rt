@@ -1,6 +1,6 @@
 // What a walk by places has met.
 
-ghost use Rattle.std.specs.Prelude.{◌≡◌, ◌+◌, ◌≤◌, ◌∷◌, ◌++◌, [], List, IfOk, OnOk, length};
+ghost use Rattle.std.specs.Prelude.{◌≡◌, ◌+◌, ◌≤◌, ◌∷◌, ◌++◌, [], Contains, IfOk, List, OnOk, Some, length};
 ghost use Rattle.std.specs.Option.{option_to_list};
 ghost use Rattle.orca_names.specs.declared.names.Thing.{Thing as any_thing};
 ghost use Rattle.orca_names.specs.declared.names.Thing.TheVariants.{Actor as actor, Obj as object};
@@ -86,9 +86,33 @@ impl Met {
         self.meet_owner(n.owner, places)
     }
 
-    // Meets what a value names, and its owner: a look at the value, which is a step.
+    /// Meets an object by its place, whose owner was met before.
     #[inline(always)]
-    fn meet<P: Places, L: Ledger>(
+    pub(crate) fn meet_placed<P: Places>(
+        &mut self,
+        n: ObjName,
+        at: usize,
+        places: &P,
+    ) -> Result<(), NoMemory>
+        requires place { P.place places.now (object n) ≡ Some at }
+        requires room { P.count places.now ≤ length self.old.noted.bits }
+        ensures met { (things : List any_thing)
+            → HasMet (P.place places.now) (P.count places.now) self.old things
+            → Contains things (actor n.owner)
+            → OnOk result (HasMet (P.place places.now) (P.count places.now) self.new
+            (things ++ object n ∷ actor n.owner ∷ [])) }
+        ensures queue { OnOk result (Grows self.old.queue.items self.new.queue.items) }
+        ensures same { length self.new.noted.bits ≡ length self.old.noted.bits }
+    {
+        if !self.noted.note_at(&Thing::Obj(n), Some(at), places)? {
+            return Ok(());
+        }
+        push_place(&mut self.queue, Some(at))
+    }
+
+    /// Meets what a value names, and its owner: a look at the value, which is a step.
+    #[inline(always)]
+    pub(crate) fn meet<P: Places, L: Ledger>(
         &mut self,
         value: &Value,
         places: &P,

@@ -7,8 +7,10 @@ ghost use Rattle.std.specs.Option.{option_copied};
 ghost use Rattle.orca_names.specs.declared.names.ObjName.{ObjName as object_name};
 ghost use Rattle.orca_names.specs.declared.names.Thing.{Thing as thing};
 ghost use Rattle.orca_names.specs.declared.names.Thing.TheVariants.{Obj as object};
+ghost use Rattle.reach_walk.specs.Dense.{StandTogether};
 ghost use Rattle.reach_walk.specs.Reach.{thing_row};
 
+use crate::dense::Dense;
 use orca_names::{Row, RowReader, Thing};
 
 /// Places that many things have, as those in a table, in the order of things: what was seen of them
@@ -45,6 +47,11 @@ pub trait PlacedRows: RowReader + Places {
         ensures thing { at < Self.count self.now → Self.place self.now result.0 ≡ Some at }
         ensures row { at < Self.count self.now
             → option_copied result.1 ≡ thing_row (Self.rows self.now) result.0 };
+
+    /// Objects of one owner that stand together: none, or as many as do. What a walk meets of these it
+    /// finds by their serials alone.
+    fn dense(&self) -> Dense<'_>
+        ensures { StandTogether (Self.place self.now) (Self.rows self.now) result };
 
     /// What has a row has a place.
     ghost only_placed: { (s : Self) (n : object_name) →

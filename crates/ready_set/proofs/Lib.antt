@@ -1,5 +1,6 @@
 mod Unchanged
 pub mod NextBits
+pub mod NextOff
 pub mod Least
 pub mod NextWords
 pub mod Summaries

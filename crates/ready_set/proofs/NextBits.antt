@@ -67,7 +67,7 @@ lowest-within word from low small on = elim (cases_lt (from + low) 64) as (λ _.
 -- ---- the next bit of words
 
 -- a place of a word is that of the word alone
-in-word : (words : List ℕ) (j k word : ℕ) → get_or words j 0 ≡ word → k < 64 → get_or (places words) (64 * j + k) false ≡ get_or (places (word ∷ [])) k false
+pub in-word : (words : List ℕ) (j k word : ℕ) → get_or words j 0 ≡ word → k < 64 → get_or (places words) (64 * j + k) false ≡ get_or (places (word ∷ [])) k false
 in-word words j k word read within =
     let high : (64 * j + k) / 64 ≡ j = omega arith in
     let low : (64 * j + k) % 64 ≡ k = omega arith in

@@ -1,8 +1,8 @@
 // One level of words: the places alone.
 
-ghost use Rattle.std.specs.Prelude.{◌≡◌, ℕ, ◌<◌, ◌≤◌, ◌∷◌, [], true, not, Some, length, slice_get, slice_index_or, slice_set, IfOk};
+ghost use Rattle.std.specs.Prelude.{◌≡◌, ℕ, ◌+◌, ◌%◌, ◌<◌, ◌≤◌, ◌∷◌, [], true, false, not, Some, length, slice_get, slice_index_or, slice_set, IfOk};
 ghost use Rattle.ready_set.specs.Levels.{places};
-ghost use Rattle.ready_set.specs.Next.{AreOff, IsNext};
+ghost use Rattle.ready_set.specs.Next.{AreOff, AreOn, IsNext};
 
 use crate::bits::{has_bit, lowest_bit, put_bit};
 use orca_names::NoMemory;
@@ -50,6 +50,20 @@ pub(crate) fn next_bit(word: u64, from: u32) -> Option<u32>
         None
     } else {
         Some(from + lowest_bit(rest))
+    }
+}
+
+// How many bits of a word are set from this one on, up to the first that is not.
+fn on_in_word(word: u64, from: u32) -> u32
+    requires { from < 64 }
+    ensures within { from + result ≤ 64 }
+    ensures on { AreOn (places (word ∷ [])) from (from + result) }
+    ensures off { from + result < 64
+        → slice_index_or (places (word ∷ [])) (from + result) false ≡ false }
+{
+    match next_bit(!word, from) {
+        Some(k) => k - from,
+        None => 64 - from,
     }
 }
 
@@ -128,5 +142,19 @@ impl PlaceSet {
             at = 64 * (word + 1);
         }
         None
+    }
+
+    /// How many numbers from this one on are in the set, up to the first that is not. More may be
+    /// in it where these go on to a multiple of 64.
+    pub fn on_from(&self, at: usize) -> usize
+        ensures on { AreOn self.now at (at + result) }
+        ensures off { 0 < (at + result) % 64
+            → slice_index_or self.now (at + result) false ≡ false }
+    {
+        if at >= self.len() {
+            return 0;
+        }
+        let word = word_at(self.first, self.rest.as_slice(), at / 64);
+        on_in_word(word, (at % 64) as u32) as usize
     }
 }

@@ -1,1 +1,2 @@
 pub mod ByRoots
+pub mod Together

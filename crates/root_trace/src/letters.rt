@@ -1,6 +1,7 @@
 // What a letter loads, and which rows it carries.
 
 ghost use Rattle.std.specs.Prelude.{◌≡◌, [], None, IfOk, OnOk, map};
+ghost use Rattle.row_store.specs.Told.{as_load};
 ghost use Rattle.reach_walk.specs.Marks.{load_of as deep_load, marks_of};
 ghost use Rattle.reach_walk.specs.Reach.{thing_row};
 
@@ -26,7 +27,8 @@ pub fn find_loaded_roots(alloc: Global, args: &Args, things: &mut ThingList) -> 
 /// # Errors
 /// `NoMemory` where memory was refused.
 pub fn without_rows(alloc: Global, things: &[Thing]) -> Result<Load, NoMemory>
-    ensures { IfOk result (λ load. load ≡ map (λ x. (x, thing_row (λ n. None) x)) things.now) }
+    ensures { IfOk result (λ load.
+        as_load load ≡ map (λ x. (x, thing_row (λ n. None) x)) things.now) }
 {
     with_rows(alloc, things, &mut NoRows)
 }
@@ -38,7 +40,7 @@ pub fn without_rows(alloc: Global, things: &[Thing]) -> Result<Load, NoMemory>
 /// `NoMemory` where memory was refused.
 pub fn rows_of<R: RowReader>(alloc: Global, args: &Args, known: &mut R) -> Result<Load, NoMemory>
     ensures rows { IfOk result (λ rows.
-        rows ≡ deep_load (R.rows known.old) (R.all known.old) args.now) }
+        as_load rows ≡ deep_load (R.rows known.old) (R.all known.old) args.now) }
     ensures same { (R.rows known.new ≡ R.rows known.old) × (R.all known.new ≡ R.all known.old)
         × (R.beside known.new ≡ R.beside known.old) }
 {

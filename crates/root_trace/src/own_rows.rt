@@ -5,7 +5,7 @@ ghost use Rattle.object_heap.specs.Heap.{own_row};
 
 use known_rows::KnownPlaces;
 use orca_names::{ObjName, Row, RowReader, Thing};
-use reach_walk::{PlacedRows, Places};
+use reach_walk::{Dense, PlacedRows, Places};
 
 /// The rows of the own objects alone, with the places of all that the actor knows.
 #[derive(Drop)]
@@ -45,6 +45,10 @@ impl PlacedRows for OwnRows<'_> {
         } else {
             (thing, None)
         }
+    }
+
+    fn dense(&self) -> Dense<'_> {
+        self.known.dense()
     }
 
     ghost only_placed = { λ s n none.

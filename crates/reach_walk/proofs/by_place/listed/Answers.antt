@@ -1,22 +1,38 @@
-use Rattle.std.proofs.Common.{◌++◌, ◌∷◌, [], refl, arith}
-use Rattle.ready_set.specs.Next.{AreOff}
+use Rattle.std.proofs.Common.{◌++◌, ◌+◌, ◌-◌, [], map, refl, sym, ap, subst, arith}
+use Rattle.ready_set.specs.Next.{AreOff, AreOn}
+use Rattle.row_store.specs.Told.{as_load}
 use Rattle.reach_walk.specs.Reach.{thing_row}
-use Rattle.reach_walk.proofs.ByPlaces.{rows_more}
-use Rattle.reach_walk.proofs.Placed.{lists-none, lists-next, lists-past, lists-all, off_beyond}
+use Rattle.reach_walk.proofs.Placed.{ListsBelow, lists-none, lists-past, lists-all, off_beyond}
+use Rattle.reach_walk.proofs.Together.{lists-run, rows_run, run_rows}
 use Rattle.reach_walk.proofs.by_place.listed.Goals as goal
 
 pub loop-from-init : goal.loop-from-init
-loop-from-init g c = ([], c.in_ok-load.ensures.items, lists-none (g.R.Places.place c.args.rows.now) c.args.bits.now [] refl)
+loop-from-init g c = ([], ap as_load c.in_ok-load.ensures.items, lists-none (g.R.Places.place c.args.rows.now) c.args.bits.now [] refl)
+
+-- the last of what was pushed is on, and so below the number of places
+pub overflow_add-from : goal.overflow_add-from
+overflow_add-from g c =
+    let at = c.in-Some.at in
+    let pushed = c.in_ok-from-in-Some.ensures in
+    let last = c.requires.within _ (pushed.on (at + c.in_ok-from-in-Some.field-0 - 1) (omega (arith, pushed.some)) (omega (arith, pushed.some))) in
+    omega (arith, last, pushed.some, c.places-count.ensures)
 
 pub loop-from-preserved : goal.loop-from-preserved
 loop-from-preserved g c =
     let rows = c.args.rows.now in
+    let bits = c.args.bits.now in
+    let place = g.R.Places.place rows in
+    let its = g.R.RowReader.rows rows in
     let so_far = c.loop-from.invariant in
     let at = c.in-Some.at in
-    let entry = c.in_ok-push_entry-in-Some.ensures in (
-      so_far.0 ++ entry.0 ∷ [],
-      rows_more (thing_row (g.R.RowReader.rows rows)) c.loop-from.load.items c.push_entry.new.load.items so_far.0 entry.0 so_far.1 entry.2,
-      lists-next (g.R.Places.place rows) c.args.bits.now (g.met.R.Places.in_order rows) so_far.0 c.loop-from.from at entry.0 so_far.2 c.in-Some.ensures entry.1,
+    let next = c.in-Some.ensures in
+    let pushed = c.in_ok-from-in-Some.ensures.pushed in
+    let more = map (λ e. e.0) pushed.0 in
+    let on = subst (λ n. AreOn bits at (at + n)) (sym pushed.1) c.in_ok-from-in-Some.ensures.on in
+    let past = lists-past place bits so_far.0 c.loop-from.from at so_far.2 next.2 next.0 in (
+      so_far.0 ++ more,
+      rows_run (thing_row its) (as_load c.loop-from.load.items) (as_load c.push_run.new.load.items) pushed.0 so_far.0 more so_far.1 (run_rows place its pushed.0 at pushed.2) pushed.3,
+      subst (λ n. ListsBelow place bits (at + n) (so_far.0 ++ more)) pushed.1 (lists-run place its bits (g.met.R.Places.in_order rows) pushed.0 so_far.0 at past pushed.2 on),
     )
 
 pub returns : goal.returns

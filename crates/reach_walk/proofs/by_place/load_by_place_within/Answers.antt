@@ -1,5 +1,6 @@
 use Rattle.std.proofs.Common.{◌≡◌, ◌≢◌, length, refl, sym, ap, subst, ◌∙◌, arith}
 use Rattle.std.proofs.lemmas.Bool.{true≢false}
+use Rattle.row_store.specs.Told.{as_load}
 use Rattle.reach_walk.specs.Met.{HasReached}
 use Rattle.reach_walk.specs.Reach.{named_by, row_edges, AreReached}
 use Rattle.reach_walk.proofs.ByPlaces.{has_unplaced, is_load, none_unplaced, queued_load}
@@ -13,7 +14,7 @@ returns-clause-load g c =
     let noted = c.in_ok-met.met.noted in
     let none : length noted.others.keys ≡ 0 = c.if-not-is_empty.ensures.0 refl in
     let reached = subst (λ args. AreReached (row_edges its) (named_by args) found.0) c.as_slice.ensures.value found.2 in
-    c.from.ensures ∙ is_load its (g.R.RowReader.all rows) c.args.args.now (g.met.R.RowReader.within rows) (g.R.Places.place rows) (g.R.Places.count rows) noted found.0 found.1.tells.told reached c.in_ok-load.load.items none c.in_ok-load.ensures
+    ap as_load c.from.ensures ∙ is_load its (g.R.RowReader.all rows) c.args.args.now (g.met.R.RowReader.within rows) (g.R.Places.place rows) (g.R.Places.count rows) noted found.0 found.1.tells.told reached (as_load c.in_ok-load.load.items) none c.in_ok-load.ensures
 
 pub returns-clause-none : goal.returns-clause-none
 returns-clause-none g c =

@@ -1,21 +1,22 @@
-use Rattle.std.proofs.Common.{◌≡◌, ℕ, ◌++◌, ◌∷◌, [], List, Option, Some, length, get_or, ap, ◌∙◌, arith}
+use Rattle.std.proofs.Common.{◌≡◌, ℕ, ◌++◌, ◌∷◌, [], List, length, get_or, ap, ◌∙◌, arith}
 use Rattle.std.proofs.Math.ListN.{set}
 use Rattle.std.proofs.Math.Seq.{get_or-append_seam, set-append_seam}
 use Rattle.orca_names.specs.declared.names.Thing.{Thing}
-use Rattle.orca_names.specs.declared.names.Value.{Value}
+use Rattle.row_store.specs.declared.told.Told.{Told}
+use Rattle.row_store.specs.declared.told.Told.TheVariants.{Here}
 use Rattle.reach_walk.proofs.by_place.push_with_row.Goals as goal
 
-pub returns-in-Some : goal.returns-in-Some
-returns-in-Some c =
-    let old : List (Thing × Option (List Value)) = c.args.load.now.items in
-    let new : Thing × Option (List Value) = (c.args.thing, Some c.args.row.now) in
+pub returns-in-Here : goal.returns-in-Here
+returns-in-Here c =
+    let old : List (Thing × Told) = c.args.load.now.items in
+    let new : Thing × Told = (c.args.thing, Here c.args.row.now) in
     let there = c.index_mut.result.now in
     let items = c.push_reserved.ensures.items in
     let end : c.len-at.result ≡ length old = omega arith in
     let thing : there.0 ≡ c.args.thing =
-    ap (λ e. e.0) (c.index_mut.ensures.value ∙ ap (λ xs. get_or xs c.len-at.result there) items ∙ ap (λ (n : ℕ). get_or (old ++ (c.args.thing, Some c.from_args.result) ∷ []) n there) end
-    ∙ get_or-append_seam old (c.args.thing, Some c.from_args.result) [] there) in
-    (λ i. set c.push_reserved.new.self.items c.len-at.result (thing i, Some (c.copy_from.ensures i)))
+    ap (λ e. e.0) (c.index_mut.ensures.value ∙ ap (λ xs. get_or xs c.len-at.result there) items ∙ ap (λ (n : ℕ). get_or (old ++ (c.args.thing, Here c.from_args.result) ∷ []) n there) end
+    ∙ get_or-append_seam old (c.args.thing, Here c.from_args.result) [] there) in
+    (λ i. set c.push_reserved.new.self.items c.len-at.result (thing i, Here (c.copy_from.ensures i)))
     ∙ ap (λ xs. set xs c.len-at.result new) items
-    ∙ ap (λ (n : ℕ). set (old ++ (c.args.thing, Some c.from_args.result) ∷ []) n new) end
-    ∙ set-append_seam old (c.args.thing, Some c.from_args.result) [] new
+    ∙ ap (λ (n : ℕ). set (old ++ (c.args.thing, Here c.from_args.result) ∷ []) n new) end
+    ∙ set-append_seam old (c.args.thing, Here c.from_args.result) [] new

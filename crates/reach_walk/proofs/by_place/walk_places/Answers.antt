@@ -39,7 +39,7 @@ loop-i-preserved g c =
     record {
       goes = (
         goes.0 ++ met_by (edges (Obj its.0)),
-        c.in_ok-take.ensures.met goes.0 its.0 goes.1 its.2,
+        c.in_ok-take.ensures.met goes.0 its.0 goes.1 its.1 its.2,
         goes_on place edges (g.met.R.Places.in_order rows) roots goes.0 queue c.take.new.met.queue.items i its.0 at goes.2 inside here its.1 its.2 c.in_ok-take.ensures.queue,
       );
       counted = omega (arith, ticked.0, ticked.1, c.loop-i.invariant.counted);

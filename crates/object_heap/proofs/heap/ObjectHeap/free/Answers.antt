@@ -1,22 +1,39 @@
-use Rattle.std.proofs.Common.{◌≡◌, ◌+◌, ◌-◌, sym, ap, ◌∙◌, arith}
+use Rattle.std.proofs.Common.{refl, ◌≡◌, ◌+◌, ◌-◌, sym, ap, ◌∙◌, arith}
 use Rattle.std.specs.Prelude.{vec_len, vec_capacity}
+use Rattle.std.specs.List.{filter}
 use Rattle.std.specs.FinMap as m
-use Rattle.object_heap.specs.Free.{stays, freed}
-use Rattle.object_heap.specs.Heap.{rows_in}
+use Rattle.object_heap.specs.Entry.{joined}
+use Rattle.object_heap.specs.Free.{freed, is_kept, stays}
+use Rattle.object_heap.specs.Heap.{lesser, rows_in}
 use Rattle.object_heap.proofs.Entries.{len_here, stay_own, stay_rows}
+use Rattle.object_heap.proofs.Kept.{kept_joined, keys_long, objects_long, stored}
 use Rattle.object_heap.proofs.heap.ObjectHeap.free.Goals as goal
 
 pub invariant_of-self : goal.invariant_of-self
-invariant_of-self c = stay_own c.self.inside.next c.self.inside.entries.items c.args.gone.now c.self.invariant c.keep_others.new.entries.items c.keep_others.ensures.items
+invariant_of-self c =
+    let s = c.self.inside in
+    let all = joined s.keys.items s.objects.items in
+    let gone = c.args.gone.now in
+    let left = filter (is_kept gone) all in
+    stored s.owner _ _ left (c.keep_others.ensures.kept s.owner all c.self.invariant.kept) s.next (stay_own s.next all gone c.self.invariant.own left refl)
 
 pub returns : goal.returns
 returns c =
     let s = c.self.inside in
+    let all = joined s.keys.items s.objects.items in
     let gone = c.args.gone.now in
-    let new = c.keep_others.new.entries in
-    let rows : rows_in new.items ≡ m.retain_keys (rows_in s.entries.items) (stays gone) = stay_rows s.next s.entries.items gone c.self.invariant new.items c.keep_others.ensures.items in
-    let before = len_here s.next s.entries.items c.self.invariant in
-    let after = ap m.len (sym rows) ∙ len_here s.next new.items (stay_own s.next s.entries.items gone c.self.invariant new.items c.keep_others.ensures.items) in
-    let room : vec_capacity new - vec_len new ≡ vec_capacity s.entries - vec_len s.entries + (m.len (rows_in s.entries.items) - m.len (m.retain_keys (rows_in s.entries.items) (stays gone))) =
-    omega (arith, s.entries.ok, new.ok, c.keep_others.ensures) in
+    let left = filter (is_kept gone) all in
+    let keys = c.keep_others.new.keys in
+    let objects = c.keep_others.new.objects in
+    let kept = c.keep_others.ensures.kept s.owner all c.self.invariant.kept in
+    let stay : rows_in left ≡ m.retain_keys (rows_in all) (stays gone) = stay_rows s.next all gone c.self.invariant.own left refl in
+    let rows = ap rows_in (kept_joined s.owner keys.items objects.items left kept) ∙ stay in
+    let before = len_here s.next all c.self.invariant.own in
+    let after = ap m.len (sym stay) ∙ len_here s.next left (stay_own s.next all gone c.self.invariant.own left refl) in
+    let long = keys_long s.owner s.keys.items s.objects.items all c.self.invariant.kept in
+    let wide = objects_long s.owner s.keys.items s.objects.items all c.self.invariant.kept in
+    let short = keys_long s.owner keys.items objects.items left kept in
+    let narrow = objects_long s.owner keys.items objects.items left kept in
+    let room : lesser (vec_capacity keys - vec_len keys) (vec_capacity objects - vec_len objects) ≡ lesser (vec_capacity s.keys - vec_len s.keys) (vec_capacity s.objects - vec_len s.objects) + (m.len (rows_in all) - m.len (m.retain_keys (rows_in all) (stays gone))) =
+    omega (arith, s.keys.ok, s.objects.ok, keys.ok, objects.ok, c.keep_others.ensures.shorter, c.keep_others.ensures.capacity) in
     (λ j. record { owner = s.owner; next = s.next; spare = room j; rows = rows j }) ∙ ap (freed gone) c.self.view_is

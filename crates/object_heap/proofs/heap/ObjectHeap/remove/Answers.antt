@@ -1,23 +1,39 @@
-use Rattle.std.proofs.Common.{◌≡◌, ◌+◌, ◌-◌, map, ap, subst, ◌∙◌, arith}
-use Rattle.std.specs.Prelude.{vec_len, vec_capacity}
+use Rattle.std.proofs.Common.{◌≡◌, ◌+◌, ◌-◌, map, sym, ap, subst, ◌∙◌, arith}
+use Rattle.std.specs.Prelude.{is_some, vec_len, vec_capacity}
+use Rattle.std.specs.List.{remove}
 use Rattle.std.specs.Ordering.{nat_cmp}
+use Rattle.std.specs.FinMap as m
 use Rattle.plain_list.specs.Rising.{IsAt}
-use Rattle.object_heap.specs.Entry.{pair_of}
-use Rattle.object_heap.specs.Heap.{rows_in, without}
-use Rattle.object_heap.proofs.Entries.{less_own, less_rows, place_within}
+use Rattle.object_heap.specs.Entry.{joined, key_pair}
+use Rattle.object_heap.specs.Heap.{AreStored, lesser, rows_in, without}
+use Rattle.object_heap.proofs.Kept.{at_within, has_key, keys_long, less_map, less_stored, objects_long}
 use Rattle.object_heap.proofs.heap.ObjectHeap.remove.Goals as goal
+
+pub place_there-i-requires : goal.place_there-i-requires
+place_there-i-requires c =
+    let s = c.self.inside in
+    rw c.as_slice.ensures.value (has_key s.owner s.next s.keys.items s.objects.items c.self.invariant c.args.n.serial (ap (λ h. is_some (m.get h.rows c.args.n.serial)) c.self.view_is ∙ c.requires.there.there))
 
 pub invariant_of-self : goal.invariant_of-self
 invariant_of-self c =
     let s = c.self.inside in
-    let p = subst (λ es. IsAt nat_cmp (map pair_of es) c.args.n.serial c.place_there-i.result) c.as_slice.ensures.value c.place_there-i.ensures in
-    rw c.remove.ensures.items (less_own s.next s.entries.items c.args.n.serial c.place_there-i.result c.self.invariant p)
+    let i = c.place_there-i.result in
+    let p = subst (λ keys. IsAt nat_cmp (map key_pair keys) c.args.n.serial i) c.as_slice.ensures.value c.place_there-i.ensures in
+    subst (λ keys. AreStored s.owner s.next keys c.remove-2.new.self.items) (sym c.remove.ensures.items)
+    (subst (λ objects. AreStored s.owner s.next (remove s.keys.items i) objects) (sym c.remove-2.ensures.items)
+    (less_stored s.owner s.next s.keys.items s.objects.items c.self.invariant c.args.n.serial i p))
 
 pub returns : goal.returns
 returns c =
     let s = c.self.inside in
-    let p = subst (λ es. IsAt nat_cmp (map pair_of es) c.args.n.serial c.place_there-i.result) c.as_slice.ensures.value c.place_there-i.ensures in
-    let within = place_within s.entries.items c.args.n.serial c.place_there-i.result p in
-    let room : vec_capacity c.remove.new.self - vec_len c.remove.new.self ≡ vec_capacity s.entries - vec_len s.entries + 1 = omega (arith, s.entries.ok) in
-    let rows = ap rows_in c.remove.ensures.items ∙ less_rows s.next s.entries.items c.args.n.serial c.place_there-i.result c.self.invariant p in
+    let ks = s.keys.items in
+    let xs = s.objects.items in
+    let i = c.place_there-i.result in
+    let p = subst (λ keys. IsAt nat_cmp (map key_pair keys) c.args.n.serial i) c.as_slice.ensures.value c.place_there-i.ensures in
+    let within = at_within s.owner s.next ks xs c.self.invariant c.args.n.serial i p in
+    let long = keys_long s.owner ks xs (joined ks xs) c.self.invariant.kept in
+    let wide = objects_long s.owner ks xs (joined ks xs) c.self.invariant.kept in
+    let room : lesser (vec_capacity c.remove.new.self - vec_len c.remove.new.self) (vec_capacity c.remove-2.new.self - vec_len c.remove-2.new.self) ≡ lesser (vec_capacity s.keys - vec_len s.keys) (vec_capacity s.objects - vec_len s.objects) + 1 =
+    omega (arith, s.keys.ok, s.objects.ok) in
+    let rows = (λ j. rows_in (joined (c.remove.ensures.items j) (c.remove-2.ensures.items j))) ∙ less_map s.owner s.next ks xs c.self.invariant c.args.n.serial i p in
     (λ j. record { owner = s.owner; next = s.next; spare = room j; rows = rows j }) ∙ ap (without c.args.n) c.self.view_is
