@@ -1,4 +1,3 @@
 pub mod Changing
 pub mod Indexing
 pub mod Naming
-pub mod Nexts

@@ -1,12 +1,11 @@
 -- What becomes of an actor by its part of an event, and when this can be done at its place.
-use Rattle.std.specs.Prelude.{ℕ, ◌≡◌, ◌≤◌, ◌+◌, ◌<◌, ◌^◌, ⊤, Bool, true, false, if◌then◌else◌, List, [], ◌∷◌, Option, None, Some, IsSome, length, option_map, set, slice_get, vec_capacity, vec_len}
-use Rattle.std.specs.Global.{Vec}
+use Rattle.std.specs.Prelude.{ℕ, ◌≡◌, ◌≤◌, ◌+◌, ◌<◌, ◌^◌, ⊤, Bool, true, false, if◌then◌else◌, List, [], ◌∷◌, Option, None, Some, IsSome, length, option_map, set, slice_get}
 use Rattle.std.specs.Option.{option_map_or}
 use Rattle.orca_names.specs.declared.names.Thing.TheVariants.{Actor}
 use Rattle.behaviour_code.specs.declared.code.Program.{Program}
 use Rattle.turn_rules.specs.Segment.{Turn}
 use Rattle.foreign_table.specs.Table.{count_on}
-use Rattle.letter_kinds.specs.declared.letter.Letter.{Letter}
+use Rattle.letter_kinds.specs.Letters.{Letter}
 use Rattle.letter_kinds.specs.declared.note.Note.{Note}
 use Rattle.orca_names.specs.declared.trace.Trace.{Trace}
 use Rattle.actor_cell.specs.declared.sweeping.Sweep.{Sweep}
@@ -24,7 +23,7 @@ use Rattle.actor_cell.specs.Takes.{CanTake, HasRoomFor}
 use Rattle.ref_weights.specs.Limit.{count_limit}
 use Rattle.actor_table.specs.declared.slot.Slot.{Slot}
 use Rattle.actor_table.specs.declared.slot.Place.TheVariants.{Home}
-use Rattle.actor_table.specs.Slots.{IsOwnedBy, Table, away_of, is_away, slot_at}
+use Rattle.actor_table.specs.Slots.{Table, actors_of, away_of, is_away, letters_in, owner_in, places_of, slot_at}
 
 -- an actor takes the first of its letters; its turn is done as it was found, where one that it makes has
 -- the name and is held with the weight; its collection is done as it was found; or it has reported
@@ -151,6 +150,14 @@ pub record KeepsSpace (old new : Table) : Type 0 where
   pub spare : new.spare ≡ old.spare
   pub room : KeepsRoom old.slots new.slots
 
+-- but for room for letters all is the same
+pub record OnlyTableRoom (old new : Table) : Type 0 where
+  pub places : places_of new.slots ≡ places_of old.slots
+  pub letters : letters_in new.slots ≡ letters_in old.slots
+  pub actors : actors_of new.slots ≡ actors_of old.slots
+  pub away : away_of new.slots ≡ away_of old.slots
+  pub space : KeepsSpace old new
+
 -- but for one seat and room all is the same
 pub record KeepsRest (old new : Table) : Type 0 where
   pub spare : new.spare ≡ old.spare
@@ -160,17 +167,5 @@ pub record KeepsRest (old new : Table) : Type 0 where
 -- its cell is of the same actor and away or not as before, and there is no less room for letters
 pub record KeepsPlace (old new : Slot) : Type 0 where
   pub away : is_away new ≡ is_away old
-  pub owned : (a : ℕ) → IsOwnedBy a old.place → IsOwnedBy a new.place
+  pub owner : owner_in new.place ≡ owner_in old.place
   pub room : old.mail.spare ≤ new.mail.spare
-
--- one place alone is another, of the same actor
-pub record IsChangedAt (a : ℕ) (old new : List Slot) : Type 0 where
-  pub within : a < length old
-  pub others : new ≡ set old a (slot_at new a)
-  pub owned : IsOwnedBy a (slot_at old a).place → IsOwnedBy a (slot_at new a).place
-
--- and there is room for as many as before
-pub record ChangesOne (a : ℕ) (old new : Vec Slot) : Type 0 where
-  pub changed : IsChangedAt a old.items new.items
-  pub length : vec_len new ≡ vec_len old
-  pub capacity : vec_capacity new ≡ vec_capacity old

@@ -1,10 +1,10 @@
 -- The actors of a table, as the rules have them, and who of them has events.
-use Rattle.std.specs.Prelude.{ℕ, ◌≡◌, ◌≤◌, ◌&&◌, ◌||◌, if◌then◌else◌, is_some, not, option_and_then, Bool, true, false, List, [], length, map, Option, None, Some, get_or, ⊤}
+use Rattle.std.specs.Prelude.{ℕ, ◌≡◌, ◌≤◌, ◌&&◌, ◌||◌, if◌then◌else◌, is_some, not, option_and_then, Bool, true, false, List, [], length, map, Option, None, Some, get_or, unwrap_or}
 use Rattle.std.specs.Option.{option_map_or}
 use Rattle.orca_names.specs.declared.limits.TheConstants.{ACTORS_LIMIT}
 use Rattle.event_rule.specs.Events.{first_of}
 use Rattle.event_rule.specs.declared.event.Event.{Event}
-use Rattle.letter_kinds.specs.declared.letter.Letter.{Letter}
+use Rattle.letter_kinds.specs.Letters.{Letter}
 use Rattle.mail_rows.specs.Mail.{Mail}
 use Rattle.machine_rules.specs.Actors.{Actors, Seat, seat}
 use Rattle.machine_rules.specs.Cell as rules
@@ -56,6 +56,16 @@ mail_of x = mail_in x.place x.mail
 -- it is gone, and no letter waits
 abbrev pub gone : Slot
 gone = record { place = Gone; mail = record { letters = []; spare = 0 } }
+
+-- whose cell it is, at home or away
+abbrev pub owner_in : Place → Option ℕ
+owner_in (Home c) = Some c.heap.owner
+owner_in (Away c) = Some c.value.heap.owner
+owner_in Gone = None
+
+-- if there is a cell, it is that of the actor with this number
+abbrev pub IsOwnedBy : ℕ → Place → Type 0
+IsOwnedBy a place = unwrap_or (owner_in place) a ≡ a
 
 -- ---- which events it has
 
@@ -120,16 +130,10 @@ letters_in slots = map (λ x. x.mail.letters) slots
 abbrev pub away_of : List Slot → List Bool
 away_of slots = map is_away slots
 
--- the cell is that of the actor with this number
-abbrev pub IsOwnedBy : ℕ → Place → Type 0
-IsOwnedBy a (Home c) = c.heap.owner ≡ a
-IsOwnedBy a (Away c) = c.value.heap.owner ≡ a
-IsOwnedBy a Gone = ⊤
-
 -- each cell is its actor's, no more actors are made than may be, and the indexes tell who acts, and who
 -- settles once nothing else is to be done
 pub record AreIndexed (slots : List Slot) (acting settling : List Bool) : Type 0 where
   pub owned : (a : ℕ) → IsOwnedBy a (slot_at slots a).place
   pub few : length slots ≤ ACTORS_LIMIT
-  pub acts : IsIndex can_act acting slots
-  pub settles : IsIndex can_settle settling slots
+  pub acts : IsIndex can_act gone acting slots
+  pub settles : IsIndex can_settle gone settling slots

@@ -1,6 +1,7 @@
 // What becomes of one actor by its part of an event.
 
-ghost use Rattle.std.specs.Prelude.{◌≡◌, ◌≤◌, OnOk};
+ghost use Rattle.std.specs.Prelude.{◌≡◌, ◌≤◌, option_map, OnOk};
+ghost use Rattle.letter_kinds.specs.Letters.{as_letter};
 ghost use Rattle.machine_rules.specs.Actors.{seat};
 ghost use Rattle.actor_cell.specs.Cells.{as_cell};
 ghost use Rattle.actor_table.specs.Changes.{AllowsChange, Change, HasRoomIn, is_go, letter_taken, seat_after};
@@ -39,7 +40,7 @@ pub trait Changes {
             ≡ seat_after code.now me (as_change self.now) (seat (as_cell cell.old) mail.old.letters) }
         ensures owner { cell.new.heap.owner ≡ cell.old.heap.owner }
         ensures room { mail.old.spare ≤ mail.new.spare }
-        ensures taken { result ≡ letter_taken (as_change self.now) mail.old.letters };
+        ensures taken { option_map as_letter result ≡ letter_taken (as_change self.now) mail.old.letters };
 }
 
 /// An idle actor takes the first of its letters.

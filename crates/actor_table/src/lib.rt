@@ -1,10 +1,10 @@
 //! The table of all actors: their cells and letters, and indexes of those that have events.
 #![tactic(auto)]
 
+mod bits;
 mod change;
 mod rounds;
 mod slot;
-mod slots;
 mod table;
 
 pub use change::{Block, Changes, Collect, Go, Take};

@@ -1,13 +1,14 @@
 // One actor in the table.
 
-ghost use Rattle.std.specs.Prelude.{◌≡◌, ◌+◌, ◌<◌, ◌≤◌, ◌||◌, ℕ, IsSomeAnd, OnOk, if◌then◌else◌, is_some, Some, true, false, ⊤};
+ghost use Rattle.std.specs.Prelude.{◌≡◌, ◌+◌, ◌<◌, ◌≤◌, ◌||◌, [], ℕ, IsSomeAnd, OnOk, if◌then◌else◌, is_some, option_map, Some, true, false, ⊤};
 ghost use Rattle.std.specs.Option.{option_copied};
+ghost use Rattle.letter_kinds.specs.Letters.{as_letter};
 ghost use Rattle.machine_rules.specs.Actors.{with_letter_more};
 ghost use Rattle.machine_rules.specs.Guards.{may_block, may_do, may_go};
 ghost use Rattle.actor_cell.specs.Cells.{as_cell};
-ghost use Rattle.actor_table.specs.Changes.{CanChange, HasRoomToChange, KeepsPlace, note_taken, letter_taken, seat_after};
-ghost use Rattle.actor_table.specs.declared.slot.Place.TheVariants.{Home};
-ghost use Rattle.actor_table.specs.Slots.{can_act, can_settle, event_in, event_of, home_of, is_away, mail_of, may_at, may_event, seat_of, IsOwnedBy};
+ghost use Rattle.actor_table.specs.Changes.{CanChange, HasRoomToChange, KeepsPlace, letter_taken, note_taken, seat_after};
+ghost use Rattle.actor_table.specs.declared.slot.Place.TheVariants.{Gone, Home};
+ghost use Rattle.actor_table.specs.Slots.{can_act, can_settle, event_in, event_of, home_of, is_away, mail_of, may_at, may_event, owner_in, seat_of, IsOwnedBy};
 
 use crate::change::Changes;
 use actor_cell::Cell;
@@ -16,6 +17,7 @@ use event_rule::Event;
 use letter_kinds::{Letter, Note};
 use mail_rows::MailRow;
 use orca_names::{ActorName, NoMemory};
+use std::alloc::Global;
 use std::mem;
 use std::snapshot::Snapshot;
 
@@ -38,11 +40,7 @@ pub struct Slot {
 pub(crate) fn is_present(slot: &Slot) -> bool
     ensures { result ≡ is_some (seat_of slot.now) }
 {
-    match &slot.place {
-        Place::Home(_) => true,
-        Place::Away(_) => true,
-        Place::Gone => false,
-    }
+    !matches!(&slot.place, Place::Gone)
 }
 
 /// Its cell, where this is at home.
@@ -51,8 +49,7 @@ pub(crate) fn cell_of(slot: &Slot) -> Option<&Cell>
 {
     match &slot.place {
         Place::Home(cell) => Some(cell),
-        Place::Away(_) => None,
-        Place::Gone => None,
+        _ => None,
     }
 }
 
@@ -95,8 +92,7 @@ pub(crate) fn may_event(slot: &Slot, e: &Event) -> bool
 {
     match &slot.place {
         Place::Home(cell) => may_do(cell, &slot.mail, e),
-        Place::Away(_) => false,
-        Place::Gone => false,
+        _ => false,
     }
 }
 
@@ -106,8 +102,7 @@ pub(crate) fn goes_on(slot: &Slot) -> bool
 {
     match &slot.place {
         Place::Home(cell) => cell.frame.is_some(),
-        Place::Away(_) => false,
-        Place::Gone => false,
+        _ => false,
     }
 }
 
@@ -117,8 +112,7 @@ pub(crate) fn can_act(slot: &Slot) -> bool
 {
     match &slot.place {
         Place::Home(cell) => cell.frame.is_some() || !slot.mail.is_empty(),
-        Place::Away(_) => false,
-        Place::Gone => false,
+        _ => false,
     }
 }
 
@@ -131,8 +125,7 @@ pub(crate) fn can_settle(slot: &Slot) -> bool
         Place::Home(cell) => {
             cell.frame.is_some() || cell.dirty || !(cell.fields.pinned || cell.reported)
         }
-        Place::Away(_) => false,
-        Place::Gone => false,
+        _ => false,
     }
 }
 
@@ -161,8 +154,7 @@ pub(crate) fn next_event(slot: &Slot, a: ActorName) -> Option<Event>
 {
     match &slot.place {
         Place::Home(cell) => event_of_cell(cell, &slot.mail, a),
-        Place::Away(_) => None,
-        Place::Gone => None,
+        _ => None,
     }
 }
 
@@ -192,12 +184,23 @@ pub(crate) fn reserve_letters(slot: &mut Slot, n: usize) -> Result<(), NoMemory>
     slot.mail.reserve(n)
 }
 
+/// The actor goes, with its cell and its letters.
+pub(crate) fn clear(alloc: Global, slot: &mut Slot)
+    ensures place { slot.new.place ≡ Gone }
+    ensures letters { slot.new.mail.letters ≡ [] }
+{
+    *slot = Slot {
+        place: Place::Gone,
+        mail: MailRow::new(alloc),
+    };
+}
+
 /// Lends the cell, if it is at home.
 pub(crate) fn lift(slot: &mut Slot) -> Option<Cell>
     ensures cell { result ≡ home_of slot.old }
     ensures seat { seat_of slot.new ≡ seat_of slot.old }
     ensures away { is_away slot.new ≡ (if is_some result then true else is_away slot.old) }
-    ensures owned { (a : ℕ) → IsOwnedBy a slot.old.place → IsOwnedBy a slot.new.place }
+    ensures owner { owner_in slot.new.place ≡ owner_in slot.old.place }
     ensures mail { slot.new.mail ≡ slot.old.mail }
 {
     match mem::replace(&mut slot.place, Place::Gone) {
@@ -244,7 +247,7 @@ pub(crate) fn change<C: Changes>(code: &Checked, slot: &mut Slot, change: &C) ->
     ensures seat { (a : ℕ) → IsOwnedBy a slot.old.place
         → seat_of slot.new ≡ seat_after code.now a (C.as_change change.now) (seat_of slot.old) }
     ensures kept { KeepsPlace slot.old slot.new }
-    ensures taken { result ≡ letter_taken (C.as_change change.now) slot.old.mail.letters }
+    ensures taken { option_map as_letter result ≡ letter_taken (C.as_change change.now) slot.old.mail.letters }
 {
     let Place::Home(cell) = &mut slot.place else {
         unreachable!();
@@ -256,7 +259,7 @@ pub(crate) fn change<C: Changes>(code: &Checked, slot: &mut Slot, change: &C) ->
 #[inline(always)]
 pub(crate) fn push_letter(slot: &mut Slot, letter: Letter)
     requires { is_some (seat_of slot.old) ≡ true → 0 < slot.old.mail.spare }
-    ensures seat { seat_of slot.new ≡ with_letter_more letter (seat_of slot.old) }
+    ensures seat { seat_of slot.new ≡ with_letter_more (as_letter letter) (seat_of slot.old) }
     ensures place { slot.new.place ≡ slot.old.place }
     ensures room { slot.old.mail.spare ≤ slot.new.mail.spare + 1 }
 {

@@ -2,24 +2,21 @@
 
 ghost use Rattle.std.specs.Prelude.{◌≡◌, ◌==◌, ◌+◌, ◌<◌, ◌≤◌, ◌++◌, ◌∷◌, ◌≢◌, [], ℕ, false, length, if◌then◌else◌, is_some, option_map, position, IfSome, OnOk, Some, None, set, true, ⊤};
 ghost use Rattle.std.specs.Option.{option_copied};
+ghost use Rattle.letter_kinds.specs.Letters.{as_letter};
 ghost use Rattle.machine_rules.specs.Actors.{push_letter, seat_at};
 ghost use Rattle.actor_cell.specs.Cells.{as_cell};
 ghost use Rattle.orca_names.specs.declared.limits.TheConstants.{ACTORS_LIMIT};
 ghost use Rattle.actor_table.specs.declared.slot.Place.TheVariants.{Home};
-ghost use Rattle.actor_table.specs.Changes.{CanChange, HasCell, HasRoomToChange, KeepsRest, KeepsSpace, changed_at, letter_taken, note_taken, seat_after};
-ghost use Rattle.ready_set.specs.Next.{IsNext};
+ghost use Rattle.actor_table.specs.Changes.{CanChange, HasCell, HasRoomToChange, KeepsRest, KeepsSpace, OnlyTableRoom, changed_at, letter_taken, note_taken, seat_after};
+ghost use Rattle.actor_table.specs.Index.{IsIndex};
 ghost use Rattle.actor_table.specs.Rounds.{IsNextThat, has_event};
-ghost use Rattle.actor_table.specs.Slots.{actors_of, away_of, can_act, can_settle, event_of, home_of, is_away, letters_in, mail_of, may_event, places_of, slot_at};
+ghost use Rattle.actor_table.specs.Slots.{actors_of, away_of, can_act, can_settle, event_of, gone, home_of, is_away, mail_of, may_event, slot_at};
 
+use crate::bits::{put_bits, put_bits_after, reserve_bits};
 use crate::change::Changes;
 use crate::rounds::Round;
-use crate::slot::{
-    Place, Slot, can_act, can_settle, cell_of, is_present, mail_of, may_event, next_event, note_on,
-};
-use crate::slots::{
-    change_at, clear_at, lift_at, push_at, put_acting, put_back_at, put_bits, put_bits_after,
-    reserve_at, reserve_bits, reserve_letters_at,
-};
+use crate::slot;
+use crate::slot::{Place, Slot, can_act};
 use actor_cell::Cell;
 use behaviour_check::Checked;
 use event_rule::Event;
@@ -57,17 +54,29 @@ impl Model for ActorTable {
     ghost invariant = { λ t. AreIndexed t.slots.items t.acting t.settling };
 }
 
-// The first actor from this one on that is in the set.
-fn next_ready(ready: &ReadySet, from: ActorName) -> Option<ActorName>
-    ensures { IsNext ready.now from result }
+// The actor with this number, if there is one.
+#[inline(always)]
+fn named(number: Option<u32>) -> Option<ActorName>
+    ensures { result ≡ number }
 {
-    match ready.next(from.0) {
+    match number {
         Some(a) => Some(ActorName(a)),
         None => None,
     }
 }
 
 impl ActorTable {
+    // Who has events in the round.
+    fn ready(&self, round: Round) -> &ReadySet
+        ensures index { IsIndex (has_event round) gone result.now self.now.slots }
+        ensures few { length self.now.slots ≤ ACTORS_LIMIT }
+    {
+        match round {
+            Round::Acting => &self.acting,
+            Round::Settling => &self.settling,
+        }
+    }
+
     /// No actors. It takes no memory.
     pub fn new(alloc: Global) -> ActorTable
         ensures { result.slots ≡ [] }
@@ -98,7 +107,7 @@ impl ActorTable {
         ensures { result ≡ is_some (seat_at (actors_of self.now.slots) a) }
     {
         match self.slots.get(a.0 as usize) {
-            Some(slot) => is_present(slot),
+            Some(slot) => slot::is_present(slot),
             None => false,
         }
     }
@@ -108,20 +117,14 @@ impl ActorTable {
         ensures cell { option_copied result ≡ home_of (slot_at self.now.slots a) }
         ensures owner { IfSome result (λ c. c.now.heap.owner ≡ a) }
     {
-        match self.slots.get(a.0 as usize) {
-            Some(slot) => cell_of(slot),
-            None => None,
-        }
+        slot::cell_of(self.slots.get(a.0 as usize)?)
     }
 
     /// The letters that wait for an actor; `None` exactly where the actor is not present.
     pub fn mail(&self, a: ActorName) -> Option<&MailRow>
         ensures { option_copied result ≡ mail_of (slot_at self.now.slots a) }
     {
-        match self.slots.get(a.0 as usize) {
-            Some(slot) => mail_of(slot),
-            None => None,
-        }
+        slot::mail_of(self.slots.get(a.0 as usize)?)
     }
 
     /// Whether the cell of the actor is at home, and it may do this event of its own.
@@ -130,7 +133,7 @@ impl ActorTable {
         ensures { result ≡ may_event e.now (slot_at self.now.slots a) }
     {
         match self.slots.get(a.0 as usize) {
-            Some(slot) => may_event(slot, e),
+            Some(slot) => slot::may_event(slot, e),
             None => false,
         }
     }
@@ -144,7 +147,7 @@ impl ActorTable {
         ensures owner { IfSome result (λ c. c.now.heap.owner ≡ a) }
     {
         match self.slots.get(a.0 as usize) {
-            Some(slot) if may_event(slot, e) => cell_of(slot),
+            Some(slot) if slot::may_event(slot, e) => slot::cell_of(slot),
             _ => None,
         }
     }
@@ -153,53 +156,42 @@ impl ActorTable {
     pub fn next_of(&self, a: ActorName) -> Option<Event>
         ensures { result ≡ event_of a (slot_at self.now.slots a) }
     {
-        match self.slots.get(a.0 as usize) {
-            Some(slot) => next_event(slot, a),
-            None => None,
-        }
+        slot::next_event(self.slots.get(a.0 as usize)?, a)
     }
 
     /// The first actor that goes on or takes a letter.
-    #[tactic(auto, using(crate::proofs::Indexing::found_first))]
+    #[tactic(auto, using(crate::proofs::Changing::first_read))]
     pub fn first_acting(&self) -> Option<ActorName>
         ensures { result ≡ position can_act self.now.slots }
     {
-        match self.acting.first() {
-            Some(a) => Some(ActorName(a)),
-            None => None,
-        }
+        named(self.acting.first())
     }
 
     /// The first actor that collects, leaves or blocks once it neither goes on nor takes a letter; where
     /// none acts, the first that does so now.
-    #[tactic(auto, using(crate::proofs::Indexing::found_first))]
+    #[tactic(auto, using(crate::proofs::Changing::first_read))]
     pub fn first_settling(&self) -> Option<ActorName>
         ensures { result ≡ position can_settle self.now.slots }
     {
-        match self.settling.first() {
-            Some(a) => Some(ActorName(a)),
-            None => None,
-        }
+        named(self.settling.first())
     }
 
     /// The first actor from this one on that has an event in the round once it has none in the round
     /// before; `None` where none has.
+    #[tactic(auto, using(crate::proofs::Indexing::next_read, crate::proofs::Indexing::next_within))]
     pub fn next_in(&self, round: Round, from: ActorName) -> Option<ActorName>
         ensures next { IsNextThat (λ a. has_event round (slot_at self.now.slots a)) from result }
         ensures made { IfSome result (λ a. a < length self.now.slots) }
         ensures few { IfSome result (λ a. a < ACTORS_LIMIT) }
     {
-        match round {
-            Round::Acting => next_ready(&self.acting, from),
-            Round::Settling => next_ready(&self.settling, from),
-        }
+        named(self.ready(round).next(from.0))
     }
 
     /// Takes the memory for the change of an actor.
     ///
     /// # Errors
     /// `NoMemory` where memory was refused.
-    #[tactic(auto, using(crate::proofs::Changing::index_stays))]
+    #[tactic(auto, using(crate::proofs::Changing::one_place))]
     #[inline(always)]
     pub fn reserve<C: Changes>(&mut self, a: ActorName, change: &C) -> Result<(), NoMemory>
         ensures actors { actors_of self.new.slots ≡ actors_of self.old.slots }
@@ -209,26 +201,23 @@ impl ActorTable {
         if a.0 as usize >= self.slots.len() {
             return Ok(());
         }
-        reserve_at(&mut self.slots, a.0 as usize, change)
+        slot::reserve(&mut self.slots[a.0 as usize], change)
     }
 
     /// Takes the memory for so many letters to an actor.
     ///
     /// # Errors
     /// `NoMemory` where memory was refused.
-    #[tactic(auto, using(crate::proofs::Changing::index_stays))]
+    #[tactic(auto, using(crate::proofs::Changing::one_place))]
     pub fn reserve_letters(&mut self, to: ActorName, n: usize) -> Result<(), NoMemory>
-        ensures actors { actors_of self.new.slots ≡ actors_of self.old.slots }
-        ensures places { places_of self.new.slots ≡ places_of self.old.slots }
-        ensures letters { letters_in self.new.slots ≡ letters_in self.old.slots }
-        ensures rest { KeepsRest self.old self.new }
+        ensures same { OnlyTableRoom self.old self.new }
         ensures ok { OnOk result (is_some (seat_at (actors_of self.old.slots) to) ≡ true
             → n ≤ (slot_at self.new.slots to).mail.spare) }
     {
         if to.0 as usize >= self.slots.len() {
             return Ok(());
         }
-        reserve_letters_at(&mut self.slots, to.0 as usize, n)
+        slot::reserve_letters(&mut self.slots[to.0 as usize], n)
     }
 
     /// Takes the memory for one actor more.
@@ -259,50 +248,45 @@ impl ActorTable {
             place: Place::Home(cell),
             mail,
         };
-        let acts = can_act(&slot);
-        let settles = can_settle(&slot);
+        put_bits(&slot, &mut self.acting, &mut self.settling, made as u32);
         self.slots.push_reserved(slot);
-        self.acting.put(made as u32, acts);
-        self.settling.put(made as u32, settles);
     }
 
     /// What the detector is to hear where the actor takes the first of its letters, if it has one.
+    #[tactic(auto, using(crate::proofs::Changing::one_place))]
     #[inline(always)]
     pub fn note_on(&self, a: ActorName) -> Option<Note>
         requires { HasCell (slot_at self.now.slots a) (λ c. ⊤) }
         ensures { result ≡ note_taken a (seat_at (actors_of self.now.slots) a) }
     {
-        note_on(&self.slots[a.0 as usize])
+        slot::note_on(&self.slots[a.0 as usize])
     }
 
     /// The change of an actor is done, and gives the letter that it takes. It takes no memory.
+    #[tactic(auto, using(crate::proofs::Changing::one_place))]
     #[inline(always)]
     pub fn change<C: Changes>(&mut self, code: &Checked, a: ActorName, change: &C) -> Option<Letter>
         requires { CanChange a (C.as_change change.now) (slot_at self.old.slots a) }
         ensures actors { actors_of self.new.slots
             ≡ changed_at (seat_after code.now a (C.as_change change.now)) a (actors_of self.old.slots) }
         ensures rest { KeepsRest self.old self.new }
-        ensures taken { result
+        ensures taken { option_map as_letter result
             ≡ letter_taken (C.as_change change.now) (slot_at self.old.slots a).mail.letters }
     {
-        let taken = change_at(code, &mut self.slots, a.0 as usize, change);
-        put_bits_after(
-            &self.slots,
-            &mut self.acting,
-            &mut self.settling,
-            a.0,
-            change,
-        );
+        let slot = &mut self.slots[a.0 as usize];
+        let taken = slot::change(code, slot, change);
+        put_bits_after(slot, &mut self.acting, &mut self.settling, a.0, change);
         taken
     }
 
     /// A letter for an actor; where this is gone, the letter is lost.
-    #[tactic(auto, using(crate::proofs::Changing::lost_past))]
+    #[tactic(auto, using(crate::proofs::Changing::one_place, crate::proofs::Changing::lost_past))]
     #[inline(always)]
     pub fn push_letter(&mut self, to: ActorName, letter: Letter)
         requires { is_some (seat_at (actors_of self.old.slots) to) ≡ true
             → 0 < (slot_at self.old.slots to).mail.spare }
-        ensures actors { actors_of self.new.slots ≡ push_letter to letter (actors_of self.old.slots) }
+        ensures actors { actors_of self.new.slots
+            ≡ push_letter to (as_letter letter) (actors_of self.old.slots) }
         ensures spare { self.new.spare ≡ self.old.spare }
         ensures away { away_of self.new.slots ≡ away_of self.old.slots }
         ensures room { (b : ℕ) → (slot_at self.old.slots b).mail.spare
@@ -311,11 +295,13 @@ impl ActorTable {
         if to.0 as usize >= self.slots.len() {
             return;
         }
-        push_at(&mut self.slots, to.0 as usize, letter);
-        put_acting(&self.slots, &mut self.acting, to.0);
+        let slot = &mut self.slots[to.0 as usize];
+        slot::push_letter(slot, letter);
+        self.acting.put(to.0, can_act(slot));
     }
 
     /// The actor goes, with its cell and its letters. It takes no memory.
+    #[tactic(auto, using(crate::proofs::Changing::one_place, crate::proofs::Changing::bits_follow))]
     #[inline(always)]
     pub fn clear(&mut self, alloc: Global, a: ActorName)
         ensures actors { actors_of self.new.slots ≡ set (actors_of self.old.slots) a None }
@@ -326,12 +312,14 @@ impl ActorTable {
         if a.0 as usize >= self.slots.len() {
             return;
         }
-        clear_at(alloc, &mut self.slots, a.0 as usize);
-        put_bits(&self.slots, &mut self.acting, &mut self.settling, a.0);
+        let slot = &mut self.slots[a.0 as usize];
+        slot::clear(alloc, slot);
+        put_bits(slot, &mut self.acting, &mut self.settling, a.0);
     }
 
     /// Lends the cell of an actor; `None` exactly where the actor is not present or its cell is away.
     /// It takes no memory.
+    #[tactic(auto, using(crate::proofs::Changing::one_place))]
     pub fn lift(&mut self, a: ActorName) -> Option<Cell>
         ensures cell { result ≡ home_of (slot_at self.old.slots a) }
         ensures owner { IfSome result (λ c. c.heap.owner ≡ a) }
@@ -343,12 +331,14 @@ impl ActorTable {
         if a.0 as usize >= self.slots.len() {
             return None;
         }
-        let lent = lift_at(&mut self.slots, a.0 as usize);
-        put_bits(&self.slots, &mut self.acting, &mut self.settling, a.0);
+        let slot = &mut self.slots[a.0 as usize];
+        let lent = slot::lift(slot);
+        put_bits(slot, &mut self.acting, &mut self.settling, a.0);
         lent
     }
 
     /// Takes back the cell that was lent, unchanged. It takes no memory.
+    #[tactic(auto, using(crate::proofs::Changing::one_place))]
     pub fn put_back(&mut self, a: ActorName, cell: Cell)
         requires away { is_away (slot_at self.old.slots a) ≡ true }
         requires same { option_map (λ o. o.cell) (seat_at (actors_of self.old.slots) a)
@@ -359,7 +349,8 @@ impl ActorTable {
         ensures away { away_of self.new.slots ≡ set (away_of self.old.slots) a false }
         ensures space { KeepsSpace self.old self.new }
     {
-        put_back_at(&mut self.slots, a.0 as usize, cell);
-        put_bits(&self.slots, &mut self.acting, &mut self.settling, a.0);
+        let slot = &mut self.slots[a.0 as usize];
+        slot::put_back(slot, cell);
+        put_bits(slot, &mut self.acting, &mut self.settling, a.0);
     }
 }

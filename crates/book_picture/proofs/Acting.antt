@@ -28,7 +28,7 @@ use Rattle.orca_parts.specs.declared.parts.Parts.{Parts}
 use Rattle.orca_parts.proofs.Giving.{seat_here}
 use Rattle.orca_parts.proofs.Stepped.{collect_goes, leave_goes}
 use Rattle.book_picture.specs.Leaving.{LeavesOthers}
-use Rattle.book_picture.proofs.Seats.{decs_leave, letters_leave, not_one}
+use Rattle.book_picture.proofs.Seats.{decs_leave, not_one}
 
 -- what holds of the state to which an event leads holds of the one to which it was seen to lead
 pub there : (P : State → Type 0) (step : Step State) (u t : State) → step ≡ Goes u → step ≡ Goes t → P u → P t
@@ -64,8 +64,8 @@ module _ (options : Options) (program : Program) (m : Parts) (a : ℕ) (t : Stat
       let names = a ∷ receivers back in
       let own = set s.actors a (seat (swept options.trace a cell) mail) in
       there (LeavesOthers names None s) (next s (Collect a)) _ t
-      (collect_goes s a cell mail (decs_to back) (push_all (decs_to back) own) (seat_here m.table.slots a fits.acts.cell fits.acts.home) fits.acts.may
-      (ap decs_to fits.acts.so.back_is) refl) seen
+      (collect_goes s a cell mail back (push_all (decs_to back) own) (seat_here m.table.slots a fits.acts.cell fits.acts.home) fits.acts.may
+      fits.acts.so.back_is refl) seen
       (only_seats names s _ refl (λ b out.
       let apart = spared_first a (receivers back) b out in
       decs_leave back own b apart.1 ∙ get_or-set_other s.actors a b _ None apart.0))
@@ -76,11 +76,11 @@ module _ (options : Options) (program : Program) (m : Parts) (a : ℕ) (t : Stat
       let letters = m.letters.items in
       let names = a ∷ receivers letters in
       there (LeavesOthers names None s) (next s (Leave a)) _ t
-      (leave_goes s a (as_cell fits.acts.cell) (slot_at m.table.slots a).mail.letters letters (push_all letters (set s.actors a None))
+      (leave_goes s a (as_cell fits.acts.cell) (slot_at m.table.slots a).mail.letters letters (push_all (decs_to letters) (set s.actors a None))
       (seat_here m.table.slots a fits.acts.cell fits.acts.home) fits.acts.may fits.acts.so refl) seen
       (only_seats names s _ refl (λ b out.
       let apart = spared_first a (receivers letters) b out in
-      letters_leave letters (set s.actors a None) b apart.1 ∙ get_or-set_other s.actors a b None None apart.0))
+      decs_leave letters (set s.actors a None) b apart.1 ∙ get_or-set_other s.actors a b None None apart.0))
 
   pub block_leaves : FitsBlock a m → next s (Block a) ≡ Goes t → LeavesOthers (a ∷ []) None s t
   block_leaves fits seen =

@@ -11,21 +11,22 @@ use Rattle.detector_laws.proofs.Members.{contained_each}
 use Rattle.detector_laws.proofs.Named.{numbered_is_open}
 use Rattle.detector_laws.proofs.Reap.{kept_report-in}
 use Rattle.machine_rules.proofs.Guards.{acked_open}
-use Rattle.machine_rules.specs.Detect.{empty_seats, hear, scan}
+use Rattle.machine_rules.specs.Detect.{empty_seats, hear, reap_decs, scan}
 use Rattle.machine_rules.specs.Next.{next}
 use Rattle.machine_rules.specs.Options.{Options}
 use Rattle.machine_rules.specs.State.{State}
 use Rattle.count_laws.proofs.away.Untouched.{emptied_other}
+use Rattle.actor_cell.specs.Outs.{decs_to}
 use Rattle.actor_cell.specs.Pushing.{push_all}
 use Rattle.orca_parts.specs.Fits.{CanHearFirst, CanOpenThen, CanScan, FitsReap}
 use Rattle.orca_parts.specs.Parts.{state_of}
 use Rattle.orca_parts.specs.Touched.{first_teller, first_told, receivers, teller, told_token}
 use Rattle.orca_parts.specs.declared.parts.Parts.{Parts}
-use Rattle.orca_parts.proofs.Stepped.{decs_of, reap_goes}
+use Rattle.orca_parts.proofs.Stepped.{reap_goes}
 use Rattle.book_picture.specs.Leaving.{LeavesOthers}
 use Rattle.book_picture.proofs.Acting.{there}
 use Rattle.book_picture.proofs.Noting.{AreApart, heard_leaves, scanned, scanned_leaves}
-use Rattle.book_picture.proofs.Seats.{letters_leave, parted}
+use Rattle.book_picture.proofs.Seats.{decs_leave, parted}
 use Rattle.book_picture.proofs.Tokens.{found_kept}
 
 module _ (options : Options) (program : Program) (m : Parts) (t : State) where
@@ -69,12 +70,12 @@ module _ (options : Options) (program : Program) (m : Parts) (t : State) where
       let rest = empty_seats token.members s.actors in
       let named = (numbered_is_open d number token (acked_open number d token fits.acked).0).1 in
       there (LeavesOthers (members ++ receivers letters) (Some number) s) (next s (Reap number)) _ t
-      (reap_goes s number token letters (push_all letters rest) (close_token token d) fits.acked (fits.decs ∙ ap (decs_of s.actors) (sym fits.its)) refl refl)
+      (reap_goes s number token letters (push_all (decs_to letters) rest) (close_token token d) fits.acked (fits.decs ∙ ap (λ ms. reap_decs ms ms s.actors) (sym fits.its)) refl refl)
       seen
       (record {
         seats = λ a out.
             let apart = parted members (receivers letters) a out in
-            letters_leave letters rest a apart.1 ∙ emptied_other token.members s.actors a (ap (λ ms. has ms a) fits.its ∙ apart.0);
+            decs_leave letters rest a apart.1 ∙ emptied_other token.members s.actors a (ap (λ ms. has ms a) fits.its ∙ apart.0);
         reports = λ a out.
             kept_report-in token.members d.kept a
             (ap (λ ms. has ms a) fits.its ∙ (parted members (receivers letters) a out).0);

@@ -4,7 +4,7 @@ use Rattle.std.proofs.lemmas.List.{length-map}
 use Rattle.behaviour_code.specs.declared.code.Program.{Program}
 use Rattle.event_rule.specs.Runs.{Goes}
 use Rattle.event_rule.specs.declared.event.Event.TheVariants.{Go}
-use Rattle.letter_kinds.specs.declared.letter.Letter.TheVariants.{Inc}
+use Rattle.letter_kinds.specs.Letters.{Inc}
 use Rattle.machine_rules.proofs.Posting.{push_other}
 use Rattle.machine_rules.specs.Actors.{Seat, seat, seat_at}
 use Rattle.machine_rules.specs.Cell.{fresh_cell}

@@ -4,8 +4,7 @@ use Rattle.std.proofs.lemmas.Bool.{or_parts}
 use Rattle.std.proofs.lemmas.List.Folds.{list_any-append}
 use Rattle.letter_kinds.specs.Counting.{Amount}
 use Rattle.letter_kinds.specs.Detector.{has}
-use Rattle.letter_kinds.specs.declared.letter.Letter.{Letter}
-use Rattle.letter_kinds.specs.declared.letter.Letter.TheVariants.{Confirm, Dec}
+use Rattle.letter_kinds.specs.Letters.{Confirm, Dec}
 use Rattle.machine_rules.specs.Actors.{Actors, push_letter, seat_at}
 use Rattle.machine_rules.specs.Detect.{ask_all}
 use Rattle.machine_rules.proofs.Posting.{push_other}
@@ -22,15 +21,7 @@ parted xs ys a out = or_parts (has xs a) (has ys a) (sym (list_any-append (λ x.
 pub not_one : (a b : ℕ) → has (a ∷ []) b ≡ false → b ≢ a
 not_one a b out = (spared_first a [] b out).0
 
--- letters leave the seats of those to whom none goes
-pub letters_leave : (letters : List (ℕ × Letter)) (actors : Actors) (a : ℕ) → has (receivers letters) a ≡ false
-    → seat_at (push_all letters actors) a ≡ seat_at actors a
-letters_leave [] actors a out = refl
-letters_leave (l ∷ letters) actors a out =
-    let z = spared_first l.0 (receivers letters) a out in
-    letters_leave letters (push_letter l.0 l.1 actors) a z.1 ∙ push_other actors l.0 l.1 a z.0
-
--- so do Decs those of others than their owners
+-- Decs leave the seats of others than their owners
 pub decs_leave : (groups : List (ℕ × List Amount)) (actors : Actors) (a : ℕ) → has (receivers groups) a ≡ false
     → seat_at (push_all (decs_to groups) actors) a ≡ seat_at actors a
 decs_leave [] actors a out = refl

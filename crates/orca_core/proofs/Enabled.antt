@@ -7,7 +7,7 @@ use Rattle.event_rule.specs.declared.event.Event.{Event}
 use Rattle.event_rule.specs.declared.event.Event.TheVariants.{Take, Go, Collect, Leave, Block, Hear, Scan, Reap}
 use Rattle.event_rule.proofs.Ordered.{Upto}
 use Rattle.letter_kinds.specs.Detector.{Detector, Token, all_acked, token_numbered}
-use Rattle.letter_kinds.specs.declared.letter.Letter.{Letter}
+use Rattle.letter_kinds.specs.Letters.{Letter}
 use Rattle.machine_rules.specs.Actors.{seat_at}
 use Rattle.machine_rules.specs.Block.{block}
 use Rattle.machine_rules.specs.Cell as rules

@@ -9,7 +9,7 @@ use Rattle.event_rule.specs.declared.event.Event.TheVariants.{Reap}
 use Rattle.event_rule.proofs.Order.{IsFirstOf, NonePasses, first_is, off, own, theirs, upto_by}
 use Rattle.event_rule.proofs.Ordered.{Upto}
 use Rattle.letter_kinds.specs.Detector.{Token, all_acked}
-use Rattle.letter_kinds.specs.declared.letter.Letter.{Letter}
+use Rattle.letter_kinds.specs.Letters.{Letter}
 use Rattle.machine_rules.specs.Guards.{may_do}
 use Rattle.machine_rules.specs.State.{State}
 use Rattle.detector_tokens.specs.Open.{IsLowestAcked, first_acked}

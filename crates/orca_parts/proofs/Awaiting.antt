@@ -14,7 +14,7 @@ use Rattle.reach_walk.specs.Reach.{thing_row}
 use Rattle.reach_walk.proofs.MarkLaws.{marks-exact, marks-unique}
 use Rattle.turn_rules.specs.declared.act.Frame.{Frame}
 use Rattle.turn_rules.specs.Segment.{Stop, Turn, segment_of}
-use Rattle.letter_kinds.specs.declared.letter.Letter.{Letter}
+use Rattle.letter_kinds.specs.Letters.{Letter}
 use Rattle.letter_kinds.specs.Counting.{Amount, Loaded, mint_all, mint_one, set_held}
 use Rattle.letter_kinds.specs.Holdings.{Holdings, Row, row_of, with_made, known_objects}
 use Rattle.letter_kinds.proofs.Minting.{row-mint_all}

@@ -3,7 +3,6 @@ use Rattle.std.proofs.Common.{◌≡◌, ◌≢◌, ◌≤◌, ℕ, true, List, 
 use Rattle.std.specs.Prelude.{is_some}
 use Rattle.std.proofs.lemmas.Bool.{cases_eq, cases_lt}
 use Rattle.std.proofs.lemmas.List.{get_or-set_same, get_or-set_other, get_or_past, length-set, set_past}
-use Rattle.letter_kinds.specs.declared.letter.Letter.{Letter}
 use Rattle.machine_rules.specs.Actors.{Actors, Seat, seat, seat_at}
 use Rattle.machine_rules.specs.Cell as rules
 use Rattle.machine_rules.specs.Detect.{empty_seats}
@@ -17,10 +16,10 @@ use Rattle.actor_table.proofs.Changing.{seat_read}
 use Rattle.orca_parts.specs.Letters.{FitLetters, letters_to}
 
 -- letters still fit where no actor came and no room went
-pub fits_kept : (letters : List (ℕ × Letter)) (old new : List Slot) → FitLetters letters old → KeepsRoom old new
+pub fits_kept : (names : List ℕ) (old new : List Slot) → FitLetters names old → KeepsRoom old new
     → ((a : ℕ) → is_some (seat_at (actors_of new) a) ≡ true → is_some (seat_at (actors_of old) a) ≡ true)
-    → FitLetters letters new
-fits_kept letters old new fits room present a there = omega (arith, fits a (present a there), room a)
+    → FitLetters names new
+fits_kept names old new fits room present a there = omega (arith, fits a (present a there), room a)
 
 -- the seat that is emptied is empty
 pub emptied : (actors : Actors) (a : ℕ) → is_some (seat_at (set actors a None) a) ≡ true → ⊥
@@ -30,12 +29,12 @@ emptied actors a there = elim (cases_lt a (length actors)) as (λ _. ⊥) [
 ]
 
 -- letters still fit where one actor went
-pub fits_without : (letters : List (ℕ × Letter)) (old new : List Slot) (a : ℕ) → FitLetters letters old
+pub fits_without : (names : List ℕ) (old new : List Slot) (a : ℕ) → FitLetters names old
     → actors_of new ≡ set (actors_of old) a None → ((b : ℕ) → b ≢ a → slot_at new b ≡ slot_at old b)
-    → FitLetters letters new
-fits_without letters old new a fits gone others b there = elim (cases_eq b a) as (λ _. letters_to b letters ≤ (slot_at new b).mail.spare) [
+    → FitLetters names new
+fits_without names old new a fits gone others b there = elim (cases_eq b a) as (λ _. letters_to b names ≤ (slot_at new b).mail.spare) [
   | inl same ↦ absurd (emptied (actors_of old) a (subst (λ c. is_some (seat_at (set (actors_of old) a None) c) ≡ true) same now))
-  | inr other ↦ subst (λ (x : Slot). letters_to b letters ≤ x.mail.spare) (sym (others b other))
+  | inr other ↦ subst (λ (x : Slot). letters_to b names ≤ x.mail.spare) (sym (others b other))
       (fits b (sym (ap is_some (get_or-set_other (actors_of old) a b None None other)) ∙ now))
 ]
   where

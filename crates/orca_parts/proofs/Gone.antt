@@ -9,8 +9,7 @@ use Rattle.turn_rules.specs.Segment as segment
 use Rattle.turn_rules.specs.declared.act.Frame.{Frame}
 use Rattle.event_rule.specs.declared.event.Event.TheVariants.{Go}
 use Rattle.event_rule.specs.Runs.{Goes, IsFull, NotEnabled}
-use Rattle.letter_kinds.specs.declared.letter.Letter.{Letter}
-use Rattle.letter_kinds.specs.declared.letter.Letter.TheVariants.{Inc}
+use Rattle.letter_kinds.specs.Letters.{Letter, Inc}
 use Rattle.letter_kinds.specs.Counting.{Amount}
 use Rattle.letter_kinds.specs.Holdings.{with_made}
 use Rattle.machine_rules.specs.Actors.{Actors, push_letter, seat, seat_at}

@@ -1,47 +1,21 @@
 -- Where cells are, and that whose cells are away stays so.
-use Rattle.std.proofs.Common.{◌≡◌, ℕ, zero, suc, Bool, false, List, [], ◌∷◌, ◌++◌, length, get_or, map, set, Some, true, arith, inl, inr, refl, sym, ap, subst, ◌∙◌}
+use Rattle.std.proofs.Common.{◌≡◌, ℕ, zero, suc, Bool, false, List, [], ◌∷◌, ◌++◌, length, get_or, set, Some, true, arith, inl, inr, refl, sym, ap, subst, ◌∙◌}
 use Rattle.std.proofs.lemmas.Bool.{cases_eq, cases_lt}
 use Rattle.std.proofs.lemmas.Bool.Decides.{nat_tests}
 use Rattle.std.proofs.lemmas.List.{get_or-set_same, get_or-set_other, set_past}
 use Rattle.std.proofs.Math.ListN.{get_or-map}
 use Rattle.letter_kinds.specs.Detector.{has}
 use Rattle.actor_table.specs.declared.slot.Slot.{Slot}
-use Rattle.letter_kinds.specs.declared.letter.Letter.{Letter}
-use Rattle.machine_rules.specs.Actors.{Actors}
 use Rattle.actor_cell.specs.declared.cell.Cell.{Cell}
 use Rattle.actor_table.specs.declared.slot.Place.{Place}
 use Rattle.actor_table.specs.declared.slot.Place.TheVariants.{Home, Away, Gone}
-use Rattle.actor_table.specs.Slots.{actors_of, away_of, gone, home_in, home_of, is_away, is_away_in, letters_in, places_of, seat_in, slot_at}
+use Rattle.actor_table.specs.Slots.{away_of, gone, home_in, home_of, is_away, is_away_in, places_of, slot_at}
 use Rattle.actor_table.proofs.Changing.{away_read}
 use Rattle.orca_parts.specs.Away.{KeepsAway, is_out}
 use Rattle.orca_parts.specs.Fits.{without_all}
 
 pub place_read : (slots : List Slot) (a : ℕ) → get_or (places_of slots) a Gone ≡ (slot_at slots a).place
 place_read slots a = get_or-map (λ (x : Slot). x.place) slots a gone
-
--- ---- what is told by the places and the letters
-
-seats_of : List Place → List (List Letter) → Actors
-seats_of [] rows = []
-seats_of (p ∷ places) [] = []
-seats_of (p ∷ places) (letters ∷ rows) = seat_in p letters ∷ seats_of places rows
-
-actors_read : (slots : List Slot) → actors_of slots ≡ seats_of (places_of slots) (letters_in slots)
-unfolding seats_of
-actors_read [] = refl
-actors_read (x ∷ slots) = ap (λ os. seat_in x.place x.mail.letters ∷ os) (actors_read slots)
-
--- tables of the same places and letters have the same actors
-pub same_actors : (new old : List Slot) → places_of new ≡ places_of old → letters_in new ≡ letters_in old → actors_of new ≡ actors_of old
-same_actors new old places letters = actors_read new ∙ (λ i. seats_of (places i) (letters i)) ∙ sym (actors_read old)
-
-aways_read : (slots : List Slot) → away_of slots ≡ map is_away_in (places_of slots)
-aways_read [] = refl
-aways_read (x ∷ slots) = ap (λ bs. is_away_in x.place ∷ bs) (aways_read slots)
-
--- and the same ones are away
-pub same_away : (new old : List Slot) → places_of new ≡ places_of old → away_of new ≡ away_of old
-same_away new old places = aways_read new ∙ ap (map is_away_in) places ∙ sym (aways_read old)
 
 -- ---- one place
 

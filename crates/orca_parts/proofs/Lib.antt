@@ -1,7 +1,6 @@
 pub mod Allowing
 pub mod Asking
 pub mod Awaiting
-pub mod Fitting
 pub mod Founding
 pub mod Giving
 pub mod Gone
@@ -9,6 +8,7 @@ pub mod Homes
 pub mod Posting
 pub mod Prepared
 pub mod Preparing
+pub mod Pushed
 pub mod Readied
 pub mod Reaping
 pub mod Reserving

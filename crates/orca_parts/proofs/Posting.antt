@@ -3,7 +3,7 @@ use Rattle.std.proofs.Common.{◌≡◌, ◌≤◌, ℕ, ◌+◌, ◌==◌, inl,
 use Rattle.std.specs.Prelude.{if◌then◌else◌, is_some}
 use Rattle.std.proofs.lemmas.Bool.{cases_eq, cases_lt}
 use Rattle.std.proofs.lemmas.List.{get_or-set_same, get_or-set_other, set_past}
-use Rattle.letter_kinds.specs.declared.letter.Letter.{Letter}
+use Rattle.letter_kinds.specs.Letters.{Letter}
 use Rattle.machine_rules.specs.Actors.{Actors, Seat, push_letter, seat_at, with_letter_more}
 use Rattle.actor_table.specs.declared.slot.Slot.{Slot}
 use Rattle.actor_table.specs.Slots.{actors_of, slot_at}
@@ -26,7 +26,7 @@ push_keeps to letter actors a = elim (cases_lt to (length actors)) as (λ _. is_
 ]
 
 -- once the first letter went, the others fit
-pub rest_fits : (to : ℕ) (letter : Letter) (rest : List (ℕ × Letter)) (old new : List Slot) → FitLetters ((to, letter) ∷ rest) old
+pub rest_fits : (to : ℕ) (letter : Letter) (rest : List ℕ) (old new : List Slot) → FitLetters (to ∷ rest) old
     → actors_of new ≡ push_letter to letter (actors_of old)
     → ((b : ℕ) → (slot_at old b).mail.spare ≤ (slot_at new b).mail.spare + (if b == to then 1 else 0))
     → FitLetters rest new
@@ -45,9 +45,9 @@ rest_fits to letter rest old new fits pushed room a there =
     by false false e f had have = omega (arith, had, have)
 
 -- there is room for the first
-pub first_fits : (to : ℕ) (letter : Letter) (rest : List (ℕ × Letter)) (slots : List Slot) → FitLetters ((to, letter) ∷ rest) slots
+pub first_fits : (to : ℕ) (rest : List ℕ) (slots : List Slot) → FitLetters (to ∷ rest) slots
     → is_some (seat_at (actors_of slots) to) ≡ true → 1 ≤ (slot_at slots to).mail.spare
-first_fits to letter rest slots fits there = by (to == to) refl (fits to there)
+first_fits to rest slots fits there = by (to == to) refl (fits to there)
   where
     by : (b : Bool) → (to == to) ≡ b → (if b then 1 else 0) + letters_to to rest ≤ (slot_at slots to).mail.spare → 1 ≤ (slot_at slots to).mail.spare
     by true e had = omega (arith, had)

@@ -1,24 +1,15 @@
 -- A turn that was found, and what it takes to be prepared.
 use Rattle.std.proofs.Common.{◌≡◌, ◌≤◌, ℕ, false, List, length, get_or, Option, None, Some, refl, sym, ap, subst, ◌∙◌}
-use Rattle.std.specs.Prelude.{if◌then◌else◌, is_err, is_some, IsSomeAnd, OnOk}
-use Rattle.std.specs.declared.result.Result.{Result}
-use Rattle.std.specs.declared.result.Result.TheVariants.{Ok, Err}
+use Rattle.std.specs.Prelude.{IsSomeAnd}
 use Rattle.std.specs.Option.{option_map_or}
 use Rattle.orca_names.specs.declared.limits.TheConstants.{BODY_LIMIT}
 use Rattle.behaviour_code.specs.declared.code.Program.{Program}
 use Rattle.turn_rules.specs.Segment.{Turn}
 use Rattle.turn_rules.specs.declared.act.Frame.{Frame}
-use Rattle.event_rule.specs.Runs.{NotEnabled}
-use Rattle.event_rule.specs.declared.event.Event.TheVariants.{Go as go_event}
-use Rattle.letter_kinds.specs.declared.letter.Letter.{Letter}
+use Rattle.letter_kinds.specs.Letters.{Letter}
 use Rattle.machine_rules.specs.Actors.{Seat, seat, seat_at}
 use Rattle.machine_rules.specs.Cell as rules
-use Rattle.machine_rules.specs.Go.{go}
-use Rattle.machine_rules.specs.Guards.{may_go}
-use Rattle.machine_rules.specs.Next.{acting}
-use Rattle.machine_rules.specs.State.{State}
 use Rattle.orca_names.specs.declared.options.Options.{Options}
-use Rattle.orca_names.specs.declared.trace.Trace.{Trace}
 use Rattle.actor_cell.specs.declared.cell.Cell.{Cell}
 use Rattle.actor_cell.specs.Moves.{act_in}
 use Rattle.actor_cell.specs.declared.turning.Turned.{Turned}
@@ -32,17 +23,13 @@ use Rattle.actor_table.specs.Changes.{HasCell}
 use Rattle.actor_table.specs.Slots.{Table, actors_of, away_of, is_away, is_away_in, places_of, seat_in, slot_at}
 use Rattle.actor_table.proofs.Changing.{away_read, seat_read}
 use Rattle.orca_parts.specs.declared.insides.Core.{Core}
-use Rattle.orca_parts.specs.Away.{is_out}
 use Rattle.orca_parts.specs.Core.{KeepsCore}
-use Rattle.orca_parts.specs.Faults.{IsFault}
 use Rattle.orca_parts.proofs.Homes.{place_read}
 use Rattle.orca_parts.specs.Fits.{OnlyRoom}
-use Rattle.orca_parts.specs.Goes.{FitsGo, HasRoomOut, IsFoundGo, NotGoing}
+use Rattle.orca_parts.specs.Goes.{FitsGo, HasRoomOut, IsFoundGo}
 use Rattle.orca_parts.specs.Parts.{state_of}
 use Rattle.orca_parts.specs.declared.parts.Parts.{Parts}
 use Rattle.orca_parts.proofs.Giving.{seat_here}
-use Rattle.orca_parts.specs.declared.fault.StepFault.{StepFault}
-use Rattle.orca_parts.specs.declared.fault.StepFault.TheVariants as faults
 
 -- an actor that is present and not away has its cell at home
 pub at_home : (slots : List Slot) (a : ℕ) (c : rules.Cell) (mail : List Letter) → seat_at (actors_of slots) a ≡ seat c mail
@@ -64,40 +51,7 @@ at_home slots a c mail there home = by (slot_at slots a).place refl
     by (Away y) is = let z = sym (ap is_away_in is) ∙ home in cc
     by Gone is = let z = sym (ap (λ p. seat_in p x.mail.letters) is) ∙ seated in cc
 
--- where no turn was found, a go is not enabled, the cell is away, or memory was refused
-pub not_going : (trace : Trace) (s : State) (slots : List Slot) (a : ℕ) (fault : StepFault) → s.actors ≡ actors_of slots
-    → NotGoing (slot_at slots a) fault
-    → IsFault (if is_out (away_of slots) a then NotEnabled else acting may_go (go trace s a) (seat_at s.actors a)) (go_event a) fault
-not_going trace s slots a faults.NotEnabled same none = by (slot_at slots a).place refl
-  where
-    x : Slot
-    x = slot_at slots a
-
-    read : (if is_out (away_of slots) a then NotEnabled else acting may_go (go trace s a) (seat_at s.actors a))
-        ≡ (if is_away_in x.place then NotEnabled else acting may_go (go trace s a) (seat_in x.place x.mail.letters))
-    read = λ i. if away_read slots a i then NotEnabled else acting may_go (go trace s a) ((ap (λ xs. seat_at xs a) same ∙ seat_read slots a) i)
-
-    by : (place : Place) → x.place ≡ place → (if is_out (away_of slots) a then NotEnabled else acting may_go (go trace s a) (seat_at s.actors a)) ≡ NotEnabled
-    by place is = read ∙ ap (λ p. if is_away_in p then NotEnabled else acting may_go (go trace s a) (seat_in p x.mail.letters)) is ∙ off place is
-      where
-        off : (place : Place) → x.place ≡ place → (if is_away_in place then NotEnabled else acting may_go (go trace s a) (seat_in place x.mail.letters)) ≡ NotEnabled
-        off (Home c) at = ap (λ f. if is_some f then go trace s a (as_cell c) x.mail.letters else NotEnabled) (none c at)
-        off (Away c) at = refl
-        off Gone at = refl
-not_going trace s slots a (faults.ActorsFull b) same none = absurd none
-not_going trace s slots a faults.NoMemory same none = tt
-
--- what comes with Ok gives something more
-pub ok_by : {A E P Q : Type 0} (r : Result A E) → (P → Q) → OnOk r P → OnOk r Q
-ok_by (Ok x) more so = more so
-ok_by (Err x) more so = tt
-
 -- ---- one after another
-
--- what comes with Ok, where there is no Err
-pub when_ok : {A E P : Type 0} (r : Result A E) → false ≡ is_err r → OnOk r P → P
-when_ok (Ok x) none so = so
-when_ok (Err x) none so = cc
 
 pub only_room_then : (one two three : Parts) → OnlyRoom one two → OnlyRoom two three → OnlyRoom one three
 only_room_then one two three first second =

@@ -8,23 +8,27 @@ use Rattle.std.proofs.lemmas.Bool.{cases_lt}
 use Rattle.std.proofs.lemmas.List.{get_or-map, get_or_past, length-map}
 use Rattle.event_rule.specs.Runs.{NotEnabled, Step}
 use Rattle.event_rule.specs.declared.event.Event.{Event}
-use Rattle.event_rule.specs.declared.event.Event.TheVariants.{Collect}
+use Rattle.event_rule.specs.Events.{actor_of}
+use Rattle.event_rule.specs.declared.event.Event.TheVariants.{Take, Go, Collect, Leave, Block, Hear, Scan, Reap}
 use Rattle.std.specs.VecDeque.{deque_capacity, deque_len}
-use Rattle.letter_kinds.specs.declared.letter.Letter.{Letter}
+use Rattle.letter_kinds.specs.Letters.{Letter}
 use Rattle.turn_rules.specs.declared.act.Frame.{Frame}
 use Rattle.machine_rules.specs.Actors.{Seat, seat_at}
 use Rattle.machine_rules.specs.Cell as rules
 use Rattle.machine_rules.specs.Next.{acting}
 use Rattle.machine_rules.specs.State.{State}
-use Rattle.machine_rules.specs.Guards.{may_collect, may_do, may_take}
-use Rattle.machine_rules.specs.Collect.{is_marked}
+use Rattle.machine_rules.specs.Guards.{may_block, may_collect, may_do, may_go, may_leave, may_take}
+use Rattle.machine_rules.specs.Block.{block}
+use Rattle.machine_rules.specs.Collect.{collect, is_marked}
+use Rattle.machine_rules.specs.Go.{go}
+use Rattle.machine_rules.specs.Leave.{leave}
+use Rattle.machine_rules.specs.Take.{take}
 use Rattle.orca_names.specs.declared.trace.Trace.{Trace}
 use Rattle.letter_kinds.specs.Counting.{by_owner, given_back}
 use Rattle.known_rows.specs.Holdings.{holdings_of}
 use Rattle.local_sweep.proofs.GivenBack.{back_rises}
 use Rattle.actor_cell.specs.declared.cell.Cell.{Cell}
 use Rattle.actor_cell.specs.Cells.{as_cell}
-use Rattle.actor_cell.specs.Outs.{decs_to}
 use Rattle.actor_cell.specs.declared.sweeping.Sweep.{Sweep}
 use Rattle.actor_cell.specs.Sweeps.{sweep_of}
 use Rattle.actor_cell.proofs.Marked.{back_same}
@@ -35,8 +39,8 @@ use Rattle.actor_cell.specs.Takes.{HasRoomFor}
 use Rattle.actor_table.specs.Slots.{actors_of, away_of, gone, home_in, home_of, is_away, is_away_in, letters_in, may_at, may_event, may_in, places_of, seat_in, seat_of, slot_at}
 use Rattle.actor_table.proofs.Changing.{away_read, seat_read}
 use Rattle.orca_parts.specs.declared.parts.Parts.{Parts}
-use Rattle.orca_parts.specs.Core.{next_in}
-use Rattle.orca_parts.specs.Faults.{IsFault}
+use Rattle.orca_parts.specs.Core.{KeepsCore, StandsWell, core_state, next_in}
+use Rattle.orca_parts.specs.Faults.{IsFault, RefusedBy}
 use Rattle.orca_parts.specs.Fits.{ActsAt, CollectsWith, FitsTake, KeepsTurn, OnlyRoom}
 use Rattle.orca_parts.specs.Ready.{FitsEvent, Prepares}
 use Rattle.orca_parts.specs.declared.fault.StepFault.{StepFault}
@@ -44,6 +48,7 @@ use Rattle.orca_parts.specs.declared.fault.StepFault.TheVariants as faults
 use Rattle.orca_parts.specs.declared.insides.Core.{Core}
 use Rattle.orca_parts.proofs.Awaiting.{still_awaited}
 use Rattle.orca_parts.specs.Letters.{letters_to}
+use Rattle.orca_parts.specs.Touched.{receivers}
 use Rattle.orca_parts.specs.Away.{is_out}
 use Rattle.orca_parts.proofs.Homes.{home_is}
 use Rattle.orca_parts.proofs.Reserving.{once_each}
@@ -168,13 +173,46 @@ only_room old new detector prints objects actors away notes = record {
 -- ---- how the preparing of an event ends
 
 -- the event is not enabled, or its actor's cell is away
-pub refused : {T : Type 0} (e : Event) (m : Core) → next_in m e ≡ NotEnabled → Prepares {T = T} e m m (Err faults.NotEnabled)
+refused : {T : Type 0} (e : Event) (m : Core) → next_in m e ≡ NotEnabled → Prepares {T = T} e m m (Err faults.NotEnabled)
 refused e m off = record {
   same = record { alike = record { code = refl; options = refl }; room = record { state = λ p o. refl; away = refl } };
   ok = tt;
   fault = off;
   stands = λ well. well;
 }
+
+-- it was refused after something was found
+pub refused_in : {T : Type 0} (e : Event) (m mid : Core) → KeepsCore m mid → StandsWell mid → (r : Result T StepFault) (fault : StepFault) → r ≡ Err fault
+    → IsFault (next_in m e) e fault → Prepares e m mid r
+refused_in e m mid same well r fault is so = subst (Prepares e m mid) (sym is) (record { same = same; ok = tt; fault = so; stands = λ _. well })
+
+-- whether its actor may do it, at home
+abbrev may_own : List Slot → Event → Bool
+may_own slots e = option_map_or (λ a. may_event e (slot_at slots a)) (actor_of e) true
+
+not_enabled : (m : Core) (e : Event) → may_own m.parts.table.slots e ≡ false → next_in m e ≡ NotEnabled
+not_enabled m (Take a) off = no_step may_take (take (core_state m) a) m.parts.table.slots a off
+not_enabled m (Go a) off = no_step may_go (go m.options.trace (core_state m) a) m.parts.table.slots a off
+not_enabled m (Collect a) off = no_step may_collect (collect m.options.trace (core_state m) a) m.parts.table.slots a off
+not_enabled m (Leave a) off = no_step may_leave (leave (core_state m) a) m.parts.table.slots a off
+not_enabled m (Block a) off = no_step may_block (block (core_state m) a) m.parts.table.slots a off
+not_enabled m Hear off = cc
+not_enabled m Scan off = cc
+not_enabled m (Reap number) off = cc
+
+module _ (e : Event) (m : Core) (a : ℕ) (its : actor_of e ≡ Some a) where
+  abbrev place : Slot
+  place = slot_at m.parts.table.slots a
+
+  -- the fault is right where the actor may not do it, or its cell is away
+  pub right_fault : (fault : StepFault) → RefusedBy (may_event e place) fault → IsFault (next_in m e) e fault
+  right_fault faults.NotEnabled off = not_enabled m e (ap (λ o. option_map_or (λ b. may_event e (slot_at m.parts.table.slots b)) o true) its ∙ off)
+  right_fault (faults.ActorsFull b) none = absurd none
+  right_fault faults.NoMemory none = tt
+
+  -- so is that of one of which the table lends no cell
+  pub not_lent : {T : Type 0} → None ≡ (if may_event e place then home_of place else None) → Prepares {T = T} e m m (Err faults.NotEnabled)
+  not_lent none = refused e m (right_fault faults.NotEnabled (not_acting e place none))
 
 module _ {T : Type 0} (e : Event) (m : Core) (parts : Parts) (room : OnlyRoom m.parts parts) (turn : KeepsTurn m.parts parts) where
   prepares_by : (r : Result T StepFault) → OnOk r (FitsEvent m.options m.code.now e parts) → IfErr r (IsFault (next_in m e) e)
@@ -191,8 +229,8 @@ module _ {T : Type 0} (e : Event) (m : Core) (parts : Parts) (room : OnlyRoom m.
   prepared {x} fits = prepares_by (Ok x) fits tt
 
   -- it was refused otherwise
-  pub refused_by : {fault : StepFault} → IsFault (next_in m e) e fault → Prepares {T = T} e m (record m { parts = parts }) (Err fault)
-  refused_by {fault} is = prepares_by (Err fault) tt is
+  pub refused_by : (r : Result T StepFault) (fault : StepFault) → r ≡ Err fault → IsFault (next_in m e) e fault → Prepares e m (record m { parts = parts }) r
+  refused_by r fault is so = subst (Prepares e m (record m { parts = parts })) (sym is) (prepares_by (Err fault) tt so)
 
   -- memory was refused
   pub no_memory : Prepares {T = T} e m (record m { parts = parts }) (Err faults.NoMemory)
@@ -227,8 +265,8 @@ collects_with trace a found x acts =
     }
 
 -- at most one letter returns what goes back to an owner
-pub once_back : (trace : Trace) (found : Sweep) (c : Cell) → found ≡ sweep_of trace c → (b : ℕ) → letters_to b (decs_to found.plan.back) ≤ 1
+pub once_back : (trace : Trace) (found : Sweep) (c : Cell) → found ≡ sweep_of trace c → (b : ℕ) → letters_to b (receivers found.plan.back) ≤ 1
 once_back trace found c is b =
     let marked = is_marked trace c.heap.owner (as_cell c) in
-    subst (λ (f : Sweep). letters_to b (decs_to f.plan.back) ≤ 1) (sym is)
+    subst (λ (f : Sweep). letters_to b (receivers f.plan.back) ≤ 1) (sym is)
     (once_each (sweep_of trace c).plan.back (back_rises marked (holdings_of 0 c.heap c.foreign)).owners b)

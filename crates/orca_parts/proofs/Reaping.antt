@@ -3,18 +3,16 @@ use Rattle.std.proofs.Common.{◌≡◌, ◌≢◌, ◌<◌, ℕ, List, [], ◌�
 use Rattle.std.specs.Option.{option_map_or}
 use Rattle.std.specs.List.Sorted.{IsStrictlySortedBy}
 use Rattle.std.specs.Ordering.{nat_cmp}
-use Rattle.std.proofs.lemmas.List.{get_or-set_other, map-append, set_comm}
+use Rattle.std.proofs.lemmas.List.{get_or-set_other, set_comm}
 use Rattle.event_rule.specs.Runs.{NotEnabled, Step}
-use Rattle.letter_kinds.specs.declared.letter.Letter.{Letter}
-use Rattle.letter_kinds.specs.declared.letter.Letter.TheVariants.{Dec}
-use Rattle.letter_kinds.specs.Counting.{by_owner}
+use Rattle.letter_kinds.specs.Counting.{Amount, by_owner}
 use Rattle.letter_kinds.specs.Detector.{Detector, Token}
 use Rattle.detector_tokens.proofs.RisingLemmas.{AllAbove, first_above}
 use Rattle.machine_rules.specs.Actors.{Actors, seat_at}
 use Rattle.machine_rules.specs.Detect.{acked_token, held_outside, reap_decs}
 use Rattle.actor_cell.specs.declared.cell.Cell.{Cell}
 use Rattle.actor_cell.specs.Cells.{as_cell}
-use Rattle.actor_cell.specs.Outs.{left_outside, decs_to}
+use Rattle.actor_cell.specs.Outs.{left_outside}
 use Rattle.actor_table.specs.declared.slot.Slot.{Slot}
 use Rattle.actor_table.specs.declared.slot.Place.TheVariants.{Home}
 use Rattle.actor_table.specs.Slots.{actors_of, places_of, slot_at}
@@ -22,6 +20,7 @@ use Rattle.orca_parts.specs.Fits.{FitsReap}
 use Rattle.orca_parts.specs.declared.parts.Parts.{Parts}
 use Rattle.orca_parts.specs.Letters.{FitLetters}
 use Rattle.orca_parts.specs.Reaping.{AckedAreHome, AreHome}
+use Rattle.orca_parts.specs.Touched.{receivers}
 use Rattle.orca_parts.proofs.Giving.{seat_here}
 use Rattle.orca_parts.proofs.Preparing.{same_at}
 
@@ -50,23 +49,22 @@ reaped_without members (b ∷ rest) actors a above =
     ∙ ap (λ ds. by_owner (held_outside members (seat_at actors b)) ++ ds) (reaped_without members rest (set actors b None) a above.1)
     ∙ sym (first_reaped members b rest actors)
 
--- the letters of those of the rest
-abbrev pub returned : List ℕ → List ℕ → List Slot → List (ℕ × Letter)
-returned members rest slots = decs_to (reap_decs members rest (actors_of slots))
+-- what those of the rest give back
+abbrev pub returned : List ℕ → List ℕ → List Slot → List (ℕ × List Amount)
+returned members rest slots = reap_decs members rest (actors_of slots)
 
 pub first_returned : (members : List ℕ) (a : ℕ) (rest : List ℕ) (slots : List Slot) (c : Cell) → IsStrictlySortedBy nat_cmp (a ∷ rest)
     → (slot_at slots a).place ≡ Home c
-    → returned members (a ∷ rest) slots ≡ decs_to (left_outside members (as_cell c)) ++ returned members rest slots
+    → returned members (a ∷ rest) slots ≡ left_outside members (as_cell c) ++ returned members rest slots
 first_returned members a rest slots c rises home =
     let actors = actors_of slots in
-    ap decs_to (first_reaped members a rest actors
+    first_reaped members a rest actors
     ∙ ap (λ ds. by_owner (held_outside members (seat_at actors a)) ++ ds) (reaped_without members rest actors a (first_above a rest rises))
-    ∙ ap (λ o. by_owner (held_outside members o) ++ reap_decs members rest actors) (seat_here slots a c home))
-    ∙ map-append (λ (g : ℕ × List (Rattle.letter_kinds.specs.Counting.Amount)). (g.0, Dec g.1)) (left_outside members (as_cell c)) (reap_decs members rest actors)
+    ∙ ap (λ o. by_owner (held_outside members o) ++ reap_decs members rest actors) (seat_here slots a c home)
 
 pub none_returned : (members rest : List ℕ) (slots : List Slot) → rest ≡ [] → returned members rest slots ≡ []
 none_returned members rest slots none =
-    ap (λ ms. returned members ms slots) none ∙ ap decs_to (none_reaped members (actors_of slots))
+    ap (λ ms. returned members ms slots) none ∙ none_reaped members (actors_of slots)
 
 -- ---- the token
 
@@ -94,9 +92,9 @@ pub none_acked : {S : Type 0} (found : Option Token) (goes : Token → Step S) �
 none_acked None goes is = refl
 none_acked (Some t) goes is = cc
 
-pub can_reap : (number : ℕ) (members : List ℕ) (letters : List (ℕ × Letter)) (old : List Slot) (m : Parts)
+pub can_reap : (number : ℕ) (members : List ℕ) (letters : List (ℕ × List Amount)) (old : List Slot) (m : Parts)
     → Some members ≡ option_map (λ (t : Token). t.members) (acked_token number m.detector.state) → letters ≡ returned members members old
-    → actors_of m.table.slots ≡ actors_of old → AreHome members m.table.slots → FitLetters letters m.table.slots
+    → actors_of m.table.slots ≡ actors_of old → AreHome members m.table.slots → FitLetters (receivers letters) m.table.slots
     → FitsReap number members letters m
 can_reap number members letters old m found is same home fit =
     let its = acked_with members (acked_token number m.detector.state) found in
@@ -105,6 +103,6 @@ can_reap number members letters old m found is same home fit =
       acked = its.1;
       its = its.2;
       home = home;
-      decs = is ∙ ap (λ actors. decs_to (reap_decs members members actors)) (sym same);
+      decs = is ∙ ap (reap_decs members members) (sym same);
       fit = fit;
     }

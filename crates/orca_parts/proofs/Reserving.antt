@@ -2,19 +2,20 @@
 use Rattle.std.proofs.Common.{◌≡◌, ◌≤◌, ℕ, ◌+◌, ◌==◌, inl, inr, Bool, true, false, List, [], ◌∷◌, length, get_or, Some, refl, sym, ap, subst, ◌∙◌, arith}
 use Rattle.std.specs.Prelude.{T, if◌then◌else◌, is_some}
 use Rattle.std.specs.BTreeMap.{BTreeMap, Updates}
+use Rattle.std.specs.List.Sorted.{IsStrictlySortedBy}
 use Rattle.std.specs.FinMap.Entries.{below_all, is_sorted}
 use Rattle.local_sweep.proofs.Filtered.{first, second}
 use Rattle.std.specs.Ordering.{is_lt, nat_cmp}
 use Rattle.std.proofs.lemmas.Bool.{cases_eq}
 use Rattle.std.proofs.lemmas.Bool.Decides.{nat_tests}
-use Rattle.letter_kinds.specs.declared.letter.Letter.{Letter}
 use Rattle.letter_kinds.specs.Counting.{Amount}
+use Rattle.detector_tokens.proofs.RisingLemmas.{AllAbove, first_above, rest_rises}
 use Rattle.machine_rules.specs.Actors.{seat_at}
-use Rattle.actor_cell.specs.Outs.{decs_to}
 use Rattle.actor_table.specs.declared.slot.Slot.{Slot}
-use Rattle.actor_table.specs.Changes.{KeepsRoom}
-use Rattle.actor_table.specs.Slots.{actors_of, slot_at}
+use Rattle.actor_table.specs.Changes.{KeepsRoom, OnlyTableRoom}
+use Rattle.actor_table.specs.Slots.{Table, actors_of, slot_at}
 use Rattle.orca_parts.specs.Letters.{FitLetters, count_for, letters_to}
+use Rattle.orca_parts.specs.Touched.{receivers}
 
 -- ---- letters are count_for
 
@@ -30,13 +31,13 @@ few true = omega arith
 few false = omega arith
 
 -- no more letters go to an actor than there are
-pub to_few : (a : ℕ) (letters : List (ℕ × Letter)) → letters_to a letters ≤ length letters
+pub to_few : (a : ℕ) (names : List ℕ) → letters_to a names ≤ length names
 to_few a [] = omega arith
-to_few a (l ∷ letters) = omega (arith, few (l.0 == a), to_few a letters)
+to_few a (to ∷ names) = omega (arith, few (to == a), to_few a names)
 
--- the first letter is one to its actor
-pub first_counts : (l : ℕ × Letter) (letters : List (ℕ × Letter)) → letters_to l.0 (l ∷ letters) ≡ 1 + letters_to l.0 letters
-first_counts l letters = grind (arith, nat_tests)
+-- the first of them is one to its actor
+pub first_counts : (to : ℕ) (names : List ℕ) → letters_to to (to ∷ names) ≡ 1 + letters_to to names
+first_counts to names = grind (arith, nat_tests)
 
 module _ (old new : List Slot) (actors : actors_of new ≡ actors_of old) (room : KeepsRoom old new) where
   was_there : (b : ℕ) → is_some (seat_at (actors_of new) b) ≡ true → is_some (seat_at (actors_of old) b) ≡ true
@@ -60,11 +61,11 @@ module _ (old new : List Slot) (actors : actors_of new ≡ actors_of old) (room 
   ]
 
   -- where at most one letter goes to each
-  pub each_fits : (to : ℕ) (all : ℕ → ℕ) (letter : Letter) (rest : List (ℕ × Letter)) → ((b : ℕ) → all b ≤ 1)
-      → ((b : ℕ) → is_some (seat_at (actors_of old) b) ≡ true → all b ≤ (slot_at old b).mail.spare + letters_to b ((to, letter) ∷ rest))
+  each_fits : (to : ℕ) (names rest : List ℕ) → ((b : ℕ) → letters_to b names ≤ 1)
+      → ((b : ℕ) → is_some (seat_at (actors_of old) b) ≡ true → letters_to b names ≤ (slot_at old b).mail.spare + letters_to b (to ∷ rest))
       → (is_some (seat_at (actors_of old) to) ≡ true → 1 ≤ (slot_at new to).mail.spare)
-      → (b : ℕ) → is_some (seat_at (actors_of new) b) ≡ true → all b ≤ (slot_at new b).mail.spare + letters_to b rest
-  each_fits to all letter rest once fits ok b there = elim (cases_eq to b) as (λ _. all b ≤ (slot_at new b).mail.spare + letters_to b rest) [
+      → (b : ℕ) → is_some (seat_at (actors_of new) b) ≡ true → letters_to b names ≤ (slot_at new b).mail.spare + letters_to b rest
+  each_fits to names rest once fits ok b there = elim (cases_eq to b) as (λ _. letters_to b names ≤ (slot_at new b).mail.spare + letters_to b rest) [
     | inl same ↦ omega (
       arith,
       once b,
@@ -75,10 +76,10 @@ module _ (old new : List Slot) (actors : actors_of new ≡ actors_of old) (room 
   ]
 
   -- where there is one letter
-  pub one_fits : (letters : List (ℕ × Letter)) (d : ℕ × Letter) → length letters ≡ 1
-      → (is_some (seat_at (actors_of old) (get_or letters 0 d).0) ≡ true → 1 ≤ (slot_at new (get_or letters 0 d).0).mail.spare) → FitLetters letters new
+  pub one_fits : {X : Type 0} (groups : List (ℕ × X)) (d : ℕ × X) → length groups ≡ 1
+      → (is_some (seat_at (actors_of old) (get_or groups 0 d).0) ≡ true → 1 ≤ (slot_at new (get_or groups 0 d).0).mail.spare) → FitLetters (receivers groups) new
   one_fits [] d one ok b there = absurd (omega (arith, one))
-  one_fits (x ∷ []) d one ok b there = elim (cases_eq x.0 b) as (λ _. letters_to b (x ∷ []) ≤ (slot_at new b).mail.spare) [
+  one_fits (x ∷ []) d one ok b there = elim (cases_eq x.0 b) as (λ _. letters_to b (x.0 ∷ []) ≤ (slot_at new b).mail.spare) [
     | inl same ↦ omega (
       arith,
       few (x.0 == b),
@@ -89,26 +90,73 @@ module _ (old new : List Slot) (actors : actors_of new ≡ actors_of old) (room 
   ]
   one_fits (x ∷ y ∷ rest) d one ok b there = absurd (omega (arith, one))
 
+-- ---- one letter to each
+
+-- a letter goes to each of these, and memory is taken but for those to the rest
+pub record Reserves (rest names : List ℕ) (start now : Table) : Type 0 where
+  pub same : OnlyTableRoom start now
+  pub fits : (b : ℕ) → is_some (seat_at (actors_of now.slots) b) ≡ true → letters_to b names ≤ (slot_at now.slots b).mail.spare + letters_to b rest
+
+pub still_room : (t : Table) → OnlyTableRoom t t
+still_room t = record { places = refl; letters = refl; actors = refl; away = refl; space = record { spare = refl; room = λ b. omega arith } }
+
+pub more_room : (one two three : Table) → OnlyTableRoom one two → OnlyTableRoom two three → OnlyTableRoom one three
+more_room one two three first second = record {
+  places = second.places ∙ first.places;
+  letters = second.letters ∙ first.letters;
+  actors = second.actors ∙ first.actors;
+  away = second.away ∙ first.away;
+  space = record { spare = second.space.spare ∙ first.space.spare; room = λ b. omega (arith, first.space.room b, second.space.room b) };
+}
+
+pub reserves_none : (names : List ℕ) (t : Table) → Reserves names names t t
+reserves_none names t = record { same = still_room t; fits = λ b there. omega arith }
+
+pub reserves_one : (to : ℕ) (rest names : List ℕ) (start old new : Table) → ((b : ℕ) → letters_to b names ≤ 1) → Reserves (to ∷ rest) names start old
+    → OnlyTableRoom old new → (is_some (seat_at (actors_of old.slots) to) ≡ true → 1 ≤ (slot_at new.slots to).mail.spare) → Reserves rest names start new
+reserves_one to rest names start old new once before does ok = record {
+  same = more_room start old new before.same does;
+  fits = each_fits old.slots new.slots does.actors does.space.room to names rest once before.fits ok;
+}
+
+pub reserves_all : (rest names : List ℕ) (start now : Table) → rest ≡ [] → Reserves rest names start now → FitLetters names now.slots
+reserves_all rest names start now none reserves b there = omega (arith, reserves.fits b there, ap (letters_to b) none)
+
 -- ---- groups that rise
 
-none_below : (a b : ℕ) (groups : List (ℕ × List Amount)) → T (below_all nat_cmp b groups) → a ≤ b → letters_to a (decs_to groups) ≡ 0
+none_below : (a b : ℕ) (groups : List (ℕ × List Amount)) → T (below_all nat_cmp b groups) → a ≤ b → letters_to a (receivers groups) ≡ 0
 none_below a b [] below le = refl
 none_below a b (g ∷ groups) below le =
     let above = first (is_lt (nat_cmp b g.0)) (below_all nat_cmp b groups) below in
     let rest = none_below a b groups (second (is_lt (nat_cmp b g.0)) (below_all nat_cmp b groups) below) le in
     by (is_lt (nat_cmp b g.0)) refl above rest
   where
-    by : (q : Bool) → is_lt (nat_cmp b g.0) ≡ q → T q → letters_to a (decs_to groups) ≡ 0 → letters_to a (decs_to (g ∷ groups)) ≡ 0
+    by : (q : Bool) → is_lt (nat_cmp b g.0) ≡ q → T q → letters_to a (receivers groups) ≡ 0 → letters_to a (receivers (g ∷ groups)) ≡ 0
     by true e t rest = grind (arith, nat_tests)
     by false e t rest = absurd t
 
--- one letter goes to the owner of each
-pub once_each : (groups : List (ℕ × List Amount)) → T (is_sorted nat_cmp groups) → (a : ℕ) → letters_to a (decs_to groups) ≤ 1
+-- a letter goes to the owner of each
+pub once_each : (groups : List (ℕ × List Amount)) → T (is_sorted nat_cmp groups) → (a : ℕ) → letters_to a (receivers groups) ≤ 1
 once_each [] rises a = omega arith
 once_each (g ∷ groups) rises a =
     let below = first (below_all nat_cmp g.0 groups) (is_sorted nat_cmp groups) rises in
     let rest = second (below_all nat_cmp g.0 groups) (is_sorted nat_cmp groups) rises in
-    elim (cases_eq g.0 a) as (λ _. letters_to a (decs_to (g ∷ groups)) ≤ 1) [
+    elim (cases_eq g.0 a) as (λ _. letters_to a (receivers (g ∷ groups)) ≤ 1) [
       | inl same ↦ omega (arith, few (g.0 == a), none_below a g.0 groups below (omega (arith, same)))
       | inr other ↦ grind (arith, nat_tests, once_each groups rest a)
     ]
+
+-- names that rise
+none_above : (a : ℕ) (members : List ℕ) → AllAbove a members → letters_to a members ≡ 0
+none_above a [] above = refl
+none_above a (m ∷ members) above =
+    let first = above.0 in
+    let rest = none_above a members above.1 in
+    grind (arith, nat_tests)
+
+pub asked_once : (members : List ℕ) → IsStrictlySortedBy nat_cmp members → (a : ℕ) → letters_to a members ≤ 1
+asked_once [] rises a = omega arith
+asked_once (m ∷ members) rises a = elim (cases_eq m a) as (λ _. letters_to a (m ∷ members) ≤ 1) [
+  | inl same ↦ omega (arith, few (m == a), none_above a members (subst (λ x. AllAbove x members) same (first_above m members rises)))
+  | inr other ↦ grind (arith, nat_tests, asked_once members (rest_rises m members rises) a)
+]

@@ -5,7 +5,7 @@ use Rattle.std.proofs.lemmas.Grind.{common_steps}
 use Rattle.std.proofs.lemmas.Bool.{cases_eq, cases_lt}
 use Rattle.std.proofs.lemmas.List.{get_or-set_other, length-set}
 use Rattle.std.proofs.Math.ListN.{get_or-append}
-use Rattle.letter_kinds.specs.declared.letter.Letter.{Letter}
+use Rattle.letter_kinds.specs.Letters.{Letter}
 use Rattle.machine_rules.proofs.Posting.{push_here, push_other, length-push}
 use Rattle.machine_rules.specs.Actors.{Actors, Seat, letters_of, mail_at, push_letter, seat_at, with_letter_more}
 use Rattle.machine_rules.specs.Cell.{Cell}

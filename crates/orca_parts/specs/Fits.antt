@@ -1,6 +1,6 @@
 -- What the state of the machine allows, and for what it has room.
 use Rattle.std.specs.Prelude.{ℕ, ◌≡◌, ◌<◌, true, false, Bool, List, [], ◌∷◌, Option, None, Some, set}
-use Rattle.letter_kinds.specs.declared.letter.Letter.{Letter}
+use Rattle.letter_kinds.specs.Letters.{Letter}
 use Rattle.letter_kinds.specs.declared.note.Note.{Note}
 use Rattle.letter_kinds.specs.Detector.{Token, closed_set}
 use Rattle.cycle_detect.specs.Room.{CanHear, DetectorValue}
@@ -11,11 +11,11 @@ use Rattle.event_rule.specs.declared.event.Event.TheVariants.{Block, Collect, Le
 use Rattle.machine_rules.specs.Detect.{acked_token, reap_decs}
 use Rattle.machine_rules.specs.Collect.{is_marked}
 use Rattle.orca_names.specs.declared.trace.Trace.{Trace}
-use Rattle.letter_kinds.specs.Counting.{by_owner, given_back}
+use Rattle.letter_kinds.specs.Counting.{Amount, by_owner, given_back}
 use Rattle.actor_cell.specs.declared.cell.Cell.{Cell}
 use Rattle.actor_cell.specs.declared.sweeping.Sweep.{Sweep}
 use Rattle.actor_cell.specs.Cells.{as_cell}
-use Rattle.actor_cell.specs.Outs.{left_behind, decs_to, report_of, returning}
+use Rattle.actor_cell.specs.Outs.{left_behind, report_of}
 use Rattle.actor_cell.specs.Sweeps.{sweep_of}
 use Rattle.std.specs.VecDeque.{deque_capacity, deque_len}
 use Rattle.behaviour_code.specs.declared.code.Program.{Program}
@@ -27,8 +27,9 @@ use Rattle.actor_table.specs.declared.slot.Place.TheVariants.{Home}
 use Rattle.orca_parts.specs.declared.parts.Parts.{Parts}
 use Rattle.orca_parts.specs.Parts.{state_of}
 use Rattle.actor_table.specs.Slots.{actors_of, away_of, slot_at}
-use Rattle.orca_parts.specs.Letters.{FitLetters, asks}
+use Rattle.orca_parts.specs.Letters.{FitLetters}
 use Rattle.orca_parts.specs.Reaping.{AreHome}
+use Rattle.orca_parts.specs.Touched.{receivers}
 
 -- there is a note, and the first can be heard
 abbrev pub CanHearFirst : List Note → DetectorValue → Type 0
@@ -43,7 +44,7 @@ pub record CanOpenNow (token : Token) (slots : List Slot) (d : DetectorValue) : 
   pub token_is : token ≡ new_token (first ∷ rest) d.state
   pub apart : CanOpen (first ∷ rest) d.state
   pub fits : Fits (first ∷ rest) d.room
-  pub letters : FitLetters (asks token.number (first ∷ rest)) slots
+  pub letters : FitLetters (first ∷ rest) slots
 
 abbrev pub CanOpenThen : Option Token → List Slot → DetectorValue → Type 0
 CanOpenThen None slots d = closed_set d.state ≡ []
@@ -54,16 +55,16 @@ pub record CanScan (token : Option Token) (slots : List Slot) (d : DetectorValue
   pub news : d.state.news ≡ true
   pub open_then : CanOpenThen token slots d
 
--- all members of the open token acknowledged, their cells are at home, and these letters give back
+-- all members of the open token acknowledged, their cells are at home, and the letters give back
 -- what they held outside
-pub record FitsReap (number : ℕ) (members : List ℕ) (letters : List (ℕ × Letter)) (m : Parts)
+pub record FitsReap (number : ℕ) (members : List ℕ) (letters : List (ℕ × List Amount)) (m : Parts)
     : Type 0 where
   pub token : Token
   pub acked : acked_token number m.detector.state ≡ Some token
   pub its : token.members ≡ members
   pub home : AreHome members m.table.slots
-  pub decs : letters ≡ decs_to (reap_decs members members (actors_of m.table.slots))
-  pub fit : FitLetters letters m.table.slots
+  pub decs : letters ≡ reap_decs members members (actors_of m.table.slots)
+  pub fit : FitLetters (receivers letters) m.table.slots
 
 -- none of these is away
 abbrev pub without_all : List ℕ → List Bool → List Bool
@@ -104,13 +105,12 @@ pub record FitsTake (a : ℕ) (m : Parts) : Type 0 where
 -- the sweep is that of the actor with this tracing, and the letters that return what it gives back fit
 pub record FitsCollect (trace : Trace) (a : ℕ) (found : Sweep) (m : Parts) : Type 0 where
   pub acts : ActsAt (Collect a) (slot_at m.table.slots a) (CollectsWith trace a found)
-  pub fit : FitLetters (decs_to found.plan.back) m.table.slots
+  pub fit : FitLetters (receivers found.plan.back) m.table.slots
 
 -- the actor may leave, the letters return what it held, and fit
-pub record FitsLeave (a : ℕ) (letters : List (ℕ × Letter)) (m : Parts) : Type 0 where
-  pub acts : ActsAt (Leave a) (slot_at m.table.slots a)
-      (λ c. letters ≡ (returning (left_behind a (as_cell c))).letters)
-  pub fit : FitLetters letters m.table.slots
+pub record FitsLeave (a : ℕ) (letters : List (ℕ × List Amount)) (m : Parts) : Type 0 where
+  pub acts : ActsAt (Leave a) (slot_at m.table.slots a) (λ c. letters ≡ left_behind a (as_cell c))
+  pub fit : FitLetters (receivers letters) m.table.slots
 
 -- the actor may report, its report stands there, and there is room for it
 pub record FitsBlock (a : ℕ) (m : Parts) : Type 0 where

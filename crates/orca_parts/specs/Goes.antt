@@ -6,7 +6,7 @@ use Rattle.orca_names.specs.declared.names.Thing.TheVariants.{Actor}
 use Rattle.orca_names.specs.declared.options.Options.{Options}
 use Rattle.behaviour_code.specs.declared.code.Program.{Program}
 use Rattle.turn_rules.specs.declared.act.Frame.{Frame}
-use Rattle.letter_kinds.specs.declared.letter.Letter.TheVariants.{Inc}
+use Rattle.letter_kinds.specs.Letters.{Inc}
 use Rattle.machine_rules.specs.Actors.{push_letter, seat, seat_at}
 use Rattle.turn_rules.specs.Segment.{Turn}
 use Rattle.machine_rules.specs.Cell.{fresh_cell}
@@ -15,14 +15,10 @@ use Rattle.actor_cell.specs.declared.cell.Cell.{Cell}
 use Rattle.actor_cell.specs.Moves.{Move, Post, Mint, New, Print, End, Rest, act_in}
 use Rattle.actor_cell.specs.declared.turning.Turned.{Turned}
 use Rattle.actor_cell.specs.Cells.{as_cell}
-use Rattle.actor_cell.specs.Finding.{FindsTurn}
 use Rattle.actor_cell.specs.Goes.{CanMove, IsTold, new_entries}
-use Rattle.actor_table.specs.Changes.{HasCell}
 use Rattle.actor_table.specs.declared.slot.Slot.{Slot}
 use Rattle.actor_table.specs.declared.slot.Place.TheVariants.{Home}
 use Rattle.actor_table.specs.Slots.{actors_of, slot_at}
-use Rattle.orca_parts.specs.declared.fault.StepFault.{StepFault}
-use Rattle.orca_parts.specs.declared.fault.StepFault.TheVariants as faults
 use Rattle.orca_parts.specs.declared.parts.Parts.{Parts}
 
 -- an actor that is present has room for a letter
@@ -45,22 +41,10 @@ abbrev pub IsFoundGo : Options → Program → ℕ → Turn → Turned → Cell 
 IsFoundGo options program a turn found c = IsSomeAnd c.frame
     (IsTold options program a (as_cell c) turn found.place (act_in found))
 
--- this was found of the turn of the actor, whose cell is at home, and it makes few objects
-pub record IsTurnAt (options : Options) (program : Program) (a : ℕ) (turn : Turn) (found : Turned)
-    (x : Slot) : Type 0 where
-  pub here : HasCell x (λ c. (c.heap.owner ≡ a) × FindsTurn options program c turn found)
-  pub few : length turn.made ≤ BODY_LIMIT
-
 -- this is known of the turn of the cell at home, where it has a frame
 abbrev pub IsKnownGo : Options → Program → Turn → Turned → Slot → Type 0
 IsKnownGo options program turn found x =
     (c : Cell) → x.place ≡ Home c → IsSome c.frame → IsFoundGo options program c.heap.owner turn found c
-
--- no turn was found: no cell is at home that has a frame, or memory was refused
-abbrev pub NotGoing : Slot → StepFault → Type 0
-NotGoing x faults.NotEnabled = (c : Cell) → x.place ≡ Home c → c.frame ≡ None
-NotGoing x (faults.ActorsFull b) = ⊥
-NotGoing x faults.NoMemory = ⊤
 
 -- this was found of the actor's turn, and there is room for it
 pub record FitsGo (options : Options) (program : Program) (a : ℕ) (found : Turned)

@@ -17,7 +17,7 @@ use crate::letters::{push_decs, reserve_each};
 use actor_cell::Sweep;
 use actor_table::{ActorTable, Collect};
 use event_rule::Event;
-use orca_names::{ActorName, NoMemory, Trace};
+use orca_names::{ActorName, Trace};
 use plain_list::Listed;
 use std::alloc::Global;
 use std::mem;
@@ -44,13 +44,8 @@ fn find_collect(
     if known {
         return Ok(());
     }
-    match cell.find_collect(alloc, trace) {
-        Ok(found) => {
-            *sweep = found;
-            Ok(())
-        }
-        Err(NoMemory) => Err(StepFault::NoMemory),
-    }
+    *sweep = cell.find_collect(alloc, trace)?;
+    Ok(())
 }
 
 /// What the actor's collection does, where it is not known, and the memory for the letters that return
@@ -72,16 +67,9 @@ pub(crate) fn prepare_collect(
     ensures { Prepares (collect_event a) m.old m.new result }
 {
     let trace = m.options.trace;
-    match find_collect(alloc, trace, known, &m.parts.table, &mut m.parts.sweep, a) {
-        Ok(()) => {
-            let back = m.parts.sweep.plan.back.as_slice();
-            match reserve_each(&mut m.parts.table, back) {
-                Ok(()) => Ok(()),
-                Err(NoMemory) => Err(StepFault::NoMemory),
-            }
-        }
-        Err(fault) => Err(fault),
-    }
+    find_collect(alloc, trace, known, &m.parts.table, &mut m.parts.sweep, a)?;
+    reserve_each(&mut m.parts.table, m.parts.sweep.plan.back.as_slice())?;
+    Ok(())
 }
 
 /// The actor's collection is done as it was found, and the lowest to whom a letter goes is told. It

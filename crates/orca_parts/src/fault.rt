@@ -1,6 +1,10 @@
 // Why a step is refused.
 
-use orca_names::ActorName;
+ghost use Rattle.std.specs.Prelude.{◌≡◌};
+ghost use Rattle.orca_parts.specs.declared.fault.StepFault.TheVariants.{NoMemory as no_memory};
+
+use orca_names::{ActorName, NoMemory};
+use std::alloc::AllocError;
 use thiserror::Error;
 
 /// Why the machine refused an event.
@@ -15,4 +19,20 @@ pub enum StepFault {
     /// Memory was refused.
     #[error("out of memory")]
     NoMemory,
+}
+
+impl From<NoMemory> for StepFault {
+    ghost from_gives = { λ _ e. e ≡ no_memory };
+
+    fn from(_: NoMemory) -> StepFault {
+        StepFault::NoMemory
+    }
+}
+
+impl From<AllocError> for StepFault {
+    ghost from_gives = { λ _ e. e ≡ no_memory };
+
+    fn from(_: AllocError) -> StepFault {
+        StepFault::NoMemory
+    }
 }

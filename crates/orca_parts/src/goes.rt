@@ -12,16 +12,17 @@ ghost use Rattle.actor_cell.specs.Cells.{as_cell};
 ghost use Rattle.actor_cell.specs.declared.cell.Cell.{Cell as a_cell};
 ghost use Rattle.actor_table.specs.declared.slot.Place.TheVariants.{Home};
 ghost use Rattle.actor_table.specs.Changes.{HasCell};
-ghost use Rattle.actor_table.specs.Slots.{actors_of, away_of, places_of, slot_at};
+ghost use Rattle.actor_table.specs.Slots.{actors_of, away_of, may_event, places_of, slot_at};
 ghost use Rattle.ref_weights.specs.Limit.{count_limit};
-ghost use Rattle.actor_cell.specs.Awaiting.{Awaits};
 ghost use Rattle.actor_cell.specs.Goes.{out_of};
 ghost use Rattle.actor_cell.specs.Moves.{act_in};
-ghost use Rattle.letter_kinds.specs.declared.letter.Letter.TheVariants.{App as app, Inc as inc};
+ghost use Rattle.letter_kinds.specs.Letters.{App as app, Inc as inc};
+ghost use Rattle.row_store.specs.Told.{as_load};
 ghost use Rattle.orca_parts.specs.Away.{KeepsAway};
-ghost use Rattle.orca_parts.specs.Awaiting.{AwaitedIn, AwaitsMinted, IsAwaited, IsAwaitedHere};
+ghost use Rattle.orca_parts.specs.Awaiting.{AwaitsMinted, IsAwaited};
+ghost use Rattle.orca_parts.specs.Faults.{RefusedBy};
 ghost use Rattle.orca_parts.specs.Fits.{KeepsTurn, OnlyRoom};
-ghost use Rattle.orca_parts.specs.Goes.{CountsAllow, FitsGo, HasRoomForOne, HasRoomOut, IsFoundGo, IsKnownGo, IsTurnAt, NotGoing, given};
+ghost use Rattle.orca_parts.specs.Goes.{CountsAllow, FitsGo, HasRoomForOne, HasRoomOut, IsFoundGo, given};
 ghost use Rattle.orca_parts.specs.Core.{HasFound, StandsWell};
 ghost use Rattle.orca_parts.specs.Letters.{Posts};
 ghost use Rattle.orca_parts.specs.Parts.{state_of};
@@ -32,88 +33,15 @@ use crate::fault::StepFault;
 use crate::insides::Core;
 use crate::letters::post;
 use crate::parts::Parts;
-use actor_cell::{Awaited, Cell, Doing, Turned};
+use actor_cell::{Cell, Doing, Turned};
 use actor_table::{ActorTable, Go};
 use behaviour_check::Checked;
 use behaviour_code::Name;
+use event_rule::Event;
 use letter_kinds::Letter;
 use mail_rows::MailRow;
-use orca_names::{ACTORS_LIMIT, ActorName, NoMemory, Options};
+use orca_names::{ACTORS_LIMIT, ActorName, NoMemory};
 use std::alloc::Global;
-use turn_step::Turn;
-
-// What is found of the actor's turn, in this room for a turn.
-#[inline(always)]
-fn find_go(
-    alloc: Global,
-    code: &Checked,
-    options: Options,
-    table: &ActorTable,
-    turn: &mut Turn,
-    found: &mut Turned,
-    a: ActorName,
-) -> Result<(), StepFault>
-    requires serials { (c : a_cell) → (slot_at table.now.slots a).place ≡ Home c
-        → c.heap.next + BODY_LIMIT < 2 ^ 64 }
-    ensures found { let x = slot_at table.now.slots a in
-        OnOk result (IsTurnAt options code.now a turn.new found.new x) }
-    ensures fault { IfErr result (NotGoing (slot_at table.now.slots a)) }
-{
-    let Some(cell) = table.cell(a) else {
-        return Err(StepFault::NotEnabled);
-    };
-    if !cell.frame.is_some() {
-        return Err(StepFault::NotEnabled);
-    }
-    match cell.find_go(alloc, code, options, turn, found) {
-        Ok(()) => Ok(()),
-        Err(NoMemory) => Err(StepFault::NoMemory),
-    }
-}
-
-// What is found again of the actor's turn, which stopped at this letter.
-#[inline(never)]
-fn find_again(
-    alloc: Global,
-    code: &Checked,
-    options: Options,
-    table: &ActorTable,
-    turn: &Turn,
-    found: &mut Turned,
-    a: ActorName,
-    letter: Awaited,
-) -> Result<(), StepFault>
-    requires awaited { (c : a_cell) → (slot_at table.now.slots a).place ≡ Home c
-        → Awaits options.trace code.now a (as_cell c) turn.now found.old letter }
-    ensures found { let x = slot_at table.now.slots a in
-        OnOk result (IsTurnAt options code.now a turn.now found.new x) }
-    ensures fault { IfErr result (NotGoing (slot_at table.now.slots a)) }
-{
-    // The behaviours of a checked program are short.
-    let _program = code.program();
-    let Some(cell) = table.cell(a) else {
-        return Err(StepFault::NotEnabled);
-    };
-    match cell.find_again(alloc, code, options, turn, letter, found) {
-        Ok(()) => Ok(()),
-        Err(NoMemory) => Err(StepFault::NoMemory),
-    }
-}
-
-// Whether a behaviour of the actor runs, so that it may go.
-fn runs(table: &ActorTable, a: ActorName) -> Result<(), StepFault>
-    ensures ok { OnOk result (HasCell (slot_at table.now.slots a)
-        (λ c. (c.heap.owner ≡ a) × IsSome c.frame)) }
-    ensures fault { IfErr result (NotGoing (slot_at table.now.slots a)) }
-{
-    let Some(cell) = table.cell(a) else {
-        return Err(StepFault::NotEnabled);
-    };
-    if !cell.frame.is_some() {
-        return Err(StepFault::NotEnabled);
-    }
-    Ok(())
-}
 
 // Takes the memory for what the act that was found gives out.
 #[inline(always)]
@@ -171,52 +99,52 @@ fn prepare_turn(alloc: Global, m: &mut Core<'_>, a: ActorName) -> Result<(), Ste
         name: m.parts.table.next_name(),
         weight: m.options.weight,
     };
-    if m.parts.table.reserve(a, &change).is_err() {
-        return Err(StepFault::NoMemory);
-    }
-    if reserve_out(alloc, &mut m.parts).is_err() {
-        return Err(StepFault::NoMemory);
-    }
+    m.parts.table.reserve(a, &change)?;
+    reserve_out(alloc, &mut m.parts)?;
     Ok(())
 }
 
-// What is found of the actor's turn, in this room for a turn, where it is not known. Where what was
-// found last `stands` and awaits a letter of the actor, its turn isn't run again.
+// Finds the actor's turn, where it is not known. Where what was found last stands and awaits a letter of
+// the actor, its turn isn't run again.
 #[inline(always)]
-fn find(
-    alloc: Global,
-    code: &Checked,
-    options: Options,
-    stands: bool,
-    known: bool,
-    table: &ActorTable,
-    turn: &mut Turn,
-    found: &mut Turned,
-    a: ActorName,
-) -> Result<(), StepFault>
-    requires serials { (c : a_cell) → (slot_at table.now.slots a).place ≡ Home c
+fn find_turn(alloc: Global, m: &mut Core<'_>, known: bool, a: ActorName) -> Result<(), StepFault>
+    requires serials { (c : a_cell) → (slot_at m.old.parts.table.slots a).place ≡ Home c
         → c.heap.next + BODY_LIMIT < 2 ^ 64 }
-    requires awaited { stands ≡ true
-        → AwaitedIn options.trace code.now turn.old found.old (actors_of table.now.slots) }
-    requires known { known ≡ true → IsKnownGo options code.now turn.old found.old (slot_at table.now.slots a) }
-    ensures found { OnOk result (HasCell (slot_at table.now.slots a)
-        (IsFoundGo options code.now a turn.new found.new)) }
-    ensures few { OnOk result (length turn.new.made ≤ BODY_LIMIT) }
-    ensures awaited { known ≡ false → OnOk result (HasCell (slot_at table.now.slots a)
-        (IsAwaitedHere options.trace code.now a turn.new found.new)) }
-    ensures fault { IfErr result (NotGoing (slot_at table.now.slots a)) }
+    requires stands { StandsWell m.old }
+    requires known { known ≡ true → HasFound (go_event a) m.old }
+    ensures same { m.new ≡ record m.old {
+      parts = record m.old.parts { turn = m.new.parts.turn; turned = m.new.parts.turned };
+      stands = m.new.stands;
+    } }
+    ensures stands { StandsWell m.new }
+    ensures found { OnOk result (HasCell (slot_at m.old.parts.table.slots a)
+        (IsFoundGo m.old.options m.old.code.now a m.new.parts.turn m.new.parts.turned)) }
+    ensures few { OnOk result (length m.new.parts.turn.made ≤ BODY_LIMIT) }
+    ensures fault { IfErr result (RefusedBy (may_event (go_event a) (slot_at m.old.parts.table.slots a))) }
 {
+    // The behaviours of a checked program are short.
+    let _program = m.code.program();
+    let stands = m.stands;
+    m.stands = false;
+    let Some(cell) = m.parts.table.acting(a, &Event::Go(a)) else {
+        return Err(StepFault::NotEnabled);
+    };
     if known {
-        // The behaviours of a checked program are short.
-        let _program = code.program();
-        return runs(table, a);
+        return Ok(());
     }
+    let (code, options) = (m.code, m.options);
+    let turn = &mut m.parts.turn;
+    let found = &mut m.parts.turned;
     if stands {
         if let Some(letter) = found.awaits(a) {
-            return find_again(alloc, code, options, table, turn, found, a, letter);
+            cell.find_again(alloc, code, options, turn, letter, found)?;
+            m.stands = true;
+            return Ok(());
         }
     }
-    find_go(alloc, code, options, table, turn, found, a)
+    cell.find_go(alloc, code, options, turn, found)?;
+    m.stands = true;
+    Ok(())
 }
 
 /// Finds the actor's turn, where it is not known, and takes all memory for what it does; the state stays
@@ -238,28 +166,8 @@ pub(crate) fn prepare_go(
     requires known { known ≡ true → HasFound (go_event a) m.old }
     ensures { Prepares (go_event a) m.old m.new result }
 {
-    let stands = m.stands;
-    m.stands = false;
-    let (code, options) = (m.code, m.options);
-    let turn = &mut m.parts.turn;
-    let turned = &mut m.parts.turned;
-    match find(
-        alloc,
-        code,
-        options,
-        stands,
-        known,
-        &m.parts.table,
-        turn,
-        turned,
-        a,
-    ) {
-        Ok(()) => {
-            m.stands = !known;
-            prepare_turn(alloc, m, a)
-        }
-        Err(fault) => Err(fault),
-    }
+    find_turn(alloc, m, known, a)?;
+    prepare_turn(alloc, m, a)
 }
 
 impl Parts {
@@ -303,7 +211,8 @@ fn post_letter(
 ) -> Option<ActorName>
     requires room { HasRoomForOne to table.old.slots }
     requires letter { IsSome found.old.room }
-    ensures posts { let letter = app behaviour found.old.args found.old.load found.old.rows in
+    ensures posts { let load = as_load found.old.load in
+        let letter = app behaviour found.old.args load (as_load found.old.rows) in
         Posts (push_letter to letter) table.old.slots table.new.slots result }
     ensures awaited { found.new.awaited ≡ found.old.awaited }
 {

@@ -7,7 +7,7 @@ ghost use Rattle.orca_parts.specs.Ready.{Applies, Prepares};
 
 use crate::fault::StepFault;
 use crate::insides::Core;
-use orca_names::{ActorName, NoMemory};
+use orca_names::ActorName;
 
 /// Takes the memory to hear the first of the notes. Nothing changes but room.
 ///
@@ -19,10 +19,8 @@ pub(crate) fn prepare_hear(m: &mut Core<'_>) -> Result<(), StepFault>
     let Some(note) = m.parts.notes.front() else {
         return Err(StepFault::NotEnabled);
     };
-    match m.parts.detector.prepare_hear(note) {
-        Ok(()) => Ok(()),
-        Err(NoMemory) => Err(StepFault::NoMemory),
-    }
+    m.parts.detector.prepare_hear(note)?;
+    Ok(())
 }
 
 /// The detector takes the first of its notes. It takes no memory, and wakes nobody.

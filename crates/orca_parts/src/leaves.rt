@@ -6,7 +6,7 @@ ghost use Rattle.orca_parts.specs.Ready.{Applies, Prepares};
 
 use crate::fault::StepFault;
 use crate::insides::Core;
-use crate::letters::{push_all, reserve_all};
+use crate::letters::{push_decs, reserve_all};
 use event_rule::Event;
 use orca_names::ActorName;
 use std::alloc::Global;
@@ -17,7 +17,7 @@ use std::mem;
 /// # Errors
 /// `NotEnabled` exactly where the actor may not leave, or its cell is away. `NoMemory` where memory
 /// was refused.
-#[tactic(auto, using(crate::proofs::Preparing::no_memory, crate::proofs::Preparing::only_room))]
+#[tactic(auto, using(crate::proofs::Preparing::no_memory, crate::proofs::Preparing::not_lent, crate::proofs::Preparing::only_room))]
 pub(crate) fn prepare_leave(alloc: Global, m: &mut Core<'_>, a: ActorName) -> Result<(), StepFault>
     ensures { Prepares (leave_event a) m.old m.new result }
 {
@@ -25,13 +25,8 @@ pub(crate) fn prepare_leave(alloc: Global, m: &mut Core<'_>, a: ActorName) -> Re
         return Err(StepFault::NotEnabled);
     };
     let gone = [a];
-    let Ok(given) = cell.give_back(alloc, &gone) else {
-        return Err(StepFault::NoMemory);
-    };
-    let letters = given.into_vec();
-    if reserve_all(alloc, &mut m.parts.table, &letters).is_err() {
-        return Err(StepFault::NoMemory);
-    }
+    let letters = cell.give_back(alloc, &gone)?;
+    reserve_all(alloc, &mut m.parts.table, &letters)?;
     m.parts.letters = letters;
     Ok(())
 }
@@ -45,5 +40,5 @@ pub(crate) fn apply_leave(alloc: Global, m: &mut Core<'_>, a: ActorName) -> Opti
     m.stands = false;
     let letters = mem::replace(&mut m.parts.letters, Vec::new(alloc));
     m.parts.table.clear(alloc, a);
-    push_all(&mut m.parts.table, letters)
+    push_decs(&mut m.parts.table, letters)
 }

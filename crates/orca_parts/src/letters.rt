@@ -1,11 +1,14 @@
 // Letters that an event gives out.
 
 ghost use Rattle.std.specs.Prelude.{◌≡◌, ◌==◌, ◌≤◌, ◌<◌, ◌+◌, ◌^◌, ℕ, true, is_some, None, Some, OnOk, IfOk, if◌then◌else◌};
+ghost use Rattle.letter_kinds.specs.Letters.{as_letter};
 ghost use Rattle.actor_cell.specs.Outs.{decs_to};
 ghost use Rattle.actor_cell.specs.Pushing.{push_all};
 ghost use Rattle.machine_rules.specs.Actors.{push_letter, seat_at};
+ghost use Rattle.actor_table.specs.Changes.{OnlyTableRoom};
 ghost use Rattle.actor_table.specs.Slots.{actors_of, slot_at};
-ghost use Rattle.orca_parts.specs.Letters.{FitLetters, OnlyTableRoom, Posts, count_for, letters_to};
+ghost use Rattle.orca_parts.specs.Letters.{FitLetters, Posts, count_for, letters_to};
+ghost use Rattle.orca_parts.specs.Touched.{receivers};
 ghost use Rattle.orca_parts.specs.Woken.{lower_of};
 
 use actor_table::ActorTable;
@@ -30,27 +33,27 @@ fn count_one(counts: &mut BTreeMap<ActorName, usize>, to: ActorName) -> Result<u
     Ok(n)
 }
 
-/// Takes the memory for these letters, several of which may go to one actor.
+/// Takes the memory for a letter to the owner of each group, several of which may be of one owner.
 ///
 /// # Errors
 /// `NoMemory` where memory was refused.
-#[tactic(auto, using(crate::proofs::Homes::same_actors, crate::proofs::Homes::same_away))]
+#[tactic(auto, using(crate::proofs::Reserving::more_room, crate::proofs::Reserving::still_room))]
 pub(crate) fn reserve_all(
     alloc: Global,
     table: &mut ActorTable,
-    letters: &[(ActorName, Letter)],
+    groups: &[(ActorName, Amounts)],
 ) -> Result<(), NoMemory>
     ensures same { OnlyTableRoom table.old table.new }
-    ensures ok { OnOk result (FitLetters letters.now table.new.slots) }
+    ensures ok { OnOk result (FitLetters (receivers groups.now) table.new.slots) }
 {
-    if letters.len() == 1 {
-        table.reserve_letters(letters[0].0, 1)?;
+    if groups.len() == 1 {
+        table.reserve_letters(groups[0].0, 1)?;
         return Ok(());
     }
     let mut counts = BTreeMap::new(alloc);
-    for letter in letters {
-        let n = count_one(&mut counts, letter.0)?;
-        table.reserve_letters(letter.0, n)?;
+    for group in groups {
+        let n = count_one(&mut counts, group.0)?;
+        table.reserve_letters(group.0, n)?;
     }
     Ok(())
 }
@@ -59,14 +62,14 @@ pub(crate) fn reserve_all(
 ///
 /// # Errors
 /// `NoMemory` where memory was refused.
-#[tactic(auto, using(crate::proofs::Homes::same_actors, crate::proofs::Homes::same_away))]
+#[tactic(auto, using(crate::proofs::Reserving::more_room))]
 pub(crate) fn reserve_each(
     table: &mut ActorTable,
     groups: &[(ActorName, Amounts)],
 ) -> Result<(), NoMemory>
-    requires { (b : ℕ) → letters_to b (decs_to groups.now) ≤ 1 }
+    requires { (b : ℕ) → letters_to b (receivers groups.now) ≤ 1 }
     ensures same { OnlyTableRoom table.old table.new }
-    ensures ok { OnOk result (FitLetters (decs_to groups.now) table.new.slots) }
+    ensures ok { OnOk result (FitLetters (receivers groups.now) table.new.slots) }
 {
     for group in groups {
         table.reserve_letters(group.0, 1)?;
@@ -98,7 +101,7 @@ pub(crate) fn lower(one: Option<ActorName>, two: Option<ActorName>) -> Option<Ac
 pub(crate) fn post(table: &mut ActorTable, to: ActorName, letter: Letter) -> Option<ActorName>
     requires { is_some (seat_at (actors_of table.old.slots) to) ≡ true
         → 0 < (slot_at table.old.slots to).mail.spare }
-    ensures posts { Posts (push_letter to letter) table.old.slots table.new.slots result }
+    ensures posts { Posts (push_letter to (as_letter letter)) table.old.slots table.new.slots result }
     ensures room { (b : ℕ) → (slot_at table.old.slots b).mail.spare
         ≤ (slot_at table.new.slots b).mail.spare + (if b == to then 1 else 0) }
 {
@@ -107,36 +110,21 @@ pub(crate) fn post(table: &mut ActorTable, to: ActorName, letter: Letter) -> Opt
     woken
 }
 
-/// Each letter goes to its actor, in their order, and the lowest that gets one is told; one for an
-/// actor that is gone is lost.
-pub(crate) fn push_all(
-    table: &mut ActorTable,
-    letters: Vec<(ActorName, Letter)>,
-) -> Option<ActorName>
-    requires { FitLetters letters.items table.old.slots }
-    ensures { Posts (push_all letters.items) table.old.slots table.new.slots result }
-{
-    let mut lowest = None;
-    for letter in letters {
-        let woken = post(table, letter.0, letter.1);
-        lowest = lower(lowest, woken);
-    }
-    lowest
-}
-
 /// To each owner goes a decrement of its things, in their order, and the lowest that gets one is told;
 /// one for an actor that is gone is lost.
 pub(crate) fn push_decs(
     table: &mut ActorTable,
     groups: Vec<(ActorName, Amounts)>,
 ) -> Option<ActorName>
-    requires { FitLetters (decs_to groups.items) table.old.slots }
+    requires { FitLetters (receivers groups.items) table.old.slots }
     ensures { Posts (push_all (decs_to groups.items)) table.old.slots table.new.slots result }
 {
     let mut lowest = None;
     for group in groups {
-        let woken = post(table, group.0, Letter::Dec { things: group.1 });
-        lowest = lower(lowest, woken);
+        lowest = lower(
+            lowest,
+            post(table, group.0, Letter::Dec { things: group.1 }),
+        );
     }
     lowest
 }

@@ -3,7 +3,7 @@
 use actor_cell::{Sweep, Turned};
 use actor_table::ActorTable;
 use cycle_detect::{Detector, Token};
-use letter_kinds::{Letter, Note};
+use letter_kinds::{Amounts, Note};
 use orca_names::{ActorName, Value};
 use std::collections::VecDeque;
 use turn_step::Turn;
@@ -25,8 +25,8 @@ pub struct Parts {
     pub turned: Turned,
     /// What the collection frees, gives back and forgets.
     pub sweep: Sweep,
-    /// The letters that the event gives out.
-    pub letters: Vec<(ActorName, Letter)>,
+    /// What the event gives back: to each of these owners goes a decrement of its things.
+    pub letters: Vec<(ActorName, Amounts)>,
     /// What the actor reports.
     pub report: Option<Note>,
     /// The token that the scan opens.

@@ -4,71 +4,42 @@ ghost use Rattle.std.specs.Prelude.{◌≡◌, IfOk, List, ℕ};
 ghost use Rattle.std.specs.List.Sorted.{IsStrictlySortedBy};
 ghost use Rattle.std.specs.Ordering.{nat_cmp};
 ghost use Rattle.event_rule.specs.declared.event.Event.TheVariants.{Reap as reap_event};
-ghost use Rattle.letter_kinds.specs.declared.letter.Letter.{Letter as a_letter};
 ghost use Rattle.machine_rules.specs.Detect.{empty_seats, reap_decs};
 ghost use Rattle.actor_table.specs.Slots.{actors_of, away_of};
-ghost use Rattle.actor_cell.specs.Outs.{decs_to};
 ghost use Rattle.orca_parts.specs.Fits.{FitsReap, without_all};
-ghost use Rattle.orca_parts.specs.Letters.{FitLetters, OnlyTableRoom};
+ghost use Rattle.orca_parts.specs.Letters.{FitLetters};
 ghost use Rattle.orca_parts.specs.Ready.{Applies, Prepares};
 ghost use Rattle.orca_parts.specs.Reaping.{AckedAreHome, AreHome};
 
 use crate::fault::StepFault;
 use crate::insides::Core;
-use crate::letters::{push_all, reserve_all};
+use crate::letters::{push_decs, reserve_all};
 use actor_table::ActorTable;
-use letter_kinds::Letter;
+use letter_kinds::Amounts;
 use orca_names::{ActorName, NoMemory};
 use std::alloc::Global;
 use std::mem;
 
-/// Who goes, and the letters that return what they held on things of those who stay.
-#[derive(Drop)]
-struct Going {
-    members: Vec<ActorName>,
-    letters: Vec<(ActorName, Letter)>,
-}
-
-/// The letters that return what each of these held on things of those who stay.
+/// What each of these held on things of those who stay, in groups of their owners.
 fn letters_outside(
     alloc: Global,
     table: &ActorTable,
     members: &[ActorName],
-) -> Result<Vec<(ActorName, Letter)>, NoMemory>
+) -> Result<Vec<(ActorName, Amounts)>, NoMemory>
     requires rising { IsStrictlySortedBy nat_cmp members.now }
     requires home { AreHome members.now table.now.slots }
     ensures { IfOk result (λ letters. letters.items
-        ≡ decs_to (reap_decs members.now members.now (actors_of table.now.slots))) }
+        ≡ reap_decs members.now members.now (actors_of table.now.slots)) }
 {
     let mut letters = Vec::new(alloc);
     for member in members {
         let Some(cell) = table.cell(*member) else {
             unreachable!();
         };
-        let mut returned = cell.give_back(alloc, members)?.into_vec();
+        let mut returned = cell.give_back(alloc, members)?;
         letters.append(&mut returned)?;
     }
     Ok(letters)
-}
-
-/// These members, their letters, and the memory to push those.
-fn prepare_going(
-    alloc: Global,
-    table: &mut ActorTable,
-    members: &[ActorName],
-) -> Result<Going, NoMemory>
-    requires rising { IsStrictlySortedBy nat_cmp members.now }
-    requires home { AreHome members.now table.old.slots }
-    ensures same { OnlyTableRoom table.old table.new }
-    ensures members { IfOk result (λ going. going.members.items ≡ members.now) }
-    ensures letters { IfOk result (λ going. going.letters.items
-        ≡ decs_to (reap_decs members.now members.now (actors_of table.old.slots))) }
-    ensures fit { IfOk result (λ going. FitLetters going.letters.items table.new.slots) }
-{
-    let letters = letters_outside(alloc, table, members)?;
-    reserve_all(alloc, table, &letters)?;
-    let members = Vec::from_slice(alloc, members)?;
-    Ok(Going { members, letters })
 }
 
 /// Takes the memory for a reap: who goes, and the letters that return what they held outside. Nothing
@@ -77,7 +48,7 @@ fn prepare_going(
 /// # Errors
 /// `NotEnabled` exactly where no open token of this number is acknowledged by all its members, and
 /// `NoMemory` where memory was refused.
-#[tactic(auto, using(crate::proofs::Reaping::none_acked))]
+#[tactic(auto, using(crate::proofs::Preparing::no_memory, crate::proofs::Preparing::only_room, crate::proofs::Reaping::none_acked))]
 pub(crate) fn prepare_reap(alloc: Global, m: &mut Core<'_>, number: u64) -> Result<(), StepFault>
     requires home { AckedAreHome number m.old.parts.detector.state m.old.parts.table.slots }
     ensures { Prepares (reap_event number) m.old m.new result }
@@ -85,22 +56,20 @@ pub(crate) fn prepare_reap(alloc: Global, m: &mut Core<'_>, number: u64) -> Resu
     let Some(members) = m.parts.detector.acked_members(number) else {
         return Err(StepFault::NotEnabled);
     };
-    match prepare_going(alloc, &mut m.parts.table, members) {
-        Ok(going) => {
-            m.parts.members = going.members;
-            m.parts.letters = going.letters;
-            Ok(())
-        }
-        Err(NoMemory) => Err(StepFault::NoMemory),
-    }
+    let letters = letters_outside(alloc, &m.parts.table, members)?;
+    reserve_all(alloc, &mut m.parts.table, &letters)?;
+    let going = Vec::from_slice(alloc, members)?;
+    m.parts.members = going;
+    m.parts.letters = letters;
+    Ok(())
 }
 
 /// The actors go, with their cells and letters.
 fn clear_all(alloc: Global, table: &mut ActorTable, members: &[ActorName])
     ensures actors { actors_of table.new.slots ≡ empty_seats members.now (actors_of table.old.slots) }
     ensures away { away_of table.new.slots ≡ without_all members.now (away_of table.old.slots) }
-    ensures room { (letters : List (ℕ × a_letter)) → FitLetters letters table.old.slots
-        → FitLetters letters table.new.slots }
+    ensures room { (names : List ℕ) → FitLetters names table.old.slots
+        → FitLetters names table.new.slots }
 {
     for member in members {
         table.clear(alloc, *member);
@@ -116,7 +85,7 @@ pub(crate) fn apply_reap(alloc: Global, m: &mut Core<'_>, number: u64) -> Option
     m.stands = false;
     let letters = mem::replace(&mut m.parts.letters, Vec::new(alloc));
     clear_all(alloc, &mut m.parts.table, m.parts.members.as_slice());
-    let woken = push_all(&mut m.parts.table, letters);
+    let woken = push_decs(&mut m.parts.table, letters);
     m.parts.detector.close(number);
     woken
 }

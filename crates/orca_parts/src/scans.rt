@@ -5,10 +5,11 @@ ghost use Rattle.std.specs.List.Sorted.{IsStrictlySortedBy};
 ghost use Rattle.std.specs.Ordering.{nat_cmp};
 ghost use Rattle.event_rule.specs.declared.event.Event.TheVariants.{Scan as scan_event};
 ghost use Rattle.machine_rules.specs.Detect.{ask_all};
+ghost use Rattle.actor_table.specs.Changes.{OnlyTableRoom};
 ghost use Rattle.actor_table.specs.Slots.{actors_of, away_of};
 ghost use Rattle.cycle_detect.specs.declared.detector.TheConstants.{TOKENS_LIMIT};
 ghost use Rattle.orca_parts.specs.Fits.{CanOpenThen, CanScan};
-ghost use Rattle.orca_parts.specs.Letters.{FitLetters, Posts, asks};
+ghost use Rattle.orca_parts.specs.Letters.{FitLetters, Posts};
 ghost use Rattle.orca_parts.specs.Ready.{Applies, Prepares};
 
 use crate::fault::StepFault;
@@ -21,12 +22,11 @@ use orca_names::{ActorName, NoMemory};
 use std::alloc::Global;
 
 /// Takes the memory for one letter to each of these actors.
-#[tactic(auto, using(crate::proofs::Homes::same_actors, crate::proofs::Homes::same_away))]
+#[tactic(auto, using(crate::proofs::Reserving::more_room))]
 fn reserve_asks(table: &mut ActorTable, members: &[ActorName]) -> Result<(), NoMemory>
     requires { IsStrictlySortedBy nat_cmp members.now }
-    ensures actors { actors_of table.new.slots ≡ actors_of table.old.slots }
-    ensures away { away_of table.new.slots ≡ away_of table.old.slots }
-    ensures ok { (number : ℕ) → OnOk result (FitLetters (asks number members.now) table.new.slots) }
+    ensures same { OnlyTableRoom table.old table.new }
+    ensures ok { OnOk result (FitLetters members.now table.new.slots) }
 {
     for member in members {
         table.reserve_letters(*member, 1)?;
@@ -69,24 +69,21 @@ pub(crate) fn prepare_scan(alloc: Global, m: &mut Core<'_>) -> Result<(), StepFa
     if !m.parts.detector.news() {
         return Err(StepFault::NotEnabled);
     }
-    match prepare_open(alloc, &mut m.parts.table, &mut m.parts.detector) {
-        Ok(token) => {
-            m.parts.token = token;
-            Ok(())
-        }
-        Err(NoMemory) => Err(StepFault::NoMemory),
-    }
+    m.parts.token = prepare_open(alloc, &mut m.parts.table, &mut m.parts.detector)?;
+    Ok(())
 }
 
 /// Each of these actors is asked whether it is still blocked, and the lowest that is present is told.
 fn ask_all(table: &mut ActorTable, members: &[ActorName], number: u64) -> Option<ActorName>
-    requires { FitLetters (asks number members.now) table.old.slots }
+    requires { FitLetters members.now table.old.slots }
     ensures { Posts (ask_all members.now number) table.old.slots table.new.slots result }
 {
     let mut lowest = None;
     for member in members {
-        let woken = post(table, *member, Letter::Confirm { token: number });
-        lowest = lower(lowest, woken);
+        lowest = lower(
+            lowest,
+            post(table, *member, Letter::Confirm { token: number }),
+        );
     }
     lowest
 }

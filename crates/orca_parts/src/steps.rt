@@ -55,14 +55,11 @@ pub fn apply(alloc: Global, m: &mut Core<'_>, e: Event) -> Option<ActorName>
     ensures { Applies e m.old m.new result }
 {
     match e {
-        Event::Take(actor) => apply_take(m.code, &mut m.parts, actor),
+        Event::Take(actor) => apply_take(m, actor),
         Event::Go(actor) => apply_go(alloc, m, actor),
         Event::Collect(actor) => apply_collect(alloc, m, actor),
         Event::Leave(actor) => apply_leave(alloc, m, actor),
-        Event::Block(actor) => {
-            m.stands = false;
-            apply_block(m.code, &mut m.parts, actor)
-        }
+        Event::Block(actor) => apply_block(m, actor),
         Event::Hear => apply_hear(m),
         Event::Scan => apply_scan(m),
         Event::Reap(token) => apply_reap(alloc, m, token.get()),

@@ -6,21 +6,12 @@ ghost use Rattle.std.specs.VecDeque.{deque_capacity, deque_len};
 ghost use Rattle.event_rule.specs.declared.event.Event.TheVariants.{Take as take_event};
 ghost use Rattle.machine_rules.specs.Actors.{seat_at};
 ghost use Rattle.actor_table.specs.Changes.{CanTakeHere, HasCell, note_taken};
-ghost use Rattle.actor_table.specs.Slots.{actors_of, away_of, slot_at};
-ghost use Rattle.orca_names.specs.declared.trace.Trace.{Trace as tracing};
-ghost use Rattle.event_rule.specs.Runs.{Goes};
-ghost use Rattle.machine_rules.specs.Next.{next};
-ghost use Rattle.machine_rules.specs.Options.{Options};
-ghost use Rattle.orca_parts.specs.Awaiting.{IsAwaited};
-ghost use Rattle.orca_parts.specs.Parts.{state_of};
-ghost use Rattle.orca_parts.specs.Woken.{IsLowestWoken};
-ghost use Rattle.orca_parts.specs.Ready.{Prepares};
+ghost use Rattle.actor_table.specs.Slots.{actors_of, slot_at};
+ghost use Rattle.orca_parts.specs.Ready.{Applies, Prepares};
 
 use crate::fault::StepFault;
 use crate::insides::Core;
-use crate::parts::Parts;
 use actor_table::{ActorTable, Take};
-use behaviour_check::Checked;
 use event_rule::Event;
 use letter_kinds::Note;
 use orca_names::ActorName;
@@ -31,7 +22,7 @@ use std::collections::VecDeque;
 /// # Errors
 /// `NotEnabled` exactly where the actor may not take a letter, or its cell is away. `NoMemory` where
 /// memory was refused.
-#[tactic(auto, using(crate::proofs::Preparing::no_memory, crate::proofs::Preparing::only_room))]
+#[tactic(auto, using(crate::proofs::Preparing::no_memory, crate::proofs::Preparing::not_lent, crate::proofs::Preparing::only_room))]
 #[inline(always)]
 pub(crate) fn prepare_take(m: &mut Core<'_>, a: ActorName) -> Result<(), StepFault>
     ensures { Prepares (take_event a) m.old m.new result }
@@ -39,9 +30,8 @@ pub(crate) fn prepare_take(m: &mut Core<'_>, a: ActorName) -> Result<(), StepFau
     let Some(_cell) = m.parts.table.acting(a, &Event::Take(a)) else {
         return Err(StepFault::NotEnabled);
     };
-    if m.parts.table.reserve(a, &Take).is_err() || m.parts.notes.reserve(1).is_err() {
-        return Err(StepFault::NoMemory);
-    }
+    m.parts.table.reserve(a, &Take)?;
+    m.parts.notes.reserve(1)?;
     Ok(())
 }
 
@@ -61,22 +51,16 @@ fn push_note(table: &ActorTable, notes: &mut VecDeque<Note>, a: ActorName)
 
 /// The idle actor takes the first of its letters; the memory of its arguments serves again. It takes no
 /// memory, and wakes nobody.
-pub(crate) fn apply_take(code: &Checked, parts: &mut Parts, a: ActorName) -> Option<ActorName>
-    requires can { let x = slot_at parts.old.table.slots a in
-        HasCell x (CanTakeHere a x.mail.letters) }
-    requires room { IsSome (note_taken a (seat_at (actors_of parts.old.table.slots) a))
-        → deque_len parts.old.notes < deque_capacity parts.old.notes }
-    ensures state { (options : Options) → next (state_of code.now options parts.old) (take_event a)
-        ≡ Goes (state_of code.now options parts.new) }
-    ensures awaited { (trace : tracing) → IsAwaited trace code.now parts.old
-        → IsAwaited trace code.now parts.new }
-    ensures away { away_of parts.new.table.slots ≡ away_of parts.old.table.slots }
-    ensures woken { IsLowestWoken (actors_of parts.old.table.slots) (actors_of parts.new.table.slots) result }
+pub(crate) fn apply_take(m: &mut Core<'_>, a: ActorName) -> Option<ActorName>
+    requires can { let x = slot_at m.old.parts.table.slots a in HasCell x (CanTakeHere a x.mail.letters) }
+    requires room { IsSome (note_taken a (seat_at (actors_of m.old.parts.table.slots) a))
+        → deque_len m.old.parts.notes < deque_capacity m.old.parts.notes }
+    ensures { Applies (take_event a) m.old m.new result }
 {
-    push_note(&parts.table, &mut parts.notes, a);
-    let Some(letter) = parts.table.change(code, a, &Take) else {
+    push_note(&m.parts.table, &mut m.parts.notes, a);
+    let Some(letter) = m.parts.table.change(m.code, a, &Take) else {
         unreachable!();
     };
-    parts.turned.keep_room(letter);
+    m.parts.turned.keep_room(letter);
     None
 }

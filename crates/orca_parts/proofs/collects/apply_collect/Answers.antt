@@ -10,6 +10,7 @@ use Rattle.actor_table.specs.Slots.{actors_of, slot_at}
 use Rattle.orca_parts.specs.Away.{is_out}
 use Rattle.orca_parts.specs.Core.{core_state}
 use Rattle.orca_parts.specs.Letters.{FitLetters}
+use Rattle.orca_parts.specs.Touched.{receivers}
 use Rattle.orca_parts.proofs.Giving.{changed_present, fits_kept, seat_here}
 use Rattle.orca_parts.proofs.Stepped.{collect_goes}
 use Rattle.orca_parts.proofs.Waking.{woken_changed}
@@ -26,8 +27,8 @@ push_decs-requires c =
     let slots = m.parts.table.slots in
     let a = c.args.a in
     let trace = m.options.trace in
-    subst (λ gs. FitLetters (decs_to gs) c.change.new.self.slots) (sym (c.into_vec.ensures ∙ c.replace-back.ensures.value))
-    (fits_kept (decs_to m.parts.sweep.plan.back) slots c.change.new.self.slots c.requires.fit c.change.ensures.rest.room
+    subst (λ gs. FitLetters (receivers gs) c.change.new.self.slots) (sym (c.into_vec.ensures ∙ c.replace-back.ensures.value))
+    (fits_kept (receivers m.parts.sweep.plan.back) slots c.change.new.self.slots c.requires.fit c.change.ensures.rest.room
     (λ b there. sym (changed_present (swept trace a) a (actors_of slots) b) ∙ sym (ap (λ xs. is_some (seat_at xs b)) c.change.ensures.actors) ∙ there))
 
 pub returns : goal.returns
@@ -38,14 +39,13 @@ returns c =
     let cell = acts.cell in
     let a = c.args.a in
     let trace = m.options.trace in
-    let letters = decs_to c.into_vec.result.items in
     let here = seat_here slots a cell acts.home in
     let actors = c.change.ensures.actors ∙ ap (λ o. set (actors_of slots) a (with_cell_by (swept trace a) o)) here in
     let pushed = c.push_decs.ensures in
     record {
       state = collect_goes (core_state m) a (as_cell cell) (slot_at slots a).mail.letters
-          letters (actors_of c.push_decs.new.table.slots) here
-          acts.may (ap decs_to (c.into_vec.ensures ∙ c.replace-back.ensures.value ∙ acts.so.back_is)) (pushed.actors ∙ ap (push_all letters) actors);
+          c.into_vec.result.items (actors_of c.push_decs.new.table.slots) here
+          acts.may (c.into_vec.ensures ∙ c.replace-back.ensures.value ∙ acts.so.back_is) (pushed.actors ∙ ap (push_all (decs_to c.into_vec.result.items)) actors);
       alike = record { code = refl; options = refl };
       away = λ b. ap (λ bs. is_out bs b) (pushed.away ∙ c.change.ensures.rest.away);
       woken = woken_changed (swept trace a) a (actors_of slots) (actors_of c.change.new.self.slots)

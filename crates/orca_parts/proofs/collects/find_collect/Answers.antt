@@ -1,11 +1,11 @@
 use Rattle.std.proofs.Common.{◌≡◌}
 use Rattle.event_rule.specs.declared.event.Event.TheVariants.{Collect}
+use Rattle.machine_rules.specs.Guards.{may_collect}
 use Rattle.actor_cell.specs.declared.cell.Cell.{Cell}
 use Rattle.actor_cell.specs.Sweeps.{sweep_of}
 use Rattle.actor_table.specs.Slots.{slot_at}
 use Rattle.orca_parts.proofs.Homes.{home_is}
 use Rattle.orca_parts.proofs.Preparing.{acts_here, acts_home, may_here, not_acting, rests_dirty}
-use Rattle.machine_rules.specs.Guards.{may_collect}
 use Rattle.orca_parts.proofs.collects.find_collect.Goals as goal
 
 pub returns-in_default : goal.returns-in_default
@@ -33,9 +33,9 @@ find_collect-requires c =
     let its = acts_home (Collect c.args.a) x c.in-Some.cell.now c.in-Some.ensures.cell in
     c.requires.others c.in-Some.cell.now (home_is x c.in-Some.cell.now its.0) c.in-Some.ensures.owner
 
-pub returns-in-Ok : goal.returns-in-Ok
-returns-in-Ok c = record {
+pub returns : goal.returns
+returns c = record {
   ok = acts_here (Collect c.args.a) (slot_at c.args.table.now.slots c.args.a) c.in-Some.cell.now
-      (λ (y : Cell). (y.heap.owner ≡ c.args.a) × (c.in-Ok.found ≡ sweep_of c.args.trace y)) c.in-Some.ensures.cell (c.in-Some.ensures.owner, c.in-Ok.ensures);
+      (λ (y : Cell). (y.heap.owner ≡ c.args.a) × (c.in_ok-sweep.field-0 ≡ sweep_of c.args.trace y)) c.in-Some.ensures.cell (c.in-Some.ensures.owner, c.in_ok-sweep.ensures);
   fault = tt;
 }

@@ -4,6 +4,7 @@ use Rattle.std.proofs.lemmas.List.{length-map}
 use Rattle.orca_names.specs.declared.names.Thing.TheVariants.{Actor}
 use Rattle.event_rule.specs.Runs.{Goes}
 use Rattle.actor_cell.specs.Cells.{as_cell}
+use Rattle.row_store.specs.Told.{as_load}
 use Rattle.actor_cell.specs.Moves.{Move, act_in, move_of}
 use Rattle.actor_table.specs.Slots.{actors_of, seat_of, slot_at}
 use Rattle.actor_table.specs.Changes.{changed_at, moved, named, with_cell_by}
@@ -71,7 +72,7 @@ returns c =
       woken = woken_changed (λ x. named weight c.next_name.result act (moved a m.turn t.place act x)) a (actors_of slots)
           (actors_of c.change.new.self.slots) (actors_of c.give_out.new.parts.table.slots) c.give_out.result c.change.ensures.actors gives.woken;
       stands = λ well on. gives.awaited options.trace (λ owner mints.
-          let its = ap (λ d. move_of d t.args t.load t.rows t.things) mints in
+          let its = ap (λ d. move_of d t.args (as_load t.load) (as_load t.rows) t.things) mints in
           let went = c.change.ensures.actors ∙ ap (λ does. changed_at (change c.next_name.result does) a (actors_of slots)) its in
           subst (AwaitedIn options.trace program m.turn t) (sym went)
           (mint_awaits options.trace program m.turn t a cell mail t.place owner t.things (actors_of slots)

@@ -1,35 +1,39 @@
-use Rattle.std.proofs.Common.{refl}
-use Rattle.std.specs.Prelude.{not}
-use Rattle.std.proofs.lemmas.Bool.{not-true}
-use Rattle.orca_parts.specs.Core.{core_state}
+use Rattle.std.proofs.Common.{refl, rules, subst, sym}
+use Rattle.std.specs.Prelude.{IfErr}
+use Rattle.event_rule.specs.declared.event.Event.TheVariants.{Go}
+use Rattle.actor_table.specs.Changes.{HasCell}
+use Rattle.actor_table.specs.Slots.{slot_at}
+use Rattle.orca_parts.specs.Core.{KeepsCore, next_in}
+use Rattle.orca_parts.specs.Faults.{IsFault}
+use Rattle.orca_parts.specs.Goes.{IsFoundGo}
 use Rattle.orca_parts.specs.declared.insides.Core.{Core}
-use Rattle.orca_parts.proofs.Awaiting.{found_awaited}
-use Rattle.orca_parts.proofs.Prepared.{keeps_then, not_going}
+use Rattle.orca_parts.proofs.Prepared.{keeps_then}
+use Rattle.orca_parts.proofs.Preparing.{refused_in, right_fault}
 use Rattle.orca_parts.proofs.goes.prepare_go.Goals as goal
 
-pub returns-in-Err : goal.returns-in-Err
-returns-in-Err c =
+pub returns-in_err-find_turn : goal.returns-in_err-find_turn
+returns-in_err-find_turn c =
     let m = c.args.m.now in
-    record {
-      same = record { alike = record { code = refl; options = refl }; room = record { state = λ p o. refl; away = refl } };
-      ok = tt;
-      fault = not_going m.options.trace (core_state m) m.parts.table.slots c.args.a c.in-Err.fault refl c.in-Err.ensures.fault;
-      stands = λ well on. cc;
-    }
+    refused_in (Go c.args.a) m c.find_turn.new.m
+    (subst (KeepsCore m) (sym c.find_turn.ensures.same) (record { alike = record { code = refl; options = refl }; room = record { state = λ p o. refl; away = refl } }))
+    c.find_turn.ensures.stands _ _ (search rules) (right_fault (Go c.args.a) m c.args.a refl _ c.in_err-find_turn.ensures.fault)
 
-pub returns-in-Ok : goal.returns-in-Ok
-returns-in-Ok c =
+pub prepare_turn-requires-clause-found : goal.prepare_turn-requires-clause-found
+prepare_turn-requires-clause-found c =
+    let mid = c.find_turn.new.m in
+    subst (λ (x : Core). HasCell (slot_at x.parts.table.slots c.args.a) (IsFoundGo x.options x.code.now c.args.a mid.parts.turn mid.parts.turned))
+    (sym c.find_turn.ensures.same) c.in_ok-find_turn.ensures.found
+
+pub returns : goal.returns
+returns c =
     let m = c.args.m.now in
-    let mid : Core = record m {
-      parts = record m.parts { turn = c.find.new.turn; turned = c.find.new.found };
-      stands = not c.args.known;
-    } in
+    let mid = c.find_turn.new.m in
     let does = c.prepare_turn.ensures in
     record {
       same = keeps_then m mid c.prepare_turn.new.m
-          (record { alike = record { code = refl; options = refl }; room = record { state = λ p o. refl; away = refl } }) does.same;
+          (subst (KeepsCore m) (sym c.find_turn.ensures.same)
+          (record { alike = record { code = refl; options = refl }; room = record { state = λ p o. refl; away = refl } })) does.same;
       ok = does.ok;
-      fault = does.fault;
-      stands = λ well. does.stands (λ on.
-          found_awaited m.options.trace m.code.now c.args.a mid.parts (c.in-Ok.ensures.awaited (not-true c.args.known on)));
+      fault = subst (λ (x : Core). IfErr c.prepare_turn.result (IsFault (next_in x (Go c.args.a)) (Go c.args.a))) c.find_turn.ensures.same does.fault;
+      stands = λ well. does.stands c.find_turn.ensures.stands;
     }

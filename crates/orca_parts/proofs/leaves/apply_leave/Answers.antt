@@ -1,7 +1,8 @@
-use Rattle.std.proofs.Common.{ℕ, ap, refl, subst, sym, ◌∙◌}
+use Rattle.std.proofs.Common.{List, ℕ, ap, refl, subst, sym, ◌∙◌}
 use Rattle.std.specs.Global.{Vec}
-use Rattle.letter_kinds.specs.declared.letter.Letter.{Letter}
+use Rattle.letter_kinds.specs.Counting.{Amount}
 use Rattle.actor_cell.specs.Cells.{as_cell}
+use Rattle.actor_cell.specs.Outs.{decs_to}
 use Rattle.actor_cell.specs.Pushing.{push_all}
 use Rattle.actor_table.specs.Slots.{actors_of, away_of, slot_at}
 use Rattle.orca_parts.specs.Away.{is_out}
@@ -20,16 +21,17 @@ returns c =
     let acts = c.requires.acts in
     let cell = acts.cell in
     let old = actors_of slots in
-    let pushed = c.push_all.ensures in
+    let pushed = c.push_decs.ensures in
+    let letters = decs_to c.replace-letters.result.items in
     record {
       state = leave_goes (core_state m) a (as_cell cell) (slot_at slots a).mail.letters
-          c.replace-letters.result.items (actors_of c.push_all.new.table.slots) (seat_here slots a cell acts.home)
-          acts.may (ap (λ (ls : Vec (ℕ × Letter)). ls.items) c.replace-letters.ensures.value ∙ acts.so)
-          (pushed.actors ∙ ap (push_all c.replace-letters.result.items) c.clear.ensures.actors);
+          c.replace-letters.result.items (actors_of c.push_decs.new.table.slots) (seat_here slots a cell acts.home)
+          acts.may (ap (λ (ls : Vec (ℕ × List Amount)). ls.items) c.replace-letters.ensures.value ∙ acts.so)
+          (pushed.actors ∙ ap (push_all letters) c.clear.ensures.actors);
       alike = record { code = refl; options = refl };
       away = λ b. ap (λ bs. is_out bs b) (pushed.away ∙ c.clear.ensures.away)
           ∙ without_keeps (away_of slots) a (home_stays slots a cell acts.home) b;
-      woken = woken_without c.replace-letters.result.items old (actors_of c.clear.new.self.slots) (actors_of c.push_all.new.table.slots) c.push_all.result
+      woken = woken_without letters old (actors_of c.clear.new.self.slots) (actors_of c.push_decs.new.table.slots) c.push_decs.result
           (subst (OnlyLoses old) (sym c.clear.ensures.actors) (loses_one a old)) pushed.actors pushed.woken;
       stands = λ well on. cc;
     }

@@ -1,40 +1,24 @@
-use Rattle.std.proofs.Common.{◌≤◌, ◌+◌, ap, subst, ◌∙◌, drop, arith}
-use Rattle.letter_kinds.specs.declared.letter.Letter.TheVariants.{Dec}
+use Rattle.std.proofs.Common.{ap, drop, subst, ◌+◌}
 use Rattle.std.proofs.lemmas.List.{drop_all}
 use Rattle.trace_send.proofs.Steps.{rest_of}
-use Rattle.actor_cell.specs.Outs.{decs_to}
-use Rattle.actor_table.specs.Slots.{slot_at}
-use Rattle.orca_parts.specs.Letters.{letters_to}
-use Rattle.orca_parts.proofs.Homes.{same_actors}
-use Rattle.orca_parts.proofs.Reserving.{each_fits}
+use Rattle.orca_parts.specs.Touched.{receivers}
+use Rattle.orca_parts.proofs.Reserving.{Reserves, reserves_all, reserves_none, reserves_one}
 use Rattle.orca_parts.proofs.letters.reserve_each.Goals as goal
+
+pub loop-group-init : goal.loop-group-init
+loop-group-init c = reserves_none (receivers c.args.groups.now) c.args.table.now
 
 pub loop-group-preserved : goal.loop-group-preserved
 loop-group-preserved c =
     let groups = c.args.groups.now in
     let i = c.loop-group.group-index in
     let g = c.group-item.result in
-    let rest = rest_of groups i g c.loop-group-test.true c.group-item.is in
-    let old = c.loop-group.table.slots in
-    let new = c.reserve_letters.new.self.slots in
-    let before = c.loop-group.invariant in
-    let does = c.reserve_letters.ensures in
-    let actors = same_actors new old does.places does.letters in
-    record {
-      places = does.places ∙ before.places;
-      rows = does.letters ∙ before.rows;
-      room = λ b. omega (arith, before.room b, does.rest.room b);
-      spare = does.rest.spare ∙ before.spare;
-      fits = each_fits old new actors does.rest.room g.0 (λ b. letters_to b (decs_to groups)) (Dec g.1) (decs_to (drop (i + 1) groups)) c.requires
-          (λ b there. subst (λ gs. letters_to b (decs_to groups) ≤ (slot_at old b).mail.spare + letters_to b (decs_to gs)) rest (before.fits b there))
-          c.in_ok-reserve_letters.ensures.ok;
-    }
+    reserves_one g.0 (receivers (drop (i + 1) groups)) (receivers groups) c.args.table.now c.loop-group.table c.reserve_letters.new.self c.requires
+    (subst (λ gs. Reserves (receivers gs) (receivers groups) c.args.table.now c.loop-group.table) (rest_of groups i g c.loop-group-test.true c.group-item.is) c.loop-group.invariant)
+    c.reserve_letters.ensures.same c.in_ok-reserve_letters.ensures.ok
 
 pub returns-clause-ok : goal.returns-clause-ok
-returns-clause-ok c = λ b there.
+returns-clause-ok c =
     let groups = c.args.groups.now in
-    omega (
-      arith,
-      c.loop-group.invariant.fits b there,
-      ap (λ gs. letters_to b (decs_to gs)) (drop_all c.loop-group.group-index groups c.loop-group-test.false),
-    )
+    let i = c.loop-group.group-index in
+    reserves_all (receivers (drop i groups)) (receivers groups) c.args.table.now c.loop-group.table (ap receivers (drop_all i groups c.loop-group-test.false)) c.loop-group.invariant

@@ -1,18 +1,26 @@
-use Rattle.std.proofs.Common.{◌≡◌, ℕ, IfSome, ap, refl, subst, sym, ◌∙◌}
+use Rattle.std.proofs.Common.{◌≡◌, List, ℕ, IfSome, ap, refl, subst, sym, ◌∙◌}
 use Rattle.std.specs.Global.{Vec}
-use Rattle.letter_kinds.specs.declared.letter.Letter.{Letter}
+use Rattle.letter_kinds.specs.Counting.{Amount}
 use Rattle.letter_kinds.specs.Detector.{close_token}
-use Rattle.machine_rules.specs.Detect.{empty_seats}
+use Rattle.machine_rules.specs.Detect.{empty_seats, reap_decs}
 use Rattle.machine_rules.proofs.Guards.{acked_open}
+use Rattle.actor_cell.specs.Outs.{decs_to}
 use Rattle.actor_cell.specs.Pushing.{push_all}
 use Rattle.actor_table.specs.Slots.{actors_of, away_of}
 use Rattle.orca_parts.specs.Away.{is_out}
 use Rattle.orca_parts.proofs.Homes.{home_stays, without_all_keeps}
 use Rattle.orca_parts.specs.Fits.{without_all}
 use Rattle.orca_parts.specs.Core.{core_state}
-use Rattle.orca_parts.proofs.Stepped.{decs_of, reap_goes}
+use Rattle.orca_parts.specs.Letters.{FitLetters}
+use Rattle.orca_parts.specs.Touched.{receivers}
+use Rattle.orca_parts.proofs.Stepped.{reap_goes}
 use Rattle.orca_parts.proofs.Waking.{OnlyLoses, loses_all, woken_without}
 use Rattle.orca_parts.proofs.reaps.apply_reap.Goals as goal
+
+pub push_decs-woken-requires : goal.push_decs-woken-requires
+push_decs-woken-requires c =
+    subst (λ (ls : Vec (ℕ × List Amount)). FitLetters (receivers ls.items) c.clear_all.new.table.slots) (sym c.replace-letters.ensures.value)
+    (c.clear_all.ensures.room (receivers c.args.m.now.parts.letters.items) c.requires.fit)
 
 pub returns : goal.returns
 returns c =
@@ -22,18 +30,19 @@ returns c =
     let actors = actors_of slots in
     let d = m.parts.detector.state in
     let members = m.parts.members.items in
-    let pushed = c.push_all-woken.ensures in
+    let pushed = c.push_decs-woken.ensures in
+    let letters = decs_to c.replace-letters.result.items in
     record {
       state = reap_goes (core_state m) c.args.number c.requires.token c.replace-letters.result.items
-          (actors_of c.push_all-woken.new.table.slots) c.close.new.self.state c.requires.acked
-          (ap (λ (ls : Vec (ℕ × Letter)). ls.items) c.replace-letters.ensures.value ∙ c.requires.decs ∙ ap (decs_of actors) its)
-          (pushed.actors ∙ ap (push_all c.replace-letters.result.items) (c.clear_all.ensures.actors ∙ ap (λ ms. empty_seats ms actors) (c.as_slice.ensures.value ∙ its)))
+          (actors_of c.push_decs-woken.new.table.slots) c.close.new.self.state c.requires.acked
+          (ap (λ (ls : Vec (ℕ × List Amount)). ls.items) c.replace-letters.ensures.value ∙ c.requires.decs ∙ ap (λ ms. reap_decs ms ms actors) its)
+          (pushed.actors ∙ ap (push_all letters) (c.clear_all.ensures.actors ∙ ap (λ ms. empty_seats ms actors) (c.as_slice.ensures.value ∙ its)))
           (subst (λ o. IfSome o (λ t. c.close.new.self.state ≡ close_token t d)) (acked_open c.args.number d c.requires.token c.requires.acked).0 c.close.ensures);
       alike = record { code = refl; options = refl };
       away = λ a. ap (λ bs. is_out bs a) (pushed.away ∙ c.clear_all.ensures.away)
           ∙ ap (λ ms. is_out (without_all ms (away_of slots)) a) c.as_slice.ensures.value
           ∙ without_all_keeps members (away_of slots) (λ n member. home_stays slots n (c.requires.home n member).cell (c.requires.home n member).home) a;
-      woken = woken_without c.replace-letters.result.items actors (actors_of c.clear_all.new.table.slots) (actors_of c.push_all-woken.new.table.slots) c.push_all-woken.result
+      woken = woken_without letters actors (actors_of c.clear_all.new.table.slots) (actors_of c.push_decs-woken.new.table.slots) c.push_decs-woken.result
           (subst (OnlyLoses actors) (sym c.clear_all.ensures.actors) (loses_all c.as_slice.result.now actors)) pushed.actors pushed.woken;
       stands = λ well on. cc;
     }

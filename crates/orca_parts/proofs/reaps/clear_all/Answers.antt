@@ -20,8 +20,8 @@ loop-member-preserved c =
           ∙ sym (ap (λ ms. empty_seats ms (actors_of slots)) rest) ∙ c.loop-member.invariant.actors;
       away = ap (without_all (drop (i + 1) members)) c.clear.ensures.away
           ∙ sym (ap (λ ms. without_all ms (away_of slots)) rest) ∙ c.loop-member.invariant.away;
-      room = λ letters fits.
-          fits_without letters slots c.clear.new.self.slots m (c.loop-member.invariant.room letters fits) c.clear.ensures.actors c.clear.ensures.room;
+      room = λ names fits.
+          fits_without names slots c.clear.new.self.slots m (c.loop-member.invariant.room names fits) c.clear.ensures.actors c.clear.ensures.room;
     }
 
 pub returns-clause-actors : goal.returns-clause-actors

@@ -1,5 +1,4 @@
 use Rattle.std.proofs.Common.{◌≡◌, drop, ℕ, List}
-use Rattle.letter_kinds.specs.declared.letter.Letter.{Letter}
 use Rattle.machine_rules.specs.Detect.{empty_seats}
 use Rattle.actor_table.specs.Slots.{actors_of, away_of}
 use Rattle.orca_parts.specs.Fits.{without_all}
@@ -12,5 +11,5 @@ invariant-loop-member l = record {
       ≡ empty_seats l.members (actors_of l.fn.table.slots);
   away : without_all (drop l.member-index l.members) (away_of l.table.slots)
       ≡ without_all l.members (away_of l.fn.table.slots);
-  room : (letters : List (ℕ × Letter)) → FitLetters letters l.fn.table.slots → FitLetters letters l.table.slots;
+  room : (names : List ℕ) → FitLetters names l.fn.table.slots → FitLetters names l.table.slots;
 }

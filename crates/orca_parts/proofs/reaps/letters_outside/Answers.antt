@@ -4,7 +4,7 @@ use Rattle.std.specs.List.Sorted.{IsStrictlySortedBy}
 use Rattle.std.specs.Ordering.{nat_cmp}
 use Rattle.detector_tokens.proofs.RisingLemmas.{rest_rises}
 use Rattle.actor_cell.specs.Cells.{as_cell}
-use Rattle.actor_cell.specs.Outs.{left_outside, decs_to}
+use Rattle.actor_cell.specs.Outs.{left_outside}
 use Rattle.actor_table.specs.Slots.{slot_at}
 use Rattle.trace_send.proofs.Steps.{rest_of}
 use Rattle.orca_parts.proofs.Homes.{home_is}
@@ -21,12 +21,12 @@ loop-member-preserved c =
     let slots = c.args.table.now.slots in
     let rising = subst (IsStrictlySortedBy nat_cmp) rest c.loop-member.invariant.rising in
     let cell = c.in-Some.cell.now in
-    let its = decs_to (left_outside members (as_cell cell)) in
+    let its = left_outside members (as_cell cell) in
     let sofar = c.loop-member.letters.items in
     record {
       rising = rest_rises m later rising;
       letters =
-          ap (λ ls. ls ++ returned members later slots) (c.in_ok-append.ensures.items ∙ ap (λ ls. sofar ++ ls) (c.into_vec-returned.ensures ∙ c.in_ok-give_back.ensures))
+          ap (λ ls. ls ++ returned members later slots) (c.in_ok-append.ensures.items ∙ ap (λ ls. sofar ++ ls) c.in_ok-returned.ensures)
           ∙ append_assoc sofar its (returned members later slots)
           ∙ ap (λ ls. sofar ++ ls) (sym (first_returned members m later slots cell rising (home_is (slot_at slots m) cell c.in-Some.ensures.cell)))
           ∙ sym (ap (λ ms. sofar ++ returned members ms slots) rest) ∙ c.loop-member.invariant.letters;

@@ -1,25 +1,15 @@
 use Rattle.std.proofs.Common.{refl, rules}
 use Rattle.event_rule.specs.declared.event.Event.TheVariants.{Take}
-use Rattle.machine_rules.specs.Guards.{may_take}
-use Rattle.machine_rules.specs.Take.{take}
 use Rattle.actor_table.specs.Slots.{slot_at}
-use Rattle.orca_parts.specs.Core.{core_state}
 use Rattle.orca_parts.specs.declared.parts.Parts.{Parts}
-use Rattle.orca_parts.proofs.Preparing.{acts_home, fits_take, no_step, not_acting, only_room, prepared, refused}
+use Rattle.orca_parts.proofs.Preparing.{acts_home, fits_take, only_room, prepared}
 use Rattle.orca_parts.proofs.takes.prepare_take.Goals as goal
-
-pub returns-in_default : goal.returns-in_default
-returns-in_default c =
-    let m = c.args.m.now in
-    let slots = m.parts.table.slots in
-    refused (Take c.args.a) m
-    (no_step may_take (take (core_state m) c.args.a) slots c.args.a (not_acting (Take c.args.a) (slot_at slots c.args.a) c.in_default.ensures.cell))
 
 pub returns : goal.returns
 returns c =
     let m = c.args.m.now in
     let slots = m.parts.table.slots in
-    let parts : Parts = record m.parts { table = c.reserve.new.self; notes = c.reserve-else-is_err.new.self } in
+    let parts : Parts = record m.parts { table = c.reserve.new.self; notes = c.reserve-2.new.self } in
     let actors = c.reserve.ensures.actors in
     let away = c.reserve.ensures.rest.away in
     prepared (Take c.args.a) m parts (only_room m.parts parts refl refl refl actors away (search rules)) (record { turn = refl; turned = refl })

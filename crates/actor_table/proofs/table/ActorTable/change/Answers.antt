@@ -1,18 +1,43 @@
-use Rattle.std.proofs.Common.{subst, sym}
-use Rattle.actor_table.specs.Changes.{CanChange, IsChangedAt}
-use Rattle.actor_table.specs.Slots.{AreIndexed, Table, slot_at}
+use Rattle.std.proofs.Common.{◌≤◌, ap, rules, set, subst, sym, ◌∙◌}
+use Rattle.std.specs.Prelude.{unwrap_or}
+use Rattle.actor_table.specs.Changes.{CanChange, KeepsRoom}
+use Rattle.actor_table.specs.declared.slot.Slot.{Slot}
+use Rattle.actor_table.specs.Slots.{Table, away_of, is_away}
+use Rattle.actor_table.proofs.Changing.{bits_follow, change_here, going_on, home_within, inside, part_kept, place_read, room_kept}
 use Rattle.actor_table.proofs.table.ActorTable.change.Goals as goal
 
-pub change_at-taken-requires-clause-can : goal.change_at-taken-requires-clause-can
-change_at-taken-requires-clause-can g c =
-    subst (λ (t : Table). CanChange c.a.inside.0 (g.C.Changes.as_change c.args.change.now) (slot_at t.slots c.a.inside.0)) (sym c.self.view_is)
-    (subst (λ a. CanChange a (g.C.Changes.as_change c.args.change.now) (slot_at c.args.self.now.slots a)) (sym c.a.view_is) c.requires)
+pub change-taken-requires : goal.change-taken-requires
+change-taken-requires g c =
+    let change = g.C.Changes.as_change c.args.change.now in
+    change_here c.self.inside.slots.items c.a.inside.0 change c.index_mut-slot.result.now c.index_mut-slot.ensures.value (c.self.invariant.owned c.a.inside.0)
+    (inside (λ a. CanChange a change) c.a.inside.0 _ _ _ c.self.view_is c.a.view_is c.requires)
+
+pub put_bits_after-requires-clause-going : goal.put_bits_after-requires-clause-going
+put_bits_after-requires-clause-going g c =
+    let s = c.self.inside in
+    let change = g.C.Changes.as_change c.args.change.now in
+    going_on s.slots.items s.acting s.settling c.a.inside.0 change c.self.invariant (inside (λ a. CanChange a change) c.a.inside.0 _ _ _ c.self.view_is c.a.view_is c.requires)
 
 pub invariant_of-self : goal.invariant_of-self
 invariant_of-self g c =
-    let old = c.self.inside.slots.items in
-    let can = subst (λ (t : Table). CanChange c.a.inside.0 (g.C.Changes.as_change c.args.change.now) (slot_at t.slots c.a.inside.0)) (sym c.self.view_is)
-    (subst (λ a. CanChange a (g.C.Changes.as_change c.args.change.now) (slot_at c.args.self.now.slots a)) (sym c.a.view_is) c.requires) in
-    let changed = subst (IsChangedAt c.a.inside.0 old) (sym c.deref.ensures.value) c.change_at-taken.ensures.one.changed in
-    subst (λ xs. AreIndexed xs c.put_bits_after.new.acting c.put_bits_after.new.settling) c.deref.ensures.value
-    (c.put_bits_after.ensures.indexed old can c.self.invariant changed)
+    let s = c.self.inside in
+    let can = inside (λ a. CanChange a (g.C.Changes.as_change c.args.change.now)) c.a.inside.0 _ _ _ c.self.view_is c.a.view_is c.requires in
+    let bits = c.put_bits_after.ensures in
+    bits_follow s.slots.items s.acting s.settling c.a.inside.0 c.index_mut-slot.result.now c.change-taken.new.slot c.self.invariant
+    (home_within s.slots.items c.a.inside.0 can.cell can.home) c.index_mut-slot.ensures.value
+    (λ its. ap (λ o. unwrap_or o c.a.inside.0) c.change-taken.ensures.kept.owner ∙ its) c.put_bits_after.new.acting c.put_bits_after.new.settling bits.acting bits.settling
+
+pub returns-clause-rest : goal.returns-clause-rest
+returns-clause-rest g c =
+    let slots = c.self.inside.slots.items in
+    let i = c.a.inside.0 in
+    let x = c.change-taken.new.slot in
+    let can = inside (λ a. CanChange a (g.C.Changes.as_change c.args.change.now)) i _ _ _ c.self.view_is c.a.view_is c.requires in
+    let here = place_read slots i c.index_mut-slot.result.now (home_within slots i can.cell can.home) c.index_mut-slot.ensures.value in
+    let kept = c.change-taken.ensures.kept in
+    record {
+      spare = search rules;
+      away = part_kept is_away slots i x (kept.away ∙ ap is_away (sym here)) ∙ ap (λ (t : Table). away_of t.slots) c.self.view_is;
+      room = subst (λ (t : Table). KeepsRoom t.slots (set slots i x)) c.self.view_is
+          (room_kept slots i x (subst (λ (y : Slot). y.mail.spare ≤ x.mail.spare) (sym here) kept.room));
+    }

@@ -1,7 +1,7 @@
 use Rattle.std.proofs.Common.{◌≡◌, length, set, ap, sym, subst, ◌∙◌, arith, rules}
 use Rattle.actor_table.specs.declared.slot.Slot.{Slot}
 use Rattle.actor_table.specs.declared.slot.Place.TheVariants.{Home}
-use Rattle.actor_table.specs.Slots.{AreIndexed, Table}
+use Rattle.actor_table.specs.Slots.{AreIndexed, Table, can_act, can_settle}
 use Rattle.actor_table.proofs.Changing.{indexed_push}
 use Rattle.actor_table.proofs.table.ActorTable.push_actor.Goals as goal
 
@@ -11,14 +11,11 @@ invariant_of-self c =
     let acting = c.self.inside.acting in
     let settling = c.self.inside.settling in
     let x : Slot = record { place = Home c.args.cell; mail = c.args.mail } in
-    let acts = c.can_act-acts.result in
-    let settles = c.can_settle-settles.result in
     let seen : length slots ≡ length c.args.self.now.slots = ap (λ (t : Table). length t.slots) c.self.view_is in
     let made : c.len-made.result ≡ length slots = search rules in
     let spare = ap (λ (t : Table). t.spare) c.self.view_is in
     let len : c.self.inside.slots.len ≡ length slots = search rules in
-    subst (λ xs. AreIndexed xs c.put.new.self c.put-2.new.self) (sym c.push_reserved.ensures.items)
-    (indexed_push slots acting settling c.put.new.self c.put-2.new.self x acts settles c.self.invariant
+    subst (λ xs. AreIndexed xs c.put_bits.new.acting c.put_bits.new.settling) (sym c.push_reserved.ensures.items)
+    (indexed_push slots acting settling c.put_bits.new.acting c.put_bits.new.settling x c.self.invariant
     (omega (arith, seen, c.requires.few)) (omega (arith, spare, c.requires.room, len)) (omega (arith, spare, c.requires.room, len)) (c.requires.owner ∙ sym seen)
-    c.can_act-acts.ensures c.can_settle-settles.ensures
-    (c.put.ensures ∙ ap (λ n. set acting n acts) made) (c.put-2.ensures ∙ ap (λ n. set settling n settles) made))
+    (c.put_bits.ensures.acting ∙ ap (λ n. set acting n (can_act x)) made) (c.put_bits.ensures.settling ∙ ap (λ n. set settling n (can_settle x)) made))

@@ -1,0 +1,27 @@
+use Rattle.std.proofs.Common.{◌≡◌, Some, ap, rules, sym, true, ◌∙◌}
+use Rattle.std.specs.Prelude.{option_map}
+use Rattle.machine_rules.specs.Actors.{Seat}
+use Rattle.actor_cell.specs.Cells.{as_cell}
+use Rattle.actor_table.specs.declared.slot.Slot.{Slot}
+use Rattle.actor_table.specs.Slots.{Table, actors_of, is_away, seat_of}
+use Rattle.actor_table.proofs.Changing.{away_within, bits_follow, inside, part_kept, place_read, seat_back, seat_read}
+use Rattle.actor_table.proofs.table.ActorTable.put_back.Goals as goal
+
+pub invariant_of-self : goal.invariant_of-self
+invariant_of-self c =
+    let s = c.self.inside in
+    let away = inside (λ _ x. is_away x ≡ true) c.a.inside.0 _ _ _ c.self.view_is c.a.view_is c.requires.away in
+    bits_follow s.slots.items s.acting s.settling c.a.inside.0 c.index_mut-slot.result.now c.put_back.new.slot c.self.invariant (away_within s.slots.items c.a.inside.0 away)
+    c.index_mut-slot.ensures.value (λ _. search rules) c.put_bits.new.acting c.put_bits.new.settling c.put_bits.ensures.acting c.put_bits.ensures.settling
+
+pub returns-clause-actors : goal.returns-clause-actors
+returns-clause-actors c =
+    let slots = c.self.inside.slots.items in
+    let i = c.a.inside.0 in
+    let away = inside (λ _ x. is_away x ≡ true) i _ _ _ c.self.view_is c.a.view_is c.requires.away in
+    let same = inside (λ _ x. option_map (λ (o : Seat). o.cell) (seat_of x) ≡ Some (as_cell c.args.cell)) i _ _ _ c.self.view_is c.a.view_is
+    (sym (ap (option_map (λ (o : Seat). o.cell)) (seat_read c.args.self.now.slots c.args.a)) ∙ c.requires.same) in
+    let here = place_read slots i c.index_mut-slot.result.now (away_within slots i away) c.index_mut-slot.ensures.value in
+    part_kept seat_of slots i c.put_back.new.slot
+    (seat_back c.put_back.new.slot _ c.args.cell away same c.put_back.ensures.place (c.put_back.ensures.mail ∙ ap (λ (y : Slot). y.mail) (sym here)))
+    ∙ ap (λ (t : Table). actors_of t.slots) c.self.view_is
