@@ -2,9 +2,10 @@
 
 ghost use Rattle.std.specs.Prelude.{◌≡◌, ◌==◌, ◌++◌, ◌∷◌, [], length, not, OnErr, OnOk};
 ghost use Rattle.std.specs.List.{list_any};
-ghost use Rattle.hall_rules.specs.Claims.{holder, is_anothers, is_claimed, without};
+ghost use Rattle.hall_rules.specs.Claims.{holder, holder_for, is_anothers, is_claimed, without};
 
-use hall_rules::Claim;
+use event_rule::Event;
+use hall_rules::{Claim, actor_of};
 use orca_core::SetAside;
 use orca_names::{ActorName, NoMemory};
 use std::alloc::Global;
@@ -63,6 +64,13 @@ impl Claims {
             Some(claim) => Some(claim.pass),
             None => None,
         }
+    }
+
+    /// The one on the event's actor.
+    pub(crate) fn holder_for(&self, asker: Option<u32>, e: &Event) -> Option<u32>
+        ensures { result ≡ holder_for asker e.now self.now }
+    {
+        self.holder(asker, actor_of(e)?)
     }
 
     /// One claim more.

@@ -2,10 +2,8 @@
 
 ghost use Rattle.std.specs.Prelude.{◌≡◌, ◌+◌, ◌<◌, ◌^◌, true, IfErr, IfOk, IsSome, IsTrue, None, OnOk, Some};
 ghost use Rattle.std.specs.Option.{ForSome};
-ghost use Rattle.orca_names.specs.declared.trace.Trace.TheVariants.{Deep};
 ghost use Rattle.event_rule.specs.Events.{actor_of};
 ghost use Rattle.actor_cell.specs.Founds.{IsFound};
-ghost use Rattle.orca_parts.specs.Parts.{options_of};
 ghost use Rattle.actor_cell.specs.Sweeps.{KnowsOthersOnly};
 ghost use Rattle.work_board.specs.Answered.{is_evaluated};
 ghost use Rattle.hall_rules.specs.Facts.{is_found_prop};
@@ -14,7 +12,7 @@ use crate::programs::is_same_program;
 use actor_cell::{Cell, Found};
 use behaviour_check::Checked;
 use event_rule::Event;
-use orca_names::{NoMemory, Trace};
+use orca_names::{NoMemory, Options};
 use std::alloc::Global;
 use std::fmt;
 use thiserror::Error;
@@ -23,8 +21,8 @@ use thiserror::Error;
 #[derive(Drop)]
 pub struct CellCopy<'a> {
     pub code: &'a Checked,
-    /// The weight of the run.
-    pub weight: u32,
+    /// Those of the run.
+    pub options: Options,
     /// The first event that the actor had.
     pub event: Event,
     /// The length of the book at the claim.
@@ -40,7 +38,7 @@ pub struct CellCopy<'a> {
 pub struct Proposal<'a> {
     pub copy: CellCopy<'a>,
     pub found: Option<Found>,
-    ghost own: { ForSome found (IsFound (options_of copy.weight Deep) copy.code.now copy.cell) } by { Prim.hlevel is_found_prop },
+    ghost own: { ForSome found (IsFound copy.options copy.code.now copy.cell) } by { Prim.hlevel is_found_prop },
 }
 
 /// Memory was refused; the copy comes back.
@@ -85,12 +83,12 @@ impl<'a> Proposal<'a> {
         self.copy.event
     }
 
-    /// Whether it is of a run of this program with this weight.
-    pub(crate) fn is_of(&self, code: &Checked, weight: u32) -> bool
+    /// Whether it is of a run of this program with these options.
+    pub(crate) fn is_of(&self, code: &Checked, options: Options) -> bool
         ensures { IsTrue result → (self.now.copy.code.now ≡ code.now)
-            × (self.now.copy.weight ≡ weight) }
+            × (self.now.copy.options ≡ options) }
     {
-        self.copy.weight == weight && is_same_program(self.copy.code, code)
+        self.copy.options == options && is_same_program(self.copy.code, code)
     }
 }
 
@@ -118,13 +116,13 @@ impl<'a> CellCopy<'a> {
     /// What the event does, where it is a turn or a collection.
     fn find(&self, alloc: Global) -> Result<Option<Found>, NoMemory>
         ensures own { IfOk result
-            (λ found. ForSome found
-            (IsFound (options_of self.now.weight Deep) self.now.code.now self.now.cell)) }
+            (λ found. ForSome found (IsFound self.now.options self.now.code.now self.now.cell)) }
         ensures found { IfOk result (λ found. is_evaluated self.now.event ≡ true → IsSome found) }
     {
         match self.event {
             Event::Go(_) | Event::Collect(_) => {
-                let found = self.cell.found(alloc, self.code, self.weight, Trace::Deep)?;
+                let Options { weight, trace } = self.options;
+                let found = self.cell.found(alloc, self.code, weight, trace)?;
                 Ok(Some(found))
             }
             _ => Ok(None),

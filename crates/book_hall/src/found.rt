@@ -12,22 +12,27 @@ use hall_rules::{actor_of, has_cell};
 use orca_core::Orca;
 use std::alloc::Global;
 
-/// What was found, if it is of the cell that the event's actor has now.
-pub(crate) fn fitting(orca: &Orca<'_>, e: &Event, proposal: Option<Proposal<'_>>) -> Option<Found>
+// What was found in a box, where there is memory for it.
+fn boxed(alloc: Global, found: Option<Found>) -> Option<Box<Found>>
+    ensures { ForSome result (λ known. found ≡ Some known.value) }
+{
+    Box::new(alloc, found?).ok()
+}
+
+/// What was found, if it is of the cell that the event's actor has now, and there is memory for it.
+pub(crate) fn fitting(
+    alloc: Global,
+    orca: &Orca<'_>,
+    e: &Event,
+    proposal: Option<Proposal<'_>>,
+) -> Option<Box<Found>>
     requires { ForSome proposal (IsOf orca.now.state.program orca.now.state.options e.now) }
-    ensures { ForSome result (λ found. IsFoundIn e.now found orca.now) }
+    ensures { ForSome result (λ known. IsFoundIn e.now known.value orca.now) }
 {
     let proposal = proposal?;
     if has_cell(orca, actor_of(e)?, &proposal.copy.cell) {
-        proposal.found
+        boxed(alloc, proposal.found)
     } else {
         None
     }
-}
-
-/// What was found in a box, where there is memory for it.
-pub(crate) fn boxed(alloc: Global, found: Option<Found>) -> Option<Box<Found>>
-    ensures { ForSome result (λ place. found ≡ Some place.value) }
-{
-    Box::new(alloc, found?).ok()
 }

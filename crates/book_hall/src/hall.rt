@@ -1,26 +1,26 @@
 // The hall.
 
-ghost use Rattle.std.specs.Prelude.{◌≡◌, ◌≤◌, ◌++◌, ◌∷◌, [], length, false, true, IfErr, IfOk, None, OnErr, OnOk, Some};
-ghost use Rattle.std.specs.Option.{ForSome, option_or};
+ghost use Rattle.std.specs.Prelude.{◌≡◌, ◌≤◌, ◌++◌, ◌∷◌, [], false, true, IfErr, IfOk, None, OnErr, OnOk, Some};
+ghost use Rattle.std.specs.Option.{ForSome};
 ghost use Rattle.orca_names.specs.declared.limits.TheConstants.{BOOK_LIMIT};
 ghost use Rattle.orca_names.specs.declared.trace.Trace.TheVariants.{Deep};
-ghost use Rattle.machine_rules.specs.Next.{next};
 ghost use Rattle.run_book.specs.Books.{IsWeight};
 ghost use Rattle.orca_parts.specs.Parts.{options_of};
-ghost use Rattle.hall_rules.specs.Causes.{IsRefusal, absent_cause, actor_cause, claim_cause, event_at, spent_cause, unready_cause};
-ghost use Rattle.hall_rules.specs.Claims.{without, without_for};
+ghost use Rattle.hall_rules.specs.Causes.{IsRefusal, absent_cause, claim_cause, event_at};
+ghost use Rattle.hall_rules.specs.Claims.{without_for};
 ghost use Rattle.hall_rules.specs.Answers.{TellsWork};
 ghost use Rattle.hall_rules.specs.Halls.{hall_state};
+ghost use Rattle.hall_rules.specs.Kept.{AreParts};
 ghost use Rattle.book_hall.specs.Answers.{AnswersCommit, AnswersEntry};
-ghost use Rattle.book_hall.specs.Kept.{AreOfHall, HasRun};
+ghost use Rattle.book_hall.specs.Kept.{HasRun};
 ghost use Rattle.book_hall.specs.Proposals.{IsCopy, IsOf};
 
 use crate::claims::Claims;
 use crate::copy::{CellCopy, Proposal};
-use crate::found::{boxed, fitting};
+use crate::found::fitting;
 use behaviour_check::Checked;
 use event_rule::Event;
-use hall_rules::{Claim, absent, actor_of, busy, enter, event_at, spent, unready};
+use hall_rules::{Claim, actor_of, book_options, claimable, early_refusal, enter, look};
 use orca_core::Orca;
 use orca_names::{ActorName, NoMemory, Trace};
 use run_book::Book;
@@ -28,22 +28,9 @@ use std::alloc::Global;
 use std::marker::Model;
 use work_board::{Committed, Look, Refuse};
 
-// The event's actor, if it has one, is not there or is another pass's.
-fn actor_refuses(orca: &Orca<'_>, claims: &Claims, asker: Option<u32>, e: &Event) -> Option<Refuse>
-    ensures { result ≡ actor_cause orca.now.state claims.now asker e.now }
-{
-    let Some(a) = actor_of(e) else {
-        return None;
-    };
-    match absent(orca, a) {
-        Some(refuse) => Some(refuse),
-        None => busy(claims.holder(asker, a)),
-    }
-}
-
-/// A run that several workers change, seen by contracts as its program, its weight, its budget, its
+/// A run that several workers change, seen by contracts as its program, its options, its budget, its
 /// book, the claims that are out, and whether a stop was asked. Its state is the one that the book
-/// leads to, and the book is a run of at most as many entries as the budget. Letters are traced deep.
+/// leads to, the book is a run of at most as many entries as the budget, and no cell is away.
 #[derive(Drop)]
 pub struct Hall<'a> {
     code: &'a Checked,
@@ -56,24 +43,29 @@ pub struct Hall<'a> {
 
 impl<'a> Model for Hall<'a> {
     ghost use Rattle.hall_rules.specs.Halls.{HallValue};
-    ghost use Rattle.book_hall.specs.Kept.{AreOneRun};
+    ghost use Rattle.hall_rules.specs.Kept.{IsRunWithin};
+    ghost use Rattle.orca_core.specs.Machine.{NoneIsAway};
+    ghost use Rattle.run_book.specs.Books.{options_of_book};
 
     ghost Value = { HallValue };
 
     ghost view = { λ h. record {
       program = h.code.now;
-      weight = h.book.weight;
+      options = options_of_book h.book;
       budget = h.budget;
       book = h.book.entries;
       claims = h.claims;
       stopped = h.stopped;
     } };
 
-    ghost invariant = { λ h. AreOneRun h.code.now h.budget h.orca h.book };
+    ghost invariant = { λ h. let options = options_of_book h.book in
+        IsRunWithin h.code.now options h.budget h.orca.state h.orca.steps h.book.entries
+        × NoneIsAway h.orca };
 }
 
 impl<'a> Hall<'a> {
-    /// A run before its first event, of at most `budget` entries. An increment is by `weight`.
+    /// A run before its first event, of at most `budget` entries. An increment is by `weight`, and letters
+    /// are traced deep.
     ///
     /// # Errors
     /// `NoMemory` where memory was refused.
@@ -87,7 +79,7 @@ impl<'a> Hall<'a> {
         requires weight { IsWeight weight }
         ensures { IfOk result (λ hall. hall ≡ record {
           program = code.now;
-          weight = weight;
+          options = options_of weight Deep;
           budget = budget;
           book = [];
           claims = [];
@@ -142,14 +134,9 @@ impl<'a> Hall<'a> {
         ensures refused { IfErr result (IsRefusal (claim_cause self.old a)) }
         ensures same { OnErr result (self.new ≡ self.old) }
     {
-        if let Some(refuse) = absent(&self.orca, a) {
-            return Err(refuse);
-        }
-        if let Some(refuse) = busy(self.claims.holder(None, a)) {
-            return Err(refuse);
-        }
-        let Some(event) = event_at(&self.orca, a) else {
-            return Err(Refuse::NotReady);
+        let event = match claimable(&self.orca, self.claims.holder(None, a), a) {
+            Ok(event) => event,
+            Err(refuse) => return Err(refuse),
         };
         let Ok(copy) = self.copy_of(alloc, a, event) else {
             return Err(Refuse::NoMemory);
@@ -161,7 +148,7 @@ impl<'a> Hall<'a> {
     }
 
     /// Makes the proposal's event an entry. What was found is done, if it was found of the actor's cell
-    /// as it is now, in a run of this program with this weight; else the hall evaluates the event
+    /// as it is now, in a run of this program with these options; else the hall evaluates the event
     /// itself. Whatever it answers, the pass has no claim on the actor any more.
     ///
     /// # Errors
@@ -174,28 +161,12 @@ impl<'a> Hall<'a> {
     ) -> Result<Committed, Refuse>
         ensures { AnswersCommit self.old pass proposal.entry.copy.event result self.new }
     {
-        if proposal.is_of(self.code, self.book.weight()) {
-            self.commit_own(alloc, pass, proposal)
-        } else {
-            self.commit_plain(alloc, pass, proposal.event())
-        }
-    }
-
-    /// As `commit`, of a proposal that is of a run of this program with this weight.
-    pub(crate) fn commit_own(
-        &mut self,
-        alloc: Global,
-        pass: u32,
-        proposal: Proposal<'a>,
-    ) -> Result<Committed, Refuse>
-        requires { let options = options_of self.old.weight Deep in
-            IsOf self.old.program options proposal.copy.event proposal }
-        ensures { AnswersCommit self.old pass proposal.entry.copy.event result self.new }
-    {
         let e = proposal.event();
-        let answer = self.enter_as(alloc, Some(pass), e, Some(proposal));
-        self.end_claim(pass, &e);
-        answer
+        if proposal.is_of(self.code, book_options(&self.book)) {
+            self.commit_as(alloc, pass, e, Some(proposal))
+        } else {
+            self.commit_as(alloc, pass, e, None)
+        }
     }
 
     /// As `commit`, without a proposal: the hall evaluates the event itself.
@@ -205,9 +176,7 @@ impl<'a> Hall<'a> {
     pub fn commit_plain(&mut self, alloc: Global, pass: u32, e: Event) -> Result<Committed, Refuse>
         ensures { AnswersCommit self.old pass e result self.new }
     {
-        let answer = self.enter_as(alloc, Some(pass), e, None);
-        self.end_claim(pass, &e);
-        answer
+        self.commit_as(alloc, pass, e, None)
     }
 
     /// Makes an event an entry at once, without a claim.
@@ -233,17 +202,7 @@ impl<'a> Hall<'a> {
         if self.stopped || self.book.len() == self.budget {
             return Look::Stop;
         }
-        if let Some(a) = self.orca.first_free(&self.claims) {
-            return Look::Actor(a);
-        }
-        if let Some(e) = self.orca.first_of_detector() {
-            return Look::Detector(e);
-        }
-        if self.claims.is_empty() {
-            Look::Rest
-        } else {
-            Look::Others
-        }
+        look(&self.orca, &self.claims, self.claims.is_empty())
     }
 
     /// Asks all workers to stop.
@@ -255,7 +214,7 @@ impl<'a> Hall<'a> {
 
     /// The machine, whose state is that of the book, and the book.
     pub fn into_parts(self) -> (Orca<'a>, Book)
-        ensures { AreOfHall self.entry result.0 result.1 }
+        ensures { AreParts self.entry result.0 result.1 }
     {
         (self.orca, self.book)
     }
@@ -273,26 +232,11 @@ impl<'a> Hall<'a> {
         };
         Ok(CellCopy {
             code: self.code,
-            weight: self.book.weight(),
+            options: book_options(&self.book),
             event,
             at: self.book.len(),
             cell: cell.copy(alloc)?,
         })
-    }
-
-    // Why the event does not become an entry, before it is tried.
-    fn early_refusal(&self, asker: Option<u32>, e: &Event) -> Option<Refuse>
-        ensures { result ≡ option_or (actor_cause (hall_state self.now) self.now.claims asker e.now)
-            (option_or (unready_cause (next (hall_state self.now) e.now))
-            (spent_cause (length self.now.book) self.now.budget)) }
-    {
-        if let Some(refuse) = actor_refuses(&self.orca, &self.claims, asker, e) {
-            return Some(refuse);
-        }
-        match unready(&self.orca, *e) {
-            Some(refuse) => Some(refuse),
-            None => spent(self.book.len(), self.budget),
-        }
     }
 
     // Makes the event an entry, unless it is refused to the one who asks: a pass, or nobody.
@@ -303,15 +247,31 @@ impl<'a> Hall<'a> {
         e: Event,
         proposal: Option<Proposal<'a>>,
     ) -> Result<Committed, Refuse>
-        requires { ForSome proposal (IsOf self.old.program (options_of self.old.weight Deep) e) }
+        requires { ForSome proposal (IsOf self.old.program self.old.options e) }
         ensures { AnswersEntry self.old asker e self.old.claims result self.new }
     {
-        if let Some(refuse) = self.early_refusal(asker, &e) {
+        let holder = self.claims.holder_for(asker, &e);
+        if let Some(refuse) = early_refusal(&self.orca, &self.book, self.budget, holder, &e) {
             return Err(refuse);
         }
-        let found = fitting(&self.orca, &e, proposal);
-        let mut found = boxed(alloc, found);
+        let mut found = fitting(alloc, &self.orca, &e, proposal);
         enter(alloc, &mut self.orca, &mut self.book, &e, &mut found)
+    }
+
+    // As `enter_as`, by a commit of the pass.
+    fn commit_as(
+        &mut self,
+        alloc: Global,
+        pass: u32,
+        e: Event,
+        proposal: Option<Proposal<'a>>,
+    ) -> Result<Committed, Refuse>
+        requires { ForSome proposal (IsOf self.old.program self.old.options e) }
+        ensures { AnswersCommit self.old pass e result self.new }
+    {
+        let answer = self.enter_as(alloc, Some(pass), e, proposal);
+        self.end_claim(pass, &e);
+        answer
     }
 
     // The pass has no claim on the event's actor any more.

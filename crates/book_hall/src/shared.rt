@@ -1,10 +1,8 @@
 // A hall that threads share, and one worker's pass to it.
 
-ghost use Rattle.std.specs.Prelude.{◌≡◌, ◌||◌, Bool, false, true, IfOk, IsSome, IsSomeAnd, OnOk, Some, ⊤};
-ghost use Rattle.orca_names.specs.declared.trace.Trace.TheVariants.{Deep};
+ghost use Rattle.std.specs.Prelude.{◌≡◌, ◌||◌, false, true, IfOk, IsSome, IsSomeAnd, OnOk, Some, ⊤};
 ghost use Rattle.event_rule.specs.Events.{actor_of};
 ghost use Rattle.actor_cell.specs.Founds.{IsFound};
-ghost use Rattle.orca_parts.specs.Parts.{options_of};
 ghost use Rattle.work_board.specs.Answered.{is_evaluated, is_spoiling};
 
 use crate::copy::Proposal;
@@ -16,25 +14,27 @@ use std::marker::{Brand, PhantomData};
 use std::sync::{Mutex, Wait};
 use work_board::{Board, Committed, Look, Refuse};
 
-/// The program, the weight and the budget of a run, told by a type, so that what comes out of a lock is
+/// The program, the options and the budget of a run, told by a type, so that what comes out of a lock is
 /// known to be of that run. A caller picks them.
 pub trait Naming {
     ghost use Rattle.std.specs.Prelude.{ℕ};
+    ghost use Rattle.orca_names.specs.declared.options.Options.{Options};
     ghost use Rattle.behaviour_code.specs.declared.code.Program.{Program};
 
     ghost program: { Program };
 
-    ghost weight: { ℕ };
+    ghost options: { Options };
 
     ghost budget: { ℕ };
 }
 
 impl Naming for Brand {
     ghost use Rattle.std.specs.Prelude.{[]};
+    ghost use Rattle.orca_names.specs.declared.trace.Trace.TheVariants.{Deep};
 
     ghost program = { record { kinds = []; names = [] } };
 
-    ghost weight = { 0 };
+    ghost options = { record { weight = 0; trace = Deep } };
 
     ghost budget = { 0 };
 }
@@ -45,21 +45,18 @@ struct Named<'a, J: Naming> {
     hall: Hall<'a>,
     of: PhantomData<J>,
     ghost program_is: { hall.program ≡ J.program },
-    ghost weight_is: { hall.weight ≡ J.weight },
+    ghost options_is: { hall.options ≡ J.options },
     ghost budget_is: { hall.budget ≡ J.budget },
 }
 
 /// A claim, with what was found of its copy.
 #[derive(Drop)]
-pub struct HallTask<'a, J: Naming> {
+pub struct HallTask<'a> {
     proposal: Proposal<'a>,
     tried: bool,
-    of: PhantomData<J>,
-    ghost program_is: { proposal.copy.code.now ≡ J.program },
-    ghost weight_is: { proposal.copy.weight ≡ J.weight },
 }
 
-impl<'a, J: Naming> HallTask<'a, J> {
+impl<'a> HallTask<'a> {
     fn evaluate(&mut self, alloc: Global) -> Result<(), NoMemory>
         ensures tried { self.new.tried ≡ true }
         ensures copy { self.new.proposal.copy ≡ self.old.proposal.copy }
@@ -72,7 +69,7 @@ impl<'a, J: Naming> HallTask<'a, J> {
 }
 
 impl<'a, J: Naming> Named<'a, J> {
-    fn claim(&mut self, alloc: Global, pass: u32, a: ActorName) -> Result<HallTask<'a, J>, Refuse>
+    fn claim(&mut self, alloc: Global, pass: u32, a: ActorName) -> Result<HallTask<'a>, Refuse>
         ensures actor { IfOk result (λ task. actor_of task.proposal.copy.event ≡ Some a) }
         ensures fresh { IfOk result (λ task. task.tried ≡ false) }
     {
@@ -80,7 +77,6 @@ impl<'a, J: Naming> Named<'a, J> {
             Ok(copy) => Ok(HallTask {
                 proposal: Proposal::of(copy),
                 tried: false,
-                of: PhantomData,
             }),
             Err(refuse) => Err(refuse),
         }
@@ -90,9 +86,9 @@ impl<'a, J: Naming> Named<'a, J> {
         &mut self,
         alloc: Global,
         pass: u32,
-        task: HallTask<'a, J>,
+        task: HallTask<'a>,
     ) -> Result<Committed, Refuse> {
-        self.hall.commit_own(alloc, pass, task.proposal)
+        self.hall.commit(alloc, pass, task.proposal)
     }
 
     fn direct(&mut self, alloc: Global, e: Event) -> Result<Committed, Refuse> {
@@ -114,7 +110,7 @@ impl<'a, J: Naming> SharedHall<'a, J> {
     /// The hall behind a lock.
     pub fn new(hall: Hall<'a>) -> SharedHall<'a, J>
         requires program { hall.program ≡ J.program }
-        requires weight { hall.weight ≡ J.weight }
+        requires options { hall.options ≡ J.options }
         requires budget { hall.budget ≡ J.budget }
     {
         SharedHall {
@@ -140,7 +136,7 @@ impl<'a, J: Naming> SharedHall<'a, J> {
     /// The hall, once no pass is left. It is of the same run, whatever the passes did.
     pub fn into_hall(self) -> Hall<'a>
         ensures program { result.program ≡ J.program }
-        ensures weight { result.weight ≡ J.weight }
+        ensures options { result.options ≡ J.options }
         ensures budget { result.budget ≡ J.budget }
     {
         self.hall.into_inner().hall
@@ -167,7 +163,7 @@ fn noted(spoilt: bool, answer: &Result<Committed, Refuse>) -> bool
 }
 
 impl<'h, 'a, J: Naming> Board for HallPass<'h, 'a, J> {
-    type Task = HallTask<'a, J>;
+    type Task = HallTask<'a>;
 
     ghost Hall = { ⊤ };
 
@@ -189,7 +185,7 @@ impl<'h, 'a, J: Naming> Board for HallPass<'h, 'a, J> {
 
     ghost found = { λ task. let copy = task.proposal.copy in
         IsSomeAnd task.proposal.found
-        (IsFound (options_of copy.weight Deep) copy.code.now copy.cell) };
+        (IsFound copy.options copy.code.now copy.cell) };
 
     fn look<R: Wait>(&mut self, rt: &R) -> Look {
         let answer = self.hall.hall.lock(rt).hall.look();
@@ -202,7 +198,7 @@ impl<'h, 'a, J: Naming> Board for HallPass<'h, 'a, J> {
         rt: &R,
         alloc: Global,
         a: ActorName,
-    ) -> Result<HallTask<'a, J>, Refuse> {
+    ) -> Result<HallTask<'a>, Refuse> {
         let answer = self.hall.hall.lock(rt).claim(alloc, self.pass, a);
         match answer {
             Ok(task) => Ok(task),
@@ -213,14 +209,14 @@ impl<'h, 'a, J: Naming> Board for HallPass<'h, 'a, J> {
         }
     }
 
-    fn segment_of(&self, task: &HallTask<'a, J>) -> Option<(ActorName, u64)> {
+    fn segment_of(&self, task: &HallTask<'a>) -> Option<(ActorName, u64)> {
         match task.proposal.copy.event {
             Event::Go(a) => Some((a, task.proposal.copy.at)),
             _ => None,
         }
     }
 
-    fn propose(&mut self, alloc: Global, task: &mut HallTask<'a, J>) -> Result<(), NoMemory> {
+    fn propose(&mut self, alloc: Global, task: &mut HallTask<'a>) -> Result<(), NoMemory> {
         task.evaluate(alloc)
     }
 
@@ -228,7 +224,7 @@ impl<'h, 'a, J: Naming> Board for HallPass<'h, 'a, J> {
         &mut self,
         rt: &R,
         alloc: Global,
-        task: HallTask<'a, J>,
+        task: HallTask<'a>,
     ) -> Result<Committed, Refuse> {
         let answer = self.hall.hall.lock(rt).commit(alloc, self.pass, task);
         self.spoilt = noted(self.spoilt, &answer);

@@ -1,6 +1,8 @@
 // Two passes of a hall that workers share, on one thread.
 
 ghost use Rattle.orca_names.specs.declared.limits.TheConstants.{BOOK_LIMIT};
+ghost use Rattle.orca_names.specs.declared.trace.Trace.TheVariants.{Deep};
+ghost use Rattle.orca_parts.specs.Parts.{options_of};
 ghost use Rattle.std.specs.Prelude.{◌≡◌, ◌≤◌, ⊤};
 
 use crate::asking::{Answer, BY_EVENTS, Call, Keeper, Want, answers, entry};
@@ -20,7 +22,7 @@ use work_board::{Board, Refuse};
 #[derive(Drop)]
 struct Passing<'h, 'a, J: Naming> {
     pass: HallPass<'h, 'a, J>,
-    kept: Vec<HallTask<'a, J>>,
+    kept: Vec<HallTask<'a>>,
 }
 
 impl<'h, 'a, J: Naming> Keeper for Passing<'h, 'a, J> {
@@ -87,7 +89,7 @@ fn shared<'a, J: Naming>(
 ) -> Result<SharedHall<'a, J>, NoMemory>
     requires most { budget ≤ BOOK_LIMIT }
     requires program { code.now ≡ J.program }
-    requires weight { 256 ≡ J.weight }
+    requires options { options_of 256 Deep ≡ J.options }
     requires budget { budget ≡ J.budget }
 {
     Ok(SharedHall::new(Hall::start(alloc, code, budget, 256)?))
@@ -102,7 +104,7 @@ fn go_so<J: Naming, R: Abort + AllocGlobal + Wait>(
 ) -> bool
     requires most { budget ≤ BOOK_LIMIT }
     requires program { code.now ≡ J.program }
-    requires weight { 256 ≡ J.weight }
+    requires options { options_of 256 Deep ≡ J.options }
     requires budget { budget ≡ J.budget }
 {
     match shared::<J>(rt.alloc(), code, budget) {

@@ -52,10 +52,10 @@ detector_send = search (sendable, crosses) depth 100 fits 100000
 turn_send : IsSend Turn.the_row
 turn_send = search (sendable, crosses) depth 100 fits 100000
 
-turned_send : IsSend (Turned.the_field).row
+pub turned_send : IsSend (Turned.the_field).row
 turned_send = search (sendable, crosses) depth 100 fits 100000
 
-sweep_send : IsSend (Sweep.the_field).row
+pub sweep_send : IsSend (Sweep.the_field).row
 sweep_send = search (sendable, crosses) depth 100 fits 100000
 
 instr_sync : IsSync Instr.the_row

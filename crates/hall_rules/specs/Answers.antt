@@ -1,8 +1,9 @@
 -- What an entry does, and what a look answers.
 use Rattle.std.specs.Prelude.{◌≡◌, ◌≢◌, ◌==◌, ◌||◌, Bool, true, false, [], ◌∷◌, ◌++◌, length}
-use Rattle.event_rule.specs.Runs.{Goes, IsFirst, IsQuiet}
+use Rattle.event_rule.specs.Runs.{Goes, IsFirst, IsQuiet, Machine}
 use Rattle.event_rule.specs.declared.event.Event.{Event}
 use Rattle.machine_rules.specs.Next.{next}
+use Rattle.machine_rules.specs.State.{State}
 use Rattle.orca_core.specs.Firsts.{HasFirst, is_free, next_of_kind}
 use Rattle.event_rule.specs.Events.{is_of_detector}
 use Rattle.orca_parts.specs.Woken.{IsLowestWoken}
@@ -20,6 +21,15 @@ pub record IsEntered (h : HallValue) (e : Event) (done : Committed) (after : Hal
   pub woke : IsLowestWoken (hall_state h).actors (hall_state after).actors done.woke
 
 -- ---- what there is to do
+
+-- the first of the free actors' events and of the detector's, which lead so, in this state; else others are at
+-- work, or nobody is
+abbrev pub Finds : Machine State → Machine State → State → Bool → Look → Type 0
+Finds free detector s idle Stop = ⊥
+Finds free detector s idle (Actor a) = HasFirst free s a
+Finds free detector s idle (Detector e) = IsQuiet free s × IsFirst detector s e
+Finds free detector s idle Others = IsQuiet free s × IsQuiet detector s × (idle ≡ false)
+Finds free detector s idle Rest = IsQuiet free s × IsQuiet detector s × (idle ≡ true)
 
 -- no worker goes on
 abbrev pub is_over : HallValue → Bool

@@ -1,6 +1,6 @@
 -- The claims that are out.
 use Rattle.std.specs.Prelude.{ℕ, ◌==◌, ◌&&◌, Bool, true, not, List, find, filter, Option, None, Some, option_map}
-use Rattle.std.specs.Option.{option_map_or}
+use Rattle.std.specs.Option.{option_and_then, option_map_or}
 use Rattle.std.specs.List.{list_any}
 use Rattle.event_rule.specs.Events.{actor_of}
 use Rattle.event_rule.specs.declared.event.Event.{Event}
@@ -15,6 +15,10 @@ is_anothers (Some own) pass = not (pass == own)
 abbrev pub holder : Option ℕ → ℕ → List Claim → Option ℕ
 holder asker a claims =
     option_map (λ c. c.pass) (find (λ c. c.actor == a && is_anothers asker c.pass) claims)
+
+-- of the event's actor, if it has one
+abbrev pub holder_for : Option ℕ → Event → List Claim → Option ℕ
+holder_for asker e claims = option_and_then (λ a. holder asker a claims) (actor_of e)
 
 -- a claim on the actor is out
 abbrev pub is_claimed : List Claim → ℕ → Bool

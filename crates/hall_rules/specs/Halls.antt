@@ -1,19 +1,18 @@
 -- A hall, as its callers see it.
 use Rattle.std.specs.Prelude.{ℕ, Bool, List, [], ◌∷◌}
-use Rattle.orca_names.specs.declared.trace.Trace.TheVariants.{Deep}
+use Rattle.orca_names.specs.declared.options.Options.{Options}
 use Rattle.behaviour_code.specs.declared.code.Program.{Program}
 use Rattle.event_rule.specs.Runs.{Step, NotEnabled, IsFull, Goes}
 use Rattle.event_rule.specs.declared.event.Event.{Event}
 use Rattle.machine_rules.specs.Next.{next}
 use Rattle.machine_rules.specs.State.{State, first_state}
-use Rattle.orca_parts.specs.Parts.{options_of}
 use Rattle.hall_rules.specs.declared.claim.Claim.{Claim}
 
--- its program, the weight of its run, how many entries it may make, the book, the claims that are out,
+-- its program, the options of its run, how many entries it may make, the book, the claims that are out,
 -- and whether a stop was asked; its state is that after the book
 pub record HallValue : Type 0 where
   pub program : Program
-  pub weight : ℕ
+  pub options : Options
   pub budget : ℕ
   pub book : List Event
   pub claims : List Claim
@@ -30,6 +29,6 @@ abbrev pub state_after : State → List Event → State
 state_after s [] = s
 state_after s (e ∷ book) = state_after (after_step s (next s e)) book
 
--- its state, with letters traced deep
+-- its state
 abbrev pub hall_state : HallValue → State
-hall_state h = state_after (first_state h.program (options_of h.weight Deep)) h.book
+hall_state h = state_after (first_state h.program h.options) h.book

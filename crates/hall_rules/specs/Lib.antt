@@ -4,3 +4,4 @@ pub mod Claims
 pub mod Entering
 pub mod Facts
 pub mod Halls
+pub mod Kept

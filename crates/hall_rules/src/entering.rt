@@ -1,20 +1,21 @@
 // An event becomes the last entry of the book.
 
-ghost use Rattle.std.specs.Prelude.{◌≡◌, ◌+◌, ◌≤◌, ◌++◌, ◌∷◌, [], length, IfErr, IfOk, None, OnErr, OnOk};
-ghost use Rattle.event_rule.specs.Runs.{Goes, Step};
+ghost use Rattle.std.specs.Prelude.{◌≡◌, ◌≤◌, IfErr, IfOk, None, OnOk};
+ghost use Rattle.event_rule.specs.Runs.{Step};
 ghost use Rattle.event_rule.specs.declared.event.Event.{Event};
 ghost use Rattle.machine_rules.specs.State.{State};
 ghost use Rattle.machine_rules.specs.Next.{next};
 ghost use Rattle.orca_parts.specs.Away.{KeepsAway};
 ghost use Rattle.orca_parts.specs.Faults.{IsFault};
 ghost use Rattle.orca_core.specs.Machine.{Fits, IsSame};
-ghost use Rattle.orca_parts.specs.Woken.{IsLowestWoken};
+ghost use Rattle.run_book.specs.Books.{options_of_book};
 ghost use Rattle.hall_rules.specs.Causes.{IsRefusal, full_cause, unready_cause};
-ghost use Rattle.hall_rules.specs.Entering.{MayEnter};
+ghost use Rattle.hall_rules.specs.Entering.{Enters, MayEnter, Refuses};
 
 use actor_cell::Found;
 use event_rule::Event;
 use orca_core::{Orca, Ready, StepFault};
+use orca_names::Options;
 use run_book::Book;
 use std::alloc::Global;
 use work_board::{Committed, Refuse};
@@ -94,21 +95,24 @@ pub fn enter(
     found: &mut Option<Box<Found>>,
 ) -> Result<Committed, Refuse>
     requires { MayEnter e.now found.old orca.old }
-    ensures goes { OnOk result (next orca.old.state e.now ≡ Goes orca.new.state) }
-    ensures steps { OnOk result (orca.new.steps ≡ orca.old.steps + 1) }
-    ensures entry { OnOk result (book.new.entries ≡ book.old.entries ++ e.now ∷ []) }
-    ensures place { IfOk result (λ done. done.place ≡ length book.old.entries) }
-    ensures woke { IfOk result
-        (λ done. IsLowestWoken orca.old.state.actors orca.new.state.actors done.woke) }
+    ensures ok { IfOk result (λ done. Enters e.now done orca.old orca.new book.old book.new) }
+    ensures refused { IfErr result (λ refuse. Refuses e.now refuse orca.old orca.new book.old book.new) }
     ensures away { KeepsAway orca.old.out orca.new.out }
     ensures book { (book.new.weight ≡ book.old.weight) × (book.new.trace ≡ book.old.trace) }
-    ensures refused { IfErr result (IsRefusal (full_cause (next orca.old.state e.now) e.now)) }
-    ensures same { OnErr result (IsSame orca.old orca.new) }
-    ensures same_book { OnErr result (book.new.entries ≡ book.old.entries) }
 {
     let ready = reserve(alloc, orca, book, e, found)?;
     let woke = orca.apply_ready(ready);
     let place = book.len();
     book.push(*e);
     Ok(Committed { place, woke })
+}
+
+/// The options of the book's run.
+pub fn book_options(book: &Book) -> Options
+    ensures { result ≡ options_of_book book.now }
+{
+    Options {
+        weight: book.weight(),
+        trace: book.trace(),
+    }
 }

@@ -6,8 +6,10 @@ mod causes;
 mod cells;
 mod claim;
 mod entering;
+mod looking;
 
-pub use causes::{absent, actor_of, busy, event_at, spent, unready};
+pub use causes::{actor_of, claimable, early_refusal};
 pub use cells::has_cell;
 pub use claim::Claim;
-pub use entering::enter;
+pub use entering::{book_options, enter};
+pub use looking::look;

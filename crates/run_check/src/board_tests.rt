@@ -1,6 +1,8 @@
 // Workers over boards of each hall, one of which may be told wrong names at first.
 
 ghost use Rattle.std.specs.Prelude.{◌≡◌, ◌≤◌, All, IfOk, length};
+ghost use Rattle.orca_names.specs.declared.trace.Trace.TheVariants.{Deep};
+ghost use Rattle.orca_parts.specs.Parts.{options_of};
 ghost use Rattle.orca_core.specs.Laws.{IsRunOf};
 ghost use Rattle.orca_core.specs.Machine.{NoneIsAway};
 ghost use Rattle.turn_log.specs.Seats.{knows};
@@ -74,7 +76,7 @@ fn by_copies<'a, J: Naming + Send + Sync, R: AllocGlobal + Threads + Wait + Sync
     wrong: &[Wrong],
 ) -> Result<(Hall<'a>, Result<(), NoMemory>), NoMemory>
     requires program { code.now ≡ J.program }
-    requires weight { 256 ≡ J.weight }
+    requires options { options_of 256 Deep ≡ J.options }
     requires budget { BUDGET ≡ J.budget }
     ensures { IfOk result (λ made. made.0.budget ≡ BUDGET) }
 {
@@ -261,7 +263,7 @@ fn copies_leave_first<J: Naming + Send + Sync, R: AllocGlobal + Threads + Wait +
     code: &Checked,
 ) -> Result<bool, Fail>
     requires program { code.now ≡ J.program }
-    requires weight { 256 ≡ J.weight }
+    requires options { options_of 256 Deep ≡ J.options }
     requires budget { BUDGET ≡ J.budget }
 {
     let (hall, worked) = by_copies::<J, R>(rt, code, WRONG)?;

@@ -1,5 +1,5 @@
 -- A commit that goes on with its actor, put together of its items.
-use Rattle.std.proofs.Common.{◌≡◌, ℕ, ◌+◌, ◌-◌, ◌<◌, ◌≤◌, ◌==◌, Bool, true, false, List, [], ◌∷◌, ◌++◌, length, Option, Some, None, IfSome, IfNone, Ok, refl, sym, ap, ◌∙◌, subst, arith, append-nil, append_assoc}
+use Rattle.std.proofs.Common.{◌≡◌, ℕ, ◌+◌, ◌-◌, ◌<◌, ◌≤◌, ◌==◌, Bool, true, false, List, [], ◌∷◌, ◌++◌, length, Option, Some, None, IfSome, IfNone, refl, sym, ap, ◌∙◌, subst, arith, append-nil, append_assoc}
 use Rattle.std.specs.Prelude.{if◌then◌else◌, IsSomeAnd, slice_get}
 use Rattle.std.proofs.lemmas.Bool.Decides.{nat_tests}
 use Rattle.std.proofs.lemmas.Option.{IfSome_then}
@@ -20,7 +20,7 @@ use Rattle.seat_hall.specs.Fair.{after_item, hall_of, start_of}
 use Rattle.seat_hall.specs.Halls.{HallView, says}
 use Rattle.seat_hall.specs.Log.{Logged, after, by, entry_cause, hall_from, items_by}
 use Rattle.seat_hall.specs.Passes.{Calls, HasItsCell, IsAtHall, KeepsCells, KeepsOthers, StandsAt, Token, hall, out, seen}
-use Rattle.seat_hall.proofs.Commits.{commit_cells, commit_out}
+use Rattle.seat_hall.proofs.Commits.{ended_cells, ended_out, entry_ends}
 use Rattle.seat_hall.proofs.Entries.{stands}
 use Rattle.seat_hall.proofs.Holding.{pass_or}
 use Rattle.seat_hall.proofs.Items.{claim_cells, claim_out, claim_owns, entry_cells, entry_out}
@@ -152,10 +152,10 @@ module _ (n a : ℕ) (old mid s t new : Token) (h : HallView) (at : IsAtHall n o
   all_cells b d apart has_it =
       claimed_cells n a t new u reckons next claims b d
       (took_cells n a s t first reckons_first took takes b d
-      (commit_cells n a old mid h at e c its has first s wrote (Ok done) enters refl tt b d apart has_it))
+      (ended_cells n a old mid h at e c its has (Entered n e) (entry_ends n a old mid h at e c its has done enters) s wrote b d apart has_it))
 
   less : out n old ≡ out n t + 1
-  less = commit_out n a old mid h at e c its has first s wrote (Ok done) refl tt
+  less = ended_out n a old mid h at e c its has (Entered n e) (entry_ends n a old mid h at e c its has done enters) s wrote
       ∙ ap (λ (k : ℕ). k + 1) (sym (took_out n a s t first reckons_first took takes))
 
   all_next : IfSome next (IsNext n a old new)

@@ -1,6 +1,6 @@
 -- Why claims and entries are refused, and that where nothing refuses an event is of a free actor.
-use Rattle.std.proofs.Common.{◌≡◌, ℕ, ◌==◌, Bool, true, false, not, List, [], ◌∷◌, ◌++◌, length, Option, Some, None, Result, Ok, Err, IfErr, IfOk, OnOk, refl, sym, ap, ◌∙◌, subst, arith, set}
-use Rattle.std.specs.Prelude.{if◌then◌else◌, option_map}
+use Rattle.std.proofs.Common.{◌≡◌, ℕ, ◌==◌, true, not, List, [], ◌∷◌, ◌++◌, length, Option, Some, None, Result, Ok, Err, refl, sym, ap, ◌∙◌, subst, arith, set}
+use Rattle.std.specs.Prelude.{if◌then◌else◌}
 use Rattle.std.specs.Option.{option_and_then, option_map_or, option_or}
 use Rattle.std.proofs.lemmas.Bool.Decides.{nat_tests}
 use Rattle.event_rule.specs.Events.{actor_of}
@@ -8,53 +8,42 @@ use Rattle.event_rule.specs.declared.event.Event.{Event}
 use Rattle.machine_rules.specs.Next.{next}
 use Rattle.work_board.specs.declared.answers.Committed.{Committed}
 use Rattle.work_board.specs.declared.answers.Refuse.{Refuse}
-use Rattle.work_board.specs.declared.answers.Refuse.TheVariants as why
-use Rattle.hall_rules.specs.Causes.{IsRefusal, absent_cause, actor_cause, busy_cause, full_cause, spent_cause, unready_cause}
-use Rattle.hall_rules.specs.Claims.{holder, is_anothers}
-use Rattle.hall_rules.proofs.Refusing.{or_none}
+use Rattle.hall_rules.specs.Answers.{IsEntered}
+use Rattle.hall_rules.specs.Causes.{IsRefusal, early_cause, full_cause}
+use Rattle.hall_rules.specs.Claims.{holder, holder_for}
+use Rattle.hall_rules.proofs.Refusing.{nobody_holds}
 use Rattle.seat_hall.specs.declared.item.Item.TheVariants.{Ended, Entered}
-use Rattle.seat_hall.specs.Answers.{Enters, IsEntered, RefusesEntry}
+use Rattle.seat_hall.specs.Answers.{EntersOr}
 use Rattle.seat_hall.specs.Halls.{HallView, says}
-use Rattle.seat_hall.specs.Log.{Logged, after, claim_in, claims_in, entry_cause, grown, listed, released, state_in}
-use Rattle.seat_hall.proofs.Claims.{claim_unset, holder_is, of_another, unset_twice}
-use Rattle.seat_hall.proofs.Holding.{none_claimed, not_busy}
+use Rattle.seat_hall.specs.Log.{Logged, after, claim_for, claim_in, claims_in, entry_cause, grown, listed, plain, released, state_in}
+use Rattle.seat_hall.proofs.Claims.{claim_unset, holder_is, of_another, of_any, unset_twice}
 
--- a claim on the actor is out where its place says so
-pub busy_is : (asker : Option ℕ) (a : ℕ) (claims : List (Option ℕ))
-    → busy_cause (listed 0 claims) asker a ≡ option_map why.Busy (of_another asker (claim_in claims a))
-busy_is asker a claims = ap (option_map why.Busy) (holder_is asker a claims)
+-- the one who holds the event's actor is told by its place
+pub held_is : (e : Event) (claims : List (Option ℕ)) → claim_for e claims ≡ holder_for None e (listed 0 claims)
+held_is e claims i = option_and_then (λ a. (sym (of_any (claim_in claims a)) ∙ sym (holder_is None a claims)) i) (actor_of e)
 
--- no claim is out on the actor of an event that is not refused to nobody
-pub event_is_free : (l : Logged) (e : Event) → actor_cause (state_in l) (claims_in l) None e ≡ None
-    → (a : ℕ) → actor_of e ≡ Some a → claim_in l.claims a ≡ None
-event_is_free l e none a its =
-    let cause : option_or (absent_cause (state_in l) a) (busy_cause (claims_in l) None a) ≡ None =
-    sym (ap (option_and_then (λ a. option_or (absent_cause (state_in l) a) (busy_cause (claims_in l) None a))) its) ∙ none in
-    none_claimed (claim_in l.claims a) (not_busy l None a (or_none (absent_cause (state_in l) a) _ cause).1)
+-- where no claim is out on it, nobody holds it
+held_by_none : (asker : Option ℕ) (e : Event) (claims : List (Option ℕ)) → claim_for e claims ≡ None → holder_for asker e (listed 0 claims) ≡ None
+held_by_none asker e claims free = by (actor_of e) free
+  where
+    by : (who : Option ℕ) → option_and_then (claim_in claims) who ≡ None → option_and_then (λ a. holder asker a (listed 0 claims)) who ≡ None
+    by None free = refl
+    by (Some a) free = holder_is asker a claims ∙ ap (of_another asker) free
 
 module _ (l : Logged) (e : Event) where
-  abbrev by_actor : Option ℕ → Option Refuse
-  by_actor asker = actor_cause (state_in l) (claims_in l) asker e
+  -- the cause, where this pass holds the event's actor
+  abbrev whole : Option ℕ → Option Refuse
+  whole holder = option_or (early_cause (state_in l) (length l.book) l.budget holder e) (full_cause (next (state_in l) e) e)
 
-  abbrev later : Option Refuse
-  later = option_or (unready_cause (next (state_in l) e)) (option_or (spent_cause (length l.book) l.budget) (full_cause (next (state_in l) e) e))
+  -- no claim is out on the actor of an event that is not refused to nobody
+  pub event_is_free : entry_cause l None e ≡ None → claim_for e l.claims ≡ None
+  event_is_free none = held_is e l.claims ∙ nobody_holds (plain l) None e none
 
   -- an event that is refused to nobody is refused to no pass
   pub none_for : (pass : ℕ) → entry_cause l None e ≡ None → entry_cause l (Some pass) e ≡ None
   none_for pass none =
-      let c = or_none (by_actor None) later none in
-      ap (λ o. option_or o later) (by (actor_of e) refl c.0) ∙ c.1
-    where
-      by : (who : Option ℕ) → actor_of e ≡ who → by_actor None ≡ None → by_actor (Some pass) ≡ None
-      by None its none = ap (option_and_then (λ a. option_or (absent_cause (state_in l) a) (busy_cause (claims_in l) (Some pass) a))) its
-      by (Some a) its none =
-          let cause : option_or (absent_cause (state_in l) a) (busy_cause (claims_in l) None a) ≡ None =
-          sym (ap (option_and_then (λ a. option_or (absent_cause (state_in l) a) (busy_cause (claims_in l) None a))) its) ∙ none in
-          let there = (or_none (absent_cause (state_in l) a) _ cause).0 in
-          let free = event_is_free l e none a its in
-          ap (option_and_then (λ a. option_or (absent_cause (state_in l) a) (busy_cause (claims_in l) (Some pass) a))) its
-          ∙ (ap (λ o. option_or o (busy_cause (claims_in l) (Some pass) a)) there
-          ∙ (busy_is (Some pass) a l.claims ∙ ap (λ c. option_map why.Busy (of_another (Some pass) c)) free))
+      let free = event_is_free none in
+      ap whole (held_by_none (Some pass) e l.claims free ∙ sym (held_by_none None e l.claims free)) ∙ none
 
   -- ---- a commit puts the cell back first
 
@@ -64,21 +53,18 @@ module _ (l : Logged) (e : Event) where
 
     -- who commits is refused as nobody is once its claim has ended
     pub own_cause : entry_cause ended None e ≡ entry_cause l (Some pass) e
-    own_cause = ap (λ o. option_or o later) (
-        ap (option_and_then (λ a. option_or (absent_cause (state_in l) a) (busy_cause (claims_in ended) None a))) its
-        ∙ (ap (option_or (absent_cause (state_in l) a)) (then_none ∙ sym own_none)
-        ∙ sym (ap (option_and_then (λ a. option_or (absent_cause (state_in l) a) (busy_cause (claims_in l) (Some pass) a))) its)))
+    own_cause = ap whole (held_by_none None e (set l.claims a None) unset ∙ sym own)
       where
         same : (pass == pass) ≡ true
         same = grind (arith, nat_tests)
 
-        then_none : busy_cause (claims_in ended) None a ≡ None
-        then_none = busy_is None a (set l.claims a None) ∙ ap (λ c. option_map why.Busy (of_another None c)) (claim_unset l.claims a)
+        unset : claim_for e (set l.claims a None) ≡ None
+        unset = ap (option_and_then (claim_in (set l.claims a None))) its ∙ claim_unset l.claims a
 
-        own_none : busy_cause (claims_in l) (Some pass) a ≡ None
-        own_none =
-            busy_is (Some pass) a l.claims ∙ (ap (λ c. option_map why.Busy (of_another (Some pass) c)) mine
-            ∙ ap (λ b. option_map why.Busy (if not b then Some pass else None)) same)
+        own : holder_for (Some pass) e (claims_in l) ≡ None
+        own =
+            ap (option_and_then (λ b. holder (Some pass) b (claims_in l))) its ∙ (holder_is (Some pass) a l.claims
+            ∙ (ap (of_another (Some pass)) mine ∙ ap (λ b. if not b then Some pass else None) same))
 
     -- and its entry leads to the same hall
     pub own_entered : after ended (Entered pass e) ≡ after l (Entered pass e)
@@ -92,26 +78,18 @@ module _ (l : Logged) (e : Event) where
 
     -- ---- what is answered then
 
-    pub own_answers : (r : Result Committed Refuse) → IfOk r (λ done. Enters None pass e done ended)
-        → IfOk r (λ done. Enters (Some pass) pass e done l)
-    own_answers (Ok done) enters = record {
-      may = sym own_cause ∙ enters.may;
-      entered = subst (λ (m : Logged). IsEntered l e done m) own_entered (record {
-        place = enters.entered.place;
-        book = enters.entered.book;
-        goes = enters.entered.goes;
-        woke = enters.entered.woke;
-      });
-    }
-    own_answers (Err refuse) enters = tt
-
-    pub own_entry : (r : Result Committed Refuse) (g : HallView)
-        → OnOk r (g ≡ says (after ended (Entered pass e)) (Entered pass e))
-        → OnOk r (g ≡ says (after l (Entered pass e)) (Entered pass e))
-    own_entry (Ok done) g is = is ∙ ap (λ m. says m (Entered pass e)) own_entered
-    own_entry (Err refuse) g is = tt
-
-    pub own_refused : (r : Result Committed Refuse) → IfErr r (λ refuse. RefusesEntry None e refuse ended)
-        → IfErr r (λ refuse. RefusesEntry (Some pass) e refuse l)
-    own_refused (Ok done) is = tt
-    own_refused (Err refuse) is = subst (λ cause. IsRefusal cause refuse) own_cause is
+    pub own_answers : (r : Result Committed Refuse) (g : HallView) → EntersOr None pass e ended (says ended (Ended pass a)) r g
+        → EntersOr (Some pass) pass e l (says ended (Ended pass a)) r g
+    own_answers (Ok done) g is = (
+      record {
+        may = sym own_cause ∙ is.0.may;
+        entered = subst (λ (m : Logged). IsEntered (plain l) e done (plain m)) own_entered (record {
+          place = is.0.entered.place;
+          book = is.0.entered.book;
+          goes = is.0.entered.goes;
+          woke = is.0.entered.woke;
+        });
+      },
+      is.1 ∙ ap (λ m. says m (Entered pass e)) own_entered,
+    )
+    own_answers (Err refuse) g is = (subst (λ cause. IsRefusal cause refuse) own_cause is.0, is.1)

@@ -1,12 +1,13 @@
 -- The claims that are out, as a list and by actor.
 use Rattle.std.proofs.Common.{◌≡◌, ◌≢◌, ℕ, zero, suc, ◌+◌, ◌<◌, ◌==◌, ◌&&◌, Bool, true, false, List, [], ◌∷◌, ◌++◌, length, Option, Some, None, refl, sym, ap, ◌∙◌, arith, set, get_or-set_other, is_some, ◌||◌}
 use Rattle.std.specs.Prelude.{find, option_map, if◌then◌else◌, nat_lt}
+use Rattle.std.specs.Option.{option_and_then, option_map_or}
 use Rattle.std.proofs.lemmas.Bool.Decides.{nat_tests}
 use Rattle.event_rule.specs.Events.{actor_of}
 use Rattle.event_rule.specs.declared.event.Event.{Event}
 use Rattle.hall_rules.specs.Claims.{holder, is_anothers, is_claimed}
 use Rattle.hall_rules.specs.declared.claim.Claim.{Claim}
-use Rattle.seat_hall.specs.Log.{claim_in, grown, listed, released}
+use Rattle.seat_hall.specs.Log.{claim_for, claim_in, grown, listed, released}
 
 -- the claim, unless it is of the one who asks
 abbrev pub of_another : Option ℕ → Option ℕ → Option ℕ
@@ -87,24 +88,28 @@ pub claim_released : (e : Event) (claims : List (Option ℕ)) (b : ℕ) → acto
     → claim_in (released e claims) b ≡ claim_in claims b
 claim_released e claims b apart = by (actor_of e) refl
   where
-    by : (who : Option ℕ) → actor_of e ≡ who → claim_in (Rattle.std.specs.Option.option_map_or (λ a. set claims a None) who claims) b ≡ claim_in claims b
+    by : (who : Option ℕ) → actor_of e ≡ who → claim_in (option_map_or (λ a. set claims a None) who claims) b ≡ claim_in claims b
     by None is = refl
     by (Some a) is = claim_set claims a b None (λ same. apart (is ∙ ap Some (sym same)))
 
 -- where no claim on the event's actor is out, none is taken away
-pub released_free : (e : Event) (claims : List (Option ℕ)) → ((a : ℕ) → actor_of e ≡ Some a → claim_in claims a ≡ None)
-    → released e claims ≡ claims
-released_free e claims free = by (actor_of e) refl
+pub released_free : (e : Event) (claims : List (Option ℕ)) → claim_for e claims ≡ None → released e claims ≡ claims
+released_free e claims free = by (actor_of e) free
   where
     set_free : (claims : List (Option ℕ)) (a : ℕ) → claim_in claims a ≡ None → set claims a None ≡ claims
     set_free [] a is = refl
     set_free (c ∷ claims) zero is = ap (λ d. d ∷ claims) (sym is)
     set_free (c ∷ claims) (suc a) is = ap (λ xs. c ∷ xs) (set_free claims a is)
 
-    by : (who : Option ℕ) → actor_of e ≡ who
-        → Rattle.std.specs.Option.option_map_or (λ a. set claims a None) who claims ≡ claims
+    by : (who : Option ℕ) → option_and_then (claim_in claims) who ≡ None → option_map_or (λ a. set claims a None) who claims ≡ claims
     by None is = refl
-    by (Some a) is = set_free claims a (free a is)
+    by (Some a) is = set_free claims a is
+
+-- it is of no actor that some pass has
+pub not_its : (e : Event) (claims : List (Option ℕ)) (a pass : ℕ) → claim_for e claims ≡ None → claim_in claims a ≡ Some pass
+    → actor_of e ≢ Some a
+not_its e claims a pass free mine acts =
+    let clash : None ≡ Some pass = sym free ∙ (ap (option_and_then (claim_in claims)) acts ∙ mine) in cc
 
 -- the last claim on an actor is as it was set
 pub claim_unset : (claims : List (Option ℕ)) (a : ℕ) → claim_in (set claims a None) a ≡ None

@@ -1,5 +1,5 @@
 -- How many claims are out.
-use Rattle.std.proofs.Common.{◌≡◌, ◌≢◌, ◌⊎◌, inl, inr, ℕ, zero, suc, ◌+◌, ◌<◌, ◌==◌, Bool, true, false, not, List, [], ◌∷◌, ◌++◌, length, Option, Some, None, refl, sym, ap, ◌∙◌, subst, ⊎_elim, arith, set, count_by, is_some, length-set, ◌≤◌}
+use Rattle.std.proofs.Common.{◌≡◌, ◌≢◌, ℕ, zero, suc, ◌+◌, ◌<◌, ◌==◌, Bool, true, false, List, [], ◌∷◌, ◌++◌, length, Option, Some, None, refl, sym, ap, ◌∙◌, arith, set, count_by, is_some, length-set, ◌≤◌}
 use Rattle.std.specs.Prelude.{if◌then◌else◌, nat_lt}
 use Rattle.std.specs.Option.{option_map_or}
 use Rattle.std.proofs.lemmas.Bool.Decides.{nat_tests}
@@ -9,7 +9,7 @@ use Rattle.event_rule.specs.Events.{actor_of}
 use Rattle.event_rule.specs.declared.event.Event.{Event}
 use Rattle.seat_hall.specs.declared.item.Item.{Item}
 use Rattle.seat_hall.specs.declared.item.Item.TheVariants.{Claimed, Entered, Ended, Stopped, Made}
-use Rattle.seat_hall.specs.Log.{Legal, Logged, MayFollow, after, by, claim_in, grown, hall_from, items_by, listed, released, state_in}
+use Rattle.seat_hall.specs.Log.{Legal, Logged, after, by, claim_for, claim_in, grown, hall_from, items_by, listed, released, state_in}
 use Rattle.seat_hall.specs.Passes.{is_of}
 use Rattle.seat_hall.proofs.Claims.{released_free}
 use Rattle.seat_hall.proofs.Holding.{about, none_by, not_about, pass_or}
@@ -147,7 +147,7 @@ out_committed pass a l e its mine =
     let ends = out_ended pass a l mine in omega arith
 
 -- an entry of an actor on which no claim is out
-pub out_direct : (pass : ℕ) (l : Logged) (e : Event) → ((a : ℕ) → actor_of e ≡ Some a → claim_in l.claims a ≡ None)
+pub out_direct : (pass : ℕ) (l : Logged) (e : Event) → claim_for e l.claims ≡ None
     → count_by (is_of pass) (after l (Entered pass e)).claims ≡ count_by (is_of pass) l.claims
 out_direct pass l e free =
     counted_grown (is_of pass) refl (length (state_in (record l { book = l.book ++ e ∷ [] })).actors) (released e l.claims)
@@ -155,31 +155,25 @@ out_direct pass l e free =
 
 -- ---- of all
 
--- where none is counted, none is listed
-pub none_listed : (n : ℕ) (claims : List (Option ℕ)) → count_by is_some claims ≡ 0 → listed n claims ≡ []
-none_listed n [] none = refl
-none_listed n (None ∷ claims) none =
-    let s = sum_by-cons (λ x. cond {A = ℕ} (is_some x) 1 0) None claims in none_listed (n + 1) claims (omega arith)
-none_listed n (Some p ∷ claims) none =
-    let s = sum_by-cons (λ x. cond {A = ℕ} (is_some x) 1 0) (Some p) claims in absurd (omega arith)
+-- as many are listed as are out
+pub counted_listed : (n : ℕ) (claims : List (Option ℕ)) → count_by is_some claims ≡ length (listed n claims)
+counted_listed n [] = refl
+counted_listed n (None ∷ claims) =
+    let s = sum_by-cons (λ x. cond {A = ℕ} (is_some x) 1 0) None claims in let r = counted_listed (n + 1) claims in omega arith
+counted_listed n (Some p ∷ claims) =
+    let s = sum_by-cons (λ x. cond {A = ℕ} (is_some x) 1 0) (Some p) claims in let r = counted_listed (n + 1) claims in omega arith
 
--- where none is listed, none is out and none counted
+-- where none is listed, none is out
 pub none_out_listed : (n : ℕ) (claims : List (Option ℕ)) → listed n claims ≡ [] → (a : ℕ) → claim_in claims a ≡ None
 none_out_listed n [] none a = refl
 none_out_listed n (None ∷ claims) none zero = refl
 none_out_listed n (None ∷ claims) none (suc a) = none_out_listed (n + 1) claims none a
 none_out_listed n (Some p ∷ claims) none a = absurd (cc)
 
-pub none_counted : (claims : List (Option ℕ)) → ((a : ℕ) → claim_in claims a ≡ None) → count_by is_some claims ≡ 0
-none_counted [] none = refl
-none_counted (c ∷ claims) none =
-    let s = sum_by-cons (λ x. cond {A = ℕ} (is_some x) 1 0) c claims in
-    let z : cond {A = ℕ} (is_some c) 1 0 ≡ 0 = ap (λ c. cond {A = ℕ} (is_some c) 1 0) (none 0) in
-    let r = none_counted claims (λ a. none (suc a)) in omega arith
-
--- where none is out, none is listed
-pub none_listed_by : (claims : List (Option ℕ)) → ((a : ℕ) → claim_in claims a ≡ None) → listed 0 claims ≡ []
-none_listed_by claims none = none_listed 0 claims (none_counted claims none)
+pub none_listed : (n : ℕ) (claims : List (Option ℕ)) → ((a : ℕ) → claim_in claims a ≡ None) → listed n claims ≡ []
+none_listed n [] none = refl
+none_listed n (None ∷ claims) none = none_listed (n + 1) claims (λ a. none (suc a))
+none_listed n (Some p ∷ claims) none = absurd (let is = none 0 in cc)
 
 -- one more than are out is no more than there are actors
 pub one_more_fits : (claims : List (Option ℕ)) (a : ℕ) → a < length claims → claim_in claims a ≡ None

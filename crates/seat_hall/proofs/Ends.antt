@@ -1,5 +1,5 @@
 -- What is known of a hall at its end.
-use Rattle.std.proofs.Common.{◌≡◌, ℕ, List, [], ◌∷◌, map, sym, ap, ◌∙◌, subst, arith}
+use Rattle.std.proofs.Common.{◌≡◌, ℕ, List, [], map, sym, ap, ◌∙◌, subst}
 use mathlib.Core.Option.{some}
 use mathlib.Core.List.{IsPrefix}
 use lib.ListN.{get_elem?}
@@ -9,12 +9,11 @@ use Rattle.turn_log.specs.Queue.{known_of}
 use Rattle.turn_log.specs.Seats.{knows}
 use Rattle.seat_hall.specs.declared.closing.Closing.{Closing}
 use Rattle.seat_hall.specs.declared.closing.Closing.TheVariants.{Whole, Turning, Lent}
-use Rattle.seat_hall.specs.declared.item.Item.{Item}
 use Rattle.seat_hall.specs.Closes.{Closes, IsLastHall, Leaves}
 use Rattle.seat_hall.specs.Fair.{Calm, HallRule, Knower, live}
 use Rattle.seat_hall.specs.Halls.{HallView}
 use Rattle.seat_hall.specs.Log.{Logged}
-use Rattle.seat_hall.specs.Passes.{IsPass, Token, hall, seen}
+use Rattle.seat_hall.specs.Passes.{IsPass, Token}
 use Rattle.seat_hall.proofs.Apart.{shown}
 use Rattle.seat_hall.proofs.Keeps.{one_number}
 use Rattle.seat_hall.proofs.Logs.{HasTerms, terms_of}

@@ -1,78 +1,99 @@
--- An event that is not refused becomes an entry.
-use Rattle.std.proofs.Common.{◌≡◌, ℕ, ◌==◌, List, [], ◌∷◌, ◌++◌, length, Option, None, Some, sym, refl, ap, subst, ◌∙◌}
-use Rattle.std.specs.Option.{option_or}
-use Rattle.event_rule.specs.Events.{actor_of}
-use Rattle.event_rule.specs.Runs.{Goes, Step}
+-- An event that is tried becomes an entry, or all stays as it was.
+use Rattle.std.proofs.Common.{◌≡◌, ◌+◌, ◌<◌, ◌≤◌, ℕ, Bool, false, List, length, Option, None, Some, Ok, Err, sym, subst, ◌∙◌}
+use Rattle.std.specs.Global.{Box}
+use Rattle.std.specs.Option.{ForSome}
+use Rattle.behaviour_code.specs.declared.code.Program.{Program}
 use Rattle.event_rule.specs.declared.event.Event.{Event}
-use Rattle.machine_rules.specs.Next.{next}
-use Rattle.machine_rules.specs.State.{State}
-use Rattle.orca_core.specs.Machine.{Machine}
-use Rattle.orca_parts.specs.Woken.{IsLowestWoken}
+use Rattle.run_book.specs.Books.{BookValue, options_of_book}
+use Rattle.actor_cell.specs.declared.found.Found.{Found}
+use Rattle.orca_parts.specs.Away.{KeepsAway, is_out_for}
+use Rattle.orca_core.specs.Machine.{IsFoundIn, Machine}
 use Rattle.work_board.specs.declared.answers.Committed.{Committed}
 use Rattle.work_board.specs.declared.answers.Refuse.{Refuse}
-use Rattle.hall_rules.specs.Causes.{IsRefusal, actor_cause, full_cause, spent_cause, unready_cause}
-use Rattle.hall_rules.proofs.Refusing.{late_is, or_none}
+use Rattle.hall_rules.specs.Causes.{actor_cause, early_cause}
+use Rattle.hall_rules.specs.Entering.{Enters, MayEnter, Refuses}
+use Rattle.hall_rules.proofs.Entries.{entered, keeps, leads_to, may_enter, refused_early, refused_late}
+use Rattle.hall_rules.proofs.Keeping.{options_alike}
+use Rattle.hall_rules.proofs.Refusing.{has_actor, unheld}
 use Rattle.seat_hall.specs.declared.item.Item.TheVariants.{Entered}
-use Rattle.seat_hall.specs.Answers.{Enters}
-use Rattle.seat_hall.specs.Halls.{HallView, says}
-use Rattle.seat_hall.specs.Log.{Logged, after, claim_in, claims_in, entered, entry_cause, grown, state_in}
-use Rattle.seat_hall.proofs.Causes.{event_is_free}
+use Rattle.seat_hall.specs.Answers.{EntersOr, RefusesEntry}
+use Rattle.seat_hall.specs.Halls.{HallKeeps, HallView, says}
+use Rattle.seat_hall.specs.Log.{Logged, after, claim_for, claim_in, grown, listed}
+use Rattle.seat_hall.specs.Rooms.{RoomsView}
+use Rattle.seat_hall.proofs.Causes.{held_is}
 use Rattle.seat_hall.proofs.Claims.{released_free}
+use Rattle.seat_hall.proofs.Kept.{event_is_home, kept_entered, kept_rooms, kept_same, reaps_none_away}
 
-module _ (l : Logged) (e : Event) where
-  abbrev actor_refuses : Option Refuse
-  actor_refuses = actor_cause (state_in l) (claims_in l) None e
+-- a hall with this book and these claims
+abbrev pub logged_of : Program → ℕ → BookValue → List (Option ℕ) → Bool → ℕ → Logged
+logged_of program budget book claims stopped made = record {
+  program = program;
+  options = options_of_book book;
+  budget = budget;
+  book = book.entries;
+  claims = claims;
+  stopped = stopped;
+  made = made;
+}
 
-  abbrev not_ready : Option Refuse
-  not_ready = unready_cause (next (state_in l) e)
+module _ (program : Program) (budget : ℕ) (m : Machine) (book : BookValue) (claims : List (Option ℕ)) (rooms : RoomsView)
+    (kept : HallKeeps program budget m book claims rooms) (e : Event) (holder : Option ℕ) (held : holder ≡ claim_for e claims) where
+  -- the cell of an actor that does not refuse its event is at home
+  pub actor_is_home : actor_cause m.state holder e ≡ None → is_out_for m.out e ≡ false
+  actor_is_home none = event_is_home program budget m book claims rooms kept e
+      (unheld m.state e (claim_in claims) (subst (λ h. actor_cause m.state h e ≡ None) held none))
 
-  abbrev over : Option Refuse
-  over = spent_cause (length l.book) l.budget
+  pub refuses_early : (stopped : Bool) (made : ℕ) (refuse : Refuse) → Some refuse ≡ early_cause m.state (length book.entries) budget holder e
+      → RefusesEntry None e refuse (logged_of program budget book claims stopped made)
+  refuses_early stopped made = refused_early program budget m book kept.one holder e (listed 0 claims) stopped None (held ∙ held_is e claims)
 
-  -- nothing refuses the event before it is tried
-  module _ (none : None ≡ option_or actor_refuses (option_or not_ready over)) where
-    pub its_actor_is_free : (a : ℕ) → actor_of e ≡ Some a → claim_in l.claims a ≡ None
-    its_actor_is_free = event_is_free l e (or_none actor_refuses (option_or not_ready over) (sym none)).0
+  module _ (none : None ≡ early_cause m.state (length book.entries) budget holder e) where
+    free : claim_for e claims ≡ None
+    free = unheld m.state e (claim_in claims)
+        (subst (λ h. actor_cause m.state h e ≡ None) held (has_actor m.state (length book.entries) budget e holder (sym none)))
 
-    later : (not_ready ≡ None) × (over ≡ None)
-    later = or_none not_ready over (or_none actor_refuses (option_or not_ready over) (sym none)).1
+    pub is_home : is_out_for m.out e ≡ false
+    is_home = event_is_home program budget m book claims rooms kept e free
 
-    pub is_ready : unready_cause (next (state_in l) e) ≡ None
-    is_ready = later.0
+    pub may_try : (place : Option (Box Found)) → ForSome place (λ known. IsFoundIn e known.value m) → MayEnter e place m
+    may_try = may_enter program budget m book kept.one holder e none is_home (reaps_none_away program budget m book claims rooms kept e)
 
-    pub has_room : spent_cause (length l.book) l.budget ≡ None
-    has_room = later.1
+    module _ (n : Machine) (after_it : BookValue) (away : KeepsAway m.out n.out)
+        (alike : (after_it.weight ≡ book.weight) × (after_it.trace ≡ book.trace)) where
+      -- what the hall keeps then, with more rooms
+      module _ (more : RoomsView) (out : more.out ≡ rooms.out) (room : rooms.free ≤ more.free) where
+        roomy : HallKeeps program budget m book claims more
+        roomy = kept_rooms program budget m book claims rooms kept more out room
 
-    -- so it is refused only as full
-    late : entry_cause l None e ≡ full_cause (next (state_in l) e) e
-    late = late_is actor_refuses not_ready over (full_cause (next (state_in l) e) e) (sym none)
+        pub keeps_entry : (done : Committed) → Enters e done m n book after_it → length claims < more.free + more.out
+            → HallKeeps program budget n after_it (grown (length n.state.actors) claims) more
+        keeps_entry done is = kept_entered program budget m book claims more roomy n after_it
+            (keeps program budget m book kept.one holder e none n after_it alike (Ok done) is tt) away e free is.goes
 
-    pub late_refusal : (m : Machine) (refuse : Refuse) → m.state ≡ state_in l
-        → IsRefusal (full_cause (next m.state e) e) refuse → IsRefusal (entry_cause l None e) refuse
-    late_refusal m refuse state is =
-        subst (λ cause. IsRefusal cause refuse) (ap (λ s. full_cause (next s e) e) state ∙ sym late) is
+        pub keeps_all : (refuse : Refuse) → Refuses e refuse m n book after_it → HallKeeps program budget n after_it claims more
+        keeps_all refuse is = kept_same program budget m book claims more roomy n after_it
+            (keeps program budget m book kept.one holder e none n after_it alike (Err refuse) tt is) away is.same
 
-    -- or the hall goes on
-    module _ (m n : Machine) (state : m.state ≡ state_in l)
-        (then : n.state ≡ state_in (record l { book = l.book ++ e ∷ [] })) where
-      pub enters : (pass : ℕ) (done : Committed) → done.place ≡ length l.book → next m.state e ≡ Goes n.state
-          → IsLowestWoken m.state.actors n.state.actors done.woke → Enters None pass e done l
-      enters pass done place goes woke =
-          let leads : next (state_in l) e ≡ Goes n.state = ap (λ s. next s e) (sym state) ∙ goes in record {
-            may = late ∙ ap (λ (step : Step State). full_cause step e) leads;
-            entered = record {
-              place = place;
-              book = refl;
-              goes = leads ∙ ap Goes then;
-              woke = subst (λ (x : State × State). IsLowestWoken x.0.actors x.1.actors done.woke) (λ i. (state i, then i)) woke;
-            };
-          }
+      -- what is answered
+      module _ (stopped : Bool) (made : ℕ) where
+        abbrev was : Logged
+        was = logged_of program budget book claims stopped made
 
-      -- the hall with the entry and a place for the one that was made
-      pub says_entered : (pass : ℕ)
-          → says (record l { book = l.book ++ e ∷ []; claims = grown (length n.state.actors) l.claims }) (Entered pass e)
-          ≡ says (after l (Entered pass e)) (Entered pass e)
-      says_entered pass = λ i. says (record l {
-        book = l.book ++ e ∷ [];
-        claims = grown (length (then i).actors) (sym (released_free e l.claims its_actor_is_free) i);
-      }) (Entered pass e)
+        pub enters : (pass : ℕ) (refused : HallView) (done : Committed) → Enters e done m n book after_it
+            → EntersOr None pass e was refused (Ok done)
+            (says (logged_of program budget after_it (grown (length n.state.actors) claims) stopped made) (Entered pass e))
+        enters pass refused done is =
+            let all = entered program budget m book kept.one holder e (listed 0 claims) stopped None (held ∙ held_is e claims) none n after_it
+            done (listed 0 (after was (Entered pass e)).claims) is in
+            let came = leads_to program budget m book kept.one holder e n is.goes in (
+              record { may = all.0; entered = all.1 },
+              (λ i. says (record was {
+                options = options_alike book after_it alike i;
+                book = is.entry i;
+                claims = grown (length (came i).actors) (sym (released_free e claims free) i);
+              }) (Entered pass e)),
+            )
+
+        pub refuses_late : (refuse : Refuse) → Refuses e refuse m n book after_it → RefusesEntry None e refuse was
+        refuses_late refuse is = refused_late program budget m book kept.one holder e (listed 0 claims) stopped None (held ∙ held_is e claims)
+            none refuse is.cause

@@ -3,7 +3,7 @@ use Rattle.std.proofs.Common.{◌≡◌, ℕ, zero, suc, ◌+◌, ◌≤◌, Lis
 use Rattle.std.specs.Prelude.{slice_get}
 use Rattle.event_rule.specs.declared.event.Event.{Event}
 use Rattle.seat_hall.specs.declared.item.Item.{Item}
-use Rattle.seat_hall.specs.declared.item.Item.TheVariants.{Claimed, Entered, Ended, Stopped, Made}
+use Rattle.seat_hall.specs.declared.item.Item.TheVariants.{Entered, Made}
 use Rattle.seat_hall.specs.Fair.{start_of}
 use Rattle.seat_hall.specs.Log.{Logged, after, hall_from}
 use Rattle.seat_hall.specs.Stands.{EntriesStandOnce}

@@ -2,9 +2,8 @@
 use Rattle.std.proofs.Common.{◌≡◌, ℕ, Bool, true, false, not, List, [], Option, Some, None, refl, sym, ap, ◌∙◌, is_some}
 use Rattle.std.specs.Prelude.{if◌then◌else◌}
 use Rattle.std.specs.Option.{option_map_or}
-use Rattle.event_rule.specs.Events.{actor_of, is_of, is_of_detector}
+use Rattle.event_rule.specs.Events.{actor_of, is_of_detector}
 use Rattle.event_rule.specs.Runs.{NotEnabled, Step}
-use Rattle.event_rule.specs.declared.event.Event.{Event}
 use Rattle.machine_rules.specs.Next.{next}
 use Rattle.machine_rules.specs.State.{State}
 use Rattle.orca_parts.specs.Away.{is_out}

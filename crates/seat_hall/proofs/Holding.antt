@@ -1,25 +1,22 @@
 -- What a pass has, it has until it ends the claim, whatever others do.
 use Rattle.std.proofs.Common.{◌≡◌, ◌≢◌, ℕ, ◌<◌, ◌==◌, Bool, true, false, not, List, [], ◌∷◌, ◌++◌, Option, Some, None, refl, sym, ap, ◌∙◌, subst, arith}
 use Rattle.std.specs.Prelude.{if◌then◌else◌}
-use Rattle.std.specs.Option.{option_and_then, option_or}
+use Rattle.std.specs.Option.{option_and_then}
 use Rattle.std.proofs.lemmas.Bool.Decides.{nat_tests}
 use Rattle.event_rule.specs.Events.{actor_of}
-use Rattle.event_rule.specs.Runs.{Goes, NotEnabled}
 use Rattle.event_rule.specs.declared.event.Event.{Event}
 use Rattle.machine_rules.specs.Actors.{cell_at}
-use Rattle.machine_rules.specs.Next.{next}
 use Rattle.machine_rules.specs.State.{State, first_state}
 use Rattle.orca_core.proofs.Reached.{leads_more}
-use Rattle.work_board.specs.declared.answers.Refuse.TheVariants as why
-use Rattle.hall_rules.specs.Causes.{absent_cause, actor_cause, busy_cause, event_at}
+use Rattle.hall_rules.specs.Causes.{absent_cause, busy_cause, event_at}
 use Rattle.hall_rules.specs.Claims.{holder}
 use Rattle.hall_rules.proofs.Leading.{leads_after}
-use Rattle.hall_rules.proofs.Refusing.{or_none}
+use Rattle.hall_rules.proofs.Refusing.{nobody_holds, none_holds, or_none}
 use Rattle.seat_hall.specs.declared.item.Item.{Item}
 use Rattle.seat_hall.specs.declared.item.Item.TheVariants.{Claimed, Entered, Ended, Stopped, Made}
-use Rattle.seat_hall.specs.Log.{Legal, Logged, MayFollow, after, by, claim_cause, claim_in, claims_in, entry_cause, hall_from, items_by, state_in}
+use Rattle.seat_hall.specs.Log.{Legal, Logged, MayFollow, after, by, claim_cause, claim_in, claims_in, entry_cause, hall_from, items_by, plain, state_in}
 use Rattle.seat_hall.proofs.Busy.{busy_of, event_of, others_leave_busy, stands_apart}
-use Rattle.seat_hall.proofs.Claims.{claim_grown, claim_released, claim_set, holder_is, of_another}
+use Rattle.seat_hall.proofs.Claims.{claim_grown, claim_released, claim_set, holder_is, of_another, of_any}
 use Rattle.seat_hall.proofs.Runs.{IsRunOf, can_enter, run_one}
 
 -- the claim on the actor is out, and it has an event; the cell is as it was
@@ -31,18 +28,6 @@ pub record Keeps (pass a : ℕ) (l m : Logged) : Type 0 where
 abbrev pub pass_or : ℕ → Option ℕ → ℕ
 pass_or d (Some pass) = pass
 pass_or d None = d
-
-pub not_busy : (l : Logged) (asker : Option ℕ) (a : ℕ) → busy_cause (claims_in l) asker a ≡ None
-    → of_another asker (claim_in l.claims a) ≡ None
-not_busy l asker a none = sym (holder_is asker a l.claims) ∙ free (holder asker a (claims_in l)) none
-  where
-    free : (who : Option ℕ) → Rattle.std.specs.Prelude.option_map why.Busy who ≡ None → who ≡ None
-    free None none = refl
-    free (Some p) none = absurd (cc)
-
-pub none_claimed : (c : Option ℕ) → of_another None c ≡ None → c ≡ None
-none_claimed None none = refl
-none_claimed (Some p) none = absurd (cc)
 
 -- an actor that another asks for, and is not refused as busy, is not this pass's
 not_mine : (c : Option ℕ) (asker pass : ℕ) → asker ≢ pass → of_another (Some asker) c ≡ None → c ≢ Some pass
@@ -68,18 +53,14 @@ about (Made pass) = None
 about_entered : (l : Logged) (pass q a : ℕ) (e : Event) → q ≢ pass → entry_cause l (Some q) e ≡ None
     → claim_in l.claims a ≡ Some pass → actor_of e ≢ Some a
 about_entered l pass q a e apart none mine is =
-    let c = or_none (actor_cause (state_in l) (claims_in l) (Some q) e) _ none in
-    let cause : option_or (absent_cause (state_in l) a) (busy_cause (claims_in l) (Some q) a) ≡ None =
-    sym (ap (option_and_then (λ a. option_or (absent_cause (state_in l) a) (busy_cause (claims_in l) (Some q) a))) is) ∙ c.0 in
-    let d = or_none (absent_cause (state_in l) a) _ cause in
-    not_mine (claim_in l.claims a) q pass apart (not_busy l (Some q) a d.1) mine
+    let free = sym (ap (option_and_then (λ a. holder (Some q) a (claims_in l))) is) ∙ nobody_holds (plain l) (Some q) e none in
+    not_mine (claim_in l.claims a) q pass apart (sym (holder_is (Some q) a l.claims) ∙ free) mine
 
 -- a granted claim is on an actor that nobody has
 pub free_for : (l : Logged) (a : ℕ) → claim_cause l a ≡ None → claim_in l.claims a ≡ None
 free_for l a none =
-    let c = or_none (absent_cause (state_in l) a) _ none in
-    let d = or_none (busy_cause (claims_in l) None a) _ c.1 in
-    none_claimed (claim_in l.claims a) (not_busy l None a d.0)
+    let held = or_none (busy_cause (holder None a (claims_in l))) _ (or_none (absent_cause (state_in l) a) _ none).1 in
+    sym (of_any (claim_in l.claims a)) ∙ (sym (holder_is None a l.claims) ∙ none_holds (holder None a (claims_in l)) held.0)
 
 -- an item of others is about no actor that this pass has
 pub not_about : (pass a : ℕ) (l : Logged) (i : Item) → by i ≢ pass → MayFollow l i → claim_in l.claims a ≡ Some pass → about i ≢ Some a

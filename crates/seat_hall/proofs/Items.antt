@@ -1,19 +1,17 @@
 -- What a pass has after it wrote that an event became an entry, or that a claim is granted.
 use Rattle.std.proofs.Common.{◌≡◌, ℕ, ◌+◌, ◌<◌, length, Some, None, refl, sym, ap, ◌∙◌, subst, get_or-set_same}
-use Rattle.event_rule.specs.Events.{actor_of}
 use Rattle.event_rule.specs.declared.event.Event.{Event}
 use Rattle.turn_log.specs.Knowing.{having_written}
 use Rattle.turn_log.specs.Seats.{knows}
-use Rattle.hall_rules.specs.Causes.{actor_cause}
-use Rattle.hall_rules.proofs.Refusing.{or_none}
 use Rattle.seat_hall.specs.declared.item.Item.TheVariants.{Claimed, Entered}
 use Rattle.seat_hall.specs.declared.task.SeatTask.{SeatTask}
 use Rattle.seat_hall.specs.Answers.{IsTaken}
 use Rattle.seat_hall.specs.Fair.{after_item}
 use Rattle.seat_hall.specs.Halls.{HallView}
-use Rattle.seat_hall.specs.Log.{MayFollow, after, claim_cause, claim_in, claims_in, entry_cause, state_in}
+use Rattle.seat_hall.specs.Log.{MayFollow, after, claim_cause, claim_for, claim_in, entry_cause}
 use Rattle.seat_hall.specs.Passes.{HasIn, IsAtHall, IsClaimOf, KeepsCells, MayCommit, Token, out}
 use Rattle.seat_hall.proofs.Causes.{event_is_free, none_for}
+use Rattle.seat_hall.proofs.Claims.{not_its}
 use Rattle.seat_hall.proofs.Counts.{out_claimed, out_direct}
 use Rattle.seat_hall.proofs.Holding.{free_for, pass_or}
 use Rattle.seat_hall.proofs.Turns.{hall_then, has_now, out_now, wrote_cells, wrote_out}
@@ -24,14 +22,13 @@ module _ (n : ℕ) (old mid : Token) (h : HallView) (at : IsAtHall n old mid h) 
     pub entry_may : MayFollow h.logged (Entered n e)
     entry_may = (at.given, none_for h.logged e n may)
 
-    free : (a : ℕ) → actor_of e ≡ Some a → claim_in h.logged.claims a ≡ None
-    free = event_is_free h.logged e (or_none (actor_cause (state_in h.logged) (claims_in h.logged) None e) _ may).0
+    free : claim_for e h.logged.claims ≡ None
+    free = event_is_free h.logged e may
 
     module _ (new : Token) (wrote : knows new ≡ having_written after_item (Entered n e) (knows mid)) where
       pub entry_cells : KeepsCells n old new
       entry_cells b cell has = wrote_cells n old mid new h at (Entered n e) refl wrote entry_may b cell
-          (λ acts. let mine = has_now n old mid new h at b cell has in
-          let clash : None ≡ Some n = sym (free b acts) ∙ mine.claimed in cc) has
+          (not_its e h.logged.claims b n free (has_now n old mid new h at b cell has).claimed) has
 
       pub entry_out : out n new ≡ out n old
       entry_out = wrote_out n old mid new h at (Entered n e) refl wrote _

@@ -1,44 +1,37 @@
 -- What a hall keeps, whatever is done with it.
-use Rattle.std.proofs.Common.{◌≡◌, ◌≢◌, ℕ, zero, suc, ◌+◌, ◌<◌, ◌≤◌, Bool, true, false, List, [], ◌∷◌, ◌++◌, length, Option, Some, None, refl, sym, ap, ◌∙◌, subst, arith, set, get_or, count_by, is_some, length-set, length-append, get_or-set_other, get_or-set_same}
+use Rattle.std.proofs.Common.{◌≡◌, ◌≢◌, ℕ, zero, suc, ◌+◌, ◌<◌, ◌≤◌, Bool, true, false, List, [], ◌∷◌, ◌++◌, length, Option, Some, None, refl, sym, ap, ◌∙◌, subst, arith, set, get_or, is_some, length-set, length-append, get_or-set_other, get_or-set_same}
 use Rattle.std.specs.Prelude.{if◌then◌else◌, nat_lt}
-use Rattle.std.specs.Option.{option_map_or}
+use Rattle.std.specs.Option.{option_and_then, option_map_or}
 use Rattle.std.proofs.lemmas.Bool.Decides.{nat_tests}
 use Rattle.std.proofs.lemmas.List.Sums.{count_by-le-length}
 use mathlib.Core.Logic.{dite}
 use native.Mathlib.Decide.{ℕ_discrete}
-use Rattle.orca_names.specs.declared.limits.TheConstants.{ACTORS_LIMIT, BOOK_LIMIT}
-use Rattle.orca_names.specs.declared.trace.Trace.{Trace}
+use Rattle.orca_names.specs.declared.limits.TheConstants.{ACTORS_LIMIT}
 use Rattle.behaviour_code.specs.declared.code.Program.{Program}
 use Rattle.event_rule.specs.Events.{actor_of}
 use Rattle.event_rule.specs.Runs.{Goes}
 use Rattle.event_rule.specs.declared.event.Event.{Event}
-use Rattle.event_rule.specs.declared.event.Event.TheVariants.{Take, Go, Collect, Leave, Block, Hear, Scan, Reap}
+use Rattle.event_rule.specs.declared.event.Event.TheVariants.{Reap}
 use Rattle.letter_kinds.specs.Detector.{Token, has}
+use Rattle.machine_rules.specs.Actors.{cell_at, cell_of}
 use Rattle.machine_rules.specs.Detect.{acked_token}
 use Rattle.machine_rules.specs.Next.{next}
-use Rattle.machine_rules.specs.Options.{Options}
-use Rattle.machine_rules.specs.Run.{IsRun}
-use Rattle.machine_rules.specs.State.{State, first_state}
+use Rattle.machine_rules.specs.State.{State}
 use Rattle.machine_rules.proofs.Enabling.{enabled_exactly}
 use Rattle.machine_rules.proofs.Guards.{acked_open}
-use Rattle.run_book.specs.Books.{BookValue, IsWeight, options_of_book}
+use Rattle.run_book.specs.Books.{BookValue, options_of_book}
 use Rattle.count_laws.proofs.bounds.Bounding.{runs_make_few}
-use Rattle.cell_laws.proofs.Keeping.{runs_keep_program}
 use Rattle.orca_parts.specs.Away.{KeepsAway, is_out, is_out_for}
-use Rattle.orca_core.specs.Laws.{IsRunOf}
-use Rattle.orca_core.specs.Machine.{IsSame, Machine, ReapsNoneAway}
-use Rattle.orca_parts.specs.Parts.{options_of}
-use Rattle.orca_core.proofs.Reached.{leads_more}
-use Rattle.hall_rules.specs.Causes.{event_at, spent_cause}
-use Rattle.hall_rules.specs.Halls.{state_after}
-use Rattle.hall_rules.proofs.Leading.{leads_after}
-use Rattle.hall_rules.proofs.Refusing.{room_for_one}
+use Rattle.orca_core.specs.Machine.{IsSame, Machine, ReapsNoneAway, cell_here}
+use Rattle.hall_rules.specs.Causes.{event_at}
+use Rattle.hall_rules.specs.Kept.{IsRunWithin}
+use Rattle.hall_rules.proofs.Keeping.{still}
 use Rattle.seat_hall.specs.Halls.{ClaimedAreBusy, HallKeeps}
-use Rattle.seat_hall.specs.Log.{claim_in, grown}
+use Rattle.seat_hall.specs.Log.{claim_for, claim_in, grown}
 use Rattle.seat_hall.specs.Rooms.{RoomsView}
 use Rattle.seat_hall.proofs.Busy.{busy_made, busy_of, event_of, none_reaped, others_leave_busy, stands_apart}
-use Rattle.seat_hall.proofs.Claims.{claim_grown, claim_set, claim_unset}
-use Rattle.seat_hall.proofs.Counts.{claim_inside, counted_grown, counted_less, counted_more, none_out_listed, one_more_fits}
+use Rattle.seat_hall.proofs.Claims.{claim_grown, claim_set, claim_unset, not_its}
+use Rattle.seat_hall.proofs.Counts.{claim_inside, counted_grown, counted_less, counted_more, one_more_fits}
 use Rattle.seat_hall.proofs.Growing.{grows_by_one}
 
 -- what is set to the value of those that are not there is not there
@@ -55,10 +48,6 @@ long_grown n claims low high = by (nat_lt (length claims) n) refl
     by true is = let less : length claims < n = grind (arith, nat_tests) in let l = length-append claims (None ∷ []) in omega arith
     by false is = let more : n ≤ length claims = grind (arith, nat_tests) in omega arith
 
--- options of one weight and one tracing are one
-pub options_alike : (a b : ℕ) (s t : Trace) → a ≡ b → s ≡ t → options_of a s ≡ options_of b t
-options_alike a b s t weight trace = λ i. options_of (weight i) (trace i)
-
 module _ (program : Program) (budget : ℕ) (m : Machine) (book : BookValue) (claims : List (Option ℕ)) (rooms : RoomsView)
     (kept : HallKeeps program budget m book claims rooms) where
   -- ---- whose cells are away
@@ -67,24 +56,24 @@ module _ (program : Program) (budget : ℕ) (m : Machine) (book : BookValue) (cl
   free_is_home a free = kept.away a ∙ ap is_some free
 
   -- that of the actor of an event on which no claim is out is at home
-  pub event_is_home : (e : Event) → ((a : ℕ) → actor_of e ≡ Some a → claim_in claims a ≡ None) → is_out_for m.out e ≡ false
-  event_is_home e free = by (actor_of e) refl
+  pub event_is_home : (e : Event) → claim_for e claims ≡ None → is_out_for m.out e ≡ false
+  event_is_home e free = by (actor_of e) free
     where
-      by : (who : Option ℕ) → actor_of e ≡ who → option_map_or (is_out m.out) who false ≡ false
-      by None is = refl
-      by (Some a) is = free_is_home a (free a is)
+      by : (who : Option ℕ) → option_and_then (claim_in claims) who ≡ None → option_map_or (is_out m.out) who false ≡ false
+      by None free = refl
+      by (Some a) free = free_is_home a free
 
   -- ---- nothing reaps a claimed actor
 
   heavy : 0 < book.weight
-  heavy = let w = kept.weight.0 in omega arith
+  heavy = let w : 2 ≤ book.weight = kept.one.weight.0 in omega arith
 
   spared : (number : ℕ) (t : Token) (a : ℕ) → acked_token number m.state.detector ≡ Some t → has t.members a ≡ true
       → (c : Option ℕ) → claim_in claims a ≡ c → is_out m.out a ≡ false
   spared number t a acked member None free = free_is_home a free
   spared number t a acked member (Some p) mine =
       let open_is = acked_open number m.state.detector t acked in
-      let none = none_reaped program (options_of_book book) book.entries m.state heavy kept.run a
+      let none = none_reaped program (options_of_book book) book.entries m.state heavy kept.one.run a
       (busy_of m.state a (kept.busy a p mine)) number t ((enabled_exactly m.state (Reap number)).1 (t, acked)) open_is.0 in
       absurd (let clash : true ≡ false = sym member ∙ none in cc)
 
@@ -92,40 +81,12 @@ module _ (program : Program) (budget : ℕ) (m : Machine) (book : BookValue) (cl
   reaps_none_away (Reap number) = λ t a acked member. spared number t a acked member (claim_in claims a) refl
   reaps_none_away e = tt
 
-  -- ---- the run
-
   pub few_claims : length claims ≤ ACTORS_LIMIT
   few_claims =
-      let few = runs_make_few program (options_of_book book) book.entries m.state kept.run in
+      let few = runs_make_few program (options_of_book book) book.entries m.state kept.one.run in
       let s = kept.sized in omega arith
 
-  -- where the book isn't as long as the budget, the machine may do one event more
-  pub is_early : spent_cause (length book.entries) budget ≡ None → m.steps < BOOK_LIMIT
-  is_early room = omega (arith, room_for_one (length book.entries) budget kept.within room, kept.long, kept.most)
-
-  -- the machine has the program and the options of the run, and the book is its run
-  pub machine_run : (m.state.program ≡ program) × (m.state.options ≡ options_of_book book) × IsRunOf m book.entries
-  machine_run =
-      let same = runs_keep_program program (options_of_book book) book.entries m.state kept.run in (
-        same.same_program,
-        same.same_options,
-        record {
-          run = subst (λ (x : Program × Options). IsRun x.0 x.1 book.entries m.state)
-              (λ i. (sym same.same_program i, sym same.same_options i)) kept.run;
-          long = kept.long;
-        },
-      )
-
   -- ---- a claim
-
-  pub busy_is_inside : (a : ℕ) → event_at m.state a ≢ None → a < length claims
-  busy_is_inside a busy = let b = busy_made m.state a (busy_of m.state a busy) in let s = kept.sized in omega arith
-
-  -- a room is free for the cell of an actor on which no claim is out
-  pub room_is_free : (a : ℕ) → claim_in claims a ≡ None → event_at m.state a ≢ None → 0 < rooms.free
-  room_is_free a free busy =
-      let fits = one_more_fits claims a (busy_is_inside a busy) free in
-      let c = kept.counted in let e = kept.enough in omega arith
 
   -- a room is out where a claim is
   pub room_is_out : (a pass : ℕ) → claim_in claims a ≡ Some pass → 0 < rooms.out
@@ -141,12 +102,7 @@ module _ (program : Program) (budget : ℕ) (m : Machine) (book : BookValue) (cl
   pub kept_rooms : (more : RoomsView) → more.out ≡ rooms.out → rooms.free ≤ more.free
       → HallKeeps program budget m book claims more
   kept_rooms more out free = record {
-    state_is = kept.state_is;
-    run = kept.run;
-    long = kept.long;
-    weight = kept.weight;
-    within = kept.within;
-    most = kept.most;
+    one = kept.one;
     away = kept.away;
     sized = kept.sized;
     counted = out ∙ kept.counted;
@@ -154,42 +110,49 @@ module _ (program : Program) (budget : ℕ) (m : Machine) (book : BookValue) (cl
     busy = kept.busy;
   }
 
-  -- with a cell lent
-  pub kept_claimed : (n : Machine) (a pass : ℕ) → n.state ≡ m.state → n.steps ≡ m.steps → n.out ≡ set m.out a true
-      → is_out n.out a ≡ true → claim_in claims a ≡ None → event_at m.state a ≢ None
-      → (less : RoomsView) → less.free + 1 ≡ rooms.free → less.out ≡ rooms.out + 1
-      → HallKeeps program budget n book (set claims a (Some pass)) less
-  kept_claimed n a pass state steps out lent_is free busy less one_less one_out = record {
-    state_is = state ∙ kept.state_is;
-    run = subst (IsRun program (options_of_book book) book.entries) (sym state) kept.run;
-    long = kept.long ∙ sym steps;
-    weight = kept.weight;
-    within = kept.within;
-    most = kept.most;
-    away = λ b. dite (ℕ_discrete b a)
-        (λ same. subst (λ (x : ℕ). is_out n.out x ≡ is_some (claim_in (set claims a (Some pass)) x)) (sym same)
-        (lent_is ∙ sym (ap is_some (get_or-set_same claims a (Some pass) None (busy_is_inside a busy)))))
-        (λ apart. ap (λ o. is_out o b) out ∙ (get_or-set_other m.out a b true false apart
-        ∙ (kept.away b ∙ sym (ap is_some (claim_set claims a b (Some pass) apart)))));
-    sized = length-set claims a (Some pass) ∙ (kept.sized ∙ ap (λ (s : State). length s.actors) (sym state));
-    counted = one_out ∙ ap (λ (k : ℕ). k + 1) kept.counted
-        ∙ sym (counted_more is_some refl claims a (Some pass) (busy_is_inside a busy) free refl);
-    enough = let l = length-set claims a (Some pass) in let e = kept.enough in omega arith;
-    busy = subst (λ s. ClaimedAreBusy s (set claims a (Some pass))) (sym state) (λ b q mine. dite (ℕ_discrete b a)
-        (λ same. subst (λ (x : ℕ). event_at m.state x ≢ None) (sym same) busy)
-        (λ apart. kept.busy b q (sym (claim_set claims a b (Some pass) apart) ∙ mine)));
-  }
+  -- of an actor that has an event, and on which no claim is out
+  module _ (a : ℕ) (free : claim_in claims a ≡ None) (e : Event) (has_it : event_at m.state a ≡ Some e) where
+    busy : event_at m.state a ≢ None
+    busy none = let clash : None ≡ Some e = sym none ∙ has_it in cc
+
+    inside : a < length claims
+    inside = let b = busy_made m.state a (busy_of m.state a busy) in let s = kept.sized in omega arith
+
+    -- its cell is here
+    pub is_here : cell_here m a ≢ None
+    is_here none =
+        let there = busy_of m.state a busy in
+        let clash : None ≡ Some there.cell = sym none
+        ∙ (ap (λ b. if b then None else cell_at m.state.actors a) (free_is_home a free) ∙ ap cell_of there.present) in cc
+
+    -- a room is free for it
+    pub room_is_free : 0 < rooms.free
+    room_is_free = let fits = one_more_fits claims a inside free in let c = kept.counted in let e = kept.enough in omega arith
+
+    -- with its cell lent
+    pub kept_claimed : (n : Machine) (pass : ℕ) → n.state ≡ m.state → n.steps ≡ m.steps → n.out ≡ set m.out a true
+        → is_out n.out a ≡ true → (less : RoomsView) → less.free + 1 ≡ rooms.free → less.out ≡ rooms.out + 1
+        → HallKeeps program budget n book (set claims a (Some pass)) less
+    kept_claimed n pass state steps out lent_is less one_less one_out = record {
+      one = still program budget m book kept.one n book refl state steps refl;
+      away = λ b. dite (ℕ_discrete b a)
+          (λ same. subst (λ (x : ℕ). is_out n.out x ≡ is_some (claim_in (set claims a (Some pass)) x)) (sym same)
+          (lent_is ∙ sym (ap is_some (get_or-set_same claims a (Some pass) None inside))))
+          (λ apart. ap (λ o. is_out o b) out ∙ (get_or-set_other m.out a b true false apart
+          ∙ (kept.away b ∙ sym (ap is_some (claim_set claims a b (Some pass) apart)))));
+      sized = length-set claims a (Some pass) ∙ (kept.sized ∙ ap (λ (s : State). length s.actors) (sym state));
+      counted = one_out ∙ ap (λ (k : ℕ). k + 1) kept.counted ∙ sym (counted_more is_some refl claims a (Some pass) inside free refl);
+      enough = let l = length-set claims a (Some pass) in let e = kept.enough in omega arith;
+      busy = subst (λ s. ClaimedAreBusy s (set claims a (Some pass))) (sym state) (λ b q mine. dite (ℕ_discrete b a)
+          (λ same. subst (λ (x : ℕ). event_at m.state x ≢ None) (sym same) busy)
+          (λ apart. kept.busy b q (sym (claim_set claims a b (Some pass) apart) ∙ mine)));
+    }
 
   pub kept_ended : (n : Machine) (a pass : ℕ) → n.state ≡ m.state → n.steps ≡ m.steps → n.out ≡ set m.out a false
       → claim_in claims a ≡ Some pass → (more : RoomsView) → more.free ≡ rooms.free + 1 → more.out + 1 ≡ rooms.out
       → HallKeeps program budget n book (set claims a None) more
   kept_ended n a pass state steps out mine more one_more one_in = record {
-    state_is = state ∙ kept.state_is;
-    run = subst (IsRun program (options_of_book book) book.entries) (sym state) kept.run;
-    long = kept.long ∙ sym steps;
-    weight = kept.weight;
-    within = kept.within;
-    most = kept.most;
+    one = still program budget m book kept.one n book refl state steps refl;
     away = λ b. dite (ℕ_discrete b a)
         (λ same. subst (λ (x : ℕ). is_out n.out x ≡ is_some (claim_in (set claims a None) x)) (sym same)
         (ap (λ o. is_out o a) out ∙ (unset m.out a ∙ sym (ap is_some (claim_unset claims a)))))
@@ -206,29 +169,14 @@ module _ (program : Program) (budget : ℕ) (m : Machine) (book : BookValue) (cl
 
   -- ---- an entry
 
-  module _ (n : Machine) (after : BookValue) (options : options_of_book after ≡ options_of_book book)
+  module _ (n : Machine) (after : BookValue) (one : IsRunWithin program (options_of_book after) budget n.state n.steps after.entries)
       (away : KeepsAway m.out n.out) where
     -- with an entry more
-    pub kept_entered : (e : Event) → ((a : ℕ) → actor_of e ≡ Some a → claim_in claims a ≡ None)
-        → spent_cause (length book.entries) budget ≡ None → next m.state e ≡ Goes n.state → n.steps ≡ m.steps + 1
-        → after.entries ≡ book.entries ++ e ∷ []
-        → length claims < rooms.free + rooms.out
+    pub kept_entered : (e : Event) → claim_for e claims ≡ None → next m.state e ≡ Goes n.state → length claims < rooms.free + rooms.out
         → HallKeeps program budget n after (grown (length n.state.actors) claims) rooms
-    kept_entered e free room goes steps entry spare =
-        let start : State = first_state program (options_of_book book) in
-        let more = leads_more book.entries start m.state n.state e kept.run goes in
-        let run : IsRun program (options_of_book after) after.entries n.state =
-        subst (λ (x : Options × List Event). IsRun program x.0 x.1 n.state) (λ i. (sym options i, sym entry i)) more in
-        let long : length after.entries ≡ length book.entries + 1 = ap length entry ∙ length-append book.entries (e ∷ []) in
-        let was = kept.long in let few = kept.within in
-        let below = room_for_one (length book.entries) budget kept.within room in
-        let one = grows_by_one m.state n.state e goes in let kept_all = one.kept in let one_more = one.one in let s = kept.sized in record {
-          state_is = leads_after after.entries _ n.state run;
-          run = run;
-          long = omega arith;
-          weight = subst (λ (o : Options). IsWeight o.weight) (sym options) kept.weight;
-          within = omega arith;
-          most = kept.most;
+    kept_entered e free goes spare =
+        let grew = grows_by_one m.state n.state e goes in let all = grew.kept in let at_most = grew.one in let s = kept.sized in record {
+          one = one;
           away = λ a. away a ∙ (kept.away a ∙ sym (ap is_some (claim_grown (length n.state.actors) claims a)));
           sized = long_grown (length n.state.actors) claims (omega arith) (omega arith);
           counted = kept.counted ∙ sym (counted_grown is_some refl (length n.state.actors) claims);
@@ -236,22 +184,15 @@ module _ (program : Program) (budget : ℕ) (m : Machine) (book : BookValue) (cl
           busy = λ a p is.
               let mine : claim_in claims a ≡ Some p = sym (claim_grown (length n.state.actors) claims a) ∙ is in
               let b = busy_of m.state a (kept.busy a p mine) in
-              let others : actor_of e ≢ Some a = λ acts. let clash : None ≡ Some p = sym (free a acts) ∙ mine in cc in
-              let apart = stands_apart program (options_of_book book) book.entries m.state n.state a e heavy kept.run b others goes in
+              let apart = stands_apart program (options_of_book book) book.entries m.state n.state a e heavy kept.one.run b
+              (not_its e claims a p free mine) goes in
               event_of n.state a (others_leave_busy m.state n.state a e apart goes b).1;
         }
 
     -- unchanged but for room
-    pub kept_same : IsSame m n → after.entries ≡ book.entries → HallKeeps program budget n after claims rooms
-    kept_same same entries = record {
-      state_is = same.state ∙ (kept.state_is
-          ∙ (λ i. state_after (first_state program (sym options i)) (sym entries i)));
-      run = subst (λ (x : Options × List Event × State). IsRun program x.0 x.1 x.2)
-          (λ i. (sym options i, sym entries i, sym same.state i)) kept.run;
-      long = ap length entries ∙ (kept.long ∙ sym same.steps);
-      weight = subst (λ (o : Options). IsWeight o.weight) (sym options) kept.weight;
-      within = subst (λ xs. length xs ≤ budget) (sym entries) kept.within;
-      most = kept.most;
+    pub kept_same : IsSame m n → HallKeeps program budget n after claims rooms
+    kept_same same = record {
+      one = one;
       away = λ a. away a ∙ kept.away a;
       sized = kept.sized ∙ ap (λ (s : State). length s.actors) (sym same.state);
       counted = kept.counted;

@@ -22,6 +22,5 @@ pub mod Items
 pub mod Under
 pub mod Advances
 pub mod Splits
-pub mod Plain
 pub mod Ends
 pub mod Sending

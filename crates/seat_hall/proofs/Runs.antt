@@ -1,8 +1,6 @@
 -- The book of a log is a run.
-use Rattle.std.proofs.Common.{◌≡◌, ℕ, ◌+◌, ◌≤◌, ◌==◌, Bool, true, false, List, [], ◌∷◌, ◌++◌, length, refl, subst, arith, Option, Some, None, length-append}
-use Rattle.std.specs.Prelude.{if◌then◌else◌}
+use Rattle.std.proofs.Common.{◌≡◌, ℕ, ◌+◌, ◌≤◌, List, [], ◌∷◌, ◌++◌, length, refl, subst, arith, Option, Some, None, length-append}
 use Rattle.std.specs.Option.{option_map}
-use Rattle.std.proofs.lemmas.Bool.Decides.{nat_tests}
 use Rattle.orca_names.specs.declared.options.Options.{Options}
 use Rattle.behaviour_code.specs.declared.code.Program.{Program}
 use Rattle.event_rule.specs.Events.{actor_of}
@@ -14,9 +12,10 @@ use Rattle.machine_rules.specs.Run.{IsRun}
 use Rattle.machine_rules.specs.State.{State, first_state}
 use Rattle.orca_core.proofs.Reached.{leads_more}
 use Rattle.work_board.specs.declared.answers.Refuse.TheVariants as why
-use Rattle.hall_rules.specs.Causes.{actor_cause, full_cause, spent_cause, unready_cause}
+use Rattle.hall_rules.specs.Causes.{early_cause, full_cause, unready_cause}
+use Rattle.hall_rules.specs.Claims.{holder_for}
 use Rattle.hall_rules.proofs.Leading.{leads_after}
-use Rattle.hall_rules.proofs.Refusing.{or_none}
+use Rattle.hall_rules.proofs.Refusing.{has_room, is_ready, or_none, room_for_one}
 use Rattle.seat_hall.specs.declared.item.Item.{Item}
 use Rattle.seat_hall.specs.declared.item.Item.TheVariants.{Claimed, Entered, Ended, Stopped, Made}
 use Rattle.seat_hall.specs.Log.{Legal, Logged, MayFollow, after, begins, claims_in, entry_cause, hall_from, state_in}
@@ -36,11 +35,10 @@ pub can_enter : (l : Logged) (asker : Option ℕ) (e : Event) → length l.book 
     → entry_cause l asker e ≡ None → CanEnter l e
 can_enter l asker e within none =
     let s : State = state_in l in
-    let a = or_none (actor_cause s (claims_in l) asker e) _ none in
-    let b = or_none (unready_cause (next s e)) _ a.1 in
-    let c = or_none (spent_cause (length l.book) l.budget) _ b.1 in
-    let g = goes (next s e) refl b.0 c.1 in
-    record { after_it = g.0; goes = g.1; room = room (length l.book == l.budget) refl c.0 }
+    let held = holder_for asker e (claims_in l) in let long = length l.book in
+    let c = or_none (early_cause s long l.budget held e) _ none in
+    let g = goes (next s e) refl (is_ready s long l.budget e held c.0) c.1 in
+    record { after_it = g.0; goes = g.1; room = room_for_one long l.budget within (has_room s long l.budget e held c.0) }
   where
     goes : (step : Step State) → next (state_in l) e ≡ step → unready_cause step ≡ None → full_cause step e ≡ None
         → (t : State) × (next (state_in l) e ≡ Goes t)
@@ -50,11 +48,6 @@ can_enter l asker e within none =
         let some : Some (why.Full refused.actor) ≡ None =
         subst (λ (f : Event). option_map why.Full (actor_of f) ≡ None) refused.is_go none in absurd (cc)
     goes (Goes t) is off none = (t, is)
-
-    room : (spent : Bool) → (length l.book == l.budget) ≡ spent
-        → (if spent then Some (why.Budget (length l.book)) else None) ≡ None → length l.book + 1 ≤ l.budget
-    room true is none = absurd (cc)
-    room false is none = grind (arith, nat_tests)
 
 pub run_one : (l : Logged) (i : Item) → IsRunOf l → MayFollow l i → IsRunOf (after l i)
 run_one l (Claimed pass actor) run may = run

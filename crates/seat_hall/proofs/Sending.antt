@@ -4,10 +4,9 @@ use denote.Struct.Declared.{shape}
 use Rattle.std.proofs.Crossing.{crosses}
 use Rattle.atomic_table.proofs.shared.Seat.TheSendSync.{the_send as seat_send}
 use Rattle.turn_log.proofs.table.TurnLog.TheSendSync.{the_sync as log_sync}
-use Rattle.hall_rules.proofs.Sending.{book_send, checked_sync, orca_send}
+use Rattle.hall_rules.proofs.Sending.{book_send, checked_sync, orca_send, sweep_send, turned_send}
+use Rattle.actor_cell.specs.contracts.cell.Cell as Cell
 use Rattle.actor_cell.specs.contracts.found.Found as Found
-use Rattle.actor_cell.specs.contracts.sweeping.Sweep as Sweep
-use Rattle.actor_cell.specs.contracts.turning.Turned as Turned
 use Rattle.seat_hall.specs.contracts.board.SeatPass as SeatPass
 use Rattle.seat_hall.specs.contracts.hall.Hall as Hall
 use Rattle.seat_hall.specs.contracts.hall.Hall.TheInside as inside
@@ -18,8 +17,11 @@ use Rattle.seat_hall.specs.contracts.rooms.Rooms as Rooms
 item_send : IsSend (Item.the_field).row
 item_send = search (sendable, crosses) depth 100 fits 100000
 
+cell_send : IsSend (Cell.the_field).row
+cell_send = search (sendable, crosses) depth 100 fits 100000
+
 room_send : IsSend CellRoom.the_row
-room_send = search (sendable, crosses) depth 100 fits 100000
+room_send = search (sendable, crosses, cell_send) depth 100 fits 100000
 
 rooms_send : IsSend Rooms.the_row
 rooms_send = search (sendable, crosses, room_send) depth 100 fits 100000
@@ -29,12 +31,6 @@ fields_send l = struct_send (shape (inside.the_type l)) (search (shr_send, check
 
 hall_send : (l : _) → IsSend (Hall.the_row l)
 hall_send l = search (view_send, recorded_send, fields_send) depth 20
-
-turned_send : IsSend (Turned.the_field).row
-turned_send = search (sendable, crosses) depth 100 fits 100000
-
-sweep_send : IsSend (Sweep.the_field).row
-sweep_send = search (sendable, crosses) depth 100 fits 100000
 
 found_send : IsSend (Found.the_field).row
 found_send = search (sendable, crosses, turned_send, sweep_send) depth 100 fits 100000

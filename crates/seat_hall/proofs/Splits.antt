@@ -1,19 +1,17 @@
 -- A pass splits off another.
-use Rattle.std.proofs.Common.{◌≡◌, ◌≢◌, ◌<◌, ◌≤◌, ℕ, zero, suc, List, [], ◌∷◌, ◌++◌, ◌+◌, ◌==◌, true, length, count_by, Option, Some, None, sym, refl, ap, ◌∙◌, subst, arith}
+use Rattle.std.proofs.Common.{◌≡◌, ◌<◌, ◌≤◌, ℕ, zero, suc, [], ◌∷◌, ◌++◌, ◌+◌, ◌==◌, true, count_by, sym, ap, ◌∙◌, subst, arith}
 use Rattle.std.specs.Prelude.{if◌then◌else◌, take}
 use Rattle.std.proofs.lemmas.Bool.Decides.{nat_tests}
 use Rattle.std.proofs.lemmas.List.Elements.{filter-append}
 use Rattle.turn_log.specs.Knowing.{half, having_written}
 use Rattle.turn_log.specs.Seats.{knows}
-use Rattle.actor_cell.specs.declared.cell.Cell.{Cell}
-use Rattle.seat_hall.specs.declared.item.Item.{Item}
 use Rattle.seat_hall.specs.declared.item.Item.TheVariants.{Made}
 use Rattle.seat_hall.specs.declared.item.PassView.{PassView}
 use Rattle.seat_hall.specs.Answers.{AllAreGiven, GivesNumber}
 use Rattle.seat_hall.specs.Fair.{after_item, gets_other, hall_of, keeps_own, start_of}
 use Rattle.seat_hall.specs.Halls.{HallView}
-use Rattle.seat_hall.specs.Log.{Logged, after, by, claim_in, items_by, most_made}
-use Rattle.seat_hall.specs.Passes.{HasItsCell, HasIn, IsAtHall, IsPass, KeepsCells, SplitsOff, Token, hall, is_of, out, seen}
+use Rattle.seat_hall.specs.Log.{Logged, after, by, items_by, most_made}
+use Rattle.seat_hall.specs.Passes.{HasIn, IsAtHall, IsPass, KeepsCells, SplitsOff, Token, hall, is_of, out, seen}
 use Rattle.seat_hall.proofs.Keeps.{not_by}
 use Rattle.seat_hall.proofs.Logs.{few_made, hall_append}
 use Rattle.seat_hall.proofs.Turns.{client_still, has_now, out_now, own_still}

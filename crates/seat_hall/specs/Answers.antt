@@ -1,9 +1,8 @@
 -- What a call answers in the hall before its item.
-use Rattle.std.specs.Prelude.{ℕ, ◌≡◌, ◌≢◌, ◌==◌, ◌+◌, ◌≤◌, ◌||◌, ◌⊎◌, Bool, true, false, [], ◌∷◌, ◌++◌, length, Option, Some, None, IfSome}
+use Rattle.std.specs.Prelude.{ℕ, ◌≡◌, ◌+◌, ◌<◌, ◌≤◌, ◌⊎◌, Bool, true, false, length, Option, Some, None, Result, Ok, Err, IfSome}
 use Rattle.orca_names.specs.declared.options.Options.{Options}
 use Rattle.behaviour_code.specs.declared.code.Program.{Program}
-use Rattle.event_rule.specs.Events.{actor_of, is_of_detector}
-use Rattle.event_rule.specs.Runs.{Goes, IsFirst, IsQuiet}
+use Rattle.event_rule.specs.Events.{actor_of}
 use Rattle.event_rule.specs.declared.event.Event.{Event}
 use Rattle.event_rule.specs.declared.event.Event.TheVariants.{Take, Go, Collect, Leave, Block, Hear, Scan, Reap}
 use Rattle.actor_cell.specs.declared.cell.Cell.{Cell}
@@ -11,47 +10,21 @@ use Rattle.actor_cell.specs.declared.found.Found.{Found}
 use Rattle.actor_cell.specs.Cells.{as_cell}
 use Rattle.actor_cell.specs.Founds.{IsFound}
 use Rattle.machine_rules.specs.Actors.{Actors, cell_at}
-use Rattle.machine_rules.specs.Next.{next}
-use Rattle.orca_core.specs.Firsts.{HasFirst, is_free, next_of_kind}
-use Rattle.orca_parts.specs.Woken.{IsLowestWoken}
 use Rattle.work_board.specs.Answered.{is_evaluated, segment}
 use Rattle.work_board.specs.declared.answers.Committed.{Committed}
 use Rattle.work_board.specs.declared.answers.Look.{Look}
-use Rattle.work_board.specs.declared.answers.Look.TheVariants.{Actor, Detector, Others, Rest, Stop}
 use Rattle.work_board.specs.declared.answers.Refuse.{Refuse}
 use Rattle.work_board.specs.declared.answers.Refuse.TheVariants.{NotReady}
+use Rattle.hall_rules.specs.Answers.{IsEntered, TellsWork}
 use Rattle.hall_rules.specs.Causes.{IsRefusal, event_at}
-use Rattle.hall_rules.specs.Claims.{is_claimed}
-use Rattle.seat_hall.specs.declared.item.Item.TheVariants.{Entered}
+use Rattle.seat_hall.specs.declared.item.Item.TheVariants.{Claimed, Entered}
 use Rattle.seat_hall.specs.declared.taken.Taken.{Taken}
-use Rattle.seat_hall.specs.Log.{Logged, after, claim_cause, claims_in, entry_cause, most_made, state_in}
+use Rattle.seat_hall.specs.Halls.{HallView, says}
+use Rattle.seat_hall.specs.Log.{Logged, after, claim_cause, entry_cause, most_made, plain, state_in}
 
--- ---- what there is to do
-
--- no worker goes on
-abbrev pub is_over : Logged → Bool
-is_over l = l.stopped || length l.book == l.budget
-
--- the actors on which no claim is out have no event
-abbrev pub NoneIsFree : Logged → Type 0
-NoneIsFree l = IsQuiet (next_of_kind (is_free (is_claimed (claims_in l))) []) (state_in l)
-
--- nor has the detector
-abbrev pub NothingIsFree : Logged → Type 0
-NothingIsFree l = NoneIsFree l × IsQuiet (next_of_kind is_of_detector []) (state_in l)
-
--- the answer to a look: the actor with the first event of those on which no claim is out; else the
--- detector's first event; else that others are at work, if a claim is out
+-- the answer to a look is that of the plain hall
 abbrev pub Tells : Look → Logged → Type 0
-Tells Stop l = is_over l ≡ true
-Tells (Actor a) l = (is_over l ≡ false)
-    × HasFirst (next_of_kind (is_free (is_claimed (claims_in l))) []) (state_in l) a
-Tells (Detector e) l = (is_over l ≡ false) × NoneIsFree l
-    × IsFirst (next_of_kind is_of_detector []) (state_in l) e
-Tells Others l = (is_over l ≡ false) × NothingIsFree l × (claims_in l ≢ [])
-Tells Rest l = (is_over l ≡ false) × NothingIsFree l × (claims_in l ≡ [])
-
--- ---- claims and entries
+Tells answer l = TellsWork (plain l) answer
 
 -- in this run: the actor's first event, its cell, and the length of the book
 pub record IsTaken (a : ℕ) (taken : Taken) (l : Logged) : Type 0 where
@@ -77,6 +50,12 @@ is_act (Reap token) = false
 abbrev pub Grants : ℕ → Taken → Logged → Type 0
 Grants a taken l = (claim_cause l a ≡ None) × IsTaken a taken l
 
+-- so the claim was made of a pass, and this is the hall then
+pub record Lends (pass a : ℕ) (taken : Taken) (l : Logged) (lent : HallView) : Type 0 where
+  pub grants : Grants a taken l
+  pub within : a < length l.claims
+  pub claimed : lent ≡ says (after l (Claimed pass a)) (Claimed pass a)
+
 -- a claim is refused, or would be for no act
 abbrev pub NoAct : ℕ → Logged → Type 0
 NoAct a l = claim_cause l a ≡ None → IfSome (event_at (state_in l) a) (λ e. is_act e ≡ false)
@@ -85,20 +64,19 @@ NoAct a l = claim_cause l a ≡ None → IfSome (event_at (state_in l) a) (λ e.
 abbrev pub RefusesClaim : ℕ → Refuse → Logged → Type 0
 RefusesClaim a refuse l = claim_cause l a ≡ Some refuse
 
--- the event became the last entry, and its place and whom it woke were answered
-pub record IsEntered (l : Logged) (e : Event) (done : Committed) (m : Logged) : Type 0 where
-  pub place : done.place ≡ length l.book
-  pub book : m.book ≡ l.book ++ e ∷ []
-  pub goes : next (state_in l) e ≡ Goes (state_in m)
-  pub woke : IsLowestWoken (state_in l).actors (state_in m).actors done.woke
-
 -- the event becomes the last entry of the one who asks: the pass of a claim, or nobody
 pub record Enters (asker : Option ℕ) (pass : ℕ) (e : Event) (done : Committed) (l : Logged) : Type 0 where
   pub may : entry_cause l asker e ≡ None
-  pub entered : IsEntered l e done (after l (Entered pass e))
+  pub entered : IsEntered (plain l) e done (plain (after l (Entered pass e)))
 
 abbrev pub RefusesEntry : Option ℕ → Event → Refuse → Logged → Type 0
 RefusesEntry asker e refuse l = IsRefusal (entry_cause l asker e) refuse
+
+-- what is answered to one who asks for an entry of the pass, and the hall then: that with the entry, or this one
+abbrev pub EntersOr : Option ℕ → ℕ → Event → Logged → HallView → Result Committed Refuse → HallView → Type 0
+EntersOr asker pass e l refused (Ok done) new =
+    Enters asker pass e done l × (new ≡ says (after l (Entered pass e)) (Entered pass e))
+EntersOr asker pass e l refused (Err refuse) new = RefusesEntry asker e refuse l × (new ≡ refused)
 
 -- the event is the actor's first, and no segment of a turn
 abbrev pub IsShort : ℕ → Event → Logged → Type 0

@@ -1,14 +1,12 @@
 -- The hall as it lies under the turn, without the cells that are out.
 use Rattle.std.specs.Prelude.{ℕ, ◌≡◌, ◌≢◌, ◌+◌, ◌≤◌, is_some, true, List, length, count_by, Option, Some, None}
-use Rattle.orca_names.specs.declared.limits.TheConstants.{BOOK_LIMIT}
 use Rattle.behaviour_code.specs.declared.code.Program.{Program}
-use Rattle.machine_rules.specs.Run.{IsRun}
-use Rattle.machine_rules.specs.State.{State, first_state}
-use Rattle.run_book.specs.Books.{BookValue, IsWeight, options_of_book}
+use Rattle.machine_rules.specs.State.{State}
+use Rattle.run_book.specs.Books.{BookValue, options_of_book}
 use Rattle.orca_parts.specs.Away.{is_out}
 use Rattle.orca_core.specs.Machine.{Machine}
 use Rattle.hall_rules.specs.Causes.{event_at}
-use Rattle.hall_rules.specs.Halls.{state_after}
+use Rattle.hall_rules.specs.Kept.{IsRunWithin}
 use Rattle.seat_hall.specs.declared.item.Item.{Item}
 use Rattle.seat_hall.specs.Log.{Logged, claim_in}
 use Rattle.seat_hall.specs.Rooms.{RoomsView}
@@ -28,15 +26,10 @@ ClaimedAreBusy s claims = (a pass : ℕ) → claim_in claims a ≡ Some pass →
 
 -- what the hall keeps: the book is a run, within the budget, that leads to the machine's state; the
 -- cells that are away are those of the claims; each actor has a place for claims; as many rooms are out as
--- claims; and there is a room for each actor
+-- claims; there is a room for each actor; and claimed actors are busy
 pub record HallKeeps (program : Program) (budget : ℕ) (orca : Machine) (book : BookValue)
     (claims : List (Option ℕ)) (rooms : RoomsView) : Type 0 where
-  pub state_is : orca.state ≡ state_after (first_state program (options_of_book book)) book.entries
-  pub run : IsRun program (options_of_book book) book.entries orca.state
-  pub long : length book.entries ≡ orca.steps
-  pub weight : IsWeight book.weight
-  pub within : length book.entries ≤ budget
-  pub most : budget ≤ BOOK_LIMIT
+  pub one : IsRunWithin program (options_of_book book) budget orca.state orca.steps book.entries
   pub away : (a : ℕ) → is_out orca.out a ≡ is_some (claim_in claims a)
   pub sized : length claims ≡ length orca.state.actors
   pub counted : rooms.out ≡ count_by is_some claims

@@ -8,5 +8,4 @@ pub mod Passes
 pub mod Advances
 pub mod Closes
 pub mod Stands
-pub mod Plain
 pub mod Boards

@@ -1,15 +1,14 @@
 -- The hall as a function of its log.
 use Rattle.std.specs.Prelude.{ℕ, ◌≡◌, ◌==◌, ◌+◌, ◌≤◌, Bool, true, false, nat_lt, if◌then◌else◌, List, [], ◌∷◌, ◌++◌, filter, length, slice_index_or, slice_set, Option, Some, None, ⊤}
-use Rattle.std.specs.Option.{option_map_or, option_or}
+use Rattle.std.specs.Option.{option_and_then, option_map_or}
 use Rattle.orca_names.specs.declared.options.Options.{Options}
 use Rattle.behaviour_code.specs.declared.code.Program.{Program}
 use Rattle.event_rule.specs.Events.{actor_of}
 use Rattle.event_rule.specs.declared.event.Event.{Event}
-use Rattle.machine_rules.specs.Next.{next}
-use Rattle.machine_rules.specs.State.{State, first_state}
+use Rattle.machine_rules.specs.State.{State}
 use Rattle.work_board.specs.declared.answers.Refuse.{Refuse}
-use Rattle.hall_rules.specs.Causes.{absent_cause, actor_cause, busy_cause, event_at, full_cause, idle_cause, spent_cause, unready_cause}
-use Rattle.hall_rules.specs.Halls.{state_after}
+use Rattle.hall_rules.specs.Causes as causes
+use Rattle.hall_rules.specs.Halls.{HallValue, hall_state}
 use Rattle.hall_rules.specs.declared.claim.Claim.{Claim}
 use Rattle.seat_hall.specs.declared.item.Item.{Item}
 use Rattle.seat_hall.specs.declared.item.Item.TheVariants.{Claimed, Entered, Ended, Stopped, Made}
@@ -29,6 +28,10 @@ pub record Logged : Type 0 where
 abbrev pub claim_in : List (Option ℕ) → ℕ → Option ℕ
 claim_in claims a = slice_index_or claims a None
 
+-- of the event's actor, if it has one
+abbrev pub claim_for : Event → List (Option ℕ) → Option ℕ
+claim_for e claims = option_and_then (claim_in claims) (actor_of e)
+
 -- the claims that are out, by rising actor, from the actor a on
 abbrev pub listed : ℕ → List (Option ℕ) → List Claim
 listed a [] = []
@@ -38,24 +41,28 @@ listed a (Some pass ∷ claims) = record { pass = pass; actor = a } ∷ listed (
 abbrev pub claims_in : Logged → List Claim
 claims_in l = listed 0 l.claims
 
+-- the plain hall with this run, this book and these claims, which answers as this one does
+abbrev pub plain : Logged → HallValue
+plain l = record {
+  program = l.program;
+  options = l.options;
+  budget = l.budget;
+  book = l.book;
+  claims = claims_in l;
+  stopped = l.stopped;
+}
+
 -- the state of the machine: the one to which the book leads
 abbrev pub state_in : Logged → State
-state_in l = state_after (first_state l.program l.options) l.book
-
--- ---- why a call is refused: the first cause that is there, in this order
+state_in l = hall_state (plain l)
 
 -- why the event does not become an entry of the one who asks
 abbrev pub entry_cause : Logged → Option ℕ → Event → Option Refuse
-entry_cause l asker e =
-    option_or (actor_cause (state_in l) (claims_in l) asker e)
-    (option_or (unready_cause (next (state_in l) e))
-    (option_or (spent_cause (length l.book) l.budget) (full_cause (next (state_in l) e) e)))
+entry_cause l asker e = causes.entry_cause (plain l) asker e
 
 -- why the claim is refused
 abbrev pub claim_cause : Logged → ℕ → Option Refuse
-claim_cause l a =
-    option_or (absent_cause (state_in l) a)
-    (option_or (busy_cause (claims_in l) None a) (idle_cause (event_at (state_in l) a)))
+claim_cause l a = causes.claim_cause (plain l) a
 
 -- ---- items
 

@@ -1,11 +1,11 @@
 // Claims, which take cells out of a hall, and their ends.
 
-ghost use Rattle.std.specs.Prelude.{◌≡◌, ◌<◌, true, length, IfErr, IfNone, IfOk, IfSome, None, OnErr, OnOk, Some};
-ghost use Rattle.hall_rules.specs.Causes.{busy_cause, event_at};
-ghost use Rattle.seat_hall.specs.declared.item.Item.TheVariants.{Claimed, Ended};
-ghost use Rattle.seat_hall.specs.Answers.{Grants, IsTaken, NoAct, RefusesClaim, is_act};
+ghost use Rattle.std.specs.Prelude.{◌≡◌, true, IfErr, IfNone, IfOk, IfSome, None, OnErr, OnOk, Some};
+ghost use Rattle.hall_rules.specs.Causes.{event_at};
+ghost use Rattle.seat_hall.specs.declared.item.Item.TheVariants.{Ended};
+ghost use Rattle.seat_hall.specs.Answers.{Lends, NoAct, RefusesClaim, is_act};
 ghost use Rattle.seat_hall.specs.Halls.{says};
-ghost use Rattle.seat_hall.specs.Log.{after, claim_cause, claim_in, claims_in, state_in};
+ghost use Rattle.seat_hall.specs.Log.{after, claim_cause, claim_for, claim_in, state_in};
 ghost use Rattle.seat_hall.specs.Passes.{HasIn};
 
 use crate::hall::Hall;
@@ -13,7 +13,7 @@ use crate::item::Item;
 use crate::rooms::CellRoom;
 use crate::taken::Taken;
 use event_rule::Event;
-use hall_rules::{absent, busy, event_at};
+use hall_rules::{actor_of, book_options, claimable};
 use orca_names::ActorName;
 use std::alloc::Global;
 use work_board::Refuse;
@@ -25,6 +25,13 @@ fn claim_in(claims: &[Option<u32>], a: ActorName) -> Option<u32>
     *claims.get(a.0 as usize)?
 }
 
+/// The pass whose claim on the event's actor is out, if it has one.
+pub(crate) fn claim_for(claims: &[Option<u32>], e: &Event) -> Option<u32>
+    ensures { result ≡ claim_for e.now claims.now }
+{
+    claim_in(claims, actor_of(e)?)
+}
+
 // The event takes a letter, or goes on with a turn.
 fn is_act(e: &Event) -> bool
     ensures { result ≡ is_act e.now }
@@ -33,30 +40,13 @@ fn is_act(e: &Event) -> bool
 }
 
 impl<'a> Hall<'a> {
-    /// A claim on the actor is out.
-    pub(crate) fn busy(&self, a: ActorName) -> Option<Refuse>
-        ensures { result ≡ busy_cause (claims_in self.now.logged) None a }
-    {
-        busy(claim_in(&self.claims, a))
-    }
-
     /// The first enabled event of an actor on which a claim is granted.
     pub(crate) fn ready(&self, a: ActorName) -> Result<Event, Refuse>
         ensures ok { OnOk result (claim_cause self.now.logged a ≡ None) }
-        ensures free { OnOk result (claim_in self.now.logged.claims a ≡ None) }
         ensures event { IfOk result (λ e. event_at (state_in self.now.logged) a ≡ Some e) }
         ensures refused { IfErr result (λ refuse. RefusesClaim a refuse self.now.logged) }
     {
-        if let Some(refuse) = absent(&self.orca, a) {
-            return Err(refuse);
-        }
-        if let Some(refuse) = self.busy(a) {
-            return Err(refuse);
-        }
-        match event_at(&self.orca, a) {
-            Some(event) => Ok(event),
-            None => Err(Refuse::NotReady),
-        }
+        claimable(&self.orca, claim_in(&self.claims, a), a)
     }
 
     /// Claims the actor's first enabled event, in the order of going, taking a letter, collecting,
@@ -67,10 +57,7 @@ impl<'a> Hall<'a> {
     /// more; else `Busy` exactly where a claim on it is out, the pass's own included; else `NotReady`
     /// exactly where it has no enabled event.
     pub(crate) fn claim(&mut self, pass: u32, a: ActorName) -> Result<Taken<'a>, Refuse>
-        ensures ok { IfOk result (λ taken. Grants a taken self.old.logged) }
-        ensures claimed { OnOk result
-            (self.new ≡ says (after self.old.logged (Claimed pass a)) (Claimed pass a)) }
-        ensures within { OnOk result (a < length self.old.logged.claims) }
+        ensures ok { IfOk result (λ taken. Lends pass a taken self.old.logged self.new) }
         ensures refused { IfErr result (λ refuse. RefusesClaim a refuse self.old.logged) }
         ensures same { OnErr result (self.new ≡ self.old) }
     {
@@ -83,11 +70,8 @@ impl<'a> Hall<'a> {
     /// As `claim`, where the event is an act: to take a letter, or a segment of a turn. Else there is no
     /// claim.
     pub(crate) fn claim_act(&mut self, pass: u32, a: ActorName) -> Option<Taken<'a>>
-        ensures some { IfSome result (λ taken. Grants a taken self.old.logged) }
+        ensures some { IfSome result (λ taken. Lends pass a taken self.old.logged self.new) }
         ensures act { IfSome result (λ taken. is_act taken.event ≡ true) }
-        ensures claimed { IfSome result (λ _.
-            self.new ≡ says (after self.old.logged (Claimed pass a)) (Claimed pass a)) }
-        ensures within { IfSome result (λ _. a < length self.old.logged.claims) }
         ensures none { IfNone result (NoAct a self.old.logged) }
         ensures same { IfNone result (self.new ≡ self.old) }
     {
@@ -103,17 +87,15 @@ impl<'a> Hall<'a> {
         }
     }
 
-    // Lends the cell of an actor that has this event, and on which no claim is out.
+    // Lends the cell of an actor on which a claim is granted, for this event.
     fn lend(&mut self, pass: u32, a: ActorName, event: Event) -> Taken<'a>
-        requires free { claim_in self.old.logged.claims a ≡ None }
+        requires granted { claim_cause self.old.logged a ≡ None }
         requires event { event_at (state_in self.old.logged) a ≡ Some event }
-        ensures taken { IsTaken a result self.old.logged }
-        ensures within { a < length self.old.logged.claims }
-        ensures claimed { self.new ≡ says (after self.old.logged (Claimed pass a)) (Claimed pass a) }
+        ensures { Lends pass a result self.old.logged self.new }
     {
         // The program was checked.
         let _program = self.code.program();
-        let options = self.options();
+        let options = book_options(&self.book);
         let Some(cell) = self.orca.lift(a) else {
             unreachable!()
         };

@@ -1,25 +1,24 @@
 // Events become entries of a hall's book.
 
-ghost use Rattle.std.specs.Prelude.{◌≡◌, ◌<◌, false, true, IfErr, IfOk, None, OnErr, OnOk, Some, length, vec_capacity, vec_len};
-ghost use Rattle.std.specs.Option.{ForSome, option_or};
-ghost use Rattle.machine_rules.specs.Next.{next};
+ghost use Rattle.std.specs.Prelude.{◌≡◌, ◌<◌, false, true, IfErr, IfOk, None, OnErr, OnOk, Some, vec_capacity, vec_len};
+ghost use Rattle.std.specs.Option.{ForSome};
 ghost use Rattle.orca_parts.specs.Away.{is_out_for};
 ghost use Rattle.orca_core.specs.Machine.{IsFoundIn};
 ghost use Rattle.work_board.specs.Answered.{is_evaluated, segment};
-ghost use Rattle.hall_rules.specs.Causes.{actor_cause, spent_cause, unready_cause};
 ghost use Rattle.seat_hall.specs.declared.item.Item.TheVariants.{Ended, Entered};
-ghost use Rattle.seat_hall.specs.Answers.{Enters, IsFoundOf, IsShort, RefusesEntry, RefusesFirst};
+ghost use Rattle.seat_hall.specs.Answers.{Enters, EntersOr, IsFoundOf, IsShort, RefusesFirst};
 ghost use Rattle.seat_hall.specs.Found.{IsFoundOn};
 ghost use Rattle.seat_hall.specs.Halls.{says};
-ghost use Rattle.seat_hall.specs.Log.{after, claims_in, grown, state_in};
+ghost use Rattle.seat_hall.specs.Log.{after, grown, state_in};
 ghost use Rattle.seat_hall.specs.Passes.{IsClaimOf};
 
+use crate::claiming::claim_for;
 use crate::hall::Hall;
 use crate::item::Item;
 use crate::taken::Taken;
 use actor_cell::Found;
 use event_rule::Event;
-use hall_rules::{absent, actor_of, enter, spent, unready};
+use hall_rules::{actor_of, early_refusal, enter};
 use orca_core::Orca;
 use orca_names::ActorName;
 use std::alloc::Global;
@@ -53,33 +52,6 @@ fn may_install(orca: &Orca<'_>, e: &Event, found: &Option<Box<Found>>)
 }
 
 impl<'a> Hall<'a> {
-    // The event's actor, if it has one, is not there, or a claim on it is out.
-    fn actor_refuses(&self, e: &Event) -> Option<Refuse>
-        ensures { let l = self.now.logged in
-            result ≡ actor_cause (state_in l) (claims_in l) None e.now }
-    {
-        let a = actor_of(e)?;
-        match absent(&self.orca, a) {
-            Some(refuse) => Some(refuse),
-            None => self.busy(a),
-        }
-    }
-
-    // Why the event does not become an entry, before it is tried.
-    fn early_refusal(&self, e: &Event) -> Option<Refuse>
-        ensures { let l = self.now.logged in
-            result ≡ option_or (actor_cause (state_in l) (claims_in l) None e.now)
-            (option_or (unready_cause (next (state_in l) e.now)) (spent_cause (length l.book) l.budget)) }
-    {
-        if let Some(refuse) = self.actor_refuses(e) {
-            return Some(refuse);
-        }
-        match unready(&self.orca, *e) {
-            Some(refuse) => Some(refuse),
-            None => spent(self.book.len(), self.budget),
-        }
-    }
-
     /// Makes the event an entry of the pass, unless a claim on its actor is out. What was found of the
     /// actor's cell is not evaluated again.
     ///
@@ -96,15 +68,12 @@ impl<'a> Hall<'a> {
         e: Event,
         found: &mut Option<Box<Found>>,
     ) -> Result<Committed, Refuse>
-        requires found { let l = self.old.logged in ForSome found.old
+        requires { let l = self.old.logged in ForSome found.old
             (λ known. IsFoundOf l.options l.program (state_in l).actors e known.value) }
-        ensures ok { IfOk result (λ done. Enters None pass e done self.old.logged) }
-        ensures entered { OnOk result
-            (self.new ≡ says (after self.old.logged (Entered pass e)) (Entered pass e)) }
-        ensures refused { IfErr result (λ refuse. RefusesEntry None e refuse self.old.logged) }
-        ensures same { OnErr result (self.new ≡ self.old) }
+        ensures { EntersOr None pass e self.old.logged self.old result self.new }
     {
-        if let Some(refuse) = self.early_refusal(&e) {
+        let holder = claim_for(&self.claims, &e);
+        if let Some(refuse) = early_refusal(&self.orca, &self.book, self.budget, holder, &e) {
             return Err(refuse);
         }
         if self.claims.reserve(1).is_err() {
@@ -115,10 +84,14 @@ impl<'a> Hall<'a> {
             return Err(Refuse::NoMemory);
         };
         may_install(&self.orca, &e, found);
-        let done = enter(alloc, &mut self.orca, &mut self.book, &e, found)?;
-        grow(&mut self.claims, self.orca.made());
-        self.last = Item::Entered { pass, event: e };
-        Ok(done)
+        match enter(alloc, &mut self.orca, &mut self.book, &e, found) {
+            Ok(done) => {
+                grow(&mut self.claims, self.orca.made());
+                self.last = Item::Entered { pass, event: e };
+                Ok(done)
+            }
+            Err(refuse) => Err(refuse),
+        }
     }
 
     // Whether the actor's event is short to do: it is no segment of a turn, and no collection of many things.
@@ -182,13 +155,8 @@ impl<'a> Hall<'a> {
     ) -> Result<Committed, Refuse>
         requires claim { IsClaimOf pass taken self.old.logged }
         requires found { ForSome found.old (λ known. IsFoundOn taken known.value) }
-        ensures ok { IfOk result (λ done. Enters (Some pass) pass taken.entry.event done self.old.logged) }
-        ensures entered { let i = Entered pass taken.entry.event in
-            OnOk result (self.new ≡ says (after self.old.logged i) i) }
-        ensures refused { IfErr result
-            (λ refuse. RefusesEntry (Some pass) taken.entry.event refuse self.old.logged) }
-        ensures ended { let i = Ended pass taken.entry.cell.heap.owner in
-            OnErr result (self.new ≡ says (after self.old.logged i) i) }
+        ensures { let i = Ended pass taken.entry.cell.heap.owner in let l = self.old.logged in
+            EntersOr (Some pass) pass taken.entry.event l (says (after l i) i) result self.new }
     {
         let e = taken.event;
         self.put_back(alloc, pass, taken.cell);

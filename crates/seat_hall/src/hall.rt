@@ -5,13 +5,15 @@ ghost use Rattle.orca_names.specs.declared.limits.TheConstants.{ACTORS_LIMIT, BO
 ghost use Rattle.run_book.specs.Books.{IsWeight};
 ghost use Rattle.seat_hall.specs.declared.item.Item.TheVariants.{Made, Stopped};
 ghost use Rattle.seat_hall.specs.Answers.{GivesNumber, Tells};
-ghost use Rattle.seat_hall.specs.Closes.{AreParts, IsLowestClaim};
+ghost use Rattle.hall_rules.specs.Kept.{AreParts};
+ghost use Rattle.seat_hall.specs.Closes.{IsLowestClaim};
 ghost use Rattle.seat_hall.specs.Halls.{says};
-ghost use Rattle.seat_hall.specs.Log.{after, begins, claim_in, listed, most_made};
+ghost use Rattle.seat_hall.specs.Log.{after, begins, claim_in, listed, most_made, plain};
 
 use crate::item::Item;
 use crate::rooms::Rooms;
 use behaviour_check::Checked;
+use hall_rules::look;
 use orca_core::{Orca, SetAside};
 use orca_names::{ActorName, NoMemory, Options};
 use run_book::Book;
@@ -119,16 +121,6 @@ impl<'a> Hall<'a> {
         })
     }
 
-    /// Those of the run.
-    pub(crate) fn options(&self) -> Options
-        ensures { result ≡ self.now.logged.options }
-    {
-        Options {
-            weight: self.book.weight(),
-            trace: self.book.trace(),
-        }
-    }
-
     /// Asks all workers to stop.
     pub(crate) fn ask_stop(&mut self, pass: u32)
         ensures { self.new ≡ says (after self.old.logged (Stopped pass)) (Stopped pass) }
@@ -164,17 +156,7 @@ impl<'a> Hall<'a> {
         if self.stopped || self.book.len() == self.budget {
             return Look::Stop;
         }
-        if let Some(a) = self.orca.first_free(&Nobody) {
-            return Look::Actor(a);
-        }
-        if let Some(e) = self.orca.first_of_detector() {
-            return Look::Detector(e);
-        }
-        if self.rooms.all_are_free() {
-            Look::Rest
-        } else {
-            Look::Others
-        }
+        look(&self.orca, &Nobody, self.rooms.all_are_free())
     }
 
     /// The lowest actor on which a claim is out, and the pass that has it.
@@ -188,7 +170,7 @@ impl<'a> Hall<'a> {
     /// The machine, whose state is that of the book, and the book.
     pub(crate) fn into_parts(self) -> (Orca<'a>, Book)
         requires none { listed 0 self.logged.claims ≡ [] }
-        ensures whole { AreParts self.entry.logged result.0 result.1 }
+        ensures whole { AreParts (plain self.entry.logged) result.0 result.1 }
     {
         (self.orca, self.book)
     }

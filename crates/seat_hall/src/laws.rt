@@ -1,7 +1,6 @@
 // Laws of the rule, which hold at every moment of a hall, since each step on its table keeps the rule.
 
 ghost use Rattle.seat_hall.specs.Stands.{BooksAreRuns, CellsAreApart, EntriesStand, EntriesStandOnce, NoneIsReaped};
-ghost use Rattle.seat_hall.specs.Plain.{DeepIsPlain};
 
 /// The book of a log is a run of the program with at most as many entries as the budget.
 pub fn books_are_runs()
@@ -26,9 +25,4 @@ pub fn entries_stand()
 /// Two entries of one log at one place of the book are one.
 pub fn entries_stand_once()
     ensures { EntriesStandOnce }
-{}
-
-/// With deep tracing each answer is that of the plain hall (`book_hall`) of the same book and claims.
-pub fn deep_halls_are_plain()
-    ensures { DeepIsPlain }
 {}

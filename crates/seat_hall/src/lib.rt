@@ -1,8 +1,8 @@
 //! The hall whose cells move out to the workers: its log, and what passes do and know.
 //!
 //! The hall lies under a turn (`turn_log`). A claim takes the actor's cell out of it, a commit puts the
-//! cell back and makes the event an entry. With deep tracing each call answers what the plain hall
-//! (`book_hall`) answers after the same log.
+//! cell back and makes the event an entry. Each call answers what the plain hall (`hall_rules`) answers
+//! after the same log.
 #![tactic(auto)]
 
 mod advancing;
@@ -27,8 +27,7 @@ pub use closing::Closing;
 pub use hall::Hall;
 pub use item::{Item, PassView};
 pub use laws::{
-    books_are_runs, cells_are_apart, cells_are_never_reaped, deep_halls_are_plain, entries_stand,
-    entries_stand_once,
+    books_are_runs, cells_are_apart, cells_are_never_reaped, entries_stand, entries_stand_once,
 };
 pub use rooms::CellRoom;
 pub use rule::{Absorbs, Fairly, HallLog, Halves, PassSeat};

@@ -30,7 +30,7 @@ write_back-requires-clause-may c =
     (taken_out c.args.log.now n c.args.seat.now seat c.take-hall.result u c.take-hall.ensures.value c.take-hall.ensures.same.1) in
     let at = at_again n seat h r in
     may_leave n seat seat seat h at (Claimed n c.args.a) refl c.claim_act.new.self
-    (claim_may n seat seat h at c.args.a c.in-Some.ensures.some.0) c.in-Some.ensures.claimed
+    (claim_may n seat seat h at c.args.a c.in-Some.ensures.some.grants.0) c.in-Some.ensures.some.claimed
 
 pub returns-in-Some : goal.returns-in-Some
 returns-in-Some c =
@@ -39,14 +39,14 @@ returns-in-Some c =
     let same = lies_once c.args.seat.now u.lying c.take-hall.result u.lies c.take-hall.ensures.value ∙ is in
     let reckoned = ap (λ (v : HallView). v.logged) (sym same) ∙ u.reckons.shows in
     let passed = c.write_back.ensures in let took = c.take-hall.ensures in
-    let wrote = passed.knew ∙ ap (λ (v : HallView). having_written after_item v.last (knows seat)) c.in-Some.ensures.claimed in
+    let wrote = passed.knew ∙ ap (λ (v : HallView). having_written after_item v.last (knows seat)) c.in-Some.ensures.some.claimed in
     record {
       same = (passed.same.0 ∙ took.same.0.0, passed.same.1 ∙ took.same.0.1);
       pass_is = passed.pass_is;
       claimed = record {
         claims = subst (λ (x : Taken × Logged). Grants a x.0 x.1 × (is_act x.0.event ≡ true))
-            (λ i. (sym c.of.ensures.taken i, reckoned i)) (c.in-Some.ensures.some, c.in-Some.ensures.act);
-        within = subst (λ (l : Logged). a < length l.claims) reckoned c.in-Some.ensures.within;
+            (λ i. (sym c.of.ensures.taken i, reckoned i)) (c.in-Some.ensures.some.grants, c.in-Some.ensures.act);
+        within = subst (λ (l : Logged). a < length l.claims) reckoned c.in-Some.ensures.some.within;
         fresh = c.of.ensures.fresh;
         wrote = wrote ∙ ap (λ v. having_written after_item (Claimed n a) v.known) took.same.1;
       };

@@ -27,7 +27,7 @@ write_item-requires-clause-may c =
     (taken_out c.args.log.now n c.args.seat.now seat c.take-hall.result u c.take-hall.ensures.value c.take-hall.ensures.same.1) in
     let at = at_again n seat h r in
     may_leave n seat seat seat h at (Entered n (Take c.args.a)) refl c.enter.new.self
-    (entry_may n seat seat h at (Take c.args.a) c.in-Ok.ensures.ok.may) c.in-Ok.ensures.entered
+    (entry_may n seat seat h at (Take c.args.a) c.in-Ok.ensures.0.may) c.in-Ok.ensures.1
 
 pub returns-in-Ok : goal.returns-in-Ok
 returns-in-Ok c =
@@ -37,7 +37,7 @@ returns-in-Ok c =
     (taken_out c.args.log.now n c.args.seat.now seat c.take-hall.result u c.take-hall.ensures.value c.take-hall.ensures.same.1) in
     let same = lies_once c.args.seat.now u.lying c.take-hall.result u.lies c.take-hall.ensures.value ∙ is in
     let at = at_again n seat h r in let put = c.write_item.ensures in let took = c.take-hall.ensures in
-    let wrote = put.knew ∙ ap (λ (v : HallView). having_written after_item v.last (knows seat)) c.in-Ok.ensures.entered in
+    let wrote = put.knew ∙ ap (λ (v : HallView). having_written after_item v.last (knows seat)) c.in-Ok.ensures.1 in
     let kept : IsSame c.args.seat.now c.write_item.new.seat = (put.same.0 ∙ took.same.0.0, put.same.1 ∙ took.same.0.1) in record {
       same = kept;
       under = record {
@@ -46,11 +46,11 @@ returns-in-Ok c =
         turn = put.turn;
         lies = put.lies;
         reckons = reckons_then n seat seat c.write_item.new.seat h at (Entered n (Take c.args.a)) refl wrote c.enter.new.self
-            (entry_may n seat seat h at (Take c.args.a) c.in-Ok.ensures.ok.may) c.in-Ok.ensures.entered;
+            (entry_may n seat seat h at (Take c.args.a) c.in-Ok.ensures.0.may) c.in-Ok.ensures.1;
       };
       took_is = (
         subst (Takes n c.args.a true) (ap (λ (v : HallView). v.logged) (sym same) ∙ u.reckons.shows)
-            (c.in-Ok._done, c.in-Ok.ensures.ok),
+            (c.in-Ok._done, c.in-Ok.ensures.0),
         wrote ∙ ap (λ v. having_written after_item (Entered n (Take c.args.a)) v.known) took.same.1,
       );
     }
@@ -60,7 +60,7 @@ returns c =
     let n = c.args.number in let u = c.requires in let seat = c.take-hall.new.seat in
     let h = c.deref_mut.result.now in let is : c.take-hall.result ≡ h = search rules in
     let same = lies_once c.args.seat.now u.lying c.take-hall.result u.lies c.take-hall.ensures.value ∙ is in
-    let back = same ∙ sym c.in-Err.ensures.same in
+    let back = same ∙ sym c.in-Err.ensures.1 in
     let put = c.put.ensures.same in let took = c.take-hall.ensures.same in let still = put.1 ∙ took.1 in
     let kept : IsSame c.args.seat.now c.put.new.seat = (put.0.0 ∙ took.0.0, put.0.1 ∙ took.0.1) in record {
       same = kept;
@@ -73,7 +73,7 @@ returns c =
       };
       took_is = (
         subst (Takes n c.args.a false) (ap (λ (v : HallView). v.logged) (sym same) ∙ u.reckons.shows)
-            (c.in-Err._refuse, c.in-Err.ensures.refused),
+            (c.in-Err._refuse, c.in-Err.ensures.0),
         ap (λ v. v.known) still,
       );
     }

@@ -1,8 +1,8 @@
-use Rattle.std.proofs.Common.{◌≡◌, rules, ap, sym, subst, ◌∙◌}
+use Rattle.std.proofs.Common.{◌≡◌, ap, sym, subst, ◌∙◌}
 use Rattle.turn_log.specs.Seats.{knows}
 use Rattle.seat_hall.specs.Advances.{Reckons}
 use Rattle.seat_hall.specs.Fair.{Knower}
-use Rattle.seat_hall.proofs.Advances.{WentUp, up_turns, went_up}
+use Rattle.seat_hall.proofs.Advances.{up_turns, went_up}
 use Rattle.seat_hall.proofs.Under.{reckons_at}
 use Rattle.seat_hall.proofs.advancing.take_up.Goals as goal
 

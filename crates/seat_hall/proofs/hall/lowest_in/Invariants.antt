@@ -1,4 +1,4 @@
-use Rattle.std.proofs.Common.{◌≡◌, ◌≢◌, ℕ, ◌<◌, Some}
+use Rattle.std.proofs.Common.{◌≢◌, ℕ, ◌<◌, Some}
 use Rattle.seat_hall.specs.Log.{claim_in}
 use Rattle.seat_hall.proofs.hall.lowest_in.Given as goal
 

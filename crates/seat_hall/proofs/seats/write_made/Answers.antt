@@ -1,4 +1,4 @@
-use Rattle.std.proofs.Common.{◌≡◌, ◌≤◌, ◌++◌, ◌∷◌, [], ℕ, List, length, min, arith, sym, ap, ◌∙◌, subst}
+use Rattle.std.proofs.Common.{◌≤◌, ◌++◌, ◌∷◌, [], ℕ, List, length, min, arith, sym, ap, ◌∙◌, subst}
 use Rattle.turn_log.specs.Knowing.{having_written}
 use Rattle.turn_log.specs.Owed.{MayWrite}
 use Rattle.turn_log.specs.Seats.{has_put, knows}

@@ -1,57 +1,56 @@
-use Rattle.std.proofs.Common.{◌≡◌, length, ap, sym, ◌∙◌}
-use Rattle.machine_rules.specs.Next.{next}
-use Rattle.orca_names.specs.declared.trace.Trace.TheVariants.{Deep}
-use Rattle.orca_parts.specs.Parts.{options_of}
-use Rattle.hall_rules.specs.Causes.{actor_cause, spent_cause, unready_cause}
-use Rattle.hall_rules.specs.Halls.{HallValue, hall_state}
-use Rattle.book_hall.proofs.Entries.{answers}
-use Rattle.book_hall.proofs.Keeping.{home_for, is_early, kept_on, kept_run, reaps_at_home}
-use Rattle.hall_rules.proofs.Refusing.{later_none}
+use Rattle.std.proofs.Common.{Err, ap, refl, sym, subst, ◌∙◌}
+use Rattle.std.specs.Option.{ForSome}
+use Rattle.orca_names.specs.declared.options.Options.{Options}
+use Rattle.behaviour_code.specs.declared.code.Program.{Program}
+use Rattle.hall_rules.specs.Halls.{HallValue}
+use Rattle.hall_rules.proofs.Entries.{keeps, may_enter, refused_early}
+use Rattle.hall_rules.proofs.Keeping.{hall_with, machine_run}
+use Rattle.book_hall.specs.Answers.{AnswersEntry}
+use Rattle.book_hall.specs.Proposals.{IsOf}
+use Rattle.book_hall.proofs.Entries.{answers, home_for, reaps_at_home}
 use Rattle.book_hall.proofs.hall.Hall.enter_as.Goals as goal
+
+pub early_refusal-requires : goal.early_refusal-requires
+early_refusal-requires c = λ none. home_for c.self.inside.orca c.self.invariant.1 c.args.e
+
+pub returns-in-Some : goal.returns-in-Some
+returns-in-Some c =
+    let s = c.self.inside in
+    subst (λ (v : HallValue). AnswersEntry v c.args.asker c.args.e v.claims (Err c.in-Some.refuse) v) c.self.view_is (record {
+      answers = (
+        refused_early s.code.now s.budget s.orca s.book c.self.invariant.0 c.holder_for-holder.result c.args.e s.claims s.stopped
+            c.args.asker c.holder_for-holder.ensures c.in-Some.refuse c.in-Some.ensures,
+        refl,
+      );
+      rest = refl;
+    })
 
 pub fitting-found-requires : goal.fitting-found-requires
 fitting-found-requires c =
-    let h = c.self.inside in
-    let run = kept_run h.code.now h.budget h.orca h.book c.self.invariant in
-    λ x is. let own = c.requires x is in record {
-      program_is = own.program_is ∙ ap (λ (v : HallValue). v.program) (sym c.self.view_is) ∙ sym run.0;
-      options_is = own.options_is ∙ ap (λ (v : HallValue). options_of v.weight Deep) (sym c.self.view_is) ∙ sym run.1;
-      event = own.event;
-    }
+    let s = c.self.inside in let view = c.self.view_is in
+    let run = machine_run s.code.now s.budget s.orca s.book c.self.invariant.0 in
+    let program = sym (run.0 ∙ ap (λ (v : HallValue). v.program) view) in
+    let options = sym (run.1 ∙ ap (λ (v : HallValue). v.options) view) in
+    subst (λ (x : Program × Options). ForSome c.args.proposal (IsOf x.0 x.1 c.args.e)) (λ i. (program i, options i)) c.requires
 
 pub enter-requires : goal.enter-requires
 enter-requires c =
-    let h = c.args.self.now in
-    let e = c.args.e in
-    let old = c.self.inside in
-    let state : old.orca.state ≡ hall_state h = c.self.invariant.state_is ∙ ap hall_state c.self.view_is in
-    let none = later_none (actor_cause (hall_state h) h.claims c.args.asker e) (unready_cause (next (hall_state h) e))
-    (spent_cause (length h.book) h.budget) (sym c.in_default.ensures) in
-    record {
-      early = is_early old.code.now old.budget old.orca old.book c.self.invariant
-          (ap (λ (v : HallValue). spent_cause (length v.book) v.budget) c.self.view_is ∙ none.1);
-      home = home_for old.orca c.self.invariant.home e;
-      spares = reaps_at_home old.orca c.self.invariant.home e;
-      ready = ap (λ s. unready_cause (next s e)) state ∙ none.0;
-      found = λ place is. c.fitting-found.ensures place.value (c.boxed-found.ensures place is);
-    }
+    let s = c.self.inside in let kept = c.self.invariant in
+    may_enter s.code.now s.budget s.orca s.book kept.0 c.holder_for-holder.result c.args.e c.in_default.ensures
+    (home_for s.orca kept.1 c.args.e) (reaps_at_home s.orca kept.1 c.args.e) _ c.fitting-found.ensures
 
 pub invariant_of-self : goal.invariant_of-self
 invariant_of-self c =
-    let h = c.args.self.now in
-    let e = c.args.e in
-    let old = c.self.inside in
-    let done = c.enter.ensures in
-    let none = later_none (actor_cause (hall_state h) h.claims c.args.asker e) (unready_cause (next (hall_state h) e))
-    (spent_cause (length h.book) h.budget) (sym c.in_default.ensures) in
-    let room = ap (λ (v : HallValue). spent_cause (length v.book) v.budget) c.self.view_is ∙ none.1 in
-    kept_on old.code.now old.budget old.orca c.enter.new.orca old.book c.enter.new.book c.self.invariant
-    done.book.0 done.book.1 (λ a. done.away a ∙ c.self.invariant.home a) e c.enter.result room done.goes done.steps done.entry done.same done.same_book
+    let s = c.self.inside in let kept = c.self.invariant in let told = c.enter.ensures in (
+      keeps s.code.now s.budget s.orca s.book kept.0 c.holder_for-holder.result c.args.e c.in_default.ensures c.enter.new.orca c.enter.new.book
+          told.book c.enter.result told.ok told.refused,
+      λ a. told.away a ∙ kept.1 a,
+    )
 
 pub returns : goal.returns
 returns c =
-    let old = c.self.inside in
-    let done = c.enter.ensures in
-    answers old.code.now old.budget old.claims old.stopped c.args.self.now old.orca c.enter.new.orca old.book c.enter.new.book
-    c.args.asker c.args.e c.self.view_is c.self.invariant (invariant_of-self c) done.book.0 c.enter.result
-    (sym c.in_default.ensures) done.goes done.entry done.place done.woke done.refused done.same_book
+    let s = c.self.inside in let told = c.enter.ensures in
+    subst (λ (v : HallValue). AnswersEntry v c.args.asker c.args.e v.claims c.enter.result
+    (hall_with s.code.now s.budget c.enter.new.book s.claims s.stopped)) c.self.view_is
+    (answers s.code.now s.budget s.orca c.enter.new.orca s.book c.enter.new.book c.self.invariant.0 s.claims s.stopped c.args.asker c.args.e
+    c.holder_for-holder.result c.holder_for-holder.ensures c.in_default.ensures told.book c.enter.result told.ok told.refused)

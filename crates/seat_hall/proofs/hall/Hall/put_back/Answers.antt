@@ -1,4 +1,4 @@
-use Rattle.std.proofs.Common.{◌≡◌, ℕ, List, Option, None, Some, set, sym, ap, subst, ◌∙◌}
+use Rattle.std.proofs.Common.{◌≡◌, ℕ, None, Some, set, sym, ap, subst, ◌∙◌}
 use Rattle.seat_hall.specs.Halls.{HallView, HallKeeps}
 use Rattle.seat_hall.specs.Log.{claim_in}
 use Rattle.seat_hall.proofs.Kept.{kept_ended, room_is_out}
