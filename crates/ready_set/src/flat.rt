@@ -145,9 +145,10 @@ impl PlaceSet {
     }
 
     /// How many numbers from this one on are in the set, up to the first that is not. More may be
-    /// in it where these go on to a multiple of 64.
+    /// in it where these go on to a multiple of 64; the answer is 0 exactly where this one is not.
     pub fn on_from(&self, at: usize) -> usize
         ensures on { AreOn self.now at (at + result) }
+        ensures some { slice_index_or self.now at false ≡ true → 0 < result }
         ensures off { 0 < (at + result) % 64
             → slice_index_or self.now (at + result) false ≡ false }
     {
