@@ -1,4 +1,4 @@
-//! What is told and what is kept of a row, and rows in words that threads may share: how a row lies in a block of
+//! What is told of a row, and rows in words that threads may share: how a row lies in a block of
 //! words, and how it is read there.
 //!
 //! Block `k` has 17 words from `17 * k` on: the length of its row, and for each of eight places a word
@@ -10,13 +10,11 @@
 #![tactic(auto)]
 
 mod block;
-mod kept;
 mod told;
 mod value;
 mod vector;
 mod words;
 
 pub use block::{put, read};
-pub use kept::Kept;
 pub use told::Told;
 pub use words::{BLOCK_WORDS, RowWords};
