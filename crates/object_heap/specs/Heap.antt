@@ -44,10 +44,6 @@ pub record AreStored (owner next : ℕ) (keys : List Key) (objects : List Item) 
   pub own : AreOwn next (joined keys objects)
   pub kept : AreKept owner keys objects (joined keys objects)
 
--- the smaller one
-abbrev pub lesser : ℕ → ℕ → ℕ
-lesser a b = a - (a - b)
-
 -- the objects with their rows, as a load has them
 abbrev pub own_objects : Heap → List Item
 own_objects h =

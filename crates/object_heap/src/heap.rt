@@ -31,9 +31,9 @@ pub struct ObjectHeap {
 }
 
 impl Model for ObjectHeap {
-    ghost use Rattle.std.specs.Prelude.{◌-◌, vec_len, vec_capacity};
+    ghost use Rattle.std.specs.Prelude.{◌-◌, min, vec_len, vec_capacity};
     ghost use Rattle.object_heap.specs.Entry.{joined};
-    ghost use Rattle.object_heap.specs.Heap.{Heap, AreStored, coded_heap, lesser, rows_in};
+    ghost use Rattle.object_heap.specs.Heap.{Heap, AreStored, coded_heap, rows_in};
 
     ghost Value = { Heap };
 
@@ -42,7 +42,7 @@ impl Model for ObjectHeap {
     ghost view = { λ s. record {
       owner = s.owner;
       next = s.next;
-      spare = lesser (vec_capacity s.keys - vec_len s.keys)
+      spare = min (vec_capacity s.keys - vec_len s.keys)
           (vec_capacity s.objects - vec_len s.objects);
       rows = rows_in (joined s.keys.items s.objects.items);
     } };

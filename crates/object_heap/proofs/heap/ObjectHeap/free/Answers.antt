@@ -1,10 +1,10 @@
 use Rattle.std.proofs.Common.{refl, ◌≡◌, ◌+◌, ◌-◌, sym, ap, ◌∙◌, arith}
-use Rattle.std.specs.Prelude.{vec_len, vec_capacity}
+use Rattle.std.specs.Prelude.{min, vec_len, vec_capacity}
 use Rattle.std.specs.List.{filter}
 use Rattle.std.specs.FinMap as m
 use Rattle.object_heap.specs.Entry.{joined}
 use Rattle.object_heap.specs.Free.{freed, is_kept, stays}
-use Rattle.object_heap.specs.Heap.{lesser, rows_in}
+use Rattle.object_heap.specs.Heap.{rows_in}
 use Rattle.object_heap.proofs.Entries.{len_here, stay_own, stay_rows}
 use Rattle.object_heap.proofs.Kept.{kept_joined, keys_long, objects_long, stored}
 use Rattle.object_heap.proofs.heap.ObjectHeap.free.Goals as goal
@@ -34,6 +34,6 @@ returns c =
     let wide = objects_long s.owner s.keys.items s.objects.items all c.self.invariant.kept in
     let short = keys_long s.owner keys.items objects.items left kept in
     let narrow = objects_long s.owner keys.items objects.items left kept in
-    let room : lesser (vec_capacity keys - vec_len keys) (vec_capacity objects - vec_len objects) ≡ lesser (vec_capacity s.keys - vec_len s.keys) (vec_capacity s.objects - vec_len s.objects) + (m.len (rows_in all) - m.len (m.retain_keys (rows_in all) (stays gone))) =
+    let room : min (vec_capacity keys - vec_len keys) (vec_capacity objects - vec_len objects) ≡ min (vec_capacity s.keys - vec_len s.keys) (vec_capacity s.objects - vec_len s.objects) + (m.len (rows_in all) - m.len (m.retain_keys (rows_in all) (stays gone))) =
     omega (arith, s.keys.ok, s.objects.ok, keys.ok, objects.ok, c.keep_others.ensures.shorter, c.keep_others.ensures.capacity) in
     (λ j. record { owner = s.owner; next = s.next; spare = room j; rows = rows j }) ∙ ap (freed gone) c.self.view_is

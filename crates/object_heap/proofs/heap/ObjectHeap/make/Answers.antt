@@ -1,10 +1,10 @@
 use Rattle.std.proofs.Common.{refl, ◌≡◌, ◌+◌, ◌-◌, [], ◌∷◌, ◌++◌, ap, ◌∙◌, arith}
-use Rattle.std.specs.Prelude.{vec_len, vec_capacity}
+use Rattle.std.specs.Prelude.{min, vec_len, vec_capacity}
 use Rattle.std.specs.FinMap as m
 use Rattle.orca_names.specs.declared.names.Thing.TheVariants.{Obj}
 use Rattle.row_store.specs.declared.told.Told.TheVariants.{Here}
 use Rattle.object_heap.specs.Entry.{AreKept, Own, joined}
-use Rattle.object_heap.specs.Heap.{lesser, rows_in, with_new}
+use Rattle.object_heap.specs.Heap.{rows_in, with_new}
 use Rattle.object_heap.proofs.Entries.{made_own, made_rows, add_one}
 use Rattle.object_heap.proofs.Kept.{kept_add, kept_joined, stored}
 use Rattle.object_heap.proofs.heap.ObjectHeap.make.Goals as goal
@@ -27,7 +27,7 @@ returns-clause-made c =
     let add = kept_add s.owner s.keys.items s.objects.items all c.self.invariant.kept own in
     let objects = c.push_reserved-2.ensures.items ∙ (λ j. s.objects.items ++ (Obj (record { owner = s.owner; serial = c.of.ensures j }), Here c.args.row) ∷ []) ∙ add.1 in
     let kept : AreKept s.owner c.push_reserved.new.self.items c.push_reserved-2.new.self.items (all ++ own ∷ []) = (c.push_reserved.ensures.items ∙ add.0, objects) in
-    let room : lesser (vec_capacity c.push_reserved.new.self - vec_len c.push_reserved.new.self) (vec_capacity c.push_reserved-2.new.self - vec_len c.push_reserved-2.new.self) ≡ lesser (vec_capacity s.keys - vec_len s.keys) (vec_capacity s.objects - vec_len s.objects) - 1 =
+    let room : min (vec_capacity c.push_reserved.new.self - vec_len c.push_reserved.new.self) (vec_capacity c.push_reserved-2.new.self - vec_len c.push_reserved-2.new.self) ≡ min (vec_capacity s.keys - vec_len s.keys) (vec_capacity s.objects - vec_len s.objects) - 1 =
     omega arith in
     let rows = ap rows_in (kept_joined s.owner _ _ (all ++ own ∷ []) kept) ∙ made_rows s.next all own c.self.invariant.own refl
     ∙ ap (λ n. m.insert (rows_in all) s.next (c.args.row, n)) c.new.ensures ∙ add_one s.next c.args.row (rows_in all) in

@@ -1,11 +1,11 @@
 use Rattle.std.proofs.Common.{◌+◌, ◌-◌, map, sym, ap, subst, ◌∙◌, arith}
-use Rattle.std.specs.Prelude.{is_some, vec_len, vec_capacity}
+use Rattle.std.specs.Prelude.{min, is_some, vec_len, vec_capacity}
 use Rattle.std.specs.Ordering.{nat_cmp}
 use Rattle.std.specs.FinMap as m
 use Rattle.plain_list.specs.Rising.{IsAt}
 use Rattle.letter_kinds.specs.Holdings.{row_count}
 use Rattle.object_heap.specs.Entry.{key_pair}
-use Rattle.object_heap.specs.Heap.{counted, lesser}
+use Rattle.object_heap.specs.Heap.{counted}
 use Rattle.object_heap.proofs.Kept.{count_is, counted_map, counted_stored, has_key}
 use Rattle.object_heap.proofs.heap.ObjectHeap.raise.Goals as goal
 
@@ -38,6 +38,6 @@ returns c =
     let ks = s.keys.items in
     let xs = s.objects.items in
     let p = subst (λ keys. IsAt nat_cmp (map key_pair keys) c.args.n.serial c.place_there-i.result) c.as_slice.ensures.value c.place_there-i.ensures in
-    ap (λ rows. record { owner = s.owner; next = s.next; spare = lesser (vec_capacity s.keys - vec_len s.keys) (vec_capacity s.objects - vec_len s.objects); rows = rows })
+    ap (λ rows. record { owner = s.owner; next = s.next; spare = min (vec_capacity s.keys - vec_len s.keys) (vec_capacity s.objects - vec_len s.objects); rows = rows })
     (counted_map s.owner s.next ks xs c.self.invariant c.args.n.serial c.place_there-i.result c.raise.new.self c.index_mut.result.now p c.index_mut.ensures.value (λ count. count + c.args.by) (sym c.raise.ensures))
     ∙ ap (counted (λ count. count + c.args.by) c.args.n) c.self.view_is

@@ -1,11 +1,11 @@
 use Rattle.std.proofs.Common.{◌≡◌, ◌+◌, ◌-◌, map, sym, ap, subst, ◌∙◌, arith}
-use Rattle.std.specs.Prelude.{is_some, vec_len, vec_capacity}
+use Rattle.std.specs.Prelude.{min, is_some, vec_len, vec_capacity}
 use Rattle.std.specs.List.{remove}
 use Rattle.std.specs.Ordering.{nat_cmp}
 use Rattle.std.specs.FinMap as m
 use Rattle.plain_list.specs.Rising.{IsAt}
 use Rattle.object_heap.specs.Entry.{joined, key_pair}
-use Rattle.object_heap.specs.Heap.{AreStored, lesser, rows_in, without}
+use Rattle.object_heap.specs.Heap.{AreStored, rows_in, without}
 use Rattle.object_heap.proofs.Kept.{at_within, has_key, keys_long, less_map, less_stored, objects_long}
 use Rattle.object_heap.proofs.heap.ObjectHeap.remove.Goals as goal
 
@@ -33,7 +33,7 @@ returns c =
     let within = at_within s.owner s.next ks xs c.self.invariant c.args.n.serial i p in
     let long = keys_long s.owner ks xs (joined ks xs) c.self.invariant.kept in
     let wide = objects_long s.owner ks xs (joined ks xs) c.self.invariant.kept in
-    let room : lesser (vec_capacity c.remove.new.self - vec_len c.remove.new.self) (vec_capacity c.remove-2.new.self - vec_len c.remove-2.new.self) ≡ lesser (vec_capacity s.keys - vec_len s.keys) (vec_capacity s.objects - vec_len s.objects) + 1 =
+    let room : min (vec_capacity c.remove.new.self - vec_len c.remove.new.self) (vec_capacity c.remove-2.new.self - vec_len c.remove-2.new.self) ≡ min (vec_capacity s.keys - vec_len s.keys) (vec_capacity s.objects - vec_len s.objects) + 1 =
     omega (arith, s.keys.ok, s.objects.ok) in
     let rows = (λ j. rows_in (joined (c.remove.ensures.items j) (c.remove-2.ensures.items j))) ∙ less_map s.owner s.next ks xs c.self.invariant c.args.n.serial i p in
     (λ j. record { owner = s.owner; next = s.next; spare = room j; rows = rows j }) ∙ ap (without c.args.n) c.self.view_is
