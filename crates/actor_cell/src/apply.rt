@@ -8,7 +8,7 @@ ghost use Rattle.object_heap.specs.Heap.{with_new};
 ghost use Rattle.trace_send.specs.Can.{CanSend};
 ghost use Rattle.actor_cell.specs.Cells.{IsCellOf, IsSame, as_cell};
 ghost use Rattle.actor_cell.specs.Finding.{HasRoomToMove};
-ghost use Rattle.actor_cell.specs.Goes.{CanMove, cell_by, cell_kept, frame_left, new_entries, out_of};
+ghost use Rattle.actor_cell.specs.Goes.{CanMove, cell_by, cell_kept, new_entries, out_of};
 ghost use Rattle.actor_cell.specs.Moves.{act_in};
 
 use crate::cell::Cell;
@@ -18,6 +18,7 @@ use letter_kinds::Load;
 use object_heap::ObjectHeap;
 use orca_names::{NoMemory, Row};
 use trace_send::{mint_counts, send_trace};
+use turn_rules::SpareFrame;
 use turn_step::Turn;
 
 // The rows that a turn made are own objects now.
@@ -71,23 +72,6 @@ impl Cell {
         self.fields.copy_from(turn.fields());
     }
 
-    // Its frame stands where the turn stopped.
-    fn stop_at(&mut self, turn: &Turn, place: u32)
-        requires { IsSome self.old.frame }
-        ensures cell { (frame : frame_of_rules) → self.old.frame ≡ Some frame
-            → as_cell self.new
-            ≡ record (as_cell self.old) { frame = Some (frame_left frame turn.now place) } }
-        ensures owner { self.new.heap.owner ≡ self.old.heap.owner }
-        ensures foreign { self.new.foreign ≡ self.old.foreign }
-    {
-        let Some(frame) = self.frame.get() else {
-            unreachable!();
-        };
-        let kind = frame.kind;
-        let behaviour = frame.behaviour;
-        self.frame.keep(kind, behaviour, place, turn.registers());
-    }
-
     /// Takes the memory for what was found of its turn.
     ///
     /// # Errors
@@ -100,9 +84,10 @@ impl Cell {
         reserve_entries(&mut self.foreign, found)
     }
 
-    /// Does what was found of its turn. It takes no memory.
+    /// Does what was found of its turn. It takes no memory. That of a frame that ends serves again as the
+    /// spare.
     #[inline(always)]
-    pub fn apply_go(&mut self, turn: &Turn, found: &Turned)
+    pub fn apply_go(&mut self, turn: &Turn, found: &Turned, spare: &mut SpareFrame)
         requires running { IsSome self.old.frame }
         requires can { let me = self.old.heap.owner in
             CanMove me (as_cell self.old).holdings turn.now (act_in found.now) }
@@ -120,7 +105,7 @@ impl Cell {
                 behaviour: _,
             } => {
                 self.keep_turn(turn);
-                self.stop_at(turn, found.place);
+                self.frame.stop_at(found.place, turn.registers());
                 self.send(&found.load);
             }
             Doing::Mint { owner: _ } => mint_counts(&found.things, &mut self.foreign),
@@ -129,20 +114,20 @@ impl Cell {
                 register: _,
             } => {
                 self.keep_turn(turn);
-                self.stop_at(turn, found.place);
+                self.frame.stop_at(found.place, turn.registers());
             }
             Doing::Print { value: _ } => {
                 self.keep_turn(turn);
-                self.stop_at(turn, found.place);
+                self.frame.stop_at(found.place, turn.registers());
             }
             Doing::End => {
                 self.keep_turn(turn);
-                self.frame.end();
+                self.frame.end(spare);
                 self.dirty = true;
             }
             Doing::Rest => {
                 make_all(&mut self.heap, turn.made());
-                self.frame.end();
+                self.frame.end(spare);
                 self.dirty = true;
             }
         }

@@ -16,14 +16,16 @@ use ref_weights::OwnCount;
 use row_store::Told;
 use row_table::RowTable;
 use std::alloc::Global;
-use turn_rules::FrameRoom;
+use turn_rules::{BoxedFrame, SpareFrame};
 
 /// What an actor keeps: its kind and fields, where it stands in a behaviour, and what it counts.
 #[derive(Drop)]
 pub struct Cell {
     pub kind: u32,
     pub fields: Fields,
-    pub frame: FrameRoom,
+    pub frame: BoxedFrame,
+    /// Memory for the frame that the next letter starts.
+    pub room: SpareFrame,
     /// Its own objects. The heap tells whose cell this is.
     pub heap: ObjectHeap,
     /// The things of others that it holds.
@@ -62,7 +64,8 @@ impl Cell {
                 values: Args::nulls(code.program().field_count(kind) as usize),
                 pinned: false,
             },
-            frame: FrameRoom::new(),
+            frame: BoxedFrame::new(),
+            room: SpareFrame::new(alloc),
             heap: ObjectHeap::new(alloc, me),
             foreign: ForeignTable::new(alloc),
             known: RowTable::new(alloc),

@@ -6,6 +6,7 @@ ghost use Rattle.actor_cell.specs.Cells.{IsSame};
 use crate::cell::Cell;
 use orca_names::NoMemory;
 use std::alloc::Global;
+use turn_rules::SpareFrame;
 
 impl Cell {
     // Kind, fields, frame and marks are those of another cell.
@@ -29,13 +30,15 @@ impl Cell {
     pub fn copy(&self, alloc: Global) -> Result<Cell, NoMemory>
         ensures { IfOk result (λ copied. IsSame copied self.now) }
     {
+        let frame = self.frame.copy(alloc)?;
         let heap = self.heap.copy(alloc)?;
         let foreign = self.foreign.copy(alloc)?;
         let known = self.known.copy(alloc)?;
         Ok(Cell {
             kind: self.kind,
             fields: self.fields,
-            frame: self.frame.copy(),
+            frame,
+            room: SpareFrame::new(alloc),
             heap,
             foreign,
             known,

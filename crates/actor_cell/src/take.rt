@@ -13,7 +13,8 @@ use block_report::{Tells, tells_on};
 use letter_kinds::{Letter, Note};
 use orca_names::NoMemory;
 use trace_send::{lower_counts, raise_counts, receive_trace};
-use turn_step::start_frame;
+use turn_rules::SpareFrame;
+use turn_step::start_boxed;
 
 impl Cell {
     // It has something to do, and did not report that it is blocked.
@@ -40,14 +41,14 @@ impl Cell {
         }
     }
 
-    /// Takes the memory for what the letter brings.
+    /// Takes the memory for what the letter brings. That for a frame it has from the spare, where this
+    /// has some.
     ///
     /// # Errors
     /// `NoMemory` where memory was refused.
-    pub fn reserve_take(&mut self, letter: &Letter) -> Result<(), NoMemory>
+    pub fn reserve_take(&mut self, letter: &Letter, spare: &mut SpareFrame) -> Result<(), NoMemory>
         ensures same { IsSame self.new self.old }
-        ensures room { let held = self.new.foreign.spare in
-            OnOk result (HasRoomFor (as_letter letter.now) held self.new.known.spare) }
+        ensures room { OnOk result (HasRoomFor (as_letter letter.now) self.new) }
     {
         match letter {
             Letter::App {
@@ -56,6 +57,7 @@ impl Cell {
                 load,
                 rows,
             } => {
+                self.room.reserve_from(spare)?;
                 self.foreign.reserve(load.len())?;
                 self.known.reserve(rows.len())
             }
@@ -68,7 +70,7 @@ impl Cell {
     pub fn apply_take(&mut self, code: &Checked, letter: &Letter)
         requires idle { self.old.frame ≡ None }
         requires can { CanTake self.old.heap.owner (as_letter letter.now) (as_cell self.old).holdings }
-        requires room { HasRoomFor (as_letter letter.now) self.old.foreign.spare self.old.known.spare }
+        requires room { HasRoomFor (as_letter letter.now) self.old }
         ensures { let me = self.old.heap.owner in
             IsCellOf me (cell_after code.now me (as_letter letter.now) (as_cell self.old)) self.new }
     {
@@ -82,7 +84,14 @@ impl Cell {
             } => {
                 receive_trace(load, me, &mut self.count, &mut self.heap, &mut self.foreign);
                 learn_all(&mut self.known, me, rows);
-                start_frame(code, self.kind, *behaviour, args.as_args(), &mut self.frame);
+                start_boxed(
+                    code,
+                    self.kind,
+                    *behaviour,
+                    args.as_args(),
+                    &mut self.frame,
+                    &mut self.room,
+                );
                 self.wake();
             }
             Letter::Inc { things } => {

@@ -22,6 +22,7 @@ use letter_kinds::{Letter, Note};
 use orca_names::{ActorName, NoMemory, Options, Trace, Value};
 use plain_list::Listed;
 use std::alloc::{AllocError, Global};
+use turn_rules::SpareFrame;
 use turn_step::Turn;
 
 /// What an event of an actor gives out, to be pushed in order.
@@ -100,7 +101,8 @@ impl Cell {
         let Ok(mut notes) = note_room(alloc, self.reported) else {
             return Err(letter);
         };
-        if self.reserve_take(&letter).is_err() {
+        let mut spare = SpareFrame::new(alloc);
+        if self.reserve_take(&letter, &mut spare).is_err() {
             return Err(letter);
         }
         if let Some(note) = self.note_on(&letter) {
@@ -144,7 +146,7 @@ impl Cell {
         let room = letter_room(alloc, 1)?;
         found.reserve_letter(alloc)?;
         self.reserve_go(&turn, &found)?;
-        self.apply_go(&turn, &found);
+        self.apply_go(&turn, &found, &mut SpareFrame::new(alloc));
         Ok(found.give_out(alloc, room))
     }
 

@@ -104,7 +104,7 @@ pub record CanTakeHere (a : ℕ) (letters : List Letter) (c : Cell) : Type 0 whe
   pub first : letters ≡ letter ∷ later
   pub idle : c.frame ≡ None
   pub can : CanTake a letter (as_cell c).holdings
-  pub room : HasRoomFor letter c.foreign.spare c.known.spare
+  pub room : HasRoomFor letter c
 
 -- it has a frame, its counts allow what was found of its turn, also to hold an actor that this makes,
 -- and there is room for it
@@ -131,7 +131,7 @@ CanChange a change x = HasCell x (AllowsChange a change x.mail.letters)
 -- the cell has room for the change
 abbrev pub HasRoomIn : Change → List Letter → Cell → Type 0
 HasRoomIn Take letters c = (letter : Letter) (later : List Letter)
-    → letters ≡ letter ∷ later → HasRoomFor letter c.foreign.spare c.known.spare
+    → letters ≡ letter ∷ later → HasRoomFor letter c
 HasRoomIn (Go turn found name weight) letters c = HasRoomToMove turn (act_in found) c
 HasRoomIn change letters c = ⊤
 

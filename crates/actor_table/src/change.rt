@@ -11,6 +11,7 @@ use behaviour_check::Checked;
 use letter_kinds::Letter;
 use mail_rows::MailRow;
 use orca_names::{ActorName, NoMemory, Trace};
+use turn_rules::SpareFrame;
 use turn_step::Turn;
 
 /// What becomes of an actor whose cell is at home, in an event that was prepared. Each is a type, so that
@@ -23,18 +24,30 @@ pub trait Changes {
     fn is_go(&self) -> bool
         ensures { result ≡ is_go (as_change self.now) };
 
-    /// Takes the memory for it, in the cell of an actor with these letters.
+    /// Takes the memory for it, in the cell of an actor with these letters: that for a frame from the
+    /// spare, where this has some.
     ///
     /// # Errors
     /// `NoMemory` where memory was refused.
-    fn reserve(&self, cell: &mut Cell, mail: &MailRow) -> Result<(), NoMemory>
+    fn reserve(
+        &self,
+        cell: &mut Cell,
+        mail: &MailRow,
+        spare: &mut SpareFrame,
+    ) -> Result<(), NoMemory>
         ensures cell { as_cell cell.new ≡ as_cell cell.old }
         ensures owner { cell.new.heap.owner ≡ cell.old.heap.owner }
         ensures ok { OnOk result (HasRoomIn (as_change self.now) mail.now.letters cell.new) };
 
     /// It is done to the cell and the letters of the actor, and gives the letter that it takes. It
-    /// takes no memory.
-    fn apply(&self, code: &Checked, cell: &mut Cell, mail: &mut MailRow) -> Option<Letter>
+    /// takes no memory. That of a frame that ends serves again as the spare.
+    fn apply(
+        &self,
+        code: &Checked,
+        cell: &mut Cell,
+        mail: &mut MailRow,
+        spare: &mut SpareFrame,
+    ) -> Option<Letter>
         requires { AllowsChange cell.old.heap.owner (as_change self.now) mail.old.letters cell.old }
         ensures seat { let me = cell.old.heap.owner in seat (as_cell cell.new) mail.new.letters
             ≡ seat_after code.now me (as_change self.now) (seat (as_cell cell.old) mail.old.letters) }
@@ -58,15 +71,26 @@ impl Changes for Take {
     }
 
     #[inline(always)]
-    fn reserve(&self, cell: &mut Cell, mail: &MailRow) -> Result<(), NoMemory> {
+    fn reserve(
+        &self,
+        cell: &mut Cell,
+        mail: &MailRow,
+        spare: &mut SpareFrame,
+    ) -> Result<(), NoMemory> {
         match mail.front() {
-            Some(letter) => cell.reserve_take(letter),
+            Some(letter) => cell.reserve_take(letter, spare),
             None => Ok(()),
         }
     }
 
     #[inline(always)]
-    fn apply(&self, code: &Checked, cell: &mut Cell, mail: &mut MailRow) -> Option<Letter> {
+    fn apply(
+        &self,
+        code: &Checked,
+        cell: &mut Cell,
+        mail: &mut MailRow,
+        _spare: &mut SpareFrame,
+    ) -> Option<Letter> {
         let Some(letter) = mail.front() else {
             unreachable!();
         };
@@ -96,13 +120,24 @@ impl Changes for Go<'_> {
     }
 
     #[inline(always)]
-    fn reserve(&self, cell: &mut Cell, _mail: &MailRow) -> Result<(), NoMemory> {
+    fn reserve(
+        &self,
+        cell: &mut Cell,
+        _mail: &MailRow,
+        _spare: &mut SpareFrame,
+    ) -> Result<(), NoMemory> {
         cell.reserve_go(self.turn, self.found)
     }
 
     #[inline(always)]
-    fn apply(&self, _code: &Checked, cell: &mut Cell, _mail: &mut MailRow) -> Option<Letter> {
-        cell.apply_go(self.turn, self.found);
+    fn apply(
+        &self,
+        _code: &Checked,
+        cell: &mut Cell,
+        _mail: &mut MailRow,
+        spare: &mut SpareFrame,
+    ) -> Option<Letter> {
+        cell.apply_go(self.turn, self.found, spare);
         if let Doing::New { kind: _, register } = self.found.doing {
             cell.settle_new(register, self.name, self.weight);
         }
@@ -128,12 +163,23 @@ impl Changes for Collect<'_> {
     }
 
     #[inline(always)]
-    fn reserve(&self, _cell: &mut Cell, _mail: &MailRow) -> Result<(), NoMemory> {
+    fn reserve(
+        &self,
+        _cell: &mut Cell,
+        _mail: &MailRow,
+        _spare: &mut SpareFrame,
+    ) -> Result<(), NoMemory> {
         Ok(())
     }
 
     #[inline(always)]
-    fn apply(&self, _code: &Checked, cell: &mut Cell, _mail: &mut MailRow) -> Option<Letter> {
+    fn apply(
+        &self,
+        _code: &Checked,
+        cell: &mut Cell,
+        _mail: &mut MailRow,
+        _spare: &mut SpareFrame,
+    ) -> Option<Letter> {
         cell.apply_collect(self.found);
         None
     }
@@ -154,12 +200,23 @@ impl Changes for Block {
     }
 
     #[inline(always)]
-    fn reserve(&self, _cell: &mut Cell, _mail: &MailRow) -> Result<(), NoMemory> {
+    fn reserve(
+        &self,
+        _cell: &mut Cell,
+        _mail: &MailRow,
+        _spare: &mut SpareFrame,
+    ) -> Result<(), NoMemory> {
         Ok(())
     }
 
     #[inline(always)]
-    fn apply(&self, _code: &Checked, cell: &mut Cell, _mail: &mut MailRow) -> Option<Letter> {
+    fn apply(
+        &self,
+        _code: &Checked,
+        cell: &mut Cell,
+        _mail: &mut MailRow,
+        _spare: &mut SpareFrame,
+    ) -> Option<Letter> {
         cell.apply_block();
         None
     }

@@ -20,6 +20,7 @@ use orca_names::{ActorName, NoMemory};
 use std::alloc::Global;
 use std::mem;
 use std::snapshot::Snapshot;
+use turn_rules::SpareFrame;
 
 /// Where an actor's cell is. Of one that is away, proofs remember the cell.
 #[derive(Drop)]
@@ -160,7 +161,11 @@ pub(crate) fn next_event(slot: &Slot, a: ActorName) -> Option<Event>
 
 /// Takes the memory for the change, where the cell is at home.
 #[inline(always)]
-pub(crate) fn reserve<C: Changes>(slot: &mut Slot, change: &C) -> Result<(), NoMemory>
+pub(crate) fn reserve<C: Changes>(
+    slot: &mut Slot,
+    change: &C,
+    spare: &mut SpareFrame,
+) -> Result<(), NoMemory>
     ensures seat { seat_of slot.new ≡ seat_of slot.old }
     ensures kept { KeepsPlace slot.old slot.new }
     ensures ok { OnOk result (HasRoomToChange (C.as_change change.now) slot.new) }
@@ -168,7 +173,7 @@ pub(crate) fn reserve<C: Changes>(slot: &mut Slot, change: &C) -> Result<(), NoM
     let Place::Home(cell) = &mut slot.place else {
         return Ok(());
     };
-    change.reserve(cell, &slot.mail)
+    change.reserve(cell, &slot.mail, spare)
 }
 
 /// Takes the memory for so many letters, if the actor is present.
@@ -242,7 +247,12 @@ pub(crate) fn note_on(slot: &Slot) -> Option<Note>
 
 /// The change is done, where the cell is at home, and gives the letter that it takes.
 #[inline(always)]
-pub(crate) fn change<C: Changes>(code: &Checked, slot: &mut Slot, change: &C) -> Option<Letter>
+pub(crate) fn change<C: Changes>(
+    code: &Checked,
+    slot: &mut Slot,
+    change: &C,
+    spare: &mut SpareFrame,
+) -> Option<Letter>
     requires { IsSomeAnd (home_of slot.old) (λ c. CanChange c.heap.owner (C.as_change change.now) slot.old) }
     ensures seat { (a : ℕ) → IsOwnedBy a slot.old.place
         → seat_of slot.new ≡ seat_after code.now a (C.as_change change.now) (seat_of slot.old) }
@@ -252,7 +262,7 @@ pub(crate) fn change<C: Changes>(code: &Checked, slot: &mut Slot, change: &C) ->
     let Place::Home(cell) = &mut slot.place else {
         unreachable!();
     };
-    change.apply(code, cell, &mut slot.mail)
+    change.apply(code, cell, &mut slot.mail, spare)
 }
 
 /// One letter more, if the actor is present.

@@ -26,14 +26,17 @@ use orca_names::{ActorName, NoMemory};
 use ready_set::ReadySet;
 use std::alloc::Global;
 use std::marker::Model;
+use turn_rules::SpareFrame;
 
 /// All actors ever made, by number, seen by contracts as their places and the room for further
-/// ones. Two indexes tell who acts, and who settles once nothing else is to be done.
+/// ones. Two indexes tell who acts, and who settles once nothing else is to be done. The memory of the
+/// frame that ended last is kept for the next that starts.
 #[derive(Drop)]
 pub struct ActorTable {
     slots: Vec<Slot>,
     acting: ReadySet,
     settling: ReadySet,
+    spare_frame: SpareFrame,
 }
 
 impl Model for ActorTable {
@@ -85,6 +88,7 @@ impl ActorTable {
             slots: Vec::new(alloc),
             acting: ReadySet::new(alloc),
             settling: ReadySet::new(alloc),
+            spare_frame: SpareFrame::new(alloc),
         }
     }
 
@@ -201,7 +205,7 @@ impl ActorTable {
         if a.0 as usize >= self.slots.len() {
             return Ok(());
         }
-        slot::reserve(&mut self.slots[a.0 as usize], change)
+        slot::reserve(&mut self.slots[a.0 as usize], change, &mut self.spare_frame)
     }
 
     /// Takes the memory for so many letters to an actor.
@@ -253,7 +257,6 @@ impl ActorTable {
     }
 
     /// What the detector is to hear where the actor takes the first of its letters, if it has one.
-    #[tactic(auto, using(crate::proofs::Changing::one_place))]
     #[inline(always)]
     pub fn note_on(&self, a: ActorName) -> Option<Note>
         requires { HasCell (slot_at self.now.slots a) (λ c. ⊤) }
@@ -274,7 +277,7 @@ impl ActorTable {
             ≡ letter_taken (C.as_change change.now) (slot_at self.old.slots a).mail.letters }
     {
         let slot = &mut self.slots[a.0 as usize];
-        let taken = slot::change(code, slot, change);
+        let taken = slot::change(code, slot, change, &mut self.spare_frame);
         put_bits_after(slot, &mut self.acting, &mut self.settling, a.0, change);
         taken
     }

@@ -2,8 +2,11 @@
 use denote.Param.Send.{IsSend, IsSync, enum_send, plain_send, recorded_send, recorded_sync, sendable, shr_send, struct_send, struct_sync, view_send, view_sync}
 use denote.Struct.Declared.{shape}
 use Rattle.std.proofs.Crossing.{Deque-send, crosses}
+use Rattle.turn_rules.specs.contracts.boxed.BoxedFrame as BoxedFrame
+use Rattle.turn_rules.specs.contracts.boxed.SpareFrame as SpareFrame
 use Rattle.letter_kinds.specs.contracts.letter.Letter as Letter
 use Rattle.mail_rows.specs.contracts.row.MailRow as MailRow
+use Rattle.actor_cell.specs.contracts.cell.Cell as Cell
 use Rattle.actor_table.specs.contracts.slot.Place as Place
 use Rattle.actor_table.specs.contracts.slot.Slot as Slot
 use Rattle.actor_table.specs.contracts.table.ActorTable as ActorTable
@@ -22,8 +25,17 @@ use Rattle.behaviour_code.specs.contracts.instr.Instr as Instr
 use Rattle.letter_kinds.specs.contracts.note.Note as Note
 use Rattle.detector_tokens.specs.contracts.token.Token as Token
 
+frame_send : IsSend BoxedFrame.the_row
+frame_send = search (sendable, crosses) depth 100 fits 100000
+
+spare_send : IsSend SpareFrame.the_row
+spare_send = search (sendable, crosses) depth 100 fits 100000
+
+pub cell_send : IsSend (Cell.the_field).row
+cell_send = search (sendable, crosses, frame_send, spare_send) depth 100 fits 100000
+
 place_send : IsSend (Place.the_field).row
-place_send = search (sendable, crosses) depth 100 fits 100000
+place_send = search (sendable, crosses, cell_send) depth 100 fits 100000
 
 letter_send : IsSend Letter.the_row
 letter_send = search (sendable, crosses) depth 100 fits 100000
@@ -38,7 +50,7 @@ slot_send : IsSend (Slot.the_field).row
 slot_send = struct_send (shape Slot.the_type) (place_send, (mail_send, tt))
 
 table_send : IsSend ActorTable.the_row
-table_send = search (sendable, crosses, slot_send) depth 100 fits 100000
+table_send = search (sendable, crosses, slot_send, spare_send) depth 100 fits 100000
 
 note_send : IsSend Note.the_row
 note_send = search (sendable, crosses) depth 100 fits 100000

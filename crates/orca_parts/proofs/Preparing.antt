@@ -130,7 +130,7 @@ pub rests_dirty : (c : Cell) (letters : List Letter) → may_collect (as_cell c)
 rests_dirty c letters on = idle_and c.frame c.dirty on
 
 pub fits_take : (a : ℕ) (m : Parts) (old : List Slot) → actors_of m.table.slots ≡ actors_of old → away_of m.table.slots ≡ away_of old
-    → may_at may_take (slot_at old a) ≡ true → ((c : Cell) → (slot_at m.table.slots a).place ≡ Home c → (letter : Letter) (later : List Letter) → (slot_at m.table.slots a).mail.letters ≡ letter ∷ later → HasRoomFor letter c.foreign.spare c.known.spare)
+    → may_at may_take (slot_at old a) ≡ true → ((c : Cell) → (slot_at m.table.slots a).place ≡ Home c → (letter : Letter) (later : List Letter) → (slot_at m.table.slots a).mail.letters ≡ letter ∷ later → HasRoomFor letter c)
     → deque_len m.notes < deque_capacity m.notes → FitsTake a m
 fits_take a m old actors away may room note =
     by x.place refl x.mail.letters refl (may_stays may_take (slot_at old a) x (same_at seat_of m.table.slots old actors a) (same_at is_away m.table.slots old away a) ∙ may)

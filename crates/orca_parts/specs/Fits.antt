@@ -99,7 +99,7 @@ pub record FitsTake (a : ℕ) (m : Parts) : Type 0 where
   pub later : List Letter
   pub letters : (slot_at m.table.slots a).mail.letters ≡ letter ∷ later
   pub idle : cell.frame ≡ None
-  pub room : HasRoomFor letter cell.foreign.spare cell.known.spare
+  pub room : HasRoomFor letter cell
   pub note : cell.reported ≡ true → deque_len m.notes < deque_capacity m.notes
 
 -- the sweep is that of the actor with this tracing, and the letters that return what it gives back fit

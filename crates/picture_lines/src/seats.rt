@@ -15,7 +15,7 @@ use behaviour_code::Names;
 use mail_rows::MailRow;
 use orca_names::{ActorName, Value};
 use std::alloc::AllocError;
-use turn_rules::FrameRoom;
+use turn_rules::BoxedFrame;
 
 /// The line of an actor's number, kind and counts.
 fn push_actor(out: &mut String, actor: ActorName, cell: &Cell) -> Result<(), AllocError>
@@ -30,7 +30,7 @@ fn push_actor(out: &mut String, actor: ActorName, cell: &Cell) -> Result<(), All
 }
 
 /// The line of where it stands, if it is in a behaviour.
-fn push_turn(out: &mut String, room: &FrameRoom) -> Result<(), AllocError>
+fn push_turn(out: &mut String, room: &BoxedFrame) -> Result<(), AllocError>
     ensures { OnOk result (string_bytes out.new
         ≡ string_bytes out.old ++ text_of_lines (turn_lines room.now)) }
 {

@@ -4,8 +4,7 @@ use denote.Struct.Declared.{shape}
 use Rattle.std.proofs.Crossing.{crosses}
 use Rattle.atomic_table.proofs.shared.Seat.TheSendSync.{the_send as seat_send}
 use Rattle.turn_log.proofs.table.TurnLog.TheSendSync.{the_sync as log_sync}
-use Rattle.hall_rules.proofs.Sending.{book_send, checked_sync, orca_send, sweep_send, turned_send}
-use Rattle.actor_cell.specs.contracts.cell.Cell as Cell
+use Rattle.hall_rules.proofs.Sending.{book_send, cell_send, checked_sync, orca_send, sweep_send, turned_send}
 use Rattle.actor_cell.specs.contracts.found.Found as Found
 use Rattle.seat_hall.specs.contracts.board.SeatPass as SeatPass
 use Rattle.seat_hall.specs.contracts.hall.Hall as Hall
@@ -16,9 +15,6 @@ use Rattle.seat_hall.specs.contracts.rooms.Rooms as Rooms
 
 item_send : IsSend (Item.the_field).row
 item_send = search (sendable, crosses) depth 100 fits 100000
-
-cell_send : IsSend (Cell.the_field).row
-cell_send = search (sendable, crosses) depth 100 fits 100000
 
 room_send : IsSend CellRoom.the_row
 room_send = search (sendable, crosses, cell_send) depth 100 fits 100000

@@ -1,5 +1,6 @@
 -- Frames: how a behaviour starts, and a value put into a register.
 use Rattle.std.specs.Prelude.{ℕ, ◌-◌, List, ◌++◌, length, replicate, position, slice_set, Option, option_map}
+use Rattle.std.specs.Global.{Box}
 use Rattle.orca_names.specs.declared.names.Value.{Value}
 use Rattle.orca_names.specs.declared.names.Value.TheVariants.{Null}
 use Rattle.behaviour_code.specs.declared.code.Program.{Program}
@@ -26,3 +27,11 @@ frame_for program kind behaviour args =
 abbrev pub with_value : ℕ → Value → Frame → Frame
 with_value register value frame =
     record frame { registers = slice_set frame.registers register value }
+
+-- the frame at another place, with other registers
+abbrev pub standing : ℕ → List Value → Frame → Frame
+standing place registers frame = record frame { place = place; registers = registers }
+
+-- the frame in memory of its own, if one runs there
+abbrev pub boxed : Option (Box Frame) → Option Frame
+boxed frame = option_map (λ f. f.value) frame

@@ -1,5 +1,8 @@
 // Acts and effects, of which the definition of a segment speaks, and frames.
 
+ghost use Rattle.std.specs.Prelude.{◌≡◌};
+ghost use Rattle.turn_rules.specs.Frames.{registers_of, standing};
+
 use crate::registers::RegisterFile;
 use behaviour_code::Name;
 use orca_names::{ActorName, Args, Value};
@@ -45,4 +48,27 @@ pub struct Frame {
     pub behaviour: u8,
     pub place: u32,
     pub registers: RegisterFile,
+}
+
+impl Frame {
+    // A behaviour starts with these arguments.
+    #[inline(always)]
+    pub(crate) fn start(&mut self, kind: u32, behaviour: u8, args: &Args)
+        ensures { let registers = registers_of args.now in
+            self.new ≡ record { kind = kind; behaviour = behaviour; place = 0; registers = registers } }
+    {
+        self.kind = kind;
+        self.behaviour = behaviour;
+        self.place = 0;
+        self.registers.start(args);
+    }
+
+    // It stands at this place, with these registers.
+    #[inline(always)]
+    pub(crate) fn stop_at(&mut self, place: u32, registers: &RegisterFile)
+        ensures { self.new ≡ standing place registers.now self.old }
+    {
+        self.place = place;
+        self.registers = *registers;
+    }
 }

@@ -7,11 +7,13 @@
 #![tactic(auto)]
 
 mod act;
+mod boxed;
 mod laws;
 mod registers;
 mod slot;
 
 pub use act::{Act, Effect, Frame};
+pub use boxed::{BoxedFrame, SpareFrame};
 pub use laws::{segment_is_local, segment_names_only_known};
 pub use registers::RegisterFile;
 pub use slot::FrameRoom;

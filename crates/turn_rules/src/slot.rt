@@ -1,13 +1,12 @@
 // Room for a frame.
 
-ghost use Rattle.std.specs.Prelude.{◌≡◌, ◌-◌, ◌++◌, ◌↔◌, false, is_some, length, option_map, replicate, IsTrue, None, Some};
+ghost use Rattle.std.specs.Prelude.{◌≡◌, is_some, None, Some};
 ghost use Rattle.std.specs.Option.{option_copied};
-ghost use Rattle.orca_names.specs.declared.names.Value.TheVariants.{Null};
-ghost use Rattle.turn_rules.specs.Frames.{with_value};
+ghost use Rattle.turn_rules.specs.Frames.{registers_of};
 
 use crate::act::Frame;
 use crate::registers::RegisterFile;
-use orca_names::{Args, Value};
+use orca_names::Args;
 use std::marker::Model;
 
 /// Room for one frame, seen as the frame that runs, if one does. A frame is written in place: no
@@ -43,30 +42,6 @@ impl FrameRoom {
         }
     }
 
-    /// Room in which the same frame runs, if one does.
-    pub fn copy(&self) -> FrameRoom
-        ensures { result ≡ self.now }
-    {
-        let mut copied = FrameRoom::new();
-        if let Some(frame) = self.get() {
-            copied.keep(frame.kind, frame.behaviour, frame.place, &frame.registers);
-        }
-        copied
-    }
-
-    /// Whether the same frame runs, or none in both.
-    pub fn same(&self, other: &FrameRoom) -> bool
-        ensures { IsTrue result ↔ (self.now ≡ other.now) }
-    {
-        match self.get() {
-            Some(frame) => match other.get() {
-                Some(its) => frame == its,
-                None => false,
-            },
-            None => !other.is_some(),
-        }
-    }
-
     /// Whether a frame runs.
     pub fn is_some(&self) -> bool
         ensures { result ≡ is_some self.now }
@@ -83,14 +58,10 @@ impl FrameRoom {
 
     /// A behaviour starts with these arguments.
     pub fn start(&mut self, kind: u32, behaviour: u8, args: &Args)
-        ensures { let registers = args.now ++ replicate (16 - length args.now) Null in
+        ensures { let registers = registers_of args.now in
             self.new ≡ Some (record { kind = kind; behaviour = behaviour; place = 0; registers = registers }) }
     {
-        let frame = &mut self.frame;
-        frame.kind = kind;
-        frame.behaviour = behaviour;
-        frame.place = 0;
-        frame.registers.start(args);
+        self.frame.start(kind, behaviour, args);
         self.runs = true;
     }
 
@@ -105,13 +76,6 @@ impl FrameRoom {
         frame.place = place;
         frame.registers = *registers;
         self.runs = true;
-    }
-
-    /// Writes a register of the frame that runs, in place; past the last nothing is written.
-    pub fn put(&mut self, register: u8, value: Value)
-        ensures { self.new ≡ option_map (with_value register value) self.old }
-    {
-        self.frame.registers.write(u64::from(register), value);
     }
 
     /// No frame runs any more.

@@ -20,6 +20,6 @@ pub use deed::{Deed, Halt, Stopped};
 pub use rest::rests_at;
 pub use run::{segment_at, segment_held_at};
 pub use setting::Setting;
-pub use start::start_frame;
+pub use start::{start_boxed, start_frame};
 pub use turn::Turn;
 pub use turn_rules::{Frame, RegisterFile};

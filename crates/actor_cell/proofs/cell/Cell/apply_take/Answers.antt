@@ -17,7 +17,7 @@ returns-in-App c =
     let me = c.args.self.now.heap.owner in
     let counts = c.receive_trace.ensures.counts ∙ ap (λ a. receive a (as_load c.in-App.load) s.holdings) c.owner-me.ensures in
     let known = c.learn_all.ensures ∙ ap (λ a. learn a (as_load c.in-App.rows) s.known) c.owner-me.ensures in
-    let frame = c.start_frame.ensures ∙ ap (frame_for c.args.code.now s.kind c.in-App.behaviour) c.as_args.ensures in
+    let frame = c.start_boxed.ensures ∙ ap (frame_for c.args.code.now s.kind c.in-App.behaviour) c.as_args.ensures in
     let cell = c.wake.ensures.0
     ∙ (λ i. record s { frame = frame i; holdings = counts i; known = known i; dirty = true; reported = false })
     ∙ ap (λ l. cell_after c.args.code.now me (as_letter l) s) (sym c.in-App.is) in

@@ -2,7 +2,7 @@ use Rattle.std.proofs.Common.{rules, refl}
 use Rattle.std.proofs.lemmas.Slice.Eq.{slice_eq-Decides}
 use Rattle.orca_names.specs.contracts.names.ValuePartialEq.TheImpl.{eq-value}
 use Rattle.orca_names.specs.declared.names.Value.{Value}
-use Rattle.turn_rules.proofs.slot.FrameRoom.same.Goals as goal
+use Rattle.turn_rules.proofs.boxed.BoxedFrame.same.Goals as goal
 
 pub returns-in-Some-get : goal.returns-in-Some-get
 returns-in-Some-get c =
