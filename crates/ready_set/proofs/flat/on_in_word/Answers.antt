@@ -1,6 +1,5 @@
-use Rattle.std.proofs.Common.{◌+◌, ◌-◌, ◌≡◌, false, ◌∷◌, [], sym, subst, get_or, arith}
+use Rattle.std.proofs.Common.{◌+◌, ◌-◌, ◌≡◌, false, ◌∷◌, [], subst, get_or, arith}
 use Rattle.ready_set.specs.Levels.{places}
-use Rattle.ready_set.specs.Next.{AreOn}
 use Rattle.ready_set.proofs.NextBits.{on-within}
 use Rattle.ready_set.proofs.NextOff.{some-on, some-off, none-on}
 use Rattle.ready_set.proofs.flat.on_in_word.Goals as goal

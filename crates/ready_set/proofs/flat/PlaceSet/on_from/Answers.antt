@@ -1,8 +1,7 @@
-use Rattle.std.proofs.Common.{◌+◌, ◌*◌, ◌/◌, ◌%◌, ◌≡◌, ◌<◌, inl, inr, true, false, ◌∷◌, [], length, sym, subst, ap, ◌∙◌, get_or, arith}
+use Rattle.std.proofs.Common.{◌+◌, ◌*◌, ◌/◌, ◌%◌, ◌≡◌, ◌<◌, inl, inr, true, false, ◌∷◌, [], length, sym, ap, ◌∙◌, get_or, arith}
 use Rattle.std.proofs.lemmas.Bool.{cases_lt, true≢false}
-use Rattle.std.proofs.lemmas.List.{get_or_read, get_or_past}
+use Rattle.std.proofs.lemmas.List.{get_or_read}
 use Rattle.ready_set.specs.Levels.{places}
-use Rattle.ready_set.specs.Next.{AreOn}
 use Rattle.ready_set.proofs.Words.{length-places}
 use Rattle.ready_set.proofs.NextBits.{in-word}
 use Rattle.ready_set.proofs.NextOff.{on-in-word}
